@@ -1,0 +1,2 @@
+//! What the product means: its definitions, and the laws about them that need no program.
+#![tactic(auto)]
