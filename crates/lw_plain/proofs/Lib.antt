@@ -1,0 +1,4 @@
+pub mod Cutting
+pub mod Entries
+pub mod NamesHeld
+pub mod Nodes
