@@ -1,0 +1,33 @@
+-- The laws over plain forms, from those over numbers.
+use Rattle.std.proofs.Common.{ℕ, List, Option}
+use Rattle.lw_laws.specs.Graphs.{Graph}
+use Rattle.lw_laws.specs.NumberedForms.{Mode, family_of}
+use Rattle.lw_laws.specs.Encodings.{Encodes}
+use Rattle.lw_laws.specs.Covers.{Pattern, tree_of}
+use Rattle.lw_laws.specs.Netlists.{Netlist}
+use Rattle.lw_laws.specs.Laws.{IsCertified, IsOutput}
+use Rattle.lw_laws.proofs.Together.{has_the_trees, certified_least}
+use Rattle.lw_laws.specs.Forms.{Form}
+use Rattle.lw_laws.specs.Decompositions.{Listing, IsListing, Occurs}
+use Rattle.lw_laws.specs.Numbering.{number, numbered}
+use Rattle.lw_laws.specs.PlainLaws.{HasPlainTrees, HasLeastTime}
+use Rattle.lw_laws.proofs.Numbers.{occurs_number}
+use Rattle.lw_laws.proofs.Agreement.{same_trees, number_in, numbered_are_forms}
+
+pub has_plain_trees : (mode : Mode) (inputs : ℕ) (o : Listing) (g : Graph) → IsListing o → Encodes (family_of mode (numbered inputs o)) g → HasPlainTrees mode o g
+has_plain_trees mode inputs o g is encodes f t occ =
+    let n = number o.bases f in
+    let num = occurs_number o is f occ in
+    let trees = has_the_trees mode (numbered inputs o) g (numbered_are_forms inputs o is) encodes n t (number_in inputs o is f n num) in
+    let same = same_trees inputs o is mode f t occ in
+    (λ u. same.1 (trees.0 u), λ d. trees.1 (same.0 d))
+
+pub certified_plain_least : (mode : Mode) (inputs : ℕ) (o : Listing) (g : Graph) (pats : List Pattern) (delays : List (List ℕ)) (cap : ℕ) (labels : List (Option ℕ)) (n : Netlist) (class arrivals : ℕ → ℕ) → IsListing o → IsCertified mode (numbered inputs o) g pats delays cap labels n class arrivals → (net : ℕ) (f : Form) → Occurs o f → IsOutput g labels n class arrivals net (number o.bases f) → HasLeastTime mode o pats delays f (arrivals net)
+certified_plain_least mode inputs o g pats delays cap labels n class arrivals is certified net f occ output =
+    let m = number o.bases f in
+    let num = occurs_number o is f occ in
+    let least = certified_least mode (numbered inputs o) g pats delays cap labels n class arrivals certified net m (number_in inputs o is f m num) output in
+    record {
+      attained = let (k, cover, d, time) = least.attained in (k, cover, (same_trees inputs o is mode f (tree_of k) occ).1 d, time);
+      least = λ k cover d. least.least k cover ((same_trees inputs o is mode f (tree_of k) occ).0 d);
+    }
