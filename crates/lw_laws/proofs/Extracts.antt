@@ -5,12 +5,13 @@ use native.Mathlib.Decide.{dec_lt}
 use Rattle.lw_laws.specs.Graphs.{Graph}
 use Rattle.lw_laws.specs.Costs.{Cost}
 use Rattle.lw_laws.specs.Choices.{Labels, HaveLabels}
-use Rattle.lw_laws.specs.Covers.{Pattern}
-use Rattle.lw_laws.specs.Delays.{latest, delays_of, delay_cost}
-use Rattle.lw_laws.specs.Netlists.{Gate, Netlist, IsGate, AreOrdered, IsMapped, AreArrivals}
+use Rattle.lw_laws.specs.Covers.{Pattern, latest, delays_of}
+use Rattle.lw_laws.specs.Delays.{delay_cost}
+use Rattle.lw_laws.specs.Netlists.{Gate, Netlist, IsGate, AreOrdered}
 use Rattle.lw_laws.specs.Extracts.{Match, IsListAtMost, IsMatchAtMost, IsChosen, IsGateBefore, net_classes, IsNetOf, IsExtracted}
 use Rattle.lw_laws.proofs.Drafts.{slice_get_in}
 use Rattle.lw_laws.proofs.NumberedForms.{slice_get_some}
+use Rattle.lw_laws.specs.Mapped.{IsMapped, AreNetArrivals}
 
 slice_get_append : (xs ys : List ℕ) (k c : ℕ) → slice_get (xs ++ ys) k ≡ Some c → (k < length xs) ⊎ ((i : ℕ) × (slice_get ys i ≡ Some c) × (k ≡ length xs + i))
 slice_get_append [] ys k c e = inr (k, e, omega arith)
@@ -137,7 +138,7 @@ module _ (g : Graph) (cost : Cost) (pats : List Pattern) (labels : Labels) (heig
     }
 
 -- the arrival of each net is the label of its class, where no label reaches the cap
-module _ (g : Graph) (delays : List (List ℕ)) (cap : ℕ) (pats : List Pattern) (labels : Labels) (heights : ℕ → ℕ) (gates : List ℕ) (n : Netlist) (sorted : (i j c d : ℕ) → slice_get gates i ≡ Some c → slice_get gates j ≡ Some d → i < j → IsGateBefore heights c d) (is : IsExtracted g (delay_cost delays cap) pats labels heights gates n) (arrivals : ℕ → ℕ) (are : AreArrivals delays n arrivals) (leaf_labels : (c i : ℕ) → slice_get g.leaves i ≡ Some c → labels c ≡ Some 0) (low : (c l : ℕ) → labels c ≡ Some l → l < cap) where
+module _ (g : Graph) (delays : List (List ℕ)) (cap : ℕ) (pats : List Pattern) (labels : Labels) (heights : ℕ → ℕ) (gates : List ℕ) (n : Netlist) (sorted : (i j c d : ℕ) → slice_get gates i ≡ Some c → slice_get gates j ≡ Some d → i < j → IsGateBefore heights c d) (is : IsExtracted g (delay_cost delays cap) pats labels heights gates n) (arrivals : ℕ → ℕ) (are : AreNetArrivals delays n arrivals) (leaf_labels : (c i : ℕ) → slice_get g.leaves i ≡ Some c → labels c ≡ Some 0) (low : (c l : ℕ) → labels c ≡ Some l → l < cap) where
   pin_arrivals : (qs nets ls : List ℕ) (m : ℕ) → AllZip (λ q net. IsNetOf g gates q net) qs nets → HaveLabels labels qs ls → AllByRecursion (λ p. p < m) nets → ((q net : ℕ) → IsNetOf g gates q net → net < m → labels q ≡ Some (arrivals net)) → ls ≡ map arrivals nets
   pin_arrivals [] [] [] m z es a f = refl
   pin_arrivals [] [] (l ∷ ls) m z es a f = absurd es

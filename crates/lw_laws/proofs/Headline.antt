@@ -1,20 +1,23 @@
 -- The laws over plain forms, from those over numbers.
 use Rattle.std.proofs.Common.{ℕ, List, Option}
 use Rattle.lw_laws.specs.Graphs.{Graph}
-use Rattle.lw_laws.specs.NumberedForms.{Mode, family_of}
+use Rattle.lw_laws.specs.NumberedForms.{family_of}
 use Rattle.lw_laws.specs.Encodings.{Encodes}
 use Rattle.lw_laws.specs.Covers.{Pattern, tree_of}
 use Rattle.lw_laws.specs.Netlists.{Netlist}
-use Rattle.lw_laws.specs.Laws.{IsCertified, IsOutput}
 use Rattle.lw_laws.proofs.Together.{has_the_trees, certified_least}
 use Rattle.lw_laws.specs.Forms.{Form}
-use Rattle.lw_laws.specs.Decompositions.{Listing, IsListing, Occurs}
+use Rattle.lw_laws.specs.Decompositions.{Listing, Occurs}
 use Rattle.lw_laws.specs.Numbering.{number, numbered}
-use Rattle.lw_laws.specs.PlainLaws.{HasPlainTrees, HasLeastTime}
 use Rattle.lw_laws.proofs.Numbers.{occurs_number}
 use Rattle.lw_laws.proofs.Agreement.{same_trees, number_in, numbered_are_forms}
+use Rattle.lw_laws.specs.Modes.{Mode}
+use Rattle.lw_laws.specs.Mapped.{IsCertified, IsOutput}
+use Rattle.lw_laws.specs.Listings.{IsListing}
+use Rattle.lw_laws.specs.Laws.{HasTheTrees}
+use Rattle.lw_laws.specs.Headline.{HasLeastTime}
 
-pub has_plain_trees : (mode : Mode) (inputs : ℕ) (o : Listing) (g : Graph) → IsListing o → Encodes (family_of mode (numbered inputs o)) g → HasPlainTrees mode o g
+pub has_plain_trees : (mode : Mode) (inputs : ℕ) (o : Listing) (g : Graph) → IsListing o → Encodes (family_of mode (numbered inputs o)) g → HasTheTrees mode o g
 has_plain_trees mode inputs o g is encodes f t occ =
     let n = number o.bases f in
     let num = occurs_number o is f occ in

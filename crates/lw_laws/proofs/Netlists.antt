@@ -4,17 +4,16 @@ use Rattle.std.specs.List.{AllByRecursion, slice_index_or}
 use native.Mathlib.Decide.{dec_lt}
 use Rattle.lw_laws.specs.Trees.{Tree, leaf, const_one, const_zero, inv, nand, tree_value, planted, HasLeaf}
 use Rattle.lw_laws.specs.Graphs.{Graph, Unfolds}
-use Rattle.lw_laws.specs.Costs.{HasPins}
-use Rattle.lw_laws.specs.Covers.{Pattern, ArePatterns, Cover, Covers, tree_of, trees_of, IsCover, AreCovers}
+use Rattle.lw_laws.specs.Covers.{Pattern, ArePatterns, Cover, Covers, tree_of, trees_of, IsCover, AreCovers, HasPins, latest, delays_of, time_of, times_of}
 use Rattle.lw_laws.specs.Covers.Cover.{wire, gate}
 use Rattle.lw_laws.specs.Covers.Covers.{no_covers, cover}
-use Rattle.lw_laws.specs.Delays.{latest, delays_of, time_of, times_of}
-use Rattle.lw_laws.specs.Netlists.{Gate, Netlist, IsGate, AreOrdered, CellTruth, AreNetlistValues, AreArrivals, StandsFor, StandForAll, HasCellTruth, IsMapped}
+use Rattle.lw_laws.specs.Netlists.{Gate, Netlist, IsGate, AreOrdered, CellTruth, StandsFor, StandForAll, HasCellTruth}
 use Rattle.lw_laws.proofs.Truths.{tree_value-planted}
 use Rattle.lw_laws.proofs.Covering.{UnfoldAt, length-UnfoldAt, planted_unfolds}
 use Rattle.lw_laws.proofs.NumberedForms.{slice_get_some}
+use Rattle.lw_laws.specs.Mapped.{IsMapped, AreNetValues, AreNetArrivals}
 
-module _ (n : Netlist) (delays : List (List ℕ)) (arrivals : ℕ → ℕ) (are : AreArrivals delays n arrivals) where
+module _ (n : Netlist) (delays : List (List ℕ)) (arrivals : ℕ → ℕ) (are : AreNetArrivals delays n arrivals) where
   -- the arrival of a net is the time of the cover that it stands for
   mutual
     pub StandsFor-time : (k : Cover) (net : ℕ) → StandsFor n k net → arrivals net ≡ time_of delays k
@@ -45,7 +44,7 @@ length_values : (x : ℕ → Bool) (ts : List Tree) → length (map (tree_value 
 length_values x [] = refl
 length_values x (t ∷ ts) = ap suc (length_values x ts)
 
-module _ (n : Netlist) (pin_counts : List ℕ) (pats : List Pattern) (patterns : ArePatterns pin_counts pats) (truth : CellTruth) (true_patterns : (p : Pattern) → Contains pats p → HasCellTruth pin_counts truth p) (x values : ℕ → Bool) (are : AreNetlistValues truth n x values) where
+module _ (n : Netlist) (pin_counts : List ℕ) (pats : List Pattern) (patterns : ArePatterns pin_counts pats) (truth : CellTruth) (true_patterns : (p : Pattern) → Contains pats p → HasCellTruth pin_counts truth p) (x values : ℕ → Bool) (are : AreNetValues truth n x values) where
   -- a pattern with trees planted has the truth of its cell at the trees' values
   planted_truth : (p : Pattern) (ts : List Tree) → Contains pats p → HasPins pin_counts p.cell (length ts) → truth p.cell (map (tree_value x) ts) ≡ tree_value x (planted p.tree ts)
   planted_truth p ts listed pins =

@@ -3,14 +3,15 @@ use Rattle.std.proofs.Common.{ℕ, zero, suc, ◌+◌, ◌*◌, ◌/◌, ◌<◌
 use Rattle.std.specs.List.{AllByRecursion}
 use Rattle.lw_laws.specs.Flip.{flip}
 use Rattle.lw_laws.specs.Families.{Family}
-use Rattle.lw_laws.specs.NumberedForms.{Base, NumberedForms, IsCut, IsCovering, IsPart, NumberOccurs, IsCutOf, IsCoveringOf, IsTwice, Mode, IsSplitOf, family_of, IsBefore, AreNumberedForms}
+use Rattle.lw_laws.specs.NumberedForms.{Base, NumberedForms, IsCut, IsCovering, IsPart, NumberOccurs, IsCutOf, IsCoveringOf, IsTwice, IsSplitOf, family_of, IsBefore, AreNumberedForms}
 use Rattle.lw_laws.specs.NumberedForms.Base.{base_true, base_input, base_and}
 use Rattle.lw_laws.specs.NumberedForms.IsCut.{cut_none, cut_left, cut_right}
 use Rattle.lw_laws.specs.NumberedForms.IsCovering.{in_none, in_left, in_right, in_both}
-use Rattle.lw_laws.specs.NumberedForms.Mode.{plain, idempotent}
+use Rattle.lw_laws.specs.Modes.Mode.{plain, idempotent}
 use Rattle.lw_laws.specs.Encodings.{IsGrounded, IsFamily}
 use Rattle.lw_laws.specs.Encodings.IsGrounded.{input, top, split}
 use Rattle.lw_laws.proofs.Flips.{half-flip, flip_even, flip_odd}
+use Rattle.lw_laws.specs.Modes.{Mode}
 
 slice_get_in : {X : Type 0} (xs : List X) (i : ℕ) (x : X) → slice_get xs i ≡ Some x → i < length xs
 slice_get_in [] i x e = cc

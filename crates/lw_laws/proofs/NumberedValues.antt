@@ -2,14 +2,15 @@
 use Rattle.std.proofs.Common.{ℕ, ◌+◌, ◌*◌, ◌≡◌, inl, inr, Bool, true, false, not, ◌&&◌, List, [], ◌∷◌, Some, slice_get, refl, ap, ap₂, sym, ◌∙◌}
 use Rattle.std.specs.List.{list_all}
 use Rattle.lw_laws.specs.Flip.{flip}
-use Rattle.lw_laws.specs.NumberedForms.{NumberedForms, IsCut, IsCovering, IsPart, IsCutOf, IsCoveringOf, IsTwice, Mode, IsSplitOf, family_of}
+use Rattle.lw_laws.specs.NumberedForms.{NumberedForms, IsCut, IsCovering, IsPart, IsCutOf, IsCoveringOf, IsTwice, IsSplitOf, family_of}
 use Rattle.lw_laws.specs.NumberedForms.Base.{base_true, base_input, base_and}
 use Rattle.lw_laws.specs.NumberedForms.IsCut.{cut_none, cut_left, cut_right}
 use Rattle.lw_laws.specs.NumberedForms.IsCovering.{in_none, in_left, in_right, in_both}
-use Rattle.lw_laws.specs.NumberedForms.Mode.{plain, idempotent}
+use Rattle.lw_laws.specs.Modes.Mode.{plain, idempotent}
 use Rattle.lw_laws.specs.Truth.{IsValuation}
 use Rattle.lw_laws.specs.NumberedValues.{AreNumberedValues}
 use Rattle.lw_laws.proofs.Flips.{flip-flip, flip_even}
+use Rattle.lw_laws.specs.Modes.{Mode}
 
 -- `&&` with an operand on either side, and on both
 and_left : (a b c : Bool) → (a && (b && c)) ≡ ((a && b) && c)

@@ -3,10 +3,11 @@ use Rattle.std.proofs.Common.{ℕ, ◌≤◌, ◌≡◌, Bool, true, false, ◌|
 use Rattle.std.specs.List.{list_any, AllByRecursion}
 use Rattle.lw_laws.specs.Forms.{Form, and_of, same_form, is_among, complement, without, kept, has_clash, joined, conjunction_within, conjunction}
 use Rattle.lw_laws.specs.Forms.Form.{true_form, not_form}
-use Rattle.lw_laws.specs.Decompositions.{AreParts, AreOverlapping, IsSub, AreDistinct, AreOperands}
+use Rattle.lw_laws.specs.Decompositions.{AreParts, AreOverlapping}
 use Rattle.lw_laws.specs.Decompositions.AreParts.{parts_none, parts_left, parts_right}
 use Rattle.lw_laws.specs.Decompositions.AreOverlapping.{over_none, over_left, over_right, over_both}
-use Rattle.lw_laws.specs.Decompositions.IsSub.{sub_none, sub_with, sub_without}
+use Rattle.lw_laws.specs.Listings.IsSub.{sub_none, sub_with, sub_without}
+use Rattle.lw_laws.specs.Listings.{IsSub, AreDistinct, AreOperands}
 
 pub parts_subs : {fs ls rs : List Form} → AreParts fs ls rs → IsSub ls fs × IsSub rs fs
 parts_subs parts_none = (sub_none, sub_none)

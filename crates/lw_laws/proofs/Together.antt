@@ -1,16 +1,16 @@
 -- The laws, put together.
 use Rattle.std.proofs.Common.{ℕ, map, Contains, ◌/◌, ◌<◌, ◌≡◌, ◌^◌, List, length, Option, Some, None, Bool, sym, ◌∙◌, subst, arith}
 use Rattle.lw_laws.specs.Graphs.{Graph, PairsInOneClass, Unfolds, class_of}
-use Rattle.lw_laws.specs.NumberedForms.{NumberedForms, Mode, family_of, AreNumberedForms, NumberOccurs}
+use Rattle.lw_laws.specs.NumberedForms.{NumberedForms, family_of, AreNumberedForms, NumberOccurs}
 use Rattle.lw_laws.specs.Encodings.{Encodes}
 use Rattle.lw_laws.specs.Truth.{IsValuation}
-use Rattle.lw_laws.specs.Costs.{Cost, IsCost}
+use Rattle.lw_laws.specs.Costs.{Cost, IsCost, cost_of}
 use Rattle.lw_laws.specs.Choices.{IsLeast, IsAttained, AreChoices}
-use Rattle.lw_laws.specs.Covers.{Pattern, ArePatterns, tree_of, cost_of, choices_of}
+use Rattle.lw_laws.specs.Covers.{Pattern, ArePatterns, tree_of}
 use Rattle.lw_laws.specs.Rounds.{labels_in}
 use Rattle.lw_laws.specs.Delays.{delay_cost}
-use Rattle.lw_laws.specs.Netlists.{Netlist, CellTruth, HasCellTruth, AreNetlistValues}
-use Rattle.lw_laws.specs.Laws.{HasTheTrees, HasTruth, BoundsCovers, IsPotentialOf, IsLeastCover, HasLeastNumberedTime, HasNoNumberedCover, IsCertified, IsOutput}
+use Rattle.lw_laws.specs.Netlists.{Netlist, CellTruth, HasCellTruth}
+use Rattle.lw_laws.specs.Laws.{HasNumberedTrees, HasNumberedTruth, BoundsCovers, IsLeastCover, HasLeastNumberedTime, HasNoNumberedCover}
 use Rattle.lw_laws.proofs.NumberedForms.{forms_are_family}
 use Rattle.lw_laws.proofs.Encoding.{Unfolds-Derives, pairs_in_one_class}
 use Rattle.lw_laws.proofs.Truths.{Derives-value}
@@ -19,12 +19,15 @@ use Rattle.lw_laws.proofs.Potentials.{potential_bounds, labels_are_least, IsLeas
 use Rattle.lw_laws.proofs.Drafts.{slice_get_in}
 use Rattle.lw_laws.proofs.Netlists.{net_covered, StandsFor-time, StandsFor-value}
 use Rattle.lw_laws.proofs.Delays.{delay_cost_is, cost_of-time}
+use Rattle.lw_laws.specs.Modes.{Mode}
+use Rattle.lw_laws.specs.Matches.{choices_of}
+use Rattle.lw_laws.specs.Mapped.{IsCertified, IsOutput, AreNetValues, IsPotentialOf}
 
-pub has_the_trees : (mode : Mode) (forms : NumberedForms) (g : Graph) → AreNumberedForms forms → Encodes (family_of mode forms) g → HasTheTrees mode forms g
+pub has_the_trees : (mode : Mode) (forms : NumberedForms) (g : Graph) → AreNumberedForms forms → Encodes (family_of mode forms) g → HasNumberedTrees mode forms g
 has_the_trees mode forms g are encodes f t o =
     Unfolds-Derives (family_of mode forms) (λ h. h / 2) (forms_are_family mode forms are) g encodes f t o
 
-pub has_truth : (mode : Mode) (forms : NumberedForms) (g : Graph) (x value : ℕ → Bool) → AreNumberedForms forms → Encodes (family_of mode forms) g → IsValuation (family_of mode forms) x value → HasTruth mode forms g x value
+pub has_truth : (mode : Mode) (forms : NumberedForms) (g : Graph) (x value : ℕ → Bool) → AreNumberedForms forms → Encodes (family_of mode forms) g → IsValuation (family_of mode forms) x value → HasNumberedTruth mode forms g x value
 has_truth mode forms g x value are encodes is f t o u =
     Derives-value (family_of mode forms) x value is ((has_the_trees mode forms g are encodes f t o).0 u)
 
@@ -74,7 +77,7 @@ unlabelled_has_no_cover mode forms g pats delays cap labels are encodes few patt
     cc
 
 -- the value of a net at a form's class is the form's
-pub certified_value : (mode : Mode) (forms : NumberedForms) (g : Graph) (pats : List Pattern) (delays : List (List ℕ)) (cap : ℕ) (labels : List (Option ℕ)) (n : Netlist) (class arrivals : ℕ → ℕ) → IsCertified mode forms g pats delays cap labels n class arrivals → (truth : CellTruth) → ((p : Pattern) → Contains pats p → HasCellTruth (map length delays) truth p) → (x values value : ℕ → Bool) → AreNetlistValues truth n x values → IsValuation (family_of mode forms) x value → (net f : ℕ) → NumberOccurs forms f → IsOutput g labels n class arrivals net f → values net ≡ value f
+pub certified_value : (mode : Mode) (forms : NumberedForms) (g : Graph) (pats : List Pattern) (delays : List (List ℕ)) (cap : ℕ) (labels : List (Option ℕ)) (n : Netlist) (class arrivals : ℕ → ℕ) → IsCertified mode forms g pats delays cap labels n class arrivals → (truth : CellTruth) → ((p : Pattern) → Contains pats p → HasCellTruth (map length delays) truth p) → (x values value : ℕ → Bool) → AreNetValues truth n x values → IsValuation (family_of mode forms) x value → (net f : ℕ) → NumberOccurs forms f → IsOutput g labels n class arrivals net f → values net ≡ value f
 certified_value mode forms g pats delays cap labels n class arrivals is truth true_patterns x values value are valuation net f o out =
     let k = net_covered g (map length delays) pats n class is.ordered is.mapped net out.in_range in
     let v = StandsFor-value n (map length delays) pats is.patterns truth true_patterns x values are k.by net k.is_cover k.stands in

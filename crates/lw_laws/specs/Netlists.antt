@@ -2,11 +2,9 @@
 use Rattle.std.specs.Prelude.{ℕ, ◌+◌, ◌<◌, ◌≡◌, Bool, false, List, [], ◌∷◌, length, map, Some, slice_get, slice_index_or}
 use Rattle.std.specs.List.{AllByRecursion}
 use Rattle.lw_laws.specs.Trees.{tree_value}
-use Rattle.lw_laws.specs.Graphs.{Graph}
-use Rattle.lw_laws.specs.Covers.{Pattern, Cover, Covers, IsMatchAt}
+use Rattle.lw_laws.specs.Covers.{Pattern, Cover, Covers, latest, delays_of}
 use Rattle.lw_laws.specs.Covers.Cover.{wire, gate}
 use Rattle.lw_laws.specs.Covers.Covers.{no_covers, cover}
-use Rattle.lw_laws.specs.Delays.{latest, delays_of}
 
 pub record Gate : Type 0 where
   pub cell : ℕ
@@ -29,14 +27,17 @@ AreOrdered n = (j : ℕ) (g : Gate) → IsGate n j g → AllByRecursion (λ p. p
 abbrev pub CellTruth : Type 0
 CellTruth = ℕ → List Bool → Bool
 
--- the values are right for the inputs' values x
-pub record AreNetlistValues (truth : CellTruth) (n : Netlist) (x values : ℕ → Bool) : Type 0 where
-  pub inputs : (i : ℕ) → i < n.inputs → values i ≡ x i
-  pub gates : (j : ℕ) (g : Gate) → IsGate n j g → values (n.inputs + j) ≡ truth g.cell (map values g.pins)
+-- The assignment of a value to each net is right for these values of the inputs: each gate has the truth of its cell.
+pub record AreNetlistValues (truth : CellTruth) (n : Netlist) (x : ℕ → Bool) (values : List Bool) : Type 0 where
+  pub one_each : length values ≡ n.inputs + length n.gates
+  pub inputs : (i : ℕ) → i < n.inputs → slice_get values i ≡ Some (x i)
+  pub gates : (j : ℕ) (g : Gate) → IsGate n j g → slice_get values (n.inputs + j) ≡ Some (truth g.cell (map (λ p. slice_index_or values p false) g.pins))
 
-pub record AreArrivals (delays : List (List ℕ)) (n : Netlist) (arrivals : ℕ → ℕ) : Type 0 where
-  pub inputs : (i : ℕ) → i < n.inputs → arrivals i ≡ 0
-  pub gates : (j : ℕ) (g : Gate) → IsGate n j g → arrivals (n.inputs + j) ≡ latest (delays_of delays g.cell) (map arrivals g.pins)
+-- The arrivals of the nets: 0 at an input, and at a gate the greatest of its pins' delays and arrivals.
+pub record AreArrivals (delays : List (List ℕ)) (n : Netlist) (arrivals : List ℕ) : Type 0 where
+  pub one_each : length arrivals ≡ n.inputs + length n.gates
+  pub inputs : (i : ℕ) → i < n.inputs → slice_get arrivals i ≡ Some 0
+  pub gates : (j : ℕ) (g : Gate) → IsGate n j g → slice_get arrivals (n.inputs + j) ≡ Some (latest (delays_of delays g.cell) (map (λ p. slice_index_or arrivals p 0) g.pins))
 
 -- the net stands for the cover
 abbrev mutual
@@ -53,8 +54,3 @@ abbrev mutual
 abbrev pub HasCellTruth : List ℕ → CellTruth → Pattern → Type 0
 HasCellTruth pin_counts truth p =
     (ys : List Bool) → slice_get pin_counts p.cell ≡ Some (length ys) → tree_value (λ k. slice_index_or ys k false) p.tree ≡ truth p.cell ys
-
--- each net has a class: that of its input, or one where a pattern of the gate's cell stands with the pins' classes
-pub record IsMapped (g : Graph) (pin_counts : List ℕ) (pats : List Pattern) (n : Netlist) (class : ℕ → ℕ) : Type 0 where
-  pub inputs : (i : ℕ) → i < n.inputs → slice_get g.leaves i ≡ Some (class i)
-  pub gates : (j : ℕ) (gt : Gate) → IsGate n j gt → IsMatchAt g pin_counts pats (class (n.inputs + j)) gt.cell (map class gt.pins)

@@ -2,6 +2,8 @@
 use Rattle.std.specs.Prelude.{ℕ, ◌+◌, ◌*◌, ◌/◌, ◌<◌, ◌≤◌, ◌≡◌, ◌≢◌, ◌⊎◌, List, [], ◌∷◌, length, Some, slice_get}
 use Rattle.std.specs.List.{AllByRecursion}
 use Rattle.lw_laws.specs.Flip.{flip}
+use Rattle.lw_laws.specs.Modes.{Mode}
+use Rattle.lw_laws.specs.Modes.Mode.{plain, idempotent}
 use Rattle.lw_laws.specs.Families.{Family}
 
 pub data Base : Type 0 where
@@ -54,10 +56,6 @@ IsTwice forms f x y = NumberOccurs forms f × (x ≡ flip f) × (y ≡ flip f)
 
 abbrev pub IsSignal : NumberedForms → ℕ → ℕ → Type 0
 IsSignal forms f h = (s : ℕ) × (slice_get forms.sops s ≡ Some f) × (slice_get forms.facs s ≡ Some h)
-
-pub data Mode : Type 0 where
-  plain : Mode
-  idempotent : Mode
 
 abbrev pub IsSplitOf : Mode → NumberedForms → ℕ → ℕ → ℕ → Type 0
 IsSplitOf plain forms f x y = IsCutOf forms f x y

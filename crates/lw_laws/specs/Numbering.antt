@@ -2,12 +2,14 @@
 use Rattle.std.specs.Prelude.{ℕ, suc, ◌+◌, ◌*◌, ◌≡◌, ◌↔◌, cond, List, [], ◌∷◌, map}
 use Rattle.lw_laws.specs.Trees.{Tree}
 use Rattle.lw_laws.specs.Families.{Derives}
-use Rattle.lw_laws.specs.NumberedForms.{Base, NumberedForms, Mode, family_of}
+use Rattle.lw_laws.specs.NumberedForms.{Base, NumberedForms, family_of}
 use Rattle.lw_laws.specs.NumberedForms.Base.{base_true, base_input, base_and}
 use Rattle.lw_laws.specs.Forms.{Form, items, same_form}
 use Rattle.lw_laws.specs.Forms.Form.{var_form, true_form, not_form, and_form}
 use Rattle.lw_laws.specs.Signals.{Signal}
-use Rattle.lw_laws.specs.Decompositions.{Listing, HasTree, IsListedAt, Occurs, base_form, sign_of}
+use Rattle.lw_laws.specs.Decompositions.{Listing, HasTree, IsListedAt, Occurs, base_form}
+use Rattle.lw_laws.specs.Modes.{Mode}
+use Rattle.lw_laws.specs.Listings.{sign_of}
 
 -- the place of a form in the list, or its end
 abbrev pub place : Form → List Form → ℕ

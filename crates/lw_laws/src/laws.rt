@@ -1,24 +1,28 @@
 //! Laws over definitions: functions with empty bodies, whose clauses are the laws.
 ghost use Rattle.lw_laws.specs.Choices.{IsAttained};
 ghost use Rattle.lw_laws.specs.Costs.{Cost, IsCost};
-ghost use Rattle.lw_laws.specs.Covers.{Pattern, ArePatterns, choices_of};
-ghost use Rattle.lw_laws.specs.Decompositions.{Listing, listing_of, IsListing, Occurs};
+ghost use Rattle.lw_laws.specs.Covers.{Pattern, ArePatterns};
+ghost use Rattle.lw_laws.specs.Decompositions.{Listing, listing_of, Occurs};
 ghost use Rattle.lw_laws.specs.Encodings.{Encodes};
 ghost use Rattle.lw_laws.specs.Forms.{Form, form_value, kept, has_clash, joined, conjunction};
 ghost use Rattle.lw_laws.specs.Graphs.{Graph, PairsInOneClass};
-ghost use Rattle.lw_laws.specs.Laws.{HasLeastNumberedTime, IsCertified, IsOutput, TreesUnfoldOnce, HasTheTrees, HasTruth, BoundsCovers, IsPotentialOf, IsLeastCover};
-ghost use Rattle.lw_laws.specs.Netlists.{Netlist, CellTruth, HasCellTruth, AreNetlistValues};
+ghost use Rattle.lw_laws.specs.Laws.{HasLeastNumberedTime, TreesUnfoldOnce, HasNumberedTrees, HasNumberedTruth, BoundsCovers, IsLeastCover, HasTheTrees, TreesHaveValue};
+ghost use Rattle.lw_laws.specs.Netlists.{Netlist, CellTruth, HasCellTruth};
 ghost use Rattle.lw_laws.specs.Networks.{Network};
-ghost use Rattle.lw_laws.specs.NumberedForms.{NumberedForms, Mode, AreNumberedForms, NumberOccurs, family_of};
+ghost use Rattle.lw_laws.specs.NumberedForms.{NumberedForms, AreNumberedForms, NumberOccurs, family_of};
 ghost use Rattle.lw_laws.specs.NumberedValues.{AreNumberedValues};
 ghost use Rattle.lw_laws.specs.Numbering.{number, numbered, HasSameTrees};
 ghost use Rattle.lw_laws.specs.Occurring.{part, sublists, occurring_forms, HasInputsFirst};
-ghost use Rattle.lw_laws.specs.PlainLaws.{HasPlainTrees, HasLeastTime, TreesHaveValue};
 ghost use Rattle.lw_laws.specs.Rounds.{labels_in};
 ghost use Rattle.lw_laws.specs.SignalValues.{SignalsAgree, net_values, number_value};
 ghost use Rattle.lw_laws.specs.Signals.{signals_of, shared_literal, factored_by, factored};
 ghost use Rattle.lw_laws.specs.Truth.{IsValuation};
 ghost use Rattle.std.specs.Prelude.{◌≡◌, ◌≤◌, ◌<◌, ◌^◌, ◌+◌, ℕ, List, Option, Bool, Some, map, length, slice_get, Contains};
+ghost use Rattle.lw_laws.specs.Matches.{choices_of};
+ghost use Rattle.lw_laws.specs.Listings.{IsListing};
+ghost use Rattle.lw_laws.specs.Mapped.{IsCertified, IsOutput, IsPotentialOf, AreNetValues};
+ghost use Rattle.lw_laws.specs.Modes.{Mode};
+ghost use Rattle.lw_laws.specs.Headline.{HasLeastTime};
 
 /// In a graph with each unordered pair in one class at most, a tree unfolds at one class at most.
 pub fn tree_unfolds_once()
@@ -27,12 +31,12 @@ pub fn tree_unfolds_once()
 
 /// The trees of the classes of an encoding are those that the laws derive.
 pub fn classes_have_the_trees()
-    ensures { (mode : Mode) (forms : NumberedForms) (g : Graph) → AreNumberedForms forms → Encodes (family_of mode forms) g → HasTheTrees mode forms g }
+    ensures { (mode : Mode) (forms : NumberedForms) (g : Graph) → AreNumberedForms forms → Encodes (family_of mode forms) g → HasNumberedTrees mode forms g }
 {}
 
 /// All trees of a form's class have the form's truth value.
 pub fn classes_have_truth()
-    ensures { (mode : Mode) (forms : NumberedForms) (g : Graph) (x value : ℕ → Bool) → AreNumberedForms forms → Encodes (family_of mode forms) g → IsValuation (family_of mode forms) x value → HasTruth mode forms g x value }
+    ensures { (mode : Mode) (forms : NumberedForms) (g : Graph) (x value : ℕ → Bool) → AreNumberedForms forms → Encodes (family_of mode forms) g → IsValuation (family_of mode forms) x value → HasNumberedTruth mode forms g x value }
 {}
 
 /// A potential bounds every cover.
@@ -52,7 +56,7 @@ pub fn certified_outputs_are_least()
 
 /// An output of a certified netlist has the value of its form.
 pub fn certified_outputs_have_values()
-    ensures { (mode : Mode) (forms : NumberedForms) (g : Graph) (pats : List Pattern) (delays : List (List ℕ)) (cap : ℕ) (labels : List (Option ℕ)) (n : Netlist) (class arrivals : ℕ → ℕ) → IsCertified mode forms g pats delays cap labels n class arrivals → (truth : CellTruth) → ((p : Pattern) → Contains pats p → HasCellTruth (map length delays) truth p) → (x values value : ℕ → Bool) → AreNetlistValues truth n x values → IsValuation (family_of mode forms) x value → (net f : ℕ) → NumberOccurs forms f → IsOutput g labels n class arrivals net f → values net ≡ value f }
+    ensures { (mode : Mode) (forms : NumberedForms) (g : Graph) (pats : List Pattern) (delays : List (List ℕ)) (cap : ℕ) (labels : List (Option ℕ)) (n : Netlist) (class arrivals : ℕ → ℕ) → IsCertified mode forms g pats delays cap labels n class arrivals → (truth : CellTruth) → ((p : Pattern) → Contains pats p → HasCellTruth (map length delays) truth p) → (x values value : ℕ → Bool) → AreNetValues truth n x values → IsValuation (family_of mode forms) x value → (net f : ℕ) → NumberOccurs forms f → IsOutput g labels n class arrivals net f → values net ≡ value f }
 {}
 
 /// Two lists of labels that are potentials of costs of covers are one.
@@ -102,7 +106,7 @@ pub fn trees_have_the_value()
 
 /// The trees of the classes of an encoding are those that the laws over plain forms give.
 pub fn classes_have_the_plain_trees()
-    ensures { (mode : Mode) (inputs : ℕ) (o : Listing) (g : Graph) → IsListing o → Encodes (family_of mode (numbered inputs o)) g → HasPlainTrees mode o g }
+    ensures { (mode : Mode) (inputs : ℕ) (o : Listing) (g : Graph) → IsListing o → Encodes (family_of mode (numbered inputs o)) g → HasTheTrees mode o g }
 {}
 
 /// An output of a certified netlist has the least time of a cover of a tree that its form has.
