@@ -7,6 +7,7 @@ pub mod Encoding
 pub mod Equality
 pub mod Extracts
 pub mod Factoring
+pub mod Filling
 pub mod Flips
 pub mod FormExamples
 pub mod FormTruth
@@ -18,6 +19,7 @@ pub mod Listed
 pub mod Masks
 pub mod Netlists
 pub mod Normal
+pub mod NetValues
 pub mod NumberValues
 pub mod NumberedForms
 pub mod NumberedValues
