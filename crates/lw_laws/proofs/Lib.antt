@@ -16,6 +16,7 @@ pub mod Headline
 pub mod HeightRounds
 pub mod Heights
 pub mod Listed
+pub mod Mapping
 pub mod Masks
 pub mod Netlists
 pub mod Normal

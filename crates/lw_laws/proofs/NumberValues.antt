@@ -61,7 +61,7 @@ module _ (inputs : ℕ) (o : Listing) (is : IsListing o) (x : ℕ → Bool) wher
   form_of_number : (f : Form) (n : ℕ) → IsNumber o.bases f n → form_of o.bases n ≡ f
   form_of_number f n (b, e, s) = let one = sign_one f in form_by_sign f n b e (is.signs b (base_form f) e) (omega arith) (omega arith)
 
-  value_of_number : (f : Form) → Occurs o f → number_value o x (number o.bases f) ≡ form_value x f
+  pub value_of_number : (f : Form) → Occurs o f → number_value o x (number o.bases f) ≡ form_value x f
   value_of_number f occ = ap (form_value x) (form_of_number f (number o.bases f) (occurs_number o is f occ))
 
   values_of_numbers : (fs : List Form) → AllByRecursion (Occurs o) fs → list_all (number_value o x) (map (number o.bases) fs) ≡ list_all (form_value x) fs
