@@ -15,10 +15,12 @@ pub mod Functional
 pub mod Headline
 pub mod HeightRounds
 pub mod Heights
+pub mod LabelLaws
 pub mod Listed
 pub mod Mapping
 pub mod Masks
 pub mod Netlists
+pub mod NetlistValues
 pub mod Normal
 pub mod NetValues
 pub mod NumberValues

@@ -1,12 +1,11 @@
 -- A network in order has one right assignment, and its nets' sums of products have those values.
-use Rattle.std.proofs.Common.{ℕ, zero, suc, ◌+◌, ◌<◌, ◌≡◌, Bool, false, Contains, List, [], ◌∷◌, ◌++◌, length, map, max, get_or, slice_get, slice_index_or, refl, ap, ap₂, sym, ◌∙◌, subst, arith, length-append}
-use Rattle.std.specs.List.{list_any, AllByRecursion}
-use Rattle.std.proofs.lemmas.Option.{get_or_from_slice_get}
-use Rattle.lw_laws.specs.Networks.{Node, Network, agrees, row_value, node_value, AreValues, IsInOrder, greatest_depth, AreDepths}
+use Rattle.std.proofs.Common.{ℕ, zero, suc, ◌+◌, ◌<◌, ◌≡◌, Bool, false, Contains, List, [], ◌∷◌, ◌++◌, length, map, get_or, refl, ap, ap₂, sym, ◌∙◌, subst, arith}
+use Rattle.std.specs.List.{list_any}
+use Rattle.lw_laws.specs.Networks.{Node, Network, agrees, row_value, node_value, AreValues, IsInOrder}
 use Rattle.lw_laws.specs.Forms.{form_value}
 use Rattle.lw_laws.specs.Signals.{signals_of}
 use Rattle.lw_laws.specs.SignalValues.{values_after, input_values, net_values}
-use Rattle.lw_laws.proofs.Filling.{AgreeBelow, AreLocal, filled, Fills, filled_fills, fills_once}
+use Rattle.lw_laws.proofs.Filling.{AreLocal, filled, Fills, filled_fills, fills_once}
 use Rattle.lw_laws.proofs.FormTruth.{sops_have_values}
 
 -- lists that agree at each of the places give one list of entries

@@ -31,7 +31,7 @@ pub has_truth : (mode : Mode) (forms : NumberedForms) (g : Graph) (x value : ℕ
 has_truth mode forms g x value are encodes is f t o u =
     Derives-value (family_of mode forms) x value is ((has_the_trees mode forms g are encodes f t o).0 u)
 
-graph_choices : (g : Graph) (pats : List Pattern) (cost : Cost) → length g.leaves < 2 ^ 32 → AreChoices (choices_of g cost.pin_counts pats) cost
+pub graph_choices : (g : Graph) (pats : List Pattern) (cost : Cost) → length g.leaves < 2 ^ 32 → AreChoices (choices_of g cost.pin_counts pats) cost
 graph_choices g pats cost few = record {
   inputs = λ c i e. let in' = slice_get_in g.leaves i c e in omega arith;
   matches = λ c cell ps m. m.pins;

@@ -1,10 +1,9 @@
 -- The trees that the laws of decomposition give a form, over forms as plain trees.
-use Rattle.std.specs.Prelude.{ℕ, ◌<◌, ◌≤◌, ◌≡◌, ◌≢◌, ◌⊎◌, false, List, [], ◌∷◌, length, Some, slice_get}
-use Rattle.std.specs.List.{AllByRecursion}
+use Rattle.std.specs.Prelude.{ℕ, ◌≤◌, ◌≡◌, ◌≢◌, ◌⊎◌, List, [], ◌∷◌, length, Some, slice_get}
 use Rattle.lw_laws.specs.Networks.{Network}
 use Rattle.lw_laws.specs.Trees.{Tree, leaf, const_one, const_zero, inv, nand}
 use Rattle.lw_laws.specs.Modes.Mode.{idempotent}
-use Rattle.lw_laws.specs.Forms.{Form, FormList, items, and_of, same_form, is_among, complement, has_clash, conjunction}
+use Rattle.lw_laws.specs.Forms.{Form, FormList, items, complement, conjunction}
 use Rattle.lw_laws.specs.Forms.Form.{var_form, true_form, not_form, and_form}
 use Rattle.lw_laws.specs.Signals.{Signal, signals_of}
 use Rattle.lw_laws.specs.Occurring.{occurring_forms}

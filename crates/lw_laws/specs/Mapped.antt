@@ -1,21 +1,24 @@
 -- Netlists whose gates are matches over the classes of a graph.
-use Rattle.std.specs.Prelude.{ℕ, ◌+◌, ◌<◌, ◌≤◌, ◌≡◌, ◌^◌, Bool, List, length, map, Option, Some, slice_get, slice_index_or, Contains}
+use Rattle.std.specs.Prelude.{ℕ, ◌+◌, ◌<◌, ◌≤◌, ◌≡◌, ◌^◌, Bool, List, length, map, Option, Some, slice_get, slice_index_or}
+use Rattle.std.specs.List.{AllZip}
 use Rattle.lw_laws.specs.Modes.{Mode}
-use Rattle.lw_laws.specs.Graphs.{Graph, class_of}
+use Rattle.lw_laws.specs.Trees.{tree_value}
+use Rattle.lw_laws.specs.Graphs.{Graph, Unfolds, class_of}
 use Rattle.lw_laws.specs.NumberedForms.{NumberedForms, family_of, AreNumberedForms}
 use Rattle.lw_laws.specs.Encodings.{Encodes}
-use Rattle.lw_laws.specs.Covers.{Pattern, ArePatterns, latest, delays_of}
+use Rattle.lw_laws.specs.Covers.{Pattern, ArePatterns, Cover, IsCover, tree_of, time_of, latest, delays_of}
 use Rattle.lw_laws.specs.Matches.{IsMatchAt, choices_of}
 use Rattle.lw_laws.specs.Choices.{IsPotential}
 use Rattle.lw_laws.specs.Costs.{Cost}
 use Rattle.lw_laws.specs.Rounds.{labels_in}
 use Rattle.lw_laws.specs.Delays.{delay_cost}
-use Rattle.lw_laws.specs.Netlists.{Netlist, Gate, IsGate, AreOrdered, CellTruth, HasCellTruth}
+use Rattle.lw_laws.specs.Netlists.{Netlist, Gate, IsGate, AreOrdered, CellTruth, AreNetlistValues, AreArrivals, StandsFor}
 use Rattle.lw_laws.specs.Networks.{Network}
 use Rattle.lw_laws.specs.Decompositions.{listing_of}
 use Rattle.lw_laws.specs.Signals.{sop_at, signals_of}
 use Rattle.lw_laws.specs.Numbering.{number, numbered}
 use Rattle.lw_laws.specs.Occurring.{occurring_forms}
+use Rattle.lw_laws.specs.Headline.{Ports}
 
 -- each net has a class: that of its input, or one where a pattern of the gate's cell stands with the pins' classes
 pub record IsMapped (g : Graph) (pin_counts : List ℕ) (pats : List Pattern) (n : Netlist) (class : ℕ → ℕ) : Type 0 where
@@ -61,13 +64,17 @@ forms_of width net = numbered net.inputs (listing_of width net)
 abbrev pub root_class : ℕ → Network → Graph → ℕ → ℕ
 root_class width net g s = class_of g (number (occurring_forms width net) (sop_at (signals_of width net) s))
 
--- The netlist's gates are matches over a graph that encodes the network's forms, and the labels are a potential.
-pub record IsMappedOver (mode : Mode) (width : ℕ) (net : Network) (g : Graph) (pats : List Pattern) (delays : List (List ℕ)) (cap : ℕ) (labels : List (Option ℕ)) (n : Netlist) (class : ℕ → ℕ) : Type 0 where
+-- The graph encodes the network's forms, and the labels are a potential of its matches.
+pub record IsLabelledOver (mode : Mode) (width : ℕ) (net : Network) (g : Graph) (pats : List Pattern) (delays : List (List ℕ)) (cap : ℕ) (labels : List (Option ℕ)) : Type 0 where
   pub wide : 2 ≤ width
   pub encodes : Encodes (family_of mode (forms_of width net)) g
   pub few : length g.leaves < 2 ^ 32
   pub patterns : ArePatterns (map length delays) pats
   pub potential : IsPotentialOf g pats (delay_cost delays cap) labels
+
+-- The netlist's gates are matches over such a graph.
+pub record IsMappedOver (mode : Mode) (width : ℕ) (net : Network) (g : Graph) (pats : List Pattern) (delays : List (List ℕ)) (cap : ℕ) (labels : List (Option ℕ)) (n : Netlist) (class : ℕ → ℕ) : Type 0 where
+  pub labelled : IsLabelledOver mode width net g pats delays cap labels
   pub ordered : AreOrdered n
   pub mapped : IsMapped g (map length delays) pats n class
 
@@ -77,3 +84,18 @@ pub record IsRootedAt (width : ℕ) (net : Network) (g : Graph) (labels : List (
   pub of_netlist : k < n.inputs + length n.gates
   pub at_class : class k ≡ root_class width net g s
   pub at_label : labels_in labels (class k) ≡ Some (slice_index_or arrivals k 0)
+
+-- The netlist has the network's ports, and each output's net is rooted at the network's net.
+pub record AreRooted (width : ℕ) (net : Network) (g : Graph) (labels : List (Option ℕ)) (n : Netlist) (class : ℕ → ℕ) (arrivals : List ℕ) (ports mapped : Ports) : Type 0 where
+  pub inputs : n.inputs ≡ net.inputs
+  pub input_names : mapped.inputs ≡ ports.inputs
+  pub outputs : AllZip (λ p q. (p.name ≡ q.name) × IsRootedAt width net g labels n class arrivals p.net q.net) ports.outputs mapped.outputs
+
+-- The net stands for a cover of a tree that unfolds at its class, has the tree's value, and arrives at the cover's time.
+pub record IsCoverAt (g : Graph) (pats : List Pattern) (delays : List (List ℕ)) (truth : CellTruth) (n : Netlist) (class : ℕ → ℕ) (net : ℕ) : Type 0 where
+  pub by : Cover
+  pub is_cover : IsCover (map length delays) pats by
+  pub stands : StandsFor n by net
+  pub unfolds : Unfolds g (tree_of by) (class net)
+  pub value : (x : ℕ → Bool) (values : List Bool) → AreNetlistValues truth n x values → slice_get values net ≡ Some (tree_value x (tree_of by))
+  pub arrival : (arrivals : List ℕ) → AreArrivals delays n arrivals → slice_get arrivals net ≡ Some (time_of delays by)

@@ -1,5 +1,5 @@
 -- Netlists of gates: values, arrivals, and the covers that nets stand for.
-use Rattle.std.specs.Prelude.{ℕ, ◌+◌, ◌<◌, ◌≡◌, Bool, false, List, [], ◌∷◌, length, map, Some, slice_get, slice_index_or}
+use Rattle.std.specs.Prelude.{ℕ, ◌+◌, ◌<◌, ◌≡◌, Bool, false, List, [], ◌∷◌, length, map, Some, slice_get, slice_index_or, Contains}
 use Rattle.std.specs.List.{AllByRecursion}
 use Rattle.lw_laws.specs.Trees.{tree_value}
 use Rattle.lw_laws.specs.Covers.{Pattern, Cover, Covers, latest, delays_of}
@@ -54,3 +54,7 @@ abbrev mutual
 abbrev pub HasCellTruth : List ℕ → CellTruth → Pattern → Type 0
 HasCellTruth pin_counts truth p =
     (ys : List Bool) → slice_get pin_counts p.cell ≡ Some (length ys) → tree_value (λ k. slice_index_or ys k false) p.tree ≡ truth p.cell ys
+
+-- each pattern has the truth of its cell
+abbrev pub HaveCellTruths : List ℕ → CellTruth → List Pattern → Type 0
+HaveCellTruths pin_counts truth pats = (p : Pattern) → Contains pats p → HasCellTruth pin_counts truth p

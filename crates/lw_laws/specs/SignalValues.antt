@@ -1,6 +1,5 @@
 -- Truth values of the nets of a network, and of forms by their numbers.
-use Rattle.std.specs.Prelude.{ℕ, zero, suc, ◌+◌, ◌/◌, ◌%◌, ◌==◌, ◌≡◌, Bool, true, false, not, ◌&&◌, if◌then◌else◌, Option, Some, None, List, [], ◌∷◌, ◌++◌, map, slice_get, slice_index_or}
-use Rattle.std.specs.List.{list_any}
+use Rattle.std.specs.Prelude.{ℕ, zero, suc, ◌+◌, ◌/◌, ◌%◌, ◌==◌, ◌≡◌, Bool, if◌then◌else◌, Some, List, [], ◌∷◌, ◌++◌, slice_get, slice_index_or}
 use Rattle.lw_laws.specs.Forms.{Form, complement, form_value}
 use Rattle.lw_laws.specs.Forms.Form.{true_form}
 use Rattle.lw_laws.specs.Networks.{Node, Network, node_value}
