@@ -1,3 +1,4 @@
+pub mod Cells
 pub mod Choices
 pub mod Costs
 pub mod Covers
@@ -5,6 +6,7 @@ pub mod Decompositions
 pub mod Delays
 pub mod Drafts
 pub mod Encodings
+pub mod Expressions
 pub mod Extracts
 pub mod Families
 pub mod Flip
@@ -24,6 +26,7 @@ pub mod NumberedForms
 pub mod NumberedValues
 pub mod Numbering
 pub mod Occurring
+pub mod Patterns
 pub mod Rounds
 pub mod SignalValues
 pub mod Signals
