@@ -13,7 +13,7 @@ use Rattle.lw_laws.proofs.Drafts.{slice_get_in}
 use Rattle.lw_laws.proofs.NumberedForms.{slice_get_some}
 use Rattle.lw_laws.specs.Mapped.{IsMapped, AreNetArrivals}
 
-slice_get_append : (xs ys : List ℕ) (k c : ℕ) → slice_get (xs ++ ys) k ≡ Some c → (k < length xs) ⊎ ((i : ℕ) × (slice_get ys i ≡ Some c) × (k ≡ length xs + i))
+pub slice_get_append : (xs ys : List ℕ) (k c : ℕ) → slice_get (xs ++ ys) k ≡ Some c → (k < length xs) ⊎ ((i : ℕ) × (slice_get ys i ≡ Some c) × (k ≡ length xs + i))
 slice_get_append [] ys k c e = inr (k, e, omega arith)
 slice_get_append (x ∷ xs) ys zero c e = inl (omega arith)
 slice_get_append (x ∷ xs) ys (suc k) c e = by_case (slice_get_append xs ys k c e)

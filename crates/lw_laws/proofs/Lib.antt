@@ -5,6 +5,7 @@ pub mod Delays
 pub mod Drafts
 pub mod Encoding
 pub mod Equality
+pub mod ExtractLaws
 pub mod Extracts
 pub mod Factoring
 pub mod Filling
