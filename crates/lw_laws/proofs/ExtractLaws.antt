@@ -1,5 +1,5 @@
 -- The netlist that the chosen matches make is one.
-use Rattle.std.proofs.Common.{ℕ, zero, suc, ◌+◌, ◌<◌, ◌≤◌, ◌≡◌, ◌⊎◌, inl, inr, List, [], ◌∷◌, ◌++◌, length, map, Option, Some, slice_get, slice_index_or, refl, ap, ap₂, sym, ◌∙◌, subst, arith}
+use Rattle.std.proofs.Common.{ℕ, zero, suc, ◌+◌, ◌<◌, ◌≡◌, ◌⊎◌, inl, inr, List, [], ◌∷◌, ◌++◌, length, Some, slice_get, slice_index_or, refl, ap, ap₂, sym, ◌∙◌, subst, arith}
 use Rattle.std.specs.List.{AllZip}
 use Rattle.lw_laws.specs.Graphs.{Graph}
 use Rattle.lw_laws.specs.Costs.{Cost}
@@ -8,7 +8,7 @@ use Rattle.lw_laws.specs.Covers.{Pattern}
 use Rattle.lw_laws.specs.Delays.{delay_cost}
 use Rattle.lw_laws.specs.Netlists.{Gate, Netlist, AreOrdered, AreArrivals}
 use Rattle.lw_laws.specs.Mapped.{IsMapped}
-use Rattle.lw_laws.specs.Extracts.{Match, IsChosen, IsLeafClass, IsNeeded, IsGateBefore, AreGateClasses, net_classes, IsNetOf, IsExtracted, class_at, AreDistinctLeaves}
+use Rattle.lw_laws.specs.Extracts.{Match, IsChosen, IsGateBefore, AreGateClasses, IsNetOf, IsExtracted, class_at, AreDistinctLeaves}
 use Rattle.lw_laws.proofs.Drafts.{slice_get_in}
 use Rattle.lw_laws.proofs.NumberedForms.{slice_get_some}
 use Rattle.lw_laws.proofs.Extracts.{slice_get_append, IsChosen_once, extracted_ordered, extracted_mapped, net_arrival}
@@ -55,6 +55,11 @@ module _ (heights : ℕ → ℕ) where
       let a' = subst (λ z. IsAmong (x ∷ xs) (z ∷ ys)) (sym same) a in
       let b' = subst (λ z. IsAmong (z ∷ ys) (x ∷ xs)) (sym same) b in
       ap₂ (λ z zs. z ∷ zs) same (sorted_once xs ys (tail_sorted x xs s) (tail_sorted x ys t') (tail_among x xs ys s a') (tail_among x ys xs t' b'))
+
+pub chosen_once : (g : Graph) (cost : Cost) (pats : List Pattern) (labels : Labels) (heights : ℕ → ℕ) (c : ℕ) (m k : Match) (p q : Pattern) → IsChosen g cost pats labels heights c m p → IsChosen g cost pats labels heights c k q → m ≡ k
+chosen_once g cost pats labels heights c m k p q a b =
+    let once = IsChosen_once g cost pats labels heights c m k p q a b in
+    ap₂ (λ z zs. record { pattern = z; pins = zs }) once.0 once.1
 
 module _ (g : Graph) (cost : Cost) (pats : List Pattern) (labels : Labels) (heights : ℕ → ℕ) (roots : List ℕ) where
   -- the list of classes with a gate is one

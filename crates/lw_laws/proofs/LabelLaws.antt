@@ -13,10 +13,13 @@ use Rattle.lw_laws.specs.Laws.{IsCoverProblem, IsAttainedIn, AreLeafLabels, AreD
 use Rattle.lw_laws.proofs.Heights.{has_height, heights_are, heights_attain}
 use Rattle.lw_laws.proofs.Delays.{label_low}
 use Rattle.lw_laws.proofs.Together.{graph_choices}
+use Rattle.lw_laws.proofs.Deciding.{dec_within, least_number}
 
-pub class_height : (g : Graph) (pats : List Pattern) (cost : Cost) (labels : List (Option ℕ)) → IsCoverProblem g pats cost → IsPotentialOf g pats cost labels → IsAttainedIn g pats cost labels → (c l : ℕ) → labels_in labels c ≡ Some l → (h : ℕ) × IsWithin (choices_of g cost.pin_counts pats) cost (labels_in labels) c h
+pub class_height : (g : Graph) (pats : List Pattern) (cost : Cost) (labels : List (Option ℕ)) → IsCoverProblem g pats cost → IsPotentialOf g pats cost labels → IsAttainedIn g pats cost labels → (c l : ℕ) → labels_in labels c ≡ Some l → (h : ℕ) × IsHeight (choices_of g cost.pin_counts pats) cost (labels_in labels) c h
 class_height g pats cost labels is potential attained c l e =
-    has_height (choices_of g cost.pin_counts pats) cost (labels_in labels) is.cost_is (graph_choices g pats cost is.few) potential attained c l e
+    let (n, within) = has_height (choices_of g cost.pin_counts pats) cost (labels_in labels) is.cost_is (graph_choices g pats cost is.few) potential attained c l e in
+    let (h, there, least) = least_number (λ k. IsWithin (choices_of g cost.pin_counts pats) cost (labels_in labels) c k) (λ k. dec_within labels g pats cost k c) n within in
+    (h, record { within = there; least = least })
 
 pub local_heights : (g : Graph) (pats : List Pattern) (cost : Cost) (labels : List (Option ℕ)) (heights : ℕ → ℕ) → AreHeights (choices_of g cost.pin_counts pats) cost (labels_in labels) heights → (c l : ℕ) → labels_in labels c ≡ Some l → IsHeight (choices_of g cost.pin_counts pats) cost (labels_in labels) c (heights c)
 local_heights g pats cost labels heights are c l e = heights_are (choices_of g cost.pin_counts pats) cost (labels_in labels) heights are c l e

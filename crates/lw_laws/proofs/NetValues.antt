@@ -1,11 +1,12 @@
 -- A network in order has one right assignment, and its nets' sums of products have those values.
-use Rattle.std.proofs.Common.{ℕ, zero, suc, ◌+◌, ◌<◌, ◌≡◌, Bool, false, Contains, List, [], ◌∷◌, ◌++◌, length, map, get_or, refl, ap, ap₂, sym, ◌∙◌, subst, arith}
+use Rattle.std.proofs.Common.{ℕ, zero, suc, ◌+◌, ◌<◌, ◌≡◌, Bool, false, Contains, List, [], ◌∷◌, ◌++◌, length, map, get_or, max, refl, ap, ap₂, sym, ◌∙◌, subst, arith}
 use Rattle.std.specs.List.{list_any}
-use Rattle.lw_laws.specs.Networks.{Node, Network, agrees, row_value, node_value, AreValues, IsInOrder}
+use Rattle.lw_laws.specs.Networks.{Node, Network, agrees, row_value, node_value, AreValues, IsInOrder, greatest_depth, AreDepths}
 use Rattle.lw_laws.specs.Forms.{form_value}
 use Rattle.lw_laws.specs.Signals.{signals_of}
 use Rattle.lw_laws.specs.SignalValues.{values_after, input_values, net_values}
 use Rattle.lw_laws.proofs.Filling.{AreLocal, filled, Fills, filled_fills, fills_once}
+use Rattle.lw_laws.proofs.NetlistValues.{some_fills}
 use Rattle.lw_laws.proofs.FormTruth.{sops_have_values}
 
 -- lists that agree at each of the places give one list of entries
@@ -52,3 +53,25 @@ module _ (net : Network) (order : IsInOrder net) where
   -- the sums of products of the nets have the values of a right assignment
   pub sops_are_values : (x : ℕ → Bool) (width : ℕ) (values : List Bool) → AreValues net x values → map (λ s. form_value x s.sop) (signals_of width net) ≡ values
   sops_are_values x width values are = sops_have_values x width net ∙ values_once x (net_values x net) values (net_values_are x) are
+
+  greatest_agree : (k : ℕ) (xs ys : List ℕ) → ((i : ℕ) → i < k → get_or xs i 0 ≡ get_or ys i 0) → (places : List ℕ) → ((s : ℕ) → Contains places s → s < k) → greatest_depth xs places ≡ greatest_depth ys places
+  greatest_agree k xs ys agree [] low = refl
+  greatest_agree k xs ys agree (s ∷ places) low =
+      ap₂ max (agree s (low s (0, omega arith, refl))) (greatest_agree k xs ys agree places (λ t (i, lt, e). low t (suc i, omega arith, e)))
+
+  abbrev depth_step : Node → List ℕ → ℕ
+  depth_step node depths = 1 + greatest_depth depths node.fanins
+
+  depths_local : AreLocal 0 depth_step net.inputs net.nodes
+  depths_local j node e xs ys agree = ap (λ d. 1 + d) (greatest_agree (net.inputs + j) xs ys agree node.fanins (λ s c. order.before j s node e c))
+
+  depths_fill : (depths : List ℕ) → AreDepths net depths → Fills 0 depth_step (λ i. 0) net.inputs net.nodes depths
+  depths_fill depths are = record { one_each = are.one_each; inputs = are.inputs; nodes = are.nodes }
+
+  pub depths_once : (ds es : List ℕ) → AreDepths net ds → AreDepths net es → ds ≡ es
+  depths_once ds es are also = fills_once 0 depth_step (λ i. 0) net.inputs net.nodes depths_local ds es (depths_fill ds are) (depths_fill es also)
+
+  pub some_depths : (ds : List ℕ) × AreDepths net ds
+  some_depths =
+      let (ds, f) = some_fills 0 depth_step (λ i. 0) net.inputs net.nodes depths_local in
+      (ds, record { one_each = f.one_each; inputs = f.inputs; nodes = f.nodes })

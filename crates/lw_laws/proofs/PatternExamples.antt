@@ -1,6 +1,6 @@
 -- The worked patterns, computed.
-use Rattle.std.proofs.Common.{ℕ, ◌≡◌, true, List, [], ◌∷◌, length, refl}
-use Rattle.lw_laws.specs.Trees.{Tree, leaf, const_one, inv, nand}
+use Rattle.std.proofs.Common.{◌≡◌, true, List, [], ◌∷◌, length, refl}
+use Rattle.lw_laws.specs.Trees.{leaf, const_one, inv, nand}
 use Rattle.lw_laws.specs.Expressions.{Expr, Exprs}
 use Rattle.lw_laws.specs.Expressions.Expr.{expr_const, expr_pin, expr_not, expr_and, expr_or}
 use Rattle.lw_laws.specs.Expressions.Exprs.{no_exprs, more_exprs}

@@ -1,15 +1,14 @@
 -- The patterns of a library's cells have their cells' truth and pins.
-use Rattle.std.proofs.Common.{ℕ, zero, suc, ◌+◌, ◌<◌, ◌==◌, ◌≡◌, ◌⊎◌, ◌↔◌, inl, inr, Bool, true, false, not, ◌&&◌, ◌||◌, List, [], ◌∷◌, ◌++◌, map, length, Contains, Some, slice_get, slice_index_or, refl, ap, ap₂, sym, ◌∙◌, subst, arith}
+use Rattle.std.proofs.Common.{ℕ, zero, suc, ◌+◌, ◌==◌, ◌≡◌, ◌⊎◌, ◌↔◌, inl, inr, Bool, true, false, not, ◌&&◌, ◌||◌, List, [], ◌∷◌, ◌++◌, map, Contains, Some, slice_get, slice_index_or, refl, ap, ap₂, sym, ◌∙◌, subst, arith}
 use Rattle.std.specs.List.{AllByRecursion}
 use Rattle.std.proofs.lemmas.Bool.Decides.{nat_tests}
-use native.Mathlib.Decide.{ℕ_discrete}
 use Rattle.lw_laws.specs.Trees.{Tree, leaf, const_one, const_zero, inv, nand, tree_value, HasLeaf}
-use Rattle.lw_laws.specs.Covers.{Pattern, HasPins, IsPattern, ArePatterns}
+use Rattle.lw_laws.specs.Covers.{Pattern, IsPattern, ArePatterns}
 use Rattle.lw_laws.specs.Netlists.{CellTruth, HasCellTruth, HaveCellTruths}
 use Rattle.lw_laws.specs.Expressions.{Expr, Exprs, expr_value, all_true, some_true, MentionsPin, SomeMentionsPin}
 use Rattle.lw_laws.specs.Expressions.Expr.{expr_const, expr_pin, expr_not, expr_and, expr_or}
 use Rattle.lw_laws.specs.Expressions.Exprs.{no_exprs, more_exprs}
-use Rattle.lw_laws.specs.Patterns.{inverted, Operator, tree_by, empty_tree, constant_tree, trees_of_expr, pattern_of_cell, patterns_of_cell, patterns_from, patterns_of}
+use Rattle.lw_laws.specs.Patterns.{inverted, Operator, tree_by, trees_of_expr, pattern_of_cell, patterns_of_cell, patterns_from, patterns_of}
 use Rattle.lw_laws.specs.Patterns.Operator.{and_op, or_op}
 use Rattle.lw_laws.specs.Cells.{AreCells}
 use Rattle.lw_laws.proofs.PatternTruth.{over, expr_gives, exprs_give, trees_have}

@@ -1,8 +1,8 @@
 -- Each tree of an expression has its truth value, and its pins as leaves.
-use Rattle.std.proofs.Common.{ℕ, zero, suc, ◌<◌, ◌==◌, ◌≡◌, ◌⊎◌, ◌↔◌, inl, inr, Bool, true, false, not, ◌&&◌, ◌||◌, cond, leb, List, [], ◌∷◌, ◌++◌, map, length, Contains, slice_index_or, refl, ap, ap₂, sym, ◌∙◌, subst, arith}
+use Rattle.std.proofs.Common.{◌≡◌, Bool, true, false, cond, leb, List, [], ◌∷◌, ◌++◌, map, length, refl, ap, ap₂, sym, ◌∙◌, subst}
 use Rattle.std.specs.List.{AllByRecursion}
-use Rattle.lw_laws.specs.Trees.{Tree, leaf, const_one, const_zero, inv, nand, tree_value, HasLeaf}
-use Rattle.lw_laws.specs.Expressions.{Expr, Exprs, expr_value, all_true, some_true, MentionsPin, SomeMentionsPin}
+use Rattle.lw_laws.specs.Trees.{Tree, leaf}
+use Rattle.lw_laws.specs.Expressions.{Expr, Exprs}
 use Rattle.lw_laws.specs.Expressions.Expr.{expr_const, expr_pin, expr_not, expr_and, expr_or}
 use Rattle.lw_laws.specs.Expressions.Exprs.{no_exprs, more_exprs}
 use Rattle.lw_laws.specs.Patterns.{inverted, Operator, tree_by, empty_tree, each_with, all_pairs, three, four, left_chain, bracketings, constant_tree, bracketed, each_bracketed, chain_from, chain_of, chained, each_chained, trees_of_expr}

@@ -20,6 +20,7 @@ pub mod Mapped
 pub mod Marks
 pub mod Matches
 pub mod Modes
+pub mod Names
 pub mod Netlists
 pub mod Networks
 pub mod NumberedForms

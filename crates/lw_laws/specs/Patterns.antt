@@ -1,5 +1,5 @@
 -- The patterns of a cell's function: its trees, one for each way to bracket its operators.
-use Rattle.std.specs.Prelude.{ℕ, suc, ◌+◌, Bool, true, false, cond, leb, List, [], ◌∷◌, ◌++◌, map, length}
+use Rattle.std.specs.Prelude.{ℕ, suc, Bool, true, false, cond, leb, List, [], ◌∷◌, ◌++◌, map, length}
 use Rattle.lw_laws.specs.Trees.{Tree, leaf, const_one, const_zero, inv, nand}
 use Rattle.lw_laws.specs.Covers.{Pattern}
 use Rattle.lw_laws.specs.Expressions.{Expr, Exprs}

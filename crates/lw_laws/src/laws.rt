@@ -1,10 +1,14 @@
 //! Laws over definitions: functions with empty bodies, whose clauses are the laws.
-ghost use Rattle.lw_laws.specs.Choices.{AreHeights, IsHeight, IsWithin};
+ghost use Rattle.lw_laws.specs.Cells.{AreCells};
+ghost use Rattle.lw_laws.specs.Choices.{AreHeights, IsHeight};
 ghost use Rattle.lw_laws.specs.Costs.{Cost, IsCost, cost_of};
 ghost use Rattle.lw_laws.specs.Covers.{ArePatterns, Cover, Pattern, time_of};
 ghost use Rattle.lw_laws.specs.Decompositions.{Listing, listing_of};
 ghost use Rattle.lw_laws.specs.Delays.{delay_cost};
+ghost use Rattle.lw_laws.specs.Drafts.{Draft, HaveSameFacts, IsReduced, facts_of};
 ghost use Rattle.lw_laws.specs.Encodings.{Encodes};
+ghost use Rattle.lw_laws.specs.Expressions.{Expr, MentionsPin, expr_value};
+ghost use Rattle.lw_laws.specs.Extracts.{AreDistinctLeaves, AreGateClasses, IsChosen, IsExtracted, IsNetOf, Match, class_at};
 ghost use Rattle.lw_laws.specs.Forms.{Form, conjunction, form_value, has_clash, joined, kept};
 ghost use Rattle.lw_laws.specs.Graphs.{Graph, PairsInOneClass};
 ghost use Rattle.lw_laws.specs.Headline.{HasLeastArrival, HasNoCover, IsMapping, Ports};
@@ -14,16 +18,18 @@ ghost use Rattle.lw_laws.specs.Mapped.{AreRooted, IsCoverAt, IsLabelledOver, IsM
 ghost use Rattle.lw_laws.specs.Matches.{choices_of};
 ghost use Rattle.lw_laws.specs.Modes.{Mode};
 ghost use Rattle.lw_laws.specs.Netlists.{AreArrivals, AreNetlistValues, AreOrdered, CellTruth, HaveCellTruths, Netlist};
-ghost use Rattle.lw_laws.specs.Networks.{AreValues, IsInOrder, Network};
+ghost use Rattle.lw_laws.specs.Networks.{AreDepths, AreValues, IsInOrder, Network};
 ghost use Rattle.lw_laws.specs.NumberedForms.{AreNumberedForms, NumberedForms, family_of};
 ghost use Rattle.lw_laws.specs.NumberedValues.{AreNumberedValues};
 ghost use Rattle.lw_laws.specs.Numbering.{HasSameTrees, numbered};
 ghost use Rattle.lw_laws.specs.Occurring.{HasInputsFirst, occurring_forms, part, sublists};
+ghost use Rattle.lw_laws.specs.Patterns.{patterns_of, trees_of_expr};
 ghost use Rattle.lw_laws.specs.Rounds.{labels_in};
 ghost use Rattle.lw_laws.specs.SignalValues.{SignalsAgree, number_value};
 ghost use Rattle.lw_laws.specs.Signals.{factored, factored_by, shared_literal, signals_of};
+ghost use Rattle.lw_laws.specs.Trees.{HasLeaf, Tree, tree_value};
 ghost use Rattle.lw_laws.specs.Truth.{IsValuation};
-ghost use Rattle.std.specs.Prelude.{◌≡◌, ◌≤◌, ◌<◌, ◌^◌, ◌+◌, ◌*◌, ℕ, List, Option, Bool, Some, None, map, length, slice_get, slice_index_or, min};
+ghost use Rattle.std.specs.Prelude.{◌≡◌, ◌≤◌, ◌↔◌, ◌<◌, ◌^◌, ◌+◌, ◌*◌, ℕ, List, Option, Bool, Some, None, map, length, slice_get, slice_index_or, Contains, min};
 
 // Networks
 
@@ -35,6 +41,16 @@ pub fn some_assignment_is_right()
 /// A network in order has no second right assignment.
 pub fn right_assignments_are_one()
     ensures { (net : Network) → IsInOrder net → (x : ℕ → Bool) (values others : List Bool) → AreValues net x values → AreValues net x others → values ≡ others }
+{}
+
+/// A network in order has depths.
+pub fn some_depths_are_right()
+    ensures { (net : Network) → IsInOrder net → (depths : List ℕ) × AreDepths net depths }
+{}
+
+/// A network in order has no second list of depths.
+pub fn depths_are_one()
+    ensures { (net : Network) → IsInOrder net → (depths others : List ℕ) → AreDepths net depths → AreDepths net others → depths ≡ others }
 {}
 
 // Forms
@@ -133,6 +149,33 @@ pub fn classes_have_the_value()
     ensures { (mode : Mode) (width : ℕ) (net : Network) (g : Graph) (x : ℕ → Bool) → 2 ≤ width → Encodes (family_of mode (forms_of width net)) g → ClassesHaveValue (listing_of width net) g x }
 {}
 
+/// A graph that encodes the facts of a draft encodes every family of the same facts.
+pub fn same_facts_have_one_encoding()
+    ensures { (mode : Mode) (forms : NumberedForms) (d : Draft) (g : Graph) → HaveSameFacts (family_of mode forms) (facts_of d) → IsReduced d g → Encodes (family_of mode forms) g }
+{}
+
+// Patterns
+
+/// Each tree of an expression has its value.
+pub fn patterns_have_the_function()
+    ensures { (y : ℕ → Bool) (e : Expr) (t : Tree) → Contains (trees_of_expr e) t → tree_value y t ≡ expr_value y e }
+{}
+
+/// Each tree of an expression has the pins that the expression mentions as leaves, and no other leaf.
+pub fn patterns_have_the_pins()
+    ensures { (k : ℕ) (e : Expr) (t : Tree) → Contains (trees_of_expr e) t → HasLeaf t k ↔ MentionsPin e k }
+{}
+
+/// The patterns of a library have a leaf for each pin of their cells.
+pub fn library_patterns_are_patterns()
+    ensures { (pin_counts : List ℕ) (truth : CellTruth) (cells : List (List Expr)) → AreCells pin_counts truth cells → ArePatterns pin_counts (patterns_of cells) }
+{}
+
+/// The patterns of a library have the truth of their cells.
+pub fn library_patterns_have_the_truth()
+    ensures { (pin_counts : List ℕ) (truth : CellTruth) (cells : List (List Expr)) → AreCells pin_counts truth cells → HaveCellTruths pin_counts truth (patterns_of cells) }
+{}
+
 // Covers and labels
 
 /// The time of a cell, cut at the cap, is a cost.
@@ -160,9 +203,9 @@ pub fn labels_are_one()
     ensures { (g : Graph) (pats : List Pattern) (cost : Cost) (rounds settled : List (Option ℕ)) → IsCoverProblem g pats cost → IsPotentialOf g pats cost rounds → IsAttainedIn g pats cost rounds → IsPotentialOf g pats cost settled → IsAttainedIn g pats cost settled → (c : ℕ) → labels_in rounds c ≡ labels_in settled c }
 {}
 
-/// From each labelled class gates along attaining matches lead to inputs in some number of steps.
-pub fn labelled_classes_are_within_steps()
-    ensures { (g : Graph) (pats : List Pattern) (cost : Cost) (labels : List (Option ℕ)) → IsCoverProblem g pats cost → IsPotentialOf g pats cost labels → IsAttainedIn g pats cost labels → (c l : ℕ) → labels_in labels c ≡ Some l → (h : ℕ) × IsWithin (choices_of g cost.pin_counts pats) cost (labels_in labels) c h }
+/// Each labelled class has a height, where the labels are the least costs.
+pub fn labelled_classes_have_heights()
+    ensures { (g : Graph) (pats : List Pattern) (cost : Cost) (labels : List (Option ℕ)) → IsCoverProblem g pats cost → IsPotentialOf g pats cost labels → IsAttainedIn g pats cost labels → (c l : ℕ) → labels_in labels c ≡ Some l → (h : ℕ) × IsHeight (choices_of g cost.pin_counts pats) cost (labels_in labels) c h }
 {}
 
 /// Numbers that are 0 at inputs and elsewhere 1 more than the least greatest of an attaining match are the heights.
@@ -205,6 +248,31 @@ pub fn arrivals_are_one()
 /// A net of a netlist whose gates are matches stands for a cover of its class, has the value of the cover's tree, and arrives at the cover's time.
 pub fn mapped_nets_stand_for_covers()
     ensures { (g : Graph) (pats : List Pattern) (delays : List (List ℕ)) (truth : CellTruth) (n : Netlist) (class : ℕ → ℕ) → ArePatterns (map length delays) pats → HaveCellTruths (map length delays) truth pats → AreOrdered n → IsMapped g (map length delays) pats n class → (net : ℕ) → net < n.inputs + length n.gates → IsCoverAt g pats delays truth n class net }
+{}
+
+/// The chosen match of a class is one.
+pub fn chosen_matches_are_one()
+    ensures { (g : Graph) (cost : Cost) (pats : List Pattern) (labels : ℕ → Option ℕ) (heights : ℕ → ℕ) (c : ℕ) (m k : Match) (p q : Pattern) → IsChosen g cost pats labels heights c m p → IsChosen g cost pats labels heights c k q → m ≡ k }
+{}
+
+/// The list of the classes with a gate is one.
+pub fn gate_classes_are_one()
+    ensures { (g : Graph) (cost : Cost) (pats : List Pattern) (labels : ℕ → Option ℕ) (heights : ℕ → ℕ) (roots gates others : List ℕ) → AreGateClasses g cost pats labels heights roots gates → AreGateClasses g cost pats labels heights roots others → gates ≡ others }
+{}
+
+/// The netlist of the chosen matches is one, where the inputs' classes differ.
+pub fn extracted_netlists_are_one()
+    ensures { (g : Graph) (cost : Cost) (pats : List Pattern) (labels : ℕ → Option ℕ) (heights : ℕ → ℕ) (roots gates : List ℕ) → AreGateClasses g cost pats labels heights roots gates → AreDistinctLeaves g → (n m : Netlist) → IsExtracted g cost pats labels heights gates n → IsExtracted g cost pats labels heights gates m → n ≡ m }
+{}
+
+/// The netlist of the chosen matches is in order, and each gate is a match of its class with the classes of its pins.
+pub fn extracted_netlists_are_mapped()
+    ensures { (g : Graph) (cost : Cost) (pats : List Pattern) (labels : ℕ → Option ℕ) (heights : ℕ → ℕ) (roots gates : List ℕ) → AreGateClasses g cost pats labels heights roots gates → (n : Netlist) → IsExtracted g cost pats labels heights gates n → AreOrdered n × IsMapped g cost.pin_counts pats n (class_at g gates) }
+{}
+
+/// Each net of the netlist of the chosen matches arrives at the label of its class, where no label reaches the cap.
+pub fn extracted_arrivals_are_labels()
+    ensures { (g : Graph) (pats : List Pattern) (delays : List (List ℕ)) (cap : ℕ) (labels : ℕ → Option ℕ) (heights : ℕ → ℕ) (roots gates : List ℕ) (n : Netlist) (arrivals : List ℕ) → AreGateClasses g (delay_cost delays cap) pats labels heights roots gates → IsExtracted g (delay_cost delays cap) pats labels heights gates n → AreArrivals delays n arrivals → ((c i : ℕ) → slice_get g.leaves i ≡ Some c → labels c ≡ Some 0) → ((c l : ℕ) → labels c ≡ Some l → l < cap) → (c net : ℕ) → IsNetOf g gates c net → labels c ≡ Some (slice_index_or arrivals net 0) }
 {}
 
 // The headline
