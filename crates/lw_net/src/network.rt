@@ -1,5 +1,6 @@
 ghost use Rattle.std.specs.Prelude.{◌≡◌, length};
 
+use crate::eval::{copy_front, fill};
 use crate::{Node, Nodes};
 use lw_pool::{Name, Names, NetId, Nets};
 use std::marker::Model;
@@ -25,7 +26,9 @@ impl Model for Network {
 }
 
 impl Network {
+    ghost use Rattle.lw_laws.specs.Networks.{AreValues, given};
     ghost use Rattle.lw_net.specs.Networks.{IsNetwork};
+    ghost use Rattle.lw_net.specs.Plain.{plain};
 
     /// The name of the model.
     pub fn model(&self) -> &Name
@@ -72,5 +75,16 @@ impl Network {
         ensures kept { IsNetwork self.now }
     {
         self.names.len() as u32
+    }
+
+    /// Fills in the value of each net, at these values of the inputs.
+    pub fn eval(&self, x: &[bool], nets: &mut [bool])
+        requires one_x { length x.now ≡ self.now.inputs }
+        requires one_net { length nets.old ≡ length self.now.names }
+        ensures { AreValues (plain self.now) (given x.now) nets.new }
+    {
+        let nodes = self.nodes();
+        copy_front(x, nets);
+        fill(nodes, x.len(), nets);
     }
 }
