@@ -1,0 +1,60 @@
+-- A draft whose names are numbered: inputs, and then the nodes' outputs, as they are written.
+use Rattle.std.specs.Prelude.{ℕ, ◌+◌, ◌<◌, ◌≤◌, ◌≡◌, max, Option, Some, ⊤, List, [], ◌∷◌, map, length, slice_index_or, Contains, All}
+use Rattle.lw_net.specs.declared.draft.DraftNode.{DraftNode}
+use Rattle.lw_net.specs.declared.fault.NetFault.{NetFault}
+use Rattle.lw_net.specs.declared.fault.NetFault.TheVariants.{Undefined, Cycle, Memory}
+use Rattle.lw_net.specs.Closing.{number_in, undefined_in}
+
+-- The first of these names that is no signal is named.
+abbrev pub TellsUndefined : List (List ℕ) → List (List ℕ) → NetFault → Type 0
+TellsUndefined signals names (Undefined name) = undefined_in signals names ≡ Some name
+TellsUndefined signals names (Cycle name) = ⊥
+TellsUndefined signals names Memory = ⊤
+
+-- the numbers of each node's fan-ins
+abbrev pub numbered : List (List ℕ) → List DraftNode → List (List ℕ)
+numbered signals nodes = map (λ (node : DraftNode). map (number_in signals) node.fanins) nodes
+
+-- the fan-ins of node j
+abbrev pub fanins_at : List (List ℕ) → ℕ → List ℕ
+fanins_at graph j = slice_index_or graph j []
+
+-- each fan-in is a signal
+abbrev pub IsGraph : ℕ → List (List ℕ) → Type 0
+IsGraph inputs graph = (j : ℕ) → All (λ s. s < inputs + length graph) (fanins_at graph j)
+
+-- 1 more than the depth of a signal, or 0 where it isn't known
+abbrev pub height_at : List ℕ → ℕ → ℕ
+height_at heights s = slice_index_or heights s 0
+
+-- the greatest height of some signals, and at least that of an input
+abbrev pub tallest : List ℕ → List ℕ → ℕ
+tallest heights [] = 1
+tallest heights (s ∷ signals) = max (height_at heights s) (tallest heights signals)
+
+-- the height of a node is known from those of its fan-ins
+pub record IsPlaced (heights fanins : List ℕ) (own : ℕ) : Type 0 where
+  pub known : All (λ s. 0 < height_at heights s) fanins
+  pub height : own ≡ 1 + tallest heights fanins
+
+-- a fan-in has no known height
+pub record IsStuck (heights fanins : List ℕ) : Type 0 where
+  pub signal : ℕ
+  pub among : Contains fanins signal
+  pub open_there : height_at heights signal ≡ 0
+
+-- heights that are known are right
+pub record AreKnown (inputs : ℕ) (graph : List (List ℕ)) (heights : List ℕ) : Type 0 where
+  pub one_each : length heights ≡ inputs + length graph
+  pub given_ones : (s : ℕ) → s < inputs → height_at heights s ≡ 1
+  pub placed : (j : ℕ) → j < length graph → 0 < height_at heights (inputs + j) → IsPlaced heights (fanins_at graph j) (height_at heights (inputs + j))
+
+-- and where one isn't known, a fan-in's is not
+pub record AreHeights (inputs : ℕ) (graph : List (List ℕ)) (heights : List ℕ) : Type 0 where
+  pub known : AreKnown inputs graph heights
+  pub stuck : (j : ℕ) → j < length graph → height_at heights (inputs + j) ≡ 0 → IsStuck heights (fanins_at graph j)
+
+-- From node j the signal is reached through fan-ins.
+pub data Leads (inputs : ℕ) (graph : List (List ℕ)) : ℕ → ℕ → Type 0 where
+  one_step : {j s : ℕ} → Contains (fanins_at graph j) s → Leads inputs graph j s
+  then_path : {j s : ℕ} (k : ℕ) → Contains (fanins_at graph j) (inputs + k) → Leads inputs graph k s → Leads inputs graph j s
