@@ -117,9 +117,9 @@ unfoldable pub cells_from : List Cell → ℕ → List Line → Result (List Cel
 cells_from cells n [] = Err n
 cells_from cells n (last ∷ []) = if is_last last then Ok cells else Err n
 cells_from cells n (first ∷ next ∷ others) = elim (step_of cells first next others) [
-  None ↦ Err n
+  | None ↦ Err n
   | Some end ↦ elim end [
-    Alone cell ↦ cells_from (cells ++ cell ∷ []) (n + 1) (next ∷ others)
+    | Alone cell ↦ cells_from (cells ++ cell ∷ []) (n + 1) (next ∷ others)
     | WithPin cell ↦ cells_from (cells ++ cell ∷ []) (n + 2) others
     | Missing ↦ Err (n + 1)
   ]

@@ -1,5 +1,5 @@
 -- Plain texts: lines of words with one space between.
-use Rattle.std.specs.Prelude.{ℕ, ◌+◌, ◌-◌, ◌*◌, Bool, false, not, ◌&&◌, ◌||◌, ◌==◌, nat_lt, nat_le, List, [], ◌∷◌, ◌++◌, length, map}
+use Rattle.std.specs.Prelude.{ℕ, ◌≡◌, ◌+◌, ◌-◌, ◌*◌, Bool, false, not, ◌&&◌, ◌||◌, ◌==◌, nat_lt, nat_le, List, [], ◌∷◌, ◌++◌, length, map}
 use Rattle.std.specs.List.{slice_split, before_first, list_all, list_any, flat_map, fold}
 use Rattle.std.specs.Char.{is_ascii_alphanumeric, is_ascii_digit}
 use Rattle.std.specs.Str.{bytes_eq}
@@ -47,6 +47,10 @@ is_name word = nat_lt 0 (length word) && nat_le (length word) 2000 && list_all i
 
 abbrev pub contains : List (List ℕ) → List ℕ → Bool
 contains names name = list_any (bytes_eq name) names
+
+-- the new names are the old ones and these
+abbrev pub HoldsAlso : List (List ℕ) → List (List ℕ) → List (List ℕ) → Type 0
+HoldsAlso old new names = (name : List ℕ) → contains new name ≡ (contains old name || contains names name)
 
 -- nothing stands behind the last line end
 abbrev pub is_last : Line → Bool

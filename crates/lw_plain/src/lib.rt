@@ -3,19 +3,20 @@
 #![tactic(auto)]
 
 mod cell;
-//mod cover;
-//mod drivers;
+mod cover;
+mod drivers;
 mod library;
-//mod mapped;
+mod mapped;
+mod mapping;
 mod name_set;
-//mod netlist;
+mod netlist;
 mod network;
 mod text;
 mod word;
 
 pub use cell::{Cell, Cells, Function, Pin};
-//pub use cover::netlist_of;
 pub use library::library_of;
-//pub use mapped::mapped_text;
-//pub use netlist::{Gate, Gates, Netlist, Port, Ports};
+pub use mapped::mapped_text;
+pub use mapping::netlist_of;
+pub use netlist::{Gate, Gates, Netlist, Port, Ports};
 pub use network::draft_of;

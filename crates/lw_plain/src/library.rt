@@ -289,7 +289,13 @@ fn cells_of(alloc: Global, lines: &[Line<'_>]) -> Result<Result<Cells, usize>, A
     let mut cells = Cells::new(alloc);
     let mut at = 0;
     'entries: while at + 1 < lines.len() {
-        match step_of(alloc, &cells, &lines[at], &lines[at + 1], lines_from(lines, at + 2))? {
+        match step_of(
+            alloc,
+            &cells,
+            &lines[at],
+            &lines[at + 1],
+            lines_from(lines, at + 2),
+        )? {
             None => return Ok(Err(at + 1)),
             Some(EntryEnd::Missing) => return Ok(Err(at + 2)),
             Some(EntryEnd::Alone(cell)) => {

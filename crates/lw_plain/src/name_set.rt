@@ -1,8 +1,9 @@
 // Names, to be found fast.
 ghost use Rattle.std.specs.Prelude.{◌≡◌, ◌++◌, [], ◌∷◌, List, ℕ, false, length, map, OnOk};
-ghost use Rattle.lw_plain.specs.Texts.{contains};
+ghost use Rattle.lw_plain.specs.Texts.{contains, HoldsAlso};
 
 use indexmap::IndexSet;
+use lw_pool::Name;
 use std::alloc::{AllocError, Global};
 use std::marker::Model;
 
@@ -52,4 +53,24 @@ impl NameSet {
         self.names.insert(name)?;
         Ok(())
     }
+
+    /// Adds a name, if it is not there.
+    pub fn add(&mut self, name: &[u8]) -> Result<(), AllocError>
+        ensures { OnOk result (HoldsAlso self.old self.new (name.now ∷ [])) }
+    {
+        if !self.contains(name) {
+            self.insert(name)?;
+        }
+        Ok(())
+    }
+}
+
+/// Adds names that are not there.
+pub fn add_all(set: &mut NameSet, names: &[Name]) -> Result<(), AllocError>
+    ensures { OnOk result (HoldsAlso set.old set.new names.now) }
+{
+    for name in names {
+        set.add(name.as_bytes())?;
+    }
+    Ok(())
 }

@@ -142,11 +142,7 @@ fn row_of<'a>(fanins: &[Name], words: &[&'a [u8]]) -> Option<&'a [u8]>
 
 // The row that the next line is, where another part stands behind it.
 #[tactic(auto, unfolding(crate::specs::Networks::row_behind))]
-fn row_behind<'a>(
-    fanins: &[Name],
-    next: &'a Line<'_>,
-    others: &[Line<'_>],
-) -> Option<&'a [u8]>
+fn row_behind<'a>(fanins: &[Name], next: &'a Line<'_>, others: &[Line<'_>]) -> Option<&'a [u8]>
     ensures row { option_map (λ row. row.now) result ≡ row_behind fanins.now next.now others.now }
     ensures signs { IfSome result (λ row. All IsSign row.now) }
 {
@@ -164,7 +160,10 @@ fn with_row(alloc: Global, head: DraftNode, row: &[u8]) -> Result<Front, AllocEr
     let mut rows = Cubes::new(alloc);
     rows.push(Cube::from_slice(alloc, row)?)?;
     let DraftNode {
-        out, fanins, on, ..
+        out,
+        fanins,
+        on,
+        ..
     } = head;
     Ok(Front::Full(DraftNode {
         out,
