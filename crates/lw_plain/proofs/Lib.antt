@@ -6,3 +6,4 @@ pub mod Flips
 pub mod Covering
 pub mod Bounds
 pub mod Planning
+pub mod Drafts

@@ -6,3 +6,4 @@ pub mod Covers
 pub mod Netlists
 pub mod Plans
 pub mod MappedTexts
+pub mod Shapes

@@ -1,0 +1,4 @@
+pub mod Told
+pub mod Steps
+pub mod Prefix
+pub mod Comings

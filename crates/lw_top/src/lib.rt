@@ -1,0 +1,6 @@
+//! The program: from words and files to a status, the bytes for out and a line for err.
+#![tactic(auto)]
+
+mod answer;
+mod reading;
+mod refusal;
