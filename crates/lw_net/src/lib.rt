@@ -4,6 +4,7 @@
 mod draft;
 mod eval;
 mod fault;
+mod levels;
 mod naming;
 mod network;
 mod node;
