@@ -1,5 +1,5 @@
 -- A draft whose names are numbered: inputs, and then the nodes' outputs, as they are written.
-use Rattle.std.specs.Prelude.{ℕ, ◌+◌, ◌<◌, ◌≤◌, ◌≡◌, ◌⊎◌, ◌==◌, count_by, max, Some, ⊤, List, [], ◌∷◌, map, length, slice_index_or, Contains, All}
+use Rattle.std.specs.Prelude.{ℕ, ◌+◌, ◌<◌, ◌≤◌, ◌≡◌, ◌⊎◌, ◌==◌, count_by, max, Bool, true, false, not, Some, ⊤, List, [], ◌∷◌, map, length, slice_index_or, Contains, All}
 use Rattle.lw_net.specs.declared.draft.DraftNode.{DraftNode}
 use Rattle.lw_net.specs.declared.fault.NetFault.{NetFault}
 use Rattle.lw_net.specs.declared.fault.NetFault.TheVariants.{Undefined, Cycle, Memory}
@@ -84,3 +84,29 @@ pub record IsRising (inputs : ℕ) (graph : List (List ℕ)) (heights : List ℕ
   pub low : (s : ℕ) → height_at heights s + unknown heights ≤ 1 + length graph
   pub signals : All (λ s. s < inputs + length graph) ready
   pub nodes : (s : ℕ) → All (λ j. j < length graph) (waiting_at waiting s)
+
+-- the first node that leads to itself
+pub record IsFirst (inputs : ℕ) (graph : List (List ℕ)) (p : ℕ) : Type 0 where
+  pub within : p < length graph
+  pub cycle : Leads inputs graph p (inputs + p)
+  pub first : (j : ℕ) → j < p → Leads inputs graph j (inputs + j) → ⊥
+
+abbrev pub is_seen : List Bool → ℕ → Bool
+is_seen seen x = slice_index_or seen x false
+
+-- how many nodes aren't seen
+abbrev pub unseen : List Bool → ℕ
+unseen seen = count_by not seen
+
+-- the node p, or one that was seen
+abbrev pub IsReached : ℕ → List Bool → ℕ → Type 0
+IsReached p seen x = (x ≡ p) ⊎ (is_seen seen x ≡ true)
+
+-- While nodes are searched for that p leads to: what was seen is led to, and each fan-in of a node that was reached was seen, unless the
+-- node is still to be looked at, or the fan-in is.
+pub record IsSearching (inputs : ℕ) (graph : List (List ℕ)) (p : ℕ) (seen : List Bool) (ready later : List ℕ) : Type 0 where
+  pub flags : length seen ≡ length graph
+  pub reached : (x : ℕ) → is_seen seen x ≡ true → Leads inputs graph p (inputs + x)
+  pub nodes : (x : ℕ) → Contains ready x → (x < length graph) × IsReached p seen x
+  pub fanins : (s : ℕ) → Contains later s → (s < inputs + length graph) × Leads inputs graph p s
+  pub closed : (x y : ℕ) → IsReached p seen x → Contains (fanins_at graph x) (inputs + y) → (is_seen seen y ≡ true) ⊎ Contains ready x ⊎ Contains later (inputs + y)

@@ -17,7 +17,7 @@ struct Levels {
 }
 
 // The first fan-in whose height isn't known.
-fn open_fanin(fanins: &[u32], heights: &[u32]) -> Option<u32>
+pub(crate) fn open_fanin(fanins: &[u32], heights: &[u32]) -> Option<u32>
     requires { All (λ s. s < length heights.now) fanins.now }
     ensures among { IfSome result (Contains fanins.now) }
     ensures lacks { IfSome result (λ s. height_at heights.now s ≡ 0) }

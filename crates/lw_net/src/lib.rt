@@ -1,6 +1,7 @@
 //! Networks of nodes with rows, closed from their drafts by names, and the values of their nets.
 #![tactic(auto)]
 
+mod cycles;
 mod draft;
 mod eval;
 mod fault;
