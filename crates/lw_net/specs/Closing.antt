@@ -1,5 +1,5 @@
 -- What a draft is closed to: a network, or the first signal that nothing drives, or the first node on a cycle.
-use Rattle.std.specs.Prelude.{ℕ, ◌+◌, ◌<◌, ◌≤◌, ◌≡◌, ◌==◌, max, Bool, not, Option, Some, None, ⊤, List, [], ◌∷◌, ◌++◌, map, length, filter, find, position, unwrap_or, slice_get, Contains, All, Result, Ok, Err}
+use Rattle.std.specs.Prelude.{ℕ, ◌+◌, ◌<◌, ◌≤◌, ◌≡◌, ◌==◌, max, Bool, not, Option, Some, None, ⊤, List, [], ◌∷◌, ◌++◌, map, length, filter, find, position, unwrap_or, slice_get, Contains, All}
 use Rattle.std.specs.List.{flat_map, list_any, range_with_len, IsDistinct}
 use Rattle.std.specs.Str.{bytes_eq}
 use Rattle.lw_pool.specs.declared.id.NetId.{NetId}

@@ -1,5 +1,5 @@
 -- A draft whose names are numbered: inputs, and then the nodes' outputs, as they are written.
-use Rattle.std.specs.Prelude.{ℕ, ◌+◌, ◌<◌, ◌≤◌, ◌≡◌, max, Option, Some, ⊤, List, [], ◌∷◌, map, length, slice_index_or, Contains, All}
+use Rattle.std.specs.Prelude.{ℕ, ◌+◌, ◌<◌, ◌≤◌, ◌≡◌, ◌⊎◌, ◌==◌, count_by, max, Bool, true, false, not, Some, ⊤, List, [], ◌∷◌, map, length, slice_index_or, Contains, All}
 use Rattle.lw_net.specs.declared.draft.DraftNode.{DraftNode}
 use Rattle.lw_net.specs.declared.fault.NetFault.{NetFault}
 use Rattle.lw_net.specs.declared.fault.NetFault.TheVariants.{Undefined, Cycle, Memory}
@@ -58,3 +58,55 @@ pub record AreHeights (inputs : ℕ) (graph : List (List ℕ)) (heights : List �
 pub data Leads (inputs : ℕ) (graph : List (List ℕ)) : ℕ → ℕ → Type 0 where
   one_step : {j s : ℕ} → Contains (fanins_at graph j) s → Leads inputs graph j s
   then_path : {j s : ℕ} (k : ℕ) → Contains (fanins_at graph j) (inputs + k) → Leads inputs graph k s → Leads inputs graph j s
+
+-- how many heights aren't known
+abbrev pub unknown : List ℕ → ℕ
+unknown heights = count_by (λ h. h == 0) heights
+
+-- the nodes that wait for a signal
+abbrev pub waiting_at : List (List ℕ) → ℕ → List ℕ
+waiting_at waiting s = slice_index_or waiting s []
+
+-- the node waits for one of its fan-ins
+pub record IsHeld (waiting : List (List ℕ)) (fanins : List ℕ) (j : ℕ) : Type 0 where
+  pub signal : ℕ
+  pub among : Contains fanins signal
+  pub there : Contains (waiting_at waiting signal) j
+
+-- While heights are being found: each node that has none waits for a fan-in, or is still to be looked at, and a signal that nodes wait
+-- for has no height, or is still to be told to them.
+pub record IsRising (inputs : ℕ) (graph : List (List ℕ)) (heights : List ℕ) (waiting : List (List ℕ)) (ready later : List ℕ) : Type 0 where
+  pub known : AreKnown inputs graph heights
+  pub lists : length waiting ≡ inputs + length graph
+  pub waits : (j : ℕ) → j < length graph → height_at heights (inputs + j) ≡ 0 → IsHeld waiting (fanins_at graph j) j ⊎ Contains later j
+  pub served : (s : ℕ) → 0 < height_at heights s → Contains ready s ⊎ (waiting_at waiting s ≡ [])
+  pub few : unknown heights ≤ length graph
+  pub low : (s : ℕ) → height_at heights s + unknown heights ≤ 1 + length graph
+  pub signals : All (λ s. s < inputs + length graph) ready
+  pub nodes : (s : ℕ) → All (λ j. j < length graph) (waiting_at waiting s)
+
+-- the first node that leads to itself
+pub record IsFirst (inputs : ℕ) (graph : List (List ℕ)) (p : ℕ) : Type 0 where
+  pub within : p < length graph
+  pub cycle : Leads inputs graph p (inputs + p)
+  pub first : (j : ℕ) → j < p → Leads inputs graph j (inputs + j) → ⊥
+
+abbrev pub is_seen : List Bool → ℕ → Bool
+is_seen seen x = slice_index_or seen x false
+
+-- how many nodes aren't seen
+abbrev pub unseen : List Bool → ℕ
+unseen seen = count_by not seen
+
+-- the node p, or one that was seen
+abbrev pub IsReached : ℕ → List Bool → ℕ → Type 0
+IsReached p seen x = (x ≡ p) ⊎ (is_seen seen x ≡ true)
+
+-- While nodes are searched for that p leads to: what was seen is led to, and each fan-in of a node that was reached was seen, unless the
+-- node is still to be looked at, or the fan-in is.
+pub record IsSearching (inputs : ℕ) (graph : List (List ℕ)) (p : ℕ) (seen : List Bool) (ready later : List ℕ) : Type 0 where
+  pub flags : length seen ≡ length graph
+  pub reached : (x : ℕ) → is_seen seen x ≡ true → Leads inputs graph p (inputs + x)
+  pub nodes : (x : ℕ) → Contains ready x → (x < length graph) × IsReached p seen x
+  pub fanins : (s : ℕ) → Contains later s → (s < inputs + length graph) × Leads inputs graph p s
+  pub closed : (x y : ℕ) → IsReached p seen x → Contains (fanins_at graph x) (inputs + y) → (is_seen seen y ≡ true) ⊎ Contains ready x ⊎ Contains later (inputs + y)

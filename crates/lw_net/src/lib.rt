@@ -1,12 +1,16 @@
 //! Networks of nodes with rows, closed from their drafts by names, and the values of their nets.
 #![tactic(auto)]
 
+mod close;
+mod cycles;
 mod draft;
 mod eval;
 mod fault;
+mod levels;
 mod naming;
 mod network;
 mod node;
+mod order;
 
 pub use draft::{Draft, DraftNode, DraftNodes};
 pub use fault::NetFault;

@@ -1,6 +1,5 @@
 use Rattle.std.proofs.lemmas.Result.{err_from_is_err_and}
 use Rattle.lw_net.proofs.Names.{undefined_in_node, undefined_behind_node, numbered_more}
-use Rattle.std.proofs.Common.{subst, sym, ap, ◌∙◌}
 use Rattle.lw_net.proofs.naming.graph.Goals as goal
 
 pub returns-in_err-fanins-clause-fault : goal.returns-in_err-fanins-clause-fault
