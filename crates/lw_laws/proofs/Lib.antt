@@ -9,6 +9,7 @@ pub mod Equality
 pub mod ExtractLaws
 pub mod Extracts
 pub mod Factoring
+pub mod Facts
 pub mod Filling
 pub mod Flips
 pub mod FormExamples
