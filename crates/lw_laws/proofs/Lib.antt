@@ -5,6 +5,7 @@ pub mod Deciding
 pub mod Delays
 pub mod Drafts
 pub mod Encoding
+pub mod EncodingTests
 pub mod Equality
 pub mod ExtractLaws
 pub mod Extracts
@@ -33,6 +34,7 @@ pub mod Numbers
 pub mod PatternExamples
 pub mod PatternLaws
 pub mod PatternTruth
+pub mod PotentialTests
 pub mod Potentials
 pub mod Rounds
 pub mod SmallGraph
