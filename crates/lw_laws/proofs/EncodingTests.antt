@@ -1,5 +1,5 @@
 -- Tests of a small graph, which hold only where it encodes the listed forms.
-use Rattle.std.proofs.Common.{ℕ, zero, suc, ◌+◌, ◌*◌, ◌/◌, ◌<◌, ◌≤◌, ◌==◌, ◌≡◌, ◌⊎◌, ◌↔◌, inl, inr, Bool, true, false, ◌&&◌, ◌||◌, if◌then◌else◌, List, [], ◌∷◌, ◌++◌, length, Contains, Option, Some, None, slice_get, slice_index_or, refl, ap, ap₂, sym, ◌∙◌, subst, arith}
+use Rattle.std.proofs.Common.{ℕ, zero, suc, ◌+◌, ◌*◌, ◌<◌, ◌==◌, ◌≡◌, ◌⊎◌, inl, inr, Bool, true, false, ◌&&◌, ◌||◌, if◌then◌else◌, List, [], ◌∷◌, ◌++◌, length, Contains, Option, Some, None, slice_get, slice_index_or, refl, ap, ap₂, sym, ◌∙◌, subst, arith}
 use Rattle.std.specs.List.{AllByRecursion, list_all, list_any}
 use native.Mathlib.Nat.{eq-or-lt_of_le}
 use Rattle.lw_laws.specs.Flip.{flip}
@@ -9,7 +9,7 @@ use Rattle.lw_laws.specs.Families.Equivalent.{same}
 use Rattle.lw_laws.specs.Encodings.{HasNand, Encodes}
 use Rattle.lw_laws.specs.Drafts.{NandFact}
 use Rattle.lw_laws.specs.Modes.Mode.{plain}
-use Rattle.lw_laws.specs.NumberedForms.{Base, NumberedForms, family_of, NumberOccurs, IsSignal}
+use Rattle.lw_laws.specs.NumberedForms.{Base, NumberedForms, family_of, NumberOccurs}
 use Rattle.lw_laws.specs.NumberedForms.Base.{base_true, base_input, base_and}
 use Rattle.lw_laws.proofs.Flips.{class_of-flip}
 use Rattle.lw_laws.proofs.Closure.{Equivalent-name}

@@ -22,6 +22,8 @@ pub mod Heights
 pub mod LabelLaws
 pub mod Listed
 pub mod Mapping
+pub mod MappingExamples
+pub mod MappingTests
 pub mod Masks
 pub mod NetValues
 pub mod NetlistValues
@@ -37,6 +39,7 @@ pub mod PatternTruth
 pub mod PotentialTests
 pub mod Potentials
 pub mod Rounds
+pub mod SharingExamples
 pub mod SmallGraph
 pub mod Sublists
 pub mod Together

@@ -109,7 +109,7 @@ module _ (y : ℕ → Bool) where
 
 -- leaves
 module _ (k : ℕ) where
-  abbrev has_leaf : Tree → Bool
+  abbrev pub has_leaf : Tree → Bool
   has_leaf (leaf i) = i == k
   has_leaf const_one = false
   has_leaf const_zero = false
@@ -167,7 +167,7 @@ module _ (k : ℕ) where
       from (inl e) = inl (p.1 e)
       from (inr e) = inr (q.1 e)
 
-  leaf_is : (t : Tree) → (has_leaf t ≡ true) ↔ HasLeaf t k
+  pub leaf_is : (t : Tree) → (has_leaf t ≡ true) ↔ HasLeaf t k
   leaf_is (leaf i) = same_number i
   leaf_is const_one = (λ e. cc, λ e. absurd e)
   leaf_is const_zero = (λ e. cc, λ e. absurd e)

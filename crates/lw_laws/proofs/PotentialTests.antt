@@ -1,6 +1,6 @@
 -- Tests of the labels of a small graph, which hold only where they are a potential of its matches.
-use Rattle.std.proofs.Common.{ℕ, zero, suc, min, ◌+◌, ◌*◌, ◌-◌, ◌/◌, ◌<◌, ◌≤◌, ◌==◌, ◌≡◌, ◌⊎◌, inl, inr, Bool, true, false, ◌&&◌, ◌||◌, cond, leb, List, [], ◌∷◌, ◌++◌, length, map, replicate, Contains, Option, Some, None, slice_get, slice_index_or, refl, ap, ap₂, sym, ◌∙◌, subst, arith}
-use Rattle.std.specs.List.{AllByRecursion, AllZip, list_all, list_any}
+use Rattle.std.proofs.Common.{ℕ, zero, suc, ◌+◌, ◌*◌, ◌<◌, ◌≤◌, ◌==◌, ◌≡◌, ◌⊎◌, inl, inr, Bool, true, false, ◌&&◌, cond, leb, List, [], ◌∷◌, ◌++◌, length, map, replicate, Contains, Option, Some, None, slice_get, slice_index_or, refl, ap, ap₂, sym, ◌∙◌, subst, arith}
+use Rattle.std.specs.List.{AllZip, list_all}
 use Rattle.std.proofs.lemmas.Bool.Decides.{nat_tests}
 use native.Mathlib.Decide.{ℕ_discrete, dec_lt}
 use Rattle.lw_laws.specs.Flip.{flip}
@@ -9,11 +9,10 @@ use Rattle.lw_laws.specs.Graphs.{Pair, Graph, Stands}
 use Rattle.lw_laws.specs.Covers.{Pattern, HasPins}
 use Rattle.lw_laws.specs.Costs.{Cost}
 use Rattle.lw_laws.specs.Choices.{HaveLabels, HasLabelAtMost}
-use Rattle.lw_laws.specs.Matches.{IsMatchAt, choices_of}
 use Rattle.lw_laws.specs.Rounds.{labels_in}
 use Rattle.lw_laws.specs.Mapped.{IsPotentialOf}
 use Rattle.lw_laws.proofs.Flips.{half-flip}
-use Rattle.lw_laws.proofs.Facts.{eq_true, eq_same, and_true, or_true, all_true}
+use Rattle.lw_laws.proofs.Facts.{eq_same, and_true, all_true}
 
 -- a binding in part: a class for some of the pins
 abbrev Partial : Type 0
