@@ -1,7 +1,7 @@
 -- The laws over plain forms and the laws over numbers give each occurring form the same trees.
 use Rattle.std.proofs.Common.{ℕ, zero, suc, ◌+◌, ◌*◌, ◌/◌, ◌<◌, ◌≤◌, ◌≡◌, ◌≢◌, ◌⊎◌, inl, inr, List, [], ◌∷◌, length, map, Some, slice_get, refl, ap, ap₂, sym, ◌∙◌, subst, subst₂, arith, add-zero, lt_of_not-le}
-use native.Mathlib.Decide.{dec_le}
 use Rattle.std.specs.List.{AllByRecursion}
+use native.Mathlib.Decide.{dec_le}
 use Rattle.lw_laws.specs.Flip.{flip}
 use Rattle.lw_laws.specs.Trees.{Tree, leaf, const_one, const_zero, nand}
 use Rattle.lw_laws.specs.Families.{AreLinked, Derives}
@@ -11,8 +11,6 @@ use Rattle.lw_laws.specs.NumberedForms.Base.{base_true, base_input, base_and}
 use Rattle.lw_laws.specs.Modes.Mode.{plain, idempotent}
 use Rattle.lw_laws.specs.NumberedForms.IsCut.{cut_none, cut_left, cut_right}
 use Rattle.lw_laws.specs.NumberedForms.IsCovering.{in_none, in_left, in_right, in_both}
-use Rattle.lw_laws.proofs.Flips.{flip-flip, flip_even, flip_odd}
-use Rattle.lw_laws.proofs.NumberedForms.{slice_get_some}
 use Rattle.lw_laws.specs.Forms.{Form, FormList, items, form_list, and_of, complement, conjunction}
 use Rattle.lw_laws.specs.Forms.Form.{var_form, true_form, not_form, and_form}
 use Rattle.lw_laws.specs.Signals.{Signal}
@@ -21,11 +19,13 @@ use Rattle.lw_laws.specs.Decompositions.AreParts.{parts_none, parts_left, parts_
 use Rattle.lw_laws.specs.Decompositions.AreOverlapping.{over_none, over_left, over_right, over_both}
 use Rattle.lw_laws.specs.Decompositions.HasTree.{input_law, true_law, false_law, inverter_law, split_law, sharing_law, factoring_law, overlap_law, tied_inverter_law}
 use Rattle.lw_laws.specs.Numbering.{number, numbered_base, sop_number, fac_number, numbered, IsNumber, HasSameTrees}
+use Rattle.lw_laws.specs.Modes.{Mode}
+use Rattle.lw_laws.specs.Listings.{IsListing, IsListedBefore, sign_of, IsSub}
+use Rattle.lw_laws.proofs.Flips.{flip-flip, flip_even, flip_odd}
 use Rattle.lw_laws.proofs.Equality.{items-form_list, form_list-items}
 use Rattle.lw_laws.proofs.Sublists.{parts_subs, parts_turned, overlapping_subs, overlapping_turned, IsSub_all, IsSub_whole, conjunction_of_one, conjunction_of_more}
 use Rattle.lw_laws.proofs.Numbers.{slice_get_map, slice_get_map_back, number_of, numbers_differ, occurs_complement, occurs_sign, number_complement, occurs_number, number_occurs, numbers_injective, complement_twice, Some_injective}
-use Rattle.lw_laws.specs.Modes.{Mode}
-use Rattle.lw_laws.specs.Listings.{IsListing, IsListedBefore, sign_of, IsSub}
+use Rattle.lw_laws.proofs.Lists.{slice_get_some}
 
 -- a cut of numbers is one of forms, and back
 cut_of_parts : (h : Form → ℕ) {fs ls rs : List Form} → AreParts fs ls rs → IsCut (map h fs) (map h ls) (map h rs)

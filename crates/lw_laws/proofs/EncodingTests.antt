@@ -14,6 +14,7 @@ use Rattle.lw_laws.specs.NumberedForms.Base.{base_true, base_input, base_and}
 use Rattle.lw_laws.proofs.Flips.{class_of-flip}
 use Rattle.lw_laws.proofs.Closure.{Equivalent-name}
 use Rattle.lw_laws.proofs.Facts.{eq_true, eq_same, and_true, or_true, all_true, any_true, nand_facts, fact_listed, fact_is}
+use Rattle.lw_laws.proofs.Lists.{in_left, in_right}
 
 -- the pair is that of x and y
 abbrev is_pair : ℕ → ℕ → Pair → Bool
@@ -90,15 +91,6 @@ module _ (g : Graph) where
   abbrev held_from : ℕ → List (List Pair) → List Held
   held_from c [] = []
   held_from c (row ∷ rows) = held_in_row c row ++ held_from (suc c) rows
-
-  in_left : (xs ys : List Held) (x : Held) → Contains xs x → Contains (xs ++ ys) x
-  in_left [] ys x (k, lt, e) = absurd (omega arith)
-  in_left (z ∷ xs) ys x (zero, lt, e) = (0, omega arith, e)
-  in_left (z ∷ xs) ys x (suc k, lt, e) = let (j, l, f) = in_left xs ys x (k, omega arith, e) in (suc j, omega arith, f)
-
-  in_right : (xs ys : List Held) (x : Held) → Contains ys x → Contains (xs ++ ys) x
-  in_right [] ys x c = c
-  in_right (z ∷ xs) ys x c = let (j, l, f) = in_right xs ys x c in (suc j, omega arith, f)
 
   row_listed : (c : ℕ) (row : List Pair) (p : Pair) → Contains row p → Contains (held_in_row c row) (record { at = c; pair = p })
   row_listed c [] p (k, lt, e) = absurd (omega arith)

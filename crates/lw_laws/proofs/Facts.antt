@@ -7,7 +7,7 @@ use Rattle.lw_laws.specs.Drafts.{NandFact}
 use Rattle.lw_laws.specs.NumberedForms.{Base, NumberedForms, IsCut, IsPart, IsCutOf}
 use Rattle.lw_laws.specs.NumberedForms.Base.{base_true, base_input, base_and}
 use Rattle.lw_laws.specs.NumberedForms.IsCut.{cut_none, cut_left, cut_right}
-use Rattle.lw_laws.proofs.Deciding.{in_left, in_right, in_map}
+use Rattle.lw_laws.proofs.Lists.{all_contains, all_append, all_map, in_left, in_right, in_map}
 
 -- tests
 pub eq_true : (a b : ℕ) → (a == b) ≡ true → a ≡ b
@@ -74,24 +74,12 @@ cut_listed (cut_left {f = f} {fs = fs} {ls = ls} {rs = rs} c) =
 cut_listed (cut_right {f = f} {fs = fs} {ls = ls} {rs = rs} c) =
     in_right (map (to_left f) (cuts fs)) (map (to_right f) (cuts fs)) (record { left = ls; right = f ∷ rs }) (in_map (to_right f) (cuts fs) (record { left = ls; right = rs }) (cut_listed c))
 
-pub all_append : {X : Type 0} (P : X → Type 0) (xs ys : List X) → AllByRecursion P xs → AllByRecursion P ys → AllByRecursion P (xs ++ ys)
-all_append P [] ys a b = b
-all_append P (x ∷ xs) ys (p, a) b = (p, all_append P xs ys a b)
-
-all_map : {X Y : Type 0} (P : Y → Type 0) (f : X → Y) (xs : List X) → ((x : X) → P (f x)) → AllByRecursion P (map f xs)
-all_map P f [] h = tt
-all_map P f (x ∷ xs) h = (h x, all_map P f xs h)
-
-all_map_of : {X Y : Type 0} (Q : X → Type 0) (P : Y → Type 0) (f : X → Y) (xs : List X) → ((x : X) → Q x → P (f x)) → AllByRecursion Q xs → AllByRecursion P (map f xs)
-all_map_of Q P f [] h a = tt
-all_map_of Q P f (x ∷ xs) h (q, a) = (h x q, all_map_of Q P f xs h a)
-
 cuts_are : (fs : List ℕ) → AllByRecursion (λ c. IsCut fs c.left c.right) (cuts fs)
 cuts_are [] = (cut_none, tt)
 cuts_are (f ∷ fs) =
     all_append (λ c. IsCut (f ∷ fs) c.left c.right) (map (to_left f) (cuts fs)) (map (to_right f) (cuts fs))
-    (all_map_of (λ c. IsCut fs c.left c.right) (λ c. IsCut (f ∷ fs) c.left c.right) (to_left f) (cuts fs) (λ c h. cut_left h) (cuts_are fs))
-    (all_map_of (λ c. IsCut fs c.left c.right) (λ c. IsCut (f ∷ fs) c.left c.right) (to_right f) (cuts fs) (λ c h. cut_right h) (cuts_are fs))
+    (all_map (λ c. IsCut fs c.left c.right) (λ c. IsCut (f ∷ fs) c.left c.right) (to_left f) (cuts fs) (λ c h. cut_left h) (cuts_are fs))
+    (all_map (λ c. IsCut fs c.left c.right) (λ c. IsCut (f ∷ fs) c.left c.right) (to_right f) (cuts fs) (λ c h. cut_right h) (cuts_are fs))
 
 -- the numbers of the listed Ands with these operands
 abbrev is_and_of : List ℕ → Base → Bool
@@ -244,11 +232,6 @@ of_bases_are forms first (base_and fs ∷ bases) at =
     all_append (IsFact forms) (of_cuts forms (2 * first + 1) (cuts fs)) (of_bases forms (suc first) bases)
     (of_cuts_are forms first fs (ap (slice_get forms.bases) z ∙ at 0 (base_and fs) refl) (cuts fs) (cuts_are fs))
     (of_bases_are forms (suc first) bases (λ b d e. let s : suc first + b ≡ first + suc b = omega arith in ap (slice_get forms.bases) s ∙ at (suc b) d e))
-
-all_contains : {X : Type 0} (P : X → Type 0) (xs : List X) (x : X) → AllByRecursion P xs → Contains xs x → P x
-all_contains P [] x a (k, lt, e) = absurd (omega arith)
-all_contains P (y ∷ xs) x (p, a) (zero, lt, e) = subst P e p
-all_contains P (y ∷ xs) x (p, a) (suc k, lt, e) = all_contains P xs x a (k, omega arith, e)
 
 -- each fact of the list is a split
 pub fact_is : (forms : NumberedForms) (F : NandFact) → Contains (nand_facts forms) F → IsCutOf forms F.form F.left F.right

@@ -21,6 +21,7 @@ pub mod HeightRounds
 pub mod Heights
 pub mod LabelLaws
 pub mod Listed
+pub mod Lists
 pub mod Mapping
 pub mod MappingExamples
 pub mod MappingTests

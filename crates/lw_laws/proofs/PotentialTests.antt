@@ -13,6 +13,7 @@ use Rattle.lw_laws.specs.Rounds.{labels_in}
 use Rattle.lw_laws.specs.Mapped.{IsPotentialOf}
 use Rattle.lw_laws.proofs.Flips.{half-flip}
 use Rattle.lw_laws.proofs.Facts.{eq_same, and_true, all_true}
+use Rattle.lw_laws.proofs.Lists.{in_left, in_right, in_map}
 
 -- a binding in part: a class for some of the pins
 abbrev Partial : Type 0
@@ -47,20 +48,6 @@ module _ (g : Graph) where
 -- the binding has the classes that the partial one has
 abbrev Fits : Partial → List ℕ → Type 0
 Fits w ps = AllZip (λ o p. (o ≡ None) ⊎ (o ≡ Some p)) w ps
-
-in_left : {X : Type 0} (xs ys : List X) (x : X) → Contains xs x → Contains (xs ++ ys) x
-in_left [] ys x (k, lt, e) = absurd (omega arith)
-in_left (z ∷ xs) ys x (zero, lt, e) = (0, omega arith, e)
-in_left (z ∷ xs) ys x (suc k, lt, e) = let (j, l, f) = in_left xs ys x (k, omega arith, e) in (suc j, omega arith, f)
-
-in_right : {X : Type 0} (xs ys : List X) (x : X) → Contains ys x → Contains (xs ++ ys) x
-in_right [] ys x c = c
-in_right (z ∷ xs) ys x c = let (j, l, f) = in_right xs ys x c in (suc j, omega arith, f)
-
-in_map : {X Y : Type 0} (h : X → Y) (xs : List X) (x : X) → Contains xs x → Contains (map h xs) (h x)
-in_map h [] x (k, lt, e) = absurd (omega arith)
-in_map h (z ∷ xs) x (zero, lt, e) = (0, omega arith, ap h e)
-in_map h (z ∷ xs) x (suc k, lt, e) = let (j, l, f) = in_map h xs x (k, omega arith, e) in (suc j, omega arith, f)
 
 in_each : (next : Partial → List Partial) (ws : List Partial) (w v : Partial) → Contains ws w → Contains (next w) v → Contains (each_from next ws) v
 in_each next [] w v (k, lt, e) c = absurd (omega arith)
