@@ -1,6 +1,7 @@
 pub mod Agreement
 pub mod Closure
 pub mod Covering
+pub mod CutParts
 pub mod Deciding
 pub mod Delays
 pub mod Drafts

@@ -1,5 +1,6 @@
 pub mod Cells
 pub mod Choices
+pub mod Classes
 pub mod Costs
 pub mod Covers
 pub mod Decompositions
