@@ -304,7 +304,7 @@ module _ (inputs : ℕ) (o : Listing) (is : IsListing o) where
       split_by_twice mode m (N f) (N (complement f)) (N (complement f)) (number_in f (N f) num, sym turned, sym turned)
 
   -- the form of an occurring number
-  base_self : (f : Form) → sign_of f ≡ 0 → base_form f ≡ f
+  pub base_self : (f : Form) → sign_of f ≡ 0 → base_form f ≡ f
   base_self (var_form i) z = refl
   base_self true_form z = refl
   base_self (not_form f) z = absurd (omega arith)

@@ -1,4 +1,5 @@
 pub mod Agreement
+pub mod ClassLaws
 pub mod Closure
 pub mod Covering
 pub mod CutParts

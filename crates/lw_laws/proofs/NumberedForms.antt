@@ -68,7 +68,7 @@ module _ (mode : Mode) (forms : NumberedForms) (are : AreNumberedForms forms) wh
   twice_occurs f x y (o, s, t) =
       let e = half-flip f in (o, (omega arith), (omega arith))
 
-  splits_occur : (m : Mode) (f x y : ℕ) → IsSplitOf m forms f x y → NumberOccurs forms f × NumberOccurs forms x × NumberOccurs forms y
+  pub splits_occur : (m : Mode) (f x y : ℕ) → IsSplitOf m forms f x y → NumberOccurs forms f × NumberOccurs forms x × NumberOccurs forms y
   splits_occur plain f x y c = cut_occurs f x y c
   splits_occur idempotent f x y (inl c) = cut_occurs f x y c
   splits_occur idempotent f x y (inr (inl c)) = covering_occurs f x y c
