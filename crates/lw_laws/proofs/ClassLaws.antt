@@ -1,6 +1,7 @@
 -- The graph that encodes a network's forms is their graph, and its numbers are one.
-use Rattle.std.proofs.Common.{ℕ, zero, suc, ◌+◌, ◌*◌, ◌/◌, ◌%◌, ◌<◌, ◌≤◌, ◌≡◌, ◌⊎◌, ◌↔◌, inl, inr, List, [], ◌∷◌, length, Some, slice_get, refl, ap, ap₂, sym, ◌∙◌, subst, subst₂, arith, add-zero}
+use Rattle.std.proofs.Common.{ℕ, zero, suc, ◌+◌, ◌*◌, ◌/◌, ◌%◌, ◌<◌, ◌≤◌, ◌==◌, ◌≡◌, ◌⊎◌, ◌↔◌, if◌then◌else◌, slice_index, slice_index_or, Contains, inl, inr, List, [], ◌∷◌, length, Some, slice_get, refl, ap, ap₂, sym, ◌∙◌, subst, subst₂, arith, add-zero}
 use Rattle.std.proofs.lemmas.Option.{get_or_from_slice_get}
+use Rattle.std.proofs.lemmas.List.{ext_get_or}
 use native.Mathlib.Nat.{eq-or-lt_of_le}
 use Rattle.lw_laws.specs.Flip.{flip}
 use Rattle.lw_laws.specs.Modes.{Mode}
@@ -10,13 +11,13 @@ use Rattle.lw_laws.specs.Forms.Form.{var_form, true_form}
 use Rattle.lw_laws.specs.Occurring.{occurring_forms}
 use Rattle.lw_laws.specs.Decompositions.{Listing, listing_of, Occurs}
 use Rattle.lw_laws.specs.Listings.{IsListing}
-use Rattle.lw_laws.specs.Graphs.{Graph, class_of, HoldsPair}
+use Rattle.lw_laws.specs.Graphs.{Pair, Graph, class_of, HoldsPair, IsPairBefore, AreRising, AreNumberedFrom, pair_count, IsWritten}
 use Rattle.lw_laws.specs.Families.{IsNand}
 use Rattle.lw_laws.specs.NumberedForms.{family_of, IsSplitOf}
 use Rattle.lw_laws.specs.Encodings.{HasNand, Encodes}
 use Rattle.lw_laws.specs.Numbering.{number, numbered_base, numbered, IsNumber}
 use Rattle.lw_laws.specs.Mapped.{forms_of}
-use Rattle.lw_laws.specs.Classes.{class_in, IsNandForm, HasSplitAt, AreNumberedFrom, IsGraphOf}
+use Rattle.lw_laws.specs.Classes.{class_in, IsNandForm, HasSplitAt, IsGraphOf}
 use Rattle.lw_laws.specs.Classes.IsNandForm.{of_parts, of_overlap, of_complement}
 use Rattle.lw_laws.proofs.Flips.{flip_even, class_of-flip}
 use Rattle.lw_laws.proofs.Sublists.{parts_turned, overlapping_turned}
@@ -25,7 +26,7 @@ use Rattle.lw_laws.proofs.Agreement.{base_self, split_back, form_of_number, nand
 use Rattle.lw_laws.proofs.NumberedForms.{forms_are_family, splits_occur}
 use Rattle.lw_laws.proofs.Listed.{occurring_is_listing, true_and_inputs_first}
 use Rattle.lw_laws.proofs.Headline.{classes_shared}
-use Rattle.lw_laws.proofs.Lists.{slice_get_some}
+use Rattle.lw_laws.proofs.Lists.{slice_get_in, slice_get_some, all_contains}
 
 -- a NAND of two forms in either order
 turned_nand : (mode : Mode) (o : Listing) {f p q : Form} → IsNandForm mode o f p q → IsNandForm mode o f q p
@@ -65,23 +66,21 @@ module _ (mode : Mode) (inputs : ℕ) (o : Listing) (is : IsListing o) (g : Grap
   pub pairs_split : (c x y : ℕ) → HoldsPair g c x y ↔ HasSplitAt mode o g c x y
   pairs_split c x y = (
     λ h. split_of_nand c x y ((encodes.pairs c x y).0 h),
-    λ s. (encodes.pairs c x y).1 (record { form = N s.form; left = N s.left; right = N s.right; is_nand = inl (nand_numbers inputs o is mode s.is_nand); form_at = s.form_at; left_at = s.left_at; right_at = s.right_at })
+    λ s. (encodes.pairs c x y).1 (record { form = N s.form; left = N s.left; right = N s.right; is_nand = inl (nand_numbers inputs o is mode s.is_nand); form_at = s.form_at; left_at = s.left_at; right_at = s.right_at }),
   )
 
 -- the graph that encodes the forms of a network, with their numbers, is the graph of the forms
-pub encoding_is_graph : (mode : Mode) (width : ℕ) (net : Network) (g : Graph) → 2 ≤ width → Encodes (family_of mode (forms_of width net)) g → length g.forms ≡ length (occurring_forms width net) → length g.leaves ≡ net.inputs → AreNumberedFrom 0 g.forms → IsGraphOf mode net.inputs (listing_of width net) g
-encoding_is_graph mode width net g wide encodes forms_long leaves_long numbers =
+pub encoding_is_graph : (mode : Mode) (width : ℕ) (net : Network) (g : Graph) → 2 ≤ width → Encodes (family_of mode (forms_of width net)) g → IsWritten (length (occurring_forms width net)) net.inputs g → IsGraphOf mode net.inputs (listing_of width net) g
+encoding_is_graph mode width net g wide encodes written =
     let o = listing_of width net in
     let is = occurring_is_listing width wide net in
     let first = true_and_inputs_first width wide net in
     record {
-      one_each = forms_long;
+      written = written;
       one = sym ((encodes.one (class_in o g true_form)).1 (number o.bases true_form, (at_true o is first.first), refl));
-      leaf_count = leaves_long;
       leaves = λ i lt. (encodes.leaves i (class_in o g (var_form i))).1 (number o.bases (var_form i), at_input o is i (first.inputs i lt), refl);
       classes = classes_shared mode net.inputs o g is encodes;
       pairs = pairs_split mode net.inputs o is g encodes;
-      numbered = numbers;
     }
   where
     at_true : (o : Listing) → IsListing o → slice_get o.bases 0 ≡ Some true_form → (family_of mode (numbered net.inputs o)).IsTop (number o.bases true_form)
@@ -215,9 +214,131 @@ module _ (mode : Mode) (inputs : ℕ) (o : Listing) (is : IsListing o) (g h : Gr
   -- the graphs have the same class for each form
   pub graph_numbers_once : g.forms ≡ h.forms
   graph_numbers_once =
-      let a = one.one_each in
-      let b = other.one_each in
+      let a = one.written.form_count in
+      let b = other.written.form_count in
       numbers_same (λ b. class_of g (2 * b)) (λ b. class_of h (2 * b)) (length o.bases) bases_same bases_turned 0 0 g.forms h.forms (omega arith) (omega arith)
       (λ j c e. let z : 0 + j ≡ j = omega arith in ap (λ k. class_of g (2 * k)) z ∙ base_class g j c e)
       (λ j c e. let z : 0 + j ≡ j = omega arith in ap (λ k. class_of h (2 * k)) z ∙ base_class h j c e)
-      (λ j lt. absurd (omega arith)) one.numbered other.numbered
+      (λ j lt. absurd (omega arith)) one.written.numbered other.written.numbered
+
+  -- each class of one form has one number in both
+  forms_same : (f : Form) → class_in o g f ≡ class_in o h f
+  forms_same f = by_choice (number o.bases f)
+    where
+      by_choice : (n : ℕ) → class_of g n ≡ class_of h n
+      by_choice n = ap (λ fs. if n % 2 == 0 then slice_index fs (n / 2) else flip (slice_index fs (n / 2))) graph_numbers_once
+
+  splits_same : (c x y : ℕ) → HasSplitAt mode o g c x y → HasSplitAt mode o h c x y
+  splits_same c x y s = record {
+    form = s.form;
+    left = s.left;
+    right = s.right;
+    is_nand = s.is_nand;
+    form_at = sym (forms_same s.form) ∙ s.form_at;
+    left_at = sym (forms_same s.left) ∙ s.left_at;
+    right_at = sym (forms_same s.right) ∙ s.right_at;
+  }
+
+  pub pairs_same : (c x y : ℕ) → HoldsPair g c x y → HoldsPair h c x y
+  pairs_same c x y p = (other.pairs c x y).1 (splits_same c x y ((one.pairs c x y).0 p))
+
+-- rising rows with the same pairs are one
+not_before : (p : Pair) → IsPairBefore p p → ⊥
+not_before p (inl h) = omega arith
+not_before p (inr (e, h)) = omega arith
+
+not_both : (p q : Pair) → IsPairBefore p q → IsPairBefore q p → ⊥
+not_both p q (inl a) (inl b) = omega arith
+not_both p q (inl a) (inr (e, b)) = omega arith
+not_both p q (inr (e, a)) (inl b) = omega arith
+not_both p q (inr (e, a)) (inr (f, b)) = omega arith
+
+head_or_tail : (p q : Pair) (qs : List Pair) → Contains (q ∷ qs) p → (q ≡ p) ⊎ Contains qs p
+head_or_tail p q qs (zero, lt, e) = inl e
+head_or_tail p q qs (suc k, lt, e) = inr (k, omega arith, e)
+
+in_tail : (p q : Pair) (qs : List Pair) → Contains qs p → Contains (q ∷ qs) p
+in_tail p q qs (k, lt, e) = (suc k, omega arith, e)
+
+heads_once : (p q : Pair) (ps qs : List Pair) → AreRising (p ∷ ps) → AreRising (q ∷ qs) → (p ≡ q) ⊎ Contains ps q → (q ≡ p) ⊎ Contains qs p → p ≡ q
+heads_once p q ps qs a b (inl e) d = e
+heads_once p q ps qs a b (inr c) (inl e) = sym e
+heads_once p q ps qs (le, later, rest) (ge, after, more) (inr c) (inr d) =
+    absurd (not_both p q (all_contains (IsPairBefore p) ps q later c) (all_contains (IsPairBefore q) qs p after d))
+
+tail_in : (p : Pair) (ps qs : List Pair) → AreRising (p ∷ ps) → ((r : Pair) → Contains (p ∷ ps) r → Contains (p ∷ qs) r) → (r : Pair) → Contains ps r → Contains qs r
+tail_in p ps qs (le, later, rest) f r c = by_place (head_or_tail r p qs (f r (in_tail r p ps c)))
+  where
+    by_place : (p ≡ r) ⊎ Contains qs r → Contains qs r
+    by_place (inl e) = absurd (not_before r (subst (λ z. IsPairBefore z r) e (all_contains (IsPairBefore p) ps r later c)))
+    by_place (inr d) = d
+
+rows_once : (ps qs : List Pair) → AreRising ps → AreRising qs → ((r : Pair) → Contains ps r → Contains qs r) → ((r : Pair) → Contains qs r → Contains ps r) → ps ≡ qs
+rows_once [] [] a b f h = refl
+rows_once [] (q ∷ qs) a b f h = let (k, lt, e) = h q (0, omega arith, refl) in absurd (omega arith)
+rows_once (p ∷ ps) [] a b f h = let (k, lt, e) = f p (0, omega arith, refl) in absurd (omega arith)
+rows_once (p ∷ ps) (q ∷ qs) a b f h =
+    let same = heads_once p q ps qs a b (head_or_tail q p ps (h q (0, omega arith, refl))) (head_or_tail p q qs (f p (0, omega arith, refl))) in
+    let b' = subst (λ z. AreRising (z ∷ qs)) (sym same) b in
+    let f' = subst (λ z. (r : Pair) → Contains (p ∷ ps) r → Contains (z ∷ qs) r) (sym same) f in
+    let h' = subst (λ z. (r : Pair) → Contains (z ∷ qs) r → Contains (p ∷ ps) r) (sym same) h in
+    ap₂ (λ z zs. z ∷ zs) same (rows_once ps qs a.2 b'.2 (tail_in p ps qs a f') (tail_in p qs ps b' h'))
+
+smaller_first : (ps : List Pair) (p : Pair) → AreRising ps → Contains ps p → p.x ≤ p.y
+smaller_first [] p a (k, lt, e) = absurd (omega arith)
+smaller_first (q ∷ ps) p (le, later, rest) (zero, lt, e) = subst (λ z. z.x ≤ z.y) e le
+smaller_first (q ∷ ps) p (le, later, rest) (suc k, lt, e) = smaller_first ps p rest (k, omega arith, e)
+
+held_in : (h : Graph) (c : ℕ) (p : Pair) → AreRising (slice_index_or h.pairs c []) → p.x ≤ p.y → HoldsPair h c p.x p.y → Contains (slice_index_or h.pairs c []) p
+held_in h c p rises le (inl at) = at
+held_in h c p rises le (inr at) =
+    let ge = smaller_first (slice_index_or h.pairs c []) (record { x = p.y; y = p.x }) rises at in
+    let same : p.x ≡ p.y = omega arith in
+    let one : record { x = p.y; y = p.x } ≡ p = ap₂ (λ a b. record { x = a; y = b }) (sym same) same in
+    subst (Contains (slice_index_or h.pairs c [])) one at
+
+lists_once : {X : Type 0} (d : X) (xs ys : List X) → length xs ≡ length ys → ((i : ℕ) → slice_index_or xs i d ≡ slice_index_or ys i d) → xs ≡ ys
+lists_once d xs ys len f = ext_get_or d xs ys len (λ i lt. f i)
+
+leaves_once : (xs ys : List ℕ) → length xs ≡ length ys → ((i c : ℕ) → slice_get xs i ≡ Some c → slice_get ys i ≡ Some c) → xs ≡ ys
+leaves_once [] [] len f = refl
+leaves_once [] (y ∷ ys) len f = absurd (omega arith)
+leaves_once (x ∷ xs) [] len f = absurd (omega arith)
+leaves_once (x ∷ xs) (y ∷ ys) len f =
+    let first = f 0 x refl in
+    let same : x ≡ y = cc in
+    ap₂ (λ z zs. z ∷ zs) same (leaves_once xs ys (omega arith) (λ i c e. f (suc i) c e))
+
+graph_same : (a b : ℕ) (ls ms fs ks : List ℕ) (ps qs : List (List Pair)) → a ≡ b → ls ≡ ms → fs ≡ ks → ps ≡ qs → ◌≡◌ {A = Graph} (record { one = a; leaves = ls; forms = fs; pairs = ps }) (record { one = b; leaves = ms; forms = ks; pairs = qs })
+graph_same a b ls ms fs ks ps qs e f g h =
+    ap₂ (λ z zs. record { one = z; leaves = zs; forms = fs; pairs = ps }) e f ∙ ap₂ (λ zs rs. record { one = b; leaves = ms; forms = zs; pairs = rs }) g h
+
+-- the graph of the listed forms is one
+pub graphs_once : (mode : Mode) (inputs : ℕ) (o : Listing) → IsListing o → (g h : Graph) → IsGraphOf mode inputs o g → IsGraphOf mode inputs o h → g ≡ h
+graphs_once mode inputs o is g h one other =
+    let forms = graph_numbers_once mode inputs o is g h one other in
+    let gw = one.written in
+    let hw = other.written in
+    let counts : pair_count 0 g.forms ≡ pair_count 0 h.forms = ap (pair_count 0) forms in
+    let a = gw.class_count in
+    let b = hw.class_count in
+    let c = gw.leaf_count in
+    let d = hw.leaf_count in
+    graph_same g.one h.one g.leaves h.leaves g.forms h.forms g.pairs h.pairs
+    (one.one ∙ (forms_same mode inputs o is g h one other true_form ∙ sym other.one))
+    (leaves_once g.leaves h.leaves (omega arith) leaf) forms
+    (lists_once [] g.pairs h.pairs (omega arith) row)
+  where
+    leaf : (i c : ℕ) → slice_get g.leaves i ≡ Some c → slice_get h.leaves i ≡ Some c
+    leaf i c e =
+        let lt = slice_get_in g.leaves i c e in
+        let n = one.written.leaf_count in
+        let p = one.leaves i (omega arith) in
+        let q = other.leaves i (omega arith) in
+        q ∙ (ap Some (sym (forms_same mode inputs o is g h one other (var_form i))) ∙ (sym p ∙ e))
+
+    row : (c : ℕ) → slice_index_or g.pairs c [] ≡ slice_index_or h.pairs c []
+    row c =
+        rows_once (slice_index_or g.pairs c []) (slice_index_or h.pairs c []) (one.written.rising c) (other.written.rising c)
+        (λ r at. held_in h c r (other.written.rising c) (smaller_first (slice_index_or g.pairs c []) r (one.written.rising c) at) (pairs_same mode inputs o is g h one other c r.x r.y (inl at)))
+        (λ r at. held_in g c r (one.written.rising c) (smaller_first (slice_index_or h.pairs c []) r (other.written.rising c) at) (pairs_same mode inputs o is h g other one c r.x r.y (inl at)))

@@ -6,7 +6,7 @@ use Rattle.lw_laws.specs.Modes.Mode.{idempotent}
 use Rattle.lw_laws.specs.Forms.{Form, FormList, items, complement, conjunction}
 use Rattle.lw_laws.specs.Forms.Form.{var_form, true_form, not_form, and_form}
 use Rattle.lw_laws.specs.Decompositions.{Listing, Occurs, AreParts, AreOverlapping, HasTree}
-use Rattle.lw_laws.specs.Graphs.{Graph, class_of, HoldsPair}
+use Rattle.lw_laws.specs.Graphs.{Graph, class_of, HoldsPair, IsWritten}
 use Rattle.lw_laws.specs.Numbering.{number}
 
 -- the class of a form, by its place in the list of occurring base forms
@@ -30,19 +30,11 @@ pub record HasSplitAt (mode : Mode) (o : Listing) (g : Graph) (c x y : ℕ) : Ty
   pub left_at : class_in o g left ≡ x
   pub right_at : class_in o g right ≡ y
 
--- the classes of base forms in order: each is that of an earlier pair of classes, or the first of the next pair
-abbrev pub AreNumberedFrom : ℕ → List ℕ → Type 0
-AreNumberedFrom next [] = Unit {0}
-AreNumberedFrom next (c ∷ cs) =
-    ((c ≡ 2 * next) × AreNumberedFrom (suc next) cs) ⊎ ((c / 2 < next) × AreNumberedFrom next cs)
-
 -- The graph of the listed forms: two forms are of one class exactly where they have a common tree, a class holds the
 -- pairs of the splits of its forms, and pairs of classes are numbered by their first base forms.
 pub record IsGraphOf (mode : Mode) (inputs : ℕ) (o : Listing) (g : Graph) : Type 0 where
-  pub one_each : length g.forms ≡ length o.bases
+  pub written : IsWritten (length o.bases) inputs g
   pub one : g.one ≡ class_in o g true_form
-  pub leaf_count : length g.leaves ≡ inputs
   pub leaves : (i : ℕ) → i < inputs → slice_get g.leaves i ≡ Some (class_in o g (var_form i))
   pub classes : (f h : Form) → Occurs o f → Occurs o h → (class_in o g f ≡ class_in o g h) ↔ ((t : Tree) × HasTree mode o f t × HasTree mode o h t)
   pub pairs : (c x y : ℕ) → HoldsPair g c x y ↔ HasSplitAt mode o g c x y
-  pub numbered : AreNumberedFrom 0 g.forms

@@ -1,6 +1,7 @@
 //! Laws over definitions: functions with empty bodies, whose clauses are the laws.
 ghost use Rattle.lw_laws.specs.Cells.{AreCells};
 ghost use Rattle.lw_laws.specs.Choices.{AreHeights, IsHeight};
+ghost use Rattle.lw_laws.specs.Classes.{IsGraphOf};
 ghost use Rattle.lw_laws.specs.Costs.{Cost, IsCost, cost_of};
 ghost use Rattle.lw_laws.specs.Covers.{ArePatterns, Cover, Pattern, time_of};
 ghost use Rattle.lw_laws.specs.Decompositions.{Listing, listing_of};
@@ -10,7 +11,7 @@ ghost use Rattle.lw_laws.specs.Encodings.{Encodes};
 ghost use Rattle.lw_laws.specs.Expressions.{Expr, MentionsPin, expr_value};
 ghost use Rattle.lw_laws.specs.Extracts.{AreDistinctLeaves, AreGateClasses, IsChosen, IsExtracted, IsNetOf, Match, class_at};
 ghost use Rattle.lw_laws.specs.Forms.{Form, conjunction, form_value, has_clash, joined, kept};
-ghost use Rattle.lw_laws.specs.Graphs.{Graph, PairsInOneClass};
+ghost use Rattle.lw_laws.specs.Graphs.{Graph, IsWritten, PairsInOneClass};
 ghost use Rattle.lw_laws.specs.Headline.{HasLeastArrival, HasNoCover, IsMapping, Ports};
 ghost use Rattle.lw_laws.specs.Laws.{AreDelaysUpTo, AreLeafLabels, BoundsCovers, ClassesAreSharedTrees, ClassesHaveValue, HasNumberedTrees, HasNumberedTruth, HasTheTrees, IsAttainedIn, IsCoverProblem, IsLeastCover, TreesHaveValue, TreesUnfoldOnce};
 ghost use Rattle.lw_laws.specs.Listings.{IsListing};
@@ -147,6 +148,16 @@ pub fn classes_have_numbered_truth()
 /// All trees of the class of a form of a network have one truth value, the form's.
 pub fn classes_have_the_value()
     ensures { (mode : Mode) (width : ℕ) (net : Network) (g : Graph) (x : ℕ → Bool) → 2 ≤ width → Encodes (family_of mode (forms_of width net)) g → ClassesHaveValue (listing_of width net) g x }
+{}
+
+/// A graph that encodes the forms of a network, numbered by their first base forms, is the graph of the forms.
+pub fn encodings_are_the_graph()
+    ensures { (mode : Mode) (width : ℕ) (net : Network) (g : Graph) → 2 ≤ width → Encodes (family_of mode (forms_of width net)) g → IsWritten (length (occurring_forms width net)) net.inputs g → IsGraphOf mode net.inputs (listing_of width net) g }
+{}
+
+/// The graph of the listed forms is one.
+pub fn graphs_are_one()
+    ensures { (mode : Mode) (inputs : ℕ) (o : Listing) → IsListing o → (g h : Graph) → IsGraphOf mode inputs o g → IsGraphOf mode inputs o h → g ≡ h }
 {}
 
 /// A graph that encodes the facts of a draft encodes every family of the same facts.
