@@ -29,6 +29,7 @@ pub mod MappingExamples
 pub mod MappingTests
 pub mod Masks
 pub mod NetValues
+pub mod NetlistOf
 pub mod NetlistValues
 pub mod Netlists
 pub mod Normal

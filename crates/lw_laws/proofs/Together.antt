@@ -10,9 +10,9 @@ use Rattle.lw_laws.specs.Covers.{Pattern, ArePatterns, tree_of}
 use Rattle.lw_laws.specs.Rounds.{labels_in}
 use Rattle.lw_laws.specs.Delays.{delay_cost}
 use Rattle.lw_laws.specs.Netlists.{Netlist, CellTruth, HasCellTruth}
-use Rattle.lw_laws.specs.Laws.{HasNumberedTrees, HasNumberedTruth, BoundsCovers, IsLeastCover, HasLeastNumberedTime, HasNoNumberedCover}
+use Rattle.lw_laws.specs.Laws.{HasNumberedTrees, HasNumberedTruth, BoundsCovers, HasLeastNumberedTime, HasNoNumberedCover}
 use Rattle.lw_laws.specs.Modes.{Mode}
-use Rattle.lw_laws.specs.Matches.{choices_of}
+use Rattle.lw_laws.specs.Matches.{choices_of, IsLeastCover}
 use Rattle.lw_laws.specs.Mapped.{IsCertified, IsOutput, AreNetValues, IsPotentialOf}
 use Rattle.lw_laws.proofs.NumberedForms.{forms_are_family}
 use Rattle.lw_laws.proofs.Encoding.{Unfolds-Derives, pairs_in_one_class}

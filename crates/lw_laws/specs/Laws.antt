@@ -34,13 +34,6 @@ abbrev pub BoundsCovers : Graph → List Pattern → Cost → List (Option ℕ) 
 BoundsCovers g pats cost labels =
     (k : Cover) (c : ℕ) → IsCover cost.pin_counts pats k → Unfolds g (tree_of k) c → HasLabelAtMost (labels_in labels) c (cost_of cost k)
 
--- a least cover of the class, of this cost, or none
-abbrev pub IsLeastCover : Graph → List Pattern → Cost → ℕ → Option ℕ → Type 0
-IsLeastCover g pats cost c (Some d) =
-    ((k : Cover) × IsCover cost.pin_counts pats k × Unfolds g (tree_of k) c × (cost_of cost k ≡ d)) × ((k : Cover) → IsCover cost.pin_counts pats k → Unfolds g (tree_of k) c → d ≤ cost_of cost k)
-IsLeastCover g pats cost c None =
-    (k : Cover) → IsCover cost.pin_counts pats k → Unfolds g (tree_of k) c → ⊥
-
 -- the least time of a cover of a tree that the laws derive for the form
 pub record HasLeastNumberedTime (mode : Mode) (forms : NumberedForms) (pats : List Pattern) (delays : List (List ℕ)) (f d : ℕ) : Type 0 where
   pub attained : (k : Cover) × IsCover (map length delays) pats k × Derives (family_of mode forms) f (tree_of k) × (time_of delays k ≡ d)

@@ -18,6 +18,7 @@ pub mod HeightRounds
 pub mod Laws
 pub mod Listings
 pub mod Mapped
+pub mod MappedNetlists
 pub mod Marks
 pub mod Matches
 pub mod Modes

@@ -13,10 +13,10 @@ ghost use Rattle.lw_laws.specs.Extracts.{AreDistinctLeaves, AreGateClasses, IsCh
 ghost use Rattle.lw_laws.specs.Forms.{Form, conjunction, form_value, has_clash, joined, kept};
 ghost use Rattle.lw_laws.specs.Graphs.{Graph, IsWritten, PairsInOneClass};
 ghost use Rattle.lw_laws.specs.Headline.{HasLeastArrival, HasNoCover, IsMapping, Ports};
-ghost use Rattle.lw_laws.specs.Laws.{AreDelaysUpTo, AreLeafLabels, BoundsCovers, ClassesAreSharedTrees, ClassesHaveValue, HasNumberedTrees, HasNumberedTruth, HasTheTrees, IsAttainedIn, IsCoverProblem, IsLeastCover, TreesHaveValue, TreesUnfoldOnce};
+ghost use Rattle.lw_laws.specs.Laws.{AreDelaysUpTo, AreLeafLabels, BoundsCovers, ClassesAreSharedTrees, ClassesHaveValue, HasNumberedTrees, HasNumberedTruth, HasTheTrees, IsAttainedIn, IsCoverProblem, TreesHaveValue, TreesUnfoldOnce};
 ghost use Rattle.lw_laws.specs.Listings.{IsListing};
 ghost use Rattle.lw_laws.specs.Mapped.{AreRooted, IsCoverAt, IsLabelledOver, IsMapped, IsMappedOver, IsPotentialOf, IsRootedAt, forms_of, root_class};
-ghost use Rattle.lw_laws.specs.Matches.{choices_of};
+ghost use Rattle.lw_laws.specs.Matches.{IsLeastCover, choices_of};
 ghost use Rattle.lw_laws.specs.Modes.{Mode};
 ghost use Rattle.lw_laws.specs.Netlists.{AreArrivals, AreNetlistValues, AreOrdered, CellTruth, HaveCellTruths, Netlist};
 ghost use Rattle.lw_laws.specs.Networks.{AreDepths, AreValues, IsInOrder, Network};
