@@ -1,12 +1,15 @@
 -- The netlist that a network is mapped to is a mapping of it.
-use Rattle.std.proofs.Common.{ℕ, ◌+◌, ◌/◌, ◌<◌, ◌≤◌, ◌^◌, ◌≡◌, List, [], ◌∷◌, ◌++◌, length, map, Option, Some, None, slice_get, slice_index_or, refl, ap, sym, ◌∙◌, subst, arith}
+use Rattle.std.proofs.Common.{ℕ, ◌+◌, ◌/◌, ◌<◌, ◌≤◌, ◌^◌, ◌≡◌, ◌↔◌, List, [], ◌∷◌, ◌++◌, length, map, Option, Some, None, slice_get, slice_index_or, refl, ap, sym, ◌∙◌, subst, arith}
 use Rattle.std.specs.List.{AllZip, AllByRecursion}
 use Rattle.lw_laws.specs.Modes.{Mode}
 use Rattle.lw_laws.specs.Networks.{Network, IsInOrder}
-use Rattle.lw_laws.specs.Decompositions.{listing_of}
-use Rattle.lw_laws.specs.Graphs.{Graph, PairsInOneClass}
+use Rattle.lw_laws.specs.Trees.{Tree}
+use Rattle.lw_laws.specs.Forms.{Form}
+use Rattle.lw_laws.specs.Signals.{sop_at, signals_of}
+use Rattle.lw_laws.specs.Decompositions.{listing_of, HasTree}
+use Rattle.lw_laws.specs.Graphs.{Graph, PairsInOneClass, Unfolds}
 use Rattle.lw_laws.specs.Costs.{Cost, cost_of}
-use Rattle.lw_laws.specs.Covers.{Pattern, ArePatterns}
+use Rattle.lw_laws.specs.Covers.{Pattern, ArePatterns, tree_of}
 use Rattle.lw_laws.specs.Matches.{choices_of, IsLeastCover}
 use Rattle.lw_laws.specs.Choices.{Choices, Labels, HasCost, HaveCosts, IsLeast, HaveLabels, HasLabelAtMost, IsPotential}
 use Rattle.lw_laws.specs.Choices.HasCost.{by_wire, by_gate}
@@ -19,7 +22,7 @@ use Rattle.lw_laws.specs.Encodings.{Encodes}
 use Rattle.lw_laws.specs.Netlists.{Netlist, CellTruth, HaveCellTruths, AreOrdered, AreArrivals}
 use Rattle.lw_laws.specs.Extracts.{IsNetOf, class_at, net_classes}
 use Rattle.lw_laws.specs.Mapped.{forms_of, root_class, IsLabelledOver, IsMappedOver, IsRootedAt, AreRooted}
-use Rattle.lw_laws.specs.Headline.{Port, Ports, IsMapping}
+use Rattle.lw_laws.specs.Headline.{Port, Ports, IsMapping, HasLeastArrival, HasNoCover}
 use Rattle.lw_laws.specs.MappedNetlists.{root_classes, HasPorts, IsNetlistOf}
 use Rattle.lw_laws.proofs.NumberedForms.{forms_are_family}
 use Rattle.lw_laws.proofs.Encoding.{pairs_in_one_class}
@@ -28,7 +31,9 @@ use Rattle.lw_laws.proofs.Listed.{occurring_is_listing}
 use Rattle.lw_laws.proofs.Covering.{cover_costs, cost_covered}
 use Rattle.lw_laws.proofs.NetlistValues.{some_arrivals}
 use Rattle.lw_laws.proofs.ExtractLaws.{ordered_and_mapped, extracted_arrivals}
-use Rattle.lw_laws.proofs.Mapping.{rooted_mapping}
+use Rattle.lw_laws.proofs.Mapping.{rooted_mapping, sop_occurs}
+use Rattle.lw_laws.proofs.Headline.{has_plain_trees}
+use Rattle.lw_laws.proofs.Delays.{cost_of-time}
 use Rattle.lw_laws.proofs.Lists.{slice_get_in}
 
 -- the least costs over covers are those over matches
@@ -122,3 +127,23 @@ netlist_maps mode width net ports pats delays cap truth n names mapped wide orde
           at_class = here;
           at_label = ap (labels_in is.labels) here ∙ extracted_arrivals is.graph pats delays cap (labels_in is.labels) is.heights (root_classes width net is.graph ports.outputs) is.gates n ds is.gate_classes is.extracted are (zero_label potential) low (root_class width net is.graph s) k at;
         }
+
+module _ (mode : Mode) (width : ℕ) (net : Network) (g : Graph) (pats : List Pattern) (delays : List (List ℕ)) (cap : ℕ) (wide : 2 ≤ width) (encodes : Encodes (family_of mode (forms_of width net)) g) (s : ℕ) (lt : s < net.inputs + length net.nodes) where
+  abbrev sop : Form
+  sop = sop_at (signals_of width net) s
+
+  root_trees : (t : Tree) → Unfolds g t (root_class width net g s) ↔ HasTree mode (listing_of width net) sop t
+  root_trees t = has_plain_trees mode net.inputs (listing_of width net) g (occurring_is_listing width wide net) encodes sop t (sop_occurs width wide net s lt)
+
+  -- the least cost at an output's class is its least arrival
+  pub root_least : (d : ℕ) → d < cap → IsLeastCover g pats (delay_cost delays cap) (root_class width net g s) (Some d) → HasLeastArrival mode width net pats delays s d
+  root_least d room ((k, is, u, e), low) =
+      let t = cost_of-time delays cap k in
+      record {
+        attained = (k, is, (root_trees (tree_of k)).0 u, omega arith);
+        least = λ j is_cover tree. let h = low j is_cover ((root_trees (tree_of j)).1 tree) in let q = cost_of-time delays cap j in omega arith;
+      }
+
+  -- where the class has no cover, the output has none
+  pub root_uncovered : IsLeastCover g pats (delay_cost delays cap) (root_class width net g s) None → HasNoCover mode width net pats delays s
+  root_uncovered none k is_cover tree = none k is_cover ((root_trees (tree_of k)).1 tree)

@@ -16,6 +16,7 @@ ghost use Rattle.lw_laws.specs.Headline.{HasLeastArrival, HasNoCover, IsMapping,
 ghost use Rattle.lw_laws.specs.Laws.{AreDelaysUpTo, AreLeafLabels, BoundsCovers, ClassesAreSharedTrees, ClassesHaveValue, HasNumberedTrees, HasNumberedTruth, HasTheTrees, IsAttainedIn, IsCoverProblem, TreesHaveValue, TreesUnfoldOnce};
 ghost use Rattle.lw_laws.specs.Listings.{IsListing};
 ghost use Rattle.lw_laws.specs.Mapped.{AreRooted, IsCoverAt, IsLabelledOver, IsMapped, IsMappedOver, IsPotentialOf, IsRootedAt, forms_of, root_class};
+ghost use Rattle.lw_laws.specs.MappedNetlists.{HasPorts, IsNetlistOf};
 ghost use Rattle.lw_laws.specs.Matches.{IsLeastCover, choices_of};
 ghost use Rattle.lw_laws.specs.Modes.{Mode};
 ghost use Rattle.lw_laws.specs.Netlists.{AreArrivals, AreNetlistValues, AreOrdered, CellTruth, HaveCellTruths, Netlist};
@@ -306,4 +307,19 @@ pub fn unlabelled_outputs_have_no_cover()
 /// A netlist whose gates are matches, with each output at the class of the network's output and arriving at its label, is a mapping: it computes the network's outputs, each at the least time.
 pub fn rooted_netlists_are_mappings()
     ensures { (mode : Mode) (width : ℕ) (net : Network) (g : Graph) (pats : List Pattern) (delays : List (List ℕ)) (cap : ℕ) (labels : List (Option ℕ)) (n : Netlist) (class : ℕ → ℕ) (arrivals : List ℕ) (truth : CellTruth) (ports mapped : Ports) → IsInOrder net → IsMappedOver mode width net g pats delays cap labels n class → HaveCellTruths (map length delays) truth pats → AreArrivals delays n arrivals → AreRooted width net g labels n class arrivals ports mapped → IsMapping mode width net ports pats delays truth n mapped }
+{}
+
+/// The least cost at the class of an output's sum of products, where it is below the cap, is the output's least arrival.
+pub fn least_labels_are_least_arrivals()
+    ensures { (mode : Mode) (width : ℕ) (net : Network) (g : Graph) (pats : List Pattern) (delays : List (List ℕ)) (cap : ℕ) → 2 ≤ width → Encodes (family_of mode (forms_of width net)) g → (s : ℕ) → s < net.inputs + length net.nodes → (d : ℕ) → d < cap → IsLeastCover g pats (delay_cost delays cap) (root_class width net g s) (Some d) → HasLeastArrival mode width net pats delays s d }
+{}
+
+/// Where no cover stands at the class of an output's sum of products, the output has none.
+pub fn uncovered_classes_have_no_cover()
+    ensures { (mode : Mode) (width : ℕ) (net : Network) (g : Graph) (pats : List Pattern) (delays : List (List ℕ)) (cap : ℕ) → 2 ≤ width → Encodes (family_of mode (forms_of width net)) g → (s : ℕ) → s < net.inputs + length net.nodes → IsLeastCover g pats (delay_cost delays cap) (root_class width net g s) None → HasNoCover mode width net pats delays s }
+{}
+
+/// The netlist that a network is mapped to has its ports and values, and the least arrivals.
+pub fn netlists_are_mappings()
+    ensures { (mode : Mode) (width : ℕ) (net : Network) (ports : Ports) (pats : List Pattern) (delays : List (List ℕ)) (cap : ℕ) (truth : CellTruth) (n : Netlist) (names : List (List ℕ)) (mapped : Ports) → 2 ≤ width → IsInOrder net → net.inputs < 2 ^ 32 → HasPorts net ports → ArePatterns (map length delays) pats → HaveCellTruths (map length delays) truth pats → (is : IsNetlistOf mode width net ports pats delays cap n names mapped) → Encodes (family_of mode (forms_of width net)) is.graph → ((c l : ℕ) → labels_in is.labels c ≡ Some l → l < cap) → IsMapping mode width net ports pats delays truth n mapped }
 {}
