@@ -1,5 +1,5 @@
 -- The laws over plain forms and the laws over numbers give each occurring form the same trees.
-use Rattle.std.proofs.Common.{ℕ, zero, suc, ◌+◌, ◌*◌, ◌/◌, ◌<◌, ◌≤◌, ◌≡◌, ◌≢◌, ◌⊎◌, inl, inr, List, [], ◌∷◌, length, map, Some, slice_get, refl, ap, ap₂, sym, ◌∙◌, subst, subst₂, arith, add-zero, lt_of_not-le}
+use Rattle.std.proofs.Common.{ℕ, zero, suc, ◌+◌, ◌*◌, ◌/◌, ◌<◌, ◌≤◌, ◌≡◌, ◌≢◌, ◌⊎◌, inl, inr, List, [], ◌∷◌, length, map, Some, slice_get, refl, ap, sym, ◌∙◌, subst, subst₂, arith, add-zero, lt_of_not-le}
 use Rattle.std.specs.List.{AllByRecursion}
 use native.Mathlib.Decide.{dec_le}
 use Rattle.lw_laws.specs.Flip.{flip}
@@ -14,9 +14,8 @@ use Rattle.lw_laws.specs.NumberedForms.IsCovering.{in_none, in_left, in_right, i
 use Rattle.lw_laws.specs.Forms.{Form, FormList, items, form_list, and_of, complement, conjunction}
 use Rattle.lw_laws.specs.Forms.Form.{var_form, true_form, not_form, and_form}
 use Rattle.lw_laws.specs.Signals.{Signal}
-use Rattle.lw_laws.specs.Decompositions.{Listing, Occurs, base_form, AreParts, AreOverlapping, AreOfOneSignal, HasTree}
+use Rattle.lw_laws.specs.Decompositions.{Listing, Occurs, base_form, AreParts, AreOfOneSignal, HasTree}
 use Rattle.lw_laws.specs.Decompositions.AreParts.{parts_none, parts_left, parts_right}
-use Rattle.lw_laws.specs.Decompositions.AreOverlapping.{over_none, over_left, over_right, over_both}
 use Rattle.lw_laws.specs.Decompositions.HasTree.{input_law, true_law, false_law, inverter_law, split_law, sharing_law, factoring_law, overlap_law, tied_inverter_law}
 use Rattle.lw_laws.specs.Numbering.{number, numbered_base, sop_number, fac_number, numbered, IsNumber, HasSameTrees}
 use Rattle.lw_laws.specs.Modes.{Mode}

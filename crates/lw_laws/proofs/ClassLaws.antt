@@ -15,7 +15,7 @@ use Rattle.lw_laws.specs.Graphs.{Pair, Graph, class_of, HoldsPair, IsPairBefore,
 use Rattle.lw_laws.specs.Families.{IsNand}
 use Rattle.lw_laws.specs.NumberedForms.{family_of, IsSplitOf}
 use Rattle.lw_laws.specs.Encodings.{HasNand, Encodes}
-use Rattle.lw_laws.specs.Numbering.{number, numbered_base, numbered, IsNumber}
+use Rattle.lw_laws.specs.Numbering.{number, numbered_base, numbered}
 use Rattle.lw_laws.specs.Mapped.{forms_of}
 use Rattle.lw_laws.specs.Classes.{class_in, IsNandForm, HasSplitAt, IsGraphOf}
 use Rattle.lw_laws.specs.Classes.IsNandForm.{of_parts, of_overlap, of_complement}
@@ -23,7 +23,7 @@ use Rattle.lw_laws.proofs.Flips.{flip_even, class_of-flip}
 use Rattle.lw_laws.proofs.Sublists.{parts_turned, overlapping_turned}
 use Rattle.lw_laws.proofs.Numbers.{slice_get_map, number_of, number_complement, occurs_complement, occurs_number}
 use Rattle.lw_laws.proofs.Agreement.{base_self, split_back, form_of_number, nand_numbers, numbered_are_forms}
-use Rattle.lw_laws.proofs.NumberedForms.{forms_are_family, splits_occur}
+use Rattle.lw_laws.proofs.NumberedForms.{splits_occur}
 use Rattle.lw_laws.proofs.Listed.{occurring_is_listing, true_and_inputs_first}
 use Rattle.lw_laws.proofs.Headline.{classes_shared}
 use Rattle.lw_laws.proofs.Lists.{slice_get_in, slice_get_some, all_contains}

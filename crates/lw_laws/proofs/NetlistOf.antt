@@ -1,5 +1,5 @@
 -- The netlist that a network is mapped to is a mapping of it.
-use Rattle.std.proofs.Common.{ℕ, ◌+◌, ◌/◌, ◌<◌, ◌≤◌, ◌^◌, ◌≡◌, ◌↔◌, List, [], ◌∷◌, ◌++◌, length, map, Option, Some, None, slice_get, slice_index_or, refl, ap, sym, ◌∙◌, subst, arith}
+use Rattle.std.proofs.Common.{ℕ, ◌+◌, ◌/◌, ◌<◌, ◌≤◌, ◌^◌, ◌≡◌, ◌↔◌, List, [], ◌∷◌, ◌++◌, length, map, Option, Some, None, slice_get, slice_index_or, refl, ap, ◌∙◌, subst, arith}
 use Rattle.std.specs.List.{AllZip, AllByRecursion}
 use Rattle.lw_laws.specs.Modes.{Mode}
 use Rattle.lw_laws.specs.Networks.{Network, IsInOrder}
@@ -8,7 +8,7 @@ use Rattle.lw_laws.specs.Forms.{Form}
 use Rattle.lw_laws.specs.Signals.{sop_at, signals_of}
 use Rattle.lw_laws.specs.Decompositions.{listing_of, HasTree}
 use Rattle.lw_laws.specs.Graphs.{Graph, PairsInOneClass, Unfolds}
-use Rattle.lw_laws.specs.Costs.{Cost, cost_of}
+use Rattle.lw_laws.specs.Costs.{Cost}
 use Rattle.lw_laws.specs.Covers.{Pattern, ArePatterns, tree_of}
 use Rattle.lw_laws.specs.Matches.{choices_of, IsLeastCover}
 use Rattle.lw_laws.specs.Choices.{Choices, Labels, HasCost, HaveCosts, IsLeast, HaveLabels, HasLabelAtMost, IsPotential}
@@ -16,12 +16,11 @@ use Rattle.lw_laws.specs.Choices.HasCost.{by_wire, by_gate}
 use Rattle.lw_laws.specs.Choices.HaveCosts.{no_pins, pin}
 use Rattle.lw_laws.specs.Rounds.{labels_in}
 use Rattle.lw_laws.specs.Delays.{delay_cost}
-use Rattle.lw_laws.specs.Families.{Family}
 use Rattle.lw_laws.specs.NumberedForms.{family_of}
 use Rattle.lw_laws.specs.Encodings.{Encodes}
-use Rattle.lw_laws.specs.Netlists.{Netlist, CellTruth, HaveCellTruths, AreOrdered, AreArrivals}
+use Rattle.lw_laws.specs.Netlists.{Netlist, CellTruth, HaveCellTruths, AreArrivals}
 use Rattle.lw_laws.specs.Extracts.{IsNetOf, class_at, net_classes}
-use Rattle.lw_laws.specs.Mapped.{forms_of, root_class, IsLabelledOver, IsMappedOver, IsRootedAt, AreRooted}
+use Rattle.lw_laws.specs.Mapped.{forms_of, root_class, IsMappedOver, IsRootedAt}
 use Rattle.lw_laws.specs.Headline.{Port, Ports, IsMapping, HasLeastArrival, HasNoCover}
 use Rattle.lw_laws.specs.MappedNetlists.{root_classes, HasPorts, IsNetlistOf}
 use Rattle.lw_laws.proofs.NumberedForms.{forms_are_family}
@@ -40,7 +39,7 @@ use Rattle.lw_laws.proofs.Lists.{slice_get_in}
 least_match : (g : Graph) (pats : List Pattern) (cost : Cost) → PairsInOneClass g → ArePatterns cost.pin_counts pats → (c : ℕ) (o : Option ℕ) → IsLeastCover g pats cost c o → IsLeast (choices_of g cost.pin_counts pats) cost c o
 least_match g pats cost once patterns c (Some d) ((k, is, u, e), low) = (
   subst (HasCost (choices_of g cost.pin_counts pats) cost c) e (cover_costs g once cost pats patterns k c is u),
-  λ e h. let w = cost_covered g cost pats h in subst (λ z. d ≤ z) w.costs (low w.by w.is_cover w.unfolds)
+  λ e h. let w = cost_covered g cost pats h in subst (λ z. d ≤ z) w.costs (low w.by w.is_cover w.unfolds),
 )
 least_match g pats cost once patterns c None none = λ e h. let w = cost_covered g cost pats h in none w.by w.is_cover w.unfolds
 
@@ -107,8 +106,8 @@ netlist_maps mode width net ports pats delays cap truth n names mapped wide orde
       inputs = is.extracted.inputs ∙ leaves;
       input_names = is.input_names;
       outputs = each (λ p q. (p.net < net.inputs + length net.nodes) × ((p.name ≡ q.name) × IsNetOf g is.gates (root_class width net g p.net) q.net)) (λ p q. (p.name ≡ q.name) × IsRootedAt width net g is.labels n (class_at g is.gates) ds p.net q.net)
-      (λ p q r. (r.1.0, rooted p.net q.net ds are potential r.0 r.1.1)) ports.outputs mapped.outputs
-      (both (λ p. p.net < net.inputs + length net.nodes) (λ p q. (p.name ≡ q.name) × IsNetOf g is.gates (root_class width net g p.net) q.net) ports.outputs mapped.outputs has is.outputs);
+          (λ p q r. (r.1.0, rooted p.net q.net ds are potential r.0 r.1.1)) ports.outputs mapped.outputs
+          (both (λ p. p.net < net.inputs + length net.nodes) (λ p q. (p.name ≡ q.name) × IsNetOf g is.gates (root_class width net g p.net) q.net) ports.outputs mapped.outputs has is.outputs);
     })
   where
     zero_label : IsPotential (choices_of is.graph (map length delays) pats) (delay_cost delays cap) (labels_in is.labels) → (c i : ℕ) → slice_get is.graph.leaves i ≡ Some c → labels_in is.labels c ≡ Some 0

@@ -1,5 +1,5 @@
 -- The graph of the forms of a network: its classes, their pairs, and their numbers.
-use Rattle.std.specs.Prelude.{ℕ, suc, ◌+◌, ◌*◌, ◌/◌, ◌<◌, ◌≤◌, ◌≡◌, ◌≢◌, ◌⊎◌, ◌↔◌, List, [], ◌∷◌, length, Some, slice_get}
+use Rattle.std.specs.Prelude.{ℕ, ◌<◌, ◌≤◌, ◌≡◌, ◌≢◌, ◌↔◌, List, length, Some, slice_get}
 use Rattle.lw_laws.specs.Trees.{Tree}
 use Rattle.lw_laws.specs.Modes.{Mode}
 use Rattle.lw_laws.specs.Modes.Mode.{idempotent}

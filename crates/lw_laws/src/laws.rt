@@ -230,9 +230,14 @@ pub fn covers_along_heights_attain()
     ensures { (g : Graph) (pats : List Pattern) (cost : Cost) (labels : List (Option ℕ)) (heights : ℕ → ℕ) → AreHeights (choices_of g cost.pin_counts pats) cost (labels_in labels) heights → AreLeafLabels g cost labels → IsAttainedIn g pats cost labels }
 {}
 
+/// The labelled classes have heights that a local test finds, where the labels are the least costs.
+pub fn some_heights_are_found()
+    ensures { (g : Graph) (pats : List Pattern) (cost : Cost) (labels : List (Option ℕ)) → IsCoverProblem g pats cost → IsPotentialOf g pats cost labels → IsAttainedIn g pats cost labels → (heights : ℕ → ℕ) × AreHeights (choices_of g cost.pin_counts pats) cost (labels_in labels) heights }
+{}
+
 /// Labels of times stay below the number of classes times the largest delay.
 pub fn labels_stay_low()
-    ensures { (g : Graph) (pats : List Pattern) (delays : List (List ℕ)) (cap : ℕ) (labels : List (Option ℕ)) (heights : ℕ → ℕ) (delay : ℕ) → AreHeights (choices_of g (map length delays) pats) (delay_cost delays cap) (labels_in labels) heights → AreLeafLabels g (delay_cost delays cap) labels → AreDelaysUpTo delay delays → 0 < delay → (c l : ℕ) → labels_in labels c ≡ Some l → l < length labels * delay }
+    ensures { (g : Graph) (pats : List Pattern) (delays : List (List ℕ)) (cap : ℕ) (labels : List (Option ℕ)) (delay : ℕ) → IsCoverProblem g pats (delay_cost delays cap) → IsPotentialOf g pats (delay_cost delays cap) labels → IsAttainedIn g pats (delay_cost delays cap) labels → AreDelaysUpTo delay delays → 0 < delay → (c l : ℕ) → labels_in labels c ≡ Some l → l < length labels * delay }
 {}
 
 // Netlists
