@@ -38,7 +38,7 @@ any_true {X} p (y ∷ xs) e = by_side (or_true (p y) (list_any p xs) e) (any_tru
     by_side (inl f) ih = (y, (0, omega arith, refl), f)
     by_side (inr f) ih = let (x, (k, lt, g), h) = ih f in (x, (suc k, omega arith, g), h)
 
-same_name_eq : (xs ys : List ℕ) → same_name xs ys ≡ true → xs ≡ ys
+pub same_name_eq : (xs ys : List ℕ) → same_name xs ys ≡ true → xs ≡ ys
 same_name_eq [] [] e = refl
 same_name_eq [] (y ∷ ys) e = cc
 same_name_eq (x ∷ xs) [] e = cc
@@ -48,7 +48,7 @@ same_name_eq (x ∷ xs) (y ∷ ys) e =
     let rest = same_name_eq xs ys b in
     cc
 
-same_name_refl : (xs : List ℕ) → same_name xs xs ≡ true
+pub same_name_refl : (xs : List ℕ) → same_name xs xs ≡ true
 same_name_refl [] = refl
 same_name_refl (x ∷ xs) = rw (eq_same x) (same_name_refl xs)
 
