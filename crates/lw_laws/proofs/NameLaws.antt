@@ -1,16 +1,12 @@
 -- The names of the nets of a mapped netlist differ.
-use Rattle.std.proofs.Common.{ℕ, zero, suc, ◌+◌, ◌-◌, ◌<◌, ◌≤◌, ◌==◌, ◌^◌, ◌≡◌, ◌⊎◌, inl, inr, Bool, true, false, not, ◌&&◌, ◌||◌, if◌then◌else◌, cond, Option, Some, None, List, [], ◌∷◌, ◌++◌, length, filter, drop, map, slice_get, slice_index_or, refl, ap, sym, ◌∙◌, subst, arith}
+use Rattle.std.proofs.Common.{ℕ, zero, suc, ◌+◌, ◌<◌, ◌≤◌, ◌==◌, ◌^◌, ◌≡◌, Bool, true, false, not, ◌||◌, if◌then◌else◌, cond, Option, Some, None, List, [], ◌∷◌, ◌++◌, length, filter, slice_get, refl, ap, sym, ◌∙◌, subst, arith}
 use Rattle.std.specs.List.{AllByRecursion, list_any}
 use Rattle.std.proofs.lemmas.Fmt.{decimal_injective}
-use Rattle.lw_laws.specs.Names.{same_name, is_name_among, numbered_name, numbered_names, free_names, output_name, gate_names, net_names}
-use Rattle.lw_laws.proofs.Facts.{same_name_eq, same_name_refl, eq_true, or_true}
+use Rattle.lw_laws.specs.Names.{same_name, is_name_among, numbered_name, numbered_names, free_names, output_name, gate_names, net_names, AreDifferent, AreNameable}
+use Rattle.lw_laws.proofs.Facts.{same_name_eq, same_name_refl, eq_true}
 
 abbrev Name : Type 0
 Name = List ℕ
-
--- no name stands twice
-abbrev pub AreDifferent : List Name → Type 0
-AreDifferent names = (i j : ℕ) (name : Name) → slice_get names i ≡ Some name → slice_get names j ≡ Some name → i ≡ j
 
 -- the name is not in the list
 abbrev IsOutside : Name → List Name → Type 0
@@ -269,16 +265,15 @@ module _ (outputs : List Name) (roots : List ℕ) where
             let (k, bt, root) = named_at outputs roots c m e in
             (gates_outside m (f ∷ frees) gates (omega arith) (not_output m k bt (f ∷ frees) (out, o)) (λ i d z at s. other_name c d m z (λ same. let x = once 0 (suc i) c refl (at ∙ ap Some (sym same)) in omega arith) e s), p)
 
--- The names of the nets differ, where those of the inputs and those of the outputs do, an output with an input's name
--- has the input's class, and each class of a gate stands once and is no input's.
-pub names_differ : (inputs outputs : List Name) (leaves roots gates : List ℕ) → 1 + (length gates + length (inputs ++ outputs)) < 2 ^ 64 → AreDifferent inputs → AreDifferent outputs → ((i k : ℕ) (name : Name) → slice_get inputs i ≡ Some name → slice_get outputs k ≡ Some name → slice_get roots k ≡ slice_get leaves i) → ((i j c : ℕ) → slice_get gates i ≡ Some c → slice_get gates j ≡ Some c → i ≡ j) → ((i j c : ℕ) → slice_get gates i ≡ Some c → slice_get leaves j ≡ Some c → ⊥) → AreDifferent (net_names inputs outputs roots gates)
-names_differ inputs outputs leaves roots gates room ins outs tied once no_leaf =
+-- the names of the nets differ
+pub names_differ : (inputs outputs : List Name) (leaves roots gates : List ℕ) → AreNameable inputs outputs leaves roots gates → AreDifferent (net_names inputs outputs roots gates)
+names_differ inputs outputs leaves roots gates are =
     let taken = inputs ++ outputs in
     let fs = free_names taken (length gates) in
-    let enough = frees_enough taken (length gates) room in
-    apart_different (inputs ++ gate_names outputs roots fs gates) (apart_append inputs (gate_names outputs roots fs gates) (different_apart inputs ins)
-    (gates_apart outputs roots outs fs gates enough (frees_apart taken (length gates) room) (right_outside fs (frees_free taken (length gates) room)) once)
-    (λ i name at. gates_outside outputs roots name fs gates enough (outside_from name fs (λ j e. outside_not inputs name i (left_outside fs (frees_free taken (length gates) room) j name e) at)) (λ j c m here named. differs i name at j c m here named)))
+    let enough = frees_enough taken (length gates) are.few in
+    apart_different (inputs ++ gate_names outputs roots fs gates) (apart_append inputs (gate_names outputs roots fs gates) (different_apart inputs are.inputs_differ)
+    (gates_apart outputs roots are.outputs_differ fs gates enough (frees_apart taken (length gates) are.few) (right_outside fs (frees_free taken (length gates) are.few)) are.once)
+    (λ i name at. gates_outside outputs roots name fs gates enough (outside_from name fs (λ j e. outside_not inputs name i (left_outside fs (frees_free taken (length gates) are.few) j name e) at)) (λ j c m here named. differs i name at j c m here named)))
   where
     right_outside : (ns : List Name) → AllByRecursion (λ n. free (inputs ++ outputs) n ≡ true) ns → AllByRecursion (λ n. IsOutside n outputs) ns
     right_outside [] a = tt
@@ -297,5 +292,40 @@ names_differ inputs outputs leaves roots gates room ins outs tied once no_leaf =
         by_test true s =
             let same = same_name_eq name m s in
             let (k, bt, root) = named_at outputs roots c m named in
-            let leaf = tied i k name at (bt ∙ ap Some (sym same)) in
-            absurd (no_leaf j i c here (sym leaf ∙ root))
+            let leaf = are.tied i k name at (bt ∙ ap Some (sym same)) in
+            absurd (are.no_leaf j i c here (sym leaf ∙ root))
+
+-- a gate with an output's name is at the output's class
+gate_owned : (outputs : List Name) (roots : List ℕ) (different : AreDifferent outputs) (frees : List Name) (gates : List ℕ) → length gates ≤ length frees → AllByRecursion (λ n. IsOutside n outputs) frees → (j k : ℕ) (name : Name) → slice_get (gate_names outputs roots frees gates) j ≡ Some name → slice_get outputs k ≡ Some name → slice_get gates j ≡ slice_get roots k
+gate_owned outputs roots different frees [] le o j k name e at = cc
+gate_owned outputs roots different [] (c ∷ gates) le o j k name e at = absurd (omega arith)
+gate_owned outputs roots different (f ∷ frees) (c ∷ gates) le (out, o) j k name e at =
+    by_name (output_name outputs roots c) refl j e (λ i d. gate_owned outputs roots different (f ∷ frees) gates (omega arith) (out, o) i k name d at) (λ i d. gate_owned outputs roots different frees gates (omega arith) o i k name d at)
+  where
+    by_name : (n : Option Name) → output_name outputs roots c ≡ n → (j : ℕ) → slice_get (elim n [ Some m ↦ m ∷ gate_names outputs roots (f ∷ frees) gates | None ↦ f ∷ gate_names outputs roots frees gates ]) j ≡ Some name → ((i : ℕ) → slice_get (gate_names outputs roots (f ∷ frees) gates) i ≡ Some name → slice_get gates i ≡ slice_get roots k) → ((i : ℕ) → slice_get (gate_names outputs roots frees gates) i ≡ Some name → slice_get gates i ≡ slice_get roots k) → slice_get (c ∷ gates) j ≡ slice_get roots k
+    by_name None s zero d p q = let same : f ≡ name = cc in absurd (outside_not outputs f k out (at ∙ ap Some (sym same)))
+    by_name None s (suc i) d p q = q i d
+    by_name (Some m) s zero d p q =
+        let same : m ≡ name = cc in
+        let (i, bt, root) = named_at outputs roots c m s in
+        let place = different i k name (bt ∙ ap Some same) at in
+        sym root ∙ ap (slice_get roots) place
+    by_name (Some m) s (suc i) d p q = p i d
+
+-- a net with an output's name is at the output's class
+pub names_owned : (inputs outputs : List Name) (leaves roots gates : List ℕ) → AreNameable inputs outputs leaves roots gates → length leaves ≡ length inputs → (j k : ℕ) (name : Name) → slice_get (net_names inputs outputs roots gates) j ≡ Some name → slice_get outputs k ≡ Some name → slice_get (leaves ++ gates) j ≡ slice_get roots k
+names_owned inputs outputs leaves roots gates are long j k name e at =
+    let taken = inputs ++ outputs in
+    let fs = free_names taken (length gates) in
+    by_side inputs leaves (gate_names outputs roots fs gates) (λ i d. sym (are.tied i k name d at)) (λ i d. gate_owned outputs roots are.outputs_differ fs gates (frees_enough taken (length gates) are.few) (outside fs (frees_free taken (length gates) are.few)) i k name d at) j (omega arith) e
+  where
+    outside : (ns : List Name) → AllByRecursion (λ n. free (inputs ++ outputs) n ≡ true) ns → AllByRecursion (λ n. IsOutside n outputs) ns
+    outside [] a = tt
+    outside (n ∷ ns) (e, a) = ((outside_split n inputs outputs (free_outside (inputs ++ outputs) n e)).1, outside ns a)
+
+    by_side : (xs : List Name) (ls : List ℕ) (ys : List Name) → ((i : ℕ) → slice_get xs i ≡ Some name → slice_get ls i ≡ slice_get roots k) → ((i : ℕ) → slice_get ys i ≡ Some name → slice_get gates i ≡ slice_get roots k) → (j : ℕ) → length ls ≡ length xs → slice_get (xs ++ ys) j ≡ Some name → slice_get (ls ++ gates) j ≡ slice_get roots k
+    by_side [] [] ys p q j len e = q j e
+    by_side [] (l ∷ ls) ys p q j len e = absurd (omega arith)
+    by_side (x ∷ xs) [] ys p q j len e = absurd (omega arith)
+    by_side (x ∷ xs) (l ∷ ls) ys p q zero len e = p 0 e
+    by_side (x ∷ xs) (l ∷ ls) ys p q (suc j) len e = by_side xs ls ys (λ i d. p (suc i) d) q j (omega arith) e

@@ -19,6 +19,7 @@ ghost use Rattle.lw_laws.specs.Mapped.{AreRooted, IsCoverAt, IsLabelledOver, IsM
 ghost use Rattle.lw_laws.specs.MappedNetlists.{HasPorts, IsNetlistOf};
 ghost use Rattle.lw_laws.specs.Matches.{IsLeastCover, choices_of};
 ghost use Rattle.lw_laws.specs.Modes.{Mode};
+ghost use Rattle.lw_laws.specs.Names.{AreDifferent, AreNameable, net_names};
 ghost use Rattle.lw_laws.specs.Netlists.{AreArrivals, AreNetlistValues, AreOrdered, CellTruth, HaveCellTruths, Netlist};
 ghost use Rattle.lw_laws.specs.Networks.{AreDepths, AreValues, IsInOrder, Network};
 ghost use Rattle.lw_laws.specs.NumberedForms.{AreNumberedForms, NumberedForms, family_of};
@@ -31,7 +32,7 @@ ghost use Rattle.lw_laws.specs.SignalValues.{SignalsAgree, number_value};
 ghost use Rattle.lw_laws.specs.Signals.{factored, factored_by, shared_literal, signals_of};
 ghost use Rattle.lw_laws.specs.Trees.{HasLeaf, Tree, tree_value};
 ghost use Rattle.lw_laws.specs.Truth.{IsValuation};
-ghost use Rattle.std.specs.Prelude.{◌≡◌, ◌≤◌, ◌↔◌, ◌<◌, ◌^◌, ◌+◌, ◌*◌, ℕ, List, Option, Bool, Some, None, map, length, slice_get, slice_index_or, Contains, min};
+ghost use Rattle.std.specs.Prelude.{◌++◌, ◌≡◌, ◌≤◌, ◌↔◌, ◌<◌, ◌^◌, ◌+◌, ◌*◌, ℕ, List, Option, Bool, Some, None, map, length, slice_get, slice_index_or, Contains, min};
 
 // Networks
 
@@ -290,6 +291,16 @@ pub fn extracted_netlists_are_mapped()
 /// Each net of the netlist of the chosen matches arrives at the label of its class, where no label reaches the cap.
 pub fn extracted_arrivals_are_labels()
     ensures { (g : Graph) (pats : List Pattern) (delays : List (List ℕ)) (cap : ℕ) (labels : ℕ → Option ℕ) (heights : ℕ → ℕ) (roots gates : List ℕ) (n : Netlist) (arrivals : List ℕ) → AreGateClasses g (delay_cost delays cap) pats labels heights roots gates → IsExtracted g (delay_cost delays cap) pats labels heights gates n → AreArrivals delays n arrivals → ((c i : ℕ) → slice_get g.leaves i ≡ Some c → labels c ≡ Some 0) → ((c l : ℕ) → labels c ≡ Some l → l < cap) → (c net : ℕ) → IsNetOf g gates c net → labels c ≡ Some (slice_index_or arrivals net 0) }
+{}
+
+/// The names of the nets of a mapped netlist differ.
+pub fn net_names_differ()
+    ensures { (inputs outputs : List (List ℕ)) (leaves roots gates : List ℕ) → AreNameable inputs outputs leaves roots gates → AreDifferent (net_names inputs outputs roots gates) }
+{}
+
+/// A net with an output's name is at the output's class.
+pub fn outputs_own_their_names()
+    ensures { (inputs outputs : List (List ℕ)) (leaves roots gates : List ℕ) → AreNameable inputs outputs leaves roots gates → length leaves ≡ length inputs → (j k : ℕ) (name : List ℕ) → slice_get (net_names inputs outputs roots gates) j ≡ Some name → slice_get outputs k ≡ Some name → slice_get (leaves ++ gates) j ≡ slice_get roots k }
 {}
 
 // The headline

@@ -1,7 +1,7 @@
 -- By the lemma.
+use Rattle.lw_laws.proofs.Drafts.{IsReduced-encodes, Encodes-same}
 use Rattle.lw_laws.specs.NumberedForms.{family_of}
 use Rattle.lw_laws.specs.Drafts.{facts_of}
-use Rattle.lw_laws.proofs.Drafts.{IsReduced-encodes, Encodes-same}
 use Rattle.lw_laws.proofs.laws.same_facts_have_one_encoding.Goals as goal
 
 pub returns : goal.returns
