@@ -1,7 +1,7 @@
 -- The laws over plain forms and the laws over numbers give each occurring form the same trees.
-use Rattle.std.proofs.Common.{ℕ, zero, suc, ◌+◌, ◌*◌, ◌/◌, ◌<◌, ◌≤◌, ◌≡◌, ◌≢◌, ◌⊎◌, inl, inr, List, [], ◌∷◌, length, map, Some, slice_get, refl, ap, ap₂, sym, ◌∙◌, subst, subst₂, arith, add-zero, lt_of_not-le}
-use native.Mathlib.Decide.{dec_le}
+use Rattle.std.proofs.Common.{ℕ, zero, suc, ◌+◌, ◌*◌, ◌/◌, ◌<◌, ◌≤◌, ◌≡◌, ◌≢◌, ◌⊎◌, inl, inr, List, [], ◌∷◌, length, map, Some, slice_get, refl, ap, sym, ◌∙◌, subst, subst₂, arith, add-zero, lt_of_not-le}
 use Rattle.std.specs.List.{AllByRecursion}
+use native.Mathlib.Decide.{dec_le}
 use Rattle.lw_laws.specs.Flip.{flip}
 use Rattle.lw_laws.specs.Trees.{Tree, leaf, const_one, const_zero, nand}
 use Rattle.lw_laws.specs.Families.{AreLinked, Derives}
@@ -11,85 +11,23 @@ use Rattle.lw_laws.specs.NumberedForms.Base.{base_true, base_input, base_and}
 use Rattle.lw_laws.specs.Modes.Mode.{plain, idempotent}
 use Rattle.lw_laws.specs.NumberedForms.IsCut.{cut_none, cut_left, cut_right}
 use Rattle.lw_laws.specs.NumberedForms.IsCovering.{in_none, in_left, in_right, in_both}
-use Rattle.lw_laws.proofs.Flips.{flip-flip, flip_even, flip_odd}
-use Rattle.lw_laws.proofs.NumberedForms.{slice_get_some}
 use Rattle.lw_laws.specs.Forms.{Form, FormList, items, form_list, and_of, complement, conjunction}
 use Rattle.lw_laws.specs.Forms.Form.{var_form, true_form, not_form, and_form}
 use Rattle.lw_laws.specs.Signals.{Signal}
-use Rattle.lw_laws.specs.Decompositions.{Listing, Occurs, base_form, AreParts, AreOverlapping, AreOfOneSignal, HasTree}
+use Rattle.lw_laws.specs.Decompositions.{Listing, Occurs, base_form, AreParts, AreOfOneSignal, HasTree}
 use Rattle.lw_laws.specs.Decompositions.AreParts.{parts_none, parts_left, parts_right}
-use Rattle.lw_laws.specs.Decompositions.AreOverlapping.{over_none, over_left, over_right, over_both}
 use Rattle.lw_laws.specs.Decompositions.HasTree.{input_law, true_law, false_law, inverter_law, split_law, sharing_law, factoring_law, overlap_law, tied_inverter_law}
 use Rattle.lw_laws.specs.Numbering.{number, numbered_base, sop_number, fac_number, numbered, IsNumber, HasSameTrees}
+use Rattle.lw_laws.specs.Modes.{Mode}
+use Rattle.lw_laws.specs.Listings.{IsListing, IsListedBefore, sign_of, IsSub}
+use Rattle.lw_laws.specs.Classes.{IsNandForm}
+use Rattle.lw_laws.specs.Classes.IsNandForm.{of_parts, of_overlap, of_complement}
+use Rattle.lw_laws.proofs.Flips.{flip-flip, flip_even, flip_odd}
 use Rattle.lw_laws.proofs.Equality.{items-form_list, form_list-items}
 use Rattle.lw_laws.proofs.Sublists.{parts_subs, parts_turned, overlapping_subs, overlapping_turned, IsSub_all, IsSub_whole, conjunction_of_one, conjunction_of_more}
 use Rattle.lw_laws.proofs.Numbers.{slice_get_map, slice_get_map_back, number_of, numbers_differ, occurs_complement, occurs_sign, number_complement, occurs_number, number_occurs, numbers_injective, complement_twice, Some_injective}
-use Rattle.lw_laws.specs.Modes.{Mode}
-use Rattle.lw_laws.specs.Listings.{IsListing, IsListedBefore, sign_of, IsSub}
-
--- a cut of numbers is one of forms, and back
-cut_of_parts : (h : Form → ℕ) {fs ls rs : List Form} → AreParts fs ls rs → IsCut (map h fs) (map h ls) (map h rs)
-cut_of_parts h parts_none = cut_none
-cut_of_parts h (parts_left p) = cut_left (cut_of_parts h p)
-cut_of_parts h (parts_right p) = cut_right (cut_of_parts h p)
-
-covering_of_overlapping : (h : Form → ℕ) {fs ls rs : List Form} → AreOverlapping fs ls rs → IsCovering (map h fs) (map h ls) (map h rs)
-covering_of_overlapping h over_none = in_none
-covering_of_overlapping h (over_left p) = in_left (covering_of_overlapping h p)
-covering_of_overlapping h (over_right p) = in_right (covering_of_overlapping h p)
-covering_of_overlapping h (over_both p) = in_both (covering_of_overlapping h p)
-
-record HasParts (h : Form → ℕ) (fs : List Form) (ls rs : List ℕ) : Type 0 where
-  left : List Form
-  right : List Form
-  parts : AreParts fs left right
-  left_is : map h left ≡ ls
-  right_is : map h right ≡ rs
-
-parts_of_cut : (h : Form → ℕ) {ns ls rs : List ℕ} → IsCut ns ls rs → (fs : List Form) → map h fs ≡ ns → HasParts h fs ls rs
-parts_of_cut h cut_none [] e = record { left = []; right = []; parts = parts_none; left_is = refl; right_is = refl }
-parts_of_cut h cut_none (f ∷ fs) e = cc
-parts_of_cut h (cut_left c) [] e = cc
-parts_of_cut h (cut_left {f = n} {fs = ns} c) (f ∷ fs) e =
-    let first : h f ≡ n = cc in
-    let rest : map h fs ≡ ns = cc in
-    let r = parts_of_cut h c fs rest in
-    record { left = f ∷ r.left; right = r.right; parts = parts_left r.parts; left_is = ap₂ (λ x xs. x ∷ xs) first r.left_is; right_is = r.right_is }
-parts_of_cut h (cut_right c) [] e = cc
-parts_of_cut h (cut_right {f = n} {fs = ns} c) (f ∷ fs) e =
-    let first : h f ≡ n = cc in
-    let rest : map h fs ≡ ns = cc in
-    let r = parts_of_cut h c fs rest in
-    record { left = r.left; right = f ∷ r.right; parts = parts_right r.parts; left_is = r.left_is; right_is = ap₂ (λ x xs. x ∷ xs) first r.right_is }
-
-record HasOverlap (h : Form → ℕ) (fs : List Form) (ls rs : List ℕ) : Type 0 where
-  left : List Form
-  right : List Form
-  parts : AreOverlapping fs left right
-  left_is : map h left ≡ ls
-  right_is : map h right ≡ rs
-
-overlap_of_covering : (h : Form → ℕ) {ns ls rs : List ℕ} → IsCovering ns ls rs → (fs : List Form) → map h fs ≡ ns → HasOverlap h fs ls rs
-overlap_of_covering h in_none [] e = record { left = []; right = []; parts = over_none; left_is = refl; right_is = refl }
-overlap_of_covering h in_none (f ∷ fs) e = cc
-overlap_of_covering h (in_left c) [] e = cc
-overlap_of_covering h (in_left {f = n} {fs = ns} c) (f ∷ fs) e =
-    let first : h f ≡ n = cc in
-    let rest : map h fs ≡ ns = cc in
-    let r = overlap_of_covering h c fs rest in
-    record { left = f ∷ r.left; right = r.right; parts = over_left r.parts; left_is = ap₂ (λ x xs. x ∷ xs) first r.left_is; right_is = r.right_is }
-overlap_of_covering h (in_right c) [] e = cc
-overlap_of_covering h (in_right {f = n} {fs = ns} c) (f ∷ fs) e =
-    let first : h f ≡ n = cc in
-    let rest : map h fs ≡ ns = cc in
-    let r = overlap_of_covering h c fs rest in
-    record { left = r.left; right = f ∷ r.right; parts = over_right r.parts; left_is = r.left_is; right_is = ap₂ (λ x xs. x ∷ xs) first r.right_is }
-overlap_of_covering h (in_both c) [] e = cc
-overlap_of_covering h (in_both {f = n} {fs = ns} c) (f ∷ fs) e =
-    let first : h f ≡ n = cc in
-    let rest : map h fs ≡ ns = cc in
-    let r = overlap_of_covering h c fs rest in
-    record { left = f ∷ r.left; right = f ∷ r.right; parts = over_both r.parts; left_is = ap₂ (λ x xs. x ∷ xs) first r.left_is; right_is = ap₂ (λ x xs. x ∷ xs) first r.right_is }
+use Rattle.lw_laws.proofs.Lists.{slice_get_some}
+use Rattle.lw_laws.proofs.CutParts.{cut_of_parts, covering_of_overlapping, parts_of_cut, overlap_of_covering}
 
 base_and_injective : (ns ms : List ℕ) → base_and ns ≡ base_and ms → ns ≡ ms
 base_and_injective ns ms e = cc
@@ -265,13 +203,14 @@ module _ (inputs : ℕ) (o : Listing) (is : IsListing o) where
       by_split (inl (split_by_twice mode m n (flip n) (flip n) (number_in f n num, refl, refl))) (to_numbers mode d (flip n) c) (to_numbers mode e (flip n) c)
 
   -- from numbers back to plain forms
-  record IsNandOf (mode : Mode) (f : Form) (x y : ℕ) : Type 0 where
-    left : Form
-    right : Form
-    left_number : IsNumber o.bases left x
-    right_number : IsNumber o.bases right y
-    joins : (t u : Tree) → HasTree mode o left t → HasTree mode o right u → HasTree mode o f (nand t u)
-    turns : (t u : Tree) → HasTree mode o left t → HasTree mode o right u → HasTree mode o f (nand u t)
+  pub record IsNandOf (mode : Mode) (f : Form) (x y : ℕ) : Type 0 where
+    pub left : Form
+    pub right : Form
+    pub left_number : IsNumber o.bases left x
+    pub right_number : IsNumber o.bases right y
+    pub is_nand : IsNandForm mode o f left right
+    pub joins : (t u : Tree) → HasTree mode o left t → HasTree mode o right u → HasTree mode o f (nand t u)
+    pub turns : (t u : Tree) → HasTree mode o left t → HasTree mode o right u → HasTree mode o f (nand u t)
 
   some_operand : (ls : List ℕ) (x : ℕ) → IsPart forms ls x → (hs : List Form) → map N hs ≡ ls → 1 ≤ length hs
   some_operand [] x p hs e = absurd p
@@ -297,6 +236,7 @@ module _ (inputs : ℕ) (o : Listing) (is : IsListing o) where
         right = conjunction o.width r.right;
         left_number = part_number b a.operands a.listed r.left subs.0 le ls r.left_is x p;
         right_number = part_number b a.operands a.listed r.right subs.1 re rs r.right_is y q;
+        is_nand = subst (λ h. IsNandForm mode o h (conjunction o.width r.left) (conjunction o.width r.right)) (sym same) (of_parts (b, a.listed) r.parts le re);
         joins = λ t u d k. subst (λ h. HasTree mode o h (nand t u)) (sym same) (split_law (b, a.listed) r.parts le re d k);
         turns = λ t u d k. subst (λ h. HasTree mode o h (nand u t)) (sym same) (split_law (b, a.listed) (parts_turned r.parts) re le k d);
       }
@@ -316,6 +256,7 @@ module _ (inputs : ℕ) (o : Listing) (is : IsListing o) where
         right = conjunction o.width r.right;
         left_number = part_number b a.operands a.listed r.left subs.0 le ls r.left_is x p;
         right_number = part_number b a.operands a.listed r.right subs.1 re rs r.right_is y q;
+        is_nand = subst (λ h. IsNandForm mode o h (conjunction o.width r.left) (conjunction o.width r.right)) (sym same) (of_overlap m (b, a.listed) r.parts differ le re);
         joins = λ t u d k. subst (λ h. HasTree mode o h (nand t u)) (sym same) (overlap_law m (b, a.listed) r.parts differ le re d k);
         turns = λ t u d k. subst (λ h. HasTree mode o h (nand u t)) (sym same) (overlap_law m (b, a.listed) (overlapping_turned r.parts) turned re le k d);
       }
@@ -329,18 +270,40 @@ module _ (inputs : ℕ) (o : Listing) (is : IsListing o) where
         right = complement f;
         left_number = subst (IsNumber o.bases (complement f)) (sym s) c;
         right_number = subst (IsNumber o.bases (complement f)) (sym t) c;
+        is_nand = of_complement m at;
         joins = λ t u d k. tied_inverter_law m at d k;
         turns = λ t u d k. tied_inverter_law m at k d;
       }
 
-  split_back : (mode : Mode) (n x y : ℕ) (f : Form) → IsNumber o.bases f n → IsSplitOf mode forms n x y → IsNandOf mode f x y
+  pub split_back : (mode : Mode) (n x y : ℕ) (f : Form) → IsNumber o.bases f n → IsSplitOf mode forms n x y → IsNandOf mode f x y
   split_back plain n x y f num c = cut_back plain n x y f num c
   split_back idempotent n x y f num (inl c) = cut_back idempotent n x y f num c
   split_back idempotent n x y f num (inr (inl c)) = covering_back idempotent refl n x y f num c
   split_back idempotent n x y f num (inr (inr c)) = twice_back idempotent refl n x y f num c
 
+  -- the numbers of a NAND of forms are one of the numbered family
+  pub nand_numbers : (mode : Mode) {f p q : Form} → IsNandForm mode o f p q → IsSplitOf mode forms (N f) (N p) (N q)
+  nand_numbers mode (of_parts {fs = fs} {ls = ls} {rs = rs} occ parts le re) =
+      let (b, l, s) = occurs_number o is (not_form (and_form fs)) occ in
+      let subs = parts_subs parts in
+      let p = part_form b fs l ls subs.0 le in
+      let q = part_form b fs l rs subs.1 re in
+      split_by_cut mode (N (not_form (and_form fs))) (N (conjunction o.width ls)) (N (conjunction o.width rs)) (b, map N (items fs), map N ls, map N rs, listed_base b (and_form fs) l, s, cut_of_parts N parts, p.is_part, q.is_part)
+  nand_numbers mode (of_overlap {fs = fs} {ls = ls} {rs = rs} m occ parts ne le re) =
+      let (b, l, s) = occurs_number o is (not_form (and_form fs)) occ in
+      let subs = overlapping_subs parts in
+      let p = part_form b fs l ls subs.0 le in
+      let q = part_form b fs l rs subs.1 re in
+      let all = operands_occur b fs l in
+      let differ : map N ls ≢ map N rs = λ k. ne (numbers_injective o is ls rs (IsSub_all (Occurs o) subs.0 all) (IsSub_all (Occurs o) subs.1 all) k) in
+      split_by_covering mode m (N (not_form (and_form fs))) (N (conjunction o.width ls)) (N (conjunction o.width rs)) (b, map N (items fs), map N ls, map N rs, listed_base b (and_form fs) l, s, covering_of_overlapping N parts, differ, p.is_part, q.is_part)
+  nand_numbers mode (of_complement {f = f} m occ) =
+      let num = occurs_number o is f occ in
+      let turned = number_of o is (complement f) (flip (N f)) (number_complement o is f (N f) num) in
+      split_by_twice mode m (N f) (N (complement f)) (N (complement f)) (number_in f (N f) num, sym turned, sym turned)
+
   -- the form of an occurring number
-  base_self : (f : Form) → sign_of f ≡ 0 → base_form f ≡ f
+  pub base_self : (f : Form) → sign_of f ≡ 0 → base_form f ≡ f
   base_self (var_form i) z = refl
   base_self true_form z = refl
   base_self (not_form f) z = absurd (omega arith)
@@ -357,7 +320,7 @@ module _ (inputs : ℕ) (o : Listing) (is : IsListing o) where
       let z = is.signs b f e in (f, (b, e ∙ ap Some (sym (base_self f z)), omega arith))
   form_by_sign n b f e (inr s) = (not_form f, (b, e, s))
 
-  form_of_number : (n : ℕ) → Rattle.lw_laws.specs.NumberedForms.NumberOccurs forms n → HasForm n
+  pub form_of_number : (n : ℕ) → Rattle.lw_laws.specs.NumberedForms.NumberOccurs forms n → HasForm n
   form_of_number n lt =
       let (base, e) = slice_get_some forms.bases (n / 2) lt in
       let (f, d, s) = slice_get_map_back (numbered_base o.bases) o.bases (n / 2) base e in

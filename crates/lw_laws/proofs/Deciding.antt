@@ -11,6 +11,7 @@ use Rattle.lw_laws.specs.Costs.{Cost}
 use Rattle.lw_laws.specs.Matches.{choices_of}
 use Rattle.lw_laws.specs.Choices.{HaveLabels, Attains, IsInputClass, IsWithin}
 use Rattle.lw_laws.specs.Rounds.{labels_in}
+use Rattle.lw_laws.proofs.Lists.{in_left, in_right, in_map}
 
 -- decisions
 pub dec_iff : {P Q : Type 0} → (P → Q) → (Q → P) → Dec P → Dec Q
@@ -67,20 +68,6 @@ all_lists bound zero = [] ∷ []
 all_lists bound (suc n) = prefixed (below bound) (all_lists bound n)
 
 -- a list by its place in another
-in_left : {X : Type 0} (xs ys : List X) (x : X) → Contains xs x → Contains (xs ++ ys) x
-in_left [] ys x (k, lt, e) = absurd (omega arith)
-in_left (z ∷ xs) ys x (zero, lt, e) = (0, omega arith, e)
-in_left (z ∷ xs) ys x (suc k, lt, e) = let (j, l, f) = in_left xs ys x (k, omega arith, e) in (suc j, omega arith, f)
-
-in_right : {X : Type 0} (xs ys : List X) (x : X) → Contains ys x → Contains (xs ++ ys) x
-in_right [] ys x c = c
-in_right (z ∷ xs) ys x c = let (j, l, f) = in_right xs ys x c in (suc j, omega arith, f)
-
-in_map : {X Y : Type 0} (h : X → Y) (xs : List X) (x : X) → Contains xs x → Contains (map h xs) (h x)
-in_map h [] x (k, lt, e) = absurd (omega arith)
-in_map h (z ∷ xs) x (zero, lt, e) = (0, omega arith, ap h e)
-in_map h (z ∷ xs) x (suc k, lt, e) = let (j, l, f) = in_map h xs x (k, omega arith, e) in (suc j, omega arith, f)
-
 in_below : (n k : ℕ) → k < n → Contains (below n) k
 unfolding below
 in_below zero k lt = absurd (omega arith)

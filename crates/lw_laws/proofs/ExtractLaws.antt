@@ -9,10 +9,9 @@ use Rattle.lw_laws.specs.Delays.{delay_cost}
 use Rattle.lw_laws.specs.Netlists.{Gate, Netlist, AreOrdered, AreArrivals}
 use Rattle.lw_laws.specs.Mapped.{IsMapped}
 use Rattle.lw_laws.specs.Extracts.{Match, IsChosen, IsGateBefore, AreGateClasses, IsNetOf, IsExtracted, class_at, AreDistinctLeaves}
-use Rattle.lw_laws.proofs.Drafts.{slice_get_in}
-use Rattle.lw_laws.proofs.NumberedForms.{slice_get_some}
 use Rattle.lw_laws.proofs.Extracts.{slice_get_append, IsChosen_once, extracted_ordered, extracted_mapped, net_arrival}
 use Rattle.lw_laws.proofs.Mapping.{list_arrivals}
+use Rattle.lw_laws.proofs.Lists.{slice_get_in, slice_get_some}
 
 not_both : (heights : ℕ → ℕ) (c d : ℕ) → IsGateBefore heights c d → IsGateBefore heights d c → ⊥
 not_both heights c d (inl a) (inl b) = omega arith

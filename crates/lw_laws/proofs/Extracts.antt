@@ -9,9 +9,8 @@ use Rattle.lw_laws.specs.Covers.{Pattern, latest, delays_of}
 use Rattle.lw_laws.specs.Delays.{delay_cost}
 use Rattle.lw_laws.specs.Netlists.{Gate, Netlist, IsGate, AreOrdered}
 use Rattle.lw_laws.specs.Extracts.{Match, IsListAtMost, IsMatchAtMost, IsChosen, IsGateBefore, net_classes, IsNetOf, IsExtracted}
-use Rattle.lw_laws.proofs.Drafts.{slice_get_in}
-use Rattle.lw_laws.proofs.NumberedForms.{slice_get_some}
 use Rattle.lw_laws.specs.Mapped.{IsMapped, AreNetArrivals}
+use Rattle.lw_laws.proofs.Lists.{slice_get_in, slice_get_some}
 
 pub slice_get_append : (xs ys : List ℕ) (k c : ℕ) → slice_get (xs ++ ys) k ≡ Some c → (k < length xs) ⊎ ((i : ℕ) × (slice_get ys i ≡ Some c) × (k ≡ length xs + i))
 slice_get_append [] ys k c e = inr (k, e, omega arith)

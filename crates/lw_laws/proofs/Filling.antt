@@ -6,8 +6,7 @@ use Rattle.std.proofs.lemmas.List.{ext_get_or}
 use Rattle.std.proofs.lemmas.Option.{slice_get-get_or, get_or_from_slice_get}
 use native.Mathlib.Decide.{dec_lt}
 use native.Mathlib.Nat.{eq-or-lt_of_le}
-use Rattle.lw_laws.proofs.Drafts.{slice_get_in}
-use Rattle.lw_laws.proofs.NumberedForms.{slice_get_some}
+use Rattle.lw_laws.proofs.Lists.{slice_get_in, slice_get_some}
 
 module _ {A X : Type 0} (d : A) (step : X → List A → A) where
   -- the entries agree below k

@@ -9,10 +9,10 @@ use Rattle.lw_laws.specs.Signals.{Signal, signal_of_node, signals_after, input_s
 use Rattle.lw_laws.specs.Occurring.{with_and_without, sublists, appended, append_part, append_parts, add_form, add_forms, add_signals, occurring_forms, HasInputsFirst}
 use Rattle.lw_laws.specs.Decompositions.{listing_of, base_form}
 use Rattle.lw_laws.specs.Listings.IsSub.{sub_none, sub_with, sub_without}
+use Rattle.lw_laws.specs.Listings.{IsListing, IsListedBefore, IsListedAndForm, sign_of, IsSub, AreOperands}
 use Rattle.lw_laws.proofs.Equality.{same_form_refl, same_form_eq, items-form_list, form_list-items}
 use Rattle.lw_laws.proofs.Sublists.{IsSub_all, IsSub_length, IsSub_whole, distinct_sub, clash_sub}
 use Rattle.lw_laws.proofs.Normal.{IsNormal, AreNormal, signals_normal, inputs_normal}
-use Rattle.lw_laws.specs.Listings.{IsListing, IsListedBefore, IsListedAndForm, sign_of, IsSub, AreOperands}
 
 -- places of a list with an entry put at its end
 get_left : {X : Type 0} (xs ys : List X) (b : ℕ) (x : X) → slice_get xs b ≡ Some x → slice_get (xs ++ ys) b ≡ Some x

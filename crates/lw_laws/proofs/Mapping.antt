@@ -21,13 +21,13 @@ use Rattle.lw_laws.proofs.Agreement.{number_in, numbered_are_forms, same_trees}
 use Rattle.lw_laws.proofs.FormTruth.{signals_agree}
 use Rattle.lw_laws.proofs.NumberValues.{value_of_number, numbers_have_values}
 use Rattle.lw_laws.proofs.NumberedValues.{form_values_fit}
-use Rattle.lw_laws.proofs.NumberedForms.{slice_get_some}
 use Rattle.lw_laws.proofs.Listed.{occurring_is_listing}
 use Rattle.lw_laws.proofs.NetValues.{sops_are_values}
 use Rattle.lw_laws.proofs.NetlistValues.{arrivals_once}
 use Rattle.lw_laws.proofs.Netlists.{net_covered, StandsFor-value, StandsFor-time}
 use Rattle.lw_laws.proofs.Headline.{certified_plain_least}
 use Rattle.lw_laws.proofs.Together.{certified_value, unlabelled_has_no_cover}
+use Rattle.lw_laws.proofs.Lists.{slice_get_some}
 
 -- values and arrivals in lists, as functions
 pub list_values : (truth : CellTruth) (n : Netlist) (x : ℕ → Bool) (ws : List Bool) → AreNetlistValues truth n x ws → AreNetValues truth n x (λ k. slice_index_or ws k false)

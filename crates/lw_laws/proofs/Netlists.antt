@@ -8,10 +8,10 @@ use Rattle.lw_laws.specs.Covers.{Pattern, ArePatterns, Cover, Covers, tree_of, t
 use Rattle.lw_laws.specs.Covers.Cover.{wire, gate}
 use Rattle.lw_laws.specs.Covers.Covers.{no_covers, cover}
 use Rattle.lw_laws.specs.Netlists.{Gate, Netlist, IsGate, AreOrdered, CellTruth, StandsFor, StandForAll, HasCellTruth}
+use Rattle.lw_laws.specs.Mapped.{IsMapped, AreNetValues, AreNetArrivals}
 use Rattle.lw_laws.proofs.Truths.{tree_value-planted}
 use Rattle.lw_laws.proofs.Covering.{UnfoldAt, length-UnfoldAt, planted_unfolds}
-use Rattle.lw_laws.proofs.NumberedForms.{slice_get_some}
-use Rattle.lw_laws.specs.Mapped.{IsMapped, AreNetValues, AreNetArrivals}
+use Rattle.lw_laws.proofs.Lists.{slice_get_some}
 
 module _ (n : Netlist) (delays : List (List ℕ)) (arrivals : ℕ → ℕ) (are : AreNetArrivals delays n arrivals) where
   -- the arrival of a net is the time of the cover that it stands for

@@ -7,9 +7,9 @@ use Rattle.lw_laws.specs.Forms.Form.{var_form, true_form, not_form, and_form}
 use Rattle.lw_laws.specs.Forms.FormList.{no_forms, more_forms}
 use Rattle.lw_laws.specs.Signals.{Literal, Signal, signed, literals, sum_of_products, has, cleared, shared_literal, literal_form, factored_by, factored_within, factored, literal_count, sop_at, signal_of_node, signals_after, input_signals, signals_of}
 use Rattle.lw_laws.specs.Listings.IsSub.{sub_none, sub_with, sub_without}
+use Rattle.lw_laws.specs.Listings.{IsSub, AreDistinct, AreOperands, sign_of}
 use Rattle.lw_laws.proofs.Sublists.{IsSub_all, IsSub_length, distinct_sub, or_falses}
 use Rattle.lw_laws.proofs.Equality.{items-form_list}
-use Rattle.lw_laws.specs.Listings.{IsSub, AreDistinct, AreOperands, sign_of}
 
 -- a complement is of a base form, an And has operands that it may have, and an input is below a number
 abbrev mutual

@@ -1,5 +1,5 @@
 -- Listed forms are a family.
-use Rattle.std.proofs.Common.{ℕ, zero, suc, ◌+◌, ◌*◌, ◌/◌, ◌<◌, ◌≡◌, ◌⊎◌, inl, inr, List, [], ◌∷◌, length, Some, slice_get, refl, arith}
+use Rattle.std.proofs.Common.{ℕ, ◌+◌, ◌*◌, ◌/◌, ◌≡◌, ◌⊎◌, inl, inr, List, [], ◌∷◌, Some, slice_get, refl, arith}
 use Rattle.std.specs.List.{AllByRecursion}
 use Rattle.lw_laws.specs.Flip.{flip}
 use Rattle.lw_laws.specs.Families.{Family}
@@ -10,18 +10,9 @@ use Rattle.lw_laws.specs.NumberedForms.IsCovering.{in_none, in_left, in_right, i
 use Rattle.lw_laws.specs.Modes.Mode.{plain, idempotent}
 use Rattle.lw_laws.specs.Encodings.{IsGrounded, IsFamily}
 use Rattle.lw_laws.specs.Encodings.IsGrounded.{input, top, split}
-use Rattle.lw_laws.proofs.Flips.{half-flip, flip_even, flip_odd}
 use Rattle.lw_laws.specs.Modes.{Mode}
-
-slice_get_in : {X : Type 0} (xs : List X) (i : ℕ) (x : X) → slice_get xs i ≡ Some x → i < length xs
-slice_get_in [] i x e = cc
-slice_get_in (y ∷ xs) zero x e = omega arith
-slice_get_in (y ∷ xs) (suc i) x e = let ih = slice_get_in xs i x e in omega arith
-
-pub slice_get_some : {X : Type 0} (xs : List X) (i : ℕ) → i < length xs → (x : X) × (slice_get xs i ≡ Some x)
-slice_get_some [] i lt = absurd (omega arith)
-slice_get_some (y ∷ xs) zero lt = (y, refl)
-slice_get_some (y ∷ xs) (suc i) lt = slice_get_some xs i (omega arith)
+use Rattle.lw_laws.proofs.Flips.{half-flip, flip_even, flip_odd}
+use Rattle.lw_laws.proofs.Lists.{slice_get_some, slice_get_in}
 
 -- the cuts with all operands on one side
 cut_rest : (fs : List ℕ) → IsCut fs [] fs
@@ -77,7 +68,7 @@ module _ (mode : Mode) (forms : NumberedForms) (are : AreNumberedForms forms) wh
   twice_occurs f x y (o, s, t) =
       let e = half-flip f in (o, (omega arith), (omega arith))
 
-  splits_occur : (m : Mode) (f x y : ℕ) → IsSplitOf m forms f x y → NumberOccurs forms f × NumberOccurs forms x × NumberOccurs forms y
+  pub splits_occur : (m : Mode) (f x y : ℕ) → IsSplitOf m forms f x y → NumberOccurs forms f × NumberOccurs forms x × NumberOccurs forms y
   splits_occur plain f x y c = cut_occurs f x y c
   splits_occur idempotent f x y (inl c) = cut_occurs f x y c
   splits_occur idempotent f x y (inr (inl c)) = covering_occurs f x y c

@@ -9,8 +9,8 @@ use Rattle.lw_laws.specs.NumberedForms.IsCovering.{in_none, in_left, in_right, i
 use Rattle.lw_laws.specs.Modes.Mode.{plain, idempotent}
 use Rattle.lw_laws.specs.Truth.{IsValuation}
 use Rattle.lw_laws.specs.NumberedValues.{AreNumberedValues}
-use Rattle.lw_laws.proofs.Flips.{flip-flip, flip_even}
 use Rattle.lw_laws.specs.Modes.{Mode}
+use Rattle.lw_laws.proofs.Flips.{flip-flip, flip_even}
 
 -- `&&` with an operand on either side, and on both
 and_left : (a b c : Bool) → (a && (b && c)) ≡ ((a && b) && c)

@@ -1,5 +1,5 @@
 -- The patterns of a library's cells have their cells' truth and pins.
-use Rattle.std.proofs.Common.{ℕ, zero, suc, ◌+◌, ◌==◌, ◌≡◌, ◌⊎◌, ◌↔◌, inl, inr, Bool, true, false, not, ◌&&◌, ◌||◌, List, [], ◌∷◌, ◌++◌, map, Contains, Some, slice_get, slice_index_or, refl, ap, ap₂, sym, ◌∙◌, subst, arith}
+use Rattle.std.proofs.Common.{ℕ, suc, ◌+◌, ◌==◌, ◌≡◌, ◌⊎◌, ◌↔◌, inl, inr, Bool, true, false, not, ◌&&◌, ◌||◌, List, [], ◌∷◌, map, Contains, Some, slice_get, slice_index_or, refl, ap, ap₂, sym, ◌∙◌, arith}
 use Rattle.std.specs.List.{AllByRecursion}
 use Rattle.std.proofs.lemmas.Bool.Decides.{nat_tests}
 use Rattle.lw_laws.specs.Trees.{Tree, leaf, const_one, const_zero, inv, nand, tree_value, HasLeaf}
@@ -12,23 +12,7 @@ use Rattle.lw_laws.specs.Patterns.{inverted, Operator, tree_by, trees_of_expr, p
 use Rattle.lw_laws.specs.Patterns.Operator.{and_op, or_op}
 use Rattle.lw_laws.specs.Cells.{AreCells}
 use Rattle.lw_laws.proofs.PatternTruth.{over, expr_gives, exprs_give, trees_have}
-
-all_contains : {X : Type 0} (P : X → Type 0) (xs : List X) (x : X) → AllByRecursion P xs → Contains xs x → P x
-all_contains P [] x a (k, lt, e) = absurd (omega arith)
-all_contains P (y ∷ xs) x (p, a) (zero, lt, e) = subst P e p
-all_contains P (y ∷ xs) x (p, a) (suc k, lt, e) = all_contains P xs x a (k, omega arith, e)
-
-contains_all : {X : Type 0} (P : X → Type 0) (xs : List X) → ((x : X) → Contains xs x → P x) → AllByRecursion P xs
-contains_all P [] f = tt
-contains_all P (x ∷ xs) f = (f x (0, omega arith, refl), contains_all P xs (λ y (k, lt, e). f y (suc k, omega arith, e)))
-
-all_append : {X : Type 0} (P : X → Type 0) (xs ys : List X) → AllByRecursion P xs → AllByRecursion P ys → AllByRecursion P (xs ++ ys)
-all_append P [] ys a b = b
-all_append P (x ∷ xs) ys (p, a) b = (p, all_append P xs ys a b)
-
-all_map : {X Y : Type 0} (P : Y → Type 0) (f : X → Y) (xs : List X) → AllByRecursion (λ x. P (f x)) xs → AllByRecursion P (map f xs)
-all_map P f [] a = tt
-all_map P f (x ∷ xs) (p, a) = (p, all_map P f xs a)
+use Rattle.lw_laws.proofs.Lists.{all_contains, contains_all, all_append, all_map}
 
 not_twice : (a : Bool) → not (not a) ≡ a
 not_twice true = refl
@@ -109,7 +93,7 @@ module _ (y : ℕ → Bool) where
 
 -- leaves
 module _ (k : ℕ) where
-  abbrev has_leaf : Tree → Bool
+  abbrev pub has_leaf : Tree → Bool
   has_leaf (leaf i) = i == k
   has_leaf const_one = false
   has_leaf const_zero = false
@@ -167,7 +151,7 @@ module _ (k : ℕ) where
       from (inl e) = inl (p.1 e)
       from (inr e) = inr (q.1 e)
 
-  leaf_is : (t : Tree) → (has_leaf t ≡ true) ↔ HasLeaf t k
+  pub leaf_is : (t : Tree) → (has_leaf t ≡ true) ↔ HasLeaf t k
   leaf_is (leaf i) = same_number i
   leaf_is const_one = (λ e. cc, λ e. absurd e)
   leaf_is const_zero = (λ e. cc, λ e. absurd e)
@@ -237,7 +221,7 @@ module _ (pin_counts : List ℕ) (truth : CellTruth) (cells : List (List Expr)) 
   cell_good cell all at [] a = tt
   cell_good cell all at (e ∷ forms) (listed, a) =
       all_append IsGood (map (pattern_of_cell cell) (trees_of_expr e)) (patterns_of_cell cell forms)
-      (all_map IsGood (pattern_of_cell cell) (trees_of_expr e) (contains_all (λ t. IsGood (pattern_of_cell cell t)) (trees_of_expr e) (λ t c. (is_pattern t c, is_true t c))))
+      (all_map (λ t. IsGood (pattern_of_cell cell t)) IsGood (pattern_of_cell cell) (trees_of_expr e) (λ t q. q) (contains_all (λ t. IsGood (pattern_of_cell cell t)) (trees_of_expr e) (λ t c. (is_pattern t c, is_true t c))))
       (cell_good cell all at forms a)
     where
       is_pattern : (t : Tree) → Contains (trees_of_expr e) t → IsPattern pin_counts (pattern_of_cell cell t)

@@ -7,10 +7,7 @@ use Rattle.lw_laws.specs.Expressions.Expr.{expr_const, expr_pin, expr_not, expr_
 use Rattle.lw_laws.specs.Expressions.Exprs.{no_exprs, more_exprs}
 use Rattle.lw_laws.specs.Patterns.{inverted, Operator, tree_by, empty_tree, each_with, all_pairs, three, four, left_chain, bracketings, constant_tree, bracketed, each_bracketed, chain_from, chain_of, chained, each_chained, trees_of_expr}
 use Rattle.lw_laws.specs.Patterns.Operator.{and_op, or_op}
-
-all_append : {X : Type 0} (P : X → Type 0) (xs ys : List X) → AllByRecursion P xs → AllByRecursion P ys → AllByRecursion P (xs ++ ys)
-all_append P [] ys a b = b
-all_append P (x ∷ xs) ys (p, a) b = (p, all_append P xs ys a b)
+use Rattle.lw_laws.proofs.Lists.{all_append}
 
 -- a Bool of trees that hangs on the operators alone: f and g say how
 module _ (h : Tree → Bool) (f : Operator → Bool → Bool → Bool) (g : Bool → Bool) (turns : (t : Tree) → h (inverted t) ≡ g (h t)) (joins : (op : Operator) (t u : Tree) → h (tree_by op t u) ≡ f op (h t) (h u)) (assoc : (op : Operator) (a b c : Bool) → f op (f op a b) c ≡ f op a (f op b c)) where

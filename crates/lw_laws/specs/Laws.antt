@@ -1,5 +1,5 @@
 -- The statements of the laws.
-use Rattle.std.specs.Prelude.{ℕ, ◌<◌, ◌≤◌, ◌≡◌, ◌↔◌, ◌^◌, List, length, map, slice_get, Option, Some, None, Bool}
+use Rattle.std.specs.Prelude.{ℕ, ◌<◌, ◌≤◌, ◌≡◌, ◌↔◌, ◌^◌, List, length, map, slice_get, Option, Some, Bool}
 use Rattle.std.specs.List.{AllByRecursion}
 use Rattle.lw_laws.specs.Modes.{Mode}
 use Rattle.lw_laws.specs.Trees.{Tree, tree_value}
@@ -33,13 +33,6 @@ HasNumberedTruth mode forms g x value =
 abbrev pub BoundsCovers : Graph → List Pattern → Cost → List (Option ℕ) → Type 0
 BoundsCovers g pats cost labels =
     (k : Cover) (c : ℕ) → IsCover cost.pin_counts pats k → Unfolds g (tree_of k) c → HasLabelAtMost (labels_in labels) c (cost_of cost k)
-
--- a least cover of the class, of this cost, or none
-abbrev pub IsLeastCover : Graph → List Pattern → Cost → ℕ → Option ℕ → Type 0
-IsLeastCover g pats cost c (Some d) =
-    ((k : Cover) × IsCover cost.pin_counts pats k × Unfolds g (tree_of k) c × (cost_of cost k ≡ d)) × ((k : Cover) → IsCover cost.pin_counts pats k → Unfolds g (tree_of k) c → d ≤ cost_of cost k)
-IsLeastCover g pats cost c None =
-    (k : Cover) → IsCover cost.pin_counts pats k → Unfolds g (tree_of k) c → ⊥
 
 -- the least time of a cover of a tree that the laws derive for the form
 pub record HasLeastNumberedTime (mode : Mode) (forms : NumberedForms) (pats : List Pattern) (delays : List (List ℕ)) (f d : ℕ) : Type 0 where

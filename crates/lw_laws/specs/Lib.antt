@@ -1,5 +1,6 @@
 pub mod Cells
 pub mod Choices
+pub mod Classes
 pub mod Costs
 pub mod Covers
 pub mod Decompositions
@@ -17,6 +18,7 @@ pub mod HeightRounds
 pub mod Laws
 pub mod Listings
 pub mod Mapped
+pub mod MappedNetlists
 pub mod Marks
 pub mod Matches
 pub mod Modes

@@ -1,5 +1,5 @@
 -- Names of the nets of a mapped netlist. A name is a list of bytes.
-use Rattle.std.specs.Prelude.{ℕ, zero, suc, ◌+◌, ◌==◌, Bool, true, false, not, ◌&&◌, if◌then◌else◌, Option, Some, None, List, [], ◌∷◌, ◌++◌, length, filter, drop, slice_index_or}
+use Rattle.std.specs.Prelude.{ℕ, zero, suc, ◌+◌, ◌^◌, ◌<◌, ◌≡◌, ◌==◌, Bool, true, false, not, ◌&&◌, if◌then◌else◌, Option, Some, None, List, [], ◌∷◌, ◌++◌, length, filter, drop, slice_get, slice_index_or}
 use Rattle.std.specs.List.{list_any}
 use Rattle.std.specs.Fmt.{decimal}
 
@@ -41,3 +41,17 @@ gate_names outputs roots free (c ∷ gates) =
 abbrev pub net_names : List (List ℕ) → List (List ℕ) → List ℕ → List ℕ → List (List ℕ)
 net_names inputs outputs roots gates =
     inputs ++ gate_names outputs roots (free_names (inputs ++ outputs) (length gates)) gates
+
+-- no name stands twice
+abbrev pub AreDifferent : List (List ℕ) → Type 0
+AreDifferent names = (i j : ℕ) (name : List ℕ) → slice_get names i ≡ Some name → slice_get names j ≡ Some name → i ≡ j
+
+-- What names the nets apart: the inputs' names differ, and the outputs'; an output with an input's name has the input's
+-- class; a class of a gate stands once, and is no input's.
+pub record AreNameable (inputs outputs : List (List ℕ)) (leaves roots gates : List ℕ) : Type 0 where
+  pub few : 1 + (length gates + length (inputs ++ outputs)) < 2 ^ 64
+  pub inputs_differ : AreDifferent inputs
+  pub outputs_differ : AreDifferent outputs
+  pub tied : (i k : ℕ) (name : List ℕ) → slice_get inputs i ≡ Some name → slice_get outputs k ≡ Some name → slice_get roots k ≡ slice_get leaves i
+  pub once : (i j c : ℕ) → slice_get gates i ≡ Some c → slice_get gates j ≡ Some c → i ≡ j
+  pub no_leaf : (i j c : ℕ) → slice_get gates i ≡ Some c → slice_get leaves j ≡ Some c → ⊥

@@ -1,6 +1,7 @@
 //! Laws over definitions: functions with empty bodies, whose clauses are the laws.
 ghost use Rattle.lw_laws.specs.Cells.{AreCells};
 ghost use Rattle.lw_laws.specs.Choices.{AreHeights, IsHeight};
+ghost use Rattle.lw_laws.specs.Classes.{IsGraphOf};
 ghost use Rattle.lw_laws.specs.Costs.{Cost, IsCost, cost_of};
 ghost use Rattle.lw_laws.specs.Covers.{ArePatterns, Cover, Pattern, time_of};
 ghost use Rattle.lw_laws.specs.Decompositions.{Listing, listing_of};
@@ -10,13 +11,15 @@ ghost use Rattle.lw_laws.specs.Encodings.{Encodes};
 ghost use Rattle.lw_laws.specs.Expressions.{Expr, MentionsPin, expr_value};
 ghost use Rattle.lw_laws.specs.Extracts.{AreDistinctLeaves, AreGateClasses, IsChosen, IsExtracted, IsNetOf, Match, class_at};
 ghost use Rattle.lw_laws.specs.Forms.{Form, conjunction, form_value, has_clash, joined, kept};
-ghost use Rattle.lw_laws.specs.Graphs.{Graph, PairsInOneClass};
+ghost use Rattle.lw_laws.specs.Graphs.{Graph, IsWritten, PairsInOneClass};
 ghost use Rattle.lw_laws.specs.Headline.{HasLeastArrival, HasNoCover, IsMapping, Ports};
-ghost use Rattle.lw_laws.specs.Laws.{AreDelaysUpTo, AreLeafLabels, BoundsCovers, ClassesAreSharedTrees, ClassesHaveValue, HasNumberedTrees, HasNumberedTruth, HasTheTrees, IsAttainedIn, IsCoverProblem, IsLeastCover, TreesHaveValue, TreesUnfoldOnce};
+ghost use Rattle.lw_laws.specs.Laws.{AreDelaysUpTo, AreLeafLabels, BoundsCovers, ClassesAreSharedTrees, ClassesHaveValue, HasNumberedTrees, HasNumberedTruth, HasTheTrees, IsAttainedIn, IsCoverProblem, TreesHaveValue, TreesUnfoldOnce};
 ghost use Rattle.lw_laws.specs.Listings.{IsListing};
 ghost use Rattle.lw_laws.specs.Mapped.{AreRooted, IsCoverAt, IsLabelledOver, IsMapped, IsMappedOver, IsPotentialOf, IsRootedAt, forms_of, root_class};
-ghost use Rattle.lw_laws.specs.Matches.{choices_of};
+ghost use Rattle.lw_laws.specs.MappedNetlists.{HasPorts, IsNetlistOf};
+ghost use Rattle.lw_laws.specs.Matches.{IsLeastCover, choices_of};
 ghost use Rattle.lw_laws.specs.Modes.{Mode};
+ghost use Rattle.lw_laws.specs.Names.{AreDifferent, AreNameable, net_names};
 ghost use Rattle.lw_laws.specs.Netlists.{AreArrivals, AreNetlistValues, AreOrdered, CellTruth, HaveCellTruths, Netlist};
 ghost use Rattle.lw_laws.specs.Networks.{AreDepths, AreValues, IsInOrder, Network};
 ghost use Rattle.lw_laws.specs.NumberedForms.{AreNumberedForms, NumberedForms, family_of};
@@ -29,7 +32,7 @@ ghost use Rattle.lw_laws.specs.SignalValues.{SignalsAgree, number_value};
 ghost use Rattle.lw_laws.specs.Signals.{factored, factored_by, shared_literal, signals_of};
 ghost use Rattle.lw_laws.specs.Trees.{HasLeaf, Tree, tree_value};
 ghost use Rattle.lw_laws.specs.Truth.{IsValuation};
-ghost use Rattle.std.specs.Prelude.{◌≡◌, ◌≤◌, ◌↔◌, ◌<◌, ◌^◌, ◌+◌, ◌*◌, ℕ, List, Option, Bool, Some, None, map, length, slice_get, slice_index_or, Contains, min};
+ghost use Rattle.std.specs.Prelude.{◌++◌, ◌≡◌, ◌≤◌, ◌↔◌, ◌<◌, ◌^◌, ◌+◌, ◌*◌, ℕ, List, Option, Bool, Some, None, map, length, slice_get, slice_index_or, Contains, min};
 
 // Networks
 
@@ -149,6 +152,16 @@ pub fn classes_have_the_value()
     ensures { (mode : Mode) (width : ℕ) (net : Network) (g : Graph) (x : ℕ → Bool) → 2 ≤ width → Encodes (family_of mode (forms_of width net)) g → ClassesHaveValue (listing_of width net) g x }
 {}
 
+/// A graph that encodes the forms of a network, numbered by their first base forms, is the graph of the forms.
+pub fn encodings_are_the_graph()
+    ensures { (mode : Mode) (width : ℕ) (net : Network) (g : Graph) → 2 ≤ width → Encodes (family_of mode (forms_of width net)) g → IsWritten (length (occurring_forms width net)) net.inputs g → IsGraphOf mode net.inputs (listing_of width net) g }
+{}
+
+/// The graph of the listed forms is one.
+pub fn graphs_are_one()
+    ensures { (mode : Mode) (inputs : ℕ) (o : Listing) → IsListing o → (g h : Graph) → IsGraphOf mode inputs o g → IsGraphOf mode inputs o h → g ≡ h }
+{}
+
 /// A graph that encodes the facts of a draft encodes every family of the same facts.
 pub fn same_facts_have_one_encoding()
     ensures { (mode : Mode) (forms : NumberedForms) (d : Draft) (g : Graph) → HaveSameFacts (family_of mode forms) (facts_of d) → IsReduced d g → Encodes (family_of mode forms) g }
@@ -218,9 +231,14 @@ pub fn covers_along_heights_attain()
     ensures { (g : Graph) (pats : List Pattern) (cost : Cost) (labels : List (Option ℕ)) (heights : ℕ → ℕ) → AreHeights (choices_of g cost.pin_counts pats) cost (labels_in labels) heights → AreLeafLabels g cost labels → IsAttainedIn g pats cost labels }
 {}
 
+/// The labelled classes have heights that a local test finds, where the labels are the least costs.
+pub fn some_heights_are_found()
+    ensures { (g : Graph) (pats : List Pattern) (cost : Cost) (labels : List (Option ℕ)) → IsCoverProblem g pats cost → IsPotentialOf g pats cost labels → IsAttainedIn g pats cost labels → (heights : ℕ → ℕ) × AreHeights (choices_of g cost.pin_counts pats) cost (labels_in labels) heights }
+{}
+
 /// Labels of times stay below the number of classes times the largest delay.
 pub fn labels_stay_low()
-    ensures { (g : Graph) (pats : List Pattern) (delays : List (List ℕ)) (cap : ℕ) (labels : List (Option ℕ)) (heights : ℕ → ℕ) (delay : ℕ) → AreHeights (choices_of g (map length delays) pats) (delay_cost delays cap) (labels_in labels) heights → AreLeafLabels g (delay_cost delays cap) labels → AreDelaysUpTo delay delays → 0 < delay → (c l : ℕ) → labels_in labels c ≡ Some l → l < length labels * delay }
+    ensures { (g : Graph) (pats : List Pattern) (delays : List (List ℕ)) (cap : ℕ) (labels : List (Option ℕ)) (delay : ℕ) → IsCoverProblem g pats (delay_cost delays cap) → IsPotentialOf g pats (delay_cost delays cap) labels → IsAttainedIn g pats (delay_cost delays cap) labels → AreDelaysUpTo delay delays → 0 < delay → (c l : ℕ) → labels_in labels c ≡ Some l → l < length labels * delay }
 {}
 
 // Netlists
@@ -275,6 +293,16 @@ pub fn extracted_arrivals_are_labels()
     ensures { (g : Graph) (pats : List Pattern) (delays : List (List ℕ)) (cap : ℕ) (labels : ℕ → Option ℕ) (heights : ℕ → ℕ) (roots gates : List ℕ) (n : Netlist) (arrivals : List ℕ) → AreGateClasses g (delay_cost delays cap) pats labels heights roots gates → IsExtracted g (delay_cost delays cap) pats labels heights gates n → AreArrivals delays n arrivals → ((c i : ℕ) → slice_get g.leaves i ≡ Some c → labels c ≡ Some 0) → ((c l : ℕ) → labels c ≡ Some l → l < cap) → (c net : ℕ) → IsNetOf g gates c net → labels c ≡ Some (slice_index_or arrivals net 0) }
 {}
 
+/// The names of the nets of a mapped netlist differ.
+pub fn net_names_differ()
+    ensures { (inputs outputs : List (List ℕ)) (leaves roots gates : List ℕ) → AreNameable inputs outputs leaves roots gates → AreDifferent (net_names inputs outputs roots gates) }
+{}
+
+/// A net with an output's name is at the output's class.
+pub fn outputs_own_their_names()
+    ensures { (inputs outputs : List (List ℕ)) (leaves roots gates : List ℕ) → AreNameable inputs outputs leaves roots gates → length leaves ≡ length inputs → (j k : ℕ) (name : List ℕ) → slice_get (net_names inputs outputs roots gates) j ≡ Some name → slice_get outputs k ≡ Some name → slice_get (leaves ++ gates) j ≡ slice_get roots k }
+{}
+
 // The headline
 
 /// The arrival of an output of a mapped netlist is the least time of a library cover of a tree that the laws derive for it.
@@ -295,4 +323,19 @@ pub fn unlabelled_outputs_have_no_cover()
 /// A netlist whose gates are matches, with each output at the class of the network's output and arriving at its label, is a mapping: it computes the network's outputs, each at the least time.
 pub fn rooted_netlists_are_mappings()
     ensures { (mode : Mode) (width : ℕ) (net : Network) (g : Graph) (pats : List Pattern) (delays : List (List ℕ)) (cap : ℕ) (labels : List (Option ℕ)) (n : Netlist) (class : ℕ → ℕ) (arrivals : List ℕ) (truth : CellTruth) (ports mapped : Ports) → IsInOrder net → IsMappedOver mode width net g pats delays cap labels n class → HaveCellTruths (map length delays) truth pats → AreArrivals delays n arrivals → AreRooted width net g labels n class arrivals ports mapped → IsMapping mode width net ports pats delays truth n mapped }
+{}
+
+/// The least cost at the class of an output's sum of products, where it is below the cap, is the output's least arrival.
+pub fn least_labels_are_least_arrivals()
+    ensures { (mode : Mode) (width : ℕ) (net : Network) (g : Graph) (pats : List Pattern) (delays : List (List ℕ)) (cap : ℕ) → 2 ≤ width → Encodes (family_of mode (forms_of width net)) g → (s : ℕ) → s < net.inputs + length net.nodes → (d : ℕ) → d < cap → IsLeastCover g pats (delay_cost delays cap) (root_class width net g s) (Some d) → HasLeastArrival mode width net pats delays s d }
+{}
+
+/// Where no cover stands at the class of an output's sum of products, the output has none.
+pub fn uncovered_classes_have_no_cover()
+    ensures { (mode : Mode) (width : ℕ) (net : Network) (g : Graph) (pats : List Pattern) (delays : List (List ℕ)) (cap : ℕ) → 2 ≤ width → Encodes (family_of mode (forms_of width net)) g → (s : ℕ) → s < net.inputs + length net.nodes → IsLeastCover g pats (delay_cost delays cap) (root_class width net g s) None → HasNoCover mode width net pats delays s }
+{}
+
+/// The netlist that a network is mapped to has its ports and values, and the least arrivals.
+pub fn netlists_are_mappings()
+    ensures { (mode : Mode) (width : ℕ) (net : Network) (ports : Ports) (pats : List Pattern) (delays : List (List ℕ)) (cap : ℕ) (truth : CellTruth) (n : Netlist) (names : List (List ℕ)) (mapped : Ports) → 2 ≤ width → IsInOrder net → net.inputs < 2 ^ 32 → HasPorts net ports → ArePatterns (map length delays) pats → HaveCellTruths (map length delays) truth pats → (is : IsNetlistOf mode width net ports pats delays cap n names mapped) → Encodes (family_of mode (forms_of width net)) is.graph → ((c l : ℕ) → labels_in is.labels c ≡ Some l → l < cap) → IsMapping mode width net ports pats delays truth n mapped }
 {}
