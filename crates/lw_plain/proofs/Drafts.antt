@@ -1,5 +1,5 @@
 -- A draft that a plain text spells can be closed, and its nodes are plain.
-use Rattle.std.proofs.Common.{◌≡◌, ◌⊎◌, inl, inr, ℕ, zero, suc, ◌+◌, ◌<◌, ◌≤◌, Bool, true, false, not, ◌&&◌, ◌||◌, cond, List, [], ◌∷◌, ◌++◌, length, map, Option, None, Some, Result, Ok, Err, refl, sym, ap, ◌∙◌, subst, arith, append_assoc, length-append, append-nil, drop, All}
+use Rattle.std.proofs.Common.{◌≡◌, ◌⊎◌, inl, inr, ℕ, zero, suc, ◌+◌, ◌<◌, ◌≤◌, Bool, true, false, not, ◌&&◌, ◌||◌, cond, List, [], ◌∷◌, ◌++◌, length, map, Option, None, Some, Result, Ok, Err, refl, sym, ap, ◌∙◌, subst, arith, append_assoc, length-append, append-nil, drop, All, IfOk}
 use Rattle.std.specs.Prelude.{codes, nat_lt}
 use Rattle.std.specs.List.{AllByRecursion, IsDistinct}
 use Rattle.std.specs.Option.{option_and_then, ok_or}
@@ -281,3 +281,8 @@ draft-closable bytes draft e = (lines-sound _ draft e).closable
 
 pub draft-plain : (bytes : List ℕ) (draft : Draft) → draft_of bytes ≡ Ok draft → ArePlainNodes draft.nodes
 draft-plain bytes draft e = (lines-sound _ draft e).are_plain
+
+pub closable-of : {E : Type 0} (r : Result (Result Draft ℕ) E) (lines : List Line) → IfOk r (λ d. d ≡ draft_in lines) → IfOk r (λ d. IfOk d IsDraft)
+closable-of (Ok (Ok draft)) lines e = (lines-sound lines draft (sym e)).closable
+closable-of (Ok (Err n)) lines e = tt
+closable-of (Err x) lines e = tt

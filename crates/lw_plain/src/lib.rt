@@ -5,6 +5,7 @@
 mod cell;
 mod cover;
 mod drivers;
+pub mod laws;
 mod library;
 mod mapped;
 mod mapping;

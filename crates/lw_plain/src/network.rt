@@ -2,6 +2,7 @@
 ghost use Rattle.std.specs.Option.{option_map};
 ghost use Rattle.std.specs.Prelude.{◌≡◌, ◌+◌, ◌<◌, ◌≤◌, ◌&&◌, not, [], IfOk, IfSome, length, drop, map, codes, All, true, false, Some, None, Ok, Err, if◌then◌else◌};
 ghost use Rattle.lw_net.specs.Signs.{IsSign};
+ghost use Rattle.lw_net.specs.Closing.{IsDraft};
 ghost use Rattle.lw_plain.specs.Texts.{contains};
 ghost use Rattle.lw_plain.specs.Networks.{are_new, distinct_names, names_behind, model_of, inputs_of, head_of, is_sign, row_of, row_behind, with_row, new_head, is_end, front_of, is_over, nodes_from, words_at, draft_in, draft_of, DrivesNew};
 
@@ -321,7 +322,8 @@ fn words_at<'a, 'b>(lines: &'b [Line<'a>], at: usize) -> &'b [&'a [u8]]
 
 /// The draft that the bytes spell, where they are plain, or the number of the first line that is not.
 pub fn draft_of(alloc: Global, bytes: &[u8]) -> Result<Result<Draft, usize>, AllocError>
-    ensures { IfOk result (λ draft. draft ≡ draft_of bytes.now) }
+    ensures value { IfOk result (λ draft. draft ≡ draft_of bytes.now) }
+    ensures closable { IfOk result (λ draft. IfOk draft IsDraft) }
 {
     let lines = lines(alloc, bytes)?;
     draft_in(alloc, &lines)

@@ -5,7 +5,7 @@ use Rattle.lw_io.specs.Files.{bytes_of}
 use Rattle.lw_top.specs.declared.refusal.Refusal.{Refusal}
 use Rattle.lw_top.specs.declared.refusal.Refusal.TheVariants.{Words, Unread, TooLong, NotBuilt, Undefined, Cycle, NoCover, Memory}
 use Rattle.lw_top.specs.Answers.{Step, followed_by}
-use Rattle.lw_top.specs.Reading.{Known, HasReason}
+use Rattle.lw_top.specs.Reading.{Known, HasReason, Reads}
 
 module _ {A B : Type 0} (told : Option (List File)) (first : Step A) (next : A → Step B) where
   -- the first step refuses
@@ -38,3 +38,8 @@ module _ {A B : Type 0} (told : Option (List File)) (first : Step A) (next : A �
   refused_later before mid now x (Cycle name) le known later = answered x (Err (Cycle name)) known later
   refused_later before mid now x (NoCover name) le known later = answered x (Err (NoCover name)) known later
   refused_later before mid now x Memory le known later = tt
+
+-- the first step answers, and what comes after it is what the second says
+pub after_reading : {X A B : Type 0} (view : X → B) (told : Option (List File)) (before mid now : ℕ) (first : Step A) (next : A → Step B) (x : A) (r : Result X Refusal) → before ≤ mid → Known told first (Ok x) → Reads view told mid now (next x) r → Reads view told before now (followed_by first next) r
+after_reading view told before mid now first next x (Ok y) le known later = answered told first next x (Ok (view y)) known later
+after_reading view told before mid now first next x (Err e) le known later = refused_later told first next before mid now x e le known later

@@ -1,3 +1,6 @@
 pub mod Answers
 pub mod Reading
 pub mod Named
+pub mod Outcome
+pub mod Telling
+pub mod Lines

@@ -2,5 +2,7 @@
 #![tactic(auto)]
 
 mod answer;
+mod outcome;
 mod reading;
 mod refusal;
+mod telling;
