@@ -45,7 +45,6 @@ pub mod PotentialTests
 pub mod Potentials
 pub mod Rounds
 pub mod SharingExamples
-pub mod SmallGraph
 pub mod Sublists
 pub mod Together
 pub mod Truths
