@@ -28,6 +28,7 @@ pub mod Mapping
 pub mod MappingExamples
 pub mod MappingTests
 pub mod Masks
+pub mod NameExamples
 pub mod NameLaws
 pub mod NetValues
 pub mod NetlistOf
