@@ -28,6 +28,7 @@ pub mod Mapping
 pub mod MappingExamples
 pub mod MappingTests
 pub mod Masks
+pub mod NameExamples
 pub mod NameLaws
 pub mod NetValues
 pub mod NetlistOf
@@ -45,7 +46,6 @@ pub mod PotentialTests
 pub mod Potentials
 pub mod Rounds
 pub mod SharingExamples
-pub mod SmallGraph
 pub mod Sublists
 pub mod Together
 pub mod Truths

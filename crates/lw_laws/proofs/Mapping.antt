@@ -11,7 +11,7 @@ use Rattle.lw_laws.specs.Decompositions.{listing_of, Occurs}
 use Rattle.lw_laws.specs.Numbering.{number}
 use Rattle.lw_laws.specs.SignalValues.{number_value}
 use Rattle.lw_laws.specs.Graphs.{Graph}
-use Rattle.lw_laws.specs.Covers.{Pattern, ArePatterns, tree_of}
+use Rattle.lw_laws.specs.Covers.{Pattern, HasPins, ArePatterns, tree_of}
 use Rattle.lw_laws.specs.Rounds.{labels_in}
 use Rattle.lw_laws.specs.Netlists.{Netlist, AreOrdered, CellTruth, HasCellTruth, HaveCellTruths, AreNetlistValues, AreArrivals}
 use Rattle.lw_laws.specs.Mapped.{AreNetValues, AreNetArrivals, IsCertified, IsOutput, forms_of, root_class, IsLabelledOver, IsMappedOver, IsRootedAt, AreRooted, IsMapped, IsCoverAt}
@@ -117,6 +117,8 @@ module _ (mode : Mode) (width : ℕ) (net : Network) (g : Graph) (pats : List Pa
   -- a netlist all of whose outputs are rooted is a mapping of the network
   pub rooted_mapping : IsInOrder net → (truth : CellTruth) → ((p : Pattern) → Contains pats p → HasCellTruth (map length delays) truth p) → (ds : List ℕ) → AreArrivals delays n ds → (ports mapped : Ports) → AreRooted width net g labels n class ds ports mapped → IsMapping mode width net ports pats delays truth n mapped
   rooted_mapping order truth true_patterns ds are ports mapped is = record {
+    ordered = over.ordered;
+    cells = λ j gt e. subst (λ k. HasPins (map length delays) gt.cell k) (classes_length gt.pins) (over.mapped.gates j gt e).pins;
     inputs = is.inputs;
     input_names = is.input_names;
     output_names = each (λ p q. p.name ≡ q.name) (λ p q r. r.0) ports.outputs mapped.outputs is.outputs;
@@ -126,6 +128,10 @@ module _ (mode : Mode) (width : ℕ) (net : Network) (g : Graph) (pats : List Pa
         each (λ p q. HasLeastArrival mode width net pats delays p.net (slice_index_or es q.net 0)) (λ p q r. subst (λ ts. HasLeastArrival mode width net pats delays p.net (slice_index_or ts q.net 0)) same (rooted_least ds are p.net q.net r.1)) ports.outputs mapped.outputs is.outputs;
   }
     where
+      classes_length : (pins : List ℕ) → length (map class pins) ≡ length pins
+      classes_length [] = refl
+      classes_length (p ∷ pins) = ap suc (classes_length pins)
+
       each : (R : Port → Port → Type 0) → ((p q : Port) → (p.name ≡ q.name) × IsRootedAt width net g labels n class ds p.net q.net → R p q) → (ps qs : List Port) → AllZip (λ p q. (p.name ≡ q.name) × IsRootedAt width net g labels n class ds p.net q.net) ps qs → AllZip R ps qs
       each R f [] [] a = tt
       each R f [] (q ∷ qs) a = absurd a

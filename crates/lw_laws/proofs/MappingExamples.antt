@@ -1,5 +1,6 @@
 -- Least arrivals of worked examples: the three-input And, the XOR of two inputs, and sharing between two nodes.
-use Rattle.std.proofs.Common.{ℕ, Bool, true, false, List, [], ◌∷◌, Option, Some, None, refl, lit<, lit≤}
+use Rattle.std.proofs.Common.{ℕ, Bool, true, false, List, [], ◌∷◌, Option, Some, None, refl, lit<, lit≤, inl, slice_index_or}
+use Rattle.std.specs.List.{AllByRecursion}
 use Rattle.lw_laws.specs.Modes.Mode.{plain}
 use Rattle.lw_laws.specs.Trees.{Tree, leaf, inv, nand}
 use Rattle.lw_laws.specs.Networks.{Network}
@@ -15,12 +16,14 @@ use Rattle.lw_laws.specs.Expressions.{Expr}
 use Rattle.lw_laws.specs.Expressions.Expr.{expr_pin, expr_not, expr_and, expr_or}
 use Rattle.lw_laws.specs.Patterns.{patterns_of}
 use Rattle.lw_laws.specs.Delays.{delay_cost}
-use Rattle.lw_laws.specs.Graphs.{Pair, Graph}
+use Rattle.lw_laws.specs.Graphs.{Pair, Graph, AreRising, IsWritten}
+use Rattle.lw_laws.specs.Classes.{IsGraphOf}
 use Rattle.lw_laws.specs.Mapped.{forms_of, IsLabelledOver}
 use Rattle.lw_laws.specs.Headline.{HasLeastArrival}
 use Rattle.lw_laws.proofs.PatternExamples.{exprs}
 use Rattle.lw_laws.proofs.EncodingTests.{PassesTests}
 use Rattle.lw_laws.proofs.PotentialTests.{PassesLabelTests}
+use Rattle.lw_laws.proofs.ClassLaws.{encoding_is_graph}
 use Rattle.lw_laws.proofs.MappingTests.{labelled_least, tested}
 
 abbrev y : Option Bool
@@ -180,3 +183,21 @@ xor_arrives_by_cell =
     labelled_least 6 xor_2 graph_x (patterns_of with_xor) xor_delays cap xor_labels (tested 6 (lit≤ tt) xor_2 graph_x [] encoded_x (patterns_of with_xor) xor_delays cap xor_labels xor_bounded refl (lit< tt)) 2 1900000 (lit< tt) refl
     (gate (pattern 3 (nand (nand (leaf 0) (inv (leaf 1))) (nand (inv (leaf 0)) (leaf 1)))) (two_pins (wire 0) (wire 1)))
     ((4, lit< tt, refl), refl, (tt, (tt, tt))) tree_x refl
+
+-- the graph of the three-input And is that of its forms, with these numbers of classes
+written_3 : IsWritten 8 3 graph_3
+written_3 = record {
+  form_count = refl;
+  leaf_count = refl;
+  numbered = inl (refl, inl (refl, inl (refl, inl (refl, inl (refl, inl (refl, inl (refl, inl (refl, tt))))))));
+  class_count = refl;
+  rising = λ c. rows_rise graph_3.pairs c (tt, (tt, (tt, (tt, (tt, (tt, (tt, (tt, (tt, ((lit≤ tt, tt, tt), (tt, ((lit≤ tt, tt, tt), (tt, ((lit≤ tt, tt, tt), (tt, ((lit≤ tt, (inl (lit< tt), (inl (lit< tt), tt)), (lit≤ tt, (inl (lit< tt), tt), (lit≤ tt, tt, tt))), tt))))))))))))))));
+}
+  where
+    rows_rise : (rows : List (List Pair)) (c : ℕ) → AllByRecursion AreRising rows → AreRising (slice_index_or rows c [])
+    rows_rise [] c a = tt
+    rows_rise (r ∷ rows) ℕ.zero (p, a) = p
+    rows_rise (r ∷ rows) (ℕ.suc c) (p, a) = rows_rise rows c a
+
+pub and_3_graph : IsGraphOf plain 3 (listing_of 6 and_3) graph_3
+and_3_graph = encoding_is_graph plain 6 and_3 graph_3 (lit≤ tt) labelled_3.encodes written_3

@@ -53,3 +53,17 @@ bracketings_3 = refl
 
 pub bracketings_4 : length (trees_of_expr (expr_and (exprs (a ∷ b ∷ c ∷ d ∷ [])))) ≡ 5
 bracketings_4 = refl
+
+-- three of the four operands of an And with two bracketings each make 40, and four of them 80, which is too many
+abbrev or_3 : Expr
+or_3 = expr_or (exprs (a ∷ b ∷ c ∷ []))
+
+pub forty : length (trees_of_expr (expr_and (exprs (or_3 ∷ or_3 ∷ or_3 ∷ d ∷ [])))) ≡ 40
+forty = refl
+
+pub eighty : length (trees_of_expr (expr_and (exprs (or_3 ∷ or_3 ∷ or_3 ∷ or_3 ∷ [])))) ≡ 1
+eighty = refl
+
+-- five operands take the left chain, the first operand's patterns varying slowest
+pub chain_5 : trees_of_expr (expr_and (exprs (a ∷ b ∷ c ∷ d ∷ expr_not (expr_and (exprs (a ∷ b ∷ c ∷ []))) ∷ []))) ≡ inv (nand (inv (nand (inv (nand (inv (nand (leaf 0) (leaf 1))) (leaf 2))) (leaf 3))) (nand (inv (nand (leaf 0) (leaf 1))) (leaf 2))) ∷ inv (nand (inv (nand (inv (nand (inv (nand (leaf 0) (leaf 1))) (leaf 2))) (leaf 3))) (nand (leaf 0) (inv (nand (leaf 1) (leaf 2))))) ∷ []
+chain_5 = refl

@@ -7,7 +7,7 @@ use Rattle.lw_laws.specs.Forms.{Form}
 use Rattle.lw_laws.specs.Signals.{sop_at, signals_of}
 use Rattle.lw_laws.specs.Decompositions.{Listing, listing_of, HasTree}
 use Rattle.lw_laws.specs.Covers.{Pattern, Cover, tree_of, IsCover, time_of}
-use Rattle.lw_laws.specs.Netlists.{Netlist, CellTruth, AreNetlistValues, AreArrivals}
+use Rattle.lw_laws.specs.Netlists.{Netlist, AreOrdered, HaveCellPins, CellTruth, AreNetlistValues, AreArrivals}
 
 -- d is the least time of a cover of a tree that the form has
 pub record HasLeastTime (mode : Mode) (o : Listing) (pats : List Pattern) (delays : List (List ℕ)) (f : Form) (d : ℕ) : Type 0 where
@@ -36,9 +36,11 @@ pub record Ports : Type 0 where
   pub inputs : List (List ℕ)
   pub outputs : List Port
 
--- The mapped netlist has the network's ports, each output has the network's value for all values of the inputs, and
--- each output's arrival is the least.
+-- The mapped netlist is in order, its gates are cells of the library with a net for each pin, it has the network's ports,
+-- each output has the network's value for all values of the inputs, and each output's arrival is the least.
 pub record IsMapping (mode : Mode) (width : ℕ) (net : Network) (ports : Ports) (pats : List Pattern) (delays : List (List ℕ)) (truth : CellTruth) (n : Netlist) (mapped : Ports) : Type 0 where
+  pub ordered : AreOrdered n
+  pub cells : HaveCellPins (map length delays) n
   pub inputs : n.inputs ≡ net.inputs
   pub input_names : mapped.inputs ≡ ports.inputs
   pub output_names : AllZip (λ p q. p.name ≡ q.name) ports.outputs mapped.outputs

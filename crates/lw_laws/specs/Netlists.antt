@@ -2,7 +2,7 @@
 use Rattle.std.specs.Prelude.{ℕ, ◌+◌, ◌<◌, ◌≡◌, Bool, false, List, [], ◌∷◌, length, map, Some, slice_get, slice_index_or, Contains}
 use Rattle.std.specs.List.{AllByRecursion}
 use Rattle.lw_laws.specs.Trees.{tree_value}
-use Rattle.lw_laws.specs.Covers.{Pattern, Cover, Covers, latest, delays_of}
+use Rattle.lw_laws.specs.Covers.{Pattern, HasPins, Cover, Covers, latest, delays_of}
 use Rattle.lw_laws.specs.Covers.Cover.{wire, gate}
 use Rattle.lw_laws.specs.Covers.Covers.{no_covers, cover}
 
@@ -22,6 +22,10 @@ IsGate n j g = slice_get n.gates j ≡ Some g
 -- a gate's pins are nets before its own
 abbrev pub AreOrdered : Netlist → Type 0
 AreOrdered n = (j : ℕ) (g : Gate) → IsGate n j g → AllByRecursion (λ p. p < n.inputs + j) g.pins
+
+-- each gate has a net for each pin of its cell
+abbrev pub HaveCellPins : List ℕ → Netlist → Type 0
+HaveCellPins pin_counts n = (j : ℕ) (g : Gate) → IsGate n j g → HasPins pin_counts g.cell (length g.pins)
 
 -- the truth of each cell at the truths of its pins
 abbrev pub CellTruth : Type 0
