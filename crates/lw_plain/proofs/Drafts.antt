@@ -64,7 +64,7 @@ new-more seen (n ∷ names) name e absent =
 
 sign-row : (column : List ℕ) → is_sign column ≡ true → (column ≡ 49 ∷ []) ⊎ (column ≡ 48 ∷ [])
 sign-row column e = elim (cases_Bool (bytes_eq column (codes "1"))) [
-  inl one ↦ inl ((bytes_eq-Decides column (codes "1")).0 one)
+  | inl one ↦ inl ((bytes_eq-Decides column (codes "1")).0 one)
   | inr other ↦ inr ((bytes_eq-Decides column (codes "0")).0 (ap (λ b. b || bytes_eq column (codes "0")) (sym other) ∙ e))
 ]
 
@@ -167,7 +167,7 @@ one-more inputs nodes node before one =
 -- what is made of the front of some lines
 abbrev nodes_by : List (List ℕ) → List DraftNode → ℕ → Line → List Line → Front → Result (List DraftNode) ℕ
 nodes_by defined nodes n next others front = elim front [
-  End ↦ cond (is_over next others) (Ok nodes) (Err (n + 1))
+  | End ↦ cond (is_over next others) (Ok nodes) (Err (n + 1))
   | Other ↦ Err n
   | Cut ↦ Err (n + 1)
   | Bare node ↦ nodes_from (defined ++ node.out ∷ []) (nodes ++ node ∷ []) (n + 1) (next ∷ others)

@@ -103,7 +103,7 @@ unfoldable pub nodes_from : List (List ℕ) → List DraftNode → ℕ → List 
 nodes_from defined nodes n [] = Err n
 nodes_from defined nodes n (last ∷ []) = Err n
 nodes_from defined nodes n (first ∷ next ∷ others) = elim (front_of defined first next others) [
-  End ↦ if is_over next others then Ok nodes else Err (n + 1)
+  | End ↦ if is_over next others then Ok nodes else Err (n + 1)
   | Other ↦ Err n
   | Cut ↦ Err (n + 1)
   | Bare node ↦ nodes_from (defined ++ node.out ∷ []) (nodes ++ node ∷ []) (n + 1) (next ∷ others)

@@ -7,5 +7,4 @@ ghost use Rattle.lw_plain.specs.Shapes.{ArePlainNodes};
 /// The nodes that a plain text spells have one fan-in at most, and one row at most.
 pub fn spelled_nodes_are_plain()
     ensures { (bytes : List ℕ) (draft : Draft) → draft_of bytes ≡ Ok draft → ArePlainNodes draft.nodes }
-{
-}
+{}

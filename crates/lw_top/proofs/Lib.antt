@@ -2,3 +2,5 @@ pub mod Told
 pub mod Steps
 pub mod Prefix
 pub mod Comings
+pub mod Serving
+pub mod Whole

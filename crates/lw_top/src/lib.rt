@@ -6,3 +6,6 @@ mod outcome;
 mod reading;
 mod refusal;
 mod telling;
+mod top;
+
+pub use top::run;

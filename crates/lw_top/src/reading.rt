@@ -8,7 +8,6 @@ ghost use Rattle.lw_top.specs.Reading.{ReadsPiece, Reads};
 
 use crate::refusal::{Refusal, Which};
 use lw_io::{Failed, Shelf};
-
 use std::alloc::{AllocError, Global};
 
 /// The most bytes of a file.

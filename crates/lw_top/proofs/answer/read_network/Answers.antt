@@ -1,7 +1,8 @@
-use Rattle.std.proofs.Common.{◌≡◌, Ok, Err, subst}
+use Rattle.std.proofs.Common.{ℕ, List, Result, Ok, subst, ap, sym, ◌∙◌}
 use Rattle.std.proofs.lemmas.Result.{err_from_is_err_and}
 use Rattle.lw_io.specs.Files.{bytes_of}
 use Rattle.lw_top.specs.declared.refusal.Which.TheVariants as which
+use Rattle.lw_top.specs.declared.refusal.Refusal.{Refusal}
 use Rattle.lw_top.specs.Answers.{gives, followed_by, text_of, draft_in, Closes}
 use Rattle.lw_top.specs.Named.{Comes}
 use Rattle.lw_top.proofs.Steps.{refused, refused_later, answered, after_reading}
@@ -17,11 +18,9 @@ returns-in_err-bytes-clause-reads g c =
 pub returns-in_err-draft-clause-reads : goal.returns-in_err-draft-clause-reads
 returns-in_err-draft-clause-reads g c =
     let text = gives (text_of which.Network c.args.name.now) in
-    let bytes = c.in_ok-bytes.bytes.items in
+    let ok : List ℕ → Result (List ℕ) Refusal = λ b. Ok b in
     let p = err_from_is_err_and c.from_residual-in_err-draft.result c.from_residual-in_err-draft.ensures.1 in
-    let e = c.in_err-draft.field-0 in
-    let comes_to = subst (λ b. Comes (λ draft. draft) (gives (draft_in b)) (Err e)) c.deref.ensures.value c.in_err-draft.ensures.draft in
-    rw (p.1, p.2) (refused _ (followed_by text (λ bytes. gives (draft_in bytes))) Closes _ _ _ (refused_later _ text (λ bytes. gives (draft_in bytes)) _ _ _ bytes e c.read_file.ensures.later c.in_ok-bytes.ensures.reads (reason (λ draft. draft) _ _ _ (gives (draft_in bytes)) e comes_to)))
+    rw (p.1, p.2) (refused _ (followed_by text (λ bytes. gives (draft_in bytes))) Closes _ _ _ (refused_later _ text (λ bytes. gives (draft_in bytes)) _ _ _ c.deref.result.now _ c.read_file.ensures.later (λ files is. c.in_ok-bytes.ensures.reads files is ∙ ap ok (sym c.deref.ensures.value)) (reason (λ draft. draft) _ _ _ (gives (draft_in c.deref.result.now)) _ c.in_err-draft.ensures.draft)))
 
 pub returns-clause-reads : goal.returns-clause-reads
 returns-clause-reads g c =
