@@ -3,6 +3,7 @@ use lw_io::{Failed, FileList, MemShelf, MemSink, Shelf, write_all};
 use lw_net::{Cube, Cubes, Draft, DraftNode, DraftNodes, NetFault, Network, are_signs};
 use lw_pool::{Name, Names, Numbers};
 use std::alloc::{AllocError, Global};
+use std::process::Abort;
 use std::test::Fail;
 
 fn name(alloc: Global, text: &str) -> Result<Name, AllocError> {
@@ -127,40 +128,72 @@ fn values(alloc: Global, net: &Network, vector: &str) -> Result<String, AllocErr
     Ok(text)
 }
 
+// A draft is closed to these nets, or has this fault.
+fn closes(
+    rt: &impl Abort,
+    alloc: Global,
+    inputs: &str,
+    outputs: &str,
+    lines: &str,
+    wanted: &str,
+) -> Result<(), AllocError> {
+    let outcome = closed(alloc, inputs, outputs, lines);
+    let text = shown(alloc, &outcome)?;
+    assert!(rt; text.as_str() == wanted, "{text}");
+    Ok(())
+}
+
+// The outputs of a draft's network have these values.
+fn gives(
+    rt: &impl Abort,
+    alloc: Global,
+    lines: &str,
+    vector: &str,
+    wanted: &str,
+) -> Result<(), AllocError> {
+    if let Ok(net) = closed(alloc, "a b c", "f g", lines) {
+        let text = values(alloc, &net, vector)?;
+        assert!(rt; text.as_str() == wanted, "{text}");
+    } else {
+        assert!(rt; false, "no network");
+    }
+    Ok(())
+}
+
+// A shelf without files.
+#[tactic(auto, unfolding(std::specs::List::IsDistinct))]
+fn no_files(alloc: Global) -> MemShelf {
+    MemShelf::new(FileList::new(Vec::new(alloc)), Numbers::empty(alloc), 3)
+}
+
 #[test]
 fn drafts_are_closed(rt: HostRuntime) -> Result<(), Fail> {
-    let cases = [
-        ("", "f", "f f | 1", "cycle f"),
-        ("", "f", "", "undefined f"),
-        ("", "x", "f y | 1", "undefined y"),
-        ("a", "f", "f g | 1;g h | 1;h g | 1", "cycle g"),
-        ("a", "f", "f l r | 11;l m | 1;r a | 0;m a | 1", "a r m l f "),
-        ("", "f", "f c | 1;c", "c f "),
-        ("a", "a", "f a a | 1-", "a f "),
-    ];
-    for (inputs, outputs, lines, wanted) in cases {
-        let result = closed(rt.alloc(), inputs, outputs, lines);
-        assert_eq!(rt; shown(rt.alloc(), &result)?.as_str(), wanted);
-    }
+    let a = rt.alloc();
+    closes(&rt, a, "", "f", "f f | 1", "cycle f")?;
+    closes(&rt, a, "", "f", "", "undefined f")?;
+    closes(&rt, a, "", "x", "f y | 1", "undefined y")?;
+    closes(&rt, a, "a", "f", "f g | 1;g h | 1;h g | 1", "cycle g")?;
+    closes(
+        &rt,
+        a,
+        "a",
+        "f",
+        "f l r | 11;l m | 1;r a | 0;m a | 1",
+        "a r m l f ",
+    )?;
+    closes(&rt, a, "", "f", "f c | 1;c", "c f ")?;
+    closes(&rt, a, "a", "a", "f a a | 1-", "a f ")?;
     Ok(())
 }
 
 #[test]
 fn nets_have_values(rt: HostRuntime) -> Result<(), Fail> {
-    let adder = "sum a b cin | 100 010 001 111;cout a b cin | 11- 1-1 -11";
-    let cases = [
-        ("a b cin", "sum cout", adder, "000", "00"),
-        ("a b cin", "sum cout", adder, "111", "11"),
-        ("a b cin", "sum cout", adder, "101", "01"),
-        ("a b", "f g h", "f a b | 11 off;g | off;h", "11", "010"),
-    ];
-    for (inputs, outputs, lines, vector, wanted) in cases {
-        if let Ok(net) = closed(rt.alloc(), inputs, outputs, lines) {
-            assert_eq!(rt; values(rt.alloc(), &net, vector)?.as_str(), wanted);
-        } else {
-            assert!(rt; false);
-        }
-    }
+    let a = rt.alloc();
+    let adder = "f a b c | 100 010 001 111;g a b c | 11- 1-1 -11";
+    gives(&rt, a, adder, "000", "00")?;
+    gives(&rt, a, adder, "111", "11")?;
+    gives(&rt, a, adder, "101", "01")?;
+    gives(&rt, a, "f a b | 11 off;g | off", "110", "01")?;
     Ok(())
 }
 
@@ -170,10 +203,10 @@ fn calls_fail_as_planned(rt: HostRuntime) -> Result<(), Fail> {
     let fail = Numbers::new(vec![in alloc; 2u32]?);
     let mut sink = MemSink::new(alloc, fail, 3, 5)?;
     assert!(rt; write_all(&mut sink, b"abcdef").is_err());
-    assert_eq!(rt; sink.taken(), b"abc".as_slice());
+    assert!(rt; sink.taken() == b"abc".as_slice());
     assert!(rt; write_all(&mut sink, b"dex").is_err());
-    assert_eq!(rt; sink.taken(), b"abcde".as_slice());
-    let mut shelf = MemShelf::new(FileList::new(Vec::new(alloc)), Numbers::empty(alloc), 3);
+    assert!(rt; sink.taken() == b"abcde".as_slice());
+    let mut shelf = no_files(alloc);
     assert!(rt; shelf.open("IN") == Err(Failed));
     Ok(())
 }
