@@ -1,7 +1,7 @@
 -- A network whose nodes stand by depth.
-use Rattle.std.proofs.Common.{◌≡◌, ℕ, zero, suc, ◌+◌, ◌-◌, ◌<◌, ◌≤◌, ◌⊎◌, inl, inr, max, List, [], ◌∷◌, ◌++◌, length, map, get_or, slice_get, Option, Some, None, Contains, All, refl, sym, ap, ap₂, subst, ◌∙◌, arith, length-append}
-use Rattle.std.proofs.lemmas.List.{get_or_default, get_or-map, length-map, get_or-append_right, get_or_append_left}
-use Rattle.std.proofs.lemmas.List.Elements.{All-map, All-weaker, All-contains, Contains-get_or}
+use Rattle.std.proofs.Common.{◌≡◌, ℕ, zero, suc, ◌+◌, ◌-◌, ◌<◌, ◌≤◌, ◌⊎◌, inl, inr, List, [], ◌∷◌, length, map, get_or, None, Contains, All, refl, sym, ap, subst, ◌∙◌, arith, length-append}
+use Rattle.std.proofs.lemmas.List.{get_or_default, get_or-map, length-map, get_or-append_right}
+use Rattle.std.proofs.lemmas.List.Elements.{All-map, All-weaker}
 use Rattle.std.proofs.lemmas.List.Sorted.{IsPermutation-append_right, IsPermutation-map, length_permutation, Contains-permutation, All-permutation}
 use Rattle.std.proofs.lemmas.Option.{slice_get_within, get_or_from_slice_get}
 use Rattle.std.proofs.lemmas.Bool.{cases_lt}
@@ -12,7 +12,7 @@ use Rattle.lw_pool.specs.declared.id.NetId.{NetId}
 use Rattle.lw_net.specs.declared.draft.Draft.{Draft}
 use Rattle.lw_net.specs.declared.draft.DraftNode.{DraftNode}
 use Rattle.lw_net.specs.declared.node.Node.{Node}
-use Rattle.lw_net.specs.Closing.{IsDraft, signals_of, out_of, fanins_of, number_in, net_in, undefined_in, closed_node, network_in, AreDepths, greatest}
+use Rattle.lw_net.specs.Closing.{IsDraft, signals_of, out_of, fanins_of, number_in, net_in, undefined_in, closed_node, network_in, greatest}
 use Rattle.lw_net.specs.Networks.{IsNetwork, IsNodeAt, most_nets}
 use Rattle.lw_net.specs.Ordering.{AreRight, TellDepths}
 use Rattle.lw_net.proofs.Filling.{IsImage, image_at}

@@ -3,6 +3,7 @@ pub mod Filling
 pub mod Names
 pub mod Numbering
 pub mod Paths
+pub mod Rise
 pub mod Rising
 pub mod Searching
 pub mod Sorting

@@ -1,11 +1,11 @@
 -- Names that differ have numbers of their own.
-use Rattle.std.proofs.Common.{◌≡◌, ℕ, zero, suc, ◌+◌, ◌<◌, ◌≤◌, ◌⊎◌, inl, inr, Bool, true, false, not, ◌||◌, cond, unwrap_or, position, List, [], ◌∷◌, ◌++◌, length, map, get_or, find, Option, Some, None, nat_lt, Contains, All, refl, sym, ap, ap₂, subst, ◌∙◌, arith}
-use Rattle.std.proofs.lemmas.List.{get_or_default, get_or-map, length-map}
+use Rattle.std.proofs.Common.{◌≡◌, ℕ, zero, suc, ◌+◌, ◌<◌, ◌≤◌, Bool, true, false, not, ◌||◌, cond, unwrap_or, List, [], ◌∷◌, ◌++◌, length, get_or, Some, None, nat_lt, Contains, All, refl, sym, ap, subst, ◌∙◌, arith}
+use Rattle.std.proofs.lemmas.List.{get_or_default}
 use Rattle.std.proofs.lemmas.List.Sums.{sum_by-cons}
 use Rattle.std.proofs.lemmas.List.Sorted.{sum_by-IsPermutation}
 use Rattle.std.proofs.lemmas.Bool.{false≢true}
 use Rattle.std.proofs.lemmas.Bool.Decides.{nat_tests}
-use Rattle.std.specs.List.{list_any, flat_map, IsDistinct, AllByRecursion, position_or_len, sum_by}
+use Rattle.std.specs.List.{IsDistinct, AllByRecursion, position_or_len, sum_by}
 use Rattle.std.specs.List.Sorted.{IsPermutation}
 use Rattle.std.specs.Str.{bytes_eq}
 use Rattle.lw_net.specs.Closing.{is_among, undefined_in, number_in}

@@ -1,7 +1,7 @@
 -- A draft, and the same by numbers.
-use Rattle.std.proofs.Common.{◌≡◌, ℕ, zero, suc, ◌+◌, ◌-◌, ◌<◌, ◌≤◌, ◌⊎◌, inl, inr, max, Bool, true, List, [], ◌∷◌, ◌++◌, length, map, take, drop, get_or, slice_get, Option, Some, None, Contains, All, refl, sym, ap, ap₂, subst, ◌∙◌, arith, length-append}
+use Rattle.std.proofs.Common.{◌≡◌, ℕ, zero, suc, ◌+◌, ◌-◌, ◌<◌, ◌≤◌, ◌⊎◌, inl, inr, true, List, [], ◌∷◌, length, map, take, drop, get_or, slice_get, Some, None, Contains, All, refl, sym, ap, subst, ◌∙◌, arith, length-append}
 use Rattle.std.proofs.lemmas.List.{get_or_default, get_or-map, length-map, get_or-append_right, get_or_append_left, get_or_past, get_or-drop, length-drop, take_rest}
-use Rattle.std.proofs.lemmas.List.Elements.{All-map, All-weaker, Contains-get_or, All-contains}
+use Rattle.std.proofs.lemmas.List.Elements.{All-map, All-weaker, Contains-get_or}
 use Rattle.std.proofs.lemmas.Option.{slice_get-get_or, get_or_from_slice_get, slice_get_within}
 use Rattle.std.proofs.lemmas.Bool.{cases_lt}
 use Rattle.std.specs.List.{flat_map, IsDistinct}
@@ -13,11 +13,10 @@ use Rattle.lw_net.specs.declared.fault.NetFault.TheVariants.{Undefined, Cycle, M
 use Rattle.lw_net.proofs.Names.{undefined_first, undefined_later}
 use Rattle.lw_net.specs.Closing.{HasFault, signals_of, out_of, fanins_of, number_in, undefined_in, first_undefined, Reaches, HasNoCycle, IsFirstOnCycle, AreDepths, greatest}
 use Rattle.lw_net.specs.Closing.Reaches.{by_fanin, by_path}
-use Rattle.lw_net.specs.Numbered.{TellsUndefined, numbered, IsGraph, fanins_at, height_at, tallest, IsPlaced, AreKnown, AreHeights, Leads, IsFirst}
+use Rattle.lw_net.specs.Numbered.{TellsUndefined, numbered, IsGraph, fanins_at, height_at, tallest, AreKnown, AreHeights, Leads, IsFirst}
 use Rattle.lw_net.specs.Numbered.Leads.{one_step, then_path}
-use Rattle.lw_net.specs.Ordering.{TellDepths, AreRight}
-use Rattle.lw_net.proofs.Numbering.{number_at, number_of, number_below, name_again, none_undefined, none_split}
-use Rattle.lw_net.proofs.Rising.{contains_none}
+use Rattle.lw_net.specs.Ordering.{AreRight}
+use Rattle.lw_net.proofs.Numbering.{number_at, number_below, name_again, none_undefined, none_split}
 use Rattle.lw_net.proofs.Searching.{placed_no_cycle, in_graph}
 
 abbrev pub bare : DraftNode
@@ -214,20 +213,20 @@ module _ (draft : Draft) (distinct : IsDistinct bytes_eq (signals_of draft)) (no
             ∙ (ap (λ h. h - 1) (get_or-drop m heights k 0) ∙ sym (at_node k lt)))
 
 -- the first undefined name is a fan-in, or else an output
-pub fault_in_fanins : (draft : Draft) (signals : List (List ℕ)) (fault : NetFault) → signals ≡ signals_of draft → TellsUndefined signals (flat_map fanins_of draft.nodes) fault → HasFault draft fault
-fault_in_fanins draft signals (Undefined name) is e = undefined_first (signals_of draft) (flat_map fanins_of draft.nodes) draft.outputs (Undefined name) (subst (λ l. TellsUndefined l (flat_map fanins_of draft.nodes) (Undefined name)) is e)
-fault_in_fanins draft signals (Cycle name) is e = absurd e
-fault_in_fanins draft signals Memory is e = tt
+pub fault_in_fanins : (draft : Draft) (given : List (List ℕ)) (fault : NetFault) → given ≡ signals_of draft → TellsUndefined given (flat_map fanins_of draft.nodes) fault → HasFault draft fault
+fault_in_fanins draft given (Undefined name) is e = undefined_first (signals_of draft) (flat_map fanins_of draft.nodes) draft.outputs (Undefined name) (subst (λ l. TellsUndefined l (flat_map fanins_of draft.nodes) (Undefined name)) is e)
+fault_in_fanins draft given (Cycle name) is e = absurd e
+fault_in_fanins draft given Memory is e = tt
 
-pub fault_in_outputs : (draft : Draft) (signals : List (List ℕ)) (fault : NetFault) → signals ≡ signals_of draft → undefined_in signals (flat_map fanins_of draft.nodes) ≡ None → TellsUndefined signals draft.outputs fault → HasFault draft fault
-fault_in_outputs draft signals (Undefined name) is none e =
+pub fault_in_outputs : (draft : Draft) (given : List (List ℕ)) (fault : NetFault) → given ≡ signals_of draft → undefined_in given (flat_map fanins_of draft.nodes) ≡ None → TellsUndefined given draft.outputs fault → HasFault draft fault
+fault_in_outputs draft given (Undefined name) is none e =
     undefined_later (signals_of draft) (flat_map fanins_of draft.nodes) draft.outputs (subst (λ l. undefined_in l (flat_map fanins_of draft.nodes) ≡ None) is none)
     ∙ subst (λ l. undefined_in l draft.outputs ≡ Some name) is e
-fault_in_outputs draft signals (Cycle name) is none e = absurd e
-fault_in_outputs draft signals Memory is none e = tt
+fault_in_outputs draft given (Cycle name) is none e = absurd e
+fault_in_outputs draft given Memory is none e = tt
 
-pub nothing_undefined : (draft : Draft) (signals : List (List ℕ)) → signals ≡ signals_of draft → undefined_in signals (flat_map fanins_of draft.nodes) ≡ None → undefined_in signals draft.outputs ≡ None → first_undefined draft ≡ None
-nothing_undefined draft signals is none e =
+pub nothing_undefined : (draft : Draft) (given : List (List ℕ)) → given ≡ signals_of draft → undefined_in given (flat_map fanins_of draft.nodes) ≡ None → undefined_in given draft.outputs ≡ None → first_undefined draft ≡ None
+nothing_undefined draft given is none e =
     undefined_later (signals_of draft) (flat_map fanins_of draft.nodes) draft.outputs (subst (λ l. undefined_in l (flat_map fanins_of draft.nodes) ≡ None) is none)
     ∙ subst (λ l. undefined_in l draft.outputs ≡ None) is e
 

@@ -1,5 +1,5 @@
 -- Nodes and their depths.
-use Rattle.std.specs.Prelude.{ℕ, ◌+◌, ◌-◌, ◌<◌, ◌≤◌, ◌≡◌, None, All, List, [], ◌∷◌, length, slice_index_or}
+use Rattle.std.specs.Prelude.{ℕ, ◌<◌, ◌≤◌, ◌≡◌, None, All, List, length, slice_index_or}
 use Rattle.lw_net.specs.declared.draft.Draft.{Draft}
 use Rattle.lw_net.specs.declared.draft.DraftNode.{DraftNode}
 use Rattle.lw_net.specs.Closing.{first_undefined, HasNoCycle, AreDepths}

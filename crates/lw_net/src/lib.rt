@@ -15,4 +15,4 @@ mod order;
 pub use draft::{Draft, DraftNode, DraftNodes};
 pub use fault::NetFault;
 pub use network::Network;
-pub use node::{Cube, Cubes, Node, Nodes};
+pub use node::{Cube, Cubes, Node, Nodes, are_signs};

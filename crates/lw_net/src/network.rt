@@ -35,7 +35,7 @@ impl Network {
     ghost use Rattle.std.specs.Str.{bytes_eq};
     ghost use Rattle.lw_net.specs.Closing.{IsDraft, IsClosed, HasFault, signals_of, network_in};
     ghost use Rattle.lw_net.specs.Networks.{most_nets};
-    ghost use Rattle.lw_laws.specs.Networks.{AreValues, given};
+    ghost use Rattle.lw_laws.specs.Networks.{AreValues, IsInOrder, given};
     ghost use Rattle.lw_net.specs.Networks.{IsNetwork};
     ghost use Rattle.lw_net.specs.Plain.{plain};
 
@@ -66,6 +66,7 @@ impl Network {
     pub fn nodes(&self) -> &[Node]
         ensures nodes { result.now ≡ self.now.nodes }
         ensures kept { IsNetwork self.now }
+        ensures in_order { IsInOrder (plain self.now) }
     {
         self.nodes.as_slice()
     }

@@ -3,3 +3,5 @@
 
 #[cfg(test)]
 mod decimals;
+#[cfg(test)]
+mod nets;
