@@ -1,0 +1,9 @@
+pub mod AtEnd
+pub mod Behind
+pub mod Fitting
+pub mod GatheredMore
+pub mod GatheredWords
+pub mod Stands
+pub mod Trimming
+pub mod Weights
+pub mod WordsAt

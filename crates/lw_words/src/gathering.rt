@@ -1,0 +1,111 @@
+// The words of a line, byte by byte.
+ghost use Rattle.std.specs.Prelude.{◌≡◌, ◌≢◌, ◌<◌, ◌≤◌, ◌+◌, ℕ, IfOk, OnOk};
+
+use crate::{Line, Words};
+use std::alloc::{AllocError, Global};
+use std::marker::Model;
+use std::mem;
+
+/// The words of a line that is being read.
+#[derive(Debug, Drop)]
+pub struct Gathering {
+    bytes: Vec<u8>,
+    ends: Vec<usize>,
+    start: usize,
+    long: bool,
+}
+
+impl Model for Gathering {
+    ghost use Rattle.std.specs.Prelude.{length, drop};
+    ghost use Rattle.lw_words.specs.Gathering.{Gathered, IsGathered, IsKept};
+    ghost use Rattle.lw_words.specs.Arenas.{words_at};
+
+    ghost Value = { Gathered };
+
+    ghost view = { λ g. record {
+      words = words_at 0 g.bytes.items g.ends.items;
+      last = drop g.start g.bytes.items;
+      long = g.long;
+    } };
+
+    ghost invariant = { λ g. IsKept g.bytes.items g.ends.items g.start g.long };
+}
+
+impl Gathering {
+    ghost use Rattle.std.specs.Prelude.{◌≡◌, ◌≢◌, [], IfOk, OnOk};
+    ghost use Rattle.lw_words.specs.Lines.{is_blank};
+    ghost use Rattle.lw_words.specs.Gathering.{IsInk, IsNoHash, nothing_gathered, mark_gathered, with_byte, ended, line_gathered};
+
+    pub fn new(alloc: Global) -> Self
+        ensures { result ≡ nothing_gathered }
+    {
+        Gathering {
+            bytes: Vec::new(alloc),
+            ends: Vec::new(alloc),
+            start: 0,
+            long: false,
+        }
+    }
+
+    /// The word `#@` alone.
+    pub fn mark(alloc: Global) -> Result<Self, AllocError>
+        ensures { IfOk result (λ g. g ≡ mark_gathered) }
+    {
+        let bytes = Vec::from_slice(alloc, b"#@")?;
+        let ends = vec![in alloc; 2]?;
+        Ok(Gathering {
+            bytes,
+            ends,
+            start: 2,
+            long: false,
+        })
+    }
+
+    /// One more byte of the word.
+    pub fn push(&mut self, b: u8) -> Result<(), AllocError>
+        requires ink { IsInk b }
+        requires no_hash { IsNoHash b }
+        ensures { OnOk result (self.new ≡ with_byte b self.old) }
+    {
+        if self.bytes.len() - self.start < 4095 {
+            self.bytes.push(b)?;
+        } else {
+            self.long = true;
+        }
+        Ok(())
+    }
+
+    /// The word ends, if there is one.
+    pub fn end_word(&mut self) -> Result<(), AllocError>
+        ensures { OnOk result (self.new ≡ ended self.old) }
+    {
+        let end = self.bytes.len();
+        if self.start < end {
+            self.ends.push(end)?;
+            self.start = end;
+        }
+        Ok(())
+    }
+
+    /// The line of these words, if there are some. Nothing is left.
+    pub fn take_line(&mut self, alloc: Global, number: u32) -> Option<Line>
+        requires { self.old.last ≡ [] }
+        ensures line { result ≡ line_gathered number self.old }
+        ensures rest { self.new ≡ nothing_gathered }
+    {
+        if self.ends.is_empty() {
+            return None;
+        }
+        let Gathering {
+            bytes,
+            ends,
+            long,
+            ..
+        } = mem::replace(self, Gathering::new(alloc));
+        Some(Line {
+            number,
+            long,
+            words: Words::new(bytes, ends),
+        })
+    }
+}
