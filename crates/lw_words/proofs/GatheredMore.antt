@@ -1,14 +1,14 @@
 -- What is gathered grows.
-use Rattle.std.proofs.Common.{ℕ, ◌-◌, ◌<◌, ◌≡◌, Bool, true, false, cond, Some, None, ltb, List, [], ◌∷◌, ◌++◌, length, drop, refl, ap, sym, ◌∙◌, arith, length-append}
+use Rattle.std.proofs.Common.{ℕ, zero, suc, ◌+◌, ◌-◌, ◌<◌, ◌≤◌, ◌≡◌, Bool, true, false, cond, Some, None, ltb, List, [], ◌∷◌, ◌++◌, length, take, drop, refl, ap, sym, ◌∙◌, arith, length-append, append_assoc, append-nil}
 use Rattle.std.specs.Prelude.{All}
 use Rattle.std.specs.List.{slice_range}
 use Rattle.std.specs.Str.{bytes_eq}
-use Rattle.std.proofs.lemmas.Bool.{lt-ltb}
-use Rattle.std.proofs.lemmas.List.{drop-append-le, length-drop, take_all, drop_all}
-use Rattle.std.proofs.lemmas.List.Elements.{All-push, All-nil, All-cons}
+use Rattle.std.proofs.lemmas.Bool.{lt-ltb, le-ltb}
+use Rattle.std.proofs.lemmas.List.{drop-append-le, length-drop, length-take, take_all, drop_all}
+use Rattle.std.proofs.lemmas.List.Elements.{All-append, All-take, All-push, All-nil, All-cons}
 use Rattle.lw_words.specs.Lines.{has_some}
 use Rattle.lw_words.specs.Arenas.{words_at, last_end}
-use Rattle.lw_words.specs.Gathering.{Gathered, with_byte, ended, IsInk, IsNoHash, IsWord, HasNoHash, IsGathered, IsKept, IsLine, line_gathered}
+use Rattle.lw_words.specs.Gathering.{Gathered, with_byte, with_bytes, ended, IsInk, IsNoHash, IsWord, HasNoHash, IsGathered, IsKept, IsLine, line_gathered}
 use Rattle.lw_words.proofs.WordsAt.{AreEnds-more, AreEnds-push, last_end-push, words_at-push, words_at-append, length-words_at}
 
 has_some-length : {A : Type 0} (xs : List A) → 0 < length xs → has_some xs ≡ true
@@ -18,36 +18,88 @@ has_some-length (x ∷ xs) some = refl
 abbrev pub gathered : List ℕ → List ℕ → ℕ → Bool → Gathered
 gathered bytes ends start long = record { words = words_at 0 bytes ends; last = drop start bytes; long = long }
 
+-- more bytes of the last word
+pub gathered-append : (bytes ends : List ℕ) (start : ℕ) (long : Bool) (more : List ℕ) → IsKept bytes ends start long → gathered (bytes ++ more) ends start long ≡ record { words = words_at 0 bytes ends; last = drop start bytes ++ more; long = long }
+gathered-append bytes ends start long more h =
+    ap (λ ws. record { words = ws; last = drop start (bytes ++ more); long = long }) (words_at-append 0 bytes more ends h.are_ends)
+    ∙ ap (λ l. record { words = words_at 0 bytes ends; last = l; long = long }) (drop-append-le start bytes more h.within)
+
 pub gathered-push : (bytes ends : List ℕ) (start : ℕ) (long : Bool) (b : ℕ) → IsKept bytes ends start long → length bytes - start < 4095 → gathered (bytes ++ b ∷ []) ends start long ≡ with_byte b (gathered bytes ends start long)
 gathered-push bytes ends start long b h few =
     let short : ltb (length (drop start bytes)) 4095 ≡ true = lt-ltb _ _ (omega (arith, length-drop start bytes)) in
-    let words = words_at-append 0 bytes (b ∷ []) ends h.are_ends in
-    let last = drop-append-le start bytes (b ∷ []) h.within in
-    ap (λ ws. record { words = ws; last = drop start (bytes ++ b ∷ []); long = long }) words
-    ∙ (ap (λ l. record { words = words_at 0 bytes ends; last = l; long = long }) last
-    ∙ sym (ap (λ t. cond t (record { words = words_at 0 bytes ends; last = drop start bytes ++ b ∷ []; long = long }) (record { words = words_at 0 bytes ends; last = drop start bytes; long = true })) short))
+    gathered-append bytes ends start long (b ∷ []) h
+    ∙ sym (ap (λ t. cond t (record { words = words_at 0 bytes ends; last = drop start bytes ++ b ∷ []; long = long }) (record { words = words_at 0 bytes ends; last = drop start bytes; long = true })) short)
 
-IsGathered-push : (words : List (List ℕ)) (last : List ℕ) (long : Bool) (b : ℕ) → IsGathered (record { words = words; last = last; long = long }) → length last < 4095 → IsInk b → IsNoHash b → IsGathered (record { words = words; last = last ++ b ∷ []; long = long })
-IsGathered-push words last long b h few ink plain = record {
+IsGathered-append : (words : List (List ℕ)) (last : List ℕ) (long : Bool) (more : List ℕ) → IsGathered (record { words = words; last = last; long = long }) → length last + length more ≤ 4095 → All IsInk more → All IsNoHash more → IsGathered (record { words = words; last = last ++ more; long = long })
+IsGathered-append words last long more h few ink plain = record {
   are_words = h.are_words;
   no_hash = h.no_hash;
-  few = omega (arith, length-append last (b ∷ []));
-  ink = All-push IsInk last b h.ink ink;
-  plain = All-push IsNoHash last b h.plain plain;
-  cut = λ e. omega (arith, h.cut e, length-append last (b ∷ []));
+  few = omega (arith, length-append last more);
+  ink = All-append IsInk last more h.ink ink;
+  plain = All-append IsNoHash last more h.plain plain;
+  cut = λ e. omega (arith, h.cut e, length-append last more);
 }
 
-pub IsKept-push : (bytes ends : List ℕ) (start : ℕ) (long : Bool) (b : ℕ) → IsKept bytes ends start long → length bytes - start < 4095 → IsInk b → IsNoHash b → IsKept (bytes ++ b ∷ []) ends start long
-IsKept-push bytes ends start long b h few ink plain =
-    let longer = length-append bytes (b ∷ []) in
+pub IsKept-append : (bytes ends : List ℕ) (start : ℕ) (long : Bool) (more : List ℕ) → IsKept bytes ends start long → length bytes - start + length more ≤ 4095 → All IsInk more → All IsNoHash more → IsKept (bytes ++ more) ends start long
+IsKept-append bytes ends start long more h few ink plain =
+    let longer = length-append bytes more in
     record {
-      are_ends = AreEnds-more 0 (length bytes) (length (bytes ++ b ∷ [])) ends (omega arith) h.are_ends;
+      are_ends = AreEnds-more 0 (length bytes) (length (bytes ++ more)) ends (omega arith) h.are_ends;
       is_start = h.is_start;
       within = omega (arith, h.within);
       gathered =
-          rw (words_at-append 0 bytes (b ∷ []) ends h.are_ends, drop-append-le start bytes (b ∷ []) h.within)
-          (IsGathered-push _ _ long b h.gathered (omega (arith, length-drop start bytes)) ink plain);
+        rw (words_at-append 0 bytes more ends h.are_ends, drop-append-le start bytes more h.within)
+        (IsGathered-append _ _ long more h.gathered (omega (arith, length-drop start bytes)) ink plain);
     }
+
+pub IsKept-push : (bytes ends : List ℕ) (start : ℕ) (long : Bool) (b : ℕ) → IsKept bytes ends start long → length bytes - start < 4095 → IsInk b → IsNoHash b → IsKept (bytes ++ b ∷ []) ends start long
+IsKept-push bytes ends start long b h few ink plain =
+    IsKept-append bytes ends start long (b ∷ []) h (omega arith) (All-cons IsInk b [] ink (All-nil IsInk)) (All-cons IsNoHash b [] plain (All-nil IsNoHash))
+
+-- a word that is cut has some bytes
+pub IsKept-long : (bytes ends : List ℕ) (start : ℕ) (long : Bool) → IsKept bytes ends start long → 4095 ≤ length bytes - start → IsKept bytes ends start true
+IsKept-long bytes ends start long h full = record {
+  are_ends = h.are_ends;
+  is_start = h.is_start;
+  within = h.within;
+  gathered = record {
+    are_words = h.gathered.are_words;
+    no_hash = h.gathered.no_hash;
+    few = h.gathered.few;
+    ink = h.gathered.ink;
+    plain = h.gathered.plain;
+    cut = λ e. omega (arith, length-drop start bytes);
+  };
+}
+
+-- Bytes for which there is room, and bytes for which there is none.
+
+pub with_bytes-short : (words : List (List ℕ)) (last : List ℕ) (long : Bool) (more : List ℕ) → length last + length more ≤ 4095 → with_bytes more (record { words = words; last = last; long = long }) ≡ record { words = words; last = last ++ more; long = long }
+with_bytes-short words last long [] few = ap (λ l. record { words = words; last = l; long = long }) (sym (append-nil last))
+with_bytes-short words last long (b ∷ more) few =
+    let short : ltb (length last) 4095 ≡ true = lt-ltb _ _ (omega arith) in
+    ap (λ t. with_bytes more (cond t (record { words = words; last = last ++ b ∷ []; long = long }) (record { words = words; last = last; long = true }))) short
+    ∙ (with_bytes-short words (last ++ b ∷ []) long more (omega (arith, length-append last (b ∷ [])))
+    ∙ ap (λ l. record { words = words; last = l; long = long }) (append_assoc last (b ∷ []) more))
+
+with_bytes-full : (words : List (List ℕ)) (last : List ℕ) (more : List ℕ) → 4095 ≤ length last → with_bytes more (record { words = words; last = last; long = true }) ≡ record { words = words; last = last; long = true }
+with_bytes-full words last [] full = refl
+with_bytes-full words last (b ∷ more) full =
+    let over : ltb (length last) 4095 ≡ false = le-ltb _ _ full in
+    ap (λ t. with_bytes more (cond t (record { words = words; last = last ++ b ∷ []; long = true }) (record { words = words; last = last; long = true }))) over
+    ∙ with_bytes-full words last more full
+
+pub with_bytes-long : (room : ℕ) (words : List (List ℕ)) (last : List ℕ) (long : Bool) (more : List ℕ) → length last + room ≡ 4095 → room < length more → with_bytes more (record { words = words; last = last; long = long }) ≡ record { words = words; last = last ++ take room more; long = true }
+with_bytes-long room words last long [] is over = absurd (omega arith)
+with_bytes-long zero words last long (b ∷ more) is over =
+    let full : ltb (length last) 4095 ≡ false = le-ltb _ _ (omega arith) in
+    ap (λ t. with_bytes more (cond t (record { words = words; last = last ++ b ∷ []; long = long }) (record { words = words; last = last; long = true }))) full
+    ∙ (with_bytes-full words last more (omega arith) ∙ ap (λ l. record { words = words; last = l; long = true }) (sym (append-nil last)))
+with_bytes-long (suc room) words last long (b ∷ more) is over =
+    let short : ltb (length last) 4095 ≡ true = lt-ltb _ _ (omega arith) in
+    ap (λ t. with_bytes more (cond t (record { words = words; last = last ++ b ∷ []; long = long }) (record { words = words; last = last; long = true }))) short
+    ∙ (with_bytes-long room words (last ++ b ∷ []) long more (omega (arith, length-append last (b ∷ []))) (omega arith)
+    ∙ ap (λ l. record { words = words; last = l; long = true }) (append_assoc last (b ∷ []) (take room more)))
 
 -- a word without `#` keeps this
 HasNoHash-push : (words : List (List ℕ)) (word : List ℕ) → HasNoHash words → All IsNoHash word → HasNoHash (words ++ word ∷ [])
@@ -109,3 +161,26 @@ pub line-gathered : (bytes ends : List ℕ) (start : ℕ) (long : Bool) (number 
 line-gathered bytes ends start long number some =
     let is = has_some-length (words_at 0 bytes ends) (omega (arith, length-words_at 0 bytes ends)) in
     sym (ap (λ t. cond t (Some (record { number = number; long = long; words = words_at 0 bytes ends })) None) is)
+
+-- bytes for which there is room
+pub gathered-short : (bytes ends : List ℕ) (start : ℕ) (long : Bool) (more : List ℕ) → IsKept bytes ends start long → length bytes - start + length more ≤ 4095 → gathered (bytes ++ more) ends start long ≡ with_bytes more (gathered bytes ends start long)
+gathered-short bytes ends start long more h few =
+    gathered-append bytes ends start long more h
+    ∙ sym (with_bytes-short (words_at 0 bytes ends) (drop start bytes) long more (omega (arith, length-drop start bytes)))
+
+-- bytes for which there is none
+pub gathered-long : (bytes ends : List ℕ) (start : ℕ) (long : Bool) (more : List ℕ) (room : ℕ) → IsKept bytes ends start long → length bytes - start + room ≡ 4095 → room < length more → gathered (bytes ++ take room more) ends start true ≡ with_bytes more (gathered bytes ends start long)
+gathered-long bytes ends start long more room h is over =
+    ap (λ (g : Gathered). record { words = g.words; last = g.last; long = true }) (gathered-append bytes ends start long (take room more) h)
+    ∙ sym (with_bytes-long room (words_at 0 bytes ends) (drop start bytes) long more (omega (arith, length-drop start bytes)) over)
+
+pub IsKept-cut : (bytes ends : List ℕ) (start : ℕ) (long : Bool) (more : List ℕ) (room : ℕ) → IsKept bytes ends start long → length bytes - start + room ≡ 4095 → room < length more → All IsInk more → All IsNoHash more → IsKept (bytes ++ take room more) ends start true
+IsKept-cut bytes ends start long more room h is over ink plain =
+    let few = length-take room more in
+    let longer = length-append bytes (take room more) in
+    IsKept-long (bytes ++ take room more) ends start long
+      (IsKept-append bytes ends start long (take room more) h (omega arith) (All-take IsInk room more ink) (All-take IsNoHash room more plain))
+      (omega arith)
+
+pub IsKept-few : (bytes ends : List ℕ) (start : ℕ) (long : Bool) → IsKept bytes ends start long → length bytes - start ≤ 4095
+IsKept-few bytes ends start long h = omega (arith, h.gathered.few, length-drop start bytes)

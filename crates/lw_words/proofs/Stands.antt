@@ -45,20 +45,20 @@ stands-new lines h =
     }
 
 -- the lines finished with one more byte
-finished-byte : (marked : Bool) (fed : List ℕ) (number at : ℕ) (place : Place) (g : Gathered) (b : ℕ) → IsReading marked (unfinished marked fed) number at place g → finished_lines marked (fed ++ b ∷ []) ≡ finished_lines marked fed ++ next_lines place b number g
+pub finished-byte : (marked : Bool) (fed : List ℕ) (number at : ℕ) (place : Place) (g : Gathered) (b : ℕ) → IsReading marked (unfinished marked fed) number at place g → finished_lines marked (fed ++ b ∷ []) ≡ finished_lines marked fed ++ next_lines place b number g
 finished-byte marked fed number at place g b h =
     finished_lines-are marked (fed ++ b ∷ [])
     ∙ (ap (λ (u : Unfinished). lines_of u.done) (unfinished-byte marked fed b)
     ∙ (done-byte marked (unfinished marked fed) number at place g b h
     ∙ ap (λ ls. ls ++ next_lines place b number g) (sym (finished_lines-are marked fed))))
 
-reading-next : (marked : Bool) (fed : List ℕ) (number at : ℕ) (place : Place) (g : Gathered) (b : ℕ) → IsReading marked (unfinished marked fed) number at place g →
+pub reading-next : (marked : Bool) (fed : List ℕ) (number at : ℕ) (place : Place) (g : Gathered) (b : ℕ) → IsReading marked (unfinished marked fed) number at place g →
     IsReading marked (unfinished marked (fed ++ b ∷ [])) (next_number place b at number) (next_at b at) (next_place marked place b) (next_gathered place b g)
 reading-next marked fed number at place g b h =
     subst (λ (u : Unfinished). IsReading marked u (next_number place b at number) (next_at b at) (next_place marked place b) (next_gathered place b g)) (sym (unfinished-byte marked fed b))
     (reading-byte marked (unfinished marked fed) number at place g b h)
 
-same-reading : (marked marked' : Bool) (fed : List ℕ) (number number' at at' : ℕ) (place place' : Place) (g g' : Gathered) → marked' ≡ marked → number' ≡ number → at' ≡ at → place' ≡ place → g' ≡ g →
+pub same-reading : (marked marked' : Bool) (fed : List ℕ) (number number' at at' : ℕ) (place place' : Place) (g g' : Gathered) → marked' ≡ marked → number' ≡ number → at' ≡ at → place' ≡ place → g' ≡ g →
     IsReading marked (unfinished marked fed) number at place g → IsReading marked' (unfinished marked' fed) number' at' place' g'
 same-reading marked marked' fed number number' at at' place place' g g' em en ea ep eg h =
     subst (λ (m : Bool). IsReading m (unfinished m fed) number' at' place' g') (sym em)
@@ -67,7 +67,7 @@ same-reading marked marked' fed number number' at at' place place' g g' em en ea
     (subst (λ (p : Place). IsReading marked (unfinished marked fed) number at p g') (sym ep)
     (subst (λ (m : Gathered). IsReading marked (unfinished marked fed) number at place m) (sym eg) h))))
 
-so_far-open : (lines : Lines) (fed : List ℕ) → lines.finished ≡ false → lines_so_far lines fed ≡ finished_lines lines.marked fed
+pub so_far-open : (lines : Lines) (fed : List ℕ) → lines.finished ≡ false → lines_so_far lines fed ≡ finished_lines lines.marked fed
 so_far-open lines fed e = ap (λ t. cond t (logical_lines lines.marked fed) (finished_lines lines.marked fed)) e
 
 so_far-all : (lines : Lines) (fed : List ℕ) → lines.finished ≡ true → lines_so_far lines fed ≡ logical_lines lines.marked fed

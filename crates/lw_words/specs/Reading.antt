@@ -1,5 +1,5 @@
 -- What has been read of a text whose end is still to come.
-use Rattle.std.specs.Prelude.{ℕ, ◌+◌, ◌≡◌, Bool, true, false, ◌&&◌, ◌==◌, List, [], ◌∷◌, ◌++◌, if◌then◌else◌, option_to_list}
+use Rattle.std.specs.Prelude.{ℕ, ◌+◌, ◌≡◌, Bool, true, false, ◌&&◌, ◌==◌, List, [], ◌∷◌, ◌++◌, if◌then◌else◌, option_to_list, ⊤}
 use Rattle.lw_words.specs.declared.place.Place.{Place}
 use Rattle.lw_words.specs.declared.place.Place.TheVariants.{Start, Hash, Mark, Text, Stroke, Gap, Comment, ContinuedComment}
 use Rattle.lw_words.specs.Lines as lines
@@ -48,6 +48,11 @@ gathered_after Stroke b g = over_stroke b g (with_byte 92 g)
 gathered_after Gap b g = over_stroke b g (ended (with_byte 92 g))
 gathered_after Comment b g = g
 gathered_after ContinuedComment b g = g
+
+abbrev pub IsComment : Place → Type 0
+IsComment Comment = ⊤
+IsComment ContinuedComment = ⊤
+IsComment other = ⊥
 
 -- At the end of a physical line.
 

@@ -6,6 +6,9 @@ use std::alloc::{AllocError, Global};
 use std::marker::Model;
 use std::mem;
 
+/// A word is cut to so many bytes.
+const WORD_MAX: usize = 4095;
+
 /// The words of a line that is being read.
 #[derive(Debug, Drop)]
 pub struct Gathering {
@@ -32,9 +35,8 @@ impl Model for Gathering {
 }
 
 impl Gathering {
-    ghost use Rattle.std.specs.Prelude.{◌≡◌, ◌≢◌, [], IfOk, OnOk};
-    ghost use Rattle.lw_words.specs.Lines.{is_blank};
-    ghost use Rattle.lw_words.specs.Gathering.{IsInk, IsNoHash, nothing_gathered, mark_gathered, with_byte, ended, line_gathered};
+    ghost use Rattle.std.specs.Prelude.{◌≡◌, [], All, IfOk, OnOk};
+    ghost use Rattle.lw_words.specs.Gathering.{IsInk, IsNoHash, nothing_gathered, mark_gathered, with_byte, with_bytes, ended, line_gathered};
 
     pub fn new(alloc: Global) -> Self
         ensures { result ≡ nothing_gathered }
@@ -67,10 +69,38 @@ impl Gathering {
         requires no_hash { IsNoHash b }
         ensures { OnOk result (self.new ≡ with_byte b self.old) }
     {
-        if self.bytes.len() - self.start < 4095 {
+        if self.bytes.len() - self.start < WORD_MAX {
             self.bytes.push(b)?;
         } else {
             self.long = true;
+        }
+        Ok(())
+    }
+
+    /// More bytes of the word.
+    pub fn push_all(&mut self, bytes: &[u8]) -> Result<(), AllocError>
+        requires ink { All IsInk bytes.now }
+        requires no_hash { All IsNoHash bytes.now }
+        ensures { OnOk result (self.new ≡ with_bytes bytes.now self.old) }
+    {
+        self.make_room()?;
+        let room = WORD_MAX - (self.bytes.len() - self.start);
+        if bytes.len() <= room {
+            self.bytes.extend_from_slice(bytes)?;
+            return Ok(());
+        }
+        self.bytes.extend_from_slice(&bytes[..room])?;
+        self.long = true;
+        Ok(())
+    }
+
+    // Room for the words of a common line.
+    fn make_room(&mut self) -> Result<(), AllocError>
+        ensures { self.new ≡ self.old }
+    {
+        if self.bytes.is_empty() {
+            self.bytes.reserve(64)?;
+            self.ends.reserve(8)?;
         }
         Ok(())
     }

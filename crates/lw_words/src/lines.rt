@@ -1,10 +1,10 @@
 // Lines of the bytes that are fed.
-ghost use Rattle.std.specs.Prelude.{◌≡◌, ◌+◌, ◌≤◌, ◌<◌, false, true, [], ◌++◌, List, ℕ, length, OnOk, slice_get, option_to_list};
+ghost use Rattle.std.specs.Prelude.{◌≡◌, ◌+◌, ◌≤◌, ◌<◌, false, true, [], ◌++◌, List, ℕ, length, take, OnOk, IfOk, slice_get, option_to_list};
 
 use crate::gathering::Gathering;
 use crate::line::Line;
 use crate::place::Place;
-use crate::reading::{over_byte, over_end};
+use crate::reading::{comment_len, ink_len, over_byte, over_end};
 use std::alloc::{AllocError, Global};
 use std::collections::VecDeque;
 
@@ -28,7 +28,8 @@ pub struct Lines {
 }
 
 impl Lines {
-    ghost use Rattle.lw_words.specs.Standing.{StandsFor, ReadsByte, EndsLine, PutsLine, is_marked, is_finished, fed_count, lines_so_far};
+    ghost use Rattle.lw_words.specs.Reading.{IsComment};
+    ghost use Rattle.lw_words.specs.Standing.{StandsFor, ReadsByte, EndsLine, PutsLine, ReadsAll, is_marked, is_finished, fed_count, lines_so_far};
 
     /// In the marked reading a `#@` that begins a line is kept.
     pub fn new(alloc: Global, marked: bool) -> Self
@@ -59,8 +60,9 @@ impl Lines {
         ensures unfinished { OnOk result (is_finished self.new ≡ false) }
         ensures marked { OnOk result (is_marked self.new ≡ is_marked self.old) }
     {
-        for b in piece {
-            self.read(*b)?;
+        let mut at = 0;
+        while at < piece.len() {
+            at += self.read_some(&piece[at..])?;
         }
         Ok(())
     }
@@ -89,6 +91,60 @@ impl Lines {
         ensures marked { is_marked self.new ≡ is_marked self.old }
     {
         self.ready.pop_front()
+    }
+
+    // Some of these bytes, and how many.
+    fn read_some(&mut self, bytes: &[u8]) -> Result<usize, AllocError>
+        requires some { 0 < length bytes.now }
+        requires room { self.old.fed + length bytes.now ≤ 67108865 }
+        ensures some { IfOk result (λ n. 0 < n) }
+        ensures within { IfOk result (λ n. n ≤ length bytes.now) }
+        ensures reads { IfOk result (λ n. ReadsAll self.old (take n bytes.now) self.new) }
+    {
+        let n = self.read_run(bytes)?;
+        if n < bytes.len() {
+            self.read(bytes[n])?;
+            return Ok(n + 1);
+        }
+        Ok(n)
+    }
+
+    // The bytes before the first that needs a look at its own, and how many.
+    fn read_run(&mut self, bytes: &[u8]) -> Result<usize, AllocError>
+        requires { self.old.fed + length bytes.now ≤ 67108865 }
+        ensures within { IfOk result (λ n. n ≤ length bytes.now) }
+        ensures reads { IfOk result (λ n. ReadsAll self.old (take n bytes.now) self.new) }
+    {
+        match self.place {
+            Place::Text => self.read_ink(bytes),
+            Place::Comment | Place::ContinuedComment => Ok(self.skip_comment(bytes)),
+            _ => Ok(0),
+        }
+    }
+
+    // The bytes of a word.
+    fn read_ink(&mut self, bytes: &[u8]) -> Result<usize, AllocError>
+        requires text { self.old.place ≡ Place.Text }
+        requires room { self.old.fed + length bytes.now ≤ 67108865 }
+        ensures within { IfOk result (λ n. n ≤ length bytes.now) }
+        ensures reads { IfOk result (λ n. ReadsAll self.old (take n bytes.now) self.new) }
+    {
+        let n = ink_len(bytes);
+        self.gathering.push_all(&bytes[..n])?;
+        self.fed += n as u32;
+        Ok(n)
+    }
+
+    // The bytes of a comment.
+    fn skip_comment(&mut self, bytes: &[u8]) -> usize
+        requires comment { IsComment self.old.place }
+        requires room { self.old.fed + length bytes.now ≤ 67108865 }
+        ensures within { result ≤ length bytes.now }
+        ensures reads { ReadsAll self.old (take result bytes.now) self.new }
+    {
+        let n = comment_len(bytes);
+        self.fed += n as u32;
+        n
     }
 
     // One more byte.

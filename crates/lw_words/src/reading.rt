@@ -1,7 +1,7 @@
 // The bytes of a physical line, one by one.
-ghost use Rattle.std.specs.Prelude.{◌≡◌, ◌≢◌, false, IfOk, OnOk, ◌==◌};
+ghost use Rattle.std.specs.Prelude.{◌≡◌, ◌≢◌, ◌≤◌, false, length, take, All, IsTrue, IfOk, OnOk};
 ghost use Rattle.lw_words.specs.Lines.{is_blank};
-ghost use Rattle.lw_words.specs.Gathering.{with_byte, ended};
+ghost use Rattle.lw_words.specs.Gathering.{with_byte, ended, IsInk, IsNoHash, IsNoStroke};
 ghost use Rattle.lw_words.specs.Reading.{after_ink, after_text, after_stroke, place_after, with_ink, over_text, over_stroke, gathered_after, gathered_at_end};
 
 use crate::gathering::Gathering;
@@ -14,6 +14,40 @@ fn is_blank(b: u8) -> bool
     ensures { result ≡ is_blank b }
 {
     b == b' ' || b == b'\t' || b == b'\r' || b == 12
+}
+
+fn is_ink(b: u8) -> bool
+    ensures { IsTrue result → (IsInk b × IsNoHash b × IsNoStroke b) }
+{
+    !is_blank(b) && b != b'\n' && b != b'#' && b != STROKE
+}
+
+/// How many bytes stand before the first blank, line feed, `#` or `\`.
+pub fn ink_len(bytes: &[u8]) -> usize
+    ensures within { result ≤ length bytes.now }
+    ensures ink { All IsInk (take result bytes.now) }
+    ensures no_hash { All IsNoHash (take result bytes.now) }
+    ensures no_stroke { All IsNoStroke (take result bytes.now) }
+{
+    for (i, b) in bytes.iter().enumerate() {
+        if !is_ink(*b) {
+            return i;
+        }
+    }
+    bytes.len()
+}
+
+/// How many bytes stand before the first line feed.
+pub fn comment_len(bytes: &[u8]) -> usize
+    ensures within { result ≤ length bytes.now }
+    ensures no_line_feed { All (λ b. b ≢ 10) (take result bytes.now) }
+{
+    for (i, b) in bytes.iter().enumerate() {
+        if *b == b'\n' {
+            return i;
+        }
+    }
+    bytes.len()
 }
 
 // Over a byte that is no blank, no line feed and no `#`.
