@@ -48,8 +48,8 @@ IsKept-append bytes ends start long more h few ink plain =
       is_start = h.is_start;
       within = omega (arith, h.within);
       gathered =
-        rw (words_at-append 0 bytes more ends h.are_ends, drop-append-le start bytes more h.within)
-        (IsGathered-append _ _ long more h.gathered (omega (arith, length-drop start bytes)) ink plain);
+          rw (words_at-append 0 bytes more ends h.are_ends, drop-append-le start bytes more h.within)
+          (IsGathered-append _ _ long more h.gathered (omega (arith, length-drop start bytes)) ink plain);
     }
 
 pub IsKept-push : (bytes ends : List ℕ) (start : ℕ) (long : Bool) (b : ℕ) → IsKept bytes ends start long → length bytes - start < 4095 → IsInk b → IsNoHash b → IsKept (bytes ++ b ∷ []) ends start long
@@ -179,8 +179,8 @@ IsKept-cut bytes ends start long more room h is over ink plain =
     let few = length-take room more in
     let longer = length-append bytes (take room more) in
     IsKept-long (bytes ++ take room more) ends start long
-      (IsKept-append bytes ends start long (take room more) h (omega arith) (All-take IsInk room more ink) (All-take IsNoHash room more plain))
-      (omega arith)
+    (IsKept-append bytes ends start long (take room more) h (omega arith) (All-take IsInk room more ink) (All-take IsNoHash room more plain))
+    (omega arith)
 
 pub IsKept-few : (bytes ends : List ℕ) (start : ℕ) (long : Bool) → IsKept bytes ends start long → length bytes - start ≤ 4095
 IsKept-few bytes ends start long h = omega (arith, h.gathered.few, length-drop start bytes)

@@ -3,6 +3,7 @@ pub mod Behind
 pub mod Fitting
 pub mod GatheredMore
 pub mod GatheredWords
+pub mod LineExamples
 pub mod Stands
 pub mod Steady
 pub mod Trimming

@@ -33,14 +33,14 @@ record Kept (marked : Bool) (fed run : List ℕ) (number at : ℕ) (p : Place) (
 keeps-byte : (marked : Bool) (fed : List ℕ) (number at : ℕ) (p : Place) (f : ℕ → Gathered → Gathered) (g : Gathered) (b : ℕ) → Steady p f b → IsReading marked (unfinished marked fed) number at p g → Kept marked fed (b ∷ []) number at p (f b g)
 keeps-byte marked fed number at p f g b s h = record {
   reading = same-reading marked marked (fed ++ b ∷ []) _ number _ at _ p _ (f b g) refl
-    (sym (ap (λ t. cond t (cond (goes_on p) number (at + 1)) number) s.no_end))
-    (sym (ap (λ t. cond t (at + 1) at) s.no_end))
-    (sym (ap (λ t. cond t (cond (goes_on p) Text (first_place marked)) (place_after p b)) s.no_end ∙ s.stays))
-    (sym (ap (λ t. cond t (cond (goes_on p) (gathered_at_end p g) (record { words = []; last = []; long = false })) (gathered_after p b g)) s.no_end ∙ s.grows g))
-    (reading-next marked fed number at p g b h);
+      (sym (ap (λ t. cond t (cond (goes_on p) number (at + 1)) number) s.no_end))
+      (sym (ap (λ t. cond t (at + 1) at) s.no_end))
+      (sym (ap (λ t. cond t (cond (goes_on p) Text (first_place marked)) (place_after p b)) s.no_end ∙ s.stays))
+      (sym (ap (λ t. cond t (cond (goes_on p) (gathered_at_end p g) (record { words = []; last = []; long = false })) (gathered_after p b g)) s.no_end ∙ s.grows g))
+      (reading-next marked fed number at p g b h);
   lines =
-    finished-byte marked fed number at p g b h
-    ∙ (ap (λ t. finished_lines marked fed ++ cond t (cond (goes_on p) [] (ended_lines number p g)) []) s.no_end ∙ append-nil (finished_lines marked fed));
+      finished-byte marked fed number at p g b h
+      ∙ (ap (λ t. finished_lines marked fed ++ cond t (cond (goes_on p) [] (ended_lines number p g)) []) s.no_end ∙ append-nil (finished_lines marked fed));
 }
 
 keeps : (marked : Bool) (fed run : List ℕ) (number at : ℕ) (p : Place) (f : ℕ → Gathered → Gathered) (g : Gathered) → AreSteady p f run → IsReading marked (unfinished marked fed) number at p g → Kept marked fed run number at p (over f run g)
@@ -72,8 +72,8 @@ stands-run : (old new : Lines) (f : ℕ → Gathered → Gathered) (run fed : Li
 stands-run old new f run fed taken r s still h =
     let k = keeps old.marked fed run old.number old.at old.place f old.gathering s (h.open_line still) in
     let same : lines_so_far new (fed ++ run) ≡ lines_so_far old fed =
-        so_far-open new (fed ++ run) (r.finished ∙ still)
-        ∙ (ap (λ m. finished_lines m (fed ++ run)) r.marked ∙ (k.lines ∙ sym (so_far-open old fed still))) in
+    so_far-open new (fed ++ run) (r.finished ∙ still)
+    ∙ (ap (λ m. finished_lines m (fed ++ run)) r.marked ∙ (k.lines ∙ sym (so_far-open old fed still))) in
     record {
       count = omega (arith, r.fed, h.count, length-append fed run);
       within = omega (arith, h.within, ap length same);
@@ -111,9 +111,10 @@ steady-ink b ink hash stroke =
 
 all-ink : (run : List ℕ) → All IsInk run → All IsNoHash run → All IsNoStroke run → AreSteady Text with_byte run
 all-ink [] ink hash stroke = tt
-all-ink (b ∷ run) ink hash stroke =
-    (steady-ink b (All-head IsInk b run ink) (All-head IsNoHash b run hash) (All-head IsNoStroke b run stroke),
-      all-ink run (All-tail IsInk b run ink) (All-tail IsNoHash b run hash) (All-tail IsNoStroke b run stroke))
+all-ink (b ∷ run) ink hash stroke = (
+  steady-ink b (All-head IsInk b run ink) (All-head IsNoHash b run hash) (All-head IsNoStroke b run stroke),
+  all-ink run (All-tail IsInk b run ink) (All-tail IsNoHash b run hash) (All-tail IsNoStroke b run stroke),
+)
 
 over-bytes : (run : List ℕ) (g : Gathered) → with_bytes run g ≡ over with_byte run g
 over-bytes [] g = refl
@@ -122,8 +123,8 @@ over-bytes (b ∷ run) g = over-bytes run (with_byte b g)
 pub reads-ink : (old new : Lines) (run : List ℕ) → ReadsRun old run (with_bytes run old.gathering) new → old.place ≡ Text → All IsInk run → All IsNoHash run → All IsNoStroke run → ReadsAll old run new
 reads-ink old new run r text ink hash stroke =
     reads-run old new with_byte run
-      (subst (λ (g : Gathered). ReadsRun old run g new) (over-bytes run old.gathering) r)
-      (subst (λ (p : Place). AreSteady p with_byte run) (sym text) (all-ink run ink hash stroke))
+    (subst (λ (g : Gathered). ReadsRun old run g new) (over-bytes run old.gathering) r)
+    (subst (λ (p : Place). AreSteady p with_byte run) (sym text) (all-ink run ink hash stroke))
 
 -- The bytes of a comment.
 
@@ -143,8 +144,8 @@ over-none (b ∷ run) g = over-none run g
 pub reads-comment : (old new : Lines) (run : List ℕ) → ReadsRun old run old.gathering new → IsComment old.place → All (λ b. b ≢ 10) run → ReadsAll old run new
 reads-comment old new run r is none =
     reads-run old new (λ n g. g) run
-      (subst (λ (g : Gathered). ReadsRun old run g new) (over-none run old.gathering) r)
-      (all-comment old.place run is none)
+    (subst (λ (g : Gathered). ReadsRun old run g new) (over-none run old.gathering) r)
+    (all-comment old.place run is none)
 
 -- no bytes
 pub reads-none : (lines : Lines) → ReadsAll lines [] lines
@@ -162,6 +163,6 @@ reads-more old mid new run b all before r whole = record {
   finished = r.finished ∙ before.finished;
   fed = omega (arith, r.fed, before.fed, ap length whole, length-append run (b ∷ []));
   stands = λ fed taken still h.
-    subst (λ (bs : List ℕ). StandsFor new bs taken) (append_assoc fed run (b ∷ []) ∙ ap (λ bs. fed ++ bs) (sym whole))
+      subst (λ (bs : List ℕ). StandsFor new bs taken) (append_assoc fed run (b ∷ []) ∙ ap (λ bs. fed ++ bs) (sym whole))
       (stands-byte mid new b (fed ++ run) taken r (before.finished ∙ still) (before.stands fed taken still h));
 }

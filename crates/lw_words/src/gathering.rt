@@ -95,17 +95,19 @@ impl Gathering {
     }
 
     // Room for the words of a common line.
+    #[inline(always)]
     fn make_room(&mut self) -> Result<(), AllocError>
         ensures { self.new ≡ self.old }
     {
         if self.bytes.is_empty() {
-            self.bytes.reserve(64)?;
-            self.ends.reserve(8)?;
+            self.bytes.reserve(32)?;
+            self.ends.reserve(4)?;
         }
         Ok(())
     }
 
     /// The word ends, if there is one.
+    #[inline(always)]
     pub fn end_word(&mut self) -> Result<(), AllocError>
         ensures { OnOk result (self.new ≡ ended self.old) }
     {

@@ -130,6 +130,9 @@ impl Lines {
         ensures reads { IfOk result (λ n. ReadsAll self.old (take n bytes.now) self.new) }
     {
         let n = ink_len(bytes);
+        if n == 0 {
+            return Ok(0);
+        }
         self.gathering.push_all(&bytes[..n])?;
         self.fed += n as u32;
         Ok(n)
@@ -161,6 +164,7 @@ impl Lines {
     }
 
     // The physical line ends.
+    #[inline(always)]
     fn end_line(&mut self) -> Result<(), AllocError>
         requires { self.old.at ≤ self.old.fed }
         ensures { OnOk result (EndsLine self.old self.new) }
@@ -182,6 +186,7 @@ impl Lines {
     }
 
     // The line that is gathered is finished.
+    #[inline(always)]
     fn put_line(&mut self) -> Result<(), AllocError>
         requires { self.old.gathering.last ≡ [] }
         ensures { OnOk result (PutsLine self.old self.new) }

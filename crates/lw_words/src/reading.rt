@@ -51,6 +51,7 @@ pub fn comment_len(bytes: &[u8]) -> usize
 }
 
 // Over a byte that is no blank, no line feed and no `#`.
+#[inline(always)]
 fn ink(gathering: &mut Gathering, b: u8) -> Result<Place, AllocError>
     requires blank { is_blank b ≡ false }
     requires line_feed { b ≢ 10 }
@@ -66,6 +67,7 @@ fn ink(gathering: &mut Gathering, b: u8) -> Result<Place, AllocError>
 }
 
 // Over a byte behind text that does not end in `\`.
+#[inline(always)]
 fn text(gathering: &mut Gathering, b: u8) -> Result<Place, AllocError>
     requires { b ≢ 10 }
     ensures place { IfOk result (λ p. p ≡ after_text b) }
@@ -127,6 +129,7 @@ fn mark(gathering: &mut Gathering, alloc: Global, b: u8) -> Result<Place, AllocE
 }
 
 /// Over a byte that is no line feed.
+#[inline(always)]
 pub fn over_byte(
     gathering: &mut Gathering,
     alloc: Global,
@@ -152,6 +155,7 @@ pub fn over_byte(
 }
 
 /// Over the end of a physical line.
+#[inline(always)]
 pub fn over_end(gathering: &mut Gathering, alloc: Global, place: Place) -> Result<(), AllocError>
     ensures { OnOk result (gathering.new ≡ gathered_at_end place gathering.old) }
 {

@@ -9,5 +9,5 @@ returns-clause-reads c =
     let len = length-take-le c.ink_len-n.result c.args.bytes.now c.ink_len-n.ensures.within in
     let pushed : c.push_all.new.self ≡ with_bytes (take c.ink_len-n.result c.args.bytes.now) c.args.self.now.gathering = c.in_ok-push_all.ensures in
     reads-ink c.args.self.now _ _
-      (record { marked = refl; finished = refl; fed = omega (arith, len); place = refl; gathering = pushed; number = refl; at = refl; ready = refl })
-      c.requires.text c.ink_len-n.ensures.ink c.ink_len-n.ensures.no_hash c.ink_len-n.ensures.no_stroke
+    (record { marked = refl; finished = refl; fed = omega (arith, len); place = refl; gathering = pushed; number = refl; at = refl; ready = refl })
+    c.requires.text c.ink_len-n.ensures.ink c.ink_len-n.ensures.no_hash c.ink_len-n.ensures.no_stroke
