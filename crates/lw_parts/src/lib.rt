@@ -1,0 +1,5 @@
+//! Tests of the layers' public calls.
+#![tactic(auto)]
+
+#[cfg(test)]
+mod lines;
