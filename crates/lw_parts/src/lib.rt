@@ -4,4 +4,6 @@
 #[cfg(test)]
 mod decimals;
 #[cfg(test)]
+mod lines;
+#[cfg(test)]
 mod nets;

@@ -1,0 +1,195 @@
+// Logical lines of small texts, in every cutting.
+ghost use Rattle.std.specs.Prelude.{◌≡◌, ◌≤◌, false, length, IfOk, OnOk};
+ghost use Rattle.lw_words.specs.Standing.{is_finished, fed_count};
+
+use lw_words::{Line, Lines, Words};
+use std::alloc::{AllocError, Global};
+use std::process::Abort;
+use std::test::Fail;
+
+/// A text, and its lines: the number and the words of each, with one blank between them.
+type Case<'a> = (&'a [u8], &'a [(u32, &'a str)]);
+
+// Takes all lines that are finished.
+fn collect(lines: &mut Lines, all: &mut Vec<Line>) -> Result<(), AllocError>
+    ensures finished { OnOk result (is_finished lines.new ≡ is_finished lines.old) }
+    ensures count { OnOk result (fed_count lines.new ≡ fed_count lines.old) }
+{
+    for _ in 0..100 {
+        match lines.take() {
+            Some(line) => all.push(line)?,
+            None => break,
+        }
+    }
+    Ok(())
+}
+
+// The lines of a text that is fed in three pieces, which end at these places.
+fn in_three(
+    alloc: Global,
+    marked: bool,
+    text: &[u8],
+    first: usize,
+    second: usize,
+) -> Result<Vec<Line>, AllocError>
+    requires order { first ≤ second }
+    requires within { second ≤ length text.now }
+    requires small { length text.now ≤ 1000 }
+{
+    let mut all = Vec::new(alloc);
+    let mut lines = Lines::new(alloc, marked);
+    lines.feed(&text[..first])?;
+    collect(&mut lines, &mut all)?;
+    lines.feed(&text[first..second])?;
+    lines.feed(&text[second..])?;
+    collect(&mut lines, &mut all)?;
+    lines.finish()?;
+    collect(&mut lines, &mut all)?;
+    Ok(all)
+}
+
+// The lines of a text that is fed byte by byte.
+fn by_bytes(alloc: Global, marked: bool, text: &[u8]) -> Result<Vec<Line>, AllocError>
+    requires { length text.now ≤ 1000 }
+{
+    let mut all = Vec::new(alloc);
+    let mut lines = Lines::new(alloc, marked);
+    for i in 0..text.len() {
+        lines.feed(&text[i..i + 1])?;
+        collect(&mut lines, &mut all)?;
+    }
+    lines.finish()?;
+    collect(&mut lines, &mut all)?;
+    Ok(all)
+}
+
+// The words with one blank between them.
+fn joined(alloc: Global, words: &Words) -> Result<Vec<u8>, AllocError> {
+    let mut text = Vec::new(alloc);
+    for i in 0..words.len() {
+        if i > 0 {
+            text.push(b' ')?;
+        }
+        text.extend_from_slice(words.get(i))?;
+    }
+    Ok(text)
+}
+
+fn are(alloc: Global, lines: &[Line], expected: &[(u32, &str)]) -> Result<bool, AllocError> {
+    for (line, (number, text)) in lines.iter().zip(expected) {
+        let words = joined(alloc, &line.words)?;
+        if line.number != *number || line.long || words.as_slice() != text.as_bytes() {
+            return Ok(false);
+        }
+    }
+    Ok(lines.len() == expected.len())
+}
+
+// Tries every cutting in three pieces, and single bytes.
+fn try_cuttings(rt: &impl Abort, alloc: Global, marked: bool, case: Case<'_>) -> Result<(), Fail> {
+    let (text, expected) = case;
+    if text.len() > 1000 {
+        return Err(Fail::from("the text is small"));
+    }
+    for second in 0..text.len() + 1 {
+        for first in 0..second + 1 {
+            let lines = in_three(alloc, marked, text, first, second)?;
+            assert!(rt;
+                are(alloc, &lines, expected)?,
+                "pieces to {first}, {second} and the end"
+            );
+        }
+    }
+    let lines = by_bytes(alloc, marked, text)?;
+    assert!(rt; are(alloc, &lines, expected)?, "single bytes");
+    Ok(())
+}
+
+#[test]
+fn a_network_is_cut_into_lines(rt: HostRuntime) -> Result<(), Fail> {
+    let plain: &[(u32, &str)] = &[
+        (1, ".model and3"),
+        (2, ".inputs a b c"),
+        (3, ".outputs f"),
+        (4, ".names a b c f"),
+        (5, "111 1"),
+        (6, ".end"),
+    ];
+    let parted: &[(u32, &str)] = &[
+        (1, ".model and3"),
+        (2, ".inputs a b c"),
+        (4, ".outputs f"),
+        (5, ".names a b c f"),
+        (6, "111 1"),
+        (7, ".end"),
+    ];
+    let cases: [Case<'_>; 6] = [
+        (
+            b".model and3\n.inputs a b c\n.outputs f\n.names a b c f\n111 1\n.end\n",
+            plain,
+        ),
+        (
+            b".model and3\r\n.inputs a b c\r\n.outputs f\r\n.names a b c f\r\n111 1\r\n.end\r\n",
+            plain,
+        ),
+        (
+            b".model and3\n.inputs a b c # in \\\n.outputs f\n.names a b c f\n111 1\n.end\n",
+            plain,
+        ),
+        (
+            b".model and3\n.inputs a \\\nb c\n.outputs f\n.names a b c f\n111 1\n.end\n",
+            parted,
+        ),
+        (
+            b".model and3\n.inputs a b c\n.outputs f\n.names a b c f\n111 1\n.end",
+            plain,
+        ),
+        (
+            b".model and3\n.inputs a b c\n.outputs f\n.names a b c f\n111 1\n",
+            &plain[..5],
+        ),
+    ];
+    for case in cases {
+        try_cuttings(&rt, rt.alloc(), false, case)?;
+    }
+    Ok(())
+}
+
+#[test]
+fn marks_are_kept(rt: HostRuntime) -> Result<(), Fail> {
+    let cases: [(bool, Case<'_>); 4] = [
+        (
+            true,
+            (
+                b"#@ net n1 15 # x\n#@\n#@x\na \\\n#@ b\n#@",
+                &[(1, "#@ net n1 15"), (2, "#@"), (4, "a"), (6, "#@")],
+            ),
+        ),
+        (false, (b"#@ net n1 15\n#@\na #@\n", &[(3, "a")])),
+        (true, (b"a\\b\\ c\\\\ # d\ne\\", &[(1, "a\\b\\ c\\ e")])),
+        (true, (b"\n \t\\\n\x0c\n # a\n", &[])),
+    ];
+    for (marked, case) in cases {
+        try_cuttings(&rt, rt.alloc(), marked, case)?;
+    }
+    Ok(())
+}
+
+#[test]
+fn a_long_word_is_cut(rt: HostRuntime) -> Result<(), Fail> {
+    let alloc = rt.alloc();
+    for (len, kept, long) in [(4095, 4095, false), (4096, 4095, true), (9000, 4095, true)] {
+        let word = vec![in alloc; b'w'; len]?;
+        let mut lines = Lines::new(alloc, false);
+        lines.feed(&word)?;
+        lines.feed(b" x")?;
+        lines.finish()?;
+        let Some(line) = lines.take() else {
+            return Err(Fail::from("there is a line"));
+        };
+        assert_eq!(&rt; line.long, long);
+        assert_eq!(&rt; line.words.len(), 2);
+        assert_eq!(&rt; joined(alloc, &line.words)?.len(), kept + 2);
+    }
+    Ok(())
+}

@@ -1,0 +1,11 @@
+pub mod AtEnd
+pub mod Behind
+pub mod Fitting
+pub mod GatheredMore
+pub mod GatheredWords
+pub mod LineExamples
+pub mod Stands
+pub mod Steady
+pub mod Trimming
+pub mod Weights
+pub mod WordsAt

@@ -1,0 +1,6 @@
+use Rattle.std.proofs.Common.{◌≢◌, take}
+use Rattle.std.specs.Prelude.{All}
+use Rattle.lw_words.proofs.reading.comment_len.Given as goal
+
+abbrev pub invariant-loop-i : goal.invariant-loop-i
+invariant-loop-i l = All (λ b. b ≢ 10) (take l.i l.bytes)

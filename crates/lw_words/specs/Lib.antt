@@ -1,0 +1,5 @@
+pub mod Arenas
+pub mod Gathering
+pub mod Lines
+pub mod Reading
+pub mod Standing

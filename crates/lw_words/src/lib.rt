@@ -1,0 +1,15 @@
+//! The logical lines of a text, whatever the pieces in which it comes.
+#![tactic(auto)]
+
+mod gathering;
+mod laws;
+mod line;
+mod lines;
+mod place;
+mod reading;
+mod words;
+
+pub use laws::{finished_lines_stay, words_fit};
+pub use line::Line;
+pub use lines::Lines;
+pub use words::Words;
