@@ -37,7 +37,7 @@ impl Network {
     ghost use Rattle.lw_net.specs.Networks.{most_nets};
     ghost use Rattle.lw_laws.specs.Networks.{AreValues, IsInOrder, given};
     ghost use Rattle.lw_net.specs.Networks.{IsNetwork};
-    ghost use Rattle.lw_net.specs.Plain.{plain};
+    ghost use Rattle.lw_net.specs.Plain.{plain, HasRisingDepths};
 
     /// The name of the model.
     pub fn model(&self) -> &Name
@@ -107,6 +107,7 @@ impl Network {
     pub fn close(alloc: Global, draft: Draft) -> Result<Network, NetFault>
         requires { IsDraft draft }
         ensures closed { IfOk result (IsClosed draft) }
+        ensures depths { IfOk result HasRisingDepths }
         ensures fault { IfErr result (HasFault draft) }
     {
         let graph = graph_of(alloc, &draft)?;

@@ -161,7 +161,6 @@ fn gives(
 }
 
 // A shelf without files.
-#[tactic(auto, unfolding(std::specs::List::IsDistinct))]
 fn no_files(alloc: Global) -> MemShelf {
     MemShelf::new(FileList::new(Vec::new(alloc)), Numbers::empty(alloc), 3)
 }

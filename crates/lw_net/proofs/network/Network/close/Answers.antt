@@ -1,4 +1,4 @@
-use Rattle.lw_net.proofs.Assembled.{of_order_distinct, of_order_few, of_order_kept}
+use Rattle.lw_net.proofs.Assembled.{of_order_distinct, of_order_few, of_order_kept, of_order_rises}
 use Rattle.lw_net.proofs.network.Network.close.Goals as goal
 
 pub of_ordered-requires-clause-distinct : goal.of_ordered-requires-clause-distinct
@@ -12,3 +12,7 @@ of_ordered-requires-clause-few c =
 pub of_ordered-requires-clause-kept : goal.of_ordered-requires-clause-kept
 of_ordered-requires-clause-kept c =
     of_order_kept c.args.draft c.in_ok-depths.depths.items c.deref-2.result.now c.in_ok-in_order.field-0.items c.from_vec-nodes.result c.requires c.in_ok-depths.ensures.right c.deref-2.ensures.value c.in_ok-in_order.ensures.permutation c.in_ok-in_order.ensures.rising c.from_vec-nodes.ensures
+
+pub returns-clause-depths : goal.returns-clause-depths
+returns-clause-depths c =
+    of_order_rises c.args.draft c.in_ok-depths.depths.items c.deref-2.result.now c.in_ok-in_order.field-0.items c.from_vec-nodes.result c.requires c.in_ok-depths.ensures.right c.deref-2.ensures.value c.in_ok-in_order.ensures.permutation c.in_ok-in_order.ensures.rising c.from_vec-nodes.ensures c.in_ok-network.network c.in_ok-network.ensures
