@@ -1,7 +1,5 @@
 // `map LIB IN` over shelves and sinks in memory.
-ghost use Rattle.std.specs.Prelude.{◌≡◌, ◌<◌, ◌≤◌, codes, IfOk};
-ghost use Rattle.std.specs.List.{IsDistinct};
-ghost use Rattle.std.specs.Str.{bytes_eq};
+ghost use Rattle.std.specs.Prelude.{◌≡◌, ◌≤◌, [], ◌∷◌, codes, IfOk};
 ghost use Rattle.lw_io.specs.Files.{names_of};
 
 use lw_io::{File, FileList, MemShelf, MemSink};
@@ -71,15 +69,22 @@ fn network(alloc: Global, bytes: &[u8]) -> Result<File, AllocError>
     })
 }
 
-#[tactic(auto, unfolding(std::specs::List::IsDistinct))]
-fn shelf(alloc: Global, row: Row<'_>, fails: &[u32], chunk: usize) -> Result<MemShelf, AllocError>
-    requires { 1 ≤ chunk }
+// Both files.
+fn files(alloc: Global, row: Row<'_>) -> Result<FileList, AllocError>
+    ensures { IfOk result (λ files. names_of files ≡ codes "LIB" ∷ codes "IN" ∷ []) }
 {
     let mut files = Vec::new(alloc);
     files.push(library(alloc, row.library)?)?;
     files.push(network(alloc, row.network)?)?;
+    Ok(FileList::new(files))
+}
+
+fn shelf(alloc: Global, row: Row<'_>, fails: &[u32], chunk: usize) -> Result<MemShelf, AllocError>
+    requires { 1 ≤ chunk }
+{
+    let files = files(alloc, row)?;
     let fails = Numbers::new(Vec::from_slice(alloc, fails)?);
-    Ok(MemShelf::new(FileList::new(files), fails, chunk))
+    Ok(MemShelf::new(files, fails, chunk))
 }
 
 fn words(alloc: Global, text: &str) -> Result<Vec<String>, AllocError> {
