@@ -1,0 +1,1 @@
+//! Laws over definitions: functions with empty bodies, whose clauses are the laws.
