@@ -11,14 +11,14 @@ use Rattle.lw_plain.specs.declared.drivers.Drivers.{Drivers}
 use Rattle.lw_plain.specs.Drivers.{is_one, is_zero, inverter_delay, faster, fastest_from, place_in, drivers_of}
 
 -- the first element that passes a test, and its place
-record IsFoundAt {X : Type 0} (t : X → Bool) (xs : List X) (from k : ℕ) : Type 0 where
-  at : ℕ
-  place : k ≡ from + at
-  item : X
-  listed : slice_get xs at ≡ Some item
-  passes : t item ≡ true
+pub record IsFoundAt {X : Type 0} (t : X → Bool) (xs : List X) (from k : ℕ) : Type 0 where
+  pub at : ℕ
+  pub place : k ≡ from + at
+  pub item : X
+  pub listed : slice_get xs at ≡ Some item
+  pub passes : t item ≡ true
 
-found_at : {X : Type 0} (t : X → Bool) (from : ℕ) (xs : List X) (k : ℕ) → position_from t from xs ≡ Some k → IsFoundAt t xs from k
+pub found_at : {X : Type 0} (t : X → Bool) (from : ℕ) (xs : List X) (k : ℕ) → position_from t from xs ≡ Some k → IsFoundAt t xs from k
 found_at t from [] k e = cc
 found_at t from (x ∷ xs) k e = by (t x) refl e (λ e. found_at t (from + 1) xs k e)
   where

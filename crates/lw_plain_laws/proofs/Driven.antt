@@ -99,6 +99,27 @@ module _ (d : Drivers) where
       by _ (kind_input i) e = (i, refl)
       by _ (kind_inverse i) e = absurd (inverted_input d.inverter (sym (at_inverse d i) ∙ e))
 
+  -- an inverter drives behind an input, or behind a lone cell
+  pub behind_source : (c k : ℕ) → driver_at d c ≡ Some (Inverted k) → (driver_at d (flip c) ≡ Some Input) ⊎ ((j : ℕ) × (driver_at d (flip c) ≡ Some (Alone j)))
+  unfolding flip
+  behind_source c k e = by c (kind_of c) e
+    where
+      by : (c : ℕ) → Kind c → driver_at d c ≡ Some (Inverted k) → (driver_at d (flip c) ≡ Some Input) ⊎ ((j : ℕ) × (driver_at d (flip c) ≡ Some (Alone j)))
+      by _ kind_true e = let r = inverted_other d.one d.zero d.inverter k (sym (at_true d) ∙ e) in inr (r.cell, at_false d ∙ r.source)
+      by _ kind_false e = let r = inverted_other d.zero d.one d.inverter k (sym (at_false d) ∙ e) in inr (r.cell, at_true d ∙ r.source)
+      by _ (kind_input i) e = let there = at_input d i in cc
+      by _ (kind_inverse i) e = inl (ap (driver_at d) (flip_inverse i) ∙ at_input d i)
+
+  -- the inverter that drives is the one of the drivers
+  inverter_there : (c k : ℕ) → driver_at d c ≡ Some (Inverted k) → d.inverter ≡ Some k
+  inverter_there c k e = by c (kind_of c) e
+    where
+      by : (c : ℕ) → Kind c → driver_at d c ≡ Some (Inverted k) → d.inverter ≡ Some k
+      by _ kind_true e = (inverted_other d.one d.zero d.inverter k (sym (at_true d) ∙ e)).by
+      by _ kind_false e = (inverted_other d.zero d.one d.inverter k (sym (at_false d) ∙ e)).by
+      by _ (kind_input i) e = let there = at_input d i in cc
+      by _ (kind_inverse i) e = inverted_only d.inverter k (sym (at_inverse d i) ∙ e)
+
 module _ (cells : List Cell) (d : Drivers) (best : ℕ) (right : AreRight cells d best) (n m : ℕ) where
   abbrev g : Graph
   g = graph_by n m
@@ -120,25 +141,15 @@ module _ (cells : List Cell) (d : Drivers) (best : ℕ) (right : AreRight cells 
       by _ (kind_input i) e = let there = at_input d i in cc
       by _ (kind_inverse i) e = absurd (alone_inverted d.inverter k (sym (at_inverse d i) ∙ e))
 
-  behind_by : (c k : ℕ) → d.inverter ≡ Some k → (driver_at d (flip c) ≡ Some Input) ⊎ ((j : ℕ) × (driver_at d (flip c) ≡ Some (Alone j))) → IsBehind cells d best g c k
-  behind_by c k e source =
-      let (its, has, delay) = right.inverter_is k e in
+  -- an inverter stands where it drives
+  pub behind : (c k : ℕ) → driver_at d c ≡ Some (Inverted k) → IsBehind cells d best g c k
+  behind c k e =
+      let (its, has, delay) = right.inverter_is k (inverter_there d c k e) in
       record {
         stands = cell_match cells g c k (flip c ∷ []) (cell_at cells g c k (flip c ∷ []) (Inverter its) has refl refl);
         delays = delays_at cells k has.cell has.listed ∙ (ap pin_delays has.is ∙ ap (λ t. t ∷ []) delay);
-        source = source;
+        source = behind_source d c k e;
       }
-
-  -- an inverter stands where it drives
-  pub behind : (c k : ℕ) → driver_at d c ≡ Some (Inverted k) → IsBehind cells d best g c k
-  unfolding flip
-  behind c k e = by c (kind_of c) e
-    where
-      by : (c : ℕ) → Kind c → driver_at d c ≡ Some (Inverted k) → IsBehind cells d best g c k
-      by _ kind_true e = let r = inverted_other d.one d.zero d.inverter k (sym (at_true d) ∙ e) in behind_by 0 k r.by (inr (r.cell, at_false d ∙ r.source))
-      by _ kind_false e = let r = inverted_other d.zero d.one d.inverter k (sym (at_false d) ∙ e) in behind_by 1 k r.by (inr (r.cell, at_true d ∙ r.source))
-      by _ (kind_input i) e = let there = at_input d i in cc
-      by _ (kind_inverse i) e = behind_by (3 + 2 * i) k (inverted_only d.inverter k (sym (at_inverse d i) ∙ e)) (inl (ap (driver_at d) (flip_inverse i) ∙ at_input d i))
 
   module _ (cap : ℕ) (low : best ≤ cap) where
     abbrev cost : Cost

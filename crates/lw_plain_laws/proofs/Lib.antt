@@ -6,3 +6,4 @@ pub mod PlainCells
 pub mod BestCells
 pub mod Driven
 pub mod PlainLabels
+pub mod PlainGates
