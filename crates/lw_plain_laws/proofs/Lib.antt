@@ -7,3 +7,4 @@ pub mod BestCells
 pub mod Driven
 pub mod PlainLabels
 pub mod PlainGates
+pub mod PlainNetlists
