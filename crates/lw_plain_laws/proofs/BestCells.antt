@@ -1,5 +1,5 @@
 -- The cells that drive: the first constants, and an inverter of the least delay.
-use Rattle.std.proofs.Common.{◌≡◌, ℕ, zero, suc, ◌+◌, ◌<◌, ◌≤◌, ◌⊎◌, inl, inr, Bool, true, false, cond, List, [], ◌∷◌, Option, Some, None, nat_lt, slice_get, refl, sym, ap, ◌∙◌, subst, arith}
+use Rattle.std.proofs.Common.{◌≡◌, ℕ, zero, suc, ◌+◌, ◌≤◌, ◌⊎◌, inl, inr, Bool, true, false, cond, List, [], ◌∷◌, Option, Some, None, nat_lt, slice_get, refl, sym, ap, ◌∙◌, subst, arith}
 use Rattle.std.proofs.lemmas.Bool.{ltb-true, ltb-false}
 use Rattle.std.specs.List.{position_from}
 use Rattle.lw_laws.proofs.Numbers.{Some_injective}
@@ -34,7 +34,6 @@ none_passes t from (y ∷ xs) k x none e passes = by (t y) refl none k e (λ res
     by true s none k e again = cc
     by false s none zero e again = let same : y ≡ x = cc in let turned = subst (λ z. t z ≡ false) same s in cc
     by false s none (suc k) e again = again none k e
-
 
 -- there is a best inverter, and it is not slower
 abbrev IsNotAbove : {B : Type 0} → Option B → (B → ℕ) → ℕ → Type 0

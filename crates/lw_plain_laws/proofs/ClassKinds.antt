@@ -1,12 +1,10 @@
 -- The four kinds of classes, what drives each, and where inputs' classes stand.
-use Rattle.std.proofs.Common.{◌≡◌, ℕ, zero, suc, ◌+◌, ◌*◌, ◌<◌, ◌≤◌, ◌⊎◌, inl, inr, ◌==◌, ◌%◌, Bool, true, false, cond, List, [], ◌∷◌, ◌++◌, length, map, Option, Some, None, slice_get, slice_index_or, refl, sym, ap, ◌∙◌, subst, arith, eq-eqb, eqb-true, length-append}
-use Rattle.std.specs.List.{position_from}
+use Rattle.std.proofs.Common.{◌≡◌, ℕ, zero, suc, ◌+◌, ◌*◌, ◌<◌, ◌≤◌, ◌⊎◌, inl, inr, ◌==◌, ◌%◌, Bool, true, false, cond, List, [], ◌∷◌, ◌++◌, length, Option, Some, slice_get, refl, sym, ap, ◌∙◌, subst, arith, eq-eqb, eqb-true, length-append}
 use Rattle.lw_laws.specs.Flip.{flip}
 use Rattle.lw_laws.proofs.Flips.{flip_even, flip_odd}
 use Rattle.lw_laws.proofs.Lists.{slice_get_in}
 use Rattle.lw_plain.specs.declared.drivers.Drivers.{Drivers}
-use Rattle.lw_plain.specs.declared.drivers.Driver.{Driver}
-use Rattle.lw_plain.specs.declared.drivers.Driver.TheVariants.{Input, Alone, Inverted}
+use Rattle.lw_plain.specs.declared.drivers.Driver.TheVariants.{Input}
 use Rattle.lw_plain.specs.Drivers.{constant_driver, driver_at, inverted}
 use Rattle.lw_plain.specs.Covers.{first_place, input_classes}
 

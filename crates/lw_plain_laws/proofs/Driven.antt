@@ -1,5 +1,5 @@
 -- Labels of the classes of a plain network, and what stands where a class is driven.
-use Rattle.std.proofs.Common.{◌≡◌, ℕ, zero, suc, ◌+◌, ◌*◌, ◌<◌, ◌≤◌, ◌⊎◌, inl, inr, min, max, Bool, true, false, List, [], ◌∷◌, length, map, Option, Some, None, slice_get, slice_index_or, refl, sym, ap, ap₂, ◌∙◌, subst, arith}
+use Rattle.std.proofs.Common.{◌≡◌, ℕ, ◌+◌, ◌*◌, ◌<◌, ◌≤◌, ◌⊎◌, inl, inr, min, List, [], ◌∷◌, length, map, Option, Some, None, refl, sym, ap, ◌∙◌, subst, arith}
 use Rattle.lw_laws.specs.Flip.{flip}
 use Rattle.lw_laws.specs.Graphs.{Graph, Stands}
 use Rattle.lw_laws.specs.Covers.{latest, delays_of}
@@ -9,18 +9,15 @@ use Rattle.lw_laws.specs.Delays.{delay_cost}
 use Rattle.lw_laws.specs.Choices.{Choices, HasCost}
 use Rattle.lw_laws.specs.Choices.HasCost.{by_wire, by_gate}
 use Rattle.lw_laws.specs.Choices.HaveCosts.{no_pins, pin}
-use Rattle.lw_laws.proofs.Flips.{flip-flip}
-use Rattle.lw_plain.specs.declared.cell.Pin.{Pin}
 use Rattle.lw_plain.specs.declared.cell.Cell.{Cell}
 use Rattle.lw_plain.specs.declared.cell.Function.{Function}
-use Rattle.lw_plain.specs.declared.cell.Function.TheVariants.{One, Zero, Buffer, Inverter}
+use Rattle.lw_plain.specs.declared.cell.Function.TheVariants.{One, Zero, Inverter}
 use Rattle.lw_plain.specs.declared.drivers.Drivers.{Drivers}
 use Rattle.lw_plain.specs.declared.drivers.Driver.{Driver}
 use Rattle.lw_plain.specs.declared.drivers.Driver.TheVariants.{Input, Alone, Inverted}
 use Rattle.lw_plain.specs.Drivers.{constant_driver, driver_at, inverted}
-use Rattle.lw_plain.specs.Covers.{input_classes}
 use Rattle.lw_plain_laws.specs.PlainMappings.{patterns_of_cells, delays_of_cells, pin_delays}
-use Rattle.lw_plain_laws.proofs.ClassKinds.{Kind, kind_of, at_true, at_false, at_input, at_inverse, flip_input, flip_inverse, input_at}
+use Rattle.lw_plain_laws.proofs.ClassKinds.{Kind, kind_of, at_true, at_false, at_input, at_inverse, flip_inverse, input_at}
 use Rattle.lw_plain_laws.proofs.ClassKinds.Kind.{kind_true, kind_false, kind_input, kind_inverse}
 use Rattle.lw_plain_laws.proofs.PlainGraphs.{graph_by}
 use Rattle.lw_plain_laws.proofs.PlainCells.{IsCellAt, tree_of_function, delays_at, cell_match}

@@ -8,3 +8,4 @@ pub mod Driven
 pub mod PlainLabels
 pub mod PlainGates
 pub mod PlainNetlists
+pub mod PlainMapped

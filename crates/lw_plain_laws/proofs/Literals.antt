@@ -1,8 +1,8 @@
 -- The forms of a plain network are literals: inputs, true, and complements of these.
-use Rattle.std.proofs.Common.{◌≡◌, ℕ, zero, suc, ◌+◌, ◌*◌, ◌<◌, ◌≤◌, ◌⊎◌, inl, inr, Bool, true, false, cond, List, [], ◌∷◌, ◌++◌, length, map, Option, Some, None, slice_get, slice_index_or, refl, sym, ap, ap₂, ◌∙◌, subst, arith}
+use Rattle.std.proofs.Common.{◌≡◌, ℕ, zero, suc, ◌+◌, ◌*◌, ◌<◌, ◌≤◌, ◌⊎◌, inl, inr, Bool, true, false, List, [], ◌∷◌, ◌++◌, map, slice_index_or, refl, sym, ap, ◌∙◌, subst, arith}
 use Rattle.std.specs.List.{AllZip, AllByRecursion}
 use Rattle.lw_laws.specs.Flip.{flip}
-use Rattle.lw_laws.specs.Forms.{Form, FormList, complement, is_among}
+use Rattle.lw_laws.specs.Forms.{Form, complement}
 use Rattle.lw_laws.specs.Forms.Form.{var_form, true_form, not_form, and_form}
 use Rattle.lw_laws.specs.Signals.{Signal, signal_of_node, signal_of_input, signals_after, input_signals, signals_of, sop_at}
 use Rattle.lw_pool.specs.declared.id.NetId.{NetId}
@@ -58,7 +58,6 @@ literal_flip n (and_form fs) c e = absurd e
 -- a node without fan-ins, or with the row of one literal
 abbrev pub IsPlain : Node → Type 0
 IsPlain node = (node.on ≡ true) × ArePlainRows node.fanins node.rows
-
 
 -- the signals of a row that asks for the literal, and of one that asks for its complement
 abbrev by_row : ℕ → Form → ℕ → Signal

@@ -1,23 +1,22 @@
 -- The occurring forms of a plain network: true and its inputs, and the number of each literal is its class.
-use Rattle.std.proofs.Common.{◌≡◌, ℕ, zero, suc, ◌+◌, ◌*◌, ◌/◌, ◌<◌, ◌≤◌, Bool, true, false, cond, List, [], ◌∷◌, ◌++◌, length, map, Some, slice_get, slice_index_or, refl, sym, ap, ◌∙◌, subst, arith}
+use Rattle.std.proofs.Common.{◌≡◌, ℕ, zero, suc, ◌+◌, ◌≤◌, Bool, true, false, cond, List, [], ◌∷◌, ◌++◌, map, Some, slice_get, slice_index_or, refl, sym, ap, subst, arith}
 use Rattle.std.specs.List.{AllByRecursion}
 use Rattle.lw_laws.specs.Networks as laws
-use Rattle.lw_laws.specs.Forms.{Form, FormList, is_among}
+use Rattle.lw_laws.specs.Forms.{Form, is_among}
 use Rattle.lw_laws.specs.Forms.Form.{var_form, true_form, not_form, and_form}
 use Rattle.lw_laws.specs.Signals.{Signal, signals_of, sop_at}
 use Rattle.lw_laws.specs.Occurring.{appended, add_form, add_signals, occurring_forms, HasInputsFirst}
-use Rattle.lw_laws.specs.Decompositions.{Listing, listing_of, IsListedAt, base_form}
+use Rattle.lw_laws.specs.Decompositions.{listing_of}
 use Rattle.lw_laws.specs.Numbering.{number, numbered_base, IsNumber}
-use Rattle.lw_laws.specs.NumberedForms.{Base}
 use Rattle.lw_laws.specs.NumberedForms.Base.{base_true, base_input, base_and}
 use Rattle.lw_laws.specs.Listings.{IsListing}
-use Rattle.lw_laws.proofs.Lists.{all_append, slice_get_in}
+use Rattle.lw_laws.proofs.Lists.{all_append}
 use Rattle.lw_laws.proofs.Listed.{occurring_is_listing, true_and_inputs_first}
 use Rattle.lw_laws.proofs.Numbers.{number_of}
 use Rattle.lw_net.specs.declared.node.Node.{Node}
 use Rattle.lw_net.specs.Plain.{plain_node}
 use Rattle.lw_plain.specs.Covers.{classes_of}
-use Rattle.lw_plain_laws.proofs.Literals.{IsLiteral, IsAlike, AreAlike, IsPlain, literal_at, signals_alike}
+use Rattle.lw_plain_laws.proofs.Literals.{IsLiteral, AreAlike, IsPlain, literal_at, signals_alike}
 
 abbrev pub IsAtom : Form → Type 0
 IsAtom (var_form i) = Unit {0}

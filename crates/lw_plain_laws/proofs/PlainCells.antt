@@ -1,5 +1,5 @@
 -- Plain cells in the words of the headline: patterns, matches and truths.
-use Rattle.std.proofs.Common.{◌≡◌, ◌↔◌, ℕ, zero, suc, ◌+◌, ◌<◌, Bool, true, false, not, List, [], ◌∷◌, ◌++◌, length, map, Option, Some, None, slice_get, slice_index_or, Contains, refl, sym, ap, ◌∙◌, subst, arith}
+use Rattle.std.proofs.Common.{◌≡◌, ◌↔◌, ℕ, zero, suc, ◌+◌, ◌<◌, false, List, [], ◌∷◌, ◌++◌, length, map, Some, slice_get, slice_index_or, Contains, refl, sym, ap, ◌∙◌, subst, arith}
 use Rattle.std.proofs.lemmas.Option.{get_or_from_slice_get}
 use Rattle.lw_laws.specs.Trees.{Tree, leaf, const_one, const_zero, inv}
 use Rattle.lw_laws.specs.Graphs.{Graph, Stands}
@@ -7,7 +7,7 @@ use Rattle.lw_laws.specs.Covers.{Pattern, HasPins, ArePatterns, delays_of}
 use Rattle.lw_laws.specs.Matches.{IsMatchAt}
 use Rattle.lw_laws.specs.Netlists.{HaveCellTruths}
 use Rattle.lw_laws.specs.Expressions.{Expr, expr_value, MentionsPin}
-use Rattle.lw_laws.specs.Patterns.{pattern_of_cell, patterns_of_cell, patterns_from, patterns_of}
+use Rattle.lw_laws.specs.Patterns.{pattern_of_cell, patterns_of_cell, patterns_from}
 use Rattle.lw_laws.specs.Cells.{AreCells}
 use Rattle.lw_laws.proofs.PatternLaws.{cells_patterns, cells_truths}
 use Rattle.lw_laws.proofs.Numbers.{slice_get_map, slice_get_map_back}

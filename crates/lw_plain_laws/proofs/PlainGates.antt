@@ -4,15 +4,14 @@ use Rattle.std.specs.List.{position_from}
 use Rattle.lw_laws.specs.Flip.{flip}
 use Rattle.lw_laws.proofs.Flips.{flip-flip}
 use Rattle.lw_laws.proofs.Equality.{and_parts}
-use Rattle.lw_laws.proofs.Lists.{slice_get_in}
 use Rattle.lw_plain.specs.declared.drivers.Drivers.{Drivers}
 use Rattle.lw_plain.specs.declared.drivers.Driver.{Driver}
 use Rattle.lw_plain.specs.declared.drivers.Driver.TheVariants.{Input, Alone, Inverted}
 use Rattle.lw_plain.specs.Drivers.{driver_at, inverted, is_alone, is_inverted}
 use Rattle.lw_plain.specs.Covers.{first_place, is_wanted, has_lone_gate, has_late_gate, gates_if, lone_gates, complement_gates, late_gates, gate_classes, input_classes}
-use Rattle.lw_plain_laws.proofs.ClassKinds.{Kind, kind_of, at_inverse, flip_inverse, input_at, length_inputs, get_front, get_behind, first_at}
+use Rattle.lw_plain_laws.proofs.ClassKinds.{Kind, kind_of, at_inverse, flip_inverse, input_at, get_front, get_behind, first_at}
 use Rattle.lw_plain_laws.proofs.ClassKinds.Kind.{kind_true, kind_false, kind_input, kind_inverse}
-use Rattle.lw_plain_laws.proofs.BestCells.{IsFoundAt, found_at, none_passes}
+use Rattle.lw_plain_laws.proofs.BestCells.{found_at, none_passes}
 use Rattle.lw_plain_laws.proofs.Driven.{input_only, behind_source}
 
 abbrev pub Has : List ℕ → ℕ → Type 0

@@ -1,19 +1,18 @@
 -- The graph of a plain network: the class of each form is its number, and no class has a pair.
-use Rattle.std.proofs.Common.{◌≡◌, ℕ, zero, suc, ◌+◌, ◌*◌, ◌/◌, ◌%◌, ◌==◌, ◌<◌, ◌≤◌, ◌⊎◌, inl, inr, ◌↔◌, Bool, true, false, cond, List, [], ◌∷◌, length, map, Some, None, slice_get, slice_index, slice_index_or, Contains, refl, sym, ap, ◌∙◌, subst, arith, eqb-true}
+use Rattle.std.proofs.Common.{◌≡◌, ℕ, zero, suc, ◌+◌, ◌*◌, ◌/◌, ◌%◌, ◌==◌, ◌<◌, ◌≤◌, inl, inr, Bool, true, false, cond, List, [], ◌∷◌, length, Some, slice_get, slice_index, slice_index_or, refl, sym, ap, ◌∙◌, subst, arith, eqb-true}
 use Rattle.std.proofs.lemmas.Bool.{eqb-false}
-use Rattle.std.proofs.lemmas.List.{length-map}
 use Rattle.std.specs.List.{AllByRecursion}
 use Rattle.lw_laws.specs.Flip.{flip}
 use Rattle.lw_laws.specs.Modes.Mode.{plain}
 use Rattle.lw_laws.specs.Forms.{Form}
 use Rattle.lw_laws.specs.Forms.Form.{var_form, true_form}
-use Rattle.lw_laws.specs.Signals.{Signal, signals_of, sop_at}
-use Rattle.lw_laws.specs.Decompositions.{Listing, listing_of}
+use Rattle.lw_laws.specs.Signals.{signals_of, sop_at}
+use Rattle.lw_laws.specs.Decompositions.{listing_of}
 use Rattle.lw_laws.specs.Graphs.{Graph, class_of, HoldsPair}
 use Rattle.lw_laws.specs.Families.{Family, IsNand, Equivalent}
 use Rattle.lw_laws.specs.Families.Equivalent.{same, turned, joined, linked, flipped, nanded}
 use Rattle.lw_laws.specs.Encodings.{Encodes, HasNand}
-use Rattle.lw_laws.specs.NumberedForms.{NumberedForms, NumberOccurs, IsSignal, IsSplitOf, family_of}
+use Rattle.lw_laws.specs.NumberedForms.{NumberedForms, IsSignal, IsSplitOf, family_of}
 use Rattle.lw_laws.specs.NumberedForms.Base.{base_true, base_input, base_and}
 use Rattle.lw_laws.specs.Numbering.{number, numbered_base, sop_number, fac_number}
 use Rattle.lw_laws.specs.Mapped.{forms_of, root_class}

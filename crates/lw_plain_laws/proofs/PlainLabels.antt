@@ -1,16 +1,14 @@
 -- The labels of a plain network's classes: a potential of the cells' matches, of costs of covers.
-use Rattle.std.proofs.Common.{◌≡◌, ℕ, zero, suc, ◌+◌, ◌*◌, ◌<◌, ◌≤◌, ◌⊎◌, inl, inr, min, max, Bool, true, false, List, [], ◌∷◌, length, map, Option, Some, None, slice_get, slice_index_or, refl, sym, ap, ◌∙◌, subst, arith}
-use Rattle.std.specs.List.{AllZip, range_with_len}
+use Rattle.std.proofs.Common.{◌≡◌, ℕ, zero, suc, ◌+◌, ◌*◌, ◌<◌, ◌≤◌, min, max, List, [], ◌∷◌, length, Option, Some, None, slice_get, slice_index_or, refl, sym, ap, ◌∙◌, subst, arith}
 use Rattle.lw_laws.specs.Flip.{flip}
 use Rattle.lw_laws.specs.Graphs.{Graph, Stands}
 use Rattle.lw_laws.specs.Covers.{latest, delays_of}
-use Rattle.lw_laws.specs.Matches.{IsMatchAt, choices_of}
+use Rattle.lw_laws.specs.Matches.{choices_of}
 use Rattle.lw_laws.specs.Costs.{Cost}
 use Rattle.lw_laws.specs.Delays.{delay_cost}
 use Rattle.lw_laws.specs.Choices.{Choices, IsPotential, IsAttained, HaveLabels, HasLabelAtMost}
 use Rattle.lw_laws.specs.Rounds.{labels_in}
 use Rattle.lw_laws.proofs.Flips.{flip-flip}
-use Rattle.lw_plain.specs.declared.cell.Pin.{Pin}
 use Rattle.lw_plain.specs.declared.cell.Cell.{Cell}
 use Rattle.lw_plain.specs.declared.cell.Function.{Function}
 use Rattle.lw_plain.specs.declared.cell.Function.TheVariants.{One, Zero, Buffer, Inverter}
@@ -23,7 +21,7 @@ use Rattle.lw_plain_laws.specs.PlainMappings.{patterns_of_cells, delays_of_cells
 use Rattle.lw_plain_laws.proofs.ClassKinds.{Kind, kind_of, at_true, at_false, at_input, at_inverse, input_back}
 use Rattle.lw_plain_laws.proofs.ClassKinds.Kind.{kind_true, kind_false, kind_input, kind_inverse}
 use Rattle.lw_plain_laws.proofs.PlainGraphs.{graph_by}
-use Rattle.lw_plain_laws.proofs.PlainCells.{IsCellAt, tree_of_function, delays_at, match_cell}
+use Rattle.lw_plain_laws.proofs.PlainCells.{tree_of_function, delays_at, match_cell}
 use Rattle.lw_plain_laws.proofs.BestCells.{HasFunction, AreRight}
 use Rattle.lw_plain_laws.proofs.Driven.{label_by, label_cost}
 

@@ -1,5 +1,5 @@
 -- The netlist of a plain network: its gates are matches, and its nets arrive at their classes' labels.
-use Rattle.std.proofs.Common.{◌≡◌, ℕ, zero, suc, ◌+◌, ◌*◌, ◌<◌, ◌≤◌, ◌⊎◌, inl, inr, max, List, [], ◌∷◌, ◌++◌, length, map, Option, Some, None, unwrap_or, slice_get, slice_index_or, refl, sym, ap, ap₂, ◌∙◌, subst, arith, length-append}
+use Rattle.std.proofs.Common.{◌≡◌, ℕ, ◌+◌, ◌*◌, ◌<◌, ◌≤◌, ◌⊎◌, inl, inr, max, List, [], ◌∷◌, ◌++◌, length, map, Option, Some, unwrap_or, slice_get, slice_index_or, sym, ap, ◌∙◌, subst, arith, length-append}
 use Rattle.std.proofs.lemmas.Option.{get_or_from_slice_get}
 use Rattle.std.proofs.lemmas.List.{length-map}
 use Rattle.std.specs.List.{AllByRecursion}
@@ -17,16 +17,15 @@ use Rattle.lw_plain.specs.declared.cell.Cell.{Cell}
 use Rattle.lw_plain.specs.declared.drivers.Drivers.{Drivers}
 use Rattle.lw_plain.specs.declared.drivers.Driver.{Driver}
 use Rattle.lw_plain.specs.declared.drivers.Driver.TheVariants.{Input, Alone, Inverted}
-use Rattle.lw_plain.specs.declared.netlist.Gate.{Gate}
 use Rattle.lw_plain.specs.Drivers.{driver_at}
-use Rattle.lw_plain.specs.Covers.{first_place, input_classes, gate_classes, net_of}
+use Rattle.lw_plain.specs.Covers.{input_classes, gate_classes, net_of}
 use Rattle.lw_plain.specs.Netlists.{Plan, gate_of, cell_in, pin_in}
 use Rattle.lw_plain_laws.specs.PlainMappings.{patterns_of_cells, delays_of_cells, plain_gate, pins_of}
 use Rattle.lw_plain_laws.proofs.ClassKinds.{at_input, input_at, length_inputs, get_front, get_behind, first_at}
 use Rattle.lw_plain_laws.proofs.PlainGraphs.{graph_by}
 use Rattle.lw_plain_laws.proofs.BestCells.{AreRight}
-use Rattle.lw_plain_laws.proofs.Driven.{label_by, IsLone, IsBehind, lone, behind}
-use Rattle.lw_plain_laws.proofs.PlainGates.{Has, AreDriven, IsPlaced, placed_at, gates_settled}
+use Rattle.lw_plain_laws.proofs.Driven.{label_by, lone, behind}
+use Rattle.lw_plain_laws.proofs.PlainGates.{AreDriven, IsPlaced, placed_at, gates_settled}
 use Rattle.lw_plain_laws.proofs.PlainGates.IsPlaced.{placed_alone, placed_behind}
 
 module _ (net : NetworkParts) (cells : List Cell) (d : Drivers) (best : ℕ) (right : AreRight cells d best) (n m : ℕ) (outputs : List ℕ) (driven : AreDriven d outputs) where
