@@ -4,3 +4,4 @@ pub mod Prefix
 pub mod Comings
 pub mod Serving
 pub mod Whole
+pub mod Headline

@@ -4,3 +4,4 @@ pub mod Named
 pub mod Outcome
 pub mod Telling
 pub mod Lines
+pub mod Mappings

@@ -5,8 +5,9 @@ ghost use Rattle.lw_io.specs.Causes.{Rose};
 ghost use Rattle.lw_io.specs.Files.{bytes_of};
 ghost use Rattle.lw_top.specs.Answers.{IsAnswer, names_of, status_in, status_of};
 ghost use Rattle.lw_top.specs.Reading.{Known};
+ghost use Rattle.lw_top.specs.Mappings.{IsMappingText, LacksOutput};
 ghost use Rattle.lw_top.specs.Outcome.{IsDone, IsCutShort, Meets, outcome_status};
-ghost use Rattle.lw_top.specs.Telling.{Told, outcome_line};
+ghost use Rattle.lw_top.specs.Telling.{Told, outcome_line, refusal_line};
 ghost use Rattle.lw_top.specs.declared.outcome.Outcome.{Outcome};
 ghost use Rattle.lw_top.specs.declared.refusal.Refusal.{Refusal};
 
@@ -33,6 +34,16 @@ pub fn run<F: Shelf, O: Sink, E: Sink>(
     // At 0 the whole text went out: over known files it is the answer's.
     ensures done { result ≡ 0 → ((text : List ℕ) × Known (F.files shelf.old) (IsAnswer (map string_bytes words.now.items)) (Ok text)
         × IsDone O.taken O.is_finished out.old out.new text) }
+
+    // At 0 over known files that text is of a netlist of the library's cells: it has the network's inputs and outputs, it computes the
+    // network's outputs at all inputs, and each arrives at the least time of all covers of all trees that the laws derive for it.
+    ensures mapping { (files : List File) → F.files shelf.old ≡ Some files → result ≡ 0
+        → ((text : List ℕ) × IsMappingText (map string_bytes words.now.items) (bytes_of files) text × IsDone O.taken O.is_finished out.old out.new text) }
+
+    // At 6 over known files no tree that the laws derive for the output whose name is told has a cover.
+    ensures no_cover { (files : List File) → F.files shelf.old ≡ Some files → result ≡ 6
+        → ((name : List ℕ) × LacksOutput (map string_bytes words.now.items) (bytes_of files) name
+        × Told E.taken E.faults err.old err.new (refusal_line (map string_bytes words.now.items) (Refusal.NoCover name))) }
 
     // At 7 the stream failed, and a prefix of the text that 0 would have written went out.
     ensures cut_short { result ≡ 7 → ((text : List ℕ) × Known (F.files shelf.old) (IsAnswer (map string_bytes words.now.items)) (Ok text)
