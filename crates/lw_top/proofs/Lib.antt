@@ -4,3 +4,5 @@ pub mod Prefix
 pub mod Comings
 pub mod Serving
 pub mod Whole
+pub mod Closed
+pub mod One
