@@ -16,7 +16,7 @@ use Rattle.lw_top.specs.Answers.{Files, Closes}
 
 -- Names that are driven
 
-abbrev AreAmong : List (List ℕ) → List (List ℕ) → Type 0
+abbrev pub AreAmong : List (List ℕ) → List (List ℕ) → Type 0
 AreAmong signals names = AllByRecursion (λ name. is_among signals name ≡ true) names
 
 all_among : (signals names : List (List ℕ)) → undefined_in signals names ≡ None → AreAmong signals names
@@ -27,7 +27,7 @@ all_among signals (name ∷ names) e = by_test (is_among signals name) refl e (a
     by_test true is e rest = (is, rest e)
     by_test false is e rest = cc
 
-all_parts : (P : List ℕ → Type 0) (xs ys : List (List ℕ)) → AllByRecursion P (xs ++ ys) → AllByRecursion P xs × AllByRecursion P ys
+pub all_parts : (P : List ℕ → Type 0) (xs ys : List (List ℕ)) → AllByRecursion P (xs ++ ys) → AllByRecursion P xs × AllByRecursion P ys
 all_parts P [] ys all = (tt, all)
 all_parts P (x ∷ xs) ys all = let rest = all_parts P xs ys all.1 in ((all.0, rest.0), rest.1)
 
@@ -37,7 +37,7 @@ fanins_among signals (node ∷ nodes) all =
     let parts = all_parts (λ name. is_among signals name ≡ true) node.fanins (flat_map fanins_of nodes) all in
     (parts.0, fanins_among signals nodes parts.1)
 
-contains_among : (names : List (List ℕ)) (name : List ℕ) → is_among names name ≡ true → Contains names name
+pub contains_among : (names : List (List ℕ)) (name : List ℕ) → is_among names name ≡ true → Contains names name
 contains_among [] name e = cc
 contains_among (other ∷ names) name e = by_test (bytes_eq name other) refl e (contains_among names name)
   where
@@ -45,18 +45,19 @@ contains_among (other ∷ names) name e = by_test (bytes_eq name other) refl e (
     by_test true is e rest = (0, omega arith, sym ((bytes_eq-Decides name other).0 is))
     by_test false is e rest = let (k, lt, here) = rest e in (suc k, omega arith, here)
 
+-- each fan-in is a signal
+pub driven : (draft : Draft) → first_undefined draft ≡ None → All (λ (node : DraftNode). AreAmong (signals_of draft) node.fanins) draft.nodes
+driven draft defined =
+    let all = all_among (signals_of draft) (flat_map fanins_of draft.nodes ++ draft.outputs) defined in
+    let parts = all_parts (λ name. is_among (signals_of draft) name ≡ true) (flat_map fanins_of draft.nodes) draft.outputs all in
+    All-from_recursion (λ (node : DraftNode). AreAmong (signals_of draft) node.fanins) draft.nodes (fanins_among (signals_of draft) draft.nodes parts.0)
+
 -- Two depths of one draft
 
 module _ (draft : Draft) (depth other : List ℕ → ℕ) (depths : AreDepths draft depth) (others : AreDepths draft other) (defined : first_undefined draft ≡ None) where
   -- they agree at the names of this depth at most
   abbrev Agree : ℕ → List ℕ → Type 0
   Agree n name = depth name ≤ n → depth name ≡ other name
-
-  driven : All (λ (node : DraftNode). AreAmong (signals_of draft) node.fanins) draft.nodes
-  driven =
-      let all = all_among (signals_of draft) (flat_map fanins_of draft.nodes ++ draft.outputs) defined in
-      let parts = all_parts (λ name. is_among (signals_of draft) name ≡ true) (flat_map fanins_of draft.nodes) draft.outputs all in
-      All-from_recursion (λ (node : DraftNode). AreAmong (signals_of draft) node.fanins) draft.nodes (fanins_among (signals_of draft) draft.nodes parts.0)
 
   same_fanins : (n : ℕ) (names : List (List ℕ)) → All (Agree n) (signals_of draft) → AreAmong (signals_of draft) names → greatest (map depth names) ≤ n → map depth names ≡ map other names
   same_fanins n [] all among le = refl
@@ -79,7 +80,7 @@ module _ (draft : Draft) (depth other : List ℕ → ℕ) (depths : AreDepths dr
       next all =
           λ k d lt le.
           depths.nodes k d lt
-          ∙ (ap (λ l. 1 + greatest l) (same_fanins n (get_or draft.nodes k d).fanins all (driven k d lt) (omega (arith, le, depths.nodes k d lt)))
+          ∙ (ap (λ l. 1 + greatest l) (same_fanins n (get_or draft.nodes k d).fanins all (driven draft defined k d lt) (omega (arith, le, depths.nodes k d lt)))
           ∙ sym (others.nodes k d lt))
 
   same_depths : AllByRecursion (λ (node : DraftNode). depth node.out ≡ other node.out) draft.nodes

@@ -6,3 +6,6 @@ pub mod Serving
 pub mod Whole
 pub mod Closed
 pub mod One
+pub mod Reached
+pub mod Depths
+pub mod Given
