@@ -5,3 +5,5 @@ pub mod Comings
 pub mod Serving
 pub mod Whole
 pub mod Headline
+pub mod Closed
+pub mod One
