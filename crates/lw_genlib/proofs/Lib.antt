@@ -1,0 +1,4 @@
+mod Bits
+mod Evaluating
+mod Running
+mod Stacks

@@ -1,0 +1,5 @@
+pub mod Cells
+pub mod Codes
+pub mod Postfix
+pub mod Runs
+pub mod Words
