@@ -1,4 +1,5 @@
 mod Bits
 mod Evaluating
+mod Names
 mod Running
 mod Stacks

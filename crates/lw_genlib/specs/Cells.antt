@@ -2,6 +2,7 @@
 use Rattle.std.specs.Prelude.{ℕ, ◌+◌, ◌*◌, ◌<◌, ◌≤◌, ◌≡◌, ◌≢◌, ◌==◌, Bool, not, ◌&&◌, ◌||◌, false, IsTrue, List, [], ◌∷◌, length, map, sum_by, All, Contains}
 use Rattle.std.specs.List.{IsDistinct, list_all, list_any}
 use Rattle.std.specs.Str.{bytes_eq}
+use Rattle.std.specs.Global.{Vec}
 use Rattle.lw_fixed.specs.declared.micro.Micro.{Micro}
 use Rattle.lw_laws.specs.Expressions.{Expr, expr_value}
 use Rattle.lw_laws.specs.Networks.{given}
@@ -73,6 +74,7 @@ form_count cell = length cell.forms
 
 -- what a library keeps of each cell
 pub record IsListed (cell : CellParts) : Type 0 where
+  pub kept : IsCell cell
   pub name : IsWord 4095 cell.name
   pub area : IsSmall cell.area
   pub delays : All IsSmall cell.delays
@@ -83,8 +85,19 @@ pub record IsListed (cell : CellParts) : Type 0 where
 abbrev pub names_of : List CellParts → List (List ℕ)
 names_of cells = map (λ (cell : CellParts). cell.name) cells
 
--- what each library keeps, beside what its cells do
+-- what each library keeps
 pub record IsLibrary (cells : List CellParts) : Type 0 where
   pub few : sum_by form_count cells ≤ 4096
   pub each : All IsListed cells
   pub names_differ : IsDistinct bytes_eq (names_of cells)
+
+abbrev pub Key : Type 0
+Key = Vec ℕ
+
+abbrev pub bytes_of : Key → List ℕ
+bytes_of key = key.items
+
+-- the cells, and the names by which they are looked up
+pub record IsIndexed (cells : List CellParts) (keys : List Key) : Type 0 where
+  pub kept : IsLibrary cells
+  pub names : map bytes_of keys ≡ names_of cells

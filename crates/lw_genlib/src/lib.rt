@@ -4,10 +4,12 @@
 mod cell;
 mod eval;
 mod expr;
+mod library;
 mod lists;
 mod op;
 
 pub use cell::Cell;
 pub use expr::Expr;
+pub use library::Library;
 pub use lists::{Exprs, Micros};
 pub use op::ExprOp;
