@@ -1,12 +1,11 @@
 -- What the steps of an expression leave: its value under each assignment.
-use Rattle.std.proofs.Common.{ℕ, ◌+◌, ◌<◌, ◌≤◌, ◌≡◌, ◌^◌, ◌/◌, Bool, false, eqb, List, [], ◌∷◌, ◌++◌, length, take, length-take, get_or, refl, sym, ap, ◌∙◌, subst, arith, append-nil}
+use Rattle.std.proofs.Common.{ℕ, ◌<◌, ◌≤◌, ◌≡◌, ◌^◌, ◌/◌, Bool, false, eqb, List, [], ◌∷◌, length, take, length-take, refl, sym, ap, ◌∙◌, subst, arith, append-nil}
 use Rattle.std.specs.Prelude.{slice_index, bit_and}
 use native.Mathlib.Decide.{dec_lt}
 use Rattle.std.proofs.lemmas.Nat.Bits.{shr_and_one}
 use Rattle.std.proofs.lemmas.List.{get_or-take, get_or_past}
 use Rattle.lw_laws.specs.Networks.{given}
 use Rattle.lw_laws.specs.Expressions.{Expr, expr_value, MentionsPin}
-use Rattle.lw_genlib.specs.declared.op.ExprOp.{ExprOp}
 use Rattle.lw_genlib.specs.Postfix.{postfix, literals, IsWide, run}
 use Rattle.lw_genlib.specs.Codes.{meaning, run_whole}
 use Rattle.lw_genlib.specs.Runs.{CanRun, word_by}

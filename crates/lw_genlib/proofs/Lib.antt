@@ -1,3 +1,4 @@
+mod Assignments
 mod Bits
 mod Evaluating
 mod Names

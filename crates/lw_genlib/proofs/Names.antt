@@ -1,17 +1,17 @@
 -- The names of cells, which differ, and their places.
-use Rattle.std.proofs.Common.{◌≡◌, ℕ, zero, suc, ◌+◌, ◌<◌, ◌≤◌, Bool, true, false, not, ◌||◌, cond, List, [], ◌∷◌, ◌++◌, length, map, take, drop, get_or, Some, None, Vec, refl, sym, ap, ap₂, ◌∙◌, arith, slice_get}
-use Rattle.std.specs.Prelude.{sum_by, All, Contains}
+use Rattle.std.proofs.Common.{◌≡◌, ℕ, zero, suc, ◌+◌, ◌<◌, ◌≤◌, Bool, true, false, ◌||◌, cond, List, [], ◌∷◌, ◌++◌, length, map, take, get_or, Some, refl, sym, ap, ap₂, ◌∙◌, arith, slice_get}
+use Rattle.std.specs.Prelude.{sum_by, Contains}
 use Rattle.std.specs.List.{list_any, IsDistinct, AllByRecursion, position}
 use Rattle.std.specs.Str.{bytes_eq}
 use Rattle.std.proofs.lemmas.Slice.Eq.{bytes_eq-Decides}
-use Rattle.std.proofs.lemmas.List.{take_more, get_or_read, get_or-map, map_push, length-map}
+use Rattle.std.proofs.lemmas.List.{take_more, get_or-map, map_push, length-map}
 use Rattle.std.proofs.lemmas.List.Quantifiers.{position-Some}
 use Rattle.std.proofs.lemmas.List.Folds.{list_any_at}
 use Rattle.std.proofs.lemmas.List.Sums.{sum_by-cons}
 use Rattle.std.proofs.lemmas.Option.{slice_get-get_or}
 use Rattle.std.proofs.lemmas.Bool.{false≢true}
 use Rattle.indexmap.specs.IndexSet.{insert_key}
-use Rattle.lw_genlib.specs.Cells.{CellParts, IsLibrary, IsListed, Key, bytes_of, names_of, form_count}
+use Rattle.lw_genlib.specs.Cells.{CellParts, IsLibrary, Key, bytes_of, names_of, form_count}
 
 pub same_name : (xs ys : List ℕ) → bytes_eq xs ys ≡ true → xs ≡ ys
 same_name xs ys e = (bytes_eq-Decides xs ys).0 e
@@ -51,7 +51,7 @@ pub inserted : (names : List (List ℕ)) (old new : List Key) (i : ℕ) (key : K
     → new ≡ insert_key (λ (a b : Key). bytes_eq a.items b.items) old key → map bytes_of new ≡ take (i + 1) names
 inserted names old new i key distinct below here was is =
     let fresh : list_any (λ (k : Key). bytes_eq key.items k.items) old ≡ false =
-      any_bytes key.items old ∙ (ap (list_any (bytes_eq key.items)) was ∙ (ap (λ n. list_any (bytes_eq n) (take i names)) here ∙ none_before names i key.items distinct below)) in
+    any_bytes key.items old ∙ (ap (list_any (bytes_eq key.items)) was ∙ (ap (λ n. list_any (bytes_eq n) (take i names)) here ∙ none_before names i key.items distinct below)) in
     ap (map bytes_of) (is ∙ ap (λ b. cond b old (old ++ key ∷ [])) fresh)
     ∙ (map_push bytes_of old key ∙ (ap₂ (λ l n. l ++ n ∷ []) was here ∙ sym (take_more names i key.items below)))
 

@@ -1,11 +1,11 @@
 -- The steps of an expression can run, and what they leave.
-use Rattle.std.proofs.Common.{ℕ, ◌+◌, ◌-◌, ◌<◌, ◌≤◌, ◌≡◌, Bool, false, List, [], ◌∷◌, ◌++◌, length, take, drop, get_or, sym, subst, ap, ◌∙◌, refl, inl, inr, arith, append_assoc, append-nil}
+use Rattle.std.proofs.Common.{ℕ, ◌+◌, ◌-◌, ◌<◌, ◌≤◌, ◌≡◌, false, List, [], ◌∷◌, ◌++◌, length, take, drop, get_or, sym, subst, ap, ◌∙◌, refl, inl, inr, arith, append_assoc}
 use Rattle.std.proofs.lemmas.List.{drop_more, drop_all}
 use Rattle.lw_laws.specs.Expressions.{Expr, Exprs, MentionsPin, SomeMentionsPin}
 use Rattle.lw_laws.specs.Expressions.Expr.{expr_const, expr_pin, expr_not, expr_and, expr_or}
 use Rattle.lw_laws.specs.Expressions.Exprs.{no_exprs, more_exprs}
 use Rattle.lw_genlib.specs.declared.op.ExprOp.{ExprOp}
-use Rattle.lw_genlib.specs.declared.op.ExprOp.TheVariants.{Const, Pin, Not, And, Or}
+use Rattle.lw_genlib.specs.declared.op.ExprOp.TheVariants.{Const, Not, And, Or}
 use Rattle.lw_genlib.specs.Postfix.{part_count, postfix, postfixes, arity, literals, literals_of_all, IsWide, AreWide, stepped, run}
 use Rattle.lw_genlib.specs.Runs.{CanRun, IsPinOf}
 
@@ -55,10 +55,10 @@ module _ (by : ExprOp → List ℕ → ℕ) (pins : ℕ) (ops : List ExprOp) (at
 
   pub whole_run : length ops ≤ at → run by ops [] ≡ get_or stack 0 0 ∷ []
   whole_run past =
-    let none : drop at ops ≡ [] = drop_all at ops past in
-    let one : size ≡ 1 = subst (CanRun pins size) none running.can in
-    let long : length stack ≡ 64 = running.long in
-    sym running.gives ∙ (ap (λ left. run by left (take size stack)) none ∙ (ap (λ n. take n stack) one ∙ first_alone stack (omega arith)))
+      let none : drop at ops ≡ [] = drop_all at ops past in
+      let one : size ≡ 1 = subst (CanRun pins size) none running.can in
+      let long : length stack ≡ 64 = running.long in
+      sym running.gives ∙ (ap (λ left. run by left (take size stack)) none ∙ (ap (λ n. take n stack) one ∙ first_alone stack (omega arith)))
 
 module _ (pins : ℕ) where
   mutual
@@ -88,5 +88,5 @@ module _ (pins : ℕ) where
     can_run_all (more_exprs e es) rest size wide below few then =
         let one : 1 ≤ literals e = some_literal e wide.0 in
         let others : CanRun pins (size + 1) (postfixes es ++ rest) =
-          can_run_all es rest (size + 1) wide.1 (λ k m. below k (inr m)) (omega arith) (subst (λ n. CanRun pins n rest) (omega arith) then) in
+        can_run_all es rest (size + 1) wide.1 (λ k m. below k (inr m)) (omega arith) (subst (λ n. CanRun pins n rest) (omega arith) then) in
         subst (CanRun pins size) (sym (append_assoc (postfix e) (postfixes es) rest)) (can_run e (postfixes es ++ rest) size wide.0 (λ k m. below k (inl m)) (omega arith) others)

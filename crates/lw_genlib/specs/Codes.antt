@@ -1,5 +1,5 @@
 -- Expressions are told apart by the steps that spell them.
-use Rattle.std.specs.Prelude.{ℕ, zero, suc, ◌+◌, ◌-◌, ◌≡◌, Bool, true, false, List, [], ◌∷◌, ◌++◌, length, take, drop, map, refl}
+use Rattle.std.specs.Prelude.{ℕ, zero, suc, ◌+◌, ◌-◌, ◌≡◌, true, false, List, [], ◌∷◌, ◌++◌, length, take, drop, map, refl}
 use Rattle.std.specs.Coded.{Coded, code_by, coded×, coded_ℕ, coded_list}
 use Rattle.std.proofs.Common.{ap, ap₂, sym, ◌∙◌, append_assoc, append-nil, length-append, arith}
 use Rattle.std.proofs.lemmas.List.{take_at, drop_at}
@@ -33,9 +33,9 @@ module _ {A : Type 0} (by : ExprOp → List A → A) where
   -- a step that takes just the last values
   pub stepped_last : (op : ExprOp) (before values : List A) → length values ≡ arity op → stepped by op (before ++ values) ≡ before ++ by op values ∷ []
   stepped_last op before values takes =
-    let size : length (before ++ values) ≡ length before + length values = length-append before values in
-    let left : length (before ++ values) - arity op ≡ length before = omega arith in
-    ap₂ (λ f b. f ++ by op b ∷ [])
+      let size : length (before ++ values) ≡ length before + length values = length-append before values in
+      let left : length (before ++ values) - arity op ≡ length before = omega arith in
+      ap₂ (λ f b. f ++ by op b ∷ [])
       (ap (λ n. take n (before ++ values)) left ∙ take_at before values (length before) refl)
       (ap (λ n. drop n (before ++ values)) left ∙ drop_at before values (length before) refl)
 
@@ -128,10 +128,10 @@ bytes_code = coded_list coded_ℕ
 abbrev pub cell_code : Coded CellParts
 cell_code =
     code_by ((List ℕ × Micro) × ((List ℕ × List (List ℕ)) × (List Micro × List Expr)))
-      (coded× (coded× bytes_code micro_code) (coded× (coded× bytes_code (coded_list bytes_code)) (coded× (coded_list micro_code) (coded_list expr_code))))
-      (λ c. ((c.name, c.area), ((c.output, c.pins), (c.delays, c.forms))))
-      (λ p. record { name = p.0.0; area = p.0.1; output = p.1.0.0; pins = p.1.0.1; delays = p.1.1.0; forms = p.1.1.1 })
-      (λ _. refl)
+    (coded× (coded× bytes_code micro_code) (coded× (coded× bytes_code (coded_list bytes_code)) (coded× (coded_list micro_code) (coded_list expr_code))))
+    (λ c. ((c.name, c.area), ((c.output, c.pins), (c.delays, c.forms))))
+    (λ p. record { name = p.0.0; area = p.0.1; output = p.1.0.0; pins = p.1.0.1; delays = p.1.1.0; forms = p.1.1.1 })
+    (λ _. refl)
 
 abbrev pub cells_code : Coded (List CellParts)
 cells_code = coded_list cell_code

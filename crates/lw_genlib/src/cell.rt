@@ -33,7 +33,14 @@ impl Cell {
     ghost use Rattle.lw_genlib.specs.Cells.{IsCell, cell_value};
 
     /// The cell of these parts, without memory.
-    pub fn new(name: Name, area: Micro, output: Name, pins: Names, delays: Micros, forms: Exprs) -> Self
+    pub fn new(
+        name: Name,
+        area: Micro,
+        output: Name,
+        pins: Names,
+        delays: Micros,
+        forms: Exprs,
+    ) -> Self
         requires { IsCell (record { name = name; area = area; output = output; pins = pins; delays = delays; forms = forms }) }
         ensures { result ≡ record { name = name; area = area; output = output; pins = pins; delays = delays; forms = forms } }
     {

@@ -7,6 +7,7 @@ mod expr;
 mod library;
 mod lists;
 mod op;
+mod truth;
 
 pub use cell::Cell;
 pub use expr::Expr;

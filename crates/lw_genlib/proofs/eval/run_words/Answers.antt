@@ -1,4 +1,4 @@
-use Rattle.std.proofs.Common.{ℕ, arith, refl}
+use Rattle.std.proofs.Common.{arith, refl}
 use Rattle.lw_genlib.specs.Runs.{word_by}
 use Rattle.lw_genlib.proofs.Running.{starts, next_step, next_is, whole_run}
 use Rattle.lw_genlib.proofs.eval.run_words.Goals as goal

@@ -1,5 +1,4 @@
-use Rattle.std.proofs.Common.{ℕ, ◌≡◌, ◌≤◌, List, [], length, take, drop}
-use Rattle.lw_genlib.specs.Postfix.{run}
+use Rattle.std.proofs.Common.{length}
 use Rattle.lw_genlib.specs.Runs.{word_by}
 use Rattle.lw_genlib.proofs.Running.{IsRunning}
 use Rattle.lw_genlib.proofs.eval.run_words.Given as goal

@@ -1,6 +1,5 @@
-use Rattle.std.proofs.Common.{◌∙◌, length, refl, arith}
+use Rattle.std.proofs.Common.{◌∙◌, refl, arith}
 use Rattle.lw_laws.specs.Networks.{given}
-use Rattle.lw_genlib.specs.Words.{pins_at}
 use Rattle.lw_genlib.proofs.Bits.{value_same}
 use Rattle.lw_genlib.proofs.Evaluating.{low_bit, value_in_words}
 use Rattle.lw_genlib.proofs.expr.Expr.value.Goals as goal

@@ -1,4 +1,4 @@
-use Rattle.std.proofs.Common.{ℕ, ◌≤◌, length, arith, rules}
+use Rattle.std.proofs.Common.{◌≤◌, length, rules}
 use Rattle.lw_genlib.proofs.Names.{few_cells}
 use Rattle.lw_genlib.proofs.library.Library.len.Goals as goal
 
