@@ -7,6 +7,7 @@ mod expr;
 mod library;
 mod lists;
 mod op;
+mod sign;
 mod truth;
 
 pub use cell::Cell;
@@ -14,3 +15,4 @@ pub use expr::Expr;
 pub use library::Library;
 pub use lists::{Exprs, Micros};
 pub use op::ExprOp;
+pub use sign::Sign;
