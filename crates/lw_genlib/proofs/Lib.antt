@@ -2,6 +2,6 @@ mod Assignments
 mod Bits
 mod Evaluating
 mod Names
-mod Parsing
 mod Running
+mod Spelling
 mod Stacks

@@ -1,15 +1,15 @@
 -- The names of cells, which differ, and their places.
-use Rattle.std.proofs.Common.{◌≡◌, ℕ, zero, suc, ◌+◌, ◌<◌, ◌≤◌, Bool, true, false, ◌||◌, cond, List, [], ◌∷◌, ◌++◌, length, map, take, get_or, Some, refl, sym, ap, ap₂, ◌∙◌, arith, slice_get}
+use Rattle.std.proofs.Common.{◌≡◌, ℕ, zero, suc, ◌+◌, ◌<◌, ◌≤◌, Bool, true, false, not, ◌||◌, cond, List, [], ◌∷◌, ◌++◌, length, map, take, get_or, Some, None, refl, sym, ap, ap₂, ◌∙◌, arith, slice_get, unwrap_or, nat_lt}
 use Rattle.std.specs.Prelude.{sum_by, Contains}
-use Rattle.std.specs.List.{list_any, IsDistinct, AllByRecursion, position}
+use Rattle.std.specs.List.{list_any, IsDistinct, AllByRecursion, position, position_or_len}
 use Rattle.std.specs.Str.{bytes_eq}
 use Rattle.std.proofs.lemmas.Slice.Eq.{bytes_eq-Decides}
 use Rattle.std.proofs.lemmas.List.{take_more, get_or-map, map_push, length-map}
 use Rattle.std.proofs.lemmas.List.Quantifiers.{position-Some}
 use Rattle.std.proofs.lemmas.List.Folds.{list_any_at}
-use Rattle.std.proofs.lemmas.List.Sums.{sum_by-cons}
+use Rattle.std.proofs.lemmas.List.Sums.{sum_by-cons, prefix_len_is}
 use Rattle.std.proofs.lemmas.Option.{slice_get-get_or}
-use Rattle.std.proofs.lemmas.Bool.{false≢true}
+use Rattle.std.proofs.lemmas.Bool.{false≢true, lt-ltb, le-ltb}
 use Rattle.indexmap.specs.IndexSet.{insert_key}
 use Rattle.lw_genlib.specs.Cells.{CellParts, IsLibrary, Key, bytes_of, names_of, form_count}
 
@@ -95,3 +95,16 @@ named_at cells i cell bytes lt here is =
 
 pub key_count : (keys : List Key) (cells : List CellParts) → map bytes_of keys ≡ names_of cells → length keys ≡ length cells
 key_count keys cells is = sym (length-map keys bytes_of) ∙ (ap length is ∙ length-map cells (λ (c : CellParts). c.name))
+
+-- the place of the first element that passes, and 0 where none does
+pub first_place : (p : List ℕ → Bool) (xs : List (List ℕ)) (i : ℕ) → i < length xs → ((k : ℕ) → k < i → p (get_or xs k []) ≡ false) → p (get_or xs i []) ≡ true → unwrap_or (position p xs) 0 ≡ i
+first_place p xs i lt none here =
+    let at : position_or_len p xs ≡ i = prefix_len_is (λ x. not (p x)) xs i [] (omega arith) (λ k l. ap not (none k l)) (λ _. ap not here) in
+    let found : nat_lt (position_or_len p xs) (length xs) ≡ true = ap (λ n. nat_lt n (length xs)) at ∙ lt-ltb i (length xs) lt in
+    ap (λ b. unwrap_or (cond b (Some (position_or_len p xs)) None) 0) found ∙ at
+
+pub no_place : (p : List ℕ → Bool) (xs : List (List ℕ)) → ((k : ℕ) → k < length xs → p (get_or xs k []) ≡ false) → unwrap_or (position p xs) 0 ≡ 0
+no_place p xs none =
+    let at : position_or_len p xs ≡ length xs = prefix_len_is (λ x. not (p x)) xs (length xs) [] (omega arith) (λ k l. ap not (none k l)) (λ lt. absurd (omega arith)) in
+    let lost : nat_lt (position_or_len p xs) (length xs) ≡ false = ap (λ n. nat_lt n (length xs)) at ∙ le-ltb (length xs) (length xs) (omega arith) in
+    ap (λ b. unwrap_or (cond b (Some (position_or_len p xs)) None) 0) lost

@@ -71,6 +71,10 @@ abbrev pub is_mark : ℕ → Sign → Bool
 is_mark m (Name name) = false
 is_mark m (Mark b) = b == m
 
+abbrev pub is_name : Sign → Bool
+is_name (Name name) = true
+is_name (Mark b) = false
+
 -- a name, `(` or `!`
 abbrev pub begins_operand : Sign → Bool
 begins_operand (Name name) = true

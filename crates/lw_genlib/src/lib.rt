@@ -7,6 +7,7 @@ mod expr;
 mod library;
 mod lists;
 mod op;
+mod parsing;
 mod sign;
 mod truth;
 

@@ -1,5 +1,6 @@
 -- Reading expressions from signs: how what was read grows.
-use Rattle.std.proofs.Common.{ℕ, zero, suc, ◌+◌, ◌-◌, ◌<◌, ◌≤◌, ◌≡◌, Bool, true, false, not, ◌&&◌, ◌||◌, cond, eqb, List, [], ◌∷◌, ◌++◌, length, take, drop, refl, sym, ap, ap₂, ◌∙◌, subst, arith, append_assoc, append-nil, length-append, inl, inr, ◌⊎◌}
+use Rattle.std.proofs.Common.{ℕ, zero, suc, ◌+◌, ◌-◌, ◌<◌, ◌≤◌, ◌≡◌, ◌^◌, Bool, true, false, not, ◌&&◌, ◌||◌, cond, eqb, List, [], ◌∷◌, ◌++◌, length, take, drop, refl, sym, ap, ap₂, ◌∙◌, subst, arith, append_assoc, append-nil, length-append, inl, inr, ◌⊎◌, add-one}
+use Rattle.std.proofs.lemmas.List.{replicate_more}
 use Rattle.std.specs.Prelude.{replicate}
 use Rattle.std.specs.List.{prefix_len}
 use Rattle.lw_laws.specs.Expressions.{Expr, Exprs}
@@ -230,7 +231,165 @@ module _ (pins : List (List ℕ)) (depth : ℕ) (old new new' : List ExprOp) (mo
   }
 
 -- an atom that no `'` follows is a factor
-pub atom_is_factor : (pins : List (List ℕ)) (depth : ℕ) (signs rest : List Sign) (old new : List ExprOp) → Reads (IsAtom pins) after_atom depth signs rest old new → begins_with after_factor rest ≡ false → Reads (IsFactor pins) after_factor depth signs rest old new
-atom_is_factor pins depth signs rest old new r stops = record {
-  read = r.read; tree = r.tree; whole = r.whole; spelled = plain_factor r.read r.tree r.spelled; some = r.some; steps = r.steps; left = r.left; stops = stops;
+pub atom_is_factor : (pins : List (List ℕ)) (depth : ℕ) (signs rest : List Sign) (old new : List ExprOp) → Reads (IsAtom pins) after_factor depth signs rest old new → Reads (IsFactor pins) after_factor depth signs rest old new
+atom_is_factor pins depth signs rest old new r = record {
+  read = r.read;
+  tree = r.tree;
+  whole = r.whole;
+  spelled = plain_factor r.read r.tree r.spelled;
+  some = r.some;
+  steps = r.steps;
+  left = r.left;
+  stops = r.stops;
 }
+
+-- What is left, and how long it is.
+
+pub rest_names : (signs read rest : List Sign) → signs ≡ read ++ rest → names_in signs ≡ names_in read + names_in rest
+rest_names signs read rest whole = ap names_in whole ∙ names_append read rest
+
+pub rest_length : (signs read rest : List Sign) → signs ≡ read ++ rest → length signs ≡ length read + length rest
+rest_length signs read rest whole = ap length whole ∙ length-append read rest
+
+pub names_short : (signs : List Sign) → names_in signs ≤ length signs
+names_short [] = omega arith
+names_short (Name n ∷ signs) = let rest : names_in signs ≤ length signs = names_short signs in omega arith
+names_short (Mark b ∷ signs) = let rest : names_in signs ≤ length signs = names_short signs in omega arith
+
+second : (a b : Bool) → (a && b) ≡ true → b ≡ true
+second true b e = e
+second false b e = cc
+
+both_false : (a b : Bool) → a ≡ false → b ≡ false → (a || b) ≡ false
+both_false a b e f = ap₂ (λ x y. x || y) e f
+
+-- what follows an operand may begin one
+pub operand_goes_on : (depth : ℕ) (rest : List Sign) → begins_with begins_operand rest ≡ true → go_on false depth rest ≡ true → go_on true depth rest ≡ true
+operand_goes_on depth [] begins ok = cc
+operand_goes_on depth (sign ∷ rest) begins ok = ap₂ (λ a b. a && b) begins (second (fits false depth sign) (go_on (awaits_behind sign) (depth_behind sign depth) rest) ok)
+
+pub next_goes_on : (depth : ℕ) (rest behind : List Sign) → IsNextFactor rest behind → go_on false depth rest ≡ true → go_on true depth behind ≡ true
+next_goes_on depth rest behind (inl at) ok = behind_star (subst (λ r. go_on false depth r ≡ true) at ok)
+  where
+    behind_star : go_on false depth (star_sign ∷ behind) ≡ true → go_on true depth behind ≡ true
+    behind_star here = here
+next_goes_on depth rest behind (inr at) ok = subst (λ r. go_on true depth r ≡ true) at.0 (operand_goes_on depth rest at.1 ok)
+
+pub next_shorter : (rest behind : List Sign) → IsNextFactor rest behind → (names_in behind ≤ names_in rest) × (length behind ≤ length rest)
+next_shorter rest behind (inl at) =
+    let names : names_in rest ≡ names_in behind = ap names_in at in
+    let long : length rest ≡ suc (length behind) = ap length at in
+    (omega arith, omega arith)
+next_shorter rest behind (inr at) =
+    let names : names_in rest ≡ names_in behind = ap names_in at.0 in
+    let long : length rest ≡ length behind = ap length at.0 in
+    (omega arith, omega arith)
+
+pub plus_shorter : (rest behind : List Sign) → rest ≡ plus_sign ∷ behind → (names_in behind ≤ names_in rest) × (length behind ≤ length rest)
+plus_shorter rest behind at =
+    let names : names_in rest ≡ names_in behind = ap names_in at in
+    let long : length rest ≡ suc (length behind) = ap length at in
+    (omega arith, omega arith)
+
+pub plus_goes_on : (depth : ℕ) (rest behind : List Sign) → rest ≡ plus_sign ∷ behind → go_on false depth rest ≡ true → go_on true depth behind ≡ true
+plus_goes_on depth rest behind at ok = behind_plus (subst (λ r. go_on false depth r ≡ true) at ok)
+  where
+    behind_plus : go_on false depth (plus_sign ∷ behind) ≡ true → go_on true depth behind ≡ true
+    behind_plus here = here
+
+-- Where a sum or a product stops.
+
+pub sum_stops : (rest : List Sign) → begins_with after_product rest ≡ false → begins_with (is_mark 43) rest ≡ false → begins_with after_sum rest ≡ false
+sum_stops [] before plus = refl
+sum_stops (sign ∷ rest) before plus = both_false (after_product sign) (is_mark 43 sign) before plus
+
+pub product_stops : (rest : List Sign) → begins_with after_factor rest ≡ false → begins_with (λ sign. is_mark 42 sign || begins_operand sign) rest ≡ false → begins_with after_product rest ≡ false
+product_stops [] before next = refl
+product_stops (sign ∷ rest) before next = joined_or (is_mark 39 sign) (is_mark 42 sign) (begins_operand sign) before next
+  where
+    joined_or : (a b c : Bool) → a ≡ false → (b || c) ≡ false → (a || b || c) ≡ false
+    joined_or false false c e f = f
+    joined_or false true c e f = f
+    joined_or true b c e f = cc
+
+-- Groups and names.
+
+after_nothing : (signs : List Sign) → begins_with after_atom signs ≡ false
+after_nothing [] = refl
+after_nothing (sign ∷ signs) = refl
+
+module _ (pins : List (List ℕ)) (depth : ℕ) (old new : List ExprOp) where
+  -- a group
+  pub grouped : (signs inner rest behind : List Sign) → signs ≡ open_sign ∷ inner → Reads (SpellsSum pins) after_sum (depth + 1) inner rest old new → rest ≡ close_sign ∷ behind
+      → Reads (IsAtom pins) after_atom depth signs behind old new
+  grouped signs inner rest behind at r next =
+      let es : List Expr = r.spelled.0 in
+      let names : names_in (r.read ++ close_sign ∷ []) ≡ names_in r.read + 0 = names_append r.read (close_sign ∷ []) in
+      let one : 1 ≤ names_in r.read = r.some in
+      let out : depth + 1 - 1 ≡ depth = omega arith in
+      record {
+        read = open_sign ∷ (r.read ++ close_sign ∷ []);
+        tree = sum_of r.spelled.0;
+        whole = at ∙ ap (λ s. open_sign ∷ s) (r.whole ∙ (ap (λ b. r.read ++ b) next ∙ sym (append_assoc r.read (close_sign ∷ []) behind)));
+        spelled = group_atom r.read r.spelled.0 r.spelled.1;
+        some = omega arith;
+        steps = r.steps ∙ ap (λ e. old ++ postfix e) r.spelled.2;
+        left = subst (λ d. go_on false d behind ≡ true) out (second (fits false (depth + 1) close_sign) (go_on false (depth + 1 - 1) behind) (subst (λ s. go_on false (depth + 1) s ≡ true) next r.left));
+        stops = after_nothing behind;
+      }
+
+  pub named : (signs behind : List Sign) (name : List ℕ) (op : ExprOp) → signs ≡ Name name ∷ behind → go_on true depth signs ≡ true → op ∷ [] ≡ postfix (literal_of pins name) → new ≡ old ++ op ∷ []
+      → Reads (IsAtom pins) after_atom depth signs behind old new
+  named signs behind name op at ok literal step = record {
+    read = Name name ∷ [];
+    tree = literal_of pins name;
+    whole = at;
+    spelled = name_atom name;
+    some = omega arith;
+    steps = step ∙ ap (λ ops. old ++ ops) literal;
+    left = behind_name (subst (λ s. go_on true depth s ≡ true) at ok);
+    stops = after_nothing behind;
+  }
+    where
+      behind_name : go_on true depth (Name name ∷ behind) ≡ true → go_on false depth behind ≡ true
+      behind_name here = here
+
+-- a `!` each before a factor
+pub all_complemented : (pins : List (List ℕ)) (depth count : ℕ) (operand rest : List Sign) (old mid new : List ExprOp) → Reads (IsFactor pins) after_factor depth operand rest old mid → new ≡ mid ++ replicate count Not
+    → Reads (IsFactor pins) after_factor depth (replicate count bang_sign ++ operand) rest old new
+all_complemented pins depth zero operand rest old mid new r grown = subst (λ ops. Reads (IsFactor pins) after_factor depth operand rest old ops) (sym (grown ∙ append-nil mid)) r
+all_complemented pins depth (suc count) operand rest old mid new r grown =
+    let more : new ≡ (mid ++ replicate count Not) ++ Not ∷ [] =
+      grown ∙ (ap (λ ops. mid ++ ops) (sym (replicate_more count Not ∙ ap (λ n. replicate n Not) (add-one count))) ∙ sym (append_assoc mid (replicate count Not) (Not ∷ []))) in
+    complemented pins depth old (mid ++ replicate count Not) new more (replicate count bang_sign ++ operand) rest (all_complemented pins depth count operand rest old mid (mid ++ replicate count Not) r refl)
+
+-- behind `!` an operand still follows
+pub bangs_go_on : (depth count : ℕ) (operand : List Sign) → go_on true depth (replicate count bang_sign ++ operand) ≡ true → go_on true depth operand ≡ true
+bangs_go_on depth zero operand ok = ok
+bangs_go_on depth (suc count) operand ok = bangs_go_on depth count operand ok
+
+-- What is read next is no longer than what is left.
+pub record IsWithin (depth : ℕ) (signs next : List Sign) : Type 0 where
+  pub ok : go_on true depth next ≡ true
+  pub few : names_in next ≤ 64
+  pub shorter : length next < length signs
+  pub room : depth + length next ≤ 2 ^ 32
+
+pub within : (depth : ℕ) (signs read rest next : List Sign) → signs ≡ read ++ rest → 1 ≤ names_in read → names_in signs ≤ 64 → depth + length signs ≤ 2 ^ 32
+    → go_on true depth next ≡ true → names_in next ≤ names_in rest → length next ≤ length rest → IsWithin depth signs next
+within depth signs read rest next whole some few room ok names long =
+    let all : names_in signs ≡ names_in read + names_in rest = rest_names signs read rest whole in
+    let size : length signs ≡ length read + length rest = rest_length signs read rest whole in
+    let short : names_in read ≤ length read = names_short read in
+    record { ok = ok; few = omega arith; shorter = omega arith; room = omega arith }
+
+pub count_fits : (signs read rest : List Sign) (count : ℕ) → signs ≡ read ++ rest → count ≤ names_in read → names_in signs ≤ 64 → count ≤ 64
+count_fits signs read rest count whole few most =
+    let all : names_in signs ≡ names_in read + names_in rest = rest_names signs read rest whole in
+    omega arith
+
+pub bangs_within : (depth count : ℕ) (signs operand : List Sign) → signs ≡ replicate count bang_sign ++ operand → go_on true depth signs ≡ true → (go_on true depth operand ≡ true) × (names_in operand ≤ names_in signs) × (length operand ≤ length signs)
+bangs_within depth count signs operand whole ok =
+    let all : names_in signs ≡ names_in (replicate count bang_sign) + names_in operand = rest_names signs (replicate count bang_sign) operand whole in
+    let size : length signs ≡ length (replicate count bang_sign) + length operand = rest_length signs (replicate count bang_sign) operand whole in
+    (bangs_go_on depth count operand (subst (λ s. go_on true depth s ≡ true) whole ok), omega arith, omega arith)
