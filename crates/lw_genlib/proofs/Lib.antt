@@ -3,5 +3,7 @@ mod Bits
 mod Evaluating
 mod Names
 mod Running
+mod Sighting
 mod Spelling
 mod Stacks
+mod Strokes

@@ -16,7 +16,7 @@ use Rattle.lw_genlib.specs.Grammar.IsProduct.{first_factor, beside_factor, times
 use Rattle.lw_genlib.specs.Grammar.IsFactor.{plain_factor, bang_factor}
 use Rattle.lw_genlib.specs.Grammar.IsAtom.{name_atom, group_atom, quoted_atom}
 
-names_append : (xs ys : List Sign) → names_in (xs ++ ys) ≡ names_in xs + names_in ys
+pub names_append : (xs ys : List Sign) → names_in (xs ++ ys) ≡ names_in xs + names_in ys
 names_append [] ys = omega arith
 names_append (Name n ∷ xs) ys = let rest : names_in (xs ++ ys) ≡ names_in xs + names_in ys = names_append xs ys in omega arith
 names_append (Mark b ∷ xs) ys = names_append xs ys

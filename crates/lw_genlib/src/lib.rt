@@ -2,17 +2,21 @@
 #![tactic(auto)]
 
 mod cell;
+mod checking;
 mod eval;
+mod fault;
 mod expr;
 mod library;
 mod lists;
 mod op;
 mod parsing;
+mod seen;
 mod sign;
 mod truth;
 
 pub use cell::Cell;
 pub use expr::Expr;
+pub use fault::{LibFault, LibKind};
 pub use library::Library;
 pub use lists::{Exprs, Micros};
 pub use op::ExprOp;
