@@ -1,6 +1,7 @@
 mod Assignments
 mod Bits
 mod Evaluating
+mod Grammars
 mod Names
 mod Running
 mod Sighting

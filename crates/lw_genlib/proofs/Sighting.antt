@@ -89,8 +89,8 @@ same_seen a b count' equals' awaits' depth' names' constant' plain' pins' =
 pub sight_more : (before : List Sign) (sign : Sign) → seen_more (sight_of before) sign ≡ sight_of (before ++ sign ∷ [])
 sight_more before sign =
     same_seen (seen_more (sight_of before) sign) (sight_of (before ++ sign ∷ []))
-      (sym (length-append before (sign ∷ []))) (sym (any_more (is_mark 61) before sign)) (sym (awaits_more before sign)) (sym (fold_more (λ depth s. depth_behind s depth) 0 before sign))
-      (sym (names_more before sign)) (constant_more before sign) (sym (plain_more before sign)) (pins_more before sign)
+    (sym (length-append before (sign ∷ []))) (sym (any_more (is_mark 61) before sign)) (sym (awaits_more before sign)) (sym (fold_more (λ depth s. depth_behind s depth) 0 before sign))
+    (sym (names_more before sign)) (constant_more before sign) (sym (plain_more before sign)) (pins_more before sign)
 
 -- Counts are no greater than the number of signs.
 

@@ -1,6 +1,8 @@
 -- Reading expressions from signs: how what was read grows.
 use Rattle.std.proofs.Common.{ℕ, zero, suc, ◌+◌, ◌-◌, ◌<◌, ◌≤◌, ◌≡◌, ◌^◌, Bool, true, false, not, ◌&&◌, ◌||◌, cond, eqb, List, [], ◌∷◌, ◌++◌, length, take, drop, refl, sym, ap, ap₂, ◌∙◌, subst, arith, append_assoc, append-nil, length-append, inl, inr, ◌⊎◌, add-one}
 use Rattle.std.proofs.lemmas.List.{replicate_more}
+use Rattle.std.proofs.lemmas.Bool.{false≢true}
+use Rattle.std.proofs.lemmas.Bool.Decides.{nat_tests}
 use Rattle.std.specs.Prelude.{replicate}
 use Rattle.std.specs.List.{prefix_len}
 use Rattle.lw_laws.specs.Expressions.{Expr, Exprs}
@@ -360,7 +362,7 @@ pub all_complemented : (pins : List (List ℕ)) (depth count : ℕ) (operand res
 all_complemented pins depth zero operand rest old mid new r grown = subst (λ ops. Reads (IsFactor pins) after_factor depth operand rest old ops) (sym (grown ∙ append-nil mid)) r
 all_complemented pins depth (suc count) operand rest old mid new r grown =
     let more : new ≡ (mid ++ replicate count Not) ++ Not ∷ [] =
-      grown ∙ (ap (λ ops. mid ++ ops) (sym (replicate_more count Not ∙ ap (λ n. replicate n Not) (add-one count))) ∙ sym (append_assoc mid (replicate count Not) (Not ∷ []))) in
+    grown ∙ (ap (λ ops. mid ++ ops) (sym (replicate_more count Not ∙ ap (λ n. replicate n Not) (add-one count))) ∙ sym (append_assoc mid (replicate count Not) (Not ∷ []))) in
     complemented pins depth old (mid ++ replicate count Not) new more (replicate count bang_sign ++ operand) rest (all_complemented pins depth count operand rest old mid (mid ++ replicate count Not) r refl)
 
 -- behind `!` an operand still follows
@@ -393,3 +395,20 @@ bangs_within depth count signs operand whole ok =
     let all : names_in signs ≡ names_in (replicate count bang_sign) + names_in operand = rest_names signs (replicate count bang_sign) operand whole in
     let size : length signs ≡ length (replicate count bang_sign) + length operand = rest_length signs (replicate count bang_sign) operand whole in
     (bangs_go_on depth count operand (subst (λ s. go_on true depth s ≡ true) whole ok), omega arith, omega arith)
+
+-- Where no group is open, nothing is left behind a sum.
+
+after_tests : (o c n q p s : Bool) → (q || s || (o || n) || p) ≡ false → ((o || c || n || q || p || s) && not (c && true)) ≡ true → ⊥
+after_tests o c n q p s after fit = grind (arith, nat_tests)
+
+inner_after : (sign : Sign) → after_sum sign ≡ false → fits false 0 sign ≡ true → ⊥
+inner_after (Name name) after fit = cc
+inner_after (Mark b) after fit = after_tests (eqb b 40) (eqb b 41) (eqb b 33) (eqb b 39) (eqb b 43) (eqb b 42) after fit
+
+pub nothing_left : (rest : List Sign) → go_on false 0 rest ≡ true → begins_with after_sum rest ≡ false → rest ≡ []
+nothing_left [] ok stops = refl
+nothing_left (sign ∷ rest) ok stops = absurd (inner_after sign stops (first_true (fits false 0 sign) (go_on (awaits_behind sign) (depth_behind sign 0) rest) ok))
+  where
+    first_true : (a b : Bool) → (a && b) ≡ true → a ≡ true
+    first_true true b e = refl
+    first_true false b e = cc

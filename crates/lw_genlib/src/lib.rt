@@ -4,8 +4,8 @@
 mod cell;
 mod checking;
 mod eval;
-mod fault;
 mod expr;
+mod fault;
 mod library;
 mod lists;
 mod op;

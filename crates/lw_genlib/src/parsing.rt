@@ -7,13 +7,26 @@ ghost use Rattle.lw_genlib.specs.Grammar as grammar;
 ghost use Rattle.lw_genlib.specs.Grammar.{Reads, IsAtom, IsFactor, SpellsProduct, SpellsSum, go_on, begins_with, names_in};
 ghost use Rattle.lw_genlib.specs.Postfix.{postfix};
 
-use crate::{ExprOp, Sign};
+use crate::{Expr, ExprOp, Sign};
 use lw_pool::Name;
-use std::alloc::AllocError;
+use std::alloc::{AllocError, Global};
 
-/// Reads a sum from the front of the signs, appends its steps, and answers the signs that are left.
+/// The expression that the signs spell, over these pins.
+pub(crate) fn expression(alloc: Global, signs: &[Sign], pins: &[Name]) -> Result<Expr, AllocError>
+    requires fits { go_on true 0 signs.now ≡ true }
+    requires few { names_in signs.now ≤ 64 }
+    requires short { length signs.now ≤ 2 ^ 32 }
+    requires pins { length pins.now ≤ 16 }
+    ensures { IfOk result (λ expr. SpellsSum pins.now signs.now expr) }
+{
+    let mut ops = Vec::new(alloc);
+    sum(signs, 0, pins, &mut ops)?;
+    Ok(Expr::new(ops))
+}
+
+// Reads a sum from the front of the signs, appends its steps, and answers the signs that are left.
 #[cycle(expression)]
-pub(crate) fn sum<'a>(
+fn sum<'a>(
     signs: &'a [Sign],
     depth: usize,
     pins: &[Name],

@@ -10,7 +10,7 @@ use Rattle.lw_genlib.proofs.checking.pins_of.Goals as goal
 pub returns-in-Some : goal.returns-in-Some
 returns-in-Some c =
     found c.args.lines.now c.args.signs.now c.loop-place.place c.index-signs-place.result c.loop-place-test.true c.requires.lines c.index-signs-place.is c.in-Some.kind
-      (c.in-Some.ensures ∙ (ap (λ (s : Seen). fault_at s c.index-signs-place.result) c.loop-place.invariant.0 ∙ fault_same (take c.loop-place.place c.args.signs.now) c.index-signs-place.result)) c.loop-place.invariant.1
+    (c.in-Some.ensures ∙ (ap (λ (s : Seen). fault_at s c.index-signs-place.result) c.loop-place.invariant.0 ∙ fault_same (take c.loop-place.place c.args.signs.now) c.index-signs-place.result)) c.loop-place.invariant.1
 
 pub add-requires : goal.add-requires
 add-requires c =
@@ -19,9 +19,10 @@ add-requires c =
 
 pub loop-place-preserved : goal.loop-place-preserved
 loop-place-preserved c = (
-    seen_next c.args.lines.now c.args.signs.now c.loop-place.place c.index-signs-place.result c.loop-place-test.true c.requires.lines c.index-signs-place.is c.loop-place.seen c.add.new.seen c.loop-place.invariant.0 c.in-Ok.ensures,
-    goes_on c.args.lines.now c.args.signs.now c.loop-place.place c.index-signs-place.result c.loop-place-test.true c.requires.lines c.index-signs-place.is
-      (c.in_default.ensures ∙ (ap (λ (s : Seen). fault_at s c.index-signs-place.result) c.loop-place.invariant.0 ∙ fault_same (take c.loop-place.place c.args.signs.now) c.index-signs-place.result)) c.loop-place.invariant.1)
+  seen_next c.args.lines.now c.args.signs.now c.loop-place.place c.index-signs-place.result c.loop-place-test.true c.requires.lines c.index-signs-place.is c.loop-place.seen c.add.new.seen c.loop-place.invariant.0 c.in-Ok.ensures,
+  goes_on c.args.lines.now c.args.signs.now c.loop-place.place c.index-signs-place.result c.loop-place-test.true c.requires.lines c.index-signs-place.is
+      (c.in_default.ensures ∙ (ap (λ (s : Seen). fault_at s c.index-signs-place.result) c.loop-place.invariant.0 ∙ fault_same (take c.loop-place.place c.args.signs.now) c.index-signs-place.result)) c.loop-place.invariant.1,
+)
 
 pub returns : goal.returns
 returns c =

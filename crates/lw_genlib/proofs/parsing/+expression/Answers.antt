@@ -21,8 +21,8 @@ factor-quoted-requires t c =
 pub factor-returns : goal.factor-returns
 factor-returns t c =
     subst (λ (signs : List Sign). Reads (IsFactor c.args.pins.now) after_factor c.args.depth signs c.in_ok-rest.rest.now c.args.ops.now.items c.push_complements.new.ops.items) (sym c.without_bangs-bangs.ensures.whole)
-      (all_complemented c.args.pins.now c.args.depth c.without_bangs-bangs.result.0 c.without_bangs-bangs.result.1.now c.in_ok-rest.rest.now _ _ _
-        (atom_is_factor c.args.pins.now c.args.depth _ _ _ _ c.in_ok-rest.ensures) c.in_ok-push_complements.ensures)
+    (all_complemented c.args.pins.now c.args.depth c.without_bangs-bangs.result.0 c.without_bangs-bangs.result.1.now c.in_ok-rest.rest.now _ _ _
+    (atom_is_factor c.args.pins.now c.args.depth _ _ _ _ c.in_ok-rest.ensures) c.in_ok-push_complements.ensures)
 
 pub product-loop-behind-init : goal.product-loop-behind-init
 product-loop-behind-init t c = product_begins c.args.pins.now c.args.depth c.args.signs.now _ _ _ c.in_ok-rest.ensures
@@ -31,7 +31,7 @@ pub product-factor-requires-in-Some : goal.product-factor-requires-in-Some
 product-factor-requires-in-Some t c =
     let short = next_shorter c.loop-behind.rest.now c.in-Some.behind.now c.in-Some.ensures.some in
     let next = within c.args.depth c.args.signs.now c.loop-behind.invariant.read c.loop-behind.rest.now c.in-Some.behind.now c.loop-behind.invariant.whole (omega (arith, c.loop-behind.invariant.positive, c.loop-behind.invariant.few)) c.requires.few c.requires.short
-      (next_goes_on c.args.depth c.loop-behind.rest.now c.in-Some.behind.now c.in-Some.ensures.some c.loop-behind.invariant.left) short.0 short.1 in
+    (next_goes_on c.args.depth c.loop-behind.rest.now c.in-Some.behind.now c.in-Some.ensures.some c.loop-behind.invariant.left) short.0 short.1 in
     (omega arith, (next.ok, (next.few, (next.room, c.requires.pins))))
 
 pub product-overflow_add-factors : goal.product-overflow_add-factors
@@ -45,9 +45,9 @@ product-loop-behind-preserved t c = product_goes_on c.args.pins.now c.args.depth
 pub product-returns : goal.product-returns
 product-returns t c =
     product_ends c.args.pins.now c.args.depth c.args.signs.now _ c.args.ops.now.items c.loop-behind.ops.items c.if-factors-gt1.ops.items c.loop-behind.factors c.loop-behind.invariant
-      (λ alone. elim c.if-factors-gt1.branch [ product-then-factors-gt1+in_ok-push w ↦ absurd (omega arith) | product-else-factors-gt1 w ↦ ap (λ (v : Vec ExprOp). v.items) w.ops-is ])
-      (λ many. elim c.if-factors-gt1.branch [ product-then-factors-gt1+in_ok-push w ↦ ap (λ (v : Vec ExprOp). v.items) w.ops-is ∙ w.in_ok-push.ensures.items | product-else-factors-gt1 w ↦ absurd (omega arith) ])
-      (product_stops c.loop-behind.rest.now c.loop-behind.invariant.stops c.in_default.ensures.none)
+    (λ alone. elim c.if-factors-gt1.branch [ product-then-factors-gt1+in_ok-push w ↦ absurd (omega arith) | product-else-factors-gt1 w ↦ ap (λ (v : Vec ExprOp). v.items) w.ops-is ])
+    (λ many. elim c.if-factors-gt1.branch [ product-then-factors-gt1+in_ok-push w ↦ ap (λ (v : Vec ExprOp). v.items) w.ops-is ∙ w.in_ok-push.ensures.items | product-else-factors-gt1 w ↦ absurd (omega arith) ])
+    (product_stops c.loop-behind.rest.now c.loop-behind.invariant.stops c.in_default.ensures.none)
 
 pub quoted-loop-behind-preserved : goal.quoted-loop-behind-preserved
 quoted-loop-behind-preserved t c = quoted c.args.pins.now c.args.depth _ _ _ c.in_ok-push.ensures.items c.args.signs.now c.loop-behind.rest.now _ c.loop-behind.invariant c.in-Some.ensures.some
@@ -59,7 +59,7 @@ pub sum-product-requires-in-Some : goal.sum-product-requires-in-Some
 sum-product-requires-in-Some t c =
     let short = plus_shorter c.loop-behind.rest.now c.in-Some.behind.now c.in-Some.ensures.some in
     let next = within c.args.depth c.args.signs.now c.loop-behind.invariant.read c.loop-behind.rest.now c.in-Some.behind.now c.loop-behind.invariant.whole (omega (arith, c.loop-behind.invariant.positive, c.loop-behind.invariant.few)) c.requires.few c.requires.short
-      (plus_goes_on c.args.depth c.loop-behind.rest.now c.in-Some.behind.now c.in-Some.ensures.some c.loop-behind.invariant.left) short.0 short.1 in
+    (plus_goes_on c.args.depth c.loop-behind.rest.now c.in-Some.behind.now c.in-Some.ensures.some c.loop-behind.invariant.left) short.0 short.1 in
     (omega arith, (next.ok, (next.few, (next.room, c.requires.pins))))
 
 pub sum-overflow_add-products : goal.sum-overflow_add-products
@@ -73,6 +73,6 @@ sum-loop-behind-preserved t c = sum_goes_on c.args.pins.now c.args.depth c.args.
 pub sum-returns : goal.sum-returns
 sum-returns t c =
     sum_ends c.args.pins.now c.args.depth c.args.signs.now _ c.args.ops.now.items c.loop-behind.ops.items c.if-products-gt1.ops.items c.loop-behind.products c.loop-behind.invariant
-      (λ alone. elim c.if-products-gt1.branch [ sum-then-products-gt1+in_ok-push w ↦ absurd (omega arith) | sum-else-products-gt1 w ↦ ap (λ (v : Vec ExprOp). v.items) w.ops-is ])
-      (λ many. elim c.if-products-gt1.branch [ sum-then-products-gt1+in_ok-push w ↦ ap (λ (v : Vec ExprOp). v.items) w.ops-is ∙ w.in_ok-push.ensures.items | sum-else-products-gt1 w ↦ absurd (omega arith) ])
-      (sum_stops c.loop-behind.rest.now c.loop-behind.invariant.stops c.in_default.ensures.none)
+    (λ alone. elim c.if-products-gt1.branch [ sum-then-products-gt1+in_ok-push w ↦ absurd (omega arith) | sum-else-products-gt1 w ↦ ap (λ (v : Vec ExprOp). v.items) w.ops-is ])
+    (λ many. elim c.if-products-gt1.branch [ sum-then-products-gt1+in_ok-push w ↦ ap (λ (v : Vec ExprOp). v.items) w.ops-is ∙ w.in_ok-push.ensures.items | sum-else-products-gt1 w ↦ absurd (omega arith) ])
+    (sum_stops c.loop-behind.rest.now c.loop-behind.invariant.stops c.in_default.ensures.none)
