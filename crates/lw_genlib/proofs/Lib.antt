@@ -1,6 +1,7 @@
 mod Assignments
 mod Bits
 mod Evaluating
+mod Faultless
 mod Grammars
 mod Names
 mod Running

@@ -41,19 +41,19 @@ fault_same before sign = simp (bad_same before sign, may_same before sign, new_s
 
 -- One more sign.
 
-fold_more : {A B : Type 0} (f : B → A → B) (a : B) (xs : List A) (x : A) → fold f a (xs ++ x ∷ []) ≡ f (fold f a xs) x
+pub fold_more : {A B : Type 0} (f : B → A → B) (a : B) (xs : List A) (x : A) → fold f a (xs ++ x ∷ []) ≡ f (fold f a xs) x
 fold_more f a [] x = refl
 fold_more f a (y ∷ xs) x = fold_more f (f a y) xs x
 
-any_more : (p : Sign → Bool) (xs : List Sign) (x : Sign) → list_any p (xs ++ x ∷ []) ≡ (list_any p xs || p x)
+pub any_more : (p : Sign → Bool) (xs : List Sign) (x : Sign) → list_any p (xs ++ x ∷ []) ≡ (list_any p xs || p x)
 any_more p xs x = list_any-append p xs (x ∷ []) ∙ ap (λ b. list_any p xs || b) (or-false (p x))
 
-awaits_more : (xs : List Sign) (x : Sign) → awaits (xs ++ x ∷ []) ≡ (is_mark 61 x || awaits_behind x)
+pub awaits_more : (xs : List Sign) (x : Sign) → awaits (xs ++ x ∷ []) ≡ (is_mark 61 x || awaits_behind x)
 awaits_more [] x = refl
 awaits_more (y ∷ []) x = refl
 awaits_more (y ∷ z ∷ xs) x = awaits_more (z ∷ xs) x
 
-names_more : (xs : List Sign) (x : Sign) → names_in (xs ++ x ∷ []) ≡ names_in xs + one_if (is_name x)
+pub names_more : (xs : List Sign) (x : Sign) → names_in (xs ++ x ∷ []) ≡ names_in xs + one_if (is_name x)
 names_more xs (Name n) = names_append xs (Name n ∷ [])
 names_more xs (Mark b) = names_append xs (Mark b ∷ [])
 
@@ -66,7 +66,7 @@ constant_more (y ∷ xs) x =
     let some : eqb (length (y ∷ xs)) 0 ≡ false = ne_eqb _ 0 (λ e. absurd (omega (arith, e))) in
     ap (λ b. cond b false (list_any is_constant xs || is_constant x)) some ∙ sym (any_more is_constant xs x)
 
-pins_more : (xs : List Sign) (x : Sign) → cond (eqb (length xs) 0) (pins_in xs) (with_pin (pins_in xs) x) ≡ pins_in (xs ++ x ∷ [])
+pub pins_more : (xs : List Sign) (x : Sign) → cond (eqb (length xs) 0) (pins_in xs) (with_pin (pins_in xs) x) ≡ pins_in (xs ++ x ∷ [])
 pins_more [] x = refl
 pins_more (y ∷ xs) x =
     let some : eqb (length (y ∷ xs)) 0 ≡ false = ne_eqb _ 0 (λ e. absurd (omega (arith, e))) in
