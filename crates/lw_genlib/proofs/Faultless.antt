@@ -2,7 +2,8 @@
 use Rattle.std.proofs.Common.{ℕ, suc, ◌+◌, ◌-◌, ◌<◌, ◌≤◌, ◌≡◌, Bool, true, false, not, ◌&&◌, ◌||◌, cond, eqb, List, [], ◌∷◌, ◌++◌, length, take, drop, Some, None, refl, sym, ap, ap₂, ◌∙◌, subst, arith, length-append, append_assoc, append-nil}
 use Rattle.std.specs.Prelude.{Option, nat_le}
 use Rattle.std.specs.List.{list_any}
-use Rattle.std.proofs.lemmas.Bool.{ne_eqb, leb-false, false≢true}
+use Rattle.std.proofs.lemmas.Bool.{ne_eqb, leb-false, eqb-true}
+use Rattle.std.proofs.lemmas.List.{take_at}
 use Rattle.std.proofs.lemmas.Bool.Decides.{nat_tests}
 use Rattle.lw_genlib.specs.declared.sign.Sign.{Sign}
 use Rattle.lw_genlib.specs.declared.sign.Sign.TheVariants.{Name, Mark}
@@ -10,7 +11,7 @@ use Rattle.lw_genlib.specs.declared.fault.LibKind.{LibKind}
 use Rattle.lw_genlib.specs.declared.fault.LibKind.TheVariants.{Expected, BadByte, ConstInside, LimitLiterals, LimitPins}
 use Rattle.lw_genlib.specs.declared.fault.LibFault.{LibFault}
 use Rattle.lw_genlib.specs.Grammar.{is_mark, is_name, is_inner, begins_operand, awaits_behind, depth_behind, fits, go_on, names_in}
-use Rattle.lw_genlib.specs.Functions.{awaits, depth_in, with_pin, pins_in, is_constant_name, is_among, is_bad, may_follow, is_new_pin, has_constant_inside, sign_fault, first_fault, fault_or}
+use Rattle.lw_genlib.specs.Functions.{IsText, awaits, depth_in, with_pin, pins_in, is_constant_name, is_among, is_bad, may_follow, is_new_pin, has_constant_inside, sign_fault, first_fault, fault_or}
 use Rattle.lw_genlib.specs.Sights.{one_if}
 use Rattle.lw_genlib.proofs.Sighting.{fold_more, any_more, awaits_more, names_more, pins_more}
 
@@ -135,3 +136,75 @@ rest_goes_on before (line ∷ lines) (sign ∷ rest) size none ends two names pi
         let waits : awaits (before ++ sign ∷ []) ≡ awaits_behind sign = awaits_more before sign ∙ ap (λ b. b || awaits_behind sign) equals in
         let deep : depth_in (before ++ sign ∷ []) ≡ depth_behind sign (depth_in before) = fold_more (λ depth s. depth_behind s depth) 0 before sign in
         ap₂ (λ a b. a && b) fit (ap₂ (λ w d. go_on w d rest) (sym waits) (sym deep) ∙ others)
+
+-- A text of which no sign breaks a rule.
+pub record IsFaultless (signs : List Sign) : Type 0 where
+  pub output : List ℕ
+  pub inner : List Sign
+  pub whole : signs ≡ Name output ∷ Mark 61 ∷ (inner ++ Mark 59 ∷ [])
+  pub goes_on : go_on true 0 inner ≡ true
+  pub names : names_in inner ≤ 64
+  pub pins : length (pins_in signs) ≤ 16
+
+end_adds_none : (before : List Sign) → 1 ≤ length before → length (pins_in before) ≤ 16 → length (pins_in (before ++ Mark 59 ∷ [])) ≤ 16
+end_adds_none before some few =
+    let front : eqb (length before) 0 ≡ false = ne_eqb (length before) 0 (λ e. absurd (omega (arith, e))) in
+    let pins : pins_in before ≡ pins_in (before ++ Mark 59 ∷ []) = ap (λ b. cond b (pins_in before) (pins_in before)) (sym front) ∙ pins_more before (Mark 59) in
+    subst (λ ps. length ps ≤ 16) pins few
+
+with_inner : (n : List ℕ) (lines : List ℕ) (inner : List Sign) → length lines ≡ length inner + 1 → first_fault (Name n ∷ Mark 61 ∷ []) lines (inner ++ Mark 59 ∷ []) ≡ None → list_any (is_mark 59) inner ≡ false
+    → IsFaultless (Name n ∷ Mark 61 ∷ (inner ++ Mark 59 ∷ []))
+with_inner n lines inner size none ends =
+    let rest = rest_goes_on (Name n ∷ Mark 61 ∷ []) lines inner size none ends (omega arith) (omega arith) (omega arith) in
+    let names : 1 + names_in inner ≤ 65 = rest.names in
+    record {
+      output = n;
+      inner = inner;
+      whole = refl;
+      goes_on = rest.goes_on;
+      names = omega arith;
+      pins = end_adds_none (Name n ∷ Mark 61 ∷ inner) (omega arith) rest.pins;
+    }
+
+with_mark : (n : List ℕ) (b : ℕ) (lines : List ℕ) (inner : List Sign) → eqb b 61 ≡ true → length lines ≡ length inner + 1 → first_fault (Name n ∷ Mark b ∷ []) lines (inner ++ Mark 59 ∷ []) ≡ None → list_any (is_mark 59) inner ≡ false
+    → IsFaultless (Name n ∷ Mark b ∷ (inner ++ Mark 59 ∷ []))
+with_mark n b lines inner is size none ends =
+    subst (λ m. IsFaultless (Name n ∷ Mark m ∷ (inner ++ Mark 59 ∷ []))) (sym (eqb-true b 61 is))
+      (with_inner n lines inner size (subst (λ m. first_fault (Name n ∷ Mark m ∷ []) lines (inner ++ Mark 59 ∷ []) ≡ None) (eqb-true b 61 is) none) ends)
+
+behind_two : (output equals : Sign) (lines : List ℕ) (inner : List Sign) → is_name output ≡ true → is_mark 61 equals ≡ true → length lines ≡ length inner + 1 → first_fault (output ∷ equals ∷ []) lines (inner ++ Mark 59 ∷ []) ≡ None
+    → list_any (is_mark 59) inner ≡ false → IsFaultless (output ∷ equals ∷ (inner ++ Mark 59 ∷ []))
+behind_two (Mark b) equals lines inner name mark size none ends = cc
+behind_two (Name n) (Name m) lines inner name mark size none ends = cc
+behind_two (Name n) (Mark b) lines inner name mark size none ends = with_mark n b lines inner mark size none ends
+
+any_tail : (a b c : Bool) → (a || (b || c)) ≡ false → c ≡ false
+any_tail true b c e = cc
+any_tail false true c e = cc
+any_tail false false c e = e
+
+text_faultless : (before : List Sign) (lines : List ℕ) → length lines ≡ length before + 1 → first_fault [] lines (before ++ Mark 59 ∷ []) ≡ None → list_any (is_mark 59) before ≡ false → IsFaultless (before ++ Mark 59 ∷ [])
+text_faultless before [] size none ends = absurd (omega arith)
+text_faultless [] (line ∷ lines) size none ends =
+    let here : is_name (Mark 59) ≡ true = (first_none [] line lines (Mark 59) [] none).0.may in cc
+text_faultless (output ∷ before) (line ∷ []) size none ends = absurd (omega arith)
+text_faultless (output ∷ []) (line ∷ second ∷ lines) size none ends =
+    let behind = (first_none [] line (second ∷ lines) output (Mark 59 ∷ []) none).1 in
+    let here : is_mark 61 (Mark 59) ≡ true = (first_none (output ∷ []) second lines (Mark 59) [] behind).0.may in cc
+text_faultless (output ∷ equals ∷ inner) (line ∷ second ∷ lines) size none ends =
+    let first = first_none [] line (second ∷ lines) output (equals ∷ (inner ++ Mark 59 ∷ [])) none in
+    let next = first_none (output ∷ []) second lines equals (inner ++ Mark 59 ∷ []) first.1 in
+    behind_two output equals lines inner first.0.may next.0.may (omega arith) next.1 (any_tail (is_mark 59 output) (is_mark 59 equals) (list_any (is_mark 59) inner) ends)
+
+pub faultless : (signs : List Sign) (lines : List ℕ) → IsText signs → length lines ≡ length signs → first_fault [] lines signs ≡ None → IsFaultless signs
+faultless signs lines text size none =
+    let long : length signs ≡ length text.before + 1 = ap length text.whole ∙ length-append text.before (Mark 59 ∷ []) in
+    subst IsFaultless (sym text.whole) (text_faultless text.before lines (size ∙ long) (subst (λ s. first_fault [] lines s ≡ None) text.whole none) text.no_end)
+
+-- the signs between `=` and `;`
+pub inner_at : (signs inner : List Sign) (output : List ℕ) → signs ≡ Name output ∷ Mark 61 ∷ (inner ++ Mark 59 ∷ []) → (length signs ≡ length inner + 3) × (take (length signs - 1 - 2) (drop 2 signs) ≡ inner)
+inner_at signs inner output whole =
+    let long : length signs ≡ suc (suc (length (inner ++ Mark 59 ∷ []))) = ap length whole in
+    let more : length (inner ++ Mark 59 ∷ []) ≡ length inner + 1 = length-append inner (Mark 59 ∷ []) in
+    let count : length signs - 1 - 2 ≡ length inner = omega arith in
+    (omega arith, ap₂ (λ n s. take n (drop 2 s)) count whole ∙ take_at inner (Mark 59 ∷ []) (length inner) refl)

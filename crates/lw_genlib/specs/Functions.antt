@@ -1,5 +1,5 @@
 -- The functions of cells: the first sign that may not stand where it does, and the pins.
-use Rattle.std.specs.Prelude.{ℕ, ◌+◌, ◌==◌, nat_le, Bool, true, false, not, ◌&&◌, ◌||◌, List, [], ◌∷◌, ◌++◌, length, drop, fold, filter, Option, Some, None, if◌then◌else◌, codes}
+use Rattle.std.specs.Prelude.{ℕ, ◌+◌, ◌==◌, ◌≡◌, ◌≤◌, nat_le, Bool, true, false, not, ◌&&◌, ◌||◌, List, [], ◌∷◌, ◌++◌, length, drop, fold, filter, Option, Some, None, if◌then◌else◌, codes}
 use Rattle.std.specs.List.{list_any, count_by}
 use Rattle.std.specs.Str.{bytes_eq}
 use Rattle.lw_genlib.specs.declared.sign.Sign.{Sign}
@@ -9,7 +9,8 @@ use Rattle.lw_genlib.specs.declared.fault.LibKind.TheVariants.{Expected, BadByte
 use Rattle.lw_genlib.specs.declared.fault.LibFault.{LibFault}
 use Rattle.lw_genlib.specs.declared.fault.LibFault.TheVariants.{Line}
 use Rattle.lw_genlib.specs.Cells.{ends_in_stroke}
-use Rattle.lw_genlib.specs.Grammar.{is_mark, is_name, awaits_behind, depth_behind, fits, names_in}
+use Rattle.lw_laws.specs.Expressions.{Expr}
+use Rattle.lw_genlib.specs.Grammar.{is_mark, is_name, awaits_behind, depth_behind, fits, names_in, SpellsSum}
 
 -- What signs say.
 
@@ -89,3 +90,17 @@ unfoldable pub first_fault : List Sign → List ℕ → List Sign → Option Lib
 first_fault before lines [] = None
 first_fault before [] (sign ∷ signs) = None
 first_fault before (line ∷ lines) (sign ∷ signs) = fault_or line (sign_fault before sign) (first_fault (before ++ sign ∷ []) lines signs)
+
+-- The signs of a function's text: its one `;` is the last.
+pub record IsText (signs : List Sign) : Type 0 where
+  pub before : List Sign
+  pub whole : signs ≡ before ++ Mark 59 ∷ []
+  pub no_end : list_any (is_mark 59) before ≡ false
+
+-- what a function's text says: the output, the pins, and an expression over them
+pub record Says (signs : List Sign) (output : List ℕ) (pins : List (List ℕ)) (form : Expr) : Type 0 where
+  pub inner : List Sign
+  pub whole : signs ≡ Name output ∷ Mark 61 ∷ (inner ++ Mark 59 ∷ [])
+  pub named : pins ≡ pins_in signs
+  pub few : length pins ≤ 16
+  pub spelled : SpellsSum pins inner form

@@ -6,6 +6,7 @@ mod checking;
 mod eval;
 mod expr;
 mod fault;
+mod function;
 mod library;
 mod lists;
 mod op;

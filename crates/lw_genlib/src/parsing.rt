@@ -151,7 +151,7 @@ fn behind_mark(mark: u8, signs: &[Sign]) -> Option<&[Sign]>
 }
 
 // The name that stands first, and what stands behind it.
-fn first_name(signs: &[Sign]) -> (&Name, &[Sign])
+pub(crate) fn first_name(signs: &[Sign]) -> (&Name, &[Sign])
     requires { begins_with grammar.is_name signs.now ≡ true }
     ensures { signs.now ≡ Sign.Name result.0.now ∷ result.1.now }
 {
