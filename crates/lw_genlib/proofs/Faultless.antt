@@ -208,3 +208,6 @@ inner_at signs inner output whole =
     let more : length (inner ++ Mark 59 ∷ []) ≡ length inner + 1 = length-append inner (Mark 59 ∷ []) in
     let count : length signs - 1 - 2 ≡ length inner = omega arith in
     (omega arith, ap₂ (λ n s. take n (drop 2 s)) count whole ∙ take_at inner (Mark 59 ∷ []) (length inner) refl)
+
+pub same_output : (signs inner rest : List Sign) (output name : List ℕ) → signs ≡ Name output ∷ Mark 61 ∷ (inner ++ Mark 59 ∷ []) → signs ≡ Name name ∷ rest → output ≡ name
+same_output signs inner rest output name whole at = cc

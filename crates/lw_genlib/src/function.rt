@@ -1,5 +1,5 @@
 // What the text of a function says.
-ghost use Rattle.std.specs.Prelude.{◌≡◌, ◌<◌, ◌^◌, [], None, length, MatchResult};
+ghost use Rattle.std.specs.Prelude.{◌≡◌, ◌<◌, ◌≤◌, ◌-◌, ◌^◌, [], None, length, take, drop, MatchResult};
 ghost use Rattle.lw_genlib.specs.Functions.{IsText, Says, first_fault};
 ghost use Rattle.lw_genlib.specs.Tells.{TellsFault};
 
@@ -35,9 +35,16 @@ pub(crate) fn function_of(
     let Ok(output) = Name::from_slice(alloc, output.as_bytes()) else {
         return Err(LibFault::Memory);
     };
-    let inner = &signs[2..signs.len() - 1];
-    let Ok(form) = expression(alloc, inner, pins.as_slice()) else {
+    let Ok(form) = expression(alloc, between(signs), pins.as_slice()) else {
         return Err(LibFault::Memory);
     };
     Ok(Function { output, pins, form })
+}
+
+// The signs behind the first two and before the last.
+fn between(signs: &[Sign]) -> &[Sign]
+    requires { 3 ≤ length signs.now }
+    ensures { result.now ≡ take (length signs.now - 1 - 2) (drop 2 signs.now) }
+{
+    &signs[2..signs.len() - 1]
 }
