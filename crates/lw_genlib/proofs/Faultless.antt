@@ -112,7 +112,7 @@ rest_goes_on before (line ∷ lines) (sign ∷ rest) size none ends two names pi
     let here = parts.0 in
     let size' : length (before ++ sign ∷ []) ≡ length before + 1 = length-append before (sign ∷ []) in
     let others = rest_goes_on (before ++ sign ∷ []) lines rest (omega arith) parts.1 (second_false (is_mark 59 sign) (list_any (is_mark 59) rest) ends) (omega arith) (named_few before sign here names)
-      (pinned_few before sign (omega arith) here pins) in
+    (pinned_few before sign (omega arith) here pins) in
     let same : (before ++ sign ∷ []) ++ rest ≡ before ++ sign ∷ rest = append_assoc before (sign ∷ []) rest in
     record {
       goes_on = here_and_on (first_false (is_mark 59 sign) (list_any (is_mark 59) rest) ends) here.may others.goes_on;
@@ -131,7 +131,7 @@ rest_goes_on before (line ∷ lines) (sign ∷ rest) size none ends two names pi
     here_and_on : is_mark 59 sign ≡ false → may_follow before sign ≡ true → go_on (awaits (before ++ sign ∷ [])) (depth_in (before ++ sign ∷ [])) rest ≡ true → go_on (awaits before) (depth_in before) (sign ∷ rest) ≡ true
     here_and_on not_end may others =
         let fit : fits (awaits before) (depth_in before) sign ≡ true =
-          ap (λ b. cond b (not (awaits before) && eqb (depth_in before) 0) (fits (awaits before) (depth_in before) sign)) (sym not_end) ∙ (sym (may_inside before sign two) ∙ may) in
+        ap (λ b. cond b (not (awaits before) && eqb (depth_in before) 0) (fits (awaits before) (depth_in before) sign)) (sym not_end) ∙ (sym (may_inside before sign two) ∙ may) in
         let equals : is_mark 61 sign ≡ false = no_equals (awaits before) (depth_in before) sign fit in
         let waits : awaits (before ++ sign ∷ []) ≡ awaits_behind sign = awaits_more before sign ∙ ap (λ b. b || awaits_behind sign) equals in
         let deep : depth_in (before ++ sign ∷ []) ≡ depth_behind sign (depth_in before) = fold_more (λ depth s. depth_behind s depth) 0 before sign in
@@ -170,7 +170,7 @@ with_mark : (n : List ℕ) (b : ℕ) (lines : List ℕ) (inner : List Sign) → 
     → IsFaultless (Name n ∷ Mark b ∷ (inner ++ Mark 59 ∷ []))
 with_mark n b lines inner is size none ends =
     subst (λ m. IsFaultless (Name n ∷ Mark m ∷ (inner ++ Mark 59 ∷ []))) (sym (eqb-true b 61 is))
-      (with_inner n lines inner size (subst (λ m. first_fault (Name n ∷ Mark m ∷ []) lines (inner ++ Mark 59 ∷ []) ≡ None) (eqb-true b 61 is) none) ends)
+    (with_inner n lines inner size (subst (λ m. first_fault (Name n ∷ Mark m ∷ []) lines (inner ++ Mark 59 ∷ []) ≡ None) (eqb-true b 61 is) none) ends)
 
 behind_two : (output equals : Sign) (lines : List ℕ) (inner : List Sign) → is_name output ≡ true → is_mark 61 equals ≡ true → length lines ≡ length inner + 1 → first_fault (output ∷ equals ∷ []) lines (inner ++ Mark 59 ∷ []) ≡ None
     → list_any (is_mark 59) inner ≡ false → IsFaultless (output ∷ equals ∷ (inner ++ Mark 59 ∷ []))

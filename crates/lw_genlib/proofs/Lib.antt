@@ -3,6 +3,7 @@ mod Bits
 mod Evaluating
 mod Faultless
 mod Grammars
+mod NameRuns
 mod Names
 mod Running
 mod Sighting

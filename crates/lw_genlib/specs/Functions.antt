@@ -8,7 +8,7 @@ use Rattle.lw_genlib.specs.declared.fault.LibKind.{LibKind}
 use Rattle.lw_genlib.specs.declared.fault.LibKind.TheVariants.{Expected, BadByte, ConstInside, LimitLiterals, LimitPins}
 use Rattle.lw_genlib.specs.declared.fault.LibFault.{LibFault}
 use Rattle.lw_genlib.specs.declared.fault.LibFault.TheVariants.{Line}
-use Rattle.lw_genlib.specs.Cells.{ends_in_stroke}
+use Rattle.lw_genlib.specs.Cells.{ends_in_stroke, is_mark_byte}
 use Rattle.lw_laws.specs.Expressions.{Expr}
 use Rattle.lw_genlib.specs.Grammar.{is_mark, is_name, awaits_behind, depth_behind, fits, names_in, SpellsSum}
 
@@ -104,3 +104,16 @@ pub record Says (signs : List Sign) (output : List ℕ) (pins : List (List ℕ))
   pub named : pins ≡ pins_in signs
   pub few : length pins ≤ 16
   pub spelled : SpellsSum pins inner form
+
+-- Words as signs.
+
+-- one more byte before the first name, or a name of its own
+abbrev pub with_byte : ℕ → List Sign → List Sign
+with_byte b [] = Name (b ∷ []) ∷ []
+with_byte b (Name name ∷ signs) = Name (b ∷ name) ∷ signs
+with_byte b (Mark m ∷ signs) = Name (b ∷ []) ∷ Mark m ∷ signs
+
+-- the signs of a word: the runs of bytes that are no marks, and the marks
+abbrev pub signs_in : List ℕ → List Sign
+signs_in [] = []
+signs_in (b ∷ bytes) = if is_mark_byte b then Mark b ∷ signs_in bytes else with_byte b (signs_in bytes)

@@ -14,6 +14,7 @@ mod parsing;
 mod seen;
 mod sign;
 mod truth;
+mod wording;
 
 pub use cell::Cell;
 pub use expr::Expr;

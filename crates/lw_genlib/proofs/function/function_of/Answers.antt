@@ -49,6 +49,6 @@ returns c =
       named = c.in_ok-pins.ensures.0;
       few = subst (λ (pins : List (List ℕ)). length pins ≤ 16) (sym c.in_ok-pins.ensures.0) f.pins;
       spelled = subst (λ (pins : List (List ℕ)). SpellsSum pins f.inner c.in-Ok-expression.form) c.as_slice.ensures
-        (subst (λ (s : List Sign). SpellsSum c.as_slice.result.now s c.in-Ok-expression.form) (c.between.ensures ∙ (inner_at c.args.signs.now f.inner f.output f.whole).1) c.in-Ok-expression.ensures);
+          (subst (λ (s : List Sign). SpellsSum c.as_slice.result.now s c.in-Ok-expression.form) (c.between.ensures ∙ (inner_at c.args.signs.now f.inner f.output f.whole).1) c.in-Ok-expression.ensures);
     } in
     (says, c.in_ok-pins.ensures.1)
