@@ -10,10 +10,9 @@ use Rattle.lw_genlib.specs.declared.sign.Sign.TheVariants.{Name, Mark}
 use Rattle.lw_genlib.specs.declared.fault.LibKind.{LibKind}
 use Rattle.lw_genlib.specs.declared.fault.LibKind.TheVariants.{Expected, BadByte, ConstInside, LimitLiterals, LimitPins}
 use Rattle.lw_genlib.specs.declared.fault.LibFault.{LibFault}
-use Rattle.lw_genlib.specs.Grammar.{is_mark, is_name, is_inner, begins_operand, awaits_behind, depth_behind, fits, go_on, names_in}
+use Rattle.lw_genlib.specs.Grammar.{is_mark, is_name, awaits_behind, depth_behind, fits, go_on, names_in}
 use Rattle.lw_genlib.specs.Functions.{IsText, awaits, depth_in, with_pin, pins_in, is_constant_name, is_among, is_bad, may_follow, is_new_pin, has_constant_inside, sign_fault, first_fault, fault_or}
-use Rattle.lw_genlib.specs.Sights.{one_if}
-use Rattle.lw_genlib.proofs.Sighting.{fold_more, any_more, awaits_more, names_more, pins_more}
+use Rattle.lw_genlib.proofs.Sighting.{fold_more, awaits_more, names_more, pins_more}
 
 -- a sign that breaks no rule
 record NoFault (before : List Sign) (sign : Sign) : Type 0 where

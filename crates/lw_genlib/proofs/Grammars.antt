@@ -1,13 +1,12 @@
 -- What signs spell has as many literals as names stand among them, and no operator of fewer than two operands.
-use Rattle.std.proofs.Common.{ℕ, ◌+◌, ◌≤◌, ◌<◌, ◌≡◌, Bool, true, false, cond, List, [], ◌∷◌, ◌++◌, length, refl, sym, ap, ap₂, ◌∙◌, subst, arith, length-append, append-nil}
-use Rattle.lw_laws.specs.Expressions.{Expr, Exprs}
-use Rattle.lw_laws.specs.Expressions.Expr.{expr_const, expr_pin, expr_not, expr_and, expr_or}
+use Rattle.std.proofs.Common.{ℕ, ◌+◌, ◌≤◌, ◌≡◌, Bool, true, false, cond, List, [], ◌∷◌, ◌++◌, length, refl, sym, ap, ◌∙◌, subst, arith, length-append, append-nil}
+use Rattle.lw_laws.specs.Expressions.{Expr}
+use Rattle.lw_laws.specs.Expressions.Expr.{expr_const, expr_pin, expr_not}
 use Rattle.lw_genlib.specs.declared.sign.Sign.{Sign}
-use Rattle.lw_genlib.specs.declared.sign.Sign.TheVariants.{Name, Mark}
 use Rattle.lw_genlib.specs.declared.op.ExprOp.{ExprOp}
 use Rattle.lw_genlib.specs.Postfix.{exprs_of, postfix, literals, literals_of_all, IsWide, AreWide, IsPostfix, tree_of}
 use Rattle.lw_genlib.specs.Codes.{tree_of-postfix}
-use Rattle.lw_genlib.specs.Grammar.{literal_of, product_of, sum_of, open_sign, close_sign, bang_sign, quote_sign, star_sign, plus_sign, IsSum, IsProduct, IsFactor, IsAtom, names_in, SpellsSum, Reads, after_sum}
+use Rattle.lw_genlib.specs.Grammar.{literal_of, product_of, sum_of, close_sign, quote_sign, star_sign, plus_sign, IsSum, IsProduct, IsFactor, IsAtom, names_in, SpellsSum, Reads, after_sum}
 use Rattle.lw_genlib.specs.Grammar.IsSum.{first_product, next_product}
 use Rattle.lw_genlib.specs.Grammar.IsProduct.{first_factor, beside_factor, times_factor}
 use Rattle.lw_genlib.specs.Grammar.IsFactor.{plain_factor, bang_factor}

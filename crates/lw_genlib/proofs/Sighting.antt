@@ -1,18 +1,17 @@
 -- What is kept of signs tells the rule that the next one breaks, and grows with it.
-use Rattle.std.proofs.Common.{ℕ, zero, suc, ◌+◌, ◌-◌, ◌<◌, ◌≤◌, ◌≡◌, ◌^◌, Bool, true, false, not, ◌&&◌, ◌||◌, cond, eqb, List, [], ◌∷◌, ◌++◌, length, take, drop, get_or, Some, None, refl, sym, ap, ap₂, ◌∙◌, subst, arith, length-append, unwrap_or}
-use Rattle.std.specs.Prelude.{Option, fold}
+use Rattle.std.proofs.Common.{ℕ, ◌+◌, ◌-◌, ◌<◌, ◌≤◌, ◌≡◌, ◌^◌, Bool, true, false, ◌||◌, cond, eqb, List, [], ◌∷◌, ◌++◌, length, take, drop, get_or, Some, None, refl, sym, ap, ap₂, ◌∙◌, arith, length-append}
+use Rattle.std.specs.Prelude.{fold}
 use Rattle.std.specs.List.{list_any, count_by}
 use Rattle.std.proofs.Math.Bool.{or-false}
 use Rattle.std.proofs.lemmas.Bool.{ne_eqb}
-use Rattle.std.proofs.lemmas.List.{take_more, drop_more, drop_all, take_all}
+use Rattle.std.proofs.lemmas.List.{take_more, drop_more, drop_all}
 use Rattle.std.proofs.lemmas.List.Folds.{list_any-append}
 use Rattle.lw_genlib.specs.declared.sign.Sign.{Sign}
 use Rattle.lw_genlib.specs.declared.sign.Sign.TheVariants.{Name, Mark}
 use Rattle.lw_genlib.specs.declared.seen.Seen.{Seen}
 use Rattle.lw_genlib.specs.declared.fault.LibKind.{LibKind}
-use Rattle.lw_genlib.specs.declared.fault.LibFault.{LibFault}
 use Rattle.lw_genlib.specs.declared.fault.LibFault.TheVariants.{Line}
-use Rattle.lw_genlib.specs.Grammar.{is_mark, is_name, awaits_behind, depth_behind, fits, names_in}
+use Rattle.lw_genlib.specs.Grammar.{is_mark, is_name, awaits_behind, depth_behind, names_in}
 use Rattle.lw_genlib.specs.Functions.{is_constant, is_plain, awaits, depth_in, with_pin, pins_in, is_bad, may_follow, is_new_pin, sign_fault, first_fault, fault_or}
 use Rattle.lw_genlib.specs.Sights.{sight_of, seen_more, one_if, fault_at, bad_at, may_follow_at, new_pin_at, HasRoom}
 use Rattle.lw_genlib.proofs.Spelling.{names_append, names_short}

@@ -1,18 +1,16 @@
 -- Reading expressions from signs: how what was read grows.
-use Rattle.std.proofs.Common.{ℕ, zero, suc, ◌+◌, ◌-◌, ◌<◌, ◌≤◌, ◌≡◌, ◌^◌, Bool, true, false, not, ◌&&◌, ◌||◌, cond, eqb, List, [], ◌∷◌, ◌++◌, length, take, drop, refl, sym, ap, ap₂, ◌∙◌, subst, arith, append_assoc, append-nil, length-append, inl, inr, ◌⊎◌, add-one}
+use Rattle.std.proofs.Common.{ℕ, zero, suc, ◌+◌, ◌-◌, ◌<◌, ◌≤◌, ◌≡◌, ◌^◌, Bool, true, false, not, ◌&&◌, ◌||◌, eqb, List, [], ◌∷◌, ◌++◌, length, refl, sym, ap, ap₂, ◌∙◌, subst, arith, append_assoc, append-nil, length-append, inl, inr, add-one}
 use Rattle.std.proofs.lemmas.List.{replicate_more}
-use Rattle.std.proofs.lemmas.Bool.{false≢true}
 use Rattle.std.proofs.lemmas.Bool.Decides.{nat_tests}
 use Rattle.std.specs.Prelude.{replicate}
-use Rattle.std.specs.List.{prefix_len}
-use Rattle.lw_laws.specs.Expressions.{Expr, Exprs}
-use Rattle.lw_laws.specs.Expressions.Expr.{expr_const, expr_pin, expr_not, expr_and, expr_or}
+use Rattle.lw_laws.specs.Expressions.{Expr}
+use Rattle.lw_laws.specs.Expressions.Expr.{expr_not}
 use Rattle.lw_genlib.specs.declared.sign.Sign.{Sign}
 use Rattle.lw_genlib.specs.declared.sign.Sign.TheVariants.{Name, Mark}
 use Rattle.lw_genlib.specs.declared.op.ExprOp.{ExprOp}
-use Rattle.lw_genlib.specs.declared.op.ExprOp.TheVariants.{Const, Pin, Not, And, Or}
+use Rattle.lw_genlib.specs.declared.op.ExprOp.TheVariants.{Not, And, Or}
 use Rattle.lw_genlib.specs.Postfix.{exprs_of, postfix, postfixes, part_count}
-use Rattle.lw_genlib.specs.Grammar.{literal_of, product_of, sum_of, open_sign, close_sign, bang_sign, quote_sign, star_sign, plus_sign, IsSum, IsProduct, IsFactor, IsAtom, is_mark, begins_operand, awaits_behind, is_inner, depth_behind, fits, go_on, names_in, begins_with, Reads, SpellsProduct, SpellsSum, after_atom, after_factor, after_product, after_sum, IsNextFactor}
+use Rattle.lw_genlib.specs.Grammar.{literal_of, product_of, sum_of, open_sign, close_sign, bang_sign, quote_sign, star_sign, plus_sign, IsSum, IsProduct, IsFactor, IsAtom, is_mark, begins_operand, awaits_behind, depth_behind, fits, go_on, names_in, begins_with, Reads, SpellsProduct, SpellsSum, after_atom, after_factor, after_product, after_sum, IsNextFactor}
 use Rattle.lw_genlib.specs.Grammar.IsSum.{first_product, next_product}
 use Rattle.lw_genlib.specs.Grammar.IsProduct.{first_factor, beside_factor, times_factor}
 use Rattle.lw_genlib.specs.Grammar.IsFactor.{plain_factor, bang_factor}

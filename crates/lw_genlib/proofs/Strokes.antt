@@ -1,5 +1,5 @@
 -- The last byte of a name.
-use Rattle.std.proofs.Common.{ℕ, suc, ◌-◌, ◌<◌, ◌≡◌, eqb, List, [], ◌∷◌, length, get_or, refl, sym, ap, ◌∙◌, arith}
+use Rattle.std.proofs.Common.{ℕ, suc, ◌-◌, ◌<◌, ◌≡◌, eqb, List, [], ◌∷◌, length, get_or, refl, ap, ◌∙◌, arith}
 use Rattle.lw_genlib.specs.Cells.{ends_in_stroke}
 
 pub stroke_last : (name : List ℕ) → 0 < length name → eqb (get_or name (length name - 1) 0) 92 ≡ ends_in_stroke name

@@ -1,5 +1,5 @@
 -- What is kept of the signs of a function that were seen.
-use Rattle.std.specs.Prelude.{ℕ, ◌+◌, ◌≡◌, ◌<◌, ◌==◌, nat_le, Bool, true, false, not, ◌&&◌, ◌||◌, List, [], ◌∷◌, ◌++◌, length, drop, Option, Some, None, if◌then◌else◌, codes, ◌^◌}
+use Rattle.std.specs.Prelude.{ℕ, ◌+◌, ◌<◌, ◌==◌, nat_le, Bool, false, not, ◌&&◌, ◌||◌, List, length, drop, Option, Some, None, if◌then◌else◌, ◌^◌}
 use Rattle.std.specs.List.{list_any, count_by}
 use Rattle.lw_genlib.specs.declared.sign.Sign.{Sign}
 use Rattle.lw_genlib.specs.declared.sign.Sign.TheVariants.{Name, Mark}

@@ -1,8 +1,6 @@
-use Rattle.std.proofs.Common.{ℕ, ◌<◌, ◌^◌, ◌≡◌, length, take, length-take, sym, ap, ◌∙◌, subst, arith}
+use Rattle.std.proofs.Common.{◌<◌, ◌^◌, ◌≡◌, length, take, length-take, sym, ap, ◌∙◌, subst, arith}
 use Rattle.std.proofs.lemmas.List.{take_all}
 use Rattle.lw_genlib.specs.Sights.{HasRoom, fault_at, sight_of}
-use Rattle.lw_genlib.specs.Functions.{pins_in}
-use Rattle.lw_genlib.specs.declared.sign.Sign.{Sign}
 use Rattle.lw_genlib.specs.declared.seen.Seen.{Seen}
 use Rattle.lw_genlib.proofs.Sighting.{fault_same, has_room, found, goes_on, seen_next, no_fault}
 use Rattle.lw_genlib.proofs.checking.pins_of.Goals as goal

@@ -1,4 +1,4 @@
-use Rattle.std.proofs.Common.{ℕ, ◌≡◌, [], take, drop}
+use Rattle.std.proofs.Common.{◌≡◌, [], take, drop}
 use Rattle.lw_genlib.specs.Functions.{first_fault}
 use Rattle.lw_genlib.specs.Sights.{sight_of}
 use Rattle.lw_genlib.proofs.checking.pins_of.Given as goal

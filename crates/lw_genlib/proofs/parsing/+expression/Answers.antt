@@ -1,6 +1,6 @@
-use Rattle.std.proofs.Common.{ℕ, ◌≡◌, ◌+◌, ◌≤◌, ◌<◌, List, length, sym, ap, ◌∙◌, subst, arith, rules}
+use Rattle.std.proofs.Common.{◌≤◌, List, sym, ap, ◌∙◌, subst, arith, rules}
 use Rattle.lw_genlib.specs.declared.sign.Sign.{Sign}
-use Rattle.lw_genlib.specs.Grammar.{IsFactor, Reads, after_factor, names_in, go_on}
+use Rattle.lw_genlib.specs.Grammar.{IsFactor, Reads, after_factor}
 use Rattle.lw_genlib.proofs.Spelling.{grouped, named, quoted, all_complemented, atom_is_factor, bangs_within, within, count_fits, plus_shorter, product_begins, product_goes_on, product_ends, product_stops, sum_begins, sum_goes_on, sum_ends, sum_stops, next_goes_on, next_shorter, plus_goes_on}
 use Rattle.std.specs.Global.{Vec}
 use Rattle.lw_genlib.specs.declared.op.ExprOp.{ExprOp}

@@ -1,4 +1,4 @@
-use Rattle.std.proofs.Common.{ℕ, ◌+◌, ◌*◌, length}
+use Rattle.std.proofs.Common.{◌+◌, ◌*◌, length}
 use Rattle.lw_genlib.specs.Grammar.{IsSum, IsProduct, IsAtom, Reads, after_atom, after_factor, after_product}
 use Rattle.lw_genlib.proofs.Spelling.{SoFar}
 use Rattle.lw_genlib.proofs.parsing.+expression.Given as goal

@@ -1,4 +1,4 @@
-use Rattle.std.proofs.Common.{◌∙◌, sym, subst}
+use Rattle.std.proofs.Common.{sym, subst}
 use Rattle.lw_genlib.specs.Grammar.{SpellsSum}
 use Rattle.lw_genlib.proofs.Grammars.{whole_read}
 use Rattle.lw_genlib.proofs.parsing.expression.Goals as goal

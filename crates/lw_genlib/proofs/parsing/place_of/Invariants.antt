@@ -1,4 +1,4 @@
-use Rattle.std.proofs.Common.{ℕ, ◌<◌, ◌≡◌, false, get_or, [], length}
+use Rattle.std.proofs.Common.{ℕ, ◌<◌, ◌≡◌, false, get_or, []}
 use Rattle.std.specs.Str.{bytes_eq}
 use Rattle.lw_genlib.proofs.parsing.place_of.Given as goal
 

@@ -1,4 +1,4 @@
-use Rattle.std.proofs.Common.{ℕ, ◌+◌, ◌++◌, ◌≡◌, length}
+use Rattle.std.proofs.Common.{◌+◌, ◌++◌, ◌≡◌, length}
 use Rattle.std.specs.Prelude.{replicate}
 use Rattle.lw_genlib.specs.Grammar.{bang_sign}
 use Rattle.lw_genlib.proofs.parsing.without_bangs.Given as goal
