@@ -1,4 +1,4 @@
-//! Libraries of cells in genlib: their cells, and the reader of their texts.
+//! Libraries of cells in genlib: their expressions and cells, and what the text of a function says.
 #![tactic(auto)]
 
 mod cell;
@@ -22,4 +22,4 @@ pub use fault::{LibFault, LibKind};
 pub use library::Library;
 pub use lists::{Exprs, Micros};
 pub use op::ExprOp;
-pub use sign::Sign;
+pub(crate) use sign::Sign;

@@ -2,7 +2,7 @@ use lw_pool::Name;
 
 /// A sign of a function: a name, or one byte of `( ) ! ' + * = & | ^ " ;`.
 #[derive(Debug, Drop)]
-pub enum Sign {
+pub(crate) enum Sign {
     /// A name.
     Name(Name),
     /// Another sign.
