@@ -1,5 +1,5 @@
 -- A draft that a plain text spells can be closed, and its nodes are plain.
-use Rattle.std.proofs.Common.{◌≡◌, ◌⊎◌, inl, inr, ℕ, zero, suc, ◌+◌, ◌<◌, ◌≤◌, Bool, true, false, not, ◌&&◌, ◌||◌, cond, List, [], ◌∷◌, ◌++◌, length, map, Option, None, Some, Result, Ok, Err, refl, sym, ap, ◌∙◌, subst, arith, append_assoc, length-append, append-nil, drop, All, IfOk}
+use Rattle.std.proofs.Common.{◌≡◌, ◌⊎◌, inl, inr, ℕ, ◌+◌, ◌<◌, ◌≤◌, Bool, true, false, not, ◌&&◌, ◌||◌, cond, List, [], ◌∷◌, ◌++◌, length, map, Option, None, Some, Result, Ok, Err, refl, sym, ap, ◌∙◌, subst, arith, append_assoc, length-append, append-nil, drop, All, IfOk}
 use Rattle.std.specs.Prelude.{codes, nat_lt}
 use Rattle.std.specs.List.{AllByRecursion, IsDistinct}
 use Rattle.std.specs.Option.{option_and_then, ok_or}
@@ -11,7 +11,7 @@ use Rattle.std.proofs.lemmas.List.Elements.{All-from_recursion}
 use Rattle.std.proofs.lemmas.Map.Keys.{IsDistinct-cons}
 use Rattle.lw_net.specs.declared.draft.Draft.{Draft}
 use Rattle.lw_net.specs.declared.draft.DraftNode.{DraftNode}
-use Rattle.lw_net.specs.Closing.{IsDraft, out_of, signals_of}
+use Rattle.lw_net.specs.Closing.{IsDraft, out_of}
 use Rattle.lw_plain.specs.declared.network.Front.{Front}
 use Rattle.lw_plain.specs.declared.network.Front.TheVariants.{Bare, Full, Cut, End, Other}
 use Rattle.lw_plain.specs.Texts.{Line, contains}

@@ -1,9 +1,8 @@
 -- Reading a network's lines: one node after another.
-use Rattle.std.proofs.Common.{◌≡◌, ℕ, ◌+◌, ◌<◌, ◌≤◌, Bool, true, false, not, cond, List, [], ◌∷◌, ◌++◌, length, drop, get_or, Option, None, Some, Result, Ok, Err, refl, sym, ap, ◌∙◌, arith, length-drop}
+use Rattle.std.proofs.Common.{◌≡◌, ℕ, ◌+◌, ◌<◌, ◌≤◌, true, false, cond, List, [], ◌∷◌, ◌++◌, length, drop, get_or, Ok, Err, refl, sym, ap, ◌∙◌, arith, length-drop}
 use Rattle.std.proofs.lemmas.Bool.{and_parts, not-true}
 use Rattle.std.proofs.lemmas.List.{drop_more}
 use Rattle.lw_net.specs.declared.draft.DraftNode.{DraftNode}
-use Rattle.lw_plain.specs.declared.network.Front.{Front}
 use Rattle.lw_plain.specs.declared.network.Front.TheVariants.{Bare, Full, Cut, End, Other}
 use Rattle.lw_plain.specs.Texts.{Line, contains}
 use Rattle.lw_plain.specs.Networks.{are_new, front_of, is_over, nodes_from}

@@ -1,5 +1,5 @@
 -- What a plan's parts keep.
-use Rattle.std.proofs.Common.{◌≡◌, ℕ, ◌+◌, ◌*◌, ◌<◌, ◌≤◌, List, [], ◌∷◌, ◌++◌, length, map, get_or, drop, Option, Some, None, Result, Ok, Err, slice_index_or, is_none, refl, sym, ap, ◌∙◌, subst, arith, append_assoc, append-nil}
+use Rattle.std.proofs.Common.{◌≡◌, ℕ, ◌+◌, ◌*◌, ◌<◌, ◌≤◌, List, [], ◌∷◌, ◌++◌, length, get_or, drop, Option, Some, None, Result, Ok, Err, slice_index_or, is_none, sym, ap, ◌∙◌, subst, arith, append_assoc, append-nil}
 use Rattle.std.proofs.lemmas.List.{drop_all, drop_more, length-map}
 use Rattle.lw_plain.specs.declared.mapping.Plan.{Plan}
 use Rattle.std.specs.List.{position_from}
@@ -9,11 +9,11 @@ use Rattle.lw_plain.specs.declared.drivers.Drivers.{Drivers}
 use Rattle.lw_plain.specs.declared.netlist.Port.{Port}
 use Rattle.lw_plain.specs.declared.netlist.Netlist.{Netlist}
 use Rattle.lw_plain.specs.Drivers.{drivers_of, driver_at}
-use Rattle.lw_plain.specs.Covers.{classes_of, classes_at, gate_classes}
+use Rattle.lw_plain.specs.Covers.{classes_of}
 use Rattle.lw_plain.specs.Netlists as spec
 use Rattle.lw_plain.specs.Netlists.{output_names, output_classes, port_of, ports_of, plan_by, plan_of, first_uncovered, netlist_or, netlist_by, netlist_of}
-use Rattle.lw_plain.specs.Plans.{plan, IsPlan}
-use Rattle.lw_plain.proofs.Bounds.{AreBelow, AreBelow-at, flip-below, classes_of-below, classes_at-below, gate_classes-below}
+use Rattle.lw_plain.specs.Plans.{IsPlan}
+use Rattle.lw_plain.proofs.Bounds.{AreBelow, AreBelow-at, classes_of-below, classes_at-below, gate_classes-below}
 use Rattle.lw_plain.proofs.Covering.{here}
 
 module _ (p : Plan) (is : IsPlan p) where

@@ -1,5 +1,5 @@
 -- The cover of a plain network: the class of each net, which classes have a gate, and in which order.
-use Rattle.std.specs.Prelude.{ℕ, zero, suc, ◌+◌, ◌*◌, ◌==◌, ◌<◌, ◌≡◌, Bool, true, false, ◌&&◌, ◌||◌, List, [], ◌∷◌, ◌++◌, length, map, Option, Some, None, is_some, unwrap_or, if◌then◌else◌, slice_index_or}
+use Rattle.std.specs.Prelude.{ℕ, zero, suc, ◌+◌, ◌*◌, ◌==◌, ◌<◌, ◌≡◌, Bool, true, false, ◌&&◌, ◌||◌, List, [], ◌∷◌, ◌++◌, length, map, Option, None, is_some, unwrap_or, if◌then◌else◌, slice_index_or}
 use Rattle.std.specs.List.{position_from}
 use Rattle.lw_laws.specs.Flip.{flip}
 use Rattle.lw_pool.specs.declared.id.NetId.{NetId}

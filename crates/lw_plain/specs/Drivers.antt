@@ -1,7 +1,6 @@
 -- Which cell drives which class. Class 0 is true and class 1 is false; class 2k + 2 is that of input k, and class 2k + 3 that of its complement.
 use Rattle.std.specs.Prelude.{ℕ, ◌+◌, ◌%◌, ◌==◌, Bool, true, false, nat_lt, List, [], ◌∷◌, Option, Some, None, if◌then◌else◌}
 use Rattle.std.specs.List.{position_from}
-use Rattle.lw_plain.specs.declared.cell.Pin.{Pin}
 use Rattle.lw_plain.specs.declared.cell.Cell.{Cell}
 use Rattle.lw_plain.specs.declared.cell.Function.{Function}
 use Rattle.lw_plain.specs.declared.cell.Function.TheVariants.{One, Zero, Buffer, Inverter}

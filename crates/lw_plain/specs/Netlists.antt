@@ -1,8 +1,7 @@
 -- The netlist that covers a plain network, or the first output without a cover.
-use Rattle.std.specs.Prelude.{ℕ, zero, suc, ◌+◌, ◌*◌, ◌==◌, Bool, List, [], ◌∷◌, ◌++◌, length, map, Option, Some, None, Result, Ok, Err, option_and_then, slice_get, unwrap_or, is_none, if◌then◌else◌, codes, decimal, slice_index_or, take}
+use Rattle.std.specs.Prelude.{ℕ, zero, suc, ◌+◌, List, [], ◌∷◌, ◌++◌, length, map, Option, Some, None, Result, Ok, Err, option_and_then, slice_get, unwrap_or, is_none, if◌then◌else◌, codes, decimal, slice_index_or, take}
 use Rattle.std.specs.List.{position_from}
 use Rattle.lw_laws.specs.Flip.{flip}
-use Rattle.lw_pool.specs.declared.id.NetId.{NetId}
 use Rattle.lw_net.specs.Networks.{NetworkParts}
 use Rattle.lw_plain.specs.declared.cell.Cell.{Cell}
 use Rattle.lw_plain.specs.declared.drivers.Drivers.{Drivers}

@@ -1,7 +1,7 @@
 -- What a plan in hand stands for.
-use Rattle.std.specs.Prelude.{ℕ, ◌≡◌, ◌≤◌, ◌+◌, ◌*◌, ◌++◌, length}
+use Rattle.std.specs.Prelude.{◌≡◌, ◌+◌, ◌*◌, ◌++◌, length}
 use Rattle.lw_plain.specs.declared.mapping.Plan.{Plan}
-use Rattle.lw_plain.specs.Covers.{input_classes, classes_at, gate_classes}
+use Rattle.lw_plain.specs.Covers.{input_classes, gate_classes}
 use Rattle.lw_plain.specs.Netlists as spec
 use Rattle.lw_plain.specs.Netlists.{input_names, output_names, output_classes, free_name}
 

@@ -39,7 +39,8 @@ const QUIET: Outside<'static> = Outside {
 
 const INVERTER: &[u8] = b"GATE inv 1 O=!a;\nPIN * INV 1 999 1 0 1 0\n";
 
-const AND_BUFFER: &[u8] = b"GATE inv 1 O=!a;\nPIN * INV 1 999 0 0 0 0\nGATE buf 1 O=a;\nPIN * NONINV 1 999 0 0 0 0\n";
+const AND_BUFFER: &[u8] =
+    b"GATE inv 1 O=!a;\nPIN * INV 1 999 0 0 0 0\nGATE buf 1 O=a;\nPIN * NONINV 1 999 0 0 0 0\n";
 
 const INVERTED: Row<'static> = Row {
     library: INVERTER,
@@ -196,7 +197,13 @@ fn refusals_have_their_lines(rt: HostRuntime) -> Result<(), Fail> {
 fn bytes_come_in_any_pieces(rt: HostRuntime) -> Result<(), Fail> {
     let alloc = rt.alloc();
     for chunk in [1, 2, 3, 7] {
-        gives(&rt, alloc, "map LIB IN", INVERTED, Outside { chunk, ..QUIET })?;
+        gives(
+            &rt,
+            alloc,
+            "map LIB IN",
+            INVERTED,
+            Outside { chunk, ..QUIET },
+        )?;
     }
     Ok(())
 }
@@ -246,10 +253,7 @@ fn out_may_fail(rt: HostRuntime) -> Result<(), Fail> {
         out_fails: &[2],
         ..QUIET
     };
-    let full = Outside {
-        limit: 20,
-        ..QUIET
-    };
+    let full = Outside { limit: 20, ..QUIET };
     gives(&rt, alloc, "map LIB IN", cut(0), first)?;
     gives(&rt, alloc, "map LIB IN", cut(1000), finish)?;
     gives(&rt, alloc, "map LIB IN", cut(20), full)?;

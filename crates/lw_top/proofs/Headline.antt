@@ -1,5 +1,5 @@
 -- Where the answer is a text it is that of a mapping, and where it names an output this has no cover.
-use Rattle.std.proofs.Common.{◌≡◌, ◌⊎◌, inl, inr, ℕ, Bool, true, false, List, [], ◌∷◌, Option, Some, None, Result, Ok, Err, refl, sym, ap, ◌∙◌, subst, if◌then◌else◌, arith}
+use Rattle.std.proofs.Common.{◌≡◌, inl, inr, ℕ, Bool, true, false, List, [], ◌∷◌, Option, Some, None, Result, Ok, Err, refl, sym, ap, ◌∙◌, subst, if◌then◌else◌, arith}
 use Rattle.lw_io.specs.declared.file.File.{File}
 use Rattle.lw_io.specs.Files.{bytes_of}
 use Rattle.lw_net.specs.declared.draft.Draft.{Draft}
@@ -20,7 +20,7 @@ use Rattle.lw_top.specs.declared.refusal.Which.{Which}
 use Rattle.lw_top.specs.declared.refusal.Which.TheVariants as which
 use Rattle.lw_top.specs.declared.outcome.Outcome.{Outcome}
 use Rattle.lw_top.specs.declared.outcome.Outcome.TheVariants.{Done, WriteFault, Refused}
-use Rattle.lw_top.specs.Answers.{Files, Names, names_of, built, within_limit, text_of, cells_in, draft_in, mapped, mapped_or, IsLibrary, IsNetwork, IsAnswer, status_of}
+use Rattle.lw_top.specs.Answers.{Files, Names, names_of, built, within_limit, text_of, cells_in, draft_in, mapped, mapped_or, IsLibrary, IsNetwork, IsAnswer}
 use Rattle.lw_top.specs.Outcome.{IsDone, Meets, outcome_status}
 use Rattle.lw_top.specs.Telling.{outcome_line, refusal_line}
 use Rattle.lw_top.specs.Mappings.{AreRead, IsMappingText, LacksOutput}

@@ -1,7 +1,6 @@
 -- One step after another, over files that may be known.
 use Rattle.std.proofs.Common.{inl, inr, ℕ, ◌≤◌, List, Option, Result, Ok, Err, refl, arith}
 use Rattle.lw_io.specs.declared.file.File.{File}
-use Rattle.lw_io.specs.Files.{bytes_of}
 use Rattle.lw_top.specs.declared.refusal.Refusal.{Refusal}
 use Rattle.lw_top.specs.declared.refusal.Refusal.TheVariants.{Words, Unread, TooLong, NotBuilt, Undefined, Cycle, NoCover, Memory}
 use Rattle.lw_top.specs.Answers.{Step, followed_by}

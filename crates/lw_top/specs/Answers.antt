@@ -3,7 +3,6 @@ use Rattle.std.specs.Prelude.{◌≡◌, ◌⊎◌, ℕ, Bool, not, ◌&&◌, na
 use Rattle.std.specs.List.{starts_with}
 use Rattle.std.specs.Str.{bytes_eq}
 use Rattle.lw_net.specs.declared.draft.Draft.{Draft}
-use Rattle.lw_net.specs.declared.fault.NetFault.{NetFault}
 use Rattle.lw_net.specs.declared.fault.NetFault.TheVariants as fault
 use Rattle.lw_net.specs.Networks as keeps
 use Rattle.lw_net.specs.Networks.{NetworkParts}

@@ -1,8 +1,5 @@
 -- What the calls that read no file answer.
-use Rattle.std.specs.Prelude.{◌≡◌, List, ℕ, Result, Ok, Err}
-use Rattle.lw_net.specs.declared.draft.Draft.{Draft}
-use Rattle.lw_net.specs.Networks.{NetworkParts}
-use Rattle.lw_plain.specs.declared.cell.Cell.{Cell}
+use Rattle.std.specs.Prelude.{◌≡◌, Result, Ok, Err}
 use Rattle.lw_top.specs.declared.refusal.Refusal.{Refusal}
 use Rattle.lw_top.specs.declared.refusal.Refusal.TheVariants.{Words, Unread, TooLong, NotBuilt, Undefined, Cycle, NoCover, Memory}
 use Rattle.lw_top.specs.Answers as spec

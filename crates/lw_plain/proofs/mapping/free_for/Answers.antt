@@ -1,4 +1,4 @@
-use Rattle.std.proofs.Common.{◌≡◌, ◌+◌, ◌++◌, ◌||◌, ◌∙◌, ap, sym, length, length-append}
+use Rattle.std.proofs.Common.{◌++◌, ◌||◌, ◌∙◌, ap, sym, length, length-append}
 use Rattle.lw_plain.specs.Texts.{contains}
 use Rattle.lw_plain.specs.Netlists.{free_from}
 use Rattle.lw_plain.proofs.NamesHeld.{contains-append}

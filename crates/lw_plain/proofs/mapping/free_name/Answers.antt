@@ -1,6 +1,6 @@
-use Rattle.std.proofs.Common.{◌≡◌, ◌+◌, ◌-◌, true, false, ◌∙◌, ap, sym, arith}
+use Rattle.std.proofs.Common.{◌≡◌, true, false, ◌∙◌, ap, sym, arith}
 use Rattle.lw_plain.specs.Texts.{contains}
-use Rattle.lw_plain.specs.Netlists.{free_from, numbered_name}
+use Rattle.lw_plain.specs.Netlists.{numbered_name}
 use Rattle.lw_plain.proofs.Covering.{free-found, free-taken, free-end}
 use Rattle.lw_plain.proofs.mapping.free_name.Goals as goal
 

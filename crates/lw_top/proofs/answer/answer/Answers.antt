@@ -1,4 +1,4 @@
-use Rattle.std.proofs.Common.{◌≤◌, map, string_bytes, Ok, Err, arith}
+use Rattle.std.proofs.Common.{◌≤◌, map, string_bytes, arith}
 use Rattle.std.proofs.lemmas.Result.{err_from_is_err_and}
 use Rattle.lw_top.specs.Answers.{gives, followed_by, names_of, mapped, IsLibrary, IsNetwork, IsMapAnswer}
 use Rattle.lw_top.specs.Named.{names}

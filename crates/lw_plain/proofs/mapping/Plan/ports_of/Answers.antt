@@ -1,6 +1,6 @@
-use Rattle.std.proofs.Common.{ℕ, ◌+◌, ◌++◌, ◌∷◌, [], List, drop, get_or, ap, sym, ◌∙◌, arith}
+use Rattle.std.proofs.Common.{ℕ, ◌+◌, ◌++◌, ◌∷◌, [], List, drop, ap, sym, ◌∙◌, arith}
 use Rattle.lw_plain.specs.declared.netlist.Port.{Port}
-use Rattle.lw_plain.specs.Netlists.{ports_of, port_of}
+use Rattle.lw_plain.specs.Netlists.{ports_of}
 use Rattle.lw_plain.specs.Plans.{plan}
 use Rattle.lw_plain.proofs.Planning.{output-below, name-each, ports-next}
 use Rattle.lw_plain.proofs.mapping.Plan.ports_of.Goals as goal
