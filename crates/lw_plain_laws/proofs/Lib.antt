@@ -9,3 +9,4 @@ pub mod PlainLabels
 pub mod PlainGates
 pub mod PlainNetlists
 pub mod PlainMapped
+pub mod ClosedNetworks

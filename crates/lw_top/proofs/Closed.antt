@@ -126,25 +126,25 @@ first_one nodes name other f g = by_place (cases_lt f.place g.place) (cases_lt g
 
 module _ (draft : Draft) (files : Files) where
   net_one : (net : NetworkParts) (a : Result NetworkParts Refusal) → IsClosed draft net → Closes draft files a → Ok net ≡ a
-  net_one net (Ok other) c d = ap (λ n. Ok n) (network_one draft net other c d.0)
+  net_one net (Ok other) c d = ap (λ n. Ok n) (network_one draft net other c d)
   net_one net (Err (Undefined name)) c d = let is : None ≡ Some name = sym c.defined ∙ d in cc
   net_one net (Err (Cycle name)) c d = absurd (c.no_cycle name d.1.cycle)
   net_one net (Err other) c d = absurd d
 
   undefined_one : (name : List ℕ) (a : Result NetworkParts Refusal) → first_undefined draft ≡ Some name → Closes draft files a → Err (Undefined name) ≡ a
-  undefined_one name (Ok net) c d = let is : None ≡ Some name = sym d.0.defined ∙ c in cc
+  undefined_one name (Ok net) c d = let is : None ≡ Some name = sym d.defined ∙ c in cc
   undefined_one name (Err (Undefined other)) c d = let is : Some name ≡ Some other = sym c ∙ d in cc
   undefined_one name (Err (Cycle other)) c d = let is : None ≡ Some name = sym d.0 ∙ c in cc
   undefined_one name (Err other) c d = absurd d
 
   cycle_one : (name : List ℕ) (a : Result NetworkParts Refusal) → first_undefined draft ≡ None → IsFirstOnCycle draft.nodes name → Closes draft files a → Err (Cycle name) ≡ a
-  cycle_one name (Ok net) none c d = absurd (d.0.no_cycle name c.cycle)
+  cycle_one name (Ok net) none c d = absurd (d.no_cycle name c.cycle)
   cycle_one name (Err (Undefined other)) none c d = let is : None ≡ Some other = sym none ∙ d in cc
   cycle_one name (Err (Cycle other)) none c d = ap (λ n. Err (Cycle n)) (first_one draft.nodes name other c d.1)
   cycle_one name (Err other) none c d = absurd d
 
   pub closes_one : (a b : Result NetworkParts Refusal) → Closes draft files a → Closes draft files b → a ≡ b
-  closes_one (Ok net) b c d = net_one net b c.0 d
+  closes_one (Ok net) b c d = net_one net b c d
   closes_one (Err (Undefined name)) b c d = undefined_one name b c d
   closes_one (Err (Cycle name)) b c d = cycle_one name b c.0 c.1 d
   closes_one (Err other) b c d = absurd c

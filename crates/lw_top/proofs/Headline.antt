@@ -3,16 +3,16 @@ use Rattle.std.proofs.Common.{◌≡◌, inl, inr, ℕ, Bool, true, false, List,
 use Rattle.lw_io.specs.declared.file.File.{File}
 use Rattle.lw_io.specs.Files.{bytes_of}
 use Rattle.lw_net.specs.declared.draft.Draft.{Draft}
-use Rattle.lw_net.specs.Networks as keeps
 use Rattle.lw_net.specs.Networks.{NetworkParts}
-use Rattle.lw_net.specs.Closing.{IsClosed}
+use Rattle.lw_net.specs.Closing.{IsDraft, IsClosed}
 use Rattle.lw_plain.specs.declared.cell.Cell.{Cell}
 use Rattle.lw_plain.specs.declared.netlist.Netlist.{Netlist}
 use Rattle.lw_plain.specs.MappedTexts.{mapped_text}
 use Rattle.lw_plain.specs.Networks.{draft_of}
 use Rattle.lw_plain.specs.Netlists.{netlist_of}
 use Rattle.lw_plain.specs.Shapes.{ArePlainNodes}
-use Rattle.lw_plain.proofs.Drafts.{draft-plain}
+use Rattle.lw_plain.proofs.Drafts.{draft-closable, draft-plain}
+use Rattle.lw_plain_laws.proofs.ClosedNetworks.{closed_network}
 use Rattle.lw_plain_laws.proofs.PlainMapped.{netlist_is_mapping, lacks_cover}
 use Rattle.lw_top.specs.declared.refusal.Refusal.{Refusal}
 use Rattle.lw_top.specs.declared.refusal.Refusal.TheVariants.{Words, Unread, TooLong, NotBuilt, Undefined, Cycle, NoCover, Memory}
@@ -29,8 +29,8 @@ use Rattle.lw_top.specs.Mappings.{AreRead, IsMappingText, LacksOutput}
 record IsSpelled (net : NetworkParts) : Type 0 where
   pub draft : Draft
   pub plain_nodes : ArePlainNodes draft.nodes
+  pub closable : IsDraft draft
   pub closed : IsClosed draft net
-  pub kept : keeps.IsNetwork net
 
 built-ok : (r : Result Draft ℕ) (draft : Draft) → built which.Network r ≡ Ok draft → r ≡ Ok draft
 built-ok (Ok d) draft e = let same : d ≡ draft = cc in ap (λ x. Ok x) same
@@ -38,9 +38,10 @@ built-ok (Err line) draft e = cc
 
 spelled : (name : List ℕ) (files : Files) (net : NetworkParts) → IsNetwork name files (Ok net) → IsSpelled net
 unfolding draft_in
-spelled name files net (inl (draft, inl (bytes, text, is), both)) =
-    record { draft = draft; plain_nodes = draft-plain bytes draft (built-ok (draft_of bytes) draft is); closed = both.0; kept = both.1 }
-spelled name files net (inl (draft, inr (e, refused, is), both)) = cc
+spelled name files net (inl (draft, inl (bytes, text, is), closed)) =
+    let e = built-ok (draft_of bytes) draft is in
+    record { draft = draft; plain_nodes = draft-plain bytes draft e; closable = draft-closable bytes draft e; closed = closed }
+spelled name files net (inl (draft, inr (e, refused, is), closed)) = cc
 spelled name files net (inr (e, refused, is)) = cc
 
 -- no step before the mapping refuses for want of a cover
@@ -101,7 +102,7 @@ module _ (words : List (List ℕ)) (files : Files) where
   text-mapped text cells net read (Ok m) found written =
       let s = spelled read.names.network files net read.network in
       let same : mapped_text cells m ≡ text = cc in
-      record { cells = cells; net = net; netlist = m; read = read; written = sym same; mapping = netlist_is_mapping cells s.draft net s.plain_nodes s.closed s.kept m found }
+      record { cells = cells; net = net; netlist = m; read = read; written = sym same; mapping = netlist_is_mapping cells s.draft net s.plain_nodes s.closed (closed_network s.draft net s.closable s.closed) m found }
   text-mapped text cells net read (Err name) found written = cc
 
   -- an answer that is a text is that of a mapping
@@ -122,7 +123,7 @@ module _ (words : List (List ℕ)) (files : Files) where
   name-lacks name cells net read (Err other) found refused =
       let s = spelled read.names.network files net read.network in
       let same : other ≡ name = cc in
-      record { cells = cells; net = net; read = read; lacks = lacks_cover cells s.draft net s.plain_nodes s.closed s.kept name (found ∙ ap (λ n. Err n) same) }
+      record { cells = cells; net = net; read = read; lacks = lacks_cover cells s.draft net s.plain_nodes s.closed (closed_network s.draft net s.closable s.closed) name (found ∙ ap (λ n. Err n) same) }
 
   -- an answer that names an output is of one without a cover
   pub answer-lacks : (name : List ℕ) → IsAnswer words files (Err (NoCover name)) → LacksOutput words files name

@@ -7,3 +7,6 @@ pub mod Whole
 pub mod Headline
 pub mod Closed
 pub mod One
+pub mod Reached
+pub mod Depths
+pub mod Given

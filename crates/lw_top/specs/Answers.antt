@@ -4,7 +4,6 @@ use Rattle.std.specs.List.{starts_with}
 use Rattle.std.specs.Str.{bytes_eq}
 use Rattle.lw_net.specs.declared.draft.Draft.{Draft}
 use Rattle.lw_net.specs.declared.fault.NetFault.TheVariants as fault
-use Rattle.lw_net.specs.Networks as keeps
 use Rattle.lw_net.specs.Networks.{NetworkParts}
 use Rattle.lw_net.specs.Closing.{IsClosed, HasFault}
 use Rattle.lw_plain.specs.declared.cell.Cell.{Cell}
@@ -71,9 +70,9 @@ cells_in bytes files = built which.Library (library.library_of bytes)
 unfoldable pub draft_in : List ℕ → Files → Result Draft Refusal
 draft_in bytes files = built which.Network (network.draft_of bytes)
 
--- The draft's network, which keeps what each network does; or the signal that nothing drives or that reaches itself.
+-- the draft's network, or the signal that nothing drives or that reaches itself
 abbrev pub Closes : Draft → Step NetworkParts
-Closes draft files (Ok net) = IsClosed draft net × keeps.IsNetwork net
+Closes draft files (Ok net) = IsClosed draft net
 Closes draft files (Err (Undefined name)) = HasFault draft (fault.Undefined name)
 Closes draft files (Err (Cycle name)) = HasFault draft (fault.Cycle name)
 Closes draft files (Err other) = ⊥

@@ -83,11 +83,7 @@ fn close(alloc: Global, draft: Draft) -> Result<Network, Refusal>
     ensures { Comes (λ net. net) (Closes draft) result }
 {
     match Network::close(alloc, draft) {
-        Ok(net) => {
-            // A call of the network tells what it keeps.
-            let _inputs = net.inputs();
-            Ok(net)
-        }
+        Ok(net) => Ok(net),
         Err(NetFault::Undefined(name)) => Err(Refusal::Undefined(name)),
         Err(NetFault::Cycle(name)) => Err(Refusal::Cycle(name)),
         Err(NetFault::Memory) => Err(Refusal::Memory),
