@@ -4,6 +4,6 @@ use Rattle.std.specs.List.{IsDistinct}
 use Rattle.std.specs.Str.{bytes_eq}
 use Rattle.lw_rows.proofs.map.shelf.Goals as goal
 
-pub new-requires-clause-names_differ : goal.new-requires-2-clause-names_differ
+pub new-requires-clause-names_differ : goal.new-requires-clause-names_differ
 unfolding IsDistinct
 new-requires-clause-names_differ c = subst (λ names. IsDistinct bytes_eq names) (sym c.in_ok-files.ensures) ((refl, tt), (tt, tt))
