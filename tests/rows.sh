@@ -1,14 +1,17 @@
 #!/bin/sh
 # Runs the built program on every row of tests/rows, on the plain examples, and on the cases below, which
-# files alone cannot say. It builds nothing: it takes the program that the gate left, or the one that
-# LWMAP_PROGRAM names. With words it runs those rows and cases alone, as in: sh tests/rows.sh inverter no_words
+# files alone cannot say. It takes the program that LWMAP_PROGRAM names, or else that of crates/lwmap, which the
+# script lwmap builds first where it is not fresh. With words it runs those rows and cases alone, as in:
+# sh tests/rows.sh inverter no_words
 # The last line is 'N passed, N failed'. The status is 0 where none failed and at least one ran.
 set -u
 export LC_ALL=C
 tests=$(dirname -- "$(readlink -f -- "$0")")
 root=$(dirname -- "$tests")
+plain=$root/examples/plain
+[ -n "${LWMAP_PROGRAM:-}" ] || "$root/lwmap" map "$plain/plain.genlib" "$plain/chain.blif" >/dev/null || exit
 program=$(readlink -f -- "${LWMAP_PROGRAM:-$root/crates/lwmap/out/lwmap}")
-[ -x "$program" ] || echo "rows: there is no program $program: run the gate first, or set LWMAP_PROGRAM" >&2
+[ -x "$program" ] || { echo "rows: there is no program $program" >&2 && exit 1; }
 room=$(mktemp -d) || exit 1
 trap 'rm -rf "$room"' EXIT
 trap 'exit 1' HUP INT TERM
@@ -59,8 +62,8 @@ row() {
 
 # An example that is mapped today, with the text that is wanted.
 example() {
-    run map "$root/examples/plain/plain.genlib" "$root/examples/plain/$1.blif"
-    status $? 0 && same out "$root/examples/plain/$1.mapped.blif" && holds err
+    run map "$plain/plain.genlib" "$plain/$1.blif"
+    status $? 0 && same out "$plain/$1.mapped.blif" && holds err
 }
 
 inverter_files() {
@@ -355,7 +358,7 @@ for it in "$tests"/rows/*/; do
     [ $# -eq 0 ] || case " $* " in *" ${it##*/} "*) ;; *) continue ;; esac
     attempt "${it##*/}" row "$it"
 done
-for it in "$root"/examples/plain/*.mapped.blif; do
+for it in "$plain"/*.mapped.blif; do
     it=${it##*/}
     [ $# -eq 0 ] || case " $* " in *" ${it%.mapped.blif} "*) ;; *) continue ;; esac
     attempt "${it%.mapped.blif}" example "${it%.mapped.blif}"
