@@ -1,0 +1,4 @@
+pub mod Filling
+pub mod Names
+pub mod Rising
+pub mod Searching

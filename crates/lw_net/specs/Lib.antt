@@ -1,0 +1,5 @@
+pub mod Closing
+pub mod Networks
+pub mod Numbered
+pub mod Plain
+pub mod Signs

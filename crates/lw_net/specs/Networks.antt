@@ -1,0 +1,29 @@
+-- What a closed network is seen as, and what its type keeps.
+use Rattle.std.specs.Prelude.{ℕ, ◌+◌, ◌<◌, ◌≤◌, ◌≡◌, List, Some, length, slice_get, All}
+use Rattle.lw_pool.specs.declared.id.NetId.{NetId}
+use Rattle.lw_net.specs.declared.node.Node.{Node}
+
+-- Nets below `inputs` are the inputs; the nodes drive the nets after those, in order.
+pub record NetworkParts : Type 0 where
+  pub model : List ℕ
+  pub names : List (List ℕ)
+  pub inputs : ℕ
+  pub nodes : List Node
+  pub outputs : List NetId
+
+-- how many nets there are at most
+abbrev pub most_nets : ℕ
+most_nets = 262144
+
+-- what holds of node j
+pub record IsNodeAt (inputs j : ℕ) (node : Node) : Type 0 where
+  pub drives : node.out.0 ≡ inputs + j
+  pub before : All (λ (net : NetId). net.0 < inputs + j) node.fanins
+  pub columns : All (λ (row : List ℕ). length row ≡ length node.fanins) node.rows
+
+-- what each network keeps
+pub record IsNetwork (net : NetworkParts) : Type 0 where
+  pub named : length net.names ≡ net.inputs + length net.nodes
+  pub few : length net.names ≤ most_nets
+  pub nodes : (j : ℕ) (node : Node) → slice_get net.nodes j ≡ Some node → IsNodeAt net.inputs j node
+  pub outputs : All (λ (net' : NetId). net'.0 < length net.names) net.outputs

@@ -1,0 +1,16 @@
+//! Networks of nodes with rows, closed from their drafts by names, and the values of their nets.
+#![tactic(auto)]
+
+mod cycles;
+mod draft;
+mod eval;
+mod fault;
+mod levels;
+mod naming;
+mod network;
+mod node;
+
+pub use draft::{Draft, DraftNode, DraftNodes};
+pub use fault::NetFault;
+pub use network::Network;
+pub use node::{Cube, Cubes, Node, Nodes};
