@@ -1,0 +1,4 @@
+pub mod Commands
+pub mod Drafts
+pub mod LineFaults
+pub mod Readers

@@ -1,0 +1,8 @@
+//! Reads a network's text, in the Berkeley Logic Interchange Format, line by line.
+#![tactic(auto)]
+
+mod command;
+mod fault;
+
+pub use command::Command;
+pub use fault::{BlifFault, BlifKind};
