@@ -1,6 +1,6 @@
 -- The first rule that a line of a network's text breaks, behind the lines before it.
-use Rattle.std.specs.Prelude.{ℕ, ◌+◌, ◌-◌, Bool, true, false, not, ◌&&◌, ◌||◌, ◌==◌, nat_lt, nat_le, unwrap_or, List, [], ◌∷◌, ◌++◌, length, take, drop, reverse, filter, Option, Some, None, if◌then◌else◌, codes}
-use Rattle.std.specs.List.{list_any, list_all, flat_map, last_or}
+use Rattle.std.specs.Prelude.{ℕ, ◌+◌, ◌-◌, Bool, true, false, not, ◌&&◌, ◌||◌, ◌==◌, nat_lt, nat_le, nat_eq, List, [], ◌∷◌, ◌++◌, length, take, drop, reverse, filter, Option, Some, None, if◌then◌else◌, codes}
+use Rattle.std.specs.List.{list_any, list_all, flat_map, ends_with}
 use Rattle.std.specs.Str.{bytes_eq}
 use Rattle.lw_words.specs.Lines.{LogicalLine}
 use Rattle.lw_blif.specs.declared.command.Command.{Command}
@@ -16,7 +16,9 @@ first_word [] = []
 first_word (word ∷ words) = word
 
 abbrev pub last_word : List (List ℕ) → List ℕ
-last_word words = unwrap_or (last_or None words) []
+last_word [] = []
+last_word (word ∷ []) = word
+last_word (word ∷ next ∷ words) = last_word (next ∷ words)
 
 abbrev pub other_words : List (List ℕ) → List (List ℕ)
 other_words words = drop 1 words
@@ -78,8 +80,9 @@ lines_read (line ∷ lines) = if ends true (command line) then [] else line ∷ 
 
 -- Names and signals.
 
+-- at most 2,000 bytes, the last of which is no `\`
 abbrev pub is_name : List ℕ → Bool
-is_name word = nat_lt 0 (length word) && nat_le (length word) 2000 && not (bytes_eq (drop (length word - 1) word) (92 ∷ []))
+is_name word = nat_le (length word) 2000 && not (ends_with nat_eq word (92 ∷ []))
 
 -- the words in places of names
 abbrev pub names_for : Command → List (List ℕ) → List (List ℕ)

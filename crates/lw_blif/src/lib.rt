@@ -3,6 +3,8 @@
 
 mod command;
 mod fault;
+mod naming;
+mod rows;
 
 pub use command::Command;
 pub use fault::{BlifFault, BlifKind};
