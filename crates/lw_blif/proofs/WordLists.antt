@@ -1,8 +1,11 @@
 -- Words at places.
-use Rattle.std.proofs.Common.{ℕ, zero, suc, ◌+◌, ◌-◌, ◌<◌, ◌≤◌, ◌≡◌, Bool, true, false, ◌&&◌, List, [], ◌∷◌, ◌++◌, length, take, drop, Some, None, refl, ap, sym, ◌∙◌, arith}
+use Rattle.std.proofs.Common.{ℕ, zero, suc, ◌+◌, ◌-◌, ◌<◌, ◌≤◌, ◌≡◌, Bool, true, false, not, ◌&&◌, cond, List, [], ◌∷◌, ◌++◌, length, take, drop, Some, None, refl, ap, sym, ◌∙◌, arith}
 use Rattle.std.specs.Prelude.{slice_get}
-use Rattle.std.specs.List.{list_all, slice_range}
+use Rattle.std.specs.List.{list_all, list_any, slice_range}
+use Rattle.std.specs.Str.{bytes_eq}
+use Rattle.indexmap.specs.IndexSet.{insert_key, insert_all}
 use Rattle.lw_blif.specs.LineFaults.{last_word}
+use Rattle.lw_blif.specs.Readers.{are_fresh}
 
 pub last_word-get : (words : List (List ℕ)) (word : List ℕ) → slice_get words (length words - 1) ≡ Some word → word ≡ last_word words
 last_word-get [] word e = cc
@@ -47,3 +50,20 @@ slice_range-none xs from = let same : from - from ≡ 0 = omega arith in ap (λ 
 -- the first element decides, or the others do
 pub list_all-get : (p : List ℕ → Bool) (words : List (List ℕ)) (i : ℕ) (word : List ℕ) (b : Bool) → slice_get words i ≡ Some word → p word ≡ b → list_all p (drop i words) ≡ (b && list_all p (drop (i + 1) words))
 list_all-get p words i word b e is = ap (list_all p) (drop-get words i word e) ∙ ap (λ t. t && list_all p (drop (i + 1) words)) is
+
+-- Names that are new.
+
+pub fresh-get : (defined words : List (List ℕ)) (i : ℕ) (word : List ℕ) (b : Bool) → slice_get words i ≡ Some word → b ≡ not (list_any (bytes_eq word) defined) → are_fresh defined (drop i words) ≡ (b && are_fresh (defined ++ word ∷ []) (drop (i + 1) words))
+fresh-get defined words i word b e is =
+    ap (are_fresh defined) (drop-get words i word e) ∙ ap (λ t. t && are_fresh (defined ++ word ∷ []) (drop (i + 1) words)) (sym is)
+
+-- a new name is the last
+pub insert-new : (defined : List (List ℕ)) (word : List ℕ) → true ≡ not (list_any (bytes_eq word) defined) → insert_key bytes_eq defined word ≡ defined ++ word ∷ []
+insert-new defined word is = by_case (list_any (bytes_eq word) defined) is
+  where
+    by_case : (b : Bool) → true ≡ not b → cond b defined (defined ++ word ∷ []) ≡ defined ++ word ∷ []
+    by_case true e = cc
+    by_case false e = refl
+
+pub insert_all-get : (names words : List (List ℕ)) (i : ℕ) (word : List ℕ) → slice_get words i ≡ Some word → insert_all bytes_eq (insert_key bytes_eq names word) (drop (i + 1) words) ≡ insert_all bytes_eq names (drop i words)
+insert_all-get names words i word e = sym (ap (insert_all bytes_eq names) (drop-get words i word e))

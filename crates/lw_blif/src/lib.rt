@@ -2,6 +2,7 @@
 #![tactic(auto)]
 
 mod command;
+mod defining;
 mod fault;
 mod naming;
 mod rows;
