@@ -60,8 +60,8 @@ front-stop p q same (x ∷ xs) ys some = at_first (q x) refl some (front-stop p 
   where
     at_first : (b : Bool) → q x ≡ b → (q x || list_any q xs) ≡ true → (list_any q xs ≡ true → front p (xs ++ ys) ≡ front p xs) → front p (x ∷ xs ++ ys) ≡ front p (x ∷ xs)
     at_first true e s others =
-      let fails : p x ≡ false = same x ∙ ap not e in
-      ap (λ c. cond c (x ∷ front p (xs ++ ys)) []) fails ∙ sym (ap (λ c. cond c (x ∷ front p xs) []) fails)
+        let fails : p x ≡ false = same x ∙ ap not e in
+        ap (λ c. cond c (x ∷ front p (xs ++ ys)) []) fails ∙ sym (ap (λ c. cond c (x ∷ front p xs) []) fails)
     at_first false e s others = ap (λ r. cond (p x) (x ∷ r) []) (others (sym (ap (λ b. b || list_any q xs) e) ∙ s))
 
 front-end : {A : Type 0} (p q : A → Bool) → ((x : A) → p x ≡ not (q x)) → (xs : List A) (y : A) → q y ≡ true → front p (xs ++ y ∷ []) ≡ front p xs
@@ -80,8 +80,8 @@ lines_read-all (first ∷ lines) still = at_first (ends true (command first)) re
     at_first : (b : Bool) → ends true (command first) ≡ b → (ends true (command first) || list_any ends_later lines) ≡ false → cond (ends true (command first)) [] (first ∷ front goes_on lines) ≡ first ∷ lines
     at_first true e n = let wrong : true ≡ false = sym (ap (λ b. b || list_any ends_later lines) e) ∙ n in cc
     at_first false e n =
-      ap (λ b. cond b [] (first ∷ front goes_on lines)) e
-      ∙ ap (λ r. first ∷ r) (front-none goes_on ends_later (λ x. refl) lines (sym (ap (λ b. b || list_any ends_later lines) e) ∙ n))
+        ap (λ b. cond b [] (first ∷ front goes_on lines)) e
+        ∙ ap (λ r. first ∷ r) (front-none goes_on ends_later (λ x. refl) lines (sym (ap (λ b. b || list_any ends_later lines) e) ∙ n))
 
 pub has_ended-more : (lines : List LogicalLine) (line : LogicalLine) → has_ended lines ≡ false → has_ended (lines ++ line ∷ []) ≡ ends (is_first lines) (command line)
 unfolding has_ended
@@ -117,7 +117,7 @@ lines_read-ended (first ∷ lines) more ended = at_first (ends true (command fir
     at_first : (b : Bool) → ends true (command first) ≡ b → (ends true (command first) || list_any ends_later lines) ≡ true → cond (ends true (command first)) [] (first ∷ front goes_on (lines ++ more)) ≡ cond (ends true (command first)) [] (first ∷ front goes_on lines)
     at_first true e s = ap (λ b. cond b [] (first ∷ front goes_on (lines ++ more))) e ∙ sym (ap (λ b. cond b [] (first ∷ front goes_on lines)) e)
     at_first false e s =
-      ap (λ r. cond (ends true (command first)) [] (first ∷ r))
+        ap (λ r. cond (ends true (command first)) [] (first ∷ r))
         (front-stop goes_on ends_later (λ x. refl) lines more (sym (ap (λ b. b || list_any ends_later lines) e) ∙ s))
 
 -- the line that ends the reading is not read

@@ -1,3 +1,5 @@
 pub mod Appending
+pub mod Fresh
 pub mod NodesBehind
+pub mod RowsBehind
 pub mod WordLists

@@ -1,14 +1,13 @@
 -- Nodes, behind one more line.
 use Rattle.std.proofs.Common.{ℕ, zero, suc, ◌+◌, ◌≡◌, Bool, true, false, not, ◌&&◌, cond, List, [], ◌∷◌, ◌++◌, length, take, drop, map, reverse, filter, refl, ap, sym, ◌∙◌, arith, append_assoc, append-nil}
 use Rattle.std.specs.List.{list_all}
-use Rattle.std.proofs.lemmas.List.{reverse-append, length-reverse}
+use Rattle.std.proofs.lemmas.List.{reverse-append}
 use Rattle.std.proofs.lemmas.List.Elements.{filter-append}
 use Rattle.std.proofs.lemmas.List.Folds.{list_all-append}
-use Rattle.lw_net.specs.declared.draft.DraftNode.{DraftNode}
 use Rattle.lw_words.specs.Lines.{LogicalLine}
 use Rattle.lw_blif.specs.declared.command.Command.{Command}
 use Rattle.lw_blif.specs.declared.command.Command.TheVariants.{Model, Inputs, Outputs, Names, End, Ignored, Unsupported, Unknown, Row}
-use Rattle.lw_blif.specs.LineFaults.{command, is_row_command, is_names_command, is_ignored_command, is_row, is_names, is_ignored, front, nearest, rows_before, node_before}
+use Rattle.lw_blif.specs.LineFaults.{command, is_row_command, is_names_command, is_row, is_names, is_ignored, front, nearest, rows_before, node_before}
 use Rattle.lw_blif.specs.Drafts.{node_of, nodes_of}
 use Rattle.lw_blif.specs.Readers.{whole_nodes}
 
@@ -60,8 +59,8 @@ all-reverse p (x ∷ xs) pass = at_first (p x) refl pass (all-reverse p xs)
   where
     at_first : (b : Bool) → p x ≡ b → (p x && list_all p xs) ≡ true → (list_all p xs ≡ true → list_all p (reverse xs) ≡ true) → list_all p (reverse (x ∷ xs)) ≡ true
     at_first true e pass others =
-      let rest = others (sym (ap (λ b. b && list_all p xs) e) ∙ pass) in
-      ap (list_all p) (reverse-append (x ∷ []) xs) ∙ (list_all-append p (reverse xs) (x ∷ []) ∙ (ap (λ b. b && (p x && true)) rest ∙ ap (λ b. b && true) e))
+        let rest = others (sym (ap (λ b. b && list_all p xs) e) ∙ pass) in
+        ap (list_all p) (reverse-append (x ∷ []) xs) ∙ (list_all-append p (reverse xs) (x ∷ []) ∙ (ap (λ b. b && (p x && true)) rest ∙ ap (λ b. b && true) e))
     at_first false e pass others = let wrong : false ≡ true = sym (ap (λ b. b && list_all p xs) e) ∙ pass in cc
 
 -- One more line.
@@ -69,13 +68,13 @@ all-reverse p (x ∷ xs) pass = at_first (p x) refl pass (all-reverse p xs)
 nearest-kept : (lines : List LogicalLine) (line : LogicalLine) → is_ignored line ≡ false → nearest (lines ++ line ∷ []) ≡ line ∷ nearest lines
 nearest-kept lines line kept =
     ap reverse (filter-append is_kept lines (line ∷ [])
-      ∙ ap (λ b. filter is_kept lines ++ cond (not b) (line ∷ []) []) kept)
+    ∙ ap (λ b. filter is_kept lines ++ cond (not b) (line ∷ []) []) kept)
     ∙ reverse-push (filter is_kept lines) line
 
 nearest-ignored : (lines : List LogicalLine) (line : LogicalLine) → is_ignored line ≡ true → nearest (lines ++ line ∷ []) ≡ nearest lines
 nearest-ignored lines line ignored =
     ap reverse (filter-append is_kept lines (line ∷ [])
-      ∙ (ap (λ b. filter is_kept lines ++ cond (not b) (line ∷ []) []) ignored ∙ append-nil (filter is_kept lines)))
+    ∙ (ap (λ b. filter is_kept lines ++ cond (not b) (line ∷ []) []) ignored ∙ append-nil (filter is_kept lines)))
 
 -- An ignored line changes nothing.
 
@@ -146,8 +145,8 @@ nodes_of-none (row ∷ rows) none = at_first (is_row row) refl none (nodes_of-no
 
     at_first : (b : Bool) → is_row row ≡ b → (is_row row && list_all is_row rows) ≡ true → (list_all is_row rows ≡ true → nodes_of rows ≡ []) → cond (is_names row) (node_of row (front is_row rows) ∷ nodes_of rows) (nodes_of rows) ≡ []
     at_first true e pass others =
-      ap (λ b. cond b (node_of row (front is_row rows) ∷ nodes_of rows) (nodes_of rows)) (no_names (command row) e)
-      ∙ others (sym (ap (λ b. b && list_all is_row rows) e) ∙ pass)
+        ap (λ b. cond b (node_of row (front is_row rows) ∷ nodes_of rows) (nodes_of rows)) (no_names (command row) e)
+        ∙ others (sym (ap (λ b. b && list_all is_row rows) e) ∙ pass)
     at_first false e pass others = let wrong : false ≡ true = sym (ap (λ b. b && list_all is_row rows) e) ∙ pass in cc
 
 -- a node's line and its rows add this node
@@ -205,19 +204,19 @@ parts-of n (l ∷ rest) is some = by_names (is_names l) refl some
     by_names : (b : Bool) → is_names l ≡ b → (cond (is_names l) (l ∷ []) [] ≡ [] → front is_row n ≡ []) →
         nodes_of (reverse n) ≡ nodes_of (reverse (drop (length (front is_row n) + length (cond (is_names l) (l ∷ []) [])) n)) ++ map (λ line. node_of line (reverse (front is_row n))) (cond (is_names l) (l ∷ []) [])
     by_names true e none =
-      let rows = front is_row n in
-      let others : drop (length rows + 1) n ≡ rest = drop-sum (length rows) 1 n ∙ ap (drop 1) is in
-      let here : reverse n ≡ reverse rest ++ l ∷ reverse rows =
-          ap reverse whole ∙ (reverse-append rows (l ∷ rest) ∙ (ap (λ r. r ++ reverse rows) (reverse-append (l ∷ []) rest) ∙ append_assoc (reverse rest) (l ∷ []) (reverse rows))) in
-      ap nodes_of here
-      ∙ (nodes_of-node (reverse rest) l (reverse rows) e (names-no_row (command l) e) (all-reverse is_row rows (front-pass is_row n))
-      ∙ (ap (λ r. nodes_of (reverse r) ++ node_of l (reverse rows) ∷ []) (sym others)
-      ∙ ap (λ node. nodes_of (reverse (drop (length rows + length node) n)) ++ map (λ line. node_of line (reverse rows)) node) (sym (ap (λ b. cond b (l ∷ []) []) e))))
+        let rows = front is_row n in
+        let others : drop (length rows + 1) n ≡ rest = drop-sum (length rows) 1 n ∙ ap (drop 1) is in
+        let here : reverse n ≡ reverse rest ++ l ∷ reverse rows =
+        ap reverse whole ∙ (reverse-append rows (l ∷ rest) ∙ (ap (λ r. r ++ reverse rows) (reverse-append (l ∷ []) rest) ∙ append_assoc (reverse rest) (l ∷ []) (reverse rows))) in
+        ap nodes_of here
+        ∙ (nodes_of-node (reverse rest) l (reverse rows) e (names-no_row (command l) e) (all-reverse is_row rows (front-pass is_row n))
+        ∙ (ap (λ r. nodes_of (reverse r) ++ node_of l (reverse rows) ∷ []) (sym others)
+        ∙ ap (λ node. nodes_of (reverse (drop (length rows + length node) n)) ++ map (λ line. node_of line (reverse rows)) node) (sym (ap (λ b. cond b (l ∷ []) []) e))))
     by_names false e none =
-      let no_node : cond (is_names l) (l ∷ []) [] ≡ [] = ap (λ b. cond b (l ∷ []) []) e in
-      sym (append-nil (nodes_of (reverse n)))
-      ∙ (ap (λ rows. nodes_of (reverse (drop (length rows + 0) n)) ++ []) (sym (none no_node))
-      ∙ ap (λ node. nodes_of (reverse (drop (length (front is_row n) + length node) n)) ++ map (λ line. node_of line (reverse (front is_row n))) node) (sym no_node))
+        let no_node : cond (is_names l) (l ∷ []) [] ≡ [] = ap (λ b. cond b (l ∷ []) []) e in
+        sym (append-nil (nodes_of (reverse n)))
+        ∙ (ap (λ rows. nodes_of (reverse (drop (length rows + 0) n)) ++ []) (sym (none no_node))
+        ∙ ap (λ node. nodes_of (reverse (drop (length (front is_row n) + length node) n)) ++ map (λ line. node_of line (reverse (front is_row n))) node) (sym no_node))
 
 -- The nodes of all lines are the whole ones, and that whose rows may follow.
 pub nodes-parts : (lines : List LogicalLine) → (node_before lines ≡ [] → rows_before lines ≡ []) →
@@ -239,9 +238,9 @@ whole-other lines line some kept row =
   where
     by_names : (b : Bool) → is_names line ≡ b → nodes_of (reverse (drop (0 + length (cond (is_names line) (line ∷ []) [])) (line ∷ nearest lines))) ≡ nodes_of (filter is_kept lines)
     by_names true e =
-      ap (λ b. nodes_of (reverse (drop (0 + length (cond b (line ∷ []) [])) (line ∷ nearest lines)))) e
-      ∙ ap nodes_of (reverse-twice (filter is_kept lines))
+        ap (λ b. nodes_of (reverse (drop (0 + length (cond b (line ∷ []) [])) (line ∷ nearest lines)))) e
+        ∙ ap nodes_of (reverse-twice (filter is_kept lines))
     by_names false e =
-      ap (λ b. nodes_of (reverse (drop (0 + length (cond b (line ∷ []) [])) (line ∷ nearest lines)))) e
-      ∙ (ap nodes_of (reverse-append (line ∷ []) (nearest lines) ∙ ap (λ r. r ++ line ∷ []) (reverse-twice (filter is_kept lines)))
-      ∙ nodes_of-other (filter is_kept lines) line e row)
+        ap (λ b. nodes_of (reverse (drop (0 + length (cond b (line ∷ []) [])) (line ∷ nearest lines)))) e
+        ∙ (ap nodes_of (reverse-append (line ∷ []) (nearest lines) ∙ ap (λ r. r ++ line ∷ []) (reverse-twice (filter is_kept lines)))
+        ∙ nodes_of-other (filter is_kept lines) line e row)

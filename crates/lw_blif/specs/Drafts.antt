@@ -6,7 +6,7 @@ use Rattle.lw_words.specs.Lines.{LogicalLine}
 use Rattle.lw_net.specs.declared.draft.Draft.{Draft}
 use Rattle.lw_net.specs.declared.draft.DraftNode.{DraftNode}
 use Rattle.lw_blif.specs.declared.command.Command.{Command}
-use Rattle.lw_blif.specs.declared.command.Command.TheVariants.{Model, Inputs, Outputs, Names, End, Ignored, Unsupported, Unknown, Row}
+use Rattle.lw_blif.specs.declared.command.Command.TheVariants.{Model, Inputs, Outputs}
 use Rattle.lw_blif.specs.LineFaults.{first_word, last_word, other_words, command, is_row, is_names, is_ignored, fanins_on, front}
 
 -- each name once, where it stands first

@@ -185,7 +185,7 @@ rules_for node rows defined c words = record { broken = not (wants_words c words
 unfoldable pub line_fault : List LogicalLine → LogicalLine → Option BlifKind
 line_fault before line =
     first_broken (record { broken = line.long; kind = kind.LongWord }
-        ∷ rules_for (node_before before) (rows_before before) (defined_by before) (command line) line.words)
+    ∷ rules_for (node_before before) (rows_before before) (defined_by before) (command line) line.words)
 
 -- a rule, and the number of the line that breaks it
 pub record FaultAt : Type 0 where

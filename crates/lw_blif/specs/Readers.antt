@@ -1,5 +1,5 @@
 -- What a reader keeps of the lines that it was given.
-use Rattle.std.specs.Prelude.{ℕ, ◌+◌, Bool, true, false, not, ◌&&◌, nat_le, Option, Some, None, List, [], ◌∷◌, ◌++◌, length, drop, reverse, filter, if◌then◌else◌}
+use Rattle.std.specs.Prelude.{ℕ, ◌+◌, Bool, true, false, not, ◌&&◌, nat_le, Option, Some, None, List, [], ◌∷◌, ◌++◌, length, drop, reverse, if◌then◌else◌}
 use Rattle.std.specs.Str.{bytes_eq}
 use Rattle.lw_net.specs.declared.draft.DraftNode.{DraftNode}
 use Rattle.lw_words.specs.Lines.{LogicalLine, has_some}

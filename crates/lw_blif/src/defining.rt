@@ -14,7 +14,12 @@ use lw_words::Words;
 use std::alloc::{AllocError, Global};
 
 /// Defines the words from a place on, up to the first that is defined already. Whether all were new.
-pub fn define_all(alloc: Global, defined: &mut IndexSet<Name>, words: &Words, from: usize) -> Result<bool, AllocError>
+pub fn define_all(
+    alloc: Global,
+    defined: &mut IndexSet<Name>,
+    words: &Words,
+    from: usize,
+) -> Result<bool, AllocError>
     requires { from ≤ length words.now }
     ensures fresh { IfOk result (λ b. b ≡ are_fresh defined.old.keys (drop from words.now)) }
     ensures defined { IfOk result (λ b. b ≡ true → defined.new.keys ≡ defined.old.keys ++ drop from words.now) }
@@ -29,7 +34,12 @@ pub fn define_all(alloc: Global, defined: &mut IndexSet<Name>, words: &Words, fr
 }
 
 /// Adds the words from a place on that are not there.
-pub fn add_all(alloc: Global, names: &mut IndexSet<Name>, words: &Words, from: usize) -> Result<(), AllocError>
+pub fn add_all(
+    alloc: Global,
+    names: &mut IndexSet<Name>,
+    words: &Words,
+    from: usize,
+) -> Result<(), AllocError>
     requires { from ≤ length words.now }
     ensures { OnOk result (names.new.keys ≡ insert_all bytes_eq names.old.keys (drop from words.now)) }
 {

@@ -30,7 +30,12 @@ pub fn are_names(words: &Words, from: usize) -> bool
 }
 
 /// The words between two places.
-pub fn names_between(alloc: Global, words: &Words, from: usize, end: usize) -> Result<Names, AllocError>
+pub fn names_between(
+    alloc: Global,
+    words: &Words,
+    from: usize,
+    end: usize,
+) -> Result<Names, AllocError>
     requires order { from ≤ end }
     requires within { end ≤ length words.now }
     ensures { IfOk result (λ names. names ≡ slice_range words.now from end) }

@@ -1,4 +1,4 @@
-use Rattle.std.proofs.Common.{List, ℕ, ap, sym, ◌∙◌, drop, ◌+◌}
+use Rattle.std.proofs.Common.{ap, ◌∙◌, drop, ◌+◌}
 use Rattle.std.specs.Str.{bytes_eq}
 use Rattle.indexmap.specs.IndexSet.{insert_key, insert_all}
 use Rattle.lw_blif.proofs.WordLists.{insert_all-get}

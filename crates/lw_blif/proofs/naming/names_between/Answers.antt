@@ -1,4 +1,4 @@
-use Rattle.std.proofs.Common.{◌++◌, ◌∷◌, [], ap, sym, ◌∙◌, arith}
+use Rattle.std.proofs.Common.{◌++◌, ◌∷◌, [], ap, sym, ◌∙◌}
 use Rattle.lw_blif.proofs.WordLists.{slice_range-more}
 use Rattle.lw_blif.proofs.naming.names_between.Goals as goal
 
