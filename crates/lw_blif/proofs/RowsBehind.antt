@@ -8,19 +8,14 @@ use Rattle.lw_words.specs.Lines.{LogicalLine, has_some}
 use Rattle.lw_blif.specs.declared.fault.BlifKind.TheVariants as kind
 use Rattle.lw_blif.specs.LineFaults.{last_word, fanins_on, has_shape, differs_from, first_broken, row_rules}
 use Rattle.lw_blif.specs.Drafts.{node_of, row_of}
-use Rattle.lw_blif.specs.Readers.{value_word, is_value_of, row_fault_of}
+use Rattle.lw_blif.specs.Readers.{HaveValue, value_word, is_value_of, row_fault_of}
 
--- the rows have this value
-abbrev pub HaveValue : List ℕ → List LogicalLine → Type 0
-HaveValue value [] = Unit {0}
-HaveValue value (row ∷ rows) = (last_word row.words ≡ value) × HaveValue value rows
-
-length-map : {A B : Type 0} (f : A → B) (xs : List A) → length (map f xs) ≡ length xs
+pub length-map : {A B : Type 0} (f : A → B) (xs : List A) → length (map f xs) ≡ length xs
 length-map f [] = refl
 length-map f (x ∷ xs) = ap suc (length-map f xs)
 
 -- where all rows have one value, some row differs where there is one and the value does
-differs-value : (words : List (List ℕ)) (value : List ℕ) (rows : List LogicalLine) → HaveValue value rows → differs_from words rows ≡ (has_some rows && not (bytes_eq value (last_word words)))
+pub differs-value : (words : List (List ℕ)) (value : List ℕ) (rows : List LogicalLine) → HaveValue value rows → differs_from words rows ≡ (has_some rows && not (bytes_eq value (last_word words)))
 differs-value words value [] h = refl
 differs-value words value (row ∷ []) h = ap (λ v. not (bytes_eq v (last_word words)) || false) h.0 ∙ or-false (not (bytes_eq value (last_word words)))
   where
@@ -35,7 +30,7 @@ differs-value words value (row ∷ next ∷ rows) h =
     or-same true = refl
     or-same false = refl
 
-some-length : {A B : Type 0} (xs : List A) (ys : List B) → length xs ≡ length ys → has_some xs ≡ has_some ys
+pub some-length : {A B : Type 0} (xs : List A) (ys : List B) → length xs ≡ length ys → has_some xs ≡ has_some ys
 some-length [] [] e = refl
 some-length [] (y ∷ ys) e = absurd (omega arith)
 some-length (x ∷ xs) [] e = absurd (omega arith)

@@ -34,26 +34,28 @@ abbrev pub nodes_of : List LogicalLine → List DraftNode
 nodes_of [] = []
 nodes_of (line ∷ lines) = if is_names line then node_of line (front is_row lines) ∷ nodes_of lines else nodes_of lines
 
+-- the names of a line of this command, where the command is that one
+
+abbrev pub model_for : Command → List (List ℕ) → List (List ℕ)
+model_for Model names = names
+model_for other names = []
+
+abbrev pub inputs_for : Command → List (List ℕ) → List (List ℕ)
+inputs_for Inputs names = names
+inputs_for other names = []
+
+abbrev pub outputs_for : Command → List (List ℕ) → List (List ℕ)
+outputs_for Outputs names = names
+outputs_for other names = []
+
 abbrev pub model_on : LogicalLine → List (List ℕ)
 model_on line = model_for (command line) (other_words line.words)
-  where
-    model_for : Command → List (List ℕ) → List (List ℕ)
-    model_for Model names = names
-    model_for other names = []
 
 abbrev pub inputs_on : LogicalLine → List (List ℕ)
 inputs_on line = inputs_for (command line) (other_words line.words)
-  where
-    inputs_for : Command → List (List ℕ) → List (List ℕ)
-    inputs_for Inputs names = names
-    inputs_for other names = []
 
 abbrev pub outputs_on : LogicalLine → List (List ℕ)
 outputs_on line = outputs_for (command line) (other_words line.words)
-  where
-    outputs_for : Command → List (List ℕ) → List (List ℕ)
-    outputs_for Outputs names = names
-    outputs_for other names = []
 
 unfoldable pub draft_of : List LogicalLine → Draft
 draft_of lines = record {

@@ -1,11 +1,13 @@
 //! Reads a network's text, in the Berkeley Logic Interchange Format, line by line.
 #![tactic(auto)]
 
+mod adding;
 mod command;
 mod defining;
 mod fault;
 mod naming;
 mod rows;
+mod rules;
 
 pub use command::Command;
 pub use fault::{BlifFault, BlifKind};
