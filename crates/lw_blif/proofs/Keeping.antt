@@ -13,10 +13,13 @@ use Rattle.lw_blif.specs.declared.command.Command.{Command}
 use Rattle.lw_blif.specs.declared.command.Command.TheVariants.{Model, Inputs, Outputs, Names, End, Ignored, Unsupported, Unknown, Row}
 use Rattle.lw_blif.specs.declared.fault.BlifKind.{BlifKind}
 use Rattle.lw_blif.specs.declared.fault.BlifKind.TheVariants as kind
-use Rattle.lw_blif.specs.LineFaults.{other_words, is_ignored_command, is_row_command, is_names_command, defined_for, command, is_row, is_names, is_ignored, last_word, fanins_on, has_shape, is_value, is_column, defined_on, defined_by, rows_before, node_before}
+use Rattle.lw_blif.specs.LineFaults.{first_broken, name_rules, wants_words, is_name, names_for, words_before_last, has_twice, other_words, is_ignored_command, is_row_command, is_names_command, defined_for, command, is_row, is_names, is_ignored, last_word, fanins_on, has_shape, is_value, is_column, defined_on, defined_by, rows_before, node_before}
 use Rattle.lw_blif.specs.Drafts.{model_for, inputs_for, outputs_for, node_of, row_of, is_off_row, columns_of, model_on, inputs_on, outputs_on, each_once}
-use Rattle.lw_blif.specs.Readers.{whole_nodes, value_word, is_value_of, row_fault_of, row_added, HaveValue, HaveValueOf, Kept}
+use Rattle.lw_blif.specs.Readers.{names_fault_of, are_fresh, whole_nodes, value_word, is_value_of, row_fault_of, row_added, HaveValue, HaveValueOf, Kept}
 use Rattle.lw_blif.proofs.NodesBehind.{reverse-push, rows-ignored, node-ignored, whole-ignored, rows-row, node-row, whole-row, rows-other, node-other, whole-other}
+use Rattle.indexmap.specs.IndexSet.{insert_all}
+use Rattle.lw_blif.specs.Commands.{is_among}
+use Rattle.lw_blif.proofs.Fresh.{once-more, fresh-are}
 use Rattle.lw_blif.proofs.RowsBehind.{length-map, some-length}
 
 -- what one more line adds
@@ -210,3 +213,105 @@ kept-row model inputs outputs defined nodes node lines line e fit k =
       (ap (λ n. row_added line.words n ∷ []) same ∙ ap (λ n. n ∷ []) (sym (node-added l (rows_before lines) line values)),
         (λ none. cc),
         values)
+
+-- A line of names.
+pub kept-names : (c : Command) (model model' : Option (List ℕ)) (inputs inputs' outputs outputs' defined defined' : List (List ℕ)) (nodes nodes' : List DraftNode) (node node' : Option DraftNode) (lines : List LogicalLine) (line : LogicalLine) →
+    command line ≡ c → is_ignored_command c ≡ false → is_row_command c ≡ false →
+    option_to_list model' ≡ take 1 (flat_map model_on lines ++ model_for c (other_words line.words)) →
+    inputs' ≡ inputs ++ inputs_for c (other_words line.words) →
+    outputs' ≡ insert_all bytes_eq outputs (outputs_for c (other_words line.words)) →
+    defined' ≡ defined ++ defined_for c line.words →
+    nodes' ≡ nodes ++ option_to_list node →
+    option_to_list node' ≡ cond (is_names_command c) (node_of line [] ∷ []) [] →
+    length defined' ≤ 262144 →
+    Kept model inputs outputs defined nodes node lines → Kept model' inputs' outputs' defined' nodes' node' (lines ++ line ∷ [])
+kept-names c model model' inputs inputs' outputs outputs' defined defined' nodes nodes' node node' lines line e not_ignored not_row model_is inputs_are outputs_are defined_are nodes_are node_is few k =
+    let kept : is_ignored line ≡ false = ap is_ignored_command e ∙ not_ignored in
+    let row : is_row line ≡ false = ap is_row_command e ∙ not_row in
+    let rows = rows-other lines line kept row in
+    let nodes_before = node-other lines line kept row in
+    record {
+      model_is = model_is ∙ ap (take 1) (sym (flat-more model_on lines line (model_for c (other_words line.words)) (ap (λ d. model_for d (other_words line.words)) e)));
+      inputs_are =
+        inputs_are ∙ (ap (λ r. r ++ inputs_for c (other_words line.words)) k.inputs_are
+        ∙ sym (flat-more inputs_on lines line (inputs_for c (other_words line.words)) (ap (λ d. inputs_for d (other_words line.words)) e)));
+      outputs_are =
+        outputs_are ∙ (ap (λ r. insert_all bytes_eq r (outputs_for c (other_words line.words))) k.outputs_are
+        ∙ (sym (once-more (flat_map outputs_on lines) (outputs_for c (other_words line.words)))
+        ∙ ap each_once (sym (flat-more outputs_on lines line (outputs_for c (other_words line.words)) (ap (λ d. outputs_for d (other_words line.words)) e)))));
+      defined_are =
+        defined_are ∙ (ap (λ r. r ++ defined_for c line.words) k.defined_are
+        ∙ (ap (λ d. defined_by lines ++ defined_for d line.words) (sym e) ∙ sym (defined-more lines line)));
+      nodes_are = nodes_are ∙ (ap (λ r. r ++ option_to_list node) k.nodes_are ∙ (ap (λ r. whole_nodes lines ++ r) k.node_is ∙ sym (whole-other lines line k.no_rows kept row)));
+      node_is =
+        node_is ∙ (ap (λ d. cond (is_names_command d) (node_of line [] ∷ []) []) (sym e)
+        ∙ (by_names (is_names line)
+        ∙ (ap (λ r. map (λ l. node_of l (reverse r)) (cond (is_names line) (line ∷ []) [])) (sym rows)
+        ∙ ap (λ n. map (λ l. node_of l (reverse (rows_before (lines ++ line ∷ [])))) n) (sym nodes_before))));
+      no_rows = λ none. rows;
+      one_value = subst (λ (r : List LogicalLine). HaveValueOf node' r) (sym rows) (no_value node');
+      few = few;
+    }
+  where
+    by_names : (b : Bool) → cond b (node_of line [] ∷ []) [] ≡ map (λ l. node_of l (reverse [])) (cond b (line ∷ []) [])
+    by_names true = refl
+    by_names false = refl
+
+    no_value : (n : Option DraftNode) → HaveValueOf n []
+    no_value None = tt
+    no_value (Some n) = tt
+
+-- The rules of names.
+
+-- the first of these that is there
+abbrev pub or_else : Option BlifKind → Option BlifKind → Option BlifKind
+or_else (Some kind) other = Some kind
+or_else None other = other
+
+names-broken : (a b c d r : Bool) (v w x y z : BlifKind) →
+    cond a (Some v) (cond b (Some w) (cond c (Some x) (cond d (Some y) (cond r (Some z) None))))
+    ≡ or_else (cond a (Some v) (cond b (Some w) (cond c (Some x) (cond d (Some y) None)))) (cond (not r) None (Some z))
+names-broken true b c d r v w x y z = refl
+names-broken false true c d r v w x y z = refl
+names-broken false false true d r v w x y z = refl
+names-broken false false false true r v w x y z = refl
+names-broken false false false false true v w x y z = refl
+names-broken false false false false false v w x y z = refl
+
+pub names_fault-rules : (defined : List (List ℕ)) (c : Command) (words : List (List ℕ)) →
+    first_broken (record { broken = not (wants_words c words); kind = kind.WordCount } ∷ name_rules defined c words)
+    ≡ or_else (names_fault_of (length defined) c words) (cond (are_fresh defined (defined_for c words)) None (Some kind.Redefined))
+unfolding names_fault_of
+names_fault-rules defined c words =
+    names-broken (not (wants_words c words)) (not (list_all is_name (names_for c words))) (is_names_command c && nat_lt 256 (length (words_before_last (other_words words)))) (nat_lt 262144 (length defined + length (defined_for c words))) (has_twice (defined_for c words) || list_any (is_among defined) (defined_for c words)) kind.WordCount kind.BadName kind.LimitFanin kind.LimitSignals kind.Redefined
+    ∙ ap (λ t. or_else (names_fault_of (length defined) c words) (cond t None (Some kind.Redefined))) (sym (fresh-are defined (defined_for c words)))
+
+none-whole : whole_nodes [] ≡ []
+unfolding whole_nodes rows_before node_before
+none-whole = refl
+
+none-defined : defined_by [] ≡ []
+unfolding defined_by
+none-defined = refl
+
+none-node : node_before [] ≡ []
+unfolding node_before rows_before
+none-node = refl
+
+none-rows : rows_before [] ≡ []
+unfolding rows_before
+none-rows = refl
+
+-- of no lines nothing is kept
+pub kept-start : (inputs outputs defined : List (List ℕ)) (nodes : List DraftNode) → inputs ≡ [] → outputs ≡ [] → defined ≡ [] → nodes ≡ [] → Kept None inputs outputs defined nodes None []
+kept-start inputs outputs defined nodes no_inputs no_outputs no_defined no_nodes = record {
+  model_is = refl;
+  inputs_are = no_inputs;
+  outputs_are = no_outputs;
+  defined_are = no_defined ∙ sym none-defined;
+  nodes_are = no_nodes ∙ sym none-whole;
+  node_is = sym (ap (map (λ l. node_of l (reverse (rows_before [])))) none-node);
+  no_rows = λ none. none-rows;
+  one_value = tt;
+  few = omega (arith, ap length no_defined);
+}

@@ -1,4 +1,5 @@
 pub mod Commands
 pub mod Drafts
+pub mod Keeping
 pub mod LineFaults
 pub mod Readers

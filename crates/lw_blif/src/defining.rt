@@ -33,6 +33,17 @@ pub fn define_all(
     Ok(true)
 }
 
+/// Defines the last word. Whether it was new.
+pub fn define_last(alloc: Global, defined: &mut IndexSet<Name>, words: &Words) -> Result<bool, AllocError>
+    requires { 0 < length words.now }
+    ensures fresh { IfOk result (λ b. b ≡ are_fresh defined.old.keys (last_word words.now ∷ [])) }
+    ensures defined { IfOk result (λ b. b ≡ true → defined.new.keys ≡ defined.old.keys ++ last_word words.now ∷ []) }
+{
+    let name = Name::from_slice(alloc, last_word(words))?;
+    let is_new = defined.insert(name)?;
+    Ok(is_new)
+}
+
 /// Adds the words from a place on that are not there.
 pub fn add_all(
     alloc: Global,

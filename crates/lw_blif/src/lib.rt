@@ -6,6 +6,7 @@ mod command;
 mod defining;
 mod fault;
 mod naming;
+mod parts;
 mod rows;
 mod rules;
 

@@ -1,0 +1,88 @@
+// What lines say, as far as they were read.
+ghost use Rattle.std.specs.Prelude.{◌≡◌, ◌≢◌, ◌+◌, ◌<◌, ◌≤◌, ◌++◌, [], ◌∷◌, List, None, length, true, false, IfOk, OnOk, option_to_list};
+
+use crate::adding::with_row;
+use crate::defining::{add_all, define_all, define_last, new_node};
+use crate::naming::names_between;
+use crate::rows::row_fault;
+use crate::rules::names_fault;
+use crate::{BlifKind, Command};
+use indexmap::IndexSet;
+use lw_net::{DraftNode, DraftNodes};
+use lw_pool::{Name, Names};
+use lw_words::{Line, Words};
+use std::alloc::{AllocError, Global};
+
+/// What lines say, as far as they were read.
+#[derive(Drop)]
+pub struct Parts {
+    alloc: Global,
+    model: Option<Name>,
+    inputs: Names,
+    outputs: IndexSet<Name>,
+    // The inputs, and what nodes drive.
+    defined: IndexSet<Name>,
+    // The nodes to which no row can be added.
+    nodes: DraftNodes,
+    // The node whose rows may follow.
+    node: Option<DraftNode>,
+}
+
+impl Parts {
+    ghost use Rattle.lw_words.specs.Lines.{LogicalLine};
+    ghost use Rattle.lw_blif.specs.Keeping.{Keeps, AddsRow, Defines};
+    ghost use Rattle.lw_blif.specs.Readers.{row_fault_of, are_fresh};
+    ghost use Rattle.lw_blif.specs.LineFaults.{defined_for};
+
+    pub fn new(alloc: Global) -> Self
+        ensures { Keeps result [] }
+    {
+        Parts {
+            alloc,
+            model: None,
+            inputs: Names::new(alloc),
+            outputs: IndexSet::new(alloc),
+            defined: IndexSet::new(alloc),
+            nodes: DraftNodes::new(alloc),
+            node: None,
+        }
+    }
+
+    // A row, or the first rule that it breaks.
+    fn read_row(&mut self, words: &Words) -> Result<Option<BlifKind>, AllocError>
+        requires { 0 < length words.now }
+        ensures fault { IfOk result (λ fault. fault ≡ row_fault_of self.old.node words.now) }
+        ensures row { IfOk result (λ fault. fault ≡ None → AddsRow self.old words.now self.new) }
+    {
+        if let Some(kind) = row_fault(&self.node, words) {
+            return Ok(Some(kind));
+        }
+        if let Some(node) = self.node.take() {
+            self.node = Some(with_row(self.alloc, node, words)?);
+        }
+        Ok(None)
+    }
+
+    // The node whose rows were to follow is whole.
+    fn end_node(&mut self) -> Result<(), AllocError>
+        ensures { OnOk result (self.new.nodes ≡ self.old.nodes ++ option_to_list self.old.node) }
+    {
+        if let Some(node) = self.node.take() {
+            self.nodes.push(node)?;
+        }
+        Ok(())
+    }
+
+    // Defines the signals of a line, up to the first that is defined already. Whether all were new.
+    fn define(&mut self, command: Command, words: &Words) -> Result<bool, AllocError>
+        requires { 0 < length words.now }
+        ensures fresh { IfOk result (λ b. b ≡ are_fresh self.old.defined.keys (defined_for command words.now)) }
+        ensures defined { IfOk result (λ b. b ≡ true → Defines self.old (defined_for command words.now) self.new) }
+    {
+        match command {
+            Command::Inputs => define_all(self.alloc, &mut self.defined, words, 1),
+            Command::Names => define_last(self.alloc, &mut self.defined, words),
+            _ => Ok(true),
+        }
+    }
+}
