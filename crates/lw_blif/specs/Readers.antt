@@ -45,6 +45,10 @@ names_fault_of count c words =
     else (if is_names_command c && nat_lt 256 (length (words_before_last (other_words words))) then Some kind.LimitFanin
     else (if nat_lt 262144 (count + length (defined_for c words)) then Some kind.LimitSignals else None)))
 
+-- the node of a line of these words, before its rows
+abbrev pub node_begun : List (List ℕ) → DraftNode
+node_begun words = record { out = last_word words; fanins = words_before_last (other_words words); rows = []; on = true }
+
 -- the node with one more row of these words
 abbrev pub row_added : List (List ℕ) → DraftNode → DraftNode
 row_added words node = record { out = node.out; fanins = node.fanins; rows = node.rows ++ columns_of words ∷ []; on = not (bytes_eq (last_word words) (codes "0")) }

@@ -2,8 +2,7 @@
 ghost use Rattle.std.specs.Prelude.{◌≡◌, ◌≢◌, ◌+◌, ◌<◌, ◌≤◌, ◌++◌, [], ◌∷◌, List, None, length, true, false, IfOk, OnOk, option_to_list};
 
 use crate::adding::with_row;
-use crate::defining::{add_all, define_all, define_last, new_node};
-use crate::naming::names_between;
+use crate::defining::{add_all, append_all, define_all, define_last, name_or_second, new_node};
 use crate::rows::row_fault;
 use crate::rules::names_fault;
 use crate::{BlifKind, Command};
@@ -30,9 +29,9 @@ pub struct Parts {
 
 impl Parts {
     ghost use Rattle.lw_words.specs.Lines.{LogicalLine};
-    ghost use Rattle.lw_blif.specs.Keeping.{Keeps, AddsRow, Defines};
+    ghost use Rattle.lw_blif.specs.Keeping.{Keeps, AddsRow, Defines, EndsNode, TakesNames, TakesModel};
     ghost use Rattle.lw_blif.specs.Readers.{row_fault_of, are_fresh};
-    ghost use Rattle.lw_blif.specs.LineFaults.{defined_for};
+    ghost use Rattle.lw_blif.specs.LineFaults.{defined_for, wants_words};
 
     pub fn new(alloc: Global) -> Self
         ensures { Keeps result [] }
@@ -65,7 +64,7 @@ impl Parts {
 
     // The node whose rows were to follow is whole.
     fn end_node(&mut self) -> Result<(), AllocError>
-        ensures { OnOk result (self.new.nodes ≡ self.old.nodes ++ option_to_list self.old.node) }
+        ensures { OnOk result (EndsNode self.old self.new) }
     {
         if let Some(node) = self.node.take() {
             self.nodes.push(node)?;
@@ -84,5 +83,32 @@ impl Parts {
             Command::Names => define_last(self.alloc, &mut self.defined, words),
             _ => Ok(true),
         }
+    }
+
+    // Takes the names of a line that breaks no rule, its definitions aside.
+    fn take_names(&mut self, command: Command, words: &Words) -> Result<(), AllocError>
+        requires some { 0 < length words.now }
+        requires wanted { wants_words command words.now ≡ true }
+        ensures { OnOk result (TakesNames self.old command words.now self.new) }
+    {
+        self.end_node()?;
+        match command {
+            Command::Inputs => append_all(self.alloc, &mut self.inputs, words, 1)?,
+            Command::Outputs => add_all(self.alloc, &mut self.outputs, words, 1)?,
+            Command::Names => self.node = Some(new_node(self.alloc, words)?),
+            Command::Model => self.take_model(words)?,
+            _ => {}
+        }
+        Ok(())
+    }
+
+    // Takes the name of the first model.
+    fn take_model(&mut self, words: &Words) -> Result<(), AllocError>
+        requires { 2 ≤ length words.now }
+        ensures { OnOk result (TakesModel self.old words.now self.new) }
+    {
+        let model = self.model.take();
+        self.model = name_or_second(self.alloc, model, words)?;
+        Ok(())
     }
 }
