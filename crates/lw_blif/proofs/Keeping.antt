@@ -6,21 +6,21 @@ use Rattle.std.specs.Str.{bytes_eq}
 use Rattle.std.specs.Cmp.Lexicographic.{bytes_decides}
 use Rattle.std.proofs.lemmas.Grind.{flat_map-append}
 use Rattle.std.proofs.lemmas.List.{reverse-append, length-reverse}
-use Rattle.std.proofs.lemmas.Bool.{and_parts}
+use Rattle.std.proofs.lemmas.Bool.{and_parts, ltb-false}
 use Rattle.lw_net.specs.declared.draft.DraftNode.{DraftNode}
 use Rattle.lw_words.specs.Lines.{LogicalLine, has_some}
 use Rattle.lw_blif.specs.declared.command.Command.{Command}
 use Rattle.lw_blif.specs.declared.command.Command.TheVariants.{Model, Inputs, Outputs, Names, End, Ignored, Unsupported, Unknown, Row}
 use Rattle.lw_blif.specs.declared.fault.BlifKind.{BlifKind}
 use Rattle.lw_blif.specs.declared.fault.BlifKind.TheVariants as kind
-use Rattle.lw_blif.specs.LineFaults.{first_broken, name_rules, wants_words, is_name, names_for, words_before_last, has_twice, other_words, is_ignored_command, is_row_command, is_names_command, defined_for, command, is_row, is_names, is_ignored, last_word, fanins_on, has_shape, is_value, is_column, defined_on, defined_by, rows_before, node_before}
+use Rattle.lw_blif.specs.LineFaults.{first_broken, row_rules, rules_for, line_fault, name_rules, wants_words, is_name, names_for, words_before_last, has_twice, other_words, is_ignored_command, is_row_command, is_names_command, defined_for, command, is_row, is_names, is_ignored, last_word, fanins_on, has_shape, is_value, is_column, defined_on, defined_by, rows_before, node_before}
 use Rattle.lw_blif.specs.Drafts.{model_for, inputs_for, outputs_for, node_of, row_of, is_off_row, columns_of, model_on, inputs_on, outputs_on, each_once}
-use Rattle.lw_blif.specs.Readers.{names_fault_of, are_fresh, whole_nodes, value_word, is_value_of, row_fault_of, row_added, HaveValue, HaveValueOf, Kept}
+use Rattle.lw_blif.specs.Readers.{fault_else, names_fault_of, are_fresh, whole_nodes, value_word, is_value_of, row_fault_of, row_added, HaveValue, HaveValueOf, Kept}
 use Rattle.lw_blif.proofs.NodesBehind.{reverse-push, rows-ignored, node-ignored, whole-ignored, rows-row, node-row, whole-row, rows-other, node-other, whole-other}
 use Rattle.indexmap.specs.IndexSet.{insert_all}
 use Rattle.lw_blif.specs.Commands.{is_among}
 use Rattle.lw_blif.proofs.Fresh.{once-more, fresh-are}
-use Rattle.lw_blif.proofs.RowsBehind.{length-map, some-length}
+use Rattle.lw_blif.proofs.RowsBehind.{length-map, some-length, row_fault-node, row_fault-none}
 
 -- what one more line adds
 flat-more : {A : Type 0} (f : LogicalLine → List A) (lines : List LogicalLine) (line : LogicalLine) (more : List A) → f line ≡ more → flat_map f (lines ++ line ∷ []) ≡ flat_map f lines ++ more
@@ -263,14 +263,9 @@ kept-names c model model' inputs inputs' outputs outputs' defined defined' nodes
 
 -- The rules of names.
 
--- the first of these that is there
-abbrev pub or_else : Option BlifKind → Option BlifKind → Option BlifKind
-or_else (Some kind) other = Some kind
-or_else None other = other
-
 names-broken : (a b c d r : Bool) (v w x y z : BlifKind) →
     cond a (Some v) (cond b (Some w) (cond c (Some x) (cond d (Some y) (cond r (Some z) None))))
-    ≡ or_else (cond a (Some v) (cond b (Some w) (cond c (Some x) (cond d (Some y) None)))) (cond (not r) None (Some z))
+    ≡ fault_else (cond a (Some v) (cond b (Some w) (cond c (Some x) (cond d (Some y) None)))) (cond (not r) None (Some z))
 names-broken true b c d r v w x y z = refl
 names-broken false true c d r v w x y z = refl
 names-broken false false true d r v w x y z = refl
@@ -280,11 +275,11 @@ names-broken false false false false false v w x y z = refl
 
 pub names_fault-rules : (defined : List (List ℕ)) (c : Command) (words : List (List ℕ)) →
     first_broken (record { broken = not (wants_words c words); kind = kind.WordCount } ∷ name_rules defined c words)
-    ≡ or_else (names_fault_of (length defined) c words) (cond (are_fresh defined (defined_for c words)) None (Some kind.Redefined))
+    ≡ fault_else (names_fault_of (length defined) c words) (cond (are_fresh defined (defined_for c words)) None (Some kind.Redefined))
 unfolding names_fault_of
 names_fault-rules defined c words =
     names-broken (not (wants_words c words)) (not (list_all is_name (names_for c words))) (is_names_command c && nat_lt 256 (length (words_before_last (other_words words)))) (nat_lt 262144 (length defined + length (defined_for c words))) (has_twice (defined_for c words) || list_any (is_among defined) (defined_for c words)) kind.WordCount kind.BadName kind.LimitFanin kind.LimitSignals kind.Redefined
-    ∙ ap (λ t. or_else (names_fault_of (length defined) c words) (cond t None (Some kind.Redefined))) (sym (fresh-are defined (defined_for c words)))
+    ∙ ap (λ t. fault_else (names_fault_of (length defined) c words) (cond t None (Some kind.Redefined))) (sym (fresh-are defined (defined_for c words)))
 
 none-whole : whole_nodes [] ≡ []
 unfolding whole_nodes rows_before node_before
@@ -315,3 +310,54 @@ kept-start inputs outputs defined nodes no_inputs no_outputs no_defined no_nodes
   one_value = tt;
   few = omega (arith, ap length no_defined);
 }
+
+-- what a line of names that breaks no rule has
+pub record IsFitNames (count : ℕ) (c : Command) (words : List (List ℕ)) : Type 0 where
+  pub wanted : wants_words c words ≡ true
+  pub few : count + length (defined_for c words) ≤ 262144
+
+pub fit-names : (count : ℕ) (c : Command) (words : List (List ℕ)) → names_fault_of count c words ≡ None → IsFitNames count c words
+unfolding names_fault_of
+fit-names count c words e =
+    by_parts (wants_words c words) refl (list_all is_name (names_for c words)) (is_names_command c && nat_lt 256 (length (words_before_last (other_words words)))) (nat_lt 262144 (count + length (defined_for c words))) refl e
+  where
+    by_parts : (w : Bool) → wants_words c words ≡ w → (n f s : Bool) → nat_lt 262144 (count + length (defined_for c words)) ≡ s →
+        cond (not w) (Some kind.WordCount) (cond (not n) (Some kind.BadName) (cond f (Some kind.LimitFanin) (cond s (Some kind.LimitSignals) None))) ≡ None → IsFitNames count c words
+    by_parts false ew n f s es h = cc
+    by_parts true ew false f s es h = cc
+    by_parts true ew true true s es h = cc
+    by_parts true ew true false true es h = cc
+    by_parts true ew true false false es h = record { wanted = ew; few = ltb-false _ _ es }
+
+-- The first rule that a line breaks, by its command.
+
+pub fault-long : (lines : List LogicalLine) (line : LogicalLine) → line.long ≡ true → line_fault lines line ≡ Some kind.LongWord
+unfolding line_fault
+fault-long lines line e = ap (λ b. cond b (Some kind.LongWord) (first_broken (rules_for (node_before lines) (rows_before lines) (defined_by lines) (command line) line.words))) e
+
+pub fault-of : (lines : List LogicalLine) (line : LogicalLine) (c : Command) → c ≡ command line → line.long ≡ false → line_fault lines line ≡ first_broken (rules_for (node_before lines) (rows_before lines) (defined_by lines) c line.words)
+unfolding line_fault
+fault-of lines line c e short =
+    ap (λ b. cond b (Some kind.LongWord) (first_broken (rules_for (node_before lines) (rows_before lines) (defined_by lines) (command line) line.words))) short
+    ∙ ap (λ d. first_broken (rules_for (node_before lines) (rows_before lines) (defined_by lines) d line.words)) (sym e)
+
+-- a row
+pub fault-row : (model : Option (List ℕ)) (inputs outputs defined : List (List ℕ)) (nodes : List DraftNode) (node : Option DraftNode) (lines : List LogicalLine) (words : List (List ℕ)) →
+    Kept model inputs outputs defined nodes node lines → first_broken (row_rules (node_before lines) (rows_before lines) words) ≡ row_fault_of node words
+fault-row model inputs outputs defined nodes node lines words k = by_node node (node_before lines) k.node_is k.one_value
+  where
+    by_node : (n : Option DraftNode) (ns : List LogicalLine) → option_to_list n ≡ map (λ l. node_of l (reverse (rows_before lines))) ns → HaveValueOf n (rows_before lines) →
+        first_broken (row_rules ns (rows_before lines) words) ≡ row_fault_of n words
+    by_node None [] is h = row_fault-none (rows_before lines) words
+    by_node None (l ∷ ns) is h = cc
+    by_node (Some n) [] is h = cc
+    by_node (Some n) (l ∷ m ∷ ns) is h = cc
+    by_node (Some n) (l ∷ []) is h =
+      let same : n ≡ node_of l (reverse (rows_before lines)) = cc in
+      row_fault-node l (rows_before lines) words (subst (λ (d : DraftNode). HaveValue (value_word d.on) (rows_before lines)) same h)
+      ∙ ap (λ d. row_fault_of (Some d) words) (sym same)
+
+-- a name of a model is the first
+pub first-more : (names more : List (List ℕ)) → take 1 (take 1 names ++ more) ≡ take 1 (names ++ more)
+first-more [] more = refl
+first-more (name ∷ names) more = refl

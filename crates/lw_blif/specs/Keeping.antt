@@ -1,14 +1,16 @@
 -- What the parts keep of lines.
-use Rattle.std.specs.Prelude.{ℕ, ◌≡◌, ◌++◌, List, [], ◌∷◌, take, Option, Some, None, option_to_list, if◌then◌else◌}
+use Rattle.std.specs.Prelude.{ℕ, ◌≤◌, length, ◌≡◌, ◌++◌, List, [], ◌∷◌, take, Option, Some, None, option_to_list, if◌then◌else◌}
 use Rattle.std.specs.Str.{bytes_eq}
 use Rattle.indexmap.specs.IndexSet.{insert_all}
 use Rattle.lw_blif.specs.declared.command.Command.{Command}
-use Rattle.lw_blif.specs.LineFaults.{other_words, is_names_command}
+use Rattle.lw_blif.specs.LineFaults.{other_words, is_names_command, defined_for}
+use Rattle.lw_blif.specs.declared.fault.BlifKind.{BlifKind}
+use Rattle.lw_blif.specs.declared.fault.BlifKind.TheVariants as kind
 use Rattle.lw_blif.specs.Drafts.{model_for, inputs_for, outputs_for}
 use Rattle.lw_words.specs.Lines.{LogicalLine}
 use Rattle.lw_net.specs.declared.draft.DraftNode.{DraftNode}
 use Rattle.lw_blif.specs.declared.parts.Parts.{Parts}
-use Rattle.lw_blif.specs.Readers.{Kept, row_added, node_begun}
+use Rattle.lw_blif.specs.Readers.{Kept, row_added, node_begun, are_fresh, names_fault_of, fault_else}
 
 abbrev pub Keeps : Parts → List LogicalLine → Type 0
 Keeps parts lines = Kept parts.model parts.inputs parts.outputs.keys parts.defined.keys parts.nodes parts.node lines
@@ -62,3 +64,17 @@ pub record TakesModel (old : Parts) (words : List (List ℕ)) (new : Parts) : Ty
   pub defined : new.defined.keys ≡ old.defined.keys
   pub nodes : new.nodes ≡ old.nodes
   pub node : new.node ≡ old.node
+
+-- a line of names is read
+pub record ReadsNames (old : Parts) (c : Command) (words : List (List ℕ)) (new : Parts) : Type 0 where
+  pub model : option_to_list new.model ≡ take 1 (option_to_list old.model ++ model_for c (other_words words))
+  pub inputs : new.inputs ≡ old.inputs ++ inputs_for c (other_words words)
+  pub outputs : new.outputs.keys ≡ insert_all bytes_eq old.outputs.keys (outputs_for c (other_words words))
+  pub defined : new.defined.keys ≡ old.defined.keys ++ defined_for c words
+  pub nodes : new.nodes ≡ old.nodes ++ option_to_list old.node
+  pub node : option_to_list new.node ≡ (if is_names_command c then node_begun words ∷ [] else [])
+  pub few : length new.defined.keys ≤ 262144
+
+-- the first rule that a line of names breaks
+abbrev pub names_fault : Parts → Command → List (List ℕ) → Option BlifKind
+names_fault parts c words = fault_else (names_fault_of (length parts.defined.keys) c words) (if are_fresh parts.defined.keys (defined_for c words) then None else Some kind.Redefined)

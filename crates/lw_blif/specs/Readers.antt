@@ -75,3 +75,8 @@ pub record Kept (model : Option (List ℕ)) (inputs outputs defined : List (List
   pub no_rows : node_before lines ≡ [] → rows_before lines ≡ []
   pub one_value : HaveValueOf node (rows_before lines)
   pub few : length defined ≤ 262144
+
+-- this fault, else the other
+abbrev pub fault_else : Option BlifKind → Option BlifKind → Option BlifKind
+fault_else (Some kind) other = Some kind
+fault_else None other = other

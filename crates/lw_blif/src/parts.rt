@@ -29,7 +29,7 @@ pub struct Parts {
 
 impl Parts {
     ghost use Rattle.lw_words.specs.Lines.{LogicalLine};
-    ghost use Rattle.lw_blif.specs.Keeping.{Keeps, AddsRow, Defines, EndsNode, TakesNames, TakesModel};
+    ghost use Rattle.lw_blif.specs.Keeping.{Keeps, AddsRow, Defines, EndsNode, TakesNames, TakesModel, ReadsNames, names_fault};
     ghost use Rattle.lw_blif.specs.Readers.{row_fault_of, are_fresh};
     ghost use Rattle.lw_blif.specs.LineFaults.{defined_for, wants_words};
 
@@ -83,6 +83,22 @@ impl Parts {
             Command::Names => define_last(self.alloc, &mut self.defined, words),
             _ => Ok(true),
         }
+    }
+
+    // A line of names, or the first rule that it breaks.
+    fn read_names(&mut self, command: Command, words: &Words) -> Result<Option<BlifKind>, AllocError>
+        requires { 0 < length words.now }
+        ensures fault { IfOk result (λ fault. fault ≡ names_fault self.old command words.now) }
+        ensures names { IfOk result (λ fault. fault ≡ None → ReadsNames self.old command words.now self.new) }
+    {
+        if let Some(kind) = names_fault(self.defined.len(), command, words) {
+            return Ok(Some(kind));
+        }
+        if !self.define(command, words)? {
+            return Ok(Some(BlifKind::Redefined));
+        }
+        self.take_names(command, words)?;
+        Ok(None)
     }
 
     // Takes the names of a line that breaks no rule, its definitions aside.

@@ -10,8 +10,8 @@ use lw_words::Words;
 
 const FANINS_MAX: usize = 256;
 
-/// A network has at most so many inputs and nodes.
-pub const SIGNALS_MAX: usize = 262_144;
+// A network has at most so many inputs and nodes.
+const SIGNALS_MAX: usize = 262_144;
 
 fn wants_words(command: Command, words: &Words) -> bool
     ensures { result ≡ wants_words command words.now }
@@ -59,8 +59,7 @@ fn defined_count(command: Command, words: &Words) -> usize
 /// The first rule that a line of names breaks, behind lines that define so many signals, definitions aside.
 #[tactic(auto, unfolding(crate::specs::Readers::names_fault_of))]
 pub fn names_fault(defined: usize, command: Command, words: &Words) -> Option<BlifKind>
-    requires some { 0 < length words.now }
-    requires few { defined ≤ 262144 }
+    requires { 0 < length words.now }
     ensures { result ≡ names_fault_of defined command words.now }
 {
     if !wants_words(command, words) {
@@ -72,7 +71,7 @@ pub fn names_fault(defined: usize, command: Command, words: &Words) -> Option<Bl
     if has_many_fanins(command, words) {
         return Some(BlifKind::LimitFanin);
     }
-    if defined_count(command, words) > SIGNALS_MAX - defined {
+    if defined.saturating_add(defined_count(command, words)) > SIGNALS_MAX {
         return Some(BlifKind::LimitSignals);
     }
     None
