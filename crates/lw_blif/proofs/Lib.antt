@@ -2,5 +2,6 @@ pub mod Appending
 pub mod Fresh
 pub mod Keeping
 pub mod NodesBehind
+pub mod Reading
 pub mod RowsBehind
 pub mod WordLists

@@ -1,8 +1,9 @@
 -- What the parts keep of lines.
-use Rattle.std.specs.Prelude.{ℕ, ◌≤◌, length, ◌≡◌, ◌++◌, List, [], ◌∷◌, take, Option, Some, None, option_to_list, if◌then◌else◌}
+use Rattle.std.specs.Prelude.{⊤, ℕ, ◌≤◌, length, ◌≡◌, ◌++◌, List, [], ◌∷◌, take, Option, Some, None, option_to_list, if◌then◌else◌}
 use Rattle.std.specs.Str.{bytes_eq}
 use Rattle.indexmap.specs.IndexSet.{insert_all}
 use Rattle.lw_blif.specs.declared.command.Command.{Command}
+use Rattle.lw_blif.specs.declared.command.Command.TheVariants.{Model, Inputs, Outputs, Names}
 use Rattle.lw_blif.specs.LineFaults.{other_words, is_names_command, defined_for}
 use Rattle.lw_blif.specs.declared.fault.BlifKind.{BlifKind}
 use Rattle.lw_blif.specs.declared.fault.BlifKind.TheVariants as kind
@@ -78,3 +79,11 @@ pub record ReadsNames (old : Parts) (c : Command) (words : List (List ℕ)) (new
 -- the first rule that a line of names breaks
 abbrev pub names_fault : Parts → Command → List (List ℕ) → Option BlifKind
 names_fault parts c words = fault_else (names_fault_of (length parts.defined.keys) c words) (if are_fresh parts.defined.keys (defined_for c words) then None else Some kind.Redefined)
+
+-- a command for a line of names
+abbrev pub IsNamesLine : Command → Type 0
+IsNamesLine Model = ⊤
+IsNamesLine Inputs = ⊤
+IsNamesLine Outputs = ⊤
+IsNamesLine Names = ⊤
+IsNamesLine other = ⊥

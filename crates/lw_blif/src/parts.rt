@@ -31,7 +31,7 @@ impl Parts {
     ghost use Rattle.lw_words.specs.Lines.{LogicalLine};
     ghost use Rattle.lw_blif.specs.Keeping.{Keeps, AddsRow, Defines, EndsNode, TakesNames, TakesModel, ReadsNames, names_fault};
     ghost use Rattle.lw_blif.specs.Readers.{row_fault_of, are_fresh};
-    ghost use Rattle.lw_blif.specs.LineFaults.{defined_for, wants_words};
+    ghost use Rattle.lw_blif.specs.LineFaults.{command, defined_for, line_fault, wants_words};
 
     pub fn new(alloc: Global) -> Self
         ensures { Keeps result [] }
@@ -44,6 +44,33 @@ impl Parts {
             defined: IndexSet::new(alloc),
             nodes: DraftNodes::new(alloc),
             node: None,
+        }
+    }
+
+    /// A line with the command that it asks for, or the first rule that it breaks. Behind an error this is of no use.
+    pub fn read(&mut self, line: &Line, asked: Command) -> Result<Option<BlifKind>, AllocError>
+        requires asked { asked ≡ command line.now }
+        requires goes_on { asked ≢ Command.End }
+        ensures fault { (lines : List LogicalLine) → Keeps self.old lines → IfOk result (λ fault. fault ≡ line_fault lines line.now) }
+        ensures keeps { (lines : List LogicalLine) → Keeps self.old lines → IfOk result (λ fault. fault ≡ None → Keeps self.new (lines ++ line.now ∷ [])) }
+    {
+        if line.long {
+            return Ok(Some(BlifKind::LongWord));
+        }
+        let words = &line.words;
+        match asked {
+            Command::Row => {
+                let fault = self.read_row(words)?;
+                Ok(fault)
+            }
+            Command::Unknown => Ok(Some(BlifKind::UnknownCommand)),
+            Command::Unsupported => Ok(Some(BlifKind::Unsupported)),
+            Command::Ignored => Ok(None),
+            Command::End => unreachable!(),
+            _ => {
+                let fault = self.read_names(asked, words)?;
+                Ok(fault)
+            }
         }
     }
 
