@@ -1,5 +1,6 @@
 pub mod Appending
 pub mod Fresh
+pub mod Given
 pub mod Keeping
 pub mod NodesBehind
 pub mod Reading

@@ -3,3 +3,4 @@ pub mod Drafts
 pub mod Keeping
 pub mod LineFaults
 pub mod Readers
+pub mod Standing

@@ -7,8 +7,10 @@ mod defining;
 mod fault;
 mod naming;
 mod parts;
+mod reader;
 mod rows;
 mod rules;
 
 pub use command::Command;
 pub use fault::{BlifFault, BlifKind};
+pub use reader::{Reader, Stop};
