@@ -1,5 +1,5 @@
 -- What is kept, line by line.
-use Rattle.std.proofs.Common.{ℕ, zero, suc, ◌≡◌, ◌+◌, ◌<◌, ◌≤◌, ◌==◌, Bool, true, false, not, ◌&&◌, ◌||◌, cond, nat_lt, leb, List, [], ◌∷◌, ◌++◌, length, map, take, reverse, Option, Some, None, refl, ap, sym, ◌∙◌, subst, append-nil, append_assoc, arith, length-append}
+use Rattle.std.proofs.Common.{ℕ, ◌≡◌, ◌+◌, ◌≤◌, ◌==◌, Bool, true, false, not, ◌&&◌, ◌||◌, cond, nat_lt, List, [], ◌∷◌, ◌++◌, length, map, take, reverse, Option, Some, None, refl, ap, sym, ◌∙◌, subst, append-nil, arith}
 use Rattle.std.specs.Prelude.{option_to_list, codes, nat_le}
 use Rattle.std.specs.List.{list_any, list_all, flat_map}
 use Rattle.std.specs.Str.{bytes_eq}
@@ -10,13 +10,13 @@ use Rattle.std.proofs.lemmas.Bool.{and_parts, ltb-false}
 use Rattle.lw_net.specs.declared.draft.DraftNode.{DraftNode}
 use Rattle.lw_words.specs.Lines.{LogicalLine, has_some}
 use Rattle.lw_blif.specs.declared.command.Command.{Command}
-use Rattle.lw_blif.specs.declared.command.Command.TheVariants.{Model, Inputs, Outputs, Names, End, Ignored, Unsupported, Unknown, Row}
+use Rattle.lw_blif.specs.declared.command.Command.TheVariants.{Ignored, Row}
 use Rattle.lw_blif.specs.declared.fault.BlifKind.{BlifKind}
 use Rattle.lw_blif.specs.declared.fault.BlifKind.TheVariants as kind
 use Rattle.lw_blif.specs.LineFaults.{first_broken, row_rules, rules_for, line_fault, name_rules, wants_words, is_name, names_for, words_before_last, has_twice, other_words, is_ignored_command, is_row_command, is_names_command, defined_for, command, is_row, is_names, is_ignored, last_word, fanins_on, has_shape, is_value, is_column, defined_on, defined_by, rows_before, node_before}
 use Rattle.lw_blif.specs.Drafts.{model_for, inputs_for, outputs_for, node_of, row_of, is_off_row, columns_of, model_on, inputs_on, outputs_on, each_once}
 use Rattle.lw_blif.specs.Readers.{fault_else, names_fault_of, are_fresh, whole_nodes, value_word, is_value_of, row_fault_of, row_added, HaveValue, HaveValueOf, Kept}
-use Rattle.lw_blif.proofs.NodesBehind.{reverse-push, rows-ignored, node-ignored, whole-ignored, rows-row, node-row, whole-row, rows-other, node-other, whole-other}
+use Rattle.lw_blif.proofs.NodesBehind.{rows-ignored, node-ignored, whole-ignored, rows-row, node-row, whole-row, rows-other, node-other, whole-other}
 use Rattle.indexmap.specs.IndexSet.{insert_all}
 use Rattle.lw_blif.specs.Commands.{is_among}
 use Rattle.lw_blif.proofs.Fresh.{once-more, fresh-are}
@@ -88,9 +88,9 @@ fit-row node words e = by_shape (has_shape (length node.fanins) words) refl (has
         cond (not (has_shape (length node.fanins) words)) (Some kind.RowShape) (cond (has_some node.rows && not (bytes_eq (value_word node.on) (last_word words))) (Some kind.RowMix) (cond (nat_le 4096 (length node.rows)) (Some kind.LimitRows) None)) ≡ None → IsFit node words
     by_shape false es m em h = let wrong : Some kind.RowShape ≡ None = sym (ap (λ t. cond (not t) (Some kind.RowShape) (cond (has_some node.rows && not (bytes_eq (value_word node.on) (last_word words))) (Some kind.RowMix) (cond (nat_le 4096 (length node.rows)) (Some kind.LimitRows) None))) es) ∙ h in cc
     by_shape true es true em h =
-      let wrong : Some kind.RowMix ≡ None =
-          sym (ap (λ t. cond (not t) (Some kind.RowShape) (cond (has_some node.rows && not (bytes_eq (value_word node.on) (last_word words))) (Some kind.RowMix) (cond (nat_le 4096 (length node.rows)) (Some kind.LimitRows) None))) es
-            ∙ ap (λ t. cond t (Some kind.RowMix) (cond (nat_le 4096 (length node.rows)) (Some kind.LimitRows) None)) em) ∙ h in cc
+        let wrong : Some kind.RowMix ≡ None =
+        sym (ap (λ t. cond (not t) (Some kind.RowShape) (cond (has_some node.rows && not (bytes_eq (value_word node.on) (last_word words))) (Some kind.RowMix) (cond (nat_le 4096 (length node.rows)) (Some kind.LimitRows) None))) es
+        ∙ ap (λ t. cond t (Some kind.RowMix) (cond (nat_le 4096 (length node.rows)) (Some kind.LimitRows) None)) em) ∙ h in cc
     by_shape true es false em h = record { shape = es; same = em }
 
 shape-value : (fanins : ℕ) (words : List (List ℕ)) → has_shape fanins words ≡ true → is_value (last_word words) ≡ true
@@ -171,7 +171,7 @@ node-added : (l : LogicalLine) (rows : List LogicalLine) (line : LogicalLine) �
 node-added l rows line h =
     let on = not (bytes_eq (last_word line.words) (codes "0")) in
     let is_on : not (list_any is_off_row (reverse (line ∷ rows))) ≡ on =
-        ap not (any-reverse is_off_row (line ∷ rows) ∙ (any-off (value_word on) line rows h ∙ value-off on)) ∙ not-twice on in
+    ap not (any-reverse is_off_row (line ∷ rows) ∙ (any-off (value_word on) line rows h ∙ value-off on)) ∙ not-twice on in
     let turned = reverse-append (line ∷ []) rows in
     ap (λ rs. record { out = last_word l.words; fanins = fanins_on l; rows = rs; on = not (list_any is_off_row (reverse (line ∷ rows))) }) (ap (map row_of) turned ∙ map-push row_of (reverse rows) line)
     ∙ ap (λ b. record { out = last_word l.words; fanins = fanins_on l; rows = map row_of (reverse rows) ++ columns_of line.words ∷ []; on = b }) is_on
@@ -206,13 +206,14 @@ kept-row model inputs outputs defined nodes node lines line e fit k =
     by_node [] is = cc
     by_node (l ∷ m ∷ ns) is = cc
     by_node (l ∷ []) is =
-      let same : node ≡ node_of l (reverse (rows_before lines)) = cc in
-      let count : has_some node.rows ≡ has_some (rows_before lines) =
-          ap (λ (n : DraftNode). has_some n.rows) same ∙ some-length (map row_of (reverse (rows_before lines))) (rows_before lines) (length-map row_of (reverse (rows_before lines)) ∙ length-reverse (rows_before lines)) in
-      let values = new-values node.on (rows_before lines) line k.one_value (ap (λ t. t && not (bytes_eq (value_word node.on) (last_word line.words))) (sym count) ∙ fit.same) (shape-value (length node.fanins) line.words fit.shape) in
-      (ap (λ n. row_added line.words n ∷ []) same ∙ ap (λ n. n ∷ []) (sym (node-added l (rows_before lines) line values)),
-        (λ none. cc),
-        values)
+        let same : node ≡ node_of l (reverse (rows_before lines)) = cc in
+        let count : has_some node.rows ≡ has_some (rows_before lines) =
+        ap (λ (n : DraftNode). has_some n.rows) same ∙ some-length (map row_of (reverse (rows_before lines))) (rows_before lines) (length-map row_of (reverse (rows_before lines)) ∙ length-reverse (rows_before lines)) in
+        let values = new-values node.on (rows_before lines) line k.one_value (ap (λ t. t && not (bytes_eq (value_word node.on) (last_word line.words))) (sym count) ∙ fit.same) (shape-value (length node.fanins) line.words fit.shape) in (
+          ap (λ n. row_added line.words n ∷ []) same ∙ ap (λ n. n ∷ []) (sym (node-added l (rows_before lines) line values)),
+          (λ none. cc),
+          values,
+        )
 
 -- A line of names.
 pub kept-names : (c : Command) (model model' : Option (List ℕ)) (inputs inputs' outputs outputs' defined defined' : List (List ℕ)) (nodes nodes' : List DraftNode) (node node' : Option DraftNode) (lines : List LogicalLine) (line : LogicalLine) →
@@ -233,21 +234,21 @@ kept-names c model model' inputs inputs' outputs outputs' defined defined' nodes
     record {
       model_is = model_is ∙ ap (take 1) (sym (flat-more model_on lines line (model_for c (other_words line.words)) (ap (λ d. model_for d (other_words line.words)) e)));
       inputs_are =
-        inputs_are ∙ (ap (λ r. r ++ inputs_for c (other_words line.words)) k.inputs_are
-        ∙ sym (flat-more inputs_on lines line (inputs_for c (other_words line.words)) (ap (λ d. inputs_for d (other_words line.words)) e)));
+          inputs_are ∙ (ap (λ r. r ++ inputs_for c (other_words line.words)) k.inputs_are
+          ∙ sym (flat-more inputs_on lines line (inputs_for c (other_words line.words)) (ap (λ d. inputs_for d (other_words line.words)) e)));
       outputs_are =
-        outputs_are ∙ (ap (λ r. insert_all bytes_eq r (outputs_for c (other_words line.words))) k.outputs_are
-        ∙ (sym (once-more (flat_map outputs_on lines) (outputs_for c (other_words line.words)))
-        ∙ ap each_once (sym (flat-more outputs_on lines line (outputs_for c (other_words line.words)) (ap (λ d. outputs_for d (other_words line.words)) e)))));
+          outputs_are ∙ (ap (λ r. insert_all bytes_eq r (outputs_for c (other_words line.words))) k.outputs_are
+          ∙ (sym (once-more (flat_map outputs_on lines) (outputs_for c (other_words line.words)))
+          ∙ ap each_once (sym (flat-more outputs_on lines line (outputs_for c (other_words line.words)) (ap (λ d. outputs_for d (other_words line.words)) e)))));
       defined_are =
-        defined_are ∙ (ap (λ r. r ++ defined_for c line.words) k.defined_are
-        ∙ (ap (λ d. defined_by lines ++ defined_for d line.words) (sym e) ∙ sym (defined-more lines line)));
+          defined_are ∙ (ap (λ r. r ++ defined_for c line.words) k.defined_are
+          ∙ (ap (λ d. defined_by lines ++ defined_for d line.words) (sym e) ∙ sym (defined-more lines line)));
       nodes_are = nodes_are ∙ (ap (λ r. r ++ option_to_list node) k.nodes_are ∙ (ap (λ r. whole_nodes lines ++ r) k.node_is ∙ sym (whole-other lines line k.no_rows kept row)));
       node_is =
-        node_is ∙ (ap (λ d. cond (is_names_command d) (node_of line [] ∷ []) []) (sym e)
-        ∙ (by_names (is_names line)
-        ∙ (ap (λ r. map (λ l. node_of l (reverse r)) (cond (is_names line) (line ∷ []) [])) (sym rows)
-        ∙ ap (λ n. map (λ l. node_of l (reverse (rows_before (lines ++ line ∷ [])))) n) (sym nodes_before))));
+          node_is ∙ (ap (λ d. cond (is_names_command d) (node_of line [] ∷ []) []) (sym e)
+          ∙ (by_names (is_names line)
+          ∙ (ap (λ r. map (λ l. node_of l (reverse r)) (cond (is_names line) (line ∷ []) [])) (sym rows)
+          ∙ ap (λ n. map (λ l. node_of l (reverse (rows_before (lines ++ line ∷ [])))) n) (sym nodes_before))));
       no_rows = λ none. rows;
       one_value = subst (λ (r : List LogicalLine). HaveValueOf node' r) (sym rows) (no_value node');
       few = few;
@@ -353,9 +354,9 @@ fault-row model inputs outputs defined nodes node lines words k = by_node node (
     by_node (Some n) [] is h = cc
     by_node (Some n) (l ∷ m ∷ ns) is h = cc
     by_node (Some n) (l ∷ []) is h =
-      let same : n ≡ node_of l (reverse (rows_before lines)) = cc in
-      row_fault-node l (rows_before lines) words (subst (λ (d : DraftNode). HaveValue (value_word d.on) (rows_before lines)) same h)
-      ∙ ap (λ d. row_fault_of (Some d) words) (sym same)
+        let same : n ≡ node_of l (reverse (rows_before lines)) = cc in
+        row_fault-node l (rows_before lines) words (subst (λ (d : DraftNode). HaveValue (value_word d.on) (rows_before lines)) same h)
+        ∙ ap (λ d. row_fault_of (Some d) words) (sym same)
 
 -- a name of a model is the first
 pub first-more : (names more : List (List ℕ)) → take 1 (take 1 names ++ more) ≡ take 1 (names ++ more)

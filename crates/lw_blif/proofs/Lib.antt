@@ -5,4 +5,5 @@ pub mod Keeping
 pub mod NodesBehind
 pub mod Reading
 pub mod RowsBehind
+pub mod StandingFor
 pub mod WordLists

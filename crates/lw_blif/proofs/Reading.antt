@@ -1,10 +1,7 @@
 -- A line is read: the first rule that it breaks, and what is kept if it breaks none.
-use Rattle.std.proofs.Common.{ℕ, ◌≡◌, ◌+◌, ◌<◌, ◌≤◌, Bool, true, false, not, ◌&&◌, cond, nat_lt, List, [], ◌∷◌, ◌++◌, length, take, Option, Some, None, refl, ap, sym, ◌∙◌, subst, append-nil, arith}
-use Rattle.std.specs.Prelude.{option_to_list}
-use Rattle.std.specs.List.{list_all, flat_map}
-use Rattle.std.specs.Str.{bytes_eq}
+use Rattle.std.proofs.Common.{ℕ, ◌≡◌, ◌+◌, ◌≤◌, false, not, cond, List, [], ◌∷◌, ◌++◌, length, take, Option, Some, None, refl, ap, sym, ◌∙◌, subst, arith}
+use Rattle.std.specs.List.{flat_map}
 use Rattle.std.proofs.lemmas.Bool.{le-ltb}
-use Rattle.indexmap.specs.IndexSet.{insert_all}
 use Rattle.lw_net.specs.declared.draft.DraftNode.{DraftNode}
 use Rattle.lw_words.specs.Lines.{LogicalLine}
 use Rattle.lw_blif.specs.declared.parts.Parts.{Parts}
@@ -12,9 +9,9 @@ use Rattle.lw_blif.specs.declared.command.Command.{Command}
 use Rattle.lw_blif.specs.declared.command.Command.TheVariants.{Model, Inputs, Outputs, Names, End, Ignored, Unsupported, Unknown, Row}
 use Rattle.lw_blif.specs.declared.fault.BlifKind.{BlifKind}
 use Rattle.lw_blif.specs.declared.fault.BlifKind.TheVariants as kind
-use Rattle.lw_blif.specs.LineFaults.{Rule, command, other_words, is_ignored_command, is_row_command, is_names_command, wants_words, name_rules, rules_for, first_broken, line_fault, defined_for, node_before, rows_before, defined_by}
-use Rattle.lw_blif.specs.Drafts.{node_of, model_for, inputs_for, outputs_for, model_on}
-use Rattle.lw_blif.specs.Readers.{Kept, fault_else, are_fresh, names_fault_of, row_fault_of, row_added, node_begun}
+use Rattle.lw_blif.specs.LineFaults.{command, other_words, is_ignored_command, is_row_command, wants_words, name_rules, rules_for, first_broken, line_fault, defined_for, node_before, rows_before, defined_by}
+use Rattle.lw_blif.specs.Drafts.{model_for, model_on}
+use Rattle.lw_blif.specs.Readers.{Kept, fault_else, are_fresh, names_fault_of, row_fault_of}
 use Rattle.lw_blif.specs.Keeping.{Keeps, AddsRow, IsRowAdded, ReadsNames, names_fault, IsNamesLine}
 use Rattle.lw_blif.proofs.Keeping.{kept-ignored, kept-row, kept-names, fit-row, fault-of, fault-row, names_fault-rules, first-more}
 
@@ -28,11 +25,11 @@ same-kept : (model model' : Option (List ℕ)) (inputs inputs' outputs outputs' 
     model' ≡ model → inputs' ≡ inputs → outputs' ≡ outputs → defined' ≡ defined → nodes' ≡ nodes → node' ≡ node → Kept model inputs outputs defined nodes node lines → Kept model' inputs' outputs' defined' nodes' node' lines
 same-kept model model' inputs inputs' outputs outputs' defined defined' nodes nodes' node node' lines em ei eo ed en ed' k =
     subst (λ (m : Option (List ℕ)). Kept m inputs' outputs' defined' nodes' node' lines) (sym em)
-      (subst (λ (i : List (List ℕ)). Kept model i outputs' defined' nodes' node' lines) (sym ei)
-      (subst (λ (o : List (List ℕ)). Kept model inputs o defined' nodes' node' lines) (sym eo)
-      (subst (λ (d : List (List ℕ)). Kept model inputs outputs d nodes' node' lines) (sym ed)
-      (subst (λ (n : List DraftNode). Kept model inputs outputs defined n node' lines) (sym en)
-      (subst (λ (n : Option DraftNode). Kept model inputs outputs defined nodes n lines) (sym ed') k)))))
+    (subst (λ (i : List (List ℕ)). Kept model i outputs' defined' nodes' node' lines) (sym ei)
+    (subst (λ (o : List (List ℕ)). Kept model inputs o defined' nodes' node' lines) (sym eo)
+    (subst (λ (d : List (List ℕ)). Kept model inputs outputs d nodes' node' lines) (sym ed)
+    (subst (λ (n : List DraftNode). Kept model inputs outputs defined n node' lines) (sym en)
+    (subst (λ (n : Option DraftNode). Kept model inputs outputs defined nodes n lines) (sym ed') k)))))
 
 outside : (words : List (List ℕ)) → row_fault_of None words ≡ Some kind.RowOutside
 unfolding row_fault_of
@@ -41,13 +38,13 @@ outside words = refl
 pub row-keeps : (old new : Parts) (lines : List LogicalLine) (line : LogicalLine) → Row ≡ command line → None ≡ row_fault_of old.node line.words → AddsRow old line.words new → Keeps old lines → Keeps new (lines ++ line ∷ [])
 row-keeps old new lines line e is adds k =
     same-kept old.model new.model old.inputs new.inputs old.outputs.keys new.outputs.keys old.defined.keys new.defined.keys old.nodes new.nodes new.node new.node (lines ++ line ∷ [])
-      adds.model adds.inputs adds.outputs adds.defined adds.nodes refl (by_node old.node new.node adds.node is k)
+    adds.model adds.inputs adds.outputs adds.defined adds.nodes refl (by_node old.node new.node adds.node is k)
   where
     by_node : (n m : Option DraftNode) → IsRowAdded line.words n m → None ≡ row_fault_of n line.words → Kept old.model old.inputs old.outputs.keys old.defined.keys old.nodes n lines →
         Kept old.model old.inputs old.outputs.keys old.defined.keys old.nodes m (lines ++ line ∷ [])
     by_node None m added none h = let wrong : None ≡ Some kind.RowOutside = none ∙ outside line.words in cc
     by_node (Some n) m added none h =
-      subst (λ (o : Option DraftNode). Kept old.model old.inputs old.outputs.keys old.defined.keys old.nodes o (lines ++ line ∷ [])) (sym added)
+        subst (λ (o : Option DraftNode). Kept old.model old.inputs old.outputs.keys old.defined.keys old.nodes o (lines ++ line ∷ [])) (sym added)
         (kept-row old.model old.inputs old.outputs.keys old.defined.keys old.nodes n lines line (sym e) (fit-row n line.words (sym none)) h)
 
 -- Names.
@@ -84,9 +81,9 @@ pub names-keeps : (old new : Parts) (lines : List LogicalLine) (line : LogicalLi
 names-keeps old new lines line c names e r k =
     let shape = names-shape c names in
     kept-names c old.model new.model old.inputs new.inputs old.outputs.keys new.outputs.keys old.defined.keys new.defined.keys old.nodes new.nodes old.node new.node lines line
-      (sym e) shape.0 shape.1
-      (r.model ∙ (ap (λ m. take 1 (m ++ model_for c (other_words line.words))) k.model_is ∙ first-more (flat_map model_on lines) (model_for c (other_words line.words))))
-      r.inputs r.outputs r.defined r.nodes r.node r.few k
+    (sym e) shape.0 shape.1
+    (r.model ∙ (ap (λ m. take 1 (m ++ model_for c (other_words line.words))) k.model_is ∙ first-more (flat_map model_on lines) (model_for c (other_words line.words))))
+    r.inputs r.outputs r.defined r.nodes r.node r.few k
 
 -- Ignored lines.
 
@@ -98,8 +95,8 @@ pub ignored-fault : (old : Parts) (lines : List LogicalLine) (line : LogicalLine
 ignored-fault old lines line e short k =
     let few : length (defined_by lines) ≤ 262144 = omega (arith, k.few, ap length k.defined_are) in
     sym (fault-of lines line Ignored e short
-      ∙ (names_fault-rules (defined_by lines) Ignored line.words
-      ∙ ap (λ f. fault_else f (cond (are_fresh (defined_by lines) []) None (Some kind.Redefined))) (none-broken (length (defined_by lines)) line.words few)))
+    ∙ (names_fault-rules (defined_by lines) Ignored line.words
+    ∙ ap (λ f. fault_else f (cond (are_fresh (defined_by lines) []) None (Some kind.Redefined))) (none-broken (length (defined_by lines)) line.words few)))
 
 pub ignored-keeps : (old : Parts) (lines : List LogicalLine) (line : LogicalLine) → Ignored ≡ command line → Keeps old lines → Keeps old (lines ++ line ∷ [])
 ignored-keeps old lines line e k = kept-ignored old.model old.inputs old.outputs.keys old.defined.keys old.nodes old.node lines line (sym e) k

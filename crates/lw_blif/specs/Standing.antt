@@ -1,5 +1,5 @@
 -- What a reader stands for: the lines that it was given.
-use Rattle.std.specs.Prelude.{◌≡◌, Bool, not, List, Option, Some, None, Result, Ok, Err, ⊤, []}
+use Rattle.std.specs.Prelude.{◌≡◌, not, List, Option, Some, None, Result, Ok, Err, ⊤, []}
 use Rattle.lw_words.specs.Lines.{LogicalLine}
 use Rattle.lw_blif.specs.declared.reader.Stop.{Stop}
 use Rattle.lw_blif.specs.declared.reader.Stop.TheVariants as stop

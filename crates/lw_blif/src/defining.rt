@@ -34,7 +34,11 @@ pub fn define_all(
 }
 
 /// Defines the last word. Whether it was new.
-pub fn define_last(alloc: Global, defined: &mut IndexSet<Name>, words: &Words) -> Result<bool, AllocError>
+pub fn define_last(
+    alloc: Global,
+    defined: &mut IndexSet<Name>,
+    words: &Words,
+) -> Result<bool, AllocError>
     requires { 0 < length words.now }
     ensures fresh { IfOk result (λ b. b ≡ are_fresh defined.old.keys (last_word words.now ∷ [])) }
     ensures defined { IfOk result (λ b. b ≡ true → defined.new.keys ≡ defined.old.keys ++ last_word words.now ∷ []) }
@@ -45,7 +49,12 @@ pub fn define_last(alloc: Global, defined: &mut IndexSet<Name>, words: &Words) -
 }
 
 /// Appends the words from a place on.
-pub fn append_all(alloc: Global, names: &mut Names, words: &Words, from: usize) -> Result<(), AllocError>
+pub fn append_all(
+    alloc: Global,
+    names: &mut Names,
+    words: &Words,
+    from: usize,
+) -> Result<(), AllocError>
     requires { from ≤ length words.now }
     ensures { OnOk result (names.new ≡ names.old ++ drop from words.now) }
 {
@@ -56,7 +65,11 @@ pub fn append_all(alloc: Global, names: &mut Names, words: &Words, from: usize) 
 }
 
 /// The second word, where there is no name yet.
-pub fn name_or_second(alloc: Global, name: Option<Name>, words: &Words) -> Result<Option<Name>, AllocError>
+pub fn name_or_second(
+    alloc: Global,
+    name: Option<Name>,
+    words: &Words,
+) -> Result<Option<Name>, AllocError>
     requires { 2 ≤ length words.now }
     ensures { IfOk result (λ n. option_to_list n ≡ take 1 (option_to_list name ++ drop 1 words.now)) }
 {

@@ -113,7 +113,11 @@ impl Parts {
     }
 
     // A line of names, or the first rule that it breaks.
-    fn read_names(&mut self, command: Command, words: &Words) -> Result<Option<BlifKind>, AllocError>
+    fn read_names(
+        &mut self,
+        command: Command,
+        words: &Words,
+    ) -> Result<Option<BlifKind>, AllocError>
         requires { 0 < length words.now }
         ensures fault { IfOk result (λ fault. fault ≡ names_fault self.old command words.now) }
         ensures names { IfOk result (λ fault. fault ≡ None → ReadsNames self.old command words.now self.new) }

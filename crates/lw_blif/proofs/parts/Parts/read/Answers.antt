@@ -1,6 +1,5 @@
-use Rattle.std.proofs.Common.{List, ℕ, ◌≡◌, Option, None, true, false, refl, ap, sym, ◌∙◌, subst}
+use Rattle.std.proofs.Common.{List, ℕ, ap, sym, ◌∙◌, subst}
 use Rattle.lw_words.specs.Lines.{LogicalLine}
-use Rattle.lw_blif.specs.LineFaults.{command}
 use Rattle.lw_blif.specs.Readers.{row_fault_of}
 use Rattle.lw_blif.specs.Keeping.{AddsRow, ReadsNames, names_fault}
 use Rattle.lw_blif.proofs.Keeping.{fault-long}
@@ -16,14 +15,14 @@ returns-in_ok-fault-in-Row-clause-fault c = λ lines k.
     let words = ap (λ (l : LogicalLine). l.words) c.line.view_is in
     let short = sym (ap (λ (l : LogicalLine). l.long) c.line.view_is) ∙ c.if-line.false in
     row-fault c.args.self.now lines c.args.line.now c.in_ok-fault-in-Row.fault (sym c.in-Row.is ∙ c.requires.asked) short
-      (c.in_ok-fault-in-Row.ensures.fault ∙ ap (row_fault_of c.args.self.now.node) words) k
+    (c.in_ok-fault-in-Row.ensures.fault ∙ ap (row_fault_of c.args.self.now.node) words) k
 
 pub returns-in_ok-fault-in-Row-clause-keeps : goal.returns-in_ok-fault-in-Row-clause-keeps
 returns-in_ok-fault-in-Row-clause-keeps c = λ lines k none.
     let words = ap (λ (l : LogicalLine). l.words) c.line.view_is in
     row-keeps c.args.self.now c.read_row.new.self lines c.args.line.now (sym c.in-Row.is ∙ c.requires.asked)
-      (sym none ∙ (c.in_ok-fault-in-Row.ensures.fault ∙ ap (row_fault_of c.args.self.now.node) words))
-      (subst (λ (ws : List (List ℕ)). AddsRow c.args.self.now ws c.read_row.new.self) words (c.in_ok-fault-in-Row.ensures.row none)) k
+    (sym none ∙ (c.in_ok-fault-in-Row.ensures.fault ∙ ap (row_fault_of c.args.self.now.node) words))
+    (subst (λ (ws : List (List ℕ)). AddsRow c.args.self.now ws c.read_row.new.self) words (c.in_ok-fault-in-Row.ensures.row none)) k
 
 pub returns-in-Unknown-clause-fault : goal.returns-in-Unknown-clause-fault
 returns-in-Unknown-clause-fault c = λ lines k.
@@ -47,11 +46,11 @@ returns-in_ok-fault-in_default-clause-fault c = λ lines k.
     let short = sym (ap (λ (l : LogicalLine). l.long) c.line.view_is) ∙ c.if-line.false in
     let names = names-left c.args.asked c.in_default.not-End c.in_default.not-Ignored c.in_default.not-Unsupported c.in_default.not-Unknown c.in_default.not-Row in
     names-fault c.args.self.now lines c.args.line.now c.args.asked c.in_ok-fault-in_default.fault names c.requires.asked short
-      (c.in_ok-fault-in_default.ensures.fault ∙ ap (names_fault c.args.self.now c.args.asked) words) k
+    (c.in_ok-fault-in_default.ensures.fault ∙ ap (names_fault c.args.self.now c.args.asked) words) k
 
 pub returns-in_ok-fault-in_default-clause-keeps : goal.returns-in_ok-fault-in_default-clause-keeps
 returns-in_ok-fault-in_default-clause-keeps c = λ lines k none.
     let words = ap (λ (l : LogicalLine). l.words) c.line.view_is in
     let names = names-left c.args.asked c.in_default.not-End c.in_default.not-Ignored c.in_default.not-Unsupported c.in_default.not-Unknown c.in_default.not-Row in
     names-keeps c.args.self.now c.read_names.new.self lines c.args.line.now c.args.asked names c.requires.asked
-      (subst (λ (ws : List (List ℕ)). ReadsNames c.args.self.now c.args.asked ws c.read_names.new.self) words (c.in_ok-fault-in_default.ensures.names none)) k
+    (subst (λ (ws : List (List ℕ)). ReadsNames c.args.self.now c.args.asked ws c.read_names.new.self) words (c.in_ok-fault-in_default.ensures.names none)) k

@@ -1,5 +1,4 @@
 use Rattle.std.proofs.Common.{Bool, Option, Some, None, true, false, cond, length, ◌≡◌, ◌++◌, ap, sym, ◌∙◌, arith, length-append}
-use Rattle.lw_blif.specs.declared.fault.BlifKind.{BlifKind}
 use Rattle.lw_blif.specs.declared.fault.BlifKind.TheVariants as kind
 use Rattle.lw_blif.specs.LineFaults.{defined_for}
 use Rattle.lw_blif.specs.Readers.{fault_else, are_fresh, names_fault_of}
@@ -10,14 +9,14 @@ pub returns-in-Some-clause-fault : goal.returns-in-Some-clause-fault
 returns-in-Some-clause-fault c =
     let defined = c.args.self.now.defined.keys in
     let found : Some c.in-Some.kind ≡ names_fault_of (length defined) c.args.command c.args.words.now =
-        sym c.in-Some.is ∙ (c.names_fault.ensures ∙ ap (λ n. names_fault_of n c.args.command c.args.words.now) c.len.ensures.len) in
+    sym c.in-Some.is ∙ (c.names_fault.ensures ∙ ap (λ n. names_fault_of n c.args.command c.args.words.now) c.len.ensures.len) in
     ap (λ f. fault_else f (cond (are_fresh defined (defined_for c.args.command c.args.words.now)) None (Some kind.Redefined))) found
 
 pub returns-then-not-branch-clause-fault : goal.returns-then-not-branch-clause-fault
 returns-then-not-branch-clause-fault c =
     let defined = c.args.self.now.defined.keys in
     let none : None ≡ names_fault_of (length defined) c.args.command c.args.words.now =
-        sym c.in_default.is ∙ (c.names_fault.ensures ∙ ap (λ n. names_fault_of n c.args.command c.args.words.now) c.len.ensures.len) in
+    sym c.in_default.is ∙ (c.names_fault.ensures ∙ ap (λ n. names_fault_of n c.args.command c.args.words.now) c.len.ensures.len) in
     let fresh : false ≡ are_fresh defined (defined_for c.args.command c.args.words.now) = sym c.if-not-branch.true ∙ c.in_ok-define.ensures.fresh in
     ap (λ b. cond b None (Some kind.Redefined)) fresh
     ∙ ap (λ f. fault_else f (cond (are_fresh defined (defined_for c.args.command c.args.words.now)) None (Some kind.Redefined))) none
@@ -29,7 +28,7 @@ pub returns-clause-fault : goal.returns-clause-fault
 returns-clause-fault c =
     let defined = c.args.self.now.defined.keys in
     let none : None ≡ names_fault_of (length defined) c.args.command c.args.words.now =
-        sym c.in_default.is ∙ (c.names_fault.ensures ∙ ap (λ n. names_fault_of n c.args.command c.args.words.now) c.len.ensures.len) in
+    sym c.in_default.is ∙ (c.names_fault.ensures ∙ ap (λ n. names_fault_of n c.args.command c.args.words.now) c.len.ensures.len) in
     let fresh : true ≡ are_fresh defined (defined_for c.args.command c.args.words.now) = sym c.if-not-branch.false ∙ c.in_ok-define.ensures.fresh in
     ap (λ b. cond b None (Some kind.Redefined)) fresh
     ∙ ap (λ f. fault_else f (cond (are_fresh defined (defined_for c.args.command c.args.words.now)) None (Some kind.Redefined))) none
