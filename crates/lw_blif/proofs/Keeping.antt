@@ -1,6 +1,6 @@
 -- What is kept, line by line.
 use Rattle.std.proofs.Common.{ℕ, ◌≡◌, ◌+◌, ◌≤◌, ◌==◌, Bool, true, false, not, ◌&&◌, ◌||◌, cond, nat_lt, List, [], ◌∷◌, ◌++◌, length, map, take, reverse, Option, Some, None, refl, ap, sym, ◌∙◌, subst, append-nil, arith}
-use Rattle.std.specs.Prelude.{option_to_list, codes, nat_le}
+use Rattle.std.specs.Prelude.{unwrap_or, filter, option_to_list, codes, nat_le}
 use Rattle.std.specs.List.{list_any, list_all, flat_map}
 use Rattle.std.specs.Str.{bytes_eq}
 use Rattle.std.specs.Cmp.Lexicographic.{bytes_decides}
@@ -8,15 +8,16 @@ use Rattle.std.proofs.lemmas.Grind.{flat_map-append}
 use Rattle.std.proofs.lemmas.List.{reverse-append, length-reverse}
 use Rattle.std.proofs.lemmas.Bool.{and_parts, ltb-false}
 use Rattle.lw_net.specs.declared.draft.DraftNode.{DraftNode}
+use Rattle.lw_net.specs.declared.draft.Draft.{Draft}
 use Rattle.lw_words.specs.Lines.{LogicalLine, has_some}
 use Rattle.lw_blif.specs.declared.command.Command.{Command}
 use Rattle.lw_blif.specs.declared.command.Command.TheVariants.{Ignored, Row}
 use Rattle.lw_blif.specs.declared.fault.BlifKind.{BlifKind}
 use Rattle.lw_blif.specs.declared.fault.BlifKind.TheVariants as kind
-use Rattle.lw_blif.specs.LineFaults.{first_broken, row_rules, rules_for, line_fault, name_rules, wants_words, is_name, names_for, words_before_last, has_twice, other_words, is_ignored_command, is_row_command, is_names_command, defined_for, command, is_row, is_names, is_ignored, last_word, fanins_on, has_shape, is_value, is_column, defined_on, defined_by, rows_before, node_before}
-use Rattle.lw_blif.specs.Drafts.{model_for, inputs_for, outputs_for, node_of, row_of, is_off_row, columns_of, model_on, inputs_on, outputs_on, each_once}
+use Rattle.lw_blif.specs.LineFaults.{first_word, first_broken, row_rules, rules_for, line_fault, name_rules, wants_words, is_name, names_for, words_before_last, has_twice, other_words, is_ignored_command, is_row_command, is_names_command, defined_for, command, is_row, is_names, is_ignored, last_word, fanins_on, has_shape, is_value, is_column, defined_on, defined_by, rows_before, node_before}
+use Rattle.lw_blif.specs.Drafts.{draft_of, nodes_of, model_for, inputs_for, outputs_for, node_of, row_of, is_off_row, columns_of, model_on, inputs_on, outputs_on, each_once}
 use Rattle.lw_blif.specs.Readers.{fault_else, names_fault_of, are_fresh, whole_nodes, value_word, is_value_of, row_fault_of, row_added, HaveValue, HaveValueOf, Kept}
-use Rattle.lw_blif.proofs.NodesBehind.{rows-ignored, node-ignored, whole-ignored, rows-row, node-row, whole-row, rows-other, node-other, whole-other}
+use Rattle.lw_blif.proofs.NodesBehind.{nodes-parts, rows-ignored, node-ignored, whole-ignored, rows-row, node-row, whole-row, rows-other, node-other, whole-other}
 use Rattle.indexmap.specs.IndexSet.{insert_all}
 use Rattle.lw_blif.specs.Commands.{is_among}
 use Rattle.lw_blif.proofs.Fresh.{once-more, fresh-are}
@@ -362,3 +363,26 @@ fault-row model inputs outputs defined nodes node lines words k = by_node node (
 pub first-more : (names more : List (List ℕ)) → take 1 (take 1 names ++ more) ≡ take 1 (names ++ more)
 first-more [] more = refl
 first-more (name ∷ names) more = refl
+
+-- the name of the first model, or of one without a name
+model-word : (model : Option (List ℕ)) (names : List (List ℕ)) → option_to_list model ≡ take 1 names → unwrap_or model (codes "unnamed") ≡ first_word (names ++ codes "unnamed" ∷ [])
+model-word None [] e = refl
+model-word None (name ∷ names) e = cc
+model-word (Some m) [] e = cc
+model-word (Some m) (name ∷ names) e = let same : m ≡ name = cc in same
+
+-- The draft of lines, from what is kept of them.
+pub kept-draft : (model : Option (List ℕ)) (inputs outputs defined : List (List ℕ)) (nodes : List DraftNode) (node : Option DraftNode) (lines : List LogicalLine) (draft : Draft) →
+    draft.model ≡ unwrap_or model (codes "unnamed") → draft.inputs ≡ inputs → draft.outputs ≡ outputs → draft.nodes ≡ nodes ++ option_to_list node →
+    Kept model inputs outputs defined nodes node lines → draft ≡ draft_of lines
+unfolding draft_of
+kept-draft model inputs outputs defined nodes node lines draft model_is inputs_are outputs_are nodes_are k =
+    let m = model_is ∙ model-word model (flat_map model_on lines) k.model_is in
+    let i = inputs_are ∙ k.inputs_are in
+    let o = outputs_are ∙ k.outputs_are in
+    let n : draft.nodes ≡ nodes_of (filter (λ line. not (is_ignored line)) lines) =
+        nodes_are ∙ (ap (λ r. r ++ option_to_list node) k.nodes_are ∙ (ap (λ r. whole_nodes lines ++ r) k.node_is ∙ sym (nodes-parts lines k.no_rows))) in
+    ap (λ w. record { model = w; inputs = draft.inputs; outputs = draft.outputs; nodes = draft.nodes }) m
+    ∙ (ap (λ w. record { model = first_word (flat_map model_on lines ++ codes "unnamed" ∷ []); inputs = w; outputs = draft.outputs; nodes = draft.nodes }) i
+    ∙ (ap (λ w. record { model = first_word (flat_map model_on lines ++ codes "unnamed" ∷ []); inputs = flat_map inputs_on lines; outputs = w; nodes = draft.nodes }) o
+    ∙ ap (λ w. record { model = first_word (flat_map model_on lines ++ codes "unnamed" ∷ []); inputs = flat_map inputs_on lines; outputs = each_once (flat_map outputs_on lines); nodes = w }) n))

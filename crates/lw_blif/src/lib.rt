@@ -4,6 +4,7 @@
 mod adding;
 mod command;
 mod defining;
+mod drafting;
 mod fault;
 mod naming;
 mod parts;

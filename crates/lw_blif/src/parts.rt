@@ -3,11 +3,12 @@ ghost use Rattle.std.specs.Prelude.{◌≡◌, ◌≢◌, ◌+◌, ◌<◌, ◌�
 
 use crate::adding::with_row;
 use crate::defining::{add_all, append_all, define_all, define_last, name_or_second, new_node};
+use crate::drafting::{name_or_unnamed, names_of, with_last};
 use crate::rows::row_fault;
 use crate::rules::names_fault;
 use crate::{BlifKind, Command};
 use indexmap::IndexSet;
-use lw_net::{DraftNode, DraftNodes};
+use lw_net::{Draft, DraftNode, DraftNodes};
 use lw_pool::{Name, Names};
 use lw_words::{Line, Words};
 use std::alloc::{AllocError, Global};
@@ -29,6 +30,7 @@ pub struct Parts {
 
 impl Parts {
     ghost use Rattle.lw_words.specs.Lines.{LogicalLine};
+    ghost use Rattle.lw_blif.specs.Drafts.{draft_of};
     ghost use Rattle.lw_blif.specs.Keeping.{Keeps, AddsRow, Defines, EndsNode, TakesNames, TakesModel, ReadsNames, names_fault};
     ghost use Rattle.lw_blif.specs.Readers.{row_fault_of, are_fresh};
     ghost use Rattle.lw_blif.specs.LineFaults.{command, defined_for, line_fault, wants_words};
@@ -45,6 +47,30 @@ impl Parts {
             nodes: DraftNodes::new(alloc),
             node: None,
         }
+    }
+
+    /// The draft of the lines that were read.
+    pub fn into_draft(self) -> Result<Draft, AllocError>
+        ensures { (lines : List LogicalLine) → Keeps self lines → IfOk result (λ draft. draft ≡ draft_of lines) }
+    {
+        let Parts {
+            alloc,
+            model,
+            inputs,
+            outputs,
+            nodes,
+            node,
+            ..
+        } = self;
+        let model = name_or_unnamed(alloc, model)?;
+        let outputs = names_of(alloc, &outputs)?;
+        let nodes = with_last(nodes, node)?;
+        Ok(Draft {
+            model,
+            inputs,
+            outputs,
+            nodes,
+        })
     }
 
     /// A line with the command that it asks for, or the first rule that it breaks. Behind an error this is of no use.
