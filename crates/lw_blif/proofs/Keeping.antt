@@ -381,7 +381,7 @@ kept-draft model inputs outputs defined nodes node lines draft model_is inputs_a
     let i = inputs_are ∙ k.inputs_are in
     let o = outputs_are ∙ k.outputs_are in
     let n : draft.nodes ≡ nodes_of (filter (λ line. not (is_ignored line)) lines) =
-        nodes_are ∙ (ap (λ r. r ++ option_to_list node) k.nodes_are ∙ (ap (λ r. whole_nodes lines ++ r) k.node_is ∙ sym (nodes-parts lines k.no_rows))) in
+    nodes_are ∙ (ap (λ r. r ++ option_to_list node) k.nodes_are ∙ (ap (λ r. whole_nodes lines ++ r) k.node_is ∙ sym (nodes-parts lines k.no_rows))) in
     ap (λ w. record { model = w; inputs = draft.inputs; outputs = draft.outputs; nodes = draft.nodes }) m
     ∙ (ap (λ w. record { model = first_word (flat_map model_on lines ++ codes "unnamed" ∷ []); inputs = w; outputs = draft.outputs; nodes = draft.nodes }) i
     ∙ (ap (λ w. record { model = first_word (flat_map model_on lines ++ codes "unnamed" ∷ []); inputs = flat_map inputs_on lines; outputs = w; nodes = draft.nodes }) o
