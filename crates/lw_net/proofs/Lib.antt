@@ -1,4 +1,9 @@
+pub mod Assembled
 pub mod Filling
 pub mod Names
+pub mod Numbering
+pub mod Paths
+pub mod Rise
 pub mod Rising
 pub mod Searching
+pub mod Sorting

@@ -96,3 +96,19 @@ undefined_in_node signals nodes i node fault below here rest e =
 pub undefined_behind_node : (signals : List (List ℕ)) (nodes : List DraftNode) (i : ℕ) (node : DraftNode) → i < length nodes → node ≡ get_or nodes i node → undefined_in signals (flat_map fanins_of (drop i nodes)) ≡ undefined_in signals (flat_map fanins_of nodes) → undefined_in signals node.fanins ≡ None → undefined_in signals (flat_map fanins_of (drop (i + 1) nodes)) ≡ undefined_in signals (flat_map fanins_of nodes)
 undefined_behind_node signals nodes i node below here rest e =
     sym (undefined_later signals node.fanins (flat_map fanins_of (drop (i + 1) nodes)) e) ∙ (ap (undefined_in signals) (sym (fanins_from nodes i node below here)) ∙ rest)
+
+-- a name that is not among those before it, and one that is
+pub fresh_more : (names old new : List (List ℕ)) (i : ℕ) (name item : List ℕ) (fresh : Bool) → i < length names → item ≡ get_or names i item → name ≡ item → old ≡ take i names → fresh ≡ not (list_any (bytes_eq name) old) → new ≡ insert_key bytes_eq old name → fresh ≡ true → new ≡ take (i + 1) names
+fresh_more names old new i name item fresh below read copied was told is now =
+    let here : name ≡ get_or names i name = copied ∙ get_or_read names i item below read name in
+    by_test (list_any (bytes_eq name) old) (sym told ∙ now) is here
+  where
+    by_test : (b : Bool) → not b ≡ true → new ≡ cond b old (old ++ name ∷ []) → name ≡ get_or names i name → new ≡ take (i + 1) names
+    by_test false e grown here = grown ∙ (ap (λ l. l ++ name ∷ []) was ∙ (ap (λ n. take i names ++ n ∷ []) here ∙ sym (take_more names i name below)))
+    by_test true e grown here = cc
+
+pub twice : (names old : List (List ℕ)) (i : ℕ) (name item : List ℕ) (fresh : Bool) → i < length names → item ≡ get_or names i item → name ≡ item → old ≡ take i names → fresh ≡ not (list_any (bytes_eq name) old) → fresh ≡ false → IsDistinct bytes_eq names → ⊥
+twice names old i name item fresh below read copied was told now distinct =
+    let here : name ≡ get_or names i name = copied ∙ get_or_read names i item below read name in
+    let none : list_any (bytes_eq name) old ≡ false = ap (λ l. list_any (bytes_eq name) l) was ∙ (ap (λ n. list_any (bytes_eq n) (take i names)) here ∙ none_before names i name distinct below) in
+    false≢true (sym now ∙ (told ∙ ap not none))

@@ -24,7 +24,7 @@ pub record Falls (heights : List ℕ) (from to : ℕ) : Type 0 where
   pub known : 0 < height_at heights to
   pub below : height_at heights to < height_at heights from
 
-in_graph : (graph : List (List ℕ)) (j s : ℕ) → Contains (fanins_at graph j) s → j < length graph
+pub in_graph : (graph : List (List ℕ)) (j s : ℕ) → Contains (fanins_at graph j) s → j < length graph
 in_graph graph j s among = by_place (cases_lt j (length graph))
   where
     by_place : (j < length graph) ⊎ (length graph ≤ j) → j < length graph

@@ -1,5 +1,6 @@
 pub mod Closing
 pub mod Networks
 pub mod Numbered
+pub mod Ordering
 pub mod Plain
 pub mod Signs

@@ -1,7 +1,9 @@
 -- A network as plain data.
 use Rattle.std.specs.Prelude.{ℕ, Bool, false, List, map, slice_index_or}
 use Rattle.lw_pool.specs.declared.id.NetId.{NetId}
+use Rattle.std.specs.List.Sorted.{IsNonDecreasing}
 use Rattle.lw_laws.specs.Networks as laws
+use Rattle.lw_laws.specs.Networks.{AreDepths}
 use Rattle.lw_net.specs.declared.node.Node.{Node}
 use Rattle.lw_net.specs.Networks.{NetworkParts}
 use Rattle.lw_net.specs.Signs.{asked}
@@ -19,3 +21,9 @@ plain net = record { inputs = net.inputs; nodes = map plain_node net.nodes }
 -- the values of some nets, at these values of all nets
 abbrev pub values_at : List Bool → List NetId → List Bool
 values_at values nets = map (λ net. slice_index_or values net false) (map net_number nets)
+
+-- the depths of the nets don't fall
+pub record HasRisingDepths (net : NetworkParts) : Type 0 where
+  pub depths : List ℕ
+  pub are : AreDepths (plain net) depths
+  pub rising : IsNonDecreasing depths

@@ -1,6 +1,7 @@
-ghost use Rattle.std.specs.Prelude.{◌≡◌, ◌<◌, ◌++◌, [], ◌∷◌, ◌↔◌, length, IsTrue, OnOk, OnErr, Some, slice_get};
+ghost use Rattle.std.specs.Prelude.{◌≡◌, ◌<◌, ◌++◌, [], ◌∷◌, ◌↔◌, length, IsTrue, OnOk, OnErr, Some, slice_get, All};
 
 use crate::Cubes;
+use crate::naming::{differ, signals};
 use lw_pool::{Name, Names};
 use std::alloc::{AllocError, Global};
 use std::marker::Model;
@@ -96,4 +97,39 @@ pub struct Draft {
     pub inputs: Names,
     pub outputs: Names,
     pub nodes: DraftNodes,
+}
+
+impl Draft {
+    ghost use Rattle.std.specs.Prelude.{IfOk};
+    ghost use Rattle.lw_net.specs.Closing.{IsDraft};
+
+    /// Whether it may be closed: inputs and node outputs differ, outputs differ, each row has one byte per fan-in, and there are at most
+    /// 262,144 signals.
+    pub fn may_close(&self, alloc: Global) -> Result<bool, AllocError>
+        ensures { IfOk result (λ may. IsTrue may ↔ IsDraft self.now) }
+    {
+        let names = signals(alloc, self.inputs.as_slice(), self.nodes.as_slice())?;
+        if names.len() > 262_144 || !have_columns(self.nodes.as_slice()) {
+            return Ok(false);
+        }
+        if !differ(alloc, &names)? {
+            return Ok(false);
+        }
+        differ(alloc, self.outputs.as_slice())
+    }
+}
+
+// Whether each row of a node has one byte per fan-in.
+fn has_columns(node: &DraftNode) -> bool
+    ensures { IsTrue result ↔ All (λ row. length row ≡ length node.now.fanins) node.now.rows }
+{
+    let columns = node.fanins.len();
+    node.rows.as_slice().iter().all(|row| row.len() == columns)
+}
+
+// Whether that is so of each node.
+fn have_columns(nodes: &[DraftNode]) -> bool
+    ensures { IsTrue result ↔ All (λ node. All (λ row. length row ≡ length node.fanins) node.rows) nodes.now }
+{
+    nodes.iter().all(|node| has_columns(node))
 }

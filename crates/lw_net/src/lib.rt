@@ -1,6 +1,7 @@
 //! Networks of nodes with rows, closed from their drafts by names, and the values of their nets.
 #![tactic(auto)]
 
+mod close;
 mod cycles;
 mod draft;
 mod eval;
@@ -9,8 +10,9 @@ mod levels;
 mod naming;
 mod network;
 mod node;
+mod order;
 
 pub use draft::{Draft, DraftNode, DraftNodes};
 pub use fault::NetFault;
 pub use network::Network;
-pub use node::{Cube, Cubes, Node, Nodes};
+pub use node::{Cube, Cubes, Node, Nodes, are_signs};

@@ -1,5 +1,5 @@
 // Names in place of which numbers stand.
-ghost use Rattle.std.specs.Prelude.{◌≡◌, ◌+◌, ◌<◌, ◌≤◌, ◌++◌, ℕ, List, None, length, map, IfOk, IfErr, OnOk};
+ghost use Rattle.std.specs.Prelude.{◌≡◌, ◌+◌, ◌<◌, ◌≤◌, ◌++◌, ℕ, List, None, length, map, IfOk, IfErr, OnOk, IsTrue, ◌↔◌};
 ghost use Rattle.std.specs.List.{IsDistinct, flat_map};
 ghost use Rattle.std.specs.Str.{bytes_eq};
 ghost use Rattle.indexmap.specs.IndexSet.{index_set_len};
@@ -40,6 +40,22 @@ pub(crate) fn numbers(alloc: Global, names: &[Name]) -> Result<IndexSet<Name>, A
         set.insert(Name::from_slice(alloc, name.as_bytes())?)?;
     }
     Ok(set)
+}
+
+// Whether names differ.
+pub(crate) fn differ(alloc: Global, names: &[Name]) -> Result<bool, AllocError>
+    ensures { IfOk result (λ b. IsTrue b ↔ IsDistinct bytes_eq names.now) }
+{
+    let mut set = IndexSet::new(alloc);
+    for name in names {
+        let copy = Name::from_slice(alloc, name.as_bytes())?;
+        let fresh = set.insert(copy)?;
+        if !fresh {
+            return Ok(false);
+        }
+    }
+    let _count = set.len();
+    Ok(true)
 }
 
 // The numbers of some names, or the first of them that has none.

@@ -1,8 +1,12 @@
-ghost use Rattle.std.specs.Prelude.{◌≡◌, length};
+ghost use Rattle.std.specs.Prelude.{◌≡◌, ◌≤◌, length};
 
+use crate::close::{closed_nodes, depths, graph_of, nets_of};
 use crate::eval::{copy_front, fill};
-use crate::{Node, Nodes};
+use crate::naming::{numbers, signals};
+use crate::order::in_order;
+use crate::{Draft, DraftNodes, NetFault, Node, Nodes};
 use lw_pool::{Name, Names, NetId, Nets};
+use std::alloc::{AllocError, Global};
 use std::marker::Model;
 
 /// A network. Its nets are its inputs, in order, and then what its nodes drive, in order.
@@ -26,9 +30,14 @@ impl Model for Network {
 }
 
 impl Network {
-    ghost use Rattle.lw_laws.specs.Networks.{AreValues, given};
+    ghost use Rattle.std.specs.Prelude.{IfOk, IfErr};
+    ghost use Rattle.std.specs.List.{IsDistinct};
+    ghost use Rattle.std.specs.Str.{bytes_eq};
+    ghost use Rattle.lw_net.specs.Closing.{IsDraft, IsClosed, HasFault, signals_of, network_in};
+    ghost use Rattle.lw_net.specs.Networks.{most_nets};
+    ghost use Rattle.lw_laws.specs.Networks.{AreValues, IsInOrder, given};
     ghost use Rattle.lw_net.specs.Networks.{IsNetwork};
-    ghost use Rattle.lw_net.specs.Plain.{plain};
+    ghost use Rattle.lw_net.specs.Plain.{plain, HasRisingDepths};
 
     /// The name of the model.
     pub fn model(&self) -> &Name
@@ -57,6 +66,7 @@ impl Network {
     pub fn nodes(&self) -> &[Node]
         ensures nodes { result.now ≡ self.now.nodes }
         ensures kept { IsNetwork self.now }
+        ensures in_order { IsInOrder (plain self.now) }
     {
         self.nodes.as_slice()
     }
@@ -86,5 +96,56 @@ impl Network {
         let nodes = self.nodes();
         copy_front(x, nets);
         fill(nodes, x.len(), nets);
+    }
+
+    /// The network of a draft, with its nodes by depth and, at one depth, as they are written.
+    ///
+    /// `Undefined` names the first fan-in, by nodes and columns, or else the first output that nothing drives. Else `Cycle` names the
+    /// first node that reaches itself through fan-ins. `Memory` is the one free answer. It works in time in proportion to the draft,
+    /// the sort by depth aside, but for a draft with a cycle, where it may go through the draft once for each node that only depends on
+    /// a cycle.
+    pub fn close(alloc: Global, draft: Draft) -> Result<Network, NetFault>
+        requires { IsDraft draft }
+        ensures closed { IfOk result (IsClosed draft) }
+        ensures depths { IfOk result HasRisingDepths }
+        ensures fault { IfErr result (HasFault draft) }
+    {
+        let graph = graph_of(alloc, &draft)?;
+        let depths = depths(alloc, &draft, &graph)?;
+        let Draft {
+            model,
+            inputs,
+            outputs,
+            nodes,
+        } = draft;
+        let nodes = DraftNodes::from_vec(in_order(alloc, nodes, &depths)?);
+        let ordered = Draft {
+            model,
+            inputs,
+            outputs,
+            nodes,
+        };
+        let network = Network::of_ordered(alloc, ordered)?;
+        Ok(network)
+    }
+
+    // The network whose nodes stand as in the draft.
+    fn of_ordered(alloc: Global, draft: Draft) -> Result<Network, AllocError>
+        requires distinct { IsDistinct bytes_eq (signals_of draft) }
+        requires few { length (signals_of draft) ≤ most_nets }
+        requires kept { IsNetwork (network_in draft draft.nodes) }
+        ensures { IfOk result (λ net. net ≡ network_in draft draft.nodes) }
+    {
+        let names = signals(alloc, draft.inputs.as_slice(), draft.nodes.as_slice())?;
+        let numbers = numbers(alloc, &names)?;
+        let nodes = closed_nodes(alloc, draft.nodes.into_vec(), &numbers)?;
+        let outputs = nets_of(alloc, draft.outputs.as_slice(), &numbers)?;
+        Ok(Network {
+            model: draft.model,
+            names: Names::from_vec(names),
+            inputs: draft.inputs.len() as u32,
+            nodes: Nodes::from_vec(nodes),
+            outputs,
+        })
     }
 }

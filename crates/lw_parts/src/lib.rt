@@ -1,5 +1,9 @@
-//! Tests of the layers' public calls.
+//! Tests of the layers' public calls, as tables.
 #![tactic(auto)]
 
 #[cfg(test)]
+mod decimals;
+#[cfg(test)]
 mod lines;
+#[cfg(test)]
+mod nets;

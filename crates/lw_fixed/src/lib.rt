@@ -1,0 +1,15 @@
+//! Decimals in millionths: read and printed exactly, with no floating point and no memory.
+#![tactic(auto)]
+
+mod digits;
+mod fault;
+mod laws;
+mod micro;
+mod printing;
+mod reading;
+
+pub use fault::DecimalFault;
+pub use laws::{printed_is_shortest, printed_reads_back, shortest_is_printed};
+pub use micro::Micro;
+pub use printing::print;
+pub use reading::read;

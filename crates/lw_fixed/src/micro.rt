@@ -1,0 +1,3 @@
+/// A number of millionths, as of a unit of time or area.
+#[derive(Clone, Copy, Debug, PartialEq, Eq, PartialOrd, Ord, Hash)]
+pub struct Micro(pub u64);

@@ -1,0 +1,12 @@
+mod Assignments
+mod Bits
+mod Evaluating
+mod Faultless
+mod Grammars
+mod NameRuns
+mod Names
+mod Running
+mod Sighting
+mod Spelling
+mod Stacks
+mod Strokes

@@ -1,0 +1,103 @@
+-- Cells and libraries: what they are seen as, and what their types keep.
+use Rattle.std.specs.Prelude.{ℕ, ◌*◌, ◌<◌, ◌≤◌, ◌≡◌, ◌==◌, Bool, not, ◌||◌, false, IsTrue, List, [], ◌∷◌, length, map, sum_by, All, Contains}
+use Rattle.std.specs.List.{IsDistinct, list_all, list_any}
+use Rattle.std.specs.Str.{bytes_eq}
+use Rattle.std.specs.Global.{Vec}
+use Rattle.lw_fixed.specs.declared.micro.Micro.{Micro}
+use Rattle.lw_laws.specs.Expressions.{Expr, expr_value}
+use Rattle.lw_laws.specs.Networks.{given}
+use Rattle.lw_genlib.specs.Postfix.{literals, IsWide, IsOver, first_expr}
+
+pub record CellParts : Type 0 where
+  pub name : List ℕ
+  pub area : Micro
+  pub output : List ℕ
+  -- in the order in which they first stand in the first form
+  pub pins : List (List ℕ)
+  -- one for each pin
+  pub delays : List Micro
+  pub forms : List Expr
+
+-- the value of a cell, by its first form
+abbrev pub cell_value : CellParts → List Bool → Bool
+cell_value cell ys = expr_value (given ys) (first_expr cell.forms)
+
+-- an expression that a cell with so many pins may have
+pub record IsForm (pins : ℕ) (e : Expr) : Type 0 where
+  pub few : literals e ≤ 64
+  pub wide : IsWide e
+  pub over : IsOver pins e
+
+abbrev pub HaveOneTruth : Expr → Expr → Type 0
+HaveOneTruth e f = (y : ℕ → Bool) → expr_value y e ≡ expr_value y f
+
+-- what each cell keeps
+pub record IsCell (cell : CellParts) : Type 0 where
+  pub few_pins : length cell.pins ≤ 16
+  pub delays : length cell.delays ≡ length cell.pins
+  pub some_form : 0 < length cell.forms
+  pub forms : All (IsForm (length cell.pins)) cell.forms
+  pub one_truth : (e f : Expr) → Contains cell.forms e → Contains cell.forms f → HaveOneTruth e f
+
+-- Names in libraries.
+
+-- a byte of a word: no blank and no line feed, and no `#`
+abbrev pub is_word_byte : ℕ → Bool
+is_word_byte b = not (b == 32 || b == 9 || b == 13 || b == 12 || b == 10 || b == 35)
+
+abbrev pub IsWord : ℕ → List ℕ → Type 0
+IsWord most name = (0 < length name) × (length name ≤ most) × IsTrue (list_all is_word_byte name)
+
+-- a sign of functions: one of `( ) ! ' + * = & | ^ " ;`
+abbrev pub is_mark_byte : ℕ → Bool
+is_mark_byte b = list_any (λ mark. mark == b) (40 ∷ 41 ∷ 33 ∷ 39 ∷ 43 ∷ 42 ∷ 61 ∷ 38 ∷ 124 ∷ 94 ∷ 34 ∷ 59 ∷ [])
+
+abbrev pub ends_in_stroke : List ℕ → Bool
+ends_in_stroke [] = false
+ends_in_stroke (b ∷ []) = b == 92
+ends_in_stroke (b ∷ next ∷ bytes) = ends_in_stroke (next ∷ bytes)
+
+-- a name of a pin or an output: no sign of functions stands in it, and it does not end in `\`
+pub record IsPinName (name : List ℕ) : Type 0 where
+  pub word : IsWord 2048 name
+  pub no_mark : IsTrue (list_all (λ b. not (is_mark_byte b)) name)
+  pub no_stroke : IsTrue (not (ends_in_stroke name))
+
+-- Libraries.
+
+-- below a million units
+abbrev pub IsSmall : Micro → Type 0
+IsSmall m = m.0 < 1000000 * 1000000
+
+abbrev pub form_count : CellParts → ℕ
+form_count cell = length cell.forms
+
+-- what a library keeps of each cell
+pub record IsListed (cell : CellParts) : Type 0 where
+  pub kept : IsCell cell
+  pub name : IsWord 4095 cell.name
+  pub area : IsSmall cell.area
+  pub delays : All IsSmall cell.delays
+  pub output : IsPinName cell.output
+  pub pins : All IsPinName cell.pins
+  pub pins_differ : IsDistinct bytes_eq cell.pins
+
+abbrev pub names_of : List CellParts → List (List ℕ)
+names_of cells = map (λ (cell : CellParts). cell.name) cells
+
+-- what each library keeps
+pub record IsLibrary (cells : List CellParts) : Type 0 where
+  pub few : sum_by form_count cells ≤ 4096
+  pub each : All IsListed cells
+  pub names_differ : IsDistinct bytes_eq (names_of cells)
+
+abbrev pub Key : Type 0
+Key = Vec ℕ
+
+abbrev pub bytes_of : Key → List ℕ
+bytes_of key = key.items
+
+-- the cells, and the names by which they are looked up
+pub record IsIndexed (cells : List CellParts) (keys : List Key) : Type 0 where
+  pub kept : IsLibrary cells
+  pub names : map bytes_of keys ≡ names_of cells

@@ -1,0 +1,9 @@
+pub mod Cells
+pub mod Codes
+pub mod Functions
+pub mod Grammar
+pub mod Postfix
+pub mod Runs
+pub mod Sights
+pub mod Tells
+pub mod Words

@@ -1,0 +1,41 @@
+use lw_fixed::DecimalFault;
+
+/// What is wrong in the text of a library.
+#[derive(Clone, Copy, Debug, PartialEq, Eq)]
+pub enum LibKind {
+    /// Another word or sign is required here, or the file ends inside an entry.
+    Expected,
+    /// A byte that may not stand in a function.
+    BadByte,
+    /// A pin has no entry.
+    PinMissing,
+    /// No pin of the cell has this name.
+    PinUnknown,
+    /// The phase is none of the three.
+    PhaseWord,
+    /// An area or a delay is no such decimal.
+    Decimal(DecimalFault),
+    /// A constant stands in a function beside something else.
+    ConstInside,
+    /// A cell differs from the first entry of its name.
+    CellDiffers,
+    /// A word is longer than 4,095 bytes.
+    LongWord,
+    /// A function is longer than 2,048 bytes.
+    LimitText,
+    /// More than 64 names and constants stand in a function.
+    LimitLiterals,
+    /// A cell has more than 16 pins.
+    LimitPins,
+    /// There are more than 4,096 entries of cells.
+    LimitCells,
+}
+
+/// Why a library is not read.
+#[derive(Clone, Copy, Debug, PartialEq, Eq)]
+pub enum LibFault {
+    /// On a line.
+    Line(u32, LibKind),
+    /// For want of memory.
+    Memory,
+}

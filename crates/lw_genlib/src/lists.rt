@@ -1,0 +1,110 @@
+ghost use Rattle.std.specs.Prelude.{◌≡◌, ◌<◌, ◌++◌, [], ◌∷◌, length, OnOk, OnErr, Some, slice_get};
+
+use crate::Expr;
+use lw_fixed::Micro;
+use std::alloc::{AllocError, Global};
+use std::marker::Model;
+
+/// Numbers of millionths in order.
+#[derive(Debug, Drop)]
+pub struct Micros {
+    items: Vec<Micro>,
+}
+
+impl Model for Micros {
+    ghost use Rattle.std.specs.Prelude.{List};
+    ghost use Rattle.lw_fixed.specs.declared.micro.Micro.{Micro};
+
+    ghost Value = { List Micro };
+
+    ghost view = { λ l. l.items.items };
+}
+
+impl Micros {
+    /// The entries of a vector, without memory.
+    pub fn from_vec(items: Vec<Micro>) -> Self
+        ensures { result ≡ items.items }
+    {
+        Micros { items }
+    }
+
+    pub fn as_slice(&self) -> &[Micro]
+        ensures { result.now ≡ self.now }
+    {
+        &self.items
+    }
+
+    /// The entry at a place.
+    pub fn get(&self, place: usize) -> Micro
+        requires { place < length self.now }
+        ensures { slice_get self.now place ≡ Some result }
+    {
+        self.items[place]
+    }
+}
+
+/// Expressions in order.
+#[derive(Debug, Drop)]
+pub struct Exprs {
+    items: Vec<Expr>,
+}
+
+impl Model for Exprs {
+    ghost use Rattle.std.specs.Prelude.{List};
+    ghost use Rattle.std.specs.Coded.{coded_list};
+    ghost use Rattle.lw_laws.specs.Expressions.{Expr as Expression};
+    ghost use Rattle.lw_genlib.specs.Codes.{expr_code};
+
+    ghost Value = { List Expression };
+
+    ghost coded = { coded_list expr_code };
+
+    ghost view = { λ l. l.items.items };
+}
+
+impl Exprs {
+    /// No entries. Growth takes memory from `alloc`.
+    pub fn new(alloc: Global) -> Self
+        ensures { result ≡ [] }
+    {
+        Exprs {
+            items: Vec::new(alloc),
+        }
+    }
+
+    /// The entries of a vector, without memory.
+    pub fn from_vec(items: Vec<Expr>) -> Self
+        ensures { result ≡ items.items }
+    {
+        Exprs { items }
+    }
+
+    pub fn len(&self) -> usize
+        ensures { result ≡ length self.now }
+    {
+        self.items.len()
+    }
+
+    pub fn as_slice(&self) -> &[Expr]
+        ensures { result.now ≡ self.now }
+    {
+        &self.items
+    }
+
+    /// The entry at a place.
+    pub fn get(&self, place: usize) -> &Expr
+        requires { place < length self.now }
+        ensures { slice_get self.now place ≡ Some result.now }
+    {
+        &self.items[place]
+    }
+
+    /// Appends an entry. For want of memory nothing is changed.
+    pub fn push(&mut self, item: Expr) -> Result<(), AllocError>
+        ensures ok { OnOk result (self.new ≡ self.old ++ item ∷ []) }
+        ensures err { OnErr result (self.new ≡ self.old) }
+    {
+        self.items.push(item)?;
+        Ok(())
+    }
+}

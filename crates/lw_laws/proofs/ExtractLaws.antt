@@ -1,0 +1,159 @@
+-- The netlist that the chosen matches make is one.
+use Rattle.std.proofs.Common.{ℕ, zero, suc, ◌+◌, ◌<◌, ◌≡◌, ◌⊎◌, inl, inr, List, [], ◌∷◌, ◌++◌, length, Some, slice_get, slice_index_or, refl, ap, ap₂, sym, ◌∙◌, subst, arith}
+use Rattle.std.specs.List.{AllZip}
+use Rattle.lw_laws.specs.Graphs.{Graph}
+use Rattle.lw_laws.specs.Costs.{Cost}
+use Rattle.lw_laws.specs.Choices.{Labels}
+use Rattle.lw_laws.specs.Covers.{Pattern}
+use Rattle.lw_laws.specs.Delays.{delay_cost}
+use Rattle.lw_laws.specs.Netlists.{Gate, Netlist, AreOrdered, AreArrivals}
+use Rattle.lw_laws.specs.Mapped.{IsMapped}
+use Rattle.lw_laws.specs.Extracts.{Match, IsChosen, IsGateBefore, AreGateClasses, IsNetOf, IsExtracted, class_at, AreDistinctLeaves}
+use Rattle.lw_laws.proofs.Extracts.{slice_get_append, IsChosen_once, extracted_ordered, extracted_mapped, net_arrival}
+use Rattle.lw_laws.proofs.Mapping.{list_arrivals}
+use Rattle.lw_laws.proofs.Lists.{slice_get_in, slice_get_some}
+
+not_both : (heights : ℕ → ℕ) (c d : ℕ) → IsGateBefore heights c d → IsGateBefore heights d c → ⊥
+not_both heights c d (inl a) (inl b) = omega arith
+not_both heights c d (inl a) (inr (e, b)) = omega arith
+not_both heights c d (inr (e, a)) (inl b) = omega arith
+not_both heights c d (inr (e, a)) (inr (f, b)) = omega arith
+
+not_itself : (heights : ℕ → ℕ) (c : ℕ) → IsGateBefore heights c c → ⊥
+not_itself heights c b = not_both heights c c b b
+
+module _ (heights : ℕ → ℕ) where
+  abbrev IsSorted : List ℕ → Type 0
+  IsSorted xs = (i j c d : ℕ) → slice_get xs i ≡ Some c → slice_get xs j ≡ Some d → i < j → IsGateBefore heights c d
+
+  abbrev IsAmong : List ℕ → List ℕ → Type 0
+  IsAmong xs ys = (i c : ℕ) → slice_get xs i ≡ Some c → (j : ℕ) × (slice_get ys j ≡ Some c)
+
+  tail_sorted : (x : ℕ) (xs : List ℕ) → IsSorted (x ∷ xs) → IsSorted xs
+  tail_sorted x xs s i j c d e f lt = s (suc i) (suc j) c d e f (omega arith)
+
+  heads_same : (x y : ℕ) (xs ys : List ℕ) → IsSorted (x ∷ xs) → IsSorted (y ∷ ys) → (j : ℕ) × (slice_get (y ∷ ys) j ≡ Some x) → (i : ℕ) × (slice_get (x ∷ xs) i ≡ Some y) → x ≡ y
+  heads_same x y xs ys s t (zero, e) (i, f) = cc
+  heads_same x y xs ys s t (suc j, e) (zero, f) = cc
+  heads_same x y xs ys s t (suc j, e) (suc i, f) = absurd (not_both heights x y (s 0 (suc i) x y refl f (omega arith)) (t 0 (suc j) y x refl e (omega arith)))
+
+  tail_among : (x : ℕ) (xs ys : List ℕ) → IsSorted (x ∷ xs) → IsAmong (x ∷ xs) (x ∷ ys) → IsAmong xs ys
+  tail_among x xs ys s among i c e = by_place (among (suc i) c e)
+    where
+      by_place : (j : ℕ) × (slice_get (x ∷ ys) j ≡ Some c) → (j : ℕ) × (slice_get ys j ≡ Some c)
+      by_place (zero, f) = let same : x ≡ c = cc in absurd (not_itself heights c (subst (λ d. IsGateBefore heights d c) same (s 0 (suc i) x c refl e (omega arith))))
+      by_place (suc j, f) = (j, f)
+
+  sorted_once : (xs ys : List ℕ) → IsSorted xs → IsSorted ys → IsAmong xs ys → IsAmong ys xs → xs ≡ ys
+  sorted_once [] [] s t a b = refl
+  sorted_once [] (y ∷ ys) s t a b = let (j, e) = b 0 y refl in cc
+  sorted_once (x ∷ xs) [] s t a b = let (j, e) = a 0 x refl in cc
+  sorted_once (x ∷ xs) (y ∷ ys) s t a b =
+      let same = heads_same x y xs ys s t (a 0 x refl) (b 0 y refl) in
+      let t' = subst (λ z. IsSorted (z ∷ ys)) (sym same) t in
+      let a' = subst (λ z. IsAmong (x ∷ xs) (z ∷ ys)) (sym same) a in
+      let b' = subst (λ z. IsAmong (z ∷ ys) (x ∷ xs)) (sym same) b in
+      ap₂ (λ z zs. z ∷ zs) same (sorted_once xs ys (tail_sorted x xs s) (tail_sorted x ys t') (tail_among x xs ys s a') (tail_among x ys xs t' b'))
+
+pub chosen_once : (g : Graph) (cost : Cost) (pats : List Pattern) (labels : Labels) (heights : ℕ → ℕ) (c : ℕ) (m k : Match) (p q : Pattern) → IsChosen g cost pats labels heights c m p → IsChosen g cost pats labels heights c k q → m ≡ k
+chosen_once g cost pats labels heights c m k p q a b =
+    let once = IsChosen_once g cost pats labels heights c m k p q a b in
+    ap₂ (λ z zs. record { pattern = z; pins = zs }) once.0 once.1
+
+module _ (g : Graph) (cost : Cost) (pats : List Pattern) (labels : Labels) (heights : ℕ → ℕ) (roots : List ℕ) where
+  -- the list of classes with a gate is one
+  pub gate_classes_once : (gates others : List ℕ) → AreGateClasses g cost pats labels heights roots gates → AreGateClasses g cost pats labels heights roots others → gates ≡ others
+  gate_classes_once gates others a b =
+      sorted_once heights gates others a.sorted b.sorted
+      (λ i c e. let (n, out) = a.needed i c e in b.all c n out)
+      (λ i c e. let (n, out) = b.needed i c e in a.all c n out)
+
+  module _ (gates : List ℕ) (classes : AreGateClasses g cost pats labels heights roots gates) where
+    pub ordered_and_mapped : (n : Netlist) → IsExtracted g cost pats labels heights gates n → AreOrdered n × IsMapped g cost.pin_counts pats n (class_at g gates)
+    ordered_and_mapped n is = (extracted_ordered g cost pats labels heights gates n classes.sorted is, extracted_mapped g cost pats labels heights gates n classes.sorted is)
+
+    gate_once : (i j c : ℕ) → slice_get gates i ≡ Some c → slice_get gates j ≡ Some c → i ≡ j
+    gate_once i j c e f = by_order (eq_or i j)
+      where
+        eq_or : (i j : ℕ) → (i ≡ j) ⊎ ((i < j) ⊎ (j < i))
+        eq_or zero zero = inl refl
+        eq_or zero (suc j) = inr (inl (omega arith))
+        eq_or (suc i) zero = inr (inr (omega arith))
+        eq_or (suc i) (suc j) = up (eq_or i j)
+          where
+            up : (i ≡ j) ⊎ ((i < j) ⊎ (j < i)) → (suc i ≡ suc j) ⊎ ((suc i < suc j) ⊎ (suc j < suc i))
+            up (inl e) = inl (ap suc e)
+            up (inr (inl l)) = inr (inl (omega arith))
+            up (inr (inr l)) = inr (inr (omega arith))
+
+        by_order : (i ≡ j) ⊎ ((i < j) ⊎ (j < i)) → i ≡ j
+        by_order (inl s) = s
+        by_order (inr (inl l)) = absurd (not_itself heights c (classes.sorted i j c c e f l))
+        by_order (inr (inr l)) = absurd (not_itself heights c (classes.sorted j i c c f e l))
+
+    pub net_once : AreDistinctLeaves g → (c k l : ℕ) → IsNetOf g gates c k → IsNetOf g gates c l → k ≡ l
+    net_once distinct c k l e f = by_side (slice_get_append g.leaves gates k c e) (slice_get_append g.leaves gates l c f)
+      where
+        in_left : (m : ℕ) → m < length g.leaves → IsNetOf g gates c m → slice_get g.leaves m ≡ Some c
+        in_left m lt h = let (d, at) = slice_get_some g.leaves m lt in let s = left g.leaves m d at in let same : d ≡ c = cc in at ∙ ap Some same
+          where
+            left : (xs : List ℕ) (m d : ℕ) → slice_get xs m ≡ Some d → slice_get (xs ++ gates) m ≡ Some d
+            left [] m d at = cc
+            left (x ∷ xs) zero d at = at
+            left (x ∷ xs) (suc m) d at = left xs m d at
+
+        by_side : (k < length g.leaves) ⊎ ((i : ℕ) × (slice_get gates i ≡ Some c) × (k ≡ length g.leaves + i)) → (l < length g.leaves) ⊎ ((i : ℕ) × (slice_get gates i ≡ Some c) × (l ≡ length g.leaves + i)) → k ≡ l
+        by_side (inl p) (inl q) = distinct k l c (in_left k p e) (in_left l q f)
+        by_side (inl p) (inr (j, at, s)) = absurd ((classes.needed j c at).1 (k, in_left k p e))
+        by_side (inr (i, at, s)) (inl q) = absurd ((classes.needed i c at).1 (l, in_left l q f))
+        by_side (inr (i, at, s)) (inr (j, bt, t)) = let same = gate_once i j c at bt in omega arith
+
+    pins_once : AreDistinctLeaves g → (qs ks ls : List ℕ) → AllZip (λ q net. IsNetOf g gates q net) qs ks → AllZip (λ q net. IsNetOf g gates q net) qs ls → ks ≡ ls
+    pins_once distinct [] [] [] a b = refl
+    pins_once distinct [] [] (l ∷ ls) a b = absurd b
+    pins_once distinct [] (k ∷ ks) ls a b = absurd a
+    pins_once distinct (q ∷ qs) [] ls a b = absurd a
+    pins_once distinct (q ∷ qs) (k ∷ ks) [] a b = absurd b
+    pins_once distinct (q ∷ qs) (k ∷ ks) (l ∷ ls) (e, a) (f, b) = ap₂ (λ x xs. x ∷ xs) (net_once distinct q k l e f) (pins_once distinct qs ks ls a b)
+
+    gates_same : (xs ys : List Gate) → length xs ≡ length ys → ((j : ℕ) (x y : Gate) → slice_get xs j ≡ Some x → slice_get ys j ≡ Some y → x ≡ y) → xs ≡ ys
+    gates_same [] [] len f = refl
+    gates_same [] (y ∷ ys) len f = absurd (omega arith)
+    gates_same (x ∷ xs) [] len f = absurd (omega arith)
+    gates_same (x ∷ xs) (y ∷ ys) len f = ap₂ (λ z zs. z ∷ zs) (f 0 x y refl refl) (gates_same xs ys (omega arith) (λ j z w e h. f (suc j) z w e h))
+
+    -- the netlist is one
+    pub extracted_once : AreDistinctLeaves g → (n m : Netlist) → IsExtracted g cost pats labels heights gates n → IsExtracted g cost pats labels heights gates m → n ≡ m
+    extracted_once distinct n m is also =
+        ap₂ (λ k gs. record { inputs = k; gates = gs }) (is.inputs ∙ sym also.inputs) (gates_same n.gates m.gates (is.one_each ∙ sym also.one_each) same_gate)
+      where
+        same_gate : (j : ℕ) (x y : Gate) → slice_get n.gates j ≡ Some x → slice_get m.gates j ≡ Some y → x ≡ y
+        same_gate j x y e f =
+            let (c, a, p, at, chosen, cell, nets) = is.chosen j x e in
+            let (d, b, q, bt, chosen', cell', nets') = also.chosen j y f in
+            let same : d ≡ c = cc in
+            let once = IsChosen_once g cost pats labels heights c a b p q chosen (subst (λ z. IsChosen g cost pats labels heights z b q) same chosen') in
+            let pat : p ≡ q = some_same p q (sym chosen.supports.matches.listed ∙ (ap (slice_get pats) once.0 ∙ chosen'.supports.matches.listed)) in
+            let cells : x.cell ≡ y.cell = cell ∙ (ap (λ z. z.cell) pat ∙ sym cell') in
+            let pins = pins_once distinct b.pins x.pins y.pins (subst (λ zs. AllZip (λ r net. IsNetOf g gates r net) zs x.pins) once.1 nets) nets' in
+            ap₂ (λ z zs. record { cell = z; pins = zs }) cells pins
+          where
+            some_same : (p q : Pattern) → Some p ≡ Some q → p ≡ q
+            some_same p q e = cc
+
+-- the arrival of each net is the label of its class
+pub extracted_arrivals : (g : Graph) (pats : List Pattern) (delays : List (List ℕ)) (cap : ℕ) (labels : Labels) (heights : ℕ → ℕ) (roots gates : List ℕ) (n : Netlist) (arrivals : List ℕ) → AreGateClasses g (delay_cost delays cap) pats labels heights roots gates → IsExtracted g (delay_cost delays cap) pats labels heights gates n → AreArrivals delays n arrivals → ((c i : ℕ) → slice_get g.leaves i ≡ Some c → labels c ≡ Some 0) → ((c l : ℕ) → labels c ≡ Some l → l < cap) → (c net : ℕ) → IsNetOf g gates c net → labels c ≡ Some (slice_index_or arrivals net 0)
+extracted_arrivals g pats delays cap labels heights roots gates n arrivals classes is are leaf low c net at =
+    net_arrival g delays cap pats labels heights gates n classes.sorted is (λ p. slice_index_or arrivals p 0) (list_arrivals delays n arrivals are) leaf low c net at in_range
+  where
+    in_range : net < n.inputs + length n.gates
+    in_range =
+        let lt = slice_get_in (g.leaves ++ gates) net c at in
+        let a = is.inputs in
+        let b = is.one_each in
+        let l = length_both g.leaves gates in
+        omega arith
+      where
+        length_both : (xs ys : List ℕ) → length (xs ++ ys) ≡ length xs + length ys
+        length_both [] ys = omega arith
+        length_both (x ∷ xs) ys = let ih = length_both xs ys in omega arith

@@ -1,0 +1,190 @@
+-- The netlist of chosen matches is ordered and mapped.
+use Rattle.std.proofs.Common.{ℕ, zero, suc, ◌+◌, ◌<◌, ◌≤◌, ◌≡◌, ◌⊎◌, inl, inr, List, [], ◌∷◌, length, map, Some, slice_get, Contains, refl, ap, ap₂, sym, ◌∙◌, subst, arith, min, ◌++◌, zero-add, suc-add}
+use Rattle.std.specs.List.{AllByRecursion, AllZip, slice_index_or}
+use native.Mathlib.Decide.{dec_lt}
+use Rattle.lw_laws.specs.Graphs.{Graph}
+use Rattle.lw_laws.specs.Costs.{Cost}
+use Rattle.lw_laws.specs.Choices.{Labels, HaveLabels}
+use Rattle.lw_laws.specs.Covers.{Pattern, latest, delays_of}
+use Rattle.lw_laws.specs.Delays.{delay_cost}
+use Rattle.lw_laws.specs.Netlists.{Gate, Netlist, IsGate, AreOrdered}
+use Rattle.lw_laws.specs.Extracts.{Match, IsListAtMost, IsMatchAtMost, IsChosen, IsGateBefore, net_classes, IsNetOf, IsExtracted}
+use Rattle.lw_laws.specs.Mapped.{IsMapped, AreNetArrivals}
+use Rattle.lw_laws.proofs.Lists.{slice_get_in, slice_get_some}
+
+pub slice_get_append : (xs ys : List ℕ) (k c : ℕ) → slice_get (xs ++ ys) k ≡ Some c → (k < length xs) ⊎ ((i : ℕ) × (slice_get ys i ≡ Some c) × (k ≡ length xs + i))
+slice_get_append [] ys k c e = inr (k, e, omega arith)
+slice_get_append (x ∷ xs) ys zero c e = inl (omega arith)
+slice_get_append (x ∷ xs) ys (suc k) c e = by_case (slice_get_append xs ys k c e)
+  where
+    by_case : (k < length xs) ⊎ ((i : ℕ) × (slice_get ys i ≡ Some c) × (k ≡ length xs + i)) → (suc k < length (x ∷ xs)) ⊎ ((i : ℕ) × (slice_get ys i ≡ Some c) × (suc k ≡ length (x ∷ xs) + i))
+    by_case (inl lt) = inl (omega arith)
+    by_case (inr (i, f, s)) = inr (i, f, omega arith)
+
+slice_get_left : (xs ys : List ℕ) (k c : ℕ) → slice_get xs k ≡ Some c → slice_get (xs ++ ys) k ≡ Some c
+slice_get_left [] ys k c e = cc
+slice_get_left (x ∷ xs) ys zero c e = e
+slice_get_left (x ∷ xs) ys (suc k) c e = slice_get_left xs ys k c e
+
+slice_get_right : (xs ys : List ℕ) (j c : ℕ) → slice_get ys j ≡ Some c → slice_get (xs ++ ys) (length xs + j) ≡ Some c
+slice_get_right [] ys j c e = rw zero-add e
+slice_get_right (x ∷ xs) ys j c e = rw suc-add (slice_get_right xs ys j c e)
+
+slice_get_index : (xs : List ℕ) (k c : ℕ) → slice_get xs k ≡ Some c → slice_index_or xs k 0 ≡ c
+slice_get_index [] k c e = cc
+slice_get_index (x ∷ xs) zero c e = cc
+slice_get_index (x ∷ xs) (suc k) c e = slice_get_index xs k c e
+
+listed_at : (ps : List Pattern) (k : ℕ) (p : Pattern) → slice_get ps k ≡ Some p → Contains ps p
+listed_at ps k p e = (k, slice_get_in ps k p e, read ps k e)
+  where
+    read : (qs : List Pattern) (i : ℕ) → slice_get qs i ≡ Some p → slice_index_or qs i p ≡ p
+    read [] i f = cc
+    read (q ∷ qs) zero f = cc
+    read (q ∷ qs) (suc i) f = read qs i f
+
+IsListAtMost_both : (xs ys : List ℕ) → IsListAtMost xs ys → IsListAtMost ys xs → xs ≡ ys
+IsListAtMost_both [] [] a b = refl
+IsListAtMost_both [] (y ∷ ys) a b = absurd b
+IsListAtMost_both (x ∷ xs) [] a b = absurd a
+IsListAtMost_both (x ∷ xs) (y ∷ ys) (inl h) (inl k) = absurd (omega arith)
+IsListAtMost_both (x ∷ xs) (y ∷ ys) (inl h) (inr (e, k)) = absurd (omega arith)
+IsListAtMost_both (x ∷ xs) (y ∷ ys) (inr (e, h)) (inl k) = absurd (omega arith)
+IsListAtMost_both (x ∷ xs) (y ∷ ys) (inr (e, h)) (inr (f, k)) = ap₂ (λ z zs. z ∷ zs) e (IsListAtMost_both xs ys h k)
+
+IsMatchAtMost_both : (m k : Match) → IsMatchAtMost m k → IsMatchAtMost k m → (m.pattern ≡ k.pattern) × (m.pins ≡ k.pins)
+IsMatchAtMost_both m k (inl h) (inl l) = absurd (omega arith)
+IsMatchAtMost_both m k (inl h) (inr (e, l)) = absurd (omega arith)
+IsMatchAtMost_both m k (inr (e, h)) (inl l) = absurd (omega arith)
+IsMatchAtMost_both m k (inr (e, h)) (inr (f, l)) = (e, IsListAtMost_both m.pins k.pins h l)
+
+module _ (g : Graph) (cost : Cost) (pats : List Pattern) (labels : Labels) (heights : ℕ → ℕ) where
+  -- the chosen match is one
+  pub IsChosen_once : (c : ℕ) (m k : Match) (p q : Pattern) → IsChosen g cost pats labels heights c m p → IsChosen g cost pats labels heights c k q → (m.pattern ≡ k.pattern) × (m.pins ≡ k.pins)
+  IsChosen_once c m k p q a b = IsMatchAtMost_both m k (a.first k q b.supports) (b.first m p a.supports)
+
+  module _ (gates : List ℕ) (n : Netlist) (sorted : (i j c d : ℕ) → slice_get gates i ≡ Some c → slice_get gates j ≡ Some d → i < j → IsGateBefore heights c d) (is : IsExtracted g cost pats labels heights gates n) where
+    -- a class that is lower than that of gate j has its net before that of gate j
+    lower_before : (i j c d : ℕ) → slice_get gates i ≡ Some c → slice_get gates j ≡ Some d → heights c < heights d → i < j
+    lower_before i j c d e f lt = by_order (dec_lt i j)
+      where
+        not_after : IsGateBefore heights d c → ⊥
+        not_after (inl h) = omega arith
+        not_after (inr (s, h)) = omega arith
+
+        by_order : Dec (i < j) → i < j
+        by_order (yes l) = l
+        by_order (no out) = by_place (dec_lt j i)
+          where
+            by_place : Dec (j < i) → i < j
+            by_place (yes l) = absurd (not_after (sorted j i d c f e l))
+            by_place (no out') =
+                let s : i ≡ j = omega arith in
+                let t : slice_get gates j ≡ Some c = ap (slice_get gates) (sym s) ∙ e in
+                let u : c ≡ d = cc in
+                let v : heights c ≡ heights d = ap heights u in
+                absurd (omega arith)
+
+    net_before : (j d q net : ℕ) → slice_get gates j ≡ Some d → heights q < heights d → IsNetOf g gates q net → net < n.inputs + j
+    net_before j d q net e lt is_net = by_case (slice_get_append g.leaves gates net q is_net)
+      where
+        by_case : (net < length g.leaves) ⊎ ((i : ℕ) × (slice_get gates i ≡ Some q) × (net ≡ length g.leaves + i)) → net < n.inputs + j
+        by_case (inl in') = let s = is.inputs in omega arith
+        by_case (inr (i, f, s)) = let l = lower_before i j q d f e lt in let t = is.inputs in omega arith
+
+    nets_before : (j d : ℕ) (qs nets : List ℕ) → slice_get gates j ≡ Some d → AllByRecursion (λ q. suc (heights q) ≤ heights d) qs → AllZip (λ q net. IsNetOf g gates q net) qs nets → AllByRecursion (λ p. p < n.inputs + j) nets
+    nets_before j d [] [] e a z = tt
+    nets_before j d [] (net ∷ nets) e a z = absurd z
+    nets_before j d (q ∷ qs) [] e a z = tt
+    nets_before j d (q ∷ qs) (net ∷ nets) e (lt, a) (is_net, z) =
+        (net_before j d q net e lt is_net, nets_before j d qs nets e a z)
+
+    -- gates stand behind the gates of their pins
+    pub extracted_ordered : AreOrdered n
+    extracted_ordered j gt at =
+        let (c, m, p, e, chosen, cell, nets) = is.chosen j gt at in
+        nets_before j c m.pins gt.pins e chosen.supports.lower nets
+
+    abbrev pub class_of_net : ℕ → ℕ
+    class_of_net net = slice_index_or (net_classes g gates) net 0
+
+    pins_of_nets : (qs nets : List ℕ) → AllZip (λ q net. IsNetOf g gates q net) qs nets → map class_of_net nets ≡ qs
+    pins_of_nets [] [] z = refl
+    pins_of_nets [] (net ∷ nets) z = absurd z
+    pins_of_nets (q ∷ qs) [] z = absurd z
+    pins_of_nets (q ∷ qs) (net ∷ nets) (e, z) =
+        ap₂ (λ p ps. p ∷ ps) (slice_get_index (net_classes g gates) net q e) (pins_of_nets qs nets z)
+
+    -- each gate is a match of its class with the classes of its pins
+    pub extracted_mapped : IsMapped g cost.pin_counts pats n class_of_net
+    extracted_mapped = record {
+      inputs = λ i in'.
+          let (c, e) = slice_get_some g.leaves i (subst (λ m. i < m) is.inputs in') in
+          e ∙ ap Some (sym (slice_get_index (net_classes g gates) i c (slice_get_left g.leaves gates i c e)));
+      gates = λ j gt at.
+          let (c, m, p, e, chosen, cell, nets) = is.chosen j gt at in
+          let t = chosen.supports.matches in
+          let s : slice_get (net_classes g gates) (n.inputs + j) ≡ Some c = subst (λ k. slice_get (net_classes g gates) (k + j) ≡ Some c) (sym is.inputs) (slice_get_right g.leaves gates j c e) in
+          let u = slice_get_index (net_classes g gates) (n.inputs + j) c s in
+          let v = pins_of_nets m.pins gt.pins nets in
+          record {
+            pattern = p;
+            listed = listed_at pats m.pattern p t.listed;
+            cell_is = sym cell;
+            pins = rw (cell, v) t.pins;
+            stands = rw (u, v) t.stands;
+          };
+    }
+
+-- the arrival of each net is the label of its class, where no label reaches the cap
+module _ (g : Graph) (delays : List (List ℕ)) (cap : ℕ) (pats : List Pattern) (labels : Labels) (heights : ℕ → ℕ) (gates : List ℕ) (n : Netlist) (sorted : (i j c d : ℕ) → slice_get gates i ≡ Some c → slice_get gates j ≡ Some d → i < j → IsGateBefore heights c d) (is : IsExtracted g (delay_cost delays cap) pats labels heights gates n) (arrivals : ℕ → ℕ) (are : AreNetArrivals delays n arrivals) (leaf_labels : (c i : ℕ) → slice_get g.leaves i ≡ Some c → labels c ≡ Some 0) (low : (c l : ℕ) → labels c ≡ Some l → l < cap) where
+  pin_arrivals : (qs nets ls : List ℕ) (m : ℕ) → AllZip (λ q net. IsNetOf g gates q net) qs nets → HaveLabels labels qs ls → AllByRecursion (λ p. p < m) nets → ((q net : ℕ) → IsNetOf g gates q net → net < m → labels q ≡ Some (arrivals net)) → ls ≡ map arrivals nets
+  pin_arrivals [] [] [] m z es a f = refl
+  pin_arrivals [] [] (l ∷ ls) m z es a f = absurd es
+  pin_arrivals [] (net ∷ nets) ls m z es a f = absurd z
+  pin_arrivals (q ∷ qs) [] ls m z es a f = absurd z
+  pin_arrivals (q ∷ qs) (net ∷ nets) [] m z es a f = absurd es
+  pin_arrivals (q ∷ qs) (net ∷ nets) (l ∷ ls) m (is_net, z) (e, es) (lt, a) f =
+      let h = f q net is_net lt in
+      let s : l ≡ arrivals net = cc in
+      ap₂ (λ x xs. x ∷ xs) s (pin_arrivals qs nets ls m z es a f)
+
+  gate_arrival : (j : ℕ) (gt : Gate) (c q : ℕ) → IsGate n j gt → slice_get gates j ≡ Some q → q ≡ c → ((q net : ℕ) → IsNetOf g gates q net → net < n.inputs + j → labels q ≡ Some (arrivals net)) → labels c ≡ Some (arrivals (n.inputs + j))
+  gate_arrival j gt c q at here same f =
+      let (d, m, p, e, chosen, cell, nets) = is.chosen j gt at in
+      let s = chosen.supports in
+      let before = extracted_ordered g (delay_cost delays cap) pats labels heights gates n sorted is j gt at in
+      let ls = pin_arrivals m.pins gt.pins s.pin_labels (n.inputs + j) nets s.have before f in
+      let t = latest (delays_of delays p.cell) s.pin_labels in
+      let room = low d (min cap t) s.value in
+      let v : min cap t ≡ t = omega arith in
+      let u : d ≡ c = cc in
+      let a : arrivals (n.inputs + j) ≡ t = are.gates j gt at ∙ ap₂ (λ k ts. latest (delays_of delays k) ts) cell (sym ls) in
+      ap labels (sym u) ∙ (s.value ∙ ap Some (v ∙ sym a))
+
+  input_arrival : (q net : ℕ) → net < length g.leaves → IsNetOf g gates q net → labels q ≡ Some (arrivals net)
+  input_arrival q net l is_net =
+      let (c, e) = slice_get_some g.leaves net l in
+      let f = slice_get_left g.leaves gates net c e in
+      let k = leaf_labels c net e in
+      let lt : net < n.inputs = subst (λ k. net < k) (sym is.inputs) l in
+      let z = are.inputs net lt in
+      let s : c ≡ q = cc in
+      ap labels (sym s) ∙ (k ∙ ap Some (sym z))
+
+  net_arrival_below : (m q net : ℕ) → net < m → IsNetOf g gates q net → net < n.inputs + length n.gates → labels q ≡ Some (arrivals net)
+  net_arrival_below zero q net lt is_net in' = absurd (omega arith)
+  net_arrival_below (suc m) q net lt is_net in' = by_case (net_arrival_below m) (slice_get_append g.leaves gates net q is_net)
+    where
+      by_case : ((r k : ℕ) → k < m → IsNetOf g gates r k → k < n.inputs + length n.gates → labels r ≡ Some (arrivals k)) → (net < length g.leaves) ⊎ ((i : ℕ) × (slice_get gates i ≡ Some q) × (net ≡ length g.leaves + i)) → labels q ≡ Some (arrivals net)
+      by_case below (inl l) = input_arrival q net l is_net
+      by_case below (inr (j, e, s)) =
+          let t = is.inputs in
+          let (gt, at) = slice_get_some n.gates j (omega arith) in
+          let h = gate_arrival j gt q q at e refl (λ r k is_k l. below r k (omega arith) is_k (omega arith)) in
+          let u : n.inputs + j ≡ net = omega arith in
+          subst (λ k. labels q ≡ Some (arrivals k)) u h
+
+  -- the arrival of a net is the label of its class
+  pub net_arrival : (q net : ℕ) → IsNetOf g gates q net → net < n.inputs + length n.gates → labels q ≡ Some (arrivals net)
+  net_arrival q net is_net in' = net_arrival_below (suc net) q net (omega arith) is_net in'

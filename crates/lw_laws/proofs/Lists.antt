@@ -1,0 +1,47 @@
+-- Elements of lists by place.
+use Rattle.std.proofs.Common.{ℕ, zero, suc, ◌<◌, ◌≡◌, List, [], ◌∷◌, ◌++◌, length, map, Contains, Some, slice_get, refl, ap, subst, arith}
+use Rattle.std.specs.List.{AllByRecursion}
+
+-- a place that holds something is in the list, and each place in the list holds something
+pub slice_get_in : {X : Type 0} (xs : List X) (i : ℕ) (x : X) → slice_get xs i ≡ Some x → i < length xs
+slice_get_in [] i x e = cc
+slice_get_in (y ∷ xs) zero x e = omega arith
+slice_get_in (y ∷ xs) (suc i) x e = let ih = slice_get_in xs i x e in omega arith
+
+pub slice_get_some : {X : Type 0} (xs : List X) (i : ℕ) → i < length xs → (x : X) × (slice_get xs i ≡ Some x)
+slice_get_some [] i lt = absurd (omega arith)
+slice_get_some (y ∷ xs) zero lt = (y, refl)
+slice_get_some (y ∷ xs) (suc i) lt = slice_get_some xs i (omega arith)
+
+-- what holds of each element, and of each element that a list contains
+pub all_contains : {X : Type 0} (P : X → Type 0) (xs : List X) (x : X) → AllByRecursion P xs → Contains xs x → P x
+all_contains P [] x a (k, lt, e) = absurd (omega arith)
+all_contains P (y ∷ xs) x (p, a) (zero, lt, e) = subst P e p
+all_contains P (y ∷ xs) x (p, a) (suc k, lt, e) = all_contains P xs x a (k, omega arith, e)
+
+pub contains_all : {X : Type 0} (P : X → Type 0) (xs : List X) → ((x : X) → Contains xs x → P x) → AllByRecursion P xs
+contains_all P [] f = tt
+contains_all P (x ∷ xs) f = (f x (0, omega arith, refl), contains_all P xs (λ y (k, lt, e). f y (suc k, omega arith, e)))
+
+pub all_append : {X : Type 0} (P : X → Type 0) (xs ys : List X) → AllByRecursion P xs → AllByRecursion P ys → AllByRecursion P (xs ++ ys)
+all_append P [] ys a b = b
+all_append P (x ∷ xs) ys (p, a) b = (p, all_append P xs ys a b)
+
+pub all_map : {X Y : Type 0} (Q : X → Type 0) (P : Y → Type 0) (f : X → Y) (xs : List X) → ((x : X) → Q x → P (f x)) → AllByRecursion Q xs → AllByRecursion P (map f xs)
+all_map Q P f [] h a = tt
+all_map Q P f (x ∷ xs) h (q, a) = (h x q, all_map Q P f xs h a)
+
+-- what a part of a list contains
+pub in_left : {X : Type 0} (xs ys : List X) (x : X) → Contains xs x → Contains (xs ++ ys) x
+in_left [] ys x (k, lt, e) = absurd (omega arith)
+in_left (z ∷ xs) ys x (zero, lt, e) = (0, omega arith, e)
+in_left (z ∷ xs) ys x (suc k, lt, e) = let (j, l, f) = in_left xs ys x (k, omega arith, e) in (suc j, omega arith, f)
+
+pub in_right : {X : Type 0} (xs ys : List X) (x : X) → Contains ys x → Contains (xs ++ ys) x
+in_right [] ys x c = c
+in_right (z ∷ xs) ys x c = let (j, l, f) = in_right xs ys x c in (suc j, omega arith, f)
+
+pub in_map : {X Y : Type 0} (h : X → Y) (xs : List X) (x : X) → Contains xs x → Contains (map h xs) (h x)
+in_map h [] x (k, lt, e) = absurd (omega arith)
+in_map h (z ∷ xs) x (zero, lt, e) = (0, omega arith, ap h e)
+in_map h (z ∷ xs) x (suc k, lt, e) = let (j, l, f) = in_map h xs x (k, omega arith, e) in (suc j, omega arith, f)

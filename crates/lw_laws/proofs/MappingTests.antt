@@ -1,0 +1,102 @@
+-- Least arrivals of small networks, by tests of a graph and labels, and a cover.
+use Rattle.std.proofs.Common.{ℕ, zero, suc, ◌+◌, ◌<◌, ◌≤◌, ◌^◌, ◌≡◌, Bool, true, ◌&&◌, ltb, List, inl, inr, ◌/◌, length, map, Option, Some, None, slice_get, sym, subst, arith}
+use Rattle.std.specs.List.{list_all}
+use Rattle.std.proofs.lemmas.Bool.Decides.{nat_tests}
+use native.Mathlib.Decide.{ℕ_discrete}
+use Rattle.lw_laws.specs.Modes.Mode.{plain}
+use Rattle.lw_laws.specs.Trees.{Tree, leaf, const_one, const_zero, inv, nand, HasLeaf}
+use Rattle.lw_laws.specs.Networks.{Network}
+use Rattle.lw_laws.specs.Graphs.{Graph}
+use Rattle.lw_laws.specs.Signals.{sop_at, signals_of}
+use Rattle.lw_laws.specs.Decompositions.{listing_of, HasTree}
+use Rattle.lw_laws.specs.Covers.{Pattern, ArePatterns, Cover, IsCover, tree_of, time_of}
+use Rattle.lw_laws.specs.Rounds.{labels_in}
+use Rattle.lw_laws.specs.NumberedForms.{family_of}
+use Rattle.lw_laws.specs.Delays.{delay_cost}
+use Rattle.lw_laws.specs.Mapped.{forms_of, root_class, IsLabelledOver}
+use Rattle.lw_laws.specs.Headline.{HasLeastArrival}
+use Rattle.lw_laws.proofs.Listed.{occurring_is_listing}
+use Rattle.lw_laws.proofs.Agreement.{numbered_are_forms}
+use Rattle.lw_laws.proofs.NumberedForms.{forms_are_family}
+use Rattle.lw_laws.proofs.Encoding.{pairs_in_one_class}
+use Rattle.lw_laws.proofs.Headline.{has_plain_trees}
+use Rattle.lw_laws.proofs.Together.{bounds_covers}
+use Rattle.lw_laws.proofs.Delays.{delay_cost_is, cost_of-time}
+use Rattle.lw_laws.proofs.Mapping.{sop_occurs}
+use Rattle.lw_laws.proofs.PatternLaws.{has_leaf, leaf_is}
+use Rattle.lw_laws.proofs.Facts.{and_true, all_true}
+use Rattle.lw_laws.proofs.EncodingTests.{Two, PassesTests, tests_encode}
+use Rattle.lw_laws.proofs.PotentialTests.{PassesLabelTests, tests_bound}
+
+-- a tree has the leaves below n, and no other leaf
+abbrev leaves_below : ℕ → Tree → Bool
+leaves_below n (leaf k) = ltb k n
+leaves_below n const_one = true
+leaves_below n const_zero = true
+leaves_below n (inv t) = leaves_below n t
+leaves_below n (nand t u) = leaves_below n t && leaves_below n u
+
+abbrev has_leaves : ℕ → Tree → Bool
+has_leaves zero t = true
+has_leaves (suc n) t = has_leaf n t && has_leaves n t
+
+below_true : (n : ℕ) (t : Tree) (k : ℕ) → leaves_below n t ≡ true → HasLeaf t k → k < n
+below_true n (leaf i) k e h = let lt = by_test i n e in omega arith
+  where
+    by_test : (a b : ℕ) → ltb a b ≡ true → a < b
+    by_test a b e = grind (arith, nat_tests)
+below_true n const_one k e h = absurd h
+below_true n const_zero k e h = absurd h
+below_true n (inv t) k e h = below_true n t k e h
+below_true n (nand t u) k e (inl h) = below_true n t k (and_true (leaves_below n t) (leaves_below n u) e).0 h
+below_true n (nand t u) k e (inr h) = below_true n u k (and_true (leaves_below n t) (leaves_below n u) e).1 h
+
+has_true : (n : ℕ) (t : Tree) (k : ℕ) → has_leaves n t ≡ true → k < n → HasLeaf t k
+has_true zero t k e lt = absurd (omega arith)
+has_true (suc n) t k e lt = by_place (ℕ_discrete k n) (and_true (has_leaf n t) (has_leaves n t) e) (λ r l. has_true n t k r l)
+  where
+    by_place : Dec (k ≡ n) → (has_leaf n t ≡ true) × (has_leaves n t ≡ true) → (has_leaves n t ≡ true → k < n → HasLeaf t k) → HasLeaf t k
+    by_place (yes s) p ih = subst (HasLeaf t) (sym s) ((leaf_is n t).0 p.0)
+    by_place (no out) p ih = ih p.1 (omega arith)
+
+abbrev fits_pins : Tree → Option ℕ → Bool
+fits_pins t None = true
+fits_pins t (Some n) = leaves_below n t && has_leaves n t
+
+abbrev pub patterns_fit : List ℕ → List Pattern → Bool
+patterns_fit pin_counts pats = list_all (λ p. fits_pins p.tree (slice_get pin_counts p.cell)) pats
+
+pub fitting_patterns : (pin_counts : List ℕ) (pats : List Pattern) → patterns_fit pin_counts pats ≡ true → ArePatterns pin_counts pats
+fitting_patterns pin_counts pats e p listed = record {
+  pins = λ n k has.
+      let here = subst (λ o. fits_pins p.tree o ≡ true) has (all_true (λ q. fits_pins q.tree (slice_get pin_counts q.cell)) pats p e listed) in
+      let (a, b) = and_true (leaves_below n p.tree) (has_leaves n p.tree) here in
+      (λ h. below_true n p.tree k a h, λ lt. has_true n p.tree k b lt);
+}
+
+-- The label of a net's root class is the least arrival, where some cover has it as its time.
+pub labelled_least : (width : ℕ) (net : Network) (g : Graph) (pats : List Pattern) (delays : List (List ℕ)) (cap : ℕ) (labels : List (Option ℕ)) → IsLabelledOver plain width net g pats delays cap labels → (s d : ℕ) → s < net.inputs + length net.nodes → labels_in labels (root_class width net g s) ≡ Some d → (k : Cover) → IsCover (map length delays) pats k → HasTree plain (listing_of width net) (sop_at (signals_of width net) s) (tree_of k) → time_of delays k ≡ d → HasLeastArrival plain width net pats delays s d
+labelled_least width net g pats delays cap labels over s d lt label k cover tree time = record {
+  attained = (k, cover, tree, time);
+  least = λ j is_cover has.
+      let o = listing_of width net in
+      let is = occurring_is_listing width over.wide net in
+      let f = sop_at (signals_of width net) s in
+      let occ = sop_occurs width over.wide net s lt in
+      let u = (has_plain_trees plain net.inputs o g is over.encodes f (tree_of j) occ).1 has in
+      let once = pairs_in_one_class (family_of plain (forms_of width net)) (λ h. h / 2) (forms_are_family plain (forms_of width net) (numbered_are_forms net.inputs o is)) g over.encodes in
+      let (l, e, le) = bounds_covers g pats (delay_cost delays cap) labels over.few once over.patterns (delay_cost_is delays cap) over.potential j (root_class width net g s) is_cover u in
+      let t = cost_of-time delays cap j in
+      let same : l ≡ d = cc in
+      omega arith;
+}
+
+-- A graph and labels that pass the tests.
+pub tested : (width : ℕ) → 2 ≤ width → (net : Network) (g : Graph) (merged : List Two) → PassesTests (forms_of width net) g merged → (pats : List Pattern) (delays : List (List ℕ)) (cap : ℕ) (labels : List (Option ℕ)) → PassesLabelTests labels g pats (delay_cost delays cap) → patterns_fit (map length delays) pats ≡ true → length g.leaves < 2 ^ 32 → IsLabelledOver plain width net g pats delays cap labels
+tested width wide net g merged passes pats delays cap labels bounded fits few = record {
+  wide = wide;
+  encodes = tests_encode (forms_of width net) g merged passes;
+  few = few;
+  patterns = fitting_patterns (map length delays) pats fits;
+  potential = tests_bound labels g pats (delay_cost delays cap) bounded;
+}

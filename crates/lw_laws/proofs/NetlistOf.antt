@@ -1,0 +1,148 @@
+-- The netlist that a network is mapped to is a mapping of it.
+use Rattle.std.proofs.Common.{ℕ, ◌+◌, ◌/◌, ◌<◌, ◌≤◌, ◌^◌, ◌≡◌, ◌↔◌, List, [], ◌∷◌, ◌++◌, length, map, Option, Some, None, slice_get, slice_index_or, refl, ap, ◌∙◌, subst, arith}
+use Rattle.std.specs.List.{AllZip, AllByRecursion}
+use Rattle.lw_laws.specs.Modes.{Mode}
+use Rattle.lw_laws.specs.Networks.{Network, IsInOrder}
+use Rattle.lw_laws.specs.Trees.{Tree}
+use Rattle.lw_laws.specs.Forms.{Form}
+use Rattle.lw_laws.specs.Signals.{sop_at, signals_of}
+use Rattle.lw_laws.specs.Decompositions.{listing_of, HasTree}
+use Rattle.lw_laws.specs.Graphs.{Graph, PairsInOneClass, Unfolds}
+use Rattle.lw_laws.specs.Costs.{Cost}
+use Rattle.lw_laws.specs.Covers.{Pattern, ArePatterns, tree_of}
+use Rattle.lw_laws.specs.Matches.{choices_of, IsLeastCover}
+use Rattle.lw_laws.specs.Choices.{Choices, Labels, HasCost, HaveCosts, IsLeast, HaveLabels, HasLabelAtMost, IsPotential}
+use Rattle.lw_laws.specs.Choices.HasCost.{by_wire, by_gate}
+use Rattle.lw_laws.specs.Choices.HaveCosts.{no_pins, pin}
+use Rattle.lw_laws.specs.Rounds.{labels_in}
+use Rattle.lw_laws.specs.Delays.{delay_cost}
+use Rattle.lw_laws.specs.NumberedForms.{family_of}
+use Rattle.lw_laws.specs.Encodings.{Encodes}
+use Rattle.lw_laws.specs.Netlists.{Netlist, CellTruth, HaveCellTruths, AreArrivals}
+use Rattle.lw_laws.specs.Extracts.{IsNetOf, class_at, net_classes}
+use Rattle.lw_laws.specs.Mapped.{forms_of, root_class, IsMappedOver, IsRootedAt}
+use Rattle.lw_laws.specs.Headline.{Port, Ports, IsMapping, HasLeastArrival, HasNoCover}
+use Rattle.lw_laws.specs.MappedNetlists.{root_classes, HasPorts, IsNetlistOf}
+use Rattle.lw_laws.proofs.NumberedForms.{forms_are_family}
+use Rattle.lw_laws.proofs.Encoding.{pairs_in_one_class}
+use Rattle.lw_laws.proofs.Agreement.{numbered_are_forms}
+use Rattle.lw_laws.proofs.Listed.{occurring_is_listing}
+use Rattle.lw_laws.proofs.Covering.{cover_costs, cost_covered}
+use Rattle.lw_laws.proofs.NetlistValues.{some_arrivals}
+use Rattle.lw_laws.proofs.ExtractLaws.{ordered_and_mapped, extracted_arrivals}
+use Rattle.lw_laws.proofs.Mapping.{rooted_mapping, sop_occurs}
+use Rattle.lw_laws.proofs.Headline.{has_plain_trees}
+use Rattle.lw_laws.proofs.Delays.{cost_of-time}
+use Rattle.lw_laws.proofs.Lists.{slice_get_in}
+
+-- the least costs over covers are those over matches
+least_match : (g : Graph) (pats : List Pattern) (cost : Cost) → PairsInOneClass g → ArePatterns cost.pin_counts pats → (c : ℕ) (o : Option ℕ) → IsLeastCover g pats cost c o → IsLeast (choices_of g cost.pin_counts pats) cost c o
+least_match g pats cost once patterns c (Some d) ((k, is, u, e), low) = (
+  subst (HasCost (choices_of g cost.pin_counts pats) cost c) e (cover_costs g once cost pats patterns k c is u),
+  λ e h. let w = cost_covered g cost pats h in subst (λ z. d ≤ z) w.costs (low w.by w.is_cover w.unfolds),
+)
+least_match g pats cost once patterns c None none = λ e h. let w = cost_covered g cost pats h in none w.by w.is_cover w.unfolds
+
+-- least costs are a potential
+module _ (M : Choices) (cost : Cost) (labels : Labels) (least : (c : ℕ) → IsLeast M cost c (labels c)) where
+  at_most : (c d : ℕ) (o : Option ℕ) → labels c ≡ o → IsLeast M cost c o → HasCost M cost c d → HasLabelAtMost labels c d
+  at_most c d None e is h = absurd (is d h)
+  at_most c d (Some l) e (has, low) h = (l, e, low d h)
+
+  cost_of_label : (c l : ℕ) (o : Option ℕ) → labels c ≡ o → IsLeast M cost c o → labels c ≡ Some l → HasCost M cost c l
+  cost_of_label c l None e is f = cc
+  cost_of_label c l (Some d) e (has, low) f = let same : d ≡ l = cc in subst (HasCost M cost c) same has
+
+  costs_of_labels : (ps ls : List ℕ) → HaveLabels labels ps ls → HaveCosts M cost ps ls
+  costs_of_labels [] [] a = no_pins
+  costs_of_labels [] (l ∷ ls) a = absurd a
+  costs_of_labels (p ∷ ps) [] a = absurd a
+  costs_of_labels (p ∷ ps) (l ∷ ls) (e, a) = pin (cost_of_label p l (labels p) refl (least p) e) (costs_of_labels ps ls a)
+
+  least_potential : IsPotential M cost labels
+  least_potential = record {
+    inputs = λ c i is. at_most c (cost.leaf i) (labels c) refl (least c) (by_wire is);
+    matches = λ c cell ps ls m a. at_most c (cost.value cell ls) (labels c) refl (least c) (by_gate m (costs_of_labels ps ls a));
+  }
+
+each : (R S : Port → Port → Type 0) → ((p q : Port) → R p q → S p q) → (ps qs : List Port) → AllZip R ps qs → AllZip S ps qs
+each R S f [] [] a = tt
+each R S f [] (q ∷ qs) a = absurd a
+each R S f (p ∷ ps) [] a = absurd a
+each R S f (p ∷ ps) (q ∷ qs) (r, a) = (f p q r, each R S f ps qs a)
+
+both : (P : Port → Type 0) (R : Port → Port → Type 0) (ps qs : List Port) → AllByRecursion P ps → AllZip R ps qs → AllZip (λ p q. P p × R p q) ps qs
+both P R [] [] a b = tt
+both P R [] (q ∷ qs) a b = absurd b
+both P R (p ∷ ps) [] a b = absurd b
+both P R (p ∷ ps) (q ∷ qs) (h, a) (r, b) = ((h, r), both P R ps qs a b)
+
+index_at : (xs : List ℕ) (k c : ℕ) → slice_get xs k ≡ Some c → slice_index_or xs k 0 ≡ c
+index_at [] k c e = cc
+index_at (x ∷ xs) ℕ.zero c e = cc
+index_at (x ∷ xs) (ℕ.suc k) c e = index_at xs k c e
+
+length_both : (xs ys : List ℕ) → length (xs ++ ys) ≡ length xs + length ys
+length_both [] ys = omega arith
+length_both (x ∷ xs) ys = let ih = length_both xs ys in omega arith
+
+-- the netlist that a network is mapped to has its ports and values, and the least arrivals
+pub netlist_maps : (mode : Mode) (width : ℕ) (net : Network) (ports : Ports) (pats : List Pattern) (delays : List (List ℕ)) (cap : ℕ) (truth : CellTruth) (n : Netlist) (names : List (List ℕ)) (mapped : Ports) → 2 ≤ width → IsInOrder net → net.inputs < 2 ^ 32 → HasPorts net ports → ArePatterns (map length delays) pats → HaveCellTruths (map length delays) truth pats → (is : IsNetlistOf mode width net ports pats delays cap n names mapped) → Encodes (family_of mode (forms_of width net)) is.graph → ((c l : ℕ) → labels_in is.labels c ≡ Some l → l < cap) → IsMapping mode width net ports pats delays truth n mapped
+netlist_maps mode width net ports pats delays cap truth n names mapped wide order few has patterns truths is encodes low =
+    let g = is.graph in
+    let cost = delay_cost delays cap in
+    let listing = occurring_is_listing width wide net in
+    let once = pairs_in_one_class (family_of mode (forms_of width net)) (λ h. h / 2) (forms_are_family mode (forms_of width net) (numbered_are_forms net.inputs (listing_of width net) listing)) g encodes in
+    let potential = least_potential (choices_of g (map length delays) pats) cost (labels_in is.labels) (λ c. least_match g pats cost once patterns c (labels_in is.labels c) (is.least c)) in
+    let leaves = is.is_graph.written.leaf_count in
+    let (ordered, gates_mapped) = ordered_and_mapped g cost pats (labels_in is.labels) is.heights (root_classes width net g ports.outputs) is.gates is.gate_classes n is.extracted in
+    let (ds, are) = some_arrivals n ordered delays in
+    let over : IsMappedOver mode width net g pats delays cap is.labels n (class_at g is.gates) = record {
+      labelled = record { wide = wide; encodes = encodes; few = omega arith; patterns = patterns; potential = potential };
+      ordered = ordered;
+      mapped = gates_mapped;
+    } in
+    rooted_mapping mode width net g pats delays cap is.labels n (class_at g is.gates) over order truth truths ds are ports mapped (record {
+      inputs = is.extracted.inputs ∙ leaves;
+      input_names = is.input_names;
+      outputs = each (λ p q. (p.net < net.inputs + length net.nodes) × ((p.name ≡ q.name) × IsNetOf g is.gates (root_class width net g p.net) q.net)) (λ p q. (p.name ≡ q.name) × IsRootedAt width net g is.labels n (class_at g is.gates) ds p.net q.net)
+          (λ p q r. (r.1.0, rooted p.net q.net ds are potential r.0 r.1.1)) ports.outputs mapped.outputs
+          (both (λ p. p.net < net.inputs + length net.nodes) (λ p q. (p.name ≡ q.name) × IsNetOf g is.gates (root_class width net g p.net) q.net) ports.outputs mapped.outputs has is.outputs);
+    })
+  where
+    zero_label : IsPotential (choices_of is.graph (map length delays) pats) (delay_cost delays cap) (labels_in is.labels) → (c i : ℕ) → slice_get is.graph.leaves i ≡ Some c → labels_in is.labels c ≡ Some 0
+    zero_label potential c i at = let (l, e, le) = potential.inputs c i at in let z : l ≡ 0 = omega arith in e ∙ ap Some z
+
+    rooted : (s k : ℕ) (ds : List ℕ) → AreArrivals delays n ds → IsPotential (choices_of is.graph (map length delays) pats) (delay_cost delays cap) (labels_in is.labels) → s < net.inputs + length net.nodes → IsNetOf is.graph is.gates (root_class width net is.graph s) k → IsRootedAt width net is.graph is.labels n (class_at is.graph is.gates) ds s k
+    rooted s k ds are potential lt at =
+        let here = index_at (net_classes is.graph is.gates) k (root_class width net is.graph s) at in
+        let a = is.extracted.inputs in
+        let b = is.extracted.one_each in
+        let c = length_both is.graph.leaves is.gates in
+        let d = slice_get_in (net_classes is.graph is.gates) k (root_class width net is.graph s) at in
+        record {
+          of_network = lt;
+          of_netlist = omega arith;
+          at_class = here;
+          at_label = ap (labels_in is.labels) here ∙ extracted_arrivals is.graph pats delays cap (labels_in is.labels) is.heights (root_classes width net is.graph ports.outputs) is.gates n ds is.gate_classes is.extracted are (zero_label potential) low (root_class width net is.graph s) k at;
+        }
+
+module _ (mode : Mode) (width : ℕ) (net : Network) (g : Graph) (pats : List Pattern) (delays : List (List ℕ)) (cap : ℕ) (wide : 2 ≤ width) (encodes : Encodes (family_of mode (forms_of width net)) g) (s : ℕ) (lt : s < net.inputs + length net.nodes) where
+  abbrev sop : Form
+  sop = sop_at (signals_of width net) s
+
+  root_trees : (t : Tree) → Unfolds g t (root_class width net g s) ↔ HasTree mode (listing_of width net) sop t
+  root_trees t = has_plain_trees mode net.inputs (listing_of width net) g (occurring_is_listing width wide net) encodes sop t (sop_occurs width wide net s lt)
+
+  -- the least cost at an output's class is its least arrival
+  pub root_least : (d : ℕ) → d < cap → IsLeastCover g pats (delay_cost delays cap) (root_class width net g s) (Some d) → HasLeastArrival mode width net pats delays s d
+  root_least d room ((k, is, u, e), low) =
+      let t = cost_of-time delays cap k in
+      record {
+        attained = (k, is, (root_trees (tree_of k)).0 u, omega arith);
+        least = λ j is_cover tree. let h = low j is_cover ((root_trees (tree_of j)).1 tree) in let q = cost_of-time delays cap j in omega arith;
+      }
+
+  -- where the class has no cover, the output has none
+  pub root_uncovered : IsLeastCover g pats (delay_cost delays cap) (root_class width net g s) None → HasNoCover mode width net pats delays s
+  root_uncovered none k is_cover tree = none k is_cover ((root_trees (tree_of k)).1 tree)

@@ -1,0 +1,48 @@
+-- What a mapping owes: the network's ports and values, and least arrivals.
+use Rattle.std.specs.Prelude.{ℕ, ◌≤◌, ◌≡◌, Bool, List, length, map, slice_get, slice_index_or}
+use Rattle.std.specs.List.{AllZip}
+use Rattle.lw_laws.specs.Modes.{Mode}
+use Rattle.lw_laws.specs.Networks.{Network, AreValues}
+use Rattle.lw_laws.specs.Forms.{Form}
+use Rattle.lw_laws.specs.Signals.{sop_at, signals_of}
+use Rattle.lw_laws.specs.Decompositions.{Listing, listing_of, HasTree}
+use Rattle.lw_laws.specs.Covers.{Pattern, Cover, tree_of, IsCover, time_of}
+use Rattle.lw_laws.specs.Netlists.{Netlist, AreOrdered, HaveCellPins, CellTruth, AreNetlistValues, AreArrivals}
+
+-- d is the least time of a cover of a tree that the form has
+pub record HasLeastTime (mode : Mode) (o : Listing) (pats : List Pattern) (delays : List (List ℕ)) (f : Form) (d : ℕ) : Type 0 where
+  pub attained : (k : Cover) × IsCover (map length delays) pats k × HasTree mode o f (tree_of k) × (time_of delays k ≡ d)
+  pub least : (k : Cover) → IsCover (map length delays) pats k → HasTree mode o f (tree_of k) → d ≤ time_of delays k
+
+-- no cover is of a tree that the form has
+abbrev pub IsUncovered : Mode → Listing → List Pattern → List (List ℕ) → Form → Type 0
+IsUncovered mode o pats delays f = (k : Cover) → IsCover (map length delays) pats k → HasTree mode o f (tree_of k) → ⊥
+
+-- Of all covers by the library of all trees that the laws derive for the net's sum of products, the fastest takes d.
+abbrev pub HasLeastArrival : Mode → ℕ → Network → List Pattern → List (List ℕ) → ℕ → ℕ → Type 0
+HasLeastArrival mode width net pats delays s d = HasLeastTime mode (listing_of width net) pats delays (sop_at (signals_of width net) s) d
+
+-- No cover by the library is of a tree that the laws derive for the net's sum of products.
+abbrev pub HasNoCover : Mode → ℕ → Network → List Pattern → List (List ℕ) → ℕ → Type 0
+HasNoCover mode width net pats delays s = IsUncovered mode (listing_of width net) pats delays (sop_at (signals_of width net) s)
+
+-- an output: its name, as bytes, and its net
+pub record Port : Type 0 where
+  pub name : List ℕ
+  pub net : ℕ
+
+-- the names of the inputs, and the outputs
+pub record Ports : Type 0 where
+  pub inputs : List (List ℕ)
+  pub outputs : List Port
+
+-- The mapped netlist is in order, its gates are cells of the library with a net for each pin, it has the network's ports,
+-- each output has the network's value for all values of the inputs, and each output's arrival is the least.
+pub record IsMapping (mode : Mode) (width : ℕ) (net : Network) (ports : Ports) (pats : List Pattern) (delays : List (List ℕ)) (truth : CellTruth) (n : Netlist) (mapped : Ports) : Type 0 where
+  pub ordered : AreOrdered n
+  pub cells : HaveCellPins (map length delays) n
+  pub inputs : n.inputs ≡ net.inputs
+  pub input_names : mapped.inputs ≡ ports.inputs
+  pub output_names : AllZip (λ p q. p.name ≡ q.name) ports.outputs mapped.outputs
+  pub values : (x : ℕ → Bool) (vs ws : List Bool) → AreValues net x vs → AreNetlistValues truth n x ws → AllZip (λ p q. slice_get vs p.net ≡ slice_get ws q.net) ports.outputs mapped.outputs
+  pub arrivals : (ds : List ℕ) → AreArrivals delays n ds → AllZip (λ p q. HasLeastArrival mode width net pats delays p.net (slice_index_or ds q.net 0)) ports.outputs mapped.outputs

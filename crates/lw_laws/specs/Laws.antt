@@ -1,0 +1,80 @@
+-- The statements of the laws.
+use Rattle.std.specs.Prelude.{ℕ, ◌<◌, ◌≤◌, ◌≡◌, ◌↔◌, ◌^◌, List, length, map, slice_get, Option, Some, Bool}
+use Rattle.std.specs.List.{AllByRecursion}
+use Rattle.lw_laws.specs.Modes.{Mode}
+use Rattle.lw_laws.specs.Trees.{Tree, tree_value}
+use Rattle.lw_laws.specs.Graphs.{Graph, PairsInOneClass, Unfolds, class_of}
+use Rattle.lw_laws.specs.Families.{Derives}
+use Rattle.lw_laws.specs.NumberedForms.{NumberedForms, family_of, NumberOccurs}
+use Rattle.lw_laws.specs.Costs.{Cost, IsCost, cost_of}
+use Rattle.lw_laws.specs.Choices.{HasLabelAtMost, IsAttained}
+use Rattle.lw_laws.specs.Covers.{Pattern, ArePatterns, Cover, tree_of, IsCover, time_of}
+use Rattle.lw_laws.specs.Matches.{choices_of}
+use Rattle.lw_laws.specs.Rounds.{labels_in}
+use Rattle.lw_laws.specs.Forms.{Form, form_value}
+use Rattle.lw_laws.specs.Decompositions.{Listing, Occurs, HasTree}
+use Rattle.lw_laws.specs.Numbering.{number}
+
+-- a tree unfolds at one class at most
+abbrev pub TreesUnfoldOnce : Graph → Type 0
+TreesUnfoldOnce g = (t : Tree) (c d : ℕ) → Unfolds g t c → Unfolds g t d → c ≡ d
+
+-- the trees of each form's class are those that the laws derive for the form
+abbrev pub HasNumberedTrees : Mode → NumberedForms → Graph → Type 0
+HasNumberedTrees mode forms g =
+    (f : ℕ) (t : Tree) → NumberOccurs forms f → Unfolds g t (class_of g f) ↔ Derives (family_of mode forms) f t
+
+-- each tree of a form's class has the form's truth value
+abbrev pub HasNumberedTruth : Mode → NumberedForms → Graph → (ℕ → Bool) → (ℕ → Bool) → Type 0
+HasNumberedTruth mode forms g x value =
+    (f : ℕ) (t : Tree) → NumberOccurs forms f → Unfolds g t (class_of g f) → tree_value x t ≡ value f
+
+-- each class at which a cover's tree unfolds is labelled, not above the cost of the cover
+abbrev pub BoundsCovers : Graph → List Pattern → Cost → List (Option ℕ) → Type 0
+BoundsCovers g pats cost labels =
+    (k : Cover) (c : ℕ) → IsCover cost.pin_counts pats k → Unfolds g (tree_of k) c → HasLabelAtMost (labels_in labels) c (cost_of cost k)
+
+-- the least time of a cover of a tree that the laws derive for the form
+pub record HasLeastNumberedTime (mode : Mode) (forms : NumberedForms) (pats : List Pattern) (delays : List (List ℕ)) (f d : ℕ) : Type 0 where
+  pub attained : (k : Cover) × IsCover (map length delays) pats k × Derives (family_of mode forms) f (tree_of k) × (time_of delays k ≡ d)
+  pub least : (k : Cover) → IsCover (map length delays) pats k → Derives (family_of mode forms) f (tree_of k) → d ≤ time_of delays k
+
+abbrev pub HasNoNumberedCover : Mode → NumberedForms → List Pattern → List (List ℕ) → ℕ → Type 0
+HasNoNumberedCover mode forms pats delays f =
+    (k : Cover) → IsCover (map length delays) pats k → Derives (family_of mode forms) f (tree_of k) → ⊥
+
+-- the trees of each form's class are those that the laws give the form
+abbrev pub HasTheTrees : Mode → Listing → Graph → Type 0
+HasTheTrees mode o g =
+    (f : Form) (t : Tree) → Occurs o f → Unfolds g t (class_of g (number o.bases f)) ↔ HasTree mode o f t
+
+-- each tree of a form has the form's truth value
+abbrev pub TreesHaveValue : Mode → Listing → (ℕ → Bool) → Type 0
+TreesHaveValue mode o x = (f : Form) (t : Tree) → Occurs o f → HasTree mode o f t → tree_value x t ≡ form_value x f
+
+-- two occurring forms are of one class exactly where they have a common tree
+abbrev pub ClassesAreSharedTrees : Mode → Listing → Graph → Type 0
+ClassesAreSharedTrees mode o g =
+    (f h : Form) → Occurs o f → Occurs o h → (class_of g (number o.bases f) ≡ class_of g (number o.bases h)) ↔ ((t : Tree) × HasTree mode o f t × HasTree mode o h t)
+
+-- each tree of a form's class has the form's truth value
+abbrev pub ClassesHaveValue : Listing → Graph → (ℕ → Bool) → Type 0
+ClassesHaveValue o g x = (f : Form) (t : Tree) → Occurs o f → Unfolds g t (class_of g (number o.bases f)) → tree_value x t ≡ form_value x f
+
+-- what covers are sought for: a graph with each pair in one class at most, patterns of cells, and a cost of these cells
+pub record IsCoverProblem (g : Graph) (pats : List Pattern) (cost : Cost) : Type 0 where
+  pub few : length g.leaves < 2 ^ 32
+  pub once : PairsInOneClass g
+  pub patterns : ArePatterns cost.pin_counts pats
+  pub cost_is : IsCost cost
+
+-- each label is the cost of a cover
+abbrev pub IsAttainedIn : Graph → List Pattern → Cost → List (Option ℕ) → Type 0
+IsAttainedIn g pats cost labels = IsAttained (choices_of g cost.pin_counts pats) cost (labels_in labels)
+
+-- an input's class has no other label than the cost of its leaf
+abbrev pub AreLeafLabels : Graph → Cost → List (Option ℕ) → Type 0
+AreLeafLabels g cost labels = (c i l : ℕ) → slice_get g.leaves i ≡ Some c → labels_in labels c ≡ Some l → l ≡ cost.leaf i
+
+abbrev pub AreDelaysUpTo : ℕ → List (List ℕ) → Type 0
+AreDelaysUpTo delay delays = AllByRecursion (AllByRecursion (λ d. d ≤ delay)) delays

@@ -1,0 +1,101 @@
+-- Netlists whose gates are matches over the classes of a graph.
+use Rattle.std.specs.Prelude.{ℕ, ◌+◌, ◌<◌, ◌≤◌, ◌≡◌, ◌^◌, Bool, List, length, map, Option, Some, slice_get, slice_index_or}
+use Rattle.std.specs.List.{AllZip}
+use Rattle.lw_laws.specs.Modes.{Mode}
+use Rattle.lw_laws.specs.Trees.{tree_value}
+use Rattle.lw_laws.specs.Graphs.{Graph, Unfolds, class_of}
+use Rattle.lw_laws.specs.NumberedForms.{NumberedForms, family_of, AreNumberedForms}
+use Rattle.lw_laws.specs.Encodings.{Encodes}
+use Rattle.lw_laws.specs.Covers.{Pattern, ArePatterns, Cover, IsCover, tree_of, time_of, latest, delays_of}
+use Rattle.lw_laws.specs.Matches.{IsMatchAt, choices_of}
+use Rattle.lw_laws.specs.Choices.{IsPotential}
+use Rattle.lw_laws.specs.Costs.{Cost}
+use Rattle.lw_laws.specs.Rounds.{labels_in}
+use Rattle.lw_laws.specs.Delays.{delay_cost}
+use Rattle.lw_laws.specs.Netlists.{Netlist, Gate, IsGate, AreOrdered, CellTruth, AreNetlistValues, AreArrivals, StandsFor}
+use Rattle.lw_laws.specs.Networks.{Network}
+use Rattle.lw_laws.specs.Decompositions.{listing_of}
+use Rattle.lw_laws.specs.Signals.{sop_at, signals_of}
+use Rattle.lw_laws.specs.Numbering.{number, numbered}
+use Rattle.lw_laws.specs.Occurring.{occurring_forms}
+use Rattle.lw_laws.specs.Headline.{Ports}
+
+-- each net has a class: that of its input, or one where a pattern of the gate's cell stands with the pins' classes
+pub record IsMapped (g : Graph) (pin_counts : List ℕ) (pats : List Pattern) (n : Netlist) (class : ℕ → ℕ) : Type 0 where
+  pub inputs : (i : ℕ) → i < n.inputs → slice_get g.leaves i ≡ Some (class i)
+  pub gates : (j : ℕ) (gt : Gate) → IsGate n j gt → IsMatchAt g pin_counts pats (class (n.inputs + j)) gt.cell (map class gt.pins)
+
+-- the labels are a potential of the graph's matches
+abbrev pub IsPotentialOf : Graph → List Pattern → Cost → List (Option ℕ) → Type 0
+IsPotentialOf g pats cost labels = IsPotential (choices_of g cost.pin_counts pats) cost (labels_in labels)
+
+-- values of nets as a function, right for the inputs' values x
+pub record AreNetValues (truth : CellTruth) (n : Netlist) (x values : ℕ → Bool) : Type 0 where
+  pub inputs : (i : ℕ) → i < n.inputs → values i ≡ x i
+  pub gates : (j : ℕ) (g : Gate) → IsGate n j g → values (n.inputs + j) ≡ truth g.cell (map values g.pins)
+
+-- arrivals of nets as a function
+pub record AreNetArrivals (delays : List (List ℕ)) (n : Netlist) (arrivals : ℕ → ℕ) : Type 0 where
+  pub inputs : (i : ℕ) → i < n.inputs → arrivals i ≡ 0
+  pub gates : (j : ℕ) (g : Gate) → IsGate n j g → arrivals (n.inputs + j) ≡ latest (delays_of delays g.cell) (map arrivals g.pins)
+
+-- what a mapped netlist with labels and classes is over an encoding
+pub record IsCertified (mode : Mode) (forms : NumberedForms) (g : Graph) (pats : List Pattern) (delays : List (List ℕ)) (cap : ℕ) (labels : List (Option ℕ)) (n : Netlist) (class arrivals : ℕ → ℕ) : Type 0 where
+  pub forms_are : AreNumberedForms forms
+  pub encodes : Encodes (family_of mode forms) g
+  pub few : length g.leaves < 2 ^ 32
+  pub patterns : ArePatterns (map length delays) pats
+  pub potential : IsPotentialOf g pats (delay_cost delays cap) labels
+  pub ordered : AreOrdered n
+  pub mapped : IsMapped g (map length delays) pats n class
+  pub arrivals_are : AreNetArrivals delays n arrivals
+
+-- the net is at the form's class, and its arrival is the class's label
+pub record IsOutput (g : Graph) (labels : List (Option ℕ)) (n : Netlist) (class arrivals : ℕ → ℕ) (net f : ℕ) : Type 0 where
+  pub in_range : net < n.inputs + length n.gates
+  pub at_class : class net ≡ class_of g f
+  pub at_label : labels_in labels (class net) ≡ Some (arrivals net)
+
+-- the numbers of the forms of a network
+abbrev pub forms_of : ℕ → Network → NumberedForms
+forms_of width net = numbered net.inputs (listing_of width net)
+
+-- the class of the sum of products of a net
+abbrev pub root_class : ℕ → Network → Graph → ℕ → ℕ
+root_class width net g s = class_of g (number (occurring_forms width net) (sop_at (signals_of width net) s))
+
+-- The graph encodes the network's forms, and the labels are a potential of its matches.
+pub record IsLabelledOver (mode : Mode) (width : ℕ) (net : Network) (g : Graph) (pats : List Pattern) (delays : List (List ℕ)) (cap : ℕ) (labels : List (Option ℕ)) : Type 0 where
+  pub wide : 2 ≤ width
+  pub encodes : Encodes (family_of mode (forms_of width net)) g
+  pub few : length g.leaves < 2 ^ 32
+  pub patterns : ArePatterns (map length delays) pats
+  pub potential : IsPotentialOf g pats (delay_cost delays cap) labels
+
+-- The netlist's gates are matches over such a graph.
+pub record IsMappedOver (mode : Mode) (width : ℕ) (net : Network) (g : Graph) (pats : List Pattern) (delays : List (List ℕ)) (cap : ℕ) (labels : List (Option ℕ)) (n : Netlist) (class : ℕ → ℕ) : Type 0 where
+  pub labelled : IsLabelledOver mode width net g pats delays cap labels
+  pub ordered : AreOrdered n
+  pub mapped : IsMapped g (map length delays) pats n class
+
+-- Net k of the netlist is at the class of net s of the network, and its arrival is the class's label.
+pub record IsRootedAt (width : ℕ) (net : Network) (g : Graph) (labels : List (Option ℕ)) (n : Netlist) (class : ℕ → ℕ) (arrivals : List ℕ) (s k : ℕ) : Type 0 where
+  pub of_network : s < net.inputs + length net.nodes
+  pub of_netlist : k < n.inputs + length n.gates
+  pub at_class : class k ≡ root_class width net g s
+  pub at_label : labels_in labels (class k) ≡ Some (slice_index_or arrivals k 0)
+
+-- The netlist has the network's ports, and each output's net is rooted at the network's net.
+pub record AreRooted (width : ℕ) (net : Network) (g : Graph) (labels : List (Option ℕ)) (n : Netlist) (class : ℕ → ℕ) (arrivals : List ℕ) (ports mapped : Ports) : Type 0 where
+  pub inputs : n.inputs ≡ net.inputs
+  pub input_names : mapped.inputs ≡ ports.inputs
+  pub outputs : AllZip (λ p q. (p.name ≡ q.name) × IsRootedAt width net g labels n class arrivals p.net q.net) ports.outputs mapped.outputs
+
+-- The net stands for a cover of a tree that unfolds at its class, has the tree's value, and arrives at the cover's time.
+pub record IsCoverAt (g : Graph) (pats : List Pattern) (delays : List (List ℕ)) (truth : CellTruth) (n : Netlist) (class : ℕ → ℕ) (net : ℕ) : Type 0 where
+  pub by : Cover
+  pub is_cover : IsCover (map length delays) pats by
+  pub stands : StandsFor n by net
+  pub unfolds : Unfolds g (tree_of by) (class net)
+  pub value : (x : ℕ → Bool) (values : List Bool) → AreNetlistValues truth n x values → slice_get values net ≡ Some (tree_value x (tree_of by))
+  pub arrival : (arrivals : List ℕ) → AreArrivals delays n arrivals → slice_get arrivals net ≡ Some (time_of delays by)

@@ -1,0 +1,6 @@
+-- Which laws of decomposition hold.
+
+-- the six laws, or with them the overlap law and the tied-inverter law
+pub data Mode : Type 0 where
+  plain : Mode
+  idempotent : Mode

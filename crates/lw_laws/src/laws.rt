@@ -1,0 +1,341 @@
+//! Laws over definitions: functions with empty bodies, whose clauses are the laws.
+ghost use Rattle.lw_laws.specs.Cells.{AreCells};
+ghost use Rattle.lw_laws.specs.Choices.{AreHeights, IsHeight};
+ghost use Rattle.lw_laws.specs.Classes.{IsGraphOf};
+ghost use Rattle.lw_laws.specs.Costs.{Cost, IsCost, cost_of};
+ghost use Rattle.lw_laws.specs.Covers.{ArePatterns, Cover, Pattern, time_of};
+ghost use Rattle.lw_laws.specs.Decompositions.{Listing, listing_of};
+ghost use Rattle.lw_laws.specs.Delays.{delay_cost};
+ghost use Rattle.lw_laws.specs.Drafts.{Draft, HaveSameFacts, IsReduced, facts_of};
+ghost use Rattle.lw_laws.specs.Encodings.{Encodes};
+ghost use Rattle.lw_laws.specs.Expressions.{Expr, MentionsPin, expr_value};
+ghost use Rattle.lw_laws.specs.Extracts.{AreDistinctLeaves, AreGateClasses, IsChosen, IsExtracted, IsNetOf, Match, class_at};
+ghost use Rattle.lw_laws.specs.Forms.{Form, conjunction, form_value, has_clash, joined, kept};
+ghost use Rattle.lw_laws.specs.Graphs.{Graph, IsWritten, PairsInOneClass};
+ghost use Rattle.lw_laws.specs.Headline.{HasLeastArrival, HasNoCover, IsMapping, Ports};
+ghost use Rattle.lw_laws.specs.Laws.{AreDelaysUpTo, AreLeafLabels, BoundsCovers, ClassesAreSharedTrees, ClassesHaveValue, HasNumberedTrees, HasNumberedTruth, HasTheTrees, IsAttainedIn, IsCoverProblem, TreesHaveValue, TreesUnfoldOnce};
+ghost use Rattle.lw_laws.specs.Listings.{IsListing};
+ghost use Rattle.lw_laws.specs.Mapped.{AreRooted, IsCoverAt, IsLabelledOver, IsMapped, IsMappedOver, IsPotentialOf, IsRootedAt, forms_of, root_class};
+ghost use Rattle.lw_laws.specs.MappedNetlists.{HasPorts, IsNetlistOf};
+ghost use Rattle.lw_laws.specs.Matches.{IsLeastCover, choices_of};
+ghost use Rattle.lw_laws.specs.Modes.{Mode};
+ghost use Rattle.lw_laws.specs.Names.{AreDifferent, AreNameable, net_names};
+ghost use Rattle.lw_laws.specs.Netlists.{AreArrivals, AreNetlistValues, AreOrdered, CellTruth, HaveCellTruths, Netlist};
+ghost use Rattle.lw_laws.specs.Networks.{AreDepths, AreValues, IsInOrder, Network};
+ghost use Rattle.lw_laws.specs.NumberedForms.{AreNumberedForms, NumberedForms, family_of};
+ghost use Rattle.lw_laws.specs.NumberedValues.{AreNumberedValues};
+ghost use Rattle.lw_laws.specs.Numbering.{HasSameTrees, numbered};
+ghost use Rattle.lw_laws.specs.Occurring.{HasInputsFirst, occurring_forms, part, sublists};
+ghost use Rattle.lw_laws.specs.Patterns.{patterns_of, trees_of_expr};
+ghost use Rattle.lw_laws.specs.Rounds.{labels_in};
+ghost use Rattle.lw_laws.specs.SignalValues.{SignalsAgree, number_value};
+ghost use Rattle.lw_laws.specs.Signals.{factored, factored_by, shared_literal, signals_of};
+ghost use Rattle.lw_laws.specs.Trees.{HasLeaf, Tree, tree_value};
+ghost use Rattle.lw_laws.specs.Truth.{IsValuation};
+ghost use Rattle.std.specs.Prelude.{◌++◌, ◌≡◌, ◌≤◌, ◌↔◌, ◌<◌, ◌^◌, ◌+◌, ◌*◌, ℕ, List, Option, Bool, Some, None, map, length, slice_get, slice_index_or, Contains, min};
+
+// Networks
+
+/// A network in order has a right assignment of values for all values of its inputs.
+pub fn some_assignment_is_right()
+    ensures { (net : Network) → IsInOrder net → (x : ℕ → Bool) → (values : List Bool) × AreValues net x values }
+{}
+
+/// A network in order has no second right assignment.
+pub fn right_assignments_are_one()
+    ensures { (net : Network) → IsInOrder net → (x : ℕ → Bool) (values others : List Bool) → AreValues net x values → AreValues net x others → values ≡ others }
+{}
+
+/// A network in order has depths.
+pub fn some_depths_are_right()
+    ensures { (net : Network) → IsInOrder net → (depths : List ℕ) × AreDepths net depths }
+{}
+
+/// A network in order has no second list of depths.
+pub fn depths_are_one()
+    ensures { (net : Network) → IsInOrder net → (depths others : List ℕ) → AreDepths net depths → AreDepths net others → depths ≡ others }
+{}
+
+// Forms
+
+/// The sum of products of each net has the net's value.
+pub fn sums_of_products_have_the_values()
+    ensures { (net : Network) → IsInOrder net → (x : ℕ → Bool) (width : ℕ) (values : List Bool) → AreValues net x values → map (λ s. form_value x s.sop) (signals_of width net) ≡ values }
+{}
+
+/// The sum of products and the factored form of each net have one value.
+pub fn factored_forms_have_the_values()
+    ensures { (width : ℕ) (net : Network) (x : ℕ → Bool) → SignalsAgree (signals_of width net) x }
+{}
+
+/// The And of some forms in terms of Ands alone: the bound on the depth does not matter.
+pub fn conjunction_in_steps()
+    ensures { (width : ℕ) (fs : List Form) → 2 ≤ width → conjunction width fs ≡ joined (conjunction width) width (kept fs) (has_clash (kept fs)) }
+{}
+
+/// The factored form in terms of factored forms alone: the bound on the depth does not matter.
+pub fn factored_in_steps()
+    ensures { (width : ℕ) (fs : List Form) (rows : List (List (Option Bool))) → factored width fs rows ≡ factored_by (factored width fs) width fs rows (shared_literal (length fs) rows) }
+{}
+
+/// The sub-list at place m of the sub-lists is the one whose mask is m.
+pub fn sublists_stand_by_mask()
+    ensures { (fs : List Form) (mask : ℕ) → mask < 2 ^ length fs → slice_get (sublists fs) mask ≡ Some (part fs mask) }
+{}
+
+/// The occurring forms of a network are base forms, each once, with each And's operands and shorter parts before it.
+pub fn occurring_forms_are_listed()
+    ensures { (width : ℕ) (net : Network) → 2 ≤ width → IsListing (listing_of width net) }
+{}
+
+/// True is listed first, then the inputs in order, and no other input.
+pub fn true_and_inputs_come_first()
+    ensures { (width : ℕ) (net : Network) → 2 ≤ width → HasInputsFirst net.inputs (occurring_forms width net) }
+{}
+
+/// Each tree of an occurring form of a network has the form's value.
+pub fn trees_have_the_value()
+    ensures { (mode : Mode) (width : ℕ) (net : Network) (x : ℕ → Bool) → 2 ≤ width → TreesHaveValue mode (listing_of width net) x }
+{}
+
+// Numbers of forms
+
+/// The laws over numbers derive for each occurring form the trees that the laws over plain forms give it.
+pub fn numbers_have_the_same_trees()
+    ensures { (mode : Mode) (inputs : ℕ) (o : Listing) → IsListing o → HasSameTrees mode inputs o }
+{}
+
+/// The numbered forms of a listing have each And's operands and parts listed before it.
+pub fn numbered_forms_are_forms()
+    ensures { (inputs : ℕ) (o : Listing) → IsListing o → AreNumberedForms (numbered inputs o) }
+{}
+
+/// The numbers of forms have the values of the forms.
+pub fn numbers_have_the_values()
+    ensures { (inputs : ℕ) (o : Listing) (x : ℕ → Bool) → IsListing o → SignalsAgree o.signals x → AreNumberedValues (numbered inputs o) x (number_value o x) }
+{}
+
+// Graphs of classes
+
+/// In a graph with each unordered pair in one class at most, a tree unfolds at one class at most.
+pub fn tree_unfolds_once()
+    ensures { (g : Graph) → PairsInOneClass g → TreesUnfoldOnce g }
+{}
+
+/// In an encoding each unordered pair stands in one class at most.
+pub fn encodings_hold_pairs_once()
+    ensures { (mode : Mode) (forms : NumberedForms) (g : Graph) → AreNumberedForms forms → Encodes (family_of mode forms) g → PairsInOneClass g }
+{}
+
+/// The trees of the classes of an encoding are those that the laws over numbers derive.
+pub fn classes_have_the_numbered_trees()
+    ensures { (mode : Mode) (forms : NumberedForms) (g : Graph) → AreNumberedForms forms → Encodes (family_of mode forms) g → HasNumberedTrees mode forms g }
+{}
+
+/// The trees of the classes of an encoding are those that the laws give the forms.
+pub fn classes_have_the_trees()
+    ensures { (mode : Mode) (inputs : ℕ) (o : Listing) (g : Graph) → IsListing o → Encodes (family_of mode (numbered inputs o)) g → HasTheTrees mode o g }
+{}
+
+/// Two occurring forms are of one class of an encoding exactly where they have a common tree.
+pub fn classes_are_shared_trees()
+    ensures { (mode : Mode) (inputs : ℕ) (o : Listing) (g : Graph) → IsListing o → Encodes (family_of mode (numbered inputs o)) g → ClassesAreSharedTrees mode o g }
+{}
+
+/// All trees of a numbered form's class have the form's truth value.
+pub fn classes_have_numbered_truth()
+    ensures { (mode : Mode) (forms : NumberedForms) (g : Graph) (x value : ℕ → Bool) → AreNumberedForms forms → Encodes (family_of mode forms) g → IsValuation (family_of mode forms) x value → HasNumberedTruth mode forms g x value }
+{}
+
+/// All trees of the class of a form of a network have one truth value, the form's.
+pub fn classes_have_the_value()
+    ensures { (mode : Mode) (width : ℕ) (net : Network) (g : Graph) (x : ℕ → Bool) → 2 ≤ width → Encodes (family_of mode (forms_of width net)) g → ClassesHaveValue (listing_of width net) g x }
+{}
+
+/// A graph that encodes the forms of a network, numbered by their first base forms, is the graph of the forms.
+pub fn encodings_are_the_graph()
+    ensures { (mode : Mode) (width : ℕ) (net : Network) (g : Graph) → 2 ≤ width → Encodes (family_of mode (forms_of width net)) g → IsWritten (length (occurring_forms width net)) net.inputs g → IsGraphOf mode net.inputs (listing_of width net) g }
+{}
+
+/// The graph of the listed forms is one.
+pub fn graphs_are_one()
+    ensures { (mode : Mode) (inputs : ℕ) (o : Listing) → IsListing o → (g h : Graph) → IsGraphOf mode inputs o g → IsGraphOf mode inputs o h → g ≡ h }
+{}
+
+/// A graph that encodes the facts of a draft encodes every family of the same facts.
+pub fn same_facts_have_one_encoding()
+    ensures { (mode : Mode) (forms : NumberedForms) (d : Draft) (g : Graph) → HaveSameFacts (family_of mode forms) (facts_of d) → IsReduced d g → Encodes (family_of mode forms) g }
+{}
+
+// Patterns
+
+/// Each tree of an expression has its value.
+pub fn patterns_have_the_function()
+    ensures { (y : ℕ → Bool) (e : Expr) (t : Tree) → Contains (trees_of_expr e) t → tree_value y t ≡ expr_value y e }
+{}
+
+/// Each tree of an expression has the pins that the expression mentions as leaves, and no other leaf.
+pub fn patterns_have_the_pins()
+    ensures { (k : ℕ) (e : Expr) (t : Tree) → Contains (trees_of_expr e) t → HasLeaf t k ↔ MentionsPin e k }
+{}
+
+/// The patterns of a library have a leaf for each pin of their cells.
+pub fn library_patterns_are_patterns()
+    ensures { (pin_counts : List ℕ) (truth : CellTruth) (cells : List (List Expr)) → AreCells pin_counts truth cells → ArePatterns pin_counts (patterns_of cells) }
+{}
+
+/// The patterns of a library have the truth of their cells.
+pub fn library_patterns_have_the_truth()
+    ensures { (pin_counts : List ℕ) (truth : CellTruth) (cells : List (List Expr)) → AreCells pin_counts truth cells → HaveCellTruths pin_counts truth (patterns_of cells) }
+{}
+
+// Covers and labels
+
+/// The time of a cell, cut at the cap, is a cost.
+pub fn delay_costs_are_costs()
+    ensures { (delays : List (List ℕ)) (cap : ℕ) → IsCost (delay_cost delays cap) }
+{}
+
+/// The cost of a cover that the delays give is its time, cut at the cap.
+pub fn costs_are_times()
+    ensures { (delays : List (List ℕ)) (cap : ℕ) (k : Cover) → cost_of (delay_cost delays cap) k ≡ min cap (time_of delays k) }
+{}
+
+/// A potential bounds every cover.
+pub fn potential_bounds_covers()
+    ensures { (g : Graph) (pats : List Pattern) (cost : Cost) (labels : List (Option ℕ)) → IsCoverProblem g pats cost → IsPotentialOf g pats cost labels → BoundsCovers g pats cost labels }
+{}
+
+/// A potential whose labels are costs of covers has the least costs, and no label exactly where there is no cover.
+pub fn labels_are_least_covers()
+    ensures { (g : Graph) (pats : List Pattern) (cost : Cost) (labels : List (Option ℕ)) → IsCoverProblem g pats cost → IsPotentialOf g pats cost labels → IsAttainedIn g pats cost labels → (c : ℕ) → IsLeastCover g pats cost c (labels_in labels c) }
+{}
+
+/// Two lists of labels that are potentials of costs of covers are one.
+pub fn labels_are_one()
+    ensures { (g : Graph) (pats : List Pattern) (cost : Cost) (rounds settled : List (Option ℕ)) → IsCoverProblem g pats cost → IsPotentialOf g pats cost rounds → IsAttainedIn g pats cost rounds → IsPotentialOf g pats cost settled → IsAttainedIn g pats cost settled → (c : ℕ) → labels_in rounds c ≡ labels_in settled c }
+{}
+
+/// Each labelled class has a height, where the labels are the least costs.
+pub fn labelled_classes_have_heights()
+    ensures { (g : Graph) (pats : List Pattern) (cost : Cost) (labels : List (Option ℕ)) → IsCoverProblem g pats cost → IsPotentialOf g pats cost labels → IsAttainedIn g pats cost labels → (c l : ℕ) → labels_in labels c ≡ Some l → (h : ℕ) × IsHeight (choices_of g cost.pin_counts pats) cost (labels_in labels) c h }
+{}
+
+/// Numbers that are 0 at inputs and elsewhere 1 more than the least greatest of an attaining match are the heights.
+pub fn heights_are_found_locally()
+    ensures { (g : Graph) (pats : List Pattern) (cost : Cost) (labels : List (Option ℕ)) (heights : ℕ → ℕ) → AreHeights (choices_of g cost.pin_counts pats) cost (labels_in labels) heights → (c l : ℕ) → labels_in labels c ≡ Some l → IsHeight (choices_of g cost.pin_counts pats) cost (labels_in labels) c (heights c) }
+{}
+
+/// Covers along heights end, and cost what the labels say.
+pub fn covers_along_heights_attain()
+    ensures { (g : Graph) (pats : List Pattern) (cost : Cost) (labels : List (Option ℕ)) (heights : ℕ → ℕ) → AreHeights (choices_of g cost.pin_counts pats) cost (labels_in labels) heights → AreLeafLabels g cost labels → IsAttainedIn g pats cost labels }
+{}
+
+/// The labelled classes have heights that a local test finds, where the labels are the least costs.
+pub fn some_heights_are_found()
+    ensures { (g : Graph) (pats : List Pattern) (cost : Cost) (labels : List (Option ℕ)) → IsCoverProblem g pats cost → IsPotentialOf g pats cost labels → IsAttainedIn g pats cost labels → (heights : ℕ → ℕ) × AreHeights (choices_of g cost.pin_counts pats) cost (labels_in labels) heights }
+{}
+
+/// Labels of times stay below the number of classes times the largest delay.
+pub fn labels_stay_low()
+    ensures { (g : Graph) (pats : List Pattern) (delays : List (List ℕ)) (cap : ℕ) (labels : List (Option ℕ)) (delay : ℕ) → IsCoverProblem g pats (delay_cost delays cap) → IsPotentialOf g pats (delay_cost delays cap) labels → IsAttainedIn g pats (delay_cost delays cap) labels → AreDelaysUpTo delay delays → 0 < delay → (c l : ℕ) → labels_in labels c ≡ Some l → l < length labels * delay }
+{}
+
+// Netlists
+
+/// A netlist in order has a right assignment of values for all values of its inputs.
+pub fn some_netlist_values_are_right()
+    ensures { (n : Netlist) → AreOrdered n → (truth : CellTruth) (x : ℕ → Bool) → (values : List Bool) × AreNetlistValues truth n x values }
+{}
+
+/// A netlist in order has no second right assignment.
+pub fn netlist_values_are_one()
+    ensures { (n : Netlist) → AreOrdered n → (truth : CellTruth) (x : ℕ → Bool) (values others : List Bool) → AreNetlistValues truth n x values → AreNetlistValues truth n x others → values ≡ others }
+{}
+
+/// A netlist in order has arrivals.
+pub fn some_arrivals_are_right()
+    ensures { (n : Netlist) → AreOrdered n → (delays : List (List ℕ)) → (arrivals : List ℕ) × AreArrivals delays n arrivals }
+{}
+
+/// A netlist in order has no second list of arrivals.
+pub fn arrivals_are_one()
+    ensures { (n : Netlist) → AreOrdered n → (delays : List (List ℕ)) (arrivals others : List ℕ) → AreArrivals delays n arrivals → AreArrivals delays n others → arrivals ≡ others }
+{}
+
+/// A net of a netlist whose gates are matches stands for a cover of its class, has the value of the cover's tree, and arrives at the cover's time.
+pub fn mapped_nets_stand_for_covers()
+    ensures { (g : Graph) (pats : List Pattern) (delays : List (List ℕ)) (truth : CellTruth) (n : Netlist) (class : ℕ → ℕ) → ArePatterns (map length delays) pats → HaveCellTruths (map length delays) truth pats → AreOrdered n → IsMapped g (map length delays) pats n class → (net : ℕ) → net < n.inputs + length n.gates → IsCoverAt g pats delays truth n class net }
+{}
+
+/// The chosen match of a class is one.
+pub fn chosen_matches_are_one()
+    ensures { (g : Graph) (cost : Cost) (pats : List Pattern) (labels : ℕ → Option ℕ) (heights : ℕ → ℕ) (c : ℕ) (m k : Match) (p q : Pattern) → IsChosen g cost pats labels heights c m p → IsChosen g cost pats labels heights c k q → m ≡ k }
+{}
+
+/// The list of the classes with a gate is one.
+pub fn gate_classes_are_one()
+    ensures { (g : Graph) (cost : Cost) (pats : List Pattern) (labels : ℕ → Option ℕ) (heights : ℕ → ℕ) (roots gates others : List ℕ) → AreGateClasses g cost pats labels heights roots gates → AreGateClasses g cost pats labels heights roots others → gates ≡ others }
+{}
+
+/// The netlist of the chosen matches is one, where the inputs' classes differ.
+pub fn extracted_netlists_are_one()
+    ensures { (g : Graph) (cost : Cost) (pats : List Pattern) (labels : ℕ → Option ℕ) (heights : ℕ → ℕ) (roots gates : List ℕ) → AreGateClasses g cost pats labels heights roots gates → AreDistinctLeaves g → (n m : Netlist) → IsExtracted g cost pats labels heights gates n → IsExtracted g cost pats labels heights gates m → n ≡ m }
+{}
+
+/// The netlist of the chosen matches is in order, and each gate is a match of its class with the classes of its pins.
+pub fn extracted_netlists_are_mapped()
+    ensures { (g : Graph) (cost : Cost) (pats : List Pattern) (labels : ℕ → Option ℕ) (heights : ℕ → ℕ) (roots gates : List ℕ) → AreGateClasses g cost pats labels heights roots gates → (n : Netlist) → IsExtracted g cost pats labels heights gates n → AreOrdered n × IsMapped g cost.pin_counts pats n (class_at g gates) }
+{}
+
+/// Each net of the netlist of the chosen matches arrives at the label of its class, where no label reaches the cap.
+pub fn extracted_arrivals_are_labels()
+    ensures { (g : Graph) (pats : List Pattern) (delays : List (List ℕ)) (cap : ℕ) (labels : ℕ → Option ℕ) (heights : ℕ → ℕ) (roots gates : List ℕ) (n : Netlist) (arrivals : List ℕ) → AreGateClasses g (delay_cost delays cap) pats labels heights roots gates → IsExtracted g (delay_cost delays cap) pats labels heights gates n → AreArrivals delays n arrivals → ((c i : ℕ) → slice_get g.leaves i ≡ Some c → labels c ≡ Some 0) → ((c l : ℕ) → labels c ≡ Some l → l < cap) → (c net : ℕ) → IsNetOf g gates c net → labels c ≡ Some (slice_index_or arrivals net 0) }
+{}
+
+/// The names of the nets of a mapped netlist differ.
+pub fn net_names_differ()
+    ensures { (inputs outputs : List (List ℕ)) (leaves roots gates : List ℕ) → AreNameable inputs outputs leaves roots gates → AreDifferent (net_names inputs outputs roots gates) }
+{}
+
+/// A net with an output's name is at the output's class.
+pub fn outputs_own_their_names()
+    ensures { (inputs outputs : List (List ℕ)) (leaves roots gates : List ℕ) → AreNameable inputs outputs leaves roots gates → length leaves ≡ length inputs → (j k : ℕ) (name : List ℕ) → slice_get (net_names inputs outputs roots gates) j ≡ Some name → slice_get outputs k ≡ Some name → slice_get (leaves ++ gates) j ≡ slice_get roots k }
+{}
+
+// The headline
+
+/// The arrival of an output of a mapped netlist is the least time of a library cover of a tree that the laws derive for it.
+pub fn mapped_outputs_are_least()
+    ensures { (mode : Mode) (width : ℕ) (net : Network) (g : Graph) (pats : List Pattern) (delays : List (List ℕ)) (cap : ℕ) (labels : List (Option ℕ)) (n : Netlist) (class : ℕ → ℕ) (arrivals : List ℕ) → IsMappedOver mode width net g pats delays cap labels n class → AreArrivals delays n arrivals → (s k : ℕ) → IsRootedAt width net g labels n class arrivals s k → HasLeastArrival mode width net pats delays s (slice_index_or arrivals k 0) }
+{}
+
+/// An output of a mapped netlist has the network's value for all values of the inputs.
+pub fn mapped_outputs_have_values()
+    ensures { (mode : Mode) (width : ℕ) (net : Network) (g : Graph) (pats : List Pattern) (delays : List (List ℕ)) (cap : ℕ) (labels : List (Option ℕ)) (n : Netlist) (class : ℕ → ℕ) (arrivals : List ℕ) (truth : CellTruth) → IsInOrder net → IsMappedOver mode width net g pats delays cap labels n class → HaveCellTruths (map length delays) truth pats → AreArrivals delays n arrivals → (x : ℕ → Bool) (values mapped : List Bool) → AreValues net x values → AreNetlistValues truth n x mapped → (s k : ℕ) → IsRootedAt width net g labels n class arrivals s k → slice_get values s ≡ slice_get mapped k }
+{}
+
+/// Where the class of an output's sum of products has no label, no cover is of a tree that the laws derive for it.
+pub fn unlabelled_outputs_have_no_cover()
+    ensures { (mode : Mode) (width : ℕ) (net : Network) (g : Graph) (pats : List Pattern) (delays : List (List ℕ)) (cap : ℕ) (labels : List (Option ℕ)) → IsLabelledOver mode width net g pats delays cap labels → (s : ℕ) → s < net.inputs + length net.nodes → labels_in labels (root_class width net g s) ≡ None → HasNoCover mode width net pats delays s }
+{}
+
+/// A netlist whose gates are matches, with each output at the class of the network's output and arriving at its label, is a mapping: it computes the network's outputs, each at the least time.
+pub fn rooted_netlists_are_mappings()
+    ensures { (mode : Mode) (width : ℕ) (net : Network) (g : Graph) (pats : List Pattern) (delays : List (List ℕ)) (cap : ℕ) (labels : List (Option ℕ)) (n : Netlist) (class : ℕ → ℕ) (arrivals : List ℕ) (truth : CellTruth) (ports mapped : Ports) → IsInOrder net → IsMappedOver mode width net g pats delays cap labels n class → HaveCellTruths (map length delays) truth pats → AreArrivals delays n arrivals → AreRooted width net g labels n class arrivals ports mapped → IsMapping mode width net ports pats delays truth n mapped }
+{}
+
+/// The least cost at the class of an output's sum of products, where it is below the cap, is the output's least arrival.
+pub fn least_labels_are_least_arrivals()
+    ensures { (mode : Mode) (width : ℕ) (net : Network) (g : Graph) (pats : List Pattern) (delays : List (List ℕ)) (cap : ℕ) → 2 ≤ width → Encodes (family_of mode (forms_of width net)) g → (s : ℕ) → s < net.inputs + length net.nodes → (d : ℕ) → d < cap → IsLeastCover g pats (delay_cost delays cap) (root_class width net g s) (Some d) → HasLeastArrival mode width net pats delays s d }
+{}
+
+/// Where no cover stands at the class of an output's sum of products, the output has none.
+pub fn uncovered_classes_have_no_cover()
+    ensures { (mode : Mode) (width : ℕ) (net : Network) (g : Graph) (pats : List Pattern) (delays : List (List ℕ)) (cap : ℕ) → 2 ≤ width → Encodes (family_of mode (forms_of width net)) g → (s : ℕ) → s < net.inputs + length net.nodes → IsLeastCover g pats (delay_cost delays cap) (root_class width net g s) None → HasNoCover mode width net pats delays s }
+{}
+
+/// The netlist that a network is mapped to has its ports and values, and the least arrivals.
+pub fn netlists_are_mappings()
+    ensures { (mode : Mode) (width : ℕ) (net : Network) (ports : Ports) (pats : List Pattern) (delays : List (List ℕ)) (cap : ℕ) (truth : CellTruth) (n : Netlist) (names : List (List ℕ)) (mapped : Ports) → 2 ≤ width → IsInOrder net → net.inputs < 2 ^ 32 → HasPorts net ports → ArePatterns (map length delays) pats → HaveCellTruths (map length delays) truth pats → (is : IsNetlistOf mode width net ports pats delays cap n names mapped) → Encodes (family_of mode (forms_of width net)) is.graph → ((c l : ℕ) → labels_in is.labels c ≡ Some l → l < cap) → IsMapping mode width net ports pats delays truth n mapped }
+{}

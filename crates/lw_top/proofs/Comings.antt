@@ -1,0 +1,24 @@
+-- A step that reads no file has a reason where it refuses.
+use Rattle.std.proofs.Common.{ℕ, List, Option, Ok, Err, Result}
+use Rattle.lw_io.specs.declared.file.File.{File}
+use Rattle.lw_io.specs.Files.{bytes_of}
+use Rattle.lw_top.specs.declared.refusal.Refusal.{Refusal}
+use Rattle.lw_top.specs.declared.refusal.Refusal.TheVariants.{Words, Unread, TooLong, NotBuilt, Undefined, Cycle, NoCover, Memory}
+use Rattle.lw_top.specs.Answers.{Step}
+use Rattle.lw_top.specs.Reading.{HasReason, Reads}
+use Rattle.lw_top.specs.Named.{Comes}
+
+module _ {X A : Type 0} (view : X → A) (told : Option (List File)) (before now : ℕ) (step : Step A) where
+  pub reason : (e : Refusal) → Comes view step (Err e) → HasReason told before now step e
+  reason Words c = absurd c
+  reason (Unread w) c = absurd c
+  reason (TooLong w) c = absurd c
+  reason (NotBuilt w line) c = λ files is. c (bytes_of files)
+  reason (Undefined name) c = λ files is. c (bytes_of files)
+  reason (Cycle name) c = λ files is. c (bytes_of files)
+  reason (NoCover name) c = λ files is. c (bytes_of files)
+  reason Memory c = tt
+
+  pub comes : (r : Result X Refusal) → Comes view step r → Reads view told before now step r
+  comes (Ok x) c = λ files is. c (bytes_of files)
+  comes (Err e) c = reason e c

@@ -1,0 +1,9 @@
+pub mod Told
+pub mod Steps
+pub mod Prefix
+pub mod Comings
+pub mod Serving
+pub mod Whole
+pub mod Headline
+pub mod Closed
+pub mod One

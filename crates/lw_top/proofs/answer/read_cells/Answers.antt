@@ -1,0 +1,18 @@
+use Rattle.std.proofs.Common.{◌≡◌, arith, subst}
+use Rattle.std.proofs.lemmas.Result.{err_from_is_err_and}
+use Rattle.lw_top.specs.declared.refusal.Which.TheVariants as which
+use Rattle.lw_top.specs.Answers.{gives, text_of, cells_in}
+use Rattle.lw_top.specs.Named.{Comes}
+use Rattle.lw_top.proofs.Steps.{refused, after_reading}
+use Rattle.lw_top.proofs.Comings.{comes}
+use Rattle.lw_top.proofs.answer.read_cells.Goals as goal
+
+pub returns-in_err-bytes-clause-reads : goal.returns-in_err-bytes-clause-reads
+returns-in_err-bytes-clause-reads g c =
+    let p = err_from_is_err_and c.from_residual.result c.from_residual.ensures.1 in
+    rw (p.1, p.2) (refused _ (gives (text_of which.Library c.args.name.now)) (λ bytes. gives (cells_in bytes)) _ _ _ c.in_err-bytes.ensures.reads)
+
+pub returns-clause-reads : goal.returns-clause-reads
+returns-clause-reads g c =
+    after_reading (λ cells. cells) _ _ _ _ (gives (text_of which.Library c.args.name.now)) (λ bytes. gives (cells_in bytes)) c.in_ok-bytes.bytes.items c.cells_in.result c.read_file.ensures.later c.in_ok-bytes.ensures.reads
+    (comes (λ cells. cells) _ _ _ (gives (cells_in c.in_ok-bytes.bytes.items)) c.cells_in.result (subst (λ b. Comes (λ cells. cells) (gives (cells_in b)) c.cells_in.result) c.deref.ensures.value c.cells_in.ensures))

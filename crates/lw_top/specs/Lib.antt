@@ -1,0 +1,7 @@
+pub mod Answers
+pub mod Reading
+pub mod Named
+pub mod Outcome
+pub mod Telling
+pub mod Lines
+pub mod Mappings

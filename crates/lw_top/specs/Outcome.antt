@@ -1,0 +1,38 @@
+-- What each outcome of a run means.
+use Rattle.std.specs.Prelude.{◌≡◌, ℕ, Bool, true, List, Option, Result, Ok}
+use Rattle.std.specs.Io.KnownBytes.{Appends}
+use Rattle.lw_io.specs.declared.file.File.{File}
+use Rattle.lw_io.specs.Causes.{Rose}
+use Rattle.lw_io.specs.Moves.{AppendsPrefix}
+use Rattle.lw_top.specs.Answers.{Step, status_of}
+use Rattle.lw_top.specs.Reading.{Known, HasReason}
+use Rattle.lw_top.specs.declared.outcome.Outcome.{Outcome}
+use Rattle.lw_top.specs.declared.outcome.Outcome.TheVariants.{Done, WriteFault, Refused}
+
+-- the whole text was taken, and the stream is finished
+pub record IsDone {O : Type 0} (taken : O → Option (List ℕ)) (is_finished : O → Bool) (old new : O) (text : List ℕ) : Type 0 where
+  pub grown : Appends (taken old) (taken new) text
+  pub finished : is_finished new ≡ true
+
+-- the stream failed, and a prefix of the text was taken
+pub record IsCutShort {O : Type 0} (taken : O → Option (List ℕ)) (faults : O → ℕ) (old new : O) (text : List ℕ) : Type 0 where
+  pub grown : AppendsPrefix (taken old) (taken new) text
+  pub cause : Rose (faults old) (faults new)
+
+-- a text was written, or a part of it
+abbrev pub Writes : {O : Type 0} → (O → Option (List ℕ)) → (O → Bool) → (O → ℕ) → O → O → List ℕ → Outcome → Type 0
+Writes taken is_finished faults old new text Done = IsDone taken is_finished old new text
+Writes taken is_finished faults old new text WriteFault = IsCutShort taken faults old new text
+Writes taken is_finished faults old new text (Refused r) = ⊥
+
+-- the text that the definition gives was written, or a part of it; or there is a reason to refuse, and the stream is as it was
+abbrev pub Meets : {O : Type 0} → Option (List File) → ℕ → ℕ → (O → Option (List ℕ)) → (O → Bool) → (O → ℕ) → O → O → Step (List ℕ) → Outcome → Type 0
+Meets told before now taken is_finished faults old new answer Done = (text : List ℕ) × Known told answer (Ok text) × IsDone taken is_finished old new text
+Meets told before now taken is_finished faults old new answer WriteFault = (text : List ℕ) × Known told answer (Ok text) × IsCutShort taken faults old new text
+Meets told before now taken is_finished faults old new answer (Refused r) = HasReason told before now answer r × (new ≡ old)
+
+-- the exit status
+abbrev pub outcome_status : Outcome → ℕ
+outcome_status Done = 0
+outcome_status WriteFault = 7
+outcome_status (Refused r) = status_of r

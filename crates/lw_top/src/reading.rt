@@ -1,0 +1,97 @@
+// One file, from its opening to its end.
+ghost use Rattle.std.specs.Prelude.{◌≡◌, ◌≢◌, ◌≤◌, ◌<◌, [], length, IfOk, IfErr, IsTrue, vec_len, MatchOption};
+ghost use Rattle.std.specs.Option.{ForSome};
+ghost use Rattle.lw_io.specs.Causes.{Rose};
+ghost use Rattle.lw_top.specs.Answers.{gives, text_of};
+ghost use Rattle.lw_top.specs.declared.reading.ReadError.TheVariants.{Failed as ReadFailed, Memory as OutOfMemory};
+ghost use Rattle.lw_top.specs.Reading.{ReadsPiece, Reads};
+
+use crate::refusal::{Refusal, Which};
+use lw_io::{Failed, Shelf};
+use std::alloc::{AllocError, Global};
+
+/// The most bytes of a file.
+const MAX_LEN: usize = 67_108_864;
+
+#[derive(Clone, Copy, Debug, PartialEq, Eq)]
+enum ReadError {
+    Failed,
+    Memory,
+}
+
+impl From<Failed> for ReadError {
+    ghost from_gives = { λ _ e. e ≡ ReadFailed };
+
+    fn from(_e: Failed) -> ReadError {
+        ReadError::Failed
+    }
+}
+
+impl From<AllocError> for ReadError {
+    ghost from_gives = { λ _ e. e ≡ OutOfMemory };
+
+    fn from(_e: AllocError) -> ReadError {
+        ReadError::Memory
+    }
+}
+
+// Reads the next bytes of the open file, and adds them to the text.
+fn read_piece<F: Shelf>(
+    shelf: &mut F,
+    text: &mut Vec<u8>,
+    buf: &mut [u8],
+) -> Result<usize, ReadError>
+    requires { IsTrue (F.is_open shelf.old) }
+    ensures files { F.files shelf.new ≡ F.files shelf.old }
+    ensures is_open { IsTrue (F.is_open shelf.new) }
+    ensures later { F.faults shelf.old ≤ F.faults shelf.new }
+    ensures piece { IfOk result (ReadsPiece (F.left shelf.old) (F.left shelf.new) text.old.items text.new.items (length buf.old)) }
+    ensures failed { IfErr result (λ e. e ≡ ReadError.Failed → Rose (F.faults shelf.old) (F.faults shelf.new)) }
+{
+    let count = shelf.read(buf)?;
+    text.extend_from_slice(&buf[..count])?;
+    Ok(count)
+}
+
+// Reads the open file to its end, or finds that it is too long.
+fn read_all<F: Shelf>(alloc: Global, shelf: &mut F) -> Result<Option<Vec<u8>>, ReadError>
+    requires { IsTrue (F.is_open shelf.old) }
+    ensures files { F.files shelf.new ≡ F.files shelf.old }
+    ensures later { F.faults shelf.old ≤ F.faults shelf.new }
+    ensures text { IfOk result (λ text. ForSome (F.left shelf.old) (λ bytes.
+        MatchOption text (MAX_LEN < length bytes) (λ text. (length bytes ≤ MAX_LEN) × (text.items ≡ bytes)))) }
+    ensures failed { IfErr result (λ e. e ≡ ReadError.Failed → Rose (F.faults shelf.old) (F.faults shelf.new)) }
+{
+    let mut text = Vec::new(alloc);
+    let mut buf = [0; 4096];
+    'pieces: while text.len() <= MAX_LEN {
+        let room = (MAX_LEN + 1 - text.len()).min(4096);
+        if read_piece(shelf, &mut text, &mut buf[..room])? == 0 {
+            return Ok(Some(text));
+        }
+    }
+    Ok(None)
+}
+
+/// The bytes of a file.
+pub fn read_file<F: Shelf>(
+    alloc: Global,
+    shelf: &mut F,
+    which: Which,
+    name: &str,
+) -> Result<Vec<u8>, Refusal>
+    ensures files { F.files shelf.new ≡ F.files shelf.old }
+    ensures later { F.faults shelf.old ≤ F.faults shelf.new }
+    ensures not_words { IfErr result (λ e. e ≢ Refusal.Words) }
+    ensures reads { Reads (λ v. v.items) (F.files shelf.old) (F.faults shelf.old) (F.faults shelf.new) (gives (text_of which name.now)) result }
+{
+    let Ok(()) = shelf.open(name) else {
+        return Err(Refusal::Unread(which));
+    };
+    match read_all(alloc, shelf) {
+        Ok(Some(text)) => Ok(text),
+        Ok(None) => Err(Refusal::TooLong(which)),
+        Err(ReadError::Failed) => Err(Refusal::Unread(which)),
+        Err(ReadError::Memory) => Err(Refusal::Memory),
+    }
+}

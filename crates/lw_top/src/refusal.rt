@@ -1,0 +1,50 @@
+ghost use Rattle.std.specs.Prelude.{◌≡◌};
+ghost use Rattle.lw_top.specs.declared.refusal.Refusal.TheVariants.{Memory};
+
+use lw_pool::Name;
+use std::alloc::AllocError;
+use thiserror::Error;
+
+/// Which of the files.
+#[derive(Clone, Copy, Debug, PartialEq, Eq)]
+pub enum Which {
+    Library,
+    Network,
+}
+
+/// Why there is no answer.
+#[derive(Debug, Drop, Error)]
+pub enum Refusal {
+    /// The words have none of the written forms.
+    #[error("usage")]
+    Words,
+    /// The file was not read.
+    #[error("cannot read")]
+    Unread(Which),
+    /// The file has more bytes than are read.
+    #[error("too long")]
+    TooLong(Which),
+    /// The line, from 1, is of a kind that is not built yet.
+    #[error("not built yet")]
+    NotBuilt(Which, usize),
+    /// Nothing drives this signal.
+    #[error("undefined signal")]
+    Undefined(Name),
+    /// This signal reaches itself.
+    #[error("cycle")]
+    Cycle(Name),
+    /// This output has no cover.
+    #[error("no cover")]
+    NoCover(Name),
+    /// Want of memory.
+    #[error("out of memory")]
+    Memory,
+}
+
+impl From<AllocError> for Refusal {
+    ghost from_gives = { λ _ e. e ≡ Memory };
+
+    fn from(_e: AllocError) -> Refusal {
+        Refusal::Memory
+    }
+}

@@ -1,0 +1,171 @@
+// The line of each outcome.
+ghost use Rattle.std.specs.Prelude.{◌≡◌, ◌++◌, [], ◌∷◌, map, string_bytes, OnOk, OnErr, decimal};
+ghost use Rattle.std.specs.Io.KnownBytes.{Appends};
+ghost use Rattle.lw_io.specs.Causes.{HasCause};
+ghost use Rattle.lw_io.specs.Moves.{AppendsPrefix};
+ghost use Rattle.lw_top.specs.Telling.{name_in, outcome_line, refusal_line, refusal_parts, joined, parts};
+ghost use Rattle.lw_top.specs.Lines.{parts_of, line_number};
+
+use crate::outcome::Outcome;
+use crate::refusal::{Refusal, Which};
+use itoa::Buffer;
+use lw_io::{Failed, Sink, write_all};
+
+/// Writes the line of an outcome, if it has one.
+pub fn tell<E: Sink>(words: &[String], outcome: &Outcome, err: &mut E) -> Result<(), Failed>
+    ensures ok { OnOk result (Appends (E.taken err.old) (E.taken err.new) (outcome_line (map string_bytes words.now) outcome.now)) }
+    ensures failed { OnErr result (AppendsPrefix (E.taken err.old) (E.taken err.new) (outcome_line (map string_bytes words.now) outcome.now)) }
+    ensures cause { HasCause (E.faults err.old) (E.faults err.new) result }
+{
+    match outcome {
+        Outcome::Done => write_all(err, b""),
+        Outcome::WriteFault => write_all(err, b"lwmap: cannot write\n"),
+        Outcome::Refused(refusal) => tell_refusal(words, refusal, err),
+    }
+}
+
+fn tell_refusal<E: Sink>(words: &[String], refusal: &Refusal, err: &mut E) -> Result<(), Failed>
+    ensures ok { OnOk result (Appends (E.taken err.old) (E.taken err.new) (refusal_line (map string_bytes words.now) refusal.now)) }
+    ensures failed { OnErr result (AppendsPrefix (E.taken err.old) (E.taken err.new) (refusal_line (map string_bytes words.now) refusal.now)) }
+    ensures cause { HasCause (E.faults err.old) (E.faults err.new) result }
+{
+    let mut digits = Buffer::new();
+    let number = digits.format(line_number(refusal));
+    let line = line_of(words, refusal, number.as_bytes());
+    tell_line(err, line)
+}
+
+/// A line in five parts.
+#[derive(Clone, Copy, Debug)]
+struct Line<'a> {
+    before: &'a [u8],
+    name: &'a [u8],
+    between: &'a [u8],
+    detail: &'a [u8],
+    after: &'a [u8],
+}
+
+// The number of a line that is refused, or 0.
+fn line_number(refusal: &Refusal) -> usize
+    ensures { result ≡ line_number refusal.now }
+{
+    match refusal {
+        Refusal::NotBuilt(_, line) => *line,
+        _ => 0,
+    }
+}
+
+fn line_of<'a>(words: &'a [String], refusal: &'a Refusal, number: &'a [u8]) -> Line<'a>
+    requires { number.now ≡ decimal (line_number refusal.now) }
+    ensures { parts_of result ≡ refusal_parts (map string_bytes words.now) refusal.now }
+{
+    match refusal {
+        Refusal::Words => whole(USAGE),
+        Refusal::Unread(which) => named(b"lwmap: cannot read ", name(words, *which), b""),
+        Refusal::TooLong(which) => named(
+            b"lwmap: limit: ",
+            name(words, *which),
+            b" has more than 67108864 bytes",
+        ),
+        Refusal::NotBuilt(which, _) => Line {
+            before: b"lwmap: ",
+            name: name(words, *which),
+            between: b" line ",
+            detail: number,
+            after: b": not built yet\n",
+        },
+        Refusal::Undefined(signal) => Line {
+            before: b"lwmap: ",
+            name: name(words, Which::Network),
+            between: b": undefined signal ",
+            detail: signal.as_bytes(),
+            after: b"\n",
+        },
+        Refusal::Cycle(signal) => Line {
+            before: b"lwmap: ",
+            name: name(words, Which::Network),
+            between: b": cycle through ",
+            detail: signal.as_bytes(),
+            after: b"\n",
+        },
+        Refusal::NoCover(output) => named(b"lwmap: no cover for output ", output.as_bytes(), b""),
+        Refusal::Memory => whole(b"lwmap: out of memory"),
+    }
+}
+
+fn whole(before: &[u8]) -> Line<'_>
+    ensures { parts_of result ≡ parts before.now [] [] [] (10 ∷ []) }
+{
+    named(before, b"", b"")
+}
+
+fn named<'a>(before: &'a [u8], name: &'a [u8], between: &'a [u8]) -> Line<'a>
+    ensures { parts_of result ≡ parts before.now name.now between.now [] (10 ∷ []) }
+{
+    Line {
+        before,
+        name,
+        between,
+        detail: b"",
+        after: b"\n",
+    }
+}
+
+// Writes the parts of a line one after another.
+fn tell_line<E: Sink>(err: &mut E, line: Line<'_>) -> Result<(), Failed>
+    ensures ok { OnOk result (Appends (E.taken err.old) (E.taken err.new) (joined (parts_of line.entry))) }
+    ensures failed { OnErr result (AppendsPrefix (E.taken err.old) (E.taken err.new) (joined (parts_of line.entry))) }
+    ensures cause { HasCause (E.faults err.old) (E.faults err.new) result }
+{
+    write_all(err, line.before)?;
+    tell_four(err, line.name, line.between, line.detail, line.after)
+}
+
+fn tell_four<E: Sink>(
+    err: &mut E,
+    first: &[u8],
+    second: &[u8],
+    third: &[u8],
+    fourth: &[u8],
+) -> Result<(), Failed>
+    ensures ok { OnOk result (Appends (E.taken err.old) (E.taken err.new) (first.now ++ (second.now ++ (third.now ++ fourth.now)))) }
+    ensures failed { OnErr result (AppendsPrefix (E.taken err.old) (E.taken err.new) (first.now ++ (second.now ++ (third.now ++ fourth.now)))) }
+    ensures cause { HasCause (E.faults err.old) (E.faults err.new) result }
+{
+    write_all(err, first)?;
+    tell_three(err, second, third, fourth)
+}
+
+fn tell_three<E: Sink>(err: &mut E, first: &[u8], second: &[u8], third: &[u8]) -> Result<(), Failed>
+    ensures ok { OnOk result (Appends (E.taken err.old) (E.taken err.new) (first.now ++ (second.now ++ third.now))) }
+    ensures failed { OnErr result (AppendsPrefix (E.taken err.old) (E.taken err.new) (first.now ++ (second.now ++ third.now))) }
+    ensures cause { HasCause (E.faults err.old) (E.faults err.new) result }
+{
+    write_all(err, first)?;
+    tell_two(err, second, third)
+}
+
+fn tell_two<E: Sink>(err: &mut E, first: &[u8], second: &[u8]) -> Result<(), Failed>
+    ensures ok { OnOk result (Appends (E.taken err.old) (E.taken err.new) (first.now ++ second.now)) }
+    ensures failed { OnErr result (AppendsPrefix (E.taken err.old) (E.taken err.new) (first.now ++ second.now)) }
+    ensures cause { HasCause (E.faults err.old) (E.faults err.new) result }
+{
+    write_all(err, first)?;
+    write_all(err, second)
+}
+
+// The word of a file.
+fn name(words: &[String], which: Which) -> &[u8]
+    ensures { result.now ≡ name_in (map string_bytes words.now) which }
+{
+    let [_, library, network] = words else {
+        return b"";
+    };
+    match which {
+        Which::Library => library.as_bytes(),
+        Which::Network => network.as_bytes(),
+    }
+}
+
+const USAGE: &[u8] =
+    b"lwmap: usage: map [-w K] [-c] LIB IN | check [-w K] LIB IN MAPPED | time LIB MAPPED | sim IN VECTORS | sim -g LIB MAPPED VECTORS | graph [-w K] IN | big SEED N LIB";

@@ -1,0 +1,101 @@
+// The top call.
+ghost use Rattle.std.specs.Prelude.{◌≡◌, ◌≢◌, ◌⊎◌, ◌↔◌, ℕ, Some, List, map, string_bytes, Result, Ok, Err};
+ghost use Rattle.lw_io.specs.declared.file.File.{File};
+ghost use Rattle.lw_io.specs.Causes.{Rose};
+ghost use Rattle.lw_io.specs.Files.{bytes_of};
+ghost use Rattle.lw_top.specs.Answers.{IsAnswer, names_of, status_in, status_of};
+ghost use Rattle.lw_top.specs.Reading.{Known};
+ghost use Rattle.lw_top.specs.Mappings.{IsMappingText, LacksOutput};
+ghost use Rattle.lw_top.specs.Outcome.{IsDone, IsCutShort, Meets, outcome_status};
+ghost use Rattle.lw_top.specs.Telling.{Told, outcome_line, refusal_line};
+ghost use Rattle.lw_top.specs.declared.outcome.Outcome.{Outcome};
+ghost use Rattle.lw_top.specs.declared.refusal.Refusal.{Refusal};
+
+use crate::outcome::{Outcome, serve};
+use crate::refusal::{Refusal, Which};
+use crate::telling::tell;
+use lw_io::{Shelf, Sink};
+use std::alloc::Global;
+
+/// Does what the words ask for, and answers the exit status.
+///
+/// It reads the files that the words name, one after another and each once. The whole answer stands before the first byte goes to
+/// `out`. At a status other than 0 it writes one line to `err`, whose faults change no status.
+pub fn run<F: Shelf, O: Sink, E: Sink>(
+    alloc: Global,
+    words: &Vec<String>,
+    shelf: &mut F,
+    out: &mut O,
+    err: &mut E,
+) -> u8
+    // Nothing goes out before the whole answer stands.
+    ensures untouched { result ≢ 0 → result ≢ 7 → out.new ≡ out.old }
+
+    // At 0 the whole text went out: over known files it is the answer's.
+    ensures done { result ≡ 0 → ((text : List ℕ) × Known (F.files shelf.old) (IsAnswer (map string_bytes words.now.items)) (Ok text)
+        × IsDone O.taken O.is_finished out.old out.new text) }
+
+    // At 0 over known files that text is of a netlist of the library's cells: it has the network's inputs and outputs, it computes the
+    // network's outputs at all inputs, and each arrives at the least time of all covers of all trees that the laws derive for it.
+    ensures mapping { (files : List File) → F.files shelf.old ≡ Some files → result ≡ 0
+        → ((text : List ℕ) × IsMappingText (map string_bytes words.now.items) (bytes_of files) text × IsDone O.taken O.is_finished out.old out.new text) }
+
+    // At 6 over known files no tree that the laws derive for the output whose name is told has a cover.
+    ensures no_cover { (files : List File) → F.files shelf.old ≡ Some files → result ≡ 6
+        → ((name : List ℕ) × LacksOutput (map string_bytes words.now.items) (bytes_of files) name
+        × Told E.taken E.faults err.old err.new (refusal_line (map string_bytes words.now.items) (Refusal.NoCover name))) }
+
+    // At 7 the stream failed, and a prefix of the text that 0 would have written went out.
+    ensures cut_short { result ≡ 7 → ((text : List ℕ) × Known (F.files shelf.old) (IsAnswer (map string_bytes words.now.items)) (Ok text)
+        × IsCutShort O.taken O.faults out.old out.new text) }
+
+    // A file was not read because the shelf failed, or because known files lack it.
+    ensures unread { result ≡ 2 → (Rose (F.faults shelf.old) (F.faults shelf.new)
+        ⊎ ((files : List File) × (a : Result (List ℕ) Refusal) × (F.files shelf.old ≡ Some files) × IsAnswer (map string_bytes words.now.items) (bytes_of files) a × (status_in a ≡ 2))) }
+
+    // Words of no form are told as such, whatever the files.
+    ensures words { (result ≡ 1) ↔ (names_of (map string_bytes words.now.items) ≡ Err Refusal.Words) }
+
+    // Over known files each other status but want of memory is the answer's.
+    ensures agrees { (files : List File) → F.files shelf.old ≡ Some files → result ≢ 2 → result ≢ 7 → result ≢ 8
+        → ((a : Result (List ℕ) Refusal) × IsAnswer (map string_bytes words.now.items) (bytes_of files) a × (result ≡ status_in a)) }
+
+    // Where nothing fails the status is the answer's, unless memory runs out.
+    ensures complete { (files : List File) → F.files shelf.old ≡ Some files
+        → (Rose (F.faults shelf.old) (F.faults shelf.new) → ⊥) → (Rose (O.faults out.old) (O.faults out.new) → ⊥)
+        → ((a : Result (List ℕ) Refusal) × IsAnswer (map string_bytes words.now.items) (bytes_of files) a × (result ≡ status_in a)) ⊎ (result ≡ 8) }
+
+    // Some outcome has this status: it is what happened, and its line went to err, or a prefix where err failed.
+    ensures told { (o : Outcome) × (result ≡ outcome_status o)
+        × Meets (F.files shelf.old) (F.faults shelf.old) (F.faults shelf.new) O.taken O.is_finished O.faults out.old out.new (IsAnswer (map string_bytes words.now.items)) o
+        × Told E.taken E.faults err.old err.new (outcome_line (map string_bytes words.now.items) o) }
+{
+    let outcome = serve(alloc, words, shelf, out);
+    let _ = tell(words, &outcome, err);
+    status(&outcome)
+}
+
+fn status_of(refusal: &Refusal) -> u8
+    ensures { result ≡ status_of refusal.now }
+{
+    match refusal {
+        Refusal::Words => 1,
+        Refusal::Unread(_) => 2,
+        Refusal::NotBuilt(Which::Network, _) => 3,
+        Refusal::Undefined(_) | Refusal::Cycle(_) => 3,
+        Refusal::NotBuilt(Which::Library, _) => 4,
+        Refusal::TooLong(_) => 5,
+        Refusal::NoCover(_) => 6,
+        Refusal::Memory => 8,
+    }
+}
+
+fn status(outcome: &Outcome) -> u8
+    ensures { result ≡ outcome_status outcome.now }
+{
+    match outcome {
+        Outcome::Done => 0,
+        Outcome::WriteFault => 7,
+        Outcome::Refused(refusal) => status_of(refusal),
+    }
+}

@@ -1,0 +1,16 @@
+#!/bin/sh
+# Stands for rt in the cases of the script: it builds a program that tells its folder, its words and its input.
+# (the case sets the folder here)
+echo "the build speaks"
+[ ! -e "${here:?}/fails" ] || exit 1
+echo built >>"${here:?}/built"
+mkdir -p out
+cat >out/lwmap <<'END'
+#!/bin/sh
+echo "in $(pwd)"
+[ $# -eq 0 ] || printf '<%s>\n' "$@"
+read -r line && echo "read $line"
+echo "the program speaks" >&2
+exit 5
+END
+chmod +x out/lwmap
