@@ -21,14 +21,14 @@ pub row-fault : (old : Parts) (lines : List LogicalLine) (line : LogicalLine) (f
 row-fault old lines line fault e short is k =
     is ∙ sym (fault-of lines line Row e short ∙ fault-row old.model old.inputs old.outputs.keys old.defined.keys old.nodes old.node lines line.words k)
 
-same-kept : (model model' : Option (List ℕ)) (inputs inputs' outputs outputs' defined defined' : List (List ℕ)) (nodes nodes' : List DraftNode) (node node' : Option DraftNode) (lines : List LogicalLine) →
-    model' ≡ model → inputs' ≡ inputs → outputs' ≡ outputs → defined' ≡ defined → nodes' ≡ nodes → node' ≡ node → Kept model inputs outputs defined nodes node lines → Kept model' inputs' outputs' defined' nodes' node' lines
-same-kept model model' inputs inputs' outputs outputs' defined defined' nodes nodes' node node' lines em ei eo ed en ed' k =
-    subst (λ (m : Option (List ℕ)). Kept m inputs' outputs' defined' nodes' node' lines) (sym em)
-    (subst (λ (i : List (List ℕ)). Kept model i outputs' defined' nodes' node' lines) (sym ei)
-    (subst (λ (o : List (List ℕ)). Kept model inputs o defined' nodes' node' lines) (sym eo)
-    (subst (λ (d : List (List ℕ)). Kept model inputs outputs d nodes' node' lines) (sym ed)
-    (subst (λ (n : List DraftNode). Kept model inputs outputs defined n node' lines) (sym en)
+same-kept : (model model' : Option (List ℕ)) (inputs inputs' outputs outputs' defined defined' : List (List ℕ)) (nodes nodes' : List DraftNode) (begun begun' : Option DraftNode) (lines : List LogicalLine) →
+    model' ≡ model → inputs' ≡ inputs → outputs' ≡ outputs → defined' ≡ defined → nodes' ≡ nodes → begun' ≡ begun → Kept model inputs outputs defined nodes begun lines → Kept model' inputs' outputs' defined' nodes' begun' lines
+same-kept model model' inputs inputs' outputs outputs' defined defined' nodes nodes' begun begun' lines em ei eo ed en ed' k =
+    subst (λ (m : Option (List ℕ)). Kept m inputs' outputs' defined' nodes' begun' lines) (sym em)
+    (subst (λ (i : List (List ℕ)). Kept model i outputs' defined' nodes' begun' lines) (sym ei)
+    (subst (λ (o : List (List ℕ)). Kept model inputs o defined' nodes' begun' lines) (sym eo)
+    (subst (λ (d : List (List ℕ)). Kept model inputs outputs d nodes' begun' lines) (sym ed)
+    (subst (λ (n : List DraftNode). Kept model inputs outputs defined n begun' lines) (sym en)
     (subst (λ (n : Option DraftNode). Kept model inputs outputs defined nodes n lines) (sym ed') k)))))
 
 outside : (words : List (List ℕ)) → row_fault_of None words ≡ Some kind.RowOutside

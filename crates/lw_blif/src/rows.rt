@@ -50,8 +50,8 @@ fn is_value_of(on: bool, words: &Words) -> bool
     value == last_word(words)
 }
 
-#[tactic(auto, unfolding(crate::specs::Readers::row_fault_of))]
 /// The first rule that a row breaks, behind a node with its rows or none.
+#[tactic(auto, unfolding(crate::specs::Readers::row_fault_of))]
 pub fn row_fault(node: &Option<DraftNode>, words: &Words) -> Option<BlifKind>
     requires { 0 < length words.now }
     ensures { result ≡ row_fault_of node.now words.now }
