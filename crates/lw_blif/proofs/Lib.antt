@@ -1,0 +1,9 @@
+pub mod Appending
+pub mod Fresh
+pub mod Given
+pub mod Keeping
+pub mod NodesBehind
+pub mod Reading
+pub mod RowsBehind
+pub mod StandingFor
+pub mod WordLists

@@ -1,0 +1,12 @@
+use Rattle.std.proofs.Common.{ap, ◌∙◌, drop, ◌+◌}
+use Rattle.std.specs.Str.{bytes_eq}
+use Rattle.indexmap.specs.IndexSet.{insert_key, insert_all}
+use Rattle.lw_blif.proofs.WordLists.{insert_all-get}
+use Rattle.lw_blif.proofs.defining.add_all.Goals as goal
+
+pub loop-i-preserved : goal.loop-i-preserved
+loop-i-preserved c =
+    let words = c.args.words.now in
+    let i = c.loop-i.i in
+    ap (λ ks. insert_all bytes_eq ks (drop (i + 1) words)) (c.in_ok-insert.ensures.keys ∙ ap (insert_key bytes_eq c.loop-i.names.keys) c.in_ok-name.ensures)
+    ∙ (insert_all-get c.loop-i.names.keys words i c.get.result.now c.get.ensures.word ∙ c.loop-i.invariant)

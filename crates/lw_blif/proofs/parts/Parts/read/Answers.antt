@@ -1,0 +1,56 @@
+use Rattle.std.proofs.Common.{List, ℕ, ap, sym, ◌∙◌, subst}
+use Rattle.lw_words.specs.Lines.{LogicalLine}
+use Rattle.lw_blif.specs.Readers.{row_fault_of}
+use Rattle.lw_blif.specs.Keeping.{AddsRow, ReadsNames, names_fault}
+use Rattle.lw_blif.proofs.Keeping.{fault-long}
+use Rattle.lw_blif.proofs.Reading.{row-fault, row-keeps, names-fault, names-keeps, ignored-fault, ignored-keeps, unknown-fault, unsupported-fault, names-left}
+use Rattle.lw_blif.proofs.parts.Parts.read.Goals as goal
+
+pub returns-then-line-clause-fault : goal.returns-then-line-clause-fault
+returns-then-line-clause-fault c = λ lines k.
+    sym (fault-long lines c.args.line.now (sym (ap (λ (l : LogicalLine). l.long) c.line.view_is) ∙ c.if-line.true))
+
+pub returns-in_ok-fault-in-Row-clause-fault : goal.returns-in_ok-fault-in-Row-clause-fault
+returns-in_ok-fault-in-Row-clause-fault c = λ lines k.
+    let words = ap (λ (l : LogicalLine). l.words) c.line.view_is in
+    let short = sym (ap (λ (l : LogicalLine). l.long) c.line.view_is) ∙ c.if-line.false in
+    row-fault c.args.self.now lines c.args.line.now c.in_ok-fault-in-Row.fault (sym c.in-Row.is ∙ c.requires.asked) short
+    (c.in_ok-fault-in-Row.ensures.fault ∙ ap (row_fault_of c.args.self.now.node) words) k
+
+pub returns-in_ok-fault-in-Row-clause-keeps : goal.returns-in_ok-fault-in-Row-clause-keeps
+returns-in_ok-fault-in-Row-clause-keeps c = λ lines k none.
+    let words = ap (λ (l : LogicalLine). l.words) c.line.view_is in
+    row-keeps c.args.self.now c.read_row.new.self lines c.args.line.now (sym c.in-Row.is ∙ c.requires.asked)
+    (sym none ∙ (c.in_ok-fault-in-Row.ensures.fault ∙ ap (row_fault_of c.args.self.now.node) words))
+    (subst (λ (ws : List (List ℕ)). AddsRow c.args.self.now ws c.read_row.new.self) words (c.in_ok-fault-in-Row.ensures.row none)) k
+
+pub returns-in-Unknown-clause-fault : goal.returns-in-Unknown-clause-fault
+returns-in-Unknown-clause-fault c = λ lines k.
+    unknown-fault lines c.args.line.now (sym c.in-Unknown.is ∙ c.requires.asked) (sym (ap (λ (l : LogicalLine). l.long) c.line.view_is) ∙ c.if-line.false)
+
+pub returns-in-Unsupported-clause-fault : goal.returns-in-Unsupported-clause-fault
+returns-in-Unsupported-clause-fault c = λ lines k.
+    unsupported-fault lines c.args.line.now (sym c.in-Unsupported.is ∙ c.requires.asked) (sym (ap (λ (l : LogicalLine). l.long) c.line.view_is) ∙ c.if-line.false)
+
+pub returns-in-Ignored-clause-fault : goal.returns-in-Ignored-clause-fault
+returns-in-Ignored-clause-fault c = λ lines k.
+    ignored-fault c.args.self.now lines c.args.line.now (sym c.in-Ignored.is ∙ c.requires.asked) (sym (ap (λ (l : LogicalLine). l.long) c.line.view_is) ∙ c.if-line.false) k
+
+pub returns-in-Ignored-clause-keeps : goal.returns-in-Ignored-clause-keeps
+returns-in-Ignored-clause-keeps c = λ lines k none.
+    ignored-keeps c.args.self.now lines c.args.line.now (sym c.in-Ignored.is ∙ c.requires.asked) k
+
+pub returns-in_ok-fault-in_default-clause-fault : goal.returns-in_ok-fault-in_default-clause-fault
+returns-in_ok-fault-in_default-clause-fault c = λ lines k.
+    let words = ap (λ (l : LogicalLine). l.words) c.line.view_is in
+    let short = sym (ap (λ (l : LogicalLine). l.long) c.line.view_is) ∙ c.if-line.false in
+    let names = names-left c.args.asked c.in_default.not-End c.in_default.not-Ignored c.in_default.not-Unsupported c.in_default.not-Unknown c.in_default.not-Row in
+    names-fault c.args.self.now lines c.args.line.now c.args.asked c.in_ok-fault-in_default.fault names c.requires.asked short
+    (c.in_ok-fault-in_default.ensures.fault ∙ ap (names_fault c.args.self.now c.args.asked) words) k
+
+pub returns-in_ok-fault-in_default-clause-keeps : goal.returns-in_ok-fault-in_default-clause-keeps
+returns-in_ok-fault-in_default-clause-keeps c = λ lines k none.
+    let words = ap (λ (l : LogicalLine). l.words) c.line.view_is in
+    let names = names-left c.args.asked c.in_default.not-End c.in_default.not-Ignored c.in_default.not-Unsupported c.in_default.not-Unknown c.in_default.not-Row in
+    names-keeps c.args.self.now c.read_names.new.self lines c.args.line.now c.args.asked names c.requires.asked
+    (subst (λ (ws : List (List ℕ)). ReadsNames c.args.self.now c.args.asked ws c.read_names.new.self) words (c.in_ok-fault-in_default.ensures.names none)) k

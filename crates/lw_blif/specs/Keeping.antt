@@ -1,0 +1,89 @@
+-- What the parts keep of lines.
+use Rattle.std.specs.Prelude.{⊤, ℕ, ◌≤◌, length, ◌≡◌, ◌++◌, List, [], ◌∷◌, take, Option, Some, None, option_to_list, if◌then◌else◌}
+use Rattle.std.specs.Str.{bytes_eq}
+use Rattle.indexmap.specs.IndexSet.{insert_all}
+use Rattle.lw_blif.specs.declared.command.Command.{Command}
+use Rattle.lw_blif.specs.declared.command.Command.TheVariants.{Model, Inputs, Outputs, Names}
+use Rattle.lw_blif.specs.LineFaults.{other_words, is_names_command, defined_for}
+use Rattle.lw_blif.specs.declared.fault.BlifKind.{BlifKind}
+use Rattle.lw_blif.specs.declared.fault.BlifKind.TheVariants as kind
+use Rattle.lw_blif.specs.Drafts.{model_for, inputs_for, outputs_for}
+use Rattle.lw_words.specs.Lines.{LogicalLine}
+use Rattle.lw_net.specs.declared.draft.DraftNode.{DraftNode}
+use Rattle.lw_blif.specs.declared.parts.Parts.{Parts}
+use Rattle.lw_blif.specs.Readers.{Kept, row_added, node_begun, are_fresh, names_fault_of, fault_else}
+
+abbrev pub Keeps : Parts → List LogicalLine → Type 0
+Keeps parts lines = Kept parts.model parts.inputs parts.outputs.keys parts.defined.keys parts.nodes parts.node lines
+
+-- the node with one more row, where there is one
+abbrev pub IsRowAdded : List (List ℕ) → Option DraftNode → Option DraftNode → Type 0
+IsRowAdded words None node = node ≡ None
+IsRowAdded words (Some old) node = node ≡ Some (row_added words old)
+
+-- the node has one more row
+pub record AddsRow (old : Parts) (words : List (List ℕ)) (new : Parts) : Type 0 where
+  pub model : new.model ≡ old.model
+  pub inputs : new.inputs ≡ old.inputs
+  pub outputs : new.outputs.keys ≡ old.outputs.keys
+  pub defined : new.defined.keys ≡ old.defined.keys
+  pub nodes : new.nodes ≡ old.nodes
+  pub node : IsRowAdded words old.node new.node
+
+-- these signals are defined
+pub record Defines (old : Parts) (names : List (List ℕ)) (new : Parts) : Type 0 where
+  pub model : new.model ≡ old.model
+  pub inputs : new.inputs ≡ old.inputs
+  pub outputs : new.outputs.keys ≡ old.outputs.keys
+  pub defined : new.defined.keys ≡ old.defined.keys ++ names
+  pub nodes : new.nodes ≡ old.nodes
+  pub node : new.node ≡ old.node
+
+-- the node whose rows might follow is whole
+pub record EndsNode (old new : Parts) : Type 0 where
+  pub model : new.model ≡ old.model
+  pub inputs : new.inputs ≡ old.inputs
+  pub outputs : new.outputs.keys ≡ old.outputs.keys
+  pub defined : new.defined.keys ≡ old.defined.keys
+  pub nodes : new.nodes ≡ old.nodes ++ option_to_list old.node
+  pub node : new.node ≡ None
+
+-- a line of names is taken
+pub record TakesNames (old : Parts) (c : Command) (words : List (List ℕ)) (new : Parts) : Type 0 where
+  pub model : option_to_list new.model ≡ take 1 (option_to_list old.model ++ model_for c (other_words words))
+  pub inputs : new.inputs ≡ old.inputs ++ inputs_for c (other_words words)
+  pub outputs : new.outputs.keys ≡ insert_all bytes_eq old.outputs.keys (outputs_for c (other_words words))
+  pub defined : new.defined.keys ≡ old.defined.keys
+  pub nodes : new.nodes ≡ old.nodes ++ option_to_list old.node
+  pub node : option_to_list new.node ≡ (if is_names_command c then node_begun words ∷ [] else [])
+
+-- the name of the first model is taken
+pub record TakesModel (old : Parts) (words : List (List ℕ)) (new : Parts) : Type 0 where
+  pub model : option_to_list new.model ≡ take 1 (option_to_list old.model ++ other_words words)
+  pub inputs : new.inputs ≡ old.inputs
+  pub outputs : new.outputs.keys ≡ old.outputs.keys
+  pub defined : new.defined.keys ≡ old.defined.keys
+  pub nodes : new.nodes ≡ old.nodes
+  pub node : new.node ≡ old.node
+
+-- a line of names is read
+pub record ReadsNames (old : Parts) (c : Command) (words : List (List ℕ)) (new : Parts) : Type 0 where
+  pub model : option_to_list new.model ≡ take 1 (option_to_list old.model ++ model_for c (other_words words))
+  pub inputs : new.inputs ≡ old.inputs ++ inputs_for c (other_words words)
+  pub outputs : new.outputs.keys ≡ insert_all bytes_eq old.outputs.keys (outputs_for c (other_words words))
+  pub defined : new.defined.keys ≡ old.defined.keys ++ defined_for c words
+  pub nodes : new.nodes ≡ old.nodes ++ option_to_list old.node
+  pub node : option_to_list new.node ≡ (if is_names_command c then node_begun words ∷ [] else [])
+  pub few : length new.defined.keys ≤ 262144
+
+-- the first rule that a line of names breaks
+abbrev pub names_fault : Parts → Command → List (List ℕ) → Option BlifKind
+names_fault parts c words = fault_else (names_fault_of (length parts.defined.keys) c words) (if are_fresh parts.defined.keys (defined_for c words) then None else Some kind.Redefined)
+
+-- a command for a line of names
+abbrev pub IsNamesLine : Command → Type 0
+IsNamesLine Model = ⊤
+IsNamesLine Inputs = ⊤
+IsNamesLine Outputs = ⊤
+IsNamesLine Names = ⊤
+IsNamesLine other = ⊥

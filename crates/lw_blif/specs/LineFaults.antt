@@ -1,0 +1,212 @@
+-- The first rule that a line of a network's text breaks, behind the lines before it.
+use Rattle.std.specs.Prelude.{ℕ, ◌+◌, ◌-◌, Bool, true, false, not, ◌&&◌, ◌||◌, ◌==◌, nat_lt, nat_le, nat_eq, List, [], ◌∷◌, ◌++◌, length, take, drop, reverse, filter, Option, Some, None, if◌then◌else◌, codes}
+use Rattle.std.specs.List.{list_any, list_all, flat_map, ends_with}
+use Rattle.std.specs.Str.{bytes_eq}
+use Rattle.lw_words.specs.Lines.{LogicalLine}
+use Rattle.lw_blif.specs.declared.command.Command.{Command}
+use Rattle.lw_blif.specs.declared.command.Command.TheVariants.{Model, Inputs, Outputs, Names, End, Ignored, Unsupported, Unknown, Row}
+use Rattle.lw_blif.specs.declared.fault.BlifKind.{BlifKind}
+use Rattle.lw_blif.specs.declared.fault.BlifKind.TheVariants as kind
+use Rattle.lw_blif.specs.Commands.{command_of, is_among}
+
+-- Words.
+
+abbrev pub first_word : List (List ℕ) → List ℕ
+first_word [] = []
+first_word (word ∷ words) = word
+
+abbrev pub last_word : List (List ℕ) → List ℕ
+last_word [] = []
+last_word (word ∷ []) = word
+last_word (word ∷ next ∷ words) = last_word (next ∷ words)
+
+abbrev pub other_words : List (List ℕ) → List (List ℕ)
+other_words words = drop 1 words
+
+abbrev pub words_before_last : List (List ℕ) → List (List ℕ)
+words_before_last words = take (length words - 1) words
+
+-- some word stands twice
+abbrev pub has_twice : List (List ℕ) → Bool
+has_twice [] = false
+has_twice (word ∷ words) = is_among words word || has_twice words
+
+-- What lines are.
+
+abbrev pub command : LogicalLine → Command
+command line = command_of (first_word line.words)
+
+abbrev pub is_row_command : Command → Bool
+is_row_command Row = true
+is_row_command other = false
+
+abbrev pub is_names_command : Command → Bool
+is_names_command Names = true
+is_names_command other = false
+
+abbrev pub is_ignored_command : Command → Bool
+is_ignored_command Ignored = true
+is_ignored_command other = false
+
+abbrev pub is_row : LogicalLine → Bool
+is_row line = is_row_command (command line)
+
+abbrev pub is_names : LogicalLine → Bool
+is_names line = is_names_command (command line)
+
+abbrev pub is_ignored : LogicalLine → Bool
+is_ignored line = is_ignored_command (command line)
+
+-- The end of a reading.
+
+-- The command ends the reading: a model does so where it is not on the first line.
+abbrev pub ends : Bool → Command → Bool
+ends first End = true
+ends first Model = not first
+ends first other = false
+
+-- what stands before the first element that fails
+abbrev pub front : {A : Type 0} → (A → Bool) → List A → List A
+front p [] = []
+front p (x ∷ xs) = if p x then x ∷ front p xs else []
+
+abbrev pub goes_on : LogicalLine → Bool
+goes_on line = not (ends false (command line))
+
+-- the lines that are read
+unfoldable pub lines_read : List LogicalLine → List LogicalLine
+lines_read [] = []
+lines_read (line ∷ lines) = if ends true (command line) then [] else line ∷ front goes_on lines
+
+-- Names and signals.
+
+-- at most 2,000 bytes, the last of which is no `\`
+abbrev pub is_name : List ℕ → Bool
+is_name word = nat_le (length word) 2000 && not (ends_with nat_eq word (92 ∷ []))
+
+-- the words in places of names
+abbrev pub names_for : Command → List (List ℕ) → List (List ℕ)
+names_for Model words = other_words words
+names_for Inputs words = other_words words
+names_for Outputs words = other_words words
+names_for Names words = other_words words
+names_for other words = []
+
+-- the signals that a line defines
+abbrev pub defined_for : Command → List (List ℕ) → List (List ℕ)
+defined_for Inputs words = other_words words
+defined_for Names words = last_word words ∷ []
+defined_for other words = []
+
+abbrev pub defined_on : LogicalLine → List (List ℕ)
+defined_on line = defined_for (command line) line.words
+
+unfoldable pub defined_by : List LogicalLine → List (List ℕ)
+defined_by lines = flat_map defined_on lines
+
+-- Nodes and rows.
+
+abbrev pub fanins_on : LogicalLine → List (List ℕ)
+fanins_on line = words_before_last (other_words line.words)
+
+-- the lines before, the nearest first, without those that are ignored
+abbrev pub nearest : List LogicalLine → List LogicalLine
+nearest before = reverse (filter (λ line. not (is_ignored line)) before)
+
+-- the rows just before
+unfoldable pub rows_before : List LogicalLine → List LogicalLine
+rows_before before = front is_row (nearest before)
+
+-- the line of the node whose rows may follow
+unfoldable pub node_before : List LogicalLine → List LogicalLine
+node_before before = filter is_names (take 1 (drop (length (rows_before before)) (nearest before)))
+
+-- the fan-ins of that node
+abbrev pub fanins_before : List LogicalLine → List (List ℕ)
+fanins_before before = flat_map fanins_on (node_before before)
+
+abbrev pub is_column : ℕ → Bool
+is_column b = b == 48 || b == 49 || b == 45
+
+abbrev pub is_value : List ℕ → Bool
+is_value word = bytes_eq word (codes "0") || bytes_eq word (codes "1")
+
+-- a row of a node with this many fan-ins
+abbrev pub has_shape : ℕ → List (List ℕ) → Bool
+has_shape fanins (value ∷ []) = fanins == 0 && is_value value
+has_shape fanins (columns ∷ value ∷ []) = nat_lt 0 fanins && length columns == fanins && list_all is_column columns && is_value value
+has_shape fanins words = false
+
+-- some row has another last word
+abbrev pub differs_from : List (List ℕ) → List LogicalLine → Bool
+differs_from words rows = list_any (λ other. not (bytes_eq (last_word other.words) (last_word words))) rows
+
+-- The rules.
+
+-- a test, and the kind of the rule that is broken where it is true
+pub record Rule : Type 0 where
+  pub broken : Bool
+  pub kind : BlifKind
+
+abbrev pub first_broken : List Rule → Option BlifKind
+first_broken [] = None
+first_broken (rule ∷ rules) = if rule.broken then Some rule.kind else first_broken rules
+
+-- The first rule that a row breaks, behind the node with this line and these rows.
+abbrev pub row_rules : List LogicalLine → List LogicalLine → List (List ℕ) → List Rule
+row_rules node rows words =
+    record { broken = nat_lt (length node) 1; kind = kind.RowOutside }
+    ∷ record { broken = not (has_shape (length (flat_map fanins_on node)) words); kind = kind.RowShape }
+    ∷ record { broken = differs_from words rows; kind = kind.RowMix }
+    ∷ record { broken = nat_le 4096 (length rows); kind = kind.LimitRows } ∷ []
+
+-- The rules for names, behind lines that define these signals.
+abbrev pub name_rules : List (List ℕ) → Command → List (List ℕ) → List Rule
+name_rules defined c words =
+    record { broken = not (list_all is_name (names_for c words)); kind = kind.BadName }
+    ∷ record { broken = is_names_command c && nat_lt 256 (length (words_before_last (other_words words))); kind = kind.LimitFanin }
+    ∷ record { broken = nat_lt 262144 (length defined + length (defined_for c words)); kind = kind.LimitSignals }
+    ∷ record { broken = has_twice (defined_for c words) || list_any (is_among defined) (defined_for c words); kind = kind.Redefined } ∷ []
+
+-- what a command asks of the number of words
+abbrev pub wants_words : Command → List (List ℕ) → Bool
+wants_words Model words = length words == 2
+wants_words Names words = nat_le 2 (length words)
+wants_words other words = true
+
+-- The rules for a line of this command.
+abbrev pub rules_for : List LogicalLine → List LogicalLine → List (List ℕ) → Command → List (List ℕ) → List Rule
+rules_for node rows defined Unknown words = record { broken = true; kind = kind.UnknownCommand } ∷ []
+rules_for node rows defined Unsupported words = record { broken = true; kind = kind.Unsupported } ∷ []
+rules_for node rows defined Row words = row_rules node rows words
+rules_for node rows defined c words = record { broken = not (wants_words c words); kind = kind.WordCount } ∷ name_rules defined c words
+
+-- The first rule that the line breaks behind these, which break none.
+unfoldable pub line_fault : List LogicalLine → LogicalLine → Option BlifKind
+line_fault before line =
+    first_broken (record { broken = line.long; kind = kind.LongWord }
+    ∷ rules_for (node_before before) (rows_before before) (defined_by before) (command line) line.words)
+
+-- a rule, and the number of the line that breaks it
+pub record FaultAt : Type 0 where
+  pub number : ℕ
+  pub kind : BlifKind
+
+abbrev pub fault_or : ℕ → Option BlifKind → Option FaultAt → Option FaultAt
+fault_or number (Some kind) other = Some (record { number = number; kind = kind })
+fault_or number None other = other
+
+-- the first of the lines behind these that breaks a rule
+unfoldable pub first_fault : List LogicalLine → List LogicalLine → Option FaultAt
+first_fault before [] = None
+first_fault before (line ∷ lines) = fault_or line.number (line_fault before line) (first_fault (before ++ line ∷ []) lines)
+
+-- a line of these ends the reading
+unfoldable pub has_ended : List LogicalLine → Bool
+has_ended [] = false
+has_ended (line ∷ lines) = ends true (command line) || list_any (λ other. ends false (command other)) lines
+
+-- no line was read
+abbrev pub is_first : List LogicalLine → Bool
+is_first [] = true
+is_first (line ∷ lines) = false

@@ -1,0 +1,82 @@
+-- What a reader keeps of the lines that it was given.
+use Rattle.std.specs.Prelude.{ℕ, ◌+◌, Bool, true, false, not, ◌&&◌, nat_lt, nat_le, Option, Some, None, List, [], ◌∷◌, ◌++◌, length, drop, reverse, if◌then◌else◌, ◌≡◌, ◌≤◌, map, take, codes, option_to_list}
+use Rattle.std.specs.Str.{bytes_eq}
+use Rattle.lw_net.specs.declared.draft.DraftNode.{DraftNode}
+use Rattle.lw_words.specs.Lines.{LogicalLine, has_some}
+use Rattle.lw_blif.specs.declared.fault.BlifKind.{BlifKind}
+use Rattle.lw_blif.specs.declared.fault.BlifKind.TheVariants as kind
+use Rattle.lw_blif.specs.LineFaults.{defined_by, last_word, has_shape, nearest, rows_before, node_before, wants_words, is_name, names_for, defined_for, is_names_command, words_before_last, other_words}
+use Rattle.lw_blif.specs.declared.command.Command.{Command}
+use Rattle.std.specs.List.{list_all, flat_map}
+use Rattle.lw_blif.specs.Commands.{is_among}
+use Rattle.lw_blif.specs.Drafts.{nodes_of, node_of, columns_of, model_on, inputs_on, outputs_on, each_once}
+
+-- the nodes to which no row can be added
+unfoldable pub whole_nodes : List LogicalLine → List DraftNode
+whole_nodes lines = nodes_of (reverse (drop (length (rows_before lines) + length (node_before lines)) (nearest lines)))
+
+-- A row, behind the node with its rows, or none.
+
+abbrev pub value_word : Bool → List ℕ
+value_word true = 49 ∷ []
+value_word false = 48 ∷ []
+
+-- the last word is this value
+unfoldable pub is_value_of : Bool → List (List ℕ) → Bool
+is_value_of on words = bytes_eq (value_word on) (last_word words)
+
+unfoldable pub row_fault_of : Option DraftNode → List (List ℕ) → Option BlifKind
+row_fault_of None words = Some kind.RowOutside
+row_fault_of (Some node) words =
+    if not (has_shape (length node.fanins) words) then Some kind.RowShape
+    else (if has_some node.rows && not (is_value_of node.on words) then Some kind.RowMix
+    else (if nat_le 4096 (length node.rows) then Some kind.LimitRows else None))
+
+-- the names are new to these and to one another
+abbrev pub are_fresh : List (List ℕ) → List (List ℕ) → Bool
+are_fresh defined [] = true
+are_fresh defined (name ∷ names) = not (is_among defined name) && are_fresh (defined ++ name ∷ []) names
+
+-- The first rule that a line of names breaks, behind lines that define so many signals, that on definitions aside.
+unfoldable pub names_fault_of : ℕ → Command → List (List ℕ) → Option BlifKind
+names_fault_of count c words =
+    if not (wants_words c words) then Some kind.WordCount
+    else (if not (list_all is_name (names_for c words)) then Some kind.BadName
+    else (if is_names_command c && nat_lt 256 (length (words_before_last (other_words words))) then Some kind.LimitFanin
+    else (if nat_lt 262144 (count + length (defined_for c words)) then Some kind.LimitSignals else None)))
+
+-- the node of a line of these words, before its rows
+abbrev pub node_begun : List (List ℕ) → DraftNode
+node_begun words = record { out = last_word words; fanins = words_before_last (other_words words); rows = []; on = true }
+
+-- the node with one more row of these words
+abbrev pub row_added : List (List ℕ) → DraftNode → DraftNode
+row_added words node = record { out = node.out; fanins = node.fanins; rows = node.rows ++ columns_of words ∷ []; on = not (bytes_eq (last_word words) (codes "0")) }
+
+-- the rows have this value
+abbrev pub HaveValue : List ℕ → List LogicalLine → Type 0
+HaveValue value [] = Unit {0}
+HaveValue value (row ∷ rows) = (last_word row.words ≡ value) × HaveValue value rows
+
+-- the rows have the value of the node
+abbrev pub HaveValueOf : Option DraftNode → List LogicalLine → Type 0
+HaveValueOf None rows = Unit {0}
+HaveValueOf (Some node) rows = HaveValue (value_word node.on) rows
+
+-- What is kept of lines that break no rule.
+pub record Kept (model : Option (List ℕ)) (inputs outputs defined : List (List ℕ)) (nodes : List DraftNode) (node : Option DraftNode) (lines : List LogicalLine) : Type 0 where
+  pub model_is : option_to_list model ≡ take 1 (flat_map model_on lines)
+  pub inputs_are : inputs ≡ flat_map inputs_on lines
+  pub outputs_are : outputs ≡ each_once (flat_map outputs_on lines)
+  pub defined_are : defined ≡ defined_by lines
+  pub nodes_are : nodes ≡ whole_nodes lines
+  -- the node whose rows may follow
+  pub node_is : option_to_list node ≡ map (λ line. node_of line (reverse (rows_before lines))) (node_before lines)
+  pub no_rows : node_before lines ≡ [] → rows_before lines ≡ []
+  pub one_value : HaveValueOf node (rows_before lines)
+  pub few : length defined ≤ 262144
+
+-- this fault, else the other
+abbrev pub fault_else : Option BlifKind → Option BlifKind → Option BlifKind
+fault_else (Some kind) other = Some kind
+fault_else None other = other

@@ -1,0 +1,38 @@
+// A row more of a node.
+ghost use Rattle.std.specs.Prelude.{◌≡◌, ◌++◌, [], ◌∷◌, true, not, length, codes, IfOk};
+ghost use Rattle.std.specs.Str.{bytes_eq};
+ghost use Rattle.lw_blif.specs.LineFaults.{has_shape, last_word};
+ghost use Rattle.lw_blif.specs.Drafts.{columns_of};
+ghost use Rattle.lw_blif.specs.Readers.{row_added};
+
+use crate::naming::last_word;
+use lw_net::{Cube, DraftNode};
+use lw_words::Words;
+use std::alloc::{AllocError, Global};
+
+// The columns of a row.
+fn columns(alloc: Global, fanins: usize, words: &Words) -> Result<Cube, AllocError>
+    requires { has_shape fanins words.now ≡ true }
+    ensures { IfOk result (λ cube. cube ≡ columns_of words.now) }
+{
+    if words.len() == 2 {
+        return Cube::from_slice(alloc, words.get(0));
+    }
+    Ok(Cube::new(Vec::new(alloc)))
+}
+
+/// The node with one more row.
+pub fn with_row(alloc: Global, node: DraftNode, words: &Words) -> Result<DraftNode, AllocError>
+    requires { has_shape (length node.fanins) words.now ≡ true }
+    ensures { IfOk result (λ n. n ≡ row_added words.now node) }
+{
+    let row = columns(alloc, node.fanins.len(), words)?;
+    let mut rows = node.rows;
+    rows.push(row)?;
+    Ok(DraftNode {
+        out: node.out,
+        fanins: node.fanins,
+        rows,
+        on: last_word(words) != b"0".as_slice(),
+    })
+}

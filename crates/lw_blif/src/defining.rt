@@ -1,0 +1,112 @@
+// Signals that a line defines, and the node that it begins.
+ghost use Rattle.std.specs.Prelude.{◌≡◌, ◌-◌, ◌≤◌, ◌<◌, ◌++◌, [], ◌∷◌, true, false, length, take, drop, option_to_list, IfOk, OnOk};
+ghost use Rattle.std.specs.List.{slice_range};
+ghost use Rattle.indexmap.specs.IndexSet.{insert_all};
+ghost use Rattle.std.specs.Str.{bytes_eq};
+ghost use Rattle.lw_blif.specs.Readers.{are_fresh, node_begun};
+ghost use Rattle.lw_blif.specs.LineFaults.{last_word};
+
+use crate::naming::{last_word, names_between};
+use indexmap::IndexSet;
+use lw_net::{Cubes, DraftNode};
+use lw_pool::{Name, Names};
+use lw_words::Words;
+use std::alloc::{AllocError, Global};
+
+/// Defines the words from a place on, up to the first that is defined already. Whether all were new.
+pub fn define_all(
+    alloc: Global,
+    defined: &mut IndexSet<Name>,
+    words: &Words,
+    from: usize,
+) -> Result<bool, AllocError>
+    requires { from ≤ length words.now }
+    ensures fresh { IfOk result (λ b. b ≡ are_fresh defined.old.keys (drop from words.now)) }
+    ensures defined { IfOk result (λ b. b ≡ true → defined.new.keys ≡ defined.old.keys ++ drop from words.now) }
+{
+    for i in from..words.len() {
+        let name = Name::from_slice(alloc, words.get(i))?;
+        if !defined.insert(name)? {
+            return Ok(false);
+        }
+    }
+    Ok(true)
+}
+
+/// Defines the last word. Whether it was new.
+pub fn define_last(
+    alloc: Global,
+    defined: &mut IndexSet<Name>,
+    words: &Words,
+) -> Result<bool, AllocError>
+    requires { 0 < length words.now }
+    ensures fresh { IfOk result (λ b. b ≡ are_fresh defined.old.keys (last_word words.now ∷ [])) }
+    ensures defined { IfOk result (λ b. b ≡ true → defined.new.keys ≡ defined.old.keys ++ last_word words.now ∷ []) }
+{
+    let name = Name::from_slice(alloc, last_word(words))?;
+    let is_new = defined.insert(name)?;
+    Ok(is_new)
+}
+
+/// Appends the words from a place on.
+pub fn append_all(
+    alloc: Global,
+    names: &mut Names,
+    words: &Words,
+    from: usize,
+) -> Result<(), AllocError>
+    requires { from ≤ length words.now }
+    ensures { OnOk result (names.new ≡ names.old ++ drop from words.now) }
+{
+    for i in from..words.len() {
+        names.push(Name::from_slice(alloc, words.get(i))?)?;
+    }
+    Ok(())
+}
+
+/// The second word, where there is no name yet.
+pub fn name_or_second(
+    alloc: Global,
+    name: Option<Name>,
+    words: &Words,
+) -> Result<Option<Name>, AllocError>
+    requires { 2 ≤ length words.now }
+    ensures { IfOk result (λ n. option_to_list n ≡ take 1 (option_to_list name ++ drop 1 words.now)) }
+{
+    match name {
+        Some(name) => Ok(Some(name)),
+        None => Ok(Some(Name::from_slice(alloc, words.get(1))?)),
+    }
+}
+
+/// Adds the words from a place on that are not there.
+pub fn add_all(
+    alloc: Global,
+    names: &mut IndexSet<Name>,
+    words: &Words,
+    from: usize,
+) -> Result<(), AllocError>
+    requires { from ≤ length words.now }
+    ensures { OnOk result (names.new.keys ≡ insert_all bytes_eq names.old.keys (drop from words.now)) }
+{
+    for i in from..words.len() {
+        let name = Name::from_slice(alloc, words.get(i))?;
+        names.insert(name)?;
+    }
+    Ok(())
+}
+
+/// The node of a line with two words or more, before its rows.
+pub fn new_node(alloc: Global, words: &Words) -> Result<DraftNode, AllocError>
+    requires { 2 ≤ length words.now }
+    ensures { IfOk result (λ node. node ≡ node_begun words.now) }
+{
+    let out = Name::from_slice(alloc, last_word(words))?;
+    let fanins = names_between(alloc, words, 1, words.len() - 1)?;
+    Ok(DraftNode {
+        out,
+        fanins,
+        rows: Cubes::new(alloc),
+        on: true,
+    })
+}

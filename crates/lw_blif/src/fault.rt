@@ -1,0 +1,57 @@
+use lw_net::NetFault;
+use std::alloc::AllocError;
+use thiserror::Error;
+
+/// The rule that a line breaks.
+#[derive(Clone, Copy, Debug, PartialEq, Eq)]
+pub enum BlifKind {
+    /// The first word begins with `.` and is no command.
+    UnknownCommand,
+    /// A command for what is no plain logic of one model.
+    Unsupported,
+    /// A row that follows no node.
+    RowOutside,
+    /// A row of another shape than its node asks.
+    RowShape,
+    /// A row whose value differs from that of an earlier row of its node.
+    RowMix,
+    /// A signal that is an input or the output of a node already, or stands twice on the line.
+    Redefined,
+    /// `.model` with other than one name, or `.names` with none.
+    WordCount,
+    /// A word in a name's place is no name.
+    BadName,
+    /// A word of more than 4,095 bytes.
+    LongWord,
+    /// More than 256 fan-ins.
+    LimitFanin,
+    /// A row after 4,096 rows of its node.
+    LimitRows,
+    /// More than 262,144 inputs and nodes.
+    LimitSignals,
+}
+
+/// Why a text is no network.
+#[derive(Debug, Drop, Error)]
+pub enum BlifFault {
+    /// The number of the first line that breaks a rule, and the first rule that it breaks.
+    #[error("line {0}")]
+    Line(u32, BlifKind),
+    /// No line breaks a rule, but the network as a whole has this fault. It is never want of memory.
+    #[error("network")]
+    Whole(NetFault),
+    /// Want of memory.
+    #[error("out of memory")]
+    Memory,
+}
+
+impl From<AllocError> for BlifFault {
+    ghost use Rattle.std.specs.Prelude.{◌≡◌};
+    ghost use Rattle.lw_blif.specs.declared.fault.BlifFault.TheVariants.{Memory};
+
+    ghost from_gives = { λ e fault. fault ≡ Memory };
+
+    fn from(_: AllocError) -> Self {
+        BlifFault::Memory
+    }
+}

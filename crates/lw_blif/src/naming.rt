@@ -1,0 +1,65 @@
+// Words in places of names.
+ghost use Rattle.std.specs.Prelude.{◌≡◌, ◌+◌, ◌-◌, ◌<◌, ◌≤◌, length, drop, take, IfOk};
+ghost use Rattle.std.specs.List.{list_all, slice_range};
+ghost use Rattle.lw_blif.specs.LineFaults.{is_name, first_word, last_word};
+
+use lw_pool::{Name, Names};
+use lw_words::Words;
+use std::alloc::{AllocError, Global};
+
+const NAME_MAX: usize = 2000;
+
+/// Whether a word may be a name.
+fn is_name(word: &[u8]) -> bool
+    ensures { result ≡ is_name word.now }
+{
+    word.len() <= NAME_MAX && !word.ends_with(b"\\")
+}
+
+/// Whether all words from a place on are names.
+pub fn are_names(words: &Words, from: usize) -> bool
+    requires { from ≤ length words.now }
+    ensures { result ≡ list_all is_name (drop from words.now) }
+{
+    for i in from..words.len() {
+        if !is_name(words.get(i)) {
+            return false;
+        }
+    }
+    true
+}
+
+/// The words between two places.
+pub fn names_between(
+    alloc: Global,
+    words: &Words,
+    from: usize,
+    end: usize,
+) -> Result<Names, AllocError>
+    requires order { from ≤ end }
+    requires within { end ≤ length words.now }
+    ensures { IfOk result (λ names. names ≡ slice_range words.now from end) }
+{
+    let mut names = Names::new(alloc);
+    for i in from..end {
+        names.push(Name::from_slice(alloc, words.get(i))?)?;
+    }
+    Ok(names)
+}
+
+/// The last word.
+pub fn last_word(words: &Words) -> &[u8]
+    requires { 0 < length words.now }
+    ensures word { result.now ≡ last_word words.now }
+    ensures some { 0 < length result.now }
+{
+    words.get(words.len() - 1)
+}
+
+/// The first word.
+pub fn first_word(words: &Words) -> &[u8]
+    requires { 0 < length words.now }
+    ensures { result.now ≡ first_word words.now }
+{
+    words.get(0)
+}

@@ -1,0 +1,103 @@
+// Reads a network's text line by line.
+ghost use Rattle.std.specs.Prelude.{◌≡◌, ◌++◌, [], ◌∷◌, List, Err, IfSome, IsSome};
+
+use crate::command::command_of;
+use crate::naming::first_word;
+use crate::parts::Parts;
+use crate::{BlifFault, BlifKind, Command};
+use lw_words::Line;
+use std::alloc::Global;
+
+/// Why a reader reads no more lines.
+#[derive(Clone, Copy, Debug)]
+pub enum Stop {
+    Broken(u32, BlifKind),
+    Memory,
+}
+
+impl Stop {
+    ghost use Rattle.lw_blif.specs.Standing.{fault_of};
+
+    fn fault(self) -> BlifFault
+        ensures { result ≡ fault_of self }
+    {
+        match self {
+            Stop::Broken(number, kind) => BlifFault::Line(number, kind),
+            Stop::Memory => BlifFault::Memory,
+        }
+    }
+}
+
+impl Command {
+    ghost use Rattle.lw_blif.specs.LineFaults.{ends};
+
+    // Whether the command ends the reading.
+    fn ends(self, first: bool) -> bool
+        ensures { result ≡ ends first self }
+    {
+        match self {
+            Command::End => true,
+            Command::Model => !first,
+            _ => false,
+        }
+    }
+}
+
+/// Reads a network's text line by line. After an error it answers the same to each later line, and changes nothing more.
+#[derive(Drop)]
+pub struct Reader {
+    begun: bool,
+    ended: bool,
+    stop: Option<Stop>,
+    parts: Parts,
+}
+
+impl Reader {
+    ghost use Rattle.lw_words.specs.Lines.{LogicalLine};
+    ghost use Rattle.lw_blif.specs.LineFaults.{first_fault, lines_read};
+    ghost use Rattle.lw_blif.specs.Standing.{StandsFor, Tells, stop_of, fault_of};
+
+    pub fn new(alloc: Global) -> Self
+        ensures { StandsFor result [] }
+    {
+        Reader {
+            begun: false,
+            ended: false,
+            stop: None,
+            parts: Parts::new(alloc),
+        }
+    }
+
+    /// Reads a line. The answer is the first line that breaks a rule, and the first rule that it breaks.
+    pub fn line(&mut self, line: &Line) -> Result<(), BlifFault>
+        ensures stands { (lines : List LogicalLine) → StandsFor self.old lines → StandsFor self.new (lines ++ line.now ∷ []) }
+        ensures answer { (lines : List LogicalLine) → StandsFor self.old lines → Tells result (first_fault [] (lines_read (lines ++ line.now ∷ []))) }
+        ensures again { IfSome (stop_of self.old) (λ stop. result ≡ Err (fault_of stop)) }
+        ensures unchanged { IsSome (stop_of self.old) → self.new ≡ self.old }
+    {
+        if let Some(stop) = self.stop {
+            return Err(stop.fault());
+        }
+        if self.ended {
+            return Ok(());
+        }
+        let first = !self.begun;
+        self.begun = true;
+        let asked = command_of(first_word(&line.words));
+        if asked.ends(first) {
+            self.ended = true;
+            return Ok(());
+        }
+        match self.parts.read(line, asked) {
+            Ok(None) => Ok(()),
+            Ok(Some(kind)) => {
+                self.stop = Some(Stop::Broken(line.number, kind));
+                Err(BlifFault::Line(line.number, kind))
+            }
+            Err(_) => {
+                self.stop = Some(Stop::Memory);
+                Err(BlifFault::Memory)
+            }
+        }
+    }
+}

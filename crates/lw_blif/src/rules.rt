@@ -1,0 +1,78 @@
+// The rules for lines of names.
+ghost use Rattle.std.specs.Prelude.{◌≡◌, ◌+◌, ◌<◌, ◌≤◌, ◌&&◌, nat_lt, length};
+ghost use Rattle.std.specs.List.{list_all};
+ghost use Rattle.lw_blif.specs.LineFaults.{wants_words, is_name, names_for, defined_for, is_names_command, words_before_last, other_words};
+ghost use Rattle.lw_blif.specs.Readers.{names_fault_of};
+
+use crate::naming::are_names;
+use crate::{BlifKind, Command};
+use lw_words::Words;
+
+const FANINS_MAX: usize = 256;
+
+// A network has at most so many inputs and nodes.
+const SIGNALS_MAX: usize = 262_144;
+
+fn wants_words(command: Command, words: &Words) -> bool
+    ensures { result ≡ wants_words command words.now }
+{
+    match command {
+        Command::Model => words.len() == 2,
+        Command::Names => words.len() >= 2,
+        _ => true,
+    }
+}
+
+// Whether the words in places of names are names.
+fn has_names(command: Command, words: &Words) -> bool
+    requires { 0 < length words.now }
+    ensures { result ≡ list_all is_name (names_for command words.now) }
+{
+    match command {
+        Command::Model | Command::Inputs | Command::Outputs | Command::Names => are_names(words, 1),
+        _ => true,
+    }
+}
+
+// Whether a node has more fan-ins than it may have.
+fn has_many_fanins(command: Command, words: &Words) -> bool
+    ensures { result ≡ (is_names_command command && nat_lt 256 (length (words_before_last (other_words words.now)))) }
+{
+    match command {
+        Command::Names => words.len() > FANINS_MAX + 2,
+        _ => false,
+    }
+}
+
+// How many signals a line defines.
+fn defined_count(command: Command, words: &Words) -> usize
+    requires { 0 < length words.now }
+    ensures { result ≡ length (defined_for command words.now) }
+{
+    match command {
+        Command::Inputs => words.len() - 1,
+        Command::Names => 1,
+        _ => 0,
+    }
+}
+
+/// The first rule that a line of names breaks, behind lines that define so many signals, definitions aside.
+#[tactic(auto, unfolding(crate::specs::Readers::names_fault_of))]
+pub fn names_fault(defined: usize, command: Command, words: &Words) -> Option<BlifKind>
+    requires { 0 < length words.now }
+    ensures { result ≡ names_fault_of defined command words.now }
+{
+    if !wants_words(command, words) {
+        return Some(BlifKind::WordCount);
+    }
+    if !has_names(command, words) {
+        return Some(BlifKind::BadName);
+    }
+    if has_many_fanins(command, words) {
+        return Some(BlifKind::LimitFanin);
+    }
+    if defined.saturating_add(defined_count(command, words)) > SIGNALS_MAX {
+        return Some(BlifKind::LimitSignals);
+    }
+    None
+}
