@@ -7,3 +7,5 @@ mod decimals;
 mod lines;
 #[cfg(test)]
 mod nets;
+#[cfg(test)]
+mod pools;
