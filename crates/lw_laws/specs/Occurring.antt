@@ -1,6 +1,8 @@
 -- The list of occurring base forms, and the number of splits.
 use Rattle.std.specs.Prelude.{◌<◌, ◌≡◌, Some, slice_get, ℕ, ◌+◌, ◌-◌, ◌/◌, ◌%◌, ◌^◌, ◌==◌, true, false, cond, leb, if◌then◌else◌, List, [], ◌∷◌, ◌++◌, length}
 use Rattle.lw_laws.specs.Networks.{Network}
+use Rattle.lw_laws.specs.Modes.{Mode}
+use Rattle.lw_laws.specs.Modes.Mode.{plain, idempotent}
 use Rattle.lw_laws.specs.Forms.{Form, FormList, items, and_of, is_among}
 use Rattle.lw_laws.specs.Forms.Form.{var_form, true_form, not_form, and_form}
 use Rattle.lw_laws.specs.Forms.FormList.{no_forms, more_forms}
@@ -53,13 +55,19 @@ add_signals (s ∷ signals) bases = add_signals signals (add_form s.fac (add_for
 abbrev pub occurring_forms : ℕ → Network → List Form
 occurring_forms width net = add_signals (signals_of width net) (true_form ∷ [])
 
-abbrev pub splits_at : Form → ℕ
-splits_at (and_form fs) = 2 ^ (length (items fs) - 1) - 1
-splits_at _ = 0
+-- How many splits an And of so many operands has: unordered cuts into two non-empty sub-lists, and in the further mode
+-- unordered pairs of different non-empty sub-lists that together hold every operand. The tied-inverter law's are not counted.
+abbrev pub splits_of : Mode → ℕ → ℕ
+splits_of plain k = 2 ^ (k - 1) - 1
+splits_of idempotent k = (3 ^ k - 3) / 2
 
-abbrev pub split_count : List Form → ℕ
-split_count [] = 0
-split_count (f ∷ fs) = splits_at f + split_count fs
+abbrev pub splits_at : Mode → Form → ℕ
+splits_at mode (and_form fs) = splits_of mode (length (items fs))
+splits_at mode _ = 0
+
+abbrev pub split_count : Mode → List Form → ℕ
+split_count mode [] = 0
+split_count mode (f ∷ fs) = splits_at mode f + split_count mode fs
 
 abbrev pub and_count : List Form → ℕ
 and_count [] = 0
