@@ -20,6 +20,7 @@ pub mod FormTruth
 pub mod Functional
 pub mod Headline
 pub mod HeightRounds
+pub mod HeightTests
 pub mod Heights
 pub mod LabelLaws
 pub mod Listed

@@ -1,5 +1,5 @@
 -- Least arrivals of worked examples: the three-input And, the XOR of two inputs, and sharing between two nodes.
-use Rattle.std.proofs.Common.{ℕ, Bool, true, false, List, [], ◌∷◌, Option, Some, None, refl, lit<, lit≤, inl, slice_index_or}
+use Rattle.std.proofs.Common.{ℕ, Bool, true, false, List, [], ◌∷◌, Option, Some, None, refl, suc, ◌≤◌, ◌≡◌, ap, lit<, lit≤, inl, inr, length, map, slice_index_or}
 use Rattle.std.specs.List.{AllByRecursion}
 use Rattle.lw_laws.specs.Modes.Mode.{plain}
 use Rattle.lw_laws.specs.Trees.{Tree, leaf, inv, nand}
@@ -15,8 +15,12 @@ use Rattle.lw_laws.specs.Covers.Covers.{no_covers, cover}
 use Rattle.lw_laws.specs.Expressions.{Expr}
 use Rattle.lw_laws.specs.Expressions.Expr.{expr_pin, expr_not, expr_and, expr_or}
 use Rattle.lw_laws.specs.Patterns.{patterns_of}
+use Rattle.lw_laws.specs.Choices.{AreHeights}
+use Rattle.lw_laws.specs.Matches.{choices_of, IsLeastCover}
+use Rattle.lw_laws.specs.Rounds.{labels_in}
 use Rattle.lw_laws.specs.Delays.{delay_cost}
-use Rattle.lw_laws.specs.Graphs.{Pair, Graph, AreRising, IsWritten}
+use Rattle.lw_laws.specs.Flip.{flip}
+use Rattle.lw_laws.specs.Graphs.{Pair, Graph, HoldsPair, AreRising, IsWritten}
 use Rattle.lw_laws.specs.Classes.{IsGraphOf}
 use Rattle.lw_laws.specs.Mapped.{forms_of, IsLabelledOver}
 use Rattle.lw_laws.specs.Headline.{HasLeastArrival}
@@ -24,7 +28,8 @@ use Rattle.lw_laws.proofs.PatternExamples.{exprs}
 use Rattle.lw_laws.proofs.EncodingTests.{PassesTests}
 use Rattle.lw_laws.proofs.PotentialTests.{PassesLabelTests}
 use Rattle.lw_laws.proofs.ClassLaws.{encoding_is_graph}
-use Rattle.lw_laws.proofs.MappingTests.{labelled_least, tested}
+use Rattle.lw_laws.proofs.HeightTests.{IsReached, tests_heights}
+use Rattle.lw_laws.proofs.MappingTests.{labelled_least, labels_least, tested}
 
 abbrev y : Option Bool
 y = Some true
@@ -75,8 +80,85 @@ bounded_3 = record { even = 8; count = refl; listed = lit≤ tt; one = lit< tt; 
 pub labelled_3 : IsLabelledOver plain 6 and_3 graph_3 (patterns_of cells) delays cap labels_3
 labelled_3 = tested 6 (lit≤ tt) and_3 graph_3 [] encoded_3 (patterns_of cells) delays cap labels_3 bounded_3 refl (lit< tt)
 
+-- the heights of the classes by number
+abbrev heights_3 : List ℕ
+heights_3 = 0 ∷ 0 ∷ 0 ∷ 1 ∷ 0 ∷ 1 ∷ 0 ∷ 1 ∷ 2 ∷ 1 ∷ 2 ∷ 1 ∷ 2 ∷ 1 ∷ 2 ∷ 1 ∷ []
+
+abbrev pub height_3 : ℕ → ℕ
+height_3 c = slice_index_or heights_3 c 0
+
 abbrev pattern : ℕ → Tree → Pattern
 pattern cell t = record { cell = cell; tree = t }
+
+abbrev Reached_3 : ℕ → Type 0
+Reached_3 = IsReached labels_3 heights_3 graph_3 (patterns_of cells) (delay_cost delays cap)
+
+abbrev cost_3 : ℕ → List ℕ → ℕ
+cost_3 cell ls = (delay_cost delays cap).value cell ls
+
+-- a class where an inverter or a nand2 stands, which are higher than their pins
+reached_by_inv : (c p l h : ℕ) → p ≡ flip c → labels_in labels_3 p ≡ Some l → labels_in labels_3 c ≡ Some (cost_3 0 (l ∷ [])) → height_3 p ≤ h → suc h ≤ height_3 c → Reached_3 c
+reached_by_inv c p l h at e f le lt =
+    inr (0, p ∷ [], h, record { stands = record { pattern = pattern 0 (inv (leaf 0)); listed = (0, lit< tt, refl); cell_is = refl; pins = refl; stands = ap Some at }; pin_labels = l ∷ []; have = (e, tt); value = f }, (le, tt), lt)
+
+reached_by_nand : (c x y l m h : ℕ) → HoldsPair graph_3 c x y → labels_in labels_3 x ≡ Some l → labels_in labels_3 y ≡ Some m → labels_in labels_3 c ≡ Some (cost_3 1 (l ∷ m ∷ [])) → height_3 x ≤ h → height_3 y ≤ h → suc h ≤ height_3 c → Reached_3 c
+reached_by_nand c x y l m h holds e f v le me lt =
+    inr (1, x ∷ y ∷ [], h, record { stands = record { pattern = pattern 1 (nand (leaf 0) (leaf 1)); listed = (1, lit< tt, refl); cell_is = refl; pins = refl; stands = (x, y, holds, refl, refl) }; pin_labels = l ∷ m ∷ []; have = (e, (f, tt)); value = v }, (le, (me, tt)), lt)
+
+-- where the nand3 of the inputs stands
+reached_15 : Reached_3 15
+unfolding Rattle.lw_laws.specs.Flip.flip
+reached_15 =
+    inr (2, 2 ∷ 4 ∷ 6 ∷ [], 0, record { stands = record { pattern = pattern 2 (nand (inv (nand (leaf 0) (leaf 1))) (leaf 2)); listed = (2, lit< tt, refl); cell_is = refl; pins = refl; stands = (8, 6, inr (2, lit< tt, refl), (2, 4, inl (0, lit< tt, refl), refl, refl), refl) }; pin_labels = 0 ∷ 0 ∷ 0 ∷ []; have = (refl, (refl, (refl, tt))); value = refl }, (lit≤ tt, (lit≤ tt, (lit≤ tt, tt))), lit≤ tt)
+
+pub measured_3 : AreHeights (choices_of graph_3 (map length delays) (patterns_of cells)) (delay_cost delays cap) (labels_in labels_3) height_3
+unfolding Rattle.lw_laws.specs.Flip.flip
+measured_3 =
+    tests_heights labels_3 heights_3 graph_3 (patterns_of cells) (delay_cost delays cap) bounded_3 (record {
+      inputs = (refl, (refl, (refl, tt)));
+      reached = (
+        inl (0, refl),
+        (
+          reached_by_inv 3 2 0 0 refl refl refl (lit≤ tt) (lit≤ tt),
+          (
+            inl (1, refl),
+            (
+              reached_by_inv 5 4 0 0 refl refl refl (lit≤ tt) (lit≤ tt),
+              (
+                inl (2, refl),
+                (
+                  reached_by_inv 7 6 0 0 refl refl refl (lit≤ tt) (lit≤ tt),
+                  (
+                    reached_by_inv 8 9 1500000 1 refl refl refl (lit≤ tt) (lit≤ tt),
+                    (
+                      reached_by_nand 9 2 4 0 0 0 (inl (0, lit< tt, refl)) refl refl refl (lit≤ tt) (lit≤ tt) (lit≤ tt),
+                      (
+                        reached_by_inv 10 11 1500000 1 refl refl refl (lit≤ tt) (lit≤ tt),
+                        (
+                          reached_by_nand 11 2 6 0 0 0 (inl (0, lit< tt, refl)) refl refl refl (lit≤ tt) (lit≤ tt) (lit≤ tt),
+                          (
+                            reached_by_inv 12 13 1500000 1 refl refl refl (lit≤ tt) (lit≤ tt),
+                            (
+                              reached_by_nand 13 4 6 0 0 0 (inl (0, lit< tt, refl)) refl refl refl (lit≤ tt) (lit≤ tt) (lit≤ tt),
+                              (reached_by_inv 14 15 2000000 1 refl refl refl (lit≤ tt) (lit≤ tt), (reached_15, tt)),
+                            ),
+                          ),
+                        ),
+                      ),
+                    ),
+                  ),
+                ),
+              ),
+            ),
+          ),
+        ),
+      );
+      low = refl;
+    })
+
+-- each label is the least time of a cover of its class, and a class without label has no cover
+pub least_3 : (c : ℕ) → IsLeastCover graph_3 (patterns_of cells) (delay_cost delays cap) c (labels_in labels_3 c)
+least_3 = labels_least 6 and_3 graph_3 (patterns_of cells) delays cap labels_3 height_3 labelled_3 measured_3
 
 abbrev one_pin : Cover → Covers
 one_pin k = cover k no_covers

@@ -10,6 +10,8 @@ use Rattle.lw_laws.specs.Graphs.{Graph}
 use Rattle.lw_laws.specs.Signals.{sop_at, signals_of}
 use Rattle.lw_laws.specs.Decompositions.{listing_of, HasTree}
 use Rattle.lw_laws.specs.Covers.{Pattern, ArePatterns, Cover, IsCover, tree_of, time_of}
+use Rattle.lw_laws.specs.Choices.{AreHeights}
+use Rattle.lw_laws.specs.Matches.{choices_of, IsLeastCover}
 use Rattle.lw_laws.specs.Rounds.{labels_in}
 use Rattle.lw_laws.specs.NumberedForms.{family_of}
 use Rattle.lw_laws.specs.Delays.{delay_cost}
@@ -20,7 +22,8 @@ use Rattle.lw_laws.proofs.Agreement.{numbered_are_forms}
 use Rattle.lw_laws.proofs.NumberedForms.{forms_are_family}
 use Rattle.lw_laws.proofs.Encoding.{pairs_in_one_class}
 use Rattle.lw_laws.proofs.Headline.{has_plain_trees}
-use Rattle.lw_laws.proofs.Together.{bounds_covers}
+use Rattle.lw_laws.proofs.Together.{bounds_covers, least_covers}
+use Rattle.lw_laws.proofs.LabelLaws.{along_heights}
 use Rattle.lw_laws.proofs.Delays.{delay_cost_is, cost_of-time}
 use Rattle.lw_laws.proofs.Mapping.{sop_occurs}
 use Rattle.lw_laws.proofs.PatternLaws.{has_leaf, leaf_is}
@@ -100,3 +103,16 @@ tested width wide net g merged passes pats delays cap labels bounded fits few = 
   patterns = fitting_patterns (map length delays) pats fits;
   potential = tests_bound labels g pats (delay_cost delays cap) bounded;
 }
+
+-- Labels of times that are a potential, with heights of the classes, are the least times of covers.
+pub labels_least : (width : ℕ) (net : Network) (g : Graph) (pats : List Pattern) (delays : List (List ℕ)) (cap : ℕ) (labels : List (Option ℕ)) (heights : ℕ → ℕ) → IsLabelledOver plain width net g pats delays cap labels → AreHeights (choices_of g (map length delays) pats) (delay_cost delays cap) (labels_in labels) heights → (c : ℕ) → IsLeastCover g pats (delay_cost delays cap) c (labels_in labels c)
+labels_least width net g pats delays cap labels heights over are c =
+    let listing = occurring_is_listing width over.wide net in
+    let once = pairs_in_one_class (family_of plain (forms_of width net)) (λ h. h / 2) (forms_are_family plain (forms_of width net) (numbered_are_forms net.inputs (listing_of width net) listing)) g over.encodes in
+    least_covers g pats (delay_cost delays cap) labels over.few once over.patterns (delay_cost_is delays cap) over.potential (along_heights g pats (delay_cost delays cap) labels heights are leaf) c
+  where
+    leaf : (d i l : ℕ) → slice_get g.leaves i ≡ Some d → labels_in labels d ≡ Some l → l ≡ 0
+    leaf d i l at e =
+        let (m, f, le) = over.potential.inputs d i at in
+        let same : m ≡ l = cc in
+        omega arith

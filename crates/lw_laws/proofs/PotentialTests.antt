@@ -1,5 +1,5 @@
 -- Tests of the labels of a small graph, which hold only where they are a potential of its matches.
-use Rattle.std.proofs.Common.{ℕ, zero, suc, ◌+◌, ◌*◌, ◌<◌, ◌≤◌, ◌==◌, ◌≡◌, ◌⊎◌, inl, inr, Bool, true, false, ◌&&◌, cond, leb, List, [], ◌∷◌, ◌++◌, length, map, replicate, Contains, Option, Some, None, slice_get, slice_index_or, refl, ap, ap₂, sym, ◌∙◌, subst, arith}
+use Rattle.std.proofs.Common.{ℕ, zero, suc, ◌+◌, ◌*◌, ◌<◌, ◌≤◌, ◌==◌, ◌≡◌, ◌⊎◌, inl, inr, Bool, true, false, ◌&&◌, cond, leb, List, [], ◌∷◌, ◌++◌, length, map, replicate, Contains, Option, Some, None, slice_get, slice_index_or, refl, ap₂, sym, subst, arith}
 use Rattle.std.specs.List.{AllZip, list_all}
 use Rattle.std.proofs.lemmas.Bool.Decides.{nat_tests}
 use native.Mathlib.Decide.{ℕ_discrete, dec_lt}
@@ -149,35 +149,41 @@ module _ (labels : List (Option ℕ)) where
       leb_le a b e = grind (arith, nat_tests)
 
   module _ (g : Graph) (pats : List Pattern) (cost : Cost) where
-    abbrev labels_bounded : ℕ → ℕ → Option (List ℕ) → Bool
-    labels_bounded c cell None = true
-    labels_bounded c cell (Some ls) = is_at_most (known c) (cost.value cell ls)
+    -- what each match with labelled pins is asked: its class, its cell, its pins and their labels
+    module _ (test : ℕ → ℕ → List ℕ → List ℕ → Bool) where
+      abbrev labels_pass : ℕ → ℕ → List ℕ → Option (List ℕ) → Bool
+      labels_pass c cell ps None = true
+      labels_pass c cell ps (Some ls) = test c cell ps ls
 
-    abbrev pins_bounded : ℕ → ℕ → Option (List ℕ) → Bool
-    pins_bounded c cell None = false
-    pins_bounded c cell (Some ps) = labels_bounded c cell (labels_of ps)
+      abbrev pins_pass : ℕ → ℕ → Option (List ℕ) → Bool
+      pins_pass c cell None = false
+      pins_pass c cell (Some ps) = labels_pass c cell ps (labels_of ps)
 
-    abbrev match_bounded : ℕ → ℕ → Partial → Bool
-    match_bounded c cell w = pins_bounded c cell (all_bound w)
+      abbrev binding_passes : ℕ → ℕ → Partial → Bool
+      binding_passes c cell w = pins_pass c cell (all_bound w)
 
-    abbrev bindings_bounded : ℕ → Pattern → Option ℕ → Bool
-    bindings_bounded c p None = true
-    bindings_bounded c p (Some n) = list_all (match_bounded c p.cell) (stands_all g p.tree c (replicate n None))
+      abbrev bindings_pass : ℕ → Pattern → Option ℕ → Bool
+      bindings_pass c p None = true
+      bindings_pass c p (Some n) = list_all (binding_passes c p.cell) (stands_all g p.tree c (replicate n None))
 
-    abbrev pattern_bounded : ℕ → Pattern → Bool
-    pattern_bounded c p = bindings_bounded c p (slice_get cost.pin_counts p.cell)
+      abbrev pattern_passes : ℕ → Pattern → Bool
+      pattern_passes c p = bindings_pass c p (slice_get cost.pin_counts p.cell)
 
-    abbrev classes_bounded : ℕ → Bool
-    classes_bounded zero = true
-    classes_bounded (suc c) = list_all (pattern_bounded c) pats && classes_bounded c
+      abbrev pub classes_pass : ℕ → Bool
+      classes_pass zero = true
+      classes_pass (suc c) = list_all (pattern_passes c) pats && classes_pass c
 
-    class_bounded : (n c : ℕ) → classes_bounded n ≡ true → c < n → list_all (pattern_bounded c) pats ≡ true
-    class_bounded zero c e lt = absurd (omega arith)
-    class_bounded (suc n) c e lt = by_place (ℕ_discrete c n) (and_true (list_all (pattern_bounded n) pats) (classes_bounded n) e) (λ r l. class_bounded n c r l)
-      where
-        by_place : Dec (c ≡ n) → (list_all (pattern_bounded n) pats ≡ true) × (classes_bounded n ≡ true) → (classes_bounded n ≡ true → c < n → list_all (pattern_bounded c) pats ≡ true) → list_all (pattern_bounded c) pats ≡ true
-        by_place (yes s) p ih = subst (λ k. list_all (pattern_bounded k) pats ≡ true) (sym s) p.0
-        by_place (no out) p ih = ih p.1 (omega arith)
+      class_passes : (n c : ℕ) → classes_pass n ≡ true → c < n → list_all (pattern_passes c) pats ≡ true
+      class_passes zero c e lt = absurd (omega arith)
+      class_passes (suc n) c e lt = by_place (ℕ_discrete c n) (and_true (list_all (pattern_passes n) pats) (classes_pass n) e) (λ r l. class_passes n c r l)
+        where
+          by_place : Dec (c ≡ n) → (list_all (pattern_passes n) pats ≡ true) × (classes_pass n ≡ true) → (classes_pass n ≡ true → c < n → list_all (pattern_passes c) pats ≡ true) → list_all (pattern_passes c) pats ≡ true
+          by_place (yes s) p ih = subst (λ k. list_all (pattern_passes k) pats ≡ true) (sym s) p.0
+          by_place (no out) p ih = ih p.1 (omega arith)
+
+    -- the label of the class is there, not above the match's value
+    abbrev pub is_bounded : ℕ → ℕ → List ℕ → List ℕ → Bool
+    is_bounded c cell ps ls = is_at_most (known c) (cost.value cell ls)
 
     -- inputs' classes are labelled, not above their leaves' costs
     abbrev leaves_bounded : ℕ → List ℕ → Bool
@@ -199,7 +205,7 @@ module _ (labels : List (Option ℕ)) where
       pub count : length g.pairs ≡ 2 * even
       pub listed : length labels ≤ length g.pairs
       pub one : g.one < length g.pairs
-      pub matches : classes_bounded (length g.pairs) ≡ true
+      pub matches : classes_pass is_bounded (length g.pairs) ≡ true
       pub leaves : leaves_bounded 0 g.leaves ≡ true
 
     module _ (passes : PassesLabelTests) where
@@ -232,23 +238,28 @@ module _ (labels : List (Option ℕ)) where
       none_past (nand t u) c ps ls le a (x, y, inl h, s, r) = past_row g.pairs c (record { x = x; y = y }) le h
       none_past (nand t u) c ps ls le a (x, y, inr h, s, r) = past_row g.pairs c (record { x = y; y = x }) le h
 
-      match_at_most : (c : ℕ) (p : Pattern) (ps ls : List ℕ) → Contains pats p → HasPins cost.pin_counts p.cell (length ps) → Stands g ps p.tree c → HaveLabels known ps ls → HasLabelAtMost known c (cost.value p.cell ls)
-      match_at_most c p ps ls listed pins stands have = by_place (dec_lt c (length g.pairs))
+      -- a test of all bindings that are found is one of all matches
+      pub match_passes : (test : ℕ → ℕ → List ℕ → List ℕ → Bool) → classes_pass test (length g.pairs) ≡ true → (c : ℕ) (p : Pattern) (ps ls : List ℕ) → Contains pats p → HasPins cost.pin_counts p.cell (length ps) → Stands g ps p.tree c → HaveLabels known ps ls → test c p.cell ps ls ≡ true
+      match_passes test all_pass c p ps ls listed pins stands have = by_place (dec_lt c (length g.pairs))
         where
-          by_bound : (v : Partial) → Fits v ps → (o : Option (List ℕ)) → all_bound v ≡ o → pins_bounded c p.cell o ≡ true → HasLabelAtMost known c (cost.value p.cell ls)
+          by_bound : (v : Partial) → Fits v ps → (o : Option (List ℕ)) → all_bound v ≡ o → pins_pass test c p.cell o ≡ true → test c p.cell ps ls ≡ true
           by_bound v fits None e t = cc
           by_bound v fits (Some qs) e t =
               let same = bound_fits v ps qs fits e in
-              let all : labels_of qs ≡ Some ls = ap labels_of same ∙ labels_have ps ls have in
-              at_most_true c (cost.value p.cell ls) (known c) refl (subst (λ o. labels_bounded c p.cell o ≡ true) all t)
+              let t' = subst (λ rs. labels_pass test c p.cell rs (labels_of rs) ≡ true) same t in
+              subst (λ o. labels_pass test c p.cell ps o ≡ true) (labels_have ps ls have) t'
 
-          by_place : Dec (c < length g.pairs) → HasLabelAtMost known c (cost.value p.cell ls)
+          by_place : Dec (c < length g.pairs) → test c p.cell ps ls ≡ true
           by_place (no out) = absurd (none_past p.tree c ps ls (omega arith) have stands)
           by_place (yes lt) =
-              let here = all_true (pattern_bounded c) pats p (class_bounded (length g.pairs) c passes.matches lt) listed in
-              let bindings = subst (λ o. bindings_bounded c p o ≡ true) pins here in
+              let here = all_true (pattern_passes test c) pats p (class_passes test (length g.pairs) c all_pass lt) listed in
+              let bindings = subst (λ o. bindings_pass test c p o ≡ true) pins here in
               let (v, at, fits) = stands_listed g p.tree c (replicate (length ps) None) ps (none_fits ps) stands in
-              by_bound v fits (all_bound v) refl (all_true (match_bounded c p.cell) (stands_all g p.tree c (replicate (length ps) None)) v bindings at)
+              by_bound v fits (all_bound v) refl (all_true (binding_passes test c p.cell) (stands_all g p.tree c (replicate (length ps) None)) v bindings at)
+
+      match_at_most : (c : ℕ) (p : Pattern) (ps ls : List ℕ) → Contains pats p → HasPins cost.pin_counts p.cell (length ps) → Stands g ps p.tree c → HaveLabels known ps ls → HasLabelAtMost known c (cost.value p.cell ls)
+      match_at_most c p ps ls listed pins stands have =
+          at_most_true c (cost.value p.cell ls) (known c) refl (match_passes is_bounded passes.matches c p ps ls listed pins stands have)
 
       -- labels that pass the tests are a potential
       pub tests_bound : IsPotentialOf g pats cost labels
