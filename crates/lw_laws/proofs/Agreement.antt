@@ -376,12 +376,12 @@ module _ (inputs : ℕ) (o : Listing) (is : IsListing o) where
       let occ = is.signals r.at r.signal r.listed in
       record { other = complement r.signal.sop; is_number = complement_at r.signal.sop m occ.0 r.sop_is; one = (r.at, r.signal, r.listed, inr (inr (complement_is f r.signal.fac n num occ.1 r.fac_is, refl))) }
 
-  input_at : (b i n : ℕ) → slice_get forms.bases b ≡ Some (base_input i) → n ≡ 2 * b → IsNumber o.bases (var_form i) n
+  pub input_at : (b i n : ℕ) → slice_get forms.bases b ≡ Some (base_input i) → n ≡ 2 * b → IsNumber o.bases (var_form i) n
   input_at b i n e s =
       let (g, d, k) = slice_get_map_back (numbered_base o.bases) o.bases b (base_input i) e in
       (b, d ∙ ap Some (input_of_base b i g d k), s ∙ sym (add-zero (2 * b)))
 
-  true_at : (b : ℕ) → slice_get forms.bases b ≡ Some base_true → slice_get o.bases b ≡ Some true_form
+  pub true_at : (b : ℕ) → slice_get forms.bases b ≡ Some base_true → slice_get o.bases b ≡ Some true_form
   true_at b e =
       let (g, d, k) = slice_get_map_back (numbered_base o.bases) o.bases b base_true e in
       d ∙ ap Some (true_of_base b g d k)

@@ -34,7 +34,7 @@ turned_nand mode o (of_parts occ parts le re) = of_parts occ (parts_turned parts
 turned_nand mode o (of_overlap m occ parts ne le re) = of_overlap m occ (overlapping_turned parts) (λ e. ne (sym e)) re le
 turned_nand mode o (of_complement m occ) = of_complement m occ
 
-module _ (mode : Mode) (inputs : ℕ) (o : Listing) (is : IsListing o) (g : Graph) (encodes : Encodes (family_of mode (numbered inputs o)) g) where
+module _ (mode : Mode) (inputs : ℕ) (o : Listing) (is : IsListing o) (g : Graph) where
   abbrev N : Form → ℕ
   N f = number o.bases f
 
@@ -53,7 +53,7 @@ module _ (mode : Mode) (inputs : ℕ) (o : Listing) (is : IsListing o) (g : Grap
         right_at = ap (class_of g) (sym (number_of o is r.right b r.right_number)) ∙ q;
       }
 
-  split_of_nand : (c x y : ℕ) → HasNand (family_of mode (numbered inputs o)) g c x y → HasSplitAt mode o g c x y
+  pub split_of_nand : (c x y : ℕ) → HasNand (family_of mode (numbered inputs o)) g c x y → HasSplitAt mode o g c x y
   split_of_nand c x y h = by_order h.is_nand
     where
       by_order : IsNand (family_of mode (numbered inputs o)) h.form h.left h.right → HasSplitAt mode o g c x y
@@ -62,12 +62,23 @@ module _ (mode : Mode) (inputs : ℕ) (o : Listing) (is : IsListing o) (g : Grap
           let r = split_here c y x h.form h.right h.left s h.form_at h.right_at h.left_at in
           record { form = r.form; left = r.right; right = r.left; is_nand = turned_nand mode o r.is_nand; form_at = r.form_at; left_at = r.right_at; right_at = r.left_at }
 
+  pub nand_of_split : (c x y : ℕ) → HasSplitAt mode o g c x y → HasNand (family_of mode (numbered inputs o)) g c x y
+  nand_of_split c x y s = record { form = N s.form; left = N s.left; right = N s.right; is_nand = inl (nand_numbers inputs o is mode s.is_nand); form_at = s.form_at; left_at = s.left_at; right_at = s.right_at }
+
   -- a class holds the pairs of the splits of its forms
-  pub pairs_split : (c x y : ℕ) → HoldsPair g c x y ↔ HasSplitAt mode o g c x y
-  pairs_split c x y = (
-    λ h. split_of_nand c x y ((encodes.pairs c x y).0 h),
-    λ s. (encodes.pairs c x y).1 (record { form = N s.form; left = N s.left; right = N s.right; is_nand = inl (nand_numbers inputs o is mode s.is_nand); form_at = s.form_at; left_at = s.left_at; right_at = s.right_at }),
-  )
+  pub pairs_split : Encodes (family_of mode (numbered inputs o)) g → (c x y : ℕ) → HoldsPair g c x y ↔ HasSplitAt mode o g c x y
+  pairs_split encodes c x y = (λ h. split_of_nand c x y ((encodes.pairs c x y).0 h), λ s. (encodes.pairs c x y).1 (nand_of_split c x y s))
+
+-- true and the inputs by their numbers
+pub true_number : (mode : Mode) (inputs : ℕ) (o : Listing) → IsListing o → slice_get o.bases 0 ≡ Some true_form → (family_of mode (numbered inputs o)).IsTop (number o.bases true_form)
+true_number mode inputs o is e =
+    let (b, l, s) = occurs_number o is true_form (0, e) in
+    (b, slice_get_map (numbered_base o.bases) o.bases b true_form l, s ∙ add-zero (2 * b))
+
+pub input_number : (mode : Mode) (inputs : ℕ) (o : Listing) → IsListing o → (i : ℕ) → slice_get o.bases (i + 1) ≡ Some (var_form i) → (family_of mode (numbered inputs o)).IsInput (number o.bases (var_form i)) i
+input_number mode inputs o is i e =
+    let (b, l, s) = occurs_number o is (var_form i) (i + 1, e) in
+    (b, slice_get_map (numbered_base o.bases) o.bases b (var_form i) l, s ∙ add-zero (2 * b))
 
 -- the graph that encodes the forms of a network, with their numbers, is the graph of the forms
 pub encoding_is_graph : (mode : Mode) (width : ℕ) (net : Network) (g : Graph) → 2 ≤ width → Encodes (family_of mode (forms_of width net)) g → IsWritten (length (occurring_forms width net)) net.inputs g → IsGraphOf mode net.inputs (listing_of width net) g
@@ -77,21 +88,11 @@ encoding_is_graph mode width net g wide encodes written =
     let first = true_and_inputs_first width wide net in
     record {
       written = written;
-      one = sym ((encodes.one (class_in o g true_form)).1 (number o.bases true_form, (at_true o is first.first), refl));
-      leaves = λ i lt. (encodes.leaves i (class_in o g (var_form i))).1 (number o.bases (var_form i), at_input o is i (first.inputs i lt), refl);
+      one = sym ((encodes.one (class_in o g true_form)).1 (number o.bases true_form, (true_number mode net.inputs o is first.first), refl));
+      leaves = λ i lt. (encodes.leaves i (class_in o g (var_form i))).1 (number o.bases (var_form i), input_number mode net.inputs o is i (first.inputs i lt), refl);
       classes = classes_shared mode net.inputs o g is encodes;
       pairs = pairs_split mode net.inputs o is g encodes;
     }
-  where
-    at_true : (o : Listing) → IsListing o → slice_get o.bases 0 ≡ Some true_form → (family_of mode (numbered net.inputs o)).IsTop (number o.bases true_form)
-    at_true o is e =
-        let (b, l, s) = occurs_number o is true_form (0, e) in
-        (b, slice_get_map (numbered_base o.bases) o.bases b true_form l, s ∙ add-zero (2 * b))
-
-    at_input : (o : Listing) → IsListing o → (i : ℕ) → slice_get o.bases (i + 1) ≡ Some (var_form i) → (family_of mode (numbered net.inputs o)).IsInput (number o.bases (var_form i)) i
-    at_input o is i e =
-        let (b, l, s) = occurs_number o is (var_form i) (i + 1, e) in
-        (b, slice_get_map (numbered_base o.bases) o.bases b (var_form i) l, s ∙ add-zero (2 * b))
 
 -- numbers of pairs of classes by first places are one
 module _ (X Y : ℕ → ℕ) (total : ℕ) (same : (a b : ℕ) → a < total → b < total → (X a ≡ X b) ↔ (Y a ≡ Y b)) (turned : (a b : ℕ) → a < total → b < total → (X a ≡ flip (X b)) ↔ (Y a ≡ flip (Y b))) where
@@ -173,7 +174,7 @@ module _ (X Y : ℕ → ℕ) (total : ℕ) (same : (a b : ℕ) → a < total →
       let rest = numbers_same (suc m) next xs ys (omega arith) (omega arith) (rest_from X m c xs f) (rest_from Y m d ys h) (kept_found m next found) a b in
       ap₂ (λ z zs. z ∷ zs) s rest
 
-base_class : (g : Graph) (b c : ℕ) → slice_get g.forms b ≡ Some c → class_of g (2 * b) ≡ c
+pub base_class : (g : Graph) (b c : ℕ) → slice_get g.forms b ≡ Some c → class_of g (2 * b) ≡ c
 base_class g b c e =
     let even : (2 * b) % 2 ≡ 0 = omega arith in
     let half : (2 * b) / 2 ≡ b = omega arith in

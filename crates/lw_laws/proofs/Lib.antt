@@ -1,6 +1,7 @@
 pub mod Agreement
 pub mod ClassLaws
 pub mod Closure
+pub mod CommonTrees
 pub mod Covering
 pub mod CutParts
 pub mod Deciding
@@ -18,10 +19,12 @@ pub mod Flips
 pub mod FormExamples
 pub mod FormTruth
 pub mod Functional
+pub mod GraphEncodes
 pub mod Headline
 pub mod HeightRounds
 pub mod HeightTests
 pub mod Heights
+pub mod InputClasses
 pub mod LabelLaws
 pub mod Listed
 pub mod Lists

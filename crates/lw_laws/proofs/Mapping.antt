@@ -10,11 +10,11 @@ use Rattle.lw_laws.specs.Occurring.{occurring_forms}
 use Rattle.lw_laws.specs.Decompositions.{listing_of, Occurs}
 use Rattle.lw_laws.specs.Numbering.{number}
 use Rattle.lw_laws.specs.SignalValues.{number_value}
-use Rattle.lw_laws.specs.Graphs.{Graph}
+use Rattle.lw_laws.specs.Graphs.{Graph, Unfolds}
 use Rattle.lw_laws.specs.Covers.{Pattern, HasPins, ArePatterns, tree_of}
 use Rattle.lw_laws.specs.Rounds.{labels_in}
 use Rattle.lw_laws.specs.Netlists.{Netlist, AreOrdered, CellTruth, HasCellTruth, HaveCellTruths, AreNetlistValues, AreArrivals}
-use Rattle.lw_laws.specs.Mapped.{AreNetValues, AreNetArrivals, IsCertified, IsOutput, forms_of, root_class, IsLabelledOver, IsMappedOver, IsRootedAt, AreRooted, IsMapped, IsCoverAt}
+use Rattle.lw_laws.specs.Mapped.{AreNetValues, AreNetArrivals, IsCertified, IsOutput, forms_of, root_class, IsLabelledOver, IsMappedOver, IsRootedAt, AreRooted, IsMapped, IsCoverAt, StandsForCover}
 use Rattle.lw_laws.specs.Headline.{HasLeastArrival, HasNoCover, Port, Ports, IsMapping}
 use Rattle.lw_laws.proofs.Numbers.{slice_get_map, occurs_number}
 use Rattle.lw_laws.proofs.Agreement.{number_in, numbered_are_forms, same_trees}
@@ -25,7 +25,7 @@ use Rattle.lw_laws.proofs.Listed.{occurring_is_listing}
 use Rattle.lw_laws.proofs.NetValues.{sops_are_values}
 use Rattle.lw_laws.proofs.NetlistValues.{arrivals_once}
 use Rattle.lw_laws.proofs.Netlists.{net_covered, StandsFor-value, StandsFor-time}
-use Rattle.lw_laws.proofs.Headline.{certified_plain_least}
+use Rattle.lw_laws.proofs.Headline.{certified_plain_least, has_plain_trees}
 use Rattle.lw_laws.proofs.Together.{certified_value, unlabelled_has_no_cover}
 use Rattle.lw_laws.proofs.Lists.{slice_get_some}
 
@@ -113,6 +113,20 @@ module _ (mode : Mode) (width : ℕ) (net : Network) (g : Graph) (pats : List Pa
       let in' = at.of_netlist in
       sop_value_is width over.labelled.wide net order x vs right s at.of_network
       ∙ (ap Some (sym (value ∙ value_of_number net.inputs o is x f occ)) ∙ sym (slice_get-get_or ws k false (omega arith)))
+
+  -- a rooted net stands for a cover of a tree of the network's net
+  pub rooted_covered : (ds : List ℕ) → AreArrivals delays n ds → (s k : ℕ) → IsRootedAt width net g labels n class ds s k → StandsForCover mode width net pats delays n s k (slice_index_or ds k 0)
+  rooted_covered ds are s k at =
+      let c = net_covered g (map length delays) pats n class over.ordered over.mapped k at.of_netlist in
+      let o = listing_of width net in
+      let trees = has_plain_trees mode net.inputs o g (occurring_is_listing width over.labelled.wide net) over.labelled.encodes (sop_at (signals_of width net) s) (tree_of c.by) (sop_occurs width over.labelled.wide net s at.of_network) in
+      record {
+        by = c.by;
+        is_cover = c.is_cover;
+        stands = c.stands;
+        has_tree = trees.0 (subst (λ d. Unfolds g (tree_of c.by) d) at.at_class c.unfolds);
+        time = sym (StandsFor-time n delays (λ p. slice_index_or ds p 0) (list_arrivals delays n ds are) c.by k c.stands);
+      }
 
   -- a netlist all of whose outputs are rooted is a mapping of the network
   pub rooted_mapping : IsInOrder net → (truth : CellTruth) → ((p : Pattern) → Contains pats p → HasCellTruth (map length delays) truth p) → (ds : List ℕ) → AreArrivals delays n ds → (ports mapped : Ports) → AreRooted width net g labels n class ds ports mapped → IsMapping mode width net ports pats delays truth n mapped

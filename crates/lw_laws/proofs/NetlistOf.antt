@@ -31,6 +31,7 @@ use Rattle.lw_laws.proofs.Covering.{cover_costs, cost_covered}
 use Rattle.lw_laws.proofs.NetlistValues.{some_arrivals}
 use Rattle.lw_laws.proofs.ExtractLaws.{ordered_and_mapped, extracted_arrivals}
 use Rattle.lw_laws.proofs.Mapping.{rooted_mapping, sop_occurs}
+use Rattle.lw_laws.proofs.GraphEncodes.{graph_encodes}
 use Rattle.lw_laws.proofs.Headline.{has_plain_trees}
 use Rattle.lw_laws.proofs.Delays.{cost_of-time}
 use Rattle.lw_laws.proofs.Lists.{slice_get_in}
@@ -87,9 +88,10 @@ length_both [] ys = omega arith
 length_both (x ∷ xs) ys = let ih = length_both xs ys in omega arith
 
 -- the netlist that a network is mapped to has its ports and values, and the least arrivals
-pub netlist_maps : (mode : Mode) (width : ℕ) (net : Network) (ports : Ports) (pats : List Pattern) (delays : List (List ℕ)) (cap : ℕ) (truth : CellTruth) (n : Netlist) (names : List (List ℕ)) (mapped : Ports) → 2 ≤ width → IsInOrder net → net.inputs < 2 ^ 32 → HasPorts net ports → ArePatterns (map length delays) pats → HaveCellTruths (map length delays) truth pats → (is : IsNetlistOf mode width net ports pats delays cap n names mapped) → Encodes (family_of mode (forms_of width net)) is.graph → ((c l : ℕ) → labels_in is.labels c ≡ Some l → l < cap) → IsMapping mode width net ports pats delays truth n mapped
-netlist_maps mode width net ports pats delays cap truth n names mapped wide order few has patterns truths is encodes low =
+pub netlist_maps : (mode : Mode) (width : ℕ) (net : Network) (ports : Ports) (pats : List Pattern) (delays : List (List ℕ)) (cap : ℕ) (truth : CellTruth) (n : Netlist) (names : List (List ℕ)) (mapped : Ports) → 2 ≤ width → IsInOrder net → net.inputs < 2 ^ 32 → HasPorts net ports → ArePatterns (map length delays) pats → HaveCellTruths (map length delays) truth pats → (is : IsNetlistOf mode width net ports pats delays cap n names mapped) → ((c l : ℕ) → labels_in is.labels c ≡ Some l → l < cap) → IsMapping mode width net ports pats delays truth n mapped
+netlist_maps mode width net ports pats delays cap truth n names mapped wide order few has patterns truths is low =
     let g = is.graph in
+    let encodes = graph_encodes mode width net g wide is.is_graph in
     let cost = delay_cost delays cap in
     let listing = occurring_is_listing width wide net in
     let once = pairs_in_one_class (family_of mode (forms_of width net)) (λ h. h / 2) (forms_are_family mode (forms_of width net) (numbered_are_forms net.inputs (listing_of width net) listing)) g encodes in

@@ -14,7 +14,7 @@ use Rattle.lw_laws.specs.Rounds.{labels_in}
 use Rattle.lw_laws.specs.Delays.{delay_cost}
 use Rattle.lw_laws.specs.Netlists.{Netlist, Gate, IsGate, AreOrdered, CellTruth, AreNetlistValues, AreArrivals, StandsFor}
 use Rattle.lw_laws.specs.Networks.{Network}
-use Rattle.lw_laws.specs.Decompositions.{listing_of}
+use Rattle.lw_laws.specs.Decompositions.{listing_of, HasTree}
 use Rattle.lw_laws.specs.Signals.{sop_at, signals_of}
 use Rattle.lw_laws.specs.Numbering.{number, numbered}
 use Rattle.lw_laws.specs.Occurring.{occurring_forms}
@@ -99,3 +99,11 @@ pub record IsCoverAt (g : Graph) (pats : List Pattern) (delays : List (List ℕ)
   pub unfolds : Unfolds g (tree_of by) (class net)
   pub value : (x : ℕ → Bool) (values : List Bool) → AreNetlistValues truth n x values → slice_get values net ≡ Some (tree_value x (tree_of by))
   pub arrival : (arrivals : List ℕ) → AreArrivals delays n arrivals → slice_get arrivals net ≡ Some (time_of delays by)
+
+-- Net k of the netlist stands for a cover of a tree that net s of the network has, whose time is d.
+pub record StandsForCover (mode : Mode) (width : ℕ) (net : Network) (pats : List Pattern) (delays : List (List ℕ)) (n : Netlist) (s k d : ℕ) : Type 0 where
+  pub by : Cover
+  pub is_cover : IsCover (map length delays) pats by
+  pub stands : StandsFor n by k
+  pub has_tree : HasTree mode (listing_of width net) (sop_at (signals_of width net) s) (tree_of by)
+  pub time : time_of delays by ≡ d

@@ -15,7 +15,7 @@ ghost use Rattle.lw_laws.specs.Graphs.{Graph, IsWritten, PairsInOneClass};
 ghost use Rattle.lw_laws.specs.Headline.{HasLeastArrival, HasNoCover, IsMapping, Ports};
 ghost use Rattle.lw_laws.specs.Laws.{AreDelaysUpTo, AreLeafLabels, BoundsCovers, ClassesAreSharedTrees, ClassesHaveValue, HasNumberedTrees, HasNumberedTruth, HasTheTrees, IsAttainedIn, IsCoverProblem, TreesHaveValue, TreesUnfoldOnce};
 ghost use Rattle.lw_laws.specs.Listings.{IsListing};
-ghost use Rattle.lw_laws.specs.Mapped.{AreRooted, IsCoverAt, IsLabelledOver, IsMapped, IsMappedOver, IsPotentialOf, IsRootedAt, forms_of, root_class};
+ghost use Rattle.lw_laws.specs.Mapped.{AreRooted, IsCoverAt, IsLabelledOver, IsMapped, IsMappedOver, IsPotentialOf, IsRootedAt, StandsForCover, forms_of, root_class};
 ghost use Rattle.lw_laws.specs.MappedNetlists.{HasPorts, IsNetlistOf};
 ghost use Rattle.lw_laws.specs.Matches.{IsLeastCover, choices_of};
 ghost use Rattle.lw_laws.specs.Modes.{Mode};
@@ -167,6 +167,26 @@ pub fn same_facts_have_one_encoding()
     ensures { (mode : Mode) (forms : NumberedForms) (d : Draft) (g : Graph) → HaveSameFacts (family_of mode forms) (facts_of d) → IsReduced d g → Encodes (family_of mode forms) g }
 {}
 
+/// The graph of a network's forms encodes them.
+pub fn graphs_encode()
+    ensures { (mode : Mode) (width : ℕ) (net : Network) (g : Graph) → 2 ≤ width → IsGraphOf mode net.inputs (listing_of width net) g → Encodes (family_of mode (forms_of width net)) g }
+{}
+
+/// In the graph of a network's forms class 0 is true, and the inputs in order have the classes 2, 4, 6 and so on.
+pub fn inputs_have_the_first_classes()
+    ensures { (mode : Mode) (width : ℕ) (net : Network) (g : Graph) → 2 ≤ width → IsGraphOf mode net.inputs (listing_of width net) g → (g.one ≡ 0) × ((i : ℕ) → i < net.inputs → slice_get g.leaves i ≡ Some (2 + 2 * i)) }
+{}
+
+/// In the graph of a network's forms the inputs' classes differ.
+pub fn input_classes_differ()
+    ensures { (mode : Mode) (width : ℕ) (net : Network) (g : Graph) → 2 ≤ width → IsGraphOf mode net.inputs (listing_of width net) g → AreDistinctLeaves g }
+{}
+
+/// What the reduction of a draft gives, where the draft has the facts of a network's forms, is the graph of the forms.
+pub fn reductions_are_graphs()
+    ensures { (mode : Mode) (width : ℕ) (net : Network) (d : Draft) (g : Graph) → 2 ≤ width → HaveSameFacts (family_of mode (forms_of width net)) (facts_of d) → IsReduced d g → IsGraphOf mode net.inputs (listing_of width net) g }
+{}
+
 // Patterns
 
 /// Each tree of an expression has its value.
@@ -315,6 +335,11 @@ pub fn mapped_outputs_have_values()
     ensures { (mode : Mode) (width : ℕ) (net : Network) (g : Graph) (pats : List Pattern) (delays : List (List ℕ)) (cap : ℕ) (labels : List (Option ℕ)) (n : Netlist) (class : ℕ → ℕ) (arrivals : List ℕ) (truth : CellTruth) → IsInOrder net → IsMappedOver mode width net g pats delays cap labels n class → HaveCellTruths (map length delays) truth pats → AreArrivals delays n arrivals → (x : ℕ → Bool) (values mapped : List Bool) → AreValues net x values → AreNetlistValues truth n x mapped → (s k : ℕ) → IsRootedAt width net g labels n class arrivals s k → slice_get values s ≡ slice_get mapped k }
 {}
 
+/// The net of an output of a mapped netlist stands for a cover of a tree that the laws derive for the output, and arrives at the cover's time.
+pub fn mapped_outputs_stand_for_covers()
+    ensures { (mode : Mode) (width : ℕ) (net : Network) (g : Graph) (pats : List Pattern) (delays : List (List ℕ)) (cap : ℕ) (labels : List (Option ℕ)) (n : Netlist) (class : ℕ → ℕ) (arrivals : List ℕ) → IsMappedOver mode width net g pats delays cap labels n class → AreArrivals delays n arrivals → (s k : ℕ) → IsRootedAt width net g labels n class arrivals s k → StandsForCover mode width net pats delays n s k (slice_index_or arrivals k 0) }
+{}
+
 /// Where the class of an output's sum of products has no label, no cover is of a tree that the laws derive for it.
 pub fn unlabelled_outputs_have_no_cover()
     ensures { (mode : Mode) (width : ℕ) (net : Network) (g : Graph) (pats : List Pattern) (delays : List (List ℕ)) (cap : ℕ) (labels : List (Option ℕ)) → IsLabelledOver mode width net g pats delays cap labels → (s : ℕ) → s < net.inputs + length net.nodes → labels_in labels (root_class width net g s) ≡ None → HasNoCover mode width net pats delays s }
@@ -337,5 +362,5 @@ pub fn uncovered_classes_have_no_cover()
 
 /// The netlist that a network is mapped to has its ports and values, and the least arrivals.
 pub fn netlists_are_mappings()
-    ensures { (mode : Mode) (width : ℕ) (net : Network) (ports : Ports) (pats : List Pattern) (delays : List (List ℕ)) (cap : ℕ) (truth : CellTruth) (n : Netlist) (names : List (List ℕ)) (mapped : Ports) → 2 ≤ width → IsInOrder net → net.inputs < 2 ^ 32 → HasPorts net ports → ArePatterns (map length delays) pats → HaveCellTruths (map length delays) truth pats → (is : IsNetlistOf mode width net ports pats delays cap n names mapped) → Encodes (family_of mode (forms_of width net)) is.graph → ((c l : ℕ) → labels_in is.labels c ≡ Some l → l < cap) → IsMapping mode width net ports pats delays truth n mapped }
+    ensures { (mode : Mode) (width : ℕ) (net : Network) (ports : Ports) (pats : List Pattern) (delays : List (List ℕ)) (cap : ℕ) (truth : CellTruth) (n : Netlist) (names : List (List ℕ)) (mapped : Ports) → 2 ≤ width → IsInOrder net → net.inputs < 2 ^ 32 → HasPorts net ports → ArePatterns (map length delays) pats → HaveCellTruths (map length delays) truth pats → (is : IsNetlistOf mode width net ports pats delays cap n names mapped) → ((c l : ℕ) → labels_in is.labels c ≡ Some l → l < cap) → IsMapping mode width net ports pats delays truth n mapped }
 {}
