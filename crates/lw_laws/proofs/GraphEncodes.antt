@@ -1,5 +1,5 @@
 -- The graph of a network's forms encodes them.
-use Rattle.std.proofs.Common.{ℕ, ◌+◌, ◌/◌, ◌*◌, ◌<◌, ◌≤◌, ◌≡◌, ◌↔◌, length, Some, slice_get, refl, ap, sym, ◌∙◌, subst, subst₂, arith, add-zero}
+use Rattle.std.proofs.Common.{ℕ, Bool, ◌+◌, ◌/◌, ◌*◌, ◌<◌, ◌≤◌, ◌≡◌, ◌↔◌, length, Some, slice_get, refl, ap, sym, ◌∙◌, subst, subst₂, arith, add-zero}
 use Rattle.std.proofs.lemmas.List.{length-map}
 use native.Mathlib.Decide.{dec_lt}
 use Rattle.lw_laws.specs.Modes.{Mode}
@@ -10,7 +10,8 @@ use Rattle.lw_laws.specs.Forms.Form.{var_form, true_form}
 use Rattle.lw_laws.specs.Occurring.{HasInputsFirst, occurring_forms}
 use Rattle.lw_laws.specs.Decompositions.{Listing, listing_of, HasTree}
 use Rattle.lw_laws.specs.Listings.{IsListing}
-use Rattle.lw_laws.specs.Graphs.{Graph, class_of, IsWritten}
+use Rattle.lw_laws.specs.Graphs.{Graph, class_of, IsWritten, PairsInOneClass}
+use Rattle.lw_laws.specs.Laws.{HasTheTrees, ClassesHaveValue}
 use Rattle.lw_laws.specs.Families.{Family, Derives, Equivalent}
 use Rattle.lw_laws.specs.Families.Equivalent.{same}
 use Rattle.lw_laws.specs.NumberedForms.{family_of, NumberOccurs}
@@ -22,6 +23,8 @@ use Rattle.lw_laws.specs.Classes.{class_in, IsGraphOf}
 use Rattle.lw_laws.proofs.Numbers.{number_of, number_once, number_occurs}
 use Rattle.lw_laws.proofs.Agreement.{number_in, input_at as numbered_input, true_at, form_of_number, same_trees, numbered_are_forms}
 use Rattle.lw_laws.proofs.NumberedForms.{forms_are_family}
+use Rattle.lw_laws.proofs.Encoding.{pairs_in_one_class}
+use Rattle.lw_laws.proofs.Headline.{has_plain_trees, classes_valued}
 use Rattle.lw_laws.proofs.CommonTrees.{AreSingle, common_tree_equivalent}
 use Rattle.lw_laws.proofs.Drafts.{Encodes-same, IsReduced-encodes}
 use Rattle.lw_laws.proofs.ClassLaws.{split_of_nand, nand_of_split, true_number, input_number, encoding_is_graph}
@@ -102,6 +105,15 @@ module _ (mode : Mode) (width : ℕ) (net : Network) (g : Graph) (wide : 2 ≤ w
     leaves = λ i c. (leaf_to i c, leaf_from i c);
     one = λ c. (one_to c, one_from c);
   }
+
+  pub graph_pairs_once : PairsInOneClass g
+  graph_pairs_once = pairs_in_one_class F (λ k. k / 2) (forms_are_family mode (forms_of width net) (numbered_are_forms net.inputs o is)) g graph_encodes
+
+  pub graph_trees : HasTheTrees mode o g
+  graph_trees = has_plain_trees mode net.inputs o g is graph_encodes
+
+pub graph_values : (mode : Mode) (width : ℕ) (net : Network) (g : Graph) (x : ℕ → Bool) → 2 ≤ width → IsGraphOf mode net.inputs (listing_of width net) g → ClassesHaveValue (listing_of width net) g x
+graph_values mode width net g x wide graph_is = classes_valued mode width net g x wide (graph_encodes mode width net g wide graph_is)
 
 same_bound : (a b : ℕ) → ((i : ℕ) → i < a → i < b) → ((i : ℕ) → i < b → i < a) → a ≡ b
 same_bound a b to from = by_order (dec_lt a b) (dec_lt b a)

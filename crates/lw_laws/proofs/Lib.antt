@@ -36,6 +36,7 @@ pub mod NameExamples
 pub mod NameLaws
 pub mod NetValues
 pub mod NetlistOf
+pub mod NetlistOnce
 pub mod NetlistValues
 pub mod Netlists
 pub mod Normal
@@ -48,6 +49,7 @@ pub mod PatternLaws
 pub mod PatternTruth
 pub mod PotentialTests
 pub mod Potentials
+pub mod RoundLaws
 pub mod Rounds
 pub mod SharingExamples
 pub mod Sublists

@@ -1,5 +1,5 @@
 -- The statements of the laws.
-use Rattle.std.specs.Prelude.{ℕ, ◌<◌, ◌≤◌, ◌≡◌, ◌↔◌, ◌^◌, List, length, map, slice_get, Option, Some, Bool}
+use Rattle.std.specs.Prelude.{ℕ, ◌%◌, ◌<◌, ◌≤◌, ◌≡◌, ◌↔◌, ◌^◌, List, length, map, slice_get, Option, Some, Bool}
 use Rattle.std.specs.List.{AllByRecursion}
 use Rattle.lw_laws.specs.Modes.{Mode}
 use Rattle.lw_laws.specs.Trees.{Tree, tree_value}
@@ -7,10 +7,11 @@ use Rattle.lw_laws.specs.Graphs.{Graph, PairsInOneClass, Unfolds, class_of}
 use Rattle.lw_laws.specs.Families.{Derives}
 use Rattle.lw_laws.specs.NumberedForms.{NumberedForms, family_of, NumberOccurs}
 use Rattle.lw_laws.specs.Costs.{Cost, IsCost, cost_of}
-use Rattle.lw_laws.specs.Choices.{HasLabelAtMost, IsAttained}
+use Rattle.lw_laws.specs.Choices.{HasLabelAtMost, IsAttained, Attains}
 use Rattle.lw_laws.specs.Covers.{Pattern, ArePatterns, Cover, tree_of, IsCover, time_of}
 use Rattle.lw_laws.specs.Matches.{choices_of}
-use Rattle.lw_laws.specs.Rounds.{labels_in}
+use Rattle.lw_laws.specs.Rounds.{labels_in, IsBoundedAt, AreSound}
+use Rattle.lw_laws.specs.HeightRounds.{IsKnown, AreHeightsUpTo}
 use Rattle.lw_laws.specs.Forms.{Form, form_value}
 use Rattle.lw_laws.specs.Decompositions.{Listing, Occurs, HasTree}
 use Rattle.lw_laws.specs.Numbering.{number}
@@ -78,3 +79,30 @@ AreLeafLabels g cost labels = (c i l : ℕ) → slice_get g.leaves i ≡ Some c 
 
 abbrev pub AreDelaysUpTo : ℕ → List (List ℕ) → Type 0
 AreDelaysUpTo delay delays = AllByRecursion (AllByRecursion (λ d. d ≤ delay)) delays
+
+-- what rounds of labelling keep: labels are costs of covers, and inputs' classes are labelled
+abbrev pub AreSoundIn : Graph → List Pattern → Cost → List (Option ℕ) → Type 0
+AreSoundIn g pats cost labels = AreSound (choices_of g cost.pin_counts pats) cost (labels_in labels)
+
+-- no match would give its class a lower label, or a label that it lacks
+abbrev pub AreBoundedIn : Graph → List Pattern → Cost → List (Option ℕ) → Type 0
+AreBoundedIn g pats cost labels = (c : ℕ) → IsBoundedAt (choices_of g cost.pin_counts pats) cost (labels_in labels) c
+
+-- the class is that of an input, which costs l
+abbrev pub IsLeafCost : Graph → Cost → ℕ → ℕ → Type 0
+IsLeafCost g cost c l = (i : ℕ) × (slice_get g.leaves i ≡ Some c) × (l ≡ cost.leaf i)
+
+-- the heights of the classes that have one of h at most
+abbrev pub AreHeightsUpToIn : Graph → List Pattern → Cost → List (Option ℕ) → (ℕ → Option ℕ) → ℕ → Type 0
+AreHeightsUpToIn g pats cost labels heights h = AreHeightsUpTo (choices_of g cost.pin_counts pats) cost (labels_in labels) heights h
+
+-- a class has a height where some match that attains its label has pins that have one
+abbrev pub AreHeightsClosed : Graph → List Pattern → Cost → List (Option ℕ) → (ℕ → Option ℕ) → Type 0
+AreHeightsClosed g pats cost labels heights =
+    (c cell : ℕ) (ps : List ℕ) → Attains (choices_of g cost.pin_counts pats) cost (labels_in labels) c cell ps → AllByRecursion (IsKnown heights) ps → IsKnown heights c
+
+-- classes come in pairs, and true is one of them
+pub record HasClasses (g : Graph) (count : ℕ) : Type 0 where
+  pub all : length g.pairs ≡ count
+  pub even : count % 2 ≡ 0
+  pub one : g.one < count

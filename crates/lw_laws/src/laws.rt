@@ -1,23 +1,24 @@
 //! Laws over definitions: functions with empty bodies, whose clauses are the laws.
 ghost use Rattle.lw_laws.specs.Cells.{AreCells};
-ghost use Rattle.lw_laws.specs.Choices.{AreHeights, IsHeight};
+ghost use Rattle.lw_laws.specs.Choices.{AreHeights, HasLabelAtMost, HaveLabels, IsHeight, IsInputClass};
 ghost use Rattle.lw_laws.specs.Classes.{IsGraphOf};
 ghost use Rattle.lw_laws.specs.Costs.{Cost, IsCost, cost_of};
 ghost use Rattle.lw_laws.specs.Covers.{ArePatterns, Cover, Pattern, time_of};
 ghost use Rattle.lw_laws.specs.Decompositions.{Listing, listing_of};
 ghost use Rattle.lw_laws.specs.Delays.{delay_cost};
-ghost use Rattle.lw_laws.specs.Drafts.{Draft, HaveSameFacts, IsReduced, facts_of};
+ghost use Rattle.lw_laws.specs.Drafts.{AreKnown, Draft, HaveSameFacts, IsReduced, facts_of};
 ghost use Rattle.lw_laws.specs.Encodings.{Encodes};
 ghost use Rattle.lw_laws.specs.Expressions.{Expr, MentionsPin, expr_value};
 ghost use Rattle.lw_laws.specs.Extracts.{AreDistinctLeaves, AreGateClasses, IsChosen, IsExtracted, IsNetOf, Match, class_at};
 ghost use Rattle.lw_laws.specs.Forms.{Form, conjunction, form_value, has_clash, joined, kept};
 ghost use Rattle.lw_laws.specs.Graphs.{Graph, IsWritten, PairsInOneClass};
-ghost use Rattle.lw_laws.specs.Headline.{HasLeastArrival, HasNoCover, IsMapping, Ports};
-ghost use Rattle.lw_laws.specs.Laws.{AreDelaysUpTo, AreLeafLabels, BoundsCovers, ClassesAreSharedTrees, ClassesHaveValue, HasNumberedTrees, HasNumberedTruth, HasTheTrees, IsAttainedIn, IsCoverProblem, TreesHaveValue, TreesUnfoldOnce};
+ghost use Rattle.lw_laws.specs.Headline.{HasLeastArrival, HasLeastTime, HasNoCover, IsMapping, Ports};
+ghost use Rattle.lw_laws.specs.HeightRounds.{IsHeightRound};
+ghost use Rattle.lw_laws.specs.Laws.{AreBoundedIn, AreDelaysUpTo, AreHeightsClosed, AreHeightsUpToIn, AreLeafLabels, AreSoundIn, BoundsCovers, ClassesAreSharedTrees, ClassesHaveValue, HasClasses, HasNumberedTrees, HasNumberedTruth, HasTheTrees, IsAttainedIn, IsCoverProblem, IsLeafCost, TreesHaveValue, TreesUnfoldOnce};
 ghost use Rattle.lw_laws.specs.Listings.{IsListing};
 ghost use Rattle.lw_laws.specs.Mapped.{AreRooted, IsCoverAt, IsLabelledOver, IsMapped, IsMappedOver, IsPotentialOf, IsRootedAt, StandsForCover, forms_of, root_class};
 ghost use Rattle.lw_laws.specs.MappedNetlists.{HasPorts, IsNetlistOf};
-ghost use Rattle.lw_laws.specs.Matches.{IsLeastCover, choices_of};
+ghost use Rattle.lw_laws.specs.Matches.{IsLeastCover, IsMatchAt, choices_of};
 ghost use Rattle.lw_laws.specs.Modes.{Mode};
 ghost use Rattle.lw_laws.specs.Names.{AreDifferent, AreNameable, net_names};
 ghost use Rattle.lw_laws.specs.Netlists.{AreArrivals, AreNetlistValues, AreOrdered, CellTruth, HaveCellTruths, Netlist};
@@ -27,12 +28,12 @@ ghost use Rattle.lw_laws.specs.NumberedValues.{AreNumberedValues};
 ghost use Rattle.lw_laws.specs.Numbering.{HasSameTrees, numbered};
 ghost use Rattle.lw_laws.specs.Occurring.{HasInputsFirst, occurring_forms, part, sublists};
 ghost use Rattle.lw_laws.specs.Patterns.{patterns_of, trees_of_expr};
-ghost use Rattle.lw_laws.specs.Rounds.{labels_in};
+ghost use Rattle.lw_laws.specs.Rounds.{label_weight, labels_in, total_weight};
 ghost use Rattle.lw_laws.specs.SignalValues.{SignalsAgree, number_value};
 ghost use Rattle.lw_laws.specs.Signals.{factored, factored_by, shared_literal, signals_of};
 ghost use Rattle.lw_laws.specs.Trees.{HasLeaf, Tree, tree_value};
 ghost use Rattle.lw_laws.specs.Truth.{IsValuation};
-ghost use Rattle.std.specs.Prelude.{◌++◌, ◌≡◌, ◌≤◌, ◌↔◌, ◌<◌, ◌^◌, ◌+◌, ◌*◌, ℕ, List, Option, Bool, Some, None, map, length, slice_get, slice_index_or, Contains, min};
+ghost use Rattle.std.specs.Prelude.{◌++◌, ◌≡◌, ◌≤◌, ◌↔◌, ◌<◌, ◌^◌, ◌+◌, ◌*◌, ℕ, List, Option, Bool, Some, None, map, length, slice_get, slice_index_or, slice_set, Contains, min};
 
 // Networks
 
@@ -182,6 +183,26 @@ pub fn input_classes_differ()
     ensures { (mode : Mode) (width : ℕ) (net : Network) (g : Graph) → 2 ≤ width → IsGraphOf mode net.inputs (listing_of width net) g → AreDistinctLeaves g }
 {}
 
+/// In the graph of a network's forms each unordered pair stands in one class at most.
+pub fn graphs_hold_pairs_once()
+    ensures { (mode : Mode) (width : ℕ) (net : Network) (g : Graph) → 2 ≤ width → IsGraphOf mode net.inputs (listing_of width net) g → PairsInOneClass g }
+{}
+
+/// The trees of the classes of the graph of a network's forms are those that the laws give the forms.
+pub fn graphs_have_the_trees()
+    ensures { (mode : Mode) (width : ℕ) (net : Network) (g : Graph) → 2 ≤ width → IsGraphOf mode net.inputs (listing_of width net) g → HasTheTrees mode (listing_of width net) g }
+{}
+
+/// All trees of a class of the graph of a network's forms have one truth value, that of its forms.
+pub fn graphs_have_the_values()
+    ensures { (mode : Mode) (width : ℕ) (net : Network) (g : Graph) (x : ℕ → Bool) → 2 ≤ width → IsGraphOf mode net.inputs (listing_of width net) g → ClassesHaveValue (listing_of width net) g x }
+{}
+
+/// In what the reduction of a draft gives each unordered pair stands in one class at most, where the facts speak of base forms of the draft.
+pub fn reductions_hold_pairs_once()
+    ensures { (d : Draft) (g : Graph) → AreKnown d → IsReduced d g → PairsInOneClass g }
+{}
+
 /// What the reduction of a draft gives, where the draft has the facts of a network's forms, is the graph of the forms.
 pub fn reductions_are_graphs()
     ensures { (mode : Mode) (width : ℕ) (net : Network) (d : Draft) (g : Graph) → 2 ≤ width → HaveSameFacts (family_of mode (forms_of width net)) (facts_of d) → IsReduced d g → IsGraphOf mode net.inputs (listing_of width net) g }
@@ -236,6 +257,16 @@ pub fn labels_are_one()
     ensures { (g : Graph) (pats : List Pattern) (cost : Cost) (rounds settled : List (Option ℕ)) → IsCoverProblem g pats cost → IsPotentialOf g pats cost rounds → IsAttainedIn g pats cost rounds → IsPotentialOf g pats cost settled → IsAttainedIn g pats cost settled → (c : ℕ) → labels_in rounds c ≡ labels_in settled c }
 {}
 
+/// A class has one least cost, or none.
+pub fn least_costs_are_one()
+    ensures { (g : Graph) (pats : List Pattern) (cost : Cost) (c : ℕ) (o p : Option ℕ) → IsLeastCover g pats cost c o → IsLeastCover g pats cost c p → o ≡ p }
+{}
+
+/// A class has one height.
+pub fn heights_are_one()
+    ensures { (g : Graph) (pats : List Pattern) (cost : Cost) (labels : ℕ → Option ℕ) (c h k : ℕ) → IsHeight (choices_of g cost.pin_counts pats) cost labels c h → IsHeight (choices_of g cost.pin_counts pats) cost labels c k → h ≡ k }
+{}
+
 /// Each labelled class has a height, where the labels are the least costs.
 pub fn labelled_classes_have_heights()
     ensures { (g : Graph) (pats : List Pattern) (cost : Cost) (labels : List (Option ℕ)) → IsCoverProblem g pats cost → IsPotentialOf g pats cost labels → IsAttainedIn g pats cost labels → (c l : ℕ) → labels_in labels c ≡ Some l → (h : ℕ) × IsHeight (choices_of g cost.pin_counts pats) cost (labels_in labels) c h }
@@ -259,6 +290,53 @@ pub fn some_heights_are_found()
 /// Labels of times stay below the number of classes times the largest delay.
 pub fn labels_stay_low()
     ensures { (g : Graph) (pats : List Pattern) (delays : List (List ℕ)) (cap : ℕ) (labels : List (Option ℕ)) (delay : ℕ) → IsCoverProblem g pats (delay_cost delays cap) → IsPotentialOf g pats (delay_cost delays cap) labels → IsAttainedIn g pats (delay_cost delays cap) labels → AreDelaysUpTo delay delays → 0 < delay → (c l : ℕ) → labels_in labels c ≡ Some l → l < length labels * delay }
+{}
+
+// Rounds of labels and of heights
+
+/// The costs of the inputs at their classes, and no other labels, are sound.
+pub fn first_labels_are_sound()
+    ensures { (g : Graph) (pats : List Pattern) (cost : Cost) (labels : List (Option ℕ)) → ((c l : ℕ) → labels_in labels c ≡ Some l → IsLeafCost g cost c l) → ((c i : ℕ) → slice_get g.leaves i ≡ Some c → HasLabelAtMost (labels_in labels) c (cost.leaf i)) → AreSoundIn g pats cost labels }
+{}
+
+/// A class that takes the value of a match with labelled pins, lower than its own label, leaves labels sound.
+pub fn lowered_labels_are_sound()
+    ensures { (g : Graph) (pats : List Pattern) (cost : Cost) (labels : List (Option ℕ)) (c cell : ℕ) (ps ls : List ℕ) → AreSoundIn g pats cost labels → c < length labels → IsMatchAt g cost.pin_counts pats c cell ps → HaveLabels (labels_in labels) ps ls → cost.value cell ls < label_weight cost.cap (labels_in labels c) → AreSoundIn g pats cost (slice_set labels c (Some (cost.value cell ls))) }
+{}
+
+/// A label that is set to a lower one lowers the weight of all labels.
+pub fn weights_fall()
+    ensures { (cap : ℕ) (labels : List (Option ℕ)) (c d : ℕ) → c < length labels → d < label_weight cap (labels_in labels c) → total_weight cap (slice_set labels c (Some d)) < total_weight cap labels }
+{}
+
+/// Labels that are costs of covers are not above the cap, and no more are the values of matches with labelled pins.
+pub fn sound_labels_are_capped()
+    ensures { (g : Graph) (pats : List Pattern) (cost : Cost) (labels : List (Option ℕ)) → IsCoverProblem g pats cost → IsAttainedIn g pats cost labels → ((c l : ℕ) → labels_in labels c ≡ Some l → l ≤ cost.cap) × ((c cell : ℕ) (ps ls : List ℕ) → IsMatchAt g cost.pin_counts pats c cell ps → HaveLabels (labels_in labels) ps ls → cost.value cell ls ≤ cost.cap) }
+{}
+
+/// A match whose pins all have labels stands at a class of the graph.
+pub fn labelled_matches_are_in_range()
+    ensures { (g : Graph) (pats : List Pattern) (cost : Cost) (labels : List (Option ℕ)) → HasClasses g (length labels) → (c cell : ℕ) (ps ls : List ℕ) → IsMatchAt g cost.pin_counts pats c cell ps → HaveLabels (labels_in labels) ps ls → c < length labels }
+{}
+
+/// Sound labels that no match would lower are a potential of costs of covers, and the least costs.
+pub fn sound_and_bounded_labels_are_least()
+    ensures { (g : Graph) (pats : List Pattern) (cost : Cost) (labels : List (Option ℕ)) → IsCoverProblem g pats cost → AreSoundIn g pats cost labels → AreBoundedIn g pats cost labels → IsPotentialOf g pats cost labels × IsAttainedIn g pats cost labels × ((c : ℕ) → IsLeastCover g pats cost c (labels_in labels c)) }
+{}
+
+/// Heights of 0 at the inputs' classes, and no others, are the heights up to 0.
+pub fn first_heights_are_right()
+    ensures { (g : Graph) (pats : List Pattern) (cost : Cost) (labels : List (Option ℕ)) (heights : ℕ → Option ℕ) → ((c i : ℕ) → slice_get g.leaves i ≡ Some c → heights c ≡ Some 0) → ((c k : ℕ) → heights c ≡ Some k → IsInputClass (choices_of g cost.pin_counts pats) c × (k ≡ 0)) → AreHeightsUpToIn g pats cost labels heights 0 }
+{}
+
+/// A round of heights gives the heights up to one more.
+pub fn next_heights_are_right()
+    ensures { (g : Graph) (pats : List Pattern) (cost : Cost) (labels : List (Option ℕ)) (heights next : ℕ → Option ℕ) (h : ℕ) → AreHeightsUpToIn g pats cost labels heights h → IsHeightRound (choices_of g cost.pin_counts pats) cost (labels_in labels) heights next h → AreHeightsUpToIn g pats cost labels next (h + 1) }
+{}
+
+/// Where a round of heights would add nothing, each labelled class has its height.
+pub fn last_heights_are_all()
+    ensures { (g : Graph) (pats : List Pattern) (cost : Cost) (labels : List (Option ℕ)) (heights : ℕ → Option ℕ) (h : ℕ) → IsCoverProblem g pats cost → IsPotentialOf g pats cost labels → IsAttainedIn g pats cost labels → AreHeightsUpToIn g pats cost labels heights h → AreHeightsClosed g pats cost labels heights → (c l : ℕ) → labels_in labels c ≡ Some l → (k : ℕ) × (heights c ≡ Some k) × IsHeight (choices_of g cost.pin_counts pats) cost (labels_in labels) c k }
 {}
 
 // Netlists
@@ -363,4 +441,14 @@ pub fn uncovered_classes_have_no_cover()
 /// The netlist that a network is mapped to has its ports and values, and the least arrivals.
 pub fn netlists_are_mappings()
     ensures { (mode : Mode) (width : ℕ) (net : Network) (ports : Ports) (pats : List Pattern) (delays : List (List ℕ)) (cap : ℕ) (truth : CellTruth) (n : Netlist) (names : List (List ℕ)) (mapped : Ports) → 2 ≤ width → IsInOrder net → net.inputs < 2 ^ 32 → HasPorts net ports → ArePatterns (map length delays) pats → HaveCellTruths (map length delays) truth pats → (is : IsNetlistOf mode width net ports pats delays cap n names mapped) → ((c l : ℕ) → labels_in is.labels c ≡ Some l → l < cap) → IsMapping mode width net ports pats delays truth n mapped }
+{}
+
+/// A form has one least time.
+pub fn least_times_are_one()
+    ensures { (mode : Mode) (o : Listing) (pats : List Pattern) (delays : List (List ℕ)) (f : Form) (d e : ℕ) → HasLeastTime mode o pats delays f d → HasLeastTime mode o pats delays f e → d ≡ e }
+{}
+
+/// The netlist that a network is mapped to is one, and so are the names of its nets and its ports.
+pub fn netlists_are_one()
+    ensures { (mode : Mode) (width : ℕ) (net : Network) (ports : Ports) (pats : List Pattern) (delays : List (List ℕ)) (cap : ℕ) (n m : Netlist) (names others : List (List ℕ)) (mapped also : Ports) → 2 ≤ width → IsNetlistOf mode width net ports pats delays cap n names mapped → IsNetlistOf mode width net ports pats delays cap m others also → (n ≡ m) × (names ≡ others) × (mapped ≡ also) }
 {}
