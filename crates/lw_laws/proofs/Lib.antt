@@ -19,6 +19,7 @@ pub mod Flips
 pub mod FormExamples
 pub mod FormTruth
 pub mod Functional
+pub mod FurtherExamples
 pub mod GraphEncodes
 pub mod Headline
 pub mod HeightRounds

@@ -1,0 +1,160 @@
+-- The further laws in worked examples: an inverter and an And of two inputs, by two-input NAND cells alone.
+use Rattle.std.proofs.Common.{ℕ, zero, suc, ◌≤◌, ◌≡◌, ◌==◌, ◌&&◌, Bool, true, false, List, [], ◌∷◌, length, map, Option, Some, None, Contains, refl, sym, ◌∙◌, subst, true≢false, lit<, lit≤, arith}
+use Rattle.lw_laws.specs.Modes.Mode.{plain, idempotent}
+use Rattle.lw_laws.specs.Trees.{Tree, leaf, nand, tree_value}
+use Rattle.lw_laws.specs.Networks.{Network}
+use Rattle.lw_laws.specs.Forms.{Form, and_of, form_value}
+use Rattle.lw_laws.specs.Forms.Form.{var_form, not_form}
+use Rattle.lw_laws.specs.Decompositions.{listing_of, Occurs, HasTree}
+use Rattle.lw_laws.specs.Decompositions.AreParts.{parts_none, parts_left, parts_right}
+use Rattle.lw_laws.specs.Decompositions.HasTree.{input_law, split_law, tied_inverter_law}
+use Rattle.lw_laws.specs.Covers.{Pattern, Cover, Covers, IsCover, AreCovers, HasPins, tree_of, trees_of, time_of}
+use Rattle.lw_laws.specs.Covers.Cover.{wire, gate}
+use Rattle.lw_laws.specs.Covers.Covers.{no_covers, cover}
+use Rattle.lw_laws.specs.Expressions.{Expr}
+use Rattle.lw_laws.specs.Expressions.Expr.{expr_pin, expr_not, expr_and}
+use Rattle.lw_laws.specs.Patterns.{patterns_of}
+use Rattle.lw_laws.specs.Delays.{delay_cost}
+use Rattle.lw_laws.specs.Graphs.{Pair, Graph}
+use Rattle.lw_laws.specs.Mapped.{forms_of}
+use Rattle.lw_laws.specs.Headline.{HasLeastArrival, HasNoCover}
+use Rattle.lw_laws.proofs.Facts.{eq_same, eq_true}
+use Rattle.lw_laws.proofs.PatternExamples.{exprs}
+use Rattle.lw_laws.proofs.EncodingTests.{PassesTests}
+use Rattle.lw_laws.proofs.PotentialTests.{PassesLabelTests}
+use Rattle.lw_laws.proofs.MappingTests.{tested}
+use Rattle.lw_laws.proofs.Mapping.{unlabelled_root}
+use Rattle.lw_laws.proofs.Listed.{occurring_is_listing}
+use Rattle.lw_laws.proofs.FormTruth.{signals_agree}
+use Rattle.lw_laws.proofs.NumberValues.{trees_have_value}
+
+abbrev y : Option Bool
+y = Some true
+
+abbrev n : Option Bool
+n = Some false
+
+abbrev cap : ℕ
+cap = 9223372036854775807
+
+-- nand2 of delay 1.5, in millionths
+abbrev cells : List (List Expr)
+cells = (expr_not (expr_and (exprs (expr_pin 0 ∷ expr_pin 1 ∷ []))) ∷ []) ∷ []
+
+abbrev delays : List (List ℕ)
+delays = (1500000 ∷ 1500000 ∷ []) ∷ []
+
+abbrev nand_2 : Pattern
+nand_2 = record { cell = 0; tree = nand (leaf 0) (leaf 1) }
+
+abbrev by_nand : Cover → Cover → Cover
+by_nand k j = gate nand_2 (cover k (cover j no_covers))
+
+-- each gate of a cover is a nand2
+only_nand : (p : Pattern) → Contains (patterns_of cells) p → p ≡ nand_2
+only_nand p (zero, lt, e) = sym e
+only_nand p (suc k, lt, e) = absurd (omega arith)
+
+-- a gate over two covers takes at least 1.5, and 1.5 more than each of them
+record IsNandOver (k : Cover) : Type 0 where
+  left : Cover
+  right : Cover
+  is : k ≡ by_nand left right
+  left_is : IsCover (map length delays) (patterns_of cells) left
+  right_is : IsCover (map length delays) (patterns_of cells) right
+
+gate_is : (p : Pattern) (ks : Covers) → IsCover (map length delays) (patterns_of cells) (gate p ks) → IsNandOver (gate p ks)
+gate_is p ks (listed, pins, covers) = by_pattern p (only_nand p listed) ks pins covers
+  where
+    by_pins : (ks : Covers) → HasPins (map length delays) 0 (length (trees_of ks)) → AreCovers (map length delays) (patterns_of cells) ks → IsNandOver (gate nand_2 ks)
+    by_pins no_covers pins covers = cc
+    by_pins (cover k no_covers) pins covers = cc
+    by_pins (cover k (cover j no_covers)) pins (a, (b, rest)) = record { left = k; right = j; is = refl; left_is = a; right_is = b }
+    by_pins (cover k (cover j (cover i rest))) pins covers = cc
+
+    by_pattern : (p : Pattern) → p ≡ nand_2 → (ks : Covers) → HasPins (map length delays) p.cell (length (trees_of ks)) → AreCovers (map length delays) (patterns_of cells) ks → IsNandOver (gate p ks)
+    by_pattern p s ks pins covers = subst (λ q. IsNandOver (gate q ks)) (sym s) (by_pins ks (subst (λ q. HasPins (map length delays) q.cell (length (trees_of ks))) s pins) covers)
+
+slow_gate : (p : Pattern) (ks : Covers) → IsCover (map length delays) (patterns_of cells) (gate p ks) → 1500000 ≤ time_of delays (gate p ks)
+slow_gate p ks is = let g = gate_is p ks is in subst (λ k. 1500000 ≤ time_of delays k) (sym g.is) (omega arith)
+
+-- the inverter of an input
+abbrev not_a : Network
+not_a = record { inputs = 1; nodes = record { fanins = 0 ∷ []; rows = (n ∷ []) ∷ []; on = true } ∷ [] }
+
+abbrev not_a_form : Form
+not_a_form = not_form (var_form 0)
+
+-- a tree of a form has its value
+value_of : (net : Network) (f : Form) (t : Tree) → Occurs (listing_of 6 net) f → HasTree idempotent (listing_of 6 net) f t → (x : ℕ → Bool) → tree_value x t ≡ form_value x f
+value_of net f t occ has x = trees_have_value net.inputs (listing_of 6 net) (occurring_is_listing 6 (lit≤ tt) net) x (signals_agree x 6 net) idempotent f t occ has
+
+-- a nand2 with tied pins inverts: it arrives at 1.5
+pub tied_nand_inverts : HasLeastArrival idempotent 6 not_a (patterns_of cells) delays 1 1500000
+tied_nand_inverts = record {
+  attained = (by_nand (wire 0) (wire 0), ((0, lit< tt, refl), refl, (tt, (tt, tt))), tied_inverter_law {f = not_a_form} refl (1, refl) input_law input_law, refl);
+  least = least;
+}
+  where
+    least : (k : Cover) → IsCover (map length delays) (patterns_of cells) k → HasTree idempotent (listing_of 6 not_a) not_a_form (tree_of k) → 1500000 ≤ time_of delays k
+    least (wire i) is has = let v = value_of not_a not_a_form (leaf i) (1, refl) has (λ j. true) in cc
+    least (gate p ks) is has = slow_gate p ks is
+
+-- the And of two inputs
+abbrev and_2 : Network
+and_2 = record { inputs = 2; nodes = record { fanins = 0 ∷ 1 ∷ []; rows = (y ∷ y ∷ []) ∷ []; on = true } ∷ [] }
+
+abbrev and_form_2 : Form
+and_form_2 = and_of (var_form 0 ∷ var_form 1 ∷ [])
+
+nand_tree : HasTree idempotent (listing_of 6 and_2) (not_form and_form_2) (nand (leaf 0) (leaf 1))
+nand_tree = split_law {ls = var_form 0 ∷ []} {rs = var_form 1 ∷ []} (3, refl) (parts_left (parts_right parts_none)) (lit≤ tt) (lit≤ tt) input_law input_law
+
+-- with the further laws two nand2 make an And, which arrives at 3
+pub tied_nand_ands : HasLeastArrival idempotent 6 and_2 (patterns_of cells) delays 2 3000000
+tied_nand_ands = record {
+  attained = (by_nand (by_nand (wire 0) (wire 1)) (by_nand (wire 0) (wire 1)), ((0, lit< tt, refl), refl, (((0, lit< tt, refl), refl, (tt, (tt, tt))), (((0, lit< tt, refl), refl, (tt, (tt, tt))), tt))), tied_inverter_law {f = and_form_2} refl (3, refl) nand_tree nand_tree, refl);
+  least = least;
+}
+  where
+    one_of_two : (i : ℕ) → ((0 == i) && ((1 == i) && true)) ≡ false
+    one_of_two i = by_bits (0 == i) (1 == i) refl refl
+      where
+        by_bits : (a b : Bool) → (0 == i) ≡ a → (1 == i) ≡ b → (a && (b && true)) ≡ false
+        by_bits true true e f = let p = eq_true 0 i e in let q = eq_true 1 i f in absurd (omega arith)
+        by_bits true false e f = refl
+        by_bits false b e f = refl
+
+    over_two : (k j : Cover) → IsCover (map length delays) (patterns_of cells) k → IsCover (map length delays) (patterns_of cells) j → HasTree idempotent (listing_of 6 and_2) and_form_2 (tree_of (by_nand k j)) → 3000000 ≤ time_of delays (by_nand k j)
+    over_two (wire i) (wire m) a b has = let v = value_of and_2 and_form_2 (nand (leaf i) (leaf m)) (3, refl) has (λ j. false) in cc
+    over_two (wire i) (gate p ks) a b has = let s = slow_gate p ks b in omega arith
+    over_two (gate p ks) j a b has = let s = slow_gate p ks a in omega arith
+
+    least : (k : Cover) → IsCover (map length delays) (patterns_of cells) k → HasTree idempotent (listing_of 6 and_2) and_form_2 (tree_of k) → 3000000 ≤ time_of delays k
+    least (wire i) is has = absurd (true≢false (sym (eq_same i) ∙ (value_of and_2 and_form_2 (leaf i) (3, refl) has (λ j. j == i) ∙ one_of_two i)))
+    least (gate p ks) is has =
+        let g = gate_is p ks is in
+        subst (λ k. 3000000 ≤ time_of delays k) (sym g.is) (over_two g.left g.right g.left_is g.right_is (subst (λ k. HasTree idempotent (listing_of 6 and_2) and_form_2 (tree_of k)) g.is has))
+
+-- without them it has no cover
+abbrev pair : ℕ → ℕ → Pair
+pair a b = record { x = a; y = b }
+
+abbrev graph_2 : Graph
+graph_2 = record { one = 0; leaves = 2 ∷ 4 ∷ []; forms = 0 ∷ 2 ∷ 4 ∷ 6 ∷ []; pairs = [] ∷ [] ∷ [] ∷ [] ∷ [] ∷ [] ∷ [] ∷ (pair 2 4 ∷ []) ∷ [] }
+
+abbrev labels_2 : List (Option ℕ)
+labels_2 = None ∷ None ∷ Some 0 ∷ None ∷ Some 0 ∷ None ∷ None ∷ Some 1500000 ∷ []
+
+encoded_2 : PassesTests (forms_of 6 and_2) graph_2 []
+unfolding Rattle.lw_laws.specs.Flip.flip
+encoded_2 = record { facts = refl; rows = refl; once = refl; bases = refl; tops = refl; leaves = refl; links = refl; apart = refl; merges = tt }
+
+bounded_2 : PassesLabelTests labels_2 graph_2 (patterns_of cells) (delay_cost delays cap)
+unfolding Rattle.lw_laws.specs.Flip.flip
+bounded_2 = record { even = 4; count = refl; listed = lit≤ tt; one = lit< tt; matches = refl; leaves = refl }
+
+pub plain_nand_does_not : HasNoCover plain 6 and_2 (patterns_of cells) delays 2
+unfolding Rattle.lw_laws.specs.Flip.flip
+plain_nand_does_not =
+    unlabelled_root plain 6 and_2 graph_2 (patterns_of cells) delays cap labels_2 (tested 6 (lit≤ tt) and_2 graph_2 [] encoded_2 (patterns_of cells) delays cap labels_2 bounded_2 refl (lit< tt)) 2 (lit< tt) refl
