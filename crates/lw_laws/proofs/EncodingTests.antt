@@ -8,7 +8,7 @@ use Rattle.lw_laws.specs.Families.{IsNand, Equivalent}
 use Rattle.lw_laws.specs.Families.Equivalent.{same}
 use Rattle.lw_laws.specs.Encodings.{HasNand, Encodes}
 use Rattle.lw_laws.specs.Drafts.{NandFact}
-use Rattle.lw_laws.specs.Modes.Mode.{plain}
+use Rattle.lw_laws.specs.Modes.{Mode}
 use Rattle.lw_laws.specs.NumberedForms.{Base, NumberedForms, family_of, NumberOccurs}
 use Rattle.lw_laws.specs.NumberedForms.Base.{base_true, base_input, base_and}
 use Rattle.lw_laws.proofs.Flips.{class_of-flip}
@@ -265,27 +265,27 @@ module _ (g : Graph) where
       by_place (inl s) ih = subst (λ k. apart merged k h ≡ true) (sym s) (apart_at merged n count h (and_true (apart_below merged n count) (all_apart merged count n) e).0 m)
       by_place (inr l) ih = ih l
 
-module _ (forms : NumberedForms) (g : Graph) (merged : List Two) where
+module _ (mode : Mode) (forms : NumberedForms) (g : Graph) (merged : List Two) where
   -- the tests, all of which the graph passes
   pub record PassesTests : Type 0 where
-    pub facts : list_all (fact_held g) (nand_facts forms) ≡ true
-    pub rows : rows_from g (nand_facts forms) 0 g.pairs ≡ true
+    pub facts : list_all (fact_held g) (nand_facts mode forms) ≡ true
+    pub rows : rows_from g (nand_facts mode forms) 0 g.pairs ≡ true
     pub once : held_once g (held_from g 0 g.pairs) ≡ true
     pub bases : bases_right g 0 forms.bases ≡ true
     pub tops : list_any (is_true_base g) forms.bases ≡ true
     pub leaves : leaves_listed g 0 g.leaves forms.bases ≡ true
     pub links : links_same g forms.sops forms.facs ≡ true
     pub apart : all_apart g merged (2 * length forms.bases) (2 * length forms.bases) ≡ true
-    pub merges : AllByRecursion (λ t. Equivalent (family_of plain forms) t.first t.second) merged
+    pub merges : AllByRecursion (λ t. Equivalent (family_of mode forms) t.first t.second) merged
 
   module _ (passes : PassesTests) where
     abbrev F : Rattle.lw_laws.specs.Families.Family
-    F = family_of plain forms
+    F = family_of mode forms
 
     held_fact : (f x y : ℕ) → IsNand F f x y → HoldsPair g (class g f) (class g x) (class g y)
-    held_fact f x y (inl cut) = row_holds g (class g f) (class g x) (class g y) (all_true (fact_held g) (nand_facts forms) (record { form = f; left = x; right = y }) passes.facts (fact_listed forms f x y cut))
+    held_fact f x y (inl cut) = row_holds g (class g f) (class g x) (class g y) (all_true (fact_held g) (nand_facts mode forms) (record { form = f; left = x; right = y }) passes.facts (fact_listed forms mode f x y cut))
     held_fact f x y (inr cut) =
-        swapped (row_holds g (class g f) (class g y) (class g x) (all_true (fact_held g) (nand_facts forms) (record { form = f; left = y; right = x }) passes.facts (fact_listed forms f y x cut)))
+        swapped (row_holds g (class g f) (class g y) (class g x) (all_true (fact_held g) (nand_facts mode forms) (record { form = f; left = y; right = x }) passes.facts (fact_listed forms mode f y x cut)))
       where
         swapped : HoldsPair g (class g f) (class g y) (class g x) → HoldsPair g (class g f) (class g x) (class g y)
         swapped (inl h) = inr h
@@ -294,10 +294,10 @@ module _ (forms : NumberedForms) (g : Graph) (merged : List Two) where
     from_fact : (c x y : ℕ) → Contains (slice_index_or g.pairs c []) (record { x = x; y = y }) → HasNand F g c x y
     from_fact c x y at =
         let p : Pair = record { x = x; y = y } in
-        let (k, listed, is) = rows_hold g (nand_facts forms) 0 g.pairs passes.rows c p at in
+        let (k, listed, is) = rows_hold g (nand_facts mode forms) 0 g.pairs passes.rows c p at in
         let (a, b) = and_true (class g k.form == 0 + c) ((class g k.left == x && class g k.right == y) || (class g k.left == y && class g k.right == x)) is in
         let z : 0 + c ≡ c = omega arith in
-        by_side k (fact_is forms k listed) (eq_true (class g k.form) (0 + c) a ∙ z) (or_true (class g k.left == x && class g k.right == y) (class g k.left == y && class g k.right == x) b)
+        by_side k (fact_is forms mode k listed) (eq_true (class g k.form) (0 + c) a ∙ z) (or_true (class g k.left == x && class g k.right == y) (class g k.left == y && class g k.right == x) b)
       where
         by_side : (k : NandFact) → F.IsSplit k.form k.left k.right → class g k.form ≡ c → ((class g k.left == x && class g k.right == y) ≡ true) ⊎ ((class g k.left == y && class g k.right == x) ≡ true) → HasNand F g c x y
         by_side k cut here (inl h) =

@@ -1,5 +1,5 @@
 -- The further laws in worked examples: an inverter and an And of two inputs, by two-input NAND cells alone.
-use Rattle.std.proofs.Common.{ℕ, zero, suc, ◌≤◌, ◌≡◌, ◌==◌, ◌&&◌, Bool, true, false, List, [], ◌∷◌, length, map, Option, Some, None, Contains, refl, sym, ◌∙◌, subst, true≢false, lit<, lit≤, arith}
+use Rattle.std.proofs.Common.{ℕ, zero, suc, ◌≤◌, ◌≡◌, Bool, true, false, List, [], ◌∷◌, length, map, sum_by, slice_index_or, Option, Some, None, Contains, refl, sym, subst, inl, inr, lit<, lit≤, arith}
 use Rattle.lw_laws.specs.Modes.Mode.{plain, idempotent}
 use Rattle.lw_laws.specs.Trees.{Tree, leaf, nand, tree_value}
 use Rattle.lw_laws.specs.Networks.{Network}
@@ -15,14 +15,15 @@ use Rattle.lw_laws.specs.Expressions.{Expr}
 use Rattle.lw_laws.specs.Expressions.Expr.{expr_pin, expr_not, expr_and}
 use Rattle.lw_laws.specs.Patterns.{patterns_of}
 use Rattle.lw_laws.specs.Delays.{delay_cost}
-use Rattle.lw_laws.specs.Graphs.{Pair, Graph}
-use Rattle.lw_laws.specs.Mapped.{forms_of}
+use Rattle.lw_laws.specs.Graphs.{Pair, Graph, AreRising, IsWritten}
+use Rattle.lw_laws.specs.Classes.{IsGraphOf}
+use Rattle.lw_laws.specs.Mapped.{forms_of, IsLabelledOver}
 use Rattle.lw_laws.specs.Headline.{HasLeastArrival, HasNoCover}
-use Rattle.lw_laws.proofs.Facts.{eq_same, eq_true}
+use Rattle.lw_laws.proofs.ClassLaws.{encoding_is_graph}
 use Rattle.lw_laws.proofs.PatternExamples.{exprs}
 use Rattle.lw_laws.proofs.EncodingTests.{PassesTests}
 use Rattle.lw_laws.proofs.PotentialTests.{PassesLabelTests}
-use Rattle.lw_laws.proofs.MappingTests.{tested}
+use Rattle.lw_laws.proofs.MappingTests.{labelled_least, tested}
 use Rattle.lw_laws.proofs.Mapping.{unlabelled_root}
 use Rattle.lw_laws.proofs.Listed.{occurring_is_listing}
 use Rattle.lw_laws.proofs.FormTruth.{signals_agree}
@@ -107,46 +108,66 @@ and_2 = record { inputs = 2; nodes = record { fanins = 0 ∷ 1 ∷ []; rows = (y
 abbrev and_form_2 : Form
 and_form_2 = and_of (var_form 0 ∷ var_form 1 ∷ [])
 
-nand_tree : HasTree idempotent (listing_of 6 and_2) (not_form and_form_2) (nand (leaf 0) (leaf 1))
-nand_tree = split_law {ls = var_form 0 ∷ []} {rs = var_form 1 ∷ []} (3, refl) (parts_left (parts_right parts_none)) (lit≤ tt) (lit≤ tt) input_law input_law
-
--- with the further laws two nand2 make an And, which arrives at 3
-pub tied_nand_ands : HasLeastArrival idempotent 6 and_2 (patterns_of cells) delays 2 3000000
-tied_nand_ands = record {
-  attained = (by_nand (by_nand (wire 0) (wire 1)) (by_nand (wire 0) (wire 1)), ((0, lit< tt, refl), refl, (((0, lit< tt, refl), refl, (tt, (tt, tt))), (((0, lit< tt, refl), refl, (tt, (tt, tt))), tt))), tied_inverter_law {f = and_form_2} refl (3, refl) nand_tree nand_tree, refl);
-  least = least;
-}
-  where
-    one_of_two : (i : ℕ) → ((0 == i) && ((1 == i) && true)) ≡ false
-    one_of_two i = by_bits (0 == i) (1 == i) refl refl
-      where
-        by_bits : (a b : Bool) → (0 == i) ≡ a → (1 == i) ≡ b → (a && (b && true)) ≡ false
-        by_bits true true e f = let p = eq_true 0 i e in let q = eq_true 1 i f in absurd (omega arith)
-        by_bits true false e f = refl
-        by_bits false b e f = refl
-
-    over_two : (k j : Cover) → IsCover (map length delays) (patterns_of cells) k → IsCover (map length delays) (patterns_of cells) j → HasTree idempotent (listing_of 6 and_2) and_form_2 (tree_of (by_nand k j)) → 3000000 ≤ time_of delays (by_nand k j)
-    over_two (wire i) (wire m) a b has = let v = value_of and_2 and_form_2 (nand (leaf i) (leaf m)) (3, refl) has (λ j. false) in cc
-    over_two (wire i) (gate p ks) a b has = let s = slow_gate p ks b in omega arith
-    over_two (gate p ks) j a b has = let s = slow_gate p ks a in omega arith
-
-    least : (k : Cover) → IsCover (map length delays) (patterns_of cells) k → HasTree idempotent (listing_of 6 and_2) and_form_2 (tree_of k) → 3000000 ≤ time_of delays k
-    least (wire i) is has = absurd (true≢false (sym (eq_same i) ∙ (value_of and_2 and_form_2 (leaf i) (3, refl) has (λ j. j == i) ∙ one_of_two i)))
-    least (gate p ks) is has =
-        let g = gate_is p ks is in
-        subst (λ k. 3000000 ≤ time_of delays k) (sym g.is) (over_two g.left g.right g.left_is g.right_is (subst (λ k. HasTree idempotent (listing_of 6 and_2) and_form_2 (tree_of k)) g.is has))
-
--- without them it has no cover
 abbrev pair : ℕ → ℕ → Pair
 pair a b = record { x = a; y = b }
 
+-- with the further laws: each class holds its complement twice, and the complement of the And overlapping parts too
+abbrev graph_i : Graph
+graph_i = record { one = 0; leaves = 2 ∷ 4 ∷ []; forms = 0 ∷ 2 ∷ 4 ∷ 6 ∷ []; pairs = (pair 1 1 ∷ []) ∷ (pair 0 0 ∷ []) ∷ (pair 3 3 ∷ []) ∷ (pair 2 2 ∷ []) ∷ (pair 5 5 ∷ []) ∷ (pair 4 4 ∷ []) ∷ (pair 7 7 ∷ []) ∷ (pair 2 4 ∷ pair 2 6 ∷ pair 4 6 ∷ pair 6 6 ∷ []) ∷ [] }
+
+encoded_i : PassesTests idempotent (forms_of 6 and_2) graph_i []
+unfolding Rattle.lw_laws.specs.Flip.flip
+encoded_i = record { facts = refl; rows = refl; once = refl; bases = refl; tops = refl; leaves = refl; links = refl; apart = refl; merges = tt }
+
+pair_total : sum_by length graph_i.pairs ≡ 11
+pair_total = refl
+
+written_i : IsWritten 4 2 graph_i
+written_i = record { form_count = refl; leaf_count = refl; numbered = inl (refl, inl (refl, inl (refl, inl (refl, tt)))); class_count = refl; rising = rises }
+  where
+    rises : (c : ℕ) → AreRising (slice_index_or graph_i.pairs c [])
+    rises zero = (lit≤ tt, tt, tt)
+    rises (suc zero) = (lit≤ tt, tt, tt)
+    rises (suc (suc zero)) = (lit≤ tt, tt, tt)
+    rises (suc (suc (suc zero))) = (lit≤ tt, tt, tt)
+    rises (suc (suc (suc (suc zero)))) = (lit≤ tt, tt, tt)
+    rises (suc (suc (suc (suc (suc zero))))) = (lit≤ tt, tt, tt)
+    rises (suc (suc (suc (suc (suc (suc zero)))))) = (lit≤ tt, tt, tt)
+    rises (suc (suc (suc (suc (suc (suc (suc zero))))))) =
+        (lit≤ tt, (inr (refl, lit< tt), (inl (lit< tt), (inl (lit< tt), tt))), (lit≤ tt, (inl (lit< tt), (inl (lit< tt), tt)), (lit≤ tt, (inl (lit< tt), tt), (lit≤ tt, tt, tt))))
+    rises (suc (suc (suc (suc (suc (suc (suc (suc c)))))))) = tt
+
+abbrev labels_i : List (Option ℕ)
+labels_i = None ∷ None ∷ Some 0 ∷ Some 1500000 ∷ Some 0 ∷ Some 1500000 ∷ Some 3000000 ∷ Some 1500000 ∷ []
+
+bounded_i : PassesLabelTests labels_i graph_i (patterns_of cells) (delay_cost delays cap)
+unfolding Rattle.lw_laws.specs.Flip.flip
+bounded_i = record { even = 4; count = refl; listed = lit≤ tt; one = lit< tt; matches = refl; leaves = refl }
+
+labelled_i : IsLabelledOver idempotent 6 and_2 graph_i (patterns_of cells) delays cap labels_i
+labelled_i = tested idempotent 6 (lit≤ tt) and_2 graph_i [] encoded_i (patterns_of cells) delays cap labels_i bounded_i refl (lit< tt)
+
+pub and_2_graph : IsGraphOf idempotent 2 (listing_of 6 and_2) graph_i
+and_2_graph = encoding_is_graph idempotent 6 and_2 graph_i (lit≤ tt) labelled_i.encodes written_i
+
+nand_tree : HasTree idempotent (listing_of 6 and_2) (not_form and_form_2) (nand (leaf 0) (leaf 1))
+nand_tree = split_law {ls = var_form 0 ∷ []} {rs = var_form 1 ∷ []} (3, refl) (parts_left (parts_right parts_none)) (lit≤ tt) (lit≤ tt) input_law input_law
+
+-- two nand2 make an And, which arrives at 3
+pub tied_nand_ands : HasLeastArrival idempotent 6 and_2 (patterns_of cells) delays 2 3000000
+unfolding Rattle.lw_laws.specs.Flip.flip
+tied_nand_ands =
+    labelled_least idempotent 6 and_2 graph_i (patterns_of cells) delays cap labels_i labelled_i 2 3000000 (lit< tt) refl (by_nand (by_nand (wire 0) (wire 1)) (by_nand (wire 0) (wire 1)))
+    ((0, lit< tt, refl), refl, (((0, lit< tt, refl), refl, (tt, (tt, tt))), (((0, lit< tt, refl), refl, (tt, (tt, tt))), tt))) (tied_inverter_law {f = and_form_2} refl (3, refl) nand_tree nand_tree) refl
+
+-- without the further laws it has no cover
 abbrev graph_2 : Graph
 graph_2 = record { one = 0; leaves = 2 ∷ 4 ∷ []; forms = 0 ∷ 2 ∷ 4 ∷ 6 ∷ []; pairs = [] ∷ [] ∷ [] ∷ [] ∷ [] ∷ [] ∷ [] ∷ (pair 2 4 ∷ []) ∷ [] }
 
 abbrev labels_2 : List (Option ℕ)
 labels_2 = None ∷ None ∷ Some 0 ∷ None ∷ Some 0 ∷ None ∷ None ∷ Some 1500000 ∷ []
 
-encoded_2 : PassesTests (forms_of 6 and_2) graph_2 []
+encoded_2 : PassesTests plain (forms_of 6 and_2) graph_2 []
 unfolding Rattle.lw_laws.specs.Flip.flip
 encoded_2 = record { facts = refl; rows = refl; once = refl; bases = refl; tops = refl; leaves = refl; links = refl; apart = refl; merges = tt }
 
@@ -157,4 +178,4 @@ bounded_2 = record { even = 4; count = refl; listed = lit≤ tt; one = lit< tt; 
 pub plain_nand_does_not : HasNoCover plain 6 and_2 (patterns_of cells) delays 2
 unfolding Rattle.lw_laws.specs.Flip.flip
 plain_nand_does_not =
-    unlabelled_root plain 6 and_2 graph_2 (patterns_of cells) delays cap labels_2 (tested 6 (lit≤ tt) and_2 graph_2 [] encoded_2 (patterns_of cells) delays cap labels_2 bounded_2 refl (lit< tt)) 2 (lit< tt) refl
+    unlabelled_root plain 6 and_2 graph_2 (patterns_of cells) delays cap labels_2 (tested plain 6 (lit≤ tt) and_2 graph_2 [] encoded_2 (patterns_of cells) delays cap labels_2 bounded_2 refl (lit< tt)) 2 (lit< tt) refl

@@ -69,7 +69,7 @@ graph_3 = record {
 abbrev labels_3 : List (Option ℕ)
 labels_3 = None ∷ None ∷ Some 0 ∷ Some 1000000 ∷ Some 0 ∷ Some 1000000 ∷ Some 0 ∷ Some 1000000 ∷ Some 2500000 ∷ Some 1500000 ∷ Some 2500000 ∷ Some 1500000 ∷ Some 2500000 ∷ Some 1500000 ∷ Some 3000000 ∷ Some 2000000 ∷ []
 
-encoded_3 : PassesTests (forms_of 6 and_3) graph_3 []
+encoded_3 : PassesTests plain (forms_of 6 and_3) graph_3 []
 unfolding Rattle.lw_laws.specs.Flip.flip
 encoded_3 = record { facts = refl; rows = refl; once = refl; bases = refl; tops = refl; leaves = refl; links = refl; apart = refl; merges = tt }
 
@@ -78,7 +78,7 @@ unfolding Rattle.lw_laws.specs.Flip.flip
 bounded_3 = record { even = 8; count = refl; listed = lit≤ tt; one = lit< tt; matches = refl; leaves = refl }
 
 pub labelled_3 : IsLabelledOver plain 6 and_3 graph_3 (patterns_of cells) delays cap labels_3
-labelled_3 = tested 6 (lit≤ tt) and_3 graph_3 [] encoded_3 (patterns_of cells) delays cap labels_3 bounded_3 refl (lit< tt)
+labelled_3 = tested plain 6 (lit≤ tt) and_3 graph_3 [] encoded_3 (patterns_of cells) delays cap labels_3 bounded_3 refl (lit< tt)
 
 -- the heights of the classes by number
 abbrev heights_3 : List ℕ
@@ -158,7 +158,7 @@ measured_3 =
 
 -- each label is the least time of a cover of its class, and a class without label has no cover
 pub least_3 : (c : ℕ) → IsLeastCover graph_3 (patterns_of cells) (delay_cost delays cap) c (labels_in labels_3 c)
-least_3 = labels_least 6 and_3 graph_3 (patterns_of cells) delays cap labels_3 height_3 labelled_3 measured_3
+least_3 = labels_least plain 6 and_3 graph_3 (patterns_of cells) delays cap labels_3 height_3 labelled_3 measured_3
 
 abbrev one_pin : Cover → Covers
 one_pin k = cover k no_covers
@@ -198,7 +198,7 @@ tree_3 =
 pub and_3_arrives : HasLeastArrival plain 6 and_3 (patterns_of cells) delays 3 3000000
 unfolding Rattle.lw_laws.specs.Flip.flip
 and_3_arrives =
-    labelled_least 6 and_3 graph_3 (patterns_of cells) delays cap labels_3 labelled_3 3 3000000 (lit< tt) refl cover_3
+    labelled_least plain 6 and_3 graph_3 (patterns_of cells) delays cap labels_3 labelled_3 3 3000000 (lit< tt) refl cover_3
     ((0, lit< tt, refl), refl, (((2, lit< tt, refl), refl, (tt, (tt, (tt, tt)))), tt)) tree_3 refl
 
 -- the XOR of two inputs
@@ -216,7 +216,7 @@ graph_x = record {
 abbrev labels_x : List (Option ℕ)
 labels_x = None ∷ None ∷ Some 0 ∷ Some 1000000 ∷ Some 0 ∷ Some 1000000 ∷ Some 3500000 ∷ Some 2500000 ∷ Some 3500000 ∷ Some 2500000 ∷ Some 5000000 ∷ Some 4000000 ∷ []
 
-encoded_x : PassesTests (forms_of 6 xor_2) graph_x []
+encoded_x : PassesTests plain (forms_of 6 xor_2) graph_x []
 unfolding Rattle.lw_laws.specs.Flip.flip
 encoded_x = record { facts = refl; rows = refl; once = refl; bases = refl; tops = refl; leaves = refl; links = refl; apart = refl; merges = tt }
 
@@ -240,7 +240,7 @@ tree_x =
 pub xor_arrives : HasLeastArrival plain 6 xor_2 (patterns_of cells) delays 2 4000000
 unfolding Rattle.lw_laws.specs.Flip.flip
 xor_arrives =
-    labelled_least 6 xor_2 graph_x (patterns_of cells) delays cap labels_x (tested 6 (lit≤ tt) xor_2 graph_x [] encoded_x (patterns_of cells) delays cap labels_x bounded_x refl (lit< tt)) 2 4000000 (lit< tt) refl cover_x
+    labelled_least plain 6 xor_2 graph_x (patterns_of cells) delays cap labels_x (tested plain 6 (lit≤ tt) xor_2 graph_x [] encoded_x (patterns_of cells) delays cap labels_x bounded_x refl (lit< tt)) 2 4000000 (lit< tt) refl cover_x
     ((1, lit< tt, refl), refl, (((1, lit< tt, refl), refl, (tt, (((0, lit< tt, refl), refl, (tt, tt)), tt))), (((1, lit< tt, refl), refl, (((0, lit< tt, refl), refl, (tt, tt)), (tt, tt))), tt))) tree_x refl
 
 -- the cells and an xor2 of delay 1.9
@@ -262,7 +262,7 @@ xor_bounded = record { even = 6; count = refl; listed = lit≤ tt; one = lit< tt
 pub xor_arrives_by_cell : HasLeastArrival plain 6 xor_2 (patterns_of with_xor) xor_delays 2 1900000
 unfolding Rattle.lw_laws.specs.Flip.flip
 xor_arrives_by_cell =
-    labelled_least 6 xor_2 graph_x (patterns_of with_xor) xor_delays cap xor_labels (tested 6 (lit≤ tt) xor_2 graph_x [] encoded_x (patterns_of with_xor) xor_delays cap xor_labels xor_bounded refl (lit< tt)) 2 1900000 (lit< tt) refl
+    labelled_least plain 6 xor_2 graph_x (patterns_of with_xor) xor_delays cap xor_labels (tested plain 6 (lit≤ tt) xor_2 graph_x [] encoded_x (patterns_of with_xor) xor_delays cap xor_labels xor_bounded refl (lit< tt)) 2 1900000 (lit< tt) refl
     (gate (pattern 3 (nand (nand (leaf 0) (inv (leaf 1))) (nand (inv (leaf 0)) (leaf 1)))) (two_pins (wire 0) (wire 1)))
     ((4, lit< tt, refl), refl, (tt, (tt, tt))) tree_x refl
 

@@ -83,7 +83,7 @@ graph_a = record {
 abbrev labels_a : List (Option ℕ)
 labels_a = None ∷ None ∷ Some 0 ∷ None ∷ Some 0 ∷ None ∷ Some 0 ∷ None ∷ Some 0 ∷ None ∷ Some 5000000 ∷ None ∷ Some 5000000 ∷ None ∷ Some 10000000 ∷ []
 
-encoded_a : PassesTests (forms_of 6 alone) graph_a []
+encoded_a : PassesTests plain (forms_of 6 alone) graph_a []
 unfolding Rattle.lw_laws.specs.Flip.flip
 encoded_a = record { facts = refl; rows = refl; once = refl; bases = refl; tops = refl; leaves = refl; links = refl; apart = refl; merges = tt }
 
@@ -111,7 +111,7 @@ tree_a =
 pub alone_arrives : HasLeastArrival plain 6 alone (patterns_of cells) delays 6 10000000
 unfolding Rattle.lw_laws.specs.Flip.flip
 alone_arrives =
-    labelled_least 6 alone graph_a (patterns_of cells) delays cap labels_a (tested 6 (lit≤ tt) alone graph_a [] encoded_a (patterns_of cells) delays cap labels_a bounded_a refl (lit< tt)) 6 10000000 (lit< tt) refl
+    labelled_least plain 6 alone graph_a (patterns_of cells) delays cap labels_a (tested plain 6 (lit≤ tt) alone graph_a [] encoded_a (patterns_of cells) delays cap labels_a bounded_a refl (lit< tt)) 6 10000000 (lit< tt) refl
     (by_and (by_and (wire 0) (wire 1)) (by_and (wire 2) (wire 3)))
     ((0, lit< tt, refl), refl, (((0, lit< tt, refl), refl, (tt, (tt, tt))), (((0, lit< tt, refl), refl, (tt, (tt, tt))), tt))) tree_a refl
 
@@ -148,7 +148,7 @@ turned_class = flipped one_class
 abbrev two : ℕ → ℕ → Two
 two f h = record { first = f; second = h }
 
-encoded_s : PassesTests (forms_of 6 shared) graph_s (two 33 31 ∷ two 31 33 ∷ two 32 30 ∷ two 30 32 ∷ [])
+encoded_s : PassesTests plain (forms_of 6 shared) graph_s (two 33 31 ∷ two 31 33 ∷ two 32 30 ∷ two 30 32 ∷ [])
 unfolding Rattle.lw_laws.specs.Flip.flip
 encoded_s = record { facts = refl; rows = refl; once = refl; bases = refl; tops = refl; leaves = refl; links = refl; apart = refl; merges = (one_class, (turned one_class, (turned_class, (turned turned_class, tt)))) }
 
@@ -197,6 +197,6 @@ f_chain = sharing_law (at_s 16 f_form refl) (at_s 15 g_form refl) f_balanced g_b
 pub shared_arrives : HasLeastArrival plain 6 shared (patterns_of cells) delays 7 7000000
 unfolding Rattle.lw_laws.specs.Flip.flip
 shared_arrives =
-    labelled_least 6 shared graph_s (patterns_of cells) delays cap labels_s (tested 6 (lit≤ tt) shared graph_s (two 33 31 ∷ two 31 33 ∷ two 32 30 ∷ two 30 32 ∷ []) encoded_s (patterns_of cells) delays cap labels_s bounded_s refl (lit< tt)) 7 7000000 (lit< tt) refl
+    labelled_least plain 6 shared graph_s (patterns_of cells) delays cap labels_s (tested plain 6 (lit≤ tt) shared graph_s (two 33 31 ∷ two 31 33 ∷ two 32 30 ∷ two 30 32 ∷ []) encoded_s (patterns_of cells) delays cap labels_s bounded_s refl (lit< tt)) 7 7000000 (lit< tt) refl
     (by_and (by_and (by_and (wire 0) (wire 1)) (wire 2)) (wire 3))
     ((0, lit< tt, refl), refl, (((0, lit< tt, refl), refl, (((0, lit< tt, refl), refl, (tt, (tt, tt))), (tt, tt))), (tt, tt))) f_chain refl
