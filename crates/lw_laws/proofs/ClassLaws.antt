@@ -158,7 +158,7 @@ module _ (X Y : ℕ → ℕ) (total : ℕ) (same : (a b : ℕ) → a < total →
   here_from : (Z : ℕ → ℕ) (m c : ℕ) (xs : List ℕ) → AreFrom Z m (c ∷ xs) → Z m ≡ c
   here_from Z m c xs f = let s : m ≡ m + 0 = omega arith in ap Z s ∙ f 0 c refl
 
-  numbers_same : (m next : ℕ) (xs ys : List ℕ) → length xs ≡ length ys → m + length xs ≡ total → AreFrom X m xs → AreFrom Y m ys → AreFound m next → AreNumberedFrom next xs → AreNumberedFrom next ys → xs ≡ ys
+  pub numbers_same : (m next : ℕ) (xs ys : List ℕ) → length xs ≡ length ys → m + length xs ≡ total → AreFrom X m xs → AreFrom Y m ys → AreFound m next → AreNumberedFrom next xs → AreNumberedFrom next ys → xs ≡ ys
   numbers_same m next [] [] len all f h found a b = refl
   numbers_same m next [] (d ∷ ys) len all f h found a b = absurd (omega arith)
   numbers_same m next (c ∷ xs) [] len all f h found a b = absurd (omega arith)
@@ -274,7 +274,7 @@ tail_in p ps qs (le, later, rest) f r c = by_place (head_or_tail r p qs (f r (in
     by_place (inl e) = absurd (not_before r (subst (λ z. IsPairBefore z r) e (all_contains (IsPairBefore p) ps r later c)))
     by_place (inr d) = d
 
-rows_once : (ps qs : List Pair) → AreRising ps → AreRising qs → ((r : Pair) → Contains ps r → Contains qs r) → ((r : Pair) → Contains qs r → Contains ps r) → ps ≡ qs
+pub rows_once : (ps qs : List Pair) → AreRising ps → AreRising qs → ((r : Pair) → Contains ps r → Contains qs r) → ((r : Pair) → Contains qs r → Contains ps r) → ps ≡ qs
 rows_once [] [] a b f h = refl
 rows_once [] (q ∷ qs) a b f h = let (k, lt, e) = h q (0, omega arith, refl) in absurd (omega arith)
 rows_once (p ∷ ps) [] a b f h = let (k, lt, e) = f p (0, omega arith, refl) in absurd (omega arith)
@@ -285,12 +285,12 @@ rows_once (p ∷ ps) (q ∷ qs) a b f h =
     let h' = subst (λ z. (r : Pair) → Contains (z ∷ qs) r → Contains (p ∷ ps) r) (sym same) h in
     ap₂ (λ z zs. z ∷ zs) same (rows_once ps qs a.2 b'.2 (tail_in p ps qs a f') (tail_in p qs ps b' h'))
 
-smaller_first : (ps : List Pair) (p : Pair) → AreRising ps → Contains ps p → p.x ≤ p.y
+pub smaller_first : (ps : List Pair) (p : Pair) → AreRising ps → Contains ps p → p.x ≤ p.y
 smaller_first [] p a (k, lt, e) = absurd (omega arith)
 smaller_first (q ∷ ps) p (le, later, rest) (zero, lt, e) = subst (λ z. z.x ≤ z.y) e le
 smaller_first (q ∷ ps) p (le, later, rest) (suc k, lt, e) = smaller_first ps p rest (k, omega arith, e)
 
-held_in : (h : Graph) (c : ℕ) (p : Pair) → AreRising (slice_index_or h.pairs c []) → p.x ≤ p.y → HoldsPair h c p.x p.y → Contains (slice_index_or h.pairs c []) p
+pub held_in : (h : Graph) (c : ℕ) (p : Pair) → AreRising (slice_index_or h.pairs c []) → p.x ≤ p.y → HoldsPair h c p.x p.y → Contains (slice_index_or h.pairs c []) p
 held_in h c p rises le (inl at) = at
 held_in h c p rises le (inr at) =
     let ge = smaller_first (slice_index_or h.pairs c []) (record { x = p.y; y = p.x }) rises at in
@@ -298,10 +298,10 @@ held_in h c p rises le (inr at) =
     let one : record { x = p.y; y = p.x } ≡ p = ap₂ (λ a b. record { x = a; y = b }) (sym same) same in
     subst (Contains (slice_index_or h.pairs c [])) one at
 
-lists_once : {X : Type 0} (d : X) (xs ys : List X) → length xs ≡ length ys → ((i : ℕ) → slice_index_or xs i d ≡ slice_index_or ys i d) → xs ≡ ys
+pub lists_once : {X : Type 0} (d : X) (xs ys : List X) → length xs ≡ length ys → ((i : ℕ) → slice_index_or xs i d ≡ slice_index_or ys i d) → xs ≡ ys
 lists_once d xs ys len f = ext_get_or d xs ys len (λ i lt. f i)
 
-leaves_once : (xs ys : List ℕ) → length xs ≡ length ys → ((i c : ℕ) → slice_get xs i ≡ Some c → slice_get ys i ≡ Some c) → xs ≡ ys
+pub leaves_once : (xs ys : List ℕ) → length xs ≡ length ys → ((i c : ℕ) → slice_get xs i ≡ Some c → slice_get ys i ≡ Some c) → xs ≡ ys
 leaves_once [] [] len f = refl
 leaves_once [] (y ∷ ys) len f = absurd (omega arith)
 leaves_once (x ∷ xs) [] len f = absurd (omega arith)
@@ -310,7 +310,7 @@ leaves_once (x ∷ xs) (y ∷ ys) len f =
     let same : x ≡ y = cc in
     ap₂ (λ z zs. z ∷ zs) same (leaves_once xs ys (omega arith) (λ i c e. f (suc i) c e))
 
-graph_same : (a b : ℕ) (ls ms fs ks : List ℕ) (ps qs : List (List Pair)) → a ≡ b → ls ≡ ms → fs ≡ ks → ps ≡ qs → ◌≡◌ {A = Graph} (record { one = a; leaves = ls; forms = fs; pairs = ps }) (record { one = b; leaves = ms; forms = ks; pairs = qs })
+pub graph_same : (a b : ℕ) (ls ms fs ks : List ℕ) (ps qs : List (List Pair)) → a ≡ b → ls ≡ ms → fs ≡ ks → ps ≡ qs → ◌≡◌ {A = Graph} (record { one = a; leaves = ls; forms = fs; pairs = ps }) (record { one = b; leaves = ms; forms = ks; pairs = qs })
 graph_same a b ls ms fs ks ps qs e f g h =
     ap₂ (λ z zs. record { one = z; leaves = zs; forms = fs; pairs = ps }) e f ∙ ap₂ (λ zs rs. record { one = b; leaves = ms; forms = zs; pairs = rs }) g h
 

@@ -35,7 +35,7 @@ slice_get_index [] k c e = cc
 slice_get_index (x ∷ xs) zero c e = cc
 slice_get_index (x ∷ xs) (suc k) c e = slice_get_index xs k c e
 
-listed_at : (ps : List Pattern) (k : ℕ) (p : Pattern) → slice_get ps k ≡ Some p → Contains ps p
+pub listed_at : (ps : List Pattern) (k : ℕ) (p : Pattern) → slice_get ps k ≡ Some p → Contains ps p
 listed_at ps k p e = (k, slice_get_in ps k p e, read ps k e)
   where
     read : (qs : List Pattern) (i : ℕ) → slice_get qs i ≡ Some p → slice_index_or qs i p ≡ p

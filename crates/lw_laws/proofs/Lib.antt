@@ -32,6 +32,7 @@ pub mod Lists
 pub mod Mapping
 pub mod MappingExamples
 pub mod MappingTests
+pub mod MarkLaws
 pub mod Masks
 pub mod NameExamples
 pub mod NameLaws
@@ -50,6 +51,7 @@ pub mod PatternLaws
 pub mod PatternTruth
 pub mod PotentialTests
 pub mod Potentials
+pub mod ReductionOnce
 pub mod RoundLaws
 pub mod Rounds
 pub mod SharingExamples

@@ -15,12 +15,13 @@ use Rattle.lw_laws.specs.Choices.{Choices, Labels, HasCost, HaveCosts, IsLeast, 
 use Rattle.lw_laws.specs.Choices.HasCost.{by_wire, by_gate}
 use Rattle.lw_laws.specs.Choices.HaveCosts.{no_pins, pin}
 use Rattle.lw_laws.specs.Rounds.{labels_in}
+use Rattle.lw_laws.specs.Laws.{IsCoverProblem, IsAttainedIn}
 use Rattle.lw_laws.specs.Delays.{delay_cost}
 use Rattle.lw_laws.specs.NumberedForms.{family_of}
 use Rattle.lw_laws.specs.Encodings.{Encodes}
 use Rattle.lw_laws.specs.Netlists.{Netlist, CellTruth, HaveCellTruths, AreArrivals}
 use Rattle.lw_laws.specs.Extracts.{IsNetOf, class_at, net_classes}
-use Rattle.lw_laws.specs.Mapped.{forms_of, root_class, IsMappedOver, IsRootedAt}
+use Rattle.lw_laws.specs.Mapped.{IsPotentialOf, forms_of, root_class, IsMappedOver, IsRootedAt}
 use Rattle.lw_laws.specs.Headline.{Port, Ports, IsMapping, HasLeastArrival, HasNoCover}
 use Rattle.lw_laws.specs.MappedNetlists.{root_classes, HasPorts, IsNetlistOf}
 use Rattle.lw_laws.proofs.NumberedForms.{forms_are_family}
@@ -65,6 +66,12 @@ module _ (M : Choices) (cost : Cost) (labels : Labels) (least : (c : ℕ) → Is
     inputs = λ c i is. at_most c (cost.leaf i) (labels c) refl (least c) (by_wire is);
     matches = λ c cell ps ls m a. at_most c (cost.value cell ls) (labels c) refl (least c) (by_gate m (costs_of_labels ps ls a));
   }
+
+-- the least costs over covers are a potential, and costs of covers
+pub least_costs_bound : (g : Graph) (pats : List Pattern) (cost : Cost) (labels : List (Option ℕ)) → IsCoverProblem g pats cost → ((c : ℕ) → IsLeastCover g pats cost c (labels_in labels c)) → IsPotentialOf g pats cost labels × IsAttainedIn g pats cost labels
+least_costs_bound g pats cost labels is least =
+    let over : (c : ℕ) → IsLeast (choices_of g cost.pin_counts pats) cost c (labels_in labels c) = λ c. least_match g pats cost is.once is.patterns c (labels_in labels c) (least c) in
+    (least_potential (choices_of g cost.pin_counts pats) cost (labels_in labels) over, λ c l e. cost_of_label (choices_of g cost.pin_counts pats) cost (labels_in labels) over c l (labels_in labels c) refl (over c) e)
 
 each : (R S : Port → Port → Type 0) → ((p q : Port) → R p q → S p q) → (ps qs : List Port) → AllZip R ps qs → AllZip S ps qs
 each R S f [] [] a = tt

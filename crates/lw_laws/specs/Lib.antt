@@ -30,6 +30,7 @@ pub mod NumberedValues
 pub mod Numbering
 pub mod Occurring
 pub mod Patterns
+pub mod Priced
 pub mod Rounds
 pub mod SignalValues
 pub mod Signals

@@ -9,7 +9,7 @@ ghost use Rattle.lw_laws.specs.Delays.{delay_cost};
 ghost use Rattle.lw_laws.specs.Drafts.{AreKnown, Draft, HaveSameFacts, IsReduced, facts_of};
 ghost use Rattle.lw_laws.specs.Encodings.{Encodes};
 ghost use Rattle.lw_laws.specs.Expressions.{Expr, MentionsPin, expr_value};
-ghost use Rattle.lw_laws.specs.Extracts.{AreDistinctLeaves, AreGateClasses, IsChosen, IsExtracted, IsNetOf, Match, class_at};
+ghost use Rattle.lw_laws.specs.Extracts.{AreDistinctLeaves, AreGateClasses, IsChosen, IsExtracted, IsLeafClass, IsNetOf, Match, Supports, class_at};
 ghost use Rattle.lw_laws.specs.Forms.{Form, conjunction, form_value, has_clash, joined, kept};
 ghost use Rattle.lw_laws.specs.Graphs.{Graph, IsWritten, PairsInOneClass};
 ghost use Rattle.lw_laws.specs.Headline.{HasLeastArrival, HasLeastTime, HasNoCover, IsMapping, Ports};
@@ -18,6 +18,7 @@ ghost use Rattle.lw_laws.specs.Laws.{AreBoundedIn, AreDelaysUpTo, AreHeightsClos
 ghost use Rattle.lw_laws.specs.Listings.{IsListing};
 ghost use Rattle.lw_laws.specs.Mapped.{AreRooted, IsCoverAt, IsLabelledOver, IsMapped, IsMappedOver, IsPotentialOf, IsRootedAt, StandsForCover, forms_of, root_class};
 ghost use Rattle.lw_laws.specs.MappedNetlists.{HasPorts, IsNetlistOf};
+ghost use Rattle.lw_laws.specs.Marks.{HasMarkAtMost, Mark, heights_of, labels_of};
 ghost use Rattle.lw_laws.specs.Matches.{IsLeastCover, IsMatchAt, choices_of};
 ghost use Rattle.lw_laws.specs.Modes.{Mode};
 ghost use Rattle.lw_laws.specs.Names.{AreDifferent, AreNameable, net_names};
@@ -28,6 +29,7 @@ ghost use Rattle.lw_laws.specs.NumberedValues.{AreNumberedValues};
 ghost use Rattle.lw_laws.specs.Numbering.{HasSameTrees, numbered};
 ghost use Rattle.lw_laws.specs.Occurring.{HasInputsFirst, occurring_forms, part, sublists};
 ghost use Rattle.lw_laws.specs.Patterns.{patterns_of, trees_of_expr};
+ghost use Rattle.lw_laws.specs.Priced.{AreMarks, IsPriced};
 ghost use Rattle.lw_laws.specs.Rounds.{label_weight, labels_in, total_weight};
 ghost use Rattle.lw_laws.specs.SignalValues.{SignalsAgree, number_value};
 ghost use Rattle.lw_laws.specs.Signals.{factored, factored_by, shared_literal, signals_of};
@@ -198,6 +200,11 @@ pub fn graphs_have_the_values()
     ensures { (mode : Mode) (width : ℕ) (net : Network) (g : Graph) (x : ℕ → Bool) → 2 ≤ width → IsGraphOf mode net.inputs (listing_of width net) g → ClassesHaveValue (listing_of width net) g x }
 {}
 
+/// What the reduction of a draft gives is one graph.
+pub fn reductions_are_one()
+    ensures { (d : Draft) (g h : Graph) → IsReduced d g → IsReduced d h → g ≡ h }
+{}
+
 /// In what the reduction of a draft gives each unordered pair stands in one class at most, where the facts speak of base forms of the draft.
 pub fn reductions_hold_pairs_once()
     ensures { (d : Draft) (g : Graph) → AreKnown d → IsReduced d g → PairsInOneClass g }
@@ -260,6 +267,11 @@ pub fn labels_are_one()
 /// A class has one least cost, or none.
 pub fn least_costs_are_one()
     ensures { (g : Graph) (pats : List Pattern) (cost : Cost) (c : ℕ) (o p : Option ℕ) → IsLeastCover g pats cost c o → IsLeastCover g pats cost c p → o ≡ p }
+{}
+
+/// The least costs of the classes are a potential of costs of covers.
+pub fn least_costs_are_a_potential()
+    ensures { (g : Graph) (pats : List Pattern) (cost : Cost) (labels : List (Option ℕ)) → IsCoverProblem g pats cost → ((c : ℕ) → IsLeastCover g pats cost c (labels_in labels c)) → IsPotentialOf g pats cost labels × IsAttainedIn g pats cost labels }
 {}
 
 /// A class has one height.
@@ -337,6 +349,21 @@ pub fn next_heights_are_right()
 /// Where a round of heights would add nothing, each labelled class has its height.
 pub fn last_heights_are_all()
     ensures { (g : Graph) (pats : List Pattern) (cost : Cost) (labels : List (Option ℕ)) (heights : ℕ → Option ℕ) (h : ℕ) → IsCoverProblem g pats cost → IsPotentialOf g pats cost labels → IsAttainedIn g pats cost labels → AreHeightsUpToIn g pats cost labels heights h → AreHeightsClosed g pats cost labels heights → (c l : ℕ) → labels_in labels c ≡ Some l → (k : ℕ) × (heights c ≡ Some k) × IsHeight (choices_of g cost.pin_counts pats) cost (labels_in labels) c k }
+{}
+
+/// No match is priced by the marks of its pins below the mark of its class.
+pub fn priced_matches_are_above_marks()
+    ensures { (g : Graph) (cost : Cost) (pats : List Pattern) (marks : ℕ → Option Mark) → AreMarks g cost pats marks → (c : ℕ) (m : Match) (p : Pattern) (k : Mark) → IsPriced g cost pats marks c m p k → HasMarkAtMost marks c k }
+{}
+
+/// At a class that is no input's, the matches that attain the label and the height are those priced at the mark of the class.
+pub fn supports_are_priced()
+    ensures { (g : Graph) (cost : Cost) (pats : List Pattern) (marks : ℕ → Option Mark) → AreMarks g cost pats marks → (c : ℕ) (m : Match) (p : Pattern) (k : Mark) → (IsLeafClass g c → ⊥) → marks c ≡ Some k → Supports g cost pats (labels_of marks) (heights_of marks) c m p ↔ IsPriced g cost pats marks c m p k }
+{}
+
+/// A marked class that is no input's has a match that attains its label and its height.
+pub fn marked_classes_have_supports()
+    ensures { (g : Graph) (cost : Cost) (pats : List Pattern) (marks : ℕ → Option Mark) → AreMarks g cost pats marks → (c : ℕ) (k : Mark) → (IsLeafClass g c → ⊥) → marks c ≡ Some k → (m : Match) × (p : Pattern) × Supports g cost pats (labels_of marks) (heights_of marks) c m p }
 {}
 
 // Netlists

@@ -1,0 +1,21 @@
+-- Matches priced by the marks of their pins, and the marks of classes.
+use Rattle.std.specs.Prelude.{ℕ, ◌≡◌, List, Some}
+use Rattle.lw_laws.specs.Graphs.{Graph}
+use Rattle.lw_laws.specs.Costs.{Cost}
+use Rattle.lw_laws.specs.Covers.{Pattern}
+use Rattle.lw_laws.specs.Matches.{choices_of}
+use Rattle.lw_laws.specs.Choices.{IsPotential, IsHeight}
+use Rattle.lw_laws.specs.Marks.{Mark, Marks, HaveMarks, price, labels_of}
+use Rattle.lw_laws.specs.Extracts.{Match, MatchesAt}
+
+-- the match stands at the class, its pins have marks, and these price it at this mark
+pub record IsPriced (g : Graph) (cost : Cost) (pats : List Pattern) (marks : Marks) (c : ℕ) (m : Match) (p : Pattern) (mark : Mark) : Type 0 where
+  pub matches : MatchesAt g cost pats c m p
+  pub pin_marks : List Mark
+  pub have : HaveMarks marks m.pins pin_marks
+  pub mark_is : mark ≡ price cost p.cell pin_marks
+
+-- the marks of the classes: their labels are a potential, and each comes with the height of its class
+pub record AreMarks (g : Graph) (cost : Cost) (pats : List Pattern) (marks : Marks) : Type 0 where
+  pub potential : IsPotential (choices_of g cost.pin_counts pats) cost (labels_of marks)
+  pub heights : (c : ℕ) (m : Mark) → marks c ≡ Some m → IsHeight (choices_of g cost.pin_counts pats) cost (labels_of marks) c m.height
