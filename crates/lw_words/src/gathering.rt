@@ -84,6 +84,9 @@ impl Gathering {
         requires no_hash { All IsNoHash bytes.now }
         ensures { OnOk result (self.new ≡ with_bytes bytes.now self.old) }
     {
+        if let [b] = bytes {
+            return self.push(*b);
+        }
         let room = WORD_MAX - (self.bytes.len() - self.start);
         if bytes.len() <= room {
             self.bytes.extend_from_slice(bytes)?;
