@@ -36,8 +36,8 @@ impl Model for Gathering {
 }
 
 impl Gathering {
-    ghost use Rattle.std.specs.Prelude.{◌≡◌, [], All, IfOk, OnOk};
-    ghost use Rattle.lw_words.specs.Gathering.{IsInk, IsNoHash, nothing_gathered, mark_gathered, with_byte, with_bytes, ended, line_gathered};
+    ghost use Rattle.std.specs.Prelude.{◌≡◌, [], IfOk, OnOk};
+    ghost use Rattle.lw_words.specs.Gathering.{IsInk, IsNoHash, nothing_gathered, mark_gathered, with_byte, ended, line_gathered};
 
     pub fn new(alloc: Global) -> Self
         ensures { result ≡ nothing_gathered }
@@ -65,6 +65,7 @@ impl Gathering {
     }
 
     /// One more byte of the word.
+    #[inline(always)]
     pub fn push(&mut self, b: u8) -> Result<(), AllocError>
         requires ink { IsInk b }
         requires no_hash { IsNoHash b }
@@ -75,25 +76,6 @@ impl Gathering {
         } else {
             self.long = true;
         }
-        Ok(())
-    }
-
-    /// More bytes of the word.
-    pub fn push_all(&mut self, bytes: &[u8]) -> Result<(), AllocError>
-        requires ink { All IsInk bytes.now }
-        requires no_hash { All IsNoHash bytes.now }
-        ensures { OnOk result (self.new ≡ with_bytes bytes.now self.old) }
-    {
-        if let [b] = bytes {
-            return self.push(*b);
-        }
-        let room = WORD_MAX - (self.bytes.len() - self.start);
-        if bytes.len() <= room {
-            self.bytes.extend_from_slice(bytes)?;
-            return Ok(());
-        }
-        self.bytes.extend_from_slice(&bytes[..room])?;
-        self.long = true;
         Ok(())
     }
 
