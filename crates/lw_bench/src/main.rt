@@ -9,8 +9,8 @@ use std::alloc::Global;
 use std::io::{self, Read, Write};
 use std::process::ExitCode;
 
-/// How many bytes are read at once.
-const PIECE: usize = 65536;
+/// How many bytes are read at once: so few that their lines stay in the processor's cache.
+const PIECE: usize = 8192;
 
 /// How many bytes a text has at most.
 const MOST: usize = 67_108_864;

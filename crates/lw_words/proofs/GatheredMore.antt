@@ -8,7 +8,7 @@ use Rattle.std.proofs.lemmas.List.{drop-append-le, length-drop, length-take, tak
 use Rattle.std.proofs.lemmas.List.Elements.{All-append, All-take, All-push, All-nil, All-cons}
 use Rattle.lw_words.specs.Lines.{has_some}
 use Rattle.lw_words.specs.Arenas.{words_at, last_end}
-use Rattle.lw_words.specs.Gathering.{Gathered, with_byte, with_bytes, ended, IsInk, IsNoHash, IsWord, HasNoHash, IsGathered, IsKept, IsLine, line_gathered}
+use Rattle.lw_words.specs.Gathering.{Gathered, with_byte, ended, IsInk, IsNoHash, IsWord, HasNoHash, IsGathered, IsKept, IsLine, line_gathered}
 use Rattle.lw_words.proofs.WordsAt.{AreEnds-more, AreEnds-push, last_end-push, words_at-push, words_at-append, length-words_at}
 
 has_some-length : {A : Type 0} (xs : List A) → 0 < length xs → has_some xs ≡ true
@@ -72,35 +72,6 @@ IsKept-long bytes ends start long h full = record {
   };
 }
 
--- Bytes for which there is room, and bytes for which there is none.
-
-pub with_bytes-short : (words : List (List ℕ)) (last : List ℕ) (long : Bool) (more : List ℕ) → length last + length more ≤ 4095 → with_bytes more (record { words = words; last = last; long = long }) ≡ record { words = words; last = last ++ more; long = long }
-with_bytes-short words last long [] few = ap (λ l. record { words = words; last = l; long = long }) (sym (append-nil last))
-with_bytes-short words last long (b ∷ more) few =
-    let short : ltb (length last) 4095 ≡ true = lt-ltb _ _ (omega arith) in
-    ap (λ t. with_bytes more (cond t (record { words = words; last = last ++ b ∷ []; long = long }) (record { words = words; last = last; long = true }))) short
-    ∙ (with_bytes-short words (last ++ b ∷ []) long more (omega (arith, length-append last (b ∷ [])))
-    ∙ ap (λ l. record { words = words; last = l; long = long }) (append_assoc last (b ∷ []) more))
-
-with_bytes-full : (words : List (List ℕ)) (last : List ℕ) (more : List ℕ) → 4095 ≤ length last → with_bytes more (record { words = words; last = last; long = true }) ≡ record { words = words; last = last; long = true }
-with_bytes-full words last [] full = refl
-with_bytes-full words last (b ∷ more) full =
-    let over : ltb (length last) 4095 ≡ false = le-ltb _ _ full in
-    ap (λ t. with_bytes more (cond t (record { words = words; last = last ++ b ∷ []; long = true }) (record { words = words; last = last; long = true }))) over
-    ∙ with_bytes-full words last more full
-
-pub with_bytes-long : (room : ℕ) (words : List (List ℕ)) (last : List ℕ) (long : Bool) (more : List ℕ) → length last + room ≡ 4095 → room < length more → with_bytes more (record { words = words; last = last; long = long }) ≡ record { words = words; last = last ++ take room more; long = true }
-with_bytes-long room words last long [] is over = absurd (omega arith)
-with_bytes-long zero words last long (b ∷ more) is over =
-    let full : ltb (length last) 4095 ≡ false = le-ltb _ _ (omega arith) in
-    ap (λ t. with_bytes more (cond t (record { words = words; last = last ++ b ∷ []; long = long }) (record { words = words; last = last; long = true }))) full
-    ∙ (with_bytes-full words last more (omega arith) ∙ ap (λ l. record { words = words; last = l; long = true }) (sym (append-nil last)))
-with_bytes-long (suc room) words last long (b ∷ more) is over =
-    let short : ltb (length last) 4095 ≡ true = lt-ltb _ _ (omega arith) in
-    ap (λ t. with_bytes more (cond t (record { words = words; last = last ++ b ∷ []; long = long }) (record { words = words; last = last; long = true }))) short
-    ∙ (with_bytes-long room words (last ++ b ∷ []) long more (omega (arith, length-append last (b ∷ []))) (omega arith)
-    ∙ ap (λ l. record { words = words; last = l; long = true }) (append_assoc last (b ∷ []) (take room more)))
-
 -- a word without `#` keeps this
 HasNoHash-push : (words : List (List ℕ)) (word : List ℕ) → HasNoHash words → All IsNoHash word → HasNoHash (words ++ word ∷ [])
 HasNoHash-push [] word h plain = of_first (bytes_eq word (35 ∷ 64 ∷ []))
@@ -161,26 +132,3 @@ pub line-gathered : (bytes ends : List ℕ) (start : ℕ) (long : Bool) (number 
 line-gathered bytes ends start long number some =
     let is = has_some-length (words_at 0 bytes ends) (omega (arith, length-words_at 0 bytes ends)) in
     sym (ap (λ t. cond t (Some (record { number = number; long = long; words = words_at 0 bytes ends })) None) is)
-
--- bytes for which there is room
-pub gathered-short : (bytes ends : List ℕ) (start : ℕ) (long : Bool) (more : List ℕ) → IsKept bytes ends start long → length bytes - start + length more ≤ 4095 → gathered (bytes ++ more) ends start long ≡ with_bytes more (gathered bytes ends start long)
-gathered-short bytes ends start long more h few =
-    gathered-append bytes ends start long more h
-    ∙ sym (with_bytes-short (words_at 0 bytes ends) (drop start bytes) long more (omega (arith, length-drop start bytes)))
-
--- bytes for which there is none
-pub gathered-long : (bytes ends : List ℕ) (start : ℕ) (long : Bool) (more : List ℕ) (room : ℕ) → IsKept bytes ends start long → length bytes - start + room ≡ 4095 → room < length more → gathered (bytes ++ take room more) ends start true ≡ with_bytes more (gathered bytes ends start long)
-gathered-long bytes ends start long more room h is over =
-    ap (λ (g : Gathered). record { words = g.words; last = g.last; long = true }) (gathered-append bytes ends start long (take room more) h)
-    ∙ sym (with_bytes-long room (words_at 0 bytes ends) (drop start bytes) long more (omega (arith, length-drop start bytes)) over)
-
-pub IsKept-cut : (bytes ends : List ℕ) (start : ℕ) (long : Bool) (more : List ℕ) (room : ℕ) → IsKept bytes ends start long → length bytes - start + room ≡ 4095 → room < length more → All IsInk more → All IsNoHash more → IsKept (bytes ++ take room more) ends start true
-IsKept-cut bytes ends start long more room h is over ink plain =
-    let few = length-take room more in
-    let longer = length-append bytes (take room more) in
-    IsKept-long (bytes ++ take room more) ends start long
-    (IsKept-append bytes ends start long (take room more) h (omega arith) (All-take IsInk room more ink) (All-take IsNoHash room more plain))
-    (omega arith)
-
-pub IsKept-few : (bytes ends : List ℕ) (start : ℕ) (long : Bool) → IsKept bytes ends start long → length bytes - start ≤ 4095
-IsKept-few bytes ends start long h = omega (arith, h.gathered.few, length-drop start bytes)

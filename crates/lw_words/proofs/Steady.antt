@@ -4,11 +4,11 @@ use Rattle.std.specs.Prelude.{All}
 use Rattle.std.proofs.lemmas.Bool.{eqb-true}
 use Rattle.std.proofs.lemmas.List.Elements.{All-head, All-tail}
 use Rattle.lw_words.specs.declared.place.Place.{Place}
-use Rattle.lw_words.specs.declared.place.Place.TheVariants.{Text, Comment, ContinuedComment}
+use Rattle.lw_words.specs.declared.place.Place.TheVariants.{Text, Stroke, Comment, ContinuedComment}
 use Rattle.lw_words.specs.declared.lines.Lines.{Lines}
 use Rattle.lw_words.specs.Lines.{is_blank, finished_lines}
-use Rattle.lw_words.specs.Gathering.{Gathered, with_byte, with_bytes, IsInk, IsNoHash, IsNoStroke}
-use Rattle.lw_words.specs.Reading.{unfinished, place_after, gathered_after, after_ink, with_ink, ended_lines, goes_on, first_place, gathered_at_end, IsReading, IsComment}
+use Rattle.lw_words.specs.Gathering.{Gathered, with_byte, ended, IsPlainByte}
+use Rattle.lw_words.specs.Reading.{unfinished, place_after, gathered_after, after_ink, with_ink, over_byte, over_bytes, ended_lines, goes_on, first_place, gathered_at_end, IsReading, IsComment}
 use Rattle.lw_words.specs.Standing.{StandsFor, ReadsAll, ReadsByte, lines_so_far}
 use Rattle.lw_words.proofs.Stands.{reading-next, finished-byte, same-reading, so_far-open, stands-byte}
 
@@ -89,7 +89,7 @@ reads-run old new f run r s = record {
   stands = λ fed taken still h. stands-run old new f run fed taken r s still h;
 }
 
--- The bytes of a word.
+-- Blanks and the bytes of words.
 
 differs : (a b : ℕ) → a ≢ b → (a == b) ≡ false
 differs a b h = by_kind (a == b) refl
@@ -98,33 +98,37 @@ differs a b h = by_kind (a == b) refl
     by_kind true e = absurd (h (eqb-true a b e))
     by_kind false e = e
 
-steady-ink : (b : ℕ) → IsInk b → IsNoHash b → IsNoStroke b → Steady Text with_byte b
-steady-ink b ink hash stroke =
-    let no_blank : is_blank b ≡ false = ink.0 in
-    let no_hash : (b == 35) ≡ false = differs b 35 hash in
-    let no_stroke : (b == 92) ≡ false = differs b 92 stroke in
+steady-plain : (b : ℕ) → IsPlainByte b → Steady Text (λ n g. over_byte g n) b
+steady-plain b h =
+    let no_hash : (b == 35) ≡ false = differs b 35 h.1 in
+    let no_stroke : (b == 92) ≡ false = differs b 92 h.2 in
     record {
-      no_end = differs b 10 ink.1;
-      stays = ap (λ t. cond t Comment (cond (is_blank b) Text (after_ink b))) no_hash ∙ (ap (λ t. cond t Text (after_ink b)) no_blank ∙ ap (λ t. cond t Rattle.lw_words.specs.declared.place.Place.TheVariants.Stroke Text) no_stroke);
-      grows = λ g. ap (λ t. cond t g (cond (is_blank b) (Rattle.lw_words.specs.Gathering.ended g) (with_ink b g))) no_hash ∙ (ap (λ t. cond t (Rattle.lw_words.specs.Gathering.ended g) (with_ink b g)) no_blank ∙ ap (λ t. cond t g (with_byte b g)) no_stroke);
+      no_end = differs b 10 h.0;
+      stays =
+          ap (λ t. cond t Comment (cond (is_blank b) Text (after_ink b))) no_hash
+          ∙ (ap (λ t. cond (is_blank b) Text (cond t Stroke Text)) no_stroke ∙ same_either (is_blank b));
+      grows = λ g.
+          ap (λ t. cond t g (cond (is_blank b) (ended g) (with_ink b g))) no_hash
+          ∙ ap (λ t. cond (is_blank b) (ended g) (cond t g (with_byte b g))) no_stroke;
     }
+  where
+    same_either : (t : Bool) → cond t Text Text ≡ Text
+    same_either true = refl
+    same_either false = refl
 
-all-ink : (run : List ℕ) → All IsInk run → All IsNoHash run → All IsNoStroke run → AreSteady Text with_byte run
-all-ink [] ink hash stroke = tt
-all-ink (b ∷ run) ink hash stroke = (
-  steady-ink b (All-head IsInk b run ink) (All-head IsNoHash b run hash) (All-head IsNoStroke b run stroke),
-  all-ink run (All-tail IsInk b run ink) (All-tail IsNoHash b run hash) (All-tail IsNoStroke b run stroke),
-)
+all-plain : (run : List ℕ) → All IsPlainByte run → AreSteady Text (λ n g. over_byte g n) run
+all-plain [] h = tt
+all-plain (b ∷ run) h = (steady-plain b (All-head IsPlainByte b run h), all-plain run (All-tail IsPlainByte b run h))
 
-over-bytes : (run : List ℕ) (g : Gathered) → with_bytes run g ≡ over with_byte run g
+over-bytes : (run : List ℕ) (g : Gathered) → over_bytes g run ≡ over (λ n h. over_byte h n) run g
 over-bytes [] g = refl
-over-bytes (b ∷ run) g = over-bytes run (with_byte b g)
+over-bytes (b ∷ run) g = over-bytes run (over_byte g b)
 
-pub reads-ink : (old new : Lines) (run : List ℕ) → ReadsRun old run (with_bytes run old.gathering) new → old.place ≡ Text → All IsInk run → All IsNoHash run → All IsNoStroke run → ReadsAll old run new
-reads-ink old new run r text ink hash stroke =
-    reads-run old new with_byte run
+pub reads-plain : (old new : Lines) (run : List ℕ) → ReadsRun old run (over_bytes old.gathering run) new → old.place ≡ Text → All IsPlainByte run → ReadsAll old run new
+reads-plain old new run r text plain =
+    reads-run old new (λ n g. over_byte g n) run
     (subst (λ (g : Gathered). ReadsRun old run g new) (over-bytes run old.gathering) r)
-    (subst (λ (p : Place). AreSteady p with_byte run) (sym text) (all-ink run ink hash stroke))
+    (subst (λ (p : Place). AreSteady p (λ n g. over_byte g n) run) (sym text) (all-plain run plain))
 
 -- The bytes of a comment.
 

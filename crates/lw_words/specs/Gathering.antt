@@ -22,10 +22,6 @@ with_byte b g =
     if nat_lt (length g.last) 4095 then record { words = g.words; last = g.last ++ b ∷ []; long = g.long }
     else record { words = g.words; last = g.last; long = true }
 
-abbrev pub with_bytes : List ℕ → Gathered → Gathered
-with_bytes [] g = g
-with_bytes (b ∷ bytes) g = with_bytes bytes (with_byte b g)
-
 -- the word ends, if there is one
 abbrev pub ended : Gathered → Gathered
 ended g =
@@ -44,8 +40,9 @@ IsInk b = (is_blank b ≡ false) × (b ≢ 10)
 abbrev pub IsNoHash : ℕ → Type 0
 IsNoHash b = b ≢ 35
 
-abbrev pub IsNoStroke : ℕ → Type 0
-IsNoStroke b = b ≢ 92
+-- a blank, or a byte of a word that cannot end a line
+abbrev pub IsPlainByte : ℕ → Type 0
+IsPlainByte b = (b ≢ 10) × IsNoHash b × (b ≢ 92)
 
 -- a word has 1 to 4,095 bytes, and among them no blank and no line feed
 pub record IsWord (word : List ℕ) : Type 0 where

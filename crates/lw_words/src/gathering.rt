@@ -1,6 +1,7 @@
 // The words of a line, byte by byte.
 ghost use Rattle.std.specs.Prelude.{◌≡◌, ◌≢◌, ◌<◌, ◌≤◌, ◌+◌, ℕ, IfOk, OnOk};
 
+use crate::words::{Bytes, Ends};
 use crate::{Line, Words};
 use std::alloc::{AllocError, Global};
 use std::marker::Model;
@@ -12,8 +13,8 @@ const WORD_MAX: usize = 4095;
 /// The words of a line that is being read.
 #[derive(Debug, Drop)]
 pub struct Gathering {
-    bytes: Vec<u8>,
-    ends: Vec<usize>,
+    bytes: Bytes,
+    ends: Ends,
     start: usize,
     long: bool,
 }
@@ -35,15 +36,15 @@ impl Model for Gathering {
 }
 
 impl Gathering {
-    ghost use Rattle.std.specs.Prelude.{◌≡◌, [], All, IfOk, OnOk};
-    ghost use Rattle.lw_words.specs.Gathering.{IsInk, IsNoHash, nothing_gathered, mark_gathered, with_byte, with_bytes, ended, line_gathered};
+    ghost use Rattle.std.specs.Prelude.{◌≡◌, [], IfOk, OnOk};
+    ghost use Rattle.lw_words.specs.Gathering.{IsInk, IsNoHash, nothing_gathered, mark_gathered, with_byte, ended, line_gathered};
 
     pub fn new(alloc: Global) -> Self
         ensures { result ≡ nothing_gathered }
     {
         Gathering {
-            bytes: Vec::new(alloc),
-            ends: Vec::new(alloc),
+            bytes: Bytes::new(alloc),
+            ends: Ends::new(alloc),
             start: 0,
             long: false,
         }
@@ -53,8 +54,8 @@ impl Gathering {
     pub fn mark(alloc: Global) -> Result<Self, AllocError>
         ensures { IfOk result (λ g. g ≡ mark_gathered) }
     {
-        let bytes = Vec::from_slice(alloc, b"#@")?;
-        let ends = vec![in alloc; 2]?;
+        let bytes = Bytes::from_slice(alloc, b"#@")?;
+        let ends = Ends::from_slice(alloc, &[2])?;
         Ok(Gathering {
             bytes,
             ends,
@@ -64,6 +65,7 @@ impl Gathering {
     }
 
     /// One more byte of the word.
+    #[inline(always)]
     pub fn push(&mut self, b: u8) -> Result<(), AllocError>
         requires ink { IsInk b }
         requires no_hash { IsNoHash b }
@@ -73,35 +75,6 @@ impl Gathering {
             self.bytes.push(b)?;
         } else {
             self.long = true;
-        }
-        Ok(())
-    }
-
-    /// More bytes of the word.
-    pub fn push_all(&mut self, bytes: &[u8]) -> Result<(), AllocError>
-        requires ink { All IsInk bytes.now }
-        requires no_hash { All IsNoHash bytes.now }
-        ensures { OnOk result (self.new ≡ with_bytes bytes.now self.old) }
-    {
-        self.make_room()?;
-        let room = WORD_MAX - (self.bytes.len() - self.start);
-        if bytes.len() <= room {
-            self.bytes.extend_from_slice(bytes)?;
-            return Ok(());
-        }
-        self.bytes.extend_from_slice(&bytes[..room])?;
-        self.long = true;
-        Ok(())
-    }
-
-    // Room for the words of a common line.
-    #[inline(always)]
-    fn make_room(&mut self) -> Result<(), AllocError>
-        ensures { self.new ≡ self.old }
-    {
-        if self.bytes.is_empty() {
-            self.bytes.reserve(32)?;
-            self.ends.reserve(4)?;
         }
         Ok(())
     }

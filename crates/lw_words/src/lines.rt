@@ -4,7 +4,7 @@ ghost use Rattle.std.specs.Prelude.{◌≡◌, ◌+◌, ◌≤◌, ◌<◌, fals
 use crate::gathering::Gathering;
 use crate::line::Line;
 use crate::place::Place;
-use crate::reading::{comment_len, ink_len, over_byte, over_end};
+use crate::reading::{comment_len, over_byte, over_end, over_plain};
 use std::alloc::{AllocError, Global};
 use std::collections::VecDeque;
 
@@ -116,24 +116,20 @@ impl Lines {
         ensures reads { IfOk result (λ n. ReadsAll self.old (take n bytes.now) self.new) }
     {
         match self.place {
-            Place::Text => self.read_ink(bytes),
+            Place::Text => self.read_plain(bytes),
             Place::Comment | Place::ContinuedComment => Ok(self.skip_comment(bytes)),
             _ => Ok(0),
         }
     }
 
-    // The bytes of a word.
-    fn read_ink(&mut self, bytes: &[u8]) -> Result<usize, AllocError>
+    // Blanks and the bytes of words.
+    fn read_plain(&mut self, bytes: &[u8]) -> Result<usize, AllocError>
         requires text { self.old.place ≡ Place.Text }
         requires room { self.old.fed + length bytes.now ≤ 67108865 }
         ensures within { IfOk result (λ n. n ≤ length bytes.now) }
         ensures reads { IfOk result (λ n. ReadsAll self.old (take n bytes.now) self.new) }
     {
-        let n = ink_len(bytes);
-        if n == 0 {
-            return Ok(0);
-        }
-        self.gathering.push_all(&bytes[..n])?;
+        let n = over_plain(&mut self.gathering, bytes)?;
         self.fed += n as u32;
         Ok(n)
     }

@@ -1,8 +1,8 @@
 // The bytes of a physical line, one by one.
 ghost use Rattle.std.specs.Prelude.{◌≡◌, ◌≢◌, ◌≤◌, false, length, take, All, IsTrue, IfOk, OnOk};
 ghost use Rattle.lw_words.specs.Lines.{is_blank};
-ghost use Rattle.lw_words.specs.Gathering.{with_byte, ended, IsInk, IsNoHash, IsNoStroke};
-ghost use Rattle.lw_words.specs.Reading.{after_ink, after_text, after_stroke, place_after, with_ink, over_text, over_stroke, gathered_after, gathered_at_end};
+ghost use Rattle.lw_words.specs.Gathering.{with_byte, ended, IsPlainByte};
+ghost use Rattle.lw_words.specs.Reading.{after_ink, after_text, after_stroke, place_after, with_ink, over_text, over_stroke, over_byte, over_bytes, gathered_after, gathered_at_end};
 
 use crate::gathering::Gathering;
 use crate::place::Place;
@@ -16,25 +16,10 @@ fn is_blank(b: u8) -> bool
     b == b' ' || b == b'\t' || b == b'\r' || b == 12
 }
 
-fn is_ink(b: u8) -> bool
-    ensures { IsTrue result → (IsInk b × IsNoHash b × IsNoStroke b) }
+fn is_plain(b: u8) -> bool
+    ensures { IsTrue result → IsPlainByte b }
 {
-    !is_blank(b) && b != b'\n' && b != b'#' && b != STROKE
-}
-
-/// How many bytes stand before the first blank, line feed, `#` or `\`.
-pub fn ink_len(bytes: &[u8]) -> usize
-    ensures within { result ≤ length bytes.now }
-    ensures ink { All IsInk (take result bytes.now) }
-    ensures no_hash { All IsNoHash (take result bytes.now) }
-    ensures no_stroke { All IsNoStroke (take result bytes.now) }
-{
-    for (i, b) in bytes.iter().enumerate() {
-        if !is_ink(*b) {
-            return i;
-        }
-    }
-    bytes.len()
+    b != b'\n' && b != b'#' && b != STROKE
 }
 
 /// How many bytes stand before the first line feed.
@@ -48,6 +33,33 @@ pub fn comment_len(bytes: &[u8]) -> usize
         }
     }
     bytes.len()
+}
+
+// Over a blank or a byte of a word.
+#[inline(always)]
+fn plain(gathering: &mut Gathering, b: u8) -> Result<(), AllocError>
+    requires { IsPlainByte b }
+    ensures { OnOk result (gathering.new ≡ over_byte gathering.old b) }
+{
+    if is_blank(b) {
+        return gathering.end_word();
+    }
+    gathering.push(b)
+}
+
+/// Over blanks and bytes of words, up to the first line feed, `#` or `\`, and how many they are.
+pub fn over_plain(gathering: &mut Gathering, bytes: &[u8]) -> Result<usize, AllocError>
+    ensures within { IfOk result (λ n. n ≤ length bytes.now) }
+    ensures plain { IfOk result (λ n. All IsPlainByte (take n bytes.now)) }
+    ensures gathered { IfOk result (λ n. gathering.new ≡ over_bytes gathering.old (take n bytes.now)) }
+{
+    for (i, b) in bytes.iter().enumerate() {
+        if !is_plain(*b) {
+            return Ok(i);
+        }
+        plain(gathering, *b)?;
+    }
+    Ok(bytes.len())
 }
 
 // Over a byte that is no blank, no line feed and no `#`.

@@ -1,15 +1,22 @@
 // The words of a line, one after another in one list of bytes.
-ghost use Rattle.std.specs.Prelude.{◌≡◌, ◌+◌, ◌<◌, ◌≤◌, length, slice_get, vec_len, Some};
+ghost use Rattle.std.specs.Prelude.{◌≡◌, ◌+◌, ◌<◌, ◌≤◌, length, slice_get, Some};
 ghost use Rattle.std.specs.List.{slice_range};
 ghost use Rattle.lw_words.specs.Arenas.{words_at, AreEnds, begin_of};
 
+use smallvec::SmallVec;
 use std::marker::Model;
+
+/// The bytes of the words of a line: those of a short line lie in the line itself.
+pub type Bytes = SmallVec<u8, 40>;
+
+/// Where each word of a line ends among the bytes: a line of few words needs no memory for it.
+pub type Ends = SmallVec<usize, 5>;
 
 /// The words of a line: each a list of 1 to 4,095 bytes.
 #[derive(Debug, Drop)]
 pub struct Words {
-    bytes: Vec<u8>,
-    ends: Vec<usize>,
+    bytes: Bytes,
+    ends: Ends,
 }
 
 impl Model for Words {
@@ -25,8 +32,8 @@ impl Model for Words {
 
 impl Words {
     // The words of these bytes, by where each of them ends.
-    pub(crate) fn new(bytes: Vec<u8>, ends: Vec<usize>) -> Self
-        requires { AreEnds 0 (vec_len bytes) ends.items }
+    pub(crate) fn new(bytes: Bytes, ends: Ends) -> Self
+        requires { AreEnds 0 (length bytes.items) ends.items }
         ensures { result ≡ words_at 0 bytes.items ends.items }
     {
         Words { bytes, ends }

@@ -4,4 +4,4 @@ use Rattle.lw_words.proofs.words.Words.get.Goals as goal
 
 pub word_at-requires-clause-place : goal.word_at-requires-clause-place
 word_at-requires-clause-place c =
-    omega (arith, c.requires, c.deref-2.ensures.len, ap length c.deref-2.ensures.value, length-words_at 0 c.self.inside.bytes.items c.self.inside.ends.items, ap length c.self.view_is)
+    omega (arith, c.requires, ap length c.deref-2.ensures, length-words_at 0 c.self.inside.bytes.items c.self.inside.ends.items, ap length c.self.view_is)
