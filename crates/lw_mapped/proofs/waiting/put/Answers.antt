@@ -1,0 +1,15 @@
+use Rattle.std.proofs.Common.{◌≡◌, true, sym, ◌∙◌, ap}
+use Rattle.lw_mapped.specs.Waitings.{Pending}
+use Rattle.lw_mapped.proofs.Putting.{Puts-after, Puts-failed, Puts-kept}
+use Rattle.lw_mapped.proofs.waiting.put.Goals as goal
+
+pub returns-then-piece-waiting-2 : goal.returns-then-piece-waiting-2
+returns-then-piece-waiting-2 g c =
+    Puts-after c.flush.ensures.puts (Puts-kept (g.S.Sink.taken c.flush.new.sink) (g.S.Sink.faults c.flush.new.sink) c.flush.new.waiting c.keep-then-piece-waiting-2.new.self c.args.piece.now c.keep-then-piece-waiting-2.ensures.bytes c.keep-then-piece-waiting-2.ensures.failed)
+
+pub returns-then-waiting : goal.returns-then-waiting
+returns-then-waiting g c =
+    Puts-after c.flush.ensures.puts (Puts-failed (g.S.Sink.taken c.flush.new.sink) (g.S.Sink.faults c.flush.new.sink) c.flush.new.waiting c.args.piece.now (sym (ap (λ (w : Pending). w.failed) c.waiting-2.view_is) ∙ c.if-waiting.true))
+
+pub returns : goal.returns
+returns g c = Puts-after c.flush.ensures.puts c.put_through.ensures

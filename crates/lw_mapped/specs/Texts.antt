@@ -1,0 +1,121 @@
+-- The mapped text of a netlist.
+use Rattle.std.specs.Prelude.{ℕ, suc, ◌≡◌, ◌<◌, All, List, [], ◌∷◌, ◌++◌, Option, Some, None, ⊤, length, map, take, if◌then◌else◌, codes, decimal, slice_get, slice_index_or}
+use Rattle.std.specs.List.{flat_map}
+use Rattle.std.specs.Borrow.{Bor}
+use Rattle.std.specs.Str.{bytes_eq}
+use Rattle.lw_fixed.specs.declared.micro.Micro.{Micro}
+use Rattle.lw_fixed.specs.Printed.{decimal_text}
+use Rattle.lw_pool.specs.declared.id.ClassId.{ClassId}
+use Rattle.lw_pool.specs.declared.id.NetId.{NetId}
+use Rattle.lw_genlib.specs.Cells.{CellParts}
+use Rattle.lw_netlist.specs.declared.gate.Gate.{Gate}
+use Rattle.lw_netlist.specs.declared.gate.Port.{Port}
+use Rattle.lw_netlist.specs.Netlists.{NetlistParts}
+use Rattle.lw_mapped.specs.declared.certificate.Certificate.{Certificate}
+
+-- a space before each word
+abbrev pub spaced : List (List ℕ) → List ℕ
+spaced words = flat_map (λ word. 32 ∷ word) words
+
+-- a space before each word, and a line end
+abbrev pub ended : List (List ℕ) → List ℕ
+ended [] = 10 ∷ []
+ended (word ∷ words) = 32 ∷ word ++ ended words
+
+-- words with one space between, and a line end
+abbrev pub line : List ℕ → List (List ℕ) → List ℕ
+line first others = first ++ ended others
+
+abbrev pub net_name : List (List ℕ) → NetId → List ℕ
+net_name names net = slice_index_or names net.0 []
+
+-- a pin or an output, and its net
+abbrev pub tie : List ℕ → List ℕ → List ℕ
+tie formal net = formal ++ 61 ∷ net
+
+-- the pins and their nets
+abbrev pub ties : List (List ℕ) → List (List ℕ) → List NetId → List (List ℕ)
+ties names (pin ∷ pins) (net ∷ nets) = tie pin (net_name names net) ∷ ties names pins nets
+ties names [] nets = []
+ties names (pin ∷ pins) [] = []
+
+-- the cell, the pins and then the output
+abbrev pub gate_words : List (List ℕ) → Gate → CellParts → List (List ℕ)
+gate_words names gate cell = cell.name ∷ ties names cell.pins gate.pins ++ tie cell.output (net_name names gate.out) ∷ []
+
+abbrev pub gate_line : List (List ℕ) → Gate → Option CellParts → List ℕ
+gate_line names gate None = []
+gate_line names gate (Some cell) = line (codes ".gate") (gate_words names gate cell)
+
+abbrev pub gate_text : List CellParts → List (List ℕ) → Gate → List ℕ
+gate_text cells names gate = gate_line names gate (slice_get cells gate.cell.0)
+
+-- a node that hands a net on to an output
+abbrev pub wire : List ℕ → List ℕ → List ℕ
+wire net output = codes ".names" ++ 32 ∷ net ++ 32 ∷ output ++ codes "\n1 1\n"
+
+-- an output whose net has another name has a wire
+abbrev pub wire_text : List (List ℕ) → Port → List ℕ
+wire_text names port = if bytes_eq (net_name names port.net) port.name then [] else wire (net_name names port.net) port.name
+
+abbrev pub port_name : Port → List ℕ
+port_name port = port.name
+
+-- The certificate.
+
+-- the label of a class
+abbrev pub label_line : ℕ → Micro → List ℕ
+label_line class label = line (codes "#@") (codes "label" ∷ decimal class ∷ decimal_text label.0 ∷ [])
+
+abbrev pub optional_label : ℕ → Option Micro → List ℕ
+optional_label class None = []
+optional_label class (Some label) = label_line class label
+
+-- the labels of the classes from a number on
+abbrev pub label_lines : ℕ → List (Option Micro) → List ℕ
+label_lines class [] = []
+label_lines class (label ∷ labels) = optional_label class label ++ label_lines (suc class) labels
+
+-- the class of a gate's net
+abbrev pub net_line : List ℕ → ClassId → List ℕ
+net_line name class = line (codes "#@") (codes "net" ∷ name ∷ decimal class.0 ∷ [])
+
+abbrev pub optional_net : List ℕ → Option ClassId → List ℕ
+optional_net name None = []
+optional_net name (Some class) = net_line name class
+
+-- the classes of the gates that have one
+abbrev pub net_lines : List (List ℕ) → List Gate → List (Option ClassId) → List ℕ
+net_lines names (gate ∷ gates) (class ∷ classes) = optional_net (net_name names gate.out) class ++ net_lines names gates classes
+net_lines names [] classes = []
+net_lines names (gate ∷ gates) [] = []
+
+abbrev pub certificate_text : NetlistParts → Option Certificate → List ℕ
+certificate_text n None = []
+certificate_text n (Some certificate) = label_lines 0 certificate.labels ++ net_lines n.names n.gates certificate.nets
+
+-- a certificate has an optional class for each gate
+abbrev pub HasGateClasses : NetlistParts → Option Certificate → Type 0
+HasGateClasses n None = ⊤
+HasGateClasses n (Some certificate) = length certificate.nets ≡ length n.gates
+
+-- the model's name and the ports
+abbrev pub header_text : NetlistParts → List ℕ
+header_text n = line (codes ".model") (n.model ∷ []) ++ line (codes ".inputs") (take n.inputs n.names) ++ line (codes ".outputs") (map port_name n.outputs)
+
+-- The text: the model and the ports, the gates, the wires, the certificate, and the end.
+abbrev pub mapped_text : List CellParts → NetlistParts → Option Certificate → List ℕ
+mapped_text cells n certificate =
+    header_text n ++ flat_map (gate_text cells n.names) n.gates ++ flat_map (wire_text n.names) n.outputs ++ certificate_text n certificate ++ line (codes ".end") []
+
+-- Names of nets.
+
+-- the nets of a gate are among those that have names
+pub record HasNames (names : List (List ℕ)) (gate : Gate) : Type 0 where
+  pub out : gate.out.0 < length names
+  pub pins : All (λ (net : NetId). net.0 < length names) gate.pins
+
+-- the certificate behind a reference
+abbrev pub now_of : Option (Bor Certificate) → Option Certificate
+now_of None = None
+now_of (Some certificate) = Some certificate.now

@@ -1,0 +1,104 @@
+// A sink with a room before it, so that short pieces go out together.
+ghost use Rattle.std.specs.Prelude.{◌≡◌, ◌≤◌, ◌+◌, ◌-◌, ◌++◌, [], false, length, take, OnOk, OnErr};
+ghost use Rattle.std.specs.Io.KnownBytes.{Appends};
+ghost use Rattle.lw_io.specs.Causes.{HasCause};
+ghost use Rattle.lw_io.specs.Moves.{AppendsPrefix};
+ghost use Rattle.lw_mapped.specs.Waitings.{Puts, IsPut};
+
+use lw_io::{Failed, Sink, write_all};
+use std::marker::Model;
+
+// How many bytes wait at most.
+const ROOM: usize = 2048;
+
+// Bytes that wait, and whether the sink has failed. After that nothing more is given to it.
+#[derive(Debug, Drop)]
+pub(crate) struct Waiting {
+    bytes: [u8; ROOM],
+    used: usize,
+    failed: bool,
+    ghost fits: { used ≤ 2048 },
+}
+
+impl Model for Waiting {
+    ghost use Rattle.std.specs.Prelude.{take};
+    ghost use Rattle.lw_mapped.specs.Waitings.{Pending};
+
+    ghost Value = { Pending };
+
+    ghost view = { λ w. record { bytes = take w.used w.bytes; failed = w.failed } };
+}
+
+impl Waiting {
+    pub(crate) fn new() -> Self
+        ensures bytes { result.bytes ≡ [] }
+        ensures failed { result.failed ≡ false }
+    {
+        Waiting {
+            bytes: [0; ROOM],
+            used: 0,
+            failed: false,
+        }
+    }
+
+    pub(crate) fn has_failed(&self) -> bool
+        ensures { result ≡ self.now.failed }
+    {
+        self.failed
+    }
+
+    // Keeps a piece that there is room for.
+    fn keep(&mut self, piece: &[u8])
+        requires { length piece.now + length self.old.bytes ≤ 2048 }
+        ensures bytes { self.new.bytes ≡ self.old.bytes ++ piece.now }
+        ensures failed { self.new.failed ≡ self.old.failed }
+    {
+        self.bytes[self.used..self.used + piece.len()].copy_from_slice(piece);
+        self.used += piece.len();
+    }
+}
+
+// Gives the sink what waits.
+pub(crate) fn flush<S: Sink>(sink: &mut S, waiting: &mut Waiting)
+    ensures puts { Puts (S.taken sink.old) (S.faults sink.old) waiting.old (S.taken sink.new) (S.faults sink.new) waiting.new [] }
+    ensures empty { waiting.new.failed ≡ false → waiting.new.bytes ≡ [] }
+{
+    if waiting.failed {
+        return;
+    }
+    match write_all(sink, &waiting.bytes[..waiting.used]) {
+        Ok(()) => waiting.used = 0,
+        Err(Failed) => waiting.failed = true,
+    }
+}
+
+// Puts a piece behind what was put before.
+pub(crate) fn put<S: Sink>(sink: &mut S, waiting: &mut Waiting, piece: &[u8])
+    ensures { Puts (S.taken sink.old) (S.faults sink.old) waiting.old (S.taken sink.new) (S.faults sink.new) waiting.new piece.now }
+{
+    if piece.len() <= ROOM - waiting.used {
+        waiting.keep(piece);
+        return;
+    }
+    flush(sink, waiting);
+    if piece.len() <= ROOM - waiting.used {
+        waiting.keep(piece);
+        return;
+    }
+    if waiting.failed {
+        return;
+    }
+    put_through(sink, waiting, piece);
+}
+
+// Gives a long piece to the sink at once. Nothing waits.
+fn put_through<S: Sink>(sink: &mut S, waiting: &mut Waiting, piece: &[u8])
+    requires open { waiting.old.failed ≡ false }
+    requires empty { waiting.old.bytes ≡ [] }
+    ensures { Puts (S.taken sink.old) (S.faults sink.old) waiting.old (S.taken sink.new) (S.faults sink.new) waiting.new piece.now }
+{
+    match write_all(sink, piece) {
+        Ok(()) => {}
+        Err(Failed) => waiting.failed = true,
+    }
+}

@@ -1,0 +1,4 @@
+pub mod Filling
+pub mod Latest
+pub mod NetValues
+pub mod Pins

@@ -1,0 +1,9 @@
+use Rattle.std.proofs.Common.{◌≡◌, length, take}
+use Rattle.lw_netlist.specs.Filling.{values_at}
+use Rattle.lw_netlist.proofs.values.read_nets.Given as goal
+
+abbrev pub invariant-loop-k : goal.invariant-loop-k
+invariant-loop-k l = record {
+  front : take l.k l.values ≡ take l.k (values_at l.nets l.pins);
+  length : length l.values ≡ length l.initial.values;
+}
