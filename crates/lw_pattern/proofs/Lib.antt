@@ -1,0 +1,6 @@
+mod Bracketings
+mod Counts
+mod Growth
+mod Meanings
+mod Running
+mod Spelling

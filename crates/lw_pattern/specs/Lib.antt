@@ -1,3 +1,5 @@
 pub mod Codes
+pub mod Growing
 pub mod Listed
 pub mod Nodes
+pub mod Steps

@@ -1,8 +1,13 @@
 //! Patterns of the cells of a library: their functions as trees of NANDs and inverters.
 #![tactic(auto)]
 
+mod counting;
+mod growing;
 mod node;
 mod pattern;
+mod shape;
+mod shapes;
+mod step;
 
 pub use node::{PatNode, PatNodes};
 pub use pattern::{Pattern, Patterns};
