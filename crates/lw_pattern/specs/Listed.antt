@@ -11,6 +11,10 @@ use Rattle.lw_pattern.specs.Nodes.{tree_at, tree_of, nodes_of}
 abbrev pub pattern_of : Pattern → TreeOfCell
 pattern_of p = record { cell = p.cell.0; tree = tree_of p.nodes }
 
+-- a pattern with a tree, as the pattern with its nodes
+abbrev pub listed : TreeOfCell → Pattern
+listed p = record { cell = record { 0 = p.cell }; nodes = nodes_of p.tree }
+
 -- the tree of the node at a place, made of those at earlier places
 abbrev pub IsNodeAt : List PatNode → ℕ → PatNode → Type 0
 IsNodeAt nodes place (Pin k) = (k < 16) × (tree_at nodes place ≡ leaf k)

@@ -35,8 +35,15 @@ impl Model for Patterns {
 }
 
 impl Patterns {
-    ghost use Rattle.std.specs.Prelude.{◌≡◌, ◌<◌, Some, length, slice_get};
-    ghost use Rattle.lw_pattern.specs.Listed.{pattern_of, IsKept};
+    ghost use Rattle.std.specs.Prelude.{◌≡◌, ◌<◌, Some, length, map, slice_get};
+    ghost use Rattle.lw_pattern.specs.Listed.{pattern_of, IsKept, AreKept};
+
+    pub(crate) fn new(items: Vec<Pattern>) -> Self
+        requires { AreKept items.items }
+        ensures { result ≡ map pattern_of items.items }
+    {
+        Patterns { items }
+    }
 
     /// The number of patterns.
     pub fn len(&self) -> u32
