@@ -1,0 +1,10 @@
+mod Bracketings
+mod Counts
+mod Growth
+mod Keeping
+mod LibraryLaws
+mod Meanings
+mod Placement
+mod Running
+mod Sizes
+mod Spelling
