@@ -1,12 +1,11 @@
 -- Lists of pairs as parts of one array: their number, the one at a place, and one more.
 use Rattle.std.proofs.Common.{◌≡◌, ◌≢◌, ℕ, zero, suc, ◌+◌, ◌-◌, ◌<◌, ◌≤◌, List, [], ◌∷◌, ◌++◌, length, take, drop, slice_index, length-append, refl, sym, ap, ap₂, ◌∙◌, arith}
 use Rattle.std.proofs.Math.Seq.{drop-append_seam}
-use Rattle.std.proofs.lemmas.List.{drop-append-le, take-append-le, take_all, length-take-le, length-drop}
-use Rattle.std.proofs.lemmas.List.Sums.{sum_by-cons}
+use Rattle.std.proofs.lemmas.List.{drop-append-le, take-append-le, take_all, length-drop}
 use Rattle.std.specs.List.{slice_range, slice_get}
 use Rattle.std.specs.Prelude.{Some}
 use Rattle.lw_graph.specs.declared.pair.Pair.{Pair}
-use Rattle.lw_graph.specs.Rows.{AreEnds, rows_from, pair_total, start_at}
+use Rattle.lw_graph.specs.Rows.{AreEnds, rows_from, start_at}
 
 pub start_after : (ends : List ℕ) (place : ℕ) → place ≢ 0 → slice_index ends (place - 1) ≡ start_at 0 ends place
 start_after ends zero ne = absurd (ne refl)
@@ -40,19 +39,6 @@ pub end_within : (n start : ℕ) (ends : List ℕ) (place : ℕ) → AreEnds n s
 end_within n start [] place e lt = absurd (omega arith)
 end_within n start (end ∷ ends) zero (le, rest) lt = start_before n end ends rest
 end_within n start (end ∷ ends) (suc place) (le, rest) lt = end_within n end ends place rest (omega arith)
-
-length-slice_range : (pairs : List Pair) (start end : ℕ) → start ≤ end → end ≤ length pairs → length (slice_range pairs start end) ≡ end - start
-length-slice_range pairs start end le within =
-    let d = length-drop start pairs in
-    length-take-le (end - start) (drop start pairs) (omega arith)
-
-pub pair_total-rows_from : (pairs : List Pair) (start : ℕ) (ends : List ℕ) → AreEnds (length pairs) start ends → start + pair_total (rows_from pairs start ends) ≡ length pairs
-pair_total-rows_from pairs start [] e = omega arith
-pair_total-rows_from pairs start (end ∷ ends) (le, rest) =
-    let later = pair_total-rows_from pairs end ends rest in
-    let here = length-slice_range pairs start end le (start_before (length pairs) end ends rest) in
-    let sum : pair_total (rows_from pairs start (end ∷ ends)) ≡ length (slice_range pairs start end) + pair_total (rows_from pairs end ends) = sum_by-cons (λ (row : List Pair). length row) (slice_range pairs start end) (rows_from pairs end ends) in
-    omega arith
 
 slice_range-append : (pairs row : List Pair) (start end : ℕ) → start ≤ end → end ≤ length pairs → slice_range (pairs ++ row) start end ≡ slice_range pairs start end
 slice_range-append pairs row start end le within =

@@ -1,5 +1,5 @@
 -- Lists of pairs as parts of one array.
-use Rattle.std.specs.Prelude.{ℕ, zero, suc, ◌≤◌, ◌≡◌, List, [], ◌∷◌, length, sum_by, slice_index}
+use Rattle.std.specs.Prelude.{ℕ, zero, suc, ◌≤◌, ◌≡◌, List, [], ◌∷◌, slice_index}
 use Rattle.std.specs.List.{slice_range}
 use Rattle.lw_graph.specs.declared.pair.Pair.{Pair}
 
@@ -12,10 +12,6 @@ AreEnds n start (end ∷ ends) = (start ≤ end) × AreEnds n end ends
 abbrev pub rows_from : List Pair → ℕ → List ℕ → List (List Pair)
 rows_from pairs start [] = []
 rows_from pairs start (end ∷ ends) = slice_range pairs start end ∷ rows_from pairs end ends
-
--- how many pairs stand in the lists
-abbrev pub pair_total : List (List Pair) → ℕ
-pair_total rows = sum_by (λ (row : List Pair). length row) rows
 
 -- where the part at a place starts: where the one before it ends
 abbrev pub start_at : ℕ → List ℕ → ℕ → ℕ

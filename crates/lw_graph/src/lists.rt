@@ -1,6 +1,6 @@
 ghost use Rattle.std.specs.Prelude.{◌≡◌, ◌+◌, ◌^◌, ◌<◌, ◌++◌, [], ◌∷◌, ◌↔◌, IsTrue, List, length, sum_by, OnOk, OnErr, Some, slice_get, slice_index, vec_len};
 ghost use Rattle.std.specs.List.{slice_range};
-ghost use Rattle.lw_graph.specs.Rows.{AreEnds, rows_from, pair_total, start_at};
+ghost use Rattle.lw_graph.specs.Rows.{AreEnds, rows_from, start_at};
 
 use crate::Pair;
 use std::alloc::{AllocError, Global};
@@ -10,7 +10,7 @@ use std::marker::Model;
 #[derive(Debug, Drop)]
 pub struct PairLists {
     pairs: Vec<Pair>,
-    ends: Vec<u32>,
+    ends: Vec<usize>,
 }
 
 impl Model for PairLists {
@@ -26,7 +26,7 @@ impl Model for PairLists {
 }
 
 // Where the list at a place starts: where the one before it ends.
-fn start_of(ends: &[u32], place: usize) -> u32
+fn start_of(ends: &[usize], place: usize) -> usize
     requires { place < length ends.now }
     ensures { result ≡ start_at 0 ends.now place }
 {
@@ -37,22 +37,21 @@ fn start_of(ends: &[u32], place: usize) -> u32
 }
 
 // The list at a place.
-fn row<'a>(pairs: &'a [Pair], ends: &[u32], place: usize) -> &'a [Pair]
+fn row<'a>(pairs: &'a [Pair], ends: &[usize], place: usize) -> &'a [Pair]
     requires ends { AreEnds (length pairs.now) 0 ends.now }
     requires within { place < length ends.now }
     ensures { result.now ≡ slice_range pairs.now (start_at 0 ends.now place) (slice_index ends.now place) }
 {
-    let start = start_of(ends, place) as usize;
-    let end = ends[place] as usize;
+    let start = start_of(ends, place);
+    let end = ends[place];
     &pairs[start..end]
 }
 
 // Where the pairs end once these are added.
-fn end_with(pairs: &[Pair], row: &[Pair]) -> u32
-    requires { length pairs.now + length row.now < 2 ^ 32 }
+fn end_with(pairs: &[Pair], row: &[Pair]) -> usize
     ensures { result ≡ length pairs.now + length row.now }
 {
-    (pairs.len() + row.len()) as u32
+    pairs.len() + row.len()
 }
 
 impl PairLists {
@@ -67,7 +66,7 @@ impl PairLists {
     }
 
     /// The lists whose pairs stand one after the other, and of which each ends where it is said, without memory.
-    pub fn flat(pairs: Vec<Pair>, ends: Vec<u32>) -> Self
+    pub fn flat(pairs: Vec<Pair>, ends: Vec<usize>) -> Self
         requires { AreEnds (vec_len pairs) 0 ends.items }
         ensures { result ≡ rows_from pairs.items 0 ends.items }
     {
@@ -98,7 +97,6 @@ impl PairLists {
 
     /// Appends a list. For want of memory nothing is changed.
     pub fn push(&mut self, row: &[Pair]) -> Result<(), AllocError>
-        requires { pair_total self.old + length row.now < 2 ^ 32 }
         ensures ok { OnOk result (self.new ≡ self.old ++ row.now ∷ []) }
         ensures err { OnErr result (self.new ≡ self.old) }
     {

@@ -17,3 +17,10 @@ pub slice_bounds-result-end : goal.slice_bounds-result-end
 slice_bounds-result-end c =
     let in' = end_within (length c.args.pairs.now) 0 c.args.ends.now c.args.place c.requires.ends c.requires.within in
     search (rules, in')
+
+pub offset_bounds-pairs-start : goal.offset_bounds-pairs-start
+offset_bounds-pairs-start c =
+    let le = end_after (length c.args.pairs.now) 0 c.args.ends.now c.args.place c.requires.ends c.requires.within in
+    let in' = end_within (length c.args.pairs.now) 0 c.args.ends.now c.args.place c.requires.ends c.requires.within in
+    let s = c.start_of-start.ensures in
+    search (rules, le, in', s)
