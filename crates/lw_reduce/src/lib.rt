@@ -1,0 +1,5 @@
+//! Drafts of forms with their facts, and the graph of the classes of equivalent forms.
+#![tactic(auto)]
+
+mod facts;
+mod names;
