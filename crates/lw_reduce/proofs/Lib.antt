@@ -1,2 +1,4 @@
 pub mod Flips
+pub mod Keeping
 pub mod Naming
+pub mod Sharing

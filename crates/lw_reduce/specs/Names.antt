@@ -85,3 +85,16 @@ pub record IsFound (n : ℕ) (nands : List Fact) (links : List Link) (old new : 
   pub root : name_of new at ≡ at
   pub roots : (r : ℕ) → r / 2 < n → name_of old r ≡ r → name_of new r ≡ r
   pub flat : IsFlat old → (new ≡ old) × (at ≡ name_of old form)
+
+abbrev pub LinkAgrees : List ℕ → Link → Type 0
+LinkAgrees names l = name_of names l.left ≡ name_of names l.right
+
+-- each name below a base form is its own name
+abbrev pub IsFlatBelow : List ℕ → ℕ → Type 0
+IsFlatBelow names n = (k : ℕ) → k < n → name_of names (slice_index names k) ≡ slice_index names k
+
+-- a fact's parts are equivalent to these forms, in this order or exchanged
+abbrev pub HasParts : ℕ → List Fact → List Link → Fact → ℕ → ℕ → Type 0
+HasParts n nands links p low high =
+    let F = family n nands links in
+    (Equivalent F p.left low × Equivalent F p.right high) ⊎ (Equivalent F p.left high × Equivalent F p.right low)

@@ -1,5 +1,7 @@
 //! Drafts of forms with their facts, and the graph of the classes of equivalent forms.
 #![tactic(auto)]
 
+mod cascade;
 mod facts;
 mod names;
+mod rounds;

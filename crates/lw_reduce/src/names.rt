@@ -1,7 +1,7 @@
 // Names of forms: each base form has the number of an equivalent form, at most its own.
 ghost use Rattle.std.specs.Prelude.{◌≡◌, ◌/◌, ◌<◌, ℕ, length, slice_set, IsTrue, IsFalse};
 ghost use Rattle.lw_laws.specs.Families.{Equivalent};
-ghost use Rattle.lw_reduce.specs.Names.{CanName, IsFlat, IsFound, Progresses, family, name_of, turned};
+ghost use Rattle.lw_reduce.specs.Names.{CanName, IsFlat, IsFound, Keeps, Progresses, family, name_of, turned};
 
 use crate::facts::{Fact, Link};
 
@@ -71,4 +71,19 @@ pub(crate) fn unify(
         set_name(names, a, b);
     }
     true
+}
+
+// Makes each name its own name: lower forms come first.
+pub(crate) fn flatten(names: &mut [u32], nands: &[Fact], links: &[Link])
+    requires { CanName (length names.old) nands.now links.now names.old }
+    ensures kept { Keeps (length names.old) nands.now links.now names.old names.new }
+    ensures flat { IsFlat names.new }
+{
+    for base in 0..names.len() {
+        let up = names[base];
+        let top = name(names, up);
+        if top != up {
+            names[base] = top;
+        }
+    }
 }
