@@ -175,3 +175,6 @@ module _ (n : ℕ) (nands : List Fact) (links : List Link) where
           by_place (no ne) =
               let kb : k < b = omega arith in
               rw (other k ne) (same_name (slice_index names k) (name_below k kb) ∙ below k kb)
+
+  pub can_at : (names : List ℕ) (m : ℕ) → CanName m nands links names → m ≡ n → CanName n nands links names
+  can_at names m can e = subst (λ k. CanName k nands links names) e can

@@ -2,3 +2,4 @@ pub mod Flips
 pub mod Keeping
 pub mod Naming
 pub mod Sharing
+pub mod Settling

@@ -7,6 +7,7 @@ use Rattle.lw_reduce.specs.declared.facts.Fact.{Fact}
 use Rattle.lw_reduce.specs.declared.facts.Link.{Link}
 use Rattle.lw_reduce.specs.Names.{family, HasParts}
 use Rattle.lw_reduce.specs.Seeing.{HasFact}
+use Rattle.lw_reduce.specs.Settling.{IsRenamed, no_fact}
 
 pub parts_alike : (n : ℕ) (nands : List Fact) (links : List Link) (p q : Fact) (low high : ℕ) → Contains nands p → Contains nands q → HasParts n nands links p low high → HasParts n nands links q low high → Equivalent (family n nands links) p.form q.form
 parts_alike n nands links p q low high a b (inl (c, d)) (inl (e, f)) =
@@ -30,3 +31,13 @@ seen_alike n m k nands links place low high form d s t lt parts seen =
     let (q, listed, other, is) = subst (λ j. HasFact j nands links low high form) s seen in
     let e = parts_alike n nands links (get_or nands place d) q low high (Contains-get_or nands place d lt) listed parts other in
     subst (λ j. Equivalent (family j nands links) (get_or nands place d).form form) (sym t) (subst (λ g. Equivalent (family n nands links) (get_or nands place d).form g) is e)
+
+-- facts in terms of names at two places with the same parts
+pub rows_alike : (n : ℕ) (nands : List Fact) (links : List Link) (rows : List Fact) (place : ℕ) → All (IsRenamed n nands links) rows → place < length rows → (get_or rows (place - 1) no_fact).left ≡ (get_or rows place no_fact).left → (get_or rows (place - 1) no_fact).right ≡ (get_or rows place no_fact).right → Equivalent (family n nands links) (get_or rows (place - 1) no_fact).form (get_or rows place no_fact).form
+rows_alike n nands links rows place all lt l r =
+    let p = get_or rows (place - 1) no_fact in
+    let q = get_or rows place no_fact in
+    let a = All-get_or (IsRenamed n nands links) rows (place - 1) no_fact (omega arith) all in
+    let b = All-get_or (IsRenamed n nands links) rows place no_fact lt all in
+    let parts : HasParts n nands links a.fact q.left q.right = subst (λ k. HasParts n nands links a.fact q.left k) r (subst (λ k. HasParts n nands links a.fact k p.right) l a.parts) in
+    joined (turned_by a.alike) (joined (parts_alike n nands links a.fact b.fact q.left q.right a.listed b.listed parts b.parts) b.alike)

@@ -1,10 +1,11 @@
 // A pass over the facts in their order, with a table of those that were seen by the names of their parts.
-ghost use Rattle.std.specs.Prelude.{◌≡◌, ◌+◌, ◌/◌, ◌^◌, ◌<◌, ◌≤◌, ℕ, length, All, Contains, IsTrue};
+ghost use Rattle.std.specs.Prelude.{◌≡◌, ◌+◌, ◌/◌, ◌^◌, ◌<◌, ◌≤◌, ℕ, length, vec_len, All, Contains, IfOk, IsTrue};
 ghost use Rattle.lw_reduce.specs.Names.{CanName, HasParts, IsFactIn, Keeps, family};
 ghost use Rattle.lw_reduce.specs.Seeing.{IsSeen};
 
 use crate::facts::{Fact, Link};
 use crate::names::{find, unify};
+use std::alloc::{AllocError, Global};
 
 // The names of two parts, the lower one first.
 #[derive(Clone, Copy)]
@@ -120,18 +121,56 @@ fn visit(names: &mut [u32], nands: &[Fact], links: &[Link], slots: &mut [u32], p
     }
 }
 
-// Goes over the facts in their order and names their forms as it comes to them, so that where the parts of a form come
-// before it, forms that become equivalent one after the other have one name after one pass.
-pub(crate) fn cascade(names: &mut [u32], nands: &[Fact], links: &[Link], slots: &mut [u32])
+// Visits all facts in their order.
+fn visit_all(names: &mut [u32], nands: &[Fact], links: &[Link], slots: &mut [u32])
     requires can { CanName (length names.old) nands.now links.now names.old }
     requires some { 0 < length slots.old }
+    requires places { All (λ e. e ≤ length nands.now) slots.old }
+    requires few { length nands.now < 2 ^ 32 }
     ensures { Keeps (length names.old) nands.now links.now names.old names.new }
 {
-    if nands.len() > 0xFFFF_FFFF {
-        return;
-    }
-    slots.fill(0);
     for place in 0..nands.len() {
         visit(names, nands, links, slots, place);
     }
+}
+
+// How many slots the table of so many facts has: a power of two, and twice as many at least.
+fn slot_count(facts: usize) -> usize
+    ensures { 0 < result }
+{
+    let mut slots: usize = 2;
+    for _bit in 1..40u32 {
+        if slots / 2 < facts {
+            slots = slots.saturating_mul(2);
+        }
+    }
+    slots
+}
+
+// A table without facts.
+fn empty_slots(alloc: Global, facts: usize) -> Result<Vec<u32>, AllocError>
+    ensures some { IfOk result (λ slots. 0 < vec_len slots) }
+    ensures empty { IfOk result (λ slots. All (λ e. e ≡ 0) slots.items) }
+{
+    let slots = vec![in alloc; 0; slot_count(facts)]?;
+    Ok(slots)
+}
+
+// Goes over the facts in their order and names their forms as it comes to them, so that where the parts of a form come
+// before it, forms that become equivalent one after the other have one name after one pass.
+pub(crate) fn cascade(
+    alloc: Global,
+    names: &mut [u32],
+    nands: &[Fact],
+    links: &[Link],
+) -> Result<(), AllocError>
+    requires { CanName (length names.old) nands.now links.now names.old }
+    ensures { Keeps (length names.old) nands.now links.now names.old names.new }
+{
+    if nands.len() > 0xFFFF_FFFF {
+        return Ok(());
+    }
+    let mut slots = empty_slots(alloc, nands.len())?;
+    visit_all(names, nands, links, &mut slots);
+    Ok(())
 }

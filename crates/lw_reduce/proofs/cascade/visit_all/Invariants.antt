@@ -1,6 +1,6 @@
 use Rattle.std.proofs.Common.{◌≤◌, length, All}
 use Rattle.lw_reduce.specs.Names.{Keeps}
-use Rattle.lw_reduce.proofs.cascade.cascade.Given as goal
+use Rattle.lw_reduce.proofs.cascade.visit_all.Given as goal
 
 abbrev pub invariant-loop-place : goal.invariant-loop-place
 invariant-loop-place l = record {
