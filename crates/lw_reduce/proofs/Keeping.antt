@@ -26,10 +26,10 @@ pub flat_from_below : (names : List ℕ) (n : ℕ) → length names ≤ n → Is
 flat_from_below names n le below f lt =
     name_of-turned names f (slice_index names (f / 2)) ∙ ap (turned f) (below (f / 2) (omega arith))
 
-half_double : (b : ℕ) → 2 * b / 2 ≡ b
+pub half_double : (b : ℕ) → 2 * b / 2 ≡ b
 half_double b = omega arith
 
-turned_double : (b c : ℕ) → turned (2 * b) c ≡ c
+pub turned_double : (b c : ℕ) → turned (2 * b) c ≡ c
 turned_double b c =
     let e : 2 * b % 2 ≡ 0 = omega arith in ap (λ r. if r == 0 then c else flip c) e
 

@@ -3,3 +3,4 @@ pub mod Keeping
 pub mod Naming
 pub mod Sharing
 pub mod Settling
+pub mod Classing

@@ -98,3 +98,7 @@ abbrev pub HasParts : ℕ → List Fact → List Link → Fact → ℕ → ℕ �
 HasParts n nands links p low high =
     let F = family n nands links in
     (Equivalent F p.left low × Equivalent F p.right high) ⊎ (Equivalent F p.left high × Equivalent F p.right low)
+
+-- a base form's name is itself or a form of a lower one
+abbrev pub IsLower : List ℕ → Type 0
+IsLower names = (b : ℕ) → b < length names → (slice_index names b ≡ 2 * b) ⊎ (slice_index names b / 2 < b)

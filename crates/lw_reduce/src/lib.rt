@@ -2,6 +2,7 @@
 #![tactic(auto)]
 
 mod cascade;
+mod classes;
 mod facts;
 mod names;
 mod rounds;
