@@ -1,0 +1,66 @@
+-- A round that changes nothing has given equivalent forms one name.
+use Rattle.std.proofs.Common.{ℕ, zero, suc, ◌+◌, ◌-◌, ◌*◌, ◌/◌, ◌^◌, ◌<◌, ◌≤◌, ◌≡◌, ◌⊎◌, ◌↔◌, inl, inr, min, max, Bool, true, false, List, length, map, get_or, All, Contains, refl, ap, sym, ◌∙◌, subst, arith}
+use native.Mathlib.Decide.{ℕ_discrete, dec_le}
+use Rattle.std.specs.List.Sorted.{IsNonDecreasingBy, IsPermutation}
+use Rattle.std.proofs.lemmas.List.Elements.{All-map, All-contains, Contains-get_or}
+use Rattle.std.proofs.lemmas.List.Sorted.{All-permutation, Contains-permutation}
+use Rattle.lw_laws.specs.Families.{Equivalent}
+use Rattle.lw_reduce.specs.declared.facts.Fact.{Fact}
+use Rattle.lw_reduce.specs.declared.facts.Link.{Link}
+use Rattle.lw_reduce.specs.Names.{CanName, HasParts, IsFlat, LinkAgrees, family, name_of}
+use Rattle.lw_reduce.specs.Settling.{AgreesAt, IsRenamed, IsSettled, fact_key, no_fact, renamed_fact}
+
+-- the lower and the higher of two numbers are these two
+pub min_max : (l r : ℕ) → ((min l r ≡ l) × (max l r ≡ r)) ⊎ ((min l r ≡ r) × (max l r ≡ l))
+min_max l r = by_order (dec_le l r)
+  where
+    by_order : Dec (l ≤ r) → ((min l r ≡ l) × (max l r ≡ r)) ⊎ ((min l r ≡ r) × (max l r ≡ l))
+    by_order (yes le) = inl (omega arith, omega arith)
+    by_order (no gt) = inr (omega arith, omega arith)
+
+module _ (n : ℕ) (nands : List Fact) (links : List Link) where
+  pub fact_renamed : (names : List ℕ) (p : Fact) → CanName n nands links names → Contains nands p → IsRenamed n nands links (renamed_fact names p)
+  fact_renamed names p can listed =
+      let in' = All-contains (λ q. (q.form / 2 < n) × (q.left / 2 < n) × (q.right / 2 < n)) nands p can.nands_in listed in
+      let f = can.sound p.form in'.0 in
+      let l = can.sound p.left in'.1 in
+      let r = can.sound p.right in'.2 in
+      record {
+        fact = p;
+        listed = listed;
+        alike = f.1;
+        parts = by_order l.1 r.1 (min_max (name_of names p.left) (name_of names p.right));
+        within = f.0;
+      }
+    where
+      by_order : Equivalent (family n nands links) p.left (name_of names p.left) → Equivalent (family n nands links) p.right (name_of names p.right) → ((min (name_of names p.left) (name_of names p.right) ≡ name_of names p.left) × (max (name_of names p.left) (name_of names p.right) ≡ name_of names p.right)) ⊎ ((min (name_of names p.left) (name_of names p.right) ≡ name_of names p.right) × (max (name_of names p.left) (name_of names p.right) ≡ name_of names p.left)) → HasParts n nands links p (min (name_of names p.left) (name_of names p.right)) (max (name_of names p.left) (name_of names p.right))
+      by_order l r (inl (e, f)) =
+          inl (subst (λ k. Equivalent (family n nands links) p.left k) (sym e) l, subst (λ k. Equivalent (family n nands links) p.right k) (sym f) r)
+      by_order l r (inr (e, f)) =
+          inr (subst (λ k. Equivalent (family n nands links) p.left k) (sym f) l, subst (λ k. Equivalent (family n nands links) p.right k) (sym e) r)
+
+  pub rows_renamed : (names : List ℕ) (rows : List Fact) → CanName n nands links names → IsPermutation (map (renamed_fact names) nands) rows → All (IsRenamed n nands links) rows
+  rows_renamed names rows can perm =
+      All-permutation (IsRenamed n nands links) (map (renamed_fact names) nands) rows perm (All-map (IsRenamed n nands links) (renamed_fact names) nands (λ k d lt. fact_renamed names (get_or nands k d) can (Contains-get_or nands k d lt)))
+
+  pub settled : (fl mid new : List ℕ) (rows : List Fact) → CanName n nands links new → IsFlat fl → (mid ≡ fl) × All (LinkAgrees fl) links → (IsFlat mid → (new ≡ mid) × ((place : ℕ) → 1 ≤ place → place < length rows → AgreesAt mid rows place)) → IsPermutation (map (renamed_fact mid) nands) rows → IsNonDecreasingBy fact_key rows → IsSettled n nands links new rows
+  settled fl mid new rows can flat (m, linked) more perm sorted =
+      let flat' = subst IsFlat (sym m) flat in
+      let (s, agree) = more flat' in
+      record {
+        can = can;
+        flat = subst IsFlat (sym s) flat';
+        linked = subst (λ ns. All (LinkAgrees ns) links) (sym s) (subst (λ ns. All (LinkAgrees ns) links) (sym m) linked);
+        permutation = subst (λ ns. IsPermutation (map (renamed_fact ns) nands) rows) (sym s) perm;
+        sorted = sorted;
+        agree = subst (λ ns. (place : ℕ) → 1 ≤ place → place < length rows → AgreesAt ns rows place) (sym s) agree;
+      }
+
+  pub agree_next : (old mid new : List ℕ) (rows : List Fact) (i : ℕ) → IsFlat old → (mid ≡ old) × ((place : ℕ) → 1 ≤ place → place < i → AgreesAt old rows place) → (IsFlat mid → (new ≡ mid) × AgreesAt mid rows i) → (new ≡ old) × ((place : ℕ) → 1 ≤ place → place < i + 1 → AgreesAt old rows place)
+  agree_next old mid new rows i flat (m, agree) more =
+      let (s, here) = more (subst IsFlat (sym m) flat) in
+      (s ∙ m, λ place a b. by_place place a b (ℕ_discrete place i) (subst (λ ns. AgreesAt ns rows i) m here))
+    where
+      by_place : (place : ℕ) → 1 ≤ place → place < i + 1 → Dec (place ≡ i) → AgreesAt old rows i → AgreesAt old rows place
+      by_place place a b (yes e) here = subst (λ k. AgreesAt old rows k) (sym e) here
+      by_place place a b (no ne) here = agree place a (omega arith)

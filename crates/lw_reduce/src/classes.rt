@@ -1,0 +1,37 @@
+// The classes of forms: pairs of classes are numbered by their first base forms.
+ghost use Rattle.std.specs.Prelude.{◌≡◌, ◌*◌, ◌<◌, ◌≤◌, ◌^◌, ℕ, length, map, vec_len, IfOk};
+ghost use Rattle.lw_laws.specs.Graphs.{pair_count};
+ghost use Rattle.lw_reduce.specs.Classing.{AreClasses};
+ghost use Rattle.lw_reduce.specs.Names.{IsLower};
+
+use crate::names::name;
+use std::alloc::{AllocError, Global};
+
+// The class of each base form, and how many pairs of classes there are.
+#[derive(Drop)]
+pub(crate) struct Numbered {
+    pub(crate) forms: Vec<u32>,
+    pub(crate) pairs: u32,
+}
+
+// Numbers the classes of base forms: a base form that is its own name has the next pair.
+pub(crate) fn number(alloc: Global, names: &[u32]) -> Result<Numbered, AllocError>
+    requires few { length names.now < 2 ^ 31 }
+    requires lower { IsLower names.now }
+    ensures classes { IfOk result (λ n. AreClasses names.now n.forms.items) }
+    ensures count { IfOk result (λ n. vec_len n.forms ≡ length names.now) }
+    ensures pairs { IfOk result (λ n. n.pairs ≡ pair_count 0 n.forms.items) }
+{
+    let mut forms = Vec::with_capacity(alloc, names.len())?;
+    let mut pairs = 0;
+    for base in 0..names.len() {
+        let up = names[base];
+        if up == base as u32 * 2 {
+            forms.push(pairs * 2)?;
+            pairs += 1;
+        } else {
+            forms.push(name(&forms, up))?;
+        }
+    }
+    Ok(Numbered { forms, pairs })
+}

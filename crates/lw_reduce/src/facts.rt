@@ -1,0 +1,14 @@
+// A form that is the NAND of two.
+#[derive(Clone, Copy, Debug, PartialEq, Eq)]
+pub(crate) struct Fact {
+    pub(crate) form: u32,
+    pub(crate) left: u32,
+    pub(crate) right: u32,
+}
+
+// Two forms of one signal.
+#[derive(Clone, Copy, Debug, PartialEq, Eq)]
+pub(crate) struct Link {
+    pub(crate) left: u32,
+    pub(crate) right: u32,
+}

@@ -1,0 +1,8 @@
+//! Drafts of forms with their facts, and the graph of the classes of equivalent forms.
+#![tactic(auto)]
+
+mod cascade;
+mod classes;
+mod facts;
+mod names;
+mod rounds;
