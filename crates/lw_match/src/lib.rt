@@ -1,0 +1,10 @@
+//! Matches of a library's patterns at the classes of a graph, and the least of them under a cost.
+#![tactic(auto)]
+
+mod cost;
+mod mark;
+mod pins;
+
+pub use cost::Cost;
+pub use mark::{Best, Mark, Match};
+pub use pins::Pins;
