@@ -2,6 +2,7 @@
 #![tactic(auto)]
 
 mod cost;
+mod goals;
 mod mark;
 mod pins;
 
