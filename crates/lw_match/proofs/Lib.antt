@@ -6,3 +6,5 @@ pub mod Marked
 pub mod Pairs
 pub mod Ranking
 pub mod Steps
+pub mod Starting
+pub mod Found

@@ -1,6 +1,6 @@
 -- Marks of the pins of a match.
-use Rattle.std.proofs.Common.{ℕ, zero, suc, max, ◌+◌, ◌<◌, ◌≤◌, ◌≡◌, List, [], ◌∷◌, ◌++◌, length, map, Option, Some, None, option_map, unwrap_or, slice_get, get_or, refl, sym, ap, subst, arith}
-use Rattle.std.specs.List.{AllZip, AllByRecursion}
+use Rattle.std.proofs.Common.{ℕ, zero, suc, max, ◌<◌, ◌≤◌, ◌≡◌, List, [], ◌∷◌, ◌++◌, length, map, Some, unwrap_or, slice_get, get_or, refl, sym, ap, subst, arith}
+use Rattle.std.specs.List.{AllByRecursion}
 use Rattle.lw_laws.specs.Marks.{Mark, Marks, HaveMarks, costs_in, greatest_height}
 use Rattle.lw_laws.specs.Costs.{AreAtMost}
 

@@ -3,6 +3,7 @@
 
 mod binding;
 mod cost;
+mod finding;
 mod goals;
 mod job;
 mod mark;
@@ -10,5 +11,6 @@ mod pins;
 mod search;
 
 pub use cost::Cost;
+pub use finding::least;
 pub use mark::{Best, Mark, Match};
 pub use pins::Pins;
