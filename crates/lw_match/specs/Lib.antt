@@ -1,0 +1,4 @@
+pub mod Jobs
+pub mod Least
+pub mod Searching
+pub mod Values

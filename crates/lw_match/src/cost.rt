@@ -1,0 +1,30 @@
+use lw_pool::CellId;
+
+/// What inputs cost, and what cells cost over the costs of their pins: numbers from 0 to `CAP`. A cell costs no less than
+/// each of its pins, and a greater pin never makes it cost less.
+pub trait Cost {
+    ghost use Rattle.std.specs.Prelude.{◌≡◌, ℕ, length};
+    ghost use Rattle.lw_laws.specs.Costs.{Cost as PlainCost, IsCost};
+    ghost use Rattle.lw_laws.specs.Covers.{HasPins};
+
+    ghost CAP: { ℕ };
+
+    /// The costs as plain functions, and the number of pins of each cell.
+    ghost costs: { Self → PlainCost };
+
+    /// The greatest cost.
+    const CAP: u64;
+
+    /// What an input costs.
+    fn leaf(&self, input: u32) -> u64
+        ensures { result ≡ (costs self.now).leaf input };
+
+    /// What a cell costs, given what its pins cost.
+    fn value(&self, cell: CellId, pins: &[u64]) -> u64
+        requires { HasPins (costs self.now).pin_counts cell.0 (length pins.now) }
+        ensures { result ≡ (costs self.now).value cell.0 pins.now };
+
+    ghost cap: { (c : Self) → (costs c).cap ≡ CAP };
+
+    ghost laws: { (c : Self) → IsCost (costs c) };
+}

@@ -1,0 +1,16 @@
+//! Matches of a library's patterns at the classes of a graph, and the least of them under a cost.
+#![tactic(auto)]
+
+mod binding;
+mod cost;
+mod finding;
+mod goals;
+mod job;
+mod mark;
+mod pins;
+mod search;
+
+pub use cost::Cost;
+pub use finding::least;
+pub use mark::{Best, Mark, Match};
+pub use pins::Pins;
