@@ -1,5 +1,7 @@
+pub mod BlifNetworks
 pub mod Commands
 pub mod Drafts
+pub mod Given
 pub mod Keeping
 pub mod LineFaults
 pub mod Readers

@@ -1,10 +1,12 @@
 // Reads a network's text line by line.
-ghost use Rattle.std.specs.Prelude.{◌≡◌, ◌++◌, [], ◌∷◌, List, Err, IfSome, IsSome};
+ghost use Rattle.std.specs.Prelude.{◌≡◌, ◌++◌, [], ◌∷◌, List, Err, IfOk, IfSome, IsSome};
+ghost use Rattle.lw_blif.specs.Given.{IsKeptOfSome};
 
 use crate::command::command_of;
 use crate::naming::first_word;
 use crate::parts::Parts;
 use crate::{BlifFault, BlifKind, Command};
+use lw_net::Network;
 use lw_words::Line;
 use std::alloc::Global;
 
@@ -50,12 +52,15 @@ pub struct Reader {
     ended: bool,
     stop: Option<Stop>,
     parts: Parts,
+    ghost kept: { ∥ IsKeptOfSome begun ended stop parts ∥₁ },
 }
 
 impl Reader {
     ghost use Rattle.lw_words.specs.Lines.{LogicalLine};
     ghost use Rattle.lw_blif.specs.LineFaults.{first_fault, lines_read};
+    ghost use Rattle.lw_blif.specs.BlifNetworks.{IsBlifNetwork};
     ghost use Rattle.lw_blif.specs.Standing.{StandsFor, Tells, stop_of, fault_of};
+    ghost use Rattle.lw_net.specs.Plain.{HasRisingDepths};
 
     pub fn new(alloc: Global) -> Self
         ensures { StandsFor result [] }
@@ -99,5 +104,19 @@ impl Reader {
                 Err(BlifFault::Memory)
             }
         }
+    }
+
+    /// The text ends. The answer is its network, or the first line that breaks a rule with the first rule that it breaks, or else the
+    /// fault of the network as a whole.
+    pub fn end(self) -> Result<Network, BlifFault>
+        ensures answer { (lines : List LogicalLine) → StandsFor self lines → IsBlifNetwork lines result }
+        ensures again { IfSome (stop_of self) (λ stop. result ≡ Err (fault_of stop)) }
+        ensures depths { IfOk result HasRisingDepths }
+    {
+        let Reader { stop, parts, .. } = self;
+        if let Some(stop) = stop {
+            return Err(stop.fault());
+        }
+        parts.close()
     }
 }
