@@ -9,4 +9,5 @@ pub mod Reading
 pub mod RowsBehind
 pub mod Sound
 pub mod StandingFor
+pub mod WideLines
 pub mod WordLists

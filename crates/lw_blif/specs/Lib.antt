@@ -6,3 +6,4 @@ pub mod Keeping
 pub mod LineFaults
 pub mod Readers
 pub mod Standing
+pub mod Wide

@@ -26,4 +26,4 @@ Tells (Err fault.Memory) first = ⊤
 
 -- The reader was given these lines.
 abbrev pub StandsFor : Reader → List LogicalLine → Type 0
-StandsFor reader lines = IsKept reader.begun reader.ended reader.stop reader.parts lines
+StandsFor reader lines = IsKept reader.begun reader.ended reader.stop reader.wide reader.parts lines
