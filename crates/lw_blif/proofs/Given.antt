@@ -8,7 +8,7 @@ use Rattle.lw_blif.specs.declared.command.Command.{Command}
 use Rattle.lw_blif.specs.declared.command.Command.TheVariants.{End}
 use Rattle.lw_blif.specs.declared.fault.BlifKind.{BlifKind}
 use Rattle.lw_blif.specs.LineFaults.{FaultAt, fault_or, line_fault, first_fault, lines_read, has_ended, is_first, ends, command}
-use Rattle.lw_blif.specs.Standing.{Stops}
+use Rattle.lw_blif.specs.Given.{Stops}
 use Rattle.lw_blif.proofs.Appending.{first_fault-next, first_fault-earlier, lines_read-all, has_ended-more, lines_read-ended, lines_read-end}
 
 pub not-end : (first : Bool) (c : Command) → ends first c ≡ false → c ≡ End → ⊥

@@ -162,7 +162,7 @@ not-twice : (b : Bool) → not (not b) ≡ b
 not-twice true = refl
 not-twice false = refl
 
-map-push : (f : LogicalLine → List ℕ) (xs : List LogicalLine) (x : LogicalLine) → map f (xs ++ x ∷ []) ≡ map f xs ++ f x ∷ []
+pub map-push : (f : LogicalLine → List ℕ) (xs : List LogicalLine) (x : LogicalLine) → map f (xs ++ x ∷ []) ≡ map f xs ++ f x ∷ []
 map-push f [] x = refl
 map-push f (y ∷ xs) x = ap (λ r. f y ∷ r) (map-push f xs x)
 
@@ -283,19 +283,19 @@ names_fault-rules defined c words =
     names-broken (not (wants_words c words)) (not (list_all is_name (names_for c words))) (is_names_command c && nat_lt 256 (length (words_before_last (other_words words)))) (nat_lt 262144 (length defined + length (defined_for c words))) (has_twice (defined_for c words) || list_any (is_among defined) (defined_for c words)) kind.WordCount kind.BadName kind.LimitFanin kind.LimitSignals kind.Redefined
     ∙ ap (λ t. fault_else (names_fault_of (length defined) c words) (cond t None (Some kind.Redefined))) (sym (fresh-are defined (defined_for c words)))
 
-none-whole : whole_nodes [] ≡ []
+pub none-whole : whole_nodes [] ≡ []
 unfolding whole_nodes rows_before node_before
 none-whole = refl
 
-none-defined : defined_by [] ≡ []
+pub none-defined : defined_by [] ≡ []
 unfolding defined_by
 none-defined = refl
 
-none-node : node_before [] ≡ []
+pub none-node : node_before [] ≡ []
 unfolding node_before rows_before
 none-node = refl
 
-none-rows : rows_before [] ≡ []
+pub none-rows : rows_before [] ≡ []
 unfolding rows_before
 none-rows = refl
 

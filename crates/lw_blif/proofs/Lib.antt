@@ -1,9 +1,13 @@
 pub mod Appending
+pub mod Closing
+pub mod Differing
 pub mod Fresh
 pub mod Given
 pub mod Keeping
 pub mod NodesBehind
 pub mod Reading
 pub mod RowsBehind
+pub mod Sound
 pub mod StandingFor
+pub mod WideLines
 pub mod WordLists

@@ -87,16 +87,8 @@ names-keeps old new lines line c names e r k =
 
 -- Ignored lines.
 
-none-broken : (count : ℕ) (words : List (List ℕ)) → count ≤ 262144 → names_fault_of count Ignored words ≡ None
-unfolding names_fault_of
-none-broken count words few = ap (λ t. cond t (Some kind.LimitSignals) None) (le-ltb 262144 (count + 0) (omega arith))
-
-pub ignored-fault : (old : Parts) (lines : List LogicalLine) (line : LogicalLine) → Ignored ≡ command line → line.long ≡ false → Keeps old lines → None ≡ line_fault lines line
-ignored-fault old lines line e short k =
-    let few : length (defined_by lines) ≤ 262144 = omega (arith, k.few, ap length k.defined_are) in
-    sym (fault-of lines line Ignored e short
-    ∙ (names_fault-rules (defined_by lines) Ignored line.words
-    ∙ ap (λ f. fault_else f (cond (are_fresh (defined_by lines) []) None (Some kind.Redefined))) (none-broken (length (defined_by lines)) line.words few)))
+pub ignored-fault : (lines : List LogicalLine) (line : LogicalLine) → Ignored ≡ command line → line.long ≡ false → None ≡ line_fault lines line
+ignored-fault lines line e short = sym (fault-of lines line Ignored e short)
 
 pub ignored-keeps : (old : Parts) (lines : List LogicalLine) (line : LogicalLine) → Ignored ≡ command line → Keeps old lines → Keeps old (lines ++ line ∷ [])
 ignored-keeps old lines line e k = kept-ignored old.model old.inputs old.outputs.keys old.defined.keys old.nodes old.node lines line (sym e) k

@@ -4,7 +4,7 @@ use Rattle.std.specs.Str.{bytes_eq}
 use Rattle.indexmap.specs.IndexSet.{insert_all}
 use Rattle.lw_blif.specs.declared.command.Command.{Command}
 use Rattle.lw_blif.specs.declared.command.Command.TheVariants.{Model, Inputs, Outputs, Names}
-use Rattle.lw_blif.specs.LineFaults.{other_words, is_names_command, defined_for}
+use Rattle.lw_blif.specs.LineFaults.{other_words, is_names_command, defined_for, first_fault}
 use Rattle.lw_blif.specs.declared.fault.BlifKind.{BlifKind}
 use Rattle.lw_blif.specs.declared.fault.BlifKind.TheVariants as kind
 use Rattle.lw_blif.specs.Drafts.{model_for, inputs_for, outputs_for}
@@ -20,6 +20,12 @@ Keeps parts lines = Kept parts.model parts.inputs parts.outputs.keys parts.defin
 abbrev pub IsRowAdded : List (List ℕ) → Option DraftNode → Option DraftNode → Type 0
 IsRowAdded words None node = node ≡ None
 IsRowAdded words (Some old) node = node ≡ Some (row_added words old)
+
+-- This is kept of some lines that break no rule.
+pub record IsOfSome (parts : Parts) : Type 0 where
+  pub lines : List LogicalLine
+  pub unbroken : first_fault [] lines ≡ None
+  pub kept : Keeps parts lines
 
 -- the node has one more row
 pub record AddsRow (old : Parts) (words : List (List ℕ)) (new : Parts) : Type 0 where

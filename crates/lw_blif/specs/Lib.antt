@@ -1,6 +1,9 @@
+pub mod BlifNetworks
 pub mod Commands
 pub mod Drafts
+pub mod Given
 pub mod Keeping
 pub mod LineFaults
 pub mod Readers
 pub mod Standing
+pub mod Wide

@@ -179,6 +179,7 @@ abbrev pub rules_for : List LogicalLine → List LogicalLine → List (List ℕ)
 rules_for node rows defined Unknown words = record { broken = true; kind = kind.UnknownCommand } ∷ []
 rules_for node rows defined Unsupported words = record { broken = true; kind = kind.Unsupported } ∷ []
 rules_for node rows defined Row words = row_rules node rows words
+rules_for node rows defined Ignored words = []
 rules_for node rows defined c words = record { broken = not (wants_words c words); kind = kind.WordCount } ∷ name_rules defined c words
 
 -- The first rule that the line breaks behind these, which break none.

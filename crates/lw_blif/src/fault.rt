@@ -55,3 +55,17 @@ impl From<AllocError> for BlifFault {
         BlifFault::Memory
     }
 }
+
+impl From<NetFault> for BlifFault {
+    ghost use Rattle.std.specs.Prelude.{◌≡◌};
+    ghost use Rattle.lw_blif.specs.BlifNetworks.{whole_fault};
+
+    ghost from_gives = { λ e fault. fault ≡ whole_fault e };
+
+    fn from(fault: NetFault) -> Self {
+        match fault {
+            NetFault::Memory => BlifFault::Memory,
+            fault => BlifFault::Whole(fault),
+        }
+    }
+}

@@ -6,9 +6,9 @@ use crate::defining::{add_all, append_all, define_all, define_last, name_or_seco
 use crate::drafting::{name_or_unnamed, names_of, with_last};
 use crate::rows::row_fault;
 use crate::rules::names_fault;
-use crate::{BlifKind, Command};
+use crate::{BlifFault, BlifKind, Command};
 use indexmap::IndexSet;
-use lw_net::{Draft, DraftNode, DraftNodes};
+use lw_net::{Draft, DraftNode, DraftNodes, Network};
 use lw_pool::{Name, Names};
 use lw_words::{Line, Words};
 use std::alloc::{AllocError, Global};
@@ -31,7 +31,9 @@ pub struct Parts {
 impl Parts {
     ghost use Rattle.lw_words.specs.Lines.{LogicalLine};
     ghost use Rattle.lw_blif.specs.Drafts.{draft_of};
-    ghost use Rattle.lw_blif.specs.Keeping.{Keeps, AddsRow, Defines, EndsNode, TakesNames, TakesModel, ReadsNames, names_fault};
+    ghost use Rattle.lw_blif.specs.BlifNetworks.{ClosesTo};
+    ghost use Rattle.lw_net.specs.Plain.{HasRisingDepths};
+    ghost use Rattle.lw_blif.specs.Keeping.{Keeps, IsOfSome, AddsRow, Defines, EndsNode, TakesNames, TakesModel, ReadsNames, names_fault};
     ghost use Rattle.lw_blif.specs.Readers.{row_fault_of, are_fresh};
     ghost use Rattle.lw_blif.specs.LineFaults.{command, defined_for, line_fault, wants_words};
 
@@ -71,6 +73,18 @@ impl Parts {
             outputs,
             nodes,
         })
+    }
+
+    /// The network of the lines that were read.
+    pub fn close(self) -> Result<Network, BlifFault>
+        requires { ∥ IsOfSome self ∥₁ }
+        ensures closes { (lines : List LogicalLine) → Keeps self lines → ClosesTo (draft_of lines) result }
+        ensures depths { IfOk result HasRisingDepths }
+    {
+        let alloc = self.alloc;
+        let draft = self.into_draft()?;
+        let network = Network::close(alloc, draft)?;
+        Ok(network)
     }
 
     /// A line with the command that it asks for, or the first rule that it breaks. Behind an error this is of no use.

@@ -2,6 +2,8 @@
 #![tactic(auto)]
 
 #[cfg(test)]
+mod blif;
+#[cfg(test)]
 mod decimals;
 #[cfg(test)]
 mod lines;

@@ -34,7 +34,7 @@ returns-in-Unsupported-clause-fault c = λ lines k.
 
 pub returns-in-Ignored-clause-fault : goal.returns-in-Ignored-clause-fault
 returns-in-Ignored-clause-fault c = λ lines k.
-    ignored-fault c.args.self.now lines c.args.line.now (sym c.in-Ignored.is ∙ c.requires.asked) (sym (ap (λ (l : LogicalLine). l.long) c.line.view_is) ∙ c.if-line.false) k
+    ignored-fault lines c.args.line.now (sym c.in-Ignored.is ∙ c.requires.asked) (sym (ap (λ (l : LogicalLine). l.long) c.line.view_is) ∙ c.if-line.false)
 
 pub returns-in-Ignored-clause-keeps : goal.returns-in-Ignored-clause-keeps
 returns-in-Ignored-clause-keeps c = λ lines k none.
