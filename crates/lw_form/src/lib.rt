@@ -2,9 +2,15 @@
 #![tactic(auto)]
 
 mod base;
+mod conjunction;
+mod fault;
 mod forms;
 mod ids;
+mod products;
+mod row;
+mod table;
 
 pub use base::Base;
+pub use fault::FormFault;
 pub use forms::Forms;
 pub use ids::FormIds;
