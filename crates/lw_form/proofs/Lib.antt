@@ -1,0 +1,7 @@
+pub mod Clean
+pub mod Conjunctions
+pub mod Joining
+pub mod Parts
+pub mod Rows
+pub mod Samples
+pub mod Tables

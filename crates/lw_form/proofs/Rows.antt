@@ -1,0 +1,128 @@
+-- Rows, and sums of products.
+use Rattle.std.proofs.Common.{◌≡◌, ◌+◌, ◌-◌, ◌*◌, ◌/◌, ◌%◌, ◌<◌, ◌≤◌, ℕ, zero, suc, Bool, true, false, not, Option, Some, None, List, [], ◌∷◌, ◌++◌, length, map, take, drop, get_or, slice_set, bit_xor, refl, ap, ap₂, sym, ◌∙◌, subst, arith, append_assoc, append-nil}
+use Rattle.std.proofs.lemmas.List.{at_drop_more, length-map, map-append}
+use Rattle.std.specs.Bool.{beq}
+use Rattle.lw_laws.specs.Forms.{Form, complement, conjunction, disjunction}
+use Rattle.lw_laws.specs.Signals.{signed, literals, sum_of_products, asks, has_at, cleared_at}
+use Rattle.lw_laws.specs.SignalValues.{form_of}
+use Rattle.lw_form.specs.Products.{signed_number, literal_numbers, HaveColumns}
+use Rattle.lw_form.specs.Tables.{AreBelow, forms_at, AreMade, HasMore, Table, made, IsMadeAs, AreMadeAs}
+use Rattle.lw_form.proofs.Joining.{more_same, more_twice, more_length, form_kept, forms_kept, below_kept_more, below_append, below_other}
+use Rattle.lw_form.proofs.Conjunctions.{complement_of}
+
+has_read : (k : ℕ) (sign : Bool) (row : List (Option Bool)) (o : Option Bool) → k < length row → o ≡ get_or row k o → has_at k sign row ≡ asks sign o
+has_read k sign [] o lt e = absurd (omega arith)
+has_read zero sign (c ∷ row) o lt e = ap (asks sign) (sym e)
+has_read (suc k) sign (c ∷ row) o lt e = has_read k sign row o (omega arith) e
+
+pub has_some : (k : ℕ) (sign : Bool) (row : List (Option Bool)) (o : Option Bool) (asked : Bool) → k < length row → o ≡ get_or row k o → o ≡ Some asked → beq asked sign ≡ has_at k sign row
+has_some k sign row o asked lt e s = sym (has_read k sign row o lt e ∙ (ap (asks sign) s ∙ same sign asked)) where
+  same : (sign asked : Bool) → asks sign (Some asked) ≡ beq asked sign
+  same true true = refl
+  same true false = refl
+  same false true = refl
+  same false false = refl
+
+pub has_none : (k : ℕ) (sign : Bool) (row : List (Option Bool)) (o : Option Bool) → k < length row → o ≡ get_or row k o → o ≡ None → false ≡ has_at k sign row
+has_none k sign row o lt e s = sym (has_read k sign row o lt e ∙ (ap (asks sign) s ∙ none sign)) where
+  none : (sign : Bool) → asks sign None ≡ false
+  none true = refl
+  none false = refl
+
+pub cleared : (k : ℕ) (row : List (Option Bool)) → slice_set row k None ≡ cleared_at k row
+cleared k [] = refl
+cleared zero (c ∷ row) = refl
+cleared (suc k) (c ∷ row) = ap (λ l. c ∷ l) (cleared k row)
+
+pub columns_at : (n : ℕ) (rows : List (List (Option Bool))) (i : ℕ) (row : List (Option Bool)) → HaveColumns n rows → i < length rows → row ≡ get_or rows i row → length row ≡ n
+columns_at n [] i row h lt e = absurd (omega arith)
+columns_at n (r ∷ rows) zero row (p, h) lt e = ap length e ∙ p
+columns_at n (r ∷ rows) (suc i) row (p, h) lt e = columns_at n rows i row h (omega arith) e
+
+-- literals
+
+literal_next : (o : Option Bool) (f : ℕ) (fs : List ℕ) (row : List (Option Bool)) → List ℕ
+literal_next o f fs row = literal_numbers (f ∷ fs) (o ∷ row)
+
+literals_at : (fanins : List ℕ) (row : List (Option Bool)) (i : ℕ) (o : Option Bool) → i < length row → length row ≡ length fanins → o ≡ get_or row i o → literal_numbers (drop i fanins) (drop i row) ≡ literal_numbers (get_or fanins i 0 ∷ drop (i + 1) fanins) (o ∷ drop (i + 1) row)
+literals_at fanins row i o lt e r =
+    at_drop_more (λ l. literal_numbers l (drop i row)) fanins i 0 (omega arith)
+    ∙ (at_drop_more (literal_numbers (get_or fanins i 0 ∷ drop (i + 1) fanins)) row i o lt ∙ ap (λ p. literal_numbers (get_or fanins i 0 ∷ drop (i + 1) fanins) (p ∷ drop (i + 1) row)) (sym r))
+
+pub literal_one : (fanins : List ℕ) (row : List (Option Bool)) (i : ℕ) (o : Option Bool) (sign : Bool) (old new : List ℕ) (n : ℕ) → i < length row → length row ≡ length fanins → o ≡ get_or row i o → o ≡ Some sign → n ≡ signed_number sign (get_or fanins i 0) → new ≡ old ++ n ∷ [] → old ++ literal_numbers (drop i fanins) (drop i row) ≡ literal_numbers fanins row → new ++ literal_numbers (drop (i + 1) fanins) (drop (i + 1) row) ≡ literal_numbers fanins row
+literal_one fanins row i o sign old new n lt e r s is grown so =
+    let rest = literal_numbers (drop (i + 1) fanins) (drop (i + 1) row) in
+    ap (λ l. l ++ rest) grown
+    ∙ (append_assoc old (n ∷ []) rest
+      ∙ (ap (λ m. old ++ m ∷ rest) is
+        ∙ (sym (ap (λ l. old ++ l) (literals_at fanins row i o lt e r ∙ ap (λ p. literal_numbers (get_or fanins i 0 ∷ drop (i + 1) fanins) (p ∷ drop (i + 1) row)) s)) ∙ so)))
+
+pub literal_none : (fanins : List ℕ) (row : List (Option Bool)) (i : ℕ) (o : Option Bool) (old : List ℕ) → i < length row → length row ≡ length fanins → o ≡ get_or row i o → o ≡ None → old ++ literal_numbers (drop i fanins) (drop i row) ≡ literal_numbers fanins row → old ++ literal_numbers (drop (i + 1) fanins) (drop (i + 1) row) ≡ literal_numbers fanins row
+literal_none fanins row i o old lt e r s so =
+    sym (ap (λ l. old ++ l) (literals_at fanins row i o lt e r ∙ ap (λ p. literal_numbers (get_or fanins i 0 ∷ drop (i + 1) fanins) (p ∷ drop (i + 1) row)) s)) ∙ so
+
+pub below_literals : (n : ℕ) (fanins : List ℕ) (row : List (Option Bool)) → AreBelow n fanins → AreBelow n (literal_numbers fanins row)
+below_literals n [] row a = tt
+below_literals n (f ∷ fs) [] a = tt
+below_literals n (f ∷ fs) (Some true ∷ row) (p, a) = (p, below_literals n fs row a)
+below_literals n (f ∷ fs) (Some false ∷ row) (p, a) = (below_other n f p, below_literals n fs row a)
+below_literals n (f ∷ fs) (None ∷ row) (p, a) = below_literals n fs row a
+
+module _ (forms : List Form) (are : AreMade forms) where
+  pub signed_form : (sign : Bool) (f : ℕ) → f / 2 < length forms → form_of forms (signed_number sign f) ≡ signed sign (form_of forms f)
+  signed_form true f lt = refl
+  signed_form false f lt = complement_of forms are f lt
+
+  pub literal_forms : (fanins : List ℕ) (row : List (Option Bool)) → AreBelow (length forms) fanins → forms_at forms (literal_numbers fanins row) ≡ literals (forms_at forms fanins) row
+  literal_forms [] row a = refl
+  literal_forms (f ∷ fs) [] a = refl
+  literal_forms (f ∷ fs) (Some sign ∷ row) (p, a) = ap₂ (λ x xs. x ∷ xs) (signed_form sign f p) (literal_forms fs row a)
+  literal_forms (f ∷ fs) (None ∷ row) (p, a) = literal_forms fs row a
+
+-- cubes
+
+abbrev cube : ℕ → List Form → List (Option Bool) → Form
+cube width fs row = conjunction width (literals fs row)
+
+pub record CubesSoFar (width : ℕ) (old now : Table) (fanins : List ℕ) (rows : List (List (Option Bool))) (i : ℕ) (cubes : List ℕ) : Type 0 where
+  pub more : HasMore (made old) (made now)
+  pub within : AreBelow (length (made now)) cubes
+  pub same : forms_at (made now) cubes ++ map (cube width (forms_at (made old) fanins)) (drop i rows) ≡ map (cube width (forms_at (made old) fanins)) rows
+
+pub cubes_first : (width : ℕ) (t : Table) (fanins : List ℕ) (rows : List (List (Option Bool))) (cubes : List ℕ) → cubes ≡ [] → CubesSoFar width t t fanins rows 0 cubes
+cubes_first width t fanins rows cubes e = subst (CubesSoFar width t t fanins rows 0) (sym e) (record { more = more_same (made t); within = tt; same = refl })
+
+pub cubes_more : (width : ℕ) (old now next : Table) (fanins : List ℕ) (rows : List (List (Option Bool))) (i : ℕ) (row : List (Option Bool)) (cubes cubes' lits : List ℕ) (n : ℕ) → AreMade (made now) → AreBelow (length (made old)) fanins → i < length rows → row ≡ get_or rows i row → lits ≡ literal_numbers fanins row → IsMadeAs now next n (conjunction width (forms_at (made now) lits)) → cubes' ≡ cubes ++ n ∷ [] → CubesSoFar width old now fanins rows i cubes → CubesSoFar width old next fanins rows (i + 1) cubes'
+cubes_more width old now next fanins rows i row cubes cubes' lits n are below lt r l m grown so = subst (CubesSoFar width old next fanins rows (i + 1)) (sym grown) (record {
+  more = more_twice (made old) (made now) (made next) so.more m.more;
+  within = below_append (length (made next)) cubes (n ∷ []) (below_kept_more (made now) (made next) cubes m.more so.within) (m.within, tt);
+  same =
+      let fs = forms_at (made old) fanins in
+      let rest = map (cube width fs) (drop (i + 1) rows) in
+      let kept = forms_kept (made old) (made now) fanins so.more below in
+      let one : form_of (made next) n ≡ cube width fs row = m.is ∙ ap (conjunction width) (ap (forms_at (made now)) l ∙ (literal_forms (made now) are fanins row (below_kept_more (made old) (made now) fanins so.more below) ∙ ap (λ k. literals k row) kept)) in
+      ap (λ k. k ++ rest) (map-append (form_of (made next)) cubes (n ∷ []))
+      ∙ (append_assoc (forms_at (made next) cubes) (form_of (made next) n ∷ []) rest
+        ∙ (ap₂ (λ k f. k ++ f ∷ rest) (forms_kept (made now) (made next) cubes m.more so.within) one
+          ∙ (ap (λ k. forms_at (made now) cubes ++ k) (ap (λ k. cube width fs k ∷ rest) r ∙ sym (at_drop_more (map (cube width fs)) rows i row lt)) ∙ so.same)));
+})
+
+drop_past : {X : Type 0} (n : ℕ) (xs : List X) → length xs ≤ n → drop n xs ≡ []
+drop_past zero [] le = refl
+drop_past (suc n) [] le = refl
+drop_past zero (x ∷ xs) le = absurd (omega arith)
+drop_past (suc n) (x ∷ xs) le = drop_past n xs (omega arith)
+
+pub cubes_done : (width : ℕ) (old now : Table) (fanins : List ℕ) (rows : List (List (Option Bool))) (i : ℕ) (cubes : List ℕ) → length rows ≤ i → CubesSoFar width old now fanins rows i cubes → AreMadeAs old now cubes (map (cube width (forms_at (made old) fanins)) rows)
+cubes_done width old now fanins rows i cubes le so = record {
+  more = so.more;
+  within = so.within;
+  are = sym (append-nil (forms_at (made now) cubes)) ∙ (ap (λ l. forms_at (made now) cubes ++ map (cube width (forms_at (made old) fanins)) l) (sym (drop_past i rows le)) ∙ so.same);
+}
+
+pub sum_made : (width : ℕ) (old now next : Table) (fanins cubes : List ℕ) (rows : List (List (Option Bool))) (n : ℕ) → AreMadeAs old now cubes (map (cube width (forms_at (made old) fanins)) rows) → IsMadeAs now next n (disjunction width (forms_at (made now) cubes)) → IsMadeAs old next n (sum_of_products width (forms_at (made old) fanins) rows)
+sum_made width old now next fanins cubes rows n c m = record {
+  more = more_twice (made old) (made now) (made next) c.more m.more;
+  within = m.within;
+  is = m.is ∙ ap (disjunction width) c.are;
+}

@@ -1,0 +1,17 @@
+-- Literals over numbers of forms, and what holds of rows.
+use Rattle.std.specs.Prelude.{ℕ, ◌≡◌, Bool, true, false, Option, Some, None, List, [], ◌∷◌, length, bit_xor}
+
+abbrev pub signed_number : Bool → ℕ → ℕ
+signed_number true f = f
+signed_number false f = bit_xor f 1
+
+-- the literals of a row in column order
+abbrev pub literal_numbers : List ℕ → List (Option Bool) → List ℕ
+literal_numbers (f ∷ fs) (Some sign ∷ row) = signed_number sign f ∷ literal_numbers fs row
+literal_numbers (f ∷ fs) (None ∷ row) = literal_numbers fs row
+literal_numbers _ _ = []
+
+-- each row has so many columns
+abbrev pub HaveColumns : ℕ → List (List (Option Bool)) → Type 0
+HaveColumns columns [] = Unit {0}
+HaveColumns columns (row ∷ rows) = (length row ≡ columns) × HaveColumns columns rows

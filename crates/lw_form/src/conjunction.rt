@@ -1,0 +1,185 @@
+// The And of forms, over numbers of a table.
+ghost use Rattle.std.specs.Prelude.{◌≡◌, ◌==◌, ◌/◌, ◌<◌, ◌≤◌, ℕ, map, length, bit_xor, IfOk};
+ghost use Rattle.std.specs.List.{list_any};
+ghost use Rattle.lw_laws.specs.Forms.{conjunction as and_of_forms, disjunction as or_of_forms, runs};
+ghost use Rattle.lw_form.specs.Conjunctions.{kept_numbers, numbers_clash, IsStep, AreClean};
+ghost use Rattle.lw_form.specs.Limits.{most_operands};
+ghost use Rattle.lw_form.specs.Tables.{made, forms_at, AreBelow, IsMadeAs, AreMadeAs};
+
+use crate::FormIds;
+use crate::table::FormTable;
+use indexmap::IndexSet;
+use lw_pool::FormId;
+use std::alloc::{AllocError, Global};
+
+// The numbers of true and of its complement.
+const TRUE: u32 = 0;
+const FALSE: u32 = 1;
+
+// One step of an And.
+#[derive(Drop)]
+enum Step {
+    Done(u32),
+    Again(Vec<u32>),
+}
+
+// The forms without true and without repeats, of which the first stays.
+fn kept(alloc: Global, forms: &[u32]) -> Result<IndexSet<u32>, AllocError>
+    ensures { IfOk result (λ kept. kept.keys ≡ kept_numbers forms.now) }
+{
+    let mut kept = IndexSet::new(alloc);
+    for form in forms {
+        if *form != TRUE {
+            kept.insert(*form)?;
+        }
+    }
+    Ok(kept)
+}
+
+// Whether a form and its complement are there.
+fn holds_complements(kept: &IndexSet<u32>) -> bool
+    ensures { result ≡ list_any (λ f. list_any (λ h. bit_xor f 1 == h) kept.now.keys) kept.now.keys }
+{
+    let forms = kept.as_slice();
+    for form in forms {
+        if kept.contains(&(*form ^ 1)) {
+            return true;
+        }
+    }
+    false
+}
+
+// Whether the complement of true is there, or a form and its complement.
+fn clashes(kept: &IndexSet<u32>) -> bool
+    ensures { result ≡ numbers_clash kept.now.keys }
+{
+    kept.contains(&FALSE) || holds_complements(kept)
+}
+
+// The operands of an And.
+fn operands(alloc: Global, forms: &[u32]) -> FormIds
+    requires { length forms.now ≤ most_operands }
+    ensures { result ≡ forms.now }
+{
+    let mut ids = FormIds::new(alloc);
+    for form in forms {
+        ids.push(FormId(*form));
+    }
+    ids
+}
+
+// The And of one form or more that differ and don't clash.
+fn joined(alloc: Global, table: &mut FormTable, forms: &[u32]) -> Result<u32, AllocError>
+    requires some { 1 ≤ length forms.now }
+    requires few { length forms.now ≤ most_operands }
+    requires below { AreBelow (length (made table.old)) forms.now }
+    requires clean { AreClean (forms_at (made table.old) forms.now) }
+    ensures { IfOk result (λ form. (width : ℕ) → 2 ≤ width → length forms.now ≤ width → IsMadeAs table.old table.new form (and_of_forms width (forms_at (made table.old) forms.now))) }
+{
+    if forms.len() == 1 {
+        return Ok(forms[0]);
+    }
+    let place = table.add(operands(alloc, forms))?;
+    let _count = table.len();
+    Ok(2 * place)
+}
+
+// The Ands of the runs of forms that differ and don't clash.
+fn grouped(
+    alloc: Global,
+    table: &mut FormTable,
+    width: usize,
+    forms: &[u32],
+) -> Result<Vec<u32>, AllocError>
+    requires low { 2 ≤ width }
+    requires high { width ≤ most_operands }
+    requires some { 1 ≤ length forms.now }
+    requires below { AreBelow (length (made table.old)) forms.now }
+    requires clean { AreClean (forms_at (made table.old) forms.now) }
+    ensures { IfOk result (λ groups. AreMadeAs table.old table.new groups.items (map (and_of_forms width) (runs width (forms_at (made table.old) forms.now)))) }
+{
+    let mut groups = Vec::new(alloc);
+    let mut rest = forms;
+    'runs: while rest.len() > width {
+        groups.push(joined(alloc, table, &rest[..width])?)?;
+        rest = &rest[width..];
+    }
+    groups.push(joined(alloc, table, rest)?)?;
+    Ok(groups)
+}
+
+// The And of some forms, or fewer forms with the same And.
+fn shortened(
+    alloc: Global,
+    table: &mut FormTable,
+    width: usize,
+    forms: &[u32],
+) -> Result<Step, AllocError>
+    requires low { 2 ≤ width }
+    requires high { width ≤ most_operands }
+    requires below { AreBelow (length (made table.old)) forms.now }
+    ensures { IfOk result (λ step. IsStep width table.old table.new forms.now step) }
+{
+    let _count = table.len();
+    let kept = kept(alloc, forms)?;
+    if clashes(&kept) {
+        return Ok(Step::Done(FALSE));
+    }
+    let kept = kept.as_slice();
+    if kept.is_empty() {
+        return Ok(Step::Done(TRUE));
+    }
+    if kept.len() <= width {
+        let form = joined(alloc, table, kept)?;
+        return Ok(Step::Done(form));
+    }
+    let groups = grouped(alloc, table, width, kept)?;
+    Ok(Step::Again(groups))
+}
+
+// The And of some forms.
+pub(crate) fn conjunction(
+    alloc: Global,
+    table: &mut FormTable,
+    width: usize,
+    forms: Vec<u32>,
+) -> Result<u32, AllocError>
+    requires low { 2 ≤ width }
+    requires high { width ≤ most_operands }
+    requires below { AreBelow (length (made table.old)) forms.items }
+    ensures { IfOk result (λ form. IsMadeAs table.old table.new form (and_of_forms width (forms_at (made table.old) forms.items))) }
+{
+    let mut left = forms;
+    'steps: loop {
+        match shortened(alloc, table, width, &left)? {
+            Step::Done(form) => return Ok(form),
+            Step::Again(groups) => left = groups,
+        }
+    }
+}
+
+// The complements of some forms.
+fn complements(alloc: Global, forms: &[u32]) -> Result<Vec<u32>, AllocError>
+    ensures { IfOk result (λ others. others.items ≡ map (λ f. bit_xor f 1) forms.now) }
+{
+    forms.iter().map(|form| *form ^ 1).collect(alloc)
+}
+
+// The Or of some forms.
+pub(crate) fn disjunction(
+    alloc: Global,
+    table: &mut FormTable,
+    width: usize,
+    forms: &[u32],
+) -> Result<u32, AllocError>
+    requires low { 2 ≤ width }
+    requires high { width ≤ most_operands }
+    requires below { AreBelow (length (made table.old)) forms.now }
+    ensures { IfOk result (λ form. IsMadeAs table.old table.new form (or_of_forms width (forms_at (made table.old) forms.now))) }
+{
+    let _count = table.len();
+    let none = complements(alloc, forms)?;
+    let all = conjunction(alloc, table, width, none)?;
+    let _more = table.len();
+    Ok(all ^ 1)
+}

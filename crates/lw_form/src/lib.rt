@@ -1,0 +1,16 @@
+//! Normal forms of the nets of a network, and the list of the base forms that occur in them.
+#![tactic(auto)]
+
+mod base;
+mod conjunction;
+mod fault;
+mod forms;
+mod ids;
+mod products;
+mod row;
+mod table;
+
+pub use base::Base;
+pub use fault::FormFault;
+pub use forms::Forms;
+pub use ids::FormIds;

@@ -1,0 +1,67 @@
+ghost use Rattle.std.specs.Prelude.{◌≡◌, ◌<◌, length, map, IfOk, OnErr, OnOk, None};
+ghost use Rattle.lw_net.specs.Signs.{asked, IsSign};
+
+use std::alloc::{AllocError, Global};
+use std::marker::Model;
+
+// What a row asks of each fan-in, in columns: a value, or none.
+#[derive(Drop)]
+pub(crate) struct Row {
+    asks: Vec<Option<bool>>,
+}
+
+impl Model for Row {
+    ghost use Rattle.std.specs.Prelude.{List, Bool, Option};
+
+    ghost Value = { List (Option Bool) };
+
+    ghost view = { λ r. r.asks.items };
+}
+
+// The value that a sign asks for.
+fn ask(sign: u8) -> Option<bool>
+    ensures { result ≡ asked sign }
+{
+    match sign {
+        b'1' => Some(true),
+        b'0' => Some(false),
+        _ => None,
+    }
+}
+
+impl Row {
+    ghost use Rattle.lw_laws.specs.Signals.{has_at, cleared_at};
+
+    // The row of these signs.
+    pub(crate) fn of_signs(alloc: Global, signs: &[u8]) -> Result<Self, AllocError>
+        ensures { IfOk result (λ row. row ≡ map asked signs.now) }
+    {
+        let asks = signs.iter().map(|sign| ask(*sign)).collect(alloc)?;
+        Ok(Row { asks })
+    }
+
+    pub(crate) fn as_slice(&self) -> &[Option<bool>]
+        ensures { result.now ≡ self.now }
+    {
+        &self.asks
+    }
+
+    // Whether the row has the column with this sign.
+    pub(crate) fn has(&self, column: usize, sign: bool) -> bool
+        requires { column < length self.now }
+        ensures { result ≡ has_at column sign self.now }
+    {
+        match self.asks[column] {
+            Some(asked) => asked == sign,
+            None => false,
+        }
+    }
+
+    // Takes the column away.
+    pub(crate) fn clear(&mut self, column: usize)
+        requires { column < length self.old }
+        ensures { self.new ≡ cleared_at column self.old }
+    {
+        self.asks[column] = None;
+    }
+}
