@@ -6,9 +6,9 @@ use Rattle.lw_laws.specs.Costs.{Cost}
 use Rattle.lw_laws.specs.Covers.{Pattern, HasPins}
 use Rattle.lw_laws.specs.Choices.{Choices, Labels, HaveLabels, Attains, IsWithin}
 use Rattle.lw_laws.specs.Matches.{choices_of, IsMatchAt}
-use Rattle.lw_laws.specs.Marks.{Mark, Marks, HaveMarks, HasMarkAtMost, greatest_height, costs_in, price, labels_of, heights_of}
-use Rattle.lw_laws.specs.Extracts.{Match, MatchesAt, Supports, IsLeafClass}
-use Rattle.lw_laws.specs.Priced.{IsPriced, AreMarks}
+use Rattle.lw_laws.specs.Marks.{Mark, IsMarkAtMost, Marks, HaveMarks, HasMarkAtMost, greatest_height, costs_in, price, labels_of, heights_of}
+use Rattle.lw_laws.specs.Extracts.{Match, MatchesAt, Supports, IsChosen, IsMatchAtMost, IsLeafClass}
+use Rattle.lw_laws.specs.Priced.{IsPriced, IsPricedAtMost, AreMarks}
 use Rattle.lw_laws.proofs.Heights.{IsWithin_more}
 use Rattle.lw_laws.proofs.Extracts.{listed_at}
 
@@ -182,3 +182,30 @@ module _ (g : Graph) (cost : Cost) (pats : List Pattern) (marks : Marks) where
         by_height : (h : ℕ) → k.height ≡ h → Within c k.height → (m : Match) × (p : Pattern) × Supports g cost pats known (heights_of marks) c m p
         by_height zero s w = absurd (out (subst (Within c) s w))
         by_height (suc h) s w = by_step h s (subst (Within c) s w)
+
+    -- the least of the priced matches is the chosen one, and is priced at the mark of the class
+    pub least_chosen : (c : ℕ) (m : Match) (p : Pattern) (k j : Mark) → (IsLeafClass g c → ⊥) → marks c ≡ Some j → IsPriced g cost pats marks c m p k → ((n : Match) (q : Pattern) (i : Mark) → IsPriced g cost pats marks c n q i → IsPricedAtMost k m i n) → (k ≡ j) × IsChosen g cost pats known (heights_of marks) c m p
+    least_chosen c m p k j out e priced least =
+        let (n, q, s) = some_supports c j out e in
+        let (i, at, above) = priced_above c m p k priced in
+        let one : j ≡ i = some_same j i (sym e ∙ at) in
+        let same = both_ways n k j (least n q j ((supports_priced c n q j out e).0 s)) (subst (λ (z : Mark). IsMarkAtMost z k) (sym one) above) in (
+          same,
+          record {
+            supports = (supports_priced c m p j out e).1 (subst (λ (z : Mark). IsPriced g cost pats marks c m p z) same priced);
+            first = λ b r t. by_match k j b same (least b r j ((supports_priced c b r j out e).0 t));
+          },
+        )
+      where
+        some_same : (k j : Mark) → Some k ≡ Some j → k ≡ j
+        some_same k j f = cc
+
+        both_ways : (n : Match) (k j : Mark) → IsPricedAtMost k m j n → IsMarkAtMost j k → k ≡ j
+        both_ways n k j (inl lt) above = let le = above.cost in absurd (omega arith)
+        both_ways n k j (inr (f, inl lt)) above = let le = above.height (sym f) in absurd (omega arith)
+        both_ways n k j (inr (f, inr (h, b))) above = mark_same k j f h
+
+        by_match : (k j : Mark) (b : Match) → k ≡ j → IsPricedAtMost k m j b → IsMatchAtMost m b
+        by_match k j b s (inl lt) = let f : k.cost ≡ j.cost = ap (λ z. z.cost) s in absurd (omega arith)
+        by_match k j b s (inr (f, inl lt)) = let h : k.height ≡ j.height = ap (λ z. z.height) s in absurd (omega arith)
+        by_match k j b s (inr (f, inr (h, at))) = at

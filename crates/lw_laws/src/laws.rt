@@ -29,7 +29,7 @@ ghost use Rattle.lw_laws.specs.NumberedValues.{AreNumberedValues};
 ghost use Rattle.lw_laws.specs.Numbering.{HasSameTrees, numbered};
 ghost use Rattle.lw_laws.specs.Occurring.{HasInputsFirst, occurring_forms, part, sublists};
 ghost use Rattle.lw_laws.specs.Patterns.{patterns_of, trees_of_expr};
-ghost use Rattle.lw_laws.specs.Priced.{AreMarks, IsPriced};
+ghost use Rattle.lw_laws.specs.Priced.{AreMarks, IsPriced, IsPricedAtMost};
 ghost use Rattle.lw_laws.specs.Rounds.{label_weight, labels_in, total_weight};
 ghost use Rattle.lw_laws.specs.SignalValues.{SignalsAgree, number_value};
 ghost use Rattle.lw_laws.specs.Signals.{factored, factored_by, shared_literal, signals_of};
@@ -364,6 +364,11 @@ pub fn supports_are_priced()
 /// A marked class that is no input's has a match that attains its label and its height.
 pub fn marked_classes_have_supports()
     ensures { (g : Graph) (cost : Cost) (pats : List Pattern) (marks : ℕ → Option Mark) → AreMarks g cost pats marks → (c : ℕ) (k : Mark) → (IsLeafClass g c → ⊥) → marks c ≡ Some k → (m : Match) × (p : Pattern) × Supports g cost pats (labels_of marks) (heights_of marks) c m p }
+{}
+
+/// At a class that is no input's, the least match by the marks of its pins is the chosen one, and its price is the mark of the class.
+pub fn least_priced_matches_are_chosen()
+    ensures { (g : Graph) (cost : Cost) (pats : List Pattern) (marks : ℕ → Option Mark) → AreMarks g cost pats marks → (c : ℕ) (m : Match) (p : Pattern) (k j : Mark) → (IsLeafClass g c → ⊥) → marks c ≡ Some j → IsPriced g cost pats marks c m p k → ((n : Match) (q : Pattern) (i : Mark) → IsPriced g cost pats marks c n q i → IsPricedAtMost k m i n) → (k ≡ j) × IsChosen g cost pats (labels_of marks) (heights_of marks) c m p }
 {}
 
 // Netlists
