@@ -1,11 +1,11 @@
 -- What is gathered grows.
-use Rattle.std.proofs.Common.{ℕ, zero, suc, ◌+◌, ◌-◌, ◌<◌, ◌≤◌, ◌≡◌, Bool, true, false, cond, Some, None, ltb, List, [], ◌∷◌, ◌++◌, length, take, drop, refl, ap, sym, ◌∙◌, arith, length-append, append_assoc, append-nil}
+use Rattle.std.proofs.Common.{ℕ, ◌+◌, ◌-◌, ◌<◌, ◌≤◌, ◌≡◌, Bool, true, false, cond, Some, None, ltb, List, [], ◌∷◌, ◌++◌, length, drop, refl, ap, sym, ◌∙◌, arith, length-append}
 use Rattle.std.specs.Prelude.{All}
 use Rattle.std.specs.List.{slice_range}
 use Rattle.std.specs.Str.{bytes_eq}
-use Rattle.std.proofs.lemmas.Bool.{lt-ltb, le-ltb}
-use Rattle.std.proofs.lemmas.List.{drop-append-le, length-drop, length-take, take_all, drop_all}
-use Rattle.std.proofs.lemmas.List.Elements.{All-append, All-take, All-push, All-nil, All-cons}
+use Rattle.std.proofs.lemmas.Bool.{lt-ltb}
+use Rattle.std.proofs.lemmas.List.{drop-append-le, length-drop, take_all, drop_all}
+use Rattle.std.proofs.lemmas.List.Elements.{All-append, All-push, All-nil, All-cons}
 use Rattle.lw_words.specs.Lines.{has_some}
 use Rattle.lw_words.specs.Arenas.{words_at, last_end}
 use Rattle.lw_words.specs.Gathering.{Gathered, with_byte, ended, IsInk, IsNoHash, IsWord, HasNoHash, IsGathered, IsKept, IsLine, line_gathered}
