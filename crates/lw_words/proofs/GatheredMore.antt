@@ -56,22 +56,6 @@ pub IsKept-push : (bytes ends : List ℕ) (start : ℕ) (long : Bool) (b : ℕ) 
 IsKept-push bytes ends start long b h few ink plain =
     IsKept-append bytes ends start long (b ∷ []) h (omega arith) (All-cons IsInk b [] ink (All-nil IsInk)) (All-cons IsNoHash b [] plain (All-nil IsNoHash))
 
--- a word that is cut has some bytes
-pub IsKept-long : (bytes ends : List ℕ) (start : ℕ) (long : Bool) → IsKept bytes ends start long → 4095 ≤ length bytes - start → IsKept bytes ends start true
-IsKept-long bytes ends start long h full = record {
-  are_ends = h.are_ends;
-  is_start = h.is_start;
-  within = h.within;
-  gathered = record {
-    are_words = h.gathered.are_words;
-    no_hash = h.gathered.no_hash;
-    few = h.gathered.few;
-    ink = h.gathered.ink;
-    plain = h.gathered.plain;
-    cut = λ e. omega (arith, length-drop start bytes);
-  };
-}
-
 -- a word without `#` keeps this
 HasNoHash-push : (words : List (List ℕ)) (word : List ℕ) → HasNoHash words → All IsNoHash word → HasNoHash (words ++ word ∷ [])
 HasNoHash-push [] word h plain = of_first (bytes_eq word (35 ∷ 64 ∷ []))
