@@ -1,11 +1,11 @@
 -- What is gathered grows.
-use Rattle.std.proofs.Common.{ℕ, zero, suc, ◌+◌, ◌-◌, ◌<◌, ◌≤◌, ◌≡◌, Bool, true, false, cond, Some, None, ltb, List, [], ◌∷◌, ◌++◌, length, take, drop, refl, ap, sym, ◌∙◌, arith, length-append, append_assoc, append-nil}
+use Rattle.std.proofs.Common.{ℕ, ◌+◌, ◌-◌, ◌<◌, ◌≤◌, ◌≡◌, Bool, true, false, cond, Some, None, ltb, List, [], ◌∷◌, ◌++◌, length, drop, refl, ap, sym, ◌∙◌, arith, length-append}
 use Rattle.std.specs.Prelude.{All}
 use Rattle.std.specs.List.{slice_range}
 use Rattle.std.specs.Str.{bytes_eq}
-use Rattle.std.proofs.lemmas.Bool.{lt-ltb, le-ltb}
-use Rattle.std.proofs.lemmas.List.{drop-append-le, length-drop, length-take, take_all, drop_all}
-use Rattle.std.proofs.lemmas.List.Elements.{All-append, All-take, All-push, All-nil, All-cons}
+use Rattle.std.proofs.lemmas.Bool.{lt-ltb}
+use Rattle.std.proofs.lemmas.List.{drop-append-le, length-drop, take_all, drop_all}
+use Rattle.std.proofs.lemmas.List.Elements.{All-append, All-push, All-nil, All-cons}
 use Rattle.lw_words.specs.Lines.{has_some}
 use Rattle.lw_words.specs.Arenas.{words_at, last_end}
 use Rattle.lw_words.specs.Gathering.{Gathered, with_byte, ended, IsInk, IsNoHash, IsWord, HasNoHash, IsGathered, IsKept, IsLine, line_gathered}
@@ -55,22 +55,6 @@ IsKept-append bytes ends start long more h few ink plain =
 pub IsKept-push : (bytes ends : List ℕ) (start : ℕ) (long : Bool) (b : ℕ) → IsKept bytes ends start long → length bytes - start < 4095 → IsInk b → IsNoHash b → IsKept (bytes ++ b ∷ []) ends start long
 IsKept-push bytes ends start long b h few ink plain =
     IsKept-append bytes ends start long (b ∷ []) h (omega arith) (All-cons IsInk b [] ink (All-nil IsInk)) (All-cons IsNoHash b [] plain (All-nil IsNoHash))
-
--- a word that is cut has some bytes
-pub IsKept-long : (bytes ends : List ℕ) (start : ℕ) (long : Bool) → IsKept bytes ends start long → 4095 ≤ length bytes - start → IsKept bytes ends start true
-IsKept-long bytes ends start long h full = record {
-  are_ends = h.are_ends;
-  is_start = h.is_start;
-  within = h.within;
-  gathered = record {
-    are_words = h.gathered.are_words;
-    no_hash = h.gathered.no_hash;
-    few = h.gathered.few;
-    ink = h.gathered.ink;
-    plain = h.gathered.plain;
-    cut = λ e. omega (arith, length-drop start bytes);
-  };
-}
 
 -- a word without `#` keeps this
 HasNoHash-push : (words : List (List ℕ)) (word : List ℕ) → HasNoHash words → All IsNoHash word → HasNoHash (words ++ word ∷ [])
