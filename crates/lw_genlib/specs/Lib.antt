@@ -5,5 +5,6 @@ pub mod Grammar
 pub mod Postfix
 pub mod Runs
 pub mod Sights
+pub mod Tables
 pub mod Tells
 pub mod Words

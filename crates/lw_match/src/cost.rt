@@ -12,8 +12,6 @@ pub trait Cost {
     /// The costs as plain functions, and the number of pins of each cell.
     ghost costs: { Self → PlainCost };
 
-    /// The greatest cost.
-    const CAP: u64;
 
     /// What an input costs.
     fn leaf(&self, input: u32) -> u64

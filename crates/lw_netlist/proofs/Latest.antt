@@ -13,7 +13,8 @@ use Rattle.lw_netlist.specs.Netlists.{NetlistParts}
 use Rattle.lw_netlist.proofs.Filling.{IsLocal, image_at}
 use Rattle.lw_pool.specs.declared.id.NetId.{NetId}
 use Rattle.lw_fixed.specs.declared.micro.Micro.{Micro}
-use Rattle.lw_netlist.specs.Plain.{net_number, millionths, delays_of_cells, cell_delays, plain, plain_gate}
+use Rattle.lw_genlib.specs.Tables.{millionths, delays_of_cells, cell_delays}
+use Rattle.lw_netlist.specs.Plain.{net_number, plain, plain_gate}
 use Rattle.lw_netlist.specs.Filling.{arrivals_at, arrival_at, gate_arrival, one_step}
 
 -- one more pin

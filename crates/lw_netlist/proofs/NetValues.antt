@@ -10,7 +10,8 @@ use Rattle.lw_pool.specs.declared.id.NetId.{NetId}
 use Rattle.lw_genlib.specs.Cells.{CellParts}
 use Rattle.lw_netlist.specs.declared.gate.Gate.{Gate}
 use Rattle.lw_netlist.specs.Netlists.{NetlistParts}
-use Rattle.lw_netlist.specs.Plain.{plain, plain_gate, truth_of_cells}
+use Rattle.lw_genlib.specs.Tables.{truth_of_cells}
+use Rattle.lw_netlist.specs.Plain.{plain, plain_gate}
 use Rattle.lw_netlist.specs.Filling.{values_at, gate_value}
 use Rattle.lw_netlist.proofs.Filling.{IsLocal, image_at}
 

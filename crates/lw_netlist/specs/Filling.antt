@@ -5,7 +5,8 @@ use Rattle.lw_fixed.specs.declared.micro.Micro.{Micro}
 use Rattle.lw_laws.specs.Covers.{latest, delays_of}
 use Rattle.lw_genlib.specs.Cells.{CellParts}
 use Rattle.lw_netlist.specs.declared.gate.Gate.{Gate}
-use Rattle.lw_netlist.specs.Plain.{net_number, millionths, delays_of_cells, truth_of_cells}
+use Rattle.lw_genlib.specs.Tables.{millionths, delays_of_cells, truth_of_cells}
+use Rattle.lw_netlist.specs.Plain.{net_number}
 
 -- the values of some nets
 abbrev pub values_at : List Bool → List NetId → List Bool

@@ -3,7 +3,8 @@ ghost use Rattle.std.specs.Prelude.{◌≡◌, ◌+◌, ◌*◌, ◌<◌, ◌≤
 ghost use Rattle.lw_laws.specs.Covers.{latest};
 ghost use Rattle.lw_genlib.specs.Cells.{IsListed};
 ghost use Rattle.lw_netlist.specs.Netlists.{IsGateAt, most_gates};
-ghost use Rattle.lw_netlist.specs.Plain.{HasCell, cell_delays};
+ghost use Rattle.lw_genlib.specs.Tables.{cell_delays};
+ghost use Rattle.lw_netlist.specs.Plain.{HasCell};
 ghost use Rattle.lw_netlist.specs.Filling.{arrival_at, arrivals_at, gate_arrival, one_step};
 
 use crate::Gate;

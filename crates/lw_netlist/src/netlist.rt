@@ -32,7 +32,8 @@ impl Netlist {
     ghost use Rattle.lw_laws.specs.Networks.{given};
     ghost use Rattle.lw_laws.specs.Netlists.{AreNetlistValues, AreArrivals};
     ghost use Rattle.lw_netlist.specs.Netlists.{IsNetlist, NetlistParts, most_gates};
-    ghost use Rattle.lw_netlist.specs.Plain.{plain, IsOver, delays_of_cells, truth_of_cells, millionths};
+    ghost use Rattle.lw_genlib.specs.Tables.{delays_of_cells, truth_of_cells, millionths};
+    ghost use Rattle.lw_netlist.specs.Plain.{plain, IsOver};
 
     /// The netlist of these parts, without memory.
     pub fn new(model: Name, names: Names, inputs: u32, gates: Gates, outputs: PortList) -> Self

@@ -1,6 +1,6 @@
 use Rattle.std.proofs.Common.{◌≡◌, take}
 use Rattle.lw_laws.specs.Covers.{latest}
-use Rattle.lw_netlist.specs.Plain.{cell_delays}
+use Rattle.lw_genlib.specs.Tables.{cell_delays}
 use Rattle.lw_netlist.specs.Filling.{arrivals_at}
 use Rattle.lw_netlist.proofs.arrivals.arrival_of.Given as goal
 

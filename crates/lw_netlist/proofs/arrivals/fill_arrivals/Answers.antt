@@ -3,7 +3,7 @@ use Rattle.std.proofs.lemmas.List.{length-set}
 use Rattle.std.proofs.lemmas.Option.{slice_get_within, slice_get_read}
 use Rattle.lw_laws.specs.Covers.{latest}
 use Rattle.lw_fixed.specs.declared.micro.Micro.{Micro}
-use Rattle.lw_netlist.specs.Plain.{cell_delays}
+use Rattle.lw_genlib.specs.Tables.{cell_delays}
 use Rattle.lw_netlist.specs.Filling.{arrivals_at, one_step}
 use Rattle.lw_netlist.proofs.Filling.{IsFilled-more}
 use Rattle.lw_netlist.proofs.Latest.{gate_time, times_are_local, arrival_within, early_more, delays_at}

@@ -1,0 +1,23 @@
+-- The cells of a library as tables: by the number of a cell, its forms, its pins, their delays, and its truth.
+use Rattle.std.specs.Prelude.{ℕ, Bool, false, List, length, map, Option, Some, None, slice_get}
+use Rattle.lw_fixed.specs.declared.micro.Micro.{Micro}
+use Rattle.lw_laws.specs.Netlists.{CellTruth}
+use Rattle.lw_genlib.specs.Cells.{CellParts, cell_value}
+
+abbrev pub millionths : Micro → ℕ
+millionths m = m.0
+
+-- the delays of each cell's pins
+abbrev pub cell_delays : CellParts → List ℕ
+cell_delays cell = map millionths cell.delays
+
+abbrev pub delays_of_cells : List CellParts → List (List ℕ)
+delays_of_cells cells = map cell_delays cells
+
+-- the truth of a cell, at the truths of its pins
+abbrev pub truth_in : Option CellParts → List Bool → Bool
+truth_in None ys = false
+truth_in (Some cell) ys = cell_value cell ys
+
+abbrev pub truth_of_cells : List CellParts → CellTruth
+truth_of_cells cells cell ys = truth_in (slice_get cells cell) ys

@@ -1,0 +1,186 @@
+-- Passes that lower labels.
+use Rattle.std.proofs.Common.{ℕ, zero, suc, ◌+◌, ◌<◌, ◌≤◌, ◌≡◌, ◌%◌, ◌⊎◌, inl, inr, Bool, true, false, ◌||◌, List, [], ◌∷◌, length, Option, Some, None, option_map, slice_index_or, slice_set, replicate, refl, ap, sym, ◌∙◌, subst, subst₂, arith, true≢false}
+use Rattle.std.proofs.lemmas.List.{length-set, length-map}
+use Rattle.std.proofs.lemmas.Bool.{cases_eq}
+use Rattle.lw_laws.specs.Flip.{flip}
+use Rattle.lw_laws.specs.Graphs.{Graph}
+use Rattle.lw_laws.specs.Costs.{Cost}
+use Rattle.lw_laws.specs.Covers.{Pattern}
+use Rattle.lw_laws.specs.Choices.{HaveLabels, HasLabelAtMost}
+use Rattle.lw_laws.specs.Matches.{IsMatchAt}
+use Rattle.lw_laws.specs.Marks.{Mark as PlainMark, HaveMarks, costs_in, price}
+use Rattle.lw_laws.specs.Rounds.{labels_in, label_weight, total_weight}
+use Rattle.lw_laws.specs.Laws.{IsCoverProblem, AreSoundIn, AreBoundedIn, HasClasses}
+use Rattle.lw_graph.specs.Graphs.{IsGraph}
+use Rattle.lw_laws.proofs.Rounds.{total_weight_falls}
+use Rattle.lw_laws.proofs.RoundLaws.{lowered_sound, values_capped, match_in}
+use Rattle.std.proofs.lemmas.Option.{same_Some}
+use Rattle.lw_laws.proofs.Flips.{flip-flip}
+use Rattle.lw_match.specs.declared.mark.Best.{Best}
+use Rattle.lw_match.specs.declared.mark.Mark.{Mark}
+use Rattle.lw_match.specs.Values.{plain_mark, marks_in}
+use Rattle.lw_match.specs.Least.{Priced, plain_best, IsPricedAt, IsPricedAtMost, IsLeastMatch}
+use Rattle.lw_label.specs.Labels.{cost_in, costs_of}
+use Rattle.lw_label.specs.Lowering.{AreLowering, HasCostAtMost, weight, IsBounded, Lowers}
+use Rattle.lw_label.proofs.Marked.{label_of_mark, labels_of_marks, marks_of_labels, costs_set, mark_set_same, mark_set_other, priced, standing}
+
+-- the flip of a class is below an even number of classes
+pub flip_below : (n c : ℕ) → n % 2 ≡ 0 → c < n → flip c < n
+unfolding flip
+flip_below zero c even below = absurd (omega arith)
+flip_below (suc zero) c even below = absurd (omega arith)
+flip_below (suc (suc n)) zero even below = omega arith
+flip_below (suc (suc n)) (suc zero) even below = omega arith
+flip_below (suc (suc n)) (suc (suc c)) even below = let ih = flip_below n c (omega arith) (omega arith) in omega (arith, ih)
+
+-- no mark would be lower than that of the best match
+pub at_most_cost : (a b : Priced) → IsPricedAtMost a b → a.mark.cost ≤ b.mark.cost
+at_most_cost a b (inl lt) = omega arith
+at_most_cost a b (inr (e, rest)) = omega arith
+
+module _ (g : Graph) (cost : Cost) (pats : List Pattern) where
+  pub bounded_without : (marks : List (Option Mark)) (c : ℕ) → IsLeastMatch g cost pats (marks_in marks) c None → IsBounded g cost pats marks c
+  bounded_without marks c none cell ps ls m have =
+      let (ms, with_marks, same) = marks_of_labels marks ps ls have in
+      let (b, is, e) = priced g cost pats (marks_in marks) c cell ps ms m with_marks in
+      absurd (none b is)
+
+  pub bounded_by_best : (marks : List (Option Mark)) (c l : ℕ) (best : Best) → labels_in (costs_of marks) c ≡ Some l → l ≤ best.mark.cost → IsLeastMatch g cost pats (marks_in marks) c (Some best) → IsBounded g cost pats marks c
+  bounded_by_best marks c l best label low least cell ps ls m have =
+      let (ms, with_marks, same) = marks_of_labels marks ps ls have in
+      let (b, is, e) = priced g cost pats (marks_in marks) c cell ps ms m with_marks in
+      let le = at_most_cost (plain_best best) b (least.1 b is) in
+      let value : b.mark.cost ≡ cost.value cell ls = ap (λ (k : PlainMark). k.cost) e ∙ ap (cost.value cell) same in
+      (l, label, omega (arith, low, le, value))
+
+  module _ (marks : List (Option Mark)) (c : ℕ) (best : Best) (problem : IsCoverProblem g pats cost) (low : AreLowering g cost pats marks) (below : c < length marks) (least : IsLeastMatch g cost pats (marks_in marks) c (Some best)) where
+    best_value : (plain_best best).mark.cost ≡ cost.value least.0.pattern.cell (costs_in least.0.pin_marks)
+    best_value = ap (λ (k : PlainMark). k.cost) least.0.mark
+
+    best_labels : HaveLabels (labels_in (costs_of marks)) (plain_best best).found.pins (costs_in least.0.pin_marks)
+    best_labels = labels_of_marks marks (plain_best best).found.pins least.0.pin_marks least.0.have
+
+    best_stands : IsMatchAt g cost.pin_counts pats c least.0.pattern.cell (plain_best best).found.pins
+    best_stands = standing g cost pats (marks_in marks) c (plain_best best) least.0
+
+    pub best_capped : best.mark.cost ≤ cost.cap
+    best_capped = subst (λ v. v ≤ cost.cap) (sym best_value) (values_capped g pats cost (costs_of marks) c least.0.pattern.cell (plain_best best).found.pins (costs_in least.0.pin_marks) problem low.sound.attained best_stands best_labels)
+
+    labels_fit : c < length (costs_of marks)
+    labels_fit = let same : length (costs_of marks) ≡ length marks = length-map marks cost_in in omega arith
+
+    module _ (new : Mark) (lt : best.mark.cost < label_weight cost.cap (labels_in (costs_of marks) c)) (same_cost : new.cost ≡ best.mark.cost) (no_height : new.height ≡ 0) where
+      value_is : new.cost ≡ cost.value least.0.pattern.cell (costs_in least.0.pin_marks)
+      value_is = same_cost ∙ best_value
+
+      labels_set : costs_of (slice_set marks c (Some new)) ≡ slice_set (costs_of marks) c (Some (cost.value least.0.pattern.cell (costs_in least.0.pin_marks)))
+      labels_set = costs_set marks c (Some new) ∙ ap (λ v. slice_set (costs_of marks) c (Some v)) value_is
+
+      value_lower : cost.value least.0.pattern.cell (costs_in least.0.pin_marks) < label_weight cost.cap (labels_in (costs_of marks) c)
+      value_lower = subst (λ v. v < label_weight cost.cap (labels_in (costs_of marks) c)) best_value lt
+
+      pub lowered : AreLowering g cost pats (slice_set marks c (Some new))
+      lowered = record {
+        one_each = length-set marks c (Some new) ∙ low.one_each;
+        sound = subst (λ ls. AreSoundIn g pats cost ls) (sym labels_set) (lowered_sound g pats cost (costs_of marks) c least.0.pattern.cell (plain_best best).found.pins (costs_in least.0.pin_marks) low.sound labels_fit best_stands best_labels value_lower);
+        flat = λ b m e. flat_at b m e (cases_eq b c);
+      }
+        where
+          flat_at : (b : ℕ) (m : PlainMark) → marks_in (slice_set marks c (Some new)) b ≡ Some m → (b ≡ c) ⊎ (b ≡ c → ⊥) → m.height ≡ 0
+          flat_at b m e (inl same) = let is : plain_mark new ≡ m = same_Some (plain_mark new) m (sym (mark_set_same marks c new below) ∙ (ap (λ n. marks_in (slice_set marks c (Some new)) n) (sym same) ∙ e)) in sym (ap (λ (k : PlainMark). k.height) is) ∙ no_height
+          flat_at b m e (inr other) = low.flat b m (sym (mark_set_other marks c b (Some new) other) ∙ e)
+
+      pub weight_falls : weight cost (slice_set marks c (Some new)) < weight cost marks
+      weight_falls = subst (λ ls. total_weight cost.cap ls < weight cost marks) (sym labels_set) (total_weight_falls cost.cap (costs_of marks) c (cost.value least.0.pattern.cell (costs_in least.0.pin_marks)) labels_fit value_lower)
+
+  -- What a pass has done when it comes to a class.
+  pub record IsPass (old marks : List (Option Mark)) (changed : Bool) (c : ℕ) : Type 0 where
+    pub low : weight cost marks ≤ weight cost old
+    pub falls : changed ≡ true → weight cost marks < weight cost old
+    pub same : changed ≡ false → marks ≡ old
+    pub bounded : changed ≡ false → (b : ℕ) → b < c → IsBounded g cost pats old (flip b)
+
+  pub pass_start : (marks : List (Option Mark)) → IsPass marks marks false 0
+  pass_start marks = record {
+    low = omega arith;
+    falls = λ e. absurd (true≢false (sym e));
+    same = λ e. refl;
+    bounded = λ e b lt. absurd (omega arith);
+  }
+
+  pub pass_changes : (old marks next : List (Option Mark)) (changed : Bool) (c : ℕ) (at : ℕ → Type 0) → IsPass old marks changed c → Lowers g cost pats marks next at true → IsPass old next true (c + 1)
+  pass_changes old marks next changed c at pass step =
+      let less = step.falls refl in
+      record {
+        low = omega (arith, pass.low, less);
+        falls = λ e. omega (arith, pass.low, less);
+        same = λ e. absurd (true≢false e);
+        bounded = λ e. absurd (true≢false e);
+      }
+
+  pub pass_keeps : (old marks next : List (Option Mark)) (changed : Bool) (c : ℕ) → IsPass old marks changed c → Lowers g cost pats marks next (λ b. b ≡ flip c) false → IsPass old next changed (c + 1)
+  pass_keeps old marks next changed c pass step =
+      let kept = step.same refl in
+      record {
+        low = subst (λ ms. weight cost ms ≤ weight cost old) (sym kept) pass.low;
+        falls = λ e. subst (λ ms. weight cost ms < weight cost old) (sym kept) (pass.falls e);
+        same = λ e. kept ∙ pass.same e;
+        bounded = λ e b lt. bounded_at e b (cases_eq b c) lt;
+      }
+    where
+      bounded_at : changed ≡ false → (b : ℕ) → (b ≡ c) ⊎ (b ≡ c → ⊥) → b < c + 1 → IsBounded g cost pats old (flip b)
+      bounded_at e b (inl same) lt = subst (λ ms. IsBounded g cost pats ms (flip b)) (pass.same e) (step.bounded refl (flip b) (ap flip same))
+      bounded_at e b (inr other) lt = pass.bounded e b (omega arith)
+
+  pub pass_step : (old marks next : List (Option Mark)) (changed lowered' : Bool) (c : ℕ) → IsPass old marks changed c → Lowers g cost pats marks next (λ b. b ≡ flip c) lowered' → IsPass old next (lowered' || changed) (c + 1)
+  pass_step old marks next changed true c pass step = pass_changes old marks next changed c (λ b. b ≡ flip c) pass step
+  pass_step old marks next changed false c pass step = pass_keeps old marks next changed c pass step
+
+  pub pass_ends : (old marks : List (Option Mark)) (changed : Bool) → length g.pairs % 2 ≡ 0 → IsPass old marks changed (length g.pairs) → Lowers g cost pats old marks (λ c. c < length g.pairs) changed
+  pass_ends old marks changed even pass = record {
+    falls = pass.falls;
+    same = pass.same;
+    bounded = λ e c lt. subst (λ b. IsBounded g cost pats old b) (flip-flip c) (pass.bounded e (flip c) (flip_below (length g.pairs) c even lt));
+  }
+
+  -- A class that keeps its mark.
+  pub lowers_nothing : (marks : List (Option Mark)) (c : ℕ) → IsBounded g cost pats marks c → Lowers g cost pats marks marks (λ b. b ≡ c) false
+  lowers_nothing marks c bounded = record {
+    falls = λ e. absurd (true≢false (sym e));
+    same = λ e. refl;
+    bounded = λ e b s. subst (λ a. IsBounded g cost pats marks a) (sym s) bounded;
+  }
+
+  -- A class that gets a lower one.
+  pub lowers_one : (marks next : List (Option Mark)) (c : ℕ) → weight cost next < weight cost marks → Lowers g cost pats marks next (λ b. b ≡ c) true
+  lowers_one marks next c less = record {
+    falls = λ e. less;
+    same = λ e. absurd (true≢false e);
+    bounded = λ e. absurd (true≢false e);
+  }
+
+  -- the best match does not lower the mark of its class
+  pub bounded_by_mark : (marks : List (Option Mark)) (c : ℕ) (best : Best) → HasCostAtMost (slice_index_or marks c None) best.mark.cost → IsLeastMatch g cost pats (marks_in marks) c (Some best) → IsBounded g cost pats marks c
+  bounded_by_mark marks c best (m, at, low) least = bounded_by_best marks c m.cost best (label_of_mark marks c (plain_mark m) (ap (option_map plain_mark) at)) low least
+
+  pub label_is_cost : (marks : List (Option Mark)) (c : ℕ) → labels_in (costs_of marks) c ≡ cost_in (slice_index_or marks c None)
+  label_is_cost [] c = refl
+  label_is_cost (m ∷ marks) zero = refl
+  label_is_cost (m ∷ marks) (suc c) = label_is_cost marks c
+
+  -- once no class of the graph is lowered, none is
+  pub bounded_all : (marks : List (Option Mark)) → length marks ≡ length g.pairs → HasClasses g (length (costs_of marks)) → ((c : ℕ) → c < length g.pairs → IsBounded g cost pats marks c) → AreBoundedIn g pats cost (costs_of marks)
+  bounded_all marks one_each classes bounded c cell ps ls m have =
+      let same : length (costs_of marks) ≡ length marks = length-map marks cost_in in
+      let below = match_in g pats cost (costs_of marks) classes c cell ps ls m have in
+      bounded c (omega (arith, below, same, one_each)) cell ps ls m have
+
+  pub graph_classes : (marks : List (Option Mark)) → IsGraph g → length marks ≡ length g.pairs → HasClasses g (length (costs_of marks))
+  graph_classes marks is one_each =
+      let same : length (costs_of marks) ≡ length marks = length-map marks cost_in in
+      let all : length g.pairs ≡ length (costs_of marks) = omega (arith, same, one_each) in
+      record {
+        all = all;
+        even = subst (λ n. n % 2 ≡ 0) all is.even;
+        one = subst (λ n. g.one < n) all is.one;
+      }

@@ -1,0 +1,5 @@
+pub mod Climbing
+pub mod Falling
+pub mod Inputs
+pub mod Marked
+pub mod Times

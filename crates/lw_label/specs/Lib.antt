@@ -1,0 +1,4 @@
+pub mod Delays
+pub mod Labels
+pub mod Lowering
+pub mod Rising

@@ -1,0 +1,58 @@
+-- Heights that are found along matches that attain labels.
+use Rattle.std.specs.Prelude.{ℕ, suc, ◌<◌, ◌≤◌, ◌≡◌, ◌^◌, Bool, true, false, ◌+◌, List, [], ◌∷◌, length, Option, Some, None, slice_get}
+use Rattle.lw_laws.specs.Graphs.{Graph}
+use Rattle.lw_laws.specs.Costs.{Cost}
+use Rattle.lw_laws.specs.Covers.{Pattern}
+use Rattle.lw_laws.specs.Choices.{IsWithin}
+use Rattle.lw_laws.specs.Matches.{IsMatchAt, choices_of}
+use Rattle.lw_laws.specs.Marks.{Mark as PlainMark, HaveMarks, costs_in, greatest_height}
+use Rattle.lw_laws.specs.Rounds.{labels_in}
+use Rattle.lw_match.specs.declared.mark.Mark.{Mark}
+use Rattle.lw_match.specs.Values.{marks_in}
+use Rattle.lw_label.specs.Labels.{costs_of}
+
+-- gates along matches that attain the labels lead from the class to inputs in h steps at most
+abbrev pub IsWithinSteps : Graph → Cost → List Pattern → List (Option Mark) → ℕ → ℕ → Type 0
+IsWithinSteps g cost pats labels c h = IsWithin (choices_of g cost.pin_counts pats) cost (labels_in (costs_of labels)) c h
+
+-- the class has a mark, whose height is at most h
+abbrev pub HasHeightAtMost : List (Option Mark) → ℕ → ℕ → Type 0
+HasHeightAtMost marks c h = (m : PlainMark) × (marks_in marks c ≡ Some m) × (m.height ≤ h)
+
+-- how many classes have a mark
+abbrev pub marked : List (Option Mark) → ℕ
+marked [] = 0
+marked (None ∷ marks) = marked marks
+marked (Some m ∷ marks) = suc (marked marks)
+
+-- Some classes have a mark: their label, and a number of steps to inputs, which is not above the number of marks.
+pub record AreRising (g : Graph) (cost : Cost) (pats : List Pattern) (labels marks : List (Option Mark)) : Type 0 where
+  pub one_each : length marks ≡ length g.pairs
+  pub costs : (c : ℕ) (m : PlainMark) → marks_in marks c ≡ Some m → labels_in (costs_of labels) c ≡ Some m.cost
+  pub within : (c : ℕ) (m : PlainMark) → marks_in marks c ≡ Some m → IsWithinSteps g cost pats labels c m.height
+  pub inputs : (i c : ℕ) → slice_get g.leaves i ≡ Some c → HasHeightAtMost marks c 0
+  pub low : (c : ℕ) (m : PlainMark) → marks_in marks c ≡ Some m → m.height ≤ marked marks
+
+-- what a class without a mark weighs
+abbrev pub no_height : ℕ
+no_height = 2 ^ 32
+
+abbrev pub height_weight : Option Mark → ℕ
+height_weight None = no_height
+height_weight (Some m) = m.height
+
+-- how far the heights can still fall
+abbrev pub heights_weight : List (Option Mark) → ℕ
+heights_weight [] = 0
+heights_weight (m ∷ marks) = height_weight m + heights_weight marks
+
+-- a match at the class that attains its label, and whose pins have marks, gives it no less height
+abbrev pub IsReached : Graph → Cost → List Pattern → List (Option Mark) → List (Option Mark) → ℕ → Type 0
+IsReached g cost pats labels marks c =
+    (cell : ℕ) (ps : List ℕ) (ms : List PlainMark) → IsMatchAt g cost.pin_counts pats c cell ps → HaveMarks (marks_in marks) ps ms → labels_in (costs_of labels) c ≡ Some (cost.value cell (costs_in ms)) → HasHeightAtMost marks c (suc (greatest_height ms))
+
+-- some height has been found or has fallen, or none has and none would at these classes
+pub record Raises (g : Graph) (cost : Cost) (pats : List Pattern) (labels old new : List (Option Mark)) (at : ℕ → Type 0) (changed : Bool) : Type 0 where
+  pub falls : changed ≡ true → heights_weight new < heights_weight old
+  pub same : changed ≡ false → new ≡ old
+  pub reached : changed ≡ false → (c : ℕ) → at c → IsReached g cost pats labels old c

@@ -1,0 +1,80 @@
+ghost use Rattle.std.specs.Prelude.{◌≡◌, ◌<◌, None, IfOk, length, replicate, slice_index_or};
+ghost use Rattle.lw_match.specs.Least.{AreOfCells};
+ghost use Rattle.lw_label.specs.Labels.{AreLeastMarks};
+
+use crate::heights::{raise_all, start_heights};
+use crate::lowering::{label_inputs, lower_all, no_marks};
+use lw_graph::Graph;
+use lw_match::{Cost, Mark};
+use lw_pattern::Patterns;
+use lw_pool::ClassId;
+use std::alloc::{AllocError, Global};
+use std::marker::Model;
+
+/// Marks of the classes of a graph, in the order of their numbers.
+#[derive(Drop)]
+pub struct Labels {
+    marks: Vec<Option<Mark>>,
+}
+
+impl Model for Labels {
+    ghost use Rattle.std.specs.Prelude.{List, Option};
+    ghost use Rattle.lw_match.specs.declared.mark.Mark.{Mark};
+
+    ghost Value = { List (Option Mark) };
+
+    ghost view = { λ l. l.marks.items };
+}
+
+impl Labels {
+    /// The mark of a class: the least cost of its covers, and its height. None where it has no cover.
+    pub fn mark(&self, class: ClassId) -> Option<Mark>
+        requires { class.0 < length self.now }
+        ensures { result ≡ slice_index_or self.now class.0 None }
+    {
+        self.marks[class.0 as usize]
+    }
+
+    /// The marks of all classes.
+    pub fn marks(&self) -> &[Option<Mark>]
+        ensures { result.now ≡ self.now }
+    {
+        &self.marks
+    }
+}
+
+/// The least cost of a cover of each class, and the height of the class. The memory is taken first; the rounds take none.
+pub fn relabel<C: Cost>(
+    alloc: Global,
+    graph: &Graph,
+    pats: &Patterns,
+    cost: &C,
+) -> Result<Labels, AllocError>
+    requires { AreOfCells (C.costs cost.now).pin_counts pats.now }
+    ensures { IfOk result (AreLeastMarks graph.now (C.costs cost.now) pats.now) }
+{
+    let mut labels = no_marks(alloc, graph)?;
+    let mut marks = no_marks(alloc, graph)?;
+    mark_all(graph, pats, cost, &mut labels, &mut marks);
+    Ok(Labels { marks })
+}
+
+// Fills in the marks of all classes, by way of their labels.
+fn mark_all<C: Cost>(
+    graph: &Graph,
+    pats: &Patterns,
+    cost: &C,
+    labels: &mut [Option<Mark>],
+    marks: &mut [Option<Mark>],
+)
+    requires of_cells { AreOfCells (C.costs cost.now).pin_counts pats.now }
+    requires no_labels { labels.old ≡ replicate (length graph.now.pairs) None }
+    requires no_marks { marks.old ≡ replicate (length graph.now.pairs) None }
+    ensures { AreLeastMarks graph.now (C.costs cost.now) pats.now marks.new }
+{
+    let _ = graph.classes();
+    label_inputs(graph, cost, labels);
+    lower_all(graph, pats, cost, labels);
+    start_heights(graph, labels, marks);
+    raise_all(graph, pats, cost, labels, marks);
+}

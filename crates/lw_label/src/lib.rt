@@ -1,0 +1,10 @@
+//! Labels of classes: the least cost of their covers, and their heights.
+#![tactic(auto)]
+
+mod delay;
+mod heights;
+mod labels;
+mod lowering;
+
+pub use delay::DelayCost;
+pub use labels::{Labels, relabel};

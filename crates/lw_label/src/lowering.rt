@@ -1,0 +1,115 @@
+// Labels in rounds.
+ghost use Rattle.std.specs.Prelude.{◌≡◌, ◌<◌, ◌≤◌, ◌||◌, ℕ, None, Some, true, false, IfOk, length, replicate};
+ghost use Rattle.lw_match.specs.Least.{AreOfCells};
+ghost use Rattle.lw_label.specs.Labels.{cost_in, costs_of};
+ghost use Rattle.lw_label.specs.Lowering.{AreLowering, HasCostAtMost, IsLowerOf, Lowers};
+ghost use Rattle.lw_laws.specs.Laws.{AreBoundedIn, IsCoverProblem};
+ghost use Rattle.lw_laws.specs.Rounds.{label_weight};
+
+use lw_graph::Graph;
+use lw_match::{Cost, Mark, least};
+use lw_pattern::Patterns;
+use lw_pool::ClassId;
+use std::alloc::{AllocError, Global};
+
+// No mark at any class.
+pub(crate) fn no_marks(alloc: Global, graph: &Graph) -> Result<Vec<Option<Mark>>, AllocError>
+    ensures { IfOk result (λ marks. marks.items ≡ replicate (length graph.now.pairs) None) }
+{
+    Ok(vec![in alloc; None; graph.classes() as usize]?)
+}
+
+// Whether a cost is lower than that of a mark, or there is no mark.
+fn is_lower(cost: u64, mark: Option<Mark>) -> bool
+    ensures lower { result ≡ true → (cap : ℕ) → cost ≤ cap → cost < label_weight cap (cost_in mark) }
+    ensures not { result ≡ false → HasCostAtMost mark cost }
+{
+    match mark {
+        Some(mark) => cost < mark.cost,
+        None => true,
+    }
+}
+
+// The mark of a class that may be an input's of this cost.
+fn with_leaf(mark: Option<Mark>, leaf: u64) -> Mark
+    ensures { IsLowerOf mark leaf result }
+{
+    match mark {
+        Some(mark) if mark.cost <= leaf => mark,
+        _ => Mark {
+            cost: leaf,
+            height: 0,
+        },
+    }
+}
+
+// Gives the inputs' classes the costs of their inputs.
+pub(crate) fn label_inputs<C: Cost>(graph: &Graph, cost: &C, marks: &mut [Option<Mark>])
+    requires { marks.old ≡ replicate (length graph.now.pairs) None }
+    ensures { (pats : _) → AreLowering graph.now (C.costs cost.now) pats marks.new }
+{
+    for input in 0..graph.inputs() {
+        let class = graph.leaf(input).0 as usize;
+        marks[class] = Some(with_leaf(marks[class], cost.leaf(input)));
+    }
+}
+
+// Gives a class the least cost of a match whose pins have marks, where that is lower than its own.
+fn lower<C: Cost>(
+    graph: &Graph,
+    pats: &Patterns,
+    cost: &C,
+    marks: &mut [Option<Mark>],
+    class: ClassId,
+) -> bool
+    requires class { class.0 < length graph.now.pairs }
+    requires of_cells { AreOfCells (C.costs cost.now).pin_counts pats.now }
+    requires problem { IsCoverProblem graph.now pats.now (C.costs cost.now) }
+    requires lowering { AreLowering graph.now (C.costs cost.now) pats.now marks.old }
+    ensures lowering { AreLowering graph.now (C.costs cost.now) pats.now marks.new }
+    ensures lowers { Lowers graph.now (C.costs cost.now) pats.now marks.old marks.new (λ c. c ≡ class.0) result }
+{
+    let Some(best) = least(graph, pats, marks, class, cost) else {
+        return false;
+    };
+    if !is_lower(best.mark.cost, marks[class.0 as usize]) {
+        return false;
+    }
+    marks[class.0 as usize] = Some(Mark { cost: best.mark.cost, height: 0 });
+    true
+}
+
+// Whether one of the two is true.
+pub(crate) fn either(one: bool, other: bool) -> bool
+    ensures { result ≡ (one || other) }
+{
+    one || other
+}
+
+// Goes once through the classes, each complement first, and says whether it changed a mark.
+fn lower_each<C: Cost>(graph: &Graph, pats: &Patterns, cost: &C, marks: &mut [Option<Mark>]) -> bool
+    requires of_cells { AreOfCells (C.costs cost.now).pin_counts pats.now }
+    requires problem { IsCoverProblem graph.now pats.now (C.costs cost.now) }
+    requires lowering { AreLowering graph.now (C.costs cost.now) pats.now marks.old }
+    ensures lowering { AreLowering graph.now (C.costs cost.now) pats.now marks.new }
+    ensures lowers { Lowers graph.now (C.costs cost.now) pats.now marks.old marks.new (λ c. c < length graph.now.pairs) result }
+{
+    let mut changed = false;
+    for number in 0..graph.classes() {
+        let lowered = lower(graph, pats, cost, marks, ClassId(number).flip());
+        changed = either(lowered, changed);
+    }
+    changed
+}
+
+// Lowers labels until no match would lower one.
+pub(crate) fn lower_all<C: Cost>(graph: &Graph, pats: &Patterns, cost: &C, marks: &mut [Option<Mark>])
+    requires of_cells { AreOfCells (C.costs cost.now).pin_counts pats.now }
+    requires problem { IsCoverProblem graph.now pats.now (C.costs cost.now) }
+    requires lowering { AreLowering graph.now (C.costs cost.now) pats.now marks.old }
+    ensures lowering { AreLowering graph.now (C.costs cost.now) pats.now marks.new }
+    ensures bounded { AreBoundedIn graph.now pats.now (C.costs cost.now) (costs_of marks.new) }
+{
+    let _ = graph.classes();
+    while lower_each(graph, pats, cost, marks) {}
+}
