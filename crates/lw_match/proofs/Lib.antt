@@ -8,3 +8,6 @@ pub mod Ranking
 pub mod Steps
 pub mod Starting
 pub mod Found
+pub mod Wholes
+pub mod Nexts
+pub mod Soughts

@@ -9,6 +9,7 @@ mod job;
 mod mark;
 mod pins;
 mod search;
+mod seeking;
 
 pub use cost::Cost;
 pub use finding::least;
