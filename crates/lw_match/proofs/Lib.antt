@@ -11,3 +11,8 @@ pub mod Found
 pub mod Wholes
 pub mod Nexts
 pub mod Soughts
+pub mod Cursors
+pub mod Rooting
+pub mod Members
+pub mod Visits
+pub mod Visiting

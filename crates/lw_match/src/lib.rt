@@ -3,6 +3,7 @@
 
 mod binding;
 mod cost;
+mod cursor;
 mod finding;
 mod goals;
 mod job;
@@ -12,6 +13,7 @@ mod search;
 mod seeking;
 
 pub use cost::Cost;
+pub use cursor::Cursor;
 pub use finding::least;
 pub use mark::{Best, Mark, Match};
 pub use pins::Pins;
