@@ -16,3 +16,4 @@ pub mod Rooting
 pub mod Members
 pub mod Visits
 pub mod Visiting
+pub mod AllMatches
