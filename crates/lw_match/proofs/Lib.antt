@@ -17,3 +17,4 @@ pub mod Members
 pub mod Visits
 pub mod Visiting
 pub mod AllMatches
+pub mod MatchExamples
