@@ -8,3 +8,13 @@ pub mod Ranking
 pub mod Steps
 pub mod Starting
 pub mod Found
+pub mod Wholes
+pub mod Nexts
+pub mod Soughts
+pub mod Cursors
+pub mod Rooting
+pub mod Members
+pub mod Visits
+pub mod Visiting
+pub mod AllMatches
+pub mod MatchExamples

@@ -1,4 +1,6 @@
+pub mod Coming
 pub mod Jobs
 pub mod Least
 pub mod Searching
+pub mod Seeking
 pub mod Values

@@ -3,14 +3,17 @@
 
 mod binding;
 mod cost;
+mod cursor;
 mod finding;
 mod goals;
 mod job;
 mod mark;
 mod pins;
 mod search;
+mod seeking;
 
 pub use cost::Cost;
+pub use cursor::Cursor;
 pub use finding::least;
 pub use mark::{Best, Mark, Match};
 pub use pins::Pins;
