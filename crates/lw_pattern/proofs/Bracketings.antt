@@ -1,8 +1,8 @@
 -- Lists of trees, one more at a time.
-use Rattle.std.proofs.Common.{ℕ, ◌+◌, ◌-◌, ◌<◌, ◌≡◌, List, [], ◌∷◌, ◌++◌, length, map, take, drop, set, get_or, min, sym, ap, ◌∙◌, append_assoc, append-nil, length-append, length-take, length-drop, arith}
-use Rattle.std.proofs.lemmas.List.{take_more, drop_more, map_more, set_at, get_or_at, length-map}
+use Rattle.std.proofs.Common.{ℕ, ◌+◌, ◌-◌, ◌<◌, ◌≤◌, ◌≡◌, List, [], ◌∷◌, ◌++◌, length, map, take, drop, set, get_or, min, refl, sym, ap, ap₂, ◌∙◌, append_assoc, append-nil, length-append, length-take, length-drop, arith}
+use Rattle.std.proofs.lemmas.List.{take_more, drop_more, map_more, set_at, get_or_at, take_at, take_all, drop_all, length-map}
 use Rattle.lw_laws.specs.Trees.{Tree}
-use Rattle.lw_laws.specs.Patterns.{Operator, each_with, all_pairs}
+use Rattle.lw_laws.specs.Patterns.{Operator, tree_by, each_with, all_pairs}
 
 all_pairs_more : (op : Operator) (ts : List Tree) (t : Tree) (us : List Tree) → all_pairs op (ts ++ t ∷ []) us ≡ all_pairs op ts us ++ each_with op t us
 all_pairs_more op [] t us = append-nil (each_with op t us)
@@ -32,3 +32,17 @@ changed_next f items xs i x y e lt made =
     ∙ (set_at (map f (take i xs)) (get_or xs i x) (drop (i + 1) xs) y i at
     ∙ (ap (λ z. map f (take i xs) ++ z ∷ drop (i + 1) xs) (made ∙ ap f same)
     ∙ (sym (append_assoc (map f (take i xs)) (f (get_or xs i x) ∷ []) (drop (i + 1) xs)) ∙ ap (λ ts. ts ++ drop (i + 1) xs) (sym whole))))
+
+pub changed_end : (f : Tree → Tree) (items xs inside : List Tree) (i n : ℕ) → items ≡ map f (take i xs) ++ drop i xs → length items ≤ i → length items ≡ n → take n (items ++ drop (length items) inside) ≡ map f xs
+changed_end f items xs inside i n e past size =
+    let all : length items ≡ length (map f (take i xs)) + length (drop i xs) = ap length e ∙ length-append (map f (take i xs)) (drop i xs) in
+    let front : length (map f (take i xs)) ≡ min i (length xs) = length-map (take i xs) f ∙ length-take i xs in
+    let back : length (drop i xs) ≡ length xs - i = length-drop i xs in
+    let within : length xs ≤ i = omega arith in
+    take_at items (drop (length items) inside) n size
+    ∙ (e ∙ (ap₂ (λ ts us. map f ts ++ us) (take_all i xs within) (drop_all i xs within) ∙ append-nil (map f xs)))
+
+-- pairs with one tree alone
+pub pairs_alone : (op : Operator) (ts : List Tree) (u : Tree) → map (λ t. tree_by op t u) ts ≡ all_pairs op ts (u ∷ [])
+pairs_alone op [] u = refl
+pairs_alone op (t ∷ ts) u = ap (λ ps. tree_by op t u ∷ ps) (pairs_alone op ts u)

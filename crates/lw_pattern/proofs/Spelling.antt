@@ -1,5 +1,5 @@
 -- Trees and the steps that spell them.
-use Rattle.std.proofs.Common.{◌≡◌, true, List, [], ◌∷◌, ◌++◌, refl, sym, ap, ◌∙◌, append_assoc, append-nil}
+use Rattle.std.proofs.Common.{◌≡◌, true, List, [], ◌∷◌, ◌++◌, refl, sym, ap, ap₂, ◌∙◌, append_assoc, append-nil}
 use Rattle.std.specs.Prelude.{fold}
 use Rattle.lw_laws.specs.Trees.{Tree, leaf, const_one, const_zero, inv, nand}
 use Rattle.lw_laws.specs.Patterns.{inverted, tree_by}
@@ -70,3 +70,9 @@ pub joined_is : (operator : Operator) (t u : Tree) (none first second whole : Li
     → whole ≡ second ++ operator_steps operator → whole ≡ steps_of (tree_by (law_operator operator) t u)
 joined_is operator t u none first second whole e f g h =
     h ∙ (ap (λ s. s ++ operator_steps operator) (g ∙ ap (λ s. s ++ steps_of (operand_of operator u)) (f ∙ ap (λ s. s ++ steps_of (operand_of operator t)) e)) ∙ joined_steps operator t u)
+
+-- a tail behind the left operand
+pub with_tail : (operator : Operator) (t u : Tree) (before tail whole : List Step) → before ≡ steps_of (operand_of operator t) → tail ≡ steps_of (operand_of operator u) ++ operator_steps operator → whole ≡ before ++ tail
+    → whole ≡ steps_of (tree_by (law_operator operator) t u)
+with_tail operator t u before tail whole e f g =
+    g ∙ (ap₂ (λ s r. s ++ r) e f ∙ (sym (append_assoc (steps_of (operand_of operator t)) (steps_of (operand_of operator u)) (operator_steps operator)) ∙ joined_steps operator t u))

@@ -1,5 +1,5 @@
 -- Trees as lists of steps in postfix order.
-use Rattle.std.specs.Prelude.{Bool, true, false, List, [], ◌∷◌, ◌++◌, fold}
+use Rattle.std.specs.Prelude.{◌≡◌, Bool, true, false, List, [], ◌∷◌, ◌++◌, fold}
 use Rattle.lw_laws.specs.Trees.{Tree, leaf, const_one, const_zero, inv, nand}
 use Rattle.lw_laws.specs.Patterns.{Operator as LawOperator, inverted}
 use Rattle.lw_laws.specs.Patterns.Operator.{and_op, or_op}
@@ -56,6 +56,10 @@ operand_of Or t = inverted t
 abbrev pub operator_steps : Operator → List Step
 operator_steps And = Both ∷ Not ∷ []
 operator_steps Or = Both ∷ []
+
+-- what stands behind the left operand where the tree is the right one
+abbrev pub IsTail : Operator → Tree → List Step → Type 0
+IsTail operator u tail = tail ≡ steps_of (operand_of operator u) ++ operator_steps operator
 
 abbrev pub is_complement : Tree → Bool
 is_complement (leaf k) = false

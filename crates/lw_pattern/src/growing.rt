@@ -8,7 +8,7 @@ ghost use Rattle.lw_pattern.specs.Growing.{joined_by, trees_by, first_trees, IsW
 
 use crate::counting::bracketing_count;
 use crate::shape::Shape;
-use crate::shapes::{Shapes, four, left_chain, pairs, three};
+use crate::shapes::{Shapes, four, left_chain, three};
 use crate::step::{Bracketing, Operator};
 use lw_genlib::{Expr, ExprOp};
 use std::alloc::{AllocError, Global};
@@ -88,7 +88,8 @@ fn join_last(
     ensures { OnOk result (stack.new.items ≡ take (vec_len stack.old - parts) stack.old.items ++ joined_by way (law_operator operator) (drop (vec_len stack.old - parts) stack.old.items) ∷ []) }
 {
     let base = stack.len() - usize::from(parts);
-    let trees = joined(alloc, way, operator, &stack[base..])?;
+    let first = stack.remove(base);
+    let trees = joined(alloc, way, operator, first, &stack[base..])?;
     stack.truncate(base);
     stack.push(trees)?;
     Ok(())
@@ -98,17 +99,17 @@ fn joined(
     alloc: Global,
     way: Bracketing,
     operator: Operator,
-    parts: &[Shapes],
+    first: Shapes,
+    rest: &[Shapes],
 ) -> Result<Shapes, AllocError>
-    requires { 2 ≤ length parts.now }
-    ensures { IfOk result (λ trees. trees ≡ joined_by way (law_operator operator) parts.now) }
+    requires { 1 ≤ length rest.now }
+    ensures { IfOk result (λ trees. trees ≡ joined_by way (law_operator operator) (first ∷ rest.now)) }
 {
-    if way == Bracketing::Every && parts.len() == 3 {
-        three(alloc, operator, &parts[0], &parts[1], &parts[2])
-    } else if way == Bracketing::Every && parts.len() == 4 {
-        four(alloc, operator, &parts[0], &parts[1], &parts[2], &parts[3])
+    if way == Bracketing::Every && rest.len() == 2 {
+        three(alloc, operator, &first, &rest[0], &rest[1])
+    } else if way == Bracketing::Every && rest.len() == 3 {
+        four(alloc, operator, &first, &rest[0], &rest[1], &rest[2])
     } else {
-        let first = pairs(alloc, operator, &parts[0], &parts[1])?;
-        left_chain(alloc, operator, first, &parts[2..])
+        left_chain(alloc, operator, first, rest)
     }
 }

@@ -35,7 +35,7 @@ impl Model for Patterns {
 }
 
 impl Patterns {
-    ghost use Rattle.std.specs.Prelude.{◌≡◌, ◌<◌, Some, length, map, slice_get};
+    ghost use Rattle.std.specs.Prelude.{◌≡◌, ◌<◌, ◌≤◌, Some, length, map, slice_get};
     ghost use Rattle.lw_pattern.specs.Listed.{pattern_of, IsKept, AreKept};
 
     pub(crate) fn new(items: Vec<Pattern>) -> Self
@@ -47,7 +47,8 @@ impl Patterns {
 
     /// The number of patterns.
     pub fn len(&self) -> u32
-        ensures { result ≡ length self.now }
+        ensures len { result ≡ length self.now }
+        ensures few { result ≤ 262144 }
     {
         self.items.len() as u32
     }

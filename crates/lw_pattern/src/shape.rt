@@ -1,8 +1,8 @@
 // Trees that grow out of their operands.
 ghost use Rattle.std.specs.Prelude.{◌≡◌, ◌++◌, ◌∷◌, [], OnOk, IfOk, IsTrue};
-ghost use Rattle.lw_laws.specs.Trees.{leaf};
+ghost use Rattle.lw_laws.specs.Trees.{Tree, leaf};
 ghost use Rattle.lw_laws.specs.Patterns.{inverted, tree_by, constant_tree};
-ghost use Rattle.lw_pattern.specs.Steps.{steps_of, spelled, is_single, is_complement, law_operator, operand_of, operator_steps};
+ghost use Rattle.lw_pattern.specs.Steps.{steps_of, spelled, is_single, is_complement, law_operator, operand_of, operator_steps, IsTail};
 
 use crate::step::{Operator, Step};
 use std::alloc::{AllocError, Global};
@@ -68,6 +68,36 @@ impl Shape {
         right.push_operand(operator, &mut steps)?;
         push_operator(operator, &mut steps)?;
         Ok(Shape { steps })
+    }
+
+    /// Joins the tree with the one that a tail is made of.
+    pub(crate) fn join(&mut self, operator: Operator, tail: &[Step]) -> Result<(), AllocError>
+        requires { (u : Tree) × IsTail operator u tail.now }
+        ensures { (u : Tree) → IsTail operator u tail.now → OnOk result (self.new ≡ tree_by (law_operator operator) self.old u) }
+    {
+        self.become_operand(operator)?;
+        self.steps.extend_from_slice(tail)?;
+        Ok(())
+    }
+
+    // Puts what stands under the NAND of the operator in the place of the tree.
+    fn become_operand(&mut self, operator: Operator) -> Result<(), AllocError>
+        ensures { OnOk result (self.new ≡ operand_of operator self.old) }
+    {
+        if operator == Operator::Or {
+            self.invert()?;
+        }
+        Ok(())
+    }
+
+    /// What stands behind the other operand's steps where this tree is the right operand.
+    pub(crate) fn tail(&self, alloc: Global, operator: Operator) -> Result<Vec<Step>, AllocError>
+        ensures { IfOk result (λ tail. IsTail operator self.now tail.items) }
+    {
+        let mut tail = Vec::new(alloc);
+        self.push_operand(operator, &mut tail)?;
+        push_operator(operator, &mut tail)?;
+        Ok(tail)
     }
 
     /// The steps.

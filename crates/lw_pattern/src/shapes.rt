@@ -62,6 +62,22 @@ impl Shapes {
         Ok(())
     }
 
+    // Joins each tree with another one.
+    fn join_each(
+        &mut self,
+        alloc: Global,
+        operator: Operator,
+        other: &Shape,
+    ) -> Result<(), AllocError>
+        ensures { OnOk result (self.new ≡ all_pairs (law_operator operator) self.old (other.now ∷ [])) }
+    {
+        let tail = other.tail(alloc, operator)?;
+        for shape in self.items.iter_mut() {
+            shape.join(operator, &tail)?;
+        }
+        Ok(())
+    }
+
     // Appends a tree joined with each of the others.
     fn push_each(
         &mut self,
@@ -156,7 +172,10 @@ pub(crate) fn left_chain(
 {
     let mut chain = first;
     for next in rest {
-        chain = pairs(alloc, operator, &chain, next)?;
+        match next.as_slice() {
+            [alone] => chain.join_each(alloc, operator, alone)?,
+            _ => chain = pairs(alloc, operator, &chain, next)?,
+        }
     }
     Ok(chain)
 }
