@@ -4,3 +4,4 @@ pub mod Naming
 pub mod Sharing
 pub mod Settling
 pub mod Classing
+pub mod Spreading

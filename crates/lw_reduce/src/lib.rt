@@ -6,3 +6,4 @@ mod classes;
 mod facts;
 mod names;
 mod rounds;
+mod spread;
