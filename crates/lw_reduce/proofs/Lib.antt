@@ -5,3 +5,6 @@ pub mod Sharing
 pub mod Settling
 pub mod Classing
 pub mod Spreading
+pub mod InPlace
+pub mod Members
+pub mod Roots

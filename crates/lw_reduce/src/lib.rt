@@ -6,4 +6,5 @@ mod classes;
 mod facts;
 mod names;
 mod rounds;
+mod rows;
 mod spread;

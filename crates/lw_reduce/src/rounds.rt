@@ -32,7 +32,7 @@ fn join_linked(names: &mut [u32], nands: &[Fact], links: &[Link]) -> bool
 }
 
 // A fact in terms of names, the lower part first.
-fn renamed(names: &[u32], fact: Fact) -> Fact
+pub(crate) fn renamed(names: &[u32], fact: Fact) -> Fact
     requires { IsFactIn (length names.now) fact }
     ensures { result ≡ renamed_fact names.now fact }
 {
