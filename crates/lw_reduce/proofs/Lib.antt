@@ -8,3 +8,4 @@ pub mod Spreading
 pub mod InPlace
 pub mod Members
 pub mod Roots
+pub mod Strict
