@@ -9,3 +9,4 @@ pub mod InPlace
 pub mod Members
 pub mod Roots
 pub mod Strict
+pub mod Closed
