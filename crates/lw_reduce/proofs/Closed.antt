@@ -1,10 +1,9 @@
 -- Settled names are closed under links and facts, so two forms have one name exactly where they are equivalent.
-use Rattle.std.proofs.Common.{ℕ, suc, zero, ◌/◌, ◌<◌, ◌≤◌, ◌≡◌, ◌^◌, ◌⊎◌, ◌↔◌, inl, inr, min, max, List, length, map, get_or, All, Contains, refl, ap, ap₂, sym, ◌∙◌, subst, arith}
+use Rattle.std.proofs.Common.{ℕ, ◌/◌, ◌<◌, ◌≤◌, ◌≡◌, ◌^◌, ◌↔◌, inl, inr, min, max, List, map, get_or, Contains, ap, ap₂, sym, ◌∙◌, arith}
 use native.Mathlib.Decide.{dec_le}
 use Rattle.std.proofs.lemmas.List.Elements.{All-contains}
 use Rattle.std.proofs.lemmas.List.Sorted.{Contains-permutation}
 use Rattle.lw_laws.specs.Families.{IsNand, Equivalent}
-use Rattle.lw_laws.specs.Families.Equivalent.{turned as turned_by, joined}
 use Rattle.lw_laws.proofs.Closure.{name_is_class}
 use Rattle.lw_laws.proofs.Lists.{in_map}
 use Rattle.lw_laws.specs.Flip.{flip}

@@ -10,3 +10,6 @@ pub mod Members
 pub mod Roots
 pub mod Strict
 pub mod Closed
+pub mod Reduced
+pub mod Drafting
+pub mod Assembled

@@ -1,5 +1,5 @@
 -- Members of lists that are mapped, filtered, or left without repeats.
-use Rattle.std.proofs.Common.{ℕ, zero, suc, ◌+◌, ◌<◌, ◌≡◌, ◌≢◌, Bool, true, false, cond, List, [], ◌∷◌, length, map, filter, Contains, refl, ap, sym, ◌∙◌, subst, arith, true≢false}
+use Rattle.std.proofs.Common.{zero, suc, ◌≡◌, Bool, true, false, cond, List, [], ◌∷◌, map, filter, Contains, refl, ap, sym, ◌∙◌, subst, arith}
 use Rattle.std.specs.List.{AllByRecursion, dedup, dedup_from}
 use Rattle.lw_laws.proofs.Lists.{all_contains, contains_all}
 

@@ -1,11 +1,11 @@
 -- Classes of names that are their own: different ones have different classes, and classes rise with them.
-use Rattle.std.proofs.Common.{ℕ, zero, suc, ◌+◌, ◌-◌, ◌*◌, ◌/◌, ◌%◌, ◌<◌, ◌≤◌, ◌≡◌, ◌≢◌, ◌==◌, ◌⊎◌, inl, inr, List, length, slice_index, refl, ap, sym, ◌∙◌, subst, arith, if◌then◌else◌}
+use Rattle.std.proofs.Common.{ℕ, zero, suc, ◌+◌, ◌*◌, ◌/◌, ◌%◌, ◌<◌, ◌≡◌, ◌==◌, List, length, slice_index, refl, ap, sym, ◌∙◌, arith, if◌then◌else◌}
 use native.Mathlib.Decide.{ℕ_discrete, dec_lt}
 use Rattle.lw_laws.specs.Flip.{flip}
 use Rattle.lw_laws.specs.Graphs.{pair_count}
 use Rattle.lw_laws.proofs.Flips.{half-flip, odd-flip, flip_even}
 use Rattle.lw_reduce.specs.Classing.{AreClasses}
-use Rattle.lw_reduce.specs.Names.{IsFlat, name_of, turned}
+use Rattle.lw_reduce.specs.Names.{name_of, turned}
 use Rattle.lw_reduce.proofs.Keeping.{name_of-turned}
 use Rattle.lw_reduce.proofs.Naming.{half-turned, turned_same}
 

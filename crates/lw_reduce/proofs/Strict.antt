@@ -1,20 +1,18 @@
 -- Settled facts in terms of classes rise strictly in the order of their parts once repeats are gone.
-use Rattle.std.proofs.Common.{ℕ, zero, suc, ◌+◌, ◌-◌, ◌*◌, ◌/◌, ◌^◌, ◌<◌, ◌≤◌, ◌≡◌, ◌≢◌, ◌==◌, ◌&&◌, ◌⊎◌, ◌↔◌, inl, inr, min, max, Bool, true, false, cond, List, [], ◌∷◌, length, map, get_or, All, Contains, refl, ap, ap₂, sym, ◌∙◌, subst, arith, true≢false}
+use Rattle.std.proofs.Common.{ℕ, zero, suc, ◌+◌, ◌-◌, ◌/◌, ◌^◌, ◌<◌, ◌≤◌, ◌≡◌, ◌==◌, ◌&&◌, ◌⊎◌, inl, inr, min, max, Bool, true, false, cond, List, [], ◌∷◌, length, map, get_or, All, Contains, refl, ap, ap₂, sym, ◌∙◌, subst, arith, true≢false}
 use native.Mathlib.Decide.{ℕ_discrete, dec_lt}
 use Rattle.std.specs.List.{AllByRecursion, dedup, dedup_from}
-use Rattle.std.specs.List.Sorted.{IsNonDecreasingBy, IsPermutation}
 use Rattle.std.proofs.lemmas.List.Elements.{All-get_or, All-map, All-contains, Contains-get_or}
-use Rattle.std.proofs.lemmas.List.Sorted.{All-permutation, Contains-permutation, IsPermutation-sym}
+use Rattle.std.proofs.lemmas.List.Sorted.{All-permutation}
 use Rattle.std.proofs.lemmas.List.{get_or-map, length-map}
-use Rattle.lw_laws.proofs.Lists.{all_contains, contains_all, all_map}
-use Rattle.lw_laws.specs.Graphs.{pair_count}
+use Rattle.lw_laws.proofs.Lists.{all_contains, contains_all}
 use Rattle.lw_reduce.specs.declared.facts.Fact.{Fact}
 use Rattle.lw_reduce.specs.declared.facts.Link.{Link}
 use Rattle.lw_reduce.specs.Classing.{AreClasses}
-use Rattle.lw_reduce.specs.Names.{CanName, IsFactIn, IsFlat, name_of}
+use Rattle.lw_reduce.specs.Names.{IsFactIn, name_of}
 use Rattle.lw_reduce.specs.Rows.{IsStrict, same_fact}
-use Rattle.lw_reduce.specs.Settling.{AgreesAt, IsSettled, fact_key, no_fact, renamed_fact}
-use Rattle.lw_reduce.proofs.Members.{dedup_all, map_back}
+use Rattle.lw_reduce.specs.Settling.{IsSettled, fact_key, no_fact, renamed_fact}
+use Rattle.lw_reduce.proofs.Members.{dedup_all}
 use Rattle.lw_reduce.proofs.Roots.{IsRoot, class_rises, class_below, class_name}
 use Rattle.lw_reduce.proofs.Settling.{min_max}
 

@@ -1,4 +1,4 @@
-use Rattle.std.proofs.Common.{◌≡◌, ◌+◌, ◌++◌, ◌/◌, ◌<◌, ◌∙◌, length, get_or, slice_set, map, take, drop, sym, ap, subst}
+use Rattle.std.proofs.Common.{◌≡◌, ◌∙◌, length, get_or, slice_set, sym, ap, subst}
 use Rattle.lw_reduce.specs.Names.{IsFactIn}
 use Rattle.lw_reduce.specs.Settling.{renamed_fact}
 use Rattle.lw_reduce.specs.declared.facts.Fact.{Fact}
