@@ -1,4 +1,4 @@
-ghost use Rattle.std.specs.Prelude.{◌≡◌, ◌+◌, ◌^◌, ◌<◌, ◌++◌, [], ◌∷◌, ◌↔◌, IsTrue, List, length, sum_by, OnOk, OnErr, Some, slice_get, slice_index, vec_len};
+ghost use Rattle.std.specs.Prelude.{◌≡◌, ◌+◌, ◌<◌, ℕ, ◌++◌, [], ◌∷◌, ◌↔◌, IsTrue, length, OnOk, OnErr, Some, slice_get, slice_index};
 ghost use Rattle.std.specs.List.{slice_range};
 ghost use Rattle.lw_graph.specs.Rows.{AreEnds, rows_from, start_at};
 
@@ -67,8 +67,10 @@ impl PairLists {
 
     /// The lists whose pairs stand one after the other, and of which each ends where it is said, without memory.
     pub fn flat(pairs: Vec<Pair>, ends: Vec<usize>) -> Self
-        requires { AreEnds (vec_len pairs) 0 ends.items }
-        ensures { result ≡ rows_from pairs.items 0 ends.items }
+        requires { AreEnds (length pairs.items) 0 ends.items }
+        ensures lists { result ≡ rows_from pairs.items 0 ends.items }
+        ensures count { length result ≡ length ends.items }
+        ensures at { (place : ℕ) → place < length ends.items → slice_get result place ≡ Some (slice_range pairs.items (start_at 0 ends.items place) (slice_index ends.items place)) }
     {
         PairLists { pairs, ends }
     }

@@ -1,17 +1,15 @@
 -- Numbering goes on by one base form.
-use Rattle.std.proofs.Common.{ℕ, zero, suc, ◌+◌, ◌*◌, ◌/◌, ◌%◌, ◌<◌, ◌≤◌, ◌≡◌, ◌≢◌, ◌==◌, ◌⊎◌, inl, inr, Bool, true, false, List, [], ◌∷◌, ◌++◌, length, slice_index, refl, ap, sym, ◌∙◌, subst, arith, if◌then◌else◌, length-append}
+use Rattle.std.proofs.Common.{ℕ, suc, ◌+◌, ◌*◌, ◌/◌, ◌%◌, ◌<◌, ◌≡◌, ◌≢◌, ◌==◌, ◌⊎◌, inl, inr, true, false, List, [], ◌∷◌, ◌++◌, length, slice_index, refl, ap, sym, ◌∙◌, subst, arith, if◌then◌else◌, length-append}
 use native.Mathlib.Decide.{ℕ_discrete}
 use Rattle.std.proofs.Math.ListN.{get_or-append}
 use Rattle.std.proofs.Math.Seq.{get_or-append_seam}
-use Rattle.std.proofs.lemmas.Bool.Decides.{nat_tests}
-use Rattle.lw_laws.specs.Flip.{flip}
 use Rattle.lw_laws.specs.Graphs.{AreNumberedFrom, pair_count}
 use Rattle.lw_reduce.specs.Classing.{AreClasses}
 use Rattle.lw_reduce.specs.Names.{IsLower, name_of, turned}
 use Rattle.lw_reduce.proofs.Naming.{half-turned}
 use Rattle.lw_reduce.proofs.Keeping.{turned_double, half_double}
 
-name_of-double : (forms : List ℕ) (k : ℕ) → name_of forms (2 * k) ≡ slice_index forms k
+pub name_of-double : (forms : List ℕ) (k : ℕ) → name_of forms (2 * k) ≡ slice_index forms k
 name_of-double forms k =
     turned_double k (slice_index forms (2 * k / 2)) ∙ ap (slice_index forms) (half_double k)
 

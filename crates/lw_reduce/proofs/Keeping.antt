@@ -1,15 +1,15 @@
 -- One change of names after others, and names that are made flat.
-use Rattle.std.proofs.Common.{ℕ, suc, zero, ◌+◌, ◌*◌, ◌/◌, ◌%◌, ◌<◌, ◌≤◌, ◌≡◌, ◌≢◌, ◌==◌, ◌⊎◌, inl, inr, Bool, true, false, List, [], ◌∷◌, get_or, length, All, slice_index, slice_set, refl, ap, sym, ◌∙◌, subst, arith, true≢false, get_or-set_same, get_or-set_other, if◌then◌else◌}
+use Rattle.std.proofs.Common.{ℕ, suc, zero, ◌+◌, ◌*◌, ◌/◌, ◌%◌, ◌<◌, ◌≤◌, ◌≡◌, ◌≢◌, ◌==◌, ◌⊎◌, inl, inr, Bool, true, false, List, [], ◌∷◌, get_or, length, slice_index, slice_set, refl, ap, sym, ◌∙◌, subst, arith, get_or-set_same, if◌then◌else◌}
 use native.Mathlib.Decide.{ℕ_discrete}
 use Rattle.std.specs.List.{AllWithin, HoldsAt}
 use Rattle.std.proofs.lemmas.List.Elements.{AllWithin-more}
 use Rattle.lw_laws.specs.Flip.{flip}
-use Rattle.lw_laws.specs.Families.{Family, Equivalent}
+use Rattle.lw_laws.specs.Families.{Equivalent}
 use Rattle.lw_laws.specs.Families.Equivalent.{joined}
 use Rattle.lw_laws.proofs.Flips.{class_of-flip}
 use Rattle.lw_reduce.specs.declared.facts.Fact.{Fact}
 use Rattle.lw_reduce.specs.declared.facts.Link.{Link}
-use Rattle.lw_reduce.specs.Names.{family, turned, name_of, IsFlat, IsFlatBelow, name_weight, CanName, Keeps, Progresses, LinkAgrees}
+use Rattle.lw_reduce.specs.Names.{family, turned, name_of, IsFlat, IsFlatBelow, CanName, Keeps, Progresses, LinkAgrees}
 use Rattle.lw_reduce.proofs.Naming.{half-turned, set_can, set_weight, elsewhere}
 
 pub name_of-flip : (names : List ℕ) (f : ℕ) → name_of names (flip f) ≡ flip (name_of names f)

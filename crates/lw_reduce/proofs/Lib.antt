@@ -4,3 +4,12 @@ pub mod Naming
 pub mod Sharing
 pub mod Settling
 pub mod Classing
+pub mod Spreading
+pub mod InPlace
+pub mod Members
+pub mod Roots
+pub mod Strict
+pub mod Closed
+pub mod Reduced
+pub mod Drafting
+pub mod Assembled

@@ -1,14 +1,14 @@
 -- Names that take a lower equivalent name stay sound, and weigh no more.
-use Rattle.std.proofs.Common.{ℕ, suc, zero, ◌+◌, ◌*◌, ◌/◌, ◌%◌, ◌<◌, ◌≤◌, ◌≡◌, ◌≢◌, ◌==◌, ◌⊎◌, ◌↔◌, inl, inr, Bool, true, false, List, [], ◌∷◌, get_or, length, All, Contains, slice_index, slice_set, refl, ap, sym, ◌∙◌, subst, subst₂, arith, true≢false, get_or-set_same, get_or-set_other, length-set, if◌then◌else◌}
+use Rattle.std.proofs.Common.{ℕ, suc, zero, ◌+◌, ◌*◌, ◌/◌, ◌%◌, ◌<◌, ◌≤◌, ◌≡◌, ◌≢◌, ◌==◌, ◌⊎◌, inl, inr, Bool, true, false, List, length, slice_index, slice_set, refl, ap, sym, ◌∙◌, subst, subst₂, arith, true≢false, get_or-set_same, get_or-set_other, length-set, if◌then◌else◌}
 use native.Mathlib.Decide.{ℕ_discrete, dec_lt}
 use Rattle.std.proofs.lemmas.List.Sums.{sum_by-set}
 use Rattle.lw_laws.specs.Flip.{flip}
-use Rattle.lw_laws.specs.Families.{Family, IsNand, Equivalent}
-use Rattle.lw_laws.specs.Families.Equivalent.{same, turned as turned_by, joined, linked, flipped, nanded}
+use Rattle.lw_laws.specs.Families.{Family, Equivalent}
+use Rattle.lw_laws.specs.Families.Equivalent.{same, turned as turned_by, joined, flipped}
 use Rattle.lw_laws.proofs.Flips.{flip-flip, half-flip, odd-flip, flip_even}
 use Rattle.lw_reduce.specs.declared.facts.Fact.{Fact}
 use Rattle.lw_reduce.specs.declared.facts.Link.{Link}
-use Rattle.lw_reduce.specs.Names.{family, turned, name_of, AreSound, IsFlat, name_weight, CanName, Keeps, Progresses, IsClimbing, IsFound}
+use Rattle.lw_reduce.specs.Names.{family, turned, name_of, AreSound, IsFlat, name_weight, CanName, Progresses, IsClimbing, IsFound}
 
 by_digit : (r s c : ℕ) → r < 2 → s < 2 → r ≡ s → (if r == 0 then (if s == 0 then c else flip c) else flip (if s == 0 then c else flip c)) ≡ c
 by_digit zero zero c a b e = refl

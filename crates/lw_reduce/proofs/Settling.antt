@@ -1,14 +1,14 @@
 -- A round that changes nothing has given equivalent forms one name.
-use Rattle.std.proofs.Common.{ℕ, zero, suc, ◌+◌, ◌-◌, ◌*◌, ◌/◌, ◌^◌, ◌<◌, ◌≤◌, ◌≡◌, ◌⊎◌, ◌↔◌, inl, inr, min, max, Bool, true, false, List, length, map, get_or, All, Contains, refl, ap, sym, ◌∙◌, subst, arith}
+use Rattle.std.proofs.Common.{ℕ, ◌+◌, ◌/◌, ◌<◌, ◌≤◌, ◌≡◌, ◌⊎◌, inl, inr, min, max, List, length, map, get_or, All, Contains, sym, ◌∙◌, subst, arith}
 use native.Mathlib.Decide.{ℕ_discrete, dec_le}
 use Rattle.std.specs.List.Sorted.{IsNonDecreasingBy, IsPermutation}
 use Rattle.std.proofs.lemmas.List.Elements.{All-map, All-contains, Contains-get_or}
-use Rattle.std.proofs.lemmas.List.Sorted.{All-permutation, Contains-permutation}
+use Rattle.std.proofs.lemmas.List.Sorted.{All-permutation}
 use Rattle.lw_laws.specs.Families.{Equivalent}
 use Rattle.lw_reduce.specs.declared.facts.Fact.{Fact}
 use Rattle.lw_reduce.specs.declared.facts.Link.{Link}
 use Rattle.lw_reduce.specs.Names.{CanName, HasParts, IsFlat, LinkAgrees, family, name_of}
-use Rattle.lw_reduce.specs.Settling.{AgreesAt, IsRenamed, IsSettled, fact_key, no_fact, renamed_fact}
+use Rattle.lw_reduce.specs.Settling.{AgreesAt, IsRenamed, IsSettled, fact_key, renamed_fact}
 
 -- the lower and the higher of two numbers are these two
 pub min_max : (l r : ℕ) → ((min l r ≡ l) × (max l r ≡ r)) ⊎ ((min l r ≡ r) × (max l r ≡ l))
@@ -64,3 +64,6 @@ module _ (n : ℕ) (nands : List Fact) (links : List Link) where
       by_place : (place : ℕ) → 1 ≤ place → place < i + 1 → Dec (place ≡ i) → AgreesAt old rows i → AgreesAt old rows place
       by_place place a b (yes e) here = subst (λ k. AgreesAt old rows k) (sym e) here
       by_place place a b (no ne) here = agree place a (omega arith)
+
+  pub settled_at : (names : List ℕ) (rows : List Fact) → IsSettled n nands links names rows → IsSettled (length names) nands links names rows
+  settled_at names rows is = subst (λ m. IsSettled m nands links names rows) (sym is.can.count) is

@@ -1,7 +1,12 @@
 -- Classes of base forms, by the names of base forms.
 use Rattle.std.specs.Prelude.{ℕ, ◌*◌, ◌/◌, ◌%◌, ◌<◌, ◌≤◌, ◌≡◌, List, length, slice_index}
+use Rattle.lw_pool.specs.declared.id.ClassId.{ClassId}
 use Rattle.lw_laws.specs.Graphs.{AreNumberedFrom, pair_count}
 use Rattle.lw_reduce.specs.Names.{name_of}
+
+-- a number as a class
+abbrev pub mark : ℕ → ClassId
+mark n = record { 0 = n }
 
 -- The classes of the first base forms: numbered by first base forms, each as its name's, and rising with names that are
 -- their own.

@@ -1,5 +1,5 @@
 -- Names of forms, and when they are sound and closed.
-use Rattle.std.specs.Prelude.{ℕ, ◌*◌, ◌/◌, ◌%◌, ◌<◌, ◌≤◌, Bool, true, false, All, ◌≡◌, ◌==◌, ◌⊎◌, List, length, Contains, slice_index, sum_by, if◌then◌else◌}
+use Rattle.std.specs.Prelude.{ℕ, ◌*◌, ◌/◌, ◌%◌, ◌<◌, ◌≤◌, Bool, true, All, ◌≡◌, ◌==◌, ◌⊎◌, List, length, Contains, slice_index, sum_by, if◌then◌else◌}
 use Rattle.lw_laws.specs.Flip.{flip}
 use Rattle.lw_laws.specs.Families.{Family, IsNand, Equivalent}
 use Rattle.lw_reduce.specs.declared.facts.Fact.{Fact}

@@ -1,5 +1,5 @@
 // The classes of forms: pairs of classes are numbered by their first base forms.
-ghost use Rattle.std.specs.Prelude.{◌≡◌, ◌*◌, ◌<◌, ◌≤◌, ◌^◌, ℕ, length, map, vec_len, IfOk};
+ghost use Rattle.std.specs.Prelude.{◌≡◌, ◌*◌, ◌<◌, ◌≤◌, ◌^◌, ℕ, length, map, IfOk};
 ghost use Rattle.lw_laws.specs.Graphs.{pair_count};
 ghost use Rattle.lw_reduce.specs.Classing.{AreClasses};
 ghost use Rattle.lw_reduce.specs.Names.{IsLower};
@@ -19,7 +19,7 @@ pub(crate) fn number(alloc: Global, names: &[u32]) -> Result<Numbered, AllocErro
     requires few { length names.now < 2 ^ 31 }
     requires lower { IsLower names.now }
     ensures classes { IfOk result (λ n. AreClasses names.now n.forms.items) }
-    ensures count { IfOk result (λ n. vec_len n.forms ≡ length names.now) }
+    ensures count { IfOk result (λ n. length n.forms.items ≡ length names.now) }
     ensures pairs { IfOk result (λ n. n.pairs ≡ pair_count 0 n.forms.items) }
 {
     let mut forms = Vec::with_capacity(alloc, names.len())?;

@@ -3,6 +3,13 @@
 
 mod cascade;
 mod classes;
+mod draft;
 mod facts;
 mod names;
+mod reduction;
 mod rounds;
+mod rows;
+mod spread;
+
+pub use draft::Draft;
+pub use reduction::reduce;

@@ -32,7 +32,7 @@ fn join_linked(names: &mut [u32], nands: &[Fact], links: &[Link]) -> bool
 }
 
 // A fact in terms of names, the lower part first.
-fn renamed(names: &[u32], fact: Fact) -> Fact
+pub(crate) fn renamed(names: &[u32], fact: Fact) -> Fact
     requires { IsFactIn (length names.now) fact }
     ensures { result ≡ renamed_fact names.now fact }
 {
@@ -77,13 +77,7 @@ fn sorted_facts(alloc: Global, names: &[u32], nands: &[Fact]) -> Result<Vec<Fact
 }
 
 // Gives the form at a place the name of the one before it, where their parts are the same.
-fn join_at(
-    names: &mut [u32],
-    nands: &[Fact],
-    links: &[Link],
-    rows: &[Fact],
-    place: usize,
-) -> bool
+fn join_at(names: &mut [u32], nands: &[Fact], links: &[Link], rows: &[Fact], place: usize) -> bool
     requires can { CanName (length names.old) nands.now links.now names.old }
     requires rows { All (IsRenamed (length names.old) nands.now links.now) rows.now }
     requires start { 1 ≤ place }

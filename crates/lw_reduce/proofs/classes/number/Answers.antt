@@ -1,4 +1,4 @@
-use Rattle.std.proofs.Common.{◌≡◌, ◌∙◌, ◌+◌, ◌*◌, ◌++◌, ◌∷◌, [], length, sym, ap, refl, slice_index}
+use Rattle.std.proofs.Common.{◌≡◌, ◌∙◌, ◌+◌, ◌*◌, ◌++◌, ◌∷◌, [], length, ap, refl, slice_index}
 use Rattle.std.proofs.lemmas.List.{length_push}
 use Rattle.lw_reduce.specs.Names.{name_of}
 use Rattle.lw_reduce.proofs.Classing.{number_root, number_low}

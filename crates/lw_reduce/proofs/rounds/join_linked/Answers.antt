@@ -1,4 +1,4 @@
-use Rattle.std.proofs.Common.{length, get_or, sym, ◌∙◌, true≢false}
+use Rattle.std.proofs.Common.{length, sym, ◌∙◌, true≢false}
 use Rattle.std.proofs.lemmas.List.Elements.{Contains-get_or}
 use Rattle.lw_laws.specs.Families.Equivalent.{linked}
 use Rattle.lw_reduce.specs.declared.facts.Link.{Link}

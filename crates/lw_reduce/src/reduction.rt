@@ -1,0 +1,105 @@
+// The graph of a draft's classes.
+ghost use Rattle.std.specs.Prelude.{◌≡◌, ◌+◌, ◌*◌, ◌<◌, ◌≤◌, ◌^◌, ℕ, Bool, List, length, map, slice_index, IfOk};
+ghost use Rattle.lw_laws.specs.Drafts.{IsReduced};
+ghost use Rattle.lw_reduce.specs.Drafting.{plain_draft};
+ghost use Rattle.lw_reduce.specs.Classing.{mark};
+ghost use Rattle.lw_reduce.specs.Names.{CanName};
+ghost use Rattle.lw_reduce.specs.Settling.{IsSettled};
+
+use crate::Draft;
+use crate::classes::number;
+use crate::facts::{Fact, Link};
+use crate::rounds::settle;
+use crate::rows::class_rows;
+use crate::spread::spread;
+use lw_graph::Graph;
+use lw_pool::{ClassId, Classes};
+use std::alloc::{AllocError, Global};
+
+// Each base form is its own name.
+fn own_names(alloc: Global, samples: &[bool]) -> Result<Vec<u32>, AllocError>
+    requires { length samples.now < 2 ^ 31 }
+    ensures count { IfOk result (λ v. length v.items ≡ length samples.now) }
+    ensures own { IfOk result (λ v. (b : ℕ) → b < length samples.now → slice_index v.items b ≡ 2 * b) }
+{
+    let mut names = Vec::with_capacity(alloc, samples.len())?;
+    for base in 0..samples.len() {
+        names.push(base as u32 * 2)?;
+    }
+    Ok(names)
+}
+
+// Numbers as classes.
+fn marked(alloc: Global, numbers: &[u32]) -> Result<Vec<ClassId>, AllocError>
+    ensures { IfOk result (λ classes. classes.items ≡ map mark numbers.now) }
+{
+    numbers.iter().map(|n| ClassId(*n)).collect(alloc)
+}
+
+// Numbers as a list of classes.
+fn classes_of(alloc: Global, numbers: &[u32]) -> Result<Classes, AllocError>
+    ensures { IfOk result (λ classes. classes ≡ map mark numbers.now) }
+{
+    Ok(Classes::from_vec(marked(alloc, numbers)?))
+}
+
+// The graph of settled names.
+fn graph_of(
+    alloc: Global,
+    inputs: u32,
+    names: &[u32],
+    nands: &[Fact],
+    links: &[Link],
+    rows: Vec<Fact>,
+) -> Result<Graph, AllocError>
+    requires settled { IsSettled (length names.now) nands.now links.now names.now rows.items }
+    requires few { length names.now < 2 ^ 31 }
+    requires inputs { inputs < length names.now }
+    ensures { IfOk result (λ graph. (samples : List Bool) → length samples ≡ length names.now → IsReduced (plain_draft inputs samples nands.now links.now) graph) }
+{
+    let numbered = number(alloc, names)?;
+    let rows = class_rows(&numbered.forms, rows);
+    let lists = spread(alloc, &rows, numbered.pairs as usize * 2)?;
+    let leaves = classes_of(alloc, &numbered.forms[1..inputs as usize + 1])?;
+    let forms = classes_of(alloc, &numbered.forms)?;
+    let one = ClassId(numbered.forms[0]);
+    Ok(Graph::new(one, leaves, forms, lists))
+}
+
+// The graph of base forms that each are their own name.
+fn graph_by(
+    alloc: Global,
+    inputs: u32,
+    names: &mut [u32],
+    nands: &[Fact],
+    links: &[Link],
+) -> Result<Graph, AllocError>
+    requires can { CanName (length names.old) nands.now links.now names.old }
+    requires few { length names.old < 2 ^ 31 }
+    requires inputs { inputs < length names.old }
+    ensures { IfOk result (λ graph. (samples : List Bool) → length samples ≡ length names.old → IsReduced (plain_draft inputs samples nands.now links.now) graph) }
+{
+    let rows = settle(alloc, names, nands, links)?;
+    let graph = graph_of(alloc, inputs, names, nands, links, rows)?;
+    Ok(graph)
+}
+
+/// The graph of the classes of a draft's forms.
+///
+/// Two forms have one class exactly where they are equivalent: linked forms are, the complements of equivalent forms are, and forms that
+/// are NANDs of equivalent forms, in this order or exchanged, are, and no others but by these. Pairs of classes are numbered by their
+/// first base forms, without gaps; a class holds a pair of classes, the lower one first, where some NAND fact has its form in this class
+/// and its parts in those two. Pairs stand in rising order, each once.
+pub fn reduce(alloc: Global, draft: Draft) -> Result<Graph, AllocError>
+    ensures { IfOk result (IsReduced draft) }
+{
+    let Draft {
+        inputs,
+        samples,
+        nands,
+        links,
+    } = draft;
+    let mut names = own_names(alloc, &samples)?;
+    let graph = graph_by(alloc, inputs, &mut names, &nands, &links)?;
+    Ok(graph)
+}
