@@ -1,4 +1,4 @@
--- How many splits there are.
+-- How many splits and classes there are.
 use Rattle.std.specs.Prelude.{ℕ, length}
 use Rattle.std.specs.List.{sum_by}
 use Rattle.lw_laws.specs.Modes.Mode.{plain}
@@ -9,6 +9,10 @@ use Rattle.lw_laws.specs.Occurring.{splits_of}
 -- how many there are at most
 abbrev pub most_splits : ℕ
 most_splits = 16777216
+
+-- how many classes a graph of listed forms has at most
+abbrev pub most_classes : ℕ
+most_classes = 4194304
 
 abbrev pub base_splits : Base → ℕ
 base_splits (base_and fs) = splits_of plain (length fs)

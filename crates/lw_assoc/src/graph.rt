@@ -10,7 +10,7 @@ ghost use Rattle.lw_laws.specs.Classes.{IsGraphOf};
 ghost use Rattle.lw_laws.specs.Decompositions.{listing_of};
 ghost use Rattle.lw_laws.specs.Occurring.{occurring_forms, split_count};
 ghost use Rattle.lw_laws.specs.Mapped.{forms_of};
-ghost use Rattle.lw_assoc.specs.Splits.{most_splits, numbered_splits};
+ghost use Rattle.lw_assoc.specs.Splits.{most_classes, most_splits, numbered_splits};
 ghost use Rattle.lw_assoc.specs.declared.fault.GraphFault.TheVariants.{Limit};
 
 use crate::GraphFault;
@@ -28,6 +28,7 @@ pub fn build(alloc: Global, forms: &Forms) -> Result<Graph, GraphFault>
     ensures limit_of_network { (width : ℕ) (net : Network) → forms.now ≡ forms_of width net → (result ≡ Err Limit) ↔ (most_splits < split_count plain (occurring_forms width net)) }
     ensures graph { IfOk result (λ g. (width : ℕ) (net : Network) → 2 ≤ width → forms.now ≡ forms_of width net → IsGraphOf plain net.inputs (listing_of width net) g) }
     ensures written { IfOk result (λ g. IsWritten (length forms.now.bases) forms.now.inputs g) }
+    ensures few { IfOk result (λ g. length g.pairs ≤ most_classes) }
     ensures encodes { IfOk result (λ g. Encodes (family_of plain forms.now) g) }
     ensures trees { IfOk result (λ g. HasNumberedTrees plain forms.now g) }
     ensures values { IfOk result (λ g. (x value : ℕ → Bool) → AreNumberedValues forms.now x value → HasNumberedTruth plain forms.now g x value) }

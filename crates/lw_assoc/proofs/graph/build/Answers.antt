@@ -1,6 +1,6 @@
 use Rattle.std.proofs.Common.{◌∙◌, ap, rules}
 use Rattle.lw_assoc.specs.Splits.{numbered_splits}
-use Rattle.lw_assoc.proofs.Built.{built_encodes, built_graph, built_once, built_trees, built_values}
+use Rattle.lw_assoc.proofs.Built.{built_encodes, built_few, built_graph, built_once, built_trees, built_values}
 use Rattle.lw_assoc.proofs.Counts.{network_splits}
 use Rattle.lw_assoc.proofs.graph.build.Goals as goal
 
@@ -29,6 +29,9 @@ returns-clause-limit_of_network c = λ width net e.
 
 pub returns-clause-graph : goal.returns-clause-graph
 returns-clause-graph c = built_graph c.args.forms.now c.split_count.ensures.kept c.in_ok-draft.draft c.in_ok-draft.ensures c.in_ok-reduce.field-0 c.in_ok-reduce.ensures
+
+pub returns-clause-few : goal.returns-clause-few
+returns-clause-few c = built_few c.args.forms.now c.split_count.ensures.kept c.in_ok-draft.draft c.in_ok-draft.ensures c.in_ok-reduce.field-0 c.in_ok-reduce.ensures
 
 pub returns-clause-encodes : goal.returns-clause-encodes
 returns-clause-encodes c = built_encodes c.args.forms.now c.split_count.ensures.kept c.in_ok-draft.draft c.in_ok-draft.ensures c.in_ok-reduce.field-0 c.in_ok-reduce.ensures
