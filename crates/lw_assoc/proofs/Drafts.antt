@@ -1,0 +1,250 @@
+-- One more base form, split or link.
+use Rattle.std.proofs.Common.{◌≡◌, ◌+◌, ◌-◌, ◌*◌, ◌/◌, ◌%◌, ◌^◌, ◌<◌, ◌≤◌, ◌⊎◌, inl, inr, ℕ, zero, suc, Bool, true, false, not, ◌&&◌, List, [], ◌∷◌, ◌++◌, length, Option, Some, Contains, slice_get, slice_index_or, replicate, refl, ap, ap₂, sym, ◌∙◌, subst, arith, length-append, if◌then◌else◌, ◌==◌}
+use native.Mathlib.Decide.{dec_lt}
+use Rattle.std.proofs.lemmas.List.Elements.{Contains-append_left, Contains-push, Contains-push_cases}
+use Rattle.lw_laws.specs.Modes.Mode.{plain}
+use Rattle.lw_laws.specs.NumberedForms.{Base, NumberedForms, IsPart, IsCutOf, NumberOccurs, IsSignal}
+use Rattle.lw_laws.specs.NumberedForms.Base.{base_true, base_input, base_and}
+use Rattle.lw_laws.specs.NumberedValues.{AreNumberedValues}
+use Rattle.lw_laws.specs.Drafts.{Draft, NandFact, FormLink}
+use Rattle.lw_laws.proofs.Lists.{slice_get_in}
+use Rattle.lw_laws.proofs.Flips.{flip_even}
+use Rattle.lw_laws.proofs.NumberedForms.{splits_occur}
+use Rattle.lw_laws.proofs.NumberedValues.{form_values_fit}
+use Rattle.lw_form.specs.Bases.{picked}
+use Rattle.lw_form.specs.Kept.{AreForms}
+use Rattle.lw_assoc.specs.Drafting.{other, IsSplitBy, HasSplit, HasSplitsUpTo, IsSplitting, HasLinksUpTo, HasSamples, HasBases, AddsBases, AddsNands, AddsLinks, AddsSplit, first_draft, with_base, with_nand, with_link}
+use Rattle.lw_reduce.specs.Drafting.{sample_of, IsKnown}
+use Rattle.lw_assoc.proofs.Masks.{unpicked, cut_by, picked_other}
+
+same_base : (o : Option Base) (a b : Base) → o ≡ Some a → o ≡ Some b → a ≡ b
+same_base o a b e d = cc
+
+same_operands : (o : Option Base) (fs hs : List ℕ) → o ≡ Some (base_and fs) → o ≡ Some (base_and hs) → fs ≡ hs
+same_operands o fs hs e d = cc
+
+falses : (n j : ℕ) → slice_index_or (replicate n false) j false ≡ false
+falses zero j = refl
+falses (suc n) zero = refl
+falses (suc n) (suc j) = falses n j
+
+index_before : (samples : List Bool) (s : Bool) (b : ℕ) → b < length samples → slice_index_or (samples ++ s ∷ []) b false ≡ slice_index_or samples b false
+index_before [] s b lt = absurd (omega arith)
+index_before (t ∷ samples) s zero lt = refl
+index_before (t ∷ samples) s (suc b) lt = index_before samples s b (omega arith)
+
+index_last : (samples : List Bool) (s : Bool) → slice_index_or (samples ++ s ∷ []) (length samples) false ≡ s
+index_last [] s = refl
+index_last (t ∷ samples) s = index_last samples s
+
+module _ (forms : NumberedForms) (are : AreForms forms) where
+  -- true and the inputs are listed
+  pub inputs_within : forms.inputs + 1 ≤ length forms.bases
+  inputs_within = by_count forms.inputs refl where
+    by_count : (n : ℕ) → forms.inputs ≡ n → forms.inputs + 1 ≤ length forms.bases
+    by_count zero e = let lt = slice_get_in forms.bases 0 base_true are.in_order.first in omega arith
+    by_count (suc n) e = let lt = slice_get_in forms.bases (n + 1) (base_input n) (are.in_order.inputs n (omega arith)) in omega arith
+
+  pub first_bases : HasBases forms (forms.inputs + 1) (first_draft forms.inputs)
+  first_bases = record { inputs = refl; count = count forms.inputs; samples = at } where
+    count : (n : ℕ) → length (true ∷ replicate n false) ≡ n + 1
+    count zero = refl
+    count (suc n) = let c = count n in omega arith
+
+    at : HasSamples forms (true ∷ replicate forms.inputs false)
+    at value values zero lt = sym (values.bases 0 base_true are.in_order.first)
+    at value values (suc j) lt =
+        let c = count forms.inputs in
+        let p : slice_get forms.bases (suc j) ≡ Some (base_input j) = subst (λ k. slice_get forms.bases k ≡ Some (base_input j)) (omega arith) (are.in_order.inputs j (omega arith)) in
+        falses forms.inputs j ∙ sym (values.bases (suc j) (base_input j) p)
+
+  -- one more base form
+  pub more_bases : (old new : Draft) (b : ℕ) (s : Bool) → HasBases forms b old → ((value : ℕ → Bool) → AreNumberedValues forms (λ i. false) value → s ≡ value (2 * b)) → new ≡ with_base old s → HasBases forms (b + 1) new
+  more_bases old new b s has is e = subst (λ d. HasBases forms (b + 1) d) (sym e) (record {
+    inputs = has.inputs;
+    count = length-append old.samples (s ∷ []) ∙ ap (λ n. n + 1) has.count;
+    samples = λ value values k lt. by_place value values k (let c = length-append old.samples (s ∷ []) in let h = has.count in omega arith) (dec_lt k b);
+  }) where
+    by_place : (value : ℕ → Bool) → AreNumberedValues forms (λ i. false) value → (k : ℕ) → k < b + 1 → Dec (k < b) → slice_index_or (old.samples ++ s ∷ []) k false ≡ value (2 * k)
+    by_place value values k lt (yes before) =
+        let c = has.count in
+        let in' : k < length old.samples = omega arith in
+        index_before old.samples s k in' ∙ has.samples value values k in'
+    by_place value values k lt (no ge) =
+        let c = has.count in
+        let last : length old.samples ≡ k = omega arith in
+        let at : b ≡ k = omega arith in
+        subst (λ j. slice_index_or (old.samples ++ s ∷ []) j false ≡ s) last (index_last old.samples s) ∙ (is value values ∙ ap (λ j. value (2 * j)) at)
+
+  pub added_bases : (old mid new : Draft) (s : Bool) → AddsBases old mid → new ≡ with_base mid s → AddsBases old new
+  added_bases old mid new s adds e = subst (λ d. AddsBases old d) (sym e) (record { nands = adds.nands; links = adds.links })
+
+  module _ (d : Draft) (has : HasBases forms (length forms.bases) d) where
+    -- the sample of a form is its value
+    sample_is : (value : ℕ → Bool) → AreNumberedValues forms (λ i. false) value → (f : ℕ) → NumberOccurs forms f → sample_of d.samples f ≡ value f
+    sample_is value values f o = by_bit (f % 2) refl where
+      at : slice_index_or d.samples (f / 2) false ≡ value (2 * (f / 2))
+      at = has.samples value values (f / 2) (subst (λ n. f / 2 < n) (sym has.count) o)
+
+      by_bit : (k : ℕ) → f % 2 ≡ k → (if k == 0 then slice_index_or d.samples (f / 2) false else not (slice_index_or d.samples (f / 2) false)) ≡ value f
+      by_bit zero e = at ∙ ap value (omega arith)
+      by_bit (suc zero) e = ap not at ∙ (sym (values.flips (2 * (f / 2))) ∙ ap value (flip_even (2 * (f / 2)) (f / 2) refl ∙ omega arith))
+      by_bit (suc (suc k)) e = absurd (omega arith)
+
+    known : (f : ℕ) → NumberOccurs forms f → f / 2 < length d.samples
+    known f o = subst (λ n. f / 2 < n) (sym has.count) o
+
+    pub cut_known : (f x y : ℕ) → IsCutOf forms f x y → IsKnown d.samples f × IsKnown d.samples x × IsKnown d.samples y
+    cut_known f x y c =
+        let (o, p, q) = splits_occur plain forms are.numbered plain f x y c in
+        (known f o, known x p, known y q)
+
+    pub cut_sample : (f x y : ℕ) → IsCutOf forms f x y → sample_of d.samples f ≡ not (sample_of d.samples x && sample_of d.samples y)
+    cut_sample f x y c =
+        let (o, p, q) = splits_occur plain forms are.numbered plain f x y c in
+        let (value, values) = are.values (λ i. false) in
+        sample_is value values f o ∙ ((form_values_fit forms (λ i. false) value values plain).splits f x y c ∙ ap₂ (λ a b. not (a && b)) (sym (sample_is value values x p)) (sym (sample_is value values y q)))
+
+    pub link_known : (f h : ℕ) → IsSignal forms f h → IsKnown d.samples f × IsKnown d.samples h
+    link_known f h s = let (o, p) = are.numbered.signals f h s in (known f o, known h p)
+
+    pub link_sample : (f h : ℕ) → IsSignal forms f h → sample_of d.samples f ≡ sample_of d.samples h
+    link_sample f h s =
+        let (o, p) = are.numbered.signals f h s in
+        let (value, values) = are.values (λ i. false) in
+        sample_is value values f o ∙ (values.signals f h s ∙ sym (sample_is value values h p))
+
+  -- the two parts of a mask are a cut
+  pub mask_cut : (b mask rest x y : ℕ) (fs : List ℕ) → slice_get forms.bases b ≡ Some (base_and fs) → mask < 2 ^ length fs → rest ≡ other fs mask → IsPart forms (picked fs mask) x → IsPart forms (picked fs rest) y → IsCutOf forms (2 * b + 1) x y
+  mask_cut b mask rest x y fs e lt r p q =
+      (b, fs, picked fs mask, unpicked fs mask, e, refl, cut_by fs mask, p, subst (λ hs. IsPart forms hs y) (ap (picked fs) r ∙ picked_other fs mask lt) q)
+
+  pub split_added : (old new : Draft) (b mask rest x y : ℕ) (fs : List ℕ) → slice_get forms.bases b ≡ Some (base_and fs) → rest ≡ other fs mask → IsPart forms (picked fs mask) x → IsPart forms (picked fs rest) y → new ≡ with_nand old (record { form = 2 * b + 1; left = x; right = y }) → AddsSplit forms b mask old new
+  split_added old new b mask rest x y fs e r p q added = record {
+    fact = record { form = 2 * b + 1; left = x; right = y };
+    is = λ hs d.
+        let same = same_operands (slice_get forms.bases b) fs hs e d in
+        record {
+          form = refl;
+          left = subst (λ l. IsPart forms (picked l mask) x) same p;
+          right = subst (λ l. IsPart forms (picked l (other l mask)) y) same (subst (λ k. IsPart forms (picked fs k) y) r q);
+        };
+    added = added;
+  }
+
+  cut_of_split : (b mask : ℕ) (fs : List ℕ) (n : NandFact) → slice_get forms.bases b ≡ Some (base_and fs) → mask < 2 ^ length fs → IsSplitBy forms b fs mask n → IsCutOf forms n.form n.left n.right
+  cut_of_split b mask fs n e lt is =
+      subst (λ f. IsCutOf forms f n.left n.right) (sym is.form) (mask_cut b mask (other fs mask) n.left n.right fs e lt refl is.left is.right)
+
+  pub splits_begin : (b : ℕ) (nands : List NandFact) → HasSplitsUpTo forms b nands → IsSplitting forms b 1 nands
+  splits_begin b nands before = record { before = before; begun = λ fs mask e one lt half. absurd (omega arith) }
+
+  -- one more split
+  pub splits_next : (old new : Draft) (b mask : ℕ) (fs : List ℕ) → slice_get forms.bases b ≡ Some (base_and fs) → mask < 2 ^ length fs → AddsSplit forms b mask old new → IsSplitting forms b mask old.nands → IsSplitting forms b (mask + 1) new.nands
+  splits_next old new b mask fs e lt adds so_far = subst (λ (d : Draft). IsSplitting forms b (mask + 1) d.nands) (sym adds.added) (record {
+    before = record {
+      are = λ n c. one_of n (Contains-push_cases old.nands adds.fact n c);
+      all = λ a before hs m at one half. more a hs m (so_far.before.all a before hs m at one half);
+    };
+    begun = λ hs m at one below half. by_place hs m at one half (dec_lt m mask) below;
+  }) where
+    one_of : (n : NandFact) → Contains old.nands n ⊎ (adds.fact ≡ n) → IsCutOf forms n.form n.left n.right
+    one_of n (inl c) = so_far.before.are n c
+    one_of n (inr s) = subst (λ (k : NandFact). IsCutOf forms k.form k.left k.right) s (cut_of_split b mask fs adds.fact e lt (adds.is fs e))
+
+    more : (a : ℕ) (hs : List ℕ) (m : ℕ) → HasSplit forms old.nands a hs m → HasSplit forms (old.nands ++ adds.fact ∷ []) a hs m
+    more a hs m (n, c, is) = (n, Contains-append_left old.nands (adds.fact ∷ []) n c, is)
+
+    by_place : (hs : List ℕ) (m : ℕ) → slice_get forms.bases b ≡ Some (base_and hs) → 1 ≤ m → m < 2 ^ (length hs - 1) → Dec (m < mask) → m < mask + 1 → HasSplit forms (old.nands ++ adds.fact ∷ []) b hs m
+    by_place hs m at one half (yes below) le = more b hs m (so_far.begun hs m at one below half)
+    by_place hs m at one half (no ge) le =
+        let same : mask ≡ m = omega arith in
+        subst (λ k. HasSplit forms (old.nands ++ adds.fact ∷ []) b hs k) same (adds.fact, Contains-push old.nands adds.fact, adds.is hs at)
+
+  pub splits_end : (b bound : ℕ) (fs : List ℕ) (nands : List NandFact) → slice_get forms.bases b ≡ Some (base_and fs) → 2 ^ (length fs - 1) ≤ bound → IsSplitting forms b bound nands → HasSplitsUpTo forms (b + 1) nands
+  splits_end b bound fs nands e le so_far = record {
+    are = so_far.before.are;
+    all = λ a lt hs m at one half. by_place a hs m (dec_lt a b) lt at one half;
+  } where
+    by_place : (a : ℕ) (hs : List ℕ) (m : ℕ) → Dec (a < b) → a < b + 1 → slice_get forms.bases a ≡ Some (base_and hs) → 1 ≤ m → m < 2 ^ (length hs - 1) → HasSplit forms nands a hs m
+    by_place a hs m (yes lt) le' at one half = so_far.before.all a lt hs m at one half
+    by_place a hs m (no ge) le' at one half =
+        let same : b ≡ a = omega arith in
+        let at' : slice_get forms.bases b ≡ Some (base_and hs) = subst (λ k. slice_get forms.bases k ≡ Some (base_and hs)) (sym same) at in
+        let l = ap length (same_operands (slice_get forms.bases b) fs hs e at') in
+        let top = subst (λ k. 2 ^ (k - 1) ≤ bound) l le in
+        subst (λ k. HasSplit forms nands k hs m) same (so_far.begun hs m at' one (omega arith) half)
+
+  -- a base form that is no And has no splits
+  pub splits_none : (b : ℕ) (base : Base) (nands : List NandFact) → slice_get forms.bases b ≡ Some base → ((fs : List ℕ) → base ≡ base_and fs → ⊥) → HasSplitsUpTo forms b nands → HasSplitsUpTo forms (b + 1) nands
+  splits_none b base nands e ne so_far = record {
+    are = so_far.are;
+    all = λ a lt hs m at one half. by_place a hs m (dec_lt a b) lt at one half;
+  } where
+    by_place : (a : ℕ) (hs : List ℕ) (m : ℕ) → Dec (a < b) → a < b + 1 → slice_get forms.bases a ≡ Some (base_and hs) → 1 ≤ m → m < 2 ^ (length hs - 1) → HasSplit forms nands a hs m
+    by_place a hs m (yes lt) le at one half = so_far.all a lt hs m at one half
+    by_place a hs m (no ge) le at one half =
+        let same : b ≡ a = omega arith in
+        absurd (ne hs (same_base (slice_get forms.bases b) base (base_and hs) e (subst (λ k. slice_get forms.bases k ≡ Some (base_and hs)) (sym same) at)))
+
+  abbrev link_of : ℕ → ℕ → FormLink
+  link_of f h = record { left = f; right = h }
+
+  pub links_next : (old new : Draft) (s f h : ℕ) → slice_get forms.sops s ≡ Some f → slice_get forms.facs s ≡ Some h → new ≡ with_link old (record { left = f; right = h }) → HasLinksUpTo forms s old.links → HasLinksUpTo forms (s + 1) new.links
+  links_next old new s f h e g added so_far = subst (λ (d : Draft). HasLinksUpTo forms (s + 1) d.links) (sym added) (record {
+    are = λ l c. one_of l (Contains-push_cases old.links (link_of f h) l c);
+    all = λ k p q lt at to. by_place k p q (dec_lt k s) lt at to;
+  }) where
+    one_of : (l : FormLink) → Contains old.links l ⊎ (link_of f h ≡ l) → IsSignal forms l.left l.right
+    one_of l (inl c) = so_far.are l c
+    one_of l (inr t) = subst (λ (k : FormLink). IsSignal forms k.left k.right) t (s, e, g)
+
+    by_place : (k p q : ℕ) → Dec (k < s) → k < s + 1 → slice_get forms.sops k ≡ Some p → slice_get forms.facs k ≡ Some q → Contains (old.links ++ link_of f h ∷ []) (record { left = p; right = q })
+    by_place k p q (yes lt) le at to = Contains-append_left old.links (link_of f h ∷ []) (record { left = p; right = q }) (so_far.all k p q lt at to)
+    by_place k p q (no ge) le at to =
+        let same : k ≡ s = omega arith in
+        let at' = subst (λ j. slice_get forms.sops j ≡ Some p) same at in
+        let to' = subst (λ j. slice_get forms.facs j ≡ Some q) same to in
+        let fp : f ≡ p = cc in
+        let hq : h ≡ q = cc in
+        subst (λ k. Contains (old.links ++ link_of f h ∷ []) (record { left = p; right = k })) hq (subst (λ k. Contains (old.links ++ link_of f h ∷ []) (record { left = k; right = h })) fp (Contains-push old.links (link_of f h)))
+
+-- what stays where only facts or links are added
+pub bases_with_nands : (forms : NumberedForms) (n : ℕ) (old new : Draft) → AddsNands old new → HasBases forms n old → HasBases forms n new
+bases_with_nands forms n old new adds has = record {
+  inputs = adds.inputs ∙ has.inputs;
+  count = ap length adds.samples ∙ has.count;
+  samples = subst (HasSamples forms) (sym adds.samples) has.samples;
+}
+
+pub bases_with_links : (forms : NumberedForms) (n : ℕ) (old new : Draft) → AddsLinks old new → HasBases forms n old → HasBases forms n new
+bases_with_links forms n old new adds has = record {
+  inputs = adds.inputs ∙ has.inputs;
+  count = ap length adds.samples ∙ has.count;
+  samples = subst (HasSamples forms) (sym adds.samples) has.samples;
+}
+
+pub nands_by_split : (forms : NumberedForms) (b mask : ℕ) (old mid new : Draft) → AddsNands old mid → AddsSplit forms b mask mid new → AddsNands old new
+nands_by_split forms b mask old mid new adds split = subst (AddsNands old) (sym split.added) (record { inputs = adds.inputs; samples = adds.samples; links = adds.links })
+
+pub nands_both : (old mid new : Draft) → AddsNands old mid → AddsNands mid new → AddsNands old new
+nands_both old mid new a b = record { inputs = b.inputs ∙ a.inputs; samples = b.samples ∙ a.samples; links = b.links ∙ a.links }
+
+pub links_by_one : (old mid new : Draft) (l : FormLink) → AddsLinks old mid → new ≡ with_link mid l → AddsLinks old new
+links_by_one old mid new l adds e = subst (AddsLinks old) (sym e) (record { inputs = adds.inputs; samples = adds.samples; nands = adds.nands })
+
+pub no_splits_yet : (forms : NumberedForms) (nands : List NandFact) → nands ≡ [] → HasSplitsUpTo forms 0 nands
+no_splits_yet forms nands e = subst (HasSplitsUpTo forms 0) (sym e) (record {
+  are = λ n c. absurd (no_facts n c);
+  all = λ a lt. absurd (omega arith);
+}) where
+  no_facts : (n : NandFact) → Contains [] n → ⊥
+  no_facts n (x, lt, e) = absurd (omega arith)
+
+pub no_links_yet : (forms : NumberedForms) (links : List FormLink) → links ≡ [] → HasLinksUpTo forms 0 links
+no_links_yet forms links e = subst (HasLinksUpTo forms 0) (sym e) (record {
+  are = λ l c. absurd (no_links l c);
+  all = λ k f h lt. absurd (omega arith);
+}) where
+  no_links : (l : FormLink) → Contains [] l → ⊥
+  no_links l (x, lt, e) = absurd (omega arith)

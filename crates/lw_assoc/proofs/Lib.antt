@@ -1,0 +1,5 @@
+pub mod Built
+pub mod Counts
+pub mod Drafts
+pub mod Masks
+pub mod SameFacts

@@ -1,0 +1,131 @@
+-- The facts of the draft are those of the forms.
+use Rattle.std.proofs.Common.{◌≡◌, ◌+◌, ◌-◌, ◌*◌, ◌/◌, ◌^◌, ◌<◌, ◌≤◌, ◌⊎◌, inl, inr, ℕ, zero, suc, List, [], ◌∷◌, length, Option, Some, Contains, slice_get, refl, ap, sym, ◌∙◌, subst, arith}
+use native.Mathlib.Decide.{dec_lt}
+use Rattle.lw_laws.specs.Modes.Mode.{plain}
+use Rattle.lw_laws.specs.NumberedForms.{Base, NumberedForms, IsPart, IsCutOf, family_of}
+use Rattle.lw_laws.specs.NumberedForms.Base.{base_true, base_input, base_and}
+use Rattle.lw_laws.specs.Families.{IsNand}
+use Rattle.lw_laws.specs.Drafts.{Draft, NandFact, facts_of, HaveSameFacts}
+use Rattle.lw_laws.proofs.Lists.{slice_get_in}
+use Rattle.lw_form.specs.Bases.{picked}
+use Rattle.lw_form.specs.Kept.{AreForms}
+use Rattle.lw_assoc.specs.Drafting.{other, IsDraftOf}
+use Rattle.lw_assoc.proofs.Masks.{picked_other, picked_zero, IsCutBy, cut_mask, half_mask}
+
+same_place : (o : Option Base) (a b : Base) → o ≡ Some a → o ≡ Some b → a ≡ b
+same_place o a b e d = cc
+
+-- a listed fact with these numbers
+named : (nands : List NandFact) (n : NandFact) (f x y : ℕ) → n.form ≡ f → n.left ≡ x → n.right ≡ y → Contains nands n → Contains nands (record { form = f; left = x; right = y })
+named nands n f x y s p q c =
+    subst (λ k. Contains nands (record { form = k; left = x; right = y })) s (subst (λ k. Contains nands (record { form = n.form; left = k; right = y })) p (subst (λ k. Contains nands (record { form = n.form; left = n.left; right = k })) q c))
+
+module _ (forms : NumberedForms) (are : AreForms forms) where
+  -- only one form is the And of some operands
+  part_once : (fs : List ℕ) (x y : ℕ) → IsPart forms fs x → IsPart forms fs y → x ≡ y
+  part_once [] x y p q = absurd p
+  part_once (f ∷ []) x y p q = p ∙ sym q
+  part_once (f ∷ h ∷ fs) x y (a, e, s) (b, d, t) = s ∙ (ap (λ n. 2 * n) (are.once a b (base_and (f ∷ h ∷ fs)) e d) ∙ sym t)
+
+  part_some : (fs : List ℕ) (x : ℕ) → IsPart forms fs x → fs ≡ [] → ⊥
+  part_some [] x p e = p
+  part_some (f ∷ fs) x p e = cc
+
+  -- true and the inputs have the first places
+  input_place : (b i : ℕ) → slice_get forms.bases b ≡ Some (base_input i) → (i < forms.inputs) × (b ≡ i + 1)
+  input_place zero i e = let d = are.in_order.first in cc
+  input_place (suc j) i e = by_order (dec_lt j forms.inputs) where
+    by_order : Dec (j < forms.inputs) → (i < forms.inputs) × (suc j ≡ i + 1)
+    by_order (yes lt) =
+        let s : base_input (i) ≡ base_input j = same_place (slice_get forms.bases (suc j)) (base_input i) (base_input j) e (subst (λ k. slice_get forms.bases k ≡ Some (base_input j)) (omega arith) (are.in_order.inputs j lt)) in
+        let t : i ≡ j = cc in
+        (omega arith, omega arith)
+    by_order (no ge) =
+        let (fs, d) = are.in_order.later (suc j) (omega arith) (slice_get_in forms.bases (suc j) (base_input i) e) in
+        cc
+
+  true_place : (b : ℕ) → slice_get forms.bases b ≡ Some base_true → b ≡ 0
+  true_place zero e = refl
+  true_place (suc j) e = by_order (dec_lt j forms.inputs) where
+    by_order : Dec (j < forms.inputs) → suc j ≡ 0
+    by_order (yes lt) =
+        let d : slice_get forms.bases (suc j) ≡ Some (base_input j) = subst (λ k. slice_get forms.bases k ≡ Some (base_input j)) (omega arith) (are.in_order.inputs j lt) in
+        cc
+    by_order (no ge) =
+        let (fs, d) = are.in_order.later (suc j) (omega arith) (slice_get_in forms.bases (suc j) base_true e) in
+        cc
+
+  module _ (d : Draft) (is : IsDraftOf forms d) where
+    -- the fact of the mask, in whichever order its parts stand
+    split_found : (b : ℕ) (fs ls rs : List ℕ) (mask x y : ℕ) → slice_get forms.bases b ≡ Some (base_and fs) → 1 ≤ mask → mask < 2 ^ (length fs - 1) → ls ≡ picked fs mask → rs ≡ picked fs (other fs mask) → IsPart forms ls x → IsPart forms rs y → Contains d.nands (record { form = 2 * b + 1; left = x; right = y })
+    split_found b fs ls rs mask x y e one lt l r p q =
+        let (n, c, by) = is.splits.all b (slice_get_in forms.bases b (base_and fs) e) fs mask e one lt in
+        named d.nands n (2 * b + 1) x y by.form
+        (part_once (picked fs mask) n.left x by.left (subst (λ hs. IsPart forms hs x) l p))
+        (part_once (picked fs (other fs mask)) n.right y by.right (subst (λ hs. IsPart forms hs y) r q)) c
+
+    cut_found : (b : ℕ) (fs ls rs : List ℕ) (x y : ℕ) → slice_get forms.bases b ≡ Some (base_and fs) → IsCutBy fs ls rs → IsPart forms ls x → IsPart forms rs y → Contains d.nands (record { form = 2 * b + 1; left = x; right = y }) ⊎ Contains d.nands (record { form = 2 * b + 1; left = y; right = x })
+    cut_found b fs ls rs x y e m p q = by_half (dec_lt m.mask (2 ^ (length fs - 1))) where
+      two : 2 ≤ length fs
+      two = (are.operands b fs e).two
+
+      rest : ℕ
+      rest = other fs m.mask
+
+      right : rs ≡ picked fs rest
+      right = m.right ∙ sym (picked_other fs m.mask m.within)
+
+      not_zero : (hs : List ℕ) (k z : ℕ) → hs ≡ picked fs k → IsPart forms hs z → k ≡ 0 → ⊥
+      not_zero hs k z l part none = part_some hs z part (l ∙ (ap (picked fs) none ∙ picked_zero fs))
+
+      first : 1 ≤ m.mask
+      first = let ne = not_zero ls m.mask x m.left p in by_zero m.mask ne where
+        by_zero : (k : ℕ) → (k ≡ 0 → ⊥) → 1 ≤ k
+        by_zero zero ne = absurd (ne refl)
+        by_zero (suc k) ne = omega arith
+
+      second : 1 ≤ rest
+      second = by_zero rest (not_zero rs rest y right q) where
+        by_zero : (k : ℕ) → (k ≡ 0 → ⊥) → 1 ≤ k
+        by_zero zero ne = absurd (ne refl)
+        by_zero (suc k) ne = omega arith
+
+      back : other fs rest ≡ m.mask
+      back = let lt = m.within in omega arith
+
+      by_half : Dec (m.mask < 2 ^ (length fs - 1)) → Contains d.nands (record { form = 2 * b + 1; left = x; right = y }) ⊎ Contains d.nands (record { form = 2 * b + 1; left = y; right = x })
+      by_half (yes lt) = inl (split_found b fs ls rs m.mask x y e first lt m.left right p q)
+      by_half (no ge) =
+          inr (split_found b fs rs ls rest y x e second (half_mask (length fs) m.mask (let t = two in omega arith) m.within ge) right (m.left ∙ ap (picked fs) (sym back)) q p)
+
+    cut_is_nand : (f x y : ℕ) → IsCutOf forms f x y → IsNand (facts_of d) f x y
+    cut_is_nand f x y (b, fs, ls, rs, e, s, c, p, q) =
+        subst (λ k. IsNand (facts_of d) k x y) (sym s) (cut_found b fs ls rs x y e (cut_mask c) p q)
+
+    swapped : (f x y : ℕ) → IsNand (facts_of d) f y x → IsNand (facts_of d) f x y
+    swapped f x y (inl c) = inr c
+    swapped f x y (inr c) = inl c
+
+    nand_there : (f x y : ℕ) → IsNand (family_of plain forms) f x y → IsNand (facts_of d) f x y
+    nand_there f x y (inl c) = cut_is_nand f x y c
+    nand_there f x y (inr c) = swapped f x y (cut_is_nand f y x c)
+
+    nand_back : (f x y : ℕ) → IsNand (facts_of d) f x y → IsNand (family_of plain forms) f x y
+    nand_back f x y (inl c) = inl (is.splits.are (record { form = f; left = x; right = y }) c)
+    nand_back f x y (inr c) = inr (is.splits.are (record { form = f; left = y; right = x }) c)
+
+    pub same_facts : HaveSameFacts (family_of plain forms) (facts_of d)
+    same_facts = record {
+      occurs = λ f. (λ o. subst (λ n. f / 2 < n) (sym is.bases.count) o, λ o. subst (λ n. f / 2 < n) is.bases.count o);
+      inputs = λ f i. (
+        λ (b, e, s). let (lt, at) = input_place b i e in (subst (λ n. i < n) (sym is.bases.inputs) lt, s ∙ ap (λ k. 2 * k) at),
+        λ (lt, s). (i + 1, are.in_order.inputs i (subst (λ n. i < n) is.bases.inputs lt), s),
+      );
+      tops = λ f. (
+        λ (b, e, s). s ∙ ap (λ k. 2 * k) (true_place b e),
+        λ s. (0, are.in_order.first, s),
+      );
+      nands = λ f x y. (nand_there f x y, nand_back f x y);
+      links = λ f h (s, e, g). inl (inl (is.links.all s f h (slice_get_in forms.sops s f e) e g));
+      links_back = λ f h c. inl (inl (is.links.are (record { left = f; right = h }) c));
+    }

@@ -1,0 +1,8 @@
+use Rattle.lw_assoc.specs.Drafting.{AddsNands, HasSplitsUpTo}
+use Rattle.lw_assoc.proofs.drafting.add_all_splits.Given as goal
+
+abbrev pub invariant-loop-b : goal.invariant-loop-b
+invariant-loop-b l = record {
+  splits : HasSplitsUpTo l.forms l.b l.draft.nands;
+  kept : AddsNands l.fn.draft l.draft;
+}

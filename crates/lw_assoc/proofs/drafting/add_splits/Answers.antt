@@ -1,0 +1,27 @@
+use Rattle.std.proofs.Common.{◌∙◌, ◌-◌, ◌^◌, ap, arith, length, Some}
+use Rattle.lw_form.specs.Bases.{plain_base}
+use Rattle.lw_assoc.proofs.Drafts.{nands_by_split, splits_end, splits_next}
+use Rattle.lw_assoc.proofs.Masks.{half_within}
+use Rattle.lw_assoc.proofs.drafting.add_splits.Goals as goal
+
+pub loop-mask-preserved : goal.loop-mask-preserved
+loop-mask-preserved c =
+    let forms = c.args.forms.now in
+    let ids = c.in-And.ids in
+    let l = c.loop-mask in
+    let e = c.base.ensures.base ∙ ap (λ b. Some (plain_base b)) c.in-And.is in
+    let two = (c.base.ensures.kept.operands c.args.b ids e).two in
+    let lt = half_within (length ids) c.len.result c.half_of-half.result l.mask (omega arith) c.len.ensures.len c.half_of-half.ensures.half c.loop-mask-test.true in
+    record {
+      so_far = splits_next forms c.base.ensures.kept l.draft c.add_split.new.draft c.args.b l.mask ids e lt c.in_ok-add_split.ensures l.invariant.so_far;
+      kept = nands_by_split forms c.args.b l.mask c.args.draft.now l.draft c.add_split.new.draft l.invariant.kept c.in_ok-add_split.ensures;
+    }
+
+pub returns-clause-splits : goal.returns-clause-splits
+returns-clause-splits c =
+    let ids = c.in-And.ids in
+    let l = c.loop-mask in
+    let e = c.base.ensures.base ∙ ap (λ b. Some (plain_base b)) c.in-And.is in
+    let half = c.half_of-half.ensures.half ∙ ap (λ k. 2 ^ (k - 1)) c.len.ensures.len in
+    let past = c.loop-mask-test.false in
+    splits_end c.args.forms.now c.base.ensures.kept c.args.b l.mask ids l.draft.nands e (omega arith) l.invariant.so_far

@@ -1,0 +1,2 @@
+pub mod Drafting
+pub mod Splits

@@ -1,0 +1,99 @@
+// The draft of all splits and links of listed forms.
+ghost use Rattle.std.specs.Prelude.{◌≡◌, ◌+◌, ◌<◌, ℕ, List, Some, slice_get, length, OnOk, IfOk};
+ghost use Rattle.lw_laws.specs.NumberedForms.Base.{base_and};
+ghost use Rattle.lw_form.specs.Kept.{AreForms, HasPart};
+ghost use Rattle.lw_assoc.specs.Drafting.{AddsBases, AddsLinks, AddsNands, AddsSplit, HasBases, HasLinksUpTo, HasSplitsUpTo, IsDraftOf, other};
+
+use crate::splits::half_of;
+use lw_form::{Base, Forms};
+use lw_pool::{FormId, NetId};
+use lw_reduce::Draft;
+use std::alloc::{AllocError, Global};
+
+// Adds the base forms that come after the inputs.
+fn add_bases(draft: &mut Draft, forms: &Forms) -> Result<(), AllocError>
+    requires { HasBases forms.now (forms.now.inputs + 1) draft.old }
+    ensures bases { OnOk result (HasBases forms.now (length forms.now.bases) draft.new) }
+    ensures kept { OnOk result (AddsBases draft.old draft.new) }
+{
+    for b in forms.inputs() + 1..forms.len() {
+        draft.add(forms.sample(FormId(2 * b)))?;
+    }
+    Ok(())
+}
+
+// Adds the split of an And into the operands of a mask and the other ones.
+fn add_split(
+    draft: &mut Draft,
+    forms: &Forms,
+    b: u32,
+    mask: u32,
+    rest: u32,
+) -> Result<(), AllocError>
+    requires forms { AreForms forms.now }
+    requires bases { HasBases forms.now (length forms.now.bases) draft.old }
+    requires left { HasPart forms.now b mask }
+    requires right { HasPart forms.now b rest }
+    requires rest { (fs : List ℕ) → slice_get forms.now.bases b ≡ Some (base_and fs) → rest ≡ other fs mask }
+    ensures { OnOk result (AddsSplit forms.now b mask draft.old draft.new) }
+{
+    let left = forms.part(b, mask);
+    let right = forms.part(b, rest);
+    draft.nand(FormId(2 * b + 1), left, right)
+}
+
+// Adds the splits of a base form, of which an And alone has some. The last operand stands in the second part.
+fn add_splits(draft: &mut Draft, forms: &Forms, b: u32) -> Result<(), AllocError>
+    requires within { b < length forms.now.bases }
+    requires bases { HasBases forms.now (length forms.now.bases) draft.old }
+    requires before { HasSplitsUpTo forms.now b draft.old.nands }
+    ensures splits { OnOk result (HasSplitsUpTo forms.now (b + 1) draft.new.nands) }
+    ensures kept { OnOk result (AddsNands draft.old draft.new) }
+{
+    let Base::And(ids) = forms.base(b) else {
+        return Ok(());
+    };
+    let half = half_of(ids.len());
+    let all = 2 * half - 1;
+    for mask in 1..half {
+        add_split(draft, forms, b, mask, all - mask)?;
+    }
+    Ok(())
+}
+
+// Adds the splits of all base forms.
+fn add_all_splits(draft: &mut Draft, forms: &Forms) -> Result<(), AllocError>
+    requires bases { HasBases forms.now (length forms.now.bases) draft.old }
+    requires none { HasSplitsUpTo forms.now 0 draft.old.nands }
+    ensures splits { OnOk result (HasSplitsUpTo forms.now (length forms.now.bases) draft.new.nands) }
+    ensures kept { OnOk result (AddsNands draft.old draft.new) }
+{
+    for b in 0..forms.len() {
+        add_splits(draft, forms, b)?;
+    }
+    Ok(())
+}
+
+// Links the two forms of each net.
+fn add_links(draft: &mut Draft, forms: &Forms) -> Result<(), AllocError>
+    requires bases { HasBases forms.now (length forms.now.bases) draft.old }
+    requires none { HasLinksUpTo forms.now 0 draft.old.links }
+    ensures links { OnOk result (HasLinksUpTo forms.now (length forms.now.sops) draft.new.links) }
+    ensures kept { OnOk result (AddsLinks draft.old draft.new) }
+{
+    for net in 0..forms.nets() {
+        draft.link(forms.sop(NetId(net)), forms.fac(NetId(net)))?;
+    }
+    Ok(())
+}
+
+// The draft of all base forms, splits and links.
+pub(crate) fn draft_of(alloc: Global, forms: &Forms) -> Result<Draft, AllocError>
+    ensures { IfOk result (λ d. IsDraftOf forms.now d) }
+{
+    let mut draft = Draft::new(alloc, forms.inputs())?;
+    add_bases(&mut draft, forms)?;
+    add_all_splits(&mut draft, forms)?;
+    add_links(&mut draft, forms)?;
+    Ok(draft)
+}

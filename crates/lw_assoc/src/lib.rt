@@ -1,0 +1,10 @@
+//! The graph of all decompositions of the forms of a network at once.
+#![tactic(auto)]
+
+mod drafting;
+mod fault;
+mod graph;
+mod splits;
+
+pub use fault::GraphFault;
+pub use graph::build;
