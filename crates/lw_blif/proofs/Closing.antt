@@ -1,16 +1,13 @@
 -- The parts of lines that break no rule are closed.
-use Rattle.std.proofs.Common.{◌≡◌, List, [], Option, Some, None, Result, Ok, Err, refl, ap, sym, ◌∙◌, subst}
+use Rattle.std.proofs.Common.{◌≡◌, List, Err, sym, subst}
 use Rattle.std.proofs.Math.Logic.{∥∥₁_elim}
 use Rattle.std.proofs.Props.{props}
 use Rattle.lw_words.specs.Lines.{LogicalLine}
 use Rattle.lw_net.specs.declared.draft.Draft.{Draft}
 use Rattle.lw_net.specs.declared.fault.NetFault.{NetFault}
 use Rattle.lw_net.specs.declared.fault.NetFault.TheVariants as whole
-use Rattle.lw_net.specs.Networks.{NetworkParts}
-use Rattle.lw_net.specs.Closing.{IsDraft, IsClosed, HasFault}
+use Rattle.lw_net.specs.Closing.{IsDraft, HasFault}
 use Rattle.lw_blif.specs.declared.parts.Parts.{Parts}
-use Rattle.lw_blif.specs.declared.fault.BlifFault.{BlifFault}
-use Rattle.lw_blif.specs.LineFaults.{first_fault, lines_read}
 use Rattle.lw_blif.specs.Drafts.{draft_of}
 use Rattle.lw_blif.specs.BlifNetworks.{ClosesTo, whole_fault}
 use Rattle.lw_blif.specs.Keeping.{Keeps, IsOfSome}

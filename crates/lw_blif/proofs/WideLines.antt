@@ -1,7 +1,6 @@
 -- The first node with more than one fan-in, behind one more line.
-use Rattle.std.proofs.Common.{ℕ, ◌≡◌, Bool, true, false, cond, List, [], ◌∷◌, ◌++◌, Option, Some, None, refl, ap, sym, ◌∙◌, append_assoc, append-nil}
+use Rattle.std.proofs.Common.{◌≡◌, Bool, true, false, cond, List, [], ◌∷◌, ◌++◌, Option, Some, None, refl, ap, sym, ◌∙◌, append_assoc, append-nil}
 use Rattle.lw_words.specs.Lines.{LogicalLine}
-use Rattle.lw_blif.specs.declared.command.Command.{Command}
 use Rattle.lw_blif.specs.declared.fault.BlifKind.{BlifKind}
 use Rattle.lw_blif.specs.LineFaults.{FaultAt, command, ends, fault_or, line_fault, first_fault, lines_read, has_ended, is_first}
 use Rattle.lw_blif.specs.Wide.{is_wide, first_wide, unbroken_or, unbroken, wide_in, wide_or}

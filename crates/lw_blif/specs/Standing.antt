@@ -24,6 +24,12 @@ Tells (Err (fault.Line number kind)) first = first ≡ Some (record { number = n
 Tells (Err (fault.Whole other)) first = ⊥
 Tells (Err fault.Memory) first = ⊤
 
+-- The answer is that of each later line too: it is kept why no more is read, or nothing where the answer is good.
+abbrev pub Stopped : Result (Unit {0}) BlifFault → Option Stop → Type 0
+Stopped (Ok u) stopped = stopped ≡ None
+Stopped (Err answer) None = ⊥
+Stopped (Err answer) (Some why) = answer ≡ fault_of why
+
 -- The reader was given these lines.
 abbrev pub StandsFor : Reader → List LogicalLine → Type 0
 StandsFor reader lines = IsKept reader.begun reader.ended reader.stop reader.wide reader.parts lines

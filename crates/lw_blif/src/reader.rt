@@ -64,7 +64,7 @@ impl Reader {
     ghost use Rattle.lw_blif.specs.BlifNetworks.{IsBlifNetwork};
     ghost use Rattle.lw_blif.specs.declared.reader.Stop.TheVariants.{Memory};
     ghost use Rattle.lw_blif.specs.Wide.{wide_in};
-    ghost use Rattle.lw_blif.specs.Standing.{StandsFor, Tells, stop_of, fault_of};
+    ghost use Rattle.lw_blif.specs.Standing.{StandsFor, Tells, Stopped, stop_of, fault_of};
     ghost use Rattle.lw_net.specs.Plain.{HasRisingDepths};
 
     pub fn new(alloc: Global) -> Self
@@ -79,10 +79,12 @@ impl Reader {
         }
     }
 
-    /// Reads a line. The answer is the first line that breaks a rule, and the first rule that it breaks.
+    /// Reads a line. The answer is the first line that breaks a rule, and the first rule that it breaks; it is then that of each later
+    /// line and of the end.
     pub fn line(&mut self, line: &Line) -> Result<(), BlifFault>
         ensures stands { (lines : List LogicalLine) → StandsFor self.old lines → StandsFor self.new (lines ++ line.now ∷ []) }
         ensures answer { (lines : List LogicalLine) → StandsFor self.old lines → Tells result (first_fault [] (lines_read (lines ++ line.now ∷ []))) }
+        ensures stopped { Stopped result (stop_of self.new) }
         ensures again { IfSome (stop_of self.old) (λ stop. result ≡ Err (fault_of stop)) }
         ensures unchanged { IsSome (stop_of self.old) → self.new ≡ self.old }
     {

@@ -2,13 +2,14 @@ ghost use Rattle.std.specs.Prelude.{◌≡◌, ◌+◌, ◌<◌, ◌++◌, [], �
 ghost use Rattle.lw_net.specs.Signs.{IsSign};
 
 use lw_pool::{NetId, Nets};
+use smallvec::SmallVec;
 use std::alloc::{AllocError, Global};
 use std::marker::Model;
 
-/// A row of a node: a byte `0`, `1` or `-` for each fan-in, in columns.
+/// A row of a node: a byte `0`, `1` or `-` for each fan-in, in columns. Up to 16 of them take no memory of their own.
 #[derive(Debug, Drop)]
 pub struct Cube {
-    signs: Vec<u8>,
+    signs: SmallVec<u8, 16>,
 }
 
 impl Model for Cube {
@@ -28,7 +29,9 @@ impl Cube {
         requires { All IsSign signs.items }
         ensures { result ≡ signs.items }
     {
-        Cube { signs }
+        Cube {
+            signs: SmallVec::from_vec(signs),
+        }
     }
 
     /// A row of a copy of these bytes.
@@ -36,7 +39,8 @@ impl Cube {
         requires { All IsSign signs.now }
         ensures { IfOk result (λ cube. cube ≡ signs.now) }
     {
-        Ok(Cube::new(Vec::from_slice(alloc, signs)?))
+        let signs = SmallVec::from_slice(alloc, signs)?;
+        Ok(Cube { signs })
     }
 
     /// The bytes, by columns.
@@ -44,7 +48,7 @@ impl Cube {
         ensures bytes { result.now ≡ self.now }
         ensures signs { All IsSign self.now }
     {
-        &self.signs
+        self.signs.as_slice()
     }
 
     /// How many columns there are.

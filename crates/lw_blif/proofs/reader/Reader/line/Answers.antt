@@ -1,4 +1,4 @@
-use Rattle.std.proofs.Common.{◌≡◌, ◌++◌, ◌∷◌, [], true, false, not, Some, None, Err, refl, ap, sym, ◌∙◌, subst}
+use Rattle.std.proofs.Common.{◌≡◌, ◌++◌, ◌∷◌, [], true, false, not, Some, None, Err, ap, sym, ◌∙◌, subst}
 use Rattle.lw_words.specs.Lines.{LogicalLine}
 use Rattle.lw_blif.specs.declared.fault.BlifFault.{BlifFault}
 use Rattle.lw_blif.specs.Commands.{command_of}
