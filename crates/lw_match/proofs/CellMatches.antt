@@ -1,0 +1,34 @@
+-- A match has one class for each pin of its cell.
+use Rattle.std.proofs.Common.{ℕ, ◌<◌, ◌≡◌, ◌↔◌, List, length, subst}
+use Rattle.lw_laws.specs.Graphs.{Graph}
+use Rattle.lw_laws.specs.Trees.{HasLeaf}
+use Rattle.lw_laws.specs.Covers.{Pattern}
+use Rattle.lw_laws.specs.Costs.{Cost}
+use Rattle.lw_laws.specs.Extracts.{Match, MatchesAt}
+use Rattle.lw_match.specs.Least.{AreOfCells}
+use Rattle.lw_match.specs.Coming.{IsMatch}
+use Rattle.lw_match.proofs.Found.{listed_in}
+use Rattle.lw_match.proofs.Starting.{pattern_pins}
+
+pub of_cell : (g : Graph) (cost : Cost) (pats : List Pattern) (c : ℕ) (m : Match) → AreOfCells cost.pin_counts pats → IsMatch g pats c m → (p : Pattern) × MatchesAt g cost pats c m p
+of_cell g cost pats c m of i = (
+  i.pattern,
+  record {
+    listed = i.listed;
+    pins = pattern_pins cost.pin_counts i.pattern (length m.pins) (of i.pattern (listed_in pats m.pattern i.pattern i.listed)) i.pins;
+    stands = i.stands;
+  },
+)
+
+pub of_pattern : (g : Graph) (cost : Cost) (pats : List Pattern) (c : ℕ) (m : Match) → AreOfCells cost.pin_counts pats → ((p : Pattern) × MatchesAt g cost pats c m p) → IsMatch g pats c m
+of_pattern g cost pats c m of (p, i) =
+    let cell = of p (listed_in pats m.pattern p i.listed) in
+    let has = cell.has in
+    let also = i.pins in
+    let same : cell.pin_count ≡ length m.pins = cc in
+    record {
+      pattern = p;
+      listed = i.listed;
+      pins = subst (λ n. (k : ℕ) → HasLeaf p.tree k ↔ (k < n)) same cell.pins;
+      stands = i.stands;
+    }
