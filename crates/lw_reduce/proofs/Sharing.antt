@@ -41,3 +41,18 @@ rows_alike n nands links rows place all lt l r =
     let b = All-get_or (IsRenamed n nands links) rows place no_fact lt all in
     let parts : HasParts n nands links a.fact q.left q.right = subst (λ k. HasParts n nands links a.fact q.left k) r (subst (λ k. HasParts n nands links a.fact k p.right) l a.parts) in
     joined (turned_by a.alike) (joined (parts_alike n nands links a.fact b.fact q.left q.right a.listed b.listed parts b.parts) b.alike)
+
+-- a fact and one in terms of names with the same parts
+pub row_alike : (n k : ℕ) (nands : List Fact) (links : List Link) (rows : List Fact) (place low high i : ℕ) → k ≡ n → All (IsRenamed n nands links) rows → place < length nands → i < length rows → (get_or rows i no_fact).left ≡ low → (get_or rows i no_fact).right ≡ high → HasParts n nands links (get_or nands place no_fact) low high → Equivalent (family k nands links) (get_or nands place no_fact).form (get_or rows i no_fact).form
+row_alike n k nands links rows place low high i t all lt in' l r parts =
+    let q = get_or rows i no_fact in
+    let b = All-get_or (IsRenamed n nands links) rows i no_fact in' all in
+    let other : HasParts n nands links b.fact low high = subst (λ h. HasParts n nands links b.fact low h) r (subst (λ h. HasParts n nands links b.fact h q.right) l b.parts) in
+    let e = joined (parts_alike n nands links (get_or nands place no_fact) b.fact low high (Contains-get_or nands place no_fact lt) b.listed parts other) b.alike in
+    subst (λ j. Equivalent (family j nands links) (get_or nands place no_fact).form q.form) (sym t) e
+
+pub parts_at : (n m : ℕ) (nands : List Fact) (links : List Link) (p : Fact) (low high : ℕ) → m ≡ n → HasParts n nands links p low high → HasParts m nands links p low high
+parts_at n m nands links p low high e parts = subst (λ k. HasParts k nands links p low high) (sym e) parts
+
+pub renamed_at : (n m : ℕ) (nands : List Fact) (links : List Link) (rows : List Fact) → m ≡ n → All (IsRenamed n nands links) rows → All (IsRenamed m nands links) rows
+renamed_at n m nands links rows e all = subst (λ k. All (IsRenamed k nands links) rows) (sym e) all

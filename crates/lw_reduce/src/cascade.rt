@@ -1,10 +1,11 @@
-// A pass over the facts in their order, with a table of those that were seen by the names of their parts.
-ghost use Rattle.std.specs.Prelude.{◌≡◌, ◌+◌, ◌/◌, ◌^◌, ◌<◌, ◌≤◌, ℕ, length, vec_len, All, Contains, IfOk, IsTrue};
+// Passes over the facts that were renamed, with a table of those that were seen by the names of their parts.
+ghost use Rattle.std.specs.Prelude.{◌≡◌, ◌+◌, ◌/◌, ◌^◌, ◌<◌, ◌≤◌, ℕ, length, vec_len, slice_index_or, All, Contains, IfOk, IfSome, IsTrue};
 ghost use Rattle.lw_reduce.specs.Names.{CanName, HasParts, IsFactIn, Keeps, family};
 ghost use Rattle.lw_reduce.specs.Seeing.{IsSeen};
+ghost use Rattle.lw_reduce.specs.Settling.{IsRenamed, no_fact};
 
 use crate::facts::{Fact, Link};
-use crate::names::{find, unify};
+use crate::names::{find, name, unify};
 use std::alloc::{AllocError, Global};
 
 // The names of two parts, the lower one first.
@@ -100,18 +101,52 @@ fn seek(names: &mut [u32], nands: &[Fact], links: &[Link], slots: &[u32], parts:
     Seen::Full
 }
 
-// Gives a fact's form the name of an earlier one with these parts, or puts the fact into the table.
-fn visit(names: &mut [u32], nands: &[Fact], links: &[Link], slots: &mut [u32], place: usize)
+// Whether a fact's parts are their own names.
+fn is_named(names: &[u32], fact: Fact) -> bool
+    requires { IsFactIn (length names.now) fact }
+{
+    name(names, fact.left) == fact.left && name(names, fact.right) == fact.right
+}
+
+// The fact in terms of names with these parts, among some that stand in the order of their parts.
+fn row_with(rows: &[Fact], parts: Parts) -> Option<usize>
+    ensures within { IfSome result (λ i. i < length rows.now) }
+    ensures left { IfSome result (λ i. (slice_index_or rows.now i no_fact).left ≡ parts.low) }
+    ensures right { IfSome result (λ i. (slice_index_or rows.now i no_fact).right ≡ parts.high) }
+{
+    let place = rows.partition_point(|row| {
+        row.left < parts.low || (row.left == parts.low && row.right < parts.high)
+    });
+    if place >= rows.len() {
+        return None;
+    }
+    let row = rows[place];
+    if row.left != parts.low || row.right != parts.high {
+        return None;
+    }
+    Some(place)
+}
+
+// Gives a form the name of one with the same parts, among those that the table has, or puts the fact of the form there.
+fn enter(
+    names: &mut [u32],
+    nands: &[Fact],
+    links: &[Link],
+    slots: &mut [u32],
+    place: usize,
+    parts: Parts,
+)
     requires can { CanName (length names.old) nands.now links.now names.old }
     requires some { 0 < length slots.old }
     requires places { All (λ e. e ≤ length nands.now) slots.old }
     requires within { place < length nands.now }
     requires few { length nands.now < 2 ^ 32 }
+    requires parts { HasParts (length names.old) nands.now links.now (slice_index_or nands.now place no_fact) parts.low parts.high }
     ensures kept { Keeps (length names.old) nands.now links.now names.old names.new }
     ensures places { All (λ e. e ≤ length nands.now) slots.new }
+    ensures len { length slots.new ≡ length slots.old }
 {
     let fact = nands[place];
-    let parts = parts_of(names, nands, links, fact);
     match seek(names, nands, links, slots, parts) {
         Seen::Form(form) => {
             let _changed = unify(names, nands, links, fact.form, form);
@@ -121,16 +156,51 @@ fn visit(names: &mut [u32], nands: &[Fact], links: &[Link], slots: &mut [u32], p
     }
 }
 
-// Visits all facts in their order.
-fn visit_all(names: &mut [u32], nands: &[Fact], links: &[Link], slots: &mut [u32])
+// Gives the form of a fact, whose parts have other names now, the name of one with these parts.
+fn visit(
+    names: &mut [u32],
+    nands: &[Fact],
+    links: &[Link],
+    rows: &[Fact],
+    slots: &mut [u32],
+    place: usize,
+)
     requires can { CanName (length names.old) nands.now links.now names.old }
+    requires rows { All (IsRenamed (length names.old) nands.now links.now) rows.now }
+    requires some { 0 < length slots.old }
+    requires places { All (λ e. e ≤ length nands.now) slots.old }
+    requires within { place < length nands.now }
+    requires few { length nands.now < 2 ^ 32 }
+    ensures kept { Keeps (length names.old) nands.now links.now names.old names.new }
+    ensures places { All (λ e. e ≤ length nands.now) slots.new }
+{
+    let fact = nands[place];
+    if is_named(names, fact) {
+        return;
+    }
+    let parts = parts_of(names, nands, links, fact);
+    if let Some(row) = row_with(rows, parts) {
+        let _changed = unify(names, nands, links, fact.form, rows[row].form);
+        return;
+    }
+    enter(names, nands, links, slots, place, parts);
+}
+
+// Visits all facts in their order, and then in the other order.
+fn visit_all(names: &mut [u32], nands: &[Fact], links: &[Link], rows: &[Fact], slots: &mut [u32])
+    requires can { CanName (length names.old) nands.now links.now names.old }
+    requires rows { All (IsRenamed (length names.old) nands.now links.now) rows.now }
     requires some { 0 < length slots.old }
     requires places { All (λ e. e ≤ length nands.now) slots.old }
     requires few { length nands.now < 2 ^ 32 }
     ensures { Keeps (length names.old) nands.now links.now names.old names.new }
 {
-    for place in 0..nands.len() {
-        visit(names, nands, links, slots, place);
+    let count = nands.len();
+    for step in 0..count {
+        visit(names, nands, links, rows, slots, step);
+    }
+    for step in 0..count {
+        visit(names, nands, links, rows, slots, count - 1 - step);
     }
 }
 
@@ -156,21 +226,24 @@ fn empty_slots(alloc: Global, facts: usize) -> Result<Vec<u32>, AllocError>
     Ok(slots)
 }
 
-// Goes over the facts in their order and names their forms as it comes to them, so that where the parts of a form come
-// before it, forms that become equivalent one after the other have one name after one pass.
+// Goes over the facts whose parts have other names than in the rows, and names their forms as it comes to them: first in
+// their order, so that where parts come before their forms one pass is enough, however many forms become equivalent one after
+// the other; and then in the other order.
 pub(crate) fn cascade(
     alloc: Global,
     names: &mut [u32],
     nands: &[Fact],
     links: &[Link],
+    rows: &[Fact],
 ) -> Result<(), AllocError>
-    requires { CanName (length names.old) nands.now links.now names.old }
+    requires can { CanName (length names.old) nands.now links.now names.old }
+    requires rows { All (IsRenamed (length names.old) nands.now links.now) rows.now }
     ensures { Keeps (length names.old) nands.now links.now names.old names.new }
 {
     if nands.len() > 0xFFFF_FFFF {
         return Ok(());
     }
     let mut slots = empty_slots(alloc, nands.len())?;
-    visit_all(names, nands, links, &mut slots);
+    visit_all(names, nands, links, rows, &mut slots);
     Ok(())
 }

@@ -118,9 +118,9 @@ fn round(
 ) -> Result<Turn, AllocError>
     requires { CanName (length names.old) nands.now links.now names.old }
     ensures progress { IfOk result (λ r. Progresses (length names.old) nands.now links.now names.old names.new r.changed) }
+    ensures rows { IfOk result (λ r. All (IsRenamed (length names.old) nands.now links.now) r.rows.items) }
     ensures settled { IfOk result (λ r. IsFalse r.changed → IsSettled (length names.old) nands.now links.now names.new r.rows.items) }
 {
-    cascade(alloc, names, nands, links)?;
     flatten(names, nands, links);
     let linked = join_linked(names, nands, links);
     let rows = sorted_facts(alloc, names, nands)?;
@@ -147,5 +147,6 @@ pub(crate) fn settle(
         if !turn.changed {
             return Ok(turn.rows);
         }
+        cascade(alloc, names, nands, links, &turn.rows)?;
     }
 }

@@ -1,7 +1,12 @@
-use Rattle.std.proofs.Common.{length, ◌∙◌}
-use Rattle.lw_reduce.proofs.Sharing.{seen_alike}
+use Rattle.std.proofs.Common.{length, get_or}
+use Rattle.lw_reduce.specs.Settling.{no_fact}
+use Rattle.lw_reduce.proofs.Sharing.{parts_at, row_alike}
 use Rattle.lw_reduce.proofs.cascade.visit.Goals as goal
 
 pub unify-changed-requires-clause-alike : goal.unify-changed-requires-clause-alike
 unify-changed-requires-clause-alike c =
-    seen_alike (length c.args.names.now) (length c.parts_of-parts.new.names) (length c.seek.new.names) c.args.nands.now c.args.links.now c.args.place c.parts_of-parts.result.low c.parts_of-parts.result.high c.in-Form.form (record { form = 0; left = 0; right = 0 }) c.parts_of-parts.ensures.kept.can.count (c.in-Form.ensures.kept.can.count ∙ c.parts_of-parts.ensures.kept.can.count) c.requires.within c.parts_of-parts.ensures.parts c.in-Form.ensures.seen
+    row_alike (length c.args.names.now) (length c.parts_of-parts.new.names) c.args.nands.now c.args.links.now c.args.rows.now c.args.place c.parts_of-parts.result.low c.parts_of-parts.result.high c.in-Some.row c.parts_of-parts.ensures.kept.can.count c.requires.rows c.requires.within c.in-Some.ensures.within c.in-Some.ensures.left c.in-Some.ensures.right c.parts_of-parts.ensures.parts
+
+pub enter-requires-clause-parts : goal.enter-requires-clause-parts
+enter-requires-clause-parts c =
+    parts_at (length c.args.names.now) (length c.parts_of-parts.new.names) c.args.nands.now c.args.links.now (get_or c.args.nands.now c.args.place no_fact) c.parts_of-parts.result.low c.parts_of-parts.result.high c.parts_of-parts.ensures.kept.can.count c.parts_of-parts.ensures.parts

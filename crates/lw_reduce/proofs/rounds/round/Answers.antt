@@ -21,9 +21,18 @@ returns-clause-settled c =
     let mid = c.join_linked-linked.new.names in
     let new = c.join_equal-equal.new.names in
     let rows = c.in_ok-rows.rows.items in
-    let counts = c.join_linked-linked.ensures.progress.can.count ∙ (c.flatten.ensures.kept.can.count ∙ c.cascade.ensures.can.count) in
+    let counts = c.join_linked-linked.ensures.progress.can.count ∙ c.flatten.ensures.kept.can.count in
     elim c.if-linked.branch [
       | then-linked w ↦ λ e. absurd (true≢false (sym w.if-linked.true ∙ (sym w.result-is ∙ e)))
       | else-linked w ↦ λ e.
           settled n nands links fl mid new rows (can_at n nands links new (length mid) c.join_equal-equal.ensures.progress.can counts) c.flatten.ensures.flat (c.join_linked-linked.ensures.same w.if-linked.false c.flatten.ensures.flat) (subst (λ rs. IsFlat mid → (new ≡ mid) × ((place : ℕ) → 1 ≤ place → place < length rs → AgreesAt mid rs place)) c.deref.ensures.value (c.join_equal-equal.ensures.same (sym w.result-is ∙ e))) c.in_ok-rows.ensures.permutation c.in_ok-rows.ensures.sorted
     ]
+
+pub returns-clause-rows : goal.returns-clause-rows
+returns-clause-rows c =
+    let mid = c.join_linked-linked.new.names in
+    let n = length c.args.names.now in
+    let nands = c.args.nands.now in
+    let links = c.args.links.now in
+    let counts = c.join_linked-linked.ensures.progress.can.count ∙ c.flatten.ensures.kept.can.count in
+    rows_renamed n nands links mid c.in_ok-rows.rows.items (can_at n nands links mid (length c.flatten.new.names) c.join_linked-linked.ensures.progress.can c.flatten.ensures.kept.can.count) c.in_ok-rows.ensures.permutation
