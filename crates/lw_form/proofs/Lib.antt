@@ -1,5 +1,6 @@
 pub mod Clean
 pub mod Conjunctions
+pub mod FactoringSteps
 pub mod Joining
 pub mod Parts
 pub mod Rows

@@ -1,5 +1,6 @@
 pub mod Bases
 pub mod Conjunctions
+pub mod Factoring
 pub mod Kept
 pub mod Limits
 pub mod Products

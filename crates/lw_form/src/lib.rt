@@ -3,6 +3,7 @@
 
 mod base;
 mod conjunction;
+mod factoring;
 mod fault;
 mod forms;
 mod ids;
