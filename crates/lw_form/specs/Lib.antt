@@ -3,5 +3,6 @@ pub mod Conjunctions
 pub mod Factoring
 pub mod Kept
 pub mod Limits
+pub mod Listed
 pub mod Products
 pub mod Tables

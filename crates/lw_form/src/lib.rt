@@ -7,6 +7,7 @@ mod factoring;
 mod fault;
 mod forms;
 mod ids;
+mod listing;
 mod products;
 mod row;
 mod table;
