@@ -6,4 +6,5 @@ pub mod ListedForms
 pub mod Parts
 pub mod Rows
 pub mod Samples
+pub mod Signalled
 pub mod Tables

@@ -1,18 +1,20 @@
 -- The list of base forms as places in a table.
-use Rattle.std.proofs.Common.{◌≡◌, ◌≢◌, ◌+◌, ◌-◌, ◌*◌, ◌/◌, ◌%◌, ◌^◌, ◌==◌, ◌<◌, ◌≤◌, ◌⊎◌, inl, inr, ℕ, zero, suc, Bool, true, false, cond, leb, if◌then◌else◌, List, [], ◌∷◌, ◌++◌, length, map, take, drop, replicate, Some, None, slice_get, get_or, slice_set, refl, ap, ap₂, sym, ◌∙◌, subst, arith, append_assoc, append-nil, length-append}
+use Rattle.std.proofs.Common.{◌≡◌, ◌≢◌, ◌+◌, ◌-◌, ◌*◌, ◌/◌, ◌%◌, ◌^◌, ◌==◌, ◌<◌, ◌≤◌, ◌⊎◌, inl, inr, ℕ, zero, suc, Bool, true, false, cond, leb, leb-true, pow-suc, if◌then◌else◌, List, [], ◌∷◌, ◌++◌, length, map, take, drop, replicate, Some, None, Result, Ok, Err, OnOk, IfErr, slice_get, get_or, slice_set, refl, ap, ap₂, sym, ◌∙◌, subst, arith, append_assoc, append-nil, length-append}
 use Rattle.std.specs.List.{AllByRecursion}
+use Rattle.std.specs.Result.{IsErrAnd}
+use Rattle.std.proofs.lemmas.Bool.{le-leb}
 use Rattle.std.proofs.lemmas.List.{length-map, map-append, get_or_append_left, at_drop_more}
 use Rattle.std.proofs.lemmas.Option.{slice_get-get_or, get_or_from_slice_get}
 use Rattle.lw_laws.specs.Forms.{Form, FormList, items, form_list, and_of, same_form, is_among, complement}
 use Rattle.lw_laws.specs.Forms.Form.{var_form, true_form, not_form, and_form}
 use Rattle.lw_laws.specs.Forms.FormList.{no_forms, more_forms}
 use Rattle.lw_laws.specs.Listings.{sign_of}
-use Rattle.lw_laws.specs.Occurring.{part, sublists, appended, append_part, append_parts, add_form, add_forms}
+use Rattle.lw_laws.specs.Occurring.{part, with_and_without, sublists, appended, append_part, append_parts, add_form, add_forms}
 use Rattle.lw_laws.specs.SignalValues.{form_of}
 use Rattle.lw_laws.proofs.Equality.{items-form_list, form_list-items}
 use Rattle.lw_laws.proofs.Lists.{slice_get_in, slice_get_some, all_append}
 use Rattle.lw_laws.proofs.Masks.{sublists_at}
-use Rattle.lw_laws.proofs.Numbers.{slice_get_map, slice_get_map_back}
+use Rattle.lw_laws.proofs.Numbers.{slice_get_map, slice_get_map_back, Some_injective}
 use Rattle.lw_form.specs.declared.fault.FormFault.{FormFault}
 use Rattle.lw_form.specs.declared.fault.FormFault.TheVariants.{Limit, Memory}
 use Rattle.lw_form.specs.declared.listing.Step.{Step}
@@ -271,7 +273,7 @@ module _ (now : Table) (are : AreMade (made now)) (listed places : List ℕ) (st
   pub adding_below : f / 2 < length (made now)
   adding_below = step_last (StepFits (length (made now))) steps (Add f) w.fit
 
-  rest_fit : AllByRecursion (StepFits (length (made now))) steps
+  pub rest_fit : AllByRecursion (StepFits (length (made now))) steps
   rest_fit = steps_front (StepFits (length (made now))) steps (Add f ∷ []) w.fit
 
   -- the list with the form added
@@ -311,3 +313,191 @@ module _ (now : Table) (are : AreMade (made now)) (listed places : List ℕ) (st
           ∙ (ap (λ l. bases_after (plain_steps (made now) steps) (append_parts (sublists l) (add_forms (form_list (forms_at (made now) ids)) (bases_of (made now) listed)))) operands
             ∙ (ap (bases_after (plain_steps (made now) steps)) (sym (ap (λ g. add_form g (bases_of (made now) listed)) base ∙ add_and (forms_at (made now) ids) (bases_of (made now) listed) free)) ∙ adding_next)));
   }
+
+-- the sizes of the steps fall
+
+pub size_dropped : (forms : List Form) (steps : List Step) (f : ℕ) → steps_size (plain_steps forms steps) < form_size (form_of forms f) + steps_size (plain_steps forms steps)
+size_dropped forms steps f = let s = some_size (form_of forms f) in omega arith
+
+pub size_and : (forms : List Form) (steps new_steps : List Step) (f : ℕ) (ids : List ℕ) → AreMade forms → f / 2 < length forms → slice_get forms (f / 2) ≡ Some (spelled forms ids) → plain_steps forms new_steps ≡ map (plain_step forms) (adds ids) ++ plain_step forms (Parts (f / 2)) ∷ plain_steps forms steps → steps_size (plain_steps forms new_steps) < form_size (form_of forms f) + steps_size (plain_steps forms steps)
+size_and forms steps new_steps f ids are lt at e =
+    let a = ap steps_size e in
+    let b = size_adds forms ids (plain_step forms (Parts (f / 2)) ∷ plain_steps forms steps) in
+    let c = number_size forms f are lt in
+    let d = ap form_size (get_or_from_slice_get forms (f / 2) (spelled forms ids) true_form at) in
+    omega arith
+
+-- steps for operands
+
+drop_whole : {X : Type 0} (n : ℕ) (xs : List X) → length xs ≤ n → drop n xs ≡ []
+drop_whole zero [] le = refl
+drop_whole (suc n) [] le = refl
+drop_whole zero (x ∷ xs) le = absurd (omega arith)
+drop_whole (suc n) (x ∷ xs) le = drop_whole n xs (omega arith)
+
+pub operands_first : (forms : List Form) (ids : List ℕ) (steps : List Step) → plain_steps forms steps ≡ map (plain_step forms) (adds (drop (length ids - 0) ids)) ++ plain_steps forms steps
+operands_first forms ids steps = ap (λ l. map (plain_step forms) (adds l) ++ plain_steps forms steps) (sym (drop_whole (length ids - 0) ids (omega arith)))
+
+pub operands_more : (forms : List Form) (ids : List ℕ) (old steps new : List Step) (i : ℕ) → i < length ids → new ≡ steps ++ Add (get_or ids (length ids - 1 - i) 0) ∷ [] → plain_steps forms steps ≡ map (plain_step forms) (adds (drop (length ids - i) ids)) ++ plain_steps forms old → plain_steps forms new ≡ map (plain_step forms) (adds (drop (length ids - (i + 1)) ids)) ++ plain_steps forms old
+operands_more forms ids old steps new i lt e so =
+    let place : length ids - (i + 1) ≡ length ids - 1 - i = omega arith in
+    let next : length ids - 1 - i + 1 ≡ length ids - i = omega arith in
+    let inside : length ids - 1 - i < length ids = omega arith in
+    ap (plain_steps forms) e
+    ∙ (steps_last forms steps (Add (get_or ids (length ids - 1 - i) 0))
+      ∙ (ap (λ l. add_of (form_of forms (get_or ids (length ids - 1 - i) 0)) ∷ l) so
+        ∙ (ap (λ k. add_of (form_of forms (get_or ids (length ids - 1 - i) 0)) ∷ (map (plain_step forms) (adds (drop k ids)) ++ plain_steps forms old)) (sym next)
+          ∙ (sym (at_drop_more (λ l. map (plain_step forms) (adds l) ++ plain_steps forms old) ids (length ids - 1 - i) 0 inside) ∙ ap (λ k. map (plain_step forms) (adds (drop k ids)) ++ plain_steps forms old) (sym place)))))
+
+pub operands_all : (forms : List Form) (ids : List ℕ) (old steps : List Step) (i : ℕ) → length ids ≤ i → plain_steps forms steps ≡ map (plain_step forms) (adds (drop (length ids - i) ids)) ++ plain_steps forms old → plain_steps forms steps ≡ map (plain_step forms) (adds ids) ++ plain_steps forms old
+operands_all forms ids old steps i le so = so ∙ ap (λ k. map (plain_step forms) (adds (drop k ids)) ++ plain_steps forms old) zero_left where
+  zero_left : length ids - i ≡ 0
+  zero_left = omega arith
+
+pub operand_fits : (count : ℕ) (ids : List ℕ) (i : ℕ) → i < length ids → AreBelow count ids → get_or ids i 0 / 2 < count
+operand_fits count [] i lt a = absurd (omega arith)
+operand_fits count (x ∷ ids) zero lt (p, a) = p
+operand_fits count (x ∷ ids) (suc i) lt (p, a) = operand_fits count ids i (omega arith) a
+
+-- parts of an And
+
+pub picked_forms : (forms : List Form) (ids : List ℕ) (mask : ℕ) → forms_at forms (picked ids mask) ≡ part (forms_at forms ids) mask
+picked_forms forms [] mask = refl
+picked_forms forms (f ∷ ids) mask = by_test (mask % 2 == 1) (picked_forms forms ids (mask / 2)) where
+  by_test : (t : Bool) → forms_at forms (picked ids (mask / 2)) ≡ part (forms_at forms ids) (mask / 2) → forms_at forms (if t then f ∷ picked ids (mask / 2) else picked ids (mask / 2)) ≡ (if t then form_of forms f ∷ part (forms_at forms ids) (mask / 2) else part (forms_at forms ids) (mask / 2))
+  by_test true e = ap (λ l. form_of forms f ∷ l) e
+  by_test false e = e
+
+pub below_picked : (n : ℕ) (ids : List ℕ) (mask : ℕ) → AreBelow n ids → AreBelow n (picked ids mask)
+below_picked n [] mask a = tt
+below_picked n (f ∷ ids) mask (p, a) = by_test (mask % 2 == 1) (below_picked n ids (mask / 2) a) where
+  by_test : (t : Bool) → AreBelow n (picked ids (mask / 2)) → AreBelow n (if t then f ∷ picked ids (mask / 2) else picked ids (mask / 2))
+  by_test true b = (p, b)
+  by_test false b = b
+
+double_parts : (f : Form) (rest : List (List Form)) → length (with_and_without f rest) ≡ 2 * length rest
+double_parts f [] = refl
+double_parts f (fs ∷ rest) = let e = double_parts f rest in omega arith
+
+pub parts_count : (fs : List Form) → length (sublists fs) ≡ 2 ^ length fs
+parts_count [] = refl
+parts_count (f ∷ fs) = let d = double_parts f (sublists fs) in let e = parts_count fs in let p = pow-suc 2 (length fs) in omega arith
+
+pub short_part : (fs bases : List Form) → length fs < 2 → bases ≡ append_part fs bases
+short_part fs bases lt = sym (ap (λ t. cond t (appended (and_of fs) bases) bases) (not_leb (leb 2 (length fs)) refl)) where
+  not_leb : (t : Bool) → leb 2 (length fs) ≡ t → t ≡ false
+  not_leb true e = let le = leb-true 2 (length fs) e in absurd (omega arith)
+  not_leb false e = refl
+
+pub long_part : (fs bases : List Form) → 2 ≤ length fs → appended (and_of fs) bases ≡ append_part fs bases
+long_part fs bases le = sym (ap (λ t. cond t (appended (and_of fs) bases) bases) (le-leb 2 (length fs) le))
+
+drop_at : {X : Type 0} (xs : List X) (k : ℕ) (x : X) → slice_get xs k ≡ Some x → drop k xs ≡ x ∷ drop (k + 1) xs
+drop_at [] k x e = cc
+drop_at (y ∷ xs) zero x e = ap (λ z. z ∷ xs) (Some_injective y x e)
+drop_at (y ∷ xs) (suc k) x e = let next : suc k + 1 ≡ suc (k + 1) = omega arith in drop_at xs k x e ∙ ap (λ n. x ∷ drop n (y ∷ xs)) (sym next)
+
+-- the parts that are listed so far, and the rest
+pub record PartsSoFar (old now : Table) (fs old_bases : List Form) (mask : ℕ) (listed places : List ℕ) : Type 0 where
+  pub more : HasMore (made old) (made now)
+  pub listed_is : IsListed (made now) listed places
+  pub rest : append_parts (drop mask (sublists fs)) (bases_of (made now) listed) ≡ append_parts (sublists fs) old_bases
+
+pub parts_first : (t : Table) (fs : List Form) (listed places : List ℕ) → IsListed (made t) listed places → PartsSoFar t t fs (bases_of (made t) listed) 0 listed places
+parts_first t fs listed places is = record { more = more_same (made t); listed_is = is; rest = refl }
+
+pub parts_more : (old now next : Table) (ids : List ℕ) (old_bases : List Form) (mask : ℕ) (listed places new_listed new_places : List ℕ) → AreBelow (length (made old)) ids → mask < 2 ^ length ids → PartsSoFar old now (forms_at (made old) ids) old_bases mask listed places → HasMore (made now) (made next) → IsListed (made next) new_listed new_places → bases_of (made next) new_listed ≡ append_part (forms_at (made now) (picked ids mask)) (bases_of (made now) listed) → PartsSoFar old next (forms_at (made old) ids) old_bases (mask + 1) new_listed new_places
+parts_more old now next ids old_bases mask listed places new_listed new_places below lt so more is e = record {
+  more = more_twice (made old) (made now) (made next) so.more more;
+  listed_is = is;
+  rest =
+      let fs = forms_at (made old) ids in
+      let same : forms_at (made now) (picked ids mask) ≡ part fs mask = picked_forms (made now) ids mask ∙ ap (λ l. part l mask) (forms_kept (made old) (made now) ids so.more below) in
+      let l = length-map ids (form_of (made old)) in
+      let inside : mask < 2 ^ length fs = subst (λ n. mask < 2 ^ n) (sym l) lt in
+      ap (append_parts (drop (mask + 1) (sublists fs))) (e ∙ ap (λ k. append_part k (bases_of (made now) listed)) same)
+      ∙ (sym (ap (λ k. append_parts k (bases_of (made now) listed)) (drop_at (sublists fs) mask (part fs mask) (sublists_at fs mask inside))) ∙ so.rest);
+}
+
+pub part_fault : (old now : Table) (ids : List ℕ) (old_bases : List Form) (mask : ℕ) (listed places : List ℕ) (fault : FormFault) → AreBelow (length (made old)) ids → mask < 2 ^ length ids → PartsSoFar old now (forms_at (made old) ids) old_bases mask listed places → IsTooLong (append_part (forms_at (made now) (picked ids mask)) (bases_of (made now) listed)) fault → IsTooLong (append_parts (sublists (forms_at (made old) ids)) old_bases) fault
+part_fault old now ids old_bases mask listed places fault below lt so t =
+    let fs = forms_at (made old) ids in
+    let same : forms_at (made now) (picked ids mask) ≡ part fs mask = picked_forms (made now) ids mask ∙ ap (λ l. part l mask) (forms_kept (made old) (made now) ids so.more below) in
+    let l = length-map ids (form_of (made old)) in
+    let inside : mask < 2 ^ length fs = subst (λ n. mask < 2 ^ n) (sym l) lt in
+    subst (λ k. IsTooLong k fault) (sym (ap (λ k. append_parts k (bases_of (made now) listed)) (drop_at (sublists fs) mask (part fs mask) (sublists_at fs mask inside))) ∙ so.rest)
+    (longer_fault (append_part (part fs mask) (bases_of (made now) listed)) (append_parts (drop (mask + 1) (sublists fs)) (append_part (part fs mask) (bases_of (made now) listed))) fault (longer_parts (drop (mask + 1) (sublists fs)) (append_part (part fs mask) (bases_of (made now) listed))) (subst (λ k. IsTooLong (append_part k (bases_of (made now) listed)) fault) same t))
+
+pub parts_done : (old now : Table) (ids : List ℕ) (old_bases : List Form) (mask : ℕ) (listed places : List ℕ) → 2 ^ length ids ≤ mask → PartsSoFar old now (forms_at (made old) ids) old_bases mask listed places → bases_of (made now) listed ≡ append_parts (sublists (forms_at (made old) ids)) old_bases
+parts_done old now ids old_bases mask listed places le so =
+    let fs = forms_at (made old) ids in
+    let c = parts_count fs in
+    let l = ap (λ n. 2 ^ n) (length-map ids (form_of (made old))) in
+    ap (λ k. append_parts k (bases_of (made now) listed)) (sym (drop_whole mask (sublists fs) (omega arith))) ∙ so.rest
+
+-- the parts of an And are listed
+module _ (now next : Table) (listed places new_listed new_places : List ℕ) (steps : List Step) (b : ℕ) (goal : List Form) (w : IsAdding now listed places (steps ++ Parts b ∷ []) goal) where
+  pub parts_below : b < length (made now)
+  parts_below = step_last (StepFits (length (made now))) steps (Parts b) w.fit
+
+  parts_fit : AllByRecursion (StepFits (length (made now))) steps
+  parts_fit = steps_front (StepFits (length (made now))) steps (Parts b ∷ []) w.fit
+
+  parts_next : bases_after (plain_steps (made now) steps) (append_parts (sublists (operands_of (base_at (made now) b))) (bases_of (made now) listed)) ≡ goal
+  parts_next = sym (ap (λ s. bases_after s (bases_of (made now) listed)) (steps_last (made now) steps (Parts b))) ∙ w.same
+
+  pub parts_added : HasMore (made now) (made next) → IsListed (made next) new_listed new_places → bases_of (made next) new_listed ≡ append_parts (sublists (operands_of (base_at (made now) b))) (bases_of (made now) listed) → IsAdding next new_listed new_places steps goal
+  parts_added more is e = record {
+    listed_is = is;
+    fit = steps_fit (made now) (made next) steps more parts_fit;
+    same = ap₂ (λ s l. bases_after (turned s) l) (steps_kept (made now) (made next) steps more parts_fit) e ∙ parts_next;
+  }
+
+  pub parts_fault : (fault : FormFault) → IsTooLong (append_parts (sublists (operands_of (base_at (made now) b))) (bases_of (made now) listed)) fault → IsTooLong goal fault
+  parts_fault fault t = subst (λ l. IsTooLong l fault) parts_next (longer_fault (append_parts (sublists (operands_of (base_at (made now) b))) (bases_of (made now) listed)) (bases_after (plain_steps (made now) steps) (append_parts (sublists (operands_of (base_at (made now) b))) (bases_of (made now) listed))) fault (longer_steps (plain_steps (made now) steps) (append_parts (sublists (operands_of (base_at (made now) b))) (bases_of (made now) listed))) t)
+
+  pub parts_size : HasMore (made now) (made next) → steps_size (plain_steps (made next) steps) < 1 + steps_size (plain_steps (made now) steps)
+  parts_size more = let e = ap (λ s. steps_size (turned s)) (steps_kept (made now) (made next) steps more parts_fit) in omega arith
+
+-- what holds where a call succeeds, and what where it fails
+
+pub on_ok : {T E A B : Type 0} (r : Result T E) → (A → B) → OnOk r A → OnOk r B
+on_ok (Ok x) f a = f a
+on_ok (Err e) f a = a
+
+pub on_both : {T E A B C : Type 0} (r : Result T E) → (A → B → C) → OnOk r A → OnOk r B → OnOk r C
+on_both (Ok x) f a b = f a b
+on_both (Err e) f a b = a
+
+pub if_err : {T : Type 0} {P Q : FormFault → Type 0} (r : Result T FormFault) → ((e : FormFault) → P e → Q e) → IfErr r P → IfErr r Q
+if_err (Ok x) f a = a
+if_err (Err e) f a = f e a
+
+-- one part is listed
+pub part_same : (old new : Table) (ids : List ℕ) (listed places : List ℕ) (b : ℕ) → 2 ≤ length ids → IsListed (made old) listed places → HasMore (made old) (made new) → slice_get (made new) b ≡ Some (spelled (made old) ids) → appended (base_at (made new) b) (bases_of (made new) listed) ≡ append_part (forms_at (made old) ids) (bases_of (made old) listed)
+part_same old new ids listed places b two is more at =
+    let l = length-map ids (form_of (made old)) in
+    ap₂ appended (get_or_from_slice_get (made new) b (spelled (made old) ids) true_form at) (bases_kept (made old) (made new) listed more is.within) ∙ long_part (forms_at (made old) ids) (bases_of (made old) listed) (omega arith)
+
+pub added_more : (old new : Table) (f : Form) → made new ≡ appended f (made old) → HasMore (made old) (made new)
+added_more old new f e = let (m, d) = appended_more f (made old) in (m, e ∙ d)
+
+-- a fault that a `?` hands on
+pub err_is : {T : Type 0} (P : FormFault → Type 0) (r : Result T FormFault) (e : FormFault) → IsErrAnd r (λ f. f ≡ e) → P e → IfErr r P
+err_is P (Ok x) e same p = tt
+err_is P (Err f) e same p = subst P (sym same) p
+
+pub no_parts : (g : Form) (bases : List Form) → IsSimple g → bases ≡ append_parts (sublists (operands_of g)) bases
+no_parts (var_form i) bases s = refl
+no_parts true_form bases s = refl
+no_parts (not_form g) bases s = absurd s
+no_parts (and_form fs) bases s = absurd s
+
+pub simple_base : (forms : List Form) (b : ℕ) → (f : Form) × (slice_get forms b ≡ Some f) × IsSimple f → IsSimple (base_at forms b)
+simple_base forms b (f, e, s) = subst IsSimple (sym (get_or_from_slice_get forms b f true_form e)) s
+
+pub and_operands : (forms : List Form) (b : ℕ) (ids : List ℕ) → slice_get forms b ≡ Some (spelled forms ids) → operands_of (base_at forms b) ≡ forms_at forms ids
+and_operands forms b ids e = ap operands_of (get_or_from_slice_get forms b (spelled forms ids) true_form e) ∙ items-form_list (forms_at forms ids)
+
+pub adding_first : (t : Table) (listed places : List ℕ) (steps : List Step) (form : ℕ) → IsListed (made t) listed places → form / 2 < length (made t) → steps ≡ Add form ∷ [] → IsAdding t listed places steps (add_form (form_of (made t) form) (bases_of (made t) listed))
+adding_first t listed places steps form is lt e = subst (λ s. IsAdding t listed places s (add_form (form_of (made t) form) (bases_of (made t) listed))) (sym e) (record { listed_is = is; fit = (lt, tt); same = refl })

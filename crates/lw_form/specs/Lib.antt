@@ -4,5 +4,6 @@ pub mod Factoring
 pub mod Kept
 pub mod Limits
 pub mod Listed
+pub mod Nets
 pub mod Products
 pub mod Tables

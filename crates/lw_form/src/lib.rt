@@ -8,6 +8,7 @@ mod fault;
 mod forms;
 mod ids;
 mod listing;
+mod occurring;
 mod products;
 mod row;
 mod table;

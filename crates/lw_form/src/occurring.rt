@@ -1,0 +1,81 @@
+// The forms of the nets of a network, and the list of what occurs in them.
+ghost use Rattle.std.specs.Prelude.{◌≡◌, ◌+◌, ◌/◌, ◌<◌, ◌≤◌, ◌++◌, [], ◌∷◌, ℕ, List, map, length, All, IfOk, IfErr, OnOk, slice_index_or};
+ghost use Rattle.lw_net.specs.Plain.{plain_node, net_number};
+ghost use Rattle.lw_net.specs.Signs.{asked};
+ghost use Rattle.lw_laws.specs.Forms.{Form};
+ghost use Rattle.lw_laws.specs.Forms.Form.{true_form};
+ghost use Rattle.lw_laws.specs.Occurring.{add_signals};
+ghost use Rattle.lw_laws.specs.Signals.{Signal, signal_of_node};
+ghost use Rattle.lw_form.specs.Limits.{most_operands};
+ghost use Rattle.lw_form.specs.Listed.{bases_of, IsTooLong};
+ghost use Rattle.lw_form.specs.Nets.{signal_at, AreListed};
+ghost use Rattle.lw_form.specs.Products.{HaveColumns};
+ghost use Rattle.lw_form.specs.Tables.{made, AreBelow, forms_at, HasMore};
+
+use crate::FormFault;
+use crate::factoring::factored;
+use crate::listing::Listing;
+use crate::products::{signed, sum_of_products};
+use crate::row::Row;
+use crate::table::FormTable;
+use lw_net::{Cube, Node};
+use lw_pool::NetId;
+use std::alloc::{AllocError, Global};
+
+// The forms that were made, those that are listed, and the two forms of each net.
+#[derive(Drop)]
+pub(crate) struct Occurring {
+    pub(crate) table: FormTable,
+    pub(crate) listing: Listing,
+    pub(crate) sops: Vec<u32>,
+    pub(crate) facs: Vec<u32>,
+}
+
+// Notes a form.
+fn note(forms: &mut Vec<u32>, form: u32) -> Result<(), AllocError>
+    ensures { OnOk result (forms.new.items ≡ forms.old.items ++ form ∷ []) }
+{
+    forms.push(form)?;
+    Ok(())
+}
+
+// The sums of products of some nets.
+fn fanins_of(alloc: Global, sops: &[u32], nets: &[NetId]) -> Result<Vec<u32>, AllocError>
+    requires { All (λ net. net.0 < length sops.now) nets.now }
+    ensures { IfOk result (λ fanins. fanins.items ≡ map (λ net. slice_index_or sops.now net 0) (map net_number nets.now)) }
+{
+    let mut fanins = Vec::with_capacity(alloc, nets.len())?;
+    for net in nets {
+        fanins.push(sops[net.0 as usize])?;
+    }
+    Ok(fanins)
+}
+
+// The rows of a node.
+fn rows_of(alloc: Global, cubes: &[Cube]) -> Result<Vec<Row>, AllocError>
+    ensures { IfOk result (λ rows. rows.items ≡ map (map asked) cubes.now) }
+{
+    let mut rows = Vec::with_capacity(alloc, cubes.len())?;
+    for cube in cubes {
+        rows.push(Row::of_signs(alloc, cube.as_slice())?)?;
+    }
+    Ok(rows)
+}
+
+impl Occurring {
+    // Adds a net with its two forms.
+    fn add_net(&mut self, alloc: Global, sop: u32, fac: u32) -> Result<(), FormFault>
+        requires listed { (signals : List Signal) × AreListed self.old.table self.old.listing.listed.items self.old.listing.places.items self.old.sops.items self.old.facs.items signals }
+        requires sop { sop / 2 < length (made self.old.table) }
+        requires fac { fac / 2 < length (made self.old.table) }
+        ensures more { OnOk result (HasMore (made self.old.table) (made self.new.table)) }
+        ensures listed { OnOk result ((signals : List Signal) → AreListed self.old.table self.old.listing.listed.items self.old.listing.places.items self.old.sops.items self.old.facs.items signals → AreListed self.new.table self.new.listing.listed.items self.new.listing.places.items self.new.sops.items self.new.facs.items (signals ++ signal_at (made self.old.table) sop fac ∷ [])) }
+        ensures fault { IfErr result (λ fault. (signals : List Signal) → AreListed self.old.table self.old.listing.listed.items self.old.listing.places.items self.old.sops.items self.old.facs.items signals → IsTooLong (add_signals (signals ++ signal_at (made self.old.table) sop fac ∷ []) (true_form ∷ [])) fault) }
+    {
+        self.listing.add(alloc, &mut self.table, sop)?;
+        self.listing.add(alloc, &mut self.table, fac)?;
+        note(&mut self.sops, sop)?;
+        note(&mut self.facs, fac)?;
+        Ok(())
+    }
+}
