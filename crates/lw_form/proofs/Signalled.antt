@@ -1,6 +1,7 @@
 -- The forms of the nets of a network.
-use Rattle.std.proofs.Common.{◌≡◌, ◌≢◌, ◌+◌, ◌-◌, ◌*◌, ◌/◌, ◌<◌, ◌≤◌, ◌⊎◌, inl, inr, ℕ, zero, suc, Bool, true, false, List, [], ◌∷◌, ◌++◌, length, map, take, drop, Some, None, slice_get, get_or, slice_index_or, refl, ap, ap₂, sym, ◌∙◌, subst, arith, append_assoc, append-nil, length-append}
+use Rattle.std.proofs.Common.{◌≡◌, ◌≢◌, ◌+◌, ◌-◌, ◌*◌, ◌/◌, ◌<◌, ◌≤◌, ◌⊎◌, inl, inr, ℕ, zero, suc, Bool, true, false, List, [], ◌∷◌, ◌++◌, length, map, take, drop, Some, None, slice_get, get_or, slice_index_or, refl, ap, ap₂, sym, ◌∙◌, subst, arith, append_assoc, append-nil, length-append, All, Option}
 use Rattle.std.proofs.lemmas.List.{length-map, map-append}
+use Rattle.std.proofs.lemmas.List.Elements.{All-head, All-tail}
 use Rattle.lw_laws.specs.Forms.{Form}
 use Rattle.lw_laws.specs.Forms.Form.{var_form, true_form, not_form, and_form}
 use Rattle.lw_laws.specs.Networks.{Node}
@@ -11,9 +12,14 @@ use Rattle.lw_form.specs.declared.fault.FormFault.{FormFault}
 use Rattle.lw_form.specs.declared.fault.FormFault.TheVariants.{Limit, Memory}
 use Rattle.lw_form.specs.Listed.{bases_of, IsListed, IsTooLong}
 use Rattle.lw_form.specs.Nets.{signal_at, signals_at, AreListed}
-use Rattle.lw_form.specs.Tables.{AreBelow, forms_at, AreMade, HasMore, Table, made}
-use Rattle.lw_form.proofs.Joining.{more_same, more_twice, more_length, form_kept, forms_kept, below_kept_more, below_append}
-use Rattle.lw_form.proofs.ListedForms.{longer_add, longer_fault}
+use Rattle.lw_form.specs.Tables.{AreBelow, forms_at, AreMade, HasMore, Table, made, IsMadeAs}
+use Rattle.lw_form.proofs.Joining.{more_same, more_twice, more_length, form_kept, forms_kept, below_kept_more, below_append, below_other}
+use Rattle.lw_form.proofs.ListedForms.{longer_add, longer_fault, listed_kept, bases_kept, operand_fits}
+use Rattle.lw_form.proofs.Rows.{signed_form}
+use Rattle.lw_form.specs.Products.{signed_number, HaveColumns}
+use Rattle.lw_pool.specs.declared.id.NetId.{NetId}
+use Rattle.lw_net.specs.Plain.{net_number}
+use Rattle.lw_net.specs.Signs.{asked}
 
 pub added_last : (signals : List Signal) (s : Signal) (bases : List Form) → add_signals (signals ++ s ∷ []) bases ≡ add_form s.fac (add_form s.sop (add_signals signals bases))
 added_last [] s bases = refl
@@ -61,3 +67,59 @@ pub first_fault : (old : Table) (listed places sops facs : List ℕ) (signals : 
 first_fault old listed places sops facs signals sop fac w fault t =
     subst (λ l. IsTooLong l fault) (ap (λ l. add_form (form_of (made old) fac) (add_form (form_of (made old) sop) l)) w.bases ∙ sym (added_last signals (signal_at (made old) sop fac) (true_form ∷ [])))
     (longer_fault (add_form (form_of (made old) sop) (bases_of (made old) listed)) (add_form (form_of (made old) fac) (add_form (form_of (made old) sop) (bases_of (made old) listed))) fault (longer_add (form_of (made old) fac) (add_form (form_of (made old) sop) (bases_of (made old) listed))) t)
+
+-- where only the table grows
+pub listed_more : (old new : Table) (listed places sops facs : List ℕ) (signals : List Signal) → HasMore (made old) (made new) → AreListed old listed places sops facs signals → AreListed new listed places sops facs signals
+listed_more old new listed places sops facs signals more w = record {
+  listed_is = listed_kept (made old) (made new) listed places more w.listed_is;
+  sops_below = below_kept_more (made old) (made new) sops more w.sops_below;
+  facs_below = below_kept_more (made old) (made new) facs more w.facs_below;
+  one_each = w.one_each;
+  signals_are = signals_kept (made old) (made new) sops facs more w.sops_below w.facs_below ∙ w.signals_are;
+  bases = bases_kept (made old) (made new) listed more w.listed_is.within ∙ w.bases;
+}
+
+-- fan-ins
+
+sop_read : (forms : List Form) (sops facs : List ℕ) (net : ℕ) → length sops ≡ length facs → net < length sops → sop_at (signals_at forms sops facs) net ≡ form_of forms (get_or sops net 0)
+sop_read forms [] facs net e lt = absurd (omega arith)
+sop_read forms (s ∷ sops) [] net e lt = absurd (omega arith)
+sop_read forms (s ∷ sops) (f ∷ facs) zero e lt = refl
+sop_read forms (s ∷ sops) (f ∷ facs) (suc net) e lt = sop_read forms sops facs net (omega arith) (omega arith)
+
+abbrev pub AreNets : ℕ → List ℕ → Type 0
+AreNets count [] = Unit {0}
+AreNets count (n ∷ nets) = (n < count) × AreNets count nets
+
+pub fanin_forms : (forms : List Form) (sops facs nets : List ℕ) (signals : List Signal) → length sops ≡ length facs → signals_at forms sops facs ≡ signals → AreNets (length sops) nets → forms_at forms (map (λ net. get_or sops net 0) nets) ≡ map (sop_at signals) nets
+fanin_forms forms sops facs [] signals e s a = refl
+fanin_forms forms sops facs (n ∷ nets) signals e s (p, a) = ap₂ (λ x xs. x ∷ xs) (sym (sop_read forms sops facs n e p) ∙ ap (λ l. sop_at l n) s) (fanin_forms forms sops facs nets signals e s a)
+
+pub fanins_below : (count : ℕ) (sops nets : List ℕ) → AreBelow count sops → AreNets (length sops) nets → AreBelow count (map (λ net. get_or sops net 0) nets)
+fanins_below count sops [] b a = tt
+fanins_below count sops (n ∷ nets) b (p, a) = (operand_fits count sops n p b, fanins_below count sops nets b a)
+
+pub are_nets : (count : ℕ) (nets : List NetId) → All (λ net. net.0 < count) nets → AreNets count (map net_number nets)
+are_nets count [] all = tt
+are_nets count (n ∷ nets) all = (All-head (λ m. m.0 < count) n nets all, are_nets count nets (All-tail (λ m. m.0 < count) n nets all))
+
+pub have_columns : (columns : ℕ) (rows : List (List ℕ)) → All (λ row. length row ≡ columns) rows → HaveColumns columns (map (map asked) rows)
+have_columns columns [] all = tt
+have_columns columns (row ∷ rows) all = (length-map row asked ∙ All-head (λ r. length r ≡ columns) row rows all, have_columns columns rows (All-tail (λ r. length r ≡ columns) row rows all))
+
+-- the forms of a node
+pub node_signal : (width : ℕ) (t0 t1 t2 : Table) (sops facs nets fanins : List ℕ) (signals : List Signal) (rows : _) (on : Bool) (sop fac : ℕ) → AreMade (made t2) → length sops ≡ length facs → signals_at (made t0) sops facs ≡ signals → AreNets (length sops) nets → AreBelow (length (made t0)) sops → fanins ≡ map (λ net. get_or sops net 0) nets → IsMadeAs t0 t1 sop (sum_of_products width (forms_at (made t0) fanins) rows) → IsMadeAs t1 t2 fac (factored width (forms_at (made t1) fanins) rows) → signal_at (made t2) (signed_number on sop) (signed_number on fac) ≡ record { sop = signed on (sum_of_products width (map (sop_at signals) nets) rows); fac = signed on (factored width (map (sop_at signals) nets) rows) }
+node_signal width t0 t1 t2 sops facs nets fanins signals rows on sop fac are one s a below e ms mf =
+    let fs : forms_at (made t0) fanins ≡ map (sop_at signals) nets = ap (forms_at (made t0)) e ∙ fanin_forms (made t0) sops facs nets signals one s a in
+    let fb : AreBelow (length (made t0)) fanins = subst (AreBelow (length (made t0))) (sym e) (fanins_below (length (made t0)) sops nets below a) in
+    let kept = forms_kept (made t0) (made t1) fanins ms.more fb in
+    let le = more_length (made t1) (made t2) mf.more in
+    let ws = ms.within in
+    let lt : sop / 2 < length (made t2) = omega arith in
+    ap₂ (λ x y. record { sop = x; fac = y })
+    (signed_form (made t2) are on sop lt ∙ ap (signed on) (form_kept (made t1) (made t2) sop mf.more ms.within ∙ (ms.is ∙ ap (λ l. sum_of_products width l rows) fs)))
+    (signed_form (made t2) are on fac mf.within ∙ ap (signed on) (mf.is ∙ ap (λ l. factored width l rows) (kept ∙ fs)))
+
+pub signed_below : (n : ℕ) (sign : Bool) (f : ℕ) → f / 2 < n → signed_number sign f / 2 < n
+signed_below n true f lt = lt
+signed_below n false f lt = below_other n f lt

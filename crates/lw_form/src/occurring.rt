@@ -78,4 +78,23 @@ impl Occurring {
         note(&mut self.facs, fac)?;
         Ok(())
     }
+
+    // Adds a node's net, whose forms are made of those of its fan-ins.
+    fn add_node(&mut self, alloc: Global, width: usize, node: &Node) -> Result<(), FormFault>
+        requires low { 2 ≤ width }
+        requires high { width ≤ most_operands }
+        requires listed { (signals : List Signal) × AreListed self.old.table self.old.listing.listed.items self.old.listing.places.items self.old.sops.items self.old.facs.items signals }
+        requires fanins { All (λ net. net.0 < length self.old.sops.items) node.now.fanins }
+        requires columns { All (λ row. length row ≡ length node.now.fanins) node.now.rows }
+        ensures more { OnOk result (HasMore (made self.old.table) (made self.new.table)) }
+        ensures listed { OnOk result ((signals : List Signal) → AreListed self.old.table self.old.listing.listed.items self.old.listing.places.items self.old.sops.items self.old.facs.items signals → AreListed self.new.table self.new.listing.listed.items self.new.listing.places.items self.new.sops.items self.new.facs.items (signals ++ signal_of_node width signals (plain_node node.now) ∷ [])) }
+        ensures fault { IfErr result (λ fault. (signals : List Signal) → AreListed self.old.table self.old.listing.listed.items self.old.listing.places.items self.old.sops.items self.old.facs.items signals → IsTooLong (add_signals (signals ++ signal_of_node width signals (plain_node node.now) ∷ []) (true_form ∷ [])) fault) }
+    {
+        let fanins = fanins_of(alloc, &self.sops, node.fanins.as_slice())?;
+        let rows = rows_of(alloc, node.rows.as_slice())?;
+        let sop = sum_of_products(alloc, &mut self.table, width, &fanins, &rows)?;
+        let fac = factored(alloc, &mut self.table, width, &fanins, rows)?;
+        let _count = self.table.len();
+        self.add_net(alloc, signed(sop, node.on), signed(fac, node.on))
+    }
 }
