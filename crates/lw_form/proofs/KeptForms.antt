@@ -79,9 +79,9 @@ module _ (o : Listing) (is : IsListing o) where
   base_sign_of f (b, e) = is.signs b (base_form f) e
 
   apart_one : (f : Form) (fs : List Form) → Occurs o f → AllByRecursion (Occurs o) fs → is_among f fs ≡ false → is_among (complement f) fs ≡ false → AllByRecursion (λ h. N f / 2 ≢ h / 2) (map N fs)
-  apart_one f [] of a no nc = tt
-  apart_one f (h ∷ fs) of (oh, a) no nc =
-      let p = or_false (same_form f h) (is_among f fs) no in
+  apart_one f [] of a nf nc = tt
+  apart_one f (h ∷ fs) of (oh, a) nf nc =
+      let p = or_false (same_form f h) (is_among f fs) nf in
       let q = or_false (same_form (complement f) h) (is_among (complement f) fs) nc in
       (λ same. absurd (differ p.0 q.0 (form_decided f h (base_sign_of f of) (one_base f h of oh same))), apart_one f fs of a p.1 q.1)
     where
@@ -123,9 +123,9 @@ module _ (o : Listing) (is : IsListing o) where
 
   are_apart : (fs : List Form) → AllByRecursion (Occurs o) fs → slice_get o.bases 0 ≡ Some true_form → AreDistinct fs → is_among (not_form true_form) fs ≡ false → list_any (λ f. is_among (complement f) fs) fs ≡ false → AreApart (map N fs)
   are_apart [] a first d n c = tt
-  are_apart (f ∷ fs) (of, a) first (nt, no, d) n c =
+  are_apart (f ∷ fs) (of, a) first (nt, nf, d) n c =
       let p = or_false (same_form (not_form true_form) f) (is_among (not_form true_form) fs) n in
-      (not_true f of first nt p.0, apart_one f fs of a no (among_tail (complement f) f fs (clash_later f (f ∷ fs) fs c)), are_apart fs a first d p.1 (weaker_any f fs fs (any_tail (λ g. is_among (complement g) (f ∷ fs)) f fs c)))
+      (not_true f of first nt p.0, apart_one f fs of a nf (among_tail (complement f) f fs (clash_later f (f ∷ fs) fs c)), are_apart fs a first d p.1 (weaker_any f fs fs (any_tail (λ g. is_among (complement g) (f ∷ fs)) f fs c)))
 
   record IsAndOf (b : ℕ) (ns : List ℕ) : Type 0 where
     fs : FormList
@@ -150,7 +150,7 @@ module _ (o : Listing) (is : IsListing o) where
       subst AreAndOperands a.numbers (record {
         two = let t = ops.two in omega arith;
         few = let t = ops.few in omega arith;
-        apart = are_apart (items a.fs) (operands_occur o is b a.fs a.listed) first ops.distinct clash.0 clash.1;
+        apart = are_apart (items a.fs) (operands_occur 0 o is b a.fs a.listed) first ops.distinct clash.0 clash.1;
       })
 
   -- the numbered base forms differ
@@ -169,7 +169,7 @@ module _ (o : Listing) (is : IsListing o) where
   same_base a b (and_form fs) true_form d e s = cc
   same_base a b (and_form fs) (and_form hs) d e s =
       let ns : map N (items fs) ≡ map N (items hs) = cc in
-      let all = numbers_injective o is (items fs) (items hs) (operands_occur o is a fs d) (operands_occur o is b hs e) ns in
+      let all = numbers_injective o is (items fs) (items hs) (operands_occur 0 o is a fs d) (operands_occur 0 o is b hs e) ns in
       ap and_form (sym (form_list-items fs) ∙ (ap form_list all ∙ form_list-items hs))
 
   pub once_kept : (a b : ℕ) (base : Base) → slice_get (map (numbered_base o.bases) o.bases) a ≡ Some base → slice_get (map (numbered_base o.bases) o.bases) b ≡ Some base → a ≡ b

@@ -2,6 +2,7 @@ pub mod Clean
 pub mod Conjunctions
 pub mod FactoringSteps
 pub mod Joining
+pub mod KeptForms
 pub mod ListedForms
 pub mod Parts
 pub mod Rows
