@@ -4,6 +4,7 @@ pub mod FactoringSteps
 pub mod Joining
 pub mod KeptForms
 pub mod ListedForms
+pub mod Numbers
 pub mod Parts
 pub mod Rows
 pub mod Samples

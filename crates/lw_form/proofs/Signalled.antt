@@ -4,21 +4,27 @@ use Rattle.std.proofs.lemmas.List.{length-map, map-append}
 use Rattle.std.proofs.lemmas.List.Elements.{All-head, All-tail}
 use Rattle.lw_laws.specs.Forms.{Form}
 use Rattle.lw_laws.specs.Forms.Form.{var_form, true_form, not_form, and_form}
-use Rattle.lw_laws.specs.Networks.{Node}
-use Rattle.lw_laws.specs.Occurring.{add_form, add_signals}
-use Rattle.lw_laws.specs.Signals.{Signal, sop_at, signed, signal_of_node, signals_after, sum_of_products, factored}
+use Rattle.lw_laws.specs.Networks.{Node, Network}
+use Rattle.lw_laws.specs.Occurring.{appended, add_form, add_signals, occurring_forms}
+use Rattle.lw_laws.proofs.Lists.{slice_get_in}
+use Rattle.std.proofs.lemmas.List.{take_more, take-append-drop}
+use Rattle.lw_net.specs.declared.node.Node.{Node as NetNode}
+use Rattle.lw_net.specs.Networks.{NetworkParts, IsNetwork}
+use Rattle.lw_form.proofs.KeptForms.{after_length}
+use Rattle.lw_form.proofs.Tables.{get_left}
+use Rattle.lw_laws.specs.Signals.{Signal, sop_at, signed, signal_of_node, signal_of_input, input_signals, signals_after, signals_of, sum_of_products, factored}
 use Rattle.lw_laws.specs.SignalValues.{form_of}
 use Rattle.lw_form.specs.declared.fault.FormFault.{FormFault}
 use Rattle.lw_form.specs.declared.fault.FormFault.TheVariants.{Limit, Memory}
-use Rattle.lw_form.specs.Listed.{bases_of, IsListed, IsTooLong}
-use Rattle.lw_form.specs.Nets.{signal_at, signals_at, AreListed}
-use Rattle.lw_form.specs.Tables.{AreBelow, forms_at, AreMade, HasMore, Table, made, IsMadeAs}
-use Rattle.lw_form.proofs.Joining.{more_same, more_twice, more_length, form_kept, forms_kept, below_kept_more, below_append, below_other}
+use Rattle.lw_form.specs.Listed.{base_at, bases_of, IsListed, IsTooLong}
+use Rattle.lw_form.specs.Nets.{signal_at, signals_at, AreListed, AreNodes}
+use Rattle.lw_form.specs.Tables.{input_forms, AreBelow, forms_at, AreMade, HasMore, Table, made, IsMadeAs}
+use Rattle.lw_form.proofs.Joining.{more_same, more_twice, more_length, form_kept, forms_kept, below_kept_more, below_append, below_other, even_form}
 use Rattle.lw_form.proofs.ListedForms.{longer_add, longer_fault, listed_kept, bases_kept, operand_fits}
 use Rattle.lw_form.proofs.Rows.{signed_form}
 use Rattle.lw_form.specs.Products.{signed_number, HaveColumns}
 use Rattle.lw_pool.specs.declared.id.NetId.{NetId}
-use Rattle.lw_net.specs.Plain.{net_number}
+use Rattle.lw_net.specs.Plain.{net_number, plain_node}
 use Rattle.lw_net.specs.Signs.{asked}
 
 pub added_last : (signals : List Signal) (s : Signal) (bases : List Form) → add_signals (signals ++ s ∷ []) bases ≡ add_form s.fac (add_form s.sop (add_signals signals bases))
@@ -123,3 +129,153 @@ node_signal width t0 t1 t2 sops facs nets fanins signals rows on sop fac are one
 pub signed_below : (n : ℕ) (sign : Bool) (f : ℕ) → f / 2 < n → signed_number sign f / 2 < n
 signed_below n true f lt = lt
 signed_below n false f lt = below_other n f lt
+
+-- the start
+
+pub start_listed : (forms : List Form) (listed places : List ℕ) → listed ≡ [] → places ≡ [] → IsListed forms listed places
+start_listed forms listed places el ep = subst (λ l. IsListed forms l places) (sym el) (subst (IsListed forms []) (sym ep) (record {
+  within = λ k b e. absurd (none k b e);
+  placed = λ k b e. absurd (none k b e);
+  back = λ b ne. absurd (ne refl);
+  few = omega arith;
+})) where
+  none : (k b : ℕ) → slice_get [] k ≡ Some b → ⊥
+  none k b e = cc
+
+start_made : (t : Table) (inputs : ℕ) → t ≡ record { inputs = inputs; keys = [] } → made t ≡ true_form ∷ input_forms 0 inputs
+start_made t inputs e = ap made e
+
+pub start_within : (t : Table) (inputs : ℕ) → t ≡ record { inputs = inputs; keys = [] } → 0 < length (made t)
+start_within t inputs e = let l = ap length (start_made t inputs e) in omega arith
+
+start_base : (t : Table) (inputs : ℕ) → t ≡ record { inputs = inputs; keys = [] } → base_at (made t) 0 ≡ true_form
+start_base t inputs e = ap (λ l. base_at l 0) (start_made t inputs e)
+
+pub start_bases : (t : Table) (inputs : ℕ) (listed : List ℕ) → t ≡ record { inputs = inputs; keys = [] } → listed ≡ [] → appended (base_at (made t) 0) (bases_of (made t) listed) ≡ true_form ∷ []
+start_bases t inputs listed e el = ap₂ (λ f l. appended f (bases_of (made t) l)) (start_base t inputs e) el
+
+pub start_nets : (t : Table) (inputs : ℕ) (old listed places sops facs : List ℕ) → t ≡ record { inputs = inputs; keys = [] } → old ≡ [] → IsListed (made t) listed places → bases_of (made t) listed ≡ appended (base_at (made t) 0) (bases_of (made t) old) → sops ≡ [] → facs ≡ [] → AreListed t listed places sops facs []
+start_nets t inputs old listed places sops facs e eo is b es ef = subst (λ s. AreListed t listed places s facs []) (sym es) (subst (λ f. AreListed t listed places [] f []) (sym ef) (record {
+  listed_is = is;
+  sops_below = tt;
+  facs_below = tt;
+  one_each = refl;
+  signals_are = refl;
+  bases = b ∙ start_bases t inputs old e eo;
+}))
+
+-- inputs
+
+pub inputs_last : (i n : ℕ) → input_signals i (n + 1) ≡ input_signals i n ++ signal_of_input (i + n) ∷ []
+inputs_last i zero = let z : i ≡ i + 0 = omega arith in ap (λ j. signal_of_input j ∷ []) z
+inputs_last i (suc n) = let z : i + 1 + n ≡ i + suc n = omega arith in let s : suc n + 1 ≡ suc (n + 1) = omega arith in ap (input_signals i) s ∙ ap (λ l. signal_of_input i ∷ l) (inputs_last (i + 1) n ∙ ap (λ j. input_signals (i + 1) n ++ signal_of_input j ∷ []) z)
+
+inputs_front : (i n m : ℕ) → n ≤ m → (rest : List Signal) × (input_signals i m ≡ input_signals i n ++ rest)
+inputs_front i zero m le = (input_signals i m, refl)
+inputs_front i (suc n) zero le = absurd (omega arith)
+inputs_front i (suc n) (suc m) le = let (rest, e) = inputs_front (i + 1) n m (omega arith) in (rest, ap (λ l. signal_of_input i ∷ l) e)
+
+pub added_apart : (xs ys : List Signal) (bases : List Form) → add_signals (xs ++ ys) bases ≡ add_signals ys (add_signals xs bases)
+added_apart [] ys bases = refl
+added_apart (x ∷ xs) ys bases = added_apart xs ys (add_form x.fac (add_form x.sop bases))
+
+longer_signals : (signals : List Signal) (bases : List Form) → length bases ≤ length (add_signals signals bases)
+longer_signals [] bases = omega arith
+longer_signals (s ∷ signals) bases =
+    let a = longer_add s.sop bases in
+    let b = longer_add s.fac (add_form s.sop bases) in
+    let c = longer_signals signals (add_form s.fac (add_form s.sop bases)) in
+    omega arith
+
+pub rest_fault : (xs ys all : List Signal) (fault : FormFault) → all ≡ xs ++ ys → IsTooLong (add_signals xs (true_form ∷ [])) fault → IsTooLong (add_signals all (true_form ∷ [])) fault
+rest_fault xs ys all fault e t =
+    subst (λ l. IsTooLong l fault) (sym (ap (λ l. add_signals l (true_form ∷ [])) e ∙ added_apart xs ys (true_form ∷ [])))
+    (longer_fault (add_signals xs (true_form ∷ [])) (add_signals ys (add_signals xs (true_form ∷ []))) fault (longer_signals ys (add_signals xs (true_form ∷ []))) t)
+
+pub inputs_fault : (i inputs : ℕ) (fault : FormFault) → i < inputs → IsTooLong (add_signals (input_signals 0 i ++ signal_of_input i ∷ []) (true_form ∷ [])) fault → IsTooLong (add_signals (input_signals 0 inputs) (true_form ∷ [])) fault
+inputs_fault i inputs fault lt t =
+    let (rest, e) = inputs_front 0 (i + 1) inputs (omega arith) in
+    let z : 0 + i ≡ i = omega arith in
+    rest_fault (input_signals 0 i ++ signal_of_input i ∷ []) rest (input_signals 0 inputs) fault (e ∙ ap (λ l. l ++ rest) (inputs_last 0 i ∙ ap (λ j. input_signals 0 i ++ signal_of_input j ∷ []) z)) t
+
+input_at : (i n k : ℕ) → k < n → slice_get (input_forms i n) k ≡ Some (var_form (i + k))
+input_at i zero k lt = absurd (omega arith)
+input_at i (suc n) zero lt = let z : i ≡ i + 0 = omega arith in ap (λ j. Some (var_form j)) z
+input_at i (suc n) (suc k) lt = let z : i + 1 + k ≡ i + suc k = omega arith in input_at (i + 1) n k (omega arith) ∙ ap (λ j. Some (var_form j)) z
+
+module _ (old now : Table) (inputs i : ℕ) (e : old ≡ record { inputs = inputs; keys = [] }) (more : HasMore (made old) (made now)) (lt : i < inputs) where
+  input_place : slice_get (made now) (i + 1) ≡ Some (var_form i)
+  input_place =
+      let (m, grown) = more in
+      let z : 0 + i ≡ i = omega arith in
+      let next : i + 1 ≡ suc i = omega arith in
+      ap₂ slice_get (grown ∙ ap (λ l. l ++ m) (start_made old inputs e)) next ∙ get_left (true_form ∷ input_forms 0 inputs) m (suc i) (var_form i) (input_at 0 inputs i lt ∙ ap (λ j. Some (var_form j)) z)
+
+  pub input_within : 2 * (i + 1) / 2 < length (made now)
+  input_within = let l = slice_get_in (made now) (i + 1) (var_form i) input_place in omega arith
+
+  pub input_signal_is : signal_at (made now) (2 * (i + 1)) (2 * (i + 1)) ≡ signal_of_input i
+  input_signal_is = let f = even_form (made now) (i + 1) (var_form i) input_place in ap₂ (λ x y. record { sop = x; fac = y }) f f
+
+-- nodes
+
+after_apart : (width : ℕ) (signals : List Signal) (xs ys : List Node) → signals_after width signals (xs ++ ys) ≡ signals_after width (signals_after width signals xs) ys
+after_apart width signals [] ys = refl
+after_apart width signals (x ∷ xs) ys = after_apart width (signals ++ signal_of_node width signals x ∷ []) xs ys
+
+after_more : (width : ℕ) (signals : List Signal) (nodes : List Node) → (rest : List Signal) × (signals_after width signals nodes ≡ signals ++ rest)
+after_more width signals [] = ([], sym (append-nil signals))
+after_more width signals (node ∷ nodes) =
+    let x = signal_of_node width signals node in
+    let (rest, e) = after_more width (signals ++ x ∷ []) nodes in
+    (x ∷ rest, e ∙ append_assoc signals (x ∷ []) rest)
+
+signals_at_length : (forms : List Form) (sops facs : List ℕ) → length sops ≡ length facs → length (signals_at forms sops facs) ≡ length sops
+signals_at_length forms [] [] e = refl
+signals_at_length forms [] (f ∷ facs) e = absurd (omega arith)
+signals_at_length forms (s ∷ sops) [] e = absurd (omega arith)
+signals_at_length forms (s ∷ sops) (f ∷ facs) e = ap suc (signals_at_length forms sops facs (omega arith))
+
+pub net_count : (now : Table) (listed places sops facs : List ℕ) (signals : List Signal) → AreListed now listed places sops facs signals → length sops ≡ length signals
+net_count now listed places sops facs signals w = let a = signals_at_length (made now) sops facs w.one_each in let b = ap length w.signals_are in omega arith
+
+take_some : {X : Type 0} (n : ℕ) (xs : List X) → n ≤ length xs → length (take n xs) ≡ n
+take_some zero xs le = refl
+take_some (suc n) [] le = absurd (omega arith)
+take_some (suc n) (x ∷ xs) le = ap suc (take_some n xs (omega arith))
+
+module _ (width : ℕ) (signals : List Signal) (nodes : List NetNode) (i : ℕ) (node : NetNode) (lt : i < length nodes) (is : node ≡ get_or nodes i node) where
+  so_far : List Signal
+  so_far = signals_after width signals (map plain_node (take i nodes))
+
+  pub nodes_next : signals_after width signals (map plain_node (take (i + 1) nodes)) ≡ signals_after width signals (map plain_node (take i nodes)) ++ signal_of_node width (signals_after width signals (map plain_node (take i nodes))) (plain_node node) ∷ []
+  nodes_next = ap (λ l. signals_after width signals (map plain_node l)) (take_more nodes i node lt ∙ ap (λ n. take i nodes ++ n ∷ []) (sym is)) ∙ (ap (signals_after width signals) (map-append plain_node (take i nodes) (node ∷ [])) ∙ after_apart width signals (map plain_node (take i nodes)) (plain_node node ∷ []))
+
+  pub nodes_count : length (signals_after width signals (map plain_node (take i nodes))) ≡ length signals + i
+  nodes_count = let a = after_length width signals (map plain_node (take i nodes)) in let b = length-map (take i nodes) plain_node in let c = take_some i nodes (omega arith) in omega arith
+
+  pub nodes_fault : (fault : FormFault) → IsTooLong (add_signals (signals_after width signals (map plain_node (take i nodes)) ++ signal_of_node width (signals_after width signals (map plain_node (take i nodes))) (plain_node node) ∷ []) (true_form ∷ [])) fault → IsTooLong (add_signals (signals_after width signals (map plain_node nodes)) (true_form ∷ [])) fault
+  nodes_fault fault t =
+      let next = signals_after width signals (map plain_node (take (i + 1) nodes)) in
+      let (rest, e) = after_more width next (map plain_node (drop (i + 1) nodes)) in
+      rest_fault next rest (signals_after width signals (map plain_node nodes)) fault
+      (ap (λ l. signals_after width signals (map plain_node l)) (sym (take-append-drop (i + 1) nodes)) ∙ (ap (signals_after width signals) (map-append plain_node (take (i + 1) nodes) (drop (i + 1) nodes)) ∙ (after_apart width signals (map plain_node (take (i + 1) nodes)) (map plain_node (drop (i + 1) nodes)) ∙ e)))
+      (subst (λ l. IsTooLong (add_signals l (true_form ∷ [])) fault) (sym nodes_next) t)
+
+pub network_nodes : (net : NetworkParts) (count : ℕ) → IsNetwork net → count ≡ net.inputs → AreNodes count net.nodes
+network_nodes net count is e j node at = let n = is.nodes j node at in (subst (λ c. All (λ (m : NetId). m.0 < c + j) node.fanins) (sym e) n.before, n.columns)
+
+pub inputs_more : (i : ℕ) → input_signals 0 i ++ signal_of_input i ∷ [] ≡ input_signals 0 (i + 1)
+inputs_more i = let z : 0 + i ≡ i = omega arith in sym (inputs_last 0 i ∙ ap (λ j. input_signals 0 i ++ signal_of_input j ∷ []) z)
+
+pub network_fault : (width inputs : ℕ) (net : Network) (fault : FormFault) → inputs ≡ net.inputs → IsTooLong (add_signals (input_signals 0 inputs) (true_form ∷ [])) fault → IsTooLong (occurring_forms width net) fault
+network_fault width inputs net fault e t =
+    let (rest, s) = after_more width (input_signals 0 net.inputs) net.nodes in
+    rest_fault (input_signals 0 net.inputs) rest (signals_of width net) fault s (subst (λ n. IsTooLong (add_signals (input_signals 0 n) (true_form ∷ [])) fault) e t)
+
+input_count : (i n : ℕ) → length (input_signals i n) ≡ n
+input_count i zero = refl
+input_count i (suc n) = ap suc (input_count (i + 1) n)
+
+pub inputs_counted : (now : Table) (listed places sops facs : List ℕ) (inputs : ℕ) → AreListed now listed places sops facs (input_signals 0 inputs) → length sops ≡ inputs
+inputs_counted now listed places sops facs inputs w = net_count now listed places sops facs (input_signals 0 inputs) w ∙ input_count 0 inputs

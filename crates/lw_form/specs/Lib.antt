@@ -6,4 +6,5 @@ pub mod Limits
 pub mod Listed
 pub mod Nets
 pub mod Products
+pub mod Renumbered
 pub mod Tables

@@ -1,5 +1,6 @@
 -- The forms of nets by numbers.
-use Rattle.std.specs.Prelude.{ℕ, ◌+◌, ◌≡◌, List, [], ◌∷◌, ◌++◌, map, length}
+use Rattle.std.specs.Prelude.{ℕ, ◌+◌, ◌<◌, ◌≡◌, All, Some, slice_get, List, [], ◌∷◌, ◌++◌, map, length}
+use Rattle.lw_pool.specs.declared.id.NetId.{NetId}
 use Rattle.lw_net.specs.declared.node.Node.{Node}
 use Rattle.lw_net.specs.Plain.{plain_node}
 use Rattle.lw_laws.specs.Forms.{Form}
@@ -27,3 +28,7 @@ pub record AreListed (now : Table) (listed places sops facs : List ℕ) (signals
   pub one_each : length sops ≡ length facs
   pub signals_are : signals_at (made now) sops facs ≡ signals
   pub bases : bases_of (made now) listed ≡ add_signals signals (true_form ∷ [])
+
+-- Node j has fan-ins among the nets before its own, where there were so many nets before, and a sign for each.
+abbrev pub AreNodes : ℕ → List Node → Type 0
+AreNodes count nodes = (j : ℕ) (node : Node) → slice_get nodes j ≡ Some node → All (λ (net : NetId). net.0 < count + j) node.fanins × All (λ (row : List ℕ). length row ≡ length node.fanins) node.rows

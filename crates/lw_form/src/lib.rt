@@ -11,6 +11,7 @@ mod laws;
 mod listing;
 mod occurring;
 mod products;
+mod renumbering;
 mod row;
 mod table;
 

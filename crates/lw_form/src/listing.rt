@@ -30,11 +30,22 @@ enum Step {
 // The base forms that are listed, and the place of each base form in the list.
 #[derive(Drop)]
 pub(crate) struct Listing {
-    listed: Vec<u32>,
-    places: Vec<u32>,
+    pub(crate) listed: Vec<u32>,
+    pub(crate) places: Vec<u32>,
 }
 
 impl Listing {
+    // Nothing is listed.
+    pub(crate) fn new(alloc: Global) -> Self
+        ensures listed { result.listed.items ≡ [] }
+        ensures places { result.places.items ≡ [] }
+    {
+        Listing {
+            listed: Vec::new(alloc),
+            places: Vec::new(alloc),
+        }
+    }
+
     // The place of a base form in the list.
     pub(crate) fn place(&self, b: u32) -> u32
         ensures { result ≡ place_of self.now.places.items b }
@@ -73,7 +84,7 @@ impl Listing {
     }
 
     // Lists a base form, unless it is listed.
-    fn list(&mut self, table: &FormTable, b: u32) -> Result<(), FormFault>
+    pub(crate) fn list(&mut self, table: &FormTable, b: u32) -> Result<(), FormFault>
         requires listed { IsListed (made table.now) self.old.listed.items self.old.places.items }
         requires within { b < length (made table.now) }
         ensures listed { OnOk result (IsListed (made table.now) self.new.listed.items self.new.places.items) }

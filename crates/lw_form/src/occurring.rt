@@ -1,14 +1,15 @@
 // The forms of the nets of a network, and the list of what occurs in them.
 ghost use Rattle.std.specs.Prelude.{◌≡◌, ◌+◌, ◌/◌, ◌<◌, ◌≤◌, ◌++◌, [], ◌∷◌, ℕ, List, map, length, All, IfOk, IfErr, OnOk, slice_index_or};
-ghost use Rattle.lw_net.specs.Plain.{plain_node, net_number};
+ghost use Rattle.lw_net.specs.Networks.{most_nets};
+ghost use Rattle.lw_net.specs.Plain.{plain, plain_node, net_number};
 ghost use Rattle.lw_net.specs.Signs.{asked};
 ghost use Rattle.lw_laws.specs.Forms.{Form};
 ghost use Rattle.lw_laws.specs.Forms.Form.{true_form};
-ghost use Rattle.lw_laws.specs.Occurring.{add_signals};
-ghost use Rattle.lw_laws.specs.Signals.{Signal, signal_of_node};
+ghost use Rattle.lw_laws.specs.Occurring.{add_signals, occurring_forms};
+ghost use Rattle.lw_laws.specs.Signals.{Signal, signal_of_node, signals_after, input_signals, signals_of};
 ghost use Rattle.lw_form.specs.Limits.{most_operands};
 ghost use Rattle.lw_form.specs.Listed.{bases_of, IsTooLong};
-ghost use Rattle.lw_form.specs.Nets.{signal_at, AreListed};
+ghost use Rattle.lw_form.specs.Nets.{signal_at, AreListed, AreNodes};
 ghost use Rattle.lw_form.specs.Products.{HaveColumns};
 ghost use Rattle.lw_form.specs.Tables.{made, AreBelow, forms_at, HasMore};
 
@@ -18,7 +19,7 @@ use crate::listing::Listing;
 use crate::products::{signed, sum_of_products};
 use crate::row::Row;
 use crate::table::FormTable;
-use lw_net::{Cube, Node};
+use lw_net::{Cube, Network, Node};
 use lw_pool::NetId;
 use std::alloc::{AllocError, Global};
 
@@ -96,5 +97,67 @@ impl Occurring {
         let fac = factored(alloc, &mut self.table, width, &fanins, rows)?;
         let _count = self.table.len();
         self.add_net(alloc, signed(sop, node.on), signed(fac, node.on))
+    }
+
+    // Lists true alone.
+    fn start(alloc: Global, inputs: u32) -> Result<Self, FormFault>
+        requires { inputs ≤ most_nets }
+        ensures listed { IfOk result (λ all. AreListed all.table all.listing.listed.items all.listing.places.items all.sops.items all.facs.items []) }
+        ensures table { IfOk result (λ all. all.table ≡ record { inputs = inputs; keys = [] }) }
+        ensures fault { IfErr result (IsTooLong (true_form ∷ [])) }
+    {
+        let table = FormTable::new(alloc, inputs);
+        let mut listing = Listing::new(alloc);
+        listing.list(&table, 0)?;
+        Ok(Occurring {
+            table,
+            listing,
+            sops: Vec::new(alloc),
+            facs: Vec::new(alloc),
+        })
+    }
+
+    // Adds the inputs.
+    fn add_inputs(&mut self, alloc: Global, inputs: u32) -> Result<(), FormFault>
+        requires few { inputs ≤ most_nets }
+        requires table { self.old.table ≡ record { inputs = inputs; keys = [] } }
+        requires listed { AreListed self.old.table self.old.listing.listed.items self.old.listing.places.items self.old.sops.items self.old.facs.items [] }
+        ensures listed { OnOk result (AreListed self.new.table self.new.listing.listed.items self.new.listing.places.items self.new.sops.items self.new.facs.items (input_signals 0 inputs)) }
+        ensures fault { IfErr result (IsTooLong (add_signals (input_signals 0 inputs) (true_form ∷ []))) }
+    {
+        for input in 0..inputs {
+            let form = 2 * (input + 1);
+            self.add_net(alloc, form, form)?;
+        }
+        Ok(())
+    }
+
+    // Adds the nodes' nets.
+    fn add_nodes(&mut self, alloc: Global, width: usize, nodes: &[Node]) -> Result<(), FormFault>
+        requires low { 2 ≤ width }
+        requires high { width ≤ most_operands }
+        requires listed { (signals : List Signal) × AreListed self.old.table self.old.listing.listed.items self.old.listing.places.items self.old.sops.items self.old.facs.items signals }
+        requires nodes { AreNodes (length self.old.sops.items) nodes.now }
+        ensures listed { OnOk result ((signals : List Signal) → AreListed self.old.table self.old.listing.listed.items self.old.listing.places.items self.old.sops.items self.old.facs.items signals → AreListed self.new.table self.new.listing.listed.items self.new.listing.places.items self.new.sops.items self.new.facs.items (signals_after width signals (map plain_node nodes.now))) }
+        ensures fault { IfErr result (λ fault. (signals : List Signal) → AreListed self.old.table self.old.listing.listed.items self.old.listing.places.items self.old.sops.items self.old.facs.items signals → IsTooLong (add_signals (signals_after width signals (map plain_node nodes.now)) (true_form ∷ [])) fault) }
+    {
+        for node in nodes {
+            self.add_node(alloc, width, node)?;
+        }
+        Ok(())
+    }
+
+    // The forms of the nets of a network, and the list of what occurs in them.
+    pub(crate) fn of_network(alloc: Global, net: &Network, width: usize) -> Result<Self, FormFault>
+        requires low { 2 ≤ width }
+        requires high { width ≤ most_operands }
+        ensures listed { IfOk result (λ all. AreListed all.table all.listing.listed.items all.listing.places.items all.sops.items all.facs.items (signals_of width (plain net.now))) }
+        ensures fault { IfErr result (IsTooLong (occurring_forms width (plain net.now))) }
+    {
+        let inputs = net.inputs();
+        let mut all = Occurring::start(alloc, inputs)?;
+        all.add_inputs(alloc, inputs)?;
+        all.add_nodes(alloc, width, net.nodes())?;
+        Ok(all)
     }
 }
