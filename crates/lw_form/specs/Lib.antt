@@ -7,4 +7,5 @@ pub mod Listed
 pub mod Nets
 pub mod Products
 pub mod Renumbered
+pub mod Sampled
 pub mod Tables

@@ -5,6 +5,7 @@ ghost use Rattle.lw_net.specs.Plain.{plain, plain_node, net_number};
 ghost use Rattle.lw_net.specs.Signs.{asked};
 ghost use Rattle.lw_laws.specs.Forms.{Form};
 ghost use Rattle.lw_laws.specs.Forms.Form.{true_form};
+ghost use Rattle.lw_laws.specs.Mapped.{forms_of};
 ghost use Rattle.lw_laws.specs.Occurring.{add_signals, occurring_forms};
 ghost use Rattle.lw_laws.specs.Signals.{Signal, signal_of_node, signals_after, input_signals, signals_of};
 ghost use Rattle.lw_form.specs.Limits.{most_operands};
@@ -13,11 +14,13 @@ ghost use Rattle.lw_form.specs.Nets.{signal_at, AreListed, AreNodes};
 ghost use Rattle.lw_form.specs.Products.{HaveColumns};
 ghost use Rattle.lw_form.specs.Tables.{made, AreBelow, forms_at, HasMore};
 
-use crate::FormFault;
+use crate::{FormFault, Forms};
 use crate::factoring::factored;
 use crate::listing::Listing;
 use crate::products::{signed, sum_of_products};
+use crate::renumbering::{numbered_bases, renumbered_all};
 use crate::row::Row;
+use crate::sampling::samples;
 use crate::table::FormTable;
 use lw_net::{Cube, Network, Node};
 use lw_pool::NetId;
@@ -160,4 +163,43 @@ impl Occurring {
         all.add_nodes(alloc, width, net.nodes())?;
         Ok(all)
     }
+}
+
+// The list of what occurs in a network, over the numbers of forms in the list.
+fn finished(
+    alloc: Global,
+    net: &Network,
+    width: usize,
+    all: &Occurring,
+) -> Result<Forms, AllocError>
+    requires low { 2 ≤ width }
+    requires high { width ≤ most_operands }
+    requires listed { AreListed all.now.table all.now.listing.listed.items all.now.listing.places.items all.now.sops.items all.now.facs.items (signals_of width (plain net.now)) }
+    ensures { IfOk result (λ forms. forms ≡ forms_of width (plain net.now)) }
+{
+    let _width = width;
+    let _count = all.table.len();
+    let inputs = net.inputs();
+    let bases = numbered_bases(alloc, &all.table, &all.listing)?;
+    let samples = samples(alloc, bases.as_slice())?;
+    let sops = renumbered_all(alloc, &all.listing, &all.sops)?;
+    let facs = renumbered_all(alloc, &all.listing, &all.facs)?;
+    Ok(Forms::new(inputs, bases, sops, facs, samples))
+}
+
+/// The list of the base forms that occur in the forms of a network's nets, where an And has at most `width` operands.
+///
+/// The sum of products of a node is the Or of the Ands of its rows' literals, in order, and its factored form takes out the literal that
+/// stands in most rows, as long as one stands in two. True is listed first, then the inputs, and then, by nets, what the two forms are
+/// made of: an And's operands, and the Ands of its parts by rising mask. `Limit` comes exactly where more than 2,097,152 base forms
+/// occur. `Memory` is the one free answer.
+pub fn forms(alloc: Global, net: &Network, width: u8) -> Result<Forms, FormFault>
+    requires low { 2 ≤ width }
+    requires high { width ≤ most_operands }
+    ensures listed { IfOk result (λ forms. forms ≡ forms_of width (plain net.now)) }
+    ensures fault { IfErr result (IsTooLong (occurring_forms width (plain net.now))) }
+{
+    let all = Occurring::of_network(alloc, net, width as usize)?;
+    let forms = finished(alloc, net, width as usize, &all)?;
+    Ok(forms)
 }
