@@ -1,7 +1,14 @@
 pub mod Clean
 pub mod Conjunctions
+pub mod FactoringSteps
+pub mod Finished
 pub mod Joining
+pub mod KeptForms
+pub mod ListedForms
+pub mod Numbers
 pub mod Parts
 pub mod Rows
+pub mod SampleValues
 pub mod Samples
+pub mod Signalled
 pub mod Tables

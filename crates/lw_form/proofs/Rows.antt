@@ -41,25 +41,22 @@ columns_at n (r ∷ rows) (suc i) row (p, h) lt e = columns_at n rows i row h (o
 
 -- literals
 
-literal_next : (o : Option Bool) (f : ℕ) (fs : List ℕ) (row : List (Option Bool)) → List ℕ
-literal_next o f fs row = literal_numbers (f ∷ fs) (o ∷ row)
-
-literals_at : (fanins : List ℕ) (row : List (Option Bool)) (i : ℕ) (o : Option Bool) → i < length row → length row ≡ length fanins → o ≡ get_or row i o → literal_numbers (drop i fanins) (drop i row) ≡ literal_numbers (get_or fanins i 0 ∷ drop (i + 1) fanins) (o ∷ drop (i + 1) row)
+literals_at : (fanins : List ℕ) (row : List (Option Bool)) (i : ℕ) (o : Option Bool) → i < length row → length row ≡ length fanins → get_or row i None ≡ o → literal_numbers (drop i fanins) (drop i row) ≡ literal_numbers (get_or fanins i 0 ∷ drop (i + 1) fanins) (o ∷ drop (i + 1) row)
 literals_at fanins row i o lt e r =
     at_drop_more (λ l. literal_numbers l (drop i row)) fanins i 0 (omega arith)
-    ∙ (at_drop_more (literal_numbers (get_or fanins i 0 ∷ drop (i + 1) fanins)) row i o lt ∙ ap (λ p. literal_numbers (get_or fanins i 0 ∷ drop (i + 1) fanins) (p ∷ drop (i + 1) row)) (sym r))
+    ∙ (at_drop_more (literal_numbers (get_or fanins i 0 ∷ drop (i + 1) fanins)) row i None lt ∙ ap (λ p. literal_numbers (get_or fanins i 0 ∷ drop (i + 1) fanins) (p ∷ drop (i + 1) row)) r)
 
-pub literal_one : (fanins : List ℕ) (row : List (Option Bool)) (i : ℕ) (o : Option Bool) (sign : Bool) (old new : List ℕ) (n : ℕ) → i < length row → length row ≡ length fanins → o ≡ get_or row i o → o ≡ Some sign → n ≡ signed_number sign (get_or fanins i 0) → new ≡ old ++ n ∷ [] → old ++ literal_numbers (drop i fanins) (drop i row) ≡ literal_numbers fanins row → new ++ literal_numbers (drop (i + 1) fanins) (drop (i + 1) row) ≡ literal_numbers fanins row
-literal_one fanins row i o sign old new n lt e r s is grown so =
+pub literal_one : (fanins : List ℕ) (row : List (Option Bool)) (i : ℕ) (sign : Bool) (old new : List ℕ) (n : ℕ) → i < length row → length row ≡ length fanins → get_or row i None ≡ Some sign → n ≡ signed_number sign (get_or fanins i 0) → new ≡ old ++ n ∷ [] → old ++ literal_numbers (drop i fanins) (drop i row) ≡ literal_numbers fanins row → new ++ literal_numbers (drop (i + 1) fanins) (drop (i + 1) row) ≡ literal_numbers fanins row
+literal_one fanins row i sign old new n lt e s is grown so =
     let rest = literal_numbers (drop (i + 1) fanins) (drop (i + 1) row) in
     ap (λ l. l ++ rest) grown
     ∙ (append_assoc old (n ∷ []) rest
       ∙ (ap (λ m. old ++ m ∷ rest) is
-        ∙ (sym (ap (λ l. old ++ l) (literals_at fanins row i o lt e r ∙ ap (λ p. literal_numbers (get_or fanins i 0 ∷ drop (i + 1) fanins) (p ∷ drop (i + 1) row)) s)) ∙ so)))
+        ∙ (sym (ap (λ l. old ++ l) (literals_at fanins row i (Some sign) lt e s)) ∙ so)))
 
-pub literal_none : (fanins : List ℕ) (row : List (Option Bool)) (i : ℕ) (o : Option Bool) (old : List ℕ) → i < length row → length row ≡ length fanins → o ≡ get_or row i o → o ≡ None → old ++ literal_numbers (drop i fanins) (drop i row) ≡ literal_numbers fanins row → old ++ literal_numbers (drop (i + 1) fanins) (drop (i + 1) row) ≡ literal_numbers fanins row
-literal_none fanins row i o old lt e r s so =
-    sym (ap (λ l. old ++ l) (literals_at fanins row i o lt e r ∙ ap (λ p. literal_numbers (get_or fanins i 0 ∷ drop (i + 1) fanins) (p ∷ drop (i + 1) row)) s)) ∙ so
+pub literal_none : (fanins : List ℕ) (row : List (Option Bool)) (i : ℕ) (old new : List ℕ) → i < length row → length row ≡ length fanins → get_or row i None ≡ None → new ≡ old → old ++ literal_numbers (drop i fanins) (drop i row) ≡ literal_numbers fanins row → new ++ literal_numbers (drop (i + 1) fanins) (drop (i + 1) row) ≡ literal_numbers fanins row
+literal_none fanins row i old new lt e s same so =
+    ap (λ l. l ++ literal_numbers (drop (i + 1) fanins) (drop (i + 1) row)) same ∙ (sym (ap (λ l. old ++ l) (literals_at fanins row i None lt e s)) ∙ so)
 
 pub below_literals : (n : ℕ) (fanins : List ℕ) (row : List (Option Bool)) → AreBelow n fanins → AreBelow n (literal_numbers fanins row)
 below_literals n [] row a = tt

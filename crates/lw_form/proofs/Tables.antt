@@ -14,6 +14,7 @@ use Rattle.lw_laws.specs.Occurring.{appended}
 use Rattle.lw_laws.specs.SignalValues.{form_of}
 use Rattle.lw_laws.proofs.Equality.{same_form_refl, same_form_eq, items-form_list}
 use Rattle.lw_laws.proofs.Lists.{slice_get_in, slice_get_some}
+use Rattle.lw_form.specs.Renumbered.{simple_at}
 use Rattle.lw_form.specs.Tables.{AreBelow, input_forms, forms_at, spelled, made_after, forms_made, Table, made, AreMade, IsTable, HasMore, IsSimple}
 
 -- places of lists
@@ -417,3 +418,18 @@ and_at t b ids is lt e = let place : 1 + t.inputs + (b - t.inputs - 1) ≡ b = o
 pub no_length : {X : Type 0} (xs : List X) → length xs ≡ 0 → xs ≡ []
 no_length [] e = refl
 no_length (x ∷ xs) e = absurd (omega arith)
+
+input_place : (i n k : ℕ) → k < n → slice_get (input_forms i n) k ≡ Some (var_form (i + k))
+input_place i zero k lt = absurd (omega arith)
+input_place i (suc n) zero lt = let z : i ≡ i + 0 = omega arith in ap (λ j. Some (var_form j)) z
+input_place i (suc n) (suc k) lt = let z : i + 1 + k ≡ i + suc k = omega arith in input_place (i + 1) n k (omega arith) ∙ ap (λ j. Some (var_form j)) z
+
+simple_place : (n b : ℕ) → b < 1 + n → slice_get (true_form ∷ input_forms 0 n) b ≡ Some (simple_at b)
+simple_place n zero lt = refl
+simple_place n (suc b) lt = let z : 0 + b ≡ b = omega arith in input_place 0 n b (omega arith) ∙ ap (λ j. Some (var_form j)) z
+
+-- true and the inputs stand at the first places
+pub simple_kind : (t : Table) (b : ℕ) → b < 1 + t.inputs → slice_get (made t) b ≡ Some (simple_at b)
+simple_kind t b lt =
+    let (more, grown) = made_grown (true_form ∷ input_forms 0 t.inputs) t.keys in
+    ap (λ l. slice_get l b) grown ∙ get_left (true_form ∷ input_forms 0 t.inputs) more b (simple_at b) (simple_place t.inputs b lt)

@@ -1,6 +1,11 @@
 pub mod Bases
 pub mod Conjunctions
+pub mod Factoring
 pub mod Kept
 pub mod Limits
+pub mod Listed
+pub mod Nets
 pub mod Products
+pub mod Renumbered
+pub mod Sampled
 pub mod Tables

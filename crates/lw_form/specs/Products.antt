@@ -1,5 +1,5 @@
 -- Literals over numbers of forms, and what holds of rows.
-use Rattle.std.specs.Prelude.{ℕ, ◌≡◌, Bool, true, false, Option, Some, None, List, [], ◌∷◌, length, bit_xor}
+use Rattle.std.specs.Prelude.{ℕ, ◌≡◌, ◌<◌, Bool, true, false, Option, Some, None, List, [], ◌∷◌, length, bit_xor}
 
 abbrev pub signed_number : Bool → ℕ → ℕ
 signed_number true f = f
@@ -15,3 +15,8 @@ literal_numbers _ _ = []
 abbrev pub HaveColumns : ℕ → List (List (Option Bool)) → Type 0
 HaveColumns columns [] = Unit {0}
 HaveColumns columns (row ∷ rows) = (length row ≡ columns) × HaveColumns columns rows
+
+-- each row reaches the column
+abbrev pub ReachColumn : ℕ → List (List (Option Bool)) → Type 0
+ReachColumn column [] = Unit {0}
+ReachColumn column (row ∷ rows) = (column < length row) × ReachColumn column rows

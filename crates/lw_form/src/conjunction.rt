@@ -57,7 +57,7 @@ fn clashes(kept: &IndexSet<u32>) -> bool
 }
 
 // The operands of an And.
-fn operands(alloc: Global, forms: &[u32]) -> FormIds
+pub(crate) fn operands(alloc: Global, forms: &[u32]) -> FormIds
     requires { length forms.now ≤ most_operands }
     ensures { result ≡ forms.now }
 {

@@ -1,3 +1,5 @@
+use std::alloc::AllocError;
+
 /// Why the forms of a network are not listed.
 #[derive(Clone, Copy, Debug, PartialEq, Eq)]
 pub enum FormFault {
@@ -5,4 +7,15 @@ pub enum FormFault {
     Limit,
     /// Want of memory.
     Memory,
+}
+
+impl From<AllocError> for FormFault {
+    ghost use Rattle.std.specs.Prelude.{◌≡◌};
+    ghost use Rattle.lw_form.specs.declared.fault.FormFault.TheVariants.{Memory};
+
+    ghost from_gives = { λ e fault. fault ≡ Memory };
+
+    fn from(_: AllocError) -> Self {
+        FormFault::Memory
+    }
 }

@@ -3,14 +3,22 @@
 
 mod base;
 mod conjunction;
+mod factoring;
 mod fault;
-mod forms;
+mod form_list;
 mod ids;
+mod laws;
+mod listing;
+mod occurring;
 mod products;
+mod renumbering;
 mod row;
+mod sampling;
 mod table;
 
 pub use base::Base;
 pub use fault::FormFault;
-pub use forms::Forms;
+pub use form_list::Forms;
 pub use ids::FormIds;
+pub use laws::occurring_forms_are_kept;
+pub use occurring::forms;

@@ -25,8 +25,9 @@ fn literals(alloc: Global, fanins: &[u32], row: &[Option<bool>]) -> Result<Vec<u
 {
     let mut literals = Vec::new(alloc);
     for column in 0..row.len() {
-        if let Some(sign) = row[column] {
-            literals.push(signed(fanins[column], sign))?;
+        match row[column] {
+            Some(sign) => literals.push(signed(fanins[column], sign))?,
+            None => {}
         }
     }
     Ok(literals)
@@ -48,6 +49,7 @@ fn cubes(
 {
     let mut cubes = Vec::new(alloc);
     for row in rows {
+        let _count = table.len();
         let literals = literals(alloc, fanins, row.as_slice())?;
         cubes.push(conjunction(alloc, table, width, literals)?)?;
     }

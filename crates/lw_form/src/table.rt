@@ -29,6 +29,7 @@ impl Model for FormTable {
 impl FormTable {
     ghost use Rattle.lw_laws.specs.Forms.{Form};
     ghost use Rattle.lw_laws.specs.Occurring.{appended};
+    ghost use Rattle.lw_form.specs.Renumbered.{simple_at};
     ghost use Rattle.lw_form.specs.Tables.{made, spelled, AreMade, AreBelow, IsSimple};
 
     // True and the inputs.
@@ -68,6 +69,7 @@ impl FormTable {
     pub(crate) fn operands(&self, b: u32) -> Option<&FormIds>
         requires { b < length (made self.now) }
         ensures simple { IfNone result ((f : Form) × (slice_get (made self.now) b ≡ Some f) × IsSimple f) }
+        ensures kind { IfNone result (slice_get (made self.now) b ≡ Some (simple_at b)) }
         ensures and_is { IfSome result (λ ids. slice_get (made self.now) b ≡ Some (spelled (made self.now) ids.now)) }
         ensures below { IfSome result (λ ids. AreBelow (length (made self.now)) ids.now) }
     {

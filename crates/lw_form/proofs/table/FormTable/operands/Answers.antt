@@ -1,7 +1,7 @@
 use Rattle.std.proofs.Common.{◌≡◌, ◌-◌, ◌<◌, ◌+◌, List, ℕ, arith, subst, ◌∙◌, sym, ap, Some, slice_get, get_or, refl, length}
 use Rattle.std.proofs.lemmas.Option.{slice_get_read}
 use Rattle.lw_form.specs.Tables.{Table, made, spelled, IsSimple, AreBelow}
-use Rattle.lw_form.proofs.Tables.{simple_form, and_at, key_below, forms_count}
+use Rattle.lw_form.proofs.Tables.{simple_form, simple_kind, and_at, key_below, forms_count}
 use Rattle.lw_form.proofs.table.FormTable.operands.Goals as goal
 
 pub returns-then-b-self-clause-simple : goal.returns-then-b-self-clause-simple
@@ -30,3 +30,6 @@ returns-clause-and_is c = rw (← c.self.view_is) (and_at (record { inputs = c.s
 
 pub returns-clause-below : goal.returns-clause-below
 returns-clause-below c = rw (← c.self.view_is) (key_below (record { inputs = c.self.inside.inputs; keys = c.self.inside.ands.keys }) c.self.invariant (c.args.b - c.self.inside.inputs - 1) c.index-ands-b.result (key c))
+
+pub returns-then-b-self-clause-kind : goal.returns-then-b-self-clause-kind
+returns-then-b-self-clause-kind c = rw (← c.self.view_is) (simple_kind (record { inputs = c.self.inside.inputs; keys = c.self.inside.ands.keys }) c.args.b (let l = c.if-b-self.true in omega arith))

@@ -2,7 +2,7 @@ use Rattle.std.proofs.Common.{◌≡◌, sym, ap, ◌∙◌, Some}
 use Rattle.lw_laws.specs.NumberedForms.{NumberedForms}
 use Rattle.lw_form.specs.Bases.{plain_base}
 use Rattle.lw_form.proofs.Parts.{alone, listed, not_absent}
-use Rattle.lw_form.proofs.forms.Forms.part.Goals as goal
+use Rattle.lw_form.proofs.form_list.Forms.part.Goals as goal
 
 pub returns-then-len-eq1 : goal.returns-then-len-eq1
 returns-then-len-eq1 c =

@@ -1,8 +1,8 @@
-ghost use Rattle.std.specs.Prelude.{◌≡◌, ◌<◌, ◌*◌, ◌/◌, ℕ, List, Bool, false, Some, slice_get, length};
+ghost use Rattle.std.specs.Prelude.{◌≡◌, ◌<◌, ◌*◌, ◌/◌, ℕ, List, Bool, false, Some, slice_get, map, length};
 ghost use Rattle.lw_laws.specs.NumberedForms.{IsPart, NumberOccurs};
 ghost use Rattle.lw_laws.specs.NumberedForms.Base.{base_and};
 ghost use Rattle.lw_laws.specs.NumberedValues.{AreNumberedValues};
-ghost use Rattle.lw_form.specs.Kept.{AreForms, HasPart};
+ghost use Rattle.lw_form.specs.Kept.{AreForms, AreSamples, HasPart};
 
 use crate::{Base, FormIds};
 use indexmap::IndexSet;
@@ -38,6 +38,27 @@ impl Model for Forms {
 
 impl Forms {
     ghost use Rattle.lw_form.specs.Bases.{plain_base, picked};
+
+    // The list of these base forms.
+    pub(crate) fn new(
+        inputs: u32,
+        bases: IndexSet<Base>,
+        sops: Vec<u32>,
+        facs: Vec<u32>,
+        samples: Vec<bool>,
+    ) -> Self
+        requires kept { AreForms (record { inputs = inputs; bases = map plain_base bases.keys; sops = sops.items; facs = facs.items }) }
+        requires sampled { AreSamples (record { inputs = inputs; bases = map plain_base bases.keys; sops = sops.items; facs = facs.items }) samples.items }
+        ensures { result ≡ record { inputs = inputs; bases = map plain_base bases.keys; sops = sops.items; facs = facs.items } }
+    {
+        Forms {
+            inputs,
+            bases,
+            sops,
+            facs,
+            samples,
+        }
+    }
 
     /// The number of base forms.
     pub fn len(&self) -> u32

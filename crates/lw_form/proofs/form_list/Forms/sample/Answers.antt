@@ -1,7 +1,7 @@
 use Rattle.std.proofs.Common.{◌≡◌, sym, subst}
 use Rattle.lw_laws.specs.NumberedForms.{NumberOccurs}
 use Rattle.lw_form.proofs.Samples.{odd_value}
-use Rattle.lw_form.proofs.forms.Forms.sample.Goals as goal
+use Rattle.lw_form.proofs.form_list.Forms.sample.Goals as goal
 
 pub returns-else-form-eq0 : goal.returns-else-form-eq0
 returns-else-form-eq0 c =

@@ -1,0 +1,247 @@
+-- The forms of a network keep what the list of their numbers keeps.
+use Rattle.std.proofs.Common.{◌≡◌, ◌≢◌, ◌+◌, ◌-◌, ◌*◌, ◌/◌, ◌%◌, ◌<◌, ◌≤◌, ◌⊎◌, inl, inr, ℕ, zero, suc, Bool, true, false, ◌||◌, List, [], ◌∷◌, ◌++◌, length, map, Option, Some, None, slice_get, refl, ap, ap₂, sym, ◌∙◌, subst, arith, append_assoc, append-nil, length-append}
+use Rattle.std.specs.List.{AllByRecursion, list_any}
+use Rattle.std.proofs.lemmas.List.{length-map}
+use Rattle.lw_net.specs.Networks.{most_nets}
+use Rattle.lw_laws.specs.Networks.{Node, Network}
+use Rattle.lw_laws.specs.Forms.{Form, FormList, items, form_list, same_form, is_among, has_clash, complement}
+use Rattle.lw_laws.specs.Forms.Form.{var_form, true_form, not_form, and_form}
+use Rattle.lw_laws.specs.Signals.{Signal, signal_of_node, signals_after, input_signals, signal_of_input, signals_of}
+use Rattle.lw_laws.specs.Occurring.{occurring_forms, HasInputsFirst}
+use Rattle.lw_laws.specs.Decompositions.{Listing, listing_of, IsListedAt, Occurs, base_form}
+use Rattle.lw_laws.specs.Listings.{IsListing, AreDistinct, AreOperands, sign_of}
+use Rattle.lw_laws.specs.Numbering.{place, number, numbered, numbered_base, sop_number, fac_number, IsNumber}
+use Rattle.lw_laws.specs.NumberedForms.{Base, NumberedForms, AreNumberedForms}
+use Rattle.lw_laws.specs.NumberedForms.Base.{base_true, base_input, base_and}
+use Rattle.lw_laws.specs.SignalValues.{number_value}
+use Rattle.lw_laws.specs.Mapped.{forms_of}
+use Rattle.lw_laws.proofs.Agreement.{operands_occur, numbered_are_forms}
+use Rattle.lw_laws.proofs.Equality.{same_form_refl, same_form_eq, form_list-items}
+use Rattle.lw_laws.proofs.FormTruth.{signals_agree}
+use Rattle.lw_laws.proofs.Listed.{occurring_is_listing, true_and_inputs_first}
+use Rattle.lw_laws.proofs.Lists.{slice_get_in, slice_get_some}
+use Rattle.lw_laws.proofs.Numbers.{slice_get_map, slice_get_map_back, number_is, number_of, numbers_injective, complement_base}
+use Rattle.lw_laws.proofs.NumberValues.{numbers_have_values}
+use Rattle.lw_laws.proofs.Sublists.{or_false}
+use Rattle.lw_form.specs.Kept.{AreApart, AreAndOperands, AreInOrder, AreNets, AreForms}
+use Rattle.lw_form.specs.Limits.{most_bases, most_operands}
+
+-- a form is determined by its base form and its sign
+form_decided : (f h : Form) → sign_of (base_form f) ≡ 0 → base_form f ≡ base_form h → (f ≡ h) ⊎ (h ≡ complement f)
+form_decided (var_form i) (var_form j) z e = inl e
+form_decided (var_form i) true_form z e = cc
+form_decided (var_form i) (not_form h) z e = inr (ap not_form (sym e))
+form_decided (var_form i) (and_form hs) z e = cc
+form_decided true_form (var_form j) z e = cc
+form_decided true_form true_form z e = inl refl
+form_decided true_form (not_form h) z e = inr (ap not_form (sym e))
+form_decided true_form (and_form hs) z e = cc
+form_decided (not_form f) (not_form h) z e = inl (ap not_form e)
+form_decided (not_form f) (var_form j) z e = inr (sym e)
+form_decided (not_form f) true_form z e = inr (sym e)
+form_decided (not_form f) (and_form hs) z e = inr (sym e)
+form_decided (and_form fs) (var_form j) z e = cc
+form_decided (and_form fs) true_form z e = cc
+form_decided (and_form fs) (not_form h) z e = inr (ap not_form (sym e))
+form_decided (and_form fs) (and_form hs) z e = inl e
+
+not_both : (t : Bool) → t ≡ true → t ≡ false → ⊥
+not_both true p q = cc
+not_both false p q = cc
+
+sign_small : (f : Form) → sign_of f ≤ 1
+sign_small (var_form i) = omega arith
+sign_small true_form = omega arith
+sign_small (not_form f) = omega arith
+sign_small (and_form fs) = omega arith
+
+module _ (o : Listing) (is : IsListing o) where
+  abbrev N : Form → ℕ
+  N f = number o.bases f
+
+  half_number : (f : Form) → N f / 2 ≡ place (base_form f) o.bases
+  half_number f = let s = sign_small f in omega arith
+
+  -- numbers with one base form are of one form, or of complements
+  one_base : (f h : Form) → Occurs o f → Occurs o h → N f / 2 ≡ N h / 2 → base_form f ≡ base_form h
+  one_base f h (a, d) (b, e) same =
+      let (p, at, k) = number_is o.bases f a d in
+      let (q, at', k') = number_is o.bases h b e in
+      let sf = sign_small f in
+      let sh = sign_small h in
+      let here : p ≡ q = omega arith in
+      inside (slice_get o.bases q) (base_form f) (base_form h) (ap (slice_get o.bases) (sym here) ∙ at) at'
+    where
+      inside : (x : Option Form) (f h : Form) → x ≡ Some f → x ≡ Some h → f ≡ h
+      inside x f h d e = cc
+
+  base_sign_of : (f : Form) → Occurs o f → sign_of (base_form f) ≡ 0
+  base_sign_of f (b, e) = is.signs b (base_form f) e
+
+  apart_one : (f : Form) (fs : List Form) → Occurs o f → AllByRecursion (Occurs o) fs → is_among f fs ≡ false → is_among (complement f) fs ≡ false → AllByRecursion (λ h. N f / 2 ≢ h / 2) (map N fs)
+  apart_one f [] of a nf nc = tt
+  apart_one f (h ∷ fs) of (oh, a) nf nc =
+      let p = or_false (same_form f h) (is_among f fs) nf in
+      let q = or_false (same_form (complement f) h) (is_among (complement f) fs) nc in
+      (λ same. absurd (differ p.0 q.0 (form_decided f h (base_sign_of f of) (one_base f h of oh same))), apart_one f fs of a p.1 q.1)
+    where
+      differ : same_form f h ≡ false → same_form (complement f) h ≡ false → (f ≡ h) ⊎ (h ≡ complement f) → ⊥
+      differ p q (inl e) = not_both (same_form f h) (subst (λ g. same_form f g ≡ true) e (same_form_refl f)) p
+      differ p q (inr e) = not_both (same_form (complement f) h) (subst (λ g. same_form (complement f) g ≡ true) (sym e) (same_form_refl (complement f))) q
+
+  -- the place 0 is that of true
+  not_true : (f : Form) → Occurs o f → slice_get o.bases 0 ≡ Some true_form → same_form f true_form ≡ false → same_form (not_form true_form) f ≡ false → 0 < N f / 2
+  not_true f of first nt nn = positive (N f / 2) refl where
+    positive : (k : ℕ) → N f / 2 ≡ k → 0 < k
+    positive (suc k) e = omega arith
+    positive zero e =
+        let t : N true_form / 2 ≡ 0 = let m = number_of o is true_form 0 (0, first, refl) in omega arith in
+        absurd (which (form_decided true_form f refl (sym (one_base f true_form of (0, first) (e ∙ sym t)))))
+      where
+        which : (true_form ≡ f) ⊎ (f ≡ complement true_form) → ⊥
+        which (inl s) = not_both (same_form f true_form) (subst (λ g. same_form g true_form ≡ true) s refl) nt
+        which (inr s) = not_both (same_form (not_form true_form) f) (subst (λ g. same_form (not_form true_form) g ≡ true) (sym s) refl) nn
+
+  clash_later : (f : Form) (all fs : List Form) → list_any (λ g. is_among (complement g) all) (f ∷ fs) ≡ false → is_among (complement f) all ≡ false
+  clash_later f all fs e = (or_false (is_among (complement f) all) (list_any (λ g. is_among (complement g) all) fs) e).0
+
+  among_tail : (f h : Form) (fs : List Form) → is_among f (h ∷ fs) ≡ false → is_among f fs ≡ false
+  among_tail f h fs e = (or_false (same_form f h) (is_among f fs) e).1
+
+  any_tail : (p : Form → Bool) (h : Form) (fs : List Form) → list_any p (h ∷ fs) ≡ false → list_any p fs ≡ false
+  any_tail p h fs e = (or_false (p h) (list_any p fs) e).1
+
+  weaker_any : (h : Form) (all fs : List Form) → list_any (λ g. is_among (complement g) (h ∷ all)) fs ≡ false → list_any (λ g. is_among (complement g) all) fs ≡ false
+  weaker_any h all [] e = refl
+  weaker_any h all (f ∷ fs) e =
+      let p = or_false (is_among (complement f) (h ∷ all)) (list_any (λ g. is_among (complement g) (h ∷ all)) fs) e in
+      both (is_among (complement f) all) (list_any (λ g. is_among (complement g) all) fs) (among_tail (complement f) h all p.0) (weaker_any h all fs p.1)
+    where
+      both : (a b : Bool) → a ≡ false → b ≡ false → (a || b) ≡ false
+      both false b p q = q
+      both true b p q = cc
+
+  are_apart : (fs : List Form) → AllByRecursion (Occurs o) fs → slice_get o.bases 0 ≡ Some true_form → AreDistinct fs → is_among (not_form true_form) fs ≡ false → list_any (λ f. is_among (complement f) fs) fs ≡ false → AreApart (map N fs)
+  are_apart [] a first d n c = tt
+  are_apart (f ∷ fs) (of, a) first (nt, nf, d) n c =
+      let p = or_false (same_form (not_form true_form) f) (is_among (not_form true_form) fs) n in
+      (not_true f of first nt p.0, apart_one f fs of a nf (among_tail (complement f) f fs (clash_later f (f ∷ fs) fs c)), are_apart fs a first d p.1 (weaker_any f fs fs (any_tail (λ g. is_among (complement g) (f ∷ fs)) f fs c)))
+
+  record IsAndOf (b : ℕ) (ns : List ℕ) : Type 0 where
+    fs : FormList
+    listed : slice_get o.bases b ≡ Some (and_form fs)
+    numbers : map N (items fs) ≡ ns
+
+  and_of_base : (b : ℕ) (ns : List ℕ) (f : Form) → slice_get o.bases b ≡ Some f → numbered_base o.bases f ≡ base_and ns → IsAndOf b ns
+  and_of_base b ns (var_form i) e s = cc
+  and_of_base b ns true_form e s = cc
+  and_of_base b ns (not_form f) e s = cc
+  and_of_base b ns (and_form fs) e s = record { fs = fs; listed = e; numbers = cc }
+
+  and_at : (b : ℕ) (ns : List ℕ) → slice_get (map (numbered_base o.bases) o.bases) b ≡ Some (base_and ns) → IsAndOf b ns
+  and_at b ns e = let (f, d, s) = slice_get_map_back (numbered_base o.bases) o.bases b (base_and ns) e in and_of_base b ns f d s
+
+  pub operands_kept : slice_get o.bases 0 ≡ Some true_form → o.width ≤ most_operands → (b : ℕ) (ns : List ℕ) → slice_get (map (numbered_base o.bases) o.bases) b ≡ Some (base_and ns) → AreAndOperands ns
+  operands_kept first narrow b ns e =
+      let a = and_at b ns e in
+      let ops = (is.ands b a.fs a.listed).operands_are in
+      let l = length-map (items a.fs) N in
+      let clash = or_false (is_among (not_form true_form) (items a.fs)) (list_any (λ f. is_among (complement f) (items a.fs)) (items a.fs)) ops.clashless in
+      subst AreAndOperands a.numbers (record {
+        two = let t = ops.two in omega arith;
+        few = let t = ops.few in omega arith;
+        apart = are_apart (items a.fs) (operands_occur 0 o is b a.fs a.listed) first ops.distinct clash.0 clash.1;
+      })
+
+  -- the numbered base forms differ
+  same_base : (a b : ℕ) (f h : Form) → slice_get o.bases a ≡ Some f → slice_get o.bases b ≡ Some h → numbered_base o.bases f ≡ numbered_base o.bases h → f ≡ h
+  same_base a b (not_form f) h d e s = let z = is.signs a (not_form f) d in absurd (omega arith)
+  same_base a b (var_form i) (not_form h) d e s = let z = is.signs b (not_form h) e in absurd (omega arith)
+  same_base a b true_form (not_form h) d e s = let z = is.signs b (not_form h) e in absurd (omega arith)
+  same_base a b (and_form fs) (not_form h) d e s = let z = is.signs b (not_form h) e in absurd (omega arith)
+  same_base a b (var_form i) (var_form j) d e s = let k : i ≡ j = cc in ap var_form k
+  same_base a b (var_form i) true_form d e s = cc
+  same_base a b (var_form i) (and_form hs) d e s = cc
+  same_base a b true_form (var_form j) d e s = cc
+  same_base a b true_form true_form d e s = refl
+  same_base a b true_form (and_form hs) d e s = cc
+  same_base a b (and_form fs) (var_form j) d e s = cc
+  same_base a b (and_form fs) true_form d e s = cc
+  same_base a b (and_form fs) (and_form hs) d e s =
+      let ns : map N (items fs) ≡ map N (items hs) = cc in
+      let all = numbers_injective o is (items fs) (items hs) (operands_occur 0 o is a fs d) (operands_occur 0 o is b hs e) ns in
+      ap and_form (sym (form_list-items fs) ∙ (ap form_list all ∙ form_list-items hs))
+
+  pub once_kept : (a b : ℕ) (base : Base) → slice_get (map (numbered_base o.bases) o.bases) a ≡ Some base → slice_get (map (numbered_base o.bases) o.bases) b ≡ Some base → a ≡ b
+  once_kept a b base d e =
+      let (f, df, sf) = slice_get_map_back (numbered_base o.bases) o.bases a base d in
+      let (h, dh, sh) = slice_get_map_back (numbered_base o.bases) o.bases b base e in
+      is.once a b f df (dh ∙ ap Some (sym (same_base a b f h df dh (sf ∙ sym sh))))
+
+  pub in_order_kept : (inputs : ℕ) → HasInputsFirst inputs o.bases → AreInOrder (numbered inputs o)
+  in_order_kept inputs first = record {
+    first = slice_get_map (numbered_base o.bases) o.bases 0 true_form first.first;
+    inputs = λ i lt. slice_get_map (numbered_base o.bases) o.bases (i + 1) (var_form i) (first.inputs i lt);
+    later = λ b past lt. let l = length-map o.bases (numbered_base o.bases) in let (f, e) = slice_get_some o.bases b (omega arith) in an_and b past f e;
+  } where
+    an_and : (b : ℕ) → inputs < b → (f : Form) → slice_get o.bases b ≡ Some f → (fs : List ℕ) × (slice_get (map (numbered_base o.bases) o.bases) b ≡ Some (base_and fs))
+    an_and b past (and_form fs) e = (map N (items fs), slice_get_map (numbered_base o.bases) o.bases b (and_form fs) e)
+    an_and b past (not_form f) e = let z = is.signs b (not_form f) e in absurd (omega arith)
+    an_and b past true_form e = let z = is.once b 0 true_form e first.first in absurd (omega arith)
+    an_and b past (var_form i) e = let lt = first.below b i e in let z = is.once b (i + 1) (var_form i) e (first.inputs i lt) in absurd (omega arith)
+
+  pub input_number : (inputs i : ℕ) → HasInputsFirst inputs o.bases → i < inputs → number o.bases (var_form i) ≡ 2 * (i + 1)
+  input_number inputs i first lt = sym (number_of o is (var_form i) (2 * (i + 1)) (i + 1, first.inputs i lt, sym (plus_zero (2 * (i + 1))))) where
+    plus_zero : (n : ℕ) → n + 0 ≡ n
+    plus_zero n = omega arith
+
+-- the signals of inputs come first
+
+inputs_length : (i n : ℕ) → length (input_signals i n) ≡ n
+inputs_length i zero = refl
+inputs_length i (suc n) = ap suc (inputs_length (i + 1) n)
+
+pub after_length : (width : ℕ) (signals : List Signal) (nodes : List Node) → length (signals_after width signals nodes) ≡ length signals + length nodes
+after_length width signals [] = omega arith
+after_length width signals (node ∷ nodes) = let e = after_length width (signals ++ signal_of_node width signals node ∷ []) nodes in let l = length-append signals (signal_of_node width signals node ∷ []) in omega arith
+
+pub signals_length : (width : ℕ) (net : Network) → length (signals_of width net) ≡ net.inputs + length net.nodes
+signals_length width net = let e = after_length width (input_signals 0 net.inputs) net.nodes in let i = inputs_length 0 net.inputs in omega arith
+
+after_front : (width : ℕ) (signals : List Signal) (nodes : List Node) (k : ℕ) (s : Signal) → slice_get signals k ≡ Some s → slice_get (signals_after width signals nodes) k ≡ Some s
+after_front width signals [] k s e = e
+after_front width signals (node ∷ nodes) k s e = after_front width (signals ++ signal_of_node width signals node ∷ []) nodes k s (front signals k e) where
+  front : (xs : List Signal) (j : ℕ) → slice_get xs j ≡ Some s → slice_get (xs ++ signal_of_node width signals node ∷ []) j ≡ Some s
+  front [] j e = cc
+  front (x ∷ xs) zero e = e
+  front (x ∷ xs) (suc j) e = front xs j e
+
+input_signal : (i n k : ℕ) → k < n → slice_get (input_signals i n) k ≡ Some (signal_of_input (i + k))
+input_signal i zero k lt = absurd (omega arith)
+input_signal i (suc n) zero lt = let z : i ≡ i + 0 = omega arith in ap (λ j. Some (signal_of_input j)) z
+input_signal i (suc n) (suc k) lt = let z : i + 1 + k ≡ i + suc k = omega arith in input_signal (i + 1) n k (omega arith) ∙ ap (λ j. Some (signal_of_input j)) z
+
+signal_at : (width : ℕ) (net : Network) (i : ℕ) → i < net.inputs → slice_get (signals_of width net) i ≡ Some (signal_of_input i)
+signal_at width net i lt = let z : 0 + i ≡ i = omega arith in after_front width (input_signals 0 net.inputs) net.nodes i (signal_of_input i) (input_signal 0 net.inputs i lt ∙ ap (λ j. Some (signal_of_input j)) z)
+
+-- the forms of a network keep what the type keeps
+pub forms_kept : (width : ℕ) (net : Network) → 2 ≤ width → width ≤ most_operands → net.inputs + length net.nodes ≤ most_nets → length (occurring_forms width net) ≤ most_bases → AreForms (forms_of width net)
+forms_kept width net wide narrow few short =
+    let o = listing_of width net in
+    let is = occurring_is_listing width wide net in
+    let first = true_and_inputs_first width wide net in
+    record {
+      numbered = numbered_are_forms net.inputs o is;
+      few = let l = length-map o.bases (numbered_base o.bases) in omega arith;
+      once = once_kept o is;
+      in_order = in_order_kept o is net.inputs first;
+      operands = operands_kept o is first.first narrow;
+      nets = record {
+        one_each = length-map o.signals (fac_number o.bases) ∙ sym (length-map o.signals (sop_number o.bases));
+        few = let l = length-map o.signals (sop_number o.bases) in let s = signals_length width net in omega arith;
+        some = let l = length-map o.signals (sop_number o.bases) in let s = signals_length width net in omega arith;
+        input_sops = λ i lt. slice_get_map (sop_number o.bases) o.signals i (signal_of_input i) (signal_at width net i lt) ∙ ap Some (input_number o is net.inputs i first lt);
+        input_facs = λ i lt. slice_get_map (fac_number o.bases) o.signals i (signal_of_input i) (signal_at width net i lt) ∙ ap Some (input_number o is net.inputs i first lt);
+      };
+      values = λ x. (number_value o x, numbers_have_values net.inputs o is x (signals_agree x width net));
+    }

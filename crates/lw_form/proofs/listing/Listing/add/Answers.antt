@@ -1,0 +1,33 @@
+use Rattle.std.proofs.Common.{◌≡◌, ◌≢◌, ◌∙◌, ◌<◌, ◌+◌, ◌∷◌, ◌++◌, [], List, ℕ, refl, sym, subst, ap, arith, length, OnOk, IfErr}
+use Rattle.lw_laws.specs.Forms.{Form}
+use Rattle.lw_laws.specs.Occurring.{add_form}
+use Rattle.lw_laws.specs.SignalValues.{form_of}
+use Rattle.lw_form.specs.declared.listing.Step.TheVariants.{Add, Parts}
+use Rattle.lw_form.specs.Listed.{bases_of, plain_steps, steps_size, IsTooLong, IsAdding}
+use Rattle.lw_form.specs.Tables.{made, HasMore}
+use Rattle.lw_form.proofs.Joining.{more_same, more_twice}
+use Rattle.lw_form.proofs.ListedForms.{sizes_last, err_is, adding_first}
+use Rattle.lw_form.proofs.Tables.{no_length}
+use Rattle.lw_form.proofs.listing.Listing.add.Goals as goal
+
+pub steps-init : goal.steps-init
+steps-init c = record {
+  more = more_same (made c.args.table.now);
+  adding = adding_first c.args.table.now c.args.self.now.listed.items c.args.self.now.places.items c.in_ok-steps.steps.items c.args.form c.requires.listed c.requires.within c.in_ok-steps.ensures;
+}
+
+pub advance-requires : goal.advance-requires
+advance-requires c = (add_form (form_of (made c.args.table.now) c.args.form) (bases_of (made c.args.table.now) c.args.self.now.listed.items), subst (λ s. IsAdding c.steps.table c.steps.self.listed.items c.steps.self.places.items s (add_form (form_of (made c.args.table.now) c.args.form) (bases_of (made c.args.table.now) c.args.self.now.listed.items))) c.in-Some.ensures.items c.steps.invariant.adding)
+
+pub steps-smaller : goal.steps-smaller
+steps-smaller c =
+    let a = ap (λ s. steps_size (plain_steps (made c.steps.table) s)) c.in-Some.ensures.items in
+    let b = sizes_last (made c.steps.table) c.pop.new.self.items c.in-Some.step in
+    let l = c.in_ok-advance.ensures.less in
+    omega arith
+
+pub steps-preserved : goal.steps-preserved
+steps-preserved c = record {
+  more = more_twice (made c.args.table.now) (made c.steps.table) (made c.advance.new.table) c.steps.invariant.more c.in_ok-advance.ensures.more;
+  adding = c.in_ok-advance.ensures.adding _ (subst (λ s. IsAdding c.steps.table c.steps.self.listed.items c.steps.self.places.items s (add_form (form_of (made c.args.table.now) c.args.form) (bases_of (made c.args.table.now) c.args.self.now.listed.items))) c.in-Some.ensures.items c.steps.invariant.adding);
+}

@@ -1,0 +1,26 @@
+use Rattle.std.proofs.Common.{◌≡◌, ◌≢◌, ◌∙◌, ◌<◌, ◌+◌, ◌∷◌, ◌++◌, [], List, ℕ, sym, subst, ap, arith, length, OnOk, IfErr}
+use Rattle.lw_laws.specs.Forms.{Form}
+use Rattle.lw_form.specs.declared.listing.Step.{Step}
+use Rattle.lw_form.specs.declared.listing.Step.TheVariants.{Add, Parts}
+use Rattle.lw_form.specs.declared.fault.FormFault.{FormFault}
+use Rattle.lw_form.specs.Listed.{bases_of, plain_step, plain_steps, step_size, steps_size, IsTooLong, IsAdding}
+use Rattle.lw_form.specs.Tables.{made, forms_at}
+use Rattle.lw_form.proofs.ListedForms.{parts_below, parts_added, parts_fault, parts_size, on_ok, on_both, if_err}
+use Rattle.lw_form.proofs.listing.Listing.advance.Goals as goal
+
+works : (c : goal.After-list_and) (goals : List Form) → IsAdding c.args.table.now c.args.self.now.listed.items c.args.self.now.places.items (c.args.steps.now.items ++ c.args.step ∷ []) goals → IsAdding c.args.table.now c.args.self.now.listed.items c.args.self.now.places.items (c.args.steps.now.items ++ Parts c.in-Parts.b ∷ []) goals
+works c goals w = subst (λ s. IsAdding c.args.table.now c.args.self.now.listed.items c.args.self.now.places.items (c.args.steps.now.items ++ s ∷ []) goals) c.in-Parts.is w
+
+pub returns-in-Parts-clause-adding : goal.returns-in-Parts-clause-adding
+returns-in-Parts-clause-adding c =
+    on_both c.list_and.result (λ (more, is) e goals w. parts_added c.args.table.now c.list_and.new.table c.args.self.now.listed.items c.args.self.now.places.items c.list_and.new.self.listed.items c.list_and.new.self.places.items c.args.steps.now.items c.in-Parts.b goals (works c goals w) more is e)
+    (on_both c.list_and.result (λ m i. (m, i)) c.list_and.ensures.more c.list_and.ensures.listed) c.list_and.ensures.bases
+
+pub returns-in-Parts-clause-less : goal.returns-in-Parts-clause-less
+returns-in-Parts-clause-less c =
+    let (goals, w) = c.requires in
+    on_ok c.list_and.result (λ more. subst (λ s. steps_size (plain_steps (made c.list_and.new.table) c.args.steps.now.items) < step_size (plain_step (made c.args.table.now) s) + steps_size (plain_steps (made c.args.table.now) c.args.steps.now.items)) (sym c.in-Parts.is) (parts_size c.args.table.now c.list_and.new.table c.args.self.now.listed.items c.args.self.now.places.items c.args.self.now.listed.items c.args.self.now.places.items c.args.steps.now.items c.in-Parts.b goals (works c goals w) more)) c.list_and.ensures.more
+
+pub returns-in-Parts-clause-fault : goal.returns-in-Parts-clause-fault
+returns-in-Parts-clause-fault c =
+    if_err c.list_and.result (λ e t goals w. parts_fault c.args.table.now c.list_and.new.table c.args.self.now.listed.items c.args.self.now.places.items c.args.self.now.listed.items c.args.self.now.places.items c.args.steps.now.items c.in-Parts.b goals (works c goals w) e t) c.list_and.ensures.fault

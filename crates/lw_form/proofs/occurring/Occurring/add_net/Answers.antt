@@ -1,0 +1,29 @@
+use Rattle.std.proofs.Common.{◌≡◌, ◌∙◌, ◌<◌, ◌/◌, ◌∷◌, ◌++◌, [], List, sym, subst, ap, arith, length}
+use Rattle.lw_laws.specs.Forms.Form.{true_form}
+use Rattle.lw_laws.specs.Occurring.{add_signals}
+use Rattle.lw_laws.specs.Signals.{Signal}
+use Rattle.lw_form.specs.Listed.{IsTooLong}
+use Rattle.lw_form.specs.Nets.{signal_at, AreListed}
+use Rattle.lw_form.specs.Tables.{made}
+use Rattle.lw_form.proofs.Joining.{more_twice, more_length}
+use Rattle.lw_form.proofs.Signalled.{net_listed, second_fault, first_fault}
+use Rattle.lw_form.proofs.ListedForms.{err_is}
+use Rattle.lw_form.proofs.occurring.Occurring.add_net.Goals as goal
+
+pub add-requires-clause-listed : goal.add-requires-clause-listed
+add-requires-clause-listed c = let (signals, w) = c.requires.listed in w.listed_is
+
+pub returns-in_err-add-clause-fault : goal.returns-in_err-add-clause-fault
+returns-in_err-add-clause-fault c =
+    err_is (λ fault. (signals : List Signal) → AreListed c.args.self.now.table c.args.self.now.listing.listed.items c.args.self.now.listing.places.items c.args.self.now.sops.items c.args.self.now.facs.items signals → IsTooLong (add_signals (signals ++ signal_at (made c.args.self.now.table) c.args.sop c.args.fac ∷ []) (true_form ∷ [])) fault)
+    c.from_residual.result c.in_err-add.field-0.0 c.from_residual.ensures.1
+    (λ signals w. first_fault c.args.self.now.table c.args.self.now.listing.listed.items c.args.self.now.listing.places.items c.args.self.now.sops.items c.args.self.now.facs.items signals c.args.sop c.args.fac w c.in_err-add.field-0.0 c.in_err-add.ensures.fault)
+
+pub returns-in_err-add-2-clause-fault : goal.returns-in_err-add-2-clause-fault
+returns-in_err-add-2-clause-fault c =
+    err_is (λ fault. (signals : List Signal) → AreListed c.args.self.now.table c.args.self.now.listing.listed.items c.args.self.now.listing.places.items c.args.self.now.sops.items c.args.self.now.facs.items signals → IsTooLong (add_signals (signals ++ signal_at (made c.args.self.now.table) c.args.sop c.args.fac ∷ []) (true_form ∷ [])) fault)
+    c.from_residual-in_err-add-2.result c.in_err-add-2.field-0.0 c.from_residual-in_err-add-2.ensures.1
+    (λ signals w. second_fault c.args.self.now.table c.add.new.table c.add.new.table c.args.self.now.listing.listed.items c.args.self.now.listing.places.items c.add.new.self.listed.items c.add.new.self.places.items c.add.new.self.listed.items c.add.new.self.places.items c.args.self.now.sops.items c.args.self.now.facs.items [] [] signals c.args.sop c.args.fac w c.requires.sop c.requires.fac c.in_ok-add.ensures.more c.in_ok-add.ensures.bases c.in_err-add-2.field-0.0 c.in_err-add-2.ensures.fault)
+
+pub returns-clause-listed : goal.returns-clause-listed
+returns-clause-listed c = λ signals w. net_listed c.args.self.now.table c.add.new.table c.add-2.new.table c.args.self.now.listing.listed.items c.args.self.now.listing.places.items c.add.new.self.listed.items c.add.new.self.places.items c.add-2.new.self.listed.items c.add-2.new.self.places.items c.args.self.now.sops.items c.args.self.now.facs.items c.note.new.forms.items c.note-2.new.forms.items signals c.args.sop c.args.fac w c.requires.sop c.requires.fac c.in_ok-add.ensures.more c.in_ok-add.ensures.bases c.in_ok-add-2.ensures.more c.in_ok-add-2.ensures.listed c.in_ok-add-2.ensures.bases c.in_ok-note.ensures c.in_ok-note-2.ensures

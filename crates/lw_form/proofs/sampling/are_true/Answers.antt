@@ -1,0 +1,6 @@
+use Rattle.std.proofs.Common.{◌≡◌}
+use Rattle.lw_form.proofs.SampleValues.{form_fits, all_step, all_false, all_end}
+use Rattle.lw_form.proofs.sampling.are_true.Goals as goal
+
+pub value_of-requires : goal.value_of-requires
+value_of-requires c = form_fits _ c.args.forms.now c.loop-place.place c.loop-place-test.true c.requires

@@ -1,0 +1,102 @@
+-- The list of base forms as places in a table, and the steps by which a form is added to it.
+use Rattle.std.specs.Prelude.{ℕ, ◌+◌, ◌/◌, ◌^◌, ◌<◌, ◌≤◌, ◌≡◌, ◌≢◌, List, [], ◌∷◌, map, length, Some, slice_get, slice_index_or}
+use Rattle.lw_laws.specs.Forms.{Form, FormList}
+use Rattle.lw_laws.specs.Forms.Form.{var_form, true_form, not_form, and_form}
+use Rattle.lw_laws.specs.Forms.FormList.{no_forms, more_forms}
+use Rattle.lw_laws.specs.Forms.{items}
+use Rattle.lw_laws.specs.Occurring.{sublists, append_parts, add_form}
+use Rattle.lw_laws.specs.SignalValues.{form_of}
+use Rattle.lw_form.specs.declared.fault.FormFault.{FormFault}
+use Rattle.lw_form.specs.declared.fault.FormFault.TheVariants.{Limit, Memory}
+use Rattle.lw_form.specs.declared.listing.Step.{Step}
+use Rattle.lw_form.specs.declared.listing.Step.TheVariants.{Add, Parts}
+use Rattle.std.specs.List.{AllByRecursion}
+use Rattle.lw_form.specs.Factoring.{turned}
+use Rattle.lw_form.specs.Limits.{most_bases}
+use Rattle.lw_form.specs.Tables.{Table, made}
+
+-- in the list of places, where none is
+abbrev pub no_place : ℕ
+no_place = 4294967295
+
+-- the base form at a place of the table
+abbrev pub base_at : List Form → ℕ → Form
+base_at forms b = slice_index_or forms b true_form
+
+abbrev pub bases_of : List Form → List ℕ → List Form
+bases_of forms listed = map (base_at forms) listed
+
+abbrev pub place_of : List ℕ → ℕ → ℕ
+place_of places b = slice_index_or places b no_place
+
+-- each listed base form is made, and each knows its place in the list
+pub record IsListed (forms : List Form) (listed places : List ℕ) : Type 0 where
+  pub within : (k b : ℕ) → slice_get listed k ≡ Some b → b < length forms
+  pub placed : (k b : ℕ) → slice_get listed k ≡ Some b → place_of places b ≡ k
+  pub back : (b : ℕ) → place_of places b ≢ no_place → slice_get listed (place_of places b) ≡ Some b
+  pub few : length listed ≤ most_bases
+
+-- a form to be added, or an And whose parts are to be listed
+pub data PlainStep : Type 0 where
+  add_of : Form → PlainStep
+  parts_of : List Form → PlainStep
+
+abbrev pub operands_of : Form → List Form
+operands_of (and_form fs) = items fs
+operands_of (var_form i) = []
+operands_of true_form = []
+operands_of (not_form f) = []
+
+abbrev pub plain_step : List Form → Step → PlainStep
+plain_step forms (Add f) = add_of (form_of forms f)
+plain_step forms (Parts b) = parts_of (operands_of (base_at forms b))
+
+-- the list when the steps are done
+abbrev pub bases_after : List PlainStep → List Form → List Form
+bases_after [] bases = bases
+bases_after (add_of f ∷ steps) bases = bases_after steps (add_form f bases)
+bases_after (parts_of fs ∷ steps) bases = bases_after steps (append_parts (sublists fs) bases)
+
+-- a fault is want of memory, or the list is too long
+abbrev pub IsTooLong : List Form → FormFault → Type 0
+IsTooLong bases Limit = most_bases < length bases
+IsTooLong bases Memory = Unit {0}
+
+-- the base forms of steps are made
+abbrev pub StepFits : ℕ → Step → Type 0
+StepFits count (Add f) = f / 2 < count
+StepFits count (Parts b) = b < count
+
+abbrev mutual
+  pub form_size : Form → ℕ
+  form_size (var_form i) = 1
+  form_size true_form = 1
+  form_size (not_form f) = form_size f
+  form_size (and_form fs) = 2 + forms_size fs
+
+  pub forms_size : FormList → ℕ
+  forms_size no_forms = 0
+  forms_size (more_forms f fs) = form_size f + forms_size fs
+
+abbrev pub step_size : PlainStep → ℕ
+step_size (add_of f) = form_size f
+step_size (parts_of fs) = 1
+
+abbrev pub steps_size : List PlainStep → ℕ
+steps_size [] = 0
+steps_size (s ∷ steps) = step_size s + steps_size steps
+
+-- the steps that are still to be done, the last first
+abbrev pub plain_steps : List Form → List Step → List PlainStep
+plain_steps forms steps = turned (map (plain_step forms) steps)
+
+-- the steps for the operands of an And
+abbrev pub adds : List ℕ → List Step
+adds [] = []
+adds (f ∷ ids) = Add f ∷ adds ids
+
+-- While a form is added: the steps lead to this list.
+pub record IsAdding (now : Table) (listed places : List ℕ) (steps : List Step) (goal : List Form) : Type 0 where
+  pub listed_is : IsListed (made now) listed places
+  pub fit : AllByRecursion (StepFits (length (made now))) steps
+  pub same : bases_after (plain_steps (made now) steps) (bases_of (made now) listed) ≡ goal

@@ -1,0 +1,254 @@
+// Factored forms, over numbers of a table.
+ghost use Rattle.std.specs.Prelude.{◌≡◌, ◌+◌, ◌/◌, ◌<◌, ◌≤◌, ◌++◌, [], ◌∷◌, ℕ, List, not, map, filter, length, IfOk, OnOk};
+ghost use Rattle.lw_laws.specs.Forms.{Form, conjunction as and_of_forms, disjunction as or_of_forms};
+ghost use Rattle.lw_laws.specs.Signals.{factored as factored_form, count_having, has, cleared, most_common, shared_literal};
+ghost use Rattle.lw_laws.specs.SignalValues.{form_of};
+ghost use Rattle.lw_form.specs.Factoring.{plain_literal, plain_choice, IsWorking, weight, weights};
+ghost use Rattle.lw_form.specs.Limits.{most_operands};
+ghost use Rattle.lw_form.specs.Products.{HaveColumns, ReachColumn};
+ghost use Rattle.lw_form.specs.Tables.{made, forms_at, AreBelow, HasMore, IsMadeAs};
+
+use crate::conjunction::{conjunction, disjunction};
+use crate::products::{signed, sum_of_products};
+use crate::row::Row;
+use crate::table::FormTable;
+use std::alloc::{AllocError, Global};
+
+// A column with a sign.
+#[derive(Clone, Copy)]
+struct Literal {
+    column: usize,
+    sign: bool,
+}
+
+// The literal that stands in most rows so far, and in how many.
+#[derive(Clone, Copy)]
+struct Choice {
+    literal: Option<Literal>,
+    rows: usize,
+}
+
+// What is still to be done: to factor some rows, or to join the two forms made last under a literal.
+#[derive(Drop)]
+enum Task {
+    Factor(Vec<Row>),
+    Join(u32),
+}
+
+// The rows that have a literal, without it, and the other rows.
+#[derive(Drop)]
+struct Cut {
+    having: Vec<Row>,
+    others: Vec<Row>,
+}
+
+// How many rows have the literal.
+fn count(rows: &[Row], literal: Literal) -> usize
+    requires { ReachColumn literal.column rows.now }
+    ensures { result ≡ count_having (plain_literal literal) rows.now }
+{
+    let mut count = 0;
+    for row in rows {
+        if row.has(literal.column, literal.sign) {
+            count += 1;
+        }
+    }
+    count
+}
+
+// The literal, where it stands in more rows.
+fn better(rows: &[Row], choice: Choice, literal: Literal) -> Choice
+    requires { ReachColumn literal.column rows.now }
+    ensures { (ls : List _) → most_common rows.now ls result.rows (plain_choice result.literal) ≡ most_common rows.now (plain_literal literal ∷ ls) choice.rows (plain_choice choice.literal) }
+{
+    let count = count(rows, literal);
+    if count > choice.rows {
+        Choice {
+            literal: Some(literal),
+            rows: count,
+        }
+    } else {
+        choice
+    }
+}
+
+// The first of the literals that stand in most rows, if in two at least.
+fn shared(rows: &[Row], columns: usize) -> Option<Literal>
+    requires { HaveColumns columns rows.now }
+    ensures { plain_choice result ≡ shared_literal columns rows.now }
+{
+    let mut choice = Choice {
+        literal: None,
+        rows: 1,
+    };
+    for column in 0..columns {
+        choice = better(rows, choice, Literal { column, sign: true });
+        choice = better(
+            rows,
+            choice,
+            Literal {
+                column,
+                sign: false,
+            },
+        );
+    }
+    choice.literal
+}
+
+// Puts a row on its side of the cut.
+fn put(cut: &mut Cut, row: Row, literal: Literal) -> Result<(), AllocError>
+    requires { literal.column < length row }
+    ensures having { OnOk result (cut.new.having.items ≡ cut.old.having.items ++ map (cleared (plain_literal literal)) (filter (has (plain_literal literal)) (row ∷ []))) }
+    ensures others { OnOk result (cut.new.others.items ≡ cut.old.others.items ++ filter (λ r. not (has (plain_literal literal) r)) (row ∷ [])) }
+{
+    if row.has(literal.column, literal.sign) {
+        let mut rest = row;
+        rest.clear(literal.column);
+        cut.having.push(rest)?;
+    } else {
+        cut.others.push(row)?;
+    }
+    Ok(())
+}
+
+// Cuts rows by a literal.
+fn cut_by(alloc: Global, rows: Vec<Row>, literal: Literal) -> Result<Cut, AllocError>
+    requires { ReachColumn literal.column rows.items }
+    ensures having { IfOk result (λ cut. cut.having.items ≡ map (cleared (plain_literal literal)) (filter (has (plain_literal literal)) rows.items)) }
+    ensures others { IfOk result (λ cut. cut.others.items ≡ filter (λ r. not (has (plain_literal literal) r)) rows.items) }
+{
+    let mut cut = Cut {
+        having: Vec::new(alloc),
+        others: Vec::new(alloc),
+    };
+    let mut left = rows.into_iter();
+    'rows: while let Some(row) = left.next() {
+        put(&mut cut, row, literal)?;
+    }
+    Ok(cut)
+}
+
+// What is still to be done, and the forms that were made, the last of both last.
+#[derive(Drop)]
+struct Work {
+    tasks: Vec<Task>,
+    done: Vec<u32>,
+}
+
+// Begins to factor some rows: sums them up where no literal is shared, and else cuts them.
+fn begin(
+    alloc: Global,
+    table: &mut FormTable,
+    width: usize,
+    fanins: &[u32],
+    rows: Vec<Row>,
+    work: &mut Work,
+) -> Result<(), AllocError>
+    requires low { 2 ≤ width }
+    requires high { width ≤ most_operands }
+    requires below { AreBelow (length (made table.old)) fanins.now }
+    requires columns { HaveColumns (length fanins.now) rows.items }
+    ensures working { OnOk result ((fs goal : List Form) → IsWorking width fs fanins.now table.old (work.old.tasks.items ++ Task.Factor rows ∷ []) work.old.done.items goal → IsWorking width fs fanins.now table.new work.new.tasks.items work.new.done.items goal) }
+    ensures less { OnOk result (weights work.new.tasks.items < weights work.old.tasks.items + weight (Task.Factor rows)) }
+    ensures more { OnOk result (HasMore (made table.old) (made table.new)) }
+{
+    let _count = table.len();
+    let literal = match shared(&rows, fanins.len()) {
+        Some(literal) => literal,
+        None => {
+            let form = sum_of_products(alloc, table, width, fanins, &rows)?;
+            work.done.push(form)?;
+            return Ok(());
+        }
+    };
+    let form = signed(fanins[literal.column], literal.sign);
+    let cut = cut_by(alloc, rows, literal)?;
+    work.tasks.push(Task::Join(form))?;
+    work.tasks.push(Task::Factor(cut.others))?;
+    work.tasks.push(Task::Factor(cut.having))?;
+    Ok(())
+}
+
+// The form made last.
+fn last(done: &mut Vec<u32>) -> u32
+    requires { 1 ≤ length done.old.items }
+    ensures { done.old.items ≡ done.new.items ++ result ∷ [] }
+{
+    match done.pop() {
+        Some(form) => form,
+        None => unreachable!(),
+    }
+}
+
+// Joins the two forms made last: the Or of the last, and of the And of the literal and the one before.
+fn join(
+    alloc: Global,
+    table: &mut FormTable,
+    width: usize,
+    literal: u32,
+    work: &mut Work,
+) -> Result<(), AllocError>
+    requires low { 2 ≤ width }
+    requires high { width ≤ most_operands }
+    requires two { 2 ≤ length work.old.done.items }
+    requires literal { literal / 2 < length (made table.old) }
+    requires below { AreBelow (length (made table.old)) work.old.done.items }
+    ensures working { (fanins : List ℕ) → OnOk result ((fs goal : List Form) → IsWorking width fs fanins table.old (work.old.tasks.items ++ Task.Join literal ∷ []) work.old.done.items goal → IsWorking width fs fanins table.new work.new.tasks.items work.new.done.items goal) }
+    ensures same { OnOk result (weights work.new.tasks.items ≡ weights work.old.tasks.items) }
+    ensures more { OnOk result (HasMore (made table.old) (made table.new)) }
+{
+    let others = last(&mut work.done);
+    let having = last(&mut work.done);
+    let both = vec![in alloc; literal, having]?;
+    let both = conjunction(alloc, table, width, both)?;
+    let form = disjunction(alloc, table, width, &[both, others])?;
+    work.done.push(form)?;
+    Ok(())
+}
+
+// Does one task.
+fn advance(
+    alloc: Global,
+    table: &mut FormTable,
+    width: usize,
+    fanins: &[u32],
+    task: Task,
+    work: &mut Work,
+) -> Result<(), AllocError>
+    requires low { 2 ≤ width }
+    requires high { width ≤ most_operands }
+    requires works { (fs : List Form) × (form : Form) × IsWorking width fs fanins.now table.old (work.old.tasks.items ++ task ∷ []) work.old.done.items (form ∷ []) }
+    ensures working { OnOk result ((fs goal : List Form) → IsWorking width fs fanins.now table.old (work.old.tasks.items ++ task ∷ []) work.old.done.items goal → IsWorking width fs fanins.now table.new work.new.tasks.items work.new.done.items goal) }
+    ensures less { OnOk result (weights work.new.tasks.items < weights work.old.tasks.items + weight task) }
+    ensures more { OnOk result (HasMore (made table.old) (made table.new)) }
+{
+    match task {
+        Task::Factor(rows) => begin(alloc, table, width, fanins, rows, work),
+        Task::Join(literal) => join(alloc, table, width, literal, work),
+    }
+}
+
+// The factored form of some rows.
+pub(crate) fn factored(
+    alloc: Global,
+    table: &mut FormTable,
+    width: usize,
+    fanins: &[u32],
+    rows: Vec<Row>,
+) -> Result<u32, AllocError>
+    requires low { 2 ≤ width }
+    requires high { width ≤ most_operands }
+    requires below { AreBelow (length (made table.old)) fanins.now }
+    requires columns { HaveColumns (length fanins.now) rows.items }
+    ensures { IfOk result (λ form. IsMadeAs table.old table.new form (factored_form width (forms_at (made table.old) fanins.now) rows.items)) }
+{
+    let mut work = Work {
+        tasks: Vec::new(alloc),
+        done: Vec::new(alloc),
+    };
+    work.tasks.push(Task::Factor(rows))?;
+    'tasks: while let Some(task) = work.tasks.pop() {
+        advance(alloc, table, width, fanins, task, &mut work)?;
+    }
+    Ok(last(&mut work.done))
+}

@@ -1,0 +1,254 @@
+// The list of occurring base forms, as places in a table.
+ghost use Rattle.std.specs.Prelude.{◌≡◌, ◌≢◌, ◌+◌, ◌/◌, ◌^◌, ◌<◌, ◌≤◌, ◌++◌, [], ◌∷◌, ℕ, List, map, length, IfOk, IfErr, OnOk};
+ghost use Rattle.std.specs.List.{AllByRecursion};
+ghost use Rattle.lw_laws.specs.Forms.{Form};
+ghost use Rattle.lw_laws.specs.Occurring.{appended, append_part, append_parts, sublists, add_form};
+ghost use Rattle.lw_laws.specs.SignalValues.{form_of};
+ghost use Rattle.lw_form.specs.Listed.{no_place, base_at, bases_of, place_of, IsListed, plain_step, plain_steps, adds, IsAdding, bases_after, IsTooLong, StepFits, form_size, step_size, steps_size, operands_of};
+ghost use Rattle.lw_form.specs.Limits.{most_bases};
+ghost use Rattle.lw_form.specs.Tables.{made, forms_at, AreBelow, HasMore};
+
+use crate::FormFault;
+use crate::FormIds;
+use crate::conjunction::operands;
+use crate::table::FormTable;
+use std::alloc::{AllocError, Global};
+
+// The place of what isn't listed.
+const NO_PLACE: u32 = 4294967295;
+
+// How many base forms are listed at most.
+const MOST_BASES: usize = 2097152;
+
+// A form to be added, or an And whose parts are to be listed.
+#[derive(Clone, Copy)]
+enum Step {
+    Add(u32),
+    Parts(u32),
+}
+
+// The base forms that are listed, and the place of each base form in the list.
+#[derive(Drop)]
+pub(crate) struct Listing {
+    pub(crate) listed: Vec<u32>,
+    pub(crate) places: Vec<u32>,
+}
+
+impl Listing {
+    // Nothing is listed.
+    pub(crate) fn new(alloc: Global) -> Self
+        ensures listed { result.listed.items ≡ [] }
+        ensures places { result.places.items ≡ [] }
+    {
+        Listing {
+            listed: Vec::new(alloc),
+            places: Vec::new(alloc),
+        }
+    }
+
+    // The place of a base form in the list.
+    pub(crate) fn place(&self, b: u32) -> u32
+        ensures { result ≡ place_of self.now.places.items b }
+    {
+        match self.places.get(b as usize) {
+            Some(place) => *place,
+            None => NO_PLACE,
+        }
+    }
+
+    // Has a place for each base form up to b.
+    fn reach(&mut self, b: u32) -> Result<(), AllocError>
+        ensures reached { OnOk result (b < length self.new.places.items) }
+        ensures same { OnOk result ((x : ℕ) → place_of self.new.places.items x ≡ place_of self.old.places.items x) }
+        ensures listed { self.new.listed ≡ self.old.listed }
+    {
+        let least = b as usize + 1;
+        if self.places.len() < least {
+            self.places.resize(least, NO_PLACE)?;
+        }
+        Ok(())
+    }
+
+    // Lists a base form that isn't listed.
+    fn put(&mut self, b: u32) -> Result<(), AllocError>
+        requires few { length self.old.listed.items < most_bases }
+        ensures listed { OnOk result (self.new.listed.items ≡ self.old.listed.items ++ b ∷ []) }
+        ensures placed { OnOk result (place_of self.new.places.items b ≡ length self.old.listed.items) }
+        ensures others { OnOk result ((x : ℕ) → x ≢ b → place_of self.new.places.items x ≡ place_of self.old.places.items x) }
+    {
+        let place = self.listed.len() as u32;
+        self.reach(b)?;
+        self.listed.push(b)?;
+        self.places[b as usize] = place;
+        Ok(())
+    }
+
+    // Lists a base form, unless it is listed.
+    pub(crate) fn list(&mut self, table: &FormTable, b: u32) -> Result<(), FormFault>
+        requires listed { IsListed (made table.now) self.old.listed.items self.old.places.items }
+        requires within { b < length (made table.now) }
+        ensures listed { OnOk result (IsListed (made table.now) self.new.listed.items self.new.places.items) }
+        ensures bases { OnOk result (bases_of (made table.now) self.new.listed.items ≡ appended (base_at (made table.now) b) (bases_of (made table.now) self.old.listed.items)) }
+        ensures fault { IfErr result (IsTooLong (appended (base_at (made table.now) b) (bases_of (made table.now) self.old.listed.items))) }
+    {
+        let _count = table.len();
+        if self.place(b) != NO_PLACE {
+            return Ok(());
+        }
+        if self.listed.len() == MOST_BASES {
+            return Err(FormFault::Limit);
+        }
+        self.put(b)?;
+        Ok(())
+    }
+
+    // Lists the And of some operands, if two at least.
+    fn list_part(&mut self, table: &mut FormTable, ids: FormIds) -> Result<(), FormFault>
+        requires listed { IsListed (made table.old) self.old.listed.items self.old.places.items }
+        requires below { AreBelow (length (made table.old)) ids }
+        ensures more { OnOk result (HasMore (made table.old) (made table.new)) }
+        ensures listed { OnOk result (IsListed (made table.new) self.new.listed.items self.new.places.items) }
+        ensures bases { OnOk result (bases_of (made table.new) self.new.listed.items ≡ append_part (forms_at (made table.old) ids) (bases_of (made table.old) self.old.listed.items)) }
+        ensures fault { IfErr result (IsTooLong (append_part (forms_at (made table.old) ids) (bases_of (made table.old) self.old.listed.items))) }
+    {
+        if ids.len() < 2 {
+            return Ok(());
+        }
+        let b = table.add(ids)?;
+        self.list(table, b)
+    }
+
+    // Lists the parts of an And, by rising mask.
+    fn list_parts(&mut self, table: &mut FormTable, ids: &FormIds) -> Result<(), FormFault>
+        requires listed { IsListed (made table.old) self.old.listed.items self.old.places.items }
+        requires below { AreBelow (length (made table.old)) ids.now }
+        ensures more { OnOk result (HasMore (made table.old) (made table.new)) }
+        ensures listed { OnOk result (IsListed (made table.new) self.new.listed.items self.new.places.items) }
+        ensures bases { OnOk result (bases_of (made table.new) self.new.listed.items ≡ append_parts (sublists (forms_at (made table.old) ids.now)) (bases_of (made table.old) self.old.listed.items)) }
+        ensures fault { IfErr result (IsTooLong (append_parts (sublists (forms_at (made table.old) ids.now)) (bases_of (made table.old) self.old.listed.items))) }
+    {
+        for mask in 0..mask_end(ids) {
+            self.list_part(table, ids.picked(mask))?;
+        }
+        Ok(())
+    }
+
+    // Lists the parts of the base form at a place of the table.
+    fn list_and(&mut self, alloc: Global, table: &mut FormTable, b: u32) -> Result<(), FormFault>
+        requires listed { IsListed (made table.old) self.old.listed.items self.old.places.items }
+        requires within { b < length (made table.old) }
+        ensures more { OnOk result (HasMore (made table.old) (made table.new)) }
+        ensures listed { OnOk result (IsListed (made table.new) self.new.listed.items self.new.places.items) }
+        ensures bases { OnOk result (bases_of (made table.new) self.new.listed.items ≡ append_parts (sublists (operands_of (base_at (made table.old) b))) (bases_of (made table.old) self.old.listed.items)) }
+        ensures fault { IfErr result (IsTooLong (append_parts (sublists (operands_of (base_at (made table.old) b))) (bases_of (made table.old) self.old.listed.items))) }
+    {
+        let ids = match table.operands(b) {
+            Some(ids) => operands(alloc, ids.as_slice()),
+            None => return Ok(()),
+        };
+        self.list_parts(table, &ids)
+    }
+
+    // Begins to add a form: lists it where it has no operands, and else puts the steps for its operands and its parts.
+    fn begin(
+        &mut self,
+        table: &FormTable,
+        form: u32,
+        steps: &mut Vec<Step>,
+    ) -> Result<(), FormFault>
+        requires { (goal : List Form) × IsAdding table.now self.old.listed.items self.old.places.items (steps.old.items ++ Step.Add form ∷ []) goal }
+        ensures adding { OnOk result ((goal : List Form) → IsAdding table.now self.old.listed.items self.old.places.items (steps.old.items ++ Step.Add form ∷ []) goal → IsAdding table.now self.new.listed.items self.new.places.items steps.new.items goal) }
+        ensures less { OnOk result (steps_size (plain_steps (made table.now) steps.new.items) < form_size (form_of (made table.now) form) + steps_size (plain_steps (made table.now) steps.old.items)) }
+        ensures fault { IfErr result (λ fault. (goal : List Form) → IsAdding table.now self.old.listed.items self.old.places.items (steps.old.items ++ Step.Add form ∷ []) goal → IsTooLong goal fault) }
+    {
+        let _count = table.len();
+        let b = form / 2;
+        if self.place(b) != NO_PLACE {
+            return Ok(());
+        }
+        match table.operands(b) {
+            None => self.list(table, b),
+            Some(ids) => {
+                push_and(steps, b, ids.as_slice())?;
+                Ok(())
+            }
+        }
+    }
+
+    // Does one step.
+    fn advance(
+        &mut self,
+        alloc: Global,
+        table: &mut FormTable,
+        step: Step,
+        steps: &mut Vec<Step>,
+    ) -> Result<(), FormFault>
+        requires { (goal : List Form) × IsAdding table.old self.old.listed.items self.old.places.items (steps.old.items ++ step ∷ []) goal }
+        ensures more { OnOk result (HasMore (made table.old) (made table.new)) }
+        ensures adding { OnOk result ((goal : List Form) → IsAdding table.old self.old.listed.items self.old.places.items (steps.old.items ++ step ∷ []) goal → IsAdding table.new self.new.listed.items self.new.places.items steps.new.items goal) }
+        ensures less { OnOk result (steps_size (plain_steps (made table.new) steps.new.items) < step_size (plain_step (made table.old) step) + steps_size (plain_steps (made table.old) steps.old.items)) }
+        ensures fault { IfErr result (λ fault. (goal : List Form) → IsAdding table.old self.old.listed.items self.old.places.items (steps.old.items ++ step ∷ []) goal → IsTooLong goal fault) }
+    {
+        match step {
+            Step::Add(form) => self.begin(table, form, steps),
+            Step::Parts(b) => self.list_and(alloc, table, b),
+        }
+    }
+
+    // Adds a form, with all forms and parts that occur in it.
+    pub(crate) fn add(
+        &mut self,
+        alloc: Global,
+        table: &mut FormTable,
+        form: u32,
+    ) -> Result<(), FormFault>
+        requires listed { IsListed (made table.old) self.old.listed.items self.old.places.items }
+        requires within { form / 2 < length (made table.old) }
+        ensures more { OnOk result (HasMore (made table.old) (made table.new)) }
+        ensures listed { OnOk result (IsListed (made table.new) self.new.listed.items self.new.places.items) }
+        ensures bases { OnOk result (bases_of (made table.new) self.new.listed.items ≡ add_form (form_of (made table.old) form) (bases_of (made table.old) self.old.listed.items)) }
+        ensures fault { IfErr result (IsTooLong (add_form (form_of (made table.old) form) (bases_of (made table.old) self.old.listed.items))) }
+    {
+        let mut steps = first_step(alloc, form)?;
+        'steps: while let Some(step) = steps.pop() {
+            self.advance(alloc, table, step, &mut steps)?;
+        }
+        Ok(())
+    }
+}
+
+// How many masks there are for the operands.
+fn mask_end(ids: &FormIds) -> u32
+    ensures { result ≡ 2 ^ length ids.now }
+{
+    1u32 << ids.len()
+}
+
+// Puts the steps for the operands of an And, so that the first comes first.
+fn push_operands(steps: &mut Vec<Step>, ids: &[u32]) -> Result<(), AllocError>
+    ensures steps { OnOk result ((forms : List Form) → plain_steps forms steps.new.items ≡ map (plain_step forms) (adds ids.now) ++ plain_steps forms steps.old.items) }
+    ensures fit { OnOk result ((count : ℕ) → AreBelow count ids.now → AllByRecursion (StepFits count) steps.old.items → AllByRecursion (StepFits count) steps.new.items) }
+{
+    for place in 0..ids.len() {
+        steps.push(Step::Add(ids[ids.len() - 1 - place]))?;
+    }
+    Ok(())
+}
+
+// Puts the steps for an And: first its operands are added, and then its parts.
+fn push_and(steps: &mut Vec<Step>, b: u32, ids: &[u32]) -> Result<(), AllocError>
+    ensures steps { OnOk result ((forms : List Form) → plain_steps forms steps.new.items ≡ map (plain_step forms) (adds ids.now) ++ plain_step forms (Step.Parts b) ∷ plain_steps forms steps.old.items) }
+    ensures fit { OnOk result ((count : ℕ) → b < count → AreBelow count ids.now → AllByRecursion (StepFits count) steps.old.items → AllByRecursion (StepFits count) steps.new.items) }
+{
+    steps.push(Step::Parts(b))?;
+    push_operands(steps, ids)
+}
+
+// The step that adds a form.
+fn first_step(alloc: Global, form: u32) -> Result<Vec<Step>, AllocError>
+    ensures { IfOk result (λ steps. steps.items ≡ Step.Add form ∷ []) }
+{
+    let mut steps = Vec::new(alloc);
+    steps.push(Step::Add(form))?;
+    Ok(steps)
+}

@@ -1,0 +1,205 @@
+// The forms of the nets of a network, and the list of what occurs in them.
+ghost use Rattle.std.specs.Prelude.{◌≡◌, ◌+◌, ◌/◌, ◌<◌, ◌≤◌, ◌++◌, [], ◌∷◌, ℕ, List, map, length, All, IfOk, IfErr, OnOk, slice_index_or};
+ghost use Rattle.lw_net.specs.Networks.{most_nets};
+ghost use Rattle.lw_net.specs.Plain.{plain, plain_node, net_number};
+ghost use Rattle.lw_net.specs.Signs.{asked};
+ghost use Rattle.lw_laws.specs.Forms.{Form};
+ghost use Rattle.lw_laws.specs.Forms.Form.{true_form};
+ghost use Rattle.lw_laws.specs.Mapped.{forms_of};
+ghost use Rattle.lw_laws.specs.Occurring.{add_signals, occurring_forms};
+ghost use Rattle.lw_laws.specs.Signals.{Signal, signal_of_node, signals_after, input_signals, signals_of};
+ghost use Rattle.lw_form.specs.Limits.{most_operands};
+ghost use Rattle.lw_form.specs.Listed.{bases_of, IsTooLong};
+ghost use Rattle.lw_form.specs.Nets.{signal_at, AreListed, AreNodes};
+ghost use Rattle.lw_form.specs.Products.{HaveColumns};
+ghost use Rattle.lw_form.specs.Tables.{made, AreBelow, forms_at, HasMore};
+
+use crate::{FormFault, Forms};
+use crate::factoring::factored;
+use crate::listing::Listing;
+use crate::products::{signed, sum_of_products};
+use crate::renumbering::{numbered_bases, renumbered_all};
+use crate::row::Row;
+use crate::sampling::samples;
+use crate::table::FormTable;
+use lw_net::{Cube, Network, Node};
+use lw_pool::NetId;
+use std::alloc::{AllocError, Global};
+
+// The forms that were made, those that are listed, and the two forms of each net.
+#[derive(Drop)]
+pub(crate) struct Occurring {
+    pub(crate) table: FormTable,
+    pub(crate) listing: Listing,
+    pub(crate) sops: Vec<u32>,
+    pub(crate) facs: Vec<u32>,
+}
+
+// Notes a form.
+fn note(forms: &mut Vec<u32>, form: u32) -> Result<(), AllocError>
+    ensures { OnOk result (forms.new.items ≡ forms.old.items ++ form ∷ []) }
+{
+    forms.push(form)?;
+    Ok(())
+}
+
+// The sums of products of some nets.
+fn fanins_of(alloc: Global, sops: &[u32], nets: &[NetId]) -> Result<Vec<u32>, AllocError>
+    requires { All (λ net. net.0 < length sops.now) nets.now }
+    ensures { IfOk result (λ fanins. fanins.items ≡ map (λ net. slice_index_or sops.now net 0) (map net_number nets.now)) }
+{
+    let mut fanins = Vec::with_capacity(alloc, nets.len())?;
+    for net in nets {
+        fanins.push(sops[net.0 as usize])?;
+    }
+    Ok(fanins)
+}
+
+// The rows of a node.
+fn rows_of(alloc: Global, cubes: &[Cube]) -> Result<Vec<Row>, AllocError>
+    ensures { IfOk result (λ rows. rows.items ≡ map (map asked) cubes.now) }
+{
+    let mut rows = Vec::with_capacity(alloc, cubes.len())?;
+    for cube in cubes {
+        rows.push(Row::of_signs(alloc, cube.as_slice())?)?;
+    }
+    Ok(rows)
+}
+
+impl Occurring {
+    // Adds a net with its two forms.
+    fn add_net(&mut self, alloc: Global, sop: u32, fac: u32) -> Result<(), FormFault>
+        requires listed { (signals : List Signal) × AreListed self.old.table self.old.listing.listed.items self.old.listing.places.items self.old.sops.items self.old.facs.items signals }
+        requires sop { sop / 2 < length (made self.old.table) }
+        requires fac { fac / 2 < length (made self.old.table) }
+        ensures more { OnOk result (HasMore (made self.old.table) (made self.new.table)) }
+        ensures listed { OnOk result ((signals : List Signal) → AreListed self.old.table self.old.listing.listed.items self.old.listing.places.items self.old.sops.items self.old.facs.items signals → AreListed self.new.table self.new.listing.listed.items self.new.listing.places.items self.new.sops.items self.new.facs.items (signals ++ signal_at (made self.old.table) sop fac ∷ [])) }
+        ensures fault { IfErr result (λ fault. (signals : List Signal) → AreListed self.old.table self.old.listing.listed.items self.old.listing.places.items self.old.sops.items self.old.facs.items signals → IsTooLong (add_signals (signals ++ signal_at (made self.old.table) sop fac ∷ []) (true_form ∷ [])) fault) }
+    {
+        self.listing.add(alloc, &mut self.table, sop)?;
+        self.listing.add(alloc, &mut self.table, fac)?;
+        note(&mut self.sops, sop)?;
+        note(&mut self.facs, fac)?;
+        Ok(())
+    }
+
+    // Adds a node's net, whose forms are made of those of its fan-ins.
+    fn add_node(&mut self, alloc: Global, width: usize, node: &Node) -> Result<(), FormFault>
+        requires low { 2 ≤ width }
+        requires high { width ≤ most_operands }
+        requires listed { (signals : List Signal) × AreListed self.old.table self.old.listing.listed.items self.old.listing.places.items self.old.sops.items self.old.facs.items signals }
+        requires fanins { All (λ net. net.0 < length self.old.sops.items) node.now.fanins }
+        requires columns { All (λ row. length row ≡ length node.now.fanins) node.now.rows }
+        ensures more { OnOk result (HasMore (made self.old.table) (made self.new.table)) }
+        ensures listed { OnOk result ((signals : List Signal) → AreListed self.old.table self.old.listing.listed.items self.old.listing.places.items self.old.sops.items self.old.facs.items signals → AreListed self.new.table self.new.listing.listed.items self.new.listing.places.items self.new.sops.items self.new.facs.items (signals ++ signal_of_node width signals (plain_node node.now) ∷ [])) }
+        ensures fault { IfErr result (λ fault. (signals : List Signal) → AreListed self.old.table self.old.listing.listed.items self.old.listing.places.items self.old.sops.items self.old.facs.items signals → IsTooLong (add_signals (signals ++ signal_of_node width signals (plain_node node.now) ∷ []) (true_form ∷ [])) fault) }
+    {
+        let fanins = fanins_of(alloc, &self.sops, node.fanins.as_slice())?;
+        let rows = rows_of(alloc, node.rows.as_slice())?;
+        let sop = sum_of_products(alloc, &mut self.table, width, &fanins, &rows)?;
+        let fac = factored(alloc, &mut self.table, width, &fanins, rows)?;
+        let _count = self.table.len();
+        self.add_net(alloc, signed(sop, node.on), signed(fac, node.on))
+    }
+
+    // Lists true alone.
+    fn start(alloc: Global, inputs: u32) -> Result<Self, FormFault>
+        requires { inputs ≤ most_nets }
+        ensures listed { IfOk result (λ all. AreListed all.table all.listing.listed.items all.listing.places.items all.sops.items all.facs.items []) }
+        ensures table { IfOk result (λ all. all.table ≡ record { inputs = inputs; keys = [] }) }
+        ensures fault { IfErr result (IsTooLong (true_form ∷ [])) }
+    {
+        let table = FormTable::new(alloc, inputs);
+        let mut listing = Listing::new(alloc);
+        listing.list(&table, 0)?;
+        Ok(Occurring {
+            table,
+            listing,
+            sops: Vec::new(alloc),
+            facs: Vec::new(alloc),
+        })
+    }
+
+    // Adds the inputs.
+    fn add_inputs(&mut self, alloc: Global, inputs: u32) -> Result<(), FormFault>
+        requires few { inputs ≤ most_nets }
+        requires table { self.old.table ≡ record { inputs = inputs; keys = [] } }
+        requires listed { AreListed self.old.table self.old.listing.listed.items self.old.listing.places.items self.old.sops.items self.old.facs.items [] }
+        ensures listed { OnOk result (AreListed self.new.table self.new.listing.listed.items self.new.listing.places.items self.new.sops.items self.new.facs.items (input_signals 0 inputs)) }
+        ensures fault { IfErr result (IsTooLong (add_signals (input_signals 0 inputs) (true_form ∷ []))) }
+    {
+        for input in 0..inputs {
+            let form = 2 * (input + 1);
+            self.add_net(alloc, form, form)?;
+        }
+        Ok(())
+    }
+
+    // Adds the nodes' nets.
+    fn add_nodes(&mut self, alloc: Global, width: usize, nodes: &[Node]) -> Result<(), FormFault>
+        requires low { 2 ≤ width }
+        requires high { width ≤ most_operands }
+        requires listed { (signals : List Signal) × AreListed self.old.table self.old.listing.listed.items self.old.listing.places.items self.old.sops.items self.old.facs.items signals }
+        requires nodes { AreNodes (length self.old.sops.items) nodes.now }
+        ensures listed { OnOk result ((signals : List Signal) → AreListed self.old.table self.old.listing.listed.items self.old.listing.places.items self.old.sops.items self.old.facs.items signals → AreListed self.new.table self.new.listing.listed.items self.new.listing.places.items self.new.sops.items self.new.facs.items (signals_after width signals (map plain_node nodes.now))) }
+        ensures fault { IfErr result (λ fault. (signals : List Signal) → AreListed self.old.table self.old.listing.listed.items self.old.listing.places.items self.old.sops.items self.old.facs.items signals → IsTooLong (add_signals (signals_after width signals (map plain_node nodes.now)) (true_form ∷ [])) fault) }
+    {
+        for node in nodes {
+            self.add_node(alloc, width, node)?;
+        }
+        Ok(())
+    }
+
+    // The forms of the nets of a network, and the list of what occurs in them.
+    pub(crate) fn of_network(alloc: Global, net: &Network, width: usize) -> Result<Self, FormFault>
+        requires low { 2 ≤ width }
+        requires high { width ≤ most_operands }
+        ensures listed { IfOk result (λ all. AreListed all.table all.listing.listed.items all.listing.places.items all.sops.items all.facs.items (signals_of width (plain net.now))) }
+        ensures fault { IfErr result (IsTooLong (occurring_forms width (plain net.now))) }
+    {
+        let inputs = net.inputs();
+        let mut all = Occurring::start(alloc, inputs)?;
+        all.add_inputs(alloc, inputs)?;
+        all.add_nodes(alloc, width, net.nodes())?;
+        Ok(all)
+    }
+}
+
+// The list of what occurs in a network, over the numbers of forms in the list.
+fn finished(
+    alloc: Global,
+    net: &Network,
+    width: usize,
+    all: &Occurring,
+) -> Result<Forms, AllocError>
+    requires low { 2 ≤ width }
+    requires high { width ≤ most_operands }
+    requires listed { AreListed all.now.table all.now.listing.listed.items all.now.listing.places.items all.now.sops.items all.now.facs.items (signals_of width (plain net.now)) }
+    ensures { IfOk result (λ forms. forms ≡ forms_of width (plain net.now)) }
+{
+    let _width = width;
+    let _count = all.table.len();
+    let inputs = net.inputs();
+    let bases = numbered_bases(alloc, &all.table, &all.listing)?;
+    let samples = samples(alloc, bases.as_slice())?;
+    let sops = renumbered_all(alloc, &all.listing, &all.sops)?;
+    let facs = renumbered_all(alloc, &all.listing, &all.facs)?;
+    Ok(Forms::new(inputs, bases, sops, facs, samples))
+}
+
+/// The list of the base forms that occur in the forms of a network's nets, where an And has at most `width` operands.
+///
+/// The sum of products of a node is the Or of the Ands of its rows' literals, in order, and its factored form takes out the literal that
+/// stands in most rows, as long as one stands in two. True is listed first, then the inputs, and then, by nets, what the two forms are
+/// made of: an And's operands, and the Ands of its parts by rising mask. `Limit` comes exactly where more than 2,097,152 base forms
+/// occur. `Memory` is the one free answer.
+pub fn forms(alloc: Global, net: &Network, width: u8) -> Result<Forms, FormFault>
+    requires low { 2 ≤ width }
+    requires high { width ≤ most_operands }
+    ensures listed { IfOk result (λ forms. forms ≡ forms_of width (plain net.now)) }
+    ensures fault { IfErr result (IsTooLong (occurring_forms width (plain net.now))) }
+{
+    let all = Occurring::of_network(alloc, net, width as usize)?;
+    let forms = finished(alloc, net, width as usize, &all)?;
+    Ok(forms)
+}
