@@ -10,6 +10,7 @@ pub mod Marked
 pub mod MatchExamples
 pub mod Members
 pub mod Nexts
+pub mod OfCells
 pub mod Pairs
 pub mod Ranking
 pub mod Rooting

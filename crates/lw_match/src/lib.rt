@@ -16,6 +16,6 @@ mod seeking;
 pub use cost::Cost;
 pub use cursor::Cursor;
 pub use finding::least;
-pub use laws::matches_have_cells;
+pub use laws::{library_patterns_are_of_cells, matches_have_cells};
 pub use mark::{Best, Mark, Match};
 pub use pins::Pins;
