@@ -40,11 +40,11 @@ pub fn names_between(
     requires within { end ≤ length words.now }
     ensures { IfOk result (λ names. names ≡ slice_range words.now from end) }
 {
-    let mut names = Names::new(alloc);
+    let mut names = Vec::with_capacity(alloc, end - from)?;
     for i in from..end {
         names.push(Name::from_slice(alloc, words.get(i))?)?;
     }
-    Ok(names)
+    Ok(Names::from_vec(names))
 }
 
 /// The last word.

@@ -1,5 +1,6 @@
 pub mod Assembled
 pub mod Filling
+pub mod Moving
 pub mod Names
 pub mod Numbering
 pub mod Paths

@@ -47,16 +47,16 @@ module _ (draft : Draft) (distinct : IsDistinct bytes_eq (signals_of draft)) (no
   abbrev name_at : ℕ → List ℕ
   name_at s = get_or signals s []
 
-  many_nodes : length graph ≡ length nodes
+  pub many_nodes : length graph ≡ length nodes
   many_nodes = length-map nodes (λ (n : DraftNode). map (number_in signals) n.fanins)
 
-  many : length signals ≡ m + length nodes
+  pub many : length signals ≡ m + length nodes
   many = length-append draft.inputs (map out_of nodes) ∙ ap (λ n. m + n) (length-map nodes out_of)
 
-  defined : (j : ℕ) → All (Contains signals) (get_or nodes j bare).fanins
+  pub defined : (j : ℕ) → All (Contains signals) (get_or nodes j bare).fanins
   defined j = fanins_defined signals nodes none j
 
-  graph_at : (j : ℕ) → j < length nodes → fanins_at graph j ≡ map (number_in signals) (get_or nodes j bare).fanins
+  pub graph_at : (j : ℕ) → j < length nodes → fanins_at graph j ≡ map (number_in signals) (get_or nodes j bare).fanins
   graph_at j lt = get_or-map (λ (n : DraftNode). map (number_in signals) n.fanins) nodes j bare [] lt
 
   pub is_graph : IsGraph m graph
@@ -69,13 +69,13 @@ module _ (draft : Draft) (distinct : IsDistinct bytes_eq (signals_of draft)) (no
           (All-weaker (Contains signals) (λ f. number_in signals f < m + length graph) (λ f among. omega (arith, number_below signals f distinct among, many, many_nodes)) (get_or nodes j bare).fanins (defined j)))
       by_place (inr past) = subst (All (λ s. s < m + length graph)) (sym (get_or_past graph j [] (omega (arith, many_nodes)))) (λ k d lt. absurd (omega arith))
 
-  out_at : (j : ℕ) → j < length nodes → name_at (m + j) ≡ (get_or nodes j bare).out
+  pub out_at : (j : ℕ) → j < length nodes → name_at (m + j) ≡ (get_or nodes j bare).out
   out_at j lt = get_or-append_right draft.inputs (map out_of nodes) m (m + j) [] refl (omega arith) ∙ (ap (λ k. get_or (map out_of nodes) k []) (shift m j) ∙ get_or-map out_of nodes j bare [] lt)
     where
       shift : (a b : ℕ) → a + b - a ≡ b
       shift a b = omega arith
 
-  number_out : (j : ℕ) → j < length nodes → number_in signals (get_or nodes j bare).out ≡ m + j
+  pub number_out : (j : ℕ) → j < length nodes → number_in signals (get_or nodes j bare).out ≡ m + j
   number_out j lt = ap (number_in signals) (sym (out_at j lt)) ∙ number_at signals (m + j) [] distinct (omega (arith, many))
 
   -- what a number among a node's fan-ins stands for

@@ -20,7 +20,7 @@ pub(crate) fn signals(
 ) -> Result<Vec<Name>, AllocError>
     ensures { IfOk result (λ names. names.items ≡ inputs.now ++ map out_of nodes.now) }
 {
-    let mut names = Vec::new(alloc);
+    let mut names = Vec::with_capacity(alloc, inputs.len().saturating_add(nodes.len()))?;
     for name in inputs {
         names.push(Name::from_slice(alloc, name.as_bytes())?)?;
     }
@@ -35,7 +35,7 @@ pub(crate) fn numbers(alloc: Global, names: &[Name]) -> Result<IndexSet<Name>, A
     requires { IsDistinct bytes_eq names.now }
     ensures { IfOk result (λ set. set.keys ≡ names.now) }
 {
-    let mut set = IndexSet::new(alloc);
+    let mut set = IndexSet::with_capacity(alloc, names.len())?;
     for name in names {
         set.insert(Name::from_slice(alloc, name.as_bytes())?)?;
     }
@@ -69,7 +69,9 @@ pub(crate) fn numbers_of(
     ensures defined { OnOk result (undefined_in signals.now.keys names.now ≡ None) }
     ensures fault { IfErr result (TellsUndefined signals.now.keys names.now) }
 {
-    let mut numbers = Vec::new(alloc);
+    let Ok(mut numbers) = Vec::with_capacity(alloc, names.len()) else {
+        return Err(NetFault::Memory);
+    };
     for name in names {
         let Some(number) = signals.get_index_of(name) else {
             let name = Name::from_slice(alloc, name.as_bytes())?;

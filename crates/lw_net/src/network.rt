@@ -1,6 +1,6 @@
-ghost use Rattle.std.specs.Prelude.{◌≡◌, ◌≤◌, length};
+ghost use Rattle.std.specs.Prelude.{◌≡◌, ◌≤◌, length, All};
 
-use crate::close::{closed_nodes, depths, graph_of, nets_of};
+use crate::close::{Graph, closed_nodes, depths, graph_of, moved, nets_of};
 use crate::eval::{copy_front, fill};
 use crate::naming::{numbers, signals};
 use crate::order::in_order;
@@ -35,6 +35,7 @@ impl Network {
     ghost use Rattle.std.specs.Str.{bytes_eq};
     ghost use Rattle.lw_net.specs.Closing.{IsDraft, IsClosed, HasFault, signals_of, network_in};
     ghost use Rattle.lw_net.specs.Networks.{most_nets};
+    ghost use Rattle.lw_net.specs.Numbered.{HasRow};
     ghost use Rattle.lw_laws.specs.Networks.{AreValues, IsInOrder, given};
     ghost use Rattle.lw_net.specs.Networks.{IsNetwork};
     ghost use Rattle.lw_net.specs.Plain.{plain, HasRisingDepths};
@@ -111,7 +112,7 @@ impl Network {
         ensures fault { IfErr result (HasFault draft) }
     {
         let graph = graph_of(alloc, &draft)?;
-        let depths = depths(alloc, &draft, &graph)?;
+        let depths = depths(alloc, &draft, &graph.rows)?;
         let Draft {
             model,
             inputs,
@@ -125,25 +126,29 @@ impl Network {
             outputs,
             nodes,
         };
-        let network = Network::of_ordered(alloc, ordered)?;
+        let network = Network::of_ordered(alloc, ordered, &graph)?;
         Ok(network)
     }
 
-    // The network whose nodes stand as in the draft.
-    fn of_ordered(alloc: Global, draft: Draft) -> Result<Network, AllocError>
+    // The network whose nodes stand as in the draft, by the graph of the same nodes in another order.
+    fn of_ordered(alloc: Global, draft: Draft, graph: &Graph) -> Result<Network, AllocError>
         requires distinct { IsDistinct bytes_eq (signals_of draft) }
+        requires written { IsDistinct bytes_eq graph.now.signals.keys }
+        requires rows { All (HasRow (length draft.inputs) graph.now.signals.keys graph.now.rows.items) draft.nodes }
         requires few { length (signals_of draft) ≤ most_nets }
         requires kept { IsNetwork (network_in draft draft.nodes) }
         ensures { IfOk result (λ net. net ≡ network_in draft draft.nodes) }
     {
         let names = signals(alloc, draft.inputs.as_slice(), draft.nodes.as_slice())?;
         let numbers = numbers(alloc, &names)?;
-        let nodes = closed_nodes(alloc, draft.nodes.into_vec(), &numbers)?;
+        let moved = moved(alloc, &graph.signals, &numbers)?;
+        let inputs = draft.inputs.len();
+        let nodes = closed_nodes(alloc, draft.nodes.into_vec(), inputs, graph, &moved)?;
         let outputs = nets_of(alloc, draft.outputs.as_slice(), &numbers)?;
         Ok(Network {
             model: draft.model,
             names: Names::from_vec(names),
-            inputs: draft.inputs.len() as u32,
+            inputs: inputs as u32,
             nodes: Nodes::from_vec(nodes),
             outputs,
         })

@@ -3,4 +3,4 @@ use Rattle.std.specs.List.{slice_range}
 use Rattle.lw_blif.proofs.naming.names_between.Given as goal
 
 abbrev pub invariant-loop-i : goal.invariant-loop-i
-invariant-loop-i l = l.names ≡ slice_range l.words l.from l.i
+invariant-loop-i l = l.names.items ≡ slice_range l.words l.from l.i
