@@ -2,6 +2,10 @@
 #![tactic(auto)]
 
 #[cfg(test)]
+mod classes;
+#[cfg(test)]
+mod closures;
+#[cfg(test)]
 mod decimals;
 #[cfg(test)]
 mod lines;
