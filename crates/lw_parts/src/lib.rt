@@ -3,6 +3,9 @@
 
 #[cfg(test)]
 mod blif;
+mod classes;
+#[cfg(test)]
+mod closures;
 #[cfg(test)]
 mod decimals;
 #[cfg(test)]
