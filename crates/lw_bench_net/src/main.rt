@@ -1,10 +1,10 @@
-//! Reads a network's text from standard input, line by line, so that the speed of reading can be taken.
+//! Reads a network from standard input, so that the speed of reading can be taken.
 #![tactic(auto)]
 
 ghost use Rattle.std.specs.Prelude.{◌≡◌, OnOk};
 ghost use Rattle.lw_words.specs.Standing.{is_finished, fed_count};
 
-use lw_blif::{BlifFault, Reader};
+use lw_blif::Reader;
 use lw_words::Lines;
 use std::alloc::Global;
 use std::io::{self, Read, Write};
@@ -22,7 +22,7 @@ struct Input {
     lines: Lines,
     reader: Reader,
     count: usize,
-    fault: Option<BlifFault>,
+    broken: bool,
 }
 
 // Reads the lines that are finished: a piece finishes at most one for each byte.
@@ -35,8 +35,8 @@ fn read_lines(input: &mut Input)
             break;
         };
         input.count = input.count.saturating_add(1);
-        if let Err(fault) = input.reader.line(&line) {
-            input.fault = Some(fault);
+        if input.reader.line(&line).is_err() {
+            input.broken = true;
             break;
         }
     }
@@ -48,11 +48,11 @@ fn read<R: Read>(alloc: Global, source: &mut R) -> io::Result<Input> {
         lines: Lines::new(alloc, false),
         reader: Reader::new(alloc),
         count: 0,
-        fault: None,
+        broken: false,
     };
     let mut buf = [0; PIECE];
     let mut left = MOST;
-    while left > 0 && input.fault.is_none() {
+    while left > 0 && !input.broken {
         let room = left.min(PIECE);
         let count = source.read(&mut buf[..room])?;
         if count == 0 {
@@ -68,10 +68,10 @@ fn read<R: Read>(alloc: Global, source: &mut R) -> io::Result<Input> {
 }
 
 fn report(rt: &HostRuntime) -> io::Result<()> {
-    let Input { count, fault, .. } = read(rt.alloc(), &mut rt.stdin())?;
-    match fault {
-        None => writeln!(rt.stdout(), "{count} lines"),
-        Some(fault) => writeln!(rt.stdout(), "{count} lines, {fault}"),
+    let Input { reader, count, .. } = read(rt.alloc(), &mut rt.stdin())?;
+    match reader.end() {
+        Ok(_) => writeln!(rt.stdout(), "{count} lines, a network"),
+        Err(fault) => writeln!(rt.stdout(), "{count} lines, {fault}"),
     }
 }
 
