@@ -501,3 +501,6 @@ and_operands forms b ids e = ap operands_of (get_or_from_slice_get forms b (spel
 
 pub adding_first : (t : Table) (listed places : List ℕ) (steps : List Step) (form : ℕ) → IsListed (made t) listed places → form / 2 < length (made t) → steps ≡ Add form ∷ [] → IsAdding t listed places steps (add_form (form_of (made t) form) (bases_of (made t) listed))
 adding_first t listed places steps form is lt e = subst (λ s. IsAdding t listed places s (add_form (form_of (made t) form) (bases_of (made t) listed))) (sym e) (record { listed_is = is; fit = (lt, tt); same = refl })
+
+pub place_pushed : (places new : List ℕ) (x : ℕ) → new ≡ places ++ no_place ∷ [] → place_of new x ≡ place_of places x
+place_pushed places new x e = ap (λ l. place_of l x) e ∙ place_more places 1 x

@@ -62,9 +62,8 @@ impl Listing {
         ensures same { OnOk result ((x : ℕ) → place_of self.new.places.items x ≡ place_of self.old.places.items x) }
         ensures listed { self.new.listed ≡ self.old.listed }
     {
-        let least = b as usize + 1;
-        if self.places.len() < least {
-            self.places.resize(least, NO_PLACE)?;
+        for _place in self.places.len()..b as usize + 1 {
+            self.places.push(NO_PLACE)?;
         }
         Ok(())
     }
