@@ -8,10 +8,9 @@ ghost use Rattle.lw_form.specs.Listed.{no_place, base_at, bases_of, place_of, Is
 ghost use Rattle.lw_form.specs.Limits.{most_bases};
 ghost use Rattle.lw_form.specs.Tables.{made, forms_at, AreBelow, HasMore};
 
-use crate::FormFault;
-use crate::FormIds;
 use crate::conjunction::operands;
 use crate::table::FormTable;
+use crate::{FormFault, FormIds};
 use std::alloc::{AllocError, Global};
 
 // The place of what isn't listed.

@@ -9,8 +9,18 @@ use std::test::Fail;
 
 /// Inputs, nodes, the width, and the Ands in the list with the last net's two forms. Form 2b is base form b, and 2b + 1 its complement.
 const LISTS: [(&str, &str, u8, &str); 8] = [
-    ("a b c", "f a b c | 11- 1-1", 6, "2.4 2.6 9.11 5.7 2.15 = 13 16"),
-    ("a b", "f a b | 11 10 0-", 6, "2.4 2.5 7.9 7.2 9.2 7.9.2 = 17 0"),
+    (
+        "a b c",
+        "f a b c | 11- 1-1",
+        6,
+        "2.4 2.6 9.11 5.7 2.15 = 13 16",
+    ),
+    (
+        "a b",
+        "f a b | 11 10 0-",
+        6,
+        "2.4 2.5 7.9 7.2 9.2 7.9.2 = 17 0",
+    ),
     ("a b", "f a b | 10 01", 6, "2.5 3.4 7.9 = 11 11"),
     ("a b", "f a b | 11 off", 6, "2.4 = 7 7"),
     ("a b", "f a b | 1- 11", 6, "2.4 3.7 = 9 2"),
@@ -25,7 +35,12 @@ const COUNTS: [(&str, &str, u8, u32); 6] = [
     ("a b c", "f a b c | 111", 8, 8),
     ("a b c d", "f a b c d | 1111", 8, 16),
     ("a b c d e g h i", "f a b c d e g h i | 11111111", 8, 256),
-    ("a b c d e g h i j", "f a b c d e g h i j | 111111111", 4, 36),
+    (
+        "a b c d e g h i j",
+        "f a b c d e g h i j | 111111111",
+        4,
+        36,
+    ),
     (
         "1 2 3 6 7",
         "10 1 3 | 11 off;11 3 6 | 11 off;16 2 11 | 11 off;19 11 7 | 11 off;22 10 16 | 11 off;23 16 19 | 11 off",
