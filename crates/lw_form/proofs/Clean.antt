@@ -116,9 +116,9 @@ module _ (width : ℕ) (wide : 2 ≤ width) where
       ap (λ t. elim t as (λ x. List (List Form)) [ true ↦ (f ∷ fs) ∷ [] | false ↦ take width (f ∷ fs) ∷ runs_within (length fs) width (drop width (f ∷ fs)) ]) (not_leb (leb (length (f ∷ fs)) width) refl)
       ∙ ap (λ l. take width (f ∷ fs) ∷ l) (let left = length-drop width (f ∷ fs) in runs_same (length fs) (length (drop width (f ∷ fs))) (drop width (f ∷ fs)) (omega arith) (omega arith) (omega arith) (omega arith))
     where
-    not_leb : (t : Bool) → leb (length (f ∷ fs)) width ≡ t → t ≡ false
-    not_leb true e = let le = leb-true (length (f ∷ fs)) width e in absurd (omega arith)
-    not_leb false e = refl
+      not_leb : (t : Bool) → leb (length (f ∷ fs)) width ≡ t → t ≡ false
+      not_leb true e = let le = leb-true (length (f ∷ fs)) width e in absurd (omega arith)
+      not_leb false e = refl
 
   run_count : (n : ℕ) (fs : List Form) → 2 * length (runs_within n width fs) ≤ length fs + 2
   run_count zero fs = omega arith

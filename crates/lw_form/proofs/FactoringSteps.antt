@@ -256,7 +256,7 @@ module _ (width : ℕ) (fs : List Form) (fanins : List ℕ) (goal : List Form) w
         let step : form_of (made next) n ≡ factored width fs rows.items = m.is ∙ sym (factored_step fs width rows.items ∙ ap (factored_by (factored width fs) width fs rows.items) none) in
         ap (outcome width fs (turned (map (plain_task (made next)) tasks))) (done_last (made next) done n)
         ∙ (ap₂ (λ ts ds. outcome width fs (turned ts) ds) kept (ap₂ (λ f ds. f ∷ turned ds) step (forms_kept (made now) (made next) done m.more w.done_below))
-          ∙ (ap (λ ts. outcome width fs ts (turned (forms_at (made now) done))) (sym (plain_last (made now) tasks (Factor rows))) ∙ w.same));
+        ∙ (ap (λ ts. outcome width fs ts (turned (forms_at (made now) done))) (sym (plain_last (made now) tasks (Factor rows))) ∙ w.same));
   })
 
   -- rows with a shared literal
@@ -272,8 +272,8 @@ module _ (width : ℕ) (fs : List Form) (fanins : List ℕ) (goal : List Form) w
     same =
         ap (λ ts. outcome width fs ts D) (plain_last (made now) ((tasks ++ Join n ∷ []) ++ Factor without_rows ∷ []) (Factor with_rows) ∙ ap (λ ts. factor_rows with_rows.items ∷ ts) (plain_last (made now) (tasks ++ Join n ∷ []) (Factor without_rows) ∙ ap (λ ts. factor_rows without_rows.items ∷ ts) (plain_last (made now) tasks (Join n))))
         ∙ (ap₂ (λ f g. outcome width fs T (disjunction width (conjunction width (f ∷ factored width fs with_rows.items ∷ []) ∷ g ∷ []) ∷ D)) is (ap (factored width fs) o)
-          ∙ (ap (λ r. outcome width fs T (disjunction width (conjunction width (literal_form fs l ∷ factored width fs r ∷ []) ∷ factored width fs (others l rows.items) ∷ []) ∷ D)) y
-            ∙ (ap (λ f. outcome width fs T (f ∷ D)) (sym step) ∙ (ap (λ ts. outcome width fs ts D) (sym (plain_last (made now) tasks (Factor rows))) ∙ w.same))));
+        ∙ (ap (λ r. outcome width fs T (disjunction width (conjunction width (literal_form fs l ∷ factored width fs r ∷ []) ∷ factored width fs (others l rows.items) ∷ []) ∷ D)) y
+        ∙ (ap (λ f. outcome width fs T (f ∷ D)) (sym step) ∙ (ap (λ ts. outcome width fs ts D) (sym (plain_last (made now) tasks (Factor rows))) ∙ w.same))));
   }) where
     columns : HaveColumns (length fanins) rows.items
     columns = all_last (TaskFits (length (made now)) (length fanins)) tasks (Factor rows) w.fit
@@ -297,7 +297,7 @@ module _ (width : ℕ) (fs : List Form) (fanins : List ℕ) (goal : List Form) w
     same =
         ap (outcome width fs (turned (map (plain_task (made next)) tasks))) (done_last (made next) front n)
         ∙ (ap₂ (λ ts ds. outcome width fs (turned ts) ds) (tasks_kept (length fanins) (made now) (made next) tasks m.more fit) (ap₂ (λ f ds. f ∷ turned ds) m.is (forms_kept (made now) (made next) front m.more front_below))
-          ∙ (sym (ap₂ (outcome width fs) (plain_last (made now) tasks (Join l)) (ap (λ k. turned (forms_at (made now) k)) d ∙ (done_last (made now) (front ++ q ∷ []) r ∙ ap (λ k. form_of (made now) r ∷ k) (done_last (made now) front q)))) ∙ w.same));
+        ∙ (sym (ap₂ (outcome width fs) (plain_last (made now) tasks (Join l)) (ap (λ k. turned (forms_at (made now) k)) d ∙ (done_last (made now) (front ++ q ∷ []) r ∙ ap (λ k. form_of (made now) r ∷ k) (done_last (made now) front q)))) ∙ w.same));
   }) where
     fit : AllByRecursion (TaskFits (length (made now)) (length fanins)) tasks
     fit = all_front (TaskFits (length (made now)) (length fanins)) tasks (Join l ∷ []) w.fit

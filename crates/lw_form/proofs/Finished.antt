@@ -29,7 +29,7 @@ same_record : (i j : ℕ) (a b : List laws.Base) (s t f g : List ℕ) → i ≡ 
 same_record i j a b s t f g ei ea es ef =
     ap {B = NumberedForms} (λ x. record { inputs = x; bases = a; sops = s; facs = f }) ei
     ∙ (ap {B = NumberedForms} (λ x. record { inputs = j; bases = x; sops = s; facs = f }) ea
-      ∙ (ap {B = NumberedForms} (λ x. record { inputs = j; bases = b; sops = x; facs = f }) es ∙ ap {B = NumberedForms} (λ x. record { inputs = j; bases = b; sops = t; facs = x }) ef))
+    ∙ (ap {B = NumberedForms} (λ x. record { inputs = j; bases = b; sops = x; facs = f }) es ∙ ap {B = NumberedForms} (λ x. record { inputs = j; bases = b; sops = t; facs = x }) ef))
 
 module _ (forms : List Form) (are : AreMade forms) (listed places : List ℕ) (is : IsListed forms listed places) (o : Listing) (lists : IsListing o) (bases : o.bases ≡ bases_of forms listed) where
   pub sops_placed : (sops facs : List ℕ) → AreBelow (length forms) sops → length sops ≡ length facs → ((s : ℕ) (x : Signal) → slice_get (signals_at forms sops facs) s ≡ Some x → Occurs o x.sop × Occurs o x.fac) → ArePlaced places sops

@@ -127,8 +127,8 @@ groups_more width wide old now next forms rest groups groups' g lt so new e = su
   split =
       ap₂ (λ l r. l ++ map (conjunction width) (runs width r)) (map-append (form_of (made next)) groups (g ∷ [])) (sym (drop-map (form_of (made old)) width rest))
       ∙ (append_assoc (forms_at (made next) groups) (form_of (made next) g ∷ []) tail
-        ∙ (ap₂ (λ l f. l ++ f ∷ tail) (forms_kept (made now) (made next) groups new.more so.within) first
-          ∙ (ap (λ l. forms_at (made now) groups ++ map (conjunction width) l) (sym (runs_more width wide fs longer)) ∙ so.same)))
+      ∙ (ap₂ (λ l f. l ++ f ∷ tail) (forms_kept (made now) (made next) groups new.more so.within) first
+      ∙ (ap (λ l. forms_at (made now) groups ++ map (conjunction width) l) (sym (runs_more width wide fs longer)) ∙ so.same)))
 
 pub groups_last : (width : ℕ) → 2 ≤ width → (old now next : Table) (forms rest groups groups' : List ℕ) (g : ℕ) → length rest ≤ width → GroupsSoFar width old now forms rest groups → IsMadeAs now next g (conjunction width (forms_at (made now) rest)) → groups' ≡ groups ++ g ∷ [] → AreMadeAs old next groups' (map (conjunction width) (runs width (forms_at (made old) forms)))
 groups_last width wide old now next forms rest groups groups' g le so new e = subst (λ l. AreMadeAs old next l (map (conjunction width) (runs width (forms_at (made old) forms)))) (sym e) (record {
@@ -148,7 +148,7 @@ groups_last width wide old now next forms rest groups groups' g le so new e = su
       let some = so.some in
       map-append (form_of (made next)) groups (g ∷ [])
       ∙ (ap₂ (λ l f. l ++ f ∷ []) (forms_kept (made now) (made next) groups new.more so.within) last
-        ∙ (ap (λ l. forms_at (made now) groups ++ map (conjunction width) l) (sym (runs_last width wide fs (omega arith) (omega arith))) ∙ so.same))
+      ∙ (ap (λ l. forms_at (made now) groups ++ map (conjunction width) l) (sym (runs_last width wide fs (omega arith) (omega arith))) ∙ so.same))
 
 take_whole : {X : Type 0} (n : ℕ) (xs : List X) → length xs ≤ n → take n xs ≡ xs
 take_whole zero [] le = refl

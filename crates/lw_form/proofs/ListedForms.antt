@@ -310,8 +310,8 @@ module _ (now : Table) (are : AreMade (made now)) (listed places : List ℕ) (st
         let operands : operands_of (base_at (made now) (f / 2)) ≡ forms_at (made now) ids = ap operands_of base ∙ items-form_list (forms_at (made now) ids) in
         ap (λ s. bases_after s (bases_of (made now) listed)) e
         ∙ (after_adds (made now) ids (plain_step (made now) (Parts (f / 2)) ∷ plain_steps (made now) steps) (bases_of (made now) listed)
-          ∙ (ap (λ l. bases_after (plain_steps (made now) steps) (append_parts (sublists l) (add_forms (form_list (forms_at (made now) ids)) (bases_of (made now) listed)))) operands
-            ∙ (ap (bases_after (plain_steps (made now) steps)) (sym (ap (λ g. add_form g (bases_of (made now) listed)) base ∙ add_and (forms_at (made now) ids) (bases_of (made now) listed) free)) ∙ adding_next)));
+        ∙ (ap (λ l. bases_after (plain_steps (made now) steps) (append_parts (sublists l) (add_forms (form_list (forms_at (made now) ids)) (bases_of (made now) listed)))) operands
+        ∙ (ap (bases_after (plain_steps (made now) steps)) (sym (ap (λ g. add_form g (bases_of (made now) listed)) base ∙ add_and (forms_at (made now) ids) (bases_of (made now) listed) free)) ∙ adding_next)));
   }
 
 -- the sizes of the steps fall
@@ -345,9 +345,9 @@ operands_more forms ids old steps new i lt e so =
     let inside : length ids - 1 - i < length ids = omega arith in
     ap (plain_steps forms) e
     ∙ (steps_last forms steps (Add (get_or ids (length ids - 1 - i) 0))
-      ∙ (ap (λ l. add_of (form_of forms (get_or ids (length ids - 1 - i) 0)) ∷ l) so
-        ∙ (ap (λ k. add_of (form_of forms (get_or ids (length ids - 1 - i) 0)) ∷ (map (plain_step forms) (adds (drop k ids)) ++ plain_steps forms old)) (sym next)
-          ∙ (sym (at_drop_more (λ l. map (plain_step forms) (adds l) ++ plain_steps forms old) ids (length ids - 1 - i) 0 inside) ∙ ap (λ k. map (plain_step forms) (adds (drop k ids)) ++ plain_steps forms old) (sym place)))))
+    ∙ (ap (λ l. add_of (form_of forms (get_or ids (length ids - 1 - i) 0)) ∷ l) so
+    ∙ (ap (λ k. add_of (form_of forms (get_or ids (length ids - 1 - i) 0)) ∷ (map (plain_step forms) (adds (drop k ids)) ++ plain_steps forms old)) (sym next)
+    ∙ (sym (at_drop_more (λ l. map (plain_step forms) (adds l) ++ plain_steps forms old) ids (length ids - 1 - i) 0 inside) ∙ ap (λ k. map (plain_step forms) (adds (drop k ids)) ++ plain_steps forms old) (sym place)))))
 
 pub operands_all : (forms : List Form) (ids : List ℕ) (old steps : List Step) (i : ℕ) → length ids ≤ i → plain_steps forms steps ≡ map (plain_step forms) (adds (drop (length ids - i) ids)) ++ plain_steps forms old → plain_steps forms steps ≡ map (plain_step forms) (adds ids) ++ plain_steps forms old
 operands_all forms ids old steps i le so = so ∙ ap (λ k. map (plain_step forms) (adds (drop k ids)) ++ plain_steps forms old) zero_left where
@@ -501,3 +501,6 @@ and_operands forms b ids e = ap operands_of (get_or_from_slice_get forms b (spel
 
 pub adding_first : (t : Table) (listed places : List ℕ) (steps : List Step) (form : ℕ) → IsListed (made t) listed places → form / 2 < length (made t) → steps ≡ Add form ∷ [] → IsAdding t listed places steps (add_form (form_of (made t) form) (bases_of (made t) listed))
 adding_first t listed places steps form is lt e = subst (λ s. IsAdding t listed places s (add_form (form_of (made t) form) (bases_of (made t) listed))) (sym e) (record { listed_is = is; fit = (lt, tt); same = refl })
+
+pub place_pushed : (places new : List ℕ) (x : ℕ) → new ≡ places ++ no_place ∷ [] → place_of new x ≡ place_of places x
+place_pushed places new x e = ap (λ l. place_of l x) e ∙ place_more places 1 x

@@ -139,7 +139,7 @@ module _ (forms : List Form) (are : AreMade forms) (listed places : List ℕ) (i
       let lt = slice_get_in (map (numbered_base o.bases) o.bases) i (plain_base key) here in
       ap (map plain_base) (grown ∙ ap (λ t. cond t keys (keys ++ key ∷ [])) fresh)
       ∙ (map-append plain_base keys (key ∷ [])
-        ∙ (ap₂ (λ l x. l ++ x ∷ []) so (sym (get_or_from_slice_get (map (numbered_base o.bases) o.bases) i (plain_base key) base_true here)) ∙ sym (take_more (map (numbered_base o.bases) o.bases) i base_true lt)))
+      ∙ (ap₂ (λ l x. l ++ x ∷ []) so (sym (get_or_from_slice_get (map (numbered_base o.bases) o.bases) i (plain_base key) base_true here)) ∙ sym (take_more (map (numbered_base o.bases) o.bases) i base_true lt)))
 
   pub bases_done : (keys : List Base) (i : ℕ) → length listed ≤ i → map plain_base keys ≡ take i (map (numbered_base o.bases) o.bases) → map plain_base keys ≡ map (numbered_base (bases_of forms listed)) (bases_of forms listed)
   bases_done keys i le so =

@@ -51,8 +51,8 @@ literal_one fanins row i sign old new n lt e s is grown so =
     let rest = literal_numbers (drop (i + 1) fanins) (drop (i + 1) row) in
     ap (λ l. l ++ rest) grown
     ∙ (append_assoc old (n ∷ []) rest
-      ∙ (ap (λ m. old ++ m ∷ rest) is
-        ∙ (sym (ap (λ l. old ++ l) (literals_at fanins row i (Some sign) lt e s)) ∙ so)))
+    ∙ (ap (λ m. old ++ m ∷ rest) is
+    ∙ (sym (ap (λ l. old ++ l) (literals_at fanins row i (Some sign) lt e s)) ∙ so)))
 
 pub literal_none : (fanins : List ℕ) (row : List (Option Bool)) (i : ℕ) (old new : List ℕ) → i < length row → length row ≡ length fanins → get_or row i None ≡ None → new ≡ old → old ++ literal_numbers (drop i fanins) (drop i row) ≡ literal_numbers fanins row → new ++ literal_numbers (drop (i + 1) fanins) (drop (i + 1) row) ≡ literal_numbers fanins row
 literal_none fanins row i old new lt e s same so =
@@ -100,8 +100,8 @@ cubes_more width old now next fanins rows i row cubes cubes' lits n are below lt
       let one : form_of (made next) n ≡ cube width fs row = m.is ∙ ap (conjunction width) (ap (forms_at (made now)) l ∙ (literal_forms (made now) are fanins row (below_kept_more (made old) (made now) fanins so.more below) ∙ ap (λ k. literals k row) kept)) in
       ap (λ k. k ++ rest) (map-append (form_of (made next)) cubes (n ∷ []))
       ∙ (append_assoc (forms_at (made next) cubes) (form_of (made next) n ∷ []) rest
-        ∙ (ap₂ (λ k f. k ++ f ∷ rest) (forms_kept (made now) (made next) cubes m.more so.within) one
-          ∙ (ap (λ k. forms_at (made now) cubes ++ k) (ap (λ k. cube width fs k ∷ rest) r ∙ sym (at_drop_more (map (cube width fs)) rows i row lt)) ∙ so.same)));
+      ∙ (ap₂ (λ k f. k ++ f ∷ rest) (forms_kept (made now) (made next) cubes m.more so.within) one
+      ∙ (ap (λ k. forms_at (made now) cubes ++ k) (ap (λ k. cube width fs k ∷ rest) r ∙ sym (at_drop_more (map (cube width fs)) rows i row lt)) ∙ so.same)));
 })
 
 drop_past : {X : Type 0} (n : ℕ) (xs : List X) → length xs ≤ n → drop n xs ≡ []

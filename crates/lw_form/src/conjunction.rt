@@ -14,6 +14,7 @@ use std::alloc::{AllocError, Global};
 
 // The numbers of true and of its complement.
 const TRUE: u32 = 0;
+
 const FALSE: u32 = 1;
 
 // One step of an And.

@@ -8,10 +8,9 @@ ghost use Rattle.lw_form.specs.Listed.{no_place, base_at, bases_of, place_of, Is
 ghost use Rattle.lw_form.specs.Limits.{most_bases};
 ghost use Rattle.lw_form.specs.Tables.{made, forms_at, AreBelow, HasMore};
 
-use crate::FormFault;
-use crate::FormIds;
 use crate::conjunction::operands;
 use crate::table::FormTable;
+use crate::{FormFault, FormIds};
 use std::alloc::{AllocError, Global};
 
 // The place of what isn't listed.
@@ -62,9 +61,8 @@ impl Listing {
         ensures same { OnOk result ((x : ℕ) → place_of self.new.places.items x ≡ place_of self.old.places.items x) }
         ensures listed { self.new.listed ≡ self.old.listed }
     {
-        let least = b as usize + 1;
-        if self.places.len() < least {
-            self.places.resize(least, NO_PLACE)?;
+        for _place in self.places.len()..b as usize + 1 {
+            self.places.push(NO_PLACE)?;
         }
         Ok(())
     }

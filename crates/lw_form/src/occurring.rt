@@ -14,7 +14,6 @@ ghost use Rattle.lw_form.specs.Nets.{signal_at, AreListed, AreNodes};
 ghost use Rattle.lw_form.specs.Products.{HaveColumns};
 ghost use Rattle.lw_form.specs.Tables.{made, AreBelow, forms_at, HasMore};
 
-use crate::{FormFault, Forms};
 use crate::factoring::factored;
 use crate::listing::Listing;
 use crate::products::{signed, sum_of_products};
@@ -22,6 +21,7 @@ use crate::renumbering::{numbered_bases, renumbered_all};
 use crate::row::Row;
 use crate::sampling::samples;
 use crate::table::FormTable;
+use crate::{FormFault, Forms};
 use lw_net::{Cube, Network, Node};
 use lw_pool::NetId;
 use std::alloc::{AllocError, Global};

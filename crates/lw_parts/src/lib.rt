@@ -9,6 +9,8 @@ mod closures;
 #[cfg(test)]
 mod decimals;
 #[cfg(test)]
+mod form_lists;
+#[cfg(test)]
 mod lines;
 #[cfg(test)]
 mod nets;

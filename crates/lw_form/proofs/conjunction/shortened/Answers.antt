@@ -11,8 +11,6 @@ returns-then-clashes c = done_false c.args.width c.requires.low c.args.table.now
 pub returns-then-is_empty : goal.returns-then-is_empty
 returns-then-is_empty c = done_true c.args.width c.requires.low c.args.table.now c.len-count.ensures.made c.args.forms.now c.in_ok-kept.kept.keys c.requires.below c.in_ok-kept.ensures (sym c.as_slice-kept.ensures.keys ∙ no_length c.as_slice-kept.result.now (eqb-true _ _ (sym c.if-is_empty.ensures)))
 
-
-
 pub joined-requires-clause-below : goal.joined-requires-clause-below
 joined-requires-clause-below c = kept_below c.args.width c.requires.low c.args.table.now c.len-count.ensures.made c.args.forms.now c.as_slice-kept.result.now c.requires.below (c.as_slice-kept.ensures.keys ∙ c.in_ok-kept.ensures)
 
