@@ -1,6 +1,7 @@
 //! Makes drafts of forms with many facts and reduces them, so that the speed of reduction can be taken.
 //!
 //! `mix FORMS FACTS` has so many base forms, with so many NAND facts each, of parts that are drawn from the forms before it.
+//! `draft FORMS FACTS` makes the same draft and does not reduce it.
 //! `chain N`, `back N` and `down N` have two chains of N forms whose first ones are linked, so that each pair of forms that
 //! become one lets the next pair become one: with facts in the order of forms, in the other order, and with the last forms
 //! first.
@@ -160,6 +161,7 @@ fn link_chains(
 #[derive(Drop)]
 struct Task {
     mix: bool,
+    draft: bool,
     back: bool,
     down: bool,
     forms: usize,
@@ -178,8 +180,8 @@ fn first_values(alloc: Global, inputs: u32) -> Result<Vec<bool>, AllocError>
     Ok(values)
 }
 
-// The graph of a task.
-fn graph(alloc: Global, task: &Task) -> Result<Graph, AllocError> {
+// The draft of a task.
+fn drafted(alloc: Global, task: &Task) -> Result<Draft, AllocError> {
     let inputs = if task.mix { INPUTS } else { 1 };
     let mut draft = Draft::new(alloc, inputs)?;
     let mut values = first_values(alloc, inputs)?;
@@ -192,7 +194,7 @@ fn graph(alloc: Global, task: &Task) -> Result<Graph, AllocError> {
         chain(&mut draft, &values, forms, task.back, task.down)?;
         link_chains(&mut draft, &values, forms, task.down)?;
     }
-    reduce(alloc, draft)
+    Ok(draft)
 }
 
 // How many pairs the classes hold.
@@ -207,6 +209,7 @@ fn pairs(graph: &Graph) -> usize {
 fn asked(rt: &HostRuntime) -> io::Result<Task> {
     let mut task = Task {
         mix: false,
+        draft: false,
         back: false,
         down: false,
         forms: 0,
@@ -215,6 +218,10 @@ fn asked(rt: &HostRuntime) -> io::Result<Task> {
     for (place, word) in env::args(rt)?.skip(1).enumerate() {
         match (place, word.as_str()) {
             (0, "mix") => task.mix = true,
+            (0, "draft") => {
+                task.mix = true;
+                task.draft = true;
+            }
             (0, "back") => task.back = true,
             (0, "down") => task.down = true,
             (1, number) => task.forms = number.parse().unwrap_or(0),
@@ -227,7 +234,11 @@ fn asked(rt: &HostRuntime) -> io::Result<Task> {
 
 fn report(rt: &HostRuntime) -> io::Result<()> {
     let task = asked(rt)?;
-    let graph = graph(rt.alloc(), &task)?;
+    let draft = drafted(rt.alloc(), &task)?;
+    if task.draft {
+        return writeln!(rt.stdout(), "a draft");
+    }
+    let graph = reduce(rt.alloc(), draft)?;
     writeln!(
         rt.stdout(),
         "{} classes, {} pairs",

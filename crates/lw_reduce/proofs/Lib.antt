@@ -13,3 +13,4 @@ pub mod Closed
 pub mod Reduced
 pub mod Drafting
 pub mod Assembled
+pub mod Ties

@@ -11,7 +11,7 @@ use crate::classes::number;
 use crate::facts::{Fact, Link};
 use crate::rounds::settle;
 use crate::rows::class_rows;
-use crate::spread::spread;
+use crate::spread::class_pairs;
 use lw_graph::Graph;
 use lw_pool::{ClassId, Classes};
 use std::alloc::{AllocError, Global};
@@ -59,7 +59,7 @@ fn graph_of(
 {
     let numbered = number(alloc, names)?;
     let rows = class_rows(&numbered.forms, rows);
-    let lists = spread(alloc, &rows, numbered.pairs as usize * 2)?;
+    let lists = class_pairs(alloc, rows, numbered.pairs as usize * 2)?;
     let leaves = classes_of(alloc, &numbered.forms[1..inputs as usize + 1])?;
     let forms = classes_of(alloc, &numbered.forms)?;
     let one = ClassId(numbered.forms[0]);

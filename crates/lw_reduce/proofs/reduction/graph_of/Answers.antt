@@ -21,13 +21,13 @@ class_rows-rows-requires c =
     let e = ap length c.deref.ensures.value ∙ c.in_ok-numbered.ensures.count in
     subst (λ m. All (IsFactIn m) rows) (sym e) (rows_in n c.args.nands.now c.args.links.now c.args.names.now rows c.requires.settled c.requires.few)
 
-pub spread-requires : goal.spread-requires
-spread-requires c =
+pub class_pairs-requires : goal.class_pairs-requires
+class_pairs-requires c =
     let n = length c.args.names.now in
     let rows = c.args.rows.items in
     let forms = c.in_ok-numbered.numbered.forms.items in
     let pairs = c.in_ok-numbered.numbered.pairs in
-    let e = c.deref-2.ensures.value ∙ (c.class_rows-rows.ensures ∙ ap (λ fs. dedup same_fact (map (renamed_fact fs) rows)) c.deref.ensures.value) in
+    let e = c.class_rows-rows.ensures ∙ ap (λ fs. dedup same_fact (map (renamed_fact fs) rows)) c.deref.ensures.value in
     let p = c.in_ok-numbered.ensures.pairs in
     subst (λ es. All (λ (r : Fact). r.form < pairs * 2) es) (sym e) (entries_below n c.args.nands.now c.args.links.now c.args.names.now rows c.requires.settled c.requires.few forms c.in_ok-numbered.ensures.classes c.in_ok-numbered.ensures.count (pairs * 2) (omega arith))
 
@@ -41,11 +41,11 @@ new-requires c =
     let lists = c.in_ok-lists.lists in
     let count = c.in_ok-numbered.ensures.count in
     let in' = c.requires.inputs in
-    let e = c.deref-2.ensures.value ∙ (c.class_rows-rows.ensures ∙ ap (λ fs. dedup same_fact (map (renamed_fact fs) rows)) c.deref.ensures.value) in
+    let e = c.class_rows-rows.ensures ∙ ap (λ fs. dedup same_fact (map (renamed_fact fs) rows)) c.deref.ensures.value in
     let one : ClassId = record { 0 = c.index.result.now } in
     let one_is = c.index.ensures ∙ get_or_default_zero forms 0 c.index.result.now (omega arith) in
-    let leaves_are = c.in_ok-leaves.ensures ∙ ap (λ fs. map mark (slice_range fs 1 (inputs + 1))) c.deref-3.ensures.value in
-    let classes_are = c.in_ok-forms.ensures ∙ ap (map mark) c.deref-4.ensures.value in
+    let leaves_are = c.in_ok-leaves.ensures ∙ ap (λ fs. map mark (slice_range fs 1 (inputs + 1))) c.deref-2.ensures.value in
+    let classes_are = c.in_ok-forms.ensures ∙ ap (map mark) c.deref-3.ensures.value in
     let lists_are : (k : ℕ) → slice_index_or lists k [] ≡ map pair_of (filter (of_class k) (dedup same_fact (map (renamed_fact forms) rows))) = λ k. c.in_ok-lists.ensures.lists k ∙ ap (λ es. map pair_of (filter (of_class k) es)) e in
     is_graph n c.args.nands.now c.args.links.now c.args.names.now rows c.requires.settled c.requires.few forms c.in_ok-numbered.ensures.classes count inputs c.requires.inputs one c.in_ok-leaves.leaves c.in_ok-forms.forms lists pairs one_is leaves_are classes_are c.in_ok-numbered.ensures.pairs c.in_ok-lists.ensures.count lists_are
 
@@ -59,10 +59,10 @@ returns c =
     let lists = c.in_ok-lists.lists in
     let count = c.in_ok-numbered.ensures.count in
     let in' = c.requires.inputs in
-    let e = c.deref-2.ensures.value ∙ (c.class_rows-rows.ensures ∙ ap (λ fs. dedup same_fact (map (renamed_fact fs) rows)) c.deref.ensures.value) in
+    let e = c.class_rows-rows.ensures ∙ ap (λ fs. dedup same_fact (map (renamed_fact fs) rows)) c.deref.ensures.value in
     let one : ClassId = record { 0 = c.index.result.now } in
     let one_is = c.index.ensures ∙ get_or_default_zero forms 0 c.index.result.now (omega arith) in
-    let leaves_are = c.in_ok-leaves.ensures ∙ ap (λ fs. map mark (slice_range fs 1 (inputs + 1))) c.deref-3.ensures.value in
-    let classes_are = c.in_ok-forms.ensures ∙ ap (map mark) c.deref-4.ensures.value in
+    let leaves_are = c.in_ok-leaves.ensures ∙ ap (λ fs. map mark (slice_range fs 1 (inputs + 1))) c.deref-2.ensures.value in
+    let classes_are = c.in_ok-forms.ensures ∙ ap (map mark) c.deref-3.ensures.value in
     let lists_are : (k : ℕ) → slice_index_or lists k [] ≡ map pair_of (filter (of_class k) (dedup same_fact (map (renamed_fact forms) rows))) = λ k. c.in_ok-lists.ensures.lists k ∙ ap (λ es. map pair_of (filter (of_class k) es)) e in
     λ samples known. subst (IsReduced (plain_draft inputs samples c.args.nands.now c.args.links.now)) (sym c.new.ensures) (is_reduced n c.args.nands.now c.args.links.now c.args.names.now rows c.requires.settled c.requires.few forms c.in_ok-numbered.ensures.classes count inputs c.requires.inputs one c.in_ok-leaves.leaves c.in_ok-forms.forms lists pairs one_is leaves_are classes_are c.in_ok-numbered.ensures.pairs c.in_ok-lists.ensures.count lists_are samples known)
