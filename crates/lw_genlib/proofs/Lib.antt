@@ -4,6 +4,7 @@ mod Evaluating
 mod Faultless
 mod Grammars
 mod NameRuns
+mod LibraryExamples
 mod Names
 mod Running
 mod Sighting

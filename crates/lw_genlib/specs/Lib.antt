@@ -7,3 +7,8 @@ pub mod Runs
 pub mod Sights
 pub mod Tells
 pub mod Words
+pub mod Streams
+pub mod Spelled
+pub mod Entries
+pub mod Joining
+pub mod Libraries
