@@ -12,6 +12,10 @@ use Rattle.lw_genlib.specs.declared.fault.LibKind.{LibKind}
 use Rattle.lw_genlib.specs.declared.fault.LibKind.TheVariants.{Expected, PinUnknown, PhaseWord, Decimal, LimitText, LongWord}
 use Rattle.lw_genlib.specs.declared.fault.LibFault.{LibFault}
 use Rattle.lw_genlib.specs.declared.fault.LibFault.TheVariants.{Line}
+use Rattle.lw_genlib.specs.declared.pin.Field.{Field}
+use Rattle.lw_genlib.specs.declared.pin.Field.TheVariants.{Phase, Load, MostLoad, Rise, RiseUnused, Fall, FallUnused}
+use Rattle.lw_genlib.specs.declared.pin.Target.{Target}
+use Rattle.lw_genlib.specs.declared.pin.Target.TheVariants.{Every, One}
 use Rattle.lw_genlib.specs.Functions.{signs_in, first_fault, pins_in}
 use Rattle.lw_genlib.specs.Streams.{Token, word_on, long_line, text_end, Reading, done, broken, cut_short, and_then, with_rest, word_by}
 
@@ -114,8 +118,11 @@ entry_begun line name area text = entry_by line name area text (first_fault [] t
 
 -- what follows the area, the name and the word `GATE`
 
+abbrev pub behind_words : ℕ → List ℕ → Micro → Text → List Token → Reading Entry
+behind_words line name area text tokens = and_then (text_from text tokens) (λ whole rest. with_rest rest (entry_begun line name area whole))
+
 abbrev pub behind_area : ℕ → List ℕ → Micro → List Token → Reading Entry
-behind_area line name area tokens = and_then (text_from no_text tokens) (λ text rest. with_rest rest (entry_begun line name area text))
+behind_area line name area tokens = behind_words line name area no_text tokens
 
 abbrev pub behind_name : ℕ → List ℕ → List Token → Reading Entry
 behind_name line name tokens = and_then (word_by number_of tokens) (λ area rest. behind_area line name area rest)
@@ -125,27 +132,16 @@ behind_gate line tokens = and_then (word_by cell_name tokens) (λ name rest. beh
 
 -- Pins.
 
--- a pin by its place, or all pins
-pub data Target : Type 0 where
-  each_pin : Target
-  one_pin : ℕ → Target
-
 abbrev pub target_at : Option ℕ → Result Target LibKind
-target_at (Some place) = Ok (one_pin place)
+target_at (Some place) = Ok (One place)
 target_at None = Err PinUnknown
 
 abbrev pub target_of : List (List ℕ) → List ℕ → Result Target LibKind
-target_of pins bytes = if bytes_eq bytes (codes "*") then Ok each_pin else target_at (position (bytes_eq bytes) pins)
+target_of pins bytes = if bytes_eq bytes (codes "*") then Ok Every else target_at (position (bytes_eq bytes) pins)
 
--- what stands behind a pin's name
-pub data Field : Type 0 where
-  phase_word : Field
-  unused_word : Field
-  block_word : Field
-
--- the phase, two loads, and the block delay and a word that is not used, for a rise and for a fall
+-- what stands behind a pin's name: the phase, two loads, and the block delay and a word that is not used, for a rise and for a fall
 abbrev pub pin_fields : List Field
-pin_fields = phase_word ∷ unused_word ∷ unused_word ∷ block_word ∷ unused_word ∷ block_word ∷ unused_word ∷ []
+pin_fields = Phase ∷ Load ∷ MostLoad ∷ Rise ∷ RiseUnused ∷ Fall ∷ FallUnused ∷ []
 
 -- the larger of a delay and a block delay
 abbrev pub larger : Micro → Result Micro LibKind → Result Micro LibKind
@@ -154,9 +150,10 @@ larger delay (Err kind) = Err kind
 
 -- the delay behind one more word
 abbrev pub delay_behind : Field → Micro → List ℕ → Result Micro LibKind
-delay_behind phase_word delay bytes = if is_phase bytes then Ok delay else Err PhaseWord
-delay_behind unused_word delay bytes = if is_like_number bytes then Ok delay else Err Expected
-delay_behind block_word delay bytes = larger delay (number_of bytes)
+delay_behind Phase delay bytes = if is_phase bytes then Ok delay else Err PhaseWord
+delay_behind Rise delay bytes = larger delay (number_of bytes)
+delay_behind Fall delay bytes = larger delay (number_of bytes)
+delay_behind unused delay bytes = if is_like_number bytes then Ok delay else Err Expected
 
 abbrev pub delay_from : List Field → Micro → List Token → Reading Micro
 delay_from [] delay tokens = done delay tokens
@@ -167,8 +164,8 @@ no_delay = record { 0 = 0 }
 
 -- the entry with one more delay: of pins of one kind the last wins
 abbrev pub with_delay : Entry → Target → Micro → Entry
-with_delay entry each_pin delay = record { line = entry.line; name = entry.name; area = entry.area; signs = entry.signs; named = entry.named; every = Some delay }
-with_delay entry (one_pin place) delay = record { line = entry.line; name = entry.name; area = entry.area; signs = entry.signs; named = slice_set entry.named place (Some delay); every = entry.every }
+with_delay entry Every delay = record { line = entry.line; name = entry.name; area = entry.area; signs = entry.signs; named = entry.named; every = Some delay }
+with_delay entry (One place) delay = record { line = entry.line; name = entry.name; area = entry.area; signs = entry.signs; named = slice_set entry.named place (Some delay); every = entry.every }
 
 -- what follows a pin's name, and the word `PIN`
 

@@ -10,6 +10,8 @@ use Rattle.lw_genlib.specs.declared.fault.LibKind.{LibKind}
 use Rattle.lw_genlib.specs.declared.fault.LibKind.TheVariants.{PinMissing, CellDiffers}
 use Rattle.lw_genlib.specs.declared.fault.LibFault.{LibFault}
 use Rattle.lw_genlib.specs.declared.fault.LibFault.TheVariants.{Line}
+use Rattle.lw_genlib.specs.declared.op.ExprOp.{ExprOp}
+use Rattle.lw_genlib.specs.declared.op.ExprOp.TheVariants.{And, Or}
 use Rattle.lw_genlib.specs.Postfix.{first_expr}
 use Rattle.lw_genlib.specs.Words.{assigned}
 use Rattle.lw_genlib.specs.Cells.{CellParts}
@@ -38,8 +40,11 @@ is_missing (Some delay) = false
 abbrev pub lacks_delay : Entry → Bool
 lacks_delay entry = list_any (λ own. is_missing (own_or entry.every own)) entry.named
 
+abbrev pub delay_by : Option Micro → Option Micro → Micro
+delay_by every own = unwrap_or (own_or every own) no_delay
+
 abbrev pub delays_of : Entry → List Micro
-delays_of entry = map (λ own. unwrap_or (own_or entry.every own) no_delay) entry.named
+delays_of entry = map (delay_by entry.every) entry.named
 
 -- the entry's expression over these pins
 abbrev pub form_over : List (List ℕ) → Entry → Expr
@@ -50,9 +55,12 @@ cell_of entry = record { name = entry.name; area = entry.area; output = output_o
 
 -- Entries of one name.
 
+abbrev pub is_same_pin : List ℕ × Micro → List ℕ × Micro → Bool
+is_same_pin pin other = bytes_eq pin.0 other.0 && pin.1.0 == other.1.0
+
 -- the pin with its delay is one of these
 abbrev pub is_pin_among : List (List ℕ × Micro) → List ℕ × Micro → Bool
-is_pin_among pins pin = list_any (λ other. bytes_eq pin.0 other.0 && pin.1.0 == other.1.0) pins
+is_pin_among pins pin = list_any (is_same_pin pin) pins
 
 -- the same pins with the same delays, in any order
 abbrev pub have_same_pins : List (List ℕ × Micro) → List (List ℕ × Micro) → Bool
@@ -66,12 +74,15 @@ is_same false b = not b
 unfoldable pub have_same_table : ℕ → Expr → Expr → Bool
 have_same_table pins e f = list_all (λ n. is_same (expr_value (assigned n) e) (expr_value (assigned n) f)) (range_with_len 0 (2 ^ pins))
 
--- the output, the area, the pins with their delays, and the truth table are those of the cell
+-- the output, the area and the pins with their delays are those of the cell
+abbrev pub is_alike : CellParts → List ℕ → Micro → List (List ℕ × Micro) → Bool
+is_alike cell output area pins =
+    bytes_eq cell.output output && cell.area.0 == area.0 && have_same_pins pins (zip cell.pins cell.delays)
+
+-- and so is the truth table
 unfoldable pub agrees : CellParts → Entry → Bool
 agrees cell entry =
-    bytes_eq cell.output (output_of entry)
-    && cell.area.0 == entry.area.0
-    && have_same_pins (zip cell.pins cell.delays) (zip (pins_of entry) (delays_of entry))
+    is_alike cell (output_of entry) entry.area (zip (pins_of entry) (delays_of entry))
     && have_same_table (length cell.pins) (first_expr cell.forms) (form_over cell.pins entry)
 
 abbrev pub with_form : CellParts → Expr → CellParts
@@ -85,8 +96,18 @@ joined_at cells entry (Some place) =
     then Ok (slice_set cells place (with_form (slice_index_or cells place (cell_of entry)) (form_over (slice_index_or cells place (cell_of entry)).pins entry)))
     else Err (Line entry.line CellDiffers)
 
+-- the place of the cell with the entry's name
+abbrev pub place_of : List CellParts → Entry → Option ℕ
+place_of cells entry = position (λ (cell : CellParts). bytes_eq entry.name cell.name) cells
+
 -- The cells where one more entry is at its end.
 unfoldable pub joined : List CellParts → Entry → Result (List CellParts) LibFault
 joined cells entry =
     if lacks_delay entry then Err (Line entry.line PinMissing)
-    else joined_at cells entry (position (λ (cell : CellParts). bytes_eq entry.name cell.name) cells)
+    else joined_at cells entry (place_of cells entry)
+
+-- a step of an AND or an OR
+abbrev pub is_wide_step : ExprOp → Bool
+is_wide_step (And n) = true
+is_wide_step (Or n) = true
+is_wide_step other = false

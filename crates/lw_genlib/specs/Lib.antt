@@ -1,7 +1,9 @@
 pub mod Cells
 pub mod Codes
+pub mod Fields
 pub mod Functions
 pub mod Grammar
+pub mod Places
 pub mod Postfix
 pub mod Runs
 pub mod Sights
@@ -12,3 +14,5 @@ pub mod Spelled
 pub mod Entries
 pub mod Joining
 pub mod Libraries
+pub mod Kept
+pub mod Standing

@@ -23,6 +23,9 @@ pub record Book : Type 0 where
 abbrev pub no_book : Book
 no_book = record { cells = []; entry = None; wide = None }
 
+abbrev pub with_open : Book → Option Entry → Book
+with_open book open_one = record { cells = book.cells; entry = open_one; wide = book.wide }
+
 -- the book of these cells, with no entry whose pins may follow
 abbrev pub with_cells : Option ℕ → Result (List CellParts) LibFault → Result Book LibFault
 with_cells wide (Ok cells) = Ok (record { cells = cells; entry = None; wide = wide })
@@ -53,7 +56,7 @@ with_entry book entry = record { cells = book.cells; entry = Some entry; wide = 
 
 -- more words of the entry whose pins may follow
 abbrev pub with_pin : Book → Entry → Book
-with_pin book entry = record { cells = book.cells; entry = Some entry; wide = book.wide }
+with_pin book entry = with_open book (Some entry)
 
 abbrev pub is_word : List ℕ → List ℕ → Bool
 is_word word bytes = bytes_eq bytes word
@@ -74,8 +77,11 @@ go_on_with (Ok book) f = f book
 go_on_with (Err fault) f = broken fault
 
 -- the entry that begins with the word `GATE` on this line
+abbrev pub begun_by : Book → Reading Entry → Reading Book
+begun_by book entry = and_then entry (λ begun rest. done (with_entry book begun) rest)
+
 abbrev pub gate_on : Book → ℕ → List Token → Reading Book
-gate_on book line tokens = and_then (behind_gate line tokens) (λ entry rest. done (with_entry book entry) rest)
+gate_on book line tokens = begun_by book (behind_gate line tokens)
 
 -- the words of an entry behind a word that begins it
 abbrev pub entry_on : ℕ → List ℕ → List Token → Book → Reading Book
@@ -89,36 +95,56 @@ entry_on line bytes rest book =
 abbrev pub entry_behind : Book → ℕ → List ℕ → List Token → Reading Book
 entry_behind book line bytes rest = go_on_with (entry_ended book) (entry_on line bytes rest)
 
+abbrev pub continued_by : Book → Reading Entry → Reading Book
+continued_by book entry = and_then entry (λ more rest. done (with_pin book more) rest)
+
 abbrev pub pin_on : Book → Entry → List Token → Reading Book
-pin_on book entry tokens = and_then (behind_pin entry tokens) (λ more rest. done (with_pin book more) rest)
+pin_on book entry tokens = continued_by book (behind_pin entry tokens)
 
 -- The words `PIN` and those behind it, of an entry whose pins may follow, or a new entry.
 abbrev pub words_behind : Book → Option Entry → ℕ → List ℕ → List Token → Reading Book
 words_behind book None line bytes rest = entry_behind book line bytes rest
 words_behind book (Some entry) line bytes rest = if is_word (codes "PIN") bytes then pin_on book entry rest else entry_behind book line bytes rest
 
--- one pin or one entry
-unfoldable pub piece : Book → List Token → Reading Book
-piece book [] = cut_short
-piece book (text_end line ∷ rest) = go_on_with (entry_ended book) (λ ended. done ended rest)
-piece book (long_line line ∷ rest) = broken (Line line LongWord)
-piece book (word_on line bytes ∷ rest) = words_behind book book.entry line bytes rest
+-- What comes of one pin or one entry: a book with the stream that is left, a fault, nothing yet, or at the end of the text the cells.
+pub data Piece : Type 0 where
+  next : Book → List Token → Piece
+  stopped : LibFault → Piece
+  unfinished : Piece
+  finished : List CellParts → Piece
 
--- the first fault, and the book of the pieces before it, or of all pieces that are whole
+abbrev pub piece_by : Reading Book → Piece
+piece_by (done book rest) = next book rest
+piece_by (broken fault) = stopped fault
+piece_by cut_short = unfinished
+
+abbrev pub last_piece : Result (List CellParts) LibFault → Piece
+last_piece (Ok cells) = finished cells
+last_piece (Err fault) = stopped fault
+
+unfoldable pub piece : Book → List Token → Piece
+piece book [] = unfinished
+piece book (text_end line ∷ rest) = last_piece (joined_with book.cells book.entry)
+piece book (long_line line ∷ rest) = stopped (Line line LongWord)
+piece book (word_on line bytes ∷ rest) = piece_by (words_behind book book.entry line bytes rest)
+
+-- the first fault, the cells where the stream comes to the end of the text without one, and the line of the first wide entry
 pub record Outcome : Type 0 where
   pub fault : Option LibFault
-  pub book : Book
+  pub cells : List CellParts
+  pub wide : Option ℕ
 
 -- what follows a piece
-abbrev pub after : Book → Reading Book → (Book → List Token → Outcome) → Outcome
-after book (done next rest) others = others next rest
-after book (broken fault) others = record { fault = Some fault; book = book }
-after book cut_short others = record { fault = None; book = book }
+abbrev pub after : Option ℕ → Piece → (Book → List Token → Outcome) → Outcome
+after wide (next book rest) others = others book rest
+after wide (stopped fault) others = record { fault = Some fault; cells = []; wide = wide }
+after wide unfinished others = record { fault = None; cells = []; wide = wide }
+after wide (finished cells) others = record { fault = None; cells = cells; wide = wide }
 
 -- The pieces of a stream, in at most so many turns. Each piece takes a word or more.
 unfoldable pub pieces : ℕ → Book → List Token → Outcome
-pieces zero book tokens = record { fault = None; book = book }
-pieces (suc turns) book tokens = after book (piece book tokens) (pieces turns)
+pieces zero book tokens = record { fault = None; cells = []; wide = book.wide }
+pieces (suc turns) book tokens = after book.wide (piece book tokens) (pieces turns)
 
 unfoldable pub outcome_from : Book → List Token → Outcome
 outcome_from book tokens = pieces (suc (length tokens)) book tokens
@@ -131,7 +157,7 @@ cells_or_fault (Some fault) cells = Err fault
 cells_or_fault None cells = Ok cells
 
 abbrev pub library_by : Outcome → Result (List CellParts) LibFault
-library_by outcome = cells_or_fault outcome.fault outcome.book.cells
+library_by outcome = cells_or_fault outcome.fault outcome.cells
 
 -- The cells of all lines of a text, or the first fault.
 unfoldable pub library_of : List LogicalLine → Result (List CellParts) LibFault
@@ -143,4 +169,4 @@ fault_so_far lines = (outcome_of (stream_of lines)).fault
 
 -- the line of the first entry, read as far as its `;`, whose expression holds an AND or an OR
 unfoldable pub wide_entry : List LogicalLine → Option ℕ
-wide_entry lines = (outcome_of (stream_of lines)).book.wide
+wide_entry lines = (outcome_of (stream_of lines)).wide

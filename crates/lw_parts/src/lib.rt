@@ -4,6 +4,8 @@
 #[cfg(test)]
 mod decimals;
 #[cfg(test)]
+mod libraries;
+#[cfg(test)]
 mod lines;
 #[cfg(test)]
 mod nets;
