@@ -1,23 +1,22 @@
 -- An entry that agrees with a cell.
-use Rattle.std.proofs.Common.{ℕ, zero, suc, ◌+◌, ◌-◌, ◌≡◌, ◌<◌, ◌≤◌, ◌^◌, Bool, true, false, ◌&&◌, ◌||◌, List, [], ◌∷◌, ◌++◌, length, get_or, Option, refl, ap, ap₂, sym, ◌∙◌, subst, arith, inl, inr}
-use Rattle.std.specs.Prelude.{◌⊎◌, ◌==◌, ◌↔◌, take, drop, IsTrue}
-use Rattle.std.specs.List.{list_any, list_all, zip, IsDistinct}
+use Rattle.std.proofs.Common.{ℕ, ◌+◌, ◌≡◌, ◌<◌, ◌≤◌, Bool, true, false, ◌&&◌, ◌||◌, List, [], ◌∷◌, length, get_or, Option, refl, ap, ap₂, sym, ◌∙◌, subst, arith, inl, inr}
+use Rattle.std.specs.Prelude.{◌⊎◌, ◌==◌}
+use Rattle.std.specs.List.{list_all, zip, IsDistinct}
 use Rattle.std.specs.Str.{bytes_eq}
 use Rattle.std.proofs.lemmas.Bool.{false≢true}
 use Rattle.std.proofs.lemmas.List.{length-map}
 use Rattle.lw_fixed.specs.declared.micro.Micro.{Micro}
-use Rattle.lw_laws.specs.Expressions.{Expr, MentionsPin}
+use Rattle.lw_laws.specs.Expressions.{Expr}
 use Rattle.lw_genlib.specs.declared.sign.Sign.{Sign}
-use Rattle.lw_genlib.specs.declared.sign.Sign.TheVariants.{Name, Mark}
 use Rattle.lw_genlib.specs.Cells.{CellParts, IsCell, IsForm, HaveOneTruth}
 use Rattle.lw_genlib.specs.Postfix.{postfix, tree_of, literals, IsWide, first_expr}
 use Rattle.lw_genlib.specs.Codes.{tree_of-postfix}
-use Rattle.lw_genlib.specs.Grammar.{SpellsSum, go_on, names_in}
+use Rattle.lw_genlib.specs.Grammar.{SpellsSum}
 use Rattle.lw_genlib.specs.Functions.{pins_in}
 use Rattle.lw_genlib.specs.Spelled.{expression_of, inner_of}
 use Rattle.lw_genlib.specs.Entries.{Entry, pins_of}
 use Rattle.lw_genlib.specs.Kept.{IsFunction, AreDelays}
-use Rattle.lw_genlib.specs.Joining.{is_same_pin, is_pin_among, have_same_pins, is_alike, agrees, have_same_table, output_of, delays_of, delay_by, form_over, with_form}
+use Rattle.lw_genlib.specs.Joining.{is_same_pin, is_pin_among, have_same_pins, is_alike, agrees, have_same_table, output_of, delays_of, delay_by, form_over}
 use Rattle.lw_genlib.proofs.Names.{same_name}
 use Rattle.lw_genlib.proofs.Faultless.{inner_at}
 use Rattle.lw_genlib.proofs.Grammars.{spelled_postfix}
@@ -25,7 +24,6 @@ use Rattle.lw_genlib.proofs.Spelled.{spelled_is_read}
 use Rattle.lw_genlib.proofs.Pins.{Named, In, pins_from, pins-have, pins-are, over_pins}
 use Rattle.lw_genlib.proofs.Tables.{table-of_truth, table-test}
 use Rattle.lw_genlib.proofs.Begun.{pins-end}
-use Rattle.lw_genlib.proofs.Joins.{cell-with_form}
 
 left_true : (v w : Bool) → (v && w) ≡ true → v ≡ true
 left_true true w e = refl
@@ -130,12 +128,12 @@ pub joinable : (cell : CellParts) (entry : Entry) (signs : List Sign) (output : 
 joinable cell entry signs output pins form named every slice between text cell_pins other f ds signs_is named_is slice_is kept differ alike between_is text_is pins_is spelled =
     let entry_pins : pins_of entry ≡ pins = ap pins_in (sym signs_is) ∙ sym f.pins_are in
     let now : is_alike cell (output_of entry) entry.area (zip (pins_of entry) (delays_of entry)) ≡ true =
-        sym (alike ∙ ap (λ (d : List Micro). is_alike cell (output_of entry) entry.area (zip (pins_of entry) d)) slice_is) in
+    sym (alike ∙ ap (λ (d : List Micro). is_alike cell (output_of entry) entry.area (zip (pins_of entry) d)) slice_is) in
     let same : have_same_pins (zip pins (delays_of entry)) (zip cell.pins cell.delays) ≡ true =
-        subst (λ (ps : List (List ℕ)). have_same_pins (zip ps (delays_of entry)) (zip cell.pins cell.delays) ≡ true) entry_pins (alike-pins cell (output_of entry) entry (zip (pins_of entry) (delays_of entry)) now) in
+    subst (λ (ps : List (List ℕ)). have_same_pins (zip ps (delays_of entry)) (zip cell.pins cell.delays) ≡ true) entry_pins (alike-pins cell (output_of entry) entry (zip (pins_of entry) (delays_of entry)) now) in
     let one_each : length (delays_of entry) ≡ length pins = length-map entry.named (delay_by entry.every) ∙ (ap length (sym named_is) ∙ ds.one_each) in
     let spelled_here : SpellsSum cell.pins f.inner other =
-        other-spelled signs output pins form f cell between other (between_is ∙ ap inner_of text_is) (subst (λ (ps : List (List ℕ)). SpellsSum ps between other) pins_is spelled) in
+    other-spelled signs output pins form f cell between other (between_is ∙ ap inner_of text_is) (subst (λ (ps : List (List ℕ)). SpellsSum ps between other) pins_is spelled) in
     record {
       is_form = other-form signs output pins form f cell (delays_of entry) other kept differ one_each same spelled_here;
       read = ap (λ (s : List Sign). expression_of cell.pins (inner_of s)) (sym signs_is) ∙ other-read signs output pins form f cell other spelled_here;

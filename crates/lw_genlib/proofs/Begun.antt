@@ -1,7 +1,7 @@
 -- What is kept of the function of an entry, once its signs break no rule.
-use Rattle.std.proofs.Common.{ℕ, zero, suc, ◌+◌, ◌-◌, ◌≡◌, ◌<◌, ◌≤◌, Bool, true, false, not, List, [], ◌∷◌, ◌++◌, length, get_or, Some, None, refl, ap, ap₂, sym, ◌∙◌, subst, arith, inl, inr, length-append}
-use Rattle.std.specs.Prelude.{◌⊎◌, All, fold, drop, take, IsTrue}
-use Rattle.std.specs.List.{list_any, list_all, IsDistinct}
+use Rattle.std.proofs.Common.{ℕ, zero, suc, ◌+◌, ◌≡◌, ◌<◌, ◌≤◌, true, false, not, List, [], ◌∷◌, ◌++◌, length, get_or, None, refl, ap, sym, ◌∙◌, subst, arith, inl, inr, length-append}
+use Rattle.std.specs.Prelude.{◌⊎◌, IsTrue}
+use Rattle.std.specs.List.{list_all, IsDistinct}
 use Rattle.std.specs.Str.{bytes_eq}
 use Rattle.lw_laws.specs.Expressions.{Expr}
 use Rattle.lw_genlib.specs.declared.sign.Sign.{Sign}
@@ -9,14 +9,13 @@ use Rattle.lw_genlib.specs.declared.sign.Sign.TheVariants.{Name, Mark}
 use Rattle.lw_genlib.specs.Cells.{IsWord, IsPinName, IsForm, ends_in_stroke, is_mark_byte}
 use Rattle.lw_genlib.specs.Postfix.{postfix, tree_of, literals, IsWide}
 use Rattle.lw_genlib.specs.Codes.{tree_of-postfix}
-use Rattle.lw_genlib.specs.Grammar.{is_mark, names_in, go_on, SpellsSum}
+use Rattle.lw_genlib.specs.Grammar.{names_in, go_on, SpellsSum}
 use Rattle.lw_genlib.specs.Functions.{IsText, Says, first_fault, with_pin, pins_in}
-use Rattle.lw_genlib.specs.Spelled.{expression_of}
-use Rattle.lw_genlib.specs.Kept.{AreRuns, AreRunsWithin, IsOpenText, IsFunction}
-use Rattle.lw_genlib.proofs.Faultless.{NoFault, first_none, faultless, inner_at, IsFaultless}
+use Rattle.lw_genlib.specs.Kept.{AreRuns, IsOpenText, IsFunction}
+use Rattle.lw_genlib.proofs.Faultless.{first_none, faultless, inner_at, IsFaultless}
 use Rattle.lw_genlib.proofs.Grammars.{spelled_postfix}
 use Rattle.lw_genlib.proofs.Spelled.{spelled_is_read}
-use Rattle.lw_genlib.proofs.Pins.{Named, In, in-at, pins_from, pins-have, pins-are, pins-distinct, over_pins}
+use Rattle.lw_genlib.proofs.Pins.{Named, In, pins_from, pins-have, pins-are, pins-distinct, over_pins}
 
 -- no name ends in `\`
 abbrev NoStrokes : List Sign → Type 0

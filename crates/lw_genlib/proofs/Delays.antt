@@ -1,5 +1,5 @@
 -- Delays of pins.
-use Rattle.std.proofs.Common.{ℕ, zero, suc, ◌≡◌, ◌<◌, List, [], ◌∷◌, length, get_or, Option, Some, None, refl, ap, ap₂, sym, ◌∙◌, subst, arith}
+use Rattle.std.proofs.Common.{ℕ, zero, suc, ◌≡◌, List, length, Option, None, ap, sym, ◌∙◌, subst, arith}
 use Rattle.std.specs.Prelude.{replicate, All}
 use Rattle.std.proofs.lemmas.List.{length-replicate}
 use Rattle.lw_fixed.specs.declared.micro.Micro.{Micro}

@@ -1,6 +1,6 @@
 -- Cells and libraries with one more form or cell.
-use Rattle.std.proofs.Common.{ℕ, zero, suc, ◌+◌, ◌≡◌, ◌<◌, ◌≤◌, Bool, true, false, ◌||◌, List, [], ◌∷◌, ◌++◌, length, map, get_or, set, refl, ap, ap₂, sym, ◌∙◌, subst, arith, length-append}
-use Rattle.std.specs.Prelude.{sum_by, All, Contains, Result, Ok, Err, OnOk, OnErr}
+use Rattle.std.proofs.Common.{ℕ, ◌+◌, ◌≡◌, ◌<◌, false, ◌||◌, List, [], ◌∷◌, ◌++◌, length, get_or, set, refl, ap, sym, ◌∙◌, subst, arith, length-append}
+use Rattle.std.specs.Prelude.{sum_by, Contains, Result, Ok, Err, OnOk, OnErr}
 use Rattle.std.specs.List.{list_any, IsDistinct}
 use Rattle.std.specs.Str.{bytes_eq}
 use Rattle.std.proofs.lemmas.List.{get_or_append_left, map-append}
@@ -10,7 +10,7 @@ use Rattle.std.proofs.lemmas.List.Sums.{sum_by-append, sum_by-set, sum_by-cons}
 use native.Mathlib.Decide.{dec_lt}
 use Rattle.lw_laws.specs.Expressions.{Expr}
 use Rattle.lw_genlib.specs.Postfix.{first_expr}
-use Rattle.lw_genlib.specs.Cells.{CellParts, IsCell, IsForm, HaveOneTruth, IsListed, IsLibrary, form_count, names_of}
+use Rattle.lw_genlib.specs.Cells.{CellParts, IsCell, IsForm, HaveOneTruth, IsListed, form_count, names_of}
 use Rattle.lw_genlib.specs.Joining.{with_form}
 use Rattle.lw_genlib.specs.Kept.{AreCells}
 use Rattle.lw_genlib.specs.Places.{HasRoom}

@@ -1,6 +1,6 @@
 -- Libraries of small texts, and their faults.
 use Rattle.std.proofs.Common.{ℕ, ◌≡◌, List, [], ◌∷◌, ◌++◌, true, false, refl}
-use Rattle.std.specs.Prelude.{codes, Bool, Option, Some, None, Result, Ok, Err, replicate}
+use Rattle.std.specs.Prelude.{codes, Option, None, Result, Ok, Err, replicate}
 use Rattle.std.specs.List.{flat_map}
 use Rattle.lw_words.specs.Lines.{logical_lines}
 use Rattle.lw_fixed.specs.Decimals.{decimal_of, value_of_decimals}
@@ -33,7 +33,6 @@ so_far lines = fault_so_far (logical_lines false (text lines))
 
 abbrev fault : ℕ → LibKind → Result (List CellParts) LibFault
 fault line kind = Err (Line line kind)
-
 
 two_cells : library_in (codes "GATE inv 1 O=!a;" ∷ codes "PIN * INV 1 999 1 0 1 0" ∷ codes "GATE nand2 2 O=!(a*b);" ∷ codes "PIN * INV 1 999 1.5 0 1.5 0" ∷ []) ≡ Ok (record { name = codes "inv"; area = record { 0 = 1000000 }; output = codes "O"; pins = codes "a" ∷ []; delays = record { 0 = 1000000 } ∷ []; forms = (expr_not (expr_pin 0)) ∷ [] } ∷ record { name = codes "nand2"; area = record { 0 = 2000000 }; output = codes "O"; pins = codes "a" ∷ codes "b" ∷ []; delays = record { 0 = 1500000 } ∷ record { 0 = 1500000 } ∷ []; forms = (expr_not (expr_and (more_exprs (expr_pin 0) (more_exprs (expr_pin 1) (no_exprs))))) ∷ [] } ∷ [])
 unfolding logical_lines stream_of text_from sign_fault first_fault expression_of have_same_table agrees joined behind_latch piece pieces outcome_from outcome_of library_of fault_so_far wide_entry decimal_of value_of_decimals library_in so_far

@@ -1,5 +1,5 @@
 -- Lines of words, and the ends of streams.
-use Rattle.std.proofs.Common.{ℕ, zero, suc, ◌+◌, ◌≡◌, ◌<◌, ◌≤◌, Bool, true, false, cond, List, [], ◌∷◌, ◌++◌, length, map, drop, get_or, Option, Some, None, Result, Ok, Err, refl, ap, ap₂, sym, ◌∙◌, subst, arith, append_assoc, append-nil}
+use Rattle.std.proofs.Common.{ℕ, suc, ◌+◌, ◌≡◌, ◌<◌, Bool, true, false, cond, List, [], ◌∷◌, ◌++◌, length, map, drop, get_or, Option, Some, None, Result, Ok, Err, refl, ap, ap₂, sym, ◌∙◌, subst, arith, append_assoc, append-nil}
 use Rattle.std.specs.Prelude.{MatchResult, slice_get, IfOk, IfErr, All, ◌&&◌}
 use Rattle.std.specs.List.{list_all}
 use Rattle.std.proofs.lemmas.Bool.Decides.{nat_tests}
@@ -7,7 +7,6 @@ use Rattle.lw_words.specs.Gathering.{IsInk, IsNoHash, IsWord as IsLineWord}
 use Rattle.std.proofs.Math.Seq.{drop-cons}
 use Rattle.std.proofs.lemmas.Option.{slice_get_within, slice_get-get_or}
 use Rattle.lw_words.specs.Lines.{LogicalLine}
-use Rattle.lw_genlib.specs.declared.fault.LibKind.{LibKind}
 use Rattle.lw_genlib.specs.declared.fault.LibKind.TheVariants.{Expected, LongWord}
 use Rattle.lw_genlib.specs.declared.fault.LibFault.{LibFault}
 use Rattle.lw_genlib.specs.declared.fault.LibFault.TheVariants.{Line, Memory}
@@ -17,7 +16,7 @@ use Rattle.lw_genlib.specs.declared.progress.Progress.{Progress}
 use Rattle.lw_genlib.specs.Cells.{CellParts, IsWord, is_word_byte}
 use Rattle.lw_genlib.specs.Streams.{Token, word_on, long_line, text_end, tokens_on, stream_of, last_number}
 use Rattle.lw_genlib.specs.Entries.{Entry, text_from}
-use Rattle.lw_genlib.specs.Libraries.{Book, Outcome, Piece, next, stopped, unfinished, finished, piece, piece_by, last_piece, after, outcome_from, with_open, with_cells, joined_with, entry_ended, behind_latch, library_by, cells_or_fault}
+use Rattle.lw_genlib.specs.Libraries.{Book, Outcome, Piece, piece, last_piece, outcome_from, with_open, with_cells, joined_with, entry_ended, behind_latch, library_by}
 use Rattle.lw_genlib.specs.Standing.{piece_at, reads_on, resume, BreaksAt}
 use Rattle.lw_genlib.specs.Tells.{TellsErr}
 use Rattle.lw_genlib.proofs.Steps.{piece-again}

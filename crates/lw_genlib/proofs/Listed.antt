@@ -1,8 +1,7 @@
 -- The cell of an entry, and where it is put.
-use Rattle.std.proofs.Common.{ℕ, zero, suc, ◌+◌, ◌≡◌, ◌<◌, ◌≤◌, Bool, true, false, not, nat_lt, ◌||◌, cond, List, [], ◌∷◌, ◌++◌, length, map, get_or, Option, Some, None, Result, Ok, Err, refl, ap, ap₂, sym, ◌∙◌, subst, arith}
-use Rattle.std.specs.Prelude.{All, Contains, IfSome, MatchOption, MatchResult, IfOk}
-use Rattle.std.specs.List.{list_any, position, position_or_len, IsDistinct}
-use Rattle.std.specs.Str.{bytes_eq}
+use Rattle.std.proofs.Common.{ℕ, zero, suc, ◌+◌, ◌≡◌, ◌≤◌, Bool, true, false, not, nat_lt, ◌||◌, cond, List, [], ◌∷◌, length, map, Option, Some, None, Result, Ok, Err, refl, ap, ap₂, sym, ◌∙◌, subst, arith}
+use Rattle.std.specs.Prelude.{All, Contains, MatchOption, MatchResult, IfOk}
+use Rattle.std.specs.List.{list_any, position, position_or_len}
 use Rattle.std.proofs.lemmas.List.{length-map}
 use Rattle.std.proofs.lemmas.Bool.Decides.{nat_tests}
 use Rattle.lw_fixed.specs.declared.micro.Micro.{Micro}
@@ -11,11 +10,10 @@ use Rattle.lw_genlib.specs.declared.sign.Sign.{Sign}
 use Rattle.lw_genlib.specs.declared.fault.LibFault.{LibFault}
 use Rattle.lw_genlib.specs.declared.fault.LibFault.TheVariants.{Line, Memory}
 use Rattle.lw_genlib.specs.declared.fault.LibKind.TheVariants.{PinMissing}
-use Rattle.lw_genlib.specs.Cells.{CellParts, IsCell, IsForm, IsSmall, IsListed, HaveOneTruth}
-use Rattle.lw_genlib.specs.Functions.{pins_in}
-use Rattle.lw_genlib.specs.Spelled.{expression_of, inner_of}
-use Rattle.lw_genlib.specs.Entries.{Entry, pins_of, no_delay}
-use Rattle.lw_genlib.specs.Kept.{IsFunction, IsEntry, IsSmallDelay, AreDelays}
+use Rattle.lw_genlib.specs.Cells.{CellParts, IsForm, IsSmall, IsListed, HaveOneTruth}
+use Rattle.lw_genlib.specs.Spelled.{expression_of}
+use Rattle.lw_genlib.specs.Entries.{Entry, pins_of}
+use Rattle.lw_genlib.specs.Kept.{IsFunction, IsEntry, IsSmallDelay}
 use Rattle.lw_genlib.specs.Joining.{name_first, output_of, own_or, delay_by, delays_of, form_over, cell_of, lacks_delay, is_missing, joined, joined_at, place_of}
 use Rattle.lw_genlib.specs.Libraries.{Book, with_open, with_cells, entry_ended}
 use Rattle.lw_genlib.specs.Tells.{TellsErr}

@@ -1,5 +1,5 @@
 -- A stream is read piece by piece, in any number of turns that is large enough.
-use Rattle.std.proofs.Common.{ℕ, zero, suc, ◌+◌, ◌≡◌, ◌≤◌, ◌<◌, Bool, true, false, List, [], ◌∷◌, ◌++◌, length, Option, Some, None, Result, Ok, Err, refl, ap, sym, ◌∙◌, arith, length-append}
+use Rattle.std.proofs.Common.{ℕ, zero, suc, ◌+◌, ◌≡◌, ◌≤◌, ◌<◌, Bool, true, false, List, [], ◌∷◌, ◌++◌, length, Option, Some, None, Result, Ok, Err, refl, ap, sym, ◌∙◌, arith}
 use Rattle.std.specs.Prelude.{if◌then◌else◌, ⊤, nat_lt, nat_le, codes, sum_by}
 use Rattle.std.specs.List.{list_any, before_first, after_first}
 use Rattle.lw_genlib.specs.declared.fault.LibKind.{LibKind}
@@ -10,7 +10,7 @@ use Rattle.lw_genlib.specs.declared.pin.Field.{Field}
 use Rattle.lw_fixed.specs.declared.micro.Micro.{Micro}
 use Rattle.lw_genlib.specs.Cells.{CellParts, form_count}
 use Rattle.lw_genlib.specs.Streams.{Token, word_on, long_line, text_end, Reading, done, broken, cut_short, and_then, with_rest, on_line, word_by}
-use Rattle.lw_genlib.specs.Entries.{Text, Entry, text_from, left_over, delay_from, delay_behind, cell_name, number_of, behind_name, behind_area, behind_words, behind_gate, behind_pin, behind_target, pin_fields, no_delay, with_delay, target_of, pins_of, entry_begun, no_text, with_end, with_word, is_end}
+use Rattle.lw_genlib.specs.Entries.{Text, Entry, text_from, left_over, delay_from, delay_behind, cell_name, number_of, behind_name, behind_area, behind_gate, behind_pin, behind_target, pin_fields, no_delay, with_delay, target_of, pins_of, entry_begun, no_text, with_end, with_word, is_end}
 use Rattle.lw_genlib.specs.Libraries.{Book, Piece, next, stopped, unfinished, finished, piece_by, piece, last_piece, pieces, after, outcome_from, Outcome, behind_latch, begins_entry, go_on_with, entry_ended, entry_on, entry_behind, gate_on, begun_by, continued_by, pin_on, words_behind, with_entry, with_pin, joined_with, is_word}
 
 -- what is left is at most so long

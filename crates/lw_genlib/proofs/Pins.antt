@@ -1,18 +1,18 @@
 -- The pins of a function are the names that are no constants, each once.
-use Rattle.std.proofs.Common.{ℕ, zero, suc, ◌+◌, ◌≡◌, ◌<◌, ◌≤◌, Bool, true, false, not, ◌||◌, cond, List, [], ◌∷◌, ◌++◌, length, take, get_or, Some, None, Option, refl, ap, ap₂, sym, ◌∙◌, subst, arith, unwrap_or, inl, inr}
-use Rattle.std.specs.Prelude.{◌⊎◌, ◌↔◌, fold, codes}
-use Rattle.std.specs.List.{list_any, IsDistinct, AllByRecursion, position}
+use Rattle.std.proofs.Common.{ℕ, zero, suc, ◌≡◌, ◌<◌, Bool, true, false, ◌||◌, cond, List, [], ◌∷◌, ◌++◌, length, get_or, Some, None, Option, refl, ap, sym, ◌∙◌, subst, arith, unwrap_or, inl, inr}
+use Rattle.std.specs.Prelude.{◌⊎◌, fold, codes}
+use Rattle.std.specs.List.{IsDistinct, AllByRecursion, position}
 use Rattle.std.specs.Str.{bytes_eq}
 use Rattle.std.proofs.lemmas.Bool.{false≢true}
 use Rattle.std.proofs.lemmas.List.Quantifiers.{position-Some}
-use Rattle.lw_laws.specs.Expressions.{Expr, Exprs, MentionsPin, SomeMentionsPin}
-use Rattle.lw_laws.specs.Expressions.Expr.{expr_const, expr_pin, expr_not}
+use Rattle.lw_laws.specs.Expressions.{Expr, MentionsPin, SomeMentionsPin}
+use Rattle.lw_laws.specs.Expressions.Expr.{expr_const, expr_pin}
 use Rattle.lw_genlib.specs.declared.sign.Sign.{Sign}
 use Rattle.lw_genlib.specs.declared.sign.Sign.TheVariants.{Name, Mark}
 use Rattle.lw_genlib.specs.Postfix.{exprs_of, IsOver}
 use Rattle.lw_genlib.specs.Grammar.{IsSum, first_product, next_product, IsProduct, first_factor, beside_factor, times_factor, IsFactor, plain_factor, bang_factor, IsAtom, name_atom, group_atom, quoted_atom, SpellsSum, literal_of, product_of, sum_of, plus_sign, star_sign, close_sign, quote_sign}
 use Rattle.lw_genlib.specs.Functions.{is_constant_name, is_among, with_pin}
-use Rattle.lw_genlib.proofs.Names.{same_name, alike, differ_back, none_before, first_place}
+use Rattle.lw_genlib.proofs.Names.{same_name, alike, differ_back, first_place}
 
 -- a name that is no constant stands among the signs
 abbrev pub Named : List Sign → List ℕ → Type 0

@@ -1,12 +1,11 @@
 -- The expression that signs spell by the grammar is the one that is read from them.
-use Rattle.std.proofs.Common.{ℕ, ◌≡◌, zero, suc, List, [], ◌∷◌, ◌++◌, Option, Some, None, refl, ap, ap₂, sym, ◌∙◌, append_assoc, append-nil}
+use Rattle.std.proofs.Common.{ℕ, ◌≡◌, List, [], ◌∷◌, ◌++◌, refl, ap, ap₂, sym, ◌∙◌, append_assoc}
 use Rattle.std.specs.Prelude.{fold}
 use Rattle.lw_laws.specs.Expressions.{Expr}
 use Rattle.lw_laws.specs.Expressions.Expr.{expr_not}
 use Rattle.lw_genlib.specs.declared.sign.Sign.{Sign}
-use Rattle.lw_genlib.specs.declared.sign.Sign.TheVariants.{Name, Mark}
-use Rattle.lw_genlib.specs.Grammar.{IsSum, first_product, next_product, IsProduct, first_factor, beside_factor, times_factor, IsFactor, plain_factor, bang_factor, IsAtom, name_atom, group_atom, quoted_atom as quoted, SpellsSum, literal_of, product_of, sum_of, plus_sign, star_sign, bang_sign, open_sign, close_sign, quote_sign}
-use Rattle.lw_genlib.specs.Spelled.{Group, new_group, complements, factor_ended, product_ended, with_bang, with_atom, with_quote, value_of, with_sign, value_of_all, expression_of}
+use Rattle.lw_genlib.specs.Grammar.{IsSum, first_product, next_product, IsProduct, first_factor, beside_factor, times_factor, IsFactor, plain_factor, bang_factor, IsAtom, name_atom, group_atom, quoted_atom as quoted, SpellsSum, product_of, sum_of, plus_sign, star_sign, bang_sign, open_sign, close_sign, quote_sign}
+use Rattle.lw_genlib.specs.Spelled.{Group, new_group, complements, factor_ended, product_ended, with_bang, with_atom, with_sign, value_of_all, expression_of}
 
 fold_append : {A B : Type 0} (f : B → A → B) (a : B) (xs ys : List A) → fold f a (xs ++ ys) ≡ fold f (fold f a xs) ys
 fold_append f a [] ys = refl

@@ -1,7 +1,6 @@
 -- What a reader stands for, line by line.
-use Rattle.std.proofs.Common.{ℕ, ◌≡◌, List, [], ◌∷◌, ◌++◌, Option, Some, None, Result, Ok, Err, refl, ap, sym, ◌∙◌, subst, append-nil}
+use Rattle.std.proofs.Common.{ℕ, ◌≡◌, List, [], ◌∷◌, ◌++◌, Option, Some, None, Err, refl, ap, sym, ◌∙◌, subst, append-nil}
 use Rattle.lw_words.specs.Lines.{LogicalLine}
-use Rattle.lw_genlib.specs.declared.fault.LibKind.{LibKind}
 use Rattle.lw_genlib.specs.declared.fault.LibFault.{LibFault}
 use Rattle.lw_genlib.specs.declared.fault.LibFault.TheVariants.{Line, Memory}
 use Rattle.lw_genlib.specs.declared.parts.Place.{Place}
@@ -9,7 +8,6 @@ use Rattle.lw_genlib.specs.declared.parts.Place.TheVariants as place
 use Rattle.lw_genlib.specs.declared.progress.Progress.{Progress}
 use Rattle.lw_genlib.specs.declared.reader.State.{State}
 use Rattle.lw_genlib.specs.declared.reader.State.TheVariants.{Reading, Stopped}
-use Rattle.lw_genlib.specs.Cells.{CellParts}
 use Rattle.lw_genlib.specs.Streams.{Token, text_end, tokens_on, stream_of, last_number}
 use Rattle.lw_genlib.specs.Libraries.{Book, Outcome, no_book, with_open, piece, outcome_from, outcome_of, library_of, library_by, cells_or_fault, fault_so_far, wide_entry}
 use Rattle.lw_genlib.specs.Standing.{IsAt, Tells, resume, reads_on, piece_at, BreaksAt, stop_by}

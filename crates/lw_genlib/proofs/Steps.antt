@@ -2,7 +2,6 @@
 use Rattle.std.proofs.Common.{ℕ, ◌+◌, ◌≡◌, ◌<◌, ◌≤◌, Bool, true, false, not, cond, List, [], ◌∷◌, ◌++◌, length, max, Option, Some, None, Result, Ok, Err, refl, ap, ap₂, sym, ◌∙◌, subst, arith}
 use Rattle.std.specs.Prelude.{codes, sum_by, nat_le, nat_lt, ◌==◌, MatchResult, IfSome, IfNone}
 use Rattle.std.specs.List.{list_any, before_first, after_first}
-use Rattle.std.specs.Str.{bytes_eq}
 use Rattle.std.proofs.lemmas.Bool.Decides.{nat_tests}
 use Rattle.lw_fixed.specs.declared.micro.Micro.{Micro}
 use Rattle.lw_genlib.specs.declared.pin.Field.{Field}
@@ -11,15 +10,13 @@ use Rattle.lw_genlib.specs.declared.fault.LibKind.{LibKind}
 use Rattle.lw_genlib.specs.declared.fault.LibKind.TheVariants.{Expected, LimitText, LimitCells}
 use Rattle.lw_genlib.specs.declared.fault.LibFault.{LibFault}
 use Rattle.lw_genlib.specs.declared.fault.LibFault.TheVariants.{Line, Memory}
-use Rattle.lw_genlib.specs.declared.parts.Heading.{Heading}
 use Rattle.lw_genlib.specs.declared.parts.Place.{Place}
 use Rattle.lw_genlib.specs.declared.parts.Place.TheVariants as place
 use Rattle.lw_genlib.specs.Cells.{CellParts, form_count}
 use Rattle.lw_genlib.specs.Fields.{fields_behind, fields_from}
 use Rattle.lw_genlib.specs.Streams.{Token, word_on, Reading, done, broken, and_then, with_rest, on_line}
 use Rattle.lw_genlib.specs.Entries.{Text, Entry, text_from, with_word, with_end, is_end, left_over, entry_begun, cell_name, number_of, behind_name, behind_words, behind_target, target_of, pins_of, pin_fields, no_delay, with_delay, delay_behind, delay_from, larger}
-use Rattle.lw_genlib.specs.Joining.{joined}
-use Rattle.lw_genlib.specs.Libraries.{Book, Outcome, Piece, next, piece_by, piece, after, outcome_from, with_open, with_pin, with_cells, joined_with, entry_ended, entry_on, entry_behind, words_behind, go_on_with, gate_on, begun_by, continued_by, pin_on, is_word, begins_entry, behind_latch, with_entry}
+use Rattle.lw_genlib.specs.Libraries.{Book, Outcome, next, piece_by, piece, outcome_from, with_open, with_cells, joined_with, entry_ended, entry_on, entry_behind, words_behind, go_on_with, gate_on, begun_by, continued_by, pin_on, is_word, begins_entry, behind_latch, with_entry}
 use Rattle.lw_genlib.specs.Standing.{piece_at, reads_on, resume, BreaksAt}
 use Rattle.lw_genlib.specs.declared.progress.Progress.{Progress}
 use Rattle.lw_genlib.specs.Tells.{TellsErr}
@@ -310,4 +307,3 @@ latch-word book line bytes rest none is =
     ∙ (ap (reads_on book.wide) (piece-plain book line bytes rest)
     ∙ (ap (λ (e : Option Entry). reads_on book.wide (piece_by (words_behind book e line bytes rest))) none
     ∙ ap (λ (r : Result Book LibFault). reads_on book.wide (piece_by (go_on_with r (entry_on line bytes rest)))) (no-entry book none))))
-

@@ -1,6 +1,6 @@
 -- The signs of words.
-use Rattle.std.proofs.Common.{ℕ, zero, suc, ◌+◌, ◌-◌, ◌≡◌, ◌<◌, ◌≤◌, Bool, true, false, not, ◌||◌, ◌&&◌, cond, List, [], ◌∷◌, ◌++◌, length, take, length-take, refl, ap, ap₂, sym, ◌∙◌, subst, arith, length-append}
-use Rattle.std.specs.Prelude.{replicate, IsTrue}
+use Rattle.std.proofs.Common.{ℕ, zero, suc, ◌+◌, ◌-◌, ◌≡◌, ◌≤◌, Bool, true, false, not, ◌||◌, ◌&&◌, cond, List, [], ◌∷◌, ◌++◌, length, take, length-take, refl, ap, ap₂, sym, ◌∙◌, subst, arith, length-append}
+use Rattle.std.specs.Prelude.{replicate}
 use Rattle.std.specs.List.{list_any, list_all, before_first, position_or_len}
 use Rattle.std.proofs.lemmas.Bool.{false≢true}
 use Rattle.std.proofs.lemmas.List.{length-replicate}
@@ -11,7 +11,7 @@ use Rattle.lw_genlib.specs.Cells.{IsWord, IsPart, is_word_byte, is_mark_byte}
 use Rattle.lw_genlib.specs.Grammar.{is_mark}
 use Rattle.lw_genlib.specs.Functions.{signs_in, with_byte}
 use Rattle.lw_genlib.specs.Entries.{is_end}
-use Rattle.lw_genlib.specs.Kept.{IsRun, AreRuns, AreRunsWithin, IsOpenText}
+use Rattle.lw_genlib.specs.Kept.{AreRunsWithin, IsOpenText}
 
 -- One more byte before signs.
 

@@ -1,10 +1,9 @@
 -- Steps of ANDs and ORs.
-use Rattle.std.proofs.Common.{Bool, true, false, ◌≡◌, ◌||◌, List, [], ◌∷◌, ◌++◌, refl, ap, ap₂, sym, ◌∙◌}
+use Rattle.std.proofs.Common.{Bool, true, false, ◌≡◌, ◌||◌, [], ◌∷◌, refl, ◌∙◌}
 use Rattle.std.specs.List.{list_any}
 use Rattle.std.proofs.lemmas.List.Folds.{list_any-append}
-use Rattle.lw_laws.specs.Expressions.{Expr, Exprs}
+use Rattle.lw_laws.specs.Expressions.{Expr}
 use Rattle.lw_laws.specs.Expressions.Expr.{expr_const, expr_pin, expr_not, expr_and, expr_or}
-use Rattle.lw_genlib.specs.declared.op.ExprOp.{ExprOp}
 use Rattle.lw_genlib.specs.declared.op.ExprOp.TheVariants.{Not, And, Or}
 use Rattle.lw_genlib.specs.Postfix.{postfix, postfixes, part_count}
 use Rattle.lw_genlib.specs.Joining.{is_wide_step}

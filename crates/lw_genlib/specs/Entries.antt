@@ -1,5 +1,5 @@
 -- The entries of a library, word by word.
-use Rattle.std.specs.Prelude.{ℕ, ◌-◌, ◌+◌, max, Bool, false, not, ◌&&◌, ◌||◌, ◌==◌, nat_lt, nat_le, List, [], ◌∷◌, ◌++◌, length, take, drop, map, replicate, Option, Some, None, Result, Ok, Err, slice_index, if◌then◌else◌, codes}
+use Rattle.std.specs.Prelude.{ℕ, ◌-◌, ◌+◌, max, Bool, false, ◌&&◌, ◌||◌, ◌==◌, nat_lt, nat_le, List, [], ◌∷◌, ◌++◌, length, take, drop, replicate, Option, Some, None, Result, Ok, Err, slice_index, if◌then◌else◌, codes}
 use Rattle.std.specs.List.{list_any, before_first, after_first, position, slice_set}
 use Rattle.std.specs.Str.{bytes_eq}
 use Rattle.std.specs.Char.{is_ascii_digit}
@@ -7,7 +7,7 @@ use Rattle.lw_fixed.specs.declared.micro.Micro.{Micro}
 use Rattle.lw_fixed.specs.declared.fault.DecimalFault.{DecimalFault}
 use Rattle.lw_fixed.specs.Decimals.{decimal_of}
 use Rattle.lw_genlib.specs.declared.sign.Sign.{Sign}
-use Rattle.lw_genlib.specs.declared.sign.Sign.TheVariants.{Name, Mark}
+use Rattle.lw_genlib.specs.declared.sign.Sign.TheVariants.{Mark}
 use Rattle.lw_genlib.specs.declared.fault.LibKind.{LibKind}
 use Rattle.lw_genlib.specs.declared.fault.LibKind.TheVariants.{Expected, PinUnknown, PhaseWord, Decimal, LimitText, LongWord}
 use Rattle.lw_genlib.specs.declared.fault.LibFault.{LibFault}

@@ -1,5 +1,5 @@
 -- What the types of a reader keep.
-use Rattle.std.specs.Prelude.{ℕ, ⊤, not, IsTrue, ◌≡◌, ◌+◌, ◌^◌, ◌≤◌, ◌<◌, true, false, List, [], ◌∷◌, ◌++◌, length, All, Option, Some, None, sum_by, IfSome}
+use Rattle.std.specs.Prelude.{ℕ, ⊤, not, IsTrue, ◌≡◌, ◌+◌, ◌≤◌, true, false, List, [], ◌∷◌, ◌++◌, length, All, Option, sum_by, IfSome}
 use Rattle.std.specs.List.{list_any, list_all, IsDistinct}
 use Rattle.std.specs.Str.{bytes_eq}
 use Rattle.lw_fixed.specs.declared.micro.Micro.{Micro}

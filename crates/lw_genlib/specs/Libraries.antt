@@ -4,12 +4,11 @@ use Rattle.std.specs.Str.{bytes_eq}
 use Rattle.lw_words.specs.Lines.{LogicalLine}
 use Rattle.lw_laws.specs.Expressions.{Expr}
 use Rattle.lw_laws.specs.Expressions.Expr.{expr_const, expr_pin, expr_not, expr_and, expr_or}
-use Rattle.lw_genlib.specs.declared.fault.LibKind.{LibKind}
 use Rattle.lw_genlib.specs.declared.fault.LibKind.TheVariants.{Expected, LongWord, LimitCells}
 use Rattle.lw_genlib.specs.declared.fault.LibFault.{LibFault}
 use Rattle.lw_genlib.specs.declared.fault.LibFault.TheVariants.{Line}
 use Rattle.lw_genlib.specs.Cells.{CellParts, form_count}
-use Rattle.lw_genlib.specs.Streams.{Token, word_on, long_line, text_end, stream_of, last_number, Reading, done, broken, cut_short, and_then, with_rest}
+use Rattle.lw_genlib.specs.Streams.{Token, word_on, long_line, text_end, stream_of, last_number, Reading, done, broken, cut_short, and_then}
 use Rattle.lw_genlib.specs.Entries.{Entry, pins_of, behind_gate, behind_pin}
 use Rattle.lw_genlib.specs.Joining.{joined, form_over}
 

@@ -1,5 +1,5 @@
 -- The expression that signs spell, read from left to right: what is kept of each group that is open.
-use Rattle.std.specs.Prelude.{ℕ, ◌+◌, ◌-◌, ◌==◌, zero, suc, List, [], ◌∷◌, ◌++◌, fold, length, take, drop, Option, Some, None, if◌then◌else◌, false}
+use Rattle.std.specs.Prelude.{ℕ, ◌-◌, ◌==◌, zero, suc, List, [], ◌∷◌, ◌++◌, fold, length, take, drop, Option, Some, None, if◌then◌else◌, false}
 use Rattle.lw_laws.specs.Expressions.{Expr}
 use Rattle.lw_laws.specs.Expressions.Expr.{expr_const, expr_not}
 use Rattle.lw_genlib.specs.declared.sign.Sign.{Sign}

@@ -1,5 +1,5 @@
 -- What a reader stands for: the lines that it was given.
-use Rattle.std.specs.Prelude.{ℕ, ⊤, ◌≡◌, ◌<◌, List, [], ◌∷◌, ◌++◌, Option, Some, None, Result, Ok, Err, All}
+use Rattle.std.specs.Prelude.{ℕ, ⊤, ◌≡◌, List, ◌∷◌, ◌++◌, Option, Some, None, Result, Ok, Err, All}
 use Rattle.lw_words.specs.Lines.{LogicalLine}
 use Rattle.lw_words.specs.Gathering.{IsNoHash}
 use Rattle.lw_genlib.specs.declared.fault.LibFault.{LibFault}

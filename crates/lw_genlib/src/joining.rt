@@ -19,9 +19,7 @@ use std::alloc::{AllocError, Global};
 pub(crate) fn place_of(cells: &[Cell], name: &[u8]) -> Option<usize>
     ensures { result ≡ position (λ (cell : CellParts). bytes_eq name.now cell.name) cells.now }
 {
-    cells
-        .iter()
-        .position(|cell| name == cell.name().as_bytes())
+    cells.iter().position(|cell| name == cell.name().as_bytes())
 }
 
 fn is_same_pin(name: &Name, delay: Micro, pin: &Name, other: Micro) -> bool

@@ -33,7 +33,7 @@ pub use fault::{LibFault, LibKind};
 pub use library::Library;
 pub use lists::{Exprs, Micros};
 pub use op::ExprOp;
+pub(crate) use pin::{Field, Target};
 pub use plain_line::has_no_hash;
 pub use reader::LibReader;
-pub(crate) use pin::{Field, Target};
 pub(crate) use sign::Sign;

@@ -11,7 +11,7 @@ use crate::book::{ended, no_book};
 use crate::parts::{Book, Place};
 use crate::progress::Progress;
 use crate::reading::read_word;
-use crate::{Library, LibFault, LibKind};
+use crate::{LibFault, LibKind, Library};
 use lw_words::{Line, Words};
 use std::alloc::Global;
 use std::mem;
@@ -100,7 +100,10 @@ impl LibReader {
         ensures again { IfSome (stop_of self) (λ fault. result ≡ Err fault) }
     {
         let LibReader {
-            alloc, last, state, ..
+            alloc,
+            last,
+            state,
+            ..
         } = self;
         match state {
             State::Stopped(fault) => Err(fault),

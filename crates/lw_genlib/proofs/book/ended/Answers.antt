@@ -1,4 +1,4 @@
-use Rattle.std.proofs.Common.{◌≡◌, Some, None, Ok, Option, sym, subst, ap, ◌∙◌}
+use Rattle.std.proofs.Common.{◌≡◌, None, Option, sym, ap, ◌∙◌}
 use Rattle.lw_genlib.specs.Entries as words
 use Rattle.lw_genlib.specs.Libraries as library
 use Rattle.lw_genlib.proofs.Listed.{ended-none, ended-answer}

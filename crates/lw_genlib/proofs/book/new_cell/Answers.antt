@@ -1,4 +1,4 @@
-use Rattle.std.proofs.Common.{◌≡◌, List, ◌∷◌, [], sym, ap, ◌∙◌, subst}
+use Rattle.std.proofs.Common.{subst}
 use Rattle.lw_genlib.specs.Cells.{IsListed}
 use Rattle.lw_genlib.specs.Joining as joining
 use Rattle.lw_genlib.specs.Entries as words

@@ -1,4 +1,4 @@
-use Rattle.std.proofs.Common.{◌≡◌, ◌<◌, ◌+◌, List, sym, ap, ◌∙◌, subst, set, length}
+use Rattle.std.proofs.Common.{◌≡◌, ◌<◌, ◌+◌, List, sym, ap, subst, set, length}
 use Rattle.lw_genlib.specs.Libraries as library
 use Rattle.lw_genlib.specs.Cells.{CellParts}
 use Rattle.lw_genlib.specs.Kept.{AreCells}

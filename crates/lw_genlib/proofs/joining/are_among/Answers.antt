@@ -1,6 +1,6 @@
 use Rattle.std.specs.List.{zip}
 use Rattle.lw_genlib.specs.Joining.{is_pin_among}
-use Rattle.std.proofs.Common.{ap₂, subst, ◌≤◌, min, length, ◌∙◌, sym, ◌≡◌}
+use Rattle.std.proofs.Common.{subst, ◌≤◌}
 use Rattle.lw_genlib.proofs.Zips.{all-end}
 use Rattle.lw_genlib.proofs.joining.are_among.Goals as goal
 

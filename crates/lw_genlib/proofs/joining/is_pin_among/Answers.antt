@@ -1,5 +1,5 @@
 use Rattle.lw_genlib.specs.Joining.{is_same_pin}
-use Rattle.std.proofs.Common.{ap₂, subst, ◌≤◌, min, length, ◌∙◌, sym, ◌≡◌}
+use Rattle.std.proofs.Common.{subst, ◌≤◌}
 use Rattle.lw_genlib.proofs.Zips.{any-end}
 use Rattle.lw_genlib.proofs.joining.is_pin_among.Goals as goal
 

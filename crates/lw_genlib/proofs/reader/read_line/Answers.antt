@@ -1,8 +1,8 @@
-use Rattle.std.proofs.Common.{◌≡◌, ◌++◌, List, ℕ, map, refl, sym, ap, ◌∙◌, subst}
+use Rattle.std.proofs.Common.{◌++◌, map, refl, sym, ap, subst}
 use Rattle.std.specs.Prelude.{All}
 use Rattle.lw_words.specs.Lines.{LogicalLine}
 use Rattle.lw_words.specs.Gathering.{IsNoHash}
-use Rattle.lw_genlib.specs.Streams.{Token, word_on, tokens_on}
+use Rattle.lw_genlib.specs.Streams.{word_on, tokens_on}
 use Rattle.lw_genlib.specs.Standing.{resume}
 use Rattle.lw_genlib.specs.declared.progress.Progress.{Progress}
 use Rattle.lw_genlib.proofs.Lines.{long-breaks, long-tokens, plain-tokens, words-plain}

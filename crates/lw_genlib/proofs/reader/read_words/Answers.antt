@@ -1,5 +1,5 @@
-use Rattle.std.proofs.Common.{◌≡◌, ◌++◌, ◌∷◌, ◌+◌, List, ℕ, map, drop, sym, ap, ◌∙◌, subst}
-use Rattle.lw_genlib.specs.Streams.{Token, word_on}
+use Rattle.std.proofs.Common.{◌++◌, ◌+◌, map, drop, sym, ap, ◌∙◌, subst}
+use Rattle.lw_genlib.specs.Streams.{word_on}
 use Rattle.lw_genlib.specs.Libraries.{Outcome}
 use Rattle.lw_genlib.specs.Standing.{resume, BreaksAt}
 use Rattle.lw_genlib.specs.declared.progress.Progress.{Progress}

@@ -1,6 +1,5 @@
-use Rattle.std.proofs.Common.{◌≡◌, List, Some, sym, subst}
+use Rattle.std.proofs.Common.{◌≡◌, Some, sym, subst}
 use Rattle.lw_genlib.specs.declared.parts.Place.{Place}
-use Rattle.lw_genlib.specs.Streams.{Token}
 use Rattle.lw_genlib.specs.Entries as words
 use Rattle.lw_genlib.specs.Libraries as library
 use Rattle.lw_genlib.specs.Fields.{fields_behind}

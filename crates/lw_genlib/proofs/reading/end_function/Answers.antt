@@ -1,4 +1,4 @@
-use Rattle.std.proofs.Common.{◌≡◌, ℕ, List, [], ◌++◌, Option, Some, refl, sym, ap, ◌∙◌, subst, length}
+use Rattle.std.proofs.Common.{List, ◌++◌, Some, sym, ap, ◌∙◌}
 use Rattle.lw_genlib.specs.Streams.{Token, with_rest}
 use Rattle.lw_genlib.specs.Entries as words
 use Rattle.lw_genlib.specs.Libraries as library
@@ -12,7 +12,7 @@ unfolding resume
 returns-then-is_empty c = λ rest.
     function-ends c.args.book c.noted-book.result c.in_ok-entry.entry c.args.heading.line c.args.heading.name c.args.heading.area c.args.text c.args.line c.args.left.now rest c.in_ok-entry.ensures c.noted-book.ensures
     ∙ ap (λ (ts : List Token). reads_on c.noted-book.result.wide (library.piece (library.with_open c.noted-book.result (Some c.in_ok-entry.entry)) ts))
-      (left-empty c.args.line c.args.left.now rest (empty-list c.args.left.now c.if-is_empty.ensures))
+    (left-empty c.args.line c.args.left.now rest (empty-list c.args.left.now c.if-is_empty.ensures))
 
 pub returns : goal.returns
 returns c = λ rest.

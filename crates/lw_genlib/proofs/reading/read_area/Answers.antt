@@ -1,8 +1,8 @@
-use Rattle.std.proofs.Common.{◌≡◌, ℕ, List, ◌∷◌, Ok, refl, sym, ap, ◌∙◌}
-use Rattle.lw_genlib.specs.Streams.{word_on, on_line}
+use Rattle.std.proofs.Common.{◌∷◌, Ok, refl, sym, ap, ◌∙◌}
+use Rattle.lw_genlib.specs.Streams.{word_on}
 use Rattle.lw_genlib.specs.Entries as words
 use Rattle.lw_genlib.specs.Libraries as library
-use Rattle.lw_genlib.specs.Standing.{resume, reads_on}
+use Rattle.lw_genlib.specs.Standing.{resume}
 use Rattle.lw_genlib.proofs.Small.{small_number}
 use Rattle.lw_genlib.proofs.Steps.{area-read, number-of_line, same-piece}
 use Rattle.lw_genlib.proofs.reading.read_area.Goals as goal

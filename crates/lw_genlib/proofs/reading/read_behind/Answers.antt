@@ -1,11 +1,9 @@
-use Rattle.std.proofs.Common.{◌≡◌, ℕ, List, ◌∷◌, Some, sym, ap, ◌∙◌, true, false, subst}
-use Rattle.std.specs.Prelude.{codes}
+use Rattle.std.proofs.Common.{Some, sym, ap, ◌∙◌}
 use Rattle.std.specs.Str.{bytes_eq}
-use Rattle.lw_genlib.specs.Streams.{Token}
 use Rattle.lw_genlib.specs.Libraries as library
-use Rattle.lw_genlib.specs.Standing.{resume, reads_on}
+use Rattle.lw_genlib.specs.Standing.{resume}
 use Rattle.lw_genlib.specs.declared.progress.Progress.{Progress}
-use Rattle.lw_genlib.proofs.Steps.{pin-begins, no-pin, same-piece, moved, ended-behind, ended-book, ended-breaks}
+use Rattle.lw_genlib.proofs.Steps.{pin-begins, no-pin, same-piece, moved, ended-behind, ended-book}
 use Rattle.lw_genlib.proofs.reading.read_behind.Goals as goal
 
 pub returns-then-eq : goal.returns-then-eq

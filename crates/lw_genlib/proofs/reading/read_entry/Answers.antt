@@ -1,10 +1,10 @@
-use Rattle.std.proofs.Common.{◌≡◌, ◌<◌, ℕ, List, ◌∷◌, sym, ap, ◌∙◌, true, false, arith, subst}
-use Rattle.std.specs.Prelude.{codes, sum_by, nat_le, not}
+use Rattle.std.proofs.Common.{◌≡◌, ◌<◌, List, sym, ap, ◌∙◌, subst}
+use Rattle.std.specs.Prelude.{codes, sum_by, not}
 use Rattle.std.specs.Str.{bytes_eq}
 use Rattle.lw_genlib.specs.Cells.{CellParts, form_count}
-use Rattle.lw_genlib.specs.Streams.{word_on, done}
+use Rattle.lw_genlib.specs.Streams.{done}
 use Rattle.lw_genlib.specs.Libraries as library
-use Rattle.lw_genlib.specs.Standing.{resume, reads_on}
+use Rattle.lw_genlib.specs.Standing.{resume}
 use Rattle.lw_genlib.proofs.Steps.{latch-begins, gate-begins, same-piece, room-left, not-false}
 use Rattle.lw_genlib.proofs.reading.read_entry.Goals as goal
 

@@ -1,6 +1,5 @@
-use Rattle.std.proofs.Common.{◌≡◌, ℕ, List, Option, Some, None, refl, sym, ap, ◌∙◌, subst}
+use Rattle.std.proofs.Common.{◌≡◌, Option, None, refl, sym, ap, subst}
 use Rattle.std.specs.Prelude.{MatchResult}
-use Rattle.lw_genlib.specs.Streams.{Token}
 use Rattle.lw_genlib.specs.Entries as words
 use Rattle.lw_genlib.specs.Libraries as library
 use Rattle.lw_genlib.specs.Standing.{resume, reads_on, BreaksAt}

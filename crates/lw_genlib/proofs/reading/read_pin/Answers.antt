@@ -1,8 +1,8 @@
-use Rattle.std.proofs.Common.{◌≡◌, ℕ, List, ◌∷◌, Ok, Some, refl, sym, ap, ◌∙◌}
+use Rattle.std.proofs.Common.{ℕ, List, ◌∷◌, Ok, Some, refl, ap, ◌∙◌}
 use Rattle.lw_genlib.specs.Streams.{word_on, on_line}
 use Rattle.lw_genlib.specs.Entries as words
 use Rattle.lw_genlib.specs.Libraries as library
-use Rattle.lw_genlib.specs.Standing.{resume, reads_on}
+use Rattle.lw_genlib.specs.Standing.{resume}
 use Rattle.lw_genlib.proofs.Steps.{pin-read, same-piece}
 use Rattle.lw_genlib.proofs.reading.read_pin.Goals as goal
 

@@ -1,4 +1,4 @@
-use Rattle.std.proofs.Common.{◌≡◌, ℕ, List, ◌∷◌, Some, None, true, false, refl, sym, ap, ◌∙◌}
+use Rattle.std.proofs.Common.{List, ◌∷◌, Some, refl, sym, ap, ◌∙◌}
 use Rattle.lw_genlib.specs.declared.parts.Place.TheVariants as place
 use Rattle.lw_genlib.specs.declared.progress.Progress.{Progress}
 use Rattle.lw_genlib.specs.Streams.{Token, word_on}

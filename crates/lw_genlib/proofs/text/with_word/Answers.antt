@@ -1,4 +1,4 @@
-use Rattle.std.proofs.Common.{◌≡◌, ◌+◌, ◌-◌, ◌≤◌, length, ap, ap₂, sym, ◌∙◌, subst, arith}
+use Rattle.std.proofs.Common.{◌≡◌, ◌+◌, ◌-◌, ◌≤◌, length, ap, ap₂, ◌∙◌, arith}
 use Rattle.lw_genlib.specs.Entries.{Text}
 use Rattle.lw_genlib.specs.Functions.{signs_in}
 use Rattle.lw_genlib.proofs.Texts.{word-kept-at, lines-wanting}

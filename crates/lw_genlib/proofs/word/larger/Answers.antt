@@ -1,6 +1,5 @@
-use Rattle.std.proofs.Common.{◌≡◌}
 use Rattle.lw_genlib.specs.Entries as words
-use Rattle.lw_genlib.proofs.Steps.{larger-fault, larger-done}
+use Rattle.lw_genlib.proofs.Steps.{larger-fault}
 use Rattle.lw_genlib.proofs.word.larger.Goals as goal
 
 pub returns-in-Err : goal.returns-in-Err

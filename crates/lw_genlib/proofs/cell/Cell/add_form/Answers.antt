@@ -1,4 +1,4 @@
-use Rattle.std.proofs.Common.{◌≡◌, List, ◌++◌, [], ◌∷◌, sym, ap, ◌∙◌, subst, length}
+use Rattle.std.proofs.Common.{List, ◌++◌, [], ◌∷◌, sym, subst, length}
 use Rattle.lw_laws.specs.Expressions.{Expr}
 use Rattle.lw_genlib.specs.Cells.{CellParts, IsCell, IsForm, HaveOneTruth}
 use Rattle.lw_genlib.specs.Postfix.{first_expr}
