@@ -167,3 +167,11 @@ one_truth e f pins few over also agree y =
 
 pub few_blocks : (pins : ℕ) → pins ≤ 16 → 2 ^ (pins - 6) ≤ 1024
 few_blocks pins few = two_power (pins - 6) 10 (omega arith)
+
+-- the same value under each of the first assignments is the same value under all
+pub truth_below : (e f : Expr) (pins : ℕ) → ((k : ℕ) → MentionsPin e k → k < pins) → ((k : ℕ) → MentionsPin f k → k < pins)
+    → ((n : ℕ) → n < 2 ^ pins → expr_value (assigned n) e ≡ expr_value (assigned n) f) → HaveOneTruth e f
+truth_below e f pins over also agree y =
+    value_by_pins y (assigned (number_of y pins)) e (λ p m. sym (number_bit y pins p (over p m)))
+    ∙ (agree (number_of y pins) (number_small y pins)
+    ∙ value_by_pins (assigned (number_of y pins)) y f (λ p m. number_bit y pins p (also p m)))

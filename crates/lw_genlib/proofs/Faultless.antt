@@ -15,11 +15,11 @@ use Rattle.lw_genlib.specs.Functions.{IsText, awaits, depth_in, with_pin, pins_i
 use Rattle.lw_genlib.proofs.Sighting.{fold_more, awaits_more, names_more, pins_more}
 
 -- a sign that breaks no rule
-record NoFault (before : List Sign) (sign : Sign) : Type 0 where
-  bad : is_bad before sign ≡ false
-  may : may_follow before sign ≡ true
-  names : (is_name sign && nat_le 65 (names_in before)) ≡ false
-  pins : (is_new_pin before sign && nat_le 16 (length (pins_in before))) ≡ false
+pub record NoFault (before : List Sign) (sign : Sign) : Type 0 where
+  pub bad : is_bad before sign ≡ false
+  pub may : may_follow before sign ≡ true
+  pub names : (is_name sign && nat_le 65 (names_in before)) ≡ false
+  pub pins : (is_new_pin before sign && nat_le 16 (length (pins_in before))) ≡ false
 
 record NoneOf (a m n p : Bool) : Type 0 where
   bad : a ≡ false
@@ -44,7 +44,7 @@ both_none : (line : ℕ) (o : Option LibKind) (r : Option LibFault) → fault_or
 both_none line (Some kind) r e = cc
 both_none line None r e = (refl, e)
 
-first_none : (before : List Sign) (line : ℕ) (lines : List ℕ) (sign : Sign) (signs : List Sign) → first_fault before (line ∷ lines) (sign ∷ signs) ≡ None → NoFault before sign × (first_fault (before ++ sign ∷ []) lines signs ≡ None)
+pub first_none : (before : List Sign) (line : ℕ) (lines : List ℕ) (sign : Sign) (signs : List Sign) → first_fault before (line ∷ lines) (sign ∷ signs) ≡ None → NoFault before sign × (first_fault (before ++ sign ∷ []) lines signs ≡ None)
 unfolding first_fault
 first_none before line lines sign signs e =
     let parts = both_none line (sign_fault before sign) (first_fault (before ++ sign ∷ []) lines signs) e in

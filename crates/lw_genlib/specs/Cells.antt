@@ -48,6 +48,10 @@ is_word_byte b = not (b == 32 || b == 9 || b == 13 || b == 12 || b == 10 || b ==
 abbrev pub IsWord : ℕ → List ℕ → Type 0
 IsWord most name = (0 < length name) × (length name ≤ most) × IsTrue (list_all is_word_byte name)
 
+-- bytes of a word, some or none
+abbrev pub IsPart : List ℕ → Type 0
+IsPart bytes = (length bytes ≤ 4095) × IsTrue (list_all is_word_byte bytes)
+
 -- a sign of functions: one of `( ) ! ' + * = & | ^ " ;`
 abbrev pub is_mark_byte : ℕ → Bool
 is_mark_byte b = list_any (λ mark. mark == b) (40 ∷ 41 ∷ 33 ∷ 39 ∷ 43 ∷ 42 ∷ 61 ∷ 38 ∷ 124 ∷ 94 ∷ 34 ∷ 59 ∷ [])

@@ -1,6 +1,7 @@
 use crate::{Expr, Exprs, Micros};
 use lw_fixed::Micro;
 use lw_pool::{Name, Names};
+use std::alloc::AllocError;
 use std::marker::Model;
 
 /// A cell of a library: its pins in the order in which they first stand in its first form, a delay for each of them, and one
@@ -29,8 +30,10 @@ impl Model for Cell {
 }
 
 impl Cell {
-    ghost use Rattle.std.specs.Prelude.{◌≡◌, length};
-    ghost use Rattle.lw_genlib.specs.Cells.{IsCell, cell_value};
+    ghost use Rattle.std.specs.Prelude.{◌≡◌, length, OnOk, OnErr};
+    ghost use Rattle.lw_genlib.specs.Cells.{IsCell, IsForm, HaveOneTruth, cell_value};
+    ghost use Rattle.lw_genlib.specs.Postfix.{first_expr};
+    ghost use Rattle.lw_genlib.specs.Joining.{with_form};
 
     /// The cell of these parts, without memory.
     pub fn new(
@@ -97,6 +100,16 @@ impl Cell {
         ensures kept { IsCell self.now }
     {
         self.forms.as_slice()
+    }
+
+    /// Adds a form with the truth table of the others.
+    pub(crate) fn add_form(&mut self, form: Expr) -> Result<(), AllocError>
+        requires form { IsForm (length self.old.pins) form }
+        requires one_truth { HaveOneTruth (first_expr self.old.forms) form }
+        ensures ok { OnOk result (self.new ≡ with_form self.old form) }
+        ensures err { OnErr result (self.new ≡ self.old) }
+    {
+        self.forms.push(form)
     }
 
     /// The value at these values of the pins. It is that of each form.

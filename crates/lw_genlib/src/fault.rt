@@ -1,4 +1,5 @@
 use lw_fixed::DecimalFault;
+use std::alloc::AllocError;
 
 /// What is wrong in the text of a library.
 #[derive(Clone, Copy, Debug, PartialEq, Eq)]
@@ -38,4 +39,15 @@ pub enum LibFault {
     Line(u32, LibKind),
     /// For want of memory.
     Memory,
+}
+
+impl From<AllocError> for LibFault {
+    ghost use Rattle.std.specs.Prelude.{◌≡◌};
+    ghost use Rattle.lw_genlib.specs.declared.fault.LibFault.TheVariants.{Memory};
+
+    ghost from_gives = { λ e fault. fault ≡ Memory };
+
+    fn from(_: AllocError) -> Self {
+        LibFault::Memory
+    }
 }

@@ -42,7 +42,7 @@ pub(crate) fn function_of(
 }
 
 // The signs behind the first two and before the last.
-fn between(signs: &[Sign]) -> &[Sign]
+pub(crate) fn between(signs: &[Sign]) -> &[Sign]
     requires { 3 ≤ length signs.now }
     ensures { result.now ≡ take (length signs.now - 1 - 2) (drop 2 signs.now) }
 {

@@ -10,6 +10,7 @@ mod closures;
 mod decimals;
 #[cfg(test)]
 mod form_lists;
+mod libraries;
 #[cfg(test)]
 mod lines;
 #[cfg(test)]

@@ -1,0 +1,26 @@
+use Rattle.std.proofs.Common.{◌≡◌, Option, None, refl, sym, ap, subst}
+use Rattle.std.specs.Prelude.{MatchResult}
+use Rattle.lw_genlib.specs.Entries as words
+use Rattle.lw_genlib.specs.Libraries as library
+use Rattle.lw_genlib.specs.Standing.{resume, reads_on, BreaksAt}
+use Rattle.lw_genlib.specs.declared.progress.Progress.{Progress}
+use Rattle.lw_genlib.proofs.Steps.{moved, open-none}
+use Rattle.lw_genlib.proofs.reading.read_piece.Goals as goal
+
+pub returns-in-Some : goal.returns-in-Some
+returns-in-Some c = λ rest.
+    subst (λ (o : Option words.Entry). MatchResult c.read_behind.result (λ (new : Progress). reads_on c.args.book.wide (library.piece_by (library.words_behind (library.with_open c.args.book o) o c.args.line c.args.word.now rest)) ≡ resume new rest)
+    (BreaksAt (reads_on c.args.book.wide (library.piece_by (library.words_behind (library.with_open c.args.book o) o c.args.line c.args.word.now rest))) c.args.book.wide))
+    (sym c.in-Some.is) (c.read_behind.ensures rest)
+
+pub read_entry-requires : goal.read_entry-requires
+read_entry-requires c = sym (ap (λ (b : library.Book). b.entry) c.book.view_is)
+
+pub returns-in-None : goal.returns-in-None
+returns-in-None c = λ rest.
+    subst (λ (o : Option words.Entry). MatchResult c.read_entry.result (λ (new : Progress). reads_on c.args.book.wide (library.piece_by (library.words_behind (library.with_open c.args.book o) o c.args.line c.args.word.now rest)) ≡ resume new rest)
+    (BreaksAt (reads_on c.args.book.wide (library.piece_by (library.words_behind (library.with_open c.args.book o) o c.args.line c.args.word.now rest))) c.args.book.wide))
+    (sym c.in-None.is)
+    (moved rest c.args.book.wide c.args.book.wide (library.words_behind (library.with_open c.args.book None) None c.args.line c.args.word.now rest) (library.entry_on c.args.line c.args.word.now rest c.args.book)
+    c.read_entry.result (λ (p : Progress). resume p rest)
+    (ap (library.entry_on c.args.line c.args.word.now rest) (open-none c.args.book (sym (ap (λ (b : library.Book). b.entry) c.book.view_is)))) refl (c.read_entry.ensures rest))

@@ -1,0 +1,122 @@
+// Entries of cells.
+ghost use Rattle.std.specs.Prelude.{◌≡◌, ◌<◌, ⊤, MatchResult, MatchOption, IfOk, true, false, None, Ok, length, replicate, map};
+ghost use Rattle.std.specs.List.{list_any};
+ghost use Rattle.lw_genlib.specs.Cells.{IsSmall};
+ghost use Rattle.lw_genlib.specs.Entries as words;
+ghost use Rattle.lw_genlib.specs.Joining as joining;
+ghost use Rattle.lw_genlib.specs.Tells.{TellsErr};
+
+use crate::function::function_of;
+use crate::parts::{Entry, Heading, Text};
+use crate::text::with_end;
+use crate::{ExprOp, LibFault, Micros, Target};
+use lw_fixed::Micro;
+use lw_pool::Name;
+use std::alloc::{AllocError, Global};
+
+/// The entry that begins so, where the function's text ends with this `;`.
+pub(crate) fn begin(
+    alloc: Global,
+    heading: Heading,
+    text: Text,
+    line: u32,
+) -> Result<Entry, LibFault>
+    ensures { MatchResult result (λ e. words.entry_begun heading.line heading.name heading.area (words.with_end text line) ≡ Ok e) (TellsErr (words.entry_begun heading.line heading.name heading.area (words.with_end text line))) }
+{
+    let (signs, lines) = with_end(text, line)?;
+    let function = function_of(alloc, &signs, &lines)?;
+    let named = no_delays(alloc, function.pins.len())?;
+    let Heading { line, name, area } = heading;
+    Ok(Entry {
+        line,
+        name,
+        area,
+        signs,
+        function,
+        named,
+        every: None,
+    })
+}
+
+fn no_delays(alloc: Global, pins: usize) -> Result<Vec<Option<Micro>>, AllocError>
+    ensures { IfOk result (λ delays. delays.items ≡ replicate pins None) }
+{
+    let mut delays = Vec::new(alloc);
+    for _ in 0..pins {
+        delays.push(None)?;
+    }
+    Ok(delays)
+}
+
+/// The entry with one more delay: of pins of one kind the last wins.
+pub(crate) fn with_delay(entry: Entry, target: Target, delay: Micro) -> Entry
+    requires { IsSmall delay }
+    ensures { result ≡ words.with_delay entry target delay }
+{
+    let mut entry = entry;
+    match target {
+        Target::Every => entry.every = Some(delay),
+        Target::One(place) => {
+            if let Some(own) = entry.named.get_mut(place) {
+                *own = Some(delay);
+            }
+        }
+    }
+    entry
+}
+
+impl Entry {
+    ghost use Rattle.std.specs.Prelude.{◌≡◌, ◌<◌, ◌≤◌, length, IfOk};
+    ghost use Rattle.lw_genlib.specs.Cells.{IsSmall};
+    ghost use Rattle.lw_genlib.specs.Entries as words;
+    ghost use Rattle.lw_genlib.specs.Joining as joining;
+    ghost use Rattle.lw_genlib.specs.Libraries as library;
+
+    /// The output's name.
+    pub(crate) fn output(&self) -> &Name
+        ensures { result.now ≡ joining.output_of self.now }
+    {
+        &self.function.output
+    }
+
+    /// The pins.
+    pub(crate) fn pins(&self) -> &[Name]
+        ensures { result.now ≡ words.pins_of self.now }
+    {
+        self.function.pins.as_slice()
+    }
+
+    /// An AND or an OR stands in the expression.
+    pub(crate) fn is_wide(&self) -> bool
+        ensures { result ≡ library.is_wide (joining.form_over (words.pins_of self.now) self.now) }
+    {
+        has_wide_step(self.function.form.ops())
+    }
+}
+
+/// The delay of each pin, or none where one lacks its delay.
+pub(crate) fn delays(
+    alloc: Global,
+    named: &[Option<Micro>],
+    every: Option<Micro>,
+) -> Result<Option<Micros>, AllocError>
+    ensures { IfOk result (λ all. MatchOption all
+        (list_any (λ own. joining.is_missing (joining.own_or every own)) named.now ≡ true)
+        (λ delays. (list_any (λ own. joining.is_missing (joining.own_or every own)) named.now ≡ false) × (delays ≡ map (joining.delay_by every) named.now))) }
+{
+    let mut delays = Vec::new(alloc);
+    for own in named {
+        match own.or(every) {
+            Some(delay) => delays.push(delay)?,
+            None => return Ok(None),
+        }
+    }
+    Ok(Some(Micros::from_vec(delays)))
+}
+
+fn has_wide_step(ops: &[ExprOp]) -> bool
+    ensures { result ≡ list_any joining.is_wide_step ops.now }
+{
+    ops.iter()
+        .any(|op| matches!(*op, ExprOp::And(_) | ExprOp::Or(_)))
+}
