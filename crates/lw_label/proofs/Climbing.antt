@@ -349,9 +349,11 @@ module _ (g : Graph) (labels : List (Option Mark)) where
     where
       set_at : (b : ℕ) → b ≡ c → marks_in (slice_set marks c new) b ≡ marks_in labels b
       set_at b same = ap (λ n. marks_in (slice_set marks c new) n) same ∙ (mark_set_at marks c new below ∙ (ap (option_map plain_mark) is ∙ ap (λ n. marks_in labels n) (sym same)))
+
       only_at : (b : ℕ) (m : PlainMark) → marks_in (slice_set marks c new) b ≡ Some m → (b ≡ c) ⊎ (b ≡ c → ⊥) → (marks_in labels b ≡ Some m) × ((k : ℕ) × (slice_get g.leaves k ≡ Some b))
       only_at b m e (inl same) = (sym (set_at b same) ∙ e, (i, leaf ∙ ap (λ n. Some n) (sym same)))
       only_at b m e (inr other) = are.only b m (sym (mark_set_other marks c b new other) ∙ e)
+
       given_at : (j b : ℕ) → j < i + 1 → slice_get g.leaves j ≡ Some b → (b ≡ c) ⊎ (b ≡ c → ⊥) → (j ≡ i) ⊎ (j ≡ i → ⊥) → marks_in (slice_set marks c new) b ≡ marks_in labels b
       given_at j b lt at (inl same) either = set_at b same
       given_at j b lt at (inr other) (inl is) = absurd (other (same_Some b c (sym at ∙ (ap (λ n. slice_get g.leaves n) is ∙ leaf))))

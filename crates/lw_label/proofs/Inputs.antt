@@ -60,11 +60,13 @@ module _ (g : Graph) (cost : Cost) where
     where
       set_at : (b : ℕ) → b ≡ c → marks_in (slice_set marks c (Some new)) b ≡ Some (plain_mark new)
       set_at b same = ap (λ n. marks_in (slice_set marks c (Some new)) n) same ∙ mark_set_same marks c new below
+
       only_at : (b : ℕ) (m : PlainMark) → marks_in (slice_set marks c (Some new)) b ≡ Some m → (b ≡ c) ⊎ (b ≡ c → ⊥) → (m.height ≡ 0) × IsLeafCost g cost b m.cost
       only_at b m e (inl same) =
           let is : plain_mark new ≡ m = same_Some (plain_mark new) m (sym (set_at b same) ∙ e) in
           (sym (ap (λ (k : PlainMark). k.height) is) ∙ flat, (i, leaf ∙ ap (λ n. Some n) (sym same), sym (ap (λ (k : PlainMark). k.cost) is) ∙ cost_is))
       only_at b m e (inr other) = are.only b m (sym (mark_set_other marks c b (Some new) other) ∙ e)
+
       given_at : (j b : ℕ) → j < i + 1 → slice_get g.leaves j ≡ Some b → (b ≡ c) ⊎ (b ≡ c → ⊥) → (j ≡ i) ⊎ (j ≡ i → ⊥) → (k : PlainMark) × (marks_in (slice_set marks c (Some new)) b ≡ Some k) × (k.cost ≤ cost.leaf j)
       given_at j b lt at (inl same) (inl is) = (plain_mark new, set_at b same, subst (λ n. new.cost ≤ cost.leaf n) (sym is) (omega (arith, cost_is)))
       given_at j b lt at (inl same) (inr before) =

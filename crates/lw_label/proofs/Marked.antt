@@ -101,16 +101,17 @@ standing g cost pats marks c b is = record {
 -- a match whose pins have marks is priced
 pub priced : (g : Graph) (cost : Cost) (pats : List Pattern) (marks : Marks) (c cell : ℕ) (ps : List ℕ) (ms : List PlainMark) → IsMatchAt g cost.pin_counts pats c cell ps → HaveMarks marks ps ms → (b : Priced) × IsPricedAt g cost pats marks c b × (b.mark ≡ price cost cell ms)
 priced g cost pats marks c cell ps ms m have =
-    let (n, at) = place_of pats m.pattern m.listed in
-    (record { mark = price cost cell ms; found = record { pattern = n; pins = ps } },
-     record {
-       pattern = m.pattern;
-       matches = record { listed = at; pins = subst (λ k. HasPins cost.pin_counts k (length ps)) (sym m.cell_is) m.pins; stands = m.stands };
-       pin_marks = ms;
-       have = have;
-       mark = ap (λ k. price cost k ms) (sym m.cell_is);
-     },
-     refl)
+    let (n, at) = place_of pats m.pattern m.listed in (
+      record { mark = price cost cell ms; found = record { pattern = n; pins = ps } },
+      record {
+        pattern = m.pattern;
+        matches = record { listed = at; pins = subst (λ k. HasPins cost.pin_counts k (length ps)) (sym m.cell_is) m.pins; stands = m.stands };
+        pin_marks = ms;
+        have = have;
+        mark = ap (λ k. price cost k ms) (sym m.cell_is);
+      },
+      refl,
+    )
 
 -- sound marks without heights are in range
 pub lowering_in_range : (g : Graph) (cost : Cost) (pats : List Pattern) (marks : List (Option Mark)) → IsCoverProblem g pats cost → AreLowering g cost pats marks → AreInRange cost.cap marks

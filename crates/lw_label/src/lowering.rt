@@ -75,7 +75,10 @@ fn lower<C: Cost>(
     if !is_lower(best.mark.cost, marks[class.0 as usize]) {
         return false;
     }
-    marks[class.0 as usize] = Some(Mark { cost: best.mark.cost, height: 0 });
+    marks[class.0 as usize] = Some(Mark {
+        cost: best.mark.cost,
+        height: 0,
+    });
     true
 }
 
@@ -103,7 +106,12 @@ fn lower_each<C: Cost>(graph: &Graph, pats: &Patterns, cost: &C, marks: &mut [Op
 }
 
 // Lowers labels until no match would lower one.
-pub(crate) fn lower_all<C: Cost>(graph: &Graph, pats: &Patterns, cost: &C, marks: &mut [Option<Mark>])
+pub(crate) fn lower_all<C: Cost>(
+    graph: &Graph,
+    pats: &Patterns,
+    cost: &C,
+    marks: &mut [Option<Mark>],
+)
     requires of_cells { AreOfCells (C.costs cost.now).pin_counts pats.now }
     requires problem { IsCoverProblem graph.now pats.now (C.costs cost.now) }
     requires lowering { AreLowering graph.now (C.costs cost.now) pats.now marks.old }

@@ -12,7 +12,6 @@ pub trait Cost {
     /// The costs as plain functions, and the number of pins of each cell.
     ghost costs: { Self → PlainCost };
 
-
     /// What an input costs.
     fn leaf(&self, input: u32) -> u64
         ensures { result ≡ (costs self.now).leaf input };

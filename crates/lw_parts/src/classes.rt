@@ -24,6 +24,12 @@ fn nands_of_the_same_forms_are_shared(rt: HostRuntime) -> Result<(), Fail> {
     assert!(rt; graph.class_of(FormId(10)) == ClassId(7));
     let pairs = graph.nands(ClassId(6));
     assert!(rt; pairs.len() == 1);
-    assert!(rt; pairs[0] == Pair { x: ClassId(2), y: ClassId(4) });
+    assert!(rt;
+        pairs[0]
+            == Pair {
+                x: ClassId(2),
+                y: ClassId(4)
+            }
+    );
     Ok(())
 }

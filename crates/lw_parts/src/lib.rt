@@ -3,6 +3,7 @@
 
 #[cfg(test)]
 mod blif;
+#[cfg(test)]
 mod classes;
 #[cfg(test)]
 mod closures;
@@ -10,6 +11,7 @@ mod closures;
 mod decimals;
 #[cfg(test)]
 mod form_lists;
+#[cfg(test)]
 mod libraries;
 #[cfg(test)]
 mod lines;

@@ -91,14 +91,30 @@ const FAULTS: [(&str, u32, LibKind); 44] = [
     ("GATE a 1 O=a;PIN a INV 1 x 1 0 1 0", 1, Expected),
     ("GATE a 1 O=a;PIN a INV 1 999 1e0 0 1 0", 1, Decimal(Shape)),
     ("GATE a 1 O=a;PIN a INV 1 999 1 x 1 0", 1, Expected),
-    ("GATE a 1 O=a;PIN a INV 1 999 1 0 -1 0", 1, Decimal(Negative)),
+    (
+        "GATE a 1 O=a;PIN a INV 1 999 1 0 -1 0",
+        1,
+        Decimal(Negative),
+    ),
     ("GATE a 1 O=a;PIN a INV 1 999 1 0 1 x", 1, Expected),
     ("GATE a 1 O=a;PIN a INV 1 999 1 0 1", 1, Expected),
     ("\nGATE a 1 O=a;\nx", 2, PinMissing),
     ("GATE a 1\nO=a b;PIN b INV 1 999 1 0 1 0", 1, PinMissing),
-    ("LATCH GATE\nx 1 O=a b;PIN b INV 1 999 1 0 1 0", 1, PinMissing),
-    ("GATE a 1 O=a;PIN * INV 1 999 1 0 1 0\nGATE a 1 O=a;LATCH", 2, PinMissing),
-    ("GATE a 1 O=a;PIN * INV 1 999 1 0 1 0\nGATE a 1 O=!a;PIN * INV 1 999 1 0 1 0", 2, CellDiffers),
+    (
+        "LATCH GATE\nx 1 O=a b;PIN b INV 1 999 1 0 1 0",
+        1,
+        PinMissing,
+    ),
+    (
+        "GATE a 1 O=a;PIN * INV 1 999 1 0 1 0\nGATE a 1 O=a;LATCH",
+        2,
+        PinMissing,
+    ),
+    (
+        "GATE a 1 O=a;PIN * INV 1 999 1 0 1 0\nGATE a 1 O=!a;PIN * INV 1 999 1 0 1 0",
+        2,
+        CellDiffers,
+    ),
     ("GATE a 1 O=a;PIN * INV 1 999 1 0 1 0 PIN b", 1, PinUnknown),
 ];
 
@@ -111,14 +127,38 @@ fn each_fault_is_told(rt: HostRuntime) {
 
 // A second entry of a cell, and whether it differs from the first.
 const SECOND: [(&str, bool); 8] = [
-    ("GATE \"g\" 2.0 O=(b'*a)';PIN b INV 1 1 .5 0 2 0 PIN * INV 1 1 1 0 0 0", false),
-    ("GATE g 2 O=b+!a;PIN a INV 1 1 1 0 1 0 PIN b INV 1 1 2 0 2 0", false),
-    ("GATE g 2 O=b*!a;PIN a INV 1 1 1 0 1 0 PIN b INV 1 1 2 0 2 0", true),
-    ("GATE g 2 P=b+!a;PIN a INV 1 1 1 0 1 0 PIN b INV 1 1 2 0 2 0", true),
-    ("GATE g 2.1 O=b+!a;PIN a INV 1 1 1 0 1 0 PIN b INV 1 1 2 0 2 0", true),
-    ("GATE g 2 O=b+!a;PIN a INV 1 1 2 0 1 0 PIN b INV 1 1 2 0 2 0", true),
-    ("GATE g 2 O=b+!a+c*c';PIN * INV 1 1 2 0 2 0 PIN a INV 1 1 1 0 1 0", true),
-    ("GATE g 2 O=b+!c;PIN c INV 1 1 1 0 1 0 PIN b INV 1 1 2 0 2 0", true),
+    (
+        "GATE \"g\" 2.0 O=(b'*a)';PIN b INV 1 1 .5 0 2 0 PIN * INV 1 1 1 0 0 0",
+        false,
+    ),
+    (
+        "GATE g 2 O=b+!a;PIN a INV 1 1 1 0 1 0 PIN b INV 1 1 2 0 2 0",
+        false,
+    ),
+    (
+        "GATE g 2 O=b*!a;PIN a INV 1 1 1 0 1 0 PIN b INV 1 1 2 0 2 0",
+        true,
+    ),
+    (
+        "GATE g 2 P=b+!a;PIN a INV 1 1 1 0 1 0 PIN b INV 1 1 2 0 2 0",
+        true,
+    ),
+    (
+        "GATE g 2.1 O=b+!a;PIN a INV 1 1 1 0 1 0 PIN b INV 1 1 2 0 2 0",
+        true,
+    ),
+    (
+        "GATE g 2 O=b+!a;PIN a INV 1 1 2 0 1 0 PIN b INV 1 1 2 0 2 0",
+        true,
+    ),
+    (
+        "GATE g 2 O=b+!a+c*c';PIN * INV 1 1 2 0 2 0 PIN a INV 1 1 1 0 1 0",
+        true,
+    ),
+    (
+        "GATE g 2 O=b+!c;PIN c INV 1 1 1 0 1 0 PIN b INV 1 1 2 0 2 0",
+        true,
+    ),
 ];
 
 #[test]
@@ -137,7 +177,10 @@ fn entries_of_one_name_are_joined(rt: HostRuntime) -> Result<(), Fail> {
                     assert_eq!(&rt; library.cell(CellId(0)).forms().len(), 2);
                 }
             }
-            Err(fault) => assert!(&rt; differs && fault == LibFault::Line(2, CellDiffers), "{second} {fault:?}"),
+            Err(fault) => assert!(&rt;
+                differs && fault == LibFault::Line(2, CellDiffers),
+                "{second} {fault:?}"
+            ),
         }
     }
     Ok(())
@@ -158,7 +201,13 @@ fn assert_limit(rt: &impl Abort, alloc: Global, text: &[u8], broken: Option<(u32
     }
 }
 
-fn repeated(alloc: Global, before: &str, part: &str, count: usize, behind: &str) -> Result<Vec<u8>, AllocError> {
+fn repeated(
+    alloc: Global,
+    before: &str,
+    part: &str,
+    count: usize,
+    behind: &str,
+) -> Result<Vec<u8>, AllocError> {
     let mut text = Vec::new(alloc);
     text.extend_from_slice(before.as_bytes())?;
     for _ in 0..count {
@@ -174,25 +223,81 @@ const STAR: &str = "PIN * INV 1 999 1 0 1 0\n";
 fn limits_are_kept(rt: HostRuntime) -> Result<(), Fail> {
     let alloc = rt.alloc();
     let star = ";\nPIN * INV 1 999 1 0 1 0\n";
-    assert_limit(&rt, alloc, &repeated(alloc, "GATE g 1\nO=a", " a", 63, star)?, None);
-    assert_limit(&rt, alloc, &repeated(alloc, "GATE g 1\nO=a", " a", 63, "\na")?, Some((3, Expected)));
-    assert_limit(&rt, alloc, &repeated(alloc, "GATE g 1\nO=a", " a", 63, "\na;")?, Some((3, LimitLiterals)));
-    assert_limit(&rt, alloc, &repeated(alloc, "GATE g 1\nO=", "a", 2046, star)?, None);
-    assert_limit(&rt, alloc, &repeated(alloc, "GATE g 1\nO=", "a", 2046, "\n;")?, Some((3, LimitText)));
-    assert_limit(&rt, alloc, &repeated(alloc, "GATE g 1\nO=", "a", 2047, ";")?, Some((2, LimitText)));
-    assert_limit(&rt, alloc, &repeated(alloc, "GATE g 1 O=a;\nx ", "a", 4095, "")?, Some((1, PinMissing)));
-    assert_limit(&rt, alloc, &repeated(alloc, "GATE g 1 O=a;\nx ", "a", 4096, "")?, Some((2, LongWord)));
-    assert_limit(&rt, alloc, &repeated(alloc, "", "GATE g 1 O=CONST1;\n", 4096, "LATCH GATE")?, Some((4097, LimitCells)));
-    assert_limit(&rt, alloc, &repeated(alloc, "", "GATE g 1 O=CONST1;\n", 4096, "LATCH x")?, None);
+    assert_limit(
+        &rt,
+        alloc,
+        &repeated(alloc, "GATE g 1\nO=a", " a", 63, star)?,
+        None,
+    );
+    assert_limit(
+        &rt,
+        alloc,
+        &repeated(alloc, "GATE g 1\nO=a", " a", 63, "\na")?,
+        Some((3, Expected)),
+    );
+    assert_limit(
+        &rt,
+        alloc,
+        &repeated(alloc, "GATE g 1\nO=a", " a", 63, "\na;")?,
+        Some((3, LimitLiterals)),
+    );
+    assert_limit(
+        &rt,
+        alloc,
+        &repeated(alloc, "GATE g 1\nO=", "a", 2046, star)?,
+        None,
+    );
+    assert_limit(
+        &rt,
+        alloc,
+        &repeated(alloc, "GATE g 1\nO=", "a", 2046, "\n;")?,
+        Some((3, LimitText)),
+    );
+    assert_limit(
+        &rt,
+        alloc,
+        &repeated(alloc, "GATE g 1\nO=", "a", 2047, ";")?,
+        Some((2, LimitText)),
+    );
+    assert_limit(
+        &rt,
+        alloc,
+        &repeated(alloc, "GATE g 1 O=a;\nx ", "a", 4095, "")?,
+        Some((1, PinMissing)),
+    );
+    assert_limit(
+        &rt,
+        alloc,
+        &repeated(alloc, "GATE g 1 O=a;\nx ", "a", 4096, "")?,
+        Some((2, LongWord)),
+    );
+    assert_limit(
+        &rt,
+        alloc,
+        &repeated(alloc, "", "GATE g 1 O=CONST1;\n", 4096, "LATCH GATE")?,
+        Some((4097, LimitCells)),
+    );
+    assert_limit(
+        &rt,
+        alloc,
+        &repeated(alloc, "", "GATE g 1 O=CONST1;\n", 4096, "LATCH x")?,
+        None,
+    );
     let pins = "GATE g 1 O=a b c d e f g h i j k l m n o p";
     assert_limit(&rt, alloc, &repeated(alloc, pins, " a", 1, star)?, None);
-    assert_limit(&rt, alloc, &repeated(alloc, pins, "\nq;", 1, star)?, Some((2, LimitPins)));
+    assert_limit(
+        &rt,
+        alloc,
+        &repeated(alloc, pins, "\nq;", 1, star)?,
+        Some((2, LimitPins)),
+    );
     Ok(())
 }
 
 #[test]
 fn a_library_is_read(rt: HostRuntime) -> Result<(), Fail> {
-    let text = b"# a library\nGATE \"inv1:physical\" 16.00 O=!1A; # one\n PIN * INV 1 999 0.40 0.2 0.35 0.2\nLATCH \"d\" 2 Q=D; PIN D NONINV\nGATE \"xor:physical\" 40 O=1A*!1B+!1A*1B;\nPIN * UNKNOWN 2 999 1.9 0.5 1.8 0.5\nGATE \"xor:physical\" 40 O=!(1A*1B+!1A*!1B);\nPIN * UNKNOWN 2 999 1.9 0.5 1.8 0.5\nGATE one 0 O=CONST1;";
+    let text =
+        b"# a library\nGATE \"inv1:physical\" 16.00 O=!1A; # one\n PIN * INV 1 999 0.40 0.2 0.35 0.2\nLATCH \"d\" 2 Q=D; PIN D NONINV\nGATE \"xor:physical\" 40 O=1A*!1B+!1A*1B;\nPIN * UNKNOWN 2 999 1.9 0.5 1.8 0.5\nGATE \"xor:physical\" 40 O=!(1A*1B+!1A*!1B);\nPIN * UNKNOWN 2 999 1.9 0.5 1.8 0.5\nGATE one 0 O=CONST1;";
     match read(rt.alloc(), text) {
         Ok(library) => {
             assert_eq!(&rt; library.len(), 3);
