@@ -2,17 +2,9 @@
 #![tactic(auto)]
 
 #[cfg(test)]
-mod blif;
-#[cfg(test)]
-mod classes;
-#[cfg(test)]
-mod closures;
-#[cfg(test)]
 mod decimals;
 #[cfg(test)]
 mod form_lists;
-#[cfg(test)]
-mod libraries;
 #[cfg(test)]
 mod lines;
 #[cfg(test)]

@@ -1,5 +1,5 @@
 use Rattle.std.proofs.Common.{◌≡◌, ◌+◌, ◌^◌, ◌<◌, length}
-use Rattle.lw_parts.proofs.closures.is_right.Given as goal
+use Rattle.lw_layers.proofs.closures.is_right.Given as goal
 
 abbrev pub invariant-loop-form : goal.invariant-loop-form
 invariant-loop-form l = record { same : l.draft.samples ≡ l.values.items; count : length l.values.items ≡ 3 + l._form }
