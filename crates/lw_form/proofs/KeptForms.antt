@@ -3,8 +3,8 @@ use Rattle.std.proofs.Common.{◌≡◌, ◌≢◌, ◌+◌, ◌-◌, ◌*◌, �
 use Rattle.std.specs.List.{AllByRecursion, list_any}
 use Rattle.std.proofs.lemmas.List.{length-map}
 use Rattle.lw_net.specs.Networks.{most_nets}
-use Rattle.lw_laws.specs.Networks.{Node, Network}
-use Rattle.lw_laws.specs.Forms.{Form, FormList, items, form_list, same_form, is_among, has_clash, complement}
+use Rattle.lw_laws.specs.Networks.{Node, Network, IsInOrder, AreValues}
+use Rattle.lw_laws.specs.Forms.{Form, FormList, items, form_list, same_form, is_among, has_clash, complement, form_value}
 use Rattle.lw_laws.specs.Forms.Form.{var_form, true_form, not_form, and_form}
 use Rattle.lw_laws.specs.Signals.{Signal, signal_of_node, signals_after, input_signals, signal_of_input, signals_of}
 use Rattle.lw_laws.specs.Occurring.{occurring_forms, HasInputsFirst}
@@ -13,7 +13,7 @@ use Rattle.lw_laws.specs.Listings.{IsListing, AreDistinct, AreOperands, sign_of}
 use Rattle.lw_laws.specs.Numbering.{place, number, numbered, numbered_base, sop_number, fac_number, IsNumber}
 use Rattle.lw_laws.specs.NumberedForms.{Base, NumberedForms, AreNumberedForms}
 use Rattle.lw_laws.specs.NumberedForms.Base.{base_true, base_input, base_and}
-use Rattle.lw_laws.specs.SignalValues.{number_value}
+use Rattle.lw_laws.specs.SignalValues.{number_value, SignalsAgree}
 use Rattle.lw_laws.specs.Mapped.{forms_of}
 use Rattle.lw_laws.proofs.Agreement.{operands_occur, numbered_are_forms}
 use Rattle.lw_laws.proofs.Equality.{same_form_refl, same_form_eq, form_list-items}
@@ -21,9 +21,10 @@ use Rattle.lw_laws.proofs.FormTruth.{signals_agree}
 use Rattle.lw_laws.proofs.Listed.{occurring_is_listing, true_and_inputs_first}
 use Rattle.lw_laws.proofs.Lists.{slice_get_in, slice_get_some}
 use Rattle.lw_laws.proofs.Numbers.{slice_get_map, slice_get_map_back, number_is, number_of, numbers_injective, complement_base}
-use Rattle.lw_laws.proofs.NumberValues.{numbers_have_values}
+use Rattle.lw_laws.proofs.NumberValues.{numbers_have_values, value_of_number}
+use Rattle.lw_laws.proofs.NetValues.{sops_are_values}
 use Rattle.lw_laws.proofs.Sublists.{or_false}
-use Rattle.lw_form.specs.Kept.{AreApart, AreAndOperands, AreInOrder, AreNets, AreForms}
+use Rattle.lw_form.specs.Kept.{HaveValues, AreApart, AreAndOperands, AreInOrder, AreNets, AreForms}
 use Rattle.lw_form.specs.Limits.{most_bases, most_operands}
 
 -- a form is determined by its base form and its sign
@@ -244,4 +245,28 @@ forms_kept width net wide narrow few short =
         input_facs = λ i lt. slice_get_map (fac_number o.bases) o.signals i (signal_of_input i) (signal_at width net i lt) ∙ ap Some (input_number o is net.inputs i first lt);
       };
       values = λ x. (number_value o x, numbers_have_values net.inputs o is x (signals_agree x width net));
+    }
+
+-- both forms of each net have the net's value
+
+module _ (x : ℕ → Bool) (o : Listing) (is : IsListing o) where
+  sops_valued : (signals : List Signal) → ((s : ℕ) (y : Signal) → slice_get signals s ≡ Some y → Occurs o y.sop × Occurs o y.fac) → map (number_value o x) (map (sop_number o.bases) signals) ≡ map (λ y. form_value x y.sop) signals
+  sops_valued [] h = refl
+  sops_valued (y ∷ signals) h = ap₂ (λ v vs. v ∷ vs) (value_of_number 0 o is x y.sop (h 0 y refl).0) (sops_valued signals (λ s z e. h (suc s) z e))
+
+  facs_valued : (signals : List Signal) → ((s : ℕ) (y : Signal) → slice_get signals s ≡ Some y → Occurs o y.sop × Occurs o y.fac) → SignalsAgree signals x → map (number_value o x) (map (fac_number o.bases) signals) ≡ map (λ y. form_value x y.sop) signals
+  facs_valued [] h a = refl
+  facs_valued (y ∷ signals) h a = ap₂ (λ v vs. v ∷ vs) (value_of_number 0 o is x y.fac (h 0 y refl).1 ∙ sym (a 0 y refl)) (facs_valued signals (λ s z e. h (suc s) z e) (λ s z e. a (suc s) z e))
+
+pub both_valued : (width : ℕ) (net : Network) → 2 ≤ width → IsInOrder net → (x : ℕ → Bool) (values : List Bool) → AreValues net x values → HaveValues (forms_of width net) x values
+both_valued width net wide ordered x values are =
+    let o = listing_of width net in
+    let is = occurring_is_listing width wide net in
+    let agree = signals_agree x width net in
+    let sops = sops_are_values net ordered x width values are in
+    record {
+      value = number_value o x;
+      are = numbers_have_values net.inputs o is x agree;
+      sops = sops_valued x o is o.signals is.signals ∙ sops;
+      facs = facs_valued x o is o.signals is.signals agree ∙ sops;
     }

@@ -1,5 +1,5 @@
 -- What a list of occurring forms keeps, over the numbers of forms.
-use Rattle.std.specs.Prelude.{ℕ, ◌+◌, ◌*◌, ◌/◌, ◌^◌, ◌<◌, ◌≤◌, ◌≡◌, ◌≢◌, Bool, false, List, [], ◌∷◌, length, Some, slice_get}
+use Rattle.std.specs.Prelude.{ℕ, ◌+◌, ◌*◌, ◌/◌, ◌^◌, ◌<◌, ◌≤◌, ◌≡◌, ◌≢◌, Bool, false, List, [], ◌∷◌, map, length, Some, slice_get}
 use Rattle.std.specs.List.{AllByRecursion}
 use Rattle.lw_net.specs.Networks.{most_nets}
 use Rattle.lw_laws.specs.NumberedForms.{Base, NumberedForms, AreNumberedForms}
@@ -41,6 +41,13 @@ pub record AreForms (forms : NumberedForms) : Type 0 where
   pub operands : (b : ℕ) (fs : List ℕ) → slice_get forms.bases b ≡ Some (base_and fs) → AreAndOperands fs
   pub nets : AreNets forms
   pub values : (x : ℕ → Bool) → (value : ℕ → Bool) × AreNumberedValues forms x value
+
+-- The values of forms, with which both forms of each net have the net's.
+pub record HaveValues (forms : NumberedForms) (x : ℕ → Bool) (values : List Bool) : Type 0 where
+  pub value : ℕ → Bool
+  pub are : AreNumberedValues forms x value
+  pub sops : map value forms.sops ≡ values
+  pub facs : map value forms.facs ≡ values
 
 -- these are the values of the base forms where every input is false
 pub record AreSamples (forms : NumberedForms) (samples : List Bool) : Type 0 where

@@ -20,5 +20,5 @@ pub use base::Base;
 pub use fault::FormFault;
 pub use form_list::Forms;
 pub use ids::FormIds;
-pub use laws::occurring_forms_are_kept;
+pub use laws::{forms_have_the_nets_values, occurring_forms_are_kept};
 pub use occurring::forms;
