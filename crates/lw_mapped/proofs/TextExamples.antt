@@ -1,23 +1,19 @@
 -- Texts of small netlists, computed.
-use Rattle.std.proofs.Common.{◌≡◌, ℕ, List, [], ◌∷◌, Option, Some, None, refl}
+use Rattle.std.proofs.Common.{◌≡◌, ℕ, List, [], ◌∷◌, None, refl}
 use Rattle.std.specs.Prelude.{codes}
 use Rattle.lw_fixed.specs.declared.micro.Micro.{Micro}
 use Rattle.lw_genlib.specs.Cells.{CellParts}
 use Rattle.lw_netlist.specs.Netlists.{NetlistParts}
-use Rattle.lw_mapped.specs.declared.certificate.Certificate.{Certificate}
 use Rattle.lw_mapped.specs.Texts.{mapped_text}
 
-cell_of : List ℕ → List (List ℕ) → CellParts
-unfolding cell_of
+abbrev cell_of : List ℕ → List (List ℕ) → CellParts
 cell_of name pins = record { name = name; area = record { 0 = 0 }; output = codes "O"; pins = pins; delays = []; forms = [] }
 
-cells : List CellParts
-unfolding cells cell_of
+abbrev cells : List CellParts
 cells = cell_of (codes "inv") (codes "a" ∷ []) ∷ cell_of (codes "nand3") (codes "a" ∷ codes "b" ∷ codes "c" ∷ []) ∷ []
 
 -- the And of three inputs
-and_3 : NetlistParts
-unfolding and_3
+abbrev and_3 : NetlistParts
 and_3 = record {
   model = codes "and3";
   names = codes "a" ∷ codes "b" ∷ codes "c" ∷ codes "n1" ∷ codes "f" ∷ [];
@@ -29,26 +25,11 @@ and_3 = record {
 }
 
 text_of_and_3 : mapped_text cells and_3 None ≡ codes ".model and3\n.inputs a b c\n.outputs f\n.gate nand3 a=a b=b c=c O=n1\n.gate inv a=n1 O=f\n.end\n"
-unfolding cells cell_of and_3
 text_of_and_3 = refl
 
 -- an input that two outputs are
-twice : NetlistParts
-unfolding twice
+abbrev twice : NetlistParts
 twice = record { model = codes "m"; names = codes "a" ∷ []; inputs = 1; gates = []; outputs = record { name = codes "f"; net = record { 0 = 0 } } ∷ record { name = codes "a"; net = record { 0 = 0 } } ∷ [] }
 
 text_of_twice : mapped_text cells twice None ≡ codes ".model m\n.inputs a\n.outputs f a\n.names a f\n1 1\n.end\n"
-unfolding cells cell_of twice
 text_of_twice = refl
-
--- labels of some classes, and the class of one gate of two
-certificate : Certificate
-unfolding certificate
-certificate = record {
-  labels = None ∷ Some (record { 0 = 2500000 }) ∷ [];
-  nets = None ∷ Some (record { 0 = 14 }) ∷ [];
-}
-
-text_with_certificate : mapped_text cells and_3 (Some certificate) ≡ codes ".model and3\n.inputs a b c\n.outputs f\n.gate nand3 a=a b=b c=c O=n1\n.gate inv a=n1 O=f\n#@ label 1 2.5\n#@ net f 14\n.end\n"
-unfolding cells cell_of and_3 certificate
-text_with_certificate = refl
