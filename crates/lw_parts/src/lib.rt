@@ -4,8 +4,6 @@
 #[cfg(test)]
 mod decimals;
 #[cfg(test)]
-mod form_lists;
-#[cfg(test)]
 mod lines;
 #[cfg(test)]
 mod nets;

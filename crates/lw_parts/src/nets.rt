@@ -58,7 +58,7 @@ fn names(alloc: Global, line: &str) -> Result<Names, AllocError> {
     Ok(names)
 }
 
-pub(crate) fn closed(
+fn closed(
     alloc: Global,
     inputs: &str,
     outputs: &str,
