@@ -58,12 +58,7 @@ fn names(alloc: Global, line: &str) -> Result<Names, AllocError> {
     Ok(names)
 }
 
-fn closed(
-    alloc: Global,
-    inputs: &str,
-    outputs: &str,
-    lines: &str,
-) -> Result<Network, NetFault> {
+fn closed(alloc: Global, inputs: &str, outputs: &str, lines: &str) -> Result<Network, NetFault> {
     let mut nodes = DraftNodes::new(alloc);
     for line in lines.split(';') {
         if !line.is_empty() {
