@@ -324,6 +324,7 @@ module _ (g : Graph) (cost : Cost) (pats : List Pattern) (labels : List (Option 
         within = are.within c m e;
         least = λ k w. let (j, at, le) = known k c w in let same : j.height ≡ m.height = ap (λ (z : PlainMark). z.height) (same_Some j m (sym at ∙ e)) in omega (arith, le, same);
       });
+      in_range = rising_in_range marks problem graph low are;
     }
 
 -- The inputs' classes with their labels.

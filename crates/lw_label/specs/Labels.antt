@@ -9,7 +9,7 @@ use Rattle.lw_laws.specs.Mapped.{IsPotentialOf}
 use Rattle.lw_laws.specs.Rounds.{labels_in}
 use Rattle.lw_laws.specs.Marks.{Mark as PlainMark}
 use Rattle.lw_match.specs.declared.mark.Mark.{Mark}
-use Rattle.lw_match.specs.Values.{marks_in}
+use Rattle.lw_match.specs.Values.{marks_in, AreInRange}
 
 abbrev pub cost_in : Option Mark → Option ℕ
 cost_in mark = option_map (λ (m : Mark). m.cost) mark
@@ -24,3 +24,5 @@ pub record AreLeastMarks (g : Graph) (cost : Cost) (pats : List Pattern) (marks 
   pub least : (c : ℕ) → IsLeastCover g pats cost c (labels_in (costs_of marks) c)
   pub potential : IsPotentialOf g pats cost (costs_of marks)
   pub heights : (c : ℕ) (m : PlainMark) → marks_in marks c ≡ Some m → IsHeight (choices_of g cost.pin_counts pats) cost (labels_in (costs_of marks)) c m.height
+  -- no cost above the cap, and heights that a number of 32 bits holds
+  pub in_range : AreInRange cost.cap marks

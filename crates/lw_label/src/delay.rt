@@ -10,6 +10,7 @@ use lw_pool::CellId;
 
 /// The time of a cover, without loads, in millionths: an input arrives at 0, and a cell at the greatest of its pins' arrivals with
 /// their delays. Times are cut at 2^63 - 1.
+#[derive(Drop)]
 pub struct DelayCost<'a> {
     pub lib: &'a Library,
 }

@@ -1,0 +1,56 @@
+-- The needed classes with their chosen matches, and how they are found from the highest down.
+use Rattle.std.specs.Prelude.{ℕ, ◌<◌, ◌≡◌, ◌⊎◌, ◌↔◌, Bool, true, false, List, reverse, Contains, length, map, Option, Some, None, slice_get, slice_index_or}
+use Rattle.lw_pool.specs.declared.id.ClassId.{ClassId}
+use Rattle.lw_pool.specs.declared.id.NetId.{NetId}
+use Rattle.lw_laws.specs.Graphs.{Graph}
+use Rattle.lw_laws.specs.Costs.{Cost}
+use Rattle.lw_laws.specs.Covers.{Pattern}
+use Rattle.lw_laws.specs.Choices.{Labels}
+use Rattle.lw_laws.specs.Marks.{heights_of}
+use Rattle.lw_laws.specs.Rounds.{labels_in}
+use Rattle.lw_laws.specs.Extracts.{IsChosen, IsNeeded, AreGateClasses}
+use Rattle.lw_match.specs.declared.mark.Mark.{Mark}
+use Rattle.lw_match.specs.declared.mark.Match.{Match}
+use Rattle.lw_match.specs.Values.{marks_in, numbers, plain_match}
+use Rattle.lw_label.specs.Labels.{costs_of}
+use Rattle.lw_extract.specs.declared.choosing.Chosen.{Chosen}
+use Rattle.lw_extract.specs.declared.ordering.Place.{Place}
+
+-- the labels and the heights of marks
+abbrev pub labels : List (Option Mark) → Labels
+labels marks = labels_in (costs_of marks)
+
+abbrev pub heights : List (Option Mark) → ℕ → ℕ
+heights marks = heights_of (marks_in marks)
+
+-- the match is the chosen one of the class
+abbrev pub IsChoice : Graph → Cost → List Pattern → List (Option Mark) → ℕ → Match → Type 0
+IsChoice g cost pats marks c found = (p : Pattern) × IsChosen g cost pats (labels marks) (heights marks) c (plain_match found) p
+
+abbrev pub chosen_classes : List Chosen → List ℕ
+chosen_classes chosen = map (λ (x : Chosen). x.class.0) chosen
+
+-- the classes with a gate, in order, each with its chosen match
+pub record AreChosen (g : Graph) (cost : Cost) (pats : List Pattern) (marks : List (Option Mark)) (roots : List ClassId) (chosen : List Chosen) : Type 0 where
+  pub gate_classes : AreGateClasses g cost pats (labels marks) (heights marks) (numbers roots) (chosen_classes chosen)
+  pub each : (j : ℕ) (x : Chosen) → slice_get chosen j ≡ Some x → IsChoice g cost pats marks x.class.0 x.found
+
+-- the classes of the roots are noted, and no others
+pub record AreRoots (roots : List ClassId) (classes : ℕ) (needed : List Bool) : Type 0 where
+  pub one_each : length needed ≡ classes
+  pub are : (c : ℕ) → slice_index_or needed c false ≡ true ↔ Contains (numbers roots) c
+
+-- these classes are noted too
+pub record HasAlso (old : List Bool) (classes : List ClassId) (new : List Bool) : Type 0 where
+  pub one_each : length new ≡ length old
+  pub are : (c : ℕ) → slice_index_or new c false ≡ true ↔ ((slice_index_or old c false ≡ true) ⊎ Contains (numbers classes) c)
+
+-- The classes with a gate from the last place down.
+pub record AreNeeds (g : Graph) (cost : Cost) (pats : List Pattern) (marks : List (Option Mark)) (roots : List ClassId) (places : List Place) (chosen : List Chosen) : Type 0 where
+  pub chosen_up : AreChosen g cost pats marks roots (reverse chosen)
+
+-- the classes differ, are in range, and have no net yet
+pub record AreDistinctGates (nets : List (Option NetId)) (chosen : List Chosen) : Type 0 where
+  pub once : (i j c : ℕ) → slice_get (chosen_classes chosen) i ≡ Some c → slice_get (chosen_classes chosen) j ≡ Some c → i ≡ j
+  pub in_range : (j c : ℕ) → slice_get (chosen_classes chosen) j ≡ Some c → c < length nets
+  pub no_net : (j c : ℕ) → slice_get (chosen_classes chosen) j ≡ Some c → slice_index_or nets c None ≡ None

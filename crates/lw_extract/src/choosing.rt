@@ -1,0 +1,124 @@
+// The classes that are needed, each with its chosen match.
+ghost use Rattle.std.specs.Prelude.{◌≡◌, ◌<◌, All, IfOk, length, Some, None, slice_index_or};
+ghost use Rattle.lw_laws.specs.Extracts.{IsLeafClass};
+
+ghost use Rattle.lw_match.specs.Least.{AreOfCells};
+ghost use Rattle.lw_label.specs.Labels.{AreLeastMarks};
+ghost use Rattle.lw_label.specs.Delays.{time_cost};
+ghost use Rattle.lw_extract.specs.Choosing.{AreChosen, AreNeeds, AreRoots, HasAlso, IsChoice};
+ghost use Rattle.lw_extract.specs.Orders.{AreByHeight};
+ghost use Rattle.lw_extract.specs.Nets.{AreInputNets};
+
+use crate::ordering::{Place, by_height};
+use lw_genlib::Library;
+use lw_graph::Graph;
+use lw_label::DelayCost;
+use lw_match::{Mark, Match, least};
+use lw_pattern::Patterns;
+use lw_pool::{ClassId, NetId};
+use std::alloc::{AllocError, Global};
+
+// A class with a gate, and the match that the gate is.
+#[derive(Drop)]
+pub(crate) struct Chosen {
+    pub(crate) class: ClassId,
+    pub(crate) found: Match,
+}
+
+// Whether each class is an output's.
+fn needed_by_outputs(
+    alloc: Global,
+    roots: &[ClassId],
+    classes: usize,
+) -> Result<Vec<bool>, AllocError>
+    requires { All (λ root. root.0 < classes) roots.now }
+    ensures { IfOk result (λ needed. AreRoots roots.now classes needed.items) }
+{
+    let mut needed = vec![in alloc; false; classes]?;
+    for root in roots {
+        needed[root.0 as usize] = true;
+    }
+    Ok(needed)
+}
+
+// Notes that these classes are needed.
+fn need(needed: &mut [bool], classes: &[ClassId])
+    requires { All (λ class. class.0 < length needed.old) classes.now }
+    ensures { HasAlso needed.old classes.now needed.new }
+{
+    for class in classes {
+        needed[class.0 as usize] = true;
+    }
+}
+
+// The chosen match of a class: the first of those that attain its label and its height.
+fn choice(
+    graph: &Graph,
+    pats: &Patterns,
+    lib: &Library,
+    marks: &[Option<Mark>],
+    class: ClassId,
+) -> Option<Match>
+    requires of_cells { AreOfCells (time_cost lib.now).pin_counts pats.now }
+    requires least { AreLeastMarks graph.now (time_cost lib.now) pats.now marks.now }
+    requires class { class.0 < length graph.now.pairs }
+    requires no_leaf { IsLeafClass graph.now class.0 → ⊥ }
+    ensures { (mark : _) → slice_index_or marks.now class.0 None ≡ Some mark → (found : _) × (result ≡ Some found) × IsChoice graph.now (time_cost lib.now) pats.now marks.now class.0 found }
+{
+    let best = least(graph, pats, marks, class, &DelayCost::new(lib))?;
+    Some(best.found)
+}
+
+// The needed classes that are no input's, from the highest down, each with its chosen match. A class is lower than each whose
+// chosen match has it as a pin.
+fn choose_down(
+    alloc: Global,
+    graph: &Graph,
+    pats: &Patterns,
+    lib: &Library,
+    marks: &[Option<Mark>],
+    roots: &[ClassId],
+    places: &[Place],
+) -> Result<Vec<Chosen>, AllocError>
+    requires of_cells { AreOfCells (time_cost lib.now).pin_counts pats.now }
+    requires least { AreLeastMarks graph.now (time_cost lib.now) pats.now marks.now }
+    requires roots { All (λ root. root.0 < length graph.now.pairs) roots.now }
+    requires places { (nets : _) × AreInputNets graph.now nets × AreByHeight nets marks.now places.now }
+    ensures { IfOk result (λ chosen. AreNeeds graph.now (time_cost lib.now) pats.now marks.now roots.now places.now chosen.items) }
+{
+    let mut needed = needed_by_outputs(alloc, roots, graph.classes() as usize)?;
+    let mut chosen = Vec::new(alloc);
+    for place in places.iter().rev() {
+        let class = place.class;
+        if needed[class.0 as usize] {
+            if let Some(found) = choice(graph, pats, lib, marks, class) {
+                need(&mut needed, found.pins.as_slice());
+                chosen.push(Chosen { class, found })?;
+            }
+        }
+    }
+    Ok(chosen)
+}
+
+// The needed classes that are no input's, by height and then class, each with its chosen match.
+pub(crate) fn choose(
+    alloc: Global,
+    graph: &Graph,
+    pats: &Patterns,
+    lib: &Library,
+    marks: &[Option<Mark>],
+    roots: &[ClassId],
+    nets: &[Option<NetId>],
+) -> Result<Vec<Chosen>, AllocError>
+    requires of_cells { AreOfCells (time_cost lib.now).pin_counts pats.now }
+    requires least { AreLeastMarks graph.now (time_cost lib.now) pats.now marks.now }
+    requires roots { All (λ root. root.0 < length graph.now.pairs) roots.now }
+    requires nets { AreInputNets graph.now nets.now }
+    ensures { IfOk result (λ chosen. AreChosen graph.now (time_cost lib.now) pats.now marks.now roots.now chosen.items) }
+{
+    let _ = graph.classes();
+    let places = by_height(alloc, nets, marks)?;
+    let mut chosen = choose_down(alloc, graph, pats, lib, marks, roots, &places)?;
+    chosen.reverse();
+    Ok(chosen)
+}

@@ -1,0 +1,31 @@
+// The nets of classes.
+ghost use Rattle.std.specs.Prelude.{◌≡◌, ◌≤◌, ◌+◌, ◌<◌, ◌^◌, IfOk, length};
+ghost use Rattle.lw_extract.specs.Choosing.{AreDistinctGates, chosen_classes};
+ghost use Rattle.lw_extract.specs.Nets.{AreInputNets, AreClassNets};
+
+use crate::choosing::Chosen;
+use lw_graph::Graph;
+use lw_pool::NetId;
+use std::alloc::{AllocError, Global};
+
+// The nets of the inputs' classes.
+pub(crate) fn input_nets(alloc: Global, graph: &Graph) -> Result<Vec<Option<NetId>>, AllocError>
+    ensures { IfOk result (λ nets. AreInputNets graph.now nets.items) }
+{
+    let mut nets = vec![in alloc; None; graph.classes() as usize]?;
+    for input in 0..graph.inputs() {
+        nets[graph.leaf(input).0 as usize] = Some(NetId(input));
+    }
+    Ok(nets)
+}
+
+// Adds the nets of the classes that have a gate.
+pub(crate) fn add_gates(nets: &mut [Option<NetId>], inputs: u32, chosen: &[Chosen])
+    requires few { inputs + length chosen.now < 2 ^ 32 }
+    requires gates { AreDistinctGates nets.old chosen.now }
+    ensures { (g : _) → length g.leaves ≡ inputs → AreInputNets g nets.old → AreClassNets g (chosen_classes chosen.now) nets.new }
+{
+    for (j, gate) in chosen.iter().enumerate() {
+        nets[gate.class.0 as usize] = Some(NetId(inputs + j as u32));
+    }
+}
