@@ -1,6 +1,6 @@
 #!/bin/sh
-# Runs the built program on every row of tests/rows, on the plain examples, and on the cases below, which
-# files alone cannot say. It takes the program that LWMAP_PROGRAM names, or else that of crates/lwmap, which the
+# Runs the built program on every row of tests/rows, on the examples, and on the cases below, which files alone
+# cannot say. It takes the program that LWMAP_PROGRAM names, or else that of crates/lwmap, which the
 # script lwmap builds first where it is not fresh. With words it runs those rows and cases alone, as in:
 # sh tests/rows.sh inverter no_words
 # The last line is 'N passed, N failed'. The status is 0 where none failed and at least one ran.
@@ -8,8 +8,8 @@ set -u
 export LC_ALL=C
 tests=$(dirname -- "$(readlink -f -- "$0")")
 root=$(dirname -- "$tests")
-plain=$root/examples/plain
-[ -n "${LWMAP_PROGRAM:-}" ] || "$root/lwmap" map "$plain/plain.genlib" "$plain/chain.blif" >/dev/null || exit
+examples=$root/examples
+[ -n "${LWMAP_PROGRAM:-}" ] || "$root/lwmap" map "$examples/plain/plain.genlib" "$examples/plain/chain.blif" >/dev/null || exit
 program=$(readlink -f -- "${LWMAP_PROGRAM:-$root/crates/lwmap/out/lwmap}")
 [ -x "$program" ] || { echo "rows: there is no program $program" >&2 && exit 1; }
 room=$(mktemp -d) || exit 1
@@ -60,10 +60,10 @@ row() {
     status $? "$(cat "$row/status")" && same .got/stdout "$row/stdout" && same .got/stderr "$row/stderr"
 }
 
-# An example that is mapped today, with the text that is wanted.
-example() {
-    run map "$plain/plain.genlib" "$plain/$1.blif"
-    status $? 0 && same out "$plain/$1.mapped.blif" && holds err
+# An example, by the library of its folder, with the text that is wanted.
+example() { # MAPPED
+    run map "$(dirname "$1")"/*.genlib "${1%.mapped.blif}.blif"
+    status $? 0 && same out "$1" && holds err
 }
 
 inverter_files() {
@@ -169,19 +169,19 @@ library_of_too_many_bytes() {
     status $? 5 && holds out && holds err 'lwmap: limit: LIB has more than 67108864 bytes' || return
     zeros LIB 67108864
     run map LIB IN
-    status $? 4 && holds out && holds err 'lwmap: LIB line 1: not built yet'
+    status $? 4 && holds out && holds err 'lwmap: LIB line 1: word too long'
 }
 
 network_of_too_many_bytes() {
     inverter_files && zeros IN 67108865
     run map LIB IN
     status $? 5 && holds out && holds err 'lwmap: limit: IN has more than 67108864 bytes' || return
-    echo LATCH >LIB
+    echo GATE >LIB
     run map LIB IN
-    status $? 4 && holds out && holds err 'lwmap: LIB line 1: not built yet' || return
+    status $? 4 && holds out && holds err 'lwmap: LIB line 1: something else expected' || return
     inverter_files && zeros IN 67108864
     run map LIB IN
-    status $? 3 && holds out && holds err 'lwmap: IN line 1: not built yet'
+    status $? 3 && holds out && holds err 'lwmap: IN line 1: word too long'
 }
 
 file_without_end() {
@@ -205,21 +205,22 @@ signal_names_of_2000_bytes() {
         inverter_files
         sed "${line}s/ [a-z]*/ $(long 2001)/" IN >longer
         run map LIB longer
-        status $? 3 && holds out && holds err "lwmap: longer line $line: not built yet" || return
+        status $? 3 && holds out && holds err "lwmap: longer line $line: bad name" || return
     done
 }
 
-library_names_of_1000_bytes() {
+longest_functions_and_names_of_cells() {
     inverter_files
-    x=$(long 1000)
-    printf '%s\n' "GATE $x 1 $x=!$x;" 'PIN * INV 1 999 1 0 1 0' >LIB
+    cell=$(long 4095) && pin=$(long 2045)
+    printf '%s\n' "GATE $cell 1 O=!$pin;" 'PIN * INV 1 999 1 0 1 0' >LIB
     run map LIB IN
-    status $? 0 && holds out '.model m' '.inputs a' '.outputs f' ".gate $x $x=a $x=f" '.end' && holds err || return
-    for text in "GATE x$x 1 O=!a;" "GATE inv 1 x$x=!a;" "GATE inv 1 O=!x$x;"; do
-        printf '%s\n' "$text" 'PIN * INV 1 999 1 0 1 0' >LIB
-        run map LIB IN
-        status $? 4 && holds out && holds err 'lwmap: LIB line 1: not built yet' || return
-    done
+    status $? 0 && holds out '.model m' '.inputs a' '.outputs f' ".gate $cell $pin=a O=f" '.end' && holds err || return
+    printf '%s\n' "GATE inv 1 O=!x$pin;" 'PIN * INV 1 999 1 0 1 0' >LIB
+    run map LIB IN
+    status $? 4 && holds out && holds err 'lwmap: LIB line 1: function longer than 2048 bytes' || return
+    printf '%s\n' "GATE x$cell 1 O=!a;" 'PIN * INV 1 999 1 0 1 0' >LIB
+    run map LIB IN
+    status $? 4 && holds out && holds err 'lwmap: LIB line 1: word too long'
 }
 
 # A chain of so many inverters, of which the last is the one output.
@@ -238,7 +239,7 @@ most_signals() {
     status $? 0 && holds out '.model m' '.inputs s0' '.outputs s262143' '.gate inv a=s0 O=s262143' '.end' && holds err || return
     chain 262144 >IN
     run map LIB IN
-    status $? 3 && holds out && holds err "lwmap: IN line $((3 + 2 * 262143 + 1)): not built yet"
+    status $? 3 && holds out && holds err "lwmap: IN line $((3 + 2 * 262143 + 1)): more than 262144 signals"
 }
 
 most_inputs() {
@@ -249,7 +250,7 @@ most_inputs() {
     status $? 0 && same out IN && holds err || return
     printf '.model m\n.inputs%s\n.outputs i7\n.end\n' "$inputs x" >IN
     run map LIB IN
-    status $? 3 && holds out && holds err 'lwmap: IN line 2: not built yet'
+    status $? 3 && holds out && holds err 'lwmap: IN line 2: more than 262144 signals'
 }
 
 # So many inverters, each faster than those before it.
@@ -264,7 +265,30 @@ most_cells() {
     status $? 0 && holds out '.model m' '.inputs a' '.outputs f' '.gate c4096 a=a O=f' '.end' && holds err || return
     inverters 4097 >LIB
     run map LIB IN
-    status $? 4 && holds out && holds err 'lwmap: LIB line 8193: not built yet'
+    status $? 4 && holds out && holds err 'lwmap: LIB line 8193: more than 4096 cells'
+}
+
+# So many nodes, each the And of eight inputs of its own, the last of them the one output.
+eights() { # NODES
+    awk -v n="$1" 'BEGIN {
+        print ".model m"
+        for (i = 1; i <= n; i++) { line = ".inputs"; for (k = 1; k <= 8; k++) line = line " i" i "_" k; print line }
+        print ".outputs f" n
+        for (i = 1; i <= n; i++) { line = ".names"; for (k = 1; k <= 8; k++) line = line " i" i "_" k; print line " f" i "\n11111111 1" }
+        print ".end"
+    }'
+}
+
+too_many_forms() {
+    inverter_files && eights 8600 >IN
+    run map -w 8 LIB IN
+    status $? 5 && holds out && holds err 'lwmap: limit: more than 2097152 forms'
+}
+
+too_many_splits() {
+    inverter_files && eights 5547 >IN
+    run map -w 8 LIB IN
+    status $? 5 && holds out && holds err 'lwmap: limit: more than 16777216 splits'
 }
 
 two_runs_agree() {
@@ -358,16 +382,16 @@ for it in "$tests"/rows/*/; do
     [ $# -eq 0 ] || case " $* " in *" ${it##*/} "*) ;; *) continue ;; esac
     attempt "${it##*/}" row "$it"
 done
-for it in "$plain"/*.mapped.blif; do
-    it=${it##*/}
-    [ $# -eq 0 ] || case " $* " in *" ${it%.mapped.blif} "*) ;; *) continue ;; esac
-    attempt "${it%.mapped.blif}" example "${it%.mapped.blif}"
+for it in "$examples"/*/*.mapped.blif; do
+    name=$(basename "$it" .mapped.blif)
+    [ $# -eq 0 ] || case " $* " in *" $name "*) ;; *) continue ;; esac
+    attempt "$name" example "$it"
 done
 for it in unreadable_file standard_output_is_full standard_output_takes_a_part \
     standard_output_is_closed standard_output_is_a_pipe_that_nobody_reads standard_error_is_closed standard_error_is_full \
     standard_input_is_not_read files_from_pipes word_that_is_not_utf8 want_of_memory \
     library_of_too_many_bytes network_of_too_many_bytes file_without_end signal_names_of_2000_bytes \
-    library_names_of_1000_bytes most_signals most_inputs most_cells two_runs_agree \
+    longest_functions_and_names_of_cells most_signals most_inputs most_cells too_many_forms too_many_splits two_runs_agree \
     script_builds_and_runs script_runs_a_fresh_build script_builds_anew_after_an_edit \
     script_does_not_build_for_other_crates script_says_where_the_build_fails \
     script_says_where_rt_is_not_there script_takes_a_program_that_is_named; do
