@@ -1,0 +1,3 @@
+mod FreeNames
+mod NamesHeld
+mod NamesGiven
