@@ -1,0 +1,4 @@
+mod Sorting
+mod Noting
+mod Picking
+mod Descent
