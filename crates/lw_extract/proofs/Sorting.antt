@@ -1,5 +1,5 @@
 -- The classes with marks that are no input's, in the order of their numbers and then by height.
-use Rattle.std.proofs.Common.{ℕ, zero, suc, ◌+◌, ◌-◌, ◌*◌, ◌^◌, ◌<◌, ◌≤◌, ◌≡◌, ◌==◌, ◌⊎◌, inl, inr, min, Bool, true, false, List, [], ◌∷◌, ◌++◌, length, take, reverse, get_or, Contains, Option, Some, None, slice_get, slice_index_or, refl, ap, sym, ◌∙◌, subst, arith, true≢false}
+use Rattle.std.proofs.Common.{ℕ, zero, suc, ◌+◌, ◌-◌, ◌*◌, ◌^◌, ◌<◌, ◌≤◌, ◌≡◌, ◌==◌, ◌⊎◌, inl, inr, min, Bool, true, false, List, [], ◌∷◌, ◌++◌, length, take, reverse, get_or, Contains, Option, Some, None, is_some, slice_get, slice_index_or, refl, ap, sym, ◌∙◌, subst, arith, true≢false}
 use native.Mathlib.Decide.{ℕ_discrete, dec_lt}
 use Rattle.std.specs.List.{IsDistinct}
 use Rattle.std.specs.List.Sorted.{IsPermutation, IsNonDecreasingBy}
@@ -31,6 +31,14 @@ at_push (z ∷ xs) y (suc i) x e = by_case (at_push xs y i x e)
     by_case : (slice_get xs i ≡ Some x) ⊎ ((i ≡ length xs) × (y ≡ x)) → (slice_get (z ∷ xs) (suc i) ≡ Some x) ⊎ ((suc i ≡ length (z ∷ xs)) × (y ≡ x))
     by_case (inl f) = inl f
     by_case (inr (s, f)) = inr (ap suc s, f)
+
+-- what a test for a value says
+pub none_of : {X : Type 0} (o : Option X) → is_some o ≡ false → o ≡ None
+none_of None e = refl
+none_of (Some x) e = absurd (true≢false e)
+
+pub some_not_none : {X : Type 0} (o : Option X) → is_some o ≡ true → o ≡ None → ⊥
+some_not_none o e f = true≢false (sym e ∙ ap is_some f)
 
 -- an element that a list has is within it
 pub within_some : {X : Type 0} (xs : List (Option X)) (c : ℕ) (x : X) → slice_index_or xs c None ≡ Some x → c < length xs
@@ -144,8 +152,8 @@ module _ (nets : List (Option NetId)) (marks : List (Option Mark)) where
       all = λ c m e f. let (p, k, s) = marked.are.all c m e f in (p, Contains-permutation places rows p moved k, s);
     };
     sorted = λ i j p q e f lt.
-        let (m, at_p, rest) = each p (contains_at rows i p e) in
-        let (n, at_q, rest') = each q (contains_at rows j q f) in
+        let (m, at_p, high_p, net_p) = each p (contains_at rows i p e) in
+        let (n, at_q, high_q, net_q) = each q (contains_at rows j q f) in
         let low = within_some marks p.class.0 m at_p in
         let low' = within_some marks q.class.0 n at_q in
         let in' = slice_get_within rows j q f in
