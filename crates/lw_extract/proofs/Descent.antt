@@ -1,6 +1,5 @@
 -- The needed classes from the highest down, each with its chosen match.
-use Rattle.std.proofs.Common.{ℕ, zero, suc, ◌+◌, ◌<◌, ◌≤◌, ◌≡◌, ◌⊎◌, inl, inr, Bool, true, false, List, [], ◌∷◌, ◌++◌, length, map, reverse, take, get_or, Contains, All, IsSome, Option, Some, None, slice_get, slice_index_or, option_map, refl, ap, sym, ◌∙◌, subst, arith, true≢false}
-use Rattle.std.specs.List.{AllByRecursion}
+use Rattle.std.proofs.Common.{ℕ, zero, suc, ◌<◌, ◌≤◌, ◌≡◌, ◌⊎◌, inl, inr, Bool, true, false, List, [], ◌∷◌, ◌++◌, length, reverse, take, get_or, Contains, All, IsSome, Option, Some, None, slice_get, slice_index_or, option_map, refl, ap, sym, ◌∙◌, subst, arith, true≢false}
 use Rattle.std.proofs.lemmas.List.{take_all, take_more, length_push, length-reverse, reverse-append}
 use Rattle.std.proofs.lemmas.List.Elements.{Contains-push, Contains-push_cases, Contains-append_left, All-from_recursion}
 use Rattle.std.proofs.lemmas.Option.{none-some, same_Some, slice_get-map}
@@ -9,14 +8,13 @@ use Rattle.lw_pool.specs.declared.id.NetId.{NetId}
 use Rattle.lw_laws.specs.Graphs.{Graph}
 use Rattle.lw_laws.specs.Costs.{Cost}
 use Rattle.lw_laws.specs.Covers.{Pattern}
-use Rattle.lw_laws.specs.Extracts.{Match as PlainMatch, IsChosen, IsLeafClass, IsNeeded, IsGateBefore}
+use Rattle.lw_laws.specs.Extracts.{IsChosen, IsLeafClass, IsNeeded, IsGateBefore}
 use Rattle.lw_laws.specs.Extracts.IsNeeded.{by_root, by_pin}
 use Rattle.lw_laws.proofs.Extracts.{IsChosen_once}
 use Rattle.lw_laws.proofs.Lists.{all_contains}
 use Rattle.lw_match.specs.declared.mark.Mark.{Mark}
 use Rattle.lw_match.specs.declared.mark.Match.{Match}
 use Rattle.lw_match.specs.Values.{numbers, plain_match}
-use Rattle.lw_label.specs.Labels.{AreLeastMarks}
 use Rattle.lw_extract.specs.declared.choosing.Chosen.{Chosen}
 use Rattle.lw_extract.specs.declared.ordering.Place.{Place}
 use Rattle.lw_extract.specs.Choosing.{labels, heights, chosen_classes, AreChosen, AreRoots, HasAlso, IsChoice}

@@ -1,25 +1,23 @@
 -- The least match of a class by the marks of its pins is the chosen one.
-use Rattle.std.proofs.Common.{ℕ, zero, suc, ◌<◌, ◌≤◌, ◌≡◌, List, [], ◌∷◌, length, Bool, true, Contains, All, IsSome, Option, Some, None, option_map, unwrap_or, slice_get, slice_index_or, refl, ap, sym, ◌∙◌, subst, arith}
+use Rattle.std.proofs.Common.{ℕ, zero, suc, ◌<◌, ◌≡◌, List, [], ◌∷◌, Contains, All, IsSome, Option, Some, None, option_map, unwrap_or, slice_index_or, refl, ap, sym, ◌∙◌, subst, arith}
 use mathlib.Core.Path.{fun_ext}
-use Rattle.std.proofs.lemmas.List.Elements.{All-map, All-contains, All-from_recursion}
-use Rattle.std.proofs.lemmas.Option.{none-some, same_Some}
+use Rattle.std.proofs.lemmas.List.Elements.{All-map, All-contains}
+use Rattle.std.proofs.lemmas.Option.{none-some}
 use Rattle.std.specs.List.{AllByRecursion}
 use Rattle.lw_pool.specs.declared.id.ClassId.{ClassId}
 use Rattle.lw_laws.specs.Graphs.{Graph}
 use Rattle.lw_laws.specs.Costs.{Cost}
 use Rattle.lw_laws.specs.Covers.{Pattern}
-use Rattle.lw_laws.specs.Choices.{Labels, HaveLabels}
 use Rattle.lw_laws.specs.Marks.{Mark as PlainMark, labels_of}
 use Rattle.lw_laws.specs.Matches.{choices_of}
-use Rattle.lw_laws.specs.Choices.{IsPotential, IsHeight}
+use Rattle.lw_laws.specs.Choices.{Labels, HaveLabels, IsPotential, IsHeight}
 use Rattle.lw_laws.specs.Priced.{IsPriced, AreMarks}
-use Rattle.lw_laws.specs.Extracts.{Match as PlainMatch, IsChosen, IsLeafClass}
+use Rattle.lw_laws.specs.Extracts.{IsChosen, IsLeafClass}
 use Rattle.lw_laws.proofs.MarkLaws.{supports_priced, some_supports, least_chosen}
 use Rattle.lw_match.specs.declared.mark.Mark.{Mark}
-use Rattle.lw_match.specs.declared.mark.Match.{Match}
 use Rattle.lw_match.specs.declared.mark.Best.{Best}
 use Rattle.lw_match.specs.Values.{marks_in, numbers, plain_mark, plain_match}
-use Rattle.lw_match.specs.Least.{Priced, IsPricedAt, IsLeastMatch, plain_best}
+use Rattle.lw_match.specs.Least.{IsLeastMatch}
 use Rattle.lw_label.specs.Labels.{AreLeastMarks}
 use Rattle.lw_label.proofs.Marked.{label_at, mark_of_label}
 use Rattle.lw_extract.specs.Choosing.{labels, heights, IsChoice}
@@ -78,8 +76,8 @@ module _ (g : Graph) (cost : Cost) (pats : List Pattern) (marks : List (Option M
     is.pattern,
     subst (λ (known : Labels). IsChosen g cost pats known (heights marks) c (plain_match b.found) is.pattern) (sym (labels_are marks))
         (least_chosen g cost pats (marks_in marks) are_marks c (plain_match b.found) is.pattern (plain_mark b.mark) (plain_mark m) out (plain_at marks c m at)
-            (record { matches = is.matches; pin_marks = is.pin_marks; have = is.have; mark_is = is.mark })
-            (λ n q i p. before (record { mark = i; found = n }) (record { pattern = q; matches = p.matches; pin_marks = p.pin_marks; have = p.have; mark = p.mark_is }))).1,
+        (record { matches = is.matches; pin_marks = is.pin_marks; have = is.have; mark_is = is.mark })
+        (λ n q i p. before (record { mark = i; found = n }) (record { pattern = q; matches = p.matches; pin_marks = p.pin_marks; have = p.have; mark = p.mark_is }))).1,
   )
 
   -- there is a match

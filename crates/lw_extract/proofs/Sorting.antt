@@ -1,18 +1,18 @@
 -- The classes with marks that are no input's, in the order of their numbers and then by height.
-use Rattle.std.proofs.Common.{ℕ, zero, suc, ◌+◌, ◌-◌, ◌*◌, ◌^◌, ◌<◌, ◌≤◌, ◌≡◌, ◌==◌, ◌⊎◌, inl, inr, min, Bool, true, false, List, [], ◌∷◌, ◌++◌, length, take, reverse, get_or, Contains, Option, Some, None, is_some, slice_get, slice_index_or, refl, ap, sym, ◌∙◌, subst, arith, true≢false}
-use native.Mathlib.Decide.{ℕ_discrete, dec_lt}
+use Rattle.std.proofs.Common.{ℕ, zero, suc, ◌+◌, ◌-◌, ◌^◌, ◌<◌, ◌≤◌, ◌≡◌, ◌==◌, ◌⊎◌, inl, inr, min, Bool, true, false, List, [], ◌∷◌, ◌++◌, length, take, reverse, get_or, Contains, Option, Some, None, is_some, slice_get, slice_index_or, refl, ap, sym, ◌∙◌, subst, arith, true≢false}
+use native.Mathlib.Decide.{dec_lt}
 use Rattle.std.specs.List.{IsDistinct}
 use Rattle.std.specs.List.Sorted.{IsPermutation, IsNonDecreasingBy}
 use Rattle.std.proofs.lemmas.Bool.{cases_eq}
 use Rattle.std.proofs.lemmas.List.{get_or-take, get_or-reverse, length-take, length-reverse}
-use Rattle.std.proofs.lemmas.List.Elements.{Contains-push, Contains-push_cases, Contains-append_left, Contains-get_or}
+use Rattle.std.proofs.lemmas.List.Elements.{Contains-push, Contains-push_cases, Contains-append_left}
 use Rattle.std.proofs.lemmas.List.Sorted.{Contains-permutation, IsPermutation-sym}
 use Rattle.std.proofs.lemmas.Map.Keys.{IsDistinct-from_apart, IsDistinct-IsPermutation, apart_from_distinct}
 use Rattle.std.proofs.lemmas.Option.{none-some, same_Some, slice_get_within, slice_get-get_or, get_or_from_slice_get}
 use Rattle.lw_pool.specs.declared.id.NetId.{NetId}
 use Rattle.lw_match.specs.declared.mark.Mark.{Mark}
 use Rattle.lw_extract.specs.declared.ordering.Place.{Place}
-use Rattle.lw_extract.specs.Orders.{place_key, IsPlaceBefore, ArePlaces, AreMarked, AreByHeight}
+use Rattle.lw_extract.specs.Orders.{place_key, IsPlaceBefore, AreMarked, AreByHeight}
 
 -- an element at a place of a list
 pub contains_at : {X : Type 0} (xs : List X) (k : ℕ) (x : X) → slice_get xs k ≡ Some x → Contains xs x

@@ -8,7 +8,7 @@ use Rattle.lw_laws.specs.Covers.{Pattern}
 use Rattle.lw_laws.specs.Choices.{Labels}
 use Rattle.lw_laws.specs.Marks.{heights_of}
 use Rattle.lw_laws.specs.Rounds.{labels_in}
-use Rattle.lw_laws.specs.Extracts.{IsChosen, IsNeeded, AreGateClasses}
+use Rattle.lw_laws.specs.Extracts.{IsChosen, AreGateClasses}
 use Rattle.lw_match.specs.declared.mark.Mark.{Mark}
 use Rattle.lw_match.specs.declared.mark.Match.{Match}
 use Rattle.lw_match.specs.Values.{marks_in, numbers, plain_match}

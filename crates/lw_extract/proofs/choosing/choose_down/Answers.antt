@@ -1,13 +1,12 @@
-use Rattle.std.proofs.Common.{◌≡◌, ◌∙◌, ◌<◌, ◌++◌, All, List, [], ◌∷◌, Bool, false, length, reverse, take, drop, Some, None, slice_index_or, refl, sym, ap, subst, arith}
+use Rattle.std.proofs.Common.{◌≡◌, ◌∙◌, ◌<◌, ◌++◌, All, List, [], ◌∷◌, Bool, false, length, reverse, take, drop, sym, ap, subst, arith}
 use Rattle.std.proofs.lemmas.List.{with_items_is, get_or_read}
 use Rattle.std.proofs.lemmas.List.Elements.{All-same}
 use Rattle.std.proofs.lemmas.Iterator.Adapters.{YieldsList-from_rev_slice}
 use Rattle.std.proofs.lemmas.Iterator.Consumers.{YieldsList-turn, YieldsList-end}
 use Rattle.lw_pool.specs.declared.id.ClassId.{ClassId}
 use Rattle.lw_label.specs.Delays.{time_cost}
-use Rattle.lw_match.specs.declared.mark.Match.{Match}
 use Rattle.lw_extract.specs.declared.choosing.Chosen.{Chosen}
-use Rattle.lw_extract.specs.Choosing.{AreRoots, HasAlso, IsChoice}
+use Rattle.lw_extract.specs.Choosing.{AreRoots, HasAlso}
 use Rattle.lw_extract.proofs.Descent.{IsDown, IsTurn, down_start, turn_no_leaf, turn_within, turn_choice, turn_some, turn_pins, turn_skip, turn_take, turns_end}
 use Rattle.lw_extract.proofs.choosing.choose_down.Goals as goal
 

@@ -1,4 +1,4 @@
-use Rattle.std.proofs.Common.{◌≡◌, length, map, reverse, take}
+use Rattle.std.proofs.Common.{length, reverse, take}
 use Rattle.lw_label.specs.Delays.{time_cost}
 use Rattle.lw_extract.proofs.Descent.{IsDown}
 use Rattle.lw_extract.proofs.choosing.choose_down.Given as goal

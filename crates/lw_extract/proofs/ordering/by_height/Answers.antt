@@ -1,4 +1,3 @@
-use Rattle.std.proofs.Common.{arith}
 use Rattle.lw_extract.proofs.Sorting.{sorted_places}
 use Rattle.lw_extract.proofs.ordering.by_height.Goals as goal
 

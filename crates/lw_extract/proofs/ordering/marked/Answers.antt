@@ -1,5 +1,4 @@
-use Rattle.std.proofs.Common.{◌≡◌, ◌+◌, Some, None, length, subst, sym, refl, ap, ◌∙◌}
-use Rattle.lw_pool.specs.declared.id.ClassId.{ClassId}
+use Rattle.std.proofs.Common.{◌+◌, subst, sym, refl, ap, ◌∙◌}
 use Rattle.lw_extract.specs.declared.ordering.Place.{Place}
 use Rattle.lw_extract.proofs.Sorting.{AreMarkedBelow, marked_push, marked_skip, none_of, some_not_none}
 use Rattle.lw_extract.proofs.ordering.marked.Goals as goal
