@@ -1,3 +1,7 @@
+mod Descent
 mod FreeNames
-mod NamesHeld
 mod NamesGiven
+mod NamesHeld
+mod Noting
+mod Picking
+mod Sorting
