@@ -1,7 +1,6 @@
 -- The needed classes with their chosen matches, and how they are found from the highest down.
-use Rattle.std.specs.Prelude.{ℕ, ◌<◌, ◌≡◌, ◌⊎◌, ◌↔◌, Bool, true, false, List, reverse, Contains, length, map, Option, Some, None, slice_get, slice_index_or}
+use Rattle.std.specs.Prelude.{ℕ, ◌≡◌, ◌⊎◌, ◌↔◌, Bool, true, false, List, reverse, Contains, length, map, Option, Some, None, slice_get, slice_index_or}
 use Rattle.lw_pool.specs.declared.id.ClassId.{ClassId}
-use Rattle.lw_pool.specs.declared.id.NetId.{NetId}
 use Rattle.lw_laws.specs.Graphs.{Graph}
 use Rattle.lw_laws.specs.Costs.{Cost}
 use Rattle.lw_laws.specs.Covers.{Pattern}
@@ -48,9 +47,3 @@ pub record HasAlso (old : List Bool) (classes : List ClassId) (new : List Bool) 
 -- The classes with a gate from the last place down.
 pub record AreNeeds (g : Graph) (cost : Cost) (pats : List Pattern) (marks : List (Option Mark)) (roots : List ClassId) (places : List Place) (chosen : List Chosen) : Type 0 where
   pub chosen_up : AreChosen g cost pats marks roots (reverse chosen)
-
--- the classes differ, are in range, and have no net yet
-pub record AreDistinctGates (nets : List (Option NetId)) (chosen : List Chosen) : Type 0 where
-  pub once : (i j c : ℕ) → slice_get (chosen_classes chosen) i ≡ Some c → slice_get (chosen_classes chosen) j ≡ Some c → i ≡ j
-  pub in_range : (j c : ℕ) → slice_get (chosen_classes chosen) j ≡ Some c → c < length nets
-  pub no_net : (j c : ℕ) → slice_get (chosen_classes chosen) j ≡ Some c → slice_index_or nets c None ≡ None

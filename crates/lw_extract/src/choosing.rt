@@ -1,5 +1,5 @@
 // The classes that are needed, each with its chosen match.
-ghost use Rattle.std.specs.Prelude.{◌≡◌, ◌<◌, All, IfOk, length, Some, None, slice_index_or};
+ghost use Rattle.std.specs.Prelude.{◌≡◌, ◌<◌, All, IfOk, IsSome, length, Some, None, slice_index_or};
 ghost use Rattle.lw_laws.specs.Extracts.{IsLeafClass};
 
 ghost use Rattle.lw_match.specs.Least.{AreOfCells};
@@ -113,6 +113,7 @@ pub(crate) fn choose(
     requires of_cells { AreOfCells (time_cost lib.now).pin_counts pats.now }
     requires least { AreLeastMarks graph.now (time_cost lib.now) pats.now marks.now }
     requires roots { All (λ root. root.0 < length graph.now.pairs) roots.now }
+    requires covered { All (λ root. IsSome (slice_index_or marks.now root.0 None)) roots.now }
     requires nets { AreInputNets graph.now nets.now }
     ensures { IfOk result (λ chosen. AreChosen graph.now (time_cost lib.now) pats.now marks.now roots.now chosen.items) }
 {

@@ -1,4 +1,4 @@
-ghost use Rattle.std.specs.Prelude.{◌≡◌, ◌<◌, ◌^◌, ◌↔◌, ℕ, All, IfOk, Err, length, MatchOption};
+ghost use Rattle.std.specs.Prelude.{◌≡◌, ◌<◌, ◌^◌, ◌↔◌, ℕ, All, IfOk, IsSome, None, Err, length, slice_index_or, MatchOption};
 ghost use Rattle.lw_match.specs.Least.{AreOfCells};
 ghost use Rattle.lw_label.specs.Labels.{AreLeastMarks};
 ghost use Rattle.lw_label.specs.Delays.{time_cost};
@@ -26,7 +26,7 @@ use std::alloc::{AllocError, Global};
 fn first_uncovered(marks: &[Option<Mark>], roots: &[ClassId]) -> Option<u32>
     requires few { length roots.now < 2 ^ 32 }
     requires in_range { All (λ root. root.0 < length marks.now) roots.now }
-    ensures { MatchOption result ((k : ℕ) → IsFirstUncovered marks.now roots.now k → ⊥) (IsFirstUncovered marks.now roots.now) }
+    ensures { MatchOption result (All (λ root. IsSome (slice_index_or marks.now root.0 None)) roots.now) (IsFirstUncovered marks.now roots.now) }
 {
     for (k, root) in roots.iter().enumerate() {
         if marks[root.0 as usize].is_none() {
@@ -59,10 +59,11 @@ fn cover(
     requires of_cells { AreOfCells (time_cost lib.now).pin_counts pats.now }
     requires least { AreLeastMarks graph.now (time_cost lib.now) pats.now marks.now }
     requires fit { AreFit graph.now ports.now }
-    requires covered { (k : ℕ) → IsFirstUncovered marks.now ports.now.roots k → ⊥ }
+    requires covered { All (λ root. IsSome (slice_index_or marks.now root.0 None)) ports.now.roots }
     ensures cover { IfOk result (IsCoverOf graph.now (time_cost lib.now) pats.now marks.now ports.now) }
     ensures over { IfOk result (λ cover. IsOver lib.now cover.netlist) }
 {
+    let _ = lib.len();
     let inputs = graph.inputs();
     let mut nets = input_nets(alloc, graph)?;
     let chosen = choose(alloc, graph, pats, lib, marks, ports.roots.as_slice(), &nets)?;

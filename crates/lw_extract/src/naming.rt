@@ -1,5 +1,5 @@
 // The names of nets.
-ghost use Rattle.std.specs.Prelude.{◌≡◌, ◌<◌, ◌≤◌, All, IfOk, length};
+ghost use Rattle.std.specs.Prelude.{◌≡◌, ◌+◌, ◌^◌, ◌<◌, ◌≤◌, All, IfOk, length};
 ghost use Rattle.lw_laws.specs.Names.{net_names};
 ghost use Rattle.lw_match.specs.Values.{numbers};
 ghost use Rattle.lw_extract.specs.Choosing.{chosen_classes};
