@@ -1,6 +1,6 @@
 -- What the chosen matches give: classes in range with nets, and the netlist of the gates.
-use Rattle.std.proofs.Common.{ℕ, ◌+◌, ◌-◌, ◌^◌, ◌<◌, ◌≤◌, ◌≡◌, ◌⊎◌, inl, inr, Bool, true, false, List, ◌++◌, length, map, All, Contains, Option, Some, None, IsSome, is_some, slice_get, slice_index_or, refl, ap, sym, ◌∙◌, subst, arith, length-append}
-use Rattle.std.specs.List.{AllZip, AllByRecursion}
+use Rattle.std.proofs.Common.{ℕ, ◌+◌, ◌<◌, ◌≤◌, ◌≡◌, inl, inr, List, ◌++◌, length, map, All, Option, Some, None, IsSome, slice_get, slice_index_or, refl, ap, sym, ◌∙◌, subst, arith, length-append}
+use Rattle.std.specs.List.{AllZip}
 use Rattle.std.proofs.lemmas.List.{length-map}
 use Rattle.std.proofs.lemmas.List.Elements.{All-from_recursion}
 use Rattle.std.proofs.lemmas.Option.{slice_get_within}
@@ -25,17 +25,13 @@ use Rattle.lw_netlist.specs.Netlists.{NetlistParts, IsNetlist, IsGateAt}
 use Rattle.lw_netlist.specs.Plain.{net_number, plain_gate, plain, HasCell, IsOver}
 use Rattle.lw_extract.specs.declared.choosing.Chosen.{Chosen}
 use Rattle.lw_extract.specs.declared.ports.Ports.{Ports}
-use Rattle.lw_extract.specs.declared.ports.Cover.{Cover}
 use Rattle.lw_extract.specs.Nets.{Nets, net_in, AreClassNets}
 use Rattle.lw_extract.specs.Gates.{AreGatesOf, HaveNets}
 use Rattle.lw_extract.specs.Choosing.{labels, heights, chosen_classes, AreChosen}
 use Rattle.lw_extract.specs.Covers.{AreFit, IsCoverOf}
-use Rattle.lw_extract.proofs.ClassNets.{some_is}
+use Rattle.lw_extract.proofs.ClassNets.{some_is, not_none}
 use Rattle.lw_extract.proofs.NameCount.{name_count}
 use Rattle.lw_extract.proofs.Places.{slice_get_left, slice_get_right, all_places, all_at, place_map, from_map, place_beside, some_within, zip_read, zip_maps, zip_right, from_all_map, contains_at, few_distinct}
-
-not_none : {X : Type 0} (o : Option X) → o ≡ None → IsSome o → ⊥
-not_none o e h = let f = ap is_some e in cc
 
 not_before_itself : (heights : ℕ → ℕ) (c : ℕ) → IsGateBefore heights c c → ⊥
 not_before_itself heights c (inl lt) = omega arith

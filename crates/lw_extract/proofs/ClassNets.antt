@@ -1,8 +1,8 @@
 -- Nets of classes, which are written one after another.
-use Rattle.std.proofs.Common.{ℕ, zero, suc, ◌+◌, ◌<◌, ◌≤◌, ◌≡◌, ◌⊎◌, inl, inr, Bool, true, false, List, [], ◌∷◌, ◌++◌, length, Option, Some, None, IsSome, is_some, slice_get, slice_index_or, slice_set, replicate, refl, ap, sym, ◌∙◌, subst, arith, get_or-set_same, get_or-set_other}
-use Rattle.std.proofs.lemmas.List.{length-set, length-replicate}
+use Rattle.std.proofs.Common.{ℕ, ◌+◌, ◌<◌, ◌≤◌, ◌≡◌, ◌⊎◌, inl, inr, List, ◌++◌, length, Option, Some, None, IsSome, is_some, slice_get, slice_index_or, slice_set, refl, ap, sym, ◌∙◌, subst, arith, get_or-set_same, get_or-set_other}
+use Rattle.std.proofs.lemmas.List.{length-set}
 use Rattle.std.proofs.lemmas.Bool.{cases_eq}
-use Rattle.std.proofs.lemmas.Option.{same_Some, none-some, slice_get_within}
+use Rattle.std.proofs.lemmas.Option.{same_Some, slice_get_within}
 use Rattle.lw_pool.specs.declared.id.NetId.{NetId}
 use Rattle.lw_laws.specs.Graphs.{Graph}
 use Rattle.lw_laws.specs.Extracts.{IsLeafClass, IsNetOf}
@@ -17,6 +17,9 @@ some_is o x e = ap is_some e
 pub some_of : {X : Type 0} (o : Option X) → IsSome o → (x : X) × (o ≡ Some x)
 some_of None h = absurd (cc)
 some_of (Some x) h = (x, refl)
+
+pub not_none : {X : Type 0} (o : Option X) → o ≡ None → IsSome o → ⊥
+not_none o e h = let f = ap is_some e in cc
 
 abbrev net_at : Nets → ℕ → Option NetId
 net_at nets c = slice_index_or nets c None
@@ -45,45 +48,13 @@ pub record AreInputsUpTo (g : Graph) (count : ℕ) (nets : Nets) : Type 0 where
   pub some : (c : ℕ) (n : NetId) → slice_index_or nets c None ≡ Some n → slice_get g.leaves n.0 ≡ Some c
   pub given : (i c : ℕ) → i < count → slice_get g.leaves i ≡ Some c → IsSome (slice_index_or nets c None)
 
-no_net : (n c : ℕ) (m : NetId) → slice_index_or (replicate n None) c None ≡ Some m → ⊥
-no_net zero c m e = none-some m e
-no_net (suc n) zero m e = none-some m e
-no_net (suc n) (suc c) m e = no_net n c m e
-
 module _ (g : Graph) where
-  pub inputs_start : (nets : Nets) → nets ≡ replicate (length g.pairs) None → AreInputsUpTo g 0 nets
-  inputs_start nets e = subst (λ ns. AreInputsUpTo g 0 ns) (sym e) (record {
-    one_each = length-replicate (length g.pairs) None;
-    some = λ c n at. absurd (no_net (length g.pairs) c n at);
-    given = λ i c below at. absurd (omega arith);
-  })
-
-  pub inputs_more : (i c : ℕ) (nets : Nets) (n : NetId) → slice_get g.leaves i ≡ Some c → c < length nets → n.0 ≡ i → AreInputsUpTo g i nets → AreInputsUpTo g (i + 1) (slice_set nets c (Some n))
-  inputs_more i c nets n leaf inside number are = record {
-    one_each = length-set nets c (Some n) ∙ are.one_each;
-    some = λ b m e. some_at b m (written_or nets c b m n inside e);
-    given = λ j b below at. given_at j b below at (cases_eq j i);
-  }
-    where
-      some_at : (b : ℕ) (m : NetId) → ((b ≡ c) × (m ≡ n)) ⊎ (net_at nets b ≡ Some m) → slice_get g.leaves m.0 ≡ Some b
-      some_at b m (inl (same, is)) = ap (λ (k : NetId). slice_get g.leaves k.0) is ∙ (ap (λ k. slice_get g.leaves k) number ∙ (leaf ∙ ap (λ k. Some k) (sym same)))
-      some_at b m (inr old) = are.some b m old
-
-      given_at : (j b : ℕ) → j < i + 1 → slice_get g.leaves j ≡ Some b → (j ≡ i) ⊎ (j ≡ i → ⊥) → IsSome (net_at (slice_set nets c (Some n)) b)
-      given_at j b below at (inl same) =
-          let class : b ≡ c = same_Some b c (sym at ∙ (ap (λ k. slice_get g.leaves k) same ∙ leaf)) in
-          some_is (net_at (slice_set nets c (Some n)) b) n (ap (λ k. net_at (slice_set nets c (Some n)) k) class ∙ get_or-set_same nets c (Some n) None inside)
-      given_at j b below at (inr other) = still_some nets c b n inside (are.given j b (omega arith) at)
-
   pub inputs_end : (count : ℕ) (nets : Nets) → length g.leaves ≤ count → AreInputsUpTo g count nets → AreInputNets g nets
   inputs_end count nets all are = record {
     one_each = are.one_each;
     some = are.some;
-    none = λ c none (i, at). let inside = slice_get_within g.leaves i c at in let here = are.given i c (omega arith) at in is_none c none here;
+    none = λ c none (i, at). let inside = slice_get_within g.leaves i c at in let here = are.given i c (omega arith) at in not_none (net_at nets c) none here;
   }
-    where
-      is_none : (c : ℕ) → net_at nets c ≡ None → IsSome (net_at nets c) → ⊥
-      is_none c none here = let (n, e) = some_of (net_at nets c) here in none-some n (sym none ∙ e)
 
 -- The first gates have given their classes their nets, over those of the inputs.
 pub record AreGatesUpTo (old : Nets) (inputs : ℕ) (classes : List ℕ) (count : ℕ) (nets : Nets) : Type 0 where
@@ -93,14 +64,6 @@ pub record AreGatesUpTo (old : Nets) (inputs : ℕ) (classes : List ℕ) (count 
   pub given : (j c : ℕ) → j < count → slice_get classes j ≡ Some c → IsSome (slice_index_or nets c None)
 
 module _ (old : Nets) (inputs : ℕ) (classes : List ℕ) where
-  pub gates_start : AreGatesUpTo old inputs classes 0 old
-  gates_start = record {
-    one_each = refl;
-    some = λ c n at. inl at;
-    kept = λ c h. h;
-    given = λ j c below at. absurd (omega arith);
-  }
-
   pub gates_more : (j c : ℕ) (nets : Nets) (n : NetId) → slice_get classes j ≡ Some c → c < length nets → n.0 ≡ inputs + j → AreGatesUpTo old inputs classes j nets → AreGatesUpTo old inputs classes (j + 1) (slice_set nets c (Some n))
   gates_more j c nets n here inside number are = record {
     one_each = length-set nets c (Some n) ∙ are.one_each;

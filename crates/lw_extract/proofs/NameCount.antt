@@ -1,5 +1,5 @@
 -- How many names there are.
-use Rattle.std.proofs.Common.{ℕ, suc, ◌+◌, ◌≡◌, List, [], ◌∷◌, ◌++◌, length, Option, Some, None, drop, slice_index_or, refl, ap, ◌∙◌, arith, length-append}
+use Rattle.std.proofs.Common.{ℕ, ◌+◌, ◌≡◌, List, [], ◌∷◌, ◌++◌, length, Option, Some, None, drop, slice_index_or, refl, ap, ◌∙◌, arith, length-append}
 use Rattle.lw_laws.specs.Names.{free_names, output_name, gate_names, net_names}
 
 abbrev Name : Type 0

@@ -1,5 +1,5 @@
 -- Elements of lists by place.
-use Rattle.std.proofs.Common.{ℕ, zero, suc, ◌+◌, ◌<◌, ◌≤◌, ◌≡◌, Bool, true, false, eqb, eqb-true, List, [], ◌∷◌, ◌++◌, length, map, take, All, Contains, ◌⊎◌, inl, inr, Option, Some, None, slice_get, slice_index_or, get_or, refl, ap, ap₂, sym, ◌∙◌, subst, arith, zero-add, suc-add}
+use Rattle.std.proofs.Common.{ℕ, zero, suc, ◌+◌, ◌<◌, ◌≤◌, ◌≡◌, true, false, eqb, eqb-true, List, [], ◌∷◌, ◌++◌, length, map, take, All, Contains, ◌⊎◌, inl, inr, Option, Some, None, slice_get, slice_index_or, get_or, refl, ap, ap₂, sym, ◌∙◌, subst, arith, zero-add, suc-add}
 use Rattle.std.specs.List.{AllZip, AllByRecursion, list_any}
 use Rattle.std.proofs.lemmas.List.{map-append, take_more}
 use Rattle.std.proofs.lemmas.Option.{same_Some, none-some, slice_get_within, slice_get-get_or, get_or_from_slice_get}
@@ -97,6 +97,10 @@ readings_more f h xs k x ys y inside at here before =
     map-append h ys (y ∷ [])
     ∙ (ap₂ (λ zs z. zs ++ z ∷ []) before (sym here ∙ ap f at)
     ∙ (sym (map-append f (take k xs) (get_or xs k x ∷ [])) ∙ ap (map f) (sym (take_more xs k x inside))))
+
+pub names_more : {X Y : Type 0} (h : Y → X) (xs : List X) (k : ℕ) (x : X) (ys : List Y) (y : Y) → k < length xs → x ≡ get_or xs k x → h y ≡ x → map h ys ≡ take k xs → map h (ys ++ y ∷ []) ≡ take (k + 1) xs
+names_more h xs k x ys y inside at here before =
+    map-append h ys (y ∷ []) ∙ (ap₂ (λ zs z. zs ++ z ∷ []) before (here ∙ at) ∙ sym (take_more xs k x inside))
 
 -- numbers below n that differ are at most n
 pub few_distinct : (xs : List ℕ) (n : ℕ) → ((i j c : ℕ) → slice_get xs i ≡ Some c → slice_get xs j ≡ Some c → i < j → ⊥) → ((i c : ℕ) → slice_get xs i ≡ Some c → c < n) → length xs ≤ n

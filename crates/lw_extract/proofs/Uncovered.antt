@@ -1,12 +1,15 @@
 -- The first root without a mark.
-use Rattle.std.proofs.Common.{ℕ, ◌+◌, ◌<◌, ◌≤◌, ◌≡◌, ◌⊎◌, inl, inr, Bool, true, false, List, length, All, Option, Some, None, IsSome, is_some, slice_get, slice_index_or, get_or, refl, ap, sym, ◌∙◌, subst, arith}
+use Rattle.std.proofs.Common.{ℕ, ◌+◌, ◌<◌, ◌≤◌, ◌≡◌, ◌⊎◌, inl, inr, false, List, length, All, Option, Some, None, IsSome, is_some, Result, Ok, Err, ◌↔◌, slice_get, slice_index_or, get_or, refl, ap, sym, ◌∙◌, subst, arith}
 use Rattle.std.proofs.lemmas.Bool.{cases_eq}
 use Rattle.std.proofs.lemmas.Option.{same_Some, none-some, slice_get-get_or}
 use Rattle.lw_pool.specs.declared.id.ClassId.{ClassId}
 use Rattle.lw_match.specs.declared.mark.Mark.{Mark}
+use Rattle.lw_extract.specs.declared.ports.Cover.{Cover}
+use Rattle.lw_extract.specs.declared.fault.ExtractFault.{ExtractFault}
+use Rattle.lw_extract.specs.declared.fault.ExtractFault.TheVariants.{NoCover}
 use Rattle.lw_extract.specs.Covers.{IsFirstUncovered}
 use Rattle.lw_extract.proofs.ClassNets.{some_is, some_of}
-use Rattle.lw_extract.proofs.Places.{all_at, all_places}
+use Rattle.lw_extract.proofs.Places.{all_at}
 
 none_of : {X : Type 0} (o : Option X) → is_some o ≡ false → o ≡ None
 none_of None h = refl
@@ -39,18 +42,14 @@ module _ (marks : List (Option Mark)) (roots : List ClassId) where
     first = before;
   }
 
-  -- there is no such root where all have marks, and one at most
+  -- there is no such root where all have marks
   pub none_uncovered : (k : ℕ) → All (λ root. IsSome (slice_index_or marks root.0 None)) roots → IsFirstUncovered marks roots k → ⊥
   none_uncovered k all is =
       let here = all_at (λ (root : ClassId). IsSome (slice_index_or marks root.0 None)) roots k is.root all is.at in
       let (m, e) = some_of (slice_index_or marks is.root.0 None) here in
       none-some m (sym is.uncovered ∙ e)
 
-  not_before : (j k : ℕ) → IsFirstUncovered marks roots j → IsFirstUncovered marks roots k → j < k → ⊥
-  not_before j k a b lt = let (m, e) = b.first j a.root lt a.at in none-some m (sym a.uncovered ∙ e)
-
-  pub uncovered_once : (j k : ℕ) → IsFirstUncovered marks roots j → IsFirstUncovered marks roots k → j ≡ k
-  uncovered_once j k a b =
-      let left : j < k → ⊥ = not_before j k a b in
-      let right : k < j → ⊥ = not_before k j b a in
-      omega arith
+-- a result with a cover tells of no root, where all roots have marks
+module _ (marks : List (Option Mark)) (roots : List ClassId) (all : All (λ root. IsSome (slice_index_or marks root.0 None)) roots) where
+  pub covered_ok : (cover : Cover) (k : ℕ) → ◌≡◌ {A = Result Cover ExtractFault} (Ok cover) (Err (NoCover k)) ↔ IsFirstUncovered marks roots k
+  covered_ok cover k = (λ e. cc, λ is. absurd (none_uncovered marks roots k all is))

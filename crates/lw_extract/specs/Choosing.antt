@@ -1,5 +1,5 @@
 -- The needed classes with their chosen matches, and how they are found from the highest down.
-use Rattle.std.specs.Prelude.{ℕ, ◌≡◌, ◌⊎◌, ◌↔◌, Bool, true, false, List, reverse, Contains, length, map, Option, Some, None, slice_get, slice_index_or}
+use Rattle.std.specs.Prelude.{ℕ, ◌≡◌, ◌⊎◌, ◌↔◌, Bool, true, false, List, reverse, Contains, length, map, Option, Some, slice_get, slice_index_or}
 use Rattle.lw_pool.specs.declared.id.ClassId.{ClassId}
 use Rattle.lw_laws.specs.Graphs.{Graph}
 use Rattle.lw_laws.specs.Costs.{Cost}
@@ -7,7 +7,7 @@ use Rattle.lw_laws.specs.Covers.{Pattern}
 use Rattle.lw_laws.specs.Choices.{Labels}
 use Rattle.lw_laws.specs.Marks.{heights_of}
 use Rattle.lw_laws.specs.Rounds.{labels_in}
-use Rattle.lw_laws.specs.Extracts.{IsChosen, IsNeeded, AreGateClasses}
+use Rattle.lw_laws.specs.Extracts.{IsChosen, AreGateClasses}
 use Rattle.lw_match.specs.declared.mark.Mark.{Mark}
 use Rattle.lw_match.specs.declared.mark.Match.{Match}
 use Rattle.lw_match.specs.Values.{marks_in, numbers, plain_match}

@@ -12,7 +12,7 @@ loop-j-preserved c =
     let x = c.index-chosen-j.result in
     let at = slice_get_read chosen (length chosen) j x refl c.loop-j-test.true c.index-chosen-j.is in
     let more = gates_one_more c.args.pats.now c.args.nets.now c.args.inputs chosen j x c.in_ok-gate_of.field-0 c.loop-j.gates.items at c.in_ok-gate_of.ensures c.loop-j.invariant in
-    subst (λ (gs : List Gate). AreFirstGates c.args.pats.now c.args.nets.now c.args.inputs chosen (j + 1) gs) (sym c.in_ok-push.ensures.items) more
+    subst (λ (gs : List Gate). AreFirstGates c.args.pats.now c.args.nets.now c.args.inputs chosen (j + 1) gs) (sym {A = List Gate} c.in_ok-push.ensures.items) more
 
 pub returns : goal.returns
 returns c =
