@@ -5,3 +5,9 @@ mod NamesHeld
 mod Noting
 mod Picking
 mod Sorting
+mod Assembly
+mod ClassNets
+mod GateLists
+mod NameCount
+mod Places
+mod Uncovered

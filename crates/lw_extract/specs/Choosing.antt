@@ -1,7 +1,6 @@
 -- The needed classes with their chosen matches, and how they are found from the highest down.
-use Rattle.std.specs.Prelude.{ℕ, ◌<◌, ◌≡◌, ◌⊎◌, ◌↔◌, Bool, true, false, List, Contains, length, map, Option, Some, None, slice_get, slice_index_or}
+use Rattle.std.specs.Prelude.{ℕ, ◌≡◌, ◌⊎◌, ◌↔◌, Bool, true, false, List, Contains, length, map, Option, Some, slice_get, slice_index_or}
 use Rattle.lw_pool.specs.declared.id.ClassId.{ClassId}
-use Rattle.lw_pool.specs.declared.id.NetId.{NetId}
 use Rattle.lw_laws.specs.Graphs.{Graph}
 use Rattle.lw_laws.specs.Costs.{Cost}
 use Rattle.lw_laws.specs.Covers.{Pattern}
@@ -43,9 +42,3 @@ pub record AreRoots (roots : List ClassId) (classes : ℕ) (needed : List Bool) 
 pub record HasAlso (old : List Bool) (classes : List ClassId) (new : List Bool) : Type 0 where
   pub one_each : length new ≡ length old
   pub are : (c : ℕ) → slice_index_or new c false ≡ true ↔ ((slice_index_or old c false ≡ true) ⊎ Contains (numbers classes) c)
-
--- the classes differ, are in range, and have no net yet
-pub record AreDistinctGates (nets : List (Option NetId)) (chosen : List Chosen) : Type 0 where
-  pub once : (i j c : ℕ) → slice_get (chosen_classes chosen) i ≡ Some c → slice_get (chosen_classes chosen) j ≡ Some c → i ≡ j
-  pub in_range : (j c : ℕ) → slice_get (chosen_classes chosen) j ≡ Some c → c < length nets
-  pub no_net : (j c : ℕ) → slice_get (chosen_classes chosen) j ≡ Some c → slice_index_or nets c None ≡ None

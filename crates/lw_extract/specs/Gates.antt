@@ -7,10 +7,10 @@ use Rattle.lw_extract.specs.declared.choosing.Chosen.{Chosen}
 use Rattle.lw_extract.specs.Nets.{Nets, net_in}
 
 -- the gate of a match: its pattern's cell, the nets of its pins, and the next net
-pub record IsGateOf (pats : List Pattern) (nets : Nets) (out : ℕ) (x : Chosen) (gate : Gate) : Type 0 where
+pub record IsGateOf (pats : List Pattern) (nets : Nets) (net : ℕ) (x : Chosen) (gate : Gate) : Type 0 where
   pub cell : (p : Pattern) → slice_get pats x.found.pat.0 ≡ Some p → gate.cell.0 ≡ p.cell
   pub pins : map Some gate.pins ≡ map (net_in nets) x.found.pins
-  pub out : gate.out.0 ≡ out
+  pub out : gate.out.0 ≡ net
 
 -- a gate for each match, in order
 pub record AreGatesOf (pats : List Pattern) (nets : Nets) (inputs : ℕ) (chosen : List Chosen) (gates : List Gate) : Type 0 where

@@ -1,11 +1,12 @@
-ghost use Rattle.std.specs.Prelude.{◌≡◌, ◌<◌, ◌^◌, ◌↔◌, ℕ, All, IfOk, Err, length, MatchOption};
+ghost use Rattle.std.specs.Prelude.{◌≡◌, ◌<◌, ◌^◌, ◌↔◌, ℕ, All, IfOk, IsSome, None, Err, length, slice_index_or, MatchOption};
 ghost use Rattle.lw_match.specs.Least.{AreOfCells};
 ghost use Rattle.lw_label.specs.Labels.{AreLeastMarks};
 ghost use Rattle.lw_label.specs.Delays.{time_cost};
 ghost use Rattle.lw_netlist.specs.Plain.{IsOver};
 ghost use Rattle.lw_extract.specs.declared.fault.ExtractFault.TheVariants.{NoCover};
 ghost use Rattle.lw_match.specs.Values.{numbers};
-ghost use Rattle.lw_extract.specs.Choosing.{chosen_classes};
+ghost use Rattle.lw_extract.specs.Choosing.{AreChosen, chosen_classes};
+ghost use Rattle.lw_extract.specs.Nets.{AreClassNets};
 ghost use Rattle.lw_extract.specs.Covers.{AreFit, IsFirstUncovered, IsCoverOf};
 
 use crate::choosing::{Chosen, choose};
@@ -19,14 +20,14 @@ use lw_label::Labels;
 use lw_match::Mark;
 use lw_netlist::Netlist;
 use lw_pattern::Patterns;
-use lw_pool::{ClassId, Classes, Name};
+use lw_pool::{ClassId, Classes, Name, NetId};
 use std::alloc::{AllocError, Global};
 
 // The first of the roots that has no mark.
 fn first_uncovered(marks: &[Option<Mark>], roots: &[ClassId]) -> Option<u32>
     requires few { length roots.now < 2 ^ 32 }
     requires in_range { All (λ root. root.0 < length marks.now) roots.now }
-    ensures { MatchOption result ((k : ℕ) → IsFirstUncovered marks.now roots.now k → ⊥) (IsFirstUncovered marks.now roots.now) }
+    ensures { MatchOption result (All (λ root. IsSome (slice_index_or marks.now root.0 None)) roots.now) (IsFirstUncovered marks.now roots.now) }
 {
     for (k, root) in roots.iter().enumerate() {
         if marks[root.0 as usize].is_none() {
@@ -47,6 +48,34 @@ fn classes_of(alloc: Global, chosen: &[Chosen]) -> Result<Classes, AllocError>
     Ok(Classes::from_vec(classes))
 }
 
+// The netlist of these matches, over the nets of their classes and of the inputs'.
+fn assemble(
+    alloc: Global,
+    graph: &Graph,
+    pats: &Patterns,
+    lib: &Library,
+    ports: &Ports,
+    nets: &[Option<NetId>],
+    chosen: &[Chosen],
+) -> Result<Cover, AllocError>
+    requires fit { AreFit graph.now ports.now }
+    requires chosen { (marks : _) × (length marks ≡ length graph.now.pairs) × AreChosen graph.now (time_cost lib.now) pats.now marks ports.now.roots chosen.now }
+    requires nets { AreClassNets graph.now (chosen_classes chosen.now) nets.now }
+    ensures cover { (marks : _) → AreChosen graph.now (time_cost lib.now) pats.now marks ports.now.roots chosen.now → IfOk result (IsCoverOf graph.now (time_cost lib.now) pats.now marks ports.now) }
+    ensures over { IfOk result (λ cover. IsOver lib.now cover.netlist) }
+{
+    let _ = lib.len();
+    let inputs = graph.inputs();
+    let gates = gates_of(alloc, pats, nets, inputs, chosen)?;
+    let outputs = outputs_of(alloc, nets, ports)?;
+    let names = names_of(alloc, graph.classes() as usize, ports, chosen)?;
+    let model = Name::from_slice(alloc, ports.model.as_bytes())?;
+    Ok(Cover {
+        netlist: Netlist::new(model, names, inputs, gates, outputs),
+        classes: classes_of(alloc, chosen)?,
+    })
+}
+
 // The netlist of the chosen matches.
 fn cover(
     alloc: Global,
@@ -59,22 +88,22 @@ fn cover(
     requires of_cells { AreOfCells (time_cost lib.now).pin_counts pats.now }
     requires least { AreLeastMarks graph.now (time_cost lib.now) pats.now marks.now }
     requires fit { AreFit graph.now ports.now }
-    requires covered { (k : ℕ) → IsFirstUncovered marks.now ports.now.roots k → ⊥ }
+    requires covered { All (λ root. IsSome (slice_index_or marks.now root.0 None)) ports.now.roots }
     ensures cover { IfOk result (IsCoverOf graph.now (time_cost lib.now) pats.now marks.now ports.now) }
     ensures over { IfOk result (λ cover. IsOver lib.now cover.netlist) }
 {
-    let inputs = graph.inputs();
     let mut nets = input_nets(alloc, graph)?;
-    let chosen = choose(alloc, graph, pats, lib, marks, ports.roots.as_slice(), &nets)?;
-    add_gates(&mut nets, inputs, &chosen);
-    let gates = gates_of(alloc, pats, &nets, inputs, &chosen)?;
-    let outputs = outputs_of(alloc, &nets, ports)?;
-    let names = names_of(alloc, graph.classes() as usize, ports, &chosen)?;
-    let model = Name::from_slice(alloc, ports.model.as_bytes())?;
-    Ok(Cover {
-        netlist: Netlist::new(model, names, inputs, gates, outputs),
-        classes: classes_of(alloc, &chosen)?,
-    })
+    let chosen = choose(
+        alloc,
+        graph,
+        pats,
+        lib,
+        marks,
+        ports.roots.as_slice(),
+        &nets,
+    )?;
+    add_gates(&mut nets, graph.inputs(), &chosen);
+    assemble(alloc, graph, pats, lib, ports, &nets, &chosen)
 }
 
 /// The netlist that the labels of a graph's classes give to some outputs: a gate for each class that is needed, the chosen match of

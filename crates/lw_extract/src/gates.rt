@@ -12,11 +12,7 @@ use lw_pool::{ClassId, Name, NetId, Nets};
 use std::alloc::{AllocError, Global};
 
 // The nets of some classes.
-fn nets_of(
-    alloc: Global,
-    nets: &[Option<NetId>],
-    classes: &[ClassId],
-) -> Result<Nets, AllocError>
+fn nets_of(alloc: Global, nets: &[Option<NetId>], classes: &[ClassId]) -> Result<Nets, AllocError>
     requires { HaveNets nets.now classes.now }
     ensures { IfOk result (λ found. map Some found ≡ map (net_in nets.now) classes.now) }
 {

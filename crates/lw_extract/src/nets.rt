@@ -1,6 +1,6 @@
 // The nets of classes.
-ghost use Rattle.std.specs.Prelude.{◌≡◌, ◌≤◌, ◌+◌, ◌<◌, ◌^◌, IfOk, length};
-ghost use Rattle.lw_extract.specs.Choosing.{AreDistinctGates, chosen_classes};
+ghost use Rattle.std.specs.Prelude.{◌≡◌, ◌≤◌, ◌+◌, ◌<◌, ◌^◌, All, IfOk, length};
+ghost use Rattle.lw_extract.specs.Choosing.{chosen_classes};
 ghost use Rattle.lw_extract.specs.Nets.{AreInputNets, AreClassNets};
 
 use crate::choosing::Chosen;
@@ -22,7 +22,7 @@ pub(crate) fn input_nets(alloc: Global, graph: &Graph) -> Result<Vec<Option<NetI
 // Adds the nets of the classes that have a gate.
 pub(crate) fn add_gates(nets: &mut [Option<NetId>], inputs: u32, chosen: &[Chosen])
     requires few { inputs + length chosen.now < 2 ^ 32 }
-    requires gates { AreDistinctGates nets.old chosen.now }
+    requires in_range { All (λ x. x.class.0 < length nets.old) chosen.now }
     ensures { (g : _) → length g.leaves ≡ inputs → AreInputNets g nets.old → AreClassNets g (chosen_classes chosen.now) nets.new }
 {
     for (j, gate) in chosen.iter().enumerate() {

@@ -1,0 +1,120 @@
+-- Elements of lists by place.
+use Rattle.std.proofs.Common.{ℕ, zero, suc, ◌+◌, ◌<◌, ◌≤◌, ◌≡◌, true, false, eqb, eqb-true, List, [], ◌∷◌, ◌++◌, length, map, take, All, Contains, ◌⊎◌, inl, inr, Option, Some, None, slice_get, slice_index_or, get_or, refl, ap, ap₂, sym, ◌∙◌, subst, arith, zero-add, suc-add}
+use Rattle.std.specs.List.{AllZip, AllByRecursion, list_any}
+use Rattle.std.proofs.lemmas.List.{map-append, take_more}
+use Rattle.std.proofs.lemmas.Option.{same_Some, none-some, slice_get_within, slice_get-get_or, get_or_from_slice_get}
+use Rattle.std.proofs.lemmas.List.Folds.{Any-from_list_any}
+use Rattle.std.proofs.lemmas.Map.Keys.{IsDistinct-from_apart}
+use Rattle.std.proofs.lemmas.Map.Steps.{length-le_from_distinct_below}
+use Rattle.std.proofs.lemmas.Bool.{ne_eqb}
+
+-- a place of a list in a longer one
+pub slice_get_left : {X : Type 0} (xs ys : List X) (k : ℕ) (x : X) → slice_get xs k ≡ Some x → slice_get (xs ++ ys) k ≡ Some x
+slice_get_left [] ys k x e = absurd (none-some x e)
+slice_get_left (z ∷ xs) ys zero x e = e
+slice_get_left (z ∷ xs) ys (suc k) x e = slice_get_left xs ys k x e
+
+pub slice_get_right : {X : Type 0} (xs ys : List X) (k : ℕ) (x : X) → slice_get ys k ≡ Some x → slice_get (xs ++ ys) (length xs + k) ≡ Some x
+slice_get_right [] ys k x e = rw zero-add e
+slice_get_right (z ∷ xs) ys k x e = rw suc-add (slice_get_right xs ys k x e)
+
+-- what holds at each place
+pub all_places : {X : Type 0} (P : X → Type 0) (xs : List X) → ((k : ℕ) (x : X) → slice_get xs k ≡ Some x → P x) → All P xs
+all_places P xs h = λ k d inside. h k (get_or xs k d) (slice_get-get_or xs k d inside)
+
+pub all_at : {X : Type 0} (P : X → Type 0) (xs : List X) (k : ℕ) (x : X) → All P xs → slice_get xs k ≡ Some x → P x
+all_at P xs k x h e =
+    let inside = slice_get_within xs k x e in
+    subst P (same_Some (get_or xs k x) x (sym (slice_get-get_or xs k x inside) ∙ e)) (h k x inside)
+
+-- the places of a map
+pub place_map : {X Y : Type 0} (f : X → Y) (xs : List X) (k : ℕ) (x : X) → slice_get xs k ≡ Some x → slice_get (map f xs) k ≡ Some (f x)
+place_map f [] k x e = absurd (none-some x e)
+place_map f (z ∷ xs) zero x e = ap (λ y. Some (f y)) (same_Some z x e)
+place_map f (z ∷ xs) (suc k) x e = place_map f xs k x e
+
+pub from_map : {X Y : Type 0} (f : X → Y) (xs : List X) (k : ℕ) (y : Y) → slice_get (map f xs) k ≡ Some y → (x : X) × (slice_get xs k ≡ Some x) × (f x ≡ y)
+from_map f [] k y e = absurd (none-some y e)
+from_map f (z ∷ xs) zero y e = (z, refl, same_Some (f z) y e)
+from_map f (z ∷ xs) (suc k) y e = from_map f xs k y e
+
+-- a list of the same length has something at the place
+pub place_beside : {X Y : Type 0} (xs : List X) (ys : List Y) (k : ℕ) (x : X) → length xs ≡ length ys → slice_get xs k ≡ Some x → (y : Y) × (slice_get ys k ≡ Some y)
+place_beside [] ys k x same e = absurd (none-some x e)
+place_beside (z ∷ xs) [] k x same e = absurd (omega arith)
+place_beside (z ∷ xs) (y ∷ ys) zero x same e = (y, refl)
+place_beside (z ∷ xs) (y ∷ ys) (suc k) x same e = place_beside xs ys k x (omega arith) e
+
+-- the first place where there is something is in the list
+pub some_within : {X : Type 0} (xs : List (Option X)) (k : ℕ) (x : X) → slice_index_or xs k None ≡ Some x → k < length xs
+some_within [] k x e = absurd (none-some x e)
+some_within (z ∷ xs) zero x e = omega arith
+some_within (z ∷ xs) (suc k) x e = let ih = some_within xs k x e in omega arith
+
+-- lists of the same readings
+pub zip_read : {X Y Z : Type 0} (R : X → Y → Type 0) (f : X → Z) (h : Y → Z) (xs : List X) (ys : List Y) → map h ys ≡ map f xs → ((x : X) (y : Y) → f x ≡ h y → R x y) → AllZip R xs ys
+zip_read R f h [] [] e from = tt
+zip_read R f h [] (y ∷ ys) e from = absurd (cc)
+zip_read R f h (x ∷ xs) [] e from = absurd (cc)
+zip_read R f h (x ∷ xs) (y ∷ ys) e from =
+    let first : f x ≡ h y = cc in
+    let rest : map h ys ≡ map f xs = cc in
+    (from x y first, zip_read R f h xs ys rest from)
+
+pub zip_maps : {X Y V W : Type 0} (R : V → W → Type 0) (f : X → V) (h : Y → W) (xs : List X) (ys : List Y) → AllZip (λ x y. R (f x) (h y)) xs ys → AllZip R (map f xs) (map h ys)
+zip_maps R f h [] [] a = tt
+zip_maps R f h [] (y ∷ ys) a = absurd a
+zip_maps R f h (x ∷ xs) [] a = absurd a
+zip_maps R f h (x ∷ xs) (y ∷ ys) (r, a) = (r, zip_maps R f h xs ys a)
+
+pub zip_right : {X Y : Type 0} (R : X → Y → Type 0) (Q : Y → Type 0) (xs : List X) (ys : List Y) → ((x : X) (y : Y) → R x y → Q y) → AllZip R xs ys → AllByRecursion Q ys
+zip_right R Q [] [] from a = tt
+zip_right R Q [] (y ∷ ys) from a = absurd a
+zip_right R Q (x ∷ xs) [] from a = absurd a
+zip_right R Q (x ∷ xs) (y ∷ ys) from (r, a) = (from x y r, zip_right R Q xs ys from a)
+
+pub from_all_map : {X Y : Type 0} (P : Y → Type 0) (f : X → Y) (xs : List X) → AllByRecursion P (map f xs) → AllByRecursion (λ x. P (f x)) xs
+from_all_map P f [] a = tt
+from_all_map P f (x ∷ xs) (p, a) = (p, from_all_map P f xs a)
+
+pub contains_at : {X : Type 0} (xs : List X) (k : ℕ) (x : X) → slice_get xs k ≡ Some x → Contains xs x
+contains_at xs k x e = (k, slice_get_within xs k x e, get_or_from_slice_get xs k x x e)
+
+-- the last place of a list, and those before it
+pub push_cases : {X : Type 0} (xs : List X) (z : X) (k : ℕ) (x : X) → slice_get (xs ++ z ∷ []) k ≡ Some x → (slice_get xs k ≡ Some x) ⊎ ((k ≡ length xs) × (z ≡ x))
+push_cases [] z zero x e = inr (refl, same_Some z x e)
+push_cases [] z (suc k) x e = absurd (none-some x e)
+push_cases (y ∷ xs) z zero x e = inl e
+push_cases (y ∷ xs) z (suc k) x e = up (push_cases xs z k x e)
+  where
+    up : (slice_get xs k ≡ Some x) ⊎ ((k ≡ length xs) × (z ≡ x)) → (slice_get xs k ≡ Some x) ⊎ ((suc k ≡ length (y ∷ xs)) × (z ≡ x))
+    up (inl f) = inl f
+    up (inr (s, f)) = inr (omega arith, f)
+
+-- readings of the first elements, and one more
+pub readings_more : {X Y Z : Type 0} (f : X → Z) (h : Y → Z) (xs : List X) (k : ℕ) (x : X) (ys : List Y) (y : Y) → k < length xs → x ≡ get_or xs k x → f x ≡ h y → map h ys ≡ map f (take k xs) → map h (ys ++ y ∷ []) ≡ map f (take (k + 1) xs)
+readings_more f h xs k x ys y inside at here before =
+    map-append h ys (y ∷ [])
+    ∙ (ap₂ (λ zs z. zs ++ z ∷ []) before (sym here ∙ ap f at)
+    ∙ (sym (map-append f (take k xs) (get_or xs k x ∷ [])) ∙ ap (map f) (sym (take_more xs k x inside))))
+
+pub names_more : {X Y : Type 0} (h : Y → X) (xs : List X) (k : ℕ) (x : X) (ys : List Y) (y : Y) → k < length xs → x ≡ get_or xs k x → h y ≡ x → map h ys ≡ take k xs → map h (ys ++ y ∷ []) ≡ take (k + 1) xs
+names_more h xs k x ys y inside at here before =
+    map-append h ys (y ∷ []) ∙ (ap₂ (λ zs z. zs ++ z ∷ []) before (here ∙ at) ∙ sym (take_more xs k x inside))
+
+-- numbers below n that differ are at most n
+pub few_distinct : (xs : List ℕ) (n : ℕ) → ((i j c : ℕ) → slice_get xs i ≡ Some c → slice_get xs j ≡ Some c → i < j → ⊥) → ((i c : ℕ) → slice_get xs i ≡ Some c → c < n) → length xs ≤ n
+few_distinct xs n apart below =
+    length-le_from_distinct_below xs n (IsDistinct-from_apart eqb xs differ) within
+  where
+    differ : (i j d : ℕ) → i < j → j < length xs → eqb (get_or xs i d) (get_or xs j d) ≡ false
+    differ i j d lt inside =
+        let a = slice_get-get_or xs i d (omega arith) in
+        let b = slice_get-get_or xs j d inside in
+        ne_eqb (get_or xs i d) (get_or xs j d) (λ same. apart i j (get_or xs j d) (a ∙ ap (λ n. Some n) same) b lt)
+
+    within : (q : ℕ) → list_any (eqb q) xs ≡ true → q < n
+    within q e =
+        let (k, x, inside, is, same) = Any-from_list_any (eqb q) xs e in
+        let at : slice_get xs k ≡ Some q = slice_get-get_or xs k x inside ∙ ap (λ n. Some n) (is ∙ sym (eqb-true q x same)) in
+        below k q at

@@ -1,0 +1,19 @@
+use Rattle.std.proofs.Common.{◌≡◌, ◌<◌, ◌∙◌, ℕ, All, length, ap, sym, subst, arith}
+use Rattle.std.proofs.lemmas.List.Elements.{All-same}
+use Rattle.lw_label.specs.Delays.{time_cost}
+use Rattle.lw_extract.specs.declared.choosing.Chosen.{Chosen}
+use Rattle.lw_extract.proofs.Assembly.{classes_within, few_chosen}
+use Rattle.lw_extract.proofs.extracting.cover.Goals as goal
+
+pub add_gates-requires-clause-few : goal.add_gates-requires-clause-few
+add_gates-requires-clause-few c =
+    let few = few_chosen c.args.graph.now (time_cost c.args.lib.now) c.args.pats.now c.args.marks.now c.as_slice.result.now c.in_ok-chosen.chosen.items c.in_ok-chosen.ensures c.requires.least.one_each in
+    let same = ap length c.deref-2.ensures.value in
+    omega (arith, few, same, c.requires.fit.few, c.requires.fit.few_inputs, c.inputs.ensures.inputs)
+
+pub add_gates-requires-clause-in_range : goal.add_gates-requires-clause-in_range
+add_gates-requires-clause-in_range c =
+    let within = classes_within c.args.graph.now (time_cost c.args.lib.now) c.args.pats.now c.args.marks.now c.as_slice.result.now c.in_ok-chosen.chosen.items c.in_ok-chosen.ensures c.requires.least.one_each in
+    let one_each : length c.deref_mut.result.now ≡ length c.args.graph.now.pairs = ap length c.deref_mut.ensures.value ∙ c.in_ok-nets.ensures.one_each in
+    All-same (λ (x : Chosen). x.class.0 < length c.deref_mut.result.now) c.deref-2.result.now c.in_ok-chosen.chosen.items c.deref-2.ensures.value
+    (subst (λ (n : ℕ). All (λ (x : Chosen). x.class.0 < n) c.in_ok-chosen.chosen.items) (sym one_each) within)
