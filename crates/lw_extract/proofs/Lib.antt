@@ -1,0 +1,7 @@
+mod Descent
+mod FreeNames
+mod NamesGiven
+mod NamesHeld
+mod Noting
+mod Picking
+mod Sorting

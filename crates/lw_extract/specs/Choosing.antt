@@ -1,5 +1,5 @@
 -- The needed classes with their chosen matches, and how they are found from the highest down.
-use Rattle.std.specs.Prelude.{ℕ, ◌<◌, ◌≡◌, ◌⊎◌, ◌↔◌, Bool, true, false, List, reverse, Contains, length, map, Option, Some, None, slice_get, slice_index_or}
+use Rattle.std.specs.Prelude.{ℕ, ◌<◌, ◌≡◌, ◌⊎◌, ◌↔◌, Bool, true, false, List, Contains, length, map, Option, Some, None, slice_get, slice_index_or}
 use Rattle.lw_pool.specs.declared.id.ClassId.{ClassId}
 use Rattle.lw_pool.specs.declared.id.NetId.{NetId}
 use Rattle.lw_laws.specs.Graphs.{Graph}
@@ -8,13 +8,12 @@ use Rattle.lw_laws.specs.Covers.{Pattern}
 use Rattle.lw_laws.specs.Choices.{Labels}
 use Rattle.lw_laws.specs.Marks.{heights_of}
 use Rattle.lw_laws.specs.Rounds.{labels_in}
-use Rattle.lw_laws.specs.Extracts.{IsChosen, IsNeeded, AreGateClasses}
+use Rattle.lw_laws.specs.Extracts.{IsChosen, AreGateClasses}
 use Rattle.lw_match.specs.declared.mark.Mark.{Mark}
 use Rattle.lw_match.specs.declared.mark.Match.{Match}
 use Rattle.lw_match.specs.Values.{marks_in, numbers, plain_match}
 use Rattle.lw_label.specs.Labels.{costs_of}
 use Rattle.lw_extract.specs.declared.choosing.Chosen.{Chosen}
-use Rattle.lw_extract.specs.declared.ordering.Place.{Place}
 
 -- the labels and the heights of marks
 abbrev pub labels : List (Option Mark) → Labels
@@ -44,10 +43,6 @@ pub record AreRoots (roots : List ClassId) (classes : ℕ) (needed : List Bool) 
 pub record HasAlso (old : List Bool) (classes : List ClassId) (new : List Bool) : Type 0 where
   pub one_each : length new ≡ length old
   pub are : (c : ℕ) → slice_index_or new c false ≡ true ↔ ((slice_index_or old c false ≡ true) ⊎ Contains (numbers classes) c)
-
--- The classes with a gate from the last place down.
-pub record AreNeeds (g : Graph) (cost : Cost) (pats : List Pattern) (marks : List (Option Mark)) (roots : List ClassId) (places : List Place) (chosen : List Chosen) : Type 0 where
-  pub chosen_up : AreChosen g cost pats marks roots (reverse chosen)
 
 -- the classes differ, are in range, and have no net yet
 pub record AreDistinctGates (nets : List (Option NetId)) (chosen : List Chosen) : Type 0 where

@@ -1,5 +1,6 @@
 pub mod Covers
 pub mod Orders
 pub mod Nets
+pub mod Naming
 pub mod Choosing
 pub mod Gates

@@ -1,11 +1,10 @@
 // The classes that are needed, each with its chosen match.
-ghost use Rattle.std.specs.Prelude.{◌≡◌, ◌<◌, All, IfOk, length, Some, None, slice_index_or};
+ghost use Rattle.std.specs.Prelude.{◌≡◌, ◌<◌, All, IfOk, IsSome, length, reverse, Some, None, slice_index_or};
 ghost use Rattle.lw_laws.specs.Extracts.{IsLeafClass};
-
 ghost use Rattle.lw_match.specs.Least.{AreOfCells};
 ghost use Rattle.lw_label.specs.Labels.{AreLeastMarks};
 ghost use Rattle.lw_label.specs.Delays.{time_cost};
-ghost use Rattle.lw_extract.specs.Choosing.{AreChosen, AreNeeds, AreRoots, HasAlso, IsChoice};
+ghost use Rattle.lw_extract.specs.Choosing.{AreChosen, AreRoots, HasAlso, IsChoice};
 ghost use Rattle.lw_extract.specs.Orders.{AreByHeight};
 ghost use Rattle.lw_extract.specs.Nets.{AreInputNets};
 
@@ -83,8 +82,9 @@ fn choose_down(
     requires of_cells { AreOfCells (time_cost lib.now).pin_counts pats.now }
     requires least { AreLeastMarks graph.now (time_cost lib.now) pats.now marks.now }
     requires roots { All (λ root. root.0 < length graph.now.pairs) roots.now }
+    requires covered { All (λ root. IsSome (slice_index_or marks.now root.0 None)) roots.now }
     requires places { (nets : _) × AreInputNets graph.now nets × AreByHeight nets marks.now places.now }
-    ensures { IfOk result (λ chosen. AreNeeds graph.now (time_cost lib.now) pats.now marks.now roots.now places.now chosen.items) }
+    ensures { IfOk result (λ chosen. AreChosen graph.now (time_cost lib.now) pats.now marks.now roots.now (reverse chosen.items)) }
 {
     let mut needed = needed_by_outputs(alloc, roots, graph.classes() as usize)?;
     let mut chosen = Vec::new(alloc);
@@ -113,6 +113,7 @@ pub(crate) fn choose(
     requires of_cells { AreOfCells (time_cost lib.now).pin_counts pats.now }
     requires least { AreLeastMarks graph.now (time_cost lib.now) pats.now marks.now }
     requires roots { All (λ root. root.0 < length graph.now.pairs) roots.now }
+    requires covered { All (λ root. IsSome (slice_index_or marks.now root.0 None)) roots.now }
     requires nets { AreInputNets graph.now nets.now }
     ensures { IfOk result (λ chosen. AreChosen graph.now (time_cost lib.now) pats.now marks.now roots.now chosen.items) }
 {

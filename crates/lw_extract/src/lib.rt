@@ -4,10 +4,13 @@
 mod choosing;
 mod extracting;
 mod fault;
+mod free_names;
 mod gates;
+mod name_set;
 mod naming;
 mod nets;
 mod ordering;
+mod owners;
 mod ports;
 
 pub use extracting::extract;

@@ -1,0 +1,74 @@
+#!/bin/sh
+# Maps the circuits of bench/circuits with the libraries of bench/libs, and prints a table: the processor time of the
+# whole program, the most memory that it held, the delay and the gates of what it wrote, and the same time and delay of
+# ABC's command 'map', where ABC is installed (Debian's package berkeley-abc), with the ratio of the times. With -e each
+# netlist is shown equivalent to its circuit by ABC's command 'cec'. With words it takes those circuits alone:
+#
+#   sh bench/circuits.sh [-e] [CIRCUIT..]
+#
+# LIBS names the libraries (tiny, mcnc, rich by default), LIMIT the seconds that a run may take (60), RUNS how often each
+# is run; the least time counts. It takes the program that LWMAP_PROGRAM names, or else that of crates/lwmap.
+set -eu
+root=$(dirname -- "$(dirname -- "$(readlink -f -- "$0")")")
+program=$(readlink -f -- "${LWMAP_PROGRAM:-$root/crates/lwmap/out/lwmap}")
+[ -x "$program" ] || { echo "circuits: there is no program $program" >&2 && exit 1; }
+[ -x /usr/bin/time ] || { echo "circuits: there is no /usr/bin/time" >&2 && exit 1; }
+abc=$(command -v berkeley-abc || true)
+equivalence=
+if [ "${1:-}" = -e ]; then equivalence=yes && shift; fi
+[ -n "$abc" ] || [ -z "$equivalence" ] || { echo "circuits: there is no berkeley-abc" >&2 && exit 1; }
+bench=$root/bench
+limit=${LIMIT:-60}
+runs=${RUNS:-3}
+room=$(mktemp -d)
+trap 'rm -rf "$room"' EXIT
+
+# The least processor time of some runs, in milliseconds, and the most memory in megabytes.
+least() { # COMMAND..
+    best= && memory=0
+    for _ in $(seq "$runs"); do
+        if ! timeout "$limit" /usr/bin/time -f '%U %S %M' -o "$room/took" "$@" >"$room/out" 2>"$room/err"; then
+            [ -s "$room/err" ] && head -c 100 "$room/err" | tr '\n' ' ' >&2
+            return 1
+        fi
+        took=$(awk '{ printf "%d", ($1 + $2) * 1000 }' "$room/took")
+        memory=$(awk '{ printf "%d", $3 / 1024 }' "$room/took")
+        if [ -z "$best" ] || [ "$took" -lt "$best" ]; then best=$took; fi
+    done
+}
+
+# shellcheck disable=SC2046
+[ $# -gt 0 ] || set -- $(cd "$bench/circuits" && ls | sed 's/\.blif$//')
+for library in ${LIBS:-tiny mcnc rich}; do
+    echo "| $library | ms | MB | delay | gates | ms of map | delay of map | ratio |"
+    echo "|---|---|---|---|---|---|---|---|"
+    lib=$bench/libs/$library.genlib
+    python3 "$bench/timing.py" -f "$lib" >"$room/flat"
+    : >"$room/ratios"
+    for circuit; do
+        network=$bench/circuits/$circuit.blif
+        if ! least "$program" map "$lib" "$network"; then
+            echo "| $circuit | over $limit s, or refused | | | | | | |"
+            continue
+        fi
+        ours=$best && held=$memory
+        cp "$room/out" "$room/mapped"
+        # max, area, gates
+        line=$(python3 "$bench/timing.py" -s "$lib" "$room/mapped")
+        delay=$(echo "$line" | awk '{ print $1 }') && gates=$(echo "$line" | awk '{ print $3 }')
+        theirs= && their_delay= && ratio=
+        if [ -n "$abc" ] && least "$abc" -q "read_genlib $room/flat; read_blif $network; strash; map; write_blif $room/abc.blif"; then
+            theirs=$best
+            their_delay=$(python3 "$bench/timing.py" -s "$lib" "$room/abc.blif" | awk '{ print $1 }')
+            ratio=$(awk -v a="$ours" -v b="$theirs" 'BEGIN { if (b < 1) b = 1; if (a < 1) a = 1; printf "%.2f", a / b }')
+            echo "$ratio" >>"$room/ratios"
+        fi
+        echo "| $circuit | $ours | $held | $delay | $gates | $theirs | $their_delay | $ratio |"
+        if [ -n "$equivalence" ]; then
+            python3 "$bench/timing.py" -u "$lib" "$room/mapped" >"$room/plain.blif"
+            "$abc" -q "cec $network $room/plain.blif" >"$room/verdict" 2>&1
+            grep -q 'are equivalent' "$room/verdict" || { echo "circuits: $circuit with $library is not equivalent:" >&2 && cat "$room/verdict" >&2 && exit 1; }
+        fi
+    done
+    awk -v library="$library" '{ sum += log($1); n++ } END { if (n) printf "geometric mean of the ratios with %s: %.2f over %d circuits\n\n", library, exp(sum / n), n }' "$room/ratios"
+done

@@ -1,0 +1,88 @@
+-- The least match of a class by the marks of its pins is the chosen one.
+use Rattle.std.proofs.Common.{ℕ, zero, suc, ◌<◌, ◌≡◌, List, [], ◌∷◌, Contains, All, IsSome, Option, Some, None, option_map, unwrap_or, slice_index_or, refl, ap, sym, ◌∙◌, subst, arith}
+use mathlib.Core.Path.{fun_ext}
+use Rattle.std.proofs.lemmas.List.Elements.{All-map, All-contains}
+use Rattle.std.proofs.lemmas.Option.{none-some}
+use Rattle.std.specs.List.{AllByRecursion}
+use Rattle.lw_pool.specs.declared.id.ClassId.{ClassId}
+use Rattle.lw_laws.specs.Graphs.{Graph}
+use Rattle.lw_laws.specs.Costs.{Cost}
+use Rattle.lw_laws.specs.Covers.{Pattern}
+use Rattle.lw_laws.specs.Marks.{Mark as PlainMark, labels_of}
+use Rattle.lw_laws.specs.Matches.{choices_of}
+use Rattle.lw_laws.specs.Choices.{Labels, HaveLabels, IsPotential, IsHeight}
+use Rattle.lw_laws.specs.Priced.{IsPriced, AreMarks}
+use Rattle.lw_laws.specs.Extracts.{IsChosen, IsLeafClass}
+use Rattle.lw_laws.proofs.MarkLaws.{supports_priced, some_supports, least_chosen}
+use Rattle.lw_match.specs.declared.mark.Mark.{Mark}
+use Rattle.lw_match.specs.declared.mark.Best.{Best}
+use Rattle.lw_match.specs.Values.{marks_in, numbers, plain_mark, plain_match}
+use Rattle.lw_match.specs.Least.{IsLeastMatch}
+use Rattle.lw_label.specs.Labels.{AreLeastMarks}
+use Rattle.lw_label.proofs.Marked.{label_at, mark_of_label}
+use Rattle.lw_extract.specs.Choosing.{labels, heights, IsChoice}
+
+-- the labels of marks as one function
+pub labels_are : (marks : List (Option Mark)) → labels marks ≡ labels_of (marks_in marks)
+labels_are marks = fun_ext (label_at marks)
+
+-- the mark of a class, as the list has it
+pub plain_at : (marks : List (Option Mark)) (c : ℕ) (m : Mark) → slice_index_or marks c None ≡ Some m → marks_in marks c ≡ Some (plain_mark m)
+plain_at marks c m e = ap (option_map plain_mark) e
+
+pub mark_at : (marks : List (Option Mark)) (c l : ℕ) → labels marks c ≡ Some l → (m : Mark) × (slice_index_or marks c None ≡ Some m)
+mark_at marks c l e = by_mark (slice_index_or marks c None) refl (mark_of_label marks c l e).1
+  where
+    by_mark : (o : Option Mark) → slice_index_or marks c None ≡ o → option_map plain_mark o ≡ Some (mark_of_label marks c l e).0 → (m : Mark) × (slice_index_or marks c None ≡ Some m)
+    by_mark None s f = absurd (none-some (mark_of_label marks c l e).0 f)
+    by_mark (Some m) s f = (m, s)
+
+-- the height of a class
+pub height_at : (marks : List (Option Mark)) (c : ℕ) (m : Mark) → slice_index_or marks c None ≡ Some m → heights marks c ≡ m.height
+height_at marks c m e = ap (λ (o : Option Mark). unwrap_or (option_map (λ (k : PlainMark). k.height) (option_map plain_mark o)) 0) e
+
+-- each of some labelled classes has a mark
+pub pin_label : (known : Labels) (ps ls : List ℕ) (q : ℕ) → HaveLabels known ps ls → Contains ps q → (l : ℕ) × (known q ≡ Some l)
+pin_label known [] ls q a (k, lt, e) = absurd (omega arith)
+pin_label known (p ∷ ps) [] q a k = absurd a
+pin_label known (p ∷ ps) (l ∷ ls) q (at, a) (zero, lt, e) = (l, ap known (sym e) ∙ at)
+pin_label known (p ∷ ps) (l ∷ ls) q (at, a) (suc k, lt, e) = pin_label known ps ls q a (k, omega arith, e)
+
+-- the pins of a match with labels are in range
+pub pins_below : (n : ℕ) (known : Labels) (cs : List ClassId) (ls : List ℕ) → ((q l : ℕ) → known q ≡ Some l → q < n) → HaveLabels known (numbers cs) ls → AllByRecursion (λ (c : ClassId). c.0 < n) cs
+pins_below n known [] ls below a = tt
+pins_below n known (c ∷ cs) [] below a = absurd a
+pins_below n known (c ∷ cs) (l ∷ ls) below (e, a) = (below c.0 l e, pins_below n known cs ls below a)
+
+some_of : {X : Type 0} (o : Option X) → IsSome o → (x : X) × (o ≡ Some x)
+some_of None s = cc
+some_of (Some x) s = (x, refl)
+
+-- each of the roots has a mark
+pub root_mark : (marks : List (Option Mark)) (roots : List ClassId) (c : ℕ) → All (λ (root : ClassId). IsSome (slice_index_or marks root.0 None)) roots → Contains (numbers roots) c → (m : Mark) × (slice_index_or marks c None ≡ Some m)
+root_mark marks roots c covered inside = some_of (slice_index_or marks c None)
+    (All-contains (λ n. IsSome (slice_index_or marks n None)) (numbers roots) c (All-map (λ n. IsSome (slice_index_or marks n None)) (λ (x : ClassId). x.0) roots covered) inside)
+
+module _ (g : Graph) (cost : Cost) (pats : List Pattern) (marks : List (Option Mark)) (least : AreLeastMarks g cost pats marks) where
+  are_marks : AreMarks g cost pats (marks_in marks)
+  are_marks = record {
+    potential = subst (λ (known : Labels). IsPotential (choices_of g cost.pin_counts pats) cost known) (labels_are marks) least.potential;
+    heights = λ c m e. subst (λ (known : Labels). IsHeight (choices_of g cost.pin_counts pats) cost known c m.height) (labels_are marks) (least.heights c m e);
+  }
+
+  -- the least match is the chosen one
+  pub chosen_by : (c : ℕ) (m : Mark) (b : Best) → (IsLeafClass g c → ⊥) → slice_index_or marks c None ≡ Some m → IsLeastMatch g cost pats (marks_in marks) c (Some b) → IsChoice g cost pats marks c b.found
+  chosen_by c m b out at (is, before) = (
+    is.pattern,
+    subst (λ (known : Labels). IsChosen g cost pats known (heights marks) c (plain_match b.found) is.pattern) (sym (labels_are marks))
+        (least_chosen g cost pats (marks_in marks) are_marks c (plain_match b.found) is.pattern (plain_mark b.mark) (plain_mark m) out (plain_at marks c m at)
+        (record { matches = is.matches; pin_marks = is.pin_marks; have = is.have; mark_is = is.mark })
+        (λ n q i p. before (record { mark = i; found = n }) (record { pattern = q; matches = p.matches; pin_marks = p.pin_marks; have = p.have; mark = p.mark_is }))).1,
+  )
+
+  -- there is a match
+  pub some_match : (c : ℕ) (m : Mark) → (IsLeafClass g c → ⊥) → slice_index_or marks c None ≡ Some m → IsLeastMatch g cost pats (marks_in marks) c None → ⊥
+  some_match c m out at none =
+      let (n, q, s) = some_supports g cost pats (marks_in marks) are_marks c (plain_mark m) out (plain_at marks c m at) in
+      let p : IsPriced g cost pats (marks_in marks) c n q (plain_mark m) = (supports_priced g cost pats (marks_in marks) are_marks c n q (plain_mark m) out (plain_at marks c m at)).0 s in
+      none (record { mark = plain_mark m; found = n }) (record { pattern = q; matches = p.matches; pin_marks = p.pin_marks; have = p.have; mark = p.mark_is })
