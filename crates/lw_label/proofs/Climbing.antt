@@ -1,5 +1,5 @@
 -- Passes that find heights.
-use Rattle.std.proofs.Common.{ℕ, zero, suc, ◌+◌, ◌<◌, ◌≤◌, ◌^◌, ◌-◌, ◌≡◌, ◌%◌, ◌⊎◌, inl, inr, Bool, true, false, ◌||◌, max, List, [], ◌∷◌, length, Option, Some, None, option_map, is_some, count_by, sum_by, slice_get, slice_index_or, slice_set, replicate, refl, ap, ap₂, sym, ◌∙◌, subst, arith, true≢false}
+use Rattle.std.proofs.Common.{ℕ, zero, suc, ◌+◌, ◌<◌, ◌≤◌, ◌^◌, ◌-◌, ◌≡◌, ◌%◌, ◌⊎◌, inl, inr, Bool, true, false, ◌||◌, List, [], ◌∷◌, length, Option, Some, None, option_map, slice_get, slice_index_or, slice_set, replicate, refl, ap, ap₂, sym, ◌∙◌, subst, arith, true≢false}
 use Rattle.std.specs.List.{AllByRecursion, AllZip}
 use Rattle.std.proofs.lemmas.List.{length-set, length-map, length-replicate}
 use Rattle.std.proofs.lemmas.Bool.{cases_eq}
@@ -8,9 +8,9 @@ use Rattle.lw_laws.specs.Flip.{flip}
 use Rattle.lw_laws.specs.Graphs.{Graph}
 use Rattle.lw_laws.specs.Costs.{Cost}
 use Rattle.lw_laws.specs.Covers.{Pattern}
-use Rattle.lw_laws.specs.Choices.{Attains, IsWithin, IsHeight, IsInputClass}
-use Rattle.lw_laws.specs.Matches.{IsMatchAt, IsLeastCover, choices_of}
-use Rattle.lw_laws.specs.Marks.{Mark as PlainMark, HaveMarks, costs_in, greatest_height, price}
+use Rattle.lw_laws.specs.Choices.{Attains, IsHeight}
+use Rattle.lw_laws.specs.Matches.{IsLeastCover, choices_of}
+use Rattle.lw_laws.specs.Marks.{Mark as PlainMark, HaveMarks, costs_in, greatest_height}
 use Rattle.lw_laws.specs.Rounds.{labels_in}
 use Rattle.lw_laws.specs.Mapped.{IsPotentialOf}
 use Rattle.lw_laws.specs.Laws.{IsCoverProblem, IsAttainedIn, AreBoundedIn}
@@ -22,12 +22,12 @@ use Rattle.lw_graph.specs.Graphs.{IsGraph}
 use Rattle.lw_match.specs.declared.mark.Best.{Best}
 use Rattle.lw_match.specs.declared.mark.Mark.{Mark}
 use Rattle.lw_match.specs.Values.{plain_mark, marks_in, AreInRange}
-use Rattle.lw_match.specs.Least.{Priced, plain_best, IsPricedAt, IsPricedAtMost, IsLeastMatch}
+use Rattle.lw_match.specs.Least.{plain_best, IsLeastMatch, IsMarkBefore, IsLeastBelow}
 use Rattle.lw_label.specs.Labels.{cost_in, costs_of, AreLeastMarks}
 use Rattle.lw_label.specs.Lowering.{AreLowering}
-use Rattle.lw_label.specs.Rising.{IsWithinSteps, HasHeightAtMost, marked, AreRising, height_weight, heights_weight, IsReached, Raises}
+use Rattle.lw_label.specs.Rising.{IsWithinSteps, HasHeightAtMost, marked, AreRising, height_weight, height_limit, heights_weight, IsReached, Raises}
 use Rattle.lw_label.proofs.Marked.{label_at, label_of_mark, mark_of_label, mark_set_same, mark_set_other, priced, standing}
-use Rattle.lw_label.proofs.Falling.{flip_below, at_most_cost, graph_classes}
+use Rattle.lw_label.proofs.Falling.{flip_below, not_below, graph_classes}
 
 none_marked : (n c : ℕ) (m : PlainMark) → marks_in (replicate n None) c ≡ Some m → ⊥
 none_marked zero c m e = absurd (none-some m e)
@@ -182,36 +182,51 @@ module _ (g : Graph) (cost : Cost) (pats : List Pattern) (labels : List (Option 
       omega (arith, low, value, same)
 
   -- A class whose height stays.
-  pub reached_without : (marks : List (Option Mark)) (c : ℕ) → IsLeastMatch g cost pats (marks_in marks) c None → IsReached g cost pats labels marks c
-  reached_without marks c none cell ps ms m have label = let (b, is, e) = priced g cost pats (marks_in marks) c cell ps ms m have in absurd (none b is)
-
   pub reached_unlabelled : (marks : List (Option Mark)) (c : ℕ) → L c ≡ None → IsReached g cost pats labels marks c
   reached_unlabelled marks c none cell ps ms m have label = absurd (none-some (cost.value cell (costs_in ms)) (sym none ∙ label))
 
-  pub reached_dearer : (marks : List (Option Mark)) → AreRising g cost pats labels marks → AreBoundedIn g pats cost (costs_of labels) → (c l : ℕ) (best : Best) → L c ≡ Some l → (best.mark.cost ≡ l → ⊥) → IsLeastMatch g cost pats (marks_in marks) c (Some best) → IsReached g cost pats labels marks c
-  reached_dearer marks are bounded c l best label other least cell ps ms m have attained =
-      let (b, is, e) = priced g cost pats (marks_in marks) c cell ps ms m have in
-      let low = label_at_most marks are bounded c l best label least in
-      let high = at_most_cost (plain_best best) b (least.1 b is) in
-      let value : b.mark.cost ≡ cost.value cell (costs_in ms) = ap (λ (k : PlainMark). k.cost) e in
-      let same : cost.value cell (costs_in ms) ≡ l = same_Some (cost.value cell (costs_in ms)) l (sym attained ∙ label) in
-      let equal : best.mark.cost ≡ l = omega (arith, low, high, value, same) in
-      absurd (other equal)
+  -- the height of a match whose pins have marks, where some class has none
+  low_height : (marks : List (Option Mark)) → AreRising g cost pats labels marks → IsGraph g → (c : ℕ) → c < length marks → slice_index_or marks c None ≡ None → (ps : List ℕ) (ms : List PlainMark) → HaveMarks (marks_in marks) ps ms → suc (greatest_height ms) < 2 ^ 32 - 1
+  low_height marks are is c below none ps ms have =
+      let new : Mark = record { cost = 0; height = 0 } in
+      let low = heights_low marks are ps ms have in
+      let more = marked_more marks c new below none in
+      let most = marked_most (slice_set marks c (Some new)) in
+      let same = length-set marks c (Some new) in
+      omega (arith, low, more, most, same, are.one_each, is.few, is.even)
 
-  at_most_height : (a b : Priced) → IsPricedAtMost a b → a.mark.cost ≡ b.mark.cost → a.mark.height ≤ b.mark.height
-  at_most_height a b (inl lt) e = absurd (omega (arith, lt, e))
-  at_most_height a b (inr (f, inl lt)) e = omega (arith, lt)
-  at_most_height a b (inr (f, inr (h, rest))) e = omega (arith, h)
+  module _ (marks : List (Option Mark)) (are : AreRising g cost pats labels marks) (c l : ℕ) (bound : PlainMark) (label : L c ≡ Some l) (same_cost : bound.cost ≡ l) (same_height : bound.height ≡ height_limit (slice_index_or marks c None)) where
+    pub reached_under : IsGraph g → c < length marks → IsLeastBelow g cost pats (marks_in marks) c bound None → IsReached g cost pats labels marks c
+    reached_under is below none cell ps ms m have attained =
+        let (b, at, e) = priced g cost pats (marks_in marks) c cell ps ms m have in
+        let value : b.mark.cost ≡ cost.value cell (costs_in ms) = ap (λ (k : PlainMark). k.cost) e in
+        let height : b.mark.height ≡ suc (greatest_height ms) = ap (λ (k : PlainMark). k.height) e in
+        let same : cost.value cell (costs_in ms) ≡ l = same_Some (cost.value cell (costs_in ms)) l (sym attained ∙ label) in
+        let equal : b.mark.cost ≡ bound.cost = omega (arith, value, same, same_cost) in
+        let high = not_below b.mark.height bound.height (λ lt. none b at (inr (equal, lt))) in
+        by_mark (slice_index_or marks c None) refl (omega (arith, high, height))
+      where
+        by_mark : (o : Option Mark) → slice_index_or marks c None ≡ o → bound.height ≤ suc (greatest_height ms) → HasHeightAtMost marks c (suc (greatest_height ms))
+        by_mark None s high =
+            let low = low_height marks are is c below s ps ms have in
+            let limit : bound.height ≡ 2 ^ 32 - 1 = same_height ∙ ap height_limit s in
+            absurd (omega (arith, low, limit, high))
+        by_mark (Some old) s high =
+            let limit : bound.height ≡ old.height = same_height ∙ ap height_limit s in
+            (plain_mark old, ap (option_map plain_mark) s, omega (arith, limit, high))
 
-  pub reached_no_lower : (marks : List (Option Mark)) (c : ℕ) (best : Best) (old : Mark) → L c ≡ Some best.mark.cost → slice_index_or marks c None ≡ Some old → old.height ≤ best.mark.height → IsLeastMatch g cost pats (marks_in marks) c (Some best) → IsReached g cost pats labels marks c
-  reached_no_lower marks c best old label at low least cell ps ms m have attained =
-      let (b, is, e) = priced g cost pats (marks_in marks) c cell ps ms m have in
-      let value : b.mark.cost ≡ cost.value cell (costs_in ms) = ap (λ (k : PlainMark). k.cost) e in
-      let height : b.mark.height ≡ suc (greatest_height ms) = ap (λ (k : PlainMark). k.height) e in
-      let same : cost.value cell (costs_in ms) ≡ best.mark.cost = same_Some (cost.value cell (costs_in ms)) best.mark.cost (sym attained ∙ label) in
-      let equal : best.mark.cost ≡ b.mark.cost = omega (arith, value, same) in
-      let high = at_most_height (plain_best best) b (least.1 b is) equal in
-      (plain_mark old, ap (option_map plain_mark) at, omega (arith, low, high, height))
+    pub attains_under : AreBoundedIn g pats cost (costs_of labels) → (best : Best) → IsLeastBelow g cost pats (marks_in marks) c bound (Some best) → (L c ≡ Some best.mark.cost) × (best.mark.height < height_weight (slice_index_or marks c None))
+    attains_under bounded best (least, before) = by_order before (label_at_most marks are bounded c l best label least)
+      where
+        within_limit : (o : Option Mark) → best.mark.height < height_limit o → best.mark.height < height_weight o
+        within_limit None lt = omega arith
+        within_limit (Some old) lt = lt
+
+        by_order : IsMarkBefore (plain_mark best.mark) bound → l ≤ best.mark.cost → (L c ≡ Some best.mark.cost) × (best.mark.height < height_weight (slice_index_or marks c None))
+        by_order (inl lt) low = absurd (omega (arith, lt, low, same_cost))
+        by_order (inr (e, lt)) low =
+            let same : l ≡ best.mark.cost = sym same_cost ∙ sym e in
+            (label ∙ ap (λ n. Some n) same, within_limit (slice_index_or marks c None) (subst (λ h. best.mark.height < h) same_height lt))
 
   pub raises_nothing : (marks : List (Option Mark)) (c : ℕ) → IsReached g cost pats labels marks c → Raises g cost pats labels marks marks (λ b. b ≡ c) false
   raises_nothing marks c reached = record {

@@ -1,14 +1,15 @@
 -- Passes that lower labels.
-use Rattle.std.proofs.Common.{ℕ, zero, suc, ◌+◌, ◌<◌, ◌≤◌, ◌≡◌, ◌%◌, ◌⊎◌, inl, inr, Bool, true, false, ◌||◌, List, [], ◌∷◌, length, Option, Some, None, option_map, slice_index_or, slice_set, replicate, refl, ap, sym, ◌∙◌, subst, subst₂, arith, true≢false}
+use Rattle.std.proofs.Common.{ℕ, zero, suc, ◌+◌, ◌<◌, ◌≤◌, ◌≡◌, ◌%◌, ◌⊎◌, inl, inr, Bool, true, false, ◌||◌, List, [], ◌∷◌, length, Option, Some, None, option_map, slice_index_or, slice_set, refl, ap, sym, ◌∙◌, subst, arith, true≢false}
 use Rattle.std.proofs.lemmas.List.{length-set, length-map}
 use Rattle.std.proofs.lemmas.Bool.{cases_eq}
+use native.Mathlib.Decide.{dec_lt}
 use Rattle.lw_laws.specs.Flip.{flip}
 use Rattle.lw_laws.specs.Graphs.{Graph}
 use Rattle.lw_laws.specs.Costs.{Cost}
 use Rattle.lw_laws.specs.Covers.{Pattern}
-use Rattle.lw_laws.specs.Choices.{HaveLabels, HasLabelAtMost}
+use Rattle.lw_laws.specs.Choices.{HaveLabels}
 use Rattle.lw_laws.specs.Matches.{IsMatchAt}
-use Rattle.lw_laws.specs.Marks.{Mark as PlainMark, HaveMarks, costs_in, price}
+use Rattle.lw_laws.specs.Marks.{Mark as PlainMark, costs_in}
 use Rattle.lw_laws.specs.Rounds.{labels_in, label_weight, total_weight}
 use Rattle.lw_laws.specs.Laws.{IsCoverProblem, AreSoundIn, AreBoundedIn, HasClasses}
 use Rattle.lw_graph.specs.Graphs.{IsGraph}
@@ -19,9 +20,9 @@ use Rattle.lw_laws.proofs.Flips.{flip-flip}
 use Rattle.lw_match.specs.declared.mark.Best.{Best}
 use Rattle.lw_match.specs.declared.mark.Mark.{Mark}
 use Rattle.lw_match.specs.Values.{plain_mark, marks_in}
-use Rattle.lw_match.specs.Least.{Priced, plain_best, IsPricedAt, IsPricedAtMost, IsLeastMatch}
+use Rattle.lw_match.specs.Least.{Priced, plain_best, IsPricedAtMost, IsLeastMatch}
 use Rattle.lw_label.specs.Labels.{cost_in, costs_of}
-use Rattle.lw_label.specs.Lowering.{AreLowering, HasCostAtMost, weight, IsBounded, Lowers}
+use Rattle.lw_label.specs.Lowering.{AreLowering, IsLeastUnder, weight, IsBounded, Lowers}
 use Rattle.lw_label.proofs.Marked.{label_of_mark, labels_of_marks, marks_of_labels, costs_set, mark_set_same, mark_set_other, priced, standing}
 
 -- the flip of a class is below an even number of classes
@@ -32,6 +33,13 @@ flip_below (suc zero) c even below = absurd (omega arith)
 flip_below (suc (suc n)) zero even below = omega arith
 flip_below (suc (suc n)) (suc zero) even below = omega arith
 flip_below (suc (suc n)) (suc (suc c)) even below = let ih = flip_below n c (omega arith) (omega arith) in omega (arith, ih)
+
+pub not_below : (m n : ℕ) → (m < n → ⊥) → n ≤ m
+not_below m n not = cases (dec_lt m n)
+  where
+    cases : Dec (m < n) → n ≤ m
+    cases (yes lt) = absurd (not lt)
+    cases (no ge) = omega arith
 
 -- no mark would be lower than that of the best match
 pub at_most_cost : (a b : Priced) → IsPricedAtMost a b → a.mark.cost ≤ b.mark.cost
@@ -45,13 +53,24 @@ module _ (g : Graph) (cost : Cost) (pats : List Pattern) where
       let (b, is, e) = priced g cost pats (marks_in marks) c cell ps ms m with_marks in
       absurd (none b is)
 
-  pub bounded_by_best : (marks : List (Option Mark)) (c l : ℕ) (best : Best) → labels_in (costs_of marks) c ≡ Some l → l ≤ best.mark.cost → IsLeastMatch g cost pats (marks_in marks) c (Some best) → IsBounded g cost pats marks c
-  bounded_by_best marks c l best label low least cell ps ls m have =
+  pub bounded_under : (marks : List (Option Mark)) (c : ℕ) (o : Option Mark) → slice_index_or marks c None ≡ o → IsLeastUnder g cost pats (marks_in marks) c o None → IsBounded g cost pats marks c
+  bounded_under marks c None at none cell ps ls m have = bounded_without marks c none cell ps ls m have
+  bounded_under marks c (Some old) at none cell ps ls m have =
       let (ms, with_marks, same) = marks_of_labels marks ps ls have in
       let (b, is, e) = priced g cost pats (marks_in marks) c cell ps ms m with_marks in
-      let le = at_most_cost (plain_best best) b (least.1 b is) in
       let value : b.mark.cost ≡ cost.value cell ls = ap (λ (k : PlainMark). k.cost) e ∙ ap (cost.value cell) same in
-      (l, label, omega (arith, low, le, value))
+      let low : old.cost ≤ b.mark.cost = not_below b.mark.cost old.cost (λ lt. none b is (inl lt)) in
+      (old.cost, label_of_mark marks c (plain_mark old) (ap (option_map plain_mark) at), omega (arith, low, value))
+
+  -- the least match where its mark is before that of the class, which has the height 0
+  pub least_of_under : (marks : List (Option Mark)) (c : ℕ) (best : Best) (o : Option Mark) → IsLeastUnder g cost pats (marks_in marks) c o (Some best) → IsLeastMatch g cost pats (marks_in marks) c (Some best)
+  least_of_under marks c best None under = under
+  least_of_under marks c best (Some old) under = under.0
+
+  pub lower_under : (marks : List (Option Mark)) (c : ℕ) (best : Best) (o : Option Mark) → ((m : Mark) → o ≡ Some m → m.height ≡ 0) → IsLeastUnder g cost pats (marks_in marks) c o (Some best) → best.mark.cost ≤ cost.cap → best.mark.cost < label_weight cost.cap (cost_in o)
+  lower_under marks c best None flat under capped = let more : best.mark.cost < suc cost.cap = omega (arith, capped) in more
+  lower_under marks c best (Some old) flat (least, inl lt) capped = lt
+  lower_under marks c best (Some old) flat (least, inr (e, lt)) capped = let zero_height = flat old refl in absurd (omega (arith, lt, zero_height))
 
   module _ (marks : List (Option Mark)) (c : ℕ) (best : Best) (problem : IsCoverProblem g pats cost) (low : AreLowering g cost pats marks) (below : c < length marks) (least : IsLeastMatch g cost pats (marks_in marks) c (Some best)) where
     best_value : (plain_best best).mark.cost ≡ cost.value least.0.pattern.cell (costs_in least.0.pin_marks)
@@ -158,10 +177,6 @@ module _ (g : Graph) (cost : Cost) (pats : List Pattern) where
     same = λ e. absurd (true≢false e);
     bounded = λ e. absurd (true≢false e);
   }
-
-  -- the best match does not lower the mark of its class
-  pub bounded_by_mark : (marks : List (Option Mark)) (c : ℕ) (best : Best) → HasCostAtMost (slice_index_or marks c None) best.mark.cost → IsLeastMatch g cost pats (marks_in marks) c (Some best) → IsBounded g cost pats marks c
-  bounded_by_mark marks c best (m, at, low) least = bounded_by_best marks c m.cost best (label_of_mark marks c (plain_mark m) (ap (option_map plain_mark) at)) low least
 
   pub label_is_cost : (marks : List (Option Mark)) (c : ℕ) → labels_in (costs_of marks) c ≡ cost_in (slice_index_or marks c None)
   label_is_cost [] c = refl

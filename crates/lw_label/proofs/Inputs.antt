@@ -1,19 +1,17 @@
 -- The labels of the inputs' classes.
-use Rattle.std.proofs.Common.{ℕ, zero, suc, ◌+◌, ◌<◌, ◌≤◌, ◌≡◌, ◌⊎◌, inl, inr, Bool, true, false, List, [], ◌∷◌, length, Option, Some, None, option_map, slice_get, slice_index_or, slice_set, replicate, refl, ap, sym, ◌∙◌, subst, arith, true≢false}
+use Rattle.std.proofs.Common.{ℕ, zero, suc, ◌+◌, ◌<◌, ◌≤◌, ◌≡◌, ◌⊎◌, inl, inr, List, length, Option, Some, None, option_map, slice_get, slice_index_or, slice_set, replicate, refl, ap, sym, ◌∙◌, subst, arith}
 use Rattle.std.proofs.lemmas.List.{length-set, length-replicate, set-get_or}
 use Rattle.std.proofs.lemmas.Bool.{cases_eq}
 use Rattle.std.proofs.lemmas.Option.{same_Some, none-some, slice_get_within}
 use Rattle.lw_laws.specs.Graphs.{Graph}
 use Rattle.lw_laws.specs.Costs.{Cost}
 use Rattle.lw_laws.specs.Covers.{Pattern}
-use Rattle.lw_laws.specs.Choices.{HasLabelAtMost}
 use Rattle.lw_laws.specs.Marks.{Mark as PlainMark}
-use Rattle.lw_laws.specs.Rounds.{labels_in, label_weight}
 use Rattle.lw_laws.specs.Laws.{IsLeafCost}
 use Rattle.lw_laws.proofs.RoundLaws.{first_sound}
 use Rattle.lw_match.specs.declared.mark.Mark.{Mark}
 use Rattle.lw_match.specs.Values.{plain_mark, marks_in}
-use Rattle.lw_label.specs.Labels.{cost_in, costs_of}
+use Rattle.lw_label.specs.Labels.{costs_of}
 use Rattle.lw_label.specs.Lowering.{AreLowering, HasCostAtMost, IsLowerOf}
 use Rattle.lw_label.proofs.Marked.{label_of_mark, mark_of_label, mark_set_same, mark_set_other}
 

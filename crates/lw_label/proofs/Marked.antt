@@ -1,23 +1,22 @@
 -- Marks as labels, and priced matches.
-use Rattle.std.proofs.Common.{ℕ, zero, suc, ◌+◌, ◌<◌, ◌≤◌, ◌≡◌, ◌↔◌, ◌^◌, ◌-◌, List, [], ◌∷◌, length, map, Contains, Option, Some, None, option_map, slice_get, slice_index_or, slice_set, inl, inr, refl, ap, ap₂, sym, ◌∙◌, subst, arith}
+use Rattle.std.proofs.Common.{ℕ, zero, suc, ◌<◌, ◌≡◌, ◌↔◌, List, [], ◌∷◌, length, Contains, Option, Some, None, option_map, slice_get, slice_set, refl, ap, ap₂, sym, ◌∙◌, subst, arith}
 use Rattle.std.proofs.lemmas.List.{map-set}
 use Rattle.std.proofs.lemmas.Option.{same_Some, slice_get-get_or}
 use Rattle.lw_laws.specs.Trees.{HasLeaf}
-use Rattle.lw_laws.specs.Graphs.{Graph, PairsInOneClass}
+use Rattle.lw_laws.specs.Graphs.{Graph}
 use Rattle.lw_laws.specs.Costs.{Cost, IsCost}
-use Rattle.lw_laws.specs.Covers.{Pattern, IsPattern, ArePatterns, HasPins}
+use Rattle.lw_laws.specs.Covers.{Pattern, ArePatterns, HasPins}
 use Rattle.lw_laws.specs.Choices.{HaveLabels}
 use Rattle.lw_laws.specs.Matches.{IsMatchAt}
 use Rattle.lw_laws.specs.Marks.{Mark as PlainMark, Marks, HaveMarks, costs_in, price, labels_of}
-use Rattle.lw_laws.specs.Extracts.{Match, MatchesAt}
 use Rattle.lw_laws.specs.Rounds.{labels_in}
-use Rattle.lw_laws.specs.Laws.{IsCoverProblem, AreSoundIn}
+use Rattle.lw_laws.specs.Laws.{IsCoverProblem}
 use Rattle.lw_laws.proofs.Extracts.{listed_at}
 use Rattle.lw_laws.proofs.RoundLaws.{labels_capped}
 use Rattle.lw_graph.specs.Graphs.{IsGraph}
 use Rattle.lw_match.specs.declared.mark.Mark.{Mark}
 use Rattle.lw_match.specs.Values.{plain_mark, marks_in, AreInRange}
-use Rattle.lw_match.specs.Least.{IsOfCell, AreOfCells, Priced, IsPricedAt}
+use Rattle.lw_match.specs.Least.{AreOfCells, Priced, IsPricedAt}
 use Rattle.lw_label.specs.Labels.{cost_in, costs_of}
 use Rattle.lw_label.specs.Lowering.{AreLowering}
 

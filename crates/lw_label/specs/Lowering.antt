@@ -1,14 +1,16 @@
 -- Labels that are lowered until no match would lower one.
-use Rattle.std.specs.Prelude.{ℕ, ◌<◌, ◌≤◌, ◌≡◌, ◌⊎◌, Bool, true, false, List, length, Option, Some}
+use Rattle.std.specs.Prelude.{ℕ, ◌<◌, ◌≤◌, ◌≡◌, ◌⊎◌, Bool, true, false, List, length, Option, Some, None}
 use Rattle.lw_laws.specs.Graphs.{Graph}
 use Rattle.lw_laws.specs.Costs.{Cost}
 use Rattle.lw_laws.specs.Covers.{Pattern}
 use Rattle.lw_laws.specs.Matches.{choices_of}
-use Rattle.lw_laws.specs.Marks.{Mark as PlainMark}
+use Rattle.lw_laws.specs.Marks.{Mark as PlainMark, Marks}
 use Rattle.lw_laws.specs.Rounds.{labels_in, total_weight, IsBoundedAt}
 use Rattle.lw_laws.specs.Laws.{AreSoundIn}
 use Rattle.lw_match.specs.declared.mark.Mark.{Mark}
-use Rattle.lw_match.specs.Values.{marks_in}
+use Rattle.lw_match.specs.declared.mark.Best.{Best}
+use Rattle.lw_match.specs.Values.{plain_mark, marks_in}
+use Rattle.lw_match.specs.Least.{IsLeastMatch, IsLeastBelow}
 use Rattle.lw_label.specs.Labels.{costs_of}
 
 -- a mark for each class, all of height 0, with costs of covers
@@ -20,6 +22,12 @@ pub record AreLowering (g : Graph) (cost : Cost) (pats : List Pattern) (marks : 
 -- there is a mark, of this cost at most
 abbrev pub HasCostAtMost : Option Mark → ℕ → Type 0
 HasCostAtMost mark cost = (m : Mark) × (mark ≡ Some m) × (m.cost ≤ cost)
+
+-- the least match at the class, where its mark is before this one, or there is no such mark
+abbrev pub IsLeastUnder : Graph → Cost → List Pattern → Marks → ℕ → Option Mark → Option Best → Type 0
+IsLeastUnder g cost pats marks c None best = IsLeastMatch g cost pats marks c best
+IsLeastUnder g cost pats marks c (Some mark) best =
+    IsLeastBelow g cost pats marks c (plain_mark mark) best
 
 -- the mark of a class that may be an input's of this cost: its own where that is not above the cost, or else that of the input
 abbrev pub IsLowerOf : Option Mark → ℕ → Mark → Type 0

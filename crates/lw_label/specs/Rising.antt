@@ -1,5 +1,5 @@
 -- Heights that are found along matches that attain labels.
-use Rattle.std.specs.Prelude.{ℕ, suc, ◌<◌, ◌≤◌, ◌≡◌, ◌^◌, Bool, true, false, ◌+◌, List, [], ◌∷◌, length, Option, Some, None, slice_get}
+use Rattle.std.specs.Prelude.{ℕ, suc, ◌<◌, ◌≤◌, ◌≡◌, ◌^◌, Bool, true, false, ◌+◌, ◌-◌, List, [], ◌∷◌, length, Option, Some, None, slice_get}
 use Rattle.lw_laws.specs.Graphs.{Graph}
 use Rattle.lw_laws.specs.Costs.{Cost}
 use Rattle.lw_laws.specs.Covers.{Pattern}
@@ -40,6 +40,11 @@ no_height = 2 ^ 32
 abbrev pub height_weight : Option Mark → ℕ
 height_weight None = no_height
 height_weight (Some m) = m.height
+
+-- what a height has to be below, so that it lowers that of a class, which is no height of a match where there is none
+abbrev pub height_limit : Option Mark → ℕ
+height_limit None = 2 ^ 32 - 1
+height_limit (Some m) = m.height
 
 -- how far the heights can still fall
 abbrev pub heights_weight : List (Option Mark) → ℕ

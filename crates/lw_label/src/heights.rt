@@ -1,27 +1,30 @@
 // Heights in rounds.
-ghost use Rattle.std.specs.Prelude.{◌≡◌, ◌<◌, ◌≤◌, None, Some, true, false, length, replicate};
+ghost use Rattle.std.specs.Prelude.{◌≡◌, ◌<◌, None, length, replicate};
 ghost use Rattle.lw_graph.specs.Graphs.{IsGraph};
-ghost use Rattle.lw_match.specs.declared.mark.Mark.{Mark};
 ghost use Rattle.lw_match.specs.Least.{AreOfCells};
 ghost use Rattle.lw_label.specs.Labels.{costs_of, AreLeastMarks};
 ghost use Rattle.lw_label.specs.Lowering.{AreLowering};
-ghost use Rattle.lw_label.specs.Rising.{AreRising, Raises, height_weight};
+ghost use Rattle.lw_label.specs.Rising.{AreRising, Raises, height_limit};
 ghost use Rattle.lw_laws.specs.Laws.{AreBoundedIn, IsCoverProblem};
 
 use crate::lowering::either;
 use lw_graph::Graph;
-use lw_match::{Cost, Mark, least};
+use lw_match::{Cost, Mark, least_below};
 use lw_pattern::Patterns;
 use lw_pool::ClassId;
 
-// Whether a height is lower than that of a mark, or there is no mark.
-fn is_shorter(height: u32, mark: Option<Mark>) -> bool
-    ensures shorter { result ≡ true → height < height_weight mark }
-    ensures not { result ≡ false → (m : Mark) × (mark ≡ Some m) × (m.height ≤ height) }
+// What the mark of a match has to be before, so that it lowers the height of a class with this label.
+fn height_bound(label: Mark, mark: Option<Mark>) -> Mark
+    ensures cost { result.cost ≡ label.cost }
+    ensures height { result.height ≡ height_limit mark }
 {
-    match mark {
-        Some(mark) => height < mark.height,
-        None => true,
+    let height = match mark {
+        Some(mark) => mark.height,
+        None => u32::MAX,
+    };
+    Mark {
+        cost: label.cost,
+        height,
     }
 }
 
@@ -56,18 +59,13 @@ fn raise<C: Cost>(
     ensures rising { AreRising graph.now (C.costs cost.now) pats.now labels.now marks.new }
     ensures raises { Raises graph.now (C.costs cost.now) pats.now labels.now marks.old marks.new (λ c. c ≡ class.0) result }
 {
-    let Some(best) = least(graph, pats, marks, class, cost) else {
-        return false;
-    };
     let Some(label) = labels[class.0 as usize] else {
         return false;
     };
-    if best.mark.cost != label.cost {
+    let bound = height_bound(label, marks[class.0 as usize]);
+    let Some(best) = least_below(graph, pats, marks, class, cost, bound) else {
         return false;
-    }
-    if !is_shorter(best.mark.height, marks[class.0 as usize]) {
-        return false;
-    }
+    };
     marks[class.0 as usize] = Some(best.mark);
     true
 }

@@ -1,13 +1,13 @@
 // Labels in rounds.
-ghost use Rattle.std.specs.Prelude.{◌≡◌, ◌<◌, ◌≤◌, ◌||◌, ℕ, None, Some, true, false, IfOk, length, replicate};
+ghost use Rattle.std.specs.Prelude.{◌≡◌, ◌<◌, ◌||◌, None, IfOk, length, replicate, slice_index_or};
 ghost use Rattle.lw_match.specs.Least.{AreOfCells};
-ghost use Rattle.lw_label.specs.Labels.{cost_in, costs_of};
-ghost use Rattle.lw_label.specs.Lowering.{AreLowering, HasCostAtMost, IsLowerOf, Lowers};
+ghost use Rattle.lw_match.specs.Values.{marks_in, AreInRange};
+ghost use Rattle.lw_label.specs.Labels.{costs_of};
+ghost use Rattle.lw_label.specs.Lowering.{AreLowering, IsLeastUnder, IsLowerOf, Lowers};
 ghost use Rattle.lw_laws.specs.Laws.{AreBoundedIn, IsCoverProblem};
-ghost use Rattle.lw_laws.specs.Rounds.{label_weight};
 
 use lw_graph::Graph;
-use lw_match::{Cost, Mark, least};
+use lw_match::{Best, Cost, Mark, least, least_below};
 use lw_pattern::Patterns;
 use lw_pool::ClassId;
 use std::alloc::{AllocError, Global};
@@ -17,17 +17,6 @@ pub(crate) fn no_marks(alloc: Global, graph: &Graph) -> Result<Vec<Option<Mark>>
     ensures { IfOk result (λ marks. marks.items ≡ replicate (length graph.now.pairs) None) }
 {
     Ok(vec![in alloc; None; graph.classes() as usize]?)
-}
-
-// Whether a cost is lower than that of a mark, or there is no mark.
-fn is_lower(cost: u64, mark: Option<Mark>) -> bool
-    ensures lower { result ≡ true → (cap : ℕ) → cost ≤ cap → cost < label_weight cap (cost_in mark) }
-    ensures not { result ≡ false → HasCostAtMost mark cost }
-{
-    match mark {
-        Some(mark) => cost < mark.cost,
-        None => true,
-    }
 }
 
 // The mark of a class that may be an input's of this cost.
@@ -54,6 +43,26 @@ pub(crate) fn label_inputs<C: Cost>(graph: &Graph, cost: &C, marks: &mut [Option
     }
 }
 
+// The least match at a class whose pins have marks, where its mark is before that of the class or the class has none.
+fn least_under<C: Cost>(
+    graph: &Graph,
+    pats: &Patterns,
+    cost: &C,
+    marks: &[Option<Mark>],
+    class: ClassId,
+) -> Option<Best>
+    requires class { class.0 < length graph.now.pairs }
+    requires one_each { length marks.now ≡ length graph.now.pairs }
+    requires in_range { AreInRange C.CAP marks.now }
+    requires of_cells { AreOfCells (C.costs cost.now).pin_counts pats.now }
+    ensures { IsLeastUnder graph.now (C.costs cost.now) pats.now (marks_in marks.now) class.0 (slice_index_or marks.now class.0 None) result }
+{
+    match marks[class.0 as usize] {
+        Some(mark) => least_below(graph, pats, marks, class, cost, mark),
+        None => least(graph, pats, marks, class, cost),
+    }
+}
+
 // Gives a class the least cost of a match whose pins have marks, where that is lower than its own.
 fn lower<C: Cost>(
     graph: &Graph,
@@ -69,12 +78,9 @@ fn lower<C: Cost>(
     ensures lowering { AreLowering graph.now (C.costs cost.now) pats.now marks.new }
     ensures lowers { Lowers graph.now (C.costs cost.now) pats.now marks.old marks.new (λ c. c ≡ class.0) result }
 {
-    let Some(best) = least(graph, pats, marks, class, cost) else {
+    let Some(best) = least_under(graph, pats, cost, marks, class) else {
         return false;
     };
-    if !is_lower(best.mark.cost, marks[class.0 as usize]) {
-        return false;
-    }
     marks[class.0 as usize] = Some(Mark {
         cost: best.mark.cost,
         height: 0,

@@ -13,6 +13,7 @@ pub mod Nexts
 pub mod OfCells
 pub mod Pairs
 pub mod Ranking
+pub mod Refusals
 pub mod Rooting
 pub mod Soughts
 pub mod Starting

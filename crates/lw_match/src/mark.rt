@@ -12,6 +12,19 @@ pub struct Mark {
     pub height: u32,
 }
 
+impl Mark {
+    ghost use Rattle.lw_match.specs.Values.{plain_mark};
+    ghost use Rattle.lw_match.specs.Least.{IsMarkBefore};
+
+    /// Whether this one is before the other: it costs less, or the same with less height.
+    pub(crate) fn is_before(self, other: Mark) -> bool
+        ensures before { IsTrue result → IsMarkBefore (plain_mark self) (plain_mark other) }
+        ensures not { IsFalse result → IsMarkBefore (plain_mark self) (plain_mark other) → ⊥ }
+    {
+        self.cost < other.cost || (self.cost == other.cost && self.height < other.height)
+    }
+}
+
 /// A pattern that stands at a class, with a class for each pin.
 #[derive(Debug, Drop)]
 pub struct Match {

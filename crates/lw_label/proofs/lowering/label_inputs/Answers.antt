@@ -1,4 +1,4 @@
-use Rattle.std.proofs.Common.{◌≡◌, ◌<◌, ◌≤◌, None, length, sym, subst, slice_index_or, arith}
+use Rattle.std.proofs.Common.{◌<◌, ◌≤◌, None, length, subst, slice_index_or, arith}
 use Rattle.lw_label.specs.Lowering.{IsLowerOf}
 use Rattle.lw_label.proofs.Inputs.{inputs_lower, inputs_end}
 use Rattle.lw_label.proofs.lowering.label_inputs.Goals as goal

@@ -1,4 +1,3 @@
-use Rattle.std.proofs.Common.{length}
 use Rattle.lw_label.specs.Lowering.{AreLowering}
 use Rattle.lw_label.proofs.Falling.{IsPass}
 use Rattle.lw_label.proofs.lowering.lower_each.Given as goal

@@ -1,4 +1,4 @@
-use Rattle.std.proofs.Common.{◌≡◌, ◌∙◌, min, map, length, ap, sym, subst, arith}
+use Rattle.std.proofs.Common.{◌≡◌, ◌∙◌, min, map, length, ap, sym, subst}
 use Rattle.lw_laws.specs.Covers.{latest}
 use Rattle.lw_genlib.specs.Tables.{millionths}
 use Rattle.lw_label.specs.Delays.{most_time}
