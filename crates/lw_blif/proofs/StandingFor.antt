@@ -43,10 +43,6 @@ pub tells-stopped : (begun ended : Bool) (o : Option Stop) (parts : Parts) (s : 
 tells-stopped begun ended o parts s lines line e h =
     tells-stop s (first_fault [] (lines_read (lines ++ line ∷ []))) (stops-stay s lines line (stops-of begun ended o parts s lines e h))
 
--- want of memory stops the reading
-pub stands-memory : (begun ended : Bool) (parts : Parts) (lines : List LogicalLine) → IsKept begun ended (Some stop.Memory) parts lines
-stands-memory begun ended parts lines = stopped-kept begun ended (Some stop.Memory) parts stop.Memory lines refl tt
-
 -- Behind the end.
 
 pub no_fault : (begun ended : Bool) (o : Option Stop) (parts : Parts) (lines : List LogicalLine) → o ≡ None → IsKept begun ended o parts lines → first_fault [] (lines_read lines) ≡ None
