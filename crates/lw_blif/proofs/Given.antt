@@ -4,15 +4,10 @@ use Rattle.std.specs.List.{list_any}
 use Rattle.lw_words.specs.Lines.{LogicalLine}
 use Rattle.lw_blif.specs.declared.reader.Stop.{Stop}
 use Rattle.lw_blif.specs.declared.reader.Stop.TheVariants as stop
-use Rattle.lw_blif.specs.declared.command.Command.{Command}
-use Rattle.lw_blif.specs.declared.command.Command.TheVariants.{End}
 use Rattle.lw_blif.specs.declared.fault.BlifKind.{BlifKind}
 use Rattle.lw_blif.specs.LineFaults.{FaultAt, fault_or, line_fault, first_fault, lines_read, has_ended, is_first, ends, command}
 use Rattle.lw_blif.specs.Given.{Stops}
 use Rattle.lw_blif.proofs.Appending.{first_fault-next, first_fault-earlier, lines_read-all, has_ended-more, lines_read-ended, lines_read-end}
-
-pub not-end : (first : Bool) (c : Command) → ends first c ≡ false → c ≡ End → ⊥
-not-end first c e is = let wrong : true ≡ false = sym (ap (ends first) is) ∙ e in cc
 
 pub first-more : (lines : List LogicalLine) (line : LogicalLine) → is_first (lines ++ line ∷ []) ≡ false
 first-more [] line = refl

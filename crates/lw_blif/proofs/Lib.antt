@@ -9,5 +9,4 @@ pub mod Reading
 pub mod RowsBehind
 pub mod Sound
 pub mod StandingFor
-pub mod WideLines
 pub mod WordLists

@@ -44,9 +44,6 @@ slice_range-more xs from i x le e =
     ap (λ n. take n (drop from xs)) more
     ∙ take-get (drop from xs) (i - from) x (slice_get-drop xs from (i - from) ∙ (ap (slice_get xs) place ∙ e))
 
-pub slice_range-none : {A : Type 0} (xs : List A) (from : ℕ) → slice_range xs from from ≡ []
-slice_range-none xs from = let same : from - from ≡ 0 = omega arith in ap (λ n. take n (drop from xs)) same
-
 -- the first element decides, or the others do
 pub list_all-get : (p : List ℕ → Bool) (words : List (List ℕ)) (i : ℕ) (word : List ℕ) (b : Bool) → slice_get words i ≡ Some word → p word ≡ b → list_all p (drop i words) ≡ (b && list_all p (drop (i + 1) words))
 list_all-get p words i word b e is = ap (list_all p) (drop-get words i word e) ∙ ap (λ t. t && list_all p (drop (i + 1) words)) is

@@ -6,4 +6,3 @@ pub mod Keeping
 pub mod LineFaults
 pub mod Readers
 pub mod Standing
-pub mod Wide

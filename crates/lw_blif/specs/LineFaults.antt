@@ -121,10 +121,6 @@ rows_before before = front is_row (nearest before)
 unfoldable pub node_before : List LogicalLine → List LogicalLine
 node_before before = filter is_names (take 1 (drop (length (rows_before before)) (nearest before)))
 
--- the fan-ins of that node
-abbrev pub fanins_before : List LogicalLine → List (List ℕ)
-fanins_before before = flat_map fanins_on (node_before before)
-
 abbrev pub is_column : ℕ → Bool
 is_column b = b == 48 || b == 49 || b == 45
 

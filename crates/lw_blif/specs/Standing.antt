@@ -32,4 +32,4 @@ Stopped (Err answer) (Some why) = answer ≡ fault_of why
 
 -- The reader was given these lines.
 abbrev pub StandsFor : Reader → List LogicalLine → Type 0
-StandsFor reader lines = IsKept reader.begun reader.ended reader.stop reader.wide reader.parts lines
+StandsFor reader lines = IsKept reader.begun reader.ended reader.stop reader.parts lines

@@ -1,11 +1,10 @@
 // Reads a network's text line by line.
-ghost use Rattle.std.specs.Prelude.{◌≡◌, ◌≢◌, ◌++◌, [], ◌∷◌, List, Err, IfOk, IfSome, IsSome, Some};
+ghost use Rattle.std.specs.Prelude.{◌≡◌, ◌++◌, [], ◌∷◌, List, Err, IfOk, IfSome, IsSome, Some};
 ghost use Rattle.lw_blif.specs.Given.{IsKeptOfSome};
 
 use crate::command::command_of;
 use crate::naming::first_word;
 use crate::parts::Parts;
-use crate::rules::wide_or;
 use crate::{BlifFault, BlifKind, Command};
 use lw_net::Network;
 use lw_words::Line;
@@ -52,18 +51,14 @@ pub struct Reader {
     begun: bool,
     ended: bool,
     stop: Option<Stop>,
-    // The number of the first line that was accepted and begins a node with more than one fan-in.
-    wide: Option<u32>,
     parts: Parts,
-    ghost kept: { ∥ IsKeptOfSome begun ended stop wide parts ∥₁ },
+    ghost kept: { ∥ IsKeptOfSome begun ended stop parts ∥₁ },
 }
 
 impl Reader {
     ghost use Rattle.lw_words.specs.Lines.{LogicalLine};
     ghost use Rattle.lw_blif.specs.LineFaults.{first_fault, lines_read};
     ghost use Rattle.lw_blif.specs.BlifNetworks.{IsBlifNetwork};
-    ghost use Rattle.lw_blif.specs.declared.reader.Stop.TheVariants.{Memory};
-    ghost use Rattle.lw_blif.specs.Wide.{wide_in};
     ghost use Rattle.lw_blif.specs.Standing.{StandsFor, Tells, Stopped, stop_of, fault_of};
     ghost use Rattle.lw_net.specs.Plain.{HasRisingDepths};
 
@@ -74,7 +69,6 @@ impl Reader {
             begun: false,
             ended: false,
             stop: None,
-            wide: None,
             parts: Parts::new(alloc),
         }
     }
@@ -102,10 +96,7 @@ impl Reader {
             return Ok(());
         }
         match self.parts.read(line, asked) {
-            Ok(None) => {
-                self.wide = wide_or(self.wide, asked, line);
-                Ok(())
-            }
+            Ok(None) => Ok(()),
             Ok(Some(kind)) => {
                 self.stop = Some(Stop::Broken(line.number, kind));
                 Err(BlifFault::Line(line.number, kind))
@@ -115,13 +106,6 @@ impl Reader {
                 Err(BlifFault::Memory)
             }
         }
-    }
-
-    /// The number of the first accepted `.names` line with more than one fan-in. Behind want of memory nothing is said of it.
-    pub fn wide(&self) -> Option<u32>
-        ensures { (lines : List LogicalLine) → StandsFor self.now lines → stop_of self.now ≢ Some Memory → result ≡ wide_in lines }
-    {
-        self.wide
     }
 
     /// The text ends. The answer is its network, or the first line that breaks a rule with the first rule that it breaks, or else the

@@ -23,8 +23,8 @@ fn are_columns(word: &[u8]) -> bool
     word.iter().all(|b| *b == b'0' || *b == b'1' || *b == b'-')
 }
 
-/// Whether the words are a row of a node with so many fan-ins.
-pub fn has_shape(fanins: usize, words: &Words) -> bool
+// Whether the words are a row of a node with so many fan-ins.
+fn has_shape(fanins: usize, words: &Words) -> bool
     ensures { result ≡ has_shape fanins words.now }
 {
     match words.len() {

@@ -3,11 +3,10 @@ ghost use Rattle.std.specs.Prelude.{◌≡◌, ◌+◌, ◌<◌, ◌≤◌, ◌&
 ghost use Rattle.std.specs.List.{list_all};
 ghost use Rattle.lw_blif.specs.LineFaults.{wants_words, is_name, names_for, defined_for, is_names_command, words_before_last, other_words};
 ghost use Rattle.lw_blif.specs.Readers.{names_fault_of};
-ghost use Rattle.lw_blif.specs.Wide.{wide_or};
 
 use crate::naming::are_names;
 use crate::{BlifKind, Command};
-use lw_words::{Line, Words};
+use lw_words::Words;
 
 const FANINS_MAX: usize = 256;
 
@@ -76,15 +75,4 @@ pub fn names_fault(defined: usize, command: Command, words: &Words) -> Option<Bl
         return Some(BlifKind::LimitSignals);
     }
     None
-}
-
-/// The number, or else that of the line, where it begins a node with more than one fan-in.
-pub fn wide_or(number: Option<u32>, command: Command, line: &Line) -> Option<u32>
-    ensures { result ≡ wide_or number command line.now }
-{
-    match number {
-        Some(number) => Some(number),
-        None if command == Command::Names && line.words.len() > 3 => Some(line.number),
-        None => None,
-    }
 }
