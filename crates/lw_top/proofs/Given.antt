@@ -60,7 +60,8 @@ module _ {R : Type 0} (given : R → List LogicalLine → Type 0) where
   line-given old new reader next line all fed g marked finished takes stands gives =
       let at : slice_get (lines_so_far old fed) g.taken ≡ Some line = sym (takes fed g.taken g.stands) in
       let here : slice_get all g.taken ≡ Some line = ap (λ (ls : List LogicalLine). slice_get ls g.taken) g.whole ∙ get-front (lines_so_far old fed) g.rest g.taken line at in
-      let more : take (g.taken + 1) all ≡ take g.taken all ++ line ∷ [] = ap (λ k. take k all) (omega arith) ∙ take-next all g.taken line here in
+      let next_place : g.taken + 1 ≡ suc g.taken = omega arith in
+      let more : take (g.taken + 1) all ≡ take g.taken all ++ line ∷ [] = ap (λ k. take k all) next_place ∙ take-next all g.taken line here in
       record {
         taken = g.taken + 1;
         unmarked = marked ∙ g.unmarked;
@@ -97,6 +98,10 @@ module _ {R : Type 0} (given : R → List LogicalLine → Type 0) where
         no_more = subst (λ (ls : List LogicalLine). length ls ≤ g.taken) (sym same) (none-left (lines_so_far old fed) g.taken (sym (takes fed g.taken g.stands)));
       }
 
+  pub none-left-over : (old new : Lines) (reader : R) (all : List LogicalLine) (fed : List ℕ) (result : Option LogicalLine) → ((line : LogicalLine) → result ≡ Some line → ⊥) → IsGiven given old reader all fed → is_marked new ≡ is_marked old → is_finished new ≡ is_finished old → TakesAt old result → StandsBehind old new (length (option_to_list result)) → IsGivenAll given new reader all fed
+  none-left-over old new reader all fed None none g marked finished takes stands = no-line old new reader all fed g marked finished takes stands
+  none-left-over old new reader all fed (Some line) none g marked finished takes stands = absurd (none line refl)
+
   -- Texts
 
   begun-with : (bytes : List ℕ) (at : ℕ) → (rest : List LogicalLine) × (logical_lines false bytes ≡ finished_lines false (take at bytes) ++ rest)
@@ -124,7 +129,8 @@ module _ {R : Type 0} (given : R → List LogicalLine → Type 0) where
   pub more-fed : (old new : Lines) (reader : R) (bytes : List ℕ) (at end : ℕ) → IsGiven given old reader (logical_lines false bytes) (take at bytes) → at ≤ end → end ≤ length bytes → is_marked new ≡ is_marked old → is_finished new ≡ false → ((fed : List ℕ) (taken : ℕ) → StandsFor old fed taken → StandsFor new (fed ++ slice_range bytes at end) taken) → IsGiven given new reader (logical_lines false bytes) (take end bytes)
   more-fed old new reader bytes at end g le within marked finished stands =
       let b = begun-with bytes end in
-      let joined : take at bytes ++ slice_range bytes at end ≡ take end bytes = sym (take-add at (end - at) bytes) ∙ ap (λ k. take k bytes) (omega arith) in
+      let ends : at + (end - at) ≡ end = omega arith in
+      let joined : take at bytes ++ slice_range bytes at end ≡ take end bytes = sym (take-add at (end - at) bytes) ∙ ap (λ k. take k bytes) ends in
       record {
         taken = g.taken;
         unmarked = marked ∙ g.unmarked;

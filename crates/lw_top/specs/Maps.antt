@@ -1,18 +1,18 @@
 -- The mapped text of a network over a library's cells, or why there is none.
 use Rattle.std.specs.Prelude.{◌≡◌, ◌<◌, ◌≤◌, ℕ, List, [], length, map, take, Some, None, Ok, Err, slice_get, slice_index_or}
-use Rattle.lw_laws.specs.Modes.Mode as mode
-use Rattle.lw_laws.specs.Headline.{Port, Ports, HasNoCover}
+use Rattle.lw_laws.specs.Modes.Mode.{plain as plain_mode}
+use Rattle.lw_laws.specs.Headline.{Ports, HasNoCover}
 use Rattle.lw_laws.specs.Occurring.{occurring_forms, split_count}
 use Rattle.lw_laws.specs.MappedNetlists.{IsNetlistOf}
 use Rattle.lw_pool.specs.declared.id.NetId.{NetId}
 use Rattle.lw_net.specs.Networks.{NetworkParts}
-use Rattle.lw_net.specs.Plain as net
+use Rattle.lw_net.specs.Plain.{plain as plain_network}
 use Rattle.lw_genlib.specs.Cells.{CellParts}
 use Rattle.lw_genlib.specs.Tables.{delays_of_cells}
 use Rattle.lw_pattern.specs.Libraries.{library_patterns}
-use Rattle.lw_netlist.specs.declared.gate.Port as gate
+use Rattle.lw_netlist.specs.declared.gate.Port.{Port as GatePort}
 use Rattle.lw_netlist.specs.Netlists.{NetlistParts, IsNetlist}
-use Rattle.lw_netlist.specs.Plain as netlist
+use Rattle.lw_netlist.specs.Plain.{plain as plain_netlist}
 use Rattle.lw_mapped.specs.Texts.{mapped_text}
 use Rattle.lw_top.specs.declared.refusal.Refusal.TheVariants.{Forms, Splits, NoCover}
 use Rattle.lw_top.specs.Steps.{Step}
@@ -28,20 +28,20 @@ ports_of n = record {
 abbrev pub mapped_ports : NetlistParts → Ports
 mapped_ports n = record {
   inputs = take n.inputs n.names;
-  outputs = map (λ (p : gate.Port). record { name = p.name; net = p.net.0 }) n.outputs;
+  outputs = map (λ (p : GatePort). record { name = p.name; net = p.net.0 }) n.outputs;
 }
 
 -- the netlist is the mapped netlist of the network
 pub record IsMappedNetlist (width : ℕ) (cells : List CellParts) (n : NetworkParts) (mapped : NetlistParts) : Type 0 where
   pub kept : IsNetlist mapped
   pub model : mapped.model ≡ n.model
-  pub is : IsNetlistOf mode.plain width (net.plain n) (ports_of n) (library_patterns cells) (delays_of_cells cells) 9223372036854775807 (netlist.plain mapped) mapped.names (mapped_ports mapped)
+  pub is : IsNetlistOf plain_mode width (plain_network n) (ports_of n) (library_patterns cells) (delays_of_cells cells) 9223372036854775807 (plain_netlist mapped) mapped.names (mapped_ports mapped)
 
 abbrev pub base_count : ℕ → NetworkParts → ℕ
-base_count width n = length (occurring_forms width (net.plain n))
+base_count width n = length (occurring_forms width (plain_network n))
 
 abbrev pub splits_of : ℕ → NetworkParts → ℕ
-splits_of width n = split_count mode.plain (occurring_forms width (net.plain n))
+splits_of width n = split_count plain_mode (occurring_forms width (plain_network n))
 
 -- the network has no more forms and no more splits than are listed
 pub record IsWithinLimits (width : ℕ) (n : NetworkParts) : Type 0 where
@@ -68,8 +68,8 @@ pub record LacksCover (width : ℕ) (cells : List CellParts) (n : NetworkParts) 
   pub output : NetId
   pub at : slice_get n.outputs place ≡ Some output
   pub named : name ≡ slice_index_or n.names output.0 []
-  pub lacks : HasNoCover mode.plain width (net.plain n) (library_patterns cells) (delays_of_cells cells) output.0
-  pub first : (i : ℕ) (o : NetId) → i < place → slice_get n.outputs i ≡ Some o → HasNoCover mode.plain width (net.plain n) (library_patterns cells) (delays_of_cells cells) o.0 → ⊥
+  pub lacks : HasNoCover plain_mode width (plain_network n) (library_patterns cells) (delays_of_cells cells) output.0
+  pub first : (i : ℕ) (o : NetId) → i < place → slice_get n.outputs i ≡ Some o → HasNoCover plain_mode width (plain_network n) (library_patterns cells) (delays_of_cells cells) o.0 → ⊥
 
 -- what the mapping comes to
 abbrev pub Maps : ℕ → List CellParts → NetworkParts → Step (List ℕ)
