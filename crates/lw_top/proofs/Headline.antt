@@ -10,14 +10,15 @@ use Rattle.lw_top.specs.declared.refusal.Which.{Which}
 use Rattle.lw_top.specs.declared.refusal.Which.TheVariants as which
 use Rattle.lw_top.specs.declared.outcome.Outcome.{Outcome}
 use Rattle.lw_top.specs.declared.outcome.Outcome.TheVariants.{Done, WriteFault, Refused}
-use Rattle.lw_top.specs.Steps.{Files}
+use Rattle.lw_top.specs.Steps.{Files, gives}
 use Rattle.lw_top.specs.Maps.{Maps}
 use Rattle.lw_top.specs.Answers.{Names, names_of, at_width, are_names, width_behind, within_limit, text_of, ReadsLibrary, ReadsNetwork, IsAnswer}
 use Rattle.lw_top.specs.Outcome.{IsDone, Meets, outcome_status}
 use Rattle.lw_top.specs.Telling.{outcome_line, refusal_line}
-use Rattle.lw_top.specs.Mappings.{AreRead, IsMappingText, LacksOutput}
+use Rattle.lw_top.specs.Mappings.{IsMappingText, LacksOutput}
+use Rattle.lw_top.proofs.Steps.{IsReached, reached-ok, reached-err}
 use Rattle.lw_top.proofs.Sound.{width_bounds, cells_kept, network_kept}
-use Rattle.lw_top.proofs.MapsAre.{mapped_is_mapping}
+use Rattle.lw_top.proofs.Mappings.{mapped_is_mapping}
 
 -- no step before the mapping refuses for want of a cover
 choice-stands : (b : Bool) (n : Names) (name : List ℕ) → (if b then Ok n else Err Words) ≡ Err (NoCover name) → ⊥
@@ -59,52 +60,37 @@ network-stands word files name (inl (bytes, text, is)) = is
 network-stands word files name (inr (e, refused, is)) = text-stands (files word) which.Network name (refused ∙ ap (λ c. Err c) (cause e (NoCover name) is))
 
 module _ (words : List (List ℕ)) (files : Files) where
-  -- the steps before the mapping
-  record IsMapped (a : Result (List ℕ) Refusal) : Type 0 where
-    pub width : ℕ
-    pub cells : List CellParts
-    pub network : NetworkParts
-    pub read : AreRead words files width cells network
-    pub maps : Maps width cells network files a
+  -- the steps before the mapping answered
+  abbrev IsMapped : Result (List ℕ) Refusal → Type 0
+  IsMapped a = IsReached (gives (λ fs. names_of words)) (λ (n : Names). ReadsLibrary n.library) (λ (n : Names). ReadsNetwork n.network) (λ (n : Names) (cells : List CellParts) (net : NetworkParts). Maps n.width cells net) files a
 
-  text-mapped : (text : List ℕ) → IsAnswer words files (Ok text) → IsMapped (Ok text)
-  text-mapped text (inl (n, form, inl (cells, library, inl (net, network, maps)))) =
-      record { width = n.width; cells = cells; network = net; read = record { names = n; form = form; width_is = refl; library = library; network = network }; maps = maps }
-  text-mapped text (inl (n, form, inl (cells, library, inr (e, refused, is)))) = cc
-  text-mapped text (inl (n, form, inr (e, refused, is))) = cc
-  text-mapped text (inr (e, refused, is)) = cc
+  mapping-text : (text : List ℕ) → IsMapped (Ok text) → IsMappingText words files text
+  mapping-text text m = record {
+    width = m.n.width;
+    cells = m.a;
+    network = m.b;
+    netlist = m.comes.netlist;
+    read = record { names = m.n; form = m.one; width_is = refl; library = m.two; network = m.three };
+    written = m.comes.written;
+    mapped = m.comes.is_mapped;
+    mapping =
+        mapped_is_mapping m.n.width m.a m.b (width_bounds words m.n m.one).0
+        (network_kept m.n.network files m.b m.three) (cells_kept m.n.library files m.a m.two) m.comes.within.forms m.comes.netlist m.comes.is_mapped;
+  }
 
   -- an answer that is a text is that of a mapping
   pub answer-mapped : (text : List ℕ) → IsAnswer words files (Ok text) → IsMappingText words files text
   answer-mapped text answer =
-      let m = text-mapped text answer in
-      let wide = subst (λ k. 2 ≤ k) (sym m.read.width_is) (width_bounds words m.read.names m.read.form).0 in
-      record {
-        width = m.width;
-        cells = m.cells;
-        network = m.network;
-        netlist = m.maps.netlist;
-        read = m.read;
-        written = m.maps.written;
-        mapped = m.maps.is_mapped;
-        mapping =
-            mapped_is_mapping m.width m.cells m.network m.maps.netlist wide
-            (cells_kept m.read.names.library files m.cells m.read.library) (network_kept m.read.names.network files m.network m.read.network) m.maps.within m.maps.is_mapped;
-      }
+      mapping-text text (reached-ok (gives (λ fs. names_of words)) (λ (n : Names). ReadsLibrary n.library) (λ (n : Names). ReadsNetwork n.network) (λ (n : Names) (cells : List CellParts) (net : NetworkParts). Maps n.width cells net) files text answer)
 
-  -- the steps before an output without a cover
-  name-mapped : (name : List ℕ) → IsAnswer words files (Err (NoCover name)) → IsMapped (Err (NoCover name))
-  name-mapped name (inl (n, form, inl (cells, library, inl (net, network, maps)))) =
-      record { width = n.width; cells = cells; network = net; read = record { names = n; form = form; width_is = refl; library = library; network = network }; maps = maps }
-  name-mapped name (inl (n, form, inl (cells, library, inr (e, refused, is)))) = absurd (network-stands n.network files name (subst (λ c. ReadsNetwork n.network files (Err c)) (cause e (NoCover name) is) refused))
-  name-mapped name (inl (n, form, inr (e, refused, is))) = absurd (library-stands n.library files name (subst (λ c. ReadsLibrary n.library files (Err c)) (cause e (NoCover name) is) refused))
-  name-mapped name (inr (e, refused, is)) = absurd (words-stand words name (refused ∙ ap (λ c. Err c) (cause e (NoCover name) is)))
+  lacks-output : (name : List ℕ) → IsMapped (Err (NoCover name)) → LacksOutput words files name
+  lacks-output name m =
+      record { width = m.n.width; cells = m.a; network = m.b; read = record { names = m.n; form = m.one; width_is = refl; library = m.two; network = m.three }; lacks = m.comes }
 
   -- an answer that names an output is of one without a cover
   pub answer-lacks : (name : List ℕ) → IsAnswer words files (Err (NoCover name)) → LacksOutput words files name
   answer-lacks name answer =
-      let m = name-mapped name answer in
-      record { width = m.width; cells = m.cells; network = m.network; read = m.read; lacks = m.maps }
+      lacks-output name (reached-err (gives (λ fs. names_of words)) (λ (n : Names). ReadsLibrary n.library) (λ (n : Names). ReadsNetwork n.network) (λ (n : Names) (cells : List CellParts) (net : NetworkParts). Maps n.width cells net) files (NoCover name) (words-stand words name) (λ n. library-stands n.library files name) (λ n. network-stands n.network files name) answer)
 
 module _ {O : Type 0} (words : List (List ℕ)) (told : Option (List File)) (before now : ℕ) (taken : O → Option (List ℕ)) (is_finished : O → Bool) (faults : O → ℕ) (old new : O) (said : List ℕ → Type 0) where
   abbrev pub Met : Outcome → Type 0

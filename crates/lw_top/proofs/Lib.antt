@@ -8,7 +8,7 @@ pub mod Headline
 pub mod Closed
 pub mod Sound
 pub mod MapsOnce
-pub mod MapsAre
+pub mod Mappings
 pub mod One
 pub mod Hashes
 pub mod Given

@@ -6,5 +6,5 @@ use Rattle.lw_top.specs.declared.refusal.Refusal.{Refusal}
 use Rattle.lw_top.specs.Steps.{Files}
 use Rattle.lw_top.specs.Maps.{Maps}
 
-pub maps_once : (width : ℕ) (cells : List CellParts) (net : NetworkParts) → 2 ≤ width → IsLibrary cells → IsNetwork net → (files : Files) (a b : Result (List ℕ) Refusal) → Maps width cells net files a → Maps width cells net files b → a ≡ b
-maps_once width cells net wide library network files a b p q = ?
+pub maps_once : (width : ℕ) (cells : List CellParts) (net : NetworkParts) → 2 ≤ width → IsNetwork net → IsLibrary cells → (files : Files) (a b : Result (List ℕ) Refusal) → Maps width cells net files a → Maps width cells net files b → a ≡ b
+maps_once width cells net wide kept lib files a b p q = ?

@@ -74,7 +74,7 @@ map_one n wide =
     followed_one IsLibrary (ReadsLibrary n.library) (λ cells. followed_by (ReadsNetwork n.network) (λ net. Maps n.width cells net))
     (library_one n.library) (cells_kept n.library)
     (λ cells library. followed_one IsNetwork (ReadsNetwork n.network) (λ net. Maps n.width cells net) (network_one n.network) (network_kept n.network)
-    (λ net network files a b p q. maps_once n.width cells net wide.0 library network files a b p q))
+    (λ net network files a b p q. maps_once n.width cells net wide.0 network library files a b p q))
 
 pub answer_one : (words : List (List ℕ)) (files : Files) (a b : Result (List ℕ) Refusal) → IsAnswer words files a → IsAnswer words files b → a ≡ b
 answer_one words = followed_one HasWidth (gives (λ files. names_of words)) IsMapAnswer (gives_one (λ files. names_of words)) (λ files n p. width_bounds words n p) map_one

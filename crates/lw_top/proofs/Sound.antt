@@ -1,6 +1,6 @@
 -- What is known of the width, the cells and the network that were read.
 use Rattle.std.proofs.Common.{◌≡◌, inl, inr, ℕ, ◌≤◌, ◌-◌, Bool, true, false, ◌&&◌, nat_le, List, [], ◌∷◌, Option, Some, None, Result, Ok, Err, if◌then◌else◌, refl, sym, ap, ◌∙◌, subst, arith}
-use Rattle.std.proofs.lemmas.Bool.{leb-le}
+use Rattle.std.proofs.lemmas.Bool.{leb-true}
 use Rattle.lw_net.specs.Networks.{NetworkParts, IsNetwork}
 use Rattle.lw_genlib.specs.Cells.{CellParts, IsLibrary}
 use Rattle.lw_top.specs.declared.refusal.Refusal.{Refusal}
@@ -18,8 +18,8 @@ AreWidths option = (width : ℕ) → option ≡ Some width → IsWidth width
 digit-width : (low high : Bool) (digit : ℕ) → nat_le 50 digit ≡ low → nat_le digit 56 ≡ high → AreWidths (if low && high then Some (digit - 48) else None)
 digit-width true true digit above below width is =
     let same : digit - 48 ≡ width = cc in
-    let le : 50 ≤ digit = leb-le _ _ above in
-    let ge : digit ≤ 56 = leb-le _ _ below in
+    let le : 50 ≤ digit = leb-true _ _ above in
+    let ge : digit ≤ 56 = leb-true _ _ below in
     (omega arith, omega arith)
 digit-width true false digit above below width is = cc
 digit-width false high digit above below width is = cc

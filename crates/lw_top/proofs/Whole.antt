@@ -9,8 +9,8 @@ use Rattle.lw_top.specs.declared.outcome.Outcome.{Outcome}
 use Rattle.lw_top.specs.declared.outcome.Outcome.TheVariants.{Done, WriteFault, Refused}
 use Rattle.lw_top.specs.Answers.{status_of, status_in}
 use Rattle.lw_top.specs.Steps.{Step}
-use Rattle.lw_top.specs.Reading.{HasReason}
-use Rattle.lw_top.specs.Outcome.{Meets, outcome_status}
+use Rattle.lw_top.specs.Reading.{Known, HasReason}
+use Rattle.lw_top.specs.Outcome.{IsDone, Meets, outcome_status}
 
 -- the answer of known files has this status
 abbrev pub HasStatus : Step (List ℕ) → List File → ℕ → Type 0
@@ -29,6 +29,12 @@ module _ {O : Type 0} (told : Option (List File)) (before now : ℕ) (taken : O 
   unread Done m e = absurd (omega (arith, e))
   unread WriteFault m e = absurd (omega (arith, e))
   unread (Refused r) m e = refused_unread r m.0 e
+
+  pub done : (o : Outcome) → Met o → outcome_status o ≡ 0 → (text : List ℕ) × Known told answer (Ok text) × IsDone taken is_finished old new text
+  done Done m e = m
+  done WriteFault m e = absurd (omega (arith, e))
+  done (Refused (Unread w)) m e = absurd (omega (arith, e))
+  done (Refused other) m e = absurd (omega (arith, e))
 
   pub agrees : (o : Outcome) (status : ℕ) (files : List File) → Met o → status ≡ outcome_status o → told ≡ Some files → status ≢ 2 → status ≢ 7 → status ≢ 8 → HasStatus answer files status
   agrees Done status files m e is not_2 not_7 not_8 = (Ok m.0, m.1 files is, e)

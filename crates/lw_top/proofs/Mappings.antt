@@ -9,7 +9,7 @@ use Rattle.lw_genlib.specs.Tables.{delays_of_cells, truth_of_cells}
 use Rattle.lw_pattern.specs.Libraries.{library_patterns}
 use Rattle.lw_netlist.specs.Netlists.{NetlistParts}
 use Rattle.lw_netlist.specs.Plain.{plain as plain_netlist}
-use Rattle.lw_top.specs.Maps.{IsMappedNetlist, IsWithinLimits, ports_of, mapped_ports}
+use Rattle.lw_top.specs.Maps.{IsMappedNetlist, base_count, ports_of, mapped_ports}
 
-pub mapped_is_mapping : (width : ℕ) (cells : List CellParts) (network : NetworkParts) (mapped : NetlistParts) → 2 ≤ width → IsLibrary cells → IsNetwork network → IsWithinLimits width network → IsMappedNetlist width cells network mapped → IsMapping plain_mode width (plain_network network) (ports_of network) (library_patterns cells) (delays_of_cells cells) (truth_of_cells cells) (plain_netlist mapped) (mapped_ports mapped)
-mapped_is_mapping width cells network mapped wide library kept within is = ?
+pub mapped_is_mapping : (width : ℕ) (cells : List CellParts) (network : NetworkParts) → 2 ≤ width → IsNetwork network → IsLibrary cells → base_count width network ≤ 2097152 → (mapped : NetlistParts) → IsMappedNetlist width cells network mapped → IsMapping plain_mode width (plain_network network) (ports_of network) (library_patterns cells) (delays_of_cells cells) (truth_of_cells cells) (plain_netlist mapped) (mapped_ports mapped)
+mapped_is_mapping width cells network wide kept lib few mapped is = ?
