@@ -84,7 +84,12 @@ fn names_of(words: &[String]) -> Result<Names<'_>, Refusal>
 {
     match words {
         [command, library, network] => {
-            at_width(command.as_str(), Some(6), library.as_str(), network.as_str())
+            at_width(
+                command.as_str(),
+                Some(6),
+                library.as_str(),
+                network.as_str(),
+            )
         }
         [command, option, width, library, network] => at_width(
             command.as_str(),
