@@ -6,7 +6,7 @@ use Rattle.lw_top.specs.declared.refusal.Refusal.{Refusal}
 use Rattle.lw_top.specs.Steps.{gives, followed_by}
 use Rattle.lw_top.specs.Maps.{Maps}
 use Rattle.lw_top.specs.Answers.{names_of, ReadsLibrary, ReadsNetwork, IsMapAnswer}
-use Rattle.lw_top.specs.Named.{names, text_in}
+use Rattle.lw_top.specs.Named.{names}
 use Rattle.lw_top.proofs.Steps.{refused, refused_later, answered}
 use Rattle.lw_top.proofs.Comings.{reason}
 use Rattle.lw_top.proofs.Sound.{width_bounds}

@@ -1,6 +1,6 @@
 use Rattle.std.proofs.Common.{◌≡◌, ℕ, List, length}
 use Rattle.lw_words.specs.Lines.{LogicalLine}
-use Rattle.lw_words.specs.Standing.{is_marked, is_finished, fed_count}
+use Rattle.lw_words.specs.Standing.{is_finished, fed_count}
 use Rattle.lw_top.specs.Texts.{IsGiven}
 use Rattle.lw_top.proofs.texts.give_lines.Given as goal
 

@@ -1,4 +1,4 @@
-use Rattle.std.proofs.Common.{rules, take, sym, ◌∙◌, arith}
+use Rattle.std.proofs.Common.{rules, take, ◌∙◌, arith}
 use Rattle.lw_top.specs.Answers.{lines_in}
 use Rattle.lw_top.proofs.Given.{nothing-fed, more-fed, all-fed, all-given}
 use Rattle.lw_top.proofs.texts.read_lines.Goals as goal

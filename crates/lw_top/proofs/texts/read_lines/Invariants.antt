@@ -1,6 +1,5 @@
-use Rattle.std.proofs.Common.{◌≡◌, ◌≤◌, false, take, length}
+use Rattle.std.proofs.Common.{◌≡◌, ◌≤◌, ◌-◌, false, take, length}
 use Rattle.lw_words.specs.Standing.{is_finished, fed_count}
-use Rattle.std.proofs.Common.{◌-◌}
 use Rattle.lw_top.specs.Answers.{lines_in}
 use Rattle.lw_top.specs.Texts.{IsGiven}
 use Rattle.lw_top.proofs.texts.read_lines.Given as goal
