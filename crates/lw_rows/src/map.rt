@@ -162,8 +162,8 @@ fn refusals_have_their_lines(rt: HostRuntime) -> Result<(), Fail> {
         refused(
             INVERTER,
             b".model m\n.inputs a b\n.outputs f\n.names a b f\n11 1\n.end\n",
-            3,
-            b"lwmap: IN line 4: not built yet\n",
+            6,
+            b"lwmap: no cover for output f\n",
         ),
         refused(
             INVERTER,
@@ -177,12 +177,17 @@ fn refusals_have_their_lines(rt: HostRuntime) -> Result<(), Fail> {
             3,
             b"lwmap: IN: undefined signal f\n",
         ),
-        refused(INVERTER, b"", 3, b"lwmap: IN line 1: not built yet\n"),
+        refused(
+            INVERTER,
+            b".model m\n.latch a b\n",
+            3,
+            b"lwmap: IN line 2: command not supported\n",
+        ),
         refused(
             b"GATE inv 1 O=!a;\n",
             head,
             4,
-            b"lwmap: LIB line 2: not built yet\n",
+            b"lwmap: LIB line 1: pin without delay\n",
         ),
     ];
     for row in rows {

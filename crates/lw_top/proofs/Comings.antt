@@ -3,8 +3,8 @@ use Rattle.std.proofs.Common.{ℕ, List, Option, Ok, Err, Result}
 use Rattle.lw_io.specs.declared.file.File.{File}
 use Rattle.lw_io.specs.Files.{bytes_of}
 use Rattle.lw_top.specs.declared.refusal.Refusal.{Refusal}
-use Rattle.lw_top.specs.declared.refusal.Refusal.TheVariants.{Words, Unread, TooLong, NotBuilt, Undefined, Cycle, NoCover, Memory}
-use Rattle.lw_top.specs.Answers.{Step}
+use Rattle.lw_top.specs.declared.refusal.Refusal.TheVariants.{Words, Unread, TooLong, Memory}
+use Rattle.lw_top.specs.Steps.{Step}
 use Rattle.lw_top.specs.Reading.{HasReason, Reads}
 use Rattle.lw_top.specs.Named.{Comes}
 
@@ -13,11 +13,8 @@ module _ {X A : Type 0} (view : X → A) (told : Option (List File)) (before now
   reason Words c = absurd c
   reason (Unread w) c = absurd c
   reason (TooLong w) c = absurd c
-  reason (NotBuilt w line) c = λ files is. c (bytes_of files)
-  reason (Undefined name) c = λ files is. c (bytes_of files)
-  reason (Cycle name) c = λ files is. c (bytes_of files)
-  reason (NoCover name) c = λ files is. c (bytes_of files)
   reason Memory c = tt
+  reason other c = λ files is. c (bytes_of files)
 
   pub comes : (r : Result X Refusal) → Comes view step r → Reads view told before now step r
   comes (Ok x) c = λ files is. c (bytes_of files)

@@ -1,56 +1,160 @@
--- Words over known files come to an answer.
-use Rattle.std.proofs.Common.{◌≡◌, inl, inr, ℕ, List, Result, Ok, Err, refl}
-use Rattle.lw_net.specs.declared.draft.Draft.{Draft}
-use Rattle.lw_net.specs.Closing.{IsDraft}
-use Rattle.lw_plain.specs.Networks as network
-use Rattle.lw_plain.proofs.Drafts.{draft-closable}
-use Rattle.lw_top.specs.declared.refusal.Refusal.{Refusal}
-use Rattle.lw_top.specs.declared.refusal.Which.TheVariants as which
-use Rattle.lw_top.specs.Answers.{Files, Step, gives, followed_by, Names, names_of, text_of, built, cells_in, draft_in, Closes, mapped, IsLibrary, IsNetwork, IsMapAnswer, IsAnswer}
-use Rattle.lw_top.proofs.Depths.{closes_some}
+-- What a reader was given, call by call.
+use Rattle.std.proofs.Common.{◌≡◌, ℕ, zero, suc, ◌+◌, ◌-◌, ◌<◌, ◌≤◌, Bool, true, false, cond, List, [], ◌∷◌, ◌++◌, length, take, drop, get_or, All, Option, Some, None, refl, sym, ap, ◌∙◌, subst, arith, length-append, length-drop}
+use Rattle.std.specs.Prelude.{slice_get, slice_range, option_to_list}
+use Rattle.std.proofs.Math.Seq.{take-add}
+use Rattle.std.proofs.lemmas.Option.{slice_get_within, get_or_from_slice_get, slice_get-get_or}
+use Rattle.std.proofs.lemmas.List.{take_all, take-append-drop, append-nil}
+use Rattle.lw_words.specs.declared.lines.Lines.{Lines}
+use Rattle.lw_words.specs.Lines.{LogicalLine, logical_lines, finished_lines}
+use Rattle.lw_words.specs.Standing.{StandsFor, is_marked, is_finished, lines_so_far}
+use Rattle.lw_words.proofs.Behind.{logical_lines-behind}
+use Rattle.lw_genlib.specs.Standing.{HasNoHash}
+use Rattle.lw_top.specs.Texts.{IsGiven, IsGivenAll, IsGivenSome}
+use Rattle.lw_top.proofs.Hashes.{logical-plain, finished-plain}
 
--- what the step comes to, over these files
-abbrev Comes : {A : Type 0} → Step A → Files → Type 0
-Comes {A} step files = (r : Result A Refusal) × step files r
+-- the lines so far, by what they depend on
+abbrev lines_by : Bool → Bool → List ℕ → List LogicalLine
+lines_by finished marked fed = cond finished (logical_lines marked fed) (finished_lines marked fed)
 
-gives_some : {A : Type 0} (f : Files → Result A Refusal) (files : Files) → Comes (gives f) files
-gives_some f files = (f files, refl)
+same-lines : (old new : Lines) (fed : List ℕ) → is_marked new ≡ is_marked old → is_finished new ≡ is_finished old → lines_so_far new fed ≡ lines_so_far old fed
+same-lines old new fed marked finished = ap (λ m. lines_by new.finished m fed) marked ∙ ap (λ f. lines_by f old.marked fed) finished
 
-followed_some : {A B : Type 0} (first : Step A) (next : A → Step B) (files : Files) → Comes first files → ((x : A) → first files (Ok x) → Comes (next x) files) → Comes (followed_by first next) files
-followed_some first next files (Ok x, p) each = let (r, q) = each x p in (r, inl (x, p, q))
-followed_some first next files (Err e, p) each = (Err e, inr (e, p, refl))
+all-plain : (finished marked : Bool) (fed : List ℕ) → marked ≡ false → All HasNoHash (lines_by finished marked fed)
+all-plain true marked fed is = subst (λ m. All HasNoHash (logical_lines m fed)) (sym is) (logical-plain fed)
+all-plain false marked fed is = subst (λ m. All HasNoHash (finished_lines m fed)) (sym is) (finished-plain fed)
 
-library_some : (name : List ℕ) (files : Files) → Comes (IsLibrary name) files
-library_some name files =
-    followed_some (gives (text_of which.Library name)) (λ bytes. gives (cells_in bytes)) files (gives_some (text_of which.Library name) files) (λ bytes p. gives_some (cells_in bytes) files)
+-- Places in lists
 
-built_from : {A : Type 0} (r : Result A ℕ) (x : A) → built which.Network r ≡ Ok x → r ≡ Ok x
-built_from (Ok y) x e = let same : y ≡ x = cc in cc
-built_from (Err line) x e = cc
+get-front : {X : Type 0} (xs ys : List X) (k : ℕ) (x : X) → slice_get xs k ≡ Some x → slice_get (xs ++ ys) k ≡ Some x
+get-front [] ys k x is = cc
+get-front (y ∷ xs) ys zero x is = is
+get-front (y ∷ xs) ys (suc k) x is = get-front xs ys k x is
 
-closable : (bytes : List ℕ) (files : Files) (draft : Draft) → draft_in bytes files ≡ Ok draft → IsDraft draft
-unfolding draft_in
-closable bytes files draft e = draft-closable bytes draft (built_from (network.draft_of bytes) draft e)
+take-next : {X : Type 0} (xs : List X) (k : ℕ) (x : X) → slice_get xs k ≡ Some x → take (suc k) xs ≡ take k xs ++ x ∷ []
+take-next [] k x is = cc
+take-next (y ∷ xs) zero x is = let same : y ≡ x = cc in ap (λ z. z ∷ []) same
+take-next (y ∷ xs) (suc k) x is = ap (λ zs. y ∷ zs) (take-next xs k x is)
 
--- the steps to a draft
-abbrev Drafts : List ℕ → Step Draft
-Drafts name = followed_by (gives (text_of which.Network name)) (λ bytes. gives (draft_in bytes))
+none-left : {X : Type 0} (xs : List X) (k : ℕ) → slice_get xs k ≡ None → length xs ≤ k
+none-left [] k is = omega arith
+none-left (y ∷ xs) zero is = cc
+none-left (y ∷ xs) (suc k) is = let le = none-left xs k is in omega (arith, le)
 
-closable_draft : (name : List ℕ) (files : Files) (draft : Draft) → Drafts name files (Ok draft) → IsDraft draft
-closable_draft name files draft (inl (bytes, p, q)) = closable bytes files draft q
-closable_draft name files draft (inr (e, p, q)) = cc
+module _ {R : Type 0} (given : R → List LogicalLine → Type 0) where
+  -- what is taken
+  abbrev pub TakesAt : Lines → Option LogicalLine → Type 0
+  TakesAt old result = (fed : List ℕ) (taken : ℕ) → StandsFor old fed taken → result ≡ slice_get (lines_so_far old fed) taken
 
-network_some : (name : List ℕ) (files : Files) → Comes (IsNetwork name) files
-network_some name files =
-    followed_some (Drafts name) Closes files
-    (followed_some (gives (text_of which.Network name)) (λ bytes. gives (draft_in bytes)) files (gives_some (text_of which.Network name) files) (λ bytes p. gives_some (draft_in bytes) files))
-    (λ draft p. closes_some draft (closable_draft name files draft p) files)
+  abbrev pub StandsBehind : Lines → Lines → ℕ → Type 0
+  StandsBehind old new count = (fed : List ℕ) (taken : ℕ) → StandsFor old fed taken → StandsFor new fed (taken + count)
 
-map_some : (n : Names) (files : Files) → Comes (IsMapAnswer n) files
-map_some n files =
-    followed_some (IsLibrary n.library) (λ cells. followed_by (IsNetwork n.network) (λ net. gives (mapped cells net))) files
-    (library_some n.library files)
-    (λ cells p. followed_some (IsNetwork n.network) (λ net. gives (mapped cells net)) files (network_some n.network files) (λ net q. gives_some (mapped cells net) files))
+  -- a line that is taken holds no `#`
+  pub line-plain : (old : Lines) (reader : R) (line : LogicalLine) → IsGivenSome given old reader → TakesAt old (Some line) → HasNoHash line
+  line-plain old reader line (all, fed, g) takes =
+      let at = takes fed g.taken g.stands in
+      subst HasNoHash (get_or_from_slice_get (lines_so_far old fed) g.taken line line (sym at))
+      (all-plain old.finished old.marked fed g.unmarked g.taken line (slice_get_within (lines_so_far old fed) g.taken line (sym at)))
 
-pub some_answer : (words : List (List ℕ)) (files : Files) → (a : Result (List ℕ) Refusal) × IsAnswer words files a
-some_answer words files = followed_some (gives (λ fs. names_of words)) IsMapAnswer files (gives_some (λ fs. names_of words) files) (λ n p. map_some n files)
+  -- a line is taken and given
+  pub line-given : (old new : Lines) (reader next : R) (line : LogicalLine) (all : List LogicalLine) (fed : List ℕ) → IsGiven given old reader all fed → is_marked new ≡ is_marked old → is_finished new ≡ is_finished old → TakesAt old (Some line) → StandsBehind old new 1 → ((lines : List LogicalLine) → given reader lines → given next (lines ++ line ∷ [])) → IsGiven given new next all fed
+  line-given old new reader next line all fed g marked finished takes stands gives =
+      let at : slice_get (lines_so_far old fed) g.taken ≡ Some line = sym (takes fed g.taken g.stands) in
+      let here : slice_get all g.taken ≡ Some line = ap (λ (ls : List LogicalLine). slice_get ls g.taken) g.whole ∙ get-front (lines_so_far old fed) g.rest g.taken line at in
+      let next_place : g.taken + 1 ≡ suc g.taken = omega arith in
+      let more : take (g.taken + 1) all ≡ take g.taken all ++ line ∷ [] = ap (λ k. take k all) next_place ∙ take-next all g.taken line here in
+      record {
+        taken = g.taken + 1;
+        unmarked = marked ∙ g.unmarked;
+        stands = stands fed g.taken g.stands;
+        given = subst (given next) (sym more) (gives (take g.taken all) g.given);
+        rest = g.rest;
+        whole = g.whole ∙ ap (λ (ls : List LogicalLine). ls ++ g.rest) (sym (same-lines old new fed marked finished));
+      }
+
+  -- fewer are left
+  pub fewer-left : (old new : Lines) (reader : R) (line : LogicalLine) → IsGivenSome given old reader → is_marked new ≡ is_marked old → is_finished new ≡ is_finished old → TakesAt old (Some line) → StandsBehind old new 1 → length new.ready.items < length old.ready.items
+  fewer-left old new reader line (all, fed, g) marked finished takes stands =
+      let at : slice_get (lines_so_far old fed) g.taken ≡ Some line = sym (takes fed g.taken g.stands) in
+      let within = slice_get_within (lines_so_far old fed) g.taken line at in
+      let before : length old.ready.items ≡ length (drop g.taken (lines_so_far old fed)) = ap (λ (ls : List LogicalLine). length ls) g.stands.left in
+      let after : length new.ready.items ≡ length (drop (g.taken + 1) (lines_so_far old fed)) = ap (λ (ls : List LogicalLine). length ls) ((stands fed g.taken g.stands).left ∙ ap (drop (g.taken + 1)) (same-lines old new fed marked finished)) in
+      let b = length-drop g.taken (lines_so_far old fed) in
+      let a = length-drop (g.taken + 1) (lines_so_far old fed) in
+      omega (arith, within, before, after, a, b)
+
+  -- no line is left
+  pub no-line : (old new : Lines) (reader : R) (all : List LogicalLine) (fed : List ℕ) → IsGiven given old reader all fed → is_marked new ≡ is_marked old → is_finished new ≡ is_finished old → TakesAt old None → StandsBehind old new 0 → IsGivenAll given new reader all fed
+  no-line old new reader all fed g marked finished takes stands =
+      let same = same-lines old new fed marked finished in
+      record {
+        is_given = record {
+          taken = g.taken;
+          unmarked = marked ∙ g.unmarked;
+          stands = subst (λ (k : ℕ). StandsFor new fed k) (omega arith) (stands fed g.taken g.stands);
+          given = g.given;
+          rest = g.rest;
+          whole = g.whole ∙ ap (λ (ls : List LogicalLine). ls ++ g.rest) (sym same);
+        };
+        no_more = subst (λ (ls : List LogicalLine). length ls ≤ g.taken) (sym same) (none-left (lines_so_far old fed) g.taken (sym (takes fed g.taken g.stands)));
+      }
+
+  pub none-left-over : (old new : Lines) (reader : R) (all : List LogicalLine) (fed : List ℕ) (result : Option LogicalLine) → ((line : LogicalLine) → result ≡ Some line → ⊥) → IsGiven given old reader all fed → is_marked new ≡ is_marked old → is_finished new ≡ is_finished old → TakesAt old result → StandsBehind old new (length (option_to_list result)) → IsGivenAll given new reader all fed
+  none-left-over old new reader all fed None none g marked finished takes stands = no-line old new reader all fed g marked finished takes stands
+  none-left-over old new reader all fed (Some line) none g marked finished takes stands = absurd (none line refl)
+
+  -- Texts
+
+  begun-with : (bytes : List ℕ) (at : ℕ) → (rest : List LogicalLine) × (logical_lines false bytes ≡ finished_lines false (take at bytes) ++ rest)
+  begun-with bytes at =
+      let b = logical_lines-behind false (take at bytes) (drop at bytes) in
+      (b.0, ap (logical_lines false) (sym (take-append-drop at bytes)) ∙ b.1)
+
+  open-lines : (lines : Lines) (fed : List ℕ) → is_marked lines ≡ false → is_finished lines ≡ false → lines_so_far lines fed ≡ finished_lines false fed
+  open-lines lines fed marked finished = ap (λ m. lines_by lines.finished m fed) marked ∙ ap (λ f. lines_by f false fed) finished
+
+  -- nothing was fed
+  pub nothing-fed : (lines : Lines) (reader : R) (bytes : List ℕ) → is_marked lines ≡ false → is_finished lines ≡ false → StandsFor lines [] 0 → given reader [] → IsGiven given lines reader (logical_lines false bytes) (take 0 bytes)
+  nothing-fed lines reader bytes marked finished stands unread =
+      let b = begun-with bytes 0 in
+      record {
+        taken = 0;
+        unmarked = marked;
+        stands = stands;
+        given = unread;
+        rest = b.0;
+        whole = b.1 ∙ ap (λ (ls : List LogicalLine). ls ++ b.0) (sym (open-lines lines [] marked finished));
+      }
+
+  -- more was fed
+  pub more-fed : (old new : Lines) (reader : R) (bytes : List ℕ) (at end : ℕ) → IsGiven given old reader (logical_lines false bytes) (take at bytes) → at ≤ end → end ≤ length bytes → is_marked new ≡ is_marked old → is_finished new ≡ false → ((fed : List ℕ) (taken : ℕ) → StandsFor old fed taken → StandsFor new (fed ++ slice_range bytes at end) taken) → IsGiven given new reader (logical_lines false bytes) (take end bytes)
+  more-fed old new reader bytes at end g le within marked finished stands =
+      let b = begun-with bytes end in
+      let ends : at + (end - at) ≡ end = omega arith in
+      let joined : take at bytes ++ slice_range bytes at end ≡ take end bytes = sym (take-add at (end - at) bytes) ∙ ap (λ k. take k bytes) ends in
+      record {
+        taken = g.taken;
+        unmarked = marked ∙ g.unmarked;
+        stands = subst (λ (fed : List ℕ). StandsFor new fed g.taken) joined (stands (take at bytes) g.taken g.stands);
+        given = g.given;
+        rest = b.0;
+        whole = b.1 ∙ ap (λ (ls : List LogicalLine). ls ++ b.0) (sym (open-lines new (take end bytes) (marked ∙ g.unmarked) finished));
+      }
+
+  -- all was fed
+  pub all-fed : (old new : Lines) (reader : R) (bytes : List ℕ) (at : ℕ) → IsGiven given old reader (logical_lines false bytes) (take at bytes) → length bytes ≤ at → is_marked new ≡ is_marked old → is_finished new ≡ true → ((fed : List ℕ) (taken : ℕ) → StandsFor old fed taken → StandsFor new fed taken) → IsGiven given new reader (logical_lines false bytes) bytes
+  all-fed old new reader bytes at g le marked finished stands =
+      let unmarked = marked ∙ g.unmarked in
+      record {
+        taken = g.taken;
+        unmarked = unmarked;
+        stands = stands bytes g.taken (subst (λ (fed : List ℕ). StandsFor old fed g.taken) (take_all at bytes le) g.stands);
+        given = g.given;
+        rest = [];
+        whole = sym (append-nil (lines_so_far new bytes) ∙ (ap (λ m. lines_by new.finished m bytes) unmarked ∙ ap (λ f. lines_by f false bytes) finished));
+      }
+
+  -- all lines were given
+  pub all-given : (lines : Lines) (reader : R) (bytes : List ℕ) → IsGivenAll given lines reader (logical_lines false bytes) bytes → is_finished lines ≡ true → given reader (logical_lines false bytes)
+  all-given lines reader bytes g finished =
+      let same : lines_so_far lines bytes ≡ logical_lines false bytes = ap (λ m. lines_by lines.finished m bytes) g.is_given.unmarked ∙ ap (λ f. lines_by f false bytes) finished in
+      subst (given reader) (take_all g.is_given.taken (logical_lines false bytes) (subst (λ (ls : List LogicalLine). length ls ≤ g.is_given.taken) same g.no_more)) g.is_given.given

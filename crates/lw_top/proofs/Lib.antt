@@ -6,7 +6,9 @@ pub mod Serving
 pub mod Whole
 pub mod Headline
 pub mod Closed
+pub mod Sound
+pub mod MapsOnce
+pub mod Mappings
 pub mod One
-pub mod Reached
-pub mod Depths
+pub mod Hashes
 pub mod Given

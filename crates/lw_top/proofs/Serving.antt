@@ -1,7 +1,7 @@
 -- A text that the definition gives was written, or a part of it.
 use Rattle.std.proofs.Common.{ℕ, Bool, List, Option, Ok}
 use Rattle.lw_io.specs.declared.file.File.{File}
-use Rattle.lw_top.specs.Answers.{Step}
+use Rattle.lw_top.specs.Steps.{Step}
 use Rattle.lw_top.specs.Reading.{Known}
 use Rattle.lw_top.specs.declared.outcome.Outcome.{Outcome}
 use Rattle.lw_top.specs.declared.outcome.Outcome.TheVariants.{Done, WriteFault, Refused}

@@ -1,9 +1,9 @@
 -- One step after another, over files that may be known.
-use Rattle.std.proofs.Common.{inl, inr, ℕ, ◌≤◌, List, Option, Result, Ok, Err, refl, arith}
+use Rattle.std.proofs.Common.{◌≡◌, inl, inr, ℕ, ◌≤◌, List, Option, Result, Ok, Err, refl, subst, arith}
 use Rattle.lw_io.specs.declared.file.File.{File}
 use Rattle.lw_top.specs.declared.refusal.Refusal.{Refusal}
-use Rattle.lw_top.specs.declared.refusal.Refusal.TheVariants.{Words, Unread, TooLong, NotBuilt, Undefined, Cycle, NoCover, Memory}
-use Rattle.lw_top.specs.Answers.{Step, followed_by}
+use Rattle.lw_top.specs.declared.refusal.Refusal.TheVariants.{Unread, Memory}
+use Rattle.lw_top.specs.Steps.{Files, Step, followed_by}
 use Rattle.lw_top.specs.Reading.{Known, HasReason, Reads}
 
 module _ {A B : Type 0} (told : Option (List File)) (first : Step A) (next : A → Step B) where
@@ -14,13 +14,8 @@ module _ {A B : Type 0} (told : Option (List File)) (first : Step A) (next : A �
   pub refused : (before now : ℕ) (e : Refusal) → HasReason told before now first e → HasReason told before now (followed_by first next) e
   refused before now (Unread w) (inl rose) = inl rose
   refused before now (Unread w) (inr found) = inr (found.0, found.1, inr (Unread w, found.2, refl))
-  refused before now Words known = stop Words known
-  refused before now (TooLong w) known = stop (TooLong w) known
-  refused before now (NotBuilt w line) known = stop (NotBuilt w line) known
-  refused before now (Undefined name) known = stop (Undefined name) known
-  refused before now (Cycle name) known = stop (Cycle name) known
-  refused before now (NoCover name) known = stop (NoCover name) known
   refused before now Memory known = tt
+  refused before now other known = stop other known
 
   -- a step after the first answers
   pub answered : (x : A) (r : Result B Refusal) → Known told first (Ok x) → Known told (next x) r → Known told (followed_by first next) r
@@ -30,15 +25,39 @@ module _ {A B : Type 0} (told : Option (List File)) (first : Step A) (next : A �
   pub refused_later : (before mid now : ℕ) (x : A) (e : Refusal) → before ≤ mid → Known told first (Ok x) → HasReason told mid now (next x) e → HasReason told before now (followed_by first next) e
   refused_later before mid now x (Unread w) le known (inl rose) = inl (omega arith)
   refused_later before mid now x (Unread w) le known (inr found) = inr (found.0, found.1, inl (x, known found.0 found.1, found.2))
-  refused_later before mid now x Words le known later = answered x (Err Words) known later
-  refused_later before mid now x (TooLong w) le known later = answered x (Err (TooLong w)) known later
-  refused_later before mid now x (NotBuilt w line) le known later = answered x (Err (NotBuilt w line)) known later
-  refused_later before mid now x (Undefined name) le known later = answered x (Err (Undefined name)) known later
-  refused_later before mid now x (Cycle name) le known later = answered x (Err (Cycle name)) known later
-  refused_later before mid now x (NoCover name) le known later = answered x (Err (NoCover name)) known later
   refused_later before mid now x Memory le known later = tt
+  refused_later before mid now x other le known later = answered x (Err other) known later
 
 -- the first step answers, and what comes after it is what the second says
 pub after_reading : {X A B : Type 0} (view : X → B) (told : Option (List File)) (before mid now : ℕ) (first : Step A) (next : A → Step B) (x : A) (r : Result X Refusal) → before ≤ mid → Known told first (Ok x) → Reads view told mid now (next x) r → Reads view told before now (followed_by first next) r
 after_reading view told before mid now first next x (Ok y) le known later = answered told first next x (Ok (view y)) known later
 after_reading view told before mid now first next x (Err e) le known later = refused_later told first next before mid now x e le known later
+
+-- Three steps and then a last one
+
+module _ {N A B T : Type 0} (first : Step N) (second : N → Step A) (third : N → Step B) (last : N → A → B → Step T) (files : Files) where
+  abbrev pub Last : Result T Refusal → Type 0
+  Last r = followed_by first (λ n. followed_by (second n) (λ a. followed_by (third n) (λ b. last n a b))) files r
+
+  -- the three steps answered, and the last comes to this
+  pub record IsReached (r : Result T Refusal) : Type 0 where
+    pub n : N
+    pub a : A
+    pub b : B
+    pub one : first files (Ok n)
+    pub two : second n files (Ok a)
+    pub three : third n files (Ok b)
+    pub comes : last n a b files r
+
+  pub reached-ok : (x : T) → Last (Ok x) → IsReached (Ok x)
+  reached-ok x (inl (n, one, inl (a, two, inl (b, three, comes)))) = record { n = n; a = a; b = b; one = one; two = two; three = three; comes = comes }
+  reached-ok x (inl (n, one, inl (a, two, inr (e, refused, is)))) = cc
+  reached-ok x (inl (n, one, inr (e, refused, is))) = cc
+  reached-ok x (inr (e, refused, is)) = cc
+
+  -- a refusal that none of the three gives
+  pub reached-err : (c : Refusal) → (first files (Err c) → ⊥) → ((n : N) → second n files (Err c) → ⊥) → ((n : N) → third n files (Err c) → ⊥) → Last (Err c) → IsReached (Err c)
+  reached-err c not_one not_two not_three (inl (n, one, inl (a, two, inl (b, three, comes)))) = record { n = n; a = a; b = b; one = one; two = two; three = three; comes = comes }
+  reached-err c not_one not_two not_three (inl (n, one, inl (a, two, inr (e, refused, is)))) = let same : e ≡ c = cc in absurd (not_three n (subst (λ (f : Refusal). third n files (Err f)) same refused))
+  reached-err c not_one not_two not_three (inl (n, one, inr (e, refused, is))) = let same : e ≡ c = cc in absurd (not_two n (subst (λ (f : Refusal). second n files (Err f)) same refused))
+  reached-err c not_one not_two not_three (inr (e, refused, is)) = let same : e ≡ c = cc in absurd (not_one (subst (λ (f : Refusal). first files (Err f)) same refused))

@@ -1,7 +1,11 @@
+pub mod Steps
+pub mod Maps
 pub mod Answers
 pub mod Reading
 pub mod Named
 pub mod Outcome
+pub mod Kinds
 pub mod Telling
 pub mod Lines
 pub mod Mappings
+pub mod Texts

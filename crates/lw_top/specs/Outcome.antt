@@ -4,7 +4,8 @@ use Rattle.std.specs.Io.KnownBytes.{Appends}
 use Rattle.lw_io.specs.declared.file.File.{File}
 use Rattle.lw_io.specs.Causes.{Rose}
 use Rattle.lw_io.specs.Moves.{AppendsPrefix}
-use Rattle.lw_top.specs.Answers.{Step, status_of}
+use Rattle.lw_top.specs.Steps.{Step}
+use Rattle.lw_top.specs.Answers.{status_of}
 use Rattle.lw_top.specs.Reading.{Known, HasReason}
 use Rattle.lw_top.specs.declared.outcome.Outcome.{Outcome}
 use Rattle.lw_top.specs.declared.outcome.Outcome.TheVariants.{Done, WriteFault, Refused}

@@ -5,8 +5,8 @@ use Rattle.lw_io.specs.declared.file.File.{File}
 use Rattle.lw_io.specs.Causes.{Rose}
 use Rattle.lw_io.specs.Files.{bytes_of}
 use Rattle.lw_top.specs.declared.refusal.Refusal.{Refusal}
-use Rattle.lw_top.specs.declared.refusal.Refusal.TheVariants.{Words, Unread, TooLong, NotBuilt, Undefined, Cycle, NoCover, Memory}
-use Rattle.lw_top.specs.Answers.{Step}
+use Rattle.lw_top.specs.declared.refusal.Refusal.TheVariants.{Unread, Memory}
+use Rattle.lw_top.specs.Steps.{Step}
 
 -- n bytes were read and added to the text: none only where the file ends, or where there is no room
 pub record ReadsPiece (left rest : Option (List ℕ)) (old new : List ℕ) (room n : ℕ) : Type 0 where
@@ -24,14 +24,9 @@ Known told step outcome = (files : List File) → told ≡ Some files → step (
 -- Why a call refused: a file was not read because the count of faults rose, or because known files lack it.
 abbrev pub HasReason : {A : Type 0} → Option (List File) → ℕ → ℕ → Step A → Refusal → Type 0
 HasReason told before now step (Unread w) = Rose before now ⊎ ((files : List File) × (told ≡ Some files) × step (bytes_of files) (Err (Unread w)))
-HasReason told before now step Words = Known told step (Err Words)
-HasReason told before now step (TooLong w) = Known told step (Err (TooLong w))
-HasReason told before now step (NotBuilt w line) = Known told step (Err (NotBuilt w line))
-HasReason told before now step (Undefined name) = Known told step (Err (Undefined name))
-HasReason told before now step (Cycle name) = Known told step (Err (Cycle name))
-HasReason told before now step (NoCover name) = Known told step (Err (NoCover name))
 -- want of memory needs no reason
 HasReason told before now step Memory = Unit {0}
+HasReason told before now step other = Known told step (Err other)
 
 -- What a call answered, seen by view, is what the step says of the files, where they are known.
 abbrev pub Reads : {X A : Type 0} → (X → A) → Option (List File) → ℕ → ℕ → Step A → Result X Refusal → Type 0

@@ -2,11 +2,14 @@
 #![tactic(auto)]
 
 mod answer;
+mod kinds;
 pub mod laws;
+mod mapping;
 mod outcome;
 mod reading;
 mod refusal;
 mod telling;
+mod texts;
 mod top;
 
 pub use top::run;

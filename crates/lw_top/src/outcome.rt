@@ -1,11 +1,14 @@
 // What a run comes to.
 ghost use Rattle.std.specs.Prelude.{◌≡◌, ◌↔◌, map, string_bytes, Err};
+ghost use Rattle.lw_netlist.specs.Plain.{IsOver};
 ghost use Rattle.lw_top.specs.Answers.{IsAnswer, names_of};
+ghost use Rattle.lw_top.specs.Named.{text_in};
 ghost use Rattle.lw_top.specs.Outcome.{Meets, Writes};
 
-use crate::answer::answer;
+use crate::answer::{Mapped, answer};
 use crate::refusal::Refusal;
-use lw_io::{Shelf, Sink, write_all};
+use lw_io::{Shelf, Sink};
+use lw_mapped::write;
 use std::alloc::Global;
 
 /// What a run comes to.
@@ -27,16 +30,17 @@ pub fn serve<F: Shelf, O: Sink>(
     ensures meets { Meets (F.files shelf.old) (F.faults shelf.old) (F.faults shelf.new) O.taken O.is_finished O.faults out.old out.new (IsAnswer (map string_bytes words.now)) result }
 {
     match answer(alloc, words, shelf) {
-        Ok(text) => written(out, &text),
+        Ok(answer) => written(&answer, out),
         Err(refusal) => Outcome::Refused(refusal),
     }
 }
 
-// Writes a text, all of it.
-fn written<O: Sink>(out: &mut O, text: &[u8]) -> Outcome
-    ensures { Writes O.taken O.is_finished O.faults out.old out.new text.now result }
+// Writes the mapped text of an answer, all of it.
+fn written<O: Sink>(answer: &Mapped, out: &mut O) -> Outcome
+    requires { IsOver answer.now.library answer.now.netlist }
+    ensures { Writes O.taken O.is_finished O.faults out.old out.new (text_in answer.now) result }
 {
-    match write_all(out, text) {
+    match write(&answer.netlist, &answer.library, None, out) {
         Err(_) => Outcome::WriteFault,
         Ok(()) => match out.finish() {
             Err(_) => Outcome::WriteFault,

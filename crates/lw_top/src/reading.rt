@@ -1,8 +1,9 @@
 // One file, from its opening to its end.
-ghost use Rattle.std.specs.Prelude.{◌≡◌, ◌≢◌, ◌≤◌, ◌<◌, [], length, IfOk, IfErr, IsTrue, vec_len, MatchOption};
+ghost use Rattle.std.specs.Prelude.{◌≡◌, ◌≢◌, ◌≤◌, ◌<◌, [], length, IfOk, IfErr, IfSome, IsTrue, vec_len, MatchOption};
 ghost use Rattle.std.specs.Option.{ForSome};
 ghost use Rattle.lw_io.specs.Causes.{Rose};
-ghost use Rattle.lw_top.specs.Answers.{gives, text_of};
+ghost use Rattle.lw_top.specs.Steps.{gives};
+ghost use Rattle.lw_top.specs.Answers.{text_of};
 ghost use Rattle.lw_top.specs.declared.reading.ReadError.TheVariants.{Failed as ReadFailed, Memory as OutOfMemory};
 ghost use Rattle.lw_top.specs.Reading.{ReadsPiece, Reads};
 
@@ -60,6 +61,7 @@ fn read_all<F: Shelf>(alloc: Global, shelf: &mut F) -> Result<Option<Vec<u8>>, R
     ensures later { F.faults shelf.old ≤ F.faults shelf.new }
     ensures text { IfOk result (λ text. ForSome (F.left shelf.old) (λ bytes.
         MatchOption text (MAX_LEN < length bytes) (λ text. (length bytes ≤ MAX_LEN) × (text.items ≡ bytes)))) }
+    ensures few { IfOk result (λ text. IfSome text (λ v. vec_len v ≤ MAX_LEN)) }
     ensures failed { IfErr result (λ e. e ≡ ReadError.Failed → Rose (F.faults shelf.old) (F.faults shelf.new)) }
 {
     let mut text = Vec::new(alloc);
@@ -83,6 +85,7 @@ pub fn read_file<F: Shelf>(
     ensures files { F.files shelf.new ≡ F.files shelf.old }
     ensures later { F.faults shelf.old ≤ F.faults shelf.new }
     ensures not_words { IfErr result (λ e. e ≢ Refusal.Words) }
+    ensures few { IfOk result (λ v. vec_len v ≤ MAX_LEN) }
     ensures reads { Reads (λ v. v.items) (F.files shelf.old) (F.faults shelf.old) (F.faults shelf.new) (gives (text_of which name.now)) result }
 {
     let Ok(()) = shelf.open(name) else {

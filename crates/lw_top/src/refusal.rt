@@ -1,6 +1,8 @@
 ghost use Rattle.std.specs.Prelude.{◌≡◌};
 ghost use Rattle.lw_top.specs.declared.refusal.Refusal.TheVariants.{Memory};
 
+use lw_blif::BlifKind;
+use lw_genlib::LibKind;
 use lw_pool::Name;
 use std::alloc::AllocError;
 use thiserror::Error;
@@ -24,15 +26,24 @@ pub enum Refusal {
     /// The file has more bytes than are read.
     #[error("too long")]
     TooLong(Which),
-    /// The line, from 1, is of a kind that is not built yet.
-    #[error("not built yet")]
-    NotBuilt(Which, usize),
+    /// The line of the library, from 1, breaks this rule.
+    #[error("library")]
+    Library(u32, LibKind),
+    /// The line of the network, from 1, breaks this rule.
+    #[error("network")]
+    Network(u32, BlifKind),
     /// Nothing drives this signal.
     #[error("undefined signal")]
     Undefined(Name),
     /// This signal reaches itself.
     #[error("cycle")]
     Cycle(Name),
+    /// The network has more forms than are listed.
+    #[error("too many forms")]
+    Forms,
+    /// The forms have more splits than are listed.
+    #[error("too many splits")]
+    Splits,
     /// This output has no cover.
     #[error("no cover")]
     NoCover(Name),

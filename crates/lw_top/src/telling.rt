@@ -1,15 +1,17 @@
 // The line of each outcome.
-ghost use Rattle.std.specs.Prelude.{◌≡◌, ◌++◌, [], ◌∷◌, map, string_bytes, OnOk, OnErr, decimal};
+ghost use Rattle.std.specs.Prelude.{◌≡◌, ◌++◌, [], ◌∷◌, map, string_bytes, OnOk, OnErr, codes, decimal};
 ghost use Rattle.std.specs.Io.KnownBytes.{Appends};
 ghost use Rattle.lw_io.specs.Causes.{HasCause};
 ghost use Rattle.lw_io.specs.Moves.{AppendsPrefix};
-ghost use Rattle.lw_top.specs.Telling.{name_in, outcome_line, refusal_line, refusal_parts, joined, parts};
+ghost use Rattle.lw_top.specs.Telling.{name_in, one_of, outcome_line, refusal_line, refusal_parts, joined, parts, line_parts};
 ghost use Rattle.lw_top.specs.Lines.{parts_of, line_number};
 
+use crate::kinds::{blif_text, lib_text};
 use crate::outcome::Outcome;
 use crate::refusal::{Refusal, Which};
 use itoa::Buffer;
 use lw_io::{Failed, Sink, write_all};
+use lw_pool::Name;
 
 /// Writes the line of an outcome, if it has one.
 pub fn tell<E: Sink>(words: &[String], outcome: &Outcome, err: &mut E) -> Result<(), Failed>
@@ -35,22 +37,23 @@ fn tell_refusal<E: Sink>(words: &[String], refusal: &Refusal, err: &mut E) -> Re
     tell_line(err, line)
 }
 
-/// A line in five parts.
+/// A line in six parts, before its end.
 #[derive(Clone, Copy, Debug)]
 struct Line<'a> {
     before: &'a [u8],
     name: &'a [u8],
     between: &'a [u8],
     detail: &'a [u8],
-    after: &'a [u8],
+    behind: &'a [u8],
+    text: &'a [u8],
 }
 
 // The number of a line that is refused, or 0.
-fn line_number(refusal: &Refusal) -> usize
+fn line_number(refusal: &Refusal) -> u32
     ensures { result ≡ line_number refusal.now }
 {
     match refusal {
-        Refusal::NotBuilt(_, line) => *line,
+        Refusal::Library(line, _) | Refusal::Network(line, _) => *line,
         _ => 0,
     }
 }
@@ -61,64 +64,78 @@ fn line_of<'a>(words: &'a [String], refusal: &'a Refusal, number: &'a [u8]) -> L
 {
     match refusal {
         Refusal::Words => whole(USAGE),
-        Refusal::Unread(which) => named(b"lwmap: cannot read ", name(words, *which), b""),
+        Refusal::Unread(which) => named(b"lwmap: cannot read ", name(words, *which), b"", b""),
         Refusal::TooLong(which) => named(
             b"lwmap: limit: ",
             name(words, *which),
             b" has more than 67108864 bytes",
+            b"",
         ),
-        Refusal::NotBuilt(which, _) => Line {
-            before: b"lwmap: ",
-            name: name(words, *which),
-            between: b" line ",
-            detail: number,
-            after: b": not built yet\n",
-        },
-        Refusal::Undefined(signal) => Line {
-            before: b"lwmap: ",
-            name: name(words, Which::Network),
-            between: b": undefined signal ",
-            detail: signal.as_bytes(),
-            after: b"\n",
-        },
-        Refusal::Cycle(signal) => Line {
-            before: b"lwmap: ",
-            name: name(words, Which::Network),
-            between: b": cycle through ",
-            detail: signal.as_bytes(),
-            after: b"\n",
-        },
-        Refusal::NoCover(output) => named(b"lwmap: no cover for output ", output.as_bytes(), b""),
+        Refusal::Library(_, kind) => broken(name(words, Which::Library), number, lib_text(kind)),
+        Refusal::Network(_, kind) => broken(name(words, Which::Network), number, blif_text(kind)),
+        Refusal::Undefined(signal) => of_network(words, b": undefined signal ", signal),
+        Refusal::Cycle(signal) => of_network(words, b": cycle through ", signal),
+        Refusal::Forms => whole(b"lwmap: limit: more than 2097152 forms"),
+        Refusal::Splits => whole(b"lwmap: limit: more than 16777216 splits"),
+        Refusal::NoCover(output) => named(
+            b"lwmap: no cover for output ",
+            output.as_bytes(),
+            b"",
+            b"",
+        ),
         Refusal::Memory => whole(b"lwmap: out of memory"),
     }
 }
 
 fn whole(before: &[u8]) -> Line<'_>
-    ensures { parts_of result ≡ parts before.now [] [] [] (10 ∷ []) }
+    ensures { parts_of result ≡ parts before.now [] [] [] }
 {
-    named(before, b"", b"")
+    named(before, b"", b"", b"")
 }
 
-fn named<'a>(before: &'a [u8], name: &'a [u8], between: &'a [u8]) -> Line<'a>
-    ensures { parts_of result ≡ parts before.now name.now between.now [] (10 ∷ []) }
+fn named<'a>(before: &'a [u8], name: &'a [u8], between: &'a [u8], detail: &'a [u8]) -> Line<'a>
+    ensures { parts_of result ≡ parts before.now name.now between.now detail.now }
 {
     Line {
         before,
         name,
         between,
-        detail: b"",
-        after: b"\n",
+        detail,
+        behind: b"",
+        text: b"",
     }
 }
 
-// Writes the parts of a line one after another.
+// A signal of the network.
+fn of_network<'a>(words: &'a [String], between: &'a [u8], signal: &'a Name) -> Line<'a>
+    ensures { parts_of result ≡ parts (codes "lwmap: ") (name_in (map string_bytes words.now) Which.Network) between.now signal.now }
+{
+    let file = name(words, Which::Network);
+    named(b"lwmap: ", file, between, signal.as_bytes())
+}
+
+// A line of a file that breaks a rule.
+fn broken<'a>(name: &'a [u8], number: &'a [u8], text: &'a [u8]) -> Line<'a>
+    ensures { parts_of result ≡ line_parts name.now number.now text.now }
+{
+    Line {
+        before: b"lwmap: ",
+        name,
+        between: b" line ",
+        detail: number,
+        behind: b": ",
+        text,
+    }
+}
+
+// Writes the parts of a line one after another, and its end.
 fn tell_line<E: Sink>(err: &mut E, line: Line<'_>) -> Result<(), Failed>
     ensures ok { OnOk result (Appends (E.taken err.old) (E.taken err.new) (joined (parts_of line.entry))) }
     ensures failed { OnErr result (AppendsPrefix (E.taken err.old) (E.taken err.new) (joined (parts_of line.entry))) }
     ensures cause { HasCause (E.faults err.old) (E.faults err.new) result }
 {
-    write_all(err, line.before)?;
-    tell_four(err, line.name, line.between, line.detail, line.after)
+    tell_three(err, line.before, line.name, line.between)?;
+    tell_four(err, line.detail, line.behind, line.text, b"\n")
 }
 
 fn tell_four<E: Sink>(
@@ -154,16 +171,24 @@ fn tell_two<E: Sink>(err: &mut E, first: &[u8], second: &[u8]) -> Result<(), Fai
     write_all(err, second)
 }
 
+fn one_of<'a>(which: Which, library: &'a str, network: &'a str) -> &'a [u8]
+    ensures { result.now ≡ one_of which library.now network.now }
+{
+    match which {
+        Which::Library => library.as_bytes(),
+        Which::Network => network.as_bytes(),
+    }
+}
+
 // The word of a file.
 fn name(words: &[String], which: Which) -> &[u8]
     ensures { result.now ≡ name_in (map string_bytes words.now) which }
 {
-    let [_, library, network] = words else {
-        return b"";
-    };
-    match which {
-        Which::Library => library.as_bytes(),
-        Which::Network => network.as_bytes(),
+    match words {
+        [_, library, network] | [_, _, _, library, network] => {
+            one_of(which, library.as_str(), network.as_str())
+        }
+        _ => b"",
     }
 }
 

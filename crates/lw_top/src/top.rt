@@ -12,7 +12,7 @@ ghost use Rattle.lw_top.specs.declared.outcome.Outcome.{Outcome};
 ghost use Rattle.lw_top.specs.declared.refusal.Refusal.{Refusal};
 
 use crate::outcome::{Outcome, serve};
-use crate::refusal::{Refusal, Which};
+use crate::refusal::Refusal;
 use crate::telling::tell;
 use lw_io::{Shelf, Sink};
 use std::alloc::Global;
@@ -81,10 +81,9 @@ fn status_of(refusal: &Refusal) -> u8
     match refusal {
         Refusal::Words => 1,
         Refusal::Unread(_) => 2,
-        Refusal::NotBuilt(Which::Network, _) => 3,
-        Refusal::Undefined(_) | Refusal::Cycle(_) => 3,
-        Refusal::NotBuilt(Which::Library, _) => 4,
-        Refusal::TooLong(_) => 5,
+        Refusal::Network(..) | Refusal::Undefined(_) | Refusal::Cycle(_) => 3,
+        Refusal::Library(..) => 4,
+        Refusal::TooLong(_) | Refusal::Forms | Refusal::Splits => 5,
         Refusal::NoCover(_) => 6,
         Refusal::Memory => 8,
     }

@@ -1,6 +1,6 @@
 use Rattle.std.proofs.Common.{sym, ◌∙◌, map, string_bytes}
 use Rattle.lw_top.specs.Answers.{IsAnswer}
-use Rattle.lw_top.proofs.Whole.{unread, agrees, complete}
+use Rattle.lw_top.proofs.Whole.{unread, done, agrees, complete}
 use Rattle.lw_top.specs.Telling.{Told}
 use Rattle.lw_top.proofs.Headline.{done-maps, named-lacks}
 use Rattle.lw_top.proofs.Prefix.{told}
@@ -8,6 +8,9 @@ use Rattle.lw_top.proofs.top.run.Goals as goal
 
 pub returns-clause-unread : goal.returns-clause-unread
 returns-clause-unread g c = λ is. unread (g.F.Shelf.files c.args.shelf.now) (g.F.Shelf.faults c.args.shelf.now) (g.F.Shelf.faults c.serve-outcome.new.shelf) g.O.Sink.taken g.O.Sink.is_finished g.O.Sink.faults c.args.out.now c.serve-outcome.new.out (IsAnswer (map string_bytes c.args.words.now.items)) c.serve-outcome.result (rw c.deref.ensures.value at c.serve-outcome.ensures.meets) (sym c.status.ensures ∙ is)
+
+pub returns-clause-done : goal.returns-clause-done
+returns-clause-done g c = λ is. done (g.F.Shelf.files c.args.shelf.now) (g.F.Shelf.faults c.args.shelf.now) (g.F.Shelf.faults c.serve-outcome.new.shelf) g.O.Sink.taken g.O.Sink.is_finished g.O.Sink.faults c.args.out.now c.serve-outcome.new.out (IsAnswer (map string_bytes c.args.words.now.items)) c.serve-outcome.result (rw c.deref.ensures.value at c.serve-outcome.ensures.meets) (sym c.status.ensures ∙ is)
 
 pub returns-clause-agrees : goal.returns-clause-agrees
 returns-clause-agrees g c = λ files is not_2 not_7 not_8. agrees (g.F.Shelf.files c.args.shelf.now) (g.F.Shelf.faults c.args.shelf.now) (g.F.Shelf.faults c.serve-outcome.new.shelf) g.O.Sink.taken g.O.Sink.is_finished g.O.Sink.faults c.args.out.now c.serve-outcome.new.out (IsAnswer (map string_bytes c.args.words.now.items)) c.serve-outcome.result c.status.result files (rw c.deref.ensures.value at c.serve-outcome.ensures.meets) c.status.ensures is not_2 not_7 not_8
