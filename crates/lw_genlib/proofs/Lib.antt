@@ -26,5 +26,4 @@ mod Steps
 mod Strokes
 mod Tables
 mod Texts
-mod Wide
 mod Zips
