@@ -58,6 +58,7 @@ impl LibReader {
         requires { HasNoHash line.now }
         ensures stands { (lines : List LogicalLine) → StandsFor self.old lines → StandsFor self.new (lines ++ line.now ∷ []) }
         ensures answer { (lines : List LogicalLine) → StandsFor self.old lines → Tells result (fault_so_far (lines ++ line.now ∷ [])) }
+        ensures stopped { MatchResult result (λ _. stop_of self.new ≡ None) (λ fault. stop_of self.new ≡ Some fault) }
         ensures again { IfSome (stop_of self.old) (λ fault. result ≡ Err fault) }
         ensures unchanged { IsSome (stop_of self.old) → self.new ≡ self.old }
     {
