@@ -5,6 +5,7 @@ mod Bits
 mod Delays
 mod Evaluating
 mod Faultless
+mod Fronts
 mod Grammars
 mod NameRuns
 mod Joins
@@ -12,6 +13,7 @@ mod LibraryExamples
 mod Lines
 mod Listed
 mod Names
+mod Onward
 mod Pieces
 mod Pins
 mod Plain
@@ -26,5 +28,4 @@ mod Steps
 mod Strokes
 mod Tables
 mod Texts
-mod Wide
 mod Zips

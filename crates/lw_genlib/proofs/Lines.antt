@@ -34,10 +34,10 @@ word-first line ws i w rest is =
 
 -- Long lines.
 
-abbrev faulty : Option ℕ → LibFault → Outcome
-faulty wide fault = record { fault = Some fault; cells = []; wide = wide }
+abbrev faulty : LibFault → Outcome
+faulty fault = record { fault = Some fault; cells = [] }
 
-long-piece : (book : Book) (n : ℕ) (rest : List Token) → reads_on book.wide (piece book (long_line n ∷ rest)) ≡ faulty book.wide (Line n LongWord)
+long-piece : (book : Book) (n : ℕ) (rest : List Token) → reads_on (piece book (long_line n ∷ rest)) ≡ faulty (Line n LongWord)
 unfolding piece
 long-piece book n rest = refl
 
@@ -45,7 +45,7 @@ long-latch : (n : ℕ) (rest : List Token) → behind_latch (long_line n ∷ res
 unfolding behind_latch
 long-latch n rest = refl
 
-long-at : (book : Book) (p : Place) (n : ℕ) (rest : List Token) → reads_on book.wide (piece_at book p (long_line n ∷ rest)) ≡ faulty book.wide (Line n LongWord)
+long-at : (book : Book) (p : Place) (n : ℕ) (rest : List Token) → reads_on (piece_at book p (long_line n ∷ rest)) ≡ faulty (Line n LongWord)
 unfolding text_from
 long-at book (place.Piece e) n rest = long-piece (with_open book e) n rest
 long-at book place.Latch n rest = ap (outcome_from book) (long-latch n rest) ∙ (piece-again book (long_line n ∷ rest) ∙ long-piece book n rest)
@@ -55,21 +55,19 @@ long-at book (place.Function heading text) n rest = refl
 long-at book (place.Pin e) n rest = refl
 long-at book (place.Field e pins field delay) n rest = refl
 
-pub long-resume : (progress : Progress) (n : ℕ) (rest : List Token) → resume progress (long_line n ∷ rest) ≡ faulty progress.book.wide (Line n LongWord)
+pub long-resume : (progress : Progress) (n : ℕ) (rest : List Token) → resume progress (long_line n ∷ rest) ≡ faulty (Line n LongWord)
 unfolding resume
 long-resume progress n rest = long-at progress.book progress.place n rest
 
-pub long-breaks : (progress : Progress) (wide : Option ℕ) (n : ℕ) (tokens : List Token) (rest : List Token) → wide ≡ progress.book.wide → tokens ≡ long_line n ∷ rest → BreaksAt (resume progress tokens) wide (Line n LongWord)
-long-breaks progress wide n tokens rest same is =
-    let e : resume progress tokens ≡ faulty progress.book.wide (Line n LongWord) = ap (resume progress) is ∙ long-resume progress n rest in
-    (ap (λ (o : Outcome). o.fault) e, ap (λ (o : Outcome). o.wide) e ∙ sym same)
+pub long-breaks : (progress : Progress) (n : ℕ) (tokens : List Token) (rest : List Token) → tokens ≡ long_line n ∷ rest → BreaksAt (resume progress tokens) (Line n LongWord)
+long-breaks progress n tokens rest is = ap (λ (o : Outcome). o.fault) (ap (resume progress) is ∙ long-resume progress n rest)
 
 -- Nothing more.
 
-abbrev nothing : Option ℕ → Outcome
-nothing wide = record { fault = None; cells = []; wide = wide }
+abbrev nothing : Outcome
+nothing = record { fault = None; cells = [] }
 
-none-piece : (book : Book) → reads_on book.wide (piece book []) ≡ nothing book.wide
+none-piece : (book : Book) → reads_on (piece book []) ≡ nothing
 unfolding piece
 none-piece book = refl
 
@@ -77,7 +75,7 @@ none-latch : behind_latch [] ≡ []
 unfolding behind_latch
 none-latch = refl
 
-none-at : (book : Book) (p : Place) → reads_on book.wide (piece_at book p []) ≡ nothing book.wide
+none-at : (book : Book) (p : Place) → reads_on (piece_at book p []) ≡ nothing
 unfolding text_from
 none-at book (place.Piece e) = none-piece (with_open book e)
 none-at book place.Latch = ap (outcome_from book) none-latch ∙ (piece-again book [] ∙ none-piece book)
@@ -87,7 +85,7 @@ none-at book (place.Function heading text) = refl
 none-at book (place.Pin e) = refl
 none-at book (place.Field e pins field delay) = refl
 
-pub none-resume : (progress : Progress) → resume progress [] ≡ nothing progress.book.wide
+pub none-resume : (progress : Progress) → resume progress [] ≡ nothing
 unfolding resume
 none-resume progress = none-at progress.book progress.place
 
@@ -101,26 +99,26 @@ end-latch : (n : ℕ) → behind_latch (text_end n ∷ []) ≡ text_end n ∷ []
 unfolding behind_latch
 end-latch n = refl
 
-library-last : (wide : Option ℕ) (r : Result (List CellParts) LibFault) → library_by (reads_on wide (last_piece r)) ≡ r
-library-last wide (Ok cells) = refl
-library-last wide (Err fault) = refl
+library-last : (r : Result (List CellParts) LibFault) → library_by (reads_on (last_piece r)) ≡ r
+library-last (Ok cells) = refl
+library-last (Err fault) = refl
 
 pub end-at_piece : (progress : Progress) (e : Option Entry) (n : ℕ) → progress.place ≡ place.Piece e → library_by (resume progress (text_end n ∷ [])) ≡ joined_with progress.book.cells e
 unfolding resume
 end-at_piece progress e n is =
-    ap (λ (p : Place). library_by (reads_on progress.book.wide (piece_at progress.book p (text_end n ∷ [])))) is
-    ∙ (ap (λ (x : Piece). library_by (reads_on progress.book.wide x)) (end-piece (with_open progress.book e) n) ∙ library-last progress.book.wide (joined_with progress.book.cells e))
+    ap (λ (p : Place). library_by (reads_on (piece_at progress.book p (text_end n ∷ [])))) is
+    ∙ (ap (λ (x : Piece). library_by (reads_on x)) (end-piece (with_open progress.book e) n) ∙ library-last (joined_with progress.book.cells e))
 
 pub end-at_latch : (progress : Progress) (n : ℕ) → progress.place ≡ place.Latch → progress.book.entry ≡ None → library_by (resume progress (text_end n ∷ [])) ≡ Ok progress.book.cells
 unfolding resume
 end-at_latch progress n is none =
-    ap (λ (p : Place). library_by (reads_on progress.book.wide (piece_at progress.book p (text_end n ∷ [])))) is
+    ap (λ (p : Place). library_by (reads_on (piece_at progress.book p (text_end n ∷ [])))) is
     ∙ (ap (λ (ts : List Token). library_by (outcome_from progress.book ts)) (end-latch n)
     ∙ (ap library_by (piece-again progress.book (text_end n ∷ []))
-    ∙ (ap (λ (x : Piece). library_by (reads_on progress.book.wide x)) (end-piece progress.book n)
-    ∙ (library-last progress.book.wide (joined_with progress.book.cells progress.book.entry) ∙ ap (joined_with progress.book.cells) none))))
+    ∙ (ap (λ (x : Piece). library_by (reads_on x)) (end-piece progress.book n)
+    ∙ (library-last (joined_with progress.book.cells progress.book.entry) ∙ ap (joined_with progress.book.cells) none))))
 
-end-others : (book : Book) (p : Place) (n : ℕ) → ((e : Option Entry) → p ≡ place.Piece e → ⊥) → (p ≡ place.Latch → ⊥) → library_by (reads_on book.wide (piece_at book p (text_end n ∷ []))) ≡ Err (Line n Expected)
+end-others : (book : Book) (p : Place) (n : ℕ) → ((e : Option Entry) → p ≡ place.Piece e → ⊥) → (p ≡ place.Latch → ⊥) → library_by (reads_on (piece_at book p (text_end n ∷ []))) ≡ Err (Line n Expected)
 unfolding text_from
 end-others book (place.Piece e) n piece latch = absurd (piece e refl)
 end-others book place.Latch n piece latch = absurd (latch refl)
@@ -142,14 +140,14 @@ cells-ended book new e is = at (joined_with book.cells e) is
     cells_in (Ok b) = Ok b.cells
     cells_in (Err f) = Err f
 
-    at : (r : Result (List CellParts) LibFault) → with_cells book.wide r ≡ Ok new → r ≡ Ok new.cells
+    at : (r : Result (List CellParts) LibFault) → with_cells r ≡ Ok new → r ≡ Ok new.cells
     at (Ok cells) h = ap cells_in h
     at (Err f) h = cc
 
 pub fault-ended : (book : Book) (e : Option Entry) (fault : LibFault) → TellsErr (entry_ended (with_open book e)) fault → TellsErr (joined_with book.cells e) fault
 fault-ended book e (Line line kind) is = at (joined_with book.cells e) is
   where
-    at : (r : Result (List CellParts) LibFault) → with_cells book.wide r ≡ Err (Line line kind) → r ≡ Err (Line line kind)
+    at : (r : Result (List CellParts) LibFault) → with_cells r ≡ Err (Line line kind) → r ≡ Err (Line line kind)
     at (Ok cells) h = cc
     at (Err f) h = cc
 fault-ended book e Memory is = tt

@@ -161,15 +161,14 @@ as_ok book = Ok book
 pub ended-none : (book : Book) → book.entry ≡ None → entry_ended (with_open book None) ≡ Ok book
 ended-none book none = ap (λ (e : Option Entry). as_ok (with_open book e)) (sym none)
 
-pub ended-some : (book new : Book) (entry : Entry) → joined book.cells entry ≡ Ok new.cells → new.wide ≡ book.wide → new.entry ≡ None → entry_ended (with_open book (Some entry)) ≡ Ok new
-ended-some book new entry is wide none =
-    ap (with_cells book.wide) is ∙ ap₂ (λ (w : Option ℕ) (e : Option Entry). as_ok (record { cells = new.cells; entry = e; wide = w })) (sym wide) (sym none)
+pub ended-some : (book new : Book) (entry : Entry) → joined book.cells entry ≡ Ok new.cells → new.entry ≡ None → entry_ended (with_open book (Some entry)) ≡ Ok new
+ended-some book new entry is none = ap with_cells is ∙ ap (λ (e : Option Entry). as_ok (with_open new e)) (sym none)
 
 pub ended-fault : (book : Book) (entry : Entry) (fault : LibFault) → TellsErr (joined book.cells entry) fault → TellsErr (entry_ended (with_open book (Some entry))) fault
-ended-fault book entry (Line line kind) is = ap (with_cells book.wide) is
+ended-fault book entry (Line line kind) is = ap with_cells is
 ended-fault book entry Memory is = tt
 
 pub ended-answer : (book : Book) (o : Option Entry) (entry : Entry) (r : Result Book LibFault) → o ≡ Some entry → MatchResult r (λ (new : Book). joined book.cells entry ≡ Ok new.cells) (TellsErr (joined book.cells entry))
-    → IfOk r (λ (new : Book). new.wide ≡ book.wide) → IfOk r (λ (new : Book). new.entry ≡ None) → MatchResult r (λ (new : Book). entry_ended (with_open book o) ≡ Ok new) (TellsErr (entry_ended (with_open book o)))
-ended-answer book o entry (Ok new) is said wide whole = ap (λ (p : Option Entry). entry_ended (with_open book p)) is ∙ ended-some book new entry said wide whole
-ended-answer book o entry (Err fault) is said wide whole = subst (λ (p : Option Entry). TellsErr (entry_ended (with_open book p)) fault) (sym is) (ended-fault book entry fault said)
+    → IfOk r (λ (new : Book). new.entry ≡ None) → MatchResult r (λ (new : Book). entry_ended (with_open book o) ≡ Ok new) (TellsErr (entry_ended (with_open book o)))
+ended-answer book o entry (Ok new) is said whole = ap (λ (p : Option Entry). entry_ended (with_open book p)) is ∙ ended-some book new entry said whole
+ended-answer book o entry (Err fault) is said whole = subst (λ (p : Option Entry). TellsErr (entry_ended (with_open book p)) fault) (sym is) (ended-fault book entry fault said)

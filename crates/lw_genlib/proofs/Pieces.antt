@@ -11,7 +11,7 @@ use Rattle.lw_fixed.specs.declared.micro.Micro.{Micro}
 use Rattle.lw_genlib.specs.Cells.{CellParts, form_count}
 use Rattle.lw_genlib.specs.Streams.{Token, word_on, long_line, text_end, Reading, done, broken, cut_short, and_then, with_rest, on_line, word_by}
 use Rattle.lw_genlib.specs.Entries.{Text, Entry, text_from, left_over, delay_from, delay_behind, cell_name, number_of, behind_name, behind_area, behind_gate, behind_pin, behind_target, pin_fields, no_delay, with_delay, target_of, pins_of, entry_begun, no_text, with_end, with_word, is_end}
-use Rattle.lw_genlib.specs.Libraries.{Book, Piece, next, stopped, unfinished, finished, piece_by, piece, last_piece, pieces, after, outcome_from, Outcome, behind_latch, begins_entry, go_on_with, entry_ended, entry_on, entry_behind, gate_on, begun_by, continued_by, pin_on, words_behind, with_entry, with_pin, joined_with, is_word}
+use Rattle.lw_genlib.specs.Libraries.{Book, Piece, next, stopped, unfinished, finished, piece_by, piece, last_piece, pieces, after, outcome_from, Outcome, behind_latch, begins_entry, go_on_with, entry_ended, entry_on, entry_behind, gate_on, opened_by, pin_on, words_behind, with_open, joined_with, is_word}
 
 -- what is left is at most so long
 abbrev Within : {A : Type 0} → ℕ → Reading A → Type 0
@@ -91,11 +91,8 @@ behind_pin-within n entry tokens h =
     and_then-within n (word_by (target_of (pins_of entry)) tokens) (λ target rest. behind_target entry target pin_fields no_delay rest) (word_by-within n (target_of (pins_of entry)) tokens h)
     (λ target rest g. and_then-within n (delay_from pin_fields no_delay rest) (λ delay others. done (with_delay entry target delay) others) (delay_from-within n pin_fields no_delay rest g) (λ delay others k. k))
 
-begun_by-within : (n : ℕ) (book : Book) (r : Reading Entry) → Within n r → Within n (begun_by book r)
-begun_by-within n book r h = and_then-within n r (λ begun rest. done (with_entry book begun) rest) h (λ entry rest g. g)
-
-continued_by-within : (n : ℕ) (book : Book) (r : Reading Entry) → Within n r → Within n (continued_by book r)
-continued_by-within n book r h = and_then-within n r (λ more rest. done (with_pin book more) rest) h (λ entry rest g. g)
+opened_by-within : (n : ℕ) (book : Book) (r : Reading Entry) → Within n r → Within n (opened_by book r)
+opened_by-within n book r h = and_then-within n r (λ read rest. done (with_open book (Some read)) rest) h (λ entry rest g. g)
 
 go_on_with-within : (n : ℕ) (r : Result Book LibFault) (f : Book → Reading Book) → ((b : Book) → Within n (f b)) → Within n (go_on_with r f)
 go_on_with-within n (Ok book) f h = h book
@@ -108,7 +105,7 @@ entry_on-within line bytes rest book =
     (behind_latch-short rest)
     (if-within (length rest) (is_word (codes "GATE") bytes) (if nat_le 4096 (sum_by form_count book.cells) then broken (Line line LimitCells) else gate_on book line rest) (broken (Line line Expected))
     (if-within (length rest) (nat_le 4096 (sum_by form_count book.cells)) (broken (Line line LimitCells)) (gate_on book line rest) tt
-    (begun_by-within (length rest) book (behind_gate line rest) (behind_gate-within (length rest) line rest (omega arith)))) tt)
+    (opened_by-within (length rest) book (behind_gate line rest) (behind_gate-within (length rest) line rest (omega arith)))) tt)
 
 entry_behind-within : (book : Book) (line : ℕ) (bytes : List ℕ) (rest : List Token) → Within (length rest) (entry_behind book line bytes rest)
 entry_behind-within book line bytes rest = go_on_with-within (length rest) (entry_ended book) (entry_on line bytes rest) (entry_on-within line bytes rest)
@@ -117,7 +114,7 @@ words_behind-within : (book : Book) (entry : Option Entry) (line : ℕ) (bytes :
 words_behind-within book None line bytes rest = entry_behind-within book line bytes rest
 words_behind-within book (Some entry) line bytes rest =
     if-within (length rest) (is_word (codes "PIN") bytes) (pin_on book entry rest) (entry_behind book line bytes rest)
-    (continued_by-within (length rest) book (behind_pin entry rest) (behind_pin-within (length rest) entry rest (omega arith))) (entry_behind-within book line bytes rest)
+    (opened_by-within (length rest) book (behind_pin entry rest) (behind_pin-within (length rest) entry rest (omega arith))) (entry_behind-within book line bytes rest)
 
 piece_by-within : (n : ℕ) (r : Reading Book) → Within n r → PieceWithin n (piece_by r)
 piece_by-within n (done book rest) h = h
@@ -134,11 +131,11 @@ piece-within book (text_end line) rest = last_piece-within (length rest) (joined
 piece-within book (long_line line) rest = tt
 piece-within book (word_on line bytes) rest = piece_by-within (length rest) (words_behind book book.entry line bytes rest) (words_behind-within book book.entry line bytes rest)
 
-after-same : (wide : Option ℕ) (p : Piece) (n : ℕ) (f g : Book → List Token → Outcome) → PieceWithin n p → ((b : Book) (rest : List Token) → length rest ≤ n → f b rest ≡ g b rest) → after wide p f ≡ after wide p g
-after-same wide (next book rest) n f g h e = e book rest h
-after-same wide (stopped fault) n f g h e = refl
-after-same wide unfinished n f g h e = refl
-after-same wide (finished cells) n f g h e = refl
+after-same : (p : Piece) (n : ℕ) (f g : Book → List Token → Outcome) → PieceWithin n p → ((b : Book) (rest : List Token) → length rest ≤ n → f b rest ≡ g b rest) → after p f ≡ after p g
+after-same (next book rest) n f g h e = e book rest h
+after-same (stopped fault) n f g h e = refl
+after-same unfinished n f g h e = refl
+after-same (finished cells) n f g h e = refl
 
 no-piece : (book : Book) → piece book [] ≡ unfinished
 unfolding piece
@@ -149,15 +146,15 @@ unfolding pieces
 pieces-enough zero m book tokens h g = absurd (omega arith)
 pieces-enough (suc n) zero book tokens h g = absurd (omega arith)
 pieces-enough (suc n) (suc m) book [] h g =
-    ap (λ p. after book.wide p (pieces n)) (no-piece book) ∙ sym (ap (λ p. after book.wide p (pieces m)) (no-piece book))
+    ap (λ p. after p (pieces n)) (no-piece book) ∙ sym (ap (λ p. after p (pieces m)) (no-piece book))
 pieces-enough (suc n) (suc m) book (token ∷ rest) h g =
-    after-same book.wide (piece book (token ∷ rest)) (length rest) (pieces n) (pieces m) (piece-within book token rest)
+    after-same (piece book (token ∷ rest)) (length rest) (pieces n) (pieces m) (piece-within book token rest)
     (λ b left short. pieces-enough n m b left (omega arith) (omega arith))
 
 -- a stream is a piece, and then what follows it
-pub outcome-piece : (book : Book) (tokens : List Token) → outcome_from book tokens ≡ after book.wide (piece book tokens) outcome_from
+pub outcome-piece : (book : Book) (tokens : List Token) → outcome_from book tokens ≡ after (piece book tokens) outcome_from
 unfolding outcome_from pieces
-outcome-piece book [] = ap (λ p. after book.wide p (pieces 0)) (no-piece book) ∙ sym (ap (λ p. after book.wide p outcome_from) (no-piece book))
+outcome-piece book [] = ap (λ p. after p (pieces 0)) (no-piece book) ∙ sym (ap (λ p. after p outcome_from) (no-piece book))
 outcome-piece book (token ∷ rest) =
-    after-same book.wide (piece book (token ∷ rest)) (length rest) (pieces (suc (length rest))) outcome_from (piece-within book token rest)
+    after-same (piece book (token ∷ rest)) (length rest) (pieces (suc (length rest))) outcome_from (piece-within book token rest)
     (λ b left short. pieces-enough (suc (length rest)) (suc (length left)) b left (omega arith) (omega arith))

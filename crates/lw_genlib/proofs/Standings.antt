@@ -1,16 +1,15 @@
 -- What a reader stands for, line by line.
-use Rattle.std.proofs.Common.{ℕ, ◌≡◌, List, [], ◌∷◌, ◌++◌, Option, Some, None, Err, refl, ap, sym, ◌∙◌, subst, append-nil}
+use Rattle.std.proofs.Common.{ℕ, ◌≡◌, List, [], ◌∷◌, ◌++◌, Option, None, Err, refl, ap, sym, ◌∙◌, subst, append-nil}
 use Rattle.lw_words.specs.Lines.{LogicalLine}
 use Rattle.lw_genlib.specs.declared.fault.LibFault.{LibFault}
 use Rattle.lw_genlib.specs.declared.fault.LibFault.TheVariants.{Line, Memory}
 use Rattle.lw_genlib.specs.declared.parts.Place.{Place}
 use Rattle.lw_genlib.specs.declared.parts.Place.TheVariants as place
 use Rattle.lw_genlib.specs.declared.progress.Progress.{Progress}
-use Rattle.lw_genlib.specs.declared.reader.State.{State}
 use Rattle.lw_genlib.specs.declared.reader.State.TheVariants.{Reading, Stopped}
 use Rattle.lw_genlib.specs.Streams.{Token, text_end, tokens_on, stream_of, last_number}
-use Rattle.lw_genlib.specs.Libraries.{Book, Outcome, no_book, with_open, piece, outcome_from, outcome_of, library_of, library_by, cells_or_fault, fault_so_far, wide_entry}
-use Rattle.lw_genlib.specs.Standing.{IsAt, Tells, resume, reads_on, piece_at, BreaksAt, stop_by}
+use Rattle.lw_genlib.specs.Libraries.{Book, Outcome, no_book, with_open, piece, outcome_from, outcome_of, library_of, library_by, cells_or_fault, fault_so_far}
+use Rattle.lw_genlib.specs.Standing.{IsAt, Tells, resume, reads_on, piece_at, BreaksAt}
 use Rattle.lw_genlib.specs.Tells.{TellsErr}
 use Rattle.lw_genlib.proofs.Steps.{piece-again}
 use Rattle.lw_genlib.proofs.Lines.{none-resume, stream-on, last-more}
@@ -27,48 +26,42 @@ at-start : (progress : Progress) (rest : List Token) → progress.book ≡ no_bo
 unfolding resume
 at-start progress rest book is =
     piece-again no_book rest
-    ∙ (ap (λ (b : Book). reads_on b.wide (piece (with_open b None) rest)) (sym book)
-    ∙ ap (λ (p : Place). reads_on progress.book.wide (piece_at progress.book p rest)) (sym is))
+    ∙ (ap (λ (b : Book). reads_on (piece (with_open b None) rest)) (sym book)
+    ∙ ap (λ (p : Place). reads_on (piece_at progress.book p rest)) (sym is))
 
-pub stands-new : (progress : Progress) → progress.book ≡ no_book → progress.place ≡ place.Piece None → IsAt (Reading progress) 0 None []
-stands-new progress book is = (refl, sym (ap (λ (b : Book). b.wide) book), λ rest. ap outcome_of (no-stream rest) ∙ (from-nothing rest ∙ at-start progress rest book is))
+pub stands-new : (progress : Progress) → progress.book ≡ no_book → progress.place ≡ place.Piece None → IsAt (Reading progress) 0 []
+stands-new progress book is = (refl, λ rest. ap outcome_of (no-stream rest) ∙ (from-nothing rest ∙ at-start progress rest book is))
 
-pub stands-read : (last number : ℕ) (wide behind : Option ℕ) (p more : Progress) (lines : List LogicalLine) (line : LogicalLine) → IsAt (Reading p) last wide lines → number ≡ line.number → behind ≡ more.book.wide
-    → ((rest : List Token) → resume p (tokens_on line ++ rest) ≡ resume more rest) → IsAt (Reading more) number behind (lines ++ line ∷ [])
-stands-read last number wide behind p more lines line h same now goes =
-    (same ∙ sym (last-more lines line), now, λ rest. ap outcome_of (stream-on lines line rest) ∙ (h.2 (tokens_on line ++ rest) ∙ goes rest))
+pub stands-read : (last number : ℕ) (p more : Progress) (lines : List LogicalLine) (line : LogicalLine) → IsAt (Reading p) last lines → number ≡ line.number
+    → ((rest : List Token) → resume p (tokens_on line ++ rest) ≡ resume more rest) → IsAt (Reading more) number (lines ++ line ∷ [])
+stands-read last number p more lines line h same goes =
+    (same ∙ sym (last-more lines line), λ rest. ap outcome_of (stream-on lines line rest) ∙ (h.1 (tokens_on line ++ rest) ∙ goes rest))
 
-pub stands-broken : (last number : ℕ) (wide behind : Option ℕ) (p : Progress) (fault : LibFault) (lines : List LogicalLine) (line : LogicalLine) → IsAt (Reading p) last wide lines
-    → ((rest : List Token) → BreaksAt (resume p (tokens_on line ++ rest)) behind fault) → IsAt (Stopped fault) number behind (lines ++ line ∷ [])
-stands-broken last number wide behind p fault lines line h breaks = λ rest.
-    subst (λ (o : Outcome). BreaksAt o behind fault) (sym (ap outcome_of (stream-on lines line rest) ∙ h.2 (tokens_on line ++ rest))) (breaks rest)
+pub stands-broken : (last number : ℕ) (p : Progress) (fault : LibFault) (lines : List LogicalLine) (line : LogicalLine) → IsAt (Reading p) last lines
+    → ((rest : List Token) → BreaksAt (resume p (tokens_on line ++ rest)) fault) → IsAt (Stopped fault) number (lines ++ line ∷ [])
+stands-broken last number p fault lines line h breaks = λ rest.
+    subst (λ (o : Outcome). BreaksAt o fault) (sym (ap outcome_of (stream-on lines line rest) ∙ h.1 (tokens_on line ++ rest))) (breaks rest)
 
-pub stands-stopped : (last : ℕ) (wide : Option ℕ) (fault : LibFault) (lines : List LogicalLine) (line : LogicalLine) → IsAt (Stopped fault) last wide lines → IsAt (Stopped fault) last wide (lines ++ line ∷ [])
-stands-stopped last wide fault lines line h = λ rest. subst (λ (ts : List Token). BreaksAt (outcome_of ts) wide fault) (sym (stream-on lines line rest)) (h (tokens_on line ++ rest))
+pub stands-stopped : (last : ℕ) (fault : LibFault) (lines : List LogicalLine) (line : LogicalLine) → IsAt (Stopped fault) last lines → IsAt (Stopped fault) last (lines ++ line ∷ [])
+stands-stopped last fault lines line h = λ rest. subst (λ (ts : List Token). BreaksAt (outcome_of ts) fault) (sym (stream-on lines line rest)) (h (tokens_on line ++ rest))
 
-pub outcome-read : (last : ℕ) (wide : Option ℕ) (p : Progress) (lines : List LogicalLine) → IsAt (Reading p) last wide lines → outcome_of (stream_of lines) ≡ record { fault = None; cells = []; wide = p.book.wide }
-outcome-read last wide p lines h = ap outcome_of (sym (append-nil (stream_of lines))) ∙ (h.2 [] ∙ none-resume p)
+pub outcome-read : (last : ℕ) (p : Progress) (lines : List LogicalLine) → IsAt (Reading p) last lines → outcome_of (stream_of lines) ≡ record { fault = None; cells = [] }
+outcome-read last p lines h = ap outcome_of (sym (append-nil (stream_of lines))) ∙ (h.1 [] ∙ none-resume p)
 
-pub answer-read : (last : ℕ) (wide : Option ℕ) (p : Progress) (lines : List LogicalLine) → IsAt (Reading p) last wide lines → fault_so_far lines ≡ None
+pub answer-read : (last : ℕ) (p : Progress) (lines : List LogicalLine) → IsAt (Reading p) last lines → fault_so_far lines ≡ None
 unfolding fault_so_far
-answer-read last wide p lines h = ap (λ (o : Outcome). o.fault) (outcome-read last wide p lines h)
+answer-read last p lines h = ap (λ (o : Outcome). o.fault) (outcome-read last p lines h)
 
-pub answer-stopped : (last : ℕ) (wide : Option ℕ) (fault : LibFault) (lines : List LogicalLine) → IsAt (Stopped fault) last wide lines → Tells (Err fault) (fault_so_far lines)
+pub answer-stopped : (last : ℕ) (fault : LibFault) (lines : List LogicalLine) → IsAt (Stopped fault) last lines → Tells (Err fault) (fault_so_far lines)
 unfolding fault_so_far
-answer-stopped last wide (Line line kind) lines h = ap (λ (ts : List Token). (outcome_of ts).fault) (sym (append-nil (stream_of lines))) ∙ (h []).0
-answer-stopped last wide Memory lines h = tt
+answer-stopped last (Line line kind) lines h = ap (λ (ts : List Token). (outcome_of ts).fault) (sym (append-nil (stream_of lines))) ∙ h []
+answer-stopped last Memory lines h = tt
 
-pub wide-at : (state : State) (last : ℕ) (wide : Option ℕ) (lines : List LogicalLine) → IsAt state last wide lines → (stop_by state ≡ Some Memory → ⊥) → wide ≡ wide_entry lines
-unfolding wide_entry
-wide-at (Reading p) last wide lines h some = h.1 ∙ sym (ap (λ (o : Outcome). o.wide) (outcome-read last wide p lines h))
-wide-at (Stopped (Line line kind)) last wide lines h some = sym (ap (λ (ts : List Token). (outcome_of ts).wide) (sym (append-nil (stream_of lines))) ∙ (h []).1)
-wide-at (Stopped Memory) last wide lines h some = absurd (some refl)
-
-pub library-read : (last : ℕ) (wide : Option ℕ) (p : Progress) (lines : List LogicalLine) → IsAt (Reading p) last wide lines → library_of lines ≡ library_by (resume p (text_end last ∷ []))
+pub library-read : (last : ℕ) (p : Progress) (lines : List LogicalLine) → IsAt (Reading p) last lines → library_of lines ≡ library_by (resume p (text_end last ∷ []))
 unfolding library_of
-library-read last wide p lines h = ap (λ (n : ℕ). library_by (outcome_of (stream_of lines ++ text_end n ∷ []))) (sym h.0) ∙ ap library_by (h.2 (text_end last ∷ []))
+library-read last p lines h = ap (λ (n : ℕ). library_by (outcome_of (stream_of lines ++ text_end n ∷ []))) (sym h.0) ∙ ap library_by (h.1 (text_end last ∷ []))
 
-pub library-stopped : (last : ℕ) (wide : Option ℕ) (fault : LibFault) (lines : List LogicalLine) → IsAt (Stopped fault) last wide lines → TellsErr (library_of lines) fault
+pub library-stopped : (last : ℕ) (fault : LibFault) (lines : List LogicalLine) → IsAt (Stopped fault) last lines → TellsErr (library_of lines) fault
 unfolding library_of
-library-stopped last wide (Line line kind) lines h = ap (λ (f : Option LibFault). cells_or_fault f (outcome_of (stream_of lines ++ text_end (last_number lines) ∷ [])).cells) (h (text_end (last_number lines) ∷ [])).0
-library-stopped last wide Memory lines h = tt
+library-stopped last (Line line kind) lines h = ap (λ (f : Option LibFault). cells_or_fault f (outcome_of (stream_of lines ++ text_end (last_number lines) ∷ [])).cells) (h (text_end (last_number lines) ∷ []))
+library-stopped last Memory lines h = tt

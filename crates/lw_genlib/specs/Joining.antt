@@ -9,8 +9,6 @@ use Rattle.lw_genlib.specs.declared.sign.Sign.TheVariants.{Name, Mark}
 use Rattle.lw_genlib.specs.declared.fault.LibKind.TheVariants.{PinMissing, CellDiffers}
 use Rattle.lw_genlib.specs.declared.fault.LibFault.{LibFault}
 use Rattle.lw_genlib.specs.declared.fault.LibFault.TheVariants.{Line}
-use Rattle.lw_genlib.specs.declared.op.ExprOp.{ExprOp}
-use Rattle.lw_genlib.specs.declared.op.ExprOp.TheVariants.{And, Or}
 use Rattle.lw_genlib.specs.Postfix.{first_expr}
 use Rattle.lw_genlib.specs.Words.{assigned}
 use Rattle.lw_genlib.specs.Cells.{CellParts}
@@ -104,9 +102,3 @@ unfoldable pub joined : List CellParts → Entry → Result (List CellParts) Lib
 joined cells entry =
     if lacks_delay entry then Err (Line entry.line PinMissing)
     else joined_at cells entry (place_of cells entry)
-
--- a step of an AND or an OR
-abbrev pub is_wide_step : ExprOp → Bool
-is_wide_step (And n) = true
-is_wide_step (Or n) = true
-is_wide_step other = false

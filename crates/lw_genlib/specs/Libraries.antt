@@ -1,34 +1,30 @@
 -- The library of a text's lines.
-use Rattle.std.specs.Prelude.{ℕ, zero, suc, Bool, true, false, nat_le, ◌||◌, List, [], ◌∷◌, ◌++◌, length, sum_by, Option, Some, None, Result, Ok, Err, if◌then◌else◌, codes}
+use Rattle.std.specs.Prelude.{ℕ, zero, suc, Bool, nat_le, ◌||◌, List, [], ◌∷◌, ◌++◌, length, sum_by, Option, Some, None, Result, Ok, Err, if◌then◌else◌, codes}
 use Rattle.std.specs.Str.{bytes_eq}
 use Rattle.lw_words.specs.Lines.{LogicalLine}
-use Rattle.lw_laws.specs.Expressions.{Expr}
-use Rattle.lw_laws.specs.Expressions.Expr.{expr_const, expr_pin, expr_not, expr_and, expr_or}
 use Rattle.lw_genlib.specs.declared.fault.LibKind.TheVariants.{Expected, LongWord, LimitCells}
 use Rattle.lw_genlib.specs.declared.fault.LibFault.{LibFault}
 use Rattle.lw_genlib.specs.declared.fault.LibFault.TheVariants.{Line}
 use Rattle.lw_genlib.specs.Cells.{CellParts, form_count}
 use Rattle.lw_genlib.specs.Streams.{Token, word_on, long_line, text_end, stream_of, last_number, Reading, done, broken, cut_short, and_then}
-use Rattle.lw_genlib.specs.Entries.{Entry, pins_of, behind_gate, behind_pin}
-use Rattle.lw_genlib.specs.Joining.{joined, form_over}
+use Rattle.lw_genlib.specs.Entries.{Entry, behind_gate, behind_pin}
+use Rattle.lw_genlib.specs.Joining.{joined}
 
 -- what was read: the cells of the entries that are at their end, and the entry whose pins may follow
 pub record Book : Type 0 where
   pub cells : List CellParts
   pub entry : Option Entry
-  -- the line of the first entry whose expression holds an AND or an OR
-  pub wide : Option ℕ
 
 abbrev pub no_book : Book
-no_book = record { cells = []; entry = None; wide = None }
+no_book = record { cells = []; entry = None }
 
 abbrev pub with_open : Book → Option Entry → Book
-with_open book open_one = record { cells = book.cells; entry = open_one; wide = book.wide }
+with_open book open_one = record { cells = book.cells; entry = open_one }
 
 -- the book of these cells, with no entry whose pins may follow
-abbrev pub with_cells : Option ℕ → Result (List CellParts) LibFault → Result Book LibFault
-with_cells wide (Ok cells) = Ok (record { cells = cells; entry = None; wide = wide })
-with_cells wide (Err fault) = Err fault
+abbrev pub with_cells : Result (List CellParts) LibFault → Result Book LibFault
+with_cells (Ok cells) = Ok (record { cells = cells; entry = None })
+with_cells (Err fault) = Err fault
 
 -- the cells where the entry, if there is one, is at its end
 abbrev pub joined_with : List CellParts → Option Entry → Result (List CellParts) LibFault
@@ -36,26 +32,7 @@ joined_with cells None = Ok cells
 joined_with cells (Some entry) = joined cells entry
 
 abbrev pub entry_ended : Book → Result Book LibFault
-entry_ended book = with_cells book.wide (joined_with book.cells book.entry)
-
--- an AND or an OR stands in the expression
-abbrev pub is_wide : Expr → Bool
-is_wide (expr_const b) = false
-is_wide (expr_pin k) = false
-is_wide (expr_not e) = is_wide e
-is_wide (expr_and es) = true
-is_wide (expr_or es) = true
-
-abbrev pub first_wide : Option ℕ → Entry → Option ℕ
-first_wide (Some line) entry = Some line
-first_wide None entry = if is_wide (form_over (pins_of entry) entry) then Some entry.line else None
-
-abbrev pub with_entry : Book → Entry → Book
-with_entry book entry = record { cells = book.cells; entry = Some entry; wide = first_wide book.wide entry }
-
--- more words of the entry whose pins may follow
-abbrev pub with_pin : Book → Entry → Book
-with_pin book entry = with_open book (Some entry)
+entry_ended book = with_cells (joined_with book.cells book.entry)
 
 abbrev pub is_word : List ℕ → List ℕ → Bool
 is_word word bytes = bytes_eq bytes word
@@ -75,12 +52,13 @@ abbrev pub go_on_with : Result Book LibFault → (Book → Reading Book) → Rea
 go_on_with (Ok book) f = f book
 go_on_with (Err fault) f = broken fault
 
--- the entry that begins with the word `GATE` on this line
-abbrev pub begun_by : Book → Reading Entry → Reading Book
-begun_by book entry = and_then entry (λ begun rest. done (with_entry book begun) rest)
+-- the book with the entry that is read, whose pins may follow
+abbrev pub opened_by : Book → Reading Entry → Reading Book
+opened_by book entry = and_then entry (λ read rest. done (with_open book (Some read)) rest)
 
+-- the entry that begins with the word `GATE` on this line
 abbrev pub gate_on : Book → ℕ → List Token → Reading Book
-gate_on book line tokens = begun_by book (behind_gate line tokens)
+gate_on book line tokens = opened_by book (behind_gate line tokens)
 
 -- the words of an entry behind a word that begins it
 abbrev pub entry_on : ℕ → List ℕ → List Token → Book → Reading Book
@@ -94,11 +72,8 @@ entry_on line bytes rest book =
 abbrev pub entry_behind : Book → ℕ → List ℕ → List Token → Reading Book
 entry_behind book line bytes rest = go_on_with (entry_ended book) (entry_on line bytes rest)
 
-abbrev pub continued_by : Book → Reading Entry → Reading Book
-continued_by book entry = and_then entry (λ more rest. done (with_pin book more) rest)
-
 abbrev pub pin_on : Book → Entry → List Token → Reading Book
-pin_on book entry tokens = continued_by book (behind_pin entry tokens)
+pin_on book entry tokens = opened_by book (behind_pin entry tokens)
 
 -- The words `PIN` and those behind it, of an entry whose pins may follow, or a new entry.
 abbrev pub words_behind : Book → Option Entry → ℕ → List ℕ → List Token → Reading Book
@@ -127,23 +102,22 @@ piece book (text_end line ∷ rest) = last_piece (joined_with book.cells book.en
 piece book (long_line line ∷ rest) = stopped (Line line LongWord)
 piece book (word_on line bytes ∷ rest) = piece_by (words_behind book book.entry line bytes rest)
 
--- the first fault, the cells where the stream comes to the end of the text without one, and the line of the first wide entry
+-- the first fault, and the cells where the stream comes to the end of the text without one
 pub record Outcome : Type 0 where
   pub fault : Option LibFault
   pub cells : List CellParts
-  pub wide : Option ℕ
 
 -- what follows a piece
-abbrev pub after : Option ℕ → Piece → (Book → List Token → Outcome) → Outcome
-after wide (next book rest) others = others book rest
-after wide (stopped fault) others = record { fault = Some fault; cells = []; wide = wide }
-after wide unfinished others = record { fault = None; cells = []; wide = wide }
-after wide (finished cells) others = record { fault = None; cells = cells; wide = wide }
+abbrev pub after : Piece → (Book → List Token → Outcome) → Outcome
+after (next book rest) others = others book rest
+after (stopped fault) others = record { fault = Some fault; cells = [] }
+after unfinished others = record { fault = None; cells = [] }
+after (finished cells) others = record { fault = None; cells = cells }
 
 -- The pieces of a stream, in at most so many turns. Each piece takes a word or more.
 unfoldable pub pieces : ℕ → Book → List Token → Outcome
-pieces zero book tokens = record { fault = None; cells = []; wide = book.wide }
-pieces (suc turns) book tokens = after book.wide (piece book tokens) (pieces turns)
+pieces zero book tokens = record { fault = None; cells = [] }
+pieces (suc turns) book tokens = after (piece book tokens) (pieces turns)
 
 unfoldable pub outcome_from : Book → List Token → Outcome
 outcome_from book tokens = pieces (suc (length tokens)) book tokens
@@ -165,7 +139,3 @@ library_of lines = library_by (outcome_of (stream_of lines ++ text_end (last_num
 -- The first fault of lines of a text which may go on: those that are found at its end alone are left out.
 unfoldable pub fault_so_far : List LogicalLine → Option LibFault
 fault_so_far lines = (outcome_of (stream_of lines)).fault
-
--- the line of the first entry, read as far as its `;`, whose expression holds an AND or an OR
-unfoldable pub wide_entry : List LogicalLine → Option ℕ
-wide_entry lines = (outcome_of (stream_of lines)).wide

@@ -20,36 +20,36 @@ abbrev pub piece_at : library.Book → Place → List Token → library.Piece
 piece_at book (place.Piece e) tokens = library.piece (library.with_open book e) tokens
 piece_at book place.Latch tokens = library.next book (library.behind_latch tokens)
 piece_at book (place.Name gate) tokens = library.piece_by (library.gate_on book gate tokens)
-piece_at book (place.Area gate name) tokens = library.piece_by (library.begun_by book (entry.behind_name gate name tokens))
+piece_at book (place.Area gate name) tokens = library.piece_by (library.opened_by book (entry.behind_name gate name tokens))
 piece_at book (place.Function heading text) tokens =
-    library.piece_by (library.begun_by book (entry.behind_words heading.line heading.name heading.area text tokens))
+    library.piece_by (library.opened_by book (entry.behind_words heading.line heading.name heading.area text tokens))
 piece_at book (place.Pin e) tokens = library.piece_by (library.pin_on (library.with_open book (Some e)) e tokens)
 piece_at book (place.Field e pins field delay) tokens =
-    library.piece_by (library.continued_by (library.with_open book (Some e)) (entry.behind_target e pins (field ∷ fields_behind field) delay tokens))
+    library.piece_by (library.opened_by (library.with_open book (Some e)) (entry.behind_target e pins (field ∷ fields_behind field) delay tokens))
 
 -- what comes of a piece and those behind it
-abbrev pub reads_on : Option ℕ → library.Piece → library.Outcome
-reads_on wide piece = library.after wide piece library.outcome_from
+abbrev pub reads_on : library.Piece → library.Outcome
+reads_on piece = library.after piece library.outcome_from
 
 -- what comes of more words behind those that were read
 unfoldable pub resume : Progress → List Token → library.Outcome
-resume progress tokens = reads_on progress.book.wide (piece_at progress.book progress.place tokens)
+resume progress tokens = reads_on (piece_at progress.book progress.place tokens)
 
--- The words stop at this fault, behind entries of which this is the first wide one. Want of memory is free.
-abbrev pub BreaksAt : library.Outcome → Option ℕ → LibFault → Type 0
-BreaksAt outcome wide (Line line kind) = (outcome.fault ≡ Some (Line line kind)) × (outcome.wide ≡ wide)
-BreaksAt outcome wide Memory = ⊤
+-- The words stop at this fault. Want of memory is free.
+abbrev pub BreaksAt : library.Outcome → LibFault → Type 0
+BreaksAt outcome (Line line kind) = outcome.fault ≡ Some (Line line kind)
+BreaksAt outcome Memory = ⊤
 
 -- whatever follows the lines
-abbrev pub IsAt : State → ℕ → Option ℕ → List LogicalLine → Type 0
-IsAt (Reading progress) last wide lines =
-    (last ≡ last_number lines) × (wide ≡ progress.book.wide)
+abbrev pub IsAt : State → ℕ → List LogicalLine → Type 0
+IsAt (Reading progress) last lines =
+    (last ≡ last_number lines)
     × ((rest : List Token) → library.outcome_of (stream_of lines ++ rest) ≡ resume progress rest)
-IsAt (Stopped fault) last wide lines = (rest : List Token) → BreaksAt (library.outcome_of (stream_of lines ++ rest)) wide fault
+IsAt (Stopped fault) last lines = (rest : List Token) → BreaksAt (library.outcome_of (stream_of lines ++ rest)) fault
 
 -- The reader was given these lines. Behind a fault it keeps the fault alone.
 pub record StandsFor (reader : LibReader) (lines : List LogicalLine) : Type 0 where
-  pub at : IsAt reader.state reader.last reader.wide lines
+  pub at : IsAt reader.state reader.last lines
 
 abbrev pub stop_by : State → Option LibFault
 stop_by (Reading progress) = None
@@ -58,10 +58,6 @@ stop_by (Stopped fault) = Some fault
 -- the fault that a reader answers from then on
 abbrev pub stop_of : LibReader → Option LibFault
 stop_of reader = stop_by reader.state
-
--- the reader stopped for want of memory
-abbrev pub IsWanting : LibReader → Type 0
-IsWanting reader = stop_of reader ≡ Some Memory
 
 -- no word holds `#`
 abbrev pub HasNoHash : LogicalLine → Type 0

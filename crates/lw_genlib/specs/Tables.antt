@@ -1,5 +1,5 @@
 -- The cells of a library as tables: by the number of a cell, its forms, its pins, their delays, and its truth.
-use Rattle.std.specs.Prelude.{ℕ, Bool, false, List, length, map, Option, Some, None, slice_get}
+use Rattle.std.specs.Prelude.{ℕ, Bool, false, List, map, Option, Some, None, slice_get}
 use Rattle.lw_fixed.specs.declared.micro.Micro.{Micro}
 use Rattle.lw_laws.specs.Netlists.{CellTruth}
 use Rattle.lw_genlib.specs.Cells.{CellParts, cell_value}

@@ -21,7 +21,6 @@ pub(crate) fn no_book(alloc: Global) -> Book
     Book {
         cells: Vec::new(alloc),
         entries: 0,
-        wide: None,
     }
 }
 
@@ -44,7 +43,6 @@ fn joined(alloc: Global, book: Book, entry: Entry) -> Result<Book, LibFault>
     ensures cells { MatchResult result
         (λ new. joining.joined book.cells entry ≡ Ok new.cells)
         (TellsErr (joining.joined book.cells entry)) }
-    ensures wide { IfOk result (λ new. new.wide ≡ book.wide) }
     ensures whole { IfOk result (λ new. new.entry ≡ None) }
 {
     match delays(alloc, &entry.named, entry.every)? {
@@ -60,7 +58,6 @@ fn placed(alloc: Global, book: Book, entry: Entry, delays: Micros) -> Result<Boo
     ensures cells { MatchResult result
         (λ new. joining.joined_at book.cells entry (joining.place_of book.cells entry) ≡ Ok new.cells)
         (TellsErr (joining.joined_at book.cells entry (joining.place_of book.cells entry))) }
-    ensures wide { IfOk result (λ new. new.wide ≡ book.wide) }
     ensures whole { IfOk result (λ new. new.entry ≡ None) }
 {
     match place_of(&book.cells, entry.name.as_bytes()) {
@@ -77,7 +74,7 @@ fn with_new(alloc: Global, book: Book, entry: Entry, delays: Micros) -> Result<B
     requires room { HasRoom book.cells }
     requires delays { delays ≡ joining.delays_of entry }
     requires new_name { joining.place_of book.cells entry ≡ None }
-    ensures { IfOk result (λ new. new ≡ record { cells = book.cells ++ joining.cell_of entry ∷ []; entry = None; wide = book.wide }) }
+    ensures { IfOk result (λ new. new ≡ record { cells = book.cells ++ joining.cell_of entry ∷ []; entry = None }) }
 {
     let cell = new_cell(alloc, entry, delays)?;
     with_cell(book, cell)
@@ -89,18 +86,13 @@ fn with_cell(book: Book, cell: Cell) -> Result<Book, AllocError>
     requires cell { IsListed cell }
     requires one_form { form_count cell ≡ 1 }
     requires new_name { list_any (λ (other : CellParts). bytes_eq cell.name other.name) book.cells ≡ false }
-    ensures { IfOk result (λ new. new ≡ record { cells = book.cells ++ cell ∷ []; entry = None; wide = book.wide }) }
+    ensures { IfOk result (λ new. new ≡ record { cells = book.cells ++ cell ∷ []; entry = None }) }
 {
-    let Book {
-        mut cells,
-        entries,
-        wide,
-    } = book;
+    let Book { mut cells, entries } = book;
     cells.push(cell)?;
     Ok(Book {
         cells,
         entries: entries + 1,
-        wide,
     })
 }
 
@@ -118,21 +110,15 @@ fn with_form(
     ensures cells { MatchResult result
         (λ new. joining.joined_at book.cells entry (Some place) ≡ Ok new.cells)
         (TellsErr (joining.joined_at book.cells entry (Some place))) }
-    ensures wide { IfOk result (λ new. new.wide ≡ book.wide) }
     ensures whole { IfOk result (λ new. new.entry ≡ None) }
 {
-    let Book {
-        mut cells,
-        entries,
-        wide,
-    } = book;
+    let Book { mut cells, entries } = book;
     if !join(alloc, &mut cells[place], &entry, &delays)? {
         return Err(LibFault::Line(entry.line, LibKind::CellDiffers));
     }
     Ok(Book {
         cells,
         entries: entries + 1,
-        wide,
     })
 }
 
@@ -151,15 +137,4 @@ fn new_cell(alloc: Global, entry: Entry, delays: Micros) -> Result<Cell, AllocEr
     let mut forms = Exprs::new(alloc);
     forms.push(function.form)?;
     Ok(Cell::new(name, area, function.output, function.pins, delays, forms))
-}
-
-/// The book with the line of the entry, if it is the first whose expression holds an AND or an OR.
-pub(crate) fn noted(book: Book, entry: &Entry) -> Book
-    ensures { library.with_open result (Some entry.now) ≡ library.with_entry book entry.now }
-{
-    let mut book = book;
-    if book.wide.is_none() && entry.is_wide() {
-        book.wide = Some(entry.line);
-    }
-    book
 }

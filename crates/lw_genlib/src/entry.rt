@@ -9,7 +9,7 @@ ghost use Rattle.lw_genlib.specs.Tells.{TellsErr};
 use crate::function::function_of;
 use crate::parts::{Entry, Heading, Text};
 use crate::text::with_end;
-use crate::{ExprOp, LibFault, Micros, Target};
+use crate::{LibFault, Micros, Target};
 use lw_fixed::Micro;
 use lw_pool::Name;
 use std::alloc::{AllocError, Global};
@@ -85,13 +85,6 @@ impl Entry {
     {
         self.function.pins.as_slice()
     }
-
-    /// An AND or an OR stands in the expression.
-    pub(crate) fn is_wide(&self) -> bool
-        ensures { result ≡ library.is_wide (joining.form_over (words.pins_of self.now) self.now) }
-    {
-        has_wide_step(self.function.form.ops())
-    }
 }
 
 /// The delay of each pin, or none where one lacks its delay.
@@ -112,11 +105,4 @@ pub(crate) fn delays(
         }
     }
     Ok(Some(Micros::from_vec(delays)))
-}
-
-fn has_wide_step(ops: &[ExprOp]) -> bool
-    ensures { result ≡ list_any joining.is_wide_step ops.now }
-{
-    ops.iter()
-        .any(|op| matches!(*op, ExprOp::And(_) | ExprOp::Or(_)))
 }

@@ -10,6 +10,7 @@ mod expr;
 mod fault;
 mod function;
 mod joining;
+mod laws;
 mod library;
 mod lists;
 mod op;
@@ -30,6 +31,10 @@ mod wording;
 pub use cell::Cell;
 pub use expr::Expr;
 pub use fault::{LibFault, LibKind};
+pub use laws::{
+    functions_say_what_is_read, signs_spell_one_expression, spelled_signs_go_on,
+    what_is_read_is_spelled,
+};
 pub use library::Library;
 pub use lists::{Exprs, Micros};
 pub use op::ExprOp;

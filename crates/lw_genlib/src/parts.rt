@@ -67,8 +67,6 @@ pub(crate) struct Book {
     pub(crate) cells: Vec<Cell>,
     // How many entries there were.
     pub(crate) entries: u32,
-    // The line of the first entry whose expression holds an AND or an OR.
-    pub(crate) wide: Option<u32>,
 }
 
 impl Model for Book {
@@ -82,7 +80,7 @@ impl Model for Book {
 
     ghost coded = { Prim.hlevel (codes, cell_code) };
 
-    ghost view = { λ b. record { cells = b.cells.items; entry = None; wide = b.wide } };
+    ghost view = { λ b. record { cells = b.cells.items; entry = None } };
 
     ghost invariant = { λ b. AreCells b.cells.items b.entries };
 }

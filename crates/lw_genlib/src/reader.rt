@@ -22,7 +22,6 @@ pub struct LibReader {
     alloc: Global,
     // The number of the last line.
     last: u32,
-    wide: Option<u32>,
     state: State,
 }
 
@@ -38,8 +37,8 @@ impl LibReader {
     ghost use Rattle.lw_words.specs.Lines.{LogicalLine};
     ghost use Rattle.lw_genlib.specs.Streams.{Token, tokens_on};
     ghost use Rattle.lw_genlib.specs.Tells.{TellsErr};
-    ghost use Rattle.lw_genlib.specs.Libraries.{fault_so_far, library_of, wide_entry};
-    ghost use Rattle.lw_genlib.specs.Standing.{StandsFor, Tells, HasNoHash, IsWanting, resume, stop_of, BreaksAt};
+    ghost use Rattle.lw_genlib.specs.Libraries.{fault_so_far, library_of};
+    ghost use Rattle.lw_genlib.specs.Standing.{StandsFor, Tells, HasNoHash, resume, stop_of, BreaksAt};
 
     pub fn new(alloc: Global) -> Self
         ensures { StandsFor result [] }
@@ -47,7 +46,6 @@ impl LibReader {
         LibReader {
             alloc,
             last: 0,
-            wide: None,
             state: State::Reading(Progress {
                 book: no_book(alloc),
                 place: Place::Piece(None),
@@ -55,18 +53,12 @@ impl LibReader {
         }
     }
 
-    /// The line of the first entry, read as far as its `;`, whose expression holds an AND or an OR.
-    pub fn wide(&self) -> Option<u32>
-        ensures { (lines : List LogicalLine) → StandsFor self.now lines → ¬ IsWanting self.now → result ≡ wide_entry lines }
-    {
-        self.wide
-    }
-
     /// Reads a line. The answer is the first fault of the lines so far, but for those that are found at the end alone.
     pub fn line(&mut self, line: &Line) -> Result<(), LibFault>
         requires { HasNoHash line.now }
         ensures stands { (lines : List LogicalLine) → StandsFor self.old lines → StandsFor self.new (lines ++ line.now ∷ []) }
         ensures answer { (lines : List LogicalLine) → StandsFor self.old lines → Tells result (fault_so_far (lines ++ line.now ∷ [])) }
+        ensures stopped { MatchResult result (λ _. stop_of self.new ≡ None) (λ fault. stop_of self.new ≡ Some fault) }
         ensures again { IfSome (stop_of self.old) (λ fault. result ≡ Err fault) }
         ensures unchanged { IsSome (stop_of self.old) → self.new ≡ self.old }
     {
@@ -77,8 +69,7 @@ impl LibReader {
             }
             State::Reading(progress) => {
                 self.last = line.number;
-                self.wide = progress.book.wide;
-                match read_line(self.alloc, progress, &mut self.wide, line) {
+                match read_line(self.alloc, progress, line) {
                     Ok(progress) => {
                         self.state = State::Reading(progress);
                         Ok(())
@@ -99,12 +90,7 @@ impl LibReader {
             (TellsErr (library_of lines)) }
         ensures again { IfSome (stop_of self) (λ fault. result ≡ Err fault) }
     {
-        let LibReader {
-            alloc,
-            last,
-            state,
-            ..
-        } = self;
+        let LibReader { alloc, last, state } = self;
         match state {
             State::Stopped(fault) => Err(fault),
             State::Reading(progress) => finish(alloc, last, progress),
@@ -112,47 +98,36 @@ impl LibReader {
     }
 }
 
-// Reads the words of a line, and keeps the line of the first wide entry.
-fn read_line(
-    alloc: Global,
-    progress: Progress,
-    wide: &mut Option<u32>,
-    line: &Line,
-) -> Result<Progress, LibFault>
-    requires no_hash { HasNoHash line.now }
-    requires wide { wide.old ≡ progress.book.wide }
-    ensures reads { (rest : List Token) → MatchResult result
+// Reads the words of a line.
+fn read_line(alloc: Global, progress: Progress, line: &Line) -> Result<Progress, LibFault>
+    requires { HasNoHash line.now }
+    ensures { (rest : List Token) → MatchResult result
         (λ new. resume progress (tokens_on line.now ++ rest) ≡ resume new rest)
-        (BreaksAt (resume progress (tokens_on line.now ++ rest)) wide.new) }
-    ensures wide { IfOk result (λ new. wide.new ≡ new.book.wide) }
+        (BreaksAt (resume progress (tokens_on line.now ++ rest))) }
 {
     if line.long {
         return Err(LibFault::Line(line.number, LibKind::LongWord));
     }
-    read_words(alloc, progress, wide, line.number, &line.words)
+    read_words(alloc, progress, line.number, &line.words)
 }
 
 fn read_words(
     alloc: Global,
     begun: Progress,
-    wide: &mut Option<u32>,
     line: u32,
     words: &Words,
 ) -> Result<Progress, LibFault>
-    requires words { All (IsWord 4095) words.now }
-    requires wide { wide.old ≡ begun.book.wide }
-    ensures reads { (rest : List Token) → MatchResult result
+    requires { All (IsWord 4095) words.now }
+    ensures { (rest : List Token) → MatchResult result
         (λ new. resume begun (map (word_on line) words.now ++ rest) ≡ resume new rest)
-        (BreaksAt (resume begun (map (word_on line) words.now ++ rest)) wide.new) }
-    ensures wide { IfOk result (λ new. wide.new ≡ new.book.wide) }
+        (BreaksAt (resume begun (map (word_on line) words.now ++ rest))) }
 {
     let mut progress = begun;
     for place in 0..words.len() {
-        match read_word(alloc, progress, wide, line, words.get(place)) {
+        match read_word(alloc, progress, line, words.get(place)) {
             Ok(more) => progress = more,
             Err(fault) => return Err(fault),
         }
-        *wide = progress.book.wide;
     }
     Ok(progress)
 }

@@ -8,7 +8,7 @@ ghost use Rattle.lw_genlib.specs.Places.{HasRoom};
 ghost use Rattle.lw_genlib.specs.Standing.{resume, reads_on, BreaksAt};
 ghost use Rattle.lw_genlib.specs.Fields.{fields_behind};
 
-use crate::book::{ended, noted};
+use crate::book::ended;
 use crate::entry::{begin, with_delay};
 use crate::parts::{Book, Entry, Heading, Place, Text};
 use crate::progress::Progress;
@@ -23,15 +23,13 @@ use std::alloc::Global;
 pub(crate) fn read_word(
     alloc: Global,
     progress: Progress,
-    wide: &mut Option<u32>,
     line: u32,
     word: &[u8],
 ) -> Result<Progress, LibFault>
     requires word { IsWord 4095 word.now }
-    requires wide { wide.old ≡ progress.book.wide }
     ensures { (rest : List Token) → MatchResult result
         (λ new. resume progress (word_on line word.now ∷ rest) ≡ resume new rest)
-        (BreaksAt (resume progress (word_on line word.now ∷ rest)) wide.new) }
+        (BreaksAt (resume progress (word_on line word.now ∷ rest))) }
 {
     let Progress { book, place } = progress;
     let _ = &book.cells;
@@ -47,9 +45,7 @@ pub(crate) fn read_word(
         },
         Place::Name(gate) => read_name(alloc, book, gate, line, word),
         Place::Area(gate, name) => read_area(alloc, book, gate, name, line, word),
-        Place::Function(heading, text) => {
-            read_function(alloc, book, wide, heading, text, line, word)
-        }
+        Place::Function(heading, text) => { read_function(alloc, book, heading, text, line, word) }
         Place::Pin(entry) => read_pin(book, entry, line, word),
         Place::Field(entry, pins, field, delay) => {
             read_field(book, entry, pins, field, delay, line, word)
@@ -67,8 +63,8 @@ fn read_piece(
 ) -> Result<Progress, LibFault>
     requires { IfSome entry (λ e. HasRoom book.cells) }
     ensures { (rest : List Token) → MatchResult result
-        (λ new. reads_on book.wide (library.piece_by (library.words_behind (library.with_open book entry) entry line word.now rest)) ≡ resume new rest)
-        (BreaksAt (reads_on book.wide (library.piece_by (library.words_behind (library.with_open book entry) entry line word.now rest))) book.wide) }
+        (λ new. reads_on (library.piece_by (library.words_behind (library.with_open book entry) entry line word.now rest)) ≡ resume new rest)
+        (BreaksAt (reads_on (library.piece_by (library.words_behind (library.with_open book entry) entry line word.now rest)))) }
 {
     let _ = &book.cells;
     match entry {
@@ -87,8 +83,8 @@ fn read_behind(
 ) -> Result<Progress, LibFault>
     requires { HasRoom book.cells }
     ensures { (rest : List Token) → MatchResult result
-        (λ new. reads_on book.wide (library.piece_by (library.words_behind (library.with_open book (Some entry)) (Some entry) line word.now rest)) ≡ resume new rest)
-        (BreaksAt (reads_on book.wide (library.piece_by (library.words_behind (library.with_open book (Some entry)) (Some entry) line word.now rest))) book.wide) }
+        (λ new. reads_on (library.piece_by (library.words_behind (library.with_open book (Some entry)) (Some entry) line word.now rest)) ≡ resume new rest)
+        (BreaksAt (reads_on (library.piece_by (library.words_behind (library.with_open book (Some entry)) (Some entry) line word.now rest)))) }
 {
     if word == b"PIN".as_slice() {
         return Ok(Progress {
@@ -104,8 +100,8 @@ fn read_behind(
 fn read_entry(book: Book, line: u32, word: &[u8]) -> Result<Progress, LibFault>
     requires { book.entry ≡ None }
     ensures { (rest : List Token) → MatchResult result
-        (λ new. reads_on book.wide (library.piece_by (library.entry_on line word.now rest book)) ≡ resume new rest)
-        (BreaksAt (reads_on book.wide (library.piece_by (library.entry_on line word.now rest book))) book.wide) }
+        (λ new. reads_on (library.piece_by (library.entry_on line word.now rest book)) ≡ resume new rest)
+        (BreaksAt (reads_on (library.piece_by (library.entry_on line word.now rest book)))) }
 {
     if word == b"LATCH".as_slice() {
         return Ok(Progress {
@@ -135,8 +131,8 @@ fn read_name(
     requires room { HasRoom book.cells }
     requires word { IsWord 4095 word.now }
     ensures { (rest : List Token) → MatchResult result
-        (λ new. reads_on book.wide (library.piece_by (library.gate_on book gate (word_on line word.now ∷ rest))) ≡ resume new rest)
-        (BreaksAt (reads_on book.wide (library.piece_by (library.gate_on book gate (word_on line word.now ∷ rest)))) book.wide) }
+        (λ new. reads_on (library.piece_by (library.gate_on book gate (word_on line word.now ∷ rest))) ≡ resume new rest)
+        (BreaksAt (reads_on (library.piece_by (library.gate_on book gate (word_on line word.now ∷ rest))))) }
 {
     let Some(name) = cell_name(word) else {
         return Err(LibFault::Line(line, LibKind::Expected));
@@ -159,8 +155,8 @@ fn read_area(
     requires room { HasRoom book.cells }
     requires name { IsWord 4095 name }
     ensures { (rest : List Token) → MatchResult result
-        (λ new. reads_on book.wide (library.piece_by (library.begun_by book (words.behind_name gate name (word_on line word.now ∷ rest)))) ≡ resume new rest)
-        (BreaksAt (reads_on book.wide (library.piece_by (library.begun_by book (words.behind_name gate name (word_on line word.now ∷ rest))))) book.wide) }
+        (λ new. reads_on (library.piece_by (library.opened_by book (words.behind_name gate name (word_on line word.now ∷ rest)))) ≡ resume new rest)
+        (BreaksAt (reads_on (library.piece_by (library.opened_by book (words.behind_name gate name (word_on line word.now ∷ rest)))))) }
 {
     let area = number(line, word)?;
     let heading = Heading {
@@ -178,7 +174,6 @@ fn read_area(
 fn read_function(
     alloc: Global,
     book: Book,
-    wide: &mut Option<u32>,
     heading: Heading,
     text: Text,
     line: u32,
@@ -186,10 +181,9 @@ fn read_function(
 ) -> Result<Progress, LibFault>
     requires room { HasRoom book.cells }
     requires word { IsWord 4095 word.now }
-    requires wide { wide.old ≡ book.wide }
     ensures { (rest : List Token) → MatchResult result
-        (λ new. reads_on book.wide (library.piece_by (library.begun_by book (words.behind_words heading.line heading.name heading.area text (word_on line word.now ∷ rest)))) ≡ resume new rest)
-        (BreaksAt (reads_on book.wide (library.piece_by (library.begun_by book (words.behind_words heading.line heading.name heading.area text (word_on line word.now ∷ rest))))) wide.new) }
+        (λ new. reads_on (library.piece_by (library.opened_by book (words.behind_words heading.line heading.name heading.area text (word_on line word.now ∷ rest)))) ≡ resume new rest)
+        (BreaksAt (reads_on (library.piece_by (library.opened_by book (words.behind_words heading.line heading.name heading.area text (word_on line word.now ∷ rest)))))) }
 {
     let (part, behind) = around_end(word);
     if part.len() >= text.room {
@@ -202,28 +196,24 @@ fn read_function(
             place: Place::Function(heading, text),
         });
     };
-    end_function(alloc, book, wide, heading, text, line, rest)
+    end_function(alloc, book, heading, text, line, rest)
 }
 
 // The function's `;`, and what is left of its word.
 fn end_function(
     alloc: Global,
     book: Book,
-    wide: &mut Option<u32>,
     heading: Heading,
     text: Text,
     line: u32,
     left: &[u8],
 ) -> Result<Progress, LibFault>
     requires room { HasRoom book.cells }
-    requires wide { wide.old ≡ book.wide }
     ensures { (rest : List Token) → MatchResult result
-        (λ new. reads_on book.wide (library.piece_by (library.begun_by book (with_rest (words.left_over line left.now ++ rest) (words.entry_begun heading.line heading.name heading.area (words.with_end text line))))) ≡ resume new rest)
-        (BreaksAt (reads_on book.wide (library.piece_by (library.begun_by book (with_rest (words.left_over line left.now ++ rest) (words.entry_begun heading.line heading.name heading.area (words.with_end text line)))))) wide.new) }
+        (λ new. reads_on (library.piece_by (library.opened_by book (with_rest (words.left_over line left.now ++ rest) (words.entry_begun heading.line heading.name heading.area (words.with_end text line))))) ≡ resume new rest)
+        (BreaksAt (reads_on (library.piece_by (library.opened_by book (with_rest (words.left_over line left.now ++ rest) (words.entry_begun heading.line heading.name heading.area (words.with_end text line))))))) }
 {
     let entry = begin(alloc, heading, text, line)?;
-    let book = noted(book, &entry);
-    *wide = book.wide;
     if left.is_empty() {
         return Ok(Progress {
             book,
@@ -236,8 +226,8 @@ fn end_function(
 fn read_pin(book: Book, entry: Entry, line: u32, word: &[u8]) -> Result<Progress, LibFault>
     requires { HasRoom book.cells }
     ensures { (rest : List Token) → MatchResult result
-        (λ new. reads_on book.wide (library.piece_by (library.pin_on (library.with_open book (Some entry)) entry (word_on line word.now ∷ rest))) ≡ resume new rest)
-        (BreaksAt (reads_on book.wide (library.piece_by (library.pin_on (library.with_open book (Some entry)) entry (word_on line word.now ∷ rest)))) book.wide) }
+        (λ new. reads_on (library.piece_by (library.pin_on (library.with_open book (Some entry)) entry (word_on line word.now ∷ rest))) ≡ resume new rest)
+        (BreaksAt (reads_on (library.piece_by (library.pin_on (library.with_open book (Some entry)) entry (word_on line word.now ∷ rest))))) }
 {
     let pins = target(entry.pins(), line, word)?;
     Ok(Progress {
@@ -259,8 +249,8 @@ fn read_field(
     requires room { HasRoom book.cells }
     requires small { IsSmall delay }
     ensures { (rest : List Token) → MatchResult result
-        (λ new. reads_on book.wide (library.piece_by (library.continued_by (library.with_open book (Some entry)) (words.behind_target entry pins (field ∷ fields_behind field) delay (word_on line word.now ∷ rest)))) ≡ resume new rest)
-        (BreaksAt (reads_on book.wide (library.piece_by (library.continued_by (library.with_open book (Some entry)) (words.behind_target entry pins (field ∷ fields_behind field) delay (word_on line word.now ∷ rest))))) book.wide) }
+        (λ new. reads_on (library.piece_by (library.opened_by (library.with_open book (Some entry)) (words.behind_target entry pins (field ∷ fields_behind field) delay (word_on line word.now ∷ rest)))) ≡ resume new rest)
+        (BreaksAt (reads_on (library.piece_by (library.opened_by (library.with_open book (Some entry)) (words.behind_target entry pins (field ∷ fields_behind field) delay (word_on line word.now ∷ rest)))))) }
 {
     match delay_behind(field, delay, line, word) {
         Ok(more) => Ok(behind_field(book, entry, pins, field, more)),
@@ -273,7 +263,7 @@ fn behind_field(book: Book, entry: Entry, pins: Target, field: Field, delay: Mic
     requires room { HasRoom book.cells }
     requires small { IsSmall delay }
     ensures { (rest : List Token) → resume result rest
-        ≡ reads_on book.wide (library.piece_by (library.continued_by (library.with_open book (Some entry)) (words.behind_target entry pins (fields_behind field) delay rest))) }
+        ≡ reads_on (library.piece_by (library.opened_by (library.with_open book (Some entry)) (words.behind_target entry pins (fields_behind field) delay rest))) }
 {
     let place = match field.next() {
         Some(next) => Place::Field(entry, pins, next, delay),

@@ -5,7 +5,7 @@ use Rattle.lw_genlib.proofs.Listed.{ended-none, ended-answer}
 use Rattle.lw_genlib.proofs.book.ended.Goals as goal
 
 pub returns-in-Some : goal.returns-in-Some
-returns-in-Some c = ended-answer c.args.book c.args.entry c.in-Some.entry c.joined.result c.in-Some.is c.joined.ensures.cells c.joined.ensures.wide c.joined.ensures.whole
+returns-in-Some c = ended-answer c.args.book c.args.entry c.in-Some.entry c.joined.result c.in-Some.is c.joined.ensures.cells c.joined.ensures.whole
 
 pub returns-in-None : goal.returns-in-None
 returns-in-None c =

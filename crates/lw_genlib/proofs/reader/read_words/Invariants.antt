@@ -4,7 +4,4 @@ use Rattle.lw_genlib.specs.Standing.{resume}
 use Rattle.lw_genlib.proofs.reader.read_words.Given as goal
 
 abbrev pub invariant-loop-place : goal.invariant-loop-place
-invariant-loop-place l = record {
-  reads : (rest : List Token) → resume l.initial.progress (map (word_on l.line) l.words ++ rest) ≡ resume l.progress (map (word_on l.line) (drop l.place l.words) ++ rest);
-  wide : l.wide ≡ l.progress.book.wide;
-}
+invariant-loop-place l = (rest : List Token) → resume l.initial.progress (map (word_on l.line) l.words ++ rest) ≡ resume l.progress (map (word_on l.line) (drop l.place l.words) ++ rest)

@@ -12,10 +12,10 @@ pub returns : goal.returns
 unfolding resume
 returns c = λ rest.
     elim c.match-next.branch [
-      | in-Some w ↦ subst (λ (p : Place). reads_on c.args.book.wide (piece_at c.args.book p rest)
-          ≡ reads_on c.args.book.wide (library.piece_by (library.continued_by (library.with_open c.args.book (Some c.args.entry)) (words.behind_target c.args.entry c.args.pins (fields_behind c.args.field) c.args.delay rest)))) (sym w.place-is)
+      | in-Some w ↦ subst (λ (p : Place). reads_on (piece_at c.args.book p rest)
+          ≡ reads_on (library.piece_by (library.opened_by (library.with_open c.args.book (Some c.args.entry)) (words.behind_target c.args.entry c.args.pins (fields_behind c.args.field) c.args.delay rest)))) (sym w.place-is)
           (field-next c.args.book c.args.entry c.args.pins c.args.field w.in-Some.next c.args.delay rest w.in-Some.ensures)
-      | in-None w ↦ subst (λ (p : Place). reads_on c.args.book.wide (piece_at c.args.book p rest)
-          ≡ reads_on c.args.book.wide (library.piece_by (library.continued_by (library.with_open c.args.book (Some c.args.entry)) (words.behind_target c.args.entry c.args.pins (fields_behind c.args.field) c.args.delay rest)))) (sym w.place-is)
+      | in-None w ↦ subst (λ (p : Place). reads_on (piece_at c.args.book p rest)
+          ≡ reads_on (library.piece_by (library.opened_by (library.with_open c.args.book (Some c.args.entry)) (words.behind_target c.args.entry c.args.pins (fields_behind c.args.field) c.args.delay rest)))) (sym w.place-is)
           (field-last c.args.book c.args.entry w.with_delay.result c.args.pins c.args.field c.args.delay rest w.in-None.ensures w.with_delay.ensures)
     ]

@@ -1,4 +1,4 @@
-use Rattle.std.proofs.Common.{List, ◌++◌, Some, sym, ap, ◌∙◌}
+use Rattle.std.proofs.Common.{List, ◌++◌, Some, ap, ◌∙◌}
 use Rattle.lw_genlib.specs.Streams.{Token, with_rest}
 use Rattle.lw_genlib.specs.Entries as words
 use Rattle.lw_genlib.specs.Libraries as library
@@ -10,16 +10,15 @@ use Rattle.lw_genlib.proofs.reading.end_function.Goals as goal
 pub returns-then-is_empty : goal.returns-then-is_empty
 unfolding resume
 returns-then-is_empty c = λ rest.
-    function-ends c.args.book c.noted-book.result c.in_ok-entry.entry c.args.heading.line c.args.heading.name c.args.heading.area c.args.text c.args.line c.args.left.now rest c.in_ok-entry.ensures c.noted-book.ensures
-    ∙ ap (λ (ts : List Token). reads_on c.noted-book.result.wide (library.piece (library.with_open c.noted-book.result (Some c.in_ok-entry.entry)) ts))
+    function-ends c.args.book c.in_ok-entry.entry c.args.heading.line c.args.heading.name c.args.heading.area c.args.text c.args.line c.args.left.now rest c.in_ok-entry.ensures
+    ∙ ap (λ (ts : List Token). reads_on (library.piece (library.with_open c.args.book (Some c.in_ok-entry.entry)) ts))
     (left-empty c.args.line c.args.left.now rest (empty-list c.args.left.now c.if-is_empty.ensures))
 
 pub returns : goal.returns
 returns c = λ rest.
-    outcome-moved c.read_behind.result (λ (p : Progress). resume p rest) c.book-2.inside.wide c.noted-book.result.wide
-    (reads_on c.args.book.wide (library.piece_by (library.begun_by c.args.book (with_rest (words.left_over c.args.line c.args.left.now ++ rest) (words.entry_begun c.args.heading.line c.args.heading.name c.args.heading.area (words.with_end c.args.text c.args.line))))))
-    (reads_on c.noted-book.result.wide (library.piece_by (library.words_behind (library.with_open c.noted-book.result (Some c.in_ok-entry.entry)) (Some c.in_ok-entry.entry) c.args.line c.args.left.now rest)))
-    (function-ends c.args.book c.noted-book.result c.in_ok-entry.entry c.args.heading.line c.args.heading.name c.args.heading.area c.args.text c.args.line c.args.left.now rest c.in_ok-entry.ensures c.noted-book.ensures
-    ∙ ap (reads_on c.noted-book.result.wide) (left-some c.noted-book.result c.in_ok-entry.entry c.args.line c.args.left.now rest (some-list c.args.left.now c.if-is_empty.ensures)))
-    (sym (ap (λ (b : library.Book). b.wide) c.book-2.view_is))
+    outcome-moved c.read_behind.result (λ (p : Progress). resume p rest)
+    (reads_on (library.piece_by (library.opened_by c.args.book (with_rest (words.left_over c.args.line c.args.left.now ++ rest) (words.entry_begun c.args.heading.line c.args.heading.name c.args.heading.area (words.with_end c.args.text c.args.line))))))
+    (reads_on (library.piece_by (library.words_behind (library.with_open c.args.book (Some c.in_ok-entry.entry)) (Some c.in_ok-entry.entry) c.args.line c.args.left.now rest)))
+    (function-ends c.args.book c.in_ok-entry.entry c.args.heading.line c.args.heading.name c.args.heading.area c.args.text c.args.line c.args.left.now rest c.in_ok-entry.ensures
+    ∙ ap reads_on (left-some c.args.book c.in_ok-entry.entry c.args.line c.args.left.now rest (some-list c.args.left.now c.if-is_empty.ensures)))
     (c.read_behind.ensures rest)

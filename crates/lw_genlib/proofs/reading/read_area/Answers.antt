@@ -16,6 +16,6 @@ invariant_of-heading c = record {
 pub returns : goal.returns
 unfolding resume
 returns c = λ rest.
-    same-piece c.args.book.wide (library.begun_by c.args.book (words.behind_name c.args.gate c.args.name (word_on c.args.line c.args.word.now ∷ rest))) (library.begun_by c.args.book (words.behind_words c.args.gate c.args.name c.in_ok-area.area c.no_text.result rest))
+    same-piece (library.opened_by c.args.book (words.behind_name c.args.gate c.args.name (word_on c.args.line c.args.word.now ∷ rest))) (library.opened_by c.args.book (words.behind_words c.args.gate c.args.name c.in_ok-area.area c.no_text.result rest))
     (area-read c.args.book c.args.gate c.args.line c.args.name c.args.word.now c.in_ok-area.area rest (Ok c.in_ok-area.area) c.in_ok-area.ensures refl
-    ∙ ap (λ (t : words.Text). library.begun_by c.args.book (words.behind_words c.args.gate c.args.name c.in_ok-area.area t rest)) (sym c.no_text.ensures))
+    ∙ ap (λ (t : words.Text). library.opened_by c.args.book (words.behind_words c.args.gate c.args.name c.in_ok-area.area t rest)) (sym c.no_text.ensures))

@@ -9,17 +9,16 @@ use Rattle.lw_genlib.proofs.reading.read_behind.Goals as goal
 pub returns-then-eq : goal.returns-then-eq
 unfolding resume
 returns-then-eq c = λ rest.
-    same-piece c.args.book.wide (library.words_behind (library.with_open c.args.book (Some c.args.entry)) (Some c.args.entry) c.args.line c.args.word.now rest) (library.pin_on (library.with_open c.args.book (Some c.args.entry)) c.args.entry rest)
+    same-piece (library.words_behind (library.with_open c.args.book (Some c.args.entry)) (Some c.args.entry) c.args.line c.args.word.now rest) (library.pin_on (library.with_open c.args.book (Some c.args.entry)) c.args.entry rest)
     (pin-begins c.args.book c.args.entry c.args.line c.args.word.now rest (sym (c.if-eq.ensures ∙ ap (bytes_eq c.args.word.now) c.as_slice.ensures)))
 
 pub read_entry-requires : goal.read_entry-requires
-read_entry-requires c = (ended-book (library.with_open c.args.book (Some c.args.entry)) c.in_ok-book.book c.in_ok-book.ensures).1
+read_entry-requires c = (ended-book (library.with_open c.args.book (Some c.args.entry)) c.in_ok-book.book c.in_ok-book.ensures)
 
 pub returns : goal.returns
 returns c = λ rest.
-    moved rest c.args.book.wide c.in_ok-book.book.wide (library.words_behind (library.with_open c.args.book (Some c.args.entry)) (Some c.args.entry) c.args.line c.args.word.now rest) (library.entry_on c.args.line c.args.word.now rest c.in_ok-book.book)
+    moved (library.words_behind (library.with_open c.args.book (Some c.args.entry)) (Some c.args.entry) c.args.line c.args.word.now rest) (library.entry_on c.args.line c.args.word.now rest c.in_ok-book.book)
     c.read_entry.result (λ (p : Progress). resume p rest)
     (no-pin c.args.book c.args.entry c.args.line c.args.word.now rest (sym (c.if-eq.ensures ∙ ap (bytes_eq c.args.word.now) c.as_slice.ensures))
     ∙ ended-behind (library.with_open c.args.book (Some c.args.entry)) c.in_ok-book.book c.args.line c.args.word.now rest c.in_ok-book.ensures)
-    (ended-book (library.with_open c.args.book (Some c.args.entry)) c.in_ok-book.book c.in_ok-book.ensures).0
     (c.read_entry.ensures rest)

@@ -1,4 +1,4 @@
-use Rattle.std.proofs.Common.{◌≡◌, Option, None, refl, sym, ap, subst}
+use Rattle.std.proofs.Common.{◌≡◌, Option, None, sym, ap, subst}
 use Rattle.std.specs.Prelude.{MatchResult}
 use Rattle.lw_genlib.specs.Entries as words
 use Rattle.lw_genlib.specs.Libraries as library
@@ -9,8 +9,8 @@ use Rattle.lw_genlib.proofs.reading.read_piece.Goals as goal
 
 pub returns-in-Some : goal.returns-in-Some
 returns-in-Some c = λ rest.
-    subst (λ (o : Option words.Entry). MatchResult c.read_behind.result (λ (new : Progress). reads_on c.args.book.wide (library.piece_by (library.words_behind (library.with_open c.args.book o) o c.args.line c.args.word.now rest)) ≡ resume new rest)
-    (BreaksAt (reads_on c.args.book.wide (library.piece_by (library.words_behind (library.with_open c.args.book o) o c.args.line c.args.word.now rest))) c.args.book.wide))
+    subst (λ (o : Option words.Entry). MatchResult c.read_behind.result (λ (new : Progress). reads_on (library.piece_by (library.words_behind (library.with_open c.args.book o) o c.args.line c.args.word.now rest)) ≡ resume new rest)
+    (BreaksAt (reads_on (library.piece_by (library.words_behind (library.with_open c.args.book o) o c.args.line c.args.word.now rest)))))
     (sym c.in-Some.is) (c.read_behind.ensures rest)
 
 pub read_entry-requires : goal.read_entry-requires
@@ -18,9 +18,9 @@ read_entry-requires c = sym (ap (λ (b : library.Book). b.entry) c.book.view_is)
 
 pub returns-in-None : goal.returns-in-None
 returns-in-None c = λ rest.
-    subst (λ (o : Option words.Entry). MatchResult c.read_entry.result (λ (new : Progress). reads_on c.args.book.wide (library.piece_by (library.words_behind (library.with_open c.args.book o) o c.args.line c.args.word.now rest)) ≡ resume new rest)
-    (BreaksAt (reads_on c.args.book.wide (library.piece_by (library.words_behind (library.with_open c.args.book o) o c.args.line c.args.word.now rest))) c.args.book.wide))
+    subst (λ (o : Option words.Entry). MatchResult c.read_entry.result (λ (new : Progress). reads_on (library.piece_by (library.words_behind (library.with_open c.args.book o) o c.args.line c.args.word.now rest)) ≡ resume new rest)
+    (BreaksAt (reads_on (library.piece_by (library.words_behind (library.with_open c.args.book o) o c.args.line c.args.word.now rest)))))
     (sym c.in-None.is)
-    (moved rest c.args.book.wide c.args.book.wide (library.words_behind (library.with_open c.args.book None) None c.args.line c.args.word.now rest) (library.entry_on c.args.line c.args.word.now rest c.args.book)
+    (moved (library.words_behind (library.with_open c.args.book None) None c.args.line c.args.word.now rest) (library.entry_on c.args.line c.args.word.now rest c.args.book)
     c.read_entry.result (λ (p : Progress). resume p rest)
-    (ap (library.entry_on c.args.line c.args.word.now rest) (open-none c.args.book (sym (ap (λ (b : library.Book). b.entry) c.book.view_is)))) refl (c.read_entry.ensures rest))
+    (ap (library.entry_on c.args.line c.args.word.now rest) (open-none c.args.book (sym (ap (λ (b : library.Book). b.entry) c.book.view_is)))) (c.read_entry.ensures rest))
