@@ -1,4 +1,0 @@
--- The class of the complement, as the code computes it.
-use Rattle.lw_laws.proofs.Flips.{xor-one}
-
-pub ruleset flip_rules = (xor-one)
