@@ -11,17 +11,17 @@ use std::test::Fail;
 
 /// Files, and what the words `map LIB IN` give: the status, and what goes to out and to err.
 #[derive(Clone, Copy)]
-struct Row<'a> {
-    library: &'a [u8],
-    network: &'a [u8],
-    status: u8,
-    out: &'a [u8],
-    err: &'a [u8],
+pub struct Row<'a> {
+    pub library: &'a [u8],
+    pub network: &'a [u8],
+    pub status: u8,
+    pub out: &'a [u8],
+    pub err: &'a [u8],
 }
 
 /// How the outside behaves: the numbers of the calls that fail, the most bytes of a read or a write, and the bytes that out takes.
 #[derive(Clone, Copy)]
-struct Outside<'a> {
+pub struct Outside<'a> {
     shelf_fails: &'a [u32],
     out_fails: &'a [u32],
     err_fails: &'a [u32],
@@ -29,12 +29,12 @@ struct Outside<'a> {
     limit: usize,
 }
 
-const QUIET: Outside<'static> = Outside {
+pub const QUIET: Outside<'static> = Outside {
     shelf_fails: &[],
     out_fails: &[],
     err_fails: &[],
     chunk: 4096,
-    limit: 1000,
+    limit: 2000,
 };
 
 const INVERTER: &[u8] = b"GATE inv 1 O=!a;\nPIN * INV 1 999 1 0 1 0\n";
@@ -96,8 +96,8 @@ fn words(alloc: Global, text: &str) -> Result<Vec<String>, AllocError> {
     Ok(words)
 }
 
-// What the words give for the row's files, where the outside behaves so.
-fn gives(
+/// What the words give for the row's files, where the outside behaves so.
+pub fn gives(
     rt: &impl Abort,
     alloc: Global,
     text: &str,
@@ -117,7 +117,8 @@ fn gives(
     Ok(())
 }
 
-fn refused<'a>(library: &'a [u8], network: &'a [u8], status: u8, err: &'a [u8]) -> Row<'a> {
+/// A row that is refused.
+pub fn refused<'a>(library: &'a [u8], network: &'a [u8], status: u8, err: &'a [u8]) -> Row<'a> {
     Row {
         library,
         network,
