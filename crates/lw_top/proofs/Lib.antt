@@ -7,8 +7,14 @@ pub mod Whole
 pub mod Headline
 pub mod Closed
 pub mod Sound
-pub mod MapsOnce
+pub mod Ranges
+pub mod PlainNetlists
+pub mod CellLaws
+pub mod CoverNetlists
 pub mod Mappings
+pub mod MapsOnce
+pub mod Roots
+pub mod Composed
 pub mod One
 pub mod Hashes
 pub mod Given

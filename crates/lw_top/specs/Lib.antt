@@ -1,5 +1,6 @@
 pub mod Steps
 pub mod Maps
+pub mod Mapping
 pub mod Answers
 pub mod Reading
 pub mod Named
