@@ -11,7 +11,8 @@ ghost use Rattle.lw_genlib.specs.Tells.{TellsErr};
 use crate::entry::delays;
 use crate::joining::{join, place_of};
 use crate::parts::{Book, Entry};
-use crate::{Cell, Exprs, LibFault, LibKind, Micros};
+use crate::{Cell, Exprs, LibFault, LibKind};
+use lw_fixed::Micros;
 use std::alloc::{AllocError, Global};
 
 /// No cells.

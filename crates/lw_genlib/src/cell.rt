@@ -1,5 +1,5 @@
-use crate::{Expr, Exprs, Micros};
-use lw_fixed::Micro;
+use crate::{Expr, Exprs};
+use lw_fixed::{Micro, Micros};
 use lw_pool::{Name, Names};
 use std::alloc::AllocError;
 use std::marker::Model;

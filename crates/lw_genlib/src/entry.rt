@@ -9,8 +9,8 @@ ghost use Rattle.lw_genlib.specs.Tells.{TellsErr};
 use crate::function::function_of;
 use crate::parts::{Entry, Heading, Text};
 use crate::text::with_end;
-use crate::{LibFault, Micros, Target};
-use lw_fixed::Micro;
+use crate::{LibFault, Target};
+use lw_fixed::{Micro, Micros};
 use lw_pool::Name;
 use std::alloc::{AllocError, Global};
 

@@ -6,12 +6,12 @@ ghost use Rattle.lw_genlib.specs.Cells.{CellParts, IsCell};
 ghost use Rattle.lw_genlib.specs.Entries as words;
 ghost use Rattle.lw_genlib.specs.Joining as joining;
 
+use crate::Cell;
 use crate::function::between;
 use crate::parsing::expression;
 use crate::parts::Entry;
 use crate::truth::have_one_truth;
-use crate::{Cell, Micros};
-use lw_fixed::Micro;
+use lw_fixed::{Micro, Micros};
 use lw_pool::Name;
 use std::alloc::{AllocError, Global};
 

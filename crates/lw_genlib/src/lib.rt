@@ -36,7 +36,7 @@ pub use laws::{
     what_is_read_is_spelled,
 };
 pub use library::Library;
-pub use lists::{Exprs, Micros};
+pub use lists::Exprs;
 pub use op::ExprOp;
 pub(crate) use pin::{Field, Target};
 pub use plain_line::has_no_hash;
