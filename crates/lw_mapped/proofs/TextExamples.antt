@@ -1,7 +1,6 @@
 -- Texts of small netlists, computed.
 use Rattle.std.proofs.Common.{◌≡◌, ℕ, List, [], ◌∷◌, None, refl}
 use Rattle.std.specs.Prelude.{codes}
-use Rattle.lw_fixed.specs.declared.micro.Micro.{Micro}
 use Rattle.lw_genlib.specs.Cells.{CellParts}
 use Rattle.lw_netlist.specs.Netlists.{NetlistParts}
 use Rattle.lw_mapped.specs.Texts.{mapped_text}

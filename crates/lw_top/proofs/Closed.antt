@@ -11,7 +11,6 @@ use Rattle.lw_net.specs.declared.draft.DraftNode.{DraftNode}
 use Rattle.lw_net.specs.Networks.{NetworkParts}
 use Rattle.lw_net.specs.Closing.{out_of, fanins_of, signals_of, is_among, undefined_in, first_undefined, IsFirstOnCycle, greatest, AreDepths, by_depth, network_in, IsClosed}
 use Rattle.lw_net.specs.declared.fault.NetFault.TheVariants as whole
-use Rattle.lw_words.specs.Lines.{LogicalLine}
 use Rattle.lw_blif.specs.declared.fault.BlifFault.TheVariants as fault
 use Rattle.lw_blif.specs.LineFaults.{FaultAt, first_fault, lines_read}
 use Rattle.lw_blif.specs.Drafts.{draft_of}

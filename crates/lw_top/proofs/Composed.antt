@@ -46,7 +46,6 @@ use Rattle.lw_mapped.specs.Texts.{mapped_text}
 use Rattle.lw_extract.specs.declared.ports.Ports.{Ports}
 use Rattle.lw_extract.specs.declared.ports.Cover.{Cover as NetlistCover}
 use Rattle.lw_extract.specs.Covers.{AreFit, IsFirstUncovered, IsCoverOf}
-use Rattle.lw_top.specs.declared.refusal.Refusal.TheVariants.{Memory}
 use Rattle.lw_top.specs.Maps.{name_in, output_port, base_count, splits_count, IsWithinLimits, IsUncovered, IsMappedText, LacksCover, Maps}
 use Rattle.lw_top.specs.Mapping.{root_of, ArePortsOf, form_refusal, graph_refusal}
 use Rattle.lw_top.specs.Named.{Comes}

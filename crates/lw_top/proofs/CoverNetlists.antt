@@ -1,5 +1,5 @@
 -- A cover of a network's outputs by least marks is the netlist that the network is mapped to.
-use Rattle.std.proofs.Common.{ℕ, ◌+◌, ◌≡◌, List, [], ◌∷◌, ◌++◌, map, length, take, Option, Some, ap, ap₂, sym, ◌∙◌, subst}
+use Rattle.std.proofs.Common.{ℕ, ◌≡◌, List, [], ◌∷◌, ◌++◌, map, length, take, Option, Some, ap, ap₂, sym, ◌∙◌, subst}
 use Rattle.std.specs.List.{AllZip}
 use Rattle.std.proofs.lemmas.List.{take_at}
 use Rattle.lw_pool.specs.declared.id.ClassId.{ClassId}

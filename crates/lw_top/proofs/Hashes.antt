@@ -1,10 +1,10 @@
 -- The lines of an unmarked reading hold no `#`.
-use Rattle.std.proofs.Common.{◌≡◌, ℕ, zero, suc, ◌+◌, ◌==◌, Bool, true, false, not, ◌&&◌, cond, List, [], ◌∷◌, ◌++◌, map, take, filter, All, refl, sym, ap, ◌∙◌, subst, arith}
+use Rattle.std.proofs.Common.{◌≡◌, ℕ, ◌+◌, ◌==◌, Bool, true, false, not, cond, List, [], ◌∷◌, ◌++◌, map, take, All, refl, arith}
 use Rattle.std.specs.List.{AllByRecursion, slice_split, onto_first}
 use Rattle.std.proofs.lemmas.Bool.{eqb-false}
-use Rattle.std.proofs.lemmas.List.Elements.{All-from_recursion, recursion_from_All, All-map, All-filter, All-take}
+use Rattle.std.proofs.lemmas.List.Elements.{All-from_recursion, All-map, All-filter, All-take}
 use Rattle.lw_words.specs.Gathering.{IsNoHash}
-use Rattle.lw_words.specs.Lines.{LogicalLine, Text, is_blank, has_some, before_hash, before_trimmed, trimmed, is_continued, with_blank, continued_by, text_before, text_of, texts_from, words_of, line_of, has_words, lines_of, physical_lines, logical_lines, finished_lines}
+use Rattle.lw_words.specs.Lines.{Text, is_blank, has_some, before_hash, before_trimmed, trimmed, is_continued, with_blank, continued_by, text_before, text_of, texts_from, words_of, line_of, has_words, lines_of, physical_lines, logical_lines, finished_lines}
 use Rattle.lw_genlib.specs.Standing.{HasNoHash}
 
 -- the bytes hold no `#`

@@ -1,16 +1,15 @@
 -- Words over known files come to one answer.
-use Rattle.std.proofs.Common.{◌≡◌, inl, inr, ℕ, ◌≤◌, List, Result, Ok, Err, sym, ap, subst, ◌∙◌}
-use Rattle.lw_net.specs.Networks.{NetworkParts, IsNetwork}
+use Rattle.std.proofs.Common.{◌≡◌, inl, inr, ℕ, ◌≤◌, List, Result, Ok, Err, sym, subst, ◌∙◌}
+use Rattle.lw_net.specs.Networks.{IsNetwork}
 use Rattle.lw_genlib.specs.declared.fault.LibFault.TheVariants as lib_fault
 use Rattle.lw_genlib.specs.declared.fault.LibFault.{LibFault}
 use Rattle.lw_genlib.specs.Cells.{CellParts, IsLibrary}
-use Rattle.lw_genlib.specs.Libraries.{library_of}
 use Rattle.lw_top.specs.declared.refusal.Refusal.{Refusal}
 use Rattle.lw_top.specs.declared.refusal.Refusal.TheVariants.{Library}
 use Rattle.lw_top.specs.declared.refusal.Which.TheVariants as which
 use Rattle.lw_top.specs.Steps.{Files, Step, gives, followed_by}
 use Rattle.lw_top.specs.Maps.{Maps}
-use Rattle.lw_top.specs.Answers.{Names, names_of, text_of, lines_in, HasCells, HasNetwork, ReadsLibrary, ReadsNetwork, IsMapAnswer, IsAnswer}
+use Rattle.lw_top.specs.Answers.{Names, names_of, text_of, HasCells, HasNetwork, ReadsLibrary, ReadsNetwork, IsMapAnswer, IsAnswer}
 use Rattle.lw_top.proofs.Closed.{has_one_network}
 use Rattle.lw_top.proofs.Sound.{width_bounds, cells_kept, network_kept}
 use Rattle.lw_top.proofs.MapsOnce.{maps_once}

@@ -1,9 +1,8 @@
 -- What is known of the width, the cells and the network that were read.
-use Rattle.std.proofs.Common.{◌≡◌, inl, inr, ℕ, ◌≤◌, ◌-◌, Bool, true, false, ◌&&◌, nat_le, List, [], ◌∷◌, Option, Some, None, Result, Ok, Err, if◌then◌else◌, refl, sym, ap, ◌∙◌, subst, arith}
+use Rattle.std.proofs.Common.{◌≡◌, inl, inr, ℕ, ◌≤◌, ◌-◌, Bool, true, false, ◌&&◌, nat_le, List, [], ◌∷◌, Option, Some, None, Ok, Err, if◌then◌else◌, refl, ap, subst, arith}
 use Rattle.std.proofs.lemmas.Bool.{leb-true}
 use Rattle.lw_net.specs.Networks.{NetworkParts, IsNetwork}
 use Rattle.lw_genlib.specs.Cells.{CellParts, IsLibrary}
-use Rattle.lw_top.specs.declared.refusal.Refusal.{Refusal}
 use Rattle.lw_top.specs.declared.refusal.Refusal.TheVariants.{Words}
 use Rattle.lw_top.specs.Steps.{Files}
 use Rattle.lw_top.specs.Answers.{Names, names_of, at_width, are_names, width_of, width_behind, ReadsLibrary, ReadsNetwork}

@@ -1,5 +1,5 @@
 use Rattle.std.proofs.Common.{◌<◌, None, get_or, length, sym, subst, arith}
-use Rattle.lw_mapped.specs.Texts.{net_name, optional_net}
+use Rattle.lw_mapped.specs.Texts.{optional_net}
 use Rattle.lw_mapped.proofs.Parts.{nets_more}
 use Rattle.lw_mapped.specs.Waitings.{Puts}
 use Rattle.lw_mapped.proofs.Putting.{Puts-both}

@@ -1,4 +1,4 @@
-use Rattle.std.proofs.Common.{◌≡◌, true, false, List, ℕ, length, refl, sym, subst, append-nil, arith, ◌∙◌, take}
+use Rattle.std.proofs.Common.{sym, subst, append-nil, arith, take}
 use Rattle.lw_io.specs.Moves.{AppendsPrefix}
 use Rattle.lw_mapped.specs.Waitings.{IsPut}
 use Rattle.lw_mapped.proofs.Putting.{given_part, Rose-earlier, true_is_false}

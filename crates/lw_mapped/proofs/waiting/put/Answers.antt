@@ -1,4 +1,4 @@
-use Rattle.std.proofs.Common.{◌≡◌, true, sym, ◌∙◌, ap}
+use Rattle.std.proofs.Common.{sym, ◌∙◌, ap}
 use Rattle.lw_mapped.specs.Waitings.{Pending}
 use Rattle.lw_mapped.proofs.Putting.{Puts-after, Puts-failed, Puts-kept}
 use Rattle.lw_mapped.proofs.waiting.put.Goals as goal

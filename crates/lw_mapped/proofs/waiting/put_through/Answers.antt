@@ -1,6 +1,6 @@
-use Rattle.std.proofs.Common.{true, false, ◌++◌, refl, sym, ◌∙◌, subst, arith}
+use Rattle.std.proofs.Common.{◌++◌, sym, ◌∙◌, subst, arith}
 use Rattle.lw_io.specs.Moves.{IsWrittenUpTo}
-use Rattle.lw_mapped.proofs.Putting.{given_more, given_part_more, part_more, Rose-earlier, Rose-later, true_is_false}
+use Rattle.lw_mapped.proofs.Putting.{given_more, given_part_more, Rose-earlier, true_is_false}
 use Rattle.lw_mapped.proofs.waiting.put_through.Goals as goal
 
 pub returns-in-Ok : goal.returns-in-Ok

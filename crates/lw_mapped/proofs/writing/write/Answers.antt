@@ -1,4 +1,4 @@
-use Rattle.std.proofs.Common.{◌≡◌, true, false, sym, ◌∙◌}
+use Rattle.std.proofs.Common.{sym, ◌∙◌}
 use Rattle.lw_mapped.specs.Texts.{mapped_text, now_of}
 use Rattle.lw_mapped.proofs.Putting.{all_put, text_put}
 use Rattle.lw_mapped.proofs.writing.write.Goals as goal
