@@ -1,4 +1,5 @@
 pub mod Assembled
+pub mod Closed
 pub mod Filling
 pub mod Latest
 pub mod Moving

@@ -10,7 +10,9 @@ use Rattle.lw_pool.specs.declared.id.NetId.{NetId}
 use Rattle.lw_netlist.specs.declared.draft.DraftGate.{DraftGate}
 use Rattle.lw_netlist.specs.declared.draft.GateDraft.{GateDraft}
 use Rattle.lw_netlist.specs.declared.gate.Gate.{Gate}
-use Rattle.lw_netlist.specs.Closing.{Link, drivers, links, name_of, needs_of, undriven_in}
+use Rattle.lw_netlist.specs.declared.gate.Port.{Port}
+use Rattle.lw_netlist.specs.Closing.{Link, closed_gate, drivers, links, name_of, needs_of, netlist_in, out_of, port_at, undriven_in}
+use Rattle.lw_netlist.specs.Netlists.{NetlistParts}
 use Rattle.lw_netlist.specs.Numbered.{HasRow, needs_at, net_at, net_in, number_in, numbered, start_at}
 use Rattle.lw_netlist.specs.Ordering.{IsGraphOf, TellNets, net_by, start_in}
 use Rattle.lw_netlist.proofs.Names.{once_distinct}
@@ -63,3 +65,24 @@ rows_kept draft order driven graph is moved =
     subst (λ (s : List (List ℕ)). All (HasRow (length draft.inputs) s graph) order) (sym is.names)
     (subst (λ (g : List (List ℕ)). All (HasRow (length draft.inputs) (drivers draft) g) order) (sym is.rows)
     (All-permutation Own draft.gates order moved here))
+
+abbrev with_parts : GateDraft → List (List ℕ) → ℕ → List Gate → List Port → NetlistParts
+with_parts draft names inputs gates outputs = record { model = draft.model; names = names; inputs = inputs; gates = gates; outputs = outputs }
+
+-- the parts of a netlist, one by one
+pub parts_are : (draft : GateDraft) (net : List ℕ → ℕ) (names : List (List ℕ)) (inputs : ℕ) (gates : List Gate) (outputs : List Port) → names ≡ draft.inputs ++ map out_of draft.gates → inputs ≡ length draft.inputs → gates ≡ map (closed_gate net) draft.gates → outputs ≡ map (port_at net) draft.outputs → ◌≡◌ {A = NetlistParts} (record { model = draft.model; names = names; inputs = inputs; gates = gates; outputs = outputs }) (netlist_in draft draft.gates net)
+parts_are draft net names inputs gates outputs named counted closed ports =
+    ap (λ ns. with_parts draft ns inputs gates outputs) named
+    ∙ (ap (λ n. with_parts draft (draft.inputs ++ map out_of draft.gates) n gates outputs) counted
+    ∙ (ap (λ gs. with_parts draft (draft.inputs ++ map out_of draft.gates) (length draft.inputs) gs outputs) closed
+    ∙ ap (λ ps. with_parts draft (draft.inputs ++ map out_of draft.gates) (length draft.inputs) (map (closed_gate net) draft.gates) ps) ports))
+
+-- the parts that are made, by the numbers of names
+pub made_parts : (draft : GateDraft) (driven : List (List ℕ)) (starts : List ℕ) (names keys : List (List ℕ)) (nets gate_nets port_nets : List NetId) (inputs : ℕ) (gates : List Gate) (outputs : List Port) → names ≡ draft.inputs ++ map out_of draft.gates → keys ≡ names → IsDistinct bytes_eq driven → length starts ≡ length driven → nets ≡ map (λ s. net_in keys (get_or driven s [])) starts → gate_nets ≡ nets → port_nets ≡ nets → inputs ≡ length draft.inputs → ((net : List ℕ → ℕ) → TellNets driven gate_nets net → gates ≡ map (closed_gate net) draft.gates) → ((net : List ℕ → ℕ) → TellNets driven port_nets net → outputs ≡ map (port_at net) draft.outputs) → ◌≡◌ {A = NetlistParts} (record { model = draft.model; names = names; inputs = inputs; gates = gates; outputs = outputs }) (netlist_in draft draft.gates (net_by driven starts (draft.inputs ++ map out_of draft.gates)))
+made_parts draft driven starts names keys nets gate_nets port_nets inputs gates outputs named numbered distinct count are for_gates for_ports counted closed ports =
+    let firsts = draft.inputs ++ map out_of draft.gates in
+    let net : List ℕ → ℕ = net_by driven starts firsts in
+    let tell : TellNets driven nets net = nets_tell driven firsts starts nets distinct count (are ∙ ap (λ (l : List (List ℕ)). map (λ s. net_in l (get_or driven s [])) starts) (numbered ∙ named)) in
+    parts_are draft net names inputs gates outputs named counted
+    (closed net (subst (λ l. TellNets driven l net) (sym for_gates) tell))
+    (ports net (subst (λ l. TellNets driven l net) (sym for_ports) tell))

@@ -116,3 +116,22 @@ settled_starts inputs gates n graph is = record {
   where
     none : (j : ℕ) → height_at (replicate inputs 1 ++ replicate n 0) (inputs + j) ≡ 0
     none j = get_or-append_right (replicate inputs 1) (replicate n 0) inputs (inputs + j) 0 (length-replicate inputs 1) (omega arith) ∙ zero_at n (inputs + j - inputs)
+
+replicate-suc : {X : Type 0} (k : ℕ) (x : X) → replicate k x ++ x ∷ [] ≡ replicate (suc k) x
+replicate-suc zero x = refl
+replicate-suc (suc k) x = ap (λ l. x ∷ l) (replicate-suc k x)
+
+pub replicate_more : {X : Type 0} (k : ℕ) (x : X) → replicate k x ++ x ∷ [] ≡ replicate (k + 1) x
+replicate_more {X = X} k x = let e : suc k ≡ k + 1 = omega arith in replicate-suc k x ∙ ap (λ n. replicate n x) e
+
+places-suc : (low k : ℕ) → range_with_len low k ++ (low + k) ∷ [] ≡ range_with_len low (suc k)
+places-suc low zero = let e : low + 0 ≡ low = omega arith in ap (λ n. n ∷ []) e
+places-suc low (suc k) =
+    let e : low + suc k ≡ low + 1 + k = omega arith in
+    ap (λ l. low ∷ l) (ap (λ n. range_with_len (low + 1) k ++ n ∷ []) e ∙ places-suc (low + 1) k)
+
+pub places_more : (k : ℕ) → range_with_len 0 k ++ k ∷ [] ≡ range_with_len 0 (k + 1)
+places_more k =
+    let e : suc k ≡ k + 1 = omega arith in
+    let f : k ≡ 0 + k = omega arith in
+    ap (λ n. range_with_len 0 k ++ n ∷ []) f ∙ (places-suc 0 k ∙ ap (range_with_len 0) e)

@@ -10,7 +10,7 @@ use Rattle.lw_netlist.specs.declared.draft.DraftGate.{DraftGate}
 use Rattle.lw_netlist.specs.declared.draft.GateDraft.{GateDraft}
 use Rattle.lw_netlist.specs.declared.draft.Wire.{Wire}
 use Rattle.lw_netlist.specs.Closing.{AreDepths, HasNoCycle, Link, drivers, first_twice, gate_link, greatest, links, name_of, needs_of, out_of, undriven_in, wire_link}
-use Rattle.lw_netlist.specs.Numbered.{AreHeights, AreKnown, AreSettled, deepest, depth_at, height_at, needs_at, number_in, numbered, own_start, start_at, step_of, tallest}
+use Rattle.lw_netlist.specs.Numbered.{AreKnown, AreSettled, deepest, depth_at, first_start, height_at, needs_at, number_in, numbered, start_at, step_of, tallest}
 use Rattle.lw_netlist.specs.Ordering.{AreRight, IsGraphOf, IsStart, start_in}
 use Rattle.lw_netlist.specs.Ordering.IsStart.{of_driver, of_wire}
 use Rattle.lw_netlist.proofs.Names.{once_distinct, to_of}
@@ -125,7 +125,7 @@ module _ (draft : GateDraft) (distinct : IsDistinct bytes_eq (drivers draft)) (n
   gate_start : (j : ℕ) → j < g → start_at starts (m + j) ≡ m + j
   gate_start j lt =
       let s = settled.settled j (omega (arith, rows, links_many draft)) (some_height j (omega (arith, links_many draft))) in
-      s.start ∙ ap (λ b. cond b (m + j) _) (tested_lt j g lt)
+      s.start ∙ ap (λ b. cond b (m + j) (first_start starts (m + j) (needs_at graph j))) (tested_lt j g lt)
 
   own_start_at : (s : ℕ) → s < m + g → start_at starts s ≡ s
   own_start_at s lt = by_place (cases_lt s m)
@@ -167,7 +167,7 @@ module _ (draft : GateDraft) (distinct : IsDistinct bytes_eq (drivers draft)) (n
   wire_start : (k : ℕ) → k < length draft.wires → start_at starts (m + (g + k)) ≡ start_at starts (number_in driven (get_or draft.wires k bare_wire).from)
   wire_start k lt =
       let s = settled.settled (g + k) (omega (arith, rows, links_many draft)) (some_height (g + k) (omega (arith, links_many draft))) in
-      s.start ∙ (ap (λ b. cond b (m + (g + k)) _) (tested_ge (g + k) g (omega arith)) ∙ ap (first_start starts (m + (g + k))) (wire_row k lt))
+      s.start ∙ (ap (λ b. cond b (m + (g + k)) (first_start starts (m + (g + k)) (needs_at graph (g + k)))) (tested_ge (g + k) g (omega arith)) ∙ ap (first_start starts (m + (g + k))) (wire_row k lt))
 
   wire_height : (k : ℕ) → k < length draft.wires → height_at heights (number_in driven (get_or draft.wires k bare_wire).from) < height_at heights (m + (g + k))
   wire_height k lt =
@@ -227,8 +227,8 @@ module _ (draft : GateDraft) (distinct : IsDistinct bytes_eq (drivers draft)) (n
   }
 
 -- the same, for a graph that was made
-pub right_of : (draft : GateDraft) (given graph : List (List ℕ)) (inputs gates : ℕ) (heights depths starts : List ℕ) → IsGraphOf draft given graph → inputs ≡ length draft.inputs → gates ≡ length draft.gates → AreKnown inputs graph heights → AreSettled inputs gates graph heights depths starts → ((j : ℕ) → inputs + j < length heights → 0 < height_at heights (inputs + j)) → AreRight draft depths starts
-right_of draft given graph inputs gates heights depths starts is many_inputs many_gates known settled all =
+pub right_of : (draft : GateDraft) (given made : List (List ℕ)) (inputs gates : ℕ) (heights depths starts : List ℕ) → IsGraphOf draft given made → inputs ≡ length draft.inputs → gates ≡ length draft.gates → AreKnown inputs made heights → AreSettled inputs gates made heights depths starts → ((j : ℕ) → inputs + j < length heights → 0 < height_at heights (inputs + j)) → AreRight draft depths starts
+right_of draft given made inputs gates heights depths starts is many_inputs many_gates known settled all =
     let rows = numbered (drivers draft) (links draft) in
     let m = length draft.inputs in
     let known' : AreKnown m rows heights = subst (λ n. AreKnown n rows heights) many_inputs (subst (λ g. AreKnown inputs g heights) is.rows known) in

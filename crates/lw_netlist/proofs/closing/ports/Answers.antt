@@ -1,4 +1,4 @@
-use Rattle.std.proofs.Common.{◌++◌, ◌∷◌, [], map, All, Contains, sym, ap, subst, ◌∙◌, append_assoc}
+use Rattle.std.proofs.Common.{◌++◌, ◌∷◌, [], map, All, Contains, sym, ap, ap₂, subst, ◌∙◌, append_assoc}
 use Rattle.std.proofs.lemmas.List.Elements.{All-head, All-tail}
 use Rattle.std.specs.Vec.Iter.{into_iter_items}
 use Rattle.lw_netlist.specs.Closing.{port_at}
@@ -22,3 +22,9 @@ names-preserved c =
       known = All-tail (Contains c.args.signals.now.keys) c.in-Some.name rest
           (subst (All (Contains c.args.signals.now.keys)) c.in-Some.ensures.items c.names.invariant.known);
     }
+
+pub names-init : goal.names-init
+names-init c = record {
+  so_far = λ net tell. ap₂ (λ a b. a ++ map (port_at net) b) c.in_ok-done.ensures.items c.into_iter-left.ensures.rest;
+  known = subst (All (Contains c.args.signals.now.keys)) (sym c.into_iter-left.ensures.rest) c.requires.known;
+}
