@@ -1,5 +1,5 @@
 -- A netlist whose gates stand by depth.
-use Rattle.std.proofs.Common.{◌≡◌, ℕ, zero, suc, ◌+◌, ◌-◌, ◌^◌, ◌<◌, ◌≤◌, ◌⊎◌, inl, inr, max, slice_get, Some, List, [], ◌∷◌, ◌++◌, length, map, get_or, None, Contains, All, refl, sym, ap, subst, ◌∙◌, arith, length-append}
+use Rattle.std.proofs.Common.{◌≡◌, ℕ, zero, suc, ◌+◌, ◌-◌, ◌^◌, ◌<◌, ◌≤◌, ◌⊎◌, inl, inr, slice_get, Some, List, [], ◌∷◌, ◌++◌, length, map, get_or, None, Contains, All, refl, sym, ap, subst, ◌∙◌, arith, length-append}
 use Rattle.std.proofs.lemmas.List.{get_or_default, get_or-map, length-map, get_or-append_right, get_or_append_left}
 use Rattle.std.proofs.lemmas.List.Elements.{All-map, All-weaker, Contains-append_left}
 use Rattle.std.proofs.lemmas.List.Sorted.{IsPermutation-append_right, IsPermutation-map, length_permutation, Contains-permutation, All-permutation}
@@ -15,17 +15,17 @@ use Rattle.lw_netlist.specs.declared.draft.GateDraft.{GateDraft}
 use Rattle.lw_netlist.specs.declared.draft.Wire.{Wire}
 use Rattle.lw_netlist.specs.declared.gate.Gate.{Gate}
 use Rattle.lw_netlist.specs.declared.gate.Port.{Port}
-use Rattle.lw_netlist.specs.Closing.{IsClosed, IsGateDraft, IsNetOf, IsOfCell, by_depth, closed_gate, drivers, first_undriven, greatest, links, name_of, needs_of, netlist_in, out_of, port_at, undriven_in}
+use Rattle.lw_netlist.specs.Closing.{IsNetOf, IsOfCell, closed_gate, drivers, first_undriven, greatest, links, needs_of, netlist_in, out_of, port_at, undriven_in}
 use Rattle.lw_netlist.specs.Closing.IsNetOf.{at_input, at_gate, at_wire}
-use Rattle.lw_netlist.specs.Netlists.{IsGateAt, IsNetlist, NetlistParts, most_nets}
-use Rattle.lw_netlist.specs.Numbered.{net_in, number_in}
-use Rattle.lw_netlist.specs.Ordering.{AreRight, IsGraphOf, IsStart, TellDepths, net_by, start_in}
+use Rattle.lw_netlist.specs.Netlists.{IsGateAt, IsNetlist, most_nets}
+use Rattle.lw_netlist.specs.Numbered.{number_in}
+use Rattle.lw_netlist.specs.Ordering.{AreRight, IsStart, net_by, start_in}
 use Rattle.lw_netlist.specs.Ordering.IsStart.{of_driver, of_wire}
 use Rattle.lw_netlist.specs.Plain.{HasCell, IsOver}
-use Rattle.lw_netlist.proofs.Names.{drivers_are, once_distinct, to_of}
-use Rattle.lw_netlist.proofs.Numbering.{number_at, number_of, number_below, name_again, none_undriven, none_split, distinct_moved, distinct_left}
-use Rattle.lw_netlist.proofs.Paths.{bare, driven_needs}
-use Rattle.lw_netlist.proofs.Starting.{bare_gate, link_of_gate, links_many}
+use Rattle.lw_netlist.proofs.Names.{drivers_are, to_of}
+use Rattle.lw_netlist.proofs.Numbering.{number_at, number_of, number_below, none_undriven, none_split, distinct_moved, distinct_left}
+use Rattle.lw_netlist.proofs.Paths.{driven_needs}
+use Rattle.lw_netlist.proofs.Starting.{bare_gate, link_of_gate}
 
 -- no pin is deeper than the greatest
 greatest-above : (depth : List ℕ → ℕ) (names : List (List ℕ)) → All (λ name. depth name ≤ greatest (map depth names)) names

@@ -1,9 +1,9 @@
 -- Nets of names whose gates were put in another order.
-use Rattle.std.proofs.Common.{◌≡◌, ℕ, zero, suc, ◌+◌, ◌<◌, List, [], ◌∷◌, ◌++◌, length, map, get_or, None, Contains, All, refl, sym, ap, ap₂, subst, ◌∙◌, arith, length-append}
-use Rattle.std.proofs.lemmas.List.{get_or_default, get_or-map, length-map}
+use Rattle.std.proofs.Common.{◌≡◌, ℕ, ◌+◌, ◌<◌, List, [], ◌∷◌, ◌++◌, length, map, get_or, Contains, All, refl, sym, ap, ap₂, subst, ◌∙◌, arith}
+use Rattle.std.proofs.lemmas.List.{get_or_default, get_or-map}
 use Rattle.std.proofs.lemmas.List.Elements.{All-map, All-weaker, All-head, All-tail}
 use Rattle.std.proofs.lemmas.List.Sorted.{All-permutation}
-use Rattle.std.specs.List.{IsDistinct, flat_map}
+use Rattle.std.specs.List.{IsDistinct}
 use Rattle.std.specs.List.Sorted.{IsPermutation}
 use Rattle.std.specs.Str.{bytes_eq}
 use Rattle.lw_pool.specs.declared.id.NetId.{NetId}
@@ -11,10 +11,10 @@ use Rattle.lw_netlist.specs.declared.draft.DraftGate.{DraftGate}
 use Rattle.lw_netlist.specs.declared.draft.GateDraft.{GateDraft}
 use Rattle.lw_netlist.specs.declared.gate.Gate.{Gate}
 use Rattle.lw_netlist.specs.declared.gate.Port.{Port}
-use Rattle.lw_netlist.specs.Closing.{Link, closed_gate, drivers, links, name_of, needs_of, netlist_in, out_of, port_at, undriven_in}
+use Rattle.lw_netlist.specs.Closing.{Link, closed_gate, drivers, links, name_of, netlist_in, out_of, port_at}
 use Rattle.lw_netlist.specs.Netlists.{NetlistParts}
-use Rattle.lw_netlist.specs.Numbered.{HasRow, needs_at, net_at, net_in, number_in, numbered, start_at}
-use Rattle.lw_netlist.specs.Ordering.{IsGraphOf, TellNets, net_by, start_in}
+use Rattle.lw_netlist.specs.Numbered.{HasRow, needs_at, net_at, net_in, number_in, numbered}
+use Rattle.lw_netlist.specs.Ordering.{IsGraphOf, TellNets, net_by}
 use Rattle.lw_netlist.proofs.Names.{once_distinct}
 use Rattle.lw_netlist.proofs.Numbering.{number_below}
 use Rattle.lw_netlist.proofs.Paths.{bare, many, many_links, driven_needs, graph_at, link_name_at, number_link}

@@ -1,8 +1,8 @@
 -- A draft, and the same by numbers.
-use Rattle.std.proofs.Common.{◌≡◌, ℕ, zero, suc, ◌+◌, ◌-◌, ◌<◌, ◌≤◌, ◌⊎◌, inl, inr, List, [], ◌∷◌, ◌++◌, length, map, get_or, slice_get, Some, None, Contains, All, refl, sym, ap, subst, ◌∙◌, arith, length-append}
-use Rattle.std.proofs.lemmas.List.{get_or_default, get_or-map, length-map, get_or-append_right, get_or_append_left, get_or_past, get_or_read}
+use Rattle.std.proofs.Common.{◌≡◌, ℕ, zero, suc, ◌+◌, ◌-◌, ◌<◌, ◌≤◌, ◌⊎◌, inl, inr, List, [], ◌∷◌, length, map, get_or, Some, None, Contains, All, refl, sym, ap, subst, ◌∙◌, arith, length-append}
+use Rattle.std.proofs.lemmas.List.{get_or_default, get_or-map, length-map, get_or-append_right, get_or_past, get_or_read}
 use Rattle.std.proofs.lemmas.List.Elements.{All-map, All-weaker, Contains-get_or}
-use Rattle.std.proofs.lemmas.Option.{slice_get-get_or, get_or_from_slice_get, slice_get_within}
+use Rattle.std.proofs.lemmas.Option.{slice_get-get_or, get_or_from_slice_get}
 use Rattle.std.proofs.lemmas.Bool.{cases_lt}
 use Rattle.std.specs.List.{flat_map, IsDistinct}
 use Rattle.std.specs.Str.{bytes_eq}
@@ -185,9 +185,11 @@ fault_in_needs draft given Memory is once e = tt
 
 pub fault_in_outputs : (draft : GateDraft) (given : List (List ℕ)) (fault : NetlistFault) → given ≡ drivers draft → first_twice draft ≡ None → undriven_in given (flat_map needs_of (links draft)) ≡ None → TellsUndriven given draft.outputs fault → HasFault draft fault
 fault_in_outputs draft given (Twice name) is once none e = absurd e
-fault_in_outputs draft given (Undriven name) is once none e =
-    (once, undriven_later (drivers draft) (flat_map needs_of (links draft)) draft.outputs (subst (λ l. undriven_in l (flat_map needs_of (links draft)) ≡ None) is none)
-    ∙ subst (λ l. undriven_in l draft.outputs ≡ Some name) is e)
+fault_in_outputs draft given (Undriven name) is once none e = (
+  once,
+  undriven_later (drivers draft) (flat_map needs_of (links draft)) draft.outputs (subst (λ l. undriven_in l (flat_map needs_of (links draft)) ≡ None) is none)
+      ∙ subst (λ l. undriven_in l draft.outputs ≡ Some name) is e,
+)
 fault_in_outputs draft given (Cycle name) is once none e = absurd e
 fault_in_outputs draft given Memory is once none e = tt
 

@@ -1,7 +1,7 @@
 -- Depths of names, and where their nets start.
 use Rattle.std.proofs.Common.{◌≡◌, ℕ, zero, suc, ◌+◌, ◌-◌, ◌<◌, ◌≤◌, ◌⊎◌, inl, inr, max, cond, nat_lt, true, false, List, [], ◌∷◌, ◌++◌, length, map, get_or, None, Contains, All, refl, sym, ap, ap₂, subst, ◌∙◌, arith, length-append}
-use Rattle.std.proofs.lemmas.List.{get_or_default, get_or-map, length-map, get_or-append_right, get_or_append_left, map-append}
-use Rattle.std.proofs.lemmas.List.Elements.{Contains-get_or, Contains-append_left, Contains-append_right}
+use Rattle.std.proofs.lemmas.List.{get_or_default, get_or-map, length-map, get_or-append_right, get_or_append_left}
+use Rattle.std.proofs.lemmas.List.Elements.{Contains-get_or}
 use Rattle.std.proofs.lemmas.Bool.{cases_lt}
 use Rattle.std.proofs.lemmas.Bool.Decides.{nat_tests}
 use Rattle.std.specs.List.{flat_map, IsDistinct}
@@ -9,12 +9,12 @@ use Rattle.std.specs.Str.{bytes_eq}
 use Rattle.lw_netlist.specs.declared.draft.DraftGate.{DraftGate}
 use Rattle.lw_netlist.specs.declared.draft.GateDraft.{GateDraft}
 use Rattle.lw_netlist.specs.declared.draft.Wire.{Wire}
-use Rattle.lw_netlist.specs.Closing.{AreDepths, HasNoCycle, Link, drivers, first_twice, gate_link, greatest, links, name_of, needs_of, out_of, undriven_in, wire_link}
+use Rattle.lw_netlist.specs.Closing.{AreDepths, Link, drivers, gate_link, greatest, links, name_of, needs_of, out_of, undriven_in, wire_link}
 use Rattle.lw_netlist.specs.Numbered.{AreKnown, AreSettled, deepest, depth_at, first_start, height_at, needs_at, number_in, numbered, start_at, step_of, tallest}
 use Rattle.lw_netlist.specs.Ordering.{AreRight, IsGraphOf, IsStart, start_in}
 use Rattle.lw_netlist.specs.Ordering.IsStart.{of_driver, of_wire}
-use Rattle.lw_netlist.proofs.Names.{once_distinct, to_of}
-use Rattle.lw_netlist.proofs.Numbering.{number_at, number_of, number_below, name_again}
+use Rattle.lw_netlist.proofs.Names.{once_distinct}
+use Rattle.lw_netlist.proofs.Numbering.{number_at, number_below, name_again}
 use Rattle.lw_netlist.proofs.Paths.{bare, many, many_links, graph_at, link_name_at, number_link, driven_needs, no_cycle}
 
 abbrev pub bare_gate : DraftGate

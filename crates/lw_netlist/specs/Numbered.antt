@@ -1,12 +1,11 @@
 -- A draft whose names are numbered: inputs, and then what gates and wires drive, as they are given.
-use Rattle.std.specs.Prelude.{ℕ, ◌+◌, ◌<◌, ◌≤◌, ◌≡◌, ◌⊎◌, ◌==◌, ◌^◌, count_by, max, nat_lt, cond, unwrap_or, position, Bool, true, false, not, Some, None, ⊤, List, [], ◌∷◌, map, length, slice_index_or, Contains, All}
+use Rattle.std.specs.Prelude.{ℕ, ◌+◌, ◌<◌, ◌≤◌, ◌≡◌, ◌⊎◌, ◌==◌, ◌^◌, count_by, max, nat_lt, cond, unwrap_or, position, Bool, true, false, not, Some, ⊤, List, [], ◌∷◌, map, length, slice_index_or, Contains, All}
 use Rattle.std.specs.Str.{bytes_eq}
 use Rattle.lw_pool.specs.declared.id.NetId.{NetId}
-use Rattle.lw_netlist.specs.declared.draft.GateDraft.{GateDraft}
 use Rattle.lw_netlist.specs.declared.draft.DraftGate.{DraftGate}
 use Rattle.lw_netlist.specs.declared.fault.NetlistFault.{NetlistFault}
 use Rattle.lw_netlist.specs.declared.fault.NetlistFault.TheVariants.{Twice, Undriven, Cycle, Memory}
-use Rattle.lw_netlist.specs.Closing.{Link, links, twice_after, undriven_in, first_twice, first_undriven, HasNoCycle, AreDepths}
+use Rattle.lw_netlist.specs.Closing.{Link, twice_after, undriven_in}
 
 -- how many places there are at most, of which a machine has fewer
 abbrev pub most_places : ℕ

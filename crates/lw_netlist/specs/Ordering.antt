@@ -1,5 +1,5 @@
 -- Drafts whose names are numbered, and gates with their depths.
-use Rattle.std.specs.Prelude.{ℕ, ◌+◌, ◌<◌, ◌≤◌, ◌≡◌, ◌++◌, None, All, List, [], Contains, length, map, slice_index_or}
+use Rattle.std.specs.Prelude.{ℕ, ◌+◌, ◌<◌, ◌≡◌, ◌++◌, None, All, List, [], Contains, length, map, slice_index_or}
 use Rattle.std.specs.List.{flat_map}
 use Rattle.lw_pool.specs.declared.id.NetId.{NetId}
 use Rattle.lw_netlist.specs.declared.draft.GateDraft.{GateDraft}

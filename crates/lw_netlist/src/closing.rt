@@ -31,7 +31,12 @@ pub(crate) fn graph_of(alloc: Global, draft: &GateDraft) -> Result<Graph, Netlis
 {
     let names = driven(alloc, draft)?;
     let signals = numbers(alloc, names)?;
-    let rows = rows(alloc, draft.gates.as_slice(), draft.wires.as_slice(), &signals)?;
+    let rows = rows(
+        alloc,
+        draft.gates.as_slice(),
+        draft.wires.as_slice(),
+        &signals,
+    )?;
     let _outputs = numbers_of(alloc, draft.outputs.as_slice(), &signals)?;
     Ok(Graph { signals, rows })
 }

@@ -61,7 +61,11 @@ fn first_of(needs: &[usize], starts: &[usize], own: usize) -> usize
     requires { All (λ s. s < length starts.now) needs.now }
     ensures { result ≡ first_start starts.now own needs.now }
 {
-    if needs.is_empty() { own } else { starts[needs[0]] }
+    if needs.is_empty() {
+        own
+    } else {
+        starts[needs[0]]
+    }
 }
 
 // What a node adds to a depth.
@@ -76,7 +80,11 @@ fn start_of(gates: usize, j: usize, own: usize, needs: &[usize], starts: &[usize
     requires { All (λ s. s < length starts.now) needs.now }
     ensures { result ≡ own_start gates j starts.now own needs.now }
 {
-    if j < gates { own } else { first_of(needs, starts, own) }
+    if j < gates {
+        own
+    } else {
+        first_of(needs, starts, own)
+    }
 }
 
 // Gives a node its height, its depth and its start, where what it hangs on has them.

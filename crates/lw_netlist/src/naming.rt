@@ -74,11 +74,7 @@ pub(crate) fn number_copies(alloc: Global, names: &[Name]) -> Result<IndexSet<Na
 }
 
 // The number of a name, or the fault that it has none.
-fn number_of(
-    alloc: Global,
-    name: &Name,
-    signals: &IndexSet<Name>,
-) -> Result<usize, NetlistFault>
+fn number_of(alloc: Global, name: &Name, signals: &IndexSet<Name>) -> Result<usize, NetlistFault>
     ensures ok { IfOk result (λ n. n ≡ number_in signals.now.keys name.now) }
     ensures known { OnOk result (undriven_in signals.now.keys (name.now ∷ []) ≡ None) }
     ensures fault { IfErr result (TellsUndriven signals.now.keys (name.now ∷ [])) }
@@ -133,11 +129,7 @@ fn gate_rows(
 }
 
 // The number of the source of a wire, as a row.
-fn wire_row(
-    alloc: Global,
-    wire: &Wire,
-    signals: &IndexSet<Name>,
-) -> Result<Places, NetlistFault>
+fn wire_row(alloc: Global, wire: &Wire, signals: &IndexSet<Name>) -> Result<Places, NetlistFault>
     ensures ok { IfOk result (λ ns. ns ≡ map (number_in signals.now.keys) (wire_link wire.now).needs) }
     ensures known { OnOk result (undriven_in signals.now.keys (wire_link wire.now).needs ≡ None) }
     ensures fault { IfErr result (TellsUndriven signals.now.keys (wire_link wire.now).needs) }

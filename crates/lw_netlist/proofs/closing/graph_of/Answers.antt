@@ -1,4 +1,4 @@
-use Rattle.std.proofs.Common.{◌≡◌, [], sym, ap, ◌∙◌}
+use Rattle.std.proofs.Common.{[], sym, ap, ◌∙◌}
 use Rattle.std.proofs.lemmas.Result.{err_from_is_err_and}
 use Rattle.lw_netlist.specs.Closing.{twice_after}
 use Rattle.lw_netlist.proofs.Paths.{fault_in_needs, fault_in_outputs, graph_made}

@@ -1,5 +1,5 @@
 use Rattle.std.proofs.Common.{◌+◌, ◌-◌, take, drop}
-use Rattle.lw_netlist.proofs.Closed.{slice_is, slice_length, slice_least, order_distinct, order_few, order_numbered, order_rows, order_outputs, order_starts, order_below, order_kept, is_closed, is_over}
+use Rattle.lw_netlist.proofs.Closed.{slice_is, slice_least, order_distinct, order_few, order_rows, order_outputs, order_kept, is_closed, is_over}
 use Rattle.lw_netlist.proofs.netlist.Netlist.close.Goals as goal
 
 pub in_order-requires-clause-least : goal.in_order-requires-clause-least
