@@ -43,13 +43,13 @@ module _ (draft : GateDraft) (driven graph : List (List ℕ)) (made : IsGraphOf 
   room : m + g ≤ length depths
   room = omega (arith, right.depths_each, many draft once made.known, links_many draft)
 
-  pub slice_length : g ≡ length slice
+  slice_length : g ≡ length slice
   slice_length = sym (ap length sliced ∙ length-take-le g (drop m depths) (omega (arith, length-drop m depths, room)))
 
   slice_at : (k : ℕ) → k < g → get_or slice k 0 ≡ get_or depths (m + k) 0
   slice_at k lt = ap (λ l. get_or l k 0) sliced ∙ (get_or-take g (drop m depths) k 0 lt ∙ get_or-drop m depths k 0)
 
-  pub slice_tells : TellDepths slice draft.gates right.depth
+  slice_tells : TellDepths slice draft.gates right.depth
   slice_tells k d lt = slice_at k lt ∙ right.told k d lt
 
   pub slice_least : All (λ d. 1 ≤ d) slice

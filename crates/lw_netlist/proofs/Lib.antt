@@ -13,3 +13,4 @@ pub mod Searching
 pub mod Settling
 pub mod Sorting
 pub mod Starting
+pub mod Users

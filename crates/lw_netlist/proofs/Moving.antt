@@ -40,7 +40,7 @@ nets_all driven nets net (f ∷ pins) tell among =
     ap₂ (λ n ns. n ∷ ns) (tell f (All-head (Contains driven) f pins among)) (nets_all driven nets net pins tell (All-tail (Contains driven) f pins among))
 
 -- nets by the names at which they start
-pub nets_tell : (driven names : List (List ℕ)) (starts : List ℕ) (nets : List NetId) → IsDistinct bytes_eq driven → length starts ≡ length driven → nets ≡ map (λ s. net_in names (get_or driven s [])) starts → TellNets driven nets (net_by driven starts names)
+nets_tell : (driven names : List (List ℕ)) (starts : List ℕ) (nets : List NetId) → IsDistinct bytes_eq driven → length starts ≡ length driven → nets ≡ map (λ s. net_in names (get_or driven s [])) starts → TellNets driven nets (net_by driven starts names)
 nets_tell driven names starts nets distinct count is name among =
     ap (λ l. net_at l (number_in driven name)) is
     ∙ get_or-map (λ s. net_in names (get_or driven s [])) starts (number_in driven name) 0 (record { 0 = 0 }) (omega (arith, number_below driven name distinct among))
@@ -70,7 +70,7 @@ abbrev with_parts : GateDraft → List (List ℕ) → ℕ → List Gate → List
 with_parts draft names inputs gates outputs = record { model = draft.model; names = names; inputs = inputs; gates = gates; outputs = outputs }
 
 -- the parts of a netlist, one by one
-pub parts_are : (draft : GateDraft) (net : List ℕ → ℕ) (names : List (List ℕ)) (inputs : ℕ) (gates : List Gate) (outputs : List Port) → names ≡ draft.inputs ++ map out_of draft.gates → inputs ≡ length draft.inputs → gates ≡ map (closed_gate net) draft.gates → outputs ≡ map (port_at net) draft.outputs → ◌≡◌ {A = NetlistParts} (record { model = draft.model; names = names; inputs = inputs; gates = gates; outputs = outputs }) (netlist_in draft draft.gates net)
+parts_are : (draft : GateDraft) (net : List ℕ → ℕ) (names : List (List ℕ)) (inputs : ℕ) (gates : List Gate) (outputs : List Port) → names ≡ draft.inputs ++ map out_of draft.gates → inputs ≡ length draft.inputs → gates ≡ map (closed_gate net) draft.gates → outputs ≡ map (port_at net) draft.outputs → ◌≡◌ {A = NetlistParts} (record { model = draft.model; names = names; inputs = inputs; gates = gates; outputs = outputs }) (netlist_in draft draft.gates net)
 parts_are draft net names inputs gates outputs named counted closed ports =
     ap (λ ns. with_parts draft ns inputs gates outputs) named
     ∙ (ap (λ n. with_parts draft (draft.inputs ++ map out_of draft.gates) n gates outputs) counted

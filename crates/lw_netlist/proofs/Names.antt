@@ -29,7 +29,7 @@ differ_back xs ys e = by_test (bytes_eq ys xs) refl
     by_test false is = refl
 
 -- a name is none of those before it
-pub none_before : (names : List (List ℕ)) (i : ℕ) (d : List ℕ) → IsDistinct bytes_eq names → i < length names → is_among (take i names) (get_or names i d) ≡ false
+none_before : (names : List (List ℕ)) (i : ℕ) (d : List ℕ) → IsDistinct bytes_eq names → i < length names → is_among (take i names) (get_or names i d) ≡ false
 unfolding IsDistinct
 none_before [] i d distinct below = absurd (omega arith)
 none_before (x ∷ xs) zero d distinct below = refl
@@ -83,7 +83,7 @@ pub undriven_later : (signals xs ys : List (List ℕ)) → undriven_in signals x
 undriven_later signals xs ys e = find_later (λ n. not (is_among signals n)) xs ys e
 
 -- of lists with the same first undriven name
-pub undriven_same : (signals xs ys : List (List ℕ)) (fault : NetlistFault) → undriven_in signals xs ≡ undriven_in signals ys → TellsUndriven signals xs fault → TellsUndriven signals ys fault
+undriven_same : (signals xs ys : List (List ℕ)) (fault : NetlistFault) → undriven_in signals xs ≡ undriven_in signals ys → TellsUndriven signals xs fault → TellsUndriven signals ys fault
 undriven_same signals xs ys (Undriven name) same e = sym same ∙ e
 undriven_same signals xs ys (Cycle name) same e = e
 undriven_same signals xs ys (Twice name) same e = e
@@ -101,13 +101,6 @@ undriven_in_link driven link xs i x fault below here rest e =
 pub undriven_behind_link : {X : Type 0} (driven : List (List ℕ)) (link : X → Link) (xs : List X) (i : ℕ) (x : X) → i < length xs → x ≡ get_or xs i x → undriven_in driven (flat_map needs_of (map link (drop i xs))) ≡ undriven_in driven (flat_map needs_of (map link xs)) → undriven_in driven (link x).needs ≡ None → undriven_in driven (flat_map needs_of (map link (drop (i + 1) xs))) ≡ undriven_in driven (flat_map needs_of (map link xs))
 undriven_behind_link driven link xs i x below here rest e =
     sym (undriven_later driven (link x).needs (flat_map needs_of (map link (drop (i + 1) xs))) e) ∙ (ap (undriven_in driven) (sym (needs_from link xs i x below here)) ∙ rest)
-
--- names that are gone through one after another
-pub twice_here : (seen names : List (List ℕ)) (name : List ℕ) → is_among seen name ≡ true → twice_after seen (name ∷ names) ≡ Some name
-twice_here seen names name is = ap (λ b. cond b (Some name) (twice_after (seen ++ name ∷ []) names)) is
-
-pub twice_later : (seen names : List (List ℕ)) (name : List ℕ) → is_among seen name ≡ false → twice_after seen (name ∷ names) ≡ twice_after (seen ++ name ∷ []) names
-twice_later seen names name is = ap (λ b. cond b (Some name) (twice_after (seen ++ name ∷ []) names)) is
 
 -- where none is there twice, they differ
 AllByRecursion-split : (P : List ℕ → Type 0) (xs ys : List (List ℕ)) → AllByRecursion P xs → AllByRecursion P ys → AllByRecursion P (xs ++ ys)
@@ -156,7 +149,7 @@ drivers_are draft =
 pub rows_joined : (driven : List (List ℕ)) (first second : List Link) (old new : List (List ℕ)) → old ≡ numbered driven first → new ≡ old ++ numbered driven second → new ≡ numbered driven (first ++ second)
 rows_joined driven first second old new was is = is ∙ (ap (λ l. l ++ numbered driven second) was ∙ sym (map-append (λ (link : Link). map (number_in driven) link.needs) first second))
 
-pub needs_joined : (first second : List Link) → flat_map needs_of (first ++ second) ≡ flat_map needs_of first ++ flat_map needs_of second
+needs_joined : (first second : List Link) → flat_map needs_of (first ++ second) ≡ flat_map needs_of first ++ flat_map needs_of second
 needs_joined [] second = refl
 needs_joined (link ∷ first) second = ap (λ l. link.needs ++ l) (needs_joined first second) ∙ sym (append_assoc link.needs (flat_map needs_of first) (flat_map needs_of second))
 

@@ -47,7 +47,7 @@ number_below names name distinct (k, lt, e) = subst (λ n. n < length names) (sy
 pub name_again : (names : List (List ℕ)) (name d : List ℕ) → IsDistinct bytes_eq names → Contains names name → get_or names (number_in names name) d ≡ name
 name_again names name d distinct (k, lt, e) = ap (λ n. get_or names n d) (number_of names name distinct (k, lt, e)) ∙ (get_or_default names k d name lt ∙ e)
 
-pub among_contains : (names : List (List ℕ)) (name : List ℕ) → is_among names name ≡ true → Contains names name
+among_contains : (names : List (List ℕ)) (name : List ℕ) → is_among names name ≡ true → Contains names name
 among_contains [] name is = absurd (false≢true is)
 among_contains (x ∷ xs) name is = by_test (bytes_eq name x) refl is (among_contains xs name)
   where

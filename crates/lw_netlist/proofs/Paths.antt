@@ -21,7 +21,7 @@ use Rattle.lw_netlist.proofs.Searching.{placed_no_cycle, in_graph}
 abbrev pub bare : Link
 bare = record { name = []; needs = [] }
 
-pub contains_map : {A B : Type 0} (f : A → B) (xs : List A) (x : A) → Contains xs x → Contains (map f xs) (f x)
+contains_map : {A B : Type 0} (f : A → B) (xs : List A) (x : A) → Contains xs x → Contains (map f xs) (f x)
 contains_map f xs x (k, lt, e) = (k, subst (λ n. k < n) (sym (length-map xs f)) lt, get_or-map f xs k x (f x) lt ∙ ap f e)
 
 -- what each link hangs on is driven
@@ -101,7 +101,7 @@ module _ (draft : GateDraft) (distinct : IsDistinct bytes_eq (drivers draft)) (n
       let f = is_need j s among in
       record { link = get_or ls j bare; among = Contains-get_or ls j bare f.within; named = sym (link_name_at j f.within); on = f.among }
 
-  pub leads_reaches : (j s : ℕ) → Leads m graph j s → Reaches ls (name_at (m + j)) (name_at s)
+  leads_reaches : (j s : ℕ) → Leads m graph j s → Reaches ls (name_at (m + j)) (name_at s)
   leads_reaches j s (one_step among) = by_step (hangs_at j s among)
   leads_reaches j s (then_path k among path) = by_path (hangs_at j (m + k) among) (leads_reaches k s path)
 
@@ -149,7 +149,7 @@ module _ (draft : GateDraft) (distinct : IsDistinct bytes_eq (drivers draft)) (n
   led_again : (name : List ℕ) → (l : IsLed name name) → Leads m graph l.place (m + l.place)
   led_again name l = subst (Leads m graph l.place) (ap (number_in driven) (sym l.named) ∙ number_link l.place l.within) l.path
 
-  pub first_cycle : (p : ℕ) (name : List ℕ) → p < length ls → IsFirst m graph p → name ≡ name_at (m + p) → IsFirstOnCycle ls name
+  first_cycle : (p : ℕ) (name : List ℕ) → p < length ls → IsFirst m graph p → name ≡ name_at (m + p) → IsFirstOnCycle ls name
   first_cycle p name within first is = record {
     place = p;
     within = within;
@@ -193,7 +193,7 @@ fault_in_outputs draft given (Undriven name) is once none e = (
 fault_in_outputs draft given (Cycle name) is once none e = absurd e
 fault_in_outputs draft given Memory is once none e = tt
 
-pub nothing_undriven : (draft : GateDraft) (given : List (List ℕ)) → given ≡ drivers draft → undriven_in given (flat_map needs_of (links draft)) ≡ None → undriven_in given draft.outputs ≡ None → first_undriven draft ≡ None
+nothing_undriven : (draft : GateDraft) (given : List (List ℕ)) → given ≡ drivers draft → undriven_in given (flat_map needs_of (links draft)) ≡ None → undriven_in given draft.outputs ≡ None → first_undriven draft ≡ None
 nothing_undriven draft given is none e =
     undriven_later (drivers draft) (flat_map needs_of (links draft)) draft.outputs (subst (λ l. undriven_in l (flat_map needs_of (links draft)) ≡ None) is none)
     ∙ subst (λ l. undriven_in l draft.outputs ≡ None) is e
@@ -218,7 +218,7 @@ module _ (draft : GateDraft) (given graph' : List (List ℕ)) (inputs : ℕ) (is
       subst (λ n. IsGraph n graph') (sym many_inputs)
       (subst (λ g. IsGraph (length draft.inputs) g) (sym is.rows) (is_graph draft (once_distinct (drivers draft) is.once) is.known))
 
-  pub graph_many : inputs + length graph' ≡ length (drivers draft)
+  graph_many : inputs + length graph' ≡ length (drivers draft)
   graph_many =
       omega (arith, ap length is.rows, many_links draft (once_distinct (drivers draft) is.once) is.known, many draft (once_distinct (drivers draft) is.once) is.known, many_inputs)
 

@@ -39,7 +39,7 @@ one_falls inputs graph heights known j s among some =
       below = omega (arith, p.height, tallest-above heights (needs_at graph j) among.0 s among.1 among.2);
     }
 
-pub path_falls : (inputs : ℕ) (graph : List (List ℕ)) (heights : List ℕ) → AreKnown inputs graph heights → (j s : ℕ) → Leads inputs graph j s → 0 < height_at heights (inputs + j) → Falls heights (inputs + j) s
+path_falls : (inputs : ℕ) (graph : List (List ℕ)) (heights : List ℕ) → AreKnown inputs graph heights → (j s : ℕ) → Leads inputs graph j s → 0 < height_at heights (inputs + j) → Falls heights (inputs + j) s
 path_falls inputs graph heights known j s (one_step among) some = one_falls inputs graph heights known j s among some
 path_falls inputs graph heights known j s (then_path k among path) some =
     let f = one_falls inputs graph heights known j (inputs + k) among some in
@@ -189,7 +189,7 @@ none_seen zero x = refl
 none_seen (suc n) zero = refl
 none_seen (suc n) (suc x) = none_seen n x
 
-pub nothing_seen : (n x : ℕ) → is_seen (replicate n false) x ≡ true → ⊥
+nothing_seen : (n x : ℕ) → is_seen (replicate n false) x ≡ true → ⊥
 nothing_seen n x is = false≢true (sym (none_seen n x) ∙ is)
 
 pub searching_starts : (inputs : ℕ) (graph : List (List ℕ)) (p : ℕ) → p < length graph → IsSearching inputs graph p (replicate (length graph) false) (p ∷ []) []

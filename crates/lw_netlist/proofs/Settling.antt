@@ -27,7 +27,7 @@ pub deepest_low : (heights depths needs : List ℕ) → ((s : ℕ) → depth_at 
 deepest_low heights depths [] low = omega arith
 deepest_low heights depths (s ∷ needs) low = omega (arith, low s, deepest_low heights depths needs low)
 
-pub step_small : (gates j : ℕ) → step_of gates j ≤ 1
+step_small : (gates j : ℕ) → step_of gates j ≤ 1
 step_small gates j = by_test (nat_lt j gates)
   where
     by_test : (b : Bool) → cond b 1 0 ≤ 1

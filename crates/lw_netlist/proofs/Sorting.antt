@@ -69,14 +69,14 @@ module _ {X : Type 0} (key : X → ℕ) where
       by_test true is rest = let same : key x ≡ low = equal_from (key x) low is in first same (key x == low) is
       by_test false is rest = let higher : low < key x = above_from (key x) low is above in later higher (rest higher) (key x == low) is
 
-  pub by_key-sorted : (m low : ℕ) (xs : List X) → All (λ x. low ≤ key x) xs → All (λ x. key x < low + m) xs → IsNonDecreasingBy key xs → by_key low m xs ≡ xs
+  by_key-sorted : (m low : ℕ) (xs : List X) → All (λ x. low ≤ key x) xs → All (λ x. key x < low + m) xs → IsNonDecreasingBy key xs → by_key low m xs ≡ xs
   by_key-sorted m low [] above below up = by_key-nil low m
   by_key-sorted m low (x ∷ xs) above below up =
       by_key-cons m low x xs (All-head (λ y. low ≤ key y) x xs above) (All-head (λ y. key y < low + m) x xs below) (λ k d lt. up 0 (suc k) d (omega arith) (omega arith))
       ∙ ap (λ l. x ∷ l) (by_key-sorted m low xs (All-tail (λ y. low ≤ key y) x xs above) (All-tail (λ y. key y < low + m) x xs below) (λ i j d le lt. up (suc i) (suc j) d (omega arith) (omega arith)))
 
   -- lists of which filters keep the same
-  pub by_key-same : (m low : ℕ) (xs ys : List X) → ((d : ℕ) → at d xs ≡ at d ys) → by_key low m xs ≡ by_key low m ys
+  by_key-same : (m low : ℕ) (xs ys : List X) → ((d : ℕ) → at d xs ≡ at d ys) → by_key low m xs ≡ by_key low m ys
   by_key-same zero low xs ys same = refl
   by_key-same (suc m) low xs ys same = ap₂ (λ a b. a ++ b) (same low) (by_key-same m (low + 1) xs ys same)
 
@@ -102,7 +102,7 @@ no_less a b (inr le) (inr ge) =
     ap₂ (λ p q. not p && not q) first second ∙ sym same
 
 -- two numbers that tie
-pub ties_is : (a b : ℕ) → (not (is_lt (nat_cmp a b)) && not (is_lt (nat_cmp b a))) ≡ (b == a)
+ties_is : (a b : ℕ) → (not (is_lt (nat_cmp a b)) && not (is_lt (nat_cmp b a))) ≡ (b == a)
 ties_is a b = ap₂ (λ p q. not p && not q) (is_lt_cmp (nat_lt a b) (a == b)) (is_lt_cmp (nat_lt b a) (b == a)) ∙ no_less a b (cases_lt a b) (cases_lt b a)
 
 -- one list is a stable copy of the other
@@ -125,13 +125,13 @@ abbrev pub deeper : (List ℕ → ℕ) → DraftGate → Deep
 deeper depth gate = record { depth = depth gate.out; gate = gate }
 
 -- gates with these depths
-pub zip_is_map : (depth : List ℕ → ℕ) (gates : List DraftGate) (depths : List ℕ) → length gates ≡ length depths → TellDepths depths gates depth → map deep_from (zip gates depths) ≡ map (deeper depth) gates
+zip_is_map : (depth : List ℕ → ℕ) (gates : List DraftGate) (depths : List ℕ) → length gates ≡ length depths → TellDepths depths gates depth → map deep_from (zip gates depths) ≡ map (deeper depth) gates
 zip_is_map depth [] depths same tell = refl
 zip_is_map depth (gate ∷ gates) [] same tell = absurd (omega arith)
 zip_is_map depth (gate ∷ gates) (d ∷ depths) same tell =
     ap₂ (λ e es. e ∷ es) (ap (λ n. let e : Deep = record { depth = n; gate = gate } in e) (tell 0 gate (omega arith))) (zip_is_map depth gates depths (omega arith) (λ k e lt. tell (suc k) e (omega arith)))
 
-pub gates_again : (depth : List ℕ → ℕ) (gates : List DraftGate) → map gate_in (map (deeper depth) gates) ≡ gates
+gates_again : (depth : List ℕ → ℕ) (gates : List DraftGate) → map gate_in (map (deeper depth) gates) ≡ gates
 gates_again depth [] = refl
 gates_again depth (gate ∷ gates) = ap (λ l. gate ∷ l) (gates_again depth gates)
 
@@ -162,7 +162,7 @@ greatest-above f gates = λ k d lt. at_place gates k d lt
     at_place (n ∷ ns) (suc k) d lt = omega (arith, at_place ns k d (omega arith))
 
 -- a sorted copy is the order by depth
-pub sorted_is_by_depth : (depth : List ℕ → ℕ) (gates : List DraftGate) (sorted : List Deep) → All (λ (gate : DraftGate). 1 ≤ depth gate.out) gates → IsPermutation (map (deeper depth) gates) sorted → IsNonDecreasingBy depth_in sorted → ((k : ℕ) → at depth_in k sorted ≡ at depth_in k (map (deeper depth) gates)) → map gate_in sorted ≡ by_depth depth gates
+sorted_is_by_depth : (depth : List ℕ → ℕ) (gates : List DraftGate) (sorted : List Deep) → All (λ (gate : DraftGate). 1 ≤ depth gate.out) gates → IsPermutation (map (deeper depth) gates) sorted → IsNonDecreasingBy depth_in sorted → ((k : ℕ) → at depth_in k sorted ≡ at depth_in k (map (deeper depth) gates)) → map gate_in sorted ≡ by_depth depth gates
 sorted_is_by_depth depth gates sorted least moved up stable =
     let m = greatest (map (λ (gate : DraftGate). depth gate.out) gates) in
     let above : All (λ (e : Deep). 1 ≤ e.depth) sorted = All-permutation (λ (e : Deep). 1 ≤ e.depth) (map (deeper depth) gates) sorted moved (All-map (λ (e : Deep). 1 ≤ e.depth) (deeper depth) gates least) in

@@ -38,7 +38,7 @@ link_of_gate draft j lt =
     get_or_append_left (map gate_link draft.gates) (map wire_link draft.wires) bare j (subst (λ n. j < n) (sym (length-map draft.gates gate_link)) lt)
     ∙ get_or-map gate_link draft.gates j bare_gate bare lt
 
-pub link_of_wire : (draft : GateDraft) (k : ℕ) → k < length draft.wires → get_or (links draft) (length draft.gates + k) bare ≡ wire_link (get_or draft.wires k bare_wire)
+link_of_wire : (draft : GateDraft) (k : ℕ) → k < length draft.wires → get_or (links draft) (length draft.gates + k) bare ≡ wire_link (get_or draft.wires k bare_wire)
 link_of_wire draft k lt =
     get_or-append_right (map gate_link draft.gates) (map wire_link draft.wires) (length draft.gates) (length draft.gates + k) bare (length-map draft.gates gate_link) (omega arith)
     ∙ (ap (λ n. get_or (map wire_link draft.wires) n bare) (shift (length draft.gates) k) ∙ get_or-map wire_link draft.wires k bare_wire bare lt)
@@ -213,7 +213,7 @@ module _ (draft : GateDraft) (distinct : IsDistinct bytes_eq (drivers draft)) (n
       subst (λ n. IsStart draft n (start_in driven starts name)) (name_again driven name [] distinct among)
       (start_is (height_at heights (number_in driven name)) (number_in driven name) (number_below driven name distinct among) (omega arith))
 
-  pub right_levels : AreRight draft depths starts
+  right_levels : AreRight draft depths starts
   right_levels = record {
     no_cycle = no_cycle draft distinct none heights known all;
     depth = depth;

@@ -183,3 +183,16 @@ pub record IsSearching (inputs : ℕ) (graph : List (List ℕ)) (p : ℕ) (seen 
   pub nodes : (x : ℕ) → Contains ready x → (x < length graph) × IsReached p seen x
   pub needs : (s : ℕ) → Contains later s → (s < inputs + length graph) × Leads inputs graph p s
   pub closed : (x y : ℕ) → IsReached p seen x → Contains (needs_at graph x) (inputs + y) → (is_seen seen y ≡ true) ⊎ Contains ready x ⊎ Contains later (inputs + y)
+
+-- After a user of some names was noted with each node that drives one of them, it stands with these nodes, and what stood there stands.
+pub record HasUsers (inputs user : ℕ) (needs : List ℕ) (old new : List (List ℕ)) : Type 0 where
+  pub same : length new ≡ length old
+  pub noted : (k : ℕ) → Contains needs (inputs + k) → Contains (needs_at new k) user
+  pub kept : (k x : ℕ) → Contains (needs_at old k) x → Contains (needs_at new k) x
+  pub inside : (bound : ℕ) → user < bound → ((k : ℕ) → All (λ s. s < bound) (needs_at old k)) → (k : ℕ) → All (λ s. s < bound) (needs_at new k)
+
+-- The first n nodes stand with each node that they hang on.
+pub record IsTurned (inputs : ℕ) (graph turned : List (List ℕ)) (n : ℕ) : Type 0 where
+  pub same : length turned ≡ length graph
+  pub inside : (k : ℕ) → All (λ s. s < inputs + length graph) (needs_at turned k)
+  pub users : (j k : ℕ) → j < n → Contains (needs_at graph j) (inputs + k) → Contains (needs_at turned k) (inputs + j)

@@ -23,7 +23,7 @@ impl Netlist {
     /// `Twice` names the first name, by inputs, gates and then wires, that an earlier one drives. Else `Undriven` names the first pin, or
     /// else source of a wire, or else output that nothing drives. Else `Cycle` names the first gate that reaches itself or, where no gate
     /// does, the first wire. `Memory` is the one free answer. It works in time in proportion to the draft, the sort by depth aside, but for
-    /// a draft with a cycle, where it may go through the draft once for each gate or wire that only hangs on a cycle.
+    /// a draft with a cycle, where it may go through the draft once for each gate that stands between two cycles.
     pub fn close(alloc: Global, draft: GateDraft, lib: &Library) -> Result<Netlist, NetlistFault>
         requires { IsGateDraft lib.now draft }
         ensures closed { IfOk result (IsClosed draft) }

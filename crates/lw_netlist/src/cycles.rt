@@ -4,6 +4,7 @@ ghost use Rattle.lw_netlist.specs.Numbered.{AreHeights, IsFirst, IsGraph, IsSear
 
 use crate::levels::open_need;
 use crate::places::Places;
+use crate::turning::heights_behind;
 use std::alloc::{AllocError, Global};
 
 // The first node without a height.
@@ -136,28 +137,34 @@ fn leads_to_itself(
     Ok(seen[p])
 }
 
-// Whether a node is on a cycle; one that has a height is not.
+// Whether a node is on a cycle; one that has a height is not, nor is one that has a height in the graph turned round.
 fn is_on_cycle(
     alloc: Global,
     inputs: usize,
     graph: &[Places],
     heights: &[usize],
+    behind: &[usize],
     p: usize,
 ) -> Result<bool, AllocError>
     requires graph { IsGraph inputs graph.now }
     requires few { inputs + length graph.now < most_places }
     requires heights { AreHeights inputs graph.now heights.now }
+    requires one_each { length behind.now ≡ inputs + length graph.now }
+    requires clear { (q : ℕ) → 0 < height_at behind.now (inputs + q) → Leads inputs graph.now q (inputs + q) → ⊥ }
     requires within { p < length graph.now }
     ensures { IfOk result (λ b. IsTrue b ↔ Leads inputs graph.now p (inputs + p)) }
 {
     if heights[inputs + p] != 0 {
         return Ok(false);
     }
+    if behind[inputs + p] != 0 {
+        return Ok(false);
+    }
     leads_to_itself(alloc, inputs, graph, p)
 }
 
-// The first node that leads to itself, where some node has no height. This goes through the graph once for each node before it that has
-// none, and is on no cycle.
+// The first node that leads to itself, where some node has no height. This goes through the graph once for each node before it that is on
+// no cycle, but hangs on one while another hangs on it. Such a node is a gate, since a cycle of wires alone hangs on nothing else.
 pub(crate) fn first_on_cycle(
     alloc: Global,
     inputs: usize,
@@ -173,8 +180,9 @@ pub(crate) fn first_on_cycle(
     ensures { IfOk result (IsFirst inputs graph.now) }
 {
     let last = on_cycle(alloc, inputs, graph, heights, start)?;
+    let behind = heights_behind(alloc, inputs, graph)?;
     for p in 0..last {
-        if is_on_cycle(alloc, inputs, graph, heights, p)? {
+        if is_on_cycle(alloc, inputs, graph, heights, &behind, p)? {
             return Ok(p);
         }
     }

@@ -13,6 +13,7 @@ mod naming;
 mod netlist;
 mod order;
 mod places;
+mod turning;
 mod values;
 
 pub use draft::{DraftGate, DraftGates, GateDraft, Wire, Wires};
