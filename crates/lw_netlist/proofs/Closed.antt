@@ -71,20 +71,11 @@ module _ (draft : GateDraft) (driven graph : List (List ℕ)) (made : IsGraphOf 
     pub order_few : length (names_with draft gates) ≤ most_nets
     order_few = subst (λ gs. length (names_with draft gs) ≤ most_nets) (sym same) (ordered_few draft depths starts order once is.few made.known made.none right moved rising)
 
-    pub order_numbered : IsDistinct bytes_eq driven
-    order_numbered = subst (IsDistinct bytes_eq) (sym made.names) once
-
     pub order_rows : All (HasRow m driven graph) gates
     order_rows = subst (All (HasRow m driven graph)) (sym same) (rows_kept draft order driven graph made moved)
 
     pub order_outputs : All (Contains driven) draft.outputs
     order_outputs = subst (λ l. All (Contains l) draft.outputs) (sym made.names) (outputs_driven draft depths starts order once is.few made.known made.none right moved rising)
-
-    pub order_starts : length starts ≡ length driven
-    order_starts = right.starts_each ∙ ap length (sym made.names)
-
-    pub order_below : All (λ s. s < length driven) starts
-    order_below = subst (λ l. All (λ s. s < length l) starts) (sym made.names) right.below
 
     pub order_kept : IsNetlist (netlist_in (with_gates draft gates) gates (Net driven gates))
     order_kept =

@@ -13,4 +13,5 @@ pub mod Searching
 pub mod Settling
 pub mod Sorting
 pub mod Starting
+pub mod Telling
 pub mod Users

@@ -11,7 +11,7 @@ use Rattle.lw_netlist.specs.declared.fault.NetlistFault.{NetlistFault}
 use Rattle.lw_netlist.specs.declared.fault.NetlistFault.TheVariants.{Twice, Undriven, Cycle, Memory}
 use Rattle.lw_netlist.specs.Closing.{HasFault, HasNoCycle, Hangs, IsFirstOnCycle, Link, Reaches, drivers, first_twice, first_undriven, links, name_of, needs_of, twice_after, undriven_in}
 use Rattle.lw_netlist.specs.Closing.Reaches.{by_step, by_path}
-use Rattle.lw_netlist.specs.Numbered.{AreKnown, IsFirst, IsGraph, Leads, TellsTwice, TellsUndriven, height_at, most_places, needs_at, number_in, numbered}
+use Rattle.lw_netlist.specs.Numbered.{AreKnown, IsFirst, IsGraph, Leads, TellsUndriven, height_at, most_places, needs_at, number_in, numbered}
 use Rattle.lw_netlist.specs.Numbered.Leads.{one_step, then_path}
 use Rattle.lw_netlist.specs.Ordering.{IsGraphOf}
 use Rattle.lw_netlist.proofs.Names.{once_distinct, undriven_first, undriven_later}
@@ -171,12 +171,6 @@ module _ (draft : GateDraft) (distinct : IsDistinct bytes_eq (drivers draft)) (n
       placed_no_cycle m graph heights known l.place (all l.place (omega (arith, known.one_each, many_links, l.within))) (led_again name l)
 
 -- faults, in the order in which they are looked for
-pub fault_twice : (draft : GateDraft) (names : List (List ℕ)) (fault : NetlistFault) → names ≡ drivers draft → TellsTwice names fault → HasFault draft fault
-fault_twice draft names (Twice name) is e = subst (λ l. TellsTwice l (Twice name)) is e
-fault_twice draft names (Undriven name) is e = absurd e
-fault_twice draft names (Cycle name) is e = absurd e
-fault_twice draft names Memory is e = tt
-
 pub fault_in_needs : (draft : GateDraft) (given : List (List ℕ)) (fault : NetlistFault) → given ≡ drivers draft → first_twice draft ≡ None → TellsUndriven given (flat_map needs_of (links draft)) fault → HasFault draft fault
 fault_in_needs draft given (Twice name) is once e = absurd e
 fault_in_needs draft given (Undriven name) is once e = (once, undriven_first (drivers draft) (flat_map needs_of (links draft)) draft.outputs (Undriven name) (subst (λ l. TellsUndriven l (flat_map needs_of (links draft)) (Undriven name)) is e))

@@ -1,10 +1,9 @@
 -- Paths through fan-ins, by numbers.
-use Rattle.std.proofs.Common.{◌≡◌, ℕ, zero, suc, ◌+◌, ◌<◌, ◌≤◌, ◌⊎◌, inl, inr, Bool, true, false, not, cond, List, [], ◌∷◌, ◌++◌, length, drop, replicate, get_or, set, Contains, refl, sym, ap, subst, ◌∙◌, arith, length-set, get_or-set_same, get_or-set_other}
-use Rattle.std.proofs.lemmas.List.{drop_more, length-replicate, get_or_past}
+use Rattle.std.proofs.Common.{◌≡◌, ℕ, zero, suc, ◌+◌, ◌<◌, ◌≤◌, ◌⊎◌, inl, inr, Bool, true, false, List, [], ◌∷◌, ◌++◌, length, drop, get_or, set, Contains, refl, sym, ap, subst, ◌∙◌, arith, length-set, get_or-set_same, get_or-set_other}
+use Rattle.std.proofs.lemmas.List.{drop_more, get_or_past}
 use Rattle.std.proofs.lemmas.List.Elements.{Contains-push, Contains-append_left, Contains-push_cases, All-contains}
-use Rattle.std.proofs.lemmas.List.Sums.{sum_by-set}
-use Rattle.std.proofs.lemmas.Bool.{cases_eq, cases_lt, false≢true}
-use Rattle.lw_netlist.specs.Numbered.{IsGraph, needs_at, height_at, tallest, AreKnown, Leads, is_seen, unseen, IsReached, IsSearching}
+use Rattle.std.proofs.lemmas.Bool.{cases_eq, cases_lt}
+use Rattle.lw_netlist.specs.Numbered.{IsGraph, needs_at, height_at, tallest, AreKnown, Leads, is_seen, IsReached, IsSearching}
 use Rattle.lw_netlist.specs.Numbered.Leads.{one_step, then_path}
 use Rattle.lw_netlist.proofs.Rising.{contains_cons, contains_none}
 
@@ -49,13 +48,6 @@ path_falls inputs graph heights known j s (then_path k among path) some =
 -- a node that has a height doesn't lead to itself
 pub placed_no_cycle : (inputs : ℕ) (graph : List (List ℕ)) (heights : List ℕ) → AreKnown inputs graph heights → (j : ℕ) → 0 < height_at heights (inputs + j) → Leads inputs graph j (inputs + j) → ⊥
 placed_no_cycle inputs graph heights known j some path = omega (arith, (path_falls inputs graph heights known j (inputs + j) path some).below)
-
-abbrev one_unseen : Bool → ℕ
-one_unseen b = cond (not b) 1 0
-
--- one node more is seen
-pub unseen-set : (seen : List Bool) (at : ℕ) → at < length seen → get_or seen at false ≡ false → unseen (set seen at true) + 1 ≡ unseen seen
-unseen-set seen at below is = omega (arith, sum_by-set one_unseen seen at true false below, ap one_unseen is)
 
 -- a walk, one step on
 pub walk_step : (inputs : ℕ) (graph : List (List ℕ)) (seen : List Bool) (at next : ℕ) → at < length seen → Contains (needs_at graph at) (inputs + next) → ((x : ℕ) → is_seen seen x ≡ true → Leads inputs graph x (inputs + at)) → (x : ℕ) → is_seen (set seen at true) x ≡ true → Leads inputs graph x (inputs + next)
@@ -183,31 +175,6 @@ searching_taken inputs graph p seen ready rest node is_graph popped searching = 
     by_old x y among (inl is) = inl is
     by_old x y among (inr (inl old)) = by_last x y among (Contains-push_cases rest node x (subst (λ l. Contains l x) popped old))
     by_old x y among (inr (inr none)) = absurd (contains_none (inputs + y) none)
-
-none_seen : (n x : ℕ) → get_or (replicate n false) x false ≡ false
-none_seen zero x = refl
-none_seen (suc n) zero = refl
-none_seen (suc n) (suc x) = none_seen n x
-
-nothing_seen : (n x : ℕ) → is_seen (replicate n false) x ≡ true → ⊥
-nothing_seen n x is = false≢true (sym (none_seen n x) ∙ is)
-
-pub searching_starts : (inputs : ℕ) (graph : List (List ℕ)) (p : ℕ) → p < length graph → IsSearching inputs graph p (replicate (length graph) false) (p ∷ []) []
-searching_starts inputs graph p within = record {
-  flags = length-replicate (length graph) false;
-  reached = λ x is. absurd (nothing_seen (length graph) x is);
-  nodes = λ x among. by_node x (contains_cons p [] x among);
-  needs = λ s none. absurd (contains_none s none);
-  closed = λ x y reached among. by_reached x y reached;
-}
-  where
-    by_node : (x : ℕ) → (p ≡ x) ⊎ Contains [] x → (x < length graph) × IsReached p (replicate (length graph) false) x
-    by_node x (inl same) = (subst (λ n. n < length graph) same within, inl (sym same))
-    by_node x (inr none) = absurd (contains_none x none)
-
-    by_reached : (x y : ℕ) → IsReached p (replicate (length graph) false) x → (is_seen (replicate (length graph) false) y ≡ true) ⊎ Contains (p ∷ []) x ⊎ Contains [] (inputs + y)
-    by_reached x y (inl same) = inr (inl (0, omega arith, sym same))
-    by_reached x y (inr is) = absurd (nothing_seen (length graph) x is)
 
 -- where nothing is left to be looked at, all that p leads to was seen
 pub searching_ends : (inputs : ℕ) (graph : List (List ℕ)) (p : ℕ) (seen : List Bool) → IsSearching inputs graph p seen [] [] → (x t y : ℕ) → Leads inputs graph x t → IsReached p seen x → t ≡ inputs + y → is_seen seen y ≡ true

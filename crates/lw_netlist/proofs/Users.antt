@@ -1,9 +1,9 @@
 -- A graph turned round, and its paths.
-use Rattle.std.proofs.Common.{◌≡◌, ◌≢◌, ℕ, zero, suc, ◌+◌, ◌-◌, ◌<◌, ◌≤◌, ◌⊎◌, inl, inr, List, [], ◌∷◌, ◌++◌, length, take, replicate, get_or, set, Contains, All, refl, sym, ap, subst, ◌∙◌, arith, length-set, get_or-set_same, get_or-set_other}
-use Rattle.std.proofs.lemmas.List.{length-replicate, take_more, get_or_read}
+use Rattle.std.proofs.Common.{◌≡◌, ℕ, zero, suc, ◌+◌, ◌<◌, ◌⊎◌, inl, inr, List, [], ◌∷◌, ◌++◌, length, take, replicate, get_or, set, Contains, All, refl, sym, subst, ◌∙◌, arith, length-set, get_or-set_same, get_or-set_other}
+use Rattle.std.proofs.lemmas.List.{length-replicate, take_more}
 use Rattle.std.proofs.lemmas.List.Elements.{Contains-push, Contains-append_left, Contains-push_cases, All-push, All-nil}
-use Rattle.std.proofs.lemmas.Bool.{cases_eq, cases_lt}
-use Rattle.lw_netlist.specs.Numbered.{AreKnown, HasUsers, IsGraph, IsTurned, Leads, height_at, needs_at}
+use Rattle.std.proofs.lemmas.Bool.{cases_eq}
+use Rattle.lw_netlist.specs.Numbered.{AreKnown, HasUsers, IsTurned, Leads, height_at, needs_at}
 use Rattle.lw_netlist.specs.Numbered.Leads.{one_step, then_path}
 use Rattle.lw_netlist.proofs.Rising.{contains_cons, contains_none}
 use Rattle.lw_netlist.proofs.Searching.{leads_on, in_graph, placed_no_cycle}

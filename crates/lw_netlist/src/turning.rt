@@ -54,11 +54,7 @@ fn note_users(
 }
 
 // The graph turned round.
-fn turned_round(
-    alloc: Global,
-    inputs: usize,
-    graph: &[Places],
-) -> Result<Vec<Places>, AllocError>
+fn turned_round(alloc: Global, inputs: usize, graph: &[Places]) -> Result<Vec<Places>, AllocError>
     requires graph { IsGraph inputs graph.now }
     requires few { inputs + length graph.now < most_places }
     ensures { IfOk result (λ turned. IsTurned inputs graph.now turned.items (length graph.now)) }

@@ -1,7 +1,7 @@
 use Rattle.std.proofs.Common.{◌<◌, ℕ, [], length, refl, subst, ◌∙◌, arith, Contains}
 use Rattle.std.proofs.lemmas.List.{get_or_default}
 use Rattle.lw_netlist.specs.Numbered.{IsRising}
-use Rattle.lw_netlist.proofs.Rising.{rising_starts, rising_ends}
+use Rattle.lw_netlist.proofs.Telling.{rising_starts, rising_ends}
 use Rattle.lw_netlist.proofs.Settling.{settled_starts}
 use Rattle.lw_netlist.proofs.levels.find_levels.Goals as goal
 

@@ -2,7 +2,7 @@ use Rattle.std.proofs.Common.{◌≡◌, ◌<◌, ◌+◌, ◌++◌, ◌∷◌, 
 use Rattle.std.proofs.lemmas.List.{get_or_read}
 use Rattle.std.proofs.lemmas.List.Elements.{All-contains, Contains-push}
 use Rattle.lw_netlist.specs.Numbered.{waiting_at}
-use Rattle.lw_netlist.proofs.Rising.{rising_told}
+use Rattle.lw_netlist.proofs.Telling.{rising_told}
 use Rattle.lw_netlist.proofs.levels.tell.Goals as goal
 
 pub settle_all-requires-clause-rising : goal.settle_all-requires-clause-rising

@@ -1,4 +1,3 @@
-use Rattle.std.proofs.Common.{◌∙◌, arith}
 use Rattle.lw_netlist.proofs.Users.{clear_behind}
 use Rattle.lw_netlist.proofs.turning.heights_behind.Goals as goal
 
