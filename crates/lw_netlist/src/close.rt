@@ -18,7 +18,7 @@ impl Netlist {
     ghost use Rattle.lw_netlist.specs.Plain.{IsOver};
 
     /// The netlist of a draft, with wires replaced by the nets at which they start, and with its gates by depth and, at one depth, as they
-    /// are given.
+    /// are given. The library is not looked at; it is named for what is asked of the draft.
     ///
     /// `Twice` names the first name, by inputs, gates and then wires, that an earlier one drives. Else `Undriven` names the first pin, or
     /// else source of a wire, or else output that nothing drives. Else `Cycle` names the first gate that reaches itself or, where no gate
