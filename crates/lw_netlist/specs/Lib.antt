@@ -1,3 +1,6 @@
+pub mod Closing
 pub mod Filling
 pub mod Netlists
+pub mod Numbered
+pub mod Ordering
 pub mod Plain

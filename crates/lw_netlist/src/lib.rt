@@ -1,10 +1,22 @@
-//! Netlists of library cells: their gates, the values of their nets, and when these arrive.
+//! Netlists of library cells: their gates, the values of their nets, and when these arrive, and how they are closed from drafts by names.
 #![tactic(auto)]
 
 mod arrivals;
+mod close;
+mod closing;
+mod cycles;
+mod draft;
+mod fault;
 mod gate;
+mod levels;
+mod naming;
 mod netlist;
+mod order;
+mod places;
+mod turning;
 mod values;
 
+pub use draft::{DraftGate, DraftGates, GateDraft, Wire, Wires};
+pub use fault::NetlistFault;
 pub use gate::{Gate, Gates, Port, PortList};
 pub use netlist::Netlist;

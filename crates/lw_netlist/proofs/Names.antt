@@ -1,0 +1,165 @@
+-- Names that differ, and their numbers.
+use Rattle.std.proofs.Common.{◌≡◌, ℕ, zero, suc, ◌+◌, ◌<◌, Bool, true, false, not, ◌||◌, cond, List, [], ◌∷◌, ◌++◌, length, map, take, drop, get_or, find, Some, None, refl, sym, ap, ap₂, subst, ◌∙◌, arith, append_assoc}
+use Rattle.std.proofs.lemmas.Slice.Eq.{bytes_eq-Decides}
+use Rattle.std.proofs.lemmas.List.{take_more, at_drop_more, get_or_read, map_more, map-append, append-nil}
+use Rattle.std.proofs.lemmas.Bool.{false≢true}
+use Rattle.std.specs.List.{list_any, flat_map, IsDistinct, AllByRecursion}
+use Rattle.std.specs.Str.{bytes_eq}
+use Rattle.indexmap.specs.IndexSet.{insert_key}
+use Rattle.lw_netlist.specs.declared.draft.DraftGate.{DraftGate}
+use Rattle.lw_netlist.specs.declared.draft.GateDraft.{GateDraft}
+use Rattle.lw_netlist.specs.declared.draft.Wire.{Wire}
+use Rattle.lw_netlist.specs.declared.fault.NetlistFault.{NetlistFault}
+use Rattle.lw_netlist.specs.declared.fault.NetlistFault.TheVariants.{Twice, Undriven, Cycle, Memory}
+use Rattle.lw_netlist.specs.Closing.{Link, drivers, gate_link, is_among, name_of, needs_of, out_of, twice_after, undriven_in, wire_link}
+use Rattle.lw_netlist.specs.Numbered.{TellsUndriven, number_in, numbered}
+
+pub same_name : (xs ys : List ℕ) → bytes_eq xs ys ≡ true → xs ≡ ys
+same_name xs ys e = (bytes_eq-Decides xs ys).0 e
+
+pub alike : (xs ys : List ℕ) → xs ≡ ys → bytes_eq xs ys ≡ true
+alike xs ys e = (bytes_eq-Decides xs ys).1 e
+
+-- the test doesn't mind the order
+pub differ_back : (xs ys : List ℕ) → bytes_eq xs ys ≡ false → bytes_eq ys xs ≡ false
+differ_back xs ys e = by_test (bytes_eq ys xs) refl
+  where
+    by_test : (b : Bool) → bytes_eq ys xs ≡ b → b ≡ false
+    by_test true is = absurd (false≢true (sym e ∙ alike xs ys (sym (same_name ys xs is))))
+    by_test false is = refl
+
+-- a name is none of those before it
+none_before : (names : List (List ℕ)) (i : ℕ) (d : List ℕ) → IsDistinct bytes_eq names → i < length names → is_among (take i names) (get_or names i d) ≡ false
+unfolding IsDistinct
+none_before [] i d distinct below = absurd (omega arith)
+none_before (x ∷ xs) zero d distinct below = refl
+none_before (x ∷ xs) (suc i) d distinct below =
+    let inside : i < length xs = omega arith in
+    ap₂ (λ a b. a || b) (differ_back x (get_or xs i d) (at_place xs i d distinct.0 inside)) (none_before xs i d distinct.1 inside)
+  where
+    at_place : (ys : List (List ℕ)) (k : ℕ) (e : List ℕ) → AllByRecursion (λ y. bytes_eq x y ≡ false) ys → k < length ys → bytes_eq x (get_or ys k e) ≡ false
+    at_place [] k e all lt = absurd (omega arith)
+    at_place (y ∷ ys) zero e all lt = all.0
+    at_place (y ∷ ys) (suc k) e all lt = at_place ys k e all.1 (omega arith)
+
+-- one more link is numbered
+pub numbered_more : {X : Type 0} (driven : List (List ℕ)) (link : X → Link) (xs : List X) (old new : List (List ℕ)) (i : ℕ) (x : X) (ns : List ℕ) → i < length xs → x ≡ get_or xs i x → old ≡ numbered driven (map link (take i xs)) → ns ≡ map (number_in driven) (link x).needs → new ≡ old ++ ns ∷ [] → new ≡ numbered driven (map link (take (i + 1) xs))
+numbered_more {X = X} driven link xs old new i x ns below here was is grown =
+    let one : Link → List ℕ = λ l. map (number_in driven) l.needs in
+    let more : map link (take (i + 1) xs) ≡ map link (take i xs) ++ link (get_or xs i x) ∷ [] = map_more link xs i x below in
+    grown ∙ (ap₂ (λ l n. l ++ n ∷ []) was (is ∙ ap (λ (y : X). one (link y)) here) ∙ sym (ap (map one) more ∙ map-append one (map link (take i xs)) (link (get_or xs i x) ∷ [])))
+
+-- one more name is numbered
+pub inserted : (names old new : List (List ℕ)) (i : ℕ) (name item : List ℕ) → IsDistinct bytes_eq names → i < length names → item ≡ get_or names i item → name ≡ item → old ≡ take i names → new ≡ insert_key bytes_eq old name → new ≡ take (i + 1) names
+inserted names old new i name item distinct below read copied was is =
+    let here : name ≡ get_or names i name = copied ∙ get_or_read names i item below read name in
+    let fresh : list_any (bytes_eq name) old ≡ false = ap (λ l. list_any (bytes_eq name) l) was ∙ (ap (λ n. list_any (bytes_eq n) (take i names)) here ∙ none_before names i name distinct below) in
+    is ∙ (ap (λ b. cond b old (old ++ name ∷ [])) fresh ∙ (ap (λ l. l ++ name ∷ []) was ∙ (ap (λ n. take i names ++ n ∷ []) here ∙ sym (take_more names i name below))))
+
+find_first : (p : List ℕ → Bool) (xs ys : List (List ℕ)) (x : List ℕ) → find p xs ≡ Some x → find p (xs ++ ys) ≡ Some x
+find_first p [] ys x e = cc
+find_first p (y ∷ xs) ys x e = by_test (p y) e (find_first p xs ys x)
+  where
+    by_test : (b : Bool) → cond b (Some y) (find p xs) ≡ Some x → (find p xs ≡ Some x → find p (xs ++ ys) ≡ Some x) → cond b (Some y) (find p (xs ++ ys)) ≡ Some x
+    by_test true is later = is
+    by_test false is later = later is
+
+find_later : (p : List ℕ → Bool) (xs ys : List (List ℕ)) → find p xs ≡ None → find p (xs ++ ys) ≡ find p ys
+find_later p [] ys e = refl
+find_later p (y ∷ xs) ys e = by_test (p y) e (find_later p xs ys)
+  where
+    by_test : (b : Bool) → cond b (Some y) (find p xs) ≡ None → (find p xs ≡ None → find p (xs ++ ys) ≡ find p ys) → cond b (Some y) (find p (xs ++ ys)) ≡ find p ys
+    by_test true is later = cc
+    by_test false is later = later is
+
+-- an undriven name of the first names is the first of all
+pub undriven_first : (signals xs ys : List (List ℕ)) (fault : NetlistFault) → TellsUndriven signals xs fault → TellsUndriven signals (xs ++ ys) fault
+undriven_first signals xs ys (Undriven name) e = find_first (λ n. not (is_among signals n)) xs ys name e
+undriven_first signals xs ys (Cycle name) e = e
+undriven_first signals xs ys (Twice name) e = e
+undriven_first signals xs ys Memory e = e
+
+pub undriven_later : (signals xs ys : List (List ℕ)) → undriven_in signals xs ≡ None → undriven_in signals (xs ++ ys) ≡ undriven_in signals ys
+undriven_later signals xs ys e = find_later (λ n. not (is_among signals n)) xs ys e
+
+-- of lists with the same first undriven name
+undriven_same : (signals xs ys : List (List ℕ)) (fault : NetlistFault) → undriven_in signals xs ≡ undriven_in signals ys → TellsUndriven signals xs fault → TellsUndriven signals ys fault
+undriven_same signals xs ys (Undriven name) same e = sym same ∙ e
+undriven_same signals xs ys (Cycle name) same e = e
+undriven_same signals xs ys (Twice name) same e = e
+undriven_same signals xs ys Memory same e = e
+
+-- what one link hangs on, and what those behind it do
+needs_from : {X : Type 0} (link : X → Link) (xs : List X) (i : ℕ) (x : X) → i < length xs → x ≡ get_or xs i x → flat_map needs_of (map link (drop i xs)) ≡ (link x).needs ++ flat_map needs_of (map link (drop (i + 1) xs))
+needs_from {X = X} link xs i x below here = at_drop_more (λ (ys : List X). flat_map needs_of (map link ys)) xs i x below ∙ ap (λ (y : X). (link y).needs ++ flat_map needs_of (map link (drop (i + 1) xs))) (sym here)
+
+pub undriven_in_link : {X : Type 0} (driven : List (List ℕ)) (link : X → Link) (xs : List X) (i : ℕ) (x : X) (fault : NetlistFault) → i < length xs → x ≡ get_or xs i x → undriven_in driven (flat_map needs_of (map link (drop i xs))) ≡ undriven_in driven (flat_map needs_of (map link xs)) → TellsUndriven driven (link x).needs fault → TellsUndriven driven (flat_map needs_of (map link xs)) fault
+undriven_in_link driven link xs i x fault below here rest e =
+    let others = flat_map needs_of (map link (drop (i + 1) xs)) in
+    undriven_same driven ((link x).needs ++ others) (flat_map needs_of (map link xs)) fault (ap (undriven_in driven) (sym (needs_from link xs i x below here)) ∙ rest) (undriven_first driven (link x).needs others fault e)
+
+pub undriven_behind_link : {X : Type 0} (driven : List (List ℕ)) (link : X → Link) (xs : List X) (i : ℕ) (x : X) → i < length xs → x ≡ get_or xs i x → undriven_in driven (flat_map needs_of (map link (drop i xs))) ≡ undriven_in driven (flat_map needs_of (map link xs)) → undriven_in driven (link x).needs ≡ None → undriven_in driven (flat_map needs_of (map link (drop (i + 1) xs))) ≡ undriven_in driven (flat_map needs_of (map link xs))
+undriven_behind_link driven link xs i x below here rest e =
+    sym (undriven_later driven (link x).needs (flat_map needs_of (map link (drop (i + 1) xs))) e) ∙ (ap (undriven_in driven) (sym (needs_from link xs i x below here)) ∙ rest)
+
+-- where none is there twice, they differ
+AllByRecursion-split : (P : List ℕ → Type 0) (xs ys : List (List ℕ)) → AllByRecursion P xs → AllByRecursion P ys → AllByRecursion P (xs ++ ys)
+AllByRecursion-split P [] ys all rest = rest
+AllByRecursion-split P (x ∷ xs) ys all rest = (all.0, AllByRecursion-split P xs ys all.1 rest)
+
+distinct_push : (xs : List (List ℕ)) (name : List ℕ) → IsDistinct bytes_eq xs → is_among xs name ≡ false → IsDistinct bytes_eq (xs ++ name ∷ [])
+unfolding IsDistinct
+distinct_push [] name distinct is = (tt, tt)
+distinct_push (x ∷ xs) name distinct is = by_test (bytes_eq name x) refl is (distinct_push xs name distinct.1)
+  where
+    by_test : (b : Bool) → bytes_eq name x ≡ b → (b || is_among xs name) ≡ false → (is_among xs name ≡ false → IsDistinct bytes_eq (xs ++ name ∷ [])) → IsDistinct bytes_eq ((x ∷ xs) ++ name ∷ [])
+    by_test true e now rest = absurd (false≢true (sym now))
+    by_test false e now rest = (AllByRecursion-split (λ y. bytes_eq x y ≡ false) xs (name ∷ []) distinct.0 (differ_back name x e, tt), rest now)
+
+once_after : (seen names : List (List ℕ)) → IsDistinct bytes_eq seen → twice_after seen names ≡ None → IsDistinct bytes_eq (seen ++ names)
+once_after seen [] distinct e = subst (IsDistinct bytes_eq) (sym (append-nil seen)) distinct
+once_after seen (name ∷ names) distinct e = by_test (is_among seen name) refl e (once_after (seen ++ name ∷ []) names)
+  where
+    by_test : (b : Bool) → is_among seen name ≡ b → cond b (Some name) (twice_after (seen ++ name ∷ []) names) ≡ None → (IsDistinct bytes_eq (seen ++ name ∷ []) → twice_after (seen ++ name ∷ []) names ≡ None → IsDistinct bytes_eq ((seen ++ name ∷ []) ++ names)) → IsDistinct bytes_eq (seen ++ name ∷ names)
+    by_test true is now rest = cc
+    by_test false is now rest = subst (IsDistinct bytes_eq) (append_assoc seen (name ∷ []) names) (rest (distinct_push seen name distinct is) now)
+
+pub once_distinct : (names : List (List ℕ)) → twice_after [] names ≡ None → IsDistinct bytes_eq names
+unfolding IsDistinct
+once_distinct names e = once_after [] names tt e
+
+abbrev pub to_of : Wire → List ℕ
+to_of wire = wire.to
+
+names_of_gates : (gates : List DraftGate) → map name_of (map gate_link gates) ≡ map out_of gates
+names_of_gates [] = refl
+names_of_gates (gate ∷ gates) = ap (λ l. gate.out ∷ l) (names_of_gates gates)
+
+names_of_wires : (wires : List Wire) → map name_of (map wire_link wires) ≡ map to_of wires
+names_of_wires [] = refl
+names_of_wires (wire ∷ wires) = ap (λ l. wire.to ∷ l) (names_of_wires wires)
+
+-- what is driven, by inputs, gates and wires
+pub drivers_are : (draft : GateDraft) → drivers draft ≡ (draft.inputs ++ map out_of draft.gates) ++ map to_of draft.wires
+drivers_are draft =
+    ap (λ l. draft.inputs ++ l) (map-append name_of (map gate_link draft.gates) (map wire_link draft.wires) ∙ ap₂ (λ a b. a ++ b) (names_of_gates draft.gates) (names_of_wires draft.wires))
+    ∙ sym (append_assoc draft.inputs (map out_of draft.gates) (map to_of draft.wires))
+
+-- what gates and then wires hang on
+pub rows_joined : (driven : List (List ℕ)) (first second : List Link) (old new : List (List ℕ)) → old ≡ numbered driven first → new ≡ old ++ numbered driven second → new ≡ numbered driven (first ++ second)
+rows_joined driven first second old new was is = is ∙ (ap (λ l. l ++ numbered driven second) was ∙ sym (map-append (λ (link : Link). map (number_in driven) link.needs) first second))
+
+needs_joined : (first second : List Link) → flat_map needs_of (first ++ second) ≡ flat_map needs_of first ++ flat_map needs_of second
+needs_joined [] second = refl
+needs_joined (link ∷ first) second = ap (λ l. link.needs ++ l) (needs_joined first second) ∙ sym (append_assoc link.needs (flat_map needs_of first) (flat_map needs_of second))
+
+pub known_joined : (driven : List (List ℕ)) (first second : List Link) → undriven_in driven (flat_map needs_of first) ≡ None → undriven_in driven (flat_map needs_of second) ≡ None → undriven_in driven (flat_map needs_of (first ++ second)) ≡ None
+known_joined driven first second a b = ap (undriven_in driven) (needs_joined first second) ∙ (undriven_later driven (flat_map needs_of first) (flat_map needs_of second) a ∙ b)
+
+pub fault_in_first : (driven : List (List ℕ)) (first second : List Link) (fault : NetlistFault) → TellsUndriven driven (flat_map needs_of first) fault → TellsUndriven driven (flat_map needs_of (first ++ second)) fault
+fault_in_first driven first second fault e = subst (λ l. TellsUndriven driven l fault) (sym (needs_joined first second)) (undriven_first driven (flat_map needs_of first) (flat_map needs_of second) fault e)
+
+pub fault_in_second : (driven : List (List ℕ)) (first second : List Link) (fault : NetlistFault) → undriven_in driven (flat_map needs_of first) ≡ None → TellsUndriven driven (flat_map needs_of second) fault → TellsUndriven driven (flat_map needs_of (first ++ second)) fault
+fault_in_second driven first second fault a e =
+    undriven_same driven (flat_map needs_of second) (flat_map needs_of (first ++ second)) fault
+    (sym (undriven_later driven (flat_map needs_of first) (flat_map needs_of second) a) ∙ ap (undriven_in driven) (sym (needs_joined first second))) e

@@ -1,0 +1,15 @@
+use Rattle.std.proofs.lemmas.Result.{err_from_is_err_and}
+use Rattle.lw_netlist.specs.Closing.{gate_link}
+use Rattle.lw_netlist.proofs.Names.{undriven_in_link, undriven_behind_link, numbered_more}
+use Rattle.lw_netlist.proofs.naming.gate_rows.Goals as goal
+
+pub returns-in_err-row-clause-fault : goal.returns-in_err-row-clause-fault
+returns-in_err-row-clause-fault c =
+    let p = err_from_is_err_and c.from_residual.result c.from_residual.ensures.1 in
+    rw (p.1, p.2) (undriven_in_link c.args.signals.now.keys gate_link c.args.gates.now c.loop-gate.gate-index c.gate-item.result c.in_err-row.field-0.0 c.loop-gate-test.true c.gate-item.is c.loop-gate.invariant.rest (rw c.as_slice.ensures at c.in_err-row.ensures.fault))
+
+pub loop-gate-preserved : goal.loop-gate-preserved
+loop-gate-preserved c = record {
+  so_far = numbered_more c.args.signals.now.keys gate_link c.args.gates.now c.loop-gate.rows.items c.push.new.self.items c.loop-gate.gate-index c.gate-item.result c.in_ok-row.row c.loop-gate-test.true c.gate-item.is c.loop-gate.invariant.so_far (rw c.as_slice.ensures at c.in_ok-row.ensures.ok) c.in-Ok.ensures.items;
+  rest = undriven_behind_link c.args.signals.now.keys gate_link c.args.gates.now c.loop-gate.gate-index c.gate-item.result c.loop-gate-test.true c.gate-item.is c.loop-gate.invariant.rest (rw c.as_slice.ensures at c.in_ok-row.ensures.known);
+}

@@ -1,0 +1,179 @@
+// Names in place of which numbers stand.
+ghost use Rattle.std.specs.Prelude.{◌≡◌, ◌<◌, ◌≤◌, ◌++◌, ◌∷◌, [], None, length, map, IfOk, IfErr, OnOk};
+ghost use Rattle.std.specs.List.{IsDistinct, flat_map};
+ghost use Rattle.std.specs.Str.{bytes_eq};
+ghost use Rattle.lw_netlist.specs.Closing.{drivers, gate_link, needs_of, out_of, twice_after, undriven_in, wire_link};
+ghost use Rattle.lw_netlist.specs.Numbered.{TellsTwice, TellsUndriven, most_places, number_in, numbered};
+
+use crate::places::Places;
+use crate::{DraftGate, GateDraft, NetlistFault, Wire};
+use indexmap::IndexSet;
+use lw_pool::Name;
+use std::alloc::{AllocError, Global};
+
+// Copies the names of inputs, and then those that gates drive.
+pub(crate) fn names_of(
+    alloc: Global,
+    inputs: &[Name],
+    gates: &[DraftGate],
+) -> Result<Vec<Name>, AllocError>
+    ensures { IfOk result (λ names. names.items ≡ inputs.now ++ map out_of gates.now) }
+{
+    let mut names = Vec::with_capacity(alloc, inputs.len().saturating_add(gates.len()))?;
+    for name in inputs {
+        names.push(Name::from_slice(alloc, name.as_bytes())?)?;
+    }
+    for gate in gates {
+        names.push(Name::from_slice(alloc, gate.out.as_bytes())?)?;
+    }
+    Ok(names)
+}
+
+// Copies the names of inputs, and then those that gates and wires drive.
+pub(crate) fn driven(alloc: Global, draft: &GateDraft) -> Result<Vec<Name>, AllocError>
+    ensures { IfOk result (λ names. names.items ≡ drivers draft.now) }
+{
+    let mut names = names_of(alloc, draft.inputs.as_slice(), draft.gates.as_slice())?;
+    for wire in draft.wires.as_slice() {
+        names.push(Name::from_slice(alloc, wire.to.as_bytes())?)?;
+    }
+    Ok(names)
+}
+
+// Numbers names, or tells the first that is there twice.
+pub(crate) fn numbers(alloc: Global, names: Vec<Name>) -> Result<IndexSet<Name>, NetlistFault>
+    ensures keys { IfOk result (λ set. set.keys ≡ names.items) }
+    ensures once { OnOk result (twice_after [] names.items ≡ None) }
+    ensures few { OnOk result (length names.items < most_places) }
+    ensures fault { IfErr result (TellsTwice names.items) }
+{
+    let mut set = IndexSet::with_capacity(alloc, names.len())?;
+    let mut left = names.into_iter();
+    'names: while let Some(name) = left.next() {
+        if set.contains(&name) {
+            return Err(NetlistFault::Twice(name));
+        }
+        let Ok(_) = set.insert(name) else {
+            return Err(NetlistFault::Memory);
+        };
+    }
+    let _count = set.len();
+    Ok(set)
+}
+
+// Numbers copies of names, which differ.
+pub(crate) fn number_copies(alloc: Global, names: &[Name]) -> Result<IndexSet<Name>, AllocError>
+    requires { IsDistinct bytes_eq names.now }
+    ensures { IfOk result (λ set. set.keys ≡ names.now) }
+{
+    let mut set = IndexSet::with_capacity(alloc, names.len())?;
+    for name in names {
+        set.insert(Name::from_slice(alloc, name.as_bytes())?)?;
+    }
+    Ok(set)
+}
+
+// The number of a name, or the fault that it has none.
+fn number_of(alloc: Global, name: &Name, signals: &IndexSet<Name>) -> Result<usize, NetlistFault>
+    ensures ok { IfOk result (λ n. n ≡ number_in signals.now.keys name.now) }
+    ensures known { OnOk result (undriven_in signals.now.keys (name.now ∷ []) ≡ None) }
+    ensures fault { IfErr result (TellsUndriven signals.now.keys (name.now ∷ [])) }
+{
+    match signals.get_index_of(name) {
+        Some(number) => Ok(number),
+        None => {
+            let name = Name::from_slice(alloc, name.as_bytes())?;
+            Err(NetlistFault::Undriven(name))
+        }
+    }
+}
+
+// The numbers of some names, or the first of them that has none.
+pub(crate) fn numbers_of(
+    alloc: Global,
+    names: &[Name],
+    signals: &IndexSet<Name>,
+) -> Result<Places, NetlistFault>
+    ensures ok { IfOk result (λ ns. ns ≡ map (number_in signals.now.keys) names.now) }
+    ensures known { OnOk result (undriven_in signals.now.keys names.now ≡ None) }
+    ensures fault { IfErr result (TellsUndriven signals.now.keys names.now) }
+{
+    let mut numbers = Vec::with_capacity(alloc, names.len())?;
+    for name in names {
+        let number = number_of(alloc, name, signals)?;
+        let Ok(()) = numbers.push(number) else {
+            return Err(NetlistFault::Memory);
+        };
+    }
+    Ok(Places::from_vec(numbers))
+}
+
+// The numbers of the pins of each gate, or the first pin that has none.
+fn gate_rows(
+    alloc: Global,
+    gates: &[DraftGate],
+    signals: &IndexSet<Name>,
+) -> Result<Vec<Places>, NetlistFault>
+    ensures ok { IfOk result (λ rows. rows.items ≡ numbered signals.now.keys (map gate_link gates.now)) }
+    ensures known { OnOk result (undriven_in signals.now.keys (flat_map needs_of (map gate_link gates.now)) ≡ None) }
+    ensures fault { IfErr result (TellsUndriven signals.now.keys (flat_map needs_of (map gate_link gates.now))) }
+{
+    let mut rows = Vec::new(alloc);
+    for gate in gates {
+        let row = numbers_of(alloc, gate.pins.as_slice(), signals)?;
+        let Ok(()) = rows.push(row) else {
+            return Err(NetlistFault::Memory);
+        };
+    }
+    Ok(rows)
+}
+
+// The number of the source of a wire, as a row.
+fn wire_row(alloc: Global, wire: &Wire, signals: &IndexSet<Name>) -> Result<Places, NetlistFault>
+    ensures ok { IfOk result (λ ns. ns ≡ map (number_in signals.now.keys) (wire_link wire.now).needs) }
+    ensures known { OnOk result (undriven_in signals.now.keys (wire_link wire.now).needs ≡ None) }
+    ensures fault { IfErr result (TellsUndriven signals.now.keys (wire_link wire.now).needs) }
+{
+    let number = number_of(alloc, &wire.from, signals)?;
+    let mut row = Places::empty(alloc);
+    let Ok(()) = row.push(number) else {
+        return Err(NetlistFault::Memory);
+    };
+    Ok(row)
+}
+
+// The same of each wire, or the first source that has no number.
+fn wire_rows(
+    alloc: Global,
+    wires: &[Wire],
+    signals: &IndexSet<Name>,
+    rows: &mut Vec<Places>,
+) -> Result<(), NetlistFault>
+    ensures ok { OnOk result (rows.new.items ≡ rows.old.items ++ numbered signals.now.keys (map wire_link wires.now)) }
+    ensures known { OnOk result (undriven_in signals.now.keys (flat_map needs_of (map wire_link wires.now)) ≡ None) }
+    ensures fault { IfErr result (TellsUndriven signals.now.keys (flat_map needs_of (map wire_link wires.now))) }
+{
+    for wire in wires {
+        let row = wire_row(alloc, wire, signals)?;
+        let Ok(()) = rows.push(row) else {
+            return Err(NetlistFault::Memory);
+        };
+    }
+    Ok(())
+}
+
+// The numbers of what each gate and then each wire hangs on, or the first name of these that has none.
+pub(crate) fn rows(
+    alloc: Global,
+    gates: &[DraftGate],
+    wires: &[Wire],
+    signals: &IndexSet<Name>,
+) -> Result<Vec<Places>, NetlistFault>
+    ensures ok { IfOk result (λ rows. rows.items ≡ numbered signals.now.keys (map gate_link gates.now ++ map wire_link wires.now)) }
+    ensures known { OnOk result (undriven_in signals.now.keys (flat_map needs_of (map gate_link gates.now ++ map wire_link wires.now)) ≡ None) }
+    ensures fault { IfErr result (TellsUndriven signals.now.keys (flat_map needs_of (map gate_link gates.now ++ map wire_link wires.now))) }
+{
+    let mut rows = gate_rows(alloc, gates, signals)?;
+    wire_rows(alloc, wires, signals, &mut rows)?;
+    Ok(rows)
+}
