@@ -1,3 +1,4 @@
+mod Arriving
 mod Descent
 mod FreeNames
 mod NamesGiven

@@ -6,7 +6,10 @@ use Rattle.lw_laws.specs.Graphs.{Graph}
 use Rattle.lw_laws.specs.Costs.{Cost}
 use Rattle.lw_laws.specs.Covers.{Pattern}
 use Rattle.lw_laws.specs.Names.{net_names}
+use Rattle.lw_laws.specs.Netlists.{AreArrivals}
 use Rattle.lw_laws.specs.Extracts.{AreGateClasses, IsExtracted, IsNetOf}
+use Rattle.lw_genlib.specs.Cells.{CellParts}
+use Rattle.lw_genlib.specs.Tables.{delays_of_cells}
 use Rattle.lw_match.specs.declared.mark.Mark.{Mark}
 use Rattle.lw_match.specs.Values.{numbers}
 use Rattle.lw_netlist.specs.declared.gate.Port.{Port}
@@ -44,3 +47,8 @@ pub record IsCoverOf (g : Graph) (cost : Cost) (pats : List Pattern) (marks : Li
   pub names : cover.netlist.names ≡ net_names ports.inputs ports.outputs (numbers ports.roots) (numbers cover.classes)
   pub output_names : map (λ (port : Port). port.name) cover.netlist.outputs ≡ ports.outputs
   pub outputs : AllZip (λ (root : ClassId) (port : Port). IsNetOf g (numbers cover.classes) root.0 port.net.0) ports.roots cover.netlist.outputs
+
+-- Each net arrives at the label of its class, by the delays of the cells.
+abbrev pub ArriveAtLabels : Graph → List CellParts → List (Option Mark) → Cover → Type 0
+ArriveAtLabels g cells marks cover =
+    (arrivals : List ℕ) → AreArrivals (delays_of_cells cells) (plain cover.netlist) arrivals → (c net : ℕ) → IsNetOf g (numbers cover.classes) c net → labels marks c ≡ Some (slice_index_or arrivals net 0)

@@ -7,7 +7,7 @@ ghost use Rattle.lw_extract.specs.declared.fault.ExtractFault.TheVariants.{NoCov
 ghost use Rattle.lw_match.specs.Values.{numbers};
 ghost use Rattle.lw_extract.specs.Choosing.{AreChosen, chosen_classes};
 ghost use Rattle.lw_extract.specs.Nets.{AreClassNets};
-ghost use Rattle.lw_extract.specs.Covers.{AreFit, IsFirstUncovered, IsCoverOf};
+ghost use Rattle.lw_extract.specs.Covers.{AreFit, IsFirstUncovered, IsCoverOf, ArriveAtLabels};
 
 use crate::choosing::{Chosen, choose};
 use crate::gates::{gates_of, outputs_of};
@@ -91,7 +91,9 @@ fn cover(
     requires covered { All (λ root. IsSome (slice_index_or marks.now root.0 None)) ports.now.roots }
     ensures cover { IfOk result (IsCoverOf graph.now (time_cost lib.now) pats.now marks.now ports.now) }
     ensures over { IfOk result (λ cover. IsOver lib.now cover.netlist) }
+    ensures arrivals { IfOk result (ArriveAtLabels graph.now lib.now marks.now) }
 {
+    let _ = lib.len();
     let mut nets = input_nets(alloc, graph)?;
     let chosen = choose(
         alloc,
@@ -107,7 +109,7 @@ fn cover(
 }
 
 /// The netlist that the labels of a graph's classes give to some outputs: a gate for each class that is needed, the chosen match of
-/// the class. `NoCover` comes exactly where the class of an output has no label.
+/// the class. Each net arrives at the label of its class. `NoCover` comes exactly where the class of an output has no label.
 pub fn extract(
     alloc: Global,
     graph: &Graph,
@@ -122,6 +124,7 @@ pub fn extract(
     ensures no_cover { (k : ℕ) → (result ≡ Err (NoCover k)) ↔ IsFirstUncovered labels.now ports.now.roots k }
     ensures cover { IfOk result (IsCoverOf graph.now (time_cost lib.now) pats.now labels.now ports.now) }
     ensures over { IfOk result (λ cover. IsOver lib.now cover.netlist) }
+    ensures arrivals { IfOk result (ArriveAtLabels graph.now lib.now labels.now) }
 {
     let marks = labels.marks();
     if let Some(output) = first_uncovered(marks, ports.roots.as_slice()) {

@@ -1,7 +1,11 @@
-use Rattle.std.proofs.Common.{◌≡◌, ◌<◌, ◌∙◌, ℕ, All, length, ap, sym, subst, arith}
+use Rattle.std.proofs.Common.{◌≡◌, ◌<◌, ◌∙◌, ℕ, All, length, ap, sym, subst, arith, rules}
+use Rattle.std.specs.Result.{IfOk}
 use Rattle.std.proofs.lemmas.List.Elements.{All-same}
+use Rattle.std.proofs.lemmas.Result.{IfOk-weaker}
 use Rattle.lw_label.specs.Delays.{time_cost}
 use Rattle.lw_extract.specs.declared.choosing.Chosen.{Chosen}
+use Rattle.lw_extract.specs.Covers.{IsCoverOf, ArriveAtLabels}
+use Rattle.lw_extract.proofs.Arriving.{arrive_at_labels}
 use Rattle.lw_extract.proofs.Assembly.{classes_within, few_chosen}
 use Rattle.lw_extract.proofs.extracting.cover.Goals as goal
 
@@ -17,3 +21,10 @@ add_gates-requires-clause-in_range c =
     let one_each : length c.deref_mut.result.now ≡ length c.args.graph.now.pairs = ap length c.deref_mut.ensures.value ∙ c.in_ok-nets.ensures.one_each in
     All-same (λ (x : Chosen). x.class.0 < length c.deref_mut.result.now) c.deref-2.result.now c.in_ok-chosen.chosen.items c.deref-2.ensures.value
     (subst (λ (n : ℕ). All (λ (x : Chosen). x.class.0 < n) c.in_ok-chosen.chosen.items) (sym one_each) within)
+
+pub returns-clause-arrivals : goal.returns-clause-arrivals
+returns-clause-arrivals c =
+    let covers : IfOk c.assemble.result (IsCoverOf c.args.graph.now (time_cost c.args.lib.now) c.args.pats.now c.args.marks.now c.args.ports.now) = search rules in
+    IfOk-weaker c.assemble.result (IsCoverOf c.args.graph.now (time_cost c.args.lib.now) c.args.pats.now c.args.marks.now c.args.ports.now) (ArriveAtLabels c.args.graph.now c.args.lib.now c.args.marks.now)
+    (λ cover is. arrive_at_labels c.args.graph.now c.args.lib.now c.args.pats.now c.args.marks.now c.requires.least c.args.ports.now cover c.inputs.ensures.kept c.len.ensures.kept c.requires.of_cells c.requires.fit is)
+    covers
