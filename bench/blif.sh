@@ -30,7 +30,7 @@ awk 'BEGIN {
 size=$(wc -c <"$room/text")
 
 best=
-for run in 1 2 3 4 5; do
+for _ in 1 2 3 4 5; do
     start=$(date +%s%N)
     /usr/bin/time -f %M -o "$room/memory" "$program" <"$room/text" >"$room/answer"
     end=$(date +%s%N)
