@@ -109,7 +109,8 @@ fn mapped(
     let labels = relabel(alloc, graph, &pats, &DelayCost::new(lib))?;
     assert_eq!(rt; time(&labels, AND), Some(3_000_000));
     assert_eq!(rt; time(&labels, NAND), Some(2_000_000));
-    match extract(alloc, graph, &pats, lib, &labels, &ports(alloc, AND)?) {
+    let ports = ports(alloc, AND)?;
+    match extract(alloc, graph, &pats, lib, &labels, &ports) {
         Ok(cover) => Ok(cover.netlist),
         Err(_) => Err(AllocError),
     }
