@@ -5,6 +5,7 @@
   timing.py -s LIB MAPPED       one line: max, area, gates
   timing.py -u LIB MAPPED       the netlist as plain .names BLIF, each gate by its truth table
   timing.py -f LIB              LIB again with rise = fall = the larger block per pin, one form per cell
+  timing.py -p LIB              the same, and the constants and a buffer of no delay where LIB has none
 
 The delay of a pin is the larger of its rise and fall block delay; loads and fan-out terms are not used.
 All arithmetic is in whole millionths. The critical path of the report ends
@@ -101,6 +102,20 @@ def flat(lib):
         for p, d, ph in zip(c.pins, c.delays, c.phases):
             t.append(f"  PIN {p} {ph} 1 999 {show(d)} 0 {show(d)} 0")
     return "\n".join(t) + "\n"
+
+
+def padded(lib):
+    """The flat library with what some of ABC's commands ask for: cells for the constants, and a buffer, which stands
+    for a wire and so has no delay and no area."""
+    t = flat(lib)
+    tables = [(len(c.pins), truth(c.funs[0], c.pins)) for c in lib.values()]
+    if (0, 0) not in tables:
+        t += "GATE padded_zero 0 O=CONST0;\n"
+    if (0, 1) not in tables:
+        t += "GATE padded_one 0 O=CONST1;\n"
+    if (1, 2) not in tables:
+        t += "GATE padded_wire 0 O=a;\n  PIN a NONINV 1 999 0 0 0 0\n"
+    return t
 
 
 def truth(fun, pins):
@@ -260,6 +275,8 @@ class Timing:
 def main(a):
     if len(a) == 2 and a[0] == "-f":
         sys.stdout.write(flat(read_genlib(a[1])))
+    elif len(a) == 2 and a[0] == "-p":
+        sys.stdout.write(padded(read_genlib(a[1])))
     elif len(a) == 3 and a[0] == "-u":
         sys.stdout.write(unmap(read_genlib(a[1]), a[2]))
     elif len(a) == 3 and a[0] == "-s":

@@ -1,0 +1,170 @@
+#!/bin/sh
+# Maps the circuits of bench/circuits with the libraries of bench/libs behind several front ends, and prints the delays
+# beside those of ABC's mappers, one table for each library. With words it takes those circuits alone:
+#
+#   sh bench/flows.sh [CIRCUIT..]
+#
+# A front end is a script of ABC that restructures the circuit before it is mapped; in the last two ABC maps it, and
+# the functions of the cells become the nodes. A delay of this program stands in
+# the table only where ABC's 'cec' shows the netlist equivalent to the circuit as given; 'undecided' stands where it
+# does not come to an end. All delays are computed by bench/timing.py from the larger of rise and fall block delay,
+# and ABC gets each library with both delays set to the larger one, and with constants and a buffer of no delay where it
+# has none. The least delay of a row is bold.
+#
+# LIBS names the libraries (tiny, mcnc, rich by default), LIMIT the processor seconds that one step may take (20), JOBS
+# how many circuits are taken at once (1). Each circuit that is done is named on standard error. It takes the program
+# that LWMAP_PROGRAM names, or else that of crates/lwmap. ABC is Debian's package berkeley-abc.
+set -eu
+root=$(dirname -- "$(dirname -- "$(readlink -f -- "$0")")")
+program=$(readlink -f -- "${LWMAP_PROGRAM:-$root/crates/lwmap/out/lwmap}")
+[ -x "$program" ] || { echo "flows: there is no program $program" >&2 && exit 1; }
+for tool in berkeley-abc python3 prlimit xargs; do
+    command -v "$tool" >/dev/null || { echo "flows: there is no $tool" >&2 && exit 1; }
+done
+bench=$root/bench
+limit=${LIMIT:-20}
+libraries=${LIBS:-tiny mcnc rich}
+room=$(mktemp -d)
+trap 'rm -rf "$room"' EXIT
+
+ours="given strash if4 if5 if6 dch+if6 if-g if-g+if6 dch+map if-g+dch+map"
+theirs="map dch;map &nf if-g;map if-g;dch;map"
+
+# The script of a front end, or of a mapper, behind read_blif.
+script_of() { # NAME
+    case $1 in
+    strash) echo "strash" ;;
+    if4) echo "strash; if -K 4; sop" ;;
+    if5) echo "strash; if -K 5; sop" ;;
+    if6) echo "strash; if -K 6; mfs2; sop" ;;
+    dch+if6) echo "strash; dch; if -K 6; mfs2; sop" ;;
+    if-g) echo "strash; if -g -K 6" ;;
+    if-g+if6) echo "strash; if -g -K 6; strash; if -K 6; mfs2; sop" ;;
+    dch+map) echo "read_genlib $room/peers; strash; dch; map; unmap; sop" ;;
+    if-g+dch+map) echo "read_genlib $room/peers; strash; if -g -K 6; strash; dch; map; unmap; sop" ;;
+    map) echo "strash; map" ;;
+    "dch;map") echo "strash; dch; map" ;;
+    "&nf") echo "strash; &get -n; &nf; &put" ;;
+    "if-g;map") echo "strash; if -g -K 6; strash; map" ;;
+    "if-g;dch;map") echo "strash; if -g -K 6; strash; dch; map" ;;
+    esac
+}
+
+# Runs a command for at most the limit of processor seconds; a status over 128 says that it took more.
+run() { # COMMAND..
+    { prlimit --cpu="$limit" "$@"; } 2>"$room/err"
+}
+
+abc() { # SCRIPT
+    run berkeley-abc -s -q "$1" >"$room/said"
+}
+
+# Makes the network behind a front end, where it is not there. It is empty where the front end took too long. One that
+# ABC maps is made for each library.
+front() { # CIRCUIT FRONT
+    given=$room/$1.given.blif
+    made=$room/$1.$2.blif
+    case $2 in *+map) rm -f "$made" ;; esac
+    [ -e "$given" ] || cp "$bench/circuits/$1.blif" "$given"
+    [ -e "$made" ] || abc "read_blif $given; $(script_of "$2"); write_blif $made" || : >"$made"
+}
+
+# Whether ABC shows two networks equivalent.
+equivalent() { # NETWORK NETWORK
+    abc "cec $1 $2" && grep -q 'are equivalent' "$room/said"
+}
+
+# One entry of the table: the delay of this program's netlist behind a front end, or why there is none.
+our_delay() { # LIB CIRCUIT FRONT
+    front "$2" "$3"
+    [ -s "$made" ] || { echo "over $limit s" && return; }
+    answer=0
+    run "$program" map "$1" "$made" >"$room/mapped" || answer=$?
+    if [ "$answer" -gt 128 ]; then
+        echo "over $limit s"
+    elif [ "$answer" -ne 0 ]; then
+        echo "status $answer"
+    else
+        python3 "$bench/timing.py" -u "$1" "$room/mapped" >"$room/plain.blif"
+        if equivalent "$given" "$room/plain.blif" ||
+            { equivalent "$made" "$room/plain.blif" && equivalent "$given" "$made"; }; then
+            python3 "$bench/timing.py" -s "$1" "$room/mapped" | cut -d ' ' -f 1
+        elif grep -q 'NOT EQUIVALENT' "$room/said"; then
+            echo "NOT EQUIVALENT"
+        else
+            echo "undecided"
+        fi
+    fi
+}
+
+# The same for a mapper of ABC.
+their_delay() { # CIRCUIT MAPPER
+    rm -f "$room/abc.blif"
+    abc "read_genlib $room/peers; read_blif $room/$1.given.blif; $(script_of "$2"); write_blif $room/abc.blif" || true
+    if [ -s "$room/abc.blif" ]; then
+        python3 "$bench/timing.py" -s "$room/peers" "$room/abc.blif" | cut -d ' ' -f 1
+    else
+        echo "none"
+    fi
+}
+
+# From the rows 'circuit|delay|..' on standard input: the table with the least delays bold, then by column the geometric
+# mean of the ratio to 'map' over the circuits that have a delay in every column, and how often it is the least.
+table() { # LIBRARY
+    awk -F '|' -v library="$1" -v names="$ours $theirs" '
+        function is_number(s) { return s ~ /^[0-9.]+$/ }
+        BEGIN {
+            n = split(names, name, " ")
+            for (i = 1; i <= n; i++) if (name[i] == "map") base = i + 1
+            line = "| " library " |"; under = "|---|"
+            for (i = 1; i <= n; i++) { line = line " " name[i] " |"; under = under "---|" }
+            print line; print under
+        }
+        {
+            least = ""; whole = 1; line = "| " $1 " |"
+            for (i = 2; i <= n + 1; i++) {
+                if (!is_number($i)) whole = 0
+                else if (least == "" || $i + 0 < least) least = $i + 0
+            }
+            for (i = 2; i <= n + 1; i++) {
+                best = is_number($i) && $i + 0 == least
+                if (best) wins[i]++
+                line = line " " (best ? "**" $i "**" : $i) " |"
+            }
+            print line
+            if (whole && $base > 0) { circuits++; for (i = 2; i <= n + 1; i++) sum[i] += log($i / $base) }
+        }
+        END {
+            line = "| ratio to map (" circuits + 0 ") |"
+            for (i = 2; i <= n + 1; i++) line = line " " (circuits ? sprintf("%.3f", exp(sum[i] / circuits)) : "") " |"
+            print line
+            line = "| least in |"
+            for (i = 2; i <= n + 1; i++) line = line " " wins[i] + 0 " |"
+            print line "\n"
+        }'
+}
+
+# The rows of one circuit, 'library|circuit|delay|..', one for each library.
+rows_of() { # CIRCUIT
+    for library in $libraries; do
+        lib=$bench/libs/$library.genlib
+        python3 "$bench/timing.py" -p "$lib" >"$room/peers"
+        row="$library|$1"
+        for name in $ours; do row="$row|$(our_delay "$lib" "$1" "$name")"; done
+        for name in $theirs; do row="$row|$(their_delay "$1" "$name")"; done
+        echo "$row"
+    done
+    echo "flows: $1" >&2
+}
+
+# The script calls itself with -r for the rows of one circuit.
+if [ "${1:-}" = -r ]; then
+    rows_of "$2"
+    exit
+fi
+# shellcheck disable=SC2046
+[ $# -gt 0 ] || set -- $(cd "$bench/circuits" && ls | sed 's/\.blif$//')
+printf '%s\n' "$@" | xargs -P "${JOBS:-1}" -n 1 sh "$0" -r >"$room/rows"
+for library in $libraries; do
+    sed -n "s/^$library|//p" "$room/rows" | sort | table "$library"
+done
