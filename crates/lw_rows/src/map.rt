@@ -22,11 +22,11 @@ pub struct Row<'a> {
 /// How the outside behaves: the numbers of the calls that fail, the most bytes of a read or a write, and the bytes that out takes.
 #[derive(Clone, Copy)]
 pub struct Outside<'a> {
-    shelf_fails: &'a [u32],
-    out_fails: &'a [u32],
-    err_fails: &'a [u32],
-    chunk: usize,
-    limit: usize,
+    pub shelf_fails: &'a [u32],
+    pub out_fails: &'a [u32],
+    pub err_fails: &'a [u32],
+    pub chunk: usize,
+    pub limit: usize,
 }
 
 pub const QUIET: Outside<'static> = Outside {
