@@ -7,7 +7,7 @@
 #   sh bench/circuits.sh [-e] [CIRCUIT..]
 #
 # LIBS names the libraries (tiny, mcnc, rich by default), LIMIT the seconds that a run may take (60), RUNS how often each
-# is run; the least time counts. It takes the program that LWMAP_PROGRAM names, or else that of crates/lwmap.
+# is run; the least time counts, and for the ratio a time below the 10 ms of the clock as 10. It takes the program that LWMAP_PROGRAM names, or else that of crates/lwmap.
 set -eu
 root=$(dirname -- "$(dirname -- "$(readlink -f -- "$0")")")
 program=$(readlink -f -- "${LWMAP_PROGRAM:-$root/crates/lwmap/out/lwmap}")
@@ -60,7 +60,7 @@ for library in ${LIBS:-tiny mcnc rich}; do
         if [ -n "$abc" ] && least "$abc" -q "read_genlib $room/flat; read_blif $network; strash; map; write_blif $room/abc.blif"; then
             theirs=$best
             their_delay=$(python3 "$bench/timing.py" -s "$lib" "$room/abc.blif" | awk '{ print $1 }')
-            ratio=$(awk -v a="$ours" -v b="$theirs" 'BEGIN { if (b < 1) b = 1; if (a < 1) a = 1; printf "%.2f", a / b }')
+            ratio=$(awk -v a="$ours" -v b="$theirs" 'BEGIN { if (b < 10) b = 10; if (a < 10) a = 10; printf "%.2f", a / b }')
             echo "$ratio" >>"$room/ratios"
         fi
         echo "| $circuit | $ours | $held | $delay | $gates | $theirs | $their_delay | $ratio |"
