@@ -5,11 +5,10 @@
 #   sh bench/flows.sh [CIRCUIT..]
 #
 # A front end is a script of ABC that restructures the circuit before it is mapped; in the last two ABC maps it, and
-# the functions of the cells become the nodes. A delay of this program stands in
-# the table only where ABC's 'cec' shows the netlist equivalent to the circuit as given; 'undecided' stands where it
-# does not come to an end. All delays are computed by bench/timing.py from the larger of rise and fall block delay,
-# and ABC gets each library with both delays set to the larger one, and with constants and a buffer of no delay where it
-# has none. The least delay of a row is bold.
+# the functions of the cells become the nodes. A delay of this program stands in the table only where ABC's 'cec' shows
+# the netlist equivalent to the circuit as given; 'undecided' stands where it does not come to an end. All delays are
+# computed by bench/timing.py from the larger of rise and fall block delay, and ABC gets each library with both delays
+# set to the larger one, and with constants and a buffer of no delay where it has none. The least delay of a row is bold.
 #
 # LIBS names the libraries (tiny, mcnc, rich by default), LIMIT the processor seconds that one step may take (20), JOBS
 # how many circuits are taken at once (1). Each circuit that is done is named on standard error. It takes the program
@@ -50,7 +49,7 @@ script_of() { # NAME
     esac
 }
 
-# Runs a command for at most the limit of processor seconds; a status over 128 says that it took more.
+# Runs a command for at most the limit of processor seconds; the status 137 says that it took more.
 run() { # COMMAND..
     { prlimit --cpu="$limit" "$@"; } 2>"$room/err"
 }
@@ -59,7 +58,7 @@ abc() { # SCRIPT
     run berkeley-abc -s -q "$1" >"$room/said"
 }
 
-# Makes the network behind a front end, where it is not there. It is empty where the front end took too long. One that
+# Makes the network behind a front end, where it is not there. It is empty where ABC took too long or failed. One that
 # ABC maps is made for each library.
 front() { # CIRCUIT FRONT
     given=$room/$1.given.blif
@@ -77,10 +76,10 @@ equivalent() { # NETWORK NETWORK
 # One entry of the table: the delay of this program's netlist behind a front end, or why there is none.
 our_delay() { # LIB CIRCUIT FRONT
     front "$2" "$3"
-    [ -s "$made" ] || { echo "over $limit s" && return; }
+    [ -s "$made" ] || { echo "none" && return; }
     answer=0
     run "$program" map "$1" "$made" >"$room/mapped" || answer=$?
-    if [ "$answer" -gt 128 ]; then
+    if [ "$answer" -eq 137 ]; then
         echo "over $limit s"
     elif [ "$answer" -ne 0 ]; then
         echo "status $answer"
@@ -109,7 +108,7 @@ their_delay() { # CIRCUIT MAPPER
 }
 
 # From the rows 'circuit|delay|..' on standard input: the table with the least delays bold, then by column the geometric
-# mean of the ratio to 'map' over the circuits that have a delay in every column, and how often it is the least.
+# mean of the ratio to 'map' over the circuits that have both delays, their number, and how often it is the least.
 table() { # LIBRARY
     awk -F '|' -v library="$1" -v names="$ours $theirs" '
         function is_number(s) { return s ~ /^[0-9.]+$/ }
@@ -121,26 +120,24 @@ table() { # LIBRARY
             print line; print under
         }
         {
-            least = ""; whole = 1; line = "| " $1 " |"
-            for (i = 2; i <= n + 1; i++) {
-                if (!is_number($i)) whole = 0
-                else if (least == "" || $i + 0 < least) least = $i + 0
-            }
+            least = ""; line = "| " $1 " |"
+            for (i = 2; i <= n + 1; i++) if (is_number($i) && (least == "" || $i + 0 < least)) least = $i + 0
             for (i = 2; i <= n + 1; i++) {
                 best = is_number($i) && $i + 0 == least
                 if (best) wins[i]++
                 line = line " " (best ? "**" $i "**" : $i) " |"
+                if (is_number($i) && $i > 0 && $base > 0) { circuits[i]++; sum[i] += log($i / $base) }
             }
             print line
-            if (whole && $base > 0) { circuits++; for (i = 2; i <= n + 1; i++) sum[i] += log($i / $base) }
         }
         END {
-            line = "| ratio to map (" circuits + 0 ") |"
-            for (i = 2; i <= n + 1; i++) line = line " " (circuits ? sprintf("%.3f", exp(sum[i] / circuits)) : "") " |"
-            print line
-            line = "| least in |"
-            for (i = 2; i <= n + 1; i++) line = line " " wins[i] + 0 " |"
-            print line "\n"
+            ratio = "| ratio to map |"; count = "| circuits |"; line = "| least in |"
+            for (i = 2; i <= n + 1; i++) {
+                ratio = ratio " " (circuits[i] ? sprintf("%.3f", exp(sum[i] / circuits[i])) : "") " |"
+                count = count " " circuits[i] + 0 " |"
+                line = line " " wins[i] + 0 " |"
+            }
+            print ratio "\n" count "\n" line "\n"
         }'
 }
 
