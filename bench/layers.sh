@@ -31,20 +31,9 @@ run() { # WHAT STATUS WORD..
     echo "$what: $best ms, $memory MB"
 }
 
-# So many nodes, each the And of eight inputs of its own.
-eights() { # NODES
-    awk -v n="$1" 'BEGIN {
-        print ".model m"
-        for (i = 1; i <= n; i++) { line = ".inputs"; for (k = 1; k <= 8; k++) line = line " i" i "_" k; print line }
-        print ".outputs f" n
-        for (i = 1; i <= n; i++) { line = ".names"; for (k = 1; k <= 8; k++) line = line " i" i "_" k; print line " f" i "\n11111111 1" }
-        print ".end"
-    }'
-}
-
-eights 8600 >network
+awk -v n=8600 -f "$root/bench/eights.awk" >network
 run "8,600 nodes of eight inputs at width 8, one form past the limit" 5 map -w 8 empty network
-eights 5546 >network
+awk -v n=5546 -f "$root/bench/eights.awk" >network
 run "16,776,650 splits of 1,414,231 forms" 6 map -w 8 empty network
 
 # One node of 4,096 rows over 256 columns.

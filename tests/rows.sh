@@ -268,25 +268,14 @@ most_cells() {
     status $? 4 && holds out && holds err 'lwmap: LIB line 8193: more than 4096 cells'
 }
 
-# So many nodes, each the And of eight inputs of its own, the last of them the one output.
-eights() { # NODES
-    awk -v n="$1" 'BEGIN {
-        print ".model m"
-        for (i = 1; i <= n; i++) { line = ".inputs"; for (k = 1; k <= 8; k++) line = line " i" i "_" k; print line }
-        print ".outputs f" n
-        for (i = 1; i <= n; i++) { line = ".names"; for (k = 1; k <= 8; k++) line = line " i" i "_" k; print line " f" i "\n11111111 1" }
-        print ".end"
-    }'
-}
-
 too_many_forms() {
-    inverter_files && eights 8600 >IN
+    inverter_files && awk -v n=8600 -f "$root/bench/eights.awk" >IN
     run map -w 8 LIB IN
     status $? 5 && holds out && holds err 'lwmap: limit: more than 2097152 forms'
 }
 
 too_many_splits() {
-    inverter_files && eights 5547 >IN
+    inverter_files && awk -v n=5547 -f "$root/bench/eights.awk" >IN
     run map -w 8 LIB IN
     status $? 5 && holds out && holds err 'lwmap: limit: more than 16777216 splits'
 }
