@@ -1,5 +1,5 @@
 -- The least match of a class by the marks of its pins is the chosen one.
-use Rattle.std.proofs.Common.{ℕ, zero, suc, ◌<◌, ◌≡◌, List, [], ◌∷◌, Contains, All, IsSome, Option, Some, None, option_map, unwrap_or, slice_index_or, refl, ap, sym, ◌∙◌, subst, arith}
+use Rattle.std.proofs.Common.{ℕ, zero, suc, ◌+◌, ◌-◌, ◌^◌, ◌<◌, ◌≡◌, List, [], ◌∷◌, Contains, All, IsSome, Option, Some, None, option_map, unwrap_or, slice_index_or, inr, refl, ap, sym, ◌∙◌, subst, arith}
 use mathlib.Core.Path.{fun_ext}
 use Rattle.std.proofs.lemmas.List.Elements.{All-map, All-contains}
 use Rattle.std.proofs.lemmas.Option.{none-some}
@@ -17,7 +17,7 @@ use Rattle.lw_laws.proofs.MarkLaws.{supports_priced, some_supports, least_chosen
 use Rattle.lw_match.specs.declared.mark.Mark.{Mark}
 use Rattle.lw_match.specs.declared.mark.Best.{Best}
 use Rattle.lw_match.specs.Values.{marks_in, numbers, plain_mark, plain_match}
-use Rattle.lw_match.specs.Least.{IsLeastMatch}
+use Rattle.lw_match.specs.Least.{IsLeastMatch, IsLeastBelow, IsMarkBefore}
 use Rattle.lw_label.specs.Labels.{AreLeastMarks}
 use Rattle.lw_label.proofs.Marked.{label_at, mark_of_label}
 use Rattle.lw_extract.specs.Choosing.{labels, heights, IsChoice}
@@ -63,6 +63,10 @@ pub root_mark : (marks : List (Option Mark)) (roots : List ClassId) (c : ℕ) �
 root_mark marks roots c covered inside = some_of (slice_index_or marks c None)
     (All-contains (λ n. IsSome (slice_index_or marks n None)) (numbers roots) c (All-map (λ n. IsSome (slice_index_or marks n None)) (λ (x : ClassId). x.0) roots covered) inside)
 
+-- a mark is before one of the same cost that is one higher
+pub before_next : (m next : PlainMark) → next.cost ≡ m.cost → next.height ≡ m.height + 1 → IsMarkBefore m next
+before_next m next cost height = inr (sym cost, omega arith)
+
 module _ (g : Graph) (cost : Cost) (pats : List Pattern) (marks : List (Option Mark)) (least : AreLeastMarks g cost pats marks) where
   are_marks : AreMarks g cost pats (marks_in marks)
   are_marks = record {
@@ -80,9 +84,13 @@ module _ (g : Graph) (cost : Cost) (pats : List Pattern) (marks : List (Option M
         (λ n q i p. before (record { mark = i; found = n }) (record { pattern = q; matches = p.matches; pin_marks = p.pin_marks; have = p.have; mark = p.mark_is }))).1,
   )
 
-  -- there is a match
-  pub some_match : (c : ℕ) (m : Mark) → (IsLeafClass g c → ⊥) → slice_index_or marks c None ≡ Some m → IsLeastMatch g cost pats (marks_in marks) c None → ⊥
-  some_match c m out at none =
+  -- there is a match before each mark that the class's own is before
+  pub some_match : (c : ℕ) (m : Mark) (bound : PlainMark) → (IsLeafClass g c → ⊥) → slice_index_or marks c None ≡ Some m → IsMarkBefore (plain_mark m) bound → IsLeastBelow g cost pats (marks_in marks) c bound None → ⊥
+  some_match c m bound out at before none =
       let (n, q, s) = some_supports g cost pats (marks_in marks) are_marks c (plain_mark m) out (plain_at marks c m at) in
       let p : IsPriced g cost pats (marks_in marks) c n q (plain_mark m) = (supports_priced g cost pats (marks_in marks) are_marks c n q (plain_mark m) out (plain_at marks c m at)).0 s in
-      none (record { mark = plain_mark m; found = n }) (record { pattern = q; matches = p.matches; pin_marks = p.pin_marks; have = p.have; mark = p.mark_is })
+      none (record { mark = plain_mark m; found = n }) (record { pattern = q; matches = p.matches; pin_marks = p.pin_marks; have = p.have; mark = p.mark_is }) before
+
+  -- the height of a mark can rise by one
+  pub can_rise : (c : ℕ) (m : Mark) → slice_index_or marks c None ≡ Some m → m.height < 2 ^ 32 - 1
+  can_rise c m at = (least.in_range c (plain_mark m) (plain_at marks c m at)).1

@@ -1,5 +1,5 @@
 // The classes that are needed, each with its chosen match.
-ghost use Rattle.std.specs.Prelude.{◌≡◌, ◌<◌, All, IfOk, IsSome, length, reverse, Some, None, slice_index_or};
+ghost use Rattle.std.specs.Prelude.{◌≡◌, ◌+◌, ◌-◌, ◌^◌, ◌<◌, All, IfOk, IsSome, length, reverse, Some, None, slice_index_or};
 ghost use Rattle.lw_laws.specs.Extracts.{IsLeafClass};
 ghost use Rattle.lw_match.specs.Least.{AreOfCells};
 ghost use Rattle.lw_label.specs.Labels.{AreLeastMarks};
@@ -12,7 +12,7 @@ use crate::ordering::{Place, by_height};
 use lw_genlib::Library;
 use lw_graph::Graph;
 use lw_label::DelayCost;
-use lw_match::{Mark, Match, least};
+use lw_match::{Mark, Match, least_below};
 use lw_pattern::Patterns;
 use lw_pool::{ClassId, NetId};
 use std::alloc::{AllocError, Global};
@@ -50,6 +50,18 @@ fn need(needed: &mut [bool], classes: &[ClassId])
     }
 }
 
+// The mark that comes next after one: of the same cost, and one higher.
+fn next_after(mark: Mark) -> Mark
+    requires { mark.height < 2 ^ 32 - 1 }
+    ensures cost { result.cost ≡ mark.cost }
+    ensures height { result.height ≡ mark.height + 1 }
+{
+    Mark {
+        cost: mark.cost,
+        height: mark.height + 1,
+    }
+}
+
 // The chosen match of a class: the first of those that attain its label and its height.
 fn choice(
     graph: &Graph,
@@ -64,7 +76,9 @@ fn choice(
     requires no_leaf { IsLeafClass graph.now class.0 → ⊥ }
     ensures { (mark : _) → slice_index_or marks.now class.0 None ≡ Some mark → (found : _) × (result ≡ Some found) × IsChoice graph.now (time_cost lib.now) pats.now marks.now class.0 found }
 {
-    let best = least(graph, pats, marks, class, &DelayCost::new(lib))?;
+    let mark = marks[class.0 as usize]?;
+    let bound = next_after(mark);
+    let best = least_below(graph, pats, marks, class, &DelayCost::new(lib), bound)?;
     Some(best.found)
 }
 
