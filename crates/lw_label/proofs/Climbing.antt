@@ -1,10 +1,9 @@
 -- Passes that find heights.
-use Rattle.std.proofs.Common.{ℕ, zero, suc, ◌+◌, ◌<◌, ◌≤◌, ◌^◌, ◌-◌, ◌≡◌, ◌%◌, ◌⊎◌, inl, inr, Bool, true, false, ◌||◌, List, [], ◌∷◌, length, Option, Some, None, option_map, slice_get, slice_index_or, slice_set, replicate, refl, ap, ap₂, sym, ◌∙◌, subst, arith, true≢false}
+use Rattle.std.proofs.Common.{ℕ, zero, suc, ◌+◌, ◌<◌, ◌≤◌, ◌^◌, ◌-◌, ◌≡◌, ◌⊎◌, inl, inr, true, false, List, [], ◌∷◌, length, Option, Some, None, option_map, slice_get, slice_index_or, slice_set, replicate, refl, ap, ap₂, sym, ◌∙◌, subst, arith}
 use Rattle.std.specs.List.{AllByRecursion, AllZip}
 use Rattle.std.proofs.lemmas.List.{length-set, length-map, length-replicate}
 use Rattle.std.proofs.lemmas.Bool.{cases_eq}
 use Rattle.std.proofs.lemmas.Option.{same_Some, none-some, slice_get_within}
-use Rattle.lw_laws.specs.Flip.{flip}
 use Rattle.lw_laws.specs.Graphs.{Graph}
 use Rattle.lw_laws.specs.Costs.{Cost}
 use Rattle.lw_laws.specs.Covers.{Pattern}
@@ -15,7 +14,6 @@ use Rattle.lw_laws.specs.Rounds.{labels_in}
 use Rattle.lw_laws.specs.Mapped.{IsPotentialOf}
 use Rattle.lw_laws.specs.Laws.{IsCoverProblem, IsAttainedIn, AreBoundedIn}
 use Rattle.lw_laws.proofs.Heights.{IsWithin_more}
-use Rattle.lw_laws.proofs.Flips.{flip-flip}
 use Rattle.lw_laws.proofs.RoundLaws.{bounded_least, labels_capped, match_in}
 use Rattle.lw_laws.proofs.LabelLaws.{class_height}
 use Rattle.lw_graph.specs.Graphs.{IsGraph}
@@ -27,7 +25,8 @@ use Rattle.lw_label.specs.Labels.{cost_in, costs_of, AreLeastMarks}
 use Rattle.lw_label.specs.Lowering.{AreLowering}
 use Rattle.lw_label.specs.Rising.{IsWithinSteps, HasHeightAtMost, marked, AreRising, height_weight, height_limit, heights_weight, IsReached, Raises}
 use Rattle.lw_label.proofs.Marked.{label_at, label_of_mark, mark_of_label, mark_set_same, mark_set_other, priced, standing}
-use Rattle.lw_label.proofs.Falling.{flip_below, not_below, graph_classes}
+use Rattle.lw_label.proofs.Passing.{passes_still, passes_lower}
+use Rattle.lw_label.proofs.Falling.{not_below, graph_classes}
 
 none_marked : (n c : ℕ) (m : PlainMark) → marks_in (replicate n None) c ≡ Some m → ⊥
 none_marked zero c m e = absurd (none-some m e)
@@ -228,63 +227,13 @@ module _ (g : Graph) (cost : Cost) (pats : List Pattern) (labels : List (Option 
             let same : l ≡ best.mark.cost = sym same_cost ∙ sym e in
             (label ∙ ap (λ n. Some n) same, within_limit (slice_index_or marks c None) (subst (λ h. best.mark.height < h) same_height lt))
 
+  -- a class that keeps its height
   pub raises_nothing : (marks : List (Option Mark)) (c : ℕ) → IsReached g cost pats labels marks c → Raises g cost pats labels marks marks (λ b. b ≡ c) false
-  raises_nothing marks c reached = record {
-    falls = λ e. absurd (true≢false (sym e));
-    same = λ e. refl;
-    reached = λ e b s. subst (λ a. IsReached g cost pats labels marks a) (sym s) reached;
-  }
+  raises_nothing marks c reached = passes_still heights_weight (IsReached g cost pats labels) marks (λ b. b ≡ c) (λ b s. subst (λ a. IsReached g cost pats labels marks a) (sym s) reached)
 
+  -- a class that gets one, or a lower one
   pub raises_one : (marks other : List (Option Mark)) (c : ℕ) → heights_weight other < heights_weight marks → Raises g cost pats labels marks other (λ b. b ≡ c) true
-  raises_one marks other c less = record {
-    falls = λ e. less;
-    same = λ e. absurd (true≢false e);
-    reached = λ e. absurd (true≢false e);
-  }
-
-  -- What a pass has done when it comes to a class.
-  pub record IsClimb (old marks : List (Option Mark)) (changed : Bool) (c : ℕ) : Type 0 where
-    pub low : heights_weight marks ≤ heights_weight old
-    pub falls : changed ≡ true → heights_weight marks < heights_weight old
-    pub same : changed ≡ false → marks ≡ old
-    pub reached : changed ≡ false → (b : ℕ) → b < c → IsReached g cost pats labels old (flip b)
-
-  pub climb_start : (marks : List (Option Mark)) → IsClimb marks marks false 0
-  climb_start marks = record {
-    low = omega arith;
-    falls = λ e. absurd (true≢false (sym e));
-    same = λ e. refl;
-    reached = λ e b lt. absurd (omega arith);
-  }
-
-  pub climb_step : (old marks next : List (Option Mark)) (changed raised' : Bool) (c : ℕ) → IsClimb old marks changed c → Raises g cost pats labels marks next (λ b. b ≡ flip c) raised' → IsClimb old next (raised' || changed) (c + 1)
-  climb_step old marks next changed true c climb step =
-      let less = step.falls refl in
-      record {
-        low = omega (arith, climb.low, less);
-        falls = λ e. omega (arith, climb.low, less);
-        same = λ e. absurd (true≢false e);
-        reached = λ e. absurd (true≢false e);
-      }
-  climb_step old marks next changed false c climb step =
-      let kept = step.same refl in
-      record {
-        low = subst (λ ms. heights_weight ms ≤ heights_weight old) (sym kept) climb.low;
-        falls = λ e. subst (λ ms. heights_weight ms < heights_weight old) (sym kept) (climb.falls e);
-        same = λ e. kept ∙ climb.same e;
-        reached = λ e b lt. reached_at e b (cases_eq b c) lt;
-      }
-    where
-      reached_at : changed ≡ false → (b : ℕ) → (b ≡ c) ⊎ (b ≡ c → ⊥) → b < c + 1 → IsReached g cost pats labels old (flip b)
-      reached_at e b (inl same) lt = subst (λ ms. IsReached g cost pats labels ms (flip b)) (climb.same e) (step.reached refl (flip b) (ap flip same))
-      reached_at e b (inr other) lt = climb.reached e b (omega arith)
-
-  pub climb_ends : (old marks : List (Option Mark)) (changed : Bool) → length g.pairs % 2 ≡ 0 → IsClimb old marks changed (length g.pairs) → Raises g cost pats labels old marks (λ c. c < length g.pairs) changed
-  climb_ends old marks changed even climb = record {
-    falls = climb.falls;
-    same = climb.same;
-    reached = λ e c lt. subst (λ b. IsReached g cost pats labels old b) (flip-flip c) (climb.reached e (flip c) (flip_below (length g.pairs) c even lt));
-  }
+  raises_one marks other c less = passes_lower heights_weight (IsReached g cost pats labels) marks other (λ b. b ≡ c) less
 
   -- Once no height can be lowered, each class with a label has its height.
   module _ (marks : List (Option Mark)) (problem : IsCoverProblem g pats cost) (graph : IsGraph g) (low : AreLowering g cost pats labels) (bounded : AreBoundedIn g pats cost (costs_of labels)) (are : AreRising g cost pats labels marks) (reached : (c : ℕ) → c < length g.pairs → IsReached g cost pats labels marks c) where

@@ -1,9 +1,8 @@
 -- Passes that lower labels.
-use Rattle.std.proofs.Common.{ℕ, zero, suc, ◌+◌, ◌<◌, ◌≤◌, ◌≡◌, ◌%◌, ◌⊎◌, inl, inr, Bool, true, false, ◌||◌, List, [], ◌∷◌, length, Option, Some, None, option_map, slice_index_or, slice_set, refl, ap, sym, ◌∙◌, subst, arith, true≢false}
+use Rattle.std.proofs.Common.{ℕ, zero, suc, ◌<◌, ◌≤◌, ◌≡◌, ◌%◌, ◌⊎◌, inl, inr, true, false, List, [], ◌∷◌, length, Option, Some, None, option_map, slice_index_or, slice_set, refl, ap, sym, ◌∙◌, subst, arith}
 use Rattle.std.proofs.lemmas.List.{length-set, length-map}
 use Rattle.std.proofs.lemmas.Bool.{cases_eq}
 use native.Mathlib.Decide.{dec_lt}
-use Rattle.lw_laws.specs.Flip.{flip}
 use Rattle.lw_laws.specs.Graphs.{Graph}
 use Rattle.lw_laws.specs.Costs.{Cost}
 use Rattle.lw_laws.specs.Covers.{Pattern}
@@ -16,23 +15,14 @@ use Rattle.lw_graph.specs.Graphs.{IsGraph}
 use Rattle.lw_laws.proofs.Rounds.{total_weight_falls}
 use Rattle.lw_laws.proofs.RoundLaws.{lowered_sound, values_capped, match_in}
 use Rattle.std.proofs.lemmas.Option.{same_Some}
-use Rattle.lw_laws.proofs.Flips.{flip-flip}
 use Rattle.lw_match.specs.declared.mark.Best.{Best}
 use Rattle.lw_match.specs.declared.mark.Mark.{Mark}
 use Rattle.lw_match.specs.Values.{plain_mark, marks_in}
 use Rattle.lw_match.specs.Least.{Priced, plain_best, IsPricedAtMost, IsLeastMatch}
 use Rattle.lw_label.specs.Labels.{cost_in, costs_of}
 use Rattle.lw_label.specs.Lowering.{AreLowering, IsLeastUnder, weight, IsBounded, Lowers}
+use Rattle.lw_label.proofs.Passing.{passes_still, passes_lower}
 use Rattle.lw_label.proofs.Marked.{label_of_mark, labels_of_marks, marks_of_labels, costs_set, mark_set_same, mark_set_other, priced, standing}
-
--- the flip of a class is below an even number of classes
-pub flip_below : (n c : ℕ) → n % 2 ≡ 0 → c < n → flip c < n
-unfolding flip
-flip_below zero c even below = absurd (omega arith)
-flip_below (suc zero) c even below = absurd (omega arith)
-flip_below (suc (suc n)) zero even below = omega arith
-flip_below (suc (suc n)) (suc zero) even below = omega arith
-flip_below (suc (suc n)) (suc (suc c)) even below = let ih = flip_below n c (omega arith) (omega arith) in omega (arith, ih)
 
 pub not_below : (m n : ℕ) → (m < n → ⊥) → n ≤ m
 not_below m n not = cases (dec_lt m n)
@@ -112,71 +102,13 @@ module _ (g : Graph) (cost : Cost) (pats : List Pattern) where
       pub weight_falls : weight cost (slice_set marks c (Some new)) < weight cost marks
       weight_falls = subst (λ ls. total_weight cost.cap ls < weight cost marks) (sym labels_set) (total_weight_falls cost.cap (costs_of marks) c (cost.value least.0.pattern.cell (costs_in least.0.pin_marks)) labels_fit value_lower)
 
-  -- What a pass has done when it comes to a class.
-  pub record IsPass (old marks : List (Option Mark)) (changed : Bool) (c : ℕ) : Type 0 where
-    pub low : weight cost marks ≤ weight cost old
-    pub falls : changed ≡ true → weight cost marks < weight cost old
-    pub same : changed ≡ false → marks ≡ old
-    pub bounded : changed ≡ false → (b : ℕ) → b < c → IsBounded g cost pats old (flip b)
-
-  pub pass_start : (marks : List (Option Mark)) → IsPass marks marks false 0
-  pass_start marks = record {
-    low = omega arith;
-    falls = λ e. absurd (true≢false (sym e));
-    same = λ e. refl;
-    bounded = λ e b lt. absurd (omega arith);
-  }
-
-  pub pass_changes : (old marks next : List (Option Mark)) (changed : Bool) (c : ℕ) (at : ℕ → Type 0) → IsPass old marks changed c → Lowers g cost pats marks next at true → IsPass old next true (c + 1)
-  pass_changes old marks next changed c at pass step =
-      let less = step.falls refl in
-      record {
-        low = omega (arith, pass.low, less);
-        falls = λ e. omega (arith, pass.low, less);
-        same = λ e. absurd (true≢false e);
-        bounded = λ e. absurd (true≢false e);
-      }
-
-  pub pass_keeps : (old marks next : List (Option Mark)) (changed : Bool) (c : ℕ) → IsPass old marks changed c → Lowers g cost pats marks next (λ b. b ≡ flip c) false → IsPass old next changed (c + 1)
-  pass_keeps old marks next changed c pass step =
-      let kept = step.same refl in
-      record {
-        low = subst (λ ms. weight cost ms ≤ weight cost old) (sym kept) pass.low;
-        falls = λ e. subst (λ ms. weight cost ms < weight cost old) (sym kept) (pass.falls e);
-        same = λ e. kept ∙ pass.same e;
-        bounded = λ e b lt. bounded_at e b (cases_eq b c) lt;
-      }
-    where
-      bounded_at : changed ≡ false → (b : ℕ) → (b ≡ c) ⊎ (b ≡ c → ⊥) → b < c + 1 → IsBounded g cost pats old (flip b)
-      bounded_at e b (inl same) lt = subst (λ ms. IsBounded g cost pats ms (flip b)) (pass.same e) (step.bounded refl (flip b) (ap flip same))
-      bounded_at e b (inr other) lt = pass.bounded e b (omega arith)
-
-  pub pass_step : (old marks next : List (Option Mark)) (changed lowered' : Bool) (c : ℕ) → IsPass old marks changed c → Lowers g cost pats marks next (λ b. b ≡ flip c) lowered' → IsPass old next (lowered' || changed) (c + 1)
-  pass_step old marks next changed true c pass step = pass_changes old marks next changed c (λ b. b ≡ flip c) pass step
-  pass_step old marks next changed false c pass step = pass_keeps old marks next changed c pass step
-
-  pub pass_ends : (old marks : List (Option Mark)) (changed : Bool) → length g.pairs % 2 ≡ 0 → IsPass old marks changed (length g.pairs) → Lowers g cost pats old marks (λ c. c < length g.pairs) changed
-  pass_ends old marks changed even pass = record {
-    falls = pass.falls;
-    same = pass.same;
-    bounded = λ e c lt. subst (λ b. IsBounded g cost pats old b) (flip-flip c) (pass.bounded e (flip c) (flip_below (length g.pairs) c even lt));
-  }
-
   -- A class that keeps its mark.
   pub lowers_nothing : (marks : List (Option Mark)) (c : ℕ) → IsBounded g cost pats marks c → Lowers g cost pats marks marks (λ b. b ≡ c) false
-  lowers_nothing marks c bounded = record {
-    falls = λ e. absurd (true≢false (sym e));
-    same = λ e. refl;
-    bounded = λ e b s. subst (λ a. IsBounded g cost pats marks a) (sym s) bounded;
-  }
+  lowers_nothing marks c bounded = passes_still (weight cost) (IsBounded g cost pats) marks (λ b. b ≡ c) (λ b s. subst (λ a. IsBounded g cost pats marks a) (sym s) bounded)
 
   -- A class that gets a lower one.
   pub lowers_one : (marks next : List (Option Mark)) (c : ℕ) → weight cost next < weight cost marks → Lowers g cost pats marks next (λ b. b ≡ c) true
-  lowers_one marks next c less = record {
-    falls = λ e. less;
-    same = λ e. absurd (true≢false e);
-    bounded = λ e. absurd (true≢false e);
-  }
+  lowers_one marks next c less = passes_lower (weight cost) (IsBounded g cost pats) marks next (λ b. b ≡ c) less
 
   pub label_is_cost : (marks : List (Option Mark)) (c : ℕ) → labels_in (costs_of marks) c ≡ cost_in (slice_index_or marks c None)
   label_is_cost [] c = refl

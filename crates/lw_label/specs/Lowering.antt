@@ -1,5 +1,5 @@
 -- Labels that are lowered until no match would lower one.
-use Rattle.std.specs.Prelude.{ℕ, ◌<◌, ◌≤◌, ◌≡◌, ◌⊎◌, Bool, true, false, List, length, Option, Some, None}
+use Rattle.std.specs.Prelude.{ℕ, ◌<◌, ◌≤◌, ◌≡◌, ◌⊎◌, Bool, List, length, Option, Some, None}
 use Rattle.lw_laws.specs.Graphs.{Graph}
 use Rattle.lw_laws.specs.Costs.{Cost}
 use Rattle.lw_laws.specs.Covers.{Pattern}
@@ -12,6 +12,7 @@ use Rattle.lw_match.specs.declared.mark.Best.{Best}
 use Rattle.lw_match.specs.Values.{plain_mark, marks_in}
 use Rattle.lw_match.specs.Least.{IsLeastMatch, IsLeastBelow}
 use Rattle.lw_label.specs.Labels.{costs_of}
+use Rattle.lw_label.specs.Passes.{Passes}
 
 -- a mark for each class, all of height 0, with costs of covers
 pub record AreLowering (g : Graph) (cost : Cost) (pats : List Pattern) (marks : List (Option Mark)) : Type 0 where
@@ -43,7 +44,5 @@ abbrev pub IsBounded : Graph → Cost → List Pattern → List (Option Mark) �
 IsBounded g cost pats marks c = IsBoundedAt (choices_of g cost.pin_counts pats) cost (labels_in (costs_of marks)) c
 
 -- some label has fallen, or none has and none would at these classes
-pub record Lowers (g : Graph) (cost : Cost) (pats : List Pattern) (old new : List (Option Mark)) (at : ℕ → Type 0) (changed : Bool) : Type 0 where
-  pub falls : changed ≡ true → weight cost new < weight cost old
-  pub same : changed ≡ false → new ≡ old
-  pub bounded : changed ≡ false → (c : ℕ) → at c → IsBounded g cost pats old c
+abbrev pub Lowers : Graph → Cost → List Pattern → List (Option Mark) → List (Option Mark) → (ℕ → Type 0) → Bool → Type 0
+Lowers g cost pats old new at changed = Passes (weight cost) (IsBounded g cost pats) old new at changed

@@ -1,5 +1,5 @@
 -- Heights that are found along matches that attain labels.
-use Rattle.std.specs.Prelude.{ℕ, suc, ◌<◌, ◌≤◌, ◌≡◌, ◌^◌, Bool, true, false, ◌+◌, ◌-◌, List, [], ◌∷◌, length, Option, Some, None, slice_get}
+use Rattle.std.specs.Prelude.{ℕ, suc, ◌≤◌, ◌≡◌, ◌^◌, Bool, ◌+◌, ◌-◌, List, [], ◌∷◌, length, Option, Some, None, slice_get}
 use Rattle.lw_laws.specs.Graphs.{Graph}
 use Rattle.lw_laws.specs.Costs.{Cost}
 use Rattle.lw_laws.specs.Covers.{Pattern}
@@ -10,6 +10,7 @@ use Rattle.lw_laws.specs.Rounds.{labels_in}
 use Rattle.lw_match.specs.declared.mark.Mark.{Mark}
 use Rattle.lw_match.specs.Values.{marks_in}
 use Rattle.lw_label.specs.Labels.{costs_of}
+use Rattle.lw_label.specs.Passes.{Passes}
 
 -- gates along matches that attain the labels lead from the class to inputs in h steps at most
 abbrev pub IsWithinSteps : Graph → Cost → List Pattern → List (Option Mark) → ℕ → ℕ → Type 0
@@ -57,7 +58,5 @@ IsReached g cost pats labels marks c =
     (cell : ℕ) (ps : List ℕ) (ms : List PlainMark) → IsMatchAt g cost.pin_counts pats c cell ps → HaveMarks (marks_in marks) ps ms → labels_in (costs_of labels) c ≡ Some (cost.value cell (costs_in ms)) → HasHeightAtMost marks c (suc (greatest_height ms))
 
 -- some height has been found or has fallen, or none has and none would at these classes
-pub record Raises (g : Graph) (cost : Cost) (pats : List Pattern) (labels old new : List (Option Mark)) (at : ℕ → Type 0) (changed : Bool) : Type 0 where
-  pub falls : changed ≡ true → heights_weight new < heights_weight old
-  pub same : changed ≡ false → new ≡ old
-  pub reached : changed ≡ false → (c : ℕ) → at c → IsReached g cost pats labels old c
+abbrev pub Raises : Graph → Cost → List Pattern → List (Option Mark) → List (Option Mark) → List (Option Mark) → (ℕ → Type 0) → Bool → Type 0
+Raises g cost pats labels old new at changed = Passes heights_weight (IsReached g cost pats labels) old new at changed

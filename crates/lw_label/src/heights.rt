@@ -1,13 +1,15 @@
 // Heights in rounds.
-ghost use Rattle.std.specs.Prelude.{◌≡◌, ◌<◌, None, length, replicate};
+ghost use Rattle.std.specs.Prelude.{◌≡◌, ◌<◌, ◌/◌, ℕ, None, true, false, length, replicate};
 ghost use Rattle.lw_graph.specs.Graphs.{IsGraph};
 ghost use Rattle.lw_match.specs.Least.{AreOfCells};
 ghost use Rattle.lw_label.specs.Labels.{costs_of, AreLeastMarks};
 ghost use Rattle.lw_label.specs.Lowering.{AreLowering};
-ghost use Rattle.lw_label.specs.Rising.{AreRising, Raises, height_limit};
+ghost use Rattle.lw_label.specs.Orders.{IsVisited, places_of};
+ghost use Rattle.lw_label.specs.Rising.{AreRising, IsReached, Raises, height_limit, heights_weight};
 ghost use Rattle.lw_laws.specs.Laws.{AreBoundedIn, IsCoverProblem};
 
-use crate::lowering::either;
+use crate::lowering::{either, is_ahead};
+use crate::visits::Visits;
 use lw_graph::Graph;
 use lw_match::{Cost, Mark, least_below};
 use lw_pattern::Patterns;
@@ -70,14 +72,17 @@ fn raise<C: Cost>(
     true
 }
 
-// Goes once through the classes, each complement first, and says whether it changed a height.
-fn raise_each<C: Cost>(
+// Raises the odd class of a place a second time where its complement, which was raised since, may be a pin of a match of less height.
+fn raise_again<C: Cost>(
     graph: &Graph,
     pats: &Patterns,
     cost: &C,
     labels: &[Option<Mark>],
     marks: &mut [Option<Mark>],
+    place: u32,
+    raised: bool,
 ) -> bool
+    requires place { place < places_of graph.now }
     requires of_cells { AreOfCells (C.costs cost.now).pin_counts pats.now }
     requires graph { IsGraph graph.now }
     requires problem { IsCoverProblem graph.now pats.now (C.costs cost.now) }
@@ -85,14 +90,125 @@ fn raise_each<C: Cost>(
     requires bounded { AreBoundedIn graph.now pats.now (C.costs cost.now) (costs_of labels.now) }
     requires rising { AreRising graph.now (C.costs cost.now) pats.now labels.now marks.old }
     ensures rising { AreRising graph.now (C.costs cost.now) pats.now labels.now marks.new }
-    ensures raises { Raises graph.now (C.costs cost.now) pats.now labels.now marks.old marks.new (λ c. c < length graph.now.pairs) result }
+    ensures raises { Raises graph.now (C.costs cost.now) pats.now labels.now marks.old marks.new (λ c. ⊥) result }
+{
+    let class = ClassId(place * 2 + 1);
+    let other = marks[(place * 2) as usize];
+    if raised && is_ahead(other, marks[class.0 as usize]) {
+        return raise(graph, pats, cost, labels, marks, class);
+    }
+    false
+}
+
+// Raises the two classes of a place.
+fn raise_pair<C: Cost>(
+    graph: &Graph,
+    pats: &Patterns,
+    cost: &C,
+    labels: &[Option<Mark>],
+    marks: &mut [Option<Mark>],
+    place: u32,
+) -> bool
+    requires place { place < places_of graph.now }
+    requires of_cells { AreOfCells (C.costs cost.now).pin_counts pats.now }
+    requires graph { IsGraph graph.now }
+    requires problem { IsCoverProblem graph.now pats.now (C.costs cost.now) }
+    requires lowering { AreLowering graph.now (C.costs cost.now) pats.now labels.now }
+    requires bounded { AreBoundedIn graph.now pats.now (C.costs cost.now) (costs_of labels.now) }
+    requires rising { AreRising graph.now (C.costs cost.now) pats.now labels.now marks.old }
+    ensures rising { AreRising graph.now (C.costs cost.now) pats.now labels.now marks.new }
+    ensures raises { Raises graph.now (C.costs cost.now) pats.now labels.now marks.old marks.new (λ c. c / 2 ≡ place) result }
+{
+    let class = ClassId(place * 2 + 1);
+    let first = raise(graph, pats, cost, labels, marks, class);
+    let second = raise(graph, pats, cost, labels, marks, ClassId(place * 2));
+    let third = raise_again(graph, pats, cost, labels, marks, place, second);
+    either(third, either(second, first))
+}
+
+// Raises the two classes of the place of a visit, if that is due.
+fn raise_place<C: Cost>(
+    graph: &Graph,
+    pats: &Patterns,
+    cost: &C,
+    labels: &[Option<Mark>],
+    visits: &mut Visits,
+    marks: &mut [Option<Mark>],
+    number: usize,
+    whole: bool,
+) -> bool
+    requires number { number < length visits.old.order }
+    requires places { visits.old.places ≡ places_of graph.now }
+    requires of_cells { AreOfCells (C.costs cost.now).pin_counts pats.now }
+    requires graph { IsGraph graph.now }
+    requires problem { IsCoverProblem graph.now pats.now (C.costs cost.now) }
+    requires lowering { AreLowering graph.now (C.costs cost.now) pats.now labels.now }
+    requires bounded { AreBoundedIn graph.now pats.now (C.costs cost.now) (costs_of labels.now) }
+    requires rising { AreRising graph.now (C.costs cost.now) pats.now labels.now marks.old }
+    ensures visits { visits.new ≡ visits.old }
+    ensures rising { AreRising graph.now (C.costs cost.now) pats.now labels.now marks.new }
+    ensures raises { Raises graph.now (C.costs cost.now) pats.now labels.now marks.old marks.new (IsVisited whole visits.old.order number) result }
+{
+    let Some(place) = visits.due(graph, number, whole) else {
+        return false;
+    };
+    let raised = raise_pair(graph, pats, cost, labels, marks, place);
+    visits.note(place, raised);
+    raised
+}
+
+// Goes once through the places, and says whether it changed a height. A whole round passes over none.
+fn raise_round<C: Cost>(
+    graph: &Graph,
+    pats: &Patterns,
+    cost: &C,
+    labels: &[Option<Mark>],
+    visits: &mut Visits,
+    marks: &mut [Option<Mark>],
+    whole: bool,
+) -> bool
+    requires places { visits.old.places ≡ places_of graph.now }
+    requires of_cells { AreOfCells (C.costs cost.now).pin_counts pats.now }
+    requires graph { IsGraph graph.now }
+    requires problem { IsCoverProblem graph.now pats.now (C.costs cost.now) }
+    requires lowering { AreLowering graph.now (C.costs cost.now) pats.now labels.now }
+    requires bounded { AreBoundedIn graph.now pats.now (C.costs cost.now) (costs_of labels.now) }
+    requires rising { AreRising graph.now (C.costs cost.now) pats.now labels.now marks.old }
+    ensures visits { visits.new ≡ visits.old }
+    ensures rising { AreRising graph.now (C.costs cost.now) pats.now labels.now marks.new }
+    ensures raises { Raises graph.now (C.costs cost.now) pats.now labels.now marks.old marks.new (λ c. (whole ≡ true) × (c < length graph.now.pairs)) result }
 {
     let mut changed = false;
-    for number in 0..graph.classes() {
-        let raised = raise(graph, pats, cost, labels, marks, ClassId(number).flip());
+    for number in 0..visits.len() {
+        let raised = raise_place(graph, pats, cost, labels, visits, marks, number, whole);
         changed = either(raised, changed);
     }
     changed
+}
+
+// Goes through the places that are due until that changes no height, and then through all. Says whether the last round changed one.
+fn raise_rounds<C: Cost>(
+    graph: &Graph,
+    pats: &Patterns,
+    cost: &C,
+    labels: &[Option<Mark>],
+    visits: &mut Visits,
+    marks: &mut [Option<Mark>],
+) -> bool
+    requires places { visits.old.places ≡ places_of graph.now }
+    requires of_cells { AreOfCells (C.costs cost.now).pin_counts pats.now }
+    requires graph { IsGraph graph.now }
+    requires problem { IsCoverProblem graph.now pats.now (C.costs cost.now) }
+    requires lowering { AreLowering graph.now (C.costs cost.now) pats.now labels.now }
+    requires bounded { AreBoundedIn graph.now pats.now (C.costs cost.now) (costs_of labels.now) }
+    requires rising { AreRising graph.now (C.costs cost.now) pats.now labels.now marks.old }
+    ensures visits { visits.new ≡ visits.old }
+    ensures rising { AreRising graph.now (C.costs cost.now) pats.now labels.now marks.new }
+    ensures falls { result ≡ true → heights_weight marks.new < heights_weight marks.old }
+    ensures reached { result ≡ false → (c : ℕ) → c < length graph.now.pairs → IsReached graph.now (C.costs cost.now) pats.now labels.now marks.new c }
+{
+    while raise_round(graph, pats, cost, labels, visits, marks, false) {}
+    raise_round(graph, pats, cost, labels, visits, marks, true)
 }
 
 // Finds the height of each class that has a label.
@@ -101,8 +217,10 @@ pub(crate) fn raise_all<C: Cost>(
     pats: &Patterns,
     cost: &C,
     labels: &[Option<Mark>],
+    visits: &mut Visits,
     marks: &mut [Option<Mark>],
 )
+    requires places { visits.old.places ≡ places_of graph.now }
     requires of_cells { AreOfCells (C.costs cost.now).pin_counts pats.now }
     requires graph { IsGraph graph.now }
     requires problem { IsCoverProblem graph.now pats.now (C.costs cost.now) }
@@ -111,5 +229,5 @@ pub(crate) fn raise_all<C: Cost>(
     requires rising { AreRising graph.now (C.costs cost.now) pats.now labels.now marks.old }
     ensures { AreLeastMarks graph.now (C.costs cost.now) pats.now marks.new }
 {
-    while raise_each(graph, pats, cost, labels, marks) {}
+    while raise_rounds(graph, pats, cost, labels, visits, marks) {}
 }

@@ -1,9 +1,11 @@
 ghost use Rattle.std.specs.Prelude.{◌≡◌, ◌<◌, None, IfOk, length, replicate, slice_index_or};
 ghost use Rattle.lw_match.specs.Least.{AreOfCells};
 ghost use Rattle.lw_label.specs.Labels.{AreLeastMarks};
+ghost use Rattle.lw_label.specs.Orders.{places_of};
 
 use crate::heights::{raise_all, start_heights};
 use crate::lowering::{label_inputs, lower_all, no_marks};
+use crate::visits::Visits;
 use lw_graph::Graph;
 use lw_match::{Cost, Mark};
 use lw_pattern::Patterns;
@@ -55,7 +57,8 @@ pub fn relabel<C: Cost>(
 {
     let mut labels = no_marks(alloc, graph)?;
     let mut marks = no_marks(alloc, graph)?;
-    mark_all(graph, pats, cost, &mut labels, &mut marks);
+    let mut visits = Visits::new(alloc, graph)?;
+    mark_all(graph, pats, cost, &mut visits, &mut labels, &mut marks);
     Ok(Labels { marks })
 }
 
@@ -64,9 +67,11 @@ fn mark_all<C: Cost>(
     graph: &Graph,
     pats: &Patterns,
     cost: &C,
+    visits: &mut Visits,
     labels: &mut [Option<Mark>],
     marks: &mut [Option<Mark>],
 )
+    requires places { visits.old.places ≡ places_of graph.now }
     requires of_cells { AreOfCells (C.costs cost.now).pin_counts pats.now }
     requires no_labels { labels.old ≡ replicate (length graph.now.pairs) None }
     requires no_marks { marks.old ≡ replicate (length graph.now.pairs) None }
@@ -74,7 +79,8 @@ fn mark_all<C: Cost>(
 {
     let _ = graph.classes();
     label_inputs(graph, cost, labels);
-    lower_all(graph, pats, cost, labels);
+    lower_all(graph, pats, cost, visits, labels);
     start_heights(graph, labels, marks);
-    raise_all(graph, pats, cost, labels, marks);
+    visits.restart();
+    raise_all(graph, pats, cost, labels, visits, marks);
 }

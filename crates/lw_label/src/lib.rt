@@ -5,6 +5,8 @@ mod delay;
 mod heights;
 mod labels;
 mod lowering;
+mod order;
+mod visits;
 
 pub use delay::DelayCost;
 pub use labels::{Labels, relabel};

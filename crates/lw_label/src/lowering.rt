@@ -1,11 +1,13 @@
 // Labels in rounds.
-ghost use Rattle.std.specs.Prelude.{◌≡◌, ◌<◌, ◌||◌, None, IfOk, length, replicate, slice_index_or};
+ghost use Rattle.std.specs.Prelude.{◌≡◌, ◌<◌, ◌≤◌, ◌/◌, ◌||◌, ℕ, Some, None, true, false, IfOk, length, replicate, slice_get, slice_index_or};
 ghost use Rattle.lw_match.specs.Least.{AreOfCells};
 ghost use Rattle.lw_match.specs.Values.{marks_in, AreInRange};
 ghost use Rattle.lw_label.specs.Labels.{costs_of};
-ghost use Rattle.lw_label.specs.Lowering.{AreLowering, IsLeastUnder, IsLowerOf, Lowers};
+ghost use Rattle.lw_label.specs.Lowering.{AreLowering, IsBounded, IsLeastUnder, IsLowerOf, Lowers, weight};
+ghost use Rattle.lw_label.specs.Orders.{IsPassed, IsVisited, places_of};
 ghost use Rattle.lw_laws.specs.Laws.{AreBoundedIn, IsCoverProblem};
 
+use crate::visits::Visits;
 use lw_graph::Graph;
 use lw_match::{Best, Cost, Mark, least, least_below};
 use lw_pattern::Patterns;
@@ -95,20 +97,135 @@ pub(crate) fn either(one: bool, other: bool) -> bool
     one || other
 }
 
-// Goes once through the classes, each complement first, and says whether it changed a mark.
-fn lower_each<C: Cost>(graph: &Graph, pats: &Patterns, cost: &C, marks: &mut [Option<Mark>]) -> bool
+// Whether a mark costs less than another, or has less height, or is there where the other is not.
+pub(crate) fn is_ahead(mark: Option<Mark>, other: Option<Mark>) -> bool {
+    match (mark, other) {
+        (Some(mark), Some(other)) => mark.cost < other.cost || mark.height < other.height,
+        (Some(_), None) => true,
+        (None, _) => false,
+    }
+}
+
+// Lowers the odd class of a place a second time where its complement, which was lowered since, may be a pin of a better match.
+fn lower_again<C: Cost>(
+    graph: &Graph,
+    pats: &Patterns,
+    cost: &C,
+    marks: &mut [Option<Mark>],
+    place: u32,
+    lowered: bool,
+) -> bool
+    requires place { place < places_of graph.now }
     requires of_cells { AreOfCells (C.costs cost.now).pin_counts pats.now }
     requires problem { IsCoverProblem graph.now pats.now (C.costs cost.now) }
     requires lowering { AreLowering graph.now (C.costs cost.now) pats.now marks.old }
     ensures lowering { AreLowering graph.now (C.costs cost.now) pats.now marks.new }
-    ensures lowers { Lowers graph.now (C.costs cost.now) pats.now marks.old marks.new (λ c. c < length graph.now.pairs) result }
+    ensures lowers { Lowers graph.now (C.costs cost.now) pats.now marks.old marks.new (λ c. ⊥) result }
 {
+    let _ = graph.classes();
+    let class = ClassId(place * 2 + 1);
+    let other = marks[(place * 2) as usize];
+    if lowered && is_ahead(other, marks[class.0 as usize]) {
+        return lower(graph, pats, cost, marks, class);
+    }
+    false
+}
+
+// Lowers the two classes of a place.
+fn lower_pair<C: Cost>(
+    graph: &Graph,
+    pats: &Patterns,
+    cost: &C,
+    marks: &mut [Option<Mark>],
+    place: u32,
+) -> bool
+    requires place { place < places_of graph.now }
+    requires of_cells { AreOfCells (C.costs cost.now).pin_counts pats.now }
+    requires problem { IsCoverProblem graph.now pats.now (C.costs cost.now) }
+    requires lowering { AreLowering graph.now (C.costs cost.now) pats.now marks.old }
+    ensures lowering { AreLowering graph.now (C.costs cost.now) pats.now marks.new }
+    ensures lowers { Lowers graph.now (C.costs cost.now) pats.now marks.old marks.new (λ c. c / 2 ≡ place) result }
+{
+    let _ = graph.classes();
+    let class = ClassId(place * 2 + 1);
+    let first = lower(graph, pats, cost, marks, class);
+    let second = lower(graph, pats, cost, marks, ClassId(place * 2));
+    let third = lower_again(graph, pats, cost, marks, place, second);
+    either(third, either(second, first))
+}
+
+// Lowers the two classes of the place of a visit, if that is due.
+fn lower_place<C: Cost>(
+    graph: &Graph,
+    pats: &Patterns,
+    cost: &C,
+    visits: &mut Visits,
+    marks: &mut [Option<Mark>],
+    number: usize,
+    whole: bool,
+) -> bool
+    requires number { number < length visits.old.order }
+    requires places { visits.old.places ≡ places_of graph.now }
+    requires of_cells { AreOfCells (C.costs cost.now).pin_counts pats.now }
+    requires problem { IsCoverProblem graph.now pats.now (C.costs cost.now) }
+    requires lowering { AreLowering graph.now (C.costs cost.now) pats.now marks.old }
+    ensures visits { visits.new ≡ visits.old }
+    ensures lowering { AreLowering graph.now (C.costs cost.now) pats.now marks.new }
+    ensures lowers { Lowers graph.now (C.costs cost.now) pats.now marks.old marks.new (IsVisited whole visits.old.order number) result }
+{
+    let Some(place) = visits.due(graph, number, whole) else {
+        return false;
+    };
+    let lowered = lower_pair(graph, pats, cost, marks, place);
+    visits.note(place, lowered);
+    lowered
+}
+
+// Goes once through the places, and says whether it changed a mark. A whole round passes over none.
+fn lower_round<C: Cost>(
+    graph: &Graph,
+    pats: &Patterns,
+    cost: &C,
+    visits: &mut Visits,
+    marks: &mut [Option<Mark>],
+    whole: bool,
+) -> bool
+    requires places { visits.old.places ≡ places_of graph.now }
+    requires of_cells { AreOfCells (C.costs cost.now).pin_counts pats.now }
+    requires problem { IsCoverProblem graph.now pats.now (C.costs cost.now) }
+    requires lowering { AreLowering graph.now (C.costs cost.now) pats.now marks.old }
+    ensures visits { visits.new ≡ visits.old }
+    ensures lowering { AreLowering graph.now (C.costs cost.now) pats.now marks.new }
+    ensures lowers { Lowers graph.now (C.costs cost.now) pats.now marks.old marks.new (λ c. (whole ≡ true) × (c < length graph.now.pairs)) result }
+{
+    let _ = graph.classes();
     let mut changed = false;
-    for number in 0..graph.classes() {
-        let lowered = lower(graph, pats, cost, marks, ClassId(number).flip());
+    for number in 0..visits.len() {
+        let lowered = lower_place(graph, pats, cost, visits, marks, number, whole);
         changed = either(lowered, changed);
     }
     changed
+}
+
+// Goes through the places that are due until that changes no mark, and then through all. Says whether the last round changed one.
+fn lower_rounds<C: Cost>(
+    graph: &Graph,
+    pats: &Patterns,
+    cost: &C,
+    visits: &mut Visits,
+    marks: &mut [Option<Mark>],
+) -> bool
+    requires places { visits.old.places ≡ places_of graph.now }
+    requires of_cells { AreOfCells (C.costs cost.now).pin_counts pats.now }
+    requires problem { IsCoverProblem graph.now pats.now (C.costs cost.now) }
+    requires lowering { AreLowering graph.now (C.costs cost.now) pats.now marks.old }
+    ensures visits { visits.new ≡ visits.old }
+    ensures lowering { AreLowering graph.now (C.costs cost.now) pats.now marks.new }
+    ensures falls { result ≡ true → weight (C.costs cost.now) marks.new < weight (C.costs cost.now) marks.old }
+    ensures bounded { result ≡ false → (c : ℕ) → c < length graph.now.pairs → IsBounded graph.now (C.costs cost.now) pats.now marks.new c }
+{
+    while lower_round(graph, pats, cost, visits, marks, false) {}
+    lower_round(graph, pats, cost, visits, marks, true)
 }
 
 // Lowers labels until no match would lower one.
@@ -116,14 +233,17 @@ pub(crate) fn lower_all<C: Cost>(
     graph: &Graph,
     pats: &Patterns,
     cost: &C,
+    visits: &mut Visits,
     marks: &mut [Option<Mark>],
 )
+    requires places { visits.old.places ≡ places_of graph.now }
     requires of_cells { AreOfCells (C.costs cost.now).pin_counts pats.now }
     requires problem { IsCoverProblem graph.now pats.now (C.costs cost.now) }
     requires lowering { AreLowering graph.now (C.costs cost.now) pats.now marks.old }
+    ensures visits { visits.new ≡ visits.old }
     ensures lowering { AreLowering graph.now (C.costs cost.now) pats.now marks.new }
     ensures bounded { AreBoundedIn graph.now pats.now (C.costs cost.now) (costs_of marks.new) }
 {
     let _ = graph.classes();
-    while lower_each(graph, pats, cost, marks) {}
+    while lower_rounds(graph, pats, cost, visits, marks) {}
 }

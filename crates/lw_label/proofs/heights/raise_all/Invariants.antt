@@ -1,8 +1,12 @@
+use Rattle.std.proofs.Common.{◌≡◌}
 use Rattle.lw_label.specs.Rising.{AreRising, heights_weight}
 use Rattle.lw_label.proofs.heights.raise_all.Given as goal
 
 abbrev pub invariant-loop : goal.invariant-loop
-invariant-loop g l = AreRising l.graph (g.C.Cost.costs l.cost) l.pats l.labels l.marks
+invariant-loop g l = record {
+  visits : l.visits ≡ l.initial.visits;
+  rising : AreRising l.graph (g.C.Cost.costs l.cost) l.pats l.labels l.marks;
+}
 
 abbrev pub decreases-loop : goal.decreases-loop
 decreases-loop g l = heights_weight l.marks

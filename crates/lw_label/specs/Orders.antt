@@ -1,0 +1,44 @@
+-- The order in which the classes of a graph are visited, by places: place p is that of the classes 2p and 2p + 1.
+use Rattle.std.specs.Prelude.{ℕ, ◌<◌, ◌/◌, ◌≡◌, ◌-◌, ◌+◌, ◌*◌, ◌^◌, ◌⊎◌, Bool, true, false, List, length, All, Contains, Some, slice_get, slice_index_or}
+use Rattle.std.specs.List.{sum_by}
+use Rattle.lw_laws.specs.Graphs.{Graph}
+use Rattle.lw_label.specs.declared.order.Walk.{Walk}
+
+-- each place below n, and no other
+pub record IsOrder (n : ℕ) (order : List ℕ) : Type 0 where
+  pub within : All (λ p. p < n) order
+  pub whole : (p : ℕ) → p < n → Contains order p
+
+-- the number of places of a graph
+abbrev pub places_of : Graph → ℕ
+places_of g = length g.pairs / 2
+
+-- a walk over n places: each that it has entered is on its path or left
+pub record IsWalk (n : ℕ) (w : Walk) : Type 0 where
+  pub next : length w.next.items ≡ n
+  pub entered : length w.entered.items ≡ n
+  pub path : All (λ p. p < n) w.path.items
+  pub order : All (λ p. p < n) w.order.items
+  pub found : (p : ℕ) → slice_index_or w.entered.items p false ≡ true → Contains w.path.items p ⊎ Contains w.order.items p
+
+-- what was entered stays so
+abbrev pub StaysEntered : Walk → Walk → Type 0
+StaysEntered old new =
+    (p : ℕ) → slice_index_or old.entered.items p false ≡ true → slice_index_or new.entered.items p false ≡ true
+
+-- how many steps a walk can still take at most
+abbrev pub steps_left : Walk → ℕ
+steps_left w = 2 * sum_by (λ n. 2 ^ 64 - n) w.next.items + length w.path.items
+
+-- the order of visits, and over how many places
+pub record VisitState : Type 0 where
+  pub order : List ℕ
+  pub places : ℕ
+
+-- in a whole round, the classes whose place is among the first ones of an order
+abbrev pub IsPassed : Bool → List ℕ → ℕ → ℕ → Type 0
+IsPassed whole order count c = (whole ≡ true) × ((i : ℕ) × (i < count) × (slice_get order i ≡ Some (c / 2)))
+
+-- those whose place is the one with this number
+abbrev pub IsVisited : Bool → List ℕ → ℕ → ℕ → Type 0
+IsVisited whole order number c = (whole ≡ true) × (slice_get order number ≡ Some (c / 2))

@@ -1,0 +1,126 @@
+// Which classes are visited again.
+ghost use Rattle.std.specs.Prelude.{◌≡◌, ◌<◌, ◌*◌, true, false, IfOk, IfSome, Some, None, length, slice_get};
+ghost use Rattle.lw_label.specs.Orders.{IsOrder, places_of};
+
+use crate::order::order_of;
+use lw_graph::Graph;
+use lw_pool::ClassId;
+use std::alloc::{AllocError, Global};
+use std::marker::Model;
+
+// The order of visits, by places, each of which is a class with its complement; and when each place was visited last and when
+// something changed there, or in its parts, their parts and so on. Times are numbers of visits. They decide what is passed over,
+// and so how fast labels come, but not which: what rests on nothing being left to change is a round that passes over nothing.
+#[derive(Drop)]
+pub(crate) struct Visits {
+    order: Vec<u32>,
+    // 0 for a place that was not visited
+    seen: Vec<u32>,
+    changed: Vec<u32>,
+    clock: u32,
+}
+
+impl Model for Visits {
+    ghost use Rattle.std.specs.Prelude.{◌≡◌, length};
+    ghost use Rattle.lw_label.specs.Orders.{IsOrder, VisitState};
+
+    ghost Value = { VisitState };
+
+    ghost view = { λ v. record { order = v.order.items; places = length v.seen.items } };
+
+    ghost invariant = { λ v. IsOrder (length v.seen.items) v.order.items × (length v.changed.items ≡ length v.seen.items) };
+}
+
+// The later of two times.
+fn later(a: u32, b: u32) -> u32 {
+    if a < b { b } else { a }
+}
+
+// When a place of the pairs of a class changed last.
+fn last_change_in(graph: &Graph, changed: &[u32], class: ClassId) -> u32
+    requires class { class.0 < length graph.now.pairs }
+    requires places { length changed.now ≡ places_of graph.now }
+{
+    let _ = graph.classes();
+    let mut last = 0;
+    for pair in graph.nands(class) {
+        last = later(last, changed[(pair.x.0 / 2) as usize]);
+        last = later(last, changed[(pair.y.0 / 2) as usize]);
+    }
+    last
+}
+
+// When a part of a place changed last.
+fn last_change(graph: &Graph, changed: &[u32], place: u32) -> u32
+    requires place { place < places_of graph.now }
+    requires places { length changed.now ≡ places_of graph.now }
+{
+    let _ = graph.classes();
+    let even = last_change_in(graph, changed, ClassId(place * 2));
+    let odd = last_change_in(graph, changed, ClassId(place * 2 + 1));
+    later(even, odd)
+}
+
+impl Visits {
+    // No place was visited.
+    pub(crate) fn new(alloc: Global, graph: &Graph) -> Result<Visits, AllocError>
+        ensures { IfOk result (λ visits. visits.places ≡ places_of graph.now) }
+    {
+        let places = (graph.classes() / 2) as usize;
+        Ok(Visits {
+            order: order_of(alloc, graph)?,
+            seen: vec![in alloc; 0; places]?,
+            changed: vec![in alloc; 0; places]?,
+            clock: 1,
+        })
+    }
+
+    // How many visits a round has that passes over none.
+    pub(crate) fn len(&self) -> usize
+        ensures len { result ≡ length self.now.order }
+        ensures order { IsOrder self.now.places self.now.order }
+    {
+        self.order.len()
+    }
+
+    // Forgets that places were visited.
+    pub(crate) fn restart(&mut self)
+        ensures { self.new ≡ self.old }
+    {
+        self.seen.fill(0);
+    }
+
+    // The place of a visit of a round, if it is to be visited: in a whole round, or where it was not yet, or where a part has
+    // changed since. A change of a part counts from now on as one of the place, for the places that it is a part of.
+    pub(crate) fn due(&mut self, graph: &Graph, number: usize, whole: bool) -> Option<u32>
+        requires number { number < length self.old.order }
+        requires places { self.old.places ≡ places_of graph.now }
+        ensures kept { self.new ≡ self.old }
+        ensures place { IfSome result (λ place. slice_get self.old.order number ≡ Some place) }
+        ensures within { IfSome result (λ place. place < self.old.places) }
+        ensures whole { whole ≡ true → result ≡ None → ⊥ }
+    {
+        let place = self.order[number];
+        let at = place as usize;
+        let last = last_change(graph, &self.changed, place);
+        self.changed[at] = later(self.changed[at], last);
+        if whole || self.seen[at] == 0 || self.seen[at] < last {
+            return Some(place);
+        }
+        None
+    }
+
+    // Takes note of a visit of a place, and whether it changed something. Such a change is later than the visit, so that a place
+    // that is a part of its own parts is visited again.
+    pub(crate) fn note(&mut self, place: u32, changed: bool)
+        requires { place < self.old.places }
+        ensures { self.new ≡ self.old }
+    {
+        let at = place as usize;
+        self.seen[at] = self.clock;
+        self.clock = self.clock.saturating_add(1);
+        if changed {
+            self.changed[at] = self.clock;
+        }
+    }
+}
