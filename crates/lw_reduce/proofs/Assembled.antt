@@ -1,27 +1,27 @@
 -- The code's graph of settled names.
-use Rattle.std.proofs.Common.{ℕ, ◌+◌, ◌-◌, ◌*◌, ◌<◌, ◌≡◌, ◌^◌, Bool, false, List, [], ◌∷◌, length, map, filter, drop, get_or, slice_index, replicate, All, refl, ap, sym, ◌∙◌, subst, arith, length-drop}
-use Rattle.std.specs.List.{dedup, slice_get, slice_range}
+use Rattle.std.proofs.Common.{ℕ, ◌+◌, ◌-◌, ◌*◌, ◌<◌, ◌≡◌, ◌^◌, Bool, false, List, [], ◌∷◌, length, map, filter, drop, get_or, slice_index, replicate, All, Contains, ◌↔◌, refl, ap, sym, ◌∙◌, subst, subst₂, arith, length-drop}
+use Rattle.std.specs.List.{slice_get, slice_range}
 use Rattle.std.specs.Prelude.{Some, slice_index_or}
 use Rattle.std.proofs.Math.ListN as plain_lists
 use Rattle.std.proofs.lemmas.List.{get_or-take, get_or-drop, length-map, length-replicate, length-take-le}
-use Rattle.std.proofs.lemmas.List.Elements.{All-from_get_or, Contains-get_or}
+use Rattle.std.proofs.lemmas.List.Elements.{All-from_get_or, All-map, Contains-get_or}
 use Rattle.std.proofs.lemmas.Option.{slice_get-get_or}
 use Rattle.lw_pool.specs.declared.id.ClassId.{ClassId}
 use Rattle.lw_laws.specs.Drafts.{IsReduced}
-use Rattle.lw_laws.specs.Graphs.{Graph as PlainGraph, class_of, pair_count}
+use Rattle.lw_laws.proofs.Lists.{in_map}
+use Rattle.lw_laws.specs.Graphs.{Graph as PlainGraph, Pair as PlainPair, AreRising, class_of, pair_count}
 use Rattle.lw_graph.specs.declared.pair.Pair.{Pair}
-use Rattle.lw_graph.specs.Graphs.{IsBelow, IsGraph, numbers, plain_graph, plain_row}
+use Rattle.lw_graph.specs.Graphs.{IsBelow, IsGraph, numbers, plain_graph, plain_pair, plain_row}
 use Rattle.lw_reduce.specs.declared.facts.Fact.{Fact}
 use Rattle.lw_reduce.specs.declared.facts.Link.{Link}
 use Rattle.lw_reduce.specs.Classing.{AreClasses, mark}
 use Rattle.lw_reduce.specs.Drafting.{plain_draft}
-use Rattle.lw_reduce.specs.Names.{IsFactIn}
-use Rattle.lw_reduce.specs.Rows.{same_fact}
+use Rattle.lw_reduce.specs.Rows.{IsOrdered, IsRowOf}
 use Rattle.lw_reduce.specs.Settling.{IsSettled, renamed_fact}
 use Rattle.lw_reduce.specs.Spreading.{of_class, pair_of}
 use Rattle.lw_reduce.proofs.Classing.{name_of-double}
-use Rattle.lw_reduce.proofs.Reduced.{entry_form, pairs_of, pairs_once, reduced, rows_below, rows_rise}
-use Rattle.lw_reduce.proofs.Strict.{all_named}
+use Rattle.lw_reduce.proofs.Members.{filter_back, map_back}
+use Rattle.lw_reduce.proofs.Reduced.{entry_form, entry_ordered, pairs_of, pairs_once, reduced, rows_below}
 
 numbers_marked : (xs : List ℕ) → numbers (map mark xs) ≡ xs
 numbers_marked [] = refl
@@ -31,71 +31,81 @@ plain_pairs : (rows : List Fact) → plain_row (map pair_of rows) ≡ pairs_of r
 plain_pairs [] = refl
 plain_pairs (r ∷ rows) = ap (λ ps. record { x = r.left; y = r.right } ∷ ps) (plain_pairs rows)
 
-module _ (n : ℕ) (nands : List Fact) (links : List Link) (names : List ℕ) (rows : List Fact) (is : IsSettled n nands links names rows) (few : n < 2 ^ 31) where
-  pub rows_in : All (IsFactIn n) rows
-  rows_in k d lt =
-      let r = all_named n nands links names rows is few k d lt in
-      let c = is.can.count in
-      let f = r.form.within in
-      let l = r.left.within in
-      let t = r.right.within in
-      (omega arith, omega arith, omega arith)
+module _ (n : ℕ) (nands : List Fact) (links : List Link) (names : List ℕ) (rows : List Fact) (is : IsSettled n nands links names rows) (few : n < 2 ^ 31) (forms : List ℕ) (are : AreClasses names forms) (count : length forms ≡ n) where
+  pub entries_below : (m : ℕ) → m ≡ 2 * pair_count 0 forms → All (λ (r : Fact). r.form < m) (map (renamed_fact forms) nands)
+  entries_below m e k d lt =
+      let b = entry_form n nands links names rows is few forms are count (get_or (map (renamed_fact forms) nands) k d) (Contains-get_or (map (renamed_fact forms) nands) k d lt) in
+      omega arith
 
-  module _ (forms : List ℕ) (are : AreClasses names forms) (count : length forms ≡ n) where
-    pub entries_below : (m : ℕ) → m ≡ 2 * pair_count 0 forms → All (λ (r : Fact). r.form < m) (dedup same_fact (map (renamed_fact forms) rows))
-    entries_below m e k d lt =
-        let b = entry_form n nands links names rows is few forms are count (get_or (dedup same_fact (map (renamed_fact forms) rows)) k d) (Contains-get_or (dedup same_fact (map (renamed_fact forms) rows)) k d lt) in
-        omega arith
+  module _ (inputs : ℕ) (inputs_in : inputs < n) (one : ClassId) (leaves classes : List ClassId) (lists : List (List Pair)) (pairs : ℕ) (one_is : one.0 ≡ slice_index forms 0) (leaves_are : leaves ≡ map mark (slice_range forms 1 (inputs + 1))) (classes_are : classes ≡ map mark forms) (pairs_is : pairs ≡ pair_count 0 forms) (lists_count : length lists ≡ pairs * 2) (lists_are : (c : ℕ) → IsRowOf (map pair_of (filter (of_class c) (map (renamed_fact forms) nands))) (slice_index_or lists c [])) where
+    abbrev graph : PlainGraph
+    graph = record { one = one.0; leaves = numbers leaves; forms = forms; pairs = map plain_row lists }
 
-    module _ (inputs : ℕ) (inputs_in : inputs < n) (one : ClassId) (leaves classes : List ClassId) (lists : List (List Pair)) (pairs : ℕ) (one_is : one.0 ≡ slice_index forms 0) (leaves_are : leaves ≡ map mark (slice_range forms 1 (inputs + 1))) (classes_are : classes ≡ map mark forms) (pairs_is : pairs ≡ pair_count 0 forms) (lists_count : length lists ≡ pairs * 2) (lists_are : (c : ℕ) → slice_index_or lists c [] ≡ map pair_of (filter (of_class c) (dedup same_fact (map (renamed_fact forms) rows)))) where
-      abbrev graph : PlainGraph
-      graph = record { one = one.0; leaves = numbers leaves; forms = forms; pairs = map plain_row lists }
+    graph_is : graph ≡ plain_graph one leaves classes lists
+    graph_is =
+        let e : forms ≡ numbers classes = sym (ap numbers classes_are ∙ numbers_marked forms) in
+        λ i. record { one = one.0; leaves = numbers leaves; forms = e i; pairs = map plain_row lists }
 
-      graph_is : graph ≡ plain_graph one leaves classes lists
-      graph_is =
-          let e : forms ≡ numbers classes = sym (ap numbers classes_are ∙ numbers_marked forms) in
-          λ i. record { one = one.0; leaves = numbers leaves; forms = e i; pairs = map plain_row lists }
+    at : (c : ℕ) → slice_index_or (map plain_row lists) c [] ≡ plain_row (slice_index_or lists c [])
+    at c = plain_lists.get_or-map plain_row lists c []
 
-      at : (c : ℕ) → slice_index_or (map plain_row lists) c [] ≡ pairs_of (filter (of_class c) (dedup same_fact (map (renamed_fact forms) rows)))
-      at c = plain_lists.get_or-map plain_row lists c [] ∙ (ap plain_row (lists_are c) ∙ plain_pairs (filter (of_class c) (dedup same_fact (map (renamed_fact forms) rows))))
+    abbrev own : ℕ → List Fact
+    own c = filter (of_class c) (map (renamed_fact forms) nands)
 
-      row_count : length (map plain_row lists) ≡ 2 * pair_count 0 forms
-      row_count = length-map lists plain_row ∙ (lists_count ∙ (omega arith))
+    members : (c : ℕ) (p : PlainPair) → Contains (slice_index_or (map plain_row lists) c []) p ↔ Contains (pairs_of (own c)) p
+    members c p = (to, from)
+      where
+        to : Contains (slice_index_or (map plain_row lists) c []) p → Contains (pairs_of (own c)) p
+        to h =
+            let (q, k, e) = map_back plain_pair (slice_index_or lists c []) p (subst (λ row. Contains row p) (at c) h) in
+            subst₂ (λ row z. Contains row z) (plain_pairs (own c)) e (in_map plain_pair (map pair_of (own c)) q (((lists_are c).listed q).0 k))
 
-      leaves_is : numbers leaves ≡ slice_range forms 1 (inputs + 1)
-      leaves_is = ap numbers leaves_are ∙ numbers_marked (slice_range forms 1 (inputs + 1))
+        from : Contains (pairs_of (own c)) p → Contains (slice_index_or (map plain_row lists) c []) p
+        from h =
+            let (q, k, e) = map_back plain_pair (map pair_of (own c)) p (subst (λ row. Contains row p) (sym (plain_pairs (own c))) h) in
+            subst₂ (λ row z. Contains row z) (sym (at c)) e (in_map plain_pair (slice_index_or lists c []) q (((lists_are c).listed q).1 k))
 
-      leaf_count : length (numbers leaves) ≡ inputs
-      leaf_count =
-          let d = length-drop 1 forms in
-          ap length leaves_is ∙ (length-take-le (inputs + 1 - 1) (drop 1 forms) (omega arith) ∙ (omega arith))
+    rises : (c : ℕ) → AreRising (slice_index_or (map plain_row lists) c [])
+    rises c =
+        subst AreRising (sym (at c)) ((lists_are c).rising (All-map IsOrdered pair_of (own c) (λ k d lt. entry_ordered n nands links names rows is few forms are count (get_or (own c) k d) (filter_back (of_class c) (map (renamed_fact forms) nands) (get_or (own c) k d) (Contains-get_or (own c) k d lt)).0)))
 
-      leaf_at : (i : ℕ) → i < inputs → get_or (numbers leaves) i 0 ≡ slice_index forms (1 + i)
-      leaf_at i lt =
-          ap (λ ls. get_or ls i 0) leaves_is ∙ (get_or-take (inputs + 1 - 1) (drop 1 forms) i 0 (omega arith) ∙ get_or-drop 1 forms i 0)
+    row_count : length (map plain_row lists) ≡ 2 * pair_count 0 forms
+    row_count = length-map lists plain_row ∙ (lists_count ∙ (omega arith))
 
-      form_below : (k : ℕ) → k < n → slice_index forms k < 2 * pair_count 0 forms
-      form_below k lt = let b = are.below k (omega arith) in omega arith
+    leaves_is : numbers leaves ≡ slice_range forms 1 (inputs + 1)
+    leaves_is = ap numbers leaves_are ∙ numbers_marked (slice_range forms 1 (inputs + 1))
 
-      pub is_graph : IsGraph (plain_graph one leaves classes lists)
-      is_graph = subst IsGraph graph_is (record {
-        even = let r = row_count in omega arith;
-        few = let r = row_count in let f = are.few in omega arith;
-        few_inputs = let l = leaf_count in omega arith;
-        one = let r = row_count in let b = form_below 0 (omega arith) in omega arith;
-        leaves = All-from_get_or (λ c. c < length (map plain_row lists)) (numbers leaves) 0 (λ i lt. let l = leaf_count in let r = row_count in let a = leaf_at i (omega arith) in let b = form_below (1 + i) (omega arith) in omega arith);
-        forms = All-from_get_or (λ c. c < length (map plain_row lists)) forms 0 (λ i lt. let r = row_count in let b = form_below i (omega arith) in omega arith);
-        pairs = All-from_get_or (λ row. All (IsBelow (length (map plain_row lists))) row) (map plain_row lists) [] (λ i lt. rows_below n nands links names rows is few forms are count inputs (replicate n false) one.0 (numbers leaves) (map plain_row lists) (length-replicate n false) at row_count i);
-        rising = rows_rise n nands links names rows is few forms are count inputs (replicate n false) one.0 (numbers leaves) (map plain_row lists) (length-replicate n false) at row_count;
-        once = pairs_once n nands links names rows is few forms are count inputs (replicate n false) one.0 (numbers leaves) (map plain_row lists) (length-replicate n false) at row_count;
-      })
+    leaf_count : length (numbers leaves) ≡ inputs
+    leaf_count =
+        let d = length-drop 1 forms in
+        ap length leaves_is ∙ (length-take-le (inputs + 1 - 1) (drop 1 forms) (omega arith) ∙ (omega arith))
 
-      pub is_reduced : (samples : List Bool) → length samples ≡ n → IsReduced (plain_draft inputs samples nands links) (plain_graph one leaves classes lists)
-      is_reduced samples known =
-          subst (IsReduced (plain_draft inputs samples nands links)) graph_is (reduced n nands links names rows is few forms are count inputs samples one.0 (numbers leaves) (map plain_row lists) known at row_count leaf_count (one_is ∙ sym (name_of-double forms 0)) leaf_class)
-        where
-          leaf_class : (i : ℕ) → i < inputs → slice_get (numbers leaves) i ≡ Some (class_of graph (2 * (i + 1)))
-          leaf_class i lt =
-              let c = leaf_count in
-              let s : 1 + i ≡ i + 1 = omega arith in
-              slice_get-get_or (numbers leaves) i 0 (omega arith) ∙ ap Some (leaf_at i lt ∙ (ap (slice_index forms) s ∙ sym (name_of-double forms (i + 1))))
+    leaf_at : (i : ℕ) → i < inputs → get_or (numbers leaves) i 0 ≡ slice_index forms (1 + i)
+    leaf_at i lt =
+        ap (λ ls. get_or ls i 0) leaves_is ∙ (get_or-take (inputs + 1 - 1) (drop 1 forms) i 0 (omega arith) ∙ get_or-drop 1 forms i 0)
+
+    form_below : (k : ℕ) → k < n → slice_index forms k < 2 * pair_count 0 forms
+    form_below k lt = let b = are.below k (omega arith) in omega arith
+
+    pub is_graph : IsGraph (plain_graph one leaves classes lists)
+    is_graph = subst IsGraph graph_is (record {
+      even = let r = row_count in omega arith;
+      few = let r = row_count in let f = are.few in omega arith;
+      few_inputs = let l = leaf_count in omega arith;
+      one = let r = row_count in let b = form_below 0 (omega arith) in omega arith;
+      leaves = All-from_get_or (λ c. c < length (map plain_row lists)) (numbers leaves) 0 (λ i lt. let l = leaf_count in let r = row_count in let a = leaf_at i (omega arith) in let b = form_below (1 + i) (omega arith) in omega arith);
+      forms = All-from_get_or (λ c. c < length (map plain_row lists)) forms 0 (λ i lt. let r = row_count in let b = form_below i (omega arith) in omega arith);
+      pairs = All-from_get_or (λ row. All (IsBelow (length (map plain_row lists))) row) (map plain_row lists) [] (λ i lt. rows_below n nands links names rows is few forms are count inputs (replicate n false) one.0 (numbers leaves) (map plain_row lists) (length-replicate n false) members rises row_count i);
+      rising = rises;
+      once = pairs_once n nands links names rows is few forms are count inputs (replicate n false) one.0 (numbers leaves) (map plain_row lists) (length-replicate n false) members rises row_count;
+    })
+
+    pub is_reduced : (samples : List Bool) → length samples ≡ n → IsReduced (plain_draft inputs samples nands links) (plain_graph one leaves classes lists)
+    is_reduced samples known =
+        subst (IsReduced (plain_draft inputs samples nands links)) graph_is (reduced n nands links names rows is few forms are count inputs samples one.0 (numbers leaves) (map plain_row lists) known members rises row_count leaf_count (one_is ∙ sym (name_of-double forms 0)) leaf_class)
+      where
+        leaf_class : (i : ℕ) → i < inputs → slice_get (numbers leaves) i ≡ Some (class_of graph (2 * (i + 1)))
+        leaf_class i lt =
+            let c = leaf_count in
+            let s : 1 + i ≡ i + 1 = omega arith in
+            slice_get-get_or (numbers leaves) i 0 (omega arith) ∙ ap Some (leaf_at i lt ∙ (ap (slice_index forms) s ∙ sym (name_of-double forms (i + 1))))

@@ -14,10 +14,10 @@ use Rattle.lw_reduce.specs.Settling.{IsSettled, fact_key, no_fact, renamed_fact}
 use Rattle.lw_reduce.proofs.Keeping.{name_of-flip}
 use Rattle.lw_reduce.proofs.Strict.{default_same, same_rows}
 
-min_max_same : (a b c d : ℕ) → a ≡ c → b ≡ d → (min a b ≡ min c d) × (max a b ≡ max c d)
+pub min_max_same : (a b c d : ℕ) → a ≡ c → b ≡ d → (min a b ≡ min c d) × (max a b ≡ max c d)
 min_max_same a b c d e f = (ap₂ min e f, ap₂ max e f)
 
-min_max_turned : (a b c d : ℕ) → a ≡ d → b ≡ c → (min a b ≡ min c d) × (max a b ≡ max c d)
+pub min_max_turned : (a b c d : ℕ) → a ≡ d → b ≡ c → (min a b ≡ min c d) × (max a b ≡ max c d)
 min_max_turned a b c d e f = (omega arith, omega arith)
 
 module _ (n : ℕ) (nands : List Fact) (links : List Link) (names : List ℕ) (rows : List Fact) (is : IsSettled n nands links names rows) (few : n < 2 ^ 31) where
@@ -37,7 +37,7 @@ module _ (n : ℕ) (nands : List Fact) (links : List Link) (names : List ℕ) (r
       by_order (yes le) k = same_rows n nands links names rows is few i j le lj k
       by_order (no gt) k = sym (same_rows n nands links names rows is few j i (omega arith) li (sym k))
 
-  agree : (p q : Fact) → Contains nands p → Contains nands q → (min (name_of names p.left) (name_of names p.right) ≡ min (name_of names q.left) (name_of names q.right)) × (max (name_of names p.left) (name_of names p.right) ≡ max (name_of names q.left) (name_of names q.right)) → name_of names p.form ≡ name_of names q.form
+  pub agree : (p q : Fact) → Contains nands p → Contains nands q → (min (name_of names p.left) (name_of names p.right) ≡ min (name_of names q.left) (name_of names q.right)) × (max (name_of names p.left) (name_of names p.right) ≡ max (name_of names q.left) (name_of names q.right)) → name_of names p.form ≡ name_of names q.form
   agree p q a b (e, f) =
       ap (λ (r : Fact). r.form) (same_members (renamed_fact names p) (renamed_fact names q) (in_rows p a) (in_rows q b) (omega arith))
 

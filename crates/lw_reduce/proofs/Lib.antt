@@ -8,9 +8,9 @@ pub mod Spreading
 pub mod InPlace
 pub mod Members
 pub mod Roots
+pub mod RisingRows
 pub mod Strict
 pub mod Closed
 pub mod Reduced
 pub mod Drafting
 pub mod Assembled
-pub mod Ties

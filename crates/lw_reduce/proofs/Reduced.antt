@@ -1,31 +1,29 @@
 -- The graph of settled names: its classes, its pairs, and what its type keeps.
 use Rattle.std.proofs.Common.{ℕ, suc, zero, ◌+◌, ◌*◌, ◌/◌, ◌<◌, ◌≤◌, ◌≡◌, ◌^◌, ◌==◌, ◌⊎◌, ◌↔◌, inl, inr, min, max, Bool, true, false, cond, List, [], ◌∷◌, length, map, filter, get_or, All, Contains, refl, ap, sym, ◌∙◌, subst, subst₂, arith}
-use native.Mathlib.Decide.{dec_lt}
-use Rattle.std.specs.List.{dedup, slice_get}
+use Rattle.std.specs.List.{slice_get}
 use Rattle.std.specs.Prelude.{Some, slice_index_or}
 use Rattle.std.proofs.lemmas.List.Elements.{All-contains, Contains-get_or}
-use Rattle.std.proofs.lemmas.List.Sorted.{Contains-permutation, IsPermutation-sym}
 use Rattle.lw_laws.specs.Drafts.{Draft as PlainDraft, FormLink, NandFact, IsReduced, facts_of}
 use Rattle.lw_laws.specs.Encodings.{HasNand}
 use Rattle.lw_laws.specs.Families.{IsNand, Equivalent}
 use Rattle.lw_laws.specs.Families.Equivalent.{linked}
-use Rattle.lw_laws.specs.Graphs.{Graph as PlainGraph, Pair as PlainPair, AreRising, HoldsPair, IsPairBefore, PairsInOneClass, class_of, pair_count}
+use Rattle.lw_laws.specs.Graphs.{Graph as PlainGraph, Pair as PlainPair, AreRising, HoldsPair, PairsInOneClass, class_of, pair_count}
 use Rattle.lw_laws.proofs.Drafts.{Equivalent-weaker}
-use Rattle.lw_laws.proofs.Lists.{all_contains, contains_all, in_map}
+use Rattle.lw_laws.proofs.Lists.{in_map}
 use Rattle.lw_graph.specs.Graphs.{IsBelow}
 use Rattle.lw_reduce.specs.declared.facts.Fact.{Fact}
 use Rattle.lw_reduce.specs.declared.facts.Link.{Link}
 use Rattle.lw_reduce.specs.Classing.{AreClasses}
 use Rattle.lw_reduce.specs.Drafting.{plain_draft, plain_fact, plain_link}
 use Rattle.lw_reduce.specs.Names.{IsFactIn, family, name_of}
-use Rattle.lw_reduce.specs.Rows.{IsStrict, same_fact}
-use Rattle.lw_reduce.specs.Settling.{IsSettled, fact_key, renamed_fact}
-use Rattle.lw_reduce.specs.Spreading.{of_class}
-use Rattle.lw_reduce.proofs.Closed.{in_rows, named}
-use Rattle.lw_reduce.proofs.Members.{dedup_in, dedup_back, filter_in, filter_back, map_back}
+use Rattle.lw_reduce.specs.Rows.{IsOrdered}
+use Rattle.lw_reduce.specs.Settling.{IsSettled, renamed_fact}
+use Rattle.lw_reduce.specs.Spreading.{of_class, pair_of}
+use Rattle.lw_reduce.proofs.Closed.{agree, min_max_same, min_max_turned, named}
+use Rattle.lw_reduce.proofs.Members.{filter_in, filter_back, map_back}
 use Rattle.lw_reduce.proofs.Roots.{IsRoot, class_name, class_once, class_below}
 use Rattle.lw_reduce.proofs.Settling.{min_max}
-use Rattle.lw_reduce.proofs.Strict.{class_fact, fact_is, rows_strict, same_fact_is}
+use Rattle.lw_reduce.proofs.Strict.{fact_is}
 
 is_same : (a c : ℕ) → a ≡ c → (a == c) ≡ true
 is_same a c e = grind (arith, e)
@@ -33,54 +31,12 @@ is_same a c e = grind (arith, e)
 same_is : (a c : ℕ) → (a == c) ≡ true → a ≡ c
 same_is a c e = grind (arith, e)
 
--- strict lists have an element for a key once
-strict_once : (rows : List Fact) (r s : Fact) → IsStrict rows → Contains rows r → Contains rows s → fact_key r ≡ fact_key s → r ≡ s
-strict_once [] r s st (i, li, ei) c e = absurd (omega arith)
-strict_once (x ∷ rows) r s (a, st) (zero, li, ei) (zero, lj, ej) e = sym ei ∙ ej
-strict_once (x ∷ rows) r s (a, st) (zero, li, ei) (suc j, lj, ej) e =
-    let l = all_contains (λ q. fact_key x < fact_key q) rows s a (j, omega arith, ej) in
-    let k : fact_key x ≡ fact_key r = ap fact_key ei in
-    absurd (omega arith)
-strict_once (x ∷ rows) r s (a, st) (suc i, li, ei) (zero, lj, ej) e =
-    let l = all_contains (λ q. fact_key x < fact_key q) rows r a (i, omega arith, ei) in
-    let k : fact_key x ≡ fact_key s = ap fact_key ej in
-    absurd (omega arith)
-strict_once (x ∷ rows) r s (a, st) (suc i, li, ei) (suc j, lj, ej) e =
-    strict_once rows r s st (i, omega arith, ei) (j, omega arith, ej) e
-
-strict_filter : (p : Fact → Bool) (rows : List Fact) → IsStrict rows → IsStrict (filter p rows)
-strict_filter p [] st = tt
-strict_filter p (x ∷ rows) (a, st) = by_test (p x) (strict_filter p rows st)
-  where
-    by_test : (b : Bool) → IsStrict (filter p rows) → IsStrict (cond b (x ∷ filter p rows) (filter p rows))
-    by_test true s =
-        (contains_all (λ q. fact_key x < fact_key q) (filter p rows) (λ q c. all_contains (λ q. fact_key x < fact_key q) rows q a (filter_back p rows q c).0), s)
-    by_test false s = s
-
--- parts in order, and below 2 ^ 32
-record IsOrdered (r : Fact) : Type 0 where
-  order : r.left ≤ r.right
-  small : r.right < 2 ^ 32
-
-before : (r s : Fact) → IsOrdered r → IsOrdered s → fact_key r < fact_key s → IsPairBefore (record { x = r.left; y = r.right }) (record { x = s.left; y = s.right })
-before r s p q l = by_order (dec_lt r.left s.left) p.small q.small
-  where
-    by_order : Dec (r.left < s.left) → r.right < 2 ^ 32 → s.right < 2 ^ 32 → (r.left < s.left) ⊎ ((r.left ≡ s.left) × (r.right < s.right))
-    by_order (yes m) a b = inl m
-    by_order (no n) a b = inr (omega arith, omega arith)
-
 abbrev pub pairs_of : List Fact → List PlainPair
 pairs_of rows = map (λ (r : Fact). record { x = r.left; y = r.right }) rows
 
-rising : (rows : List Fact) → ((r : Fact) → Contains rows r → IsOrdered r) → IsStrict rows → AreRising (pairs_of rows)
-rising [] o st = tt
-rising (x ∷ rows) o (a, st) =
-    let ox = o x (0, omega arith, refl) in
-    (ox.order, contains_all (IsPairBefore (record { x = x.left; y = x.right })) (pairs_of rows) (λ q c. let (r, d, e) = map_back (λ (r : Fact). record { x = r.left; y = r.right }) rows q c in subst (IsPairBefore (record { x = x.left; y = x.right })) e (before x r ox (o r (let (k, l, f) = d in (suc k, omega arith, f))) (all_contains (λ q. fact_key x < fact_key q) rows r a d))), rising rows (λ r (k, l, f). o r (suc k, omega arith, f)) st)
-
 module _ (n : ℕ) (nands : List Fact) (links : List Link) (names : List ℕ) (rows : List Fact) (is : IsSettled n nands links names rows) (few : n < 2 ^ 31) (forms : List ℕ) (are : AreClasses names forms) (count : length forms ≡ n) where
   abbrev entries : List Fact
-  entries = dedup same_fact (map (renamed_fact forms) rows)
+  entries = map (renamed_fact forms) nands
 
   count' : length forms ≡ length names
   count' = let c = is.can.count in omega arith
@@ -90,16 +46,10 @@ module _ (n : ℕ) (nands : List Fact) (links : List Link) (names : List ℕ) (r
 
   -- the entries are the facts in terms of classes
   listed_in : (p : Fact) → Contains nands p → Contains entries (renamed_fact forms p)
-  listed_in p c =
-      let r = in_map (renamed_fact forms) rows (renamed_fact names p) (in_rows n nands links names rows is few p c) in
-      dedup_in same_fact same_fact_is (map (renamed_fact forms) rows) (renamed_fact forms p) (subst (λ q. Contains (map (renamed_fact forms) rows) q) (class_fact n nands links names rows is few forms are count p c) r)
+  listed_in p c = in_map (renamed_fact forms) nands p c
 
   listed_back : (r : Fact) → Contains entries r → (p : Fact) × Contains nands p × (renamed_fact forms p ≡ r)
-  listed_back r c =
-      let (s, d, e) = map_back (renamed_fact forms) rows r (dedup_back same_fact (map (renamed_fact forms) rows) r c) in
-      let m = Contains-permutation rows (map (renamed_fact names) nands) s (IsPermutation-sym (map (renamed_fact names) nands) rows is.permutation) d in
-      let (p, l, f) = map_back (renamed_fact names) nands s m in
-      (p, l, sym (class_fact n nands links names rows is few forms are count p l) ∙ (ap (renamed_fact forms) f ∙ e))
+  listed_back r c = map_back (renamed_fact forms) nands r c
 
   parts_in : (p : Fact) → Contains nands p → IsFactIn n p
   parts_in p c = All-contains (IsFactIn n) nands p is.can.nands_in c
@@ -110,13 +60,13 @@ module _ (n : ℕ) (nands : List Fact) (links : List Link) (names : List ℕ) (r
   small : (f : ℕ) → f / 2 < n → name_of forms f < 2 ^ 32
   small f lt = let b = below f lt in let g = are.few in omega arith
 
-  entry_ordered : (r : Fact) → Contains entries r → IsOrdered r
+  pub entry_ordered : (r : Fact) → Contains entries r → IsOrdered (pair_of r)
   entry_ordered r c =
       let (p, l, e) = listed_back r c in
       let in' = parts_in p l in
       let a = small p.left in'.1 in
       let b = small p.right in'.2 in
-      subst IsOrdered e (record { order = omega arith; small = omega arith })
+      subst (λ (q : Fact). IsOrdered (pair_of q)) e (omega arith, omega arith)
 
   -- a class and parts of it are below the number of classes
   pub entry_form : (r : Fact) → Contains entries r → r.form < 2 * pair_count 0 forms
@@ -132,10 +82,47 @@ module _ (n : ℕ) (nands : List Fact) (links : List Link) (names : List ℕ) (r
       let b = below p.right in'.2 in
       subst (λ (q : Fact). (q.left < 2 * pair_count 0 forms) × (q.right < 2 * pair_count 0 forms)) e (omega arith, omega arith)
 
-  strict : IsStrict entries
-  strict = rows_strict n nands links names rows is few forms are count
+  root : (f : ℕ) → f / 2 < n → IsRoot names (name_of names f)
+  root f lt = record {
+    within = known (name_of names f) (is.can.sound f lt).0;
+    own = is.flat f (known f lt);
+  }
 
-  module _ (inputs : ℕ) (samples : List Bool) (one : ℕ) (leaves : List ℕ) (pairs : List (List PlainPair)) (known_samples : length samples ≡ n) (at : (c : ℕ) → slice_index_or pairs c [] ≡ pairs_of (filter (of_class c) entries)) (classes : length pairs ≡ 2 * pair_count 0 forms) where
+  -- forms of one class have one name
+  one_name : (f h : ℕ) → f / 2 < n → h / 2 < n → name_of forms f ≡ name_of forms h → name_of names f ≡ name_of names h
+  one_name f h a b e =
+      let x = class_name names forms are count' f (known f a) in
+      let y = class_name names forms are count' h (known h b) in
+      class_once names forms are count' (name_of names f) (name_of names h) (root f a) (root h b) (x ∙ (e ∙ sym y))
+
+  -- facts whose parts have the same classes have forms of one class
+  one_class : (p q : Fact) → Contains nands p → Contains nands q → (renamed_fact forms p).left ≡ (renamed_fact forms q).left → (renamed_fact forms p).right ≡ (renamed_fact forms q).right → name_of forms p.form ≡ name_of forms q.form
+  one_class p q a b e f =
+      let i = parts_in p a in
+      let j = parts_in q b in
+      let x = class_name names forms are count' p.form (known p.form i.0) in
+      let y = class_name names forms are count' q.form (known q.form j.0) in
+      sym x ∙ (ap (name_of forms) (agree n nands links names rows is few p q a b (by_order (min_max (name_of forms p.left) (name_of forms p.right)) (min_max (name_of forms q.left) (name_of forms q.right)))) ∙ y)
+    where
+      same : name_of forms p.left ≡ name_of forms q.left → name_of forms p.right ≡ name_of forms q.right → (min (name_of names p.left) (name_of names p.right) ≡ min (name_of names q.left) (name_of names q.right)) × (max (name_of names p.left) (name_of names p.right) ≡ max (name_of names q.left) (name_of names q.right))
+      same c d =
+          let i = parts_in p a in
+          let j = parts_in q b in
+          min_max_same (name_of names p.left) (name_of names p.right) (name_of names q.left) (name_of names q.right) (one_name p.left q.left i.1 j.1 c) (one_name p.right q.right i.2 j.2 d)
+
+      turned' : name_of forms p.left ≡ name_of forms q.right → name_of forms p.right ≡ name_of forms q.left → (min (name_of names p.left) (name_of names p.right) ≡ min (name_of names q.left) (name_of names q.right)) × (max (name_of names p.left) (name_of names p.right) ≡ max (name_of names q.left) (name_of names q.right))
+      turned' c d =
+          let i = parts_in p a in
+          let j = parts_in q b in
+          min_max_turned (name_of names p.left) (name_of names p.right) (name_of names q.left) (name_of names q.right) (one_name p.left q.right i.1 j.2 c) (one_name p.right q.left i.2 j.1 d)
+
+      by_order : ((min (name_of forms p.left) (name_of forms p.right) ≡ name_of forms p.left) × (max (name_of forms p.left) (name_of forms p.right) ≡ name_of forms p.right)) ⊎ ((min (name_of forms p.left) (name_of forms p.right) ≡ name_of forms p.right) × (max (name_of forms p.left) (name_of forms p.right) ≡ name_of forms p.left)) → ((min (name_of forms q.left) (name_of forms q.right) ≡ name_of forms q.left) × (max (name_of forms q.left) (name_of forms q.right) ≡ name_of forms q.right)) ⊎ ((min (name_of forms q.left) (name_of forms q.right) ≡ name_of forms q.right) × (max (name_of forms q.left) (name_of forms q.right) ≡ name_of forms q.left)) → (min (name_of names p.left) (name_of names p.right) ≡ min (name_of names q.left) (name_of names q.right)) × (max (name_of names p.left) (name_of names p.right) ≡ max (name_of names q.left) (name_of names q.right))
+      by_order (inl (c, d)) (inl (g, h)) = same (sym c ∙ (e ∙ g)) (sym d ∙ (f ∙ h))
+      by_order (inl (c, d)) (inr (g, h)) = turned' (sym c ∙ (e ∙ g)) (sym d ∙ (f ∙ h))
+      by_order (inr (c, d)) (inl (g, h)) = turned' (sym d ∙ (f ∙ h)) (sym c ∙ (e ∙ g))
+      by_order (inr (c, d)) (inr (g, h)) = same (sym d ∙ (f ∙ h)) (sym c ∙ (e ∙ g))
+
+  module _ (inputs : ℕ) (samples : List Bool) (one : ℕ) (leaves : List ℕ) (pairs : List (List PlainPair)) (known_samples : length samples ≡ n) (members : (c : ℕ) (p : PlainPair) → Contains (slice_index_or pairs c []) p ↔ Contains (pairs_of (filter (of_class c) entries)) p) (rises : (c : ℕ) → AreRising (slice_index_or pairs c [])) (classes : length pairs ≡ 2 * pair_count 0 forms) where
     abbrev draft : PlainDraft
     draft = plain_draft inputs samples nands links
 
@@ -144,7 +131,7 @@ module _ (n : ℕ) (nands : List Fact) (links : List Link) (names : List ℕ) (r
 
     row_back : (c x y : ℕ) → Contains (slice_index_or pairs c []) (record { x = x; y = y }) → (r : Fact) × Contains entries r × (r.form ≡ c) × (r.left ≡ x) × (r.right ≡ y)
     row_back c x y h =
-        let m = subst (λ row. Contains row (record { x = x; y = y })) (at c) h in
+        let m = (members c (record { x = x; y = y })).0 h in
         let (r, d, e) = map_back (λ (r : Fact). record { x = r.left; y = r.right }) (filter (of_class c) entries) (record { x = x; y = y }) m in
         let (k, t) = filter_back (of_class c) entries r d in
         (r, k, same_is r.form c t, ap (λ (p : PlainPair). p.x) e, ap (λ (p : PlainPair). p.y) e)
@@ -152,7 +139,7 @@ module _ (n : ℕ) (nands : List Fact) (links : List Link) (names : List ℕ) (r
     row_in : (r : Fact) → Contains entries r → Contains (slice_index_or pairs r.form []) (record { x = r.left; y = r.right })
     row_in r k =
         let d = filter_in (of_class r.form) entries r k (is_same r.form r.form refl) in
-        subst (λ row. Contains row (record { x = r.left; y = r.right })) (sym (at r.form)) (in_map (λ (r : Fact). record { x = r.left; y = r.right }) (filter (of_class r.form) entries) r d)
+        (members r.form (record { x = r.left; y = r.right })).1 (in_map (λ (r : Fact). record { x = r.left; y = r.right }) (filter (of_class r.form) entries) r d)
 
     fact_in_draft : (f x y : ℕ) → Contains nands (record { form = f; left = x; right = y }) → Contains draft.nands (record { form = f; left = x; right = y })
     fact_in_draft f x y c = in_map plain_fact nands (record { form = f; left = x; right = y }) c
@@ -184,12 +171,6 @@ module _ (n : ℕ) (nands : List Fact) (links : List Link) (names : List ℕ) (r
     from_draft e =
         Equivalent-weaker (facts_of draft) (family n nands links) (λ f o. subst (λ m. f / 2 < m) known_samples o) nand_back (λ f h l. linked (link_back f h l)) e
 
-    root : (f : ℕ) → f / 2 < n → IsRoot names (name_of names f)
-    root f lt = record {
-      within = known (name_of names f) (is.can.sound f lt).0;
-      own = is.flat f (known f lt);
-    }
-
     classes_are : (f h : ℕ) → f / 2 < length samples → h / 2 < length samples → (class_of graph f ≡ class_of graph h) ↔ Equivalent (facts_of draft) f h
     classes_are f h o p =
         let a : f / 2 < n = subst (λ m. f / 2 < m) known_samples o in
@@ -197,7 +178,7 @@ module _ (n : ℕ) (nands : List Fact) (links : List Link) (names : List ℕ) (r
         let x = class_name names forms are count' f (known f a) in
         let y = class_name names forms are count' h (known h b) in
         let k = named n nands links names rows is few f h a b in
-        (λ e. to_draft (k.0 (class_once names forms are count' (name_of names f) (name_of names h) (root f a) (root h b) (x ∙ (e ∙ sym y)))), λ e. sym x ∙ (ap (name_of forms) (k.1 (from_draft e)) ∙ y))
+        (λ e. to_draft (k.0 (one_name f h a b e)), λ e. sym x ∙ (ap (name_of forms) (k.1 (from_draft e)) ∙ y))
 
     swapped : (c x y : ℕ) → HasNand (facts_of draft) graph c x y → HasNand (facts_of draft) graph c y x
     swapped c x y h = record {
@@ -273,27 +254,26 @@ module _ (n : ℕ) (nands : List Fact) (links : List Link) (names : List ℕ) (r
     pair_entry : (c x y : ℕ) → HoldsPair graph c x y → (r : Fact) × Contains entries r × (r.form ≡ c) × (r.left ≡ min x y) × (r.right ≡ max x y)
     pair_entry c x y (inl h) =
         let (r, k, f, l, t) = row_back c x y h in
-        let o = (entry_ordered r k).order in
+        let o = (entry_ordered r k).0 in
         (r, k, f, (omega arith), (omega arith))
     pair_entry c x y (inr h) =
         let (r, k, f, l, t) = row_back c y x h in
-        let o = (entry_ordered r k).order in
+        let o = (entry_ordered r k).0 in
         (r, k, f, (omega arith), (omega arith))
 
     pub pairs_once : PairsInOneClass graph
     pairs_once c d x y p q =
         let (r, k, f, l, t) = pair_entry c x y p in
         let (s, m, g, u, v) = pair_entry d x y q in
-        let e = strict_once entries r s strict k m (omega arith) in
-        sym f ∙ (ap (λ (z : Fact). z.form) e ∙ g)
-
-    pub rows_rise : (c : ℕ) → AreRising (slice_index_or pairs c [])
-    rows_rise c =
-        subst AreRising (sym (at c)) (rising (filter (of_class c) entries) (λ r m. entry_ordered r (filter_back (of_class c) entries r m).0) (strict_filter (of_class c) entries strict))
+        let (v', a, e) = listed_back r k in
+        let (w', b, h) = listed_back s m in
+        let left = ap (λ (z : Fact). z.left) e ∙ (l ∙ (sym u ∙ sym (ap (λ (z : Fact). z.left) h))) in
+        let right = ap (λ (z : Fact). z.right) e ∙ (t ∙ (sym v ∙ sym (ap (λ (z : Fact). z.right) h))) in
+        sym f ∙ (sym (ap (λ (z : Fact). z.form) e) ∙ (one_class v' w' a b left right ∙ (ap (λ (z : Fact). z.form) h ∙ g)))
 
     pub rows_below : (c : ℕ) → All (IsBelow (length pairs)) (slice_index_or pairs c [])
     rows_below c k d lt =
-        let m = subst (λ row. Contains row (get_or (slice_index_or pairs c []) k d)) (at c) (Contains-get_or (slice_index_or pairs c []) k d lt) in
+        let m = (members c (get_or (slice_index_or pairs c []) k d)).0 (Contains-get_or (slice_index_or pairs c []) k d lt) in
         let (r, q, e) = map_back (λ (r : Fact). record { x = r.left; y = r.right }) (filter (of_class c) entries) (get_or (slice_index_or pairs c []) k d) m in
         let (a, b) = entry_parts r (filter_back (of_class c) entries r q).0 in
         subst (IsBelow (length pairs)) e (omega arith, omega arith)
@@ -305,7 +285,7 @@ module _ (n : ℕ) (nands : List Fact) (links : List Link) (names : List ℕ) (r
         leaf_count = leaf_count;
         numbered = are.numbered;
         class_count = classes;
-        rising = rows_rise;
+        rising = rises;
       };
       one = one_is;
       leaves = leaves_are;

@@ -43,3 +43,7 @@ pub record IsSettled (n : ℕ) (nands : List Fact) (links : List Link) (names : 
   pub permutation : IsPermutation (map (renamed_fact names) nands) rows
   pub sorted : IsNonDecreasingBy fact_key rows
   pub agree : (place : ℕ) → 1 ≤ place → place < length rows → AgreesAt names rows place
+
+-- The names are settled, as some order of the facts shows.
+abbrev pub AreSettled : ℕ → List Fact → List Link → List ℕ → Type 0
+AreSettled n nands links names = (rows : List Fact) × IsSettled n nands links names rows

@@ -7,6 +7,7 @@ mod draft;
 mod facts;
 mod names;
 mod reduction;
+mod rising;
 mod rounds;
 mod rows;
 mod spread;

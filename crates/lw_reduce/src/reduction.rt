@@ -4,7 +4,7 @@ ghost use Rattle.lw_laws.specs.Drafts.{IsReduced};
 ghost use Rattle.lw_reduce.specs.Drafting.{plain_draft};
 ghost use Rattle.lw_reduce.specs.Classing.{mark};
 ghost use Rattle.lw_reduce.specs.Names.{CanName};
-ghost use Rattle.lw_reduce.specs.Settling.{IsSettled};
+ghost use Rattle.lw_reduce.specs.Settling.{AreSettled};
 
 use crate::Draft;
 use crate::classes::number;
@@ -48,17 +48,16 @@ fn graph_of(
     alloc: Global,
     inputs: u32,
     names: &[u32],
-    nands: &[Fact],
+    nands: Vec<Fact>,
     links: &[Link],
-    rows: Vec<Fact>,
 ) -> Result<Graph, AllocError>
-    requires settled { IsSettled (length names.now) nands.now links.now names.now rows.items }
+    requires settled { AreSettled (length names.now) nands.items links.now names.now }
     requires few { length names.now < 2 ^ 31 }
     requires inputs { inputs < length names.now }
-    ensures { IfOk result (λ graph. (samples : List Bool) → length samples ≡ length names.now → IsReduced (plain_draft inputs samples nands.now links.now) graph) }
+    ensures { IfOk result (λ graph. (samples : List Bool) → length samples ≡ length names.now → IsReduced (plain_draft inputs samples nands.items links.now) graph) }
 {
     let numbered = number(alloc, names)?;
-    let rows = class_rows(&numbered.forms, rows);
+    let rows = class_rows(&numbered.forms, nands);
     let lists = class_pairs(alloc, rows, numbered.pairs as usize * 2)?;
     let leaves = classes_of(alloc, &numbered.forms[1..inputs as usize + 1])?;
     let forms = classes_of(alloc, &numbered.forms)?;
@@ -71,16 +70,16 @@ fn graph_by(
     alloc: Global,
     inputs: u32,
     names: &mut [u32],
-    nands: &[Fact],
+    nands: Vec<Fact>,
     links: &[Link],
 ) -> Result<Graph, AllocError>
-    requires can { CanName (length names.old) nands.now links.now names.old }
+    requires can { CanName (length names.old) nands.items links.now names.old }
     requires few { length names.old < 2 ^ 31 }
     requires inputs { inputs < length names.old }
-    ensures { IfOk result (λ graph. (samples : List Bool) → length samples ≡ length names.old → IsReduced (plain_draft inputs samples nands.now links.now) graph) }
+    ensures { IfOk result (λ graph. (samples : List Bool) → length samples ≡ length names.old → IsReduced (plain_draft inputs samples nands.items links.now) graph) }
 {
-    let rows = settle(alloc, names, nands, links)?;
-    let graph = graph_of(alloc, inputs, names, nands, links, rows)?;
+    settle(alloc, names, &nands, links)?;
+    let graph = graph_of(alloc, inputs, names, nands, links)?;
     Ok(graph)
 }
 
@@ -100,6 +99,6 @@ pub fn reduce(alloc: Global, draft: Draft) -> Result<Graph, AllocError>
         links,
     } = draft;
     let mut names = own_names(alloc, &samples)?;
-    let graph = graph_by(alloc, inputs, &mut names, &nands, &links)?;
+    let graph = graph_by(alloc, inputs, &mut names, nands, &links)?;
     Ok(graph)
 }

@@ -1,8 +1,8 @@
 // Rounds of renaming, until one changes nothing.
-ghost use Rattle.std.specs.Prelude.{◌≡◌, ◌+◌, ◌-◌, ◌/◌, ◌^◌, ◌<◌, ◌≤◌, ℕ, length, map, vec_len, All, IfOk, IsTrue, IsFalse};
+ghost use Rattle.std.specs.Prelude.{◌≡◌, ◌+◌, ◌-◌, ◌/◌, ◌^◌, ◌<◌, ◌≤◌, ℕ, length, map, vec_len, All, IfOk, OnOk, IsTrue, IsFalse};
 ghost use Rattle.std.specs.List.Sorted.{IsNonDecreasingBy, IsPermutation};
 ghost use Rattle.lw_reduce.specs.Names.{CanName, IsFactIn, IsFlat, LinkAgrees, Progresses};
-ghost use Rattle.lw_reduce.specs.Settling.{AgreesAt, IsRenamed, IsSettled, fact_key, renamed_fact};
+ghost use Rattle.lw_reduce.specs.Settling.{AgreesAt, AreSettled, IsRenamed, IsSettled, fact_key, renamed_fact};
 
 use crate::cascade::cascade;
 use crate::facts::{Fact, Link};
@@ -131,21 +131,21 @@ fn round(
     })
 }
 
-// Goes on until a round changes nothing; then it has the facts in terms of names.
+// Goes on until a round changes nothing.
 pub(crate) fn settle(
     alloc: Global,
     names: &mut [u32],
     nands: &[Fact],
     links: &[Link],
-) -> Result<Vec<Fact>, AllocError>
+) -> Result<(), AllocError>
     requires { CanName (length names.old) nands.now links.now names.old }
-    ensures { IfOk result (λ rows. IsSettled (length names.old) nands.now links.now names.new rows.items) }
+    ensures { OnOk result (AreSettled (length names.old) nands.now links.now names.new) }
 {
     let _linked = join_linked(names, nands, links);
     'rounds: loop {
         let turn = round(alloc, names, nands, links)?;
         if !turn.changed {
-            return Ok(turn.rows);
+            return Ok(());
         }
         cascade(alloc, names, nands, links, &turn.rows)?;
     }

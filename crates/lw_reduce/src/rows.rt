@@ -1,8 +1,6 @@
 // Facts in terms of classes.
 ghost use Rattle.std.specs.Prelude.{◌≡◌, length, map, vec_len, All};
-ghost use Rattle.std.specs.List.{dedup};
 ghost use Rattle.lw_reduce.specs.Names.{IsFactIn};
-ghost use Rattle.lw_reduce.specs.Rows.{same_fact};
 ghost use Rattle.lw_reduce.specs.Settling.{renamed_fact};
 
 use crate::facts::Fact;
@@ -18,19 +16,11 @@ fn rename_all(rows: &mut [Fact], forms: &[u32])
     }
 }
 
-// Leaves one of each run of equal facts.
-fn distinct(rows: &mut Vec<Fact>)
-    ensures { rows.new.items ≡ dedup same_fact rows.old.items }
-{
-    rows.dedup();
-}
-
-// The facts in terms of classes, each once.
+// The facts in terms of classes.
 pub(crate) fn class_rows(forms: &[u32], mut rows: Vec<Fact>) -> Vec<Fact>
     requires { All (IsFactIn (length forms.now)) rows.items }
-    ensures { result.items ≡ dedup same_fact (map (renamed_fact forms.now) rows.items) }
+    ensures { result.items ≡ map (renamed_fact forms.now) rows.items }
 {
     rename_all(&mut rows, forms);
-    distinct(&mut rows);
     rows
 }

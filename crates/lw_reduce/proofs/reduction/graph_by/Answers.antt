@@ -1,10 +1,20 @@
-use Rattle.std.proofs.Common.{length, sym, ◌∙◌}
+use Rattle.std.proofs.Common.{length, sym, subst, ◌∙◌}
+use Rattle.lw_reduce.specs.Settling.{IsSettled}
 use Rattle.lw_reduce.proofs.Settling.{settled_at}
 use Rattle.lw_reduce.proofs.reduction.graph_by.Goals as goal
 
+pub settle-requires : goal.settle-requires
+settle-requires c = rw c.deref.ensures.value c.requires.can
+
 pub graph_of-requires-clause-settled : goal.graph_of-requires-clause-settled
 graph_of-requires-clause-settled c =
-    settled_at (length c.args.names.now) c.args.nands.now c.args.links.now c.settle.new.names c.in_ok-rows.rows.items c.in_ok-rows.ensures
+    let nands = c.args.nands.items in
+    let links = c.args.links.now in
+    let (rows, is) = c.in_ok-settle.ensures in
+    let is' = subst (λ fs. IsSettled (length c.args.names.now) fs links c.settle.new.names rows) c.deref.ensures.value is in
+    (rows, settled_at (length c.args.names.now) nands links c.settle.new.names rows is')
 
 pub returns : goal.returns
-returns c = λ samples e. c.in_ok-graph.ensures samples (e ∙ sym c.in_ok-rows.ensures.can.count)
+returns c =
+    let (rows, is) = c.in_ok-settle.ensures in
+    λ samples e. c.in_ok-graph.ensures samples (e ∙ sym is.can.count)

@@ -1,5 +1,5 @@
 use Rattle.std.proofs.Common.{ℕ, ◌≡◌, ◌<◌, ◌+◌, ◌*◌, ◌∙◌, [], length, map, filter, All, sym, ap, subst, arith}
-use Rattle.std.specs.List.{dedup, slice_range}
+use Rattle.std.specs.List.{slice_range}
 use Rattle.std.specs.Prelude.{slice_index_or}
 use Rattle.std.proofs.lemmas.Grind.{get_or_default_zero}
 use Rattle.lw_pool.specs.declared.id.ClassId.{ClassId}
@@ -8,61 +8,63 @@ use Rattle.lw_reduce.specs.declared.facts.Fact.{Fact}
 use Rattle.lw_reduce.specs.Classing.{mark}
 use Rattle.lw_reduce.specs.Drafting.{plain_draft}
 use Rattle.lw_reduce.specs.Names.{IsFactIn}
-use Rattle.lw_reduce.specs.Rows.{same_fact}
+use Rattle.lw_reduce.specs.Rows.{IsRowOf}
 use Rattle.lw_reduce.specs.Settling.{renamed_fact}
 use Rattle.lw_reduce.specs.Spreading.{of_class, pair_of}
-use Rattle.lw_reduce.proofs.Assembled.{entries_below, is_graph, is_reduced, rows_in}
+use Rattle.lw_reduce.proofs.Assembled.{entries_below, is_graph, is_reduced}
 use Rattle.lw_reduce.proofs.reduction.graph_of.Goals as goal
 
 pub class_rows-rows-requires : goal.class_rows-rows-requires
 class_rows-rows-requires c =
-    let n = length c.args.names.now in
-    let rows = c.args.rows.items in
+    let (rows, is) = c.requires.settled in
     let e = ap length c.deref.ensures.value ∙ c.in_ok-numbered.ensures.count in
-    subst (λ m. All (IsFactIn m) rows) (sym e) (rows_in n c.args.nands.now c.args.links.now c.args.names.now rows c.requires.settled c.requires.few)
+    subst (λ m. All (IsFactIn m) c.args.nands.items) (sym e) is.can.nands_in
 
 pub class_pairs-requires : goal.class_pairs-requires
 class_pairs-requires c =
     let n = length c.args.names.now in
-    let rows = c.args.rows.items in
+    let nands = c.args.nands.items in
+    let (rows, is) = c.requires.settled in
     let forms = c.in_ok-numbered.numbered.forms.items in
     let pairs = c.in_ok-numbered.numbered.pairs in
-    let e = c.class_rows-rows.ensures ∙ ap (λ fs. dedup same_fact (map (renamed_fact fs) rows)) c.deref.ensures.value in
+    let e = c.class_rows-rows.ensures ∙ ap (λ fs. map (renamed_fact fs) nands) c.deref.ensures.value in
     let p = c.in_ok-numbered.ensures.pairs in
-    subst (λ es. All (λ (r : Fact). r.form < pairs * 2) es) (sym e) (entries_below n c.args.nands.now c.args.links.now c.args.names.now rows c.requires.settled c.requires.few forms c.in_ok-numbered.ensures.classes c.in_ok-numbered.ensures.count (pairs * 2) (omega arith))
+    subst (λ es. All (λ (r : Fact). r.form < pairs * 2) es) (sym e) (entries_below n nands c.args.links.now c.args.names.now rows is c.requires.few forms c.in_ok-numbered.ensures.classes c.in_ok-numbered.ensures.count (pairs * 2) (omega arith))
 
 pub new-requires : goal.new-requires
 new-requires c =
     let n = length c.args.names.now in
-    let rows = c.args.rows.items in
+    let nands = c.args.nands.items in
+    let (rows, is) = c.requires.settled in
     let forms = c.in_ok-numbered.numbered.forms.items in
     let pairs = c.in_ok-numbered.numbered.pairs in
     let inputs = c.args.inputs in
     let lists = c.in_ok-lists.lists in
     let count = c.in_ok-numbered.ensures.count in
     let in' = c.requires.inputs in
-    let e = c.class_rows-rows.ensures ∙ ap (λ fs. dedup same_fact (map (renamed_fact fs) rows)) c.deref.ensures.value in
+    let e = c.class_rows-rows.ensures ∙ ap (λ fs. map (renamed_fact fs) nands) c.deref.ensures.value in
     let one : ClassId = record { 0 = c.index.result.now } in
     let one_is = c.index.ensures ∙ get_or_default_zero forms 0 c.index.result.now (omega arith) in
     let leaves_are = c.in_ok-leaves.ensures ∙ ap (λ fs. map mark (slice_range fs 1 (inputs + 1))) c.deref-2.ensures.value in
     let classes_are = c.in_ok-forms.ensures ∙ ap (map mark) c.deref-3.ensures.value in
-    let lists_are : (k : ℕ) → slice_index_or lists k [] ≡ map pair_of (filter (of_class k) (dedup same_fact (map (renamed_fact forms) rows))) = λ k. c.in_ok-lists.ensures.lists k ∙ ap (λ es. map pair_of (filter (of_class k) es)) e in
-    is_graph n c.args.nands.now c.args.links.now c.args.names.now rows c.requires.settled c.requires.few forms c.in_ok-numbered.ensures.classes count inputs c.requires.inputs one c.in_ok-leaves.leaves c.in_ok-forms.forms lists pairs one_is leaves_are classes_are c.in_ok-numbered.ensures.pairs c.in_ok-lists.ensures.count lists_are
+    let lists_are : (k : ℕ) → IsRowOf (map pair_of (filter (of_class k) (map (renamed_fact forms) nands))) (slice_index_or lists k []) = λ k. subst (λ es. IsRowOf (map pair_of (filter (of_class k) es)) (slice_index_or lists k [])) e (c.in_ok-lists.ensures.lists k) in
+    is_graph n nands c.args.links.now c.args.names.now rows is c.requires.few forms c.in_ok-numbered.ensures.classes count inputs c.requires.inputs one c.in_ok-leaves.leaves c.in_ok-forms.forms lists pairs one_is leaves_are classes_are c.in_ok-numbered.ensures.pairs c.in_ok-lists.ensures.count lists_are
 
 pub returns : goal.returns
 returns c =
     let n = length c.args.names.now in
-    let rows = c.args.rows.items in
+    let nands = c.args.nands.items in
+    let (rows, is) = c.requires.settled in
     let forms = c.in_ok-numbered.numbered.forms.items in
     let pairs = c.in_ok-numbered.numbered.pairs in
     let inputs = c.args.inputs in
     let lists = c.in_ok-lists.lists in
     let count = c.in_ok-numbered.ensures.count in
     let in' = c.requires.inputs in
-    let e = c.class_rows-rows.ensures ∙ ap (λ fs. dedup same_fact (map (renamed_fact fs) rows)) c.deref.ensures.value in
+    let e = c.class_rows-rows.ensures ∙ ap (λ fs. map (renamed_fact fs) nands) c.deref.ensures.value in
     let one : ClassId = record { 0 = c.index.result.now } in
     let one_is = c.index.ensures ∙ get_or_default_zero forms 0 c.index.result.now (omega arith) in
     let leaves_are = c.in_ok-leaves.ensures ∙ ap (λ fs. map mark (slice_range fs 1 (inputs + 1))) c.deref-2.ensures.value in
     let classes_are = c.in_ok-forms.ensures ∙ ap (map mark) c.deref-3.ensures.value in
-    let lists_are : (k : ℕ) → slice_index_or lists k [] ≡ map pair_of (filter (of_class k) (dedup same_fact (map (renamed_fact forms) rows))) = λ k. c.in_ok-lists.ensures.lists k ∙ ap (λ es. map pair_of (filter (of_class k) es)) e in
-    λ samples known. subst (IsReduced (plain_draft inputs samples c.args.nands.now c.args.links.now)) (sym c.new.ensures) (is_reduced n c.args.nands.now c.args.links.now c.args.names.now rows c.requires.settled c.requires.few forms c.in_ok-numbered.ensures.classes count inputs c.requires.inputs one c.in_ok-leaves.leaves c.in_ok-forms.forms lists pairs one_is leaves_are classes_are c.in_ok-numbered.ensures.pairs c.in_ok-lists.ensures.count lists_are samples known)
+    let lists_are : (k : ℕ) → IsRowOf (map pair_of (filter (of_class k) (map (renamed_fact forms) nands))) (slice_index_or lists k []) = λ k. subst (λ es. IsRowOf (map pair_of (filter (of_class k) es)) (slice_index_or lists k [])) e (c.in_ok-lists.ensures.lists k) in
+    λ samples known. subst (IsReduced (plain_draft inputs samples nands c.args.links.now)) (sym c.new.ensures) (is_reduced n nands c.args.links.now c.args.names.now rows is c.requires.few forms c.in_ok-numbered.ensures.classes count inputs c.requires.inputs one c.in_ok-leaves.leaves c.in_ok-forms.forms lists pairs one_is leaves_are classes_are c.in_ok-numbered.ensures.pairs c.in_ok-lists.ensures.count lists_are samples known)

@@ -1,4 +1,4 @@
-use Rattle.std.proofs.Common.{ℕ, ◌≡◌, ◌<◌, ◌*◌, ◌^◌, ◌∙◌, length, slice_index, sym, ap, subst, subst₂}
+use Rattle.std.proofs.Common.{ℕ, ◌≡◌, ◌<◌, ◌*◌, ◌^◌, ◌∙◌, length, slice_index, sym, ap, subst}
 use Rattle.lw_laws.specs.Drafts.{IsReduced}
 use Rattle.lw_reduce.specs.Drafting.{plain_draft}
 use Rattle.lw_reduce.proofs.Drafting.{own_can}
@@ -13,7 +13,7 @@ graph_by-requires-clause-can c =
     let names = c.in_ok-names.names.items in
     let count : length names ≡ length d.samples.items = c.in_ok-names.ensures.count ∙ ap length c.deref.ensures.value in
     let own : (b : ℕ) → b < length d.samples.items → slice_index names b ≡ 2 * b = subst (λ xs. (b : ℕ) → b < length xs → slice_index names b ≡ 2 * b) c.deref.ensures.value c.in_ok-names.ensures.own in
-    rw (c.deref_mut.ensures.value, c.deref-2.ensures.value, c.deref-3.ensures.value) (own_can d.inputs d.samples.items d.nands.items d.links.items c.draft.invariant names count own)
+    rw (c.deref_mut.ensures.value, c.deref-2.ensures.value) (own_can d.inputs d.samples.items d.nands.items d.links.items c.draft.invariant names count own)
 
 pub returns : goal.returns
 returns c =
@@ -22,4 +22,4 @@ returns c =
     let samples = d.samples.items in
     let count = ap length c.deref_mut.ensures.value ∙ (c.in_ok-names.ensures.count ∙ ap length c.deref.ensures.value) in
     let is = c.in_ok-graph.ensures samples (sym count) in
-    subst (λ draft. IsReduced draft graph) c.draft.view_is (subst₂ (λ nands links. IsReduced (plain_draft d.inputs samples nands links) graph) c.deref-2.ensures.value c.deref-3.ensures.value is)
+    subst (λ draft. IsReduced draft graph) c.draft.view_is (subst (λ links. IsReduced (plain_draft d.inputs samples d.nands.items links) graph) c.deref-2.ensures.value is)
