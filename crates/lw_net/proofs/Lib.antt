@@ -4,6 +4,7 @@ pub mod Moving
 pub mod Names
 pub mod Numbering
 pub mod Paths
+pub mod Ranks
 pub mod Rise
 pub mod Rising
 pub mod Searching

@@ -65,7 +65,7 @@ walk_step inputs graph seen at next below among all x is = by_place (cases_eq x 
     by_place (inl same) = subst (λ n. Leads inputs graph n (inputs + next)) (sym same) (one_step among)
     by_place (inr other) = leads_on inputs graph x (inputs + at) at (inputs + next) (all x (sym (get_or-set_other seen at x true false other) ∙ is)) refl among
 
-later_cases : (list : List ℕ) (at x : ℕ) → at < length list → Contains (drop at list) x → (get_or list at 0 ≡ x) ⊎ Contains (drop (at + 1) list) x
+pub later_cases : (list : List ℕ) (at x : ℕ) → at < length list → Contains (drop at list) x → (get_or list at 0 ≡ x) ⊎ Contains (drop (at + 1) list) x
 later_cases list at x below has = contains_cons (get_or list at 0) (drop (at + 1) list) x (subst (λ l. Contains l x) (drop_more list at 0 below) has)
 
 later_more : (list : List ℕ) (at x : ℕ) → at < length list → Contains (drop (at + 1) list) x → Contains (drop at list) x

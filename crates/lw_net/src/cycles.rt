@@ -2,8 +2,10 @@
 ghost use Rattle.std.specs.Prelude.{◌≡◌, ◌+◌, ◌*◌, ◌<◌, ◌≤◌, ◌↔◌, [], ℕ, false, length, drop, replicate, vec_len, IsTrue, IfOk, IfSome, IfNone, OnOk, Contains, All};
 ghost use Rattle.lw_net.specs.Networks.{most_nets};
 ghost use Rattle.lw_net.specs.Numbered.{IsGraph, fanins_at, height_at, AreHeights, IsStuck, Leads, IsFirst, unseen, IsSearching};
+ghost use Rattle.lw_net.specs.Ranking.{AreRanks};
 
 use crate::levels::open_fanin;
+use crate::ranking::{are_below, ranks};
 use lw_pool::Numbers;
 use std::alloc::{AllocError, Global};
 
@@ -37,7 +39,7 @@ fn stuck_fanin(inputs: usize, fanins: &[u32], heights: &[u32]) -> usize
 }
 
 // Nothing is seen yet.
-fn flags(alloc: Global, n: usize) -> Result<Vec<bool>, AllocError>
+pub(crate) fn flags(alloc: Global, n: usize) -> Result<Vec<bool>, AllocError>
     ensures { IfOk result (λ seen. seen.items ≡ replicate n false) }
 {
     let mut seen = Vec::with_capacity(alloc, n)?;
@@ -137,28 +139,32 @@ fn leads_to_itself(
     Ok(seen[p])
 }
 
-// Whether a node is on a cycle; one that has a height is not.
+// Whether a node is on a cycle; one that has a height is not, nor is one whose fan-ins are all below it.
 fn is_on_cycle(
     alloc: Global,
     inputs: usize,
     graph: &[Numbers],
     heights: &[u32],
+    ranks: &[usize],
     p: usize,
 ) -> Result<bool, AllocError>
     requires graph { IsGraph inputs graph.now }
     requires few { inputs + length graph.now ≤ most_nets }
     requires heights { AreHeights inputs graph.now heights.now }
+    requires ranks { AreRanks inputs graph.now ranks.now }
     requires within { p < length graph.now }
     ensures { IfOk result (λ b. IsTrue b ↔ Leads inputs graph.now p (inputs + p)) }
 {
     if heights[inputs + p] != 0 {
         return Ok(false);
     }
+    if are_below(ranks, inputs, graph[p].as_slice(), ranks[p]) {
+        return Ok(false);
+    }
     leads_to_itself(alloc, inputs, graph, p)
 }
 
-// The first node that leads to itself, where some node has no height. This goes through the graph once for each node before it that has
-// none, and is on no cycle.
+// The first node that leads to itself, where some node has no height. By the ranks, only a node on a cycle is searched from.
 pub(crate) fn first_on_cycle(
     alloc: Global,
     inputs: usize,
@@ -174,8 +180,9 @@ pub(crate) fn first_on_cycle(
     ensures { IfOk result (IsFirst inputs graph.now) }
 {
     let last = on_cycle(alloc, inputs, graph, heights, start)?;
+    let ranks = ranks(alloc, inputs, graph)?;
     for p in 0..last {
-        if is_on_cycle(alloc, inputs, graph, heights, p)? {
+        if is_on_cycle(alloc, inputs, graph, heights, &ranks, p)? {
             return Ok(p);
         }
     }

@@ -11,6 +11,8 @@ mod naming;
 mod network;
 mod node;
 mod order;
+mod ranking;
+mod turning;
 
 pub use draft::{Draft, DraftNode, DraftNodes};
 pub use fault::NetFault;

@@ -103,8 +103,7 @@ impl Network {
     ///
     /// `Undefined` names the first fan-in, by nodes and columns, or else the first output that nothing drives. Else `Cycle` names the
     /// first node that reaches itself through fan-ins. `Memory` is the one free answer. It works in time in proportion to the draft,
-    /// the sort by depth aside, but for a draft with a cycle, where it may go through the draft once for each node that only depends on
-    /// a cycle.
+    /// the sort by depth aside, and keeps its own stacks.
     pub fn close(alloc: Global, draft: Draft) -> Result<Network, NetFault>
         requires { IsDraft draft }
         ensures closed { IfOk result (IsClosed draft) }

@@ -1,6 +1,5 @@
 use Rattle.std.proofs.Common.{◌≡◌, ◌-◌, ◌<◌, length, map, All, [], sym, ap, ap₂, subst, ◌∙◌, arith}
 use Rattle.std.proofs.lemmas.List.{get_or_read}
-use Rattle.lw_net.specs.Closing.{net_in}
 use Rattle.lw_net.specs.Numbered.{net_at, fanins_at}
 use Rattle.lw_net.proofs.Moving.{node_with, row_below, moved_at, moved_all}
 use Rattle.lw_net.proofs.close.closed.Goals as goal
