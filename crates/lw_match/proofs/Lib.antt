@@ -15,6 +15,7 @@ pub mod MoreParts
 pub mod Nexts
 pub mod OfCells
 pub mod Pairs
+pub mod Passes
 pub mod Ranking
 pub mod Refusals
 pub mod Rooting

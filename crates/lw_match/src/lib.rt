@@ -18,6 +18,7 @@ mod query;
 mod renewing;
 mod search;
 mod seeking;
+mod settling;
 mod shapes;
 
 pub use bounds::Bounds;

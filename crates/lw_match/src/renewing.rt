@@ -48,7 +48,7 @@ fn renew_part(renewal: Renewal, part: usize, numbers: &mut [u64]) -> bool
 }
 
 // Whether one of the two is true.
-fn either(one: bool, other: bool) -> bool
+pub(crate) fn either(one: bool, other: bool) -> bool
     ensures { result ≡ (one || other) }
 {
     one || other
