@@ -1,4 +1,5 @@
 pub mod AllMatches
+pub mod BoundClasses
 pub mod Bounding
 pub mod Branches
 pub mod Candidates
