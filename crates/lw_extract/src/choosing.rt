@@ -2,6 +2,7 @@
 ghost use Rattle.std.specs.Prelude.{◌≡◌, ◌+◌, ◌-◌, ◌^◌, ◌<◌, All, IfOk, IsSome, length, reverse, Some, None, slice_index_or};
 ghost use Rattle.lw_laws.specs.Extracts.{IsLeafClass};
 ghost use Rattle.lw_match.specs.Least.{AreOfCells};
+ghost use Rattle.lw_match.specs.Bounds.{BoundsFit, AreBounds};
 ghost use Rattle.lw_label.specs.Labels.{AreLeastMarks};
 ghost use Rattle.lw_label.specs.Delays.{time_cost};
 ghost use Rattle.lw_extract.specs.Choosing.{AreChosen, AreRoots, HasAlso, IsChoice};
@@ -12,7 +13,7 @@ use crate::ordering::{Place, by_height};
 use lw_genlib::Library;
 use lw_graph::Graph;
 use lw_label::DelayCost;
-use lw_match::{Mark, Match, least_below};
+use lw_match::{Bounds, Mark, Match, least_within};
 use lw_pattern::Patterns;
 use lw_pool::{ClassId, NetId};
 use std::alloc::{AllocError, Global};
@@ -67,18 +68,22 @@ fn choice(
     graph: &Graph,
     pats: &Patterns,
     lib: &Library,
+    bounds: &Bounds,
     marks: &[Option<Mark>],
     class: ClassId,
 ) -> Option<Match>
     requires of_cells { AreOfCells (time_cost lib.now).pin_counts pats.now }
+    requires fits { BoundsFit bounds.now pats.now graph.now }
+    requires bounds { AreBounds bounds.now graph.now marks.now }
     requires least { AreLeastMarks graph.now (time_cost lib.now) pats.now marks.now }
     requires class { class.0 < length graph.now.pairs }
     requires no_leaf { IsLeafClass graph.now class.0 → ⊥ }
     ensures { (mark : _) → slice_index_or marks.now class.0 None ≡ Some mark → (found : _) × (result ≡ Some found) × IsChoice graph.now (time_cost lib.now) pats.now marks.now class.0 found }
 {
     let mark = marks[class.0 as usize]?;
-    let bound = next_after(mark);
-    let best = least_below(graph, pats, marks, class, &DelayCost::new(lib), bound)?;
+    let bound = Some(next_after(mark));
+    let cost = DelayCost::new(lib);
+    let best = least_within(graph, pats, bounds, marks, class, &cost, bound)?;
     Some(best.found)
 }
 
@@ -89,11 +94,14 @@ fn choose_down(
     graph: &Graph,
     pats: &Patterns,
     lib: &Library,
+    bounds: &Bounds,
     marks: &[Option<Mark>],
     roots: &[ClassId],
     places: &[Place],
 ) -> Result<Vec<Chosen>, AllocError>
     requires of_cells { AreOfCells (time_cost lib.now).pin_counts pats.now }
+    requires fits { BoundsFit bounds.now pats.now graph.now }
+    requires bounds { AreBounds bounds.now graph.now marks.now }
     requires least { AreLeastMarks graph.now (time_cost lib.now) pats.now marks.now }
     requires roots { All (λ root. root.0 < length graph.now.pairs) roots.now }
     requires covered { All (λ root. IsSome (slice_index_or marks.now root.0 None)) roots.now }
@@ -105,7 +113,7 @@ fn choose_down(
     for place in places.iter().rev() {
         let class = place.class;
         if needed[class.0 as usize] {
-            if let Some(found) = choice(graph, pats, lib, marks, class) {
+            if let Some(found) = choice(graph, pats, lib, bounds, marks, class) {
                 need(&mut needed, found.pins.as_slice());
                 chosen.push(Chosen { class, found })?;
             }
@@ -132,8 +140,9 @@ pub(crate) fn choose(
     ensures { IfOk result (λ chosen. AreChosen graph.now (time_cost lib.now) pats.now marks.now roots.now chosen.items) }
 {
     let _ = graph.classes();
+    let bounds = Bounds::settled(alloc, graph, pats, marks)?;
     let places = by_height(alloc, nets, marks)?;
-    let mut chosen = choose_down(alloc, graph, pats, lib, marks, roots, &places)?;
+    let mut chosen = choose_down(alloc, graph, pats, lib, &bounds, marks, roots, &places)?;
     chosen.reverse();
     Ok(chosen)
 }

@@ -13,8 +13,8 @@ next_after-bound-requires c =
 pub returns-in_err-best : goal.returns-in_err-best
 returns-in_err-best c = λ mark at.
     absurd (some_match c.args.graph.now (time_cost c.args.lib.now) c.args.pats.now c.args.marks.now c.requires.least c.args.class.0 c.in_ok-mark.mark (plain_mark c.next_after-bound.result) c.requires.no_leaf c.in_ok-mark.was
-        (before_next (plain_mark c.in_ok-mark.mark) (plain_mark c.next_after-bound.result) c.next_after-bound.ensures.cost c.next_after-bound.ensures.height)
-        (subst (λ (cells : List CellParts). IsLeastBelow c.args.graph.now (time_cost cells) c.args.pats.now (marks_in c.args.marks.now) c.args.class.0 (plain_mark c.next_after-bound.result) None) c.new.ensures c.in_err-best.ensures))
+    (before_next (plain_mark c.in_ok-mark.mark) (plain_mark c.next_after-bound.result) c.next_after-bound.ensures.cost c.next_after-bound.ensures.height)
+    (subst (λ (cells : List CellParts). IsLeastBelow c.args.graph.now (time_cost cells) c.args.pats.now (marks_in c.args.marks.now) c.args.class.0 (plain_mark c.next_after-bound.result) None) c.new.ensures c.in_err-best.ensures))
 
 pub returns : goal.returns
 returns c = λ mark at. (
