@@ -107,15 +107,15 @@ module _ (g : Graph) (cost : Cost) (pats : List Pattern) where
       let less = fall_label refl in
       passes_lower (state_weight cost) (IsLabelled g cost pats) (state b marks) (state next new) (λ n. n ≡ c) (let w : bounds_weight next + weight cost new < bounds_weight b + weight cost marks = omega (arith, low, less) in w)
   label_pass b next marks new c true false low fall_number same_number settled fall_label same_label bounded =
-      let less = fall_number tt in
+      let less = fall_number refl in
       let kept : weight cost new ≡ weight cost marks = ap (weight cost) (same_label refl) in
       passes_lower (state_weight cost) (IsLabelled g cost pats) (state b marks) (state next new) (λ n. n ≡ c) (let w : bounds_weight next + weight cost new < bounds_weight b + weight cost marks = omega (arith, less, kept) in w)
   label_pass b next marks new c false false low fall_number same_number settled fall_label same_label bounded =
-      let numbers : next ≡ b = same_number tt in
+      let numbers : next ≡ b = same_number refl in
       record {
         falls = λ e. absurd (true≢false (sym e));
         same = λ e. ap₂ state numbers (same_label refl);
-        still = λ e n at. subst (λ a. IsLabelled g cost pats (state b marks) a) (sym at) (settled tt, λ are. bounded refl (subst (λ k. AreBounds k g marks) (sym numbers) are));
+        still = λ e n at. subst (λ a. IsLabelled g cost pats (state b marks) a) (sym at) (settled refl, λ are. bounded refl (subst (λ k. AreBounds k g marks) (sym numbers) are));
       }
 
   -- once no number and no label would fall, the table is one of bounds, and no label would fall

@@ -196,7 +196,9 @@ fn raise_round<C: Cost>(
 {
     let mut changed = false;
     for number in 0..visits.len() {
-        let raised = raise_place(graph, pats, cost, bounds, labels, visits, marks, number, whole);
+        let raised = raise_place(
+            graph, pats, cost, bounds, labels, visits, marks, number, whole,
+        );
         changed = either(raised, changed);
     }
     changed
