@@ -1,5 +1,5 @@
 -- One more base form, split or link.
-use Rattle.std.proofs.Common.{◌≡◌, ◌+◌, ◌-◌, ◌*◌, ◌/◌, ◌%◌, ◌^◌, ◌<◌, ◌≤◌, ◌⊎◌, inl, inr, ℕ, zero, suc, Bool, true, false, not, ◌&&◌, List, [], ◌∷◌, ◌++◌, length, Option, Some, Contains, slice_get, slice_index_or, replicate, refl, ap, ap₂, sym, ◌∙◌, subst, arith, length-append, if◌then◌else◌, ◌==◌}
+use Rattle.std.proofs.Common.{◌≡◌, ◌+◌, ◌-◌, ◌*◌, ◌/◌, ◌%◌, ◌^◌, ◌<◌, ◌≤◌, ◌⊎◌, inl, inr, ℕ, zero, suc, Bool, true, false, not, ◌&&◌, List, [], ◌∷◌, ◌++◌, length, Option, Some, Contains, slice_get, slice_index, slice_index_or, replicate, refl, ap, ap₂, sym, ◌∙◌, subst, arith, length-append, if◌then◌else◌, ◌==◌}
 use native.Mathlib.Decide.{dec_lt}
 use Rattle.std.proofs.lemmas.List.Elements.{Contains-append_left, Contains-push, Contains-push_cases}
 use Rattle.lw_laws.specs.Modes.Mode.{plain}
@@ -14,6 +14,7 @@ use Rattle.lw_laws.proofs.NumberedValues.{form_values_fit}
 use Rattle.lw_form.specs.Bases.{picked}
 use Rattle.lw_form.specs.Kept.{AreForms}
 use Rattle.lw_assoc.specs.Drafting.{other, IsSplitBy, HasSplit, HasSplitsUpTo, IsSplitting, HasLinksUpTo, HasSamples, HasBases, AddsBases, AddsNands, AddsLinks, AddsSplit, first_draft, with_base, with_nand, with_link}
+use Rattle.lw_assoc.specs.Parts.{HasParts}
 use Rattle.lw_reduce.specs.Drafting.{sample_of, IsKnown}
 use Rattle.lw_assoc.proofs.Masks.{unpicked, cut_by, picked_other}
 
@@ -118,6 +119,10 @@ module _ (forms : NumberedForms) (are : AreForms forms) where
   pub mask_cut : (b mask rest x y : ℕ) (fs : List ℕ) → slice_get forms.bases b ≡ Some (base_and fs) → mask < 2 ^ length fs → rest ≡ other fs mask → IsPart forms (picked fs mask) x → IsPart forms (picked fs rest) y → IsCutOf forms (2 * b + 1) x y
   mask_cut b mask rest x y fs e lt r p q =
       (b, fs, picked fs mask, unpicked fs mask, e, refl, cut_by fs mask, p, subst (λ hs. IsPart forms hs y) (ap (picked fs) r ∙ picked_other fs mask lt) q)
+
+  pub parts_cut : (parts : List ℕ) (b mask rest : ℕ) (fs : List ℕ) → HasParts forms b 1 parts → slice_get forms.bases b ≡ Some (base_and fs) → 1 ≤ mask → 1 ≤ rest → mask < 2 ^ length fs → rest ≡ other fs mask → IsCutOf forms (2 * b + 1) (slice_index parts mask) (slice_index parts rest)
+  parts_cut parts b mask rest fs has e one some lt r =
+      mask_cut b mask rest (slice_index parts mask) (slice_index parts rest) fs e lt r (has fs mask e one lt) (has fs rest e some (omega arith))
 
   pub split_added : (old new : Draft) (b mask rest x y : ℕ) (fs : List ℕ) → slice_get forms.bases b ≡ Some (base_and fs) → rest ≡ other fs mask → IsPart forms (picked fs mask) x → IsPart forms (picked fs rest) y → new ≡ with_nand old (record { form = 2 * b + 1; left = x; right = y }) → AddsSplit forms b mask old new
   split_added old new b mask rest x y fs e r p q added = record {

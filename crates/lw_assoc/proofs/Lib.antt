@@ -1,5 +1,6 @@
 pub mod Built
 pub mod Counts
 pub mod Drafts
+pub mod Dropping
 pub mod Masks
 pub mod SameFacts

@@ -1,9 +1,12 @@
 // The draft of all splits and links of listed forms.
-ghost use Rattle.std.specs.Prelude.{◌≡◌, ◌+◌, ◌<◌, ℕ, List, Some, slice_get, length, OnOk, IfOk};
+ghost use Rattle.std.specs.Prelude.{◌≡◌, ◌+◌, ◌*◌, ◌<◌, ℕ, List, Some, slice_get, length, OnOk, IfOk};
 ghost use Rattle.lw_laws.specs.NumberedForms.Base.{base_and};
 ghost use Rattle.lw_form.specs.Kept.{AreForms, HasPart};
 ghost use Rattle.lw_assoc.specs.Drafting.{AddsBases, AddsLinks, AddsNands, AddsSplit, HasBases, HasLinksUpTo, HasSplitsUpTo, IsDraftOf, other};
+ghost use Rattle.lw_assoc.specs.Parts.{HasDrops, HasParts};
 
+use crate::drops::drops_of;
+use crate::parts::{MASKS, put_parts};
 use crate::splits::half_of;
 use lw_form::{Base, Forms};
 use lw_pool::{FormId, NetId};
@@ -26,6 +29,7 @@ fn add_bases(draft: &mut Draft, forms: &Forms) -> Result<(), AllocError>
 fn add_split(
     draft: &mut Draft,
     forms: &Forms,
+    parts: &[u32],
     b: u32,
     mask: u32,
     rest: u32,
@@ -34,17 +38,21 @@ fn add_split(
     requires bases { HasBases forms.now (length forms.now.bases) draft.old }
     requires left { HasPart forms.now b mask }
     requires right { HasPart forms.now b rest }
+    requires size { length parts.now ≡ 256 }
+    requires parts { HasParts forms.now b 1 parts.now }
     requires rest { (fs : List ℕ) → slice_get forms.now.bases b ≡ Some (base_and fs) → rest ≡ other fs mask }
     ensures { OnOk result (AddsSplit forms.now b mask draft.old draft.new) }
 {
-    let left = forms.part(b, mask);
-    let right = forms.part(b, rest);
+    let left = FormId(parts[mask as usize]);
+    let right = FormId(parts[rest as usize]);
     draft.nand(FormId(2 * b + 1), left, right)
 }
 
 // Adds the splits of a base form, of which an And alone has some. The last operand stands in the second part.
-fn add_splits(draft: &mut Draft, forms: &Forms, b: u32) -> Result<(), AllocError>
+fn add_splits(draft: &mut Draft, forms: &Forms, parts: &[u32], b: u32) -> Result<(), AllocError>
     requires within { b < length forms.now.bases }
+    requires size { length parts.now ≡ 256 }
+    requires parts { HasParts forms.now b 1 parts.now }
     requires bases { HasBases forms.now (length forms.now.bases) draft.old }
     requires before { HasSplitsUpTo forms.now b draft.old.nands }
     ensures splits { OnOk result (HasSplitsUpTo forms.now (b + 1) draft.new.nands) }
@@ -56,22 +64,43 @@ fn add_splits(draft: &mut Draft, forms: &Forms, b: u32) -> Result<(), AllocError
     let half = half_of(ids.len());
     let all = 2 * half - 1;
     for mask in 1..half {
-        add_split(draft, forms, b, mask, all - mask)?;
+        add_split(draft, forms, parts, b, mask, all - mask)?;
     }
     Ok(())
 }
 
 // Adds the splits of all base forms.
-fn add_all_splits(draft: &mut Draft, forms: &Forms) -> Result<(), AllocError>
+fn add_all_splits(
+    draft: &mut Draft,
+    forms: &Forms,
+    parts: &mut [u32],
+    drops: &[u32],
+) -> Result<(), AllocError>
     requires bases { HasBases forms.now (length forms.now.bases) draft.old }
+    requires size { length parts.old ≡ 256 }
+    requires drops_size { length drops.now ≡ 8 * length forms.now.bases }
+    requires drops { HasDrops forms.now (length forms.now.bases) drops.now }
     requires none { HasSplitsUpTo forms.now 0 draft.old.nands }
     ensures splits { OnOk result (HasSplitsUpTo forms.now (length forms.now.bases) draft.new.nands) }
     ensures kept { OnOk result (AddsNands draft.old draft.new) }
 {
     for b in 0..forms.len() {
-        add_splits(draft, forms, b)?;
+        put_parts(parts, forms, drops, b);
+        add_splits(draft, forms, parts, b)?;
     }
     Ok(())
+}
+
+// Adds the splits of all base forms, with memory for what they are found by.
+fn find_splits(alloc: Global, draft: &mut Draft, forms: &Forms) -> Result<(), AllocError>
+    requires bases { HasBases forms.now (length forms.now.bases) draft.old }
+    requires none { HasSplitsUpTo forms.now 0 draft.old.nands }
+    ensures splits { OnOk result (HasSplitsUpTo forms.now (length forms.now.bases) draft.new.nands) }
+    ensures kept { OnOk result (AddsNands draft.old draft.new) }
+{
+    let drops = drops_of(alloc, forms)?;
+    let mut parts = [0; MASKS];
+    add_all_splits(draft, forms, &mut parts, &drops)
 }
 
 // Links the two forms of each net.
@@ -93,7 +122,7 @@ pub(crate) fn draft_of(alloc: Global, forms: &Forms) -> Result<Draft, AllocError
 {
     let mut draft = Draft::new(alloc, forms.inputs())?;
     add_bases(&mut draft, forms)?;
-    add_all_splits(&mut draft, forms)?;
+    find_splits(alloc, &mut draft, forms)?;
     add_links(&mut draft, forms)?;
     Ok(draft)
 }

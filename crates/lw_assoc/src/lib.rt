@@ -2,8 +2,10 @@
 #![tactic(auto)]
 
 mod drafting;
+mod drops;
 mod fault;
 mod graph;
+mod parts;
 mod splits;
 
 pub use fault::GraphFault;

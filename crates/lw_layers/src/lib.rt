@@ -8,6 +8,8 @@ mod closures;
 #[cfg(test)]
 mod form_counts;
 #[cfg(test)]
+mod graph_counts;
+#[cfg(test)]
 mod libraries;
 #[cfg(test)]
 mod mapping;

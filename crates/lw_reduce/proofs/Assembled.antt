@@ -17,7 +17,7 @@ use Rattle.lw_reduce.specs.declared.facts.Link.{Link}
 use Rattle.lw_reduce.specs.Classing.{AreClasses, mark}
 use Rattle.lw_reduce.specs.Drafting.{plain_draft}
 use Rattle.lw_reduce.specs.Rows.{IsOrdered, IsRowOf}
-use Rattle.lw_reduce.specs.Settling.{IsSettled, renamed_fact}
+use Rattle.lw_reduce.specs.Settling.{AreSettled, renamed_fact}
 use Rattle.lw_reduce.specs.Spreading.{of_class, pair_of}
 use Rattle.lw_reduce.proofs.Classing.{name_of-double}
 use Rattle.lw_reduce.proofs.Members.{filter_back, map_back}
@@ -31,10 +31,10 @@ plain_pairs : (rows : List Fact) → plain_row (map pair_of rows) ≡ pairs_of r
 plain_pairs [] = refl
 plain_pairs (r ∷ rows) = ap (λ ps. record { x = r.left; y = r.right } ∷ ps) (plain_pairs rows)
 
-module _ (n : ℕ) (nands : List Fact) (links : List Link) (names : List ℕ) (rows : List Fact) (is : IsSettled n nands links names rows) (few : n < 2 ^ 31) (forms : List ℕ) (are : AreClasses names forms) (count : length forms ≡ n) where
+module _ (n : ℕ) (nands : List Fact) (links : List Link) (names : List ℕ) (is : AreSettled n nands links names) (few : n < 2 ^ 31) (forms : List ℕ) (are : AreClasses names forms) (count : length forms ≡ n) where
   pub entries_below : (m : ℕ) → m ≡ 2 * pair_count 0 forms → All (λ (r : Fact). r.form < m) (map (renamed_fact forms) nands)
   entries_below m e k d lt =
-      let b = entry_form n nands links names rows is few forms are count (get_or (map (renamed_fact forms) nands) k d) (Contains-get_or (map (renamed_fact forms) nands) k d lt) in
+      let b = entry_form n nands links names is few forms are count (get_or (map (renamed_fact forms) nands) k d) (Contains-get_or (map (renamed_fact forms) nands) k d lt) in
       omega arith
 
   module _ (inputs : ℕ) (inputs_in : inputs < n) (one : ClassId) (leaves classes : List ClassId) (lists : List (List Pair)) (pairs : ℕ) (one_is : one.0 ≡ slice_index forms 0) (leaves_are : leaves ≡ map mark (slice_range forms 1 (inputs + 1))) (classes_are : classes ≡ map mark forms) (pairs_is : pairs ≡ pair_count 0 forms) (lists_count : length lists ≡ pairs * 2) (lists_are : (c : ℕ) → IsRowOf (map pair_of (filter (of_class c) (map (renamed_fact forms) nands))) (slice_index_or lists c [])) where
@@ -67,7 +67,7 @@ module _ (n : ℕ) (nands : List Fact) (links : List Link) (names : List ℕ) (r
 
     rises : (c : ℕ) → AreRising (slice_index_or (map plain_row lists) c [])
     rises c =
-        subst AreRising (sym (at c)) ((lists_are c).rising (All-map IsOrdered pair_of (own c) (λ k d lt. entry_ordered n nands links names rows is few forms are count (get_or (own c) k d) (filter_back (of_class c) (map (renamed_fact forms) nands) (get_or (own c) k d) (Contains-get_or (own c) k d lt)).0)))
+        subst AreRising (sym (at c)) ((lists_are c).rising (All-map IsOrdered pair_of (own c) (λ k d lt. entry_ordered n nands links names is few forms are count (get_or (own c) k d) (filter_back (of_class c) (map (renamed_fact forms) nands) (get_or (own c) k d) (Contains-get_or (own c) k d lt)).0)))
 
     row_count : length (map plain_row lists) ≡ 2 * pair_count 0 forms
     row_count = length-map lists plain_row ∙ (lists_count ∙ (omega arith))
@@ -95,14 +95,14 @@ module _ (n : ℕ) (nands : List Fact) (links : List Link) (names : List ℕ) (r
       one = let r = row_count in let b = form_below 0 (omega arith) in omega arith;
       leaves = All-from_get_or (λ c. c < length (map plain_row lists)) (numbers leaves) 0 (λ i lt. let l = leaf_count in let r = row_count in let a = leaf_at i (omega arith) in let b = form_below (1 + i) (omega arith) in omega arith);
       forms = All-from_get_or (λ c. c < length (map plain_row lists)) forms 0 (λ i lt. let r = row_count in let b = form_below i (omega arith) in omega arith);
-      pairs = All-from_get_or (λ row. All (IsBelow (length (map plain_row lists))) row) (map plain_row lists) [] (λ i lt. rows_below n nands links names rows is few forms are count inputs (replicate n false) one.0 (numbers leaves) (map plain_row lists) (length-replicate n false) members rises row_count i);
+      pairs = All-from_get_or (λ row. All (IsBelow (length (map plain_row lists))) row) (map plain_row lists) [] (λ i lt. rows_below n nands links names is few forms are count inputs (replicate n false) one.0 (numbers leaves) (map plain_row lists) (length-replicate n false) members rises row_count i);
       rising = rises;
-      once = pairs_once n nands links names rows is few forms are count inputs (replicate n false) one.0 (numbers leaves) (map plain_row lists) (length-replicate n false) members rises row_count;
+      once = pairs_once n nands links names is few forms are count inputs (replicate n false) one.0 (numbers leaves) (map plain_row lists) (length-replicate n false) members rises row_count;
     })
 
     pub is_reduced : (samples : List Bool) → length samples ≡ n → IsReduced (plain_draft inputs samples nands links) (plain_graph one leaves classes lists)
     is_reduced samples known =
-        subst (IsReduced (plain_draft inputs samples nands links)) graph_is (reduced n nands links names rows is few forms are count inputs samples one.0 (numbers leaves) (map plain_row lists) known members rises row_count leaf_count (one_is ∙ sym (name_of-double forms 0)) leaf_class)
+        subst (IsReduced (plain_draft inputs samples nands links)) graph_is (reduced n nands links names is few forms are count inputs samples one.0 (numbers leaves) (map plain_row lists) known members rises row_count leaf_count (one_is ∙ sym (name_of-double forms 0)) leaf_class)
       where
         leaf_class : (i : ℕ) → i < inputs → slice_get (numbers leaves) i ≡ Some (class_of graph (2 * (i + 1)))
         leaf_class i lt =

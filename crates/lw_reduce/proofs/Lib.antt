@@ -10,6 +10,7 @@ pub mod Members
 pub mod Roots
 pub mod RisingRows
 pub mod Strict
+pub mod Agreeing
 pub mod Closed
 pub mod Reduced
 pub mod Drafting

@@ -1,5 +1,5 @@
 -- The graph of settled names: its classes, its pairs, and what its type keeps.
-use Rattle.std.proofs.Common.{ℕ, suc, zero, ◌+◌, ◌*◌, ◌/◌, ◌<◌, ◌≤◌, ◌≡◌, ◌^◌, ◌==◌, ◌⊎◌, ◌↔◌, inl, inr, min, max, Bool, true, false, cond, List, [], ◌∷◌, length, map, filter, get_or, All, Contains, refl, ap, sym, ◌∙◌, subst, subst₂, arith}
+use Rattle.std.proofs.Common.{ℕ, ◌+◌, ◌*◌, ◌/◌, ◌<◌, ◌≡◌, ◌^◌, ◌==◌, ◌⊎◌, ◌↔◌, inl, inr, min, max, Bool, true, List, [], length, map, filter, get_or, All, Contains, refl, ap, sym, ◌∙◌, subst, subst₂, arith}
 use Rattle.std.specs.List.{slice_get}
 use Rattle.std.specs.Prelude.{Some, slice_index_or}
 use Rattle.std.proofs.lemmas.List.Elements.{All-contains, Contains-get_or}
@@ -17,7 +17,7 @@ use Rattle.lw_reduce.specs.Classing.{AreClasses}
 use Rattle.lw_reduce.specs.Drafting.{plain_draft, plain_fact, plain_link}
 use Rattle.lw_reduce.specs.Names.{IsFactIn, family, name_of}
 use Rattle.lw_reduce.specs.Rows.{IsOrdered}
-use Rattle.lw_reduce.specs.Settling.{IsSettled, renamed_fact}
+use Rattle.lw_reduce.specs.Settling.{AreSettled, renamed_fact}
 use Rattle.lw_reduce.specs.Spreading.{of_class, pair_of}
 use Rattle.lw_reduce.proofs.Closed.{agree, min_max_same, min_max_turned, named}
 use Rattle.lw_reduce.proofs.Members.{filter_in, filter_back, map_back}
@@ -34,7 +34,7 @@ same_is a c e = grind (arith, e)
 abbrev pub pairs_of : List Fact → List PlainPair
 pairs_of rows = map (λ (r : Fact). record { x = r.left; y = r.right }) rows
 
-module _ (n : ℕ) (nands : List Fact) (links : List Link) (names : List ℕ) (rows : List Fact) (is : IsSettled n nands links names rows) (few : n < 2 ^ 31) (forms : List ℕ) (are : AreClasses names forms) (count : length forms ≡ n) where
+module _ (n : ℕ) (nands : List Fact) (links : List Link) (names : List ℕ) (is : AreSettled n nands links names) (few : n < 2 ^ 31) (forms : List ℕ) (are : AreClasses names forms) (count : length forms ≡ n) where
   abbrev entries : List Fact
   entries = map (renamed_fact forms) nands
 
@@ -102,7 +102,7 @@ module _ (n : ℕ) (nands : List Fact) (links : List Link) (names : List ℕ) (r
       let j = parts_in q b in
       let x = class_name names forms are count' p.form (known p.form i.0) in
       let y = class_name names forms are count' q.form (known q.form j.0) in
-      sym x ∙ (ap (name_of forms) (agree n nands links names rows is few p q a b (by_order (min_max (name_of forms p.left) (name_of forms p.right)) (min_max (name_of forms q.left) (name_of forms q.right)))) ∙ y)
+      sym x ∙ (ap (name_of forms) (agree n nands links names is p q a b (by_order (min_max (name_of forms p.left) (name_of forms p.right)) (min_max (name_of forms q.left) (name_of forms q.right)))) ∙ y)
     where
       same : name_of forms p.left ≡ name_of forms q.left → name_of forms p.right ≡ name_of forms q.right → (min (name_of names p.left) (name_of names p.right) ≡ min (name_of names q.left) (name_of names q.right)) × (max (name_of names p.left) (name_of names p.right) ≡ max (name_of names q.left) (name_of names q.right))
       same c d =
@@ -177,7 +177,7 @@ module _ (n : ℕ) (nands : List Fact) (links : List Link) (names : List ℕ) (r
         let b : h / 2 < n = subst (λ m. h / 2 < m) known_samples p in
         let x = class_name names forms are count' f (known f a) in
         let y = class_name names forms are count' h (known h b) in
-        let k = named n nands links names rows is few f h a b in
+        let k = named n nands links names is f h a b in
         (λ e. to_draft (k.0 (one_name f h a b e)), λ e. sym x ∙ (ap (name_of forms) (k.1 (from_draft e)) ∙ y))
 
     swapped : (c x y : ℕ) → HasNand (facts_of draft) graph c x y → HasNand (facts_of draft) graph c y x

@@ -64,6 +64,3 @@ module _ (n : ℕ) (nands : List Fact) (links : List Link) where
       by_place : (place : ℕ) → 1 ≤ place → place < i + 1 → Dec (place ≡ i) → AgreesAt old rows i → AgreesAt old rows place
       by_place place a b (yes e) here = subst (λ k. AgreesAt old rows k) (sym e) here
       by_place place a b (no ne) here = agree place a (omega arith)
-
-  pub settled_at : (names : List ℕ) (rows : List Fact) → IsSettled n nands links names rows → IsSettled (length names) nands links names rows
-  settled_at names rows is = subst (λ m. IsSettled m nands links names rows) (sym is.can.count) is

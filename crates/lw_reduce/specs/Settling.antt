@@ -44,6 +44,18 @@ pub record IsSettled (n : ℕ) (nands : List Fact) (links : List Link) (names : 
   pub sorted : IsNonDecreasingBy fact_key rows
   pub agree : (place : ℕ) → 1 ≤ place → place < length rows → AgreesAt names rows place
 
--- The names are settled, as some order of the facts shows.
-abbrev pub AreSettled : ℕ → List Fact → List Link → List ℕ → Type 0
-AreSettled n nands links names = (rows : List Fact) × IsSettled n nands links names rows
+-- the names are flat, linked forms have one name, and so have forms of facts whose parts have the same names
+pub record AreSettled (n : ℕ) (nands : List Fact) (links : List Link) (names : List ℕ) : Type 0 where
+  pub can : CanName n nands links names
+  pub flat : IsFlat names
+  pub linked : All (LinkAgrees names) links
+  pub agree : (p q : Fact) → Contains nands p → Contains nands q → (renamed_fact names p).left ≡ (renamed_fact names q).left → (renamed_fact names p).right ≡ (renamed_fact names q).right → name_of names p.form ≡ name_of names q.form
+
+-- the names of a fact's parts as one number
+abbrev pub parts_key : List ℕ → Fact → ℕ
+parts_key names p = fact_key (renamed_fact names p)
+
+-- no two facts have parts of the same names
+abbrev pub HaveOwnParts : List ℕ → List Fact → Type 0
+HaveOwnParts names nands =
+    (p q : Fact) → Contains nands p → Contains nands q → parts_key names p ≡ parts_key names q → p ≡ q

@@ -1,9 +1,9 @@
-// A form that is the NAND of two.
+// A form that is the NAND of two. The parts stand first, the right one before the left, as one number of the processor.
 #[derive(Clone, Copy, Debug, PartialEq, Eq)]
 pub(crate) struct Fact {
-    pub(crate) form: u32,
-    pub(crate) left: u32,
     pub(crate) right: u32,
+    pub(crate) left: u32,
+    pub(crate) form: u32,
 }
 
 // Two forms of one signal.

@@ -1,6 +1,7 @@
 //! Drafts of forms with their facts, and the graph of the classes of equivalent forms.
 #![tactic(auto)]
 
+mod apart;
 mod cascade;
 mod classes;
 mod draft;

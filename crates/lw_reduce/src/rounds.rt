@@ -4,6 +4,7 @@ ghost use Rattle.std.specs.List.Sorted.{IsNonDecreasingBy, IsPermutation};
 ghost use Rattle.lw_reduce.specs.Names.{CanName, IsFactIn, IsFlat, LinkAgrees, Progresses};
 ghost use Rattle.lw_reduce.specs.Settling.{AgreesAt, AreSettled, IsRenamed, IsSettled, fact_key, renamed_fact};
 
+use crate::apart::have_own_parts;
 use crate::cascade::cascade;
 use crate::facts::{Fact, Link};
 use crate::names::{flatten, name, unify};
@@ -131,6 +132,26 @@ fn round(
     })
 }
 
+// Whether names are settled that are made flat, with no look at the order of facts: linked forms have one name, and each fact has parts
+// of its own.
+fn are_settled(
+    alloc: Global,
+    names: &mut [u32],
+    nands: &[Fact],
+    links: &[Link],
+) -> Result<bool, AllocError>
+    requires { CanName (length names.old) nands.now links.now names.old }
+    ensures can { IfOk result (λ own. CanName (length names.old) nands.now links.now names.new) }
+    ensures settled { IfOk result (λ own. IsTrue own → AreSettled (length names.old) nands.now links.now names.new) }
+{
+    flatten(names, nands, links);
+    if join_linked(names, nands, links) {
+        return Ok(false);
+    }
+    let own = have_own_parts(alloc, names, nands)?;
+    Ok(own)
+}
+
 // Goes on until a round changes nothing.
 pub(crate) fn settle(
     alloc: Global,
@@ -138,10 +159,14 @@ pub(crate) fn settle(
     nands: &[Fact],
     links: &[Link],
 ) -> Result<(), AllocError>
-    requires { CanName (length names.old) nands.now links.now names.old }
+    requires can { CanName (length names.old) nands.now links.now names.old }
+    requires few { length names.old < 2 ^ 31 }
     ensures { OnOk result (AreSettled (length names.old) nands.now links.now names.new) }
 {
     let _linked = join_linked(names, nands, links);
+    if are_settled(alloc, names, nands, links)? {
+        return Ok(());
+    }
     'rounds: loop {
         let turn = round(alloc, names, nands, links)?;
         if !turn.changed {

@@ -1,4 +1,4 @@
-use Rattle.std.proofs.Common.{ℕ, ◌≡◌, ◌<◌, ◌+◌, ◌*◌, ◌∙◌, [], length, map, filter, All, sym, ap, subst, arith}
+use Rattle.std.proofs.Common.{ℕ, ◌<◌, ◌+◌, ◌*◌, ◌∙◌, [], length, map, filter, All, sym, ap, subst, arith}
 use Rattle.std.specs.List.{slice_range}
 use Rattle.std.specs.Prelude.{slice_index_or}
 use Rattle.std.proofs.lemmas.Grind.{get_or_default_zero}
@@ -16,7 +16,7 @@ use Rattle.lw_reduce.proofs.reduction.graph_of.Goals as goal
 
 pub class_rows-rows-requires : goal.class_rows-rows-requires
 class_rows-rows-requires c =
-    let (rows, is) = c.requires.settled in
+    let is = c.requires.settled in
     let e = ap length c.deref.ensures.value ∙ c.in_ok-numbered.ensures.count in
     subst (λ m. All (IsFactIn m) c.args.nands.items) (sym e) is.can.nands_in
 
@@ -24,18 +24,18 @@ pub class_pairs-requires : goal.class_pairs-requires
 class_pairs-requires c =
     let n = length c.args.names.now in
     let nands = c.args.nands.items in
-    let (rows, is) = c.requires.settled in
+    let is = c.requires.settled in
     let forms = c.in_ok-numbered.numbered.forms.items in
     let pairs = c.in_ok-numbered.numbered.pairs in
     let e = c.class_rows-rows.ensures ∙ ap (λ fs. map (renamed_fact fs) nands) c.deref.ensures.value in
     let p = c.in_ok-numbered.ensures.pairs in
-    subst (λ es. All (λ (r : Fact). r.form < pairs * 2) es) (sym e) (entries_below n nands c.args.links.now c.args.names.now rows is c.requires.few forms c.in_ok-numbered.ensures.classes c.in_ok-numbered.ensures.count (pairs * 2) (omega arith))
+    subst (λ es. All (λ (r : Fact). r.form < pairs * 2) es) (sym e) (entries_below n nands c.args.links.now c.args.names.now is c.requires.few forms c.in_ok-numbered.ensures.classes c.in_ok-numbered.ensures.count (pairs * 2) (omega arith))
 
 pub new-requires : goal.new-requires
 new-requires c =
     let n = length c.args.names.now in
     let nands = c.args.nands.items in
-    let (rows, is) = c.requires.settled in
+    let is = c.requires.settled in
     let forms = c.in_ok-numbered.numbered.forms.items in
     let pairs = c.in_ok-numbered.numbered.pairs in
     let inputs = c.args.inputs in
@@ -48,13 +48,13 @@ new-requires c =
     let leaves_are = c.in_ok-leaves.ensures ∙ ap (λ fs. map mark (slice_range fs 1 (inputs + 1))) c.deref-2.ensures.value in
     let classes_are = c.in_ok-forms.ensures ∙ ap (map mark) c.deref-3.ensures.value in
     let lists_are : (k : ℕ) → IsRowOf (map pair_of (filter (of_class k) (map (renamed_fact forms) nands))) (slice_index_or lists k []) = λ k. subst (λ es. IsRowOf (map pair_of (filter (of_class k) es)) (slice_index_or lists k [])) e (c.in_ok-lists.ensures.lists k) in
-    is_graph n nands c.args.links.now c.args.names.now rows is c.requires.few forms c.in_ok-numbered.ensures.classes count inputs c.requires.inputs one c.in_ok-leaves.leaves c.in_ok-forms.forms lists pairs one_is leaves_are classes_are c.in_ok-numbered.ensures.pairs c.in_ok-lists.ensures.count lists_are
+    is_graph n nands c.args.links.now c.args.names.now is c.requires.few forms c.in_ok-numbered.ensures.classes count inputs c.requires.inputs one c.in_ok-leaves.leaves c.in_ok-forms.forms lists pairs one_is leaves_are classes_are c.in_ok-numbered.ensures.pairs c.in_ok-lists.ensures.count lists_are
 
 pub returns : goal.returns
 returns c =
     let n = length c.args.names.now in
     let nands = c.args.nands.items in
-    let (rows, is) = c.requires.settled in
+    let is = c.requires.settled in
     let forms = c.in_ok-numbered.numbered.forms.items in
     let pairs = c.in_ok-numbered.numbered.pairs in
     let inputs = c.args.inputs in
@@ -67,4 +67,4 @@ returns c =
     let leaves_are = c.in_ok-leaves.ensures ∙ ap (λ fs. map mark (slice_range fs 1 (inputs + 1))) c.deref-2.ensures.value in
     let classes_are = c.in_ok-forms.ensures ∙ ap (map mark) c.deref-3.ensures.value in
     let lists_are : (k : ℕ) → IsRowOf (map pair_of (filter (of_class k) (map (renamed_fact forms) nands))) (slice_index_or lists k []) = λ k. subst (λ es. IsRowOf (map pair_of (filter (of_class k) es)) (slice_index_or lists k [])) e (c.in_ok-lists.ensures.lists k) in
-    λ samples known. subst (IsReduced (plain_draft inputs samples nands c.args.links.now)) (sym c.new.ensures) (is_reduced n nands c.args.links.now c.args.names.now rows is c.requires.few forms c.in_ok-numbered.ensures.classes count inputs c.requires.inputs one c.in_ok-leaves.leaves c.in_ok-forms.forms lists pairs one_is leaves_are classes_are c.in_ok-numbered.ensures.pairs c.in_ok-lists.ensures.count lists_are samples known)
+    λ samples known. subst (IsReduced (plain_draft inputs samples nands c.args.links.now)) (sym c.new.ensures) (is_reduced n nands c.args.links.now c.args.names.now is c.requires.few forms c.in_ok-numbered.ensures.classes count inputs c.requires.inputs one c.in_ok-leaves.leaves c.in_ok-forms.forms lists pairs one_is leaves_are classes_are c.in_ok-numbered.ensures.pairs c.in_ok-lists.ensures.count lists_are samples known)

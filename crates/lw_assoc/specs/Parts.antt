@@ -1,0 +1,26 @@
+-- The parts of an And by their masks, and the Ands without one operand that they are found by.
+use Rattle.std.specs.Prelude.{ℕ, zero, suc, ◌+◌, ◌*◌, ◌/◌, ◌%◌, ◌^◌, ◌<◌, ◌≤◌, ◌≡◌, List, [], ◌∷◌, length, Some, slice_get, slice_index}
+use Rattle.lw_laws.specs.NumberedForms.{NumberedForms, IsPart}
+use Rattle.lw_laws.specs.NumberedForms.Base.{base_and}
+use Rattle.lw_form.specs.Bases.{picked}
+
+-- the operands but the one at the place
+abbrev pub without : List ℕ → ℕ → List ℕ
+without [] place = []
+without (f ∷ fs) zero = fs
+without (f ∷ fs) (suc place) = f ∷ without fs place
+
+-- the bit at the place is not set, and those below it are
+abbrev pub IsFirstUnset : ℕ → ℕ → Type 0
+IsFirstUnset mask zero = mask % 2 ≡ 0
+IsFirstUnset mask (suc place) = (mask % 2 ≡ 1) × IsFirstUnset (mask / 2) place
+
+-- the Ands of all operands but one of the first n base forms
+abbrev pub HasDrops : NumberedForms → ℕ → List ℕ → Type 0
+HasDrops forms n drops =
+    (a : ℕ) (fs : List ℕ) (place : ℕ) → a < n → slice_get forms.bases a ≡ Some (base_and fs) → place < length fs → IsPart forms (without fs place) (slice_index drops (8 * a + place))
+
+-- the parts of And b by their masks, from a lowest one on
+abbrev pub HasParts : NumberedForms → ℕ → ℕ → List ℕ → Type 0
+HasParts forms b low parts =
+    (fs : List ℕ) (mask : ℕ) → slice_get forms.bases b ≡ Some (base_and fs) → low ≤ mask → mask < 2 ^ length fs → IsPart forms (picked fs mask) (slice_index parts mask)
