@@ -1,11 +1,13 @@
 pub mod Assembled
 pub mod Filling
-pub mod Moving
+pub mod NamedOrder
 pub mod Names
 pub mod Numbering
 pub mod Paths
+pub mod Placing
 pub mod Ranks
 pub mod Rise
 pub mod Rising
 pub mod Searching
 pub mod Sorting
+pub mod Writing

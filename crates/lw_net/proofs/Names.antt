@@ -46,13 +46,6 @@ numbered_more signals nodes old new i node ns below here was is grown =
     let one : DraftNode → List ℕ = λ n. map (number_in signals) n.fanins in
     grown ∙ (ap₂ (λ l n. l ++ n ∷ []) was (is ∙ ap one here) ∙ sym (map_more one nodes i node below))
 
--- one more name is numbered
-pub inserted : (names old new : List (List ℕ)) (i : ℕ) (name item : List ℕ) → IsDistinct bytes_eq names → i < length names → item ≡ get_or names i item → name ≡ item → old ≡ take i names → new ≡ insert_key bytes_eq old name → new ≡ take (i + 1) names
-inserted names old new i name item distinct below read copied was is =
-    let here : name ≡ get_or names i name = copied ∙ get_or_read names i item below read name in
-    let fresh : list_any (bytes_eq name) old ≡ false = ap (λ l. list_any (bytes_eq name) l) was ∙ (ap (λ n. list_any (bytes_eq n) (take i names)) here ∙ none_before names i name distinct below) in
-    is ∙ (ap (λ b. cond b old (old ++ name ∷ [])) fresh ∙ (ap (λ l. l ++ name ∷ []) was ∙ (ap (λ n. take i names ++ n ∷ []) here ∙ sym (take_more names i name below))))
-
 find_first : (p : List ℕ → Bool) (xs ys : List (List ℕ)) (x : List ℕ) → find p xs ≡ Some x → find p (xs ++ ys) ≡ Some x
 find_first p [] ys x e = cc
 find_first p (y ∷ xs) ys x e = by_test (p y) e (find_first p xs ys x)

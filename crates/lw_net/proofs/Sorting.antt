@@ -9,10 +9,10 @@ use Rattle.std.specs.List.Sorted.{IsPermutation, IsNonDecreasingBy, ties}
 use Rattle.std.specs.Ordering.{nat_cmp, is_lt}
 use Rattle.std.specs.declared.cmp.Ordering.TheVariants.{Less, Equal, Greater}
 use Rattle.std.proofs.lemmas.Bool.{cases_lt}
-use Rattle.lw_net.specs.declared.draft.DraftNode.{DraftNode}
+use Rattle.lw_net.specs.declared.written.NumberedNode.{NumberedNode}
 use Rattle.lw_net.specs.declared.order.Deep.{Deep}
-use Rattle.lw_net.specs.Closing.{by_depth, greatest}
-use Rattle.lw_net.specs.Ordering.{TellDepths}
+use Rattle.lw_net.specs.Closing.{greatest}
+use Rattle.lw_net.specs.Ordering.{TellNumbered, by_number}
 
 equal_from : (a b : ℕ) → (a == b) ≡ true → a ≡ b
 equal_from a b is = grind (arith, nat_tests)
@@ -108,69 +108,69 @@ ties_is a b = ap₂ (λ p q. not p && not q) (is_lt_cmp (nat_lt a b) (a == b)) (
 -- one list is a stable copy of the other
 pub stable_at : (k : ℕ) (xs ys : List Deep) → ((x : Deep) → filter (ties (λ (a b : Deep). is_lt (nat_cmp a.depth b.depth)) x) ys ≡ filter (ties (λ (a b : Deep). is_lt (nat_cmp a.depth b.depth)) x) xs) → filter (λ (d : Deep). d.depth == k) ys ≡ filter (λ (d : Deep). d.depth == k) xs
 stable_at k xs ys stable =
-    let x : Deep = record { depth = k; node = record { out = []; fanins = []; rows = []; on = true } } in
+    let x : Deep = record { depth = k; node = record { out = 0; fanins = []; rows = []; on = true } } in
     let test = ties (λ (a b : Deep). is_lt (nat_cmp a.depth b.depth)) x in
     sym (filter_agree test (λ (d : Deep). d.depth == k) (λ d. ties_is k d.depth) ys) ∙ (stable x ∙ filter_agree test (λ (d : Deep). d.depth == k) (λ d. ties_is k d.depth) xs)
 
-abbrev pub node_in : Deep → DraftNode
+abbrev pub node_in : Deep → NumberedNode
 node_in deep = deep.node
 
 abbrev pub depth_in : Deep → ℕ
 depth_in deep = deep.depth
 
-abbrev pub deep_from : (DraftNode × ℕ) → Deep
+abbrev pub deep_from : (NumberedNode × ℕ) → Deep
 deep_from p = record { depth = p.1; node = p.0 }
 
-abbrev pub deeper : (List ℕ → ℕ) → DraftNode → Deep
+abbrev pub deeper : (ℕ → ℕ) → NumberedNode → Deep
 deeper depth node = record { depth = depth node.out; node = node }
 
 -- nodes with these depths
-pub zip_is_map : (depth : List ℕ → ℕ) (nodes : List DraftNode) (depths : List ℕ) → length nodes ≡ length depths → TellDepths depths nodes depth → map deep_from (zip nodes depths) ≡ map (deeper depth) nodes
+pub zip_is_map : (depth : ℕ → ℕ) (nodes : List NumberedNode) (depths : List ℕ) → length nodes ≡ length depths → TellNumbered depths nodes depth → map deep_from (zip nodes depths) ≡ map (deeper depth) nodes
 zip_is_map depth [] depths same tell = refl
 zip_is_map depth (node ∷ nodes) [] same tell = absurd (omega arith)
 zip_is_map depth (node ∷ nodes) (d ∷ depths) same tell =
     ap₂ (λ e es. e ∷ es) (ap (λ n. let e : Deep = record { depth = n; node = node } in e) (tell 0 node (omega arith))) (zip_is_map depth nodes depths (omega arith) (λ k e lt. tell (suc k) e (omega arith)))
 
-pub nodes_again : (depth : List ℕ → ℕ) (nodes : List DraftNode) → map node_in (map (deeper depth) nodes) ≡ nodes
+pub nodes_again : (depth : ℕ → ℕ) (nodes : List NumberedNode) → map node_in (map (deeper depth) nodes) ≡ nodes
 nodes_again depth [] = refl
 nodes_again depth (node ∷ nodes) = ap (λ l. node ∷ l) (nodes_again depth nodes)
 
-depth_of_out : (List ℕ → ℕ) → DraftNode → ℕ
+depth_of_out : (ℕ → ℕ) → NumberedNode → ℕ
 depth_of_out depth node = depth node.out
 
-filter_deeper : (depth : List ℕ → ℕ) (d : ℕ) (nodes : List DraftNode) → map node_in (at depth_in d (map (deeper depth) nodes)) ≡ filter (λ (node : DraftNode). depth node.out == d) nodes
+filter_deeper : (depth : ℕ → ℕ) (d : ℕ) (nodes : List NumberedNode) → map node_in (at depth_in d (map (deeper depth) nodes)) ≡ filter (λ (node : NumberedNode). depth node.out == d) nodes
 filter_deeper depth d [] = refl
 filter_deeper depth d (node ∷ nodes) = by_test (depth node.out == d) (filter_deeper depth d nodes)
   where
-    by_test : (b : Bool) → map node_in (at depth_in d (map (deeper depth) nodes)) ≡ filter (λ (n : DraftNode). depth n.out == d) nodes → map node_in (cond b (deeper depth node ∷ at depth_in d (map (deeper depth) nodes)) (at depth_in d (map (deeper depth) nodes))) ≡ cond b (node ∷ filter (λ (n : DraftNode). depth n.out == d) nodes) (filter (λ (n : DraftNode). depth n.out == d) nodes)
+    by_test : (b : Bool) → map node_in (at depth_in d (map (deeper depth) nodes)) ≡ filter (λ (n : NumberedNode). depth n.out == d) nodes → map node_in (cond b (deeper depth node ∷ at depth_in d (map (deeper depth) nodes)) (at depth_in d (map (deeper depth) nodes))) ≡ cond b (node ∷ filter (λ (n : NumberedNode). depth n.out == d) nodes) (filter (λ (n : NumberedNode). depth n.out == d) nodes)
     by_test true e = ap (λ l. node ∷ l) e
     by_test false e = e
 
-map_by_key : (depth : List ℕ → ℕ) (nodes : List DraftNode) (low m : ℕ) → map node_in (by_key depth_in low m (map (deeper depth) nodes)) ≡ flat_map (λ d. filter (λ (node : DraftNode). depth node.out == d) nodes) (range_with_len low m)
+map_by_key : (depth : ℕ → ℕ) (nodes : List NumberedNode) (low m : ℕ) → map node_in (by_key depth_in low m (map (deeper depth) nodes)) ≡ flat_map (λ d. filter (λ (node : NumberedNode). depth node.out == d) nodes) (range_with_len low m)
 map_by_key depth nodes low zero = refl
 map_by_key depth nodes low (suc m) =
     map-append node_in (at depth_in low (map (deeper depth) nodes)) (by_key depth_in (low + 1) m (map (deeper depth) nodes))
     ∙ ap₂ (λ a b. a ++ b) (filter_deeper depth low nodes) (map_by_key depth nodes (low + 1) m)
 
 -- no depth is above the greatest
-greatest-above : (f : DraftNode → ℕ) (nodes : List DraftNode) → All (λ node. f node ≤ greatest (map f nodes)) nodes
+greatest-above : (f : NumberedNode → ℕ) (nodes : List NumberedNode) → All (λ node. f node ≤ greatest (map f nodes)) nodes
 greatest-above f nodes = λ k d lt. at_place nodes k d lt
   where
-    at_place : (ns : List DraftNode) (k : ℕ) (d : DraftNode) → k < length ns → f (get_or ns k d) ≤ greatest (map f ns)
+    at_place : (ns : List NumberedNode) (k : ℕ) (d : NumberedNode) → k < length ns → f (get_or ns k d) ≤ greatest (map f ns)
     at_place [] k d lt = absurd (omega arith)
     at_place (n ∷ ns) zero d lt = omega arith
     at_place (n ∷ ns) (suc k) d lt = omega (arith, at_place ns k d (omega arith))
 
 -- a sorted copy is the order by depth
-pub sorted_is_by_depth : (depth : List ℕ → ℕ) (nodes : List DraftNode) (sorted : List Deep) → All (λ (node : DraftNode). 1 ≤ depth node.out) nodes → IsPermutation (map (deeper depth) nodes) sorted → IsNonDecreasingBy depth_in sorted → ((k : ℕ) → at depth_in k sorted ≡ at depth_in k (map (deeper depth) nodes)) → map node_in sorted ≡ by_depth depth nodes
-sorted_is_by_depth depth nodes sorted least moved up stable =
-    let m = greatest (map (λ (node : DraftNode). depth node.out) nodes) in
+pub sorted_is_by_number : (depth : ℕ → ℕ) (nodes : List NumberedNode) (sorted : List Deep) → All (λ (node : NumberedNode). 1 ≤ depth node.out) nodes → IsPermutation (map (deeper depth) nodes) sorted → IsNonDecreasingBy depth_in sorted → ((k : ℕ) → at depth_in k sorted ≡ at depth_in k (map (deeper depth) nodes)) → map node_in sorted ≡ by_number depth nodes
+sorted_is_by_number depth nodes sorted least moved up stable =
+    let m = greatest (map (λ (node : NumberedNode). depth node.out) nodes) in
     let above : All (λ (e : Deep). 1 ≤ e.depth) sorted = All-permutation (λ (e : Deep). 1 ≤ e.depth) (map (deeper depth) nodes) sorted moved (All-map (λ (e : Deep). 1 ≤ e.depth) (deeper depth) nodes least) in
-    let within : All (λ (e : Deep). e.depth < 1 + m) sorted = All-permutation (λ (e : Deep). e.depth < 1 + m) (map (deeper depth) nodes) sorted moved (All-map (λ (e : Deep). e.depth < 1 + m) (deeper depth) nodes (All-weaker (λ (n : DraftNode). depth n.out ≤ m) (λ (n : DraftNode). depth n.out < 1 + m) (λ n le. omega arith) nodes (greatest-above (λ (n : DraftNode). depth n.out) nodes))) in
+    let within : All (λ (e : Deep). e.depth < 1 + m) sorted = All-permutation (λ (e : Deep). e.depth < 1 + m) (map (deeper depth) nodes) sorted moved (All-map (λ (e : Deep). e.depth < 1 + m) (deeper depth) nodes (All-weaker (λ (n : NumberedNode). depth n.out ≤ m) (λ (n : NumberedNode). depth n.out < 1 + m) (λ n le. omega arith) nodes (greatest-above (λ (n : NumberedNode). depth n.out) nodes))) in
     ap (map node_in) (sym (by_key-sorted depth_in m 1 sorted above within up) ∙ by_key-same depth_in m 1 sorted (map (deeper depth) nodes) stable)
     ∙ map_by_key depth nodes 1 m
 
-nodes_of_zip : (nodes : List DraftNode) (depths : List ℕ) → length nodes ≡ length depths → map node_in (map deep_from (zip nodes depths)) ≡ nodes
+nodes_of_zip : (nodes : List NumberedNode) (depths : List ℕ) → length nodes ≡ length depths → map node_in (map deep_from (zip nodes depths)) ≡ nodes
 nodes_of_zip [] depths same = refl
 nodes_of_zip (node ∷ nodes) [] same = absurd (omega arith)
 nodes_of_zip (node ∷ nodes) (d ∷ depths) same = ap (λ l. node ∷ l) (nodes_of_zip nodes depths (omega arith))
@@ -180,12 +180,12 @@ pub ok_then : {T E : Type 0} (r : Result T E) {P Q : T → Type 0} → IfOk r P 
 ok_then (Ok x) p f = f x p
 ok_then (Err e) p f = tt
 
-module _ (nodes : List DraftNode) (depths : List ℕ) (deep sorted : List Deep) (same : length nodes ≡ length depths) (made : deep ≡ map deep_from (zip nodes depths)) (moved : IsPermutation deep sorted) where
-  pub order_permutation : (order : List DraftNode) → order ≡ map node_in sorted → IsPermutation nodes order
+module _ (nodes : List NumberedNode) (depths : List ℕ) (deep sorted : List Deep) (same : length nodes ≡ length depths) (made : deep ≡ map deep_from (zip nodes depths)) (moved : IsPermutation deep sorted) where
+  pub order_permutation : (order : List NumberedNode) → order ≡ map node_in sorted → IsPermutation nodes order
   order_permutation order is =
       subst (IsPermutation nodes) (sym is) (subst (λ l. IsPermutation l (map node_in sorted)) (ap (map node_in) made ∙ nodes_of_zip nodes depths same) (IsPermutation-map node_in deep sorted moved))
 
-  module _ (depth : List ℕ → ℕ) (tell : TellDepths depths nodes depth) (up : IsNonDecreasingBy depth_in sorted) where
+  module _ (depth : ℕ → ℕ) (tell : TellNumbered depths nodes depth) (up : IsNonDecreasingBy depth_in sorted) where
     is_deeper : deep ≡ map (deeper depth) nodes
     is_deeper = made ∙ zip_is_map depth nodes depths same tell
 
@@ -195,26 +195,26 @@ module _ (nodes : List DraftNode) (depths : List ℕ) (deep sorted : List Deep) 
     all_agree : All agrees sorted
     all_agree = All-permutation agrees deep sorted moved (subst (All agrees) (sym is_deeper) (All-map agrees (deeper depth) nodes (λ k d lt. refl)))
 
-    pub order_rising : (order : List DraftNode) → order ≡ map node_in sorted → IsNonDecreasingBy (λ (node : DraftNode). depth node.out) order
-    order_rising order is = subst (IsNonDecreasingBy (λ (node : DraftNode). depth node.out)) (sym is) rising
+    pub order_rising : (order : List NumberedNode) → order ≡ map node_in sorted → IsNonDecreasingBy (λ (node : NumberedNode). depth node.out) order
+    order_rising order is = subst (IsNonDecreasingBy (λ (node : NumberedNode). depth node.out)) (sym is) rising
       where
-        at_place : (k : ℕ) (d : DraftNode) → k < length sorted → depth (get_or (map node_in sorted) k d).out ≡ (get_or sorted k (deeper depth d)).depth
-        at_place k d lt = ap (λ (n : DraftNode). depth n.out) (get_or-map node_in sorted k (deeper depth d) d lt) ∙ sym (all_agree k (deeper depth d) lt)
+        at_place : (k : ℕ) (d : NumberedNode) → k < length sorted → depth (get_or (map node_in sorted) k d).out ≡ (get_or sorted k (deeper depth d)).depth
+        at_place k d lt = ap (λ (n : NumberedNode). depth n.out) (get_or-map node_in sorted k (deeper depth d) d lt) ∙ sym (all_agree k (deeper depth d) lt)
 
-        rising : IsNonDecreasingBy (λ (node : DraftNode). depth node.out) (map node_in sorted)
+        rising : IsNonDecreasingBy (λ (node : NumberedNode). depth node.out) (map node_in sorted)
         rising i j d le lt =
             let in_sorted : j < length sorted = omega (arith, length-map sorted node_in) in
             omega (arith, at_place i d (omega arith), at_place j d in_sorted, up i j (deeper depth d) le in_sorted)
 
-    pub order_by_depth : All (λ d. 1 ≤ d) depths → ((k : ℕ) → at depth_in k sorted ≡ at depth_in k deep) → (order : List DraftNode) → order ≡ map node_in sorted → order ≡ by_depth depth nodes
+    pub order_by_depth : All (λ d. 1 ≤ d) depths → ((k : ℕ) → at depth_in k sorted ≡ at depth_in k deep) → (order : List NumberedNode) → order ≡ map node_in sorted → order ≡ by_number depth nodes
     order_by_depth least stable order is =
-        is ∙ sorted_is_by_depth depth nodes sorted (λ k d lt. subst (λ n. 1 ≤ n) (tell k d lt) (least k 0 (omega arith))) (subst (λ l. IsPermutation l sorted) is_deeper moved) up (λ k. stable k ∙ ap (at depth_in k) is_deeper)
+        is ∙ sorted_is_by_number depth nodes sorted (λ k d lt. subst (λ n. 1 ≤ n) (tell k d lt) (least k 0 (omega arith))) (subst (λ l. IsPermutation l sorted) is_deeper moved) up (λ k. stable k ∙ ap (at depth_in k) is_deeper)
 
-zip_none : (nodes : List DraftNode) → ◌≡◌ {A = List (DraftNode × ℕ)} (zip nodes []) []
+zip_none : (nodes : List NumberedNode) → ◌≡◌ {A = List (NumberedNode × ℕ)} (zip nodes []) []
 zip_none [] = refl
 zip_none (node ∷ nodes) = refl
 
 -- where no depth is left
-pub zip_ends : (deep : List Deep) (left : List DraftNode) (depths : List ℕ) (i : ℕ) (whole : List Deep) → length depths ≤ i → deep ++ map deep_from (zip left (drop i depths)) ≡ whole → deep ≡ whole
+pub zip_ends : (deep : List Deep) (left : List NumberedNode) (depths : List ℕ) (i : ℕ) (whole : List Deep) → length depths ≤ i → deep ++ map deep_from (zip left (drop i depths)) ≡ whole → deep ≡ whole
 zip_ends deep left depths i whole past is =
     sym (append-nil deep) ∙ (ap (λ l. deep ++ map deep_from l) (sym (ap (zip left) (drop_all i depths past) ∙ zip_none left)) ∙ is)

@@ -1,7 +1,9 @@
 pub mod Closing
 pub mod Networks
 pub mod Numbered
+pub mod Numbers
 pub mod Ordering
 pub mod Plain
 pub mod Ranking
 pub mod Signs
+pub mod Written

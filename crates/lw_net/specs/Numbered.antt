@@ -1,6 +1,5 @@
 -- A draft whose names are numbered: inputs, and then the nodes' outputs, as they are written.
 use Rattle.std.specs.Prelude.{ℕ, ◌+◌, ◌<◌, ◌≤◌, ◌≡◌, ◌⊎◌, ◌==◌, count_by, max, Bool, true, false, not, Some, ⊤, List, [], ◌∷◌, map, length, slice_index_or, Contains, All}
-use Rattle.lw_pool.specs.declared.id.NetId.{NetId}
 use Rattle.lw_net.specs.declared.draft.DraftNode.{DraftNode}
 use Rattle.lw_net.specs.declared.fault.NetFault.{NetFault}
 use Rattle.lw_net.specs.declared.fault.NetFault.TheVariants.{Undefined, Cycle, Memory}
@@ -19,19 +18,6 @@ numbered signals nodes = map (λ (node : DraftNode). map (number_in signals) nod
 -- the fan-ins of node j
 abbrev pub fanins_at : List (List ℕ) → ℕ → List ℕ
 fanins_at graph j = slice_index_or graph j []
-
--- A node's own number, and the row of the graph with those of its fan-ins.
-pub record HasRow (inputs : ℕ) (signals graph : List (List ℕ)) (node : DraftNode) : Type 0 where
-  pub place : ℕ
-  pub within : place < length graph
-  pub driven : Contains signals node.out
-  pub own : number_in signals node.out ≡ inputs + place
-  pub defined : All (Contains signals) node.fanins
-  pub row : fanins_at graph place ≡ map (number_in signals) node.fanins
-
--- the net with this number
-abbrev pub net_at : List NetId → ℕ → NetId
-net_at nets number = slice_index_or nets number (record { 0 = 0 })
 
 -- each fan-in is a signal
 abbrev pub IsGraph : ℕ → List (List ℕ) → Type 0

@@ -1,17 +1,19 @@
 // Drafts that are closed to networks.
-ghost use Rattle.std.specs.Prelude.{◌≡◌, ◌-◌, ◌≤◌, ◌<◌, ℕ, None, List, length, map, All, IfOk, IfErr, OnOk};
+ghost use Rattle.std.specs.Prelude.{◌≡◌, ◌-◌, ◌≤◌, ◌<◌, None, length, map, All, IfOk, IfErr, OnOk};
 ghost use Rattle.std.specs.List.{flat_map, IsDistinct};
 ghost use Rattle.std.specs.Str.{bytes_eq};
-ghost use Rattle.indexmap.specs.IndexSet.{index_set_len};
-ghost use Rattle.lw_net.specs.Closing.{IsDraft, HasFault, signals_of, fanins_of, undefined_in, first_undefined, number_in, net_in, closed_node};
+ghost use Rattle.lw_net.specs.Closing.{IsDraft, HasFault, signals_of, fanins_of, undefined_in, first_undefined};
 ghost use Rattle.lw_net.specs.Networks.{most_nets};
-ghost use Rattle.lw_net.specs.Numbered.{numbered, HasRow, net_at};
+ghost use Rattle.lw_net.specs.Numbered.{numbered};
+ghost use Rattle.lw_net.specs.Numbers.{draft_in, IsWritten, IsTable};
 ghost use Rattle.lw_net.specs.Ordering.{AreRight};
+ghost use Rattle.lw_net.specs.Written.{names_in, net_placed, placed_node, IsWithin};
 
 use crate::cycles::{first_on_cycle, first_stuck};
 use crate::levels::heights;
-use crate::naming::{graph, numbers, numbers_of, signals};
-use crate::{Draft, DraftNode, NetFault, Node};
+use crate::places::{copy_of, graph, places, row};
+use crate::written::{NumberedNode, Written, signal_list};
+use crate::{NetFault, Node};
 use indexmap::IndexSet;
 use lw_pool::{Name, NetId, Nets, Numbers};
 use std::alloc::{AllocError, Global};
@@ -23,131 +25,74 @@ fn depths_of(alloc: Global, heights: &[u32]) -> Result<Vec<u32>, AllocError>
     heights.iter().map(|h| h.saturating_sub(1)).collect(alloc)
 }
 
-// The signals of a draft, as they are written, and the numbers of its nodes' fan-ins among them.
-#[derive(Drop)]
-pub(crate) struct Graph {
-    pub(crate) signals: IndexSet<Name>,
-    pub(crate) rows: Vec<Numbers>,
+// The places of the names of a draft among its signals.
+pub(crate) fn table(alloc: Global, w: &Written) -> Result<Vec<u32>, AllocError>
+    requires kept { IsWritten w.now }
+    requires distinct { IsDistinct bytes_eq (signals_of (draft_in w.now)) }
+    requires few { length (signals_of (draft_in w.now)) ≤ most_nets }
+    ensures { IfOk result (λ places. IsTable w.now places.items) }
+{
+    let signals = signal_list(alloc, &w.inputs, &w.nodes)?;
+    places(alloc, w.names.len(), &signals)
 }
 
-// The graph of a draft, or the first signal that nothing drives.
-pub(crate) fn graph_of(alloc: Global, draft: &Draft) -> Result<Graph, NetFault>
-    requires { IsDraft draft.now }
-    ensures signals { IfOk result (λ graph. graph.signals.keys ≡ signals_of draft.now) }
-    ensures graph { IfOk result (λ graph. graph.rows.items ≡ numbered (signals_of draft.now) draft.now.nodes) }
-    ensures fanins { OnOk result (undefined_in (signals_of draft.now) (flat_map fanins_of draft.now.nodes) ≡ None) }
-    ensures defined { OnOk result (first_undefined draft.now ≡ None) }
-    ensures fault { IfErr result (HasFault draft.now) }
+// The numbers of the nodes' fan-ins among the signals of a draft, or the first signal that nothing drives.
+pub(crate) fn graph_of(alloc: Global, w: &Written) -> Result<Vec<Numbers>, NetFault>
+    requires kept { IsWritten w.now }
+    requires draft { IsDraft (draft_in w.now) }
+    ensures graph { IfOk result (λ graph. graph.items ≡ numbered (signals_of (draft_in w.now)) (draft_in w.now).nodes) }
+    ensures fanins { OnOk result (undefined_in (signals_of (draft_in w.now)) (flat_map fanins_of (draft_in w.now).nodes) ≡ None) }
+    ensures defined { OnOk result (first_undefined (draft_in w.now) ≡ None) }
+    ensures fault { IfErr result (HasFault (draft_in w.now)) }
 {
-    let nodes = draft.nodes.as_slice();
-    let names = signals(alloc, draft.inputs.as_slice(), nodes)?;
-    let numbers = numbers(alloc, &names)?;
-    let graph = graph(alloc, nodes, &numbers)?;
-    let _outputs = numbers_of(alloc, draft.outputs.as_slice(), &numbers)?;
-    Ok(Graph {
-        signals: numbers,
-        rows: graph,
-    })
+    let places = table(alloc, w)?;
+    let graph = graph(alloc, w, &places)?;
+    let _outputs = row(alloc, w, &places, &w.outputs)?;
+    Ok(graph)
 }
 
 // The depths of the nodes, or the first node on a cycle.
-pub(crate) fn depths(alloc: Global, draft: &Draft, graph: &[Numbers]) -> Result<Vec<u32>, NetFault>
-    requires draft { IsDraft draft.now }
-    requires graph { graph.now ≡ numbered (signals_of draft.now) draft.now.nodes }
-    requires fanins { undefined_in (signals_of draft.now) (flat_map fanins_of draft.now.nodes) ≡ None }
-    requires defined { first_undefined draft.now ≡ None }
-    ensures right { IfOk result (λ depths. AreRight draft.now depths.items) }
-    ensures fault { IfErr result (HasFault draft.now) }
+pub(crate) fn depths(alloc: Global, w: &Written, graph: &[Numbers]) -> Result<Vec<u32>, NetFault>
+    requires kept { IsWritten w.now }
+    requires draft { IsDraft (draft_in w.now) }
+    requires graph { graph.now ≡ numbered (signals_of (draft_in w.now)) (draft_in w.now).nodes }
+    requires fanins { undefined_in (signals_of (draft_in w.now)) (flat_map fanins_of (draft_in w.now).nodes) ≡ None }
+    requires defined { first_undefined (draft_in w.now) ≡ None }
+    ensures right { IfOk result (λ depths. AreRight (draft_in w.now) depths.items) }
+    ensures fault { IfErr result (HasFault (draft_in w.now)) }
 {
-    let inputs = draft.inputs.len();
+    let inputs = w.inputs.len();
     let heights = heights(alloc, inputs, graph)?;
     if let Some(start) = first_stuck(inputs, &heights) {
         let place = first_on_cycle(alloc, inputs, graph, &heights, start)?;
-        let node = draft.nodes.get(place);
-        let name = Name::from_slice(alloc, node.out.as_bytes())?;
+        let node = &w.nodes[place];
+        let name = copy_of(alloc, &w.names, node.out)?;
         return Err(NetFault::Cycle(name));
     }
     let depths = depths_of(alloc, &heights[inputs..])?;
     Ok(depths)
 }
 
-// The number of a name.
-fn number_of(names: &IndexSet<Name>, name: &Name) -> usize
-    ensures { result ≡ number_in names.now.keys name.now }
+// The nets of names with these numbers.
+pub(crate) fn nets(alloc: Global, places: &[u32], list: &[u32]) -> Result<Nets, AllocError>
+    requires { All (λ n. n < length places.now) list.now }
+    ensures { IfOk result (λ nets. nets ≡ map (net_placed places.now) list.now) }
 {
-    names.get_index_of(name).unwrap_or(0)
-}
-
-// The net of a name.
-fn net_of(names: &IndexSet<Name>, name: &Name) -> NetId
-    requires { index_set_len names.now ≤ most_nets }
-    ensures { result ≡ net_in names.now.keys name.now }
-{
-    NetId(names.get_index_of(name).unwrap_or(0) as u32)
-}
-
-// The nets of names.
-pub(crate) fn nets_of(
-    alloc: Global,
-    list: &[Name],
-    names: &IndexSet<Name>,
-) -> Result<Nets, AllocError>
-    requires { index_set_len names.now ≤ most_nets }
-    ensures { IfOk result (λ nets. nets ≡ map (net_in names.now.keys) list.now) }
-{
-    let mut nets = Nets::new(alloc);
-    for name in list {
-        nets.push(net_of(names, name))?;
-    }
-    Ok(nets)
-}
-
-// The nets of the same names in another order, by number.
-pub(crate) fn moved(
-    alloc: Global,
-    signals: &IndexSet<Name>,
-    names: &IndexSet<Name>,
-) -> Result<Vec<NetId>, AllocError>
-    requires { index_set_len names.now ≤ most_nets }
-    ensures { IfOk result (λ nets. nets.items ≡ map (net_in names.now.keys) signals.now.keys) }
-{
-    let list = signals.as_slice();
     let mut nets = Vec::with_capacity(alloc, list.len())?;
-    for name in list {
-        nets.push(net_of(names, name))?;
-    }
-    Ok(nets)
-}
-
-// The nets of numbers.
-fn nets_at(alloc: Global, numbers: &[u32], moved: &[NetId]) -> Result<Nets, AllocError>
-    requires { All (λ s. s < length moved.now) numbers.now }
-    ensures { IfOk result (λ nets. nets ≡ map (net_at moved.now) numbers.now) }
-{
-    let mut nets = Vec::with_capacity(alloc, numbers.len())?;
-    for number in numbers {
-        nets.push(moved[*number as usize])?;
+    for number in list {
+        nets.push(NetId(places[*number as usize].saturating_sub(1)))?;
     }
     Ok(Nets::from_vec(nets))
 }
 
-// A node with nets in place of names: its own, and those of its row of the graph.
-fn closed(
-    alloc: Global,
-    node: DraftNode,
-    inputs: usize,
-    graph: &Graph,
-    moved: &[NetId],
-) -> Result<Node, AllocError>
-    requires distinct { IsDistinct bytes_eq graph.now.signals.keys }
-    requires count { length moved.now ≡ length graph.now.signals.keys }
-    requires row { HasRow inputs graph.now.signals.keys graph.now.rows.items node }
-    ensures { IfOk result (λ closed. (names : List (List ℕ)) → moved.now ≡ map (net_in names) graph.now.signals.keys → closed ≡ closed_node names node) }
+// A node with nets in place of names.
+fn closed(alloc: Global, node: NumberedNode, places: &[u32]) -> Result<Node, AllocError>
+    requires { IsWithin (length places.now) node }
+    ensures { IfOk result (λ closed. closed ≡ placed_node places.now node) }
 {
-    let own = number_of(&graph.signals, &node.out);
-    let fanins = nets_at(alloc, graph.rows[own - inputs].as_slice(), moved)?;
+    let fanins = nets(alloc, places, node.fanins.as_slice())?;
     Ok(Node {
-        out: moved[own],
+        out: NetId(places[node.out as usize].saturating_sub(1)),
         fanins,
         rows: node.rows,
         on: node.on,
@@ -157,20 +102,32 @@ fn closed(
 // The nodes with nets in place of names.
 pub(crate) fn closed_nodes(
     alloc: Global,
-    nodes: Vec<DraftNode>,
-    inputs: usize,
-    graph: &Graph,
-    moved: &[NetId],
+    nodes: Vec<NumberedNode>,
+    places: &[u32],
 ) -> Result<Vec<Node>, AllocError>
-    requires distinct { IsDistinct bytes_eq graph.now.signals.keys }
-    requires count { length moved.now ≡ length graph.now.signals.keys }
-    requires rows { All (HasRow inputs graph.now.signals.keys graph.now.rows.items) nodes.items }
-    ensures { IfOk result (λ done. (names : List (List ℕ)) → moved.now ≡ map (net_in names) graph.now.signals.keys → done.items ≡ map (closed_node names) nodes.items) }
+    requires { All (IsWithin (length places.now)) nodes.items }
+    ensures { IfOk result (λ done. done.items ≡ map (placed_node places.now) nodes.items) }
 {
     let mut done = Vec::with_capacity(alloc, nodes.len())?;
     let mut left = nodes.into_iter();
     'nodes: while let Some(node) = left.next() {
-        done.push(closed(alloc, node, inputs, graph, moved)?)?;
+        done.push(closed(alloc, node, places)?)?;
     }
     Ok(done)
+}
+
+// Copies of the names with these numbers.
+pub(crate) fn copies(
+    alloc: Global,
+    names: &IndexSet<Name>,
+    list: &[u32],
+) -> Result<Vec<Name>, AllocError>
+    requires { All (λ n. n < length names.now.keys) list.now }
+    ensures { IfOk result (λ copies. copies.items ≡ names_in names.now.keys list.now) }
+{
+    let mut copies = Vec::with_capacity(alloc, list.len())?;
+    for number in list {
+        copies.push(copy_of(alloc, names, *number)?)?;
+    }
+    Ok(copies)
 }

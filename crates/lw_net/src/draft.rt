@@ -1,8 +1,10 @@
-ghost use Rattle.std.specs.Prelude.{◌≡◌, ◌<◌, ◌++◌, [], ◌∷◌, ◌↔◌, length, IsTrue, OnOk, OnErr, Some, slice_get, All};
+ghost use Rattle.std.specs.Prelude.{◌≡◌, ◌<◌, ◌++◌, [], ◌∷◌, ◌↔◌, length, map, IsTrue, OnOk, OnErr, Some, slice_get, All};
 
 use crate::Cubes;
-use crate::naming::{differ, signals};
-use lw_pool::{Name, Names};
+use crate::naming::{differ, number, numbers, signals};
+use crate::written::NumberedNode;
+use indexmap::IndexSet;
+use lw_pool::{Name, Names, Numbers};
 use std::alloc::{AllocError, Global};
 use std::marker::Model;
 
@@ -15,69 +17,58 @@ pub struct DraftNode {
     pub on: bool,
 }
 
-/// Written nodes in the order of the file.
+/// Written nodes in the order of the file. Each of their names is kept once.
 #[derive(Debug, Drop)]
 pub struct DraftNodes {
-    items: Vec<DraftNode>,
+    names: IndexSet<Name>,
+    nodes: Vec<NumberedNode>,
 }
 
 impl Model for DraftNodes {
-    ghost use Rattle.std.specs.Prelude.{List};
+    ghost use Rattle.std.specs.Prelude.{List, length, All};
     ghost use Rattle.lw_net.specs.declared.draft.DraftNode.{DraftNode};
+    ghost use Rattle.lw_net.specs.Written.{named_nodes, IsWithin};
 
     ghost Value = { List DraftNode };
 
-    ghost view = { λ l. l.items.items };
+    ghost view = { λ l. named_nodes l.names.keys l.nodes.items };
+
+    ghost invariant = { λ l. All (IsWithin (length l.names.keys)) l.nodes.items };
 }
 
 impl DraftNodes {
+    ghost use Rattle.lw_net.specs.Closing.{out_of};
+    ghost use Rattle.lw_net.specs.Written.{named_nodes, IsWithin};
+
     /// No entries. Growth takes memory from `alloc`.
     pub fn new(alloc: Global) -> Self
         ensures { result ≡ [] }
     {
         DraftNodes {
-            items: Vec::new(alloc),
+            names: IndexSet::new(alloc),
+            nodes: Vec::new(alloc),
         }
-    }
-
-    /// The entries of a vector, without memory.
-    pub fn from_vec(items: Vec<DraftNode>) -> Self
-        ensures { result ≡ items.items }
-    {
-        DraftNodes { items }
-    }
-
-    /// The entries, without memory.
-    pub fn into_vec(self) -> Vec<DraftNode>
-        ensures { result.items ≡ self }
-    {
-        self.items
     }
 
     pub fn len(&self) -> usize
         ensures { result ≡ length self.now }
     {
-        self.items.len()
+        self.nodes.len()
     }
 
     pub fn is_empty(&self) -> bool
         ensures { IsTrue result ↔ (self.now ≡ []) }
     {
-        self.items.is_empty()
+        self.nodes.is_empty()
     }
 
-    pub fn as_slice(&self) -> &[DraftNode]
-        ensures { result.now ≡ self.now }
-    {
-        &self.items
-    }
-
-    /// The entry at a place.
-    pub fn get(&self, place: usize) -> &DraftNode
+    /// The name that the node at a place drives.
+    pub fn out(&self, place: usize) -> &Name
         requires { place < length self.now }
-        ensures { slice_get self.now place ≡ Some result.now }
+        ensures { slice_get (map out_of self.now) place ≡ Some result.now }
     {
-        &self.items[place]
+        let names = self.names.as_slice();
+        &names[self.nodes[place].out as usize]
     }
 
     /// Appends an entry. For want of memory nothing is changed.
@@ -85,8 +76,37 @@ impl DraftNodes {
         ensures ok { OnOk result (self.new ≡ self.old ++ item ∷ []) }
         ensures err { OnErr result (self.new ≡ self.old) }
     {
-        self.items.push(item)?;
+        let DraftNode {
+            out,
+            fanins,
+            rows,
+            on,
+        } = item;
+        let alloc = *self.names.allocator();
+        let fanins = Numbers::new(numbers(alloc, &mut self.names, fanins)?);
+        let out = number(&mut self.names, out)?;
+        self.nodes.push(NumberedNode {
+            out,
+            fanins,
+            rows,
+            on,
+        })?;
         Ok(())
+    }
+
+    // Whether each row of each node has one byte per fan-in.
+    fn have_columns(&self) -> bool
+        ensures { IsTrue result ↔ All (λ node. All (λ row. length row ≡ length node.fanins) node.rows) self.now }
+    {
+        nodes_have_columns(&self.nodes)
+    }
+
+    // The names, and the nodes by their numbers.
+    pub(crate) fn into_parts(self) -> (IndexSet<Name>, Vec<NumberedNode>)
+        ensures nodes { named_nodes result.0.keys result.1.items ≡ self }
+        ensures within { All (IsWithin (length result.0.keys)) result.1.items }
+    {
+        (self.names, self.nodes)
     }
 }
 
@@ -108,8 +128,8 @@ impl Draft {
     pub fn may_close(&self, alloc: Global) -> Result<bool, AllocError>
         ensures { IfOk result (λ may. IsTrue may ↔ IsDraft self.now) }
     {
-        let names = signals(alloc, self.inputs.as_slice(), self.nodes.as_slice())?;
-        if names.len() > 262_144 || !have_columns(self.nodes.as_slice()) {
+        let names = signals(alloc, self.inputs.as_slice(), &self.nodes)?;
+        if names.len() > 262_144 || !self.nodes.have_columns() {
             return Ok(false);
         }
         if !differ(alloc, &names)? {
@@ -120,7 +140,7 @@ impl Draft {
 }
 
 // Whether each row of a node has one byte per fan-in.
-fn has_columns(node: &DraftNode) -> bool
+fn has_columns(node: &NumberedNode) -> bool
     ensures { IsTrue result ↔ All (λ row. length row ≡ length node.now.fanins) node.now.rows }
 {
     let columns = node.fanins.len();
@@ -128,7 +148,7 @@ fn has_columns(node: &DraftNode) -> bool
 }
 
 // Whether that is so of each node.
-fn have_columns(nodes: &[DraftNode]) -> bool
+fn nodes_have_columns(nodes: &[NumberedNode]) -> bool
     ensures { IsTrue result ↔ All (λ node. All (λ row. length row ≡ length node.fanins) node.rows) nodes.now }
 {
     nodes.iter().all(|node| has_columns(node))

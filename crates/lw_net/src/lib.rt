@@ -11,8 +11,10 @@ mod naming;
 mod network;
 mod node;
 mod order;
+mod places;
 mod ranking;
 mod turning;
+mod written;
 
 pub use draft::{Draft, DraftNode, DraftNodes};
 pub use fault::NetFault;

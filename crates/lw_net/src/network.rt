@@ -1,10 +1,10 @@
-ghost use Rattle.std.specs.Prelude.{◌≡◌, ◌≤◌, length, All};
+ghost use Rattle.std.specs.Prelude.{◌≡◌, ◌≤◌, length};
 
-use crate::close::{Graph, closed_nodes, depths, graph_of, moved, nets_of};
+use crate::close::{closed_nodes, copies, depths, graph_of, nets, table};
 use crate::eval::{copy_front, fill};
-use crate::naming::{numbers, signals};
 use crate::order::in_order;
-use crate::{Draft, DraftNodes, NetFault, Node, Nodes};
+use crate::written::{Written, by_numbers, signal_list};
+use crate::{Draft, NetFault, Node, Nodes};
 use lw_pool::{Name, Names, NetId, Nets};
 use std::alloc::{AllocError, Global};
 use std::marker::Model;
@@ -35,7 +35,7 @@ impl Network {
     ghost use Rattle.std.specs.Str.{bytes_eq};
     ghost use Rattle.lw_net.specs.Closing.{IsDraft, IsClosed, HasFault, signals_of, network_in};
     ghost use Rattle.lw_net.specs.Networks.{most_nets};
-    ghost use Rattle.lw_net.specs.Numbered.{HasRow};
+    ghost use Rattle.lw_net.specs.Numbers.{draft_in, IsWritten};
     ghost use Rattle.lw_laws.specs.Networks.{AreValues, IsInOrder, given};
     ghost use Rattle.lw_net.specs.Networks.{IsNetwork};
     ghost use Rattle.lw_net.specs.Plain.{plain, HasRisingDepths};
@@ -110,42 +110,57 @@ impl Network {
         ensures depths { IfOk result HasRisingDepths }
         ensures fault { IfErr result (HasFault draft) }
     {
-        let graph = graph_of(alloc, &draft)?;
-        let depths = depths(alloc, &draft, &graph.rows)?;
-        let Draft {
+        let w = by_numbers(alloc, draft)?;
+        let network = Network::of_written(alloc, w)?;
+        Ok(network)
+    }
+
+    // The network of a draft whose names are numbers.
+    fn of_written(alloc: Global, w: Written) -> Result<Network, NetFault>
+        requires kept { IsWritten w }
+        requires draft { IsDraft (draft_in w) }
+        ensures closed { IfOk result (IsClosed (draft_in w)) }
+        ensures depths { IfOk result HasRisingDepths }
+        ensures fault { IfErr result (HasFault (draft_in w)) }
+    {
+        let graph = graph_of(alloc, &w)?;
+        let depths = depths(alloc, &w, &graph)?;
+        drop(graph);
+        let Written {
             model,
+            names,
             inputs,
             outputs,
             nodes,
-        } = draft;
-        let nodes = DraftNodes::from_vec(in_order(alloc, nodes, &depths)?);
-        let ordered = Draft {
+        } = w;
+        let nodes = in_order(alloc, nodes, &depths)?;
+        let ordered = Written {
             model,
+            names,
             inputs,
             outputs,
             nodes,
         };
-        let network = Network::of_ordered(alloc, ordered, &graph)?;
+        let network = Network::of_ordered(alloc, ordered)?;
         Ok(network)
     }
 
-    // The network whose nodes stand as in the draft, by the graph of the same nodes in another order.
-    fn of_ordered(alloc: Global, draft: Draft, graph: &Graph) -> Result<Network, AllocError>
-        requires distinct { IsDistinct bytes_eq (signals_of draft) }
-        requires written { IsDistinct bytes_eq graph.now.signals.keys }
-        requires rows { All (HasRow (length draft.inputs) graph.now.signals.keys graph.now.rows.items) draft.nodes }
-        requires few { length (signals_of draft) ≤ most_nets }
-        requires kept { IsNetwork (network_in draft draft.nodes) }
-        ensures { IfOk result (λ net. net ≡ network_in draft draft.nodes) }
+    // The network whose nodes stand as in the draft.
+    fn of_ordered(alloc: Global, w: Written) -> Result<Network, AllocError>
+        requires names { IsWritten w }
+        requires distinct { IsDistinct bytes_eq (signals_of (draft_in w)) }
+        requires few { length (signals_of (draft_in w)) ≤ most_nets }
+        requires kept { IsNetwork (network_in (draft_in w) (draft_in w).nodes) }
+        ensures { IfOk result (λ net. net ≡ network_in (draft_in w) (draft_in w).nodes) }
     {
-        let names = signals(alloc, draft.inputs.as_slice(), draft.nodes.as_slice())?;
-        let numbers = numbers(alloc, &names)?;
-        let moved = moved(alloc, &graph.signals, &numbers)?;
-        let inputs = draft.inputs.len();
-        let nodes = closed_nodes(alloc, draft.nodes.into_vec(), inputs, graph, &moved)?;
-        let outputs = nets_of(alloc, draft.outputs.as_slice(), &numbers)?;
+        let places = table(alloc, &w)?;
+        let list = signal_list(alloc, &w.inputs, &w.nodes)?;
+        let names = copies(alloc, &w.names, &list)?;
+        let inputs = w.inputs.len();
+        let outputs = nets(alloc, &places, &w.outputs)?;
+        let nodes = closed_nodes(alloc, w.nodes, &places)?;
         Ok(Network {
-            model: draft.model,
+            model: w.model,
             names: Names::from_vec(names),
             inputs: inputs as u32,
             nodes: Nodes::from_vec(nodes),

@@ -137,11 +137,14 @@ impl Cubes {
         &self.items[place]
     }
 
-    /// Appends an entry. For want of memory nothing is changed.
+    /// Appends an entry. For want of memory nothing is changed. The first takes no more room than its own, since many nodes have one row.
     pub fn push(&mut self, item: Cube) -> Result<(), AllocError>
         ensures ok { OnOk result (self.new ≡ self.old ++ item ∷ []) }
         ensures err { OnErr result (self.new ≡ self.old) }
     {
+        if self.items.is_empty() {
+            self.items.reserve_exact(1)?;
+        }
         self.items.push(item)?;
         Ok(())
     }

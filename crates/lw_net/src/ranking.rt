@@ -103,7 +103,7 @@ fn rank_from(
     Ok(())
 }
 
-// Ranks of the nodes. By the order in which they are given only nodes on one cycle share one, and the rest of the work is small.
+// Ranks of the nodes. By the order in which they are given, nodes share a rank only where each leads to the other.
 pub(crate) fn ranks(
     alloc: Global,
     inputs: usize,

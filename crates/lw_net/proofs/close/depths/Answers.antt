@@ -1,20 +1,41 @@
-use Rattle.std.proofs.Common.{◌∙◌}
-use Rattle.lw_net.proofs.Paths.{is_graph, fault_first, right_depths}
+use Rattle.std.proofs.Common.{◌≡◌, ◌<◌, Some, slice_get, length, sym, ap, ◌∙◌, arith}
+use Rattle.std.proofs.lemmas.List.{length-map, get_or_read}
+use Rattle.std.proofs.lemmas.Option.{slice_get-get_or}
+use Rattle.lw_net.specs.Numbers.{draft_in}
+use Rattle.lw_net.specs.Written.{name_at, named_node, named_nodes}
+use Rattle.lw_net.proofs.Paths.{is_graph, many_nodes, fault_first, right_depths}
+use Rattle.lw_net.proofs.Writing.{named_here}
 use Rattle.lw_net.proofs.close.depths.Goals as goal
 
 pub heights-requires-clause-graph : goal.heights-requires-clause-graph
 heights-requires-clause-graph c =
-    rw (c.requires.graph, c.len-inputs.ensures) (is_graph c.args.draft.now c.requires.draft.signals c.requires.fanins)
+    let w = c.args.w.now in
+    let many : c.len-inputs.result ≡ length (draft_in w).inputs = omega (arith, c.len-inputs.ensures, length-map w.inputs.items (name_at w.names.keys)) in
+    rw (c.requires.graph, many) (is_graph (draft_in w) c.requires.draft.signals c.requires.fanins)
 
 pub first_on_cycle-requires-clause-graph : goal.first_on_cycle-requires-clause-graph
 first_on_cycle-requires-clause-graph c =
-    rw (c.requires.graph, c.len-inputs.ensures) (is_graph c.args.draft.now c.requires.draft.signals c.requires.fanins)
+    let w = c.args.w.now in
+    let many : c.len-inputs.result ≡ length (draft_in w).inputs = omega (arith, c.len-inputs.ensures, length-map w.inputs.items (name_at w.names.keys)) in
+    rw (c.requires.graph, many) (is_graph (draft_in w) c.requires.draft.signals c.requires.fanins)
 
 pub returns-in-Some-clause-fault : goal.returns-in-Some-clause-fault
 returns-in-Some-clause-fault c =
-    fault_first c.args.draft.now c.len-inputs.result c.args.graph.now c.in_ok-place.place c.get-node.result.now c.in_ok-name.name c.len-inputs.ensures c.requires.graph c.requires.draft.signals c.requires.fanins c.requires.defined c.in_ok-place.ensures c.get-node.ensures (c.in_ok-name.ensures ∙ c.as_bytes.ensures.bytes)
+    let w = c.args.w.now in
+    let keys = w.names.keys in
+    let nodes = w.nodes.items in
+    let place = c.in_ok-place.place in
+    let node = c.index-node.result.now in
+    let many : c.len-inputs.result ≡ length (draft_in w).inputs = omega (arith, c.len-inputs.ensures, length-map w.inputs.items (name_at keys)) in
+    let below : place < length nodes = omega (arith, c.in_ok-place.ensures.within, ap length c.requires.graph, many_nodes (draft_in w) c.requires.draft.signals c.requires.fanins, length-map nodes (named_node keys)) in
+    let here = named_here keys nodes place node below (get_or_read nodes place node below c.index-node.ensures node) in
+    let at : slice_get (named_nodes keys nodes) place ≡ Some (named_node keys node) =
+    slice_get-get_or (named_nodes keys nodes) place (named_node keys node) (omega (arith, length-map nodes (named_node keys))) ∙ ap (λ n. Some n) (sym here) in
+    fault_first (draft_in w) c.len-inputs.result c.args.graph.now place (named_node keys node) c.in_ok-name.name many c.requires.graph c.requires.draft.signals c.requires.fanins c.requires.defined c.in_ok-place.ensures at c.in_ok-name.ensures
 
 pub returns-clause-right : goal.returns-clause-right
 returns-clause-right c =
-    right_depths c.args.draft.now c.len-inputs.result c.args.graph.now c.in_ok-heights.heights.items c.in_ok-depths.depths.items c.len-inputs.ensures c.requires.graph c.requires.draft.signals c.requires.fanins c.requires.defined c.in_ok-heights.ensures
+    let w = c.args.w.now in
+    let many : c.len-inputs.result ≡ length (draft_in w).inputs = omega (arith, c.len-inputs.ensures, length-map w.inputs.items (name_at w.names.keys)) in
+    right_depths (draft_in w) c.len-inputs.result c.args.graph.now c.in_ok-heights.heights.items c.in_ok-depths.depths.items many c.requires.graph c.requires.draft.signals c.requires.fanins c.requires.defined c.in_ok-heights.ensures
     (rw c.deref.ensures.value at c.in_default.ensures.none) (rw c.deref-2.ensures.value at c.in_ok-depths.ensures)

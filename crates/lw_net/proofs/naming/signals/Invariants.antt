@@ -5,5 +5,5 @@ use Rattle.lw_net.proofs.naming.signals.Given as goal
 abbrev pub invariant-loop-name : goal.invariant-loop-name
 invariant-loop-name l = l.names.items ≡ take l.name-index l.inputs
 
-abbrev pub invariant-loop-node : goal.invariant-loop-node
-invariant-loop-node l = l.names.items ≡ l.initial.names.items ++ map out_of (take l.node-index l.nodes)
+abbrev pub invariant-loop-j : goal.invariant-loop-j
+invariant-loop-j l = l.names.items ≡ l.initial.names.items ++ take l.j (map out_of l.nodes)

@@ -5,4 +5,4 @@ use Rattle.lw_net.proofs.Sorting.{deep_from, zip_ends}
 use Rattle.lw_net.proofs.order.with_depths.Goals as goal
 
 pub returns : goal.returns
-returns c = zip_ends c.loop-depth.deep.items (into_iter_items c.loop-depth.left) c.args.depths.now c.loop-depth.depth-index (map deep_from (zip c.args.nodes c.args.depths.now)) (omega arith) c.loop-depth.invariant
+returns c = zip_ends c.loop-depth.deep.items (into_iter_items c.loop-depth.left) c.args.depths.now c.loop-depth.depth-index (map deep_from (zip c.args.nodes.items c.args.depths.now)) (omega arith) c.loop-depth.invariant

@@ -1,0 +1,28 @@
+use Rattle.std.proofs.Common.{◌≡◌, refl, ap, ◌∙◌}
+use Rattle.lw_net.specs.declared.written.NumberedNode.{NumberedNode}
+use Rattle.lw_net.specs.Written.{names_in, named_nodes}
+use Rattle.lw_net.proofs.Writing.{on_err, nodes_longer, names_longer, longer_then, item_named, pushed}
+use Rattle.lw_net.proofs.draft.DraftNodes.push.Goals as goal
+
+pub returns-in_err-numbers-clause-err : goal.returns-in_err-numbers-clause-err
+returns-in_err-numbers-clause-err c =
+    on_err c.from_residual.result (nodes_longer c.self.inside.names.keys c.numbers.new.names.keys c.self.inside.nodes.items c.numbers.ensures.longer c.self.invariant ∙ c.self.view_is)
+
+pub returns-in_err-out-clause-err : goal.returns-in_err-out-clause-err
+returns-in_err-out-clause-err c =
+    let longer = longer_then c.self.inside.names.keys c.numbers.new.names.keys c.number.new.names.keys c.numbers.ensures.longer c.number.ensures.longer in
+    on_err c.from_residual-in_err-out.result (nodes_longer c.self.inside.names.keys c.number.new.names.keys c.self.inside.nodes.items longer c.self.invariant ∙ c.self.view_is)
+
+pub returns-in_err-push-clause-err : goal.returns-in_err-push-clause-err
+returns-in_err-push-clause-err c =
+    let longer = longer_then c.self.inside.names.keys c.numbers.new.names.keys c.number.new.names.keys c.numbers.ensures.longer c.number.ensures.longer in
+    on_err c.from_residual-in_err-push.result (ap (named_nodes c.number.new.names.keys) c.in_err-push.ensures.items ∙ (nodes_longer c.self.inside.names.keys c.number.new.names.keys c.self.inside.nodes.items longer c.self.invariant ∙ c.self.view_is))
+
+pub returns-clause-ok : goal.returns-clause-ok
+returns-clause-ok c =
+    let keys = c.number.new.names.keys in
+    let made : names_in keys c.new-fanins.result ≡ c.args.item.fanins =
+    ap (names_in keys) c.new-fanins.ensures ∙ (names_longer c.numbers.new.names.keys keys c.in_ok-numbers.field-0.items c.number.ensures.longer c.in_ok-numbers.ensures.within ∙ c.in_ok-numbers.ensures.named) in
+    let node : NumberedNode = record { out = c.in_ok-out.out; fanins = c.new-fanins.result; rows = c.args.item.rows; on = c.args.item.on } in
+    pushed c.self.inside.names.keys c.numbers.new.names.keys keys c.self.inside.nodes.items c.push.new.self.items node c.args.self.now c.args.item c.numbers.ensures.longer c.number.ensures.longer c.self.invariant c.in_ok-push.ensures.items c.self.view_is
+    (item_named keys node c.args.item c.in_ok-out.ensures.named made refl refl)

@@ -1,9 +1,0 @@
-use Rattle.std.proofs.Common.{◌≡◌, map, take, drop}
-use Rattle.lw_net.specs.Closing.{number_in, undefined_in}
-use Rattle.lw_net.proofs.naming.numbers_of.Given as goal
-
-abbrev pub invariant-loop-name : goal.invariant-loop-name
-invariant-loop-name l = record {
-  so_far : l.numbers.items ≡ map (number_in l.signals.keys) (take l.name-index l.names);
-  rest : undefined_in l.signals.keys (drop l.name-index l.names) ≡ undefined_in l.signals.keys l.names;
-}
