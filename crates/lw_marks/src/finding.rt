@@ -1,0 +1,216 @@
+// The least match against the matches of a cursor, and marks against rounds over all matches, in graphs that are drawn.
+ghost use Rattle.std.specs.Prelude.{◌≡◌, ◌<◌, length};
+ghost use Rattle.lw_match.specs.Values.{AreInRange};
+ghost use Rattle.lw_match.specs.Least.{AreOfCells};
+ghost use Rattle.lw_label.specs.Delays.{most_time, time_cost};
+
+use crate::drawing::{Dice, Size, drawn_graph, drawn_marks};
+use crate::libraries::{library_of, patterns_of};
+use crate::plain::{
+    MOST_MATCHES, all_matches, are_once_and_rising, is_same, least_of, marks_by_rounds,
+};
+use lw_genlib::Library;
+use lw_graph::Graph;
+use lw_label::{DelayCost, relabel};
+use lw_match::{Best, Mark, Match, least, least_below};
+use lw_pattern::Patterns;
+use lw_pool::ClassId;
+use std::alloc::{AllocError, Global};
+use std::process::Abort;
+use std::test::Fail;
+
+/// Libraries: small cells; cells with pins that stand twice; constants, a pin alone and no delays; cells of many pins; and
+/// cells that tie.
+const LIBRARIES: [&str; 5] = [
+    "GATE inv 1 O=!a;PIN * INV 1 999 1 0 1 0\nGATE nand2 2 O=!(a*b);PIN * INV 1 999 1.5 0 1.5 0\nGATE nand3 3 O=!(a*b*c);PIN * INV 1 999 2 0 2 0\n",
+    "GATE inv 1 O=!a;PIN * INV 1 999 .5 0 .5 0\nGATE square 1 O=!(a*a);PIN * INV 1 999 1 0 1 0\nGATE xor 5 O=a*!b+!a*b;PIN a UNKNOWN 1 999 2 0 2 0 PIN b UNKNOWN 1 999 1.5 0 1.5 0\nGATE majority 6 O=a*b+a*c+b*c;PIN * NONINV 1 999 2.5 0 2.5 0\nGATE mux 4 O=s*a+!s*b;PIN * UNKNOWN 1 999 2 0 2 0\n",
+    "GATE zero 0 O=CONST0;\nGATE one 0 O=CONST1;\nGATE wire 0 O=a;PIN * NONINV 1 999 0 0 0 0\nGATE inv 0 O=!a;PIN * INV 1 999 0 0 0 0\nGATE nand2 0 O=!(a*b);PIN * INV 1 999 0 0 0 0\n",
+    "GATE inv 1 O=!a;PIN * INV 1 999 1 0 1 0\nGATE and4 4 O=a*b*c*d;PIN a NONINV 1 999 1 0 1 0 PIN b NONINV 1 999 2 0 2 0 PIN c NONINV 1 999 3 0 3 0 PIN d NONINV 1 999 4 0 4 0\nGATE aoi22 4 O=!(a*b+c*d);PIN * INV 1 999 2 0 2 0\nGATE or2 2 O=a+b;PIN * NONINV 1 999 1 0 1 0\nGATE oai211 4 O=!((a+b)*c*d);PIN * INV 1 999 2 0 2 0\n",
+    "GATE first 1 O=!(a*b);PIN * INV 1 999 1 0 1 0\nGATE second 1 O=!(a*b);PIN * INV 1 999 1 0 1 0\nGATE inv 1 O=!a;PIN * INV 1 999 0 0 0 0\nGATE nor2 1 O=!(a+b);PIN a INV 1 999 1 0 1 0 PIN b INV 1 999 .5 0 1 0\nGATE wire 1 O=a;PIN * NONINV 1 999 .5 0 .5 0\n",
+];
+
+/// What is drawn with each library: inputs, further base forms, facts and links, and how many graphs.
+const SIZES: [(u32, u32, u32, u32, u32); 4] = [
+    (1, 3, 4, 0, 12),
+    (3, 6, 9, 1, 12),
+    (4, 8, 16, 2, 8),
+    (5, 5, 20, 0, 4),
+];
+
+/// A graph, a library with its patterns, and all matches.
+#[derive(Clone, Copy)]
+struct Case<'a> {
+    lib: &'a Library,
+    pats: &'a Patterns,
+    graph: &'a Graph,
+    matches: &'a [Vec<Match>],
+}
+
+// Whether the least match that was found is this one.
+fn is_found(found: &Option<Best>, wanted: Option<(Mark, &Match)>) -> bool {
+    match (found, wanted) {
+        (None, None) => true,
+        (Some(best), Some((mark, other))) => best.mark == mark && is_same(&best.found, other),
+        _ => false,
+    }
+}
+
+// Bounds about a mark: the mark, one that is greater by its height, one that is greater by its cost, and one far off.
+fn bounds_about(mark: Mark) -> [Mark; 4] {
+    [
+        mark,
+        Mark {
+            cost: mark.cost,
+            height: mark.height.saturating_add(1),
+        },
+        Mark {
+            cost: mark.cost.saturating_add(1),
+            height: 0,
+        },
+        Mark {
+            cost: 1_000_000,
+            height: 1,
+        },
+    ]
+}
+
+// Looks for the least match below some bounds: it is found where its mark is before the bound.
+fn check_below(
+    rt: &impl Abort,
+    case: &Case<'_>,
+    marks: &[Option<Mark>],
+    class: ClassId,
+    wanted: Option<(Mark, &Match)>,
+)
+    requires class { class.0 < length case.now.graph.now.pairs }
+    requires one_each { length marks.now ≡ length case.now.graph.now.pairs }
+    requires in_range { AreInRange most_time marks.now }
+    requires of_cells { AreOfCells (time_cost case.now.lib.now).pin_counts case.now.pats.now }
+{
+    let mark = match wanted {
+        Some((mark, _found)) => mark,
+        None => Mark { cost: 0, height: 0 },
+    };
+    let cost = DelayCost::new(case.lib);
+    for bound in bounds_about(mark) {
+        let found = least_below(case.graph, case.pats, marks, class, &cost, bound);
+        let before = (mark.cost, mark.height) < (bound.cost, bound.height);
+        let below = if before { wanted } else { None };
+        assert!(rt; is_found(&found, below), "class {class:?} below {bound:?}");
+    }
+}
+
+// Looks for the least match at a class, and compares it with the least of the list of all matches.
+fn check_class(
+    rt: &impl Abort,
+    case: &Case<'_>,
+    marks: &[Option<Mark>],
+    class: ClassId,
+    matches: &[Match],
+)
+    requires class { class.0 < length case.now.graph.now.pairs }
+    requires one_each { length marks.now ≡ length case.now.graph.now.pairs }
+    requires in_range { AreInRange most_time marks.now }
+    requires of_cells { AreOfCells (time_cost case.now.lib.now).pin_counts case.now.pats.now }
+{
+    let wanted = least_of(case.lib, case.pats, marks, matches);
+    let found = least(
+        case.graph,
+        case.pats,
+        marks,
+        class,
+        &DelayCost::new(case.lib),
+    );
+    assert!(rt; is_found(&found, wanted), "class {class:?}");
+    check_below(rt, case, marks, class, wanted);
+}
+
+fn check_classes(rt: &impl Abort, case: &Case<'_>, marks: &[Option<Mark>])
+    requires one_each { length marks.now ≡ length case.now.graph.now.pairs }
+    requires in_range { AreInRange most_time marks.now }
+    requires of_cells { AreOfCells (time_cost case.now.lib.now).pin_counts case.now.pats.now }
+{
+    for number in 0..case.graph.classes() {
+        if let Some(matches) = case.matches.get(number as usize) {
+            check_class(rt, case, marks, ClassId(number), matches);
+        }
+    }
+}
+
+// Whether there are few matches at each class, each once and by rising patterns.
+fn are_listed(matches: &[Vec<Match>]) -> bool {
+    matches
+        .iter()
+        .all(|at| at.len() < MOST_MATCHES && are_once_and_rising(at))
+}
+
+// Checks the matches at each class of a graph, the labels, and the least matches under these and under drawn marks.
+fn check_graph(
+    rt: &impl Abort,
+    alloc: Global,
+    lib: &Library,
+    pats: &Patterns,
+    graph: &Graph,
+    dice: &mut Dice,
+) -> Result<(), AllocError>
+    requires { AreOfCells (time_cost lib.now).pin_counts pats.now }
+{
+    let matches = all_matches(alloc, graph, pats)?;
+    assert_eq!(rt; matches.len(), graph.classes() as usize);
+    assert!(rt; are_listed(&matches), "each match once, by rising patterns");
+    let labels = relabel(alloc, graph, pats, &DelayCost::new(lib))?;
+    let wanted = marks_by_rounds(alloc, lib, pats, graph, &matches)?;
+    assert_eq!(rt; labels.marks(), wanted.as_slice());
+    let case = Case {
+        lib,
+        pats,
+        graph,
+        matches: &matches,
+    };
+    check_classes(rt, &case, labels.marks());
+    check_classes(rt, &case, &drawn_marks(alloc, dice, graph, false)?);
+    check_classes(rt, &case, &drawn_marks(alloc, dice, graph, true)?);
+    Ok(())
+}
+
+fn check_graphs(
+    rt: &impl Abort,
+    alloc: Global,
+    lib: &Library,
+    pats: &Patterns,
+    size: Size,
+    count: u32,
+    dice: &mut Dice,
+) -> Result<(), Fail>
+    requires { AreOfCells (time_cost lib.now).pin_counts pats.now }
+{
+    for _graph in 0..count {
+        let graph = drawn_graph(alloc, dice, size)?;
+        check_graph(rt, alloc, lib, pats, &graph, dice)?;
+    }
+    Ok(())
+}
+
+fn check_library(rt: &impl Abort, alloc: Global, text: &str, dice: &mut Dice) -> Result<(), Fail> {
+    let lib = library_of(alloc, text)?;
+    let pats = patterns_of(alloc, &lib)?;
+    for (inputs, forms, facts, links, count) in SIZES {
+        let size = Size {
+            inputs,
+            forms,
+            facts,
+            links,
+        };
+        check_graphs(rt, alloc, &lib, &pats, size, count, dice)?;
+    }
+    Ok(())
+}
+
+#[test]
+fn the_least_is_that_of_all_matches(rt: HostRuntime) -> Result<(), Fail> {
+    let mut dice = Dice::new(1);
+    for text in LIBRARIES {
+        check_library(&rt, rt.alloc(), text, &mut dice)?;
+    }
+    Ok(())
+}

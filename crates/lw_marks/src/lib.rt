@@ -1,0 +1,17 @@
+//! Tests of matches and of labels, by the public calls of their crates.
+#![tactic(auto)]
+
+#[cfg(test)]
+mod counts;
+#[cfg(test)]
+mod drawing;
+#[cfg(test)]
+mod finding;
+#[cfg(test)]
+mod labels;
+#[cfg(test)]
+mod libraries;
+#[cfg(test)]
+mod plain;
+#[cfg(test)]
+mod sketch;
