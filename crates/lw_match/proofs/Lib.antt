@@ -18,6 +18,7 @@ pub mod OfCells
 pub mod Pairs
 pub mod Ranking
 pub mod Refusals
+pub mod RootShapes
 pub mod Rooting
 pub mod Settled
 pub mod Soughts
