@@ -8,6 +8,7 @@ pub mod Cursors
 pub mod CutsOfBounds
 pub mod Found
 pub mod Improving
+pub mod Intervals
 pub mod Lessening
 pub mod Marked
 pub mod MatchExamples
