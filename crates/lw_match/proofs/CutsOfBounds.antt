@@ -1,6 +1,6 @@
 -- What a table of bounds cuts.
 use Rattle.std.proofs.Common.{ℕ, ◌<◌, ◌≡◌, List, [], length, Option, Some, slice_get, slice_index_or, get_or, subst, arith}
-use Rattle.std.proofs.lemmas.Option.{slice_get-get_or}
+use Rattle.std.proofs.lemmas.Option.{slice_get_within, slice_get-get_or}
 use Rattle.std.proofs.lemmas.List.{get_or_past}
 use native.Mathlib.Decide.{dec_lt}
 use Rattle.lw_laws.specs.Graphs.{Graph}
@@ -15,11 +15,23 @@ use Rattle.lw_match.specs.Cutting.{CutsState, CutsFit, AreCutsOf}
 use Rattle.lw_match.proofs.MoreParts.{shape_fits}
 
 abbrev pub cuts_of : BoundsState → CutsState
-cuts_of b = record { sides = b.sides; width = length b.parts; numbers = b.numbers }
+cuts_of b = record { sides = b.sides; roots = b.roots; width = length b.parts; numbers = b.numbers }
 
 pub bounds_cut : (b : BoundsState) (pats : List Pattern) (g : Graph) → BoundsFit b pats g → CutsFit (cuts_of b) g
-bounds_cut b pats g fit = record { sides = λ i place side at. sides i place side at (dec_lt i (length pats)); rows = fit.rows.rows }
+bounds_cut b pats g fit = record {
+  sides = λ i place side at. sides i place side at (dec_lt i (length pats));
+  roots = roots;
+  rows = fit.rows.rows;
+}
   where
+    roots : (i : ℕ) (side : Side) → slice_get b.roots i ≡ Some side → SideFits (length b.parts) side
+    roots i side at =
+        let none : Pattern = record { cell = 0; tree = const_one } in
+        let p = get_or pats i none in
+        let lt = slice_get_within b.roots i side at in
+        let count = fit.root_count in
+        shape_fits b.parts p.tree side (fit.roots i p side (slice_get-get_or pats i none (omega arith)) at)
+
     sides : (i place : ℕ) (side : Side) → slice_get (slice_index_or b.sides i []) place ≡ Some side → Dec (i < length pats) → SideFits (length b.parts) side
     sides i place side at (yes lt) =
         let none : Pattern = record { cell = 0; tree = const_one } in
@@ -31,5 +43,7 @@ bounds_cut b pats g fit = record { sides = λ i place side at. sides i place sid
         cc
 
 pub bounds_cut_well : (b : BoundsState) (pats : List Pattern) (g : Graph) (marks : List (Option Mark)) → BoundsFit b pats g → AreBounds b g marks → AreCutsOf (cuts_of b) pats g marks
-bounds_cut_well b pats g marks fit bounds i p place side e at =
-    bounds (tree_at (nodes_of p.tree) place) side (fit.sides i p e place side at)
+bounds_cut_well b pats g marks fit bounds = record {
+  sides = λ i p place side e at. bounds (tree_at (nodes_of p.tree) place) side (fit.sides i p e place side at);
+  roots = λ i p side e at. bounds p.tree side (fit.roots i p side e at);
+}

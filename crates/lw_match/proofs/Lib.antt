@@ -8,6 +8,7 @@ pub mod Cursors
 pub mod CutsOfBounds
 pub mod Found
 pub mod Improving
+pub mod Intervals
 pub mod Lessening
 pub mod Marked
 pub mod MatchExamples
@@ -19,6 +20,7 @@ pub mod Pairs
 pub mod Passes
 pub mod Ranking
 pub mod Refusals
+pub mod RootShapes
 pub mod Rooting
 pub mod Settled
 pub mod Soughts

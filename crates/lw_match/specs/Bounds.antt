@@ -10,13 +10,14 @@ use Rattle.lw_match.specs.declared.mark.Mark.{Mark}
 use Rattle.lw_match.specs.declared.parts.Side.{Side}
 use Rattle.lw_match.specs.declared.parts.Part.{Part}
 use Rattle.lw_match.specs.Values.{marks_in}
-use Rattle.lw_match.specs.Shapes.{HasShape, AllHaveShapes, AreClosed}
+use Rattle.lw_match.specs.Shapes.{HasShape, AllHaveShapes, HaveRootShapes, AreClosed}
 use Rattle.lw_match.specs.Numbers.{never, Reading, part_number, side_number}
 
--- the parts, the side of each node of each pattern, and the numbers of the parts at each class
+-- the parts, the side of each node of each pattern and of its root, and the numbers of the parts at each class
 pub record BoundsState : Type 0 where
   pub parts : List Part
   pub sides : List (List Side)
+  pub roots : List Side
   pub numbers : List ℕ
 
 abbrev pub reading_of : Graph → List (Option Mark) → List Part → List ℕ → Reading
@@ -36,6 +37,8 @@ pub record BoundsFit (b : BoundsState) (pats : List Pattern) (g : Graph) : Type 
   pub rows : AreRows b.parts b.numbers g
   pub count : length b.sides ≡ length pats
   pub sides : AllHaveShapes b.parts pats b.sides
+  pub root_count : length b.roots ≡ length pats
+  pub roots : HaveRootShapes b.parts pats b.roots
 
 -- the number of the part at the class is not above what any pair of the class gives
 abbrev pub IsSettledAt : Graph → Reading → List Part → ℕ → ℕ → Type 0

@@ -72,3 +72,8 @@ HaveShapes parts nodes sides =
 abbrev pub AllHaveShapes : List Part → List Pattern → List (List Side) → Type 0
 AllHaveShapes parts pats all =
     (i : ℕ) (p : Pattern) → slice_get pats i ≡ Some p → HaveShapes parts (nodes_of p.tree) (slice_index_or all i [])
+
+-- the sides of the roots of patterns
+abbrev pub HaveRootShapes : List Part → List Pattern → List Side → Type 0
+HaveRootShapes parts pats roots =
+    (i : ℕ) (p : Pattern) (s : Side) → slice_get pats i ≡ Some p → slice_get roots i ≡ Some s → HasShape parts p.tree s

@@ -5,7 +5,7 @@ use crate::Mark;
 use crate::cuts::Cuts;
 use crate::parts::{Part, Side};
 use crate::renewing::{Renewal, renew_parts};
-use crate::shapes::all_sides;
+use crate::shapes::{all_sides, root_sides};
 use indexmap::IndexSet;
 use lw_graph::Graph;
 use lw_pattern::Patterns;
@@ -31,6 +31,7 @@ fn room_for(classes: u32) -> u32
 pub struct Bounds {
     parts: IndexSet<Part>,
     sides: Vec<Vec<Side>>,
+    roots: Vec<Side>,
     numbers: Vec<u64>,
 }
 
@@ -40,7 +41,7 @@ impl Model for Bounds {
 
     ghost Value = { BoundsState };
 
-    ghost view = { λ b. record { parts = b.parts.keys; sides = map (λ side. side.items) b.sides.items; numbers = b.numbers.items } };
+    ghost view = { λ b. record { parts = b.parts.keys; sides = map (λ side. side.items) b.sides.items; roots = b.roots.items; numbers = b.numbers.items } };
 }
 
 impl Bounds {
@@ -56,10 +57,12 @@ impl Bounds {
         let room = room_for(graph.classes()) as usize;
         let mut parts = IndexSet::new(alloc);
         let sides = all_sides(alloc, &mut parts, room, pats)?;
+        let roots = root_sides(alloc, pats, &sides)?;
         let numbers = vec![in alloc; u64::MAX; parts.len() * graph.classes() as usize]?;
         Ok(Bounds {
             parts,
             sides,
+            roots,
             numbers,
         })
     }
@@ -87,10 +90,11 @@ impl Bounds {
 
     /// What searches are cut by.
     pub(crate) fn cuts(&self) -> Cuts
-        ensures { cuts_state result ≡ record { sides = self.now.sides; width = length self.now.parts; numbers = self.now.numbers } }
+        ensures { cuts_state result ≡ record { sides = self.now.sides; roots = self.now.roots; width = length self.now.parts; numbers = self.now.numbers } }
     {
         Cuts {
             sides: &self.sides,
+            roots: &self.roots,
             width: self.parts.len(),
             numbers: &self.numbers,
         }

@@ -2,6 +2,7 @@
 #![tactic(auto)]
 
 mod binding;
+mod bisecting;
 mod bounds;
 mod cost;
 mod cursor;
