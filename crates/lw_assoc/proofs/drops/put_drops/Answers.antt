@@ -1,5 +1,4 @@
 use Rattle.std.proofs.Common.{◌≡◌, ◌+◌, ◌-◌, ◌*◌, ◌^◌, ◌<◌, ◌∙◌, ap, subst, arith, length, length-set, Some}
-use Rattle.std.proofs.Math.Pow.{pow-lt}
 use Rattle.lw_laws.specs.NumberedForms.{IsPart}
 use Rattle.lw_form.specs.Bases.{picked, plain_base}
 use Rattle.lw_assoc.proofs.Dropping.{drops_before, drops_more, twice, twice_half}

@@ -1,4 +1,4 @@
-use Rattle.std.proofs.Common.{◌≡◌, ◌+◌, ◌*◌, ◌/◌, ap, sym, subst, arith}
+use Rattle.std.proofs.Common.{◌+◌, ◌*◌, ◌/◌, ap, arith}
 use Rattle.std.specs.Prelude.{slice_index}
 use Rattle.lw_assoc.proofs.Dropping.{above, more_in, most, parts_more}
 use Rattle.lw_assoc.proofs.parts.put_part.Goals as goal

@@ -1,4 +1,4 @@
-use Rattle.std.proofs.Common.{ℕ, ◌+◌, ◌-◌, ◌≡◌, length}
+use Rattle.std.proofs.Common.{◌+◌, ◌-◌, ◌≡◌, length}
 use Rattle.lw_assoc.specs.Parts.{HasParts}
 use Rattle.lw_assoc.proofs.parts.put_parts.Given as goal
 
