@@ -1,8 +1,11 @@
+pub mod Bounds
 pub mod Coming
+pub mod Cutting
 pub mod Jobs
 pub mod Least
 pub mod Matching
-pub mod Roots
+pub mod Numbers
 pub mod Searching
 pub mod Seeking
+pub mod Shapes
 pub mod Values

@@ -2,22 +2,30 @@
 #![tactic(auto)]
 
 mod binding;
+mod bounds;
 mod cost;
 mod cursor;
+mod cuts;
 mod finding;
 mod goals;
 mod job;
 mod laws;
 mod mark;
+mod numbers;
+mod parts;
 mod pins;
 mod query;
-mod roots;
+mod renewing;
 mod search;
 mod seeking;
+mod shapes;
 
+pub use bounds::Bounds;
 pub use cost::Cost;
 pub use cursor::Cursor;
-pub use finding::{least, least_below};
-pub use laws::{library_patterns_are_of_cells, matches_have_cells};
+pub use finding::{least, least_below, least_within};
+pub use laws::{
+    bounds_of_fewer, library_patterns_are_of_cells, matches_have_cells, settled_bounds_are_bounds,
+};
 pub use mark::{Best, Mark, Match};
 pub use pins::Pins;

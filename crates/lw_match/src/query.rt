@@ -1,10 +1,10 @@
 use crate::Mark;
-use crate::roots::Roots;
+use crate::cuts::Cuts;
 use lw_graph::Graph;
 use lw_pattern::Patterns;
 use lw_pool::ClassId;
 
-/// A class at which matches are sought, and what they are priced with.
+/// A class at which matches are sought, what they are priced with, and what the search is cut by.
 #[derive(Drop)]
 pub struct Query<'a, C> {
     pub graph: &'a Graph,
@@ -12,5 +12,5 @@ pub struct Query<'a, C> {
     pub marks: &'a [Option<Mark>],
     pub cost: &'a C,
     pub class: ClassId,
-    pub roots: Roots,
+    pub cuts: Cuts<'a>,
 }

@@ -1,0 +1,35 @@
+-- What a table of bounds cuts.
+use Rattle.std.proofs.Common.{ℕ, ◌<◌, ◌≡◌, List, [], length, Option, Some, slice_get, slice_index_or, get_or, subst, arith}
+use Rattle.std.proofs.lemmas.Option.{slice_get-get_or}
+use Rattle.std.proofs.lemmas.List.{get_or_past}
+use native.Mathlib.Decide.{dec_lt}
+use Rattle.lw_laws.specs.Graphs.{Graph}
+use Rattle.lw_laws.specs.Trees.{const_one}
+use Rattle.lw_laws.specs.Covers.{Pattern}
+use Rattle.lw_pattern.specs.Nodes.{tree_at, nodes_of}
+use Rattle.lw_match.specs.declared.mark.Mark.{Mark}
+use Rattle.lw_match.specs.declared.parts.Side.{Side}
+use Rattle.lw_match.specs.Shapes.{SideFits}
+use Rattle.lw_match.specs.Bounds.{BoundsState, BoundsFit, AreBounds}
+use Rattle.lw_match.specs.Cutting.{CutsState, CutsFit, AreCutsOf}
+use Rattle.lw_match.proofs.MoreParts.{shape_fits}
+
+abbrev pub cuts_of : BoundsState → CutsState
+cuts_of b = record { sides = b.sides; width = length b.parts; numbers = b.numbers }
+
+pub bounds_cut : (b : BoundsState) (pats : List Pattern) (g : Graph) → BoundsFit b pats g → CutsFit (cuts_of b) g
+bounds_cut b pats g fit = record { sides = λ i place side at. sides i place side at (dec_lt i (length pats)); rows = fit.rows.rows }
+  where
+    sides : (i place : ℕ) (side : Side) → slice_get (slice_index_or b.sides i []) place ≡ Some side → Dec (i < length pats) → SideFits (length b.parts) side
+    sides i place side at (yes lt) =
+        let none : Pattern = record { cell = 0; tree = const_one } in
+        let p = get_or pats i none in
+        shape_fits b.parts (tree_at (nodes_of p.tree) place) side (fit.sides i p (slice_get-get_or pats i none lt) place side at)
+    sides i place side at (no ge) =
+        let count = fit.count in
+        let empty : slice_get [] place ≡ Some side = subst (λ (ss : List Side). slice_get ss place ≡ Some side) (get_or_past b.sides i [] (omega arith)) at in
+        cc
+
+pub bounds_cut_well : (b : BoundsState) (pats : List Pattern) (g : Graph) (marks : List (Option Mark)) → BoundsFit b pats g → AreBounds b g marks → AreCutsOf (cuts_of b) pats g marks
+bounds_cut_well b pats g marks fit bounds i p place side e at =
+    bounds (tree_at (nodes_of p.tree) place) side (fit.sides i p e place side at)

@@ -1,0 +1,233 @@
+-- Shapes under more parts.
+use Rattle.std.proofs.Common.{Vec, Global, ℕ, zero, suc, ◌⊎◌, ◌+◌, ◌<◌, ◌≤◌, ◌≡◌, Bool, true, false, ◌&&◌, not, position, if◌then◌else◌, List, [], ◌∷◌, ◌++◌, length, Some, slice_get, get_or, refl, sym, ap, ap₂, subst, ◌∙◌, inl, inr, arith, append-nil, append_assoc, eqb-true}
+use Rattle.std.specs.List.{list_any}
+use Rattle.std.proofs.lemmas.List.{length-append}
+use Rattle.std.proofs.lemmas.List.Quantifiers.{position-Some}
+use Rattle.std.proofs.lemmas.Option.{slice_get_within, slice_get-get_or}
+use Rattle.indexmap.specs.IndexSet.{insert_key}
+use Rattle.lw_laws.specs.Trees.{Tree, leaf, const_one, const_zero, inv, nand}
+use Rattle.lw_laws.specs.Covers.{Pattern}
+use Rattle.lw_pattern.specs.declared.node.PatNode.{PatNode}
+use Rattle.lw_pattern.specs.Nodes.{tree_at, nodes_of}
+use Rattle.lw_match.specs.declared.parts.Kind.{Kind}
+use Rattle.lw_match.specs.declared.parts.Kind.TheVariants.{Any, Leaf, One, Joined}
+use Rattle.lw_match.specs.declared.parts.Side.{Side}
+use Rattle.lw_match.specs.declared.parts.Part.{Part}
+use Rattle.lw_match.specs.contracts.parts.KindPartialEq.TheImpl.{eq-value as kind_eq}
+use Rattle.lw_match.specs.contracts.parts.SidePartialEq.TheImpl.{eq-value as side_eq}
+use Rattle.lw_match.specs.contracts.parts.PartPartialEq.TheImpl.{eq-value as part_eq}
+use Rattle.lw_match.specs.Shapes.{turned, AreEitherOf, IsJoined, JoinsShapes, HasShape, KindFits, SideFits, AreClosed, AreParts, AreMoreParts, HaveShapes, AllHaveShapes}
+
+-- a test of equality
+pub same_kind : (a b : Kind) → kind_eq.it a b ≡ true → a ≡ b
+same_kind Any Any e = refl
+same_kind Any Leaf e = cc
+same_kind Any One e = cc
+same_kind Any (Joined n) e = cc
+same_kind Leaf Any e = cc
+same_kind Leaf Leaf e = refl
+same_kind Leaf One e = cc
+same_kind Leaf (Joined n) e = cc
+same_kind One Any e = cc
+same_kind One Leaf e = cc
+same_kind One One e = refl
+same_kind One (Joined n) e = cc
+same_kind (Joined m) Any e = cc
+same_kind (Joined m) Leaf e = cc
+same_kind (Joined m) One e = cc
+same_kind (Joined m) (Joined n) e = ap Joined (eqb-true m n e)
+
+and_left : (s t : Bool) → (s && t) ≡ true → s ≡ true
+and_left true t e = refl
+and_left false t e = e
+
+and_right : (s t : Bool) → (s && t) ≡ true → t ≡ true
+and_right true t e = e
+and_right false t e = cc
+
+abbrev side_with : Kind → Bool → Side
+side_with kind flipped = record { kind = kind; flipped = flipped }
+
+side_by : (j k : Kind) (f g : Bool) → side_eq.it (side_with j f) (side_with k g) ≡ true → side_with j f ≡ side_with k g
+side_by j k true true e = ap (λ (k : Kind). side_with k true) (same_kind j k (and_left (kind_eq.it j k) true e))
+side_by j k true false e = let f = and_right (kind_eq.it j k) false e in cc
+side_by j k false true e = let f = and_right (kind_eq.it j k) false e in cc
+side_by j k false false e = ap (λ (k : Kind). side_with k false) (same_kind j k (and_left (kind_eq.it j k) true e))
+
+pub same_side : (a b : Side) → side_eq.it a b ≡ true → a ≡ b
+same_side a b e = side_by a.kind b.kind a.flipped b.flipped e
+
+pub same_part : (a b : Part) → part_eq.it a b ≡ true → a ≡ b
+same_part a b e =
+    let left = same_side a.left b.left (and_left (side_eq.it a.left b.left) (side_eq.it a.right b.right) e) in
+    let right = same_side a.right b.right (and_right (side_eq.it a.left b.left) (side_eq.it a.right b.right) e) in
+    ap₂ (λ (l r : Side). let p : Part = record { left = l; right = r } in p) left right
+
+pub found : (keys : List Part) (p : Part) (n : ℕ) → position (part_eq.it p) keys ≡ Some n → slice_get keys n ≡ Some p
+found keys p n e =
+    let (lt, same, first) = position-Some (part_eq.it p) keys n p e in
+    slice_get-get_or keys n p lt ∙ ap Some (sym (same_part p (get_or keys n p) same))
+
+pub turned_twice : (s : Side) → turned (turned s) ≡ s
+turned_twice s = by_flag s.flipped
+  where
+    by_flag : (b : Bool) → side_with s.kind (not (not b)) ≡ side_with s.kind b
+    by_flag true = refl
+    by_flag false = refl
+
+pub get_in_more : {A : Type 0} (xs rest : List A) (n : ℕ) (x : A) → slice_get xs n ≡ Some x → slice_get (xs ++ rest) n ≡ Some x
+get_in_more [] rest n x e = cc
+get_in_more (y ∷ xs) rest zero x e = e
+get_in_more (y ∷ xs) rest (suc n) x e = get_in_more xs rest n x e
+
+-- an element of a list that got one more is of the list, or is the new one
+pub get_in_both : {A : Type 0} (xs : List A) (y : A) (n : ℕ) (x : A) → slice_get (xs ++ y ∷ []) n ≡ Some x → (slice_get xs n ≡ Some x) ⊎ ((n ≡ length xs) × (x ≡ y))
+get_in_both [] y zero x e = inr (refl, cc)
+get_in_both [] y (suc n) x e = cc
+get_in_both (z ∷ xs) y zero x e = inl e
+get_in_both (z ∷ xs) y (suc n) x e = deeper (get_in_both xs y n x e)
+  where
+    deeper : (slice_get xs n ≡ Some x) ⊎ ((n ≡ length xs) × (x ≡ y)) → (slice_get (z ∷ xs) (suc n) ≡ Some x) ⊎ ((suc n ≡ length (z ∷ xs)) × (x ≡ y))
+    deeper (inl f) = inl f
+    deeper (inr (f, g)) = inr (ap suc f, g)
+
+pub shape_more : (parts rest : List Part) (t : Tree) (s : Side) → HasShape parts t s → HasShape (parts ++ rest) t s
+shape_more parts rest (leaf k) s h = h
+shape_more parts rest const_one s h = h
+shape_more parts rest const_zero s h = h
+shape_more parts rest (inv t) s h = shape_more parts rest t (turned s) h
+shape_more parts rest (nand t u) s (inl e) = inl e
+shape_more parts rest (nand t u) s (inr (n, p, e, at, inl (left, right))) =
+    inr (n, p, e, get_in_more parts rest n p at, inl (shape_more parts rest t p.left left, shape_more parts rest u p.right right))
+shape_more parts rest (nand t u) s (inr (n, p, e, at, inr (right, left))) =
+    inr (n, p, e, get_in_more parts rest n p at, inr (shape_more parts rest t p.right right, shape_more parts rest u p.left left))
+
+fits_plain : (n : ℕ) (s : Side) (kind : Kind) → s.kind ≡ kind → KindFits n kind → SideFits n s
+fits_plain n s kind e h = subst (KindFits n) (sym e) h
+
+pub shape_fits : (parts : List Part) (t : Tree) (s : Side) → HasShape parts t s → SideFits (length parts) s
+shape_fits parts (leaf k) s (inl e) = fits_plain (length parts) s Any e tt
+shape_fits parts (leaf k) s (inr e) = fits_plain (length parts) s Leaf (ap (λ (s : Side). s.kind) e) tt
+shape_fits parts const_one s (inl e) = fits_plain (length parts) s Any e tt
+shape_fits parts const_one s (inr e) = fits_plain (length parts) s One (ap (λ (s : Side). s.kind) e) tt
+shape_fits parts const_zero s (inl e) = fits_plain (length parts) s Any e tt
+shape_fits parts const_zero s (inr e) = fits_plain (length parts) s One (ap (λ (s : Side). s.kind) e) tt
+shape_fits parts (inv t) s h = shape_fits parts t (turned s) h
+shape_fits parts (nand t u) s (inl e) = fits_plain (length parts) s Any e tt
+shape_fits parts (nand t u) s (inr (n, p, e, at, sides)) =
+    fits_plain (length parts) s (Joined n) (ap (λ (s : Side). s.kind) e) (slice_get_within parts n p at)
+
+pub kind_fits_more : (n m : ℕ) (kind : Kind) → n ≤ m → KindFits n kind → KindFits m kind
+kind_fits_more n m Any le h = tt
+kind_fits_more n m Leaf le h = tt
+kind_fits_more n m One le h = tt
+kind_fits_more n m (Joined k) le h = omega arith
+
+-- one more part whose sides name earlier ones
+pub closed_more : (parts : List Part) (p : Part) → AreClosed parts → SideFits (length parts) p.left → SideFits (length parts) p.right → AreClosed (parts ++ p ∷ [])
+closed_more parts p closed left right n q e = by_place (get_in_both parts p n q e)
+  where
+    long : length parts ≤ length (parts ++ p ∷ [])
+    long = omega (arith, length-append parts (p ∷ []))
+
+    wider : (q : Part) → SideFits (length parts) q.left × SideFits (length parts) q.right → SideFits (length (parts ++ p ∷ [])) q.left × SideFits (length (parts ++ p ∷ [])) q.right
+    wider q (l, r) = (kind_fits_more (length parts) (length (parts ++ p ∷ [])) q.left.kind long l, kind_fits_more (length parts) (length (parts ++ p ∷ [])) q.right.kind long r)
+
+    by_place : (slice_get parts n ≡ Some q) ⊎ ((n ≡ length parts) × (q ≡ p)) → SideFits (length (parts ++ p ∷ [])) q.left × SideFits (length (parts ++ p ∷ [])) q.right
+    by_place (inl f) = wider q (closed n q f)
+    by_place (inr (m, f)) = wider q (subst (λ (q : Part). SideFits (length parts) q.left × SideFits (length parts) q.right) (sym f) (left, right))
+
+pub parts_grown : (room : ℕ) (keys new : List Part) (p : Part) → AreParts room keys → length keys < room → SideFits (length keys) p.left → SideFits (length keys) p.right → new ≡ insert_key part_eq.it keys p → AreParts room new
+parts_grown room keys new p are few left right e = subst (AreParts room) (sym e) (by_test (list_any (part_eq.it p) keys))
+  where
+    by_test : (b : Bool) → AreParts room (if b then keys else keys ++ p ∷ [])
+    by_test true = are
+    by_test false = record { few = omega (arith, length-append keys (p ∷ [])); closed = closed_more keys p are.closed left right }
+
+-- the sides of a part in the list make a NAND
+pub joins : (parts new : List Part) (left right : Side) (p : Part) (s : Side) → AreEitherOf left right p → AreMoreParts parts new → IsJoined new p s → JoinsShapes parts new left right s
+joins parts new left right p s (inl (l, r)) (rest, more) (n, e, at) t u first second =
+    inr (n, p, e, at, inl (shape_in left p.left t l first, shape_in right p.right u r second))
+  where
+    shape_in : (a b : Side) (t : Tree) → b ≡ a → HasShape parts t a → HasShape new t b
+    shape_in a b t same h =
+        subst (λ ps. HasShape ps t b) (sym more) (shape_more parts rest t b (subst (HasShape parts t) (sym same) h))
+joins parts new left right p s (inr (l, r)) (rest, more) (n, e, at) t u first second =
+    inr (n, p, e, at, inr (shape_in left p.right t r first, shape_in right p.left u l second))
+  where
+    shape_in : (a b : Side) (t : Tree) → b ≡ a → HasShape parts t a → HasShape new t b
+    shape_in a b t same h =
+        subst (λ ps. HasShape ps t b) (sym more) (shape_more parts rest t b (subst (HasShape parts t) (sym same) h))
+
+-- under more parts
+pub have_more : (keys more : List Part) (nodes : List PatNode) (sides : List Side) → AreMoreParts keys more → HaveShapes keys nodes sides → HaveShapes more nodes sides
+have_more keys more nodes sides (rest, e) have place s at =
+    subst (λ ps. HasShape ps (tree_at nodes place) s) (sym e) (shape_more keys rest (tree_at nodes place) s (have place s at))
+
+more_twice : (a b c : List Part) → AreMoreParts a b → AreMoreParts b c → AreMoreParts a c
+more_twice a b c (r, e) (q, f) = (r ++ q, f ∙ (ap (λ xs. xs ++ q) e ∙ append_assoc a r q))
+
+-- the sides of the first nodes, and the parts with which they are made
+pub record AreShaped (room : ℕ) (before keys : List Part) (nodes : List PatNode) (sides : List Side) (n : ℕ) : Type 0 where
+  pub parts : AreParts room keys
+  pub more : AreMoreParts before keys
+  pub count : length sides ≡ n
+  pub shapes : HaveShapes keys nodes sides
+
+pub shaped_none : (room : ℕ) (keys : List Part) (nodes : List PatNode) → AreParts room keys → AreShaped room keys keys nodes [] 0
+shaped_none room keys nodes are =
+    record { parts = are; more = ([], sym (append-nil keys)); count = refl; shapes = λ place s e. cc }
+
+pub shaped_more : (room : ℕ) (before keys new : List Part) (nodes : List PatNode) (sides : List Side) (n : ℕ) (s : Side) → AreShaped room before keys nodes sides n → AreParts room new → AreMoreParts keys new → HasShape new (tree_at nodes (length sides)) s → AreShaped room before new nodes (sides ++ s ∷ []) (n + 1)
+shaped_more room before keys new nodes sides n s h are more shape = record {
+  parts = are;
+  more = more_twice before keys new h.more more;
+  count = let c = h.count in omega (arith, length-append sides (s ∷ []));
+  shapes = λ place k e. at_place place k (get_in_both sides s place k e);
+}
+  where
+    at_place : (place : ℕ) (k : Side) → (slice_get sides place ≡ Some k) ⊎ ((place ≡ length sides) × (k ≡ s)) → HasShape new (tree_at nodes place) k
+    at_place place k (inl e) = have_more keys new nodes sides more h.shapes place k e
+    at_place place k (inr (e, f)) =
+        subst (λ p. HasShape new (tree_at nodes p) k) (sym e) (subst (λ (k : Side). HasShape new (tree_at nodes (length sides)) k) (sym f) shape)
+
+get_in_sides : (all : List (List Side)) (sides : List Side) (i place : ℕ) (s : Side) → slice_get (get_or (all ++ sides ∷ []) i []) place ≡ Some s → (slice_get (get_or all i []) place ≡ Some s) ⊎ ((i ≡ length all) × (slice_get sides place ≡ Some s))
+get_in_sides [] sides zero place s e = inr (refl, e)
+get_in_sides [] sides (suc i) place s e = inl e
+get_in_sides (xs ∷ all) sides zero place s e = inl e
+get_in_sides (xs ∷ all) sides (suc i) place s e = deeper (get_in_sides all sides i place s e)
+  where
+    deeper : (slice_get (get_or all i []) place ≡ Some s) ⊎ ((i ≡ length all) × (slice_get sides place ≡ Some s)) → (slice_get (get_or (xs ∷ all) (suc i) []) place ≡ Some s) ⊎ ((suc i ≡ length (xs ∷ all)) × (slice_get sides place ≡ Some s))
+    deeper (inl f) = inl f
+    deeper (inr (f, g)) = inr (ap suc f, g)
+
+-- the sides of one more pattern
+pub all_more : (keys new : List Part) (pats : List Pattern) (all : List (List Side)) (p : Pattern) (sides : List Side) → AllHaveShapes keys pats all → AreMoreParts keys new → slice_get pats (length all) ≡ Some p → HaveShapes new (nodes_of p.tree) sides → AllHaveShapes new pats (all ++ sides ∷ [])
+all_more keys new pats all p sides have more listed shapes i q e place s at = by_place (get_in_sides all sides i place s at)
+  where
+    by_place : (slice_get (get_or all i []) place ≡ Some s) ⊎ ((i ≡ length all) × (slice_get sides place ≡ Some s)) → HasShape new (tree_at (nodes_of q.tree) place) s
+    by_place (inl f) = have_more keys new (nodes_of q.tree) (get_or all i []) more (have i q e) place s f
+    by_place (inr (f, g)) =
+        let there : slice_get pats (length all) ≡ Some q = subst (λ j. slice_get pats j ≡ Some q) f e in
+        let same : q ≡ p = cc in
+        subst (λ (q : Pattern). HasShape new (tree_at (nodes_of q.tree) place) s) (sym same) (shapes place s g)
+
+abbrev pub items_of : Vec Side Global → List Side
+items_of sides = sides.items
+
+-- the sides of the first patterns
+pub record AreAllShaped (room : ℕ) (keys : List Part) (pats : List Pattern) (all : List (List Side)) (n : ℕ) : Type 0 where
+  pub parts : AreParts room keys
+  pub count : length all ≡ n
+  pub shapes : AllHaveShapes keys pats all
+
+pub none_shaped : (room : ℕ) (keys : List Part) (pats : List Pattern) → AreParts room keys → AreAllShaped room keys pats [] 0
+none_shaped room keys pats are =
+    record { parts = are; count = refl; shapes = λ i p e place s f. cc }
+
+pub all_shaped_more : (room : ℕ) (keys new : List Part) (pats : List Pattern) (all : List (List Side)) (n : ℕ) (p : Pattern) (sides : List Side) → AreAllShaped room keys pats all n → AreParts room new → AreMoreParts keys new → slice_get pats n ≡ Some p → HaveShapes new (nodes_of p.tree) sides → AreAllShaped room new pats (all ++ sides ∷ []) (n + 1)
+all_shaped_more room keys new pats all n p sides h are more listed shapes = record {
+  parts = are;
+  count = let c = h.count in omega (arith, length-append all (sides ∷ []));
+  shapes = all_more keys new pats all p sides h.shapes more (subst (λ i. slice_get pats i ≡ Some p) (sym h.count) listed) shapes;
+}

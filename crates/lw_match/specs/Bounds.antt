@@ -1,0 +1,81 @@
+-- Bounds on what the pins cost where a part of a pattern stands.
+use Rattle.std.specs.Prelude.{ℕ, ◌*◌, ◌-◌, ◌<◌, ◌≤◌, ◌≡◌, List, length, min, max, Option, Some, slice_get}
+use Rattle.std.specs.List.{sum_by}
+use Rattle.lw_laws.specs.Graphs.{Graph, HoldsPair, Stands}
+use Rattle.lw_laws.specs.Trees.{Tree}
+use Rattle.lw_laws.specs.Covers.{Pattern}
+use Rattle.lw_laws.specs.Marks.{Mark as PlainMark}
+use Rattle.lw_graph.specs.Graphs.{IsGraph}
+use Rattle.lw_match.specs.declared.mark.Mark.{Mark}
+use Rattle.lw_match.specs.declared.parts.Side.{Side}
+use Rattle.lw_match.specs.declared.parts.Part.{Part}
+use Rattle.lw_match.specs.Values.{marks_in}
+use Rattle.lw_match.specs.Shapes.{HasShape, AllHaveShapes, AreClosed}
+use Rattle.lw_match.specs.Numbers.{never, Reading, part_number, side_number}
+
+-- the parts, the side of each node of each pattern, and the numbers of the parts at each class
+pub record BoundsState : Type 0 where
+  pub parts : List Part
+  pub sides : List (List Side)
+  pub numbers : List ℕ
+
+abbrev pub reading_of : Graph → List (Option Mark) → List Part → List ℕ → Reading
+reading_of g marks parts numbers =
+    record { one = g.one; marks = marks; width = length parts; numbers = numbers }
+
+abbrev pub bounds_reading : BoundsState → Graph → List (Option Mark) → Reading
+bounds_reading b g marks = reading_of g marks b.parts b.numbers
+
+-- a row for each class, with a number for each part
+pub record AreRows (parts : List Part) (numbers : List ℕ) (g : Graph) : Type 0 where
+  pub closed : AreClosed parts
+  pub rows : length numbers ≡ length parts * length g.pairs
+
+-- the table is of these patterns and this graph
+pub record BoundsFit (b : BoundsState) (pats : List Pattern) (g : Graph) : Type 0 where
+  pub rows : AreRows b.parts b.numbers g
+  pub count : length b.sides ≡ length pats
+  pub sides : AllHaveShapes b.parts pats b.sides
+
+-- the number of the part at the class is not above what any pair of the class gives
+abbrev pub IsSettledAt : Graph → Reading → List Part → ℕ → ℕ → Type 0
+IsSettledAt g r parts c n =
+    (p : Part) (x y : ℕ) → slice_get parts n ≡ Some p → HoldsPair g c x y → part_number r n c ≤ max (side_number r p.left x) (side_number r p.right y)
+
+-- so are those of the first parts
+abbrev pub AreSettledBelow : Graph → Reading → List Part → ℕ → ℕ → Type 0
+AreSettledBelow g r parts c n = (k : ℕ) → k < n → IsSettledAt g r parts c k
+
+abbrev pub AreSettledAt : BoundsState → Graph → List (Option Mark) → ℕ → Type 0
+AreSettledAt b g marks c = AreSettledBelow g (bounds_reading b g marks) b.parts c (length b.parts)
+
+-- the classes have marks, of which none costs more
+abbrev pub AreMarkedWithin : List (Option Mark) → List ℕ → ℕ → Type 0
+AreMarkedWithin marks ps top =
+    (k c : ℕ) → slice_get ps k ≡ Some c → (m : PlainMark) × (marks_in marks c ≡ Some m) × (m.cost ≤ top)
+
+-- where a tree stands whose pins have marks, the number of its side is not above the greatest cost of the pins
+abbrev pub BoundsTree : Graph → Reading → Tree → Side → Type 0
+BoundsTree g r t s =
+    (c : ℕ) (ps : List ℕ) (top : ℕ) → Stands g ps t c → AreMarkedWithin r.marks ps top → side_number r s c ≤ min top (never - 1)
+
+abbrev pub AreBounds : BoundsState → Graph → List (Option Mark) → Type 0
+AreBounds b g marks =
+    (t : Tree) (s : Side) → HasShape b.parts t s → BoundsTree g (bounds_reading b g marks) t s
+
+abbrev pub total : List ℕ → ℕ
+total ns = sum_by (λ n. n) ns
+
+-- the sum of all numbers
+abbrev pub bounds_weight : BoundsState → ℕ
+bounds_weight b = total b.numbers
+
+-- a table that is settled at each class is one of bounds
+abbrev pub SettledBoundsAreBounds : Type 0
+SettledBoundsAreBounds =
+    (b : BoundsState) (pats : List Pattern) (g : Graph) (marks : List (Option Mark)) → IsGraph g → BoundsFit b pats g → ((c : ℕ) → c < length g.pairs → AreSettledAt b g marks c) → AreBounds b g marks
+
+-- with fewer marks, and none of them changed, bounds stay bounds
+abbrev pub BoundsOfFewer : Type 0
+BoundsOfFewer =
+    (b : BoundsState) (g : Graph) (marks fewer : List (Option Mark)) → AreBounds b g marks → ((c : ℕ) (k : PlainMark) → marks_in fewer c ≡ Some k → (m : PlainMark) × (marks_in marks c ≡ Some m) × (m.cost ≡ k.cost)) → AreBounds b g fewer

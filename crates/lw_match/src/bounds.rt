@@ -1,0 +1,98 @@
+ghost use Rattle.std.specs.Prelude.{◌≡◌, ◌<◌, ◌≤◌, ◌*◌, List, IfOk, IsTrue, IsFalse, length};
+ghost use Rattle.lw_laws.specs.Covers.{Pattern as TreeOfCell};
+
+use crate::Mark;
+use crate::cuts::Cuts;
+use crate::parts::{Part, Side};
+use crate::renewing::{Renewal, renew_parts};
+use crate::shapes::all_sides;
+use indexmap::IndexSet;
+use lw_graph::Graph;
+use lw_pattern::Patterns;
+use lw_pool::ClassId;
+use std::alloc::{AllocError, Global};
+use std::marker::Model;
+
+/// The most numbers that a table has.
+const MOST_NUMBERS: u32 = 67108864;
+
+// How many parts have numbers at so many classes.
+fn room_for(classes: u32) -> u32
+    requires { 0 < classes }
+    ensures room { result * classes ≤ 67108864 }
+    ensures few { result ≤ 67108864 }
+{
+    MOST_NUMBERS / classes
+}
+
+/// Numbers of the parts of patterns at the classes of a graph: what the pins cost at least at which a part stands there.
+/// Where it stands nowhere, or by pins without marks alone, the number is `u64::MAX`.
+#[derive(Drop)]
+pub struct Bounds {
+    parts: IndexSet<Part>,
+    sides: Vec<Vec<Side>>,
+    numbers: Vec<u64>,
+}
+
+impl Model for Bounds {
+    ghost use Rattle.std.specs.Prelude.{map};
+    ghost use Rattle.lw_match.specs.Bounds.{BoundsState};
+
+    ghost Value = { BoundsState };
+
+    ghost view = { λ b. record { parts = b.parts.keys; sides = map (λ side. side.items) b.sides.items; numbers = b.numbers.items } };
+}
+
+impl Bounds {
+    ghost use Rattle.lw_graph.specs.Graphs.{IsGraph};
+    ghost use Rattle.lw_match.specs.Bounds.{BoundsFit, AreRows, AreSettledAt, bounds_weight};
+    ghost use Rattle.lw_match.specs.Cutting.{cuts_state};
+
+    /// A table in which no number has fallen yet. All memory is taken here. Where there would be too many numbers, only the
+    /// first parts have some.
+    pub fn new(alloc: Global, graph: &Graph, pats: &Patterns) -> Result<Bounds, AllocError>
+        ensures { IfOk result (λ b. BoundsFit b pats.now graph.now) }
+    {
+        let room = room_for(graph.classes()) as usize;
+        let mut parts = IndexSet::new(alloc);
+        let sides = all_sides(alloc, &mut parts, room, pats)?;
+        let numbers = vec![in alloc; u64::MAX; parts.len() * graph.classes() as usize]?;
+        Ok(Bounds {
+            parts,
+            sides,
+            numbers,
+        })
+    }
+
+    /// Lets the numbers of a class fall to what its pairs give now, and says whether one fell. It takes no memory.
+    pub fn renew(&mut self, graph: &Graph, marks: &[Option<Mark>], class: ClassId) -> bool
+        requires class { class.0 < length graph.now.pairs }
+        requires one_each { length marks.now ≡ length graph.now.pairs }
+        requires rows { AreRows self.old.parts self.old.numbers graph.now }
+        ensures fits { (pats : List TreeOfCell) → BoundsFit self.old pats graph.now → BoundsFit self.new pats graph.now }
+        ensures falls { IsTrue result → bounds_weight self.new < bounds_weight self.old }
+        ensures same { IsFalse result → self.new ≡ self.old }
+        ensures settled { IsFalse result → AreSettledAt self.old graph.now marks.now class.0 }
+        ensures never_rises { bounds_weight self.new ≤ bounds_weight self.old }
+    {
+        let _ = graph.classes();
+        let renewal = Renewal {
+            graph,
+            marks,
+            parts: self.parts.as_slice(),
+            class,
+        };
+        renew_parts(renewal, &mut self.numbers)
+    }
+
+    /// What searches are cut by.
+    pub(crate) fn cuts(&self) -> Cuts
+        ensures { cuts_state result ≡ record { sides = self.now.sides; width = length self.now.parts; numbers = self.now.numbers } }
+    {
+        Cuts {
+            sides: &self.sides,
+            width: self.parts.len(),
+            numbers: &self.numbers,
+        }
+    }
+}

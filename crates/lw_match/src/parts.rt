@@ -1,0 +1,26 @@
+/// What a side of a NAND in a pattern is, where all pins are alike.
+#[derive(Clone, Copy, Debug, PartialEq, Eq, PartialOrd, Ord, Hash)]
+pub enum Kind {
+    /// Any tree.
+    Any,
+    /// A pin.
+    Leaf,
+    /// The constant true.
+    One,
+    /// The NAND of the sides of the part with this number.
+    Joined(u32),
+}
+
+/// A side of a NAND: what it is, and whether an inverter stands before it.
+#[derive(Clone, Copy, Debug, PartialEq, Eq, PartialOrd, Ord, Hash)]
+pub struct Side {
+    pub kind: Kind,
+    pub flipped: bool,
+}
+
+/// A NAND in a pattern, by its two sides.
+#[derive(Clone, Copy, Debug, PartialEq, Eq, Hash)]
+pub struct Part {
+    pub left: Side,
+    pub right: Side,
+}
