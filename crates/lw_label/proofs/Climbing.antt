@@ -20,6 +20,8 @@ use Rattle.lw_graph.specs.Graphs.{IsGraph}
 use Rattle.lw_match.specs.declared.mark.Best.{Best}
 use Rattle.lw_match.specs.declared.mark.Mark.{Mark}
 use Rattle.lw_match.specs.Values.{plain_mark, marks_in, AreInRange}
+use Rattle.lw_match.specs.Bounds.{BoundsState, AreBounds}
+use Rattle.lw_match.proofs.Settled.{bounds_of_fewer}
 use Rattle.lw_match.specs.Least.{plain_best, IsLeastMatch, IsMarkBefore, IsLeastBelow}
 use Rattle.lw_label.specs.Labels.{cost_in, costs_of, AreLeastMarks}
 use Rattle.lw_label.specs.Lowering.{AreLowering}
@@ -105,6 +107,10 @@ module _ (g : Graph) (cost : Cost) (pats : List Pattern) (labels : List (Option 
       let most = marked_most marks in
       let height = are.low c m e in
       (labels_capped g pats cost (costs_of labels) problem low.sound.attained c m.cost (are.costs c m e), omega (arith, height, most, are.one_each, is.few, is.even))
+
+  -- a table of bounds for the labels is one for the marks so far
+  pub rising_bounds : (b : BoundsState) (marks : List (Option Mark)) → AreBounds b g labels → AreRising g cost pats labels marks → AreBounds b g marks
+  rising_bounds b marks bounds are = bounds_of_fewer b g labels marks bounds (λ c m e. mark_of_label labels c m.cost (are.costs c m e))
 
   -- A class gets the height of the best match.
   module _ (marks : List (Option Mark)) (are : AreRising g cost pats labels marks) (c : ℕ) (best : Best) (below : c < length marks) (least : IsLeastMatch g cost pats (marks_in marks) c (Some best)) (label : L c ≡ Some best.mark.cost) where

@@ -1,5 +1,5 @@
 -- Passes that lower labels.
-use Rattle.std.proofs.Common.{ℕ, zero, suc, ◌<◌, ◌≤◌, ◌≡◌, ◌%◌, ◌⊎◌, inl, inr, true, false, List, [], ◌∷◌, length, Option, Some, None, option_map, slice_index_or, slice_set, refl, ap, sym, ◌∙◌, subst, arith}
+use Rattle.std.proofs.Common.{ℕ, zero, suc, ◌+◌, ◌<◌, ◌≤◌, ◌≡◌, ◌%◌, ◌⊎◌, ◌||◌, inl, inr, Bool, true, false, IsTrue, IsFalse, List, [], ◌∷◌, length, Option, Some, None, option_map, slice_index_or, slice_set, refl, ap, ap₂, sym, ◌∙◌, subst, arith, true≢false}
 use Rattle.std.proofs.lemmas.List.{length-set, length-map}
 use Rattle.std.proofs.lemmas.Bool.{cases_eq}
 use native.Mathlib.Decide.{dec_lt}
@@ -18,10 +18,13 @@ use Rattle.std.proofs.lemmas.Option.{same_Some}
 use Rattle.lw_match.specs.declared.mark.Best.{Best}
 use Rattle.lw_match.specs.declared.mark.Mark.{Mark}
 use Rattle.lw_match.specs.Values.{plain_mark, marks_in}
-use Rattle.lw_match.specs.Least.{Priced, plain_best, IsPricedAtMost, IsLeastMatch}
+use Rattle.lw_match.specs.Bounds.{BoundsState, BoundsFit, AreBounds, AreSettledAt, bounds_weight}
+use Rattle.lw_match.specs.Cutting.{IsBeforeBound, IsLeastWithin}
+use Rattle.lw_match.specs.Least.{Priced, plain_best, IsPricedAt, IsPricedAtMost, IsLeastMatch}
+use Rattle.lw_match.proofs.Settled.{settled_bounds_are_bounds}
 use Rattle.lw_label.specs.Labels.{cost_in, costs_of}
-use Rattle.lw_label.specs.Lowering.{AreLowering, IsLeastUnder, weight, IsBounded, Lowers}
-use Rattle.lw_label.proofs.Passing.{passes_still, passes_lower}
+use Rattle.lw_label.specs.Lowering.{AreLowering, LabelState, state, state_weight, weight, IsBounded, IsLabelled, Lowers}
+use Rattle.lw_label.proofs.Passing.{passes_lower}
 use Rattle.lw_label.proofs.Marked.{label_of_mark, labels_of_marks, marks_of_labels, costs_set, mark_set_same, mark_set_other, priced, standing}
 
 pub not_below : (m n : ℕ) → (m < n → ⊥) → n ≤ m
@@ -43,7 +46,7 @@ module _ (g : Graph) (cost : Cost) (pats : List Pattern) where
       let (b, is, e) = priced g cost pats (marks_in marks) c cell ps ms m with_marks in
       absurd (none b is)
 
-  pub bounded_under : (marks : List (Option Mark)) (c : ℕ) (o : Option Mark) → slice_index_or marks c None ≡ o → IsLeastUnder g cost pats (marks_in marks) c o None → IsBounded g cost pats marks c
+  pub bounded_under : (marks : List (Option Mark)) (c : ℕ) (o : Option Mark) → slice_index_or marks c None ≡ o → IsLeastWithin g cost pats (marks_in marks) c o None → IsBounded g cost pats marks c
   bounded_under marks c None at none cell ps ls m have = bounded_without marks c none cell ps ls m have
   bounded_under marks c (Some old) at none cell ps ls m have =
       let (ms, with_marks, same) = marks_of_labels marks ps ls have in
@@ -52,63 +55,72 @@ module _ (g : Graph) (cost : Cost) (pats : List Pattern) where
       let low : old.cost ≤ b.mark.cost = not_below b.mark.cost old.cost (λ lt. none b is (inl lt)) in
       (old.cost, label_of_mark marks c (plain_mark old) (ap (option_map plain_mark) at), omega (arith, low, value))
 
-  -- the least match where its mark is before that of the class, which has the height 0
-  pub least_of_under : (marks : List (Option Mark)) (c : ℕ) (best : Best) (o : Option Mark) → IsLeastUnder g cost pats (marks_in marks) c o (Some best) → IsLeastMatch g cost pats (marks_in marks) c (Some best)
-  least_of_under marks c best None under = under
-  least_of_under marks c best (Some old) under = under.0
+  -- a match whose mark is before that of the class, which has the height 0
+  pub lower_under : (best : Mark) (o : Option Mark) → ((m : Mark) → o ≡ Some m → m.height ≡ 0) → IsBeforeBound o best → best.cost ≤ cost.cap → best.cost < label_weight cost.cap (cost_in o)
+  lower_under best None flat before capped = let more : best.cost < suc cost.cap = omega (arith, capped) in more
+  lower_under best (Some old) flat (inl lt) capped = lt
+  lower_under best (Some old) flat (inr (e, lt)) capped = let zero_height = flat old refl in absurd (omega (arith, lt, zero_height))
 
-  pub lower_under : (marks : List (Option Mark)) (c : ℕ) (best : Best) (o : Option Mark) → ((m : Mark) → o ≡ Some m → m.height ≡ 0) → IsLeastUnder g cost pats (marks_in marks) c o (Some best) → best.mark.cost ≤ cost.cap → best.mark.cost < label_weight cost.cap (cost_in o)
-  lower_under marks c best None flat under capped = let more : best.mark.cost < suc cost.cap = omega (arith, capped) in more
-  lower_under marks c best (Some old) flat (least, inl lt) capped = lt
-  lower_under marks c best (Some old) flat (least, inr (e, lt)) capped = let zero_height = flat old refl in absurd (omega (arith, lt, zero_height))
+  module _ (marks : List (Option Mark)) (c : ℕ) (best : Best) (problem : IsCoverProblem g pats cost) (low : AreLowering g cost pats marks) (below : c < length marks) (is : IsPricedAt g cost pats (marks_in marks) c (plain_best best)) where
+    best_value : (plain_best best).mark.cost ≡ cost.value is.pattern.cell (costs_in is.pin_marks)
+    best_value = ap (λ (k : PlainMark). k.cost) is.mark
 
-  module _ (marks : List (Option Mark)) (c : ℕ) (best : Best) (problem : IsCoverProblem g pats cost) (low : AreLowering g cost pats marks) (below : c < length marks) (least : IsLeastMatch g cost pats (marks_in marks) c (Some best)) where
-    best_value : (plain_best best).mark.cost ≡ cost.value least.0.pattern.cell (costs_in least.0.pin_marks)
-    best_value = ap (λ (k : PlainMark). k.cost) least.0.mark
+    best_labels : HaveLabels (labels_in (costs_of marks)) (plain_best best).found.pins (costs_in is.pin_marks)
+    best_labels = labels_of_marks marks (plain_best best).found.pins is.pin_marks is.have
 
-    best_labels : HaveLabels (labels_in (costs_of marks)) (plain_best best).found.pins (costs_in least.0.pin_marks)
-    best_labels = labels_of_marks marks (plain_best best).found.pins least.0.pin_marks least.0.have
-
-    best_stands : IsMatchAt g cost.pin_counts pats c least.0.pattern.cell (plain_best best).found.pins
-    best_stands = standing g cost pats (marks_in marks) c (plain_best best) least.0
+    best_stands : IsMatchAt g cost.pin_counts pats c is.pattern.cell (plain_best best).found.pins
+    best_stands = standing g cost pats (marks_in marks) c (plain_best best) is
 
     pub best_capped : best.mark.cost ≤ cost.cap
-    best_capped = subst (λ v. v ≤ cost.cap) (sym best_value) (values_capped g pats cost (costs_of marks) c least.0.pattern.cell (plain_best best).found.pins (costs_in least.0.pin_marks) problem low.sound.attained best_stands best_labels)
+    best_capped = subst (λ v. v ≤ cost.cap) (sym best_value) (values_capped g pats cost (costs_of marks) c is.pattern.cell (plain_best best).found.pins (costs_in is.pin_marks) problem low.sound.attained best_stands best_labels)
 
     labels_fit : c < length (costs_of marks)
     labels_fit = let same : length (costs_of marks) ≡ length marks = length-map marks cost_in in omega arith
 
     module _ (new : Mark) (lt : best.mark.cost < label_weight cost.cap (labels_in (costs_of marks) c)) (same_cost : new.cost ≡ best.mark.cost) (no_height : new.height ≡ 0) where
-      value_is : new.cost ≡ cost.value least.0.pattern.cell (costs_in least.0.pin_marks)
+      value_is : new.cost ≡ cost.value is.pattern.cell (costs_in is.pin_marks)
       value_is = same_cost ∙ best_value
 
-      labels_set : costs_of (slice_set marks c (Some new)) ≡ slice_set (costs_of marks) c (Some (cost.value least.0.pattern.cell (costs_in least.0.pin_marks)))
+      labels_set : costs_of (slice_set marks c (Some new)) ≡ slice_set (costs_of marks) c (Some (cost.value is.pattern.cell (costs_in is.pin_marks)))
       labels_set = costs_set marks c (Some new) ∙ ap (λ v. slice_set (costs_of marks) c (Some v)) value_is
 
-      value_lower : cost.value least.0.pattern.cell (costs_in least.0.pin_marks) < label_weight cost.cap (labels_in (costs_of marks) c)
+      value_lower : cost.value is.pattern.cell (costs_in is.pin_marks) < label_weight cost.cap (labels_in (costs_of marks) c)
       value_lower = subst (λ v. v < label_weight cost.cap (labels_in (costs_of marks) c)) best_value lt
 
       pub lowered : AreLowering g cost pats (slice_set marks c (Some new))
       lowered = record {
         one_each = length-set marks c (Some new) ∙ low.one_each;
-        sound = subst (λ ls. AreSoundIn g pats cost ls) (sym labels_set) (lowered_sound g pats cost (costs_of marks) c least.0.pattern.cell (plain_best best).found.pins (costs_in least.0.pin_marks) low.sound labels_fit best_stands best_labels value_lower);
+        sound = subst (λ ls. AreSoundIn g pats cost ls) (sym labels_set) (lowered_sound g pats cost (costs_of marks) c is.pattern.cell (plain_best best).found.pins (costs_in is.pin_marks) low.sound labels_fit best_stands best_labels value_lower);
         flat = λ b m e. flat_at b m e (cases_eq b c);
       }
         where
           flat_at : (b : ℕ) (m : PlainMark) → marks_in (slice_set marks c (Some new)) b ≡ Some m → (b ≡ c) ⊎ (b ≡ c → ⊥) → m.height ≡ 0
-          flat_at b m e (inl same) = let is : plain_mark new ≡ m = same_Some (plain_mark new) m (sym (mark_set_same marks c new below) ∙ (ap (λ n. marks_in (slice_set marks c (Some new)) n) (sym same) ∙ e)) in sym (ap (λ (k : PlainMark). k.height) is) ∙ no_height
+          flat_at b m e (inl same) = let same_mark : plain_mark new ≡ m = same_Some (plain_mark new) m (sym (mark_set_same marks c new below) ∙ (ap (λ n. marks_in (slice_set marks c (Some new)) n) (sym same) ∙ e)) in sym (ap (λ (k : PlainMark). k.height) same_mark) ∙ no_height
           flat_at b m e (inr other) = low.flat b m (sym (mark_set_other marks c b (Some new) other) ∙ e)
 
       pub weight_falls : weight cost (slice_set marks c (Some new)) < weight cost marks
-      weight_falls = subst (λ ls. total_weight cost.cap ls < weight cost marks) (sym labels_set) (total_weight_falls cost.cap (costs_of marks) c (cost.value least.0.pattern.cell (costs_in least.0.pin_marks)) labels_fit value_lower)
+      weight_falls = subst (λ ls. total_weight cost.cap ls < weight cost marks) (sym labels_set) (total_weight_falls cost.cap (costs_of marks) c (cost.value is.pattern.cell (costs_in is.pin_marks)) labels_fit value_lower)
 
-  -- A class that keeps its mark.
-  pub lowers_nothing : (marks : List (Option Mark)) (c : ℕ) → IsBounded g cost pats marks c → Lowers g cost pats marks marks (λ b. b ≡ c) false
-  lowers_nothing marks c bounded = passes_still (weight cost) (IsBounded g cost pats) marks (λ b. b ≡ c) (λ b s. subst (λ a. IsBounded g cost pats marks a) (sym s) bounded)
+  -- the numbers of a class are renewed, and then its label
+  pub label_pass : (b next : BoundsState) (marks new : List (Option Mark)) (c : ℕ) (renewed lowered' : Bool) → bounds_weight next ≤ bounds_weight b → (IsTrue renewed → bounds_weight next < bounds_weight b) → (IsFalse renewed → next ≡ b) → (IsFalse renewed → AreSettledAt b g marks c) → (lowered' ≡ true → weight cost new < weight cost marks) → (lowered' ≡ false → new ≡ marks) → (lowered' ≡ false → AreBounds next g marks → IsBounded g cost pats marks c) → Lowers g cost pats (state b marks) (state next new) (λ n. n ≡ c) (lowered' || renewed)
+  label_pass b next marks new c renewed true low fall_number same_number settled fall_label same_label bounded =
+      let less = fall_label refl in
+      passes_lower (state_weight cost) (IsLabelled g cost pats) (state b marks) (state next new) (λ n. n ≡ c) (let w : bounds_weight next + weight cost new < bounds_weight b + weight cost marks = omega (arith, low, less) in w)
+  label_pass b next marks new c true false low fall_number same_number settled fall_label same_label bounded =
+      let less = fall_number refl in
+      let kept : weight cost new ≡ weight cost marks = ap (weight cost) (same_label refl) in
+      passes_lower (state_weight cost) (IsLabelled g cost pats) (state b marks) (state next new) (λ n. n ≡ c) (let w : bounds_weight next + weight cost new < bounds_weight b + weight cost marks = omega (arith, less, kept) in w)
+  label_pass b next marks new c false false low fall_number same_number settled fall_label same_label bounded =
+      let numbers : next ≡ b = same_number refl in
+      record {
+        falls = λ e. absurd (true≢false (sym e));
+        same = λ e. ap₂ state numbers (same_label refl);
+        still = λ e n at. subst (λ a. IsLabelled g cost pats (state b marks) a) (sym at) (settled refl, λ are. bounded refl (subst (λ k. AreBounds k g marks) (sym numbers) are));
+      }
 
-  -- A class that gets a lower one.
-  pub lowers_one : (marks next : List (Option Mark)) (c : ℕ) → weight cost next < weight cost marks → Lowers g cost pats marks next (λ b. b ≡ c) true
-  lowers_one marks next c less = passes_lower (weight cost) (IsBounded g cost pats) marks next (λ b. b ≡ c) less
+  -- once no number and no label would fall, the table is one of bounds, and no label would fall
+  pub labelled_bounds : (s : LabelState) → IsGraph g → BoundsFit s.bounds pats g → ((c : ℕ) → c < length g.pairs → IsLabelled g cost pats s c) → AreBounds s.bounds g s.marks
+  labelled_bounds s is fits labelled = settled_bounds_are_bounds s.bounds pats g s.marks is fits (λ c below. (labelled c below).0)
 
   pub label_is_cost : (marks : List (Option Mark)) (c : ℕ) → labels_in (costs_of marks) c ≡ cost_in (slice_index_or marks c None)
   label_is_cost [] c = refl

@@ -1,16 +1,15 @@
 -- Labels that are lowered until no match would lower one.
-use Rattle.std.specs.Prelude.{ℕ, ◌<◌, ◌≤◌, ◌≡◌, ◌⊎◌, Bool, List, length, Option, Some, None}
+use Rattle.std.specs.Prelude.{ℕ, ◌+◌, ◌<◌, ◌≤◌, ◌≡◌, ◌⊎◌, Bool, List, length, Option, Some}
 use Rattle.lw_laws.specs.Graphs.{Graph}
 use Rattle.lw_laws.specs.Costs.{Cost}
 use Rattle.lw_laws.specs.Covers.{Pattern}
 use Rattle.lw_laws.specs.Matches.{choices_of}
-use Rattle.lw_laws.specs.Marks.{Mark as PlainMark, Marks}
+use Rattle.lw_laws.specs.Marks.{Mark as PlainMark}
 use Rattle.lw_laws.specs.Rounds.{labels_in, total_weight, IsBoundedAt}
 use Rattle.lw_laws.specs.Laws.{AreSoundIn}
 use Rattle.lw_match.specs.declared.mark.Mark.{Mark}
-use Rattle.lw_match.specs.declared.mark.Best.{Best}
-use Rattle.lw_match.specs.Values.{plain_mark, marks_in}
-use Rattle.lw_match.specs.Least.{IsLeastMatch, IsLeastBelow}
+use Rattle.lw_match.specs.Values.{marks_in}
+use Rattle.lw_match.specs.Bounds.{BoundsState, AreBounds, AreSettledAt, bounds_weight}
 use Rattle.lw_label.specs.Labels.{costs_of}
 use Rattle.lw_label.specs.Passes.{Passes}
 
@@ -23,12 +22,6 @@ pub record AreLowering (g : Graph) (cost : Cost) (pats : List Pattern) (marks : 
 -- there is a mark, of this cost at most
 abbrev pub HasCostAtMost : Option Mark → ℕ → Type 0
 HasCostAtMost mark cost = (m : Mark) × (mark ≡ Some m) × (m.cost ≤ cost)
-
--- the least match at the class, where its mark is before this one, or there is no such mark
-abbrev pub IsLeastUnder : Graph → Cost → List Pattern → Marks → ℕ → Option Mark → Option Best → Type 0
-IsLeastUnder g cost pats marks c None best = IsLeastMatch g cost pats marks c best
-IsLeastUnder g cost pats marks c (Some mark) best =
-    IsLeastBelow g cost pats marks c (plain_mark mark) best
 
 -- the mark of a class that may be an input's of this cost: its own where that is not above the cost, or else that of the input
 abbrev pub IsLowerOf : Option Mark → ℕ → Mark → Type 0
@@ -43,6 +36,23 @@ weight cost marks = total_weight cost.cap (costs_of marks)
 abbrev pub IsBounded : Graph → Cost → List Pattern → List (Option Mark) → ℕ → Type 0
 IsBounded g cost pats marks c = IsBoundedAt (choices_of g cost.pin_counts pats) cost (labels_in (costs_of marks)) c
 
--- some label has fallen, or none has and none would at these classes
-abbrev pub Lowers : Graph → Cost → List Pattern → List (Option Mark) → List (Option Mark) → (ℕ → Type 0) → Bool → Type 0
-Lowers g cost pats old new at changed = Passes (weight cost) (IsBounded g cost pats) old new at changed
+-- the table of bounds, and the marks
+pub record LabelState : Type 0 where
+  pub bounds : BoundsState
+  pub marks : List (Option Mark)
+
+abbrev pub state : BoundsState → List (Option Mark) → LabelState
+state bounds marks = record { bounds = bounds; marks = marks }
+
+-- how far numbers and labels can still fall
+abbrev pub state_weight : Cost → LabelState → ℕ
+state_weight cost s = bounds_weight s.bounds + weight cost s.marks
+
+-- no number of the class would fall, and, if the table is one of bounds, no match at the class would give it a lower label
+abbrev pub IsLabelled : Graph → Cost → List Pattern → LabelState → ℕ → Type 0
+IsLabelled g cost pats s c =
+    AreSettledAt s.bounds g s.marks c × (AreBounds s.bounds g s.marks → IsBounded g cost pats s.marks c)
+
+-- some number or label has fallen, or none has and none would at these classes
+abbrev pub Lowers : Graph → Cost → List Pattern → LabelState → LabelState → (ℕ → Type 0) → Bool → Type 0
+Lowers g cost pats old new at changed = Passes (state_weight cost) (IsLabelled g cost pats) old new at changed

@@ -1,6 +1,7 @@
 // Heights in rounds.
 ghost use Rattle.std.specs.Prelude.{◌≡◌, ◌<◌, ◌/◌, ℕ, None, true, false, length, replicate};
 ghost use Rattle.lw_graph.specs.Graphs.{IsGraph};
+ghost use Rattle.lw_match.specs.Bounds.{AreBounds, BoundsFit};
 ghost use Rattle.lw_match.specs.Least.{AreOfCells};
 ghost use Rattle.lw_label.specs.Labels.{costs_of, AreLeastMarks};
 ghost use Rattle.lw_label.specs.Lowering.{AreLowering};
@@ -11,7 +12,7 @@ ghost use Rattle.lw_laws.specs.Laws.{AreBoundedIn, IsCoverProblem};
 use crate::lowering::{either, is_ahead};
 use crate::visits::Visits;
 use lw_graph::Graph;
-use lw_match::{Cost, Mark, least_below};
+use lw_match::{Bounds, Cost, Mark, least_within};
 use lw_pattern::Patterns;
 use lw_pool::ClassId;
 
@@ -47,6 +48,7 @@ fn raise<C: Cost>(
     graph: &Graph,
     pats: &Patterns,
     cost: &C,
+    bounds: &Bounds,
     labels: &[Option<Mark>],
     marks: &mut [Option<Mark>],
     class: ClassId,
@@ -56,6 +58,8 @@ fn raise<C: Cost>(
     requires graph { IsGraph graph.now }
     requires problem { IsCoverProblem graph.now pats.now (C.costs cost.now) }
     requires lowering { AreLowering graph.now (C.costs cost.now) pats.now labels.now }
+    requires fits { BoundsFit bounds.now pats.now graph.now }
+    requires bounds { AreBounds bounds.now graph.now labels.now }
     requires bounded { AreBoundedIn graph.now pats.now (C.costs cost.now) (costs_of labels.now) }
     requires rising { AreRising graph.now (C.costs cost.now) pats.now labels.now marks.old }
     ensures rising { AreRising graph.now (C.costs cost.now) pats.now labels.now marks.new }
@@ -65,7 +69,7 @@ fn raise<C: Cost>(
         return false;
     };
     let bound = height_bound(label, marks[class.0 as usize]);
-    let Some(best) = least_below(graph, pats, marks, class, cost, bound) else {
+    let Some(best) = least_within(graph, pats, bounds, marks, class, cost, Some(bound)) else {
         return false;
     };
     marks[class.0 as usize] = Some(best.mark);
@@ -77,6 +81,7 @@ fn raise_again<C: Cost>(
     graph: &Graph,
     pats: &Patterns,
     cost: &C,
+    bounds: &Bounds,
     labels: &[Option<Mark>],
     marks: &mut [Option<Mark>],
     place: u32,
@@ -87,6 +92,8 @@ fn raise_again<C: Cost>(
     requires graph { IsGraph graph.now }
     requires problem { IsCoverProblem graph.now pats.now (C.costs cost.now) }
     requires lowering { AreLowering graph.now (C.costs cost.now) pats.now labels.now }
+    requires fits { BoundsFit bounds.now pats.now graph.now }
+    requires bounds { AreBounds bounds.now graph.now labels.now }
     requires bounded { AreBoundedIn graph.now pats.now (C.costs cost.now) (costs_of labels.now) }
     requires rising { AreRising graph.now (C.costs cost.now) pats.now labels.now marks.old }
     ensures rising { AreRising graph.now (C.costs cost.now) pats.now labels.now marks.new }
@@ -95,7 +102,7 @@ fn raise_again<C: Cost>(
     let class = ClassId(place * 2 + 1);
     let other = marks[(place * 2) as usize];
     if raised && is_ahead(other, marks[class.0 as usize]) {
-        return raise(graph, pats, cost, labels, marks, class);
+        return raise(graph, pats, cost, bounds, labels, marks, class);
     }
     false
 }
@@ -105,6 +112,7 @@ fn raise_pair<C: Cost>(
     graph: &Graph,
     pats: &Patterns,
     cost: &C,
+    bounds: &Bounds,
     labels: &[Option<Mark>],
     marks: &mut [Option<Mark>],
     place: u32,
@@ -114,15 +122,17 @@ fn raise_pair<C: Cost>(
     requires graph { IsGraph graph.now }
     requires problem { IsCoverProblem graph.now pats.now (C.costs cost.now) }
     requires lowering { AreLowering graph.now (C.costs cost.now) pats.now labels.now }
+    requires fits { BoundsFit bounds.now pats.now graph.now }
+    requires bounds { AreBounds bounds.now graph.now labels.now }
     requires bounded { AreBoundedIn graph.now pats.now (C.costs cost.now) (costs_of labels.now) }
     requires rising { AreRising graph.now (C.costs cost.now) pats.now labels.now marks.old }
     ensures rising { AreRising graph.now (C.costs cost.now) pats.now labels.now marks.new }
     ensures raises { Raises graph.now (C.costs cost.now) pats.now labels.now marks.old marks.new (λ c. c / 2 ≡ place) result }
 {
     let class = ClassId(place * 2 + 1);
-    let first = raise(graph, pats, cost, labels, marks, class);
-    let second = raise(graph, pats, cost, labels, marks, ClassId(place * 2));
-    let third = raise_again(graph, pats, cost, labels, marks, place, second);
+    let first = raise(graph, pats, cost, bounds, labels, marks, class);
+    let second = raise(graph, pats, cost, bounds, labels, marks, ClassId(place * 2));
+    let third = raise_again(graph, pats, cost, bounds, labels, marks, place, second);
     either(third, either(second, first))
 }
 
@@ -131,6 +141,7 @@ fn raise_place<C: Cost>(
     graph: &Graph,
     pats: &Patterns,
     cost: &C,
+    bounds: &Bounds,
     labels: &[Option<Mark>],
     visits: &mut Visits,
     marks: &mut [Option<Mark>],
@@ -143,6 +154,8 @@ fn raise_place<C: Cost>(
     requires graph { IsGraph graph.now }
     requires problem { IsCoverProblem graph.now pats.now (C.costs cost.now) }
     requires lowering { AreLowering graph.now (C.costs cost.now) pats.now labels.now }
+    requires fits { BoundsFit bounds.now pats.now graph.now }
+    requires bounds { AreBounds bounds.now graph.now labels.now }
     requires bounded { AreBoundedIn graph.now pats.now (C.costs cost.now) (costs_of labels.now) }
     requires rising { AreRising graph.now (C.costs cost.now) pats.now labels.now marks.old }
     ensures visits { visits.new ≡ visits.old }
@@ -152,7 +165,7 @@ fn raise_place<C: Cost>(
     let Some(place) = visits.due(graph, number, whole) else {
         return false;
     };
-    let raised = raise_pair(graph, pats, cost, labels, marks, place);
+    let raised = raise_pair(graph, pats, cost, bounds, labels, marks, place);
     visits.note(place, raised);
     raised
 }
@@ -162,6 +175,7 @@ fn raise_round<C: Cost>(
     graph: &Graph,
     pats: &Patterns,
     cost: &C,
+    bounds: &Bounds,
     labels: &[Option<Mark>],
     visits: &mut Visits,
     marks: &mut [Option<Mark>],
@@ -172,6 +186,8 @@ fn raise_round<C: Cost>(
     requires graph { IsGraph graph.now }
     requires problem { IsCoverProblem graph.now pats.now (C.costs cost.now) }
     requires lowering { AreLowering graph.now (C.costs cost.now) pats.now labels.now }
+    requires fits { BoundsFit bounds.now pats.now graph.now }
+    requires bounds { AreBounds bounds.now graph.now labels.now }
     requires bounded { AreBoundedIn graph.now pats.now (C.costs cost.now) (costs_of labels.now) }
     requires rising { AreRising graph.now (C.costs cost.now) pats.now labels.now marks.old }
     ensures visits { visits.new ≡ visits.old }
@@ -180,7 +196,9 @@ fn raise_round<C: Cost>(
 {
     let mut changed = false;
     for number in 0..visits.len() {
-        let raised = raise_place(graph, pats, cost, labels, visits, marks, number, whole);
+        let raised = raise_place(
+            graph, pats, cost, bounds, labels, visits, marks, number, whole,
+        );
         changed = either(raised, changed);
     }
     changed
@@ -191,6 +209,7 @@ fn raise_rounds<C: Cost>(
     graph: &Graph,
     pats: &Patterns,
     cost: &C,
+    bounds: &Bounds,
     labels: &[Option<Mark>],
     visits: &mut Visits,
     marks: &mut [Option<Mark>],
@@ -200,6 +219,8 @@ fn raise_rounds<C: Cost>(
     requires graph { IsGraph graph.now }
     requires problem { IsCoverProblem graph.now pats.now (C.costs cost.now) }
     requires lowering { AreLowering graph.now (C.costs cost.now) pats.now labels.now }
+    requires fits { BoundsFit bounds.now pats.now graph.now }
+    requires bounds { AreBounds bounds.now graph.now labels.now }
     requires bounded { AreBoundedIn graph.now pats.now (C.costs cost.now) (costs_of labels.now) }
     requires rising { AreRising graph.now (C.costs cost.now) pats.now labels.now marks.old }
     ensures visits { visits.new ≡ visits.old }
@@ -207,8 +228,8 @@ fn raise_rounds<C: Cost>(
     ensures falls { result ≡ true → heights_weight marks.new < heights_weight marks.old }
     ensures reached { result ≡ false → (c : ℕ) → c < length graph.now.pairs → IsReached graph.now (C.costs cost.now) pats.now labels.now marks.new c }
 {
-    while raise_round(graph, pats, cost, labels, visits, marks, false) {}
-    raise_round(graph, pats, cost, labels, visits, marks, true)
+    while raise_round(graph, pats, cost, bounds, labels, visits, marks, false) {}
+    raise_round(graph, pats, cost, bounds, labels, visits, marks, true)
 }
 
 // Finds the height of each class that has a label.
@@ -216,6 +237,7 @@ pub(crate) fn raise_all<C: Cost>(
     graph: &Graph,
     pats: &Patterns,
     cost: &C,
+    bounds: &Bounds,
     labels: &[Option<Mark>],
     visits: &mut Visits,
     marks: &mut [Option<Mark>],
@@ -225,9 +247,11 @@ pub(crate) fn raise_all<C: Cost>(
     requires graph { IsGraph graph.now }
     requires problem { IsCoverProblem graph.now pats.now (C.costs cost.now) }
     requires lowering { AreLowering graph.now (C.costs cost.now) pats.now labels.now }
+    requires fits { BoundsFit bounds.now pats.now graph.now }
+    requires bounds { AreBounds bounds.now graph.now labels.now }
     requires bounded { AreBoundedIn graph.now pats.now (C.costs cost.now) (costs_of labels.now) }
     requires rising { AreRising graph.now (C.costs cost.now) pats.now labels.now marks.old }
     ensures { AreLeastMarks graph.now (C.costs cost.now) pats.now marks.new }
 {
-    while raise_rounds(graph, pats, cost, labels, visits, marks) {}
+    while raise_rounds(graph, pats, cost, bounds, labels, visits, marks) {}
 }

@@ -1,4 +1,5 @@
 ghost use Rattle.std.specs.Prelude.{◌≡◌, ◌<◌, None, IfOk, length, replicate, slice_index_or};
+ghost use Rattle.lw_match.specs.Bounds.{BoundsFit};
 ghost use Rattle.lw_match.specs.Least.{AreOfCells};
 ghost use Rattle.lw_label.specs.Labels.{AreLeastMarks};
 ghost use Rattle.lw_label.specs.Orders.{places_of};
@@ -7,7 +8,7 @@ use crate::heights::{raise_all, start_heights};
 use crate::lowering::{label_inputs, lower_all, no_marks};
 use crate::visits::Visits;
 use lw_graph::Graph;
-use lw_match::{Cost, Mark};
+use lw_match::{Bounds, Cost, Mark};
 use lw_pattern::Patterns;
 use lw_pool::ClassId;
 use std::alloc::{AllocError, Global};
@@ -58,7 +59,16 @@ pub fn relabel<C: Cost>(
     let mut labels = no_marks(alloc, graph)?;
     let mut marks = no_marks(alloc, graph)?;
     let mut visits = Visits::new(alloc, graph)?;
-    mark_all(graph, pats, cost, &mut visits, &mut labels, &mut marks);
+    let mut bounds = Bounds::new(alloc, graph, pats)?;
+    mark_all(
+        graph,
+        pats,
+        cost,
+        &mut visits,
+        &mut bounds,
+        &mut labels,
+        &mut marks,
+    );
     Ok(Labels { marks })
 }
 
@@ -68,19 +78,21 @@ fn mark_all<C: Cost>(
     pats: &Patterns,
     cost: &C,
     visits: &mut Visits,
+    bounds: &mut Bounds,
     labels: &mut [Option<Mark>],
     marks: &mut [Option<Mark>],
 )
     requires places { visits.old.places ≡ places_of graph.now }
     requires of_cells { AreOfCells (C.costs cost.now).pin_counts pats.now }
+    requires fits { BoundsFit bounds.old pats.now graph.now }
     requires no_labels { labels.old ≡ replicate (length graph.now.pairs) None }
     requires no_marks { marks.old ≡ replicate (length graph.now.pairs) None }
     ensures { AreLeastMarks graph.now (C.costs cost.now) pats.now marks.new }
 {
     let _ = graph.classes();
     label_inputs(graph, cost, labels);
-    lower_all(graph, pats, cost, visits, labels);
+    lower_all(graph, pats, cost, visits, bounds, labels);
     start_heights(graph, labels, marks);
     visits.restart();
-    raise_all(graph, pats, cost, labels, visits, marks);
+    raise_all(graph, pats, cost, bounds, labels, visits, marks);
 }

@@ -1,15 +1,15 @@
 // Labels in rounds.
 ghost use Rattle.std.specs.Prelude.{◌≡◌, ◌<◌, ◌≤◌, ◌/◌, ◌||◌, ℕ, Some, None, true, false, IfOk, length, replicate, slice_get, slice_index_or};
 ghost use Rattle.lw_match.specs.Least.{AreOfCells};
-ghost use Rattle.lw_match.specs.Values.{marks_in, AreInRange};
+ghost use Rattle.lw_match.specs.Bounds.{AreBounds, BoundsFit};
 ghost use Rattle.lw_label.specs.Labels.{costs_of};
-ghost use Rattle.lw_label.specs.Lowering.{AreLowering, IsBounded, IsLeastUnder, IsLowerOf, Lowers, weight};
+ghost use Rattle.lw_label.specs.Lowering.{AreLowering, IsBounded, IsLabelled, IsLowerOf, Lowers, state, state_weight, weight};
 ghost use Rattle.lw_label.specs.Orders.{IsPassed, IsVisited, places_of};
 ghost use Rattle.lw_laws.specs.Laws.{AreBoundedIn, IsCoverProblem};
 
 use crate::visits::Visits;
 use lw_graph::Graph;
-use lw_match::{Best, Cost, Mark, least, least_below};
+use lw_match::{Bounds, Cost, Mark, least_within};
 use lw_pattern::Patterns;
 use lw_pool::ClassId;
 use std::alloc::{AllocError, Global};
@@ -45,42 +45,27 @@ pub(crate) fn label_inputs<C: Cost>(graph: &Graph, cost: &C, marks: &mut [Option
     }
 }
 
-// The least match at a class whose pins have marks, where its mark is before that of the class or the class has none.
-fn least_under<C: Cost>(
-    graph: &Graph,
-    pats: &Patterns,
-    cost: &C,
-    marks: &[Option<Mark>],
-    class: ClassId,
-) -> Option<Best>
-    requires class { class.0 < length graph.now.pairs }
-    requires one_each { length marks.now ≡ length graph.now.pairs }
-    requires in_range { AreInRange C.CAP marks.now }
-    requires of_cells { AreOfCells (C.costs cost.now).pin_counts pats.now }
-    ensures { IsLeastUnder graph.now (C.costs cost.now) pats.now (marks_in marks.now) class.0 (slice_index_or marks.now class.0 None) result }
-{
-    match marks[class.0 as usize] {
-        Some(mark) => least_below(graph, pats, marks, class, cost, mark),
-        None => least(graph, pats, marks, class, cost),
-    }
-}
-
 // Gives a class the least cost of a match whose pins have marks, where that is lower than its own.
-fn lower<C: Cost>(
+fn lower_mark<C: Cost>(
     graph: &Graph,
     pats: &Patterns,
     cost: &C,
+    bounds: &Bounds,
     marks: &mut [Option<Mark>],
     class: ClassId,
 ) -> bool
     requires class { class.0 < length graph.now.pairs }
     requires of_cells { AreOfCells (C.costs cost.now).pin_counts pats.now }
     requires problem { IsCoverProblem graph.now pats.now (C.costs cost.now) }
+    requires fits { BoundsFit bounds.now pats.now graph.now }
     requires lowering { AreLowering graph.now (C.costs cost.now) pats.now marks.old }
     ensures lowering { AreLowering graph.now (C.costs cost.now) pats.now marks.new }
-    ensures lowers { Lowers graph.now (C.costs cost.now) pats.now marks.old marks.new (λ c. c ≡ class.0) result }
+    ensures falls { result ≡ true → weight (C.costs cost.now) marks.new < weight (C.costs cost.now) marks.old }
+    ensures same { result ≡ false → marks.new ≡ marks.old }
+    ensures bounded { result ≡ false → AreBounds bounds.now graph.now marks.old → IsBounded graph.now (C.costs cost.now) pats.now marks.old class.0 }
 {
-    let Some(best) = least_under(graph, pats, cost, marks, class) else {
+    let old = marks[class.0 as usize];
+    let Some(best) = least_within(graph, pats, bounds, marks, class, cost, old) else {
         return false;
     };
     marks[class.0 as usize] = Some(Mark {
@@ -97,6 +82,29 @@ pub(crate) fn either(one: bool, other: bool) -> bool
     one || other
 }
 
+// Lets the numbers and the label of a class fall.
+fn lower<C: Cost>(
+    graph: &Graph,
+    pats: &Patterns,
+    cost: &C,
+    bounds: &mut Bounds,
+    marks: &mut [Option<Mark>],
+    class: ClassId,
+) -> bool
+    requires class { class.0 < length graph.now.pairs }
+    requires of_cells { AreOfCells (C.costs cost.now).pin_counts pats.now }
+    requires problem { IsCoverProblem graph.now pats.now (C.costs cost.now) }
+    requires fits { BoundsFit bounds.old pats.now graph.now }
+    requires lowering { AreLowering graph.now (C.costs cost.now) pats.now marks.old }
+    ensures fits { BoundsFit bounds.new pats.now graph.now }
+    ensures lowering { AreLowering graph.now (C.costs cost.now) pats.now marks.new }
+    ensures lowers { Lowers graph.now (C.costs cost.now) pats.now (state bounds.old marks.old) (state bounds.new marks.new) (λ c. c ≡ class.0) result }
+{
+    let renewed = bounds.renew(graph, marks, class);
+    let lowered = lower_mark(graph, pats, cost, bounds, marks, class);
+    either(lowered, renewed)
+}
+
 // Whether a mark costs less than another, or has less height, or is there where the other is not.
 pub(crate) fn is_ahead(mark: Option<Mark>, other: Option<Mark>) -> bool {
     match (mark, other) {
@@ -111,6 +119,7 @@ fn lower_again<C: Cost>(
     graph: &Graph,
     pats: &Patterns,
     cost: &C,
+    bounds: &mut Bounds,
     marks: &mut [Option<Mark>],
     place: u32,
     lowered: bool,
@@ -118,15 +127,17 @@ fn lower_again<C: Cost>(
     requires place { place < places_of graph.now }
     requires of_cells { AreOfCells (C.costs cost.now).pin_counts pats.now }
     requires problem { IsCoverProblem graph.now pats.now (C.costs cost.now) }
+    requires fits { BoundsFit bounds.old pats.now graph.now }
     requires lowering { AreLowering graph.now (C.costs cost.now) pats.now marks.old }
+    ensures fits { BoundsFit bounds.new pats.now graph.now }
     ensures lowering { AreLowering graph.now (C.costs cost.now) pats.now marks.new }
-    ensures lowers { Lowers graph.now (C.costs cost.now) pats.now marks.old marks.new (λ c. ⊥) result }
+    ensures lowers { Lowers graph.now (C.costs cost.now) pats.now (state bounds.old marks.old) (state bounds.new marks.new) (λ c. ⊥) result }
 {
     let _ = graph.classes();
     let class = ClassId(place * 2 + 1);
     let other = marks[(place * 2) as usize];
     if lowered && is_ahead(other, marks[class.0 as usize]) {
-        return lower(graph, pats, cost, marks, class);
+        return lower(graph, pats, cost, bounds, marks, class);
     }
     false
 }
@@ -136,21 +147,24 @@ fn lower_pair<C: Cost>(
     graph: &Graph,
     pats: &Patterns,
     cost: &C,
+    bounds: &mut Bounds,
     marks: &mut [Option<Mark>],
     place: u32,
 ) -> bool
     requires place { place < places_of graph.now }
     requires of_cells { AreOfCells (C.costs cost.now).pin_counts pats.now }
     requires problem { IsCoverProblem graph.now pats.now (C.costs cost.now) }
+    requires fits { BoundsFit bounds.old pats.now graph.now }
     requires lowering { AreLowering graph.now (C.costs cost.now) pats.now marks.old }
+    ensures fits { BoundsFit bounds.new pats.now graph.now }
     ensures lowering { AreLowering graph.now (C.costs cost.now) pats.now marks.new }
-    ensures lowers { Lowers graph.now (C.costs cost.now) pats.now marks.old marks.new (λ c. c / 2 ≡ place) result }
+    ensures lowers { Lowers graph.now (C.costs cost.now) pats.now (state bounds.old marks.old) (state bounds.new marks.new) (λ c. c / 2 ≡ place) result }
 {
     let _ = graph.classes();
     let class = ClassId(place * 2 + 1);
-    let first = lower(graph, pats, cost, marks, class);
-    let second = lower(graph, pats, cost, marks, ClassId(place * 2));
-    let third = lower_again(graph, pats, cost, marks, place, second);
+    let first = lower(graph, pats, cost, bounds, marks, class);
+    let second = lower(graph, pats, cost, bounds, marks, ClassId(place * 2));
+    let third = lower_again(graph, pats, cost, bounds, marks, place, second);
     either(third, either(second, first))
 }
 
@@ -160,6 +174,7 @@ fn lower_place<C: Cost>(
     pats: &Patterns,
     cost: &C,
     visits: &mut Visits,
+    bounds: &mut Bounds,
     marks: &mut [Option<Mark>],
     number: usize,
     whole: bool,
@@ -168,64 +183,72 @@ fn lower_place<C: Cost>(
     requires places { visits.old.places ≡ places_of graph.now }
     requires of_cells { AreOfCells (C.costs cost.now).pin_counts pats.now }
     requires problem { IsCoverProblem graph.now pats.now (C.costs cost.now) }
+    requires fits { BoundsFit bounds.old pats.now graph.now }
     requires lowering { AreLowering graph.now (C.costs cost.now) pats.now marks.old }
     ensures visits { visits.new ≡ visits.old }
+    ensures fits { BoundsFit bounds.new pats.now graph.now }
     ensures lowering { AreLowering graph.now (C.costs cost.now) pats.now marks.new }
-    ensures lowers { Lowers graph.now (C.costs cost.now) pats.now marks.old marks.new (IsVisited whole visits.old.order number) result }
+    ensures lowers { Lowers graph.now (C.costs cost.now) pats.now (state bounds.old marks.old) (state bounds.new marks.new) (IsVisited whole visits.old.order number) result }
 {
     let Some(place) = visits.due(graph, number, whole) else {
         return false;
     };
-    let lowered = lower_pair(graph, pats, cost, marks, place);
+    let lowered = lower_pair(graph, pats, cost, bounds, marks, place);
     visits.note(place, lowered);
     lowered
 }
 
-// Goes once through the places, and says whether it changed a mark. A whole round passes over none.
+// Goes once through the places, and says whether it changed a number or a mark. A whole round passes over none.
 fn lower_round<C: Cost>(
     graph: &Graph,
     pats: &Patterns,
     cost: &C,
     visits: &mut Visits,
+    bounds: &mut Bounds,
     marks: &mut [Option<Mark>],
     whole: bool,
 ) -> bool
     requires places { visits.old.places ≡ places_of graph.now }
     requires of_cells { AreOfCells (C.costs cost.now).pin_counts pats.now }
     requires problem { IsCoverProblem graph.now pats.now (C.costs cost.now) }
+    requires fits { BoundsFit bounds.old pats.now graph.now }
     requires lowering { AreLowering graph.now (C.costs cost.now) pats.now marks.old }
     ensures visits { visits.new ≡ visits.old }
+    ensures fits { BoundsFit bounds.new pats.now graph.now }
     ensures lowering { AreLowering graph.now (C.costs cost.now) pats.now marks.new }
-    ensures lowers { Lowers graph.now (C.costs cost.now) pats.now marks.old marks.new (λ c. (whole ≡ true) × (c < length graph.now.pairs)) result }
+    ensures lowers { Lowers graph.now (C.costs cost.now) pats.now (state bounds.old marks.old) (state bounds.new marks.new) (λ c. (whole ≡ true) × (c < length graph.now.pairs)) result }
 {
     let _ = graph.classes();
     let mut changed = false;
     for number in 0..visits.len() {
-        let lowered = lower_place(graph, pats, cost, visits, marks, number, whole);
+        let lowered = lower_place(graph, pats, cost, visits, bounds, marks, number, whole);
         changed = either(lowered, changed);
     }
     changed
 }
 
-// Goes through the places that are due until that changes no mark, and then through all. Says whether the last round changed one.
+// Goes through the places that are due until that changes nothing, and then through all. Says whether the last round changed something.
 fn lower_rounds<C: Cost>(
     graph: &Graph,
     pats: &Patterns,
     cost: &C,
     visits: &mut Visits,
+    bounds: &mut Bounds,
     marks: &mut [Option<Mark>],
 ) -> bool
     requires places { visits.old.places ≡ places_of graph.now }
     requires of_cells { AreOfCells (C.costs cost.now).pin_counts pats.now }
     requires problem { IsCoverProblem graph.now pats.now (C.costs cost.now) }
+    requires fits { BoundsFit bounds.old pats.now graph.now }
     requires lowering { AreLowering graph.now (C.costs cost.now) pats.now marks.old }
     ensures visits { visits.new ≡ visits.old }
+    ensures fits { BoundsFit bounds.new pats.now graph.now }
     ensures lowering { AreLowering graph.now (C.costs cost.now) pats.now marks.new }
-    ensures falls { result ≡ true → weight (C.costs cost.now) marks.new < weight (C.costs cost.now) marks.old }
-    ensures bounded { result ≡ false → (c : ℕ) → c < length graph.now.pairs → IsBounded graph.now (C.costs cost.now) pats.now marks.new c }
+    ensures falls { result ≡ true → state_weight (C.costs cost.now) (state bounds.new marks.new) < state_weight (C.costs cost.now) (state bounds.old marks.old) }
+    ensures labelled { result ≡ false → (c : ℕ) → c < length graph.now.pairs → IsLabelled graph.now (C.costs cost.now) pats.now (state bounds.new marks.new) c }
 {
-    while lower_round(graph, pats, cost, visits, marks, false) {}
-    lower_round(graph, pats, cost, visits, marks, true)
+    while lower_round(graph, pats, cost, visits, bounds, marks, false) {}
+    lower_round(graph, pats, cost, visits, bounds, marks, true)
 }
 
 // Lowers labels until no match would lower one.
@@ -234,16 +257,20 @@ pub(crate) fn lower_all<C: Cost>(
     pats: &Patterns,
     cost: &C,
     visits: &mut Visits,
+    bounds: &mut Bounds,
     marks: &mut [Option<Mark>],
 )
     requires places { visits.old.places ≡ places_of graph.now }
     requires of_cells { AreOfCells (C.costs cost.now).pin_counts pats.now }
     requires problem { IsCoverProblem graph.now pats.now (C.costs cost.now) }
+    requires fits { BoundsFit bounds.old pats.now graph.now }
     requires lowering { AreLowering graph.now (C.costs cost.now) pats.now marks.old }
     ensures visits { visits.new ≡ visits.old }
+    ensures fits { BoundsFit bounds.new pats.now graph.now }
     ensures lowering { AreLowering graph.now (C.costs cost.now) pats.now marks.new }
+    ensures bounds { AreBounds bounds.new graph.now marks.new }
     ensures bounded { AreBoundedIn graph.now pats.now (C.costs cost.now) (costs_of marks.new) }
 {
     let _ = graph.classes();
-    while lower_rounds(graph, pats, cost, visits, marks) {}
+    while lower_rounds(graph, pats, cost, visits, bounds, marks) {}
 }

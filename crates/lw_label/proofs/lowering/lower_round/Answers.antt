@@ -1,5 +1,5 @@
 use Rattle.std.proofs.Common.{◌≡◌, ◌+◌, ◌∙◌, length, sym, subst, arith}
-use Rattle.lw_label.specs.Lowering.{IsBounded, Lowers, weight}
+use Rattle.lw_label.specs.Lowering.{IsLabelled, Lowers, state, state_weight}
 use Rattle.lw_label.specs.Orders.{IsOrder, IsPassed, IsVisited}
 use Rattle.lw_label.proofs.Passing.{passes_next, passes_round}
 use Rattle.lw_label.proofs.lowering.lower_round.Goals as goal
@@ -7,23 +7,32 @@ use Rattle.lw_label.proofs.lowering.lower_round.Goals as goal
 pub loop-number-preserved : goal.loop-number-preserved
 loop-number-preserved g c =
     let costs = g.C.Cost.costs c.args.cost.now in
+    let graph = c.args.graph.now in
+    let pats = c.args.pats.now in
     let whole = c.args.whole in
     let order = c.args.visits.now.order in
     let number = c.loop-number.number in
     let visit = c.lower_place-lowered in
-    let pass = subst (λ v. Lowers c.args.graph.now costs c.args.pats.now c.loop-number.marks visit.new.marks (IsVisited whole v.order number) visit.result) c.loop-number.invariant.visits visit.ensures.lowers in
+    let old = state c.args.bounds.now c.args.marks.now in
+    let mid = state c.loop-number.bounds c.loop-number.marks in
+    let new = state visit.new.bounds visit.new.marks in
+    let pass = subst (λ v. Lowers graph costs pats mid new (IsVisited whole v.order number) visit.result) c.loop-number.invariant.visits visit.ensures.lowers in
     record {
       visits = visit.ensures.visits ∙ c.loop-number.invariant.visits;
+      fits = visit.ensures.fits;
       lowering = visit.ensures.lowering;
-      lowers = subst (λ b. Lowers c.args.graph.now costs c.args.pats.now c.args.marks.now visit.new.marks (IsPassed whole order (number + 1)) b) (sym c.either-changed.ensures) (passes_next (weight costs) (IsBounded c.args.graph.now costs c.args.pats.now) c.args.marks.now c.loop-number.marks visit.new.marks whole order number c.loop-number.changed visit.result c.loop-number.invariant.lowers pass);
+      lowers = subst (λ b. Lowers graph costs pats old new (IsPassed whole order (number + 1)) b) (sym c.either-changed.ensures) (passes_next (state_weight costs) (IsLabelled graph costs pats) old mid new whole order number c.loop-number.changed visit.result c.loop-number.invariant.lowers pass);
     }
 
 pub returns-clause-lowers : goal.returns-clause-lowers
 returns-clause-lowers g c =
     let costs = g.C.Cost.costs c.args.cost.now in
+    let graph = c.args.graph.now in
+    let pats = c.args.pats.now in
     let whole = c.args.whole in
     let order = c.args.visits.now.order in
-    let marks = c.loop-number.marks in
+    let old = state c.args.bounds.now c.args.marks.now in
+    let new = state c.loop-number.bounds c.loop-number.marks in
     let changed = c.loop-number.changed in
     let all : c.loop-number.number ≡ length order = omega (arith, c.len-number-end.ensures.len, c.loop-number-test.false, c.loop-number.auto.number-end) in
-    passes_round (weight costs) (IsBounded c.args.graph.now costs c.args.pats.now) c.args.graph.now c.args.marks.now marks whole order changed c.classes.ensures.kept.even (subst (λ n. IsOrder n order) c.requires.places c.len-number-end.ensures.order) (subst (λ n. Lowers c.args.graph.now costs c.args.pats.now c.args.marks.now marks (IsPassed whole order n) changed) all c.loop-number.invariant.lowers)
+    passes_round (state_weight costs) (IsLabelled graph costs pats) graph old new whole order changed c.classes.ensures.kept.even (subst (λ n. IsOrder n order) c.requires.places c.len-number-end.ensures.order) (subst (λ n. Lowers graph costs pats old new (IsPassed whole order n) changed) all c.loop-number.invariant.lowers)
