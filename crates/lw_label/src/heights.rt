@@ -76,7 +76,8 @@ fn raise<C: Cost>(
     true
 }
 
-// Raises the odd class of a place a second time where its complement, which was raised since, may be a pin of a match of less height.
+// Raises the odd class of a place a second time where its complement, which was raised since, may be a pin of a match of
+// less height.
 fn raise_again<C: Cost>(
     graph: &Graph,
     pats: &Patterns,
@@ -204,7 +205,8 @@ fn raise_round<C: Cost>(
     changed
 }
 
-// Goes through the places that are due until that changes no height, and then through all. Says whether the last round changed one.
+// Goes through the places that are due until that changes no height, and then through all. Says whether the last round
+// changed one.
 fn raise_rounds<C: Cost>(
     graph: &Graph,
     pats: &Patterns,

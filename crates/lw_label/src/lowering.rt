@@ -227,7 +227,8 @@ fn lower_round<C: Cost>(
     changed
 }
 
-// Goes through the places that are due until that changes nothing, and then through all. Says whether the last round changed something.
+// Goes through the places that are due until that changes nothing, and then through all. Says whether the last round changed
+// something.
 fn lower_rounds<C: Cost>(
     graph: &Graph,
     pats: &Patterns,
