@@ -64,6 +64,9 @@ pub(crate) fn renew_parts(renewal: Renewal, numbers: &mut [u64]) -> bool
     ensures same { IsFalse result → numbers.new ≡ numbers.old }
     ensures settled { IsFalse result → AreSettledBelow renewal.entry.graph.now (reading_of renewal.entry.graph.now renewal.entry.marks.now renewal.entry.parts.now numbers.old) renewal.entry.parts.now renewal.entry.class.0 (length renewal.entry.parts.now) }
 {
+    if renewal.graph.nands(renewal.class).is_empty() {
+        return false;
+    }
     let mut fell = false;
     for part in 0..renewal.parts.len() {
         fell = either(renew_part(renewal, part, numbers), fell);
