@@ -1,5 +1,5 @@
 -- Tables whose numbers fall class by class.
-use Rattle.std.proofs.Common.{ℕ, ◌⊎◌, ◌+◌, ◌<◌, ◌≡◌, ◌||◌, Bool, true, false, List, length, Option, refl, sym, ap, subst, ◌∙◌, inl, inr, arith}
+use Rattle.std.proofs.Common.{ℕ, ◌⊎◌, ◌+◌, ◌<◌, ◌≡◌, ◌||◌, Bool, true, false, List, Option, refl, sym, ap, subst, ◌∙◌, inl, inr, arith}
 use native.Mathlib.Nat.{eq-or-lt_of_le}
 use Rattle.lw_laws.specs.Graphs.{Graph}
 use Rattle.lw_laws.specs.Covers.{Pattern}
