@@ -104,10 +104,10 @@ impl Dice {
         (self.state >> 33) as usize % sides
     }
 
-    // A base form before one: an input, or in one of eight cases one after the inputs.
+    // A base form before one: an input, or in one of sixteen cases one after the inputs.
     fn part(&mut self, form: usize) -> usize {
         let inputs = INPUTS as usize;
-        if self.roll(8) == 0 {
+        if self.roll(16) == 0 {
             self.roll(form.saturating_sub(inputs))
                 .saturating_add(inputs)
         } else {
