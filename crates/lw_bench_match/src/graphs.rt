@@ -13,7 +13,7 @@ use lw_reduce::{Draft, reduce};
 use std::alloc::{AllocError, Global};
 
 /// How many inputs a drawn draft has.
-const INPUTS: u32 = 1000;
+const INPUTS: u32 = 20_000;
 
 /// How many NAND facts each of its other base forms has.
 const FACTS: u32 = 8;
