@@ -1,7 +1,7 @@
 #!/bin/sh
 # Looks for the least match at each class of two graphs, by 'least' and by going through the matches of a cursor, and prints
 # for each graph the processor time of both ways and their ratio. Both have to come to the same sum. It takes the program of
-# crates/lw_bench_match, which 'rt run' in that folder or the gate builds. Going through a cursor takes minutes.
+# crates/lw_bench_match, which 'rt run' in that folder or the gate builds. Going through a cursor takes a minute.
 set -eu
 root=$(dirname -- "$(dirname -- "$(readlink -f -- "$0")")")
 program=$root/crates/lw_bench_match/out/lw_bench_match

@@ -13,7 +13,7 @@ use lw_reduce::{Draft, reduce};
 use std::alloc::{AllocError, Global};
 
 /// How many inputs a drawn draft has.
-const INPUTS: u32 = 1000;
+const INPUTS: u32 = 20_000;
 
 /// How many NAND facts each of its other base forms has.
 const FACTS: u32 = 8;
@@ -104,10 +104,10 @@ impl Dice {
         (self.state >> 33) as usize % sides
     }
 
-    // A base form before one: an input, or in one of eight cases one after the inputs.
+    // A base form before one: an input, or in one of sixteen cases one after the inputs.
     fn part(&mut self, form: usize) -> usize {
         let inputs = INPUTS as usize;
-        if self.roll(8) == 0 {
+        if self.roll(16) == 0 {
             self.roll(form.saturating_sub(inputs))
                 .saturating_add(inputs)
         } else {
