@@ -6,8 +6,8 @@
 set -eu
 root=$(dirname -- "$(dirname -- "$(readlink -f -- "$0")")")
 program=$root/crates/lw_bench_net/out/lw_bench_net
-[ -x "$program" ] || { echo "blif: there is no program $program" >&2 && exit 1; }
-[ -x /usr/bin/time ] || { echo "blif: there is no /usr/bin/time" >&2 && exit 1; }
+[ -x "$program" ] || { echo "blif: there is no program $program; 'rt run <stdin' in crates/lw_bench_net builds it" >&2 && exit 1; }
+[ -x /usr/bin/time ] || { echo "blif: there is no /usr/bin/time; it is Debian's package time" >&2 && exit 1; }
 room=$(mktemp -d)
 trap 'rm -rf "$room"' EXIT
 

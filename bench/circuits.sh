@@ -10,13 +10,13 @@
 # is run; the least time counts, and for the ratio a time below the 10 ms of the clock as 10. It takes the program that LWMAP_PROGRAM names, or else that of crates/lwmap.
 set -eu
 root=$(dirname -- "$(dirname -- "$(readlink -f -- "$0")")")
-program=$(readlink -f -- "${LWMAP_PROGRAM:-$root/crates/lwmap/out/lwmap}")
-[ -x "$program" ] || { echo "circuits: there is no program $program" >&2 && exit 1; }
-[ -x /usr/bin/time ] || { echo "circuits: there is no /usr/bin/time" >&2 && exit 1; }
+program=$(readlink -m -- "${LWMAP_PROGRAM:-$root/crates/lwmap/out/lwmap}")
+[ -x "$program" ] || { echo "circuits: there is no program $program; ./lwmap builds it, or LWMAP_PROGRAM names a built one" >&2 && exit 1; }
+[ -x /usr/bin/time ] || { echo "circuits: there is no /usr/bin/time; it is Debian's package time" >&2 && exit 1; }
 abc=$(command -v berkeley-abc || true)
 equivalence=
 if [ "${1:-}" = -e ]; then equivalence=yes && shift; fi
-[ -n "$abc" ] || [ -z "$equivalence" ] || { echo "circuits: there is no berkeley-abc" >&2 && exit 1; }
+[ -n "$abc" ] || [ -z "$equivalence" ] || { echo "circuits: there is no berkeley-abc; it is Debian's package of that name" >&2 && exit 1; }
 bench=$root/bench
 limit=${LIMIT:-60}
 runs=${RUNS:-3}

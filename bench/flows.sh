@@ -15,8 +15,8 @@
 # that LWMAP_PROGRAM names, or else that of crates/lwmap. ABC is Debian's package berkeley-abc.
 set -eu
 root=$(dirname -- "$(dirname -- "$(readlink -f -- "$0")")")
-program=$(readlink -f -- "${LWMAP_PROGRAM:-$root/crates/lwmap/out/lwmap}")
-[ -x "$program" ] || { echo "flows: there is no program $program" >&2 && exit 1; }
+program=$(readlink -m -- "${LWMAP_PROGRAM:-$root/crates/lwmap/out/lwmap}")
+[ -x "$program" ] || { echo "flows: there is no program $program; ./lwmap builds it, or LWMAP_PROGRAM names a built one" >&2 && exit 1; }
 for tool in berkeley-abc python3 prlimit xargs; do
     command -v "$tool" >/dev/null || { echo "flows: there is no $tool" >&2 && exit 1; }
 done

@@ -8,9 +8,9 @@
 # It takes the program that LWMAP_PROGRAM names, or else that of crates/lwmap. The least time of three runs counts.
 set -eu
 root=$(dirname -- "$(dirname -- "$(readlink -f -- "$0")")")
-program=$(readlink -f -- "${LWMAP_PROGRAM:-$root/crates/lwmap/out/lwmap}")
-[ -x "$program" ] || { echo "layers: there is no program $program" >&2 && exit 1; }
-[ -x /usr/bin/time ] || { echo "layers: there is no /usr/bin/time" >&2 && exit 1; }
+program=$(readlink -m -- "${LWMAP_PROGRAM:-$root/crates/lwmap/out/lwmap}")
+[ -x "$program" ] || { echo "layers: there is no program $program; ./lwmap builds it, or LWMAP_PROGRAM names a built one" >&2 && exit 1; }
+[ -x /usr/bin/time ] || { echo "layers: there is no /usr/bin/time; it is Debian's package time" >&2 && exit 1; }
 room=$(mktemp -d)
 trap 'rm -rf "$room"' EXIT
 cd "$room"
@@ -35,6 +35,8 @@ awk -v n=8600 -f "$root/bench/eights.awk" >network
 run "8,600 nodes of eight inputs at width 8, one form past the limit" 5 map -w 8 empty network
 awk -v n=5546 -f "$root/bench/eights.awk" >network
 run "16,776,650 splits of 1,414,231 forms" 6 map -w 8 empty network
+awk -v n=518 -f "$root/bench/eights.awk" >network
+run "16,775,430 splits with -i" 6 map -w 8 -i empty network
 
 # One node of 4,096 rows over 256 columns.
 awk 'BEGIN {

@@ -5,7 +5,7 @@
 set -eu
 root=$(dirname -- "$(dirname -- "$(readlink -f -- "$0")")")
 program=$root/crates/lw_bench_match/out/lw_bench_match
-[ -x "$program" ] || { echo "match: there is no program $program" >&2 && exit 1; }
+[ -x "$program" ] || { echo "match: there is no program $program; 'rt run' in crates/lw_bench_match builds it" >&2 && exit 1; }
 
 compare() { # WHAT GRAPH COUNT
     least=$("$program" least "$2" "$3" timed)

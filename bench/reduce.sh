@@ -5,7 +5,7 @@
 set -eu
 root=$(dirname -- "$(dirname -- "$(readlink -f -- "$0")")")
 program=$root/crates/lw_bench_reduce/out/lw_bench_reduce
-[ -x "$program" ] || { echo "reduce: there is no program $program" >&2 && exit 1; }
+[ -x "$program" ] || { echo "reduce: there is no program $program; 'rt run' in crates/lw_bench_reduce builds it" >&2 && exit 1; }
 
 measure() { # WHAT WORD..
     what=$1

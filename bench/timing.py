@@ -6,25 +6,41 @@
   timing.py -u LIB MAPPED       the netlist as plain .names BLIF, each gate by its truth table
   timing.py -f LIB              LIB again with rise = fall = the larger block per pin, one form per cell
   timing.py -p LIB              the same, and the constants and a buffer of no delay where LIB has none
+  timing.py -v LIB              the cells as modules of Verilog
 
 The delay of a pin is the larger of its rise and fall block delay; loads and fan-out terms are not used.
 All arithmetic is in whole millionths. The critical path of the report ends
 at the first output with the greatest arrival and goes back through the first pin that gives the gate's arrival.
+
+Latches are kept: what a latch gives arrives at 0, and its input and its control count as outputs. An input arrives at
+the time of its line .input_arrival, else of .default_input_arrival, else at 0. Where a file cannot be read as a library
+or a netlist, one line on standard error says why, and the status is 1.
 """
 import re
 import sys
 from collections import namedtuple
 from decimal import Decimal
+from functools import reduce
+from operator import and_, or_
 
 UNIT = 1000000
+NAME = r"[^\s#;()!'+*=&|^\"]+"
 Cell = namedtuple("Cell", "name area out pins delays funs phases")
+Mapped = namedtuple("Mapped", "inputs outputs latches starts gates wires")
+
+
+class Fault(Exception):
+    """Why a file is no library or no netlist, in one line."""
 
 
 def micro(word):
-    v = Decimal(word) * UNIT
-    if v != int(v):
-        raise ValueError(f"finer than a millionth: {word}")
-    return int(v)
+    try:
+        v = Decimal(word) * UNIT
+        if v == int(v):
+            return int(v)
+    except (ArithmeticError, ValueError):
+        pass
+    raise Fault(f"{word} is no decimal of millionths")
 
 
 def show(v):
@@ -49,7 +65,16 @@ def lines(path):
 
 
 def read_genlib(path):
-    words = [w for l in lines(path) for w in l]
+    """The cells by name, in the order of their first entries."""
+    try:
+        return parse_genlib([w for l in lines(path) for w in l])
+    except Fault as fault:
+        raise Fault(f"{path}: {fault}") from None
+    except IndexError:
+        raise Fault(f"{path}: the file ends within an entry") from None
+
+
+def parse_genlib(words):
     lib, i = {}, 0
     while i < len(words):
         if words[i] == "LATCH":
@@ -58,7 +83,7 @@ def read_genlib(path):
                 i += 1
             continue
         if words[i] != "GATE":
-            raise ValueError(f"GATE expected, not {words[i]}")
+            raise Fault(f"GATE expected, not {words[i]}")
         name, area = words[i + 1].strip('"'), micro(words[i + 2])
         i += 3
         text = ""
@@ -71,9 +96,11 @@ def read_genlib(path):
             words[i] = rest
         else:
             i += 1
+        if "=" not in text:
+            raise Fault(f"cell {name} has no function")
         out, fun = (x.strip() for x in text.split("=", 1))
         pins = []
-        for n in re.findall(r"[^\s#;()!'+*=&|^\"]+", fun):
+        for n in re.findall(NAME, fun):
             if n not in ("CONST0", "CONST1") and n not in pins:
                 pins.append(n)
         own, star = {}, None
@@ -85,6 +112,9 @@ def read_genlib(path):
                 own[p] = (max(r, f), ph)
             i += 9
         info = [own.get(p, star) for p in pins]
+        if None in info:
+            raise Fault(f"pin {pins[info.index(None)]} of cell {name} has no delay")
+        Function(fun, pins, name)
         if name in lib:
             lib[name].funs.append(fun)
         else:
@@ -118,59 +148,106 @@ def padded(lib):
     return t
 
 
-def truth(fun, pins):
-    """The truth table of a genlib function as a number; bit r is the value in row r, pin i being bit i of r."""
-    n = 1 << len(pins)
-    ones = (1 << n) - 1
-    var = {p: sum(1 << r for r in range(n) if r >> i & 1) for i, p in enumerate(pins)}
-    var.update(CONST0=0, CONST1=ones)
-    toks = re.findall(r"[()!'+*]|[^\s#;()!'+*=&|^\"]+", fun) + [""]
-    pos = [0]
+class Function:
+    """The function of a cell: as a truth table, a number whose bit r is the value in row r, pin i being bit i of r, and as
+    an expression of Verilog."""
 
-    def factor():
-        t = toks[pos[0]]
-        pos[0] += 1
-        if t == "!":
-            return ones ^ factor()
-        if t == "(":
-            v = expr()
-            if toks[pos[0]] != ")":
-                raise ValueError(f"bracket missing in {fun}")
-            pos[0] += 1
+    def __init__(self, fun, pins, cell="?"):
+        self.fun, self.pins, self.cell = fun, pins, cell
+        self.signs = re.findall(r"[()!'+*]|" + NAME + r"|\S", fun) + [""]
+        self.at = 0
+        self.tree = self.sum()
+        if self.signs[self.at]:
+            raise Fault(f"function of cell {cell} is not understood at {self.signs[self.at]}")
+
+    def next(self):
+        self.at += 1
+        return self.signs[self.at - 1]
+
+    def factor(self):
+        sign = self.next()
+        if sign == "!":
+            return ("~", self.factor())
+        if sign == "(":
+            tree = self.sum()
+            if self.next() != ")":
+                raise Fault(f"function of cell {self.cell} lacks a bracket")
+        elif sign in self.pins or sign in ("CONST0", "CONST1"):
+            tree = sign
         else:
-            v = var[t]
-        while toks[pos[0]] == "'":
-            v ^= ones
-            pos[0] += 1
-        return v
+            raise Fault(f"function of cell {self.cell} is not understood at {sign or 'its end'}")
+        while self.signs[self.at] == "'":
+            self.at += 1
+            tree = ("~", tree)
+        return tree
 
-    def product():
-        v = factor()
-        while toks[pos[0]] not in ("", "+", ")"):
-            if toks[pos[0]] == "*":
-                pos[0] += 1
-            v &= factor()
-        return v
+    def product(self):
+        parts = [self.factor()]
+        while self.signs[self.at] not in ("", "+", ")"):
+            if self.signs[self.at] == "*":
+                self.at += 1
+            parts.append(self.factor())
+        return parts[0] if len(parts) == 1 else ("&", *parts)
 
-    def expr():
-        v = product()
-        while toks[pos[0]] == "+":
-            pos[0] += 1
-            v |= product()
-        return v
+    def sum(self):
+        parts = [self.product()]
+        while self.signs[self.at] == "+":
+            self.at += 1
+            parts.append(self.product())
+        return parts[0] if len(parts) == 1 else ("|", *parts)
 
-    v = expr()
-    if toks[pos[0]]:
-        raise ValueError(f"function not understood: {fun}")
-    return v
+    def table(self):
+        rows = 1 << len(self.pins)
+        ones = (1 << rows) - 1
+        of = {p: sum(1 << r for r in range(rows) if r >> i & 1) for i, p in enumerate(self.pins)}
+        of.update(CONST0=0, CONST1=ones)
+
+        def value(tree):
+            if isinstance(tree, str):
+                return of[tree]
+            parts = [value(part) for part in tree[1:]]
+            if tree[0] == "~":
+                return ones ^ parts[0]
+            return reduce(and_ if tree[0] == "&" else or_, parts)
+
+        return value(self.tree)
+
+    def verilog(self):
+        def said(tree):
+            if isinstance(tree, str):
+                return {"CONST0": "1'b0", "CONST1": "1'b1"}.get(tree) or escaped(tree)
+            if tree[0] == "~":
+                return "~" + said(tree[1])
+            return "(" + f" {tree[0]} ".join(said(part) for part in tree[1:]) + ")"
+
+        return said(self.tree)
+
+
+def truth(fun, pins):
+    return Function(fun, pins).table()
+
+
+def escaped(name):
+    return f"\\{name} "
+
+
+def modules(lib):
+    """The cells as modules of Verilog, by their first forms."""
+    t = []
+    for c in lib.values():
+        ports = [f"input {escaped(p)}" for p in c.pins] + [f"output {escaped(c.out)}"]
+        t.append(f"module {escaped(c.name)}({', '.join(ports)});\n"
+                 f"    assign {escaped(c.out)}= {Function(c.funs[0], c.pins, c.name).verilog()};\nendmodule\n")
+    return "".join(t)
 
 
 def unmap(lib, path):
     """ABC (2022) crashes on files that hold both .gate lines and wires, so it gets plain .names to compare."""
-    inputs, outputs, gates, wires = read_mapped(path, lib)
+    m = read_mapped(path, lib)
     rows = {}
-    t = [".model unmapped", ".inputs " + " ".join(inputs), ".outputs " + " ".join(outputs)]
-    for net, (c, fan) in gates.items():
+    t = [".model unmapped", ".inputs " + " ".join(m.inputs), ".outputs " + " ".join(m.outputs)]
+    t += [" ".join(words) for words in m.latches]
+    for net, (c, fan) in m.gates.items():
         if c.name not in rows:
             n = len(c.pins)
             v = truth(c.funs[0], c.pins)
@@ -178,16 +255,36 @@ def unmap(lib, path):
                             for r in range(1 << n) if v >> r & 1]
         t.append(".names " + " ".join(fan + [net]))
         t += rows[c.name]
-    for net, src in wires.items():
+    for net, src in m.wires.items():
         t += [f".names {src} {net}", "1 1"]
     return "\n".join(t + [".end"]) + "\n"
 
 
 def read_mapped(path, lib):
-    """inputs, outputs, gates as net -> (cell, nets by pin), wires as net -> net. `.names` without fan-in, which ABC
-    may write for constants, is a gate of no delay and no area. So is ABC's .barbuf a wire."""
-    inputs, outputs, gates, wires = [], [], {}, {}
-    it = iter(lines(path))
+    """Inputs, outputs, latches as lists of words, the arrivals of inputs, gates as net -> (cell, nets by pin), wires as
+    net -> net. `.names` without fan-in, which ABC may write for constants, is a gate of no delay and no area. So is ABC's
+    .barbuf a wire."""
+    try:
+        return parse_mapped(lines(path), lib)
+    except Fault as fault:
+        raise Fault(f"{path}: {fault}") from None
+    except (IndexError, StopIteration):
+        raise Fault(f"{path}: a line is too short") from None
+
+
+def gate_of(words, lib):
+    if words[1] not in lib:
+        raise Fault(f"the library has no cell {words[1]}; was it mapped with another one?")
+    c = lib[words[1]]
+    nets = dict(x.split("=", 1) for x in words[2:] if "=" in x)
+    for p in c.pins + [c.out]:
+        if p not in nets:
+            raise Fault(f"a gate of cell {c.name} has no net at {p}")
+    return nets[c.out], (c, [nets[p] for p in c.pins])
+
+
+def parse_mapped(it, lib):
+    inputs, outputs, latches, gates, wires, own, default, last = [], [], [], {}, {}, {}, 0, None
     for w in it:
         if w[0] == ".model":
             pass
@@ -195,38 +292,53 @@ def read_mapped(path, lib):
             inputs += w[1:]
         elif w[0] == ".outputs":
             outputs += [x for x in w[1:] if x not in outputs]
+        elif w[0] == ".latch":
+            latches.append(w)
+        elif w[0] == ".input_arrival":
+            own[w[1]] = max(micro(w[2]), micro(w[3]))
+        elif w[0] == ".default_input_arrival":
+            default = max(micro(w[1]), micro(w[2]))
         elif w[0] == ".gate":
-            c = lib[w[1]]
-            m = dict(x.split("=", 1) for x in w[2:])
-            gates[m[c.out]] = (c, [m[p] for p in c.pins])
+            net, gate = gate_of(w, lib)
+            gates[net] = gate
         elif w[0] == ".names":
             if len(w) == 3:
                 row = next(it)
                 if row != ["1", "1"]:
-                    raise ValueError(f".names {w[2]} is no wire")
+                    raise Fault(f".names {w[2]} is no wire; is the netlist mapped?")
                 wires[w[2]] = w[1]
             elif len(w) == 2:
                 last = w[1]
                 gates[last] = (Cell("zero of .names", 0, "O", [], [], ["CONST0"], []), [])
             else:
-                raise ValueError(".names with logic: not mapped")
+                raise Fault(f".names {w[-1]} has logic; is the netlist mapped?")
         elif w[0] == ".barbuf":
             wires[w[2]] = w[1]
         elif w[0] in (".end", ".exdc"):
             break
         elif w[0].startswith("."):
             pass
-        elif w == ["1"]:
+        elif w == ["1"] and last:
             gates[last] = (Cell("one of .names", 0, "O", [], [], ["CONST1"], []), [])
         elif w != ["0"]:
-            raise ValueError("stray row")
-    return inputs, outputs, gates, wires
+            raise Fault("a row stands outside of a node; is this a mapped netlist?")
+    return Mapped(inputs, outputs, latches, {i: own.get(i, default) for i in inputs}, gates, wires)
+
+
+def roots(mapped):
+    """The outputs, then what each latch reads: its input, and its control where it names one."""
+    nets = list(mapped.outputs)
+    for w in mapped.latches:
+        nets += [w[1]] + [x for x in w[4:5] if x != "NIL"]
+    return list(dict.fromkeys(nets))
 
 
 class Timing:
     def __init__(self, lib, path):
-        self.inputs, self.outputs, self.gates, self.wires = read_mapped(path, lib)
-        self.at = {i: 0 for i in self.inputs}
+        m = read_mapped(path, lib)
+        self.gates, self.wires = m.gates, m.wires
+        self.outputs = roots(m)
+        self.at = {**m.starts, **{w[2]: 0 for w in m.latches}}
         for o in self.outputs:
             self.arrive(o)
         self.max = max((self.at[o] for o in self.outputs), default=0)
@@ -244,11 +356,11 @@ class Timing:
             elif n in self.gates:
                 fan, delays = self.gates[n][1], self.gates[n][0].delays
             else:
-                raise ValueError(f"net {n} is not driven")
+                raise Fault(f"net {n} is not driven")
             todo = [f for f in fan if f not in at]
             if todo:
                 if len(stack) > len(self.gates) + len(self.wires) + 1:
-                    raise ValueError("cycle")
+                    raise Fault(f"net {n} is on a cycle")
                 stack.append(todo[0])
                 continue
             at[n] = max((at[f] + d for f, d in zip(fan, delays)), default=0)
@@ -277,6 +389,8 @@ def main(a):
         sys.stdout.write(flat(read_genlib(a[1])))
     elif len(a) == 2 and a[0] == "-p":
         sys.stdout.write(padded(read_genlib(a[1])))
+    elif len(a) == 2 and a[0] == "-v":
+        sys.stdout.write(modules(read_genlib(a[1])))
     elif len(a) == 3 and a[0] == "-u":
         sys.stdout.write(unmap(read_genlib(a[1]), a[2]))
     elif len(a) == 3 and a[0] == "-s":
@@ -289,4 +403,7 @@ def main(a):
 
 
 if __name__ == "__main__":
-    main(sys.argv[1:])
+    try:
+        main(sys.argv[1:])
+    except (Fault, OSError) as fault:
+        sys.exit(f"timing: {fault}")

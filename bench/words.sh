@@ -5,7 +5,7 @@
 set -eu
 root=$(dirname -- "$(dirname -- "$(readlink -f -- "$0")")")
 program=$root/crates/lw_bench/out/lw_bench
-[ -x "$program" ] || { echo "words: there is no program $program" >&2 && exit 1; }
+[ -x "$program" ] || { echo "words: there is no program $program; 'rt run <stdin' in crates/lw_bench builds it" >&2 && exit 1; }
 room=$(mktemp -d)
 trap 'rm -rf "$room"' EXIT
 size=67108864

@@ -3,8 +3,8 @@
 
   compare.py COUNT [SEED]
 
-LWMAP_PROGRAM names the program, or it is that of crates/lwmap. A case on which the two differ stays in a folder that is
-told. The last line is 'N passed, N failed'.
+The networks have latches and arrivals, and some of them a fault. LWMAP_PROGRAM names the program, or it is that of
+crates/lwmap. A case on which the two differ stays in a folder that is told. The last line is 'N passed, N failed'.
 """
 import os
 import random
@@ -22,7 +22,13 @@ DELAYS = ["0", "0.5", "1", "1.5", "2", "2.25", "3", "0.000001"]
 
 def library(draw):
     text = ""
-    for number, function in enumerate(draw.sample(FUNCTIONS, draw.randint(1, 9))):
+    functions = draw.sample(FUNCTIONS, draw.randint(1, 9))
+    if draw.random() < 0.7:
+        # (with these there is a cover wherever there is a constant for it)
+        enough = ["!a", draw.choice(["!(a*b)", "!(a+b)"]), draw.choice(["CONST0", "CONST1"])]
+        draw.shuffle(enough)
+        functions = list(dict.fromkeys(functions + enough))
+    for number, function in enumerate(functions):
         text += f"GATE c{number} {draw.randint(0, 9)} O={function};\n"
         pins = sorted(set(function) & set("abcde"))
         if pins and draw.random() < 0.5 and not function.startswith("CONST"):
@@ -32,22 +38,72 @@ def library(draw):
     return text
 
 
+def node(draw, name, signals):
+    fanins = [draw.choice(signals) for _ in range(draw.randint(0, 5))] if signals else []
+    lines = [" ".join([".names"] + fanins + [name])]
+    on = draw.choice("01")
+    for _ in range(draw.randint(0, 5)):
+        lines.append(("".join(draw.choice("01--") for _ in fanins) + " " if fanins else "") + on)
+    return lines
+
+
+def latch(draw, name, signals):
+    control = draw.choice(signals + ["NIL"])
+    rest = draw.choice([[], ["2"], ["re", control], ["fe", control, "0"], ["ah", control, "3"]])
+    return [" ".join([".latch", draw.choice(signals), name] + rest)]
+
+
+def arrivals(draw, signals):
+    own = [f".input_arrival {draw.choice(signals + ['none'])}" for _ in range(draw.choice([0, 0, 1, 2, 4]))]
+    default = [".default_input_arrival" for _ in range(draw.choice([0, 0, 0, 1, 2]))]
+    return [[f"{words} {draw.choice(DELAYS)} {draw.choice(DELAYS)}"] for words in own + default]
+
+
+def damaged(draw, lines):
+    """The lines with one of them left out, doubled, moved, or with a word left out, doubled or exchanged for another."""
+    lines = list(lines)
+    place = draw.randrange(len(lines))
+    words = lines[place].split(" ")
+    at = draw.randrange(len(words))
+    other = draw.choice(draw.choice(lines).split(" ") + ["i0", "x", "q0\\ ", "-1", "NIL", ".clock", "1"])
+    instead = draw.choice([[], [words[at]] * 2, [other]])
+    changed = " ".join(words[:at] + instead + words[at + 1:])
+    lines[place:place + 1] = draw.choice([[], [lines[place]] * 2, [changed], [changed], [changed]])
+    if draw.random() < 0.2 and lines:
+        lines.insert(draw.randrange(len(lines)), lines.pop(draw.randrange(len(lines))))
+    return lines
+
+
 def network(draw):
-    signals = [f"i{k}" for k in range(draw.randint(0, 5))]
-    text = ".model m\n.inputs " + " ".join(signals) + "\n"
-    nodes = ""
+    inputs = [f"i{k}" for k in range(draw.randint(0, 5))]
+    given = [draw.choice([f"q{k}", f"n{k + 1}"]) for k in range(draw.choice([0, 0, 1, 2, 3]))]
+    signals = inputs + given
     outputs = []
+    parts = []
     for k in range(draw.randint(0, 7)):
-        name = draw.choice([f"n{k}", f"f{k}"])
-        fanins = [draw.choice(signals) for _ in range(draw.randint(0, 5))] if signals else []
-        nodes += " ".join([".names"] + fanins + [name]) + "\n"
-        on = draw.choice("01")
-        for _ in range(draw.randint(0, 5)):
-            nodes += ("".join(draw.choice("01--") for _ in fanins) + " " if fanins else "") + on + "\n"
+        name = draw.choice([f"m{k}", f"f{k}"])
+        parts.append(node(draw, name, signals))
         signals.append(name)
         if draw.random() < 0.5:
             outputs.append(name)
-    return text + ".outputs " + " ".join(outputs) + "\n" + nodes + ".end\n"
+    outputs += [name for name in inputs + given if draw.random() < 0.1]
+    parts += [latch(draw, name, signals) for name in given] + arrivals(draw, signals)
+    parts += [[" ".join([".inputs"] + inputs)], [" ".join([".outputs"] + outputs)]]
+    if draw.random() < 0.5:
+        draw.shuffle(parts)
+    else:
+        parts = parts[-2:] + parts[:-2]
+    lines = [".model m"] + [line for part in parts for line in part] + [".end"]
+    if draw.random() < 0.2:
+        lines = damaged(draw, lines)
+    return "".join(line + "\n" for line in lines)
+
+
+def options(draw):
+    """The further laws bring so many matches that they are tried at small widths alone."""
+    if draw.random() < 0.4:
+        return ["-w", draw.choice("23"), "-i"]
+    return draw.choice([[], ["-w", str(draw.randint(2, 8))]])
 
 
 def run(command, folder):
@@ -65,7 +121,7 @@ def main():
             file.write(library(draw))
         with open(folder + "/IN", "w") as file:
             file.write(network(draw))
-        words = ["map"] + draw.choice([[], ["-w", str(draw.randint(2, 8))]]) + ["LIB", "IN"]
+        words = ["map"] + options(draw) + ["LIB", "IN"]
         ours = run([PROGRAM] + words, folder)
         theirs = run([sys.executable, ROOT + "/tests/reference.py"] + words, folder)
         if ours == theirs:

@@ -154,7 +154,7 @@ zeros() { # FILE BYTES
     rm -f "$1" && dd if=/dev/zero of="$1" bs=1 count=1 seek="$(($2 - 1))" 2>/dev/null
 }
 
-want_of_memory() {
+out_of_memory() {
     # shellcheck disable=SC3045
     (ulimit -v 32000) 2>/dev/null || { echo "this shell has no limit of memory" && return 9; }
     inverter_files && zeros IN 60000000
@@ -170,6 +170,16 @@ library_of_too_many_bytes() {
     zeros LIB 67108864
     run map LIB IN
     status $? 4 && holds out && holds err 'lwmap: LIB line 1: word too long'
+}
+
+library_of_one_long_comment() {
+    printf '%s\n' '.model m' '.inputs a' '.outputs a' '.end' >IN
+    head -c 67108864 /dev/zero | tr '\0' '#' >LIB
+    run map LIB IN
+    status $? 0 && same out IN && holds err || return
+    printf '#' >>LIB
+    run map LIB IN
+    status $? 5 && holds out && holds err 'lwmap: limit: LIB has more than 67108864 bytes'
 }
 
 network_of_too_many_bytes() {
@@ -206,6 +216,54 @@ signal_names_of_2000_bytes() {
         sed "${line}s/ [a-z]*/ $(long 2001)/" IN >longer
         run map LIB longer
         status $? 3 && holds out && holds err "lwmap: longer line $line: bad name" || return
+    done
+}
+
+latch_words_of_2000_bytes() {
+    inverter_files
+    for place in 2 3 4 5 6; do
+        inputs='d clk'
+        [ $place -ne 2 ] && [ $place -ne 5 ] || inputs="$inputs $(long 2000)"
+        printf '%s\n' '.model m' ".inputs $inputs" '.outputs d' '.latch d q re clk 0' '.end' |
+            awk -v place="$place" -v word="$(long 2000)" '/^.latch/ { $place = word } { print }' >IN
+        run map LIB IN
+        status $? 0 && same out IN && holds err || return
+        awk -v place="$place" '/^.latch/ { $place = $place "x" } { print }' IN >longer
+        run map LIB longer
+        status $? 3 && holds out && holds err 'lwmap: longer line 4: bad name' || return
+    done
+}
+
+arrival_names_of_2000_bytes() {
+    inverter_files
+    f=$(long 2000)
+    printf '%s\n' '.model m' ".inputs $f" ".outputs $f" ".input_arrival $f 1 2" '.end' >IN
+    run map LIB IN
+    status $? 0 && holds out '.model m' ".inputs $f" ".outputs $f" ".input_arrival $f 2 2" '.end' && holds err || return
+    sed 's/^.input_arrival /&x/' IN >longer
+    run map LIB longer
+    status $? 3 && holds out && holds err 'lwmap: longer line 4: bad name'
+}
+
+arrival_decimals_of_4095_bytes() {
+    inverter_files
+    zeros=$(head -c 4093 /dev/zero | tr '\0' 0)
+    printf '%s\n' '.model m' '.inputs a b' '.outputs a' ".input_arrival a ${zeros}1. 1.$zeros" ".input_arrival b .${zeros}1 0" '.end' >IN
+    run map LIB IN
+    status $? 3 && holds out && holds err 'lwmap: IN line 5: decimal too fine' || return
+    sed 5d IN >fewer
+    run map LIB fewer
+    status $? 0 && holds out '.model m' '.inputs a b' '.outputs a' '.input_arrival a 1 1' '.end' && holds err
+}
+
+long_words_of_latches_and_arrivals() {
+    inverter_files
+    word=$(long 4096)
+    for line in ".latch $word" ".latch a a re\\ $word 0 1 2" ".input_arrival $word" ".input_arrival a x y $word" \
+        ".default_input_arrival $word" ".default_input_arrival x y z $word"; do
+        printf '%s\n' '.model m' '.inputs a' '.outputs a' "$line" '.end' >IN
+        run map LIB IN
+        status $? 3 && holds out && holds err 'lwmap: IN line 4: word too long' || return
     done
 }
 
@@ -253,6 +311,38 @@ most_inputs() {
     status $? 3 && holds out && holds err 'lwmap: IN line 2: more than 262144 signals'
 }
 
+most_signals_with_latches() {
+    inverter_files
+    awk 'BEGIN {
+        print ".model m\n.inputs a\n.outputs"
+        for (i = 1; i <= 262143; i++) print ".latch a q" i " 0"
+        print ".end"
+    }' >IN
+    run map LIB IN
+    status $? 0 && same out IN && holds err || return
+    for line in '.latch a x 0' '.latch a a 0' '.names x' '.names a' '.inputs x' '.inputs a'; do
+        sed '$d' IN >longer && printf '%s\n' "$line" .end >>longer
+        run map LIB longer
+        status $? 3 && holds out && holds err 'lwmap: longer line 262147: more than 262144 signals' || return
+    done
+    sed '$d' IN >longer && printf '%s\n' '.latch a\ x 0' .end >>longer
+    run map LIB longer
+    status $? 3 && holds out && holds err 'lwmap: longer line 262147: bad name'
+}
+
+most_rows() {
+    inverter_files
+    awk 'BEGIN { print ".model m\n.inputs a\n.outputs f\n.names a f"; for (i = 1; i <= 4096; i++) print "1 1" }' >IN
+    run map LIB IN
+    status $? 0 && holds out '.model m' '.inputs a' '.outputs f' '.names a f' '1 1' '.end' && holds err || return
+    echo '1 1' >>IN
+    run map LIB IN
+    status $? 3 && holds out && holds err 'lwmap: IN line 4101: more than 4096 rows' || return
+    sed '$s/1$/0/' IN >other
+    run map LIB other
+    status $? 3 && holds out && holds err 'lwmap: other line 4101: rows of both kinds'
+}
+
 # So many inverters, each faster than those before it.
 inverters() { # CELLS
     awk -v n="$1" 'BEGIN { for (i = 1; i <= n; i++) print "GATE c" i " 1 O=!a;\nPIN * INV 1 999 " 9999 - i " 0 0 0" }'
@@ -277,6 +367,12 @@ too_many_forms() {
 too_many_splits() {
     inverter_files && awk -v n=5547 -f "$root/bench/eights.awk" >IN
     run map -w 8 LIB IN
+    status $? 5 && holds out && holds err 'lwmap: limit: more than 16777216 splits'
+}
+
+too_many_splits_that_share_operands() {
+    inverter_files && awk -v n=519 -f "$root/bench/eights.awk" >IN
+    run map -w 8 -i LIB IN
     status $? 5 && holds out && holds err 'lwmap: limit: more than 16777216 splits'
 }
 
@@ -378,9 +474,11 @@ for it in "$examples"/*/*.mapped.blif; do
 done
 for it in unreadable_file standard_output_is_full standard_output_takes_a_part \
     standard_output_is_closed standard_output_is_a_pipe_that_nobody_reads standard_error_is_closed standard_error_is_full \
-    standard_input_is_not_read files_from_pipes word_that_is_not_utf8 want_of_memory \
-    library_of_too_many_bytes network_of_too_many_bytes file_without_end signal_names_of_2000_bytes \
-    longest_functions_and_names_of_cells most_signals most_inputs most_cells too_many_forms too_many_splits two_runs_agree \
+    standard_input_is_not_read files_from_pipes word_that_is_not_utf8 out_of_memory \
+    library_of_too_many_bytes library_of_one_long_comment network_of_too_many_bytes file_without_end signal_names_of_2000_bytes \
+    latch_words_of_2000_bytes arrival_names_of_2000_bytes arrival_decimals_of_4095_bytes long_words_of_latches_and_arrivals \
+    longest_functions_and_names_of_cells most_signals most_signals_with_latches most_inputs most_rows most_cells too_many_forms \
+    too_many_splits too_many_splits_that_share_operands two_runs_agree \
     script_builds_and_runs script_runs_a_fresh_build script_builds_anew_after_an_edit \
     script_does_not_build_for_other_crates script_says_where_the_build_fails \
     script_says_where_rt_is_not_there script_takes_a_program_that_is_named; do

@@ -1,6 +1,6 @@
 -- What holds of the graph that the draft of listed forms is reduced to.
 use Rattle.std.proofs.Common.{ℕ, suc, ◌+◌, ◌*◌, ◌/◌, ◌==◌, ◌≤◌, ◌≡◌, Bool, true, false, if◌then◌else◌, List, [], ◌∷◌, length, subst, arith}
-use Rattle.lw_laws.specs.Modes.Mode.{plain}
+use Rattle.lw_laws.specs.Modes.{Mode}
 use Rattle.lw_laws.specs.Networks.{Network}
 use Rattle.lw_laws.specs.Graphs.{Graph, PairsInOneClass, pair_count}
 use Rattle.lw_laws.specs.Encodings.{Encodes}
@@ -29,9 +29,9 @@ pairs_bound next (c ∷ cs) = by_test (c == 2 * next) (λ k. pairs_bound k cs) w
   by_test true rest = let p = rest (suc next) in omega arith
   by_test false rest = let p = rest next in omega arith
 
-module _ (forms : NumberedForms) (are : AreForms forms) (d : Draft) (is : IsDraftOf forms d) (g : Graph) (reduced : IsReduced d g) where
-  pub built_encodes : Encodes (family_of plain forms) g
-  built_encodes = Encodes-same (family_of plain forms) (facts_of d) (same_facts forms are d is) g (IsReduced-encodes d g reduced)
+module _ (mode : Mode) (forms : NumberedForms) (are : AreForms forms) (d : Draft) (is : IsDraftOf mode forms d) (g : Graph) (reduced : IsReduced d g) where
+  pub built_encodes : Encodes (family_of mode forms) g
+  built_encodes = Encodes-same (family_of mode forms) (facts_of d) (same_facts forms are mode d is) g (IsReduced-encodes d g reduced)
 
   -- there are no more pairs of classes than base forms
   pub built_few : length g.pairs ≤ most_classes
@@ -45,14 +45,14 @@ module _ (forms : NumberedForms) (are : AreForms forms) (d : Draft) (is : IsDraf
       omega arith
 
   pub built_once : PairsInOneClass g
-  built_once = pairs_in_one_class (family_of plain forms) (λ h. h / 2) (forms_are_family plain forms are.numbered) g built_encodes
+  built_once = pairs_in_one_class (family_of mode forms) (λ h. h / 2) (forms_are_family mode forms are.numbered) g built_encodes
 
-  pub built_trees : HasNumberedTrees plain forms g
-  built_trees = has_the_trees plain forms g are.numbered built_encodes
+  pub built_trees : HasNumberedTrees mode forms g
+  built_trees = has_the_trees mode forms g are.numbered built_encodes
 
-  pub built_values : (x value : ℕ → Bool) → AreNumberedValues forms x value → HasNumberedTruth plain forms g x value
-  built_values x value values = has_truth plain forms g x value are.numbered built_encodes (form_values_fit forms x value values plain)
+  pub built_values : (x value : ℕ → Bool) → AreNumberedValues forms x value → HasNumberedTruth mode forms g x value
+  built_values x value values = has_truth mode forms g x value are.numbered built_encodes (form_values_fit forms x value values mode)
 
-  pub built_graph : (width : ℕ) (net : Network) → 2 ≤ width → forms ≡ forms_of width net → IsGraphOf plain net.inputs (listing_of width net) g
+  pub built_graph : (width : ℕ) (net : Network) → 2 ≤ width → forms ≡ forms_of width net → IsGraphOf mode net.inputs (listing_of width net) g
   built_graph width net wide e =
-      reduction_is_graph plain width net d g wide (subst (λ f. HaveSameFacts (family_of plain f) (facts_of d)) e (same_facts forms are d is)) reduced
+      reduction_is_graph mode width net d g wide (subst (λ f. HaveSameFacts (family_of mode f) (facts_of d)) e (same_facts forms are mode d is)) reduced

@@ -2,8 +2,9 @@
 use Rattle.std.proofs.Common.{◌≡◌, ◌+◌, ◌-◌, ◌*◌, ◌/◌, ◌%◌, ◌^◌, ◌<◌, ◌≤◌, ◌⊎◌, inl, inr, ℕ, zero, suc, Bool, true, false, not, ◌&&◌, List, [], ◌∷◌, ◌++◌, length, Option, Some, Contains, slice_get, slice_index, slice_index_or, replicate, refl, ap, ap₂, sym, ◌∙◌, subst, arith, length-append, if◌then◌else◌, ◌==◌}
 use native.Mathlib.Decide.{dec_lt}
 use Rattle.std.proofs.lemmas.List.Elements.{Contains-append_left, Contains-push, Contains-push_cases}
-use Rattle.lw_laws.specs.Modes.Mode.{plain}
-use Rattle.lw_laws.specs.NumberedForms.{Base, NumberedForms, IsPart, IsCutOf, NumberOccurs, IsSignal}
+use Rattle.lw_laws.specs.Modes.{Mode}
+use Rattle.lw_laws.specs.Modes.Mode.{plain, idempotent}
+use Rattle.lw_laws.specs.NumberedForms.{Base, NumberedForms, IsPart, IsCutOf, IsSplitOf, NumberOccurs, IsSignal}
 use Rattle.lw_laws.specs.NumberedForms.Base.{base_true, base_input, base_and}
 use Rattle.lw_laws.specs.NumberedValues.{AreNumberedValues}
 use Rattle.lw_laws.specs.Drafts.{Draft, NandFact, FormLink}
@@ -12,16 +13,16 @@ use Rattle.lw_laws.proofs.Flips.{flip_even}
 use Rattle.lw_laws.proofs.NumberedForms.{splits_occur}
 use Rattle.lw_laws.proofs.NumberedValues.{form_values_fit}
 use Rattle.lw_form.specs.Bases.{picked}
-use Rattle.lw_form.specs.Kept.{AreForms}
-use Rattle.lw_assoc.specs.Drafting.{other, IsSplitBy, HasSplit, HasSplitsUpTo, IsSplitting, HasLinksUpTo, HasSamples, HasBases, AddsBases, AddsNands, AddsLinks, AddsSplit, first_draft, with_base, with_nand, with_link}
+use Rattle.lw_form.specs.Kept.{AreForms, HasPart}
+use Rattle.lw_assoc.specs.Drafting.{other, IsSplitBy, HasSplit, HasSplits, HasTwice, AreSplits, MakeSplit, HasSplitsUpTo, IsSplitting, HasLinksUpTo, HasSamples, HasBases, AddsBases, AddsNands, AddsLinks, AddsSplit, first_draft, with_base, with_nand, with_link}
 use Rattle.lw_assoc.specs.Parts.{HasParts}
 use Rattle.lw_reduce.specs.Drafting.{sample_of, IsKnown}
 use Rattle.lw_assoc.proofs.Masks.{unpicked, cut_by, picked_other}
 
-same_base : (o : Option Base) (a b : Base) → o ≡ Some a → o ≡ Some b → a ≡ b
+pub same_base : (o : Option Base) (a b : Base) → o ≡ Some a → o ≡ Some b → a ≡ b
 same_base o a b e d = cc
 
-same_operands : (o : Option Base) (fs hs : List ℕ) → o ≡ Some (base_and fs) → o ≡ Some (base_and hs) → fs ≡ hs
+pub same_operands : (o : Option Base) (fs hs : List ℕ) → o ≡ Some (base_and fs) → o ≡ Some (base_and hs) → fs ≡ hs
 same_operands o fs hs e d = cc
 
 falses : (n j : ℕ) → slice_index_or (replicate n false) j false ≡ false
@@ -95,16 +96,16 @@ module _ (forms : NumberedForms) (are : AreForms forms) where
     known : (f : ℕ) → NumberOccurs forms f → f / 2 < length d.samples
     known f o = subst (λ n. f / 2 < n) (sym has.count) o
 
-    pub cut_known : (f x y : ℕ) → IsCutOf forms f x y → IsKnown d.samples f × IsKnown d.samples x × IsKnown d.samples y
-    cut_known f x y c =
-        let (o, p, q) = splits_occur plain forms are.numbered plain f x y c in
+    pub split_known : (f x y : ℕ) → IsSplitOf idempotent forms f x y → IsKnown d.samples f × IsKnown d.samples x × IsKnown d.samples y
+    split_known f x y c =
+        let (o, p, q) = splits_occur plain forms are.numbered idempotent f x y c in
         (known f o, known x p, known y q)
 
-    pub cut_sample : (f x y : ℕ) → IsCutOf forms f x y → sample_of d.samples f ≡ not (sample_of d.samples x && sample_of d.samples y)
-    cut_sample f x y c =
-        let (o, p, q) = splits_occur plain forms are.numbered plain f x y c in
+    pub split_sample : (f x y : ℕ) → IsSplitOf idempotent forms f x y → sample_of d.samples f ≡ not (sample_of d.samples x && sample_of d.samples y)
+    split_sample f x y c =
+        let (o, p, q) = splits_occur plain forms are.numbered idempotent f x y c in
         let (value, values) = are.values (λ i. false) in
-        sample_is value values f o ∙ ((form_values_fit forms (λ i. false) value values plain).splits f x y c ∙ ap₂ (λ a b. not (a && b)) (sym (sample_is value values x p)) (sym (sample_is value values y q)))
+        sample_is value values f o ∙ ((form_values_fit forms (λ i. false) value values idempotent).splits f x y c ∙ ap₂ (λ a b. not (a && b)) (sym (sample_is value values x p)) (sym (sample_is value values y q)))
 
     pub link_known : (f h : ℕ) → IsSignal forms f h → IsKnown d.samples f × IsKnown d.samples h
     link_known f h s = let (o, p) = are.numbered.signals f h s in (known f o, known h p)
@@ -120,77 +121,89 @@ module _ (forms : NumberedForms) (are : AreForms forms) where
   mask_cut b mask rest x y fs e lt r p q =
       (b, fs, picked fs mask, unpicked fs mask, e, refl, cut_by fs mask, p, subst (λ hs. IsPart forms hs y) (ap (picked fs) r ∙ picked_other fs mask lt) q)
 
-  pub parts_cut : (parts : List ℕ) (b mask rest : ℕ) (fs : List ℕ) → HasParts forms b 1 parts → slice_get forms.bases b ≡ Some (base_and fs) → 1 ≤ mask → 1 ≤ rest → mask < 2 ^ length fs → rest ≡ other fs mask → IsCutOf forms (2 * b + 1) (slice_index parts mask) (slice_index parts rest)
-  parts_cut parts b mask rest fs has e one some lt r =
-      mask_cut b mask rest (slice_index parts mask) (slice_index parts rest) fs e lt r (has fs mask e one lt) (has fs rest e some (omega arith))
+  pub cuts_make : (b mask rest : ℕ) (fs : List ℕ) → slice_get forms.bases b ≡ Some (base_and fs) → mask < 2 ^ length fs → rest ≡ other fs mask → MakeSplit forms b mask rest
+  cuts_make b mask rest fs e lt r hs x y d p q =
+      let same = same_operands (slice_get forms.bases b) fs hs e d in
+      inl (mask_cut b mask rest x y hs d (subst (λ l. mask < 2 ^ length l) same lt) (subst (λ l. rest ≡ other l mask) same r) p q)
 
-  pub split_added : (old new : Draft) (b mask rest x y : ℕ) (fs : List ℕ) → slice_get forms.bases b ≡ Some (base_and fs) → rest ≡ other fs mask → IsPart forms (picked fs mask) x → IsPart forms (picked fs rest) y → new ≡ with_nand old (record { form = 2 * b + 1; left = x; right = y }) → AddsSplit forms b mask old new
-  split_added old new b mask rest x y fs e r p q added = record {
-    fact = record { form = 2 * b + 1; left = x; right = y };
-    is = λ hs d.
-        let same = same_operands (slice_get forms.bases b) fs hs e d in
-        record {
-          form = refl;
-          left = subst (λ l. IsPart forms (picked l mask) x) same p;
-          right = subst (λ l. IsPart forms (picked l (other l mask)) y) same (subst (λ k. IsPart forms (picked fs k) y) r q);
-        };
+  -- the form of each part is where its mask is
+  pub part_at : (parts : List ℕ) (b mask : ℕ) (fs : List ℕ) → HasParts forms b 1 parts → slice_get forms.bases b ≡ Some (base_and fs) → HasPart forms b mask → IsPart forms (picked fs mask) (slice_index parts mask)
+  part_at parts b mask fs has e (hs, d, one, lt) =
+      has fs mask e one (subst (λ l. mask < 2 ^ length l) (same_operands (slice_get forms.bases b) hs fs d e) lt)
+
+  pub parts_split : (parts : List ℕ) (b mask rest : ℕ) → HasParts forms b 1 parts → HasPart forms b mask → HasPart forms b rest → MakeSplit forms b mask rest → IsSplitOf idempotent forms (2 * b + 1) (slice_index parts mask) (slice_index parts rest)
+  parts_split parts b mask rest has (fs, e, one, lt) right make =
+      make fs (slice_index parts mask) (slice_index parts rest) e (has fs mask e one lt) (part_at parts b rest fs has e right)
+
+  pub split_added : (old new : Draft) (parts : List ℕ) (b mask rest : ℕ) → HasParts forms b 1 parts → HasPart forms b mask → HasPart forms b rest → new ≡ with_nand old (record { form = 2 * b + 1; left = slice_index parts mask; right = slice_index parts rest }) → AddsSplit forms b mask rest old new
+  split_added old new parts b mask rest has left right added = record {
+    fact = record { form = 2 * b + 1; left = slice_index parts mask; right = slice_index parts rest };
+    is = λ hs d. record { form = refl; left = part_at parts b mask hs has d left; right = part_at parts b rest hs has d right };
     added = added;
   }
 
-  cut_of_split : (b mask : ℕ) (fs : List ℕ) (n : NandFact) → slice_get forms.bases b ≡ Some (base_and fs) → mask < 2 ^ length fs → IsSplitBy forms b fs mask n → IsCutOf forms n.form n.left n.right
-  cut_of_split b mask fs n e lt is =
-      subst (λ f. IsCutOf forms f n.left n.right) (sym is.form) (mask_cut b mask (other fs mask) n.left n.right fs e lt refl is.left is.right)
+  -- what is there stays there
+  pub split_more : (old : List NandFact) (fact : NandFact) (a : ℕ) (hs : List ℕ) (m r : ℕ) → HasSplit forms old a hs m r → HasSplit forms (old ++ fact ∷ []) a hs m r
+  split_more old fact a hs m r (n, c, is) = (n, Contains-append_left old (fact ∷ []) n c, is)
 
-  pub splits_begin : (b : ℕ) (nands : List NandFact) → HasSplitsUpTo forms b nands → IsSplitting forms b 1 nands
+  pub twice_more : (old : List NandFact) (fact : NandFact) (a : ℕ) → HasTwice old a → HasTwice (old ++ fact ∷ []) a
+  twice_more old fact a t = record { even = Contains-append_left old (fact ∷ []) (record { form = 2 * a; left = 2 * a + 1; right = 2 * a + 1 }) t.even; odd = Contains-append_left old (fact ∷ []) (record { form = 2 * a + 1; left = 2 * a; right = 2 * a }) t.odd }
+
+  splits_more : (mode : Mode) (old : List NandFact) (fact : NandFact) (a : ℕ) → HasSplits mode forms old a → HasSplits mode forms (old ++ fact ∷ []) a
+  splits_more plain old fact a has = λ hs m at one half. split_more old fact a hs m (other hs m) (has hs m at one half)
+  splits_more idempotent old fact a (t, has) = (twice_more old fact a t, λ hs m r at o. split_more old fact a hs m r (has hs m r at o))
+
+  -- one more fact of the mode
+  pub up_to_more : (mode : Mode) (old : List NandFact) (fact : NandFact) (b : ℕ) → IsSplitOf mode forms fact.form fact.left fact.right → HasSplitsUpTo mode forms b old → HasSplitsUpTo mode forms b (old ++ fact ∷ [])
+  up_to_more mode old fact b c up = record {
+    are = λ n k. one_of n (Contains-push_cases old fact n k);
+    all = λ a lt. splits_more mode old fact a (up.all a lt);
+  } where
+    one_of : (n : NandFact) → Contains old n ⊎ (fact ≡ n) → IsSplitOf mode forms n.form n.left n.right
+    one_of n (inl k) = up.are n k
+    one_of n (inr s) = subst (λ (k : NandFact). IsSplitOf mode forms k.form k.left k.right) s c
+
+  -- one more base form, whose facts are all there
+  pub up_to_next : (mode : Mode) (nands : List NandFact) (b : ℕ) → HasSplits mode forms nands b → HasSplitsUpTo mode forms b nands → HasSplitsUpTo mode forms (b + 1) nands
+  up_to_next mode nands b has up = record { are = up.are; all = λ a lt. by_place a lt (dec_lt a b) } where
+    by_place : (a : ℕ) → a < b + 1 → Dec (a < b) → HasSplits mode forms nands a
+    by_place a lt (yes l) = up.all a l
+    by_place a lt (no ge) = let same : b ≡ a = omega arith in subst (HasSplits mode forms nands) same has
+
+  -- the fact of a mask and the other one is a cut
+  cut_of_split : (b mask rest : ℕ) (fs : List ℕ) (n : NandFact) → slice_get forms.bases b ≡ Some (base_and fs) → mask < 2 ^ length fs → rest ≡ other fs mask → IsSplitBy forms b fs mask rest n → IsCutOf forms n.form n.left n.right
+  cut_of_split b mask rest fs n e lt r is =
+      subst (λ f. IsCutOf forms f n.left n.right) (sym is.form) (mask_cut b mask rest n.left n.right fs e lt r is.left is.right)
+
+  pub splits_begin : (b : ℕ) (nands : List NandFact) → HasSplitsUpTo plain forms b nands → IsSplitting forms b 1 nands
   splits_begin b nands before = record { before = before; begun = λ fs mask e one lt half. absurd (omega arith) }
 
   -- one more split
-  pub splits_next : (old new : Draft) (b mask : ℕ) (fs : List ℕ) → slice_get forms.bases b ≡ Some (base_and fs) → mask < 2 ^ length fs → AddsSplit forms b mask old new → IsSplitting forms b mask old.nands → IsSplitting forms b (mask + 1) new.nands
-  splits_next old new b mask fs e lt adds so_far = subst (λ (d : Draft). IsSplitting forms b (mask + 1) d.nands) (sym adds.added) (record {
-    before = record {
-      are = λ n c. one_of n (Contains-push_cases old.nands adds.fact n c);
-      all = λ a before hs m at one half. more a hs m (so_far.before.all a before hs m at one half);
-    };
+  pub splits_next : (old new : Draft) (b mask rest : ℕ) (fs : List ℕ) → slice_get forms.bases b ≡ Some (base_and fs) → mask < 2 ^ length fs → rest ≡ other fs mask → AddsSplit forms b mask rest old new → IsSplitting forms b mask old.nands → IsSplitting forms b (mask + 1) new.nands
+  splits_next old new b mask rest fs e lt r adds so_far = subst (λ (d : Draft). IsSplitting forms b (mask + 1) d.nands) (sym adds.added) (record {
+    before = up_to_more plain old.nands adds.fact b (cut_of_split b mask rest fs adds.fact e lt r (adds.is fs e)) so_far.before;
     begun = λ hs m at one below half. by_place hs m at one half (dec_lt m mask) below;
   }) where
-    one_of : (n : NandFact) → Contains old.nands n ⊎ (adds.fact ≡ n) → IsCutOf forms n.form n.left n.right
-    one_of n (inl c) = so_far.before.are n c
-    one_of n (inr s) = subst (λ (k : NandFact). IsCutOf forms k.form k.left k.right) s (cut_of_split b mask fs adds.fact e lt (adds.is fs e))
-
-    more : (a : ℕ) (hs : List ℕ) (m : ℕ) → HasSplit forms old.nands a hs m → HasSplit forms (old.nands ++ adds.fact ∷ []) a hs m
-    more a hs m (n, c, is) = (n, Contains-append_left old.nands (adds.fact ∷ []) n c, is)
-
-    by_place : (hs : List ℕ) (m : ℕ) → slice_get forms.bases b ≡ Some (base_and hs) → 1 ≤ m → m < 2 ^ (length hs - 1) → Dec (m < mask) → m < mask + 1 → HasSplit forms (old.nands ++ adds.fact ∷ []) b hs m
-    by_place hs m at one half (yes below) le = more b hs m (so_far.begun hs m at one below half)
+    by_place : (hs : List ℕ) (m : ℕ) → slice_get forms.bases b ≡ Some (base_and hs) → 1 ≤ m → m < 2 ^ (length hs - 1) → Dec (m < mask) → m < mask + 1 → HasSplit forms (old.nands ++ adds.fact ∷ []) b hs m (other hs m)
+    by_place hs m at one half (yes below) le = split_more old.nands adds.fact b hs m (other hs m) (so_far.begun hs m at one below half)
     by_place hs m at one half (no ge) le =
         let same : mask ≡ m = omega arith in
-        subst (λ k. HasSplit forms (old.nands ++ adds.fact ∷ []) b hs k) same (adds.fact, Contains-push old.nands adds.fact, adds.is hs at)
+        let is = adds.is hs at in
+        let rest_is : rest ≡ other hs mask = subst (λ l. rest ≡ other l mask) (same_operands (slice_get forms.bases b) fs hs e at) r in
+        subst (λ k. HasSplit forms (old.nands ++ adds.fact ∷ []) b hs k (other hs k)) same (adds.fact, Contains-push old.nands adds.fact, subst (λ k. IsSplitBy forms b hs mask k adds.fact) rest_is is)
 
-  pub splits_end : (b bound : ℕ) (fs : List ℕ) (nands : List NandFact) → slice_get forms.bases b ≡ Some (base_and fs) → 2 ^ (length fs - 1) ≤ bound → IsSplitting forms b bound nands → HasSplitsUpTo forms (b + 1) nands
-  splits_end b bound fs nands e le so_far = record {
-    are = so_far.before.are;
-    all = λ a lt hs m at one half. by_place a hs m (dec_lt a b) lt at one half;
-  } where
-    by_place : (a : ℕ) (hs : List ℕ) (m : ℕ) → Dec (a < b) → a < b + 1 → slice_get forms.bases a ≡ Some (base_and hs) → 1 ≤ m → m < 2 ^ (length hs - 1) → HasSplit forms nands a hs m
-    by_place a hs m (yes lt) le' at one half = so_far.before.all a lt hs m at one half
-    by_place a hs m (no ge) le' at one half =
-        let same : b ≡ a = omega arith in
-        let at' : slice_get forms.bases b ≡ Some (base_and hs) = subst (λ k. slice_get forms.bases k ≡ Some (base_and hs)) (sym same) at in
-        let l = ap length (same_operands (slice_get forms.bases b) fs hs e at') in
+  pub splits_end : (b bound : ℕ) (fs : List ℕ) (nands : List NandFact) → slice_get forms.bases b ≡ Some (base_and fs) → 2 ^ (length fs - 1) ≤ bound → IsSplitting forms b bound nands → HasSplitsUpTo plain forms (b + 1) nands
+  splits_end b bound fs nands e le so_far = up_to_next plain nands b (λ hs m at one half. there hs m at one half) so_far.before where
+    there : (hs : List ℕ) (m : ℕ) → slice_get forms.bases b ≡ Some (base_and hs) → 1 ≤ m → m < 2 ^ (length hs - 1) → HasSplit forms nands b hs m (other hs m)
+    there hs m at one half =
+        let l = ap length (same_operands (slice_get forms.bases b) fs hs e at) in
         let top = subst (λ k. 2 ^ (k - 1) ≤ bound) l le in
-        subst (λ k. HasSplit forms nands k hs m) same (so_far.begun hs m at' one (omega arith) half)
+        so_far.begun hs m at one (omega arith) half
 
   -- a base form that is no And has no splits
-  pub splits_none : (b : ℕ) (base : Base) (nands : List NandFact) → slice_get forms.bases b ≡ Some base → ((fs : List ℕ) → base ≡ base_and fs → ⊥) → HasSplitsUpTo forms b nands → HasSplitsUpTo forms (b + 1) nands
-  splits_none b base nands e ne so_far = record {
-    are = so_far.are;
-    all = λ a lt hs m at one half. by_place a hs m (dec_lt a b) lt at one half;
-  } where
-    by_place : (a : ℕ) (hs : List ℕ) (m : ℕ) → Dec (a < b) → a < b + 1 → slice_get forms.bases a ≡ Some (base_and hs) → 1 ≤ m → m < 2 ^ (length hs - 1) → HasSplit forms nands a hs m
-    by_place a hs m (yes lt) le at one half = so_far.all a lt hs m at one half
-    by_place a hs m (no ge) le at one half =
-        let same : b ≡ a = omega arith in
-        absurd (ne hs (same_base (slice_get forms.bases b) base (base_and hs) e (subst (λ k. slice_get forms.bases k ≡ Some (base_and hs)) (sym same) at)))
+  pub splits_none : (b : ℕ) (base : Base) (nands : List NandFact) → slice_get forms.bases b ≡ Some base → ((fs : List ℕ) → base ≡ base_and fs → ⊥) → HasSplitsUpTo plain forms b nands → HasSplitsUpTo plain forms (b + 1) nands
+  splits_none b base nands e ne so_far =
+      up_to_next plain nands b (λ hs m at one half. absurd (ne hs (same_base (slice_get forms.bases b) base (base_and hs) e at))) so_far
 
   abbrev link_of : ℕ → ℕ → FormLink
   link_of f h = record { left = f; right = h }
@@ -229,8 +242,8 @@ bases_with_links forms n old new adds has = record {
   samples = subst (HasSamples forms) (sym adds.samples) has.samples;
 }
 
-pub nands_by_split : (forms : NumberedForms) (b mask : ℕ) (old mid new : Draft) → AddsNands old mid → AddsSplit forms b mask mid new → AddsNands old new
-nands_by_split forms b mask old mid new adds split = subst (AddsNands old) (sym split.added) (record { inputs = adds.inputs; samples = adds.samples; links = adds.links })
+pub nands_by_split : (forms : NumberedForms) (b mask rest : ℕ) (old mid new : Draft) → AddsNands old mid → AddsSplit forms b mask rest mid new → AddsNands old new
+nands_by_split forms b mask rest old mid new adds split = subst (AddsNands old) (sym split.added) (record { inputs = adds.inputs; samples = adds.samples; links = adds.links })
 
 pub nands_both : (old mid new : Draft) → AddsNands old mid → AddsNands mid new → AddsNands old new
 nands_both old mid new a b = record { inputs = b.inputs ∙ a.inputs; samples = b.samples ∙ a.samples; links = b.links ∙ a.links }
@@ -238,8 +251,8 @@ nands_both old mid new a b = record { inputs = b.inputs ∙ a.inputs; samples = 
 pub links_by_one : (old mid new : Draft) (l : FormLink) → AddsLinks old mid → new ≡ with_link mid l → AddsLinks old new
 links_by_one old mid new l adds e = subst (AddsLinks old) (sym e) (record { inputs = adds.inputs; samples = adds.samples; nands = adds.nands })
 
-pub no_splits_yet : (forms : NumberedForms) (nands : List NandFact) → nands ≡ [] → HasSplitsUpTo forms 0 nands
-no_splits_yet forms nands e = subst (HasSplitsUpTo forms 0) (sym e) (record {
+pub no_splits_yet : (mode : Mode) (forms : NumberedForms) (nands : List NandFact) → nands ≡ [] → HasSplitsUpTo mode forms 0 nands
+no_splits_yet mode forms nands e = subst (HasSplitsUpTo mode forms 0) (sym e) (record {
   are = λ n c. absurd (no_facts n c);
   all = λ a lt. absurd (omega arith);
 }) where

@@ -1,8 +1,10 @@
 -- The facts of the draft are those of the forms.
-use Rattle.std.proofs.Common.{◌≡◌, ◌+◌, ◌-◌, ◌*◌, ◌/◌, ◌^◌, ◌<◌, ◌≤◌, ◌⊎◌, inl, inr, ℕ, zero, suc, List, [], ◌∷◌, length, Option, Some, Contains, slice_get, refl, ap, sym, ◌∙◌, subst, arith}
+use Rattle.std.proofs.Common.{◌≡◌, ◌+◌, ◌-◌, ◌*◌, ◌/◌, ◌%◌, ◌^◌, ◌<◌, ◌≤◌, ◌⊎◌, bit_or, pow-suc, inl, inr, ℕ, zero, suc, List, [], ◌∷◌, length, Option, Some, Contains, slice_get, refl, ap, sym, ◌∙◌, subst, arith}
 use native.Mathlib.Decide.{dec_lt}
-use Rattle.lw_laws.specs.Modes.Mode.{plain}
-use Rattle.lw_laws.specs.NumberedForms.{Base, NumberedForms, IsPart, IsCutOf, family_of}
+use Rattle.lw_laws.specs.Flip.{flip}
+use Rattle.lw_laws.specs.Modes.{Mode}
+use Rattle.lw_laws.specs.Modes.Mode.{plain, idempotent}
+use Rattle.lw_laws.specs.NumberedForms.{Base, NumberedForms, IsPart, IsCutOf, IsSplitOf, IsTwice, family_of}
 use Rattle.lw_laws.specs.NumberedForms.Base.{base_true, base_input, base_and}
 use Rattle.lw_laws.specs.Families.{IsNand}
 use Rattle.lw_laws.specs.Drafts.{Draft, NandFact, facts_of, HaveSameFacts}
@@ -10,7 +12,9 @@ use Rattle.lw_laws.proofs.Lists.{slice_get_in}
 use Rattle.lw_form.specs.Bases.{picked}
 use Rattle.lw_form.specs.Kept.{AreForms}
 use Rattle.lw_assoc.specs.Drafting.{other, IsDraftOf}
-use Rattle.lw_assoc.proofs.Masks.{picked_other, picked_zero, IsCutBy, cut_mask, half_mask}
+use Rattle.std.proofs.lemmas.Nat.{or_comm}
+use Rattle.lw_laws.proofs.Flips.{flip_even, flip_odd, half-flip}
+use Rattle.lw_assoc.proofs.Masks.{picked_other, picked_zero, IsCutBy, cut_mask, covering_masks, half_mask, or_other}
 
 same_place : (o : Option Base) (a b : Base) → o ≡ Some a → o ≡ Some b → a ≡ b
 same_place o a b e d = cc
@@ -55,7 +59,15 @@ module _ (forms : NumberedForms) (are : AreForms forms) where
         let (fs, d) = are.in_order.later (suc j) (omega arith) (slice_get_in forms.bases (suc j) base_true e) in
         cc
 
-  module _ (d : Draft) (is : IsDraftOf forms d) where
+  swapped : (d : Draft) (f x y : ℕ) → IsNand (facts_of d) f y x → IsNand (facts_of d) f x y
+  swapped d f x y (inl c) = inr c
+  swapped d f x y (inr c) = inl c
+
+  not_zero : (fs hs : List ℕ) (k z : ℕ) → hs ≡ picked fs k → IsPart forms hs z → 1 ≤ k
+  not_zero fs hs zero z l part = absurd (part_some hs z part (l ∙ picked_zero fs))
+  not_zero fs hs (suc k) z l part = omega arith
+
+  module _ (d : Draft) (is : IsDraftOf plain forms d) where
     -- the fact of the mask, in whichever order its parts stand
     split_found : (b : ℕ) (fs ls rs : List ℕ) (mask x y : ℕ) → slice_get forms.bases b ≡ Some (base_and fs) → 1 ≤ mask → mask < 2 ^ (length fs - 1) → ls ≡ picked fs mask → rs ≡ picked fs (other fs mask) → IsPart forms ls x → IsPart forms rs y → Contains d.nands (record { form = 2 * b + 1; left = x; right = y })
     split_found b fs ls rs mask x y e one lt l r p q =
@@ -75,20 +87,11 @@ module _ (forms : NumberedForms) (are : AreForms forms) where
       right : rs ≡ picked fs rest
       right = m.right ∙ sym (picked_other fs m.mask m.within)
 
-      not_zero : (hs : List ℕ) (k z : ℕ) → hs ≡ picked fs k → IsPart forms hs z → k ≡ 0 → ⊥
-      not_zero hs k z l part none = part_some hs z part (l ∙ (ap (picked fs) none ∙ picked_zero fs))
-
       first : 1 ≤ m.mask
-      first = let ne = not_zero ls m.mask x m.left p in by_zero m.mask ne where
-        by_zero : (k : ℕ) → (k ≡ 0 → ⊥) → 1 ≤ k
-        by_zero zero ne = absurd (ne refl)
-        by_zero (suc k) ne = omega arith
+      first = not_zero fs ls m.mask x m.left p
 
       second : 1 ≤ rest
-      second = by_zero rest (not_zero rs rest y right q) where
-        by_zero : (k : ℕ) → (k ≡ 0 → ⊥) → 1 ≤ k
-        by_zero zero ne = absurd (ne refl)
-        by_zero (suc k) ne = omega arith
+      second = not_zero fs rs rest y right q
 
       back : other fs rest ≡ m.mask
       back = let lt = m.within in omega arith
@@ -102,19 +105,67 @@ module _ (forms : NumberedForms) (are : AreForms forms) where
     cut_is_nand f x y (b, fs, ls, rs, e, s, c, p, q) =
         subst (λ k. IsNand (facts_of d) k x y) (sym s) (cut_found b fs ls rs x y e (cut_mask c) p q)
 
-    swapped : (f x y : ℕ) → IsNand (facts_of d) f y x → IsNand (facts_of d) f x y
-    swapped f x y (inl c) = inr c
-    swapped f x y (inr c) = inl c
+  module _ (d : Draft) (is : IsDraftOf idempotent forms d) where
+    -- the fact of two masks, in whichever order its parts stand
+    pair_found : (b : ℕ) (fs ls rs : List ℕ) (a r x y : ℕ) → slice_get forms.bases b ≡ Some (base_and fs) → a < r → r < 2 ^ length fs → bit_or a r ≡ 2 ^ length fs - 1 → ls ≡ picked fs a → rs ≡ picked fs r → IsPart forms ls x → IsPart forms rs y → Contains d.nands (record { form = 2 * b + 1; left = x; right = y })
+    pair_found b fs ls rs a r x y e less within all l t p q =
+        let has = (is.splits.all b (slice_get_in forms.bases b (base_and fs) e)).1 in
+        let (n, c, by) = has fs a r e (record { some = not_zero fs ls a x l p; less = less; within = within; all = all }) in
+        named d.nands n (2 * b + 1) x y by.form
+        (part_once (picked fs a) n.left x by.left (subst (λ hs. IsPart forms hs x) l p))
+        (part_once (picked fs r) n.right y by.right (subst (λ hs. IsPart forms hs y) t q)) c
 
-    nand_there : (f x y : ℕ) → IsNand (family_of plain forms) f x y → IsNand (facts_of d) f x y
-    nand_there f x y (inl c) = cut_is_nand f x y c
-    nand_there f x y (inr c) = swapped f x y (cut_is_nand f y x c)
+    masks_found : (b : ℕ) (fs ls rs : List ℕ) (a r x y : ℕ) → slice_get forms.bases b ≡ Some (base_and fs) → a < 2 ^ length fs → r < 2 ^ length fs → bit_or a r ≡ 2 ^ length fs - 1 → (a ≡ r → ⊥) → ls ≡ picked fs a → rs ≡ picked fs r → IsPart forms ls x → IsPart forms rs y → IsNand (facts_of d) (2 * b + 1) x y
+    masks_found b fs ls rs a r x y e la lr all ne l t p q = by_order (dec_lt a r) where
+      by_order : Dec (a < r) → IsNand (facts_of d) (2 * b + 1) x y
+      by_order (yes lt) = inl (pair_found b fs ls rs a r x y e lt lr all l t p q)
+      by_order (no ge) = inr (pair_found b fs rs ls r a y x e (omega arith) la (or_comm r a ∙ all) t l q p)
 
-    nand_back : (f x y : ℕ) → IsNand (facts_of d) f x y → IsNand (family_of plain forms) f x y
+    split_is_nand : (f x y : ℕ) → IsSplitOf idempotent forms f x y → IsNand (facts_of d) f x y
+    split_is_nand f x y (inl (b, fs, ls, rs, e, s, c, p, q)) =
+        subst (λ k. IsNand (facts_of d) k x y) (sym s) (masks_found b fs ls rs m.mask (other fs m.mask) x y e m.within (let w = m.within in omega arith) (or_other (length fs) m.mask m.within) (λ z. odd (length fs) two z m.within) m.left (m.right ∙ sym (picked_other fs m.mask m.within)) p q)
+      where
+        m : IsCutBy fs ls rs
+        m = cut_mask c
+
+        two : 2 ≤ length fs
+        two = (are.operands b fs e).two
+
+        odd : (k : ℕ) → 2 ≤ k → m.mask ≡ 2 ^ k - 1 - m.mask → m.mask < 2 ^ k → ⊥
+        odd zero le s lt = omega arith
+        odd (suc k) le s lt = let p = pow-suc 2 k in omega arith
+    split_is_nand f x y (inr (inl (b, fs, ls, rs, e, s, c, ne, p, q))) =
+        let m = covering_masks c in
+        subst (λ k. IsNand (facts_of d) k x y) (sym s) (masks_found b fs ls rs m.mask m.rest x y e m.within m.rest_within m.all (λ z. ne (m.left ∙ (ap (picked fs) z ∙ sym m.right))) m.left m.right p q)
+    split_is_nand f x y (inr (inr (o, s, t))) = by_bit (f % 2) refl where
+      b : ℕ
+      b = f / 2
+
+      by_bit : (k : ℕ) → f % 2 ≡ k → IsNand (facts_of d) f x y
+      by_bit zero z =
+          let even : f ≡ 2 * b = omega arith in
+          let g = flip_even f b even in
+          inl (named d.nands (record { form = 2 * b; left = 2 * b + 1; right = 2 * b + 1 }) f x y (sym even) (sym (s ∙ g)) (sym (t ∙ g)) (is.splits.all b o).0.even)
+      by_bit (suc zero) z =
+          let odd : f ≡ 2 * b + 1 = omega arith in
+          let g = flip_odd f b odd in
+          inl (named d.nands (record { form = 2 * b + 1; left = 2 * b; right = 2 * b }) f x y (sym odd) (sym (s ∙ g)) (sym (t ∙ g)) (is.splits.all b o).0.odd)
+      by_bit (suc (suc k)) z = absurd (omega arith)
+
+  split_there : (mode : Mode) (d : Draft) → IsDraftOf mode forms d → (f x y : ℕ) → IsSplitOf mode forms f x y → IsNand (facts_of d) f x y
+  split_there plain d is f x y c = cut_is_nand d is f x y c
+  split_there idempotent d is f x y c = split_is_nand d is f x y c
+
+  module _ (mode : Mode) (d : Draft) (is : IsDraftOf mode forms d) where
+    nand_there : (f x y : ℕ) → IsNand (family_of mode forms) f x y → IsNand (facts_of d) f x y
+    nand_there f x y (inl c) = split_there mode d is f x y c
+    nand_there f x y (inr c) = swapped d f x y (split_there mode d is f y x c)
+
+    nand_back : (f x y : ℕ) → IsNand (facts_of d) f x y → IsNand (family_of mode forms) f x y
     nand_back f x y (inl c) = inl (is.splits.are (record { form = f; left = x; right = y }) c)
     nand_back f x y (inr c) = inr (is.splits.are (record { form = f; left = y; right = x }) c)
 
-    pub same_facts : HaveSameFacts (family_of plain forms) (facts_of d)
+    pub same_facts : HaveSameFacts (family_of mode forms) (facts_of d)
     same_facts = record {
       occurs = λ f. (λ o. subst (λ n. f / 2 < n) (sym is.bases.count) o, λ o. subst (λ n. f / 2 < n) is.bases.count o);
       inputs = λ f i. (

@@ -1,6 +1,9 @@
 -- The draft of all splits and links of listed forms, and how far it is made.
-use Rattle.std.specs.Prelude.{ℕ, ◌+◌, ◌-◌, ◌*◌, ◌^◌, ◌<◌, ◌≤◌, ◌≡◌, Bool, true, false, List, [], ◌∷◌, ◌++◌, replicate, length, Some, slice_get, slice_index_or, Contains}
-use Rattle.lw_laws.specs.NumberedForms.{NumberedForms, IsPart, IsCutOf, IsSignal}
+use Rattle.std.specs.Prelude.{ℕ, ◌+◌, ◌-◌, ◌*◌, ◌^◌, ◌<◌, ◌≤◌, ◌≡◌, ◌⊎◌, bit_or, Bool, true, false, List, [], ◌∷◌, ◌++◌, replicate, length, Some, slice_get, slice_index_or, Contains}
+use Rattle.lw_laws.specs.Flip.{flip}
+use Rattle.lw_laws.specs.Modes.{Mode}
+use Rattle.lw_laws.specs.Modes.Mode.{plain, idempotent}
+use Rattle.lw_laws.specs.NumberedForms.{NumberedForms, IsPart, IsSplitOf, IsSignal}
 use Rattle.lw_laws.specs.NumberedForms.Base.{base_and}
 use Rattle.lw_laws.specs.NumberedValues.{AreNumberedValues}
 use Rattle.lw_laws.specs.Drafts.{Draft, NandFact, FormLink}
@@ -28,38 +31,71 @@ with_link d link =
 abbrev pub other : List ℕ → ℕ → ℕ
 other fs mask = 2 ^ length fs - 1 - mask
 
--- the fact of the split that the mask makes of a listed And
-pub record IsSplitBy (forms : NumberedForms) (b : ℕ) (fs : List ℕ) (mask : ℕ) (n : NandFact) : Type 0 where
+-- the fact that a listed And has by the parts of two masks
+pub record IsSplitBy (forms : NumberedForms) (b : ℕ) (fs : List ℕ) (mask rest : ℕ) (n : NandFact) : Type 0 where
   pub form : n.form ≡ 2 * b + 1
   pub left : IsPart forms (picked fs mask) n.left
-  pub right : IsPart forms (picked fs (other fs mask)) n.right
+  pub right : IsPart forms (picked fs rest) n.right
 
 -- that fact is there
-abbrev pub HasSplit : NumberedForms → List NandFact → ℕ → List ℕ → ℕ → Type 0
-HasSplit forms nands b fs mask = (n : NandFact) × Contains nands n × IsSplitBy forms b fs mask n
+abbrev pub HasSplit : NumberedForms → List NandFact → ℕ → List ℕ → ℕ → ℕ → Type 0
+HasSplit forms nands b fs mask rest =
+    (n : NandFact) × Contains nands n × IsSplitBy forms b fs mask rest n
+
+-- the parts of two masks make a split in some mode
+abbrev pub MakeSplit : NumberedForms → ℕ → ℕ → ℕ → Type 0
+MakeSplit forms b mask rest =
+    (fs : List ℕ) (x y : ℕ) → slice_get forms.bases b ≡ Some (base_and fs) → IsPart forms (picked fs mask) x → IsPart forms (picked fs rest) y → IsSplitOf idempotent forms (2 * b + 1) x y
 
 -- Unordered splits are made by the masks that leave the last operand out; those below the bound are there.
 abbrev pub HasSplitsBelow : NumberedForms → List NandFact → ℕ → ℕ → Type 0
 HasSplitsBelow forms nands b bound =
-    (fs : List ℕ) (mask : ℕ) → slice_get forms.bases b ≡ Some (base_and fs) → 1 ≤ mask → mask < bound → mask < 2 ^ (length fs - 1) → HasSplit forms nands b fs mask
+    (fs : List ℕ) (mask : ℕ) → slice_get forms.bases b ≡ Some (base_and fs) → 1 ≤ mask → mask < bound → mask < 2 ^ (length fs - 1) → HasSplit forms nands b fs mask (other fs mask)
 
-abbrev pub HasSplits : NumberedForms → List NandFact → ℕ → Type 0
-HasSplits forms nands b =
-    (fs : List ℕ) (mask : ℕ) → slice_get forms.bases b ≡ Some (base_and fs) → 1 ≤ mask → mask < 2 ^ (length fs - 1) → HasSplit forms nands b fs mask
+-- two masks, the lower one first, that together have all bits
+pub record AreOverlapping (k mask rest : ℕ) : Type 0 where
+  pub some : 1 ≤ mask
+  pub less : mask < rest
+  pub within : rest < 2 ^ k
+  pub all : bit_or mask rest ≡ 2 ^ k - 1
 
--- the facts are splits of listed Ands
-abbrev pub AreSplits : NumberedForms → List NandFact → Type 0
-AreSplits forms nands = (n : NandFact) → Contains nands n → IsCutOf forms n.form n.left n.right
+-- Unordered pairs of different parts that overlap are made by two such masks; those before two bounds are there.
+abbrev pub HasOverlapsBelow : NumberedForms → List NandFact → ℕ → ℕ → ℕ → Type 0
+HasOverlapsBelow forms nands b low high =
+    (fs : List ℕ) (mask rest : ℕ) → slice_get forms.bases b ≡ Some (base_and fs) → AreOverlapping (length fs) mask rest → (mask < low) ⊎ ((mask ≡ low) × (rest < high)) → HasSplit forms nands b fs mask rest
 
--- the splits of the first b base forms are there, and no other facts
-pub record HasSplitsUpTo (forms : NumberedForms) (b : ℕ) (nands : List NandFact) : Type 0 where
-  pub are : AreSplits forms nands
-  pub all : (a : ℕ) → a < b → HasSplits forms nands a
+-- the base form and its complement are each the NAND of the other one twice
+pub record HasTwice (nands : List NandFact) (b : ℕ) : Type 0 where
+  pub even : Contains nands (record { form = 2 * b; left = 2 * b + 1; right = 2 * b + 1 })
+  pub odd : Contains nands (record { form = 2 * b + 1; left = 2 * b; right = 2 * b })
+
+-- the facts of a base form
+abbrev pub HasSplits : Mode → NumberedForms → List NandFact → ℕ → Type 0
+HasSplits plain forms nands b =
+    (fs : List ℕ) (mask : ℕ) → slice_get forms.bases b ≡ Some (base_and fs) → 1 ≤ mask → mask < 2 ^ (length fs - 1) → HasSplit forms nands b fs mask (other fs mask)
+HasSplits idempotent forms nands b =
+    HasTwice nands b × ((fs : List ℕ) (mask rest : ℕ) → slice_get forms.bases b ≡ Some (base_and fs) → AreOverlapping (length fs) mask rest → HasSplit forms nands b fs mask rest)
+
+-- the facts are splits of the mode
+abbrev pub AreSplits : Mode → NumberedForms → List NandFact → Type 0
+AreSplits mode forms nands =
+    (n : NandFact) → Contains nands n → IsSplitOf mode forms n.form n.left n.right
+
+-- the facts of the first b base forms are there, and no others
+pub record HasSplitsUpTo (mode : Mode) (forms : NumberedForms) (b : ℕ) (nands : List NandFact) : Type 0 where
+  pub are : AreSplits mode forms nands
+  pub all : (a : ℕ) → a < b → HasSplits mode forms nands a
 
 -- with them those of base form b whose mask is below the bound
 pub record IsSplitting (forms : NumberedForms) (b bound : ℕ) (nands : List NandFact) : Type 0 where
-  pub before : HasSplitsUpTo forms b nands
+  pub before : HasSplitsUpTo plain forms b nands
   pub begun : HasSplitsBelow forms nands b bound
+
+-- with them those of base form b whose masks are before the bounds
+pub record IsOverlapping (forms : NumberedForms) (b low high : ℕ) (nands : List NandFact) : Type 0 where
+  pub before : HasSplitsUpTo idempotent forms b nands
+  pub twice : HasTwice nands b
+  pub begun : HasOverlapsBelow forms nands b low high
 
 -- the two forms of the first s signals are linked, and no others
 pub record HasLinksUpTo (forms : NumberedForms) (s : ℕ) (links : List FormLink) : Type 0 where
@@ -94,13 +130,18 @@ pub record AddsLinks (old new : Draft) : Type 0 where
   pub nands : new.nands ≡ old.nands
 
 -- the fact of a split was added
-pub record AddsSplit (forms : NumberedForms) (b mask : ℕ) (old new : Draft) : Type 0 where
+pub record AddsSplit (forms : NumberedForms) (b mask rest : ℕ) (old new : Draft) : Type 0 where
   pub fact : NandFact
-  pub is : (fs : List ℕ) → slice_get forms.bases b ≡ Some (base_and fs) → IsSplitBy forms b fs mask fact
+  pub is : (fs : List ℕ) → slice_get forms.bases b ≡ Some (base_and fs) → IsSplitBy forms b fs mask rest fact
   pub added : new ≡ with_nand old fact
 
--- the draft of the forms
-pub record IsDraftOf (forms : NumberedForms) (d : Draft) : Type 0 where
+-- the fact was added that a form is the NAND of its complement twice
+abbrev pub AddsInverter : ℕ → Draft → Draft → Type 0
+AddsInverter f old new =
+    new ≡ with_nand old (record { form = f; left = flip f; right = flip f })
+
+-- the draft of the forms in a mode
+pub record IsDraftOf (mode : Mode) (forms : NumberedForms) (d : Draft) : Type 0 where
   pub bases : HasBases forms (length forms.bases) d
-  pub splits : HasSplitsUpTo forms (length forms.bases) d.nands
+  pub splits : HasSplitsUpTo mode forms (length forms.bases) d.nands
   pub links : HasLinksUpTo forms (length forms.sops) d.links

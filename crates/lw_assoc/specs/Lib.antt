@@ -1,3 +1,4 @@
 pub mod Drafting
+pub mod Modes
 pub mod Splits
 pub mod Parts

@@ -1,11 +1,14 @@
 // The draft of all splits and links of listed forms.
-ghost use Rattle.std.specs.Prelude.{◌≡◌, ◌+◌, ◌*◌, ◌<◌, ℕ, List, Some, slice_get, length, OnOk, IfOk};
-ghost use Rattle.lw_laws.specs.NumberedForms.Base.{base_and};
+ghost use Rattle.std.specs.Prelude.{◌≡◌, ◌+◌, ◌*◌, ◌<◌, length, OnOk, IfOk};
+ghost use Rattle.lw_laws.specs.Modes.Mode.{plain};
 ghost use Rattle.lw_form.specs.Kept.{AreForms, HasPart};
-ghost use Rattle.lw_assoc.specs.Drafting.{AddsBases, AddsLinks, AddsNands, AddsSplit, HasBases, HasLinksUpTo, HasSplitsUpTo, IsDraftOf, other};
+ghost use Rattle.lw_assoc.specs.Drafting.{AddsBases, AddsLinks, AddsNands, AddsSplit, HasBases, HasLinksUpTo, HasSplitsUpTo, IsDraftOf, MakeSplit};
+ghost use Rattle.lw_assoc.specs.Modes.{law_mode};
 ghost use Rattle.lw_assoc.specs.Parts.{HasDrops, HasParts};
 
+use crate::Mode;
 use crate::drops::drops_of;
+use crate::overlaps::add_further;
 use crate::parts::{MASKS, put_parts};
 use crate::splits::half_of;
 use lw_form::{Base, Forms};
@@ -25,8 +28,8 @@ fn add_bases(draft: &mut Draft, forms: &Forms) -> Result<(), AllocError>
     Ok(())
 }
 
-// Adds the split of an And into the operands of a mask and the other ones.
-fn add_split(
+// Adds the fact that an And has by the parts of two masks. The draft is never full: the limit on splits leaves room for all facts.
+pub(crate) fn add_split(
     draft: &mut Draft,
     forms: &Forms,
     parts: &[u32],
@@ -40,9 +43,12 @@ fn add_split(
     requires right { HasPart forms.now b rest }
     requires size { length parts.now ≡ 256 }
     requires parts { HasParts forms.now b 1 parts.now }
-    requires rest { (fs : List ℕ) → slice_get forms.now.bases b ≡ Some (base_and fs) → rest ≡ other fs mask }
-    ensures { OnOk result (AddsSplit forms.now b mask draft.old draft.new) }
+    requires split { MakeSplit forms.now b mask rest }
+    ensures { OnOk result (AddsSplit forms.now b mask rest draft.old draft.new) }
 {
+    if draft.is_full() {
+        return Err(AllocError);
+    }
     let left = FormId(parts[mask as usize]);
     let right = FormId(parts[rest as usize]);
     draft.nand(FormId(2 * b + 1), left, right)
@@ -54,8 +60,8 @@ fn add_splits(draft: &mut Draft, forms: &Forms, parts: &[u32], b: u32) -> Result
     requires size { length parts.now ≡ 256 }
     requires parts { HasParts forms.now b 1 parts.now }
     requires bases { HasBases forms.now (length forms.now.bases) draft.old }
-    requires before { HasSplitsUpTo forms.now b draft.old.nands }
-    ensures splits { OnOk result (HasSplitsUpTo forms.now (b + 1) draft.new.nands) }
+    requires before { HasSplitsUpTo plain forms.now b draft.old.nands }
+    ensures splits { OnOk result (HasSplitsUpTo plain forms.now (b + 1) draft.new.nands) }
     ensures kept { OnOk result (AddsNands draft.old draft.new) }
 {
     let Base::And(ids) = forms.base(b) else {
@@ -69,38 +75,67 @@ fn add_splits(draft: &mut Draft, forms: &Forms, parts: &[u32], b: u32) -> Result
     Ok(())
 }
 
+// Adds the splits of a base form in a mode.
+fn add_base(
+    draft: &mut Draft,
+    forms: &Forms,
+    parts: &[u32],
+    b: u32,
+    mode: Mode,
+) -> Result<(), AllocError>
+    requires within { b < length forms.now.bases }
+    requires size { length parts.now ≡ 256 }
+    requires parts { HasParts forms.now b 1 parts.now }
+    requires forms { AreForms forms.now }
+    requires bases { HasBases forms.now (length forms.now.bases) draft.old }
+    requires before { HasSplitsUpTo (law_mode mode) forms.now b draft.old.nands }
+    ensures splits { OnOk result (HasSplitsUpTo (law_mode mode) forms.now (b + 1) draft.new.nands) }
+    ensures kept { OnOk result (AddsNands draft.old draft.new) }
+{
+    match mode {
+        Mode::Plain => add_splits(draft, forms, parts, b),
+        Mode::Idempotent => add_further(draft, forms, parts, b),
+    }
+}
+
 // Adds the splits of all base forms.
 fn add_all_splits(
     draft: &mut Draft,
     forms: &Forms,
     parts: &mut [u32],
     drops: &[u32],
+    mode: Mode,
 ) -> Result<(), AllocError>
     requires bases { HasBases forms.now (length forms.now.bases) draft.old }
     requires size { length parts.old ≡ 256 }
     requires drops_size { length drops.now ≡ 8 * length forms.now.bases }
     requires drops { HasDrops forms.now (length forms.now.bases) drops.now }
-    requires none { HasSplitsUpTo forms.now 0 draft.old.nands }
-    ensures splits { OnOk result (HasSplitsUpTo forms.now (length forms.now.bases) draft.new.nands) }
+    requires none { HasSplitsUpTo (law_mode mode) forms.now 0 draft.old.nands }
+    ensures splits { OnOk result (HasSplitsUpTo (law_mode mode) forms.now (length forms.now.bases) draft.new.nands) }
     ensures kept { OnOk result (AddsNands draft.old draft.new) }
 {
     for b in 0..forms.len() {
         put_parts(parts, forms, drops, b);
-        add_splits(draft, forms, parts, b)?;
+        add_base(draft, forms, parts, b, mode)?;
     }
     Ok(())
 }
 
 // Adds the splits of all base forms, with memory for what they are found by.
-fn find_splits(alloc: Global, draft: &mut Draft, forms: &Forms) -> Result<(), AllocError>
+fn find_splits(
+    alloc: Global,
+    draft: &mut Draft,
+    forms: &Forms,
+    mode: Mode,
+) -> Result<(), AllocError>
     requires bases { HasBases forms.now (length forms.now.bases) draft.old }
-    requires none { HasSplitsUpTo forms.now 0 draft.old.nands }
-    ensures splits { OnOk result (HasSplitsUpTo forms.now (length forms.now.bases) draft.new.nands) }
+    requires none { HasSplitsUpTo (law_mode mode) forms.now 0 draft.old.nands }
+    ensures splits { OnOk result (HasSplitsUpTo (law_mode mode) forms.now (length forms.now.bases) draft.new.nands) }
     ensures kept { OnOk result (AddsNands draft.old draft.new) }
 {
     let drops = drops_of(alloc, forms)?;
     let mut parts = [0; MASKS];
-    add_all_splits(draft, forms, &mut parts, &drops)
+    add_all_splits(draft, forms, &mut parts, &drops, mode)
 }
 
 // Links the two forms of each net.
@@ -116,13 +151,13 @@ fn add_links(draft: &mut Draft, forms: &Forms) -> Result<(), AllocError>
     Ok(())
 }
 
-// The draft of all base forms, splits and links.
-pub(crate) fn draft_of(alloc: Global, forms: &Forms) -> Result<Draft, AllocError>
-    ensures { IfOk result (λ d. IsDraftOf forms.now d) }
+// The draft of all base forms, the splits of a mode, and links.
+pub(crate) fn draft_of(alloc: Global, forms: &Forms, mode: Mode) -> Result<Draft, AllocError>
+    ensures { IfOk result (λ d. IsDraftOf (law_mode mode) forms.now d) }
 {
     let mut draft = Draft::new(alloc, forms.inputs())?;
     add_bases(&mut draft, forms)?;
-    find_splits(alloc, &mut draft, forms)?;
+    find_splits(alloc, &mut draft, forms, mode)?;
     add_links(&mut draft, forms)?;
     Ok(draft)
 }

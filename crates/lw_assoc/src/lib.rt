@@ -5,8 +5,11 @@ mod drafting;
 mod drops;
 mod fault;
 mod graph;
+mod mode;
+mod overlaps;
 mod parts;
 mod splits;
 
 pub use fault::GraphFault;
 pub use graph::build;
+pub use mode::Mode;

@@ -3,7 +3,7 @@ ghost use Rattle.std.specs.Prelude.{◌≡◌, ◌<◌, ◌≤◌, ◌^◌, ◌�
 ghost use Rattle.lw_reduce.specs.Drafting.{IsKnown, sample_of};
 
 use crate::texts::lines_of;
-use lw_assoc::build;
+use lw_assoc::{Mode, build};
 use lw_blif::{BlifFault, Reader};
 use lw_form::forms;
 use lw_graph::Graph;
@@ -76,7 +76,8 @@ fn add_fact(
     ensures same { OnOk result (draft.new.samples ≡ samples.now) }
 {
     let count = samples.len();
-    if form >= count || left >= count || right >= count || count > MOST {
+    let outside = form >= count || left >= count || right >= count;
+    if outside || count > MOST || draft.is_full() {
         return Ok(());
     }
     let form = form_of(samples, form, true);
@@ -191,7 +192,8 @@ fn network_of(alloc: Global, text: &[u8]) -> Result<Network, BlifFault> {
     for line in &lines {
         reader.line(line)?;
     }
-    reader.end()
+    let model = reader.end()?;
+    Ok(model.network)
 }
 
 /// The graph of a network of so many nodes of six inputs, which are cut in all ways.
@@ -203,7 +205,7 @@ pub fn graph_of_ands(alloc: Global, nodes: u32) -> Result<Graph, AllocError> {
     let Ok(list) = forms(alloc, &net, 6) else {
         return Err(AllocError);
     };
-    match build(alloc, &list) {
+    match build(alloc, &list, Mode::Plain) {
         Ok(graph) => Ok(graph),
         Err(_) => Err(AllocError),
     }

@@ -1,7 +1,7 @@
 // Libraries of drawn delays, and their patterns.
-ghost use Rattle.std.specs.Prelude.{IfOk};
+ghost use Rattle.std.specs.Prelude.{IfOk, length, map};
 ghost use Rattle.lw_match.specs.Least.{AreOfCells};
-ghost use Rattle.lw_label.specs.Delays.{time_cost};
+ghost use Rattle.lw_genlib.specs.Tables.{delays_of_cells};
 
 use crate::texts::lines_of;
 use lw_genlib::{LibFault, LibReader, Library, has_no_hash};
@@ -81,7 +81,7 @@ pub fn library(alloc: Global, functions: &str, times: u32) -> Result<Library, Al
 
 /// The patterns of a library, which are of its cells.
 pub fn patterns_of(alloc: Global, lib: &Library) -> Result<Patterns, AllocError>
-    ensures { IfOk result (AreOfCells (time_cost lib.now).pin_counts) }
+    ensures { IfOk result (AreOfCells (map length (delays_of_cells lib.now))) }
 {
     let _ = lib.len();
     let pats = patterns(alloc, lib)?;

@@ -8,10 +8,11 @@
 //! `ands` is of so many nodes of six inputs, which are cut in all ways, and a library of cells of six pins.
 #![tactic(auto)]
 
-ghost use Rattle.std.specs.Prelude.{◌≡◌, length};
+ghost use Rattle.std.specs.Prelude.{◌≡◌, length, map};
 ghost use Rattle.lw_match.specs.Values.{AreInRange};
 ghost use Rattle.lw_match.specs.Least.{AreOfCells};
-ghost use Rattle.lw_label.specs.Delays.{most_time, time_cost};
+ghost use Rattle.lw_genlib.specs.Tables.{delays_of_cells};
+ghost use Rattle.lw_label.specs.Delays.{most_time};
 
 mod graphs;
 mod libraries;
@@ -21,6 +22,7 @@ mod texts;
 use crate::graphs::{drawn_graph, graph_of_ands};
 use crate::libraries::{MIXED, SIXES, library, patterns_of};
 use crate::taking::{Sum, by_cursor, by_least};
+use lw_fixed::Micros;
 use lw_genlib::Library;
 use lw_graph::Graph;
 use lw_label::{DelayCost, relabel};
@@ -91,17 +93,17 @@ fn sum_of(
     cursor: bool,
     graph: &Graph,
     pats: &Patterns,
-    lib: &Library,
+    cost: &DelayCost<'_>,
     marks: &[Option<Mark>],
 ) -> Sum
     requires one_each { length marks.now ≡ length graph.now.pairs }
     requires in_range { AreInRange most_time marks.now }
-    requires of_cells { AreOfCells (time_cost lib.now).pin_counts pats.now }
+    requires of_cells { AreOfCells (map length (delays_of_cells cost.now.lib.now)) pats.now }
 {
     if cursor {
-        by_cursor(graph, pats, lib, marks)
+        by_cursor(graph, pats, cost.lib, marks)
     } else {
-        by_least(graph, pats, lib, marks)
+        by_least(graph, pats, cost, marks)
     }
 }
 
@@ -111,15 +113,15 @@ fn timed_sum(
     cursor: bool,
     graph: &Graph,
     pats: &Patterns,
-    lib: &Library,
+    cost: &DelayCost<'_>,
     marks: &[Option<Mark>],
 ) -> io::Result<(Sum, u128)>
     requires one_each { length marks.now ≡ length graph.now.pairs }
     requires in_range { AreInRange most_time marks.now }
-    requires of_cells { AreOfCells (time_cost lib.now).pin_counts pats.now }
+    requires of_cells { AreOfCells (map length (delays_of_cells cost.now.lib.now)) pats.now }
 {
     let start = rt.thread_cpu_time()?;
-    let sum = sum_of(cursor, graph, pats, lib, marks);
+    let sum = sum_of(cursor, graph, pats, cost, marks);
     let end = rt.thread_cpu_time()?;
     Ok((sum, end.saturating_sub(start).as_millis()))
 }
@@ -127,8 +129,17 @@ fn timed_sum(
 // Takes the least matches, and tells what they come to.
 fn tell(rt: &HostRuntime, task: &Task, graph: &Graph, lib: &Library) -> io::Result<()> {
     let pats = patterns_of(rt.alloc(), lib)?;
-    let labels = relabel(rt.alloc(), graph, &pats, &DelayCost::new(lib))?;
-    let (Sum { found, sum }, took) = timed_sum(rt, task.cursor, graph, &pats, lib, labels.marks())?;
+    let starts = Micros::from_vec(Vec::new(rt.alloc()));
+    let cost = DelayCost::new(lib, &starts);
+    let labels = relabel(rt.alloc(), graph, &pats, &cost)?;
+    let (Sum { found, sum }, took) = timed_sum(
+        rt,
+        task.cursor,
+        graph,
+        &pats,
+        &cost,
+        labels.marks(),
+    )?;
     if task.timed {
         return writeln!(rt.stdout(), "{took} {sum}");
     }

@@ -1,8 +1,9 @@
 // The least match at each class, by `least` and by a cursor.
-ghost use Rattle.std.specs.Prelude.{◌≡◌, ◌<◌, length};
+ghost use Rattle.std.specs.Prelude.{◌≡◌, ◌<◌, length, map};
 ghost use Rattle.lw_match.specs.Values.{AreInRange};
 ghost use Rattle.lw_match.specs.Least.{AreOfCells};
-ghost use Rattle.lw_label.specs.Delays.{most_time, time_cost};
+ghost use Rattle.lw_genlib.specs.Tables.{delays_of_cells};
+ghost use Rattle.lw_label.specs.Delays.{most_time};
 
 use lw_genlib::Library;
 use lw_graph::Graph;
@@ -42,15 +43,14 @@ impl Sum {
 }
 
 /// Takes the least match at each class.
-pub fn by_least(graph: &Graph, pats: &Patterns, lib: &Library, marks: &[Option<Mark>]) -> Sum
+pub fn by_least(graph: &Graph, pats: &Patterns, cost: &DelayCost<'_>, marks: &[Option<Mark>]) -> Sum
     requires one_each { length marks.now ≡ length graph.now.pairs }
     requires in_range { AreInRange most_time marks.now }
-    requires of_cells { AreOfCells (time_cost lib.now).pin_counts pats.now }
+    requires of_cells { AreOfCells (map length (delays_of_cells cost.now.lib.now)) pats.now }
 {
     let mut sum = Sum { found: 0, sum: 0 };
-    let cost = DelayCost::new(lib);
     for number in 0..graph.classes() {
-        if let Some(best) = least(graph, pats, marks, ClassId(number), &cost) {
+        if let Some(best) = least(graph, pats, marks, ClassId(number), cost) {
             sum.add(&best);
         }
     }

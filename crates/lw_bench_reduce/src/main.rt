@@ -77,6 +77,7 @@ fn add_fact(
         || left >= values.len()
         || right >= values.len()
         || values.len() > MOST
+        || draft.is_full()
     {
         return Ok(());
     }

@@ -1,15 +1,14 @@
 -- Names that differ from one another.
-use Rattle.std.proofs.Common.{ℕ, ◌≡◌, Bool, true, false, not, ◌||◌, cond, List, [], ◌∷◌, ◌++◌, filter, refl, ap, sym, ◌∙◌, subst, append-nil, append_assoc}
+use Rattle.std.proofs.Common.{ℕ, ◌≡◌, Bool, true, false, not, ◌||◌, List, [], ◌∷◌, ◌++◌, refl, ap, sym, ◌∙◌, subst, append-nil, append_assoc}
 use Rattle.std.specs.List.{flat_map, IsDistinct, AllByRecursion}
 use Rattle.std.specs.List.Sorted.{IsPermutation}
 use Rattle.std.specs.Str.{bytes_eq}
 use Rattle.std.proofs.lemmas.Bool.{and_parts}
 use Rattle.std.proofs.lemmas.List.Sorted.{IsPermutation-refl, IsPermutation-sym, IsPermutation-trans, IsPermutation-to_front, IsPermutation-append_comm, IsPermutation-append_left, IsPermutation-append_right}
-use Rattle.std.proofs.lemmas.Map.Keys.{IsDistinct-IsPermutation, IsDistinct-cons, IsDistinct-tail, IsDistinct-head}
+use Rattle.std.proofs.lemmas.Map.Keys.{IsDistinct-IsPermutation, IsDistinct-cons}
 use Rattle.lw_blif.specs.Commands.{is_among}
-use Rattle.lw_blif.specs.Drafts.{each_once}
 use Rattle.lw_blif.specs.Readers.{are_fresh}
-use Rattle.lw_blif.proofs.Fresh.{eq-flips}
+use Rattle.lw_frame.proofs.Once.{eq-flips}
 
 -- a name that is none of these differs from each
 none-among : (names : List (List ℕ)) (name : List ℕ) → is_among names name ≡ false → AllByRecursion (λ other. bytes_eq name other ≡ false) names
@@ -38,43 +37,6 @@ distinct-fresh names (name ∷ more) distinct fresh =
     not-true : (b : Bool) → not b ≡ true → b ≡ false
     not-true true e = cc
     not-true false e = refl
-
--- Outputs, each once.
-
-all-filter : (P : List ℕ → Type 0) (p : List ℕ → Bool) (names : List (List ℕ)) → AllByRecursion P names → AllByRecursion P (filter p names)
-all-filter P p [] h = tt
-all-filter P p (name ∷ names) h = by_case (p name) (all-filter P p names h.1)
-  where
-    by_case : (b : Bool) → AllByRecursion P (filter p names) → AllByRecursion P (cond b (name ∷ filter p names) (filter p names))
-    by_case true others = (h.0, others)
-    by_case false others = others
-
-distinct-filter : (p : List ℕ → Bool) (names : List (List ℕ)) → IsDistinct bytes_eq names → IsDistinct bytes_eq (filter p names)
-distinct-filter p [] h = h
-distinct-filter p (name ∷ names) h = by_case (p name) (distinct-filter p names (IsDistinct-tail bytes_eq name names h))
-  where
-    by_case : (b : Bool) → IsDistinct bytes_eq (filter p names) → IsDistinct bytes_eq (cond b (name ∷ filter p names) (filter p names))
-    by_case true others = IsDistinct-cons bytes_eq name (filter p names) (all-filter (λ other. bytes_eq name other ≡ false) p names (IsDistinct-head bytes_eq name names h)) others
-    by_case false others = others
-
-others-differ : (name : List ℕ) (names : List (List ℕ)) → AllByRecursion (λ other. bytes_eq name other ≡ false) (filter (λ other. not (bytes_eq name other)) names)
-others-differ name [] = tt
-others-differ name (other ∷ names) = by_case (bytes_eq name other) refl (others-differ name names)
-  where
-    by_case : (b : Bool) → bytes_eq name other ≡ b → AllByRecursion (λ o. bytes_eq name o ≡ false) (filter (λ o. not (bytes_eq name o)) names) →
-        AllByRecursion (λ o. bytes_eq name o ≡ false) (cond (not (bytes_eq name other)) (other ∷ filter (λ o. not (bytes_eq name o)) names) (filter (λ o. not (bytes_eq name o)) names))
-    by_case true e others = subst (λ (c : Bool). AllByRecursion (λ o. bytes_eq name o ≡ false) (cond (not c) (other ∷ filter (λ o. not (bytes_eq name o)) names) (filter (λ o. not (bytes_eq name o)) names))) (sym e) others
-    by_case false e others = subst (λ (c : Bool). AllByRecursion (λ o. bytes_eq name o ≡ false) (cond (not c) (other ∷ filter (λ o. not (bytes_eq name o)) names) (filter (λ o. not (bytes_eq name o)) names))) (sym e) (e, others)
-
-pub none-distinct : IsDistinct bytes_eq []
-unfolding IsDistinct
-none-distinct = tt
-
-pub distinct-once : (names : List (List ℕ)) → IsDistinct bytes_eq (each_once names)
-distinct-once [] = none-distinct
-distinct-once (name ∷ names) =
-    IsDistinct-cons bytes_eq name (filter (λ other. not (bytes_eq name other)) (each_once names)) (others-differ name (each_once names))
-    (distinct-filter (λ other. not (bytes_eq name other)) (each_once names) (distinct-once names))
 
 -- Two lists of names an element, one after the other.
 pub in-two : {A : Type 0} (f g : A → List (List ℕ)) (xs : List A) → IsPermutation (flat_map (λ x. f x ++ g x) xs) (flat_map f xs ++ flat_map g xs)

@@ -15,12 +15,18 @@ use Rattle.lw_blif.specs.declared.command.Command.TheVariants.{Ignored, Row}
 use Rattle.lw_blif.specs.declared.fault.BlifKind.{BlifKind}
 use Rattle.lw_blif.specs.declared.fault.BlifKind.TheVariants as kind
 use Rattle.lw_blif.specs.LineFaults.{first_word, first_broken, row_rules, rules_for, line_fault, name_rules, wants_words, is_name, names_for, words_before_last, has_twice, other_words, is_ignored_command, is_row_command, is_names_command, defined_for, command, is_row, is_names, is_ignored, last_word, fanins_on, has_shape, is_value, is_column, defined_on, defined_by, rows_before, node_before}
-use Rattle.lw_blif.specs.Drafts.{draft_of, nodes_of, model_for, inputs_for, outputs_for, node_of, row_of, is_off_row, columns_of, model_on, inputs_on, outputs_on, each_once}
-use Rattle.lw_blif.specs.Readers.{fault_else, names_fault_of, are_fresh, whole_nodes, value_word, is_value_of, row_fault_of, row_added, HaveValue, HaveValueOf, Kept}
+use Rattle.lw_blif.specs.Drafts.{draft_of, nodes_of, model_for, inputs_for, outputs_for, node_of, row_of, is_off_row, columns_of, model_on, inputs_on, outputs_on, latches_on, arrivals_on, latches_for, arrivals_for}
+use Rattle.lw_frame.specs.Frames.{each_once, input_names, root_names, read_by}
+use Rattle.lw_frame.specs.Standing.{StandsFor}
+use Rattle.lw_frame.specs.declared.arrivals.Arrivals.{Arrivals}
+use Rattle.lw_frame.proofs.Once.{once-more, once-twice}
+use Rattle.lw_pool.specs.declared.latch.Latch.{Latch}
+use Rattle.lw_frame.specs.Starts as starts
+use Rattle.lw_blif.specs.Readers.{fault_else, names_fault_of, are_fresh, whole_nodes, value_word, is_value_of, row_fault_of, row_added, HaveValue, HaveValueOf, Kept, KeptAround}
 use Rattle.lw_blif.proofs.NodesBehind.{nodes-parts, rows-ignored, node-ignored, whole-ignored, rows-row, node-row, whole-row, rows-other, node-other, whole-other}
 use Rattle.indexmap.specs.IndexSet.{insert_all}
 use Rattle.lw_blif.specs.Commands.{is_among}
-use Rattle.lw_blif.proofs.Fresh.{once-more, fresh-are}
+use Rattle.lw_blif.proofs.Fresh.{fresh-are}
 use Rattle.lw_blif.proofs.RowsBehind.{length-map, some-length, row_fault-node, row_fault-none}
 
 -- what one more line adds
@@ -372,17 +378,42 @@ model-word (Some m) [] e = cc
 model-word (Some m) (name ∷ names) e = let same : m ≡ name = cc in same
 
 -- The draft of lines, from what is kept of them.
-pub kept-draft : (model : Option (List ℕ)) (inputs outputs defined : List (List ℕ)) (nodes : List DraftNode) (node : Option DraftNode) (lines : List LogicalLine) (draft : Draft) →
-    draft.model ≡ unwrap_or model (codes "unnamed") → draft.inputs ≡ inputs → draft.outputs ≡ outputs → draft.nodes ≡ nodes ++ option_to_list node →
-    Kept model inputs outputs defined nodes node lines → draft ≡ draft_of lines
+pub kept-draft : (model : Option (List ℕ)) (inputs outputs defined : List (List ℕ)) (nodes : List DraftNode) (node : Option DraftNode) (latches : List Latch) (arrivals : Arrivals) (lines : List LogicalLine) (draft : Draft) →
+    draft.model ≡ unwrap_or model (codes "unnamed") → draft.inputs ≡ input_names inputs latches → draft.outputs ≡ root_names outputs latches → draft.nodes ≡ nodes ++ option_to_list node →
+    Kept model inputs outputs defined nodes node lines → KeptAround latches arrivals lines → draft ≡ draft_of lines
 unfolding draft_of
-kept-draft model inputs outputs defined nodes node lines draft model_is inputs_are outputs_are nodes_are k =
+kept-draft model inputs outputs defined nodes node latches arrivals lines draft model_is inputs_are outputs_are nodes_are k a =
+    let own = flat_map latches_on lines in
     let m = model_is ∙ model-word model (flat_map model_on lines) k.model_is in
-    let i = inputs_are ∙ k.inputs_are in
-    let o = outputs_are ∙ k.outputs_are in
+    let i = inputs_are ∙ (ap (λ ins. input_names ins latches) k.inputs_are ∙ ap (input_names (flat_map inputs_on lines)) a.latches_are) in
+    let o : draft.outputs ≡ root_names (flat_map outputs_on lines) own =
+    outputs_are ∙ (ap (λ outs. root_names outs latches) k.outputs_are ∙ (ap (root_names (each_once (flat_map outputs_on lines))) a.latches_are ∙ once-twice (flat_map outputs_on lines) (flat_map read_by own))) in
     let n : draft.nodes ≡ nodes_of (filter (λ line. not (is_ignored line)) lines) =
     nodes_are ∙ (ap (λ r. r ++ option_to_list node) k.nodes_are ∙ (ap (λ r. whole_nodes lines ++ r) k.node_is ∙ sym (nodes-parts lines k.no_rows))) in
     ap (λ w. record { model = w; inputs = draft.inputs; outputs = draft.outputs; nodes = draft.nodes }) m
     ∙ (ap (λ w. record { model = first_word (flat_map model_on lines ++ codes "unnamed" ∷ []); inputs = w; outputs = draft.outputs; nodes = draft.nodes }) i
-    ∙ (ap (λ w. record { model = first_word (flat_map model_on lines ++ codes "unnamed" ∷ []); inputs = flat_map inputs_on lines; outputs = w; nodes = draft.nodes }) o
-    ∙ ap (λ w. record { model = first_word (flat_map model_on lines ++ codes "unnamed" ∷ []); inputs = flat_map inputs_on lines; outputs = each_once (flat_map outputs_on lines); nodes = w }) n))
+    ∙ (ap (λ w. record { model = first_word (flat_map model_on lines ++ codes "unnamed" ∷ []); inputs = input_names (flat_map inputs_on lines) own; outputs = w; nodes = draft.nodes }) o
+    ∙ ap (λ w. record { model = first_word (flat_map model_on lines ++ codes "unnamed" ∷ []); inputs = input_names (flat_map inputs_on lines) own; outputs = root_names (flat_map outputs_on lines) own; nodes = w }) n))
+
+-- what is kept of latches and of arrival lines, behind one more line
+pub around-more : (c : Command) (latches latches' : List Latch) (arrivals arrivals' : Arrivals) (lines : List LogicalLine) (line : LogicalLine) → command line ≡ c → latches' ≡ latches ++ latches_for c (other_words line.words) →
+    ((said : List starts.Arrival) → StandsFor arrivals said → StandsFor arrivals' (said ++ arrivals_for c line.words)) → KeptAround latches arrivals lines → KeptAround latches' arrivals' (lines ++ line ∷ [])
+around-more c latches latches' arrivals arrivals' lines line e latches_are arrivals_are a = record {
+  latches_are =
+      latches_are ∙ (ap (λ l. l ++ latches_for c (other_words line.words)) a.latches_are
+      ∙ sym (flat-more latches_on lines line (latches_for c (other_words line.words)) (ap (λ d. latches_for d (other_words line.words)) e)));
+  arrivals_are =
+      subst (λ (said : List starts.Arrival). StandsFor arrivals' said) (sym (flat-more arrivals_on lines line (arrivals_for c line.words) (ap (λ d. arrivals_for d line.words) e)))
+      (arrivals_are (flat_map arrivals_on lines) a.arrivals_are);
+}
+
+-- a line that says nothing of them
+pub around-same : (c : Command) (latches latches' : List Latch) (arrivals arrivals' : Arrivals) (lines : List LogicalLine) (line : LogicalLine) → command line ≡ c → latches_for c (other_words line.words) ≡ [] → arrivals_for c line.words ≡ [] → latches' ≡ latches → arrivals' ≡ arrivals →
+    KeptAround latches arrivals lines → KeptAround latches' arrivals' (lines ++ line ∷ [])
+around-same c latches latches' arrivals arrivals' lines line e no_latch no_arrival same_latches same_arrivals a =
+    around-more c latches latches' arrivals arrivals' lines line e
+    (same_latches ∙ (sym (append-nil latches) ∙ ap (λ l. latches ++ l) (sym no_latch)))
+    (λ said h.
+    subst (λ (x : Arrivals). StandsFor x (said ++ arrivals_for c line.words)) (sym same_arrivals)
+    (subst (λ (l : List starts.Arrival). StandsFor arrivals (said ++ l)) (sym no_arrival) (subst (λ (l : List starts.Arrival). StandsFor arrivals l) (sym (append-nil said)) h)))
+    a

@@ -1,4 +1,5 @@
 pub mod Appending
+pub mod Arriving
 pub mod Closing
 pub mod Differing
 pub mod Fresh
@@ -10,3 +11,5 @@ pub mod RowsBehind
 pub mod Sound
 pub mod StandingFor
 pub mod WordLists
+pub mod Early
+pub mod Models

@@ -6,7 +6,7 @@ use Rattle.std.proofs.lemmas.List.Elements.{filter-append}
 use Rattle.std.proofs.lemmas.List.Folds.{list_all-append}
 use Rattle.lw_words.specs.Lines.{LogicalLine}
 use Rattle.lw_blif.specs.declared.command.Command.{Command}
-use Rattle.lw_blif.specs.declared.command.Command.TheVariants.{Model, Inputs, Outputs, Names, End, Ignored, Unsupported, Unknown, Row}
+use Rattle.lw_blif.specs.declared.command.Command.TheVariants.{Model, Inputs, Outputs, Names, Latch, Arrival, DefaultArrival, End, Ignored, Unsupported, Unknown, Row}
 use Rattle.lw_blif.specs.LineFaults.{command, is_row_command, is_names_command, is_row, is_names, is_ignored, front, nearest, rows_before, node_before}
 use Rattle.lw_blif.specs.Drafts.{node_of, nodes_of}
 use Rattle.lw_blif.specs.Readers.{whole_nodes}
@@ -138,6 +138,9 @@ nodes_of-none (row ∷ rows) none = at_first (is_row row) refl none (nodes_of-no
     no_names Inputs e = cc
     no_names Outputs e = cc
     no_names Names e = cc
+    no_names Latch e = cc
+    no_names Arrival e = cc
+    no_names DefaultArrival e = cc
     no_names End e = cc
     no_names Ignored e = cc
     no_names Unsupported e = cc
@@ -176,6 +179,9 @@ names-no_row Row e = cc
 names-no_row Model e = refl
 names-no_row Inputs e = refl
 names-no_row Outputs e = refl
+names-no_row Latch e = refl
+names-no_row Arrival e = refl
+names-no_row DefaultArrival e = refl
 names-no_row End e = refl
 names-no_row Ignored e = refl
 names-no_row Unsupported e = refl

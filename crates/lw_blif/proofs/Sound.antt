@@ -7,21 +7,23 @@ use Rattle.std.specs.Str.{bytes_eq}
 use Rattle.std.proofs.lemmas.Bool.{and_parts, eqb-true}
 use Rattle.std.proofs.lemmas.List.{reverse-append}
 use Rattle.std.proofs.lemmas.List.Elements.{All-append, All-nil, All-cons, All-head}
-use Rattle.std.proofs.lemmas.List.Sorted.{length_permutation}
+use Rattle.std.proofs.lemmas.List.Sorted.{length_permutation, IsPermutation-trans, IsPermutation-append_right}
 use Rattle.std.proofs.lemmas.Map.Keys.{IsDistinct-IsPermutation}
 use Rattle.lw_words.specs.Lines.{LogicalLine}
 use Rattle.lw_net.specs.declared.draft.DraftNode.{DraftNode}
 use Rattle.lw_net.specs.Closing.{IsDraft, out_of}
 use Rattle.lw_blif.specs.declared.command.Command.{Command}
-use Rattle.lw_blif.specs.declared.command.Command.TheVariants.{Model, Inputs, Outputs, Names, End, Ignored, Unsupported, Unknown, Row}
+use Rattle.lw_blif.specs.declared.command.Command.TheVariants.{Model, Inputs, Outputs, Names, Latch, Arrival, DefaultArrival, End, Ignored, Unsupported, Unknown, Row}
 use Rattle.lw_blif.specs.declared.fault.BlifKind.{BlifKind}
 use Rattle.lw_blif.specs.declared.fault.BlifKind.TheVariants as kind
 use Rattle.lw_blif.specs.LineFaults.{command, last_word, other_words, is_row_command, is_names_command, is_ignored_command, is_row, is_names, is_ignored, defined_for, defined_on, defined_by, fanins_on, front, nearest, rows_before, node_before, has_shape, is_column, is_value, first_broken, row_rules, name_rules, rules_for, wants_words, line_fault, first_fault, differs_from}
-use Rattle.lw_blif.specs.Drafts.{draft_of, nodes_of, node_of, row_of, columns_of, inputs_for, inputs_on, outputs_on}
+use Rattle.lw_blif.specs.Drafts.{draft_of, nodes_of, node_of, row_of, columns_of, inputs_for, inputs_on, outputs_on, latch_of, latches_for, latches_on}
 use Rattle.lw_blif.specs.Readers.{whole_nodes, are_fresh, fault_else, names_fault_of}
 use Rattle.lw_blif.proofs.Appending.{fault_or_none}
-use Rattle.lw_blif.proofs.Fresh.{eq-flips}
-use Rattle.lw_blif.proofs.Differing.{distinct-fresh, none-distinct, distinct-once, in-two}
+use Rattle.lw_frame.proofs.Once.{eq-flips, roots_differ}
+use Rattle.lw_frame.specs.Frames.{input_names, output_of}
+use Rattle.lw_blif.proofs.Differing.{distinct-fresh, in-two}
+use Rattle.lw_frame.proofs.Once.{none-distinct}
 use Rattle.lw_blif.proofs.NodesBehind.{nodes-parts, rows-ignored, node-ignored, whole-ignored, rows-row, node-row, whole-row, rows-other, node-other, whole-other}
 use Rattle.lw_blif.proofs.Keeping.{defined-more, names_fault-rules, fit-names, none-whole, none-defined, none-node, none-rows, map-push}
 
@@ -203,6 +205,9 @@ sound-more lines line none h = by_command (command line) refl (short line.long (
     by_command Inputs e b = sound-names Inputs lines line e refl refl (fit-both (defined_by lines) Inputs line.words b) h
     by_command Outputs e b = sound-names Outputs lines line e refl refl (fit-both (defined_by lines) Outputs line.words b) h
     by_command Names e b = sound-names Names lines line e refl refl (fit-both (defined_by lines) Names line.words b) h
+    by_command Latch e b = sound-names Latch lines line e refl refl (fit-both (defined_by lines) Latch line.words b) h
+    by_command Arrival e b = sound-names Arrival lines line e refl refl (record { few = omega (arith, h.few); fresh = refl }) h
+    by_command DefaultArrival e b = sound-names DefaultArrival lines line e refl refl (record { few = omega (arith, h.few); fresh = refl }) h
     by_command End e b = sound-names End lines line e refl refl (fit-both (defined_by lines) End line.words b) h
 
 sound-all : (before lines : List LogicalLine) → first_fault before lines ≡ None → IsSound before → IsSound (before ++ lines)
@@ -221,16 +226,40 @@ outs_for other words = []
 abbrev outs_on : LogicalLine → List (List ℕ)
 outs_on line = outs_for (command line) line.words
 
-defined-parts : (c : Command) (words : List (List ℕ)) → defined_for c words ≡ inputs_for c (other_words words) ++ outs_for c words
+abbrev latched_for : Command → List (List ℕ) → List (List ℕ)
+latched_for c words = map output_of (latches_for c (other_words words))
+
+abbrev latched_on : LogicalLine → List (List ℕ)
+latched_on line = latched_for (command line) line.words
+
+latched : (words : List (List ℕ)) → take 1 (drop 2 words) ≡ map output_of (latch_of (drop 1 words)) ++ []
+latched [] = refl
+latched (word ∷ []) = refl
+latched (word ∷ input ∷ []) = refl
+latched (word ∷ input ∷ output ∷ words) = refl
+
+defined-parts : (c : Command) (words : List (List ℕ)) → defined_for c words ≡ inputs_for c (other_words words) ++ (latched_for c words ++ outs_for c words)
 defined-parts Model words = refl
 defined-parts Inputs words = sym (append-nil (other_words words))
 defined-parts Outputs words = refl
 defined-parts Names words = refl
+defined-parts Latch words = latched words
+defined-parts Arrival words = refl
+defined-parts DefaultArrival words = refl
 defined-parts End words = refl
 defined-parts Ignored words = refl
 defined-parts Unsupported words = refl
 defined-parts Unknown words = refl
 defined-parts Row words = refl
+
+map-both : {A B : Type 0} (f : A → B) (xs ys : List A) → map f (xs ++ ys) ≡ map f xs ++ map f ys
+map-both f [] ys = refl
+map-both f (x ∷ xs) ys = ap (λ r. f x ∷ r) (map-both f xs ys)
+
+-- what latches give
+latched-are : (lines : List LogicalLine) → map output_of (flat_map latches_on lines) ≡ flat_map latched_on lines
+latched-are [] = refl
+latched-are (line ∷ lines) = map-both output_of (latches_on line) (flat_map latches_on lines) ∙ ap (λ r. latched_on line ++ r) (latched-are lines)
 
 flat-alike : (f g : LogicalLine → List (List ℕ)) → ((x : LogicalLine) → f x ≡ g x) → (xs : List LogicalLine) → flat_map f xs ≡ flat_map g xs
 flat-alike f g same [] = refl
@@ -254,29 +283,42 @@ outs-are (line ∷ lines) =
     first Inputs = refl
     first Outputs = refl
     first Names = refl
+    first Latch = refl
+    first Arrival = refl
+    first DefaultArrival = refl
     first End = refl
     first Ignored = refl
     first Unsupported = refl
     first Unknown = refl
     first Row = refl
 
-pub signals-are : (lines : List LogicalLine) → IsPermutation (defined_by lines) (flat_map inputs_on lines ++ map out_of (nodes_of (filter (λ line. not (is_ignored line)) lines)))
+pub signals-are : (lines : List LogicalLine) → IsPermutation (defined_by lines) (input_names (flat_map inputs_on lines) (flat_map latches_on lines) ++ map out_of (nodes_of (filter (λ line. not (is_ignored line)) lines)))
 unfolding defined_by
 signals-are lines =
-    let same : flat_map defined_on lines ≡ flat_map (λ line. inputs_on line ++ outs_on line) lines = flat-alike defined_on (λ line. inputs_on line ++ outs_on line) (λ line. defined-parts (command line) line.words) lines in
-    subst (λ (r : List (List ℕ)). IsPermutation r (flat_map inputs_on lines ++ map out_of (nodes_of (filter (λ line. not (is_ignored line)) lines)))) (sym same)
-    (subst (λ (r : List (List ℕ)). IsPermutation (flat_map (λ line. inputs_on line ++ outs_on line) lines) (flat_map inputs_on lines ++ r)) (sym (outs-are lines)) (in-two inputs_on outs_on lines))
+    let ins = flat_map inputs_on lines in
+    let latched = flat_map latched_on lines in
+    let outs = flat_map outs_on lines in
+    let both = flat_map (λ line. latched_on line ++ outs_on line) lines in
+    let same : flat_map defined_on lines ≡ flat_map (λ line. inputs_on line ++ (latched_on line ++ outs_on line)) lines =
+    flat-alike defined_on (λ line. inputs_on line ++ (latched_on line ++ outs_on line)) (λ line. defined-parts (command line) line.words) lines in
+    let parts : ins ++ (latched ++ outs) ≡ input_names ins (flat_map latches_on lines) ++ map out_of (nodes_of (filter (λ line. not (is_ignored line)) lines)) =
+    sym (append_assoc ins latched outs) ∙ (ap (λ r. (ins ++ r) ++ outs) (sym (latched-are lines)) ∙ ap (λ r. input_names ins (flat_map latches_on lines) ++ r) (sym (outs-are lines))) in
+    subst (λ (r : List (List ℕ)). IsPermutation r (input_names ins (flat_map latches_on lines) ++ map out_of (nodes_of (filter (λ line. not (is_ignored line)) lines)))) (sym same)
+    (subst (λ (r : List (List ℕ)). IsPermutation (flat_map (λ line. inputs_on line ++ (latched_on line ++ outs_on line)) lines) r) parts
+    (IsPermutation-trans (flat_map (λ line. inputs_on line ++ (latched_on line ++ outs_on line)) lines) (ins ++ both) (ins ++ (latched ++ outs))
+    (in-two inputs_on (λ line. latched_on line ++ outs_on line) lines)
+    (IsPermutation-append_right ins both (latched ++ outs) (in-two latched_on outs_on lines))))
 
 -- The draft of lines that break no rule may be closed.
 pub lines-draft : (lines : List LogicalLine) → first_fault [] lines ≡ None → IsDraft (draft_of lines)
 unfolding draft_of
 lines-draft lines none =
     let h = sound-all [] lines none sound-start in
-    let signals = flat_map inputs_on lines ++ map out_of (nodes_of (filter (λ line. not (is_ignored line)) lines)) in
+    let signals = input_names (flat_map inputs_on lines) (flat_map latches_on lines) ++ map out_of (nodes_of (filter (λ line. not (is_ignored line)) lines)) in
     let nodes = nodes-parts lines h.no_rows in
     record {
       signals = IsDistinct-IsPermutation bytes_eq eq-flips (defined_by lines) signals (signals-are lines) h.distinct;
-      outputs = distinct-once (flat_map outputs_on lines);
+      outputs = roots_differ (flat_map outputs_on lines) (flat_map latches_on lines);
       columns = subst (All HasColumns) (sym nodes) (All-append HasColumns (whole_nodes lines) (begun_nodes lines) h.whole h.begun);
       few = omega (arith, h.few, length_permutation (defined_by lines) signals (signals-are lines));
     }

@@ -1,15 +1,20 @@
--- What the lines of a text come to: one network, or one fault.
+-- What the lines of a text come to: one model, or one fault.
 use Rattle.std.specs.Prelude.{◌≡◌, List, [], Option, Some, None, Result, Ok, Err, ⊤}
 use Rattle.lw_words.specs.Lines.{LogicalLine}
 use Rattle.lw_net.specs.declared.draft.Draft.{Draft}
 use Rattle.lw_net.specs.declared.fault.NetFault.{NetFault}
 use Rattle.lw_net.specs.declared.fault.NetFault.TheVariants as whole
-use Rattle.lw_net.specs.Networks.{NetworkParts}
+use Rattle.lw_net.specs.Networks.{input_names, output_names}
 use Rattle.lw_net.specs.Closing.{IsClosed, HasFault}
+use Rattle.std.specs.List.{IsDistinct}
+use Rattle.std.specs.Str.{bytes_eq}
+use Rattle.lw_frame.specs.Frames.{Fits}
+use Rattle.lw_frame.specs.Starts.{StartsFit}
+use Rattle.lw_blif.specs.declared.parsed.Parsed.{Parsed}
 use Rattle.lw_blif.specs.declared.fault.BlifFault.{BlifFault}
 use Rattle.lw_blif.specs.declared.fault.BlifFault.TheVariants as fault
 use Rattle.lw_blif.specs.LineFaults.{FaultAt, first_fault, lines_read}
-use Rattle.lw_blif.specs.Drafts.{draft_of}
+use Rattle.lw_blif.specs.Drafts.{draft_of, frame_on, starts_on}
 
 -- the fault of a network as a whole, or want of memory
 abbrev pub whole_fault : NetFault → BlifFault
@@ -17,8 +22,8 @@ whole_fault whole.Memory = fault.Memory
 whole_fault other = fault.Whole other
 
 -- The line is told. Want of memory is free.
-abbrev pub TellsLine : FaultAt → Result NetworkParts BlifFault → Type 0
-TellsLine first (Ok net) = ⊥
+abbrev pub TellsLine : FaultAt → Result Parsed BlifFault → Type 0
+TellsLine first (Ok model) = ⊥
 TellsLine first (Err (fault.Line number kind)) = first ≡ record { number = number; kind = kind }
 TellsLine first (Err (fault.Whole other)) = ⊥
 TellsLine first (Err fault.Memory) = ⊤
@@ -29,18 +34,31 @@ HasWholeFault draft (whole.Undefined name) = HasFault draft (whole.Undefined nam
 HasWholeFault draft (whole.Cycle name) = HasFault draft (whole.Cycle name)
 HasWholeFault draft whole.Memory = ⊥
 
--- The draft's network, or its fault. Want of memory is free.
-abbrev pub ClosesTo : Draft → Result NetworkParts BlifFault → Type 0
-ClosesTo draft (Ok net) = IsClosed draft net
-ClosesTo draft (Err (fault.Line number kind)) = ⊥
-ClosesTo draft (Err (fault.Whole other)) = HasWholeFault draft other
-ClosesTo draft (Err fault.Memory) = ⊤
+-- The model that the lines say: the network of their combinational part, its frame and the starts of its inputs.
+pub record IsModelOf (lines : List LogicalLine) (model : Parsed) : Type 0 where
+  pub network : IsClosed (draft_of lines) model.network
+  pub frame : model.frame ≡ frame_on lines
+  pub starts : model.starts ≡ starts_on lines
 
--- The first line that breaks a rule, or else what the draft is closed to.
-abbrev pub ComesTo : Option FaultAt → Draft → Result NetworkParts BlifFault → Type 0
-ComesTo (Some first) draft result = TellsLine first result
-ComesTo None draft result = ClosesTo draft result
+-- The model of the lines, or the fault of the whole. Want of memory is free.
+abbrev pub ClosesTo : List LogicalLine → Result Parsed BlifFault → Type 0
+ClosesTo lines (Ok model) = IsModelOf lines model
+ClosesTo lines (Err (fault.Line number kind)) = ⊥
+ClosesTo lines (Err (fault.Whole other)) = HasWholeFault (draft_of lines) other
+ClosesTo lines (Err fault.Memory) = ⊤
+
+-- The first line that breaks a rule, or else what the lines are closed to.
+abbrev pub ComesTo : Option FaultAt → List LogicalLine → Result Parsed BlifFault → Type 0
+ComesTo (Some first) lines result = TellsLine first result
+ComesTo None lines result = ClosesTo lines result
 
 -- What the lines of a text come to.
-abbrev pub IsBlifNetwork : List LogicalLine → Result NetworkParts BlifFault → Type 0
-IsBlifNetwork lines result = ComesTo (first_fault [] (lines_read lines)) (draft_of (lines_read lines)) result
+abbrev pub IsBlifNetwork : List LogicalLine → Result Parsed BlifFault → Type 0
+IsBlifNetwork lines result = ComesTo (first_fault [] (lines_read lines)) (lines_read lines) result
+
+-- The frame and the starts of a model fit its network, whose inputs differ, and whose outputs do.
+pub record IsModel (model : Parsed) : Type 0 where
+  pub frame : Fits model.frame (input_names model.network) (output_names model.network)
+  pub starts : StartsFit model.frame model.network.inputs model.starts
+  pub inputs : IsDistinct bytes_eq (input_names model.network)
+  pub outputs : IsDistinct bytes_eq (output_names model.network)

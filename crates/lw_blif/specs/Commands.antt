@@ -3,18 +3,18 @@ use Rattle.std.specs.Prelude.{ℕ, Bool, false, ◌||◌, ◌==◌, List, [], �
 use Rattle.std.specs.Str.{bytes_eq}
 use Rattle.std.specs.List.{list_any}
 use Rattle.lw_blif.specs.declared.command.Command.{Command}
-use Rattle.lw_blif.specs.declared.command.Command.TheVariants.{Model, Inputs, Outputs, Names, End, Ignored, Unsupported, Unknown, Row}
+use Rattle.lw_blif.specs.declared.command.Command.TheVariants.{Model, Inputs, Outputs, Names, Latch, Arrival, DefaultArrival, End, Ignored, Unsupported, Unknown, Row}
 
 abbrev pub is_among : List (List ℕ) → List ℕ → Bool
 is_among words word = list_any (bytes_eq word) words
 
 abbrev pub unsupported_words : List (List ℕ)
-unsupported_words = codes ".latch" ∷ codes ".gate" ∷ codes ".mlatch" ∷ codes ".subckt" ∷ codes ".search" ∷ codes ".clock" ∷ codes ".start_kiss" ∷ []
+unsupported_words = codes ".gate" ∷ codes ".mlatch" ∷ codes ".subckt" ∷ codes ".search" ∷ codes ".clock" ∷ codes ".start_kiss" ∷ []
 
 abbrev pub ignored_words : List (List ℕ)
 ignored_words =
-    codes ".area" ∷ codes ".delay" ∷ codes ".wire_load_slope" ∷ codes ".wire" ∷ codes ".input_arrival"
-    ∷ codes ".default_input_arrival" ∷ codes ".output_required" ∷ codes ".default_output_required" ∷ codes ".input_drive"
+    codes ".area" ∷ codes ".delay" ∷ codes ".wire_load_slope" ∷ codes ".wire"
+    ∷ codes ".output_required" ∷ codes ".default_output_required" ∷ codes ".input_drive"
     ∷ codes ".default_input_drive" ∷ codes ".output_load" ∷ codes ".default_output_load" ∷ codes ".max_input_load"
     ∷ codes ".default_max_input_load" ∷ codes ".cycle" ∷ codes ".clock_event" ∷ []
 
@@ -31,7 +31,10 @@ has_point (b ∷ word) = b == 46
 
 -- what a word that begins with `.` asks for, if it is none of a network's own lines
 unfoldable pub other_command : List ℕ → Command
-other_command word = if is_ignored_word word then Ignored else (if is_unsupported_word word then Unsupported else Unknown)
+other_command word =
+    if bytes_eq word (codes ".input_arrival") then Arrival
+    else (if bytes_eq word (codes ".default_input_arrival") then DefaultArrival
+    else (if is_ignored_word word then Ignored else (if is_unsupported_word word then Unsupported else Unknown)))
 
 -- what a word that begins with `.` asks for
 unfoldable pub point_command : List ℕ → Command
@@ -40,7 +43,8 @@ point_command word =
     else (if bytes_eq word (codes ".inputs") then Inputs
     else (if bytes_eq word (codes ".outputs") then Outputs
     else (if bytes_eq word (codes ".model") then Model
-    else (if bytes_eq word (codes ".end") || bytes_eq word (codes ".exdc") then End else other_command word))))
+    else (if bytes_eq word (codes ".latch") then Latch
+    else (if bytes_eq word (codes ".end") || bytes_eq word (codes ".exdc") then End else other_command word)))))
 
 -- what a first word asks for
 unfoldable pub command_of : List ℕ → Command

@@ -3,18 +3,24 @@ use Rattle.std.specs.Prelude.{⊤, ℕ, ◌≤◌, length, ◌≡◌, ◌++◌, 
 use Rattle.std.specs.Str.{bytes_eq}
 use Rattle.indexmap.specs.IndexSet.{insert_all}
 use Rattle.lw_blif.specs.declared.command.Command.{Command}
-use Rattle.lw_blif.specs.declared.command.Command.TheVariants.{Model, Inputs, Outputs, Names}
-use Rattle.lw_blif.specs.LineFaults.{other_words, is_names_command, defined_for, first_fault}
+use Rattle.lw_blif.specs.declared.command.Command.TheVariants.{Model, Inputs, Outputs, Names, Latch, Arrival, DefaultArrival}
+use Rattle.lw_blif.specs.LineFaults.{other_words, is_names_command, defined_for, first_fault, first_broken, arrival_rules}
 use Rattle.lw_blif.specs.declared.fault.BlifKind.{BlifKind}
 use Rattle.lw_blif.specs.declared.fault.BlifKind.TheVariants as kind
-use Rattle.lw_blif.specs.Drafts.{model_for, inputs_for, outputs_for}
+use Rattle.lw_blif.specs.Drafts.{model_for, inputs_for, outputs_for, latches_for, arrivals_for, draft_of, frame_on, starts_on}
+use Rattle.lw_blif.specs.declared.drafting.Said.{Said}
+use Rattle.lw_frame.specs.Frames.{Fits}
+use Rattle.lw_frame.specs.Starts.{StartsFit}
+use Rattle.lw_frame.specs.Starts as starts
+use Rattle.lw_frame.specs.Standing.{StandsFor}
 use Rattle.lw_words.specs.Lines.{LogicalLine}
 use Rattle.lw_net.specs.declared.draft.DraftNode.{DraftNode}
 use Rattle.lw_blif.specs.declared.parts.Parts.{Parts}
-use Rattle.lw_blif.specs.Readers.{Kept, row_added, node_begun, are_fresh, names_fault_of, fault_else}
+use Rattle.lw_blif.specs.Readers.{Kept, KeptAround, row_added, node_begun, are_fresh, names_fault_of, fault_else}
 
-abbrev pub Keeps : Parts → List LogicalLine → Type 0
-Keeps parts lines = Kept parts.model parts.inputs parts.outputs.keys parts.defined.keys parts.nodes parts.node lines
+pub record Keeps (parts : Parts) (lines : List LogicalLine) : Type 0 where
+  pub names : Kept parts.model parts.inputs parts.outputs.keys parts.defined.keys parts.nodes parts.node lines
+  pub around : KeptAround parts.latches parts.arrivals lines
 
 -- the node with one more row, where there is one
 abbrev pub IsRowAdded : List (List ℕ) → Option DraftNode → Option DraftNode → Type 0
@@ -34,6 +40,8 @@ pub record AddsRow (old : Parts) (words : List (List ℕ)) (new : Parts) : Type 
   pub outputs : new.outputs.keys ≡ old.outputs.keys
   pub defined : new.defined.keys ≡ old.defined.keys
   pub nodes : new.nodes ≡ old.nodes
+  pub latches : new.latches ≡ old.latches
+  pub arrivals : new.arrivals ≡ old.arrivals
   pub node : IsRowAdded words old.node new.node
 
 -- these signals are defined
@@ -43,6 +51,8 @@ pub record Defines (old : Parts) (names : List (List ℕ)) (new : Parts) : Type 
   pub outputs : new.outputs.keys ≡ old.outputs.keys
   pub defined : new.defined.keys ≡ old.defined.keys ++ names
   pub nodes : new.nodes ≡ old.nodes
+  pub latches : new.latches ≡ old.latches
+  pub arrivals : new.arrivals ≡ old.arrivals
   pub node : new.node ≡ old.node
 
 -- the node whose rows might follow is whole
@@ -52,6 +62,8 @@ pub record EndsNode (old new : Parts) : Type 0 where
   pub outputs : new.outputs.keys ≡ old.outputs.keys
   pub defined : new.defined.keys ≡ old.defined.keys
   pub nodes : new.nodes ≡ old.nodes ++ option_to_list old.node
+  pub latches : new.latches ≡ old.latches
+  pub arrivals : new.arrivals ≡ old.arrivals
   pub node : new.node ≡ None
 
 -- a line of names is taken
@@ -61,6 +73,8 @@ pub record TakesNames (old : Parts) (c : Command) (words : List (List ℕ)) (new
   pub outputs : new.outputs.keys ≡ insert_all bytes_eq old.outputs.keys (outputs_for c (other_words words))
   pub defined : new.defined.keys ≡ old.defined.keys
   pub nodes : new.nodes ≡ old.nodes ++ option_to_list old.node
+  pub latches : new.latches ≡ old.latches ++ latches_for c (other_words words)
+  pub arrivals : new.arrivals ≡ old.arrivals
   pub node : option_to_list new.node ≡ (if is_names_command c then node_begun words ∷ [] else [])
 
 -- the name of the first model is taken
@@ -70,6 +84,8 @@ pub record TakesModel (old : Parts) (words : List (List ℕ)) (new : Parts) : Ty
   pub outputs : new.outputs.keys ≡ old.outputs.keys
   pub defined : new.defined.keys ≡ old.defined.keys
   pub nodes : new.nodes ≡ old.nodes
+  pub latches : new.latches ≡ old.latches
+  pub arrivals : new.arrivals ≡ old.arrivals
   pub node : new.node ≡ old.node
 
 -- a line of names is read
@@ -79,6 +95,8 @@ pub record ReadsNames (old : Parts) (c : Command) (words : List (List ℕ)) (new
   pub outputs : new.outputs.keys ≡ insert_all bytes_eq old.outputs.keys (outputs_for c (other_words words))
   pub defined : new.defined.keys ≡ old.defined.keys ++ defined_for c words
   pub nodes : new.nodes ≡ old.nodes ++ option_to_list old.node
+  pub latches : new.latches ≡ old.latches ++ latches_for c (other_words words)
+  pub arrivals : new.arrivals ≡ old.arrivals
   pub node : option_to_list new.node ≡ (if is_names_command c then node_begun words ∷ [] else [])
   pub few : length new.defined.keys ≤ 262144
 
@@ -92,4 +110,37 @@ IsNamesLine Model = ⊤
 IsNamesLine Inputs = ⊤
 IsNamesLine Outputs = ⊤
 IsNamesLine Names = ⊤
+IsNamesLine Latch = ⊤
 IsNamesLine other = ⊥
+
+-- a command for an arrival line
+abbrev pub IsArrivalLine : Command → Type 0
+IsArrivalLine Arrival = ⊤
+IsArrivalLine DefaultArrival = ⊤
+IsArrivalLine other = ⊥
+
+-- the first rule that an arrival line breaks
+abbrev pub arrival_fault : Command → List (List ℕ) → Option BlifKind
+arrival_fault c words = first_broken (arrival_rules c words)
+
+-- an arrival line is read
+pub record ReadsArrival (old : Parts) (c : Command) (words : List (List ℕ)) (new : Parts) : Type 0 where
+  pub model : new.model ≡ old.model
+  pub inputs : new.inputs ≡ old.inputs
+  pub outputs : new.outputs.keys ≡ old.outputs.keys
+  pub defined : new.defined.keys ≡ old.defined.keys
+  pub nodes : new.nodes ≡ old.nodes ++ option_to_list old.node
+  pub node : new.node ≡ None
+  pub latches : new.latches ≡ old.latches
+  pub arrivals : (said : List starts.Arrival) → StandsFor old.arrivals said → StandsFor new.arrivals (said ++ arrivals_for c words)
+
+-- This is what lines say.
+pub record IsSaidBy (lines : List LogicalLine) (said : Said) : Type 0 where
+  pub draft : said.draft ≡ draft_of lines
+  pub frame : said.frame ≡ frame_on lines
+  pub starts : said.starts ≡ starts_on lines
+
+-- The frame and the starts fit the draft.
+pub record SaidFits (said : Said) : Type 0 where
+  pub frame : Fits said.frame said.draft.inputs said.draft.outputs
+  pub starts : StartsFit said.frame (length said.draft.inputs) said.starts

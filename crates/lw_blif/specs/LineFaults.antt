@@ -1,13 +1,17 @@
 -- The first rule that a line of a network's text breaks, behind the lines before it.
-use Rattle.std.specs.Prelude.{ℕ, ◌+◌, ◌-◌, Bool, true, false, not, ◌&&◌, ◌||◌, ◌==◌, nat_lt, nat_le, nat_eq, List, [], ◌∷◌, ◌++◌, length, take, drop, reverse, filter, Option, Some, None, if◌then◌else◌, codes}
+use Rattle.std.specs.Prelude.{ℕ, ◌+◌, ◌-◌, Bool, true, false, not, ◌&&◌, ◌||◌, ◌==◌, nat_lt, nat_le, nat_eq, List, [], ◌∷◌, ◌++◌, length, take, drop, reverse, filter, Option, Some, None, Result, Ok, Err, if◌then◌else◌, codes}
 use Rattle.std.specs.List.{list_any, list_all, flat_map, ends_with}
 use Rattle.std.specs.Str.{bytes_eq}
 use Rattle.lw_words.specs.Lines.{LogicalLine}
 use Rattle.lw_blif.specs.declared.command.Command.{Command}
-use Rattle.lw_blif.specs.declared.command.Command.TheVariants.{Model, Inputs, Outputs, Names, End, Ignored, Unsupported, Unknown, Row}
+use Rattle.lw_blif.specs.declared.command.Command.TheVariants.{Model, Inputs, Outputs, Names, Latch, Arrival, DefaultArrival, End, Ignored, Unsupported, Unknown, Row}
 use Rattle.lw_blif.specs.declared.fault.BlifKind.{BlifKind}
 use Rattle.lw_blif.specs.declared.fault.BlifKind.TheVariants as kind
 use Rattle.lw_blif.specs.Commands.{command_of, is_among}
+use Rattle.lw_fixed.specs.declared.micro.Micro.{Micro}
+use Rattle.lw_fixed.specs.declared.fault.DecimalFault.{DecimalFault}
+use Rattle.lw_fixed.specs.declared.fault.DecimalFault.TheVariants.{Shape}
+use Rattle.lw_frame.specs.Starts.{start_said}
 
 -- Words.
 
@@ -90,12 +94,15 @@ names_for Model words = other_words words
 names_for Inputs words = other_words words
 names_for Outputs words = other_words words
 names_for Names words = other_words words
+names_for Latch words = other_words words
+names_for Arrival words = take 1 (other_words words)
 names_for other words = []
 
 -- the signals that a line defines
 abbrev pub defined_for : Command → List (List ℕ) → List (List ℕ)
 defined_for Inputs words = other_words words
 defined_for Names words = last_word words ∷ []
+defined_for Latch words = take 1 (drop 2 words)
 defined_for other words = []
 
 abbrev pub defined_on : LogicalLine → List (List ℕ)
@@ -168,7 +175,32 @@ name_rules defined c words =
 abbrev pub wants_words : Command → List (List ℕ) → Bool
 wants_words Model words = length words == 2
 wants_words Names words = nat_le 2 (length words)
+wants_words Latch words = nat_le 3 (length words) && nat_le (length words) 6
+wants_words Arrival words = nat_le 4 (length words)
+wants_words DefaultArrival words = nat_le 3 (length words)
 wants_words other words = true
+
+-- the words for the rise and the fall of an input, and those behind them
+abbrev pub times_for : Command → List (List ℕ) → List (List ℕ)
+times_for Arrival words = drop 2 words
+times_for DefaultArrival words = drop 1 words
+times_for other words = []
+
+-- the start that the first two of these words say
+abbrev pub start_in : List (List ℕ) → Result Micro DecimalFault
+start_in (rise ∷ fall ∷ words) = start_said rise fall
+start_in words = Err Shape
+
+abbrev pub start_rules : Result Micro DecimalFault → List Rule
+start_rules (Ok start) = []
+start_rules (Err fault) = record { broken = true; kind = kind.Decimal fault } ∷ []
+
+-- The rules for an arrival line.
+abbrev pub arrival_rules : Command → List (List ℕ) → List Rule
+arrival_rules c words =
+    record { broken = not (wants_words c words); kind = kind.WordCount }
+    ∷ record { broken = not (list_all is_name (names_for c words)); kind = kind.BadName }
+    ∷ start_rules (start_in (times_for c words))
 
 -- The rules for a line of this command.
 abbrev pub rules_for : List LogicalLine → List LogicalLine → List (List ℕ) → Command → List (List ℕ) → List Rule
@@ -176,6 +208,8 @@ rules_for node rows defined Unknown words = record { broken = true; kind = kind.
 rules_for node rows defined Unsupported words = record { broken = true; kind = kind.Unsupported } ∷ []
 rules_for node rows defined Row words = row_rules node rows words
 rules_for node rows defined Ignored words = []
+rules_for node rows defined Arrival words = arrival_rules Arrival words
+rules_for node rows defined DefaultArrival words = arrival_rules DefaultArrival words
 rules_for node rows defined c words = record { broken = not (wants_words c words); kind = kind.WordCount } ∷ name_rules defined c words
 
 -- The first rule that the line breaks behind these, which break none.

@@ -1,15 +1,21 @@
 -- What a reader keeps of the lines that it was given.
-use Rattle.std.specs.Prelude.{ℕ, ◌+◌, Bool, true, false, not, ◌&&◌, nat_lt, nat_le, Option, Some, None, List, [], ◌∷◌, ◌++◌, length, drop, reverse, if◌then◌else◌, ◌≡◌, ◌≤◌, map, take, codes, option_to_list}
+use Rattle.std.specs.Prelude.{ℕ, ◌+◌, Bool, true, false, not, ◌&&◌, nat_lt, nat_le, Option, Some, None, Result, Ok, Err, List, [], ◌∷◌, ◌++◌, length, drop, reverse, if◌then◌else◌, ◌≡◌, ◌≤◌, map, take, codes, option_to_list}
 use Rattle.std.specs.Str.{bytes_eq}
 use Rattle.lw_net.specs.declared.draft.DraftNode.{DraftNode}
 use Rattle.lw_words.specs.Lines.{LogicalLine, has_some}
 use Rattle.lw_blif.specs.declared.fault.BlifKind.{BlifKind}
 use Rattle.lw_blif.specs.declared.fault.BlifKind.TheVariants as kind
-use Rattle.lw_blif.specs.LineFaults.{defined_by, last_word, has_shape, nearest, rows_before, node_before, wants_words, is_name, names_for, defined_for, is_names_command, words_before_last, other_words}
+use Rattle.lw_blif.specs.LineFaults.{defined_by, last_word, has_shape, nearest, rows_before, node_before, wants_words, is_name, names_for, defined_for, is_names_command, words_before_last, other_words, times_for, start_in}
 use Rattle.lw_blif.specs.declared.command.Command.{Command}
 use Rattle.std.specs.List.{list_all, flat_map}
 use Rattle.lw_blif.specs.Commands.{is_among}
-use Rattle.lw_blif.specs.Drafts.{nodes_of, node_of, columns_of, model_on, inputs_on, outputs_on, each_once}
+use Rattle.lw_blif.specs.Drafts.{nodes_of, node_of, columns_of, model_on, inputs_on, outputs_on, latches_on, arrivals_on}
+use Rattle.lw_frame.specs.Frames.{each_once}
+use Rattle.lw_frame.specs.Standing.{StandsFor}
+use Rattle.lw_frame.specs.declared.arrivals.Arrivals.{Arrivals}
+use Rattle.lw_pool.specs.declared.latch.Latch.{Latch}
+use Rattle.lw_fixed.specs.declared.micro.Micro.{Micro}
+use Rattle.lw_fixed.specs.declared.fault.DecimalFault.{DecimalFault}
 
 -- the nodes to which no row can be added
 unfoldable pub whole_nodes : List LogicalLine → List DraftNode
@@ -45,6 +51,17 @@ names_fault_of count c words =
     else (if is_names_command c && nat_lt 256 (length (words_before_last (other_words words))) then Some kind.LimitFanin
     else (if nat_lt 262144 (count + length (defined_for c words)) then Some kind.LimitSignals else None)))
 
+-- a decimal's fault as a rule that is broken
+abbrev pub start_or_kind : Result Micro DecimalFault → Result Micro BlifKind
+start_or_kind (Ok start) = Ok start
+start_or_kind (Err fault) = Err (kind.Decimal fault)
+
+-- The start that an arrival line says, or the first rule that it breaks.
+unfoldable pub start_said_on : Command → List (List ℕ) → Result Micro BlifKind
+start_said_on c words =
+    if not (wants_words c words) then Err kind.WordCount
+    else (if not (list_all is_name (names_for c words)) then Err kind.BadName else start_or_kind (start_in (times_for c words)))
+
 -- the node of a line of these words, before its rows
 abbrev pub node_begun : List (List ℕ) → DraftNode
 node_begun words = record { out = last_word words; fanins = words_before_last (other_words words); rows = []; on = true }
@@ -75,6 +92,11 @@ pub record Kept (model : Option (List ℕ)) (inputs outputs defined : List (List
   pub no_rows : node_before lines ≡ [] → rows_before lines ≡ []
   pub one_value : HaveValueOf node (rows_before lines)
   pub few : length defined ≤ 262144
+
+-- What is kept of latches and of arrival lines.
+pub record KeptAround (latches : List Latch) (arrivals : Arrivals) (lines : List LogicalLine) : Type 0 where
+  pub latches_are : latches ≡ flat_map latches_on lines
+  pub arrivals_are : StandsFor arrivals (flat_map arrivals_on lines)
 
 -- this fault, else the other
 abbrev pub fault_else : Option BlifKind → Option BlifKind → Option BlifKind

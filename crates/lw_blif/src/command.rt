@@ -9,6 +9,11 @@ pub enum Command {
     Inputs,
     Outputs,
     Names,
+    Latch,
+    /// The start of one input.
+    Arrival,
+    /// The start of each input that has no line of its own.
+    DefaultArrival,
     /// The reading ends.
     End,
     /// A line that says nothing of the logic.
@@ -47,6 +52,9 @@ fn point_command(word: &[u8]) -> Command
     if word == b".model".as_slice() {
         return Command::Model;
     }
+    if word == b".latch".as_slice() {
+        return Command::Latch;
+    }
     if word == b".end".as_slice() || word == b".exdc".as_slice() {
         return Command::End;
     }
@@ -58,6 +66,12 @@ fn point_command(word: &[u8]) -> Command
 fn other_command(word: &[u8]) -> Command
     ensures { result ≡ other_command word.now }
 {
+    if word == b".input_arrival".as_slice() {
+        return Command::Arrival;
+    }
+    if word == b".default_input_arrival".as_slice() {
+        return Command::DefaultArrival;
+    }
     if is_ignored(word) {
         return Command::Ignored;
     }
@@ -71,8 +85,7 @@ fn other_command(word: &[u8]) -> Command
 fn is_unsupported(word: &[u8]) -> bool
     ensures { result ≡ is_unsupported_word word.now }
 {
-    word == b".latch".as_slice()
-        || word == b".gate".as_slice()
+    word == b".gate".as_slice()
         || word == b".mlatch".as_slice()
         || word == b".subckt".as_slice()
         || word == b".search".as_slice()
@@ -88,8 +101,6 @@ fn is_ignored(word: &[u8]) -> bool
         || word == b".delay".as_slice()
         || word == b".wire_load_slope".as_slice()
         || word == b".wire".as_slice()
-        || word == b".input_arrival".as_slice()
-        || word == b".default_input_arrival".as_slice()
         || word == b".output_required".as_slice()
         || word == b".default_output_required".as_slice()
         || word == b".input_drive".as_slice()

@@ -5,11 +5,12 @@ ghost use Rattle.indexmap.specs.IndexSet.{insert_all};
 ghost use Rattle.std.specs.Str.{bytes_eq};
 ghost use Rattle.lw_blif.specs.Readers.{are_fresh, node_begun};
 ghost use Rattle.lw_blif.specs.LineFaults.{last_word};
+ghost use Rattle.lw_blif.specs.Drafts.{latch_of};
 
 use crate::naming::{last_word, names_between};
 use indexmap::IndexSet;
 use lw_net::{Cubes, DraftNode};
-use lw_pool::{Name, Names};
+use lw_pool::{Latch, Name, Names};
 use lw_words::Words;
 use std::alloc::{AllocError, Global};
 
@@ -33,17 +34,17 @@ pub fn define_all(
     Ok(true)
 }
 
-/// Defines the last word. Whether it was new.
-pub fn define_last(
+/// Defines a word. Whether it was new.
+pub fn define_one(
     alloc: Global,
     defined: &mut IndexSet<Name>,
-    words: &Words,
+    word: &[u8],
 ) -> Result<bool, AllocError>
-    requires { 0 < length words.now }
-    ensures fresh { IfOk result (λ b. b ≡ are_fresh defined.old.keys (last_word words.now ∷ [])) }
-    ensures defined { IfOk result (λ b. b ≡ true → defined.new.keys ≡ defined.old.keys ++ last_word words.now ∷ []) }
+    requires { 0 < length word.now }
+    ensures fresh { IfOk result (λ b. b ≡ are_fresh defined.old.keys (word.now ∷ [])) }
+    ensures defined { IfOk result (λ b. b ≡ true → defined.new.keys ≡ defined.old.keys ++ word.now ∷ []) }
 {
-    let name = Name::from_slice(alloc, last_word(words))?;
+    let name = Name::from_slice(alloc, word)?;
     let is_new = defined.insert(name)?;
     Ok(is_new)
 }
@@ -108,5 +109,20 @@ pub fn new_node(alloc: Global, words: &Words) -> Result<DraftNode, AllocError>
         fanins,
         rows: Cubes::new(alloc),
         on: true,
+    })
+}
+
+/// The latch of a line.
+pub fn new_latch(alloc: Global, words: &Words) -> Result<Latch, AllocError>
+    requires { 3 ≤ length words.now }
+    ensures { IfOk result (λ latch. latch_of (drop 1 words.now) ≡ latch ∷ []) }
+{
+    let input = Name::from_slice(alloc, words.get(1))?;
+    let output = Name::from_slice(alloc, words.get(2))?;
+    let rest = names_between(alloc, words, 3, words.len())?;
+    Ok(Latch {
+        input,
+        output,
+        rest,
     })
 }

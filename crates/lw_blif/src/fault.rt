@@ -1,3 +1,4 @@
+use lw_fixed::DecimalFault;
 use lw_net::NetFault;
 use std::alloc::AllocError;
 use thiserror::Error;
@@ -15,9 +16,10 @@ pub enum BlifKind {
     RowShape,
     /// A row whose value differs from that of an earlier row of its node.
     RowMix,
-    /// A signal that is an input or the output of a node already, or stands twice on the line.
+    /// A signal that is an input or the output of a node or latch already, or stands twice on the line.
     Redefined,
-    /// `.model` with other than one name, or `.names` with none.
+    /// `.model` with other than one name, `.names` with none, `.latch` with fewer than two or more than five, or an arrival line
+    /// without its name or a time.
     WordCount,
     /// A word in a name's place is no name.
     BadName,
@@ -27,8 +29,10 @@ pub enum BlifKind {
     LimitFanin,
     /// A row after 4,096 rows of its node.
     LimitRows,
-    /// More than 262,144 inputs and nodes.
+    /// More than 262,144 inputs, latches and nodes.
     LimitSignals,
+    /// A time that is no decimal, or is none of fewer than a million units, no more than six decimals, and not below 0.
+    Decimal(DecimalFault),
 }
 
 /// Why a text is no network.

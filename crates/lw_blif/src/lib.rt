@@ -1,12 +1,15 @@
-//! Reads a network's text, in the Berkeley Logic Interchange Format, line by line.
+//! Reads a model's text, in the Berkeley Logic Interchange Format, line by line.
 #![tactic(auto)]
 
 mod adding;
+mod arrival;
 mod command;
 mod defining;
 mod drafting;
 mod fault;
+mod laws;
 mod naming;
+mod parsed;
 mod parts;
 mod reader;
 mod rows;
@@ -14,4 +17,6 @@ mod rules;
 
 pub use command::Command;
 pub use fault::{BlifFault, BlifKind};
+pub use laws::model_is_network;
+pub use parsed::Parsed;
 pub use reader::{Reader, Stop};

@@ -9,8 +9,8 @@ use std::alloc::{AllocError, Global};
 
 const NAME_MAX: usize = 2000;
 
-/// Whether a word may be a name.
-fn is_name(word: &[u8]) -> bool
+//// Whether a word may be a name.
+pub fn is_name(word: &[u8]) -> bool
     ensures { result ≡ is_name word.now }
 {
     word.len() <= NAME_MAX && !word.ends_with(b"\\")

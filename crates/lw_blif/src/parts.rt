@@ -2,14 +2,19 @@
 ghost use Rattle.std.specs.Prelude.{◌≡◌, ◌≢◌, ◌+◌, ◌<◌, ◌≤◌, ◌++◌, [], ◌∷◌, List, None, length, true, false, IfOk, OnOk, option_to_list};
 
 use crate::adding::with_row;
-use crate::defining::{add_all, append_all, define_all, define_last, name_or_second, new_node};
-use crate::drafting::{name_or_unnamed, names_of, with_last};
+use crate::arrival::{add_start, start_on};
+use crate::defining::{
+    add_all, append_all, define_all, define_one, name_or_second, new_latch, new_node,
+};
+use crate::drafting::{Said, draft_of, frame_of, starts_of, with_last};
+use crate::naming::last_word;
 use crate::rows::row_fault;
 use crate::rules::names_fault;
-use crate::{BlifFault, BlifKind, Command};
+use crate::{BlifFault, BlifKind, Command, Parsed};
 use indexmap::IndexSet;
-use lw_net::{Draft, DraftNode, DraftNodes, Network};
-use lw_pool::{Name, Names};
+use lw_frame::Arrivals;
+use lw_net::{DraftNode, DraftNodes, Network, closed_is_network};
+use lw_pool::{Latches, Name, Names};
 use lw_words::{Line, Words};
 use std::alloc::{AllocError, Global};
 
@@ -20,8 +25,10 @@ pub struct Parts {
     model: Option<Name>,
     inputs: Names,
     outputs: IndexSet<Name>,
-    // The inputs, and what nodes drive.
+    // The inputs, what latches give, and what nodes drive.
     defined: IndexSet<Name>,
+    latches: Latches,
+    arrivals: Arrivals,
     // The nodes to which no row can be added.
     nodes: DraftNodes,
     // The node whose rows may follow.
@@ -30,10 +37,9 @@ pub struct Parts {
 
 impl Parts {
     ghost use Rattle.lw_words.specs.Lines.{LogicalLine};
-    ghost use Rattle.lw_blif.specs.Drafts.{draft_of};
-    ghost use Rattle.lw_blif.specs.BlifNetworks.{ClosesTo};
+    ghost use Rattle.lw_blif.specs.BlifNetworks.{ClosesTo, IsModel};
     ghost use Rattle.lw_net.specs.Plain.{HasRisingDepths};
-    ghost use Rattle.lw_blif.specs.Keeping.{Keeps, IsOfSome, AddsRow, Defines, EndsNode, TakesNames, TakesModel, ReadsNames, names_fault};
+    ghost use Rattle.lw_blif.specs.Keeping.{Keeps, IsSaidBy, SaidFits, IsArrivalLine, ReadsArrival, arrival_fault, IsOfSome, AddsRow, Defines, EndsNode, TakesNames, TakesModel, ReadsNames, names_fault};
     ghost use Rattle.lw_blif.specs.Readers.{row_fault_of, are_fresh};
     ghost use Rattle.lw_blif.specs.LineFaults.{command, defined_for, line_fault, wants_words};
 
@@ -46,45 +52,56 @@ impl Parts {
             inputs: Names::new(alloc),
             outputs: IndexSet::new(alloc),
             defined: IndexSet::new(alloc),
+            latches: Latches::new(alloc),
+            arrivals: Arrivals::new(alloc),
             nodes: DraftNodes::new(alloc),
             node: None,
         }
     }
 
-    /// The draft of the lines that were read.
-    pub fn into_draft(self) -> Result<Draft, AllocError>
-        ensures { (lines : List LogicalLine) → Keeps self lines → IfOk result (λ draft. draft ≡ draft_of lines) }
+    /// What the lines that were read say.
+    pub fn into_said(self) -> Result<Said, AllocError>
+        ensures said { (lines : List LogicalLine) → Keeps self lines → IfOk result (IsSaidBy lines) }
+        ensures fits { IfOk result SaidFits }
     {
         let Parts {
             alloc,
             model,
             inputs,
             outputs,
+            latches,
+            arrivals,
             nodes,
             node,
             ..
         } = self;
-        let model = name_or_unnamed(alloc, model)?;
-        let outputs = names_of(alloc, &outputs)?;
+        let starts = starts_of(alloc, arrivals, &inputs, &latches)?;
         let nodes = with_last(nodes, node)?;
-        Ok(Draft {
-            model,
-            inputs,
-            outputs,
-            nodes,
+        let framed = frame_of(alloc, &inputs, outputs, latches)?;
+        let draft = draft_of(alloc, model, inputs, &framed, nodes)?;
+        Ok(Said {
+            draft,
+            frame: framed.frame,
+            starts,
         })
     }
 
-    /// The network of the lines that were read.
-    pub fn close(self) -> Result<Network, BlifFault>
+    /// The model of the lines that were read.
+    pub fn close(self) -> Result<Parsed, BlifFault>
         requires { ∥ IsOfSome self ∥₁ }
-        ensures closes { (lines : List LogicalLine) → Keeps self lines → ClosesTo (draft_of lines) result }
-        ensures depths { IfOk result HasRisingDepths }
+        ensures closes { (lines : List LogicalLine) → Keeps self lines → ClosesTo lines result }
+        ensures model { IfOk result IsModel }
+        ensures depths { IfOk result (λ model. HasRisingDepths model.network) }
     {
         let alloc = self.alloc;
-        let draft = self.into_draft()?;
-        let network = Network::close(alloc, draft)?;
-        Ok(network)
+        let said = self.into_said()?;
+        closed_is_network();
+        let network = Network::close(alloc, said.draft)?;
+        Ok(Parsed {
+            network,
+            frame: said.frame,
+            starts: said.starts,
+        })
     }
 
     /// A line with the command that it asks for, or the first rule that it breaks. Behind an error this is of no use.
@@ -106,6 +123,14 @@ impl Parts {
             Command::Unknown => Ok(Some(BlifKind::UnknownCommand)),
             Command::Unsupported => Ok(Some(BlifKind::Unsupported)),
             Command::Ignored => Ok(None),
+            Command::Arrival => {
+                let fault = self.read_arrival(Command::Arrival, words)?;
+                Ok(fault)
+            }
+            Command::DefaultArrival => {
+                let fault = self.read_arrival(Command::DefaultArrival, words)?;
+                Ok(fault)
+            }
             Command::End => unreachable!(),
             _ => {
                 let fault = self.read_names(asked, words)?;
@@ -129,6 +154,27 @@ impl Parts {
         Ok(None)
     }
 
+    // An arrival line, or the first rule that it breaks.
+    fn read_arrival(
+        &mut self,
+        command: Command,
+        words: &Words,
+    ) -> Result<Option<BlifKind>, AllocError>
+        requires arrival { IsArrivalLine command }
+        requires some { 0 < length words.now }
+        ensures fault { IfOk result (λ fault. fault ≡ arrival_fault command words.now) }
+        ensures arrival { IfOk result (λ fault. fault ≡ None → ReadsArrival self.old command words.now self.new) }
+    {
+        match start_on(command, words) {
+            Err(kind) => Ok(Some(kind)),
+            Ok(start) => {
+                self.end_node()?;
+                add_start(self.alloc, &mut self.arrivals, command, words, start)?;
+                Ok(None)
+            }
+        }
+    }
+
     // The node whose rows were to follow is whole.
     fn end_node(&mut self) -> Result<(), AllocError>
         ensures { OnOk result (EndsNode self.old self.new) }
@@ -141,13 +187,15 @@ impl Parts {
 
     // Defines the signals of a line, up to the first that is defined already. Whether all were new.
     fn define(&mut self, command: Command, words: &Words) -> Result<bool, AllocError>
-        requires { 0 < length words.now }
+        requires some { 0 < length words.now }
+        requires wanted { wants_words command words.now ≡ true }
         ensures fresh { IfOk result (λ b. b ≡ are_fresh self.old.defined.keys (defined_for command words.now)) }
         ensures defined { IfOk result (λ b. b ≡ true → Defines self.old (defined_for command words.now) self.new) }
     {
         match command {
             Command::Inputs => define_all(self.alloc, &mut self.defined, words, 1),
-            Command::Names => define_last(self.alloc, &mut self.defined, words),
+            Command::Names => define_one(self.alloc, &mut self.defined, last_word(words)),
+            Command::Latch => define_one(self.alloc, &mut self.defined, words.get(2)),
             _ => Ok(true),
         }
     }
@@ -183,6 +231,7 @@ impl Parts {
             Command::Inputs => append_all(self.alloc, &mut self.inputs, words, 1)?,
             Command::Outputs => add_all(self.alloc, &mut self.outputs, words, 1)?,
             Command::Names => self.node = Some(new_node(self.alloc, words)?),
+            Command::Latch => self.latches.push(new_latch(self.alloc, words)?)?,
             Command::Model => self.take_model(words)?,
             _ => {}
         }

@@ -5,8 +5,7 @@ ghost use Rattle.lw_blif.specs.Given.{IsKeptOfSome};
 use crate::command::command_of;
 use crate::naming::first_word;
 use crate::parts::Parts;
-use crate::{BlifFault, BlifKind, Command};
-use lw_net::Network;
+use crate::{BlifFault, BlifKind, Command, Parsed};
 use lw_words::Line;
 use std::alloc::Global;
 
@@ -58,7 +57,7 @@ pub struct Reader {
 impl Reader {
     ghost use Rattle.lw_words.specs.Lines.{LogicalLine};
     ghost use Rattle.lw_blif.specs.LineFaults.{first_fault, lines_read};
-    ghost use Rattle.lw_blif.specs.BlifNetworks.{IsBlifNetwork};
+    ghost use Rattle.lw_blif.specs.BlifNetworks.{IsBlifNetwork, IsModel};
     ghost use Rattle.lw_blif.specs.Standing.{StandsFor, Tells, Stopped, stop_of, fault_of};
     ghost use Rattle.lw_net.specs.Plain.{HasRisingDepths};
 
@@ -108,12 +107,13 @@ impl Reader {
         }
     }
 
-    /// The text ends. The answer is its network, or the first line that breaks a rule with the first rule that it breaks, or else the
+    /// The text ends. The answer is its model, or the first line that breaks a rule with the first rule that it breaks, or else the
     /// fault of the network as a whole.
-    pub fn end(self) -> Result<Network, BlifFault>
+    pub fn end(self) -> Result<Parsed, BlifFault>
         ensures answer { (lines : List LogicalLine) → StandsFor self lines → IsBlifNetwork lines result }
         ensures again { IfSome (stop_of self) (λ stop. result ≡ Err (fault_of stop)) }
-        ensures depths { IfOk result HasRisingDepths }
+        ensures model { IfOk result IsModel }
+        ensures depths { IfOk result (λ model. HasRisingDepths model.network) }
     {
         let Reader { stop, parts, .. } = self;
         if let Some(stop) = stop {

@@ -4,7 +4,7 @@ ghost use Rattle.std.specs.List.{list_all};
 ghost use Rattle.lw_blif.specs.LineFaults.{wants_words, is_name, names_for, defined_for, is_names_command, words_before_last, other_words};
 ghost use Rattle.lw_blif.specs.Readers.{names_fault_of};
 
-use crate::naming::are_names;
+use crate::naming::{are_names, is_name};
 use crate::{BlifKind, Command};
 use lw_words::Words;
 
@@ -13,23 +13,29 @@ const FANINS_MAX: usize = 256;
 // A network has at most so many inputs and nodes.
 const SIGNALS_MAX: usize = 262_144;
 
-fn wants_words(command: Command, words: &Words) -> bool
+/// Whether the line has as many words as it may have.
+pub fn wants_words(command: Command, words: &Words) -> bool
     ensures { result ≡ wants_words command words.now }
 {
     match command {
         Command::Model => words.len() == 2,
         Command::Names => words.len() >= 2,
+        Command::Latch => words.len() >= 3 && words.len() <= 6,
+        Command::Arrival => words.len() >= 4,
+        Command::DefaultArrival => words.len() >= 3,
         _ => true,
     }
 }
 
-// Whether the words in places of names are names.
-fn has_names(command: Command, words: &Words) -> bool
+/// Whether the words in places of names are names.
+pub fn has_names(command: Command, words: &Words) -> bool
     requires { 0 < length words.now }
     ensures { result ≡ list_all is_name (names_for command words.now) }
 {
     match command {
-        Command::Model | Command::Inputs | Command::Outputs | Command::Names => are_names(words, 1),
+        Command::Model | Command::Inputs | Command::Outputs | Command::Names | Command::Latch =>
+            are_names(words, 1),
+        Command::Arrival => words.len() < 2 || is_name(words.get(1)),
         _ => true,
     }
 }
@@ -52,6 +58,7 @@ fn defined_count(command: Command, words: &Words) -> usize
     match command {
         Command::Inputs => words.len() - 1,
         Command::Names => 1,
+        Command::Latch if words.len() > 2 => 1,
         _ => 0,
     }
 }

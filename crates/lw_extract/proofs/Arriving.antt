@@ -1,63 +1,43 @@
--- The nets of a cover arrive at the labels of their classes.
-use Rattle.std.proofs.Common.{ℕ, ◌*◌, ◌<◌, ◌≤◌, ◌≡◌, ◌∙◌, List, length, Option, Some, slice_get, ap, arith, mul-le-mul_right}
-use Rattle.std.specs.List.{AllByRecursion}
-use Rattle.std.proofs.lemmas.List.{length-map}
-use Rattle.std.proofs.lemmas.List.Elements.{recursion_from_All}
+-- The nets of a cover cost the labels of their classes, and arrive at them.
+use Rattle.std.proofs.Common.{ℕ, ◌≤◌, List, Option, All}
+use Rattle.lw_laws.specs.Modes.{Mode}
+use Rattle.lw_laws.specs.Networks.{Network}
+use Rattle.lw_laws.specs.Decompositions.{listing_of}
+use Rattle.lw_laws.specs.Classes.{IsGraphOf}
 use Rattle.lw_laws.specs.Graphs.{Graph}
+use Rattle.lw_laws.specs.Costs.{Cost}
 use Rattle.lw_laws.specs.Covers.{Pattern}
-use Rattle.lw_laws.specs.Laws.{AreDelaysUpTo}
-use Rattle.lw_laws.proofs.Delays.{delay_cost_is}
-use Rattle.lw_laws.proofs.ExtractLaws.{extracted_arrivals}
-use Rattle.lw_laws.proofs.LabelLaws.{labels_stay_low}
-use Rattle.lw_laws.proofs.Lists.{all_map}
-use Rattle.lw_laws.proofs.NetlistOf.{least_costs_bound}
-use Rattle.lw_genlib.specs.Cells.{CellParts, IsListed, IsLibrary, IsSmall}
-use Rattle.lw_genlib.specs.Tables.{millionths, cell_delays, delays_of_cells}
+use Rattle.lw_laws.specs.Extracts.{HaveLeafLabels}
+use Rattle.lw_laws.proofs.InputLabels.{input_label}
+use Rattle.lw_laws.proofs.ExtractLaws.{extracted_arrivals, extracted_costs}
+use Rattle.lw_fixed.specs.declared.micro.Micro.{Micro}
+use Rattle.lw_genlib.specs.Cells.{CellParts, IsLibrary, IsSmall}
+use Rattle.lw_genlib.specs.Tables.{timing_of}
 use Rattle.lw_graph.specs.Graphs.{IsGraph}
 use Rattle.lw_match.specs.declared.mark.Mark.{Mark}
 use Rattle.lw_match.specs.Least.{AreOfCells}
 use Rattle.lw_match.specs.Values.{numbers}
 use Rattle.lw_label.specs.Delays.{most_time, time_cost}
-use Rattle.lw_label.specs.Labels.{cost_in, costs_of, AreLeastMarks}
-use Rattle.lw_label.proofs.Marked.{cover_problem}
+use Rattle.lw_label.specs.Labels.{AreLeastMarks}
+use Rattle.lw_label.proofs.Low.{labels_below_cap}
+use Rattle.lw_label.proofs.Marked.{patterns_of_cells}
 use Rattle.lw_netlist.specs.Plain.{plain}
 use Rattle.lw_extract.specs.declared.ports.Ports.{Ports}
-use Rattle.lw_extract.specs.declared.ports.Cover.{Cover}
+use Rattle.lw_extract.specs.declared.ports.Cover.{Cover as Extracted}
 use Rattle.lw_extract.specs.Choosing.{labels, heights}
-use Rattle.lw_extract.specs.Covers.{most_classes, AreFit, IsCoverOf, ArriveAtLabels}
+use Rattle.lw_extract.specs.Covers.{AreFit, IsCoverOf, CostTheirLabels, ArriveAtLabels}
 
--- a million units
-abbrev most_delay : ℕ
-most_delay = 1000000 * 1000000
+-- each net of a cover costs the label of its class
+pub cost_their_labels : (g : Graph) (cost : Cost) (pats : List Pattern) (marks : List (Option Mark)) → HaveLeafLabels g cost (labels marks) → (ports : Ports) (cover : Extracted) → IsCoverOf g cost pats marks ports cover → CostTheirLabels g cost marks cover
+cost_their_labels g cost pats marks leaves ports cover is costs are =
+    extracted_costs g cost pats (labels marks) (heights marks) (numbers ports.roots) (numbers cover.classes) (plain cover.netlist) costs is.gate_classes is.extracted are leaves
 
--- no delay of a library is above a million units
-small_delays : (cells : List CellParts) → IsLibrary cells → AreDelaysUpTo most_delay (delays_of_cells cells)
-small_delays cells lib = all_map IsListed (AllByRecursion (λ d. d ≤ most_delay)) cell_delays cells each (recursion_from_All IsListed cells lib.each)
-  where
-    each : (cell : CellParts) → IsListed cell → AllByRecursion (λ d. d ≤ most_delay) (cell_delays cell)
-    each cell is = all_map IsSmall (λ d. d ≤ most_delay) millionths cell.delays (λ m lt. omega arith) (recursion_from_All IsSmall cell.delays is.delays)
+-- each net of a cover arrives at the label of its class, where the cost is the time
+pub arrive_at_labels : (g : Graph) (cells : List CellParts) (starts : List Micro) (pats : List Pattern) (marks : List (Option Mark)) (ports : Ports) (cover : Extracted) → IsGraph g → IsLibrary cells → All IsSmall starts → AreOfCells (time_cost cells starts).pin_counts pats → AreLeastMarks g (time_cost cells starts) pats marks → HaveLeafLabels g (time_cost cells starts) (labels marks) → AreFit g ports → IsCoverOf g (time_cost cells starts) pats marks ports cover → ArriveAtLabels g cells starts marks cover
+arrive_at_labels g cells starts pats marks ports cover graph lib small of_cells least leaves fit is arrivals are =
+    extracted_arrivals g pats (timing_of cells starts) most_time (labels marks) (heights marks) (numbers ports.roots) (numbers cover.classes) (plain cover.netlist) arrivals is.gate_classes is.extracted are leaves (labels_below_cap g cells starts pats marks graph lib small of_cells fit.few least)
 
-module _ (g : Graph) (cells : List CellParts) (pats : List Pattern) (marks : List (Option Mark)) (least : AreLeastMarks g (time_cost cells) pats marks) where
-  -- an input arrives at 0
-  input_label : (c i : ℕ) → slice_get g.leaves i ≡ Some c → labels marks c ≡ Some 0
-  input_label c i at =
-      let (l, e, low) = least.potential.inputs c i at in
-      let none : l ≡ 0 = omega arith in
-      e ∙ ap (λ n. Some n) none
-
-  -- classes are few and delays small, so that labels stay below the greatest time
-  labels_low : IsGraph g → IsLibrary cells → AreOfCells (time_cost cells).pin_counts pats → length g.pairs ≤ most_classes → (c l : ℕ) → labels marks c ≡ Some l → l < most_time
-  labels_low graph lib of_cells few c l e =
-      let problem = cover_problem g (time_cost cells) pats graph (delay_cost_is (delays_of_cells cells) most_time) of_cells in
-      let attained = (least_costs_bound g pats (time_cost cells) (costs_of marks) problem least.least).1 in
-      let low = labels_stay_low g pats (delays_of_cells cells) most_time (costs_of marks) most_delay problem least.potential attained (small_delays cells lib) (omega arith) c l e in
-      let size = length-map marks cost_in in
-      let one_each = least.one_each in
-      let more = mul-le-mul_right {m = length (costs_of marks)} {n = most_classes} most_delay (omega arith) in
-      omega arith
-
-  -- each net of a cover arrives at the label of its class
-  pub arrive_at_labels : (ports : Ports) (cover : Cover) → IsGraph g → IsLibrary cells → AreOfCells (time_cost cells).pin_counts pats → AreFit g ports → IsCoverOf g (time_cost cells) pats marks ports cover → ArriveAtLabels g cells marks cover
-  arrive_at_labels ports cover graph lib of_cells fit is arrivals are =
-      extracted_arrivals g pats (delays_of_cells cells) most_time (labels marks) (heights marks) (numbers ports.roots) (numbers cover.classes) (plain cover.netlist) arrivals
-      is.gate_classes is.extracted are input_label (labels_low graph lib of_cells fit.few)
+-- in the graph of a network's forms each input's class has the input's start as its label
+pub forms_have_leaf_labels : (mode : Mode) (width : ℕ) (net : Network) (g : Graph) → 2 ≤ width → IsGraphOf mode net.inputs (listing_of width net) g → (cells : List CellParts) (starts : List Micro) (pats : List Pattern) (marks : List (Option Mark)) → AreOfCells (time_cost cells starts).pin_counts pats → AreLeastMarks g (time_cost cells starts) pats marks → HaveLeafLabels g (time_cost cells starts) (labels marks)
+forms_have_leaf_labels mode width net g wide graph_is cells starts pats marks of_cells least c i at =
+    input_label mode width net g wide graph_is pats (timing_of cells starts) most_time (patterns_of_cells (time_cost cells starts).pin_counts pats of_cells) i c (labels marks c) at (least.least c)

@@ -1,4 +1,4 @@
-mod Arriving
+pub mod Arriving
 mod Descent
 mod FreeNames
 mod NamesGiven

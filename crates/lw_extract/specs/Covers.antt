@@ -2,25 +2,23 @@
 use Rattle.std.specs.Prelude.{ℕ, ◌<◌, ◌≤◌, ◌^◌, ◌≡◌, List, length, map, All, Option, Some, None, slice_get, slice_index_or}
 use Rattle.std.specs.List.{AllZip}
 use Rattle.lw_pool.specs.declared.id.ClassId.{ClassId}
+use Rattle.lw_fixed.specs.declared.micro.Micro.{Micro}
 use Rattle.lw_laws.specs.Graphs.{Graph}
 use Rattle.lw_laws.specs.Costs.{Cost}
 use Rattle.lw_laws.specs.Covers.{Pattern}
 use Rattle.lw_laws.specs.Names.{net_names}
-use Rattle.lw_laws.specs.Netlists.{AreArrivals}
+use Rattle.lw_laws.specs.Netlists.{AreArrivals, AreNetCosts}
 use Rattle.lw_laws.specs.Extracts.{AreGateClasses, IsExtracted, IsNetOf}
 use Rattle.lw_genlib.specs.Cells.{CellParts}
-use Rattle.lw_genlib.specs.Tables.{delays_of_cells}
+use Rattle.lw_genlib.specs.Tables.{timing_of}
 use Rattle.lw_match.specs.declared.mark.Mark.{Mark}
 use Rattle.lw_match.specs.Values.{numbers}
+use Rattle.lw_label.specs.Labels.{most_classes}
 use Rattle.lw_netlist.specs.declared.gate.Port.{Port}
 use Rattle.lw_netlist.specs.Plain.{plain}
 use Rattle.lw_extract.specs.declared.ports.Ports.{Ports}
 use Rattle.lw_extract.specs.declared.ports.Cover.{Cover}
 use Rattle.lw_extract.specs.Choosing.{labels, heights}
-
--- how many classes there are at most
-abbrev pub most_classes : ℕ
-most_classes = 4194304
 
 -- one name for each input of the graph, and for each output one of its classes
 pub record AreFit (g : Graph) (ports : Ports) : Type 0 where
@@ -48,7 +46,12 @@ pub record IsCoverOf (g : Graph) (cost : Cost) (pats : List Pattern) (marks : Li
   pub output_names : map (λ (port : Port). port.name) cover.netlist.outputs ≡ ports.outputs
   pub outputs : AllZip (λ (root : ClassId) (port : Port). IsNetOf g (numbers cover.classes) root.0 port.net.0) ports.roots cover.netlist.outputs
 
--- Each net arrives at the label of its class, by the delays of the cells.
-abbrev pub ArriveAtLabels : Graph → List CellParts → List (Option Mark) → Cover → Type 0
-ArriveAtLabels g cells marks cover =
-    (arrivals : List ℕ) → AreArrivals (delays_of_cells cells) (plain cover.netlist) arrivals → (c net : ℕ) → IsNetOf g (numbers cover.classes) c net → labels marks c ≡ Some (slice_index_or arrivals net 0)
+-- Each net costs the label of its class.
+abbrev pub CostTheirLabels : Graph → Cost → List (Option Mark) → Cover → Type 0
+CostTheirLabels g cost marks cover =
+    (costs : List ℕ) → AreNetCosts cost (plain cover.netlist) costs → (c net : ℕ) → IsNetOf g (numbers cover.classes) c net → labels marks c ≡ Some (slice_index_or costs net 0)
+
+-- Each net arrives at the label of its class, by the starts of the inputs and the delays of the cells.
+abbrev pub ArriveAtLabels : Graph → List CellParts → List Micro → List (Option Mark) → Cover → Type 0
+ArriveAtLabels g cells starts marks cover =
+    (arrivals : List ℕ) → AreArrivals (timing_of cells starts) (plain cover.netlist) arrivals → (c net : ℕ) → IsNetOf g (numbers cover.classes) c net → labels marks c ≡ Some (slice_index_or arrivals net 0)

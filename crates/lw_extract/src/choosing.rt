@@ -4,16 +4,13 @@ ghost use Rattle.lw_laws.specs.Extracts.{IsLeafClass};
 ghost use Rattle.lw_match.specs.Least.{AreOfCells};
 ghost use Rattle.lw_match.specs.Bounds.{BoundsFit, AreBounds};
 ghost use Rattle.lw_label.specs.Labels.{AreLeastMarks};
-ghost use Rattle.lw_label.specs.Delays.{time_cost};
 ghost use Rattle.lw_extract.specs.Choosing.{AreChosen, AreRoots, HasAlso, IsChoice};
 ghost use Rattle.lw_extract.specs.Orders.{AreByHeight};
 ghost use Rattle.lw_extract.specs.Nets.{AreInputNets};
 
 use crate::ordering::{Place, by_height};
-use lw_genlib::Library;
 use lw_graph::Graph;
-use lw_label::DelayCost;
-use lw_match::{Bounds, Mark, Match, least_within};
+use lw_match::{Bounds, Cost, Mark, Match, least_within};
 use lw_pattern::Patterns;
 use lw_pool::{ClassId, NetId};
 use std::alloc::{AllocError, Global};
@@ -64,56 +61,55 @@ fn next_after(mark: Mark) -> Mark
 }
 
 // The chosen match of a class: the first of those that attain its label and its height.
-fn choice(
+fn choice<C: Cost>(
     graph: &Graph,
     pats: &Patterns,
-    lib: &Library,
+    cost: &C,
     bounds: &Bounds,
     marks: &[Option<Mark>],
     class: ClassId,
 ) -> Option<Match>
-    requires of_cells { AreOfCells (time_cost lib.now).pin_counts pats.now }
+    requires of_cells { AreOfCells (C.costs cost.now).pin_counts pats.now }
     requires fits { BoundsFit bounds.now pats.now graph.now }
     requires bounds { AreBounds bounds.now graph.now marks.now }
-    requires least { AreLeastMarks graph.now (time_cost lib.now) pats.now marks.now }
+    requires least { AreLeastMarks graph.now (C.costs cost.now) pats.now marks.now }
     requires class { class.0 < length graph.now.pairs }
     requires no_leaf { IsLeafClass graph.now class.0 → ⊥ }
-    ensures { (mark : _) → slice_index_or marks.now class.0 None ≡ Some mark → (found : _) × (result ≡ Some found) × IsChoice graph.now (time_cost lib.now) pats.now marks.now class.0 found }
+    ensures { (mark : _) → slice_index_or marks.now class.0 None ≡ Some mark → (found : _) × (result ≡ Some found) × IsChoice graph.now (C.costs cost.now) pats.now marks.now class.0 found }
 {
     let mark = marks[class.0 as usize]?;
     let bound = Some(next_after(mark));
-    let cost = DelayCost::new(lib);
-    let best = least_within(graph, pats, bounds, marks, class, &cost, bound)?;
+    let best = least_within(graph, pats, bounds, marks, class, cost, bound)?;
     Some(best.found)
 }
 
 // The needed classes that are no input's, from the highest down, each with its chosen match. A class is lower than each whose
 // chosen match has it as a pin.
-fn choose_down(
+fn choose_down<C: Cost>(
     alloc: Global,
     graph: &Graph,
     pats: &Patterns,
-    lib: &Library,
+    cost: &C,
     bounds: &Bounds,
     marks: &[Option<Mark>],
     roots: &[ClassId],
     places: &[Place],
 ) -> Result<Vec<Chosen>, AllocError>
-    requires of_cells { AreOfCells (time_cost lib.now).pin_counts pats.now }
+    requires of_cells { AreOfCells (C.costs cost.now).pin_counts pats.now }
     requires fits { BoundsFit bounds.now pats.now graph.now }
     requires bounds { AreBounds bounds.now graph.now marks.now }
-    requires least { AreLeastMarks graph.now (time_cost lib.now) pats.now marks.now }
+    requires least { AreLeastMarks graph.now (C.costs cost.now) pats.now marks.now }
     requires roots { All (λ root. root.0 < length graph.now.pairs) roots.now }
     requires covered { All (λ root. IsSome (slice_index_or marks.now root.0 None)) roots.now }
     requires places { (nets : _) × AreInputNets graph.now nets × AreByHeight nets marks.now places.now }
-    ensures { IfOk result (λ chosen. AreChosen graph.now (time_cost lib.now) pats.now marks.now roots.now (reverse chosen.items)) }
+    ensures { IfOk result (λ chosen. AreChosen graph.now (C.costs cost.now) pats.now marks.now roots.now (reverse chosen.items)) }
 {
     let mut needed = needed_by_outputs(alloc, roots, graph.classes() as usize)?;
     let mut chosen = Vec::new(alloc);
     for place in places.iter().rev() {
         let class = place.class;
         if needed[class.0 as usize] {
-            if let Some(found) = choice(graph, pats, lib, bounds, marks, class) {
+            if let Some(found) = choice(graph, pats, cost, bounds, marks, class) {
                 need(&mut needed, found.pins.as_slice());
                 chosen.push(Chosen { class, found })?;
             }
@@ -123,26 +119,26 @@ fn choose_down(
 }
 
 // The needed classes that are no input's, by height and then class, each with its chosen match.
-pub(crate) fn choose(
+pub(crate) fn choose<C: Cost>(
     alloc: Global,
     graph: &Graph,
     pats: &Patterns,
-    lib: &Library,
+    cost: &C,
     marks: &[Option<Mark>],
     roots: &[ClassId],
     nets: &[Option<NetId>],
 ) -> Result<Vec<Chosen>, AllocError>
-    requires of_cells { AreOfCells (time_cost lib.now).pin_counts pats.now }
-    requires least { AreLeastMarks graph.now (time_cost lib.now) pats.now marks.now }
+    requires of_cells { AreOfCells (C.costs cost.now).pin_counts pats.now }
+    requires least { AreLeastMarks graph.now (C.costs cost.now) pats.now marks.now }
     requires roots { All (λ root. root.0 < length graph.now.pairs) roots.now }
     requires covered { All (λ root. IsSome (slice_index_or marks.now root.0 None)) roots.now }
     requires nets { AreInputNets graph.now nets.now }
-    ensures { IfOk result (λ chosen. AreChosen graph.now (time_cost lib.now) pats.now marks.now roots.now chosen.items) }
+    ensures { IfOk result (λ chosen. AreChosen graph.now (C.costs cost.now) pats.now marks.now roots.now chosen.items) }
 {
     let _ = graph.classes();
-    let bounds = Bounds::settled(alloc, graph, pats, marks)?;
+    let bounds = Bounds::settled(alloc, graph, pats, marks, cost)?;
     let places = by_height(alloc, nets, marks)?;
-    let mut chosen = choose_down(alloc, graph, pats, lib, &bounds, marks, roots, &places)?;
+    let mut chosen = choose_down(alloc, graph, pats, cost, &bounds, marks, roots, &places)?;
     chosen.reverse();
     Ok(chosen)
 }

@@ -1,13 +1,15 @@
-ghost use Rattle.std.specs.Prelude.{◌≡◌, ◌<◌, ◌^◌, ◌↔◌, ℕ, All, IfOk, IsSome, None, Err, length, slice_index_or, MatchOption};
+ghost use Rattle.std.specs.Prelude.{◌≡◌, ◌<◌, ◌^◌, ◌↔◌, ℕ, All, IfOk, IsSome, None, Err, length, map, slice_index_or, MatchOption};
 ghost use Rattle.lw_match.specs.Least.{AreOfCells};
 ghost use Rattle.lw_label.specs.Labels.{AreLeastMarks};
-ghost use Rattle.lw_label.specs.Delays.{time_cost};
+ghost use Rattle.lw_laws.specs.Costs.{Cost as Costs};
+ghost use Rattle.lw_laws.specs.Extracts.{HaveLeafLabels};
+ghost use Rattle.lw_genlib.specs.Tables.{delays_of_cells};
 ghost use Rattle.lw_netlist.specs.Plain.{IsOver};
 ghost use Rattle.lw_extract.specs.declared.fault.ExtractFault.TheVariants.{NoCover};
 ghost use Rattle.lw_match.specs.Values.{numbers};
-ghost use Rattle.lw_extract.specs.Choosing.{AreChosen, chosen_classes};
+ghost use Rattle.lw_extract.specs.Choosing.{AreChosen, chosen_classes, labels as labels_of};
 ghost use Rattle.lw_extract.specs.Nets.{AreClassNets};
-ghost use Rattle.lw_extract.specs.Covers.{AreFit, IsFirstUncovered, IsCoverOf, ArriveAtLabels};
+ghost use Rattle.lw_extract.specs.Covers.{AreFit, IsFirstUncovered, IsCoverOf, CostTheirLabels};
 
 use crate::choosing::{Chosen, choose};
 use crate::gates::{gates_of, outputs_of};
@@ -17,7 +19,7 @@ use crate::{Cover, ExtractFault, Ports};
 use lw_genlib::Library;
 use lw_graph::Graph;
 use lw_label::Labels;
-use lw_match::Mark;
+use lw_match::{Cost, Mark};
 use lw_netlist::Netlist;
 use lw_pattern::Patterns;
 use lw_pool::{ClassId, Classes, Name, NetId};
@@ -59,9 +61,9 @@ fn assemble(
     chosen: &[Chosen],
 ) -> Result<Cover, AllocError>
     requires fit { AreFit graph.now ports.now }
-    requires chosen { (marks : _) × (length marks ≡ length graph.now.pairs) × AreChosen graph.now (time_cost lib.now) pats.now marks ports.now.roots chosen.now }
+    requires chosen { (costs : Costs) × (marks : _) × (costs.pin_counts ≡ map length (delays_of_cells lib.now)) × (length marks ≡ length graph.now.pairs) × AreChosen graph.now costs pats.now marks ports.now.roots chosen.now }
     requires nets { AreClassNets graph.now (chosen_classes chosen.now) nets.now }
-    ensures cover { (marks : _) → AreChosen graph.now (time_cost lib.now) pats.now marks ports.now.roots chosen.now → IfOk result (IsCoverOf graph.now (time_cost lib.now) pats.now marks ports.now) }
+    ensures cover { (costs : Costs) (marks : _) → AreChosen graph.now costs pats.now marks ports.now.roots chosen.now → IfOk result (IsCoverOf graph.now costs pats.now marks ports.now) }
     ensures over { IfOk result (λ cover. IsOver lib.now cover.netlist) }
 {
     let _ = lib.len();
@@ -77,29 +79,31 @@ fn assemble(
 }
 
 // The netlist of the chosen matches.
-fn cover(
+fn cover<C: Cost>(
     alloc: Global,
     graph: &Graph,
     pats: &Patterns,
     lib: &Library,
     marks: &[Option<Mark>],
     ports: &Ports,
+    cost: &C,
 ) -> Result<Cover, AllocError>
-    requires of_cells { AreOfCells (time_cost lib.now).pin_counts pats.now }
-    requires least { AreLeastMarks graph.now (time_cost lib.now) pats.now marks.now }
+    requires cells { (C.costs cost.now).pin_counts ≡ map length (delays_of_cells lib.now) }
+    requires of_cells { AreOfCells (C.costs cost.now).pin_counts pats.now }
+    requires least { AreLeastMarks graph.now (C.costs cost.now) pats.now marks.now }
+    requires leaves { HaveLeafLabels graph.now (C.costs cost.now) (labels_of marks.now) }
     requires fit { AreFit graph.now ports.now }
     requires covered { All (λ root. IsSome (slice_index_or marks.now root.0 None)) ports.now.roots }
-    ensures cover { IfOk result (IsCoverOf graph.now (time_cost lib.now) pats.now marks.now ports.now) }
+    ensures cover { IfOk result (IsCoverOf graph.now (C.costs cost.now) pats.now marks.now ports.now) }
     ensures over { IfOk result (λ cover. IsOver lib.now cover.netlist) }
-    ensures arrivals { IfOk result (ArriveAtLabels graph.now lib.now marks.now) }
+    ensures costs { IfOk result (CostTheirLabels graph.now (C.costs cost.now) marks.now) }
 {
-    let _ = lib.len();
     let mut nets = input_nets(alloc, graph)?;
     let chosen = choose(
         alloc,
         graph,
         pats,
-        lib,
+        cost,
         marks,
         ports.roots.as_slice(),
         &nets,
@@ -109,26 +113,29 @@ fn cover(
 }
 
 /// The netlist that the labels of a graph's classes give to some outputs: a gate for each class that is needed, the chosen match of
-/// the class. Each net arrives at the label of its class. `NoCover` comes exactly where the class of an output has no label.
-pub fn extract(
+/// the class. Each net costs the label of its class. `NoCover` comes exactly where the class of an output has no label.
+pub fn extract<C: Cost>(
     alloc: Global,
     graph: &Graph,
     pats: &Patterns,
     lib: &Library,
     labels: &Labels,
     ports: &Ports,
+    cost: &C,
 ) -> Result<Cover, ExtractFault>
-    requires of_cells { AreOfCells (time_cost lib.now).pin_counts pats.now }
-    requires least { AreLeastMarks graph.now (time_cost lib.now) pats.now labels.now }
+    requires cells { (C.costs cost.now).pin_counts ≡ map length (delays_of_cells lib.now) }
+    requires of_cells { AreOfCells (C.costs cost.now).pin_counts pats.now }
+    requires least { AreLeastMarks graph.now (C.costs cost.now) pats.now labels.now }
+    requires leaves { HaveLeafLabels graph.now (C.costs cost.now) (labels_of labels.now) }
     requires fit { AreFit graph.now ports.now }
     ensures no_cover { (k : ℕ) → (result ≡ Err (NoCover k)) ↔ IsFirstUncovered labels.now ports.now.roots k }
-    ensures cover { IfOk result (IsCoverOf graph.now (time_cost lib.now) pats.now labels.now ports.now) }
+    ensures cover { IfOk result (IsCoverOf graph.now (C.costs cost.now) pats.now labels.now ports.now) }
     ensures over { IfOk result (λ cover. IsOver lib.now cover.netlist) }
-    ensures arrivals { IfOk result (ArriveAtLabels graph.now lib.now labels.now) }
+    ensures costs { IfOk result (CostTheirLabels graph.now (C.costs cost.now) labels.now) }
 {
     let marks = labels.marks();
     if let Some(output) = first_uncovered(marks, ports.roots.as_slice()) {
         return Err(ExtractFault::NoCover(output));
     }
-    Ok(cover(alloc, graph, pats, lib, marks, ports)?)
+    Ok(cover(alloc, graph, pats, lib, marks, ports, cost)?)
 }

@@ -6,6 +6,7 @@ mod extracting;
 mod fault;
 mod free_names;
 mod gates;
+mod laws;
 mod name_set;
 mod naming;
 mod nets;
@@ -15,4 +16,5 @@ mod ports;
 
 pub use extracting::extract;
 pub use fault::ExtractFault;
+pub use laws::{inputs_keep_their_starts, nets_arrive_at_their_labels};
 pub use ports::{Cover, Ports};

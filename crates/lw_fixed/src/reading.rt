@@ -1,4 +1,4 @@
-ghost use Rattle.std.specs.Prelude.{◌≡◌, ◌≤◌, ◌^◌, ◌&&◌, nat_lt, length};
+ghost use Rattle.std.specs.Prelude.{◌≡◌, ◌≤◌, ◌<◌, ◌*◌, ◌^◌, ◌&&◌, nat_lt, length, IfOk};
 ghost use Rattle.std.specs.List.{before_first, after_first, position, position_or_len};
 ghost use Rattle.lw_fixed.specs.Decimals.{decimal_of, is_negative, without_sign, is_point};
 
@@ -11,7 +11,8 @@ use crate::{DecimalFault, Micro};
 pub fn read(text: &[u8], units: u64) -> Result<Micro, DecimalFault>
     requires some { 1 ≤ units }
     requires limit { units ≤ 2 ^ 43 }
-    ensures { result ≡ decimal_of text.now units }
+    ensures value { result ≡ decimal_of text.now units }
+    ensures below { IfOk result (λ value. value.0 < units * 1000000) }
 {
     let (whole, decimals) = around_point(after_sign(text));
     if !has_digits(whole, decimals) {

@@ -29,3 +29,4 @@ mod Strokes
 mod Tables
 mod Texts
 mod Zips
+pub mod LibraryKept

@@ -111,7 +111,7 @@ names_in [] = 0
 names_in (Name name ∷ signs) = 1 + names_in signs
 names_in (Mark b ∷ signs) = names_in signs
 
--- the signs do not begin with one of these
+-- the signs begin with one of these
 abbrev pub begins_with : (Sign → Bool) → List Sign → Bool
 begins_with p [] = false
 begins_with p (sign ∷ signs) = p sign

@@ -1,6 +1,7 @@
--- The cells of a library as tables: by the number of a cell, its forms, its pins, their delays, and its truth.
+-- The cells of a library as tables: by the number of a cell, the delays of its pins, and its truth.
 use Rattle.std.specs.Prelude.{ℕ, Bool, false, List, map, Option, Some, None, slice_get}
 use Rattle.lw_fixed.specs.declared.micro.Micro.{Micro}
+use Rattle.lw_laws.specs.Covers.{Timing}
 use Rattle.lw_laws.specs.Netlists.{CellTruth}
 use Rattle.lw_genlib.specs.Cells.{CellParts, cell_value}
 
@@ -13,6 +14,10 @@ cell_delays cell = map millionths cell.delays
 
 abbrev pub delays_of_cells : List CellParts → List (List ℕ)
 delays_of_cells cells = map cell_delays cells
+
+-- the starts of inputs, and the delays of each cell's pins
+abbrev pub timing_of : List CellParts → List Micro → Timing
+timing_of cells starts = record { starts = map millionths starts; delays = delays_of_cells cells }
 
 -- the truth of a cell, at the truths of its pins
 abbrev pub truth_in : Option CellParts → List Bool → Bool

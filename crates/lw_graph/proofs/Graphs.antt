@@ -1,6 +1,6 @@
 -- What a graph's numbers are: in range, and those that it was made with.
 use Rattle.std.proofs.Common.{◌≡◌, ℕ, Bool, true, false, ◌<◌, ◌/◌, ◌%◌, ◌==◌, if◌then◌else◌, List, [], length, map, slice_index, All, sym, ap, ◌∙◌, subst, arith}
-use Rattle.std.specs.List.{slice_get}
+use Rattle.std.specs.List.{slice_get, slice_range}
 use Rattle.std.specs.Prelude.{Some, slice_index_or}
 use Rattle.std.proofs.lemmas.List.Elements.{All-get_or}
 use Rattle.std.proofs.lemmas.List.{get_or-map, length-map}
@@ -10,7 +10,9 @@ use Rattle.lw_laws.proofs.Flips.{half-flip}
 use Rattle.lw_laws.specs.Flip.{flip}
 use Rattle.lw_laws.specs.Graphs.{Graph as PlainGraph, AreRising, class_of}
 use Rattle.lw_graph.specs.declared.pair.Pair.{Pair}
-use Rattle.lw_graph.specs.Graphs.{numbers, plain_pair, plain_row, plain_graph, IsBelow, IsGraph}
+use Rattle.lw_graph.specs.Graphs.{numbers, plain_pair, plain_row, plain_graph, flat_graph, IsBelow, IsGraph}
+use Rattle.lw_graph.specs.Rows.{rows_from, start_at}
+use Rattle.lw_graph.proofs.Rows.{length-rows_from, row_at}
 
 flip_below : (n c : ℕ) → n % 2 ≡ 0 → c < n → flip c < n
 flip_below n c even lt = let h = half-flip c in omega arith
@@ -28,7 +30,7 @@ chosen_below : (n c : ℕ) (b : Bool) → n % 2 ≡ 0 → c < n → (if b then c
 chosen_below n c true even lt = lt
 chosen_below n c false even lt = flip_below n c even lt
 
-row_from : (rows : List (List Pair)) (c : ℕ) (row : List Pair) → slice_get rows c ≡ Some row → slice_index_or (map plain_row rows) c [] ≡ plain_row row
+pub row_from : (rows : List (List Pair)) (c : ℕ) (row : List Pair) → slice_get rows c ≡ Some row → slice_index_or (map plain_row rows) c [] ≡ plain_row row
 row_from rows c row at =
     get_or-map plain_row rows c row [] (slice_get_within rows c row at) ∙ ap plain_row (get_or_from_slice_get rows c row row at)
 
@@ -65,3 +67,13 @@ module _ (one : ClassId) (leaves forms : List ClassId) (rows : List (List Pair))
   pub class_within : (g : PlainGraph) (f : ℕ) (c k : ClassId) → IsGraph (plain_graph one leaves forms rows) → plain_graph one leaves forms rows ≡ g → slice_get forms (f / 2) ≡ Some c → k.0 ≡ class_of (plain_graph one leaves forms rows) f → k.0 < length g.pairs
   class_within g f c k kept is at e =
       subst (λ g. k.0 < length g.pairs) is (subst (λ n. n < length (plain_graph one leaves forms rows).pairs) (sym e) (form_within kept f c at))
+
+-- each class has an end
+pub class_count : (one : ClassId) (leaves forms : List ClassId) (ends : List ℕ) (pairs : List Pair) (g : PlainGraph) → flat_graph one leaves forms ends pairs ≡ g → length g.pairs ≡ length ends
+class_count one leaves forms ends pairs g is =
+    sym (ap (λ (h : PlainGraph). length h.pairs) is) ∙ (length-map (rows_from pairs 0 ends) plain_row ∙ length-rows_from pairs 0 ends)
+
+-- the part of the pool that is lent for a class
+pub row_there : (pairs : List Pair) (ends lent : List ℕ) (c : ℕ) (row : List Pair) → c < length ends → lent ≡ ends → row ≡ slice_range pairs (start_at 0 lent c) (slice_index lent c) → slice_get (rows_from pairs 0 ends) c ≡ Some row
+row_there pairs ends lent c row lt same e =
+    row_at pairs 0 ends c lt ∙ ap Some (sym (subst (λ es. row ≡ slice_range pairs (start_at 0 es c) (slice_index es c)) same e))

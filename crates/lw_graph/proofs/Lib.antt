@@ -1,3 +1,5 @@
 pub mod Flips
 pub mod Graphs
+pub mod Holding
+pub mod Indexing
 pub mod Rows

@@ -3,6 +3,7 @@ use Rattle.std.specs.Prelude.{ℕ, ◌<◌, ◌≡◌, ◌%◌, ◌^◌, List, [
 use Rattle.lw_pool.specs.declared.id.ClassId.{ClassId}
 use Rattle.lw_laws.specs.Graphs.{Graph as PlainGraph, Pair as PlainPair, AreRising, PairsInOneClass}
 use Rattle.lw_graph.specs.declared.pair.Pair.{Pair}
+use Rattle.lw_graph.specs.Rows.{rows_from}
 
 abbrev pub numbers : List ClassId → List ℕ
 numbers classes = map (λ (c : ClassId). c.0) classes
@@ -17,6 +18,10 @@ plain_row row = map plain_pair row
 abbrev pub plain_graph : ClassId → List ClassId → List ClassId → List (List Pair) → PlainGraph
 plain_graph one leaves forms rows =
     record { one = one.0; leaves = numbers leaves; forms = numbers forms; pairs = map plain_row rows }
+
+-- the same, where the pairs stand one class after the other and each class's end where it is said
+abbrev pub flat_graph : ClassId → List ClassId → List ClassId → List ℕ → List Pair → PlainGraph
+flat_graph one leaves forms ends pairs = plain_graph one leaves forms (rows_from pairs 0 ends)
 
 abbrev pub IsBelow : ℕ → PlainPair → Type 0
 IsBelow n p = (p.x < n) × (p.y < n)

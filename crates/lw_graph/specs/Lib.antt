@@ -1,2 +1,5 @@
 pub mod Graphs
+pub mod Index
+pub mod Kept
+pub mod Ordered
 pub mod Rows

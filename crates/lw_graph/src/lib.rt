@@ -2,9 +2,9 @@
 #![tactic(auto)]
 
 mod graph;
-mod lists;
+mod index;
 mod pair;
+mod parts;
 
 pub use graph::Graph;
-pub use lists::PairLists;
 pub use pair::Pair;

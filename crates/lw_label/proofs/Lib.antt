@@ -1,6 +1,8 @@
+pub mod CellLaws
 pub mod Climbing
 pub mod Falling
 pub mod Inputs
+pub mod Low
 pub mod Marked
 pub mod Passing
 pub mod Walking

@@ -1,12 +1,15 @@
--- Times that are cut at a greatest one.
+-- Times and starts that are cut at a greatest one.
 use Rattle.std.proofs.Common.{ℕ, zero, suc, ◌+◌, ◌<◌, ◌≡◌, min, max, List, [], ◌∷◌, length, map, take, get_or, slice_get, Some, ap, sym, ◌∙◌, arith}
 use Rattle.std.proofs.lemmas.List.{get_or-map, length-map}
 use Rattle.std.proofs.lemmas.Option.{same_Some, none-some}
-use Rattle.lw_laws.specs.Covers.{latest, delays_of, HasPins}
-use Rattle.lw_genlib.specs.Cells.{CellParts}
+use Rattle.std.specs.List.{AllByRecursion}
+use Rattle.std.specs.Prelude.{All}
+use Rattle.std.proofs.lemmas.List.Elements.{recursion_from_All}
+use Rattle.lw_laws.specs.Covers.{latest, start_of, delays_of, HasPins}
+use Rattle.lw_genlib.specs.Cells.{CellParts, IsSmall}
 use Rattle.lw_fixed.specs.declared.micro.Micro.{Micro}
 use Rattle.lw_genlib.specs.Tables.{millionths, cell_delays, delays_of_cells}
-use Rattle.lw_label.specs.Delays.{most_time}
+use Rattle.lw_label.specs.Delays.{most_time, start_at}
 
 -- one more pin
 pub latest_suc : (k : ℕ) (ds ts : List ℕ) → k < length ds → k < length ts → latest (take (suc k) ds) ts ≡ max (latest (take k ds) ts) (get_or ts k 0 + get_or ds k 0)
@@ -42,3 +45,12 @@ pub pins_at : (cells : List CellParts) (place n : ℕ) (cell : CellParts) → sl
 pins_at [] place n cell at has = absurd (none-some cell at)
 pins_at (other ∷ cells) zero n cell at has = ap (λ (c : CellParts). length c.delays) (sym (same_Some other cell at)) ∙ (sym (length-map other.delays millionths) ∙ same_Some (length (map millionths other.delays)) n has)
 pins_at (other ∷ cells) (suc place) n cell at has = pins_at cells place n cell at has
+
+start_cut_each : (starts : List Micro) (i : ℕ) → AllByRecursion IsSmall starts → start_at starts i ≡ min most_time (start_of (map millionths starts) i)
+start_cut_each [] i a = omega arith
+start_cut_each (m ∷ starts) zero (lt, a) = omega arith
+start_cut_each (m ∷ starts) (suc i) (lt, a) = start_cut_each starts i a
+
+-- a start is its own cut
+pub start_cut : (starts : List Micro) (i : ℕ) → All IsSmall starts → start_at starts i ≡ min most_time (start_of (map millionths starts) i)
+start_cut starts i small = start_cut_each starts i (recursion_from_All IsSmall starts small)

@@ -1,26 +1,31 @@
-ghost use Rattle.std.specs.Prelude.{◌≡◌, ◌+◌, min, max, map, length};
+ghost use Rattle.std.specs.Prelude.{◌≡◌, ◌<◌, ◌+◌, All, min, max, map, length};
 ghost use Rattle.lw_laws.specs.Covers.{latest};
+ghost use Rattle.lw_genlib.specs.Cells.{IsSmall};
 ghost use Rattle.lw_genlib.specs.Tables.{millionths};
-ghost use Rattle.lw_label.specs.Delays.{most_time};
+ghost use Rattle.lw_label.specs.Delays.{most_time, start_at};
 
-use lw_fixed::Micro;
+use lw_fixed::{Micro, Micros};
 use lw_genlib::Library;
 use lw_match::Cost;
 use lw_pool::CellId;
 
-/// The time of a cover, without loads, in millionths: an input arrives at 0, and a cell at the greatest of its pins' arrivals with
-/// their delays. Times are cut at 2^63 - 1.
+/// The time of a cover, without loads, in millionths: an input arrives at its start, and a cell at the greatest of its pins'
+/// arrivals with their delays. Times are cut at 2^63 - 1.
 #[derive(Drop)]
 pub struct DelayCost<'a> {
     pub lib: &'a Library,
+    pub starts: &'a Micros,
+    ghost small: { All IsSmall starts.now },
 }
 
 impl<'a> DelayCost<'a> {
-    /// The time by the delays of a library.
-    pub fn new(lib: &'a Library) -> Self
-        ensures { result.lib.now ≡ lib.now }
+    /// The time by the delays of a library, where inputs start at these times, and at 0 past the last of them.
+    pub fn new(lib: &'a Library, starts: &'a Micros) -> Self
+        requires { All IsSmall starts.now }
+        ensures lib { result.lib.now ≡ lib.now }
+        ensures starts { result.starts.now ≡ starts.now }
     {
-        DelayCost { lib }
+        DelayCost { lib, starts }
     }
 }
 
@@ -29,28 +34,39 @@ impl Cost for DelayCost<'_> {
     ghost use Rattle.lw_label.specs.Delays.{most_time, time_cost};
     ghost use Rattle.lw_laws.specs.Covers.{HasPins};
     ghost use Rattle.lw_laws.proofs.Delays.{delay_cost_is};
-    ghost use Rattle.lw_genlib.specs.Tables.{delays_of_cells};
+    ghost use Rattle.lw_genlib.specs.Tables.{timing_of};
 
     ghost CAP = { 9223372036854775807 };
 
-    ghost costs = { λ c. time_cost c.lib.now };
+    ghost costs = { λ c. time_cost c.lib.now c.starts.now };
 
     ghost cap = { λ c. refl };
 
-    ghost laws = { λ c. delay_cost_is (delays_of_cells c.lib.now) most_time };
+    ghost laws = { λ c. delay_cost_is (timing_of c.lib.now c.starts.now) most_time };
 
     fn leaf(&self, input: u32) -> u64
-        ensures { result ≡ (time_cost self.now.lib.now).leaf input }
+        ensures { result ≡ (time_cost self.now.lib.now self.now.starts.now).leaf input }
     {
-        0
+        start_of(self.starts.as_slice(), input as usize)
     }
 
     fn value(&self, cell: CellId, pins: &[u64]) -> u64
-        requires { HasPins (time_cost self.now.lib.now).pin_counts cell.0 (length pins.now) }
-        ensures { result ≡ (time_cost self.now.lib.now).value cell.0 pins.now }
+        requires { HasPins (time_cost self.now.lib.now self.now.starts.now).pin_counts cell.0 (length pins.now) }
+        ensures { result ≡ (time_cost self.now.lib.now self.now.starts.now).value cell.0 pins.now }
     {
         let delays = self.lib.cell(cell).delays();
         earlier(latest(delays, pins), MOST_TIME)
+    }
+}
+
+// When an input starts.
+fn start_of(starts: &[Micro], input: usize) -> u64
+    ensures { result ≡ start_at starts.now input }
+{
+    if input < starts.len() {
+        starts[input].0
+    } else {
+        0
     }
 }
 

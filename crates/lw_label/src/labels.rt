@@ -59,7 +59,7 @@ pub fn relabel<C: Cost>(
     let mut labels = no_marks(alloc, graph)?;
     let mut marks = no_marks(alloc, graph)?;
     let mut visits = Visits::new(alloc, graph)?;
-    let mut bounds = Bounds::new(alloc, graph, pats)?;
+    let mut bounds = Bounds::new(alloc, graph, pats, cost)?;
     mark_all(
         graph,
         pats,

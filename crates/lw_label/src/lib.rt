@@ -10,9 +10,11 @@
 mod delay;
 mod heights;
 mod labels;
+mod laws;
 mod lowering;
 mod order;
 mod visits;
 
 pub use delay::DelayCost;
 pub use labels::{Labels, relabel};
+pub use laws::{library_patterns_are_of_cells, library_times_are_low, times_stay_low};

@@ -1,16 +1,16 @@
--- The netlist that the chosen matches make is one.
-use Rattle.std.proofs.Common.{ℕ, zero, suc, ◌+◌, ◌<◌, ◌≡◌, ◌⊎◌, inl, inr, List, [], ◌∷◌, ◌++◌, length, Some, slice_get, slice_index_or, refl, ap, ap₂, sym, ◌∙◌, subst, arith}
+-- The netlist that the chosen matches make is one, and its nets cost their classes' labels.
+use Rattle.std.proofs.Common.{ℕ, zero, suc, ◌+◌, ◌<◌, ◌≡◌, ◌⊎◌, inl, inr, List, [], ◌∷◌, ◌++◌, length, Some, slice_get, slice_index_or, map, min, refl, ap, ap₂, sym, ◌∙◌, subst, arith}
 use Rattle.std.specs.List.{AllZip}
 use Rattle.lw_laws.specs.Graphs.{Graph}
 use Rattle.lw_laws.specs.Costs.{Cost}
 use Rattle.lw_laws.specs.Choices.{Labels}
-use Rattle.lw_laws.specs.Covers.{Pattern}
+use Rattle.lw_laws.specs.Covers.{Timing, Pattern, start_of, latest, delays_of}
 use Rattle.lw_laws.specs.Delays.{delay_cost}
-use Rattle.lw_laws.specs.Netlists.{Gate, Netlist, AreOrdered, AreArrivals}
+use Rattle.lw_laws.specs.Netlists.{Gate, Netlist, AreOrdered, AreArrivals, AreNetCosts}
 use Rattle.lw_laws.specs.Mapped.{IsMapped}
-use Rattle.lw_laws.specs.Extracts.{Match, IsChosen, IsGateBefore, AreGateClasses, IsNetOf, IsExtracted, class_at, AreDistinctLeaves}
-use Rattle.lw_laws.proofs.Extracts.{slice_get_append, IsChosen_once, extracted_ordered, extracted_mapped, net_arrival}
-use Rattle.lw_laws.proofs.Mapping.{list_arrivals}
+use Rattle.lw_laws.specs.Extracts.{Match, IsChosen, IsGateBefore, AreGateClasses, IsNetOf, IsExtracted, class_at, AreDistinctLeaves, HaveLeafLabels}
+use Rattle.lw_laws.proofs.Extracts.{slice_get_append, IsChosen_once, extracted_ordered, extracted_mapped, net_cost}
+use Rattle.lw_laws.proofs.Delays.{latest-cut}
 use Rattle.lw_laws.proofs.Lists.{slice_get_in, slice_get_some}
 
 not_both : (heights : ℕ → ℕ) (c d : ℕ) → IsGateBefore heights c d → IsGateBefore heights d c → ⊥
@@ -72,7 +72,7 @@ module _ (g : Graph) (cost : Cost) (pats : List Pattern) (labels : Labels) (heig
     pub ordered_and_mapped : (n : Netlist) → IsExtracted g cost pats labels heights gates n → AreOrdered n × IsMapped g cost.pin_counts pats n (class_at g gates)
     ordered_and_mapped n is = (extracted_ordered g cost pats labels heights gates n classes.sorted is, extracted_mapped g cost pats labels heights gates n classes.sorted is)
 
-    gate_once : (i j c : ℕ) → slice_get gates i ≡ Some c → slice_get gates j ≡ Some c → i ≡ j
+    pub gate_once : (i j c : ℕ) → slice_get gates i ≡ Some c → slice_get gates j ≡ Some c → i ≡ j
     gate_once i j c e f = by_order (eq_or i j)
       where
         eq_or : (i j : ℕ) → (i ≡ j) ⊎ ((i < j) ⊎ (j < i))
@@ -141,10 +141,9 @@ module _ (g : Graph) (cost : Cost) (pats : List Pattern) (labels : Labels) (heig
             some_same : (p q : Pattern) → Some p ≡ Some q → p ≡ q
             some_same p q e = cc
 
--- the arrival of each net is the label of its class
-pub extracted_arrivals : (g : Graph) (pats : List Pattern) (delays : List (List ℕ)) (cap : ℕ) (labels : Labels) (heights : ℕ → ℕ) (roots gates : List ℕ) (n : Netlist) (arrivals : List ℕ) → AreGateClasses g (delay_cost delays cap) pats labels heights roots gates → IsExtracted g (delay_cost delays cap) pats labels heights gates n → AreArrivals delays n arrivals → ((c i : ℕ) → slice_get g.leaves i ≡ Some c → labels c ≡ Some 0) → ((c l : ℕ) → labels c ≡ Some l → l < cap) → (c net : ℕ) → IsNetOf g gates c net → labels c ≡ Some (slice_index_or arrivals net 0)
-extracted_arrivals g pats delays cap labels heights roots gates n arrivals classes is are leaf low c net at =
-    net_arrival g delays cap pats labels heights gates n classes.sorted is (λ p. slice_index_or arrivals p 0) (list_arrivals delays n arrivals are) leaf low c net at in_range
+-- the cost of each net is the label of its class
+pub extracted_costs : (g : Graph) (cost : Cost) (pats : List Pattern) (labels : Labels) (heights : ℕ → ℕ) (roots gates : List ℕ) (n : Netlist) (costs : List ℕ) → AreGateClasses g cost pats labels heights roots gates → IsExtracted g cost pats labels heights gates n → AreNetCosts cost n costs → HaveLeafLabels g cost labels → (c net : ℕ) → IsNetOf g gates c net → labels c ≡ Some (slice_index_or costs net 0)
+extracted_costs g cost pats labels heights roots gates n costs classes is are leaf c net at = net_cost g cost pats labels heights gates n classes.sorted is costs are leaf c net at in_range
   where
     in_range : net < n.inputs + length n.gates
     in_range =
@@ -157,3 +156,41 @@ extracted_arrivals g pats delays cap labels heights roots gates n arrivals class
         length_both : (xs ys : List ℕ) → length (xs ++ ys) ≡ length xs + length ys
         length_both [] ys = omega arith
         length_both (x ∷ xs) ys = let ih = length_both xs ys in omega arith
+
+index_cut : (cap : ℕ) (xs : List ℕ) (k : ℕ) → slice_index_or (map (min cap) xs) k 0 ≡ min cap (slice_index_or xs k 0)
+index_cut cap [] k = omega arith
+index_cut cap (x ∷ xs) zero = refl
+index_cut cap (x ∷ xs) (suc k) = index_cut cap xs k
+
+indexes_cut : (cap : ℕ) (xs nets : List ℕ) → map (λ p. slice_index_or (map (min cap) xs) p 0) nets ≡ map (min cap) (map (λ p. slice_index_or xs p 0) nets)
+indexes_cut cap xs [] = refl
+indexes_cut cap xs (net ∷ nets) = ap₂ (λ y ys. y ∷ ys) (index_cut cap xs net) (indexes_cut cap xs nets)
+
+length_cut : (cap : ℕ) (xs : List ℕ) → length (map (min cap) xs) ≡ length xs
+length_cut cap [] = refl
+length_cut cap (x ∷ xs) = ap suc (length_cut cap xs)
+
+get_cut : (cap : ℕ) (xs : List ℕ) (k x : ℕ) → slice_get xs k ≡ Some x → slice_get (map (min cap) xs) k ≡ Some (min cap x)
+get_cut cap [] k x e = cc
+get_cut cap (y ∷ xs) zero x e = let same : y ≡ x = cc in ap (λ z. Some (min cap z)) same
+get_cut cap (y ∷ xs) (suc k) x e = get_cut cap xs k x e
+
+-- the costs of nets under the delay cost are their arrivals, cut at the cap
+pub cut_arrivals : (timing : Timing) (cap : ℕ) (n : Netlist) (arrivals : List ℕ) → AreArrivals timing n arrivals → AreNetCosts (delay_cost timing cap) n (map (min cap) arrivals)
+cut_arrivals timing cap n arrivals are = record {
+  one_each = length_cut cap arrivals ∙ are.one_each;
+  inputs = λ i lt. get_cut cap arrivals i (start_of timing.starts i) (are.inputs i lt);
+  gates = λ j gt at.
+      let ts = map (λ p. slice_index_or arrivals p 0) gt.pins in
+      let cut = latest-cut cap (delays_of timing.delays gt.cell) ts in
+      get_cut cap arrivals (n.inputs + j) (latest (delays_of timing.delays gt.cell) ts) (are.gates j gt at)
+      ∙ ap Some (sym cut ∙ ap (λ us. min cap (latest (delays_of timing.delays gt.cell) us)) (sym (indexes_cut cap arrivals gt.pins)));
+}
+
+-- the arrival of each net is the label of its class, where no label reaches the cap
+pub extracted_arrivals : (g : Graph) (pats : List Pattern) (timing : Timing) (cap : ℕ) (labels : Labels) (heights : ℕ → ℕ) (roots gates : List ℕ) (n : Netlist) (arrivals : List ℕ) → AreGateClasses g (delay_cost timing cap) pats labels heights roots gates → IsExtracted g (delay_cost timing cap) pats labels heights gates n → AreArrivals timing n arrivals → HaveLeafLabels g (delay_cost timing cap) labels → ((c l : ℕ) → labels c ≡ Some l → l < cap) → (c net : ℕ) → IsNetOf g gates c net → labels c ≡ Some (slice_index_or arrivals net 0)
+extracted_arrivals g pats timing cap labels heights roots gates n arrivals classes is are leaf low c net at =
+    let cut = extracted_costs g (delay_cost timing cap) pats labels heights roots gates n (map (min cap) arrivals) classes is (cut_arrivals timing cap n arrivals are) leaf c net at ∙ ap Some (index_cut cap arrivals net) in
+    let room = low c (min cap (slice_index_or arrivals net 0)) cut in
+    let same : min cap (slice_index_or arrivals net 0) ≡ slice_index_or arrivals net 0 = omega arith in
+    cut ∙ ap Some same

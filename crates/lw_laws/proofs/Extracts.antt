@@ -1,15 +1,14 @@
 -- The netlist of chosen matches is ordered and mapped.
-use Rattle.std.proofs.Common.{ℕ, zero, suc, ◌+◌, ◌<◌, ◌≤◌, ◌≡◌, ◌⊎◌, inl, inr, List, [], ◌∷◌, length, map, Some, slice_get, Contains, refl, ap, ap₂, sym, ◌∙◌, subst, arith, min, ◌++◌, zero-add, suc-add}
+use Rattle.std.proofs.Common.{ℕ, zero, suc, ◌+◌, ◌<◌, ◌≤◌, ◌≡◌, ◌⊎◌, inl, inr, List, [], ◌∷◌, length, map, Some, slice_get, Contains, refl, ap, ap₂, sym, ◌∙◌, subst, arith, ◌++◌, zero-add, suc-add}
 use Rattle.std.specs.List.{AllByRecursion, AllZip, slice_index_or}
 use native.Mathlib.Decide.{dec_lt}
 use Rattle.lw_laws.specs.Graphs.{Graph}
 use Rattle.lw_laws.specs.Costs.{Cost}
 use Rattle.lw_laws.specs.Choices.{Labels, HaveLabels}
-use Rattle.lw_laws.specs.Covers.{Pattern, latest, delays_of}
-use Rattle.lw_laws.specs.Delays.{delay_cost}
-use Rattle.lw_laws.specs.Netlists.{Gate, Netlist, IsGate, AreOrdered}
-use Rattle.lw_laws.specs.Extracts.{Match, IsListAtMost, IsMatchAtMost, IsChosen, IsGateBefore, net_classes, IsNetOf, IsExtracted}
-use Rattle.lw_laws.specs.Mapped.{IsMapped, AreNetArrivals}
+use Rattle.lw_laws.specs.Covers.{Pattern}
+use Rattle.lw_laws.specs.Netlists.{Gate, Netlist, IsGate, AreOrdered, AreNetCosts}
+use Rattle.lw_laws.specs.Extracts.{Match, IsListAtMost, IsMatchAtMost, IsChosen, IsGateBefore, net_classes, IsNetOf, IsExtracted, HaveLeafLabels}
+use Rattle.lw_laws.specs.Mapped.{IsMapped}
 use Rattle.lw_laws.proofs.Lists.{slice_get_in, slice_get_some}
 
 pub slice_get_append : (xs ys : List ℕ) (k c : ℕ) → slice_get (xs ++ ys) k ≡ Some c → (k < length xs) ⊎ ((i : ℕ) × (slice_get ys i ≡ Some c) × (k ≡ length xs + i))
@@ -21,12 +20,12 @@ slice_get_append (x ∷ xs) ys (suc k) c e = by_case (slice_get_append xs ys k c
     by_case (inl lt) = inl (omega arith)
     by_case (inr (i, f, s)) = inr (i, f, omega arith)
 
-slice_get_left : (xs ys : List ℕ) (k c : ℕ) → slice_get xs k ≡ Some c → slice_get (xs ++ ys) k ≡ Some c
+pub slice_get_left : (xs ys : List ℕ) (k c : ℕ) → slice_get xs k ≡ Some c → slice_get (xs ++ ys) k ≡ Some c
 slice_get_left [] ys k c e = cc
 slice_get_left (x ∷ xs) ys zero c e = e
 slice_get_left (x ∷ xs) ys (suc k) c e = slice_get_left xs ys k c e
 
-slice_get_right : (xs ys : List ℕ) (j c : ℕ) → slice_get ys j ≡ Some c → slice_get (xs ++ ys) (length xs + j) ≡ Some c
+pub slice_get_right : (xs ys : List ℕ) (j c : ℕ) → slice_get ys j ≡ Some c → slice_get (xs ++ ys) (length xs + j) ≡ Some c
 slice_get_right [] ys j c e = rw zero-add e
 slice_get_right (x ∷ xs) ys j c e = rw suc-add (slice_get_right xs ys j c e)
 
@@ -136,55 +135,52 @@ module _ (g : Graph) (cost : Cost) (pats : List Pattern) (labels : Labels) (heig
           };
     }
 
--- the arrival of each net is the label of its class, where no label reaches the cap
-module _ (g : Graph) (delays : List (List ℕ)) (cap : ℕ) (pats : List Pattern) (labels : Labels) (heights : ℕ → ℕ) (gates : List ℕ) (n : Netlist) (sorted : (i j c d : ℕ) → slice_get gates i ≡ Some c → slice_get gates j ≡ Some d → i < j → IsGateBefore heights c d) (is : IsExtracted g (delay_cost delays cap) pats labels heights gates n) (arrivals : ℕ → ℕ) (are : AreNetArrivals delays n arrivals) (leaf_labels : (c i : ℕ) → slice_get g.leaves i ≡ Some c → labels c ≡ Some 0) (low : (c l : ℕ) → labels c ≡ Some l → l < cap) where
-  pin_arrivals : (qs nets ls : List ℕ) (m : ℕ) → AllZip (λ q net. IsNetOf g gates q net) qs nets → HaveLabels labels qs ls → AllByRecursion (λ p. p < m) nets → ((q net : ℕ) → IsNetOf g gates q net → net < m → labels q ≡ Some (arrivals net)) → ls ≡ map arrivals nets
-  pin_arrivals [] [] [] m z es a f = refl
-  pin_arrivals [] [] (l ∷ ls) m z es a f = absurd es
-  pin_arrivals [] (net ∷ nets) ls m z es a f = absurd z
-  pin_arrivals (q ∷ qs) [] ls m z es a f = absurd z
-  pin_arrivals (q ∷ qs) (net ∷ nets) [] m z es a f = absurd es
-  pin_arrivals (q ∷ qs) (net ∷ nets) (l ∷ ls) m (is_net, z) (e, es) (lt, a) f =
+-- the cost of each net is the label of its class
+module _ (g : Graph) (cost : Cost) (pats : List Pattern) (labels : Labels) (heights : ℕ → ℕ) (gates : List ℕ) (n : Netlist) (sorted : (i j c d : ℕ) → slice_get gates i ≡ Some c → slice_get gates j ≡ Some d → i < j → IsGateBefore heights c d) (is : IsExtracted g cost pats labels heights gates n) (costs : List ℕ) (are : AreNetCosts cost n costs) (leaf_labels : HaveLeafLabels g cost labels) where
+  pin_costs : (qs nets ls : List ℕ) (m : ℕ) → AllZip (λ q net. IsNetOf g gates q net) qs nets → HaveLabels labels qs ls → AllByRecursion (λ p. p < m) nets → ((q net : ℕ) → IsNetOf g gates q net → net < m → labels q ≡ Some (slice_index_or costs net 0)) → ls ≡ map (λ p. slice_index_or costs p 0) nets
+  pin_costs [] [] [] m z es a f = refl
+  pin_costs [] [] (l ∷ ls) m z es a f = absurd es
+  pin_costs [] (net ∷ nets) ls m z es a f = absurd z
+  pin_costs (q ∷ qs) [] ls m z es a f = absurd z
+  pin_costs (q ∷ qs) (net ∷ nets) [] m z es a f = absurd es
+  pin_costs (q ∷ qs) (net ∷ nets) (l ∷ ls) m (is_net, z) (e, es) (lt, a) f =
       let h = f q net is_net lt in
-      let s : l ≡ arrivals net = cc in
-      ap₂ (λ x xs. x ∷ xs) s (pin_arrivals qs nets ls m z es a f)
+      let s : l ≡ slice_index_or costs net 0 = cc in
+      ap₂ (λ x xs. x ∷ xs) s (pin_costs qs nets ls m z es a f)
 
-  gate_arrival : (j : ℕ) (gt : Gate) (c q : ℕ) → IsGate n j gt → slice_get gates j ≡ Some q → q ≡ c → ((q net : ℕ) → IsNetOf g gates q net → net < n.inputs + j → labels q ≡ Some (arrivals net)) → labels c ≡ Some (arrivals (n.inputs + j))
-  gate_arrival j gt c q at here same f =
+  gate_cost : (j : ℕ) (gt : Gate) (c q : ℕ) → IsGate n j gt → slice_get gates j ≡ Some q → q ≡ c → ((q net : ℕ) → IsNetOf g gates q net → net < n.inputs + j → labels q ≡ Some (slice_index_or costs net 0)) → labels c ≡ Some (slice_index_or costs (n.inputs + j) 0)
+  gate_cost j gt c q at here same f =
       let (d, m, p, e, chosen, cell, nets) = is.chosen j gt at in
       let s = chosen.supports in
-      let before = extracted_ordered g (delay_cost delays cap) pats labels heights gates n sorted is j gt at in
-      let ls = pin_arrivals m.pins gt.pins s.pin_labels (n.inputs + j) nets s.have before f in
-      let t = latest (delays_of delays p.cell) s.pin_labels in
-      let room = low d (min cap t) s.value in
-      let v : min cap t ≡ t = omega arith in
+      let before = extracted_ordered g cost pats labels heights gates n sorted is j gt at in
+      let ls = pin_costs m.pins gt.pins s.pin_labels (n.inputs + j) nets s.have before f in
       let u : d ≡ c = cc in
-      let a : arrivals (n.inputs + j) ≡ t = are.gates j gt at ∙ ap₂ (λ k ts. latest (delays_of delays k) ts) cell (sym ls) in
-      ap labels (sym u) ∙ (s.value ∙ ap Some (v ∙ sym a))
+      let a : slice_index_or costs (n.inputs + j) 0 ≡ cost.value gt.cell (map (λ p. slice_index_or costs p 0) gt.pins) = slice_get_index costs (n.inputs + j) _ (are.gates j gt at) in
+      ap labels (sym u) ∙ (s.value ∙ ap Some (ap₂ cost.value (sym cell) ls ∙ sym a))
 
-  input_arrival : (q net : ℕ) → net < length g.leaves → IsNetOf g gates q net → labels q ≡ Some (arrivals net)
-  input_arrival q net l is_net =
+  input_cost : (q net : ℕ) → net < length g.leaves → IsNetOf g gates q net → labels q ≡ Some (slice_index_or costs net 0)
+  input_cost q net l is_net =
       let (c, e) = slice_get_some g.leaves net l in
       let f = slice_get_left g.leaves gates net c e in
       let k = leaf_labels c net e in
       let lt : net < n.inputs = subst (λ k. net < k) (sym is.inputs) l in
-      let z = are.inputs net lt in
+      let z = slice_get_index costs net (cost.leaf net) (are.inputs net lt) in
       let s : c ≡ q = cc in
       ap labels (sym s) ∙ (k ∙ ap Some (sym z))
 
-  net_arrival_below : (m q net : ℕ) → net < m → IsNetOf g gates q net → net < n.inputs + length n.gates → labels q ≡ Some (arrivals net)
-  net_arrival_below zero q net lt is_net in' = absurd (omega arith)
-  net_arrival_below (suc m) q net lt is_net in' = by_case (net_arrival_below m) (slice_get_append g.leaves gates net q is_net)
+  net_cost_below : (m q net : ℕ) → net < m → IsNetOf g gates q net → net < n.inputs + length n.gates → labels q ≡ Some (slice_index_or costs net 0)
+  net_cost_below zero q net lt is_net in' = absurd (omega arith)
+  net_cost_below (suc m) q net lt is_net in' = by_case (net_cost_below m) (slice_get_append g.leaves gates net q is_net)
     where
-      by_case : ((r k : ℕ) → k < m → IsNetOf g gates r k → k < n.inputs + length n.gates → labels r ≡ Some (arrivals k)) → (net < length g.leaves) ⊎ ((i : ℕ) × (slice_get gates i ≡ Some q) × (net ≡ length g.leaves + i)) → labels q ≡ Some (arrivals net)
-      by_case below (inl l) = input_arrival q net l is_net
+      by_case : ((r k : ℕ) → k < m → IsNetOf g gates r k → k < n.inputs + length n.gates → labels r ≡ Some (slice_index_or costs k 0)) → (net < length g.leaves) ⊎ ((i : ℕ) × (slice_get gates i ≡ Some q) × (net ≡ length g.leaves + i)) → labels q ≡ Some (slice_index_or costs net 0)
+      by_case below (inl l) = input_cost q net l is_net
       by_case below (inr (j, e, s)) =
           let t = is.inputs in
           let (gt, at) = slice_get_some n.gates j (omega arith) in
-          let h = gate_arrival j gt q q at e refl (λ r k is_k l. below r k (omega arith) is_k (omega arith)) in
+          let h = gate_cost j gt q q at e refl (λ r k is_k l. below r k (omega arith) is_k (omega arith)) in
           let u : n.inputs + j ≡ net = omega arith in
-          subst (λ k. labels q ≡ Some (arrivals k)) u h
+          subst (λ k. labels q ≡ Some (slice_index_or costs k 0)) u h
 
-  -- the arrival of a net is the label of its class
-  pub net_arrival : (q net : ℕ) → IsNetOf g gates q net → net < n.inputs + length n.gates → labels q ≡ Some (arrivals net)
-  net_arrival q net is_net in' = net_arrival_below (suc net) q net (omega arith) is_net in'
+  -- the cost of a net is the label of its class
+  pub net_cost : (q net : ℕ) → IsNetOf g gates q net → net < n.inputs + length n.gates → labels q ≡ Some (slice_index_or costs net 0)
+  net_cost q net is_net in' = net_cost_below (suc net) q net (omega arith) is_net in'

@@ -8,7 +8,7 @@ use Rattle.lw_laws.specs.Forms.Form.{var_form, not_form}
 use Rattle.lw_laws.specs.Decompositions.{listing_of, Occurs, HasTree}
 use Rattle.lw_laws.specs.Decompositions.AreParts.{parts_none, parts_left, parts_right}
 use Rattle.lw_laws.specs.Decompositions.HasTree.{input_law, split_law, tied_inverter_law}
-use Rattle.lw_laws.specs.Covers.{Pattern, Cover, Covers, IsCover, AreCovers, HasPins, tree_of, trees_of, time_of}
+use Rattle.lw_laws.specs.Covers.{Timing, Pattern, Cover, Covers, IsCover, AreCovers, HasPins, tree_of, trees_of, time_of}
 use Rattle.lw_laws.specs.Covers.Cover.{wire, gate}
 use Rattle.lw_laws.specs.Covers.Covers.{no_covers, cover}
 use Rattle.lw_laws.specs.Expressions.{Expr}
@@ -42,8 +42,8 @@ cap = 9223372036854775807
 abbrev cells : List (List Expr)
 cells = (expr_not (expr_and (exprs (expr_pin 0 ∷ expr_pin 1 ∷ []))) ∷ []) ∷ []
 
-abbrev delays : List (List ℕ)
-delays = (1500000 ∷ 1500000 ∷ []) ∷ []
+abbrev timing : Timing
+timing = record { starts = []; delays = (1500000 ∷ 1500000 ∷ []) ∷ [] }
 
 abbrev nand_2 : Pattern
 nand_2 = record { cell = 0; tree = nand (leaf 0) (leaf 1) }
@@ -61,23 +61,23 @@ record IsNandOver (k : Cover) : Type 0 where
   left : Cover
   right : Cover
   is : k ≡ by_nand left right
-  left_is : IsCover (map length delays) (patterns_of cells) left
-  right_is : IsCover (map length delays) (patterns_of cells) right
+  left_is : IsCover (map length timing.delays) (patterns_of cells) left
+  right_is : IsCover (map length timing.delays) (patterns_of cells) right
 
-gate_is : (p : Pattern) (ks : Covers) → IsCover (map length delays) (patterns_of cells) (gate p ks) → IsNandOver (gate p ks)
+gate_is : (p : Pattern) (ks : Covers) → IsCover (map length timing.delays) (patterns_of cells) (gate p ks) → IsNandOver (gate p ks)
 gate_is p ks (listed, pins, covers) = by_pattern p (only_nand p listed) ks pins covers
   where
-    by_pins : (ks : Covers) → HasPins (map length delays) 0 (length (trees_of ks)) → AreCovers (map length delays) (patterns_of cells) ks → IsNandOver (gate nand_2 ks)
+    by_pins : (ks : Covers) → HasPins (map length timing.delays) 0 (length (trees_of ks)) → AreCovers (map length timing.delays) (patterns_of cells) ks → IsNandOver (gate nand_2 ks)
     by_pins no_covers pins covers = cc
     by_pins (cover k no_covers) pins covers = cc
     by_pins (cover k (cover j no_covers)) pins (a, (b, rest)) = record { left = k; right = j; is = refl; left_is = a; right_is = b }
     by_pins (cover k (cover j (cover i rest))) pins covers = cc
 
-    by_pattern : (p : Pattern) → p ≡ nand_2 → (ks : Covers) → HasPins (map length delays) p.cell (length (trees_of ks)) → AreCovers (map length delays) (patterns_of cells) ks → IsNandOver (gate p ks)
-    by_pattern p s ks pins covers = subst (λ q. IsNandOver (gate q ks)) (sym s) (by_pins ks (subst (λ q. HasPins (map length delays) q.cell (length (trees_of ks))) s pins) covers)
+    by_pattern : (p : Pattern) → p ≡ nand_2 → (ks : Covers) → HasPins (map length timing.delays) p.cell (length (trees_of ks)) → AreCovers (map length timing.delays) (patterns_of cells) ks → IsNandOver (gate p ks)
+    by_pattern p s ks pins covers = subst (λ q. IsNandOver (gate q ks)) (sym s) (by_pins ks (subst (λ q. HasPins (map length timing.delays) q.cell (length (trees_of ks))) s pins) covers)
 
-slow_gate : (p : Pattern) (ks : Covers) → IsCover (map length delays) (patterns_of cells) (gate p ks) → 1500000 ≤ time_of delays (gate p ks)
-slow_gate p ks is = let g = gate_is p ks is in subst (λ k. 1500000 ≤ time_of delays k) (sym g.is) (omega arith)
+slow_gate : (p : Pattern) (ks : Covers) → IsCover (map length timing.delays) (patterns_of cells) (gate p ks) → 1500000 ≤ time_of timing (gate p ks)
+slow_gate p ks is = let g = gate_is p ks is in subst (λ k. 1500000 ≤ time_of timing k) (sym g.is) (omega arith)
 
 -- the inverter of an input
 abbrev not_a : Network
@@ -91,13 +91,13 @@ value_of : (net : Network) (f : Form) (t : Tree) → Occurs (listing_of 6 net) f
 value_of net f t occ has x = trees_have_value net.inputs (listing_of 6 net) (occurring_is_listing 6 (lit≤ tt) net) x (signals_agree x 6 net) idempotent f t occ has
 
 -- a nand2 with tied pins inverts: it arrives at 1.5
-pub tied_nand_inverts : HasLeastArrival idempotent 6 not_a (patterns_of cells) delays 1 1500000
+pub tied_nand_inverts : HasLeastArrival idempotent 6 not_a (patterns_of cells) timing 1 1500000
 tied_nand_inverts = record {
   attained = (by_nand (wire 0) (wire 0), ((0, lit< tt, refl), refl, (tt, (tt, tt))), tied_inverter_law {f = not_a_form} refl (1, refl) input_law input_law, refl);
   least = least;
 }
   where
-    least : (k : Cover) → IsCover (map length delays) (patterns_of cells) k → HasTree idempotent (listing_of 6 not_a) not_a_form (tree_of k) → 1500000 ≤ time_of delays k
+    least : (k : Cover) → IsCover (map length timing.delays) (patterns_of cells) k → HasTree idempotent (listing_of 6 not_a) not_a_form (tree_of k) → 1500000 ≤ time_of timing k
     least (wire i) is has = let v = value_of not_a not_a_form (leaf i) (1, refl) has (λ j. true) in cc
     least (gate p ks) is has = slow_gate p ks is
 
@@ -140,12 +140,12 @@ written_i = record { form_count = refl; leaf_count = refl; numbered = inl (refl,
 abbrev labels_i : List (Option ℕ)
 labels_i = None ∷ None ∷ Some 0 ∷ Some 1500000 ∷ Some 0 ∷ Some 1500000 ∷ Some 3000000 ∷ Some 1500000 ∷ []
 
-bounded_i : PassesLabelTests labels_i graph_i (patterns_of cells) (delay_cost delays cap)
+bounded_i : PassesLabelTests labels_i graph_i (patterns_of cells) (delay_cost timing cap)
 unfolding Rattle.lw_laws.specs.Flip.flip
 bounded_i = record { even = 4; count = refl; listed = lit≤ tt; one = lit< tt; matches = refl; leaves = refl }
 
-labelled_i : IsLabelledOver idempotent 6 and_2 graph_i (patterns_of cells) delays cap labels_i
-labelled_i = tested idempotent 6 (lit≤ tt) and_2 graph_i [] encoded_i (patterns_of cells) delays cap labels_i bounded_i refl (lit< tt)
+labelled_i : IsLabelledOver idempotent 6 and_2 graph_i (patterns_of cells) timing cap labels_i
+labelled_i = tested idempotent 6 (lit≤ tt) and_2 graph_i [] encoded_i (patterns_of cells) timing cap labels_i bounded_i refl (lit< tt)
 
 pub and_2_graph : IsGraphOf idempotent 2 (listing_of 6 and_2) graph_i
 and_2_graph = encoding_is_graph idempotent 6 and_2 graph_i (lit≤ tt) labelled_i.encodes written_i
@@ -154,10 +154,10 @@ nand_tree : HasTree idempotent (listing_of 6 and_2) (not_form and_form_2) (nand 
 nand_tree = split_law {ls = var_form 0 ∷ []} {rs = var_form 1 ∷ []} (3, refl) (parts_left (parts_right parts_none)) (lit≤ tt) (lit≤ tt) input_law input_law
 
 -- two nand2 make an And, which arrives at 3
-pub tied_nand_ands : HasLeastArrival idempotent 6 and_2 (patterns_of cells) delays 2 3000000
+pub tied_nand_ands : HasLeastArrival idempotent 6 and_2 (patterns_of cells) timing 2 3000000
 unfolding Rattle.lw_laws.specs.Flip.flip
 tied_nand_ands =
-    labelled_least idempotent 6 and_2 graph_i (patterns_of cells) delays cap labels_i labelled_i 2 3000000 (lit< tt) refl (by_nand (by_nand (wire 0) (wire 1)) (by_nand (wire 0) (wire 1)))
+    labelled_least idempotent 6 and_2 graph_i (patterns_of cells) timing cap labels_i labelled_i 2 3000000 (lit< tt) refl (by_nand (by_nand (wire 0) (wire 1)) (by_nand (wire 0) (wire 1)))
     ((0, lit< tt, refl), refl, (((0, lit< tt, refl), refl, (tt, (tt, tt))), (((0, lit< tt, refl), refl, (tt, (tt, tt))), tt))) (tied_inverter_law {f = and_form_2} refl (3, refl) nand_tree nand_tree) refl
 
 -- without the further laws it has no cover
@@ -171,11 +171,11 @@ encoded_2 : PassesTests plain (forms_of 6 and_2) graph_2 []
 unfolding Rattle.lw_laws.specs.Flip.flip
 encoded_2 = record { facts = refl; rows = refl; once = refl; bases = refl; tops = refl; leaves = refl; links = refl; apart = refl; merges = tt }
 
-bounded_2 : PassesLabelTests labels_2 graph_2 (patterns_of cells) (delay_cost delays cap)
+bounded_2 : PassesLabelTests labels_2 graph_2 (patterns_of cells) (delay_cost timing cap)
 unfolding Rattle.lw_laws.specs.Flip.flip
 bounded_2 = record { even = 4; count = refl; listed = lit≤ tt; one = lit< tt; matches = refl; leaves = refl }
 
-pub plain_nand_does_not : HasNoCover plain 6 and_2 (patterns_of cells) delays 2
+pub plain_nand_does_not : HasNoCover plain 6 and_2 (patterns_of cells) timing 2
 unfolding Rattle.lw_laws.specs.Flip.flip
 plain_nand_does_not =
-    unlabelled_root plain 6 and_2 graph_2 (patterns_of cells) delays cap labels_2 (tested plain 6 (lit≤ tt) and_2 graph_2 [] encoded_2 (patterns_of cells) delays cap labels_2 bounded_2 refl (lit< tt)) 2 (lit< tt) refl
+    unlabelled_root plain 6 and_2 graph_2 (patterns_of cells) timing cap labels_2 (tested plain 6 (lit≤ tt) and_2 graph_2 [] encoded_2 (patterns_of cells) timing cap labels_2 bounded_2 refl (lit< tt)) 2 (lit< tt) refl

@@ -32,7 +32,7 @@ module _ (mode : Mode) (width : ℕ) (net : Network) (g : Graph) (wide : 2 ≤ w
   first = true_and_inputs_first width wide net
 
   -- the base forms of the list up to the last input
-  input_at : (i : ℕ) → i < net.inputs → slice_get o.bases (suc i) ≡ Some (var_form i)
+  pub input_at : (i : ℕ) → i < net.inputs → slice_get o.bases (suc i) ≡ Some (var_form i)
   input_at i lt = let s : i + 1 ≡ suc i = omega arith in subst (λ b. slice_get o.bases b ≡ Some (var_form i)) s (first.inputs i lt)
 
   var_class : (i : ℕ) → i < net.inputs → class_of g (2 * suc i) ≡ class_in o g (var_form i)

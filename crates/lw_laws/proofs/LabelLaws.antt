@@ -3,13 +3,13 @@ use Rattle.std.proofs.Common.{ℕ, zero, suc, ◌+◌, ◌*◌, ◌<◌, ◌≤�
 use Rattle.std.specs.List.{AllByRecursion}
 use Rattle.lw_laws.specs.Graphs.{Graph}
 use Rattle.lw_laws.specs.Costs.{Cost}
-use Rattle.lw_laws.specs.Covers.{Pattern, latest, delays_of}
+use Rattle.lw_laws.specs.Covers.{Timing, Pattern, latest, start_of, delays_of}
 use Rattle.lw_laws.specs.Choices.{Choices, HaveLabels, Attains, IsInputClass, IsWithin, IsHeight, AreHeights}
 use Rattle.lw_laws.specs.Matches.{choices_of}
 use Rattle.lw_laws.specs.Rounds.{labels_in}
 use Rattle.lw_laws.specs.Delays.{delay_cost}
 use Rattle.lw_laws.specs.Mapped.{IsPotentialOf}
-use Rattle.lw_laws.specs.Laws.{IsCoverProblem, IsAttainedIn, AreLeafLabels, AreDelaysUpTo}
+use Rattle.lw_laws.specs.Laws.{IsCoverProblem, IsAttainedIn, AreLeafLabels, AreDelaysUpTo, IsTimingUpTo}
 use Rattle.lw_laws.proofs.Heights.{IsWithin_more, has_height, heights_are, heights_attain}
 use Rattle.lw_laws.proofs.Delays.{label_low}
 use Rattle.lw_laws.proofs.Together.{graph_choices}
@@ -48,11 +48,17 @@ latest_none : (ds : List ℕ) → latest ds [] ≡ 0
 latest_none [] = refl
 latest_none (d ∷ ds) = refl
 
-pub labels_low : (g : Graph) (pats : List Pattern) (delays : List (List ℕ)) (cap : ℕ) (labels : List (Option ℕ)) (heights : ℕ → ℕ) (delay : ℕ) → AreHeights (choices_of g (map length delays) pats) (delay_cost delays cap) (labels_in labels) heights → AreLeafLabels g (delay_cost delays cap) labels → AreDelaysUpTo delay delays → 0 < delay → (c l : ℕ) → labels_in labels c ≡ Some l → l < length labels * delay
-labels_low g pats delays cap labels heights delay are leaves up pos c l e =
-    label_low (choices_of g (map length delays) pats) (delay_cost delays cap) (labels_in labels) heights are (length labels) delay
-    (λ cell ls m a. let h = latest_up delay m (delays_of delays cell) ls (delays_up delay delays cell up) a in omega arith)
-    (λ cell. let z = latest_none (delays_of delays cell) in omega arith)
+start_up : (delay : ℕ) (starts : List ℕ) (i : ℕ) → AllByRecursion (λ s. s ≤ delay) starts → start_of starts i ≤ delay
+start_up delay [] i a = omega arith
+start_up delay (s ∷ starts) zero (h, a) = h
+start_up delay (s ∷ starts) (suc i) (h, a) = start_up delay starts i a
+
+-- labels along heights are low, where those of the inputs' classes are
+pub labels_low : (g : Graph) (pats : List Pattern) (timing : Timing) (cap : ℕ) (labels : List (Option ℕ)) (heights : ℕ → ℕ) (delay : ℕ) → AreHeights (choices_of g (map length timing.delays) pats) (delay_cost timing cap) (labels_in labels) heights → ((c i l : ℕ) → slice_get g.leaves i ≡ Some c → labels_in labels c ≡ Some l → l ≤ delay) → AreDelaysUpTo delay timing.delays → 0 < delay → (c l : ℕ) → labels_in labels c ≡ Some l → l < (length labels + 1) * delay
+labels_low g pats timing cap labels heights delay are leaves up pos c l e =
+    label_low (choices_of g (map length timing.delays) pats) (delay_cost timing cap) (labels_in labels) heights are (length labels) delay
+    (λ cell ls m a. let h = latest_up delay m (delays_of timing.delays cell) ls (delays_up delay timing.delays cell up) a in omega arith)
+    (λ cell. let z = latest_none (delays_of timing.delays cell) in omega arith)
     (λ c i l at f. leaves c i l at f)
     (λ c l f. label_listed labels c l f)
     c l e pos
@@ -104,14 +110,15 @@ module _ (g : Graph) (pats : List Pattern) (cost : Cost) (labels : List (Option 
       by_within c l e (suc h) s (inr (cell, ps, a, w)) = inr (cell, ps, h, a, pins_low h ps a.pin_labels a.have w, omega arith)
 
 -- labels of times stay low
-pub labels_stay_low : (g : Graph) (pats : List Pattern) (delays : List (List ℕ)) (cap : ℕ) (labels : List (Option ℕ)) (delay : ℕ) → IsCoverProblem g pats (delay_cost delays cap) → IsPotentialOf g pats (delay_cost delays cap) labels → IsAttainedIn g pats (delay_cost delays cap) labels → AreDelaysUpTo delay delays → 0 < delay → (c l : ℕ) → labels_in labels c ≡ Some l → l < length labels * delay
-labels_stay_low g pats delays cap labels delay problem potential attained up pos c l e =
-    labels_low g pats delays cap labels (height_of g pats (delay_cost delays cap) labels problem potential attained) delay (some_heights g pats (delay_cost delays cap) labels problem potential attained) leaf up pos c l e
+pub labels_stay_low : (g : Graph) (pats : List Pattern) (timing : Timing) (cap : ℕ) (labels : List (Option ℕ)) (delay : ℕ) → IsCoverProblem g pats (delay_cost timing cap) → IsPotentialOf g pats (delay_cost timing cap) labels → IsAttainedIn g pats (delay_cost timing cap) labels → IsTimingUpTo delay timing → 0 < delay → (c l : ℕ) → labels_in labels c ≡ Some l → l < (length labels + 1) * delay
+labels_stay_low g pats timing cap labels delay problem potential attained (up, starts_up) pos c l e =
+    labels_low g pats timing cap labels (height_of g pats (delay_cost timing cap) labels problem potential attained) delay (some_heights g pats (delay_cost timing cap) labels problem potential attained) leaf up pos c l e
   where
-    leaf : (c i l : ℕ) → slice_get g.leaves i ≡ Some c → labels_in labels c ≡ Some l → l ≡ 0
+    leaf : (c i l : ℕ) → slice_get g.leaves i ≡ Some c → labels_in labels c ≡ Some l → l ≤ delay
     leaf c i l at e =
         let (m, f, le) = potential.inputs c i at in
         let same : m ≡ l = cc in
+        let start = start_up delay timing.starts i starts_up in
         omega arith
 
 -- some heights are there

@@ -26,12 +26,15 @@ pub mod HeightRounds
 pub mod HeightTests
 pub mod Heights
 pub mod InputClasses
+pub mod InputLabels
 pub mod LabelLaws
 pub mod Listed
 pub mod Lists
 pub mod Mapping
 pub mod MappingExamples
 pub mod MappingTests
+pub mod MappedDepths
+pub mod MappedNames
 pub mod MarkLaws
 pub mod Masks
 pub mod NameExamples

@@ -412,11 +412,11 @@ add_signals_append : (xs ys : List Signal) (bases : List Form) → add_signals (
 add_signals_append [] ys bases = refl
 add_signals_append (x ∷ xs) ys bases = add_signals_append xs ys (add_form x.fac (add_form x.sop bases))
 
-record ComeFirst (signals : List Signal) (most : List Signal) : Type 0 where
-  rest : List Signal
-  are : most ≡ signals ++ rest
+pub record ComeFirst (signals : List Signal) (most : List Signal) : Type 0 where
+  pub rest : List Signal
+  pub are : most ≡ signals ++ rest
 
-come_first : (width : ℕ) (signals : List Signal) (nodes : List Node) → ComeFirst signals (signals_after width signals nodes)
+pub come_first : (width : ℕ) (signals : List Signal) (nodes : List Node) → ComeFirst signals (signals_after width signals nodes)
 come_first width signals [] = record { rest = []; are = sym (append-nil signals) }
 come_first width signals (node ∷ nodes) =
     let x = signal_of_node width signals node in

@@ -9,7 +9,7 @@ use Rattle.lw_laws.specs.Forms.Form.{var_form, not_form}
 use Rattle.lw_laws.specs.Decompositions.{listing_of, HasTree}
 use Rattle.lw_laws.specs.Decompositions.AreParts.{parts_none, parts_left, parts_right}
 use Rattle.lw_laws.specs.Decompositions.HasTree.{input_law, inverter_law, split_law}
-use Rattle.lw_laws.specs.Covers.{Pattern, Cover, Covers}
+use Rattle.lw_laws.specs.Covers.{Timing, Pattern, Cover, Covers}
 use Rattle.lw_laws.specs.Covers.Cover.{wire, gate}
 use Rattle.lw_laws.specs.Covers.Covers.{no_covers, cover}
 use Rattle.lw_laws.specs.Expressions.{Expr}
@@ -50,8 +50,8 @@ nand_of es = expr_not (expr_and (exprs es))
 abbrev cells : List (List Expr)
 cells = (expr_not (expr_pin 0) ∷ []) ∷ (nand_of (expr_pin 0 ∷ expr_pin 1 ∷ []) ∷ []) ∷ (nand_of (expr_pin 0 ∷ expr_pin 1 ∷ expr_pin 2 ∷ []) ∷ []) ∷ []
 
-abbrev delays : List (List ℕ)
-delays = (1000000 ∷ []) ∷ (1500000 ∷ 1500000 ∷ []) ∷ (2000000 ∷ 2000000 ∷ 2000000 ∷ []) ∷ []
+abbrev timing : Timing
+timing = record { starts = []; delays = (1000000 ∷ []) ∷ (1500000 ∷ 1500000 ∷ []) ∷ (2000000 ∷ 2000000 ∷ 2000000 ∷ []) ∷ [] }
 
 -- the And of three inputs
 abbrev and_3 : Network
@@ -73,12 +73,12 @@ encoded_3 : PassesTests plain (forms_of 6 and_3) graph_3 []
 unfolding Rattle.lw_laws.specs.Flip.flip
 encoded_3 = record { facts = refl; rows = refl; once = refl; bases = refl; tops = refl; leaves = refl; links = refl; apart = refl; merges = tt }
 
-bounded_3 : PassesLabelTests labels_3 graph_3 (patterns_of cells) (delay_cost delays cap)
+bounded_3 : PassesLabelTests labels_3 graph_3 (patterns_of cells) (delay_cost timing cap)
 unfolding Rattle.lw_laws.specs.Flip.flip
 bounded_3 = record { even = 8; count = refl; listed = lit≤ tt; one = lit< tt; matches = refl; leaves = refl }
 
-pub labelled_3 : IsLabelledOver plain 6 and_3 graph_3 (patterns_of cells) delays cap labels_3
-labelled_3 = tested plain 6 (lit≤ tt) and_3 graph_3 [] encoded_3 (patterns_of cells) delays cap labels_3 bounded_3 refl (lit< tt)
+pub labelled_3 : IsLabelledOver plain 6 and_3 graph_3 (patterns_of cells) timing cap labels_3
+labelled_3 = tested plain 6 (lit≤ tt) and_3 graph_3 [] encoded_3 (patterns_of cells) timing cap labels_3 bounded_3 refl (lit< tt)
 
 -- the heights of the classes by number
 abbrev heights_3 : List ℕ
@@ -91,10 +91,10 @@ abbrev pattern : ℕ → Tree → Pattern
 pattern cell t = record { cell = cell; tree = t }
 
 abbrev Reached_3 : ℕ → Type 0
-Reached_3 = IsReached labels_3 heights_3 graph_3 (patterns_of cells) (delay_cost delays cap)
+Reached_3 = IsReached labels_3 heights_3 graph_3 (patterns_of cells) (delay_cost timing cap)
 
 abbrev cost_3 : ℕ → List ℕ → ℕ
-cost_3 cell ls = (delay_cost delays cap).value cell ls
+cost_3 cell ls = (delay_cost timing cap).value cell ls
 
 -- a class where an inverter or a nand2 stands, which are higher than their pins
 reached_by_inv : (c p l h : ℕ) → p ≡ flip c → labels_in labels_3 p ≡ Some l → labels_in labels_3 c ≡ Some (cost_3 0 (l ∷ [])) → height_3 p ≤ h → suc h ≤ height_3 c → Reached_3 c
@@ -111,10 +111,10 @@ unfolding Rattle.lw_laws.specs.Flip.flip
 reached_15 =
     inr (2, 2 ∷ 4 ∷ 6 ∷ [], 0, record { stands = record { pattern = pattern 2 (nand (inv (nand (leaf 0) (leaf 1))) (leaf 2)); listed = (2, lit< tt, refl); cell_is = refl; pins = refl; stands = (8, 6, inr (2, lit< tt, refl), (2, 4, inl (0, lit< tt, refl), refl, refl), refl) }; pin_labels = 0 ∷ 0 ∷ 0 ∷ []; have = (refl, (refl, (refl, tt))); value = refl }, (lit≤ tt, (lit≤ tt, (lit≤ tt, tt))), lit≤ tt)
 
-pub measured_3 : AreHeights (choices_of graph_3 (map length delays) (patterns_of cells)) (delay_cost delays cap) (labels_in labels_3) height_3
+pub measured_3 : AreHeights (choices_of graph_3 (map length timing.delays) (patterns_of cells)) (delay_cost timing cap) (labels_in labels_3) height_3
 unfolding Rattle.lw_laws.specs.Flip.flip
 measured_3 =
-    tests_heights labels_3 heights_3 graph_3 (patterns_of cells) (delay_cost delays cap) bounded_3 (record {
+    tests_heights labels_3 heights_3 graph_3 (patterns_of cells) (delay_cost timing cap) bounded_3 (record {
       inputs = (refl, (refl, (refl, tt)));
       reached = (
         inl (0, refl),
@@ -157,8 +157,8 @@ measured_3 =
     })
 
 -- each label is the least time of a cover of its class, and a class without label has no cover
-pub least_3 : (c : ℕ) → IsLeastCover graph_3 (patterns_of cells) (delay_cost delays cap) c (labels_in labels_3 c)
-least_3 = labels_least plain 6 and_3 graph_3 (patterns_of cells) delays cap labels_3 height_3 labelled_3 measured_3
+pub least_3 : (c : ℕ) → IsLeastCover graph_3 (patterns_of cells) (delay_cost timing cap) c (labels_in labels_3 c)
+least_3 = labels_least plain 6 and_3 graph_3 (patterns_of cells) timing cap labels_3 height_3 refl labelled_3 measured_3
 
 abbrev one_pin : Cover → Covers
 one_pin k = cover k no_covers
@@ -195,10 +195,10 @@ tree_3 =
     (inverter_law (4, refl) (split_law {ls = a_form ∷ []} {rs = b_form ∷ []} (4, refl) (parts_left (parts_right parts_none)) (lit≤ tt) (lit≤ tt) input_law input_law)) input_law)
 
 -- the And of three inputs arrives at 3
-pub and_3_arrives : HasLeastArrival plain 6 and_3 (patterns_of cells) delays 3 3000000
+pub and_3_arrives : HasLeastArrival plain 6 and_3 (patterns_of cells) timing 3 3000000
 unfolding Rattle.lw_laws.specs.Flip.flip
 and_3_arrives =
-    labelled_least plain 6 and_3 graph_3 (patterns_of cells) delays cap labels_3 labelled_3 3 3000000 (lit< tt) refl cover_3
+    labelled_least plain 6 and_3 graph_3 (patterns_of cells) timing cap labels_3 labelled_3 3 3000000 (lit< tt) refl cover_3
     ((0, lit< tt, refl), refl, (((2, lit< tt, refl), refl, (tt, (tt, (tt, tt)))), tt)) tree_3 refl
 
 -- the XOR of two inputs
@@ -220,7 +220,7 @@ encoded_x : PassesTests plain (forms_of 6 xor_2) graph_x []
 unfolding Rattle.lw_laws.specs.Flip.flip
 encoded_x = record { facts = refl; rows = refl; once = refl; bases = refl; tops = refl; leaves = refl; links = refl; apart = refl; merges = tt }
 
-bounded_x : PassesLabelTests labels_x graph_x (patterns_of cells) (delay_cost delays cap)
+bounded_x : PassesLabelTests labels_x graph_x (patterns_of cells) (delay_cost timing cap)
 unfolding Rattle.lw_laws.specs.Flip.flip
 bounded_x = record { even = 6; count = refl; listed = lit≤ tt; one = lit< tt; matches = refl; leaves = refl }
 
@@ -237,10 +237,10 @@ tree_x =
     (split_law {ls = not_form a_form ∷ []} {rs = b_form ∷ []} (4, refl) (parts_left (parts_right parts_none)) (lit≤ tt) (lit≤ tt) (inverter_law (1, refl) input_law) input_law)
 
 -- with inverters and nand2 it arrives at 4
-pub xor_arrives : HasLeastArrival plain 6 xor_2 (patterns_of cells) delays 2 4000000
+pub xor_arrives : HasLeastArrival plain 6 xor_2 (patterns_of cells) timing 2 4000000
 unfolding Rattle.lw_laws.specs.Flip.flip
 xor_arrives =
-    labelled_least plain 6 xor_2 graph_x (patterns_of cells) delays cap labels_x (tested plain 6 (lit≤ tt) xor_2 graph_x [] encoded_x (patterns_of cells) delays cap labels_x bounded_x refl (lit< tt)) 2 4000000 (lit< tt) refl cover_x
+    labelled_least plain 6 xor_2 graph_x (patterns_of cells) timing cap labels_x (tested plain 6 (lit≤ tt) xor_2 graph_x [] encoded_x (patterns_of cells) timing cap labels_x bounded_x refl (lit< tt)) 2 4000000 (lit< tt) refl cover_x
     ((1, lit< tt, refl), refl, (((1, lit< tt, refl), refl, (tt, (((0, lit< tt, refl), refl, (tt, tt)), tt))), (((1, lit< tt, refl), refl, (((0, lit< tt, refl), refl, (tt, tt)), (tt, tt))), tt))) tree_x refl
 
 -- the cells and an xor2 of delay 1.9
@@ -248,21 +248,21 @@ abbrev with_xor : List (List Expr)
 with_xor =
     (expr_not (expr_pin 0) ∷ []) ∷ (nand_of (expr_pin 0 ∷ expr_pin 1 ∷ []) ∷ []) ∷ (nand_of (expr_pin 0 ∷ expr_pin 1 ∷ expr_pin 2 ∷ []) ∷ []) ∷ (expr_or (exprs (expr_and (exprs (expr_pin 0 ∷ expr_not (expr_pin 1) ∷ [])) ∷ expr_and (exprs (expr_not (expr_pin 0) ∷ expr_pin 1 ∷ [])) ∷ [])) ∷ []) ∷ []
 
-abbrev xor_delays : List (List ℕ)
-xor_delays = (1000000 ∷ []) ∷ (1500000 ∷ 1500000 ∷ []) ∷ (2000000 ∷ 2000000 ∷ 2000000 ∷ []) ∷ (1900000 ∷ 1900000 ∷ []) ∷ []
+abbrev xor_timing : Timing
+xor_timing = record { starts = []; delays = (1000000 ∷ []) ∷ (1500000 ∷ 1500000 ∷ []) ∷ (2000000 ∷ 2000000 ∷ 2000000 ∷ []) ∷ (1900000 ∷ 1900000 ∷ []) ∷ [] }
 
 abbrev xor_labels : List (Option ℕ)
 xor_labels = None ∷ None ∷ Some 0 ∷ Some 1000000 ∷ Some 0 ∷ Some 1000000 ∷ Some 3500000 ∷ Some 2500000 ∷ Some 3500000 ∷ Some 2500000 ∷ Some 2900000 ∷ Some 1900000 ∷ []
 
-xor_bounded : PassesLabelTests xor_labels graph_x (patterns_of with_xor) (delay_cost xor_delays cap)
+xor_bounded : PassesLabelTests xor_labels graph_x (patterns_of with_xor) (delay_cost xor_timing cap)
 unfolding Rattle.lw_laws.specs.Flip.flip
 xor_bounded = record { even = 6; count = refl; listed = lit≤ tt; one = lit< tt; matches = refl; leaves = refl }
 
 -- with the xor2 it arrives at 1.9
-pub xor_arrives_by_cell : HasLeastArrival plain 6 xor_2 (patterns_of with_xor) xor_delays 2 1900000
+pub xor_arrives_by_cell : HasLeastArrival plain 6 xor_2 (patterns_of with_xor) xor_timing 2 1900000
 unfolding Rattle.lw_laws.specs.Flip.flip
 xor_arrives_by_cell =
-    labelled_least plain 6 xor_2 graph_x (patterns_of with_xor) xor_delays cap xor_labels (tested plain 6 (lit≤ tt) xor_2 graph_x [] encoded_x (patterns_of with_xor) xor_delays cap xor_labels xor_bounded refl (lit< tt)) 2 1900000 (lit< tt) refl
+    labelled_least plain 6 xor_2 graph_x (patterns_of with_xor) xor_timing cap xor_labels (tested plain 6 (lit≤ tt) xor_2 graph_x [] encoded_x (patterns_of with_xor) xor_timing cap xor_labels xor_bounded refl (lit< tt)) 2 1900000 (lit< tt) refl
     (gate (pattern 3 (nand (nand (leaf 0) (inv (leaf 1))) (nand (inv (leaf 0)) (leaf 1)))) (two_pins (wire 0) (wire 1)))
     ((4, lit< tt, refl), refl, (tt, (tt, tt))) tree_x refl
 

@@ -9,7 +9,7 @@ use Rattle.lw_laws.specs.Signals.{sop_at, signals_of}
 use Rattle.lw_laws.specs.Decompositions.{listing_of, HasTree}
 use Rattle.lw_laws.specs.Graphs.{Graph, PairsInOneClass, Unfolds}
 use Rattle.lw_laws.specs.Costs.{Cost}
-use Rattle.lw_laws.specs.Covers.{Pattern, ArePatterns, tree_of}
+use Rattle.lw_laws.specs.Covers.{Timing, Pattern, ArePatterns, tree_of}
 use Rattle.lw_laws.specs.Matches.{choices_of, IsLeastCover}
 use Rattle.lw_laws.specs.Choices.{Choices, Labels, HasCost, HaveCosts, IsLeast, HaveLabels, HasLabelAtMost, IsPotential}
 use Rattle.lw_laws.specs.Choices.HasCost.{by_wire, by_gate}
@@ -19,8 +19,8 @@ use Rattle.lw_laws.specs.Laws.{IsCoverProblem, IsAttainedIn}
 use Rattle.lw_laws.specs.Delays.{delay_cost}
 use Rattle.lw_laws.specs.NumberedForms.{family_of}
 use Rattle.lw_laws.specs.Encodings.{Encodes}
-use Rattle.lw_laws.specs.Netlists.{Netlist, CellTruth, HaveCellTruths, AreArrivals}
-use Rattle.lw_laws.specs.Extracts.{IsNetOf, class_at, net_classes}
+use Rattle.lw_laws.specs.Netlists.{Netlist, AreByDepth, CellTruth, HaveCellTruths, AreArrivals}
+use Rattle.lw_laws.specs.Extracts.{IsNetOf, class_at, net_classes, HaveLeafLabels}
 use Rattle.lw_laws.specs.Mapped.{IsPotentialOf, forms_of, root_class, IsMappedOver, IsRootedAt}
 use Rattle.lw_laws.specs.Headline.{Port, Ports, IsMapping, HasLeastArrival, HasNoCover}
 use Rattle.lw_laws.specs.MappedNetlists.{root_classes, HasPorts, IsNetlistOf}
@@ -31,8 +31,10 @@ use Rattle.lw_laws.proofs.Listed.{occurring_is_listing}
 use Rattle.lw_laws.proofs.Covering.{cover_costs, cost_covered}
 use Rattle.lw_laws.proofs.NetlistValues.{some_arrivals}
 use Rattle.lw_laws.proofs.ExtractLaws.{ordered_and_mapped, extracted_arrivals}
+use Rattle.lw_laws.proofs.MappedDepths.{extracted_by_depth}
 use Rattle.lw_laws.proofs.Mapping.{rooted_mapping, sop_occurs}
 use Rattle.lw_laws.proofs.GraphEncodes.{graph_encodes}
+use Rattle.lw_laws.proofs.InputLabels.{input_label}
 use Rattle.lw_laws.proofs.Headline.{has_plain_trees}
 use Rattle.lw_laws.proofs.Delays.{cost_of-time}
 use Rattle.lw_laws.proofs.Lists.{slice_get_in}
@@ -94,36 +96,37 @@ length_both : (xs ys : List ℕ) → length (xs ++ ys) ≡ length xs + length ys
 length_both [] ys = omega arith
 length_both (x ∷ xs) ys = let ih = length_both xs ys in omega arith
 
+-- each input's class has the input's start as its label
+pub netlist_leaf_labels : (mode : Mode) (width : ℕ) (net : Network) (ports : Ports) (pats : List Pattern) (timing : Timing) (cap : ℕ) (n : Netlist) (names : List (List ℕ)) (mapped : Ports) → 2 ≤ width → ArePatterns (map length timing.delays) pats → (is : IsNetlistOf mode width net ports pats timing cap n names mapped) → HaveLeafLabels is.graph (delay_cost timing cap) (labels_in is.labels)
+netlist_leaf_labels mode width net ports pats timing cap n names mapped wide patterns is c i at = input_label mode width net is.graph wide is.is_graph pats timing cap patterns i c (labels_in is.labels c) at (is.least c)
+
 -- the netlist that a network is mapped to has its ports and values, and the least arrivals
-pub netlist_maps : (mode : Mode) (width : ℕ) (net : Network) (ports : Ports) (pats : List Pattern) (delays : List (List ℕ)) (cap : ℕ) (truth : CellTruth) (n : Netlist) (names : List (List ℕ)) (mapped : Ports) → 2 ≤ width → IsInOrder net → net.inputs < 2 ^ 32 → HasPorts net ports → ArePatterns (map length delays) pats → HaveCellTruths (map length delays) truth pats → (is : IsNetlistOf mode width net ports pats delays cap n names mapped) → ((c l : ℕ) → labels_in is.labels c ≡ Some l → l < cap) → IsMapping mode width net ports pats delays truth n mapped
-netlist_maps mode width net ports pats delays cap truth n names mapped wide order few has patterns truths is low =
+pub netlist_maps : (mode : Mode) (width : ℕ) (net : Network) (ports : Ports) (pats : List Pattern) (timing : Timing) (cap : ℕ) (truth : CellTruth) (n : Netlist) (names : List (List ℕ)) (mapped : Ports) → 2 ≤ width → IsInOrder net → net.inputs < 2 ^ 32 → HasPorts net ports → ArePatterns (map length timing.delays) pats → HaveCellTruths (map length timing.delays) truth pats → (is : IsNetlistOf mode width net ports pats timing cap n names mapped) → ((c l : ℕ) → labels_in is.labels c ≡ Some l → l < cap) → IsMapping mode width net ports pats timing truth n mapped
+netlist_maps mode width net ports pats timing cap truth n names mapped wide order few has patterns truths is low =
     let g = is.graph in
     let encodes = graph_encodes mode width net g wide is.is_graph in
-    let cost = delay_cost delays cap in
+    let cost = delay_cost timing cap in
     let listing = occurring_is_listing width wide net in
     let once = pairs_in_one_class (family_of mode (forms_of width net)) (λ h. h / 2) (forms_are_family mode (forms_of width net) (numbered_are_forms net.inputs (listing_of width net) listing)) g encodes in
-    let potential = least_potential (choices_of g (map length delays) pats) cost (labels_in is.labels) (λ c. least_match g pats cost once patterns c (labels_in is.labels c) (is.least c)) in
+    let potential = least_potential (choices_of g (map length timing.delays) pats) cost (labels_in is.labels) (λ c. least_match g pats cost once patterns c (labels_in is.labels c) (is.least c)) in
     let leaves = is.is_graph.written.leaf_count in
     let (ordered, gates_mapped) = ordered_and_mapped g cost pats (labels_in is.labels) is.heights (root_classes width net g ports.outputs) is.gates is.gate_classes n is.extracted in
-    let (ds, are) = some_arrivals n ordered delays in
-    let over : IsMappedOver mode width net g pats delays cap is.labels n (class_at g is.gates) = record {
+    let (ds, are) = some_arrivals n ordered timing in
+    let over : IsMappedOver mode width net g pats timing cap is.labels n (class_at g is.gates) = record {
       labelled = record { wide = wide; encodes = encodes; few = omega arith; patterns = patterns; potential = potential };
       ordered = ordered;
       mapped = gates_mapped;
     } in
-    rooted_mapping mode width net g pats delays cap is.labels n (class_at g is.gates) over order truth truths ds are ports mapped (record {
+    rooted_mapping mode width net g pats timing cap is.labels n (class_at g is.gates) over order truth truths ds are ports mapped (record {
       inputs = is.extracted.inputs ∙ leaves;
       input_names = is.input_names;
       outputs = each (λ p q. (p.net < net.inputs + length net.nodes) × ((p.name ≡ q.name) × IsNetOf g is.gates (root_class width net g p.net) q.net)) (λ p q. (p.name ≡ q.name) × IsRootedAt width net g is.labels n (class_at g is.gates) ds p.net q.net)
-          (λ p q r. (r.1.0, rooted p.net q.net ds are potential r.0 r.1.1)) ports.outputs mapped.outputs
+          (λ p q r. (r.1.0, rooted p.net q.net ds are r.0 r.1.1)) ports.outputs mapped.outputs
           (both (λ p. p.net < net.inputs + length net.nodes) (λ p q. (p.name ≡ q.name) × IsNetOf g is.gates (root_class width net g p.net) q.net) ports.outputs mapped.outputs has is.outputs);
     })
   where
-    zero_label : IsPotential (choices_of is.graph (map length delays) pats) (delay_cost delays cap) (labels_in is.labels) → (c i : ℕ) → slice_get is.graph.leaves i ≡ Some c → labels_in is.labels c ≡ Some 0
-    zero_label potential c i at = let (l, e, le) = potential.inputs c i at in let z : l ≡ 0 = omega arith in e ∙ ap Some z
-
-    rooted : (s k : ℕ) (ds : List ℕ) → AreArrivals delays n ds → IsPotential (choices_of is.graph (map length delays) pats) (delay_cost delays cap) (labels_in is.labels) → s < net.inputs + length net.nodes → IsNetOf is.graph is.gates (root_class width net is.graph s) k → IsRootedAt width net is.graph is.labels n (class_at is.graph is.gates) ds s k
-    rooted s k ds are potential lt at =
+    rooted : (s k : ℕ) (ds : List ℕ) → AreArrivals timing n ds → s < net.inputs + length net.nodes → IsNetOf is.graph is.gates (root_class width net is.graph s) k → IsRootedAt width net is.graph is.labels n (class_at is.graph is.gates) ds s k
+    rooted s k ds are lt at =
         let here = index_at (net_classes is.graph is.gates) k (root_class width net is.graph s) at in
         let a = is.extracted.inputs in
         let b = is.extracted.one_each in
@@ -133,10 +136,10 @@ netlist_maps mode width net ports pats delays cap truth n names mapped wide orde
           of_network = lt;
           of_netlist = omega arith;
           at_class = here;
-          at_label = ap (labels_in is.labels) here ∙ extracted_arrivals is.graph pats delays cap (labels_in is.labels) is.heights (root_classes width net is.graph ports.outputs) is.gates n ds is.gate_classes is.extracted are (zero_label potential) low (root_class width net is.graph s) k at;
+          at_label = ap (labels_in is.labels) here ∙ extracted_arrivals is.graph pats timing cap (labels_in is.labels) is.heights (root_classes width net is.graph ports.outputs) is.gates n ds is.gate_classes is.extracted are (netlist_leaf_labels mode width net ports pats timing cap n names mapped wide patterns is) low (root_class width net is.graph s) k at;
         }
 
-module _ (mode : Mode) (width : ℕ) (net : Network) (g : Graph) (pats : List Pattern) (delays : List (List ℕ)) (cap : ℕ) (wide : 2 ≤ width) (encodes : Encodes (family_of mode (forms_of width net)) g) (s : ℕ) (lt : s < net.inputs + length net.nodes) where
+module _ (mode : Mode) (width : ℕ) (net : Network) (g : Graph) (pats : List Pattern) (timing : Timing) (cap : ℕ) (wide : 2 ≤ width) (encodes : Encodes (family_of mode (forms_of width net)) g) (s : ℕ) (lt : s < net.inputs + length net.nodes) where
   abbrev sop : Form
   sop = sop_at (signals_of width net) s
 
@@ -144,14 +147,19 @@ module _ (mode : Mode) (width : ℕ) (net : Network) (g : Graph) (pats : List Pa
   root_trees t = has_plain_trees mode net.inputs (listing_of width net) g (occurring_is_listing width wide net) encodes sop t (sop_occurs width wide net s lt)
 
   -- the least cost at an output's class is its least arrival
-  pub root_least : (d : ℕ) → d < cap → IsLeastCover g pats (delay_cost delays cap) (root_class width net g s) (Some d) → HasLeastArrival mode width net pats delays s d
+  pub root_least : (d : ℕ) → d < cap → IsLeastCover g pats (delay_cost timing cap) (root_class width net g s) (Some d) → HasLeastArrival mode width net pats timing s d
   root_least d room ((k, is, u, e), low) =
-      let t = cost_of-time delays cap k in
+      let t = cost_of-time timing cap k in
       record {
         attained = (k, is, (root_trees (tree_of k)).0 u, omega arith);
-        least = λ j is_cover tree. let h = low j is_cover ((root_trees (tree_of j)).1 tree) in let q = cost_of-time delays cap j in omega arith;
+        least = λ j is_cover tree. let h = low j is_cover ((root_trees (tree_of j)).1 tree) in let q = cost_of-time timing cap j in omega arith;
       }
 
   -- where the class has no cover, the output has none
-  pub root_uncovered : IsLeastCover g pats (delay_cost delays cap) (root_class width net g s) None → HasNoCover mode width net pats delays s
+  pub root_uncovered : IsLeastCover g pats (delay_cost timing cap) (root_class width net g s) None → HasNoCover mode width net pats timing s
   root_uncovered none k is_cover tree = none k is_cover ((root_trees (tree_of k)).1 tree)
+
+-- the gates of the netlist that a network is mapped to stand by depth
+pub netlist_by_depth : (mode : Mode) (width : ℕ) (net : Network) (ports : Ports) (pats : List Pattern) (timing : Timing) (cap : ℕ) (n : Netlist) (names : List (List ℕ)) (mapped : Ports) → 2 ≤ width → ArePatterns (map length timing.delays) pats → IsNetlistOf mode width net ports pats timing cap n names mapped → AreByDepth n
+netlist_by_depth mode width net ports pats timing cap n names mapped wide patterns is =
+    extracted_by_depth is.graph (delay_cost timing cap) pats (labels_in is.labels) is.heights is.height (root_classes width net is.graph ports.outputs) is.gates n is.gate_classes is.extracted (netlist_leaf_labels mode width net ports pats timing cap n names mapped wide patterns is)

@@ -8,7 +8,7 @@ use Rattle.lw_laws.specs.Decompositions.{Listing, listing_of}
 use Rattle.lw_laws.specs.Forms.{Form}
 use Rattle.lw_laws.specs.Graphs.{Graph}
 use Rattle.lw_laws.specs.Costs.{Cost}
-use Rattle.lw_laws.specs.Covers.{Pattern}
+use Rattle.lw_laws.specs.Covers.{Timing, Pattern}
 use Rattle.lw_laws.specs.Choices.{Labels, HaveLabels, IsHeight}
 use Rattle.lw_laws.specs.Matches.{choices_of, IsLeastCover}
 use Rattle.lw_laws.specs.Rounds.{labels_in}
@@ -28,8 +28,8 @@ use Rattle.lw_laws.proofs.Listed.{occurring_is_listing}
 use Rattle.lw_laws.proofs.Lists.{slice_get_in, slice_get_some}
 
 -- the least time of a form is one
-pub least_time_once : (mode : Mode) (o : Listing) (pats : List Pattern) (delays : List (List ℕ)) (f : Form) (d e : ℕ) → HasLeastTime mode o pats delays f d → HasLeastTime mode o pats delays f e → d ≡ e
-least_time_once mode o pats delays f d e a b =
+pub least_time_once : (mode : Mode) (o : Listing) (pats : List Pattern) (timing : Timing) (f : Form) (d e : ℕ) → HasLeastTime mode o pats timing f d → HasLeastTime mode o pats timing f e → d ≡ e
+least_time_once mode o pats timing f d e a b =
     let (k, is, tree, time) = a.attained in
     let (j, js, tree', time') = b.attained in
     let p = b.least k is tree in
@@ -106,25 +106,25 @@ module _ (g : Graph) (cost : Cost) (pats : List Pattern) (labels : Labels) where
       }
 
 -- a netlist over a given graph, labels and heights
-record IsOver (width : ℕ) (net : Network) (ports : Ports) (pats : List Pattern) (delays : List (List ℕ)) (cap : ℕ) (n : Netlist) (names : List (List ℕ)) (mapped : Ports) (g : Graph) : Type 0 where
+record IsOver (width : ℕ) (net : Network) (ports : Ports) (pats : List Pattern) (timing : Timing) (cap : ℕ) (n : Netlist) (names : List (List ℕ)) (mapped : Ports) (g : Graph) : Type 0 where
   labels : List (Option ℕ)
-  least : (c : ℕ) → IsLeastCover g pats (delay_cost delays cap) c (labels_in labels c)
+  least : (c : ℕ) → IsLeastCover g pats (delay_cost timing cap) c (labels_in labels c)
   heights : ℕ → ℕ
-  height : (c l : ℕ) → labels_in labels c ≡ Some l → IsHeight (choices_of g (map length delays) pats) (delay_cost delays cap) (labels_in labels) c (heights c)
+  height : (c l : ℕ) → labels_in labels c ≡ Some l → IsHeight (choices_of g (map length timing.delays) pats) (delay_cost timing cap) (labels_in labels) c (heights c)
   gates : List ℕ
-  gate_classes : AreGateClasses g (delay_cost delays cap) pats (labels_in labels) heights (root_classes width net g ports.outputs) gates
-  extracted : IsExtracted g (delay_cost delays cap) pats (labels_in labels) heights gates n
+  gate_classes : AreGateClasses g (delay_cost timing cap) pats (labels_in labels) heights (root_classes width net g ports.outputs) gates
+  extracted : IsExtracted g (delay_cost timing cap) pats (labels_in labels) heights gates n
   input_names : mapped.inputs ≡ ports.inputs
   outputs : AllZip (λ p q. (p.name ≡ q.name) × IsNetOf g gates (root_class width net g p.net) q.net) ports.outputs mapped.outputs
   names_are : names ≡ net_names ports.inputs (map (λ p. p.name) ports.outputs) (root_classes width net g ports.outputs) gates
 
-module _ (width : ℕ) (net : Network) (ports : Ports) (pats : List Pattern) (delays : List (List ℕ)) (cap : ℕ) where
-  over_graph : (mode : Mode) (n : Netlist) (names : List (List ℕ)) (mapped : Ports) → (is : IsNetlistOf mode width net ports pats delays cap n names mapped) → IsOver width net ports pats delays cap n names mapped is.graph
+module _ (width : ℕ) (net : Network) (ports : Ports) (pats : List Pattern) (timing : Timing) (cap : ℕ) where
+  over_graph : (mode : Mode) (n : Netlist) (names : List (List ℕ)) (mapped : Ports) → (is : IsNetlistOf mode width net ports pats timing cap n names mapped) → IsOver width net ports pats timing cap n names mapped is.graph
   over_graph mode n names mapped is = record { labels = is.labels; least = is.least; heights = is.heights; height = is.height; gates = is.gates; gate_classes = is.gate_classes; extracted = is.extracted; input_names = is.input_names; outputs = is.outputs; names_are = is.names_are }
 
   module _ (g : Graph) (distinct : AreDistinctLeaves g) where
     abbrev cost : Cost
-    cost = delay_cost delays cap
+    cost = delay_cost timing cap
 
     abbrev roots : List ℕ
     roots = root_classes width net g ports.outputs
@@ -146,13 +146,13 @@ module _ (width : ℕ) (net : Network) (ports : Ports) (pats : List Pattern) (de
     ports_once : (labels : Labels) (heights : ℕ → ℕ) (gates : List ℕ) → AreGateClasses g cost pats labels heights roots gates → (mapped also : Ports) → mapped.inputs ≡ ports.inputs → also.inputs ≡ ports.inputs → OutputsAt gates ports.outputs mapped.outputs → OutputsAt gates ports.outputs also.outputs → mapped ≡ also
     ports_once labels heights gates are mapped also e f a b = ap₂ (λ x y. record { inputs = x; outputs = y }) (e ∙ sym f) (outputs_once labels heights gates are ports.outputs mapped.outputs also.outputs a b)
 
-    over_once : (n m : Netlist) (names others : List (List ℕ)) (mapped also : Ports) → IsOver width net ports pats delays cap n names mapped g → IsOver width net ports pats delays cap m others also g → (n ≡ m) × (names ≡ others) × (mapped ≡ also)
+    over_once : (n m : Netlist) (names others : List (List ℕ)) (mapped also : Ports) → IsOver width net ports pats timing cap n names mapped g → IsOver width net ports pats timing cap m others also g → (n ≡ m) × (names ≡ others) × (mapped ≡ also)
     over_once n m names others mapped also a b =
         let same : labels_in b.labels ≡ labels_in a.labels = fun_ext (λ c. least_cover_once g pats cost c (labels_in b.labels c) (labels_in a.labels c) (b.least c) (a.least c)) in
-        let height = subst (λ (ls : Labels). (c l : ℕ) → ls c ≡ Some l → IsHeight (choices_of g (map length delays) pats) cost ls c (b.heights c)) same b.height in
+        let height = subst (λ (ls : Labels). (c l : ℕ) → ls c ≡ Some l → IsHeight (choices_of g (map length timing.delays) pats) cost ls c (b.heights c)) same b.height in
         let classes = subst (λ (ls : Labels). AreGateClasses g cost pats ls b.heights roots b.gates) same b.gate_classes in
         let extracted = subst (λ (ls : Labels). IsExtracted g cost pats ls b.heights b.gates m) same b.extracted in
-        let agree : (c l : ℕ) → labels_in a.labels c ≡ Some l → b.heights c ≡ a.heights c = λ c l e. IsHeight_once (choices_of g (map length delays) pats) cost (labels_in a.labels) c (b.heights c) (a.heights c) (height c l e) (a.height c l e) in
+        let agree : (c l : ℕ) → labels_in a.labels c ≡ Some l → b.heights c ≡ a.heights c = λ c l e. IsHeight_once (choices_of g (map length timing.delays) pats) cost (labels_in a.labels) c (b.heights c) (a.heights c) (height c l e) (a.height c l e) in
         let back : (c l : ℕ) → labels_in a.labels c ≡ Some l → a.heights c ≡ b.heights c = λ c l e. sym (agree c l e) in
         let classes' = gates_too g cost pats (labels_in a.labels) roots b.heights a.heights agree back b.gates m extracted classes in
         let extracted' = extracted_too g cost pats (labels_in a.labels) roots b.heights a.heights agree back b.gates m extracted in
@@ -163,9 +163,9 @@ module _ (width : ℕ) (net : Network) (ports : Ports) (pats : List Pattern) (de
         )
 
 -- the netlist that a network is mapped to is one, with its names and ports
-pub netlist_once : (mode : Mode) (width : ℕ) (net : Network) (ports : Ports) (pats : List Pattern) (delays : List (List ℕ)) (cap : ℕ) (n m : Netlist) (names others : List (List ℕ)) (mapped also : Ports) → 2 ≤ width → IsNetlistOf mode width net ports pats delays cap n names mapped → IsNetlistOf mode width net ports pats delays cap m others also → (n ≡ m) × (names ≡ others) × (mapped ≡ also)
-netlist_once mode width net ports pats delays cap n m names others mapped also wide a b =
+pub netlist_once : (mode : Mode) (width : ℕ) (net : Network) (ports : Ports) (pats : List Pattern) (timing : Timing) (cap : ℕ) (n m : Netlist) (names others : List (List ℕ)) (mapped also : Ports) → 2 ≤ width → IsNetlistOf mode width net ports pats timing cap n names mapped → IsNetlistOf mode width net ports pats timing cap m others also → (n ≡ m) × (names ≡ others) × (mapped ≡ also)
+netlist_once mode width net ports pats timing cap n m names others mapped also wide a b =
     let graph = graphs_once mode net.inputs (listing_of width net) (occurring_is_listing width wide net) b.graph a.graph b.is_graph a.is_graph in
-    over_once width net ports pats delays cap a.graph (distinct_leaves mode width net a.graph wide a.is_graph) n m names others mapped also
-    (over_graph width net ports pats delays cap mode n names mapped a)
-    (subst (λ g. IsOver width net ports pats delays cap m others also g) graph (over_graph width net ports pats delays cap mode m others also b))
+    over_once width net ports pats timing cap a.graph (distinct_leaves mode width net a.graph wide a.is_graph) n m names others mapped also
+    (over_graph width net ports pats timing cap mode n names mapped a)
+    (subst (λ g. IsOver width net ports pats timing cap m others also g) graph (over_graph width net ports pats timing cap mode m others also b))

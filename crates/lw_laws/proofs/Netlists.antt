@@ -4,7 +4,7 @@ use Rattle.std.specs.List.{AllByRecursion, slice_index_or}
 use native.Mathlib.Decide.{dec_lt}
 use Rattle.lw_laws.specs.Trees.{Tree, leaf, const_one, const_zero, inv, nand, tree_value, planted, HasLeaf}
 use Rattle.lw_laws.specs.Graphs.{Graph, Unfolds}
-use Rattle.lw_laws.specs.Covers.{Pattern, ArePatterns, Cover, Covers, tree_of, trees_of, IsCover, AreCovers, HasPins, latest, delays_of, time_of, times_of}
+use Rattle.lw_laws.specs.Covers.{Timing, Pattern, ArePatterns, Cover, Covers, tree_of, trees_of, IsCover, AreCovers, HasPins, latest, delays_of, time_of, times_of}
 use Rattle.lw_laws.specs.Covers.Cover.{wire, gate}
 use Rattle.lw_laws.specs.Covers.Covers.{no_covers, cover}
 use Rattle.lw_laws.specs.Netlists.{Gate, Netlist, IsGate, AreOrdered, CellTruth, StandsFor, StandForAll, HasCellTruth}
@@ -13,21 +13,21 @@ use Rattle.lw_laws.proofs.Truths.{tree_value-planted}
 use Rattle.lw_laws.proofs.Covering.{UnfoldAt, length-UnfoldAt, planted_unfolds}
 use Rattle.lw_laws.proofs.Lists.{slice_get_some}
 
-module _ (n : Netlist) (delays : List (List ℕ)) (arrivals : ℕ → ℕ) (are : AreNetArrivals delays n arrivals) where
+module _ (n : Netlist) (timing : Timing) (arrivals : ℕ → ℕ) (are : AreNetArrivals timing n arrivals) where
   -- the arrival of a net is the time of the cover that it stands for
   mutual
-    pub StandsFor-time : (k : Cover) (net : ℕ) → StandsFor n k net → arrivals net ≡ time_of delays k
+    pub StandsFor-time : (k : Cover) (net : ℕ) → StandsFor n k net → arrivals net ≡ time_of timing k
     StandsFor-time (wire i) net (e, lt) = ap arrivals e ∙ are.inputs i lt
     StandsFor-time (gate p ks) net (j, g, at, e, c, s) =
-        ap arrivals e ∙ (are.gates j g at ∙ ap₂ (λ cell ts. latest (delays_of delays cell) ts) c (StandForAll-times ks g.pins s))
+        ap arrivals e ∙ (are.gates j g at ∙ ap₂ (λ cell ts. latest (delays_of timing.delays cell) ts) c (StandForAll-times ks g.pins s))
 
-    pub StandForAll-times : (ks : Covers) (nets : List ℕ) → StandForAll n ks nets → map arrivals nets ≡ times_of delays ks
+    pub StandForAll-times : (ks : Covers) (nets : List ℕ) → StandForAll n ks nets → map arrivals nets ≡ times_of timing ks
     StandForAll-times no_covers nets e = ap (map arrivals) e
     StandForAll-times (cover k ks) nets (net, rest, e, s, r) =
         ap (map arrivals) e ∙ ap₂ (λ t ts. t ∷ ts) (StandsFor-time k net s) (StandForAll-times ks rest r)
 
 -- a tree's value hangs on the values of its leaves alone
-tree_value_same : (x y : ℕ → Bool) (t : Tree) → ((k : ℕ) → HasLeaf t k → x k ≡ y k) → tree_value x t ≡ tree_value y t
+pub tree_value_same : (x y : ℕ → Bool) (t : Tree) → ((k : ℕ) → HasLeaf t k → x k ≡ y k) → tree_value x t ≡ tree_value y t
 tree_value_same x y (leaf i) f = f i refl
 tree_value_same x y const_one f = refl
 tree_value_same x y const_zero f = refl

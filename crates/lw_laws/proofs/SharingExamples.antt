@@ -9,7 +9,7 @@ use Rattle.lw_laws.specs.Decompositions.{listing_of, base_form, Occurs, HasTree}
 use Rattle.lw_laws.specs.Decompositions.AreParts.{parts_none, parts_left, parts_right}
 use Rattle.lw_laws.specs.Decompositions.HasTree.{input_law, inverter_law, split_law, sharing_law}
 use Rattle.lw_laws.specs.Occurring.{occurring_forms}
-use Rattle.lw_laws.specs.Covers.{Cover}
+use Rattle.lw_laws.specs.Covers.{Timing, Cover}
 use Rattle.lw_laws.specs.Covers.Cover.{wire, gate}
 use Rattle.lw_laws.specs.Covers.Covers.{no_covers, cover}
 use Rattle.lw_laws.specs.Expressions.{Expr}
@@ -41,8 +41,8 @@ cap = 9223372036854775807
 abbrev cells : List (List Expr)
 cells = (expr_and (exprs (expr_pin 0 ∷ expr_pin 1 ∷ [])) ∷ []) ∷ []
 
-abbrev delays : List (List ℕ)
-delays = (1000000 ∷ 5000000 ∷ []) ∷ []
+abbrev timing : Timing
+timing = record { starts = []; delays = (1000000 ∷ 5000000 ∷ []) ∷ [] }
 
 abbrev and_node : ℕ → ℕ → Node
 and_node s t = record { fanins = s ∷ t ∷ []; rows = (y ∷ y ∷ []) ∷ []; on = true }
@@ -87,7 +87,7 @@ encoded_a : PassesTests plain (forms_of 6 alone) graph_a []
 unfolding Rattle.lw_laws.specs.Flip.flip
 encoded_a = record { facts = refl; rows = refl; once = refl; bases = refl; tops = refl; leaves = refl; links = refl; apart = refl; merges = tt }
 
-bounded_a : PassesLabelTests labels_a graph_a (patterns_of cells) (delay_cost delays cap)
+bounded_a : PassesLabelTests labels_a graph_a (patterns_of cells) (delay_cost timing cap)
 unfolding Rattle.lw_laws.specs.Flip.flip
 bounded_a = record { even = 8; count = refl; listed = lit≤ tt; one = lit< tt; matches = refl; leaves = refl }
 
@@ -108,10 +108,10 @@ tree_a =
     (inverter_law (at_a 6 cd_form refl) (split_law {ls = c_form ∷ []} {rs = d_form ∷ []} (at_a 6 cd_form refl) (parts_left (parts_right parts_none)) (lit≤ tt) (lit≤ tt) input_law input_law)))
 
 -- alone it arrives at 10
-pub alone_arrives : HasLeastArrival plain 6 alone (patterns_of cells) delays 6 10000000
+pub alone_arrives : HasLeastArrival plain 6 alone (patterns_of cells) timing 6 10000000
 unfolding Rattle.lw_laws.specs.Flip.flip
 alone_arrives =
-    labelled_least plain 6 alone graph_a (patterns_of cells) delays cap labels_a (tested plain 6 (lit≤ tt) alone graph_a [] encoded_a (patterns_of cells) delays cap labels_a bounded_a refl (lit< tt)) 6 10000000 (lit< tt) refl
+    labelled_least plain 6 alone graph_a (patterns_of cells) timing cap labels_a (tested plain 6 (lit≤ tt) alone graph_a [] encoded_a (patterns_of cells) timing cap labels_a bounded_a refl (lit< tt)) 6 10000000 (lit< tt) refl
     (by_and (by_and (wire 0) (wire 1)) (by_and (wire 2) (wire 3)))
     ((0, lit< tt, refl), refl, (((0, lit< tt, refl), refl, (tt, (tt, tt))), (((0, lit< tt, refl), refl, (tt, (tt, tt))), tt))) tree_a refl
 
@@ -152,7 +152,7 @@ encoded_s : PassesTests plain (forms_of 6 shared) graph_s (two 33 31 ∷ two 31 
 unfolding Rattle.lw_laws.specs.Flip.flip
 encoded_s = record { facts = refl; rows = refl; once = refl; bases = refl; tops = refl; leaves = refl; links = refl; apart = refl; merges = (one_class, (turned one_class, (turned_class, (turned turned_class, tt)))) }
 
-bounded_s : PassesLabelTests labels_s graph_s (patterns_of cells) (delay_cost delays cap)
+bounded_s : PassesLabelTests labels_s graph_s (patterns_of cells) (delay_cost timing cap)
 unfolding Rattle.lw_laws.specs.Flip.flip
 bounded_s = record { even = 16; count = refl; listed = lit≤ tt; one = lit< tt; matches = refl; leaves = refl }
 
@@ -194,9 +194,9 @@ f_chain : HasTree plain (listing_of 6 shared) f_form chain
 f_chain = sharing_law (at_s 16 f_form refl) (at_s 15 g_form refl) f_balanced g_balanced g_chain
 
 -- with g it arrives at 7
-pub shared_arrives : HasLeastArrival plain 6 shared (patterns_of cells) delays 7 7000000
+pub shared_arrives : HasLeastArrival plain 6 shared (patterns_of cells) timing 7 7000000
 unfolding Rattle.lw_laws.specs.Flip.flip
 shared_arrives =
-    labelled_least plain 6 shared graph_s (patterns_of cells) delays cap labels_s (tested plain 6 (lit≤ tt) shared graph_s (two 33 31 ∷ two 31 33 ∷ two 32 30 ∷ two 30 32 ∷ []) encoded_s (patterns_of cells) delays cap labels_s bounded_s refl (lit< tt)) 7 7000000 (lit< tt) refl
+    labelled_least plain 6 shared graph_s (patterns_of cells) timing cap labels_s (tested plain 6 (lit≤ tt) shared graph_s (two 33 31 ∷ two 31 33 ∷ two 32 30 ∷ two 30 32 ∷ []) encoded_s (patterns_of cells) timing cap labels_s bounded_s refl (lit< tt)) 7 7000000 (lit< tt) refl
     (by_and (by_and (by_and (wire 0) (wire 1)) (wire 2)) (wire 3))
     ((0, lit< tt, refl), refl, (((0, lit< tt, refl), refl, (((0, lit< tt, refl), refl, (tt, (tt, tt))), (tt, tt))), (tt, tt))) f_chain refl

@@ -6,7 +6,7 @@ use Rattle.lw_laws.specs.Encodings.{Encodes}
 use Rattle.lw_laws.specs.Truth.{IsValuation}
 use Rattle.lw_laws.specs.Costs.{Cost, IsCost, cost_of}
 use Rattle.lw_laws.specs.Choices.{IsLeast, IsAttained, AreChoices}
-use Rattle.lw_laws.specs.Covers.{Pattern, ArePatterns, tree_of}
+use Rattle.lw_laws.specs.Covers.{Timing, Pattern, ArePatterns, tree_of}
 use Rattle.lw_laws.specs.Rounds.{labels_in}
 use Rattle.lw_laws.specs.Delays.{delay_cost}
 use Rattle.lw_laws.specs.Netlists.{Netlist, CellTruth, HasCellTruth}
@@ -53,34 +53,34 @@ least_covers g pats cost labels few once patterns is_cost potential attained c =
     IsLeast-covers g pats cost once patterns c (labels_in labels c) (labels_are_least (choices_of g cost.pin_counts pats) cost is_cost (graph_choices g pats cost few) (labels_in labels) potential attained c)
 
 -- the net of a certified netlist that is at a form's class, with the label as its arrival, has the least time
-pub certified_least : (mode : Mode) (forms : NumberedForms) (g : Graph) (pats : List Pattern) (delays : List (List ℕ)) (cap : ℕ) (labels : List (Option ℕ)) (n : Netlist) (class arrivals : ℕ → ℕ) → IsCertified mode forms g pats delays cap labels n class arrivals → (net f : ℕ) → NumberOccurs forms f → IsOutput g labels n class arrivals net f → HasLeastNumberedTime mode forms pats delays f (arrivals net)
-certified_least mode forms g pats delays cap labels n class arrivals is net f o out =
+pub certified_least : (mode : Mode) (forms : NumberedForms) (g : Graph) (pats : List Pattern) (timing : Timing) (cap : ℕ) (labels : List (Option ℕ)) (n : Netlist) (class arrivals : ℕ → ℕ) → IsCertified mode forms g pats timing cap labels n class arrivals → (net f : ℕ) → NumberOccurs forms f → IsOutput g labels n class arrivals net f → HasLeastNumberedTime mode forms pats timing f (arrivals net)
+certified_least mode forms g pats timing cap labels n class arrivals is net f o out =
     let trees = has_the_trees mode forms g is.forms_are is.encodes in
     let once = pairs_in_one_class (family_of mode forms) (λ h. h / 2) (forms_are_family mode forms is.forms_are) g is.encodes in
-    let k = net_covered g (map length delays) pats n class is.ordered is.mapped net out.in_range in
+    let k = net_covered g (map length timing.delays) pats n class is.ordered is.mapped net out.in_range in
     record {
-      attained = (k.by, k.is_cover, (trees f (tree_of k.by) o).0 (subst (λ c. Unfolds g (tree_of k.by) c) out.at_class k.unfolds), sym (StandsFor-time n delays arrivals is.arrivals_are k.by net k.stands));
+      attained = (k.by, k.is_cover, (trees f (tree_of k.by) o).0 (subst (λ c. Unfolds g (tree_of k.by) c) out.at_class k.unfolds), sym (StandsFor-time n timing arrivals is.arrivals_are k.by net k.stands));
       least = λ j is_cover derived.
           let u = subst (λ c. Unfolds g (tree_of j) c) (sym out.at_class) ((trees f (tree_of j) o).1 derived) in
-          let (l, e, le) = bounds_covers g pats (delay_cost delays cap) labels is.few once is.patterns (delay_cost_is delays cap) is.potential j (class net) is_cover u in
-          let t = cost_of-time delays cap j in
+          let (l, e, le) = bounds_covers g pats (delay_cost timing cap) labels is.few once is.patterns (delay_cost_is timing cap) is.potential j (class net) is_cover u in
+          let t = cost_of-time timing cap j in
           let s : l ≡ arrivals net = cc (out.at_label) in
           omega arith;
     }
 
 -- where the form's class has no label, no cover of a tree of the form is there
-pub unlabelled_has_no_cover : (mode : Mode) (forms : NumberedForms) (g : Graph) (pats : List Pattern) (delays : List (List ℕ)) (cap : ℕ) (labels : List (Option ℕ)) → AreNumberedForms forms → Encodes (family_of mode forms) g → length g.leaves < 2 ^ 32 → ArePatterns (map length delays) pats → IsPotentialOf g pats (delay_cost delays cap) labels → (f : ℕ) → NumberOccurs forms f → labels_in labels (class_of g f) ≡ None → HasNoNumberedCover mode forms pats delays f
-unlabelled_has_no_cover mode forms g pats delays cap labels are encodes few patterns potential f o none k is_cover derived =
+pub unlabelled_has_no_cover : (mode : Mode) (forms : NumberedForms) (g : Graph) (pats : List Pattern) (timing : Timing) (cap : ℕ) (labels : List (Option ℕ)) → AreNumberedForms forms → Encodes (family_of mode forms) g → length g.leaves < 2 ^ 32 → ArePatterns (map length timing.delays) pats → IsPotentialOf g pats (delay_cost timing cap) labels → (f : ℕ) → NumberOccurs forms f → labels_in labels (class_of g f) ≡ None → HasNoNumberedCover mode forms pats timing f
+unlabelled_has_no_cover mode forms g pats timing cap labels are encodes few patterns potential f o none k is_cover derived =
     let once = pairs_in_one_class (family_of mode forms) (λ h. h / 2) (forms_are_family mode forms are) g encodes in
     let u = (has_the_trees mode forms g are encodes f (tree_of k) o).1 derived in
-    let (l, e, le) = bounds_covers g pats (delay_cost delays cap) labels few once patterns (delay_cost_is delays cap) potential k (class_of g f) is_cover u in
+    let (l, e, le) = bounds_covers g pats (delay_cost timing cap) labels few once patterns (delay_cost_is timing cap) potential k (class_of g f) is_cover u in
     cc
 
 -- the value of a net at a form's class is the form's
-pub certified_value : (mode : Mode) (forms : NumberedForms) (g : Graph) (pats : List Pattern) (delays : List (List ℕ)) (cap : ℕ) (labels : List (Option ℕ)) (n : Netlist) (class arrivals : ℕ → ℕ) → IsCertified mode forms g pats delays cap labels n class arrivals → (truth : CellTruth) → ((p : Pattern) → Contains pats p → HasCellTruth (map length delays) truth p) → (x values value : ℕ → Bool) → AreNetValues truth n x values → IsValuation (family_of mode forms) x value → (net f : ℕ) → NumberOccurs forms f → IsOutput g labels n class arrivals net f → values net ≡ value f
-certified_value mode forms g pats delays cap labels n class arrivals is truth true_patterns x values value are valuation net f o out =
-    let k = net_covered g (map length delays) pats n class is.ordered is.mapped net out.in_range in
-    let v = StandsFor-value n (map length delays) pats is.patterns truth true_patterns x values are k.by net k.is_cover k.stands in
+pub certified_value : (mode : Mode) (forms : NumberedForms) (g : Graph) (pats : List Pattern) (timing : Timing) (cap : ℕ) (labels : List (Option ℕ)) (n : Netlist) (class arrivals : ℕ → ℕ) → IsCertified mode forms g pats timing cap labels n class arrivals → (truth : CellTruth) → ((p : Pattern) → Contains pats p → HasCellTruth (map length timing.delays) truth p) → (x values value : ℕ → Bool) → AreNetValues truth n x values → IsValuation (family_of mode forms) x value → (net f : ℕ) → NumberOccurs forms f → IsOutput g labels n class arrivals net f → values net ≡ value f
+certified_value mode forms g pats timing cap labels n class arrivals is truth true_patterns x values value are valuation net f o out =
+    let k = net_covered g (map length timing.delays) pats n class is.ordered is.mapped net out.in_range in
+    let v = StandsFor-value n (map length timing.delays) pats is.patterns truth true_patterns x values are k.by net k.is_cover k.stands in
     let u = subst (λ c. Unfolds g (tree_of k.by) c) out.at_class k.unfolds in
     v ∙ has_truth mode forms g x value is.forms_are is.encodes valuation f (tree_of k.by) o u
 

@@ -6,25 +6,25 @@ use Rattle.lw_laws.specs.Networks.{Network, AreValues}
 use Rattle.lw_laws.specs.Forms.{Form}
 use Rattle.lw_laws.specs.Signals.{sop_at, signals_of}
 use Rattle.lw_laws.specs.Decompositions.{Listing, listing_of, HasTree}
-use Rattle.lw_laws.specs.Covers.{Pattern, Cover, tree_of, IsCover, time_of}
-use Rattle.lw_laws.specs.Netlists.{Netlist, AreOrdered, HaveCellPins, CellTruth, AreNetlistValues, AreArrivals}
+use Rattle.lw_laws.specs.Covers.{Timing, Pattern, Cover, tree_of, IsCover, time_of}
+use Rattle.lw_laws.specs.Netlists.{Netlist, AreOrdered, HaveCellPins, CellTruth, AreNetlistValues, AreArrivals, StandsFor}
 
 -- d is the least time of a cover of a tree that the form has
-pub record HasLeastTime (mode : Mode) (o : Listing) (pats : List Pattern) (delays : List (List ℕ)) (f : Form) (d : ℕ) : Type 0 where
-  pub attained : (k : Cover) × IsCover (map length delays) pats k × HasTree mode o f (tree_of k) × (time_of delays k ≡ d)
-  pub least : (k : Cover) → IsCover (map length delays) pats k → HasTree mode o f (tree_of k) → d ≤ time_of delays k
+pub record HasLeastTime (mode : Mode) (o : Listing) (pats : List Pattern) (timing : Timing) (f : Form) (d : ℕ) : Type 0 where
+  pub attained : (k : Cover) × IsCover (map length timing.delays) pats k × HasTree mode o f (tree_of k) × (time_of timing k ≡ d)
+  pub least : (k : Cover) → IsCover (map length timing.delays) pats k → HasTree mode o f (tree_of k) → d ≤ time_of timing k
 
 -- no cover is of a tree that the form has
-abbrev pub IsUncovered : Mode → Listing → List Pattern → List (List ℕ) → Form → Type 0
-IsUncovered mode o pats delays f = (k : Cover) → IsCover (map length delays) pats k → HasTree mode o f (tree_of k) → ⊥
+abbrev pub IsUncovered : Mode → Listing → List Pattern → Timing → Form → Type 0
+IsUncovered mode o pats timing f = (k : Cover) → IsCover (map length timing.delays) pats k → HasTree mode o f (tree_of k) → ⊥
 
 -- Of all covers by the library of all trees that the laws derive for the net's sum of products, the fastest takes d.
-abbrev pub HasLeastArrival : Mode → ℕ → Network → List Pattern → List (List ℕ) → ℕ → ℕ → Type 0
-HasLeastArrival mode width net pats delays s d = HasLeastTime mode (listing_of width net) pats delays (sop_at (signals_of width net) s) d
+abbrev pub HasLeastArrival : Mode → ℕ → Network → List Pattern → Timing → ℕ → ℕ → Type 0
+HasLeastArrival mode width net pats timing s d = HasLeastTime mode (listing_of width net) pats timing (sop_at (signals_of width net) s) d
 
 -- No cover by the library is of a tree that the laws derive for the net's sum of products.
-abbrev pub HasNoCover : Mode → ℕ → Network → List Pattern → List (List ℕ) → ℕ → Type 0
-HasNoCover mode width net pats delays s = IsUncovered mode (listing_of width net) pats delays (sop_at (signals_of width net) s)
+abbrev pub HasNoCover : Mode → ℕ → Network → List Pattern → Timing → ℕ → Type 0
+HasNoCover mode width net pats timing s = IsUncovered mode (listing_of width net) pats timing (sop_at (signals_of width net) s)
 
 -- an output: its name, as bytes, and its net
 pub record Port : Type 0 where
@@ -36,13 +36,23 @@ pub record Ports : Type 0 where
   pub inputs : List (List ℕ)
   pub outputs : List Port
 
+-- Net k of the netlist stands for a cover of a tree that the laws derive for the sum of products of net s, whose time is d.
+pub record StandsForCover (mode : Mode) (width : ℕ) (net : Network) (pats : List Pattern) (timing : Timing) (n : Netlist) (s k d : ℕ) : Type 0 where
+  pub by : Cover
+  pub is_cover : IsCover (map length timing.delays) pats by
+  pub stands : StandsFor n by k
+  pub has_tree : HasTree mode (listing_of width net) (sop_at (signals_of width net) s) (tree_of by)
+  pub time : time_of timing by ≡ d
+
 -- The mapped netlist is in order, its gates are cells of the library with a net for each pin, it has the network's ports,
--- each output has the network's value for all values of the inputs, and each output's arrival is the least.
-pub record IsMapping (mode : Mode) (width : ℕ) (net : Network) (ports : Ports) (pats : List Pattern) (delays : List (List ℕ)) (truth : CellTruth) (n : Netlist) (mapped : Ports) : Type 0 where
+-- each output has the network's value for all values of the inputs, each output's net stands for a cover of a tree of the
+-- output, whose time is its arrival, and each output's arrival is the least.
+pub record IsMapping (mode : Mode) (width : ℕ) (net : Network) (ports : Ports) (pats : List Pattern) (timing : Timing) (truth : CellTruth) (n : Netlist) (mapped : Ports) : Type 0 where
   pub ordered : AreOrdered n
-  pub cells : HaveCellPins (map length delays) n
+  pub cells : HaveCellPins (map length timing.delays) n
   pub inputs : n.inputs ≡ net.inputs
   pub input_names : mapped.inputs ≡ ports.inputs
   pub output_names : AllZip (λ p q. p.name ≡ q.name) ports.outputs mapped.outputs
   pub values : (x : ℕ → Bool) (vs ws : List Bool) → AreValues net x vs → AreNetlistValues truth n x ws → AllZip (λ p q. slice_get vs p.net ≡ slice_get ws q.net) ports.outputs mapped.outputs
-  pub arrivals : (ds : List ℕ) → AreArrivals delays n ds → AllZip (λ p q. HasLeastArrival mode width net pats delays p.net (slice_index_or ds q.net 0)) ports.outputs mapped.outputs
+  pub covers : (ds : List ℕ) → AreArrivals timing n ds → AllZip (λ p q. StandsForCover mode width net pats timing n p.net q.net (slice_index_or ds q.net 0)) ports.outputs mapped.outputs
+  pub arrivals : (ds : List ℕ) → AreArrivals timing n ds → AllZip (λ p q. HasLeastArrival mode width net pats timing p.net (slice_index_or ds q.net 0)) ports.outputs mapped.outputs

@@ -8,7 +8,7 @@ use Rattle.lw_laws.specs.Families.{Derives}
 use Rattle.lw_laws.specs.NumberedForms.{NumberedForms, family_of, NumberOccurs}
 use Rattle.lw_laws.specs.Costs.{Cost, IsCost, cost_of}
 use Rattle.lw_laws.specs.Choices.{HasLabelAtMost, IsAttained, Attains}
-use Rattle.lw_laws.specs.Covers.{Pattern, ArePatterns, Cover, tree_of, IsCover, time_of}
+use Rattle.lw_laws.specs.Covers.{Timing, Pattern, ArePatterns, Cover, tree_of, IsCover, time_of}
 use Rattle.lw_laws.specs.Matches.{choices_of}
 use Rattle.lw_laws.specs.Rounds.{labels_in, IsBoundedAt, AreSound}
 use Rattle.lw_laws.specs.HeightRounds.{IsKnown, AreHeightsUpTo}
@@ -36,13 +36,13 @@ BoundsCovers g pats cost labels =
     (k : Cover) (c : ℕ) → IsCover cost.pin_counts pats k → Unfolds g (tree_of k) c → HasLabelAtMost (labels_in labels) c (cost_of cost k)
 
 -- the least time of a cover of a tree that the laws derive for the form
-pub record HasLeastNumberedTime (mode : Mode) (forms : NumberedForms) (pats : List Pattern) (delays : List (List ℕ)) (f d : ℕ) : Type 0 where
-  pub attained : (k : Cover) × IsCover (map length delays) pats k × Derives (family_of mode forms) f (tree_of k) × (time_of delays k ≡ d)
-  pub least : (k : Cover) → IsCover (map length delays) pats k → Derives (family_of mode forms) f (tree_of k) → d ≤ time_of delays k
+pub record HasLeastNumberedTime (mode : Mode) (forms : NumberedForms) (pats : List Pattern) (timing : Timing) (f d : ℕ) : Type 0 where
+  pub attained : (k : Cover) × IsCover (map length timing.delays) pats k × Derives (family_of mode forms) f (tree_of k) × (time_of timing k ≡ d)
+  pub least : (k : Cover) → IsCover (map length timing.delays) pats k → Derives (family_of mode forms) f (tree_of k) → d ≤ time_of timing k
 
-abbrev pub HasNoNumberedCover : Mode → NumberedForms → List Pattern → List (List ℕ) → ℕ → Type 0
-HasNoNumberedCover mode forms pats delays f =
-    (k : Cover) → IsCover (map length delays) pats k → Derives (family_of mode forms) f (tree_of k) → ⊥
+abbrev pub HasNoNumberedCover : Mode → NumberedForms → List Pattern → Timing → ℕ → Type 0
+HasNoNumberedCover mode forms pats timing f =
+    (k : Cover) → IsCover (map length timing.delays) pats k → Derives (family_of mode forms) f (tree_of k) → ⊥
 
 -- the trees of each form's class are those that the laws give the form
 abbrev pub HasTheTrees : Mode → Listing → Graph → Type 0
@@ -79,6 +79,10 @@ AreLeafLabels g cost labels = (c i l : ℕ) → slice_get g.leaves i ≡ Some c 
 
 abbrev pub AreDelaysUpTo : ℕ → List (List ℕ) → Type 0
 AreDelaysUpTo delay delays = AllByRecursion (AllByRecursion (λ d. d ≤ delay)) delays
+
+-- no delay of a cell and no start of an input is above this one
+abbrev pub IsTimingUpTo : ℕ → Timing → Type 0
+IsTimingUpTo delay timing = AreDelaysUpTo delay timing.delays × AllByRecursion (λ s. s ≤ delay) timing.starts
 
 -- what rounds of labelling keep: labels are costs of covers, and inputs' classes are labelled
 abbrev pub AreSoundIn : Graph → List Pattern → Cost → List (Option ℕ) → Type 0

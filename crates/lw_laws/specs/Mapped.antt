@@ -6,7 +6,7 @@ use Rattle.lw_laws.specs.Trees.{tree_value}
 use Rattle.lw_laws.specs.Graphs.{Graph, Unfolds, class_of}
 use Rattle.lw_laws.specs.NumberedForms.{NumberedForms, family_of, AreNumberedForms}
 use Rattle.lw_laws.specs.Encodings.{Encodes}
-use Rattle.lw_laws.specs.Covers.{Pattern, ArePatterns, Cover, IsCover, tree_of, time_of, latest, delays_of}
+use Rattle.lw_laws.specs.Covers.{Timing, start_of, Pattern, ArePatterns, Cover, IsCover, tree_of, time_of, latest, delays_of}
 use Rattle.lw_laws.specs.Matches.{IsMatchAt, choices_of}
 use Rattle.lw_laws.specs.Choices.{IsPotential}
 use Rattle.lw_laws.specs.Costs.{Cost}
@@ -14,7 +14,7 @@ use Rattle.lw_laws.specs.Rounds.{labels_in}
 use Rattle.lw_laws.specs.Delays.{delay_cost}
 use Rattle.lw_laws.specs.Netlists.{Netlist, Gate, IsGate, AreOrdered, CellTruth, AreNetlistValues, AreArrivals, StandsFor}
 use Rattle.lw_laws.specs.Networks.{Network}
-use Rattle.lw_laws.specs.Decompositions.{listing_of, HasTree}
+use Rattle.lw_laws.specs.Decompositions.{listing_of}
 use Rattle.lw_laws.specs.Signals.{sop_at, signals_of}
 use Rattle.lw_laws.specs.Numbering.{number, numbered}
 use Rattle.lw_laws.specs.Occurring.{occurring_forms}
@@ -35,20 +35,20 @@ pub record AreNetValues (truth : CellTruth) (n : Netlist) (x values : ℕ → Bo
   pub gates : (j : ℕ) (g : Gate) → IsGate n j g → values (n.inputs + j) ≡ truth g.cell (map values g.pins)
 
 -- arrivals of nets as a function
-pub record AreNetArrivals (delays : List (List ℕ)) (n : Netlist) (arrivals : ℕ → ℕ) : Type 0 where
-  pub inputs : (i : ℕ) → i < n.inputs → arrivals i ≡ 0
-  pub gates : (j : ℕ) (g : Gate) → IsGate n j g → arrivals (n.inputs + j) ≡ latest (delays_of delays g.cell) (map arrivals g.pins)
+pub record AreNetArrivals (timing : Timing) (n : Netlist) (arrivals : ℕ → ℕ) : Type 0 where
+  pub inputs : (i : ℕ) → i < n.inputs → arrivals i ≡ start_of timing.starts i
+  pub gates : (j : ℕ) (g : Gate) → IsGate n j g → arrivals (n.inputs + j) ≡ latest (delays_of timing.delays g.cell) (map arrivals g.pins)
 
 -- what a mapped netlist with labels and classes is over an encoding
-pub record IsCertified (mode : Mode) (forms : NumberedForms) (g : Graph) (pats : List Pattern) (delays : List (List ℕ)) (cap : ℕ) (labels : List (Option ℕ)) (n : Netlist) (class arrivals : ℕ → ℕ) : Type 0 where
+pub record IsCertified (mode : Mode) (forms : NumberedForms) (g : Graph) (pats : List Pattern) (timing : Timing) (cap : ℕ) (labels : List (Option ℕ)) (n : Netlist) (class arrivals : ℕ → ℕ) : Type 0 where
   pub forms_are : AreNumberedForms forms
   pub encodes : Encodes (family_of mode forms) g
   pub few : length g.leaves < 2 ^ 32
-  pub patterns : ArePatterns (map length delays) pats
-  pub potential : IsPotentialOf g pats (delay_cost delays cap) labels
+  pub patterns : ArePatterns (map length timing.delays) pats
+  pub potential : IsPotentialOf g pats (delay_cost timing cap) labels
   pub ordered : AreOrdered n
-  pub mapped : IsMapped g (map length delays) pats n class
-  pub arrivals_are : AreNetArrivals delays n arrivals
+  pub mapped : IsMapped g (map length timing.delays) pats n class
+  pub arrivals_are : AreNetArrivals timing n arrivals
 
 -- the net is at the form's class, and its arrival is the class's label
 pub record IsOutput (g : Graph) (labels : List (Option ℕ)) (n : Netlist) (class arrivals : ℕ → ℕ) (net f : ℕ) : Type 0 where
@@ -65,18 +65,18 @@ abbrev pub root_class : ℕ → Network → Graph → ℕ → ℕ
 root_class width net g s = class_of g (number (occurring_forms width net) (sop_at (signals_of width net) s))
 
 -- The graph encodes the network's forms, and the labels are a potential of its matches.
-pub record IsLabelledOver (mode : Mode) (width : ℕ) (net : Network) (g : Graph) (pats : List Pattern) (delays : List (List ℕ)) (cap : ℕ) (labels : List (Option ℕ)) : Type 0 where
+pub record IsLabelledOver (mode : Mode) (width : ℕ) (net : Network) (g : Graph) (pats : List Pattern) (timing : Timing) (cap : ℕ) (labels : List (Option ℕ)) : Type 0 where
   pub wide : 2 ≤ width
   pub encodes : Encodes (family_of mode (forms_of width net)) g
   pub few : length g.leaves < 2 ^ 32
-  pub patterns : ArePatterns (map length delays) pats
-  pub potential : IsPotentialOf g pats (delay_cost delays cap) labels
+  pub patterns : ArePatterns (map length timing.delays) pats
+  pub potential : IsPotentialOf g pats (delay_cost timing cap) labels
 
 -- The netlist's gates are matches over such a graph.
-pub record IsMappedOver (mode : Mode) (width : ℕ) (net : Network) (g : Graph) (pats : List Pattern) (delays : List (List ℕ)) (cap : ℕ) (labels : List (Option ℕ)) (n : Netlist) (class : ℕ → ℕ) : Type 0 where
-  pub labelled : IsLabelledOver mode width net g pats delays cap labels
+pub record IsMappedOver (mode : Mode) (width : ℕ) (net : Network) (g : Graph) (pats : List Pattern) (timing : Timing) (cap : ℕ) (labels : List (Option ℕ)) (n : Netlist) (class : ℕ → ℕ) : Type 0 where
+  pub labelled : IsLabelledOver mode width net g pats timing cap labels
   pub ordered : AreOrdered n
-  pub mapped : IsMapped g (map length delays) pats n class
+  pub mapped : IsMapped g (map length timing.delays) pats n class
 
 -- Net k of the netlist is at the class of net s of the network, and its arrival is the class's label.
 pub record IsRootedAt (width : ℕ) (net : Network) (g : Graph) (labels : List (Option ℕ)) (n : Netlist) (class : ℕ → ℕ) (arrivals : List ℕ) (s k : ℕ) : Type 0 where
@@ -92,18 +92,10 @@ pub record AreRooted (width : ℕ) (net : Network) (g : Graph) (labels : List (O
   pub outputs : AllZip (λ p q. (p.name ≡ q.name) × IsRootedAt width net g labels n class arrivals p.net q.net) ports.outputs mapped.outputs
 
 -- The net stands for a cover of a tree that unfolds at its class, has the tree's value, and arrives at the cover's time.
-pub record IsCoverAt (g : Graph) (pats : List Pattern) (delays : List (List ℕ)) (truth : CellTruth) (n : Netlist) (class : ℕ → ℕ) (net : ℕ) : Type 0 where
+pub record IsCoverAt (g : Graph) (pats : List Pattern) (timing : Timing) (truth : CellTruth) (n : Netlist) (class : ℕ → ℕ) (net : ℕ) : Type 0 where
   pub by : Cover
-  pub is_cover : IsCover (map length delays) pats by
+  pub is_cover : IsCover (map length timing.delays) pats by
   pub stands : StandsFor n by net
   pub unfolds : Unfolds g (tree_of by) (class net)
   pub value : (x : ℕ → Bool) (values : List Bool) → AreNetlistValues truth n x values → slice_get values net ≡ Some (tree_value x (tree_of by))
-  pub arrival : (arrivals : List ℕ) → AreArrivals delays n arrivals → slice_get arrivals net ≡ Some (time_of delays by)
-
--- Net k of the netlist stands for a cover of a tree that net s of the network has, whose time is d.
-pub record StandsForCover (mode : Mode) (width : ℕ) (net : Network) (pats : List Pattern) (delays : List (List ℕ)) (n : Netlist) (s k d : ℕ) : Type 0 where
-  pub by : Cover
-  pub is_cover : IsCover (map length delays) pats by
-  pub stands : StandsFor n by k
-  pub has_tree : HasTree mode (listing_of width net) (sop_at (signals_of width net) s) (tree_of by)
-  pub time : time_of delays by ≡ d
+  pub arrival : (arrivals : List ℕ) → AreArrivals timing n arrivals → slice_get arrivals net ≡ Some (time_of timing by)

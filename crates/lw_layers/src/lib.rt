@@ -10,6 +10,8 @@ mod form_counts;
 #[cfg(test)]
 mod graph_counts;
 #[cfg(test)]
+mod latches;
+#[cfg(test)]
 mod libraries;
 #[cfg(test)]
 mod mapping;

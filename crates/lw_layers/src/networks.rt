@@ -12,7 +12,7 @@ use std::test::Fail;
 /// A text, and the first line that breaks a rule with the rule.
 const FAULTS: [(&str, u32, BlifKind); 11] = [
     (".foo\n", 1, UnknownCommand),
-    (".inputs a\n.latch a b\n", 2, Unsupported),
+    (".inputs a\n.clock a\n", 2, Unsupported),
     (".model m\n1\n", 2, RowOutside),
     (".names a b f\n12 1\n", 2, RowShape),
     (".names a b f\n11 1\n1 1\n", 3, RowShape),

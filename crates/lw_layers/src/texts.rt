@@ -1,7 +1,7 @@
 // What the texts of networks and libraries are read as.
 ghost use Rattle.std.specs.Prelude.{◌≤◌, length};
 
-use lw_blif::{BlifFault, Reader};
+use lw_blif::{BlifFault, Parsed, Reader};
 use lw_genlib::{LibFault, LibReader, Library, has_no_hash};
 use lw_net::Network;
 use lw_pool::Name;
@@ -27,14 +27,20 @@ fn lines_of(alloc: Global, text: &str) -> Result<Vec<Line>, AllocError> {
     Ok(all)
 }
 
-/// What a small text is as a network.
-pub(crate) fn network_of(alloc: Global, text: &str) -> Result<Network, BlifFault> {
+/// What a small text is as a model.
+pub(crate) fn model_of(alloc: Global, text: &str) -> Result<Parsed, BlifFault> {
     let lines = lines_of(alloc, text)?;
     let mut reader = Reader::new(alloc);
     for line in &lines {
         reader.line(line)?;
     }
     reader.end()
+}
+
+/// What a small text is as a network.
+pub(crate) fn network_of(alloc: Global, text: &str) -> Result<Network, BlifFault> {
+    let model = model_of(alloc, text)?;
+    Ok(model.network)
 }
 
 /// What a small text is as a library.

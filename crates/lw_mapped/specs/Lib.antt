@@ -1,2 +1,12 @@
+pub mod Commands
+pub mod GateLines
+pub mod Keeping
+pub mod LineFaults
+pub mod Made
+pub mod Parsed
+pub mod Said
+pub mod Sayings
+pub mod Standing
 pub mod Texts
+pub mod Unmapped
 pub mod Waitings

@@ -1,5 +1,5 @@
 -- The mapped text of a netlist.
-use Rattle.std.specs.Prelude.{ℕ, suc, ◌≡◌, ◌<◌, All, List, [], ◌∷◌, ◌++◌, Option, Some, None, ⊤, length, map, take, if◌then◌else◌, codes, decimal, slice_get, slice_index_or}
+use Rattle.std.specs.Prelude.{ℕ, suc, ◌≡◌, ◌==◌, ◌<◌, ◌≤◌, All, List, [], ◌∷◌, ◌++◌, Option, Some, None, ⊤, length, map, take, if◌then◌else◌, codes, decimal, slice_get, slice_index_or}
 use Rattle.std.specs.List.{flat_map}
 use Rattle.std.specs.Borrow.{Bor}
 use Rattle.std.specs.Str.{bytes_eq}
@@ -7,6 +7,8 @@ use Rattle.lw_fixed.specs.declared.micro.Micro.{Micro}
 use Rattle.lw_fixed.specs.Printed.{decimal_text}
 use Rattle.lw_pool.specs.declared.id.ClassId.{ClassId}
 use Rattle.lw_pool.specs.declared.id.NetId.{NetId}
+use Rattle.lw_pool.specs.declared.latch.Frame.{Frame}
+use Rattle.lw_pool.specs.declared.latch.Latch.{Latch}
 use Rattle.lw_genlib.specs.Cells.{CellParts}
 use Rattle.lw_netlist.specs.declared.gate.Gate.{Gate}
 use Rattle.lw_netlist.specs.declared.gate.Port.{Port}
@@ -61,6 +63,26 @@ wire_text names port = if bytes_eq (net_name names port.net) port.name then [] e
 abbrev pub port_name : Port → List ℕ
 port_name port = port.name
 
+-- The frame.
+
+-- when an input arrives, at its rise and at its fall
+abbrev pub arrival_line : List ℕ → Micro → List ℕ
+arrival_line name start = line (codes ".input_arrival") (name ∷ decimal_text start.0 ∷ decimal_text start.0 ∷ [])
+
+-- an input that arrives at 0 has no line
+abbrev pub optional_arrival : List ℕ → Micro → List ℕ
+optional_arrival name start = if start.0 == 0 then [] else arrival_line name start
+
+-- the inputs that do not arrive at 0
+abbrev pub arrival_lines : List (List ℕ) → List Micro → List ℕ
+arrival_lines (name ∷ names) (start ∷ starts) = optional_arrival name start ++ arrival_lines names starts
+arrival_lines [] starts = []
+arrival_lines (name ∷ names) [] = []
+
+-- what a latch stores, what it gives, and its further words
+abbrev pub latch_line : Latch → List ℕ
+latch_line latch = line (codes ".latch") (latch.input ∷ latch.output ∷ latch.rest)
+
 -- The certificate.
 
 -- the label of a class
@@ -99,14 +121,31 @@ abbrev pub HasGateClasses : NetlistParts → Option Certificate → Type 0
 HasGateClasses n None = ⊤
 HasGateClasses n (Some certificate) = length certificate.nets ≡ length n.gates
 
--- the model's name and the ports
-abbrev pub header_text : NetlistParts → List ℕ
-header_text n = line (codes ".model") (n.model ∷ []) ++ line (codes ".inputs") (take n.inputs n.names) ++ line (codes ".outputs") (map port_name n.outputs)
+-- The whole.
 
--- The text: the model and the ports, the gates, the wires, the certificate, and the end.
-abbrev pub mapped_text : List CellParts → NetlistParts → Option Certificate → List ℕ
-mapped_text cells n certificate =
-    header_text n ++ flat_map (gate_text cells n.names) n.gates ++ flat_map (wire_text n.names) n.outputs ++ certificate_text n certificate ++ line (codes ".end") []
+-- the model's name and the file's own ports
+abbrev pub header_text : NetlistParts → Frame → List ℕ
+header_text n frame =
+    line (codes ".model") (n.model ∷ [])
+    ++ line (codes ".inputs") (take frame.inputs n.names)
+    ++ line (codes ".outputs") (map port_name (take frame.outputs n.outputs))
+
+-- The text: the model and the ports, the arrivals, the latches, the gates, the wires, the certificate, and the end.
+abbrev pub mapped_text : List CellParts → NetlistParts → Frame → List Micro → Option Certificate → List ℕ
+mapped_text cells n frame starts certificate =
+    header_text n frame
+    ++ arrival_lines n.names starts
+    ++ flat_map latch_line frame.latches
+    ++ flat_map (gate_text cells n.names) n.gates
+    ++ flat_map (wire_text n.names) n.outputs
+    ++ certificate_text n certificate
+    ++ line (codes ".end") []
+
+-- what a file declares of itself is among the inputs and outputs of the netlist, and each of its inputs has a start
+pub record IsFramed (n : NetlistParts) (frame : Frame) (starts : List Micro) : Type 0 where
+  pub inputs : frame.inputs ≤ n.inputs
+  pub outputs : frame.outputs ≤ length n.outputs
+  pub one_start : length starts ≡ n.inputs
 
 -- Names of nets.
 

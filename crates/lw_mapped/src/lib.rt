@@ -1,12 +1,30 @@
-//! Mapped BLIF: the text of a netlist of library cells.
+//! Mapped BLIF: the text of a netlist of library cells, written and read.
 #![tactic(auto)]
 
 mod certificate;
+mod closing;
+mod command;
+mod contents;
+mod fault;
+mod frames;
 mod gates;
 mod lines;
 mod marks;
+mod naming;
+mod parsing;
+mod parts;
+mod reader;
+mod saying;
+mod ties;
 mod waiting;
 mod writing;
 
 pub use certificate::{Certificate, OptClasses, OptMicros};
+pub use closing::Mapped;
+pub use command::Command;
+pub use contents::Contents;
+pub use fault::{MappedFault, MappedKind, Refusal};
+pub use parts::Parts;
+pub use reader::{MappedReader, Stop};
+pub use saying::Saying;
 pub use writing::write;

@@ -1,2 +1,1 @@
-mod Cells
 mod Marks

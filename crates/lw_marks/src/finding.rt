@@ -1,14 +1,17 @@
 // The least match against the matches of a cursor, and marks against rounds over all matches, in graphs that are drawn.
-ghost use Rattle.std.specs.Prelude.{◌≡◌, ◌<◌, length};
+ghost use Rattle.std.specs.Prelude.{◌≡◌, ◌<◌, All, length, map};
 ghost use Rattle.lw_match.specs.Values.{AreInRange};
 ghost use Rattle.lw_match.specs.Least.{AreOfCells};
-ghost use Rattle.lw_label.specs.Delays.{most_time, time_cost};
+ghost use Rattle.lw_genlib.specs.Cells.{IsSmall};
+ghost use Rattle.lw_genlib.specs.Tables.{delays_of_cells};
+ghost use Rattle.lw_label.specs.Delays.{most_time};
 
 use crate::drawing::{Dice, Size, drawn_graph, drawn_marks};
-use crate::libraries::{library_of, patterns_of};
+use crate::libraries::{library_of, no_starts, patterns_of};
 use crate::plain::{
     MOST_MATCHES, all_matches, are_once_and_rising, is_same, least_of, marks_by_rounds,
 };
+use lw_fixed::Micros;
 use lw_genlib::Library;
 use lw_graph::Graph;
 use lw_label::{DelayCost, relabel};
@@ -41,6 +44,7 @@ const SIZES: [(u32, u32, u32, u32, u32); 4] = [
 #[derive(Clone, Copy)]
 struct Case<'a> {
     lib: &'a Library,
+    starts: &'a Micros,
     pats: &'a Patterns,
     graph: &'a Graph,
     matches: &'a [Vec<Match>],
@@ -85,13 +89,14 @@ fn check_below(
     requires class { class.0 < length case.now.graph.now.pairs }
     requires one_each { length marks.now ≡ length case.now.graph.now.pairs }
     requires in_range { AreInRange most_time marks.now }
-    requires of_cells { AreOfCells (time_cost case.now.lib.now).pin_counts case.now.pats.now }
+    requires of_cells { AreOfCells (map length (delays_of_cells case.now.lib.now)) case.now.pats.now }
+    requires small { All IsSmall case.now.starts.now }
 {
     let mark = match wanted {
         Some((mark, _found)) => mark,
         None => Mark { cost: 0, height: 0 },
     };
-    let cost = DelayCost::new(case.lib);
+    let cost = DelayCost::new(case.lib, case.starts);
     for bound in bounds_about(mark) {
         let found = least_below(case.graph, case.pats, marks, class, &cost, bound);
         let before = (mark.cost, mark.height) < (bound.cost, bound.height);
@@ -111,7 +116,8 @@ fn check_class(
     requires class { class.0 < length case.now.graph.now.pairs }
     requires one_each { length marks.now ≡ length case.now.graph.now.pairs }
     requires in_range { AreInRange most_time marks.now }
-    requires of_cells { AreOfCells (time_cost case.now.lib.now).pin_counts case.now.pats.now }
+    requires of_cells { AreOfCells (map length (delays_of_cells case.now.lib.now)) case.now.pats.now }
+    requires small { All IsSmall case.now.starts.now }
 {
     let wanted = least_of(case.lib, case.pats, marks, matches);
     let found = least(
@@ -119,7 +125,7 @@ fn check_class(
         case.pats,
         marks,
         class,
-        &DelayCost::new(case.lib),
+        &DelayCost::new(case.lib, case.starts),
     );
     assert!(rt; is_found(&found, wanted), "class {class:?}");
     check_below(rt, case, marks, class, wanted);
@@ -128,7 +134,8 @@ fn check_class(
 fn check_classes(rt: &impl Abort, case: &Case<'_>, marks: &[Option<Mark>])
     requires one_each { length marks.now ≡ length case.now.graph.now.pairs }
     requires in_range { AreInRange most_time marks.now }
-    requires of_cells { AreOfCells (time_cost case.now.lib.now).pin_counts case.now.pats.now }
+    requires of_cells { AreOfCells (map length (delays_of_cells case.now.lib.now)) case.now.pats.now }
+    requires small { All IsSmall case.now.starts.now }
 {
     for number in 0..case.graph.classes() {
         if let Some(matches) = case.matches.get(number as usize) {
@@ -153,16 +160,18 @@ fn check_graph(
     graph: &Graph,
     dice: &mut Dice,
 ) -> Result<(), AllocError>
-    requires { AreOfCells (time_cost lib.now).pin_counts pats.now }
+    requires { AreOfCells (map length (delays_of_cells lib.now)) pats.now }
 {
     let matches = all_matches(alloc, graph, pats)?;
     assert_eq!(rt; matches.len(), graph.classes() as usize);
     assert!(rt; are_listed(&matches), "each match once, by rising patterns");
-    let labels = relabel(alloc, graph, pats, &DelayCost::new(lib))?;
+    let starts = no_starts(alloc);
+    let labels = relabel(alloc, graph, pats, &DelayCost::new(lib, &starts))?;
     let wanted = marks_by_rounds(alloc, lib, pats, graph, &matches)?;
     assert_eq!(rt; labels.marks(), wanted.as_slice());
     let case = Case {
         lib,
+        starts: &starts,
         pats,
         graph,
         matches: &matches,
@@ -182,7 +191,7 @@ fn check_graphs(
     count: u32,
     dice: &mut Dice,
 ) -> Result<(), Fail>
-    requires { AreOfCells (time_cost lib.now).pin_counts pats.now }
+    requires { AreOfCells (map length (delays_of_cells lib.now)) pats.now }
 {
     for _graph in 0..count {
         let graph = drawn_graph(alloc, dice, size)?;

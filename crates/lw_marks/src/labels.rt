@@ -1,5 +1,5 @@
 // Labels and heights of classes.
-use crate::libraries::{library_of, patterns_of};
+use crate::libraries::{library_of, no_starts, patterns_of};
 use crate::sketch::{Sketch, graph_of};
 use lw_label::{DelayCost, relabel};
 use lw_match::Mark;
@@ -174,7 +174,8 @@ fn check(rt: &impl Abort, alloc: Global, row: Row) -> Result<(), Fail> {
     let lib = library_of(alloc, row.library)?;
     let pats = patterns_of(alloc, &lib)?;
     let graph = graph_of(alloc, row.sketch)?;
-    let labels = relabel(alloc, &graph, &pats, &DelayCost::new(&lib))?;
+    let starts = no_starts(alloc);
+    let labels = relabel(alloc, &graph, &pats, &DelayCost::new(&lib, &starts))?;
     for (class, wanted) in row.marks {
         let mark = labels.marks().get(*class).copied().flatten();
         let wanted = wanted.map(|(cost, height)| Mark { cost, height });

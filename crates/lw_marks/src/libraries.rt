@@ -1,8 +1,10 @@
 // Libraries of small texts, and their patterns.
-ghost use Rattle.std.specs.Prelude.{IfOk};
+ghost use Rattle.std.specs.Prelude.{All, IfOk, length, map};
+ghost use Rattle.lw_genlib.specs.Cells.{IsSmall};
+ghost use Rattle.lw_genlib.specs.Tables.{delays_of_cells};
 ghost use Rattle.lw_match.specs.Least.{AreOfCells};
-ghost use Rattle.lw_label.specs.Delays.{time_cost};
 
+use lw_fixed::Micros;
 use lw_genlib::{LibFault, LibReader, Library, has_no_hash};
 use lw_pattern::{Patterns, patterns};
 use lw_words::{Line, Lines};
@@ -41,9 +43,16 @@ pub(crate) fn library_of(alloc: Global, text: &str) -> Result<Library, LibFault>
 
 /// The patterns of a library, which are of its cells.
 pub(crate) fn patterns_of(alloc: Global, lib: &Library) -> Result<Patterns, AllocError>
-    ensures { IfOk result (AreOfCells (time_cost lib.now).pin_counts) }
+    ensures { IfOk result (AreOfCells (map length (delays_of_cells lib.now))) }
 {
     let _ = lib.len();
     let pats = patterns(alloc, lib)?;
     Ok(pats)
+}
+
+/// No start, so that each input starts at 0.
+pub(crate) fn no_starts(alloc: Global) -> Micros
+    ensures { All IsSmall result }
+{
+    Micros::from_vec(Vec::new(alloc))
 }

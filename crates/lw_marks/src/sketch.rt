@@ -77,6 +77,9 @@ fn add_fact(draft: &mut Draft, samples: &[bool], fact: (u32, u32, u32)) -> Resul
     if own != !(one && other) {
         return Err(Fail::from("the samples of a fact fit"));
     }
+    if draft.is_full() {
+        return Err(Fail::from("a draft has room for its facts"));
+    }
     draft.nand(FormId(form), FormId(left), FormId(right))?;
     Ok(())
 }

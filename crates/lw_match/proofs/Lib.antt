@@ -4,6 +4,7 @@ pub mod Bounding
 pub mod Branches
 pub mod Candidates
 pub mod CellMatches
+pub mod Certified
 pub mod Cursors
 pub mod CutsOfBounds
 pub mod Found

@@ -1,5 +1,5 @@
 -- Shapes under more parts.
-use Rattle.std.proofs.Common.{Vec, Global, ℕ, zero, suc, ◌⊎◌, ◌+◌, ◌<◌, ◌≤◌, ◌≡◌, Bool, true, false, ◌&&◌, not, position, if◌then◌else◌, List, [], ◌∷◌, ◌++◌, length, Some, slice_get, get_or, refl, sym, ap, ap₂, subst, ◌∙◌, inl, inr, arith, append-nil, append_assoc, eqb-true}
+use Rattle.std.proofs.Common.{Vec, Global, ℕ, zero, suc, ◌⊎◌, ◌+◌, ◌<◌, ◌≤◌, ◌≡◌, Bool, true, false, ◌&&◌, not, position, if◌then◌else◌, List, [], ◌∷◌, ◌++◌, length, Some, slice_get, slice_index, get_or, refl, sym, ap, ap₂, subst, ◌∙◌, inl, inr, arith, append-nil, append_assoc, eqb-true}
 use Rattle.std.specs.List.{list_any}
 use Rattle.std.proofs.lemmas.List.{length-append}
 use Rattle.std.proofs.lemmas.List.Quantifiers.{position-Some}
@@ -16,24 +16,24 @@ use Rattle.lw_match.specs.declared.parts.Part.{Part}
 use Rattle.lw_match.specs.contracts.parts.KindPartialEq.TheImpl.{eq-value as kind_eq}
 use Rattle.lw_match.specs.contracts.parts.SidePartialEq.TheImpl.{eq-value as side_eq}
 use Rattle.lw_match.specs.contracts.parts.PartPartialEq.TheImpl.{eq-value as part_eq}
-use Rattle.lw_match.specs.Shapes.{turned, AreEitherOf, IsJoined, JoinsShapes, HasShape, KindFits, SideFits, AreClosed, AreParts, AreMoreParts, HaveShapes, AllHaveShapes}
+use Rattle.lw_match.specs.Shapes.{turned, AreEitherOf, IsJoined, JoinsShapes, HasShape, KindFits, SideFits, AreClosed, AreParts, AreMoreParts, HaveShapes, AllHaveShapes, gaps_of}
 
 -- a test of equality
 pub same_kind : (a b : Kind) → kind_eq.it a b ≡ true → a ≡ b
 same_kind Any Any e = refl
-same_kind Any Leaf e = cc
+same_kind Any (Leaf n) e = cc
 same_kind Any One e = cc
 same_kind Any (Joined n) e = cc
-same_kind Leaf Any e = cc
-same_kind Leaf Leaf e = refl
-same_kind Leaf One e = cc
-same_kind Leaf (Joined n) e = cc
+same_kind (Leaf m) Any e = cc
+same_kind (Leaf m) (Leaf n) e = ap Leaf (eqb-true m n e)
+same_kind (Leaf m) One e = cc
+same_kind (Leaf m) (Joined n) e = cc
 same_kind One Any e = cc
-same_kind One Leaf e = cc
+same_kind One (Leaf n) e = cc
 same_kind One One e = refl
 same_kind One (Joined n) e = cc
 same_kind (Joined m) Any e = cc
-same_kind (Joined m) Leaf e = cc
+same_kind (Joined m) (Leaf n) e = cc
 same_kind (Joined m) One e = cc
 same_kind (Joined m) (Joined n) e = ap Joined (eqb-true m n e)
 
@@ -91,35 +91,35 @@ get_in_both (z ∷ xs) y (suc n) x e = deeper (get_in_both xs y n x e)
     deeper (inl f) = inl f
     deeper (inr (f, g)) = inr (ap suc f, g)
 
-pub shape_more : (parts rest : List Part) (t : Tree) (s : Side) → HasShape parts t s → HasShape (parts ++ rest) t s
-shape_more parts rest (leaf k) s h = h
-shape_more parts rest const_one s h = h
-shape_more parts rest const_zero s h = h
-shape_more parts rest (inv t) s h = shape_more parts rest t (turned s) h
-shape_more parts rest (nand t u) s (inl e) = inl e
-shape_more parts rest (nand t u) s (inr (n, p, e, at, inl (left, right))) =
-    inr (n, p, e, get_in_more parts rest n p at, inl (shape_more parts rest t p.left left, shape_more parts rest u p.right right))
-shape_more parts rest (nand t u) s (inr (n, p, e, at, inr (right, left))) =
-    inr (n, p, e, get_in_more parts rest n p at, inr (shape_more parts rest t p.right right, shape_more parts rest u p.left left))
+pub shape_more : (parts rest : List Part) (gaps : List ℕ) (t : Tree) (s : Side) → HasShape parts gaps t s → HasShape (parts ++ rest) gaps t s
+shape_more parts rest gaps (leaf k) s h = h
+shape_more parts rest gaps const_one s h = h
+shape_more parts rest gaps const_zero s h = h
+shape_more parts rest gaps (inv t) s h = shape_more parts rest gaps t (turned s) h
+shape_more parts rest gaps (nand t u) s (inl e) = inl e
+shape_more parts rest gaps (nand t u) s (inr (n, p, e, at, inl (left, right))) =
+    inr (n, p, e, get_in_more parts rest n p at, inl (shape_more parts rest gaps t p.left left, shape_more parts rest gaps u p.right right))
+shape_more parts rest gaps (nand t u) s (inr (n, p, e, at, inr (right, left))) =
+    inr (n, p, e, get_in_more parts rest n p at, inr (shape_more parts rest gaps t p.right right, shape_more parts rest gaps u p.left left))
 
 fits_plain : (n : ℕ) (s : Side) (kind : Kind) → s.kind ≡ kind → KindFits n kind → SideFits n s
 fits_plain n s kind e h = subst (KindFits n) (sym e) h
 
-pub shape_fits : (parts : List Part) (t : Tree) (s : Side) → HasShape parts t s → SideFits (length parts) s
-shape_fits parts (leaf k) s (inl e) = fits_plain (length parts) s Any e tt
-shape_fits parts (leaf k) s (inr e) = fits_plain (length parts) s Leaf (ap (λ (s : Side). s.kind) e) tt
-shape_fits parts const_one s (inl e) = fits_plain (length parts) s Any e tt
-shape_fits parts const_one s (inr e) = fits_plain (length parts) s One (ap (λ (s : Side). s.kind) e) tt
-shape_fits parts const_zero s (inl e) = fits_plain (length parts) s Any e tt
-shape_fits parts const_zero s (inr e) = fits_plain (length parts) s One (ap (λ (s : Side). s.kind) e) tt
-shape_fits parts (inv t) s h = shape_fits parts t (turned s) h
-shape_fits parts (nand t u) s (inl e) = fits_plain (length parts) s Any e tt
-shape_fits parts (nand t u) s (inr (n, p, e, at, sides)) =
+pub shape_fits : (parts : List Part) (gaps : List ℕ) (t : Tree) (s : Side) → HasShape parts gaps t s → SideFits (length parts) s
+shape_fits parts gaps (leaf k) s (inl e) = fits_plain (length parts) s Any e tt
+shape_fits parts gaps (leaf k) s (inr e) = fits_plain (length parts) s (Leaf (slice_index gaps k)) (ap (λ (s : Side). s.kind) e) tt
+shape_fits parts gaps const_one s (inl e) = fits_plain (length parts) s Any e tt
+shape_fits parts gaps const_one s (inr e) = fits_plain (length parts) s One (ap (λ (s : Side). s.kind) e) tt
+shape_fits parts gaps const_zero s (inl e) = fits_plain (length parts) s Any e tt
+shape_fits parts gaps const_zero s (inr e) = fits_plain (length parts) s One (ap (λ (s : Side). s.kind) e) tt
+shape_fits parts gaps (inv t) s h = shape_fits parts gaps t (turned s) h
+shape_fits parts gaps (nand t u) s (inl e) = fits_plain (length parts) s Any e tt
+shape_fits parts gaps (nand t u) s (inr (n, p, e, at, sides)) =
     fits_plain (length parts) s (Joined n) (ap (λ (s : Side). s.kind) e) (slice_get_within parts n p at)
 
 pub kind_fits_more : (n m : ℕ) (kind : Kind) → n ≤ m → KindFits n kind → KindFits m kind
 kind_fits_more n m Any le h = tt
-kind_fits_more n m Leaf le h = tt
+kind_fits_more n m (Leaf gap) le h = tt
 kind_fits_more n m One le h = tt
 kind_fits_more n m (Joined k) le h = omega arith
 
@@ -146,50 +146,50 @@ parts_grown room keys new p are few left right e = subst (AreParts room) (sym e)
 
 -- the sides of a part in the list make a NAND
 pub joins : (parts new : List Part) (left right : Side) (p : Part) (s : Side) → AreEitherOf left right p → AreMoreParts parts new → IsJoined new p s → JoinsShapes parts new left right s
-joins parts new left right p s (inl (l, r)) (rest, more) (n, e, at) t u first second =
+joins parts new left right p s (inl (l, r)) (rest, more) (n, e, at) gaps t u first second =
     inr (n, p, e, at, inl (shape_in left p.left t l first, shape_in right p.right u r second))
   where
-    shape_in : (a b : Side) (t : Tree) → b ≡ a → HasShape parts t a → HasShape new t b
+    shape_in : (a b : Side) (t : Tree) → b ≡ a → HasShape parts gaps t a → HasShape new gaps t b
     shape_in a b t same h =
-        subst (λ ps. HasShape ps t b) (sym more) (shape_more parts rest t b (subst (HasShape parts t) (sym same) h))
-joins parts new left right p s (inr (l, r)) (rest, more) (n, e, at) t u first second =
+        subst (λ ps. HasShape ps gaps t b) (sym more) (shape_more parts rest gaps t b (subst (HasShape parts gaps t) (sym same) h))
+joins parts new left right p s (inr (l, r)) (rest, more) (n, e, at) gaps t u first second =
     inr (n, p, e, at, inr (shape_in left p.right t r first, shape_in right p.left u l second))
   where
-    shape_in : (a b : Side) (t : Tree) → b ≡ a → HasShape parts t a → HasShape new t b
+    shape_in : (a b : Side) (t : Tree) → b ≡ a → HasShape parts gaps t a → HasShape new gaps t b
     shape_in a b t same h =
-        subst (λ ps. HasShape ps t b) (sym more) (shape_more parts rest t b (subst (HasShape parts t) (sym same) h))
+        subst (λ ps. HasShape ps gaps t b) (sym more) (shape_more parts rest gaps t b (subst (HasShape parts gaps t) (sym same) h))
 
 -- under more parts
-pub have_more : (keys more : List Part) (nodes : List PatNode) (sides : List Side) → AreMoreParts keys more → HaveShapes keys nodes sides → HaveShapes more nodes sides
-have_more keys more nodes sides (rest, e) have place s at =
-    subst (λ ps. HasShape ps (tree_at nodes place) s) (sym e) (shape_more keys rest (tree_at nodes place) s (have place s at))
+pub have_more : (keys more : List Part) (gaps : List ℕ) (nodes : List PatNode) (sides : List Side) → AreMoreParts keys more → HaveShapes keys gaps nodes sides → HaveShapes more gaps nodes sides
+have_more keys more gaps nodes sides (rest, e) have place s at =
+    subst (λ ps. HasShape ps gaps (tree_at nodes place) s) (sym e) (shape_more keys rest gaps (tree_at nodes place) s (have place s at))
 
 more_twice : (a b c : List Part) → AreMoreParts a b → AreMoreParts b c → AreMoreParts a c
 more_twice a b c (r, e) (q, f) = (r ++ q, f ∙ (ap (λ xs. xs ++ q) e ∙ append_assoc a r q))
 
 -- the sides of the first nodes, and the parts with which they are made
-pub record AreShaped (room : ℕ) (before keys : List Part) (nodes : List PatNode) (sides : List Side) (n : ℕ) : Type 0 where
+pub record AreShaped (room : ℕ) (before keys : List Part) (gaps : List ℕ) (nodes : List PatNode) (sides : List Side) (n : ℕ) : Type 0 where
   pub parts : AreParts room keys
   pub more : AreMoreParts before keys
   pub count : length sides ≡ n
-  pub shapes : HaveShapes keys nodes sides
+  pub shapes : HaveShapes keys gaps nodes sides
 
-pub shaped_none : (room : ℕ) (keys : List Part) (nodes : List PatNode) → AreParts room keys → AreShaped room keys keys nodes [] 0
-shaped_none room keys nodes are =
+pub shaped_none : (room : ℕ) (keys : List Part) (gaps : List ℕ) (nodes : List PatNode) → AreParts room keys → AreShaped room keys keys gaps nodes [] 0
+shaped_none room keys gaps nodes are =
     record { parts = are; more = ([], sym (append-nil keys)); count = refl; shapes = λ place s e. cc }
 
-pub shaped_more : (room : ℕ) (before keys new : List Part) (nodes : List PatNode) (sides : List Side) (n : ℕ) (s : Side) → AreShaped room before keys nodes sides n → AreParts room new → AreMoreParts keys new → HasShape new (tree_at nodes (length sides)) s → AreShaped room before new nodes (sides ++ s ∷ []) (n + 1)
-shaped_more room before keys new nodes sides n s h are more shape = record {
+pub shaped_more : (room : ℕ) (before keys new : List Part) (gaps : List ℕ) (nodes : List PatNode) (sides : List Side) (n : ℕ) (s : Side) → AreShaped room before keys gaps nodes sides n → AreParts room new → AreMoreParts keys new → HasShape new gaps (tree_at nodes (length sides)) s → AreShaped room before new gaps nodes (sides ++ s ∷ []) (n + 1)
+shaped_more room before keys new gaps nodes sides n s h are more shape = record {
   parts = are;
   more = more_twice before keys new h.more more;
   count = let c = h.count in omega (arith, length-append sides (s ∷ []));
   shapes = λ place k e. at_place place k (get_in_both sides s place k e);
 }
   where
-    at_place : (place : ℕ) (k : Side) → (slice_get sides place ≡ Some k) ⊎ ((place ≡ length sides) × (k ≡ s)) → HasShape new (tree_at nodes place) k
-    at_place place k (inl e) = have_more keys new nodes sides more h.shapes place k e
+    at_place : (place : ℕ) (k : Side) → (slice_get sides place ≡ Some k) ⊎ ((place ≡ length sides) × (k ≡ s)) → HasShape new gaps (tree_at nodes place) k
+    at_place place k (inl e) = have_more keys new gaps nodes sides more h.shapes place k e
     at_place place k (inr (e, f)) =
-        subst (λ p. HasShape new (tree_at nodes p) k) (sym e) (subst (λ (k : Side). HasShape new (tree_at nodes (length sides)) k) (sym f) shape)
+        subst (λ p. HasShape new gaps (tree_at nodes p) k) (sym e) (subst (λ (k : Side). HasShape new gaps (tree_at nodes (length sides)) k) (sym f) shape)
 
 get_in_sides : (all : List (List Side)) (sides : List Side) (i place : ℕ) (s : Side) → slice_get (get_or (all ++ sides ∷ []) i []) place ≡ Some s → (slice_get (get_or all i []) place ≡ Some s) ⊎ ((i ≡ length all) × (slice_get sides place ≡ Some s))
 get_in_sides [] sides zero place s e = inr (refl, e)
@@ -202,32 +202,32 @@ get_in_sides (xs ∷ all) sides (suc i) place s e = deeper (get_in_sides all sid
     deeper (inr (f, g)) = inr (ap suc f, g)
 
 -- the sides of one more pattern
-pub all_more : (keys new : List Part) (pats : List Pattern) (all : List (List Side)) (p : Pattern) (sides : List Side) → AllHaveShapes keys pats all → AreMoreParts keys new → slice_get pats (length all) ≡ Some p → HaveShapes new (nodes_of p.tree) sides → AllHaveShapes new pats (all ++ sides ∷ [])
-all_more keys new pats all p sides have more listed shapes i q e place s at = by_place (get_in_sides all sides i place s at)
+pub all_more : (keys new : List Part) (gaps : List (List ℕ)) (pats : List Pattern) (all : List (List Side)) (p : Pattern) (sides : List Side) → AllHaveShapes keys gaps pats all → AreMoreParts keys new → slice_get pats (length all) ≡ Some p → HaveShapes new (gaps_of gaps (length all)) (nodes_of p.tree) sides → AllHaveShapes new gaps pats (all ++ sides ∷ [])
+all_more keys new gaps pats all p sides have more listed shapes i q e place s at = by_place (get_in_sides all sides i place s at)
   where
-    by_place : (slice_get (get_or all i []) place ≡ Some s) ⊎ ((i ≡ length all) × (slice_get sides place ≡ Some s)) → HasShape new (tree_at (nodes_of q.tree) place) s
-    by_place (inl f) = have_more keys new (nodes_of q.tree) (get_or all i []) more (have i q e) place s f
+    by_place : (slice_get (get_or all i []) place ≡ Some s) ⊎ ((i ≡ length all) × (slice_get sides place ≡ Some s)) → HasShape new (gaps_of gaps i) (tree_at (nodes_of q.tree) place) s
+    by_place (inl f) = have_more keys new (gaps_of gaps i) (nodes_of q.tree) (get_or all i []) more (have i q e) place s f
     by_place (inr (f, g)) =
         let there : slice_get pats (length all) ≡ Some q = subst (λ j. slice_get pats j ≡ Some q) f e in
         let same : q ≡ p = cc in
-        subst (λ (q : Pattern). HasShape new (tree_at (nodes_of q.tree) place) s) (sym same) (shapes place s g)
+        subst (λ (q : Pattern). HasShape new (gaps_of gaps i) (tree_at (nodes_of q.tree) place) s) (sym same) (subst (λ j. HasShape new (gaps_of gaps j) (tree_at (nodes_of p.tree) place) s) (sym f) (shapes place s g))
 
 abbrev pub items_of : Vec Side Global → List Side
 items_of sides = sides.items
 
 -- the sides of the first patterns
-pub record AreAllShaped (room : ℕ) (keys : List Part) (pats : List Pattern) (all : List (List Side)) (n : ℕ) : Type 0 where
+pub record AreAllShaped (room : ℕ) (keys : List Part) (gaps : List (List ℕ)) (pats : List Pattern) (all : List (List Side)) (n : ℕ) : Type 0 where
   pub parts : AreParts room keys
   pub count : length all ≡ n
-  pub shapes : AllHaveShapes keys pats all
+  pub shapes : AllHaveShapes keys gaps pats all
 
-pub none_shaped : (room : ℕ) (keys : List Part) (pats : List Pattern) → AreParts room keys → AreAllShaped room keys pats [] 0
-none_shaped room keys pats are =
+pub none_shaped : (room : ℕ) (keys : List Part) (gaps : List (List ℕ)) (pats : List Pattern) → AreParts room keys → AreAllShaped room keys gaps pats [] 0
+none_shaped room keys gaps pats are =
     record { parts = are; count = refl; shapes = λ i p e place s f. cc }
 
-pub all_shaped_more : (room : ℕ) (keys new : List Part) (pats : List Pattern) (all : List (List Side)) (n : ℕ) (p : Pattern) (sides : List Side) → AreAllShaped room keys pats all n → AreParts room new → AreMoreParts keys new → slice_get pats n ≡ Some p → HaveShapes new (nodes_of p.tree) sides → AreAllShaped room new pats (all ++ sides ∷ []) (n + 1)
-all_shaped_more room keys new pats all n p sides h are more listed shapes = record {
+pub all_shaped_more : (room : ℕ) (keys new : List Part) (gaps : List (List ℕ)) (pats : List Pattern) (all : List (List Side)) (n : ℕ) (p : Pattern) (sides : List Side) → AreAllShaped room keys gaps pats all n → AreParts room new → AreMoreParts keys new → slice_get pats n ≡ Some p → HaveShapes new (gaps_of gaps n) (nodes_of p.tree) sides → AreAllShaped room new gaps pats (all ++ sides ∷ []) (n + 1)
+all_shaped_more room keys new gaps pats all n p sides h are more listed shapes = record {
   parts = are;
   count = let c = h.count in omega (arith, length-append all (sides ∷ []));
-  shapes = all_more keys new pats all p sides h.shapes more (subst (λ i. slice_get pats i ≡ Some p) (sym h.count) listed) shapes;
+  shapes = all_more keys new gaps pats all p sides h.shapes more (subst (λ i. slice_get pats i ≡ Some p) (sym h.count) listed) (subst (λ i. HaveShapes new (gaps_of gaps i) (nodes_of p.tree) sides) (sym h.count) shapes);
 }

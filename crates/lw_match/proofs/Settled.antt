@@ -1,5 +1,5 @@
 -- A table that is settled at each class is one of bounds.
-use Rattle.std.proofs.Common.{ℕ, ◌⊎◌, ◌-◌, ◌<◌, ◌≤◌, ◌≡◌, Bool, true, false, not, if◌then◌else◌, List, [], length, min, Contains, Option, Some, None, option_map, unwrap_or, slice_get, slice_index_or, refl, sym, ap, subst, ◌∙◌, inl, inr, arith}
+use Rattle.std.proofs.Common.{ℕ, ◌⊎◌, ◌+◌, ◌-◌, ◌<◌, ◌≤◌, ◌≡◌, Bool, true, false, not, if◌then◌else◌, List, [], length, min, Contains, Option, Some, None, option_map, unwrap_or, slice_get, slice_index, slice_index_or, refl, sym, ap, subst, ◌∙◌, inl, inr, arith}
 use Rattle.std.proofs.lemmas.Option.{slice_get_within, unwrap_or-slice_get}
 use Rattle.std.proofs.lemmas.Bool.{eq-eqb}
 use Rattle.lw_laws.specs.Flip.{flip}
@@ -22,9 +22,9 @@ any_bounds r s c n e =
     let is : side_number r s c ≡ 0 = ap (λ k. kind_number r k (if s.flipped then flip c else c)) e in
     omega arith
 
-leaf_bounds : (o : Option Mark) (m : PlainMark) (top : ℕ) → option_map plain_mark o ≡ Some m → m.cost ≤ top → leaf_number o ≤ min top (never - 1)
-leaf_bounds None m top e le = cc
-leaf_bounds (Some k) m top e le =
+leaf_bounds : (o : Option Mark) (gap : ℕ) (m : PlainMark) (top : ℕ) → option_map plain_mark o ≡ Some m → m.cost + gap ≤ top → leaf_number o gap ≤ min top (never - 1)
+leaf_bounds None gap m top e le = cc
+leaf_bounds (Some k) gap m top e le =
     let same : plain_mark k ≡ m = cc in
     let cost : k.cost ≡ m.cost = ap (λ (m : PlainMark). m.cost) same in
     omega arith
@@ -42,24 +42,24 @@ turned_number r s c = by_flag s.flipped
     by_flag true = refl
     by_flag false = ap (kind_number r s.kind) (flip-flip c)
 
-module _ (g : Graph) (r : Reading) (one : r.one ≡ g.one) where
-  bounds_leaf : (k : ℕ) (s : Side) → (s.kind ≡ Any) ⊎ (s ≡ plain Leaf) → BoundsTree g r (leaf k) s
+module _ (g : Graph) (r : Reading) (one : r.one ≡ g.one) (gaps : List ℕ) where
+  bounds_leaf : (k : ℕ) (s : Side) → (s.kind ≡ Any) ⊎ (s ≡ plain (Leaf (slice_index gaps k))) → BoundsTree g r gaps (leaf k) s
   bounds_leaf k s (inl e) c ps top stands marked = any_bounds r s c (min top (never - 1)) e
   bounds_leaf k s (inr e) c ps top stands marked =
       let (m, is, le) = marked k c stands in
-      subst (λ s. side_number r s c ≤ min top (never - 1)) (sym e) (leaf_bounds (slice_index_or r.marks c None) m top is le)
+      subst (λ s. side_number r s c ≤ min top (never - 1)) (sym e) (leaf_bounds (slice_index_or r.marks c None) (slice_index gaps k) m top is le)
 
-  bounds_one : (s : Side) → (s.kind ≡ Any) ⊎ (s ≡ plain One) → BoundsTree g r const_one s
+  bounds_one : (s : Side) → (s.kind ≡ Any) ⊎ (s ≡ plain One) → BoundsTree g r gaps const_one s
   bounds_one s (inl e) c ps top stands marked = any_bounds r s c (min top (never - 1)) e
   bounds_one s (inr e) c ps top stands marked =
       subst (λ s. side_number r s c ≤ min top (never - 1)) (sym e) (one_bounds r c (min top (never - 1)) (stands ∙ sym one))
 
-  bounds_zero : (s : Side) → (s.kind ≡ Any) ⊎ (s ≡ turned (plain One)) → BoundsTree g r const_zero s
+  bounds_zero : (s : Side) → (s.kind ≡ Any) ⊎ (s ≡ turned (plain One)) → BoundsTree g r gaps const_zero s
   bounds_zero s (inl e) c ps top stands marked = any_bounds r s c (min top (never - 1)) e
   bounds_zero s (inr e) c ps top stands marked =
       subst (λ s. side_number r s c ≤ min top (never - 1)) (sym e) (one_bounds r (flip c) (min top (never - 1)) (ap flip stands ∙ (flip-flip g.one ∙ sym one)))
 
-  bounds_inv : (t : Tree) (s : Side) → BoundsTree g r t (turned s) → BoundsTree g r (inv t) s
+  bounds_inv : (t : Tree) (s : Side) → BoundsTree g r gaps t (turned s) → BoundsTree g r gaps (inv t) s
   bounds_inv t s h c ps top stands marked =
       subst (λ n. n ≤ min top (never - 1)) (turned_number r s c) (h (flip c) ps top stands marked)
 
@@ -89,38 +89,38 @@ module _ (b : BoundsState) (g : Graph) (marks : List (Option Mark)) (settled : (
       let le = settled c (pair_within g c x y h) n (slice_get_within b.parts n p e) p x y e h in
       omega arith
 
-  bounded : (t : Tree) (s : Side) → HasShape b.parts t s → BoundsTree g (bounds_reading b g marks) t s
-  bounded (leaf k) s h = bounds_leaf g (bounds_reading b g marks) refl k s h
-  bounded const_one s h = bounds_one g (bounds_reading b g marks) refl s h
-  bounded const_zero s h = bounds_zero g (bounds_reading b g marks) refl s h
-  bounded (inv t) s h = bounds_inv g (bounds_reading b g marks) refl t s (bounded t (turned s) h)
-  bounded (nand t u) s (inl e) = λ c ps top stands marked. any_bounds (bounds_reading b g marks) s c (min top (never - 1)) e
-  bounded (nand t u) s (inr (n, p, e, at, inl (left, right))) = λ c ps top (x, y, h, l, k) marked.
+  bounded : (gaps : List ℕ) (t : Tree) (s : Side) → HasShape b.parts gaps t s → BoundsTree g (bounds_reading b g marks) gaps t s
+  bounded gaps (leaf k) s h = bounds_leaf g (bounds_reading b g marks) refl gaps k s h
+  bounded gaps const_one s h = bounds_one g (bounds_reading b g marks) refl gaps s h
+  bounded gaps const_zero s h = bounds_zero g (bounds_reading b g marks) refl gaps s h
+  bounded gaps (inv t) s h = bounds_inv g (bounds_reading b g marks) refl gaps t s (bounded gaps t (turned s) h)
+  bounded gaps (nand t u) s (inl e) = λ c ps top stands marked. any_bounds (bounds_reading b g marks) s c (min top (never - 1)) e
+  bounded gaps (nand t u) s (inr (n, p, e, at, inl (left, right))) = λ c ps top (x, y, h, l, k) marked.
       subst (λ s. side_number (bounds_reading b g marks) s c ≤ min top (never - 1)) (sym e)
-      (both_sides n p t u ps c x y top at h (bounded t p.left left x ps top l marked) (bounded u p.right right y ps top k marked))
-  bounded (nand t u) s (inr (n, p, e, at, inr (right, left))) = λ c ps top (x, y, h, l, k) marked.
+      (both_sides n p t u ps c x y top at h (bounded gaps t p.left left x ps top l marked) (bounded gaps u p.right right y ps top k marked))
+  bounded gaps (nand t u) s (inr (n, p, e, at, inr (right, left))) = λ c ps top (x, y, h, l, k) marked.
       subst (λ s. side_number (bounds_reading b g marks) s c ≤ min top (never - 1)) (sym e)
-      (both_sides n p u t ps c y x top at (turned_pair g c x y h) (bounded u p.left left y ps top k marked) (bounded t p.right right x ps top l marked))
+      (both_sides n p u t ps c y x top at (turned_pair g c x y h) (bounded gaps u p.left left y ps top k marked) (bounded gaps t p.right right x ps top l marked))
 
 pub settled_bounds_are_bounds : SettledBoundsAreBounds
-settled_bounds_are_bounds b pats g marks is fits settled t s h = bounded b g marks settled t s h
+settled_bounds_are_bounds b pats g marks is fits settled gaps t s h = bounded b g marks settled gaps t s h
 
 module _ (b : BoundsState) (g : Graph) (marks fewer : List (Option Mark)) (bounds : AreBounds b g marks) (same : (c : ℕ) (k : PlainMark) → marks_in fewer c ≡ Some k → (m : PlainMark) × (marks_in marks c ≡ Some m) × (m.cost ≡ k.cost)) where
-  marked_too : (ps : List ℕ) (top : ℕ) → AreMarkedWithin fewer ps top → AreMarkedWithin marks ps top
-  marked_too ps top marked k c e =
+  marked_too : (gaps ps : List ℕ) (top : ℕ) → AreMarkedWithin fewer gaps ps top → AreMarkedWithin marks gaps ps top
+  marked_too gaps ps top marked k c e =
       let (m, is, le) = marked k c e in
       let (n, has, cost) = same c m is in
       (n, has, omega arith)
 
-  fewer_bounded : (t : Tree) (s : Side) → HasShape b.parts t s → BoundsTree g (bounds_reading b g fewer) t s
-  fewer_bounded (leaf k) s h = bounds_leaf g (bounds_reading b g fewer) refl k s h
-  fewer_bounded const_one s h = bounds_one g (bounds_reading b g fewer) refl s h
-  fewer_bounded const_zero s h = bounds_zero g (bounds_reading b g fewer) refl s h
-  fewer_bounded (inv t) s h = bounds_inv g (bounds_reading b g fewer) refl t s (fewer_bounded t (turned s) h)
-  fewer_bounded (nand t u) s (inl e) = λ c ps top stands marked. any_bounds (bounds_reading b g fewer) s c (min top (never - 1)) e
-  fewer_bounded (nand t u) s (inr (n, p, e, at, sides)) = λ c ps top stands marked.
+  fewer_bounded : (gaps : List ℕ) (t : Tree) (s : Side) → HasShape b.parts gaps t s → BoundsTree g (bounds_reading b g fewer) gaps t s
+  fewer_bounded gaps (leaf k) s h = bounds_leaf g (bounds_reading b g fewer) refl gaps k s h
+  fewer_bounded gaps const_one s h = bounds_one g (bounds_reading b g fewer) refl gaps s h
+  fewer_bounded gaps const_zero s h = bounds_zero g (bounds_reading b g fewer) refl gaps s h
+  fewer_bounded gaps (inv t) s h = bounds_inv g (bounds_reading b g fewer) refl gaps t s (fewer_bounded gaps t (turned s) h)
+  fewer_bounded gaps (nand t u) s (inl e) = λ c ps top stands marked. any_bounds (bounds_reading b g fewer) s c (min top (never - 1)) e
+  fewer_bounded gaps (nand t u) s (inr (n, p, e, at, sides)) = λ c ps top stands marked.
       subst (λ s. side_number (bounds_reading b g fewer) s c ≤ min top (never - 1)) (sym e)
-      (bounds (nand t u) (plain (Joined n)) (inr (n, p, refl, at, sides)) c ps top stands (marked_too ps top marked))
+      (bounds gaps (nand t u) (plain (Joined n)) (inr (n, p, refl, at, sides)) c ps top stands (marked_too gaps ps top marked))
 
 pub bounds_of_fewer : BoundsOfFewer
-bounds_of_fewer b g marks fewer bounds same t s h = fewer_bounded b g marks fewer bounds same t s h
+bounds_of_fewer b g marks fewer bounds same gaps t s h = fewer_bounded b g marks fewer bounds same gaps t s h

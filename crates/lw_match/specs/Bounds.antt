@@ -1,5 +1,5 @@
 -- Bounds on what the pins cost where a part of a pattern stands.
-use Rattle.std.specs.Prelude.{ℕ, ◌*◌, ◌-◌, ◌<◌, ◌≤◌, ◌≡◌, List, length, min, max, Option, Some, slice_get}
+use Rattle.std.specs.Prelude.{ℕ, ◌+◌, ◌*◌, ◌-◌, ◌<◌, ◌≤◌, ◌≡◌, List, length, min, max, Option, Some, slice_get, slice_index}
 use Rattle.std.specs.List.{sum_by}
 use Rattle.lw_laws.specs.Graphs.{Graph, HoldsPair, Stands}
 use Rattle.lw_laws.specs.Trees.{Tree}
@@ -13,9 +13,11 @@ use Rattle.lw_match.specs.Values.{marks_in}
 use Rattle.lw_match.specs.Shapes.{HasShape, AllHaveShapes, HaveRootShapes, AreClosed}
 use Rattle.lw_match.specs.Numbers.{never, Reading, part_number, side_number}
 
--- the parts, the side of each node of each pattern and of its root, and the numbers of the parts at each class
+-- the parts, the gaps of the pins of each pattern, the side of each node of each pattern and of its root, and the numbers
+-- of the parts at each class
 pub record BoundsState : Type 0 where
   pub parts : List Part
+  pub gaps : List (List ℕ)
   pub sides : List (List Side)
   pub roots : List Side
   pub numbers : List ℕ
@@ -36,9 +38,9 @@ pub record AreRows (parts : List Part) (numbers : List ℕ) (g : Graph) : Type 0
 pub record BoundsFit (b : BoundsState) (pats : List Pattern) (g : Graph) : Type 0 where
   pub rows : AreRows b.parts b.numbers g
   pub count : length b.sides ≡ length pats
-  pub sides : AllHaveShapes b.parts pats b.sides
+  pub sides : AllHaveShapes b.parts b.gaps pats b.sides
   pub root_count : length b.roots ≡ length pats
-  pub roots : HaveRootShapes b.parts pats b.roots
+  pub roots : HaveRootShapes b.parts b.gaps pats b.roots
 
 -- the number of the part at the class is not above what any pair of the class gives
 abbrev pub IsSettledAt : Graph → Reading → List Part → ℕ → ℕ → Type 0
@@ -52,19 +54,19 @@ AreSettledBelow g r parts c n = (k : ℕ) → k < n → IsSettledAt g r parts c 
 abbrev pub AreSettledAt : BoundsState → Graph → List (Option Mark) → ℕ → Type 0
 AreSettledAt b g marks c = AreSettledBelow g (bounds_reading b g marks) b.parts c (length b.parts)
 
--- the classes have marks, of which none costs more
-abbrev pub AreMarkedWithin : List (Option Mark) → List ℕ → ℕ → Type 0
-AreMarkedWithin marks ps top =
-    (k c : ℕ) → slice_get ps k ≡ Some c → (m : PlainMark) × (marks_in marks c ≡ Some m) × (m.cost ≤ top)
+-- the classes of the pins have marks, of which none costs more with the gap of its pin
+abbrev pub AreMarkedWithin : List (Option Mark) → List ℕ → List ℕ → ℕ → Type 0
+AreMarkedWithin marks gaps ps top =
+    (k c : ℕ) → slice_get ps k ≡ Some c → (m : PlainMark) × (marks_in marks c ≡ Some m) × (m.cost + slice_index gaps k ≤ top)
 
--- where a tree stands whose pins have marks, the number of its side is not above the greatest cost of the pins
-abbrev pub BoundsTree : Graph → Reading → Tree → Side → Type 0
-BoundsTree g r t s =
-    (c : ℕ) (ps : List ℕ) (top : ℕ) → Stands g ps t c → AreMarkedWithin r.marks ps top → side_number r s c ≤ min top (never - 1)
+-- where a tree stands whose pins have marks, the number of its side is not above the greatest cost of a pin with its gap
+abbrev pub BoundsTree : Graph → Reading → List ℕ → Tree → Side → Type 0
+BoundsTree g r gaps t s =
+    (c : ℕ) (ps : List ℕ) (top : ℕ) → Stands g ps t c → AreMarkedWithin r.marks gaps ps top → side_number r s c ≤ min top (never - 1)
 
 abbrev pub AreBounds : BoundsState → Graph → List (Option Mark) → Type 0
 AreBounds b g marks =
-    (t : Tree) (s : Side) → HasShape b.parts t s → BoundsTree g (bounds_reading b g marks) t s
+    (gaps : List ℕ) (t : Tree) (s : Side) → HasShape b.parts gaps t s → BoundsTree g (bounds_reading b g marks) gaps t s
 
 abbrev pub total : List ℕ → ℕ
 total ns = sum_by (λ n. n) ns

@@ -27,10 +27,10 @@ pub record IsReading (r : Reading) : Type 0 where
   pub rows : length r.numbers ≡ r.width * length r.marks
   pub even : length r.marks % 2 ≡ 0
 
--- a pin at a class with this mark
-abbrev pub leaf_number : Option Mark → ℕ
-leaf_number None = never
-leaf_number (Some m) = min m.cost (never - 1)
+-- a pin with a gap at a class with this mark
+abbrev pub leaf_number : Option Mark → ℕ → ℕ
+leaf_number None gap = never
+leaf_number (Some m) gap = min (m.cost + gap) (never - 1)
 
 -- the number of a part at a class
 abbrev pub part_number : Reading → ℕ → ℕ → ℕ
@@ -38,7 +38,7 @@ part_number r n c = slice_index r.numbers (c * r.width + n)
 
 abbrev pub kind_number : Reading → Kind → ℕ → ℕ
 kind_number r Any c = 0
-kind_number r Leaf c = leaf_number (slice_index_or r.marks c None)
+kind_number r (Leaf gap) c = leaf_number (slice_index_or r.marks c None) gap
 kind_number r One c = if c == r.one then 0 else never
 kind_number r (Joined n) c = part_number r n c
 

@@ -1,5 +1,5 @@
 -- Parts of patterns, and the trees of their shape.
-use Rattle.std.specs.Prelude.{ℕ, ◌<◌, ◌≤◌, ◌≡◌, ◌⊎◌, not, false, List, [], ◌++◌, length, Some, slice_get, slice_index_or}
+use Rattle.std.specs.Prelude.{ℕ, ◌<◌, ◌≤◌, ◌≡◌, ◌⊎◌, not, false, List, [], ◌++◌, length, Some, slice_get, slice_index, slice_index_or}
 use Rattle.lw_laws.specs.Trees.{Tree, leaf, const_one, const_zero, inv, nand}
 use Rattle.lw_laws.specs.Covers.{Pattern}
 use Rattle.lw_pattern.specs.Nodes.{tree_at, nodes_of}
@@ -21,14 +21,14 @@ abbrev pub AreEitherOf : Side → Side → Part → Type 0
 AreEitherOf left right p =
     ((p.left ≡ left) × (p.right ≡ right)) ⊎ ((p.left ≡ right) × (p.right ≡ left))
 
--- the tree is of the shape of the side: pins are alike, and the sides of a NAND may be exchanged
-abbrev pub HasShape : List Part → Tree → Side → Type 0
-HasShape parts (leaf k) s = (s.kind ≡ Any) ⊎ (s ≡ plain Leaf)
-HasShape parts const_one s = (s.kind ≡ Any) ⊎ (s ≡ plain One)
-HasShape parts const_zero s = (s.kind ≡ Any) ⊎ (s ≡ turned (plain One))
-HasShape parts (inv t) s = HasShape parts t (turned s)
-HasShape parts (nand t u) s =
-    (s.kind ≡ Any) ⊎ ((n : ℕ) × (p : Part) × (s ≡ plain (Joined n)) × (slice_get parts n ≡ Some p) × ((HasShape parts t p.left × HasShape parts u p.right) ⊎ (HasShape parts t p.right × HasShape parts u p.left)))
+-- the tree is of the shape of the side: pins with the same gap are alike, and the sides of a NAND may be exchanged
+abbrev pub HasShape : List Part → List ℕ → Tree → Side → Type 0
+HasShape parts gaps (leaf k) s = (s.kind ≡ Any) ⊎ (s ≡ plain (Leaf (slice_index gaps k)))
+HasShape parts gaps const_one s = (s.kind ≡ Any) ⊎ (s ≡ plain One)
+HasShape parts gaps const_zero s = (s.kind ≡ Any) ⊎ (s ≡ turned (plain One))
+HasShape parts gaps (inv t) s = HasShape parts gaps t (turned s)
+HasShape parts gaps (nand t u) s =
+    (s.kind ≡ Any) ⊎ ((n : ℕ) × (p : Part) × (s ≡ plain (Joined n)) × (slice_get parts n ≡ Some p) × ((HasShape parts gaps t p.left × HasShape parts gaps u p.right) ⊎ (HasShape parts gaps t p.right × HasShape parts gaps u p.left)))
 
 -- the side of a part that is in the list
 abbrev pub IsJoined : List Part → Part → Side → Type 0
@@ -37,12 +37,12 @@ IsJoined parts p s = (n : ℕ) × (s ≡ plain (Joined n)) × (slice_get parts n
 -- the side is the NAND of two sides that are of earlier parts
 abbrev pub JoinsShapes : List Part → List Part → Side → Side → Side → Type 0
 JoinsShapes before parts left right s =
-    (t u : Tree) → HasShape before t left → HasShape before u right → HasShape parts (nand t u) s
+    (gaps : List ℕ) (t u : Tree) → HasShape before gaps t left → HasShape before gaps u right → HasShape parts gaps (nand t u) s
 
 -- the part that is named is one of the first n
 abbrev pub KindFits : ℕ → Kind → Type 0
 KindFits n Any = Unit {0}
-KindFits n Leaf = Unit {0}
+KindFits n (Leaf gap) = Unit {0}
 KindFits n One = Unit {0}
 KindFits n (Joined part) = part < n
 
@@ -64,16 +64,20 @@ abbrev pub AreMoreParts : List Part → List Part → Type 0
 AreMoreParts parts more = (rest : List Part) × (more ≡ parts ++ rest)
 
 -- the side of each of the first nodes has the shape of the node's tree
-abbrev pub HaveShapes : List Part → List PatNode → List Side → Type 0
-HaveShapes parts nodes sides =
-    (place : ℕ) (s : Side) → slice_get sides place ≡ Some s → HasShape parts (tree_at nodes place) s
+abbrev pub HaveShapes : List Part → List ℕ → List PatNode → List Side → Type 0
+HaveShapes parts gaps nodes sides =
+    (place : ℕ) (s : Side) → slice_get sides place ≡ Some s → HasShape parts gaps (tree_at nodes place) s
+
+-- the gaps of the pins of a pattern
+abbrev pub gaps_of : List (List ℕ) → ℕ → List ℕ
+gaps_of all i = slice_index_or all i []
 
 -- so it is for each pattern
-abbrev pub AllHaveShapes : List Part → List Pattern → List (List Side) → Type 0
-AllHaveShapes parts pats all =
-    (i : ℕ) (p : Pattern) → slice_get pats i ≡ Some p → HaveShapes parts (nodes_of p.tree) (slice_index_or all i [])
+abbrev pub AllHaveShapes : List Part → List (List ℕ) → List Pattern → List (List Side) → Type 0
+AllHaveShapes parts gaps pats all =
+    (i : ℕ) (p : Pattern) → slice_get pats i ≡ Some p → HaveShapes parts (gaps_of gaps i) (nodes_of p.tree) (slice_index_or all i [])
 
 -- the sides of the roots of patterns
-abbrev pub HaveRootShapes : List Part → List Pattern → List Side → Type 0
-HaveRootShapes parts pats roots =
-    (i : ℕ) (p : Pattern) (s : Side) → slice_get pats i ≡ Some p → slice_get roots i ≡ Some s → HasShape parts p.tree s
+abbrev pub HaveRootShapes : List Part → List (List ℕ) → List Pattern → List Side → Type 0
+HaveRootShapes parts gaps pats roots =
+    (i : ℕ) (p : Pattern) (s : Side) → slice_get pats i ≡ Some p → slice_get roots i ≡ Some s → HasShape parts (gaps_of gaps i) p.tree s

@@ -1,11 +1,12 @@
 ghost use Rattle.std.specs.Prelude.{◌≡◌, ◌<◌, ◌≤◌, ◌*◌, List, IfOk, IsTrue, IsFalse, length};
 ghost use Rattle.lw_laws.specs.Covers.{Pattern as TreeOfCell};
 
-use crate::Mark;
 use crate::cuts::Cuts;
+use crate::gaps::all_guesses;
 use crate::parts::{Part, Side};
 use crate::renewing::{Renewal, renew_parts};
 use crate::shapes::{all_sides, root_sides};
+use crate::{Cost, Mark};
 use indexmap::IndexSet;
 use lw_graph::Graph;
 use lw_pattern::Patterns;
@@ -25,11 +26,12 @@ fn room_for(classes: u32) -> u32
     MOST_NUMBERS / classes
 }
 
-/// Numbers of the parts of patterns at the classes of a graph: what the pins cost at least at which a part stands there.
+/// Numbers of the parts of patterns at the classes of a graph: what a pin costs at least, with its gap, where a part stands there.
 /// Where it stands nowhere, or by pins without marks alone, the number is `u64::MAX`.
 #[derive(Drop)]
 pub struct Bounds {
     parts: IndexSet<Part>,
+    gaps: Vec<[u64; 16]>,
     sides: Vec<Vec<Side>>,
     roots: Vec<Side>,
     numbers: Vec<u64>,
@@ -41,26 +43,35 @@ impl Model for Bounds {
 
     ghost Value = { BoundsState };
 
-    ghost view = { λ b. record { parts = b.parts.keys; sides = map (λ side. side.items) b.sides.items; roots = b.roots.items; numbers = b.numbers.items } };
+    ghost view = { λ b. record { parts = b.parts.keys; gaps = b.gaps.items; sides = map (λ side. side.items) b.sides.items; roots = b.roots.items; numbers = b.numbers.items } };
 }
 
 impl Bounds {
     ghost use Rattle.lw_graph.specs.Graphs.{IsGraph};
     ghost use Rattle.lw_match.specs.Bounds.{BoundsFit, AreRows, AreSettledAt, bounds_weight};
     ghost use Rattle.lw_match.specs.Cutting.{cuts_state};
+    ghost use Rattle.lw_match.specs.Least.{AreOfCells};
 
     /// A table in which no number has fallen yet. All memory is taken here. Where there would be too many numbers, only the
     /// first parts have some.
-    pub fn new(alloc: Global, graph: &Graph, pats: &Patterns) -> Result<Bounds, AllocError>
+    pub fn new<C: Cost>(
+        alloc: Global,
+        graph: &Graph,
+        pats: &Patterns,
+        cost: &C,
+    ) -> Result<Bounds, AllocError>
+        requires { AreOfCells (C.costs cost.now).pin_counts pats.now }
         ensures { IfOk result (λ b. BoundsFit b pats.now graph.now) }
     {
         let room = room_for(graph.classes()) as usize;
         let mut parts = IndexSet::new(alloc);
-        let sides = all_sides(alloc, &mut parts, room, pats)?;
+        let gaps = all_guesses(alloc, pats, cost)?;
+        let sides = all_sides(alloc, &mut parts, room, &gaps, pats)?;
         let roots = root_sides(alloc, pats, &sides)?;
         let numbers = vec![in alloc; u64::MAX; parts.len() * graph.classes() as usize]?;
         Ok(Bounds {
             parts,
+            gaps,
             sides,
             roots,
             numbers,
@@ -90,13 +101,14 @@ impl Bounds {
 
     /// What searches are cut by.
     pub(crate) fn cuts(&self) -> Cuts
-        ensures { cuts_state result ≡ record { sides = self.now.sides; roots = self.now.roots; width = length self.now.parts; numbers = self.now.numbers } }
+        ensures { cuts_state result ≡ record { sides = self.now.sides; roots = self.now.roots; width = length self.now.parts; numbers = self.now.numbers; gaps = self.now.gaps } }
     {
         Cuts {
             sides: &self.sides,
             roots: &self.roots,
             width: self.parts.len(),
             numbers: &self.numbers,
+            gaps: &self.gaps,
         }
     }
 }

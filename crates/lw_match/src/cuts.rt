@@ -3,15 +3,15 @@ ghost use Rattle.std.specs.Prelude.{◌≡◌, map, [], slice_index_or};
 use crate::parts::Side;
 use lw_pool::PatId;
 
-/// What searches are cut by: the side that each node of each pattern is and that its root
-/// is, and the numbers of the parts. With no sides no
-/// search is cut.
+/// What searches are cut by: the side that each node of each pattern is and that its root is, the numbers of the parts, and
+/// the gaps of the pins of each pattern. With no sides no search is cut.
 #[derive(Clone, Copy)]
 pub struct Cuts<'a> {
     pub sides: &'a [Vec<Side>],
     pub roots: &'a [Side],
     pub width: usize,
     pub numbers: &'a [u64],
+    pub gaps: &'a [[u64; 16]],
 }
 
 /// The sides that the nodes of a pattern are, none where it is not known.

@@ -18,12 +18,12 @@ pub struct Numbers<'a> {
     pub numbers: &'a [u64],
 }
 
-/// The number of a pin: the cost of its class, and `u64::MAX` where this has none.
-fn leaf_number(mark: Option<Mark>) -> u64
-    ensures { result ≡ leaf_number mark }
+/// The number of a pin: the cost of its class with its gap, and `u64::MAX` where the class has none.
+fn leaf_number(mark: Option<Mark>, gap: u64) -> u64
+    ensures { result ≡ leaf_number mark gap }
 {
     match mark {
-        Some(mark) => mark.cost.min(u64::MAX - 1),
+        Some(mark) => mark.cost.saturating_add(gap).min(u64::MAX - 1),
         None => u64::MAX,
     }
 }
@@ -44,7 +44,7 @@ fn kind_number(at: Numbers, kind: Kind, class: ClassId) -> u64
 {
     match kind {
         Kind::Any => 0,
-        Kind::Leaf => leaf_number(at.marks[class.0 as usize]),
+        Kind::Leaf(gap) => leaf_number(at.marks[class.0 as usize], gap),
         Kind::One => { if class == at.one { 0 } else { u64::MAX } }
         Kind::Joined(part) => at.numbers[class.0 as usize * at.width + part as usize],
     }

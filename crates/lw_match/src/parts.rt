@@ -1,10 +1,10 @@
-/// What a side of a NAND in a pattern is, where all pins are alike.
+/// What a side of a NAND in a pattern is, where pins with the same gap are alike.
 #[derive(Clone, Copy, Debug, PartialEq, Eq, PartialOrd, Ord, Hash)]
 pub enum Kind {
     /// Any tree.
     Any,
-    /// A pin.
-    Leaf,
+    /// A pin with its gap.
+    Leaf(u64),
     /// The constant true.
     One,
     /// The NAND of the sides of the part with this number.

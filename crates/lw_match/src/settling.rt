@@ -1,9 +1,10 @@
 // Tables of marks that do not change any more.
 ghost use Rattle.std.specs.Prelude.{◌≡◌, ◌<◌, ℕ, IfOk, IsTrue, IsFalse, length};
 ghost use Rattle.lw_match.specs.Bounds.{BoundsFit, AreSettledAt, AreBounds, bounds_weight};
+ghost use Rattle.lw_match.specs.Least.{AreOfCells};
 
 use crate::renewing::either;
-use crate::{Bounds, Mark};
+use crate::{Bounds, Cost, Mark};
 use lw_graph::Graph;
 use lw_pattern::Patterns;
 use lw_pool::ClassId;
@@ -27,18 +28,20 @@ fn renew_all(bounds: &mut Bounds, graph: &Graph, pats: &Patterns, marks: &[Optio
 
 impl Bounds {
     /// The table of bounds for these marks: its numbers fall until none falls any more.
-    pub fn settled(
+    pub fn settled<C: Cost>(
         alloc: Global,
         graph: &Graph,
         pats: &Patterns,
         marks: &[Option<Mark>],
+        cost: &C,
     ) -> Result<Bounds, AllocError>
-        requires { length marks.now ≡ length graph.now.pairs }
+        requires one_each { length marks.now ≡ length graph.now.pairs }
+        requires of_cells { AreOfCells (C.costs cost.now).pin_counts pats.now }
         ensures fits { IfOk result (λ b. BoundsFit b pats.now graph.now) }
         ensures bounds { IfOk result (λ b. AreBounds b graph.now marks.now) }
     {
         let _ = graph.classes();
-        let mut bounds = Bounds::new(alloc, graph, pats)?;
+        let mut bounds = Bounds::new(alloc, graph, pats, cost)?;
         while renew_all(&mut bounds, graph, pats, marks) {}
         Ok(bounds)
     }

@@ -1,4 +1,6 @@
 pub mod Assembled
+pub mod Buckets
+pub mod Closed
 pub mod Filling
 pub mod NamedOrder
 pub mod Names

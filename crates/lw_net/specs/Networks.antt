@@ -1,5 +1,5 @@
 -- What a closed network is seen as, and what its type keeps.
-use Rattle.std.specs.Prelude.{ℕ, ◌+◌, ◌<◌, ◌≤◌, ◌≡◌, List, Some, length, slice_get, All}
+use Rattle.std.specs.Prelude.{ℕ, ◌+◌, ◌<◌, ◌≤◌, ◌≡◌, List, [], Some, length, map, take, slice_get, slice_index_or, All}
 use Rattle.lw_pool.specs.declared.id.NetId.{NetId}
 use Rattle.lw_net.specs.declared.node.Node.{Node}
 
@@ -10,6 +10,16 @@ pub record NetworkParts : Type 0 where
   pub inputs : ℕ
   pub nodes : List Node
   pub outputs : List NetId
+
+-- the name of a net
+abbrev pub name_in : NetworkParts → NetId → List ℕ
+name_in net id = slice_index_or net.names id.0 []
+
+abbrev pub input_names : NetworkParts → List (List ℕ)
+input_names net = take net.inputs net.names
+
+abbrev pub output_names : NetworkParts → List (List ℕ)
+output_names net = map (name_in net) net.outputs
 
 -- how many nets there are at most
 abbrev pub most_nets : ℕ

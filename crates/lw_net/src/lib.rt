@@ -6,6 +6,7 @@ mod cycles;
 mod draft;
 mod eval;
 mod fault;
+mod laws;
 mod levels;
 mod naming;
 mod network;
@@ -18,5 +19,6 @@ mod written;
 
 pub use draft::{Draft, DraftNode, DraftNodes};
 pub use fault::NetFault;
+pub use laws::closed_is_network;
 pub use network::Network;
 pub use node::{Cube, Cubes, Node, Nodes, are_signs};

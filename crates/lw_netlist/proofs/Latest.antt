@@ -1,6 +1,6 @@
 -- The greatest of pins' arrivals and delays, and when gates' nets arrive.
-use Rattle.std.proofs.Common.{◌≡◌, ◌≢◌, ℕ, zero, suc, ◌+◌, ◌*◌, ◌<◌, ◌≤◌, ◌⊎◌, inl, inr, max, List, [], ◌∷◌, length, map, take, get_or, set, slice_get, All, Some, refl, sym, ap, ap₂, subst, ◌∙◌, arith, get_or-set_same, get_or-set_other}
-use Rattle.std.proofs.lemmas.List.{get_or-map, length-map, map-set}
+use Rattle.std.proofs.Common.{◌≡◌, ◌≢◌, ℕ, zero, suc, ◌+◌, ◌*◌, ◌<◌, ◌≤◌, ◌^◌, ◌⊎◌, inl, inr, max, List, [], ◌∷◌, length, map, take, get_or, set, slice_get, All, Some, refl, sym, ap, ap₂, subst, ◌∙◌, arith, get_or-set_same, get_or-set_other}
+use Rattle.std.proofs.lemmas.List.{get_or-map, get_or-take, length-map, map-set}
 use Rattle.std.proofs.lemmas.List.Elements.{All-head, All-tail, All-get_or}
 use Rattle.std.proofs.lemmas.Bool.{cases_eq}
 use Rattle.lw_laws.specs.Covers.{latest, delays_of}
@@ -13,7 +13,7 @@ use Rattle.lw_netlist.specs.Netlists.{NetlistParts}
 use Rattle.lw_netlist.proofs.Filling.{IsLocal, image_at}
 use Rattle.lw_pool.specs.declared.id.NetId.{NetId}
 use Rattle.lw_fixed.specs.declared.micro.Micro.{Micro}
-use Rattle.lw_genlib.specs.Tables.{millionths, delays_of_cells, cell_delays}
+use Rattle.lw_genlib.specs.Tables.{millionths, delays_of_cells, cell_delays, timing_of}
 use Rattle.lw_netlist.specs.Plain.{net_number, plain, plain_gate}
 use Rattle.lw_netlist.specs.Filling.{arrivals_at, arrival_at, gate_arrival, one_step}
 
@@ -98,19 +98,30 @@ gate_time cells arrivals gate = record { 0 = gate_arrival cells arrivals gate }
 pub times_are_local : (cells : List CellParts) → IsLocal (gate_time cells)
 times_are_local cells = record { kept = λ arrivals at v gate all. ap (λ ts. record { 0 = latest (delays_of (delays_of_cells cells) gate.cell.0) ts }) (arrivals_at-set arrivals at v gate.pins all) }
 
--- each net arrives by the million units of the gates so far
-pub early_more : (arrivals : List Micro) (first j : ℕ) (v : Micro) → first + j < length arrivals → v.0 ≤ j * one_step + one_step → ((i : ℕ) → i < first + j → arrival_at arrivals i ≤ j * one_step) → (i : ℕ) → i < first + (j + 1) → arrival_at (set arrivals (first + j) v) i ≤ (j + 1) * one_step
-early_more arrivals first j v inside within early i below = at_net (cases_eq i (first + j))
+-- one more net arrives a million units at most behind the nets before it
+pub early_more : (arrivals : List Micro) (at most : ℕ) (v : Micro) → at < length arrivals → v.0 ≤ most + one_step → ((i : ℕ) → i < at → arrival_at arrivals i ≤ most) → (i : ℕ) → i < at + 1 → arrival_at (set arrivals at v) i ≤ most + one_step
+early_more arrivals at most v inside within early i below = at_net (cases_eq i at)
   where
-    at_net : (i ≡ first + j) ⊎ (i ≡ first + j → ⊥) → arrival_at (set arrivals (first + j) v) i ≤ (j + 1) * one_step
+    at_net : (i ≡ at) ⊎ (i ≡ at → ⊥) → arrival_at (set arrivals at v) i ≤ most + one_step
     at_net (inl same) =
-        let read = ap (λ n. arrival_at (set arrivals (first + j) v) n) same ∙ ap (λ (m : Micro). m.0) (get_or-set_same arrivals (first + j) v (record { 0 = 0 }) inside) in
-        subst (λ t. t ≤ (j + 1) * one_step) (sym read) (omega (arith, within))
+        let read = ap (λ n. arrival_at (set arrivals at v) n) same ∙ ap (λ (m : Micro). m.0) (get_or-set_same arrivals at v (record { 0 = 0 }) inside) in
+        subst (λ t. t ≤ most + one_step) (sym read) within
     at_net (inr differs) =
-        let lower : i < first + j = omega arith in
+        let lower : i < at = omega arith in
         let kept = early i lower in
-        let read = ap (λ (m : Micro). m.0) (get_or-set_other arrivals (first + j) i v (record { 0 = 0 }) differs) in
-        subst (λ t. t ≤ (j + 1) * one_step) (sym read) (omega (arith, kept))
+        let read = ap (λ (m : Micro). m.0) (get_or-set_other arrivals at i v (record { 0 = 0 }) differs) in
+        subst (λ t. t ≤ most + one_step) (sym read) (omega (arith, kept))
+
+-- the starts at the front are the inputs' arrivals
+pub starts_read : (starts arrivals : List Micro) → take (length starts) arrivals ≡ starts → (i : ℕ) → i < length starts → arrival_at arrivals i ≡ arrival_at starts i
+starts_read starts arrivals front i below =
+    sym (ap (λ (m : Micro). m.0) (get_or-take (length starts) arrivals i (record { 0 = 0 }) below)) ∙ ap (λ ms. arrival_at ms i) front
+
+-- a start is at most a million units
+pub start_low : (starts : List Micro) → All IsSmall starts → (i : ℕ) → i < length starts → arrival_at starts i ≤ one_step
+start_low starts small i below =
+    let less : (get_or starts i (record { 0 = 0 })).0 < 1000000 * 1000000 = All-get_or IsSmall starts i (record { 0 = 0 }) below small in
+    omega (arith, less)
 
 -- the delays of a cell of the library
 pub delays_at : (cells : List CellParts) (place : ℕ) (cell : CellParts) → slice_get cells place ≡ Some cell → delays_of (delays_of_cells cells) place ≡ cell_delays cell
@@ -118,13 +129,14 @@ delays_at [] place cell at = absurd (none-some cell at)
 delays_at (other ∷ cells) zero cell at = ap cell_delays (same_Some other cell at)
 delays_at (other ∷ cells) (suc place) cell at = delays_at cells place cell at
 
--- inputs at 0, and gates that are filled in
-pub filled_arrivals : (cells : List CellParts) (n : NetlistParts) (arrivals : List Micro) → length arrivals ≡ n.inputs + length n.gates → ((i : ℕ) → i < n.inputs → arrival_at arrivals i ≡ 0) → ((j : ℕ) (gate : Gate) → slice_get n.gates j ≡ Some gate → arrival_at arrivals (n.inputs + j) ≡ gate_arrival cells arrivals gate) → AreArrivals (delays_of_cells cells) (plain n) (map millionths arrivals)
-filled_arrivals cells n arrivals one_each inputs gates = record {
+-- inputs at their starts, and gates that are filled in
+pub filled_arrivals : (cells : List CellParts) (starts : List Micro) (n : NetlistParts) (arrivals : List Micro) → length starts ≡ n.inputs → length arrivals ≡ n.inputs + length n.gates → ((i : ℕ) → i < n.inputs → arrival_at arrivals i ≡ arrival_at starts i) → ((j : ℕ) (gate : Gate) → slice_get n.gates j ≡ Some gate → arrival_at arrivals (n.inputs + j) ≡ gate_arrival cells arrivals gate) → AreArrivals (timing_of cells starts) (plain n) (map millionths arrivals)
+filled_arrivals cells starts n arrivals one_start one_each inputs gates = record {
   one_each = length-map arrivals millionths ∙ (one_each ∙ ap (λ k. n.inputs + k) (sym (length-map n.gates plain_gate)));
   inputs = λ i below.
       let inside : i < length arrivals = omega (arith, below, one_each) in
-      read i inside ∙ ap (λ t. Some t) (inputs i below);
+      let started : i < length starts = omega (arith, below, one_start) in
+      read i inside ∙ ap (λ t. Some t) (inputs i below ∙ sym (get_or-map millionths starts i (record { 0 = 0 }) 0 started));
   gates = λ j gate at.
       let i = image_at plain_gate n.gates j gate at in
       let below = slice_get_within n.gates j i.from i.at in
@@ -137,3 +149,15 @@ filled_arrivals cells n arrivals one_each inputs gates = record {
         let size : length (map millionths arrivals) ≡ length arrivals = length-map arrivals millionths in
         let within : i < length (map millionths arrivals) = omega arith in
         slice_get-get_or (map millionths arrivals) i 0 within ∙ ap (λ t. Some t) (get_or-map millionths arrivals i (record { 0 = 0 }) 0 inside)
+
+get_or_any : {A : Type 0} (xs : List A) (i : ℕ) (d e : A) → i < length xs → get_or xs i d ≡ get_or xs i e
+get_or_any [] i d e below = absurd (omega arith)
+get_or_any (x ∷ xs) zero d e below = refl
+get_or_any (x ∷ xs) (suc i) d e below = get_or_any xs i d e (omega arith)
+
+-- arrivals behind so many gates are low
+pub all_low : (arrivals : List Micro) (gates : ℕ) → gates ≤ 8000000 → ((i : ℕ) → i < length arrivals → arrival_at arrivals i ≤ (gates + 1) * one_step) → All (λ (m : Micro). m.0 < 2 ^ 63) arrivals
+all_low arrivals gates few low = λ i d below. by_default i d below (low i below)
+  where
+    by_default : (i : ℕ) (d : Micro) → i < length arrivals → arrival_at arrivals i ≤ (gates + 1) * one_step → (get_or arrivals i d).0 < 2 ^ 63
+    by_default i d below le = let same = get_or_any arrivals i d (record { 0 = 0 }) below in subst (λ (m : Micro). m.0 < 2 ^ 63) (sym same) (omega (arith, le))

@@ -1,5 +1,5 @@
 // When nets arrive.
-ghost use Rattle.std.specs.Prelude.{◌≡◌, ◌+◌, ◌*◌, ◌<◌, ◌≤◌, max, ℕ, Some, length, slice_get, All};
+ghost use Rattle.std.specs.Prelude.{◌≡◌, ◌+◌, ◌*◌, ◌<◌, ◌≤◌, max, ℕ, Some, length, take, slice_get, All};
 ghost use Rattle.lw_laws.specs.Covers.{latest};
 ghost use Rattle.lw_genlib.specs.Cells.{IsListed};
 ghost use Rattle.lw_netlist.specs.Netlists.{IsGateAt, most_gates};
@@ -25,7 +25,7 @@ fn arrival_of(cell: &Cell, pins: &[NetId], nets: &[Micro]) -> Micro
     requires one_each { length pins.now ≡ length cell.now.pins }
     requires listed { IsListed cell.now }
     requires known { All (λ net. net.0 < length nets.now) pins.now }
-    requires early { All (λ net. arrival_at nets.now net.0 ≤ most_gates * one_step) pins.now }
+    requires early { All (λ net. arrival_at nets.now net.0 ≤ (most_gates + 1) * one_step) pins.now }
     ensures { result.0 ≡ latest (cell_delays cell.now) (arrivals_at nets.now pins.now) }
 {
     let mut latest = 0;
@@ -35,17 +35,26 @@ fn arrival_of(cell: &Cell, pins: &[NetId], nets: &[Micro]) -> Micro
     Micro(latest)
 }
 
-// Fills in the arrivals of the nets that the gates drive, which are those from `first` on, and of the inputs before them.
+// Copies the starts of the inputs to the front.
+pub(crate) fn copy_starts(starts: &[Micro], nets: &mut [Micro])
+    requires { length starts.now ≤ length nets.old }
+    ensures { take (length starts.now) nets.new ≡ starts.now }
+{
+    nets[..starts.len()].copy_from_slice(starts);
+}
+
+// Fills in the arrivals of the nets that the gates drive, which are those from `first` on, behind the starts of the inputs.
 pub(crate) fn fill_arrivals(gates: &[Gate], lib: &Library, first: usize, nets: &mut [Micro])
     requires gates { (j : ℕ) (gate : _) → slice_get gates.now j ≡ Some gate → IsGateAt first j gate }
     requires over { All (HasCell lib.now) gates.now }
     requires one_each { length nets.old ≡ first + length gates.now }
     requires few { length gates.now ≤ most_gates }
-    ensures inputs { (i : ℕ) → i < first → arrival_at nets.new i ≡ 0 }
+    requires started { (i : ℕ) → i < first → arrival_at nets.old i ≤ one_step }
+    ensures inputs { (i : ℕ) → i < first → arrival_at nets.new i ≡ arrival_at nets.old i }
     ensures arrivals { (j : ℕ) (gate : _) → slice_get gates.now j ≡ Some gate → arrival_at nets.new (first + j) ≡ gate_arrival lib.now nets.new gate }
+    ensures low { (i : ℕ) → i < length nets.new → arrival_at nets.new i ≤ (length gates.now + 1) * one_step }
     ensures length { length nets.new ≡ length nets.old }
 {
-    nets[..first].fill(Micro(0));
     for (j, gate) in gates.iter().enumerate() {
         nets[first + j] = arrival_of(cell_of(lib, gate), gate.pins.as_slice(), nets);
     }

@@ -1,9 +1,9 @@
-ghost use Rattle.std.specs.Prelude.{◌≡◌, ◌≤◌, length, map};
+ghost use Rattle.std.specs.Prelude.{◌≡◌, ◌≤◌, ◌<◌, ◌^◌, All, length, map};
 
-use crate::arrivals::fill_arrivals;
+use crate::arrivals::{copy_starts, fill_arrivals};
 use crate::values::{copy_front, fill_values};
 use crate::{Gate, Gates, Port, PortList};
-use lw_fixed::Micro;
+use lw_fixed::{Micro, Micros};
 use lw_genlib::Library;
 use lw_pool::{Name, Names};
 use std::marker::Model;
@@ -32,7 +32,8 @@ impl Netlist {
     ghost use Rattle.lw_laws.specs.Networks.{given};
     ghost use Rattle.lw_laws.specs.Netlists.{AreNetlistValues, AreArrivals};
     ghost use Rattle.lw_netlist.specs.Netlists.{IsNetlist, NetlistParts, most_gates};
-    ghost use Rattle.lw_genlib.specs.Tables.{delays_of_cells, truth_of_cells, millionths};
+    ghost use Rattle.lw_genlib.specs.Cells.{IsSmall};
+    ghost use Rattle.lw_genlib.specs.Tables.{millionths, timing_of, truth_of_cells};
     ghost use Rattle.lw_netlist.specs.Plain.{plain, IsOver};
 
     /// The netlist of these parts, without memory.
@@ -101,14 +102,19 @@ impl Netlist {
         fill_values(gates, lib, x.len(), nets);
     }
 
-    /// Fills in when each net arrives, without memory: an input at 0, and a gate at the greatest of its pins' arrivals and delays.
-    pub fn arrivals(&self, lib: &Library, nets: &mut [Micro])
+    /// Fills in when each net arrives, without memory: an input at its start, and a gate at the greatest of its pins' arrivals and
+    /// delays.
+    pub fn arrivals(&self, lib: &Library, starts: &Micros, nets: &mut [Micro])
         requires over { IsOver lib.now self.now }
+        requires one_start { length starts.now ≡ self.now.inputs }
+        requires small { All IsSmall starts.now }
         requires one_net { length nets.old ≡ length self.now.names }
         requires few { length self.now.gates ≤ most_gates }
-        ensures { AreArrivals (delays_of_cells lib.now) (plain self.now) (map millionths nets.new) }
+        ensures arrivals { AreArrivals (timing_of lib.now starts.now) (plain self.now) (map millionths nets.new) }
+        ensures low { All (λ net. net.0 < 2 ^ 63) nets.new }
     {
         let gates = self.gates();
+        copy_starts(starts.as_slice(), nets);
         fill_arrivals(gates, lib, self.inputs() as usize, nets);
     }
 }

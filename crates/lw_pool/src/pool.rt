@@ -1,4 +1,4 @@
-ghost use Rattle.std.specs.Prelude.{◌≡◌, ◌+◌, ◌-◌, ◌^◌, ◌<◌, ◌≤◌, ◌++◌, [], ◌∷◌, ◌↔◌, length, IfOk, IfErr, OnOk, OnErr, IsTrue, slice_get};
+ghost use Rattle.std.specs.Prelude.{◌≡◌, ◌+◌, ◌-◌, ◌^◌, ◌<◌, ◌≤◌, ◌++◌, [], ◌∷◌, ◌↔◌, length, IfOk, IfErr, OnOk, OnErr, IsTrue, slice_get, take, drop};
 
 use crate::Id;
 use std::alloc::{AllocError, Global};
@@ -77,6 +77,15 @@ impl<I: Id, T> Pool<I, T> {
         ensures { slice_get self.now.items (I.number id) ≡ Some result.now }
     {
         &self.items[id.number() as usize]
+    }
+
+    /// Some entries that stand one after another, from a place on.
+    pub fn part(&self, first: u32, count: u32) -> &[T]
+        requires { first + count ≤ length self.now.items }
+        ensures { result.now ≡ take count (drop first self.now.items) }
+    {
+        let start = first as usize;
+        &self.items[start..start + count as usize]
     }
 
     /// How many entries there are.

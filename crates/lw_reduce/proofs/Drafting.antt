@@ -1,7 +1,7 @@
 -- A draft with one more fact or link, and how its samples keep forms and their complements apart.
-use Rattle.std.proofs.Common.{ℕ, suc, zero, ◌*◌, ◌/◌, ◌%◌, ◌-◌, ◌<◌, ◌≡◌, ◌==◌, not, Bool, true, false, List, [], ◌∷◌, ◌++◌, length, map, get_or, slice_index, All, Contains, refl, ap, sym, ◌∙◌, subst, arith, if◌then◌else◌, inl}
+use Rattle.std.proofs.Common.{ℕ, suc, zero, ◌*◌, ◌/◌, ◌%◌, ◌-◌, ◌^◌, ◌<◌, ◌≡◌, ◌==◌, not, Bool, true, false, List, [], ◌∷◌, ◌++◌, length, map, get_or, slice_index, All, Contains, refl, ap, sym, ◌∙◌, subst, arith, if◌then◌else◌, inl}
 use Rattle.std.specs.Prelude.{slice_index_or}
-use Rattle.std.proofs.lemmas.List.{map-append}
+use Rattle.std.proofs.lemmas.List.{map-append, length-append}
 use Rattle.std.proofs.lemmas.List.Elements.{All-append, All-contains, Contains-get_or}
 use Rattle.lw_laws.specs.Families.{Equivalent}
 use Rattle.lw_laws.specs.Families.Equivalent.{same}
@@ -20,11 +20,12 @@ all_one : {X : Type 0} (P : X → Type 0) (y : X) → P y → All P (y ∷ [])
 all_one P y p zero d lt = p
 all_one P y p (suc k) d lt = absurd (omega arith)
 
-pub nand_kept : (inputs : ℕ) (samples : List Bool) (nands : List Fact) (links : List Link) (p : Fact) (new : List Fact) → IsDraft (plain_draft inputs samples nands links) → FitsNand samples (plain_fact p) → new ≡ nands ++ p ∷ [] → IsDraft (plain_draft inputs samples new links)
-nand_kept inputs samples nands links p new is fits e = record {
+pub nand_kept : (inputs : ℕ) (samples : List Bool) (nands : List Fact) (links : List Link) (p : Fact) (new : List Fact) → IsDraft (plain_draft inputs samples nands links) → FitsNand samples (plain_fact p) → length (map plain_fact nands) < 2 ^ 32 - 2 → new ≡ nands ++ p ∷ [] → IsDraft (plain_draft inputs samples new links)
+nand_kept inputs samples nands links p new is fits room e = record {
   inputs = is.inputs;
   few_inputs = is.few_inputs;
   few = is.few;
+  few_nands = let n = ap length (ap (map plain_fact) e ∙ map-append plain_fact nands (p ∷ [])) in let m = length-append (map plain_fact nands) (plain_fact p ∷ []) in omega arith;
   nands = subst (λ ps. All (FitsNand samples) ps) (sym (ap (map plain_fact) e ∙ map-append plain_fact nands (p ∷ []))) (All-append (FitsNand samples) (map plain_fact nands) (plain_fact p ∷ []) is.nands (all_one (FitsNand samples) (plain_fact p) fits));
   links = is.links;
 }
@@ -34,6 +35,7 @@ link_kept inputs samples nands links l new is fits e = record {
   inputs = is.inputs;
   few_inputs = is.few_inputs;
   few = is.few;
+  few_nands = is.few_nands;
   nands = is.nands;
   links = subst (λ ls. All (FitsLink samples) ls) (sym (ap (map plain_link) e ∙ map-append plain_link links (l ∷ []))) (All-append (FitsLink samples) (map plain_link links) (plain_link l ∷ []) is.links (all_one (FitsLink samples) (plain_link l) fits));
 }

@@ -1,5 +1,5 @@
 -- Members of lists that are mapped, filtered, or left without repeats.
-use Rattle.std.proofs.Common.{zero, suc, ◌≡◌, Bool, true, false, cond, List, [], ◌∷◌, map, filter, Contains, refl, ap, sym, ◌∙◌, subst, arith}
+use Rattle.std.proofs.Common.{zero, suc, ◌≡◌, ◌≤◌, length, Bool, true, false, cond, List, [], ◌∷◌, map, filter, Contains, refl, ap, sym, ◌∙◌, subst, arith}
 use Rattle.std.specs.List.{AllByRecursion, dedup, dedup_from}
 use Rattle.lw_laws.proofs.Lists.{all_contains, contains_all}
 
@@ -79,3 +79,16 @@ module _ {X : Type 0} (E : X → X → Bool) where
   pub dedup_back : (xs : List X) (x : X) → Contains (dedup E xs) x → Contains xs x
   dedup_back [] x c = c
   dedup_back (k ∷ xs) x c = dedup_from_back k xs x c
+
+-- no more are left than there were
+dedup_from_few : {X : Type 0} (E : X → X → Bool) (k : X) (xs : List X) → length (dedup_from E k xs) ≤ suc (length xs)
+dedup_from_few E k [] = omega arith
+dedup_from_few E k (x ∷ xs) = by_test (E x k) (dedup_from_few E k xs) (dedup_from_few E x xs)
+  where
+    by_test : (b : Bool) → length (dedup_from E k xs) ≤ suc (length xs) → length (dedup_from E x xs) ≤ suc (length xs) → length (cond b (dedup_from E k xs) (k ∷ dedup_from E x xs)) ≤ suc (length (x ∷ xs))
+    by_test true c d = omega arith
+    by_test false c d = omega arith
+
+pub dedup_few : {X : Type 0} (E : X → X → Bool) (xs : List X) → length (dedup E xs) ≤ length xs
+dedup_few E [] = omega arith
+dedup_few E (x ∷ xs) = let h = dedup_from_few E x xs in omega arith

@@ -1,5 +1,5 @@
 -- The plain draft that the code's draft stands for, and what its type keeps.
-use Rattle.std.specs.Prelude.{ℕ, ◌/◌, ◌%◌, ◌<◌, ◌≤◌, ◌≡◌, ◌==◌, ◌^◌, Bool, false, not, ◌&&◌, if◌then◌else◌, List, length, map, slice_index_or, All}
+use Rattle.std.specs.Prelude.{ℕ, ◌-◌, ◌/◌, ◌%◌, ◌<◌, ◌≤◌, ◌≡◌, ◌==◌, ◌^◌, Bool, false, not, ◌&&◌, if◌then◌else◌, List, length, map, slice_index_or, All}
 use Rattle.lw_laws.specs.Drafts.{Draft as PlainDraft, FormLink, NandFact}
 use Rattle.lw_reduce.specs.declared.facts.Fact.{Fact}
 use Rattle.lw_reduce.specs.declared.facts.Link.{Link}
@@ -41,5 +41,6 @@ pub record IsDraft (d : PlainDraft) : Type 0 where
   pub inputs : d.inputs < length d.samples
   pub few_inputs : d.inputs ≤ 262144
   pub few : length d.samples < 2 ^ 31
+  pub few_nands : length d.nands < 2 ^ 32 - 1
   pub nands : All (FitsNand d.samples) d.nands
   pub links : All (FitsLink d.samples) d.links

@@ -1,4 +1,4 @@
-ghost use Rattle.std.specs.Prelude.{◌≡◌, ◌+◌, ◌-◌, ◌*◌, ◌<◌, ◌≤◌, ◌^◌, ◌++◌, [], ◌∷◌, true, false, not, ◌&&◌, length, replicate, IfOk, OnOk, OnErr};
+ghost use Rattle.std.specs.Prelude.{◌≡◌, ◌+◌, ◌-◌, ◌*◌, ◌<◌, ◌≤◌, ◌^◌, ◌++◌, [], ◌∷◌, true, false, not, ◌&&◌, length, replicate, ◌↔◌, IsTrue, IfOk, OnOk, OnErr};
 ghost use Rattle.lw_reduce.specs.Drafting.{IsDraft, IsKnown, sample_of};
 
 use crate::facts::{Fact, Link};
@@ -68,12 +68,20 @@ impl Draft {
         Ok(form)
     }
 
+    /// Whether no NAND fact may be added.
+    pub fn is_full(&self) -> bool
+        ensures { IsTrue result ↔ (2 ^ 32 - 2 ≤ length self.now.nands) }
+    {
+        self.nands.len() >= 0xffff_fffe
+    }
+
     /// Appends the fact that a form is the NAND of two. For want of memory nothing is changed.
     pub fn nand(&mut self, form: FormId, left: FormId, right: FormId) -> Result<(), AllocError>
         requires form { IsKnown self.old.samples form.0 }
         requires left { IsKnown self.old.samples left.0 }
         requires right { IsKnown self.old.samples right.0 }
         requires samples { sample_of self.old.samples form.0 ≡ not (sample_of self.old.samples left.0 && sample_of self.old.samples right.0) }
+        requires few { length self.old.nands < 2 ^ 32 - 2 }
         ensures ok { OnOk result (self.new ≡ record { inputs = self.old.inputs; samples = self.old.samples; nands = self.old.nands ++ (record { form = form.0; left = left.0; right = right.0 }) ∷ []; links = self.old.links }) }
         ensures err { OnErr result (self.new ≡ self.old) }
     {

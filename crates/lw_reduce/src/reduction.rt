@@ -1,5 +1,5 @@
 // The graph of a draft's classes.
-ghost use Rattle.std.specs.Prelude.{◌≡◌, ◌+◌, ◌*◌, ◌<◌, ◌≤◌, ◌^◌, ℕ, Bool, List, length, map, slice_index, IfOk};
+ghost use Rattle.std.specs.Prelude.{◌≡◌, ◌+◌, ◌-◌, ◌*◌, ◌<◌, ◌≤◌, ◌^◌, ℕ, Bool, List, length, map, slice_index, IfOk};
 ghost use Rattle.lw_laws.specs.Drafts.{IsReduced};
 ghost use Rattle.lw_reduce.specs.Drafting.{plain_draft};
 ghost use Rattle.lw_reduce.specs.Classing.{mark};
@@ -54,6 +54,7 @@ fn graph_of(
     requires settled { AreSettled (length names.now) nands.items links.now names.now }
     requires few { length names.now < 2 ^ 31 }
     requires inputs { inputs < length names.now }
+    requires few_nands { length nands.items < 2 ^ 32 - 1 }
     ensures { IfOk result (λ graph. (samples : List Bool) → length samples ≡ length names.now → IsReduced (plain_draft inputs samples nands.items links.now) graph) }
 {
     let numbered = number(alloc, names)?;
@@ -62,7 +63,8 @@ fn graph_of(
     let leaves = classes_of(alloc, &numbered.forms[1..inputs as usize + 1])?;
     let forms = classes_of(alloc, &numbered.forms)?;
     let one = ClassId(numbered.forms[0]);
-    Ok(Graph::new(one, leaves, forms, lists))
+    let graph = Graph::flat(alloc, one, leaves, forms, lists.ends, lists.pairs)?;
+    Ok(graph)
 }
 
 // The graph of base forms that each are their own name.
@@ -76,6 +78,7 @@ fn graph_by(
     requires can { CanName (length names.old) nands.items links.now names.old }
     requires few { length names.old < 2 ^ 31 }
     requires inputs { inputs < length names.old }
+    requires few_nands { length nands.items < 2 ^ 32 - 1 }
     ensures { IfOk result (λ graph. (samples : List Bool) → length samples ≡ length names.old → IsReduced (plain_draft inputs samples nands.items links.now) graph) }
 {
     settle(alloc, names, &nands, links)?;

@@ -180,7 +180,7 @@ fn refusals_have_their_lines(rt: HostRuntime) -> Result<(), Fail> {
         ),
         refused(
             INVERTER,
-            b".model m\n.latch a b\n",
+            b".model m\n.clock a\n",
             3,
             b"lwmap: IN line 2: command not supported\n",
         ),

@@ -9,7 +9,7 @@ const SLOW_PIN: &[u8] =
     b"GATE and2 3 O=a*b;\nPIN a NONINV 1 999 1 0 1 0\nPIN b NONINV 1 999 5 0 4 0\n";
 
 const USAGE: &[u8] =
-    b"lwmap: usage: map [-w K] [-c] LIB IN | check [-w K] LIB IN MAPPED | time LIB MAPPED | sim IN VECTORS | sim -g LIB MAPPED VECTORS | graph [-w K] IN | big SEED N LIB\n";
+    b"lwmap: usage: map [-w K] [-i] [-c] LIB IN | check [-w K] [-i] LIB IN MAPPED | time LIB MAPPED | sim IN VECTORS | sim -g LIB MAPPED VECTORS | graph [-w K] [-i] IN | big SEED N LIB\n";
 
 fn mapped<'a>(library: &'a [u8], network: &'a [u8], out: &'a [u8]) -> Row<'a> {
     Row {
@@ -190,6 +190,8 @@ fn widths_are_read(rt: HostRuntime) -> Result<(), Fail> {
         "map -w 1 LIB IN",
         "map -w LIB IN",
         "map -c -w 4 LIB IN",
+        "map -i -w 4 LIB IN",
+        "map -i -i LIB IN",
         "map LIB IN -w 4",
     ] {
         gives(
@@ -200,6 +202,60 @@ fn widths_are_read(rt: HostRuntime) -> Result<(), Fail> {
             QUIET,
         )?;
     }
+    Ok(())
+}
+
+#[test]
+fn latches_and_starts_are_kept(rt: HostRuntime) -> Result<(), Fail> {
+    let alloc = rt.alloc();
+    let rows = [
+        mapped(
+            NANDS,
+            b".model cnt\n.inputs en clk\n.outputs q\n.latch d q re clk 0\n.names en q d\n10 1\n01 1\n.end\n",
+            b".model cnt\n.inputs en clk\n.outputs q\n.latch d q re clk 0\n.gate inv a=en O=n1\n.gate inv a=q O=n2\n.gate nand2 a=en b=n2 O=n3\n.gate nand2 a=n1 b=q O=n4\n.gate nand2 a=n3 b=n4 O=d\n.end\n",
+        ),
+        mapped(
+            NANDS,
+            b".model and3\n.inputs a b c\n.outputs f\n.input_arrival c 2 3\n.names a b c f\n111 1\n.end\n",
+            b".model and3\n.inputs a b c\n.outputs f\n.input_arrival c 3 3\n.gate nand2 a=a b=b O=n1\n.gate inv a=n1 O=n2\n.gate nand2 a=c b=n2 O=n3\n.gate inv a=n3 O=f\n.end\n",
+        ),
+        refused(
+            NANDS,
+            b".model m\n.inputs a\n.outputs f\n.input_arrival a -1 0\n.names a f\n0 1\n.end\n",
+            3,
+            b"lwmap: IN line 4: decimal below 0\n",
+        ),
+    ];
+    for row in rows {
+        gives(&rt, alloc, "map LIB IN", row, QUIET)?;
+    }
+    Ok(())
+}
+
+#[test]
+fn more_laws_find_tied_pins(rt: HostRuntime) -> Result<(), Fail> {
+    let alloc = rt.alloc();
+    let nand2 = b"GATE nand2 2 O=!(a*b);\nPIN * INV 1 999 1.5 0 1.5 0\n";
+    let inverted = b".model m\n.inputs a\n.outputs f\n.names a f\n0 1\n.end\n";
+    let both = b".model m\n.inputs a b\n.outputs f\n.names a b f\n11 1\n.end\n";
+    let rows = [
+        mapped(
+            nand2,
+            inverted,
+            b".model m\n.inputs a\n.outputs f\n.gate nand2 a=a b=a O=f\n.end\n",
+        ),
+        mapped(
+            nand2,
+            both,
+            b".model m\n.inputs a b\n.outputs f\n.gate nand2 a=a b=b O=n1\n.gate nand2 a=n1 b=n1 O=f\n.end\n",
+        ),
+    ];
+    for row in rows {
+        gives(&rt, alloc, "map -i LIB IN", row, QUIET)?;
+        gives(&rt, alloc, "map -w 2 -i LIB IN", row, QUIET)?;
+    }
+    let uncovered = refused(nand2, both, 6, b"lwmap: no cover for output f\n");
+    gives(&rt, alloc, "map LIB IN", uncovered, QUIET)?;
     Ok(())
 }
 

@@ -14,11 +14,15 @@ use Rattle.lw_net.specs.declared.fault.NetFault.TheVariants as whole
 use Rattle.lw_blif.specs.declared.fault.BlifFault.TheVariants as fault
 use Rattle.lw_blif.specs.LineFaults.{FaultAt, first_fault, lines_read}
 use Rattle.lw_blif.specs.Drafts.{draft_of}
-use Rattle.lw_blif.specs.BlifNetworks.{ComesTo}
+use Rattle.lw_fixed.specs.declared.micro.Micro.{Micro}
+use Rattle.lw_pool.specs.declared.latch.Frame.{Frame}
+use Rattle.lw_words.specs.Lines.{LogicalLine}
+use Rattle.lw_blif.specs.declared.parsed.Parsed.{Parsed}
+use Rattle.lw_blif.specs.BlifNetworks.{IsModelOf, ComesTo}
 use Rattle.lw_top.specs.declared.refusal.Refusal.{Refusal}
 use Rattle.lw_top.specs.declared.refusal.Refusal.TheVariants.{Network, Undefined, Cycle}
 use Rattle.lw_top.specs.Steps.{Files}
-use Rattle.lw_top.specs.Answers.{lines_in, HasNetwork}
+use Rattle.lw_top.specs.Answers.{lines_in, HasModel}
 
 -- Names that are driven
 
@@ -112,7 +116,7 @@ module _ (draft : Draft) (depth other : List ℕ → ℕ) (depths : AreDepths dr
       same_flat [] = refl
       same_flat (d ∷ ds) = ap₂ (λ xs ys. xs ++ ys) (same_at d draft.nodes same_depths) (same_flat ds)
 
-network_one : (draft : Draft) (net other : NetworkParts) → IsClosed draft net → IsClosed draft other → net ≡ other
+pub network_one : (draft : Draft) (net other : NetworkParts) → IsClosed draft net → IsClosed draft other → net ≡ other
 network_one draft net other c d = c.network ∙ (ap (network_in draft) (same_order draft c.depth d.depth c.depths d.depths c.defined) ∙ sym d.network)
 
 -- The first node on a cycle
@@ -128,60 +132,70 @@ first_one nodes name other f g = by_place (cases_lt f.place g.place) (cases_lt g
         let both : ◌≡◌ {A = Option (List ℕ)} (Some name) (Some other) = sym f.named ∙ (ap (slice_get (map out_of nodes)) same ∙ g.named) in
         cc
 
--- What a draft comes to
+-- What a text comes to
 
--- the first line that breaks a rule, or what the draft is closed to
-abbrev Closes : Option FaultAt → Draft → Result NetworkParts Refusal → Type 0
-Closes first draft (Ok net) = ComesTo first draft (Ok net)
-Closes first draft (Err (Network line kind)) = ComesTo first draft (Err (fault.Line line kind))
-Closes first draft (Err (Undefined name)) = ComesTo first draft (Err (fault.Whole (whole.Undefined name)))
-Closes first draft (Err (Cycle name)) = ComesTo first draft (Err (fault.Whole (whole.Cycle name)))
-Closes first draft (Err other) = ⊥
+parsed_of : NetworkParts → Frame → List Micro → Parsed
+parsed_of net frame starts = record { network = net; frame = frame; starts = starts }
 
-module _ (draft : Draft) where
-  net_one : (net : NetworkParts) (a : Result NetworkParts Refusal) → IsClosed draft net → Closes None draft a → Ok net ≡ a
-  net_one net (Ok other) c d = ap (λ n. Ok n) (network_one draft net other c d)
-  net_one net (Err (Undefined name)) c d = let is : None ≡ Some name = sym c.defined ∙ d in cc
-  net_one net (Err (Cycle name)) c d = absurd (c.no_cycle name d.1.cycle)
-  net_one net (Err other) c d = absurd d
+-- the model of lines is one
+model_one : (lines : List LogicalLine) (model other : Parsed) → IsModelOf lines model → IsModelOf lines other → model ≡ other
+unfolding parsed_of
+model_one lines model other c d =
+    ap₂ (λ (n : NetworkParts) (f : Frame). parsed_of n f model.starts) (network_one (draft_of lines) model.network other.network c.network d.network) (c.frame ∙ sym d.frame)
+    ∙ ap (λ (s : List Micro). parsed_of other.network other.frame s) (c.starts ∙ sym d.starts)
 
-  undefined_one : (name : List ℕ) (a : Result NetworkParts Refusal) → first_undefined draft ≡ Some name → Closes None draft a → Err (Undefined name) ≡ a
-  undefined_one name (Ok net) c d = let is : None ≡ Some name = sym d.defined ∙ c in cc
+-- the first line that breaks a rule, or what the lines are closed to
+abbrev Closes : Option FaultAt → List LogicalLine → Result Parsed Refusal → Type 0
+Closes first lines (Ok model) = ComesTo first lines (Ok model)
+Closes first lines (Err (Network line kind)) = ComesTo first lines (Err (fault.Line line kind))
+Closes first lines (Err (Undefined name)) = ComesTo first lines (Err (fault.Whole (whole.Undefined name)))
+Closes first lines (Err (Cycle name)) = ComesTo first lines (Err (fault.Whole (whole.Cycle name)))
+Closes first lines (Err other) = ⊥
+
+module _ (lines : List LogicalLine) where
+  net_one : (model : Parsed) (a : Result Parsed Refusal) → IsModelOf lines model → Closes None lines a → Ok model ≡ a
+  net_one model (Ok other) c d = ap (λ n. Ok n) (model_one lines model other c d)
+  net_one model (Err (Undefined name)) c d = let is : None ≡ Some name = sym c.network.defined ∙ d in cc
+  net_one model (Err (Cycle name)) c d = absurd (c.network.no_cycle name d.1.cycle)
+  net_one model (Err other) c d = absurd d
+
+  undefined_one : (name : List ℕ) (a : Result Parsed Refusal) → first_undefined (draft_of lines) ≡ Some name → Closes None lines a → Err (Undefined name) ≡ a
+  undefined_one name (Ok model) c d = let is : None ≡ Some name = sym d.network.defined ∙ c in cc
   undefined_one name (Err (Undefined other)) c d = let is : Some name ≡ Some other = sym c ∙ d in cc
   undefined_one name (Err (Cycle other)) c d = let is : None ≡ Some name = sym d.0 ∙ c in cc
   undefined_one name (Err other) c d = absurd d
 
-  cycle_one : (name : List ℕ) (a : Result NetworkParts Refusal) → first_undefined draft ≡ None → IsFirstOnCycle draft.nodes name → Closes None draft a → Err (Cycle name) ≡ a
-  cycle_one name (Ok net) none c d = absurd (d.no_cycle name c.cycle)
+  cycle_one : (name : List ℕ) (a : Result Parsed Refusal) → first_undefined (draft_of lines) ≡ None → IsFirstOnCycle (draft_of lines).nodes name → Closes None lines a → Err (Cycle name) ≡ a
+  cycle_one name (Ok model) none c d = absurd (d.network.no_cycle name c.cycle)
   cycle_one name (Err (Undefined other)) none c d = let is : None ≡ Some other = sym none ∙ d in cc
-  cycle_one name (Err (Cycle other)) none c d = ap (λ n. Err (Cycle n)) (first_one draft.nodes name other c d.1)
+  cycle_one name (Err (Cycle other)) none c d = ap (λ n. Err (Cycle n)) (first_one (draft_of lines).nodes name other c d.1)
   cycle_one name (Err other) none c d = absurd d
 
-  closes_one : (a b : Result NetworkParts Refusal) → Closes None draft a → Closes None draft b → a ≡ b
-  closes_one (Ok net) b c d = net_one net b c d
+  closes_one : (a b : Result Parsed Refusal) → Closes None lines a → Closes None lines b → a ≡ b
+  closes_one (Ok model) b c d = net_one model b c d
   closes_one (Err (Undefined name)) b c d = undefined_one name b c d
   closes_one (Err (Cycle name)) b c d = cycle_one name b c.0 c.1 d
   closes_one (Err other) b c d = absurd c
 
-  line_one : (first : FaultAt) (a b : Result NetworkParts Refusal) → Closes (Some first) draft a → Closes (Some first) draft b → a ≡ b
+  line_one : (first : FaultAt) (a b : Result Parsed Refusal) → Closes (Some first) lines a → Closes (Some first) lines b → a ≡ b
   line_one first (Err (Network line kind)) (Err (Network l k)) c d = ap (λ (f : FaultAt). Err (Network f.number f.kind)) (sym c ∙ d)
-  line_one first (Err (Network line kind)) (Ok net) c d = absurd d
+  line_one first (Err (Network line kind)) (Ok model) c d = absurd d
   line_one first (Err (Network line kind)) (Err other) c d = absurd d
-  line_one first (Ok net) b c d = absurd c
+  line_one first (Ok model) b c d = absurd c
   line_one first (Err other) b c d = absurd c
 
-  comes_one : (first : Option FaultAt) (a b : Result NetworkParts Refusal) → Closes first draft a → Closes first draft b → a ≡ b
+  comes_one : (first : Option FaultAt) (a b : Result Parsed Refusal) → Closes first lines a → Closes first lines b → a ≡ b
   comes_one None a b c d = closes_one a b c d
   comes_one (Some first) a b c d = line_one first a b c d
 
-closes : (bytes : List ℕ) (files : Files) (a : Result NetworkParts Refusal) → HasNetwork bytes files a → Closes (first_fault [] (lines_read (lines_in bytes))) (draft_of (lines_read (lines_in bytes))) a
-closes bytes files (Ok net) c = c.0
+closes : (bytes : List ℕ) (files : Files) (a : Result Parsed Refusal) → HasModel bytes files a → Closes (first_fault [] (lines_read (lines_in bytes))) (lines_read (lines_in bytes)) a
+closes bytes files (Ok model) c = c
 closes bytes files (Err (Network line kind)) c = c
 closes bytes files (Err (Undefined name)) c = c
 closes bytes files (Err (Cycle name)) c = c
 closes bytes files (Err other) c = absurd c
 
--- the network of a text is one, and so is its fault
-pub has_one_network : (bytes : List ℕ) (files : Files) (a b : Result NetworkParts Refusal) → HasNetwork bytes files a → HasNetwork bytes files b → a ≡ b
-has_one_network bytes files a b c d =
-    comes_one (draft_of (lines_read (lines_in bytes))) (first_fault [] (lines_read (lines_in bytes))) a b (closes bytes files a c) (closes bytes files b d)
+-- the model of a text is one, and so is its fault
+pub has_one_model : (bytes : List ℕ) (files : Files) (a b : Result Parsed Refusal) → HasModel bytes files a → HasModel bytes files b → a ≡ b
+has_one_model bytes files a b c d =
+    comes_one (lines_read (lines_in bytes)) (first_fault [] (lines_read (lines_in bytes))) a b (closes bytes files a c) (closes bytes files b d)

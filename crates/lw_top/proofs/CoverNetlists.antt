@@ -3,11 +3,11 @@ use Rattle.std.proofs.Common.{ℕ, ◌≡◌, List, [], ◌∷◌, ◌++◌, map
 use Rattle.std.specs.List.{AllZip}
 use Rattle.std.proofs.lemmas.List.{take_at}
 use Rattle.lw_pool.specs.declared.id.ClassId.{ClassId}
-use Rattle.lw_laws.specs.Modes.Mode.{plain as plain_mode}
+use Rattle.lw_laws.specs.Modes.{Mode}
 use Rattle.lw_laws.specs.Networks.{Network}
 use Rattle.lw_laws.specs.Decompositions.{listing_of}
 use Rattle.lw_laws.specs.Graphs.{Graph}
-use Rattle.lw_laws.specs.Covers.{Pattern}
+use Rattle.lw_laws.specs.Covers.{Timing, Pattern}
 use Rattle.lw_laws.specs.Classes.{IsGraphOf}
 use Rattle.lw_laws.specs.Choices.{IsHeight}
 use Rattle.lw_laws.specs.Marks.{heights_of}
@@ -47,17 +47,17 @@ zip_outputs width net g gates (p ∷ outputs) (root ∷ roots) (q ∷ mapped) cl
     let ns : map (λ (port : Port). port.name) mapped ≡ map port_name outputs = cc in
     ((n, subst (λ d. IsNetOf g gates d q.net.0) c at), zip_outputs width net g gates outputs roots mapped cs ns nets)
 
-module _ (width : ℕ) (net : Network) (g : Graph) (pats : List Pattern) (delays : List (List ℕ)) (cap : ℕ) (marks : List (Option Mark)) (ports : Ports) (cover : Cover) (inputs : List (List ℕ)) (outputs : List PlainPort) where
+module _ (mode : Mode) (width : ℕ) (net : Network) (g : Graph) (pats : List Pattern) (timing : Timing) (cap : ℕ) (marks : List (Option Mark)) (ports : Ports) (cover : Cover) (inputs : List (List ℕ)) (outputs : List PlainPort) where
   -- the height of a labelled class
-  height_is : AreLeastMarks g (delay_cost delays cap) pats marks → (c l : ℕ) → labels_in (costs_of marks) c ≡ Some l → IsHeight (choices_of g (map length delays) pats) (delay_cost delays cap) (labels_in (costs_of marks)) c (heights marks c)
+  height_is : AreLeastMarks g (delay_cost timing cap) pats marks → (c l : ℕ) → labels_in (costs_of marks) c ≡ Some l → IsHeight (choices_of g (map length timing.delays) pats) (delay_cost timing cap) (labels_in (costs_of marks)) c (heights marks c)
   height_is are c l e =
       let (m, at, cost) = mark_of_label marks c l e in
       let same : m.height ≡ heights marks c = sym (ap (λ o. heights_of (λ d. o) c) at) in
-      subst (λ h. IsHeight (choices_of g (map length delays) pats) (delay_cost delays cap) (labels_in (costs_of marks)) c h) same (are.heights c m at)
+      subst (λ h. IsHeight (choices_of g (map length timing.delays) pats) (delay_cost timing cap) (labels_in (costs_of marks)) c h) same (are.heights c m at)
 
-  pub cover_is_netlist : IsGraphOf plain_mode net.inputs (listing_of width net) g → AreLeastMarks g (delay_cost delays cap) pats marks → IsCoverOf g (delay_cost delays cap) pats marks ports cover → length inputs ≡ net.inputs → ports.inputs ≡ inputs → ports.outputs ≡ map port_name outputs → numbers ports.roots ≡ root_classes width net g outputs → IsNetlistOf plain_mode width net (record { inputs = inputs; outputs = outputs }) pats delays cap (plain cover.netlist) cover.netlist.names (mapped_ports cover.netlist)
+  pub cover_is_netlist : IsGraphOf mode net.inputs (listing_of width net) g → AreLeastMarks g (delay_cost timing cap) pats marks → IsCoverOf g (delay_cost timing cap) pats marks ports cover → length inputs ≡ net.inputs → ports.inputs ≡ inputs → ports.outputs ≡ map port_name outputs → numbers ports.roots ≡ root_classes width net g outputs → IsNetlistOf mode width net (record { inputs = inputs; outputs = outputs }) pats timing cap (plain cover.netlist) cover.netlist.names (mapped_ports cover.netlist)
   cover_is_netlist graph_is are is long input_names output_names roots =
-      let cost = delay_cost delays cap in
+      let cost = delay_cost timing cap in
       let names : cover.netlist.names ≡ net_names inputs (map port_name outputs) (root_classes width net g outputs) (numbers cover.classes) =
       is.names ∙ (ap₂ (λ (xs ys : List (List ℕ)). net_names xs ys (numbers ports.roots) (numbers cover.classes)) input_names output_names ∙ ap (λ (cs : List ℕ). net_names inputs (map port_name outputs) cs (numbers cover.classes)) roots) in
       let count : cover.netlist.inputs ≡ length inputs = is.extracted.inputs ∙ (graph_is.written.leaf_count ∙ sym long) in

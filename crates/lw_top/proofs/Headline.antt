@@ -2,7 +2,7 @@
 use Rattle.std.proofs.Common.{◌≡◌, inl, inr, ℕ, Bool, true, false, List, [], ◌∷◌, Option, Some, None, Result, Ok, Err, refl, ap, ◌∙◌, if◌then◌else◌, arith}
 use Rattle.lw_io.specs.declared.file.File.{File}
 use Rattle.lw_io.specs.Files.{bytes_of}
-use Rattle.lw_net.specs.Networks.{NetworkParts}
+use Rattle.lw_blif.specs.declared.parsed.Parsed.{Parsed}
 use Rattle.lw_genlib.specs.Cells.{CellParts}
 use Rattle.lw_top.specs.declared.refusal.Refusal.{Refusal}
 use Rattle.lw_top.specs.declared.refusal.Refusal.TheVariants.{Words, TooLong, NoCover}
@@ -10,33 +10,23 @@ use Rattle.lw_top.specs.declared.refusal.Which.{Which}
 use Rattle.lw_top.specs.declared.refusal.Which.TheVariants as which
 use Rattle.lw_top.specs.declared.outcome.Outcome.{Outcome}
 use Rattle.lw_top.specs.declared.outcome.Outcome.TheVariants.{Done, WriteFault, Refused}
-use Rattle.lw_top.specs.Steps.{Files, gives}
+use Rattle.lw_top.specs.Steps.{Files}
 use Rattle.lw_top.specs.Maps.{Maps}
-use Rattle.lw_top.specs.Answers.{Names, names_of, at_width, are_names, width_behind, within_limit, text_of, ReadsLibrary, ReadsNetwork, IsAnswer}
+use Rattle.lw_top.specs.Words.{Options, Command, mapping, command_of}
+use Rattle.lw_top.specs.Answers.{within_limit, text_of, ReadsLibrary, ReadsModel, asked_for, IsCommandAnswer, IsAnswer}
 use Rattle.lw_top.specs.Outcome.{IsDone, Meets, outcome_status}
 use Rattle.lw_top.specs.Telling.{outcome_line, refusal_line}
-use Rattle.lw_top.specs.Mappings.{IsMappingText, LacksOutput}
-use Rattle.lw_top.proofs.Steps.{IsReached, reached-ok, reached-err}
-use Rattle.lw_top.proofs.Sound.{width_bounds, cells_kept, network_kept}
+use Rattle.lw_top.specs.Mappings.{AreRead, IsMappingText, LacksOutput}
+use Rattle.lw_top.proofs.Steps.{IsLast, last-ok, last-err}
+use Rattle.lw_top.proofs.Widths.{command_wide}
+use Rattle.lw_top.proofs.Sound.{asked_some, cells_kept, model_kept}
 use Rattle.lw_top.proofs.Mappings.{mapped_is_mapping}
+use Rattle.lw_top.proofs.Names.{mapped_has_names}
 
 -- no step before the mapping refuses for want of a cover
-choice-stands : (b : Bool) (n : Names) (name : List ℕ) → (if b then Ok n else Err Words) ≡ Err (NoCover name) → ⊥
-choice-stands true n name e = cc
-choice-stands false n name e = cc
-
-width-stands : (command : List ℕ) (width : Option ℕ) (library network name : List ℕ) → at_width command width library network ≡ Err (NoCover name) → ⊥
-width-stands command None library network name e = cc
-width-stands command (Some width) library network name e = choice-stands (are_names command library network) _ name e
-
-words-stand : (words : List (List ℕ)) (name : List ℕ) → names_of words ≡ Err (NoCover name) → ⊥
-words-stand [] name e = cc
-words-stand (a ∷ []) name e = cc
-words-stand (a ∷ b ∷ []) name e = cc
-words-stand (a ∷ b ∷ c ∷ []) name e = width-stands a (Some 6) b c name e
-words-stand (a ∷ b ∷ c ∷ d ∷ []) name e = cc
-words-stand (a ∷ b ∷ c ∷ d ∷ f ∷ []) name e = width-stands a (width_behind b c) d f name e
-words-stand (a ∷ b ∷ c ∷ d ∷ f ∷ h ∷ rest) name e = cc
+words-stand : (o : Option Command) (name : List ℕ) → ◌≡◌ {A = Result Command Refusal} (asked_for o) (Err (NoCover name)) → ⊥
+words-stand None name e = cc
+words-stand (Some c) name e = cc
 
 limit-stands : (b : Bool) (w : Which) (bytes name : List ℕ) → (if b then Ok bytes else Err (TooLong w)) ≡ Err (NoCover name) → ⊥
 limit-stands true w bytes name e = cc
@@ -54,43 +44,69 @@ unfolding text_of
 library-stands word files name (inl (bytes, text, is)) = is
 library-stands word files name (inr (e, refused, is)) = text-stands (files word) which.Library name (refused ∙ ap (λ c. Err c) (cause e (NoCover name) is))
 
-network-stands : (word : List ℕ) (files : Files) (name : List ℕ) → ReadsNetwork word files (Err (NoCover name)) → ⊥
+network-stands : (word : List ℕ) (files : Files) (name : List ℕ) → ReadsModel word files (Err (NoCover name)) → ⊥
 unfolding text_of
 network-stands word files name (inl (bytes, text, is)) = is
 network-stands word files name (inr (e, refused, is)) = text-stands (files word) which.Network name (refused ∙ ap (λ c. Err c) (cause e (NoCover name) is))
 
-module _ (words : List (List ℕ)) (files : Files) where
-  -- the steps before the mapping answered
-  abbrev IsMapped : Result (List ℕ) Refusal → Type 0
-  IsMapped a = IsReached (gives (λ fs. names_of words)) (λ (n : Names). ReadsLibrary n.library) (λ (n : Names). ReadsNetwork n.network) (λ (n : Names) (cells : List CellParts) (net : NetworkParts). Maps n.width cells net) files a
+-- the command that was asked for, and what it comes to
+abbrev IsAsked : List (List ℕ) → Files → Result (List ℕ) Refusal → Type 0
+IsAsked words files a = (c : Command) × (command_of words ≡ Some c) × IsCommandAnswer c files a
 
-  mapping-text : (text : List ℕ) → IsMapped (Ok text) → IsMappingText words files text
-  mapping-text text m = record {
-    width = m.n.width;
-    cells = m.a;
-    network = m.b;
-    netlist = m.comes.netlist;
-    read = record { names = m.n; form = m.one; width_is = refl; library = m.two; network = m.three };
-    written = m.comes.written;
-    mapped = m.comes.is_mapped;
-    mapping =
-        mapped_is_mapping m.n.width m.a m.b (width_bounds words m.n m.one).0
-        (network_kept m.n.network files m.b m.three) (cells_kept m.n.library files m.a m.two) m.comes.within.forms m.comes.netlist m.comes.is_mapped;
-  }
+asked-ok : (words : List (List ℕ)) (files : Files) (text : List ℕ) → IsAnswer words files (Ok text) → IsAsked words files (Ok text)
+asked-ok words files text (inl (c, is, comes)) = (c, asked_some (command_of words) c is, comes)
+asked-ok words files text (inr (e, refused, is)) = cc
+
+asked-lacks : (words : List (List ℕ)) (files : Files) (name : List ℕ) → IsAnswer words files (Err (NoCover name)) → IsAsked words files (Err (NoCover name))
+asked-lacks words files name (inl (c, is, comes)) = (c, asked_some (command_of words) c is, comes)
+asked-lacks words files name (inr (e, refused, is)) = absurd (words-stand (command_of words) name (refused ∙ ap (λ c. Err c) (cause e (NoCover name) is)))
+
+module _ (words : List (List ℕ)) (files : Files) where
+  module _ (options : Options) (library network : List ℕ) (form : command_of words ≡ Some (mapping options library network)) where
+    -- the library and the network were read
+    abbrev IsMapped : Result (List ℕ) Refusal → Type 0
+    IsMapped a = IsLast (ReadsLibrary library) (ReadsModel network) (λ (cells : List CellParts) (model : Parsed). Maps options cells model) files a
+
+    are-read : (a : Result (List ℕ) Refusal) (m : IsMapped a) → AreRead words files options m.a m.b
+    are-read a m = record { library_word = library; network_word = network; form = form; library = m.one; network = m.two }
+
+    mapping-text : (text : List ℕ) → IsMapped (Ok text) → IsMappingText words files text
+    mapping-text text m =
+        let wide = command_wide words (mapping options library network) form in
+        let kept = model_kept network files m.b m.two in
+        let lib = cells_kept library files m.a m.one in
+        record {
+          options = options;
+          cells = m.a;
+          model = m.b;
+          netlist = m.comes.netlist;
+          read = are-read (Ok text) m;
+          written = m.comes.written;
+          frame = kept.fits.frame;
+          starts = kept.fits.starts;
+          mapped = m.comes.is_mapped;
+          mapping_is = mapped_is_mapping options m.a m.b wide kept.network kept.fits.starts.early lib m.comes.within.forms m.comes.netlist m.comes.is_mapped;
+          names = mapped_has_names options m.a m.b wide kept.network kept.fits kept.names_differ m.comes.netlist m.comes.is_mapped;
+        }
+
+    lacks-output : (name : List ℕ) → IsMapped (Err (NoCover name)) → LacksOutput words files name
+    lacks-output name m = record { options = options; cells = m.a; model = m.b; read = are-read (Err (NoCover name)) m; lacks = m.comes }
+
+  text-asked : (text : List ℕ) → IsAsked words files (Ok text) → IsMappingText words files text
+  text-asked text (mapping options library network, form, comes) =
+      mapping-text options library network form text (last-ok (ReadsLibrary library) (ReadsModel network) (λ (cells : List CellParts) (model : Parsed). Maps options cells model) files text comes)
 
   -- an answer that is a text is that of a mapping
   pub answer-mapped : (text : List ℕ) → IsAnswer words files (Ok text) → IsMappingText words files text
-  answer-mapped text answer =
-      mapping-text text (reached-ok (gives (λ fs. names_of words)) (λ (n : Names). ReadsLibrary n.library) (λ (n : Names). ReadsNetwork n.network) (λ (n : Names) (cells : List CellParts) (net : NetworkParts). Maps n.width cells net) files text answer)
+  answer-mapped text answer = text-asked text (asked-ok words files text answer)
 
-  lacks-output : (name : List ℕ) → IsMapped (Err (NoCover name)) → LacksOutput words files name
-  lacks-output name m =
-      record { width = m.n.width; cells = m.a; network = m.b; read = record { names = m.n; form = m.one; width_is = refl; library = m.two; network = m.three }; lacks = m.comes }
+  lacks-asked : (name : List ℕ) → IsAsked words files (Err (NoCover name)) → LacksOutput words files name
+  lacks-asked name (mapping options library network, form, comes) =
+      lacks-output options library network form name (last-err (ReadsLibrary library) (ReadsModel network) (λ (cells : List CellParts) (model : Parsed). Maps options cells model) files (NoCover name) (library-stands library files name) (network-stands network files name) comes)
 
   -- an answer that names an output is of one without a cover
   pub answer-lacks : (name : List ℕ) → IsAnswer words files (Err (NoCover name)) → LacksOutput words files name
-  answer-lacks name answer =
-      lacks-output name (reached-err (gives (λ fs. names_of words)) (λ (n : Names). ReadsLibrary n.library) (λ (n : Names). ReadsNetwork n.network) (λ (n : Names) (cells : List CellParts) (net : NetworkParts). Maps n.width cells net) files (NoCover name) (words-stand words name) (λ n. library-stands n.library files name) (λ n. network-stands n.network files name) answer)
+  answer-lacks name answer = lacks-asked name (asked-lacks words files name answer)
 
 module _ {O : Type 0} (words : List (List ℕ)) (told : Option (List File)) (before now : ℕ) (taken : O → Option (List ℕ)) (is_finished : O → Bool) (faults : O → ℕ) (old new : O) (said : List ℕ → Type 0) where
   abbrev pub Met : Outcome → Type 0
@@ -104,7 +120,7 @@ module _ {O : Type 0} (words : List (List ℕ)) (told : Option (List File)) (bef
   done-maps (Refused other) m files is e = absurd (omega (arith, e))
 
   -- a run that finds no cover names an output without one
-  pub named-lacks : (o : Outcome) → Met o → said (outcome_line words o) → (files : List File) → told ≡ Some files → 6 ≡ outcome_status o → (name : List ℕ) × LacksOutput words (bytes_of files) name × said (refusal_line words (NoCover name))
+  pub named-lacks : (o : Outcome) → Met o → said (outcome_line (command_of words) o) → (files : List File) → told ≡ Some files → 6 ≡ outcome_status o → (name : List ℕ) × LacksOutput words (bytes_of files) name × said (refusal_line (command_of words) (NoCover name))
   named-lacks Done m line files is e = absurd (omega (arith, e))
   named-lacks WriteFault m line files is e = absurd (omega (arith, e))
   named-lacks (Refused (NoCover name)) m line files is e = (name, answer-lacks words (bytes_of files) name (m.0 files is), line)

@@ -1,12 +1,17 @@
 pub mod Told
 pub mod Steps
+pub mod Reached
 pub mod Prefix
 pub mod Comings
 pub mod Serving
 pub mod Whole
 pub mod Headline
 pub mod Closed
+pub mod WordLines
 pub mod Sound
+pub mod Widths
+pub mod PortNames
+pub mod Names
 pub mod Ranges
 pub mod PlainNetlists
 pub mod CellLaws
@@ -16,5 +21,6 @@ pub mod MapsOnce
 pub mod Roots
 pub mod Composed
 pub mod One
+pub mod Uncovered
 pub mod Hashes
 pub mod Given

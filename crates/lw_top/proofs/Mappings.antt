@@ -1,8 +1,7 @@
 -- The netlist that a network is mapped to computes the network's outputs, each at the least time.
-use Rattle.std.proofs.Common.{ℕ, ◌+◌, ◌*◌, ◌^◌, ◌<◌, ◌≤◌, ◌≡◌, List, length, map, Option, Some, arith, mul-le-mul_right}
+use Rattle.std.proofs.Common.{ℕ, ◌+◌, ◌*◌, ◌^◌, ◌<◌, ◌≤◌, ◌≡◌, List, length, map, All, Option, Some, arith, mul-le-mul_right}
 use Rattle.std.proofs.lemmas.List.{length-map}
 use Rattle.lw_pool.specs.declared.id.NetId.{NetId}
-use Rattle.lw_laws.specs.Modes.Mode.{plain as plain_mode}
 use Rattle.lw_laws.specs.Decompositions.{listing_of}
 use Rattle.lw_laws.specs.Graphs.{Graph}
 use Rattle.lw_laws.specs.Classes.{IsGraphOf}
@@ -13,41 +12,45 @@ use Rattle.lw_laws.specs.Headline.{Port as PlainPort, IsMapping}
 use Rattle.lw_laws.specs.MappedNetlists.{HasPorts}
 use Rattle.lw_laws.proofs.Lists.{all_map}
 use Rattle.lw_laws.proofs.NetlistOf.{netlist_maps}
-use Rattle.lw_net.specs.Networks.{NetworkParts, IsNetwork}
+use Rattle.lw_net.specs.Networks.{IsNetwork}
 use Rattle.lw_net.specs.Plain as network
 use Rattle.lw_net.proofs.Rise.{in_order}
 use Rattle.lw_genlib.specs.Cells.{CellParts, IsLibrary}
-use Rattle.lw_genlib.specs.Tables.{delays_of_cells, truth_of_cells}
+use Rattle.lw_genlib.specs.Tables.{timing_of, truth_of_cells}
+use Rattle.lw_frame.specs.Starts.{IsEarly}
+use Rattle.lw_blif.specs.declared.parsed.Parsed.{Parsed}
 use Rattle.lw_form.specs.Limits.{most_bases}
 use Rattle.lw_pattern.specs.Libraries.{library_patterns}
 use Rattle.lw_label.specs.Delays.{most_time}
 use Rattle.lw_netlist.specs.Netlists.{NetlistParts}
 use Rattle.lw_netlist.specs.Plain as netlist
+use Rattle.lw_top.specs.Words.{Options, IsWide}
 use Rattle.lw_top.specs.Maps.{output_port, ports_of, mapped_ports, base_count, IsMappedNetlist}
+use Rattle.lw_label.proofs.CellLaws.{timing_up}
 use Rattle.lw_top.proofs.Ranges.{pairs_bound, label_below}
-use Rattle.lw_top.proofs.CellLaws.{by_place, delay_patterns, delay_truths, delays_up}
+use Rattle.lw_top.proofs.CellLaws.{by_place, delay_patterns, delay_truths}
 
-module _ (width : ℕ) (cells : List CellParts) (net : NetworkParts) (wide : 2 ≤ width) (kept : IsNetwork net) (lib : IsLibrary cells) where
-  few_inputs : net.inputs < 2 ^ 32
+module _ (options : Options) (cells : List CellParts) (model : Parsed) (wide : IsWide options) (kept : IsNetwork model.network) (early : All IsEarly model.starts) (lib : IsLibrary cells) where
+  few_inputs : model.network.inputs < 2 ^ 32
   few_inputs = let n = kept.named in let m = kept.few in omega arith
 
-  has_ports : HasPorts (network.plain net) (ports_of net)
-  has_ports = all_map (λ (o : NetId). o.0 < length net.names) (λ (p : PlainPort). p.net < net.inputs + length (map network.plain_node net.nodes)) (output_port net) net.outputs
-      (λ o lt. let n = kept.named in let m = length-map net.nodes network.plain_node in omega arith)
-      (by_place (λ (o : NetId). o.0 < length net.names) net.outputs kept.outputs)
+  has_ports : HasPorts (network.plain model.network) (ports_of model.network)
+  has_ports = all_map (λ (o : NetId). o.0 < length model.network.names) (λ (p : PlainPort). p.net < model.network.inputs + length (map network.plain_node model.network.nodes)) (output_port model.network) model.network.outputs
+      (λ o lt. let n = kept.named in let m = length-map model.network.nodes network.plain_node in omega arith)
+      (by_place (λ (o : NetId). o.0 < length model.network.names) model.network.outputs kept.outputs)
 
   -- a time by few classes and small delays is one that is told
-  labels_low : base_count width net ≤ most_bases → (g : Graph) → IsGraphOf plain_mode net.inputs (listing_of width (network.plain net)) g → (labels : List (Option ℕ)) → ((c : ℕ) → IsLeastCover g (library_patterns cells) (delay_cost (delays_of_cells cells) most_time) c (labels_in labels c)) → (c l : ℕ) → labels_in labels c ≡ Some l → l < most_time
+  labels_low : base_count options model.network ≤ most_bases → (g : Graph) → IsGraphOf options.mode model.network.inputs (listing_of options.width (network.plain model.network)) g → (labels : List (Option ℕ)) → ((c : ℕ) → IsLeastCover g (library_patterns cells) (delay_cost (timing_of cells model.starts) most_time) c (labels_in labels c)) → (c l : ℕ) → labels_in labels c ≡ Some l → l < most_time
   labels_low few g is labels least c l e =
-      let low = label_below plain_mode width (network.plain net) g wide is (library_patterns cells) (delays_of_cells cells) most_time 1000000000000 few_inputs (delay_patterns cells lib) (delays_up cells lib) (omega arith) labels least c l e in
+      let low = label_below options.mode options.width (network.plain model.network) g wide.least is (library_patterns cells) (timing_of cells model.starts) most_time 1000000000000 few_inputs (delay_patterns cells lib) (timing_up cells lib model.starts early) (omega arith) labels least c l e in
       let p = pairs_bound 0 g.forms in
       let w = is.written.class_count in
       let f = is.written.form_count in
-      let room : length g.pairs ≤ 4194304 = omega arith in
-      let more : length g.pairs * 1000000000000 ≤ 4194304 * 1000000000000 = mul-le-mul_right {m = length g.pairs} {n = 4194304} 1000000000000 room in
+      let room : length g.pairs + 1 ≤ 4194305 = omega arith in
+      let more : (length g.pairs + 1) * 1000000000000 ≤ 4194305 * 1000000000000 = mul-le-mul_right {m = length g.pairs + 1} {n = 4194305} 1000000000000 room in
       omega arith
 
-  pub mapped_is_mapping : base_count width net ≤ most_bases → (n : NetlistParts) → IsMappedNetlist width cells net n → IsMapping plain_mode width (network.plain net) (ports_of net) (library_patterns cells) (delays_of_cells cells) (truth_of_cells cells) (netlist.plain n) (mapped_ports n)
+  pub mapped_is_mapping : base_count options model.network ≤ most_bases → (n : NetlistParts) → IsMappedNetlist options cells model n → IsMapping options.mode options.width (network.plain model.network) (ports_of model.network) (library_patterns cells) (timing_of cells model.starts) (truth_of_cells cells) (netlist.plain n) (mapped_ports n)
   mapped_is_mapping few n is =
-      netlist_maps plain_mode width (network.plain net) (ports_of net) (library_patterns cells) (delays_of_cells cells) most_time (truth_of_cells cells) (netlist.plain n) n.names (mapped_ports n)
-      wide (in_order net kept) few_inputs has_ports (delay_patterns cells lib) (delay_truths cells lib) is.is (labels_low few is.is.graph is.is.is_graph is.is.labels is.is.least)
+      netlist_maps options.mode options.width (network.plain model.network) (ports_of model.network) (library_patterns cells) (timing_of cells model.starts) most_time (truth_of_cells cells) (netlist.plain n) n.names (mapped_ports n)
+      wide.least (in_order model.network kept) few_inputs has_ports (delay_patterns cells lib) (delay_truths cells lib) is.is (labels_low few is.is.graph is.is.is_graph is.is.labels is.is.least)

@@ -11,11 +11,11 @@ use Rattle.lw_laws.specs.Decompositions.{listing_of}
 use Rattle.lw_laws.specs.Numbering.{number}
 use Rattle.lw_laws.specs.Classes.{class_in, IsGraphOf}
 use Rattle.lw_laws.proofs.Flips.{half-flip}
-use Rattle.lw_laws.specs.Covers.{Pattern, ArePatterns, tree_of}
+use Rattle.lw_laws.specs.Covers.{Timing, Pattern, ArePatterns, tree_of}
 use Rattle.lw_laws.specs.Matches.{IsLeastCover}
 use Rattle.lw_laws.specs.Rounds.{labels_in}
 use Rattle.lw_laws.specs.Delays.{delay_cost}
-use Rattle.lw_laws.specs.Laws.{IsCoverProblem, AreDelaysUpTo}
+use Rattle.lw_laws.specs.Laws.{IsCoverProblem, IsTimingUpTo}
 use Rattle.lw_laws.proofs.Lists.{slice_get_in}
 use Rattle.lw_laws.proofs.Listed.{true_and_inputs_first}
 use Rattle.lw_laws.proofs.GraphEncodes.{graph_pairs_once}
@@ -147,23 +147,24 @@ module _ (mode : Mode) (width : ℕ) (net : Network) (g : Graph) (wide : 2 ≤ w
       let n = is.written.class_count in
       omega arith
 
-  module _ (pats : List Pattern) (delays : List (List ℕ)) (cap delay : ℕ) (few : net.inputs < 2 ^ 32) (patterns : ArePatterns (map length delays) pats) (up : AreDelaysUpTo delay delays) (pos : 0 < delay) (labels : List (Option ℕ)) (least : (c : ℕ) → IsLeastCover g pats (delay_cost delays cap) c (labels_in labels c)) where
-    label_in_range : (c l : ℕ) (o : Option ℕ) → IsLeastCover g pats (delay_cost delays cap) c o → o ≡ Some l → c < length g.pairs
+  module _ (pats : List Pattern) (timing : Timing) (cap delay : ℕ) (few : net.inputs < 2 ^ 32) (patterns : ArePatterns (map length timing.delays) pats) (up : IsTimingUpTo delay timing) (pos : 0 < delay) (labels : List (Option ℕ)) (least : (c : ℕ) → IsLeastCover g pats (delay_cost timing cap) c (labels_in labels c)) where
+    label_in_range : (c l : ℕ) (o : Option ℕ) → IsLeastCover g pats (delay_cost timing cap) c o → o ≡ Some l → c < length g.pairs
     label_in_range c l None a e = cc
     label_in_range c l (Some d) ((k, k_is, u, cost), low) e = unfolds_low (tree_of k) c u
 
     -- the least times of classes are below what the largest delay allows
-    pub label_below : (c l : ℕ) → labels_in labels c ≡ Some l → l < length g.pairs * delay
+    pub label_below : (c l : ℕ) → labels_in labels c ≡ Some l → l < (length g.pairs + 1) * delay
     label_below c l e =
         let same : (d : ℕ) → labels_in (front (length g.pairs) labels) d ≡ labels_in labels d = λ d. front_same (length g.pairs) labels d (λ m f. label_in_range d m (labels_in labels d) (least d) f) in
-        let problem : IsCoverProblem g pats (delay_cost delays cap) = record {
+        let problem : IsCoverProblem g pats (delay_cost timing cap) = record {
           few = let n = is.written.leaf_count in omega arith;
           once = graph_pairs_once mode width net g wide is;
           patterns = patterns;
-          cost_is = delay_cost_is delays cap;
+          cost_is = delay_cost_is timing cap;
         } in
-        let (potential, attained) = least_costs_bound g pats (delay_cost delays cap) (front (length g.pairs) labels) problem (λ d. subst (IsLeastCover g pats (delay_cost delays cap) d) (sym (same d)) (least d)) in
-        let low = labels_stay_low g pats delays cap (front (length g.pairs) labels) delay problem potential attained up pos c l (same c ∙ e) in
+        let (potential, attained) = least_costs_bound g pats (delay_cost timing cap) (front (length g.pairs) labels) problem (λ d. subst (IsLeastCover g pats (delay_cost timing cap) d) (sym (same d)) (least d)) in
+        let low = labels_stay_low g pats timing cap (front (length g.pairs) labels) delay problem potential attained up pos c l (same c ∙ e) in
         let n = front_length (length g.pairs) labels in
-        let more = mul-le-mul_right {m = length (front (length g.pairs) labels)} {n = length g.pairs} delay n in
+        let next : length (front (length g.pairs) labels) + 1 ≤ length g.pairs + 1 = omega arith in
+        let more = mul-le-mul_right {m = length (front (length g.pairs) labels) + 1} {n = length g.pairs + 1} delay next in
         omega arith

@@ -33,31 +33,27 @@ pub after_reading : {X A B : Type 0} (view : X → B) (told : Option (List File)
 after_reading view told before mid now first next x (Ok y) le known later = answered told first next x (Ok (view y)) known later
 after_reading view told before mid now first next x (Err e) le known later = refused_later told first next before mid now x e le known later
 
--- Three steps and then a last one
+-- Two steps and then a last one
 
-module _ {N A B T : Type 0} (first : Step N) (second : N → Step A) (third : N → Step B) (last : N → A → B → Step T) (files : Files) where
+module _ {A B T : Type 0} (first : Step A) (second : Step B) (last : A → B → Step T) (files : Files) where
   abbrev pub Last : Result T Refusal → Type 0
-  Last r = followed_by first (λ n. followed_by (second n) (λ a. followed_by (third n) (λ b. last n a b))) files r
+  Last r = followed_by first (λ a. followed_by second (λ b. last a b)) files r
 
-  -- the three steps answered, and the last comes to this
-  pub record IsReached (r : Result T Refusal) : Type 0 where
-    pub n : N
+  -- the two steps answered, and the last comes to this
+  pub record IsLast (r : Result T Refusal) : Type 0 where
     pub a : A
     pub b : B
-    pub one : first files (Ok n)
-    pub two : second n files (Ok a)
-    pub three : third n files (Ok b)
-    pub comes : last n a b files r
+    pub one : first files (Ok a)
+    pub two : second files (Ok b)
+    pub comes : last a b files r
 
-  pub reached-ok : (x : T) → Last (Ok x) → IsReached (Ok x)
-  reached-ok x (inl (n, one, inl (a, two, inl (b, three, comes)))) = record { n = n; a = a; b = b; one = one; two = two; three = three; comes = comes }
-  reached-ok x (inl (n, one, inl (a, two, inr (e, refused, is)))) = cc
-  reached-ok x (inl (n, one, inr (e, refused, is))) = cc
-  reached-ok x (inr (e, refused, is)) = cc
+  pub last-ok : (x : T) → Last (Ok x) → IsLast (Ok x)
+  last-ok x (inl (a, one, inl (b, two, comes))) = record { a = a; b = b; one = one; two = two; comes = comes }
+  last-ok x (inl (a, one, inr (e, refused, is))) = cc
+  last-ok x (inr (e, refused, is)) = cc
 
-  -- a refusal that none of the three gives
-  pub reached-err : (c : Refusal) → (first files (Err c) → ⊥) → ((n : N) → second n files (Err c) → ⊥) → ((n : N) → third n files (Err c) → ⊥) → Last (Err c) → IsReached (Err c)
-  reached-err c not_one not_two not_three (inl (n, one, inl (a, two, inl (b, three, comes)))) = record { n = n; a = a; b = b; one = one; two = two; three = three; comes = comes }
-  reached-err c not_one not_two not_three (inl (n, one, inl (a, two, inr (e, refused, is)))) = let same : e ≡ c = cc in absurd (not_three n (subst (λ (f : Refusal). third n files (Err f)) same refused))
-  reached-err c not_one not_two not_three (inl (n, one, inr (e, refused, is))) = let same : e ≡ c = cc in absurd (not_two n (subst (λ (f : Refusal). second n files (Err f)) same refused))
-  reached-err c not_one not_two not_three (inr (e, refused, is)) = let same : e ≡ c = cc in absurd (not_one (subst (λ (f : Refusal). first files (Err f)) same refused))
+  -- a refusal that neither of the two gives
+  pub last-err : (c : Refusal) → (first files (Err c) → ⊥) → (second files (Err c) → ⊥) → Last (Err c) → IsLast (Err c)
+  last-err c not_one not_two (inl (a, one, inl (b, two, comes))) = record { a = a; b = b; one = one; two = two; comes = comes }
+  last-err c not_one not_two (inl (a, one, inr (e, refused, is))) = let same : e ≡ c = cc in absurd (not_two (subst (λ (f : Refusal). second files (Err f)) same refused))
+  last-err c not_one not_two (inr (e, refused, is)) = let same : e ≡ c = cc in absurd (not_one (subst (λ (f : Refusal). first files (Err f)) same refused))

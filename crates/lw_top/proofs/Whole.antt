@@ -10,7 +10,7 @@ use Rattle.lw_top.specs.declared.outcome.Outcome.TheVariants.{Done, WriteFault, 
 use Rattle.lw_top.specs.Answers.{status_of, status_in}
 use Rattle.lw_top.specs.Steps.{Step}
 use Rattle.lw_top.specs.Reading.{Known, HasReason}
-use Rattle.lw_top.specs.Outcome.{IsDone, Meets, outcome_status}
+use Rattle.lw_top.specs.Outcome.{IsDone, IsCutShort, Meets, outcome_status}
 
 -- the answer of known files has this status
 abbrev pub HasStatus : Step (List ℕ) → List File → ℕ → Type 0
@@ -35,6 +35,12 @@ module _ {O : Type 0} (told : Option (List File)) (before now : ℕ) (taken : O 
   done WriteFault m e = absurd (omega (arith, e))
   done (Refused (Unread w)) m e = absurd (omega (arith, e))
   done (Refused other) m e = absurd (omega (arith, e))
+
+  pub cut : (o : Outcome) → Met o → outcome_status o ≡ 7 → (text : List ℕ) × Known told answer (Ok text) × IsCutShort taken faults old new text
+  cut Done m e = absurd (omega (arith, e))
+  cut WriteFault m e = m
+  cut (Refused (Unread w)) m e = absurd (omega (arith, e))
+  cut (Refused other) m e = absurd (omega (arith, e))
 
   pub agrees : (o : Outcome) (status : ℕ) (files : List File) → Met o → status ≡ outcome_status o → told ≡ Some files → status ≢ 2 → status ≢ 7 → status ≢ 8 → HasStatus answer files status
   agrees Done status files m e is not_2 not_7 not_8 = (Ok m.0, m.1 files is, e)

@@ -7,6 +7,12 @@ use Rattle.lw_genlib.specs.declared.fault.LibKind.TheVariants as lib
 use Rattle.lw_blif.specs.declared.fault.BlifKind.{BlifKind}
 use Rattle.lw_blif.specs.declared.fault.BlifKind.TheVariants as blif
 
+abbrev pub decimal_fault_text : DecimalFault → List ℕ
+decimal_fault_text decimal.Shape = codes "not a decimal"
+decimal_fault_text decimal.Large = codes "decimal too large"
+decimal_fault_text decimal.Fine = codes "decimal too fine"
+decimal_fault_text decimal.Negative = codes "decimal below 0"
+
 abbrev pub blif_text : BlifKind → List ℕ
 blif_text blif.UnknownCommand = codes "unknown command"
 blif_text blif.Unsupported = codes "command not supported"
@@ -20,12 +26,7 @@ blif_text blif.LongWord = codes "word too long"
 blif_text blif.LimitFanin = codes "more than 256 fan-ins"
 blif_text blif.LimitRows = codes "more than 4096 rows"
 blif_text blif.LimitSignals = codes "more than 262144 signals"
-
-abbrev pub decimal_fault_text : DecimalFault → List ℕ
-decimal_fault_text decimal.Shape = codes "not a decimal"
-decimal_fault_text decimal.Large = codes "decimal too large"
-decimal_fault_text decimal.Fine = codes "decimal too fine"
-decimal_fault_text decimal.Negative = codes "decimal below 0"
+blif_text (blif.Decimal fault) = decimal_fault_text fault
 
 abbrev pub lib_text : LibKind → List ℕ
 lib_text lib.Expected = codes "something else expected"

@@ -1,8 +1,10 @@
 pub mod Steps
+pub mod Words
 pub mod Maps
 pub mod Mapping
 pub mod Answers
 pub mod Reading
+pub mod Commands
 pub mod Named
 pub mod Outcome
 pub mod Kinds

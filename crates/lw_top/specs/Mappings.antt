@@ -1,43 +1,52 @@
 -- What a text that was written is of, and what an output is that has no cover.
-use Rattle.std.specs.Prelude.{◌≡◌, ℕ, List, None, Ok}
-use Rattle.lw_laws.specs.Modes.Mode.{plain as plain_mode}
+use Rattle.std.specs.Prelude.{◌≡◌, ℕ, List, Some, None, Ok}
 use Rattle.lw_laws.specs.Headline.{IsMapping}
-use Rattle.lw_net.specs.Networks.{NetworkParts}
+use Rattle.lw_laws.specs.MappedNetlists.{AreNetNames}
 use Rattle.lw_net.specs.Plain.{plain as plain_network}
+use Rattle.lw_net.specs.Networks.{input_names, output_names}
+use Rattle.lw_frame.specs.Frames.{Fits}
+use Rattle.lw_frame.specs.Starts.{StartsFit}
+use Rattle.lw_blif.specs.declared.parsed.Parsed.{Parsed}
 use Rattle.lw_genlib.specs.Cells.{CellParts}
-use Rattle.lw_genlib.specs.Tables.{delays_of_cells, truth_of_cells}
+use Rattle.lw_genlib.specs.Tables.{timing_of, truth_of_cells}
 use Rattle.lw_pattern.specs.Libraries.{library_patterns}
 use Rattle.lw_netlist.specs.Netlists.{NetlistParts}
 use Rattle.lw_netlist.specs.Plain.{plain as plain_netlist}
 use Rattle.lw_mapped.specs.Texts.{mapped_text}
 use Rattle.lw_top.specs.Steps.{Files}
 use Rattle.lw_top.specs.Maps.{ports_of, mapped_ports, IsMappedNetlist, LacksCover}
-use Rattle.lw_top.specs.Answers.{Names, names_of, ReadsLibrary, ReadsNetwork}
+use Rattle.lw_top.specs.Words.{Options, mapping, command_of}
+use Rattle.lw_top.specs.Answers.{ReadsLibrary, ReadsModel}
 
--- the words name a width, a library and a network, whose texts are these cells and this network
-pub record AreRead (words : List (List ℕ)) (files : Files) (width : ℕ) (cells : List CellParts) (net : NetworkParts) : Type 0 where
-  pub names : Names
-  pub form : names_of words ≡ Ok names
-  pub width_is : width ≡ names.width
-  pub library : ReadsLibrary names.library files (Ok cells)
-  pub network : ReadsNetwork names.network files (Ok net)
+-- the words ask for the mapping of a network to a library, whose texts are these cells and this model
+pub record AreRead (words : List (List ℕ)) (files : Files) (options : Options) (cells : List CellParts) (model : Parsed) : Type 0 where
+  pub library_word : List ℕ
+  pub network_word : List ℕ
+  pub form : command_of words ≡ Some (mapping options library_word network_word)
+  pub library : ReadsLibrary library_word files (Ok cells)
+  pub network : ReadsModel network_word files (Ok model)
 
--- The text is the mapped text of the network's mapped netlist. That netlist is of the library's cells and computes the network's
--- outputs, each at the least time of any cover of any tree that the laws derive for it.
+-- The text is the mapped text of the network's mapped netlist, with the latches of the model and the starts of its inputs. The inputs
+-- of the network are the model's and then the outputs of the latches; its outputs are the roots: those of the model and then what the
+-- latches read. The netlist is of the library's cells, computes each root for all values of the inputs, and brings it, counted from
+-- the starts, at the least time of any cover of any tree that the laws derive for it. The names of its nets differ.
 pub record IsMappingText (words : List (List ℕ)) (files : Files) (text : List ℕ) : Type 0 where
-  pub width : ℕ
+  pub options : Options
   pub cells : List CellParts
-  pub network : NetworkParts
+  pub model : Parsed
   pub netlist : NetlistParts
-  pub read : AreRead words files width cells network
-  pub written : text ≡ mapped_text cells netlist None
-  pub mapped : IsMappedNetlist width cells network netlist
-  pub mapping : IsMapping plain_mode width (plain_network network) (ports_of network) (library_patterns cells) (delays_of_cells cells) (truth_of_cells cells) (plain_netlist netlist) (mapped_ports netlist)
+  pub read : AreRead words files options cells model
+  pub written : text ≡ mapped_text cells netlist model.frame model.starts None
+  pub frame : Fits model.frame (input_names model.network) (output_names model.network)
+  pub starts : StartsFit model.frame model.network.inputs model.starts
+  pub mapped : IsMappedNetlist options cells model netlist
+  pub mapping_is : IsMapping options.mode options.width (plain_network model.network) (ports_of model.network) (library_patterns cells) (timing_of cells model.starts) (truth_of_cells cells) (plain_netlist netlist) (mapped_ports netlist)
+  pub names : AreNetNames (plain_netlist netlist) netlist.names (mapped_ports netlist)
 
--- The first output of the network that no cover of any tree that the laws derive for it has.
+-- The first root of the network that no cover of any tree that the laws derive for it has.
 pub record LacksOutput (words : List (List ℕ)) (files : Files) (name : List ℕ) : Type 0 where
-  pub width : ℕ
+  pub options : Options
   pub cells : List CellParts
-  pub network : NetworkParts
-  pub read : AreRead words files width cells network
-  pub lacks : LacksCover width cells network name
+  pub model : Parsed
+  pub read : AreRead words files options cells model
+  pub lacks : LacksCover options cells model name

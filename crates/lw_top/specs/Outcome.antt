@@ -1,12 +1,13 @@
 -- What each outcome of a run means.
-use Rattle.std.specs.Prelude.{◌≡◌, ℕ, Bool, true, List, Option, Ok}
+use Rattle.std.specs.Prelude.{◌≡◌, ℕ, Bool, true, List, Option, Some, None, Ok}
 use Rattle.std.specs.Io.KnownBytes.{Appends}
 use Rattle.lw_io.specs.declared.file.File.{File}
 use Rattle.lw_io.specs.Causes.{Rose}
 use Rattle.lw_io.specs.Moves.{AppendsPrefix}
 use Rattle.lw_top.specs.Steps.{Step}
 use Rattle.lw_top.specs.Answers.{status_of}
-use Rattle.lw_top.specs.Reading.{Known, HasReason}
+use Rattle.lw_top.specs.Words.{Command}
+use Rattle.lw_top.specs.Reading.{Known, HasReason, Reaches}
 use Rattle.lw_top.specs.declared.outcome.Outcome.{Outcome}
 use Rattle.lw_top.specs.declared.outcome.Outcome.TheVariants.{Done, WriteFault, Refused}
 
@@ -31,6 +32,11 @@ abbrev pub Meets : {O : Type 0} → Option (List File) → ℕ → ℕ → (O �
 Meets told before now taken is_finished faults old new answer Done = (text : List ℕ) × Known told answer (Ok text) × IsDone taken is_finished old new text
 Meets told before now taken is_finished faults old new answer WriteFault = (text : List ℕ) × Known told answer (Ok text) × IsCutShort taken faults old new text
 Meets told before now taken is_finished faults old new answer (Refused r) = HasReason told before now answer r × (new ≡ old)
+
+-- where a file was not read its turn had come
+abbrev pub IsReachedBy : Option (List File) → Option Command → Outcome → Type 0
+IsReachedBy told (Some command) (Refused r) = Reaches told command r
+IsReachedBy told command outcome = Unit {0}
 
 -- the exit status
 abbrev pub outcome_status : Outcome → ℕ

@@ -6,7 +6,10 @@ use Rattle.lw_io.specs.Causes.{Rose}
 use Rattle.lw_io.specs.Files.{bytes_of}
 use Rattle.lw_top.specs.declared.refusal.Refusal.{Refusal}
 use Rattle.lw_top.specs.declared.refusal.Refusal.TheVariants.{Unread, Memory}
+use Rattle.lw_top.specs.declared.refusal.Which.{Which}
 use Rattle.lw_top.specs.Steps.{Step}
+use Rattle.lw_top.specs.Words.{Command}
+use Rattle.lw_top.specs.Answers.{IsReached}
 
 -- n bytes were read and added to the text: none only where the file ends, or where there is no room
 pub record ReadsPiece (left rest : Option (List ℕ)) (old new : List ℕ) (room n : ℕ) : Type 0 where
@@ -32,3 +35,14 @@ HasReason told before now step other = Known told step (Err other)
 abbrev pub Reads : {X A : Type 0} → (X → A) → Option (List File) → ℕ → ℕ → Step A → Result X Refusal → Type 0
 Reads view told before now step (Ok x) = Known told step (Ok (view x))
 Reads view told before now step (Err e) = HasReason told before now step e
+
+-- a file that was not read is this one
+abbrev pub Blames : Which → Refusal → Type 0
+Blames which (Unread w) = w ≡ which
+Blames which other = Unit {0}
+
+-- Where a file was not read its turn had come: over known files each file that the command reads before it is there, and within its limit
+-- and its grammar.
+abbrev pub Reaches : Option (List File) → Command → Refusal → Type 0
+Reaches told command (Unread w) = (files : List File) → told ≡ Some files → IsReached command w (bytes_of files)
+Reaches told command other = Unit {0}

@@ -1,105 +1,28 @@
-// From the words to the answer.
-ghost use Rattle.std.specs.Prelude.{◌≡◌, ◌≢◌, ◌≤◌, ◌↔◌, IfOk, IfErr, map, string_bytes, Err, IsErrOf, length, Option, Some, None};
+// From a command to its answer.
+ghost use Rattle.std.specs.Prelude.{◌≡◌, ◌≢◌, ◌≤◌, IfOk, IfErr, length};
+ghost use Rattle.lw_blif.specs.BlifNetworks.{IsModel};
+ghost use Rattle.lw_mapped.specs.Texts.{IsFramed};
 ghost use Rattle.lw_netlist.specs.Plain.{IsOver};
-ghost use Rattle.lw_top.specs.Answers.{names_of, width_of, width_behind, at_width, are_names, is_file_word, HasCells, HasNetwork, ReadsLibrary, ReadsNetwork, IsAnswer};
-ghost use Rattle.lw_top.specs.Reading.{Reads};
-ghost use Rattle.lw_top.specs.Named.{NamesAre, Comes, text_in};
+ghost use Rattle.lw_top.specs.declared.refusal.Which.TheVariants as which;
+ghost use Rattle.lw_top.specs.Words.{HasWidth, IsWide, mapping};
+ghost use Rattle.lw_top.specs.Commands.{plain_command, plain_options};
+ghost use Rattle.lw_top.specs.Answers.{HasCells, HasModel, ReadsLibrary, ReadsModel, IsCommandAnswer, IsMappingAnswer};
+ghost use Rattle.lw_top.specs.Reading.{Reads, Blames, Reaches};
+ghost use Rattle.lw_top.specs.Named.{Comes, text_in};
 
 use crate::mapping::mapped_netlist;
 use crate::reading::read_file;
 use crate::refusal::{Refusal, Which};
 use crate::texts::read_lines;
-use lw_blif::{BlifFault, Reader};
+use crate::words::{Command, Options};
+use lw_blif::{BlifFault, Parsed, Reader};
+use lw_fixed::Micros;
 use lw_genlib::{LibFault, LibReader, Library};
 use lw_io::Shelf;
-use lw_net::{NetFault, Network};
+use lw_net::NetFault;
 use lw_netlist::Netlist;
+use lw_pool::Frame;
 use std::alloc::Global;
-
-/// The width of forms, and the words for the files.
-#[derive(Clone, Copy, Debug)]
-struct Names<'a> {
-    width: u8,
-    library: &'a str,
-    network: &'a str,
-}
-
-fn is_file_word(word: &str) -> bool
-    ensures { result ≡ is_file_word word.now }
-{
-    !word.starts_with("-")
-}
-
-// One of the words `2` to `8`.
-fn width_of(word: &str) -> Option<u8>
-    ensures { result ≡ width_of word.now }
-{
-    match word.as_bytes() {
-        [digit] if 50 <= *digit && *digit <= 56 => Some(*digit - 48),
-        _ => None,
-    }
-}
-
-// The width in the word behind `-w`.
-fn width_behind(option: &str, word: &str) -> Option<u8>
-    ensures { result ≡ width_behind option.now word.now }
-{
-    if option == "-w" {
-        return width_of(word);
-    }
-    None
-}
-
-fn are_names(command: &str, library: &str, network: &str) -> bool
-    ensures { result ≡ are_names command.now library.now network.now }
-{
-    command == "map" && is_file_word(library) && is_file_word(network)
-}
-
-// The words of a map, where there is a width.
-fn at_width<'a>(
-    command: &'a str,
-    width: Option<u8>,
-    library: &'a str,
-    network: &'a str,
-) -> Result<Names<'a>, Refusal>
-    ensures { NamesAre result (at_width command.now width library.now network.now) }
-{
-    let Some(width) = width else {
-        return Err(Refusal::Words);
-    };
-    if !are_names(command, library, network) {
-        return Err(Refusal::Words);
-    }
-    Ok(Names {
-        width,
-        library,
-        network,
-    })
-}
-
-// `map LIB IN` at width 6, or `map -w K LIB IN`.
-fn names_of(words: &[String]) -> Result<Names<'_>, Refusal>
-    ensures { NamesAre result (names_of (map string_bytes words.now)) }
-{
-    match words {
-        [command, library, network] => {
-            at_width(
-                command.as_str(),
-                Some(6),
-                library.as_str(),
-                network.as_str(),
-            )
-        }
-        [command, option, width, library, network] => at_width(
-            command.as_str(),
-            width_behind(option.as_str(), width.as_str()),
-            library.as_str(),
-            network.as_str(),
-        ),
-        _ => Err(Refusal::Words),
-    }
-}
 
 // The library of a text.
 fn library_in(alloc: Global, bytes: &[u8]) -> Result<Library, Refusal>
@@ -109,10 +32,7 @@ fn library_in(alloc: Global, bytes: &[u8]) -> Result<Library, Refusal>
     let mut reader = LibReader::new(alloc);
     read_lines(alloc, bytes, &mut reader)?;
     match reader.end() {
-        Ok(library) => {
-            let _ = library.len();
-            Ok(library)
-        }
+        Ok(library) => Ok(library),
         Err(LibFault::Line(line, kind)) => Err(Refusal::Library(line, kind)),
         Err(LibFault::Memory) => Err(Refusal::Memory),
     }
@@ -122,24 +42,23 @@ fn read_library<F: Shelf>(alloc: Global, shelf: &mut F, name: &str) -> Result<Li
     ensures files { F.files shelf.new ≡ F.files shelf.old }
     ensures later { F.faults shelf.old ≤ F.faults shelf.new }
     ensures not_words { IfErr result (λ e. e ≢ Refusal.Words) }
+    ensures blames { IfErr result (Blames which.Library) }
     ensures reads { Reads (λ cells. cells) (F.files shelf.old) (F.faults shelf.old) (F.faults shelf.new) (ReadsLibrary name.now) result }
 {
     let bytes = read_file(alloc, shelf, Which::Library, name)?;
     library_in(alloc, &bytes)
 }
 
-// The network of a text.
-fn network_in(alloc: Global, bytes: &[u8]) -> Result<Network, Refusal>
+// The model of a text.
+fn model_in(alloc: Global, bytes: &[u8]) -> Result<Parsed, Refusal>
     requires { length bytes.now ≤ 67108864 }
-    ensures { Comes (λ net. net) (HasNetwork bytes.now) result }
+    ensures comes { Comes (λ model. model) (HasModel bytes.now) result }
+    ensures model { IfOk result IsModel }
 {
     let mut reader = Reader::new(alloc);
     read_lines(alloc, bytes, &mut reader)?;
     match reader.end() {
-        Ok(net) => {
-            let _ = net.inputs();
-            Ok(net)
-        }
+        Ok(model) => Ok(model),
         Err(BlifFault::Line(line, kind)) => Err(Refusal::Network(line, kind)),
         Err(BlifFault::Whole(NetFault::Undefined(name))) => Err(Refusal::Undefined(name)),
         Err(BlifFault::Whole(NetFault::Cycle(name))) => Err(Refusal::Cycle(name)),
@@ -147,34 +66,80 @@ fn network_in(alloc: Global, bytes: &[u8]) -> Result<Network, Refusal>
     }
 }
 
-fn read_network<F: Shelf>(alloc: Global, shelf: &mut F, name: &str) -> Result<Network, Refusal>
+fn read_model<F: Shelf>(alloc: Global, shelf: &mut F, name: &str) -> Result<Parsed, Refusal>
     ensures files { F.files shelf.new ≡ F.files shelf.old }
     ensures later { F.faults shelf.old ≤ F.faults shelf.new }
     ensures not_words { IfErr result (λ e. e ≢ Refusal.Words) }
-    ensures reads { Reads (λ net. net) (F.files shelf.old) (F.faults shelf.old) (F.faults shelf.new) (ReadsNetwork name.now) result }
+    ensures blames { IfErr result (Blames which.Network) }
+    ensures reads { Reads (λ model. model) (F.files shelf.old) (F.faults shelf.old) (F.faults shelf.new) (ReadsModel name.now) result }
+    ensures model { IfOk result IsModel }
 {
     let bytes = read_file(alloc, shelf, Which::Network, name)?;
-    network_in(alloc, &bytes)
+    model_in(alloc, &bytes)
 }
 
-/// A library, and the netlist of its cells to which a network is mapped.
+/// A library, and the netlist of its cells to which a network is mapped, with what stands around the network.
 #[derive(Drop)]
 pub struct Mapped {
     pub library: Library,
     pub netlist: Netlist,
+    pub frame: Frame,
+    pub starts: Micros,
 }
 
-/// The library and the mapped netlist, or why there is none.
-pub fn answer<F: Shelf>(alloc: Global, words: &[String], shelf: &mut F) -> Result<Mapped, Refusal>
-    ensures words { IsErrOf result Refusal.Words ↔ (names_of (map string_bytes words.now) ≡ Err Refusal.Words) }
-    ensures reads { Reads text_in (F.files shelf.old) (F.faults shelf.old) (F.faults shelf.new) (IsAnswer (map string_bytes words.now)) result }
+// Maps a network to the cells of a library.
+fn map_network<F: Shelf>(
+    alloc: Global,
+    options: Options,
+    library: &str,
+    network: &str,
+    shelf: &mut F,
+) -> Result<Mapped, Refusal>
+    requires { IsWide (plain_options options) }
+    ensures not_words { IfErr result (λ e. e ≢ Refusal.Words) }
+    ensures reads { Reads text_in (F.files shelf.old) (F.faults shelf.old) (F.faults shelf.new) (IsMappingAnswer (plain_options options) library.now network.now) result }
+    ensures reached { IfErr result (Reaches (F.files shelf.old) (mapping (plain_options options) library.now network.now)) }
     ensures over { IfOk result (λ a. IsOver a.library a.netlist) }
+    ensures framed { IfOk result (λ a. IsFramed a.netlist a.frame a.starts) }
     ensures later { F.faults shelf.old ≤ F.faults shelf.new }
     ensures files { F.files shelf.new ≡ F.files shelf.old }
 {
-    let names = names_of(words)?;
-    let library = read_library(alloc, shelf, names.library)?;
-    let net = read_network(alloc, shelf, names.network)?;
-    let netlist = mapped_netlist(alloc, &library, &net, names.width)?;
-    Ok(Mapped { library, netlist })
+    let library = read_library(alloc, shelf, library)?;
+    let model = read_model(alloc, shelf, network)?;
+    let netlist = mapped_netlist(alloc, &library, &model, options)?;
+    let Parsed { frame, starts, .. } = model;
+    Ok(Mapped {
+        library,
+        netlist,
+        frame,
+        starts,
+    })
+}
+
+// The options and the words of a mapping.
+fn sources_of<'a>(command: Command<'a>) -> (Options, &'a str, &'a str)
+    ensures { plain_command command.entry ≡ mapping (plain_options result.0) result.1.now result.2.now }
+{
+    match command {
+        Command::Mapping(options, library, network) => (options, library, network),
+    }
+}
+
+/// What a command comes to: the library and the mapped netlist, or why there is none.
+pub fn answer<F: Shelf>(
+    alloc: Global,
+    command: Command<'_>,
+    shelf: &mut F,
+) -> Result<Mapped, Refusal>
+    requires { HasWidth (plain_command command) }
+    ensures not_words { IfErr result (λ e. e ≢ Refusal.Words) }
+    ensures reads { Reads text_in (F.files shelf.old) (F.faults shelf.old) (F.faults shelf.new) (IsCommandAnswer (plain_command command.entry)) result }
+    ensures reached { IfErr result (Reaches (F.files shelf.old) (plain_command command.entry)) }
+    ensures over { IfOk result (λ a. IsOver a.library a.netlist) }
+    ensures framed { IfOk result (λ a. IsFramed a.netlist a.frame a.starts) }
+    ensures later { F.faults shelf.old ≤ F.faults shelf.new }
+    ensures files { F.files shelf.new ≡ F.files shelf.old }
+{
+    let (options, library, network) = sources_of(command);
+    map_network(alloc, options, library, network, shelf)
 }

@@ -22,6 +22,7 @@ pub fn blif_text(kind: &BlifKind) -> &[u8]
         BlifKind::LimitFanin => b"more than 256 fan-ins",
         BlifKind::LimitRows => b"more than 4096 rows",
         BlifKind::LimitSignals => b"more than 262144 signals",
+        BlifKind::Decimal(fault) => decimal_fault_text(fault),
     }
 }
 

@@ -11,5 +11,6 @@ mod refusal;
 mod telling;
 mod texts;
 mod top;
+mod words;
 
 pub use top::run;

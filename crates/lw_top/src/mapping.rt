@@ -1,15 +1,22 @@
 // The netlist that a network is mapped to.
-ghost use Rattle.std.specs.Prelude.{◌≡◌, ◌≤◌, ◌<◌, IfOk, All, None, Some, length, map, take, slice_get};
+ghost use Rattle.std.specs.Prelude.{◌≡◌, ◌<◌, ◌^◌, IfOk, All, None, Some, length, map, slice_get};
 ghost use Rattle.lw_pool.specs.declared.id.ClassId.{ClassId};
 ghost use Rattle.lw_match.specs.Values.{numbers};
 ghost use Rattle.lw_mapped.specs.Texts.{mapped_text};
 ghost use Rattle.lw_netlist.specs.Plain.{IsOver};
-ghost use Rattle.lw_top.specs.Maps.{Maps, name_in};
+ghost use Rattle.lw_net.specs.Networks.{name_in, input_names, output_names};
+ghost use Rattle.lw_blif.specs.BlifNetworks.{IsModel};
+ghost use Rattle.lw_mapped.specs.Texts.{IsFramed};
+ghost use Rattle.lw_top.specs.Words.{IsWide};
+ghost use Rattle.lw_top.specs.Commands.{plain_options};
+ghost use Rattle.lw_top.specs.Maps.{Maps};
 ghost use Rattle.lw_top.specs.Mapping.{ArePortsOf, root_of};
 ghost use Rattle.lw_top.specs.Named.{Comes};
 
 use crate::refusal::Refusal;
+use crate::words::Options;
 use lw_assoc::{GraphFault, build};
+use lw_blif::Parsed;
 use lw_extract::{ExtractFault, Ports, extract};
 use lw_form::{FormFault, Forms, forms};
 use lw_genlib::Library;
@@ -20,9 +27,6 @@ use lw_netlist::Netlist;
 use lw_pattern::patterns;
 use lw_pool::{Classes, Name, Names, NetId};
 use std::alloc::{AllocError, Global};
-
-// The number of outputs is below this.
-const MOST_OUTPUTS: usize = 4_294_967_296;
 
 impl From<FormFault> for Refusal {
     ghost use Rattle.std.specs.Prelude.{◌≡◌};
@@ -65,7 +69,7 @@ fn copied(alloc: Global, names: &[Name]) -> Result<Names, AllocError>
 
 // The names of the inputs.
 fn input_names(alloc: Global, net: &Network) -> Result<Names, AllocError>
-    ensures { IfOk result (λ names. names ≡ take net.now.inputs net.now.names) }
+    ensures { IfOk result (λ names. names ≡ input_names net.now) }
 {
     let inputs = net.inputs() as usize;
     copied(alloc, &net.names()[..inputs])
@@ -89,7 +93,7 @@ fn output_name(alloc: Global, net: &Network, place: u32) -> Result<Name, AllocEr
 
 // The names of the outputs.
 fn output_names(alloc: Global, net: &Network) -> Result<Names, AllocError>
-    ensures { IfOk result (λ names. names ≡ map (name_in net.now) net.now.outputs) }
+    ensures { IfOk result (λ names. names ≡ output_names net.now) }
 {
     let outputs = net.outputs();
     let mut names = Vec::with_capacity(alloc, outputs.len())?;
@@ -119,11 +123,9 @@ fn roots(alloc: Global, net: &Network, forms: &Forms, graph: &Graph) -> Result<C
 fn ports(alloc: Global, net: &Network, forms: &Forms, graph: &Graph) -> Result<Ports, AllocError>
     requires sops { length forms.now.sops ≡ length net.now.names }
     requires bases { length graph.now.forms ≡ length forms.now.bases }
+    requires few { length net.now.outputs < 2 ^ 32 }
     ensures { IfOk result (ArePortsOf net.now forms.now graph.now) }
 {
-    if net.outputs().len() >= MOST_OUTPUTS {
-        return Err(AllocError);
-    }
     Ok(Ports {
         model: Name::from_slice(alloc, net.model().as_bytes())?,
         inputs: input_names(alloc, net)?,
@@ -132,30 +134,37 @@ fn ports(alloc: Global, net: &Network, forms: &Forms, graph: &Graph) -> Result<P
     })
 }
 
-/// The netlist that a network is mapped to by the cells of a library, where an And has at most `width` operands.
+/// The netlist that a model is mapped to by the cells of a library, in the decompositions that the options give.
 ///
 /// The forms of the network's nets are listed, their graph is built, its classes are labelled with the least times of their covers,
 /// and the chosen matches of the needed classes are the gates. `Memory` is the one free answer.
 pub(crate) fn mapped_netlist(
     alloc: Global,
     lib: &Library,
-    net: &Network,
-    width: u8,
+    model: &Parsed,
+    options: Options,
 ) -> Result<Netlist, Refusal>
-    requires low { 2 ≤ width }
-    requires high { width ≤ 8 }
-    ensures maps { Comes (λ n. mapped_text lib.now n None) (Maps width lib.now net.now) result }
+    requires wide { IsWide (plain_options options) }
+    requires model { IsModel model.now }
+    ensures maps { Comes (λ n. mapped_text lib.now n model.now.frame model.now.starts None) (Maps (plain_options options) lib.now model.now) result }
     ensures over { IfOk result (λ n. IsOver lib.now n) }
+    ensures framed { IfOk result (λ n. IsFramed n model.now.frame model.now.starts) }
 {
+    let Parsed {
+        network: net,
+        starts,
+        ..
+    } = model;
     let _ = lib.len();
     let _ = net.inputs();
-    let forms = forms(alloc, net, width)?;
+    let forms = forms(alloc, net, options.width)?;
     let _ = forms.len();
-    let graph = build(alloc, &forms)?;
+    let graph = build(alloc, &forms, options.mode)?;
     let pats = patterns(alloc, lib)?;
-    let labels = relabel(alloc, &graph, &pats, &DelayCost::new(lib))?;
+    let cost = DelayCost::new(lib, starts);
+    let labels = relabel(alloc, &graph, &pats, &cost)?;
     let ports = ports(alloc, net, &forms, &graph)?;
-    match extract(alloc, &graph, &pats, lib, &labels, &ports) {
+    match extract(alloc, &graph, &pats, lib, &labels, &ports, &cost) {
         Ok(cover) => {
             let _ = cover.netlist.gates();
             Ok(cover.netlist)

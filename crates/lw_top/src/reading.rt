@@ -5,7 +5,7 @@ ghost use Rattle.lw_io.specs.Causes.{Rose};
 ghost use Rattle.lw_top.specs.Steps.{gives};
 ghost use Rattle.lw_top.specs.Answers.{text_of};
 ghost use Rattle.lw_top.specs.declared.reading.ReadError.TheVariants.{Failed as ReadFailed, Memory as OutOfMemory};
-ghost use Rattle.lw_top.specs.Reading.{ReadsPiece, Reads};
+ghost use Rattle.lw_top.specs.Reading.{ReadsPiece, Reads, Blames};
 
 use crate::refusal::{Refusal, Which};
 use lw_io::{Failed, Shelf};
@@ -85,6 +85,7 @@ pub fn read_file<F: Shelf>(
     ensures files { F.files shelf.new ≡ F.files shelf.old }
     ensures later { F.faults shelf.old ≤ F.faults shelf.new }
     ensures not_words { IfErr result (λ e. e ≢ Refusal.Words) }
+    ensures blames { IfErr result (Blames which) }
     ensures few { IfOk result (λ v. vec_len v ≤ MAX_LEN) }
     ensures reads { Reads (λ v. v.items) (F.files shelf.old) (F.faults shelf.old) (F.faults shelf.new) (gives (text_of which name.now)) result }
 {

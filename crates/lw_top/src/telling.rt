@@ -1,39 +1,51 @@
 // The line of each outcome.
-ghost use Rattle.std.specs.Prelude.{◌≡◌, ◌++◌, [], ◌∷◌, map, string_bytes, OnOk, OnErr, codes, decimal};
+ghost use Rattle.std.specs.Prelude.{◌≡◌, ◌++◌, [], ◌∷◌, OnOk, OnErr, codes, decimal};
 ghost use Rattle.std.specs.Io.KnownBytes.{Appends};
 ghost use Rattle.lw_io.specs.Causes.{HasCause};
 ghost use Rattle.lw_io.specs.Moves.{AppendsPrefix};
-ghost use Rattle.lw_top.specs.Telling.{name_in, one_of, outcome_line, refusal_line, refusal_parts, joined, parts, line_parts};
+ghost use Rattle.lw_top.specs.declared.refusal.Which.TheVariants as which;
+ghost use Rattle.lw_top.specs.Words.{file_word};
+ghost use Rattle.lw_top.specs.Commands.{asked};
+ghost use Rattle.lw_top.specs.Telling.{outcome_line, refusal_line, refusal_parts, joined, parts, line_parts};
 ghost use Rattle.lw_top.specs.Lines.{parts_of, line_number};
 
 use crate::kinds::{blif_text, lib_text};
 use crate::outcome::Outcome;
 use crate::refusal::{Refusal, Which};
+use crate::words::{Command, file_word};
 use itoa::Buffer;
 use lw_io::{Failed, Sink, write_all};
 use lw_pool::Name;
 
 /// Writes the line of an outcome, if it has one.
-pub fn tell<E: Sink>(words: &[String], outcome: &Outcome, err: &mut E) -> Result<(), Failed>
-    ensures ok { OnOk result (Appends (E.taken err.old) (E.taken err.new) (outcome_line (map string_bytes words.now) outcome.now)) }
-    ensures failed { OnErr result (AppendsPrefix (E.taken err.old) (E.taken err.new) (outcome_line (map string_bytes words.now) outcome.now)) }
+pub fn tell<E: Sink>(
+    command: Option<Command<'_>>,
+    outcome: &Outcome,
+    err: &mut E,
+) -> Result<(), Failed>
+    ensures ok { OnOk result (Appends (E.taken err.old) (E.taken err.new) (outcome_line (asked command.entry) outcome.now)) }
+    ensures failed { OnErr result (AppendsPrefix (E.taken err.old) (E.taken err.new) (outcome_line (asked command.entry) outcome.now)) }
     ensures cause { HasCause (E.faults err.old) (E.faults err.new) result }
 {
     match outcome {
         Outcome::Done => write_all(err, b""),
         Outcome::WriteFault => write_all(err, b"lwmap: cannot write\n"),
-        Outcome::Refused(refusal) => tell_refusal(words, refusal, err),
+        Outcome::Refused(refusal) => tell_refusal(command, refusal, err),
     }
 }
 
-fn tell_refusal<E: Sink>(words: &[String], refusal: &Refusal, err: &mut E) -> Result<(), Failed>
-    ensures ok { OnOk result (Appends (E.taken err.old) (E.taken err.new) (refusal_line (map string_bytes words.now) refusal.now)) }
-    ensures failed { OnErr result (AppendsPrefix (E.taken err.old) (E.taken err.new) (refusal_line (map string_bytes words.now) refusal.now)) }
+fn tell_refusal<E: Sink>(
+    command: Option<Command<'_>>,
+    refusal: &Refusal,
+    err: &mut E,
+) -> Result<(), Failed>
+    ensures ok { OnOk result (Appends (E.taken err.old) (E.taken err.new) (refusal_line (asked command.entry) refusal.now)) }
+    ensures failed { OnErr result (AppendsPrefix (E.taken err.old) (E.taken err.new) (refusal_line (asked command.entry) refusal.now)) }
     ensures cause { HasCause (E.faults err.old) (E.faults err.new) result }
 {
     let mut digits = Buffer::new();
     let number = digits.format(line_number(refusal));
-    let line = line_of(words, refusal, number.as_bytes());
+    let line = line_of(command, refusal, number.as_bytes());
     tell_line(err, line)
 }
 
@@ -58,23 +70,36 @@ fn line_number(refusal: &Refusal) -> u32
     }
 }
 
-fn line_of<'a>(words: &'a [String], refusal: &'a Refusal, number: &'a [u8]) -> Line<'a>
+fn line_of<'a>(command: Option<Command<'a>>, refusal: &'a Refusal, number: &'a [u8]) -> Line<'a>
     requires { number.now ≡ decimal (line_number refusal.now) }
-    ensures { parts_of result ≡ refusal_parts (map string_bytes words.now) refusal.now }
+    ensures { parts_of result ≡ refusal_parts (asked command.entry) refusal.now }
 {
     match refusal {
         Refusal::Words => whole(USAGE),
-        Refusal::Unread(which) => named(b"lwmap: cannot read ", name(words, *which), b"", b""),
+        Refusal::Unread(which) => named(
+            b"lwmap: cannot read ",
+            file_word(command, *which),
+            b"",
+            b"",
+        ),
         Refusal::TooLong(which) => named(
             b"lwmap: limit: ",
-            name(words, *which),
+            file_word(command, *which),
             b" has more than 67108864 bytes",
             b"",
         ),
-        Refusal::Library(_, kind) => broken(name(words, Which::Library), number, lib_text(kind)),
-        Refusal::Network(_, kind) => broken(name(words, Which::Network), number, blif_text(kind)),
-        Refusal::Undefined(signal) => of_network(words, b": undefined signal ", signal),
-        Refusal::Cycle(signal) => of_network(words, b": cycle through ", signal),
+        Refusal::Library(_, kind) => broken(
+            file_word(command, Which::Library),
+            number,
+            lib_text(kind),
+        ),
+        Refusal::Network(_, kind) => broken(
+            file_word(command, Which::Network),
+            number,
+            blif_text(kind),
+        ),
+        Refusal::Undefined(signal) => of_network(command, b": undefined signal ", signal),
+        Refusal::Cycle(signal) => of_network(command, b": cycle through ", signal),
         Refusal::Forms => whole(b"lwmap: limit: more than 2097152 forms"),
         Refusal::Splits => whole(b"lwmap: limit: more than 16777216 splits"),
         Refusal::NoCover(output) => named(
@@ -107,10 +132,10 @@ fn named<'a>(before: &'a [u8], name: &'a [u8], between: &'a [u8], detail: &'a [u
 }
 
 // A signal of the network.
-fn of_network<'a>(words: &'a [String], between: &'a [u8], signal: &'a Name) -> Line<'a>
-    ensures { parts_of result ≡ parts (codes "lwmap: ") (name_in (map string_bytes words.now) Which.Network) between.now signal.now }
+fn of_network<'a>(command: Option<Command<'a>>, between: &'a [u8], signal: &'a Name) -> Line<'a>
+    ensures { parts_of result ≡ parts (codes "lwmap: ") (file_word (asked command.entry) which.Network) between.now signal.now }
 {
-    let file = name(words, Which::Network);
+    let file = file_word(command, Which::Network);
     named(b"lwmap: ", file, between, signal.as_bytes())
 }
 
@@ -171,26 +196,5 @@ fn tell_two<E: Sink>(err: &mut E, first: &[u8], second: &[u8]) -> Result<(), Fai
     write_all(err, second)
 }
 
-fn one_of<'a>(which: Which, library: &'a str, network: &'a str) -> &'a [u8]
-    ensures { result.now ≡ one_of which library.now network.now }
-{
-    match which {
-        Which::Library => library.as_bytes(),
-        Which::Network => network.as_bytes(),
-    }
-}
-
-// The word of a file.
-fn name(words: &[String], which: Which) -> &[u8]
-    ensures { result.now ≡ name_in (map string_bytes words.now) which }
-{
-    match words {
-        [_, library, network] | [_, _, _, library, network] => {
-            one_of(which, library.as_str(), network.as_str())
-        }
-        _ => b"",
-    }
-}
-
 const USAGE: &[u8] =
-    b"lwmap: usage: map [-w K] [-c] LIB IN | check [-w K] LIB IN MAPPED | time LIB MAPPED | sim IN VECTORS | sim -g LIB MAPPED VECTORS | graph [-w K] IN | big SEED N LIB";
+    b"lwmap: usage: map [-w K] [-i] [-c] LIB IN | check [-w K] [-i] LIB IN MAPPED | time LIB MAPPED | sim IN VECTORS | sim -g LIB MAPPED VECTORS | graph [-w K] [-i] IN | big SEED N LIB";

@@ -1,9 +1,11 @@
 // The top call.
-ghost use Rattle.std.specs.Prelude.{◌≡◌, ◌≢◌, ◌⊎◌, ◌↔◌, ℕ, Some, List, map, string_bytes, Result, Ok, Err};
+ghost use Rattle.std.specs.Prelude.{◌≡◌, ◌≢◌, ◌≤◌, ◌⊎◌, ◌↔◌, ℕ, Some, None, List, map, string_bytes, Result, Ok};
 ghost use Rattle.lw_io.specs.declared.file.File.{File};
 ghost use Rattle.lw_io.specs.Causes.{Rose};
 ghost use Rattle.lw_io.specs.Files.{bytes_of};
-ghost use Rattle.lw_top.specs.Answers.{IsAnswer, names_of, status_in, status_of};
+ghost use Rattle.lw_top.specs.declared.refusal.Which.{Which};
+ghost use Rattle.lw_top.specs.Words.{Command, command_of};
+ghost use Rattle.lw_top.specs.Answers.{IsAnswer, IsReached, status_in, status_of};
 ghost use Rattle.lw_top.specs.Reading.{Known};
 ghost use Rattle.lw_top.specs.Mappings.{IsMappingText, LacksOutput};
 ghost use Rattle.lw_top.specs.Outcome.{IsDone, IsCutShort, Meets, outcome_status};
@@ -14,6 +16,7 @@ ghost use Rattle.lw_top.specs.declared.refusal.Refusal.{Refusal};
 use crate::outcome::{Outcome, serve};
 use crate::refusal::Refusal;
 use crate::telling::tell;
+use crate::words::command_of;
 use lw_io::{Shelf, Sink};
 use std::alloc::Global;
 
@@ -35,15 +38,16 @@ pub fn run<F: Shelf, O: Sink, E: Sink>(
     ensures done { result ≡ 0 → ((text : List ℕ) × Known (F.files shelf.old) (IsAnswer (map string_bytes words.now.items)) (Ok text)
         × IsDone O.taken O.is_finished out.old out.new text) }
 
-    // At 0 over known files that text is of a netlist of the library's cells: it has the network's inputs and outputs, it computes the
-    // network's outputs at all inputs, and each arrives at the least time of all covers of all trees that the laws derive for it.
+    // At 0 over known files that text is of a netlist of the library's cells, with the latches of the network's text. It gives each root,
+    // which is an output or what a latch reads, the network's value for all values of the inputs and of the latches' outputs, and brings
+    // it, counted from the inputs' arrivals, at the least time of all covers of all trees that the command's laws derive for it.
     ensures mapping { (files : List File) → F.files shelf.old ≡ Some files → result ≡ 0
         → ((text : List ℕ) × IsMappingText (map string_bytes words.now.items) (bytes_of files) text × IsDone O.taken O.is_finished out.old out.new text) }
 
-    // At 6 over known files no tree that the laws derive for the output whose name is told has a cover.
+    // At 6 over known files no tree that the command's laws derive for the root whose name is told has a cover.
     ensures no_cover { (files : List File) → F.files shelf.old ≡ Some files → result ≡ 6
         → ((name : List ℕ) × LacksOutput (map string_bytes words.now.items) (bytes_of files) name
-        × Told E.taken E.faults err.old err.new (refusal_line (map string_bytes words.now.items) (Refusal.NoCover name))) }
+        × Told E.taken E.faults err.old err.new (refusal_line (command_of (map string_bytes words.now.items)) (Refusal.NoCover name))) }
 
     // At 7 the stream failed, and a prefix of the text that 0 would have written went out.
     ensures cut_short { result ≡ 7 → ((text : List ℕ) × Known (F.files shelf.old) (IsAnswer (map string_bytes words.now.items)) (Ok text)
@@ -53,8 +57,14 @@ pub fn run<F: Shelf, O: Sink, E: Sink>(
     ensures unread { result ≡ 2 → (Rose (F.faults shelf.old) (F.faults shelf.new)
         ⊎ ((files : List File) × (a : Result (List ℕ) Refusal) × (F.files shelf.old ≡ Some files) × IsAnswer (map string_bytes words.now.items) (bytes_of files) a × (status_in a ≡ 2))) }
 
+    // At 2 the line names a file of the command whose turn had come: over known files each file that the command reads before it is there,
+    // and within its limit and its grammar.
+    ensures blamed { result ≡ 2 → ((command : Command) × (w : Which) × (command_of (map string_bytes words.now.items) ≡ Some command)
+        × ((files : List File) → F.files shelf.old ≡ Some files → IsReached command w (bytes_of files))
+        × Told E.taken E.faults err.old err.new (refusal_line (Some command) (Refusal.Unread w))) }
+
     // Words of no form are told as such, whatever the files.
-    ensures words { (result ≡ 1) ↔ (names_of (map string_bytes words.now.items) ≡ Err Refusal.Words) }
+    ensures words { (result ≡ 1) ↔ (command_of (map string_bytes words.now.items) ≡ None) }
 
     // Over known files each other status but want of memory is the answer's.
     ensures agrees { (files : List File) → F.files shelf.old ≡ Some files → result ≢ 2 → result ≢ 7 → result ≢ 8
@@ -68,10 +78,17 @@ pub fn run<F: Shelf, O: Sink, E: Sink>(
     // Some outcome has this status: it is what happened, and its line went to err, or a prefix where err failed.
     ensures told { (o : Outcome) × (result ≡ outcome_status o)
         × Meets (F.files shelf.old) (F.faults shelf.old) (F.faults shelf.new) O.taken O.is_finished O.faults out.old out.new (IsAnswer (map string_bytes words.now.items)) o
-        × Told E.taken E.faults err.old err.new (outcome_line (map string_bytes words.now.items) o) }
+        × Told E.taken E.faults err.old err.new (outcome_line (command_of (map string_bytes words.now.items)) o) }
+
+    // The files stay, and no count of faults falls.
+    ensures files { F.files shelf.new ≡ F.files shelf.old }
+    ensures read { F.faults shelf.old ≤ F.faults shelf.new }
+    ensures written { O.faults out.old ≤ O.faults out.new }
+    ensures said { E.faults err.old ≤ E.faults err.new }
 {
-    let outcome = serve(alloc, words, shelf, out);
-    let _ = tell(words, &outcome, err);
+    let command = command_of(words);
+    let outcome = serve(alloc, command, shelf, out);
+    let _ = tell(command, &outcome, err);
     status(&outcome)
 }
 

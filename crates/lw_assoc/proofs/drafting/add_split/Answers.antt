@@ -2,7 +2,7 @@ use Rattle.std.proofs.Common.{arith, ◌*◌, ◌+◌}
 use Rattle.std.specs.Prelude.{slice_index}
 use Rattle.lw_laws.specs.NumberedForms.Base.{base_and}
 use Rattle.lw_laws.proofs.Lists.{slice_get_in}
-use Rattle.lw_assoc.proofs.Drafts.{cut_known, cut_sample, parts_cut}
+use Rattle.lw_assoc.proofs.Drafts.{split_known, split_sample, parts_split, split_added}
 use Rattle.lw_assoc.proofs.drafting.add_split.Goals as goal
 
 pub overflow_mul-b : goal.overflow_mul-b
@@ -21,36 +21,28 @@ overflow_add-b c =
 
 pub nand-requires-clause-form : goal.nand-requires-clause-form
 nand-requires-clause-form c =
-    let (fs, e, one, lt) = c.requires.left in
-    let (hs, d, some, below) = c.requires.right in
     let x = slice_index c.args.parts.now c.args.mask in
     let y = slice_index c.args.parts.now c.args.rest in
-    let cut = parts_cut c.args.forms.now c.requires.forms c.args.parts.now c.args.b c.args.mask c.args.rest fs c.requires.parts e one some lt (c.requires.rest fs e) in
-    (cut_known c.args.forms.now c.requires.forms c.args.draft.now c.requires.bases (2 * c.args.b + 1) x y cut).0
+    let split = parts_split c.args.forms.now c.requires.forms c.args.parts.now c.args.b c.args.mask c.args.rest c.requires.parts c.requires.left c.requires.right c.requires.split in
+    (split_known c.args.forms.now c.requires.forms c.args.draft.now c.requires.bases (2 * c.args.b + 1) x y split).0
 
 pub nand-requires-clause-left : goal.nand-requires-clause-left
 nand-requires-clause-left c =
-    let (fs, e, one, lt) = c.requires.left in
-    let (hs, d, some, below) = c.requires.right in
     let x = slice_index c.args.parts.now c.args.mask in
     let y = slice_index c.args.parts.now c.args.rest in
-    let cut = parts_cut c.args.forms.now c.requires.forms c.args.parts.now c.args.b c.args.mask c.args.rest fs c.requires.parts e one some lt (c.requires.rest fs e) in
-    (cut_known c.args.forms.now c.requires.forms c.args.draft.now c.requires.bases (2 * c.args.b + 1) x y cut).1
+    let split = parts_split c.args.forms.now c.requires.forms c.args.parts.now c.args.b c.args.mask c.args.rest c.requires.parts c.requires.left c.requires.right c.requires.split in
+    (split_known c.args.forms.now c.requires.forms c.args.draft.now c.requires.bases (2 * c.args.b + 1) x y split).1
 
 pub nand-requires-clause-right : goal.nand-requires-clause-right
 nand-requires-clause-right c =
-    let (fs, e, one, lt) = c.requires.left in
-    let (hs, d, some, below) = c.requires.right in
     let x = slice_index c.args.parts.now c.args.mask in
     let y = slice_index c.args.parts.now c.args.rest in
-    let cut = parts_cut c.args.forms.now c.requires.forms c.args.parts.now c.args.b c.args.mask c.args.rest fs c.requires.parts e one some lt (c.requires.rest fs e) in
-    (cut_known c.args.forms.now c.requires.forms c.args.draft.now c.requires.bases (2 * c.args.b + 1) x y cut).2
+    let split = parts_split c.args.forms.now c.requires.forms c.args.parts.now c.args.b c.args.mask c.args.rest c.requires.parts c.requires.left c.requires.right c.requires.split in
+    (split_known c.args.forms.now c.requires.forms c.args.draft.now c.requires.bases (2 * c.args.b + 1) x y split).2
 
 pub nand-requires-clause-samples : goal.nand-requires-clause-samples
 nand-requires-clause-samples c =
-    let (fs, e, one, lt) = c.requires.left in
-    let (hs, d, some, below) = c.requires.right in
     let x = slice_index c.args.parts.now c.args.mask in
     let y = slice_index c.args.parts.now c.args.rest in
-    let cut = parts_cut c.args.forms.now c.requires.forms c.args.parts.now c.args.b c.args.mask c.args.rest fs c.requires.parts e one some lt (c.requires.rest fs e) in
-    cut_sample c.args.forms.now c.requires.forms c.args.draft.now c.requires.bases (2 * c.args.b + 1) x y cut
+    let split = parts_split c.args.forms.now c.requires.forms c.args.parts.now c.args.b c.args.mask c.args.rest c.requires.parts c.requires.left c.requires.right c.requires.split in
+    split_sample c.args.forms.now c.requires.forms c.args.draft.now c.requires.bases (2 * c.args.b + 1) x y split

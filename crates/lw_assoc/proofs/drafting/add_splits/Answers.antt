@@ -1,8 +1,22 @@
-use Rattle.std.proofs.Common.{◌∙◌, ◌-◌, ◌^◌, ap, arith, length, Some}
+use Rattle.std.proofs.Common.{◌∙◌, ◌≡◌, ◌*◌, ◌-◌, ◌^◌, ap, arith, length, Some}
+use Rattle.lw_assoc.specs.Drafting.{other}
 use Rattle.lw_form.specs.Bases.{plain_base}
-use Rattle.lw_assoc.proofs.Drafts.{nands_by_split, splits_end, splits_next}
+use Rattle.lw_assoc.proofs.Dropping.{twice_half}
+use Rattle.lw_assoc.proofs.Drafts.{cuts_make, nands_by_split, splits_end, splits_next}
 use Rattle.lw_assoc.proofs.Masks.{half_within}
 use Rattle.lw_assoc.proofs.drafting.add_splits.Goals as goal
+
+pub add_split-requires-clause-split : goal.add_split-requires-clause-split
+add_split-requires-clause-split c =
+    let ids = c.in-And.ids in
+    let mask = c.loop-mask.mask in
+    let e = c.base.ensures.base ∙ ap (λ b. Some (plain_base b)) c.in-And.is in
+    let two = (c.base.ensures.kept.operands c.args.b ids e).two in
+    let lt = half_within (length ids) c.len.result c.half_of-half.result mask (omega arith) c.len.ensures.len c.half_of-half.ensures.half c.loop-mask-test.true in
+    let rest = 2 * c.half_of-half.result - 1 - mask in
+    let h = twice_half (length ids) c.len.result c.half_of-half.result (omega arith) c.len.ensures.len c.half_of-half.ensures.half in
+    let r : rest ≡ other ids mask = omega arith in
+    cuts_make c.args.forms.now c.base.ensures.kept c.args.b mask rest ids e lt r
 
 pub loop-mask-preserved : goal.loop-mask-preserved
 loop-mask-preserved c =
@@ -12,9 +26,12 @@ loop-mask-preserved c =
     let e = c.base.ensures.base ∙ ap (λ b. Some (plain_base b)) c.in-And.is in
     let two = (c.base.ensures.kept.operands c.args.b ids e).two in
     let lt = half_within (length ids) c.len.result c.half_of-half.result l.mask (omega arith) c.len.ensures.len c.half_of-half.ensures.half c.loop-mask-test.true in
+    let rest = 2 * c.half_of-half.result - 1 - l.mask in
+    let h = twice_half (length ids) c.len.result c.half_of-half.result (omega arith) c.len.ensures.len c.half_of-half.ensures.half in
+    let r : rest ≡ other ids l.mask = omega arith in
     record {
-      so_far = splits_next forms c.base.ensures.kept l.draft c.add_split.new.draft c.args.b l.mask ids e lt c.in_ok-add_split.ensures l.invariant.so_far;
-      kept = nands_by_split forms c.args.b l.mask c.args.draft.now l.draft c.add_split.new.draft l.invariant.kept c.in_ok-add_split.ensures;
+      so_far = splits_next forms c.base.ensures.kept l.draft c.add_split.new.draft c.args.b l.mask rest ids e lt r c.in_ok-add_split.ensures l.invariant.so_far;
+      kept = nands_by_split forms c.args.b l.mask rest c.args.draft.now l.draft c.add_split.new.draft l.invariant.kept c.in_ok-add_split.ensures;
     }
 
 pub returns-clause-splits : goal.returns-clause-splits

@@ -1,4 +1,5 @@
 use Rattle.std.proofs.Common.{arith, refl, ◌+◌}
+use Rattle.lw_assoc.specs.Modes.{law_mode}
 use Rattle.lw_assoc.proofs.Counts.{count_next}
 use Rattle.lw_assoc.proofs.splits.split_count.Goals as goal
 
@@ -6,6 +7,6 @@ pub loop-b-preserved : goal.loop-b-preserved
 loop-b-preserved c =
     let l = c.loop-b in
     record {
-      count = count_next c.args.forms.now.bases l.b l.count c.splits_at-count.result (l.count + c.splits_at-count.result) (rw c.len-b-end.ensures.len at c.loop-b-test.true) l.invariant.count c.splits_at-count.ensures.splits refl;
-      few = let a = l.invariant.few in let b = c.splits_at-count.ensures.few in omega arith;
+      count = count_next (law_mode c.args.mode) c.args.forms.now.bases l.b l.count c.splits_at.result (l.count + c.splits_at.result) (rw c.len-b-end.ensures.len at c.loop-b-test.true) l.invariant.count c.splits_at.ensures.splits refl;
+      few = let a = l.invariant.few in let b = c.splits_at.ensures.few in omega arith;
     }

@@ -1,11 +1,10 @@
 use Rattle.std.proofs.Common.{length, reverse, take}
-use Rattle.lw_label.specs.Delays.{time_cost}
 use Rattle.lw_extract.proofs.Descent.{IsDown}
 use Rattle.lw_extract.proofs.choosing.choose_down.Given as goal
 
 abbrev pub invariant-loop-place : goal.invariant-loop-place
-invariant-loop-place l = record {
-  can_next : (goal.iterator-loop-place).can_next l.place-iterator;
-  is_finite : (goal.iterator-loop-place).is_finite l.place-iterator;
-  down : IsDown l.graph (time_cost l.lib) l.pats l.marks l.roots (take (length l.yielded) (reverse l.places)) l.needed.items (reverse l.chosen.items);
+invariant-loop-place g l = record {
+  can_next : (goal.iterator-loop-place g).can_next l.place-iterator;
+  is_finite : (goal.iterator-loop-place g).is_finite l.place-iterator;
+  down : IsDown l.graph (g.C.Cost.costs l.cost) l.pats l.marks l.roots (take (length l.yielded) (reverse l.places)) l.needed.items (reverse l.chosen.items);
 }

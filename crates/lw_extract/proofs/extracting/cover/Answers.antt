@@ -2,29 +2,29 @@ use Rattle.std.proofs.Common.{◌≡◌, ◌<◌, ◌∙◌, ℕ, All, length, a
 use Rattle.std.specs.Result.{IfOk}
 use Rattle.std.proofs.lemmas.List.Elements.{All-same}
 use Rattle.std.proofs.lemmas.Result.{IfOk-weaker}
-use Rattle.lw_label.specs.Delays.{time_cost}
 use Rattle.lw_extract.specs.declared.choosing.Chosen.{Chosen}
-use Rattle.lw_extract.specs.Covers.{IsCoverOf, ArriveAtLabels}
-use Rattle.lw_extract.proofs.Arriving.{arrive_at_labels}
+use Rattle.lw_extract.specs.Covers.{IsCoverOf, CostTheirLabels}
+use Rattle.lw_extract.proofs.Arriving.{cost_their_labels}
 use Rattle.lw_extract.proofs.Assembly.{classes_within, few_chosen}
 use Rattle.lw_extract.proofs.extracting.cover.Goals as goal
 
 pub add_gates-requires-clause-few : goal.add_gates-requires-clause-few
-add_gates-requires-clause-few c =
-    let few = few_chosen c.args.graph.now (time_cost c.args.lib.now) c.args.pats.now c.args.marks.now c.as_slice.result.now c.in_ok-chosen.chosen.items c.in_ok-chosen.ensures c.requires.least.one_each in
+add_gates-requires-clause-few g c =
+    let few = few_chosen c.args.graph.now (g.C.Cost.costs c.args.cost.now) c.args.pats.now c.args.marks.now c.as_slice.result.now c.in_ok-chosen.chosen.items c.in_ok-chosen.ensures c.requires.least.one_each in
     let same = ap length c.deref-2.ensures.value in
     omega (arith, few, same, c.requires.fit.few, c.requires.fit.few_inputs, c.inputs.ensures.inputs)
 
 pub add_gates-requires-clause-in_range : goal.add_gates-requires-clause-in_range
-add_gates-requires-clause-in_range c =
-    let within = classes_within c.args.graph.now (time_cost c.args.lib.now) c.args.pats.now c.args.marks.now c.as_slice.result.now c.in_ok-chosen.chosen.items c.in_ok-chosen.ensures c.requires.least.one_each in
+add_gates-requires-clause-in_range g c =
+    let within = classes_within c.args.graph.now (g.C.Cost.costs c.args.cost.now) c.args.pats.now c.args.marks.now c.as_slice.result.now c.in_ok-chosen.chosen.items c.in_ok-chosen.ensures c.requires.least.one_each in
     let one_each : length c.deref_mut.result.now ≡ length c.args.graph.now.pairs = ap length c.deref_mut.ensures.value ∙ c.in_ok-nets.ensures.one_each in
     All-same (λ (x : Chosen). x.class.0 < length c.deref_mut.result.now) c.deref-2.result.now c.in_ok-chosen.chosen.items c.deref-2.ensures.value
     (subst (λ (n : ℕ). All (λ (x : Chosen). x.class.0 < n) c.in_ok-chosen.chosen.items) (sym one_each) within)
 
-pub returns-clause-arrivals : goal.returns-clause-arrivals
-returns-clause-arrivals c =
-    let covers : IfOk c.assemble.result (IsCoverOf c.args.graph.now (time_cost c.args.lib.now) c.args.pats.now c.args.marks.now c.args.ports.now) = search rules in
-    IfOk-weaker c.assemble.result (IsCoverOf c.args.graph.now (time_cost c.args.lib.now) c.args.pats.now c.args.marks.now c.args.ports.now) (ArriveAtLabels c.args.graph.now c.args.lib.now c.args.marks.now)
-    (λ cover is. arrive_at_labels c.args.graph.now c.args.lib.now c.args.pats.now c.args.marks.now c.requires.least c.args.ports.now cover c.inputs.ensures.kept c.len.ensures.kept c.requires.of_cells c.requires.fit is)
+pub returns-clause-costs : goal.returns-clause-costs
+returns-clause-costs g c =
+    let cost = g.C.Cost.costs c.args.cost.now in
+    let covers : IfOk c.assemble.result (IsCoverOf c.args.graph.now cost c.args.pats.now c.args.marks.now c.args.ports.now) = search rules in
+    IfOk-weaker c.assemble.result (IsCoverOf c.args.graph.now cost c.args.pats.now c.args.marks.now c.args.ports.now) (CostTheirLabels c.args.graph.now cost c.args.marks.now)
+    (λ cover is. cost_their_labels c.args.graph.now cost c.args.pats.now c.args.marks.now c.requires.leaves c.args.ports.now cover is)
     covers

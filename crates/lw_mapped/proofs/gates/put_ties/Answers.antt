@@ -1,6 +1,6 @@
 use Rattle.std.proofs.Common.{◌<◌, [], ◌∷◌, length, sym, ap₂, ◌∙◌, subst, arith}
 use Rattle.lw_mapped.specs.Texts.{tie}
-use Rattle.lw_mapped.proofs.Parts.{ties_more, get_or-any}
+use Rattle.lw_mapped.proofs.TextParts.{ties_more, get_or-any}
 use Rattle.lw_mapped.specs.Waitings.{Puts}
 use Rattle.lw_mapped.proofs.Putting.{Puts-both}
 use Rattle.lw_mapped.proofs.gates.put_ties.Goals as goal

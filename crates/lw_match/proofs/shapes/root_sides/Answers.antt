@@ -17,6 +17,6 @@ loop-number-preserved c =
     let is = c.side_at.ensures ∙ (ap (λ ss. slice_index_or ss (c.len-place.result - 1) (plain Any)) c.deref.ensures.value ∙ last) in
     record {
       count = let was = l.invariant.count in omega (arith, ap length items, length-append l.roots.items (root ∷ []));
-      shapes = λ parts have. subst (λ roots. HaveRootShapes parts c.args.pats.now roots) (sym items)
-          (roots_more parts c.args.pats.now c.args.all.now l.roots.items l.number (pattern_of c.get-pattern.result.now) sides root l.invariant.count c.get-pattern.ensures.listed within c.index-all-number.is is have (l.invariant.shapes parts have));
+      shapes = λ parts gaps have. subst (λ roots. HaveRootShapes parts gaps c.args.pats.now roots) (sym items)
+          (roots_more parts gaps c.args.pats.now c.args.all.now l.roots.items l.number (pattern_of c.get-pattern.result.now) sides root l.invariant.count c.get-pattern.ensures.listed within c.index-all-number.is is have (l.invariant.shapes parts gaps have));
     }

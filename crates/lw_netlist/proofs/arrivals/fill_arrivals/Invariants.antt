@@ -6,8 +6,8 @@ use Rattle.lw_netlist.proofs.arrivals.fill_arrivals.Given as goal
 
 abbrev pub invariant-loop-j : goal.invariant-loop-j
 invariant-loop-j l = record {
-  inputs : (i : ℕ) → i < l.first → arrival_at l.nets i ≡ 0;
+  inputs : (i : ℕ) → i < l.first → arrival_at l.nets i ≡ arrival_at l.initial.nets i;
   filled : IsFilled (record { 0 = 0 }) (gate_time l.lib) l.gates l.first l.j l.nets;
-  early : (i : ℕ) → i < l.first + l.j → arrival_at l.nets i ≤ l.j * one_step;
+  early : (i : ℕ) → i < l.first + l.j → arrival_at l.nets i ≤ (l.j + 1) * one_step;
   length : length l.nets ≡ l.first + length l.gates;
 }

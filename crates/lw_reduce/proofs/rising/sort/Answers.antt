@@ -1,6 +1,6 @@
 use Rattle.std.proofs.Common.{rules}
 use Rattle.std.proofs.lemmas.List.Sorted.{IsNonDecreasingBy-from_sort_by_key}
-use Rattle.lw_reduce.specs.Rows.{pair_key}
+use Rattle.lw_graph.specs.Index.{pair_key}
 use Rattle.lw_reduce.proofs.rising.sort.Goals as goal
 
 pub returns-clause-sorted : goal.returns-clause-sorted

@@ -1,5 +1,5 @@
 use Rattle.std.proofs.Common.{◌≡◌, map, take}
-use Rattle.lw_top.specs.Maps.{name_in}
+use Rattle.lw_net.specs.Networks.{name_in}
 use Rattle.lw_top.proofs.mapping.output_names.Given as goal
 
 abbrev pub invariant-loop-output : goal.invariant-loop-output

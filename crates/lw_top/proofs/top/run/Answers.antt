@@ -1,33 +1,62 @@
 use Rattle.std.proofs.Common.{sym, ◌∙◌, map, string_bytes}
+use Rattle.lw_top.specs.Words.{command_of}
 use Rattle.lw_top.specs.Answers.{IsAnswer}
-use Rattle.lw_top.proofs.Whole.{unread, done, agrees, complete}
 use Rattle.lw_top.specs.Telling.{Told}
+use Rattle.lw_top.proofs.Widths.{asked_wide}
+use Rattle.lw_top.proofs.Whole.{unread, done, cut, agrees, complete}
 use Rattle.lw_top.proofs.Headline.{done-maps, named-lacks}
+use Rattle.lw_top.proofs.Reached.{blamed}
 use Rattle.lw_top.proofs.Prefix.{told}
 use Rattle.lw_top.proofs.top.run.Goals as goal
 
+pub serve-outcome-requires : goal.serve-outcome-requires
+serve-outcome-requires g c = asked_wide _ (map string_bytes c.args.words.now.items) (rw c.deref.ensures.value at c.command_of-command.ensures)
+
 pub returns-clause-unread : goal.returns-clause-unread
-returns-clause-unread g c = λ is. unread (g.F.Shelf.files c.args.shelf.now) (g.F.Shelf.faults c.args.shelf.now) (g.F.Shelf.faults c.serve-outcome.new.shelf) g.O.Sink.taken g.O.Sink.is_finished g.O.Sink.faults c.args.out.now c.serve-outcome.new.out (IsAnswer (map string_bytes c.args.words.now.items)) c.serve-outcome.result (rw c.deref.ensures.value at c.serve-outcome.ensures.meets) (sym c.status.ensures ∙ is)
+returns-clause-unread g c = λ is.
+    let asks = rw c.deref.ensures.value at c.command_of-command.ensures in
+    unread (g.F.Shelf.files c.args.shelf.now) (g.F.Shelf.faults c.args.shelf.now) (g.F.Shelf.faults c.serve-outcome.new.shelf) g.O.Sink.taken g.O.Sink.is_finished g.O.Sink.faults c.args.out.now c.serve-outcome.new.out (IsAnswer (map string_bytes c.args.words.now.items)) c.serve-outcome.result (rw asks at c.serve-outcome.ensures.meets) (sym c.status.ensures ∙ is)
 
 pub returns-clause-done : goal.returns-clause-done
-returns-clause-done g c = λ is. done (g.F.Shelf.files c.args.shelf.now) (g.F.Shelf.faults c.args.shelf.now) (g.F.Shelf.faults c.serve-outcome.new.shelf) g.O.Sink.taken g.O.Sink.is_finished g.O.Sink.faults c.args.out.now c.serve-outcome.new.out (IsAnswer (map string_bytes c.args.words.now.items)) c.serve-outcome.result (rw c.deref.ensures.value at c.serve-outcome.ensures.meets) (sym c.status.ensures ∙ is)
+returns-clause-done g c = λ is.
+    let asks = rw c.deref.ensures.value at c.command_of-command.ensures in
+    done (g.F.Shelf.files c.args.shelf.now) (g.F.Shelf.faults c.args.shelf.now) (g.F.Shelf.faults c.serve-outcome.new.shelf) g.O.Sink.taken g.O.Sink.is_finished g.O.Sink.faults c.args.out.now c.serve-outcome.new.out (IsAnswer (map string_bytes c.args.words.now.items)) c.serve-outcome.result (rw asks at c.serve-outcome.ensures.meets) (sym c.status.ensures ∙ is)
+
+pub returns-clause-cut_short : goal.returns-clause-cut_short
+returns-clause-cut_short g c = λ is.
+    let asks = rw c.deref.ensures.value at c.command_of-command.ensures in
+    cut (g.F.Shelf.files c.args.shelf.now) (g.F.Shelf.faults c.args.shelf.now) (g.F.Shelf.faults c.serve-outcome.new.shelf) g.O.Sink.taken g.O.Sink.is_finished g.O.Sink.faults c.args.out.now c.serve-outcome.new.out (IsAnswer (map string_bytes c.args.words.now.items)) c.serve-outcome.result (rw asks at c.serve-outcome.ensures.meets) (sym c.status.ensures ∙ is)
 
 pub returns-clause-agrees : goal.returns-clause-agrees
-returns-clause-agrees g c = λ files is not_2 not_7 not_8. agrees (g.F.Shelf.files c.args.shelf.now) (g.F.Shelf.faults c.args.shelf.now) (g.F.Shelf.faults c.serve-outcome.new.shelf) g.O.Sink.taken g.O.Sink.is_finished g.O.Sink.faults c.args.out.now c.serve-outcome.new.out (IsAnswer (map string_bytes c.args.words.now.items)) c.serve-outcome.result c.status.result files (rw c.deref.ensures.value at c.serve-outcome.ensures.meets) c.status.ensures is not_2 not_7 not_8
+returns-clause-agrees g c = λ files is not_2 not_7 not_8.
+    let asks = rw c.deref.ensures.value at c.command_of-command.ensures in
+    agrees (g.F.Shelf.files c.args.shelf.now) (g.F.Shelf.faults c.args.shelf.now) (g.F.Shelf.faults c.serve-outcome.new.shelf) g.O.Sink.taken g.O.Sink.is_finished g.O.Sink.faults c.args.out.now c.serve-outcome.new.out (IsAnswer (map string_bytes c.args.words.now.items)) c.serve-outcome.result c.status.result files (rw asks at c.serve-outcome.ensures.meets) c.status.ensures is not_2 not_7 not_8
 
 pub returns-clause-complete : goal.returns-clause-complete
-returns-clause-complete g c = λ files is quiet steady. complete (g.F.Shelf.files c.args.shelf.now) (g.F.Shelf.faults c.args.shelf.now) (g.F.Shelf.faults c.serve-outcome.new.shelf) g.O.Sink.taken g.O.Sink.is_finished g.O.Sink.faults c.args.out.now c.serve-outcome.new.out (IsAnswer (map string_bytes c.args.words.now.items)) c.serve-outcome.result c.status.result files (rw c.deref.ensures.value at c.serve-outcome.ensures.meets) c.status.ensures is quiet steady
+returns-clause-complete g c = λ files is quiet steady.
+    let asks = rw c.deref.ensures.value at c.command_of-command.ensures in
+    complete (g.F.Shelf.files c.args.shelf.now) (g.F.Shelf.faults c.args.shelf.now) (g.F.Shelf.faults c.serve-outcome.new.shelf) g.O.Sink.taken g.O.Sink.is_finished g.O.Sink.faults c.args.out.now c.serve-outcome.new.out (IsAnswer (map string_bytes c.args.words.now.items)) c.serve-outcome.result c.status.result files (rw asks at c.serve-outcome.ensures.meets) c.status.ensures is quiet steady
 
 pub returns-clause-mapping : goal.returns-clause-mapping
-returns-clause-mapping g c = λ files is zero. done-maps (map string_bytes c.args.words.now.items) (g.F.Shelf.files c.args.shelf.now) (g.F.Shelf.faults c.args.shelf.now) (g.F.Shelf.faults c.serve-outcome.new.shelf) g.O.Sink.taken g.O.Sink.is_finished g.O.Sink.faults c.args.out.now c.serve-outcome.new.out (Told g.E.Sink.taken g.E.Sink.faults c.args.err.now c.tell.new.err) c.serve-outcome.result (rw c.deref.ensures.value at c.serve-outcome.ensures.meets) files is (sym zero ∙ c.status.ensures)
+returns-clause-mapping g c = λ files is zero.
+    let asks = rw c.deref.ensures.value at c.command_of-command.ensures in
+    done-maps (map string_bytes c.args.words.now.items) (g.F.Shelf.files c.args.shelf.now) (g.F.Shelf.faults c.args.shelf.now) (g.F.Shelf.faults c.serve-outcome.new.shelf) g.O.Sink.taken g.O.Sink.is_finished g.O.Sink.faults c.args.out.now c.serve-outcome.new.out (Told g.E.Sink.taken g.E.Sink.faults c.args.err.now c.tell.new.err) c.serve-outcome.result (rw asks at c.serve-outcome.ensures.meets) files is (sym zero ∙ c.status.ensures)
 
 pub returns-clause-no_cover : goal.returns-clause-no_cover
 returns-clause-no_cover g c = λ files is six.
+    let asks = rw c.deref.ensures.value at c.command_of-command.ensures in
     let said = told _ _ _ _ _ c.tell.result c.tell.ensures.ok c.tell.ensures.failed c.tell.ensures.cause in
-    named-lacks (map string_bytes c.args.words.now.items) (g.F.Shelf.files c.args.shelf.now) (g.F.Shelf.faults c.args.shelf.now) (g.F.Shelf.faults c.serve-outcome.new.shelf) g.O.Sink.taken g.O.Sink.is_finished g.O.Sink.faults c.args.out.now c.serve-outcome.new.out (Told g.E.Sink.taken g.E.Sink.faults c.args.err.now c.tell.new.err) c.serve-outcome.result (rw c.deref.ensures.value at c.serve-outcome.ensures.meets) (simp c.deref-2.ensures.value at said) files is (sym six ∙ c.status.ensures)
+    named-lacks (map string_bytes c.args.words.now.items) (g.F.Shelf.files c.args.shelf.now) (g.F.Shelf.faults c.args.shelf.now) (g.F.Shelf.faults c.serve-outcome.new.shelf) g.O.Sink.taken g.O.Sink.is_finished g.O.Sink.faults c.args.out.now c.serve-outcome.new.out (Told g.E.Sink.taken g.E.Sink.faults c.args.err.now c.tell.new.err) c.serve-outcome.result (rw asks at c.serve-outcome.ensures.meets) (simp asks at said) files is (sym six ∙ c.status.ensures)
+
+pub returns-clause-blamed : goal.returns-clause-blamed
+returns-clause-blamed g c = λ two.
+    let asks = rw c.deref.ensures.value at c.command_of-command.ensures in
+    let said = told _ _ _ _ _ c.tell.result c.tell.ensures.ok c.tell.ensures.failed c.tell.ensures.cause in
+    let words = rw asks at c.serve-outcome.ensures.words in
+    blamed (g.F.Shelf.files c.args.shelf.now) (Told g.E.Sink.taken g.E.Sink.faults c.args.err.now c.tell.new.err) c.serve-outcome.result (command_of (map string_bytes c.args.words.now.items)) (sym c.status.ensures ∙ two) words.1 (rw asks at c.serve-outcome.ensures.reached) (simp asks at said)
 
 pub returns-clause-told : goal.returns-clause-told
 returns-clause-told g c =
-    let meets = rw c.deref.ensures.value at c.serve-outcome.ensures.meets in
+    let asks = rw c.deref.ensures.value at c.command_of-command.ensures in
     let said = told _ _ _ _ _ c.tell.result c.tell.ensures.ok c.tell.ensures.failed c.tell.ensures.cause in
-    (c.serve-outcome.result, c.status.ensures, meets, simp c.deref-2.ensures.value at said)
+    (c.serve-outcome.result, c.status.ensures, rw asks at c.serve-outcome.ensures.meets, simp asks at said)

@@ -1,9 +1,10 @@
 use Rattle.std.proofs.Common.{List, ℕ, ap, sym, ◌∙◌, subst}
 use Rattle.lw_words.specs.Lines.{LogicalLine}
 use Rattle.lw_blif.specs.Readers.{row_fault_of}
-use Rattle.lw_blif.specs.Keeping.{AddsRow, ReadsNames, names_fault}
+use Rattle.lw_blif.specs.declared.command.Command.TheVariants as asks
+use Rattle.lw_blif.specs.Keeping.{AddsRow, ReadsNames, ReadsArrival, names_fault, arrival_fault}
 use Rattle.lw_blif.proofs.Keeping.{fault-long}
-use Rattle.lw_blif.proofs.Reading.{row-fault, row-keeps, names-fault, names-keeps, ignored-fault, ignored-keeps, unknown-fault, unsupported-fault, names-left}
+use Rattle.lw_blif.proofs.Reading.{row-fault, row-keeps, names-fault, names-keeps, ignored-fault, ignored-keeps, unknown-fault, unsupported-fault, names-left, arrival-fault, arrival-keeps}
 use Rattle.lw_blif.proofs.parts.Parts.read.Goals as goal
 
 pub returns-then-line-clause-fault : goal.returns-then-line-clause-fault
@@ -44,13 +45,39 @@ pub returns-in_ok-fault-in_default-clause-fault : goal.returns-in_ok-fault-in_de
 returns-in_ok-fault-in_default-clause-fault c = λ lines k.
     let words = ap (λ (l : LogicalLine). l.words) c.line.view_is in
     let short = sym (ap (λ (l : LogicalLine). l.long) c.line.view_is) ∙ c.if-line.false in
-    let names = names-left c.args.asked c.in_default.not-End c.in_default.not-Ignored c.in_default.not-Unsupported c.in_default.not-Unknown c.in_default.not-Row in
+    let names = names-left c.args.asked c.in_default.not-End c.in_default.not-Ignored c.in_default.not-Unsupported c.in_default.not-Unknown c.in_default.not-Row c.in_default.not-Arrival c.in_default.not-DefaultArrival in
     names-fault c.args.self.now lines c.args.line.now c.args.asked c.in_ok-fault-in_default.fault names c.requires.asked short
     (c.in_ok-fault-in_default.ensures.fault ∙ ap (names_fault c.args.self.now c.args.asked) words) k
 
 pub returns-in_ok-fault-in_default-clause-keeps : goal.returns-in_ok-fault-in_default-clause-keeps
 returns-in_ok-fault-in_default-clause-keeps c = λ lines k none.
     let words = ap (λ (l : LogicalLine). l.words) c.line.view_is in
-    let names = names-left c.args.asked c.in_default.not-End c.in_default.not-Ignored c.in_default.not-Unsupported c.in_default.not-Unknown c.in_default.not-Row in
+    let names = names-left c.args.asked c.in_default.not-End c.in_default.not-Ignored c.in_default.not-Unsupported c.in_default.not-Unknown c.in_default.not-Row c.in_default.not-Arrival c.in_default.not-DefaultArrival in
     names-keeps c.args.self.now c.read_names.new.self lines c.args.line.now c.args.asked names c.requires.asked
     (subst (λ (ws : List (List ℕ)). ReadsNames c.args.self.now c.args.asked ws c.read_names.new.self) words (c.in_ok-fault-in_default.ensures.names none)) k
+
+pub returns-in_ok-fault-in-Arrival-clause-fault : goal.returns-in_ok-fault-in-Arrival-clause-fault
+returns-in_ok-fault-in-Arrival-clause-fault c = λ lines k.
+    let words = ap (λ (l : LogicalLine). l.words) c.line.view_is in
+    let short = sym (ap (λ (l : LogicalLine). l.long) c.line.view_is) ∙ c.if-line.false in
+    arrival-fault lines c.args.line.now asks.Arrival c.in_ok-fault-in-Arrival.fault tt (sym c.in-Arrival.is ∙ c.requires.asked) short
+    (c.in_ok-fault-in-Arrival.ensures.fault ∙ ap (arrival_fault asks.Arrival) words)
+
+pub returns-in_ok-fault-in-Arrival-clause-keeps : goal.returns-in_ok-fault-in-Arrival-clause-keeps
+returns-in_ok-fault-in-Arrival-clause-keeps c = λ lines k none.
+    let words = ap (λ (l : LogicalLine). l.words) c.line.view_is in
+    arrival-keeps c.args.self.now c.read_arrival.new.self lines c.args.line.now asks.Arrival tt (sym c.in-Arrival.is ∙ c.requires.asked)
+    (subst (λ (ws : List (List ℕ)). ReadsArrival c.args.self.now asks.Arrival ws c.read_arrival.new.self) words (c.in_ok-fault-in-Arrival.ensures.arrival none)) k
+
+pub returns-in_ok-fault-in-DefaultArrival-clause-fault : goal.returns-in_ok-fault-in-DefaultArrival-clause-fault
+returns-in_ok-fault-in-DefaultArrival-clause-fault c = λ lines k.
+    let words = ap (λ (l : LogicalLine). l.words) c.line.view_is in
+    let short = sym (ap (λ (l : LogicalLine). l.long) c.line.view_is) ∙ c.if-line.false in
+    arrival-fault lines c.args.line.now asks.DefaultArrival c.in_ok-fault-in-DefaultArrival.fault tt (sym c.in-DefaultArrival.is ∙ c.requires.asked) short
+    (c.in_ok-fault-in-DefaultArrival.ensures.fault ∙ ap (arrival_fault asks.DefaultArrival) words)
+
+pub returns-in_ok-fault-in-DefaultArrival-clause-keeps : goal.returns-in_ok-fault-in-DefaultArrival-clause-keeps
+returns-in_ok-fault-in-DefaultArrival-clause-keeps c = λ lines k none.
+    let words = ap (λ (l : LogicalLine). l.words) c.line.view_is in
+    arrival-keeps c.args.self.now c.read_arrival-in-DefaultArrival.new.self lines c.args.line.now asks.DefaultArrival tt (sym c.in-DefaultArrival.is ∙ c.requires.asked)
+    (subst (λ (ws : List (List ℕ)). ReadsArrival c.args.self.now asks.DefaultArrival ws c.read_arrival-in-DefaultArrival.new.self) words (c.in_ok-fault-in-DefaultArrival.ensures.arrival none)) k

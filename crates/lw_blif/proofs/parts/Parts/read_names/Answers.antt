@@ -21,6 +21,9 @@ returns-then-not-branch-clause-fault c =
     ap (λ b. cond b None (Some kind.Redefined)) fresh
     ∙ ap (λ f. fault_else f (cond (are_fresh defined (defined_for c.args.command c.args.words.now)) None (Some kind.Redefined))) none
 
+pub define-requires-clause-wanted : goal.define-requires-clause-wanted
+define-requires-clause-wanted c = (fit-names c.len.result c.args.command c.args.words.now (sym c.names_fault.ensures ∙ c.in_default.is)).wanted
+
 pub take_names-requires-clause-wanted : goal.take_names-requires-clause-wanted
 take_names-requires-clause-wanted c = (fit-names c.len.result c.args.command c.args.words.now (sym c.names_fault.ensures ∙ c.in_default.is)).wanted
 
@@ -44,6 +47,8 @@ returns-clause-names c = λ e.
       outputs = t.outputs ∙ ap (λ o. Rattle.indexmap.specs.IndexSet.insert_all Rattle.std.specs.Str.bytes_eq o (Rattle.lw_blif.specs.Drafts.outputs_for c.args.command (Rattle.lw_blif.specs.LineFaults.other_words c.args.words.now))) d.outputs;
       defined = t.defined ∙ d.defined;
       nodes = cc;
+      latches = t.latches ∙ ap (λ l. l ++ Rattle.lw_blif.specs.Drafts.latches_for c.args.command (Rattle.lw_blif.specs.LineFaults.other_words c.args.words.now)) d.latches;
+      arrivals = t.arrivals ∙ d.arrivals;
       node = t.node;
       few = omega (arith, fit.few, c.len.ensures.len, ap length (t.defined ∙ d.defined), length-append c.args.self.now.defined.keys (defined_for c.args.command c.args.words.now));
     }

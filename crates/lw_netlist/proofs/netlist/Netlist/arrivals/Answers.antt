@@ -1,13 +1,26 @@
-use Rattle.std.proofs.Common.{◌≡◌, ◌+◌, ◌<◌, ℕ, ◌∙◌, Some, subst, slice_get}
+use Rattle.std.proofs.Common.{◌≡◌, ◌+◌, ◌<◌, ◌≤◌, ℕ, ◌∙◌, Some, length, sym, subst, slice_get, arith}
 use Rattle.lw_netlist.specs.declared.gate.Gate.{Gate}
-use Rattle.lw_netlist.specs.Filling.{arrival_at, gate_arrival}
-use Rattle.lw_netlist.proofs.Latest.{filled_arrivals}
+use Rattle.lw_netlist.specs.Filling.{arrival_at, gate_arrival, one_step}
+use Rattle.lw_netlist.proofs.Latest.{all_low, filled_arrivals, start_low, starts_read}
 use Rattle.lw_netlist.proofs.netlist.Netlist.arrivals.Goals as goal
 
-pub returns : goal.returns
-returns c =
+pub fill_arrivals-requires-clause-started : goal.fill_arrivals-requires-clause-started
+fill_arrivals-requires-clause-started c = λ i below.
+    let starts = c.args.starts.now in
+    let inside : i < length starts = omega (arith, below, c.requires.one_start, c.inputs.ensures.inputs) in
+    let front = subst (λ xs. Rattle.std.specs.Prelude.take (length xs) c.copy_starts.new.nets ≡ xs) c.as_slice.ensures c.copy_starts.ensures in
+    subst (λ t. t ≤ one_step) (sym (starts_read starts c.copy_starts.new.nets front i inside)) (start_low starts c.requires.small i inside)
+
+pub returns-clause-arrivals : goal.returns-clause-arrivals
+returns-clause-arrivals c =
+    let starts = c.args.starts.now in
     let nets = c.fill_arrivals.new.nets in
     let first = c.inputs.ensures.inputs in
-    filled_arrivals c.args.lib.now c.args.self.now nets (c.fill_arrivals.ensures.length ∙ (c.requires.one_net ∙ c.gates-gates.ensures.kept.named))
-    (subst (λ n. (i : ℕ) → i < n → arrival_at nets i ≡ 0) first c.fill_arrivals.ensures.inputs)
+    let front = subst (λ xs. Rattle.std.specs.Prelude.take (length xs) c.copy_starts.new.nets ≡ xs) c.as_slice.ensures c.copy_starts.ensures in
+    filled_arrivals c.args.lib.now starts c.args.self.now nets c.requires.one_start (c.fill_arrivals.ensures.length ∙ (c.copy_starts.auto.nets ∙ (c.requires.one_net ∙ c.gates-gates.ensures.kept.named)))
+    (λ i below. c.fill_arrivals.ensures.inputs i (omega (arith, below, first)) ∙ starts_read starts c.copy_starts.new.nets front i (omega (arith, below, c.requires.one_start)))
     (subst (λ n. (j : ℕ) (gate : Gate) → slice_get c.args.self.now.gates j ≡ Some gate → arrival_at nets (n + j) ≡ gate_arrival c.args.lib.now nets gate) first (λ j gate at. c.fill_arrivals.ensures.arrivals j gate (rw c.gates-gates.ensures.gates at)))
+
+pub returns-clause-low : goal.returns-clause-low
+returns-clause-low c =
+    all_low c.fill_arrivals.new.nets (length c.gates-gates.result.now) (subst (λ xs. length xs ≤ 8000000) (sym c.gates-gates.ensures.gates) c.requires.few) c.fill_arrivals.ensures.low

@@ -1,0 +1,4 @@
+pub mod Frames
+pub mod Kept
+pub mod Standing
+pub mod Starts

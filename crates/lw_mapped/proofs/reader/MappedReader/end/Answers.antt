@@ -1,0 +1,32 @@
+use Rattle.std.proofs.Common.{◌≡◌, Some, None, Err, ap, sym, ◌∙◌, subst}
+use Rattle.lw_mapped.specs.declared.fault.MappedFault.{MappedFault}
+use Rattle.lw_mapped.specs.LineFaults.{lines_read, lines_say}
+use Rattle.lw_mapped.specs.Unmapped.{IsUnmapped}
+use Rattle.lw_mapped.proofs.StandingFor.{no_fault, comes-stopped, comes-wire, comes-closed}
+use Rattle.lw_mapped.proofs.Ending.{few-lines}
+use Rattle.lw_mapped.proofs.Weights.{few-gates}
+use Rattle.lw_mapped.proofs.reader.MappedReader.end.Goals as goal
+
+pub returns-in-Some-clause-answer : goal.returns-in-Some-clause-answer
+returns-in-Some-clause-answer c = λ lines h.
+    subst (λ (f : MappedFault). IsUnmapped c.args.lib.now lines (Err f)) (sym c.fault.ensures)
+    (comes-stopped c.args.lib.now lines (lines_say c.args.lib.now (lines_read lines)) c.args.self.stop c.in-Some.stop c.in-Some.is h.stop)
+
+pub returns-in-Some-wire-clause-answer : goal.returns-in-Some-wire-clause-answer
+returns-in-Some-wire-clause-answer c = λ lines h.
+    comes-wire c.args.lib.now lines (lines_say c.args.lib.now (lines_read lines)) c.in-Some-wire.number
+    (no_fault c.args.lib.now _ _ c.args.self.stop c.args.self.parts lines c.in_default.is h) (sym c.in-Some-wire.is ∙ (h.kept c.in_default.is).wire)
+
+pub close-requires : goal.close-requires
+close-requires c = few-lines c.args.self c.args.lib.now c.in_default.is c.requires
+
+pub returns-clause-answer : goal.returns-clause-answer
+returns-clause-answer c = λ lines h.
+    let kept = h.kept c.in_default.is in
+    comes-closed c.args.lib.now lines (lines_say c.args.lib.now (lines_read lines)) c.close.result
+    (no_fault c.args.lib.now _ _ c.args.self.stop c.args.self.parts lines c.in_default.is h) (sym c.in_default-wire.is ∙ kept.wire)
+    (c.close.ensures.closes (lines_say c.args.lib.now (lines_read lines)) kept.said)
+
+pub returns-clause-gates : goal.returns-clause-gates
+returns-clause-gates c = λ lines h.
+    few-gates c.args.lib.now lines c.close.result c.len-count.ensures.kept (c.close.ensures.closes (lines_say c.args.lib.now (lines_read lines)) (h.kept c.in_default.is).said)

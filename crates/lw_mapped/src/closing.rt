@@ -1,0 +1,205 @@
+// The netlist of what lines say, with its frame, its starts and its certificate.
+ghost use Rattle.std.specs.Prelude.{◌≡◌, ◌<◌, List, length, map, All, IfOk, IfErr, unwrap_or, codes, slice_get, Some};
+ghost use Rattle.std.specs.Str.{bytes_eq};
+ghost use Rattle.indexmap.specs.IndexMap.{get};
+ghost use Rattle.indexmap.specs.IndexSet.{index_set_len};
+ghost use Rattle.lw_frame.specs.Frames.{input_names};
+ghost use Rattle.lw_netlist.specs.declared.gate.Gate.{Gate as NetGate};
+ghost use Rattle.lw_netlist.specs.Closing.{IsGateDraft};
+ghost use Rattle.lw_netlist.specs.Plain.{IsOver};
+ghost use Rattle.lw_mapped.specs.Texts.{net_name};
+ghost use Rattle.lw_mapped.specs.Made.{IsMade, TellsWhole};
+
+use crate::contents::Contents;
+use crate::{Certificate, MappedFault, OptClasses, OptMicros};
+use indexmap::{IndexMap, IndexSet};
+use lw_fixed::Micros;
+use lw_frame::add_roots;
+use lw_genlib::Library;
+use lw_netlist::{DraftGates, Gate, GateDraft, Netlist, Wires};
+use lw_pool::{ClassId, Frame, Latch, Name, Names};
+use std::alloc::{AllocError, Global};
+
+/// What a mapped text holds: a netlist, what stands around it, when its inputs arrive, and its certificate.
+#[derive(Drop)]
+pub struct Mapped {
+    pub netlist: Netlist,
+    pub frame: Frame,
+    pub starts: Micros,
+    pub cert: Certificate,
+}
+
+// The names of the inputs, and behind them those of the latches' outputs.
+fn with_latch_outputs(alloc: Global, inputs: Names, latches: &[Latch]) -> Result<Names, AllocError>
+    ensures { IfOk result (λ names. names ≡ input_names inputs latches.now) }
+{
+    let mut names = inputs;
+    for latch in latches {
+        names.push(Name::from_slice(alloc, latch.output.as_bytes())?)?;
+    }
+    Ok(names)
+}
+
+// The names of a set, in order.
+fn names_of(alloc: Global, set: &IndexSet<Name>) -> Result<Names, AllocError>
+    ensures { IfOk result (λ names. names ≡ set.now.keys) }
+{
+    let mut names = Names::new(alloc);
+    for i in 0..set.len() {
+        let name = name_at(set, i);
+        names.push(Name::from_slice(alloc, name.as_bytes())?)?;
+    }
+    Ok(names)
+}
+
+fn name_at(set: &IndexSet<Name>, place: usize) -> &Name
+    requires { place < index_set_len set.now }
+    ensures { slice_get set.now.keys place ≡ Some result.now }
+{
+    set.get_index(place).unwrap()
+}
+
+// The name, or that of a model without one.
+fn name_or_unnamed(alloc: Global, name: Option<Name>) -> Result<Name, AllocError>
+    ensures { IfOk result (λ n. n ≡ unwrap_or name (codes "unnamed")) }
+{
+    match name {
+        Some(name) => Ok(name),
+        None => Name::from_slice(alloc, b"unnamed"),
+    }
+}
+
+// The netlist by names.
+fn draft_of(
+    alloc: Global,
+    model: Option<Name>,
+    inputs: Names,
+    outputs: &IndexSet<Name>,
+    latches: &[Latch],
+    gates: DraftGates,
+    wires: Wires,
+) -> Result<GateDraft, AllocError>
+    ensures { IfOk result (λ draft. draft ≡ record { model = unwrap_or model (codes "unnamed"); inputs = input_names inputs latches.now; outputs = outputs.now.keys; gates = gates; wires = wires }) }
+{
+    let model = name_or_unnamed(alloc, model)?;
+    let inputs = with_latch_outputs(alloc, inputs, latches)?;
+    let outputs = names_of(alloc, outputs)?;
+    Ok(GateDraft {
+        model,
+        inputs,
+        outputs,
+        gates,
+        wires,
+    })
+}
+
+// The class of a net, where it has one.
+fn class_of(nets: &IndexMap<Name, ClassId>, name: &Name) -> Option<ClassId>
+    ensures { result ≡ get bytes_eq nets.now name.now }
+{
+    nets.get(name).copied()
+}
+
+// The class of each gate that has one.
+fn classes_of(
+    alloc: Global,
+    names: &[Name],
+    gates: &[Gate],
+    nets: &IndexMap<Name, ClassId>,
+) -> Result<OptClasses, AllocError>
+    requires { All (λ (gate : NetGate). gate.out.0 < length names.now) gates.now }
+    ensures { IfOk result (λ classes. classes ≡ map (λ (gate : NetGate). get bytes_eq nets.now (net_name names.now gate.out)) gates.now) }
+{
+    let mut classes = Vec::with_capacity(alloc, gates.len())?;
+    for gate in gates {
+        classes.push(class_of(nets, &names[gate.out.0 as usize]))?;
+    }
+    Ok(OptClasses::from_vec(classes))
+}
+
+// Closes a netlist by names, with what stands around it.
+fn closed(
+    alloc: Global,
+    lib: &Library,
+    draft: GateDraft,
+    frame: Frame,
+    starts: Micros,
+    labels: OptMicros,
+    nets: &IndexMap<Name, ClassId>,
+) -> Result<Mapped, MappedFault>
+    requires { IsGateDraft lib.now draft }
+    ensures made { IfOk result (λ mapped. IsMade draft frame starts labels (get bytes_eq nets.now) mapped) }
+    ensures over { IfOk result (λ mapped. IsOver lib.now mapped.netlist) }
+    ensures fault { IfErr result (TellsWhole draft) }
+{
+    let netlist = Netlist::close(alloc, draft, lib)?;
+    let nets = classes_of(alloc, netlist.names(), netlist.gates(), nets)?;
+    Ok(Mapped {
+        netlist,
+        frame,
+        starts,
+        cert: Certificate { labels, nets },
+    })
+}
+
+impl Contents {
+    ghost use Rattle.std.specs.Prelude.{◌≡◌, List, IfOk};
+    ghost use Rattle.lw_mapped.specs.declared.saying.Saying.{Saying};
+    ghost use Rattle.lw_netlist.specs.Plain.{IsOver};
+    ghost use Rattle.lw_frame.specs.Starts.{starts_of};
+    ghost use Rattle.lw_mapped.specs.Keeping.{Keeps, IsOfFew};
+    ghost use Rattle.lw_mapped.specs.Unmapped.{ClosesTo, starts_said};
+
+    // The starts of the inputs.
+    fn starts(&self, alloc: Global) -> Result<Micros, AllocError>
+        ensures { IfOk result (λ starts. (said : List Saying) → Keeps self.now said → starts ≡ starts_said said) }
+    {
+        self.arrivals
+            .starts(alloc, self.inputs.as_slice(), self.latches.len())
+    }
+
+    /// The netlist of what lines say, or its fault.
+    pub(crate) fn close(self, alloc: Global, lib: &Library) -> Result<Mapped, MappedFault>
+        requires { IsOfFew self lib.now }
+        ensures closes { (said : List Saying) → Keeps self said → ClosesTo said result }
+        ensures over { IfOk result (λ mapped. IsOver lib.now mapped.netlist) }
+    {
+        let starts = self.starts(alloc)?;
+        let Contents {
+            model,
+            inputs,
+            outputs,
+            gates,
+            wires,
+            latches,
+            labels,
+            nets,
+            ..
+        } = self;
+        let mut roots = outputs;
+        let own_outputs = add_roots(alloc, &mut roots, latches.as_slice())?;
+        let frame = Frame {
+            inputs: inputs.len() as u32,
+            outputs: own_outputs as u32,
+            latches,
+        };
+        let draft = draft_of(
+            alloc,
+            model,
+            inputs,
+            &roots,
+            frame.latches.as_slice(),
+            gates,
+            wires,
+        )?;
+        closed(
+            alloc,
+            lib,
+            draft,
+            frame,
+            starts,
+            OptMicros::from_vec(labels),
+            &nets,
+        )
+    }
+}

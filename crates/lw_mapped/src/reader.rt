@@ -1,0 +1,141 @@
+// Reads a mapped text line by line.
+ghost use Rattle.std.specs.Prelude.{◌≡◌, ◌++◌, ◌≤◌, ◌*◌, [], ◌∷◌, List, Err, IfOk, OnOk, IfSome, IsSome, Some, length};
+
+use crate::closing::Mapped;
+use crate::command::{Command, command_of};
+use crate::parts::Parts;
+use crate::{MappedFault, MappedKind, Refusal};
+use lw_genlib::Library;
+use lw_words::Line;
+use std::alloc::Global;
+
+/// Why a reader reads no more lines.
+#[derive(Clone, Copy)]
+pub enum Stop {
+    Broken(u32, MappedKind),
+    Memory,
+}
+
+impl Stop {
+    ghost use Rattle.lw_mapped.specs.Standing.{fault_of, stop_at};
+
+    fn fault(self) -> MappedFault
+        ensures { result ≡ fault_of self }
+    {
+        match self {
+            Stop::Broken(number, kind) => MappedFault::Line(number, kind),
+            Stop::Memory => MappedFault::Memory,
+        }
+    }
+
+    // A reader stops at the line with this number.
+    fn at(number: u32, refusal: Refusal) -> Self
+        ensures { result ≡ stop_at number refusal }
+    {
+        match refusal {
+            Refusal::Broken(kind) => Stop::Broken(number, kind),
+            Refusal::Memory => Stop::Memory,
+        }
+    }
+}
+
+impl Command {
+    ghost use Rattle.lw_mapped.specs.LineFaults.{ends};
+
+    // Whether the command ends the reading.
+    fn ends(self, first: bool) -> bool
+        ensures { result ≡ ends first self }
+    {
+        match self {
+            Command::End => true,
+            Command::Model => !first,
+            _ => false,
+        }
+    }
+}
+
+/// Reads a mapped text line by line. After an error it answers the same to each later line, and changes nothing more.
+#[derive(Drop)]
+pub struct MappedReader {
+    begun: bool,
+    ended: bool,
+    stop: Option<Stop>,
+    parts: Parts,
+}
+
+impl MappedReader {
+    ghost use Rattle.lw_words.specs.Lines.{LogicalLine, lines_weight};
+    ghost use Rattle.lw_genlib.specs.Cells.{CellParts};
+    ghost use Rattle.lw_mapped.specs.LineFaults.{first_fault, lines_read};
+    ghost use Rattle.lw_mapped.specs.Unmapped.{IsUnmapped};
+    ghost use Rattle.lw_mapped.specs.Standing.{StandsFor, IsGivenFew, Tells, Stopped, stop_of, fault_of};
+    ghost use Rattle.lw_netlist.specs.Plain.{IsOver};
+
+    pub fn new(alloc: Global) -> Self
+        ensures { (cells : List CellParts) → StandsFor result cells [] }
+    {
+        MappedReader {
+            begun: false,
+            ended: false,
+            stop: None,
+            parts: Parts::new(alloc),
+        }
+    }
+
+    /// Reads a line. The answer is the first line that breaks a rule, and the first rule that it breaks; it is then that of each later
+    /// line and of the end.
+    pub fn line(&mut self, line: &Line, lib: &Library) -> Result<(), MappedFault>
+        ensures stands { (lines : List LogicalLine) → StandsFor self.old lib.now lines → StandsFor self.new lib.now (lines ++ line.now ∷ []) }
+        ensures answer { (lines : List LogicalLine) → StandsFor self.old lib.now lines → Tells result (first_fault lib.now [] (lines_read (lines ++ line.now ∷ []))) }
+        ensures stopped { Stopped result (stop_of self.new) }
+        ensures again { IfSome (stop_of self.old) (λ stop. result ≡ Err (fault_of stop)) }
+        ensures unchanged { IsSome (stop_of self.old) → self.new ≡ self.old }
+    {
+        if let Some(stop) = self.stop {
+            return Err(stop.fault());
+        }
+        if self.ended {
+            return Ok(());
+        }
+        let first = !self.begun;
+        self.begun = true;
+        let asked = command_of(line.words.get(0));
+        if asked.ends(first) {
+            self.ended = true;
+            return Ok(());
+        }
+        match self.parts.read(line, asked, lib) {
+            Ok(()) => Ok(()),
+            Err(refusal) => {
+                let stop = Stop::at(line.number, refusal);
+                self.stop = Some(stop);
+                Err(stop.fault())
+            }
+        }
+    }
+
+    /// The text ends. The answer is its netlist with its frame, its starts and its certificate, or the first line that breaks a rule
+    /// with the first rule that it breaks, or else the fault of the netlist as a whole.
+    pub fn end(self, lib: &Library) -> Result<Mapped, MappedFault>
+        requires { IsGivenFew self lib.now }
+        ensures answer { (lines : List LogicalLine) → StandsFor self lib.now lines → IsUnmapped lib.now lines result }
+        ensures again { IfSome (stop_of self) (λ stop. result ≡ Err (fault_of stop)) }
+        ensures over { IfOk result (λ mapped. IsOver lib.now mapped.netlist) }
+        ensures gates { (lines : List LogicalLine) → StandsFor self lib.now lines → IfOk result (λ mapped. 12 * length mapped.netlist.gates ≤ lines_weight lines) }
+    {
+        let MappedReader { stop, parts, .. } = self;
+        if let Some(stop) = stop {
+            return Err(stop.fault());
+        }
+        let Parts {
+            alloc,
+            wire,
+            contents,
+        } = parts;
+        if let Some(number) = wire {
+            return Err(MappedFault::Line(number, MappedKind::Shape));
+        }
+        let _count = lib.len();
+        contents.close(alloc, lib)
+    }
+}

@@ -1,0 +1,22 @@
+use lw_fixed::Micro;
+use lw_netlist::{DraftGate, Wire};
+use lw_pool::{ClassId, Latch, Name, Names};
+
+/// What a line says.
+#[derive(Drop)]
+pub enum Saying {
+    Model(Name),
+    Inputs(Names),
+    Outputs(Names),
+    Gate(DraftGate),
+    Wire(Wire),
+    Latch(Latch),
+    /// An input arrives at this time.
+    Arrival(Name, Micro),
+    /// Each input that has no line of its own arrives at this time.
+    DefaultArrival(Micro),
+    Label(ClassId, Micro),
+    /// The class of a net.
+    Net(Name, ClassId),
+    Nothing,
+}

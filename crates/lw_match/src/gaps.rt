@@ -1,0 +1,95 @@
+// What pins cost less than their cells: guesses, and tests of whether they may be trusted.
+ghost use Rattle.std.specs.Prelude.{◌≡◌, ◌<◌, ◌≤◌, ℕ, IsTrue, replicate, slice_index, slice_set};
+ghost use Rattle.lw_laws.specs.Covers.{HasPins};
+ghost use Rattle.lw_pattern.specs.Listed.{IsKept};
+ghost use Rattle.lw_match.specs.Least.{AreOfCells};
+ghost use Rattle.lw_match.specs.Searching.{IsCertified};
+ghost use Rattle.lw_match.specs.Shapes.{gaps_of};
+
+use crate::Cost;
+use crate::counting::pin_count;
+use lw_pattern::Patterns;
+use lw_pool::{CellId, PatId};
+use std::alloc::{AllocError, Global};
+
+// The cost of a pin at which its gap is guessed.
+const PROBE: u64 = 1 << 61;
+
+/// The gaps of the pins of a pattern, none where they are not known.
+pub(crate) fn gaps_at<'a>(all: &'a [[u64; 16]], pat: PatId) -> &'a [u64]
+    ensures { result.now ≡ gaps_of all.now pat.0 }
+{
+    match all.get(pat.0 as usize) {
+        Some(gaps) => gaps,
+        None => &[],
+    }
+}
+
+/// The gap of a pin, 0 where none is known.
+pub(crate) fn gap_at(gaps: &[u64], pin: usize) -> u64
+    ensures { result ≡ slice_index gaps.now pin }
+{
+    if pin < gaps.len() { gaps[pin] } else { 0 }
+}
+
+// What a cell costs by one pin alone: the others cost nothing.
+fn value_alone<C: Cost>(cost: &C, cell: CellId, pins: usize, pin: usize, amount: u64) -> u64
+    requires has { HasPins (C.costs cost.now).pin_counts cell.0 pins }
+    requires few { pins ≤ 16 }
+    requires pin { pin < pins }
+    ensures { result ≡ (C.costs cost.now).value cell.0 (slice_set (replicate pins 0) pin amount) }
+{
+    let mut costs = [0; 16];
+    costs[pin] = amount;
+    cost.value(cell, &costs[..pins])
+}
+
+/// Whether each pin alone, with the cost that its gap leaves of the top, makes the cell cost so much.
+pub(crate) fn is_certified<C: Cost>(
+    cost: &C,
+    cell: CellId,
+    pins: usize,
+    gaps: &[u64],
+    top: u64,
+) -> bool
+    requires has { HasPins (C.costs cost.now).pin_counts cell.0 pins }
+    requires few { pins ≤ 16 }
+    ensures { IsTrue result → IsCertified (C.costs cost.now) cell.0 pins gaps.now top }
+{
+    for pin in 0..pins {
+        let amount = top.saturating_sub(gap_at(gaps, pin));
+        if value_alone(cost, cell, pins, pin, amount) < top {
+            return false;
+        }
+    }
+    true
+}
+
+// The gap of each pin of a cell, guessed from what the cell costs by the pin alone. Nothing rests on a guess.
+fn guesses<C: Cost>(cost: &C, cell: CellId, pins: usize) -> [u64; 16]
+    requires has { HasPins (C.costs cost.now).pin_counts cell.0 pins }
+    requires few { pins ≤ 16 }
+{
+    let mut gaps = [0; 16];
+    for pin in 0..pins {
+        gaps[pin] = value_alone(cost, cell, pins, pin, PROBE).saturating_sub(PROBE);
+    }
+    gaps
+}
+
+/// The gaps of the pins of each pattern.
+pub(crate) fn all_guesses<C: Cost>(
+    alloc: Global,
+    pats: &Patterns,
+    cost: &C,
+) -> Result<Vec<[u64; 16]>, AllocError>
+    requires { AreOfCells (C.costs cost.now).pin_counts pats.now }
+{
+    let mut all = Vec::new(alloc);
+    for number in 0..pats.len() {
+        let pattern = pats.get(PatId(number));
+        let pins = pin_count(pattern.nodes.as_slice());
+        all.push(guesses(cost, pattern.cell, pins))?;
+    }
+    Ok(all)
+}

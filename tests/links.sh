@@ -1,0 +1,93 @@
+#!/bin/sh
+# Looks whether each link and each path in the pages of this repository leads to something: targets of Markdown links with
+# their headings, words with a slash that begin with a folder of the repository or of the page, and names of pages and
+# scripts. Words with a capital name in them, as in crates/NAME, stand for others, and what a build or a flow makes (out/,
+# flow_TOP/) need not be there.
+#
+#   sh tests/links.sh [PAGE..]
+#
+# Each one that leads nowhere is printed. The last line is 'N looked at, N lead nowhere'; the status is 0 where none does.
+set -u
+export LC_ALL=C
+cd "$(dirname -- "$(dirname -- "$(readlink -f -- "$0")")")" || exit 1
+if [ $# -eq 0 ]; then
+    # shellcheck disable=SC2046
+    set -- $(find . -name '*.md' -not -path './.git/*' -not -path '*/out/*' | sed 's|^\./||' | sort)
+fi
+looked=0
+lost=0
+
+# The headings of a page as Markdown's links name them.
+anchors() { # PAGE
+    sed -n 's/^##* *//p' "$1" | tr 'A-Z ' 'a-z-' | tr -cd 'a-z0-9_\n-'
+}
+
+nowhere() { # PAGE WHAT
+    lost=$((lost + 1))
+    echo "$1: $2"
+}
+
+# Whether something of the repository has that name; the name may be a pattern.
+exists() { # FOLDER NAME
+    for found in "$1"/$2 ./$2; do
+        [ ! -e "$found" ] || return 0
+    done
+    return 1
+}
+
+link() { # PAGE TARGET
+    case $2 in http://* | https://* | mailto:*) return ;; esac
+    looked=$((looked + 1))
+    target=${2%%#*}
+    file=$(dirname -- "$1")/$target
+    [ -n "$target" ] || file=$1
+    if ! [ -e "$file" ]; then
+        nowhere "$1" "$2"
+    elif [ "$2" != "$target" ] && ! anchors "$file" | grep -qxF -- "${2#*#}"; then
+        nowhere "$1" "$2"
+    fi
+}
+
+path() { # PAGE WORD
+    folder=$(dirname -- "$1")
+    case $2 in
+    */*)
+        first=${2%%/*}
+        [ -d "$folder/$first" ] || [ -d "./$first" ] || return 0
+        ;;
+    esac
+    looked=$((looked + 1))
+    exists "$folder" "$2" || nowhere "$1" "$2"
+}
+
+# The words that look like paths, out of the code and the text of a page; links and addresses are taken out first.
+paths() { # PAGE
+    sed 's/](\([^)]*\))/]/g; s|https*://[^ ]*||g' "$1" | grep -oE '[A-Za-z0-9_.*-]+(/[A-Za-z0-9_.*-]+)+/?|[A-Za-z0-9_-]+\.(md|sh|py|awk)' |
+        grep -vE '(^|[/._])[A-Z]{2,}([/._]|$)|(^|/)(out|flow_[A-Za-z]*)/|\.\.$|/\.$' | sed 's/\.$//' | sort -u
+    sed 's/](\([^)]*\))/]/g' "$1" | grep -oE '(^|[^A-Za-z0-9_./-])[A-Z]+\.md' | grep -oE '[A-Z]+\.md' | sort -u
+}
+
+# A script that is named without its folder may stand anywhere.
+anywhere() { # NAME
+    [ -n "$(find . -name "$1" -not -path './.git/*' 2>/dev/null | head -n 1)" ]
+}
+
+for page; do
+    # shellcheck disable=SC2013
+    for target in $(grep -oE '\]\([^) ]+\)' "$page" | sed 's/^](//; s/)$//'); do link "$page" "$target"; done
+    set -f
+    # shellcheck disable=SC2046
+    set -- $(paths "$page")
+    for word; do
+        case $word in
+        */*) set +f && path "$page" "$word" && set -f ;;
+        *)
+            looked=$((looked + 1))
+            anywhere "$word" || nowhere "$page" "$word"
+            ;;
+        esac
+    done
+    set +f
+done
+echo "$looked looked at, $lost lead nowhere"
+[ "$lost" -eq 0 ]

@@ -1,0 +1,89 @@
+#!/bin/sh
+# Runs the scripts of tools/ and the pictures of bench/ on the examples, and compares what they print. It needs Python, and
+# no program of the repository; what needs ABC or Debian's qflow-tech-osu035 is skipped where that is not there.
+#
+#   sh tests/tools.sh
+#
+# The last line is `N passed, N failed`.
+set -u
+root=$(dirname -- "$(dirname -- "$(readlink -f -- "$0")")")
+cd -- "$root" || exit 1
+room=$(mktemp -d)
+trap 'rm -rf "$room"' EXIT
+passed=0 && failed=0
+
+good() { # WHAT: the status before it was 0
+    if [ "$?" -eq 0 ]; then passed=$((passed + 1)); else failed=$((failed + 1)) && echo "failed: $1"; fi
+}
+
+# Whether a run ends with status 1 and one line that holds a text.
+refused() { # TEXT COMMAND..
+    text=$1 && shift
+    "$@" >"$room/out" 2>"$room/err"
+    [ "$?" -eq 1 ] && [ "$(wc -l <"$room/err")" -eq 1 ] && grep -q -- "$text" "$room/err"
+}
+
+sh tools/summary.sh examples/small/full_adder.mapped.blif | tr '\n' ' ' >"$room/summary"
+[ "$(cat "$room/summary")" = 'inputs 3 outputs 2 latches 0 gates 12 cell big_inv 3 cell nand2 3 cell nand3 5 cell nand4 1 levels 3 ' ]
+good "the summary of the full adder"
+refused 'has logic' sh tools/summary.sh examples/small/full_adder.blif
+good "a summary of what is not mapped"
+printf '.model a\n.outputs f\n.gate i a=g O=f\n.gate i a=f O=g\n' | refused 'reads itself' sh tools/summary.sh
+good "a summary of a cycle"
+
+for lib in bench/libs/*.genlib; do
+    name=$(basename "$lib" .genlib)
+    python3 tools/forms.py "$lib" >"$room/$name.genlib" 2>"$room/said" &&
+        python3 - "$room/$name.genlib" <<'END'
+import sys
+sys.path.insert(0, "bench")
+import timing
+for cell in timing.read_genlib(sys.argv[1]).values():
+    if len({timing.truth(form, cell.pins) for form in cell.funs}) != 1:
+        sys.exit(f"{cell.name} has forms of two functions")
+END
+    good "each further form of $name has its cell's function"
+    printf '.model none\n.inputs\n.outputs\n.end\n' >"$room/none"
+    python3 tests/reference.py map "$room/$name.genlib" "$room/none" >"$room/out"
+    good "a library is read with the further forms of $name"
+done
+refused 'GATE expected' python3 tools/forms.py README.md
+good "forms of what is no library"
+
+python3 tools/nowires.py examples/plain/plain.genlib examples/plain/wires.mapped.blif >"$room/plain.blif" 2>"$room/said" &&
+    ! grep -q '^\.names' "$room/plain.blif" && grep -q 'gates before it' "$room/said"
+good "wires become gates"
+refused 'is no wire\|has logic\|outside of a node' python3 tools/nowires.py bench/libs/tiny.genlib examples/small/full_adder.blif
+good "wires of what is not mapped"
+
+if command -v berkeley-abc >/dev/null; then
+    python3 bench/timing.py -f examples/plain/plain.genlib >"$room/flat.genlib"
+    (cd "$room" && berkeley-abc -q "read_genlib flat.genlib; read_blif plain.blif; cec $root/examples/plain/wires.blif") |
+        grep -q 'are equivalent'
+    good "ABC reads a netlist without wires, and finds it equivalent"
+    refused 'no library of Liberty' sh tools/liberty.sh bench/libs/mcnc.genlib
+    good "Liberty that is none"
+    liberty=/usr/share/qflow/tech/osu035/osu035_stdcells.lib
+    if [ -r "$liberty" ]; then
+        sh tools/liberty.sh -x 'PAD*' "$liberty" >"$room/osu.genlib" 2>"$room/said" &&
+            grep -q 'several outputs): FAX1 HAX1' "$room/said" &&
+            grep -q '^GATE XOR2X1 224 Y=A\*!B+!A\*B;' "$room/osu.genlib" &&
+            python3 tests/reference.py map "$room/osu.genlib" "$room/none" >"$room/out"
+        good "a library of Liberty"
+    else
+        echo "skipped: there is no $liberty"
+    fi
+else
+    echo "skipped: there is no berkeley-abc"
+fi
+
+python3 bench/plot.py bench/RESULTS.md "$room" && python3 bench/and3.py "$room/and3.svg"
+for name in delay time and3; do
+    cmp -s "$room/$name.svg" "docs/pictures/$name.svg"
+    good "docs/pictures/$name.svg is what its script draws now"
+done
+refused 'no table' python3 bench/plot.py README.md "$room"
+good "a page without the table"
+
+echo "$passed passed, $failed failed"
+[ "$failed" -eq 0 ]
