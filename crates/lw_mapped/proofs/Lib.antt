@@ -9,7 +9,6 @@ pub mod Given
 pub mod KeepingLemmas
 pub mod LabelLemmas
 pub mod Loops
-pub mod Putting
 pub mod ReadingLemmas
 pub mod Sizes
 pub mod StandingFor

@@ -1,3 +1,4 @@
+pub mod Certified
 pub mod Commands
 pub mod GateLines
 pub mod Keeping
@@ -9,4 +10,3 @@ pub mod Sayings
 pub mod Standing
 pub mod Texts
 pub mod Unmapped
-pub mod Waitings

@@ -2,12 +2,11 @@
 ghost use Rattle.std.specs.Prelude.{◌≡◌, ◌≤◌, length};
 ghost use Rattle.std.specs.List.{flat_map};
 ghost use Rattle.lw_mapped.specs.Texts.{arrival_line, optional_arrival, arrival_lines, latch_line};
-ghost use Rattle.lw_mapped.specs.Waitings.{Puts};
+ghost use Rattle.lw_io.specs.Waitings.{Puts};
 
 use crate::lines::{put_word, put_words};
-use crate::waiting::{Waiting, put};
 use lw_fixed::{Micro, print};
-use lw_io::Sink;
+use lw_io::{Sink, Waiting, put};
 use lw_pool::{Latch, Name};
 
 fn put_arrival<S: Sink>(sink: &mut S, waiting: &mut Waiting, name: &[u8], start: Micro)

@@ -3,12 +3,11 @@ ghost use Rattle.std.specs.Prelude.{◌≡◌, ◌<◌, ◌∷◌, Some, length,
 ghost use Rattle.std.specs.List.{flat_map};
 ghost use Rattle.lw_netlist.specs.Plain.{HasCell};
 ghost use Rattle.lw_mapped.specs.Texts.{spaced, ties, net_name, gate_line, gate_text, wire, wire_text, HasNames};
-ghost use Rattle.lw_mapped.specs.Waitings.{Puts};
+ghost use Rattle.lw_io.specs.Waitings.{Puts};
 
 use crate::lines::{name_of, put_tie, put_word};
-use crate::waiting::{Waiting, put};
 use lw_genlib::{Cell, Library};
-use lw_io::Sink;
+use lw_io::{Sink, Waiting, put};
 use lw_netlist::{Gate, Port};
 use lw_pool::{Name, NetId};
 

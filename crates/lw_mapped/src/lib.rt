@@ -16,7 +16,6 @@ mod parts;
 mod reader;
 mod saying;
 mod ties;
-mod waiting;
 mod writing;
 
 pub use certificate::{Certificate, OptClasses, OptMicros};

@@ -1,10 +1,9 @@
 // Lines of words.
 ghost use Rattle.std.specs.Prelude.{◌≡◌, ◌<◌, ◌∷◌, length, map};
 ghost use Rattle.lw_mapped.specs.Texts.{spaced, line, tie, net_name, port_name};
-ghost use Rattle.lw_mapped.specs.Waitings.{Puts};
+ghost use Rattle.lw_io.specs.Waitings.{Puts};
 
-use crate::waiting::{Waiting, put};
-use lw_io::Sink;
+use lw_io::{Sink, Waiting, put};
 use lw_netlist::Port;
 use lw_pool::{Name, NetId};
 

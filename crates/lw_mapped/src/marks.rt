@@ -1,13 +1,12 @@
 // The lines of a certificate.
 ghost use Rattle.std.specs.Prelude.{◌≡◌, ◌<◌, length, All};
 ghost use Rattle.lw_mapped.specs.Texts.{label_line, optional_label, label_lines, net_line, optional_net, net_lines, HasNames};
-ghost use Rattle.lw_mapped.specs.Waitings.{Puts};
+ghost use Rattle.lw_io.specs.Waitings.{Puts};
 
 use crate::lines::{name_of, put_word};
-use crate::waiting::{Waiting, put};
 use itoa::Buffer;
 use lw_fixed::{Micro, print};
-use lw_io::Sink;
+use lw_io::{Sink, Waiting, put};
 use lw_netlist::Gate;
 use lw_pool::{ClassId, Name};
 

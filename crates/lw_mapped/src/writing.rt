@@ -4,17 +4,16 @@ ghost use Rattle.lw_io.specs.Causes.{HasCause};
 ghost use Rattle.lw_io.specs.Moves.{AppendsPrefix};
 ghost use Rattle.lw_netlist.specs.Plain.{IsOver};
 ghost use Rattle.lw_mapped.specs.Texts.{mapped_text, certificate_text, header_text, now_of, HasGateClasses, IsFramed};
-ghost use Rattle.lw_mapped.specs.Waitings.{Puts};
+ghost use Rattle.lw_io.specs.Waitings.{Puts};
 
 use crate::Certificate;
 use crate::frames::{put_arrivals, put_latches};
 use crate::gates::{put_gates, put_wires};
 use crate::lines::{put_line, put_ports, put_word};
 use crate::marks::{put_labels, put_nets};
-use crate::waiting::{Waiting, flush, put};
 use lw_fixed::Micros;
 use lw_genlib::Library;
-use lw_io::{Failed, Sink};
+use lw_io::{Failed, Sink, Waiting, end, put};
 use lw_netlist::{Netlist, Port};
 use lw_pool::{Frame, Name};
 
@@ -110,9 +109,5 @@ pub fn write<S: Sink>(
 {
     let mut waiting = Waiting::new();
     put_text(sink, &mut waiting, netlist, lib, frame, starts, cert);
-    flush(sink, &mut waiting);
-    if waiting.has_failed() {
-        return Err(Failed);
-    }
-    Ok(())
+    end(sink, waiting)
 }

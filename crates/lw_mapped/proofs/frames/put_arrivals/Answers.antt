@@ -1,8 +1,8 @@
 use Rattle.std.proofs.Common.{◌<◌, [], length, sym, ◌∙◌, subst, arith, get_or}
 use Rattle.lw_mapped.specs.Texts.{optional_arrival}
 use Rattle.lw_mapped.proofs.TextParts.{arrivals_more, arrivals_none, get_or-any}
-use Rattle.lw_mapped.specs.Waitings.{Puts}
-use Rattle.lw_mapped.proofs.Putting.{Puts-both, Puts-none}
+use Rattle.lw_io.specs.Waitings.{Puts}
+use Rattle.lw_io.proofs.Putting.{Puts-both, Puts-none}
 use Rattle.lw_mapped.proofs.frames.put_arrivals.Goals as goal
 
 pub loop-k-init : goal.loop-k-init

@@ -1,8 +1,8 @@
 use Rattle.std.proofs.Common.{subst}
 use Rattle.lw_pool.specs.declared.latch.Latch.{Latch}
 use Rattle.lw_mapped.specs.Texts.{latch_line}
-use Rattle.lw_mapped.specs.Waitings.{Puts}
-use Rattle.lw_mapped.proofs.Putting.{Puts-more}
+use Rattle.lw_io.specs.Waitings.{Puts}
+use Rattle.lw_io.proofs.Putting.{Puts-more}
 use Rattle.lw_mapped.proofs.frames.put_latches.Goals as goal
 
 pub loop-latch-preserved : goal.loop-latch-preserved

@@ -1,6 +1,6 @@
 use Rattle.std.proofs.Common.{take}
 use Rattle.std.specs.List.{flat_map}
-use Rattle.lw_mapped.specs.Waitings.{Puts}
+use Rattle.lw_io.specs.Waitings.{Puts}
 use Rattle.lw_mapped.specs.Texts.{latch_line}
 use Rattle.lw_mapped.proofs.frames.put_latches.Given as goal
 

@@ -1,6 +1,6 @@
 use Rattle.std.proofs.Common.{◌≡◌, ◌==◌, false, [], cond, sym, subst, arith}
 use Rattle.lw_mapped.specs.Texts.{arrival_line}
-use Rattle.lw_mapped.specs.Waitings.{Puts}
+use Rattle.lw_io.specs.Waitings.{Puts}
 use Rattle.lw_mapped.proofs.frames.put_optional_arrival.Goals as goal
 
 pub returns-then-start-ne0 : goal.returns-then-start-ne0

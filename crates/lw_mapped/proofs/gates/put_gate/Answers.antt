@@ -1,8 +1,8 @@
 use Rattle.std.proofs.Common.{◌∷◌, ◌++◌, ◌∙◌, ap₂, sym, subst}
 use Rattle.lw_mapped.specs.Texts.{spaced, ties, tie, net_name}
 use Rattle.lw_mapped.proofs.TextParts.{ended_with}
-use Rattle.lw_mapped.specs.Waitings.{Puts}
-use Rattle.lw_mapped.proofs.Putting.{Puts-both}
+use Rattle.lw_io.specs.Waitings.{Puts}
+use Rattle.lw_io.proofs.Putting.{Puts-both}
 use Rattle.lw_mapped.proofs.gates.put_gate.Goals as goal
 
 pub returns : goal.returns

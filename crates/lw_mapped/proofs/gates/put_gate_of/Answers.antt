@@ -1,6 +1,6 @@
 use Rattle.std.proofs.Common.{sym, subst}
 use Rattle.lw_mapped.specs.Texts.{gate_line}
-use Rattle.lw_mapped.specs.Waitings.{Puts}
+use Rattle.lw_io.specs.Waitings.{Puts}
 use Rattle.lw_mapped.proofs.gates.put_gate_of.Goals as goal
 
 pub returns : goal.returns

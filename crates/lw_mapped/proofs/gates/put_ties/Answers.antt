@@ -1,8 +1,8 @@
 use Rattle.std.proofs.Common.{◌<◌, [], ◌∷◌, length, sym, ap₂, ◌∙◌, subst, arith}
 use Rattle.lw_mapped.specs.Texts.{tie}
 use Rattle.lw_mapped.proofs.TextParts.{ties_more, get_or-any}
-use Rattle.lw_mapped.specs.Waitings.{Puts}
-use Rattle.lw_mapped.proofs.Putting.{Puts-both}
+use Rattle.lw_io.specs.Waitings.{Puts}
+use Rattle.lw_io.proofs.Putting.{Puts-both}
 use Rattle.lw_mapped.proofs.gates.put_ties.Goals as goal
 
 pub loop-k-preserved : goal.loop-k-preserved

@@ -1,5 +1,5 @@
 use Rattle.std.proofs.Common.{take}
-use Rattle.lw_mapped.specs.Waitings.{Puts}
+use Rattle.lw_io.specs.Waitings.{Puts}
 use Rattle.lw_mapped.specs.Texts.{spaced, ties}
 use Rattle.lw_mapped.proofs.gates.put_ties.Given as goal
 

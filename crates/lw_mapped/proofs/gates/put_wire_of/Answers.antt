@@ -1,4 +1,4 @@
-use Rattle.lw_mapped.proofs.Putting.{Puts-both}
+use Rattle.lw_io.proofs.Putting.{Puts-both}
 use Rattle.lw_mapped.proofs.gates.put_wire_of.Goals as goal
 
 pub returns : goal.returns

@@ -1,8 +1,8 @@
 use Rattle.std.proofs.Common.{subst}
 use Rattle.lw_netlist.specs.declared.gate.Port.{Port}
 use Rattle.lw_mapped.specs.Texts.{wire_text}
-use Rattle.lw_mapped.specs.Waitings.{Puts}
-use Rattle.lw_mapped.proofs.Putting.{Puts-more}
+use Rattle.lw_io.specs.Waitings.{Puts}
+use Rattle.lw_io.proofs.Putting.{Puts-more}
 use Rattle.lw_mapped.proofs.gates.put_wires.Goals as goal
 
 pub loop-port-preserved : goal.loop-port-preserved

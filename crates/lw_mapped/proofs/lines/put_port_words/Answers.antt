@@ -3,8 +3,8 @@ use Rattle.std.specs.List.{flat_map}
 use Rattle.std.proofs.lemmas.List.{take_all}
 use Rattle.lw_netlist.specs.declared.gate.Port.{Port}
 use Rattle.lw_mapped.proofs.TextParts.{ports_spaced}
-use Rattle.lw_mapped.specs.Waitings.{Puts}
-use Rattle.lw_mapped.proofs.Putting.{Puts-more}
+use Rattle.lw_io.specs.Waitings.{Puts}
+use Rattle.lw_io.proofs.Putting.{Puts-more}
 use Rattle.lw_mapped.proofs.lines.put_port_words.Goals as goal
 
 pub loop-port-preserved : goal.loop-port-preserved

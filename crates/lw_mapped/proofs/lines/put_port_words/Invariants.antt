@@ -1,7 +1,7 @@
 use Rattle.std.proofs.Common.{◌∷◌, take}
 use Rattle.std.specs.List.{flat_map}
 use Rattle.lw_netlist.specs.declared.gate.Port.{Port}
-use Rattle.lw_mapped.specs.Waitings.{Puts}
+use Rattle.lw_io.specs.Waitings.{Puts}
 use Rattle.lw_mapped.proofs.lines.put_port_words.Given as goal
 
 abbrev pub invariant-loop-port : goal.invariant-loop-port

@@ -1,8 +1,8 @@
 use Rattle.std.proofs.Common.{◌++◌, sym, subst, map}
 use Rattle.lw_mapped.specs.Texts.{port_name}
 use Rattle.lw_mapped.proofs.TextParts.{ended_is}
-use Rattle.lw_mapped.specs.Waitings.{Puts}
-use Rattle.lw_mapped.proofs.Putting.{Puts-both}
+use Rattle.lw_io.specs.Waitings.{Puts}
+use Rattle.lw_io.proofs.Putting.{Puts-both}
 use Rattle.lw_mapped.proofs.lines.put_ports.Goals as goal
 
 pub returns : goal.returns

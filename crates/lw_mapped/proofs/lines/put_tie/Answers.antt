@@ -1,4 +1,4 @@
-use Rattle.lw_mapped.proofs.Putting.{Puts-both}
+use Rattle.lw_io.proofs.Putting.{Puts-both}
 use Rattle.lw_mapped.proofs.lines.put_tie.Goals as goal
 
 pub returns : goal.returns

@@ -1,6 +1,6 @@
 use Rattle.std.proofs.Common.{◌∷◌, ◌∙◌, subst}
-use Rattle.lw_mapped.specs.Waitings.{Puts}
-use Rattle.lw_mapped.proofs.Putting.{Puts-more}
+use Rattle.lw_io.specs.Waitings.{Puts}
+use Rattle.lw_io.proofs.Putting.{Puts-more}
 use Rattle.lw_mapped.proofs.lines.put_words.Goals as goal
 
 pub loop-word-preserved : goal.loop-word-preserved

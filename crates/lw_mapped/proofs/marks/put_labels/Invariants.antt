@@ -1,5 +1,5 @@
 use Rattle.std.proofs.Common.{take}
-use Rattle.lw_mapped.specs.Waitings.{Puts}
+use Rattle.lw_io.specs.Waitings.{Puts}
 use Rattle.lw_mapped.specs.Texts.{label_lines}
 use Rattle.lw_mapped.proofs.marks.put_labels.Given as goal
 

@@ -1,8 +1,8 @@
 use Rattle.std.proofs.Common.{◌<◌, None, get_or, length, sym, subst, arith}
 use Rattle.lw_mapped.specs.Texts.{optional_net}
 use Rattle.lw_mapped.proofs.TextParts.{nets_more}
-use Rattle.lw_mapped.specs.Waitings.{Puts}
-use Rattle.lw_mapped.proofs.Putting.{Puts-both}
+use Rattle.lw_io.specs.Waitings.{Puts}
+use Rattle.lw_io.proofs.Putting.{Puts-both}
 use Rattle.lw_mapped.proofs.marks.put_nets.Goals as goal
 
 pub loop-g-preserved : goal.loop-g-preserved

@@ -1,5 +1,5 @@
 use Rattle.std.proofs.Common.{take}
-use Rattle.lw_mapped.specs.Waitings.{Puts}
+use Rattle.lw_io.specs.Waitings.{Puts}
 use Rattle.lw_mapped.specs.Texts.{net_lines}
 use Rattle.lw_mapped.proofs.marks.put_nets.Given as goal
 

@@ -1,8 +1,8 @@
 use Rattle.std.proofs.Common.{◌∷◌, ◌∙◌, map, subst}
 use Rattle.std.specs.Prelude.{codes}
 use Rattle.lw_mapped.specs.Texts.{line, port_name}
-use Rattle.lw_mapped.specs.Waitings.{Puts}
-use Rattle.lw_mapped.proofs.Putting.{Puts-both}
+use Rattle.lw_io.specs.Waitings.{Puts}
+use Rattle.lw_io.proofs.Putting.{Puts-both}
 use Rattle.lw_mapped.proofs.writing.put_header.Goals as goal
 
 pub returns : goal.returns

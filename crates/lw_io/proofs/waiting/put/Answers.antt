@@ -1,7 +1,7 @@
 use Rattle.std.proofs.Common.{sym, ◌∙◌, ap}
-use Rattle.lw_mapped.specs.Waitings.{Pending}
-use Rattle.lw_mapped.proofs.Putting.{Puts-after, Puts-failed, Puts-kept}
-use Rattle.lw_mapped.proofs.waiting.put.Goals as goal
+use Rattle.lw_io.specs.Waitings.{Pending}
+use Rattle.lw_io.proofs.Putting.{Puts-after, Puts-failed, Puts-kept}
+use Rattle.lw_io.proofs.waiting.put.Goals as goal
 
 pub returns-then-piece-waiting-2 : goal.returns-then-piece-waiting-2
 returns-then-piece-waiting-2 g c =

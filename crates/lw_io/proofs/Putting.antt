@@ -1,5 +1,5 @@
 -- Pieces of a text, put one after another.
-use Rattle.std.proofs.Common.{◌≡◌, ◌≤◌, ℕ, ◌+◌, true, false, List, [], ◌∷◌, ◌++◌, ◌<◌, get_or, length, take, drop, Option, sym, ◌∙◌, ap, subst, arith, append_assoc, append-nil, length-append, true≢false}
+use Rattle.std.proofs.Common.{◌≡◌, ◌≤◌, ℕ, ◌+◌, true, false, List, [], ◌∷◌, ◌++◌, ◌<◌, get_or, length, take, drop, Option, Result, sym, ◌∙◌, ap, subst, arith, append_assoc, append-nil, length-append, true≢false}
 use Rattle.std.proofs.Math.Seq.{take-append_seam}
 use Rattle.std.proofs.lemmas.List.{take-append-drop, take-append-le}
 use Rattle.std.specs.Io.KnownBytes.{Appends}
@@ -7,9 +7,10 @@ use Rattle.std.proofs.KnownBytes.{Appends-trans, Appends-nil}
 use Rattle.std.specs.List.{flat_map}
 use Rattle.std.proofs.lemmas.Grind.{flat_map-append}
 use Rattle.std.proofs.lemmas.List.{take_more}
+use Rattle.lw_io.specs.declared.failed.Failed.{Failed}
 use Rattle.lw_io.specs.Causes.{Rose}
 use Rattle.lw_io.specs.Moves.{AppendsPrefix, IsWrittenUpTo}
-use Rattle.lw_mapped.specs.Waitings.{Pending, IsPut, Puts}
+use Rattle.lw_io.specs.Waitings.{Pending, IsPut, Puts, IsTaken, Ends}
 
 -- a piece waits behind what waits
 pub waits_more : (start taken : Option (List ℕ)) (text waiting piece : List ℕ) → IsWrittenUpTo start taken text waiting → IsWrittenUpTo start taken (text ++ piece) (waiting ++ piece)
@@ -110,12 +111,12 @@ nothing_put a m u empty unfailed = record {
 }
 
 -- what was put, once nothing waits
-pub all_put : {a b c : Option (List ℕ)} {m n k : ℕ} {u v w : Pending} {text : List ℕ} → u.bytes ≡ [] → u.failed ≡ false → Puts a m u b n v text → Puts b n v c k w [] → IsPut a m c k w text
-all_put {a} {b} {c} {m} {n} {k} {u} {v} {w} {text} empty unfailed first second =
-    subst (λ l. IsPut a m c k w l) (append-nil text) ((Puts-both first second).stands a m [] (nothing_put a m u empty unfailed))
-
 pub text_put : (a c : Option (List ℕ)) (m k : ℕ) (w : Pending) (text : List ℕ) → w.failed ≡ false → w.bytes ≡ [] → IsPut a m c k w text → Appends a c text
 text_put a c m k w text unfailed empty is =
     let written = is.whole unfailed in
     let front : written.front ≡ text = sym (append-nil written.front) ∙ (ap (λ l. written.front ++ l) (sym empty) ∙ written.split) in
     subst (λ l. Appends a c l) front written.grown
+
+-- what was put of a new text, when it ends
+pub text_ends : {a b c : Option (List ℕ)} {m n k : ℕ} {u v : Pending} {text : List ℕ} {result : Result (Unit {0}) Failed} → u.bytes ≡ [] → u.failed ≡ false → Puts a m u b n v text → Ends b n v c k result → IsTaken a m c k text result
+text_ends {a} {b} {c} {m} {n} {k} {u} {v} {text} empty unfailed puts ends = ends.stands a m text (puts.stands a m [] (nothing_put a m u empty unfailed))

@@ -3,17 +3,17 @@ ghost use Rattle.std.specs.Prelude.{◌≡◌, ◌≤◌, ◌+◌, ◌-◌, ◌+
 ghost use Rattle.std.specs.Io.KnownBytes.{Appends};
 ghost use Rattle.lw_io.specs.Causes.{HasCause};
 ghost use Rattle.lw_io.specs.Moves.{AppendsPrefix};
-ghost use Rattle.lw_mapped.specs.Waitings.{Puts, IsPut};
+ghost use Rattle.lw_io.specs.Waitings.{Puts, Ends};
 
-use lw_io::{Failed, Sink, write_all};
+use crate::{Failed, Sink, write_all};
 use std::marker::Model;
 
 // How many bytes wait at most.
 const ROOM: usize = 2048;
 
-// Bytes that wait, and whether the sink has failed. After that nothing more is given to it.
+/// Bytes that wait to go to a sink, and whether it has failed. After that nothing more is given to it.
 #[derive(Debug, Drop)]
-pub(crate) struct Waiting {
+pub struct Waiting {
     bytes: [u8; ROOM],
     used: usize,
     failed: bool,
@@ -22,7 +22,7 @@ pub(crate) struct Waiting {
 
 impl Model for Waiting {
     ghost use Rattle.std.specs.Prelude.{take};
-    ghost use Rattle.lw_mapped.specs.Waitings.{Pending};
+    ghost use Rattle.lw_io.specs.Waitings.{Pending};
 
     ghost Value = { Pending };
 
@@ -30,7 +30,8 @@ impl Model for Waiting {
 }
 
 impl Waiting {
-    pub(crate) fn new() -> Self
+    /// Nothing waits.
+    pub fn new() -> Self
         ensures bytes { result.bytes ≡ [] }
         ensures failed { result.failed ≡ false }
     {
@@ -39,12 +40,6 @@ impl Waiting {
             used: 0,
             failed: false,
         }
-    }
-
-    pub(crate) fn has_failed(&self) -> bool
-        ensures { result ≡ self.now.failed }
-    {
-        self.failed
     }
 
     // Keeps a piece that there is room for.
@@ -58,8 +53,8 @@ impl Waiting {
     }
 }
 
-// Gives the sink what waits.
-pub(crate) fn flush<S: Sink>(sink: &mut S, waiting: &mut Waiting)
+/// Gives the sink what waits.
+pub fn flush<S: Sink>(sink: &mut S, waiting: &mut Waiting)
     ensures puts { Puts (S.taken sink.old) (S.faults sink.old) waiting.old (S.taken sink.new) (S.faults sink.new) waiting.new [] }
     ensures empty { waiting.new.failed ≡ false → waiting.new.bytes ≡ [] }
 {
@@ -72,8 +67,8 @@ pub(crate) fn flush<S: Sink>(sink: &mut S, waiting: &mut Waiting)
     }
 }
 
-// Puts a piece behind what was put before.
-pub(crate) fn put<S: Sink>(sink: &mut S, waiting: &mut Waiting, piece: &[u8])
+/// Puts a piece behind what was put before. It takes no memory.
+pub fn put<S: Sink>(sink: &mut S, waiting: &mut Waiting, piece: &[u8])
     ensures { Puts (S.taken sink.old) (S.faults sink.old) waiting.old (S.taken sink.new) (S.faults sink.new) waiting.new piece.now }
 {
     if piece.len() <= ROOM - waiting.used {
@@ -101,4 +96,16 @@ fn put_through<S: Sink>(sink: &mut S, waiting: &mut Waiting, piece: &[u8])
         Ok(()) => {}
         Err(Failed) => waiting.failed = true,
     }
+}
+
+/// Gives the sink what waits, and says whether it took all that was put.
+pub fn end<S: Sink>(sink: &mut S, waiting: Waiting) -> Result<(), Failed>
+    ensures { Ends (S.taken sink.old) (S.faults sink.old) waiting (S.taken sink.new) (S.faults sink.new) result }
+{
+    let mut waiting = waiting;
+    flush(sink, &mut waiting);
+    if waiting.failed {
+        return Err(Failed);
+    }
+    Ok(())
 }

@@ -1,8 +1,8 @@
 use Rattle.std.proofs.Common.{sym, subst, append-nil, arith, take}
 use Rattle.lw_io.specs.Moves.{AppendsPrefix}
-use Rattle.lw_mapped.specs.Waitings.{IsPut}
-use Rattle.lw_mapped.proofs.Putting.{given_part, Rose-earlier, true_is_false}
-use Rattle.lw_mapped.proofs.waiting.flush.Goals as goal
+use Rattle.lw_io.specs.Waitings.{IsPut}
+use Rattle.lw_io.proofs.Putting.{given_part, Rose-earlier, true_is_false}
+use Rattle.lw_io.proofs.waiting.flush.Goals as goal
 
 pub returns-in-Err-clause-puts : goal.returns-in-Err-clause-puts
 returns-in-Err-clause-puts g c = record {

@@ -1,7 +1,7 @@
 use Rattle.std.proofs.Common.{◌++◌, sym, ◌∙◌, subst, arith}
 use Rattle.lw_io.specs.Moves.{IsWrittenUpTo}
-use Rattle.lw_mapped.proofs.Putting.{given_more, given_part_more, Rose-earlier, true_is_false}
-use Rattle.lw_mapped.proofs.waiting.put_through.Goals as goal
+use Rattle.lw_io.proofs.Putting.{given_more, given_part_more, Rose-earlier, true_is_false}
+use Rattle.lw_io.proofs.waiting.put_through.Goals as goal
 
 pub returns-in-Ok : goal.returns-in-Ok
 returns-in-Ok g c = record {
