@@ -1,6 +1,6 @@
 #!/bin/sh
-# Runs the built program on every row of tests/rows, on the examples, and on the cases below, which files alone
-# cannot say. It takes the program that LWMAP_PROGRAM names, or else that of crates/lwmap, which the
+# Runs the built program on every row of tests/rows, on the examples, and on the cases below and in tests/commands.sh,
+# which files alone cannot say. It takes the program that LWMAP_PROGRAM names, or else that of crates/lwmap, which the
 # script lwmap builds first where it is not fresh. With words it runs those rows and cases alone, as in:
 # sh tests/rows.sh inverter no_words
 # The last line is 'N passed, N failed'. The status is 0 where none failed and at least one ran.
@@ -462,6 +462,9 @@ script_takes_a_program_that_is_named() {
     status $? 2 && holds out && holds err 'lwmap: cannot read none'
 }
 
+# shellcheck source=tests/commands.sh
+. "$tests/commands.sh"
+
 for it in "$tests"/rows/*/; do
     it=${it%/}
     [ $# -eq 0 ] || case " $* " in *" ${it##*/} "*) ;; *) continue ;; esac
@@ -479,6 +482,10 @@ for it in unreadable_file standard_output_is_full standard_output_takes_a_part \
     latch_words_of_2000_bytes arrival_names_of_2000_bytes arrival_decimals_of_4095_bytes long_words_of_latches_and_arrivals \
     longest_functions_and_names_of_cells most_signals most_signals_with_latches most_inputs most_rows most_cells too_many_forms \
     too_many_splits too_many_splits_that_share_operands two_runs_agree \
+    each_command_where_standard_output_is_full each_command_twice each_file_is_a_folder check_from_a_pipe examples_are_checked \
+    netlist_of_too_many_bytes vectors_of_too_many_bytes long_words_of_mapped_texts mapped_names_of_2000_bytes \
+    vectors_of_many_inputs graph_of_too_many_forms graph_of_the_most_splits graph_of_the_most_splits_that_share_operands \
+    check_of_too_many_forms big_of_2000_nodes_twice long_path cycle_behind_a_long_path \
     script_builds_and_runs script_runs_a_fresh_build script_builds_anew_after_an_edit \
     script_does_not_build_for_other_crates script_says_where_the_build_fails \
     script_says_where_rt_is_not_there script_takes_a_program_that_is_named; do

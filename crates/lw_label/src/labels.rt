@@ -30,6 +30,13 @@ impl Model for Labels {
 }
 
 impl Labels {
+    /// The marks of all classes, in the order of their numbers.
+    pub fn from_marks(marks: Vec<Option<Mark>>) -> Self
+        ensures { result ≡ marks.items }
+    {
+        Labels { marks }
+    }
+
     /// The mark of a class: the least cost of its covers, and its height. None where it has no cover.
     pub fn mark(&self, class: ClassId) -> Option<Mark>
         requires { class.0 < length self.now }

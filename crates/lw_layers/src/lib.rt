@@ -1,21 +1,9 @@
-//! Tests of the readers and of the layers of mapping, as tables.
+//! Tests of the graph: the classes that a reduction gives, and the pairs that classes hold.
 #![tactic(auto)]
 
 #[cfg(test)]
 mod classes;
 #[cfg(test)]
-mod closures;
-#[cfg(test)]
-mod form_counts;
-#[cfg(test)]
-mod graph_counts;
-#[cfg(test)]
-mod latches;
-#[cfg(test)]
-mod libraries;
-#[cfg(test)]
-mod mapping;
-#[cfg(test)]
-mod networks;
+mod pairs;
 #[cfg(test)]
 mod texts;

@@ -1,5 +1,5 @@
 -- The gates that lines say are of the library's cells.
-use Rattle.std.proofs.Common.{ℕ, zero, suc, ◌≡◌, ◌<◌, ◌==◌, ◌^◌, ◌&&◌, Bool, true, false, cond, nat_lt, List, [], ◌∷◌, ◌++◌, length, map, drop, get_or, Option, Some, None, Result, Ok, Err, All, refl, ap, sym, ◌∙◌, subst, arith}
+use Rattle.std.proofs.Common.{ℕ, zero, suc, ◌≡◌, ◌<◌, ◌==◌, ◌^◌, ◌&&◌, Bool, true, false, cond, nat_lt, List, [], ◌∷◌, ◌++◌, length, map, drop, get_or, Option, Some, None, Result, Ok, Err, All, refl, ap, sym, subst, arith}
 use Rattle.std.specs.Prelude.{slice_get, position, codes, nat_le}
 use Rattle.std.specs.List.{flat_map}
 use Rattle.std.specs.Str.{bytes_eq}
@@ -22,7 +22,7 @@ use Rattle.lw_mapped.specs.declared.saying.Saying.TheVariants as saying
 use Rattle.lw_mapped.specs.Commands.{command_of}
 use Rattle.lw_mapped.specs.GateLines.{is_name, ties_fault, gate_of, net_for}
 use Rattle.lw_mapped.specs.Said.{gates_in}
-use Rattle.lw_mapped.specs.Sayings.{said, fault_in, are_names, first_word, second_word, words_say, command_says, gate_says, gate_says_in, gate_says_at, latch_says, model_says, inputs_say, outputs_say, wire_says, arrival_says, default_says, certificate_says, named_arrival, default_arrival, class_said, label_of, net_of}
+use Rattle.lw_mapped.specs.Sayings.{said, fault_in, are_names, first_word, second_word, words_say, command_says, gate_says, gate_says_in, gate_says_at, arrival_says, default_says, certificate_says, named_arrival, default_arrival, class_said, label_of, net_of}
 use Rattle.lw_mapped.specs.LineFaults.{line_says, lines_say, what_is_said}
 
 abbrev gates_of : Result Saying MappedKind → List DraftGate

@@ -1,6 +1,6 @@
 -- What lines say is closed.
-use Rattle.std.proofs.Common.{ℕ, ◌≡◌, ◌<◌, ◌≤◌, ◌+◌, ◌-◌, ◌^◌, List, [], ◌∷◌, ◌++◌, length, map, take, Option, Some, None, Result, Ok, Err, refl, ap, ap₂, sym, ◌∙◌, subst, arith, length-append}
-use Rattle.std.specs.Prelude.{unwrap_or, option_to_list, codes, All, IfOk, IfErr, slice_index_or}
+use Rattle.std.proofs.Common.{ℕ, ◌≡◌, List, [], ◌∷◌, ◌++◌, length, map, take, Option, Some, None, Result, Ok, Err, refl, ap, ap₂, sym, ◌∙◌, subst, arith, length-append}
+use Rattle.std.specs.Prelude.{unwrap_or, option_to_list, codes, IfOk, IfErr, slice_index_or}
 use Rattle.std.specs.Str.{bytes_eq}
 use Rattle.indexmap.specs.IndexMap.{get}
 use Rattle.std.specs.List.{flat_map}
@@ -16,11 +16,11 @@ use Rattle.lw_netlist.specs.declared.draft.DraftGate.{DraftGate}
 use Rattle.lw_netlist.specs.declared.draft.GateDraft.{GateDraft}
 use Rattle.lw_netlist.specs.declared.draft.Wire.{Wire}
 use Rattle.lw_netlist.specs.declared.gate.Gate.{Gate}
-use Rattle.lw_netlist.specs.Closing.{IsClosed, IsGateDraft, IsOfCell}
+use Rattle.lw_netlist.specs.Closing.{IsClosed, IsGateDraft}
 use Rattle.lw_mapped.specs.declared.contents.Contents.{Contents}
 use Rattle.lw_mapped.specs.declared.saying.Saying.{Saying}
 use Rattle.lw_mapped.specs.Keeping.{Keeps, IsOfFew}
-use Rattle.lw_mapped.specs.Said.{models_in, inputs_in, outputs_in, gates_in, wires_in, latches_in, arrivals_in}
+use Rattle.lw_mapped.specs.Said.{models_in, inputs_in, outputs_in, latches_in, arrivals_in}
 use Rattle.lw_mapped.specs.Sayings.{first_word}
 use Rattle.lw_mapped.specs.Unmapped.{ClosesTo, HasWholeFault, IsSaid, draft_said, frame_said, starts_said}
 use Rattle.lw_mapped.specs.Made.{IsMade, TellsWhole}

@@ -1,13 +1,12 @@
 -- What is kept, when one more line has said something.
-use Rattle.std.proofs.Common.{ℕ, ◌≡◌, ◌==◌, Bool, true, false, cond, List, [], ◌∷◌, ◌++◌, length, take, Option, Some, None, Result, refl, ap, sym, ◌∙◌, append-nil, subst}
-use Rattle.std.specs.Prelude.{option_to_list, slice_index_or, is_some}
+use Rattle.std.proofs.Common.{ℕ, ◌≡◌, ◌==◌, Bool, true, false, cond, List, [], ◌∷◌, ◌++◌, take, Option, Some, None, Result, refl, ap, sym, ◌∙◌, append-nil, subst}
+use Rattle.std.specs.Prelude.{is_some}
 use Rattle.std.specs.List.{flat_map}
 use Rattle.std.specs.Option.{option_or}
 use Rattle.std.specs.Str.{bytes_eq}
 use Rattle.std.proofs.lemmas.Grind.{flat_map-append}
 use Rattle.indexmap.specs.IndexMap.{get}
 use Rattle.indexmap.specs.IndexSet.{insert_all}
-use Rattle.lw_fixed.specs.declared.micro.Micro.{Micro}
 use Rattle.lw_pool.specs.declared.id.ClassId.{ClassId}
 use Rattle.lw_frame.specs.Frames.{each_once}
 use Rattle.lw_frame.specs.Standing as arrival
@@ -56,6 +55,7 @@ keeps-more old new said what k t = record {
   arrivals = subst (arrival.StandsFor new.arrivals) (sym (flat-last arrivals_in said what)) (t.arrivals (flat_map arrivals_in said) k.arrivals);
   labels = λ class. t.labels class ∙ (ap (λ o. option_or o (label_among (labels_in what) class)) (k.labels class) ∙ (sym (label-append (flat_map labels_in said) (labels_in what) class) ∙ ap (λ ls. label_among ls class) (sym (flat-last labels_in said what))));
   classes = t.classes k.classes;
+  low = t.low k.low;
   nets = λ name. t.nets name ∙ (ap (λ o. option_or o (class_among (nets_in what) name)) (k.nets name) ∙ (sym (class-append (flat_map nets_in said) (nets_in what) name) ∙ ap (λ ns. class_among ns name) (sym (flat-last nets_in said what))));
 }
 

@@ -1,7 +1,6 @@
 -- Labels by class, with places past the end that have none.
-use Rattle.std.proofs.Common.{ℕ, zero, suc, ◌≡◌, ◌<◌, ◌≤◌, ◌==◌, Bool, true, false, cond, List, [], ◌∷◌, ◌++◌, length, Option, Some, None, refl, ap, sym, ◌∙◌, arith}
-use Rattle.std.specs.Prelude.{slice_index_or, slice_set}
-use Rattle.std.proofs.lemmas.Bool.Decides.{nat_tests}
+use Rattle.std.proofs.Common.{ℕ, zero, suc, ◌≡◌, List, [], ◌∷◌, ◌++◌, Option, None, refl}
+use Rattle.std.specs.Prelude.{slice_index_or}
 
 pub none-pushed : {A : Type 0} (xs : List (Option A)) (c : ℕ) → slice_index_or (xs ++ None ∷ []) c None ≡ slice_index_or xs c None
 none-pushed [] zero = refl

@@ -1,16 +1,15 @@
 -- Each line of a gate has three words or more, of nine bytes or more.
-use Rattle.std.proofs.Common.{ℕ, zero, suc, ◌≡◌, ◌<◌, ◌≤◌, ◌+◌, ◌-◌, ◌*◌, Bool, true, false, not, ◌&&◌, ◌||◌, cond, nat_lt, All, List, [], ◌∷◌, ◌++◌, length, drop, take, get_or, Option, Some, None, Result, Ok, Err, IsTrue, refl, ap, sym, ◌∙◌, subst, arith, length-append, length-drop, length-take}
-use Rattle.std.specs.Prelude.{slice_get, position, codes, min, IfOk}
-use Rattle.std.specs.List.{flat_map, before_first, after_first, position_or_len}
+use Rattle.std.proofs.Common.{ℕ, zero, suc, ◌≡◌, ◌<◌, ◌≤◌, ◌+◌, ◌*◌, Bool, true, false, not, ◌&&◌, ◌||◌, cond, nat_lt, All, List, [], ◌∷◌, length, get_or, Option, Some, None, Result, Ok, Err, refl, ap, sym, subst, arith, length-append, length-drop, length-take}
+use Rattle.std.specs.Prelude.{slice_get, position, codes, IfOk}
+use Rattle.std.specs.List.{flat_map, position_or_len}
 use Rattle.std.specs.Str.{bytes_eq}
 use Rattle.std.specs.Cmp.Lexicographic.{bytes_decides}
 use Rattle.std.proofs.lemmas.Bool.Decides.{nat_tests}
-use Rattle.std.proofs.lemmas.Grind.{flat_map-append, common_steps}
-use Rattle.std.proofs.lemmas.List.Sums.{prefix_len_stops, prefix_len-le-length}
+use Rattle.std.proofs.lemmas.Grind.{flat_map-append}
+use Rattle.std.proofs.lemmas.List.Sums.{prefix_len_stops, sum_by-cons}
 use Rattle.lw_words.specs.Lines.{LogicalLine, weight, lines_weight}
 use Rattle.lw_genlib.specs.Cells.{CellParts, IsLibrary, IsListed, names_of}
 use Rattle.lw_mapped.specs.declared.closing.Mapped.{Mapped}
-use Rattle.lw_mapped.specs.declared.command.Command.{Command}
 use Rattle.lw_mapped.specs.declared.command.Command.TheVariants as command
 use Rattle.lw_mapped.specs.declared.fault.MappedFault.{MappedFault}
 use Rattle.lw_mapped.specs.declared.fault.MappedKind.{MappedKind}
@@ -18,11 +17,12 @@ use Rattle.lw_mapped.specs.declared.fault.MappedKind.TheVariants as kind
 use Rattle.lw_mapped.specs.declared.saying.Saying.{Saying}
 use Rattle.lw_mapped.specs.declared.saying.Saying.TheVariants as saying
 use Rattle.lw_mapped.specs.Commands.{command_of, point_command, port_command, other_command, is_ignored_word, has_point}
-use Rattle.lw_mapped.specs.GateLines.{is_equals, formal_of, actual_of, is_tie, tie_fault, first_tie_fault, ties_fault, gate_of}
+use Rattle.lw_mapped.specs.GateLines.{is_equals, formal_of, actual_of, is_tie, ties_fault, gate_of}
 use Rattle.lw_mapped.specs.Said.{gates_in}
-use Rattle.lw_mapped.specs.Sayings.{said, first_word, words_say, gate_says, gate_says_in, gate_says_at}
+use Rattle.lw_mapped.specs.Sayings.{said, words_say, gate_says, gate_says_in, gate_says_at}
 use Rattle.lw_mapped.specs.LineFaults.{line_says, lines_say, lines_read, what_is_said, front, goes_on, ends}
 use Rattle.lw_mapped.specs.LineFaults as faults
+use Rattle.lw_mapped.specs.Standing.{word_count}
 use Rattle.lw_mapped.specs.Unmapped.{ClosesTo}
 use Rattle.lw_mapped.proofs.CellGates.{gates-alone}
 use Rattle.lw_mapped.proofs.DepthLemmas.{no-more-gates}
@@ -175,3 +175,12 @@ pub few-gates : (cells : List CellParts) (lines : List LogicalLine) (r : Result 
 few-gates cells lines (Ok mapped) lib closes =
     omega (arith, no-more-gates _ mapped.netlist closes.netlist, weigh-lines cells lib (lines_read lines), read-weighs lines)
 few-gates cells lines (Err f) lib closes = tt
+
+words-light : (words : List (List ℕ)) → length words ≤ weight words
+words-light [] = omega arith
+words-light (word ∷ words) = omega (arith, words-light words)
+
+-- Lines weigh as much as they have words, or more.
+pub words-weigh : (lines : List LogicalLine) → word_count lines ≤ lines_weight lines
+words-weigh [] = omega arith
+words-weigh (line ∷ lines) = omega (arith, words-light line.words, words-weigh lines, sum_by-cons (λ (l : LogicalLine). length l.words) line lines)

@@ -1,5 +1,5 @@
 -- What is kept of what lines say.
-use Rattle.std.specs.Prelude.{ℕ, ◌≡◌, ◌≤◌, ◌++◌, List, ◌∷◌, [], Option, None, Some, length, take, slice_index_or, option_to_list, ◌+◌, ◌-◌, ◌^◌, ◌<◌, All}
+use Rattle.std.specs.Prelude.{ℕ, ◌≡◌, ◌≤◌, ◌++◌, List, Option, None, IfSome, length, take, slice_index_or, option_to_list, ◌+◌, ◌-◌, ◌^◌, ◌<◌, All}
 use Rattle.std.specs.List.{flat_map}
 use Rattle.std.specs.Option.{option_or}
 use Rattle.std.specs.Str.{bytes_eq}
@@ -7,9 +7,7 @@ use Rattle.indexmap.specs.IndexMap.{get}
 use Rattle.indexmap.specs.IndexSet.{insert_all}
 use Rattle.lw_genlib.specs.Cells.{CellParts}
 use Rattle.lw_netlist.specs.Closing.{IsOfCell}
-use Rattle.lw_pool.specs.declared.id.ClassId.{ClassId}
-use Rattle.lw_pool.specs.declared.latch.Latch.{Latch}
-use Rattle.lw_frame.specs.declared.arrivals.Arrivals.{Arrivals}
+use Rattle.lw_fixed.specs.declared.micro.Micro.{Micro}
 use Rattle.lw_frame.specs.Starts.{Arrival}
 use Rattle.lw_frame.specs.Frames.{each_once}
 use Rattle.lw_frame.specs.Standing as arrival
@@ -18,6 +16,10 @@ use Rattle.lw_mapped.specs.declared.saying.Saying.{Saying}
 use Rattle.lw_mapped.specs.Said.{models_in, inputs_in, outputs_in, gates_in, wires_in, latches_in, arrivals_in, labels_in, nets_in, label_among, class_among}
 use Rattle.lw_mapped.specs.Parsed.{IsLabel}
 use Rattle.lw_mapped.specs.Sayings.{most_classes}
+
+-- a label is below its limit
+abbrev pub AreLow : List (Option Micro) → Type 0
+AreLow labels = (class : ℕ) → IfSome (slice_index_or labels class None) IsLabel
 
 -- This is kept of what lines say.
 pub record Keeps (kept : Contents) (said : List Saying) : Type 0 where
@@ -30,6 +32,7 @@ pub record Keeps (kept : Contents) (said : List Saying) : Type 0 where
   pub arrivals : arrival.StandsFor kept.arrivals (flat_map arrivals_in said)
   pub labels : (class : ℕ) → slice_index_or kept.labels.items class None ≡ label_among (flat_map labels_in said) class
   pub classes : length kept.labels.items ≤ most_classes
+  pub low : AreLow kept.labels.items
   pub nets : (name : List ℕ) → get bytes_eq kept.nets name ≡ class_among (flat_map nets_in said) name
 
 -- What a line says is taken.
@@ -43,6 +46,7 @@ pub record Takes (old : Contents) (what : Saying) (new : Contents) : Type 0 wher
   pub arrivals : (lines : List Arrival) → arrival.StandsFor old.arrivals lines → arrival.StandsFor new.arrivals (lines ++ arrivals_in what)
   pub labels : (class : ℕ) → slice_index_or new.labels.items class None ≡ option_or (slice_index_or old.labels.items class None) (label_among (labels_in what) class)
   pub classes : length old.labels.items ≤ most_classes → length new.labels.items ≤ most_classes
+  pub low : AreLow old.labels.items → AreLow new.labels.items
   pub nets : (name : List ℕ) → get bytes_eq new.nets name ≡ option_or (get bytes_eq old.nets name) (class_among (nets_in what) name)
 
 -- This is kept of what few lines say, over a library.

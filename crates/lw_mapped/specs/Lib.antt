@@ -1,10 +1,13 @@
+pub mod Alike
 pub mod Certified
 pub mod Commands
+pub mod Fitting
 pub mod GateLines
 pub mod Keeping
 pub mod LineFaults
 pub mod Made
 pub mod Parsed
+pub mod Readable
 pub mod Said
 pub mod Sayings
 pub mod Standing

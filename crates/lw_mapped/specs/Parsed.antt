@@ -1,5 +1,5 @@
 -- What is told of a line, and what is so of it whatever the line.
-use Rattle.std.specs.Prelude.{ℕ, ◌≡◌, ◌<◌, ◌*◌, ◌^◌, ⊤, Result, Ok, Err, Option, None, Some}
+use Rattle.std.specs.Prelude.{◌≡◌, ◌<◌, ◌*◌, ◌^◌, ⊤, Result, Ok, Err, Option, None, Some}
 use Rattle.lw_fixed.specs.declared.micro.Micro.{Micro}
 use Rattle.lw_frame.specs.Starts.{IsEarly}
 use Rattle.lw_mapped.specs.declared.fault.MappedKind.{MappedKind}

@@ -1,5 +1,5 @@
 -- What a line of a mapped text says by itself, or the first rule that it breaks.
-use Rattle.std.specs.Prelude.{ℕ, ◌==◌, ◌^◌, Bool, true, not, ◌&&◌, nat_lt, nat_le, List, [], ◌∷◌, length, drop, position, Option, Some, None, Result, Ok, Err, if◌then◌else◌, codes, decimal, option_to_list, slice_get}
+use Rattle.std.specs.Prelude.{ℕ, ◌==◌, ◌^◌, Bool, true, not, ◌&&◌, nat_lt, nat_le, List, [], ◌∷◌, length, drop, position, Option, Some, None, Result, Ok, Err, if◌then◌else◌, codes, decimal, slice_get}
 use Rattle.std.specs.List.{list_all}
 use Rattle.std.specs.Char.{is_ascii_digit}
 use Rattle.std.specs.Str.{bytes_eq}

@@ -1,7 +1,6 @@
 -- What a reader stands for: the lines that it was given, over one library.
-use Rattle.std.specs.Prelude.{ℕ, ◌≡◌, ◌<◌, ◌≤◌, ◌+◌, ◌-◌, ◌^◌, Bool, not, List, [], ◌∷◌, Option, Some, None, Result, Ok, Err, ⊤, length, sum_by, All, IfSome}
+use Rattle.std.specs.Prelude.{ℕ, ◌≡◌, ◌<◌, ◌≤◌, ◌-◌, ◌^◌, Bool, not, List, [], Option, Some, None, Result, Ok, Err, ⊤, length, sum_by, All, IfSome}
 use Rattle.lw_words.specs.Lines.{LogicalLine}
-use Rattle.lw_fixed.specs.declared.micro.Micro.{Micro}
 use Rattle.lw_genlib.specs.Cells.{CellParts}
 use Rattle.lw_mapped.specs.declared.certificate.Certificate.{Certificate}
 use Rattle.lw_mapped.specs.declared.parts.Parts.{Parts}

@@ -141,6 +141,13 @@ mapped_text cells n frame starts certificate =
     ++ certificate_text n certificate
     ++ line (codes ".end") []
 
+-- the names of the inputs, and those of the outputs
+abbrev pub names_of_inputs : NetlistParts → List (List ℕ)
+names_of_inputs n = take n.inputs n.names
+
+abbrev pub names_of_outputs : NetlistParts → List (List ℕ)
+names_of_outputs n = map port_name n.outputs
+
 -- what a file declares of itself is among the inputs and outputs of the netlist, and each of its inputs has a start
 pub record IsFramed (n : NetlistParts) (frame : Frame) (starts : List Micro) : Type 0 where
   pub inputs : frame.inputs ≤ n.inputs

@@ -143,16 +143,18 @@ fn closed(
 }
 
 impl Contents {
-    ghost use Rattle.std.specs.Prelude.{◌≡◌, List, IfOk};
+    ghost use Rattle.std.specs.Prelude.{◌≡◌, List, IfOk, All};
     ghost use Rattle.lw_mapped.specs.declared.saying.Saying.{Saying};
     ghost use Rattle.lw_netlist.specs.Plain.{IsOver};
-    ghost use Rattle.lw_frame.specs.Starts.{starts_of};
+    ghost use Rattle.lw_frame.specs.Starts.{starts_of, IsEarly};
+    ghost use Rattle.lw_mapped.specs.Fitting.{IsMapped};
     ghost use Rattle.lw_mapped.specs.Keeping.{Keeps, IsOfFew};
     ghost use Rattle.lw_mapped.specs.Unmapped.{ClosesTo, starts_said};
 
     // The starts of the inputs.
     fn starts(&self, alloc: Global) -> Result<Micros, AllocError>
-        ensures { IfOk result (λ starts. (said : List Saying) → Keeps self.now said → starts ≡ starts_said said) }
+        ensures starts { IfOk result (λ starts. (said : List Saying) → Keeps self.now said → starts ≡ starts_said said) }
+        ensures early { IfOk result (All IsEarly) }
     {
         self.arrivals
             .starts(alloc, self.inputs.as_slice(), self.latches.len())
@@ -162,6 +164,7 @@ impl Contents {
     pub(crate) fn close(self, alloc: Global, lib: &Library) -> Result<Mapped, MappedFault>
         requires { IsOfFew self lib.now }
         ensures closes { (said : List Saying) → Keeps self said → ClosesTo said result }
+        ensures fits { IfOk result IsMapped }
         ensures over { IfOk result (λ mapped. IsOver lib.now mapped.netlist) }
     {
         let starts = self.starts(alloc)?;

@@ -29,7 +29,7 @@ pub struct Contents {
 
 impl Contents {
     ghost use Rattle.lw_mapped.specs.declared.saying.Saying.{Saying};
-    ghost use Rattle.lw_mapped.specs.Parsed.{TellsFault, IsFit};
+    ghost use Rattle.lw_mapped.specs.Parsed.{TellsFault, IsFit, IsLabel};
     ghost use Rattle.lw_mapped.specs.LineFaults.{told_fault};
     ghost use Rattle.lw_mapped.specs.Keeping.{Keeps, Takes};
     ghost use Rattle.lw_mapped.specs.Sayings.{most_classes};
@@ -83,7 +83,8 @@ impl Contents {
 
     // Takes the label of a class that has none.
     fn take_label(&mut self, class: ClassId, label: Micro) -> Result<(), Refusal>
-        requires { class.0 < most_classes }
+        requires few { class.0 < most_classes }
+        requires low { IsLabel label }
         ensures fault { TellsFault result (if is_some (slice_index_or self.old.labels.items class.0 None) then Some MappedKind.Certificate else None) }
         ensures keeps { OnOk result (Takes self.old (Saying.Label class label) self.new) }
     {

@@ -70,6 +70,7 @@ impl MappedReader {
     ghost use Rattle.lw_mapped.specs.Unmapped.{IsUnmapped};
     ghost use Rattle.lw_mapped.specs.Standing.{StandsFor, IsGivenFew, Tells, Stopped, stop_of, fault_of};
     ghost use Rattle.lw_netlist.specs.Plain.{IsOver};
+    ghost use Rattle.lw_mapped.specs.Fitting.{IsMapped};
 
     pub fn new(alloc: Global) -> Self
         ensures { (cells : List CellParts) → StandsFor result cells [] }
@@ -121,6 +122,7 @@ impl MappedReader {
         ensures answer { (lines : List LogicalLine) → StandsFor self lib.now lines → IsUnmapped lib.now lines result }
         ensures again { IfSome (stop_of self) (λ stop. result ≡ Err (fault_of stop)) }
         ensures over { IfOk result (λ mapped. IsOver lib.now mapped.netlist) }
+        ensures fits { IfOk result IsMapped }
         ensures gates { (lines : List LogicalLine) → StandsFor self lib.now lines → IfOk result (λ mapped. 12 * length mapped.netlist.gates ≤ lines_weight lines) }
     {
         let MappedReader { stop, parts, .. } = self;

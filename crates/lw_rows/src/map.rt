@@ -272,14 +272,15 @@ fn err_changes_no_status(rt: HostRuntime) -> Result<(), Fail> {
     let network = b".model m\n.inputs a\n.outputs f\n.names f\n1\n.end\n";
     let told = [
         b"".as_slice(),
-        b"lwmap: no cover for output ",
-        b"lwmap: no cover for output f",
+        b"lwmap: no ",
+        b"lwmap: no cover for ",
         b"lwmap: no cover for output f\n",
     ];
     for (call, err) in (1..).zip(told) {
         let row = refused(INVERTER, network, 6, err);
         let outside = Outside {
             err_fails: &[call],
+            chunk: 10,
             ..QUIET
         };
         gives(&rt, alloc, "map LIB IN", row, outside)?;

@@ -1,9 +1,12 @@
--- Where the answer is a text it is that of a mapping, and where it names an output this has no cover.
-use Rattle.std.proofs.Common.{◌≡◌, inl, inr, ℕ, Bool, true, false, List, [], ◌∷◌, Option, Some, None, Result, Ok, Err, refl, ap, ◌∙◌, if◌then◌else◌, arith}
+-- Where the answer to a mapping is a text it is that of a mapping, and where it names an output this has no cover.
+use Rattle.std.proofs.Common.{◌≡◌, inl, inr, ℕ, Bool, true, false, List, [], ◌∷◌, Option, Some, None, Result, Ok, Err, refl, ap, sym, ◌∙◌, subst, if◌then◌else◌, arith}
 use Rattle.lw_io.specs.declared.file.File.{File}
 use Rattle.lw_io.specs.Files.{bytes_of}
 use Rattle.lw_blif.specs.declared.parsed.Parsed.{Parsed}
 use Rattle.lw_genlib.specs.Cells.{CellParts}
+use Rattle.lw_map.specs.Options.{Options}
+use Rattle.lw_map.proofs.Mappings.{mapped_is_mapping}
+use Rattle.lw_map.proofs.Names.{mapped_has_names}
 use Rattle.lw_top.specs.declared.refusal.Refusal.{Refusal}
 use Rattle.lw_top.specs.declared.refusal.Refusal.TheVariants.{Words, TooLong, NoCover}
 use Rattle.lw_top.specs.declared.refusal.Which.{Which}
@@ -12,16 +15,14 @@ use Rattle.lw_top.specs.declared.outcome.Outcome.{Outcome}
 use Rattle.lw_top.specs.declared.outcome.Outcome.TheVariants.{Done, WriteFault, Refused}
 use Rattle.lw_top.specs.Steps.{Files}
 use Rattle.lw_top.specs.Maps.{Maps}
-use Rattle.lw_top.specs.Words.{Options, Command, mapping, command_of}
+use Rattle.lw_top.specs.Words.{Command, mapping, command_of}
 use Rattle.lw_top.specs.Answers.{within_limit, text_of, ReadsLibrary, ReadsModel, asked_for, IsCommandAnswer, IsAnswer}
 use Rattle.lw_top.specs.Outcome.{IsDone, Meets, outcome_status}
 use Rattle.lw_top.specs.Telling.{outcome_line, refusal_line}
-use Rattle.lw_top.specs.Mappings.{AreRead, IsMappingText, LacksOutput}
+use Rattle.lw_top.specs.Mappings.{AsksForMapping, AreRead, IsMappingText, LacksOutput}
 use Rattle.lw_top.proofs.Steps.{IsLast, last-ok, last-err}
-use Rattle.lw_top.proofs.Widths.{command_wide}
+use Rattle.lw_top.proofs.InRange.{command_in_range}
 use Rattle.lw_top.proofs.Sound.{asked_some, cells_kept, model_kept}
-use Rattle.lw_top.proofs.Mappings.{mapped_is_mapping}
-use Rattle.lw_top.proofs.Names.{mapped_has_names}
 
 -- no step before the mapping refuses for want of a cover
 words-stand : (o : Option Command) (name : List ℕ) → ◌≡◌ {A = Result Command Refusal} (asked_for o) (Err (NoCover name)) → ⊥
@@ -50,10 +51,10 @@ network-stands word files name (inl (bytes, text, is)) = is
 network-stands word files name (inr (e, refused, is)) = text-stands (files word) which.Network name (refused ∙ ap (λ c. Err c) (cause e (NoCover name) is))
 
 -- the command that was asked for, and what it comes to
-abbrev IsAsked : List (List ℕ) → Files → Result (List ℕ) Refusal → Type 0
+abbrev pub IsAsked : List (List ℕ) → Files → Result (List ℕ) Refusal → Type 0
 IsAsked words files a = (c : Command) × (command_of words ≡ Some c) × IsCommandAnswer c files a
 
-asked-ok : (words : List (List ℕ)) (files : Files) (text : List ℕ) → IsAnswer words files (Ok text) → IsAsked words files (Ok text)
+pub asked-ok : (words : List (List ℕ)) (files : Files) (text : List ℕ) → IsAnswer words files (Ok text) → IsAsked words files (Ok text)
 asked-ok words files text (inl (c, is, comes)) = (c, asked_some (command_of words) c is, comes)
 asked-ok words files text (inr (e, refused, is)) = cc
 
@@ -61,67 +62,69 @@ asked-lacks : (words : List (List ℕ)) (files : Files) (name : List ℕ) → Is
 asked-lacks words files name (inl (c, is, comes)) = (c, asked_some (command_of words) c is, comes)
 asked-lacks words files name (inr (e, refused, is)) = absurd (words-stand (command_of words) name (refused ∙ ap (λ c. Err c) (cause e (NoCover name) is)))
 
-module _ (words : List (List ℕ)) (files : Files) where
-  module _ (options : Options) (library network : List ℕ) (form : command_of words ≡ Some (mapping options library network)) where
-    -- the library and the network were read
-    abbrev IsMapped : Result (List ℕ) Refusal → Type 0
-    IsMapped a = IsLast (ReadsLibrary library) (ReadsModel network) (λ (cells : List CellParts) (model : Parsed). Maps options cells model) files a
+module _ (words : List (List ℕ)) (files : Files) (options : Options) (certified : Bool) (library network : List ℕ) (form : command_of words ≡ Some (mapping options certified library network)) where
+  -- the library and the network were read
+  abbrev IsMapped : Result (List ℕ) Refusal → Type 0
+  IsMapped a = IsLast (ReadsLibrary library) (ReadsModel network) (λ (cells : List CellParts) (model : Parsed). Maps options certified cells model) files a
 
-    are-read : (a : Result (List ℕ) Refusal) (m : IsMapped a) → AreRead words files options m.a m.b
-    are-read a m = record { library_word = library; network_word = network; form = form; library = m.one; network = m.two }
+  are-read : (a : Result (List ℕ) Refusal) (m : IsMapped a) → AreRead words files options certified m.a m.b
+  are-read a m = record { library_word = library; network_word = network; form = form; library = m.one; network = m.two }
 
-    mapping-text : (text : List ℕ) → IsMapped (Ok text) → IsMappingText words files text
-    mapping-text text m =
-        let wide = command_wide words (mapping options library network) form in
-        let kept = model_kept network files m.b m.two in
-        let lib = cells_kept library files m.a m.one in
-        record {
-          options = options;
-          cells = m.a;
-          model = m.b;
-          netlist = m.comes.netlist;
-          read = are-read (Ok text) m;
-          written = m.comes.written;
-          frame = kept.fits.frame;
-          starts = kept.fits.starts;
-          mapped = m.comes.is_mapped;
-          mapping_is = mapped_is_mapping options m.a m.b wide kept.network kept.fits.starts.early lib m.comes.within.forms m.comes.netlist m.comes.is_mapped;
-          names = mapped_has_names options m.a m.b wide kept.network kept.fits kept.names_differ m.comes.netlist m.comes.is_mapped;
-        }
+  mapping-text : (text : List ℕ) → IsMapped (Ok text) → IsMappingText words files text
+  mapping-text text m =
+      let wide = command_in_range words (mapping options certified library network) form in
+      let kept = model_kept network files m.b m.two in
+      let lib = cells_kept library files m.a m.one in
+      record {
+        options = options;
+        certified = certified;
+        cells = m.a;
+        model = m.b;
+        netlist = m.comes.netlist;
+        certificate = m.comes.certificate;
+        read = are-read (Ok text) m;
+        written = m.comes.written;
+        frame = kept.fits.frame;
+        starts = kept.fits.starts;
+        mapped = m.comes.is_mapped;
+        asked = m.comes.asked;
+        mapping_is = mapped_is_mapping options m.a m.b.network m.b.starts wide kept.network kept.fits.starts.early lib m.comes.within.forms m.comes.netlist m.comes.is_mapped;
+        names = mapped_has_names options m.a m.b.network m.b.starts wide kept.network kept.names_differ kept.fits.inputs kept.fits.outputs m.comes.netlist m.comes.is_mapped;
+      }
 
-    lacks-output : (name : List ℕ) → IsMapped (Err (NoCover name)) → LacksOutput words files name
-    lacks-output name m = record { options = options; cells = m.a; model = m.b; read = are-read (Err (NoCover name)) m; lacks = m.comes }
+  lacks-output : (name : List ℕ) → IsMapped (Err (NoCover name)) → LacksOutput words files name
+  lacks-output name m = record { options = options; certified = certified; cells = m.a; model = m.b; read = are-read (Err (NoCover name)) m; lacks = m.comes }
 
-  text-asked : (text : List ℕ) → IsAsked words files (Ok text) → IsMappingText words files text
-  text-asked text (mapping options library network, form, comes) =
-      mapping-text options library network form text (last-ok (ReadsLibrary library) (ReadsModel network) (λ (cells : List CellParts) (model : Parsed). Maps options cells model) files text comes)
+  -- the command that was asked for is this one
+  own-command : (c : Command) → command_of words ≡ Some c → c ≡ mapping options certified library network
+  own-command c is = let both : Some c ≡ Some (mapping options certified library network) = sym is ∙ form in cc
 
   -- an answer that is a text is that of a mapping
   pub answer-mapped : (text : List ℕ) → IsAnswer words files (Ok text) → IsMappingText words files text
-  answer-mapped text answer = text-asked text (asked-ok words files text answer)
-
-  lacks-asked : (name : List ℕ) → IsAsked words files (Err (NoCover name)) → LacksOutput words files name
-  lacks-asked name (mapping options library network, form, comes) =
-      lacks-output options library network form name (last-err (ReadsLibrary library) (ReadsModel network) (λ (cells : List CellParts) (model : Parsed). Maps options cells model) files (NoCover name) (library-stands library files name) (network-stands network files name) comes)
+  answer-mapped text answer =
+      let (c, is, comes) = asked-ok words files text answer in
+      mapping-text text (last-ok (ReadsLibrary library) (ReadsModel network) (λ (cells : List CellParts) (model : Parsed). Maps options certified cells model) files text (subst (λ (d : Command). IsCommandAnswer d files (Ok text)) (own-command c is) comes))
 
   -- an answer that names an output is of one without a cover
   pub answer-lacks : (name : List ℕ) → IsAnswer words files (Err (NoCover name)) → LacksOutput words files name
-  answer-lacks name answer = lacks-asked name (asked-lacks words files name answer)
+  answer-lacks name answer =
+      let (c, is, comes) = asked-lacks words files name answer in
+      lacks-output name (last-err (ReadsLibrary library) (ReadsModel network) (λ (cells : List CellParts) (model : Parsed). Maps options certified cells model) files (NoCover name) (library-stands library files name) (network-stands network files name) (subst (λ (d : Command). IsCommandAnswer d files (Err (NoCover name))) (own-command c is) comes))
 
 module _ {O : Type 0} (words : List (List ℕ)) (told : Option (List File)) (before now : ℕ) (taken : O → Option (List ℕ)) (is_finished : O → Bool) (faults : O → ℕ) (old new : O) (said : List ℕ → Type 0) where
   abbrev pub Met : Outcome → Type 0
   Met o = Meets told before now taken is_finished faults old new (IsAnswer words) o
 
   -- a run that is done wrote the text of a mapping
-  pub done-maps : (o : Outcome) → Met o → (files : List File) → told ≡ Some files → 0 ≡ outcome_status o → (text : List ℕ) × IsMappingText words (bytes_of files) text × IsDone taken is_finished old new text
-  done-maps Done m files is e = (m.0, answer-mapped words (bytes_of files) m.0 (m.1 files is), m.2)
-  done-maps WriteFault m files is e = absurd (omega (arith, e))
-  done-maps (Refused (NoCover name)) m files is e = absurd (omega (arith, e))
-  done-maps (Refused other) m files is e = absurd (omega (arith, e))
+  pub done-maps : AsksForMapping words → (o : Outcome) → Met o → (files : List File) → told ≡ Some files → 0 ≡ outcome_status o → (text : List ℕ) × IsMappingText words (bytes_of files) text × IsDone taken is_finished old new text
+  done-maps asks Done m files is e = (m.0, answer-mapped words (bytes_of files) asks.options asks.certified asks.library asks.network asks.form m.0 (m.1 files is), m.2)
+  done-maps asks WriteFault m files is e = absurd (omega (arith, e))
+  done-maps asks (Refused (NoCover name)) m files is e = absurd (omega (arith, e))
+  done-maps asks (Refused other) m files is e = absurd (omega (arith, e))
 
   -- a run that finds no cover names an output without one
-  pub named-lacks : (o : Outcome) → Met o → said (outcome_line (command_of words) o) → (files : List File) → told ≡ Some files → 6 ≡ outcome_status o → (name : List ℕ) × LacksOutput words (bytes_of files) name × said (refusal_line (command_of words) (NoCover name))
-  named-lacks Done m line files is e = absurd (omega (arith, e))
-  named-lacks WriteFault m line files is e = absurd (omega (arith, e))
-  named-lacks (Refused (NoCover name)) m line files is e = (name, answer-lacks words (bytes_of files) name (m.0 files is), line)
-  named-lacks (Refused other) m line files is e = absurd (omega (arith, e))
+  pub named-lacks : AsksForMapping words → (o : Outcome) → Met o → said (outcome_line (command_of words) o) → (files : List File) → told ≡ Some files → 6 ≡ outcome_status o → (name : List ℕ) × LacksOutput words (bytes_of files) name × said (refusal_line (command_of words) (NoCover name))
+  named-lacks asks Done m line files is e = absurd (omega (arith, e))
+  named-lacks asks WriteFault m line files is e = absurd (omega (arith, e))
+  named-lacks asks (Refused (NoCover name)) m line files is e = (name, answer-lacks words (bytes_of files) asks.options asks.certified asks.library asks.network asks.form name (m.0 files is), line)
+  named-lacks asks (Refused other) m line files is e = absurd (omega (arith, e))

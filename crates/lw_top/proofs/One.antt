@@ -1,19 +1,41 @@
 -- Words over known files come to one answer.
-use Rattle.std.proofs.Common.{◌≡◌, inl, inr, ℕ, ◌≤◌, List, Result, Ok, Err, sym, subst, ◌∙◌}
+use Rattle.std.proofs.Common.{◌≡◌, inl, inr, ℕ, ◌≤◌, Bool, List, length, map, All, Option, Some, None, Result, Ok, Err, refl, ap, sym, subst, ◌∙◌}
+use Rattle.lw_fixed.specs.declared.micro.Micro.{Micro}
 use Rattle.lw_genlib.specs.declared.fault.LibFault.TheVariants as lib_fault
 use Rattle.lw_genlib.specs.declared.fault.LibFault.{LibFault}
 use Rattle.lw_genlib.specs.Cells.{CellParts, IsLibrary}
+use Rattle.lw_words.specs.Lines.{LogicalLine}
+use Rattle.lw_net.specs.Networks.{NetworkParts, IsNetwork}
+use Rattle.lw_blif.specs.declared.parsed.Parsed.{Parsed}
+use Rattle.lw_netlist.specs.Netlists.{NetlistParts, IsNetlist}
+use Rattle.lw_netlist.specs.declared.fault.NetlistFault.TheVariants as whole
+use Rattle.lw_mapped.specs.declared.closing.Mapped.{Mapped as MappedParts}
+use Rattle.lw_mapped.specs.declared.fault.MappedFault.{MappedFault}
+use Rattle.lw_mapped.specs.declared.fault.MappedFault.TheVariants as fault
+use Rattle.lw_mapped.specs.Alike.{AreSameMapped, AreSameOutcomes}
+use Rattle.lw_mapped.specs.LineFaults.{text_fault, lines_read, lines_say}
+use Rattle.lw_mapped.specs.Unmapped.{IsUnmapped}
+use Rattle.lw_mapped.proofs.Once.{comes-once}
+use Rattle.lw_report.proofs.Once.{report_once, network_simulation_once, netlist_simulation_once}
+use Rattle.lw_report.specs.Timings.{IsTimingText}
+use Rattle.lw_report.specs.Vectors.{first_fault, vector_of}
+use Rattle.lw_map.specs.Options.{Options, IsWide}
 use Rattle.lw_top.specs.declared.refusal.Refusal.{Refusal}
-use Rattle.lw_top.specs.declared.refusal.Refusal.TheVariants.{Library}
+use Rattle.lw_top.specs.declared.refusal.Refusal.TheVariants.{Library, Mapped, Twice, Undriven, NetCycle, Vector}
 use Rattle.lw_top.specs.declared.refusal.Which.TheVariants as which
 use Rattle.lw_top.specs.Steps.{Files, Step, gives, followed_by}
 use Rattle.lw_top.specs.Maps.{Maps}
-use Rattle.lw_top.specs.Words.{Options, Command, mapping, command_of, IsWide, HasWidth}
-use Rattle.lw_top.specs.Answers.{text_of, HasCells, HasModel, ReadsLibrary, ReadsModel, IsMappingAnswer, IsCommandAnswer, asked_for, IsAnswer}
+use Rattle.lw_top.specs.Checks.{Checks}
+use Rattle.lw_top.specs.Reports.{Times, Simulates, SimulatesNetlist}
+use Rattle.lw_top.specs.Counts.{Counts, Draws}
+use Rattle.lw_top.specs.Words.{Command, mapping, checking, timing, simulation, gate_simulation, counting, drawing, command_of, IsInRange, IsCount}
+use Rattle.lw_top.specs.Answers.{text_of, lines_in, marked_lines_in, HasCells, HasModel, HasMapped, HasVectors, ReadsLibrary, ReadsModel, ReadsMapped, ReadsVectors, IsMappingAnswer, IsCheckAnswer, IsTimingAnswer, IsSimulationAnswer, IsGateSimulationAnswer, IsCountAnswer, IsDrawingAnswer, IsCommandAnswer, asked_for, IsAnswer}
 use Rattle.lw_top.proofs.Closed.{has_one_model}
-use Rattle.lw_top.proofs.Widths.{command_wide}
-use Rattle.lw_top.proofs.Sound.{asked_some, cells_kept, AreKept, model_kept}
-use Rattle.lw_top.proofs.MapsOnce.{maps_once}
+use Rattle.lw_top.proofs.InRange.{command_in_range}
+use Rattle.lw_top.proofs.Sound.{asked_some, cells_kept, AreKept, model_kept, IsReadBy, mapped_kept, claim_kept}
+use Rattle.lw_top.proofs.MapAnswers.{maps_one}
+use Rattle.lw_top.proofs.CheckOne.{checks_one, counts_one}
+use Rattle.lw_top.proofs.DrawOne.{draws_one}
 
 abbrev Any : {A : Type 0} → A → Type 0
 Any x = Unit {0}
@@ -44,6 +66,42 @@ followed_one {A = A} {B = B} P first next one holds each = λ files a b p q. bot
         let is : ◌≡◌ {A = Result A Refusal} (Err e) (Err h) = one files (Err e) (Err h) f g in
         cc
 
+-- the outcomes are alike, or the same refusal
+abbrev AreAlike : {A : Type 0} → (A → A → Type 0) → Result A Refusal → Result A Refusal → Type 0
+AreAlike Alike (Ok x) (Ok y) = Alike x y
+AreAlike Alike (Err e) (Err h) = e ≡ h
+AreAlike Alike a b = ⊥
+
+-- the step comes to things that are alike
+abbrev IsAlike : {A : Type 0} → (A → A → Type 0) → Step A → Type 0
+IsAlike {A} Alike step = (files : Files) (a b : Result A Refusal) → step files a → step files b → AreAlike Alike a b
+
+-- Where the first step hands on one of several values that are alike, and what comes next is the same for each.
+followed_alike : {A B : Type 0} (Alike : A → A → Type 0) (P : A → Type 0) (first : Step A) (next : A → Step B) → IsAlike Alike first → ((files : Files) (x : A) → first files (Ok x) → P x) → ((x y : A) → Alike x y → P x → P y → (files : Files) (a b : Result B Refusal) → next x files a → next y files b → a ≡ b) → IsOne (followed_by first next)
+followed_alike {A = A} {B = B} Alike P first next alike holds each = λ files a b p q. both files a b p q
+  where
+    both : (files : Files) (a b : Result B Refusal) → followed_by first next files a → followed_by first next files b → a ≡ b
+    both files a b (inl (x, f, n)) (inl (y, g, m)) = each x y (alike files (Ok x) (Ok y) f g) (holds files x f) (holds files y g) files a b n m
+    both files a b (inl (x, f, n)) (inr (e, g, r)) = absurd (alike files (Ok x) (Err e) f g)
+    both files a b (inr (e, f, r)) (inl (y, g, m)) = absurd (alike files (Err e) (Ok y) f g)
+    both files a b (inr (e, f, r)) (inr (h, g, s)) = let same : e ≡ h = alike files (Err e) (Err h) f g in cc
+
+-- a file's text, and then things that are alike
+text_alike : {A : Type 0} (Alike : A → A → Type 0) (f : Files → Result (List ℕ) Refusal) (next : List ℕ → Step A) → ((bytes : List ℕ) → IsAlike Alike (next bytes)) → IsAlike Alike (followed_by (gives f) next)
+text_alike {A = A} Alike f next each = λ files a b p q. both files a b p q
+  where
+    both : (files : Files) (a b : Result A Refusal) → followed_by (gives f) next files a → followed_by (gives f) next files b → AreAlike Alike a b
+    both files a b (inl (x, e, n)) (inl (y, g, m)) =
+        let is : ◌≡◌ {A = Result (List ℕ) Refusal} (Ok x) (Ok y) = sym e ∙ g in
+        let same : x ≡ y = cc in
+        each y files a b (subst (λ z. next z files a) same n) m
+    both files a b (inl (x, e, n)) (inr (h, g, r)) = let is : ◌≡◌ {A = Result (List ℕ) Refusal} (Ok x) (Err h) = sym e ∙ g in cc
+    both files a b (inr (h, e, r)) (inl (y, g, m)) = let is : ◌≡◌ {A = Result (List ℕ) Refusal} (Err h) (Ok y) = sym e ∙ g in cc
+    both files a b (inr (h, e, r)) (inr (k, g, s)) =
+        let is : ◌≡◌ {A = Result (List ℕ) Refusal} (Err h) (Err k) = sym e ∙ g in
+        let same : h ≡ k = cc in
+        subst (λ (x : Result A Refusal). AreAlike Alike x b) r (subst (λ (y : Result A Refusal). AreAlike Alike (Err h) y) s same)
+
 cells_one : (bytes : List ℕ) → IsOne (HasCells bytes)
 cells_one bytes = both
   where
@@ -65,17 +123,153 @@ model_read_one name =
     followed_one Any (gives (text_of which.Network name)) HasModel (gives_one (text_of which.Network name)) (λ files x p. tt)
     (λ bytes any files a b p q. has_one_model bytes files a b p q)
 
-mapping_one : (options : Options) (library network : List ℕ) → IsWide options → IsOne (IsMappingAnswer options library network)
-mapping_one options library network wide =
-    followed_one IsLibrary (ReadsLibrary library) (λ cells. followed_by (ReadsModel network) (λ model. Maps options cells model))
-    (library_one library) (cells_kept library)
-    (λ cells lib. followed_one AreKept (ReadsModel network) (λ model. Maps options cells model) (model_read_one network) (model_kept network)
-    (λ model kept files a b p q. maps_once options cells model wide kept.network kept.fits.starts.early lib files a b p q))
+vectors_one : (inputs : ℕ) (bytes : List ℕ) → IsOne (HasVectors inputs bytes)
+vectors_one inputs bytes = both
+  where
+    both : (files : Files) (a b : Result (List (List Bool)) Refusal) → HasVectors inputs bytes files a → HasVectors inputs bytes files b → a ≡ b
+    both files (Ok x) (Ok y) p q = ap (λ v. Ok v) (p.1 ∙ sym q.1)
+    both files (Ok x) (Err (Vector line)) p q = let is : ◌≡◌ {A = Option ℕ} None (Some line) = sym p.0 ∙ q in cc
+    both files (Ok x) (Err other) p q = absurd q
+    both files (Err (Vector line)) (Ok y) p q = let is : ◌≡◌ {A = Option ℕ} None (Some line) = sym q.0 ∙ p in cc
+    both files (Err (Vector line)) (Err (Vector l)) p q = let is : ◌≡◌ {A = Option ℕ} (Some line) (Some l) = sym p ∙ q in cc
+    both files (Err (Vector line)) (Err other) p q = absurd q
+    both files (Err other) b p q = absurd p
 
-command_one : (c : Command) → HasWidth c → IsOne (IsCommandAnswer c)
-command_one (mapping options library network) wide = mapping_one options library network wide
+vectors_read_one : (name : List ℕ) (inputs : ℕ) → IsOne (ReadsVectors name inputs)
+vectors_read_one name inputs =
+    followed_one Any (gives (text_of which.Vectors name)) (HasVectors inputs) (gives_one (text_of which.Vectors name)) (λ files x p. tt) (λ bytes any. vectors_one inputs bytes)
+
+mapping_one : (options : Options) (certified : Bool) (library network : List ℕ) → IsWide options → IsOne (IsMappingAnswer options certified library network)
+mapping_one options certified library network wide =
+    followed_one IsLibrary (ReadsLibrary library) (λ cells. followed_by (ReadsModel network) (λ model. Maps options certified cells model))
+    (library_one library) (cells_kept library)
+    (λ cells lib. followed_one AreKept (ReadsModel network) (λ model. Maps options certified cells model) (model_read_one network) (model_kept network)
+    (λ model kept files a b p q. maps_one options cells model wide kept.network kept.fits.starts.early lib certified files a b p q))
+
+-- Mapped texts.
+
+-- lines come to one thing, or to one up to places past the end of a certificate
+mapped_meaning : (cells : List CellParts) (lines : List LogicalLine) (a b : Result MappedParts MappedFault) → IsUnmapped cells lines a → IsUnmapped cells lines b → (a ≡ Err fault.Memory → ⊥) → (b ≡ Err fault.Memory → ⊥) → AreSameOutcomes a b
+mapped_meaning cells lines a b p q = comes-once (text_fault cells lines) (lines_say cells (lines_read lines)) a b p q
+
+-- the fault that a refusal of a mapped text tells
+told_by : MappedFault → Option Refusal
+told_by (fault.Line line kind) = Some (Mapped line kind)
+told_by (fault.Whole (whole.Twice name)) = Some (Twice name)
+told_by (fault.Whole (whole.Undriven name)) = Some (Undriven name)
+told_by (fault.Whole (whole.Cycle name)) = Some (NetCycle name)
+told_by (fault.Whole whole.Memory) = None
+told_by fault.Memory = None
+
+record IsToldBy (cells : List CellParts) (bytes : List ℕ) (r : Refusal) : Type 0 where
+  fault_is : MappedFault
+  read : IsUnmapped cells (marked_lines_in bytes) (Err fault_is)
+  not_memory : ◌≡◌ {A = Result MappedParts MappedFault} (Err fault_is) (Err fault.Memory) → ⊥
+  told : told_by fault_is ≡ Some r
+
+fault_told : (cells : List CellParts) (bytes : List ℕ) (files : Files) (r : Refusal) → HasMapped cells bytes files (Err r) → IsToldBy cells bytes r
+unfolding told_by
+fault_told cells bytes files (Mapped line kind) is = record { fault_is = fault.Line line kind; read = is; not_memory = λ e. cc; told = refl }
+fault_told cells bytes files (Twice name) is = record { fault_is = fault.Whole (whole.Twice name); read = is; not_memory = λ e. cc; told = refl }
+fault_told cells bytes files (Undriven name) is = record { fault_is = fault.Whole (whole.Undriven name); read = is; not_memory = λ e. cc; told = refl }
+fault_told cells bytes files (NetCycle name) is = record { fault_is = fault.Whole (whole.Cycle name); read = is; not_memory = λ e. cc; told = refl }
+fault_told cells bytes files other is = absurd is
+
+ok_stands : (m : MappedParts) → ◌≡◌ {A = Result MappedParts MappedFault} (Ok m) (Err fault.Memory) → ⊥
+ok_stands m e = cc
+
+module _ (cells : List CellParts) (bytes : List ℕ) where
+  mapped_alike : IsAlike AreSameMapped (HasMapped cells bytes)
+  mapped_alike files (Ok x) (Ok y) p q = mapped_meaning cells (marked_lines_in bytes) (Ok x) (Ok y) p q (ok_stands x) (ok_stands y)
+  mapped_alike files (Ok x) (Err r) p q =
+      let t = fault_told cells bytes files r q in
+      absurd (mapped_meaning cells (marked_lines_in bytes) (Ok x) (Err t.fault_is) p t.read (ok_stands x) t.not_memory)
+  mapped_alike files (Err r) (Ok y) p q =
+      let t = fault_told cells bytes files r p in
+      absurd (mapped_meaning cells (marked_lines_in bytes) (Err t.fault_is) (Ok y) t.read q t.not_memory (ok_stands y))
+  mapped_alike files (Err r) (Err s) p q =
+      let t = fault_told cells bytes files r p in
+      let u = fault_told cells bytes files s q in
+      let same : t.fault_is ≡ u.fault_is = mapped_meaning cells (marked_lines_in bytes) (Err t.fault_is) (Err u.fault_is) t.read u.read t.not_memory u.not_memory in
+      let both : Some r ≡ Some s = sym t.told ∙ (ap told_by same ∙ u.told) in
+      cc
+
+mapped_read_alike : (name : List ℕ) (cells : List CellParts) → IsAlike AreSameMapped (ReadsMapped name cells)
+mapped_read_alike name cells = text_alike AreSameMapped (text_of which.Mapped name) (HasMapped cells) (λ bytes. mapped_alike cells bytes)
+
+-- Reports.
+
+times_one : (cells : List CellParts) (x y : MappedParts) → AreSameMapped x y → IsNetlist x.netlist → (files : Files) (a b : Result (List ℕ) Refusal) → Times cells x files a → Times cells y files b → a ≡ b
+times_one cells x y same kept files (Ok s) (Ok t) p q =
+    let moved = subst (λ (n : NetlistParts). IsTimingText cells n x.starts t) (sym same.netlist) (subst (λ (ts : List Micro). IsTimingText cells y.netlist ts t) (sym same.starts) q) in
+    ap (λ (z : List ℕ). Ok z) (report_once cells x.netlist x.starts s t kept p moved)
+times_one cells x y same kept files (Ok s) (Err r) p q = absurd q
+times_one cells x y same kept files (Err r) b p q = absurd p
+
+simulates_one : (model : Parsed) (vectors : List (List Bool)) → IsNetwork model.network → IsOne (Simulates model vectors)
+simulates_one model vectors kept files (Ok s) (Ok t) p q = ap (λ (z : List ℕ). Ok z) (network_simulation_once model.network vectors s t kept p q)
+simulates_one model vectors kept files (Ok s) (Err r) p q = absurd q
+simulates_one model vectors kept files (Err r) b p q = absurd p
+
+gates_one : (cells : List CellParts) (n : NetlistParts) (vectors : List (List Bool)) → IsNetlist n → IsOne (SimulatesNetlist cells n vectors)
+gates_one cells n vectors kept files (Ok s) (Ok t) p q = ap (λ (z : List ℕ). Ok z) (netlist_simulation_once cells n vectors s t kept p q)
+gates_one cells n vectors kept files (Ok s) (Err r) p q = absurd q
+gates_one cells n vectors kept files (Err r) b p q = absurd p
+
+timing_one : (library mapped : List ℕ) → IsOne (IsTimingAnswer library mapped)
+timing_one library mapped =
+    followed_one IsLibrary (ReadsLibrary library) (λ cells. followed_by (ReadsMapped mapped cells) (λ m. Times cells m)) (library_one library) (cells_kept library)
+    (λ cells lib. followed_alike AreSameMapped (λ m. IsNetlist m.netlist) (ReadsMapped mapped cells) (λ m. Times cells m) (mapped_read_alike mapped cells) (λ files m is. (mapped_kept mapped cells files m is).netlist)
+    (λ x y same px py files a b p q. times_one cells x y same px files a b p q))
+
+simulation_one : (network vectors : List ℕ) → IsOne (IsSimulationAnswer network vectors)
+simulation_one network vectors =
+    followed_one AreKept (ReadsModel network) (λ model. followed_by (ReadsVectors vectors model.network.inputs) (λ xs. Simulates model xs)) (model_read_one network) (model_kept network)
+    (λ model kept. followed_one Any (ReadsVectors vectors model.network.inputs) (λ xs. Simulates model xs) (vectors_read_one vectors model.network.inputs) (λ files x p. tt)
+    (λ xs any. simulates_one model xs kept.network))
+
+-- a netlist simulated, whatever stands around it
+abbrev Simulation : List CellParts → List ℕ → NetlistParts → Step (List ℕ)
+Simulation cells vectors n = followed_by (ReadsVectors vectors n.inputs) (λ xs. SimulatesNetlist cells n xs)
+
+simulation_of_one : (cells : List CellParts) (vectors : List ℕ) (n : NetlistParts) → IsNetlist n → IsOne (Simulation cells vectors n)
+simulation_of_one cells vectors n kept =
+    followed_one Any (ReadsVectors vectors n.inputs) (λ xs. SimulatesNetlist cells n xs) (vectors_read_one vectors n.inputs) (λ files x p. tt) (λ xs any. gates_one cells n xs kept)
+
+gate_simulation_one : (library mapped vectors : List ℕ) → IsOne (IsGateSimulationAnswer library mapped vectors)
+gate_simulation_one library mapped vectors =
+    followed_one IsLibrary (ReadsLibrary library) (λ cells. followed_by (ReadsMapped mapped cells) (λ m. Simulation cells vectors m.netlist)) (library_one library) (cells_kept library)
+    (λ cells lib. followed_alike AreSameMapped (λ m. IsNetlist m.netlist) (ReadsMapped mapped cells) (λ m. Simulation cells vectors m.netlist) (mapped_read_alike mapped cells) (λ files m is. (mapped_kept mapped cells files m is).netlist)
+    (λ x y same px py files a b p q. simulation_of_one cells vectors x.netlist px files a b p (subst (λ (n : NetlistParts). Simulation cells vectors n files b) (sym same.netlist) q)))
+
+-- Checks and counts.
+
+check_one : (options : Options) (library network mapped : List ℕ) → IsWide options → IsOne (IsCheckAnswer options library network mapped)
+check_one options library network mapped wide =
+    followed_one IsLibrary (ReadsLibrary library) (λ cells. followed_by (ReadsModel network) (λ model. followed_by (ReadsMapped mapped cells) (λ m. Checks options cells model m))) (library_one library) (cells_kept library)
+    (λ cells lib. followed_one AreKept (ReadsModel network) (λ model. followed_by (ReadsMapped mapped cells) (λ m. Checks options cells model m)) (model_read_one network) (model_kept network)
+    (λ model kept. followed_alike AreSameMapped (IsReadBy cells) (ReadsMapped mapped cells) (λ m. Checks options cells model m) (mapped_read_alike mapped cells) (λ files m is. mapped_kept mapped cells files m is)
+    (λ x y same px py files a b p q. checks_one options cells model wide x y same (λ g roots. claim_kept cells model g roots x kept px) files a b p q)))
+
+count_one : (options : Options) (network : List ℕ) → IsWide options → IsOne (IsCountAnswer options network)
+count_one options network wide =
+    followed_one Any (ReadsModel network) (λ model. Counts options model) (model_read_one network) (λ files x p. tt) (λ model any files a b p q. counts_one options model wide files a b p q)
+
+drawing_one : (seed count : ℕ) (library : List ℕ) → IsCount count → IsOne (IsDrawingAnswer seed count library)
+drawing_one seed count library few =
+    followed_one IsLibrary (ReadsLibrary library) (λ cells. Draws seed count cells) (library_one library) (cells_kept library)
+    (λ cells lib files a b p q. draws_one seed count cells few lib files a b p q)
+
+command_one : (c : Command) → IsInRange c → IsOne (IsCommandAnswer c)
+command_one (mapping options certified library network) wide = mapping_one options certified library network wide
+command_one (checking options library network mapped) wide = check_one options library network mapped wide
+command_one (timing library mapped) wide = timing_one library mapped
+command_one (simulation network vectors) wide = simulation_one network vectors
+command_one (gate_simulation library mapped vectors) wide = gate_simulation_one library mapped vectors
+command_one (counting options network) wide = count_one options network wide
+command_one (drawing seed count library) few = drawing_one seed count library few
 
 pub answer_one : (words : List (List ℕ)) (files : Files) (a b : Result (List ℕ) Refusal) → IsAnswer words files a → IsAnswer words files b → a ≡ b
 answer_one words =
-    followed_one HasWidth (gives (λ files. asked_for (command_of words))) IsCommandAnswer (gives_one (λ files. asked_for (command_of words)))
-    (λ files c p. command_wide words c (asked_some (command_of words) c p)) command_one
+    followed_one IsInRange (gives (λ files. asked_for (command_of words))) IsCommandAnswer (gives_one (λ files. asked_for (command_of words)))
+    (λ files c p. command_in_range words c (asked_some (command_of words) c p)) command_one

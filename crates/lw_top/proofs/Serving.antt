@@ -1,22 +1,33 @@
 -- A text that the definition gives was written, or a part of it.
 use Rattle.std.proofs.Common.{◌≡◌, ℕ, Bool, inr, List, Option, Some, None, Result, Ok, Err, refl, sym, subst, arith}
 use Rattle.lw_io.specs.declared.file.File.{File}
+use Rattle.lw_top.specs.declared.answer.Answer.{Answer}
 use Rattle.lw_top.specs.declared.refusal.Refusal.{Refusal}
 use Rattle.lw_top.specs.declared.refusal.Refusal.TheVariants.{Words}
 use Rattle.lw_top.specs.Steps.{Step, gives}
+use Rattle.lw_top.specs.Words.{Command}
 use Rattle.lw_top.specs.declared.words.Command.{Command as Asked}
 use Rattle.lw_top.specs.Commands.{plain_command, asked}
 use Rattle.lw_top.specs.Answers.{asked_for, IsAnswerTo, IsCommandAnswer}
+use Rattle.lw_top.specs.Named.{IsTextOf}
 use Rattle.lw_top.specs.Reading.{Known, HasReason, Reaches}
 use Rattle.lw_top.specs.declared.outcome.Outcome.{Outcome}
 use Rattle.lw_top.specs.declared.outcome.Outcome.TheVariants.{Done, WriteFault, Refused}
 use Rattle.lw_top.specs.Outcome.{Writes, Meets, IsReachedBy}
 use Rattle.lw_top.proofs.Steps.{answered, refused_later}
 
-pub served : {O : Type 0} (told : Option (List File)) (before now : ℕ) (taken : O → Option (List ℕ)) (is_finished : O → Bool) (faults : O → ℕ) (old new : O) (answer : Step (List ℕ)) (text : List ℕ) (o : Outcome) → Known told answer (Ok text) → Writes taken is_finished faults old new text o → Meets told before now taken is_finished faults old new answer o
-served told before now taken is_finished faults old new answer text Done known written = (text, known, written)
-served told before now taken is_finished faults old new answer text WriteFault known written = (text, known, written)
-served told before now taken is_finished faults old new answer text (Refused r) known written = absurd written
+-- a text of the answer was written, or a part of it
+pub served : {O : Type 0} (told : Option (List File)) (before now : ℕ) (taken : O → Option (List ℕ)) (is_finished : O → Bool) (faults : O → ℕ) (old new : O) (step : Step (List ℕ)) (a : Answer) (o : Outcome) → ((text : List ℕ) → IsTextOf a text → Known told step (Ok text)) → Writes taken is_finished faults old new a o → Meets told before now taken is_finished faults old new step o
+served told before now taken is_finished faults old new step a Done known (text, is, done) = (text, known text is, done)
+served told before now taken is_finished faults old new step a WriteFault known (text, is, cut) = (text, known text is, cut)
+served told before now taken is_finished faults old new step a (Refused r) known written = absurd written
+
+-- what was written is no refusal
+pub reached_written : {O : Type 0} (told : Option (List File)) (command : Option Command) (taken : O → Option (List ℕ)) (is_finished : O → Bool) (faults : O → ℕ) (old new : O) (a : Answer) (o : Outcome) → Writes taken is_finished faults old new a o → IsReachedBy told command o
+reached_written told None taken is_finished faults old new a o w = tt
+reached_written told (Some command) taken is_finished faults old new a Done w = tt
+reached_written told (Some command) taken is_finished faults old new a WriteFault w = tt
+reached_written told (Some command) taken is_finished faults old new a (Refused r) w = absurd w
 
 -- what a command comes to is what words that ask for it come to
 pub asked_answers : (told : Option (List File)) (o : Option Asked) (c : Asked) (r : Result (List ℕ) Refusal) → o ≡ Some c → Known told (IsCommandAnswer (plain_command c)) r → Known told (IsAnswerTo (asked o)) r
@@ -29,7 +40,7 @@ asked_refuses told before now o c e is reason =
     subst (λ (p : Option Asked). HasReason told before now (IsAnswerTo (asked p)) e) (sym is)
     (refused_later told (gives (λ files. asked_for (Some (plain_command c)))) IsCommandAnswer before before now (plain_command c) e (omega arith) (λ files is. refl) reason)
 
--- a command that was asked for has a width, and its turn comes
+-- a command that was asked for has its turn
 pub asked_reached : (told : Option (List File)) (o : Option Asked) (c : Asked) (r : Refusal) → o ≡ Some c → Reaches told (plain_command c) r → IsReachedBy told (asked o) (Refused r)
 asked_reached told o c r is reached = subst (λ (p : Option Asked). IsReachedBy told (asked p) (Refused r)) (sym is) reached
 

@@ -1,5 +1,5 @@
 -- There is no cover for the answer exactly where some root has none.
-use Rattle.std.proofs.Common.{◌≡◌, ◌↔◌, inl, inr, ℕ, List, Option, Some, Result, Ok, Err, Contains, slice_get, refl, sym, ◌∙◌, subst, arith}
+use Rattle.std.proofs.Common.{◌≡◌, ◌↔◌, inl, inr, ℕ, Bool, List, Option, Some, Result, Ok, Err, Contains, slice_get, refl, sym, ◌∙◌, subst, arith}
 use Rattle.std.proofs.lemmas.Option.{get_or_from_slice_get}
 use Rattle.lw_pool.specs.declared.id.NetId.{NetId}
 use Rattle.lw_laws.proofs.Lists.{slice_get_in, slice_get_some}
@@ -8,14 +8,17 @@ use Rattle.lw_blif.specs.declared.parsed.Parsed.{Parsed}
 use Rattle.lw_top.specs.declared.refusal.Refusal.{Refusal}
 use Rattle.lw_top.specs.declared.refusal.Refusal.TheVariants.{NoCover, TooLong, Forms, Splits, Unread}
 use Rattle.lw_top.specs.Steps.{Files}
-use Rattle.lw_top.specs.Words.{Options, Command, mapping, command_of, HasWidth}
-use Rattle.lw_top.specs.Maps.{IsWithinLimits, IsUncovered, LacksCover, Maps}
+use Rattle.lw_map.specs.Options.{Options}
+use Rattle.lw_map.specs.Mapped.{IsWithinLimits, IsUncovered}
+use Rattle.lw_map.proofs.Once.{covered}
+use Rattle.lw_top.specs.Words.{Command, mapping, command_of}
+use Rattle.lw_top.specs.Maps.{Maps}
 use Rattle.lw_top.specs.Mappings.{AreRead}
 use Rattle.lw_top.specs.Answers.{asked_for, IsMappingAnswer, IsCommandAnswer, IsAnswer, status_in}
-use Rattle.lw_top.proofs.Widths.{command_wide}
+use Rattle.lw_top.proofs.InRange.{command_in_range}
 use Rattle.lw_top.proofs.Sound.{asked_some, cells_kept, model_kept}
 use Rattle.lw_top.proofs.One.{library_one, model_read_one}
-use Rattle.lw_top.proofs.MapsOnce.{Outcome, to_text, to_forms, to_splits, to_lack, by_case, covered}
+use Rattle.lw_top.proofs.MapAnswers.{Lack, of_forms, of_splits, of_cover, by_lack}
 
 contained : (outputs : List NetId) (place : ℕ) (root : NetId) → slice_get outputs place ≡ Some root → Contains outputs root
 contained outputs place root at = (place, slice_get_in outputs place root at, get_or_from_slice_get outputs place root root at)
@@ -26,18 +29,18 @@ at_place outputs root (place, lt, is) =
     let same : other ≡ root = sym (get_or_from_slice_get outputs place other root at) ∙ is in
     (place, subst (λ (o : NetId). slice_get outputs place ≡ Some o) same at)
 
-module _ (words : List (List ℕ)) (files : Files) (options : Options) (cells : List CellParts) (model : Parsed) (read : AreRead words files options cells model) where
+module _ (words : List (List ℕ)) (files : Files) (options : Options) (certified : Bool) (cells : List CellParts) (model : Parsed) (read : AreRead words files options certified cells model) where
   abbrev own : Command
-  own = mapping options read.library_word read.network_word
+  own = mapping options certified read.library_word read.network_word
 
   -- what the cells and the model come to is the answer
-  maps-mapping : (a : Result (List ℕ) Refusal) → IsMappingAnswer options read.library_word read.network_word files a → Maps options cells model files a
+  maps-mapping : (a : Result (List ℕ) Refusal) → IsMappingAnswer options certified read.library_word read.network_word files a → Maps options certified cells model files a
   maps-mapping a (inl (xs, r, inl (m, s, comes))) =
       let cells_are : ◌≡◌ {A = Result (List CellParts) Refusal} (Ok xs) (Ok cells) = library_one read.library_word files (Ok xs) (Ok cells) r read.library in
       let model_is : ◌≡◌ {A = Result Parsed Refusal} (Ok m) (Ok model) = model_read_one read.network_word files (Ok m) (Ok model) s read.network in
       let one : xs ≡ cells = cc in
       let two : m ≡ model = cc in
-      subst (λ (n : Parsed). Maps options cells n files a) two (subst (λ (ys : List CellParts). Maps options ys m files a) one comes)
+      subst (λ (n : Parsed). Maps options certified cells n files a) two (subst (λ (ys : List CellParts). Maps options certified ys m files a) one comes)
   maps-mapping a (inl (xs, r, inr (e, refused, is))) =
       let no : ◌≡◌ {A = Result Parsed Refusal} (Err e) (Ok model) = model_read_one read.network_word files (Err e) (Ok model) refused read.network in
       cc
@@ -45,7 +48,7 @@ module _ (words : List (List ℕ)) (files : Files) (options : Options) (cells : 
       let no : ◌≡◌ {A = Result (List CellParts) Refusal} (Err e) (Ok cells) = library_one read.library_word files (Err e) (Ok cells) refused read.library in
       cc
 
-  answer-maps : (a : Result (List ℕ) Refusal) → IsAnswer words files a → Maps options cells model files a
+  answer-maps : (a : Result (List ℕ) Refusal) → IsAnswer words files a → Maps options certified cells model files a
   answer-maps a (inl (c, is, comes)) =
       let both : Some c ≡ Some own = sym (asked_some (command_of words) c is) ∙ read.form in
       let same : c ≡ own = cc in
@@ -55,9 +58,9 @@ module _ (words : List (List ℕ)) (files : Files) (options : Options) (cells : 
       cc
 
   abbrev HasLack : Type 0
-  HasLack = (root : NetId) × Contains model.network.outputs root × IsUncovered options cells model root
+  HasLack = (root : NetId) × Contains model.network.outputs root × IsUncovered options cells model.network model.starts root
 
-  named : (a : Result (List ℕ) Refusal) → Maps options cells model files a → status_in a ≡ 6 → HasLack
+  named : (a : Result (List ℕ) Refusal) → Maps options certified cells model files a → status_in a ≡ 6 → HasLack
   named (Err (NoCover name)) m e = (m.output, contained model.network.outputs m.place m.output m.at, m.lacks)
   named (Ok text) m e = absurd (omega (arith, e))
   named (Err (Unread w)) m e = absurd m
@@ -66,16 +69,19 @@ module _ (words : List (List ℕ)) (files : Files) (options : Options) (cells : 
   named (Err Splits) m e = absurd (omega (arith, e))
   named (Err other) m e = absurd m
 
-  six : (a : Result (List ℕ) Refusal) → Outcome options cells model a → IsWithinLimits options model.network → HasLack → status_in a ≡ 6
-  six a (to_text {text = t} p) within (root, c, lacks) =
+  six_lack : {r : Refusal} → Lack options cells model.network model.starts r → IsWithinLimits options model.network → status_in (Err r) ≡ 6
+  six_lack (of_forms p) within = let f = within.forms in absurd (omega arith)
+  six_lack (of_splits p) within = let f = within.splits in let g = p.1 in absurd (omega arith)
+  six_lack (of_cover p) within = refl
+
+  six : (a : Result (List ℕ) Refusal) → Maps options certified cells model files a → IsWithinLimits options model.network → HasLack → status_in a ≡ 6
+  six (Ok text) p within (root, c, lacks) =
       let (place, at) = at_place model.network.outputs root c in
       let kept = model_kept read.network_word files model read.network in
-      absurd (covered options cells model (command_wide words own read.form) kept.network kept.fits.starts.early (cells_kept read.library_word files cells read.library) t p place root at lacks)
-  six a (to_forms p) within lack = let f = within.forms in absurd (omega arith)
-  six a (to_splits p) within lack = let f = within.splits in let g = p.1 in absurd (omega arith)
-  six a (to_lack p) within lack = refl
+      absurd (covered options cells model.network model.starts (command_in_range words own read.form) kept.network kept.fits.starts.early (cells_kept read.library_word files cells read.library) p.within.forms p.netlist p.is_mapped place root at lacks)
+  six (Err r) p within lack = six_lack (by_lack options cells model.network model.starts r p) within
 
   pub no_cover_exactly : IsWithinLimits options model.network → (a : Result (List ℕ) Refusal) → IsAnswer words files a → (status_in a ≡ 6) ↔ HasLack
   no_cover_exactly within a answer =
       let m = answer-maps a answer in
-      (named a m, six a (by_case options cells model files a m) within)
+      (named a m, six a m within)

@@ -1,5 +1,5 @@
 -- The answer to words over known files: a list of steps, of which the first that refuses decides.
-use Rattle.std.specs.Prelude.{◌≡◌, ℕ, false, nat_le, List, length, Option, Some, None, Result, Ok, Err, if◌then◌else◌}
+use Rattle.std.specs.Prelude.{◌≡◌, ℕ, Bool, true, false, nat_le, List, length, map, Option, Some, None, Result, Ok, Err, if◌then◌else◌}
 use Rattle.lw_words.specs.Lines.{LogicalLine, logical_lines}
 use Rattle.lw_genlib.specs.declared.fault.LibFault.TheVariants as lib_fault
 use Rattle.lw_genlib.specs.Cells.{CellParts}
@@ -8,13 +8,22 @@ use Rattle.lw_net.specs.declared.fault.NetFault.TheVariants as whole
 use Rattle.lw_blif.specs.declared.parsed.Parsed.{Parsed}
 use Rattle.lw_blif.specs.declared.fault.BlifFault.TheVariants as fault
 use Rattle.lw_blif.specs.BlifNetworks.{IsBlifNetwork}
+use Rattle.lw_netlist.specs.declared.fault.NetlistFault.TheVariants as netlist
+use Rattle.lw_mapped.specs.declared.closing.Mapped.{Mapped as MappedParts}
+use Rattle.lw_mapped.specs.declared.fault.MappedFault.TheVariants as mapped_fault
+use Rattle.lw_mapped.specs.Unmapped.{IsUnmapped}
+use Rattle.lw_report.specs.Vectors.{first_fault, vector_of}
+use Rattle.lw_map.specs.Options.{Options}
 use Rattle.lw_top.specs.declared.refusal.Refusal.{Refusal}
-use Rattle.lw_top.specs.declared.refusal.Refusal.TheVariants.{Words, Unread, TooLong, Library, Network, Undefined, Cycle, Forms, Splits, NoCover, Memory}
+use Rattle.lw_top.specs.declared.refusal.Refusal.TheVariants.{Words, Unread, TooLong, Library, Network, Undefined, Cycle, Mapped, Twice, Undriven, NetCycle, Vector, Forms, Splits, NoCover, No, Memory}
 use Rattle.lw_top.specs.declared.refusal.Which.{Which}
 use Rattle.lw_top.specs.declared.refusal.Which.TheVariants as which
 use Rattle.lw_top.specs.Steps.{Files, Step, gives, followed_by}
-use Rattle.lw_top.specs.Words.{Options, Command, mapping, command_of}
+use Rattle.lw_top.specs.Words.{Command, mapping, checking, timing, simulation, gate_simulation, counting, drawing, command_of}
 use Rattle.lw_top.specs.Maps.{Maps}
+use Rattle.lw_top.specs.Checks.{Checks}
+use Rattle.lw_top.specs.Reports.{Times, Simulates, SimulatesNetlist}
+use Rattle.lw_top.specs.Counts.{Counts, Draws}
 
 -- Files.
 
@@ -31,6 +40,10 @@ text_of w name files = within_limit w (files name)
 abbrev pub lines_in : List ℕ → List LogicalLine
 lines_in bytes = logical_lines false bytes
 
+-- and those of a mapped text, in which the lines of a certificate begin with `#@`
+abbrev pub marked_lines_in : List ℕ → List LogicalLine
+marked_lines_in bytes = logical_lines true bytes
+
 -- the cells that the text lists, or the first line that breaks a rule
 abbrev pub HasCells : List ℕ → Step (List CellParts)
 HasCells bytes files (Ok cells) = library_of (lines_in bytes) ≡ Ok cells
@@ -45,19 +58,68 @@ HasModel bytes files (Err (Undefined name)) = IsBlifNetwork (lines_in bytes) (Er
 HasModel bytes files (Err (Cycle name)) = IsBlifNetwork (lines_in bytes) (Err (fault.Whole (whole.Cycle name)))
 HasModel bytes files (Err other) = ⊥
 
+-- The netlist of the text by these cells, with what stands around it and its certificate, or the first line that breaks a rule, or else
+-- the fault of the netlist as a whole.
+abbrev pub HasMapped : List CellParts → List ℕ → Step MappedParts
+HasMapped cells bytes files (Ok mapped) = IsUnmapped cells (marked_lines_in bytes) (Ok mapped)
+HasMapped cells bytes files (Err (Mapped line kind)) = IsUnmapped cells (marked_lines_in bytes) (Err (mapped_fault.Line line kind))
+HasMapped cells bytes files (Err (Twice name)) = IsUnmapped cells (marked_lines_in bytes) (Err (mapped_fault.Whole (netlist.Twice name)))
+HasMapped cells bytes files (Err (Undriven name)) = IsUnmapped cells (marked_lines_in bytes) (Err (mapped_fault.Whole (netlist.Undriven name)))
+HasMapped cells bytes files (Err (NetCycle name)) = IsUnmapped cells (marked_lines_in bytes) (Err (mapped_fault.Whole (netlist.Cycle name)))
+HasMapped cells bytes files (Err other) = ⊥
+
+-- the values of so many inputs that each line is, or the first line that is no vector
+abbrev pub HasVectors : ℕ → List ℕ → Step (List (List Bool))
+HasVectors inputs bytes files (Ok vectors) = (first_fault inputs (lines_in bytes) ≡ None) × (vectors ≡ map vector_of (lines_in bytes))
+HasVectors inputs bytes files (Err (Vector line)) = first_fault inputs (lines_in bytes) ≡ Some line
+HasVectors inputs bytes files (Err other) = ⊥
+
 abbrev pub ReadsLibrary : List ℕ → Step (List CellParts)
 ReadsLibrary name = followed_by (gives (text_of which.Library name)) HasCells
 
 abbrev pub ReadsModel : List ℕ → Step Parsed
 ReadsModel name = followed_by (gives (text_of which.Network name)) HasModel
 
+abbrev pub ReadsMapped : List ℕ → List CellParts → Step MappedParts
+ReadsMapped name cells = followed_by (gives (text_of which.Mapped name)) (HasMapped cells)
+
+abbrev pub ReadsVectors : List ℕ → ℕ → Step (List (List Bool))
+ReadsVectors name inputs = followed_by (gives (text_of which.Vectors name)) (HasVectors inputs)
+
+-- Commands.
+
 -- what a mapping of the network comes to
-abbrev pub IsMappingAnswer : Options → List ℕ → List ℕ → Step (List ℕ)
-IsMappingAnswer options library network = followed_by (ReadsLibrary library) (λ cells. followed_by (ReadsModel network) (λ model. Maps options cells model))
+abbrev pub IsMappingAnswer : Options → Bool → List ℕ → List ℕ → Step (List ℕ)
+IsMappingAnswer options certified library network = followed_by (ReadsLibrary library) (λ cells. followed_by (ReadsModel network) (λ model. Maps options certified cells model))
+
+-- what a check of the mapped netlist comes to
+abbrev pub IsCheckAnswer : Options → List ℕ → List ℕ → List ℕ → Step (List ℕ)
+IsCheckAnswer options library network mapped = followed_by (ReadsLibrary library) (λ cells. followed_by (ReadsModel network) (λ model. followed_by (ReadsMapped mapped cells) (λ m. Checks options cells model m)))
+
+abbrev pub IsTimingAnswer : List ℕ → List ℕ → Step (List ℕ)
+IsTimingAnswer library mapped = followed_by (ReadsLibrary library) (λ cells. followed_by (ReadsMapped mapped cells) (λ m. Times cells m))
+
+abbrev pub IsSimulationAnswer : List ℕ → List ℕ → Step (List ℕ)
+IsSimulationAnswer network vectors = followed_by (ReadsModel network) (λ model. followed_by (ReadsVectors vectors model.network.inputs) (λ xs. Simulates model xs))
+
+abbrev pub IsGateSimulationAnswer : List ℕ → List ℕ → List ℕ → Step (List ℕ)
+IsGateSimulationAnswer library mapped vectors = followed_by (ReadsLibrary library) (λ cells. followed_by (ReadsMapped mapped cells) (λ m. followed_by (ReadsVectors vectors m.netlist.inputs) (λ xs. SimulatesNetlist cells m.netlist xs)))
+
+abbrev pub IsCountAnswer : Options → List ℕ → Step (List ℕ)
+IsCountAnswer options network = followed_by (ReadsModel network) (λ model. Counts options model)
+
+abbrev pub IsDrawingAnswer : ℕ → ℕ → List ℕ → Step (List ℕ)
+IsDrawingAnswer seed count library = followed_by (ReadsLibrary library) (λ cells. Draws seed count cells)
 
 -- what a command comes to
 abbrev pub IsCommandAnswer : Command → Step (List ℕ)
-IsCommandAnswer (mapping options library network) = IsMappingAnswer options library network
+IsCommandAnswer (mapping options certified library network) = IsMappingAnswer options certified library network
+IsCommandAnswer (checking options library network mapped) = IsCheckAnswer options library network mapped
+IsCommandAnswer (timing library mapped) = IsTimingAnswer library mapped
+IsCommandAnswer (simulation network vectors) = IsSimulationAnswer network vectors
+IsCommandAnswer (gate_simulation library mapped vectors) = IsGateSimulationAnswer library mapped vectors
+IsCommandAnswer (counting options network) = IsCountAnswer options network
+IsCommandAnswer (drawing seed count library) = IsDrawingAnswer seed count library
 
 -- words of no written form are refused
 abbrev pub asked_for : Option Command → Result Command Refusal
@@ -71,10 +133,27 @@ IsAnswerTo command = followed_by (gives (λ files. asked_for command)) IsCommand
 abbrev pub IsAnswer : List (List ℕ) → Step (List ℕ)
 IsAnswer words = IsAnswerTo (command_of words)
 
+-- Turns.
+
+abbrev pub HasLibrary : List ℕ → Files → Type 0
+HasLibrary name files = (cells : List CellParts) × ReadsLibrary name files (Ok cells)
+
+abbrev pub HasNetwork : List ℕ → Files → Type 0
+HasNetwork name files = (model : Parsed) × ReadsModel name files (Ok model)
+
+abbrev pub HasNetlist : List ℕ → List ℕ → Files → Type 0
+HasNetlist library mapped files = (cells : List CellParts) × (m : MappedParts) × ReadsLibrary library files (Ok cells) × ReadsMapped mapped cells files (Ok m)
+
 -- The file's turn comes: each file that the command reads before it is there, and within its limit and its grammar.
 abbrev pub IsReached : Command → Which → Files → Type 0
-IsReached (mapping options library network) which.Library files = Unit {0}
-IsReached (mapping options library network) which.Network files = (cells : List CellParts) × ReadsLibrary library files (Ok cells)
+IsReached (mapping options certified library network) which.Network files = HasLibrary library files
+IsReached (checking options library network mapped) which.Network files = HasLibrary library files
+IsReached (checking options library network mapped) which.Mapped files = HasLibrary library files × HasNetwork network files
+IsReached (timing library mapped) which.Mapped files = HasLibrary library files
+IsReached (simulation network vectors) which.Vectors files = HasNetwork network files
+IsReached (gate_simulation library mapped vectors) which.Mapped files = HasLibrary library files
+IsReached (gate_simulation library mapped vectors) which.Vectors files = HasNetlist library mapped files
+IsReached command w files = Unit {0}
 
 -- Statuses.
 
@@ -91,6 +170,12 @@ status_of Forms = 5
 status_of Splits = 5
 status_of (NoCover name) = 6
 status_of Memory = 8
+status_of (No reason) = 9
+status_of (Mapped line kind) = 10
+status_of (Twice name) = 10
+status_of (Undriven name) = 10
+status_of (NetCycle name) = 10
+status_of (Vector line) = 10
 
 -- the exit status of an answer
 abbrev pub status_in : Result (List ℕ) Refusal → ℕ

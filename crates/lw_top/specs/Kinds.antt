@@ -6,6 +6,8 @@ use Rattle.lw_genlib.specs.declared.fault.LibKind.{LibKind}
 use Rattle.lw_genlib.specs.declared.fault.LibKind.TheVariants as lib
 use Rattle.lw_blif.specs.declared.fault.BlifKind.{BlifKind}
 use Rattle.lw_blif.specs.declared.fault.BlifKind.TheVariants as blif
+use Rattle.lw_mapped.specs.declared.fault.MappedKind.{MappedKind}
+use Rattle.lw_mapped.specs.declared.fault.MappedKind.TheVariants as mapped
 
 abbrev pub decimal_fault_text : DecimalFault → List ℕ
 decimal_fault_text decimal.Shape = codes "not a decimal"
@@ -42,3 +44,15 @@ lib_text lib.LimitText = codes "function longer than 2048 bytes"
 lib_text lib.LimitLiterals = codes "more than 64 names in a function"
 lib_text lib.LimitPins = codes "more than 16 pins"
 lib_text lib.LimitCells = codes "more than 4096 cells"
+
+abbrev pub mapped_kind_text : MappedKind → List ℕ
+mapped_kind_text mapped.UnknownCommand = codes "unknown command"
+mapped_kind_text mapped.Shape = codes "line of wrong shape"
+mapped_kind_text mapped.NoCell = codes "no such cell"
+mapped_kind_text mapped.PinUnknown = codes "no such pin"
+mapped_kind_text mapped.PinTwice = codes "pin given twice"
+mapped_kind_text mapped.PinMissing = codes "pin not given"
+mapped_kind_text mapped.Certificate = codes "bad certificate line"
+mapped_kind_text mapped.BadName = codes "bad name"
+mapped_kind_text mapped.LongWord = codes "word too long"
+mapped_kind_text (mapped.Decimal fault) = decimal_fault_text fault

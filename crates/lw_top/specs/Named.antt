@@ -1,16 +1,36 @@
--- What the calls that read no file answer.
-use Rattle.std.specs.Prelude.{ℕ, List, None, Result, Ok, Err}
+-- What the calls that read no file answer, and what is known of what was read.
+use Rattle.std.specs.Prelude.{ℕ, ◌≡◌, ◌≤◌, Bool, List, None, Some, length, Option, Result, Ok, Err, codes}
+use Rattle.lw_words.specs.Lines.{LogicalLine}
+use Rattle.lw_genlib.specs.Cells.{CellParts}
+use Rattle.lw_netlist.specs.Netlists.{most_gates}
+use Rattle.lw_netlist.specs.Plain.{IsOver}
+use Rattle.lw_mapped.specs.declared.certificate.Certificate.{Certificate}
+use Rattle.lw_mapped.specs.declared.closing.Mapped.{Mapped as MappedParts}
+use Rattle.lw_mapped.specs.Fitting.{IsMapped}
 use Rattle.lw_mapped.specs.Texts.{mapped_text}
+use Rattle.lw_report.specs.declared.vectors.Vectors.{Vectors}
+use Rattle.lw_report.specs.Blocks.{vectors_in}
+use Rattle.lw_report.specs.Standing.{StandsFor, inputs_of, stop_of}
+use Rattle.lw_report.specs.Timings.{timing_text}
+use Rattle.lw_report.specs.Simulated.{IsNetworkSimulation, IsNetlistSimulation}
+use Rattle.lw_map.specs.declared.fault.MapFault.{MapFault}
+use Rattle.lw_map.specs.declared.fault.MapFault.TheVariants as map_fault
 use Rattle.lw_top.specs.declared.refusal.Refusal.{Refusal}
-use Rattle.lw_top.specs.declared.refusal.Refusal.TheVariants.{Words, Unread, TooLong, Memory}
+use Rattle.lw_top.specs.declared.refusal.Refusal.TheVariants.{Words, Unread, TooLong, Forms, Splits, NoCover, Memory}
+use Rattle.lw_top.specs.declared.answer.Answer.{Answer}
+use Rattle.lw_top.specs.declared.answer.Answer.TheVariants as answer
 use Rattle.lw_top.specs.Steps.{Files, Step}
-use Rattle.lw_top.specs.declared.answer.Mapped.{Mapped}
+use Rattle.lw_top.specs.Checks.{yes_text}
+use Rattle.lw_top.specs.Counts.{counts_text, sizes_text}
 
--- the mapped text of an answer
-abbrev pub text_in : Mapped → List ℕ
-text_in a = mapped_text a.library a.netlist a.frame a.starts None
+-- the refusal of a network that is not mapped
+abbrev pub map_refusal : MapFault → Refusal
+map_refusal map_fault.Forms = Forms
+map_refusal map_fault.Splits = Splits
+map_refusal (map_fault.NoCover name) = NoCover name
+map_refusal map_fault.Memory = Memory
 
--- The step has this outcome, whatever the files; want of memory needs no reason, and of the words and the files nothing is refused.
+-- The step has this outcome, whatever the files; running out of memory needs no reason, and of the words and the files nothing is refused.
 abbrev pub Comes : {X A : Type 0} → (X → A) → Step A → Result X Refusal → Type 0
 Comes view step (Ok x) = (files : Files) → step files (Ok (view x))
 Comes view step (Err Memory) = Unit {0}
@@ -18,3 +38,34 @@ Comes view step (Err Words) = ⊥
 Comes view step (Err (Unread w)) = ⊥
 Comes view step (Err (TooLong w)) = ⊥
 Comes view step (Err other) = (files : Files) → step files (Err other)
+
+-- What was read.
+
+-- a netlist of these cells, with what stands around it, of few gates
+pub record IsReadNetlist (cells : List CellParts) (mapped : MappedParts) : Type 0 where
+  pub over : IsOver cells mapped.netlist
+  pub fits : IsMapped mapped
+  pub few : length mapped.netlist.gates ≤ most_gates
+
+-- the vectors
+abbrev pub values_in : Vectors → List (List Bool)
+values_in vectors = vectors_in vectors.blocks.items
+
+-- vectors of so many values, of which no line was refused
+pub record AreReadVectors (inputs : ℕ) (vectors : Vectors) : Type 0 where
+  pub inputs_are : inputs_of vectors ≡ inputs
+  pub good : stop_of vectors ≡ None
+  pub lines : List LogicalLine
+  pub stands : StandsFor vectors lines
+
+-- Answers.
+
+-- the text is that of the answer
+abbrev pub IsTextOf : Answer → List ℕ → Type 0
+IsTextOf (answer.Mapping library netlist frame starts certificate) text = text ≡ mapped_text library netlist frame starts certificate
+IsTextOf answer.Yes text = text ≡ yes_text
+IsTextOf (answer.Times library netlist timing) text = text ≡ timing_text library netlist timing
+IsTextOf (answer.Values network vectors sim) text = IsNetworkSimulation network (values_in vectors) text
+IsTextOf (answer.GateValues library netlist vectors sim) text = IsNetlistSimulation library netlist (values_in vectors) text
+IsTextOf (answer.Counts forms classes alternatives) text = text ≡ counts_text forms classes alternatives
+IsTextOf (answer.Sizes nodes classes gates latest) text = text ≡ sizes_text nodes classes gates latest.0

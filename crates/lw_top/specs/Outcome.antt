@@ -1,9 +1,13 @@
 -- What each outcome of a run means.
-use Rattle.std.specs.Prelude.{◌≡◌, ℕ, Bool, true, List, Option, Some, None, Ok}
+use Rattle.std.specs.Prelude.{◌≡◌, ℕ, Bool, true, List, Option, Some, None, Result, Ok}
 use Rattle.std.specs.Io.KnownBytes.{Appends}
 use Rattle.lw_io.specs.declared.file.File.{File}
+use Rattle.lw_io.specs.declared.failed.Failed.{Failed}
 use Rattle.lw_io.specs.Causes.{Rose}
 use Rattle.lw_io.specs.Moves.{AppendsPrefix}
+use Rattle.lw_io.specs.Waitings.{IsTaken}
+use Rattle.lw_top.specs.declared.answer.Answer.{Answer}
+use Rattle.lw_top.specs.Named.{IsTextOf}
 use Rattle.lw_top.specs.Steps.{Step}
 use Rattle.lw_top.specs.Answers.{status_of}
 use Rattle.lw_top.specs.Words.{Command}
@@ -21,11 +25,17 @@ pub record IsCutShort {O : Type 0} (taken : O → Option (List ℕ)) (faults : O
   pub grown : AppendsPrefix (taken old) (taken new) text
   pub cause : Rose (faults old) (faults new)
 
--- a text was written, or a part of it
-abbrev pub Writes : {O : Type 0} → (O → Option (List ℕ)) → (O → Bool) → (O → ℕ) → O → O → List ℕ → Outcome → Type 0
-Writes taken is_finished faults old new text Done = IsDone taken is_finished old new text
-Writes taken is_finished faults old new text WriteFault = IsCutShort taken faults old new text
-Writes taken is_finished faults old new text (Refused r) = ⊥
+-- A text of the answer was taken, or a part of it where the stream failed.
+pub record WritesText (start : Option (List ℕ)) (count : ℕ) (taken : Option (List ℕ)) (faults : ℕ) (answer : Answer) (result : Result (Unit {0}) Failed) : Type 0 where
+  pub text : List ℕ
+  pub is : IsTextOf answer text
+  pub taken_is : IsTaken start count taken faults text result
+
+-- a text of the answer was written, or a part of it
+abbrev pub Writes : {O : Type 0} → (O → Option (List ℕ)) → (O → Bool) → (O → ℕ) → O → O → Answer → Outcome → Type 0
+Writes taken is_finished faults old new answer Done = (text : List ℕ) × IsTextOf answer text × IsDone taken is_finished old new text
+Writes taken is_finished faults old new answer WriteFault = (text : List ℕ) × IsTextOf answer text × IsCutShort taken faults old new text
+Writes taken is_finished faults old new answer (Refused r) = ⊥
 
 -- the text that the definition gives was written, or a part of it; or there is a reason to refuse, and the stream is as it was
 abbrev pub Meets : {O : Type 0} → Option (List File) → ℕ → ℕ → (O → Option (List ℕ)) → (O → Bool) → (O → ℕ) → O → O → Step (List ℕ) → Outcome → Type 0

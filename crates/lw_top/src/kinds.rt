@@ -1,10 +1,11 @@
 // The texts of the rules that a line breaks.
 ghost use Rattle.std.specs.Prelude.{◌≡◌};
-ghost use Rattle.lw_top.specs.Kinds.{blif_text, decimal_fault_text, lib_text};
+ghost use Rattle.lw_top.specs.Kinds.{blif_text, decimal_fault_text, lib_text, mapped_kind_text};
 
 use lw_blif::BlifKind;
 use lw_fixed::DecimalFault;
 use lw_genlib::LibKind;
+use lw_mapped::MappedKind;
 
 pub fn blif_text(kind: &BlifKind) -> &[u8]
     ensures { result.now ≡ blif_text kind.now }
@@ -54,5 +55,22 @@ pub fn lib_text(kind: &LibKind) -> &[u8]
         LibKind::LimitLiterals => b"more than 64 names in a function",
         LibKind::LimitPins => b"more than 16 pins",
         LibKind::LimitCells => b"more than 4096 cells",
+    }
+}
+
+pub fn mapped_kind_text(kind: &MappedKind) -> &[u8]
+    ensures { result.now ≡ mapped_kind_text kind.now }
+{
+    match kind {
+        MappedKind::UnknownCommand => b"unknown command",
+        MappedKind::Shape => b"line of wrong shape",
+        MappedKind::NoCell => b"no such cell",
+        MappedKind::PinUnknown => b"no such pin",
+        MappedKind::PinTwice => b"pin given twice",
+        MappedKind::PinMissing => b"pin not given",
+        MappedKind::Certificate => b"bad certificate line",
+        MappedKind::BadName => b"bad name",
+        MappedKind::LongWord => b"word too long",
+        MappedKind::Decimal(fault) => decimal_fault_text(fault),
     }
 }

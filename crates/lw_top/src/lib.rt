@@ -2,15 +2,21 @@
 #![tactic(auto)]
 
 mod answer;
+mod counting;
 mod kinds;
 pub mod laws;
 mod mapping;
 mod outcome;
+mod putting;
 mod reading;
+mod reasons;
 mod refusal;
+mod reports;
+mod sources;
 mod telling;
 mod texts;
 mod top;
 mod words;
 
+pub use lw_big::generate;
 pub use top::run;

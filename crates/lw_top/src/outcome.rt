@@ -1,17 +1,20 @@
 // What a run comes to.
-ghost use Rattle.std.specs.Prelude.{◌≡◌, ◌≤◌, ◌↔◌, None, IfSome};
-ghost use Rattle.lw_mapped.specs.Texts.{IsFramed};
-ghost use Rattle.lw_netlist.specs.Plain.{IsOver};
-ghost use Rattle.lw_top.specs.Words.{HasWidth};
+ghost use Rattle.std.specs.Prelude.{◌≡◌, ◌≤◌, ◌++◌, ◌↔◌, ℕ, List, None, IfSome, codes, decimal};
+ghost use Rattle.lw_fixed.specs.Printed.{decimal_text};
+ghost use Rattle.lw_io.specs.Waitings.{Puts, IsTaken};
+ghost use Rattle.lw_top.specs.Words.{IsInRange};
 ghost use Rattle.lw_top.specs.Commands.{asked};
 ghost use Rattle.lw_top.specs.Answers.{IsAnswerTo};
-ghost use Rattle.lw_top.specs.Named.{text_in};
-ghost use Rattle.lw_top.specs.Outcome.{Meets, Writes, IsReachedBy};
+ghost use Rattle.lw_top.specs.Answered.{CanBeWritten};
+ghost use Rattle.lw_top.specs.Counts.{counts_text, sizes_text};
+ghost use Rattle.lw_top.specs.Outcome.{Meets, Writes, WritesText, IsReachedBy};
 
-use crate::answer::{Mapped, answer};
+use crate::answer::{Answer, respond};
+use crate::putting::{put_count, put_time};
 use crate::refusal::Refusal;
 use crate::words::Command;
-use lw_io::{Shelf, Sink};
+use lw_fixed::Micro;
+use lw_io::{Failed, Shelf, Sink, Waiting, end, put, write_all};
 use lw_mapped::write;
 use std::alloc::Global;
 
@@ -30,7 +33,7 @@ pub fn serve<F: Shelf, O: Sink>(
     shelf: &mut F,
     out: &mut O,
 ) -> Outcome
-    requires { IfSome (asked command) HasWidth }
+    requires { IfSome (asked command) IsInRange }
     ensures words { (result ≡ Outcome.Refused Refusal.Words) ↔ (asked command.entry ≡ None) }
     ensures meets { Meets (F.files shelf.old) (F.faults shelf.old) (F.faults shelf.new) O.taken O.is_finished O.faults out.old out.new (IsAnswerTo (asked command.entry)) result }
     ensures reached { IsReachedBy (F.files shelf.old) (asked command.entry) result }
@@ -41,30 +44,81 @@ pub fn serve<F: Shelf, O: Sink>(
     let Some(command) = command else {
         return Outcome::Refused(Refusal::Words);
     };
-    match answer(alloc, command, shelf) {
-        Ok(answer) => written(&answer, out),
+    match respond(alloc, command, shelf) {
+        Ok(answer) => written(answer, out),
         Err(refusal) => Outcome::Refused(refusal),
     }
 }
 
-// Writes the mapped text of an answer, all of it.
-fn written<O: Sink>(answer: &Mapped, out: &mut O) -> Outcome
-    requires over { IsOver answer.now.library answer.now.netlist }
-    requires framed { IsFramed answer.now.netlist answer.now.frame answer.now.starts }
-    ensures writes { Writes O.taken O.is_finished O.faults out.old out.new (text_in answer.now) result }
+// Writes an answer, all of it.
+fn written<O: Sink>(answer: Answer, out: &mut O) -> Outcome
+    requires { CanBeWritten answer }
+    ensures writes { Writes O.taken O.is_finished O.faults out.old out.new answer result }
     ensures later { O.faults out.old ≤ O.faults out.new }
 {
-    let Mapped {
-        library,
-        netlist,
-        frame,
-        starts,
-    } = answer;
-    match write(netlist, library, frame, starts, None, out) {
+    match write_text(answer, out) {
         Err(_) => Outcome::WriteFault,
         Ok(()) => match out.finish() {
             Err(_) => Outcome::WriteFault,
             Ok(()) => Outcome::Done,
         },
     }
+}
+
+// Writes the text of an answer.
+fn write_text<O: Sink>(answer: Answer, out: &mut O) -> Result<(), Failed>
+    requires { CanBeWritten answer }
+    ensures { WritesText (O.taken out.old) (O.faults out.old) (O.taken out.new) (O.faults out.new) answer result }
+{
+    match answer {
+        Answer::Mapping(library, netlist, frame, starts, certificate) => {
+            write(
+                &netlist,
+                &library,
+                &frame,
+                &starts,
+                certificate.as_ref(),
+                out,
+            )
+        }
+        Answer::Yes => write_all(out, b"yes\n"),
+        Answer::Times(library, netlist, timing) => timing.write(&netlist, &library, out),
+        Answer::Values(network, vectors, mut sim) => sim.network(&network, &vectors, out),
+        Answer::GateValues(library, netlist, vectors, mut sim) => {
+            sim.netlist(&netlist, &library, &vectors, out)
+        }
+        Answer::Counts(forms, classes, pairs) => write_counts(forms, classes, pairs, out),
+        Answer::Sizes(nodes, classes, gates, latest) => {
+            write_sizes(nodes, classes, gates, latest, out)
+        }
+    }
+}
+
+fn write_counts<O: Sink>(forms: u32, classes: u32, pairs: u128, out: &mut O) -> Result<(), Failed>
+    ensures { IsTaken (O.taken out.old) (O.faults out.old) (O.taken out.new) (O.faults out.new) (counts_text forms classes pairs) result }
+{
+    let mut waiting = Waiting::new();
+    put_count(out, &mut waiting, b"forms ", u128::from(forms), b"\n");
+    put_count(out, &mut waiting, b"classes ", u128::from(classes), b"\n");
+    put_count(out, &mut waiting, b"alternatives ", pairs, b"\n");
+    end(out, waiting)
+}
+
+fn write_sizes<O: Sink>(
+    nodes: u32,
+    classes: u32,
+    gates: u32,
+    latest: Micro,
+    out: &mut O,
+) -> Result<(), Failed>
+    ensures { IsTaken (O.taken out.old) (O.faults out.old) (O.taken out.new) (O.faults out.new) (sizes_text nodes classes gates latest.0) result }
+{
+    let mut waiting = Waiting::new();
+    put_count(out, &mut waiting, b"nodes ", u128::from(nodes), b"\n");
+    put_count(out, &mut waiting, b"classes ", u128::from(classes), b"\n");
+    put_count(out, &mut waiting, b"gates ", u128::from(gates), b"\n");
+    put(out, &mut waiting, b"max ");
+    put_time(out, &mut waiting, latest);
+    put(out, &mut waiting, b"\n");
+    end(out, waiting)
 }

@@ -2,53 +2,58 @@ ghost use Rattle.std.specs.Prelude.{◌≡◌};
 ghost use Rattle.lw_top.specs.declared.refusal.Refusal.TheVariants.{Memory};
 
 use lw_blif::BlifKind;
+use lw_check::Reason;
 use lw_genlib::LibKind;
+use lw_map::MapFault;
+use lw_mapped::MappedKind;
 use lw_pool::Name;
 use std::alloc::AllocError;
-use thiserror::Error;
 
 /// Which of the files.
 #[derive(Clone, Copy, Debug, PartialEq, Eq)]
 pub enum Which {
     Library,
     Network,
+    Mapped,
+    Vectors,
 }
 
 /// Why there is no answer.
-#[derive(Debug, Drop, Error)]
+#[derive(Debug, Drop)]
 pub enum Refusal {
     /// The words have none of the written forms.
-    #[error("usage")]
     Words,
     /// The file was not read.
-    #[error("cannot read")]
     Unread(Which),
     /// The file has more bytes than are read.
-    #[error("too long")]
     TooLong(Which),
     /// The line of the library, from 1, breaks this rule.
-    #[error("library")]
     Library(u32, LibKind),
     /// The line of the network, from 1, breaks this rule.
-    #[error("network")]
     Network(u32, BlifKind),
-    /// Nothing drives this signal.
-    #[error("undefined signal")]
+    /// Nothing drives this signal of the network.
     Undefined(Name),
-    /// This signal reaches itself.
-    #[error("cycle")]
+    /// This signal of the network reaches itself.
     Cycle(Name),
+    /// The line of the mapped netlist, from 1, breaks this rule.
+    Mapped(u32, MappedKind),
+    /// This net of the mapped netlist is driven twice.
+    Twice(Name),
+    /// Nothing drives this net of the mapped netlist.
+    Undriven(Name),
+    /// This net of the mapped netlist reaches itself.
+    NetCycle(Name),
+    /// The line, from 1, is no vector.
+    Vector(u32),
     /// The network has more forms than are listed.
-    #[error("too many forms")]
     Forms,
     /// The forms have more splits than are listed.
-    #[error("too many splits")]
     Splits,
     /// This output has no cover.
-    #[error("no cover")]
     NoCover(Name),
-    /// Want of memory.
-    #[error("out of memory")]
+    /// The mapped netlist is no fastest mapping of the network.
+    No(Reason),
+    /// Memory ran out.
     Memory,
 }
 
@@ -57,5 +62,21 @@ impl From<AllocError> for Refusal {
 
     fn from(_e: AllocError) -> Refusal {
         Refusal::Memory
+    }
+}
+
+impl From<MapFault> for Refusal {
+    ghost use Rattle.std.specs.Prelude.{◌≡◌};
+    ghost use Rattle.lw_top.specs.Named.{map_refusal};
+
+    ghost from_gives = { λ fault e. e ≡ map_refusal fault };
+
+    fn from(fault: MapFault) -> Refusal {
+        match fault {
+            MapFault::Forms => Refusal::Forms,
+            MapFault::Splits => Refusal::Splits,
+            MapFault::NoCover(name) => Refusal::NoCover(name),
+            MapFault::Memory => Refusal::Memory,
+        }
     }
 }

@@ -1,21 +1,19 @@
 // The line of each outcome.
-ghost use Rattle.std.specs.Prelude.{◌≡◌, ◌++◌, [], ◌∷◌, OnOk, OnErr, codes, decimal};
-ghost use Rattle.std.specs.Io.KnownBytes.{Appends};
-ghost use Rattle.lw_io.specs.Causes.{HasCause};
-ghost use Rattle.lw_io.specs.Moves.{AppendsPrefix};
-ghost use Rattle.lw_top.specs.declared.refusal.Which.TheVariants as which;
+ghost use Rattle.std.specs.Prelude.{◌≡◌, ◌++◌, ◌∷◌, [], codes};
+ghost use Rattle.lw_io.specs.Waitings.{Puts, IsTaken};
 ghost use Rattle.lw_top.specs.Words.{file_word};
 ghost use Rattle.lw_top.specs.Commands.{asked};
-ghost use Rattle.lw_top.specs.Telling.{outcome_line, refusal_line, refusal_parts, joined, parts, line_parts};
-ghost use Rattle.lw_top.specs.Lines.{parts_of, line_number};
+ghost use Rattle.lw_top.specs.Reasons.{reason_text};
+ghost use Rattle.lw_top.specs.Telling.{outcome_line, refusal_line, refusal_text, broken_text};
 
-use crate::kinds::{blif_text, lib_text};
+use crate::kinds::{blif_text, lib_text, mapped_kind_text};
 use crate::outcome::Outcome;
+use crate::putting::{put_four, put_number, put_three, put_two};
+use crate::reasons::put_reason;
 use crate::refusal::{Refusal, Which};
 use crate::words::{Command, file_word};
-use itoa::Buffer;
-use lw_io::{Failed, Sink, write_all};
-use lw_pool::Name;
+use lw_check::Reason;
+use lw_io::{Failed, Sink, Waiting, end, put};
 
 /// Writes the line of an outcome, if it has one.
 pub fn tell<E: Sink>(
@@ -23,178 +21,112 @@ pub fn tell<E: Sink>(
     outcome: &Outcome,
     err: &mut E,
 ) -> Result<(), Failed>
-    ensures ok { OnOk result (Appends (E.taken err.old) (E.taken err.new) (outcome_line (asked command.entry) outcome.now)) }
-    ensures failed { OnErr result (AppendsPrefix (E.taken err.old) (E.taken err.new) (outcome_line (asked command.entry) outcome.now)) }
-    ensures cause { HasCause (E.faults err.old) (E.faults err.new) result }
+    ensures { IsTaken (E.taken err.old) (E.faults err.old) (E.taken err.new) (E.faults err.new) (outcome_line (asked command.entry) outcome.now) result }
+{
+    let mut waiting = Waiting::new();
+    put_outcome(command, outcome, err, &mut waiting);
+    end(err, waiting)
+}
+
+fn put_outcome<E: Sink>(
+    command: Option<Command<'_>>,
+    outcome: &Outcome,
+    err: &mut E,
+    waiting: &mut Waiting,
+)
+    ensures { Puts (E.taken err.old) (E.faults err.old) waiting.old (E.taken err.new) (E.faults err.new) waiting.new (outcome_line (asked command.entry) outcome.now) }
 {
     match outcome {
-        Outcome::Done => write_all(err, b""),
-        Outcome::WriteFault => write_all(err, b"lwmap: cannot write\n"),
-        Outcome::Refused(refusal) => tell_refusal(command, refusal, err),
+        Outcome::Done => put(err, waiting, b""),
+        Outcome::WriteFault => put(err, waiting, b"lwmap: cannot write\n"),
+        Outcome::Refused(refusal) => put_line(command, refusal, err, waiting),
     }
 }
 
-fn tell_refusal<E: Sink>(
+fn put_line<E: Sink>(
     command: Option<Command<'_>>,
     refusal: &Refusal,
     err: &mut E,
-) -> Result<(), Failed>
-    ensures ok { OnOk result (Appends (E.taken err.old) (E.taken err.new) (refusal_line (asked command.entry) refusal.now)) }
-    ensures failed { OnErr result (AppendsPrefix (E.taken err.old) (E.taken err.new) (refusal_line (asked command.entry) refusal.now)) }
-    ensures cause { HasCause (E.faults err.old) (E.faults err.new) result }
+    waiting: &mut Waiting,
+)
+    ensures { Puts (E.taken err.old) (E.faults err.old) waiting.old (E.taken err.new) (E.faults err.new) waiting.new (refusal_line (asked command.entry) refusal.now) }
 {
-    let mut digits = Buffer::new();
-    let number = digits.format(line_number(refusal));
-    let line = line_of(command, refusal, number.as_bytes());
-    tell_line(err, line)
+    put(err, waiting, b"lwmap: ");
+    put_refusal(command, refusal, err, waiting);
+    put(err, waiting, b"\n");
 }
 
-/// A line in six parts, before its end.
-#[derive(Clone, Copy, Debug)]
-struct Line<'a> {
-    before: &'a [u8],
-    name: &'a [u8],
-    between: &'a [u8],
-    detail: &'a [u8],
-    behind: &'a [u8],
-    text: &'a [u8],
-}
-
-// The number of a line that is refused, or 0.
-fn line_number(refusal: &Refusal) -> u32
-    ensures { result ≡ line_number refusal.now }
+// A line of a file breaks the rule of this text.
+fn put_broken<E: Sink>(err: &mut E, waiting: &mut Waiting, file: &[u8], number: u32, text: &[u8])
+    ensures { Puts (E.taken err.old) (E.faults err.old) waiting.old (E.taken err.new) (E.faults err.new) waiting.new (broken_text file.now number text.now) }
 {
-    match refusal {
-        Refusal::Library(line, _) | Refusal::Network(line, _) => *line,
-        _ => 0,
-    }
+    put(err, waiting, file);
+    put(err, waiting, b" line ");
+    put_number(err, waiting, u128::from(number));
+    put(err, waiting, b": ");
+    put(err, waiting, text);
 }
 
-fn line_of<'a>(command: Option<Command<'a>>, refusal: &'a Refusal, number: &'a [u8]) -> Line<'a>
-    requires { number.now ≡ decimal (line_number refusal.now) }
-    ensures { parts_of result ≡ refusal_parts (asked command.entry) refusal.now }
-{
-    match refusal {
-        Refusal::Words => whole(USAGE),
-        Refusal::Unread(which) => named(
-            b"lwmap: cannot read ",
-            file_word(command, *which),
-            b"",
-            b"",
-        ),
-        Refusal::TooLong(which) => named(
-            b"lwmap: limit: ",
-            file_word(command, *which),
-            b" has more than 67108864 bytes",
-            b"",
-        ),
-        Refusal::Library(_, kind) => broken(
-            file_word(command, Which::Library),
-            number,
-            lib_text(kind),
-        ),
-        Refusal::Network(_, kind) => broken(
-            file_word(command, Which::Network),
-            number,
-            blif_text(kind),
-        ),
-        Refusal::Undefined(signal) => of_network(command, b": undefined signal ", signal),
-        Refusal::Cycle(signal) => of_network(command, b": cycle through ", signal),
-        Refusal::Forms => whole(b"lwmap: limit: more than 2097152 forms"),
-        Refusal::Splits => whole(b"lwmap: limit: more than 16777216 splits"),
-        Refusal::NoCover(output) => named(
-            b"lwmap: no cover for output ",
-            output.as_bytes(),
-            b"",
-            b"",
-        ),
-        Refusal::Memory => whole(b"lwmap: out of memory"),
-    }
-}
-
-fn whole(before: &[u8]) -> Line<'_>
-    ensures { parts_of result ≡ parts before.now [] [] [] }
-{
-    named(before, b"", b"", b"")
-}
-
-fn named<'a>(before: &'a [u8], name: &'a [u8], between: &'a [u8], detail: &'a [u8]) -> Line<'a>
-    ensures { parts_of result ≡ parts before.now name.now between.now detail.now }
-{
-    Line {
-        before,
-        name,
-        between,
-        detail,
-        behind: b"",
-        text: b"",
-    }
-}
-
-// A signal of the network.
-fn of_network<'a>(command: Option<Command<'a>>, between: &'a [u8], signal: &'a Name) -> Line<'a>
-    ensures { parts_of result ≡ parts (codes "lwmap: ") (file_word (asked command.entry) which.Network) between.now signal.now }
-{
-    let file = file_word(command, Which::Network);
-    named(b"lwmap: ", file, between, signal.as_bytes())
-}
-
-// A line of a file that breaks a rule.
-fn broken<'a>(name: &'a [u8], number: &'a [u8], text: &'a [u8]) -> Line<'a>
-    ensures { parts_of result ≡ line_parts name.now number.now text.now }
-{
-    Line {
-        before: b"lwmap: ",
-        name,
-        between: b" line ",
-        detail: number,
-        behind: b": ",
-        text,
-    }
-}
-
-// Writes the parts of a line one after another, and its end.
-fn tell_line<E: Sink>(err: &mut E, line: Line<'_>) -> Result<(), Failed>
-    ensures ok { OnOk result (Appends (E.taken err.old) (E.taken err.new) (joined (parts_of line.entry))) }
-    ensures failed { OnErr result (AppendsPrefix (E.taken err.old) (E.taken err.new) (joined (parts_of line.entry))) }
-    ensures cause { HasCause (E.faults err.old) (E.faults err.new) result }
-{
-    tell_three(err, line.before, line.name, line.between)?;
-    tell_four(err, line.detail, line.behind, line.text, b"\n")
-}
-
-fn tell_four<E: Sink>(
+// Why there is no answer.
+fn put_refusal<E: Sink>(
+    command: Option<Command<'_>>,
+    refusal: &Refusal,
     err: &mut E,
-    first: &[u8],
-    second: &[u8],
-    third: &[u8],
-    fourth: &[u8],
-) -> Result<(), Failed>
-    ensures ok { OnOk result (Appends (E.taken err.old) (E.taken err.new) (first.now ++ (second.now ++ (third.now ++ fourth.now)))) }
-    ensures failed { OnErr result (AppendsPrefix (E.taken err.old) (E.taken err.new) (first.now ++ (second.now ++ (third.now ++ fourth.now)))) }
-    ensures cause { HasCause (E.faults err.old) (E.faults err.new) result }
+    waiting: &mut Waiting,
+)
+    ensures { Puts (E.taken err.old) (E.faults err.old) waiting.old (E.taken err.new) (E.faults err.new) waiting.new (refusal_text (asked command.entry) refusal.now) }
 {
-    write_all(err, first)?;
-    tell_three(err, second, third, fourth)
+    let library = file_word(command, Which::Library);
+    let network = file_word(command, Which::Network);
+    let mapped = file_word(command, Which::Mapped);
+    let vectors = file_word(command, Which::Vectors);
+    match refusal {
+        Refusal::Words => put(err, waiting, USAGE),
+        Refusal::Unread(w) => put_two(err, waiting, b"cannot read ", file_word(command, *w)),
+        Refusal::TooLong(w) => put_three(
+            err,
+            waiting,
+            b"limit: ",
+            file_word(command, *w),
+            TOO_LONG,
+        ),
+        Refusal::Library(line, kind) => put_broken(err, waiting, library, *line, lib_text(kind)),
+        Refusal::Network(line, kind) => put_broken(err, waiting, network, *line, blif_text(kind)),
+        Refusal::Undefined(s) => put_three(err, waiting, network, UNDEFINED, s.as_bytes()),
+        Refusal::Cycle(s) => put_three(err, waiting, network, CYCLE, s.as_bytes()),
+        Refusal::Mapped(line, kind) => {
+            put_broken(err, waiting, mapped, *line, mapped_kind_text(kind))
+        }
+        Refusal::Twice(net) => put_four(err, waiting, mapped, NET, net.as_bytes(), TWICE),
+        Refusal::Undriven(net) => put_four(err, waiting, mapped, NET, net.as_bytes(), UNDRIVEN),
+        Refusal::NetCycle(net) => put_three(err, waiting, mapped, CYCLE, net.as_bytes()),
+        Refusal::Vector(line) => put_broken(err, waiting, vectors, *line, b"bad vector"),
+        Refusal::Forms => put(err, waiting, b"limit: more than 2097152 forms"),
+        Refusal::Splits => put(err, waiting, b"limit: more than 16777216 splits"),
+        Refusal::NoCover(s) => put_two(err, waiting, b"no cover for output ", s.as_bytes()),
+        Refusal::No(reason) => put_no(err, waiting, reason),
+        Refusal::Memory => put(err, waiting, b"out of memory"),
+    }
 }
 
-fn tell_three<E: Sink>(err: &mut E, first: &[u8], second: &[u8], third: &[u8]) -> Result<(), Failed>
-    ensures ok { OnOk result (Appends (E.taken err.old) (E.taken err.new) (first.now ++ (second.now ++ third.now))) }
-    ensures failed { OnErr result (AppendsPrefix (E.taken err.old) (E.taken err.new) (first.now ++ (second.now ++ third.now))) }
-    ensures cause { HasCause (E.faults err.old) (E.faults err.new) result }
+fn put_no<E: Sink>(err: &mut E, waiting: &mut Waiting, reason: &Reason)
+    ensures { Puts (E.taken err.old) (E.faults err.old) waiting.old (E.taken err.new) (E.faults err.new) waiting.new (codes "no: " ++ reason_text reason.now) }
 {
-    write_all(err, first)?;
-    tell_two(err, second, third)
+    put(err, waiting, b"no: ");
+    put_reason(err, waiting, reason);
 }
 
-fn tell_two<E: Sink>(err: &mut E, first: &[u8], second: &[u8]) -> Result<(), Failed>
-    ensures ok { OnOk result (Appends (E.taken err.old) (E.taken err.new) (first.now ++ second.now)) }
-    ensures failed { OnErr result (AppendsPrefix (E.taken err.old) (E.taken err.new) (first.now ++ second.now)) }
-    ensures cause { HasCause (E.faults err.old) (E.faults err.new) result }
-{
-    write_all(err, first)?;
-    write_all(err, second)
-}
+const TOO_LONG: &[u8] = b" has more than 67108864 bytes";
+
+const UNDEFINED: &[u8] = b": undefined signal ";
+
+const CYCLE: &[u8] = b": cycle through ";
+
+const NET: &[u8] = b": net ";
+
+const TWICE: &[u8] = b" driven twice";
+
+const UNDRIVEN: &[u8] = b" not driven";
 
 const USAGE: &[u8] =
-    b"lwmap: usage: map [-w K] [-i] [-c] LIB IN | check [-w K] [-i] LIB IN MAPPED | time LIB MAPPED | sim IN VECTORS | sim -g LIB MAPPED VECTORS | graph [-w K] [-i] IN | big SEED N LIB";
+    b"usage: map [-w K] [-i] [-c] LIB IN | check [-w K] [-i] LIB IN MAPPED | time LIB MAPPED | sim IN VECTORS | sim -g LIB MAPPED VECTORS | graph [-w K] [-i] IN | big SEED N LIB";

@@ -7,7 +7,7 @@ ghost use Rattle.lw_top.specs.declared.refusal.Which.{Which};
 ghost use Rattle.lw_top.specs.Words.{Command, command_of};
 ghost use Rattle.lw_top.specs.Answers.{IsAnswer, IsReached, status_in, status_of};
 ghost use Rattle.lw_top.specs.Reading.{Known};
-ghost use Rattle.lw_top.specs.Mappings.{IsMappingText, LacksOutput};
+ghost use Rattle.lw_top.specs.Mappings.{AsksForMapping, AsksForCheck, IsMappingText, LacksOutput, IsCheckedMapping};
 ghost use Rattle.lw_top.specs.Outcome.{IsDone, IsCutShort, Meets, outcome_status};
 ghost use Rattle.lw_top.specs.Telling.{Told, outcome_line, refusal_line};
 ghost use Rattle.lw_top.specs.declared.outcome.Outcome.{Outcome};
@@ -38,16 +38,22 @@ pub fn run<F: Shelf, O: Sink, E: Sink>(
     ensures done { result ≡ 0 → ((text : List ℕ) × Known (F.files shelf.old) (IsAnswer (map string_bytes words.now.items)) (Ok text)
         × IsDone O.taken O.is_finished out.old out.new text) }
 
-    // At 0 over known files that text is of a netlist of the library's cells, with the latches of the network's text. It gives each root,
-    // which is an output or what a latch reads, the network's value for all values of the inputs and of the latches' outputs, and brings
-    // it, counted from the inputs' arrivals, at the least time of all covers of all trees that the command's laws derive for it.
-    ensures mapping { (files : List File) → F.files shelf.old ≡ Some files → result ≡ 0
+    // At 0, over known files and where a mapping was asked for, that text is of a netlist of the library's cells, with the latches of the
+    // network's text. It gives each root, which is an output or what a latch reads, the network's value for all values of the inputs and
+    // of the latches' outputs, and brings it, counted from the inputs' arrivals, at the least time of all covers of all trees that the
+    // command's laws derive for it.
+    ensures mapping { (files : List File) → F.files shelf.old ≡ Some files → AsksForMapping (map string_bytes words.now.items) → result ≡ 0
         → ((text : List ℕ) × IsMappingText (map string_bytes words.now.items) (bytes_of files) text × IsDone O.taken O.is_finished out.old out.new text) }
 
-    // At 6 over known files no tree that the command's laws derive for the root whose name is told has a cover.
-    ensures no_cover { (files : List File) → F.files shelf.old ≡ Some files → result ≡ 6
+    // At 6, over known files and where a mapping was asked for, no tree that the command's laws derive for the root whose name is told has
+    // a cover.
+    ensures no_cover { (files : List File) → F.files shelf.old ≡ Some files → AsksForMapping (map string_bytes words.now.items) → result ≡ 6
         → ((name : List ℕ) × LacksOutput (map string_bytes words.now.items) (bytes_of files) name
         × Told E.taken E.faults err.old err.new (refusal_line (command_of (map string_bytes words.now.items)) (Refusal.NoCover name))) }
+
+    // At 0, over known files and where a check was asked for, the mapped netlist is such a mapping of the network, whoever wrote it.
+    ensures checked { (files : List File) → F.files shelf.old ≡ Some files → AsksForCheck (map string_bytes words.now.items) → result ≡ 0
+        → IsCheckedMapping (map string_bytes words.now.items) (bytes_of files) }
 
     // At 7 the stream failed, and a prefix of the text that 0 would have written went out.
     ensures cut_short { result ≡ 7 → ((text : List ℕ) × Known (F.files shelf.old) (IsAnswer (map string_bytes words.now.items)) (Ok text)
@@ -103,6 +109,12 @@ fn status_of(refusal: &Refusal) -> u8
         Refusal::TooLong(_) | Refusal::Forms | Refusal::Splits => 5,
         Refusal::NoCover(_) => 6,
         Refusal::Memory => 8,
+        Refusal::No(_) => 9,
+        Refusal::Mapped(..)
+        | Refusal::Twice(_)
+        | Refusal::Undriven(_)
+        | Refusal::NetCycle(_)
+        | Refusal::Vector(_) => 10,
     }
 }
 

@@ -1,29 +1,70 @@
 // The words of a command.
-ghost use Rattle.std.specs.Prelude.{◌≡◌, map, string_bytes};
-ghost use Rattle.lw_top.specs.Words.{width_of, is_file_word, mapping_of, at_width, with_width, command_of, file_word};
-ghost use Rattle.lw_top.specs.Commands.{plain_options, asked};
+ghost use Rattle.std.specs.Prelude.{◌≡◌, None, Some, map, string_bytes, option_map, MatchOption};
+ghost use Rattle.std.specs.List.{list_all};
+ghost use Rattle.std.specs.Char.{is_ascii_digit};
+ghost use Rattle.lw_top.specs.Words.{width_of, is_file_word, two, three, one_file, two_files, three_files, with_mode, with_width, begun_by, is_numeral, number_of, seed_of, count_of, certified_of, mapping_begun, checking_begun, counting_begun, timing_of, simulation_of, drawing_of, named, command_of, file_word};
+ghost use Rattle.lw_top.specs.Commands.{plain_begun, asked};
+ghost use Rattle.lw_map.specs.Options.{plain_options};
 
 use crate::refusal::Which;
 use lw_assoc::Mode;
-
-/// How a network is decomposed: the most operands of an And, and the laws.
-#[derive(Clone, Copy, Debug)]
-pub struct Options {
-    pub width: u8,
-    pub mode: Mode,
-}
+use lw_map::Options;
 
 /// A command, with its options and the words for its files.
 #[derive(Clone, Copy, Debug)]
 pub enum Command<'a> {
-    /// The network mapped to cells of the library.
-    Mapping(Options, &'a str, &'a str),
+    /// The network mapped to cells of the library, with its certificate or without.
+    Mapping(Options, bool, &'a str, &'a str),
+    /// A mapped netlist with its certificate, checked against the library and the network.
+    Checking(Options, &'a str, &'a str, &'a str),
+    /// When the outputs of a mapped netlist arrive.
+    Timing(&'a str, &'a str),
+    /// The values of a network's outputs.
+    Simulation(&'a str, &'a str),
+    /// The values of a mapped netlist's outputs.
+    GateSimulation(&'a str, &'a str, &'a str),
+    /// How large the graph of a network's forms is.
+    Counting(Options, &'a str),
+    /// A network drawn from a number, of so many nodes, mapped to cells of the library.
+    Drawing(u64, u32, &'a str),
 }
 
 fn is_file_word(word: &str) -> bool
     ensures { result ≡ is_file_word word.now }
 {
     !word.starts_with("-")
+}
+
+fn one_file(words: &[String]) -> Option<&str>
+    ensures { MatchOption result (one_file (map string_bytes words.now) ≡ None) (λ a. one_file (map string_bytes words.now) ≡ Some a.now) }
+{
+    match words {
+        [a] if is_file_word(a.as_str()) => Some(a.as_str()),
+        _ => None,
+    }
+}
+
+fn two_files(words: &[String]) -> Option<(&str, &str)>
+    ensures { MatchOption result (two_files (map string_bytes words.now) ≡ None) (λ files. two_files (map string_bytes words.now) ≡ Some (two files.0.now files.1.now)) }
+{
+    match words {
+        [a, b] if is_file_word(a.as_str()) && is_file_word(b.as_str()) => {
+            Some((a.as_str(), b.as_str()))
+        }
+        _ => None,
+    }
+}
+
+fn three_files(words: &[String]) -> Option<(&str, &str, &str)>
+    ensures { MatchOption result (three_files (map string_bytes words.now) ≡ None) (λ files. three_files (map string_bytes words.now) ≡ Some (three files.0.now files.1.now files.2.now)) }
+{
+    match words {
+        [a, b, c]
+            if is_file_word(a.as_str()) && is_file_word(b.as_str()) && is_file_word(c.as_str()) => {
+            Some((a.as_str(), b.as_str(), c.as_str()))
+        }
+        _ => None,
+    }
 }
 
 // One of the words `2` to `8`.
@@ -36,44 +77,185 @@ fn width_of(word: &str) -> Option<u8>
     }
 }
 
-// `LIB IN`.
-fn mapping_of(options: Options, words: &[String]) -> Option<Command<'_>>
-    ensures { asked result ≡ mapping_of (plain_options options) (map string_bytes words.now) }
+/// Options, and the words behind them.
+#[derive(Clone, Copy, Debug)]
+pub struct Begun<'a> {
+    options: Options,
+    rest: &'a [String],
+}
+
+// `[-i]`, behind the width.
+fn with_mode(width: u8, words: &[String]) -> Begun<'_>
+    ensures { plain_begun result ≡ with_mode width (map string_bytes words.now) }
 {
     match words {
-        [library, network] if is_file_word(library.as_str()) && is_file_word(network.as_str()) => {
-            Some(Command::Mapping(options, library.as_str(), network.as_str()))
+        [option, rest @ ..] if option.as_str() == "-i" => {
+            let mode = Mode::Idempotent;
+            Begun {
+                options: Options { width, mode },
+                rest,
+            }
+        }
+        _ => {
+            let mode = Mode::Plain;
+            Begun {
+                options: Options { width, mode },
+                rest: words,
+            }
+        }
+    }
+}
+
+// `[-w K] [-i]`, at width 6 without the first.
+fn begun_by(words: &[String]) -> Option<Begun<'_>>
+    ensures { option_map plain_begun result ≡ begun_by (map string_bytes words.now) }
+{
+    match words {
+        [option, word, rest @ ..] if option.as_str() == "-w" => {
+            Some(with_mode(width_of(word.as_str())?, rest))
+        }
+        _ => Some(with_mode(6, words)),
+    }
+}
+
+// Whether each byte is a decimal digit.
+fn are_digits(bytes: &[u8]) -> bool
+    ensures { result ≡ list_all is_ascii_digit bytes.now }
+{
+    bytes.iter().all(|b| b.is_ascii_digit())
+}
+
+// One digit or more, and nothing else.
+fn is_numeral(word: &str) -> bool
+    ensures { result ≡ is_numeral word.now }
+{
+    1 <= word.len() && are_digits(word.as_bytes())
+}
+
+// A decimal numeral below 2^64.
+fn number_of(word: &str) -> Option<u64>
+    ensures { result ≡ number_of word.now }
+{
+    if !is_numeral(word) {
+        return None;
+    }
+    match word.parse::<u64>() {
+        Ok(number) => Some(number),
+        Err(_) => None,
+    }
+}
+
+// Of at most 20 digits.
+fn seed_of(word: &str) -> Option<u64>
+    ensures { result ≡ seed_of word.now }
+{
+    if word.len() <= 20 {
+        number_of(word)
+    } else {
+        None
+    }
+}
+
+// Without leading zero, from 1 to 20000.
+fn count_of(word: &str) -> Option<u32>
+    ensures { result ≡ count_of word.now }
+{
+    if word.starts_with("0") {
+        return None;
+    }
+    match number_of(word) {
+        Some(n) if 1 <= n && n <= 20_000 => Some(n as u32),
+        _ => None,
+    }
+}
+
+// `[-c] LIB IN`.
+fn certified_of(options: Options, words: &[String]) -> Option<Command<'_>>
+    ensures { asked result ≡ certified_of (plain_options options) (map string_bytes words.now) }
+{
+    match words {
+        [option, rest @ ..] if option.as_str() == "-c" => {
+            let (library, network) = two_files(rest)?;
+            Some(Command::Mapping(options, true, library, network))
+        }
+        _ => {
+            let (library, network) = two_files(words)?;
+            Some(Command::Mapping(options, false, library, network))
+        }
+    }
+}
+
+fn mapping_of(words: &[String]) -> Option<Command<'_>>
+    ensures { asked result ≡ mapping_begun (begun_by (map string_bytes words.now)) }
+{
+    let begun = begun_by(words)?;
+    certified_of(begun.options, begun.rest)
+}
+
+fn checking_of(words: &[String]) -> Option<Command<'_>>
+    ensures { asked result ≡ checking_begun (begun_by (map string_bytes words.now)) }
+{
+    let begun = begun_by(words)?;
+    let (library, network, mapped) = three_files(begun.rest)?;
+    Some(Command::Checking(begun.options, library, network, mapped))
+}
+
+fn counting_of(words: &[String]) -> Option<Command<'_>>
+    ensures { asked result ≡ counting_begun (begun_by (map string_bytes words.now)) }
+{
+    let begun = begun_by(words)?;
+    let network = one_file(begun.rest)?;
+    Some(Command::Counting(begun.options, network))
+}
+
+fn timing_of(words: &[String]) -> Option<Command<'_>>
+    ensures { asked result ≡ timing_of (two_files (map string_bytes words.now)) }
+{
+    let (library, mapped) = two_files(words)?;
+    Some(Command::Timing(library, mapped))
+}
+
+// `IN VECTORS`, or `-g LIB MAPPED VECTORS`.
+fn simulation_of(words: &[String]) -> Option<Command<'_>>
+    ensures { asked result ≡ simulation_of (map string_bytes words.now) }
+{
+    match words {
+        [option, rest @ ..] if option.as_str() == "-g" => {
+            let (library, mapped, vectors) = three_files(rest)?;
+            Some(Command::GateSimulation(library, mapped, vectors))
+        }
+        _ => {
+            let (network, vectors) = two_files(words)?;
+            Some(Command::Simulation(network, vectors))
+        }
+    }
+}
+
+// `SEED N LIB`.
+fn drawing_of(words: &[String]) -> Option<Command<'_>>
+    ensures { asked result ≡ drawing_of (map string_bytes words.now) }
+{
+    match words {
+        [seed, count, rest @ ..] => {
+            let seed = seed_of(seed.as_str())?;
+            let count = count_of(count.as_str())?;
+            let library = one_file(rest)?;
+            Some(Command::Drawing(seed, count, library))
         }
         _ => None,
     }
 }
 
-// `[-i] LIB IN`, behind the width, where there is one.
-fn at_width(width: Option<u8>, words: &[String]) -> Option<Command<'_>>
-    ensures { asked result ≡ at_width width (map string_bytes words.now) }
+fn named<'a>(name: &str, words: &'a [String]) -> Option<Command<'a>>
+    ensures { asked result ≡ named name.now (map string_bytes words.now) }
 {
-    let width = width?;
-    match words {
-        [option, rest @ ..] if option.as_str() == "-i" => {
-            let mode = Mode::Idempotent;
-            mapping_of(Options { width, mode }, rest)
-        }
-        _ => {
-            let mode = Mode::Plain;
-            mapping_of(Options { width, mode }, words)
-        }
-    }
-}
-
-// `[-w K] [-i] LIB IN`, at width 6 without the option.
-fn with_width(words: &[String]) -> Option<Command<'_>>
-    ensures { asked result ≡ with_width (map string_bytes words.now) }
-{
-    match words {
-        [option, word, rest @ ..] if option.as_str() == "-w" => {
-            at_width(width_of(word.as_str()), rest)
-        }
-        [_, _, ..] => at_width(Some(6), words),
+    match name {
+        "map" => mapping_of(words),
+        "check" => checking_of(words),
+        "time" => timing_of(words),
+        "sim" => simulation_of(words),
+        "graph" => counting_of(words),
+        "big" => drawing_of(words),
         _ => None,
     }
 }
@@ -83,7 +265,7 @@ pub fn command_of(words: &[String]) -> Option<Command<'_>>
     ensures { asked result ≡ command_of (map string_bytes words.now) }
 {
     match words {
-        [name, rest @ ..] if name.as_str() == "map" => with_width(rest),
+        [name, rest @ ..] => named(name.as_str(), rest),
         _ => None,
     }
 }
@@ -93,8 +275,37 @@ pub fn file_word<'a>(command: Option<Command<'a>>, which: Which) -> &'a [u8]
     ensures { result.now ≡ file_word (asked command.entry) which }
 {
     match (command, which) {
-        (Some(Command::Mapping(_, library, _)), Which::Library) => library.as_bytes(),
-        (Some(Command::Mapping(_, _, network)), Which::Network) => network.as_bytes(),
-        (None, _) => b"",
+        (
+            Some(
+                Command::Mapping(_, _, library, _)
+                | Command::Checking(_, library, _, _)
+                | Command::Timing(library, _)
+                | Command::GateSimulation(library, _, _)
+                | Command::Drawing(_, _, library),
+            ),
+            Which::Library,
+        ) => library.as_bytes(),
+        (
+            Some(
+                Command::Mapping(_, _, _, network)
+                | Command::Checking(_, _, network, _)
+                | Command::Simulation(network, _)
+                | Command::Counting(_, network),
+            ),
+            Which::Network,
+        ) => network.as_bytes(),
+        (
+            Some(
+                Command::Checking(_, _, _, mapped)
+                | Command::Timing(_, mapped)
+                | Command::GateSimulation(_, mapped, _),
+            ),
+            Which::Mapped,
+        ) => mapped.as_bytes(),
+        (
+            Some(Command::Simulation(_, vectors) | Command::GateSimulation(_, _, vectors)),
+            Which::Vectors,
+        ) => vectors.as_bytes(),
+        _ => b"",
     }
 }

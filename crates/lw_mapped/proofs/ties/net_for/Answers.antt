@@ -1,4 +1,4 @@
-use Rattle.std.proofs.Common.{◌≡◌, ◌≤◌, ◌+◌, length, drop, ap, sym, ◌∙◌, arith}
+use Rattle.std.proofs.Common.{◌≤◌, ◌+◌, length, drop, ap, sym, ◌∙◌, arith}
 use Rattle.std.specs.Str.{bytes_eq}
 use Rattle.lw_mapped.specs.GateLines.{net_for}
 use Rattle.lw_mapped.proofs.WordLists.{drop-get, drop-all}

@@ -2,4 +2,4 @@ use Rattle.lw_top.proofs.Uncovered.{no_cover_exactly}
 use Rattle.lw_top.proofs.laws.uncovered_roots_are_refused.Goals as goal
 
 pub returns : goal.returns
-returns c = λ words files options cells model a read within answer. no_cover_exactly words files options cells model read within a answer
+returns c = λ words files options certified cells model a read within answer. no_cover_exactly words files options certified cells model read within a answer

@@ -2,15 +2,16 @@ use Rattle.std.proofs.Common.{sym, ◌∙◌, map, string_bytes}
 use Rattle.lw_top.specs.Words.{command_of}
 use Rattle.lw_top.specs.Answers.{IsAnswer}
 use Rattle.lw_top.specs.Telling.{Told}
-use Rattle.lw_top.proofs.Widths.{asked_wide}
+use Rattle.lw_top.proofs.InRange.{asked_in_range}
 use Rattle.lw_top.proofs.Whole.{unread, done, cut, agrees, complete}
 use Rattle.lw_top.proofs.Headline.{done-maps, named-lacks}
+use Rattle.lw_top.proofs.Checked.{done_checked}
 use Rattle.lw_top.proofs.Reached.{blamed}
 use Rattle.lw_top.proofs.Prefix.{told}
 use Rattle.lw_top.proofs.top.run.Goals as goal
 
 pub serve-outcome-requires : goal.serve-outcome-requires
-serve-outcome-requires g c = asked_wide _ (map string_bytes c.args.words.now.items) (rw c.deref.ensures.value at c.command_of-command.ensures)
+serve-outcome-requires g c = asked_in_range _ (map string_bytes c.args.words.now.items) (rw c.deref.ensures.value at c.command_of-command.ensures)
 
 pub returns-clause-unread : goal.returns-clause-unread
 returns-clause-unread g c = λ is.
@@ -38,25 +39,30 @@ returns-clause-complete g c = λ files is quiet steady.
     complete (g.F.Shelf.files c.args.shelf.now) (g.F.Shelf.faults c.args.shelf.now) (g.F.Shelf.faults c.serve-outcome.new.shelf) g.O.Sink.taken g.O.Sink.is_finished g.O.Sink.faults c.args.out.now c.serve-outcome.new.out (IsAnswer (map string_bytes c.args.words.now.items)) c.serve-outcome.result c.status.result files (rw asks at c.serve-outcome.ensures.meets) c.status.ensures is quiet steady
 
 pub returns-clause-mapping : goal.returns-clause-mapping
-returns-clause-mapping g c = λ files is zero.
+returns-clause-mapping g c = λ files is asks_for zero.
     let asks = rw c.deref.ensures.value at c.command_of-command.ensures in
-    done-maps (map string_bytes c.args.words.now.items) (g.F.Shelf.files c.args.shelf.now) (g.F.Shelf.faults c.args.shelf.now) (g.F.Shelf.faults c.serve-outcome.new.shelf) g.O.Sink.taken g.O.Sink.is_finished g.O.Sink.faults c.args.out.now c.serve-outcome.new.out (Told g.E.Sink.taken g.E.Sink.faults c.args.err.now c.tell.new.err) c.serve-outcome.result (rw asks at c.serve-outcome.ensures.meets) files is (sym zero ∙ c.status.ensures)
+    done-maps (map string_bytes c.args.words.now.items) (g.F.Shelf.files c.args.shelf.now) (g.F.Shelf.faults c.args.shelf.now) (g.F.Shelf.faults c.serve-outcome.new.shelf) g.O.Sink.taken g.O.Sink.is_finished g.O.Sink.faults c.args.out.now c.serve-outcome.new.out (Told g.E.Sink.taken g.E.Sink.faults c.args.err.now c.tell.new.err) asks_for c.serve-outcome.result (rw asks at c.serve-outcome.ensures.meets) files is (sym zero ∙ c.status.ensures)
 
 pub returns-clause-no_cover : goal.returns-clause-no_cover
-returns-clause-no_cover g c = λ files is six.
+returns-clause-no_cover g c = λ files is asks_for six.
     let asks = rw c.deref.ensures.value at c.command_of-command.ensures in
-    let said = told _ _ _ _ _ c.tell.result c.tell.ensures.ok c.tell.ensures.failed c.tell.ensures.cause in
-    named-lacks (map string_bytes c.args.words.now.items) (g.F.Shelf.files c.args.shelf.now) (g.F.Shelf.faults c.args.shelf.now) (g.F.Shelf.faults c.serve-outcome.new.shelf) g.O.Sink.taken g.O.Sink.is_finished g.O.Sink.faults c.args.out.now c.serve-outcome.new.out (Told g.E.Sink.taken g.E.Sink.faults c.args.err.now c.tell.new.err) c.serve-outcome.result (rw asks at c.serve-outcome.ensures.meets) (simp asks at said) files is (sym six ∙ c.status.ensures)
+    let said = told _ _ _ _ _ c.tell.result c.tell.ensures in
+    named-lacks (map string_bytes c.args.words.now.items) (g.F.Shelf.files c.args.shelf.now) (g.F.Shelf.faults c.args.shelf.now) (g.F.Shelf.faults c.serve-outcome.new.shelf) g.O.Sink.taken g.O.Sink.is_finished g.O.Sink.faults c.args.out.now c.serve-outcome.new.out (Told g.E.Sink.taken g.E.Sink.faults c.args.err.now c.tell.new.err) asks_for c.serve-outcome.result (rw asks at c.serve-outcome.ensures.meets) (simp asks at said) files is (sym six ∙ c.status.ensures)
 
 pub returns-clause-blamed : goal.returns-clause-blamed
 returns-clause-blamed g c = λ two.
     let asks = rw c.deref.ensures.value at c.command_of-command.ensures in
-    let said = told _ _ _ _ _ c.tell.result c.tell.ensures.ok c.tell.ensures.failed c.tell.ensures.cause in
+    let said = told _ _ _ _ _ c.tell.result c.tell.ensures in
     let words = rw asks at c.serve-outcome.ensures.words in
     blamed (g.F.Shelf.files c.args.shelf.now) (Told g.E.Sink.taken g.E.Sink.faults c.args.err.now c.tell.new.err) c.serve-outcome.result (command_of (map string_bytes c.args.words.now.items)) (sym c.status.ensures ∙ two) words.1 (rw asks at c.serve-outcome.ensures.reached) (simp asks at said)
 
 pub returns-clause-told : goal.returns-clause-told
 returns-clause-told g c =
     let asks = rw c.deref.ensures.value at c.command_of-command.ensures in
-    let said = told _ _ _ _ _ c.tell.result c.tell.ensures.ok c.tell.ensures.failed c.tell.ensures.cause in
+    let said = told _ _ _ _ _ c.tell.result c.tell.ensures in
     (c.serve-outcome.result, c.status.ensures, rw asks at c.serve-outcome.ensures.meets, simp asks at said)
+
+pub returns-clause-checked : goal.returns-clause-checked
+returns-clause-checked g c = λ files is asks_for zero.
+    let asks = rw c.deref.ensures.value at c.command_of-command.ensures in
+    done_checked (map string_bytes c.args.words.now.items) (g.F.Shelf.files c.args.shelf.now) (g.F.Shelf.faults c.args.shelf.now) (g.F.Shelf.faults c.serve-outcome.new.shelf) g.O.Sink.taken g.O.Sink.is_finished g.O.Sink.faults c.args.out.now c.serve-outcome.new.out asks_for c.serve-outcome.result (rw asks at c.serve-outcome.ensures.meets) files is (sym zero ∙ c.status.ensures)

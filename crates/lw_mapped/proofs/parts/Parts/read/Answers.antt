@@ -1,12 +1,10 @@
-use Rattle.std.proofs.Common.{◌≡◌, ◌++◌, ◌∷◌, [], ℕ, Bool, Option, Some, None, Ok, Err, cond, drop, ap, sym, ◌∙◌, subst}
+use Rattle.std.proofs.Common.{Option, Some, None, Err, cond, drop, ap, sym, ◌∙◌, subst}
 use Rattle.lw_words.specs.Lines.{LogicalLine}
 use Rattle.lw_mapped.specs.declared.fault.MappedKind.{MappedKind}
 use Rattle.lw_mapped.specs.declared.fault.MappedKind.TheVariants as kind
-use Rattle.lw_mapped.specs.declared.contents.Contents.{Contents}
 use Rattle.lw_mapped.specs.Parsed.{TellsFault, Says}
 use Rattle.lw_mapped.specs.Sayings.{command_says}
-use Rattle.lw_mapped.specs.Keeping.{Keeps}
-use Rattle.lw_mapped.specs.LineFaults.{is_row, is_names_command, lines_say, saying_fault, told_fault, wire_without_row}
+use Rattle.lw_mapped.specs.LineFaults.{is_row, is_names_command, lines_say}
 use Rattle.lw_mapped.proofs.ReadingLemmas.{fault-long, fault-row, fault-says, wire-last, refused-alone, said-told, said-keeps, is-wire, no-wire, row-ok, row-keeps, take-ok}
 use Rattle.lw_mapped.proofs.parts.Parts.read.Goals as goal
 

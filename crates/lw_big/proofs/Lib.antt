@@ -1,0 +1,7 @@
+pub mod Drafts
+pub mod Examples
+pub mod Kept
+pub mod Lowering
+pub mod Ranges
+pub mod SignalNames
+pub mod Stepping

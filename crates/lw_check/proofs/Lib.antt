@@ -1,0 +1,16 @@
+pub mod Accepting
+pub mod Agreeing
+pub mod Failures
+pub mod Inputs
+pub mod Judging
+pub mod Lesser
+pub mod Looking
+pub mod Matching
+pub mod Naming
+pub mod Places
+pub mod Reasons
+pub mod Spanning
+pub mod Standings
+pub mod Table
+pub mod Timely
+pub mod Unknown

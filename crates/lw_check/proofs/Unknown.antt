@@ -1,0 +1,177 @@
+-- The class numbers of a certificate.
+use Rattle.std.proofs.Common.{ℕ, zero, suc, ◌+◌, ◌<◌, ◌≤◌, ◌≡◌, Bool, true, false, cond, leb, nat_le, List, [], ◌∷◌, ◌++◌, length, map, drop, Option, Some, None, find, option_map, slice_get, slice_index_or, refl, ap, sym, ◌∙◌, subst, arith}
+use Rattle.std.specs.List.{AllByRecursion, filter_map}
+use Rattle.std.proofs.lemmas.Bool.Decides.{nat_tests}
+use Rattle.std.proofs.lemmas.Option.{same_Some, none-some}
+use Rattle.lw_fixed.specs.declared.micro.Micro.{Micro}
+use Rattle.lw_pool.specs.declared.id.ClassId.{ClassId}
+use Rattle.lw_mapped.specs.declared.certificate.Certificate.{Certificate}
+use Rattle.lw_check.specs.Claims.{class_number, class_numbers, labelled_from}
+
+abbrev numbers_of : List (Option ClassId) → List ℕ
+numbers_of nets = filter_map (option_map class_number) nets
+
+le_false : (n c : ℕ) → c < n → leb n c ≡ false
+le_false n c lt = grind (arith, nat_tests)
+
+module _ (n : ℕ) where
+  -- where all are below the number, none is found that is not
+  pub none_found : (xs : List ℕ) → AllByRecursion (λ c. c < n) xs → find (nat_le n) xs ≡ None
+  none_found [] a = refl
+  none_found (x ∷ xs) (lt, a) = subst (λ t. cond t (Some x) (find (nat_le n) xs) ≡ None) (sym (le_false n x lt)) (none_found xs a)
+
+  pub all_below : (xs : List ℕ) → find (nat_le n) xs ≡ None → AllByRecursion (λ c. c < n) xs
+  all_below [] e = tt
+  all_below (x ∷ xs) e = by_test (leb n x) refl e (all_below xs)
+    where
+      by_test : (t : Bool) → leb n x ≡ t → cond t (Some x) (find (nat_le n) xs) ≡ None → (find (nat_le n) xs ≡ None → AllByRecursion (λ c. c < n) xs) → (x < n) × AllByRecursion (λ c. c < n) xs
+      by_test true s f ih = cc
+      by_test false s f ih = (not_le s, ih f)
+        where
+          not_le : leb n x ≡ false → x < n
+          not_le s = grind (arith, nat_tests)
+
+  -- the first of two lists decides, or else the second
+  pub found_first : (xs ys : List ℕ) (c : ℕ) → find (nat_le n) xs ≡ Some c → find (nat_le n) (xs ++ ys) ≡ Some c
+  found_first [] ys c e = absurd (none-some c e)
+  found_first (x ∷ xs) ys c e = by_test (leb n x) e (found_first xs ys c)
+    where
+      by_test : (t : Bool) → cond t (Some x) (find (nat_le n) xs) ≡ Some c → (find (nat_le n) xs ≡ Some c → find (nat_le n) (xs ++ ys) ≡ Some c) → cond t (Some x) (find (nat_le n) (xs ++ ys)) ≡ Some c
+      by_test true e ih = e
+      by_test false e ih = ih e
+
+  pub found_second : (xs ys : List ℕ) → find (nat_le n) xs ≡ None → find (nat_le n) (xs ++ ys) ≡ find (nat_le n) ys
+  found_second [] ys e = refl
+  found_second (x ∷ xs) ys e = by_test (leb n x) e (found_second xs ys)
+    where
+      by_test : (t : Bool) → cond t (Some x) (find (nat_le n) xs) ≡ None → (find (nat_le n) xs ≡ None → find (nat_le n) (xs ++ ys) ≡ find (nat_le n) ys) → cond t (Some x) (find (nat_le n) (xs ++ ys)) ≡ find (nat_le n) ys
+      by_test true e ih = cc
+      by_test false e ih = ih e
+
+  -- labelled classes below the number
+  pub labelled_below : (ls : List (Option Micro)) (k : ℕ) → ((j : ℕ) (l : Micro) → slice_index_or ls j None ≡ Some l → k + j < n) → AllByRecursion (λ c. c < n) (labelled_from k ls)
+  labelled_below [] k h = tt
+  labelled_below (None ∷ ls) k h = labelled_below ls (suc k) (λ j l e. let lt = h (suc j) l e in omega arith)
+  labelled_below (Some l ∷ ls) k h = (let lt = h zero l refl in omega arith, labelled_below ls (suc k) (λ j m e. let lt = h (suc j) m e in omega arith))
+
+  pub below_labelled : (ls : List (Option Micro)) (k : ℕ) → AllByRecursion (λ c. c < n) (labelled_from k ls) → (j : ℕ) (l : Micro) → slice_index_or ls j None ≡ Some l → k + j < n
+  below_labelled [] k a j l e = absurd (none-some l e)
+  below_labelled (None ∷ ls) k a zero l e = absurd (none-some l e)
+  below_labelled (None ∷ ls) k a (suc j) l e = let lt = below_labelled ls (suc k) a j l e in omega arith
+  below_labelled (Some m ∷ ls) k (lt, a) zero l e = omega arith
+  below_labelled (Some m ∷ ls) k (here, a) (suc j) l e = let lt = below_labelled ls (suc k) a j l e in omega arith
+
+  pub below_nets : (nets : List (Option ClassId)) → AllByRecursion (λ c. c < n) (numbers_of nets) → (j : ℕ) (c : ClassId) → slice_index_or nets j None ≡ Some c → c.0 < n
+  below_nets [] a j c e = absurd (none-some c e)
+  below_nets (None ∷ nets) a zero c e = absurd (none-some c e)
+  below_nets (None ∷ nets) a (suc j) c e = below_nets nets a j c e
+  below_nets (Some d ∷ nets) (lt, a) zero c e = subst (λ (x : ClassId). x.0 < n) (same_Some d c e) lt
+  below_nets (Some d ∷ nets) (lt, a) (suc j) c e = below_nets nets a j c e
+
+  pub split_all : (xs ys : List ℕ) → AllByRecursion (λ c. c < n) (xs ++ ys) → AllByRecursion (λ c. c < n) xs × AllByRecursion (λ c. c < n) ys
+  split_all [] ys a = (tt, a)
+  split_all (x ∷ xs) ys (lt, a) = let (b, c) = split_all xs ys a in ((lt, b), c)
+
+  -- where each class number is known, so is each labelled class and each class of a gate
+  module _ (cert : Certificate) (known : find (nat_le n) (class_numbers cert) ≡ None) where
+    pub label_known : (c : ℕ) (l : Micro) → slice_index_or cert.labels c None ≡ Some l → c < n
+    label_known c l e =
+        let both = split_all (labelled_from 0 cert.labels) (numbers_of cert.nets) (all_below (class_numbers cert) known) in
+        let lt = below_labelled cert.labels 0 both.0 c l e in
+        omega arith
+
+    pub net_known : (j : ℕ) (c : ClassId) → slice_index_or cert.nets j None ≡ Some c → c.0 < n
+    net_known j c e =
+        let both = split_all (labelled_from 0 cert.labels) (numbers_of cert.nets) (all_below (class_numbers cert) known) in
+        below_nets cert.nets both.1 j c e
+
+  pub nets_below : (nets : List (Option ClassId)) (gates : List ℕ) → map (option_map class_number) nets ≡ map Some gates → AllByRecursion (λ c. c < n) gates → AllByRecursion (λ c. c < n) (numbers_of nets)
+  nets_below [] gates e a = tt
+  nets_below (None ∷ nets) [] e a = cc
+  nets_below (None ∷ nets) (g ∷ gates) e a = cc
+  nets_below (Some c ∷ nets) [] e a = cc
+  nets_below (Some c ∷ nets) (g ∷ gates) e (lt, a) =
+      let head : Some c.0 ≡ Some g = cc in
+      let same : c.0 ≡ g = same_Some c.0 g head in
+      (subst (λ k. k < n) (sym same) lt, nets_below nets gates (cc) a)
+
+-- the labelled classes are the same where the labels are
+pub labelled_same : (xs ys : List (Option Micro)) (k : ℕ) → ((j : ℕ) → slice_index_or xs j None ≡ slice_index_or ys j None) → labelled_from k xs ≡ labelled_from k ys
+labelled_same [] [] k h = refl
+labelled_same [] (None ∷ ys) k h = labelled_same [] ys (suc k) (λ j. h (suc j))
+labelled_same [] (Some b ∷ ys) k h = absurd (none-some b (h zero))
+labelled_same (None ∷ xs) [] k h = labelled_same xs [] (suc k) (λ j. h (suc j))
+labelled_same (Some a ∷ xs) [] k h = absurd (none-some a (sym (h zero)))
+labelled_same (None ∷ xs) (None ∷ ys) k h = labelled_same xs ys (suc k) (λ j. h (suc j))
+labelled_same (None ∷ xs) (Some b ∷ ys) k h = absurd (none-some b (h zero))
+labelled_same (Some a ∷ xs) (None ∷ ys) k h = absurd (none-some a (sym (h zero)))
+labelled_same (Some a ∷ xs) (Some b ∷ ys) k h = ap (λ cs. k ∷ cs) (labelled_same xs ys (suc k) (λ j. h (suc j)))
+
+module _ (n : ℕ) where
+  -- the classes below the number are passed over
+  pub skipped : (ls : List (Option Micro)) (m k : ℕ) → m + k ≤ n → find (nat_le n) (labelled_from m ls) ≡ find (nat_le n) (labelled_from (m + k) (drop k ls))
+  skipped ls m zero le = let e : m ≡ m + 0 = omega arith in ap (λ i. find (nat_le n) (labelled_from i ls)) e
+  skipped [] m (suc k) le = refl
+  skipped (None ∷ ls) m (suc k) le =
+      let e : suc m + k ≡ m + suc k = omega arith in
+      skipped ls (suc m) k (omega arith) ∙ ap (λ i. find (nat_le n) (labelled_from i (drop k ls))) e
+  skipped (Some l ∷ ls) m (suc k) le =
+      let e : suc m + k ≡ m + suc k = omega arith in
+      let low : m < n = omega arith in
+      subst (λ t. cond t (Some m) (find (nat_le n) (labelled_from (suc m) ls)) ≡ find (nat_le n) (labelled_from (suc m) ls)) (sym (le_false n m low)) refl ∙ (skipped ls (suc m) k (omega arith) ∙ ap (λ i. find (nat_le n) (labelled_from i (drop k ls))) e)
+
+  -- one more class without a label, and one with a label
+  pub labelled_next : (ls : List (Option Micro)) (m k : ℕ) → slice_index_or ls k None ≡ None → labelled_from m (drop k ls) ≡ labelled_from (m + 1) (drop (k + 1) ls)
+  labelled_next [] m k e = ap (λ ls. labelled_from m ls) (drop_none k) ∙ ap (λ ls. labelled_from (m + 1) ls) (sym (drop_none (k + 1)))
+    where
+      drop_none : (j : ℕ) → drop {A = Option Micro} j [] ≡ []
+      drop_none zero = refl
+      drop_none (suc j) = refl
+  labelled_next (None ∷ ls) m zero e = let f : suc m ≡ m + 1 = omega arith in ap (λ i. labelled_from i ls) f
+  labelled_next (Some l ∷ ls) m zero e = absurd (none-some l (sym e))
+  labelled_next (o ∷ ls) m (suc k) e =
+      let f : suc (k + 1) ≡ suc k + 1 = omega arith in
+      labelled_next ls m k e ∙ ap (λ i. labelled_from (m + 1) (drop i (o ∷ ls))) f
+
+  pub labelled_here : (ls : List (Option Micro)) (m k : ℕ) (l : Micro) → slice_index_or ls k None ≡ Some l → n ≤ m → find (nat_le n) (labelled_from m (drop k ls)) ≡ Some m
+  labelled_here [] m k l e le = absurd (none-some l e)
+  labelled_here (None ∷ ls) m zero l e le = absurd (none-some l e)
+  labelled_here (Some x ∷ ls) m zero l e le = subst (λ t. cond t (Some m) (find (nat_le n) (labelled_from (suc m) ls)) ≡ Some m) (sym (true_le m le)) refl
+    where
+      true_le : (m : ℕ) → n ≤ m → leb n m ≡ true
+      true_le m le = grind (arith, nat_tests)
+  labelled_here (o ∷ ls) m (suc k) l e le = labelled_here ls m k l e le
+
+  pub labelled_end : (ls : List (Option Micro)) (m k : ℕ) → length ls ≤ k → find (nat_le n) (labelled_from m (drop k ls)) ≡ None
+  labelled_end [] m zero le = refl
+  labelled_end [] m (suc k) le = refl
+  labelled_end (o ∷ ls) m zero le = absurd (omega arith)
+  labelled_end (o ∷ ls) m (suc k) le = labelled_end ls m k (omega arith)
+
+  -- the same of the gates' classes
+  pub beyond_next : (nets : List (Option ClassId)) (k : ℕ) (o : Option ClassId) → slice_get nets k ≡ Some o → ((c : ClassId) → o ≡ Some c → c.0 < n) → find (nat_le n) (numbers_of (drop k nets)) ≡ find (nat_le n) (numbers_of (drop (k + 1) nets))
+  beyond_next [] k o e low = absurd (none-some o e)
+  beyond_next (None ∷ nets) zero o e low = refl
+  beyond_next (Some c ∷ nets) zero o e low =
+      let lt = low c (sym (same_Some (Some c) o e)) in
+      subst (λ t. cond t (Some c.0) (find (nat_le n) (numbers_of nets)) ≡ find (nat_le n) (numbers_of nets)) (sym (le_false n c.0 lt)) refl
+  beyond_next (x ∷ nets) (suc k) o e low =
+      let f : suc (k + 1) ≡ suc k + 1 = omega arith in
+      beyond_next nets k o e low ∙ ap (λ i. find (nat_le n) (numbers_of (drop i (x ∷ nets)))) f
+
+  pub beyond_here : (nets : List (Option ClassId)) (k : ℕ) (c : ClassId) → slice_get nets k ≡ Some (Some c) → n ≤ c.0 → find (nat_le n) (numbers_of (drop k nets)) ≡ Some c.0
+  beyond_here [] k c e le = absurd (none-some (Some c) e)
+  beyond_here (None ∷ nets) zero c e le = absurd (none-some c (same_Some None (Some c) e))
+  beyond_here (Some d ∷ nets) zero c e le =
+      let same : d ≡ c = same_Some d c (same_Some (Some d) (Some c) e) in
+      subst (λ (x : ClassId). cond (leb n x.0) (Some x.0) (find (nat_le n) (numbers_of nets)) ≡ Some c.0) (sym same) (subst (λ t. cond t (Some c.0) (find (nat_le n) (numbers_of nets)) ≡ Some c.0) (sym (true_le c.0 le)) refl)
+    where
+      true_le : (m : ℕ) → n ≤ m → leb n m ≡ true
+      true_le m le = grind (arith, nat_tests)
+  beyond_here (x ∷ nets) (suc k) c e le = beyond_here nets k c e le
+
+  pub beyond_end : (nets : List (Option ClassId)) (k : ℕ) → length nets ≤ k → find (nat_le n) (numbers_of (drop k nets)) ≡ None
+  beyond_end [] zero le = refl
+  beyond_end [] (suc k) le = refl
+  beyond_end (x ∷ nets) zero le = absurd (omega arith)
+  beyond_end (x ∷ nets) (suc k) le = beyond_end nets k (omega arith)

@@ -1,0 +1,48 @@
+use Rattle.std.proofs.Common.{refl}
+use Rattle.lw_laws.specs.Rounds.{labels_in}
+use Rattle.lw_match.specs.Coming.{still_to_come}
+use Rattle.lw_match.specs.Values.{plain_match}
+use Rattle.lw_check.proofs.Failures.{by_pattern, low_of}
+use Rattle.lw_check.proofs.Looking.{looking_first, looking_here, looking_more, looking_over, low_on, not_low_on}
+use Rattle.lw_check.proofs.bounding.has_low_match.Goals as goal
+
+pub loop-found-init : goal.loop-found-init
+loop-found-init g c = record {
+  fits = c.new-cursor.ensures.fits c.args.graph.now c.requires.class;
+  looking = looking_first c.args.graph.now (g.C.Cost.costs c.args.cost.now) c.args.pats.now (labels_in c.args.labels.now) c.args.class.0 (still_to_come c.new-cursor.result c.args.graph.now c.args.pats.now) (c.new-cursor.ensures.coming c.args.graph.now c.args.pats.now c.classes.ensures.kept c.requires.class);
+}
+
+pub is_low-requires : goal.is_low-requires
+is_low-requires g c =
+    let graph = c.args.graph.now in
+    let cost = g.C.Cost.costs c.args.cost.now in
+    let pats = c.args.pats.now in
+    by_pattern graph cost pats (labels_in c.args.labels.now) c.args.class.0 (plain_match c.in-Some.found) c.requires.of_cells
+    (looking_here graph cost pats (labels_in c.args.labels.now) c.args.class.0 (still_to_come c.loop-found.cursor graph pats) (still_to_come c.next.new.self graph pats) (plain_match c.in-Some.found) c.in-Some.ensures.first c.loop-found.invariant.looking)
+
+pub returns-then-is_low-clause-low : goal.returns-then-is_low-clause-low
+returns-then-is_low-clause-low g c = λ t.
+    let graph = c.args.graph.now in
+    let cost = g.C.Cost.costs c.args.cost.now in
+    let pats = c.args.pats.now in
+    let labels = labels_in c.args.labels.now in
+    let found = plain_match c.in-Some.found in
+    low_of graph cost pats labels c.args.class.0 found c.requires.of_cells
+    (looking_here graph cost pats labels c.args.class.0 (still_to_come c.loop-found.cursor graph pats) (still_to_come c.next.new.self graph pats) found c.in-Some.ensures.first c.loop-found.invariant.looking)
+    (low_on cost pats labels found c.label_at-label.result (labels c.args.class.0) c.label_at-label.ensures (c.if-is_low.ensures.low t))
+
+pub loop-found-preserved : goal.loop-found-preserved
+loop-found-preserved g c =
+    let graph = c.args.graph.now in
+    let cost = g.C.Cost.costs c.args.cost.now in
+    let pats = c.args.pats.now in
+    let labels = labels_in c.args.labels.now in
+    let found = plain_match c.in-Some.found in
+    record {
+      fits = c.in-Some.ensures.fits;
+      looking = looking_more graph cost pats labels c.args.class.0 (still_to_come c.loop-found.cursor graph pats) (still_to_come c.next.new.self graph pats) found c.in-Some.ensures.first (not_low_on cost pats labels found c.label_at-label.result (labels c.args.class.0) c.label_at-label.ensures (c.if-is_low.ensures.not refl)) c.loop-found.invariant.looking;
+    }
+
+pub returns-clause-not : goal.returns-clause-not
+returns-clause-not g c = λ f.
+    looking_over c.args.graph.now (g.C.Cost.costs c.args.cost.now) c.args.pats.now (labels_in c.args.labels.now) c.args.class.0 (still_to_come c.loop-found.cursor c.args.graph.now c.args.pats.now) c.in_default.ensures.first c.requires.of_cells c.loop-found.invariant.looking

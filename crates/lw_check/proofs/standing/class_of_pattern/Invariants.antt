@@ -1,0 +1,10 @@
+use Rattle.std.proofs.Common.{◌≡◌, length}
+use Rattle.lw_match.specs.Values.{numbers}
+use Rattle.lw_check.specs.Standing.{AreStanding}
+use Rattle.lw_check.proofs.standing.class_of_pattern.Given as goal
+
+abbrev pub invariant-loop-place : goal.invariant-loop-place
+invariant-loop-place l = record {
+  room : length l.classes ≡ 254;
+  standing : AreStanding l.graph (numbers l.pins) l.nodes l.place l.classes;
+}

@@ -1,0 +1,11 @@
+pub mod Cases
+pub mod Claims
+pub mod Failing
+pub mod Gates
+pub mod Least
+pub mod Mappings
+pub mod Outputs
+pub mod Ports
+pub mod Spans
+pub mod Standing
+pub mod Verdicts

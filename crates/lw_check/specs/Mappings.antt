@@ -1,0 +1,76 @@
+-- What a verdict says of a claim over the graph of a network's forms.
+use Rattle.std.specs.Prelude.{ℕ, ◌≤◌, ◌≡◌, length, map}
+use Rattle.lw_pool.specs.declared.id.NetId.{NetId}
+use Rattle.lw_laws.specs.Classes.{IsGraphOf}
+use Rattle.lw_laws.specs.Covers.{ArePatterns}
+use Rattle.lw_laws.specs.Decompositions.{listing_of}
+use Rattle.lw_laws.specs.Encodings.{Encodes}
+use Rattle.lw_laws.specs.Headline.{IsMapping}
+use Rattle.lw_laws.specs.Mapped.{forms_of, root_class}
+use Rattle.lw_laws.specs.MappedNetlists.{IsNetlistOf}
+use Rattle.lw_laws.specs.Modes.{Mode}
+use Rattle.lw_laws.specs.Netlists.{CellTruth}
+use Rattle.lw_laws.specs.Networks.{IsInOrder}
+use Rattle.lw_laws.specs.NumberedForms.{family_of}
+use Rattle.lw_net.specs.Networks.{IsNetwork}
+use Rattle.lw_net.specs.Plain.{plain as plain_network}
+use Rattle.lw_graph.specs.Graphs.{IsGraph}
+use Rattle.lw_match.specs.Values.{numbers}
+use Rattle.lw_label.specs.Delays.{most_time}
+use Rattle.lw_netlist.specs.Netlists.{IsNetlist}
+use Rattle.lw_netlist.specs.Plain.{plain as plain_netlist}
+use Rattle.lw_mapped.specs.declared.certificate.Certificate.{Certificate}
+use Rattle.lw_mapped.specs.declared.closing.Mapped.{Mapped}
+use Rattle.lw_mapped.specs.Certified.{IsCertificateOf, AreSameCertificates}
+use Rattle.lw_mapped.specs.Standing.{AreLabels}
+use Rattle.lw_check.specs.Claims.{Claim, timing_in, cost_in}
+use Rattle.lw_check.specs.Ports.{ports_of, mapped_ports}
+
+-- the classes of the outputs' sums of products are those of the claim
+abbrev pub HasRootClasses : ℕ → Claim → Type 0
+HasRootClasses width k =
+    numbers k.roots ≡ map (λ (output : NetId). root_class width (plain_network k.net) k.graph output.0) k.net.outputs
+
+-- what is kept of the network and of the netlist, whoever wrote it
+pub record IsKept (k : Claim) : Type 0 where
+  pub network : IsNetwork k.net
+  pub in_order : IsInOrder (plain_network k.net)
+  pub netlist : IsNetlist k.mapped.netlist
+  pub one_class : length k.mapped.cert.nets ≡ length k.mapped.netlist.gates
+
+-- The claim is over a graph that encodes the network's forms, with the classes of the outputs' sums of products as roots.
+pub record IsOverForms (mode : Mode) (width : ℕ) (k : Claim) : Type 0 where
+  pub wide : 2 ≤ width
+  pub encodes : Encodes (family_of mode (forms_of width (plain_network k.net))) k.graph
+  pub one_leaf : length k.graph.leaves ≡ k.net.inputs
+  pub roots : HasRootClasses width k
+  pub patterns : ArePatterns (cost_in k).pin_counts k.pats
+
+-- The netlist has the frame, the ports and the values of the network, and each output arrives at the least time of any cover of any
+-- tree that the laws derive for it.
+pub record IsFastestMapping (mode : Mode) (width : ℕ) (truth : CellTruth) (k : Claim) : Type 0 where
+  pub frame : k.mapped.frame ≡ k.frame
+  pub mapping_is : IsMapping mode width (plain_network k.net) (ports_of k.net) k.pats (timing_in k) truth (plain_netlist k.mapped.netlist) (mapped_ports k.mapped.netlist)
+
+-- The claim is over the graph of the network's forms, with the classes of the outputs' sums of products as roots.
+pub record IsOverGraph (mode : Mode) (width : ℕ) (k : Claim) : Type 0 where
+  pub wide : 2 ≤ width
+  pub is_graph : IsGraphOf mode k.net.inputs (listing_of width (plain_network k.net)) k.graph
+  pub kept : IsGraph k.graph
+  pub roots : HasRootClasses width k
+  pub patterns : ArePatterns (cost_in k).pin_counts k.pats
+
+-- The netlist is the one that the network is mapped to, with its frame and its certificate.
+pub record IsMappingOf (mode : Mode) (width : ℕ) (k : Claim) : Type 0 where
+  pub is : IsNetlistOf mode width (plain_network k.net) (ports_of k.net) k.pats (timing_in k) most_time (plain_netlist k.mapped.netlist) k.mapped.netlist.names (mapped_ports k.mapped.netlist)
+  pub frame : k.mapped.frame ≡ k.frame
+  pub certificate : Certificate
+  pub of_mapping : IsCertificateOf is certificate
+  pub same : AreSameCertificates k.mapped.cert certificate
+  pub labels : AreLabels k.mapped.cert
+
+-- one netlist with one frame, and certificates that are the same
+pub record AreAlike (a b : Mapped) : Type 0 where
+  pub netlist : a.netlist ≡ b.netlist
+  pub frame : a.frame ≡ b.frame
+  pub certificates : AreSameCertificates a.cert b.cert

@@ -1,0 +1,106 @@
+-- The names of a network's inputs and outputs tell them apart.
+use Rattle.std.proofs.Common.{ℕ, zero, suc, ◌<◌, ◌≤◌, ◌≡◌, ◌⊎◌, inl, inr, Bool, true, false, ◌||◌, List, [], ◌∷◌, map, take, length, Option, Some, None, Contains, slice_get, slice_index_or, refl, ap, sym, ◌∙◌, subst, arith}
+use Rattle.std.specs.List.{AllByRecursion, IsDistinct}
+use Rattle.std.specs.Prelude.{All}
+use Rattle.std.specs.Cmp.{IsEquivalence}
+use Rattle.std.specs.Set.{is_member}
+use Rattle.std.specs.Str.{bytes_eq}
+use Rattle.std.proofs.lemmas.Bool.{cases_lt}
+use Rattle.std.proofs.lemmas.List.{length-map, length-take-le}
+use Rattle.std.proofs.lemmas.List.Elements.{recursion_from_All}
+use Rattle.std.proofs.lemmas.Map.Keys.{apart_from_distinct}
+use Rattle.std.proofs.lemmas.Map.Made.{is_member-Decides, length-le_from_is_member}
+use Rattle.std.proofs.lemmas.Option.{get_or_from_slice_get, slice_get_within}
+use Rattle.std.proofs.lemmas.Slice.Eq.{bytes_eq-Decides}
+use Rattle.lw_pool.specs.declared.id.NetId.{NetId}
+use Rattle.lw_laws.specs.Names.{AreDifferent}
+use Rattle.lw_laws.specs.Headline.{Port as PlainPort}
+use Rattle.lw_laws.specs.MappedNetlists.{ArePortNames}
+use Rattle.lw_laws.proofs.Lists.{slice_get_in, slice_get_some}
+use Rattle.lw_laws.proofs.Numbers.{slice_get_map_back}
+use Rattle.lw_net.specs.Networks.{NetworkParts, IsNetwork, name_in, input_names, output_names}
+use Rattle.lw_net.specs.Plain as network
+use Rattle.lw_map.specs.Mapped.{output_port, ports_of}
+
+-- Names that differ
+
+apart : (xs : List (List ℕ)) (i j : ℕ) (name : List ℕ) → IsDistinct bytes_eq xs → slice_get xs i ≡ Some name → slice_get xs j ≡ Some name → i < j → ⊥
+apart xs i j name differ e f lt =
+    let off = apart_from_distinct bytes_eq xs i j name differ lt (slice_get_within xs j name f) in
+    let on : bytes_eq name name ≡ true = (bytes_eq-Decides name name).1 refl in
+    let left = get_or_from_slice_get xs i name name e in
+    let right = get_or_from_slice_get xs j name name f in
+    let same : bytes_eq name name ≡ false = subst (λ (y : List ℕ). bytes_eq name y ≡ false) right (subst (λ (x : List ℕ). bytes_eq x (slice_index_or xs j name) ≡ false) left off) in
+    cc
+
+different : (xs : List (List ℕ)) → IsDistinct bytes_eq xs → AreDifferent xs
+different xs differ i j name e f = by_order (cases_lt i j) (cases_lt j i)
+  where
+    by_order : (i < j) ⊎ (j ≤ i) → (j < i) ⊎ (i ≤ j) → i ≡ j
+    by_order (inl lt) other = absurd (apart xs i j name differ e f lt)
+    by_order (inr ge) (inl lt) = absurd (apart xs j i name differ f e lt)
+    by_order (inr ge) (inr le) = omega arith
+
+bytes_laws : IsEquivalence bytes_eq
+bytes_laws = record { refl = λ x. (bytes_eq-Decides x x).1 refl; symm = λ x y. either x y (bytes_eq x y) (bytes_eq y x) refl refl; congr = λ x y z e. ap (λ (w : List ℕ). bytes_eq w z) ((bytes_eq-Decides x y).0 e) }
+  where
+    either : (x y : List ℕ) (a b : Bool) → bytes_eq x y ≡ a → bytes_eq y x ≡ b → a ≡ b
+    either x y true true e f = refl
+    either x y true false e f = sym ((bytes_eq-Decides y x).1 (sym ((bytes_eq-Decides x y).0 e))) ∙ f
+    either x y false true e f = sym e ∙ (bytes_eq-Decides x y).1 (sym ((bytes_eq-Decides y x).0 f))
+    either x y false false e f = refl
+
+-- Names of a network
+
+take-back : {X : Type 0} (n : ℕ) (xs : List X) (i : ℕ) (x : X) → slice_get (take n xs) i ≡ Some x → slice_get xs i ≡ Some x
+take-back zero xs i x e = cc
+take-back (suc n) [] i x e = cc
+take-back (suc n) (y ∷ xs) zero x e = e
+take-back (suc n) (y ∷ xs) (suc i) x e = take-back n xs i x e
+
+module _ (net : NetworkParts) (kept : IsNetwork net) where
+  name_at : (o : NetId) → o.0 < length net.names → slice_get net.names o.0 ≡ Some (name_in net o)
+  name_at o lt =
+      let (x, e) = slice_get_some net.names o.0 lt in
+      e ∙ ap Some (sym (get_or_from_slice_get net.names o.0 x [] e))
+
+  in_range : (k : ℕ) (o : NetId) → slice_get net.outputs k ≡ Some o → o.0 < length net.names
+  in_range k o e = subst (λ (p : NetId). p.0 < length net.names) (get_or_from_slice_get net.outputs k o o e) (kept.outputs k o (slice_get_in net.outputs k o e))
+
+  -- an output with an input's name is that input
+  tied : IsDistinct bytes_eq net.names → (i k : ℕ) (p : PlainPort) → slice_get (map (output_port net) net.outputs) k ≡ Some p → slice_get (input_names net) i ≡ Some p.name → p.net ≡ i
+  tied differ i k p at e =
+      let (o, f, same) = slice_get_map_back (output_port net) net.outputs k p at in
+      let net_is : o.0 ≡ p.net = ap (λ (q : PlainPort). q.net) same in
+      let name_is : name_in net o ≡ p.name = ap (λ (q : PlainPort). q.name) same in
+      sym net_is ∙ different net.names differ o.0 i p.name (name_at o (in_range k o f) ∙ ap Some name_is) (take-back net.inputs net.names i p.name e)
+
+  port_list : (outputs : List NetId) → map (λ (p : PlainPort). p.name) (map (output_port net) outputs) ≡ map (name_in net) outputs
+  port_list [] = refl
+  port_list (o ∷ outputs) = ap (λ (ns : List (List ℕ)). name_in net o ∷ ns) (port_list outputs)
+
+  pub port_names : IsDistinct bytes_eq net.names → IsDistinct bytes_eq (input_names net) → IsDistinct bytes_eq (output_names net) → ArePortNames (network.plain net) (ports_of net)
+  port_names differ inputs outputs = record {
+    one_each = let n = kept.named in length-take-le net.inputs net.names (omega arith);
+    inputs_differ = different (input_names net) inputs;
+    outputs_differ = subst AreDifferent (sym (port_list net.outputs)) (different (output_names net) outputs);
+    tied = tied differ;
+  }
+
+  named : (q : List ℕ) (outputs : List NetId) → AllByRecursion (λ (o : NetId). o.0 < length net.names) outputs → is_member bytes_eq (map (name_in net) outputs) q ≡ true → is_member bytes_eq net.names q ≡ true
+  named q [] all e = cc
+  named q (o ∷ outputs) all e = by_test (bytes_eq q (name_in net o)) refl e (named q outputs all.1)
+    where
+      by_test : (b : Bool) → bytes_eq q (name_in net o) ≡ b → (b || is_member bytes_eq (map (name_in net) outputs) q) ≡ true → (is_member bytes_eq (map (name_in net) outputs) q ≡ true → is_member bytes_eq net.names q ≡ true) → is_member bytes_eq net.names q ≡ true
+      by_test false is e rest = rest e
+      by_test true is e rest =
+          let same = (bytes_eq-Decides q (name_in net o)).0 is in
+          let at = name_at o all.0 in
+          (is_member-Decides bytes_eq-Decides net.names q).1 (o.0, all.0, get_or_from_slice_get net.names o.0 q q (at ∙ ap Some (sym same)))
+
+  -- there are no more outputs than nets
+  pub few_outputs : IsDistinct bytes_eq (output_names net) → length net.outputs ≤ length net.names
+  few_outputs outputs =
+      let n = length-map net.outputs (name_in net) in
+      let le = length-le_from_is_member bytes_laws (output_names net) net.names outputs (λ q. named q net.outputs (recursion_from_All (λ (o : NetId). o.0 < length net.names) net.outputs kept.outputs)) in
+      omega arith

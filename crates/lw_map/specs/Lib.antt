@@ -1,0 +1,6 @@
+pub mod Options
+pub mod Mapped
+pub mod Choices
+pub mod Ports
+pub mod Mappings
+pub mod Faults

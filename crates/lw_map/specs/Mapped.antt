@@ -1,0 +1,81 @@
+-- The netlist that a network is mapped to by the cells of a library, or why there is none.
+use Rattle.std.specs.Prelude.{ℕ, ◌<◌, ◌≤◌, ◌≡◌, List, length, map, take, Some, slice_get}
+use Rattle.lw_pool.specs.declared.id.NetId.{NetId}
+use Rattle.lw_fixed.specs.declared.micro.Micro.{Micro}
+use Rattle.lw_laws.specs.Occurring.{occurring_forms, split_count}
+use Rattle.lw_laws.specs.Headline.{Port as PlainPort, Ports, HasNoCover}
+use Rattle.lw_laws.specs.MappedNetlists.{IsNetlistOf}
+use Rattle.lw_net.specs.Networks.{NetworkParts, name_in, input_names}
+use Rattle.lw_net.specs.Plain as network
+use Rattle.lw_genlib.specs.Cells.{CellParts}
+use Rattle.lw_genlib.specs.Tables.{timing_of}
+use Rattle.lw_form.specs.Limits.{most_bases}
+use Rattle.lw_pattern.specs.Libraries.{library_patterns}
+use Rattle.lw_assoc.specs.Splits.{most_splits}
+use Rattle.lw_label.specs.Delays.{most_time}
+use Rattle.lw_netlist.specs.declared.gate.Port.{Port}
+use Rattle.lw_netlist.specs.Netlists.{NetlistParts, IsNetlist}
+use Rattle.lw_netlist.specs.Plain as netlist
+use Rattle.lw_map.specs.Options.{Options}
+
+-- Ports.
+
+-- an output of a network: the name of its net, and the net
+abbrev pub output_port : NetworkParts → NetId → PlainPort
+output_port net output = record { name = name_in net output; net = output.0 }
+
+-- the names of a network's inputs, and its outputs
+abbrev pub ports_of : NetworkParts → Ports
+ports_of net = record { inputs = input_names net; outputs = map (output_port net) net.outputs }
+
+-- an output of a netlist, without names of nets
+abbrev pub plain_port : Port → PlainPort
+plain_port port = record { name = port.name; net = port.net.0 }
+
+-- the names of a netlist's inputs, and its outputs
+abbrev pub mapped_ports : NetlistParts → Ports
+mapped_ports n = record { inputs = take n.inputs n.names; outputs = map plain_port n.outputs }
+
+-- The netlist is the one that the network is mapped to: of all covers of all trees that the laws derive for an output, it has one of the
+-- least time from the starts of the inputs on.
+pub record IsMappedNetlist (options : Options) (cells : List CellParts) (net : NetworkParts) (starts : List Micro) (n : NetlistParts) : Type 0 where
+  pub kept : IsNetlist n
+  pub model_name : n.model ≡ net.model
+  pub is : IsNetlistOf options.mode options.width (network.plain net) (ports_of net) (library_patterns cells) (timing_of cells starts) most_time (netlist.plain n) n.names (mapped_ports n)
+
+-- Limits.
+
+-- how many base forms occur in a network
+abbrev pub base_count : Options → NetworkParts → ℕ
+base_count options net = length (occurring_forms options.width (network.plain net))
+
+-- how many splits they have
+abbrev pub splits_count : Options → NetworkParts → ℕ
+splits_count options net = split_count options.mode (occurring_forms options.width (network.plain net))
+
+-- there are no more of both than are dealt with
+pub record IsWithinLimits (options : Options) (net : NetworkParts) : Type 0 where
+  pub forms : base_count options net ≤ most_bases
+  pub splits : splits_count options net ≤ most_splits
+
+abbrev pub HasTooManyForms : Options → NetworkParts → Type 0
+HasTooManyForms options net = most_bases < base_count options net
+
+abbrev pub HasTooManySplits : Options → NetworkParts → Type 0
+HasTooManySplits options net = (base_count options net ≤ most_bases) × (most_splits < splits_count options net)
+
+-- Outputs without a cover.
+
+-- no cover by the library's cells is of a tree that the laws derive for the output
+abbrev pub IsUncovered : Options → List CellParts → NetworkParts → List Micro → NetId → Type 0
+IsUncovered options cells net starts output = HasNoCover options.mode options.width (network.plain net) (library_patterns cells) (timing_of cells starts) output.0
+
+-- the name is that of the first output that no cover is of
+pub record LacksCover (options : Options) (cells : List CellParts) (net : NetworkParts) (starts : List Micro) (name : List ℕ) : Type 0 where
+  pub within : IsWithinLimits options net
+  pub place : ℕ
+  pub output : NetId
+  pub at : slice_get net.outputs place ≡ Some output
+  pub named : name ≡ name_in net output
+  pub lacks : IsUncovered options cells net starts output
+  pub first : (i : ℕ) (other : NetId) → i < place → slice_get net.outputs i ≡ Some other → IsUncovered options cells net starts other → ⊥

@@ -1,0 +1,60 @@
+// The graph of a network's forms.
+ghost use Rattle.std.specs.Prelude.{◌≡◌, ◌<◌, All, IfOk, IfErr, length, map};
+ghost use Rattle.lw_pool.specs.declared.id.ClassId.{ClassId};
+ghost use Rattle.lw_match.specs.Values.{numbers};
+ghost use Rattle.lw_map.specs.Options.{IsWide, plain_options};
+ghost use Rattle.lw_map.specs.Choices.{AreChoices, root_of};
+ghost use Rattle.lw_map.specs.Faults.{IsChoiceFault};
+
+use crate::{MapFault, Options};
+use lw_assoc::build;
+use lw_form::{Forms, forms};
+use lw_graph::Graph;
+use lw_net::Network;
+use lw_pool::Classes;
+use std::alloc::{AllocError, Global};
+
+/// The choices of decomposition that a network leaves under these options: how many base forms occur, the graph of their classes,
+/// and the class of each output.
+#[derive(Drop)]
+pub struct Choices {
+    pub options: Options,
+    pub forms: u32,
+    pub graph: Graph,
+    pub roots: Classes,
+}
+
+// The classes of the outputs.
+fn roots(alloc: Global, net: &Network, forms: &Forms, graph: &Graph) -> Result<Classes, AllocError>
+    requires sops { length forms.now.sops ≡ length net.now.names }
+    requires bases { length graph.now.forms ≡ length forms.now.bases }
+    ensures roots { IfOk result (λ roots. numbers roots ≡ map (root_of forms.now graph.now) net.now.outputs) }
+    ensures within { IfOk result (All (λ (root : ClassId). root.0 < length graph.now.pairs)) }
+{
+    let _ = forms.nets();
+    let outputs = net.outputs();
+    let mut roots = Vec::with_capacity(alloc, outputs.len())?;
+    for output in outputs {
+        roots.push(graph.class_of(forms.sop(*output)))?;
+    }
+    Ok(Classes::from_vec(roots))
+}
+
+/// The choices of decomposition of a network. `Forms` and `Splits` come exactly where there are more than are dealt with.
+pub fn decompose(alloc: Global, net: &Network, options: Options) -> Result<Choices, MapFault>
+    requires { IsWide (plain_options options) }
+    ensures choices { IfOk result (λ c. (c.options ≡ options) × AreChoices net.now c) }
+    ensures fault { IfErr result (IsChoiceFault (plain_options options) net.now) }
+{
+    let _ = net.inputs();
+    let listed = forms(alloc, net, options.width)?;
+    let forms = listed.len();
+    let graph = build(alloc, &listed, options.mode)?;
+    let roots = roots(alloc, net, &listed, &graph)?;
+    Ok(Choices {
+        options,
+        forms,
+        graph,
+        roots,
+    })
+}

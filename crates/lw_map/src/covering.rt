@@ -1,0 +1,88 @@
+// The netlist of the chosen matches.
+ghost use Rattle.std.specs.Prelude.{◌≤◌, All, IfOk, IfErr, length};
+ghost use Rattle.lw_genlib.specs.Cells.{IsSmall};
+ghost use Rattle.lw_label.specs.Labels.{most_classes};
+ghost use Rattle.std.specs.List.{IsDistinct};
+ghost use Rattle.std.specs.Str.{bytes_eq};
+ghost use Rattle.lw_net.specs.Networks.{output_names};
+ghost use Rattle.lw_netlist.specs.Plain.{IsOver};
+ghost use Rattle.lw_map.specs.Choices.{AreChoices};
+ghost use Rattle.lw_map.specs.Ports.{ArePortsOf};
+ghost use Rattle.lw_map.specs.Mappings.{IsMappingOf};
+ghost use Rattle.lw_map.specs.Faults.{IsCoverFault};
+
+use crate::naming::{input_names, output_name, output_names};
+use crate::{Choices, MapFault};
+use lw_extract::{ExtractFault, Ports, extract};
+use lw_fixed::Micros;
+use lw_genlib::Library;
+use lw_label::{DelayCost, Labels, relabel};
+use lw_net::Network;
+use lw_netlist::Netlist;
+use lw_pattern::patterns;
+use lw_pool::{Classes, Name};
+use std::alloc::{AllocError, Global};
+
+/// The netlist that a network is mapped to, with the class of each gate and the labels of all classes.
+#[derive(Drop)]
+pub struct Mapping {
+    pub netlist: Netlist,
+    pub classes: Classes,
+    pub labels: Labels,
+}
+
+// The ports at which the graph of a network is covered.
+fn ports(alloc: Global, net: &Network, choices: &Choices) -> Result<Ports, AllocError>
+    ensures { IfOk result (ArePortsOf net.now choices.now) }
+{
+    let mut roots = Vec::with_capacity(alloc, choices.roots.len())?;
+    for root in choices.roots.as_slice() {
+        roots.push(*root)?;
+    }
+    Ok(Ports {
+        model: Name::from_slice(alloc, net.model().as_bytes())?,
+        inputs: input_names(alloc, net)?,
+        outputs: output_names(alloc, net)?,
+        roots: Classes::from_vec(roots),
+    })
+}
+
+/// Covers the choices of a network by cells of a library: each class gets the least time of its covers from the starts of the
+/// inputs on, and the chosen matches of the needed classes are the gates. `NoCover` tells the first output that has no cover, and
+/// comes exactly where there is one.
+pub fn cover(
+    alloc: Global,
+    lib: &Library,
+    net: &Network,
+    starts: &Micros,
+    choices: &Choices,
+) -> Result<Mapping, MapFault>
+    requires choices { AreChoices net.now choices.now }
+    requires outputs { IsDistinct bytes_eq (output_names net.now) }
+    requires early { All IsSmall starts.now }
+    ensures mapping { IfOk result (IsMappingOf lib.now net.now starts.now choices.now) }
+    ensures over { IfOk result (λ m. IsOver lib.now m.netlist) }
+    ensures few { IfOk result (λ m. length m.netlist.gates ≤ most_classes) }
+    ensures fault { IfErr result (IsCoverFault lib.now net.now starts.now choices.now) }
+{
+    let _ = lib.len();
+    let _ = net.inputs();
+    let pats = patterns(alloc, lib)?;
+    let cost = DelayCost::new(lib, starts);
+    let labels = relabel(alloc, &choices.graph, &pats, &cost)?;
+    let ports = ports(alloc, net, choices)?;
+    match extract(alloc, &choices.graph, &pats, lib, &labels, &ports, &cost) {
+        Ok(cover) => {
+            let _ = cover.netlist.gates();
+            Ok(Mapping {
+                netlist: cover.netlist,
+                classes: cover.classes,
+                labels,
+            })
+        }
+        Err(ExtractFault::NoCover(place)) => Err(MapFault::NoCover(output_name(
+            alloc, net, place,
+        )?)),
+        Err(ExtractFault::Memory) => Err(MapFault::Memory),
+    }
+}

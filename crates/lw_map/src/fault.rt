@@ -1,0 +1,56 @@
+ghost use Rattle.std.specs.Prelude.{◌≡◌};
+ghost use Rattle.lw_map.specs.declared.fault.MapFault.TheVariants.{Memory};
+
+use lw_assoc::GraphFault;
+use lw_form::FormFault;
+use lw_pool::Name;
+use std::alloc::AllocError;
+
+/// Why a network is not mapped.
+#[derive(Debug, Drop)]
+pub enum MapFault {
+    /// The network has more forms than are listed.
+    Forms,
+    /// The forms have more splits than are listed.
+    Splits,
+    /// This output has no cover, and each one before it has.
+    NoCover(Name),
+    /// Memory ran out.
+    Memory,
+}
+
+impl From<AllocError> for MapFault {
+    ghost from_gives = { λ _ e. e ≡ Memory };
+
+    fn from(_e: AllocError) -> MapFault {
+        MapFault::Memory
+    }
+}
+
+impl From<FormFault> for MapFault {
+    ghost use Rattle.std.specs.Prelude.{◌≡◌};
+    ghost use Rattle.lw_map.specs.Faults.{form_fault};
+
+    ghost from_gives = { λ fault e. e ≡ form_fault fault };
+
+    fn from(fault: FormFault) -> MapFault {
+        match fault {
+            FormFault::Limit => MapFault::Forms,
+            FormFault::Memory => MapFault::Memory,
+        }
+    }
+}
+
+impl From<GraphFault> for MapFault {
+    ghost use Rattle.std.specs.Prelude.{◌≡◌};
+    ghost use Rattle.lw_map.specs.Faults.{graph_fault};
+
+    ghost from_gives = { λ fault e. e ≡ graph_fault fault };
+
+    fn from(fault: GraphFault) -> MapFault {
+        match fault {
+            GraphFault::Limit => MapFault::Splits,
+            GraphFault::Memory => MapFault::Memory,
+        }
+    }
+}

@@ -1,0 +1,297 @@
+-- Times, labels and class numbers that lines say are within their limits.
+use Rattle.std.proofs.Common.{ℕ, ◌≡◌, ◌<◌, ◌≤◌, ◌+◌, ◌*◌, ◌^◌, ◌==◌, ◌&&◌, Bool, true, false, not, max, cond, nat_lt, List, [], ◌∷◌, ◌++◌, length, map, take, drop, get_or, filter, reverse, replicate, Option, Some, None, Result, Ok, Err, All, refl, ap, ◌∙◌, subst, arith, length-take}
+use Rattle.std.specs.Prelude.{nat_le, codes, decimal, position, slice_get, unwrap_or}
+use Rattle.std.specs.Char.{is_ascii_digit}
+use Rattle.std.specs.List.{flat_map, list_all, AllByRecursion as Each}
+use Rattle.std.specs.Option.{IfSome}
+use Rattle.std.specs.Str.{bytes_eq}
+use Rattle.std.specs.Str.Parse.{digits_value}
+use Rattle.std.proofs.lemmas.Bool.Decides.{nat_tests}
+use Rattle.std.proofs.lemmas.List.Elements.{All-append, All-filter, All-map, All-replicate}
+use Rattle.std.proofs.lemmas.List.Folds.{list_all-append}
+use Rattle.std.proofs.lemmas.List.Sorted.{All-permutation, IsPermutation-reverse}
+use Rattle.std.proofs.lemmas.Str.Parse.{digits_value_short}
+use Rattle.lw_words.specs.Lines.{LogicalLine}
+use Rattle.lw_fixed.specs.declared.micro.Micro.{Micro}
+use Rattle.lw_fixed.specs.declared.fault.DecimalFault.{DecimalFault}
+use Rattle.lw_fixed.specs.declared.fault.DecimalFault.TheVariants.{Shape, Large, Fine, Negative}
+use Rattle.lw_fixed.specs.Decimals.{decimal_of, decimals, is_decimal, is_finer, is_negative, millionths_of, units_of, value_of_decimals, whole_part}
+use Rattle.lw_frame.specs.Starts.{Arrival, IsEarly, at_once, first_start, is_for_all, is_named, last_start, start_at, start_of, start_said, starts_of}
+use Rattle.lw_genlib.specs.Cells.{CellParts, names_of}
+use Rattle.lw_pool.specs.declared.id.ClassId.{ClassId}
+use Rattle.lw_mapped.specs.declared.command.Command.{Command}
+use Rattle.lw_mapped.specs.declared.command.Command.TheVariants as command
+use Rattle.lw_mapped.specs.declared.fault.MappedKind.{MappedKind}
+use Rattle.lw_mapped.specs.declared.fault.MappedKind.TheVariants as kind
+use Rattle.lw_mapped.specs.declared.saying.Saying.{Saying}
+use Rattle.lw_mapped.specs.declared.saying.Saying.TheVariants as saying
+use Rattle.lw_mapped.specs.Commands.{command_of}
+use Rattle.lw_mapped.specs.GateLines.{is_name, ties_fault, gate_of}
+use Rattle.lw_mapped.specs.LineFaults.{line_says, lines_say, what_is_said}
+use Rattle.lw_mapped.specs.Parsed.{IsFit, IsLabel}
+use Rattle.lw_mapped.specs.Said.{Labelled, Classed, arrivals_in, labels_in, nets_in, label_among, class_among}
+use Rattle.lw_mapped.specs.Sayings.{said, fault_in, are_names, first_word, second_word, words_say, command_says, gate_says, gate_says_in, gate_says_at, arrival_says, default_says, certificate_says, named_arrival, default_arrival, most_classes, class_said, label_of, net_of}
+use Rattle.lw_mapped.proofs.Driving.{each-flat}
+use Rattle.lw_mapped.proofs.Printing.{Digits, own, digits-take}
+use Rattle.lw_mapped.proofs.WrittenLines.{all-of, each-of, each-append, each-weaker}
+
+-- Decimals.
+
+second-of : (a b c : Bool) → (a && b && c) ≡ true → b ≡ true
+second-of true true c e = refl
+second-of true false c e = cc
+second-of false b c e = cc
+
+part-below : (part : List ℕ) → Digits part → value_of_decimals part < 1000000
+unfolding value_of_decimals
+part-below part all =
+    let six = take 6 (part ++ replicate 6 48) in
+    let padded : Digits (part ++ replicate 6 48) = list_all-append is_ascii_digit part (replicate 6 48) ∙ ap (λ b. b && list_all is_ascii_digit (replicate 6 48)) all in
+    let short : length six ≤ 6 = omega (arith, length-take 6 (part ++ replicate 6 48)) in
+    let below : digits_value 10 six < 10 ^ 6 = digits_value_short own six 6 (digits-take 6 (part ++ replicate 6 48) padded) short in
+    omega (arith, below)
+
+-- a decimal of fewer than so many units is so many millionths
+decimal-below : (text : List ℕ) (units : ℕ) (value : Micro) → decimal_of text units ≡ Ok value → value.0 < units * 1000000
+unfolding decimal_of
+decimal-below text units value e = by_case (is_decimal text) refl (nat_le units (units_of text)) refl (is_finer (decimals text)) (is_negative text && nat_lt 0 (millionths_of text)) e
+  where
+    by_case : (d : Bool) → is_decimal text ≡ d → (l : Bool) → nat_le units (units_of text) ≡ l → (f n : Bool) →
+        cond (not d) (Err Shape) (cond l (Err Large) (cond f (Err Fine) (cond n (Err Negative) (Ok (record { 0 = millionths_of text }))))) ≡ Ok value → value.0 < units * 1000000
+    by_case true is false few false false h =
+        let read : Micro = record { 0 = millionths_of text } in
+        let same : read ≡ value = cc in
+        let small : units_of text < units = grind (arith, nat_tests, few) in
+        let part : value_of_decimals (decimals text) < 1000000 = part-below (decimals text) (second-of (list_all is_ascii_digit (whole_part text)) (list_all is_ascii_digit (decimals text)) (nat_lt 0 (length (whole_part text) + length (decimals text))) is) in
+        let number : millionths_of text ≡ value.0 = ap (λ (m : Micro). m.0) same in
+        omega (arith, number, small, part)
+    by_case true is false few false true h = cc
+    by_case true is false few true n h = cc
+    by_case true is true few f n h = cc
+    by_case false is l few f n h = cc
+
+start-early : (rise fall : List ℕ) (start : Micro) → start_said rise fall ≡ Ok start → IsEarly start
+unfolding start_said
+start-early rise fall start e = by_case (decimal_of rise 1000000) refl (decimal_of fall 1000000) refl e
+  where
+    by_case : (r : Result Micro DecimalFault) → decimal_of rise 1000000 ≡ r → (f : Result Micro DecimalFault) → decimal_of fall 1000000 ≡ f → start_at r f ≡ Ok start → IsEarly start
+    by_case (Ok r) er (Ok f) ef h =
+        let first : r.0 < 1000000 * 1000000 = decimal-below rise 1000000 r er in
+        let second : f.0 < 1000000 * 1000000 = decimal-below fall 1000000 f ef in
+        let later : Micro = record { 0 = max r.0 f.0 } in
+        let same : later ≡ start = cc in
+        let number : max r.0 f.0 ≡ start.0 = ap (λ (m : Micro). m.0) same in
+        omega (arith, first, second, number)
+    by_case (Ok r) er (Err g) ef h = cc
+    by_case (Err g) er f ef h = cc
+
+class-below : (word : List ℕ) (class : ℕ) → class_said word ≡ Some class → class < most_classes
+unfolding class_said
+class-below word class e = by_case (list_all is_ascii_digit word) (nat_lt (digits_value 10 word) most_classes) refl (bytes_eq (decimal (digits_value 10 word)) word) e
+  where
+    by_case : (d l : Bool) → nat_lt (digits_value 10 word) most_classes ≡ l → (s : Bool) → cond (d && l && s) (Some (digits_value 10 word)) None ≡ Some class → class < most_classes
+    by_case true true few true h =
+        let same : digits_value 10 word ≡ class = cc in
+        let below : digits_value 10 word < most_classes = grind (arith, nat_tests, few) in
+        omega (arith, same, below)
+    by_case true true few false h = cc
+    by_case true false few s h = cc
+    by_case false l few s h = cc
+
+-- Lines.
+
+abbrev AreFit : Result Saying MappedKind → Type 0
+AreFit result = Each IsFit (what_is_said result)
+
+fit-said : (o : Option MappedKind) (s : Saying) → IsFit s → AreFit (said o s)
+fit-said None s fit = (fit, tt)
+fit-said (Some k) s fit = tt
+
+fit-gate-at : (cells : List CellParts) (number : ℕ) (ties : List (List ℕ)) (o : Option CellParts) → AreFit (gate_says_at cells number ties o)
+fit-gate-at cells number ties None = tt
+fit-gate-at cells number ties (Some cell) = fit-said (ties_fault cell ties) (saying.Gate (gate_of number cell ties)) tt
+
+fit-gate-in : (cells : List CellParts) (ties : List (List ℕ)) (o : Option ℕ) → AreFit (gate_says_in cells ties o)
+fit-gate-in cells ties None = tt
+fit-gate-in cells ties (Some number) = fit-gate-at cells number ties (slice_get cells number)
+
+fit-gate : (cells : List CellParts) (words : List (List ℕ)) → AreFit (gate_says cells words)
+fit-gate cells words = by_length (nat_lt (length words) 2)
+  where
+    by_length : (b : Bool) → AreFit (cond b (Err kind.Shape) (gate_says_in cells (drop 1 words) (position (bytes_eq (first_word words)) (names_of cells))))
+    by_length true = tt
+    by_length false = fit-gate-in cells (drop 1 words) (position (bytes_eq (first_word words)) (names_of cells))
+
+fit-arrival : (words : List (List ℕ)) → AreFit (arrival_says words)
+fit-arrival [] = tt
+fit-arrival (a ∷ []) = tt
+fit-arrival (a ∷ b ∷ []) = tt
+fit-arrival (name ∷ rise ∷ fall ∷ words) = by_name (is_name name) (start_said rise fall) refl
+  where
+    by_name : (b : Bool) (start : Result Micro DecimalFault) → start_said rise fall ≡ start → AreFit (cond b (named_arrival name start) (Err kind.BadName))
+    by_name true (Ok s) e = (start-early rise fall s e, tt)
+    by_name true (Err f) e = tt
+    by_name false start e = tt
+
+fit-default : (words : List (List ℕ)) → AreFit (default_says words)
+fit-default [] = tt
+fit-default (a ∷ []) = tt
+fit-default (rise ∷ fall ∷ words) = by_start (start_said rise fall) refl
+  where
+    by_start : (start : Result Micro DecimalFault) → start_said rise fall ≡ start → AreFit (default_arrival start)
+    by_start (Ok s) e = (start-early rise fall s e, tt)
+    by_start (Err f) e = tt
+
+fit-certificate : (words : List (List ℕ)) → AreFit (certificate_says words)
+fit-certificate [] = tt
+fit-certificate (a ∷ []) = tt
+fit-certificate (a ∷ b ∷ []) = tt
+fit-certificate (what ∷ first ∷ second ∷ []) = by_what (bytes_eq what (codes "label")) (bytes_eq what (codes "net")) (class_said first) refl (class_said second) refl (decimal_of second (2 ^ 43)) refl
+  where
+    by_what : (l n : Bool) (c : Option ℕ) → class_said first ≡ c → (d : Option ℕ) → class_said second ≡ d → (r : Result Micro DecimalFault) → decimal_of second (2 ^ 43) ≡ r →
+        AreFit (cond l (label_of c r) (cond n (net_of first d) (Err kind.Certificate)))
+    by_what true n (Some c) ec d ed (Ok r) er = ((class-below first c ec, decimal-below second (2 ^ 43) r er), tt)
+    by_what true n (Some c) ec d ed (Err f) er = tt
+    by_what true n None ec d ed r er = tt
+    by_what false true c ec (Some d) ed r er = (class-below second d ed, tt)
+    by_what false true c ec None ed r er = tt
+    by_what false false c ec d ed r er = tt
+fit-certificate (a ∷ b ∷ c ∷ d ∷ words) = tt
+
+fit-command : (cells : List CellParts) (c : Command) (words : List (List ℕ)) → AreFit (command_says cells c words)
+fit-command cells command.Model words = fit-said (fault_in (length words == 1) (are_names words)) (saying.Model (first_word words)) tt
+fit-command cells command.Inputs words = fit-said (fault_in true (are_names words)) (saying.Inputs words) tt
+fit-command cells command.Outputs words = fit-said (fault_in true (are_names words)) (saying.Outputs words) tt
+fit-command cells command.Gate words = fit-gate cells words
+fit-command cells command.Names words = fit-said (fault_in (length words == 2) (are_names words)) (saying.Wire (record { from = first_word words; to = second_word words })) tt
+fit-command cells command.Latch words = fit-said (fault_in (nat_le 2 (length words) && nat_le (length words) 5) (are_names words)) (saying.Latch (record { input = first_word words; output = second_word words; rest = drop 2 words })) tt
+fit-command cells command.InputArrival words = fit-arrival words
+fit-command cells command.DefaultArrival words = fit-default words
+fit-command cells command.Certificate words = fit-certificate words
+fit-command cells command.Ignored words = (tt, tt)
+fit-command cells command.End words = (tt, tt)
+fit-command cells command.Unknown words = tt
+fit-command cells command.Plain words = tt
+
+fit-words : (cells : List CellParts) (words : List (List ℕ)) → AreFit (words_say cells words)
+unfolding words_say
+fit-words cells words = fit-command cells (command_of (first_word words)) (drop 1 words)
+
+pub lines-within : (cells : List CellParts) (lines : List LogicalLine) → Each IsFit (lines_say cells lines)
+unfolding lines_say
+lines-within cells [] = tt
+lines-within cells (line ∷ lines) = each-append IsFit (line_says cells line) (flat_map (line_says cells) lines) (fit-words cells line.words) (lines-within cells lines)
+
+-- Starts.
+
+abbrev IsEarlyArrival : Arrival → Type 0
+IsEarlyArrival arrival = IsEarly arrival.start
+
+arrivals-early : (s : Saying) → IsFit s → Each IsEarlyArrival (arrivals_in s)
+arrivals-early (saying.Model name) fit = tt
+arrivals-early (saying.Inputs names) fit = tt
+arrivals-early (saying.Outputs names) fit = tt
+arrivals-early (saying.Gate gate) fit = tt
+arrivals-early (saying.Wire wire) fit = tt
+arrivals-early (saying.Latch latch) fit = tt
+arrivals-early (saying.Arrival name start) fit = (fit, tt)
+arrivals-early (saying.DefaultArrival start) fit = (fit, tt)
+arrivals-early (saying.Label class label) fit = tt
+arrivals-early (saying.Net name class) fit = tt
+arrivals-early saying.Nothing fit = tt
+
+first-early : (arrivals : List Arrival) → Each IsEarlyArrival arrivals → IfSome (first_start arrivals) IsEarly
+first-early [] each = tt
+first-early (arrival ∷ arrivals) each = each.0
+
+last-early : (is : Option (List ℕ) → Bool) (arrivals : List Arrival) → All IsEarlyArrival arrivals → IfSome (last_start is arrivals) IsEarly
+last-early is arrivals all =
+    let own = filter (λ (arrival : Arrival). is arrival.named) arrivals in
+    first-early (reverse own)
+    (each-of IsEarlyArrival (reverse own)
+    (All-permutation IsEarlyArrival own (reverse own) (IsPermutation-reverse own) (All-filter (λ (arrival : Arrival). is arrival.named) IsEarlyArrival arrivals all)))
+
+else-early : (o : Option Micro) (other : Micro) → IfSome o IsEarly → IsEarly other → IsEarly (unwrap_or o other)
+else-early None other some early = early
+else-early (Some start) other some early = some
+
+once-early : IsEarly at_once
+once-early = omega arith
+
+own-early : (arrivals : List Arrival) (name : List ℕ) → All IsEarlyArrival arrivals → IsEarly (start_of arrivals name)
+own-early arrivals name all =
+    else-early (last_start (is_named name) arrivals) (unwrap_or (last_start is_for_all arrivals) at_once) (last-early (is_named name) arrivals all)
+    (else-early (last_start is_for_all arrivals) at_once (last-early is_for_all arrivals all) once-early)
+
+pub starts-early : (ss : List Saying) (inputs : List (List ℕ)) (latches : ℕ) → Each IsFit ss → All IsEarly (starts_of (flat_map arrivals_in ss) inputs latches)
+starts-early ss inputs latches fit =
+    let arrivals = flat_map arrivals_in ss in
+    let all = all-of IsEarlyArrival arrivals (each-flat IsEarlyArrival arrivals_in ss (each-weaker IsFit (λ s. Each IsEarlyArrival (arrivals_in s)) arrivals-early ss fit)) in
+    All-append IsEarly (map (start_of arrivals) inputs) (replicate latches at_once)
+    (All-map IsEarly (start_of arrivals) inputs (λ k d lt. own-early arrivals (get_or inputs k d) all))
+    (All-replicate IsEarly latches at_once once-early)
+
+-- Labels.
+
+abbrev IsFitLabel : Labelled → Type 0
+IsFitLabel l = (l.class < most_classes) × IsLabel l.label
+
+labels-fit : (s : Saying) → IsFit s → Each IsFitLabel (labels_in s)
+labels-fit (saying.Model name) fit = tt
+labels-fit (saying.Inputs names) fit = tt
+labels-fit (saying.Outputs names) fit = tt
+labels-fit (saying.Gate gate) fit = tt
+labels-fit (saying.Wire wire) fit = tt
+labels-fit (saying.Latch latch) fit = tt
+labels-fit (saying.Arrival name start) fit = tt
+labels-fit (saying.DefaultArrival start) fit = tt
+labels-fit (saying.Label class label) fit = (fit, tt)
+labels-fit (saying.Net name class) fit = tt
+labels-fit saying.Nothing fit = tt
+
+label-found : (ls : List Labelled) (class : ℕ) (label : Micro) → Each IsFitLabel ls → label_among ls class ≡ Some label → (class < most_classes) × IsLabel label
+label-found [] class label each e = cc
+label-found (l ∷ ls) class label each e = by_test (l.class == class) refl e (label-found ls class label each.1)
+  where
+    by_test : (b : Bool) → (l.class == class) ≡ b → cond b (Some l.label) (label_among ls class) ≡ Some label → (label_among ls class ≡ Some label → (class < most_classes) × IsLabel label) → (class < most_classes) × IsLabel label
+    by_test true same h rest =
+        let own : l.class ≡ class = grind (arith, nat_tests, same) in
+        let found : l.label ≡ label = cc in
+        (subst (λ c. c < most_classes) own each.0.0, subst IsLabel found each.0.1)
+    by_test false same h rest = rest h
+
+pub label-within : (ss : List Saying) (class : ℕ) (label : Micro) → Each IsFit ss → label_among (flat_map labels_in ss) class ≡ Some label → (class < most_classes) × IsLabel label
+label-within ss class label fit e =
+    label-found (flat_map labels_in ss) class label (each-flat IsFitLabel labels_in ss (each-weaker IsFit (λ s. Each IsFitLabel (labels_in s)) labels-fit ss fit)) e
+
+-- Classes.
+
+abbrev IsClassNumber : ClassId → Type 0
+IsClassNumber class = class.0 < most_classes
+
+abbrev IsFitClass : Classed → Type 0
+IsFitClass c = IsClassNumber c.class
+
+classes-fit : (s : Saying) → IsFit s → Each IsFitClass (nets_in s)
+classes-fit (saying.Model name) fit = tt
+classes-fit (saying.Inputs names) fit = tt
+classes-fit (saying.Outputs names) fit = tt
+classes-fit (saying.Gate gate) fit = tt
+classes-fit (saying.Wire wire) fit = tt
+classes-fit (saying.Latch latch) fit = tt
+classes-fit (saying.Arrival name start) fit = tt
+classes-fit (saying.DefaultArrival start) fit = tt
+classes-fit (saying.Label class label) fit = tt
+classes-fit (saying.Net name class) fit = (fit, tt)
+classes-fit saying.Nothing fit = tt
+
+class-found : (cs : List Classed) (name : List ℕ) → Each IsFitClass cs → IfSome (class_among cs name) IsClassNumber
+class-found [] name each = tt
+class-found (c ∷ cs) name each = by_test (bytes_eq c.name name) (class-found cs name each.1)
+  where
+    by_test : (b : Bool) → IfSome (class_among cs name) IsClassNumber → IfSome (cond b (Some c.class) (class_among cs name)) IsClassNumber
+    by_test true rest = each.0
+    by_test false rest = rest
+
+pub class-within : (ss : List Saying) (name : List ℕ) → Each IsFit ss → IfSome (class_among (flat_map nets_in ss) name) (λ (class : ClassId). class.0 < most_classes)
+class-within ss name fit = class-found (flat_map nets_in ss) name (each-flat IsFitClass nets_in ss (each-weaker IsFit (λ s. Each IsFitClass (nets_in s)) classes-fit ss fit))

@@ -1,0 +1,272 @@
+-- Decimals that are printed: their bytes, and that they are read as the number by any limit above it.
+use Rattle.std.proofs.Common.{ℕ, zero, suc, ◌≡◌, ◌<◌, ◌≤◌, ◌+◌, ◌-◌, ◌*◌, ◌/◌, ◌%◌, ◌^◌, ◌==◌, Bool, true, false, not, ◌&&◌, cond, nat_lt, nat_eq, eqb, List, [], ◌∷◌, ◌++◌, length, take, drop, get_or, replicate, reverse, Result, Ok, Err, refl, ap, ap₂, sym, ◌∙◌, arith, rules, add-one, append_assoc, length-drop, length-take, length-append}
+use Rattle.std.specs.Prelude.{decimal, nat_le}
+use Rattle.std.specs.Char.{is_ascii_digit, digit_value}
+use Rattle.std.specs.List.{list_all, list_any, suffix_len, position_or_len, before_first, after_first, AllByRecursion as Each}
+use Rattle.std.specs.Str.Parse.{digits_value, digits_value_after}
+use Rattle.std.proofs.Math.Nat.{pow-succ'}
+use Rattle.std.proofs.lemmas.Bool.{and_parts, eqb-true}
+use Rattle.std.proofs.lemmas.Bool.Decides.{nat_tests}
+use Rattle.std.proofs.lemmas.Fmt.{length-decimal-le, digits_decimal, digits_value-decimal, decimal_nonempty}
+use Rattle.std.proofs.lemmas.List.{get_or-reverse, get_or-drop, get_or-replicate, ext_get_or, length-replicate, replicate-append-replicate, take-append-drop, take_at, take_all, drop_all}
+use Rattle.std.proofs.lemmas.List.Sums.{prefix_len_passes, suffix_len-le-length}
+use Rattle.std.proofs.lemmas.Str.Parse.{IsNumeralModel, numerals_by_value, digits_value_short}
+use Rattle.lw_fixed.specs.declared.micro.Micro.{Micro}
+use Rattle.lw_fixed.specs.declared.fault.DecimalFault.{DecimalFault}
+use Rattle.lw_fixed.specs.declared.fault.DecimalFault.TheVariants.{Shape, Large, Fine, Negative}
+use Rattle.lw_fixed.specs.Decimals.{decimal_of, is_point, is_sign, without_sign, whole_part, decimals, is_decimal, has_digits, units_of, millionths_of, value_of_decimals, is_finer, is_negative}
+use Rattle.lw_fixed.specs.Printed.{decimal_text, six_decimals, without_zeros, with_decimals}
+use Rattle.lw_mapped.proofs.GoodWords.{IsGood, is_good, good-bytes}
+use Rattle.lw_mapped.proofs.WrittenLines.{each-append}
+
+abbrev pub Digits : List ℕ → Type 0
+Digits ds = list_all is_ascii_digit ds ≡ true
+
+pub own : IsNumeralModel Digits (digits_value 10)
+own = numerals_by_value _ (search rules)
+
+first-digit : (d : ℕ) (ds : List ℕ) → Digits (d ∷ ds) → (is_ascii_digit d ≡ true) × Digits ds
+first-digit d ds e = and_parts (is_ascii_digit d) (list_all is_ascii_digit ds) e
+
+digits-drop : (k : ℕ) (ds : List ℕ) → Digits ds → Digits (drop k ds)
+digits-drop zero ds e = e
+digits-drop (suc k) [] e = refl
+digits-drop (suc k) (d ∷ ds) e = digits-drop k ds (first-digit d ds e).1
+
+pub digits-take : (k : ℕ) (ds : List ℕ) → Digits ds → Digits (take k ds)
+digits-take zero ds e = refl
+digits-take (suc k) [] e = refl
+digits-take (suc k) (d ∷ ds) e = let parts = first-digit d ds e in ap₂ (λ a b. a && b) parts.0 (digits-take k ds parts.1)
+
+digit-good : (d : ℕ) → is_ascii_digit d ≡ true → is_good d ≡ true
+digit-good d e = grind (arith, nat_tests)
+
+pub digits-good : (ds : List ℕ) → Digits ds → list_all is_good ds ≡ true
+digits-good [] e = refl
+digits-good (d ∷ ds) e = let parts = first-digit d ds e in ap₂ (λ a b. a && b) (digit-good d parts.0) (digits-good ds parts.1)
+
+-- The six decimals.
+
+spread : (n v p : ℕ) → (n * 10 + v) * p ≡ n * (10 * p) + v * p
+spread n v p = grind arith
+
+value-after : (n : ℕ) (ds : List ℕ) → digits_value_after 10 n ds ≡ n * 10 ^ length ds + digits_value 10 ds
+value-after n [] = omega arith
+value-after n (d ∷ ds) =
+    let here : digits_value_after 10 (n * 10 + digit_value d) ds ≡ (n * 10 + digit_value d) * 10 ^ length ds + digits_value 10 ds = value-after (n * 10 + digit_value d) ds in
+    let zero_here : digits_value_after 10 (0 * 10 + digit_value d) ds ≡ (0 * 10 + digit_value d) * 10 ^ length ds + digits_value 10 ds = value-after (0 * 10 + digit_value d) ds in
+    let power : 10 ^ suc (length ds) ≡ 10 * 10 ^ length ds = pow-succ' 10 (length ds) in
+    let apart : (n * 10 + digit_value d) * 10 ^ length ds ≡ n * (10 * 10 ^ length ds) + digit_value d * 10 ^ length ds = spread n (digit_value d) (10 ^ length ds) in
+    rw power (omega arith)
+
+-- behind its first digit the number has its six last
+six-behind : (r : ℕ) (ds : List ℕ) → r < 1000000 → length ds ≡ 7 → Digits ds → digits_value 10 ds ≡ 1000000 + r → (length (drop 1 ds) ≡ 6) × (digits_value 10 (drop 1 ds) ≡ r)
+six-behind r [] below long all is = absurd (omega arith)
+six-behind r (d ∷ ds) below long all is =
+    let six : length ds ≡ 6 = omega arith in
+    let power : 10 ^ length ds ≡ 1000000 = ap (λ n. 10 ^ n) six in
+    let whole : digits_value 10 (d ∷ ds) ≡ (0 * 10 + digit_value d) * 10 ^ length ds + digits_value 10 ds = value-after (0 * 10 + digit_value d) ds in
+    let apart : 1000000 + r ≡ (0 * 10 + digit_value d) * 1000000 + digits_value 10 ds = sym is ∙ (whole ∙ ap (λ p. (0 * 10 + digit_value d) * p + digits_value 10 ds) power) in
+    let small : digits_value 10 ds < 10 ^ 6 = digits_value_short own ds 6 (first-digit d ds all).1 (omega arith) in
+    (six, omega (arith, apart, small, below))
+
+module _ (r : ℕ) (below : r < 1000000) where
+  million-digits : Digits (decimal (1000000 + r))
+  million-digits = digits_decimal own (1000000 + r) (omega arith)
+
+  million-value : digits_value 10 (decimal (1000000 + r)) ≡ 1000000 + r
+  million-value = digits_value-decimal own (1000000 + r) (omega arith)
+
+  seven : length (decimal (1000000 + r)) ≡ 7
+  seven =
+      let most : length (decimal (1000000 + r)) ≤ 7 = length-decimal-le 7 (1000000 + r) (omega arith) (omega arith) (omega arith) in
+      let short : length (decimal (1000000 + r)) ≤ 6 → ⊥ = λ le.
+      let less : digits_value 10 (decimal (1000000 + r)) < 10 ^ 6 = digits_value_short own (decimal (1000000 + r)) 6 million-digits le in
+      absurd (omega (arith, million-value)) in
+      omega arith
+
+  six-long : length (six_decimals r) ≡ 6
+  six-long = (six-behind r (decimal (1000000 + r)) below seven million-digits million-value).0
+
+  six-value : digits_value 10 (six_decimals r) ≡ r
+  six-value = (six-behind r (decimal (1000000 + r)) below seven million-digits million-value).1
+
+  six-digits : Digits (six_decimals r)
+  six-digits = digits-drop 1 (decimal (1000000 + r)) million-digits
+
+-- Zeros at the end.
+
+abbrev is_zero : ℕ → Bool
+is_zero d = eqb d 48
+
+zero-behind : (xs : List ℕ) (k : ℕ) → length xs - suffix_len is_zero xs ≤ k → k < length xs → is_zero (get_or xs k 0) ≡ true
+zero-behind xs k le lt =
+    let most : suffix_len is_zero xs ≤ length xs = suffix_len-le-length is_zero xs in
+    let near : length xs - 1 - k < suffix_len is_zero xs = omega arith in
+    let same : length xs - 1 - (length xs - 1 - k) ≡ k = omega arith in
+    let there : get_or (reverse xs) (length xs - 1 - k) 0 ≡ get_or xs (length xs - 1 - (length xs - 1 - k)) 0 = get_or-reverse xs (length xs - 1 - k) 0 (omega arith) in
+    ap is_zero (sym (there ∙ ap (λ i. get_or xs i 0) same)) ∙ prefix_len_passes is_zero (reverse xs) (length xs - 1 - k) 0 near
+
+dropped-zeros : (xs : List ℕ) → drop (length xs - suffix_len is_zero xs) xs ≡ replicate (suffix_len is_zero xs) 48
+dropped-zeros xs =
+    let n : ℕ = suffix_len is_zero xs in
+    let most : suffix_len is_zero xs ≤ length xs = suffix_len-le-length is_zero xs in
+    let long : length (drop (length xs - n) xs) ≡ n = omega (arith, length-drop (length xs - n) xs) in
+    ext_get_or 0 (drop (length xs - n) xs) (replicate n 48) (long ∙ sym (length-replicate n 48))
+    (λ i lt. get_or-drop (length xs - n) xs i 0
+    ∙ (eqb-true _ _ (zero-behind xs (length xs - n + i) (omega arith) (omega arith))
+    ∙ sym (get_or-replicate n i 48 0 (omega arith))))
+
+padded : (six : List ℕ) → length six ≡ 6 → take 6 (without_zeros six ++ replicate 6 48) ≡ six
+padded six long =
+    let s : ℕ = suffix_len is_zero six in
+    let most : suffix_len is_zero six ≤ length six = suffix_len-le-length is_zero six in
+    let all_six : s + (6 - s) ≡ 6 = omega arith in
+    let zeros : replicate s 48 ++ replicate (6 - s) 48 ≡ replicate 6 48 = replicate-append-replicate s (6 - s) 48 ∙ ap (λ n. replicate n 48) all_six in
+    let whole : take (length six - s) six ++ replicate s 48 ≡ six = ap (λ r. take (length six - s) six ++ r) (sym (dropped-zeros six)) ∙ take-append-drop (length six - s) six in
+    let all : without_zeros six ++ replicate 6 48 ≡ six ++ replicate (6 - s) 48 =
+    ap (λ r. without_zeros six ++ r) (sym zeros) ∙ (sym (append_assoc (without_zeros six) (replicate s 48) (replicate (6 - s) 48)) ∙ ap (λ r. r ++ replicate (6 - s) 48) whole) in
+    ap (take 6) all ∙ take_at six (replicate (6 - s) 48) 6 long
+
+-- Around the point.
+
+digit-apart : (d : ℕ) → is_ascii_digit d ≡ true → (is_point d ≡ false) × (is_sign d ≡ false)
+digit-apart d digit = (grind (arith, nat_tests), grind (arith, nat_tests))
+
+point-behind : (ds rest : List ℕ) → Digits ds → position_or_len is_point (ds ++ 46 ∷ rest) ≡ length ds
+point-behind [] rest all = refl
+point-behind (d ∷ ds) rest all =
+    let parts = first-digit d ds all in
+    let others : position_or_len is_point (ds ++ 46 ∷ rest) ≡ length ds = point-behind ds rest parts.1 in
+    ap (λ b. cond (not b) (1 + position_or_len is_point (ds ++ 46 ∷ rest)) 0) (digit-apart d parts.0).0 ∙ omega (arith, others)
+
+no-point : (ds : List ℕ) → Digits ds → position_or_len is_point ds ≡ length ds
+no-point [] all = refl
+no-point (d ∷ ds) all =
+    let parts = first-digit d ds all in
+    let others : position_or_len is_point ds ≡ length ds = no-point ds parts.1 in
+    ap (λ b. cond (not b) (1 + position_or_len is_point ds) 0) (digit-apart d parts.0).0 ∙ omega (arith, others)
+
+drop-point : (whole rest : List ℕ) → drop (suc (length whole)) (whole ++ 46 ∷ rest) ≡ rest
+drop-point [] rest = refl
+drop-point (d ∷ ds) rest = drop-point ds rest
+
+-- the text of a whole part and of decimals
+record HasParts (text whole part : List ℕ) : Type 0 where
+  whole_is : whole_part text ≡ whole
+  part_is : decimals text ≡ part
+  positive : is_negative text ≡ false
+
+signless : (d : ℕ) (rest : List ℕ) → is_ascii_digit d ≡ true → without_sign (d ∷ rest) ≡ d ∷ rest
+signless d rest digit = ap (λ b. cond b rest (d ∷ rest)) (digit-apart d digit).1
+
+not-minus : (d : ℕ) → is_ascii_digit d ≡ true → (nat_eq 45 d && true) ≡ false
+not-minus d digit = grind (arith, nat_tests)
+
+parts-are : (d : ℕ) (ds part : List ℕ) → Digits (d ∷ ds) → HasParts (with_decimals (d ∷ ds) part) (d ∷ ds) part
+parts-are d ds [] all =
+    let digit = (first-digit d ds all).0 in
+    record {
+      whole_is = ap (before_first is_point) (signless d ds digit) ∙ (ap (λ n. take n (d ∷ ds)) (no-point (d ∷ ds) all) ∙ take_all (length (d ∷ ds)) (d ∷ ds) (omega arith));
+      part_is = ap (after_first is_point) (signless d ds digit) ∙ drop_all _ (d ∷ ds) (omega (arith, no-point (d ∷ ds) all));
+      positive = not-minus d digit;
+    }
+parts-are d ds (e ∷ es) all =
+    let digit = (first-digit d ds all).0 in
+    let rest = ds ++ 46 ∷ e ∷ es in
+    record {
+      whole_is = ap (before_first is_point) (signless d rest digit) ∙ (ap (λ n. take n (d ∷ rest)) (point-behind (d ∷ ds) (e ∷ es) all) ∙ take_at (d ∷ ds) (46 ∷ e ∷ es) (length (d ∷ ds)) refl);
+      part_is = ap (after_first is_point) (signless d rest digit) ∙ (ap (λ n. drop (n + 1) (d ∷ rest)) (point-behind (d ∷ ds) (e ∷ es) all) ∙ rw add-one (drop-point (d ∷ ds) (e ∷ es)));
+      positive = not-minus d digit;
+    }
+
+parts-of : (whole part : List ℕ) → 0 < length whole → Digits whole → HasParts (with_decimals whole part) whole part
+parts-of [] part some all = absurd (omega arith)
+parts-of (d ∷ ds) part some all = parts-are d ds part all
+
+-- The text.
+
+some-digits : (a b : ℕ) → 0 < a → nat_lt 0 (a + b) ≡ true
+some-digits a b lt = grind (arith, nat_tests)
+
+module _ (n : ℕ) (fits : n < 2 ^ 64) where
+  abbrev whole : List ℕ
+  whole = decimal (n / 1000000)
+
+  abbrev part : List ℕ
+  part = without_zeros (six_decimals (n % 1000000))
+
+  whole-digits : Digits whole
+  whole-digits = digits_decimal own (n / 1000000) (omega arith)
+
+  whole-some : 0 < length whole
+  whole-some = decimal_nonempty (n / 1000000) (omega arith)
+
+  whole-short : length whole ≤ 20
+  whole-short = length-decimal-le 20 (n / 1000000) (omega arith) (omega arith) (omega arith)
+
+  part-digits : Digits part
+  part-digits = digits-take _ (six_decimals (n % 1000000)) (six-digits (n % 1000000) (omega arith))
+
+  part-short : length part ≤ 6
+  part-short = omega (arith, six-long (n % 1000000) (omega arith), length-take (length (six_decimals (n % 1000000)) - suffix_len is_zero (six_decimals (n % 1000000))) (six_decimals (n % 1000000)))
+
+  part-value : value_of_decimals part ≡ n % 1000000
+  unfolding value_of_decimals
+  part-value = ap (digits_value 10) (padded (six_decimals (n % 1000000)) (six-long (n % 1000000) (omega arith))) ∙ six-value (n % 1000000) (omega arith)
+
+  good-text : (w p : List ℕ) → Each IsGood w → Each IsGood p → Each IsGood (with_decimals w p)
+  good-text w [] a b = a
+  good-text w (d ∷ ds) a b = each-append IsGood w (46 ∷ d ∷ ds) a ((good-bytes (46 ∷ []) refl).0, b)
+
+  pub printed-good : Each IsGood (decimal_text n)
+  unfolding decimal_text
+  printed-good = good-text whole part (good-bytes whole (digits-good whole whole-digits)) (good-bytes part (digits-good part part-digits))
+
+  text-length : (w p : List ℕ) → 0 < length w → length w ≤ 20 → length p ≤ 6 → (0 < length (with_decimals w p)) × (length (with_decimals w p) ≤ 4095)
+  text-length w [] some short few = (some, omega arith)
+  text-length w (d ∷ ds) some short few = (omega (arith, length-append w (46 ∷ d ∷ ds)), omega (arith, length-append w (46 ∷ d ∷ ds)))
+
+  pub printed-length : (0 < length (decimal_text n)) × (length (decimal_text n) ≤ 4095)
+  unfolding decimal_text
+  printed-length = text-length whole part whole-some whole-short part-short
+
+  parts : HasParts (decimal_text n) whole part
+  unfolding decimal_text
+  parts = parts-of whole part whole-some whole-digits
+
+  is-decimal : is_decimal (decimal_text n) ≡ true
+  is-decimal =
+      ap₂ has_digits parts.whole_is parts.part_is
+      ∙ (ap₂ (λ a b. a && b && nat_lt 0 (length whole + length part)) whole-digits part-digits ∙ some-digits (length whole) (length part) whole-some)
+
+  units-are : units_of (decimal_text n) ≡ n / 1000000
+  units-are = ap (digits_value 10) parts.whole_is ∙ digits_value-decimal own (n / 1000000) (omega arith)
+
+  millionths-are : millionths_of (decimal_text n) ≡ n
+  millionths-are =
+      let part_is : value_of_decimals (decimals (decimal_text n)) ≡ n % 1000000 = ap value_of_decimals parts.part_is ∙ part-value in
+      omega (arith, units-are, part_is)
+
+  not-finer : is_finer (decimals (decimal_text n)) ≡ false
+  not-finer = ap is_finer parts.part_is ∙ ap (list_any (λ digit. not (digit == 48))) (drop_all 6 part part-short)
+
+  module _ (units : ℕ) (below : n < units * 1000000) where
+    small : nat_le units (units_of (decimal_text n)) ≡ false
+    small = let less : n / 1000000 < units = omega arith in ap (nat_le units) units-are ∙ tested units (n / 1000000) less
+      where
+        tested : (u v : ℕ) → v < u → nat_le u v ≡ false
+        tested u v lt = grind (arith, nat_tests)
+
+    -- What is printed is read as the number, by any limit above it.
+    pub printed-read : decimal_of (decimal_text n) units ≡ Ok (record { 0 = n })
+    unfolding decimal_of
+    printed-read =
+        let text = decimal_text n in
+        ap (λ b. cond (not b) (Err Shape) (behind (nat_le units (units_of text)) (is_finer (decimals text)) (is_negative text && nat_lt 0 (millionths_of text)))) is-decimal
+        ∙ (ap₂ (λ l f. behind l f (is_negative text && nat_lt 0 (millionths_of text))) small not-finer
+        ∙ (ap (λ b. behind false false (b && nat_lt 0 (millionths_of text))) parts.positive
+        ∙ ap (λ m. let v : Micro = record { 0 = m } in Ok v) millionths-are))
+      where
+        behind : Bool → Bool → Bool → Result Micro DecimalFault
+        behind l f g = cond l (Err Large) (cond f (Err Fine) (cond g (Err Negative) (Ok (record { 0 = millionths_of (decimal_text n) }))))

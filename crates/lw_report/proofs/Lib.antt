@@ -1,0 +1,6 @@
+pub mod Bits
+pub mod BlockLemmas
+pub mod PathLemmas
+pub mod SimLemmas
+pub mod Standings
+pub mod Once

@@ -1,0 +1,30 @@
+use Rattle.std.proofs.Common.{List, All, map, sym, subst}
+use Rattle.std.specs.List.{flat_map}
+use Rattle.lw_fixed.specs.declared.micro.Micro.{Micro}
+use Rattle.lw_genlib.specs.Tables.{millionths}
+use Rattle.lw_netlist.specs.declared.gate.Port.{Port}
+use Rattle.lw_io.specs.Waitings.{Puts}
+use Rattle.lw_io.proofs.Putting.{Puts-both}
+use Rattle.lw_report.specs.declared.step.Step.{Step}
+use Rattle.lw_report.specs.Made.{IsStepIn}
+use Rattle.lw_report.specs.Timings.{TimingParts, summary_text, step_line, timing_text}
+use Rattle.lw_report.proofs.PathLemmas.{path_steps_in}
+use Rattle.lw_report.proofs.timing.Timing.put_report.Goals as goal
+
+pub put_steps-requires-clause-steps : goal.put_steps-requires-clause-steps
+put_steps-requires-clause-steps g c =
+    let n = c.args.netlist.now in
+    let made = c.requires.made.1 in
+    let steps = path_steps_in c.args.lib.now n c.args.self.now.arrivals made.path in
+    let inside = subst (λ (t : TimingParts). All (IsStepIn n) t.path) (sym c.self.view_is) steps in
+    subst (λ (p : List Step). All (IsStepIn n) p) (sym c.deref-3.ensures.value) inside
+
+pub returns : goal.returns
+returns g c =
+    let cells = c.args.lib.now in
+    let n = c.args.netlist.now in
+    let outputs = subst (λ (ps : List Port). Puts (g.S.Sink.taken c.args.sink.now) (g.S.Sink.faults c.args.sink.now) c.args.waiting.now (g.S.Sink.taken c.put_summary.new.sink) (g.S.Sink.faults c.put_summary.new.sink) c.put_summary.new.waiting (summary_text ps (map millionths c.deref.result.now) c.self.inside.latest.0 c.self.inside.area.0)) c.outputs.ensures.outputs c.put_summary.ensures in
+    let summary = subst (λ (ms : List Micro). Puts (g.S.Sink.taken c.args.sink.now) (g.S.Sink.faults c.args.sink.now) c.args.waiting.now (g.S.Sink.taken c.put_summary.new.sink) (g.S.Sink.faults c.put_summary.new.sink) c.put_summary.new.waiting (summary_text n.outputs (map millionths ms) c.self.inside.latest.0 c.self.inside.area.0)) c.deref.ensures.value outputs in
+    let path = subst (λ (p : List Step). Puts (g.S.Sink.taken c.put_summary.new.sink) (g.S.Sink.faults c.put_summary.new.sink) c.put_summary.new.waiting (g.S.Sink.taken c.put_steps.new.sink) (g.S.Sink.faults c.put_steps.new.sink) c.put_steps.new.waiting (flat_map (step_line cells n (map millionths c.deref-2.result.now)) p)) c.deref-3.ensures.value c.put_steps.ensures in
+    let steps = subst (λ (ms : List Micro). Puts (g.S.Sink.taken c.put_summary.new.sink) (g.S.Sink.faults c.put_summary.new.sink) c.put_summary.new.waiting (g.S.Sink.taken c.put_steps.new.sink) (g.S.Sink.faults c.put_steps.new.sink) c.put_steps.new.waiting (flat_map (step_line cells n (map millionths ms)) c.self.inside.path.items)) c.deref-2.ensures.value path in
+    subst (λ (t : TimingParts). Puts (g.S.Sink.taken c.args.sink.now) (g.S.Sink.faults c.args.sink.now) c.args.waiting.now (g.S.Sink.taken c.put_steps.new.sink) (g.S.Sink.faults c.put_steps.new.sink) c.put_steps.new.waiting (timing_text cells n t)) c.self.view_is (Puts-both summary steps)

@@ -1,0 +1,11 @@
+pub mod Blocks
+pub mod Made
+pub mod Marking
+pub mod Pathways
+pub mod Puts
+pub mod Reading
+pub mod Simulated
+pub mod Standing
+pub mod Texts
+pub mod Timings
+pub mod Vectors

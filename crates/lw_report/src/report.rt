@@ -1,0 +1,132 @@
+// The lines of a timing report.
+ghost use Rattle.std.specs.Prelude.{◌≡◌, ◌<◌, ◌++◌, Some, length, map, slice_get, All, IfSome};
+ghost use Rattle.std.specs.List.{flat_map};
+ghost use Rattle.lw_genlib.specs.Tables.{millionths};
+ghost use Rattle.lw_netlist.specs.Plain.{IsOver};
+ghost use Rattle.lw_io.specs.Waitings.{Puts};
+ghost use Rattle.lw_report.specs.Made.{IsStepIn};
+ghost use Rattle.lw_report.specs.Timings as report;
+ghost use Rattle.lw_report.specs.Timings.{arrival_line, summary_text, cell_step_line, step_line};
+
+use crate::Step;
+use crate::lines::{put_last, put_word};
+use crate::totals::cell_of;
+use lw_fixed::Micro;
+use lw_genlib::{Cell, Library};
+use lw_io::{Sink, Waiting, put};
+use lw_netlist::{Netlist, Port};
+
+// When an output arrives.
+fn put_arrival<S: Sink>(sink: &mut S, waiting: &mut Waiting, port: &Port, arrivals: &[Micro])
+    requires { port.now.net.0 < length arrivals.now }
+    ensures { Puts (S.taken sink.old) (S.faults sink.old) waiting.old (S.taken sink.new) (S.faults sink.new) waiting.new (arrival_line (map millionths arrivals.now) port.now) }
+{
+    put(sink, waiting, b"arrival");
+    put_word(sink, waiting, port.name.as_bytes());
+    put_last(sink, waiting, arrivals[port.net.0 as usize]);
+}
+
+// When the outputs arrive.
+fn put_arrivals<S: Sink>(sink: &mut S, waiting: &mut Waiting, ports: &[Port], arrivals: &[Micro])
+    requires { All (λ port. port.net.0 < length arrivals.now) ports.now }
+    ensures { Puts (S.taken sink.old) (S.faults sink.old) waiting.old (S.taken sink.new) (S.faults sink.new) waiting.new (flat_map (arrival_line (map millionths arrivals.now)) ports.now) }
+{
+    for port in ports {
+        put_arrival(sink, waiting, port, arrivals);
+    }
+}
+
+// When the outputs arrive, the greatest of these times, and the area.
+pub(crate) fn put_summary<S: Sink>(
+    sink: &mut S,
+    waiting: &mut Waiting,
+    ports: &[Port],
+    arrivals: &[Micro],
+    latest: Micro,
+    area: Micro,
+)
+    requires { All (λ port. port.net.0 < length arrivals.now) ports.now }
+    ensures { Puts (S.taken sink.old) (S.faults sink.old) waiting.old (S.taken sink.new) (S.faults sink.new) waiting.new (summary_text ports.now (map millionths arrivals.now) latest.0 area.0) }
+{
+    put_arrivals(sink, waiting, ports, arrivals);
+    put(sink, waiting, b"max");
+    put_last(sink, waiting, latest);
+    put(sink, waiting, b"area");
+    put_last(sink, waiting, area);
+}
+
+// The name of a pin, if there is one.
+fn pin_name(cell: &Cell, pin: Option<u8>) -> &[u8]
+    requires { IfSome pin (λ k. k < length cell.now.pins) }
+    ensures { result.now ≡ report.pin_name cell.now pin }
+{
+    match pin {
+        Some(k) => cell.pins()[usize::from(k)].as_bytes(),
+        None => b"-",
+    }
+}
+
+// A step at a gate of this cell, whose net has this name.
+fn put_cell_step<S: Sink>(
+    sink: &mut S,
+    waiting: &mut Waiting,
+    net: &[u8],
+    arrival: Micro,
+    pin: Option<u8>,
+    cell: &Cell,
+)
+    requires { IfSome pin (λ k. k < length cell.now.pins) }
+    ensures { Puts (S.taken sink.old) (S.faults sink.old) waiting.old (S.taken sink.new) (S.faults sink.new) waiting.new (cell_step_line net.now arrival.0 pin (Some cell.now)) }
+{
+    put(sink, waiting, b"step");
+    put_word(sink, waiting, net);
+    put_word(sink, waiting, cell.name().as_bytes());
+    put_word(sink, waiting, pin_name(cell, pin));
+    put_last(sink, waiting, arrival);
+}
+
+// A step of the critical path.
+fn put_step<S: Sink>(
+    sink: &mut S,
+    waiting: &mut Waiting,
+    netlist: &Netlist,
+    lib: &Library,
+    arrivals: &[Micro],
+    step: Step,
+)
+    requires over { IsOver lib.now netlist.now }
+    requires one_each { length arrivals.now ≡ length netlist.now.names }
+    requires step { IsStepIn netlist.now step }
+    ensures { Puts (S.taken sink.old) (S.faults sink.old) waiting.old (S.taken sink.new) (S.faults sink.new) waiting.new (step_line lib.now netlist.now (map millionths arrivals.now) step) }
+{
+    let gate = &netlist.gates()[step.gate as usize];
+    let net = gate.out.0 as usize;
+    let name = netlist.names()[net].as_bytes();
+    put_cell_step(
+        sink,
+        waiting,
+        name,
+        arrivals[net],
+        step.pin,
+        cell_of(lib, gate),
+    );
+}
+
+// The steps of the critical path.
+pub(crate) fn put_steps<S: Sink>(
+    sink: &mut S,
+    waiting: &mut Waiting,
+    netlist: &Netlist,
+    lib: &Library,
+    arrivals: &[Micro],
+    path: &[Step],
+)
+    requires over { IsOver lib.now netlist.now }
+    requires one_each { length arrivals.now ≡ length netlist.now.names }
+    requires steps { All (IsStepIn netlist.now) path.now }
+    ensures { Puts (S.taken sink.old) (S.faults sink.old) waiting.old (S.taken sink.new) (S.faults sink.new) waiting.new (flat_map (step_line lib.now netlist.now (map millionths arrivals.now)) path.now) }
+{
+    for step in path {
+        put_step(sink, waiting, netlist, lib, arrivals, *step);
+    }
+}

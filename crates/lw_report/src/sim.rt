@@ -1,0 +1,176 @@
+// Simulation.
+ghost use Rattle.std.specs.Prelude.{◌≡◌, ◌≤◌, None, List, map, length, take, All, IfOk};
+ghost use Rattle.lw_io.specs.Causes.{HasCause};
+ghost use Rattle.lw_words.specs.Lines.{LogicalLine};
+ghost use Rattle.lw_netlist.specs.Plain.{IsOver};
+ghost use Rattle.lw_report.specs.Blocks.{IsBlock, block_vectors, vectors_in};
+ghost use Rattle.lw_report.specs.Made.{places_of};
+ghost use Rattle.lw_report.specs.Puts.{PutsLines};
+ghost use Rattle.lw_report.specs.Simulated.{IsNetworkLine, IsNetlistLine, IsNetworkSimulation, IsNetlistSimulation};
+ghost use Rattle.lw_report.specs.Standing.{StandsFor, inputs_of, stop_of};
+ghost use Rattle.lw_report.specs.Texts.{Writes};
+ghost use Rattle.lw_report.specs.Vectors.{vector_of};
+
+use crate::Vectors;
+use crate::block::{Block, zeros};
+use crate::gates::fill_gates;
+use crate::nodes::fill_nodes;
+use crate::outputs::{put_net_lines, put_port_lines};
+use lw_genlib::Library;
+use lw_io::{Failed, Sink, Waiting, end};
+use lw_net::Network;
+use lw_netlist::Netlist;
+use std::alloc::{AllocError, Global};
+
+/// Simulates a network or a netlist, 64 vectors at a time: bit k of the word of a net is its value in vector k.
+#[derive(Drop)]
+pub struct Sim {
+    nets: Vec<u64>,
+}
+
+impl Sim {
+    /// A simulator of a network: it has a place for each of its nets.
+    pub fn of_network(alloc: Global, net: &Network) -> Result<Self, AllocError>
+        ensures { IfOk result (λ sim. places_of sim ≡ length net.now.names) }
+    {
+        let nets = zeros(alloc, net.names().len())?;
+        Ok(Sim { nets })
+    }
+
+    /// A simulator of a netlist: it has a place for each of its nets.
+    pub fn of_netlist(alloc: Global, netlist: &Netlist) -> Result<Self, AllocError>
+        ensures { IfOk result (λ sim. places_of sim ≡ length netlist.now.names) }
+    {
+        let nets = zeros(alloc, netlist.names().len())?;
+        Ok(Sim { nets })
+    }
+
+    /// Writes the values of the network's outputs, a line for each vector. It takes no memory.
+    pub fn network<S: Sink>(
+        &mut self,
+        net: &Network,
+        vectors: &Vectors,
+        sink: &mut S,
+    ) -> Result<(), Failed>
+        requires made { places_of self.old ≡ length net.now.names }
+        requires inputs { inputs_of vectors.now ≡ net.now.inputs }
+        requires good { stop_of vectors.now ≡ None }
+        ensures text { (lines : List LogicalLine) → StandsFor vectors.now lines → Writes (IsNetworkSimulation net.now (map vector_of lines)) (S.taken sink.old) (S.taken sink.new) result }
+        ensures cause { HasCause (S.faults sink.old) (S.faults sink.new) result }
+        ensures made { places_of self.new ≡ places_of self.old }
+    {
+        let mut waiting = Waiting::new();
+        put_network(sink, &mut waiting, net, vectors.blocks(), &mut self.nets);
+        end(sink, waiting)
+    }
+
+    /// Writes the values of the netlist's outputs, a line for each vector. It takes no memory.
+    pub fn netlist<S: Sink>(
+        &mut self,
+        netlist: &Netlist,
+        lib: &Library,
+        vectors: &Vectors,
+        sink: &mut S,
+    ) -> Result<(), Failed>
+        requires made { places_of self.old ≡ length netlist.now.names }
+        requires over { IsOver lib.now netlist.now }
+        requires inputs { inputs_of vectors.now ≡ netlist.now.inputs }
+        requires good { stop_of vectors.now ≡ None }
+        ensures text { (lines : List LogicalLine) → StandsFor vectors.now lines → Writes (IsNetlistSimulation lib.now netlist.now (map vector_of lines)) (S.taken sink.old) (S.taken sink.new) result }
+        ensures cause { HasCause (S.faults sink.old) (S.faults sink.new) result }
+        ensures made { places_of self.new ≡ places_of self.old }
+    {
+        let mut waiting = Waiting::new();
+        put_netlist(
+            sink,
+            &mut waiting,
+            netlist,
+            lib,
+            vectors.blocks(),
+            &mut self.nets,
+        );
+        end(sink, waiting)
+    }
+}
+
+// Copies the words of inputs to the front.
+fn copy_front(words: &[u64], nets: &mut [u64])
+    requires { length words.now ≤ length nets.old }
+    ensures { take (length words.now) nets.new ≡ words.now }
+{
+    nets[..words.len()].copy_from_slice(words);
+}
+
+// The lines of a block of vectors.
+fn put_network_block<S: Sink>(
+    sink: &mut S,
+    waiting: &mut Waiting,
+    net: &Network,
+    block: &Block,
+    nets: &mut [u64],
+)
+    requires made { length nets.old ≡ length net.now.names }
+    requires block { IsBlock net.now.inputs block.now }
+    ensures { PutsLines (IsNetworkLine net.now) (block_vectors block.now) (S.taken sink.old) (S.faults sink.old) waiting.old (S.taken sink.new) (S.faults sink.new) waiting.new }
+{
+    let nodes = net.nodes();
+    copy_front(&block.words, nets);
+    fill_nodes(nodes, block.words.len(), nets);
+    put_net_lines(sink, waiting, net.outputs(), nets, block.count);
+}
+
+// The lines of blocks of vectors.
+fn put_network<S: Sink>(
+    sink: &mut S,
+    waiting: &mut Waiting,
+    net: &Network,
+    blocks: &[Block],
+    nets: &mut [u64],
+)
+    requires made { length nets.old ≡ length net.now.names }
+    requires blocks { All (IsBlock net.now.inputs) blocks.now }
+    ensures { PutsLines (IsNetworkLine net.now) (vectors_in blocks.now) (S.taken sink.old) (S.faults sink.old) waiting.old (S.taken sink.new) (S.faults sink.new) waiting.new }
+{
+    for block in blocks {
+        put_network_block(sink, waiting, net, block, nets);
+    }
+}
+
+// The lines of a block of vectors.
+fn put_netlist_block<S: Sink>(
+    sink: &mut S,
+    waiting: &mut Waiting,
+    netlist: &Netlist,
+    lib: &Library,
+    block: &Block,
+    nets: &mut [u64],
+)
+    requires made { length nets.old ≡ length netlist.now.names }
+    requires over { IsOver lib.now netlist.now }
+    requires block { IsBlock netlist.now.inputs block.now }
+    ensures { PutsLines (IsNetlistLine lib.now netlist.now) (block_vectors block.now) (S.taken sink.old) (S.faults sink.old) waiting.old (S.taken sink.new) (S.faults sink.new) waiting.new }
+{
+    let gates = netlist.gates();
+    copy_front(&block.words, nets);
+    fill_gates(gates, lib, block.words.len(), nets);
+    put_port_lines(sink, waiting, netlist.outputs(), nets, block.count);
+}
+
+// The lines of blocks of vectors.
+fn put_netlist<S: Sink>(
+    sink: &mut S,
+    waiting: &mut Waiting,
+    netlist: &Netlist,
+    lib: &Library,
+    blocks: &[Block],
+    nets: &mut [u64],
+)
+    requires made { length nets.old ≡ length netlist.now.names }
+    requires over { IsOver lib.now netlist.now }
+    requires blocks { All (IsBlock netlist.now.inputs) blocks.now }
+    ensures { PutsLines (IsNetlistLine lib.now netlist.now) (vectors_in blocks.now) (S.taken sink.old) (S.faults sink.old) waiting.old (S.taken sink.new) (S.faults sink.new) waiting.new }
+{
+    for block in blocks {
+        put_netlist_block(sink, waiting, netlist, lib, block, nets);
+    }
+}

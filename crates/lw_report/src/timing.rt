@@ -1,0 +1,150 @@
+// The timing of a netlist.
+ghost use Rattle.std.specs.Prelude.{◌≡◌, ◌≤◌, ◌^◌, ◌<◌, length, map, vec_len, All, IfOk, OnOk, OnErr};
+ghost use Rattle.std.specs.Io.KnownBytes.{Appends};
+ghost use Rattle.lw_io.specs.Causes.{HasCause};
+ghost use Rattle.lw_io.specs.Moves.{AppendsPrefix};
+ghost use Rattle.lw_io.specs.Waitings.{Puts};
+ghost use Rattle.lw_laws.specs.Netlists.{AreArrivals};
+ghost use Rattle.lw_genlib.specs.Cells.{IsSmall};
+ghost use Rattle.lw_genlib.specs.Tables.{millionths, timing_of};
+ghost use Rattle.lw_netlist.specs.Netlists.{most_gates};
+ghost use Rattle.lw_netlist.specs.Plain.{plain, IsOver};
+
+use crate::Step;
+use crate::path::critical_path;
+use crate::report::{put_steps, put_summary};
+use crate::totals::{area_of, latest_of};
+use lw_fixed::{Micro, Micros};
+use lw_genlib::Library;
+use lw_io::{Failed, Sink, Waiting, end};
+use lw_netlist::Netlist;
+use std::alloc::{AllocError, Global};
+use std::marker::Model;
+
+/// The timing of a netlist: when its nets arrive, the greatest arrival of an output, its area, and its critical path.
+#[derive(Debug, Drop)]
+pub struct Timing {
+    arrivals: Vec<Micro>,
+    latest: Micro,
+    area: Micro,
+    path: Vec<Step>,
+}
+
+impl Model for Timing {
+    ghost use Rattle.std.specs.Prelude.{map};
+    ghost use Rattle.lw_genlib.specs.Tables.{millionths};
+    ghost use Rattle.lw_report.specs.Timings.{TimingParts};
+
+    ghost Value = { TimingParts };
+
+    ghost view = { λ t. record { arrivals = map millionths t.arrivals.items; latest = t.latest.0; area = t.area.0; path = t.path.items } };
+}
+
+// Times of 0.
+fn zeros(alloc: Global, n: usize) -> Result<Vec<Micro>, AllocError>
+    ensures { IfOk result (λ times. vec_len times ≡ n) }
+{
+    let mut times = Vec::with_capacity(alloc, n)?;
+    for _made in 0..n {
+        times.push(Micro(0))?;
+    }
+    Ok(times)
+}
+
+// When the nets of a netlist arrive.
+fn arrivals_of(
+    alloc: Global,
+    netlist: &Netlist,
+    lib: &Library,
+    starts: &Micros,
+) -> Result<Vec<Micro>, AllocError>
+    requires over { IsOver lib.now netlist.now }
+    requires one_start { length starts.now ≡ netlist.now.inputs }
+    requires small { All IsSmall starts.now }
+    requires few { length netlist.now.gates ≤ most_gates }
+    ensures arrivals { IfOk result (λ arrivals. AreArrivals (timing_of lib.now starts.now) (plain netlist.now) (map millionths arrivals.items)) }
+    ensures low { IfOk result (λ arrivals. All (λ net. net.0 < 2 ^ 63) arrivals.items) }
+    ensures len { IfOk result (λ arrivals. vec_len arrivals ≡ length netlist.now.names) }
+{
+    let mut arrivals = zeros(alloc, netlist.names().len())?;
+    netlist.arrivals(lib, starts, &mut arrivals);
+    Ok(arrivals)
+}
+
+impl Timing {
+    ghost use Rattle.lw_report.specs.Timings.{IsTimingOf, timing_text};
+    ghost use Rattle.lw_report.specs.Made.{IsTimingFor};
+
+    /// The timing of a netlist whose inputs start then.
+    pub fn new(
+        alloc: Global,
+        netlist: &Netlist,
+        lib: &Library,
+        starts: &Micros,
+    ) -> Result<Self, AllocError>
+        requires over { IsOver lib.now netlist.now }
+        requires one_start { length starts.now ≡ netlist.now.inputs }
+        requires small { All IsSmall starts.now }
+        requires few { length netlist.now.gates ≤ most_gates }
+        ensures { IfOk result (IsTimingOf lib.now netlist.now starts.now) }
+    {
+        let arrivals = arrivals_of(alloc, netlist, lib, starts)?;
+        let latest = latest_of(netlist.outputs(), &arrivals);
+        let path = critical_path(alloc, netlist, lib, &arrivals, latest)?;
+        Ok(Timing {
+            arrivals,
+            latest,
+            area: area_of(netlist.gates(), lib),
+            path,
+        })
+    }
+
+    /// The greatest arrival of an output, 0 without outputs.
+    pub fn latest(&self) -> Micro
+        ensures { result.0 ≡ self.now.latest }
+    {
+        self.latest
+    }
+
+    /// Writes the timing report of the netlist that it was made for: the arrival of each output, the greatest of them, the area, and the
+    /// steps of the critical path. It takes no memory.
+    pub fn write<S: Sink>(
+        &self,
+        netlist: &Netlist,
+        lib: &Library,
+        sink: &mut S,
+    ) -> Result<(), Failed>
+        requires over { IsOver lib.now netlist.now }
+        requires made { IsTimingFor lib.now netlist.now self.now }
+        ensures ok { OnOk result (Appends (S.taken sink.old) (S.taken sink.new) (timing_text lib.now netlist.now self.now)) }
+        ensures failed { OnErr result (AppendsPrefix (S.taken sink.old) (S.taken sink.new) (timing_text lib.now netlist.now self.now)) }
+        ensures cause { HasCause (S.faults sink.old) (S.faults sink.new) result }
+    {
+        let mut waiting = Waiting::new();
+        self.put_report(sink, &mut waiting, netlist, lib);
+        end(sink, waiting)
+    }
+
+    // The whole text.
+    fn put_report<S: Sink>(
+        &self,
+        sink: &mut S,
+        waiting: &mut Waiting,
+        netlist: &Netlist,
+        lib: &Library,
+    )
+        requires over { IsOver lib.now netlist.now }
+        requires made { IsTimingFor lib.now netlist.now self.now }
+        ensures { Puts (S.taken sink.old) (S.faults sink.old) waiting.old (S.taken sink.new) (S.faults sink.new) waiting.new (timing_text lib.now netlist.now self.now) }
+    {
+        put_summary(
+            sink,
+            waiting,
+            netlist.outputs(),
+            &self.arrivals,
+            self.latest,
+            self.area,
+        );
+        put_steps(sink, waiting, netlist, lib, &self.arrivals, &self.path);
+    }
+}

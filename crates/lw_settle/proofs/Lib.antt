@@ -1,0 +1,11 @@
+pub mod Agreeing
+pub mod Counting
+pub mod Filling
+pub mod Finishing
+pub mod Grouping
+pub mod Listed
+pub mod Queueing
+pub mod Reading
+pub mod Rising
+pub mod Taking
+pub mod Tiling

@@ -1,0 +1,53 @@
+ghost use Rattle.std.specs.Prelude.{◌≡◌, ◌<◌, ◌^◌, ◌-◌, Some, None};
+ghost use Rattle.lw_settle.specs.Queues.{is_before, lesser, mark_of, no_cost, no_height, IsLeafOf};
+
+use lw_match::Mark;
+
+/// A class with the mark that it waits with. The greatest cost and height stand for no mark.
+#[derive(Clone, Copy, Debug)]
+pub(crate) struct Entry {
+    pub cost: u64,
+    pub height: u32,
+    pub class: u32,
+}
+
+/// A class that does not wait.
+pub(crate) fn no_mark(class: u32) -> Entry
+    ensures none { mark_of result ≡ None }
+    ensures leaf { IsLeafOf result class }
+{
+    Entry {
+        cost: u64::MAX,
+        height: u32::MAX,
+        class,
+    }
+}
+
+/// A class that waits with a mark.
+pub(crate) fn with_mark(class: u32, mark: Mark) -> Entry
+    requires { mark.height < 2 ^ 32 - 1 }
+    ensures some { mark_of result ≡ Some mark }
+    ensures leaf { IsLeafOf result class }
+    ensures cost { result.cost ≡ mark.cost }
+    ensures height { result.height ≡ mark.height }
+{
+    Entry {
+        cost: mark.cost,
+        height: mark.height,
+        class,
+    }
+}
+
+/// Whether one is before the other: it costs less, or the same with less height.
+pub(crate) fn is_before(one: Entry, other: Entry) -> bool
+    ensures { result ≡ is_before one other }
+{
+    one.cost < other.cost || (one.cost == other.cost && one.height < other.height)
+}
+
+/// The lesser of two.
+pub(crate) fn lesser(one: Entry, other: Entry) -> Entry
+    ensures { result ≡ lesser one other }
+{
+    if is_before(other, one) { other } else { one }
+}

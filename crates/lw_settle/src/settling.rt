@@ -1,0 +1,224 @@
+ghost use Rattle.std.specs.Prelude.{◌≡◌, ◌+◌, ◌-◌, ◌^◌, ◌<◌, ◌≤◌, ℕ, [], List, None, IfOk, OnErr, length, drop, map, replicate, slice_get};
+ghost use Rattle.lw_graph.specs.Graphs.{IsGraph};
+ghost use Rattle.lw_laws.specs.Graphs.{Graph as PlainGraph};
+ghost use Rattle.lw_laws.specs.Rounds.{labels_in};
+ghost use Rattle.lw_label.specs.Labels.{costs_of};
+ghost use Rattle.lw_label.specs.Rising.{marked};
+ghost use Rattle.lw_match.specs.Values.{marks_in, plain_mark};
+ghost use Rattle.lw_settle.specs.Settled.{AreSettledMarks, HaveLeafCosts, settle_steps};
+ghost use Rattle.lw_settle.specs.Queues.{AreNone};
+ghost use Rattle.lw_settle.specs.Settling.{AreInputsOffered, AreLow, IsMatchOffered, IsOffering, IsReading, IsReadingOf, IsReadingSome, IsSettling, Stage, first_stage, pin_count};
+ghost use Rattle.lw_settle.specs.Stores.{AreOfStoredCells, HasMarkedPins, pins_of, placed, uses_of};
+
+use crate::queue::Queue;
+use crate::store::Store;
+use lw_graph::Graph;
+use lw_label::Labels;
+use lw_match::{Cost, Mark};
+use lw_pool::ClassId;
+use std::alloc::{AllocError, Global};
+
+// Offers a mark to a class, unless its own is taken.
+fn offer(queue: &mut Queue, marks: &[Option<Mark>], class: ClassId, mark: Mark)
+    requires class { class.0 < length marks.now }
+    requires one_each { length queue.old ≡ length marks.now }
+    requires few { length marks.now < 2 ^ 32 - 1 }
+    requires height { mark.height ≤ marked marks.now + 1 }
+    ensures offering { IsOffering (marks_in marks.now) (marks_in queue.old) (marks_in queue.new) class.0 (plain_mark mark) }
+    ensures one_each { length queue.new ≡ length queue.old }
+{
+    if marks[class.0 as usize].is_none() {
+        queue.offer(class, mark);
+    }
+}
+
+// Prices a match and offers it to its class.
+fn offer_match<C: Cost>(
+    store: &mut Store,
+    cost: &C,
+    marks: &[Option<Mark>],
+    queue: &mut Queue,
+    place: u32,
+)
+    requires place { place < length (placed store.old.lists) }
+    requires of_cells { AreOfStoredCells (C.costs cost.now).pin_counts store.old.lists }
+    requires one_mark { length marks.now ≡ length store.old.lists }
+    requires one_wait { length queue.old ≡ length store.old.lists }
+    requires few { length marks.now < 2 ^ 32 - 1 }
+    requires low { AreLow (C.costs cost.now).cap marks.now }
+    requires marked { HasMarkedPins store.old.lists (marks_in marks.now) place }
+    requires fresh { store.old.done < 2 ^ 63 }
+    ensures offered { IsMatchOffered (C.costs cost.now) (placed store.old.lists) place (marks_in marks.now) (marks_in queue.old) (marks_in queue.new) }
+    ensures one_wait { length queue.new ≡ length queue.old }
+    ensures lists { store.new.lists ≡ store.old.lists }
+    ensures done { store.new.done ≡ store.old.done + 1 }
+{
+    let _ = store.matches();
+    let head = store.head(place);
+    let mark = store.price(place, cost, marks);
+    offer(queue, marks, head.class, mark);
+}
+
+// Offers the inputs to their classes.
+fn offer_inputs<C: Cost>(graph: &Graph, cost: &C, queue: &mut Queue)
+    requires { queue.old ≡ replicate (length graph.now.pairs) None }
+    ensures { AreInputsOffered graph.now (C.costs cost.now) (length graph.now.leaves) queue.new }
+{
+    let _ = graph.classes();
+    for input in 0..graph.inputs() {
+        let mark = Mark {
+            cost: cost.leaf(input),
+            height: 0,
+        };
+        queue.offer(graph.leaf(input), mark);
+    }
+}
+
+// How many pins each match has.
+fn count_pins(store: &Store, left: &mut [u8])
+    requires { length left.old ≡ length (placed store.now.lists) }
+    ensures { left.new ≡ map pin_count (placed store.now.lists) }
+{
+    let _ = store.matches();
+    for place in 0..left.len() {
+        left[place] = store.head(place as u32).pins;
+    }
+}
+
+// Offers the matches without pins to their classes.
+fn offer_pinless<C: Cost>(
+    store: &mut Store,
+    cost: &C,
+    marks: &[Option<Mark>],
+    queue: &mut Queue,
+    left: &[u8],
+)
+    requires of_cells { AreOfStoredCells (C.costs cost.now).pin_counts store.old.lists }
+    requires settling { (g : PlainGraph) × (start : ℕ) × IsSettling (C.costs cost.now) store.old.lists (first_stage g start) (length g.leaves) 0 [] store.old.done marks.now queue.old left.now }
+    ensures lists { store.new.lists ≡ store.old.lists }
+    ensures reading { (g : PlainGraph) (start : ℕ) → IsSettling (C.costs cost.now) store.old.lists (first_stage g start) (length g.leaves) 0 [] store.old.done marks.now queue.old left.now → IsReading (C.costs cost.now) store.old.lists (first_stage g start) [] store.new.done marks.now queue.new left.now }
+{
+    for place in 0..store.matches() {
+        if left[place as usize] == 0 {
+            offer_match(store, cost, marks, queue, place);
+        }
+    }
+}
+
+// Reads a use of a class: one pin less is left of its match, which is offered to its class where that was the last one.
+fn read_use<C: Cost>(
+    store: &mut Store,
+    cost: &C,
+    marks: &[Option<Mark>],
+    queue: &mut Queue,
+    left: &mut [u8],
+    class: ClassId,
+    n: u32,
+)
+    requires class { class.0 < length store.old.lists }
+    requires within { n < length (uses_of store.old.lists class.0) }
+    requires of_cells { AreOfStoredCells (C.costs cost.now).pin_counts store.old.lists }
+    requires reading { (s : Stage) × IsReadingOf (C.costs cost.now) store.old.lists s class.0 n store.old.done marks.now queue.old left.old }
+    ensures lists { store.new.lists ≡ store.old.lists }
+    ensures reading { (s : Stage) → IsReadingOf (C.costs cost.now) store.old.lists s class.0 n store.old.done marks.now queue.old left.old → IsReadingOf (C.costs cost.now) store.old.lists s class.0 (n + 1) store.new.done marks.now queue.new left.new }
+{
+    let _ = store.matches();
+    let place = store.use_at(class, n);
+    left[place as usize] -= 1;
+    if left[place as usize] == 0 {
+        offer_match(store, cost, marks, queue, place);
+    }
+}
+
+// Reads the uses of a class.
+fn read_uses<C: Cost>(
+    store: &mut Store,
+    cost: &C,
+    marks: &[Option<Mark>],
+    queue: &mut Queue,
+    left: &mut [u8],
+    class: ClassId,
+)
+    requires class { class.0 < length store.old.lists }
+    requires of_cells { AreOfStoredCells (C.costs cost.now).pin_counts store.old.lists }
+    requires reading { (s : Stage) × IsReadingOf (C.costs cost.now) store.old.lists s class.0 0 store.old.done marks.now queue.old left.old }
+    ensures lists { store.new.lists ≡ store.old.lists }
+    ensures reading { (s : Stage) → IsReadingOf (C.costs cost.now) store.old.lists s class.0 0 store.old.done marks.now queue.old left.old → IsReading (C.costs cost.now) store.old.lists s [] store.new.done marks.now queue.new left.new }
+{
+    for n in 0..store.uses(class) {
+        read_use(store, cost, marks, queue, left, class, n);
+    }
+}
+
+// Takes the classes in the order of their marks, until none waits.
+fn settle_classes<C: Cost>(
+    store: &mut Store,
+    cost: &C,
+    marks: &mut [Option<Mark>],
+    queue: &mut Queue,
+    left: &mut [u8],
+)
+    requires of_cells { AreOfStoredCells (C.costs cost.now).pin_counts store.old.lists }
+    requires reading { (s : Stage) × IsReading (C.costs cost.now) store.old.lists s [] store.old.done marks.old queue.old left.old }
+    ensures lists { store.new.lists ≡ store.old.lists }
+    ensures none { AreNone queue.new }
+    ensures reading { (s : Stage) → IsReading (C.costs cost.now) store.old.lists s [] store.old.done marks.old queue.old left.old → IsReadingSome (C.costs cost.now) store.old.lists s.graph s.start store.new.done marks.new queue.new left.new }
+{
+    while let Some(taken) = queue.take() {
+        marks[taken.class.0 as usize] = Some(taken.mark);
+        read_uses(store, cost, marks, queue, left, taken.class);
+    }
+}
+
+// Settles all classes.
+fn settle_all<C: Cost>(
+    store: &mut Store,
+    graph: &Graph,
+    cost: &C,
+    marks: &mut [Option<Mark>],
+    queue: &mut Queue,
+    left: &mut [u8],
+)
+    requires of_cells { AreOfStoredCells (C.costs cost.now).pin_counts store.old.lists }
+    requires one_each { length store.old.lists ≡ length graph.now.pairs }
+    requires leaves { HaveLeafCosts graph.now (C.costs cost.now) store.old.lists }
+    requires fresh { store.old.done < 2 ^ 62 }
+    requires marks { marks.old ≡ replicate (length graph.now.pairs) None }
+    requires queue { queue.old ≡ replicate (length graph.now.pairs) None }
+    requires left { length left.old ≡ length (placed store.old.lists) }
+    ensures marks { AreSettledMarks graph.now (C.costs cost.now) store.old.lists marks.new }
+    ensures lists { store.new.lists ≡ store.old.lists }
+    ensures done { store.new.done ≡ store.old.done + settle_steps (labels_in (costs_of marks.new)) store.old.lists }
+{
+    let _ = graph.classes();
+    let _ = store.matches();
+    offer_inputs(graph, cost, queue);
+    count_pins(store, left);
+    offer_pinless(store, cost, marks, queue, left);
+    settle_classes(store, cost, marks, queue, left);
+}
+
+/// Marks each class by the stored matches: the least cost of its covers, and its height. Classes are taken by rising cost and height;
+/// each use of a class that is taken is read once, and each match whose pins are all taken is priced once. The memory is taken first.
+pub fn settle<C: Cost>(
+    alloc: Global,
+    store: &mut Store,
+    graph: &Graph,
+    cost: &C,
+) -> Result<Labels, AllocError>
+    requires of_cells { AreOfStoredCells (C.costs cost.now).pin_counts store.old.lists }
+    requires one_each { length store.old.lists ≡ length graph.now.pairs }
+    requires leaves { HaveLeafCosts graph.now (C.costs cost.now) store.old.lists }
+    requires fresh { store.old.done < 2 ^ 62 }
+    ensures marks { IfOk result (AreSettledMarks graph.now (C.costs cost.now) store.old.lists) }
+    ensures lists { store.new.lists ≡ store.old.lists }
+    ensures done { IfOk result (λ labels. store.new.done ≡ store.old.done + settle_steps (labels_in (costs_of labels)) store.old.lists) }
+    ensures err { OnErr result (store.new ≡ store.old) }
+{
+    let classes = graph.classes() as usize;
+    let mut marks = vec![in alloc; None; classes]?;
+    let mut queue = Queue::new(alloc, classes)?;
+    let mut left = vec![in alloc; 0u8; store.matches() as usize]?;
+    settle_all(store, graph, cost, &mut marks, &mut queue, &mut left);
+    Ok(Labels::from_marks(marks))
+}

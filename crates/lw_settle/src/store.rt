@@ -1,0 +1,205 @@
+ghost use Rattle.std.specs.Prelude.{◌≡◌, ◌+◌, ◌-◌, ◌*◌, ◌^◌, ◌<◌, ◌≤◌, ℕ, List, Option, Some, length, map, take, slice_get, All};
+ghost use Rattle.std.specs.List.{slice_range, AllByRecursion};
+ghost use Rattle.lw_pool.specs.declared.id.ClassId.{ClassId};
+ghost use Rattle.lw_laws.specs.Covers.{HasPins};
+ghost use Rattle.lw_laws.specs.Marks.{Mark as PlainMark, HaveMarks, costs_in, greatest_height, price};
+ghost use Rattle.lw_match.specs.declared.mark.Mark.{Mark};
+ghost use Rattle.lw_match.specs.Values.{AreInRange, marks_in, numbers, plain_mark};
+ghost use Rattle.lw_settle.specs.Kept.{start_at};
+ghost use Rattle.lw_settle.specs.Stores.{AreKeptLists, AreOfStoredCells, HasMarkedPins, IsHeadOf, IsPriceOf, pin_total, placed, uses_of};
+
+use crate::row::Row;
+use lw_match::{Cost, Mark};
+use lw_pool::{CellId, ClassId};
+use std::marker::Model;
+
+/// The class at which a stored match stands, and its number of pins.
+#[derive(Clone, Copy, Debug, PartialEq, Eq)]
+pub struct Head {
+    pub class: ClassId,
+    pub pins: u8,
+}
+
+/// The matches of each class, and how often one was read.
+///
+/// Stored matches are numbered from 0, by class and then by place in the class's list. A use of a class is a stored match together
+/// with a pin of it that has this class; the uses of a class are numbered from 0, by match and then by pin. A pin or a cell is told
+/// by `use_at` and `price` alone, which count what they tell. No call takes memory.
+#[derive(Drop)]
+pub struct Store {
+    rows: Vec<Row>,
+    pins: Vec<ClassId>,
+    // the cell of each pattern
+    cells: Vec<CellId>,
+    // where the uses of each class end
+    ends: Vec<u32>,
+    uses: Vec<u32>,
+    done: u64,
+}
+
+impl Model for Store {
+    ghost use Rattle.std.specs.Prelude.{length};
+    ghost use Rattle.lw_settle.specs.Stores.{StoreState};
+
+    ghost Value = { StoreState };
+
+    ghost use Rattle.lw_settle.specs.Kept.{cell_numbers, grouped, placed_rows, IsKeptStore};
+
+    ghost view = { λ s. record { lists = grouped (length s.ends.items) (placed_rows s.pins.items (cell_numbers s.cells.items) s.rows.items); done = s.done } };
+
+    ghost invariant = { λ s. IsKeptStore (length s.ends.items) s.rows.items s.pins.items (cell_numbers s.cells.items) s.ends.items s.uses.items };
+}
+
+// Where the uses of a class start.
+fn start_of(ends: &[u32], class: usize) -> u32
+    requires { class < length ends.now }
+    ensures { result ≡ start_at ends.now class }
+{
+    if class == 0 {
+        return 0;
+    }
+    ends[class - 1]
+}
+
+// The pins of a match, among those of all.
+fn pins_of(pins: &[ClassId], row: Row) -> &[ClassId]
+    requires { row.start + row.pins ≤ length pins.now }
+    ensures { result.now ≡ slice_range pins.now row.start (row.start + row.pins) }
+{
+    let start = row.start as usize;
+    &pins[start..start + row.pins as usize]
+}
+
+// The costs of the marks of some pins, and the greatest height of these marks.
+fn read_marks(pins: &[ClassId], marks: &[Option<Mark>], costs: &mut [u64]) -> u32
+    requires few { length pins.now ≤ length costs.old }
+    requires within { All (λ (c : ClassId). c.0 < length marks.now) pins.now }
+    requires marked { AllByRecursion (λ p. (k : PlainMark) × (marks_in marks.now p ≡ Some k)) (numbers pins.now) }
+    ensures { (ks : List PlainMark) × HaveMarks (marks_in marks.now) (numbers pins.now) ks × (take (length pins.now) costs.new ≡ costs_in ks) × (result ≡ greatest_height ks) }
+{
+    let mut height = 0;
+    for (k, pin) in pins.iter().enumerate() {
+        if let Some(mark) = marks[pin.0 as usize] {
+            costs[k] = mark.cost;
+            height = mark.height.max(height);
+        }
+    }
+    height
+}
+
+// The mark that a match of a cell gives its class, by the marks of its pins.
+fn mark_of<C: Cost>(pins: &[ClassId], cell: CellId, cost: &C, marks: &[Option<Mark>]) -> Mark
+    requires few { length pins.now ≤ 16 }
+    requires within { All (λ (c : ClassId). c.0 < length marks.now) pins.now }
+    requires of_cell { HasPins (C.costs cost.now).pin_counts cell.0 (length pins.now) }
+    requires in_range { AreInRange C.CAP marks.now }
+    requires marked { AllByRecursion (λ p. (k : PlainMark) × (marks_in marks.now p ≡ Some k)) (numbers pins.now) }
+    ensures { (ks : List PlainMark) × HaveMarks (marks_in marks.now) (numbers pins.now) ks × (plain_mark result ≡ price (C.costs cost.now) cell.0 ks) }
+{
+    let mut costs = [0; 16];
+    let height = read_marks(pins, marks, &mut costs);
+    Mark {
+        cost: cost.value(cell, &costs[..pins.len()]),
+        height: height + 1,
+    }
+}
+
+impl Store {
+    ghost use Rattle.lw_settle.specs.Kept.{cell_numbers, grouped, placed_rows, IsKeptStore};
+
+    pub(crate) fn new(
+        rows: Vec<Row>,
+        pins: Vec<ClassId>,
+        cells: Vec<CellId>,
+        ends: Vec<u32>,
+        uses: Vec<u32>,
+    ) -> Self
+        requires { IsKeptStore (length ends.items) rows.items pins.items (cell_numbers cells.items) ends.items uses.items }
+        ensures lists { result.lists ≡ grouped (length ends.items) (placed_rows pins.items (cell_numbers cells.items) rows.items) }
+        ensures done { result.done ≡ 0 }
+    {
+        Store {
+            rows,
+            pins,
+            cells,
+            ends,
+            uses,
+            done: 0,
+        }
+    }
+
+    /// How many matches there are.
+    pub fn matches(&self) -> u32
+        ensures matches { result ≡ length (placed self.now.lists) }
+        ensures kept { AreKeptLists self.now.lists }
+    {
+        self.rows.len() as u32
+    }
+
+    /// How many pins they have together.
+    pub fn pins(&self) -> u64
+        ensures { result ≡ pin_total (placed self.now.lists) }
+    {
+        self.pins.len() as u64
+    }
+
+    /// How often a match was read: by a use of a class, or by its price.
+    pub fn done(&self) -> u64
+        ensures { result ≡ self.now.done }
+    {
+        self.done
+    }
+
+    /// The class of a match, and its number of pins.
+    pub fn head(&self, place: u32) -> Head
+        requires { place < length (placed self.now.lists) }
+        ensures { IsHeadOf self.now.lists place result.class.0 result.pins }
+    {
+        let row = self.rows[place as usize];
+        Head {
+            class: row.class,
+            pins: row.pins,
+        }
+    }
+
+    /// The number of uses of a class.
+    pub fn uses(&self, class: ClassId) -> u32
+        requires { class.0 < length self.now.lists }
+        ensures { result ≡ length (uses_of self.now.lists class.0) }
+    {
+        let class = class.0 as usize;
+        self.ends[class] - start_of(&self.ends, class)
+    }
+
+    /// The match of a use of a class. It counts as a reading.
+    pub fn use_at(&mut self, class: ClassId, n: u32) -> u32
+        requires class { class.0 < length self.old.lists }
+        requires within { n < length (uses_of self.old.lists class.0) }
+        requires fresh { self.old.done < 2 ^ 63 }
+        ensures number { slice_get (uses_of self.old.lists class.0) n ≡ Some result }
+        ensures lists { self.new.lists ≡ self.old.lists }
+        ensures done { self.new.done ≡ self.old.done + 1 }
+    {
+        self.done += 1;
+        let start = start_of(&self.ends, class.0 as usize);
+        self.uses[(start + n) as usize]
+    }
+
+    /// What a match costs over the marks of its pins, and 1 more than the greatest of their heights. It counts as a reading.
+    pub fn price<C: Cost>(&mut self, place: u32, cost: &C, marks: &[Option<Mark>]) -> Mark
+        requires place { place < length (placed self.old.lists) }
+        requires of_cells { AreOfStoredCells (C.costs cost.now).pin_counts self.old.lists }
+        requires one_each { length marks.now ≡ length self.old.lists }
+        requires in_range { AreInRange C.CAP marks.now }
+        requires marked { HasMarkedPins self.old.lists (marks_in marks.now) place }
+        requires fresh { self.old.done < 2 ^ 63 }
+        ensures price { IsPriceOf self.old.lists (C.costs cost.now) (marks_in marks.now) place (plain_mark result) }
+        ensures lists { self.new.lists ≡ self.old.lists }
+        ensures done { self.new.done ≡ self.old.done + 1 }
+    {
+        self.done += 1;
+        let row = self.rows[place as usize];
+        let cell = self.cells[row.pat.0 as usize];
+        mark_of(pins_of(&self.pins, row), cell, cost, marks)
+    }
+}

@@ -1,0 +1,90 @@
+-- The names of the nets of a mapped netlist are names of the format where those of the inputs and of the outputs are.
+use Rattle.std.proofs.Common.{ℕ, zero, suc, ◌+◌, ◌-◌, ◌^◌, ◌<◌, ◌≤◌, ◌≡◌, ◌==◌, Bool, true, false, not, ◌&&◌, nat_eq, if◌then◌else◌, List, [], ◌∷◌, ◌++◌, length, drop, Option, Some, None, All, refl, ap, ap₂, sym, ◌∙◌, subst, arith}
+use Rattle.std.specs.Prelude.{nat_le}
+use Rattle.std.specs.List.{ends_with, AllByRecursion as Each}
+use Rattle.std.specs.Cmp.Lexicographic.{pointwise}
+use Rattle.std.specs.Fmt.{decimal}
+use Rattle.std.proofs.lemmas.Bool.Decides.{nat_tests}
+use Rattle.std.proofs.lemmas.Fmt.{length-decimal-le, digits_decimal}
+use Rattle.std.proofs.lemmas.List.Elements.{All-filter}
+use Rattle.lw_words.specs.Gathering.{IsInk, IsNoHash}
+use Rattle.lw_laws.specs.Names.{is_name_among, numbered_name, numbered_names, free_names, output_name, gate_names, net_names}
+use Rattle.lw_top.proofs.FreeNames.{enough_free}
+use Rattle.lw_mapped.specs.Readable.{IsSignalName}
+use Rattle.lw_mapped.proofs.GoodWords.{IsGood, good-bytes}
+use Rattle.lw_mapped.proofs.Printing.{own, digits-good}
+use Rattle.lw_mapped.proofs.WrittenLines.{each-of, all-of, each-append, each-weaker}
+
+-- Numbered names.
+
+abbrev ends_stroke : List ℕ → Bool
+ends_stroke word = ends_with nat_eq word (92 ∷ [])
+
+stroke-behind : (b c : ℕ) (word : List ℕ) → ends_stroke (b ∷ c ∷ word) ≡ ends_stroke (c ∷ word)
+stroke-behind b c word =
+    let long : suc (suc (length word)) - 1 ≡ suc (length word) = omega arith in
+    let short : suc (length word) - 1 ≡ length word = omega arith in
+    ap (λ k. pointwise nat_eq (92 ∷ []) (drop k (b ∷ c ∷ word))) long ∙ sym (ap (λ k. pointwise nat_eq (92 ∷ []) (drop k (c ∷ word))) short)
+
+stroke-last : (b : ℕ) → (b == 92) ≡ false → (nat_eq 92 b && true) ≡ false
+stroke-last b e = grind (arith, nat_tests)
+
+no-stroke : (word : List ℕ) → 0 < length word → Each IsGood word → ends_stroke word ≡ false
+no-stroke [] some each = absurd (omega arith)
+no-stroke (b ∷ []) some each = stroke-last b each.0.2
+no-stroke (b ∷ c ∷ word) some each = stroke-behind b c word ∙ no-stroke (c ∷ word) (omega arith) each.1
+
+good-name : (word : List ℕ) → 0 < length word → length word ≤ 2000 → Each IsGood word → IsSignalName word
+good-name word some few each = record {
+  word = record { some = some; few = omega arith; ink = all-of IsInk word (each-weaker IsGood IsInk (λ b h. h.0) word each) };
+  no_hash = all-of IsNoHash word (each-weaker IsGood IsNoHash (λ b h. h.1) word each);
+  ends = let short : nat_le (length word) 2000 ≡ true = grind (arith, nat_tests) in ap₂ (λ a b. a && not b) short (no-stroke word some each);
+}
+
+numbered-name : (k : ℕ) → k < 2 ^ 64 → IsSignalName (numbered_name k)
+numbered-name k lt =
+    let short : length (decimal k) ≤ 20 = length-decimal-le 20 k (omega arith) (omega arith) lt in
+    good-name (numbered_name k) (omega arith) (omega arith)
+    ((good-bytes (110 ∷ []) refl).0, good-bytes (decimal k) (digits-good (decimal k) (digits_decimal own k lt)))
+
+numbered-each : (first count : ℕ) → first + count < 2 ^ 64 → Each IsSignalName (numbered_names first count)
+numbered-each first zero lt = tt
+numbered-each first (suc count) lt = (numbered-name first (omega arith), numbered-each (suc first) count (omega arith))
+
+free-each : (taken : List (List ℕ)) (count : ℕ) → 1 + (count + length taken) < 2 ^ 64 → Each IsSignalName (free_names taken count)
+free-each taken count room =
+    each-of IsSignalName (free_names taken count)
+    (All-filter (λ name. not (is_name_among name taken)) IsSignalName (numbered_names 1 (count + length taken)) (all-of IsSignalName (numbered_names 1 (count + length taken)) (numbered-each 1 (count + length taken) room)))
+
+-- Names of gates.
+
+module _ (outputs : List (List ℕ)) (roots : List ℕ) (named : Each IsSignalName outputs) where
+  output-named : (c : ℕ) (name : List ℕ) → output_name outputs roots c ≡ Some name → IsSignalName name
+  output-named c name e = by_list outputs roots named e
+    where
+      by_list : (outputs : List (List ℕ)) (roots : List ℕ) → Each IsSignalName outputs → output_name outputs roots c ≡ Some name → IsSignalName name
+      by_list [] [] each e = cc
+      by_list [] (r ∷ roots) each e = cc
+      by_list (n ∷ outputs) [] each e = cc
+      by_list (n ∷ outputs) (r ∷ roots) each e = by_test (r == c) e (by_list outputs roots each.1)
+        where
+          by_test : (t : Bool) → (if t then Some n else output_name outputs roots c) ≡ Some name → (output_name outputs roots c ≡ Some name → IsSignalName name) → IsSignalName name
+          by_test true e rest = let same : n ≡ name = cc in subst IsSignalName same each.0
+          by_test false e rest = rest e
+
+  gates-named : (frees : List (List ℕ)) (gates : List ℕ) → length gates ≤ length frees → Each IsSignalName frees → Each IsSignalName (gate_names outputs roots frees gates)
+  gates-named frees [] le each = tt
+  gates-named [] (c ∷ gates) le each = absurd (omega arith)
+  gates-named (f ∷ frees) (c ∷ gates) le each =
+      by_name (output_name outputs roots c) refl (gates-named (f ∷ frees) gates (omega arith) each) (gates-named frees gates (omega arith) each.1)
+    where
+      by_name : (n : Option (List ℕ)) → output_name outputs roots c ≡ n → Each IsSignalName (gate_names outputs roots (f ∷ frees) gates) → Each IsSignalName (gate_names outputs roots frees gates) → Each IsSignalName (elim n as (λ o. List (List ℕ)) [ Some m ↦ m ∷ gate_names outputs roots (f ∷ frees) gates | None ↦ f ∷ gate_names outputs roots frees gates ])
+      by_name None e p q = (each.0, q)
+      by_name (Some m) e p q = (output-named c m e, p)
+
+pub nets-named : (inputs outputs : List (List ℕ)) (roots gates : List ℕ) → 1 + (length gates + length (inputs ++ outputs)) < 2 ^ 64 → Each IsSignalName inputs → Each IsSignalName outputs → All IsSignalName (net_names inputs outputs roots gates)
+nets-named inputs outputs roots gates room ins outs =
+    let taken = inputs ++ outputs in
+    let frees = free_names taken (length gates) in
+    all-of IsSignalName (inputs ++ gate_names outputs roots frees gates)
+    (each-append IsSignalName inputs (gate_names outputs roots frees gates) ins (gates-named outputs roots outs frees gates (enough_free taken (length gates) room) (free-each taken (length gates) room)))

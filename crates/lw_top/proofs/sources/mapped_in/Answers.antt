@@ -1,0 +1,18 @@
+use Rattle.std.proofs.Common.{true, arith}
+use Rattle.lw_words.proofs.Weights.{weights_fit}
+use Rattle.lw_top.specs.Answers.{marked_lines_in}
+use Rattle.lw_top.proofs.Sound.{few_words}
+use Rattle.lw_top.proofs.sources.mapped_in.Goals as goal
+
+pub read_lines-requires-clause-unread : goal.read_lines-requires-clause-unread
+read_lines-requires-clause-unread c = c.new-reader.ensures c.args.library.now
+
+pub end-requires : goal.end-requires
+end-requires c = record { lines = marked_lines_in c.args.bytes.now; stands = c.in_ok-read_lines.ensures; few = few_words c.args.bytes.now c.requires }
+
+pub returns-in-Ok-clause-kept : goal.returns-in-Ok-clause-kept
+returns-in-Ok-clause-kept c = record {
+  over = c.in-Ok.ensures.over;
+  fits = c.in-Ok.ensures.fits;
+  few = omega (arith, c.in-Ok.ensures.gates (marked_lines_in c.args.bytes.now) c.in_ok-read_lines.ensures, weights_fit true c.args.bytes.now, c.requires);
+}

@@ -1,0 +1,29 @@
+-- The texts of the reasons for which a mapped netlist is no fastest mapping.
+use Rattle.std.specs.Prelude.{ℕ, List, ◌++◌, Option, Some, None, codes, decimal}
+use Rattle.lw_fixed.specs.declared.micro.Micro.{Micro}
+use Rattle.lw_fixed.specs.Printed.{decimal_text}
+use Rattle.lw_check.specs.declared.verdict.Reason.{Reason}
+use Rattle.lw_check.specs.declared.verdict.Reason.TheVariants.{Ports, Class, NotMatch, Label, Root, Value}
+
+-- a label, where there is one
+abbrev pub label_text : Option Micro → List ℕ
+label_text None = codes "none"
+label_text (Some label) = decimal_text label.0
+
+-- a class without a label, or with one above what a match gives
+abbrev pub label_reason : ℕ → Option Micro → ℕ → List ℕ
+label_reason class label value = codes "label of class " ++ (decimal class ++ (codes " is " ++ (label_text label ++ (codes ", a match gives " ++ decimal_text value))))
+
+abbrev pub root_reason : List ℕ → ℕ → ℕ → List ℕ
+root_reason name found root = codes "output " ++ (name ++ (codes " is of class " ++ (decimal found ++ (codes ", not " ++ decimal root))))
+
+abbrev pub value_reason : List ℕ → ℕ → ℕ → List ℕ
+value_reason name arrival label = codes "output " ++ (name ++ (codes " arrives at " ++ (decimal_text arrival ++ (codes ", its label is " ++ decimal_text label))))
+
+abbrev pub reason_text : Reason → List ℕ
+reason_text Ports = codes "ports differ"
+reason_text (Class class) = codes "class " ++ (decimal class ++ codes " is not in the graph")
+reason_text (NotMatch name) = codes "gate " ++ (name ++ codes " is no match")
+reason_text (Label class label value) = label_reason class.0 label value.0
+reason_text (Root name found root) = root_reason name found.0 root.0
+reason_text (Value name arrival label) = value_reason name arrival.0 label.0

@@ -1,0 +1,89 @@
+// Checks and reports.
+ghost use Rattle.lw_blif.specs.BlifNetworks.{IsModel};
+ghost use Rattle.lw_map.specs.Options.{IsWide, plain_options};
+ghost use Rattle.lw_top.specs.Answered.{Gives};
+ghost use Rattle.lw_top.specs.Checks.{Checks};
+ghost use Rattle.lw_top.specs.Named.{IsReadNetlist, AreReadVectors, values_in};
+ghost use Rattle.lw_top.specs.Reports.{Times, Simulates, SimulatesNetlist};
+
+use crate::answer::Answer;
+use crate::refusal::Refusal;
+use lw_blif::Parsed;
+use lw_check::{Verdict, check};
+use lw_genlib::Library;
+use lw_map::{Options, decompose};
+use lw_mapped::Mapped;
+use lw_pattern::patterns;
+use lw_report::{Sim, Timing, Vectors};
+use std::alloc::Global;
+
+/// What a check of a mapped netlist comes to.
+pub(crate) fn check_mapped(
+    alloc: Global,
+    library: &Library,
+    model: &Parsed,
+    mapped: &Mapped,
+    options: Options,
+) -> Result<Answer, Refusal>
+    requires wide { IsWide (plain_options options) }
+    requires model { IsModel model.now }
+    requires mapped { IsReadNetlist library.now mapped.now }
+    ensures { Gives (Checks (plain_options options) library.now model.now mapped.now) result }
+{
+    let mut choices = decompose(alloc, &model.network, options)?;
+    choices.graph.make_index()?;
+    let pats = patterns(alloc, library)?;
+    let _ = library.len();
+    let verdict = check(
+        alloc,
+        &model.network,
+        &model.frame,
+        &model.starts,
+        library,
+        &choices.graph,
+        &pats,
+        &choices.roots,
+        mapped,
+    )?;
+    match verdict {
+        Verdict::Yes => Ok(Answer::Yes),
+        Verdict::No(reason) => Err(Refusal::No(reason)),
+    }
+}
+
+/// The timing of a mapped netlist.
+pub(crate) fn time_mapped(
+    alloc: Global,
+    library: Library,
+    mapped: Mapped,
+) -> Result<Answer, Refusal>
+    requires { IsReadNetlist library mapped }
+    ensures { Gives (Times library mapped) result }
+{
+    let timing = Timing::new(alloc, &mapped.netlist, &library, &mapped.starts)?;
+    Ok(Answer::Times(library, mapped.netlist, timing))
+}
+
+/// A simulator of a network.
+pub(crate) fn simulate(alloc: Global, model: Parsed, vectors: Vectors) -> Result<Answer, Refusal>
+    requires { AreReadVectors model.network.inputs vectors }
+    ensures { Gives (Simulates model (values_in vectors)) result }
+{
+    let sim = Sim::of_network(alloc, &model.network)?;
+    Ok(Answer::Values(model.network, vectors, sim))
+}
+
+/// A simulator of a mapped netlist.
+pub(crate) fn simulate_gates(
+    alloc: Global,
+    library: Library,
+    mapped: Mapped,
+    vectors: Vectors,
+) -> Result<Answer, Refusal>
+    requires mapped { IsReadNetlist library mapped }
+    requires vectors { AreReadVectors mapped.netlist.inputs vectors }
+    ensures { Gives (SimulatesNetlist library mapped.netlist (values_in vectors)) result }
+{
+    let sim = Sim::of_netlist(alloc, &mapped.netlist)?;
+    Ok(Answer::GateValues(library, mapped.netlist, vectors, sim))
+}
