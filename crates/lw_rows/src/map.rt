@@ -1,4 +1,4 @@
-// `map LIB IN` over shelves and sinks in memory.
+// Commands over shelves and sinks in memory.
 ghost use Rattle.std.specs.Prelude.{◌≡◌, ◌≤◌, [], ◌∷◌, codes, IfOk};
 ghost use Rattle.lw_io.specs.Files.{names_of};
 
@@ -9,11 +9,12 @@ use std::alloc::{AllocError, Global};
 use std::process::Abort;
 use std::test::Fail;
 
-/// Files, and what the words `map LIB IN` give: the status, and what goes to out and to err.
+/// Files, named LIB, IN and MAPPED, and what words give: the status, and what goes to out and to err.
 #[derive(Clone, Copy)]
 pub struct Row<'a> {
     pub library: &'a [u8],
     pub network: &'a [u8],
+    pub mapped: &'a [u8],
     pub status: u8,
     pub out: &'a [u8],
     pub err: &'a [u8],
@@ -45,9 +46,17 @@ const AND_BUFFER: &[u8] =
 const INVERTED: Row<'static> = Row {
     library: INVERTER,
     network: b".model m\n.inputs a\n.outputs f\n.names a f\n0 1\n.end\n",
+    mapped: b"",
     status: 0,
     out: b".model m\n.inputs a\n.outputs f\n.gate inv a=a O=f\n.end\n",
     err: b"",
+};
+
+/// What `map -c` writes of it, checked.
+const CHECKED: Row<'static> = Row {
+    mapped: b".model m\n.inputs a\n.outputs f\n.gate inv a=a O=f\n#@ label 2 0\n#@ label 3 1\n#@ net f 3\n.end\n",
+    out: b"yes\n",
+    ..INVERTED
 };
 
 // The file of the library.
@@ -70,13 +79,24 @@ fn network(alloc: Global, bytes: &[u8]) -> Result<File, AllocError>
     })
 }
 
-// Both files.
+// The file of the mapped netlist.
+fn netlist(alloc: Global, bytes: &[u8]) -> Result<File, AllocError>
+    ensures { IfOk result (λ file. file.name ≡ codes "MAPPED") }
+{
+    Ok(File {
+        name: Name::from_slice(alloc, b"MAPPED")?,
+        bytes: Bytes::new(Vec::from_slice(alloc, bytes)?),
+    })
+}
+
+// All three files.
 fn files(alloc: Global, row: Row<'_>) -> Result<FileList, AllocError>
-    ensures { IfOk result (λ files. names_of files ≡ codes "LIB" ∷ codes "IN" ∷ []) }
+    ensures { IfOk result (λ files. names_of files ≡ codes "LIB" ∷ codes "IN" ∷ codes "MAPPED" ∷ []) }
 {
     let mut files = Vec::new(alloc);
     files.push(library(alloc, row.library)?)?;
     files.push(network(alloc, row.network)?)?;
+    files.push(netlist(alloc, row.mapped)?)?;
     Ok(FileList::new(files))
 }
 
@@ -122,6 +142,7 @@ pub fn refused<'a>(library: &'a [u8], network: &'a [u8], status: u8, err: &'a [u
     Row {
         library,
         network,
+        mapped: b"",
         status,
         out: b"",
         err,
@@ -237,6 +258,36 @@ fn each_call_may_fail(rt: HostRuntime) -> Result<(), Fail> {
             ..QUIET
         };
         gives(&rt, alloc, "map LIB IN", unread(err), outside)?;
+    }
+    Ok(())
+}
+
+#[test]
+fn each_call_of_a_check_may_fail(rt: HostRuntime) -> Result<(), Fail> {
+    let alloc = rt.alloc();
+    gives(&rt, alloc, "check LIB IN MAPPED", CHECKED, QUIET)?;
+    for chunk in [1, 5] {
+        let outside = Outside { chunk, ..QUIET };
+        gives(&rt, alloc, "check LIB IN MAPPED", CHECKED, outside)?;
+    }
+    for (call, err) in [
+        (3, b"lwmap: cannot read LIB\n".as_slice()),
+        (6, b"lwmap: cannot read IN\n"),
+        (7, b"lwmap: cannot read MAPPED\n"),
+        (8, b"lwmap: cannot read MAPPED\n"),
+        (9, b"lwmap: cannot read MAPPED\n"),
+    ] {
+        let row = Row {
+            status: 2,
+            out: b"",
+            err,
+            ..CHECKED
+        };
+        let outside = Outside {
+            shelf_fails: &[call],
+            ..QUIET
+        };
+        gives(&rt, alloc, "check LIB IN MAPPED", row, outside)?;
     }
     Ok(())
 }

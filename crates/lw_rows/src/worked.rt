@@ -15,6 +15,7 @@ fn mapped<'a>(library: &'a [u8], network: &'a [u8], out: &'a [u8]) -> Row<'a> {
     Row {
         library,
         network,
+        mapped: b"",
         status: 0,
         out,
         err: b"",
@@ -264,6 +265,7 @@ fn a_sink_of_40_bytes_holds_a_prefix(rt: HostRuntime) -> Result<(), Fail> {
     let cut = Row {
         library: NANDS,
         network: b".model and3\n.inputs a b c\n.outputs f\n.names a b c f\n111 1\n.end\n",
+        mapped: b"",
         status: 7,
         out: b".model and3\n.inputs a b c\n.outputs f\n.ga",
         err: b"lwmap: cannot write\n",
