@@ -12,6 +12,7 @@ import itertools
 import os
 import sys
 
+import script
 import svg
 
 ROOT = os.path.join(os.path.dirname(os.path.abspath(__file__)), "..")
@@ -112,7 +113,4 @@ def main(words):
 
 
 if __name__ == "__main__":
-    try:
-        main(sys.argv[1:])
-    except OSError as fault:
-        sys.exit(f"and3: {fault.filename}: {fault.strerror}")
+    script.run("and3", main, written="the picture")

@@ -7,11 +7,10 @@
 #
 # LIBS names the libraries (tiny, mcnc, rich by default), OPTIONS the options of both (none by default, or as '-w 4'), LIMIT the
 # seconds that a run may take (60), RUNS how often each is run; the least time counts, and for the ratio a time below the 10 ms
-# of the clock as 10. It takes the program that LWMAP_PROGRAM names, or else that of crates/lwmap.
+# of the clock as 10. The program is the one that release/program.sh finds.
 set -eu
 root=$(dirname -- "$(dirname -- "$(readlink -f -- "$0")")")
-program=$(readlink -m -- "${LWMAP_PROGRAM:-$root/crates/lwmap/out/lwmap}")
-[ -x "$program" ] || { echo "check: there is no program $program; ./lwmap builds it, or LWMAP_PROGRAM names a built one" >&2 && exit 1; }
+program=$(sh "$root/release/program.sh") || exit 1
 [ -x /usr/bin/time ] || { echo "check: there is no /usr/bin/time; it is Debian's package time" >&2 && exit 1; }
 limit=${LIMIT:-60}
 runs=${RUNS:-3}
@@ -19,16 +18,8 @@ options=${OPTIONS:-}
 room=$(mktemp -d)
 trap 'rm -rf "$room"' EXIT
 
-# The least processor time of some runs, in milliseconds, and the most memory in megabytes.
-least() { # WORD..
-    best= && memory=0
-    for _ in $(seq "$runs"); do
-        timeout "$limit" /usr/bin/time -f '%U %S %M' -o "$room/took" "$program" "$@" >"$room/out" 2>"$room/err" || return
-        took=$(awk '{ printf "%d", ($1 + $2) * 1000 }' "$room/took")
-        memory=$(awk '{ printf "%d", $3 / 1024 }' "$room/took")
-        if [ -z "$best" ] || [ "$took" -lt "$best" ]; then best=$took; fi
-    done
-}
+# shellcheck source=bench/least.sh
+. "$root/bench/least.sh"
 
 # shellcheck disable=SC2046
 [ $# -gt 0 ] || set -- $(cd "$root/bench/circuits" && ls | sed 's/\.blif$//')
@@ -40,11 +31,11 @@ for library in ${LIBS:-tiny mcnc rich}; do
     for circuit; do
         network=$root/bench/circuits/$circuit.blif
         # shellcheck disable=SC2086
-        least map $options -c "$lib" "$network" || { echo "| $circuit | over $limit s, or refused | | | | | | |" && continue; }
+        least "$program" map $options -c "$lib" "$network" || { echo "| $circuit | over $limit s, or refused | | | | | | |" && continue; }
         map=$best && map_memory=$memory
         cp "$room/out" "$room/mapped"
         # shellcheck disable=SC2086
-        least check $options "$lib" "$network" "$room/mapped" || { echo "| $circuit | $map | over $limit s, or refused: $(cat "$room/err") | | | | | |" && continue; }
+        least "$program" check $options "$lib" "$network" "$room/mapped" || { echo "| $circuit | $map | over $limit s, or refused: $(cat "$room/err") | | | | | |" && continue; }
         ratio=$(awk -v a="$best" -v b="$map" 'BEGIN { if (b < 10) b = 10; if (a < 10) a = 10; printf "%.2f", a / b }')
         echo "$ratio" >>"$room/ratios"
         bytes=$(wc -c <"$room/mapped") && certificate=$(grep '^#@' "$room/mapped" | wc -c)

@@ -7,11 +7,11 @@
 #   sh bench/circuits.sh [-e] [CIRCUIT..]
 #
 # LIBS names the libraries (tiny, mcnc, rich by default), LIMIT the seconds that a run may take (60), RUNS how often each
-# is run; the least time counts, and for the ratio a time below the 10 ms of the clock as 10. It takes the program that LWMAP_PROGRAM names, or else that of crates/lwmap.
+# is run; the least time counts, and for the ratio a time below the 10 ms of the clock as 10. The program is the one
+# that release/program.sh finds.
 set -eu
 root=$(dirname -- "$(dirname -- "$(readlink -f -- "$0")")")
-program=$(readlink -m -- "${LWMAP_PROGRAM:-$root/crates/lwmap/out/lwmap}")
-[ -x "$program" ] || { echo "circuits: there is no program $program; ./lwmap builds it, or LWMAP_PROGRAM names a built one" >&2 && exit 1; }
+program=$(sh "$root/release/program.sh") || exit 1
 [ -x /usr/bin/time ] || { echo "circuits: there is no /usr/bin/time; it is Debian's package time" >&2 && exit 1; }
 abc=$(command -v berkeley-abc || true)
 equivalence=
@@ -23,18 +23,12 @@ runs=${RUNS:-3}
 room=$(mktemp -d)
 trap 'rm -rf "$room"' EXIT
 
-# The least processor time of some runs, in milliseconds, and the most memory in megabytes.
-least() { # COMMAND..
-    best= && memory=0
-    for _ in $(seq "$runs"); do
-        if ! timeout "$limit" /usr/bin/time -f '%U %S %M' -o "$room/took" "$@" >"$room/out" 2>"$room/err"; then
-            [ -s "$room/err" ] && head -c 100 "$room/err" | tr '\n' ' ' >&2
-            return 1
-        fi
-        took=$(awk '{ printf "%d", ($1 + $2) * 1000 }' "$room/took")
-        memory=$(awk '{ printf "%d", $3 / 1024 }' "$room/took")
-        if [ -z "$best" ] || [ "$took" -lt "$best" ]; then best=$took; fi
-    done
+# shellcheck source=bench/least.sh
+. "$bench/least.sh"
+
+# The same; what a run that failed said is shown.
+heard() { # COMMAND..
+    least "$@" || { head -c 100 "$room/err" | tr '\n' ' ' >&2 && false; }
 }
 
 # shellcheck disable=SC2046
@@ -47,7 +41,7 @@ for library in ${LIBS:-tiny mcnc rich}; do
     : >"$room/ratios"
     for circuit; do
         network=$bench/circuits/$circuit.blif
-        if ! least "$program" map "$lib" "$network"; then
+        if ! heard "$program" map "$lib" "$network"; then
             echo "| $circuit | over $limit s, or refused | | | | | | |"
             continue
         fi
@@ -57,7 +51,7 @@ for library in ${LIBS:-tiny mcnc rich}; do
         line=$(python3 "$bench/timing.py" -s "$lib" "$room/mapped")
         delay=$(echo "$line" | awk '{ print $1 }') && gates=$(echo "$line" | awk '{ print $3 }')
         theirs= && their_delay= && ratio=
-        if [ -n "$abc" ] && least "$abc" -q "read_genlib $room/flat; read_blif $network; strash; map; write_blif $room/abc.blif"; then
+        if [ -n "$abc" ] && heard "$abc" -q "read_genlib $room/flat; read_blif $network; strash; map; write_blif $room/abc.blif"; then
             theirs=$best
             their_delay=$(python3 "$bench/timing.py" -s "$lib" "$room/abc.blif" | awk '{ print $1 }')
             ratio=$(awk -v a="$ours" -v b="$theirs" 'BEGIN { if (b < 10) b = 10; if (a < 10) a = 10; printf "%.2f", a / b }')

@@ -11,12 +11,11 @@
 # set to the larger one, and with constants and a buffer of no delay where it has none. The least delay of a row is bold.
 #
 # LIBS names the libraries (tiny, mcnc, rich by default), LIMIT the processor seconds that one step may take (20), JOBS
-# how many circuits are taken at once (1). Each circuit that is done is named on standard error. It takes the program
-# that LWMAP_PROGRAM names, or else that of crates/lwmap. ABC is Debian's package berkeley-abc.
+# how many circuits are taken at once (1). Each circuit that is done is named on standard error. The program is
+# the one that release/program.sh finds. ABC is Debian's package berkeley-abc.
 set -eu
 root=$(dirname -- "$(dirname -- "$(readlink -f -- "$0")")")
-program=$(readlink -m -- "${LWMAP_PROGRAM:-$root/crates/lwmap/out/lwmap}")
-[ -x "$program" ] || { echo "flows: there is no program $program; ./lwmap builds it, or LWMAP_PROGRAM names a built one" >&2 && exit 1; }
+program=$(sh "$root/release/program.sh") || exit 1
 for tool in berkeley-abc python3 prlimit xargs; do
     command -v "$tool" >/dev/null || { echo "flows: there is no $tool" >&2 && exit 1; }
 done
@@ -26,28 +25,10 @@ libraries=${LIBS:-tiny mcnc rich}
 room=$(mktemp -d)
 trap 'rm -rf "$room"' EXIT
 
-ours="given strash if4 if5 if6 dch+if6 if-g if-g+if6 dch+map if-g+dch+map"
-theirs="map dch;map &nf if-g;map if-g;dch;map"
-
-# The script of a front end, or of a mapper, behind read_blif.
-script_of() { # NAME
-    case $1 in
-    strash) echo "strash" ;;
-    if4) echo "strash; if -K 4; sop" ;;
-    if5) echo "strash; if -K 5; sop" ;;
-    if6) echo "strash; if -K 6; mfs2; sop" ;;
-    dch+if6) echo "strash; dch; if -K 6; mfs2; sop" ;;
-    if-g) echo "strash; if -g -K 6" ;;
-    if-g+if6) echo "strash; if -g -K 6; strash; if -K 6; mfs2; sop" ;;
-    dch+map) echo "read_genlib $room/peers; strash; dch; map; unmap; sop" ;;
-    if-g+dch+map) echo "read_genlib $room/peers; strash; if -g -K 6; strash; dch; map; unmap; sop" ;;
-    map) echo "strash; map" ;;
-    "dch;map") echo "strash; dch; map" ;;
-    "&nf") echo "strash; &get -n; &nf; &put" ;;
-    "if-g;map") echo "strash; if -g -K 6; strash; map" ;;
-    "if-g;dch;map") echo "strash; if -g -K 6; strash; dch; map" ;;
-    esac
-}
+# shellcheck source=bench/fronts.sh
+. "$bench/fronts.sh"
+ours=$all_fronts
+theirs=$all_mappers
 
 # Runs a command for at most the limit of processor seconds; the status 137 says that it took more.
 run() { # COMMAND..
@@ -63,9 +44,10 @@ abc() { # SCRIPT
 front() { # CIRCUIT FRONT
     given=$room/$1.given.blif
     made=$room/$1.$2.blif
-    case $2 in *+map) rm -f "$made" ;; esac
+    script=$(front_script "$2")
+    case $2 in *+map) rm -f "$made" && script="read_genlib $room/peers; $script" ;; esac
     [ -e "$given" ] || cp "$bench/circuits/$1.blif" "$given"
-    [ -e "$made" ] || abc "read_blif $given; $(script_of "$2"); write_blif $made" || : >"$made"
+    [ -e "$made" ] || abc "read_blif $given; $script; write_blif $made" || : >"$made"
 }
 
 # Whether ABC shows two networks equivalent.
@@ -99,7 +81,7 @@ our_delay() { # LIB CIRCUIT FRONT
 # The same for a mapper of ABC.
 their_delay() { # CIRCUIT MAPPER
     rm -f "$room/abc.blif"
-    abc "read_genlib $room/peers; read_blif $room/$1.given.blif; $(script_of "$2"); write_blif $room/abc.blif" || true
+    abc "read_genlib $room/peers; read_blif $room/$1.given.blif; $(mapper_script "$2"); write_blif $room/abc.blif" || true
     if [ -s "$room/abc.blif" ]; then
         python3 "$bench/timing.py" -s "$room/peers" "$room/abc.blif" | cut -d ' ' -f 1
     else

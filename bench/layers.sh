@@ -5,11 +5,10 @@
 #
 #   sh bench/layers.sh
 #
-# It takes the program that LWMAP_PROGRAM names, or else that of crates/lwmap. The least time of three runs counts.
+# The program is the one that release/program.sh finds. The least time of three runs counts.
 set -eu
 root=$(dirname -- "$(dirname -- "$(readlink -f -- "$0")")")
-program=$(readlink -m -- "${LWMAP_PROGRAM:-$root/crates/lwmap/out/lwmap}")
-[ -x "$program" ] || { echo "layers: there is no program $program; ./lwmap builds it, or LWMAP_PROGRAM names a built one" >&2 && exit 1; }
+program=$(sh "$root/release/program.sh") || exit 1
 [ -x /usr/bin/time ] || { echo "layers: there is no /usr/bin/time; it is Debian's package time" >&2 && exit 1; }
 room=$(mktemp -d)
 trap 'rm -rf "$room"' EXIT

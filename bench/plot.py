@@ -18,6 +18,7 @@ import os
 import re
 import sys
 
+import script
 import svg
 
 ROOT = os.path.join(os.path.dirname(os.path.abspath(__file__)), "..")
@@ -135,9 +136,4 @@ def main(words):
 
 
 if __name__ == "__main__":
-    try:
-        main(sys.argv[1:])
-    except (Fault, UnicodeError) as fault:
-        sys.exit(f"plot: {fault}")
-    except OSError as fault:
-        sys.exit(f"plot: {fault.filename}: {fault.strerror}")
+    script.run("plot", main, Fault, UnicodeError, written="a picture")

@@ -7,11 +7,10 @@
 #
 # CIRCUIT is div16_a, the one of most nodes, and VECTORS 1000000 by default. LIBRARY names the library (tiny). PART says how many
 # vectors Yosys gets (1000), since it goes through them one by one. Times are processor time of the whole program, reading
-# and writing included. It takes the program that LWMAP_PROGRAM names, or else that of crates/lwmap.
+# and writing included. The program is the one that release/program.sh finds.
 set -eu
 root=$(dirname -- "$(dirname -- "$(readlink -f -- "$0")")")
-program=$(readlink -m -- "${LWMAP_PROGRAM:-$root/crates/lwmap/out/lwmap}")
-[ -x "$program" ] || { echo "sim: there is no program $program; ./lwmap builds it, or LWMAP_PROGRAM names a built one" >&2 && exit 1; }
+program=$(sh "$root/release/program.sh") || exit 1
 [ -x /usr/bin/time ] || { echo "sim: there is no /usr/bin/time; it is Debian's package time" >&2 && exit 1; }
 circuit=$root/bench/circuits/${1:-div16_a}.blif
 count=${2:-1000000}

@@ -23,8 +23,10 @@ from decimal import Decimal
 from functools import reduce
 from operator import and_, or_
 
+import script
+from expression import NAME, Expression
+
 UNIT = 1000000
-NAME = r"[^\s#;()!'+*=&|^\"]+"
 Cell = namedtuple("Cell", "name area out pins delays funs phases")
 Mapped = namedtuple("Mapped", "inputs outputs latches starts gates wires")
 
@@ -148,53 +150,31 @@ def padded(lib):
     return t
 
 
-class Function:
+class Function(Expression):
     """The function of a cell: as a truth table, a number whose bit r is the value in row r, pin i being bit i of r, and as
     an expression of Verilog."""
 
     def __init__(self, fun, pins, cell="?"):
+        super().__init__(re.findall(r"[()!'+*]|" + NAME + r"|\S", fun))
         self.fun, self.pins, self.cell = fun, pins, cell
-        self.signs = re.findall(r"[()!'+*]|" + NAME + r"|\S", fun) + [""]
-        self.at = 0
-        self.tree = self.sum()
-        if self.signs[self.at]:
-            raise Fault(f"function of cell {cell} is not understood at {self.signs[self.at]}")
+        self.tree = self.whole()
 
-    def next(self):
-        self.at += 1
-        return self.signs[self.at - 1]
+    def leaf(self, sign):
+        if sign not in self.pins and sign not in ("CONST0", "CONST1"):
+            self.unknown(sign)
+        return sign
 
-    def factor(self):
-        sign = self.next()
-        if sign == "!":
-            return ("~", self.factor())
-        if sign == "(":
-            tree = self.sum()
-            if self.next() != ")":
-                raise Fault(f"function of cell {self.cell} lacks a bracket")
-        elif sign in self.pins or sign in ("CONST0", "CONST1"):
-            tree = sign
-        else:
-            raise Fault(f"function of cell {self.cell} is not understood at {sign or 'its end'}")
-        while self.signs[self.at] == "'":
-            self.at += 1
-            tree = ("~", tree)
-        return tree
+    def inverse(self, tree):
+        return ("~", tree)
 
-    def product(self):
-        parts = [self.factor()]
-        while self.signs[self.at] not in ("", "+", ")"):
-            if self.signs[self.at] == "*":
-                self.at += 1
-            parts.append(self.factor())
-        return parts[0] if len(parts) == 1 else ("&", *parts)
+    def joined(self, sign, parts):
+        return parts[0] if len(parts) == 1 else ({"*": "&", "+": "|"}[sign], *parts)
 
-    def sum(self):
-        parts = [self.product()]
-        while self.signs[self.at] == "+":
-            self.at += 1
-            parts.append(self.product())
-        return parts[0] if len(parts) == 1 else ("|", *parts)
+    def unclosed(self):
+        raise Fault(f"function of cell {self.cell} lacks a bracket")
+
+    def unknown(self, sign):
+        raise Fault(f"function of cell {self.cell} is not understood at {sign or 'its end'}")
 
     def table(self):
         rows = 1 << len(self.pins)
@@ -403,7 +383,4 @@ def main(a):
 
 
 if __name__ == "__main__":
-    try:
-        main(sys.argv[1:])
-    except (Fault, OSError) as fault:
-        sys.exit(f"timing: {fault}")
+    script.run("timing", main, Fault, OSError)

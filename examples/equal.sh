@@ -16,26 +16,16 @@
 # LIMIT holds the seconds that one step may take (60).
 set -eu
 root=$(dirname -- "$(dirname -- "$(readlink -f -- "$0")")")
-registers=$root/bench/registers.py
-limit=${LIMIT:-60}
 name=equal
-fail() { # TEXT..
-    echo "$name: $*" >&2
-    exit 1
-}
-[ $# -ge 3 ] || fail "usage: sh examples/equal.sh FOLDER VERILOG.. TOP"
-for tool in yosys berkeley-abc python3; do command -v "$tool" >/dev/null || fail "there is no $tool"; done
 # shellcheck source=examples/yosys.sh
 . "$root/examples/yosys.sh"
+[ $# -ge 3 ] || fail "usage: sh examples/equal.sh FOLDER VERILOG.. TOP"
+for tool in yosys berkeley-abc python3; do command -v "$tool" >/dev/null || fail "there is no $tool"; done
 
 folder=$1 && shift
 for file in mapped.v cells.v yosys.il; do [ -r "$folder/$file" ] || fail "cannot read $folder/$file"; done
-count=$# && top=''
-for word; do
-    shift
-    if [ "$count" -gt 1 ]; then set -- "$@" "$word"; else top=$word; fi
-    count=$((count - 1))
-done
+# shellcheck source=examples/top.sh
+. "$root/examples/top.sh"
 
 fine="simplemap; dffunmap; opt_clean; write_json"
 given() { # JSON PASSES FILE..

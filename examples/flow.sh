@@ -16,20 +16,16 @@
 # It prints delay, area and gates, and then one line that says what was compared. That line begins with 'equivalent' only
 # where the netlist, with its registers, their clocks and their initial values, was shown equal to the Verilog. The status
 # is 0 then, that of lwmap where lwmap refuses, and else 1.
-# LIMIT holds the seconds that one step may take (60). It takes the program that LWMAP_PROGRAM names, or else that of
-# crates/lwmap. docs/FLOW.md goes through the steps.
+# LIMIT holds the seconds that one step may take (60). The program is the one that release/program.sh
+# finds. docs/FLOW.md goes through the steps.
 set -eu
 root=$(dirname -- "$(dirname -- "$(readlink -f -- "$0")")")
-program=${LWMAP_PROGRAM:-$root/crates/lwmap/out/lwmap}
 timing=$root/bench/timing.py
-registers=$root/bench/registers.py
-limit=${LIMIT:-60}
-
 name=flow
-fail() { # TEXT..
-    echo "$name: $*" >&2
-    exit 1
-}
+# shellcheck source=bench/fronts.sh
+. "$root/bench/fronts.sh"
+# shellcheck source=examples/yosys.sh
+. "$root/examples/yosys.sh"
 
 usage() {
     fail "usage: sh examples/flow.sh [-w K] [-f FRONT] [-r] [-o FOLDER] LIB VERILOG.. TOP"
@@ -54,35 +50,17 @@ shift $((OPTIND - 1))
 [ $# -ge 3 ] || usage
 lib=$1 && shift
 
-case $front in
-given) script= ;;
-strash) script="strash" ;;
-if4) script="strash; if -K 4; sop" ;;
-if5) script="strash; if -K 5; sop" ;;
-if6) script="strash; if -K 6; mfs2; sop" ;;
-dch+if6) script="strash; dch; if -K 6; mfs2; sop" ;;
-if-g) script="strash; if -g -K 6" ;;
-if-g+if6) script="strash; if -g -K 6; strash; if -K 6; mfs2; sop" ;;
-dch+map) script="read_genlib padded.genlib; strash; dch; map; unmap; sop" ;;
-if-g+dch+map) script="read_genlib padded.genlib; strash; if -g -K 6; strash; dch; map; unmap; sop" ;;
-*) fail "there is no front end $front" ;;
-esac
+script=$(front_script "$front") || fail "there is no front end $front"
+case $front in *+map) script="read_genlib padded.genlib; $script" ;; esac
 
 need yosys yosys
 need berkeley-abc berkeley-abc
 need python3 python3
-if ! [ -x "$program" ]; then
-    echo "flow: there is no program $program; ./lwmap builds it, or LWMAP_PROGRAM names a built one" >&2 && missing=yes
-fi
+program=$(sh "$root/release/program.sh") || missing=yes
 [ -z "$missing" ] || exit 1
 
-# The last word is TOP, those before it the Verilog files.
-count=$# && top=''
-for word; do
-    shift
-    if [ "$count" -gt 1 ]; then set -- "$@" "$word"; else top=$word; fi
-    count=$((count - 1))
-done
+# shellcheck source=examples/top.sh
+. "$root/examples/top.sh"
 for file in "$lib" "$@"; do [ -r "$file" ] || fail "cannot read $file"; done
 case $top in *[!A-Za-z0-9_]* | '') fail "the module's name has other signs than letters, digits and _" ;; esac
 folder=${folder:-flow_$top}
@@ -97,9 +75,6 @@ rm -f -- "$folder/none.blif"
 [ "$status" -eq 0 ] || exit "$status"
 python3 "$timing" -v "$lib" >"$folder/cells.v"
 ! grep -q "^module \\\\$top " "$folder/cells.v" || fail "$top is the name of a cell, too"
-
-# shellcheck source=examples/yosys.sh
-. "$root/examples/yosys.sh"
 
 # 1. Verilog to BLIF. What nothing drives, and every x, becomes 0. Unused nets go. Registers keep their names: no state
 # machine is given another code, and no register is drawn into a memory. A reset that waits for the clock becomes logic.

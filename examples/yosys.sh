@@ -1,6 +1,14 @@
-# Read by flow.sh and equal.sh, which name themselves in 'name': runs Yosys in 'folder' for at most 'limit' seconds.
-# Its errors are shown, and the first loop that its check found.
-# shellcheck shell=sh disable=SC2154
+# Read by flow.sh and equal.sh, which name themselves in 'name' and the repository in 'root'.
+# shellcheck shell=sh disable=SC2034,SC2154
+registers=$root/bench/registers.py
+limit=${LIMIT:-60}
+
+fail() { # TEXT..
+    echo "$name: $*" >&2
+    exit 1
+}
+
+# Runs Yosys in 'folder' for at most 'limit' seconds. Its errors are shown, and the first loop that its check found.
 run_yosys() { # LOG PASSES FILE..
     log=$folder/$1 && passes=$2 && shift 2
     status=0

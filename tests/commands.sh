@@ -1,16 +1,17 @@
-# Cases of check, time, sim, graph and big for tests/rows.sh, which reads this file behind the functions that are used here.
+# Cases of check, time, sim, graph, big, verilog and unverilog for tests/rows.sh, which reads this file behind the functions that are used here.
 # (the names of its files and folders are set there)
 # shellcheck shell=sh disable=SC2015,SC2154
 
-# The inverter with its netlist, its certificate and two vectors.
+# The inverter with its netlist, its certificate, the netlist in Verilog, and two vectors.
 checked_files() {
     inverter_files
     printf '%s\n' '.model m' '.inputs a' '.outputs f' '.gate inv a=a O=f' '#@ label 2 0' '#@ label 3 1' '#@ net f 3' '.end' >MAPPED
     printf '%s\n' 0 1 >VECTORS
+    printf '%s\n' 'module m (a, f);' 'input a;' 'output f;' 'inv u1 (.a(a), .O(f));' 'endmodule' >VER
 }
 
 # Each command of these words on the files above, as: for words in $each; do set -- $(echo "$words" | tr : ' '); ..
-each='map:-c:LIB:IN check:LIB:IN:MAPPED time:LIB:MAPPED sim:IN:VECTORS sim:-g:LIB:MAPPED:VECTORS graph:IN big:0:20:more'
+each='map:-c:LIB:IN check:LIB:IN:MAPPED time:LIB:MAPPED sim:IN:VECTORS sim:-g:LIB:MAPPED:VECTORS graph:IN big:0:20:more verilog:LIB:MAPPED unverilog:LIB:VER'
 
 each_command_where_standard_output_is_full() {
     [ -c /dev/full ] || { echo "there is no /dev/full" && return 9; }
@@ -34,11 +35,10 @@ each_command_twice() {
 each_file_is_a_folder() {
     checked_files && cp "$root/bench/libs/tiny.genlib" more && mkdir folder
     for words in $each; do
-        for name in LIB IN MAPPED VECTORS more; do
+        for name in LIB IN MAPPED VECTORS VER more; do
             case :$words: in *":$name:"*) ;; *) continue ;; esac
             # shellcheck disable=SC2046
-            run $(echo "$words" | sed "s/$name/folder/" | tr : ' ')
-            status $? 2 && holds out && holds err 'lwmap: cannot read folder' || { echo "at $words with $name" && return 1; }
+            refused 2 'cannot read folder' $(echo "$words" | sed "s/$name/folder/" | tr : ' ') || { echo "at $words with $name" && return 1; }
         done
     done
 }
@@ -87,25 +87,20 @@ examples_are_checked() {
 
 netlist_of_too_many_bytes() {
     checked_files && zeros MAPPED 67108865
-    for words in check:LIB:IN:MAPPED time:LIB:MAPPED sim:-g:LIB:MAPPED:none; do
+    for words in check:LIB:IN:MAPPED time:LIB:MAPPED sim:-g:LIB:MAPPED:none verilog:LIB:MAPPED; do
         # shellcheck disable=SC2046
-        run $(echo "$words" | tr : ' ')
-        status $? 5 && holds out && holds err 'lwmap: limit: MAPPED has more than 67108864 bytes' || return
+        refused 5 'limit: MAPPED has more than 67108864 bytes' $(echo "$words" | tr : ' ') || return
     done
     zeros MAPPED 67108864
-    run check LIB IN MAPPED
-    status $? 10 && holds out && holds err 'lwmap: MAPPED line 1: word too long'
+    refused 10 'MAPPED line 1: word too long' check LIB IN MAPPED
 }
 
 vectors_of_too_many_bytes() {
     checked_files && zeros VECTORS 67108865
-    run sim IN VECTORS
-    status $? 5 && holds out && holds err 'lwmap: limit: VECTORS has more than 67108864 bytes' || return
-    run sim -g LIB MAPPED VECTORS
-    status $? 5 && holds out && holds err 'lwmap: limit: VECTORS has more than 67108864 bytes' || return
+    refused 5 'limit: VECTORS has more than 67108864 bytes' sim IN VECTORS || return
+    refused 5 'limit: VECTORS has more than 67108864 bytes' sim -g LIB MAPPED VECTORS || return
     zeros VECTORS 67108864
-    run sim IN VECTORS
-    status $? 10 && holds out && holds err 'lwmap: VECTORS line 1: bad vector'
+    refused 10 'VECTORS line 1: bad vector' sim IN VECTORS
 }
 
 long_words_of_mapped_texts() {
@@ -115,8 +110,7 @@ long_words_of_mapped_texts() {
         ".gate $word" ".gate inv a=a O=g $word" ".names $word" ".area $word" ".foo $word" "$word" "#@ label 2 $word" "#@ net $word"; do
         printf '%s\n' '.inputs a' '.outputs a' "$line" '.end' >MAPPED
         [ "${line%% *}" != .model ] || printf '%s\n' '# none' '' "$line" >MAPPED
-        run time LIB MAPPED
-        status $? 10 && holds out && holds err 'lwmap: MAPPED line 3: word too long' || { echo "at ${line%% *}" && return 1; }
+        refused 10 'MAPPED line 3: word too long' time LIB MAPPED || { echo "at ${line%% *}" && return 1; }
     done
     printf '%s\n' '.inputs a' '.outputs f' '.names a f' "1 1 $word" >MAPPED
     run time LIB MAPPED
@@ -134,8 +128,7 @@ mapped_names_of_2000_bytes() {
     status $? 0 && holds out "arrival $n 1" 'max 1' 'area 1' "step $n inv a 1" && holds err || return
     for line in 1 3 4; do
         sed "${line}s/$n/x$n/" MAPPED >longer
-        run time LIB longer
-        status $? 10 && holds out && holds err "lwmap: longer line $line: bad name" || return
+        refused 10 "longer line $line: bad name" time LIB longer || return
     done
     # (the name of a certificate's line may be any word)
     sed "7s/$n/x$n/" MAPPED >longer
@@ -150,8 +143,7 @@ vectors_of_many_inputs() {
     }' >IN
     one=$(head -c 2500 /dev/zero | tr '\0' 1) && zero=$(echo "$one" | tr 1 0)
     printf '%s\n' "$one $zero" "$zero $one" "1 ${zero}${zero%?????}1110" "$one\\" "$one" >VECTORS
-    run sim IN VECTORS
-    status $? 10 && holds out && holds err 'lwmap: VECTORS line 3: bad vector' || return
+    refused 10 'VECTORS line 3: bad vector' sim IN VECTORS || return
     sed 3d VECTORS >fewer
     run sim IN fewer
     status $? 0 && holds out 1000 0111 1111 && holds err
@@ -159,16 +151,14 @@ vectors_of_many_inputs() {
 
 graph_of_too_many_forms() {
     awk -v n=8600 -f "$root/bench/eights.awk" >IN
-    run graph -w 8 IN
-    status $? 5 && holds out && holds err 'lwmap: limit: more than 2097152 forms'
+    refused 5 'limit: more than 2097152 forms' graph -w 8 IN
 }
 
 # What the counts are: True and each input and, at each node, 247 Ands; a class and its complement for each; a pair for each
 # split, and with -i one more for each class.
 graph_of_the_most_splits() {
     awk -v n=5547 -f "$root/bench/eights.awk" >IN
-    run graph -w 8 IN
-    status $? 5 && holds out && holds err 'lwmap: limit: more than 16777216 splits' || return
+    refused 5 'limit: more than 16777216 splits' graph -w 8 IN || return
     awk -v n=5546 -f "$root/bench/eights.awk" >IN
     run graph -w 8 IN
     status $? 0 && holds out 'forms 1414231' 'classes 2828462' 'alternatives 16776650' && holds err
@@ -176,8 +166,7 @@ graph_of_the_most_splits() {
 
 graph_of_the_most_splits_that_share_operands() {
     awk -v n=519 -f "$root/bench/eights.awk" >IN
-    run graph -w 8 -i IN
-    status $? 5 && holds out && holds err 'lwmap: limit: more than 16777216 splits' || return
+    refused 5 'limit: more than 16777216 splits' graph -w 8 -i IN || return
     awk -v n=518 -f "$root/bench/eights.awk" >IN
     run graph -w 8 -i IN
     status $? 0 && holds out 'forms 132091' 'classes 264182' 'alternatives 17039612' && holds err
@@ -186,10 +175,23 @@ graph_of_the_most_splits_that_share_operands() {
 check_of_too_many_forms() {
     checked_files && awk -v n=8600 -f "$root/bench/eights.awk" >IN
     echo .foo >wrong
-    run check -w 8 LIB IN wrong
-    status $? 10 && holds out && holds err 'lwmap: wrong line 1: unknown command' || return
-    run check -w 8 LIB IN MAPPED
-    status $? 5 && holds out && holds err 'lwmap: limit: more than 2097152 forms'
+    refused 10 'wrong line 1: unknown command' check -w 8 LIB IN wrong || return
+    refused 5 'limit: more than 2097152 forms' check -w 8 LIB IN MAPPED
+}
+
+each_prefix_of_each_file() {
+    command -v python3 >/dev/null || { echo "python3 is not on this machine" && return 9; }
+    LWMAP_PROGRAM=$program python3 "$tests/prefixes.py" >said || { cat said && false; }
+}
+
+# 4,096 inverters at each class of 8,000 and more, beside the NAND: no store holds so many matches.
+big_of_too_many_matches() {
+    awk 'BEGIN {
+        for (i = 1; i < 4096; i++) print "GATE inv" i " 1 O=!a;\nPIN * INV 1 999 1 0 1 0"
+        print "GATE nand2 2 O=!(a*b);\nPIN * INV 1 999 1.5 0 1.5 0"
+    }' >LIB
+    run big 1 4000 LIB
+    status $? 0 && holds err && tail -n 1 out >line && holds line 'steps none' && head -n 1 out >line && holds line 'nodes 4000'
 }
 
 big_of_2000_nodes_twice() {
@@ -230,6 +232,225 @@ long_path() {
 cycle_behind_a_long_path() {
     checked_files
     mapped_chain 200000 backwards | sed 's/=s0 /=s200000 /' >MAPPED
-    run time LIB MAPPED
-    status $? 10 && holds out && holds err 'lwmap: MAPPED: cycle through s200000'
+    refused 10 'MAPPED: cycle through s200000' time LIB MAPPED
+}
+
+# Each file left out: the first in the order of the words is told, whatever the later ones hold.
+each_file_is_missing() {
+    for words in $each; do
+        later=
+        for name in VER VECTORS MAPPED IN LIB more; do
+            case :$words: in *":$name:"*) ;; *) continue ;; esac
+            checked_files && cp "$root/bench/libs/tiny.genlib" more && rm "$name"
+            for other in $later; do printf '"\n' >"$other"; done
+            # shellcheck disable=SC2046
+            refused 2 "cannot read $name" $(echo "$words" | tr : ' ') || { echo "at $words without $name" && return 1; }
+            later="$later $name"
+        done
+    done
+}
+
+verilog_by_a_pipe() {
+    checked_files
+    "$program" verilog LIB MAPPED | "$program" unverilog LIB /dev/stdin >out 2>err
+    status $? 0 && holds_inverter out && holds err || return
+    "$program" unverilog LIB VER | "$program" verilog LIB /dev/stdin >out 2>err
+    status $? 0 && holds err || return
+    holds out 'module \m (\a , \f );' 'input \a ;' 'output \f ;' '\inv u1 (.\a (\a ), .\O (\f ));' endmodule
+}
+
+# A netlist written, read and written again: the same text. What was read is left in the file 'again'.
+reads_back() { # LIB MAPPED
+    run verilog "$1" "$2"
+    status $? 0 && cp out first && run unverilog "$1" first
+    status $? 0 && holds err && cp out again && run verilog "$1" again
+    status $? 0 && same out first && holds err
+}
+
+# What the examples and the rows wrote in Verilog, or read out of it.
+written_verilog_reads_back() {
+    for mapped in "$examples"/*/*.mapped.blif; do
+        case ${mapped##*/} in wires.*) continue ;; esac
+        reads_back "$(dirname "$mapped")"/*.genlib "$mapped" && same again "$mapped" || { echo "at $mapped" && return 1; }
+        vectors_for again 50 >VECTORS
+        run sim -g "$(dirname "$mapped")"/*.genlib "$mapped" VECTORS
+        status $? 0 && mv out wanted && run sim -g "$(dirname "$mapped")"/*.genlib again VECTORS
+        status $? 0 && same out wanted || { echo "values of $mapped" && return 1; }
+    done
+    for row in "$tests"/rows/*verilog_*; do
+        [ "$(cat "$row/status")" -eq 0 ] || continue
+        mapped=$row/MAPPED
+        if [ "$(head -n 1 "$row/words")" = unverilog ]; then mapped=$row/stdout; fi
+        # (a module may have the name of a cell where it is read)
+        case $row in *_model_may_be_a_cell) continue ;; esac
+        reads_back "$row/LIB" "$mapped" || { echo "at ${row##*/}" && return 1; }
+    done
+}
+
+# (Icarus Verilog and Yosys have their part where they are installed)
+examples_in_verilog_for_other_tools() {
+    export LWMAP_PROGRAM="$program"
+    for mapped in "$examples"/*/*.mapped.blif; do
+        case ${mapped##*/} in wires.*) wanted=11 ;; *) wanted=0 ;; esac
+        sh "$root/examples/verilog.sh" -n 100 -o folder "$(dirname "$mapped")"/*.genlib "$mapped" >said 2>err
+        status $? $wanted || { echo "at $mapped" && cat said err && return 1; }
+        if [ $wanted -eq 0 ]; then
+            grep -qx 'unverilog: the same mapped text' said && holds err
+        else
+            holds said && holds err 'lwmap: no verilog: output a is an input'
+        fi || return
+    done
+}
+
+each_prefix_of_a_verilog_text_is_refused() {
+    checked_files
+    size=$(($(wc -c <VER) - 1))
+    while [ "$size" -gt 0 ]; do
+        size=$((size - 1)) && head -c "$size" VER >PREFIX
+        run unverilog LIB PREFIX
+        status $? 10 && holds out && [ "$(wc -l <err)" -eq 1 ] && grep -q '^lwmap: PREFIX line [1-5]: ' err || { echo "at $size bytes" && return 1; }
+    done
+    # (a line's end behind the last word is not needed)
+    head -c "$(($(wc -c <VER) - 1))" VER >PREFIX
+    run unverilog LIB PREFIX
+    status $? 0 && holds_inverter out
+}
+
+verilog_text_of_too_many_bytes() {
+    checked_files && zeros VER 67108865
+    refused 5 'limit: VER has more than 67108864 bytes' unverilog LIB VER || return
+    zeros VER 67108864
+    refused 10 'VER line 1: byte not allowed' unverilog LIB VER
+}
+
+# So many bytes that are all one, between two texts, as a file of 64 MB.
+stretched() { # FIRST BYTE LAST
+    { printf '%s' "$1" && head -c "$((67108864 - ${#1} - ${#3}))" /dev/zero | tr '\0' "$2" && printf '%s' "$3"; } >VER
+}
+
+verilog_text_of_one_long_part() {
+    checked_files
+    module='module m (a, f); input a; output f; inv u1 (.a(a), .O(f)); endmodule'
+    for comment in '/*:*/' '(*:*)' '//:
+'; do
+        stretched "${comment%:*}" x "${comment#*:}$module"
+        run unverilog LIB VER
+        status $? 0 && holds_inverter out && holds err || { echo "at $comment" && return 1; }
+    done
+    for comment in '/*' '(*'; do
+        stretched "$comment" '*' ''
+        refused 10 'VER line 1: something else expected' unverilog LIB VER || { echo "at $comment" && return 1; }
+    done
+    stretched '' ' ' "$module"
+    run unverilog LIB VER
+    status $? 0 && holds_inverter out || return
+    stretched "$module" x ''
+    refused 10 'VER line 1: no such cell' unverilog LIB VER || return
+    stretched "$module " x ''
+    run unverilog LIB VER
+    status $? 0 && holds_inverter out || return
+    stretched '' x ''
+    refused 10 'VER line 1: something else expected' unverilog LIB VER || return
+    stretched 'module ' x ''
+    refused 10 'VER line 1: bad name' unverilog LIB VER || return
+    stretched "module \\" x ' ;'
+    refused 10 'VER line 1: bad name' unverilog LIB VER || return
+    stretched 'module m; ' x ' u1 ();'
+    refused 10 'VER line 1: no such cell' unverilog LIB VER || return
+    stretched '' '(' ''
+    refused 10 'VER line 1: something else expected' unverilog LIB VER || return
+    tr '(' '\n' <VER >LINES
+    refused 10 'LINES line 67108864: something else expected' unverilog LIB LINES
+}
+
+# One input for each of so many names, in one list or in many, and one that is declared again at the end.
+verilog_text_of_many_ports() {
+    checked_files
+    for way in one many; do
+        awk -v n=200000 -v way="$way" 'BEGIN {
+            printf "module m ("; for (i = 1; i <= n; i++) printf "i%d, ", i
+            print "f);\noutput f;"
+            if (way == "one") { printf "input i1"; for (i = 2; i <= n; i++) printf ", i%d", i; print ";" }
+            else for (i = 1; i <= n; i++) print "input i" i ";"
+            print "inv u1 (.a(i" n "), .O(f));\nendmodule"
+        }' >VER
+        awk -v n=200000 'BEGIN {
+            printf ".model m\n.inputs"; for (i = 1; i <= n; i++) printf " i%d", i
+            print "\n.outputs f\n.gate inv a=i" n " O=f\n.end"
+        }' >wanted
+        run unverilog LIB VER
+        status $? 0 && same out wanted && holds err || return
+        sed 's/^inv/input i1;/' VER >again
+        refused 10 "again line $(($(wc -l <again) - 1)): port not declared once" unverilog LIB again || return
+        sed '1s/, f/, i1, f/' VER >again
+        refused 10 "again line $(wc -l <again): port not declared once" unverilog LIB again || return
+    done
+}
+
+# A chain of inverters, the last first, and one of assignments, which is a wire.
+verilog_text_of_a_long_path() {
+    checked_files
+    for way in inv assign; do
+        awk -v n=100000 -v way="$way" 'BEGIN {
+            print "module m (s0, s" n ");\ninput s0;\noutput s" n ";"
+            for (i = n; i; i--) print way == "inv" ? "inv s (.a(s" i - 1 "), .O(s" i "));" : "assign s" i " = s" i - 1 ";"
+            print "endmodule"
+        }' >VER
+        run unverilog LIB VER && cp out MAPPED
+        status $? 0 && holds err || return
+        if [ "$way" = inv ]; then mapped_chain 100000 >wanted; else
+            printf '%s\n' '.model m' '.inputs s0' '.outputs s100000' '.names s0 s100000' '1 1' '.end' >wanted
+        fi
+        same MAPPED wanted || return
+        sed 's/(s0)/(s100000)/; s/= s0;/= s100000;/' VER >circle
+        refused 10 "circle: cycle through s100000" unverilog LIB circle || return
+        run verilog LIB MAPPED && cp out VER && run unverilog LIB VER
+        status $? 0 && same out MAPPED || return
+    done
+}
+
+# Names of nets, ports, instances and the module have a limit, and those of cells and pins have that of a word.
+verilog_names_of_2000_bytes() {
+    checked_files
+    n=$(long 2000)
+    sed "s/\\bm\\b/$n/; s/\\bu1\\b/$n/; s/\\bf\\b/$n/g; 4s/^/wire $n;\\n/; \$s/^/assign x = $n;\\n/" VER >longest
+    run unverilog LIB longest
+    status $? 0 && holds out ".model $n" '.inputs a' ".outputs $n" ".gate inv a=a O=$n" '.end' && holds err || return
+    line=1
+    for place in '1s/m (/Mm (/' '1s/, /, M/' '2s/ / M/' '3s/ / M/' '4s/ / M/' '4s/(a)/(Ma)/' '4s/(f)/(Mf)/' '4s/.*/wire Mx;/' \
+        '4s/.*/assign Mx = a;/' '4s/.*/assign f = Mx;/'; do
+        sed "$place" VER | sed "s/M[a-z]*[0-9]*/$(long 2001)/" >longer
+        refused 10 "longer line ${place%%s*}: bad name" unverilog LIB longer || { echo "at $place" && return 1; }
+    done
+}
+
+verilog_of_long_cells_and_pins() {
+    checked_files
+    cell=$(long 4095) && pin=$(long 2045 | tr x y)
+    printf '%s\n' "GATE $cell 1 O=!$pin;" 'PIN * INV 1 999 1 0 1 0' >LIB
+    printf '%s\n' '.model m' '.inputs a' '.outputs f' ".gate $cell $pin=a O=f" '.end' >MAPPED
+    run verilog LIB MAPPED
+    status $? 0 && cp out VER && holds out 'module \m (\a , \f );' 'input \a ;' 'output \f ;' "\\$cell u1 (.\\$pin (\\a ), .\\O (\\f ));" endmodule || return
+    run unverilog LIB VER
+    status $? 0 && same out MAPPED || return
+    sed "s/$cell/x&/" VER >longer
+    refused 10 'longer line 4: no such cell' unverilog LIB longer || return
+    sed "s/$pin /x&/" VER >longer
+    refused 10 'longer line 4: no such pin' unverilog LIB longer
+}
+
+# Very many instances are numbered past all names that are taken.
+verilog_of_many_taken_names() {
+    checked_files
+    awk -v n=100000 'BEGIN {
+        printf ".model m\n.inputs"; for (i = 1; i <= n; i++) printf " u%d", i
+        print "\n.outputs f"
+        for (i = 1; i < 1000; i++) print ".gate inv a=u" i " O=n" i
+        print ".gate inv a=u1000 O=f\n.end"
+    }' >MAPPED
+    run verilog LIB MAPPED
+    status $? 0 && cp out VER && holds err || return
+    sed -n 's/^\\inv \(u[0-9]*\) .*/\1/p' VER >got && awk 'BEGIN { for (i = 1; i <= 1000; i++) print "u" 100000 + i }' >wanted
+    same got wanted && run unverilog LIB VER
+    status $? 0 && same out MAPPED
 }

@@ -1,4 +1,5 @@
 """Networks, libraries, vectors and damaged netlists that tests/compare.py draws at random."""
+import re
 
 FUNCTIONS = ["!a", "a", "CONST0", "CONST1", "!(a*b)", "!(a+b)", "a*b", "a+b", "!(a*b*c)", "!(a+b+c)", "!(a*b*c*d)", "a*(b+c)",
              "!(a*b+c)", "!((a+b)*c)", "a*!b+!a*b", "!(a*!b+!a*b)", "a*b+a*c+b*c", "!(a*b+c*d)", "a*b+!a*c", "(a b)'+c d'",
@@ -250,7 +251,53 @@ DAMAGES = [label_moved, label_moved, label_removed, labels_all_lowered, class_ch
 
 def damaged_netlist(draw, text):
     lines = [line.split(" ") for line in text.splitlines()]
-    for damage in draw.sample(DAMAGES, draw.choice([1, 1, 1, 2])):
+    # (the others take lines that are whole)
+    for damage in sorted(draw.sample(DAMAGES, draw.choice([1, 1, 1, 2])), key=lambda one: one is any_line):
         damage(draw, lines)
     text = "".join(" ".join(line) + "\n" for line in lines)
+    return text[:draw.randrange(len(text))] if draw.random() < 0.05 and text else text
+
+
+# Damages of a text in Verilog. Each takes its tokens, what separates them among these, and changes them in place.
+
+VERILOG = ["module ", "endmodule ", "input ", "output ", "wire ", "assign ", "(", ")", ",", ";", ".", "=", "/* */", "(* *)", "// \n", "/*",
+           "(*", "\\", "\\a ", "a ", "i0 ", "x ", "u1 ", "c0 ", ".a(i0)", ", .a(i0)", "(.O(x))", "assign x = i0;\n", "wire x;\n", "\r", "\f",
+           "0", "$", "#", "[0]", "1'b0", "\x7f", "\"", "*", "/"]
+
+
+def names_made_plain(draw, tokens):
+    """Names without their backslash, where they are plain and no keyword."""
+    for at, token in enumerate(tokens):
+        if re.fullmatch(r"\\[a-z_]\w* ", token) and draw.random() < 0.9:
+            tokens[at] = token[1:]
+
+
+def comments_put_in(draw, tokens):
+    for _ in range(draw.randint(1, 5)):
+        tokens.insert(draw.randrange(len(tokens)), draw.choice(["/* a\n*/", "(* a *)", "// a\n", " \t\r\n\f"]))
+
+
+def token_changed(draw, tokens):
+    at = draw.randrange(len(tokens))
+    other = draw.choice([draw.choice(tokens), draw.choice(VERILOG)])
+    tokens[at:at + 1] = draw.choice([[], [tokens[at]] * 2, [other], [other, tokens[at]]])
+
+
+def statement_changed(draw, tokens):
+    """A statement left out, doubled or moved."""
+    ends = [0] + [at + 1 for at, token in enumerate(tokens) if token == ";"]
+    if len(ends) > 1:
+        at = draw.randrange(len(ends) - 1)
+        part = tokens[ends[at]:ends[at + 1]]
+        tokens[ends[at]:ends[at + 1]] = draw.choice([[], part * 2])
+        if draw.random() < 0.5:
+            place = draw.choice(ends)
+            tokens[place:place] = part
+
+
+def damaged_verilog(draw, text):
+    tokens = re.findall(r"\\\S+ |\w+ ?|\s|[^\w\s]", text)
+    for damage in draw.sample([names_made_plain, comments_put_in, token_changed, token_changed, statement_changed], draw.choice([1, 1, 2, 3])):
+        damage(draw, tokens)
+    text = "".join(tokens)
     return text[:draw.randrange(len(text))] if draw.random() < 0.05 and text else text

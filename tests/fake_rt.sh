@@ -1,6 +1,7 @@
 #!/bin/sh
-# Stands for rt in the cases of the script: it builds a program that tells its folder, its words and its input.
+# Stands for rt in the cases of the scripts: it builds a program that tells its folder, its words and its input.
 # (the case sets the folder here)
+[ "${1:-}" != version ] || { echo "a kit that stands for one" && exit; }
 echo "the build speaks"
 [ ! -e "${here:?}/fails" ] || exit 1
 echo built >>"${here:?}/built"
@@ -10,7 +11,7 @@ cat >out/lwmap <<'END'
 echo "in $(pwd)"
 [ $# -eq 0 ] || printf '<%s>\n' "$@"
 read -r line && echo "read $line"
-echo "the program speaks" >&2
+echo "lwmap: the program speaks" >&2
 exit 5
 END
 chmod +x out/lwmap

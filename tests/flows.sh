@@ -5,16 +5,16 @@
 #
 #   sh tests/flows.sh [MODULE..]
 #
-# It takes the program that LWMAP_PROGRAM names, or else that of crates/lwmap. FRONT names the front end (if-g), LIBRARY the
-# library (mcnc), LIMIT the seconds that one step may take (60). The last line is 'N passed, N failed'.
+# The program is the one that release/program.sh finds. FRONT names the front end (if-g), LIBRARY the library (mcnc), LIMIT the
+# seconds that one step may take (60). The last line is 'N passed, N failed'.
 set -u
 export LC_ALL=C
 root=$(dirname -- "$(dirname -- "$(readlink -f -- "$0")")")
 for tool in yosys berkeley-abc python3; do
     command -v "$tool" >/dev/null || { echo "skipped: $tool is not on this machine, so no flow from Verilog was tried" && exit 0; }
 done
-program=${LWMAP_PROGRAM:-$root/crates/lwmap/out/lwmap}
-[ -x "$program" ] || { echo "flows: there is no program $program; ./lwmap builds it" >&2 && exit 1; }
+LWMAP_PROGRAM=$(sh "$root/release/program.sh") || exit 1
+export LWMAP_PROGRAM
 library=$root/bench/libs/${LIBRARY:-mcnc}.genlib
 front=${FRONT:-if-g}
 LIMIT=${LIMIT:-60}

@@ -1,54 +1,13 @@
 #!/bin/sh
-# Runs the built program on every row of tests/rows, on the examples, and on the cases below and in tests/commands.sh,
-# which files alone cannot say. It takes the program that LWMAP_PROGRAM names, or else that of crates/lwmap, which the
-# script lwmap builds first where it is not fresh. With words it runs those rows and cases alone, as in:
+# Runs the built program on every row of tests/rows, on the examples, and on the cases below, in tests/commands.sh and in
+# tests/release.sh, which files alone cannot say. The program is the one that release/program.sh finds, or else builds. With
+# words it runs those rows and cases alone, as in:
 # sh tests/rows.sh inverter no_words
 # The last line is 'N passed, N failed'. The status is 0 where none failed and at least one ran.
 set -u
-export LC_ALL=C
 tests=$(dirname -- "$(readlink -f -- "$0")")
-root=$(dirname -- "$tests")
-examples=$root/examples
-[ -n "${LWMAP_PROGRAM:-}" ] || "$root/lwmap" map "$examples/plain/plain.genlib" "$examples/plain/chain.blif" >/dev/null || exit
-program=$(readlink -f -- "${LWMAP_PROGRAM:-$root/crates/lwmap/out/lwmap}")
-[ -x "$program" ] || { echo "rows: there is no program $program" >&2 && exit 1; }
-room=$(mktemp -d) || exit 1
-trap 'rm -rf "$room"' EXIT
-trap 'exit 1' HUP INT TERM
-passed=0
-failed=0
-
-# One case in a new folder. Its status is 0 where it passed, and 9 where it says that it cannot run here.
-attempt() {
-    rm -rf "$room/at" && mkdir "$room/at" || exit 1
-    (cd "$room/at" && shift && "$@") >"$room/said" 2>&1
-    case $? in
-    0) passed=$((passed + 1)) ;;
-    9) echo "skipped: $1: $(cat "$room/said")" ;;
-    *) failed=$((failed + 1)) && echo "FAILED: $1" && sed 's/^/    /' "$room/said" ;;
-    esac
-}
-
-same() { # FILE WANTED
-    cmp "$1" "$2" && return
-    echo "wanted:" && head -c 2000 "$2" && echo "got:" && head -c 2000 "$1"
-    return 1
-}
-
-status() { # GOT WANTED
-    [ "$1" -eq "$2" ] || { echo "status $1, wanted $2" && false; }
-}
-
-holds() { # FILE LINE..
-    wanted=$1.wanted && shift
-    { [ $# -eq 0 ] || printf '%s\n' "$@"; } >"$wanted"
-    same "${wanted%.wanted}" "$wanted"
-}
-
-# Runs the program in the case's folder, and leaves what it wrote there.
-run() {
-    "$program" "$@" </dev/null >out 2>err
-}
+# shellcheck source=tests/cases.sh
+. "$tests/cases.sh"
 
 # A row: its files but these four lie in the folder, and the words are the lines of the file words.
 row() {
@@ -66,20 +25,10 @@ example() { # MAPPED
     status $? 0 && same out "$1" && holds err
 }
 
-inverter_files() {
-    printf '%s\n' 'GATE inv 1 O=!a;' 'PIN * INV 1 999 1 0 1 0' >LIB
-    printf '%s\n' '.model m' '.inputs a' '.outputs f' '.names a f' '0 1' '.end' >IN
-}
-
-holds_inverter() { # FILE
-    holds "$1" '.model m' '.inputs a' '.outputs f' '.gate inv a=a O=f' '.end'
-}
-
 unreadable_file() {
     [ "$(id -u)" -ne 0 ] || { echo "root may read every file" && return 9; }
     inverter_files && chmod 000 IN
-    run map LIB IN
-    status $? 2 && holds out && holds err 'lwmap: cannot read IN'
+    refused 2 'cannot read IN' map LIB IN
 }
 
 standard_output_is_full() {
@@ -149,11 +98,6 @@ word_that_is_not_utf8() {
     status $? 70 && holds out && holds err
 }
 
-# A file of so many bytes 0.
-zeros() { # FILE BYTES
-    rm -f "$1" && dd if=/dev/zero of="$1" bs=1 count=1 seek="$(($2 - 1))" 2>/dev/null
-}
-
 out_of_memory() {
     # shellcheck disable=SC3045
     (ulimit -v 32000) 2>/dev/null || { echo "this shell has no limit of memory" && return 9; }
@@ -165,11 +109,9 @@ out_of_memory() {
 
 library_of_too_many_bytes() {
     inverter_files && zeros LIB 67108865
-    run map LIB IN
-    status $? 5 && holds out && holds err 'lwmap: limit: LIB has more than 67108864 bytes' || return
+    refused 5 'limit: LIB has more than 67108864 bytes' map LIB IN || return
     zeros LIB 67108864
-    run map LIB IN
-    status $? 4 && holds out && holds err 'lwmap: LIB line 1: word too long'
+    refused 4 'LIB line 1: word too long' map LIB IN
 }
 
 library_of_one_long_comment() {
@@ -178,31 +120,21 @@ library_of_one_long_comment() {
     run map LIB IN
     status $? 0 && same out IN && holds err || return
     printf '#' >>LIB
-    run map LIB IN
-    status $? 5 && holds out && holds err 'lwmap: limit: LIB has more than 67108864 bytes'
+    refused 5 'limit: LIB has more than 67108864 bytes' map LIB IN
 }
 
 network_of_too_many_bytes() {
     inverter_files && zeros IN 67108865
-    run map LIB IN
-    status $? 5 && holds out && holds err 'lwmap: limit: IN has more than 67108864 bytes' || return
+    refused 5 'limit: IN has more than 67108864 bytes' map LIB IN || return
     echo GATE >LIB
-    run map LIB IN
-    status $? 4 && holds out && holds err 'lwmap: LIB line 1: something else expected' || return
+    refused 4 'LIB line 1: something else expected' map LIB IN || return
     inverter_files && zeros IN 67108864
-    run map LIB IN
-    status $? 3 && holds out && holds err 'lwmap: IN line 1: word too long'
+    refused 3 'IN line 1: word too long' map LIB IN
 }
 
 file_without_end() {
     inverter_files
-    run map LIB /dev/zero
-    status $? 5 && holds out && holds err 'lwmap: limit: /dev/zero has more than 67108864 bytes'
-}
-
-# A word of so many bytes x.
-long() { # BYTES
-    head -c "$1" /dev/zero | tr '\0' x
+    refused 5 'limit: /dev/zero has more than 67108864 bytes' map LIB /dev/zero
 }
 
 signal_names_of_2000_bytes() {
@@ -214,8 +146,7 @@ signal_names_of_2000_bytes() {
     for line in 1 2 3 4; do
         inverter_files
         sed "${line}s/ [a-z]*/ $(long 2001)/" IN >longer
-        run map LIB longer
-        status $? 3 && holds out && holds err "lwmap: longer line $line: bad name" || return
+        refused 3 "longer line $line: bad name" map LIB longer || return
     done
 }
 
@@ -229,8 +160,7 @@ latch_words_of_2000_bytes() {
         run map LIB IN
         status $? 0 && same out IN && holds err || return
         awk -v place="$place" '/^.latch/ { $place = $place "x" } { print }' IN >longer
-        run map LIB longer
-        status $? 3 && holds out && holds err 'lwmap: longer line 4: bad name' || return
+        refused 3 'longer line 4: bad name' map LIB longer || return
     done
 }
 
@@ -241,16 +171,14 @@ arrival_names_of_2000_bytes() {
     run map LIB IN
     status $? 0 && holds out '.model m' ".inputs $f" ".outputs $f" ".input_arrival $f 2 2" '.end' && holds err || return
     sed 's/^.input_arrival /&x/' IN >longer
-    run map LIB longer
-    status $? 3 && holds out && holds err 'lwmap: longer line 4: bad name'
+    refused 3 'longer line 4: bad name' map LIB longer
 }
 
 arrival_decimals_of_4095_bytes() {
     inverter_files
     zeros=$(head -c 4093 /dev/zero | tr '\0' 0)
     printf '%s\n' '.model m' '.inputs a b' '.outputs a' ".input_arrival a ${zeros}1. 1.$zeros" ".input_arrival b .${zeros}1 0" '.end' >IN
-    run map LIB IN
-    status $? 3 && holds out && holds err 'lwmap: IN line 5: decimal too fine' || return
+    refused 3 'IN line 5: decimal too fine' map LIB IN || return
     sed 5d IN >fewer
     run map LIB fewer
     status $? 0 && holds out '.model m' '.inputs a b' '.outputs a' '.input_arrival a 1 1' '.end' && holds err
@@ -262,8 +190,7 @@ long_words_of_latches_and_arrivals() {
     for line in ".latch $word" ".latch a a re\\ $word 0 1 2" ".input_arrival $word" ".input_arrival a x y $word" \
         ".default_input_arrival $word" ".default_input_arrival x y z $word"; do
         printf '%s\n' '.model m' '.inputs a' '.outputs a' "$line" '.end' >IN
-        run map LIB IN
-        status $? 3 && holds out && holds err 'lwmap: IN line 4: word too long' || return
+        refused 3 'IN line 4: word too long' map LIB IN || return
     done
 }
 
@@ -274,11 +201,9 @@ longest_functions_and_names_of_cells() {
     run map LIB IN
     status $? 0 && holds out '.model m' '.inputs a' '.outputs f' ".gate $cell $pin=a O=f" '.end' && holds err || return
     printf '%s\n' "GATE inv 1 O=!x$pin;" 'PIN * INV 1 999 1 0 1 0' >LIB
-    run map LIB IN
-    status $? 4 && holds out && holds err 'lwmap: LIB line 1: function longer than 2048 bytes' || return
+    refused 4 'LIB line 1: function longer than 2048 bytes' map LIB IN || return
     printf '%s\n' "GATE x$cell 1 O=!a;" 'PIN * INV 1 999 1 0 1 0' >LIB
-    run map LIB IN
-    status $? 4 && holds out && holds err 'lwmap: LIB line 1: word too long'
+    refused 4 'LIB line 1: word too long' map LIB IN
 }
 
 # A chain of so many inverters, of which the last is the one output.
@@ -296,8 +221,7 @@ most_signals() {
     run map LIB IN
     status $? 0 && holds out '.model m' '.inputs s0' '.outputs s262143' '.gate inv a=s0 O=s262143' '.end' && holds err || return
     chain 262144 >IN
-    run map LIB IN
-    status $? 3 && holds out && holds err "lwmap: IN line $((3 + 2 * 262143 + 1)): more than 262144 signals"
+    refused 3 "IN line $((3 + 2 * 262143 + 1)): more than 262144 signals" map LIB IN
 }
 
 most_inputs() {
@@ -307,8 +231,7 @@ most_inputs() {
     run map LIB IN
     status $? 0 && same out IN && holds err || return
     printf '.model m\n.inputs%s\n.outputs i7\n.end\n' "$inputs x" >IN
-    run map LIB IN
-    status $? 3 && holds out && holds err 'lwmap: IN line 2: more than 262144 signals'
+    refused 3 'IN line 2: more than 262144 signals' map LIB IN
 }
 
 most_signals_with_latches() {
@@ -322,12 +245,10 @@ most_signals_with_latches() {
     status $? 0 && same out IN && holds err || return
     for line in '.latch a x 0' '.latch a a 0' '.names x' '.names a' '.inputs x' '.inputs a'; do
         sed '$d' IN >longer && printf '%s\n' "$line" .end >>longer
-        run map LIB longer
-        status $? 3 && holds out && holds err 'lwmap: longer line 262147: more than 262144 signals' || return
+        refused 3 'longer line 262147: more than 262144 signals' map LIB longer || return
     done
     sed '$d' IN >longer && printf '%s\n' '.latch a\ x 0' .end >>longer
-    run map LIB longer
-    status $? 3 && holds out && holds err 'lwmap: longer line 262147: bad name'
+    refused 3 'longer line 262147: bad name' map LIB longer
 }
 
 most_rows() {
@@ -336,11 +257,9 @@ most_rows() {
     run map LIB IN
     status $? 0 && holds out '.model m' '.inputs a' '.outputs f' '.names a f' '1 1' '.end' && holds err || return
     echo '1 1' >>IN
-    run map LIB IN
-    status $? 3 && holds out && holds err 'lwmap: IN line 4101: more than 4096 rows' || return
+    refused 3 'IN line 4101: more than 4096 rows' map LIB IN || return
     sed '$s/1$/0/' IN >other
-    run map LIB other
-    status $? 3 && holds out && holds err 'lwmap: other line 4101: rows of both kinds'
+    refused 3 'other line 4101: rows of both kinds' map LIB other
 }
 
 # So many inverters, each faster than those before it.
@@ -354,26 +273,22 @@ most_cells() {
     run map LIB IN
     status $? 0 && holds out '.model m' '.inputs a' '.outputs f' '.gate c4096 a=a O=f' '.end' && holds err || return
     inverters 4097 >LIB
-    run map LIB IN
-    status $? 4 && holds out && holds err 'lwmap: LIB line 8193: more than 4096 cells'
+    refused 4 'LIB line 8193: more than 4096 cells' map LIB IN
 }
 
 too_many_forms() {
     inverter_files && awk -v n=8600 -f "$root/bench/eights.awk" >IN
-    run map -w 8 LIB IN
-    status $? 5 && holds out && holds err 'lwmap: limit: more than 2097152 forms'
+    refused 5 'limit: more than 2097152 forms' map -w 8 LIB IN
 }
 
 too_many_splits() {
     inverter_files && awk -v n=5547 -f "$root/bench/eights.awk" >IN
-    run map -w 8 LIB IN
-    status $? 5 && holds out && holds err 'lwmap: limit: more than 16777216 splits'
+    refused 5 'limit: more than 16777216 splits' map -w 8 LIB IN
 }
 
 too_many_splits_that_share_operands() {
     inverter_files && awk -v n=519 -f "$root/bench/eights.awk" >IN
-    run map -w 8 -i LIB IN
-    status $? 5 && holds out && holds err 'lwmap: limit: more than 16777216 splits'
+    refused 5 'limit: more than 16777216 splits' map -w 8 -i LIB IN
 }
 
 two_runs_agree() {
@@ -387,11 +302,12 @@ script_files() {
     printf '%s\n' 'other: low' 'lwmap: low std # the program' 'low:' >'a copy/crates.txt'
     touch -t 202001010000 'a copy/crates.txt' 'a copy/crates/lwmap/src/main.rt' 'a copy/crates/low/src/lib.rt' 'a copy/crates/other/src/lib.rt'
     touch -t 202001010000 'a copy/crates/lwmap/src' 'a copy/crates/low/src' 'a copy/crates/other/src'
-    cp "$root/lwmap" 'a copy/lwmap' && cp "$tests/fake_rt.sh" bin/rt && chmod +x bin/rt
+    mkdir 'a copy/release' && cp "$root"/release/*.sh "$root"/release/*.awk 'a copy/release' && cp "$root/lwmap" 'a copy/lwmap'
+    cp "$tests/fake_rt.sh" bin/rt && chmod +x bin/rt
     here=$(pwd)
     PATH=$here/bin:$PATH
     export here
-    unset LWMAP_PROGRAM
+    unset LWMAP_PROGRAM LWMAP_BUILD
 }
 
 # Calls the script from another folder.
@@ -414,7 +330,7 @@ script_runs_a_fresh_build() {
     script_files
     script
     script
-    status $? 5 && holds out "in $here/elsewhere" 'read given' && holds err 'the program speaks' && built_once
+    status $? 5 && holds out "in $here/elsewhere" 'read given' && holds err 'lwmap: the program speaks' && built_once
 }
 
 script_builds_anew_after_an_edit() {
@@ -464,6 +380,8 @@ script_takes_a_program_that_is_named() {
 
 # shellcheck source=tests/commands.sh
 . "$tests/commands.sh"
+# shellcheck source=tests/release.sh
+. "$tests/release.sh"
 
 for it in "$tests"/rows/*/; do
     it=${it%/}
@@ -485,12 +403,17 @@ for it in unreadable_file standard_output_is_full standard_output_takes_a_part \
     each_command_where_standard_output_is_full each_command_twice each_file_is_a_folder check_from_a_pipe examples_are_checked \
     netlist_of_too_many_bytes vectors_of_too_many_bytes long_words_of_mapped_texts mapped_names_of_2000_bytes \
     vectors_of_many_inputs graph_of_too_many_forms graph_of_the_most_splits graph_of_the_most_splits_that_share_operands \
-    check_of_too_many_forms big_of_2000_nodes_twice long_path cycle_behind_a_long_path \
+    each_prefix_of_each_file check_of_too_many_forms big_of_2000_nodes_twice big_of_too_many_matches long_path cycle_behind_a_long_path \
+    each_file_is_missing verilog_by_a_pipe written_verilog_reads_back examples_in_verilog_for_other_tools each_prefix_of_a_verilog_text_is_refused \
+    verilog_text_of_too_many_bytes verilog_text_of_one_long_part verilog_text_of_many_ports verilog_text_of_a_long_path \
+    verilog_names_of_2000_bytes verilog_of_long_cells_and_pins verilog_of_many_taken_names \
     script_builds_and_runs script_runs_a_fresh_build script_builds_anew_after_an_edit \
     script_does_not_build_for_other_crates script_says_where_the_build_fails \
-    script_says_where_rt_is_not_there script_takes_a_program_that_is_named; do
+    script_says_where_rt_is_not_there script_takes_a_program_that_is_named \
+    script_runs_the_released_program script_runs_no_release_of_other_sources sources_have_one_hash_in_each_folder \
+    script_prefers_a_fresh_build script_builds_where_it_is_told script_runs_no_release_that_the_system_cannot \
+    no_program_where_none_is_to_be_built release_is_compared release_is_not_compared release_is_made release_is_not_made; do
     [ $# -eq 0 ] || case " $* " in *" $it "*) ;; *) continue ;; esac
     attempt "$it" "$it"
 done
-echo "$passed passed, $failed failed"
-[ "$failed" -eq 0 ] && [ "$passed" -gt 0 ]
+told

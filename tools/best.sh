@@ -21,11 +21,10 @@
 # and not kept. Delays are those of bench/timing.py; among equal delays the least area counts. ABC gets the library with one
 # delay for each pin, one form of each cell and a wire as a cell (timing.py -p), and a netlist of ABC with a constant that LIB
 # has not is not kept. LIMIT holds the seconds that one run may take (20); runs that take longer are left out. The program is
-# that which LWMAP_PROGRAM names, or else that of crates/lwmap. Status 1 says that some circuit has no netlist.
+# the one that release/program.sh finds. Status 1 says that some circuit has no netlist.
 set -eu
 self=$(readlink -f -- "$0")
 root=$(dirname -- "$(dirname -- "$self")")
-program=$(readlink -m -- "${LWMAP_PROGRAM:-$root/crates/lwmap/out/lwmap}")
 timing=$root/bench/timing.py
 registers=$root/bench/registers.py
 limit=${LIMIT:-20}
@@ -34,27 +33,8 @@ fail() { # TEXT..
     exit 1
 }
 
-# The script of a front end, or of one of ABC's mappers, behind read_blif.
-script_of() { # NAME
-    case $1 in
-    strash) echo "strash" ;;
-    if4) echo "strash; if -K 4; sop" ;;
-    if5) echo "strash; if -K 5; sop" ;;
-    if6) echo "strash; if -K 6; mfs2; sop" ;;
-    dch+if6) echo "strash; dch; if -K 6; mfs2; sop" ;;
-    if-g) echo "strash; if -g -K 6" ;;
-    if-g+if6) echo "strash; if -g -K 6; strash; if -K 6; mfs2; sop" ;;
-    dch+map) echo "strash; dch; map; unmap; sop" ;;
-    if-g+dch+map) echo "strash; if -g -K 6; strash; dch; map; unmap; sop" ;;
-    map) echo "strash; map" ;;
-    "dch;map") echo "strash; dch; map" ;;
-    "&nf") echo "strash; &get -n; &nf; &put" ;;
-    "if-g;map") echo "strash; if -g -K 6; strash; map" ;;
-    "if-g;dch;map") echo "strash; if -g -K 6; strash; dch; map" ;;
-    *) return 1 ;;
-    esac
-}
-mappers="map dch;map &nf if-g;map if-g;dch;map"
+# shellcheck source=bench/fronts.sh
+. "$root/bench/fronts.sh"
 
 # Runs ABC in the room; what it said is left beside the result.
 abc() { # SCRIPT RESULT
@@ -84,7 +64,7 @@ if [ "${1:-}" = --step ]; then
     front)
         made=$name.$4.front
         if [ "$4" = given ]; then cp "$name.cut.blif" "$made"; else
-            abc "read_genlib peers; read_blif $name.cut.blif; $(script_of "$4"); write_blif $made" "$made"
+            abc "read_genlib peers; read_blif $name.cut.blif; $(front_script "$4"); write_blif $made" "$made"
         fi
         [ -s "$made" ] || exit 0
         python3 "$registers" restore "$name.given" "$made" >"$made.whole"
@@ -98,12 +78,12 @@ if [ "${1:-}" = --step ]; then
         ;;
     ours)
         net=$name.$4.$5.net
-        timeout "$limit" "$program" map -w "$5" lib "$name.$4.front.whole" >"$net" 2>"$net.said" || exit 0
+        timeout "$limit" "$PROGRAM" map -w "$5" lib "$name.$4.front.whole" >"$net" 2>"$net.said" || exit 0
         found "$name" "$net" "$4 -w $5"
         ;;
     theirs)
         net=$name.$(echo "$4" | tr ';&' '+_').net
-        abc "read_genlib peers; read_blif $name.cut.blif; $(script_of "$4"); write_blif $net.abc" "$net.abc"
+        abc "read_genlib peers; read_blif $name.cut.blif; $(mapper_script "$4"); write_blif $net.abc" "$net.abc"
         # ABC may write a constant without a cell.
         { [ -s "$net.abc" ] && ! grep -q '^\.names [^ ]*$' "$net.abc"; } || exit 0
         unpadded "$net.abc" >"$net"
@@ -139,8 +119,7 @@ if [ "${1:-}" = --step ]; then
 fi
 
 usage="usage: sh tools/best.sh [-f FRONTS] [-w WIDTHS] [-j JOBS] [-o OUT] [-v] LIB CIRCUIT.blif|FOLDER"
-known="given strash if4 if5 if6 dch+if6 if-g if-g+if6 dch+map if-g+dch+map"
-fronts=$known
+fronts=$all_fronts
 WIDTHS="2 3 4 5 6 7 8" && jobs=$(nproc) && OUT=best && TALK=
 while getopts f:w:j:o:v option; do
     case $option in
@@ -155,22 +134,22 @@ done
 shift $((OPTIND - 1))
 [ $# -eq 2 ] || fail "$usage"
 for front in $fronts; do
-    case " $known " in *" $front "*) ;; *) fail "there is no front end $front" ;; esac
+    front_script "$front" >/dev/null || fail "there is no front end $front"
 done
 for width in $WIDTHS; do case $width in [2-8]) ;; *) fail "a width is 2 to 8" ;; esac done
 case $jobs in '' | *[!0-9]* | 0) fail "$jobs is no number of jobs" ;; esac
 for tool in berkeley-abc python3 xargs; do command -v "$tool" >/dev/null || fail "there is no $tool"; done
-[ -x "$program" ] || fail "there is no program $program; ./lwmap builds it, or LWMAP_PROGRAM names a built one"
+PROGRAM=$(sh "$root/release/program.sh") || exit 1
 [ -r "$1" ] || fail "cannot read $1"
 ROOM=$(mktemp -d)
 trap 'rm -rf "$ROOM"' EXIT
 cp -- "$1" "$ROOM/lib"
 printf '.model none\n.inputs\n.outputs\n.end\n' >"$ROOM/none"
-"$program" map "$1" "$ROOM/none" >/dev/null || fail "lwmap does not take $1"
+"$PROGRAM" map "$1" "$ROOM/none" >/dev/null || fail "lwmap does not take $1"
 python3 "$timing" -p "$1" >"$ROOM/peers"
 mkdir -p -- "$OUT"
 OUT=$(readlink -f -- "$OUT")
-export ROOM OUT WIDTHS TALK
+export PROGRAM ROOM OUT WIDTHS TALK
 
 # The circuits; names are kept as they are, but for signs that ABC or this script would take for others.
 if [ -d "$2" ]; then set -- "$2"/*.blif; else shift; fi
@@ -188,7 +167,7 @@ steps() { xargs -P "$jobs" -I '{}' sh -c 'IFS="|"; set -f; set -- $1; sh "$0" --
 # shellcheck disable=SC2086
 for name in $names; do
     for front in $fronts; do echo "front|$name|$front"; done
-    (set -f && for mapper in $mappers; do echo "theirs|$name|$mapper"; done)
+    (set -f && for mapper in $all_mappers; do echo "theirs|$name|$mapper"; done)
 done | steps
 [ ! -e "$ROOM/steps" ] || steps <"$ROOM/steps"
 for name in $names; do echo "kept|$name"; done | steps

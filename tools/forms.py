@@ -30,6 +30,7 @@ import functions
 from functions import cofactor, inverse, join
 
 sys.path.insert(0, os.path.join(os.path.dirname(os.path.abspath(__file__)), "..", "bench"))
+import script  # noqa: E402
 import timing  # noqa: E402
 
 MOST_PINS, MOST_ENTRIES, WIDE = 8, 4096, 4
@@ -275,11 +276,4 @@ def main(words):
 
 
 if __name__ == "__main__":
-    try:
-        main(sys.argv[1:])
-    except (timing.Fault, functions.Fault) as fault:
-        sys.exit(f"forms: {fault}")
-    except RecursionError:
-        sys.exit("forms: a function has its brackets nested too deep")
-    except OSError as fault:
-        sys.exit(f"forms: {fault.filename or 'standard output'}: {fault.strerror}")
+    script.run("forms", main, timing.Fault, functions.Fault)

@@ -5,10 +5,14 @@ A tree is a pin's name, or ("!", tree), or ("*", tree..), or ("+", tree..), or (
 product stands in a product, no sum in a sum, no complement in a complement; but read with flat=False a tree has the
 brackets of its text.
 """
+import os
 import re
+import sys
+
+sys.path.insert(0, os.path.join(os.path.dirname(os.path.abspath(__file__)), "..", "bench"))
+from expression import NAME, Expression  # noqa: E402
 
 MOST_NAMES, MOST_BYTES = 64, 2048
-NAME = r"[^\s#;()!'+*=&|^\"]+"
 
 
 class Fault(Exception):
@@ -27,67 +31,42 @@ def join(sign, parts):
     return flat[0] if len(flat) == 1 else (sign, *flat)
 
 
-class Reader:
+class Reader(Expression):
     """Reads the text of a function, by Liberty's ranks: ' and !, then ^, then * & and blanks, then + and |. Genlib's
     functions are read in the same way."""
 
+    AND, OR = ("*", "&"), ("+", "|")
+
     def __init__(self, text, flat=True):
-        self.join = join if flat else lambda sign, parts: parts[0] if len(parts) == 1 else (sign, *parts)
-        self.signs = re.findall(r"[()!'+*&|^]|" + NAME, text) + [""]
-        self.at = 0
+        super().__init__(re.findall(r"[()!'+*&|^]|" + NAME, text))
+        self.joined = join if flat else lambda sign, parts: parts[0] if len(parts) == 1 else (sign, *parts)
         if "".join(self.signs) != "".join(text.split()):
             raise Fault("a sign that is not understood")
 
-    def next(self):
-        self.at += 1
-        return self.signs[self.at - 1]
+    def leaf(self, sign):
+        if not re.fullmatch(NAME, sign):
+            self.unknown(sign)
+        return sign
 
-    def factor(self):
-        sign = self.next()
-        if sign == "!":
-            return inverse(self.factor())
-        if sign == "(":
-            tree = self.sum()
-            if self.next() != ")":
-                raise Fault("a bracket is missing")
-        elif re.fullmatch(NAME, sign):
-            tree = sign
-        else:
-            raise Fault(f"not understood at {sign or 'its end'}")
-        while self.signs[self.at] == "'":
-            self.at += 1
-            tree = inverse(tree)
-        return tree
+    def inverse(self, tree):
+        return inverse(tree)
 
-    def either(self):
+    def operand(self):
         tree = self.factor()
         while self.signs[self.at] == "^":
             self.at += 1
             tree = ("^", tree, self.factor())
         return tree
 
-    def product(self):
-        parts = [self.either()]
-        while self.signs[self.at] not in ("", "+", "|", ")"):
-            if self.signs[self.at] in "*&":
-                self.at += 1
-            parts.append(self.either())
-        return self.join("*", parts)
+    def unclosed(self):
+        raise Fault("a bracket is missing")
 
-    def sum(self):
-        parts = [self.product()]
-        while self.signs[self.at] in ("+", "|"):
-            self.at += 1
-            parts.append(self.product())
-        return self.join("+", parts)
+    def unknown(self, sign):
+        raise Fault(f"not understood at {sign or 'its end'}")
 
 
 def read(text, flat=True):
-    reader = Reader(text, flat)
-    tree = reader.sum()
-    if reader.signs[reader.at]:
-        raise Fault(f"not understood at {reader.signs[reader.at]}")
-    return tree
+    return Reader(text, flat).whole()
 
 
 def names(tree):

@@ -12,6 +12,7 @@ import sys
 from decimal import Decimal
 
 import functions
+import script  # (functions has told where bench is)
 
 MOST_PINS, MOST_ENTRIES, BOUND = 16, 4096, 1000000
 
@@ -172,11 +173,4 @@ def main(words):
 
 if __name__ == "__main__":
     sys.stdout.reconfigure(encoding="latin-1")
-    try:
-        main(sys.argv[1:])
-    except (Fault, ArithmeticError, IndexError) as fault:
-        sys.exit(f"liberty: {fault}")
-    except RecursionError:
-        sys.exit("liberty: a function has its brackets nested too deep")
-    except OSError as fault:
-        sys.exit(f"liberty: {fault.filename or 'standard output'}: {fault.strerror}")
+    script.run("liberty", main, Fault, ArithmeticError, IndexError)

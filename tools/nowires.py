@@ -21,6 +21,7 @@ import os
 import sys
 
 sys.path.insert(0, os.path.join(os.path.dirname(os.path.abspath(__file__)), "..", "bench"))
+import script  # noqa: E402
 import timing  # noqa: E402
 
 
@@ -124,11 +125,4 @@ def main(words):
 
 
 if __name__ == "__main__":
-    try:
-        main(sys.argv[1:])
-    except (timing.Fault) as fault:
-        sys.exit(f"nowires: {fault}")
-    except RecursionError:
-        sys.exit("nowires: a function has its brackets nested too deep")
-    except OSError as fault:
-        sys.exit(f"nowires: {fault.filename or 'standard output'}: {fault.strerror}")
+    script.run("nowires", main, timing.Fault)

@@ -28,7 +28,8 @@ fn add_bases(draft: &mut Draft, forms: &Forms) -> Result<(), AllocError>
     Ok(())
 }
 
-// Adds the fact that an And has by the parts of two masks. The draft is never full: the limit on splits leaves room for all facts.
+// Adds the fact that an And has by the parts of two masks. The draft is never full: the limit on
+// splits leaves room for all facts.
 pub(crate) fn add_split(
     draft: &mut Draft,
     forms: &Forms,
@@ -54,7 +55,8 @@ pub(crate) fn add_split(
     draft.nand(FormId(2 * b + 1), left, right)
 }
 
-// Adds the splits of a base form, of which an And alone has some. The last operand stands in the second part.
+// Adds the splits of a base form, of which an And alone has some. The last operand stands in the
+// second part.
 fn add_splits(draft: &mut Draft, forms: &Forms, parts: &[u32], b: u32) -> Result<(), AllocError>
     requires within { b < length forms.now.bases }
     requires size { length parts.now ≡ 256 }
@@ -111,7 +113,8 @@ fn add_all_splits(
     requires drops_size { length drops.now ≡ 8 * length forms.now.bases }
     requires drops { HasDrops forms.now (length forms.now.bases) drops.now }
     requires none { HasSplitsUpTo (law_mode mode) forms.now 0 draft.old.nands }
-    ensures splits { OnOk result (HasSplitsUpTo (law_mode mode) forms.now (length forms.now.bases) draft.new.nands) }
+    ensures splits { OnOk result (HasSplitsUpTo (law_mode mode) forms.now
+        (length forms.now.bases) draft.new.nands) }
     ensures kept { OnOk result (AddsNands draft.old draft.new) }
 {
     for b in 0..forms.len() {
@@ -130,7 +133,8 @@ fn find_splits(
 ) -> Result<(), AllocError>
     requires bases { HasBases forms.now (length forms.now.bases) draft.old }
     requires none { HasSplitsUpTo (law_mode mode) forms.now 0 draft.old.nands }
-    ensures splits { OnOk result (HasSplitsUpTo (law_mode mode) forms.now (length forms.now.bases) draft.new.nands) }
+    ensures splits { OnOk result (HasSplitsUpTo (law_mode mode) forms.now
+        (length forms.now.bases) draft.new.nands) }
     ensures kept { OnOk result (AddsNands draft.old draft.new) }
 {
     let drops = drops_of(alloc, forms)?;

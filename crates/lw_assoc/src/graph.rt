@@ -21,17 +21,24 @@ use lw_graph::Graph;
 use lw_reduce::reduce;
 use std::alloc::Global;
 
-/// The graph of the classes of some listed forms, in which the trees of each form's class are those that the laws of decomposition
-/// derive for the form in a mode. `Limit` comes exactly where there are more than 16,777,216 splits of the mode, before memory is taken for them.
+/// The graph of the classes of some listed forms, in which the trees of each form's class are those
+/// that the laws of decomposition derive for the form in a mode. `Limit` comes exactly where there
+/// are more than 16,777,216 splits of the mode, before memory is taken for them.
 pub fn build(alloc: Global, forms: &Forms, mode: Mode) -> Result<Graph, GraphFault>
-    ensures limit { (result ≡ Err Limit) ↔ (most_splits < numbered_splits (law_mode mode) forms.now) }
-    ensures limit_of_network { (width : ℕ) (net : Network) → forms.now ≡ forms_of width net → (result ≡ Err Limit) ↔ (most_splits < split_count (law_mode mode) (occurring_forms width net)) }
-    ensures graph { IfOk result (λ g. (width : ℕ) (net : Network) → 2 ≤ width → forms.now ≡ forms_of width net → IsGraphOf (law_mode mode) net.inputs (listing_of width net) g) }
+    ensures limit { (result ≡ Err Limit) ↔
+        (most_splits < numbered_splits (law_mode mode) forms.now) }
+    ensures limit_of_network { (width : ℕ) (net : Network) → forms.now ≡ forms_of width net →
+        (result ≡ Err Limit) ↔ (most_splits < split_count (law_mode mode)
+        (occurring_forms width net)) }
+    ensures graph { IfOk result (λ g. (width : ℕ) (net : Network) → 2 ≤ width →
+        forms.now ≡ forms_of width net →
+        IsGraphOf (law_mode mode) net.inputs (listing_of width net) g) }
     ensures written { IfOk result (λ g. IsWritten (length forms.now.bases) forms.now.inputs g) }
     ensures few { IfOk result (λ g. length g.pairs ≤ most_classes) }
     ensures encodes { IfOk result (λ g. Encodes (family_of (law_mode mode) forms.now) g) }
     ensures trees { IfOk result (λ g. HasNumberedTrees (law_mode mode) forms.now g) }
-    ensures values { IfOk result (λ g. (x value : ℕ → Bool) → AreNumberedValues forms.now x value → HasNumberedTruth (law_mode mode) forms.now g x value) }
+    ensures values { IfOk result (λ g. (x value : ℕ → Bool) → AreNumberedValues forms.now x value →
+        HasNumberedTruth (law_mode mode) forms.now g x value) }
     ensures once { IfOk result (λ g. PairsInOneClass g) }
 {
     if split_count(forms, mode) > MOST_SPLITS {

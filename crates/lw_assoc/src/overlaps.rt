@@ -1,5 +1,5 @@
-// The facts of the further mode: pairs of different parts of an And that together have each operand, and each form by its complement
-// twice.
+// The facts of the further mode: pairs of different parts of an And that together have each
+// operand, and each form by its complement twice.
 ghost use Rattle.std.specs.Prelude.{◌≡◌, ◌+◌, ◌-◌, ◌/◌, ◌^◌, ◌<◌, ◌≤◌, ℕ, List, Some, slice_get, length, OnOk};
 ghost use Rattle.lw_laws.specs.Modes.Mode.{idempotent};
 ghost use Rattle.lw_laws.specs.NumberedForms.Base.{base_and};
@@ -31,7 +31,8 @@ fn add_overlap(
     requires left { HasPart forms.now b left }
     requires right { HasPart forms.now b right }
     requires less { left < right }
-    requires all { (fs : List ℕ) → slice_get forms.now.bases b ≡ Some (base_and fs) → all ≡ 2 ^ length fs - 1 }
+    requires all { (fs : List ℕ) → slice_get forms.now.bases b ≡ Some (base_and fs) →
+        all ≡ 2 ^ length fs - 1 }
     requires before { IsOverlapping forms.now b left right draft.old.nands }
     ensures splits { OnOk result (IsOverlapping forms.now b left (right + 1) draft.new.nands) }
     ensures kept { OnOk result (AddsNands draft.old draft.new) }
@@ -59,7 +60,8 @@ fn add_overlaps_with(
     requires left { HasPart forms.now b left }
     requires less { left < all }
     requires few { all ≤ 255 }
-    requires all { (fs : List ℕ) → slice_get forms.now.bases b ≡ Some (base_and fs) → all ≡ 2 ^ length fs - 1 }
+    requires all { (fs : List ℕ) → slice_get forms.now.bases b ≡ Some (base_and fs) →
+        all ≡ 2 ^ length fs - 1 }
     requires before { IsOverlapping forms.now b left 0 draft.old.nands }
     ensures splits { OnOk result (IsOverlapping forms.now b (left + 1) 0 draft.new.nands) }
     ensures kept { OnOk result (AddsNands draft.old draft.new) }

@@ -26,7 +26,8 @@ fn first_unset(mask: u32) -> usize
     place
 }
 
-// Puts the part of a mask, once those of higher masks are there: the one with the lowest further operand, less that operand.
+// Puts the part of a mask, once those of higher masks are there: the one with the lowest further
+// operand, less that operand.
 fn put_part(parts: &mut [u32], forms: &Forms, drops: &[u32], b: u32, mask: u32)
     requires forms { AreForms forms.now }
     requires has { HasPart forms.now b (mask + 1) }

@@ -50,7 +50,8 @@ fn splits_of(mode: Mode, count: usize) -> u32
 // The splits of a base form, of which an And alone has some.
 fn splits_at(forms: &Forms, b: u32, mode: Mode) -> u32
     requires { b < length forms.now.bases }
-    ensures splits { (base : PlainBase) → slice_get forms.now.bases b ≡ Some base → result ≡ base_splits (law_mode mode) base }
+    ensures splits { (base : PlainBase) → slice_get forms.now.bases b ≡ Some base →
+        result ≡ base_splits (law_mode mode) base }
     ensures few { result ≤ 3279 }
 {
     let Base::And(ids) = forms.base(b) else {

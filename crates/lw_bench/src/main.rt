@@ -1,4 +1,5 @@
-//! Counts the logical lines and the words of standard input, so that the speed of cutting can be taken.
+//! Counts the logical lines and the words of standard input, so that the speed of cutting can be
+//! taken.
 #![tactic(auto)]
 
 ghost use Rattle.std.specs.Prelude.{◌≡◌, OnOk};

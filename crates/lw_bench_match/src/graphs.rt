@@ -117,7 +117,8 @@ impl Dice {
     }
 }
 
-// Adds the facts of all base forms after the inputs, of parts that are drawn from those before each.
+// Adds the facts of all base forms after the inputs, of parts that are drawn from those before
+// each.
 fn add_facts(draft: &mut Draft, samples: &[bool]) -> Result<(), AllocError>
     requires same { draft.old.samples ≡ samples.now }
     ensures same { OnOk result (draft.new.samples ≡ samples.now) }

@@ -1,11 +1,14 @@
-//! Looks for the least match at each class of a graph, so that the speed of `least` can be taken beside that of a cursor.
+//! Looks for the least match at each class of a graph, so that the speed of `least` can be taken
+//! beside that of a cursor.
 //!
-//! `least GRAPH COUNT` takes `least` at each class, and `cursor GRAPH COUNT` goes through the matches of a cursor and keeps the
-//! least of them. Both print the same sum. With the word `timed` at the end they print the milliseconds of the processor that
-//! this took, apart from making the graph, the library and the labels.
+//! `least GRAPH COUNT` takes `least` at each class, and `cursor GRAPH COUNT` goes through the
+//! matches of a cursor and keeps the least of them. Both print the same sum. With the word `timed`
+//! at the end they print the milliseconds of the processor that this took, apart from making the
+//! graph, the library and the labels.
 //!
-//! The graph `drawn` has so many base forms with eight NAND facts each, and a library of cells of two to six pins. The graph
-//! `ands` is of so many nodes of six inputs, which are cut in all ways, and a library of cells of six pins.
+//! The graph `drawn` has so many base forms with eight NAND facts each, and a library of cells of
+//! two to six pins. The graph `ands` is of so many nodes of six inputs, which are cut in all ways,
+//! and a library of cells of six pins.
 #![tactic(auto)]
 
 ghost use Rattle.std.specs.Prelude.{◌≡◌, length, map};

@@ -1,10 +1,11 @@
-//! Makes drafts of forms with many facts and reduces them, so that the speed of reduction can be taken.
+//! Makes drafts of forms with many facts and reduces them, so that the speed of reduction can be
+//! taken.
 //!
-//! `mix FORMS FACTS` has so many base forms, with so many NAND facts each, of parts that are drawn from the forms before it.
-//! `draft FORMS FACTS` makes the same draft and does not reduce it.
-//! `chain N`, `back N` and `down N` have two chains of N forms whose first ones are linked, so that each pair of forms that
-//! become one lets the next pair become one: with facts in the order of forms, in the other order, and with the last forms
-//! first.
+//! `mix FORMS FACTS` has so many base forms, with so many NAND facts each, of parts that are drawn
+//! from the forms before it. `draft FORMS FACTS` makes the same draft and does not reduce it.
+//! `chain N`, `back N` and `down N` have two chains of N forms whose first ones are linked, so that
+//! each pair of forms that become one lets the next pair become one: with facts in the order of
+//! forms, in the other order, and with the last forms first.
 #![tactic(auto)]
 
 ghost use Rattle.std.specs.Prelude.{◌≡◌, ◌+◌, ◌-◌, ◌<◌, ◌≤◌, ◌^◌, Bool, true, false, ◌∷◌, length, replicate, IfOk, OnOk};

@@ -25,7 +25,8 @@ impl Draws {
     // The next number: the upper 31 bits of the next state.
     pub(crate) fn draw(&mut self) -> u32
         ensures value { (seed count : ℕ) → HasDrawn seed count self.old → result ≡ draw seed count }
-        ensures draws { (seed count : ℕ) → HasDrawn seed count self.old → HasDrawn seed (count + 1) self.new }
+        ensures draws { (seed count : ℕ) → HasDrawn seed count self.old →
+            HasDrawn seed (count + 1) self.new }
     {
         self.state = self.state.wrapping_mul(MULTIPLIER).wrapping_add(INCREMENT);
         (self.state >> 33) as u32

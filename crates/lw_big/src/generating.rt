@@ -26,8 +26,9 @@ fn draft(alloc: Global, seed: u64, n: u32) -> Result<Draft, AllocError>
     })
 }
 
-/// The network of n nodes that is drawn from a seed: 16 inputs, nodes of two fan-ins each, which are inputs or earlier nodes, and
-/// the last 16 nodes as outputs. The same seed gives the same network.
+/// The network of n nodes that is drawn from a seed: 16 inputs, nodes of two fan-ins each, which
+/// are inputs or earlier nodes, and the last 16 nodes as outputs. The same seed gives the same
+/// network.
 pub fn generate(alloc: Global, seed: u64, n: u32) -> Result<Network, AllocError>
     requires { n ≤ most_nodes }
     ensures generated { IfOk result (IsGenerated seed n) }

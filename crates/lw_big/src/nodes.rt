@@ -32,10 +32,13 @@ fn other_than(first: u32, drawn: u32, signals: u32) -> u32
 // Draws what makes node k.
 fn draw_node(draws: &mut Draws, k: u32) -> Drawn
     requires { k < most_nodes }
-    ensures first { (seed : ℕ) → HasDrawn seed (3 * k) draws.old → result.first ≡ first_fanin seed k }
-    ensures second { (seed : ℕ) → HasDrawn seed (3 * k) draws.old → result.second ≡ second_fanin seed k }
+    ensures first { (seed : ℕ) → HasDrawn seed (3 * k) draws.old →
+        result.first ≡ first_fanin seed k }
+    ensures second { (seed : ℕ) → HasDrawn seed (3 * k) draws.old →
+        result.second ≡ second_fanin seed k }
     ensures kind { (seed : ℕ) → HasDrawn seed (3 * k) draws.old → result.kind ≡ node_kind seed k }
-    ensures draws { (seed : ℕ) → HasDrawn seed (3 * k) draws.old → HasDrawn seed (3 * (k + 1)) draws.new }
+    ensures draws { (seed : ℕ) → HasDrawn seed (3 * k) draws.old →
+        HasDrawn seed (3 * (k + 1)) draws.new }
 {
     let signals = INPUTS + k;
     let first = draws.draw() % signals;

@@ -21,7 +21,8 @@ fn times_at(command: Command) -> usize
     requires { IsArrivalLine command }
     ensures times { (words : List (List ℕ)) → times_for command words ≡ drop result words }
     ensures small { result < 3 }
-    ensures within { (words : List (List ℕ)) → wants_words command words ≡ true → result + 1 < length words }
+    ensures within { (words : List (List ℕ)) → wants_words command words ≡ true →
+        result + 1 < length words }
 {
     match command {
         Command::Arrival => 2,
@@ -73,7 +74,8 @@ pub fn add_start(
     requires wanted { wants_words command words.now ≡ true }
     requires said { start_in (times_for command words.now) ≡ Ok start }
     requires early { IsEarly start }
-    ensures { OnOk result ((lines : List starts.Arrival) → StandsFor arrivals.old lines → StandsFor arrivals.new (lines ++ arrivals_for command words.now)) }
+    ensures { OnOk result ((lines : List starts.Arrival) → StandsFor arrivals.old lines →
+        StandsFor arrivals.new (lines ++ arrivals_for command words.now)) }
 {
     match command {
         Command::Arrival => {

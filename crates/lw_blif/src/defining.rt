@@ -14,7 +14,8 @@ use lw_pool::{Latch, Name, Names};
 use lw_words::Words;
 use std::alloc::{AllocError, Global};
 
-/// Defines the words from a place on, up to the first that is defined already. Whether all were new.
+/// Defines the words from a place on, up to the first that is defined already. Whether all were
+/// new.
 pub fn define_all(
     alloc: Global,
     defined: &mut IndexSet<Name>,
@@ -23,7 +24,8 @@ pub fn define_all(
 ) -> Result<bool, AllocError>
     requires { from ≤ length words.now }
     ensures fresh { IfOk result (λ b. b ≡ are_fresh defined.old.keys (drop from words.now)) }
-    ensures defined { IfOk result (λ b. b ≡ true → defined.new.keys ≡ defined.old.keys ++ drop from words.now) }
+    ensures defined { IfOk result (λ b. b ≡ true →
+        defined.new.keys ≡ defined.old.keys ++ drop from words.now) }
 {
     for i in from..words.len() {
         let name = Name::from_slice(alloc, words.get(i))?;
@@ -42,7 +44,8 @@ pub fn define_one(
 ) -> Result<bool, AllocError>
     requires { 0 < length word.now }
     ensures fresh { IfOk result (λ b. b ≡ are_fresh defined.old.keys (word.now ∷ [])) }
-    ensures defined { IfOk result (λ b. b ≡ true → defined.new.keys ≡ defined.old.keys ++ word.now ∷ []) }
+    ensures defined { IfOk result (λ b. b ≡ true →
+        defined.new.keys ≡ defined.old.keys ++ word.now ∷ []) }
 {
     let name = Name::from_slice(alloc, word)?;
     let is_new = defined.insert(name)?;
@@ -88,7 +91,8 @@ pub fn add_all(
     from: usize,
 ) -> Result<(), AllocError>
     requires { from ≤ length words.now }
-    ensures { OnOk result (names.new.keys ≡ insert_all bytes_eq names.old.keys (drop from words.now)) }
+    ensures { OnOk result (names.new.keys
+        ≡ insert_all bytes_eq names.old.keys (drop from words.now)) }
 {
     for i in from..words.len() {
         let name = Name::from_slice(alloc, words.get(i))?;

@@ -97,9 +97,11 @@ pub fn starts_of(
     inputs: &Names,
     latches: &Latches,
 ) -> Result<Micros, AllocError>
-    ensures starts { (lines : List Arrival) → StandsFor arrivals lines → IfOk result (λ starts. starts ≡ starts_of lines inputs.now (length latches.now)) }
+    ensures starts { (lines : List Arrival) → StandsFor arrivals lines →
+        IfOk result (λ starts. starts ≡ starts_of lines inputs.now (length latches.now)) }
     ensures count { IfOk result (λ starts. length starts ≡ length inputs.now + length latches.now) }
-    ensures latches { IfOk result (λ starts. drop (length inputs.now) starts ≡ replicate (length latches.now) at_once) }
+    ensures latches { IfOk result (λ starts. drop (length inputs.now) starts
+        ≡ replicate (length latches.now) at_once) }
     ensures early { IfOk result (All IsEarly) }
 {
     arrivals.starts(alloc, inputs.as_slice(), latches.len())
@@ -137,7 +139,8 @@ pub fn draft_of(
     nodes: DraftNodes,
 ) -> Result<Draft, AllocError>
     ensures model { IfOk result (λ draft. draft.model ≡ unwrap_or model (codes "unnamed")) }
-    ensures inputs { IfOk result (λ draft. draft.inputs ≡ input_names inputs around.now.frame.latches) }
+    ensures inputs { IfOk result (λ draft. draft.inputs
+        ≡ input_names inputs around.now.frame.latches) }
     ensures outputs { IfOk result (λ draft. draft.outputs ≡ around.now.roots.keys) }
     ensures nodes { IfOk result (λ draft. draft.nodes ≡ nodes) }
 {

@@ -16,10 +16,11 @@ pub enum BlifKind {
     RowShape,
     /// A row whose value differs from that of an earlier row of its node.
     RowMix,
-    /// A signal that is an input or the output of a node or latch already, or stands twice on the line.
+    /// A signal that is an input or the output of a node or latch already, or stands twice on the
+    /// line.
     Redefined,
-    /// `.model` with other than one name, `.names` with none, `.latch` with fewer than two or more than five, or an arrival line
-    /// without its name or a time.
+    /// `.model` with other than one name, `.names` with none, `.latch` with fewer than two or more
+    /// than five, or an arrival line without its name or a time.
     WordCount,
     /// A word in a name's place is no name.
     BadName,
@@ -31,7 +32,8 @@ pub enum BlifKind {
     LimitRows,
     /// More than 262,144 inputs, latches and nodes.
     LimitSignals,
-    /// A time that is no decimal, or is none of fewer than a million units, no more than six decimals, and not below 0.
+    /// A time that is no decimal, or is none of fewer than a million units, no more than six
+    /// decimals, and not below 0.
     Decimal(DecimalFault),
 }
 
@@ -41,7 +43,8 @@ pub enum BlifFault {
     /// The number of the first line that breaks a rule, and the first rule that it breaks.
     #[error("line {0}")]
     Line(u32, BlifKind),
-    /// No line breaks a rule, but the network as a whole has this fault. It is never want of memory.
+    /// No line breaks a rule, but the network as a whole has this fault. It is never want of
+    /// memory.
     #[error("network")]
     Whole(NetFault),
     /// Want of memory.

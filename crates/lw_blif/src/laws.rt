@@ -8,7 +8,10 @@ ghost use Rattle.lw_blif.specs.BlifNetworks.{IsBlifNetwork, IsModel};
 
 /// What lines come to is a network whose names differ, and its frame and its starts fit.
 pub fn model_is_network()
-    ensures network { (lines : List LogicalLine) (model : Model) → IsBlifNetwork lines (Ok model) → IsNetwork model.network }
-    ensures names { (lines : List LogicalLine) (model : Model) → IsBlifNetwork lines (Ok model) → IsDistinct bytes_eq model.network.names }
-    ensures model { (lines : List LogicalLine) (model : Model) → IsBlifNetwork lines (Ok model) → IsModel model }
+    ensures network { (lines : List LogicalLine) (model : Model) → IsBlifNetwork lines (Ok model) →
+        IsNetwork model.network }
+    ensures names { (lines : List LogicalLine) (model : Model) → IsBlifNetwork lines (Ok model) →
+        IsDistinct bytes_eq model.network.names }
+    ensures model { (lines : List LogicalLine) (model : Model) → IsBlifNetwork lines (Ok model) →
+        IsModel model }
 {}

@@ -61,7 +61,8 @@ impl Parts {
 
     /// What the lines that were read say.
     pub fn into_said(self) -> Result<Said, AllocError>
-        ensures said { (lines : List LogicalLine) → Keeps self lines → IfOk result (IsSaidBy lines) }
+        ensures said { (lines : List LogicalLine) → Keeps self lines →
+            IfOk result (IsSaidBy lines) }
         ensures fits { IfOk result SaidFits }
     {
         let Parts {
@@ -104,12 +105,15 @@ impl Parts {
         })
     }
 
-    /// A line with the command that it asks for, or the first rule that it breaks. Behind an error this is of no use.
+    /// A line with the command that it asks for, or the first rule that it breaks. Behind an error
+    /// this is of no use.
     pub fn read(&mut self, line: &Line, asked: Command) -> Result<Option<BlifKind>, AllocError>
         requires asked { asked ≡ command line.now }
         requires goes_on { asked ≢ Command.End }
-        ensures fault { (lines : List LogicalLine) → Keeps self.old lines → IfOk result (λ fault. fault ≡ line_fault lines line.now) }
-        ensures keeps { (lines : List LogicalLine) → Keeps self.old lines → IfOk result (λ fault. fault ≡ None → Keeps self.new (lines ++ line.now ∷ [])) }
+        ensures fault { (lines : List LogicalLine) → Keeps self.old lines →
+            IfOk result (λ fault. fault ≡ line_fault lines line.now) }
+        ensures keeps { (lines : List LogicalLine) → Keeps self.old lines →
+            IfOk result (λ fault. fault ≡ None → Keeps self.new (lines ++ line.now ∷ [])) }
     {
         if line.long {
             return Ok(Some(BlifKind::LongWord));
@@ -163,7 +167,8 @@ impl Parts {
         requires arrival { IsArrivalLine command }
         requires some { 0 < length words.now }
         ensures fault { IfOk result (λ fault. fault ≡ arrival_fault command words.now) }
-        ensures arrival { IfOk result (λ fault. fault ≡ None → ReadsArrival self.old command words.now self.new) }
+        ensures arrival { IfOk result (λ fault. fault ≡ None →
+            ReadsArrival self.old command words.now self.new) }
     {
         match start_on(command, words) {
             Err(kind) => Ok(Some(kind)),
@@ -189,8 +194,10 @@ impl Parts {
     fn define(&mut self, command: Command, words: &Words) -> Result<bool, AllocError>
         requires some { 0 < length words.now }
         requires wanted { wants_words command words.now ≡ true }
-        ensures fresh { IfOk result (λ b. b ≡ are_fresh self.old.defined.keys (defined_for command words.now)) }
-        ensures defined { IfOk result (λ b. b ≡ true → Defines self.old (defined_for command words.now) self.new) }
+        ensures fresh { IfOk result (λ b. b
+            ≡ are_fresh self.old.defined.keys (defined_for command words.now)) }
+        ensures defined { IfOk result (λ b. b ≡ true →
+            Defines self.old (defined_for command words.now) self.new) }
     {
         match command {
             Command::Inputs => define_all(self.alloc, &mut self.defined, words, 1),
@@ -208,7 +215,8 @@ impl Parts {
     ) -> Result<Option<BlifKind>, AllocError>
         requires { 0 < length words.now }
         ensures fault { IfOk result (λ fault. fault ≡ names_fault self.old command words.now) }
-        ensures names { IfOk result (λ fault. fault ≡ None → ReadsNames self.old command words.now self.new) }
+        ensures names { IfOk result (λ fault. fault ≡ None →
+            ReadsNames self.old command words.now self.new) }
     {
         if let Some(kind) = names_fault(self.defined.len(), command, words) {
             return Ok(Some(kind));

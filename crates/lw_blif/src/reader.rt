@@ -44,7 +44,8 @@ impl Command {
     }
 }
 
-/// Reads a network's text line by line. After an error it answers the same to each later line, and changes nothing more.
+/// Reads a network's text line by line. After an error it answers the same to each later line, and
+/// changes nothing more.
 #[derive(Drop)]
 pub struct Reader {
     begun: bool,
@@ -72,11 +73,13 @@ impl Reader {
         }
     }
 
-    /// Reads a line. The answer is the first line that breaks a rule, and the first rule that it breaks; it is then that of each later
-    /// line and of the end.
+    /// Reads a line. The answer is the first line that breaks a rule, and the first rule that it
+    /// breaks; it is then that of each later line and of the end.
     pub fn line(&mut self, line: &Line) -> Result<(), BlifFault>
-        ensures stands { (lines : List LogicalLine) → StandsFor self.old lines → StandsFor self.new (lines ++ line.now ∷ []) }
-        ensures answer { (lines : List LogicalLine) → StandsFor self.old lines → Tells result (first_fault [] (lines_read (lines ++ line.now ∷ []))) }
+        ensures stands { (lines : List LogicalLine) → StandsFor self.old lines →
+            StandsFor self.new (lines ++ line.now ∷ []) }
+        ensures answer { (lines : List LogicalLine) → StandsFor self.old lines →
+            Tells result (first_fault [] (lines_read (lines ++ line.now ∷ []))) }
         ensures stopped { Stopped result (stop_of self.new) }
         ensures again { IfSome (stop_of self.old) (λ stop. result ≡ Err (fault_of stop)) }
         ensures unchanged { IsSome (stop_of self.old) → self.new ≡ self.old }
@@ -107,10 +110,11 @@ impl Reader {
         }
     }
 
-    /// The text ends. The answer is its model, or the first line that breaks a rule with the first rule that it breaks, or else the
-    /// fault of the network as a whole.
+    /// The text ends. The answer is its model, or the first line that breaks a rule with the first
+    /// rule that it breaks, or else the fault of the network as a whole.
     pub fn end(self) -> Result<Parsed, BlifFault>
-        ensures answer { (lines : List LogicalLine) → StandsFor self lines → IsBlifNetwork lines result }
+        ensures answer { (lines : List LogicalLine) → StandsFor self lines →
+            IsBlifNetwork lines result }
         ensures again { IfSome (stop_of self) (λ stop. result ≡ Err (fault_of stop)) }
         ensures model { IfOk result IsModel }
         ensures depths { IfOk result (λ model. HasRisingDepths model.network) }

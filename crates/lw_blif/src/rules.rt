@@ -42,7 +42,8 @@ pub fn has_names(command: Command, words: &Words) -> bool
 
 // Whether a node has more fan-ins than it may have.
 fn has_many_fanins(command: Command, words: &Words) -> bool
-    ensures { result ≡ (is_names_command command && nat_lt 256 (length (words_before_last (other_words words.now)))) }
+    ensures { result ≡ (is_names_command command && nat_lt 256
+        (length (words_before_last (other_words words.now)))) }
 {
     match command {
         Command::Names => words.len() > FANINS_MAX + 2,
@@ -63,7 +64,8 @@ fn defined_count(command: Command, words: &Words) -> usize
     }
 }
 
-/// The first rule that a line of names breaks, behind lines that define so many signals, definitions aside.
+/// The first rule that a line of names breaks, behind lines that define so many signals,
+/// definitions aside.
 #[tactic(auto, unfolding(crate::specs::Readers::names_fault_of))]
 pub fn names_fault(defined: usize, command: Command, words: &Words) -> Option<BlifKind>
     requires { 0 < length words.now }

@@ -11,7 +11,7 @@ use Rattle.lw_laws.specs.Graphs.{Graph}
 use Rattle.lw_match.specs.Coming.{AreMatches, IsMatch}
 use Rattle.lw_match.specs.Least.{AreOfCells}
 use Rattle.lw_match.specs.Values.{numbers}
-use Rattle.lw_netlist.proofs.Rising.{contains_cons, contains_none}
+use Rattle.lw_dag.proofs.Rising.{contains_cons, contains_none}
 use Rattle.lw_check.specs.Claims.{class_number}
 use Rattle.lw_check.specs.Least.{CostsBy, IsLow, IsLowMatch}
 use Rattle.lw_check.proofs.Failures.{at_cost}

@@ -39,7 +39,8 @@ fn is_above(label: Option<u64>, value: u64) -> bool
 
 // The one with the lesser number of two classes.
 pub(crate) fn earlier(one: Option<ClassId>, other: Option<ClassId>) -> Option<ClassId>
-    ensures { option_map class_number result ≡ lesser_of (option_map class_number one) (option_map class_number other) }
+    ensures { option_map class_number result
+        ≡ lesser_of (option_map class_number one) (option_map class_number other) }
 {
     match (one, other) {
         (Some(first), Some(second)) if second.0 < first.0 => other,
@@ -54,7 +55,8 @@ pub(crate) fn first_late_input<C: Cost>(
     cost: &C,
     labels: &[Option<u64>],
 ) -> Option<ClassId>
-    ensures { IsLeastOf (IsLate graph.now (C.costs cost.now) (labels_in labels.now)) (option_map class_number result) }
+    ensures { IsLeastOf (IsLate graph.now (C.costs cost.now) (labels_in labels.now))
+        (option_map class_number result) }
 {
     let mut first = None;
     for input in 0..graph.inputs() {
@@ -69,8 +71,10 @@ pub(crate) fn first_late_input<C: Cost>(
 // Puts the labels of some classes at the front, where each has one.
 fn read_labels(labels: &[Option<u64>], classes: &[ClassId], values: &mut [u64]) -> bool
     requires { length classes.now ≤ length values.old }
-    ensures all { IsTrue result → HaveLabels (labels_in labels.now) (numbers classes.now) (take (length classes.now) values.new) }
-    ensures none { IsFalse result → (ls : List ℕ) → HaveLabels (labels_in labels.now) (numbers classes.now) ls → ⊥ }
+    ensures all { IsTrue result → HaveLabels (labels_in labels.now) (numbers classes.now)
+        (take (length classes.now) values.new) }
+    ensures none { IsFalse result → (ls : List ℕ) →
+        HaveLabels (labels_in labels.now) (numbers classes.now) ls → ⊥ }
     ensures length { length values.new ≡ length values.old }
 {
     for (k, class) in classes.iter().enumerate() {
@@ -90,7 +94,8 @@ fn cost_of_match<C: Cost>(
     found: &Match,
 ) -> Option<u64>
     requires { IsByPattern (C.costs cost.now).pin_counts pats.now (plain_match found.now) }
-    ensures { IsCostOf (C.costs cost.now) pats.now (labels_in labels.now) (plain_match found.now) result }
+    ensures { IsCostOf (C.costs cost.now) pats.now (labels_in labels.now)
+        (plain_match found.now) result }
 {
     let pins = found.pins.as_slice();
     let mut values = [0; 16];
@@ -101,7 +106,8 @@ fn cost_of_match<C: Cost>(
     Some(cost.value(cell, &values[..pins.len()]))
 }
 
-// Whether a match has labelled pins and costs less than the label of its class, or the class has none.
+// Whether a match has labelled pins and costs less than the label of its class, or the class has
+// none.
 fn is_low<C: Cost>(
     pats: &Patterns,
     cost: &C,
@@ -110,8 +116,11 @@ fn is_low<C: Cost>(
     label: Option<u64>,
 ) -> bool
     requires { IsByPattern (C.costs cost.now).pin_counts pats.now (plain_match found.now) }
-    ensures low { IsTrue result → IsLowMatch (C.costs cost.now) pats.now (labels_in labels.now) label (plain_match found.now) }
-    ensures not { IsFalse result → IsLowMatch (C.costs cost.now) pats.now (labels_in labels.now) label (plain_match found.now) → ⊥ }
+    ensures low { IsTrue result → IsLowMatch (C.costs cost.now) pats.now
+        (labels_in labels.now) label (plain_match found.now) }
+    ensures not { IsFalse result →
+        IsLowMatch (C.costs cost.now) pats.now (labels_in labels.now) label (plain_match found.now)
+        → ⊥ }
 {
     match cost_of_match(pats, cost, labels, found) {
         Some(value) => is_above(label, value),
@@ -119,7 +128,8 @@ fn is_low<C: Cost>(
     }
 }
 
-// Whether some match at a class with labelled pins costs less than its label, or the class has none.
+// Whether some match at a class with labelled pins costs less than its label, or the class has
+// none.
 fn has_low_match<C: Cost>(
     graph: &Graph,
     pats: &Patterns,
@@ -129,8 +139,10 @@ fn has_low_match<C: Cost>(
 ) -> bool
     requires class { class.0 < length graph.now.pairs }
     requires of_cells { AreOfCells (C.costs cost.now).pin_counts pats.now }
-    ensures low { IsTrue result → IsLow graph.now (C.costs cost.now) pats.now (labels_in labels.now) class.0 }
-    ensures not { IsFalse result → IsLow graph.now (C.costs cost.now) pats.now (labels_in labels.now) class.0 → ⊥ }
+    ensures low { IsTrue result → IsLow graph.now (C.costs cost.now) pats.now
+        (labels_in labels.now) class.0 }
+    ensures not { IsFalse result →
+        IsLow graph.now (C.costs cost.now) pats.now (labels_in labels.now) class.0 → ⊥ }
 {
     let _ = graph.classes();
     let label = label_at(labels, class);
@@ -152,7 +164,8 @@ fn first_low_class<C: Cost>(
 ) -> Option<ClassId>
     requires one_each { length labels.now ≡ length graph.now.pairs }
     requires of_cells { AreOfCells (C.costs cost.now).pin_counts pats.now }
-    ensures { IsLeastOf (IsLow graph.now (C.costs cost.now) pats.now (labels_in labels.now)) (option_map class_number result) }
+    ensures { IsLeastOf (IsLow graph.now (C.costs cost.now) pats.now (labels_in labels.now))
+        (option_map class_number result) }
 {
     for number in 0..graph.classes() {
         if has_low_match(graph, pats, cost, labels, ClassId(number)) {
@@ -162,8 +175,9 @@ fn first_low_class<C: Cost>(
     None
 }
 
-/// The first class that fails, and none exactly where the labels are a potential: no class lacks a label, or has one above, what a match
-/// at it whose pins are all labelled or an input of it costs. Then each cover costs at least the label of its class. It takes no memory.
+/// The first class that fails, and none exactly where the labels are a potential: no class lacks a
+/// label, or has one above, what a match at it whose pins are all labelled or an input of it costs.
+/// Then each cover costs at least the label of its class. It takes no memory.
 pub fn bound<C: Cost>(
     graph: &Graph,
     pats: &Patterns,
@@ -173,7 +187,8 @@ pub fn bound<C: Cost>(
     requires one_each { length labels.now ≡ length graph.now.pairs }
     requires of_cells { AreOfCells (C.costs cost.now).pin_counts pats.now }
     ensures none { IsNone result ↔ IsPotentialOf graph.now pats.now (C.costs cost.now) labels.now }
-    ensures some { IfSome result (λ c. IsFirstFailing graph.now (C.costs cost.now) pats.now (labels_in labels.now) c.0) }
+    ensures some { IfSome result (λ c. IsFirstFailing graph.now (C.costs cost.now) pats.now
+        (labels_in labels.now) c.0) }
     ensures covers { IsNone result → BoundsCovers graph.now pats.now (C.costs cost.now) labels.now }
 {
     let _ = graph.classes();

@@ -49,13 +49,15 @@ fn first_reason(alloc: Global, case: &Case) -> Result<Option<Reason>, AllocError
     arrival_reason(alloc, case)
 }
 
-/// Whether a netlist, which was read with its frame and certificate and whoever wrote it, is a fastest mapping of a network. The graph is
-/// that of the network's forms, the roots are the classes of its outputs' sums of products, and the starts are those of its inputs.
+/// Whether a netlist, which was read with its frame and certificate and whoever wrote it, is a
+/// fastest mapping of a network. The graph is that of the network's forms, the roots are the
+/// classes of its outputs' sums of products, and the starts are those of its inputs.
 ///
-/// Six tests come in order, and the first that fails gives the reason. The netlist has the network's ports and frame. The class numbers
-/// of the certificate are those of classes. Each gate is a match at the class of its net. The labels are a potential: no class lacks a
-/// label, or has one above what a match at it or an input of it costs. Each output's net is at its root. Each output arrives at the
-/// label of its root. The graph's index makes it fast.
+/// Six tests come in order, and the first that fails gives the reason. The netlist has the
+/// network's ports and frame. The class numbers of the certificate are those of classes. Each gate
+/// is a match at the class of its net. The labels are a potential: no class lacks a label, or has
+/// one above what a match at it or an input of it costs. Each output's net is at its root. Each
+/// output arrives at the label of its root. The graph's index makes it fast.
 pub fn check(
     alloc: Global,
     net: &Network,
@@ -76,7 +78,8 @@ pub fn check(
     requires few_gates { length mapped.now.netlist.gates ≤ most_gates }
     requires one_class { length mapped.now.cert.nets ≡ length mapped.now.netlist.gates }
     requires labels { AreLabels mapped.now.cert }
-    ensures { IfOk result (IsVerdict net.now frame.now starts.now lib.now graph.now pats.now roots.now mapped.now) }
+    ensures { IfOk result (IsVerdict net.now frame.now starts.now lib.now graph.now pats.now
+        roots.now mapped.now) }
 {
     let case = Case {
         net,

@@ -22,7 +22,8 @@ use std::alloc::{AllocError, Global};
 // The class of a net: that of its input, or what the certificate gives its gate.
 pub(crate) fn class_of_net(case: &Case, net: NetId) -> Option<ClassId>
     ensures class { option_map class_number result ≡ class_of_net (claim_of case.now) net }
-    ensures within { HasKnownClasses (claim_of case.now) → IfSome result (λ class. class.0 < length case.now.graph.now.pairs) }
+    ensures within { HasKnownClasses (claim_of case.now) →
+        IfSome result (λ class. class.0 < length case.now.graph.now.pairs) }
 {
     let inputs = case.graph.inputs();
     if net.0 < inputs {
@@ -63,7 +64,8 @@ pub(crate) fn is_class(found: Option<ClassId>, class: ClassId) -> bool
     }
 }
 
-// Whether the pattern at a place is of the cell and stands at the class with its pins at these classes.
+// Whether the pattern at a place is of the cell and stands at the class with its pins at these
+// classes.
 fn is_match_by(case: &Case, place: u32, cell: CellId, pins: &[ClassId], class: ClassId) -> bool
     requires place { place < length case.now.pats.now }
     requires pins { AreWithin case.now.graph.now pins.now }
@@ -73,12 +75,15 @@ fn is_match_by(case: &Case, place: u32, cell: CellId, pins: &[ClassId], class: C
     pattern.cell == cell && is_class(class_of_pattern(case.graph, &pattern.nodes, pins), class)
 }
 
-// Whether a pattern in the span is of the cell and stands at the class with its pins at these classes.
+// Whether a pattern in the span is of the cell and stands at the class with its pins at these
+// classes.
 fn is_match_in(case: &Case, span: Span, cell: CellId, pins: &[ClassId], class: ClassId) -> bool
     requires end { span.end ≤ length case.now.pats.now }
     requires pins { AreWithin case.now.graph.now pins.now }
-    ensures some { IsTrue result → (place : ℕ) × IsMatchBy (claim_of case.now) place cell (numbers pins.now) class }
-    ensures none { IsFalse result → (place : ℕ) → IsIn span place → IsMatchBy (claim_of case.now) place cell (numbers pins.now) class → ⊥ }
+    ensures some { IsTrue result → (place : ℕ) ×
+        IsMatchBy (claim_of case.now) place cell (numbers pins.now) class }
+    ensures none { IsFalse result → (place : ℕ) → IsIn span place →
+        IsMatchBy (claim_of case.now) place cell (numbers pins.now) class → ⊥ }
 {
     for place in span.first..span.end {
         if is_match_by(case, place, cell, pins, class) {
@@ -124,7 +129,9 @@ fn first_no_match(case: &Case, spans: &[Span]) -> Option<usize>
 // The name of the net that the gate at a place drives.
 fn name_of_gate(alloc: Global, case: &Case, place: usize) -> Result<Name, AllocError>
     requires { place < length case.now.mapped.now.netlist.gates }
-    ensures { IfOk result (λ name. (gate : NetGate) → slice_get case.now.mapped.now.netlist.gates place ≡ Some gate → net_name case.now.mapped.now.netlist.names gate.out ≡ name) }
+    ensures { IfOk result (λ name. (gate : NetGate) →
+        slice_get case.now.mapped.now.netlist.gates place ≡ Some gate →
+        net_name case.now.mapped.now.netlist.names gate.out ≡ name) }
 {
     let netlist = &case.mapped.netlist;
     let out = netlist.gates()[place].out;

@@ -51,7 +51,8 @@ fn labels_of(
     classes: u32,
 ) -> Result<Vec<Option<u64>>, AllocError>
     ensures one_each { IfOk result (λ plain. length plain.items ≡ classes) }
-    ensures labels { IfOk result (λ plain. (c : ℕ) → c < classes → labels_in plain.items c ≡ option_map millionths (slice_index_or labels.now c None)) }
+    ensures labels { IfOk result (λ plain. (c : ℕ) → c < classes →
+        labels_in plain.items c ≡ option_map millionths (slice_index_or labels.now c None)) }
 {
     let mut numbers = Vec::with_capacity(alloc, classes as usize)?;
     for class in 0..classes {
@@ -97,8 +98,10 @@ fn is_low_at<C: Cost>(
     requires of_cells { AreOfCells (C.costs cost.now).pin_counts pats.now }
     requires fit { BoundsFit bounds.now pats.now graph.now }
     requires bounds { AreBounds bounds.now graph.now marks.now }
-    ensures low { IsTrue result → IsLow graph.now (C.costs cost.now) pats.now (labels_in (costs_of marks.now)) class.0 }
-    ensures not { IsFalse result → IsLow graph.now (C.costs cost.now) pats.now (labels_in (costs_of marks.now)) class.0 → ⊥ }
+    ensures low { IsTrue result → IsLow graph.now (C.costs cost.now) pats.now
+        (labels_in (costs_of marks.now)) class.0 }
+    ensures not { IsFalse result →
+        IsLow graph.now (C.costs cost.now) pats.now (labels_in (costs_of marks.now)) class.0 → ⊥ }
 {
     let mark = marks[class.0 as usize];
     match least_within(graph, pats, bounds, marks, class, cost, mark) {
@@ -121,7 +124,8 @@ fn first_low<C: Cost>(
     requires of_cells { AreOfCells (C.costs cost.now).pin_counts pats.now }
     requires fit { BoundsFit bounds.now pats.now graph.now }
     requires bounds { AreBounds bounds.now graph.now marks.now }
-    ensures { IsLeastOf (IsLow graph.now (C.costs cost.now) pats.now (labels_in (costs_of marks.now))) (option_map class_number result) }
+    ensures { IsLeastOf (IsLow graph.now (C.costs cost.now) pats.now
+        (labels_in (costs_of marks.now))) (option_map class_number result) }
 {
     for number in 0..graph.classes() {
         if is_low_at(graph, pats, cost, bounds, marks, ClassId(number)) {
@@ -170,7 +174,8 @@ fn least_match<C: Cost>(
     requires of_cells { AreOfCells (C.costs cost.now).pin_counts pats.now }
     requires fit { BoundsFit bounds.now pats.now graph.now }
     requires bounds { AreBounds bounds.now graph.now marks.now }
-    ensures { IsLeastOf (IsMatchCost graph.now (C.costs cost.now) pats.now (labels_in (costs_of marks.now)) class.0) result }
+    ensures { IsLeastOf (IsMatchCost graph.now (C.costs cost.now) pats.now
+        (labels_in (costs_of marks.now)) class.0) result }
 {
     match least_within(graph, pats, bounds, marks, class, cost, None) {
         Some(best) => Some(best.mark.cost),
@@ -194,7 +199,9 @@ fn first_failing<C: Cost>(
     requires of_cells { AreOfCells (C.costs cost.now).pin_counts pats.now }
     requires fit { BoundsFit bounds.now pats.now graph.now }
     requires bounds { AreBounds bounds.now graph.now marks.now }
-    ensures least { IsLeastOf (λ c. IsLate graph.now (C.costs cost.now) (labels_in labels.now) c ⊎ IsLow graph.now (C.costs cost.now) pats.now (labels_in labels.now) c) (option_map class_number result) }
+    ensures least { IsLeastOf (λ c. IsLate graph.now (C.costs cost.now) (labels_in labels.now) c ⊎
+        IsLow graph.now (C.costs cost.now) pats.now (labels_in labels.now) c)
+        (option_map class_number result) }
 {
     let late = first_late_input(graph, cost, labels);
     let low = first_low(graph, pats, cost, bounds, marks);
@@ -223,7 +230,8 @@ fn with_least<C: Cost>(
     requires of_cells { AreOfCells (C.costs cost.now).pin_counts pats.now }
     requires fit { BoundsFit bounds.now pats.now graph.now }
     requires bounds { AreBounds bounds.now graph.now marks.now }
-    ensures { IsLeastAt graph.now (C.costs cost.now) pats.now (labels_in (costs_of marks.now)) class.0 result }
+    ensures { IsLeastAt graph.now (C.costs cost.now) pats.now
+        (labels_in (costs_of marks.now)) class.0 result }
 {
     let by_match = least_match(graph, pats, cost, bounds, marks, class);
     match lesser(least_input(graph, cost, class), by_match) {

@@ -1,4 +1,5 @@
-//! The checker of certificates: whether a mapped netlist, whoever wrote it, is a fastest mapping of a network.
+//! The checker of certificates: whether a mapped netlist, whoever wrote it, is a fastest mapping of
+//! a network.
 #![tactic(auto)]
 
 mod bounding;

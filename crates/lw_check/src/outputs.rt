@@ -96,7 +96,8 @@ fn first_off_time(case: &Case, arrivals: &[Micro]) -> Option<usize>
 fn arrivals_of(alloc: Global, case: &Case) -> Result<Vec<Micro>, AllocError>
     requires askable { IsAskable (claim_of case.now) }
     requires ports { HasSamePorts (claim_of case.now) }
-    ensures one_each { IfOk result (λ arrivals. length arrivals.items ≡ length case.now.mapped.now.netlist.names) }
+    ensures one_each { IfOk result
+        (λ arrivals. length arrivals.items ≡ length case.now.mapped.now.netlist.names) }
     ensures arrivals { IfOk result (λ arrivals. AreArrivalsOf (claim_of case.now) arrivals.items) }
 {
     let netlist = &case.mapped.netlist;

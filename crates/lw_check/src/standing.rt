@@ -23,7 +23,8 @@ fn class_of_pin(pins: &[ClassId], pin: u8) -> Option<ClassId>
 
 // The class at which the inverter of a tree stands, given that of the tree.
 fn complement(graph: &Graph, class: Option<ClassId>) -> Option<ClassId>
-    ensures { (w : List ℕ) (t : Tree) → StandsAlone graph.now w t class → StandsAlone graph.now w (inv t) result }
+    ensures { (w : List ℕ) (t : Tree) → StandsAlone graph.now w t class →
+        StandsAlone graph.now w (inv t) result }
 {
     let _ = graph.classes();
     match class {
@@ -32,11 +33,13 @@ fn complement(graph: &Graph, class: Option<ClassId>) -> Option<ClassId>
     }
 }
 
-// The class at which the NAND of two trees stands, given those of the trees: the class that holds their pair.
+// The class at which the NAND of two trees stands, given those of the trees: the class that holds
+// their pair.
 fn class_of_pair(graph: &Graph, left: Option<ClassId>, right: Option<ClassId>) -> Option<ClassId>
     requires left { IfSome left (λ class. class.0 < length graph.now.pairs) }
     requires right { IfSome right (λ class. class.0 < length graph.now.pairs) }
-    ensures { (w : List ℕ) (t u : Tree) → StandsAlone graph.now w t left → StandsAlone graph.now w u right → StandsAlone graph.now w (nand t u) result }
+    ensures { (w : List ℕ) (t u : Tree) → StandsAlone graph.now w t left →
+        StandsAlone graph.now w u right → StandsAlone graph.now w (nand t u) result }
 {
     let _ = graph.classes();
     match (left, right) {

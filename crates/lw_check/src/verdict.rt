@@ -10,7 +10,8 @@ pub enum Reason {
     Class(u32),
     /// The net of a gate that is no match.
     NotMatch(Name),
-    /// A class whose label is no bound, its label, and the least that an input of it or a match at it costs.
+    /// A class whose label is no bound, its label, and the least that an input of it or a match at
+    /// it costs.
     Label(ClassId, Option<Micro>, Micro),
     /// An output, the class of its net, and the class that it has in the network.
     Root(Name, ClassId, ClassId),

@@ -75,7 +75,9 @@ fn choice<C: Cost>(
     requires least { AreLeastMarks graph.now (C.costs cost.now) pats.now marks.now }
     requires class { class.0 < length graph.now.pairs }
     requires no_leaf { IsLeafClass graph.now class.0 → ⊥ }
-    ensures { (mark : _) → slice_index_or marks.now class.0 None ≡ Some mark → (found : _) × (result ≡ Some found) × IsChoice graph.now (C.costs cost.now) pats.now marks.now class.0 found }
+    ensures { (mark : _) → slice_index_or marks.now class.0 None ≡ Some mark → (found : _) ×
+        (result ≡ Some found) × IsChoice graph.now
+        (C.costs cost.now) pats.now marks.now class.0 found }
 {
     let mark = marks[class.0 as usize]?;
     let bound = Some(next_after(mark));
@@ -83,8 +85,8 @@ fn choice<C: Cost>(
     Some(best.found)
 }
 
-// The needed classes that are no input's, from the highest down, each with its chosen match. A class is lower than each whose
-// chosen match has it as a pin.
+// The needed classes that are no input's, from the highest down, each with its chosen match. A
+// class is lower than each whose chosen match has it as a pin.
 fn choose_down<C: Cost>(
     alloc: Global,
     graph: &Graph,
@@ -101,8 +103,10 @@ fn choose_down<C: Cost>(
     requires least { AreLeastMarks graph.now (C.costs cost.now) pats.now marks.now }
     requires roots { All (λ root. root.0 < length graph.now.pairs) roots.now }
     requires covered { All (λ root. IsSome (slice_index_or marks.now root.0 None)) roots.now }
-    requires places { (nets : _) × AreInputNets graph.now nets × AreByHeight nets marks.now places.now }
-    ensures { IfOk result (λ chosen. AreChosen graph.now (C.costs cost.now) pats.now marks.now roots.now (reverse chosen.items)) }
+    requires places { (nets : _) × AreInputNets graph.now nets ×
+        AreByHeight nets marks.now places.now }
+    ensures { IfOk result (λ chosen. AreChosen graph.now
+        (C.costs cost.now) pats.now marks.now roots.now (reverse chosen.items)) }
 {
     let mut needed = needed_by_outputs(alloc, roots, graph.classes() as usize)?;
     let mut chosen = Vec::new(alloc);
@@ -133,7 +137,8 @@ pub(crate) fn choose<C: Cost>(
     requires roots { All (λ root. root.0 < length graph.now.pairs) roots.now }
     requires covered { All (λ root. IsSome (slice_index_or marks.now root.0 None)) roots.now }
     requires nets { AreInputNets graph.now nets.now }
-    ensures { IfOk result (λ chosen. AreChosen graph.now (C.costs cost.now) pats.now marks.now roots.now chosen.items) }
+    ensures { IfOk result (λ chosen. AreChosen graph.now
+        (C.costs cost.now) pats.now marks.now roots.now chosen.items) }
 {
     let _ = graph.classes();
     let bounds = Bounds::settled(alloc, graph, pats, marks, cost)?;

@@ -29,7 +29,9 @@ use std::alloc::{AllocError, Global};
 fn first_uncovered(marks: &[Option<Mark>], roots: &[ClassId]) -> Option<u32>
     requires few { length roots.now < 2 ^ 32 }
     requires in_range { All (λ root. root.0 < length marks.now) roots.now }
-    ensures { MatchOption result (All (λ root. IsSome (slice_index_or marks.now root.0 None)) roots.now) (IsFirstUncovered marks.now roots.now) }
+    ensures { MatchOption result (All
+        (λ root. IsSome (slice_index_or marks.now root.0 None)) roots.now)
+        (IsFirstUncovered marks.now roots.now) }
 {
     for (k, root) in roots.iter().enumerate() {
         if marks[root.0 as usize].is_none() {
@@ -61,9 +63,14 @@ fn assemble(
     chosen: &[Chosen],
 ) -> Result<Cover, AllocError>
     requires fit { AreFit graph.now ports.now }
-    requires chosen { (costs : Costs) × (marks : _) × (costs.pin_counts ≡ map length (delays_of_cells lib.now)) × (length marks ≡ length graph.now.pairs) × AreChosen graph.now costs pats.now marks ports.now.roots chosen.now }
+    requires chosen { (costs : Costs) × (marks : _) ×
+        (costs.pin_counts ≡ map length (delays_of_cells lib.now)) ×
+        (length marks ≡ length graph.now.pairs) ×
+        AreChosen graph.now costs pats.now marks ports.now.roots chosen.now }
     requires nets { AreClassNets graph.now (chosen_classes chosen.now) nets.now }
-    ensures cover { (costs : Costs) (marks : _) → AreChosen graph.now costs pats.now marks ports.now.roots chosen.now → IfOk result (IsCoverOf graph.now costs pats.now marks ports.now) }
+    ensures cover { (costs : Costs) (marks : _) →
+        AreChosen graph.now costs pats.now marks ports.now.roots chosen.now →
+        IfOk result (IsCoverOf graph.now costs pats.now marks ports.now) }
     ensures over { IfOk result (λ cover. IsOver lib.now cover.netlist) }
 {
     let _ = lib.len();
@@ -94,7 +101,8 @@ fn cover<C: Cost>(
     requires leaves { HaveLeafLabels graph.now (C.costs cost.now) (labels_of marks.now) }
     requires fit { AreFit graph.now ports.now }
     requires covered { All (λ root. IsSome (slice_index_or marks.now root.0 None)) ports.now.roots }
-    ensures cover { IfOk result (IsCoverOf graph.now (C.costs cost.now) pats.now marks.now ports.now) }
+    ensures cover { IfOk result (IsCoverOf graph.now
+        (C.costs cost.now) pats.now marks.now ports.now) }
     ensures over { IfOk result (λ cover. IsOver lib.now cover.netlist) }
     ensures costs { IfOk result (CostTheirLabels graph.now (C.costs cost.now) marks.now) }
 {
@@ -112,8 +120,9 @@ fn cover<C: Cost>(
     assemble(alloc, graph, pats, lib, ports, &nets, &chosen)
 }
 
-/// The netlist that the labels of a graph's classes give to some outputs: a gate for each class that is needed, the chosen match of
-/// the class. Each net costs the label of its class. `NoCover` comes exactly where the class of an output has no label.
+/// The netlist that the labels of a graph's classes give to some outputs: a gate for each class
+/// that is needed, the chosen match of the class. Each net costs the label of its class. `NoCover`
+/// comes exactly where the class of an output has no label.
 pub fn extract<C: Cost>(
     alloc: Global,
     graph: &Graph,
@@ -128,8 +137,10 @@ pub fn extract<C: Cost>(
     requires least { AreLeastMarks graph.now (C.costs cost.now) pats.now labels.now }
     requires leaves { HaveLeafLabels graph.now (C.costs cost.now) (labels_of labels.now) }
     requires fit { AreFit graph.now ports.now }
-    ensures no_cover { (k : ℕ) → (result ≡ Err (NoCover k)) ↔ IsFirstUncovered labels.now ports.now.roots k }
-    ensures cover { IfOk result (IsCoverOf graph.now (C.costs cost.now) pats.now labels.now ports.now) }
+    ensures no_cover { (k : ℕ) → (result ≡ Err (NoCover k)) ↔
+        IsFirstUncovered labels.now ports.now.roots k }
+    ensures cover { IfOk result (IsCoverOf graph.now
+        (C.costs cost.now) pats.now labels.now ports.now) }
     ensures over { IfOk result (λ cover. IsOver lib.now cover.netlist) }
     ensures costs { IfOk result (CostTheirLabels graph.now (C.costs cost.now) labels.now) }
 {

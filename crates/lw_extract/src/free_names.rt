@@ -34,7 +34,9 @@ impl FreeNames {
     // Those that no port has.
     pub(crate) fn new(alloc: Global, ports: &Ports) -> Result<Self, AllocError>
         requires { length ports.now.inputs + length ports.now.outputs < 2 ^ 64 }
-        ensures { IfOk result (λ free. (count : ℕ) → let names = ports.now.inputs ++ ports.now.outputs in still_free free (1 + (count + length names)) ≡ free_names names count) }
+        ensures { IfOk result (λ free. (count : ℕ) →
+            let names = ports.now.inputs ++ ports.now.outputs in still_free free
+            (1 + (count + length names)) ≡ free_names names count) }
     {
         let (inputs, outputs) = (ports.inputs.as_slice(), ports.outputs.as_slice());
         let mut taken = NameSet::with_capacity(alloc, inputs.len() + outputs.len())?;

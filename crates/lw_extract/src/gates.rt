@@ -71,8 +71,10 @@ pub(crate) fn outputs_of(
 ) -> Result<PortList, AllocError>
     requires one_root { length ports.now.roots ≡ length ports.now.outputs }
     requires nets { HaveNets nets.now ports.now.roots }
-    ensures names { IfOk result (λ outputs. map (λ (port : PlainPort). port.name) outputs ≡ ports.now.outputs) }
-    ensures nets { IfOk result (λ outputs. map (λ (port : PlainPort). Some port.net) outputs ≡ map (net_in nets.now) ports.now.roots) }
+    ensures names { IfOk result (λ outputs. map (λ (port : PlainPort). port.name) outputs
+        ≡ ports.now.outputs) }
+    ensures nets { IfOk result (λ outputs. map (λ (port : PlainPort). Some port.net) outputs
+        ≡ map (net_in nets.now) ports.now.roots) }
 {
     let mut outputs = Vec::with_capacity(alloc, ports.outputs.len())?;
     for (k, name) in ports.outputs.as_slice().iter().enumerate() {

@@ -20,10 +20,22 @@ ghost use Rattle.lw_extract.specs.Covers.{AreFit, IsCoverOf, ArriveAtLabels};
 
 /// Where the cost is the time, each net of a cover arrives at the label of its class.
 pub fn nets_arrive_at_their_labels()
-    ensures { (g : Graph) (cells : List CellParts) (starts : List Micro) (pats : List Pattern) (marks : List (Option Mark)) (ports : Ports) (cover : Cover) → IsGraph g → IsLibrary cells → All IsSmall starts → AreOfCells (time_cost cells starts).pin_counts pats → AreLeastMarks g (time_cost cells starts) pats marks → HaveLeafLabels g (time_cost cells starts) (labels marks) → AreFit g ports → IsCoverOf g (time_cost cells starts) pats marks ports cover → ArriveAtLabels g cells starts marks cover }
+    ensures { (g : Graph) (cells : List CellParts) (starts : List Micro) (pats : List Pattern)
+        (marks : List (Option Mark)) (ports : Ports) (cover : Cover) → IsGraph g → IsLibrary cells →
+        All IsSmall starts → AreOfCells (time_cost cells starts).pin_counts pats →
+        AreLeastMarks g (time_cost cells starts) pats marks →
+        HaveLeafLabels g (time_cost cells starts) (labels marks) → AreFit g ports →
+        IsCoverOf g (time_cost cells starts) pats marks ports cover →
+        ArriveAtLabels g cells starts marks cover }
 {}
 
-/// In the graph of a network's forms the label of each input's class is the start of the input, where the cost is the time.
+/// In the graph of a network's forms the label of each input's class is the start of the input,
+/// where the cost is the time.
 pub fn inputs_keep_their_starts()
-    ensures { (mode : Mode) (width : ℕ) (net : Network) (g : Graph) → 2 ≤ width → IsGraphOf mode net.inputs (listing_of width net) g → (cells : List CellParts) (starts : List Micro) (pats : List Pattern) (marks : List (Option Mark)) → AreOfCells (time_cost cells starts).pin_counts pats → AreLeastMarks g (time_cost cells starts) pats marks → HaveLeafLabels g (time_cost cells starts) (labels marks) }
+    ensures { (mode : Mode) (width : ℕ) (net : Network) (g : Graph) → 2 ≤ width →
+        IsGraphOf mode net.inputs (listing_of width net) g →
+        (cells : List CellParts) (starts : List Micro) (pats : List Pattern)
+        (marks : List (Option Mark)) → AreOfCells (time_cost cells starts).pin_counts pats →
+        AreLeastMarks g (time_cost cells starts) pats marks →
+        HaveLeafLabels g (time_cost cells starts) (labels marks) }
 {}

@@ -31,7 +31,9 @@ fn gate_name(
 ) -> Result<Name, AllocError>
     requires class { class.0 < length owners.now.firsts.items }
     requires free { HasFree free.old 1 }
-    ensures { IfOk result (λ name. IsGivenOrFree (output_name owners.now.ports.now.outputs (numbers owners.now.ports.now.roots) class.0) free.old name free.new) }
+    ensures { IfOk result (λ name. IsGivenOrFree
+        (output_name owners.now.ports.now.outputs (numbers owners.now.ports.now.roots) class.0)
+        free.old name free.new) }
 {
     match owners.name(class) {
         Some(name) => Name::from_slice(alloc, name.as_bytes()),
@@ -49,7 +51,10 @@ fn push_gate_names(
 ) -> Result<(), AllocError>
     requires gates { All (λ x. x.class.0 < length owners.now.firsts.items) chosen.now }
     requires free { HasFree free.old (length chosen.now) }
-    ensures { OnOk result ((last : ℕ) → length chosen.now ≤ length (still_free free.old last) → names.new.items ≡ names.old.items ++ gate_names owners.now.ports.now.outputs (numbers owners.now.ports.now.roots) (still_free free.old last) (chosen_classes chosen.now)) }
+    ensures { OnOk result ((last : ℕ) → length chosen.now ≤ length (still_free free.old last) →
+        names.new.items ≡ names.old.items
+        ++ gate_names owners.now.ports.now.outputs (numbers owners.now.ports.now.roots)
+        (still_free free.old last) (chosen_classes chosen.now)) }
 {
     for x in chosen {
         names.push(gate_name(alloc, owners, free, x.class)?)?;
@@ -57,8 +62,8 @@ fn push_gate_names(
     Ok(())
 }
 
-// The inputs' names, and then the gates': that of the first output of the gate's class, or the next of n1, n2 and so on that no port
-// has.
+// The inputs' names, and then the gates': that of the first output of the gate's class, or the next
+// of n1, n2 and so on that no port has.
 pub(crate) fn names_of(
     alloc: Global,
     classes: usize,
@@ -70,7 +75,9 @@ pub(crate) fn names_of(
     requires one_root { length ports.now.roots ≡ length ports.now.outputs }
     requires roots { All (λ root. root.0 < classes) ports.now.roots }
     requires gates { All (λ x. x.class.0 < classes) chosen.now }
-    ensures { IfOk result (λ names. names ≡ net_names ports.now.inputs ports.now.outputs (numbers ports.now.roots) (chosen_classes chosen.now)) }
+    ensures { IfOk result (λ names. names
+        ≡ net_names ports.now.inputs ports.now.outputs (numbers ports.now.roots)
+        (chosen_classes chosen.now)) }
 {
     let owners = Owners::of(alloc, classes, ports)?;
     let mut free = FreeNames::new(alloc, ports)?;

@@ -23,7 +23,8 @@ pub(crate) fn input_nets(alloc: Global, graph: &Graph) -> Result<Vec<Option<NetI
 pub(crate) fn add_gates(nets: &mut [Option<NetId>], inputs: u32, chosen: &[Chosen])
     requires few { inputs + length chosen.now < 2 ^ 32 }
     requires in_range { All (λ x. x.class.0 < length nets.old) chosen.now }
-    ensures { (g : _) → length g.leaves ≡ inputs → AreInputNets g nets.old → AreClassNets g (chosen_classes chosen.now) nets.new }
+    ensures { (g : _) → length g.leaves ≡ inputs → AreInputNets g nets.old →
+        AreClassNets g (chosen_classes chosen.now) nets.new }
 {
     for (j, gate) in chosen.iter().enumerate() {
         nets[gate.class.0 as usize] = Some(NetId(inputs + j as u32));

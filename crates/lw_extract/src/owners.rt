@@ -51,7 +51,9 @@ impl<'a> Owners<'a> {
     // The name of the first output of a class.
     pub(crate) fn name(&self, class: ClassId) -> Option<&Name>
         requires { class.0 < length self.now.firsts.items }
-        ensures { let name = output_name self.now.ports.now.outputs (numbers self.now.ports.now.roots) class.0 in MatchOption result (name ≡ None) (λ first. name ≡ Some first.now) }
+        ensures { let name = output_name self.now.ports.now.outputs
+            (numbers self.now.ports.now.roots) class.0 in MatchOption result (name ≡ None)
+            (λ first. name ≡ Some first.now) }
     {
         let output = self.firsts[class.0 as usize]?;
         Some(self.ports.outputs.get(output as usize))

@@ -17,5 +17,6 @@ pub fn printed_is_shortest(value: Micro)
 /// A text that has no sign, and no zero or point that could be left out, is what is printed for
 /// the number that it is read as.
 pub fn shortest_is_printed(text: &[u8], value: Micro)
-    ensures { IsShortest text.now → decimal_of text.now (2 ^ 43) ≡ Ok value → text.now ≡ decimal_text value.0 }
+    ensures { IsShortest text.now → decimal_of text.now (2 ^ 43) ≡ Ok value →
+        text.now ≡ decimal_text value.0 }
 {}

@@ -22,10 +22,12 @@ pub fn print(value: Micro, out: &mut [u8; 21]) -> usize
     written.len()
 }
 
-// Writes the whole part, the point and six decimals to the end of `text`, and tells where they start.
+// Writes the whole part, the point and six decimals to the end of `text`, and tells where they
+// start.
 fn write_in_full(value: u64, text: &mut [u8; 21]) -> usize
     ensures start { result + length (decimal (value / 1000000)) ≡ 14 }
-    ensures text { drop result text.new ≡ decimal (value / 1000000) ++ 46 ∷ six_decimals (value % 1000000) }
+    ensures text { drop result text.new ≡ decimal (value / 1000000) ++ 46
+        ∷ six_decimals (value % 1000000) }
 {
     write_digits(UNIT + value % UNIT, text, 21);
     text[14] = b'.';

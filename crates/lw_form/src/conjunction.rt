@@ -75,7 +75,9 @@ fn joined(alloc: Global, table: &mut FormTable, forms: &[u32]) -> Result<u32, Al
     requires few { length forms.now ≤ most_operands }
     requires below { AreBelow (length (made table.old)) forms.now }
     requires clean { AreClean (forms_at (made table.old) forms.now) }
-    ensures { IfOk result (λ form. (width : ℕ) → 2 ≤ width → length forms.now ≤ width → IsMadeAs table.old table.new form (and_of_forms width (forms_at (made table.old) forms.now))) }
+    ensures { IfOk result (λ form. (width : ℕ) → 2 ≤ width → length forms.now ≤ width →
+        IsMadeAs table.old table.new form
+        (and_of_forms width (forms_at (made table.old) forms.now))) }
 {
     if forms.len() == 1 {
         return Ok(forms[0]);
@@ -97,7 +99,8 @@ fn grouped(
     requires some { 1 ≤ length forms.now }
     requires below { AreBelow (length (made table.old)) forms.now }
     requires clean { AreClean (forms_at (made table.old) forms.now) }
-    ensures { IfOk result (λ groups. AreMadeAs table.old table.new groups.items (map (and_of_forms width) (runs width (forms_at (made table.old) forms.now)))) }
+    ensures { IfOk result (λ groups. AreMadeAs table.old table.new groups.items
+        (map (and_of_forms width) (runs width (forms_at (made table.old) forms.now)))) }
 {
     let mut groups = Vec::new(alloc);
     let mut rest = forms;
@@ -148,7 +151,8 @@ pub(crate) fn conjunction(
     requires low { 2 ≤ width }
     requires high { width ≤ most_operands }
     requires below { AreBelow (length (made table.old)) forms.items }
-    ensures { IfOk result (λ form. IsMadeAs table.old table.new form (and_of_forms width (forms_at (made table.old) forms.items))) }
+    ensures { IfOk result (λ form. IsMadeAs table.old table.new form
+        (and_of_forms width (forms_at (made table.old) forms.items))) }
 {
     let mut left = forms;
     'steps: loop {
@@ -176,7 +180,8 @@ pub(crate) fn disjunction(
     requires low { 2 ≤ width }
     requires high { width ≤ most_operands }
     requires below { AreBelow (length (made table.old)) forms.now }
-    ensures { IfOk result (λ form. IsMadeAs table.old table.new form (or_of_forms width (forms_at (made table.old) forms.now))) }
+    ensures { IfOk result (λ form. IsMadeAs table.old table.new form
+        (or_of_forms width (forms_at (made table.old) forms.now))) }
 {
     let _count = table.len();
     let none = complements(alloc, forms)?;

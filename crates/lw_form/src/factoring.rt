@@ -28,7 +28,8 @@ struct Choice {
     rows: usize,
 }
 
-// What is still to be done: to factor some rows, or to join the two forms made last under a literal.
+// What is still to be done: to factor some rows, or to join the two forms made last under a
+// literal.
 #[derive(Drop)]
 enum Task {
     Factor(Vec<Row>),
@@ -59,7 +60,9 @@ fn count(rows: &[Row], literal: Literal) -> usize
 // The literal, where it stands in more rows.
 fn better(rows: &[Row], choice: Choice, literal: Literal) -> Choice
     requires { ReachColumn literal.column rows.now }
-    ensures { (ls : List _) → most_common rows.now ls result.rows (plain_choice result.literal) ≡ most_common rows.now (plain_literal literal ∷ ls) choice.rows (plain_choice choice.literal) }
+    ensures { (ls : List _) → most_common rows.now ls result.rows (plain_choice result.literal)
+        ≡ most_common rows.now (plain_literal literal ∷ ls) choice.rows
+        (plain_choice choice.literal) }
 {
     let count = count(rows, literal);
     if count > choice.rows {
@@ -98,8 +101,10 @@ fn shared(rows: &[Row], columns: usize) -> Option<Literal>
 // Puts a row on its side of the cut.
 fn put(cut: &mut Cut, row: Row, literal: Literal) -> Result<(), AllocError>
     requires { literal.column < length row }
-    ensures having { OnOk result (cut.new.having.items ≡ cut.old.having.items ++ map (cleared (plain_literal literal)) (filter (has (plain_literal literal)) (row ∷ []))) }
-    ensures others { OnOk result (cut.new.others.items ≡ cut.old.others.items ++ filter (λ r. not (has (plain_literal literal) r)) (row ∷ [])) }
+    ensures having { OnOk result (cut.new.having.items ≡ cut.old.having.items
+        ++ map (cleared (plain_literal literal)) (filter (has (plain_literal literal)) (row ∷ []))) }
+    ensures others { OnOk result (cut.new.others.items ≡ cut.old.others.items
+        ++ filter (λ r. not (has (plain_literal literal) r)) (row ∷ [])) }
 {
     if row.has(literal.column, literal.sign) {
         let mut rest = row;
@@ -114,8 +119,10 @@ fn put(cut: &mut Cut, row: Row, literal: Literal) -> Result<(), AllocError>
 // Cuts rows by a literal.
 fn cut_by(alloc: Global, rows: Vec<Row>, literal: Literal) -> Result<Cut, AllocError>
     requires { ReachColumn literal.column rows.items }
-    ensures having { IfOk result (λ cut. cut.having.items ≡ map (cleared (plain_literal literal)) (filter (has (plain_literal literal)) rows.items)) }
-    ensures others { IfOk result (λ cut. cut.others.items ≡ filter (λ r. not (has (plain_literal literal) r)) rows.items) }
+    ensures having { IfOk result (λ cut. cut.having.items
+        ≡ map (cleared (plain_literal literal)) (filter (has (plain_literal literal)) rows.items)) }
+    ensures others { IfOk result (λ cut. cut.others.items
+        ≡ filter (λ r. not (has (plain_literal literal) r)) rows.items) }
 {
     let mut cut = Cut {
         having: Vec::new(alloc),
@@ -148,8 +155,12 @@ fn begin(
     requires high { width ≤ most_operands }
     requires below { AreBelow (length (made table.old)) fanins.now }
     requires columns { HaveColumns (length fanins.now) rows.items }
-    ensures working { OnOk result ((fs goal : List Form) → IsWorking width fs fanins.now table.old (work.old.tasks.items ++ Task.Factor rows ∷ []) work.old.done.items goal → IsWorking width fs fanins.now table.new work.new.tasks.items work.new.done.items goal) }
-    ensures less { OnOk result (weights work.new.tasks.items < weights work.old.tasks.items + weight (Task.Factor rows)) }
+    ensures working { OnOk result ((fs goal : List Form) →
+        IsWorking width fs fanins.now table.old
+        (work.old.tasks.items ++ Task.Factor rows ∷ []) work.old.done.items goal →
+        IsWorking width fs fanins.now table.new work.new.tasks.items work.new.done.items goal) }
+    ensures less { OnOk result (weights work.new.tasks.items < weights work.old.tasks.items + weight
+        (Task.Factor rows)) }
     ensures more { OnOk result (HasMore (made table.old) (made table.new)) }
 {
     let _count = table.len();
@@ -180,7 +191,8 @@ fn last(done: &mut Vec<u32>) -> u32
     }
 }
 
-// Joins the two forms made last: the Or of the last, and of the And of the literal and the one before.
+// Joins the two forms made last: the Or of the last, and of the And of the literal and the one
+// before.
 fn join(
     alloc: Global,
     table: &mut FormTable,
@@ -193,7 +205,11 @@ fn join(
     requires two { 2 ≤ length work.old.done.items }
     requires literal { literal / 2 < length (made table.old) }
     requires below { AreBelow (length (made table.old)) work.old.done.items }
-    ensures working { (fanins : List ℕ) → OnOk result ((fs goal : List Form) → IsWorking width fs fanins table.old (work.old.tasks.items ++ Task.Join literal ∷ []) work.old.done.items goal → IsWorking width fs fanins table.new work.new.tasks.items work.new.done.items goal) }
+    ensures working { (fanins : List ℕ) →
+        OnOk result ((fs goal : List Form) →
+        IsWorking width fs fanins table.old
+        (work.old.tasks.items ++ Task.Join literal ∷ []) work.old.done.items goal →
+        IsWorking width fs fanins table.new work.new.tasks.items work.new.done.items goal) }
     ensures same { OnOk result (weights work.new.tasks.items ≡ weights work.old.tasks.items) }
     ensures more { OnOk result (HasMore (made table.old) (made table.new)) }
 {
@@ -217,9 +233,15 @@ fn advance(
 ) -> Result<(), AllocError>
     requires low { 2 ≤ width }
     requires high { width ≤ most_operands }
-    requires works { (fs : List Form) × (form : Form) × IsWorking width fs fanins.now table.old (work.old.tasks.items ++ task ∷ []) work.old.done.items (form ∷ []) }
-    ensures working { OnOk result ((fs goal : List Form) → IsWorking width fs fanins.now table.old (work.old.tasks.items ++ task ∷ []) work.old.done.items goal → IsWorking width fs fanins.now table.new work.new.tasks.items work.new.done.items goal) }
-    ensures less { OnOk result (weights work.new.tasks.items < weights work.old.tasks.items + weight task) }
+    requires works { (fs : List Form) × (form : Form) ×
+        IsWorking width fs fanins.now table.old
+        (work.old.tasks.items ++ task ∷ []) work.old.done.items (form ∷ []) }
+    ensures working { OnOk result ((fs goal : List Form) →
+        IsWorking width fs fanins.now table.old
+        (work.old.tasks.items ++ task ∷ []) work.old.done.items goal →
+        IsWorking width fs fanins.now table.new work.new.tasks.items work.new.done.items goal) }
+    ensures less { OnOk result (weights work.new.tasks.items < weights work.old.tasks.items +
+        weight task) }
     ensures more { OnOk result (HasMore (made table.old) (made table.new)) }
 {
     match task {
@@ -240,7 +262,8 @@ pub(crate) fn factored(
     requires high { width ≤ most_operands }
     requires below { AreBelow (length (made table.old)) fanins.now }
     requires columns { HaveColumns (length fanins.now) rows.items }
-    ensures { IfOk result (λ form. IsMadeAs table.old table.new form (factored_form width (forms_at (made table.old) fanins.now) rows.items)) }
+    ensures { IfOk result (λ form. IsMadeAs table.old table.new form
+        (factored_form width (forms_at (made table.old) fanins.now) rows.items)) }
 {
     let mut work = Work {
         tasks: Vec::new(alloc),

@@ -11,8 +11,9 @@ use std::marker::Model;
 
 /// The list of the base forms that occur in a network, and two forms of each net.
 ///
-/// Form 2b is the listed base form b, and form 2b + 1 its complement. True is listed first, then the inputs in order, then Ands alone.
-/// The operands of an And are listed before it, and so is the And of each of its shorter lists of two operands or more.
+/// Form 2b is the listed base form b, and form 2b + 1 its complement. True is listed first, then
+/// the inputs in order, then Ands alone. The operands of an And are listed before it, and so is the
+/// And of each of its shorter lists of two operands or more.
 #[derive(Drop)]
 pub struct Forms {
     inputs: u32,
@@ -47,9 +48,24 @@ impl Forms {
         facs: Vec<u32>,
         samples: Vec<bool>,
     ) -> Self
-        requires kept { AreForms (record { inputs = inputs; bases = map plain_base bases.keys; sops = sops.items; facs = facs.items }) }
-        requires sampled { AreSamples (record { inputs = inputs; bases = map plain_base bases.keys; sops = sops.items; facs = facs.items }) samples.items }
-        ensures { result ≡ record { inputs = inputs; bases = map plain_base bases.keys; sops = sops.items; facs = facs.items } }
+        requires kept { AreForms (record {
+          inputs = inputs;
+          bases = map plain_base bases.keys;
+          sops = sops.items;
+          facs = facs.items;
+        }) }
+        requires sampled { AreSamples (record {
+          inputs = inputs;
+          bases = map plain_base bases.keys;
+          sops = sops.items;
+          facs = facs.items;
+        }) samples.items }
+        ensures { result ≡ record {
+          inputs = inputs;
+          bases = map plain_base bases.keys;
+          sops = sops.items;
+          facs = facs.items;
+        } }
     {
         Forms {
             inputs,
@@ -112,16 +128,19 @@ impl Forms {
     /// The value of a form where every input is false.
     pub fn sample(&self, form: FormId) -> bool
         requires { NumberOccurs self.now form.0 }
-        ensures { (value : ℕ → Bool) → AreNumberedValues self.now (λ i. false) value → result ≡ value form.0 }
+        ensures { (value : ℕ → Bool) → AreNumberedValues self.now (λ i. false) value →
+            result ≡ value form.0 }
     {
         let value = self.samples[(form.0 / 2) as usize];
         if form.0 % 2 == 0 { value } else { !value }
     }
 
-    /// The And of those operands of an And whose bits are set in the mask; the first operand is the lowest bit. It takes no memory.
+    /// The And of those operands of an And whose bits are set in the mask; the first operand is the
+    /// lowest bit. It takes no memory.
     pub fn part(&self, b: u32, mask: u32) -> FormId
         requires { HasPart self.now b mask }
-        ensures { (fs : List ℕ) → slice_get self.now.bases b ≡ Some (base_and fs) → IsPart self.now (picked fs mask) result.0 }
+        ensures { (fs : List ℕ) → slice_get self.now.bases b ≡ Some (base_and fs) →
+            IsPart self.now (picked fs mask) result.0 }
     {
         let Base::And(ids) = self.base(b) else {
             unreachable!()

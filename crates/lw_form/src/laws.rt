@@ -9,10 +9,14 @@ ghost use Rattle.lw_net.specs.Networks.{most_nets};
 
 /// The occurring forms of a network keep, over their numbers, what the type `Forms` keeps.
 pub fn occurring_forms_are_kept()
-    ensures { (width : ℕ) (net : Network) → 2 ≤ width → width ≤ most_operands → net.inputs + length net.nodes ≤ most_nets → length (occurring_forms width net) ≤ most_bases → AreForms (forms_of width net) }
+    ensures { (width : ℕ) (net : Network) → 2 ≤ width → width ≤ most_operands →
+        net.inputs + length net.nodes ≤ most_nets →
+        length (occurring_forms width net) ≤ most_bases → AreForms (forms_of width net) }
 {}
 
 /// Both forms of each net of a network have the net's value under every assignment of the inputs.
 pub fn forms_have_the_nets_values()
-    ensures { (width : ℕ) (net : Network) → 2 ≤ width → IsInOrder net → (x : ℕ → Bool) (values : List Bool) → AreValues net x values → HaveValues (forms_of width net) x values }
+    ensures { (width : ℕ) (net : Network) → 2 ≤ width → IsInOrder net →
+        (x : ℕ → Bool) (values : List Bool) → AreValues net x values →
+        HaveValues (forms_of width net) x values }
 {}

@@ -58,7 +58,8 @@ impl Listing {
     // Has a place for each base form up to b.
     fn reach(&mut self, b: u32) -> Result<(), AllocError>
         ensures reached { OnOk result (b < length self.new.places.items) }
-        ensures same { OnOk result ((x : ℕ) → place_of self.new.places.items x ≡ place_of self.old.places.items x) }
+        ensures same { OnOk result ((x : ℕ) →
+            place_of self.new.places.items x ≡ place_of self.old.places.items x) }
         ensures listed { self.new.listed ≡ self.old.listed }
     {
         for _place in self.places.len()..b as usize + 1 {
@@ -71,8 +72,10 @@ impl Listing {
     fn put(&mut self, b: u32) -> Result<(), AllocError>
         requires few { length self.old.listed.items < most_bases }
         ensures listed { OnOk result (self.new.listed.items ≡ self.old.listed.items ++ b ∷ []) }
-        ensures placed { OnOk result (place_of self.new.places.items b ≡ length self.old.listed.items) }
-        ensures others { OnOk result ((x : ℕ) → x ≢ b → place_of self.new.places.items x ≡ place_of self.old.places.items x) }
+        ensures placed { OnOk result (place_of self.new.places.items b
+            ≡ length self.old.listed.items) }
+        ensures others { OnOk result ((x : ℕ) → x ≢ b →
+            place_of self.new.places.items x ≡ place_of self.old.places.items x) }
     {
         let place = self.listed.len() as u32;
         self.reach(b)?;
@@ -85,9 +88,14 @@ impl Listing {
     pub(crate) fn list(&mut self, table: &FormTable, b: u32) -> Result<(), FormFault>
         requires listed { IsListed (made table.now) self.old.listed.items self.old.places.items }
         requires within { b < length (made table.now) }
-        ensures listed { OnOk result (IsListed (made table.now) self.new.listed.items self.new.places.items) }
-        ensures bases { OnOk result (bases_of (made table.now) self.new.listed.items ≡ appended (base_at (made table.now) b) (bases_of (made table.now) self.old.listed.items)) }
-        ensures fault { IfErr result (IsTooLong (appended (base_at (made table.now) b) (bases_of (made table.now) self.old.listed.items))) }
+        ensures listed { OnOk result (IsListed
+            (made table.now) self.new.listed.items self.new.places.items) }
+        ensures bases { OnOk result (bases_of (made table.now) self.new.listed.items
+            ≡ appended (base_at (made table.now) b)
+            (bases_of (made table.now) self.old.listed.items)) }
+        ensures fault { IfErr result (IsTooLong
+            (appended (base_at (made table.now) b)
+            (bases_of (made table.now) self.old.listed.items))) }
     {
         let _count = table.len();
         if self.place(b) != NO_PLACE {
@@ -105,9 +113,14 @@ impl Listing {
         requires listed { IsListed (made table.old) self.old.listed.items self.old.places.items }
         requires below { AreBelow (length (made table.old)) ids }
         ensures more { OnOk result (HasMore (made table.old) (made table.new)) }
-        ensures listed { OnOk result (IsListed (made table.new) self.new.listed.items self.new.places.items) }
-        ensures bases { OnOk result (bases_of (made table.new) self.new.listed.items ≡ append_part (forms_at (made table.old) ids) (bases_of (made table.old) self.old.listed.items)) }
-        ensures fault { IfErr result (IsTooLong (append_part (forms_at (made table.old) ids) (bases_of (made table.old) self.old.listed.items))) }
+        ensures listed { OnOk result (IsListed
+            (made table.new) self.new.listed.items self.new.places.items) }
+        ensures bases { OnOk result (bases_of (made table.new) self.new.listed.items
+            ≡ append_part (forms_at (made table.old) ids)
+            (bases_of (made table.old) self.old.listed.items)) }
+        ensures fault { IfErr result (IsTooLong
+            (append_part (forms_at (made table.old) ids)
+            (bases_of (made table.old) self.old.listed.items))) }
     {
         if ids.len() < 2 {
             return Ok(());
@@ -121,9 +134,14 @@ impl Listing {
         requires listed { IsListed (made table.old) self.old.listed.items self.old.places.items }
         requires below { AreBelow (length (made table.old)) ids.now }
         ensures more { OnOk result (HasMore (made table.old) (made table.new)) }
-        ensures listed { OnOk result (IsListed (made table.new) self.new.listed.items self.new.places.items) }
-        ensures bases { OnOk result (bases_of (made table.new) self.new.listed.items ≡ append_parts (sublists (forms_at (made table.old) ids.now)) (bases_of (made table.old) self.old.listed.items)) }
-        ensures fault { IfErr result (IsTooLong (append_parts (sublists (forms_at (made table.old) ids.now)) (bases_of (made table.old) self.old.listed.items))) }
+        ensures listed { OnOk result (IsListed
+            (made table.new) self.new.listed.items self.new.places.items) }
+        ensures bases { OnOk result (bases_of (made table.new) self.new.listed.items
+            ≡ append_parts (sublists (forms_at (made table.old) ids.now))
+            (bases_of (made table.old) self.old.listed.items)) }
+        ensures fault { IfErr result (IsTooLong
+            (append_parts (sublists (forms_at (made table.old) ids.now))
+            (bases_of (made table.old) self.old.listed.items))) }
     {
         for mask in 0..mask_end(ids) {
             self.list_part(table, ids.picked(mask))?;
@@ -136,9 +154,14 @@ impl Listing {
         requires listed { IsListed (made table.old) self.old.listed.items self.old.places.items }
         requires within { b < length (made table.old) }
         ensures more { OnOk result (HasMore (made table.old) (made table.new)) }
-        ensures listed { OnOk result (IsListed (made table.new) self.new.listed.items self.new.places.items) }
-        ensures bases { OnOk result (bases_of (made table.new) self.new.listed.items ≡ append_parts (sublists (operands_of (base_at (made table.old) b))) (bases_of (made table.old) self.old.listed.items)) }
-        ensures fault { IfErr result (IsTooLong (append_parts (sublists (operands_of (base_at (made table.old) b))) (bases_of (made table.old) self.old.listed.items))) }
+        ensures listed { OnOk result (IsListed
+            (made table.new) self.new.listed.items self.new.places.items) }
+        ensures bases { OnOk result (bases_of (made table.new) self.new.listed.items
+            ≡ append_parts (sublists (operands_of (base_at (made table.old) b)))
+            (bases_of (made table.old) self.old.listed.items)) }
+        ensures fault { IfErr result (IsTooLong
+            (append_parts (sublists (operands_of (base_at (made table.old) b)))
+            (bases_of (made table.old) self.old.listed.items))) }
     {
         let ids = match table.operands(b) {
             Some(ids) => operands(alloc, ids.as_slice()),
@@ -147,17 +170,28 @@ impl Listing {
         self.list_parts(table, &ids)
     }
 
-    // Begins to add a form: lists it where it has no operands, and else puts the steps for its operands and its parts.
+    // Begins to add a form: lists it where it has no operands, and else puts the steps for its
+    // operands and its parts.
     fn begin(
         &mut self,
         table: &FormTable,
         form: u32,
         steps: &mut Vec<Step>,
     ) -> Result<(), FormFault>
-        requires { (goal : List Form) × IsAdding table.now self.old.listed.items self.old.places.items (steps.old.items ++ Step.Add form ∷ []) goal }
-        ensures adding { OnOk result ((goal : List Form) → IsAdding table.now self.old.listed.items self.old.places.items (steps.old.items ++ Step.Add form ∷ []) goal → IsAdding table.now self.new.listed.items self.new.places.items steps.new.items goal) }
-        ensures less { OnOk result (steps_size (plain_steps (made table.now) steps.new.items) < form_size (form_of (made table.now) form) + steps_size (plain_steps (made table.now) steps.old.items)) }
-        ensures fault { IfErr result (λ fault. (goal : List Form) → IsAdding table.now self.old.listed.items self.old.places.items (steps.old.items ++ Step.Add form ∷ []) goal → IsTooLong goal fault) }
+        requires { (goal : List Form) ×
+            IsAdding table.now self.old.listed.items self.old.places.items
+            (steps.old.items ++ Step.Add form ∷ []) goal }
+        ensures adding { OnOk result ((goal : List Form) →
+            IsAdding table.now self.old.listed.items self.old.places.items
+            (steps.old.items ++ Step.Add form ∷ []) goal →
+            IsAdding table.now self.new.listed.items self.new.places.items steps.new.items goal) }
+        ensures less { OnOk result (steps_size
+            (plain_steps (made table.now) steps.new.items) < form_size
+            (form_of (made table.now) form) + steps_size
+            (plain_steps (made table.now) steps.old.items)) }
+        ensures fault { IfErr result (λ fault. (goal : List Form) →
+            IsAdding table.now self.old.listed.items self.old.places.items
+            (steps.old.items ++ Step.Add form ∷ []) goal → IsTooLong goal fault) }
     {
         let _count = table.len();
         let b = form / 2;
@@ -181,11 +215,21 @@ impl Listing {
         step: Step,
         steps: &mut Vec<Step>,
     ) -> Result<(), FormFault>
-        requires { (goal : List Form) × IsAdding table.old self.old.listed.items self.old.places.items (steps.old.items ++ step ∷ []) goal }
+        requires { (goal : List Form) ×
+            IsAdding table.old self.old.listed.items self.old.places.items
+            (steps.old.items ++ step ∷ []) goal }
         ensures more { OnOk result (HasMore (made table.old) (made table.new)) }
-        ensures adding { OnOk result ((goal : List Form) → IsAdding table.old self.old.listed.items self.old.places.items (steps.old.items ++ step ∷ []) goal → IsAdding table.new self.new.listed.items self.new.places.items steps.new.items goal) }
-        ensures less { OnOk result (steps_size (plain_steps (made table.new) steps.new.items) < step_size (plain_step (made table.old) step) + steps_size (plain_steps (made table.old) steps.old.items)) }
-        ensures fault { IfErr result (λ fault. (goal : List Form) → IsAdding table.old self.old.listed.items self.old.places.items (steps.old.items ++ step ∷ []) goal → IsTooLong goal fault) }
+        ensures adding { OnOk result ((goal : List Form) →
+            IsAdding table.old self.old.listed.items self.old.places.items
+            (steps.old.items ++ step ∷ []) goal →
+            IsAdding table.new self.new.listed.items self.new.places.items steps.new.items goal) }
+        ensures less { OnOk result (steps_size
+            (plain_steps (made table.new) steps.new.items) < step_size
+            (plain_step (made table.old) step) + steps_size
+            (plain_steps (made table.old) steps.old.items)) }
+        ensures fault { IfErr result (λ fault. (goal : List Form) →
+            IsAdding table.old self.old.listed.items self.old.places.items
+            (steps.old.items ++ step ∷ []) goal → IsTooLong goal fault) }
     {
         match step {
             Step::Add(form) => self.begin(table, form, steps),
@@ -203,9 +247,14 @@ impl Listing {
         requires listed { IsListed (made table.old) self.old.listed.items self.old.places.items }
         requires within { form / 2 < length (made table.old) }
         ensures more { OnOk result (HasMore (made table.old) (made table.new)) }
-        ensures listed { OnOk result (IsListed (made table.new) self.new.listed.items self.new.places.items) }
-        ensures bases { OnOk result (bases_of (made table.new) self.new.listed.items ≡ add_form (form_of (made table.old) form) (bases_of (made table.old) self.old.listed.items)) }
-        ensures fault { IfErr result (IsTooLong (add_form (form_of (made table.old) form) (bases_of (made table.old) self.old.listed.items))) }
+        ensures listed { OnOk result (IsListed
+            (made table.new) self.new.listed.items self.new.places.items) }
+        ensures bases { OnOk result (bases_of (made table.new) self.new.listed.items
+            ≡ add_form (form_of (made table.old) form)
+            (bases_of (made table.old) self.old.listed.items)) }
+        ensures fault { IfErr result (IsTooLong
+            (add_form (form_of (made table.old) form)
+            (bases_of (made table.old) self.old.listed.items))) }
     {
         let mut steps = first_step(alloc, form)?;
         'steps: while let Some(step) = steps.pop() {
@@ -224,8 +273,12 @@ fn mask_end(ids: &FormIds) -> u32
 
 // Puts the steps for the operands of an And, so that the first comes first.
 fn push_operands(steps: &mut Vec<Step>, ids: &[u32]) -> Result<(), AllocError>
-    ensures steps { OnOk result ((forms : List Form) → plain_steps forms steps.new.items ≡ map (plain_step forms) (adds ids.now) ++ plain_steps forms steps.old.items) }
-    ensures fit { OnOk result ((count : ℕ) → AreBelow count ids.now → AllByRecursion (StepFits count) steps.old.items → AllByRecursion (StepFits count) steps.new.items) }
+    ensures steps { OnOk result ((forms : List Form) →
+        plain_steps forms steps.new.items ≡ map (plain_step forms) (adds ids.now)
+        ++ plain_steps forms steps.old.items) }
+    ensures fit { OnOk result ((count : ℕ) → AreBelow count ids.now →
+        AllByRecursion (StepFits count) steps.old.items →
+        AllByRecursion (StepFits count) steps.new.items) }
 {
     for place in 0..ids.len() {
         steps.push(Step::Add(ids[ids.len() - 1 - place]))?;
@@ -235,8 +288,12 @@ fn push_operands(steps: &mut Vec<Step>, ids: &[u32]) -> Result<(), AllocError>
 
 // Puts the steps for an And: first its operands are added, and then its parts.
 fn push_and(steps: &mut Vec<Step>, b: u32, ids: &[u32]) -> Result<(), AllocError>
-    ensures steps { OnOk result ((forms : List Form) → plain_steps forms steps.new.items ≡ map (plain_step forms) (adds ids.now) ++ plain_step forms (Step.Parts b) ∷ plain_steps forms steps.old.items) }
-    ensures fit { OnOk result ((count : ℕ) → b < count → AreBelow count ids.now → AllByRecursion (StepFits count) steps.old.items → AllByRecursion (StepFits count) steps.new.items) }
+    ensures steps { OnOk result ((forms : List Form) →
+        plain_steps forms steps.new.items ≡ map (plain_step forms) (adds ids.now)
+        ++ plain_step forms (Step.Parts b) ∷ plain_steps forms steps.old.items) }
+    ensures fit { OnOk result ((count : ℕ) → b < count → AreBelow count ids.now →
+        AllByRecursion (StepFits count) steps.old.items →
+        AllByRecursion (StepFits count) steps.new.items) }
 {
     steps.push(Step::Parts(b))?;
     push_operands(steps, ids)

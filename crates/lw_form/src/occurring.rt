@@ -46,7 +46,8 @@ fn note(forms: &mut Vec<u32>, form: u32) -> Result<(), AllocError>
 // The sums of products of some nets.
 fn fanins_of(alloc: Global, sops: &[u32], nets: &[NetId]) -> Result<Vec<u32>, AllocError>
     requires { All (λ net. net.0 < length sops.now) nets.now }
-    ensures { IfOk result (λ fanins. fanins.items ≡ map (λ net. slice_index_or sops.now net 0) (map net_number nets.now)) }
+    ensures { IfOk result (λ fanins. fanins.items
+        ≡ map (λ net. slice_index_or sops.now net 0) (map net_number nets.now)) }
 {
     let mut fanins = Vec::with_capacity(alloc, nets.len())?;
     for net in nets {
@@ -69,12 +70,23 @@ fn rows_of(alloc: Global, cubes: &[Cube]) -> Result<Vec<Row>, AllocError>
 impl Occurring {
     // Adds a net with its two forms.
     fn add_net(&mut self, alloc: Global, sop: u32, fac: u32) -> Result<(), FormFault>
-        requires listed { (signals : List Signal) × AreListed self.old.table self.old.listing.listed.items self.old.listing.places.items self.old.sops.items self.old.facs.items signals }
+        requires listed { (signals : List Signal) ×
+            AreListed self.old.table self.old.listing.listed.items self.old.listing.places.items
+            self.old.sops.items self.old.facs.items signals }
         requires sop { sop / 2 < length (made self.old.table) }
         requires fac { fac / 2 < length (made self.old.table) }
         ensures more { OnOk result (HasMore (made self.old.table) (made self.new.table)) }
-        ensures listed { OnOk result ((signals : List Signal) → AreListed self.old.table self.old.listing.listed.items self.old.listing.places.items self.old.sops.items self.old.facs.items signals → AreListed self.new.table self.new.listing.listed.items self.new.listing.places.items self.new.sops.items self.new.facs.items (signals ++ signal_at (made self.old.table) sop fac ∷ [])) }
-        ensures fault { IfErr result (λ fault. (signals : List Signal) → AreListed self.old.table self.old.listing.listed.items self.old.listing.places.items self.old.sops.items self.old.facs.items signals → IsTooLong (add_signals (signals ++ signal_at (made self.old.table) sop fac ∷ []) (true_form ∷ [])) fault) }
+        ensures listed { OnOk result ((signals : List Signal) →
+            AreListed self.old.table self.old.listing.listed.items self.old.listing.places.items
+            self.old.sops.items self.old.facs.items signals →
+            AreListed self.new.table self.new.listing.listed.items self.new.listing.places.items
+            self.new.sops.items self.new.facs.items
+            (signals ++ signal_at (made self.old.table) sop fac ∷ [])) }
+        ensures fault { IfErr result (λ fault. (signals : List Signal) →
+            AreListed self.old.table self.old.listing.listed.items self.old.listing.places.items
+            self.old.sops.items self.old.facs.items signals →
+            IsTooLong (add_signals (signals ++ signal_at (made self.old.table) sop fac ∷ [])
+            (true_form ∷ [])) fault) }
     {
         self.listing.add(alloc, &mut self.table, sop)?;
         self.listing.add(alloc, &mut self.table, fac)?;
@@ -87,12 +99,23 @@ impl Occurring {
     fn add_node(&mut self, alloc: Global, width: usize, node: &Node) -> Result<(), FormFault>
         requires low { 2 ≤ width }
         requires high { width ≤ most_operands }
-        requires listed { (signals : List Signal) × AreListed self.old.table self.old.listing.listed.items self.old.listing.places.items self.old.sops.items self.old.facs.items signals }
+        requires listed { (signals : List Signal) ×
+            AreListed self.old.table self.old.listing.listed.items self.old.listing.places.items
+            self.old.sops.items self.old.facs.items signals }
         requires fanins { All (λ net. net.0 < length self.old.sops.items) node.now.fanins }
         requires columns { All (λ row. length row ≡ length node.now.fanins) node.now.rows }
         ensures more { OnOk result (HasMore (made self.old.table) (made self.new.table)) }
-        ensures listed { OnOk result ((signals : List Signal) → AreListed self.old.table self.old.listing.listed.items self.old.listing.places.items self.old.sops.items self.old.facs.items signals → AreListed self.new.table self.new.listing.listed.items self.new.listing.places.items self.new.sops.items self.new.facs.items (signals ++ signal_of_node width signals (plain_node node.now) ∷ [])) }
-        ensures fault { IfErr result (λ fault. (signals : List Signal) → AreListed self.old.table self.old.listing.listed.items self.old.listing.places.items self.old.sops.items self.old.facs.items signals → IsTooLong (add_signals (signals ++ signal_of_node width signals (plain_node node.now) ∷ []) (true_form ∷ [])) fault) }
+        ensures listed { OnOk result ((signals : List Signal) →
+            AreListed self.old.table self.old.listing.listed.items self.old.listing.places.items
+            self.old.sops.items self.old.facs.items signals →
+            AreListed self.new.table self.new.listing.listed.items self.new.listing.places.items
+            self.new.sops.items self.new.facs.items
+            (signals ++ signal_of_node width signals (plain_node node.now) ∷ [])) }
+        ensures fault { IfErr result (λ fault. (signals : List Signal) →
+            AreListed self.old.table self.old.listing.listed.items self.old.listing.places.items
+            self.old.sops.items self.old.facs.items signals →
+            IsTooLong (add_signals (signals ++ signal_of_node width signals (plain_node node.now)
+            ∷ []) (true_form ∷ [])) fault) }
     {
         let fanins = fanins_of(alloc, &self.sops, node.fanins.as_slice())?;
         let rows = rows_of(alloc, node.rows.as_slice())?;
@@ -105,7 +128,8 @@ impl Occurring {
     // Lists true alone.
     fn start(alloc: Global, inputs: u32) -> Result<Self, FormFault>
         requires { inputs ≤ most_nets }
-        ensures listed { IfOk result (λ all. AreListed all.table all.listing.listed.items all.listing.places.items all.sops.items all.facs.items []) }
+        ensures listed { IfOk result (λ all. AreListed all.table all.listing.listed.items
+            all.listing.places.items all.sops.items all.facs.items []) }
         ensures table { IfOk result (λ all. all.table ≡ record { inputs = inputs; keys = [] }) }
         ensures fault { IfErr result (IsTooLong (true_form ∷ [])) }
     {
@@ -124,9 +148,13 @@ impl Occurring {
     fn add_inputs(&mut self, alloc: Global, inputs: u32) -> Result<(), FormFault>
         requires few { inputs ≤ most_nets }
         requires table { self.old.table ≡ record { inputs = inputs; keys = [] } }
-        requires listed { AreListed self.old.table self.old.listing.listed.items self.old.listing.places.items self.old.sops.items self.old.facs.items [] }
-        ensures listed { OnOk result (AreListed self.new.table self.new.listing.listed.items self.new.listing.places.items self.new.sops.items self.new.facs.items (input_signals 0 inputs)) }
-        ensures fault { IfErr result (IsTooLong (add_signals (input_signals 0 inputs) (true_form ∷ []))) }
+        requires listed { AreListed self.old.table self.old.listing.listed.items
+            self.old.listing.places.items self.old.sops.items self.old.facs.items [] }
+        ensures listed { OnOk result (AreListed self.new.table self.new.listing.listed.items
+            self.new.listing.places.items self.new.sops.items self.new.facs.items
+            (input_signals 0 inputs)) }
+        ensures fault { IfErr result (IsTooLong
+            (add_signals (input_signals 0 inputs) (true_form ∷ []))) }
     {
         for input in 0..inputs {
             let form = 2 * (input + 1);
@@ -139,10 +167,21 @@ impl Occurring {
     fn add_nodes(&mut self, alloc: Global, width: usize, nodes: &[Node]) -> Result<(), FormFault>
         requires low { 2 ≤ width }
         requires high { width ≤ most_operands }
-        requires listed { (signals : List Signal) × AreListed self.old.table self.old.listing.listed.items self.old.listing.places.items self.old.sops.items self.old.facs.items signals }
+        requires listed { (signals : List Signal) ×
+            AreListed self.old.table self.old.listing.listed.items self.old.listing.places.items
+            self.old.sops.items self.old.facs.items signals }
         requires nodes { AreNodes (length self.old.sops.items) nodes.now }
-        ensures listed { OnOk result ((signals : List Signal) → AreListed self.old.table self.old.listing.listed.items self.old.listing.places.items self.old.sops.items self.old.facs.items signals → AreListed self.new.table self.new.listing.listed.items self.new.listing.places.items self.new.sops.items self.new.facs.items (signals_after width signals (map plain_node nodes.now))) }
-        ensures fault { IfErr result (λ fault. (signals : List Signal) → AreListed self.old.table self.old.listing.listed.items self.old.listing.places.items self.old.sops.items self.old.facs.items signals → IsTooLong (add_signals (signals_after width signals (map plain_node nodes.now)) (true_form ∷ [])) fault) }
+        ensures listed { OnOk result ((signals : List Signal) →
+            AreListed self.old.table self.old.listing.listed.items self.old.listing.places.items
+            self.old.sops.items self.old.facs.items signals →
+            AreListed self.new.table self.new.listing.listed.items self.new.listing.places.items
+            self.new.sops.items self.new.facs.items
+            (signals_after width signals (map plain_node nodes.now))) }
+        ensures fault { IfErr result (λ fault. (signals : List Signal) →
+            AreListed self.old.table self.old.listing.listed.items self.old.listing.places.items
+            self.old.sops.items self.old.facs.items signals →
+            IsTooLong (add_signals (signals_after width signals (map plain_node nodes.now))
+            (true_form ∷ [])) fault) }
     {
         for node in nodes {
             self.add_node(alloc, width, node)?;
@@ -154,7 +193,9 @@ impl Occurring {
     pub(crate) fn of_network(alloc: Global, net: &Network, width: usize) -> Result<Self, FormFault>
         requires low { 2 ≤ width }
         requires high { width ≤ most_operands }
-        ensures listed { IfOk result (λ all. AreListed all.table all.listing.listed.items all.listing.places.items all.sops.items all.facs.items (signals_of width (plain net.now))) }
+        ensures listed { IfOk result (λ all. AreListed all.table all.listing.listed.items
+            all.listing.places.items all.sops.items all.facs.items
+            (signals_of width (plain net.now))) }
         ensures fault { IfErr result (IsTooLong (occurring_forms width (plain net.now))) }
     {
         let inputs = net.inputs();
@@ -174,7 +215,9 @@ fn finished(
 ) -> Result<Forms, AllocError>
     requires low { 2 ≤ width }
     requires high { width ≤ most_operands }
-    requires listed { AreListed all.now.table all.now.listing.listed.items all.now.listing.places.items all.now.sops.items all.now.facs.items (signals_of width (plain net.now)) }
+    requires listed { AreListed all.now.table all.now.listing.listed.items
+        all.now.listing.places.items all.now.sops.items all.now.facs.items
+        (signals_of width (plain net.now)) }
     ensures { IfOk result (λ forms. forms ≡ forms_of width (plain net.now)) }
 {
     let _width = width;
@@ -187,12 +230,14 @@ fn finished(
     Ok(Forms::new(inputs, bases, sops, facs, samples))
 }
 
-/// The list of the base forms that occur in the forms of a network's nets, where an And has at most `width` operands.
+/// The list of the base forms that occur in the forms of a network's nets, where an And has at most
+/// `width` operands.
 ///
-/// The sum of products of a node is the Or of the Ands of its rows' literals, in order, and its factored form takes out the literal that
-/// stands in most rows, as long as one stands in two. True is listed first, then the inputs, and then, by nets, what the two forms are
-/// made of: an And's operands, and the Ands of its parts by rising mask. `Limit` comes exactly where more than 2,097,152 base forms
-/// occur. `Memory` is the one free answer.
+/// The sum of products of a node is the Or of the Ands of its rows' literals, in order, and its
+/// factored form takes out the literal that stands in most rows, as long as one stands in two. True
+/// is listed first, then the inputs, and then, by nets, what the two forms are made of: an And's
+/// operands, and the Ands of its parts by rising mask. `Limit` comes exactly where more than
+/// 2,097,152 base forms occur. `Memory` is the one free answer.
 pub fn forms(alloc: Global, net: &Network, width: u8) -> Result<Forms, FormFault>
     requires low { 2 ≤ width }
     requires high { width ≤ most_operands }

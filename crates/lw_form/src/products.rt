@@ -45,7 +45,9 @@ fn cubes(
     requires high { width ≤ most_operands }
     requires below { AreBelow (length (made table.old)) fanins.now }
     requires columns { HaveColumns (length fanins.now) rows.now }
-    ensures { IfOk result (λ cubes. AreMadeAs table.old table.new cubes.items (map (λ row. and_of_forms width (literals_of (forms_at (made table.old) fanins.now) row)) rows.now)) }
+    ensures { IfOk result (λ cubes. AreMadeAs table.old table.new cubes.items
+        (map (λ row. and_of_forms width (literals_of (forms_at (made table.old) fanins.now) row))
+        rows.now)) }
 {
     let mut cubes = Vec::new(alloc);
     for row in rows {
@@ -68,7 +70,8 @@ pub(crate) fn sum_of_products(
     requires high { width ≤ most_operands }
     requires below { AreBelow (length (made table.old)) fanins.now }
     requires columns { HaveColumns (length fanins.now) rows.now }
-    ensures { IfOk result (λ form. IsMadeAs table.old table.new form (sum_of_forms width (forms_at (made table.old) fanins.now) rows.now)) }
+    ensures { IfOk result (λ form. IsMadeAs table.old table.new form
+        (sum_of_forms width (forms_at (made table.old) fanins.now) rows.now)) }
 {
     let cubes = cubes(alloc, table, width, fanins, rows)?;
     disjunction(alloc, table, width, &cubes)

@@ -46,7 +46,8 @@ pub(crate) fn renumbered_all(
     forms: &[u32],
 ) -> Result<Vec<u32>, AllocError>
     requires { ArePlaced listing.now.places.items forms.now }
-    ensures { IfOk result (λ numbers. numbers.items ≡ map (renumber listing.now.places.items) forms.now) }
+    ensures { IfOk result (λ numbers. numbers.items
+        ≡ map (renumber listing.now.places.items) forms.now) }
 {
     let mut numbers = Vec::with_capacity(alloc, forms.len())?;
     for place in 0..forms.len() {
@@ -58,7 +59,9 @@ pub(crate) fn renumbered_all(
 // The base form at a place of the table.
 fn base_of(alloc: Global, table: &FormTable, listing: &Listing, b: u32) -> Base
     requires within { b < length (made table.now) }
-    requires placed { (ids : List ℕ) → slice_get (made table.now) b ≡ Some (spelled (made table.now) ids) → AreBelow (length (made table.now)) ids → ArePlaced listing.now.places.items ids }
+    requires placed { (ids : List ℕ) →
+        slice_get (made table.now) b ≡ Some (spelled (made table.now) ids) →
+        AreBelow (length (made table.now)) ids → ArePlaced listing.now.places.items ids }
     ensures { IsBaseOf (made table.now) listing.now.places.items b (plain_base result) }
 {
     match table.operands(b) {
@@ -81,7 +84,9 @@ pub(crate) fn numbered_bases(
 ) -> Result<IndexSet<Base>, AllocError>
     requires listed { IsListed (made table.now) listing.now.listed.items listing.now.places.items }
     requires listing { AreOfListing (made table.now) listing.now.listed.items }
-    ensures { IfOk result (λ bases. map plain_base bases.keys ≡ map (numbered_base (bases_of (made table.now) listing.now.listed.items)) (bases_of (made table.now) listing.now.listed.items)) }
+    ensures { IfOk result (λ bases. map plain_base bases.keys
+        ≡ map (numbered_base (bases_of (made table.now) listing.now.listed.items))
+        (bases_of (made table.now) listing.now.listed.items)) }
 {
     let _count = table.len();
     let mut bases = IndexSet::with_capacity(alloc, listing.listed.len())?;

@@ -35,7 +35,8 @@ fn are_true(samples: &[bool], forms: &[u32]) -> bool
 
 // The value of a base form, by those before it.
 fn sample_of(samples: &[bool], base: &Base) -> bool
-    requires { (fs : List ℕ) → plain_base base.now ≡ base_and fs → AreBelow (length samples.now) fs }
+    requires { (fs : List ℕ) → plain_base base.now ≡ base_and fs →
+        AreBelow (length samples.now) fs }
     ensures { result ≡ sample_base samples.now (plain_base base.now) }
 {
     match base {
@@ -47,8 +48,10 @@ fn sample_of(samples: &[bool], base: &Base) -> bool
 
 // The values of base forms.
 pub(crate) fn samples(alloc: Global, bases: &[Base]) -> Result<Vec<bool>, AllocError>
-    requires { (b : ℕ) (fs : List ℕ) → slice_get (map plain_base bases.now) b ≡ Some (base_and fs) → AreBelow b fs }
-    ensures { IfOk result (λ samples. (forms : NumberedForms) → forms.bases ≡ map plain_base bases.now → AreSamples forms samples.items) }
+    requires { (b : ℕ) (fs : List ℕ) → slice_get (map plain_base bases.now) b ≡ Some (base_and fs) →
+        AreBelow b fs }
+    ensures { IfOk result (λ samples. (forms : NumberedForms) →
+        forms.bases ≡ map plain_base bases.now → AreSamples forms samples.items) }
 {
     let mut samples = Vec::with_capacity(alloc, bases.len())?;
     for base in bases {

@@ -9,7 +9,8 @@ use std::marker::Model;
 // A number of a form, twice its base form's or one more, is below 2^32.
 const MOST_FORMS: usize = 2147483648;
 
-// The forms that were made so far, each once: true, the inputs, and Ands, whose operands were made before.
+// The forms that were made so far, each once: true, the inputs, and Ands, whose operands were made
+// before.
 #[derive(Drop)]
 pub(crate) struct FormTable {
     inputs: u32,
@@ -54,8 +55,10 @@ impl FormTable {
     // The place of the And of these operands, which is made where it isn't there.
     pub(crate) fn add(&mut self, ids: FormIds) -> Result<u32, AllocError>
         requires { AreBelow (length (made self.old)) ids }
-        ensures made { OnOk result (made self.new ≡ appended (spelled (made self.old) ids) (made self.old)) }
-        ensures place { IfOk result (λ b. slice_get (made self.new) b ≡ Some (spelled (made self.old) ids)) }
+        ensures made { OnOk result (made self.new
+            ≡ appended (spelled (made self.old) ids) (made self.old)) }
+        ensures place { IfOk result (λ b. slice_get (made self.new) b
+            ≡ Some (spelled (made self.old) ids)) }
         ensures inputs { self.new.inputs ≡ self.old.inputs }
     {
         if self.len() >= MOST_FORMS {
@@ -68,9 +71,11 @@ impl FormTable {
     // The operands of the And at a place, or none at that of true or of an input.
     pub(crate) fn operands(&self, b: u32) -> Option<&FormIds>
         requires { b < length (made self.now) }
-        ensures simple { IfNone result ((f : Form) × (slice_get (made self.now) b ≡ Some f) × IsSimple f) }
+        ensures simple { IfNone result
+            ((f : Form) × (slice_get (made self.now) b ≡ Some f) × IsSimple f) }
         ensures kind { IfNone result (slice_get (made self.now) b ≡ Some (simple_at b)) }
-        ensures and_is { IfSome result (λ ids. slice_get (made self.now) b ≡ Some (spelled (made self.now) ids.now)) }
+        ensures and_is { IfSome result
+            (λ ids. slice_get (made self.now) b ≡ Some (spelled (made self.now) ids.now)) }
         ensures below { IfSome result (λ ids. AreBelow (length (made self.now)) ids.now) }
     {
         if b <= self.inputs {

@@ -39,7 +39,8 @@ impl Arrivals {
     /// A line for the input of this name.
     pub fn set(&mut self, name: Name, start: Micro) -> Result<(), AllocError>
         requires { IsEarly start }
-        ensures { OnOk result ((lines : List Arrival) → StandsFor self.old lines → StandsFor self.new (lines ++ record { named = Some name; start = start } ∷ [])) }
+        ensures { OnOk result ((lines : List Arrival) → StandsFor self.old lines →
+            StandsFor self.new (lines ++ record { named = Some name; start = start } ∷ [])) }
     {
         self.own.insert(name, start)?;
         Ok(())
@@ -48,7 +49,8 @@ impl Arrivals {
     /// A line for each input that has no line of its own.
     pub fn set_every(&mut self, start: Micro)
         requires { IsEarly start }
-        ensures { (lines : List Arrival) → StandsFor self.old lines → StandsFor self.new (lines ++ record { named = None; start = start } ∷ []) }
+        ensures { (lines : List Arrival) → StandsFor self.old lines →
+            StandsFor self.new (lines ++ record { named = None; start = start } ∷ []) }
     {
         self.every = Some(start);
     }
@@ -71,9 +73,11 @@ impl Arrivals {
         inputs: &[Name],
         latches: usize,
     ) -> Result<Micros, AllocError>
-        ensures starts { (lines : List Arrival) → StandsFor self.now lines → IfOk result (λ starts. starts ≡ starts_of lines inputs.now latches) }
+        ensures starts { (lines : List Arrival) → StandsFor self.now lines →
+            IfOk result (λ starts. starts ≡ starts_of lines inputs.now latches) }
         ensures count { IfOk result (λ starts. length starts ≡ length inputs.now + latches) }
-        ensures latches { IfOk result (λ starts. drop (length inputs.now) starts ≡ replicate latches at_once) }
+        ensures latches { IfOk result (λ starts. drop (length inputs.now) starts
+            ≡ replicate latches at_once) }
         ensures early { IfOk result (All IsEarly) }
     {
         let mut starts = Vec::with_capacity(alloc, inputs.len().saturating_add(latches))?;

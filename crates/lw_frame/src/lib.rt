@@ -1,4 +1,5 @@
-//! What stands around the combinational part of a circuit with latches: its roots, and when its inputs arrive.
+//! What stands around the combinational part of a circuit with latches: its roots, and when its
+//! inputs arrive.
 #![tactic(auto)]
 
 mod arrivals;

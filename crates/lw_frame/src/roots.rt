@@ -40,8 +40,8 @@ fn add_read(alloc: Global, names: &mut IndexSet<Name>, latch: &Latch) -> Result<
     Ok(())
 }
 
-/// Makes the names of the outputs those of the roots: behind them come the input and the control of each latch, in order, each
-/// name once. It tells how many outputs there were.
+/// Makes the names of the outputs those of the roots: behind them come the input and the control of
+/// each latch, in order, each name once. It tells how many outputs there were.
 pub fn add_roots(
     alloc: Global,
     names: &mut IndexSet<Name>,

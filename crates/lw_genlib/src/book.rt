@@ -57,7 +57,8 @@ fn placed(alloc: Global, book: Book, entry: Entry, delays: Micros) -> Result<Boo
     requires room { HasRoom book.cells }
     requires delays { delays ≡ joining.delays_of entry }
     ensures cells { MatchResult result
-        (λ new. joining.joined_at book.cells entry (joining.place_of book.cells entry) ≡ Ok new.cells)
+        (λ new. joining.joined_at book.cells entry (joining.place_of book.cells entry)
+        ≡ Ok new.cells)
         (TellsErr (joining.joined_at book.cells entry (joining.place_of book.cells entry))) }
     ensures whole { IfOk result (λ new. new.entry ≡ None) }
 {
@@ -75,7 +76,8 @@ fn with_new(alloc: Global, book: Book, entry: Entry, delays: Micros) -> Result<B
     requires room { HasRoom book.cells }
     requires delays { delays ≡ joining.delays_of entry }
     requires new_name { joining.place_of book.cells entry ≡ None }
-    ensures { IfOk result (λ new. new ≡ record { cells = book.cells ++ joining.cell_of entry ∷ []; entry = None }) }
+    ensures { IfOk result (λ new. new
+        ≡ record { cells = book.cells ++ joining.cell_of entry ∷ []; entry = None }) }
 {
     let cell = new_cell(alloc, entry, delays)?;
     with_cell(book, cell)
@@ -86,7 +88,8 @@ fn with_cell(book: Book, cell: Cell) -> Result<Book, AllocError>
     requires room { HasRoom book.cells }
     requires cell { IsListed cell }
     requires one_form { form_count cell ≡ 1 }
-    requires new_name { list_any (λ (other : CellParts). bytes_eq cell.name other.name) book.cells ≡ false }
+    requires new_name { list_any (λ (other : CellParts). bytes_eq cell.name other.name) book.cells
+        ≡ false }
     ensures { IfOk result (λ new. new ≡ record { cells = book.cells ++ cell ∷ []; entry = None }) }
 {
     let Book { mut cells, entries } = book;

@@ -4,8 +4,8 @@ use lw_pool::{Name, Names};
 use std::alloc::AllocError;
 use std::marker::Model;
 
-/// A cell of a library: its pins in the order in which they first stand in its first form, a delay for each of them, and one
-/// form or more, which have one truth table.
+/// A cell of a library: its pins in the order in which they first stand in its first form, a delay
+/// for each of them, and one form or more, which have one truth table.
 #[derive(Debug, Drop)]
 pub struct Cell {
     name: Name,
@@ -44,8 +44,22 @@ impl Cell {
         delays: Micros,
         forms: Exprs,
     ) -> Self
-        requires { IsCell (record { name = name; area = area; output = output; pins = pins; delays = delays; forms = forms }) }
-        ensures { result ≡ record { name = name; area = area; output = output; pins = pins; delays = delays; forms = forms } }
+        requires { IsCell (record {
+          name = name;
+          area = area;
+          output = output;
+          pins = pins;
+          delays = delays;
+          forms = forms;
+        }) }
+        ensures { result ≡ record {
+          name = name;
+          area = area;
+          output = output;
+          pins = pins;
+          delays = delays;
+          forms = forms;
+        } }
     {
         Cell {
             name,

@@ -15,7 +15,8 @@ pub(crate) fn pins_of(alloc: Global, signs: &[Sign], lines: &[u32]) -> Result<Na
     requires lines { length lines.now ≡ length signs.now }
     requires short { length signs.now < 2 ^ 32 }
     ensures { MatchResult result
-        (λ pins. (pins ≡ function.pins_in signs.now) × (function.first_fault [] lines.now signs.now ≡ None))
+        (λ pins. (pins ≡ function.pins_in signs.now) ×
+        (function.first_fault [] lines.now signs.now ≡ None))
         (TellsFault (function.first_fault [] lines.now signs.now)) }
 {
     let mut seen = nothing_seen(alloc);
@@ -147,7 +148,8 @@ fn depth_behind(sign: &Sign, depth: usize) -> usize
 
 // Adds the pin that the sign names, where it is a new one and not the output's name.
 fn add_pin(alloc: Global, count: usize, pins: &mut Names, sign: &Sign) -> Result<(), AllocError>
-    ensures { OnOk result (pins.new ≡ (if count == 0 then pins.old else function.with_pin pins.old sign.now)) }
+    ensures { OnOk result (pins.new
+        ≡ (if count == 0 then pins.old else function.with_pin pins.old sign.now)) }
 {
     let Sign::Name(name) = sign else {
         return Ok(());

@@ -21,7 +21,10 @@ pub(crate) fn begin(
     text: Text,
     line: u32,
 ) -> Result<Entry, LibFault>
-    ensures { MatchResult result (λ e. words.entry_begun heading.line heading.name heading.area (words.with_end text line) ≡ Ok e) (TellsErr (words.entry_begun heading.line heading.name heading.area (words.with_end text line))) }
+    ensures { MatchResult result (λ e. words.entry_begun heading.line heading.name heading.area
+        (words.with_end text line) ≡ Ok e)
+        (TellsErr (words.entry_begun heading.line heading.name heading.area
+        (words.with_end text line))) }
 {
     let (signs, lines) = with_end(text, line)?;
     let function = function_of(alloc, &signs, &lines)?;
@@ -95,7 +98,8 @@ pub(crate) fn delays(
 ) -> Result<Option<Micros>, AllocError>
     ensures { IfOk result (λ all. MatchOption all
         (list_any (λ own. joining.is_missing (joining.own_or every own)) named.now ≡ true)
-        (λ delays. (list_any (λ own. joining.is_missing (joining.own_or every own)) named.now ≡ false) × (delays ≡ map (joining.delay_by every) named.now))) }
+        (λ delays. (list_any (λ own. joining.is_missing (joining.own_or every own)) named.now
+        ≡ false) × (delays ≡ map (joining.delay_by every) named.now))) }
 {
     let mut delays = Vec::new(alloc);
     for own in named {

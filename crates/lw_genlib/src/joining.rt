@@ -40,7 +40,8 @@ fn is_pin_among(pins: &[Name], delays: &[Micro], name: &Name, delay: Micro) -> b
 }
 
 fn are_among(pins: &[Name], delays: &[Micro], names: &[Name], others: &[Micro]) -> bool
-    ensures { result ≡ list_all (joining.is_pin_among (zip pins.now delays.now)) (zip names.now others.now) }
+    ensures { result ≡ list_all (joining.is_pin_among (zip pins.now delays.now))
+        (zip names.now others.now) }
 {
     for place in 0..names.len().min(others.len()) {
         if !is_pin_among(pins, delays, &names[place], others[place]) {
@@ -52,7 +53,8 @@ fn are_among(pins: &[Name], delays: &[Micro], names: &[Name], others: &[Micro]) 
 
 // The output, the area and the pins with their delays are those of the cell.
 fn is_alike(cell: &Cell, entry: &Entry, delays: &[Micro]) -> bool
-    ensures { result ≡ joining.is_alike cell.now (joining.output_of entry.now) entry.now.area (zip (words.pins_of entry.now) delays.now) }
+    ensures { result ≡ joining.is_alike cell.now (joining.output_of entry.now) entry.now.area
+        (zip (words.pins_of entry.now) delays.now) }
 {
     let pins = entry.pins();
     cell.output().as_bytes() == entry.output().as_bytes()
@@ -71,8 +73,10 @@ pub(crate) fn join(
     requires delays { delays.now ≡ joining.delays_of entry.now }
     requires pins_differ { IsDistinct bytes_eq cell.old.pins }
     ensures agrees { IfOk result (λ agree. agree ≡ joining.agrees cell.old entry.now) }
-    ensures form { IfOk result (λ agree. agree ≡ true → cell.new ≡ joining.with_form cell.old (joining.form_over cell.old.pins entry.now)) }
-    ensures kept { IfOk result (λ agree. agree ≡ true → IsCell (joining.with_form cell.old (joining.form_over cell.old.pins entry.now))) }
+    ensures form { IfOk result (λ agree. agree ≡ true →
+        cell.new ≡ joining.with_form cell.old (joining.form_over cell.old.pins entry.now)) }
+    ensures kept { IfOk result (λ agree. agree ≡ true →
+        IsCell (joining.with_form cell.old (joining.form_over cell.old.pins entry.now))) }
 {
     if !is_alike(cell, entry, delays.as_slice()) {
         return Ok(false);

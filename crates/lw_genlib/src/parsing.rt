@@ -36,7 +36,8 @@ fn sum<'a>(
     requires few { names_in signs.now ≤ 64 }
     requires short { depth + length signs.now ≤ 2 ^ 32 }
     requires pins { length pins.now ≤ 16 }
-    ensures { IfOk result (λ rest. Reads (SpellsSum pins.now) grammar.after_sum depth signs.now rest.now ops.old.items ops.new.items) }
+    ensures { IfOk result (λ rest. Reads
+        (SpellsSum pins.now) grammar.after_sum depth signs.now rest.now ops.old.items ops.new.items) }
 {
     let mut rest = product(signs, depth, pins, ops)?;
     let mut products = 1u8;
@@ -61,7 +62,9 @@ fn product<'a>(
     requires few { names_in signs.now ≤ 64 }
     requires short { depth + length signs.now ≤ 2 ^ 32 }
     requires pins { length pins.now ≤ 16 }
-    ensures { IfOk result (λ rest. Reads (SpellsProduct pins.now) grammar.after_product depth signs.now rest.now ops.old.items ops.new.items) }
+    ensures { IfOk result (λ rest. Reads
+        (SpellsProduct pins.now) grammar.after_product depth signs.now rest.now ops.old.items
+        ops.new.items) }
 {
     let mut rest = factor(signs, depth, pins, ops)?;
     let mut factors = 1u8;
@@ -86,7 +89,9 @@ fn factor<'a>(
     requires few { names_in signs.now ≤ 64 }
     requires short { depth + length signs.now ≤ 2 ^ 32 }
     requires pins { length pins.now ≤ 16 }
-    ensures { IfOk result (λ rest. Reads (IsFactor pins.now) grammar.after_factor depth signs.now rest.now ops.old.items ops.new.items) }
+    ensures { IfOk result (λ rest. Reads
+        (IsFactor pins.now) grammar.after_factor depth signs.now rest.now ops.old.items
+        ops.new.items) }
 {
     let (bangs, operand) = without_bangs(signs);
     let rest = quoted(operand, depth, pins, ops)?;
@@ -106,7 +111,8 @@ fn quoted<'a>(
     requires few { names_in signs.now ≤ 64 }
     requires short { depth + length signs.now ≤ 2 ^ 32 }
     requires pins { length pins.now ≤ 16 }
-    ensures { IfOk result (λ rest. Reads (IsAtom pins.now) grammar.after_factor depth signs.now rest.now ops.old.items ops.new.items) }
+    ensures { IfOk result (λ rest. Reads
+        (IsAtom pins.now) grammar.after_factor depth signs.now rest.now ops.old.items ops.new.items) }
 {
     let mut rest = atom(signs, depth, pins, ops)?;
     while let Some(behind) = behind_mark(b'\'', rest) {
@@ -128,7 +134,8 @@ fn atom<'a>(
     requires few { names_in signs.now ≤ 64 }
     requires short { depth + length signs.now ≤ 2 ^ 32 }
     requires pins { length pins.now ≤ 16 }
-    ensures { IfOk result (λ rest. Reads (IsAtom pins.now) grammar.after_atom depth signs.now rest.now ops.old.items ops.new.items) }
+    ensures { IfOk result (λ rest. Reads
+        (IsAtom pins.now) grammar.after_atom depth signs.now rest.now ops.old.items ops.new.items) }
 {
     if let Some(inner) = behind_mark(b'(', signs) {
         let rest = sum(inner, depth + 1, pins, ops)?;
@@ -197,7 +204,8 @@ fn without_bangs(signs: &[Sign]) -> (usize, &[Sign])
 
 fn next_factor(rest: &[Sign]) -> Option<&[Sign]>
     ensures some { IfSome result (λ behind. grammar.IsNextFactor rest.now behind.now) }
-    ensures none { IfNone result (begins_with (λ sign. grammar.is_mark 42 sign || grammar.begins_operand sign) rest.now ≡ false) }
+    ensures none { IfNone result (begins_with
+        (λ sign. grammar.is_mark 42 sign || grammar.begins_operand sign) rest.now ≡ false) }
 {
     match rest {
         [Sign::Mark(b'*'), behind @ ..] => Some(behind),

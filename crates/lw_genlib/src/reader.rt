@@ -16,7 +16,8 @@ use lw_words::{Line, Words};
 use std::alloc::Global;
 use std::mem;
 
-/// Reads a library in genlib line by line. After an error it answers the same to each later line and at the end, and changes nothing more.
+/// Reads a library in genlib line by line. After an error it answers the same to each later line
+/// and at the end, and changes nothing more.
 #[derive(Drop)]
 pub struct LibReader {
     alloc: Global,
@@ -53,12 +54,16 @@ impl LibReader {
         }
     }
 
-    /// Reads a line. The answer is the first fault of the lines so far, but for those that are found at the end alone.
+    /// Reads a line. The answer is the first fault of the lines so far, but for those that are
+    /// found at the end alone.
     pub fn line(&mut self, line: &Line) -> Result<(), LibFault>
         requires { HasNoHash line.now }
-        ensures stands { (lines : List LogicalLine) → StandsFor self.old lines → StandsFor self.new (lines ++ line.now ∷ []) }
-        ensures answer { (lines : List LogicalLine) → StandsFor self.old lines → Tells result (fault_so_far (lines ++ line.now ∷ [])) }
-        ensures stopped { MatchResult result (λ _. stop_of self.new ≡ None) (λ fault. stop_of self.new ≡ Some fault) }
+        ensures stands { (lines : List LogicalLine) → StandsFor self.old lines →
+            StandsFor self.new (lines ++ line.now ∷ []) }
+        ensures answer { (lines : List LogicalLine) → StandsFor self.old lines →
+            Tells result (fault_so_far (lines ++ line.now ∷ [])) }
+        ensures stopped { MatchResult result (λ _. stop_of self.new ≡ None)
+            (λ fault. stop_of self.new ≡ Some fault) }
         ensures again { IfSome (stop_of self.old) (λ fault. result ≡ Err fault) }
         ensures unchanged { IsSome (stop_of self.old) → self.new ≡ self.old }
     {

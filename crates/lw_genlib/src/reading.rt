@@ -63,8 +63,11 @@ fn read_piece(
 ) -> Result<Progress, LibFault>
     requires { IfSome entry (λ e. HasRoom book.cells) }
     ensures { (rest : List Token) → MatchResult result
-        (λ new. reads_on (library.piece_by (library.words_behind (library.with_open book entry) entry line word.now rest)) ≡ resume new rest)
-        (BreaksAt (reads_on (library.piece_by (library.words_behind (library.with_open book entry) entry line word.now rest)))) }
+        (λ new. reads_on (library.piece_by
+        (library.words_behind (library.with_open book entry) entry line word.now rest))
+        ≡ resume new rest)
+        (BreaksAt (reads_on (library.piece_by
+        (library.words_behind (library.with_open book entry) entry line word.now rest)))) }
 {
     let _ = &book.cells;
     match entry {
@@ -83,8 +86,12 @@ fn read_behind(
 ) -> Result<Progress, LibFault>
     requires { HasRoom book.cells }
     ensures { (rest : List Token) → MatchResult result
-        (λ new. reads_on (library.piece_by (library.words_behind (library.with_open book (Some entry)) (Some entry) line word.now rest)) ≡ resume new rest)
-        (BreaksAt (reads_on (library.piece_by (library.words_behind (library.with_open book (Some entry)) (Some entry) line word.now rest)))) }
+        (λ new. reads_on (library.piece_by
+        (library.words_behind (library.with_open book (Some entry))
+        (Some entry) line word.now rest)) ≡ resume new rest)
+        (BreaksAt (reads_on (library.piece_by
+        (library.words_behind (library.with_open book (Some entry))
+        (Some entry) line word.now rest)))) }
 {
     if word == b"PIN".as_slice() {
         return Ok(Progress {
@@ -100,7 +107,8 @@ fn read_behind(
 fn read_entry(book: Book, line: u32, word: &[u8]) -> Result<Progress, LibFault>
     requires { book.entry ≡ None }
     ensures { (rest : List Token) → MatchResult result
-        (λ new. reads_on (library.piece_by (library.entry_on line word.now rest book)) ≡ resume new rest)
+        (λ new. reads_on (library.piece_by (library.entry_on line word.now rest book))
+        ≡ resume new rest)
         (BreaksAt (reads_on (library.piece_by (library.entry_on line word.now rest book)))) }
 {
     if word == b"LATCH".as_slice() {
@@ -131,8 +139,10 @@ fn read_name(
     requires room { HasRoom book.cells }
     requires word { IsWord 4095 word.now }
     ensures { (rest : List Token) → MatchResult result
-        (λ new. reads_on (library.piece_by (library.gate_on book gate (word_on line word.now ∷ rest))) ≡ resume new rest)
-        (BreaksAt (reads_on (library.piece_by (library.gate_on book gate (word_on line word.now ∷ rest))))) }
+        (λ new. reads_on (library.piece_by
+        (library.gate_on book gate (word_on line word.now ∷ rest))) ≡ resume new rest)
+        (BreaksAt (reads_on (library.piece_by
+        (library.gate_on book gate (word_on line word.now ∷ rest))))) }
 {
     let Some(name) = cell_name(word) else {
         return Err(LibFault::Line(line, LibKind::Expected));
@@ -155,8 +165,11 @@ fn read_area(
     requires room { HasRoom book.cells }
     requires name { IsWord 4095 name }
     ensures { (rest : List Token) → MatchResult result
-        (λ new. reads_on (library.piece_by (library.opened_by book (words.behind_name gate name (word_on line word.now ∷ rest)))) ≡ resume new rest)
-        (BreaksAt (reads_on (library.piece_by (library.opened_by book (words.behind_name gate name (word_on line word.now ∷ rest)))))) }
+        (λ new. reads_on (library.piece_by
+        (library.opened_by book (words.behind_name gate name (word_on line word.now ∷ rest))))
+        ≡ resume new rest)
+        (BreaksAt (reads_on (library.piece_by
+        (library.opened_by book (words.behind_name gate name (word_on line word.now ∷ rest)))))) }
 {
     let area = number(line, word)?;
     let heading = Heading {
@@ -182,8 +195,12 @@ fn read_function(
     requires room { HasRoom book.cells }
     requires word { IsWord 4095 word.now }
     ensures { (rest : List Token) → MatchResult result
-        (λ new. reads_on (library.piece_by (library.opened_by book (words.behind_words heading.line heading.name heading.area text (word_on line word.now ∷ rest)))) ≡ resume new rest)
-        (BreaksAt (reads_on (library.piece_by (library.opened_by book (words.behind_words heading.line heading.name heading.area text (word_on line word.now ∷ rest)))))) }
+        (λ new. reads_on (library.piece_by
+        (library.opened_by book (words.behind_words heading.line heading.name heading.area text
+        (word_on line word.now ∷ rest)))) ≡ resume new rest)
+        (BreaksAt (reads_on (library.piece_by
+        (library.opened_by book (words.behind_words heading.line heading.name heading.area text
+        (word_on line word.now ∷ rest)))))) }
 {
     let (part, behind) = around_end(word);
     if part.len() >= text.room {
@@ -210,8 +227,13 @@ fn end_function(
 ) -> Result<Progress, LibFault>
     requires room { HasRoom book.cells }
     ensures { (rest : List Token) → MatchResult result
-        (λ new. reads_on (library.piece_by (library.opened_by book (with_rest (words.left_over line left.now ++ rest) (words.entry_begun heading.line heading.name heading.area (words.with_end text line))))) ≡ resume new rest)
-        (BreaksAt (reads_on (library.piece_by (library.opened_by book (with_rest (words.left_over line left.now ++ rest) (words.entry_begun heading.line heading.name heading.area (words.with_end text line))))))) }
+        (λ new. reads_on (library.piece_by
+        (library.opened_by book (with_rest (words.left_over line left.now ++ rest)
+        (words.entry_begun heading.line heading.name heading.area (words.with_end text line)))))
+        ≡ resume new rest)
+        (BreaksAt (reads_on (library.piece_by
+        (library.opened_by book (with_rest (words.left_over line left.now ++ rest)
+        (words.entry_begun heading.line heading.name heading.area (words.with_end text line))))))) }
 {
     let entry = begin(alloc, heading, text, line)?;
     if left.is_empty() {
@@ -226,8 +248,12 @@ fn end_function(
 fn read_pin(book: Book, entry: Entry, line: u32, word: &[u8]) -> Result<Progress, LibFault>
     requires { HasRoom book.cells }
     ensures { (rest : List Token) → MatchResult result
-        (λ new. reads_on (library.piece_by (library.pin_on (library.with_open book (Some entry)) entry (word_on line word.now ∷ rest))) ≡ resume new rest)
-        (BreaksAt (reads_on (library.piece_by (library.pin_on (library.with_open book (Some entry)) entry (word_on line word.now ∷ rest))))) }
+        (λ new. reads_on (library.piece_by
+        (library.pin_on (library.with_open book (Some entry)) entry (word_on line word.now ∷ rest)))
+        ≡ resume new rest)
+        (BreaksAt (reads_on (library.piece_by
+        (library.pin_on (library.with_open book (Some entry)) entry
+        (word_on line word.now ∷ rest))))) }
 {
     let pins = target(entry.pins(), line, word)?;
     Ok(Progress {
@@ -249,8 +275,14 @@ fn read_field(
     requires room { HasRoom book.cells }
     requires small { IsSmall delay }
     ensures { (rest : List Token) → MatchResult result
-        (λ new. reads_on (library.piece_by (library.opened_by (library.with_open book (Some entry)) (words.behind_target entry pins (field ∷ fields_behind field) delay (word_on line word.now ∷ rest)))) ≡ resume new rest)
-        (BreaksAt (reads_on (library.piece_by (library.opened_by (library.with_open book (Some entry)) (words.behind_target entry pins (field ∷ fields_behind field) delay (word_on line word.now ∷ rest)))))) }
+        (λ new. reads_on (library.piece_by
+        (library.opened_by (library.with_open book (Some entry))
+        (words.behind_target entry pins (field ∷ fields_behind field) delay
+        (word_on line word.now ∷ rest)))) ≡ resume new rest)
+        (BreaksAt (reads_on (library.piece_by
+        (library.opened_by (library.with_open book (Some entry))
+        (words.behind_target entry pins (field ∷ fields_behind field) delay
+        (word_on line word.now ∷ rest)))))) }
 {
     match delay_behind(field, delay, line, word) {
         Ok(more) => Ok(behind_field(book, entry, pins, field, more)),
@@ -263,7 +295,8 @@ fn behind_field(book: Book, entry: Entry, pins: Target, field: Field, delay: Mic
     requires room { HasRoom book.cells }
     requires small { IsSmall delay }
     ensures { (rest : List Token) → resume result rest
-        ≡ reads_on (library.piece_by (library.opened_by (library.with_open book (Some entry)) (words.behind_target entry pins (fields_behind field) delay rest))) }
+        ≡ reads_on (library.piece_by (library.opened_by (library.with_open book (Some entry))
+        (words.behind_target entry pins (fields_behind field) delay rest))) }
 {
     let place = match field.next() {
         Some(next) => Place::Field(entry, pins, next, delay),

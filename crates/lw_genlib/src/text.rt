@@ -76,7 +76,9 @@ pub(crate) fn with_end(text: Text, line: u32) -> Result<(Vec<Sign>, Vec<u32>), A
 /// A word up to its first `;`, and what is behind it, if there is one.
 pub(crate) fn around_end(word: &[u8]) -> (&[u8], Option<&[u8]>)
     ensures before { result.0.now ≡ before_first words.is_end word.now }
-    ensures some { IfSome result.1 (λ rest. (list_any words.is_end word.now ≡ true) × (rest.now ≡ after_first words.is_end word.now)) }
+    ensures some { IfSome result.1
+        (λ rest. (list_any words.is_end word.now ≡ true) ×
+        (rest.now ≡ after_first words.is_end word.now)) }
     ensures none { IfNone result.1 (list_any words.is_end word.now ≡ false) }
 {
     match first_end(word) {

@@ -4,15 +4,16 @@ ghost use Rattle.lw_graph.specs.Ordered.{ordered_pair};
 use crate::Pair;
 use crate::index::{Entry, fill, found, sought};
 use crate::parts::row;
-use lw_laws::laws::tree_unfolds_once;
+use lw_laws::graphs::tree_unfolds_once;
 use lw_pool::{ClassId, Classes, FormId, Numbers, PairId, Pool};
 use std::alloc::{AllocError, Global};
 use std::marker::Model;
 
-/// A graph of classes. Each class has a number; its complement has the number with the last bit changed.
+/// A graph of classes. Each class has a number; its complement has the number with the last bit
+/// changed.
 ///
-/// The pairs of all classes stand in one pool, one class after the other. An index of them all, in their order, is made where it is asked
-/// for.
+/// The pairs of all classes stand in one pool, one class after the other. An index of them all, in
+/// their order, is made where it is asked for.
 #[derive(Drop)]
 pub struct Graph {
     one: ClassId,
@@ -53,8 +54,9 @@ impl Graph {
     ghost use Rattle.lw_laws.specs.Laws.{TreesUnfoldOnce};
     ghost use Rattle.lw_graph.specs.declared.pair.Pair.{Pair};
 
-    /// A graph with the class of true, the class of each input, the class of each base form, and the pairs of each class: those from where
-    /// the class before it ends to where it ends. It has no index yet, whose growth takes memory from `alloc`.
+    /// A graph with the class of true, the class of each input, the class of each base form, and
+    /// the pairs of each class: those from where the class before it ends to where it ends. It has
+    /// no index yet, whose growth takes memory from `alloc`.
     pub fn flat(
         alloc: Global,
         one: ClassId,
@@ -78,7 +80,8 @@ impl Graph {
         })
     }
 
-    /// Makes the index by which `holder` finds pairs, unless it is there. For want of memory there is none.
+    /// Makes the index by which `holder` finds pairs, unless it is there. For want of memory there
+    /// is none.
     pub fn make_index(&mut self) -> Result<(), AllocError>
         ensures { self.new ≡ self.old }
     {
@@ -138,14 +141,15 @@ impl Graph {
     pub fn nands(&self, class: ClassId) -> &[Pair]
         requires { class.0 < length self.now.pairs }
         ensures pairs { plain_row result.now ≡ slice_index_or self.now.pairs class.0 [] }
-        ensures within { All (λ (p : Pair). (p.x.0 < length self.now.pairs) × (p.y.0 < length self.now.pairs)) result.now }
+        ensures within { All (λ (p : Pair). (p.x.0 < length self.now.pairs) ×
+            (p.y.0 < length self.now.pairs)) result.now }
         ensures rising { AreRising (plain_row result.now) }
     {
         row(&self.pairs, self.ends.as_slice(), class.0 as usize)
     }
 
-    /// The class that holds the unordered pair of two classes, or none where no class does. It takes no memory. Without an index it looks
-    /// at each class.
+    /// The class that holds the unordered pair of two classes, or none where no class does. It
+    /// takes no memory. Without an index it looks at each class.
     pub fn holder(&self, x: ClassId, y: ClassId) -> Option<ClassId>
         requires x { x.0 < length self.now.pairs }
         requires y { y.0 < length self.now.pairs }

@@ -1,4 +1,5 @@
-// An index of the pairs of all classes, and the class that holds a pair, by the index or without it.
+// An index of the pairs of all classes, and the class that holds a pair, by the index or without
+// it.
 ghost use Rattle.std.specs.Prelude.{◌≡◌, ◌↔◌, ◌++◌, ◌<◌, ◌≤◌, ◌^◌, ℕ, [], length, map, Contains, slice_index_or, IfSome, IsNone, IsTrue, IsFalse, OnOk};
 ghost use Rattle.std.specs.List.Sorted.{IsNonDecreasingBy, IsPermutation};
 ghost use Rattle.lw_pool.specs.declared.id.ClassId.{ClassId};
@@ -45,7 +46,8 @@ fn add_rows(
     requires none { entries.old.items ≡ [] }
     requires ends { AreEnds (length pairs.now.items) 0 ends.now }
     requires few { length ends.now < 2 ^ 32 }
-    ensures { OnOk result ((e : Entry) → Contains entries.new.items e ↔ Contains (slice_index_or (rows_from pairs.now.items 0 ends.now) e.class.0 []) e.pair) }
+    ensures { OnOk result ((e : Entry) → Contains entries.new.items e ↔
+        Contains (slice_index_or (rows_from pairs.now.items 0 ends.now) e.class.0 []) e.pair) }
 {
     for class in 0..ends.len() {
         add_row(entries, ClassId(class as u32), row(pairs, ends, class))?;
@@ -113,8 +115,10 @@ fn is_among(row: &[Pair], pair: Pair) -> bool
 pub(crate) fn sought(ends: &[u32], pairs: &Pool<PairId, Pair>, pair: Pair) -> Option<ClassId>
     requires ends { AreEnds (length pairs.now.items) 0 ends.now }
     requires few { length ends.now < 2 ^ 32 }
-    ensures some { IfSome result (λ c. Contains (slice_index_or (rows_from pairs.now.items 0 ends.now) c.0 []) pair) }
-    ensures none { IsNone result → (c : ℕ) → Contains (slice_index_or (rows_from pairs.now.items 0 ends.now) c []) pair → ⊥ }
+    ensures some { IfSome result (λ c. Contains
+        (slice_index_or (rows_from pairs.now.items 0 ends.now) c.0 []) pair) }
+    ensures none { IsNone result → (c : ℕ) →
+        Contains (slice_index_or (rows_from pairs.now.items 0 ends.now) c []) pair → ⊥ }
 {
     for class in 0..ends.len() {
         if is_among(row(pairs, ends, class), pair) {

@@ -21,7 +21,8 @@ fn start_of(ends: &[u32], class: usize) -> u32
 pub(crate) fn row<'a>(pairs: &'a Pool<PairId, Pair>, ends: &[u32], class: usize) -> &'a [Pair]
     requires ends { AreEnds (length pairs.now.items) 0 ends.now }
     requires within { class < length ends.now }
-    ensures { result.now ≡ slice_range pairs.now.items (start_at 0 ends.now class) (slice_index ends.now class) }
+    ensures { result.now ≡ slice_range pairs.now.items (start_at 0 ends.now class)
+        (slice_index ends.now class) }
 {
     let start = start_of(ends, class);
     pairs.part(start, ends[class] - start)

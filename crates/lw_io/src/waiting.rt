@@ -11,7 +11,8 @@ use std::marker::Model;
 // How many bytes wait at most.
 const ROOM: usize = 2048;
 
-/// Bytes that wait to go to a sink, and whether it has failed. After that nothing more is given to it.
+/// Bytes that wait to go to a sink, and whether it has failed. After that nothing more is given to
+/// it.
 #[derive(Debug, Drop)]
 pub struct Waiting {
     bytes: [u8; ROOM],
@@ -55,7 +56,8 @@ impl Waiting {
 
 /// Gives the sink what waits.
 pub fn flush<S: Sink>(sink: &mut S, waiting: &mut Waiting)
-    ensures puts { Puts (S.taken sink.old) (S.faults sink.old) waiting.old (S.taken sink.new) (S.faults sink.new) waiting.new [] }
+    ensures puts { Puts (S.taken sink.old) (S.faults sink.old) waiting.old (S.taken sink.new)
+        (S.faults sink.new) waiting.new [] }
     ensures empty { waiting.new.failed ≡ false → waiting.new.bytes ≡ [] }
 {
     if waiting.failed {
@@ -69,7 +71,8 @@ pub fn flush<S: Sink>(sink: &mut S, waiting: &mut Waiting)
 
 /// Puts a piece behind what was put before. It takes no memory.
 pub fn put<S: Sink>(sink: &mut S, waiting: &mut Waiting, piece: &[u8])
-    ensures { Puts (S.taken sink.old) (S.faults sink.old) waiting.old (S.taken sink.new) (S.faults sink.new) waiting.new piece.now }
+    ensures { Puts (S.taken sink.old) (S.faults sink.old) waiting.old (S.taken sink.new)
+        (S.faults sink.new) waiting.new piece.now }
 {
     if piece.len() <= ROOM - waiting.used {
         waiting.keep(piece);
@@ -90,7 +93,8 @@ pub fn put<S: Sink>(sink: &mut S, waiting: &mut Waiting, piece: &[u8])
 fn put_through<S: Sink>(sink: &mut S, waiting: &mut Waiting, piece: &[u8])
     requires open { waiting.old.failed ≡ false }
     requires empty { waiting.old.bytes ≡ [] }
-    ensures { Puts (S.taken sink.old) (S.faults sink.old) waiting.old (S.taken sink.new) (S.faults sink.new) waiting.new piece.now }
+    ensures { Puts (S.taken sink.old) (S.faults sink.old) waiting.old (S.taken sink.new)
+        (S.faults sink.new) waiting.new piece.now }
 {
     match write_all(sink, piece) {
         Ok(()) => {}
@@ -100,7 +104,8 @@ fn put_through<S: Sink>(sink: &mut S, waiting: &mut Waiting, piece: &[u8])
 
 /// Gives the sink what waits, and says whether it took all that was put.
 pub fn end<S: Sink>(sink: &mut S, waiting: Waiting) -> Result<(), Failed>
-    ensures { Ends (S.taken sink.old) (S.faults sink.old) waiting (S.taken sink.new) (S.faults sink.new) result }
+    ensures { Ends (S.taken sink.old) (S.faults sink.old) waiting (S.taken sink.new)
+        (S.faults sink.new) result }
 {
     let mut waiting = waiting;
     flush(sink, &mut waiting);

@@ -9,8 +9,8 @@ use lw_genlib::Library;
 use lw_match::Cost;
 use lw_pool::CellId;
 
-/// The time of a cover, without loads, in millionths: an input arrives at its start, and a cell at the greatest of its pins'
-/// arrivals with their delays. Times are cut at 2^63 - 1.
+/// The time of a cover, without loads, in millionths: an input arrives at its start, and a cell at
+/// the greatest of its pins' arrivals with their delays. Times are cut at 2^63 - 1.
 #[derive(Drop)]
 pub struct DelayCost<'a> {
     pub lib: &'a Library,
@@ -19,7 +19,8 @@ pub struct DelayCost<'a> {
 }
 
 impl<'a> DelayCost<'a> {
-    /// The time by the delays of a library, where inputs start at these times, and at 0 past the last of them.
+    /// The time by the delays of a library, where inputs start at these times, and at 0 past the
+    /// last of them.
     pub fn new(lib: &'a Library, starts: &'a Micros) -> Self
         requires { All IsSmall starts.now }
         ensures lib { result.lib.now ≡ lib.now }
@@ -51,7 +52,8 @@ impl Cost for DelayCost<'_> {
     }
 
     fn value(&self, cell: CellId, pins: &[u64]) -> u64
-        requires { HasPins (time_cost self.now.lib.now self.now.starts.now).pin_counts cell.0 (length pins.now) }
+        requires { HasPins (time_cost self.now.lib.now self.now.starts.now).pin_counts cell.0
+            (length pins.now) }
         ensures { result ≡ (time_cost self.now.lib.now self.now.starts.now).value cell.0 pins.now }
     {
         let delays = self.lib.cell(cell).delays();

@@ -16,7 +16,8 @@ use lw_match::{Bounds, Cost, Mark, least_within};
 use lw_pattern::Patterns;
 use lw_pool::ClassId;
 
-// What the mark of a match has to be before, so that it lowers the height of a class with this label.
+// What the mark of a match has to be before, so that it lowers the height of a class with this
+// label.
 fn height_bound(label: Mark, mark: Option<Mark>) -> Mark
     ensures cost { result.cost ≡ label.cost }
     ensures height { result.height ≡ height_limit mark }
@@ -35,7 +36,8 @@ fn height_bound(label: Mark, mark: Option<Mark>) -> Mark
 pub(crate) fn start_heights(graph: &Graph, labels: &[Option<Mark>], marks: &mut [Option<Mark>])
     requires none { marks.old ≡ replicate (length graph.now.pairs) None }
     requires one_each { length labels.now ≡ length graph.now.pairs }
-    ensures { (cost : _) (pats : _) → AreLowering graph.now cost pats labels.now → AreRising graph.now cost pats labels.now marks.new }
+    ensures { (cost : _) (pats : _) → AreLowering graph.now cost pats labels.now →
+        AreRising graph.now cost pats labels.now marks.new }
 {
     for input in 0..graph.inputs() {
         let class = graph.leaf(input).0 as usize;
@@ -43,7 +45,8 @@ pub(crate) fn start_heights(graph: &Graph, labels: &[Option<Mark>], marks: &mut 
     }
 }
 
-// Gives a class the least height of a match that attains its label and whose pins have marks, where that is lower than its own.
+// Gives a class the least height of a match that attains its label and whose pins have marks, where
+// that is lower than its own.
 fn raise<C: Cost>(
     graph: &Graph,
     pats: &Patterns,
@@ -63,7 +66,8 @@ fn raise<C: Cost>(
     requires bounded { AreBoundedIn graph.now pats.now (C.costs cost.now) (costs_of labels.now) }
     requires rising { AreRising graph.now (C.costs cost.now) pats.now labels.now marks.old }
     ensures rising { AreRising graph.now (C.costs cost.now) pats.now labels.now marks.new }
-    ensures raises { Raises graph.now (C.costs cost.now) pats.now labels.now marks.old marks.new (λ c. c ≡ class.0) result }
+    ensures raises { Raises graph.now (C.costs cost.now) pats.now labels.now marks.old marks.new
+        (λ c. c ≡ class.0) result }
 {
     let Some(label) = labels[class.0 as usize] else {
         return false;
@@ -76,8 +80,8 @@ fn raise<C: Cost>(
     true
 }
 
-// Raises the odd class of a place a second time where its complement, which was raised since, may be a pin of a match of
-// less height.
+// Raises the odd class of a place a second time where its complement, which was raised since, may
+// be a pin of a match of less height.
 fn raise_again<C: Cost>(
     graph: &Graph,
     pats: &Patterns,
@@ -98,7 +102,8 @@ fn raise_again<C: Cost>(
     requires bounded { AreBoundedIn graph.now pats.now (C.costs cost.now) (costs_of labels.now) }
     requires rising { AreRising graph.now (C.costs cost.now) pats.now labels.now marks.old }
     ensures rising { AreRising graph.now (C.costs cost.now) pats.now labels.now marks.new }
-    ensures raises { Raises graph.now (C.costs cost.now) pats.now labels.now marks.old marks.new (λ c. ⊥) result }
+    ensures raises { Raises graph.now (C.costs cost.now) pats.now labels.now marks.old marks.new
+        (λ c. ⊥) result }
 {
     let class = ClassId(place * 2 + 1);
     let other = marks[(place * 2) as usize];
@@ -128,7 +133,8 @@ fn raise_pair<C: Cost>(
     requires bounded { AreBoundedIn graph.now pats.now (C.costs cost.now) (costs_of labels.now) }
     requires rising { AreRising graph.now (C.costs cost.now) pats.now labels.now marks.old }
     ensures rising { AreRising graph.now (C.costs cost.now) pats.now labels.now marks.new }
-    ensures raises { Raises graph.now (C.costs cost.now) pats.now labels.now marks.old marks.new (λ c. c / 2 ≡ place) result }
+    ensures raises { Raises graph.now (C.costs cost.now) pats.now labels.now marks.old marks.new
+        (λ c. c / 2 ≡ place) result }
 {
     let class = ClassId(place * 2 + 1);
     let first = raise(graph, pats, cost, bounds, labels, marks, class);
@@ -161,7 +167,8 @@ fn raise_place<C: Cost>(
     requires rising { AreRising graph.now (C.costs cost.now) pats.now labels.now marks.old }
     ensures visits { visits.new ≡ visits.old }
     ensures rising { AreRising graph.now (C.costs cost.now) pats.now labels.now marks.new }
-    ensures raises { Raises graph.now (C.costs cost.now) pats.now labels.now marks.old marks.new (IsVisited whole visits.old.order number) result }
+    ensures raises { Raises graph.now (C.costs cost.now) pats.now labels.now marks.old marks.new
+        (IsVisited whole visits.old.order number) result }
 {
     let Some(place) = visits.due(graph, number, whole) else {
         return false;
@@ -171,7 +178,8 @@ fn raise_place<C: Cost>(
     raised
 }
 
-// Goes once through the places, and says whether it changed a height. A whole round passes over none.
+// Goes once through the places, and says whether it changed a height. A whole round passes over
+// none.
 fn raise_round<C: Cost>(
     graph: &Graph,
     pats: &Patterns,
@@ -193,7 +201,8 @@ fn raise_round<C: Cost>(
     requires rising { AreRising graph.now (C.costs cost.now) pats.now labels.now marks.old }
     ensures visits { visits.new ≡ visits.old }
     ensures rising { AreRising graph.now (C.costs cost.now) pats.now labels.now marks.new }
-    ensures raises { Raises graph.now (C.costs cost.now) pats.now labels.now marks.old marks.new (λ c. (whole ≡ true) × (c < length graph.now.pairs)) result }
+    ensures raises { Raises graph.now (C.costs cost.now) pats.now labels.now marks.old marks.new
+        (λ c. (whole ≡ true) × (c < length graph.now.pairs)) result }
 {
     let mut changed = false;
     for number in 0..visits.len() {
@@ -205,8 +214,8 @@ fn raise_round<C: Cost>(
     changed
 }
 
-// Goes through the places that are due until that changes no height, and then through all. Says whether the last round
-// changed one.
+// Goes through the places that are due until that changes no height, and then through all. Says
+// whether the last round changed one.
 fn raise_rounds<C: Cost>(
     graph: &Graph,
     pats: &Patterns,
@@ -228,7 +237,8 @@ fn raise_rounds<C: Cost>(
     ensures visits { visits.new ≡ visits.old }
     ensures rising { AreRising graph.now (C.costs cost.now) pats.now labels.now marks.new }
     ensures falls { result ≡ true → heights_weight marks.new < heights_weight marks.old }
-    ensures reached { result ≡ false → (c : ℕ) → c < length graph.now.pairs → IsReached graph.now (C.costs cost.now) pats.now labels.now marks.new c }
+    ensures reached { result ≡ false → (c : ℕ) → c < length graph.now.pairs →
+        IsReached graph.now (C.costs cost.now) pats.now labels.now marks.new c }
 {
     while raise_round(graph, pats, cost, bounds, labels, visits, marks, false) {}
     raise_round(graph, pats, cost, bounds, labels, visits, marks, true)

@@ -37,7 +37,8 @@ impl Labels {
         Labels { marks }
     }
 
-    /// The mark of a class: the least cost of its covers, and its height. None where it has no cover.
+    /// The mark of a class: the least cost of its covers, and its height. None where it has no
+    /// cover.
     pub fn mark(&self, class: ClassId) -> Option<Mark>
         requires { class.0 < length self.now }
         ensures { result ≡ slice_index_or self.now class.0 None }
@@ -53,7 +54,8 @@ impl Labels {
     }
 }
 
-/// The least cost of a cover of each class, and the height of the class. The memory is taken first; the rounds take none.
+/// The least cost of a cover of each class, and the height of the class. The memory is taken first;
+/// the rounds take none.
 pub fn relabel<C: Cost>(
     alloc: Global,
     graph: &Graph,

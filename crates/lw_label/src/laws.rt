@@ -16,19 +16,34 @@ ghost use Rattle.lw_label.specs.Labels.{AreLeastMarks, costs_of, most_classes};
 
 /// The patterns of a library are of its cells, each with the pins of its cell.
 pub fn library_patterns_are_of_cells()
-    ensures cells { (cells : List CellParts) (starts : List Micro) (pats : List Pattern) → IsLibrary cells → pats ≡ library_patterns cells → ArePatterns (pin_counts cells) pats → AreOfCells (time_cost cells starts).pin_counts pats }
-    ensures patterns { (cells : List CellParts) (pats : List Pattern) → IsLibrary cells → ArePatterns (pin_counts cells) pats → ArePatterns (map length (delays_of_cells cells)) pats }
-    ensures truths { (cells : List CellParts) (pats : List Pattern) → IsLibrary cells → HaveCellTruths (pin_counts cells) (library_truth cells) pats → HaveCellTruths (map length (delays_of_cells cells)) (truth_of_cells cells) pats }
+    ensures cells { (cells : List CellParts) (starts : List Micro) (pats : List Pattern) →
+        IsLibrary cells → pats ≡ library_patterns cells → ArePatterns (pin_counts cells) pats →
+        AreOfCells (time_cost cells starts).pin_counts pats }
+    ensures patterns { (cells : List CellParts) (pats : List Pattern) → IsLibrary cells →
+        ArePatterns (pin_counts cells) pats →
+        ArePatterns (map length (delays_of_cells cells)) pats }
+    ensures truths { (cells : List CellParts) (pats : List Pattern) → IsLibrary cells →
+        HaveCellTruths (pin_counts cells) (library_truth cells) pats →
+        HaveCellTruths (map length (delays_of_cells cells)) (truth_of_cells cells) pats }
 {}
 
 /// No delay of a library and no start is above a million units, where each start is below that.
 pub fn library_times_are_low()
-    ensures { (cells : List CellParts) (starts : List Micro) → IsLibrary cells → All IsSmall starts → IsTimingUpTo (1000000 * 1000000) (timing_of cells starts) }
+    ensures { (cells : List CellParts) (starts : List Micro) → IsLibrary cells →
+        All IsSmall starts → IsTimingUpTo (1000000 * 1000000) (timing_of cells starts) }
 {}
 
-/// Labels of times stay below a million units for each class and one more, and below the greatest time in a graph of so many
-/// classes.
+/// Labels of times stay below a million units for each class and one more, and below the greatest
+/// time in a graph of so many classes.
 pub fn times_stay_low()
-    ensures low { (g : Graph) (cells : List CellParts) (starts : List Micro) (pats : List Pattern) (marks : List (Option Mark)) → IsGraph g → IsLibrary cells → All IsSmall starts → AreOfCells (time_cost cells starts).pin_counts pats → AreLeastMarks g (time_cost cells starts) pats marks → (c l : ℕ) → labels_in (costs_of marks) c ≡ Some l → l < (length g.pairs + 1) * (1000000 * 1000000) }
-    ensures cap { (g : Graph) (cells : List CellParts) (starts : List Micro) (pats : List Pattern) (marks : List (Option Mark)) → IsGraph g → IsLibrary cells → All IsSmall starts → AreOfCells (time_cost cells starts).pin_counts pats → length g.pairs ≤ most_classes → AreLeastMarks g (time_cost cells starts) pats marks → (c l : ℕ) → labels_in (costs_of marks) c ≡ Some l → l < most_time }
+    ensures low { (g : Graph) (cells : List CellParts) (starts : List Micro) (pats : List Pattern)
+        (marks : List (Option Mark)) → IsGraph g → IsLibrary cells → All IsSmall starts →
+        AreOfCells (time_cost cells starts).pin_counts pats →
+        AreLeastMarks g (time_cost cells starts) pats marks → (c l : ℕ) →
+        labels_in (costs_of marks) c ≡ Some l → l < (length g.pairs + 1) * (1000000 * 1000000) }
+    ensures cap { (g : Graph) (cells : List CellParts) (starts : List Micro) (pats : List Pattern)
+        (marks : List (Option Mark)) → IsGraph g → IsLibrary cells → All IsSmall starts →
+        AreOfCells (time_cost cells starts).pin_counts pats → length g.pairs ≤ most_classes →
+        AreLeastMarks g (time_cost cells starts) pats marks → (c l : ℕ) →
+        labels_in (costs_of marks) c ≡ Some l → l < most_time }
 {}

@@ -60,9 +60,11 @@ fn lower_mark<C: Cost>(
     requires fits { BoundsFit bounds.now pats.now graph.now }
     requires lowering { AreLowering graph.now (C.costs cost.now) pats.now marks.old }
     ensures lowering { AreLowering graph.now (C.costs cost.now) pats.now marks.new }
-    ensures falls { result ≡ true → weight (C.costs cost.now) marks.new < weight (C.costs cost.now) marks.old }
+    ensures falls { result ≡ true →
+        weight (C.costs cost.now) marks.new < weight (C.costs cost.now) marks.old }
     ensures same { result ≡ false → marks.new ≡ marks.old }
-    ensures bounded { result ≡ false → AreBounds bounds.now graph.now marks.old → IsBounded graph.now (C.costs cost.now) pats.now marks.old class.0 }
+    ensures bounded { result ≡ false → AreBounds bounds.now graph.now marks.old →
+        IsBounded graph.now (C.costs cost.now) pats.now marks.old class.0 }
 {
     let old = marks[class.0 as usize];
     let Some(best) = least_within(graph, pats, bounds, marks, class, cost, old) else {
@@ -98,7 +100,8 @@ fn lower<C: Cost>(
     requires lowering { AreLowering graph.now (C.costs cost.now) pats.now marks.old }
     ensures fits { BoundsFit bounds.new pats.now graph.now }
     ensures lowering { AreLowering graph.now (C.costs cost.now) pats.now marks.new }
-    ensures lowers { Lowers graph.now (C.costs cost.now) pats.now (state bounds.old marks.old) (state bounds.new marks.new) (λ c. c ≡ class.0) result }
+    ensures lowers { Lowers graph.now (C.costs cost.now) pats.now (state bounds.old marks.old)
+        (state bounds.new marks.new) (λ c. c ≡ class.0) result }
 {
     let renewed = bounds.renew(graph, marks, class);
     let lowered = lower_mark(graph, pats, cost, bounds, marks, class);
@@ -114,7 +117,8 @@ pub(crate) fn is_ahead(mark: Option<Mark>, other: Option<Mark>) -> bool {
     }
 }
 
-// Lowers the odd class of a place a second time where its complement, which was lowered since, may be a pin of a better match.
+// Lowers the odd class of a place a second time where its complement, which was lowered since, may
+// be a pin of a better match.
 fn lower_again<C: Cost>(
     graph: &Graph,
     pats: &Patterns,
@@ -131,7 +135,8 @@ fn lower_again<C: Cost>(
     requires lowering { AreLowering graph.now (C.costs cost.now) pats.now marks.old }
     ensures fits { BoundsFit bounds.new pats.now graph.now }
     ensures lowering { AreLowering graph.now (C.costs cost.now) pats.now marks.new }
-    ensures lowers { Lowers graph.now (C.costs cost.now) pats.now (state bounds.old marks.old) (state bounds.new marks.new) (λ c. ⊥) result }
+    ensures lowers { Lowers graph.now (C.costs cost.now) pats.now (state bounds.old marks.old)
+        (state bounds.new marks.new) (λ c. ⊥) result }
 {
     let _ = graph.classes();
     let class = ClassId(place * 2 + 1);
@@ -158,7 +163,8 @@ fn lower_pair<C: Cost>(
     requires lowering { AreLowering graph.now (C.costs cost.now) pats.now marks.old }
     ensures fits { BoundsFit bounds.new pats.now graph.now }
     ensures lowering { AreLowering graph.now (C.costs cost.now) pats.now marks.new }
-    ensures lowers { Lowers graph.now (C.costs cost.now) pats.now (state bounds.old marks.old) (state bounds.new marks.new) (λ c. c / 2 ≡ place) result }
+    ensures lowers { Lowers graph.now (C.costs cost.now) pats.now (state bounds.old marks.old)
+        (state bounds.new marks.new) (λ c. c / 2 ≡ place) result }
 {
     let _ = graph.classes();
     let class = ClassId(place * 2 + 1);
@@ -188,7 +194,8 @@ fn lower_place<C: Cost>(
     ensures visits { visits.new ≡ visits.old }
     ensures fits { BoundsFit bounds.new pats.now graph.now }
     ensures lowering { AreLowering graph.now (C.costs cost.now) pats.now marks.new }
-    ensures lowers { Lowers graph.now (C.costs cost.now) pats.now (state bounds.old marks.old) (state bounds.new marks.new) (IsVisited whole visits.old.order number) result }
+    ensures lowers { Lowers graph.now (C.costs cost.now) pats.now (state bounds.old marks.old)
+        (state bounds.new marks.new) (IsVisited whole visits.old.order number) result }
 {
     let Some(place) = visits.due(graph, number, whole) else {
         return false;
@@ -198,7 +205,8 @@ fn lower_place<C: Cost>(
     lowered
 }
 
-// Goes once through the places, and says whether it changed a number or a mark. A whole round passes over none.
+// Goes once through the places, and says whether it changed a number or a mark. A whole round
+// passes over none.
 fn lower_round<C: Cost>(
     graph: &Graph,
     pats: &Patterns,
@@ -216,7 +224,8 @@ fn lower_round<C: Cost>(
     ensures visits { visits.new ≡ visits.old }
     ensures fits { BoundsFit bounds.new pats.now graph.now }
     ensures lowering { AreLowering graph.now (C.costs cost.now) pats.now marks.new }
-    ensures lowers { Lowers graph.now (C.costs cost.now) pats.now (state bounds.old marks.old) (state bounds.new marks.new) (λ c. (whole ≡ true) × (c < length graph.now.pairs)) result }
+    ensures lowers { Lowers graph.now (C.costs cost.now) pats.now (state bounds.old marks.old)
+        (state bounds.new marks.new) (λ c. (whole ≡ true) × (c < length graph.now.pairs)) result }
 {
     let _ = graph.classes();
     let mut changed = false;
@@ -227,8 +236,8 @@ fn lower_round<C: Cost>(
     changed
 }
 
-// Goes through the places that are due until that changes nothing, and then through all. Says whether the last round changed
-// something.
+// Goes through the places that are due until that changes nothing, and then through all. Says
+// whether the last round changed something.
 fn lower_rounds<C: Cost>(
     graph: &Graph,
     pats: &Patterns,
@@ -245,8 +254,12 @@ fn lower_rounds<C: Cost>(
     ensures visits { visits.new ≡ visits.old }
     ensures fits { BoundsFit bounds.new pats.now graph.now }
     ensures lowering { AreLowering graph.now (C.costs cost.now) pats.now marks.new }
-    ensures falls { result ≡ true → state_weight (C.costs cost.now) (state bounds.new marks.new) < state_weight (C.costs cost.now) (state bounds.old marks.old) }
-    ensures labelled { result ≡ false → (c : ℕ) → c < length graph.now.pairs → IsLabelled graph.now (C.costs cost.now) pats.now (state bounds.new marks.new) c }
+    ensures falls { result ≡ true →
+        state_weight (C.costs cost.now)
+        (state bounds.new marks.new) < state_weight (C.costs cost.now)
+        (state bounds.old marks.old) }
+    ensures labelled { result ≡ false → (c : ℕ) → c < length graph.now.pairs →
+        IsLabelled graph.now (C.costs cost.now) pats.now (state bounds.new marks.new) c }
 {
     while lower_round(graph, pats, cost, visits, bounds, marks, false) {}
     lower_round(graph, pats, cost, visits, bounds, marks, true)

@@ -6,8 +6,8 @@ use lw_graph::Graph;
 use lw_pool::ClassId;
 use std::alloc::{AllocError, Global};
 
-// A walk in depth over places, each of which is a class with its complement. The parts of a place are the places of the
-// classes in its pairs.
+// A walk in depth over places, each of which is a class with its complement. The parts of a place
+// are the places of the classes in its pairs.
 #[derive(Drop)]
 pub(crate) struct Walk {
     // how many parts of each place were looked at
@@ -67,13 +67,14 @@ impl Walk {
         Ok(())
     }
 
-    // Looks at the next part of the place at the end of the path, or leaves that place if there is none. False where the path
-    // has no place.
+    // Looks at the next part of the place at the end of the path, or leaves that place if there is
+    // none. False where the path has no place.
     fn step(&mut self, graph: &Graph) -> Result<bool, AllocError>
         requires { IsWalk (places_of graph.now) self.old }
         ensures walk { OnOk result (IsWalk (places_of graph.now) self.new) }
         ensures stays { OnOk result (StaysEntered self.old self.new) }
-        ensures falls { IfOk result (λ more. more ≡ true → steps_left self.new < steps_left self.old) }
+        ensures falls { IfOk result (λ more. more ≡ true →
+            steps_left self.new < steps_left self.old) }
         ensures ends { IfOk result (λ more. more ≡ false → self.new.path.items ≡ []) }
     {
         let Some(place) = self.path.pop() else {
@@ -105,8 +106,8 @@ impl Walk {
     }
 }
 
-// All places of a graph, those of its parts before a place wherever no cycle leads back to it: then most marks settle the first
-// time. It takes time in the number of places and pairs.
+// All places of a graph, those of its parts before a place wherever no cycle leads back to it: then
+// most marks settle the first time. It takes time in the number of places and pairs.
 pub(crate) fn order_of(alloc: Global, graph: &Graph) -> Result<Vec<u32>, AllocError>
     ensures { IfOk result (λ order. IsOrder (places_of graph.now) order.items) }
 {

@@ -8,9 +8,10 @@ use lw_pool::ClassId;
 use std::alloc::{AllocError, Global};
 use std::marker::Model;
 
-// The order of visits, by places, each of which is a class with its complement; and when each place was visited last and when
-// something changed there, or in its parts, their parts and so on. Times are numbers of visits. They decide what is passed over,
-// and so how fast labels come, but not which: what rests on nothing being left to change is a round that passes over nothing.
+// The order of visits, by places, each of which is a class with its complement; and when each place
+// was visited last and when something changed there, or in its parts, their parts and so on. Times
+// are numbers of visits. They decide what is passed over, and so how fast labels come, but not
+// which: what rests on nothing being left to change is a round that passes over nothing.
 #[derive(Drop)]
 pub(crate) struct Visits {
     order: Vec<u32>,
@@ -90,8 +91,9 @@ impl Visits {
         self.seen.fill(0);
     }
 
-    // The place of a visit of a round, if it is to be visited: in a whole round, or where it was not yet, or where a part has
-    // changed since. A change of a part counts from now on as one of the place, for the places that it is a part of.
+    // The place of a visit of a round, if it is to be visited: in a whole round, or where it was
+    // not yet, or where a part has changed since. A change of a part counts from now on as one of
+    // the place, for the places that it is a part of.
     pub(crate) fn due(&mut self, graph: &Graph, number: usize, whole: bool) -> Option<u32>
         requires number { number < length self.old.order }
         requires places { self.old.places ≡ places_of graph.now }
@@ -110,8 +112,8 @@ impl Visits {
         None
     }
 
-    // Takes note of a visit of a place, and whether it changed something. Such a change is later than the visit, so that a place
-    // that is a part of its own parts is visited again.
+    // Takes note of a visit of a place, and whether it changed something. Such a change is later
+    // than the visit, so that a place that is a part of its own parts is visited again.
     pub(crate) fn note(&mut self, place: u32, changed: bool)
         requires { place < self.old.places }
         ensures { self.new ≡ self.old }

@@ -79,7 +79,7 @@ module _ (timing : Timing) (pats : List Pattern) (patterns : ArePatterns (map le
 
 module _ (mode : Mode) (width : ℕ) (net : Network) (g : Graph) (wide : 2 ≤ width) (graph_is : IsGraphOf mode net.inputs (listing_of width net) g) where
   -- the trees of an input's class have the input's leaf
-  input_leaf : (i c : ℕ) (t : Tree) → slice_get g.leaves i ≡ Some c → Unfolds g t c → HasLeaf t i
+  pub input_leaf : (i c : ℕ) (t : Tree) → slice_get g.leaves i ≡ Some c → Unfolds g t c → HasLeaf t i
   input_leaf i c t at u =
       let o = listing_of width net in
       let is = occurring_is_listing width wide net in

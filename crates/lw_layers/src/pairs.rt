@@ -11,7 +11,8 @@ use std::test::Fail;
 
 const NETWORK: &str = ".model and3\n.inputs a b c\n.outputs f\n.names a b c f\n111 1\n";
 
-// The graph of the network's forms: true, three inputs, three Ands of two and the And, each with its complement.
+// The graph of the network's forms: true, three inputs, three Ands of two and the And, each with
+// its complement.
 fn graph(alloc: Global) -> Result<Graph, Fail>
     ensures { IfOk result (λ g. length g.pairs ≡ 16) }
 {

@@ -32,6 +32,7 @@ use Rattle.lw_match.specs.Values.{plain_mark, numbers}
 use Rattle.lw_label.specs.Delays.{most_time, time_cost}
 use Rattle.lw_label.specs.Labels.{cost_in, costs_of, most_classes, AreLeastMarks}
 use Rattle.lw_label.proofs.Marked.{label_at}
+use Rattle.lw_settle.specs.Steps.{AreSteps}
 use Rattle.lw_netlist.specs.Netlists.{IsNetlist}
 use Rattle.lw_netlist.specs.Plain.{plain_gate}
 use Rattle.lw_netlist.specs.Plain.{plain as plain_netlist}
@@ -47,11 +48,17 @@ use Rattle.lw_map.specs.Ports.{ArePortsOf}
 use Rattle.lw_map.specs.Mappings.{IsMappingOf}
 use Rattle.lw_map.proofs.CoverNetlists.{port_name, cover_is_netlist}
 use Rattle.lw_map.proofs.GateCount.{few_gates}
+use Rattle.lw_map.proofs.Leaves.{start_is_least}
 use Rattle.lw_map.proofs.PortNames.{few_outputs}
 
 port_names : (net : NetworkParts) (outputs : List NetId) → map (name_in net) outputs ≡ map port_name (map (output_port net) outputs)
 port_names net [] = refl
 port_names net (o ∷ outputs) = ap (λ (names : List (List ℕ)). name_in net o ∷ names) (port_names net outputs)
+
+-- the start of an input is the least time of the input's class
+pub leaves_least : (net : NetworkParts) (starts : List Micro) (c : Choices) → AreChoices net c → (cells : List CellParts) (pats : List Pattern) → pats ≡ library_patterns cells → ArePatterns (map length (delays_of_cells cells)) (library_patterns cells) → (i k : ℕ) → slice_get c.graph.leaves i ≡ Some k → IsLeastCover c.graph pats (time_cost cells starts) k (Some ((time_cost cells starts).leaf i))
+leaves_least net starts c are cells pats pats_are patterns i k at =
+    subst (λ ps. IsLeastCover c.graph ps (time_cost cells starts) k (Some ((time_cost cells starts).leaf i))) (sym pats_are) (start_is_least (plain_options c.options).mode (plain_options c.options).width (network.plain net) c.graph are.wide.least are.graph (library_patterns cells) (timing_of cells starts) most_time patterns i k at)
 
 -- the choices and the ports of a network
 module _ (net : NetworkParts) (starts : List Micro) (c : Choices) (ports : Ports) (kept : IsNetwork net) (are : AreChoices net c) (named : ArePortsOf net c ports) where
@@ -92,9 +99,9 @@ module _ (net : NetworkParts) (starts : List Micro) (c : Choices) (ports : Ports
     leaf_labels patterns k i at =
         input_label options.mode options.width (network.plain net) c.graph are.wide.least are.graph (library_patterns cells) (timing_of cells starts) most_time patterns i k (labels_in (costs_of marks) k) at (own_least.least k)
 
-    pub cover_maps : (cover : NetlistCover) → IsNetlist cover.netlist → IsCoverOf c.graph (time_cost cells starts) pats marks ports cover → IsMappingOf cells net starts c (record { netlist = cover.netlist; classes = cover.classes; labels = marks })
+    pub cover_maps : (steps : Option ℕ) → AreSteps c.graph pats (labels_in (costs_of marks)) steps → (cover : NetlistCover) → IsNetlist cover.netlist → IsCoverOf c.graph (time_cost cells starts) pats marks ports cover → IsMappingOf cells net starts c (record { netlist = cover.netlist; classes = cover.classes; labels = marks; steps = steps })
     unfolding cover_is_netlist
-    cover_maps cover own is = record {
+    cover_maps steps read cover own is = record {
       mapped = record {
         kept = own;
         model_name = is.model ∙ named.model;
@@ -105,6 +112,7 @@ module _ (net : NetworkParts) (starts : List Micro) (c : Choices) (ports : Ports
       labels = refl;
       gates = refl;
       one_each = least.one_each;
+      steps = subst (λ ps. AreSteps c.graph ps (labels_in (costs_of marks)) steps) pats_are read;
     }
 
     -- there are few gates

@@ -12,3 +12,4 @@ mod Roots
 mod ChoiceLemmas
 mod GateCount
 mod Composed
+pub mod Leaves

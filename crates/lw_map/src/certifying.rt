@@ -30,7 +30,8 @@ fn nets_of(alloc: Global, classes: &[ClassId]) -> Result<OptClasses, AllocError>
     Ok(OptClasses::from_vec(nets))
 }
 
-/// The certificate of a mapping: the label of each class that has one, whether the netlist uses it or not, and the class of each gate.
+/// The certificate of a mapping: the label of each class that has one, whether the netlist uses it
+/// or not, and the class of each gate.
 pub fn certificate(
     alloc: Global,
     labels: &Labels,

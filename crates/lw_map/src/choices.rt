@@ -14,8 +14,8 @@ use lw_net::Network;
 use lw_pool::Classes;
 use std::alloc::{AllocError, Global};
 
-/// The choices of decomposition that a network leaves under these options: how many base forms occur, the graph of their classes,
-/// and the class of each output.
+/// The choices of decomposition that a network leaves under these options: how many base forms
+/// occur, the graph of their classes, and the class of each output.
 #[derive(Drop)]
 pub struct Choices {
     pub options: Options,
@@ -28,7 +28,8 @@ pub struct Choices {
 fn roots(alloc: Global, net: &Network, forms: &Forms, graph: &Graph) -> Result<Classes, AllocError>
     requires sops { length forms.now.sops ≡ length net.now.names }
     requires bases { length graph.now.forms ≡ length forms.now.bases }
-    ensures roots { IfOk result (λ roots. numbers roots ≡ map (root_of forms.now graph.now) net.now.outputs) }
+    ensures roots { IfOk result (λ roots. numbers roots
+        ≡ map (root_of forms.now graph.now) net.now.outputs) }
     ensures within { IfOk result (All (λ (root : ClassId). root.0 < length graph.now.pairs)) }
 {
     let _ = forms.nets();
@@ -40,7 +41,8 @@ fn roots(alloc: Global, net: &Network, forms: &Forms, graph: &Graph) -> Result<C
     Ok(Classes::from_vec(roots))
 }
 
-/// The choices of decomposition of a network. `Forms` and `Splits` come exactly where there are more than are dealt with.
+/// The choices of decomposition of a network. `Forms` and `Splits` come exactly where there are
+/// more than are dealt with.
 pub fn decompose(alloc: Global, net: &Network, options: Options) -> Result<Choices, MapFault>
     requires { IsWide (plain_options options) }
     ensures choices { IfOk result (λ c. (c.options ≡ options) × AreChoices net.now c) }

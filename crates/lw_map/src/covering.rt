@@ -11,24 +11,28 @@ ghost use Rattle.lw_map.specs.Ports.{ArePortsOf};
 ghost use Rattle.lw_map.specs.Mappings.{IsMappingOf};
 ghost use Rattle.lw_map.specs.Faults.{IsCoverFault};
 
+use crate::labelling::label;
 use crate::naming::{input_names, output_name, output_names};
 use crate::{Choices, MapFault};
 use lw_extract::{ExtractFault, Ports, extract};
 use lw_fixed::Micros;
 use lw_genlib::Library;
-use lw_label::{DelayCost, Labels, relabel};
+use lw_label::{DelayCost, Labels};
 use lw_net::Network;
 use lw_netlist::Netlist;
 use lw_pattern::patterns;
 use lw_pool::{Classes, Name};
 use std::alloc::{AllocError, Global};
 
-/// The netlist that a network is mapped to, with the class of each gate and the labels of all classes.
+/// The netlist that a network is mapped to, with the class of each gate and the labels of all
+/// classes, and how often a stored match was read to find them: none where there are too many
+/// matches to store.
 #[derive(Drop)]
 pub struct Mapping {
     pub netlist: Netlist,
     pub classes: Classes,
     pub labels: Labels,
+    pub steps: Option<u64>,
 }
 
 // The ports at which the graph of a network is covered.
@@ -47,9 +51,9 @@ fn ports(alloc: Global, net: &Network, choices: &Choices) -> Result<Ports, Alloc
     })
 }
 
-/// Covers the choices of a network by cells of a library: each class gets the least time of its covers from the starts of the
-/// inputs on, and the chosen matches of the needed classes are the gates. `NoCover` tells the first output that has no cover, and
-/// comes exactly where there is one.
+/// Covers the choices of a network by cells of a library: each class gets the least time of its
+/// covers from the starts of the inputs on, and the chosen matches of the needed classes are the
+/// gates. `NoCover` tells the first output that has no cover, and comes exactly where there is one.
 pub fn cover(
     alloc: Global,
     lib: &Library,
@@ -69,7 +73,8 @@ pub fn cover(
     let _ = net.inputs();
     let pats = patterns(alloc, lib)?;
     let cost = DelayCost::new(lib, starts);
-    let labels = relabel(alloc, &choices.graph, &pats, &cost)?;
+    let labelled = label(alloc, &choices.graph, &pats, &cost)?;
+    let labels = labelled.labels;
     let ports = ports(alloc, net, choices)?;
     match extract(alloc, &choices.graph, &pats, lib, &labels, &ports, &cost) {
         Ok(cover) => {
@@ -78,6 +83,7 @@ pub fn cover(
                 netlist: cover.netlist,
                 classes: cover.classes,
                 labels,
+                steps: labelled.steps,
             })
         }
         Err(ExtractFault::NoCover(place)) => Err(MapFault::NoCover(output_name(

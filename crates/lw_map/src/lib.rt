@@ -5,6 +5,7 @@ mod certifying;
 mod choices;
 mod covering;
 mod fault;
+mod labelling;
 mod naming;
 mod options;
 

@@ -37,7 +37,8 @@ fn name_of(alloc: Global, net: &Network, id: NetId) -> Result<Name, AllocError>
 /// The name of the output at a place.
 pub(crate) fn output_name(alloc: Global, net: &Network, place: u32) -> Result<Name, AllocError>
     requires { place < length net.now.outputs }
-    ensures { IfOk result (λ name. (output : Net) → slice_get net.now.outputs place ≡ Some output → name ≡ name_in net.now output) }
+    ensures { IfOk result (λ name. (output : Net) → slice_get net.now.outputs place ≡ Some output →
+        name ≡ name_in net.now output) }
 {
     name_of(alloc, net, net.outputs()[place as usize])
 }

@@ -7,7 +7,7 @@ use Rattle.std.specs.Cmp.Lexicographic.{bytes_decides}
 use Rattle.std.proofs.lemmas.Bool.Decides.{nat_tests}
 use Rattle.std.proofs.lemmas.List.Sums.{position_or_len_is}
 use Rattle.lw_genlib.specs.Cells.{CellParts, names_of}
-use Rattle.lw_netlist.proofs.Names.{alike, differ_back}
+use Rattle.lw_dag.proofs.Names.{alike, differ_back}
 use Rattle.lw_mapped.specs.declared.fault.MappedKind.TheVariants as kind
 use Rattle.lw_mapped.specs.declared.saying.Saying.TheVariants as saying
 use Rattle.lw_mapped.specs.GateLines.{ties_fault, gate_of}

@@ -18,7 +18,7 @@ use Rattle.lw_netlist.specs.Closing.{IsClosed, IsNetOf, by_depth, closed_gate, d
 use Rattle.lw_netlist.specs.Closing.IsNetOf.{at_input, at_gate, at_wire}
 use Rattle.lw_netlist.specs.Netlists.{NetlistParts}
 use Rattle.lw_netlist.proofs.Names.{once_distinct, drivers_are, to_of}
-use Rattle.lw_netlist.proofs.Numbering.{none_undriven, none_split, distinct_moved}
+use Rattle.lw_dag.proofs.Numbering.{none_unknown, none_split, distinct_moved}
 use Rattle.lw_netlist.proofs.Paths.{driven_needs}
 use Rattle.lw_netlist.proofs.Starting.{bare_gate, link_of_gate}
 use Rattle.lw_mapped.proofs.Places.{get-left, get-right, one-place, get-contains, contains-get, contains-map, map-get}
@@ -112,7 +112,7 @@ module _ (draft : GateDraft) (n : NetlistParts) (a : IsClosed draft n) where
   known = none_split (drivers draft) (flat_map needs_of (links draft)) draft.outputs a.driven
 
   pub outputs-known : All (Contains (drivers draft)) draft.outputs
-  outputs-known = none_undriven (drivers draft) draft.outputs known.1
+  outputs-known = none_unknown (drivers draft) draft.outputs known.1
 
   pub pins-known : (gate : DraftGate) → Contains draft.gates gate → All (Contains (drivers draft)) gate.pins
   pins-known gate (j, lt, e) =
@@ -130,7 +130,7 @@ module _ (draft : GateDraft) (n : NetlistParts) (a : IsClosed draft n) where
   abbrev keys : List (List ℕ)
   keys = ends ++ map to_of draft.wires
 
-  keys-distinct : IsDistinct bytes_eq keys
+  pub keys-distinct : IsDistinct bytes_eq keys
   keys-distinct =
       distinct_moved ((draft.inputs ++ map out_of draft.gates) ++ map to_of draft.wires) keys
       (IsPermutation-append_left (map to_of draft.wires) (draft.inputs ++ map out_of draft.gates) ends (IsPermutation-append_right draft.inputs (map out_of draft.gates) (map out_of order) (IsPermutation-map out_of draft.gates order (IsPermutation-sym order draft.gates moved))))
@@ -184,7 +184,7 @@ module _ (draft : GateDraft) (n m : NetlistParts) (a : IsClosed draft n) (b : Is
       (λ k d lt. let gate = get_or draft.gates k d in agree-below (suc (a.depth gate.out)) gate.out (out-known draft n a gate (k, lt, get_or_default draft.gates k gate d lt)) (omega arith))
 
   -- a wire that drives a name
-  record IsWired (name : List ℕ) (net : ℕ) : Type 0 where
+  pub record IsWired (name : List ℕ) (net : ℕ) : Type 0 where
     wire : Wire
     place : ℕ
     at : slice_get draft.wires place ≡ Some wire
@@ -192,7 +192,7 @@ module _ (draft : GateDraft) (n m : NetlistParts) (a : IsClosed draft n) (b : Is
     rest : IsNetOf draft (by_depth a.depth draft.gates) wire.from net
 
   -- the net starts at the name, or a wire drives it
-  start-or-wire : (name : List ℕ) (net : ℕ) → IsNetOf draft (by_depth a.depth draft.gates) name net → (slice_get (ends draft n a) net ≡ Some name) ⊎ IsWired name net
+  pub start-or-wire : (name : List ℕ) (net : ℕ) → IsNetOf draft (by_depth a.depth draft.gates) name net → (slice_get (ends draft n a) net ≡ Some name) ⊎ IsWired name net
   start-or-wire name net (at_input place e) = inl (get-left draft.inputs (map out_of (by_depth a.depth draft.gates)) place name e)
   start-or-wire name net (at_gate place e) = inl (get-right draft.inputs (map out_of (by_depth a.depth draft.gates)) place name e)
   start-or-wire name net (at_wire wire among to rest) =
@@ -210,7 +210,7 @@ module _ (draft : GateDraft) (n m : NetlistParts) (a : IsClosed draft n) (b : Is
   start-key : (net : ℕ) (name : List ℕ) → slice_get (ends draft n a) net ≡ Some name → slice_get (keys draft n a) net ≡ Some name
   start-key net name e = get-left (ends draft n a) (map to_of draft.wires) net name e
 
-  start-alone : (name : List ℕ) (net other : ℕ) → slice_get (ends draft n a) net ≡ Some name → (slice_get (ends draft n a) other ≡ Some name) ⊎ IsWired name other → net ≡ other
+  pub start-alone : (name : List ℕ) (net other : ℕ) → slice_get (ends draft n a) net ≡ Some name → (slice_get (ends draft n a) other ≡ Some name) ⊎ IsWired name other → net ≡ other
   start-alone name net other e (inl f) = one-place (keys draft n a) net other name (keys-distinct draft n a) (start-key net name e) (start-key other name f)
   start-alone name net other e (inr w) =
       let same = one-place (keys draft n a) net (length (ends draft n a) + w.place) name (keys-distinct draft n a) (start-key net name e) (wire-key w.place w.wire name w.at w.to) in

@@ -26,7 +26,8 @@ use Rattle.lw_netlist.specs.Closing.Reaches.{by_step, by_path}
 use Rattle.lw_netlist.specs.Netlists.{NetlistParts, IsNetlist, IsGateAt}
 use Rattle.lw_netlist.specs.Numbered.{number_in}
 use Rattle.lw_netlist.specs.Plain.{plain, plain_gate, net_number}
-use Rattle.lw_netlist.proofs.Names.{alike, differ_back, to_of}
+use Rattle.lw_dag.proofs.Names.{alike, differ_back}
+use Rattle.lw_netlist.proofs.Names.{to_of}
 use Rattle.lw_mapped.specs.Readable.{ports_of}
 use Rattle.lw_mapped.specs.Texts.{net_name, port_name}
 use Rattle.lw_mapped.proofs.Driving as back

@@ -32,7 +32,7 @@ use Rattle.lw_mapped.specs.Texts.{names_of_inputs, names_of_outputs, port_name, 
 use Rattle.lw_mapped.specs.Unmapped.{IsSaid, ClosesTo, draft_said, frame_said}
 use Rattle.lw_mapped.specs.Made.{IsMade}
 
-port-names : (net : List ℕ → ℕ) (names : List (List ℕ)) → map port_name (map (port_at net) names) ≡ names
+pub port-names : (net : List ℕ → ℕ) (names : List (List ℕ)) → map port_name (map (port_at net) names) ≡ names
 port-names net [] = refl
 port-names net (name ∷ names) = ap (λ ns. name ∷ ns) (port-names net names)
 

@@ -65,7 +65,7 @@ module _ (depth : List ℕ → ℕ) where
       (ranked-up (low + 1) m gates)
 
   -- a gate that stands before another is no deeper
-  rising-at : (gates : List DraftGate) → AreRising at gates → (i j : ℕ) (x y : DraftGate) → slice_get gates i ≡ Some x → slice_get gates j ≡ Some y → i ≤ j → at x ≤ at y
+  pub rising-at : (gates : List DraftGate) → AreRising at gates → (i j : ℕ) (x y : DraftGate) → slice_get gates i ≡ Some x → slice_get gates j ≡ Some y → i ≤ j → at x ≤ at y
   rising-at [] up i j x y e f le = cc
   rising-at (gate ∷ gates) up zero zero x y e f le =
       let first : gate ≡ x = cc in
@@ -90,10 +90,10 @@ module _ (draft : GateDraft) (n : NetlistParts) (a : IsClosed draft n) where
   many : length order ≡ length draft.gates
   many = sym (length_permutation order draft.gates (moved draft n a))
 
-  many-ends : length ends ≡ m + length order
+  pub many-ends : length ends ≡ m + length order
   many-ends = length-append draft.inputs (map out_of order) ∙ ap (λ k. m + k) (length-map order out_of)
 
-  sorted : AreRising (λ (gate : DraftGate). a.depth gate.out) order
+  pub sorted : AreRising (λ (gate : DraftGate). a.depth gate.out) order
   sorted = ranked-up a.depth 1 (greatest (map (λ (gate : DraftGate). a.depth gate.out) draft.gates)) draft.gates
 
   -- a gate that is as deep as the name drives the net

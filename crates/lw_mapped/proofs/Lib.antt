@@ -19,6 +19,7 @@ pub mod Kept
 pub mod LabelLemmas
 pub mod Limits
 pub mod Loops
+pub mod NamedNets
 pub mod Once
 pub mod Places
 pub mod Printing
@@ -27,11 +28,14 @@ pub mod ReadBack
 pub mod ReadKept
 pub mod ReadingLemmas
 pub mod SaidBack
+pub mod SaidLines
+pub mod SaidNames
 pub mod Sizes
 pub mod Speaking
 pub mod StandingFor
 pub mod TextExamples
 pub mod TextParts
+pub mod TextWords
 pub mod TieLemmas
 pub mod Weights
 pub mod WordLists

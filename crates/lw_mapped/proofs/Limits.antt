@@ -1,6 +1,6 @@
 -- Times, labels and class numbers that lines say are within their limits.
 use Rattle.std.proofs.Common.{ℕ, ◌≡◌, ◌<◌, ◌≤◌, ◌+◌, ◌*◌, ◌^◌, ◌==◌, ◌&&◌, Bool, true, false, not, max, cond, nat_lt, List, [], ◌∷◌, ◌++◌, length, map, take, drop, get_or, filter, reverse, replicate, Option, Some, None, Result, Ok, Err, All, refl, ap, ◌∙◌, subst, arith, length-take}
-use Rattle.std.specs.Prelude.{nat_le, codes, decimal, position, slice_get, unwrap_or}
+use Rattle.std.specs.Prelude.{nat_le, decimal, unwrap_or}
 use Rattle.std.specs.Char.{is_ascii_digit}
 use Rattle.std.specs.List.{flat_map, list_all, AllByRecursion as Each}
 use Rattle.std.specs.Option.{IfSome}
@@ -17,22 +17,21 @@ use Rattle.lw_fixed.specs.declared.fault.DecimalFault.{DecimalFault}
 use Rattle.lw_fixed.specs.declared.fault.DecimalFault.TheVariants.{Shape, Large, Fine, Negative}
 use Rattle.lw_fixed.specs.Decimals.{decimal_of, decimals, is_decimal, is_finer, is_negative, millionths_of, units_of, value_of_decimals, whole_part}
 use Rattle.lw_frame.specs.Starts.{Arrival, IsEarly, at_once, first_start, is_for_all, is_named, last_start, start_at, start_of, start_said, starts_of}
-use Rattle.lw_genlib.specs.Cells.{CellParts, names_of}
+use Rattle.lw_genlib.specs.Cells.{CellParts}
 use Rattle.lw_pool.specs.declared.id.ClassId.{ClassId}
 use Rattle.lw_mapped.specs.declared.command.Command.{Command}
 use Rattle.lw_mapped.specs.declared.command.Command.TheVariants as command
 use Rattle.lw_mapped.specs.declared.fault.MappedKind.{MappedKind}
-use Rattle.lw_mapped.specs.declared.fault.MappedKind.TheVariants as kind
 use Rattle.lw_mapped.specs.declared.saying.Saying.{Saying}
 use Rattle.lw_mapped.specs.declared.saying.Saying.TheVariants as saying
 use Rattle.lw_mapped.specs.Commands.{command_of}
-use Rattle.lw_mapped.specs.GateLines.{is_name, ties_fault, gate_of}
 use Rattle.lw_mapped.specs.LineFaults.{line_says, lines_say, what_is_said}
 use Rattle.lw_mapped.specs.Parsed.{IsFit, IsLabel}
 use Rattle.lw_mapped.specs.Said.{Labelled, Classed, arrivals_in, labels_in, nets_in, label_among, class_among}
-use Rattle.lw_mapped.specs.Sayings.{said, fault_in, are_names, first_word, second_word, words_say, command_says, gate_says, gate_says_in, gate_says_at, arrival_says, default_says, certificate_says, named_arrival, default_arrival, most_classes, class_said, label_of, net_of}
+use Rattle.lw_mapped.specs.Sayings.{said, fault_in, are_names, first_word, second_word, words_say, command_says, certificate_says, most_classes, class_said}
 use Rattle.lw_mapped.proofs.Driving.{each-flat}
 use Rattle.lw_mapped.proofs.Printing.{Digits, own, digits-take}
+use Rattle.lw_mapped.proofs.SaidLines.{arrival-all, certificate-all, default-all, gate-all, said-all}
 use Rattle.lw_mapped.proofs.WrittenLines.{all-of, each-of, each-append, each-weaker}
 
 -- Decimals.
@@ -104,69 +103,22 @@ abbrev AreFit : Result Saying MappedKind → Type 0
 AreFit result = Each IsFit (what_is_said result)
 
 fit-said : (o : Option MappedKind) (s : Saying) → IsFit s → AreFit (said o s)
-fit-said None s fit = (fit, tt)
-fit-said (Some k) s fit = tt
-
-fit-gate-at : (cells : List CellParts) (number : ℕ) (ties : List (List ℕ)) (o : Option CellParts) → AreFit (gate_says_at cells number ties o)
-fit-gate-at cells number ties None = tt
-fit-gate-at cells number ties (Some cell) = fit-said (ties_fault cell ties) (saying.Gate (gate_of number cell ties)) tt
-
-fit-gate-in : (cells : List CellParts) (ties : List (List ℕ)) (o : Option ℕ) → AreFit (gate_says_in cells ties o)
-fit-gate-in cells ties None = tt
-fit-gate-in cells ties (Some number) = fit-gate-at cells number ties (slice_get cells number)
-
-fit-gate : (cells : List CellParts) (words : List (List ℕ)) → AreFit (gate_says cells words)
-fit-gate cells words = by_length (nat_lt (length words) 2)
-  where
-    by_length : (b : Bool) → AreFit (cond b (Err kind.Shape) (gate_says_in cells (drop 1 words) (position (bytes_eq (first_word words)) (names_of cells))))
-    by_length true = tt
-    by_length false = fit-gate-in cells (drop 1 words) (position (bytes_eq (first_word words)) (names_of cells))
-
-fit-arrival : (words : List (List ℕ)) → AreFit (arrival_says words)
-fit-arrival [] = tt
-fit-arrival (a ∷ []) = tt
-fit-arrival (a ∷ b ∷ []) = tt
-fit-arrival (name ∷ rise ∷ fall ∷ words) = by_name (is_name name) (start_said rise fall) refl
-  where
-    by_name : (b : Bool) (start : Result Micro DecimalFault) → start_said rise fall ≡ start → AreFit (cond b (named_arrival name start) (Err kind.BadName))
-    by_name true (Ok s) e = (start-early rise fall s e, tt)
-    by_name true (Err f) e = tt
-    by_name false start e = tt
-
-fit-default : (words : List (List ℕ)) → AreFit (default_says words)
-fit-default [] = tt
-fit-default (a ∷ []) = tt
-fit-default (rise ∷ fall ∷ words) = by_start (start_said rise fall) refl
-  where
-    by_start : (start : Result Micro DecimalFault) → start_said rise fall ≡ start → AreFit (default_arrival start)
-    by_start (Ok s) e = (start-early rise fall s e, tt)
-    by_start (Err f) e = tt
+fit-said o s fit = said-all IsFit o s (λ none. fit)
 
 fit-certificate : (words : List (List ℕ)) → AreFit (certificate_says words)
-fit-certificate [] = tt
-fit-certificate (a ∷ []) = tt
-fit-certificate (a ∷ b ∷ []) = tt
-fit-certificate (what ∷ first ∷ second ∷ []) = by_what (bytes_eq what (codes "label")) (bytes_eq what (codes "net")) (class_said first) refl (class_said second) refl (decimal_of second (2 ^ 43)) refl
-  where
-    by_what : (l n : Bool) (c : Option ℕ) → class_said first ≡ c → (d : Option ℕ) → class_said second ≡ d → (r : Result Micro DecimalFault) → decimal_of second (2 ^ 43) ≡ r →
-        AreFit (cond l (label_of c r) (cond n (net_of first d) (Err kind.Certificate)))
-    by_what true n (Some c) ec d ed (Ok r) er = ((class-below first c ec, decimal-below second (2 ^ 43) r er), tt)
-    by_what true n (Some c) ec d ed (Err f) er = tt
-    by_what true n None ec d ed r er = tt
-    by_what false true c ec (Some d) ed r er = (class-below second d ed, tt)
-    by_what false true c ec None ed r er = tt
-    by_what false false c ec d ed r er = tt
-fit-certificate (a ∷ b ∷ c ∷ d ∷ words) = tt
+fit-certificate =
+    certificate-all IsFit (λ first second class label e f. (class-below first class e, decimal-below second (2 ^ 43) label f))
+    (λ first second class e. class-below second class e)
 
 fit-command : (cells : List CellParts) (c : Command) (words : List (List ℕ)) → AreFit (command_says cells c words)
 fit-command cells command.Model words = fit-said (fault_in (length words == 1) (are_names words)) (saying.Model (first_word words)) tt
 fit-command cells command.Inputs words = fit-said (fault_in true (are_names words)) (saying.Inputs words) tt
 fit-command cells command.Outputs words = fit-said (fault_in true (are_names words)) (saying.Outputs words) tt
-fit-command cells command.Gate words = fit-gate cells words
+fit-command cells command.Gate words = gate-all IsFit cells words (λ number cell at none. tt)
 fit-command cells command.Names words = fit-said (fault_in (length words == 2) (are_names words)) (saying.Wire (record { from = first_word words; to = second_word words })) tt
 fit-command cells command.Latch words = fit-said (fault_in (nat_le 2 (length words) && nat_le (length words) 5) (are_names words)) (saying.Latch (record { input = first_word words; output = second_word words; rest = drop 2 words })) tt
-fit-command cells command.InputArrival words = fit-arrival words
-fit-command cells command.DefaultArrival words = fit-default words
+fit-command cells command.InputArrival words = arrival-all IsFit (λ name rise fall start e. start-early rise fall start e) words
+fit-command cells command.DefaultArrival words = default-all IsFit start-early words
 fit-command cells command.Certificate words = fit-certificate words
 fit-command cells command.Ignored words = (tt, tt)
 fit-command cells command.End words = (tt, tt)

@@ -6,7 +6,7 @@ use Rattle.std.specs.Str.{bytes_eq}
 use Rattle.std.proofs.lemmas.List.{length-map, get_or-map}
 use Rattle.std.proofs.lemmas.Option.{slice_get_within, get_or_from_slice_get}
 use Rattle.lw_netlist.specs.Numbered.{number_in}
-use Rattle.lw_netlist.proofs.Numbering.{number_at}
+use Rattle.lw_dag.proofs.Numbering.{number_at}
 
 pub get-left : {A : Type 0} (xs ys : List A) (i : ℕ) (x : A) → slice_get xs i ≡ Some x → slice_get (xs ++ ys) i ≡ Some x
 get-left [] ys i x e = cc

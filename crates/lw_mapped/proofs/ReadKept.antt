@@ -35,7 +35,7 @@ use Rattle.lw_mapped.proofs.Sizes.{lines-fit, read-fits}
 use Rattle.lw_mapped.proofs.Weights.{few-gates}
 
 -- what comes to a netlist has no fault
-comes-said : (first : Option FaultAt) (said : List Saying) (mapped : Mapped) → ComesTo first said (Ok mapped) → IsSaid said mapped
+pub comes-said : (first : Option FaultAt) (said : List Saying) (mapped : Mapped) → ComesTo first said (Ok mapped) → IsSaid said mapped
 comes-said None said mapped comes = comes
 comes-said (Some fault) said mapped comes = absurd comes
 

@@ -10,7 +10,7 @@ use Rattle.std.proofs.lemmas.List.{map-append}
 use Rattle.lw_fixed.specs.declared.micro.Micro.{Micro}
 use Rattle.lw_frame.specs.Starts.{Arrival, is_named, is_for_all, first_start, start_of, at_once}
 use Rattle.lw_genlib.specs.Cells.{CellParts}
-use Rattle.lw_netlist.proofs.Names.{alike}
+use Rattle.lw_dag.proofs.Names.{alike}
 use Rattle.lw_netlist.specs.declared.draft.DraftGate.{DraftGate}
 use Rattle.lw_netlist.specs.declared.draft.Wire.{Wire}
 use Rattle.lw_netlist.specs.declared.gate.Gate.{Gate}

@@ -1,5 +1,5 @@
 -- All lines of a mapped text can be written and say what their items say.
-use Rattle.std.proofs.Common.{ℕ, zero, suc, ◌≡◌, ◌<◌, ◌+◌, ◌==◌, Bool, true, false, cond, List, [], ◌∷◌, ◌++◌, length, map, take, get_or, Option, Some, None, Contains, refl, sym, subst, arith}
+use Rattle.std.proofs.Common.{ℕ, suc, ◌≡◌, ◌<◌, ◌+◌, ◌==◌, Bool, true, false, cond, List, [], ◌∷◌, ◌++◌, length, map, take, get_or, Option, Some, None, Contains, refl, sym, subst, arith}
 use Rattle.std.specs.Prelude.{slice_get, slice_index_or, IfSome}
 use Rattle.std.specs.List.{AllByRecursion as Each}
 use Rattle.std.specs.Str.{bytes_eq}
@@ -25,12 +25,7 @@ use Rattle.lw_mapped.proofs.Faultless.{Item, IsItem, GoesOn, all_lines, last_lin
 use Rattle.lw_mapped.proofs.GateItems.{IsNamed}
 use Rattle.lw_mapped.proofs.Items.{arrival_item, arrival_if, arrival_items, latch_item, gate_if, gate_items, wire_item, wire_if, wire_items, label_if, label_items, net_if, net_items, labels_of, classes_of, items_of, model_words}
 use Rattle.lw_mapped.proofs.WrittenItems.{IsSpoken, row-written, end-written, row-goes, model-written, inputs-spoken, outputs-spoken, arrival-spoken, latch-spoken, gate-spoken, wire-spoken, label-spoken, net-spoken}
-use Rattle.lw_mapped.proofs.WrittenLines.{IsWritten, each-of, each-append, each-weaker}
-
-each-take : {A : Type 0} (P : A → Type 0) (k : ℕ) (xs : List A) → Each P xs → Each P (take k xs)
-each-take P zero xs each = tt
-each-take P (suc k) [] each = tt
-each-take P (suc k) (x ∷ xs) each = (each.0, each-take P k xs each.1)
+use Rattle.lw_mapped.proofs.WrittenLines.{IsWritten, each-of, each-append, each-take, each-weaker}
 
 ports-each : (P : List ℕ → Type 0) (ports : List Port) → Each P (map port_name ports) → Each (λ (port : Port). P port.name) ports
 ports-each P [] each = tt

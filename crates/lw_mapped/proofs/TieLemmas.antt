@@ -1,12 +1,13 @@
 -- The words of a gate, one by one.
-use Rattle.std.proofs.Common.{ℕ, zero, suc, ◌≡◌, ◌<◌, Bool, true, false, not, ◌&&◌, ◌||◌, cond, nat_lt, List, [], ◌∷◌, ◌++◌, length, get_or, Option, Some, None, refl, ap, sym, ◌∙◌, subst, arith}
+use Rattle.std.proofs.Common.{ℕ, zero, suc, ◌≡◌, ◌<◌, Bool, true, false, not, ◌&&◌, ◌||◌, cond, nat_lt, List, [], ◌∷◌, ◌++◌, length, get_or, Option, Some, None, refl, ap, arith}
 use Rattle.std.specs.Prelude.{is_some, All}
-use Rattle.std.specs.List.{list_all}
+use Rattle.std.specs.List.{list_all, AllByRecursion as Each}
 use Rattle.std.specs.Option.{option_or}
 use Rattle.lw_genlib.specs.Cells.{CellParts}
 use Rattle.lw_mapped.specs.declared.fault.MappedKind.{MappedKind}
 use Rattle.lw_mapped.specs.declared.fault.MappedKind.TheVariants as kind
 use Rattle.lw_mapped.specs.GateLines.{formal_of, actual_of, is_tie, is_for, is_formal, is_name, gives, tie_fault, first_tie_fault, gives_all, or_missing, ties_fault, net_for}
+use Rattle.lw_mapped.proofs.WrittenLines.{each-weaker}
 
 pub first-some : (cell : CellParts) (before : List (List ℕ)) (word : List ℕ) (words : List (List ℕ)) (k : MappedKind) → tie_fault cell before word ≡ Some k → first_tie_fault cell before (word ∷ words) ≡ Some k
 unfolding first_tie_fault
@@ -36,17 +37,40 @@ tie-parts cell before word e = by_case (nat_lt 0 (length (formal_of word))) (nat
     by_case true false is h = cc
     by_case false b is h = cc
 
+tie-name : (cell : CellParts) (before : List (List ℕ)) (word : List ℕ) → tie_fault cell before word ≡ None → is_name (actual_of word) ≡ true
+unfolding tie_fault
+tie-name cell before word e = by_case (is_tie word) (is_formal cell (formal_of word)) (gives before (formal_of word)) (is_name (actual_of word)) e
+  where
+    by_case : (t f g n : Bool) → cond (not t) (Some kind.Shape) (cond (not f) (Some kind.PinUnknown) (cond g (Some kind.PinTwice) (cond (not n) (Some kind.BadName) None))) ≡ None → n ≡ true
+    by_case true true false true h = refl
+    by_case true true false false h = cc
+    by_case true true true n h = cc
+    by_case true false g n h = cc
+    by_case false f g n h = cc
+
+-- the word has a net, whose name is one of the format's
+abbrev pub IsTied : List ℕ → Type 0
+IsTied word = (0 < length (actual_of word)) × (is_name (actual_of word) ≡ true)
+
+pub ties-tied : (cell : CellParts) (before ties : List (List ℕ)) → first_tie_fault cell before ties ≡ None → Each IsTied ties
+unfolding first_tie_fault
+ties-tied cell before [] none = tt
+ties-tied cell before (word ∷ words) none =
+    let parts = or-parts (tie_fault cell before word) (first_tie_fault cell (before ++ word ∷ []) words) none in
+    ((tie-parts cell before word parts.0, tie-name cell before word parts.0), ties-tied cell (before ++ word ∷ []) words parts.1)
+
+-- what is so of the net of each word is so of that of a pin that is given
+pub net-has : (P : List ℕ → Type 0) (ties : List (List ℕ)) (formal : List ℕ) → Each (λ word. P (actual_of word)) ties → gives ties formal ≡ true → P (net_for ties formal)
+net-has P [] formal each g = cc
+net-has P (word ∷ words) formal each g = by_case (is_for formal word) g (net-has P words formal each.1)
+  where
+    by_case : (b : Bool) → (b || gives words formal) ≡ true → (gives words formal ≡ true → P (net_for words formal)) → P (cond b (actual_of word) (net_for words formal))
+    by_case true h others = each.0
+    by_case false h others = others h
+
 -- where the words break no rule, a pin that is given has a net
 pub net-some : (cell : CellParts) (before ties : List (List ℕ)) (formal : List ℕ) → first_tie_fault cell before ties ≡ None → gives ties formal ≡ true → 0 < length (net_for ties formal)
-unfolding first_tie_fault
-net-some cell before [] formal none g = cc
-net-some cell before (word ∷ words) formal none g =
-    let parts = or-parts (tie_fault cell before word) (first_tie_fault cell (before ++ word ∷ []) words) none in
-    by_case (is_for formal word) refl g (tie-parts cell before word parts.0) (net-some cell (before ++ word ∷ []) words formal parts.1)
-  where
-    by_case : (b : Bool) → is_for formal word ≡ b → (is_for formal word || gives words formal) ≡ true → 0 < length (actual_of word) → (gives words formal ≡ true → 0 < length (net_for words formal)) → 0 < length (cond (is_for formal word) (actual_of word) (net_for words formal))
-    by_case true e h own others = subst (λ b. 0 < length (cond b (actual_of word) (net_for words formal))) (sym e) own
-    by_case false e h own others = subst (λ b. 0 < length (cond b (actual_of word) (net_for words formal))) (sym e) (others (sym (ap (λ b. b || gives words formal) e) ∙ h))
+net-some cell before ties formal none = net-has (λ net. 0 < length net) ties formal (each-weaker IsTied (λ word. 0 < length (actual_of word)) (λ word tied. tied.0) ties (ties-tied cell before ties none))
 
 missing-parts : (whole : Bool) (o : Option MappedKind) → or_missing whole o ≡ None → (whole ≡ true) × (o ≡ None)
 missing-parts true None e = (refl, refl)
@@ -68,11 +92,15 @@ pin-nets cell ties e =
     let both = and-parts (list_all (gives ties) cell.pins) (gives ties cell.output) parts.0 in
     λ k d below. net-some cell [] ties (get_or cell.pins k d) parts.1 (all-at (gives ties) cell.pins k d below both.0)
 
+pub whole-first : (cell : CellParts) (ties : List (List ℕ)) → ties_fault cell ties ≡ None → first_tie_fault cell [] ties ≡ None
+whole-first cell ties e = (missing-parts (gives_all cell ties) (first_tie_fault cell [] ties) e).1
+
+-- the output is given
+pub gives-output : (cell : CellParts) (ties : List (List ℕ)) → ties_fault cell ties ≡ None → gives ties cell.output ≡ true
+gives-output cell ties e = (and-parts (list_all (gives ties) cell.pins) (gives ties cell.output) (missing-parts (gives_all cell ties) (first_tie_fault cell [] ties) e).0).1
+
 pub output-net : (cell : CellParts) (ties : List (List ℕ)) → ties_fault cell ties ≡ None → 0 < length (net_for ties cell.output)
-output-net cell ties e =
-    let parts = missing-parts (gives_all cell ties) (first_tie_fault cell [] ties) e in
-    let both = and-parts (list_all (gives ties) cell.pins) (gives ties cell.output) parts.0 in
-    net-some cell [] ties cell.output parts.1 both.1
+output-net cell ties e = net-some cell [] ties cell.output (whole-first cell ties e) (gives-output cell ties e)
 
 pub missing-some : (whole : Bool) (o : Option MappedKind) → is_some o ≡ true → o ≡ or_missing whole o
 missing-some whole None e = cc
@@ -101,9 +129,6 @@ none-is None e = refl
 none-is (Some k) e = cc
 
 -- words that break no rule are ties
-pub whole-first : (cell : CellParts) (ties : List (List ℕ)) → ties_fault cell ties ≡ None → first_tie_fault cell [] ties ≡ None
-whole-first cell ties e = (missing-parts (gives_all cell ties) (first_tie_fault cell [] ties) e).1
-
 pub tie-whole : (cell : CellParts) (before : List (List ℕ)) (word : List ℕ) (words : List (List ℕ)) → first_tie_fault cell before (word ∷ words) ≡ None → is_tie word ≡ true
 unfolding first_tie_fault tie_fault
 tie-whole cell before word words none = by_case (is_tie word) (or-parts (tie_fault cell before word) (first_tie_fault cell (before ++ word ∷ []) words) none).0

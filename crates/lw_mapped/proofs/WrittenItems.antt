@@ -12,7 +12,7 @@ use Rattle.lw_fixed.specs.Decimals.{decimal_of}
 use Rattle.lw_fixed.specs.Printed.{decimal_text}
 use Rattle.lw_frame.specs.Starts.{start_said, start_at, IsEarly}
 use Rattle.lw_genlib.specs.Cells.{CellParts, IsListed, IsPinName, IsLibrary}
-use Rattle.lw_netlist.proofs.Names.{alike}
+use Rattle.lw_dag.proofs.Names.{alike}
 use Rattle.lw_netlist.specs.declared.gate.Gate.{Gate}
 use Rattle.lw_netlist.specs.declared.gate.Port.{Port}
 use Rattle.lw_pool.specs.declared.id.ClassId.{ClassId}

@@ -30,6 +30,16 @@ pub each-weaker : {A : Type 0} (P Q : A → Type 0) → ((x : A) → P x → Q x
 each-weaker P Q f [] each = tt
 each-weaker P Q f (x ∷ xs) each = (f x each.0, each-weaker P Q f xs each.1)
 
+pub each-take : {A : Type 0} (P : A → Type 0) (k : ℕ) (xs : List A) → Each P xs → Each P (take k xs)
+each-take P zero xs each = tt
+each-take P (suc k) [] each = tt
+each-take P (suc k) (x ∷ xs) each = (each.0, each-take P k xs each.1)
+
+pub each-drop : {A : Type 0} (P : A → Type 0) (k : ℕ) (xs : List A) → Each P xs → Each P (drop k xs)
+each-drop P zero xs each = each
+each-drop P (suc k) [] each = tt
+each-drop P (suc k) (x ∷ xs) each = each-drop P k xs each.1
+
 -- The texts of lines of words.
 
 -- with its line end

@@ -69,6 +69,15 @@ pub record IsReadable (cells : List CellParts) (n : NetlistParts) (frame : Frame
   pub latches : All IsReadableLatch frame.latches
   pub has_certificate : HasReadableCertificate (length n.gates) certificate
 
+-- The model, the nets and the outputs have names of the format, the names of the nets and those of the outputs differ, and the gates
+-- stand by depth.
+pub record IsNamed (n : NetlistParts) : Type 0 where
+  pub by_depth : AreByDepth (plain n)
+  pub model : IsSignalName n.model
+  pub signals : All IsSignalName n.names
+  pub outputs : All IsSignalName (names_of_outputs n)
+  pub names : AreNetNames (plain n) n.names (ports_of n)
+
 -- a missing certificate is one without labels and classes
 abbrev pub certificate_or_none : NetlistParts → Option Certificate → Certificate
 certificate_or_none n None = record { labels = []; nets = replicate (length n.gates) None }

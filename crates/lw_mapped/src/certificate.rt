@@ -64,7 +64,8 @@ impl OptClasses {
     }
 }
 
-/// What shows that a netlist is the fastest: a label for some of the classes, by their numbers, and the class of each gate that has one.
+/// What shows that a netlist is the fastest: a label for some of the classes, by their numbers, and
+/// the class of each gate that has one.
 #[derive(Debug, Drop)]
 pub struct Certificate {
     pub labels: OptMicros,

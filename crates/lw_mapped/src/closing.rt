@@ -20,7 +20,8 @@ use lw_netlist::{DraftGates, Gate, GateDraft, Netlist, Wires};
 use lw_pool::{ClassId, Frame, Latch, Name, Names};
 use std::alloc::{AllocError, Global};
 
-/// What a mapped text holds: a netlist, what stands around it, when its inputs arrive, and its certificate.
+/// What a mapped text holds: a netlist, what stands around it, when its inputs arrive, and its
+/// certificate.
 #[derive(Drop)]
 pub struct Mapped {
     pub netlist: Netlist,
@@ -79,7 +80,14 @@ fn draft_of(
     gates: DraftGates,
     wires: Wires,
 ) -> Result<GateDraft, AllocError>
-    ensures { IfOk result (λ draft. draft ≡ record { model = unwrap_or model (codes "unnamed"); inputs = input_names inputs latches.now; outputs = outputs.now.keys; gates = gates; wires = wires }) }
+    ensures { IfOk result (λ draft. draft
+        ≡ record {
+          model = unwrap_or model (codes "unnamed");
+          inputs = input_names inputs latches.now;
+          outputs = outputs.now.keys;
+          gates = gates;
+          wires = wires;
+        }) }
 {
     let model = name_or_unnamed(alloc, model)?;
     let inputs = with_latch_outputs(alloc, inputs, latches)?;
@@ -108,7 +116,8 @@ fn classes_of(
     nets: &IndexMap<Name, ClassId>,
 ) -> Result<OptClasses, AllocError>
     requires { All (λ (gate : NetGate). gate.out.0 < length names.now) gates.now }
-    ensures { IfOk result (λ classes. classes ≡ map (λ (gate : NetGate). get bytes_eq nets.now (net_name names.now gate.out)) gates.now) }
+    ensures { IfOk result (λ classes. classes
+        ≡ map (λ (gate : NetGate). get bytes_eq nets.now (net_name names.now gate.out)) gates.now) }
 {
     let mut classes = Vec::with_capacity(alloc, gates.len())?;
     for gate in gates {
@@ -128,7 +137,8 @@ fn closed(
     nets: &IndexMap<Name, ClassId>,
 ) -> Result<Mapped, MappedFault>
     requires { IsGateDraft lib.now draft }
-    ensures made { IfOk result (λ mapped. IsMade draft frame starts labels (get bytes_eq nets.now) mapped) }
+    ensures made { IfOk result (λ mapped. IsMade draft frame starts labels
+        (get bytes_eq nets.now) mapped) }
     ensures over { IfOk result (λ mapped. IsOver lib.now mapped.netlist) }
     ensures fault { IfErr result (TellsWhole draft) }
 {
@@ -153,7 +163,8 @@ impl Contents {
 
     // The starts of the inputs.
     fn starts(&self, alloc: Global) -> Result<Micros, AllocError>
-        ensures starts { IfOk result (λ starts. (said : List Saying) → Keeps self.now said → starts ≡ starts_said said) }
+        ensures starts { IfOk result (λ starts. (said : List Saying) → Keeps self.now said →
+            starts ≡ starts_said said) }
         ensures early { IfOk result (All IsEarly) }
     {
         self.arrivals

@@ -54,7 +54,8 @@ impl Contents {
     /// Takes what a line says. The answer is the fault that it was told before.
     pub fn take(&mut self, saying: Saying) -> Result<(), Refusal>
         requires { IsFit saying }
-        ensures fault { (before : List Saying) → Keeps self.old before → TellsFault result (told_fault before saying) }
+        ensures fault { (before : List Saying) → Keeps self.old before →
+            TellsFault result (told_fault before saying) }
         ensures takes { OnOk result (Takes self.old saying self.new) }
     {
         match saying {
@@ -85,7 +86,9 @@ impl Contents {
     fn take_label(&mut self, class: ClassId, label: Micro) -> Result<(), Refusal>
         requires few { class.0 < most_classes }
         requires low { IsLabel label }
-        ensures fault { TellsFault result (if is_some (slice_index_or self.old.labels.items class.0 None) then Some MappedKind.Certificate else None) }
+        ensures fault { TellsFault result
+            (if is_some (slice_index_or self.old.labels.items class.0 None) then Some
+            MappedKind.Certificate else None) }
         ensures keeps { OnOk result (Takes self.old (Saying.Label class label) self.new) }
     {
         if label_at(&self.labels, class.0 as usize).is_some() {
@@ -97,7 +100,9 @@ impl Contents {
 
     // Takes the class of a net that has none.
     fn take_net(&mut self, name: Name, class: ClassId) -> Result<(), Refusal>
-        ensures fault { TellsFault result (if is_some (get bytes_eq self.old.nets name) then Some MappedKind.Certificate else None) }
+        ensures fault { TellsFault result
+            (if is_some (get bytes_eq self.old.nets name) then Some MappedKind.Certificate else
+            None) }
         ensures keeps { OnOk result (Takes self.old (Saying.Net name class) self.new) }
     {
         if self.nets.contains_key(&name) {
@@ -143,7 +148,8 @@ fn label_at(labels: &[Option<Micro>], class: usize) -> Option<Micro>
 
 // Fills up with classes without labels.
 fn grow(labels: &mut Vec<Option<Micro>>, count: usize) -> Result<(), AllocError>
-    ensures same { OnOk result ((c : ℕ) → slice_index_or labels.new.items c None ≡ slice_index_or labels.old.items c None) }
+    ensures same { OnOk result ((c : ℕ) →
+        slice_index_or labels.new.items c None ≡ slice_index_or labels.old.items c None) }
     ensures count { OnOk result (length labels.new.items ≡ max (length labels.old.items) count) }
 {
     while labels.len() < count {
@@ -155,7 +161,9 @@ fn grow(labels: &mut Vec<Option<Micro>>, count: usize) -> Result<(), AllocError>
 // Sets the label of a class.
 fn set_label(labels: &mut Vec<Option<Micro>>, class: usize, label: Micro) -> Result<(), AllocError>
     requires { class < 4194304 }
-    ensures labels { OnOk result ((c : ℕ) → slice_index_or labels.new.items c None ≡ (if c == class then Some label else slice_index_or labels.old.items c None)) }
+    ensures labels { OnOk result ((c : ℕ) →
+        slice_index_or labels.new.items c None
+        ≡ (if c == class then Some label else slice_index_or labels.old.items c None)) }
     ensures count { OnOk result (length labels.new.items ≤ max (length labels.old.items) 4194304) }
 {
     grow(labels, class + 1)?;

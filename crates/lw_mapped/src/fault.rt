@@ -52,7 +52,8 @@ pub enum MappedFault {
     /// The number of the first line that breaks a rule, and the first rule that it breaks.
     #[error("line {0}")]
     Line(u32, MappedKind),
-    /// No line breaks a rule, but the netlist as a whole has this fault. It is never want of memory.
+    /// No line breaks a rule, but the netlist as a whole has this fault. It is never want of
+    /// memory.
     #[error("netlist")]
     Whole(NetlistFault),
     /// Want of memory.

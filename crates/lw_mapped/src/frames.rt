@@ -10,7 +10,8 @@ use lw_io::{Sink, Waiting, put};
 use lw_pool::{Latch, Name};
 
 fn put_arrival<S: Sink>(sink: &mut S, waiting: &mut Waiting, name: &[u8], start: Micro)
-    ensures { Puts (S.taken sink.old) (S.faults sink.old) waiting.old (S.taken sink.new) (S.faults sink.new) waiting.new (arrival_line name.now start) }
+    ensures { Puts (S.taken sink.old) (S.faults sink.old) waiting.old (S.taken sink.new)
+        (S.faults sink.new) waiting.new (arrival_line name.now start) }
 {
     let mut text = [0; 21];
     let count = print(start, &mut text);
@@ -23,7 +24,8 @@ fn put_arrival<S: Sink>(sink: &mut S, waiting: &mut Waiting, name: &[u8], start:
 
 // The arrival of an input, if it is not 0.
 fn put_optional_arrival<S: Sink>(sink: &mut S, waiting: &mut Waiting, name: &[u8], start: Micro)
-    ensures { Puts (S.taken sink.old) (S.faults sink.old) waiting.old (S.taken sink.new) (S.faults sink.new) waiting.new (optional_arrival name.now start) }
+    ensures { Puts (S.taken sink.old) (S.faults sink.old) waiting.old (S.taken sink.new)
+        (S.faults sink.new) waiting.new (optional_arrival name.now start) }
 {
     if start.0 != 0 {
         put_arrival(sink, waiting, name, start);
@@ -38,7 +40,8 @@ pub(crate) fn put_arrivals<S: Sink>(
     starts: &[Micro],
 )
     requires { length starts.now ≤ length names.now }
-    ensures { Puts (S.taken sink.old) (S.faults sink.old) waiting.old (S.taken sink.new) (S.faults sink.new) waiting.new (arrival_lines names.now starts.now) }
+    ensures { Puts (S.taken sink.old) (S.faults sink.old) waiting.old (S.taken sink.new)
+        (S.faults sink.new) waiting.new (arrival_lines names.now starts.now) }
 {
     for (k, start) in starts.iter().enumerate() {
         put_optional_arrival(sink, waiting, names[k].as_bytes(), *start);
@@ -46,7 +49,8 @@ pub(crate) fn put_arrivals<S: Sink>(
 }
 
 fn put_latch<S: Sink>(sink: &mut S, waiting: &mut Waiting, latch: &Latch)
-    ensures { Puts (S.taken sink.old) (S.faults sink.old) waiting.old (S.taken sink.new) (S.faults sink.new) waiting.new (latch_line latch.now) }
+    ensures { Puts (S.taken sink.old) (S.faults sink.old) waiting.old (S.taken sink.new)
+        (S.faults sink.new) waiting.new (latch_line latch.now) }
 {
     put(sink, waiting, b".latch");
     put_word(sink, waiting, latch.input.as_bytes());
@@ -56,7 +60,8 @@ fn put_latch<S: Sink>(sink: &mut S, waiting: &mut Waiting, latch: &Latch)
 }
 
 pub(crate) fn put_latches<S: Sink>(sink: &mut S, waiting: &mut Waiting, latches: &[Latch])
-    ensures { Puts (S.taken sink.old) (S.faults sink.old) waiting.old (S.taken sink.new) (S.faults sink.new) waiting.new (flat_map latch_line latches.now) }
+    ensures { Puts (S.taken sink.old) (S.faults sink.old) waiting.old (S.taken sink.new)
+        (S.faults sink.new) waiting.new (flat_map latch_line latches.now) }
 {
     for latch in latches {
         put_latch(sink, waiting, latch);

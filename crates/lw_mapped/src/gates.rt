@@ -21,7 +21,8 @@ fn put_ties<S: Sink>(
 )
     requires one_each { length nets.now ≡ length pins.now }
     requires named { All (λ net. net.0 < length names.now) nets.now }
-    ensures { Puts (S.taken sink.old) (S.faults sink.old) waiting.old (S.taken sink.new) (S.faults sink.new) waiting.new (spaced (ties names.now pins.now nets.now)) }
+    ensures { Puts (S.taken sink.old) (S.faults sink.old) waiting.old (S.taken sink.new)
+        (S.faults sink.new) waiting.new (spaced (ties names.now pins.now nets.now)) }
 {
     for (k, pin) in pins.iter().enumerate() {
         put_tie(sink, waiting, pin.as_bytes(), name_of(names, nets[k]));
@@ -31,7 +32,8 @@ fn put_ties<S: Sink>(
 fn put_gate<S: Sink>(sink: &mut S, waiting: &mut Waiting, names: &[Name], gate: &Gate, cell: &Cell)
     requires one_each { length gate.now.pins ≡ length cell.now.pins }
     requires named { HasNames names.now gate.now }
-    ensures { Puts (S.taken sink.old) (S.faults sink.old) waiting.old (S.taken sink.new) (S.faults sink.new) waiting.new (gate_line names.now gate.now (Some cell.now)) }
+    ensures { Puts (S.taken sink.old) (S.faults sink.old) waiting.old (S.taken sink.new)
+        (S.faults sink.new) waiting.new (gate_line names.now gate.now (Some cell.now)) }
 {
     put(sink, waiting, b".gate");
     put_word(sink, waiting, cell.name().as_bytes());
@@ -54,7 +56,8 @@ fn put_gate_of<S: Sink>(
 )
     requires over { HasCell lib.now gate.now }
     requires named { HasNames names.now gate.now }
-    ensures { Puts (S.taken sink.old) (S.faults sink.old) waiting.old (S.taken sink.new) (S.faults sink.new) waiting.new (gate_text lib.now names.now gate.now) }
+    ensures { Puts (S.taken sink.old) (S.faults sink.old) waiting.old (S.taken sink.new)
+        (S.faults sink.new) waiting.new (gate_text lib.now names.now gate.now) }
 {
     put_gate(sink, waiting, names, gate, lib.cell(gate.cell));
 }
@@ -68,7 +71,8 @@ pub(crate) fn put_gates<S: Sink>(
 )
     requires over { All (HasCell lib.now) gates.now }
     requires named { All (HasNames names.now) gates.now }
-    ensures { Puts (S.taken sink.old) (S.faults sink.old) waiting.old (S.taken sink.new) (S.faults sink.new) waiting.new (flat_map (gate_text lib.now names.now) gates.now) }
+    ensures { Puts (S.taken sink.old) (S.faults sink.old) waiting.old (S.taken sink.new)
+        (S.faults sink.new) waiting.new (flat_map (gate_text lib.now names.now) gates.now) }
 {
     for gate in gates {
         put_gate_of(sink, waiting, names, lib, gate);
@@ -77,7 +81,8 @@ pub(crate) fn put_gates<S: Sink>(
 
 // A wire from a net to an output.
 fn put_wire_of<S: Sink>(sink: &mut S, waiting: &mut Waiting, net: &[u8], output: &[u8])
-    ensures { Puts (S.taken sink.old) (S.faults sink.old) waiting.old (S.taken sink.new) (S.faults sink.new) waiting.new (wire net.now output.now) }
+    ensures { Puts (S.taken sink.old) (S.faults sink.old) waiting.old (S.taken sink.new)
+        (S.faults sink.new) waiting.new (wire net.now output.now) }
 {
     put(sink, waiting, b".names");
     put_word(sink, waiting, net);
@@ -88,7 +93,8 @@ fn put_wire_of<S: Sink>(sink: &mut S, waiting: &mut Waiting, net: &[u8], output:
 // The wire of an output whose net has another name.
 fn put_wire<S: Sink>(sink: &mut S, waiting: &mut Waiting, names: &[Name], port: &Port)
     requires { port.now.net.0 < length names.now }
-    ensures { Puts (S.taken sink.old) (S.faults sink.old) waiting.old (S.taken sink.new) (S.faults sink.new) waiting.new (wire_text names.now port.now) }
+    ensures { Puts (S.taken sink.old) (S.faults sink.old) waiting.old (S.taken sink.new)
+        (S.faults sink.new) waiting.new (wire_text names.now port.now) }
 {
     let net = name_of(names, port.net);
     let output = port.name.as_bytes();
@@ -104,7 +110,8 @@ pub(crate) fn put_wires<S: Sink>(
     ports: &[Port],
 )
     requires { All (λ port. port.net.0 < length names.now) ports.now }
-    ensures { Puts (S.taken sink.old) (S.faults sink.old) waiting.old (S.taken sink.new) (S.faults sink.new) waiting.new (flat_map (wire_text names.now) ports.now) }
+    ensures { Puts (S.taken sink.old) (S.faults sink.old) waiting.old (S.taken sink.new)
+        (S.faults sink.new) waiting.new (flat_map (wire_text names.now) ports.now) }
 {
     for port in ports {
         put_wire(sink, waiting, names, port);

@@ -24,7 +24,10 @@ pub use closing::Mapped;
 pub use command::Command;
 pub use contents::Contents;
 pub use fault::{MappedFault, MappedKind, Refusal};
-pub use laws::{lines_have_one_meaning, read_netlists_are_kept, written_texts_read_back};
+pub use laws::{
+    lines_have_one_meaning, read_netlists_are_kept, read_netlists_have_names,
+    written_texts_read_back,
+};
 pub use parts::Parts;
 pub use reader::{MappedReader, Stop};
 pub use saying::Saying;

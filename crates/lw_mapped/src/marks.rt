@@ -11,7 +11,8 @@ use lw_netlist::Gate;
 use lw_pool::{ClassId, Name};
 
 fn put_label<S: Sink>(sink: &mut S, waiting: &mut Waiting, class: usize, label: Micro)
-    ensures { Puts (S.taken sink.old) (S.faults sink.old) waiting.old (S.taken sink.new) (S.faults sink.new) waiting.new (label_line class label) }
+    ensures { Puts (S.taken sink.old) (S.faults sink.old) waiting.old (S.taken sink.new)
+        (S.faults sink.new) waiting.new (label_line class label) }
 {
     let mut digits = Buffer::new();
     let mut text = [0; 21];
@@ -29,7 +30,8 @@ fn put_optional_label<S: Sink>(
     class: usize,
     label: &Option<Micro>,
 )
-    ensures { Puts (S.taken sink.old) (S.faults sink.old) waiting.old (S.taken sink.new) (S.faults sink.new) waiting.new (optional_label class label.now) }
+    ensures { Puts (S.taken sink.old) (S.faults sink.old) waiting.old (S.taken sink.new)
+        (S.faults sink.new) waiting.new (optional_label class label.now) }
 {
     if let Some(label) = label {
         put_label(sink, waiting, class, *label);
@@ -38,7 +40,8 @@ fn put_optional_label<S: Sink>(
 
 // The labels of the classes.
 pub(crate) fn put_labels<S: Sink>(sink: &mut S, waiting: &mut Waiting, labels: &[Option<Micro>])
-    ensures { Puts (S.taken sink.old) (S.faults sink.old) waiting.old (S.taken sink.new) (S.faults sink.new) waiting.new (label_lines 0 labels.now) }
+    ensures { Puts (S.taken sink.old) (S.faults sink.old) waiting.old (S.taken sink.new)
+        (S.faults sink.new) waiting.new (label_lines 0 labels.now) }
 {
     for (class, label) in labels.iter().enumerate() {
         put_optional_label(sink, waiting, class, label);
@@ -46,7 +49,8 @@ pub(crate) fn put_labels<S: Sink>(sink: &mut S, waiting: &mut Waiting, labels: &
 }
 
 fn put_net<S: Sink>(sink: &mut S, waiting: &mut Waiting, name: &[u8], class: ClassId)
-    ensures { Puts (S.taken sink.old) (S.faults sink.old) waiting.old (S.taken sink.new) (S.faults sink.new) waiting.new (net_line name.now class) }
+    ensures { Puts (S.taken sink.old) (S.faults sink.old) waiting.old (S.taken sink.new)
+        (S.faults sink.new) waiting.new (net_line name.now class) }
 {
     let mut digits = Buffer::new();
     put(sink, waiting, b"#@ net");
@@ -62,7 +66,8 @@ fn put_optional_net<S: Sink>(
     name: &[u8],
     class: &Option<ClassId>,
 )
-    ensures { Puts (S.taken sink.old) (S.faults sink.old) waiting.old (S.taken sink.new) (S.faults sink.new) waiting.new (optional_net name.now class.now) }
+    ensures { Puts (S.taken sink.old) (S.faults sink.old) waiting.old (S.taken sink.new)
+        (S.faults sink.new) waiting.new (optional_net name.now class.now) }
 {
     if let Some(class) = class {
         put_net(sink, waiting, name, *class);
@@ -79,7 +84,8 @@ pub(crate) fn put_nets<S: Sink>(
 )
     requires one_each { length classes.now ≡ length gates.now }
     requires named { All (HasNames names.now) gates.now }
-    ensures { Puts (S.taken sink.old) (S.faults sink.old) waiting.old (S.taken sink.new) (S.faults sink.new) waiting.new (net_lines names.now gates.now classes.now) }
+    ensures { Puts (S.taken sink.old) (S.faults sink.old) waiting.old (S.taken sink.new)
+        (S.faults sink.new) waiting.new (net_lines names.now gates.now classes.now) }
 {
     for (g, class) in classes.iter().enumerate() {
         put_optional_net(sink, waiting, name_of(names, gates[g].out), class);

@@ -181,7 +181,8 @@ fn class_of(word: &[u8]) -> Option<u32>
 
 fn label(words: &Words) -> Result<Saying, Refusal>
     requires { length words.now ≡ 4 }
-    ensures says { Says result (says.label_of (says.class_said (slice_index_or words.now 2 [])) (decimal_of (slice_index_or words.now 3 []) (2 ^ 43))) }
+    ensures says { Says result (says.label_of (says.class_said (slice_index_or words.now 2 []))
+        (decimal_of (slice_index_or words.now 3 []) (2 ^ 43))) }
     ensures fit { IfOk result IsFit }
 {
     let Some(class) = class_of(words.get(2)) else {
@@ -195,7 +196,8 @@ fn label(words: &Words) -> Result<Saying, Refusal>
 
 fn net(alloc: Global, words: &Words) -> Result<Saying, Refusal>
     requires { length words.now ≡ 4 }
-    ensures says { Says result (says.net_of (slice_index_or words.now 2 []) (says.class_said (slice_index_or words.now 3 []))) }
+    ensures says { Says result (says.net_of (slice_index_or words.now 2 [])
+        (says.class_said (slice_index_or words.now 3 []))) }
     ensures fit { IfOk result IsFit }
 {
     let Some(class) = class_of(words.get(3)) else {

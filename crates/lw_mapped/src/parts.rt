@@ -59,8 +59,11 @@ impl Parts {
     /// Reads a line that does not end the reading.
     pub(crate) fn read(&mut self, line: &Line, asked: Command, lib: &Library) -> Result<(), Refusal>
         requires { asked ≡ command line.now }
-        ensures fault { (lines : List LogicalLine) → KeepsLines self.old lib.now lines → TellsFault result (line_fault lib.now lines line.now) }
-        ensures keeps { OnOk result ((lines : List LogicalLine) → KeepsLines self.old lib.now lines → KeepsLines self.new lib.now (lines ++ line.now ∷ [])) }
+        ensures fault { (lines : List LogicalLine) → KeepsLines self.old lib.now lines →
+            TellsFault result (line_fault lib.now lines line.now) }
+        ensures keeps { OnOk result ((lines : List LogicalLine) →
+            KeepsLines self.old lib.now lines →
+            KeepsLines self.new lib.now (lines ++ line.now ∷ [])) }
     {
         if line.long {
             return Err(Refusal::Broken(MappedKind::LongWord));
@@ -77,7 +80,8 @@ impl Parts {
     // Takes what a line says, and the number of the line where it is a wire.
     fn take(&mut self, saying: Saying, wire: Option<u32>) -> Result<(), Refusal>
         requires { IsFit saying }
-        ensures fault { (before : List Told) → Keeps self.old.contents before → TellsFault result (told_fault before saying) }
+        ensures fault { (before : List Told) → Keeps self.old.contents before →
+            TellsFault result (told_fault before saying) }
         ensures takes { OnOk result (Takes self.old.contents saying self.new.contents) }
         ensures wire { OnOk result (self.new.wire ≡ wire) }
     {
@@ -88,7 +92,8 @@ impl Parts {
 
     // Reads the row of a wire.
     fn read_row(&mut self, words: &Words) -> Result<(), Refusal>
-        ensures fault { TellsFault result (if is_row words.now then None else Some MappedKind.Shape) }
+        ensures fault { TellsFault result
+            (if is_row words.now then None else Some MappedKind.Shape) }
         ensures wire { OnOk result (self.new.wire ≡ None) }
         ensures contents { self.new.contents ≡ self.old.contents }
     {

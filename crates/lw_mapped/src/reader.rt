@@ -54,7 +54,8 @@ impl Command {
     }
 }
 
-/// Reads a mapped text line by line. After an error it answers the same to each later line, and changes nothing more.
+/// Reads a mapped text line by line. After an error it answers the same to each later line, and
+/// changes nothing more.
 #[derive(Drop)]
 pub struct MappedReader {
     begun: bool,
@@ -83,11 +84,13 @@ impl MappedReader {
         }
     }
 
-    /// Reads a line. The answer is the first line that breaks a rule, and the first rule that it breaks; it is then that of each later
-    /// line and of the end.
+    /// Reads a line. The answer is the first line that breaks a rule, and the first rule that it
+    /// breaks; it is then that of each later line and of the end.
     pub fn line(&mut self, line: &Line, lib: &Library) -> Result<(), MappedFault>
-        ensures stands { (lines : List LogicalLine) → StandsFor self.old lib.now lines → StandsFor self.new lib.now (lines ++ line.now ∷ []) }
-        ensures answer { (lines : List LogicalLine) → StandsFor self.old lib.now lines → Tells result (first_fault lib.now [] (lines_read (lines ++ line.now ∷ []))) }
+        ensures stands { (lines : List LogicalLine) → StandsFor self.old lib.now lines →
+            StandsFor self.new lib.now (lines ++ line.now ∷ []) }
+        ensures answer { (lines : List LogicalLine) → StandsFor self.old lib.now lines →
+            Tells result (first_fault lib.now [] (lines_read (lines ++ line.now ∷ []))) }
         ensures stopped { Stopped result (stop_of self.new) }
         ensures again { IfSome (stop_of self.old) (λ stop. result ≡ Err (fault_of stop)) }
         ensures unchanged { IsSome (stop_of self.old) → self.new ≡ self.old }
@@ -115,15 +118,18 @@ impl MappedReader {
         }
     }
 
-    /// The text ends. The answer is its netlist with its frame, its starts and its certificate, or the first line that breaks a rule
-    /// with the first rule that it breaks, or else the fault of the netlist as a whole.
+    /// The text ends. The answer is its netlist with its frame, its starts and its certificate, or
+    /// the first line that breaks a rule with the first rule that it breaks, or else the fault of
+    /// the netlist as a whole.
     pub fn end(self, lib: &Library) -> Result<Mapped, MappedFault>
         requires { IsGivenFew self lib.now }
-        ensures answer { (lines : List LogicalLine) → StandsFor self lib.now lines → IsUnmapped lib.now lines result }
+        ensures answer { (lines : List LogicalLine) → StandsFor self lib.now lines →
+            IsUnmapped lib.now lines result }
         ensures again { IfSome (stop_of self) (λ stop. result ≡ Err (fault_of stop)) }
         ensures over { IfOk result (λ mapped. IsOver lib.now mapped.netlist) }
         ensures fits { IfOk result IsMapped }
-        ensures gates { (lines : List LogicalLine) → StandsFor self lib.now lines → IfOk result (λ mapped. 12 * length mapped.netlist.gates ≤ lines_weight lines) }
+        ensures gates { (lines : List LogicalLine) → StandsFor self lib.now lines →
+            IfOk result (λ mapped. 12 * length mapped.netlist.gates ≤ lines_weight lines) }
     {
         let MappedReader { stop, parts, .. } = self;
         if let Some(stop) = stop {

@@ -83,7 +83,8 @@ fn is_formal(cell: &Cell, formal: &[u8]) -> bool
 fn tie_fault(cell: &Cell, words: &Words, place: usize) -> Option<MappedKind>
     requires some { 2 ≤ place }
     requires within { place < length words.now }
-    ensures { result ≡ tie_fault cell.now (slice_range words.now 2 place) (slice_index_or words.now place []) }
+    ensures { result ≡ tie_fault cell.now (slice_range words.now 2 place)
+        (slice_index_or words.now place []) }
 {
     let (formal, actual) = cut(words.get(place));
     if formal.is_empty() || actual.is_empty() {

@@ -36,7 +36,8 @@ fn output_ports<'a>(netlist: &'a Netlist, frame: &Frame) -> &'a [Port]
 fn put_header<S: Sink>(sink: &mut S, waiting: &mut Waiting, netlist: &Netlist, frame: &Frame)
     requires inputs { frame.now.inputs ≤ netlist.now.inputs }
     requires outputs { frame.now.outputs ≤ length netlist.now.outputs }
-    ensures { Puts (S.taken sink.old) (S.faults sink.old) waiting.old (S.taken sink.new) (S.faults sink.new) waiting.new (header_text netlist.now frame.now) }
+    ensures { Puts (S.taken sink.old) (S.faults sink.old) waiting.old (S.taken sink.new)
+        (S.faults sink.new) waiting.new (header_text netlist.now frame.now) }
 {
     put(sink, waiting, b".model");
     put_word(sink, waiting, netlist.model().as_bytes());
@@ -52,7 +53,8 @@ fn put_certificate<S: Sink>(
     cert: Option<&Certificate>,
 )
     requires { HasGateClasses netlist.now (now_of cert) }
-    ensures { Puts (S.taken sink.old) (S.faults sink.old) waiting.old (S.taken sink.new) (S.faults sink.new) waiting.new (certificate_text netlist.now (now_of cert.entry)) }
+    ensures { Puts (S.taken sink.old) (S.faults sink.old) waiting.old (S.taken sink.new)
+        (S.faults sink.new) waiting.new (certificate_text netlist.now (now_of cert.entry)) }
 {
     if let Some(cert) = cert {
         put_labels(sink, waiting, cert.labels.as_slice());
@@ -79,7 +81,9 @@ fn put_text<S: Sink>(
     requires over { IsOver lib.now netlist.now }
     requires framed { IsFramed netlist.now frame.now starts.now }
     requires classes { HasGateClasses netlist.now (now_of cert) }
-    ensures { Puts (S.taken sink.old) (S.faults sink.old) waiting.old (S.taken sink.new) (S.faults sink.new) waiting.new (mapped_text lib.now netlist.now frame.now starts.now (now_of cert.entry)) }
+    ensures { Puts (S.taken sink.old) (S.faults sink.old) waiting.old (S.taken sink.new)
+        (S.faults sink.new) waiting.new
+        (mapped_text lib.now netlist.now frame.now starts.now (now_of cert.entry)) }
 {
     put_header(sink, waiting, netlist, frame);
     put_arrivals(sink, waiting, netlist.names(), starts.as_slice());
@@ -90,8 +94,8 @@ fn put_text<S: Sink>(
     put(sink, waiting, b".end\n");
 }
 
-/// Writes the mapped text of a netlist: of the file's own ports, of when its inputs arrive, of its latches and gates, and of the
-/// certificate where there is one. It takes no memory.
+/// Writes the mapped text of a netlist: of the file's own ports, of when its inputs arrive, of its
+/// latches and gates, and of the certificate where there is one. It takes no memory.
 pub fn write<S: Sink>(
     netlist: &Netlist,
     lib: &Library,
@@ -103,8 +107,10 @@ pub fn write<S: Sink>(
     requires over { IsOver lib.now netlist.now }
     requires framed { IsFramed netlist.now frame.now starts.now }
     requires classes { HasGateClasses netlist.now (now_of cert) }
-    ensures ok { OnOk result (Appends (S.taken sink.old) (S.taken sink.new) (mapped_text lib.now netlist.now frame.now starts.now (now_of cert.entry))) }
-    ensures failed { OnErr result (AppendsPrefix (S.taken sink.old) (S.taken sink.new) (mapped_text lib.now netlist.now frame.now starts.now (now_of cert.entry))) }
+    ensures ok { OnOk result (Appends (S.taken sink.old) (S.taken sink.new)
+        (mapped_text lib.now netlist.now frame.now starts.now (now_of cert.entry))) }
+    ensures failed { OnErr result (AppendsPrefix (S.taken sink.old) (S.taken sink.new)
+        (mapped_text lib.now netlist.now frame.now starts.now (now_of cert.entry))) }
     ensures cause { HasCause (S.faults sink.old) (S.faults sink.new) result }
 {
     let mut waiting = Waiting::new();

@@ -81,7 +81,8 @@ fn form_with(size: Size, samples: &[bool], base: u32, sample: bool) -> u32 {
     }
 }
 
-// A form below a base form, or in one of four cases any form: so parts and forms may go round in a circle.
+// A form below a base form, or in one of four cases any form: so parts and forms may go round in a
+// circle.
 fn drawn_part(dice: &mut Dice, size: Size, base: u32) -> u32 {
     let below = if dice.roll(4) == 0 {
         size.bases()
@@ -91,7 +92,8 @@ fn drawn_part(dice: &mut Dice, size: Size, base: u32) -> u32 {
     dice.roll(below.saturating_mul(2))
 }
 
-// A fact that one of the forms after the inputs, or in one of eight cases any form, is the NAND of two.
+// A fact that one of the forms after the inputs, or in one of eight cases any form, is the NAND of
+// two.
 fn drawn_fact(dice: &mut Dice, size: Size, samples: &[bool]) -> (u32, u32, u32) {
     let base = if dice.roll(8) == 0 {
         dice.roll(size.bases())
@@ -149,7 +151,8 @@ pub(crate) fn drawn_graph(alloc: Global, dice: &mut Dice, size: Size) -> Result<
     graph_of(alloc, sketch)
 }
 
-// A mark that is drawn, with a low cost and height or with nearly the greatest, and none in one of four cases.
+// A mark that is drawn, with a low cost and height or with nearly the greatest, and none in one of
+// four cases.
 fn drawn_mark(dice: &mut Dice, high: bool) -> Option<Mark>
     ensures { IsInRange result }
 {

@@ -1,4 +1,5 @@
-// The least match against the matches of a cursor, and marks against rounds over all matches, in graphs that are drawn.
+// The least match against the matches of a cursor, and marks against rounds over all matches, in
+// graphs that are drawn.
 ghost use Rattle.std.specs.Prelude.{◌≡◌, ◌<◌, All, length, map};
 ghost use Rattle.lw_match.specs.Values.{AreInRange};
 ghost use Rattle.lw_match.specs.Least.{AreOfCells};
@@ -22,8 +23,8 @@ use std::alloc::{AllocError, Global};
 use std::process::Abort;
 use std::test::Fail;
 
-/// Libraries: small cells; cells with pins that stand twice; constants, a pin alone and no delays; cells of many pins; and
-/// cells that tie.
+/// Libraries: small cells; cells with pins that stand twice; constants, a pin alone and no delays;
+/// cells of many pins; and cells that tie.
 const LIBRARIES: [&str; 5] = [
     "GATE inv 1 O=!a;PIN * INV 1 999 1 0 1 0\nGATE nand2 2 O=!(a*b);PIN * INV 1 999 1.5 0 1.5 0\nGATE nand3 3 O=!(a*b*c);PIN * INV 1 999 2 0 2 0\n",
     "GATE inv 1 O=!a;PIN * INV 1 999 .5 0 .5 0\nGATE square 1 O=!(a*a);PIN * INV 1 999 1 0 1 0\nGATE xor 5 O=a*!b+!a*b;PIN a UNKNOWN 1 999 2 0 2 0 PIN b UNKNOWN 1 999 1.5 0 1.5 0\nGATE majority 6 O=a*b+a*c+b*c;PIN * NONINV 1 999 2.5 0 2.5 0\nGATE mux 4 O=s*a+!s*b;PIN * UNKNOWN 1 999 2 0 2 0\n",
@@ -32,7 +33,8 @@ const LIBRARIES: [&str; 5] = [
     "GATE first 1 O=!(a*b);PIN * INV 1 999 1 0 1 0\nGATE second 1 O=!(a*b);PIN * INV 1 999 1 0 1 0\nGATE inv 1 O=!a;PIN * INV 1 999 0 0 0 0\nGATE nor2 1 O=!(a+b);PIN a INV 1 999 1 0 1 0 PIN b INV 1 999 .5 0 1 0\nGATE wire 1 O=a;PIN * NONINV 1 999 .5 0 .5 0\n",
 ];
 
-/// What is drawn with each library: inputs, further base forms, facts and links, and how many graphs.
+/// What is drawn with each library: inputs, further base forms, facts and links, and how many
+/// graphs.
 const SIZES: [(u32, u32, u32, u32, u32); 4] = [
     (1, 3, 4, 0, 12),
     (3, 6, 9, 1, 12),
@@ -59,7 +61,8 @@ fn is_found(found: &Option<Best>, wanted: Option<(Mark, &Match)>) -> bool {
     }
 }
 
-// Bounds about a mark: the mark, one that is greater by its height, one that is greater by its cost, and one far off.
+// Bounds about a mark: the mark, one that is greater by its height, one that is greater by its
+// cost, and one far off.
 fn bounds_about(mark: Mark) -> [Mark; 4] {
     [
         mark,
@@ -89,7 +92,8 @@ fn check_below(
     requires class { class.0 < length case.now.graph.now.pairs }
     requires one_each { length marks.now ≡ length case.now.graph.now.pairs }
     requires in_range { AreInRange most_time marks.now }
-    requires of_cells { AreOfCells (map length (delays_of_cells case.now.lib.now)) case.now.pats.now }
+    requires of_cells { AreOfCells
+        (map length (delays_of_cells case.now.lib.now)) case.now.pats.now }
     requires small { All IsSmall case.now.starts.now }
 {
     let mark = match wanted {
@@ -116,7 +120,8 @@ fn check_class(
     requires class { class.0 < length case.now.graph.now.pairs }
     requires one_each { length marks.now ≡ length case.now.graph.now.pairs }
     requires in_range { AreInRange most_time marks.now }
-    requires of_cells { AreOfCells (map length (delays_of_cells case.now.lib.now)) case.now.pats.now }
+    requires of_cells { AreOfCells
+        (map length (delays_of_cells case.now.lib.now)) case.now.pats.now }
     requires small { All IsSmall case.now.starts.now }
 {
     let wanted = least_of(case.lib, case.pats, marks, matches);
@@ -134,7 +139,8 @@ fn check_class(
 fn check_classes(rt: &impl Abort, case: &Case<'_>, marks: &[Option<Mark>])
     requires one_each { length marks.now ≡ length case.now.graph.now.pairs }
     requires in_range { AreInRange most_time marks.now }
-    requires of_cells { AreOfCells (map length (delays_of_cells case.now.lib.now)) case.now.pats.now }
+    requires of_cells { AreOfCells
+        (map length (delays_of_cells case.now.lib.now)) case.now.pats.now }
     requires small { All IsSmall case.now.starts.now }
 {
     for number in 0..case.graph.classes() {
@@ -151,7 +157,8 @@ fn are_listed(matches: &[Vec<Match>]) -> bool {
         .all(|at| at.len() < MOST_MATCHES && are_once_and_rising(at))
 }
 
-// Checks the matches at each class of a graph, the labels, and the least matches under these and under drawn marks.
+// Checks the matches at each class of a graph, the labels, and the least matches under these and
+// under drawn marks.
 fn check_graph(
     rt: &impl Abort,
     alloc: Global,

@@ -26,8 +26,9 @@ fn room_for(classes: u32) -> u32
     MOST_NUMBERS / classes
 }
 
-/// Numbers of the parts of patterns at the classes of a graph: what a pin costs at least, with its gap, where a part stands there.
-/// Where it stands nowhere, or by pins without marks alone, the number is `u64::MAX`.
+/// Numbers of the parts of patterns at the classes of a graph: what a pin costs at least, with its
+/// gap, where a part stands there. Where it stands nowhere, or by pins without marks alone, the
+/// number is `u64::MAX`.
 #[derive(Drop)]
 pub struct Bounds {
     parts: IndexSet<Part>,
@@ -52,8 +53,8 @@ impl Bounds {
     ghost use Rattle.lw_match.specs.Cutting.{cuts_state};
     ghost use Rattle.lw_match.specs.Least.{AreOfCells};
 
-    /// A table in which no number has fallen yet. All memory is taken here. Where there would be too many numbers, only the
-    /// first parts have some.
+    /// A table in which no number has fallen yet. All memory is taken here. Where there would be
+    /// too many numbers, only the first parts have some.
     pub fn new<C: Cost>(
         alloc: Global,
         graph: &Graph,
@@ -78,12 +79,14 @@ impl Bounds {
         })
     }
 
-    /// Lets the numbers of a class fall to what its pairs give now, and says whether one fell. It takes no memory.
+    /// Lets the numbers of a class fall to what its pairs give now, and says whether one fell. It
+    /// takes no memory.
     pub fn renew(&mut self, graph: &Graph, marks: &[Option<Mark>], class: ClassId) -> bool
         requires class { class.0 < length graph.now.pairs }
         requires one_each { length marks.now ≡ length graph.now.pairs }
         requires rows { AreRows self.old.parts self.old.numbers graph.now }
-        ensures fits { (pats : List TreeOfCell) → BoundsFit self.old pats graph.now → BoundsFit self.new pats graph.now }
+        ensures fits { (pats : List TreeOfCell) → BoundsFit self.old pats graph.now →
+            BoundsFit self.new pats graph.now }
         ensures falls { IsTrue result → bounds_weight self.new < bounds_weight self.old }
         ensures same { IsFalse result → self.new ≡ self.old }
         ensures settled { IsFalse result → AreSettledAt self.old graph.now marks.now class.0 }
@@ -101,7 +104,13 @@ impl Bounds {
 
     /// What searches are cut by.
     pub(crate) fn cuts(&self) -> Cuts
-        ensures { cuts_state result ≡ record { sides = self.now.sides; roots = self.now.roots; width = length self.now.parts; numbers = self.now.numbers; gaps = self.now.gaps } }
+        ensures { cuts_state result ≡ record {
+          sides = self.now.sides;
+          roots = self.now.roots;
+          width = length self.now.parts;
+          numbers = self.now.numbers;
+          gaps = self.now.gaps;
+        } }
     {
         Cuts {
             sides: &self.sides,

@@ -1,7 +1,7 @@
 use lw_pool::CellId;
 
-/// What inputs cost, and what cells cost over the costs of their pins: numbers from 0 to `CAP`. A cell costs no less than
-/// each of its pins, and a greater pin never makes it cost less.
+/// What inputs cost, and what cells cost over the costs of their pins: numbers from 0 to `CAP`. A
+/// cell costs no less than each of its pins, and a greater pin never makes it cost less.
 pub trait Cost {
     ghost use Rattle.std.specs.Prelude.{◌≡◌, ℕ, length};
     ghost use Rattle.lw_laws.specs.Costs.{Cost as PlainCost, IsCost};

@@ -3,8 +3,8 @@ ghost use Rattle.std.specs.Prelude.{◌≡◌, map, [], slice_index_or};
 use crate::parts::Side;
 use lw_pool::PatId;
 
-/// What searches are cut by: the side that each node of each pattern is and that its root is, the numbers of the parts, and
-/// the gaps of the pins of each pattern. With no sides no search is cut.
+/// What searches are cut by: the side that each node of each pattern is and that its root is, the
+/// numbers of the parts, and the gaps of the pins of each pattern. With no sides no search is cut.
 #[derive(Clone, Copy)]
 pub struct Cuts<'a> {
     pub sides: &'a [Vec<Side>],
@@ -16,7 +16,8 @@ pub struct Cuts<'a> {
 
 /// The sides that the nodes of a pattern are, none where it is not known.
 pub(crate) fn sides_at<'a>(cuts: Cuts<'a>, pat: PatId) -> &'a [Side]
-    ensures { result.now ≡ slice_index_or (map (λ sides. sides.items) cuts.entry.sides.now) pat.0 [] }
+    ensures { result.now ≡ slice_index_or
+        (map (λ sides. sides.items) cuts.entry.sides.now) pat.0 [] }
 {
     match cuts.sides.get(pat.0 as usize) {
         Some(sides) => sides.as_slice(),

@@ -44,7 +44,8 @@ fn value_alone<C: Cost>(cost: &C, cell: CellId, pins: usize, pin: usize, amount:
     cost.value(cell, &costs[..pins])
 }
 
-/// Whether each pin alone, with the cost that its gap leaves of the top, makes the cell cost so much.
+/// Whether each pin alone, with the cost that its gap leaves of the top, makes the cell cost so
+/// much.
 pub(crate) fn is_certified<C: Cost>(
     cost: &C,
     cell: CellId,
@@ -65,7 +66,8 @@ pub(crate) fn is_certified<C: Cost>(
     true
 }
 
-// The gap of each pin of a cell, guessed from what the cell costs by the pin alone. Nothing rests on a guess.
+// The gap of each pin of a cell, guessed from what the cell costs by the pin alone. Nothing rests
+// on a guess.
 fn guesses<C: Cost>(cost: &C, cell: CellId, pins: usize) -> [u64; 16]
     requires has { HasPins (C.costs cost.now).pin_counts cell.0 pins }
     requires few { pins ≤ 16 }

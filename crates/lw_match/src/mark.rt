@@ -42,9 +42,11 @@ pub struct Best {
 impl Best {
     ghost use Rattle.lw_match.specs.Least.{IsPricedAtMost, plain_best};
 
-    /// Whether this one is before the other: by cost, then height, then pattern, then the classes of the pins.
+    /// Whether this one is before the other: by cost, then height, then pattern, then the classes
+    /// of the pins.
     pub(crate) fn is_before(&self, other: &Best) -> bool
-        ensures before { IsTrue result → IsPricedAtMost (plain_best self.now) (plain_best other.now) }
+        ensures before { IsTrue result →
+            IsPricedAtMost (plain_best self.now) (plain_best other.now) }
         ensures not { IsFalse result → IsPricedAtMost (plain_best other.now) (plain_best self.now) }
     {
         if self.mark.cost != other.mark.cost {

@@ -8,8 +8,8 @@ use crate::parts::{Kind, Part, Side};
 use lw_graph::Pair;
 use lw_pool::ClassId;
 
-/// What the numbers of sides at classes are read from: the class of true, the marks of the classes, and the numbers of
-/// the parts, one row for each class.
+/// What the numbers of sides at classes are read from: the class of true, the marks of the classes,
+/// and the numbers of the parts, one row for each class.
 #[derive(Clone, Copy)]
 pub struct Numbers<'a> {
     pub one: ClassId,
@@ -18,7 +18,8 @@ pub struct Numbers<'a> {
     pub numbers: &'a [u64],
 }
 
-/// The number of a pin: the cost of its class with its gap, and `u64::MAX` where the class has none.
+/// The number of a pin: the cost of its class with its gap, and `u64::MAX` where the class has
+/// none.
 fn leaf_number(mark: Option<Mark>, gap: u64) -> u64
     ensures { result ≡ leaf_number mark gap }
 {
@@ -77,12 +78,16 @@ fn pair_number(at: Numbers, part: Part, pair: Pair) -> u64
 /// The least number of a part by the pairs of a row, or the number that it has, where that is less.
 pub(crate) fn least_number(at: Numbers, part: Part, row: &[Pair], number: u64) -> u64
     requires reading { IsReading (reading at) }
-    requires row { (i : ℕ) (p : Pair) → slice_get row.now i ≡ Some p → (p.x.0 < length at.marks.now) × (p.y.0 < length at.marks.now) }
+    requires row { (i : ℕ) (p : Pair) → slice_get row.now i ≡ Some p →
+        (p.x.0 < length at.marks.now) × (p.y.0 < length at.marks.now) }
     requires left { SideFits at.width part.left }
     requires right { SideFits at.width part.right }
     ensures falls { result ≤ number }
-    ensures least { (i : ℕ) (p : Pair) → slice_get row.now i ≡ Some p → result ≤ pair_number (reading at.entry) part p.x.0 p.y.0 }
-    ensures from { (result ≡ number) ⊎ ((i : ℕ) × (p : Pair) × (slice_get row.now i ≡ Some p) × (result ≡ pair_number (reading at.entry) part p.x.0 p.y.0)) }
+    ensures least { (i : ℕ) (p : Pair) → slice_get row.now i ≡ Some p →
+        result ≤ pair_number (reading at.entry) part p.x.0 p.y.0 }
+    ensures from { (result ≡ number) ⊎
+        ((i : ℕ) × (p : Pair) × (slice_get row.now i ≡ Some p) ×
+        (result ≡ pair_number (reading at.entry) part p.x.0 p.y.0)) }
 {
     let mut least = number;
     for pair in row {

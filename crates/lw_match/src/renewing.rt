@@ -27,7 +27,10 @@ fn renew_part(renewal: Renewal, part: usize, numbers: &mut [u64]) -> bool
     requires part { part < length renewal.parts.now }
     ensures falls { IsTrue result → total numbers.new < total numbers.old }
     ensures same { IsFalse result → numbers.new ≡ numbers.old }
-    ensures settled { IsFalse result → IsSettledAt renewal.entry.graph.now (reading_of renewal.entry.graph.now renewal.entry.marks.now renewal.entry.parts.now numbers.old) renewal.entry.parts.now renewal.entry.class.0 part }
+    ensures settled { IsFalse result →
+        IsSettledAt renewal.entry.graph.now
+        (reading_of renewal.entry.graph.now renewal.entry.marks.now renewal.entry.parts.now
+        numbers.old) renewal.entry.parts.now renewal.entry.class.0 part }
 {
     let place = renewal.class.0 as usize * renewal.parts.len() + part;
     let number = numbers[place];
@@ -62,7 +65,11 @@ pub(crate) fn renew_parts(renewal: Renewal, numbers: &mut [u64]) -> bool
     requires rows { AreRows renewal.parts.now numbers.old renewal.graph.now }
     ensures falls { IsTrue result → total numbers.new < total numbers.old }
     ensures same { IsFalse result → numbers.new ≡ numbers.old }
-    ensures settled { IsFalse result → AreSettledBelow renewal.entry.graph.now (reading_of renewal.entry.graph.now renewal.entry.marks.now renewal.entry.parts.now numbers.old) renewal.entry.parts.now renewal.entry.class.0 (length renewal.entry.parts.now) }
+    ensures settled { IsFalse result →
+        AreSettledBelow renewal.entry.graph.now
+        (reading_of renewal.entry.graph.now renewal.entry.marks.now renewal.entry.parts.now
+        numbers.old) renewal.entry.parts.now renewal.entry.class.0
+        (length renewal.entry.parts.now) }
 {
     if renewal.graph.nands(renewal.class).is_empty() {
         return false;

@@ -16,7 +16,8 @@ fn renew_all(bounds: &mut Bounds, graph: &Graph, pats: &Patterns, marks: &[Optio
     requires fits { BoundsFit bounds.old pats.now graph.now }
     ensures fits { BoundsFit bounds.new pats.now graph.now }
     ensures falls { IsTrue result → bounds_weight bounds.new < bounds_weight bounds.old }
-    ensures settled { IsFalse result → (c : ℕ) → c < length graph.now.pairs → AreSettledAt bounds.new graph.now marks.now c }
+    ensures settled { IsFalse result → (c : ℕ) → c < length graph.now.pairs →
+        AreSettledAt bounds.new graph.now marks.now c }
 {
     let _ = pats.len();
     let mut fell = false;

@@ -1,5 +1,5 @@
 -- A network whose nodes stand by depth.
-use Rattle.std.proofs.Common.{◌≡◌, ℕ, zero, suc, ◌+◌, ◌-◌, ◌<◌, ◌≤◌, ◌⊎◌, inl, inr, max, slice_get, Some, ap₂, List, [], ◌∷◌, length, map, get_or, None, Contains, All, refl, sym, ap, subst, ◌∙◌, arith, length-append}
+use Rattle.std.proofs.Common.{◌≡◌, ℕ, suc, ◌+◌, ◌-◌, ◌<◌, ◌≤◌, ◌⊎◌, inl, inr, max, slice_get, Some, ap₂, List, [], ◌∷◌, length, map, get_or, None, Contains, All, refl, sym, ap, subst, ◌∙◌, arith, length-append}
 use Rattle.std.proofs.lemmas.List.{get_or_default, get_or-map, length-map, get_or-append_right, get_or_append_left}
 use Rattle.std.proofs.lemmas.List.Elements.{All-map, All-weaker}
 use Rattle.std.proofs.lemmas.List.Sorted.{IsPermutation-append_right, IsPermutation-map, length_permutation, Contains-permutation, All-permutation}
@@ -19,17 +19,10 @@ use Rattle.lw_laws.specs.Networks as laws
 use Rattle.lw_laws.specs.Networks.{greatest_depth}
 use Rattle.lw_net.specs.Ordering.{AreRight, TellDepths}
 use Rattle.lw_net.proofs.Filling.{IsImage, image_at}
-use Rattle.lw_net.proofs.Numbering.{number_at, number_of, number_below, name_again, none_undefined, none_split, distinct_moved}
-use Rattle.lw_net.proofs.Paths.{bare, fanins_defined}
-
--- no fan-in is deeper than the greatest
-greatest-above : (depth : List ℕ → ℕ) (names : List (List ℕ)) → All (λ name. depth name ≤ greatest (map depth names)) names
-greatest-above depth names = λ k d lt. at names k d lt
-  where
-    at : (ns : List (List ℕ)) (k : ℕ) (d : List ℕ) → k < length ns → depth (get_or ns k d) ≤ greatest (map depth ns)
-    at [] k d lt = absurd (omega arith)
-    at (n ∷ ns) zero d lt = omega arith
-    at (n ∷ ns) (suc k) d lt = omega (arith, at ns k d (omega arith))
+use Rattle.lw_dag.proofs.Sorting.{greatest-above}
+use Rattle.lw_dag.proofs.Numbering.{number_at, number_of, number_below, name_again, none_unknown, none_split, distinct_moved}
+use Rattle.lw_dag.proofs.Named.{fanins_known}
+use Rattle.lw_net.proofs.Paths.{bare}
 
 -- each fan-in of each node is a signal
 abbrev HasSignals : List (List ℕ) → DraftNode → Type 0
@@ -63,7 +56,7 @@ module _ (draft : Draft) (depths : List ℕ) (order : List DraftNode) (is : IsDr
   all_signals : All (HasSignals names) order
   all_signals = All-permutation (HasSignals names) draft.nodes order moved (λ j d lt.
       subst (HasSignals names) (get_or_default draft.nodes j bare d lt)
-      (All-weaker (Contains (signals_of draft)) (Contains names) (λ f among. Contains-permutation (signals_of draft) names f names_moved among) (get_or draft.nodes j bare).fanins (fanins_defined (signals_of draft) draft.nodes split.0 j)))
+      (All-weaker (Contains (signals_of draft)) (Contains names) (λ f among. Contains-permutation (signals_of draft) names f names_moved among) (get_or draft.nodes j bare).fanins (fanins_known out_of fanins_of bare refl (signals_of draft) draft.nodes split.0 j)))
 
   abbrev IsDeep : DraftNode → Type 0
   IsDeep node = right.depth node.out ≡ 1 + greatest (map right.depth node.fanins)
@@ -121,7 +114,7 @@ module _ (draft : Draft) (depths : List ℕ) (order : List DraftNode) (is : IsDr
     few = ordered_few;
     nodes = λ j node at. at_image j node (image_at (closed_node names) order j node at);
     outputs = All-map (λ (net : NetId). net.0 < length names) (net_in names) draft.outputs
-        (All-weaker (Contains (signals_of draft)) (λ name. number_in names name < length names) (λ name among. number_below names name ordered_distinct (Contains-permutation (signals_of draft) names name names_moved among)) draft.outputs (none_undefined (signals_of draft) draft.outputs split.1));
+        (All-weaker (Contains (signals_of draft)) (λ name. number_in names name < length names) (λ name among. number_below names name ordered_distinct (Contains-permutation (signals_of draft) names name names_moved among)) draft.outputs (none_unknown (signals_of draft) draft.outputs split.1));
   }
     where
       at_image : (j : ℕ) (node : Node) → IsImage (closed_node names) order j node → IsNodeAt m j node

@@ -1,5 +1,5 @@
 -- What a draft is closed to, from the definition alone.
-use Rattle.std.proofs.Common.{◌≡◌, ℕ, zero, suc, ◌+◌, ◌<◌, ◌≤◌, List, [], ◌∷◌, ◌++◌, length, map, take, get_or, Contains, All, refl, sym, ap, ap₂, subst, ◌∙◌, arith}
+use Rattle.std.proofs.Common.{◌≡◌, ℕ, ◌≤◌, List, [], ◌∷◌, ◌++◌, map, get_or, Contains, All, refl, sym, ap, ap₂, subst, ◌∙◌, arith}
 use Rattle.std.proofs.Math.Seq.{take-append_seam}
 use Rattle.std.proofs.lemmas.List.{get_or-map, length-map}
 use Rattle.std.proofs.lemmas.List.Elements.{All-map, recursion_from_All}
@@ -12,10 +12,9 @@ use Rattle.lw_net.specs.declared.draft.DraftNode.{DraftNode}
 use Rattle.lw_net.specs.Closing.{IsDraft, IsClosed, signals_of, out_of, fanins_of, by_depth, greatest, net_in, network_in}
 use Rattle.lw_net.specs.Networks.{NetworkParts, IsNetwork, input_names, output_names, name_in}
 use Rattle.lw_net.specs.Ordering.{AreRight}
-use Rattle.lw_net.proofs.Numbering.{name_again, none_undefined, none_split}
+use Rattle.lw_dag.proofs.Numbering.{name_again, none_unknown, none_split}
 use Rattle.lw_net.proofs.Buckets.{moved, rising, within_greatest}
 use Rattle.lw_net.proofs.Assembled.{ordered_network, ordered_distinct}
-use Rattle.lw_net.proofs.Paths.{bare}
 
 module _ (draft : Draft) (net : NetworkParts) (is : IsDraft draft) (c : IsClosed draft net) where
   abbrev depth_of : DraftNode → ℕ
@@ -72,4 +71,4 @@ module _ (draft : Draft) (net : NetworkParts) (is : IsDraft draft) (c : IsClosed
       ∙ (again draft.outputs
       ∙ same_names draft.outputs (recursion_from_All (Contains names) draft.outputs (λ k d lt.
       Contains-permutation (signals_of draft) names (get_or draft.outputs k d) (IsPermutation-append_right draft.inputs (map out_of draft.nodes) (map out_of order) (IsPermutation-map out_of draft.nodes order order_moved))
-      (none_undefined (signals_of draft) draft.outputs (none_split (signals_of draft) (flat_map fanins_of draft.nodes) draft.outputs c.defined).1 k d lt))))
+      (none_unknown (signals_of draft) draft.outputs (none_split (signals_of draft) (flat_map fanins_of draft.nodes) draft.outputs c.defined).1 k d lt))))

@@ -4,12 +4,7 @@ pub mod Closed
 pub mod Filling
 pub mod NamedOrder
 pub mod Names
-pub mod Numbering
 pub mod Paths
 pub mod Placing
-pub mod Ranks
 pub mod Rise
-pub mod Rising
-pub mod Searching
-pub mod Sorting
 pub mod Writing

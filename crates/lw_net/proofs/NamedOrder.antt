@@ -8,14 +8,18 @@ use Rattle.lw_net.specs.declared.draft.DraftNode.{DraftNode}
 use Rattle.lw_net.specs.declared.written.NumberedNode.{NumberedNode}
 use Rattle.lw_net.specs.Closing.{IsClosed, by_depth, greatest, network_in}
 use Rattle.lw_net.specs.Networks.{NetworkParts}
-use Rattle.lw_net.specs.Ordering.{AreRight, TellDepths, TellNumbered, by_number}
+use Rattle.lw_dag.specs.Ordering.{AreKeys, by_key}
+use Rattle.lw_net.specs.Ordering.{AreRight, TellDepths}
 use Rattle.lw_net.specs.Written.{name_at, named_node, named_nodes}
 
 module _ (names : List (List ℕ)) (depth : List ℕ → ℕ) where
   abbrev pub by_name : ℕ → ℕ
   by_name n = depth (name_at names n)
 
-  pub tell_numbered : (depths : List ℕ) (nodes : List NumberedNode) → TellDepths depths (named_nodes names nodes) depth → TellNumbered depths nodes by_name
+  abbrev pub at_out : NumberedNode → ℕ
+  at_out node = by_name node.out
+
+  pub tell_numbered : (depths : List ℕ) (nodes : List NumberedNode) → TellDepths depths (named_nodes names nodes) depth → AreKeys depths nodes at_out
   tell_numbered depths nodes tell = λ k d lt.
       tell k (named_node names d) (omega (arith, length-map nodes (named_node names)))
       ∙ ap (λ (node : DraftNode). depth node.out) (get_or-map (named_node names) nodes k d (named_node names d) lt)
@@ -38,8 +42,8 @@ module _ (names : List (List ℕ)) (depth : List ℕ → ℕ) where
   depths_named [] = refl
   depths_named (node ∷ nodes) = ap (λ l. by_name node.out ∷ l) (depths_named nodes)
 
-  pub named_by_number : (nodes : List NumberedNode) → named_nodes names (by_number by_name nodes) ≡ by_depth depth (named_nodes names nodes)
-  named_by_number nodes =
+  pub named_by_key : (nodes : List NumberedNode) → named_nodes names (by_key at_out nodes) ≡ by_depth depth (named_nodes names nodes)
+  named_by_key nodes =
       named_range nodes 1 (greatest (map (λ (node : NumberedNode). by_name node.out) nodes))
       ∙ ap (λ l. flat_map (λ d. filter (λ (node : DraftNode). depth node.out == d) (named_nodes names nodes)) (range_with_len 1 (greatest l))) (depths_named nodes)
 
@@ -52,11 +56,11 @@ module _ (names : List (List ℕ)) (depth : List ℕ → ℕ) where
       omega (arith, first, second, up i j bare le in_order)
 
 -- the network of the nodes in order
-pub closed_by : (draft : Draft) (depths : List ℕ) (names : List (List ℕ)) (nodes order : List NumberedNode) (net : NetworkParts) → draft.nodes ≡ named_nodes names nodes → (right : AreRight draft depths) → order ≡ by_number (by_name names right.depth) nodes → net ≡ network_in draft (named_nodes names order) → IsClosed draft net
+pub closed_by : (draft : Draft) (depths : List ℕ) (names : List (List ℕ)) (nodes order : List NumberedNode) (net : NetworkParts) → draft.nodes ≡ named_nodes names nodes → (right : AreRight draft depths) → order ≡ by_key (at_out names right.depth) nodes → net ≡ network_in draft (named_nodes names order) → IsClosed draft net
 closed_by draft depths names nodes order net is right ordered made = record {
   defined = right.defined;
   no_cycle = right.no_cycle;
   depth = right.depth;
   depths = right.right;
-  network = made ∙ ap (network_in draft) (ap (named_nodes names) ordered ∙ (named_by_number names right.depth nodes ∙ ap (by_depth right.depth) (sym is)));
+  network = made ∙ ap (network_in draft) (ap (named_nodes names) ordered ∙ (named_by_key names right.depth nodes ∙ ap (by_depth right.depth) (sym is)));
 }

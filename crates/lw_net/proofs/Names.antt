@@ -1,66 +1,22 @@
 -- Names that differ, and their numbers.
-use Rattle.std.proofs.Common.{◌≡◌, ℕ, zero, suc, ◌+◌, ◌<◌, Bool, true, false, not, ◌||◌, cond, List, [], ◌∷◌, ◌++◌, length, map, take, drop, get_or, find, Some, None, refl, sym, ap, ap₂, ◌∙◌, arith}
-use Rattle.std.proofs.lemmas.Slice.Eq.{bytes_eq-Decides}
+use Rattle.std.proofs.Common.{◌≡◌, ℕ, ◌+◌, ◌<◌, Bool, true, false, not, cond, List, [], ◌∷◌, ◌++◌, length, map, take, drop, get_or, None, sym, ap, ap₂, ◌∙◌}
 use Rattle.std.proofs.lemmas.List.{take_more, at_drop_more, get_or_read, map_more}
 use Rattle.std.proofs.lemmas.Bool.{false≢true}
-use Rattle.std.specs.List.{list_any, flat_map, IsDistinct, AllByRecursion}
+use Rattle.std.specs.List.{list_any, flat_map, IsDistinct}
 use Rattle.std.specs.Str.{bytes_eq}
 use Rattle.indexmap.specs.IndexSet.{insert_key}
+use Rattle.lw_dag.proofs.Names.{find_first, find_later, none_before}
 use Rattle.lw_net.specs.declared.draft.DraftNode.{DraftNode}
 use Rattle.lw_net.specs.declared.fault.NetFault.{NetFault}
 use Rattle.lw_net.specs.declared.fault.NetFault.TheVariants.{Undefined, Cycle, Memory}
 use Rattle.lw_net.specs.Closing.{is_among, undefined_in, fanins_of, number_in}
 use Rattle.lw_net.specs.Numbered.{TellsUndefined, numbered}
 
-pub same_name : (xs ys : List ℕ) → bytes_eq xs ys ≡ true → xs ≡ ys
-same_name xs ys e = (bytes_eq-Decides xs ys).0 e
-
-pub alike : (xs ys : List ℕ) → xs ≡ ys → bytes_eq xs ys ≡ true
-alike xs ys e = (bytes_eq-Decides xs ys).1 e
-
--- the test doesn't mind the order
-pub differ_back : (xs ys : List ℕ) → bytes_eq xs ys ≡ false → bytes_eq ys xs ≡ false
-differ_back xs ys e = by_test (bytes_eq ys xs) refl
-  where
-    by_test : (b : Bool) → bytes_eq ys xs ≡ b → b ≡ false
-    by_test true is = absurd (false≢true (sym e ∙ alike xs ys (sym (same_name ys xs is))))
-    by_test false is = refl
-
--- a name is none of those before it
-pub none_before : (names : List (List ℕ)) (i : ℕ) (d : List ℕ) → IsDistinct bytes_eq names → i < length names → is_among (take i names) (get_or names i d) ≡ false
-unfolding IsDistinct
-none_before [] i d distinct below = absurd (omega arith)
-none_before (x ∷ xs) zero d distinct below = refl
-none_before (x ∷ xs) (suc i) d distinct below =
-    let inside : i < length xs = omega arith in
-    ap₂ (λ a b. a || b) (differ_back x (get_or xs i d) (at_place xs i d distinct.0 inside)) (none_before xs i d distinct.1 inside)
-  where
-    at_place : (ys : List (List ℕ)) (k : ℕ) (e : List ℕ) → AllByRecursion (λ y. bytes_eq x y ≡ false) ys → k < length ys → bytes_eq x (get_or ys k e) ≡ false
-    at_place [] k e all lt = absurd (omega arith)
-    at_place (y ∷ ys) zero e all lt = all.0
-    at_place (y ∷ ys) (suc k) e all lt = at_place ys k e all.1 (omega arith)
-
 -- one more node is numbered
 pub numbered_more : (signals : List (List ℕ)) (nodes : List DraftNode) (old new : List (List ℕ)) (i : ℕ) (node : DraftNode) (ns : List ℕ) → i < length nodes → node ≡ get_or nodes i node → old ≡ numbered signals (take i nodes) → ns ≡ map (number_in signals) node.fanins → new ≡ old ++ ns ∷ [] → new ≡ numbered signals (take (i + 1) nodes)
 numbered_more signals nodes old new i node ns below here was is grown =
     let one : DraftNode → List ℕ = λ n. map (number_in signals) n.fanins in
     grown ∙ (ap₂ (λ l n. l ++ n ∷ []) was (is ∙ ap one here) ∙ sym (map_more one nodes i node below))
-
-find_first : (p : List ℕ → Bool) (xs ys : List (List ℕ)) (x : List ℕ) → find p xs ≡ Some x → find p (xs ++ ys) ≡ Some x
-find_first p [] ys x e = cc
-find_first p (y ∷ xs) ys x e = by_test (p y) e (find_first p xs ys x)
-  where
-    by_test : (b : Bool) → cond b (Some y) (find p xs) ≡ Some x → (find p xs ≡ Some x → find p (xs ++ ys) ≡ Some x) → cond b (Some y) (find p (xs ++ ys)) ≡ Some x
-    by_test true is later = is
-    by_test false is later = later is
-
-find_later : (p : List ℕ → Bool) (xs ys : List (List ℕ)) → find p xs ≡ None → find p (xs ++ ys) ≡ find p ys
-find_later p [] ys e = refl
-find_later p (y ∷ xs) ys e = by_test (p y) e (find_later p xs ys)
-  where
-    by_test : (b : Bool) → cond b (Some y) (find p xs) ≡ None → (find p xs ≡ None → find p (xs ++ ys) ≡ find p ys) → cond b (Some y) (find p (xs ++ ys)) ≡ find p ys
-    by_test true is later = cc
-    by_test false is later = later is
 
 -- an undefined name of the first names is the first of all
 pub undefined_first : (signals xs ys : List (List ℕ)) (fault : NetFault) → TellsUndefined signals xs fault → TellsUndefined signals (xs ++ ys) fault

@@ -1,7 +1,6 @@
 -- A draft, and the same by numbers.
-use Rattle.std.proofs.Common.{◌≡◌, ℕ, zero, suc, ◌+◌, ◌-◌, ◌<◌, ◌≤◌, ◌⊎◌, inl, inr, true, List, [], ◌∷◌, length, map, take, drop, get_or, slice_get, Some, None, Contains, All, refl, sym, ap, subst, ◌∙◌, arith, length-append}
-use Rattle.std.proofs.lemmas.List.{get_or_default, get_or-map, length-map, get_or-append_right, get_or_append_left, get_or_past, get_or-drop, length-drop, take_rest}
-use Rattle.std.proofs.lemmas.List.Elements.{All-map, All-weaker, Contains-get_or}
+use Rattle.std.proofs.Common.{◌≡◌, ℕ, suc, ◌+◌, ◌-◌, ◌<◌, ◌≤◌, ◌⊎◌, inl, inr, true, List, [], ◌∷◌, length, map, take, drop, get_or, slice_get, Some, None, Contains, All, refl, sym, ap, subst, ◌∙◌, arith}
+use Rattle.std.proofs.lemmas.List.{get_or_default, get_or-map, length-map, get_or_append_left, get_or-drop, length-drop, take_rest}
 use Rattle.std.proofs.lemmas.Option.{slice_get-get_or, get_or_from_slice_get, slice_get_within}
 use Rattle.std.proofs.lemmas.Bool.{cases_lt}
 use Rattle.std.specs.List.{flat_map, IsDistinct}
@@ -13,23 +12,15 @@ use Rattle.lw_net.specs.declared.fault.NetFault.TheVariants.{Undefined, Cycle, M
 use Rattle.lw_net.proofs.Names.{undefined_first, undefined_later}
 use Rattle.lw_net.specs.Closing.{HasFault, signals_of, out_of, fanins_of, number_in, undefined_in, first_undefined, Reaches, HasNoCycle, IsFirstOnCycle, AreDepths, greatest}
 use Rattle.lw_net.specs.Closing.Reaches.{by_fanin, by_path}
-use Rattle.lw_net.specs.Numbered.{TellsUndefined, numbered, IsGraph, fanins_at, height_at, tallest, AreKnown, AreHeights, Leads, IsFirst}
-use Rattle.lw_net.specs.Numbered.Leads.{one_step, then_path}
+use Rattle.lw_dag.specs.Graphs.{IsGraph, fanins_at, height_at, tallest, AreKnown, AreHeights, Leads, IsFirst}
+use Rattle.lw_net.specs.Numbered.{TellsUndefined, numbered}
+use Rattle.lw_dag.specs.Graphs.Leads.{one_step, then_path}
+use Rattle.lw_dag.proofs.Named as dag
 use Rattle.lw_net.specs.Ordering.{AreRight}
-use Rattle.lw_net.proofs.Numbering.{number_at, number_below, name_again, none_undefined, none_split}
-use Rattle.lw_net.proofs.Searching.{placed_no_cycle, in_graph}
+use Rattle.lw_dag.proofs.Numbering.{number_at, number_below}
 
 abbrev pub bare : DraftNode
 bare = record { out = []; fanins = []; rows = []; on = true }
-
-contains_map : {A B : Type 0} (f : A → B) (xs : List A) (x : A) → Contains xs x → Contains (map f xs) (f x)
-contains_map f xs x (k, lt, e) = (k, subst (λ n. k < n) (sym (length-map xs f)) lt, get_or-map f xs k x (f x) lt ∙ ap f e)
-
--- each node's fan-ins are among the signals
-pub fanins_defined : (signals : List (List ℕ)) (nodes : List DraftNode) → undefined_in signals (flat_map fanins_of nodes) ≡ None → (j : ℕ) → All (Contains signals) (get_or nodes j bare).fanins
-fanins_defined signals [] none j = λ k d lt. absurd (omega arith)
-fanins_defined signals (node ∷ nodes) none zero = none_undefined signals node.fanins (none_split signals node.fanins (flat_map fanins_of nodes) none).0
-fanins_defined signals (node ∷ nodes) none (suc j) = fanins_defined signals nodes (none_split signals node.fanins (flat_map fanins_of nodes) none).1 j
 
 module _ (draft : Draft) (distinct : IsDistinct bytes_eq (signals_of draft)) (none : undefined_in (signals_of draft) (flat_map fanins_of draft.nodes) ≡ None) where
   abbrev signals : List (List ℕ)
@@ -48,87 +39,45 @@ module _ (draft : Draft) (distinct : IsDistinct bytes_eq (signals_of draft)) (no
   name_at s = get_or signals s []
 
   pub many_nodes : length graph ≡ length nodes
-  many_nodes = length-map nodes (λ (n : DraftNode). map (number_in signals) n.fanins)
+  many_nodes = dag.many_nodes out_of fanins_of bare refl draft.inputs nodes distinct none
 
   pub many : length signals ≡ m + length nodes
-  many = length-append draft.inputs (map out_of nodes) ∙ ap (λ n. m + n) (length-map nodes out_of)
+  many = dag.many out_of fanins_of bare refl draft.inputs nodes distinct none
 
   pub defined : (j : ℕ) → All (Contains signals) (get_or nodes j bare).fanins
-  defined j = fanins_defined signals nodes none j
+  defined = dag.known_at out_of fanins_of bare refl draft.inputs nodes distinct none
 
   pub graph_at : (j : ℕ) → j < length nodes → fanins_at graph j ≡ map (number_in signals) (get_or nodes j bare).fanins
-  graph_at j lt = get_or-map (λ (n : DraftNode). map (number_in signals) n.fanins) nodes j bare [] lt
+  graph_at = dag.graph_at out_of fanins_of bare refl draft.inputs nodes distinct none
 
   pub is_graph : IsGraph m graph
-  is_graph j = by_place (cases_lt j (length nodes))
-    where
-      by_place : (j < length nodes) ⊎ (length nodes ≤ j) → All (λ s. s < m + length graph) (fanins_at graph j)
-      by_place (inl lt) =
-          subst (All (λ s. s < m + length graph)) (sym (graph_at j lt))
-          (All-map (λ s. s < m + length graph) (number_in signals) (get_or nodes j bare).fanins
-          (All-weaker (Contains signals) (λ f. number_in signals f < m + length graph) (λ f among. omega (arith, number_below signals f distinct among, many, many_nodes)) (get_or nodes j bare).fanins (defined j)))
-      by_place (inr past) = subst (All (λ s. s < m + length graph)) (sym (get_or_past graph j [] (omega (arith, many_nodes)))) (λ k d lt. absurd (omega arith))
+  is_graph = dag.is_graph out_of fanins_of bare refl draft.inputs nodes distinct none
 
   pub out_at : (j : ℕ) → j < length nodes → name_at (m + j) ≡ (get_or nodes j bare).out
-  out_at j lt = get_or-append_right draft.inputs (map out_of nodes) m (m + j) [] refl (omega arith) ∙ (ap (λ k. get_or (map out_of nodes) k []) (shift m j) ∙ get_or-map out_of nodes j bare [] lt)
-    where
-      shift : (a b : ℕ) → a + b - a ≡ b
-      shift a b = omega arith
+  out_at = dag.out_at out_of fanins_of bare refl draft.inputs nodes distinct none
 
   pub number_out : (j : ℕ) → j < length nodes → number_in signals (get_or nodes j bare).out ≡ m + j
-  number_out j lt = ap (number_in signals) (sym (out_at j lt)) ∙ number_at signals (m + j) [] distinct (omega (arith, many))
+  number_out = dag.number_out out_of fanins_of bare refl draft.inputs nodes distinct none
 
-  -- what a number among a node's fan-ins stands for
-  record IsFanin (j s : ℕ) : Type 0 where
-    within : j < length nodes
-    among : Contains (get_or nodes j bare).fanins (name_at s)
+  abbrev IsLed : List ℕ → List ℕ → Type 0
+  IsLed from to = dag.IsLed out_of fanins_of bare refl draft.inputs nodes distinct none from to
 
-  is_fanin : (j s : ℕ) → Contains (fanins_at graph j) s → IsFanin j s
-  is_fanin j s among = record { within = within; among = at (subst (λ ns. Contains ns s) (graph_at j within) among) }
-    where
-      within : j < length nodes
-      within = omega (arith, in_graph graph j s among, many_nodes)
+  abbrev IsStep : List ℕ → List ℕ → Type 0
+  IsStep from to = dag.IsStep out_of fanins_of bare refl draft.inputs nodes distinct none from to
 
-      at : Contains (map (number_in signals) (get_or nodes j bare).fanins) s → Contains (get_or nodes j bare).fanins (name_at s)
-      at (k, lt, e) =
-          let fs = (get_or nodes j bare).fanins in
-          let inside : k < length fs = subst (λ n. k < n) (length-map fs (number_in signals)) lt in
-          let number : number_in signals (get_or fs k []) ≡ s = sym (get_or-map (number_in signals) fs k [] s inside) ∙ e in
-          let name : name_at s ≡ get_or fs k [] = ap name_at (sym number) ∙ name_again signals (get_or fs k []) [] distinct (defined j k [] inside) in
-          subst (Contains fs) (sym name) (Contains-get_or fs k [] inside)
-
-  pub leads_reaches : (j s : ℕ) → Leads m graph j s → Reaches nodes (name_at (m + j)) (name_at s)
+  leads_reaches : (j s : ℕ) → Leads m graph j s → Reaches nodes (name_at (m + j)) (name_at s)
   leads_reaches j s (one_step among) =
-      let f = is_fanin j s among in
-      by_fanin (get_or nodes j bare) (Contains-get_or nodes j bare f.within) (sym (out_at j f.within)) f.among
+      let f : IsStep (name_at (m + j)) (name_at s) = dag.step_at out_of fanins_of bare refl draft.inputs nodes distinct none j s among in
+      by_fanin f.node f.among f.named f.on
   leads_reaches j s (then_path k among path) =
-      let f = is_fanin j (m + k) among in
-      by_path (get_or nodes j bare) (Contains-get_or nodes j bare f.within) (sym (out_at j f.within)) f.among (leads_reaches k s path)
-
-  record IsLed (from to : List ℕ) : Type 0 where
-    place : ℕ
-    within : place < length nodes
-    named : (get_or nodes place bare).out ≡ from
-    path : Leads m graph place (number_in signals to)
-
-  place_of : (node : DraftNode) (to : List ℕ) → Contains node.fanins to → (j : ℕ) → j < length nodes → get_or nodes j bare ≡ node → Contains (fanins_at graph j) (number_in signals to)
-  place_of node to among j lt is =
-      subst (λ ns. Contains ns (number_in signals to)) (sym (graph_at j lt))
-      (contains_map (number_in signals) (get_or nodes j bare).fanins to (subst (λ (n : DraftNode). Contains n.fanins to) (sym is) among))
+      let f : IsStep (name_at (m + j)) (name_at (m + k)) = dag.step_at out_of fanins_of bare refl draft.inputs nodes distinct none j (m + k) among in
+      by_path f.node f.among f.named f.on (leads_reaches k s path)
 
   reaches_led : (from to : List ℕ) → Reaches nodes from to → IsLed from to
-  reaches_led from to (by_fanin node (j, lt, e) named among) =
-      let is : get_or nodes j bare ≡ node = get_or_default nodes j bare node lt ∙ e in
-      record { place = j; within = lt; named = ap out_of is ∙ named; path = one_step (place_of node to among j lt is) }
-  reaches_led from to (by_path {next = next} node (j, lt, e) named among rest) =
-      let is : get_or nodes j bare ≡ node = get_or_default nodes j bare node lt ∙ e in
-      let r = reaches_led next to rest in
-      let number : number_in signals next ≡ m + r.place = ap (number_in signals) (sym r.named) ∙ number_out r.place r.within in
-      record { place = j; within = lt; named = ap out_of is ∙ named; path = then_path r.place (subst (Contains (fanins_at graph j)) number (place_of node next among j lt is)) r.path }
-
-  -- a node that reaches itself
-  led_again : (name : List ℕ) → (l : IsLed name name) → Leads m graph l.place (m + l.place)
-  led_again name l = subst (Leads m graph l.place) (ap (number_in signals) (sym l.named) ∙ number_out l.place l.within) l.path
+  reaches_led from to (by_fanin node among named on) =
+      dag.led_step out_of fanins_of bare refl draft.inputs nodes distinct none from to (record { node = node; among = among; named = named; on = on })
+  reaches_led from to (by_path {next = next} node among named on rest) =
+      dag.led_path out_of fanins_of bare refl draft.inputs nodes distinct none from next to (record { node = node; among = among; named = named; on = on }) (reaches_led next to rest)
 
   pub first_on_cycle : (p : ℕ) (name : List ℕ) → p < length nodes → IsFirst m graph p → name ≡ (get_or nodes p bare).out → IsFirstOnCycle nodes name
   first_on_cycle p name within first is = record {
@@ -136,24 +85,15 @@ module _ (draft : Draft) (distinct : IsDistinct bytes_eq (signals_of draft)) (no
     within = within;
     named = slice_get-get_or (map out_of nodes) p [] (omega (arith, length-map nodes out_of)) ∙ ap (λ n. Some n) (get_or-map out_of nodes p bare [] within ∙ sym is);
     cycle = let same : name_at (m + p) ≡ name = out_at p within ∙ sym is in subst (λ n. Reaches nodes n n) same (leads_reaches p (m + p) first.cycle);
-    first = λ j other lt at path. by_place j lt (get_or_from_slice_get (map out_of nodes) j other [] at) (reaches_led other other path);
+    first = λ j other lt at path. dag.none_led_before out_of fanins_of bare refl draft.inputs nodes distinct none p within first j other lt at (reaches_led other other path);
   }
-    where
-      by_place : (j : ℕ) {other : List ℕ} → j < p → get_or (map out_of nodes) j [] ≡ other → IsLed other other → ⊥
-      by_place j {other = other} lt at l =
-          let inside : j < length nodes = omega arith in
-          let own : (get_or nodes j bare).out ≡ other = sym (get_or-map out_of nodes j bare [] inside) ∙ at in
-          let same : l.place ≡ j = omega (arith, sym (number_out l.place l.within) ∙ (ap (number_in signals) (l.named ∙ sym own) ∙ number_out j inside)) in
-          first.first j lt (subst (λ k. Leads m graph k (m + k)) same (led_again other l))
 
   module _ (heights : List ℕ) (known : AreKnown m graph heights) (all : (j : ℕ) → m + j < length heights → 0 < height_at heights (m + j)) where
     in_heights : (j : ℕ) → j < length nodes → m + j < length heights
     in_heights j lt = omega (arith, known.one_each, many_nodes)
 
     pub no_cycle : HasNoCycle nodes
-    no_cycle name path =
-        let l = reaches_led name name path in
-        placed_no_cycle m graph heights known l.place (all l.place (in_heights l.place l.within)) (led_again name l)
+    no_cycle name path = dag.none_led out_of fanins_of bare refl draft.inputs nodes distinct none heights known all name (reaches_led name name path)
 
     abbrev pub depth : List ℕ → ℕ
     depth name = height_at heights (number_in signals name) - 1

@@ -16,8 +16,8 @@ use Rattle.lw_net.specs.Closing.{is_among, number_in, net_in, undefined_in, sign
 use Rattle.lw_net.specs.Networks.{NetworkParts}
 use Rattle.lw_net.specs.Numbers.{draft_in, signal_numbers, IsWritten, IsTable}
 use Rattle.lw_net.specs.Written.{name_at, names_in, named_node, named_nodes, number_of_out, place_at, ArePlaces, net_placed, placed_node, IsWithin}
-use Rattle.lw_net.proofs.Numbering.{number_at, among_contains}
-use Rattle.lw_net.proofs.Names.{same_name}
+use Rattle.lw_dag.proofs.Numbering.{number_at, among_contains}
+use Rattle.lw_dag.proofs.Names.{same_name}
 use Rattle.lw_net.proofs.Writing.{outs_named}
 
 none_placed : (count n : ℕ) → place_at (replicate count 0) n ≡ 0

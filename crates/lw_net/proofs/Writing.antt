@@ -11,7 +11,7 @@ use Rattle.lw_net.specs.declared.draft.DraftNode.{DraftNode}
 use Rattle.lw_net.specs.declared.written.NumberedNode.{NumberedNode}
 use Rattle.lw_net.specs.Closing.{out_of}
 use Rattle.lw_net.specs.Written.{name_at, names_in, named_node, named_nodes, IsWithin, IsLonger, number_of_out}
-use Rattle.lw_net.proofs.Names.{same_name}
+use Rattle.lw_dag.proofs.Names.{same_name}
 
 pub longer_same : (names new : List (List ℕ)) → new ≡ names → IsLonger names new
 longer_same names new is = subst (IsLonger names) (sym is) (record { more = omega arith; same = λ n lt. refl })

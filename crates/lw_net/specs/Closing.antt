@@ -1,7 +1,9 @@
 -- What a draft is closed to: a network, or the first signal that nothing drives, or the first node on a cycle.
-use Rattle.std.specs.Prelude.{ℕ, ◌+◌, ◌<◌, ◌≤◌, ◌≡◌, ◌==◌, max, Bool, not, Option, Some, None, ⊤, List, [], ◌∷◌, ◌++◌, map, length, filter, find, position, unwrap_or, slice_get, Contains, All}
-use Rattle.std.specs.List.{flat_map, list_any, range_with_len, IsDistinct}
+use Rattle.std.specs.Prelude.{ℕ, ◌+◌, ◌<◌, ◌≤◌, ◌≡◌, ◌==◌, not, Option, Some, None, ⊤, List, ◌++◌, map, length, filter, find, slice_get, Contains, All}
+use Rattle.std.specs.List.{flat_map, range_with_len, IsDistinct}
 use Rattle.std.specs.Str.{bytes_eq}
+pub use Rattle.lw_dag.specs.Names.{is_among, number_in}
+pub use Rattle.lw_dag.specs.Ordering.{greatest}
 use Rattle.lw_pool.specs.declared.id.NetId.{NetId}
 use Rattle.lw_net.specs.declared.draft.Draft.{Draft}
 use Rattle.lw_net.specs.declared.draft.DraftNode.{DraftNode}
@@ -26,10 +28,6 @@ pub record IsDraft (draft : Draft) : Type 0 where
   pub outputs : IsDistinct bytes_eq draft.outputs
   pub columns : All (λ (node : DraftNode). All (λ (row : List ℕ). length row ≡ length node.fanins) node.rows) draft.nodes
   pub few : length (signals_of draft) ≤ most_nets
-
--- The name is one of these.
-abbrev pub is_among : List (List ℕ) → List ℕ → Bool
-is_among names name = list_any (bytes_eq name) names
 
 -- the first of some names that is none of the signals
 abbrev pub undefined_in : List (List ℕ) → List (List ℕ) → Option (List ℕ)
@@ -56,10 +54,6 @@ pub record IsFirstOnCycle (nodes : List DraftNode) (name : List ℕ) : Type 0 wh
   pub cycle : Reaches nodes name name
   pub first : (j : ℕ) (other : List ℕ) → j < place → slice_get (map out_of nodes) j ≡ Some other → Reaches nodes other other → ⊥
 
-abbrev pub greatest : List ℕ → ℕ
-greatest [] = 0
-greatest (n ∷ ns) = max n (greatest ns)
-
 -- The depths of the signals: 0 at an input, and at a node 1 more than the greatest of its fan-ins.
 pub record AreDepths (draft : Draft) (depth : List ℕ → ℕ) : Type 0 where
   pub inputs : All (λ name. depth name ≡ 0) draft.inputs
@@ -69,10 +63,6 @@ pub record AreDepths (draft : Draft) (depth : List ℕ → ℕ) : Type 0 where
 abbrev pub by_depth : (List ℕ → ℕ) → List DraftNode → List DraftNode
 by_depth depth nodes =
     flat_map (λ d. filter (λ (node : DraftNode). depth node.out == d) nodes) (range_with_len 1 (greatest (map (λ (node : DraftNode). depth node.out) nodes)))
-
--- the place of a name
-abbrev pub number_in : List (List ℕ) → List ℕ → ℕ
-number_in names name = unwrap_or (position (bytes_eq name) names) 0
 
 abbrev pub net_in : List (List ℕ) → List ℕ → NetId
 net_in names name = record { 0 = number_in names name }

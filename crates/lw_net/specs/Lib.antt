@@ -4,6 +4,5 @@ pub mod Numbered
 pub mod Numbers
 pub mod Ordering
 pub mod Plain
-pub mod Ranking
 pub mod Signs
 pub mod Written

@@ -1,23 +1,12 @@
 -- Nodes and their depths.
-use Rattle.std.specs.Prelude.{ℕ, ◌<◌, ◌≤◌, ◌≡◌, ◌==◌, None, All, List, length, map, filter, slice_index_or}
-use Rattle.std.specs.List.{flat_map, range_with_len}
+use Rattle.std.specs.Prelude.{ℕ, ◌<◌, ◌≤◌, ◌≡◌, None, All, List, length, slice_index_or}
 use Rattle.lw_net.specs.declared.draft.Draft.{Draft}
 use Rattle.lw_net.specs.declared.draft.DraftNode.{DraftNode}
-use Rattle.lw_net.specs.declared.written.NumberedNode.{NumberedNode}
-use Rattle.lw_net.specs.Closing.{first_undefined, HasNoCycle, AreDepths, greatest}
+use Rattle.lw_net.specs.Closing.{first_undefined, HasNoCycle, AreDepths}
 
 -- these are the depths of what the nodes drive, by place
 abbrev pub TellDepths : List ℕ → List DraftNode → (List ℕ → ℕ) → Type 0
 TellDepths depths nodes depth = (k : ℕ) (d : DraftNode) → k < length nodes → slice_index_or depths k 0 ≡ depth (slice_index_or nodes k d).out
-
--- the same by numbers
-abbrev pub TellNumbered : List ℕ → List NumberedNode → (ℕ → ℕ) → Type 0
-TellNumbered depths nodes depth = (k : ℕ) (d : NumberedNode) → k < length nodes → slice_index_or depths k 0 ≡ depth (slice_index_or nodes k d).out
-
--- the nodes by depth, and at one depth as they stand
-abbrev pub by_number : (ℕ → ℕ) → List NumberedNode → List NumberedNode
-by_number depth nodes =
-    flat_map (λ d. filter (λ (node : NumberedNode). depth node.out == d) nodes) (range_with_len 1 (greatest (map (λ (node : NumberedNode). depth node.out) nodes)))
 
 -- The draft has neither fault, and its nodes have these depths.
 pub record AreRight (draft : Draft) (depths : List ℕ) : Type 0 where

@@ -9,12 +9,11 @@ ghost use Rattle.lw_net.specs.Numbers.{draft_in, IsWritten, IsTable};
 ghost use Rattle.lw_net.specs.Ordering.{AreRight};
 ghost use Rattle.lw_net.specs.Written.{names_in, net_placed, placed_node, IsWithin};
 
-use crate::cycles::{first_on_cycle, first_stuck};
-use crate::levels::heights;
 use crate::places::{copy_of, graph, places, row};
 use crate::written::{NumberedNode, Written, signal_list};
 use crate::{NetFault, Node};
 use indexmap::IndexSet;
+use lw_dag::{find_levels, first_on_cycle};
 use lw_pool::{Name, NetId, Nets, Numbers};
 use std::alloc::{AllocError, Global};
 
@@ -36,12 +35,15 @@ pub(crate) fn table(alloc: Global, w: &Written) -> Result<Vec<u32>, AllocError>
     places(alloc, w.names.len(), &signals)
 }
 
-// The numbers of the nodes' fan-ins among the signals of a draft, or the first signal that nothing drives.
+// The numbers of the nodes' fan-ins among the signals of a draft, or the first signal that nothing
+// drives.
 pub(crate) fn graph_of(alloc: Global, w: &Written) -> Result<Vec<Numbers>, NetFault>
     requires kept { IsWritten w.now }
     requires draft { IsDraft (draft_in w.now) }
-    ensures graph { IfOk result (λ graph. graph.items ≡ numbered (signals_of (draft_in w.now)) (draft_in w.now).nodes) }
-    ensures fanins { OnOk result (undefined_in (signals_of (draft_in w.now)) (flat_map fanins_of (draft_in w.now).nodes) ≡ None) }
+    ensures graph { IfOk result (λ graph. graph.items
+        ≡ numbered (signals_of (draft_in w.now)) (draft_in w.now).nodes) }
+    ensures fanins { OnOk result (undefined_in (signals_of (draft_in w.now))
+        (flat_map fanins_of (draft_in w.now).nodes) ≡ None) }
     ensures defined { OnOk result (first_undefined (draft_in w.now) ≡ None) }
     ensures fault { IfErr result (HasFault (draft_in w.now)) }
 {
@@ -56,20 +58,21 @@ pub(crate) fn depths(alloc: Global, w: &Written, graph: &[Numbers]) -> Result<Ve
     requires kept { IsWritten w.now }
     requires draft { IsDraft (draft_in w.now) }
     requires graph { graph.now ≡ numbered (signals_of (draft_in w.now)) (draft_in w.now).nodes }
-    requires fanins { undefined_in (signals_of (draft_in w.now)) (flat_map fanins_of (draft_in w.now).nodes) ≡ None }
+    requires fanins { undefined_in (signals_of (draft_in w.now))
+        (flat_map fanins_of (draft_in w.now).nodes) ≡ None }
     requires defined { first_undefined (draft_in w.now) ≡ None }
     ensures right { IfOk result (λ depths. AreRight (draft_in w.now) depths.items) }
     ensures fault { IfErr result (HasFault (draft_in w.now)) }
 {
     let inputs = w.inputs.len();
-    let heights = heights(alloc, inputs, graph)?;
-    if let Some(start) = first_stuck(inputs, &heights) {
-        let place = first_on_cycle(alloc, inputs, graph, &heights, start)?;
+    let levels = find_levels(alloc, inputs, graph)?;
+    let first = first_on_cycle(alloc, inputs, graph, &levels.heights)?;
+    if let Some(place) = first {
         let node = &w.nodes[place];
         let name = copy_of(alloc, &w.names, node.out)?;
         return Err(NetFault::Cycle(name));
     }
-    let depths = depths_of(alloc, &heights[inputs..])?;
+    let depths = depths_of(alloc, &levels.heights[inputs..])?;
     Ok(depths)
 }
 

@@ -96,7 +96,8 @@ impl DraftNodes {
 
     // Whether each row of each node has one byte per fan-in.
     fn have_columns(&self) -> bool
-        ensures { IsTrue result ↔ All (λ node. All (λ row. length row ≡ length node.fanins) node.rows) self.now }
+        ensures { IsTrue result ↔ All (λ node. All
+            (λ row. length row ≡ length node.fanins) node.rows) self.now }
     {
         nodes_have_columns(&self.nodes)
     }
@@ -123,7 +124,8 @@ impl Draft {
     ghost use Rattle.std.specs.Prelude.{IfOk};
     ghost use Rattle.lw_net.specs.Closing.{IsDraft};
 
-    /// Whether it may be closed: inputs and node outputs differ, outputs differ, each row has one byte per fan-in, and there are at most
+    /// Whether it may be closed: inputs and node outputs differ, outputs differ, each row has one
+    /// byte per fan-in, and there are at most
     /// 262,144 signals.
     pub fn may_close(&self, alloc: Global) -> Result<bool, AllocError>
         ensures { IfOk result (λ may. IsTrue may ↔ IsDraft self.now) }
@@ -149,7 +151,8 @@ fn has_columns(node: &NumberedNode) -> bool
 
 // Whether that is so of each node.
 fn nodes_have_columns(nodes: &[NumberedNode]) -> bool
-    ensures { IsTrue result ↔ All (λ node. All (λ row. length row ≡ length node.fanins) node.rows) nodes.now }
+    ensures { IsTrue result ↔ All (λ node. All (λ row. length row ≡ length node.fanins) node.rows)
+        nodes.now }
 {
     nodes.iter().all(|node| has_columns(node))
 }

@@ -38,7 +38,8 @@ fn row_holds(row: &[u8], fanins: &[NetId], nets: &[bool]) -> bool
 fn some_row_holds(rows: &[Cube], fanins: &[NetId], nets: &[bool]) -> bool
     requires columns { All (λ row. length row ≡ length fanins.now) rows.now }
     requires known { All (λ net. net.0 < length nets.now) fanins.now }
-    ensures { result ≡ list_any (row_value (values_at nets.now fanins.now)) (map (map asked) rows.now) }
+    ensures { result ≡ list_any (row_value (values_at nets.now fanins.now))
+        (map (map asked) rows.now) }
 {
     for row in rows {
         if row_holds(row.as_slice(), fanins, nets) {
@@ -60,10 +61,13 @@ fn value_of(node: &Node, nets: &[bool]) -> bool
 
 // Fills in the nets that the nodes drive, which are those from `first` on.
 pub(crate) fn fill(nodes: &[Node], first: usize, nets: &mut [bool])
-    requires nodes { (j : ℕ) (node : _) → slice_get nodes.now j ≡ Some node → IsNodeAt first j node }
+    requires nodes { (j : ℕ) (node : _) → slice_get nodes.now j ≡ Some node →
+        IsNodeAt first j node }
     requires one_each { length nets.old ≡ first + length nodes.now }
-    ensures inputs { (i : ℕ) → i < first → slice_index_or nets.new i false ≡ slice_index_or nets.old i false }
-    ensures values { (j : ℕ) (node : _) → slice_get nodes.now j ≡ Some node → slice_index_or nets.new (first + j) false ≡ node_value nets.new (plain_node node) }
+    ensures inputs { (i : ℕ) → i < first →
+        slice_index_or nets.new i false ≡ slice_index_or nets.old i false }
+    ensures values { (j : ℕ) (node : _) → slice_get nodes.now j ≡ Some node →
+        slice_index_or nets.new (first + j) false ≡ node_value nets.new (plain_node node) }
 {
     for (j, node) in nodes.iter().enumerate() {
         nets[first + j] = value_of(node, nets);

@@ -2,19 +2,14 @@
 #![tactic(auto)]
 
 mod close;
-mod cycles;
 mod draft;
 mod eval;
 mod fault;
 mod laws;
-mod levels;
 mod naming;
 mod network;
 mod node;
-mod order;
 mod places;
-mod ranking;
-mod turning;
 mod written;
 
 pub use draft::{Draft, DraftNode, DraftNodes};

@@ -2,9 +2,9 @@ ghost use Rattle.std.specs.Prelude.{◌≡◌, ◌≤◌, length};
 
 use crate::close::{closed_nodes, copies, depths, graph_of, nets, table};
 use crate::eval::{copy_front, fill};
-use crate::order::in_order;
 use crate::written::{Written, by_numbers, signal_list};
 use crate::{Draft, NetFault, Node, Nodes};
+use lw_dag::in_order;
 use lw_pool::{Name, Names, NetId, Nets};
 use std::alloc::{AllocError, Global};
 use std::marker::Model;
@@ -101,9 +101,10 @@ impl Network {
 
     /// The network of a draft, with its nodes by depth and, at one depth, as they are written.
     ///
-    /// `Undefined` names the first fan-in, by nodes and columns, or else the first output that nothing drives. Else `Cycle` names the
-    /// first node that reaches itself through fan-ins. `Memory` is the one free answer. It works in time in proportion to the draft,
-    /// the sort by depth aside, and keeps its own stacks.
+    /// `Undefined` names the first fan-in, by nodes and columns, or else the first output that
+    /// nothing drives. Else `Cycle` names the first node that reaches itself through fan-ins.
+    /// `Memory` is the one free answer. It works in time in proportion to the draft, the sort by
+    /// depth aside, and keeps its own stacks.
     pub fn close(alloc: Global, draft: Draft) -> Result<Network, NetFault>
         requires { IsDraft draft }
         ensures closed { IfOk result (IsClosed draft) }

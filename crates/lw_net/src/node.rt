@@ -6,7 +6,8 @@ use smallvec::SmallVec;
 use std::alloc::{AllocError, Global};
 use std::marker::Model;
 
-/// A row of a node: a byte `0`, `1` or `-` for each fan-in, in columns. Up to 16 of them take no memory of their own.
+/// A row of a node: a byte `0`, `1` or `-` for each fan-in, in columns. Up to 16 of them take no
+/// memory of their own.
 #[derive(Debug, Drop)]
 pub struct Cube {
     signs: SmallVec<u8, 16>,
@@ -137,7 +138,8 @@ impl Cubes {
         &self.items[place]
     }
 
-    /// Appends an entry. For want of memory nothing is changed. The first takes no more room than its own, since many nodes have one row.
+    /// Appends an entry. For want of memory nothing is changed. The first takes no more room than
+    /// its own, since many nodes have one row.
     pub fn push(&mut self, item: Cube) -> Result<(), AllocError>
         ensures ok { OnOk result (self.new ≡ self.old ++ item ∷ []) }
         ensures err { OnErr result (self.new ≡ self.old) }
@@ -150,8 +152,8 @@ impl Cubes {
     }
 }
 
-/// A node: the net that it drives, its fan-ins in columns, and its rows. Where `on` is true the node is true where some row
-/// holds, else where none does. A fan-in may repeat.
+/// A node: the net that it drives, its fan-ins in columns, and its rows. Where `on` is true the
+/// node is true where some row holds, else where none does. A fan-in may repeat.
 #[derive(Debug, Drop)]
 pub struct Node {
     pub out: NetId,

@@ -72,9 +72,12 @@ pub(crate) fn row(
 ) -> Result<Numbers, NetFault>
     requires table { IsTable w.now places.now }
     requires within { All (λ n. n < length w.now.names.keys) list.now }
-    ensures ok { IfOk result (λ ns. ns ≡ map (number_in (signals_of (draft_in w.now))) (names_in w.now.names.keys list.now)) }
-    ensures defined { OnOk result (undefined_in (signals_of (draft_in w.now)) (names_in w.now.names.keys list.now) ≡ None) }
-    ensures fault { IfErr result (TellsUndefined (signals_of (draft_in w.now)) (names_in w.now.names.keys list.now)) }
+    ensures ok { IfOk result (λ ns. ns
+        ≡ map (number_in (signals_of (draft_in w.now))) (names_in w.now.names.keys list.now)) }
+    ensures defined { OnOk result (undefined_in (signals_of (draft_in w.now))
+        (names_in w.now.names.keys list.now) ≡ None) }
+    ensures fault { IfErr result (TellsUndefined (signals_of (draft_in w.now))
+        (names_in w.now.names.keys list.now)) }
 {
     let Ok(mut numbers) = Vec::with_capacity(alloc, list.len()) else {
         return Err(NetFault::Memory);
@@ -94,9 +97,12 @@ pub(crate) fn row(
 // The numbers of the fan-ins of each node, or the first fan-in that has none.
 pub(crate) fn graph(alloc: Global, w: &Written, places: &[u32]) -> Result<Vec<Numbers>, NetFault>
     requires { IsTable w.now places.now }
-    ensures ok { IfOk result (λ graph. graph.items ≡ numbered (signals_of (draft_in w.now)) (draft_in w.now).nodes) }
-    ensures defined { OnOk result (undefined_in (signals_of (draft_in w.now)) (flat_map fanins_of (draft_in w.now).nodes) ≡ None) }
-    ensures fault { IfErr result (TellsUndefined (signals_of (draft_in w.now)) (flat_map fanins_of (draft_in w.now).nodes)) }
+    ensures ok { IfOk result (λ graph. graph.items
+        ≡ numbered (signals_of (draft_in w.now)) (draft_in w.now).nodes) }
+    ensures defined { OnOk result (undefined_in (signals_of (draft_in w.now))
+        (flat_map fanins_of (draft_in w.now).nodes) ≡ None) }
+    ensures fault { IfErr result (TellsUndefined (signals_of (draft_in w.now))
+        (flat_map fanins_of (draft_in w.now).nodes)) }
 {
     let nodes = w.nodes.as_slice();
     let Ok(mut graph) = Vec::with_capacity(alloc, nodes.len()) else {

@@ -18,7 +18,8 @@ pub(crate) struct NumberedNode {
     pub(crate) on: bool,
 }
 
-/// A network as it is written. Each of its names stands once in a list, and is known by its number there.
+/// A network as it is written. Each of its names stands once in a list, and is known by its number
+/// there.
 #[derive(Drop)]
 pub(crate) struct Written {
     pub(crate) model: Name,

@@ -1,5 +1,5 @@
 -- A netlist whose gates stand by depth.
-use Rattle.std.proofs.Common.{◌≡◌, ℕ, zero, suc, ◌+◌, ◌-◌, ◌^◌, ◌<◌, ◌≤◌, ◌⊎◌, inl, inr, slice_get, Some, List, [], ◌∷◌, ◌++◌, length, map, get_or, None, Contains, All, refl, sym, ap, subst, ◌∙◌, arith, length-append}
+use Rattle.std.proofs.Common.{◌≡◌, ℕ, ◌+◌, ◌-◌, ◌^◌, ◌<◌, ◌≤◌, ◌⊎◌, inl, inr, slice_get, Some, List, [], ◌++◌, length, map, get_or, None, Contains, All, refl, sym, ap, subst, ◌∙◌, arith, length-append}
 use Rattle.std.proofs.lemmas.List.{get_or_default, get_or-map, length-map, get_or-append_right, get_or_append_left}
 use Rattle.std.proofs.lemmas.List.Elements.{All-map, All-weaker, Contains-append_left}
 use Rattle.std.proofs.lemmas.List.Sorted.{IsPermutation-append_right, IsPermutation-map, length_permutation, Contains-permutation, All-permutation}
@@ -18,23 +18,15 @@ use Rattle.lw_netlist.specs.declared.gate.Port.{Port}
 use Rattle.lw_netlist.specs.Closing.{IsNetOf, IsOfCell, closed_gate, drivers, first_undriven, greatest, links, needs_of, netlist_in, out_of, port_at, undriven_in}
 use Rattle.lw_netlist.specs.Closing.IsNetOf.{at_input, at_gate, at_wire}
 use Rattle.lw_netlist.specs.Netlists.{IsGateAt, IsNetlist, most_nets}
-use Rattle.lw_netlist.specs.Numbered.{number_in}
+use Rattle.lw_dag.specs.Names.{number_in}
 use Rattle.lw_netlist.specs.Ordering.{AreRight, IsStart, net_by, start_in}
 use Rattle.lw_netlist.specs.Ordering.IsStart.{of_driver, of_wire}
 use Rattle.lw_netlist.specs.Plain.{HasCell, IsOver}
 use Rattle.lw_netlist.proofs.Names.{drivers_are, to_of}
-use Rattle.lw_netlist.proofs.Numbering.{number_at, number_of, number_below, none_undriven, none_split, distinct_moved, distinct_left}
+use Rattle.lw_dag.proofs.Sorting.{greatest-above}
+use Rattle.lw_dag.proofs.Numbering.{number_at, number_of, number_below, none_unknown, none_split, distinct_moved, distinct_left}
 use Rattle.lw_netlist.proofs.Paths.{driven_needs}
 use Rattle.lw_netlist.proofs.Starting.{bare_gate, link_of_gate}
-
--- no pin is deeper than the greatest
-greatest-above : (depth : List ℕ → ℕ) (names : List (List ℕ)) → All (λ name. depth name ≤ greatest (map depth names)) names
-greatest-above depth names = λ k d lt. at names k d lt
-  where
-    at : (ns : List (List ℕ)) (k : ℕ) (d : List ℕ) → k < length ns → depth (get_or ns k d) ≤ greatest (map depth ns)
-    at [] k d lt = absurd (omega arith)
-    at (n ∷ ns) zero d lt = omega arith
-    at (n ∷ ns) (suc k) d lt = omega (arith, at ns k d (omega arith))
 
 -- an element of a map
 record IsImage {A B : Type 0} (f : A → B) (xs : List A) (j : ℕ) (y : B) : Type 0 where
@@ -188,7 +180,7 @@ module _ (draft : GateDraft) (depths starts : List ℕ) (order : List DraftGate)
       gate = get_or order j bare_gate
 
   pub outputs_driven : All (Contains driven) draft.outputs
-  outputs_driven = none_undriven driven draft.outputs (none_split driven (flat_map needs_of (links draft)) draft.outputs whole).1
+  outputs_driven = none_unknown driven draft.outputs (none_split driven (flat_map needs_of (links draft)) draft.outputs whole).1
 
   pub ordered_netlist : IsNetlist (netlist_in ordered order net_of)
   ordered_netlist = record {

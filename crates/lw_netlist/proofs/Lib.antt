@@ -5,13 +5,7 @@ pub mod Latest
 pub mod Moving
 pub mod Names
 pub mod NetValues
-pub mod Numbering
 pub mod Paths
 pub mod Pins
-pub mod Rising
-pub mod Searching
 pub mod Settling
-pub mod Sorting
 pub mod Starting
-pub mod Telling
-pub mod Users

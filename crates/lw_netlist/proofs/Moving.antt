@@ -13,10 +13,12 @@ use Rattle.lw_netlist.specs.declared.gate.Gate.{Gate}
 use Rattle.lw_netlist.specs.declared.gate.Port.{Port}
 use Rattle.lw_netlist.specs.Closing.{Link, closed_gate, drivers, links, name_of, netlist_in, out_of, port_at}
 use Rattle.lw_netlist.specs.Netlists.{NetlistParts}
-use Rattle.lw_netlist.specs.Numbered.{HasRow, needs_at, net_at, net_in, number_in, numbered}
+use Rattle.lw_dag.specs.Graphs.{fanins_at}
+use Rattle.lw_dag.specs.Names.{number_in}
+use Rattle.lw_netlist.specs.Numbered.{HasRow, net_at, net_in, numbered}
 use Rattle.lw_netlist.specs.Ordering.{IsGraphOf, TellNets, net_by}
 use Rattle.lw_netlist.proofs.Names.{once_distinct}
-use Rattle.lw_netlist.proofs.Numbering.{number_below}
+use Rattle.lw_dag.proofs.Numbering.{number_below}
 use Rattle.lw_netlist.proofs.Paths.{bare, many, many_links, driven_needs, graph_at, link_name_at, number_link}
 use Rattle.lw_netlist.proofs.Starting.{bare_gate, link_of_gate, links_many}
 
@@ -28,7 +30,7 @@ abbrev pub gate_with : DraftGate → List NetId → NetId → Gate
 gate_with gate pins out = record { cell = gate.cell; pins = pins; out = out }
 
 -- the numbers of a row are in range
-pub row_below : (inputs count : ℕ) (driven graph : List (List ℕ)) (gate : DraftGate) (h : HasRow inputs driven graph gate) → IsDistinct bytes_eq driven → count ≡ length driven → All (λ s. s < count) (needs_at graph h.place)
+pub row_below : (inputs count : ℕ) (driven graph : List (List ℕ)) (gate : DraftGate) (h : HasRow inputs driven graph gate) → IsDistinct bytes_eq driven → count ≡ length driven → All (λ s. s < count) (fanins_at graph h.place)
 row_below inputs count driven graph gate h distinct is =
     subst (All (λ s. s < count)) (sym h.row)
     (All-map (λ s. s < count) (number_in driven) gate.pins

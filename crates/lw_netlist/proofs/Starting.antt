@@ -10,11 +10,13 @@ use Rattle.lw_netlist.specs.declared.draft.DraftGate.{DraftGate}
 use Rattle.lw_netlist.specs.declared.draft.GateDraft.{GateDraft}
 use Rattle.lw_netlist.specs.declared.draft.Wire.{Wire}
 use Rattle.lw_netlist.specs.Closing.{AreDepths, Link, drivers, gate_link, greatest, links, name_of, needs_of, out_of, undriven_in, wire_link}
-use Rattle.lw_netlist.specs.Numbered.{AreKnown, AreSettled, deepest, depth_at, first_start, height_at, needs_at, number_in, numbered, start_at, step_of, tallest}
+use Rattle.lw_dag.specs.Graphs.{AreKnown, IsOrdered, height_at, fanins_at, tallest}
+use Rattle.lw_dag.specs.Names.{number_in}
+use Rattle.lw_netlist.specs.Numbered.{AreSettled, IsSettled, deepest, depth_at, first_start, numbered, start_at, step_of}
 use Rattle.lw_netlist.specs.Ordering.{AreRight, IsGraphOf, IsStart, start_in}
 use Rattle.lw_netlist.specs.Ordering.IsStart.{of_driver, of_wire}
 use Rattle.lw_netlist.proofs.Names.{once_distinct}
-use Rattle.lw_netlist.proofs.Numbering.{number_at, number_below, name_again}
+use Rattle.lw_dag.proofs.Numbering.{number_at, number_below, name_again}
 use Rattle.lw_netlist.proofs.Paths.{bare, many, many_links, graph_at, link_name_at, number_link, driven_needs, no_cycle}
 
 abbrev pub bare_gate : DraftGate
@@ -46,7 +48,7 @@ link_of_wire draft k lt =
     shift : (a b : ℕ) → a + b - a ≡ b
     shift a b = omega arith
 
-module _ (draft : GateDraft) (distinct : IsDistinct bytes_eq (drivers draft)) (none : undriven_in (drivers draft) (flat_map needs_of (links draft)) ≡ None) (heights depths starts : List ℕ) (known : AreKnown (length draft.inputs) (numbered (drivers draft) (links draft)) heights) (settled : AreSettled (length draft.inputs) (length draft.gates) (numbered (drivers draft) (links draft)) heights depths starts) (all : (j : ℕ) → length draft.inputs + j < length heights → 0 < height_at heights (length draft.inputs + j)) where
+module _ (draft : GateDraft) (distinct : IsDistinct bytes_eq (drivers draft)) (none : undriven_in (drivers draft) (flat_map needs_of (links draft)) ≡ None) (heights order depths starts : List ℕ) (known : AreKnown (length draft.inputs) (numbered (drivers draft) (links draft)) heights) (ordered : IsOrdered (length draft.inputs) (numbered (drivers draft) (links draft)) heights order) (settled : AreSettled (length draft.inputs) (length draft.gates) (numbered (drivers draft) (links draft)) heights order depths starts) (all : (j : ℕ) → length draft.inputs + j < length heights → 0 < height_at heights (length draft.inputs + j)) where
   abbrev driven : List (List ℕ)
   driven = drivers draft
 
@@ -77,13 +79,16 @@ module _ (draft : GateDraft) (distinct : IsDistinct bytes_eq (drivers draft)) (n
   some_height : (j : ℕ) → j < length ls → 0 < height_at heights (m + j)
   some_height j lt = all j (omega (arith, known.one_each, rows))
 
-  gate_row : (j : ℕ) → j < g → needs_at graph j ≡ map (number_in driven) (get_or draft.gates j bare_gate).pins
+  settled_at : (j : ℕ) → j < length ls → IsSettled g j (m + j) depths starts (fanins_at graph j)
+  settled_at j lt = let inside : j < length graph = omega (arith, rows) in settled.settled j (ordered.each j inside (some_height j lt))
+
+  gate_row : (j : ℕ) → j < g → fanins_at graph j ≡ map (number_in driven) (get_or draft.gates j bare_gate).pins
   gate_row j lt = graph_at draft distinct none j (omega (arith, links_many draft)) ∙ ap (λ (l : Link). map (number_in driven) l.needs) (link_of_gate draft j lt)
 
   gate_number : (j : ℕ) → j < g → number_in driven (get_or draft.gates j bare_gate).out ≡ m + j
   gate_number j lt = ap (λ (l : Link). number_in driven l.name) (sym (link_of_gate draft j lt)) ∙ number_link draft distinct none j (omega (arith, links_many draft))
 
-  wire_row : (k : ℕ) → k < length draft.wires → needs_at graph (g + k) ≡ number_in driven (get_or draft.wires k bare_wire).from ∷ []
+  wire_row : (k : ℕ) → k < length draft.wires → fanins_at graph (g + k) ≡ number_in driven (get_or draft.wires k bare_wire).from ∷ []
   wire_row k lt = graph_at draft distinct none (g + k) (omega (arith, links_many draft)) ∙ ap (λ (l : Link). map (number_in driven) l.needs) (link_of_wire draft k lt)
 
   wire_number : (k : ℕ) → k < length draft.wires → number_in driven (get_or draft.wires k bare_wire).to ≡ m + (g + k)
@@ -102,16 +107,16 @@ module _ (draft : GateDraft) (distinct : IsDistinct bytes_eq (drivers draft)) (n
   gate_depth : (j : ℕ) → j < g → depth_at depths (m + j) ≡ 1 + greatest (map depth (get_or draft.gates j bare_gate).pins)
   gate_depth j lt =
       let in_links : j < length ls = omega (arith, links_many draft) in
-      let s = settled.settled j (omega (arith, rows)) (some_height j in_links) in
+      let s = settled_at j in_links in
       let step : step_of g j ≡ 1 = ap (λ b. cond b 1 0) (tested_lt j g lt) in
       s.depth ∙ ap₂ (λ a b. a + b) step (ap (deepest depths) (gate_row j lt) ∙ greatest_depth (get_or draft.gates j bare_gate).pins)
 
   wire_depth : (k : ℕ) → k < length draft.wires → depth_at depths (m + (g + k)) ≡ depth (get_or draft.wires k bare_wire).from
   wire_depth k lt =
       let in_links : g + k < length ls = omega (arith, links_many draft) in
-      let s = settled.settled (g + k) (omega (arith, rows)) (some_height (g + k) in_links) in
+      let s = settled_at (g + k) in_links in
       let step : step_of g (g + k) ≡ 0 = ap (λ b. cond b 1 0) (tested_ge (g + k) g (omega arith)) in
-      let row : deepest depths (needs_at graph (g + k)) ≡ max (depth (get_or draft.wires k bare_wire).from) 0 = ap (deepest depths) (wire_row k lt) in
+      let row : deepest depths (fanins_at graph (g + k)) ≡ max (depth (get_or draft.wires k bare_wire).from) 0 = ap (deepest depths) (wire_row k lt) in
       s.depth ∙ omega (arith, step, row)
 
   depths_are : AreDepths draft depth
@@ -124,8 +129,8 @@ module _ (draft : GateDraft) (distinct : IsDistinct bytes_eq (drivers draft)) (n
   -- an input or a gate starts at itself
   gate_start : (j : ℕ) → j < g → start_at starts (m + j) ≡ m + j
   gate_start j lt =
-      let s = settled.settled j (omega (arith, rows, links_many draft)) (some_height j (omega (arith, links_many draft))) in
-      s.start ∙ ap (λ b. cond b (m + j) (first_start starts (m + j) (needs_at graph j))) (tested_lt j g lt)
+      let s = settled_at j (omega (arith, links_many draft)) in
+      s.start ∙ ap (λ b. cond b (m + j) (first_start starts (m + j) (fanins_at graph j))) (tested_lt j g lt)
 
   own_start_at : (s : ℕ) → s < m + g → start_at starts s ≡ s
   own_start_at s lt = by_place (cases_lt s m)
@@ -166,13 +171,13 @@ module _ (draft : GateDraft) (distinct : IsDistinct bytes_eq (drivers draft)) (n
 
   wire_start : (k : ℕ) → k < length draft.wires → start_at starts (m + (g + k)) ≡ start_at starts (number_in driven (get_or draft.wires k bare_wire).from)
   wire_start k lt =
-      let s = settled.settled (g + k) (omega (arith, rows, links_many draft)) (some_height (g + k) (omega (arith, links_many draft))) in
-      s.start ∙ (ap (λ b. cond b (m + (g + k)) (first_start starts (m + (g + k)) (needs_at graph (g + k)))) (tested_ge (g + k) g (omega arith)) ∙ ap (first_start starts (m + (g + k))) (wire_row k lt))
+      let s = settled_at (g + k) (omega (arith, links_many draft)) in
+      s.start ∙ (ap (λ b. cond b (m + (g + k)) (first_start starts (m + (g + k)) (fanins_at graph (g + k)))) (tested_ge (g + k) g (omega arith)) ∙ ap (first_start starts (m + (g + k))) (wire_row k lt))
 
   wire_height : (k : ℕ) → k < length draft.wires → height_at heights (number_in driven (get_or draft.wires k bare_wire).from) < height_at heights (m + (g + k))
   wire_height k lt =
       let p = known.placed (g + k) (omega (arith, rows, links_many draft)) (some_height (g + k) (omega (arith, links_many draft))) in
-      let row : tallest heights (needs_at graph (g + k)) ≡ max (height_at heights (number_in driven (get_or draft.wires k bare_wire).from)) 1 = ap (tallest heights) (wire_row k lt) in
+      let row : tallest heights (fanins_at graph (g + k)) ≡ max (height_at heights (number_in driven (get_or draft.wires k bare_wire).from)) 1 = ap (tallest heights) (wire_row k lt) in
       omega (arith, p.height, row)
 
   wire_driven : (k : ℕ) → k < length draft.wires → Contains driven (get_or draft.wires k bare_wire).from
@@ -227,11 +232,11 @@ module _ (draft : GateDraft) (distinct : IsDistinct bytes_eq (drivers draft)) (n
   }
 
 -- the same, for a graph that was made
-pub right_of : (draft : GateDraft) (given made : List (List ℕ)) (inputs gates : ℕ) (heights depths starts : List ℕ) → IsGraphOf draft given made → inputs ≡ length draft.inputs → gates ≡ length draft.gates → AreKnown inputs made heights → AreSettled inputs gates made heights depths starts → ((j : ℕ) → inputs + j < length heights → 0 < height_at heights (inputs + j)) → AreRight draft depths starts
-right_of draft given made inputs gates heights depths starts is many_inputs many_gates known settled all =
+pub right_of : (draft : GateDraft) (given made : List (List ℕ)) (inputs gates : ℕ) (heights order depths starts : List ℕ) → IsGraphOf draft given made → inputs ≡ length draft.inputs → gates ≡ length draft.gates → AreKnown inputs made heights → IsOrdered inputs made heights order → AreSettled inputs gates made heights order depths starts → All (λ h. 0 < h) heights → AreRight draft depths starts
+right_of draft given made inputs gates heights order depths starts is many_inputs many_gates known ordered settled all =
     let rows = numbered (drivers draft) (links draft) in
     let m = length draft.inputs in
     let known' : AreKnown m rows heights = subst (λ n. AreKnown n rows heights) many_inputs (subst (λ g. AreKnown inputs g heights) is.rows known) in
-    let settled' : AreSettled m (length draft.gates) rows heights depths starts = subst (λ n. AreSettled n (length draft.gates) rows heights depths starts) many_inputs (subst (λ n. AreSettled inputs n rows heights depths starts) many_gates (subst (λ g. AreSettled inputs gates g heights depths starts) is.rows settled)) in
-    let all' : (j : ℕ) → m + j < length heights → 0 < height_at heights (m + j) = subst (λ n. (j : ℕ) → n + j < length heights → 0 < height_at heights (n + j)) many_inputs all in
-    right_levels draft (once_distinct (drivers draft) is.once) is.known heights depths starts known' settled' all'
+    let ordered' : IsOrdered m rows heights order = subst (λ n. IsOrdered n rows heights order) many_inputs (subst (λ g. IsOrdered inputs g heights order) is.rows ordered) in
+    let settled' : AreSettled m (length draft.gates) rows heights order depths starts = subst (λ n. AreSettled n (length draft.gates) rows heights order depths starts) many_inputs (subst (λ n. AreSettled inputs n rows heights order depths starts) many_gates (subst (λ g. AreSettled inputs gates g heights order depths starts) is.rows settled)) in
+    right_levels draft (once_distinct (drivers draft) is.once) is.known heights order depths starts known' ordered' settled' (λ j lt. all (m + j) 0 lt)

@@ -1,7 +1,8 @@
 -- What a draft is closed to: a netlist, or the first name that is driven twice, or that nothing drives, or the first gate or wire on a cycle.
-use Rattle.std.specs.Prelude.{ℕ, ◌+◌, ◌-◌, ◌^◌, ◌<◌, ◌≡◌, ◌==◌, max, Bool, not, cond, Option, Some, None, ⊤, List, [], ◌∷◌, ◌++◌, map, length, filter, find, slice_get, Contains, All}
-use Rattle.std.specs.List.{flat_map, list_any, range_with_len}
-use Rattle.std.specs.Str.{bytes_eq}
+use Rattle.std.specs.Prelude.{ℕ, ◌+◌, ◌-◌, ◌^◌, ◌<◌, ◌≡◌, ◌==◌, not, cond, Option, Some, None, ⊤, List, [], ◌∷◌, ◌++◌, map, length, filter, find, slice_get, Contains, All}
+use Rattle.std.specs.List.{flat_map, range_with_len}
+pub use Rattle.lw_dag.specs.Names.{is_among}
+pub use Rattle.lw_dag.specs.Ordering.{greatest}
 use Rattle.lw_genlib.specs.Cells.{CellParts}
 use Rattle.lw_netlist.specs.declared.draft.DraftGate.{DraftGate}
 use Rattle.lw_netlist.specs.declared.draft.GateDraft.{GateDraft}
@@ -50,10 +51,6 @@ pub record IsGateDraft (cells : List CellParts) (draft : GateDraft) : Type 0 whe
   pub gates : All (IsOfCell cells) draft.gates
   pub few : length draft.inputs + length draft.gates < 2 ^ 32 - 1
 
--- whether a name is one of these
-abbrev pub is_among : List (List ℕ) → List ℕ → Bool
-is_among names name = list_any (bytes_eq name) names
-
 -- the first of the names that stands before it, or is one of those that were seen
 abbrev pub twice_after : List (List ℕ) → List (List ℕ) → Option (List ℕ)
 twice_after seen [] = None
@@ -94,10 +91,6 @@ pub record IsFirstOnCycle (ls : List Link) (name : List ℕ) : Type 0 where
   pub named : slice_get (map name_of ls) place ≡ Some name
   pub cycle : Reaches ls name name
   pub first : (j : ℕ) (other : List ℕ) → j < place → slice_get (map name_of ls) j ≡ Some other → Reaches ls other other → ⊥
-
-abbrev pub greatest : List ℕ → ℕ
-greatest [] = 0
-greatest (n ∷ ns) = max n (greatest ns)
 
 -- The depths of the names: 0 at an input, at a gate 1 more than the greatest of its pins, and at a wire that of its source.
 pub record AreDepths (draft : GateDraft) (depth : List ℕ → ℕ) : Type 0 where

@@ -1,18 +1,20 @@
 -- Drafts whose names are numbered, and gates with their depths.
-use Rattle.std.specs.Prelude.{ℕ, ◌+◌, ◌<◌, ◌≡◌, ◌++◌, None, All, List, [], Contains, length, map, slice_index_or}
+use Rattle.std.specs.Prelude.{ℕ, ◌+◌, ◌<◌, ◌≤◌, ◌≡◌, ◌++◌, None, All, List, [], Contains, length, map, slice_index_or}
 use Rattle.std.specs.List.{flat_map}
 use Rattle.lw_pool.specs.declared.id.NetId.{NetId}
 use Rattle.lw_netlist.specs.declared.draft.GateDraft.{GateDraft}
 use Rattle.lw_netlist.specs.declared.draft.DraftGate.{DraftGate}
 use Rattle.lw_netlist.specs.declared.draft.Wire.{Wire}
 use Rattle.lw_netlist.specs.Closing.{AreDepths, HasNoCycle, drivers, first_twice, first_undriven, links, needs_of, out_of, undriven_in}
-use Rattle.lw_netlist.specs.Numbered.{depth_at, most_places, net_at, number_in, numbered, start_at}
+use Rattle.lw_dag.specs.Graphs.{most_signals}
+use Rattle.lw_dag.specs.Names.{number_in}
+use Rattle.lw_netlist.specs.Numbered.{depth_at, net_at, numbered, start_at}
 
 -- The names of a draft that has neither of the first two faults, and the numbers of what each gate and wire hangs on.
 pub record IsGraphOf (draft : GateDraft) (driven graph : List (List ℕ)) : Type 0 where
   pub names : driven ≡ drivers draft
   pub rows : graph ≡ numbered (drivers draft) (links draft)
-  pub few : length (drivers draft) < most_places
+  pub few : length (drivers draft) ≤ most_signals
   pub once : first_twice draft ≡ None
   pub known : undriven_in (drivers draft) (flat_map needs_of (links draft)) ≡ None
   pub none : first_undriven draft ≡ None

@@ -43,16 +43,20 @@ pub(crate) fn copy_starts(starts: &[Micro], nets: &mut [Micro])
     nets[..starts.len()].copy_from_slice(starts);
 }
 
-// Fills in the arrivals of the nets that the gates drive, which are those from `first` on, behind the starts of the inputs.
+// Fills in the arrivals of the nets that the gates drive, which are those from `first` on, behind
+// the starts of the inputs.
 pub(crate) fn fill_arrivals(gates: &[Gate], lib: &Library, first: usize, nets: &mut [Micro])
-    requires gates { (j : ℕ) (gate : _) → slice_get gates.now j ≡ Some gate → IsGateAt first j gate }
+    requires gates { (j : ℕ) (gate : _) → slice_get gates.now j ≡ Some gate →
+        IsGateAt first j gate }
     requires over { All (HasCell lib.now) gates.now }
     requires one_each { length nets.old ≡ first + length gates.now }
     requires few { length gates.now ≤ most_gates }
     requires started { (i : ℕ) → i < first → arrival_at nets.old i ≤ one_step }
     ensures inputs { (i : ℕ) → i < first → arrival_at nets.new i ≡ arrival_at nets.old i }
-    ensures arrivals { (j : ℕ) (gate : _) → slice_get gates.now j ≡ Some gate → arrival_at nets.new (first + j) ≡ gate_arrival lib.now nets.new gate }
-    ensures low { (i : ℕ) → i < length nets.new → arrival_at nets.new i ≤ (length gates.now + 1) * one_step }
+    ensures arrivals { (j : ℕ) (gate : _) → slice_get gates.now j ≡ Some gate →
+        arrival_at nets.new (first + j) ≡ gate_arrival lib.now nets.new gate }
+    ensures low { (i : ℕ) → i < length nets.new →
+        arrival_at nets.new i ≤ (length gates.now + 1) * one_step }
     ensures length { length nets.new ≡ length nets.old }
 {
     for (j, gate) in gates.iter().enumerate() {

@@ -1,8 +1,8 @@
 // Netlists that are closed from drafts.
-use crate::closing::{Graph, closed_gates, graph_of, levels_of, nets_by, ports};
+use crate::closing::{Graph, closed_gates, graph_of, nets_by, ports, starts_of};
 use crate::naming::{names_of, number_copies};
-use crate::order::in_order;
 use crate::{DraftGates, GateDraft, Gates, Netlist, NetlistFault, PortList};
+use lw_dag::in_order;
 use lw_genlib::Library;
 use lw_pool::Names;
 use std::alloc::{AllocError, Global};
@@ -17,13 +17,15 @@ impl Netlist {
     ghost use Rattle.lw_netlist.specs.Ordering.{net_by};
     ghost use Rattle.lw_netlist.specs.Plain.{IsOver};
 
-    /// The netlist of a draft, with wires replaced by the nets at which they start, and with its gates by depth and, at one depth, as they
-    /// are given. The library is not looked at; it is named for what is asked of the draft.
+    /// The netlist of a draft, with wires replaced by the nets at which they start, and with its
+    /// gates by depth and, at one depth, as they are given. The library is not looked at; it is
+    /// named for what is asked of the draft.
     ///
-    /// `Twice` names the first name, by inputs, gates and then wires, that an earlier one drives. Else `Undriven` names the first pin, or
-    /// else source of a wire, or else output that nothing drives. Else `Cycle` names the first gate that reaches itself or, where no gate
-    /// does, the first wire. `Memory` is the one free answer. It works in time in proportion to the draft, the sort by depth aside, but for
-    /// a draft with a cycle, where it may go through the draft once for each gate that stands between two cycles.
+    /// `Twice` names the first name, by inputs, gates and then wires, that an earlier one drives.
+    /// Else `Undriven` names the first pin, or else source of a wire, or else output that nothing
+    /// drives. Else `Cycle` names the first gate that reaches itself or, where no gate does, the
+    /// first wire. `Memory` is the one free answer. It works in time in proportion to the draft,
+    /// the sort by depth aside, also for a draft with a cycle.
     pub fn close(alloc: Global, draft: GateDraft, lib: &Library) -> Result<Netlist, NetlistFault>
         requires { IsGateDraft lib.now draft }
         ensures closed { IfOk result (IsClosed draft) }
@@ -31,7 +33,7 @@ impl Netlist {
         ensures fault { IfErr result (HasFault draft) }
     {
         let graph = graph_of(alloc, &draft)?;
-        let levels = levels_of(alloc, &draft, &graph)?;
+        let found = starts_of(alloc, &draft, &graph)?;
         let first = draft.inputs.len();
         let GateDraft {
             model,
@@ -40,8 +42,8 @@ impl Netlist {
             gates,
             wires,
         } = draft;
-        let depths = &levels.depths[first..first + gates.len()];
-        let gates = DraftGates::from_vec(in_order(alloc, gates, depths)?);
+        let depths = &found.depths[first..first + gates.len()];
+        let gates = DraftGates::from_vec(in_order(alloc, gates.into_vec(), depths)?);
         let ordered = GateDraft {
             model,
             inputs,
@@ -49,26 +51,30 @@ impl Netlist {
             gates,
             wires,
         };
-        let netlist = Netlist::of_ordered(alloc, ordered, &graph, &levels.starts)?;
+        let netlist = Netlist::of_ordered(alloc, ordered, &graph, &found.starts)?;
         Ok(netlist)
     }
 
-    // The netlist whose gates stand as in the draft, by the graph of the same gates in another order.
+    // The netlist whose gates stand as in the draft, by the graph of the same gates in another
+    // order.
     fn of_ordered(
         alloc: Global,
         draft: GateDraft,
         graph: &Graph,
-        starts: &[usize],
+        starts: &[u32],
     ) -> Result<Netlist, AllocError>
         requires distinct { IsDistinct bytes_eq (draft.inputs ++ map out_of draft.gates) }
         requires numbered { IsDistinct bytes_eq graph.now.signals.keys }
-        requires rows { All (HasRow (length draft.inputs) graph.now.signals.keys graph.now.rows.items) draft.gates }
+        requires rows { All (HasRow (length draft.inputs) graph.now.signals.keys
+            graph.now.rows.items) draft.gates }
         requires outputs { All (Contains graph.now.signals.keys) draft.outputs }
         requires starts_each { length starts.now ≡ length graph.now.signals.keys }
         requires below { All (λ s. s < length graph.now.signals.keys) starts.now }
         requires few { length (draft.inputs ++ map out_of draft.gates) ≤ most_nets }
-        requires kept { IsNetlist (netlist_in draft draft.gates (net_by graph.now.signals.keys starts.now (draft.inputs ++ map out_of draft.gates))) }
-        ensures { IfOk result (λ n. n ≡ netlist_in draft draft.gates (net_by graph.now.signals.keys starts.now (draft.inputs ++ map out_of draft.gates))) }
+        requires kept { IsNetlist (netlist_in draft draft.gates
+            (net_by graph.now.signals.keys starts.now (draft.inputs ++ map out_of draft.gates))) }
+        ensures { IfOk result (λ n. n ≡ netlist_in draft draft.gates
+            (net_by graph.now.signals.keys starts.now (draft.inputs ++ map out_of draft.gates))) }
     {
         let names = names_of(alloc, draft.inputs.as_slice(), draft.gates.as_slice())?;
         let numbers = number_copies(alloc, &names)?;

@@ -5,26 +5,28 @@ ghost use Rattle.std.specs.Str.{bytes_eq};
 ghost use Rattle.indexmap.specs.IndexSet.{index_set_len};
 ghost use Rattle.lw_netlist.specs.Closing.{HasFault, closed_gate, port_at};
 ghost use Rattle.lw_netlist.specs.Netlists.{most_nets};
-ghost use Rattle.lw_netlist.specs.Numbered.{HasRow, net_at, net_in, number_in};
+ghost use Rattle.lw_dag.specs.Names.{number_in};
+ghost use Rattle.lw_netlist.specs.Numbered.{HasRow, net_at, net_in};
 ghost use Rattle.lw_netlist.specs.Ordering.{AreRight, IsGraphOf, TellNets};
 
-use crate::cycles::{first_on_cycle, first_stuck};
-use crate::levels::{Levels, find_levels};
+use crate::levels::{Starts, find_starts};
 use crate::naming::{driven, numbers, numbers_of, rows};
-use crate::places::Places;
 use crate::{DraftGate, Gate, GateDraft, NetlistFault, Port};
 use indexmap::IndexSet;
-use lw_pool::{Name, NetId, Nets};
+use lw_dag::{find_levels, first_on_cycle};
+use lw_pool::{Name, NetId, Nets, Numbers};
 use std::alloc::{AllocError, Global};
 
-// The names that are driven, and the numbers of what each gate and then each wire hangs on among them.
+// The names that are driven, and the numbers of what each gate and then each wire hangs on among
+// them.
 #[derive(Drop)]
 pub(crate) struct Graph {
     pub(crate) signals: IndexSet<Name>,
-    pub(crate) rows: Vec<Places>,
+    pub(crate) rows: Vec<Numbers>,
 }
 
-// The graph of a draft, or the first name that is driven twice, or else the first that nothing drives.
+// The graph of a draft, or the first name that is driven twice, or else the first that nothing
+// drives.
 pub(crate) fn graph_of(alloc: Global, draft: &GateDraft) -> Result<Graph, NetlistFault>
     ensures graph { IfOk result (λ graph. IsGraphOf draft.now graph.signals.keys graph.rows.items) }
     ensures fault { IfErr result (HasFault draft.now) }
@@ -42,24 +44,25 @@ pub(crate) fn graph_of(alloc: Global, draft: &GateDraft) -> Result<Graph, Netlis
 }
 
 // The depths and the starts of names, or the first gate or wire on a cycle.
-pub(crate) fn levels_of(
+pub(crate) fn starts_of(
     alloc: Global,
     draft: &GateDraft,
     graph: &Graph,
-) -> Result<Levels, NetlistFault>
+) -> Result<Starts, NetlistFault>
     requires { IsGraphOf draft.now graph.now.signals.keys graph.now.rows.items }
-    ensures right { IfOk result (λ levels. AreRight draft.now levels.depths.items levels.starts.items) }
+    ensures right { IfOk result (λ found. AreRight draft.now found.depths.items found.starts.items) }
     ensures fault { IfErr result (HasFault draft.now) }
 {
     let inputs = draft.inputs.len();
-    let levels = find_levels(alloc, inputs, draft.gates.len(), &graph.rows)?;
-    if let Some(start) = first_stuck(inputs, &levels.heights) {
-        let place = first_on_cycle(alloc, inputs, &graph.rows, &levels.heights, start)?;
+    let levels = find_levels(alloc, inputs, &graph.rows)?;
+    let first = first_on_cycle(alloc, inputs, &graph.rows, &levels.heights)?;
+    if let Some(place) = first {
         let name = &graph.signals.as_slice()[inputs + place];
         let name = Name::from_slice(alloc, name.as_bytes())?;
         return Err(NetlistFault::Cycle(name));
     }
-    Ok(levels)
+    let found = find_starts(alloc, inputs, draft.gates.len(), &graph.rows, &levels)?;
+    Ok(found)
 }
 
 // The number of a name.
@@ -81,29 +84,30 @@ fn net_of(names: &IndexSet<Name>, name: &Name) -> NetId
 pub(crate) fn nets_by(
     alloc: Global,
     signals: &IndexSet<Name>,
-    starts: &[usize],
+    starts: &[u32],
     names: &IndexSet<Name>,
 ) -> Result<Vec<NetId>, AllocError>
     requires few { index_set_len names.now ≤ most_nets }
     requires below { All (λ s. s < length signals.now.keys) starts.now }
-    ensures { IfOk result (λ nets. nets.items ≡ map (λ s. net_in names.now.keys (slice_index_or signals.now.keys s [])) starts.now) }
+    ensures { IfOk result (λ nets. nets.items
+        ≡ map (λ s. net_in names.now.keys (slice_index_or signals.now.keys s [])) starts.now) }
 {
     let list = signals.as_slice();
     let mut nets = Vec::with_capacity(alloc, starts.len())?;
     for start in starts {
-        nets.push(net_of(names, &list[*start]))?;
+        nets.push(net_of(names, &list[*start as usize]))?;
     }
     Ok(nets)
 }
 
 // The nets of numbers.
-fn nets_at(alloc: Global, numbers: &[usize], nets: &[NetId]) -> Result<Nets, AllocError>
+fn nets_at(alloc: Global, numbers: &[u32], nets: &[NetId]) -> Result<Nets, AllocError>
     requires { All (λ s. s < length nets.now) numbers.now }
     ensures { IfOk result (λ found. found ≡ map (net_at nets.now) numbers.now) }
 {
     let mut found = Vec::with_capacity(alloc, numbers.len())?;
     for number in numbers {
-        found.push(nets[*number])?;
+        found.push(nets[*number as usize])?;
     }
     Ok(Nets::from_vec(found))
 }
@@ -119,7 +123,8 @@ fn closed(
     requires distinct { IsDistinct bytes_eq graph.now.signals.keys }
     requires count { length nets.now ≡ length graph.now.signals.keys }
     requires row { HasRow inputs graph.now.signals.keys graph.now.rows.items gate }
-    ensures { IfOk result (λ closed. (net : List ℕ → ℕ) → TellNets graph.now.signals.keys nets.now net → closed ≡ closed_gate net gate) }
+    ensures { IfOk result (λ closed. (net : List ℕ → ℕ) →
+        TellNets graph.now.signals.keys nets.now net → closed ≡ closed_gate net gate) }
 {
     let own = place_of(&graph.signals, &gate.out);
     let pins = nets_at(alloc, graph.rows[own - inputs].as_slice(), nets)?;
@@ -141,7 +146,9 @@ pub(crate) fn closed_gates(
     requires distinct { IsDistinct bytes_eq graph.now.signals.keys }
     requires count { length nets.now ≡ length graph.now.signals.keys }
     requires rows { All (HasRow inputs graph.now.signals.keys graph.now.rows.items) gates.items }
-    ensures { IfOk result (λ done. (net : List ℕ → ℕ) → TellNets graph.now.signals.keys nets.now net → done.items ≡ map (closed_gate net) gates.items) }
+    ensures { IfOk result (λ done. (net : List ℕ → ℕ) →
+        TellNets graph.now.signals.keys nets.now net →
+        done.items ≡ map (closed_gate net) gates.items) }
 {
     let mut done = Vec::with_capacity(alloc, gates.len())?;
     let mut left = gates.into_iter();
@@ -156,7 +163,8 @@ fn port(signals: &IndexSet<Name>, name: Name, nets: &[NetId]) -> Port
     requires distinct { IsDistinct bytes_eq signals.now.keys }
     requires count { length nets.now ≡ length signals.now.keys }
     requires known { Contains signals.now.keys name }
-    ensures { (net : List ℕ → ℕ) → TellNets signals.now.keys nets.now net → result ≡ port_at net name }
+    ensures { (net : List ℕ → ℕ) → TellNets signals.now.keys nets.now net →
+        result ≡ port_at net name }
 {
     let net = nets[place_of(signals, &name)];
     Port { name, net }
@@ -172,7 +180,8 @@ pub(crate) fn ports(
     requires distinct { IsDistinct bytes_eq signals.now.keys }
     requires count { length nets.now ≡ length signals.now.keys }
     requires known { All (Contains signals.now.keys) names.items }
-    ensures { IfOk result (λ ports. (net : List ℕ → ℕ) → TellNets signals.now.keys nets.now net → ports.items ≡ map (port_at net) names.items) }
+    ensures { IfOk result (λ ports. (net : List ℕ → ℕ) → TellNets signals.now.keys nets.now net →
+        ports.items ≡ map (port_at net) names.items) }
 {
     let mut done = Vec::with_capacity(alloc, names.len())?;
     let mut left = names.into_iter();

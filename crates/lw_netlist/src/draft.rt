@@ -153,7 +153,8 @@ impl Wires {
     }
 }
 
-/// A netlist that is given by names: what its inputs, gates and wires drive, and which of these its outputs are.
+/// A netlist that is given by names: what its inputs, gates and wires drive, and which of these its
+/// outputs are.
 #[derive(Debug, Drop)]
 pub struct GateDraft {
     pub model: Name,

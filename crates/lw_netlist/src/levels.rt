@@ -1,82 +1,53 @@
-// How far names are from inputs, and where their nets start.
-ghost use Rattle.std.specs.Prelude.{◌≡◌, ◌+◌, ◌*◌, ◌<◌, ◌≤◌, [], ◌∷◌, ◌++◌, false, length, drop, replicate, vec_len, slice_set, IfOk, IfSome, IfNone, OnOk, IsTrue, Contains, All};
+// How deep names are, and where their nets start.
+ghost use Rattle.std.specs.Prelude.{◌≡◌, ◌+◌, ◌<◌, ◌≤◌, length, replicate, slice_set, IfOk, All};
 ghost use Rattle.std.specs.List.{range_with_len};
-ghost use Rattle.lw_netlist.specs.Numbered.{AreHeights, AreSettled, IsGraph, IsRising, deepest, first_start, height_at, most_places, own_start, step_of, tallest, unknown};
+ghost use Rattle.lw_dag.specs.Graphs.{AreHeights, IsGraph, IsOrdered, most_signals};
+ghost use Rattle.lw_netlist.specs.Numbered.{AreSettled, deepest, first_start, own_start, step_of};
 
-use crate::places::Places;
+use lw_dag::Levels;
+use lw_pool::Numbers;
 use std::alloc::{AllocError, Global};
-use std::mem;
 
-// What is known of heights, depths and starts, which nodes wait for each name, and which names they are to be told.
+// The depths of names, and the names at which their nets start.
 #[derive(Drop)]
-pub(crate) struct Levels {
-    pub(crate) heights: Vec<usize>,
-    pub(crate) depths: Vec<usize>,
-    pub(crate) starts: Vec<usize>,
-    waiting: Vec<Places>,
-    ready: Vec<usize>,
-}
-
-// The first name whose height isn't known.
-pub(crate) fn open_need(needs: &[usize], heights: &[usize]) -> Option<usize>
-    requires { All (λ s. s < length heights.now) needs.now }
-    ensures among { IfSome result (Contains needs.now) }
-    ensures lacks { IfSome result (λ s. height_at heights.now s ≡ 0) }
-    ensures none { IfNone result (All (λ s. 0 < height_at heights.now s) needs.now) }
-{
-    for s in needs {
-        if heights[*s] == 0 {
-            return Some(*s);
-        }
-    }
-    None
-}
-
-// The greatest height of some names, and at least that of an input.
-fn tallest_of(needs: &[usize], heights: &[usize]) -> usize
-    requires { All (λ s. s < length heights.now) needs.now }
-    ensures { result ≡ tallest heights.now needs.now }
-{
-    let mut most = 1;
-    for s in needs {
-        most = most.max(heights[*s]);
-    }
-    most
+pub(crate) struct Starts {
+    pub(crate) depths: Vec<u32>,
+    pub(crate) starts: Vec<u32>,
 }
 
 // The greatest depth of some names.
-fn deepest_of(needs: &[usize], depths: &[usize]) -> usize
+fn deepest_of(needs: &[u32], depths: &[u32]) -> u32
     requires { All (λ s. s < length depths.now) needs.now }
     ensures { result ≡ deepest depths.now needs.now }
 {
     let mut most = 0;
     for s in needs {
-        most = most.max(depths[*s]);
+        most = most.max(depths[*s as usize]);
     }
     most
 }
 
 // Where the first of some names starts.
-fn first_of(needs: &[usize], starts: &[usize], own: usize) -> usize
+fn first_of(needs: &[u32], starts: &[u32], own: u32) -> u32
     requires { All (λ s. s < length starts.now) needs.now }
     ensures { result ≡ first_start starts.now own needs.now }
 {
     if needs.is_empty() {
         own
     } else {
-        starts[needs[0]]
+        starts[needs[0] as usize]
     }
 }
 
 // What a node adds to a depth.
-fn step(gates: usize, j: usize) -> usize
+fn step(gates: usize, j: usize) -> u32
     ensures { result ≡ step_of gates j }
 {
     if j < gates { 1 } else { 0 }
 }
 
 // Where a node starts.
-fn start_of(gates: usize, j: usize, own: usize, needs: &[usize], starts: &[usize]) -> usize
+fn start_of(gates: usize, j: usize, own: u32, needs: &[u32], starts: &[u32]) -> u32
     requires { All (λ s. s < length starts.now) needs.now }
     ensures { result ≡ own_start gates j starts.now own needs.now }
 {
@@ -87,170 +58,63 @@ fn start_of(gates: usize, j: usize, own: usize, needs: &[usize], starts: &[usize
     }
 }
 
-// Gives a node its height, its depth and its start, where what it hangs on has them.
-fn place(
-    levels: &mut Levels,
-    inputs: usize,
-    gates: usize,
-    j: usize,
-    needs: &[usize],
-) -> Result<(), AllocError>
-    requires own { inputs + j < length levels.old.heights.items }
-    requires low { tallest levels.old.heights.items needs.now < most_places }
-    requires shallow { deepest levels.old.depths.items needs.now ≤ tallest levels.old.heights.items needs.now }
-    requires in_heights { All (λ s. s < length levels.old.heights.items) needs.now }
-    requires depths_each { length levels.old.depths.items ≡ length levels.old.heights.items }
-    requires starts_each { length levels.old.starts.items ≡ length levels.old.heights.items }
-    ensures heights { OnOk result (levels.new.heights.items ≡ slice_set levels.old.heights.items (inputs + j) (1 + tallest levels.old.heights.items needs.now)) }
-    ensures depths { OnOk result (levels.new.depths.items ≡ slice_set levels.old.depths.items (inputs + j) (step_of gates j + deepest levels.old.depths.items needs.now)) }
-    ensures starts { OnOk result (levels.new.starts.items ≡ slice_set levels.old.starts.items (inputs + j) (own_start gates j levels.old.starts.items (inputs + j) needs.now)) }
-    ensures waiting { OnOk result (levels.new.waiting.items ≡ levels.old.waiting.items) }
-    ensures ready { OnOk result (levels.new.ready.items ≡ levels.old.ready.items ++ (inputs + j) ∷ []) }
+// Gives a node its depth and its start, where what it hangs on has them.
+fn place(found: &mut Starts, inputs: usize, gates: usize, j: usize, needs: &[u32])
+    requires own { inputs + j < length found.old.depths.items }
+    requires few { length found.old.depths.items ≤ most_signals }
+    requires low { deepest found.old.depths.items needs.now ≤ most_signals }
+    requires signals { All (λ s. s < length found.old.depths.items) needs.now }
+    requires starts_each { length found.old.starts.items ≡ length found.old.depths.items }
+    ensures depths { found.new.depths.items
+        ≡ slice_set found.old.depths.items (inputs + j)
+        (step_of gates j + deepest found.old.depths.items needs.now) }
+    ensures starts { found.new.starts.items
+        ≡ slice_set found.old.starts.items (inputs + j)
+        (own_start gates j found.old.starts.items (inputs + j) needs.now) }
 {
     let own = inputs + j;
-    let height = 1 + tallest_of(needs, &levels.heights);
-    let depth = step(gates, j) + deepest_of(needs, &levels.depths);
-    let start = start_of(gates, j, own, needs, &levels.starts);
-    levels.ready.push(own)?;
-    levels.heights[own] = height;
-    levels.depths[own] = depth;
-    levels.starts[own] = start;
-    Ok(())
+    let depth = step(gates, j) + deepest_of(needs, &found.depths);
+    let start = start_of(gates, j, own as u32, needs, &found.starts);
+    found.depths[own] = depth;
+    found.starts[own] = start;
 }
 
-// Looks at a node: it is given its height, or waits for a name that has none.
-fn settle(
-    levels: &mut Levels,
-    inputs: usize,
-    gates: usize,
-    graph: &[Places],
-    list: &[usize],
-    at: usize,
-) -> Result<(), AllocError>
-    requires graph { IsGraph inputs graph.now }
-    requires few { inputs + length graph.now < most_places }
-    requires place { at < length list.now }
-    requires nodes { All (λ j. j < length graph.now) list.now }
-    requires rising { IsRising inputs graph.now levels.old.heights.items levels.old.waiting.items levels.old.ready.items (drop at list.now) }
-    requires settled { AreSettled inputs gates graph.now levels.old.heights.items levels.old.depths.items levels.old.starts.items }
-    ensures rising { OnOk result (IsRising inputs graph.now levels.new.heights.items levels.new.waiting.items levels.new.ready.items (drop (at + 1) list.now)) }
-    ensures settled { OnOk result (AreSettled inputs gates graph.now levels.new.heights.items levels.new.depths.items levels.new.starts.items) }
-    ensures less { OnOk result (2 * unknown levels.new.heights.items + vec_len levels.new.ready ≤ 2 * unknown levels.old.heights.items + vec_len levels.old.ready) }
+// No depth, and each name at itself.
+fn start(alloc: Global, names: usize) -> Result<Starts, AllocError>
+    requires { names ≤ most_signals }
+    ensures depths { IfOk result (λ l. l.depths.items ≡ replicate names 0) }
+    ensures starts { IfOk result (λ l. l.starts.items ≡ range_with_len 0 names) }
 {
-    let j = list[at];
-    if levels.heights[inputs + j] != 0 {
-        return Ok(());
-    }
-    let needs = graph[j].as_slice();
-    match open_need(needs, &levels.heights) {
-        Some(s) => {
-            let nodes = &mut levels.waiting[s];
-            nodes.push(j)?;
-        }
-        None => place(levels, inputs, gates, j, needs)?,
-    }
-    Ok(())
-}
-
-// Looks at each of some nodes.
-fn settle_all(
-    levels: &mut Levels,
-    inputs: usize,
-    gates: usize,
-    graph: &[Places],
-    list: &[usize],
-) -> Result<(), AllocError>
-    requires graph { IsGraph inputs graph.now }
-    requires few { inputs + length graph.now < most_places }
-    requires nodes { All (λ j. j < length graph.now) list.now }
-    requires rising { IsRising inputs graph.now levels.old.heights.items levels.old.waiting.items levels.old.ready.items list.now }
-    requires settled { AreSettled inputs gates graph.now levels.old.heights.items levels.old.depths.items levels.old.starts.items }
-    ensures rising { OnOk result (IsRising inputs graph.now levels.new.heights.items levels.new.waiting.items levels.new.ready.items []) }
-    ensures settled { OnOk result (AreSettled inputs gates graph.now levels.new.heights.items levels.new.depths.items levels.new.starts.items) }
-    ensures less { OnOk result (2 * unknown levels.new.heights.items + vec_len levels.new.ready ≤ 2 * unknown levels.old.heights.items + vec_len levels.old.ready) }
-{
-    for at in 0..list.len() {
-        settle(levels, inputs, gates, graph, list, at)?;
-    }
-    Ok(())
-}
-
-// Tells the nodes that wait for a name of its height.
-fn tell(
-    alloc: Global,
-    levels: &mut Levels,
-    inputs: usize,
-    gates: usize,
-    graph: &[Places],
-) -> Result<bool, AllocError>
-    requires graph { IsGraph inputs graph.now }
-    requires few { inputs + length graph.now < most_places }
-    requires rising { IsRising inputs graph.now levels.old.heights.items levels.old.waiting.items levels.old.ready.items [] }
-    requires settled { AreSettled inputs gates graph.now levels.old.heights.items levels.old.depths.items levels.old.starts.items }
-    ensures rising { OnOk result (IsRising inputs graph.now levels.new.heights.items levels.new.waiting.items levels.new.ready.items []) }
-    ensures settled { OnOk result (AreSettled inputs gates graph.now levels.new.heights.items levels.new.depths.items levels.new.starts.items) }
-    ensures less { IfOk result (λ told. IsTrue told → 2 * unknown levels.new.heights.items + vec_len levels.new.ready < 2 * unknown levels.old.heights.items + vec_len levels.old.ready) }
-    ensures done { IfOk result (λ told. (told ≡ false) → levels.new.ready.items ≡ []) }
-{
-    let Some(s) = levels.ready.pop() else {
-        return Ok(false);
-    };
-    let nodes = mem::replace(&mut levels.waiting[s], Places::empty(alloc));
-    settle_all(levels, inputs, gates, graph, nodes.as_slice())?;
-    Ok(true)
-}
-
-// Nothing is known but the inputs.
-fn start(alloc: Global, inputs: usize, nodes: usize) -> Result<Levels, AllocError>
-    requires { inputs + nodes < most_places }
-    ensures heights { IfOk result (λ l. l.heights.items ≡ replicate inputs 1 ++ replicate nodes 0) }
-    ensures depths { IfOk result (λ l. l.depths.items ≡ replicate (inputs + nodes) 0) }
-    ensures starts { IfOk result (λ l. l.starts.items ≡ range_with_len 0 (inputs + nodes)) }
-    ensures waiting { IfOk result (λ l. l.waiting.items ≡ replicate (inputs + nodes) []) }
-    ensures ready { IfOk result (λ l. l.ready.items ≡ []) }
-{
-    let mut heights = Vec::with_capacity(alloc, inputs + nodes)?;
-    let mut depths = Vec::with_capacity(alloc, inputs + nodes)?;
-    let mut starts = Vec::with_capacity(alloc, inputs + nodes)?;
-    let mut waiting = Vec::with_capacity(alloc, inputs + nodes)?;
-    'ones: for _made in 0..inputs {
-        heights.push(1)?;
-    }
-    'zeros: for _made in 0..nodes {
-        heights.push(0)?;
-    }
-    'all: for s in 0..inputs + nodes {
+    let mut depths = Vec::with_capacity(alloc, names)?;
+    let mut starts = Vec::with_capacity(alloc, names)?;
+    'all: for s in 0..names {
         depths.push(0)?;
-        starts.push(s)?;
-        waiting.push(Places::empty(alloc))?;
+        starts.push(s as u32)?;
     }
-    Ok(Levels {
-        heights,
-        depths,
-        starts,
-        waiting,
-        ready: Vec::new(alloc),
-    })
+    Ok(Starts { depths, starts })
 }
 
-// The levels of all names, where they have a height.
-pub(crate) fn find_levels(
+// The depths and the starts of all names, in the order in which each node is behind what it hangs
+// on.
+pub(crate) fn find_starts(
     alloc: Global,
     inputs: usize,
     gates: usize,
-    graph: &[Places],
-) -> Result<Levels, AllocError>
+    graph: &[Numbers],
+    levels: &Levels,
+) -> Result<Starts, AllocError>
     requires graph { IsGraph inputs graph.now }
-    requires few { inputs + length graph.now < most_places }
-    ensures heights { IfOk result (λ l. AreHeights inputs graph.now l.heights.items) }
-    ensures settled { IfOk result (λ l. AreSettled inputs gates graph.now l.heights.items l.depths.items l.starts.items) }
+    requires few { inputs + length graph.now ≤ most_signals }
+    requires heights { AreHeights inputs graph.now levels.now.heights.items }
+    requires low { All (λ h. h ≤ 1 + length graph.now) levels.now.heights.items }
+    requires ordered { IsOrdered inputs graph.now levels.now.heights.items levels.now.order.items }
+    ensures { IfOk result (λ l. AreSettled inputs gates graph.now levels.now.heights.items
+        levels.now.order.items l.depths.items l.starts.items) }
 {
-    let mut levels = start(alloc, inputs, graph.len())?;
-    let mut all = Vec::with_capacity(alloc, graph.len())?;
-    for j in 0..graph.len() {
-        all.push(j)?;
+    let mut found = start(alloc, inputs + graph.len())?;
+    'nodes: for at in 0..levels.order.len() {
+        let j = levels.order[at] as usize;
+        place(&mut found, inputs, gates, j, graph[j].as_slice());
     }
-    settle_all(&mut levels, inputs, gates, graph, &all)?;
-    'telling: while tell(alloc, &mut levels, inputs, gates, graph)? {}
-    Ok(levels)
+    Ok(found)
 }

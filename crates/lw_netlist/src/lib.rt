@@ -1,19 +1,16 @@
-//! Netlists of library cells: their gates, the values of their nets, and when these arrive, and how they are closed from drafts by names.
+//! Netlists of library cells: their gates, the values of their nets, and when these arrive, and how
+//! they are closed from drafts by names.
 #![tactic(auto)]
 
 mod arrivals;
 mod close;
 mod closing;
-mod cycles;
 mod draft;
 mod fault;
 mod gate;
 mod levels;
 mod naming;
 mod netlist;
-mod order;
-mod places;
-mod turning;
 mod values;
 
 pub use draft::{DraftGate, DraftGates, GateDraft, Wire, Wires};

@@ -3,12 +3,13 @@ ghost use Rattle.std.specs.Prelude.{◌≡◌, ◌<◌, ◌≤◌, ◌++◌, ◌
 ghost use Rattle.std.specs.List.{IsDistinct, flat_map};
 ghost use Rattle.std.specs.Str.{bytes_eq};
 ghost use Rattle.lw_netlist.specs.Closing.{drivers, gate_link, needs_of, out_of, twice_after, undriven_in, wire_link};
-ghost use Rattle.lw_netlist.specs.Numbered.{TellsTwice, TellsUndriven, most_places, number_in, numbered};
+ghost use Rattle.lw_dag.specs.Graphs.{most_signals};
+ghost use Rattle.lw_dag.specs.Names.{number_in};
+ghost use Rattle.lw_netlist.specs.Numbered.{TellsTwice, TellsUndriven, numbered};
 
-use crate::places::Places;
 use crate::{DraftGate, GateDraft, NetlistFault, Wire};
 use indexmap::IndexSet;
-use lw_pool::Name;
+use lw_pool::{Name, Numbers};
 use std::alloc::{AllocError, Global};
 
 // Copies the names of inputs, and then those that gates drive.
@@ -40,13 +41,17 @@ pub(crate) fn driven(alloc: Global, draft: &GateDraft) -> Result<Vec<Name>, Allo
     Ok(names)
 }
 
-// Numbers names, or tells the first that is there twice.
+// Numbers names, or tells the first that is there twice. For more of them than there are numbers
+// there is no memory.
 pub(crate) fn numbers(alloc: Global, names: Vec<Name>) -> Result<IndexSet<Name>, NetlistFault>
     ensures keys { IfOk result (λ set. set.keys ≡ names.items) }
     ensures once { OnOk result (twice_after [] names.items ≡ None) }
-    ensures few { OnOk result (length names.items < most_places) }
+    ensures few { OnOk result (length names.items ≤ most_signals) }
     ensures fault { IfErr result (TellsTwice names.items) }
 {
+    if names.len() >= u32::MAX as usize {
+        return Err(NetlistFault::Memory);
+    }
     let mut set = IndexSet::with_capacity(alloc, names.len())?;
     let mut left = names.into_iter();
     'names: while let Some(name) = left.next() {
@@ -74,18 +79,19 @@ pub(crate) fn number_copies(alloc: Global, names: &[Name]) -> Result<IndexSet<Na
 }
 
 // The number of a name, or the fault that it has none.
-fn number_of(alloc: Global, name: &Name, signals: &IndexSet<Name>) -> Result<usize, NetlistFault>
+fn number_of(alloc: Global, name: &Name, signals: &IndexSet<Name>) -> Result<u32, NetlistFault>
     ensures ok { IfOk result (λ n. n ≡ number_in signals.now.keys name.now) }
     ensures known { OnOk result (undriven_in signals.now.keys (name.now ∷ []) ≡ None) }
     ensures fault { IfErr result (TellsUndriven signals.now.keys (name.now ∷ [])) }
 {
-    match signals.get_index_of(name) {
-        Some(number) => Ok(number),
-        None => {
-            let name = Name::from_slice(alloc, name.as_bytes())?;
-            Err(NetlistFault::Undriven(name))
-        }
-    }
+    let Some(place) = signals.get_index_of(name) else {
+        let name = Name::from_slice(alloc, name.as_bytes())?;
+        return Err(NetlistFault::Undriven(name));
+    };
+    let Ok(number) = u32::try_from(place) else {
+        return Err(NetlistFault::Memory);
+    };
+    Ok(number)
 }
 
 // The numbers of some names, or the first of them that has none.
@@ -93,7 +99,7 @@ pub(crate) fn numbers_of(
     alloc: Global,
     names: &[Name],
     signals: &IndexSet<Name>,
-) -> Result<Places, NetlistFault>
+) -> Result<Numbers, NetlistFault>
     ensures ok { IfOk result (λ ns. ns ≡ map (number_in signals.now.keys) names.now) }
     ensures known { OnOk result (undriven_in signals.now.keys names.now ≡ None) }
     ensures fault { IfErr result (TellsUndriven signals.now.keys names.now) }
@@ -105,7 +111,7 @@ pub(crate) fn numbers_of(
             return Err(NetlistFault::Memory);
         };
     }
-    Ok(Places::from_vec(numbers))
+    Ok(Numbers::new(numbers))
 }
 
 // The numbers of the pins of each gate, or the first pin that has none.
@@ -113,10 +119,13 @@ fn gate_rows(
     alloc: Global,
     gates: &[DraftGate],
     signals: &IndexSet<Name>,
-) -> Result<Vec<Places>, NetlistFault>
-    ensures ok { IfOk result (λ rows. rows.items ≡ numbered signals.now.keys (map gate_link gates.now)) }
-    ensures known { OnOk result (undriven_in signals.now.keys (flat_map needs_of (map gate_link gates.now)) ≡ None) }
-    ensures fault { IfErr result (TellsUndriven signals.now.keys (flat_map needs_of (map gate_link gates.now))) }
+) -> Result<Vec<Numbers>, NetlistFault>
+    ensures ok { IfOk result (λ rows. rows.items
+        ≡ numbered signals.now.keys (map gate_link gates.now)) }
+    ensures known { OnOk result (undriven_in signals.now.keys
+        (flat_map needs_of (map gate_link gates.now)) ≡ None) }
+    ensures fault { IfErr result (TellsUndriven signals.now.keys
+        (flat_map needs_of (map gate_link gates.now))) }
 {
     let mut rows = Vec::new(alloc);
     for gate in gates {
@@ -129,13 +138,14 @@ fn gate_rows(
 }
 
 // The number of the source of a wire, as a row.
-fn wire_row(alloc: Global, wire: &Wire, signals: &IndexSet<Name>) -> Result<Places, NetlistFault>
-    ensures ok { IfOk result (λ ns. ns ≡ map (number_in signals.now.keys) (wire_link wire.now).needs) }
+fn wire_row(alloc: Global, wire: &Wire, signals: &IndexSet<Name>) -> Result<Numbers, NetlistFault>
+    ensures ok { IfOk result (λ ns. ns
+        ≡ map (number_in signals.now.keys) (wire_link wire.now).needs) }
     ensures known { OnOk result (undriven_in signals.now.keys (wire_link wire.now).needs ≡ None) }
     ensures fault { IfErr result (TellsUndriven signals.now.keys (wire_link wire.now).needs) }
 {
     let number = number_of(alloc, &wire.from, signals)?;
-    let mut row = Places::empty(alloc);
+    let mut row = Numbers::empty(alloc);
     let Ok(()) = row.push(number) else {
         return Err(NetlistFault::Memory);
     };
@@ -147,11 +157,14 @@ fn wire_rows(
     alloc: Global,
     wires: &[Wire],
     signals: &IndexSet<Name>,
-    rows: &mut Vec<Places>,
+    rows: &mut Vec<Numbers>,
 ) -> Result<(), NetlistFault>
-    ensures ok { OnOk result (rows.new.items ≡ rows.old.items ++ numbered signals.now.keys (map wire_link wires.now)) }
-    ensures known { OnOk result (undriven_in signals.now.keys (flat_map needs_of (map wire_link wires.now)) ≡ None) }
-    ensures fault { IfErr result (TellsUndriven signals.now.keys (flat_map needs_of (map wire_link wires.now))) }
+    ensures ok { OnOk result (rows.new.items ≡ rows.old.items
+        ++ numbered signals.now.keys (map wire_link wires.now)) }
+    ensures known { OnOk result (undriven_in signals.now.keys
+        (flat_map needs_of (map wire_link wires.now)) ≡ None) }
+    ensures fault { IfErr result (TellsUndriven signals.now.keys
+        (flat_map needs_of (map wire_link wires.now))) }
 {
     for wire in wires {
         let row = wire_row(alloc, wire, signals)?;
@@ -162,16 +175,20 @@ fn wire_rows(
     Ok(())
 }
 
-// The numbers of what each gate and then each wire hangs on, or the first name of these that has none.
+// The numbers of what each gate and then each wire hangs on, or the first name of these that has
+// none.
 pub(crate) fn rows(
     alloc: Global,
     gates: &[DraftGate],
     wires: &[Wire],
     signals: &IndexSet<Name>,
-) -> Result<Vec<Places>, NetlistFault>
-    ensures ok { IfOk result (λ rows. rows.items ≡ numbered signals.now.keys (map gate_link gates.now ++ map wire_link wires.now)) }
-    ensures known { OnOk result (undriven_in signals.now.keys (flat_map needs_of (map gate_link gates.now ++ map wire_link wires.now)) ≡ None) }
-    ensures fault { IfErr result (TellsUndriven signals.now.keys (flat_map needs_of (map gate_link gates.now ++ map wire_link wires.now))) }
+) -> Result<Vec<Numbers>, NetlistFault>
+    ensures ok { IfOk result (λ rows. rows.items
+        ≡ numbered signals.now.keys (map gate_link gates.now ++ map wire_link wires.now)) }
+    ensures known { OnOk result (undriven_in signals.now.keys
+        (flat_map needs_of (map gate_link gates.now ++ map wire_link wires.now)) ≡ None) }
+    ensures fault { IfErr result (TellsUndriven signals.now.keys
+        (flat_map needs_of (map gate_link gates.now ++ map wire_link wires.now))) }
 {
     let mut rows = gate_rows(alloc, gates, signals)?;
     wire_rows(alloc, wires, signals, &mut rows)?;

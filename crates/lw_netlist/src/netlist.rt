@@ -38,8 +38,20 @@ impl Netlist {
 
     /// The netlist of these parts, without memory.
     pub fn new(model: Name, names: Names, inputs: u32, gates: Gates, outputs: PortList) -> Self
-        requires { IsNetlist (record { model = model; names = names; inputs = inputs; gates = gates; outputs = outputs }) }
-        ensures { result ≡ record { model = model; names = names; inputs = inputs; gates = gates; outputs = outputs } }
+        requires { IsNetlist (record {
+          model = model;
+          names = names;
+          inputs = inputs;
+          gates = gates;
+          outputs = outputs;
+        }) }
+        ensures { result ≡ record {
+          model = model;
+          names = names;
+          inputs = inputs;
+          gates = gates;
+          outputs = outputs;
+        } }
     {
         Netlist {
             model,
@@ -95,22 +107,24 @@ impl Netlist {
         requires one_x { length x.now ≡ self.now.inputs }
         requires one_net { length nets.old ≡ length self.now.names }
         requires few { length self.now.gates ≤ most_gates }
-        ensures { AreNetlistValues (truth_of_cells lib.now) (plain self.now) (given x.now) nets.new }
+        ensures { AreNetlistValues (truth_of_cells lib.now) (plain self.now)
+            (given x.now) nets.new }
     {
         let gates = self.gates();
         copy_front(x, nets);
         fill_values(gates, lib, x.len(), nets);
     }
 
-    /// Fills in when each net arrives, without memory: an input at its start, and a gate at the greatest of its pins' arrivals and
-    /// delays.
+    /// Fills in when each net arrives, without memory: an input at its start, and a gate at the
+    /// greatest of its pins' arrivals and delays.
     pub fn arrivals(&self, lib: &Library, starts: &Micros, nets: &mut [Micro])
         requires over { IsOver lib.now self.now }
         requires one_start { length starts.now ≡ self.now.inputs }
         requires small { All IsSmall starts.now }
         requires one_net { length nets.old ≡ length self.now.names }
         requires few { length self.now.gates ≤ most_gates }
-        ensures arrivals { AreArrivals (timing_of lib.now starts.now) (plain self.now) (map millionths nets.new) }
+        ensures arrivals { AreArrivals (timing_of lib.now starts.now) (plain self.now)
+            (map millionths nets.new) }
         ensures low { All (λ net. net.0 < 2 ^ 63) nets.new }
     {
         let gates = self.gates();

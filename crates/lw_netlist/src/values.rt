@@ -49,11 +49,14 @@ pub(crate) fn cell_of<'a>(lib: &'a Library, gate: &Gate) -> &'a Cell
 
 // Fills in the nets that the gates drive, which are those from `first` on.
 pub(crate) fn fill_values(gates: &[Gate], lib: &Library, first: usize, nets: &mut [bool])
-    requires gates { (j : ℕ) (gate : _) → slice_get gates.now j ≡ Some gate → IsGateAt first j gate }
+    requires gates { (j : ℕ) (gate : _) → slice_get gates.now j ≡ Some gate →
+        IsGateAt first j gate }
     requires over { All (HasCell lib.now) gates.now }
     requires one_each { length nets.old ≡ first + length gates.now }
-    ensures inputs { (i : ℕ) → i < first → slice_index_or nets.new i false ≡ slice_index_or nets.old i false }
-    ensures values { (j : ℕ) (gate : _) → slice_get gates.now j ≡ Some gate → slice_index_or nets.new (first + j) false ≡ gate_value lib.now nets.new gate }
+    ensures inputs { (i : ℕ) → i < first →
+        slice_index_or nets.new i false ≡ slice_index_or nets.old i false }
+    ensures values { (j : ℕ) (gate : _) → slice_get gates.now j ≡ Some gate →
+        slice_index_or nets.new (first + j) false ≡ gate_value lib.now nets.new gate }
 {
     for (j, gate) in gates.iter().enumerate() {
         nets[first + j] = value_of(cell_of(lib, gate), gate.pins.as_slice(), nets);

@@ -22,7 +22,8 @@ fn cube(alloc: Global, text: &str) -> Result<Cube, AllocError> {
     Cube::from_slice(alloc, bytes)
 }
 
-// A node of a line: its output, its fan-ins, a bar, its rows, and `off` where they list where it is false.
+// A node of a line: its output, its fan-ins, a bar, its rows, and `off` where they list where it is
+// false.
 fn node(alloc: Global, line: &str) -> Result<DraftNode, AllocError> {
     let mut out = name(alloc, "?")?;
     let mut fanins = Names::new(alloc);

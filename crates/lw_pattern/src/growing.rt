@@ -16,10 +16,12 @@ use std::alloc::{AllocError, Global};
 /// More trees than this are too many.
 const MOST_TREES: u8 = 64;
 
-/// The trees of an expression: with all bracketings, or with the left chains alone where these are too many.
+/// The trees of an expression: with all bracketings, or with the left chains alone where these are
+/// too many.
 pub(crate) fn trees(alloc: Global, form: &Expr) -> Result<Shapes, AllocError>
     ensures trees { IfOk result (λ trees. trees ≡ trees_of_expr form.now) }
-    ensures few_nodes { IfOk result (λ trees. All (λ t. node_count t ≤ 254) (trees_of_expr form.now)) }
+    ensures few_nodes { IfOk result
+        (λ trees. All (λ t. node_count t ≤ 254) (trees_of_expr form.now)) }
 {
     if bracketing_count(alloc, form)? <= MOST_TREES {
         grown(alloc, Bracketing::Every, form)
@@ -30,7 +32,8 @@ pub(crate) fn trees(alloc: Global, form: &Expr) -> Result<Shapes, AllocError>
 
 fn grown(alloc: Global, way: Bracketing, form: &Expr) -> Result<Shapes, AllocError>
     ensures trees { IfOk result (λ trees. run (trees_by way) (postfix form.now) [] ≡ trees ∷ []) }
-    ensures few_nodes { IfOk result (λ trees. All (λ t. node_count t ≤ 254) (trees_of_expr form.now)) }
+    ensures few_nodes { IfOk result
+        (λ trees. All (λ t. node_count t ≤ 254) (trees_of_expr form.now)) }
 {
     let mut stack = Vec::new(alloc);
     for op in form.ops() {
@@ -68,7 +71,8 @@ fn push_single(alloc: Global, shape: Shape, stack: &mut Vec<Shapes>) -> Result<(
 
 fn invert_last(stack: &mut Vec<Shapes>) -> Result<(), AllocError>
     requires { 1 ≤ vec_len stack.old }
-    ensures { OnOk result (stack.new.items ≡ take (vec_len stack.old - 1) stack.old.items ++ map inverted (first_trees (drop (vec_len stack.old - 1) stack.old.items)) ∷ []) }
+    ensures { OnOk result (stack.new.items ≡ take (vec_len stack.old - 1) stack.old.items
+        ++ map inverted (first_trees (drop (vec_len stack.old - 1) stack.old.items)) ∷ []) }
 {
     let last = stack.len() - 1;
     stack[last].invert()?;
@@ -85,7 +89,9 @@ fn join_last(
 ) -> Result<(), AllocError>
     requires some { 2 ≤ parts }
     requires takes { parts ≤ vec_len stack.old }
-    ensures { OnOk result (stack.new.items ≡ take (vec_len stack.old - parts) stack.old.items ++ joined_by way (law_operator operator) (drop (vec_len stack.old - parts) stack.old.items) ∷ []) }
+    ensures { OnOk result (stack.new.items ≡ take (vec_len stack.old - parts) stack.old.items
+        ++ joined_by way (law_operator operator) (drop (vec_len stack.old - parts) stack.old.items)
+        ∷ []) }
 {
     let base = stack.len() - usize::from(parts);
     let first = stack.remove(base);
@@ -103,7 +109,8 @@ fn joined(
     rest: &[Shapes],
 ) -> Result<Shapes, AllocError>
     requires { 1 ≤ length rest.now }
-    ensures { IfOk result (λ trees. trees ≡ joined_by way (law_operator operator) (first ∷ rest.now)) }
+    ensures { IfOk result (λ trees. trees
+        ≡ joined_by way (law_operator operator) (first ∷ rest.now)) }
 {
     if way == Bracketing::Every && rest.len() == 2 {
         three(alloc, operator, &first, &rest[0], &rest[1])

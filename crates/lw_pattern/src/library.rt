@@ -14,15 +14,18 @@ use lw_genlib::{Cell, Expr, Library};
 use lw_pool::CellId;
 use std::alloc::{AllocError, Global};
 
-/// The patterns of the cells of a library, in the order of cells, their forms, and the bracketings of a form.
+/// The patterns of the cells of a library, in the order of cells, their forms, and the bracketings
+/// of a form.
 ///
-/// An AND is an inverted NAND, and an OR the NAND of its inverted operands; two inverters in a row fall away. An operator
-/// with two to four operands is bracketed in all ways, and one with more as a left chain. A form that would have more than
+/// An AND is an inverted NAND, and an OR the NAND of its inverted operands; two inverters in a row
+/// fall away. An operator with two to four operands is bracketed in all ways, and one with more as
+/// a left chain. A form that would have more than
 /// 64 patterns has one, in which each operator is a left chain.
 pub fn patterns(alloc: Global, lib: &Library) -> Result<Patterns, AllocError>
     ensures list { IfOk result (λ pats. pats ≡ library_patterns lib.now) }
     ensures pins { IfOk result (λ pats. ArePatterns (pin_counts lib.now) pats) }
-    ensures truth { IfOk result (λ pats. HaveCellTruths (pin_counts lib.now) (library_truth lib.now) pats) }
+    ensures truth { IfOk result (λ pats. HaveCellTruths (pin_counts lib.now)
+        (library_truth lib.now) pats) }
 {
     let mut items = Vec::new(alloc);
     for number in 0..lib.len() {
@@ -38,7 +41,8 @@ fn push_cell(
     cell: &Cell,
     items: &mut Vec<Pattern>,
 ) -> Result<(), AllocError>
-    ensures { OnOk result (items.new.items ≡ items.old.items ++ map listed (patterns_of_cell id.0 cell.now.forms)) }
+    ensures { OnOk result (items.new.items ≡ items.old.items
+        ++ map listed (patterns_of_cell id.0 cell.now.forms)) }
 {
     for form in cell.forms() {
         push_form(alloc, id, form, items)?;
@@ -52,7 +56,8 @@ fn push_form(
     form: &Expr,
     items: &mut Vec<Pattern>,
 ) -> Result<(), AllocError>
-    ensures { OnOk result (items.new.items ≡ items.old.items ++ map listed (map (pattern_of_cell id.0) (trees_of_expr form.now))) }
+    ensures { OnOk result (items.new.items ≡ items.old.items
+        ++ map listed (map (pattern_of_cell id.0) (trees_of_expr form.now))) }
 {
     for tree in trees(alloc, form)?.as_slice() {
         items.push(Pattern {

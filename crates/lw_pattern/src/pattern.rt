@@ -2,16 +2,19 @@ use crate::PatNodes;
 use lw_pool::{CellId, PatId};
 use std::marker::Model;
 
-/// A pattern: the function of a cell as a tree whose leaves are the cell's pins. The last node is the root.
+/// A pattern: the function of a cell as a tree whose leaves are the cell's pins. The last node is
+/// the root.
 #[derive(Debug, Drop)]
 pub struct Pattern {
     pub cell: CellId,
     pub nodes: PatNodes,
 }
 
-/// The patterns of the cells of a library, in the order of cells, their forms, and the bracketings of a form.
+/// The patterns of the cells of a library, in the order of cells, their forms, and the bracketings
+/// of a form.
 ///
-/// Each has at most 254 nodes, each of them an operand of one later node but the root, and pins from 0 on without a gap.
+/// Each has at most 254 nodes, each of them an operand of one later node but the root, and pins
+/// from 0 on without a gap.
 #[derive(Debug, Drop)]
 pub struct Patterns {
     items: Vec<Pattern>,

@@ -23,7 +23,8 @@ pub(crate) fn nodes(alloc: Global, tree: &Shape) -> Result<PatNodes, AllocError>
     Ok(PatNodes::from_vec(nodes))
 }
 
-// The node of a step, given the places of the trees that await an operator. It takes its operands from them.
+// The node of a step, given the places of the trees that await an operator. It takes its operands
+// from them.
 fn node_by(roots: &mut Vec<u8>, step: Step) -> PatNode
     requires { taken step ≤ vec_len roots.old }
     ensures node { result ≡ node_by (reverse roots.old.items) step }

@@ -73,7 +73,8 @@ impl Shape {
     /// Joins the tree with the one that a tail is made of.
     pub(crate) fn join(&mut self, operator: Operator, tail: &[Step]) -> Result<(), AllocError>
         requires { (u : Tree) × IsTail operator u tail.now }
-        ensures { (u : Tree) → IsTail operator u tail.now → OnOk result (self.new ≡ tree_by (law_operator operator) self.old u) }
+        ensures { (u : Tree) → IsTail operator u tail.now →
+            OnOk result (self.new ≡ tree_by (law_operator operator) self.old u) }
     {
         self.become_operand(operator)?;
         self.steps.extend_from_slice(tail)?;
@@ -130,7 +131,8 @@ impl Shape {
 
     // Appends the steps of what stands under the NAND of the operator.
     fn push_operand(&self, operator: Operator, steps: &mut Vec<Step>) -> Result<(), AllocError>
-        ensures { OnOk result (steps.new.items ≡ steps.old.items ++ steps_of (operand_of operator self.now)) }
+        ensures { OnOk result (steps.new.items ≡ steps.old.items
+            ++ steps_of (operand_of operator self.now)) }
     {
         let own = self.steps();
         if operator == Operator::And {

@@ -69,7 +69,8 @@ impl Shapes {
         operator: Operator,
         other: &Shape,
     ) -> Result<(), AllocError>
-        ensures { OnOk result (self.new ≡ all_pairs (law_operator operator) self.old (other.now ∷ [])) }
+        ensures { OnOk result (self.new
+            ≡ all_pairs (law_operator operator) self.old (other.now ∷ [])) }
     {
         let tail = other.tail(alloc, operator)?;
         for shape in self.items.iter_mut() {
@@ -86,7 +87,8 @@ impl Shapes {
         first: &Shape,
         others: &Shapes,
     ) -> Result<(), AllocError>
-        ensures { OnOk result (self.new ≡ self.old ++ each_with (law_operator operator) first.now others.now) }
+        ensures { OnOk result (self.new ≡ self.old
+            ++ each_with (law_operator operator) first.now others.now) }
     {
         for other in others.as_slice() {
             self.items
@@ -103,7 +105,8 @@ impl Shapes {
         left: &Shapes,
         right: &Shapes,
     ) -> Result<(), AllocError>
-        ensures { OnOk result (self.new ≡ self.old ++ all_pairs (law_operator operator) left.now right.now) }
+        ensures { OnOk result (self.new ≡ self.old
+            ++ all_pairs (law_operator operator) left.now right.now) }
     {
         for first in left.as_slice() {
             self.push_each(alloc, operator, first, right)?;

@@ -4,8 +4,8 @@ use crate::{Name, Names};
 use std::alloc::{AllocError, Global};
 use std::marker::Model;
 
-/// A latch of BLIF's `.latch`: the net that it stores, the signal that it gives, and the words behind these on its line, which
-/// are its kind, its control and its initial value.
+/// A latch of BLIF's `.latch`: the net that it stores, the signal that it gives, and the words
+/// behind these on its line, which are its kind, its control and its initial value.
 #[derive(Debug, Drop)]
 pub struct Latch {
     pub input: Name,
@@ -13,10 +13,11 @@ pub struct Latch {
     pub rest: Names,
 }
 
-/// What stands around the combinational part of a circuit: how many inputs and outputs the circuit itself has, and its latches.
+/// What stands around the combinational part of a circuit: how many inputs and outputs the circuit
+/// itself has, and its latches.
 ///
-/// The combinational part has the circuit's inputs and then the latches' outputs as its inputs; its outputs are the circuit's and
-/// then the nets that the latches read.
+/// The combinational part has the circuit's inputs and then the latches' outputs as its inputs; its
+/// outputs are the circuit's and then the nets that the latches read.
 #[derive(Debug, Drop)]
 pub struct Frame {
     pub inputs: u32,

@@ -33,7 +33,8 @@ impl<I: Id, T> Pool<I, T> {
         }
     }
 
-    /// Appends a value, and answers its number. For want of memory it hands the value back and changes nothing.
+    /// Appends a value, and answers its number. For want of memory it hands the value back and
+    /// changes nothing.
     pub fn push(&mut self, value: T) -> Result<I, T>
         requires { length self.old.items < 2 ^ 32 - 1 }
         ensures ok { OnOk result (self.new.items ≡ self.old.items ++ value ∷ []) }

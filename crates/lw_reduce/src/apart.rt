@@ -41,7 +41,8 @@ fn rise(keys: &[u64]) -> bool
     true
 }
 
-// Whether no two facts have parts of the same names. It sorts numbers, which takes half as long as to sort facts.
+// Whether no two facts have parts of the same names. It sorts numbers, which takes half as long as
+// to sort facts.
 pub(crate) fn have_own_parts(
     alloc: Global,
     names: &[u32],

@@ -1,4 +1,5 @@
-// Passes over the facts that were renamed, with a table of those that were seen by the names of their parts.
+// Passes over the facts that were renamed, with a table of those that were seen by the names of
+// their parts.
 ghost use Rattle.std.specs.Prelude.{◌≡◌, ◌+◌, ◌/◌, ◌^◌, ◌<◌, ◌≤◌, ℕ, length, vec_len, slice_index_or, All, Contains, IfOk, IfSome, IsTrue};
 ghost use Rattle.lw_reduce.specs.Names.{CanName, HasParts, IsFactIn, Keeps, family};
 ghost use Rattle.lw_reduce.specs.Seeing.{IsSeen};
@@ -52,7 +53,8 @@ fn has_parts(names: &mut [u32], nands: &[Fact], links: &[Link], fact: Fact, part
     requires can { CanName (length names.old) nands.now links.now names.old }
     requires within { IsFactIn (length names.old) fact }
     ensures kept { Keeps (length names.old) nands.now links.now names.old names.new }
-    ensures parts { IsTrue result → HasParts (length names.old) nands.now links.now fact parts.low parts.high }
+    ensures parts { IsTrue result →
+        HasParts (length names.old) nands.now links.now fact parts.low parts.high }
 {
     let own = parts_of(names, nands, links, fact);
     own.low == parts.low && own.high == parts.high
@@ -84,7 +86,8 @@ fn seek(names: &mut [u32], nands: &[Fact], links: &[Link], slots: &[u32], parts:
     requires some { 0 < length slots.now }
     requires places { All (λ e. e ≤ length nands.now) slots.now }
     ensures kept { Keeps (length names.old) nands.now links.now names.old names.new }
-    ensures seen { IsSeen (length names.old) nands.now links.now (length slots.now) parts.low parts.high result }
+    ensures seen { IsSeen (length names.old) nands.now links.now
+        (length slots.now) parts.low parts.high result }
 {
     let mut slot = slot_of(parts, slots.len());
     for _step in 0..slots.len() {
@@ -127,7 +130,8 @@ fn row_with(rows: &[Fact], parts: Parts) -> Option<usize>
     Some(place)
 }
 
-// Gives a form the name of one with the same parts, among those that the table has, or puts the fact of the form there.
+// Gives a form the name of one with the same parts, among those that the table has, or puts the
+// fact of the form there.
 fn enter(
     names: &mut [u32],
     nands: &[Fact],
@@ -141,7 +145,8 @@ fn enter(
     requires places { All (λ e. e ≤ length nands.now) slots.old }
     requires within { place < length nands.now }
     requires few { length nands.now < 2 ^ 32 }
-    requires parts { HasParts (length names.old) nands.now links.now (slice_index_or nands.now place no_fact) parts.low parts.high }
+    requires parts { HasParts (length names.old) nands.now links.now
+        (slice_index_or nands.now place no_fact) parts.low parts.high }
     ensures kept { Keeps (length names.old) nands.now links.now names.old names.new }
     ensures places { All (λ e. e ≤ length nands.now) slots.new }
     ensures len { length slots.new ≡ length slots.old }
@@ -226,9 +231,9 @@ fn empty_slots(alloc: Global, facts: usize) -> Result<Vec<u32>, AllocError>
     Ok(slots)
 }
 
-// Goes over the facts whose parts have other names than in the rows, and names their forms as it comes to them: first in
-// their order, so that where parts come before their forms one pass is enough, however many forms become equivalent one after
-// the other; and then in the other order.
+// Goes over the facts whose parts have other names than in the rows, and names their forms as it
+// comes to them: first in their order, so that where parts come before their forms one pass is
+// enough, however many forms become equivalent one after the other; and then in the other order.
 pub(crate) fn cascade(
     alloc: Global,
     names: &mut [u32],

@@ -8,8 +8,8 @@ use std::marker::Model;
 
 /// Base forms with one sample value each, NAND facts and links.
 ///
-/// Base form 0 is true, those after it are the inputs. The form with an even number 2k is base form k, and the next number is its
-/// complement.
+/// Base form 0 is true, those after it are the inputs. The form with an even number 2k is base form
+/// k, and the next number is its complement.
 #[derive(Debug, Drop)]
 pub struct Draft {
     pub(crate) inputs: u32,
@@ -42,10 +42,17 @@ fn first_samples(alloc: Global, inputs: u32) -> Result<Vec<bool>, AllocError>
 }
 
 impl Draft {
-    /// A draft of base form 0, with sample true, and one base form for each input, with sample false. Growth takes memory from `alloc`.
+    /// A draft of base form 0, with sample true, and one base form for each input, with sample
+    /// false. Growth takes memory from `alloc`.
     pub fn new(alloc: Global, inputs: u32) -> Result<Draft, AllocError>
         requires { inputs ≤ 262144 }
-        ensures { IfOk result (λ d. d ≡ record { inputs = inputs; samples = true ∷ replicate inputs false; nands = []; links = [] }) }
+        ensures { IfOk result (λ d. d ≡
+            record {
+              inputs = inputs;
+              samples = true ∷ replicate inputs false;
+              nands = [];
+              links = [];
+            }) }
     {
         let samples = first_samples(alloc, inputs)?;
         Ok(Draft {
@@ -59,7 +66,13 @@ impl Draft {
     /// Appends a base form with this sample, and answers it. For want of memory nothing is changed.
     pub fn add(&mut self, sample: bool) -> Result<FormId, AllocError>
         requires { length self.old.samples < 2 ^ 31 - 1 }
-        ensures ok { OnOk result (self.new ≡ record { inputs = self.old.inputs; samples = self.old.samples ++ sample ∷ []; nands = self.old.nands; links = self.old.links }) }
+        ensures ok { OnOk result (self.new
+            ≡ record {
+              inputs = self.old.inputs;
+              samples = self.old.samples ++ sample ∷ [];
+              nands = self.old.nands;
+              links = self.old.links;
+            }) }
         ensures form { IfOk result (λ f. f.0 ≡ 2 * length self.old.samples) }
         ensures err { OnErr result (self.new ≡ self.old) }
     {
@@ -80,9 +93,17 @@ impl Draft {
         requires form { IsKnown self.old.samples form.0 }
         requires left { IsKnown self.old.samples left.0 }
         requires right { IsKnown self.old.samples right.0 }
-        requires samples { sample_of self.old.samples form.0 ≡ not (sample_of self.old.samples left.0 && sample_of self.old.samples right.0) }
+        requires samples { sample_of self.old.samples form.0
+            ≡ not (sample_of self.old.samples left.0 && sample_of self.old.samples right.0) }
         requires few { length self.old.nands < 2 ^ 32 - 2 }
-        ensures ok { OnOk result (self.new ≡ record { inputs = self.old.inputs; samples = self.old.samples; nands = self.old.nands ++ (record { form = form.0; left = left.0; right = right.0 }) ∷ []; links = self.old.links }) }
+        ensures ok { OnOk result (self.new
+            ≡ record {
+              inputs = self.old.inputs;
+              samples = self.old.samples;
+              nands = self.old.nands ++ (record { form = form.0; left = left.0; right = right.0 })
+                  ∷ [];
+              links = self.old.links;
+            }) }
         ensures err { OnErr result (self.new ≡ self.old) }
     {
         self.nands.push(Fact {
@@ -93,12 +114,19 @@ impl Draft {
         Ok(())
     }
 
-    /// Appends a link: these are the two forms of one signal. For want of memory nothing is changed.
+    /// Appends a link: these are the two forms of one signal. For want of memory nothing is
+    /// changed.
     pub fn link(&mut self, left: FormId, right: FormId) -> Result<(), AllocError>
         requires left { IsKnown self.old.samples left.0 }
         requires right { IsKnown self.old.samples right.0 }
         requires samples { sample_of self.old.samples left.0 ≡ sample_of self.old.samples right.0 }
-        ensures ok { OnOk result (self.new ≡ record { inputs = self.old.inputs; samples = self.old.samples; nands = self.old.nands; links = self.old.links ++ (record { left = left.0; right = right.0 }) ∷ [] }) }
+        ensures ok { OnOk result (self.new
+            ≡ record {
+              inputs = self.old.inputs;
+              samples = self.old.samples;
+              nands = self.old.nands;
+              links = self.old.links ++ (record { left = left.0; right = right.0 }) ∷ [];
+            }) }
         ensures err { OnErr result (self.new ≡ self.old) }
     {
         self.links.push(Link {

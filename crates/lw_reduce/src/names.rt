@@ -58,7 +58,8 @@ pub(crate) fn unify(
     requires right { right / 2 < length names.old }
     requires alike { Equivalent (family (length names.old) nands.now links.now) left right }
     ensures progress { Progresses (length names.old) nands.now links.now names.old names.new result }
-    ensures same { IsFalse result → IsFlat names.old → (names.new ≡ names.old) × (name_of names.old left ≡ name_of names.old right) }
+    ensures same { IsFalse result → IsFlat names.old → (names.new ≡ names.old) ×
+        (name_of names.old left ≡ name_of names.old right) }
 {
     let a = find(names, nands, links, left);
     let b = find(names, nands, links, right);

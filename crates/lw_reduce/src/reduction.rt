@@ -20,7 +20,8 @@ use std::alloc::{AllocError, Global};
 fn own_names(alloc: Global, samples: &[bool]) -> Result<Vec<u32>, AllocError>
     requires { length samples.now < 2 ^ 31 }
     ensures count { IfOk result (λ v. length v.items ≡ length samples.now) }
-    ensures own { IfOk result (λ v. (b : ℕ) → b < length samples.now → slice_index v.items b ≡ 2 * b) }
+    ensures own { IfOk result (λ v. (b : ℕ) → b < length samples.now →
+        slice_index v.items b ≡ 2 * b) }
 {
     let mut names = Vec::with_capacity(alloc, samples.len())?;
     for base in 0..samples.len() {
@@ -55,7 +56,8 @@ fn graph_of(
     requires few { length names.now < 2 ^ 31 }
     requires inputs { inputs < length names.now }
     requires few_nands { length nands.items < 2 ^ 32 - 1 }
-    ensures { IfOk result (λ graph. (samples : List Bool) → length samples ≡ length names.now → IsReduced (plain_draft inputs samples nands.items links.now) graph) }
+    ensures { IfOk result (λ graph. (samples : List Bool) → length samples ≡ length names.now →
+        IsReduced (plain_draft inputs samples nands.items links.now) graph) }
 {
     let numbered = number(alloc, names)?;
     let rows = class_rows(&numbered.forms, nands);
@@ -79,7 +81,8 @@ fn graph_by(
     requires few { length names.old < 2 ^ 31 }
     requires inputs { inputs < length names.old }
     requires few_nands { length nands.items < 2 ^ 32 - 1 }
-    ensures { IfOk result (λ graph. (samples : List Bool) → length samples ≡ length names.old → IsReduced (plain_draft inputs samples nands.items links.now) graph) }
+    ensures { IfOk result (λ graph. (samples : List Bool) → length samples ≡ length names.old →
+        IsReduced (plain_draft inputs samples nands.items links.now) graph) }
 {
     settle(alloc, names, &nands, links)?;
     let graph = graph_of(alloc, inputs, names, nands, links)?;
@@ -88,10 +91,11 @@ fn graph_by(
 
 /// The graph of the classes of a draft's forms.
 ///
-/// Two forms have one class exactly where they are equivalent: linked forms are, the complements of equivalent forms are, and forms that
-/// are NANDs of equivalent forms, in this order or exchanged, are, and no others but by these. Pairs of classes are numbered by their
-/// first base forms, without gaps; a class holds a pair of classes, the lower one first, where some NAND fact has its form in this class
-/// and its parts in those two. Pairs stand in rising order, each once.
+/// Two forms have one class exactly where they are equivalent: linked forms are, the complements of
+/// equivalent forms are, and forms that are NANDs of equivalent forms, in this order or exchanged,
+/// are, and no others but by these. Pairs of classes are numbered by their first base forms,
+/// without gaps; a class holds a pair of classes, the lower one first, where some NAND fact has its
+/// form in this class and its parts in those two. Pairs stand in rising order, each once.
 pub fn reduce(alloc: Global, draft: Draft) -> Result<Graph, AllocError>
     ensures { IfOk result (IsReduced draft) }
 {

@@ -61,7 +61,8 @@ fn start_of(ends: &[u32], class: usize) -> usize
 fn list<'a>(pairs: &'a [Pair], ends: &[u32], class: usize) -> &'a [Pair]
     requires ends { AreEnds (length pairs.now) 0 ends.now }
     requires within { class < length ends.now }
-    ensures pairs { result.now ≡ slice_range pairs.now (start_at 0 ends.now class) (slice_index ends.now class) }
+    ensures pairs { result.now ≡ slice_range pairs.now (start_at 0 ends.now class)
+        (slice_index ends.now class) }
     ensures size { start_at 0 ends.now class + length result.now ≡ slice_index ends.now class }
 {
     let start = start_of(ends, class);
@@ -93,8 +94,10 @@ fn add(rows: &mut Rows, row: &[Pair]) -> Result<(), AllocError>
     requires ends { AreEnds (length rows.old.pairs.items) 0 rows.old.ends }
     requires few { length rows.old.pairs.items + length row.now < 2 ^ 32 - 1 }
     ensures ends { OnOk result (AreEnds (length rows.new.pairs.items) 0 rows.new.ends) }
-    ensures rows { OnOk result (rows_from rows.new.pairs.items 0 rows.new.ends ≡ rows_from rows.old.pairs.items 0 rows.old.ends ++ row.now ∷ []) }
-    ensures size { OnOk result (length rows.new.pairs.items ≡ length rows.old.pairs.items + length row.now) }
+    ensures rows { OnOk result (rows_from rows.new.pairs.items 0 rows.new.ends
+        ≡ rows_from rows.old.pairs.items 0 rows.old.ends ++ row.now ∷ []) }
+    ensures size { OnOk result (length rows.new.pairs.items
+        ≡ length rows.old.pairs.items + length row.now) }
 {
     append(&mut rows.pairs, row)?;
     rows.ends.push(rows.pairs.len())?;
@@ -120,7 +123,9 @@ pub(crate) fn rising(alloc: Global, pairs: &[Pair], ends: &[u32]) -> Result<Rows
     requires few { length pairs.now < 2 ^ 32 - 1 }
     ensures ends { IfOk result (λ r. AreEnds (length r.pairs.items) 0 r.ends) }
     ensures count { IfOk result (λ r. length r.ends ≡ length ends.now) }
-    ensures rows { IfOk result (λ r. (c : ℕ) → IsRowOf (slice_index_or (rows_from pairs.now 0 ends.now) c []) (slice_index_or (rows_from r.pairs.items 0 r.ends) c [])) }
+    ensures rows { IfOk result (λ r. (c : ℕ) →
+        IsRowOf (slice_index_or (rows_from pairs.now 0 ends.now) c [])
+        (slice_index_or (rows_from r.pairs.items 0 r.ends) c [])) }
 {
     let mut rows = no_rows(alloc, pairs.len())?;
     let mut row = Vec::new(alloc);

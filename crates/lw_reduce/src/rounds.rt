@@ -10,7 +10,8 @@ use crate::facts::{Fact, Link};
 use crate::names::{flatten, name, unify};
 use std::alloc::{AllocError, Global};
 
-// What a round leaves: the facts in terms of names, by their parts, and whether some names changed after that.
+// What a round leaves: the facts in terms of names, by their parts, and whether some names changed
+// after that.
 #[derive(Drop)]
 struct Turn {
     rows: Vec<Fact>,
@@ -21,7 +22,8 @@ struct Turn {
 fn join_linked(names: &mut [u32], nands: &[Fact], links: &[Link]) -> bool
     requires { CanName (length names.old) nands.now links.now names.old }
     ensures progress { Progresses (length names.old) nands.now links.now names.old names.new result }
-    ensures same { IsFalse result → IsFlat names.old → (names.new ≡ names.old) × All (LinkAgrees names.old) links.now }
+    ensures same { IsFalse result → IsFlat names.old → (names.new ≡ names.old) ×
+        All (LinkAgrees names.old) links.now }
 {
     let mut changed = false;
     for link in links {
@@ -69,7 +71,8 @@ fn sort(rows: &mut Vec<Fact>)
 // The facts in terms of names, in the order of their parts.
 fn sorted_facts(alloc: Global, names: &[u32], nands: &[Fact]) -> Result<Vec<Fact>, AllocError>
     requires { All (IsFactIn (length names.now)) nands.now }
-    ensures permutation { IfOk result (λ rows. IsPermutation (map (renamed_fact names.now) nands.now) rows.items) }
+    ensures permutation { IfOk result
+        (λ rows. IsPermutation (map (renamed_fact names.now) nands.now) rows.items) }
     ensures sorted { IfOk result (λ rows. IsNonDecreasingBy fact_key rows.items) }
 {
     let mut rows = renamed_facts(alloc, names, nands)?;
@@ -84,7 +87,8 @@ fn join_at(names: &mut [u32], nands: &[Fact], links: &[Link], rows: &[Fact], pla
     requires start { 1 ≤ place }
     requires within { place < length rows.now }
     ensures progress { Progresses (length names.old) nands.now links.now names.old names.new result }
-    ensures same { IsFalse result → IsFlat names.old → (names.new ≡ names.old) × AgreesAt names.old rows.now place }
+    ensures same { IsFalse result → IsFlat names.old → (names.new ≡ names.old) ×
+        AgreesAt names.old rows.now place }
 {
     let first = rows[place - 1];
     let second = rows[place];
@@ -99,7 +103,8 @@ fn join_equal(names: &mut [u32], nands: &[Fact], links: &[Link], rows: &[Fact]) 
     requires can { CanName (length names.old) nands.now links.now names.old }
     requires rows { All (IsRenamed (length names.old) nands.now links.now) rows.now }
     ensures progress { Progresses (length names.old) nands.now links.now names.old names.new result }
-    ensures same { IsFalse result → IsFlat names.old → (names.new ≡ names.old) × ((place : ℕ) → 1 ≤ place → place < length rows.now → AgreesAt names.old rows.now place) }
+    ensures same { IsFalse result → IsFlat names.old → (names.new ≡ names.old) ×
+        ((place : ℕ) → 1 ≤ place → place < length rows.now → AgreesAt names.old rows.now place) }
 {
     let mut changed = false;
     for place in 1..rows.len() {
@@ -118,9 +123,12 @@ fn round(
     links: &[Link],
 ) -> Result<Turn, AllocError>
     requires { CanName (length names.old) nands.now links.now names.old }
-    ensures progress { IfOk result (λ r. Progresses (length names.old) nands.now links.now names.old names.new r.changed) }
-    ensures rows { IfOk result (λ r. All (IsRenamed (length names.old) nands.now links.now) r.rows.items) }
-    ensures settled { IfOk result (λ r. IsFalse r.changed → IsSettled (length names.old) nands.now links.now names.new r.rows.items) }
+    ensures progress { IfOk result
+        (λ r. Progresses (length names.old) nands.now links.now names.old names.new r.changed) }
+    ensures rows { IfOk result (λ r. All
+        (IsRenamed (length names.old) nands.now links.now) r.rows.items) }
+    ensures settled { IfOk result (λ r. IsFalse r.changed →
+        IsSettled (length names.old) nands.now links.now names.new r.rows.items) }
 {
     flatten(names, nands, links);
     let linked = join_linked(names, nands, links);
@@ -132,8 +140,8 @@ fn round(
     })
 }
 
-// Whether names are settled that are made flat, with no look at the order of facts: linked forms have one name, and each fact has parts
-// of its own.
+// Whether names are settled that are made flat, with no look at the order of facts: linked forms
+// have one name, and each fact has parts of its own.
 fn are_settled(
     alloc: Global,
     names: &mut [u32],
@@ -142,7 +150,8 @@ fn are_settled(
 ) -> Result<bool, AllocError>
     requires { CanName (length names.old) nands.now links.now names.old }
     ensures can { IfOk result (λ own. CanName (length names.old) nands.now links.now names.new) }
-    ensures settled { IfOk result (λ own. IsTrue own → AreSettled (length names.old) nands.now links.now names.new) }
+    ensures settled { IfOk result (λ own. IsTrue own →
+        AreSettled (length names.old) nands.now links.now names.new) }
 {
     flatten(names, nands, links);
     if join_linked(names, nands, links) {

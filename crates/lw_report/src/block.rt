@@ -39,7 +39,8 @@ fn marked(word: u64, digit: u8, k: u32) -> u64
 fn set_bits(words: &mut [u64], digits: &[u8], k: u32)
     requires bit { k < 64 }
     requires one_each { length digits.now ≡ length words.old }
-    ensures { (i : ℕ) → i < length digits.now → slice_index words.new i ≡ marked k (slice_index words.old i) (slice_index digits.now i) }
+    ensures { (i : ℕ) → i < length digits.now →
+        slice_index words.new i ≡ marked k (slice_index words.old i) (slice_index digits.now i) }
 {
     for (i, digit) in digits.iter().enumerate() {
         words[i] = marked(words[i], *digit, k);
@@ -52,7 +53,8 @@ impl Block {
         requires block { IsBlock (length digits.now) self.old }
         requires room { self.old.count < 64 }
         ensures block { IsBlock (length digits.now) self.new }
-        ensures vectors { block_vectors self.new ≡ block_vectors self.old ++ map is_one digits.now ∷ [] }
+        ensures vectors { block_vectors self.new ≡ block_vectors self.old ++ map is_one digits.now
+            ∷ [] }
     {
         set_bits(&mut self.words, digits, self.count);
         self.count += 1;
@@ -90,7 +92,8 @@ pub(crate) fn add_vector(
 ) -> Result<(), AllocError>
     requires blocks { All (IsBlock (length digits.now)) blocks.old.items }
     ensures blocks { All (IsBlock (length digits.now)) blocks.new.items }
-    ensures vectors { OnOk result (vectors_in blocks.new.items ≡ vectors_in blocks.old.items ++ map is_one digits.now ∷ []) }
+    ensures vectors { OnOk result (vectors_in blocks.new.items ≡ vectors_in blocks.old.items
+        ++ map is_one digits.now ∷ []) }
 {
     make_room(alloc, blocks, digits.len())?;
     let last = blocks.len() - 1;

@@ -32,7 +32,8 @@ fn read_nets(pins: &[NetId], nets: &[u64], words: &mut [u64])
 fn cell_word(cell: &Cell, pins: &[NetId], nets: &[u64]) -> u64
     requires one_each { length pins.now ≡ length cell.now.pins }
     requires known { All (λ net. net.0 < length nets.now) pins.now }
-    ensures { (k : ℕ) → k < 64 → bit k result ≡ cell_value cell.now (values_at (bits_at k nets.now) pins.now) }
+    ensures { (k : ℕ) → k < 64 → bit k result
+        ≡ cell_value cell.now (values_at (bits_at k nets.now) pins.now) }
 {
     let count = cell.pins().len();
     let mut words = [0; MOST_PINS];
@@ -42,11 +43,14 @@ fn cell_word(cell: &Cell, pins: &[NetId], nets: &[u64]) -> u64
 
 // Fills in the nets that the gates drive, which are those from `first` on.
 pub(crate) fn fill_gates(gates: &[Gate], lib: &Library, first: usize, nets: &mut [u64])
-    requires gates { (j : ℕ) (gate : _) → slice_get gates.now j ≡ Some gate → IsGateAt first j gate }
+    requires gates { (j : ℕ) (gate : _) → slice_get gates.now j ≡ Some gate →
+        IsGateAt first j gate }
     requires over { All (HasCell lib.now) gates.now }
     requires one_each { length nets.old ≡ first + length gates.now }
     ensures inputs { (i : ℕ) → i < first → slice_index nets.new i ≡ slice_index nets.old i }
-    ensures values { (k : ℕ) → k < 64 → (j : ℕ) (gate : _) → slice_get gates.now j ≡ Some gate → slice_index_or (bits_at k nets.new) (first + j) false ≡ gate_value lib.now (bits_at k nets.new) gate }
+    ensures values { (k : ℕ) → k < 64 → (j : ℕ) (gate : _) → slice_get gates.now j ≡ Some gate →
+        slice_index_or (bits_at k nets.new) (first + j) false
+        ≡ gate_value lib.now (bits_at k nets.new) gate }
 {
     for (j, gate) in gates.iter().enumerate() {
         nets[first + j] = cell_word(cell_of(lib, gate), gate.pins.as_slice(), nets);

@@ -26,7 +26,8 @@ fn met(sign: u8, values: u64) -> u64
 fn row_word(row: &[u8], fanins: &[NetId], nets: &[u64]) -> u64
     requires columns { length row.now ≡ length fanins.now }
     requires known { All (λ net. net.0 < length nets.now) fanins.now }
-    ensures { (k : ℕ) → k < 64 → bit k result ≡ row_value (values_at (bits_at k nets.now) fanins.now) (map asked row.now) }
+    ensures { (k : ℕ) → k < 64 → bit k result
+        ≡ row_value (values_at (bits_at k nets.now) fanins.now) (map asked row.now) }
 {
     let mut all = u64::MAX;
     for (i, sign) in row.iter().enumerate() {
@@ -39,7 +40,9 @@ fn row_word(row: &[u8], fanins: &[NetId], nets: &[u64]) -> u64
 fn some_row_word(rows: &[Cube], fanins: &[NetId], nets: &[u64]) -> u64
     requires columns { All (λ row. length row ≡ length fanins.now) rows.now }
     requires known { All (λ net. net.0 < length nets.now) fanins.now }
-    ensures { (k : ℕ) → k < 64 → bit k result ≡ list_any (row_value (values_at (bits_at k nets.now) fanins.now)) (map (map asked) rows.now) }
+    ensures { (k : ℕ) → k < 64 → bit k result
+        ≡ list_any (row_value (values_at (bits_at k nets.now) fanins.now))
+        (map (map asked) rows.now) }
 {
     let mut some = 0;
     for row in rows {
@@ -52,7 +55,8 @@ fn some_row_word(rows: &[Cube], fanins: &[NetId], nets: &[u64]) -> u64
 fn node_word(node: &Node, nets: &[u64]) -> u64
     requires columns { All (λ row. length row ≡ length node.now.fanins) node.now.rows }
     requires known { All (λ net. net.0 < length nets.now) node.now.fanins }
-    ensures { (k : ℕ) → k < 64 → bit k result ≡ node_value (bits_at k nets.now) (plain_node node.now) }
+    ensures { (k : ℕ) → k < 64 → bit k result
+        ≡ node_value (bits_at k nets.now) (plain_node node.now) }
 {
     let some = some_row_word(node.rows.as_slice(), node.fanins.as_slice(), nets);
     if node.on { some } else { !some }
@@ -60,10 +64,13 @@ fn node_word(node: &Node, nets: &[u64]) -> u64
 
 // Fills in the nets that the nodes drive, which are those from `first` on.
 pub(crate) fn fill_nodes(nodes: &[Node], first: usize, nets: &mut [u64])
-    requires nodes { (j : ℕ) (node : _) → slice_get nodes.now j ≡ Some node → IsNodeAt first j node }
+    requires nodes { (j : ℕ) (node : _) → slice_get nodes.now j ≡ Some node →
+        IsNodeAt first j node }
     requires one_each { length nets.old ≡ first + length nodes.now }
     ensures inputs { (i : ℕ) → i < first → slice_index nets.new i ≡ slice_index nets.old i }
-    ensures values { (k : ℕ) → k < 64 → (j : ℕ) (node : _) → slice_get nodes.now j ≡ Some node → slice_index_or (bits_at k nets.new) (first + j) false ≡ node_value (bits_at k nets.new) (plain_node node) }
+    ensures values { (k : ℕ) → k < 64 → (j : ℕ) (node : _) → slice_get nodes.now j ≡ Some node →
+        slice_index_or (bits_at k nets.new) (first + j) false
+        ≡ node_value (bits_at k nets.new) (plain_node node) }
 {
     for (j, node) in nodes.iter().enumerate() {
         nets[first + j] = node_word(node, nets);

@@ -21,7 +21,8 @@ fn is_set(word: u64, k: u32) -> bool
 // The value in vector k, as a digit.
 fn put_value<S: Sink>(sink: &mut S, waiting: &mut Waiting, word: u64, k: u32)
     requires { k < 64 }
-    ensures { Puts (S.taken sink.old) (S.faults sink.old) waiting.old (S.taken sink.new) (S.faults sink.new) waiting.new (digit (bit k word) ∷ []) }
+    ensures { Puts (S.taken sink.old) (S.faults sink.old) waiting.old (S.taken sink.new)
+        (S.faults sink.new) waiting.new (digit (bit k word) ∷ []) }
 {
     if is_set(word, k) {
         put(sink, waiting, b"1");
@@ -34,7 +35,8 @@ fn put_value<S: Sink>(sink: &mut S, waiting: &mut Waiting, word: u64, k: u32)
 fn put_nets<S: Sink>(sink: &mut S, waiting: &mut Waiting, outputs: &[NetId], nets: &[u64], k: u32)
     requires bit { k < 64 }
     requires known { All (λ net. net.0 < length nets.now) outputs.now }
-    ensures { Puts (S.taken sink.old) (S.faults sink.old) waiting.old (S.taken sink.new) (S.faults sink.new) waiting.new (value_line (bits_at k nets.now) outputs.now) }
+    ensures { Puts (S.taken sink.old) (S.faults sink.old) waiting.old (S.taken sink.new)
+        (S.faults sink.new) waiting.new (value_line (bits_at k nets.now) outputs.now) }
 {
     for net in outputs {
         put_value(sink, waiting, nets[net.0 as usize], k);
@@ -46,7 +48,9 @@ fn put_nets<S: Sink>(sink: &mut S, waiting: &mut Waiting, outputs: &[NetId], net
 fn put_ports<S: Sink>(sink: &mut S, waiting: &mut Waiting, outputs: &[Port], nets: &[u64], k: u32)
     requires bit { k < 64 }
     requires known { All (λ port. port.net.0 < length nets.now) outputs.now }
-    ensures { Puts (S.taken sink.old) (S.faults sink.old) waiting.old (S.taken sink.new) (S.faults sink.new) waiting.new (value_line (bits_at k nets.now) (map port_net outputs.now)) }
+    ensures { Puts (S.taken sink.old) (S.faults sink.old) waiting.old (S.taken sink.new)
+        (S.faults sink.new) waiting.new
+        (value_line (bits_at k nets.now) (map port_net outputs.now)) }
 {
     for port in outputs {
         put_value(sink, waiting, nets[port.net.0 as usize], k);
@@ -64,7 +68,9 @@ pub(crate) fn put_net_lines<S: Sink>(
 )
     requires few { count ≤ 64 }
     requires known { All (λ net. net.0 < length nets.now) outputs.now }
-    ensures { Puts (S.taken sink.old) (S.faults sink.old) waiting.old (S.taken sink.new) (S.faults sink.new) waiting.new (flat_map (λ k. value_line (bits_at k nets.now) outputs.now) (range_with_len 0 count)) }
+    ensures { Puts (S.taken sink.old) (S.faults sink.old) waiting.old (S.taken sink.new)
+        (S.faults sink.new) waiting.new
+        (flat_map (λ k. value_line (bits_at k nets.now) outputs.now) (range_with_len 0 count)) }
 {
     for k in 0..count {
         put_nets(sink, waiting, outputs, nets, k);
@@ -81,7 +87,10 @@ pub(crate) fn put_port_lines<S: Sink>(
 )
     requires few { count ≤ 64 }
     requires known { All (λ port. port.net.0 < length nets.now) outputs.now }
-    ensures { Puts (S.taken sink.old) (S.faults sink.old) waiting.old (S.taken sink.new) (S.faults sink.new) waiting.new (flat_map (λ k. value_line (bits_at k nets.now) (map port_net outputs.now)) (range_with_len 0 count)) }
+    ensures { Puts (S.taken sink.old) (S.faults sink.old) waiting.old (S.taken sink.new)
+        (S.faults sink.new) waiting.new
+        (flat_map (λ k. value_line (bits_at k nets.now) (map port_net outputs.now))
+        (range_with_len 0 count)) }
 {
     for k in 0..count {
         put_ports(sink, waiting, outputs, nets, k);

@@ -30,8 +30,10 @@ fn critical_pin(cell: &Cell, pins: &[NetId], arrivals: &[Micro], arrival: Micro)
     requires one_each { length pins.now ≡ length cell.now.pins }
     requires known { All (λ net. net.0 < length arrivals.now) pins.now }
     requires low { All (λ net. net.0 < 2 ^ 63) arrivals.now }
-    requires arrives { arrival.0 ≡ latest (cell_delays cell.now) (pin_arrivals (map millionths arrivals.now) pins.now) }
-    ensures some { IfSome result (IsCriticalPin (cell_delays cell.now) (pin_arrivals (map millionths arrivals.now) pins.now) arrival.0) }
+    requires arrives { arrival.0 ≡ latest (cell_delays cell.now)
+        (pin_arrivals (map millionths arrivals.now) pins.now) }
+    ensures some { IfSome result (IsCriticalPin (cell_delays cell.now)
+        (pin_arrivals (map millionths arrivals.now) pins.now) arrival.0) }
     ensures none { IfNone result (pins.now ≡ []) }
 {
     for (k, delay) in cell.delays().iter().enumerate() {
@@ -48,7 +50,8 @@ fn link_to(netlist: &Netlist, lib: &Library, arrivals: &[Micro], j: u32) -> Link
     requires arrivals { AreArrivalsFor lib.now netlist.now (map millionths arrivals.now) }
     requires low { All (λ net. net.0 < 2 ^ 63) arrivals.now }
     requires gate { j < length netlist.now.gates }
-    ensures { IsLinkTo lib.now netlist.now (map millionths arrivals.now) (netlist.now.inputs + j) result }
+    ensures { IsLinkTo lib.now netlist.now (map millionths arrivals.now)
+        (netlist.now.inputs + j) result }
 {
     let gate = &netlist.gates()[j as usize];
     let pins = gate.pins.as_slice();
@@ -80,7 +83,8 @@ fn path_back(
     requires arrivals { AreArrivalsFor lib.now netlist.now (map millionths arrivals.now) }
     requires low { All (λ net. net.0 < 2 ^ 63) arrivals.now }
     requires end { end.0 < length netlist.now.names }
-    ensures { IfOk result (λ path. IsPathTo lib.now netlist.now (map millionths arrivals.now) end.0 (reverse path.items)) }
+    ensures { IfOk result (λ path. IsPathTo lib.now netlist.now (map millionths arrivals.now) end.0
+        (reverse path.items)) }
 {
     let inputs = netlist.inputs();
     let mut path = Vec::new(alloc);
@@ -100,8 +104,10 @@ fn path_back(
 fn first_output(ports: &[Port], arrivals: &[Micro], time: Micro) -> Option<usize>
     requires { All (λ port. port.net.0 < length arrivals.now) ports.now }
     ensures within { IfSome result (λ place. place < length ports.now) }
-    ensures found { IfSome result (IsFirstAt (map (port_arrival (map millionths arrivals.now)) ports.now) time.0) }
-    ensures none { IfNone result ((j : ℕ) → slice_get (map (port_arrival (map millionths arrivals.now)) ports.now) j ≢ Some time.0) }
+    ensures found { IfSome result (IsFirstAt
+        (map (port_arrival (map millionths arrivals.now)) ports.now) time.0) }
+    ensures none { IfNone result ((j : ℕ) →
+        slice_get (map (port_arrival (map millionths arrivals.now)) ports.now) j ≢ Some time.0) }
 {
     for (place, port) in ports.iter().enumerate() {
         if arrivals[port.net.0 as usize].0 == time.0 {
@@ -111,7 +117,8 @@ fn first_output(ports: &[Port], arrivals: &[Micro], time: Micro) -> Option<usize
     None
 }
 
-// The steps of the critical path, from its start to its end, where this is the greatest arrival of an output.
+// The steps of the critical path, from its start to its end, where this is the greatest arrival of
+// an output.
 pub(crate) fn critical_path(
     alloc: Global,
     netlist: &Netlist,
@@ -122,8 +129,10 @@ pub(crate) fn critical_path(
     requires over { IsOver lib.now netlist.now }
     requires arrivals { AreArrivalsFor lib.now netlist.now (map millionths arrivals.now) }
     requires low { All (λ net. net.0 < 2 ^ 63) arrivals.now }
-    requires latest { latest.0 ≡ greatest (output_arrivals netlist.now (map millionths arrivals.now)) }
-    ensures { IfOk result (λ path. IsCriticalPath lib.now netlist.now (map millionths arrivals.now) path.items) }
+    requires latest { latest.0 ≡ greatest
+        (output_arrivals netlist.now (map millionths arrivals.now)) }
+    ensures { IfOk result (λ path. IsCriticalPath lib.now netlist.now
+        (map millionths arrivals.now) path.items) }
 {
     let ports = netlist.outputs();
     let Some(place) = first_output(ports, arrivals, latest) else {

@@ -19,7 +19,8 @@ use lw_netlist::{Netlist, Port};
 // When an output arrives.
 fn put_arrival<S: Sink>(sink: &mut S, waiting: &mut Waiting, port: &Port, arrivals: &[Micro])
     requires { port.now.net.0 < length arrivals.now }
-    ensures { Puts (S.taken sink.old) (S.faults sink.old) waiting.old (S.taken sink.new) (S.faults sink.new) waiting.new (arrival_line (map millionths arrivals.now) port.now) }
+    ensures { Puts (S.taken sink.old) (S.faults sink.old) waiting.old (S.taken sink.new)
+        (S.faults sink.new) waiting.new (arrival_line (map millionths arrivals.now) port.now) }
 {
     put(sink, waiting, b"arrival");
     put_word(sink, waiting, port.name.as_bytes());
@@ -29,7 +30,9 @@ fn put_arrival<S: Sink>(sink: &mut S, waiting: &mut Waiting, port: &Port, arriva
 // When the outputs arrive.
 fn put_arrivals<S: Sink>(sink: &mut S, waiting: &mut Waiting, ports: &[Port], arrivals: &[Micro])
     requires { All (λ port. port.net.0 < length arrivals.now) ports.now }
-    ensures { Puts (S.taken sink.old) (S.faults sink.old) waiting.old (S.taken sink.new) (S.faults sink.new) waiting.new (flat_map (arrival_line (map millionths arrivals.now)) ports.now) }
+    ensures { Puts (S.taken sink.old) (S.faults sink.old) waiting.old (S.taken sink.new)
+        (S.faults sink.new) waiting.new
+        (flat_map (arrival_line (map millionths arrivals.now)) ports.now) }
 {
     for port in ports {
         put_arrival(sink, waiting, port, arrivals);
@@ -46,7 +49,9 @@ pub(crate) fn put_summary<S: Sink>(
     area: Micro,
 )
     requires { All (λ port. port.net.0 < length arrivals.now) ports.now }
-    ensures { Puts (S.taken sink.old) (S.faults sink.old) waiting.old (S.taken sink.new) (S.faults sink.new) waiting.new (summary_text ports.now (map millionths arrivals.now) latest.0 area.0) }
+    ensures { Puts (S.taken sink.old) (S.faults sink.old) waiting.old (S.taken sink.new)
+        (S.faults sink.new) waiting.new
+        (summary_text ports.now (map millionths arrivals.now) latest.0 area.0) }
 {
     put_arrivals(sink, waiting, ports, arrivals);
     put(sink, waiting, b"max");
@@ -76,7 +81,8 @@ fn put_cell_step<S: Sink>(
     cell: &Cell,
 )
     requires { IfSome pin (λ k. k < length cell.now.pins) }
-    ensures { Puts (S.taken sink.old) (S.faults sink.old) waiting.old (S.taken sink.new) (S.faults sink.new) waiting.new (cell_step_line net.now arrival.0 pin (Some cell.now)) }
+    ensures { Puts (S.taken sink.old) (S.faults sink.old) waiting.old (S.taken sink.new)
+        (S.faults sink.new) waiting.new (cell_step_line net.now arrival.0 pin (Some cell.now)) }
 {
     put(sink, waiting, b"step");
     put_word(sink, waiting, net);
@@ -97,7 +103,9 @@ fn put_step<S: Sink>(
     requires over { IsOver lib.now netlist.now }
     requires one_each { length arrivals.now ≡ length netlist.now.names }
     requires step { IsStepIn netlist.now step }
-    ensures { Puts (S.taken sink.old) (S.faults sink.old) waiting.old (S.taken sink.new) (S.faults sink.new) waiting.new (step_line lib.now netlist.now (map millionths arrivals.now) step) }
+    ensures { Puts (S.taken sink.old) (S.faults sink.old) waiting.old (S.taken sink.new)
+        (S.faults sink.new) waiting.new
+        (step_line lib.now netlist.now (map millionths arrivals.now) step) }
 {
     let gate = &netlist.gates()[step.gate as usize];
     let net = gate.out.0 as usize;
@@ -124,7 +132,9 @@ pub(crate) fn put_steps<S: Sink>(
     requires over { IsOver lib.now netlist.now }
     requires one_each { length arrivals.now ≡ length netlist.now.names }
     requires steps { All (IsStepIn netlist.now) path.now }
-    ensures { Puts (S.taken sink.old) (S.faults sink.old) waiting.old (S.taken sink.new) (S.faults sink.new) waiting.new (flat_map (step_line lib.now netlist.now (map millionths arrivals.now)) path.now) }
+    ensures { Puts (S.taken sink.old) (S.faults sink.old) waiting.old (S.taken sink.new)
+        (S.faults sink.new) waiting.new
+        (flat_map (step_line lib.now netlist.now (map millionths arrivals.now)) path.now) }
 {
     for step in path {
         put_step(sink, waiting, netlist, lib, arrivals, *step);

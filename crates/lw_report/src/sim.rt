@@ -22,7 +22,8 @@ use lw_net::Network;
 use lw_netlist::Netlist;
 use std::alloc::{AllocError, Global};
 
-/// Simulates a network or a netlist, 64 vectors at a time: bit k of the word of a net is its value in vector k.
+/// Simulates a network or a netlist, 64 vectors at a time: bit k of the word of a net is its value
+/// in vector k.
 #[derive(Drop)]
 pub struct Sim {
     nets: Vec<u64>,
@@ -55,7 +56,9 @@ impl Sim {
         requires made { places_of self.old ≡ length net.now.names }
         requires inputs { inputs_of vectors.now ≡ net.now.inputs }
         requires good { stop_of vectors.now ≡ None }
-        ensures text { (lines : List LogicalLine) → StandsFor vectors.now lines → Writes (IsNetworkSimulation net.now (map vector_of lines)) (S.taken sink.old) (S.taken sink.new) result }
+        ensures text { (lines : List LogicalLine) → StandsFor vectors.now lines →
+            Writes (IsNetworkSimulation net.now (map vector_of lines)) (S.taken sink.old)
+            (S.taken sink.new) result }
         ensures cause { HasCause (S.faults sink.old) (S.faults sink.new) result }
         ensures made { places_of self.new ≡ places_of self.old }
     {
@@ -76,7 +79,9 @@ impl Sim {
         requires over { IsOver lib.now netlist.now }
         requires inputs { inputs_of vectors.now ≡ netlist.now.inputs }
         requires good { stop_of vectors.now ≡ None }
-        ensures text { (lines : List LogicalLine) → StandsFor vectors.now lines → Writes (IsNetlistSimulation lib.now netlist.now (map vector_of lines)) (S.taken sink.old) (S.taken sink.new) result }
+        ensures text { (lines : List LogicalLine) → StandsFor vectors.now lines →
+            Writes (IsNetlistSimulation lib.now netlist.now (map vector_of lines))
+            (S.taken sink.old) (S.taken sink.new) result }
         ensures cause { HasCause (S.faults sink.old) (S.faults sink.new) result }
         ensures made { places_of self.new ≡ places_of self.old }
     {
@@ -111,7 +116,8 @@ fn put_network_block<S: Sink>(
 )
     requires made { length nets.old ≡ length net.now.names }
     requires block { IsBlock net.now.inputs block.now }
-    ensures { PutsLines (IsNetworkLine net.now) (block_vectors block.now) (S.taken sink.old) (S.faults sink.old) waiting.old (S.taken sink.new) (S.faults sink.new) waiting.new }
+    ensures { PutsLines (IsNetworkLine net.now) (block_vectors block.now) (S.taken sink.old)
+        (S.faults sink.old) waiting.old (S.taken sink.new) (S.faults sink.new) waiting.new }
 {
     let nodes = net.nodes();
     copy_front(&block.words, nets);
@@ -129,7 +135,8 @@ fn put_network<S: Sink>(
 )
     requires made { length nets.old ≡ length net.now.names }
     requires blocks { All (IsBlock net.now.inputs) blocks.now }
-    ensures { PutsLines (IsNetworkLine net.now) (vectors_in blocks.now) (S.taken sink.old) (S.faults sink.old) waiting.old (S.taken sink.new) (S.faults sink.new) waiting.new }
+    ensures { PutsLines (IsNetworkLine net.now) (vectors_in blocks.now) (S.taken sink.old)
+        (S.faults sink.old) waiting.old (S.taken sink.new) (S.faults sink.new) waiting.new }
 {
     for block in blocks {
         put_network_block(sink, waiting, net, block, nets);
@@ -148,7 +155,9 @@ fn put_netlist_block<S: Sink>(
     requires made { length nets.old ≡ length netlist.now.names }
     requires over { IsOver lib.now netlist.now }
     requires block { IsBlock netlist.now.inputs block.now }
-    ensures { PutsLines (IsNetlistLine lib.now netlist.now) (block_vectors block.now) (S.taken sink.old) (S.faults sink.old) waiting.old (S.taken sink.new) (S.faults sink.new) waiting.new }
+    ensures { PutsLines (IsNetlistLine lib.now netlist.now) (block_vectors block.now)
+        (S.taken sink.old) (S.faults sink.old) waiting.old (S.taken sink.new)
+        (S.faults sink.new) waiting.new }
 {
     let gates = netlist.gates();
     copy_front(&block.words, nets);
@@ -168,7 +177,9 @@ fn put_netlist<S: Sink>(
     requires made { length nets.old ≡ length netlist.now.names }
     requires over { IsOver lib.now netlist.now }
     requires blocks { All (IsBlock netlist.now.inputs) blocks.now }
-    ensures { PutsLines (IsNetlistLine lib.now netlist.now) (vectors_in blocks.now) (S.taken sink.old) (S.faults sink.old) waiting.old (S.taken sink.new) (S.faults sink.new) waiting.new }
+    ensures { PutsLines (IsNetlistLine lib.now netlist.now) (vectors_in blocks.now)
+        (S.taken sink.old) (S.faults sink.old) waiting.old (S.taken sink.new)
+        (S.faults sink.new) waiting.new }
 {
     for block in blocks {
         put_netlist_block(sink, waiting, netlist, lib, block, nets);

@@ -21,7 +21,8 @@ use lw_netlist::Netlist;
 use std::alloc::{AllocError, Global};
 use std::marker::Model;
 
-/// The timing of a netlist: when its nets arrive, the greatest arrival of an output, its area, and its critical path.
+/// The timing of a netlist: when its nets arrive, the greatest arrival of an output, its area, and
+/// its critical path.
 #[derive(Debug, Drop)]
 pub struct Timing {
     arrivals: Vec<Micro>,
@@ -62,7 +63,9 @@ fn arrivals_of(
     requires one_start { length starts.now ≡ netlist.now.inputs }
     requires small { All IsSmall starts.now }
     requires few { length netlist.now.gates ≤ most_gates }
-    ensures arrivals { IfOk result (λ arrivals. AreArrivals (timing_of lib.now starts.now) (plain netlist.now) (map millionths arrivals.items)) }
+    ensures arrivals { IfOk result
+        (λ arrivals. AreArrivals (timing_of lib.now starts.now) (plain netlist.now)
+        (map millionths arrivals.items)) }
     ensures low { IfOk result (λ arrivals. All (λ net. net.0 < 2 ^ 63) arrivals.items) }
     ensures len { IfOk result (λ arrivals. vec_len arrivals ≡ length netlist.now.names) }
 {
@@ -106,8 +109,8 @@ impl Timing {
         self.latest
     }
 
-    /// Writes the timing report of the netlist that it was made for: the arrival of each output, the greatest of them, the area, and the
-    /// steps of the critical path. It takes no memory.
+    /// Writes the timing report of the netlist that it was made for: the arrival of each output,
+    /// the greatest of them, the area, and the steps of the critical path. It takes no memory.
     pub fn write<S: Sink>(
         &self,
         netlist: &Netlist,
@@ -116,8 +119,10 @@ impl Timing {
     ) -> Result<(), Failed>
         requires over { IsOver lib.now netlist.now }
         requires made { IsTimingFor lib.now netlist.now self.now }
-        ensures ok { OnOk result (Appends (S.taken sink.old) (S.taken sink.new) (timing_text lib.now netlist.now self.now)) }
-        ensures failed { OnErr result (AppendsPrefix (S.taken sink.old) (S.taken sink.new) (timing_text lib.now netlist.now self.now)) }
+        ensures ok { OnOk result (Appends (S.taken sink.old) (S.taken sink.new)
+            (timing_text lib.now netlist.now self.now)) }
+        ensures failed { OnErr result (AppendsPrefix (S.taken sink.old) (S.taken sink.new)
+            (timing_text lib.now netlist.now self.now)) }
         ensures cause { HasCause (S.faults sink.old) (S.faults sink.new) result }
     {
         let mut waiting = Waiting::new();
@@ -135,7 +140,8 @@ impl Timing {
     )
         requires over { IsOver lib.now netlist.now }
         requires made { IsTimingFor lib.now netlist.now self.now }
-        ensures { Puts (S.taken sink.old) (S.faults sink.old) waiting.old (S.taken sink.new) (S.faults sink.new) waiting.new (timing_text lib.now netlist.now self.now) }
+        ensures { Puts (S.taken sink.old) (S.faults sink.old) waiting.old (S.taken sink.new)
+            (S.faults sink.new) waiting.new (timing_text lib.now netlist.now self.now) }
     {
         put_summary(
             sink,

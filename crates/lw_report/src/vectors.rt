@@ -9,7 +9,8 @@ use crate::block::{Block, add_vector};
 use lw_words::{Line, Words};
 use std::alloc::{AllocError, Global};
 
-/// A list of vectors: values of the inputs. After an error it answers the same to each later line, and changes nothing more.
+/// A list of vectors: values of the inputs. After an error it answers the same to each later line,
+/// and changes nothing more.
 #[derive(Drop)]
 pub struct Vectors {
     alloc: Global,
@@ -59,10 +60,13 @@ impl Vectors {
         }
     }
 
-    /// Takes a line. The answer is the first line that is no vector; it is then that of each later line.
+    /// Takes a line. The answer is the first line that is no vector; it is then that of each later
+    /// line.
     pub fn line(&mut self, line: &Line) -> Result<(), VectorFault>
-        ensures stands { (lines : List LogicalLine) → StandsFor self.old lines → StandsFor self.new (lines ++ line.now ∷ []) }
-        ensures answer { (lines : List LogicalLine) → StandsFor self.old lines → Tells result (first_fault (inputs_of self.old) (lines ++ line.now ∷ [])) }
+        ensures stands { (lines : List LogicalLine) → StandsFor self.old lines →
+            StandsFor self.new (lines ++ line.now ∷ []) }
+        ensures answer { (lines : List LogicalLine) → StandsFor self.old lines →
+            Tells result (first_fault (inputs_of self.old) (lines ++ line.now ∷ [])) }
         ensures stopped { Stopped result (stop_of self.new) }
         ensures again { IfSome (stop_of self.old) (λ stop. result ≡ Err stop) }
         ensures unchanged { IsSome (stop_of self.old) → self.new ≡ self.old }
@@ -94,7 +98,8 @@ impl Vectors {
     // Takes the vector of a line.
     fn take(&mut self, line: &Line) -> Result<(), VectorFault>
         ensures vector { OnOk result (is_vector self.old.inputs line.now ≡ true) }
-        ensures vectors { OnOk result (vectors_in self.new.blocks.items ≡ vectors_in self.old.blocks.items ++ vector_of line.now ∷ []) }
+        ensures vectors { OnOk result (vectors_in self.new.blocks.items
+            ≡ vectors_in self.old.blocks.items ++ vector_of line.now ∷ []) }
         ensures fault { IfErr result (Refuses self.old.inputs line.now) }
         ensures inputs { self.new.inputs ≡ self.old.inputs }
         ensures stop { self.new.stop ≡ self.old.stop }

@@ -1,4 +1,5 @@
-//! Tests of the program as a whole, as tables: words and files in memory, and the status and bytes that they give.
+//! Tests of the program as a whole, as tables: words and files in memory, and the status and bytes
+//! that they give.
 #![tactic(auto)]
 
 #[cfg(test)]

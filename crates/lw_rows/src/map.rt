@@ -9,7 +9,8 @@ use std::alloc::{AllocError, Global};
 use std::process::Abort;
 use std::test::Fail;
 
-/// Files, named LIB, IN and MAPPED, and what words give: the status, and what goes to out and to err.
+/// Files, named LIB, IN and MAPPED, and what words give: the status, and what goes to out and to
+/// err.
 #[derive(Clone, Copy)]
 pub struct Row<'a> {
     pub library: &'a [u8],
@@ -20,7 +21,8 @@ pub struct Row<'a> {
     pub err: &'a [u8],
 }
 
-/// How the outside behaves: the numbers of the calls that fail, the most bytes of a read or a write, and the bytes that out takes.
+/// How the outside behaves: the numbers of the calls that fail, the most bytes of a read or a
+/// write, and the bytes that out takes.
 #[derive(Clone, Copy)]
 pub struct Outside<'a> {
     pub shelf_fails: &'a [u32],

@@ -9,3 +9,7 @@ pub mod Reading
 pub mod Rising
 pub mod Taking
 pub mod Tiling
+pub mod Steps
+pub mod Walking
+pub mod Rooted
+pub mod Telling

@@ -3,5 +3,9 @@ pub mod Listings
 pub mod Queues
 pub mod Settled
 pub mod Settling
+pub mod Steps
 pub mod Stores
 pub mod Uses
+pub mod Walks
+pub mod Ways
+pub mod Tallies

@@ -9,20 +9,42 @@ ghost use Rattle.lw_match.specs.Least.{AreOfCells};
 ghost use Rattle.lw_match.specs.Values.{marks_in};
 ghost use Rattle.lw_label.specs.Labels.{AreLeastMarks};
 ghost use Rattle.lw_settle.specs.Settled.{AreSettledMarks, HaveLeafCosts};
+ghost use Rattle.lw_settle.specs.Steps.{AreSteps};
 ghost use Rattle.lw_settle.specs.Stores.{AreOfStoredCells, IsStoreOf, Stored};
+ghost use Rattle.lw_laws.specs.Choices.{Labels};
 
-/// A law: marks that are settled by a store of a graph and patterns are the least marks of these, and so the same as any others.
+/// A law: marks that are settled by a store of a graph and patterns are the least marks of these,
+/// and so the same as any others.
 pub fn settled_marks_are_least()
-    ensures least { (g : Graph) (cost : Cost) (pats : List Pattern) (lists : List (List Stored)) → IsGraph g → IsCost cost → AreOfCells cost.pin_counts pats → IsStoreOf g pats lists → (marks : List (Option Mark)) → AreSettledMarks g cost lists marks → AreLeastMarks g cost pats marks }
-    ensures same { (g : Graph) (cost : Cost) (pats : List Pattern) (marks others : List (Option Mark)) → AreLeastMarks g cost pats marks → AreLeastMarks g cost pats others → (c : ℕ) → marks_in marks c ≡ marks_in others c }
+    ensures least { (g : Graph) (cost : Cost) (pats : List Pattern) (lists : List (List Stored)) →
+        IsGraph g → IsCost cost → AreOfCells cost.pin_counts pats → IsStoreOf g pats lists →
+        (marks : List (Option Mark)) → AreSettledMarks g cost lists marks →
+        AreLeastMarks g cost pats marks }
+    ensures same { (g : Graph) (cost : Cost) (pats : List Pattern)
+        (marks others : List (Option Mark)) → AreLeastMarks g cost pats marks →
+        AreLeastMarks g cost pats others → (c : ℕ) → marks_in marks c ≡ marks_in others c }
 {}
 
-/// A law: where the patterns are of cells with these numbers of pins, so are the matches of a store of them.
+/// A law: where the patterns are of cells with these numbers of pins, so are the matches of a store
+/// of them.
 pub fn stores_are_of_cells()
-    ensures { (g : Graph) (pats : List Pattern) (pin_counts : List ℕ) (lists : List (List Stored)) → AreOfCells pin_counts pats → IsStoreOf g pats lists → AreOfStoredCells pin_counts lists }
+    ensures { (g : Graph) (pats : List Pattern) (pin_counts : List ℕ) (lists : List (List Stored)) →
+        AreOfCells pin_counts pats → IsStoreOf g pats lists → AreOfStoredCells pin_counts lists }
 {}
 
-/// A law: where no cover of an input's class costs less than the input, none that is made of stored matches does.
+/// A law: where no cover of an input's class costs less than the input, none that is made of stored
+/// matches does.
 pub fn leaf_costs_are_least()
-    ensures { (g : Graph) (cost : Cost) (pats : List Pattern) (lists : List (List Stored)) → IsGraph g → IsCost cost → AreOfCells cost.pin_counts pats → IsStoreOf g pats lists → ((i c : ℕ) → slice_get g.leaves i ≡ Some c → IsLeastCover g pats cost c (Some (cost.leaf i))) → HaveLeafCosts g cost lists }
+    ensures { (g : Graph) (cost : Cost) (pats : List Pattern) (lists : List (List Stored)) →
+        IsGraph g → IsCost cost → AreOfCells cost.pin_counts pats → IsStoreOf g pats lists →
+        ((i c : ℕ) → slice_get g.leaves i ≡ Some c →
+        IsLeastCover g pats cost c (Some (cost.leaf i))) → HaveLeafCosts g cost lists }
+{}
+
+/// A law: all stores of a graph and patterns are read as often, so that there is one count of steps
+/// at most.
+pub fn steps_are_one()
+    ensures { (g : Graph) (pats : List Pattern) (labels : Labels) (steps others : Option ℕ) →
+        AreSteps g pats labels steps →
+        AreSteps g pats labels others → steps ≡ others }
 {}

@@ -16,8 +16,8 @@ pub(crate) struct Taken {
 
 /// The classes that wait, by their marks.
 ///
-/// They are the leaves of a tree in one array, in which node i is the lesser of nodes 2i and 2i + 1. Each class has a place of its
-/// own, so that no call but `new` takes memory.
+/// They are the leaves of a tree in one array, in which node i is the lesser of nodes 2i and 2i +
+/// 1. Each class has a place of its own, so that no call but `new` takes memory.
 #[derive(Drop)]
 pub(crate) struct Queue {
     tree: Vec<Entry>,
@@ -96,7 +96,8 @@ impl Queue {
     pub(crate) fn take(&mut self) -> Option<Taken>
         ensures none { IfNone result (AreNone self.old) }
         ensures first { IfSome result (λ t. IsFirst self.old t) }
-        ensures left { MatchOption result (self.new ≡ self.old) (λ t. self.new ≡ slice_set self.old t.class.0 None) }
+        ensures left { MatchOption result (self.new ≡ self.old)
+            (λ t. self.new ≡ slice_set self.old t.class.0 None) }
     {
         let first = self.tree[1];
         if first.height == u32::MAX {

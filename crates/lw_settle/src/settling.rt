@@ -24,7 +24,8 @@ fn offer(queue: &mut Queue, marks: &[Option<Mark>], class: ClassId, mark: Mark)
     requires one_each { length queue.old ≡ length marks.now }
     requires few { length marks.now < 2 ^ 32 - 1 }
     requires height { mark.height ≤ marked marks.now + 1 }
-    ensures offering { IsOffering (marks_in marks.now) (marks_in queue.old) (marks_in queue.new) class.0 (plain_mark mark) }
+    ensures offering { IsOffering (marks_in marks.now) (marks_in queue.old)
+        (marks_in queue.new) class.0 (plain_mark mark) }
     ensures one_each { length queue.new ≡ length queue.old }
 {
     if marks[class.0 as usize].is_none() {
@@ -48,7 +49,9 @@ fn offer_match<C: Cost>(
     requires low { AreLow (C.costs cost.now).cap marks.now }
     requires marked { HasMarkedPins store.old.lists (marks_in marks.now) place }
     requires fresh { store.old.done < 2 ^ 63 }
-    ensures offered { IsMatchOffered (C.costs cost.now) (placed store.old.lists) place (marks_in marks.now) (marks_in queue.old) (marks_in queue.new) }
+    ensures offered { IsMatchOffered (C.costs cost.now)
+        (placed store.old.lists) place (marks_in marks.now) (marks_in queue.old)
+        (marks_in queue.new) }
     ensures one_wait { length queue.new ≡ length queue.old }
     ensures lists { store.new.lists ≡ store.old.lists }
     ensures done { store.new.done ≡ store.old.done + 1 }
@@ -94,9 +97,15 @@ fn offer_pinless<C: Cost>(
     left: &[u8],
 )
     requires of_cells { AreOfStoredCells (C.costs cost.now).pin_counts store.old.lists }
-    requires settling { (g : PlainGraph) × (start : ℕ) × IsSettling (C.costs cost.now) store.old.lists (first_stage g start) (length g.leaves) 0 [] store.old.done marks.now queue.old left.now }
+    requires settling { (g : PlainGraph) × (start : ℕ) ×
+        IsSettling (C.costs cost.now) store.old.lists (first_stage g start)
+        (length g.leaves) 0 [] store.old.done marks.now queue.old left.now }
     ensures lists { store.new.lists ≡ store.old.lists }
-    ensures reading { (g : PlainGraph) (start : ℕ) → IsSettling (C.costs cost.now) store.old.lists (first_stage g start) (length g.leaves) 0 [] store.old.done marks.now queue.old left.now → IsReading (C.costs cost.now) store.old.lists (first_stage g start) [] store.new.done marks.now queue.new left.now }
+    ensures reading { (g : PlainGraph) (start : ℕ) →
+        IsSettling (C.costs cost.now) store.old.lists (first_stage g start)
+        (length g.leaves) 0 [] store.old.done marks.now queue.old left.now →
+        IsReading (C.costs cost.now) store.old.lists
+        (first_stage g start) [] store.new.done marks.now queue.new left.now }
 {
     for place in 0..store.matches() {
         if left[place as usize] == 0 {
@@ -105,7 +114,8 @@ fn offer_pinless<C: Cost>(
     }
 }
 
-// Reads a use of a class: one pin less is left of its match, which is offered to its class where that was the last one.
+// Reads a use of a class: one pin less is left of its match, which is offered to its class where
+// that was the last one.
 fn read_use<C: Cost>(
     store: &mut Store,
     cost: &C,
@@ -118,9 +128,14 @@ fn read_use<C: Cost>(
     requires class { class.0 < length store.old.lists }
     requires within { n < length (uses_of store.old.lists class.0) }
     requires of_cells { AreOfStoredCells (C.costs cost.now).pin_counts store.old.lists }
-    requires reading { (s : Stage) × IsReadingOf (C.costs cost.now) store.old.lists s class.0 n store.old.done marks.now queue.old left.old }
+    requires reading { (s : Stage) ×
+        IsReadingOf (C.costs cost.now) store.old.lists s class.0 n store.old.done marks.now
+        queue.old left.old }
     ensures lists { store.new.lists ≡ store.old.lists }
-    ensures reading { (s : Stage) → IsReadingOf (C.costs cost.now) store.old.lists s class.0 n store.old.done marks.now queue.old left.old → IsReadingOf (C.costs cost.now) store.old.lists s class.0 (n + 1) store.new.done marks.now queue.new left.new }
+    ensures reading { (s : Stage) →
+        IsReadingOf (C.costs cost.now) store.old.lists s class.0 n store.old.done marks.now
+        queue.old left.old → IsReadingOf (C.costs cost.now) store.old.lists s class.0
+        (n + 1) store.new.done marks.now queue.new left.new }
 {
     let _ = store.matches();
     let place = store.use_at(class, n);
@@ -141,9 +156,14 @@ fn read_uses<C: Cost>(
 )
     requires class { class.0 < length store.old.lists }
     requires of_cells { AreOfStoredCells (C.costs cost.now).pin_counts store.old.lists }
-    requires reading { (s : Stage) × IsReadingOf (C.costs cost.now) store.old.lists s class.0 0 store.old.done marks.now queue.old left.old }
+    requires reading { (s : Stage) ×
+        IsReadingOf (C.costs cost.now) store.old.lists s class.0 0 store.old.done marks.now
+        queue.old left.old }
     ensures lists { store.new.lists ≡ store.old.lists }
-    ensures reading { (s : Stage) → IsReadingOf (C.costs cost.now) store.old.lists s class.0 0 store.old.done marks.now queue.old left.old → IsReading (C.costs cost.now) store.old.lists s [] store.new.done marks.now queue.new left.new }
+    ensures reading { (s : Stage) →
+        IsReadingOf (C.costs cost.now) store.old.lists s class.0 0 store.old.done marks.now
+        queue.old left.old → IsReading
+        (C.costs cost.now) store.old.lists s [] store.new.done marks.now queue.new left.new }
 {
     for n in 0..store.uses(class) {
         read_use(store, cost, marks, queue, left, class, n);
@@ -159,10 +179,15 @@ fn settle_classes<C: Cost>(
     left: &mut [u8],
 )
     requires of_cells { AreOfStoredCells (C.costs cost.now).pin_counts store.old.lists }
-    requires reading { (s : Stage) × IsReading (C.costs cost.now) store.old.lists s [] store.old.done marks.old queue.old left.old }
+    requires reading { (s : Stage) ×
+        IsReading (C.costs cost.now) store.old.lists s [] store.old.done marks.old queue.old
+        left.old }
     ensures lists { store.new.lists ≡ store.old.lists }
     ensures none { AreNone queue.new }
-    ensures reading { (s : Stage) → IsReading (C.costs cost.now) store.old.lists s [] store.old.done marks.old queue.old left.old → IsReadingSome (C.costs cost.now) store.old.lists s.graph s.start store.new.done marks.new queue.new left.new }
+    ensures reading { (s : Stage) →
+        IsReading (C.costs cost.now) store.old.lists s [] store.old.done marks.old queue.old
+        left.old → IsReadingSome (C.costs cost.now) store.old.lists s.graph s.start store.new.done
+        marks.new queue.new left.new }
 {
     while let Some(taken) = queue.take() {
         marks[taken.class.0 as usize] = Some(taken.mark);
@@ -188,7 +213,8 @@ fn settle_all<C: Cost>(
     requires left { length left.old ≡ length (placed store.old.lists) }
     ensures marks { AreSettledMarks graph.now (C.costs cost.now) store.old.lists marks.new }
     ensures lists { store.new.lists ≡ store.old.lists }
-    ensures done { store.new.done ≡ store.old.done + settle_steps (labels_in (costs_of marks.new)) store.old.lists }
+    ensures done { store.new.done ≡ store.old.done + settle_steps
+        (labels_in (costs_of marks.new)) store.old.lists }
 {
     let _ = graph.classes();
     let _ = store.matches();
@@ -198,8 +224,9 @@ fn settle_all<C: Cost>(
     settle_classes(store, cost, marks, queue, left);
 }
 
-/// Marks each class by the stored matches: the least cost of its covers, and its height. Classes are taken by rising cost and height;
-/// each use of a class that is taken is read once, and each match whose pins are all taken is priced once. The memory is taken first.
+/// Marks each class by the stored matches: the least cost of its covers, and its height. Classes
+/// are taken by rising cost and height; each use of a class that is taken is read once, and each
+/// match whose pins are all taken is priced once. The memory is taken first.
 pub fn settle<C: Cost>(
     alloc: Global,
     store: &mut Store,
@@ -212,7 +239,8 @@ pub fn settle<C: Cost>(
     requires fresh { store.old.done < 2 ^ 62 }
     ensures marks { IfOk result (AreSettledMarks graph.now (C.costs cost.now) store.old.lists) }
     ensures lists { store.new.lists ≡ store.old.lists }
-    ensures done { IfOk result (λ labels. store.new.done ≡ store.old.done + settle_steps (labels_in (costs_of labels)) store.old.lists) }
+    ensures done { IfOk result (λ labels. store.new.done
+        ≡ store.old.done + settle_steps (labels_in (costs_of labels)) store.old.lists) }
     ensures err { OnErr result (store.new ≡ store.old) }
 {
     let classes = graph.classes() as usize;

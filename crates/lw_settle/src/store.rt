@@ -22,9 +22,10 @@ pub struct Head {
 
 /// The matches of each class, and how often one was read.
 ///
-/// Stored matches are numbered from 0, by class and then by place in the class's list. A use of a class is a stored match together
-/// with a pin of it that has this class; the uses of a class are numbered from 0, by match and then by pin. A pin or a cell is told
-/// by `use_at` and `price` alone, which count what they tell. No call takes memory.
+/// Stored matches are numbered from 0, by class and then by place in the class's list. A use of a
+/// class is a stored match together with a pin of it that has this class; the uses of a class are
+/// numbered from 0, by match and then by pin. A pin or a cell is told by `use_at` and `price`
+/// alone, which count what they tell. No call takes memory.
 #[derive(Drop)]
 pub struct Store {
     rows: Vec<Row>,
@@ -74,8 +75,10 @@ fn pins_of(pins: &[ClassId], row: Row) -> &[ClassId]
 fn read_marks(pins: &[ClassId], marks: &[Option<Mark>], costs: &mut [u64]) -> u32
     requires few { length pins.now ≤ length costs.old }
     requires within { All (λ (c : ClassId). c.0 < length marks.now) pins.now }
-    requires marked { AllByRecursion (λ p. (k : PlainMark) × (marks_in marks.now p ≡ Some k)) (numbers pins.now) }
-    ensures { (ks : List PlainMark) × HaveMarks (marks_in marks.now) (numbers pins.now) ks × (take (length pins.now) costs.new ≡ costs_in ks) × (result ≡ greatest_height ks) }
+    requires marked { AllByRecursion (λ p. (k : PlainMark) × (marks_in marks.now p ≡ Some k))
+        (numbers pins.now) }
+    ensures { (ks : List PlainMark) × HaveMarks (marks_in marks.now) (numbers pins.now) ks ×
+        (take (length pins.now) costs.new ≡ costs_in ks) × (result ≡ greatest_height ks) }
 {
     let mut height = 0;
     for (k, pin) in pins.iter().enumerate() {
@@ -93,8 +96,10 @@ fn mark_of<C: Cost>(pins: &[ClassId], cell: CellId, cost: &C, marks: &[Option<Ma
     requires within { All (λ (c : ClassId). c.0 < length marks.now) pins.now }
     requires of_cell { HasPins (C.costs cost.now).pin_counts cell.0 (length pins.now) }
     requires in_range { AreInRange C.CAP marks.now }
-    requires marked { AllByRecursion (λ p. (k : PlainMark) × (marks_in marks.now p ≡ Some k)) (numbers pins.now) }
-    ensures { (ks : List PlainMark) × HaveMarks (marks_in marks.now) (numbers pins.now) ks × (plain_mark result ≡ price (C.costs cost.now) cell.0 ks) }
+    requires marked { AllByRecursion (λ p. (k : PlainMark) × (marks_in marks.now p ≡ Some k))
+        (numbers pins.now) }
+    ensures { (ks : List PlainMark) × HaveMarks (marks_in marks.now) (numbers pins.now) ks ×
+        (plain_mark result ≡ price (C.costs cost.now) cell.0 ks) }
 {
     let mut costs = [0; 16];
     let height = read_marks(pins, marks, &mut costs);
@@ -114,8 +119,10 @@ impl Store {
         ends: Vec<u32>,
         uses: Vec<u32>,
     ) -> Self
-        requires { IsKeptStore (length ends.items) rows.items pins.items (cell_numbers cells.items) ends.items uses.items }
-        ensures lists { result.lists ≡ grouped (length ends.items) (placed_rows pins.items (cell_numbers cells.items) rows.items) }
+        requires { IsKeptStore (length ends.items) rows.items pins.items
+            (cell_numbers cells.items) ends.items uses.items }
+        ensures lists { result.lists ≡ grouped (length ends.items)
+            (placed_rows pins.items (cell_numbers cells.items) rows.items) }
         ensures done { result.done ≡ 0 }
     {
         Store {
@@ -185,7 +192,8 @@ impl Store {
         self.uses[(start + n) as usize]
     }
 
-    /// What a match costs over the marks of its pins, and 1 more than the greatest of their heights. It counts as a reading.
+    /// What a match costs over the marks of its pins, and 1 more than the greatest of their
+    /// heights. It counts as a reading.
     pub fn price<C: Cost>(&mut self, place: u32, cost: &C, marks: &[Option<Mark>]) -> Mark
         requires place { place < length (placed self.old.lists) }
         requires of_cells { AreOfStoredCells (C.costs cost.now).pin_counts self.old.lists }
@@ -193,7 +201,8 @@ impl Store {
         requires in_range { AreInRange C.CAP marks.now }
         requires marked { HasMarkedPins self.old.lists (marks_in marks.now) place }
         requires fresh { self.old.done < 2 ^ 63 }
-        ensures price { IsPriceOf self.old.lists (C.costs cost.now) (marks_in marks.now) place (plain_mark result) }
+        ensures price { IsPriceOf self.old.lists (C.costs cost.now)
+            (marks_in marks.now) place (plain_mark result) }
         ensures lists { self.new.lists ≡ self.old.lists }
         ensures done { self.new.done ≡ self.old.done + 1 }
     {

@@ -27,7 +27,7 @@ use Rattle.lw_top.proofs.MappedChecks.{readable, accepted_text}
 
 -- Reading once more.
 
-library_again : (name other : List ℕ) (files others : Files) (cells : List CellParts) → others other ≡ files name → ReadsLibrary name files (Ok cells) → ReadsLibrary other others (Ok cells)
+pub library_again : (name other : List ℕ) (files others : Files) (cells : List CellParts) → others other ≡ files name → ReadsLibrary name files (Ok cells) → ReadsLibrary other others (Ok cells)
 unfolding text_of
 library_again name other files others cells same (inl (bytes, text, has)) = inl (bytes, ap (within_limit which.Library) same ∙ text, has)
 library_again name other files others cells same (inr (e, refused, is)) = cc
@@ -37,7 +37,7 @@ unfolding text_of
 network_again name other files others model same (inl (bytes, text, has)) = inl (bytes, ap (within_limit which.Network) same ∙ text, has)
 network_again name other files others model same (inr (e, refused, is)) = cc
 
-text_there : (w : Which) (name text : List ℕ) (files : Files) → files name ≡ Some text → length text ≤ 67108864 → text_of w name files ≡ Ok text
+pub text_there : (w : Which) (name text : List ℕ) (files : Files) → files name ≡ Some text → length text ≤ 67108864 → text_of w name files ≡ Ok text
 unfolding text_of
 text_there w name text files there few =
     let short : nat_le (length text) 67108864 ≡ true = grind (arith, nat_tests) in
@@ -49,7 +49,7 @@ names_read name files model (inr (e, refused, is)) = cc
 
 -- Commands.
 
-asked_text : (words : List (List ℕ)) (files : Files) (c : Command) (text : List ℕ) → command_of words ≡ Some c → IsAnswer words files (Ok text) → IsCommandAnswer c files (Ok text)
+pub asked_text : (words : List (List ℕ)) (files : Files) (c : Command) (text : List ℕ) → command_of words ≡ Some c → IsAnswer words files (Ok text) → IsCommandAnswer c files (Ok text)
 asked_text words files c text form (inl (d, is, comes)) =
     let both : Some d ≡ Some c = sym (asked_some (command_of words) d is) ∙ form in
     let same : d ≡ c = cc in

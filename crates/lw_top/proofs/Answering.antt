@@ -1,5 +1,5 @@
 -- A command's answer, file by file.
-use Rattle.std.proofs.Common.{◌≡◌, ◌≢◌, ℕ, ◌≤◌, List, Option, Some, Result, Ok, Err, refl, sym, subst}
+use Rattle.std.proofs.Common.{◌≡◌, ◌≢◌, ℕ, ◌≤◌, List, Option, Some, Result, Ok, Err, sym, subst}
 use Rattle.lw_io.specs.declared.file.File.{File}
 use Rattle.lw_io.specs.Files.{bytes_of}
 use Rattle.lw_top.specs.declared.answer.Answer.{Answer}
@@ -10,9 +10,8 @@ use Rattle.lw_top.specs.Steps.{Step, followed_by}
 use Rattle.lw_top.specs.Words.{Command}
 use Rattle.lw_top.specs.Answers.{IsReached, IsCommandAnswer}
 use Rattle.lw_top.specs.Reading.{Known, HasReason, Blames, Reaches}
-use Rattle.lw_top.specs.Named.{IsTextOf}
-use Rattle.lw_top.specs.Answered.{CanBeWritten, Says, IsAnswered, Gives}
-use Rattle.lw_top.proofs.Steps.{refused, refused_later, answered}
+use Rattle.lw_top.specs.Answered.{Says, IsAnswered, Gives}
+use Rattle.lw_top.proofs.Steps.{refused_later, answered}
 
 -- what is known at a file's turn
 abbrev pub Turn : Option (List File) → Command → Which → Type 0

@@ -1,45 +1,33 @@
 -- A check comes to one thing, and so do the counts of a network's graph and of a drawn network.
-use Rattle.std.proofs.Common.{◌≡◌, ℕ, ◌<◌, ◌≤◌, List, [], ◌∷◌, length, map, All, Option, Some, Result, Ok, Err, refl, ap, ap₂, sym, subst, ◌∙◌, arith}
+use Rattle.std.proofs.Common.{◌≡◌, ℕ, List, [], ◌∷◌, length, Result, Ok, Err, refl, ap, ap₂, sym, subst, ◌∙◌, arith}
 use Rattle.lw_pool.specs.declared.id.ClassId.{ClassId}
-use Rattle.lw_fixed.specs.declared.micro.Micro.{Micro}
 use Rattle.lw_laws.specs.Graphs.{Graph}
 use Rattle.lw_laws.specs.Classes.{IsGraphOf}
 use Rattle.lw_laws.specs.Decompositions.{listing_of}
-use Rattle.lw_laws.specs.Netlists.{AreArrivals}
 use Rattle.lw_laws.specs.MappedNetlists.{root_classes}
 use Rattle.lw_laws.proofs.ClassLaws.{graphs_once}
 use Rattle.lw_laws.proofs.Listed.{occurring_is_listing}
-use Rattle.lw_laws.proofs.NetlistValues.{arrivals_once}
-use Rattle.lw_net.specs.Networks.{NetworkParts, IsNetwork}
+use Rattle.lw_net.specs.Networks.{NetworkParts}
 use Rattle.lw_net.specs.Plain as network
-use Rattle.lw_genlib.specs.Cells.{CellParts, IsLibrary, IsSmall}
-use Rattle.lw_genlib.specs.Tables.{timing_of}
+use Rattle.lw_genlib.specs.Cells.{CellParts}
 use Rattle.lw_pattern.specs.Libraries.{library_patterns}
 use Rattle.lw_match.specs.Values.{numbers}
 use Rattle.lw_blif.specs.declared.parsed.Parsed.{Parsed}
-use Rattle.lw_netlist.specs.Closing.{greatest}
-use Rattle.lw_netlist.specs.Netlists.{NetlistParts, IsNetlist}
-use Rattle.lw_netlist.specs.Plain as netlist
 use Rattle.lw_mapped.specs.declared.closing.Mapped.{Mapped as MappedParts}
 use Rattle.lw_mapped.specs.Alike.{AreSameMapped}
-use Rattle.lw_report.specs.Timings.{output_arrivals}
 use Rattle.lw_check.specs.declared.verdict.Verdict.{Verdict}
 use Rattle.lw_check.specs.declared.verdict.Verdict.TheVariants as verdict
 use Rattle.lw_check.specs.Mappings.{IsKept}
 use Rattle.lw_check.specs.Verdicts.{IsVerdict, claim}
 use Rattle.lw_check.proofs.Agreeing.{verdicts_agree}
-use Rattle.lw_big.specs.Generated.{IsGenerated}
 use Rattle.lw_map.specs.Options.{Options, IsWide}
-use Rattle.lw_map.specs.Mapped.{ports_of, base_count, IsMappedNetlist, IsWithinLimits}
-use Rattle.lw_map.proofs.Once.{mapped_once}
+use Rattle.lw_map.specs.Mapped.{ports_of, base_count, IsWithinLimits}
 use Rattle.lw_top.specs.declared.refusal.Refusal.{Refusal}
 use Rattle.lw_top.specs.declared.refusal.Refusal.TheVariants.{Forms, Splits, No}
 use Rattle.lw_top.specs.Steps.{Files}
-use Rattle.lw_top.specs.Maps.{LacksGraph, LacksMapping}
-use Rattle.lw_top.specs.Checks.{HasVerdict, Checks, yes_text}
-use Rattle.lw_top.specs.Counts.{pair_total, counts_text, IsCountText, Counts, drawing_options, at_once, sizes_text, IsSizeText, Draws}
-use Rattle.lw_top.proofs.Closed.{network_one}
-use Rattle.lw_top.proofs.MapAnswers.{lack_one, not_both, graph_lack}
+use Rattle.lw_top.specs.Maps.{LacksGraph}
+use Rattle.lw_top.specs.Checks.{HasVerdict, Checks}
+use Rattle.lw_top.specs.Counts.{pair_total, counts_text, Counts}
 
 numbers_back : (xs ys : List ClassId) → numbers xs ≡ numbers ys → xs ≡ ys
 numbers_back [] [] e = refl

@@ -1,5 +1,5 @@
 -- A mapped netlist that a check accepts is a mapping of the network, whoever wrote it.
-use Rattle.std.proofs.Common.{◌≡◌, inl, inr, ℕ, Bool, List, [], ◌∷◌, map, Option, Some, Result, Ok, Err, refl, ap, sym, ◌∙◌, subst, arith}
+use Rattle.std.proofs.Common.{◌≡◌, inl, inr, ℕ, Bool, List, [], ◌∷◌, map, Option, Some, Ok, refl, ap, sym, ◌∙◌, subst, arith}
 use Rattle.lw_io.specs.declared.file.File.{File}
 use Rattle.lw_io.specs.Files.{bytes_of}
 use Rattle.lw_pool.specs.declared.id.NetId.{NetId}
@@ -25,8 +25,8 @@ use Rattle.lw_map.proofs.CellLaws.{delay_patterns, delay_truths}
 use Rattle.lw_top.specs.declared.refusal.Refusal.TheVariants.{Unread}
 use Rattle.lw_top.specs.Steps.{Files}
 use Rattle.lw_top.specs.Words.{Command, checking, command_of}
-use Rattle.lw_top.specs.Checks.{HasVerdict, Checks}
-use Rattle.lw_top.specs.Answers.{ReadsLibrary, ReadsModel, ReadsMapped, IsCheckAnswer, IsCommandAnswer, IsAnswer}
+use Rattle.lw_top.specs.Checks.{HasVerdict}
+use Rattle.lw_top.specs.Answers.{IsCheckAnswer, IsCommandAnswer, IsAnswer}
 use Rattle.lw_top.specs.declared.outcome.Outcome.{Outcome}
 use Rattle.lw_top.specs.declared.outcome.Outcome.TheVariants.{Done, WriteFault, Refused}
 use Rattle.lw_top.specs.Outcome.{Meets, outcome_status}

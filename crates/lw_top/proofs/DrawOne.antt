@@ -1,13 +1,21 @@
 -- A drawn network comes to one thing.
-use Rattle.std.proofs.Common.{◌≡◌, ℕ, ◌≤◌, List, length, All, Result, Ok, Err, refl, ap, ap₂, sym, subst, ◌∙◌, arith}
+use Rattle.std.proofs.Common.{◌≡◌, ℕ, List, length, All, Option, Result, Ok, Err, ap, ap₂, sym, subst, subst₂, ◌∙◌, arith}
+use mathlib.Core.Path.{fun_ext}
 use Rattle.std.proofs.lemmas.List.Elements.{All-replicate}
-use Rattle.lw_fixed.specs.declared.micro.Micro.{Micro}
+use Rattle.lw_laws.specs.Choices.{Labels}
 use Rattle.lw_laws.specs.Graphs.{Graph}
+use Rattle.lw_laws.specs.Matches.{IsLeastCover}
+use Rattle.lw_laws.specs.Rounds.{labels_in}
+use Rattle.lw_laws.proofs.NetlistOnce.{least_cover_once}
 use Rattle.lw_laws.specs.Netlists.{AreArrivals}
 use Rattle.lw_laws.proofs.NetlistValues.{arrivals_once}
-use Rattle.lw_net.specs.Networks.{NetworkParts, IsNetwork}
+use Rattle.lw_net.specs.Networks.{NetworkParts}
 use Rattle.lw_genlib.specs.Cells.{CellParts, IsLibrary, IsSmall}
 use Rattle.lw_genlib.specs.Tables.{timing_of}
+use Rattle.lw_pattern.specs.Libraries.{library_patterns}
+use Rattle.lw_label.specs.Delays.{time_cost}
+use Rattle.lw_settle.specs.Steps.{AreSteps}
+use Rattle.lw_settle.proofs.Steps.{counts_once}
 use Rattle.lw_netlist.specs.Closing.{greatest}
 use Rattle.lw_netlist.specs.Netlists.{NetlistParts}
 use Rattle.lw_netlist.specs.Plain as netlist
@@ -39,18 +47,28 @@ module _ (seed count : ℕ) (cells : List CellParts) (few : IsCount count) (lib 
   one_net net other p q = network_one (drawn_draft seed count) net other p q
 
   -- this netlist is mapped to, with these arrivals, and the text says its sizes
-  abbrev Says : NetworkParts → List ℕ → List ℕ → NetlistParts → Type 0
-  Says net text ds n =
+  abbrev Says : NetworkParts → List ℕ → List ℕ → Option ℕ → NetlistParts → Type 0
+  Says net text ds steps n =
       (p : IsMappedNetlist drawing_options cells net (at_once net) n) × AreArrivals (timing_of cells (at_once net)) (netlist.plain n) ds
-      × (text ≡ sizes_text count (length p.is.graph.pairs) (length n.gates) (greatest (output_arrivals n ds)))
+      × AreSteps p.is.graph (library_patterns cells) (labels_in p.is.labels) steps
+      × (text ≡ sizes_text count (length p.is.graph.pairs) (length n.gates) (greatest (output_arrivals n ds)) steps)
+
+  -- over one graph the labels are the same
+  labels_once : (net : NetworkParts) (n : NetlistParts) (p q : IsMappedNetlist drawing_options cells net (at_once net) n) → q.is.graph ≡ p.is.graph → labels_in q.is.labels ≡ labels_in p.is.labels
+  labels_once net n p q same =
+      fun_ext (λ c. least_cover_once p.is.graph (library_patterns cells) (time_cost cells (at_once net)) c (labels_in q.is.labels c) (labels_in p.is.labels c)
+      (subst (λ (g : Graph). IsLeastCover g (library_patterns cells) (time_cost cells (at_once net)) c (labels_in q.is.labels c)) same (q.is.least c)) (p.is.least c))
 
   sizes_once : (net : NetworkParts) (text other : List ℕ) → IsSizeText seed count cells net text → IsSizeText seed count cells net other → text ≡ other
   sizes_once net text other a b =
       let same = mapped_once drawing_options cells net (at_once net) drawing_wide b.netlist a.netlist b.is_mapped a.is_mapped in
-      let (q, arrive, says) = subst (Says net other b.arrivals) same (b.is_mapped, b.arrive, b.says) in
+      let (q, arrive, read, says) = subst (Says net other b.arrivals b.steps) same (b.is_mapped, b.arrive, b.steps_are, b.says) in
       let graph = graph_one drawing_options net drawing_wide a.is_mapped.is.graph q.is.graph a.is_mapped.is.is_graph q.is.is_graph in
       let times = arrivals_once (netlist.plain a.netlist) (ordered a.netlist a.is_mapped.kept) (timing_of cells (at_once net)) a.arrivals b.arrivals a.arrive arrive in
-      a.says ∙ (ap₂ (λ (g : Graph) (ds : List ℕ). sizes_text count (length g.pairs) (length a.netlist.gates) (greatest (output_arrivals a.netlist ds))) graph times ∙ sym says)
+      let labels = labels_once net a.netlist a.is_mapped q (sym graph) in
+      let steps = counts_once a.is_mapped.is.graph (library_patterns cells) (labels_in a.is_mapped.is.labels) a.steps b.steps a.steps_are (subst₂ (λ (g : Graph) (ls : Labels). AreSteps g (library_patterns cells) ls b.steps) (sym graph) labels read) in
+      a.says ∙ (ap₂ (λ (g : Graph) (ds : List ℕ). sizes_text count (length g.pairs) (length a.netlist.gates) (greatest (output_arrivals a.netlist ds)) a.steps) graph times
+      ∙ (ap (sizes_text count (length q.is.graph.pairs) (length a.netlist.gates) (greatest (output_arrivals a.netlist b.arrivals))) steps ∙ sym says))
 
   -- what is drawn is this network, and it comes to this
   abbrev DrawsAs : NetworkParts → Result (List ℕ) Refusal → Type 0

@@ -1,18 +1,17 @@
 -- What steps that read no file answer.
-use Rattle.std.proofs.Common.{ℕ, ◌+◌, ◌≤◌, ◌≡◌, Bool, true, false, List, [], ◌∷◌, length, map, Option, Some, None, Result, Ok, Err, refl, ap, sym, ◌∙◌, subst, arith}
+use Rattle.std.proofs.Common.{ℕ, ◌≡◌, Bool, true, false, List, [], ◌∷◌, length, map, Option, Some, None, Ok, Err, refl, ap, sym, ◌∙◌, subst, subst₂, arith}
 use Rattle.std.specs.List.{AllZip}
 use Rattle.std.proofs.lemmas.List.{length-map, length-take-le}
 use Rattle.lw_fixed.specs.declared.micro.Micro.{Micro}
-use Rattle.lw_pool.specs.declared.id.NetId.{NetId}
-use Rattle.lw_laws.specs.Headline.{Port as PlainPort}
-use Rattle.lw_net.specs.Networks.{NetworkParts, IsNetwork, input_names, output_names, name_in}
+use Rattle.lw_net.specs.Networks.{NetworkParts, IsNetwork, name_in}
 use Rattle.lw_genlib.specs.Cells.{CellParts}
 use Rattle.lw_blif.specs.declared.parsed.Parsed.{Parsed}
 use Rattle.lw_blif.specs.BlifNetworks.{IsModel}
-use Rattle.lw_netlist.specs.declared.gate.Port.{Port}
 use Rattle.lw_netlist.specs.Plain.{IsOver}
-use Rattle.lw_netlist.specs.Netlists.{NetlistParts}
 use Rattle.lw_laws.specs.Graphs.{Graph}
+use Rattle.lw_laws.specs.Rounds.{labels_in}
+use Rattle.lw_label.specs.Labels.{costs_of}
+use Rattle.lw_settle.specs.Steps.{AreSteps}
 use Rattle.lw_pattern.specs.Libraries.{library_patterns}
 use Rattle.lw_big.specs.Generated.{IsGenerated}
 use Rattle.lw_report.specs.Timings.{TimingParts, IsTimingOf}
@@ -39,7 +38,7 @@ use Rattle.lw_top.specs.Mapped.{IsCertificateFor}
 use Rattle.lw_top.specs.Named.{map_refusal}
 use Rattle.lw_top.specs.Answered.{Gives}
 use Rattle.lw_top.specs.Checks.{HasVerdict}
-use Rattle.lw_top.specs.Counts.{pair_total, counts_text, sizes_text, IsCountText, Counts, drawing_options, at_once, IsSizeText, Draws}
+use Rattle.lw_top.specs.Counts.{pair_total, counts_text, sizes_text, IsCountText, Counts, drawing_options, at_once, Draws}
 
 -- a step that refuses for want of a graph, and one that refuses for want of a mapping
 module _ (step : Step (List ℕ)) (options : Options) (net : NetworkParts) where
@@ -135,12 +134,12 @@ verdict_given options cells model m c g v same are kept is =
 module _ (cells : List CellParts) (net : NetworkParts) (c : Choices) (m : Mapping) (t : TimingParts) (same : plain_options c.options ≡ drawing_options) (are : AreChoices net c) (is : IsMappingOf cells net (at_once net) c m) (timed : IsTimingOf cells m.netlist (at_once net) t) where
   -- the netlist is that of the network by the options of a drawing
   abbrev IsDrawn : Options → Type 0
-  IsDrawn o = IsWithinLimits o net × ((mapped : IsMappedNetlist o cells net (at_once net) m.netlist) × (mapped.is.graph ≡ c.graph))
+  IsDrawn o = IsWithinLimits o net × ((mapped : IsMappedNetlist o cells net (at_once net) m.netlist) × (mapped.is.graph ≡ c.graph) × (mapped.is.labels ≡ costs_of m.labels))
 
   drawn : IsDrawn drawing_options
-  drawn = subst IsDrawn same (are.within, (is.mapped, is.graph))
+  drawn = subst IsDrawn same (are.within, (is.mapped, is.graph, is.labels))
 
-  pub sizes_given : (seed count : ℕ) → IsGenerated seed count net → (latest : Micro) → latest.0 ≡ t.latest → Gives (Draws seed count cells) (Ok (answer.Sizes count (length c.graph.pairs) (length m.netlist.gates) latest))
+  pub sizes_given : (seed count : ℕ) → IsGenerated seed count net → (latest : Micro) → latest.0 ≡ t.latest → Gives (Draws seed count cells) (Ok (answer.Sizes count (length c.graph.pairs) (length m.netlist.gates) latest m.steps))
   sizes_given seed count made latest last = (
     λ text files says. (
       net,
@@ -151,9 +150,11 @@ module _ (cells : List CellParts) (net : NetworkParts) (c : Choices) (m : Mappin
         is_mapped = drawn.1.0;
         arrivals = t.arrivals;
         arrive = timed.arrivals;
+        steps = m.steps;
+        steps_are = subst₂ (λ (g : Graph) (labels : List (Option ℕ)). AreSteps g (library_patterns cells) (labels_in labels) m.steps) (sym drawn.1.1) (sym drawn.1.2) is.steps;
         says =
-            says ∙ ap (λ (g : Graph). sizes_text count (length g.pairs) (length m.netlist.gates) latest.0) (sym drawn.1.1)
-            ∙ ap (λ (l : ℕ). sizes_text count (length drawn.1.0.is.graph.pairs) (length m.netlist.gates) l) (last ∙ timed.latest);
+            says ∙ ap (λ (g : Graph). sizes_text count (length g.pairs) (length m.netlist.gates) latest.0 m.steps) (sym drawn.1.1)
+            ∙ ap (λ (l : ℕ). sizes_text count (length drawn.1.0.is.graph.pairs) (length m.netlist.gates) l m.steps) (last ∙ timed.latest);
       },
     ),
     tt,

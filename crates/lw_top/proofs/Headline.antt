@@ -1,5 +1,5 @@
 -- Where the answer to a mapping is a text it is that of a mapping, and where it names an output this has no cover.
-use Rattle.std.proofs.Common.{◌≡◌, inl, inr, ℕ, Bool, true, false, List, [], ◌∷◌, Option, Some, None, Result, Ok, Err, refl, ap, sym, ◌∙◌, subst, if◌then◌else◌, arith}
+use Rattle.std.proofs.Common.{◌≡◌, inl, inr, ℕ, Bool, true, false, List, Option, Some, None, Result, Ok, Err, ap, sym, ◌∙◌, subst, if◌then◌else◌, arith}
 use Rattle.lw_io.specs.declared.file.File.{File}
 use Rattle.lw_io.specs.Files.{bytes_of}
 use Rattle.lw_blif.specs.declared.parsed.Parsed.{Parsed}
@@ -8,7 +8,7 @@ use Rattle.lw_map.specs.Options.{Options}
 use Rattle.lw_map.proofs.Mappings.{mapped_is_mapping}
 use Rattle.lw_map.proofs.Names.{mapped_has_names}
 use Rattle.lw_top.specs.declared.refusal.Refusal.{Refusal}
-use Rattle.lw_top.specs.declared.refusal.Refusal.TheVariants.{Words, TooLong, NoCover}
+use Rattle.lw_top.specs.declared.refusal.Refusal.TheVariants.{TooLong, NoCover}
 use Rattle.lw_top.specs.declared.refusal.Which.{Which}
 use Rattle.lw_top.specs.declared.refusal.Which.TheVariants as which
 use Rattle.lw_top.specs.declared.outcome.Outcome.{Outcome}

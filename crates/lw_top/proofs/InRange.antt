@@ -6,7 +6,7 @@ use Rattle.std.specs.Str.{bytes_eq}
 use Rattle.std.proofs.lemmas.Bool.{leb-true}
 use Rattle.lw_laws.specs.Modes.Mode.{plain, idempotent}
 use Rattle.lw_map.specs.Options.{Options, IsWide}
-use Rattle.lw_top.specs.Words.{Command, mapping, checking, timing, simulation, gate_simulation, counting, drawing, Two, Three, Begun, one_file, two_files, three_files, width_of, with_mode, with_width, begun_by, number_of, seed_of, count_in, count_of, mapping_of, certified_of, mapping_begun, checking_of, checking_begun, counting_of, counting_begun, timing_of, network_simulation, netlist_simulation, simulation_of, drawing_by, drawing_of, named, command_of, IsCount, IsInRange}
+use Rattle.lw_top.specs.Words.{Command, mapping, checking, timing, simulation, gate_simulation, counting, drawing, to_verilog, from_verilog, Two, Three, Begun, one_file, two_files, three_files, width_of, with_mode, with_width, begun_by, number_of, seed_of, count_in, count_of, mapping_of, certified_of, mapping_begun, checking_of, checking_begun, counting_of, counting_begun, timing_of, network_simulation, netlist_simulation, simulation_of, drawing_by, drawing_of, to_verilog_of, from_verilog_of, named, command_of, IsCount, IsInRange}
 
 -- each value that an option holds
 abbrev Each : {A : Type 0} → (A → Type 0) → Option A → Type 0
@@ -153,6 +153,14 @@ drawing_in_range (a ∷ []) c is = cc
 drawing_in_range (seed ∷ count ∷ words) c is =
     drawn_in_range (seed_of seed) (count_of count) (one_file words) (word_count (starts_with nat_eq count (codes "0")) (number_of count)) c is
 
+to_verilog_in_range : (files : Option Two) → Each IsInRange (to_verilog_of files)
+to_verilog_in_range None c is = cc
+to_verilog_in_range (Some files) c is = let same : to_verilog files.first files.second ≡ c = cc in subst IsInRange same tt
+
+from_verilog_in_range : (files : Option Two) → Each IsInRange (from_verilog_of files)
+from_verilog_in_range None c is = cc
+from_verilog_in_range (Some files) c is = let same : from_verilog files.first files.second ≡ c = cc in subst IsInRange same tt
+
 chosen : (b : Bool) (o p : Option Command) → Each IsInRange o → Each IsInRange p → Each IsInRange (if b then o else p)
 chosen true o p first other c is = first c is
 chosen false o p first other c is = other c is
@@ -164,7 +172,9 @@ named_in_range name words =
     (chosen (bytes_eq name (codes "time")) _ _ (timing_in_range (two_files words))
     (chosen (bytes_eq name (codes "sim")) _ _ (simulation_in_range words)
     (chosen (bytes_eq name (codes "graph")) _ _ (counting_in_range (begun_by words) (begun_wide words))
-    (chosen (bytes_eq name (codes "big")) _ None (drawing_in_range words) (λ c is. cc))))))
+    (chosen (bytes_eq name (codes "big")) _ _ (drawing_in_range words)
+    (chosen (bytes_eq name (codes "verilog")) _ _ (to_verilog_in_range (two_files words))
+    (chosen (bytes_eq name (codes "unverilog")) _ None (from_verilog_in_range (two_files words)) (λ c is. cc))))))))
 
 -- a command's numbers are those that words may say
 pub command_in_range : (words : List (List ℕ)) (c : Command) → command_of words ≡ Some c → IsInRange c

@@ -17,6 +17,7 @@ pub mod MapAnswers
 pub mod Checked
 pub mod CheckOne
 pub mod DrawOne
+pub mod VerilogOne
 pub mod One
 pub mod Uncovered
 pub mod Hashes

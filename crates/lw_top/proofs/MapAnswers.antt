@@ -1,5 +1,5 @@
 -- What a network and cells come to, by cases, and that it is one thing.
-use Rattle.std.proofs.Common.{◌≡◌, ℕ, ◌<◌, ◌≤◌, Bool, true, false, List, All, length, map, Option, Some, None, Result, Ok, Err, slice_get, refl, ap, sym, ◌∙◌, subst, arith}
+use Rattle.std.proofs.Common.{◌≡◌, ℕ, Bool, true, false, List, All, Option, Some, None, Result, Ok, Err, refl, ap, sym, ◌∙◌, subst, arith}
 use Rattle.lw_fixed.specs.declared.micro.Micro.{Micro}
 use Rattle.lw_net.specs.Networks.{NetworkParts, IsNetwork}
 use Rattle.lw_genlib.specs.Cells.{CellParts, IsLibrary, IsSmall}
@@ -12,7 +12,7 @@ use Rattle.lw_map.specs.Mapped.{IsMappedNetlist, IsWithinLimits, HasTooManyForms
 use Rattle.lw_map.proofs.Once.{mapped_once, lack_once, covered}
 use Rattle.lw_map.proofs.CertificateOnce.{certificate_once}
 use Rattle.lw_top.specs.declared.refusal.Refusal.{Refusal}
-use Rattle.lw_top.specs.declared.refusal.Refusal.TheVariants.{Words, Unread, TooLong, Library, Network, Undefined, Cycle, Mapped, Twice, Undriven, NetCycle, Vector, Forms, Splits, NoCover, No, Memory}
+use Rattle.lw_top.specs.declared.refusal.Refusal.TheVariants.{Forms, Splits, NoCover}
 use Rattle.lw_top.specs.Steps.{Files}
 use Rattle.lw_top.specs.Maps.{IsAskedFor, IsMappedText, LacksGraph, LacksMapping, Maps}
 

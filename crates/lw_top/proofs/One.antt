@@ -1,11 +1,11 @@
 -- Words over known files come to one answer.
-use Rattle.std.proofs.Common.{◌≡◌, inl, inr, ℕ, ◌≤◌, Bool, List, length, map, All, Option, Some, None, Result, Ok, Err, refl, ap, sym, subst, ◌∙◌}
+use Rattle.std.proofs.Common.{◌≡◌, inl, inr, ℕ, Bool, List, Option, Some, None, Result, Ok, Err, refl, ap, sym, subst, ◌∙◌}
 use Rattle.lw_fixed.specs.declared.micro.Micro.{Micro}
 use Rattle.lw_genlib.specs.declared.fault.LibFault.TheVariants as lib_fault
 use Rattle.lw_genlib.specs.declared.fault.LibFault.{LibFault}
 use Rattle.lw_genlib.specs.Cells.{CellParts, IsLibrary}
 use Rattle.lw_words.specs.Lines.{LogicalLine}
-use Rattle.lw_net.specs.Networks.{NetworkParts, IsNetwork}
+use Rattle.lw_net.specs.Networks.{IsNetwork}
 use Rattle.lw_blif.specs.declared.parsed.Parsed.{Parsed}
 use Rattle.lw_netlist.specs.Netlists.{NetlistParts, IsNetlist}
 use Rattle.lw_netlist.specs.declared.fault.NetlistFault.TheVariants as whole
@@ -18,7 +18,6 @@ use Rattle.lw_mapped.specs.Unmapped.{IsUnmapped}
 use Rattle.lw_mapped.proofs.Once.{comes-once}
 use Rattle.lw_report.proofs.Once.{report_once, network_simulation_once, netlist_simulation_once}
 use Rattle.lw_report.specs.Timings.{IsTimingText}
-use Rattle.lw_report.specs.Vectors.{first_fault, vector_of}
 use Rattle.lw_map.specs.Options.{Options, IsWide}
 use Rattle.lw_top.specs.declared.refusal.Refusal.{Refusal}
 use Rattle.lw_top.specs.declared.refusal.Refusal.TheVariants.{Library, Mapped, Twice, Undriven, NetCycle, Vector}
@@ -28,14 +27,16 @@ use Rattle.lw_top.specs.Maps.{Maps}
 use Rattle.lw_top.specs.Checks.{Checks}
 use Rattle.lw_top.specs.Reports.{Times, Simulates, SimulatesNetlist}
 use Rattle.lw_top.specs.Counts.{Counts, Draws}
-use Rattle.lw_top.specs.Words.{Command, mapping, checking, timing, simulation, gate_simulation, counting, drawing, command_of, IsInRange, IsCount}
-use Rattle.lw_top.specs.Answers.{text_of, lines_in, marked_lines_in, HasCells, HasModel, HasMapped, HasVectors, ReadsLibrary, ReadsModel, ReadsMapped, ReadsVectors, IsMappingAnswer, IsCheckAnswer, IsTimingAnswer, IsSimulationAnswer, IsGateSimulationAnswer, IsCountAnswer, IsDrawingAnswer, IsCommandAnswer, asked_for, IsAnswer}
+use Rattle.lw_top.specs.Words.{Command, mapping, checking, timing, simulation, gate_simulation, counting, drawing, to_verilog, from_verilog, command_of, IsInRange, IsCount}
+use Rattle.lw_top.specs.Answers.{text_of, marked_lines_in, HasCells, HasModel, HasMapped, HasVerilog, HasVectors, ReadsLibrary, ReadsModel, ReadsMapped, ReadsVerilog, ReadsVectors, IsMappingAnswer, IsCheckAnswer, IsTimingAnswer, IsSimulationAnswer, IsGateSimulationAnswer, IsCountAnswer, IsDrawingAnswer, IsToVerilogAnswer, IsFromVerilogAnswer, IsCommandAnswer, asked_for, IsAnswer}
 use Rattle.lw_top.proofs.Closed.{has_one_model}
 use Rattle.lw_top.proofs.InRange.{command_in_range}
 use Rattle.lw_top.proofs.Sound.{asked_some, cells_kept, AreKept, model_kept, IsReadBy, mapped_kept, claim_kept}
 use Rattle.lw_top.proofs.MapAnswers.{maps_one}
 use Rattle.lw_top.proofs.CheckOne.{checks_one, counts_one}
 use Rattle.lw_top.proofs.DrawOne.{draws_one}
+use Rattle.lw_top.specs.Verilogs.{SaysVerilog, SaysMapped}
+use Rattle.lw_top.proofs.VerilogOne.{verilog_one, says_one, mapped_said_one}
 
 abbrev Any : {A : Type 0} → A → Type 0
 Any x = Unit {0}
@@ -260,6 +261,21 @@ drawing_one seed count library few =
     followed_one IsLibrary (ReadsLibrary library) (λ cells. Draws seed count cells) (library_one library) (cells_kept library)
     (λ cells lib files a b p q. draws_one seed count cells few lib files a b p q)
 
+to_verilog_one : (library mapped : List ℕ) → IsOne (IsToVerilogAnswer library mapped)
+to_verilog_one library mapped =
+    followed_one IsLibrary (ReadsLibrary library) (λ cells. followed_by (ReadsMapped mapped cells) (λ m. SaysVerilog cells m)) (library_one library) (cells_kept library)
+    (λ cells lib. followed_alike AreSameMapped Any (ReadsMapped mapped cells) (λ m. SaysVerilog cells m) (mapped_read_alike mapped cells) (λ files m is. tt)
+    (λ x y same px py files a b p q. says_one cells x y same files a b p q))
+
+verilog_read_one : (name : List ℕ) (cells : List CellParts) → IsOne (ReadsVerilog name cells)
+verilog_read_one name cells =
+    followed_one Any (gives (text_of which.Mapped name)) (HasVerilog cells) (gives_one (text_of which.Mapped name)) (λ files x p. tt) (λ bytes any. verilog_one cells bytes)
+
+from_verilog_one : (library verilog : List ℕ) → IsOne (IsFromVerilogAnswer library verilog)
+from_verilog_one library verilog =
+    followed_one IsLibrary (ReadsLibrary library) (λ cells. followed_by (ReadsVerilog verilog cells) (λ n. SaysMapped cells n)) (library_one library) (cells_kept library)
+    (λ cells lib. followed_one Any (ReadsVerilog verilog cells) (λ n. SaysMapped cells n) (verilog_read_one verilog cells) (λ files x p. tt) (λ n any. mapped_said_one cells n))
+
 command_one : (c : Command) → IsInRange c → IsOne (IsCommandAnswer c)
 command_one (mapping options certified library network) wide = mapping_one options certified library network wide
 command_one (checking options library network mapped) wide = check_one options library network mapped wide
@@ -268,6 +284,8 @@ command_one (simulation network vectors) wide = simulation_one network vectors
 command_one (gate_simulation library mapped vectors) wide = gate_simulation_one library mapped vectors
 command_one (counting options network) wide = count_one options network wide
 command_one (drawing seed count library) few = drawing_one seed count library few
+command_one (to_verilog library mapped) any = to_verilog_one library mapped
+command_one (from_verilog library verilog) any = from_verilog_one library verilog
 
 pub answer_one : (words : List (List ℕ)) (files : Files) (a b : Result (List ℕ) Refusal) → IsAnswer words files a → IsAnswer words files b → a ≡ b
 answer_one words =

@@ -1,11 +1,9 @@
 -- The names of a model that was read are names of the format.
-use Rattle.std.proofs.Common.{ℕ, ◌≡◌, Bool, true, false, not, cond, if◌then◌else◌, List, [], ◌∷◌, ◌++◌, length, map, drop, filter, Option, Some, None, Ok, All, refl, ap, sym, subst, arith}
-use Rattle.std.specs.Prelude.{codes, nat_le}
+use Rattle.std.proofs.Common.{ℕ, ◌≡◌, Bool, true, false, not, cond, if◌then◌else◌, List, [], ◌∷◌, ◌++◌, length, map, drop, Option, Some, None, Ok, All, refl, ap, sym, subst, arith}
+use Rattle.std.specs.Prelude.{nat_le}
 use Rattle.std.specs.List.{list_all, flat_map, AllByRecursion as Each}
-use Rattle.std.specs.Str.{bytes_eq}
 use Rattle.std.proofs.lemmas.Bool.{and_parts}
 use Rattle.std.proofs.lemmas.Bool.Decides.{nat_tests}
-use Rattle.std.proofs.lemmas.List.Elements.{All-nil, All-cons, All-filter}
 use Rattle.lw_words.specs.Lines.{LogicalLine}
 use Rattle.lw_words.specs.Gathering.{IsInk, IsNoHash}
 use Rattle.lw_pool.specs.declared.latch.Frame.{Frame}
@@ -13,14 +11,14 @@ use Rattle.lw_pool.specs.declared.latch.Latch.{Latch}
 use Rattle.lw_laws.proofs.Lists.{all_map}
 use Rattle.lw_net.specs.Networks.{NetworkParts, input_names, output_names}
 use Rattle.lw_net.proofs.Closed.{closed_inputs, closed_outputs}
-use Rattle.lw_frame.specs.Frames.{each_once, control_among, read_by, output_of}
+use Rattle.lw_frame.specs.Frames.{each_once, read_by, output_of}
 use Rattle.lw_genlib.specs.Cells.{IsWord}
 use Rattle.lw_blif.specs.declared.command.Command.{Command}
 use Rattle.lw_blif.specs.declared.command.Command.TheVariants.{Model, Inputs, Outputs, Names, Latch as LatchLine, Arrival, DefaultArrival, End, Ignored, Unsupported, Unknown, Row}
 use Rattle.lw_blif.specs.declared.fault.BlifKind.{BlifKind}
 use Rattle.lw_blif.specs.declared.fault.BlifKind.TheVariants as kind
 use Rattle.lw_blif.specs.declared.parsed.Parsed.{Parsed}
-use Rattle.lw_blif.specs.LineFaults.{FaultAt, first_word, other_words, command, is_name, names_for, wants_words, first_broken, name_rules, arrival_rules, start_rules, start_in, times_for, rules_for, node_before, rows_before, defined_by, line_fault, first_fault, front, goes_on, ends, lines_read}
+use Rattle.lw_blif.specs.LineFaults.{FaultAt, other_words, command, is_name, names_for, wants_words, first_broken, name_rules, arrival_rules, start_rules, start_in, times_for, rules_for, node_before, rows_before, defined_by, line_fault, first_fault, front, goes_on, ends, lines_read}
 use Rattle.lw_blif.specs.Drafts.{model_for, inputs_for, outputs_for, latches_for, latch_of, model_on, inputs_on, outputs_on, latches_on, draft_of, frame_on}
 use Rattle.lw_blif.specs.BlifNetworks.{IsModelOf, IsBlifNetwork, ComesTo}
 use Rattle.lw_blif.proofs.Appending.{fault_or_none}
@@ -28,6 +26,7 @@ use Rattle.lw_blif.proofs.Sound.{lines-draft}
 use Rattle.lw_mapped.specs.Readable.{IsSignalName, IsReadableLatch}
 use Rattle.lw_mapped.proofs.GoodWords.{right-word}
 use Rattle.lw_mapped.proofs.WrittenLines.{each-of, all-of, each-append, each-weaker}
+use Rattle.lw_mapped.proofs.SaidNames.{control-named, model-or-unnamed, once-named}
 use Rattle.lw_top.specs.Answers.{lines_in}
 use Rattle.lw_top.proofs.WordLines.{lines_have_words}
 
@@ -168,29 +167,10 @@ words-each lines all =
 
 -- The model.
 
-first-named : (names : List (List ℕ)) → Each IsSignalName names → IsSignalName (first_word (names ++ codes "unnamed" ∷ []))
-first-named [] each = signal (codes "unnamed") (omega arith, omega arith, refl) refl
-first-named (name ∷ names) each = each.0
-
-control-named : (words : List (List ℕ)) → Each IsSignalName words → Each IsSignalName (control_among words)
-control-named [] each = tt
-control-named (kind ∷ []) each = tt
-control-named (kind ∷ control ∷ words) each = by_test (bytes_eq control (codes "NIL"))
-  where
-    by_test : (t : Bool) → Each IsSignalName (if t then [] else control ∷ [])
-    by_test true = tt
-    by_test false = (each.1.0, tt)
-
 reads-named : (latches : List Latch) → Each IsReadableLatch latches → Each IsSignalName (flat_map read_by latches)
 reads-named [] each = tt
 reads-named (latch ∷ latches) each =
     each-append IsSignalName (read_by latch) (flat_map read_by latches) (each.0.input, control-named latch.rest (each-of IsSignalName latch.rest each.0.rest)) (reads-named latches each.1)
-
-once-all : (names : List (List ℕ)) → Each IsSignalName names → All IsSignalName (each_once names)
-once-all [] each = All-nil IsSignalName
-once-all (name ∷ names) each =
-    All-cons IsSignalName name (filter (λ other. not (bytes_eq name other)) (each_once names)) each.0
-    (All-filter (λ other. not (bytes_eq name other)) IsSignalName (each_once names) (once-all names each.1))
 
 -- The names of the model, of its inputs and outputs, and of its latches are names of the format.
 pub record IsNamed (read : Parsed) : Type 0 where
@@ -208,9 +188,9 @@ lines-model lines read words none is =
     let ins = each-append IsSignalName (flat_map inputs_on lines) (map output_of latches) are.inputs (all_map IsReadableLatch IsSignalName output_of latches (λ latch h. h.output) are.latches) in
     let outs = each-append IsSignalName (flat_map outputs_on lines) (flat_map read_by latches) are.outputs (reads-named latches are.latches) in
     record {
-      model = subst IsSignalName (sym (ap (λ (n : NetworkParts). n.model) is.network.network)) (first-named (flat_map model_on lines) are.model);
+      model = subst IsSignalName (sym (ap (λ (n : NetworkParts). n.model) is.network.network)) (model-or-unnamed (flat_map model_on lines) are.model);
       inputs = subst (All IsSignalName) (sym (closed_inputs (draft_of lines) read.network draft is.network)) (all-of IsSignalName (flat_map inputs_on lines ++ map output_of latches) ins);
-      outputs = subst (All IsSignalName) (sym (closed_outputs (draft_of lines) read.network draft is.network)) (once-all (flat_map outputs_on lines ++ flat_map read_by latches) outs);
+      outputs = subst (All IsSignalName) (sym (closed_outputs (draft_of lines) read.network draft is.network)) (all-of IsSignalName (each_once (flat_map outputs_on lines ++ flat_map read_by latches)) (once-named (flat_map outputs_on lines ++ flat_map read_by latches) outs));
       latches = subst (λ (f : Frame). All IsReadableLatch f.latches) (sym is.frame) (all-of IsReadableLatch latches are.latches);
     }
 

@@ -1,5 +1,6 @@
 -- What the outcome of a run says of its status.
-use Rattle.std.proofs.Common.{◌≡◌, ◌≢◌, ◌⊎◌, inl, inr, ℕ, Bool, List, Option, Some, Result, Ok, Err, refl, subst, arith}
+use Rattle.std.proofs.Common.{◌≡◌, ◌≢◌, ◌⊎◌, inl, inr, ℕ, ◌==◌, Bool, true, false, List, Option, Some, Result, Ok, Err, refl, subst, arith}
+use Rattle.std.proofs.lemmas.Bool.{eqb-true, eqb-false}
 use Rattle.lw_io.specs.declared.file.File.{File}
 use Rattle.lw_io.specs.Causes.{Rose}
 use Rattle.lw_io.specs.Files.{bytes_of}
@@ -10,11 +11,10 @@ use Rattle.lw_top.specs.declared.outcome.Outcome.TheVariants.{Done, WriteFault, 
 use Rattle.lw_top.specs.Answers.{status_of, status_in}
 use Rattle.lw_top.specs.Steps.{Step}
 use Rattle.lw_top.specs.Reading.{Known, HasReason}
+use Rattle.lw_top.specs.Words.{Command}
+use Rattle.lw_top.specs.Telling.{outcome_line, refusal_line}
+use Rattle.lw_top.specs.Complete.{HasAnswer, IsComplete}
 use Rattle.lw_top.specs.Outcome.{IsDone, IsCutShort, Meets, outcome_status}
-
--- the answer of known files has this status
-abbrev pub HasStatus : Step (List ℕ) → List File → ℕ → Type 0
-HasStatus answer files status = (a : Result (List ℕ) Refusal) × answer (bytes_of files) a × (status ≡ status_in a)
 
 module _ {O : Type 0} (told : Option (List File)) (before now : ℕ) (taken : O → Option (List ℕ)) (is_finished : O → Bool) (faults : O → ℕ) (old new : O) (answer : Step (List ℕ)) where
   abbrev pub Met : Outcome → Type 0
@@ -42,19 +42,53 @@ module _ {O : Type 0} (told : Option (List File)) (before now : ℕ) (taken : O 
   cut (Refused (Unread w)) m e = absurd (omega (arith, e))
   cut (Refused other) m e = absurd (omega (arith, e))
 
-  pub agrees : (o : Outcome) (status : ℕ) (files : List File) → Met o → status ≡ outcome_status o → told ≡ Some files → status ≢ 2 → status ≢ 7 → status ≢ 8 → HasStatus answer files status
-  agrees Done status files m e is not_2 not_7 not_8 = (Ok m.0, m.1 files is, e)
-  agrees WriteFault status files m e is not_2 not_7 not_8 = absurd (not_7 e)
-  agrees (Refused (Unread w)) status files m e is not_2 not_7 not_8 = absurd (not_2 e)
-  agrees (Refused Memory) status files m e is not_2 not_7 not_8 = absurd (not_8 e)
-  agrees (Refused other) status files m e is not_2 not_7 not_8 = (Err other, m.0 files is, e)
+  module _ (command : Option Command) (said : List ℕ → Type 0) (status : ℕ) (files : List File) where
+    abbrev Has : Type 0
+    Has = HasAnswer (answer (bytes_of files)) command said status
 
-  pub complete : (o : Outcome) (status : ℕ) (files : List File) → Met o → status ≡ outcome_status o → told ≡ Some files → (Rose before now → ⊥) → (Rose (faults old) (faults new) → ⊥) → HasStatus answer files status ⊎ (status ≡ 8)
-  complete Done status files m e is quiet steady = inl (Ok m.0, m.1 files is, e)
-  complete WriteFault status files m e is quiet steady = absurd (steady m.2.cause)
-  complete (Refused (Unread w)) status files (inl rose, same) e is quiet steady = absurd (quiet rose)
-  complete (Refused (Unread w)) status files (inr found, same) e is quiet steady =
-      let are : found.0 ≡ files = cc in
-      inl (Err (Unread w), subst (λ fs. answer (bytes_of fs) (Err (Unread w))) are found.2, e)
-  complete (Refused Memory) status files m e is quiet steady = inr e
-  complete (Refused other) status files m e is quiet steady = inl (Err other, m.0 files is, e)
+    -- an answer of the files, and the outcome's line
+    refused : (r : Refusal) → answer (bytes_of files) (Err r) → status ≡ status_of r → said (outcome_line command (Refused r)) → Has
+    refused r is e line = record { result = Err r; is = is; status_is = e; line = line }
+
+    decided : (o : Outcome) → Met o → status ≡ outcome_status o → told ≡ Some files → said (outcome_line command o) → status ≢ 2 → status ≢ 7 → status ≢ 8 → Has
+    decided Done m e is line not_2 not_7 not_8 = record { result = Ok m.0; is = m.1 files is; status_is = e; line = line }
+    decided WriteFault m e is line not_2 not_7 not_8 = absurd (not_7 e)
+    decided (Refused (Unread w)) m e is line not_2 not_7 not_8 = absurd (not_2 e)
+    decided (Refused Memory) m e is line not_2 not_7 not_8 = absurd (not_8 e)
+    decided (Refused other) m e is line not_2 not_7 not_8 = refused other (m.0 files is) e line
+
+    unread_has : (o : Outcome) → Met o → status ≡ outcome_status o → told ≡ Some files → said (outcome_line command o) → status ≡ 2 → (Rose before now → ⊥) → Has
+    unread_has Done m e is line two quiet = absurd (omega (arith, e, two))
+    unread_has WriteFault m e is line two quiet = absurd (omega (arith, e, two))
+    unread_has (Refused (Unread w)) (inl rose, same) e is line two quiet = absurd (quiet rose)
+    unread_has (Refused (Unread w)) (inr found, same) e is line two quiet =
+        let are : found.0 ≡ files = cc in
+        refused (Unread w) (subst (λ fs. answer (bytes_of fs) (Err (Unread w))) are found.2) e line
+    unread_has (Refused other) m e is line two quiet = absurd (omega (arith, e, two))
+
+    unwritten : (o : Outcome) → Met o → status ≡ outcome_status o → status ≡ 7 → Rose (faults old) (faults new)
+    unwritten Done m e seven = absurd (omega (arith, e, seven))
+    unwritten WriteFault m e seven = m.2.cause
+    unwritten (Refused (Unread w)) m e seven = absurd (omega (arith, e, seven))
+    unwritten (Refused other) m e seven = absurd (omega (arith, e, seven))
+
+    memory : (o : Outcome) → status ≡ outcome_status o → said (outcome_line command o) → status ≡ 8 → said (refusal_line command Memory)
+    memory Done e line eight = absurd (omega (arith, e, eight))
+    memory WriteFault e line eight = absurd (omega (arith, e, eight))
+    memory (Refused Memory) e line eight = line
+    memory (Refused other) e line eight = absurd (omega (arith, e, eight))
+
+    by_status : (b c d : Bool) (o : Outcome) → status == 2 ≡ b → status == 7 ≡ c → status == 8 ≡ d → Met o → status ≡ outcome_status o → told ≡ Some files → said (outcome_line command o) → (Rose before now → ⊥) → (Rose (faults old) (faults new) → ⊥) → Has ⊎ (status ≡ 8)
+    by_status true c d o two seven eight m e is line quiet steady = inl (unread_has o m e is line (eqb-true _ _ two) quiet)
+    by_status false true d o two seven eight m e is line quiet steady = absurd (steady (unwritten o m e (eqb-true _ _ seven)))
+    by_status false false true o two seven eight m e is line quiet steady = inr (eqb-true _ _ eight)
+    by_status false false false o two seven eight m e is line quiet steady = inl (decided o m e is line (eqb-false _ _ two) (eqb-false _ _ seven) (eqb-false _ _ eight))
+
+    pub complete : (o : Outcome) → Met o → status ≡ outcome_status o → told ≡ Some files → said (outcome_line command o) → IsComplete (answer (bytes_of files)) command said (Rose before now) (Rose (faults old) (faults new)) status
+    complete o m e is line = record {
+      decided = decided o m e is line;
+      unread = unread_has o m e is line;
+      unwritten = unwritten o m e;
+      unfailed = by_status (status == 2) (status == 7) (status == 8) o refl refl refl m e is line;
+      memory = memory o e line;
+    }

@@ -1,9 +1,9 @@
 -- The words of the lines of a text are words.
-use Rattle.std.proofs.Common.{◌≡◌, ℕ, zero, suc, ◌+◌, ◌<◌, ◌≤◌, ◌==◌, Bool, true, false, not, ◌&&◌, ◌||◌, cond, List, [], ◌∷◌, ◌++◌, map, take, filter, length, All, refl, ap, arith}
+use Rattle.std.proofs.Common.{◌≡◌, ℕ, zero, suc, ◌+◌, ◌==◌, Bool, true, false, not, ◌&&◌, ◌||◌, cond, List, [], ◌∷◌, ◌++◌, map, take, filter, All, refl, arith}
 use Rattle.std.specs.List.{AllByRecursion, list_all, slice_split, onto_first}
 use Rattle.std.proofs.lemmas.List.{length-take}
 use Rattle.std.proofs.lemmas.List.Elements.{All-from_recursion}
-use Rattle.lw_words.specs.Lines.{LogicalLine, Text, is_blank, is_line_feed, has_some, lines_among, physical_lines, before_hash, before_trimmed, trimmed, is_continued, with_blank, continued_by, text_before, text_of, texts_from, words_of, line_of, has_words, lines_of, logical_lines}
+use Rattle.lw_words.specs.Lines.{LogicalLine, Text, is_blank, is_line_feed, has_some, lines_among, physical_lines, before_hash, before_trimmed, trimmed, is_continued, with_blank, continued_by, text_before, text_of, texts_from, line_of, has_words, lines_of, logical_lines}
 use Rattle.lw_genlib.specs.Cells.{IsWord, is_word_byte}
 use Rattle.lw_top.specs.Answers.{lines_in}
 

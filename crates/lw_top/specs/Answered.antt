@@ -1,5 +1,5 @@
 -- What a command comes to when its files are read.
-use Rattle.std.specs.Prelude.{◌≡◌, ◌≢◌, ℕ, List, length, Option, Some, Result, Ok, Err, IfErr, IfOk}
+use Rattle.std.specs.Prelude.{◌≡◌, ◌≢◌, ℕ, List, length, Option, Result, Ok, Err, IfErr, IfOk}
 use Rattle.lw_io.specs.declared.file.File.{File}
 use Rattle.lw_netlist.specs.Plain.{IsOver}
 use Rattle.lw_mapped.specs.Texts.{IsFramed, HasGateClasses}
@@ -20,6 +20,7 @@ CanBeWritten (answer.Mapping library netlist frame starts certificate) = IsOver 
 CanBeWritten (answer.Times library netlist timing) = IsOver library netlist × IsTimingFor library netlist timing
 CanBeWritten (answer.Values network vectors sim) = (places_of sim ≡ length network.names) × AreReadVectors network.inputs vectors
 CanBeWritten (answer.GateValues library netlist vectors sim) = IsOver library netlist × (places_of sim ≡ length netlist.names) × AreReadVectors netlist.inputs vectors
+CanBeWritten (answer.Verilog library netlist) = IsOver library netlist
 CanBeWritten other = Unit {0}
 
 -- Each text of the answer is what the step says of the files, where they are known; or there is a reason to refuse.

@@ -12,18 +12,22 @@ use Rattle.lw_netlist.specs.declared.fault.NetlistFault.TheVariants as netlist
 use Rattle.lw_mapped.specs.declared.closing.Mapped.{Mapped as MappedParts}
 use Rattle.lw_mapped.specs.declared.fault.MappedFault.TheVariants as mapped_fault
 use Rattle.lw_mapped.specs.Unmapped.{IsUnmapped}
+use Rattle.lw_netlist.specs.Netlists.{NetlistParts}
+use Rattle.lw_verilog.specs.declared.fault.VerilogFault.TheVariants as verilog_fault
+use Rattle.lw_verilog.specs.Verdicts.{IsRead}
 use Rattle.lw_report.specs.Vectors.{first_fault, vector_of}
 use Rattle.lw_map.specs.Options.{Options}
 use Rattle.lw_top.specs.declared.refusal.Refusal.{Refusal}
-use Rattle.lw_top.specs.declared.refusal.Refusal.TheVariants.{Words, Unread, TooLong, Library, Network, Undefined, Cycle, Mapped, Twice, Undriven, NetCycle, Vector, Forms, Splits, NoCover, No, Memory}
+use Rattle.lw_top.specs.declared.refusal.Refusal.TheVariants.{Words, Unread, TooLong, Library, Network, Undefined, Cycle, Mapped, Verilog, Twice, Undriven, NetCycle, Vector, Forms, Splits, NoCover, No, NoVerilog, Memory}
 use Rattle.lw_top.specs.declared.refusal.Which.{Which}
 use Rattle.lw_top.specs.declared.refusal.Which.TheVariants as which
 use Rattle.lw_top.specs.Steps.{Files, Step, gives, followed_by}
-use Rattle.lw_top.specs.Words.{Command, mapping, checking, timing, simulation, gate_simulation, counting, drawing, command_of}
+use Rattle.lw_top.specs.Words.{Command, mapping, checking, timing, simulation, gate_simulation, counting, drawing, to_verilog, from_verilog, command_of}
 use Rattle.lw_top.specs.Maps.{Maps}
 use Rattle.lw_top.specs.Checks.{Checks}
 use Rattle.lw_top.specs.Reports.{Times, Simulates, SimulatesNetlist}
 use Rattle.lw_top.specs.Counts.{Counts, Draws}
+use Rattle.lw_top.specs.Verilogs.{SaysVerilog, SaysMapped}
 
 -- Files.
 
@@ -68,6 +72,16 @@ HasMapped cells bytes files (Err (Undriven name)) = IsUnmapped cells (marked_lin
 HasMapped cells bytes files (Err (NetCycle name)) = IsUnmapped cells (marked_lines_in bytes) (Err (mapped_fault.Whole (netlist.Cycle name)))
 HasMapped cells bytes files (Err other) = ⊥
 
+-- The netlist that the text in Verilog says by these cells, or the first line that breaks a rule, or else the fault of the netlist as a
+-- whole.
+abbrev pub HasVerilog : List CellParts → List ℕ → Step NetlistParts
+HasVerilog cells bytes files (Ok n) = IsRead cells bytes (Ok n)
+HasVerilog cells bytes files (Err (Verilog line kind)) = IsRead cells bytes (Err (verilog_fault.Line line kind))
+HasVerilog cells bytes files (Err (Twice name)) = IsRead cells bytes (Err (verilog_fault.Whole (netlist.Twice name)))
+HasVerilog cells bytes files (Err (Undriven name)) = IsRead cells bytes (Err (verilog_fault.Whole (netlist.Undriven name)))
+HasVerilog cells bytes files (Err (NetCycle name)) = IsRead cells bytes (Err (verilog_fault.Whole (netlist.Cycle name)))
+HasVerilog cells bytes files (Err other) = ⊥
+
 -- the values of so many inputs that each line is, or the first line that is no vector
 abbrev pub HasVectors : ℕ → List ℕ → Step (List (List Bool))
 HasVectors inputs bytes files (Ok vectors) = (first_fault inputs (lines_in bytes) ≡ None) × (vectors ≡ map vector_of (lines_in bytes))
@@ -82,6 +96,9 @@ ReadsModel name = followed_by (gives (text_of which.Network name)) HasModel
 
 abbrev pub ReadsMapped : List ℕ → List CellParts → Step MappedParts
 ReadsMapped name cells = followed_by (gives (text_of which.Mapped name)) (HasMapped cells)
+
+abbrev pub ReadsVerilog : List ℕ → List CellParts → Step NetlistParts
+ReadsVerilog name cells = followed_by (gives (text_of which.Mapped name)) (HasVerilog cells)
 
 abbrev pub ReadsVectors : List ℕ → ℕ → Step (List (List Bool))
 ReadsVectors name inputs = followed_by (gives (text_of which.Vectors name)) (HasVectors inputs)
@@ -111,6 +128,14 @@ IsCountAnswer options network = followed_by (ReadsModel network) (λ model. Coun
 abbrev pub IsDrawingAnswer : ℕ → ℕ → List ℕ → Step (List ℕ)
 IsDrawingAnswer seed count library = followed_by (ReadsLibrary library) (λ cells. Draws seed count cells)
 
+-- what a mapped netlist comes to in Verilog
+abbrev pub IsToVerilogAnswer : List ℕ → List ℕ → Step (List ℕ)
+IsToVerilogAnswer library mapped = followed_by (ReadsLibrary library) (λ cells. followed_by (ReadsMapped mapped cells) (λ m. SaysVerilog cells m))
+
+-- what a netlist in Verilog comes to as a mapped text
+abbrev pub IsFromVerilogAnswer : List ℕ → List ℕ → Step (List ℕ)
+IsFromVerilogAnswer library verilog = followed_by (ReadsLibrary library) (λ cells. followed_by (ReadsVerilog verilog cells) (λ n. SaysMapped cells n))
+
 -- what a command comes to
 abbrev pub IsCommandAnswer : Command → Step (List ℕ)
 IsCommandAnswer (mapping options certified library network) = IsMappingAnswer options certified library network
@@ -120,6 +145,8 @@ IsCommandAnswer (simulation network vectors) = IsSimulationAnswer network vector
 IsCommandAnswer (gate_simulation library mapped vectors) = IsGateSimulationAnswer library mapped vectors
 IsCommandAnswer (counting options network) = IsCountAnswer options network
 IsCommandAnswer (drawing seed count library) = IsDrawingAnswer seed count library
+IsCommandAnswer (to_verilog library mapped) = IsToVerilogAnswer library mapped
+IsCommandAnswer (from_verilog library verilog) = IsFromVerilogAnswer library verilog
 
 -- words of no written form are refused
 abbrev pub asked_for : Option Command → Result Command Refusal
@@ -153,6 +180,8 @@ IsReached (timing library mapped) which.Mapped files = HasLibrary library files
 IsReached (simulation network vectors) which.Vectors files = HasNetwork network files
 IsReached (gate_simulation library mapped vectors) which.Mapped files = HasLibrary library files
 IsReached (gate_simulation library mapped vectors) which.Vectors files = HasNetlist library mapped files
+IsReached (to_verilog library mapped) which.Mapped files = HasLibrary library files
+IsReached (from_verilog library verilog) which.Mapped files = HasLibrary library files
 IsReached command w files = Unit {0}
 
 -- Statuses.
@@ -172,10 +201,12 @@ status_of (NoCover name) = 6
 status_of Memory = 8
 status_of (No reason) = 9
 status_of (Mapped line kind) = 10
+status_of (Verilog line kind) = 10
 status_of (Twice name) = 10
 status_of (Undriven name) = 10
 status_of (NetCycle name) = 10
 status_of (Vector line) = 10
+status_of (NoVerilog why) = 11
 
 -- the exit status of an answer
 abbrev pub status_in : Result (List ℕ) Refusal → ℕ

@@ -1,5 +1,5 @@
 -- What is counted of a network's graph, and of a network that is drawn from a number.
-use Rattle.std.specs.Prelude.{ℕ, ◌≡◌, List, [], ◌∷◌, ◌++◌, length, sum_by, replicate, Ok, Err, codes, decimal}
+use Rattle.std.specs.Prelude.{ℕ, ◌≡◌, List, [], ◌∷◌, ◌++◌, length, sum_by, replicate, Option, Some, None, Ok, Err, codes, decimal}
 use Rattle.lw_fixed.specs.declared.micro.Micro.{Micro}
 use Rattle.lw_fixed.specs.Printed.{decimal_text}
 use Rattle.lw_laws.specs.Modes.Mode.{plain as plain_mode}
@@ -7,10 +7,13 @@ use Rattle.lw_laws.specs.Graphs.{Graph, Pair}
 use Rattle.lw_laws.specs.Classes.{IsGraphOf}
 use Rattle.lw_laws.specs.Decompositions.{listing_of}
 use Rattle.lw_laws.specs.Netlists.{AreArrivals}
+use Rattle.lw_laws.specs.Rounds.{labels_in}
 use Rattle.lw_net.specs.Networks.{NetworkParts}
 use Rattle.lw_net.specs.Plain as network
 use Rattle.lw_genlib.specs.Cells.{CellParts}
 use Rattle.lw_genlib.specs.Tables.{timing_of}
+use Rattle.lw_pattern.specs.Libraries.{library_patterns}
+use Rattle.lw_settle.specs.Steps.{AreSteps}
 use Rattle.lw_blif.specs.declared.parsed.Parsed.{Parsed}
 use Rattle.lw_netlist.specs.Closing.{greatest}
 use Rattle.lw_netlist.specs.Netlists.{NetlistParts}
@@ -59,13 +62,20 @@ drawing_options = record { width = 6; mode = plain_mode }
 abbrev pub at_once : NetworkParts → List Micro
 at_once net = replicate net.inputs (record { 0 = 0 })
 
-abbrev pub sizes_text : ℕ → ℕ → ℕ → ℕ → List ℕ
-sizes_text nodes classes gates latest =
+-- how often stored matches are read, where there are not too many to store
+abbrev pub steps_text : Option ℕ → List ℕ
+steps_text None = codes "none"
+steps_text (Some steps) = decimal steps
+
+abbrev pub sizes_text : ℕ → ℕ → ℕ → ℕ → Option ℕ → List ℕ
+sizes_text nodes classes gates latest steps =
     count_line (codes "nodes ") (decimal nodes)
     ++ (count_line (codes "classes ") (decimal classes)
-    ++ (count_line (codes "gates ") (decimal gates) ++ count_line (codes "max ") (decimal_text latest)))
+    ++ (count_line (codes "gates ") (decimal gates)
+    ++ (count_line (codes "max ") (decimal_text latest) ++ count_line (codes "steps ") (steps_text steps))))
 
--- The nodes, the classes of the graph, the gates of the netlist that the network is mapped to, and the greatest arrival of an output.
+-- The nodes, the classes of the graph, the gates of the netlist that the network is mapped to, the greatest arrival of an output, and how
+-- often settling reads the matches of the graph.
 pub record IsSizeText (seed count : ℕ) (cells : List CellParts) (net : NetworkParts) (text : List ℕ) : Type 0 where
   pub generated : IsGenerated seed count net
   pub within : IsWithinLimits drawing_options net
@@ -73,7 +83,9 @@ pub record IsSizeText (seed count : ℕ) (cells : List CellParts) (net : Network
   pub is_mapped : IsMappedNetlist drawing_options cells net (at_once net) netlist
   pub arrivals : List ℕ
   pub arrive : AreArrivals (timing_of cells (at_once net)) (plain_netlist netlist) arrivals
-  pub says : text ≡ sizes_text count (length is_mapped.is.graph.pairs) (length netlist.gates) (greatest (output_arrivals netlist arrivals))
+  pub steps : Option ℕ
+  pub steps_are : AreSteps is_mapped.is.graph (library_patterns cells) (labels_in is_mapped.is.labels) steps
+  pub says : text ≡ sizes_text count (length is_mapped.is.graph.pairs) (length netlist.gates) (greatest (output_arrivals netlist arrivals)) steps
 
 -- What the network of so many nodes that is drawn from the seed comes to, by these cells: the sizes, or why it is not mapped.
 abbrev pub Draws : ℕ → ℕ → List CellParts → Step (List ℕ)

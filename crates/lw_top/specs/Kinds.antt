@@ -8,6 +8,8 @@ use Rattle.lw_blif.specs.declared.fault.BlifKind.{BlifKind}
 use Rattle.lw_blif.specs.declared.fault.BlifKind.TheVariants as blif
 use Rattle.lw_mapped.specs.declared.fault.MappedKind.{MappedKind}
 use Rattle.lw_mapped.specs.declared.fault.MappedKind.TheVariants as mapped
+use Rattle.lw_verilog.specs.declared.fault.VerilogKind.{VerilogKind}
+use Rattle.lw_verilog.specs.declared.fault.VerilogKind.TheVariants as verilog
 
 abbrev pub decimal_fault_text : DecimalFault → List ℕ
 decimal_fault_text decimal.Shape = codes "not a decimal"
@@ -56,3 +58,13 @@ mapped_kind_text mapped.Certificate = codes "bad certificate line"
 mapped_kind_text mapped.BadName = codes "bad name"
 mapped_kind_text mapped.LongWord = codes "word too long"
 mapped_kind_text (mapped.Decimal fault) = decimal_fault_text fault
+
+abbrev pub verilog_kind_text : VerilogKind → List ℕ
+verilog_kind_text verilog.BadByte = codes "byte not allowed"
+verilog_kind_text verilog.BadName = codes "bad name"
+verilog_kind_text verilog.Expected = codes "something else expected"
+verilog_kind_text verilog.NoCell = codes "no such cell"
+verilog_kind_text verilog.PinUnknown = codes "no such pin"
+verilog_kind_text verilog.PinTwice = codes "pin given twice"
+verilog_kind_text verilog.PinMissing = codes "pin not given"
+verilog_kind_text verilog.Port = codes "port not declared once"

@@ -3,6 +3,7 @@ pub mod Words
 pub mod Maps
 pub mod Checks
 pub mod Reports
+pub mod Verilogs
 pub mod Counts
 pub mod Answers
 pub mod Reading
@@ -14,6 +15,7 @@ pub mod Outcome
 pub mod Kinds
 pub mod Reasons
 pub mod Telling
+pub mod Complete
 pub mod Mappings
 pub mod Texts
 pub mod Checked

@@ -1,7 +1,6 @@
 -- What a library of cells and a network come to: the text of the netlist that the network is mapped to, or why there is none.
 use Rattle.std.specs.Prelude.{ℕ, ◌≡◌, Bool, true, false, List, length, Option, Some, None, Ok, Err}
 use Rattle.lw_fixed.specs.declared.micro.Micro.{Micro}
-use Rattle.lw_laws.specs.MappedNetlists.{IsNetlistOf}
 use Rattle.lw_net.specs.Networks.{NetworkParts}
 use Rattle.lw_genlib.specs.Cells.{CellParts}
 use Rattle.lw_blif.specs.declared.parsed.Parsed.{Parsed}

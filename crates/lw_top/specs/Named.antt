@@ -1,10 +1,9 @@
 -- What the calls that read no file answer, and what is known of what was read.
-use Rattle.std.specs.Prelude.{ℕ, ◌≡◌, ◌≤◌, Bool, List, None, Some, length, Option, Result, Ok, Err, codes}
+use Rattle.std.specs.Prelude.{ℕ, ◌≡◌, ◌≤◌, Bool, List, None, length, Result, Ok, Err}
 use Rattle.lw_words.specs.Lines.{LogicalLine}
 use Rattle.lw_genlib.specs.Cells.{CellParts}
 use Rattle.lw_netlist.specs.Netlists.{most_gates}
 use Rattle.lw_netlist.specs.Plain.{IsOver}
-use Rattle.lw_mapped.specs.declared.certificate.Certificate.{Certificate}
 use Rattle.lw_mapped.specs.declared.closing.Mapped.{Mapped as MappedParts}
 use Rattle.lw_mapped.specs.Fitting.{IsMapped}
 use Rattle.lw_mapped.specs.Texts.{mapped_text}
@@ -19,6 +18,7 @@ use Rattle.lw_top.specs.declared.refusal.Refusal.{Refusal}
 use Rattle.lw_top.specs.declared.refusal.Refusal.TheVariants.{Words, Unread, TooLong, Forms, Splits, NoCover, Memory}
 use Rattle.lw_top.specs.declared.answer.Answer.{Answer}
 use Rattle.lw_top.specs.declared.answer.Answer.TheVariants as answer
+use Rattle.lw_verilog.specs.Texts.{verilog_text}
 use Rattle.lw_top.specs.Steps.{Files, Step}
 use Rattle.lw_top.specs.Checks.{yes_text}
 use Rattle.lw_top.specs.Counts.{counts_text, sizes_text}
@@ -67,5 +67,6 @@ IsTextOf answer.Yes text = text ≡ yes_text
 IsTextOf (answer.Times library netlist timing) text = text ≡ timing_text library netlist timing
 IsTextOf (answer.Values network vectors sim) text = IsNetworkSimulation network (values_in vectors) text
 IsTextOf (answer.GateValues library netlist vectors sim) text = IsNetlistSimulation library netlist (values_in vectors) text
+IsTextOf (answer.Verilog library netlist) text = text ≡ verilog_text library netlist
 IsTextOf (answer.Counts forms classes alternatives) text = text ≡ counts_text forms classes alternatives
-IsTextOf (answer.Sizes nodes classes gates latest) text = text ≡ sizes_text nodes classes gates latest.0
+IsTextOf (answer.Sizes nodes classes gates latest steps) text = text ≡ sizes_text nodes classes gates latest.0 steps

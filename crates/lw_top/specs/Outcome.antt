@@ -1,5 +1,5 @@
 -- What each outcome of a run means.
-use Rattle.std.specs.Prelude.{◌≡◌, ℕ, Bool, true, List, Option, Some, None, Result, Ok}
+use Rattle.std.specs.Prelude.{◌≡◌, ℕ, Bool, true, List, Option, Some, Result, Ok}
 use Rattle.std.specs.Io.KnownBytes.{Appends}
 use Rattle.lw_io.specs.declared.file.File.{File}
 use Rattle.lw_io.specs.declared.failed.Failed.{Failed}

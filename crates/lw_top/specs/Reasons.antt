@@ -1,9 +1,11 @@
--- The texts of the reasons for which a mapped netlist is no fastest mapping.
+-- The texts of the reasons for which a mapped netlist is no fastest mapping, or has no text in Verilog.
 use Rattle.std.specs.Prelude.{ℕ, List, ◌++◌, Option, Some, None, codes, decimal}
 use Rattle.lw_fixed.specs.declared.micro.Micro.{Micro}
 use Rattle.lw_fixed.specs.Printed.{decimal_text}
 use Rattle.lw_check.specs.declared.verdict.Reason.{Reason}
 use Rattle.lw_check.specs.declared.verdict.Reason.TheVariants.{Ports, Class, NotMatch, Label, Root, Value}
+use Rattle.lw_verilog.specs.declared.reason.NoVerilog.{NoVerilog}
+use Rattle.lw_verilog.specs.declared.reason.NoVerilog.TheVariants.{Latches, Bytes, Same, Clash, Pins}
 
 -- a label, where there is one
 abbrev pub label_text : Option Micro → List ℕ
@@ -27,3 +29,11 @@ reason_text (NotMatch name) = codes "gate " ++ (name ++ codes " is no match")
 reason_text (Label class label value) = label_reason class.0 label value.0
 reason_text (Root name found root) = root_reason name found.0 root.0
 reason_text (Value name arrival label) = value_reason name arrival.0 label.0
+
+-- why there is no Verilog
+abbrev pub no_verilog_text : NoVerilog → List ℕ
+no_verilog_text Latches = codes "latches"
+no_verilog_text (Bytes name) = codes "name " ++ (name ++ codes " has a byte outside 33 to 126")
+no_verilog_text (Same name) = codes "output " ++ (name ++ codes " is an input")
+no_verilog_text (Clash name) = codes "model " ++ (name ++ codes " is a cell")
+no_verilog_text (Pins name) = codes "cell " ++ (name ++ codes " has one name for two pins")

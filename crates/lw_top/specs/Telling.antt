@@ -4,11 +4,11 @@ use Rattle.std.specs.Io.KnownBytes.{Appends}
 use Rattle.lw_io.specs.Causes.{Rose}
 use Rattle.lw_io.specs.Moves.{AppendsPrefix}
 use Rattle.lw_top.specs.declared.refusal.Refusal.{Refusal}
-use Rattle.lw_top.specs.declared.refusal.Refusal.TheVariants.{Words, Unread, TooLong, Library, Network, Undefined, Cycle, Mapped, Twice, Undriven, NetCycle, Vector, Forms, Splits, NoCover, No, Memory}
+use Rattle.lw_top.specs.declared.refusal.Refusal.TheVariants.{Words, Unread, TooLong, Library, Network, Undefined, Cycle, Mapped, Verilog, Twice, Undriven, NetCycle, Vector, Forms, Splits, NoCover, No, NoVerilog, Memory}
 use Rattle.lw_top.specs.declared.refusal.Which.TheVariants as which
 use Rattle.lw_top.specs.Words.{Command, file_word}
-use Rattle.lw_top.specs.Kinds.{blif_text, lib_text, mapped_kind_text}
-use Rattle.lw_top.specs.Reasons.{reason_text}
+use Rattle.lw_top.specs.Kinds.{blif_text, lib_text, mapped_kind_text, verilog_kind_text}
+use Rattle.lw_top.specs.Reasons.{reason_text, no_verilog_text}
 use Rattle.lw_top.specs.declared.outcome.Outcome.{Outcome}
 use Rattle.lw_top.specs.declared.outcome.Outcome.TheVariants.{Done, WriteFault, Refused}
 
@@ -17,7 +17,7 @@ abbrev pub Told : {E : Type 0} → (E → Option (List ℕ)) → (E → ℕ) →
 Told taken faults old new text = Appends (taken old) (taken new) text ⊎ (Rose (faults old) (faults new) × AppendsPrefix (taken old) (taken new) text)
 
 abbrev pub usage_text : List ℕ
-usage_text = codes "usage: map [-w K] [-i] [-c] LIB IN | check [-w K] [-i] LIB IN MAPPED | time LIB MAPPED | sim IN VECTORS | sim -g LIB MAPPED VECTORS | graph [-w K] [-i] IN | big SEED N LIB"
+usage_text = codes "usage: map [-w K] [-i] [-c] LIB IN | check [-w K] [-i] LIB IN MAPPED | time LIB MAPPED | sim IN VECTORS | sim -g LIB MAPPED VECTORS | graph [-w K] [-i] IN | big SEED N LIB | verilog LIB MAPPED | unverilog LIB VER"
 
 -- a line of a file breaks the rule of this text
 abbrev pub broken_text : List ℕ → ℕ → List ℕ → List ℕ
@@ -32,6 +32,7 @@ refusal_text command (Network line kind) = broken_text (file_word command which.
 refusal_text command (Undefined name) = file_word command which.Network ++ (codes ": undefined signal " ++ name)
 refusal_text command (Cycle name) = file_word command which.Network ++ (codes ": cycle through " ++ name)
 refusal_text command (Mapped line kind) = broken_text (file_word command which.Mapped) line (mapped_kind_text kind)
+refusal_text command (Verilog line kind) = broken_text (file_word command which.Mapped) line (verilog_kind_text kind)
 refusal_text command (Twice name) = file_word command which.Mapped ++ (codes ": net " ++ (name ++ codes " driven twice"))
 refusal_text command (Undriven name) = file_word command which.Mapped ++ (codes ": net " ++ (name ++ codes " not driven"))
 refusal_text command (NetCycle name) = file_word command which.Mapped ++ (codes ": cycle through " ++ name)
@@ -40,6 +41,7 @@ refusal_text command Forms = codes "limit: more than 2097152 forms"
 refusal_text command Splits = codes "limit: more than 16777216 splits"
 refusal_text command (NoCover name) = codes "no cover for output " ++ name
 refusal_text command (No reason) = codes "no: " ++ reason_text reason
+refusal_text command (NoVerilog why) = codes "no verilog: " ++ no_verilog_text why
 refusal_text command Memory = codes "out of memory"
 
 abbrev pub refusal_line : Option Command → Refusal → List ℕ

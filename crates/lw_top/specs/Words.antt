@@ -24,6 +24,10 @@ pub data Command : Type 0 where
   counting : Options → List ℕ → Command
   -- a network drawn from a number, of so many nodes, mapped to cells of the library
   drawing : ℕ → ℕ → List ℕ → Command
+  -- a mapped netlist, written in Verilog
+  to_verilog : List ℕ → List ℕ → Command
+  -- a netlist in Verilog, written as a mapped netlist
+  from_verilog : List ℕ → List ℕ → Command
 
 -- Files.
 
@@ -167,6 +171,16 @@ abbrev pub drawing_of : List (List ℕ) → Option Command
 drawing_of (seed ∷ count ∷ words) = drawing_by (seed_of seed) (count_of count) (one_file words)
 drawing_of words = None
 
+-- `LIB MAPPED`
+abbrev pub to_verilog_of : Option Two → Option Command
+to_verilog_of None = None
+to_verilog_of (Some files) = Some (to_verilog files.first files.second)
+
+-- `LIB VER`
+abbrev pub from_verilog_of : Option Two → Option Command
+from_verilog_of None = None
+from_verilog_of (Some files) = Some (from_verilog files.first files.second)
+
 abbrev pub named : List ℕ → List (List ℕ) → Option Command
 named name words =
     if bytes_eq name (codes "map") then mapping_begun (begun_by words)
@@ -174,7 +188,9 @@ named name words =
     else (if bytes_eq name (codes "time") then timing_of (two_files words)
     else (if bytes_eq name (codes "sim") then simulation_of words
     else (if bytes_eq name (codes "graph") then counting_begun (begun_by words)
-    else (if bytes_eq name (codes "big") then drawing_of words else None)))))
+    else (if bytes_eq name (codes "big") then drawing_of words
+    else (if bytes_eq name (codes "verilog") then to_verilog_of (two_files words)
+    else (if bytes_eq name (codes "unverilog") then from_verilog_of (two_files words) else None)))))))
 
 -- The command that the words are a written form of.
 abbrev pub command_of : List (List ℕ) → Option Command
@@ -210,6 +226,10 @@ file_in (gate_simulation library mapped vectors) which.Mapped = mapped
 file_in (gate_simulation library mapped vectors) which.Vectors = vectors
 file_in (counting options network) which.Network = network
 file_in (drawing seed count library) which.Library = library
+file_in (to_verilog library mapped) which.Library = library
+file_in (to_verilog library mapped) which.Mapped = mapped
+file_in (from_verilog library verilog) which.Library = library
+file_in (from_verilog library verilog) which.Mapped = verilog
 file_in other w = []
 
 -- no file where there is no command

@@ -1,6 +1,6 @@
 // From a command to its answer.
 ghost use Rattle.std.specs.Prelude.{◌≡◌, ◌≤◌};
-ghost use Rattle.lw_top.specs.Words.{IsInRange, IsCount, mapping, checking, timing, simulation, gate_simulation, counting, drawing};
+ghost use Rattle.lw_top.specs.Words.{IsInRange, IsCount, mapping, checking, timing, simulation, gate_simulation, counting, drawing, to_verilog, from_verilog};
 ghost use Rattle.lw_top.specs.Commands.{plain_command};
 ghost use Rattle.lw_top.specs.Answered.{IsAnswered};
 ghost use Rattle.lw_map.specs.Options.{IsWide, plain_options};
@@ -9,7 +9,8 @@ use crate::counting::{count_model, draw};
 use crate::mapping::map_model;
 use crate::refusal::Refusal;
 use crate::reports::{check_mapped, simulate, simulate_gates, time_mapped};
-use crate::sources::{read_library, read_mapped, read_model, read_vectors};
+use crate::sources::{read_library, read_mapped, read_model, read_netlist, read_vectors};
+use crate::verilog::{map_verilog, say_verilog};
 use crate::words::Command;
 use lw_fixed::{Micro, Micros};
 use lw_genlib::Library;
@@ -25,9 +26,12 @@ use std::alloc::Global;
 /// What a command comes to, ready to be written.
 #[derive(Drop)]
 pub enum Answer {
-    /// A library, the netlist of its cells to which a network is mapped, what stands around it, and its certificate.
+    /// A library, the netlist of its cells to which a network is mapped, what stands around it, and
+    /// its certificate.
     Mapping(Library, Netlist, Frame, Micros, Option<Certificate>),
     Yes,
+    /// A library, and a netlist of its cells, for its text in Verilog.
+    Verilog(Library, Netlist),
     /// A library, a netlist of its cells, and the netlist's timing.
     Times(Library, Netlist, Timing),
     /// A network, vectors for its inputs, and a simulator of it.
@@ -36,8 +40,9 @@ pub enum Answer {
     GateValues(Library, Netlist, Vectors, Sim),
     /// How many base forms, classes and pairs there are.
     Counts(u32, u32, u128),
-    /// How many nodes, classes and gates there are, and the greatest arrival.
-    Sizes(u32, u32, u32, Micro),
+    /// How many nodes, classes and gates there are, the greatest arrival, and how often stored
+    /// matches were read, if they were not too many to store.
+    Sizes(u32, u32, u32, Micro, Option<u64>),
 }
 
 fn map_files<F: Shelf>(
@@ -49,7 +54,8 @@ fn map_files<F: Shelf>(
     shelf: &mut F,
 ) -> Result<Answer, Refusal>
     requires { IsWide (plain_options options) }
-    ensures answered { IsAnswered (F.files shelf.old) (F.faults shelf.old) (F.faults shelf.new) (mapping (plain_options options) certified library.now network.now) result }
+    ensures answered { IsAnswered (F.files shelf.old) (F.faults shelf.old) (F.faults shelf.new)
+        (mapping (plain_options options) certified library.now network.now) result }
     ensures later { F.faults shelf.old ≤ F.faults shelf.new }
     ensures files { F.files shelf.new ≡ F.files shelf.old }
 {
@@ -67,7 +73,8 @@ fn check_files<F: Shelf>(
     shelf: &mut F,
 ) -> Result<Answer, Refusal>
     requires { IsWide (plain_options options) }
-    ensures answered { IsAnswered (F.files shelf.old) (F.faults shelf.old) (F.faults shelf.new) (checking (plain_options options) library.now network.now mapped.now) result }
+    ensures answered { IsAnswered (F.files shelf.old) (F.faults shelf.old) (F.faults shelf.new)
+        (checking (plain_options options) library.now network.now mapped.now) result }
     ensures later { F.faults shelf.old ≤ F.faults shelf.new }
     ensures files { F.files shelf.new ≡ F.files shelf.old }
 {
@@ -83,7 +90,8 @@ fn time_files<F: Shelf>(
     mapped: &str,
     shelf: &mut F,
 ) -> Result<Answer, Refusal>
-    ensures answered { IsAnswered (F.files shelf.old) (F.faults shelf.old) (F.faults shelf.new) (timing library.now mapped.now) result }
+    ensures answered { IsAnswered (F.files shelf.old) (F.faults shelf.old) (F.faults shelf.new)
+        (timing library.now mapped.now) result }
     ensures later { F.faults shelf.old ≤ F.faults shelf.new }
     ensures files { F.files shelf.new ≡ F.files shelf.old }
 {
@@ -98,7 +106,8 @@ fn simulate_files<F: Shelf>(
     vectors: &str,
     shelf: &mut F,
 ) -> Result<Answer, Refusal>
-    ensures answered { IsAnswered (F.files shelf.old) (F.faults shelf.old) (F.faults shelf.new) (simulation network.now vectors.now) result }
+    ensures answered { IsAnswered (F.files shelf.old) (F.faults shelf.old) (F.faults shelf.new)
+        (simulation network.now vectors.now) result }
     ensures later { F.faults shelf.old ≤ F.faults shelf.new }
     ensures files { F.files shelf.new ≡ F.files shelf.old }
 {
@@ -114,7 +123,8 @@ fn simulate_gate_files<F: Shelf>(
     vectors: &str,
     shelf: &mut F,
 ) -> Result<Answer, Refusal>
-    ensures answered { IsAnswered (F.files shelf.old) (F.faults shelf.old) (F.faults shelf.new) (gate_simulation library.now mapped.now vectors.now) result }
+    ensures answered { IsAnswered (F.files shelf.old) (F.faults shelf.old) (F.faults shelf.new)
+        (gate_simulation library.now mapped.now vectors.now) result }
     ensures later { F.faults shelf.old ≤ F.faults shelf.new }
     ensures files { F.files shelf.new ≡ F.files shelf.old }
 {
@@ -131,7 +141,8 @@ fn count_files<F: Shelf>(
     shelf: &mut F,
 ) -> Result<Answer, Refusal>
     requires { IsWide (plain_options options) }
-    ensures answered { IsAnswered (F.files shelf.old) (F.faults shelf.old) (F.faults shelf.new) (counting (plain_options options) network.now) result }
+    ensures answered { IsAnswered (F.files shelf.old) (F.faults shelf.old) (F.faults shelf.new)
+        (counting (plain_options options) network.now) result }
     ensures later { F.faults shelf.old ≤ F.faults shelf.new }
     ensures files { F.files shelf.new ≡ F.files shelf.old }
 {
@@ -147,12 +158,45 @@ fn draw_files<F: Shelf>(
     shelf: &mut F,
 ) -> Result<Answer, Refusal>
     requires { IsCount count }
-    ensures answered { IsAnswered (F.files shelf.old) (F.faults shelf.old) (F.faults shelf.new) (drawing seed count library.now) result }
+    ensures answered { IsAnswered (F.files shelf.old) (F.faults shelf.old) (F.faults shelf.new)
+        (drawing seed count library.now) result }
     ensures later { F.faults shelf.old ≤ F.faults shelf.new }
     ensures files { F.files shelf.new ≡ F.files shelf.old }
 {
     let library = read_library(alloc, shelf, library)?;
     draw(alloc, &library, seed, count)
+}
+
+fn to_verilog_files<F: Shelf>(
+    alloc: Global,
+    library: &str,
+    mapped: &str,
+    shelf: &mut F,
+) -> Result<Answer, Refusal>
+    ensures answered { IsAnswered (F.files shelf.old) (F.faults shelf.old) (F.faults shelf.new)
+        (to_verilog library.now mapped.now) result }
+    ensures later { F.faults shelf.old ≤ F.faults shelf.new }
+    ensures files { F.files shelf.new ≡ F.files shelf.old }
+{
+    let library = read_library(alloc, shelf, library)?;
+    let mapped = read_mapped(alloc, &library, shelf, mapped)?;
+    say_verilog(alloc, library, mapped)
+}
+
+fn from_verilog_files<F: Shelf>(
+    alloc: Global,
+    library: &str,
+    verilog: &str,
+    shelf: &mut F,
+) -> Result<Answer, Refusal>
+    ensures answered { IsAnswered (F.files shelf.old) (F.faults shelf.old) (F.faults shelf.new)
+        (from_verilog library.now verilog.now) result }
+    ensures later { F.faults shelf.old ≤ F.faults shelf.new }
+    ensures files { F.files shelf.new ≡ F.files shelf.old }
+{
+    let library = read_library(alloc, shelf, library)?;
+    let netlist = read_netlist(alloc, &library, shelf, verilog)?;
+    map_verilog(alloc, library, netlist)
 }
 
 /// What a command comes to, or why there is no answer.
@@ -162,7 +206,8 @@ pub fn respond<F: Shelf>(
     shelf: &mut F,
 ) -> Result<Answer, Refusal>
     requires { IsInRange (plain_command command) }
-    ensures answered { IsAnswered (F.files shelf.old) (F.faults shelf.old) (F.faults shelf.new) (plain_command command.entry) result }
+    ensures answered { IsAnswered (F.files shelf.old) (F.faults shelf.old) (F.faults shelf.new)
+        (plain_command command.entry) result }
     ensures later { F.faults shelf.old ≤ F.faults shelf.new }
     ensures files { F.files shelf.new ≡ F.files shelf.old }
 {
@@ -180,5 +225,9 @@ pub fn respond<F: Shelf>(
         }
         Command::Counting(options, network) => count_files(alloc, options, network, shelf),
         Command::Drawing(seed, count, library) => draw_files(alloc, seed, count, library, shelf),
+        Command::ToVerilog(library, mapped) => to_verilog_files(alloc, library, mapped, shelf),
+        Command::FromVerilog(library, verilog) => {
+            from_verilog_files(alloc, library, verilog, shelf)
+        }
     }
 }

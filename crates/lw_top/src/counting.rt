@@ -59,7 +59,8 @@ fn all_at_once(alloc: Global, net: &Network) -> Result<Micros, AllocError>
 // What a network comes to by the cells of a library.
 fn map_drawn(alloc: Global, library: &Library, net: &Network, count: u32) -> Result<Answer, Refusal>
     requires { IsDistinct bytes_eq (output_names net.now) }
-    ensures { (seed : ℕ) → IsGenerated seed count net.now → Gives (Draws seed count library.now) result }
+    ensures { (seed : ℕ) → IsGenerated seed count net.now →
+        Gives (Draws seed count library.now) result }
 {
     let starts = all_at_once(alloc, net)?;
     let options = Options {
@@ -74,6 +75,7 @@ fn map_drawn(alloc: Global, library: &Library, net: &Network, count: u32) -> Res
         choices.graph.classes(),
         mapping.netlist.gates().len() as u32,
         timing.latest(),
+        mapping.steps,
     ))
 }
 

@@ -1,11 +1,12 @@
 // The texts of the rules that a line breaks.
 ghost use Rattle.std.specs.Prelude.{◌≡◌};
-ghost use Rattle.lw_top.specs.Kinds.{blif_text, decimal_fault_text, lib_text, mapped_kind_text};
+ghost use Rattle.lw_top.specs.Kinds.{blif_text, decimal_fault_text, lib_text, mapped_kind_text, verilog_kind_text};
 
 use lw_blif::BlifKind;
 use lw_fixed::DecimalFault;
 use lw_genlib::LibKind;
 use lw_mapped::MappedKind;
+use lw_verilog::VerilogKind;
 
 pub fn blif_text(kind: &BlifKind) -> &[u8]
     ensures { result.now ≡ blif_text kind.now }
@@ -72,5 +73,20 @@ pub fn mapped_kind_text(kind: &MappedKind) -> &[u8]
         MappedKind::BadName => b"bad name",
         MappedKind::LongWord => b"word too long",
         MappedKind::Decimal(fault) => decimal_fault_text(fault),
+    }
+}
+
+pub fn verilog_kind_text(kind: &VerilogKind) -> &[u8]
+    ensures { result.now ≡ verilog_kind_text kind.now }
+{
+    match kind {
+        VerilogKind::BadByte => b"byte not allowed",
+        VerilogKind::BadName => b"bad name",
+        VerilogKind::Expected => b"something else expected",
+        VerilogKind::NoCell => b"no such cell",
+        VerilogKind::PinUnknown => b"no such pin",
+        VerilogKind::PinTwice => b"pin given twice",
+        VerilogKind::PinMissing => b"pin not given",
+        VerilogKind::Port => b"port not declared once",
     }
 }

@@ -14,24 +14,32 @@ ghost use Rattle.lw_top.specs.declared.refusal.Refusal.{Refusal};
 
 /// Words over known files come to one answer at most.
 pub fn answers_are_one()
-    ensures { (words : List (List ℕ)) (files : Files) (a b : Result (List ℕ) Refusal) → IsAnswer words files a → IsAnswer words files b → a ≡ b }
+    ensures { (words : List (List ℕ)) (files : Files) (a b : Result (List ℕ) Refusal) →
+        IsAnswer words files a → IsAnswer words files b → a ≡ b }
 {}
 
 /// Where a mapping is asked for, an answer with a text is the text of a mapping.
 pub fn answers_are_mappings()
-    ensures { (words : List (List ℕ)) (files : Files) (text : List ℕ) → AsksForMapping words → IsAnswer words files (Ok text) → IsMappingText words files text }
+    ensures { (words : List (List ℕ)) (files : Files) (text : List ℕ) → AsksForMapping words →
+        IsAnswer words files (Ok text) → IsMappingText words files text }
 {}
 
-/// Where the words ask for a mapping of a network that is within the limits, the answer is that there is no cover exactly where some root
-/// has none: no tree that the laws derive for it has a cover by the library's cells.
+/// Where the words ask for a mapping of a network that is within the limits, the answer is that
+/// there is no cover exactly where some root has none: no tree that the laws derive for it has a
+/// cover by the library's cells.
 pub fn uncovered_roots_are_refused()
-    ensures { (words : List (List ℕ)) (files : Files) (options : Options) (certified : Bool) (cells : List CellParts) (model : Parsed) (a : Result (List ℕ) Refusal)
-        → AreRead words files options certified cells model → IsWithinLimits options model.network → IsAnswer words files a
-        → (status_in a ≡ 6) ↔ ((root : NetId) × Contains model.network.outputs root × IsUncovered options cells model.network model.starts root) }
+    ensures { (words : List (List ℕ)) (files : Files) (options : Options) (certified : Bool)
+        (cells : List CellParts) (model : Parsed) (a : Result (List ℕ) Refusal)
+        → AreRead words files options certified cells model → IsWithinLimits options model.network →
+        IsAnswer words files a
+        → (status_in a ≡ 6) ↔ ((root : NetId) × Contains model.network.outputs root ×
+        IsUncovered options cells model.network model.starts root) }
 {}
 
-/// What a mapping wrote with its certificate is accepted by a check over the same library and network, by the same options.
+/// What a mapping wrote with its certificate is accepted by a check over the same library and
+/// network, by the same options.
 pub fn written_mappings_are_accepted()
     ensures { (words checks : List (List ℕ)) (files others : Files) (text : List ℕ)
-        → IsCheckOf words files text checks others → IsAnswer words files (Ok text) → IsAnswer checks others (Ok yes_text) }
+        → IsCheckOf words files text checks others → IsAnswer words files (Ok text) →
+        IsAnswer checks others (Ok yes_text) }
 {}

@@ -16,6 +16,7 @@ mod sources;
 mod telling;
 mod texts;
 mod top;
+mod verilog;
 mod words;
 
 pub use lw_big::generate;

@@ -28,7 +28,8 @@ fn certificate_of(
     Ok(Some(certificate(alloc, &mapping.labels, &mapping.classes)?))
 }
 
-/// What a library and a model come to: the mapped netlist with what stands around it, or why there is none.
+/// What a library and a model come to: the mapped netlist with what stands around it, or why there
+/// is none.
 pub(crate) fn map_model(
     alloc: Global,
     library: Library,

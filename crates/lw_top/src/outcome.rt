@@ -6,16 +6,17 @@ ghost use Rattle.lw_top.specs.Words.{IsInRange};
 ghost use Rattle.lw_top.specs.Commands.{asked};
 ghost use Rattle.lw_top.specs.Answers.{IsAnswerTo};
 ghost use Rattle.lw_top.specs.Answered.{CanBeWritten};
-ghost use Rattle.lw_top.specs.Counts.{counts_text, sizes_text};
+ghost use Rattle.lw_top.specs.Counts.{counts_text, sizes_text, steps_text};
 ghost use Rattle.lw_top.specs.Outcome.{Meets, Writes, WritesText, IsReachedBy};
 
 use crate::answer::{Answer, respond};
-use crate::putting::{put_count, put_time};
+use crate::putting::{put_count, put_number, put_time};
 use crate::refusal::Refusal;
 use crate::words::Command;
 use lw_fixed::Micro;
 use lw_io::{Failed, Shelf, Sink, Waiting, end, put, write_all};
 use lw_mapped::write;
+use lw_verilog::write_verilog;
 use std::alloc::Global;
 
 /// What a run comes to.
@@ -35,7 +36,9 @@ pub fn serve<F: Shelf, O: Sink>(
 ) -> Outcome
     requires { IfSome (asked command) IsInRange }
     ensures words { (result ≡ Outcome.Refused Refusal.Words) ↔ (asked command.entry ≡ None) }
-    ensures meets { Meets (F.files shelf.old) (F.faults shelf.old) (F.faults shelf.new) O.taken O.is_finished O.faults out.old out.new (IsAnswerTo (asked command.entry)) result }
+    ensures meets { Meets (F.files shelf.old) (F.faults shelf.old)
+        (F.faults shelf.new) O.taken O.is_finished O.faults out.old out.new
+        (IsAnswerTo (asked command.entry)) result }
     ensures reached { IsReachedBy (F.files shelf.old) (asked command.entry) result }
     ensures files { F.files shelf.new ≡ F.files shelf.old }
     ensures read { F.faults shelf.old ≤ F.faults shelf.new }
@@ -68,7 +71,8 @@ fn written<O: Sink>(answer: Answer, out: &mut O) -> Outcome
 // Writes the text of an answer.
 fn write_text<O: Sink>(answer: Answer, out: &mut O) -> Result<(), Failed>
     requires { CanBeWritten answer }
-    ensures { WritesText (O.taken out.old) (O.faults out.old) (O.taken out.new) (O.faults out.new) answer result }
+    ensures { WritesText (O.taken out.old) (O.faults out.old) (O.taken out.new)
+        (O.faults out.new) answer result }
 {
     match answer {
         Answer::Mapping(library, netlist, frame, starts, certificate) => {
@@ -81,6 +85,7 @@ fn write_text<O: Sink>(answer: Answer, out: &mut O) -> Result<(), Failed>
                 out,
             )
         }
+        Answer::Verilog(library, netlist) => write_verilog(&netlist, &library, out),
         Answer::Yes => write_all(out, b"yes\n"),
         Answer::Times(library, netlist, timing) => timing.write(&netlist, &library, out),
         Answer::Values(network, vectors, mut sim) => sim.network(&network, &vectors, out),
@@ -88,14 +93,15 @@ fn write_text<O: Sink>(answer: Answer, out: &mut O) -> Result<(), Failed>
             sim.netlist(&netlist, &library, &vectors, out)
         }
         Answer::Counts(forms, classes, pairs) => write_counts(forms, classes, pairs, out),
-        Answer::Sizes(nodes, classes, gates, latest) => {
-            write_sizes(nodes, classes, gates, latest, out)
+        Answer::Sizes(nodes, classes, gates, latest, steps) => {
+            write_sizes(nodes, classes, gates, latest, steps, out)
         }
     }
 }
 
 fn write_counts<O: Sink>(forms: u32, classes: u32, pairs: u128, out: &mut O) -> Result<(), Failed>
-    ensures { IsTaken (O.taken out.old) (O.faults out.old) (O.taken out.new) (O.faults out.new) (counts_text forms classes pairs) result }
+    ensures { IsTaken (O.taken out.old) (O.faults out.old) (O.taken out.new) (O.faults out.new)
+        (counts_text forms classes pairs) result }
 {
     let mut waiting = Waiting::new();
     put_count(out, &mut waiting, b"forms ", u128::from(forms), b"\n");
@@ -104,14 +110,27 @@ fn write_counts<O: Sink>(forms: u32, classes: u32, pairs: u128, out: &mut O) -> 
     end(out, waiting)
 }
 
+// How often stored matches were read.
+fn put_steps<O: Sink>(out: &mut O, waiting: &mut Waiting, steps: Option<u64>)
+    ensures { Puts (O.taken out.old) (O.faults out.old) waiting.old (O.taken out.new)
+        (O.faults out.new) waiting.new (steps_text steps) }
+{
+    match steps {
+        None => put(out, waiting, b"none"),
+        Some(steps) => put_number(out, waiting, u128::from(steps)),
+    }
+}
+
 fn write_sizes<O: Sink>(
     nodes: u32,
     classes: u32,
     gates: u32,
     latest: Micro,
+    steps: Option<u64>,
     out: &mut O,
 ) -> Result<(), Failed>
-    ensures { IsTaken (O.taken out.old) (O.faults out.old) (O.taken out.new) (O.faults out.new) (sizes_text nodes classes gates latest.0) result }
+    ensures { IsTaken (O.taken out.old) (O.faults out.old) (O.taken out.new) (O.faults out.new)
+        (sizes_text nodes classes gates latest.0 steps) result }
 {
     let mut waiting = Waiting::new();
     put_count(out, &mut waiting, b"nodes ", u128::from(nodes), b"\n");
@@ -119,6 +138,9 @@ fn write_sizes<O: Sink>(
     put_count(out, &mut waiting, b"gates ", u128::from(gates), b"\n");
     put(out, &mut waiting, b"max ");
     put_time(out, &mut waiting, latest);
+    put(out, &mut waiting, b"\n");
+    put(out, &mut waiting, b"steps ");
+    put_steps(out, &mut waiting, steps);
     put(out, &mut waiting, b"\n");
     end(out, waiting)
 }

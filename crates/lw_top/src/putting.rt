@@ -9,7 +9,8 @@ use lw_io::{Sink, Waiting, put};
 
 /// A whole number.
 pub(crate) fn put_number<S: Sink>(sink: &mut S, waiting: &mut Waiting, number: u128)
-    ensures { Puts (S.taken sink.old) (S.faults sink.old) waiting.old (S.taken sink.new) (S.faults sink.new) waiting.new (decimal number) }
+    ensures { Puts (S.taken sink.old) (S.faults sink.old) waiting.old (S.taken sink.new)
+        (S.faults sink.new) waiting.new (decimal number) }
 {
     let mut digits = Buffer::new();
     put(sink, waiting, digits.format(number).as_bytes());
@@ -17,7 +18,8 @@ pub(crate) fn put_number<S: Sink>(sink: &mut S, waiting: &mut Waiting, number: u
 
 /// A time.
 pub(crate) fn put_time<S: Sink>(sink: &mut S, waiting: &mut Waiting, time: Micro)
-    ensures { Puts (S.taken sink.old) (S.faults sink.old) waiting.old (S.taken sink.new) (S.faults sink.new) waiting.new (decimal_text time.0) }
+    ensures { Puts (S.taken sink.old) (S.faults sink.old) waiting.old (S.taken sink.new)
+        (S.faults sink.new) waiting.new (decimal_text time.0) }
 {
     let mut text = [0; 21];
     let count = print(time, &mut text);
@@ -25,7 +27,8 @@ pub(crate) fn put_time<S: Sink>(sink: &mut S, waiting: &mut Waiting, time: Micro
 }
 
 pub(crate) fn put_two<S: Sink>(sink: &mut S, waiting: &mut Waiting, first: &[u8], second: &[u8])
-    ensures { Puts (S.taken sink.old) (S.faults sink.old) waiting.old (S.taken sink.new) (S.faults sink.new) waiting.new (first.now ++ second.now) }
+    ensures { Puts (S.taken sink.old) (S.faults sink.old) waiting.old (S.taken sink.new)
+        (S.faults sink.new) waiting.new (first.now ++ second.now) }
 {
     put(sink, waiting, first);
     put(sink, waiting, second);
@@ -38,7 +41,8 @@ pub(crate) fn put_three<S: Sink>(
     second: &[u8],
     third: &[u8],
 )
-    ensures { Puts (S.taken sink.old) (S.faults sink.old) waiting.old (S.taken sink.new) (S.faults sink.new) waiting.new (first.now ++ (second.now ++ third.now)) }
+    ensures { Puts (S.taken sink.old) (S.faults sink.old) waiting.old (S.taken sink.new)
+        (S.faults sink.new) waiting.new (first.now ++ (second.now ++ third.now)) }
 {
     put(sink, waiting, first);
     put_two(sink, waiting, second, third);
@@ -52,7 +56,8 @@ pub(crate) fn put_four<S: Sink>(
     third: &[u8],
     fourth: &[u8],
 )
-    ensures { Puts (S.taken sink.old) (S.faults sink.old) waiting.old (S.taken sink.new) (S.faults sink.new) waiting.new (first.now ++ (second.now ++ (third.now ++ fourth.now))) }
+    ensures { Puts (S.taken sink.old) (S.faults sink.old) waiting.old (S.taken sink.new)
+        (S.faults sink.new) waiting.new (first.now ++ (second.now ++ (third.now ++ fourth.now))) }
 {
     put(sink, waiting, first);
     put_three(sink, waiting, second, third, fourth);
@@ -66,7 +71,8 @@ pub(crate) fn put_count<S: Sink>(
     number: u128,
     behind: &[u8],
 )
-    ensures { Puts (S.taken sink.old) (S.faults sink.old) waiting.old (S.taken sink.new) (S.faults sink.new) waiting.new (before.now ++ (decimal number ++ behind.now)) }
+    ensures { Puts (S.taken sink.old) (S.faults sink.old) waiting.old (S.taken sink.new)
+        (S.faults sink.new) waiting.new (before.now ++ (decimal number ++ behind.now)) }
 {
     put(sink, waiting, before);
     put_number(sink, waiting, number);

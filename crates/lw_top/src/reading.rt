@@ -46,8 +46,10 @@ fn read_piece<F: Shelf>(
     ensures files { F.files shelf.new ≡ F.files shelf.old }
     ensures is_open { IsTrue (F.is_open shelf.new) }
     ensures later { F.faults shelf.old ≤ F.faults shelf.new }
-    ensures piece { IfOk result (ReadsPiece (F.left shelf.old) (F.left shelf.new) text.old.items text.new.items (length buf.old)) }
-    ensures failed { IfErr result (λ e. e ≡ ReadError.Failed → Rose (F.faults shelf.old) (F.faults shelf.new)) }
+    ensures piece { IfOk result (ReadsPiece (F.left shelf.old)
+        (F.left shelf.new) text.old.items text.new.items (length buf.old)) }
+    ensures failed { IfErr result (λ e. e ≡ ReadError.Failed →
+        Rose (F.faults shelf.old) (F.faults shelf.new)) }
 {
     let count = shelf.read(buf)?;
     text.extend_from_slice(&buf[..count])?;
@@ -60,9 +62,11 @@ fn read_all<F: Shelf>(alloc: Global, shelf: &mut F) -> Result<Option<Vec<u8>>, R
     ensures files { F.files shelf.new ≡ F.files shelf.old }
     ensures later { F.faults shelf.old ≤ F.faults shelf.new }
     ensures text { IfOk result (λ text. ForSome (F.left shelf.old) (λ bytes.
-        MatchOption text (MAX_LEN < length bytes) (λ text. (length bytes ≤ MAX_LEN) × (text.items ≡ bytes)))) }
+        MatchOption text (MAX_LEN < length bytes)
+        (λ text. (length bytes ≤ MAX_LEN) × (text.items ≡ bytes)))) }
     ensures few { IfOk result (λ text. IfSome text (λ v. vec_len v ≤ MAX_LEN)) }
-    ensures failed { IfErr result (λ e. e ≡ ReadError.Failed → Rose (F.faults shelf.old) (F.faults shelf.new)) }
+    ensures failed { IfErr result (λ e. e ≡ ReadError.Failed →
+        Rose (F.faults shelf.old) (F.faults shelf.new)) }
 {
     let mut text = Vec::new(alloc);
     let mut buf = [0; 4096];
@@ -87,7 +91,8 @@ pub fn read_file<F: Shelf>(
     ensures not_words { IfErr result (λ e. e ≢ Refusal.Words) }
     ensures blames { IfErr result (Blames which) }
     ensures few { IfOk result (λ v. vec_len v ≤ MAX_LEN) }
-    ensures reads { Reads (λ v. v.items) (F.files shelf.old) (F.faults shelf.old) (F.faults shelf.new) (gives (text_of which name.now)) result }
+    ensures reads { Reads (λ v. v.items) (F.files shelf.old) (F.faults shelf.old)
+        (F.faults shelf.new) (gives (text_of which name.now)) result }
 {
     let Ok(()) = shelf.open(name) else {
         return Err(Refusal::Unread(which));

@@ -7,6 +7,7 @@ use lw_genlib::LibKind;
 use lw_map::MapFault;
 use lw_mapped::MappedKind;
 use lw_pool::Name;
+use lw_verilog::{NoVerilog, VerilogKind};
 use std::alloc::AllocError;
 
 /// Which of the files.
@@ -14,6 +15,7 @@ use std::alloc::AllocError;
 pub enum Which {
     Library,
     Network,
+    /// The mapped netlist, as a mapped text or in Verilog.
     Mapped,
     Vectors,
 }
@@ -37,6 +39,8 @@ pub enum Refusal {
     Cycle(Name),
     /// The line of the mapped netlist, from 1, breaks this rule.
     Mapped(u32, MappedKind),
+    /// The line of the netlist in Verilog, from 1, breaks this rule.
+    Verilog(u32, VerilogKind),
     /// This net of the mapped netlist is driven twice.
     Twice(Name),
     /// Nothing drives this net of the mapped netlist.
@@ -53,6 +57,8 @@ pub enum Refusal {
     NoCover(Name),
     /// The mapped netlist is no fastest mapping of the network.
     No(Reason),
+    /// The mapped netlist has no text in Verilog.
+    NoVerilog(NoVerilog),
     /// Memory ran out.
     Memory,
 }

@@ -1,10 +1,11 @@
 // What the files of a command say.
 ghost use Rattle.std.specs.Prelude.{◌≡◌, ◌≢◌, ◌≤◌, ◌*◌, length, IfOk, IfErr};
+ghost use Rattle.lw_netlist.specs.Plain.{IsOver};
 ghost use Rattle.lw_blif.specs.BlifNetworks.{IsModel};
 ghost use Rattle.lw_mapped.specs.declared.closing.Mapped.{Mapped as MappedParts};
 ghost use Rattle.lw_report.specs.Standing.{inputs_of};
 ghost use Rattle.lw_top.specs.declared.refusal.Which.TheVariants as which;
-ghost use Rattle.lw_top.specs.Answers.{HasCells, HasModel, HasMapped, HasVectors, ReadsLibrary, ReadsModel, ReadsMapped, ReadsVectors};
+ghost use Rattle.lw_top.specs.Answers.{HasCells, HasModel, HasMapped, HasVerilog, HasVectors, ReadsLibrary, ReadsModel, ReadsMapped, ReadsVerilog, ReadsVectors};
 ghost use Rattle.lw_top.specs.Reading.{Reads, Blames};
 ghost use Rattle.lw_top.specs.Named.{Comes, values_in, IsReadNetlist, AreReadVectors};
 
@@ -16,8 +17,10 @@ use lw_genlib::{LibFault, LibReader, Library};
 use lw_io::Shelf;
 use lw_mapped::{Mapped, MappedFault, MappedReader};
 use lw_net::NetFault;
-use lw_netlist::NetlistFault;
+use lw_netlist::{Netlist, NetlistFault};
+use lw_pool::Bytes;
 use lw_report::{VectorFault, Vectors};
+use lw_verilog::{VerilogFault, read_verilog};
 use std::alloc::Global;
 
 // The library of a text.
@@ -44,7 +47,8 @@ pub(crate) fn read_library<F: Shelf>(
     ensures later { F.faults shelf.old ≤ F.faults shelf.new }
     ensures not_words { IfErr result (λ e. e ≢ Refusal.Words) }
     ensures blames { IfErr result (Blames which.Library) }
-    ensures reads { Reads (λ cells. cells) (F.files shelf.old) (F.faults shelf.old) (F.faults shelf.new) (ReadsLibrary name.now) result }
+    ensures reads { Reads (λ cells. cells) (F.files shelf.old) (F.faults shelf.old)
+        (F.faults shelf.new) (ReadsLibrary name.now) result }
 {
     let bytes = read_file(alloc, shelf, Which::Library, name)?;
     library_in(alloc, &bytes)
@@ -77,7 +81,8 @@ pub(crate) fn read_model<F: Shelf>(
     ensures later { F.faults shelf.old ≤ F.faults shelf.new }
     ensures not_words { IfErr result (λ e. e ≢ Refusal.Words) }
     ensures blames { IfErr result (Blames which.Network) }
-    ensures reads { Reads (λ model. model) (F.files shelf.old) (F.faults shelf.old) (F.faults shelf.new) (ReadsModel name.now) result }
+    ensures reads { Reads (λ model. model) (F.files shelf.old) (F.faults shelf.old)
+        (F.faults shelf.new) (ReadsModel name.now) result }
     ensures model { IfOk result IsModel }
 {
     let bytes = read_file(alloc, shelf, Which::Network, name)?;
@@ -115,11 +120,49 @@ pub(crate) fn read_mapped<F: Shelf>(
     ensures later { F.faults shelf.old ≤ F.faults shelf.new }
     ensures not_words { IfErr result (λ e. e ≢ Refusal.Words) }
     ensures blames { IfErr result (Blames which.Mapped) }
-    ensures reads { Reads (λ mapped. mapped) (F.files shelf.old) (F.faults shelf.old) (F.faults shelf.new) (ReadsMapped name.now library.now) result }
+    ensures reads { Reads (λ mapped. mapped) (F.files shelf.old) (F.faults shelf.old)
+        (F.faults shelf.new) (ReadsMapped name.now library.now) result }
     ensures kept { IfOk result (IsReadNetlist library.now) }
 {
     let bytes = read_file(alloc, shelf, Which::Mapped, name)?;
     mapped_in(alloc, library, &bytes)
+}
+
+// The netlist of a text in Verilog.
+fn netlist_in(alloc: Global, library: &Library, bytes: Bytes) -> Result<Netlist, Refusal>
+    requires { length bytes ≤ 67108864 }
+    ensures comes { Comes (λ netlist. netlist) (HasVerilog library.now bytes) result }
+    ensures over { IfOk result (IsOver library.now) }
+{
+    match read_verilog(alloc, &bytes, library) {
+        Ok(netlist) => Ok(netlist),
+        Err(VerilogFault::Line(line, kind)) => Err(Refusal::Verilog(line, kind)),
+        Err(VerilogFault::Whole(NetlistFault::Twice(name))) => Err(Refusal::Twice(name)),
+        Err(VerilogFault::Whole(NetlistFault::Undriven(name))) => Err(Refusal::Undriven(name)),
+        Err(VerilogFault::Whole(NetlistFault::Cycle(name))) => Err(Refusal::NetCycle(name)),
+        Err(VerilogFault::Whole(NetlistFault::Memory)) | Err(VerilogFault::Memory) => {
+            Err(Refusal::Memory)
+        }
+    }
+}
+
+/// The netlist of a file in Verilog, by the cells of a library.
+pub(crate) fn read_netlist<F: Shelf>(
+    alloc: Global,
+    library: &Library,
+    shelf: &mut F,
+    name: &str,
+) -> Result<Netlist, Refusal>
+    ensures files { F.files shelf.new ≡ F.files shelf.old }
+    ensures later { F.faults shelf.old ≤ F.faults shelf.new }
+    ensures not_words { IfErr result (λ e. e ≢ Refusal.Words) }
+    ensures blames { IfErr result (Blames which.Mapped) }
+    ensures reads { Reads (λ netlist. netlist) (F.files shelf.old) (F.faults shelf.old)
+        (F.faults shelf.new) (ReadsVerilog name.now library.now) result }
+    ensures over { IfOk result (IsOver library.now) }
+{
+    let bytes = read_file(alloc, shelf, Which::Mapped, name)?;
+    netlist_in(alloc, library, Bytes::new(bytes))
 }
 
 // The vectors of a text.
@@ -148,7 +191,8 @@ pub(crate) fn read_vectors<F: Shelf>(
     ensures later { F.faults shelf.old ≤ F.faults shelf.new }
     ensures not_words { IfErr result (λ e. e ≢ Refusal.Words) }
     ensures blames { IfErr result (Blames which.Vectors) }
-    ensures reads { Reads values_in (F.files shelf.old) (F.faults shelf.old) (F.faults shelf.new) (ReadsVectors name.now inputs) result }
+    ensures reads { Reads values_in (F.files shelf.old) (F.faults shelf.old) (F.faults shelf.new)
+        (ReadsVectors name.now inputs) result }
     ensures kept { IfOk result (AreReadVectors inputs) }
 {
     let bytes = read_file(alloc, shelf, Which::Vectors, name)?;

@@ -3,17 +3,18 @@ ghost use Rattle.std.specs.Prelude.{◌≡◌, ◌++◌, ◌∷◌, [], codes};
 ghost use Rattle.lw_io.specs.Waitings.{Puts, IsTaken};
 ghost use Rattle.lw_top.specs.Words.{file_word};
 ghost use Rattle.lw_top.specs.Commands.{asked};
-ghost use Rattle.lw_top.specs.Reasons.{reason_text};
+ghost use Rattle.lw_top.specs.Reasons.{reason_text, no_verilog_text};
 ghost use Rattle.lw_top.specs.Telling.{outcome_line, refusal_line, refusal_text, broken_text};
 
-use crate::kinds::{blif_text, lib_text, mapped_kind_text};
+use crate::kinds::{blif_text, lib_text, mapped_kind_text, verilog_kind_text};
 use crate::outcome::Outcome;
 use crate::putting::{put_four, put_number, put_three, put_two};
-use crate::reasons::put_reason;
+use crate::reasons::{put_no_verilog, put_reason};
 use crate::refusal::{Refusal, Which};
 use crate::words::{Command, file_word};
 use lw_check::Reason;
 use lw_io::{Failed, Sink, Waiting, end, put};
+use lw_verilog::NoVerilog;
 
 /// Writes the line of an outcome, if it has one.
 pub fn tell<E: Sink>(
@@ -21,7 +22,8 @@ pub fn tell<E: Sink>(
     outcome: &Outcome,
     err: &mut E,
 ) -> Result<(), Failed>
-    ensures { IsTaken (E.taken err.old) (E.faults err.old) (E.taken err.new) (E.faults err.new) (outcome_line (asked command.entry) outcome.now) result }
+    ensures { IsTaken (E.taken err.old) (E.faults err.old) (E.taken err.new) (E.faults err.new)
+        (outcome_line (asked command.entry) outcome.now) result }
 {
     let mut waiting = Waiting::new();
     put_outcome(command, outcome, err, &mut waiting);
@@ -34,7 +36,8 @@ fn put_outcome<E: Sink>(
     err: &mut E,
     waiting: &mut Waiting,
 )
-    ensures { Puts (E.taken err.old) (E.faults err.old) waiting.old (E.taken err.new) (E.faults err.new) waiting.new (outcome_line (asked command.entry) outcome.now) }
+    ensures { Puts (E.taken err.old) (E.faults err.old) waiting.old (E.taken err.new)
+        (E.faults err.new) waiting.new (outcome_line (asked command.entry) outcome.now) }
 {
     match outcome {
         Outcome::Done => put(err, waiting, b""),
@@ -49,7 +52,8 @@ fn put_line<E: Sink>(
     err: &mut E,
     waiting: &mut Waiting,
 )
-    ensures { Puts (E.taken err.old) (E.faults err.old) waiting.old (E.taken err.new) (E.faults err.new) waiting.new (refusal_line (asked command.entry) refusal.now) }
+    ensures { Puts (E.taken err.old) (E.faults err.old) waiting.old (E.taken err.new)
+        (E.faults err.new) waiting.new (refusal_line (asked command.entry) refusal.now) }
 {
     put(err, waiting, b"lwmap: ");
     put_refusal(command, refusal, err, waiting);
@@ -58,7 +62,8 @@ fn put_line<E: Sink>(
 
 // A line of a file breaks the rule of this text.
 fn put_broken<E: Sink>(err: &mut E, waiting: &mut Waiting, file: &[u8], number: u32, text: &[u8])
-    ensures { Puts (E.taken err.old) (E.faults err.old) waiting.old (E.taken err.new) (E.faults err.new) waiting.new (broken_text file.now number text.now) }
+    ensures { Puts (E.taken err.old) (E.faults err.old) waiting.old (E.taken err.new)
+        (E.faults err.new) waiting.new (broken_text file.now number text.now) }
 {
     put(err, waiting, file);
     put(err, waiting, b" line ");
@@ -74,7 +79,8 @@ fn put_refusal<E: Sink>(
     err: &mut E,
     waiting: &mut Waiting,
 )
-    ensures { Puts (E.taken err.old) (E.faults err.old) waiting.old (E.taken err.new) (E.faults err.new) waiting.new (refusal_text (asked command.entry) refusal.now) }
+    ensures { Puts (E.taken err.old) (E.faults err.old) waiting.old (E.taken err.new)
+        (E.faults err.new) waiting.new (refusal_text (asked command.entry) refusal.now) }
 {
     let library = file_word(command, Which::Library);
     let network = file_word(command, Which::Network);
@@ -97,6 +103,9 @@ fn put_refusal<E: Sink>(
         Refusal::Mapped(line, kind) => {
             put_broken(err, waiting, mapped, *line, mapped_kind_text(kind))
         }
+        Refusal::Verilog(line, kind) => {
+            put_broken(err, waiting, mapped, *line, verilog_kind_text(kind))
+        }
         Refusal::Twice(net) => put_four(err, waiting, mapped, NET, net.as_bytes(), TWICE),
         Refusal::Undriven(net) => put_four(err, waiting, mapped, NET, net.as_bytes(), UNDRIVEN),
         Refusal::NetCycle(net) => put_three(err, waiting, mapped, CYCLE, net.as_bytes()),
@@ -105,15 +114,25 @@ fn put_refusal<E: Sink>(
         Refusal::Splits => put(err, waiting, b"limit: more than 16777216 splits"),
         Refusal::NoCover(s) => put_two(err, waiting, b"no cover for output ", s.as_bytes()),
         Refusal::No(reason) => put_no(err, waiting, reason),
+        Refusal::NoVerilog(why) => put_unsaid(err, waiting, why),
         Refusal::Memory => put(err, waiting, b"out of memory"),
     }
 }
 
 fn put_no<E: Sink>(err: &mut E, waiting: &mut Waiting, reason: &Reason)
-    ensures { Puts (E.taken err.old) (E.faults err.old) waiting.old (E.taken err.new) (E.faults err.new) waiting.new (codes "no: " ++ reason_text reason.now) }
+    ensures { Puts (E.taken err.old) (E.faults err.old) waiting.old (E.taken err.new)
+        (E.faults err.new) waiting.new (codes "no: " ++ reason_text reason.now) }
 {
     put(err, waiting, b"no: ");
     put_reason(err, waiting, reason);
+}
+
+fn put_unsaid<E: Sink>(err: &mut E, waiting: &mut Waiting, why: &NoVerilog)
+    ensures { Puts (E.taken err.old) (E.faults err.old) waiting.old (E.taken err.new)
+        (E.faults err.new) waiting.new (codes "no verilog: " ++ no_verilog_text why.now) }
+{
+    put(err, waiting, b"no verilog: ");
+    put_no_verilog(err, waiting, why);
 }
 
 const TOO_LONG: &[u8] = b" has more than 67108864 bytes";
@@ -129,4 +148,4 @@ const TWICE: &[u8] = b" driven twice";
 const UNDRIVEN: &[u8] = b" not driven";
 
 const USAGE: &[u8] =
-    b"usage: map [-w K] [-i] [-c] LIB IN | check [-w K] [-i] LIB IN MAPPED | time LIB MAPPED | sim IN VECTORS | sim -g LIB MAPPED VECTORS | graph [-w K] [-i] IN | big SEED N LIB";
+    b"usage: map [-w K] [-i] [-c] LIB IN | check [-w K] [-i] LIB IN MAPPED | time LIB MAPPED | sim IN VECTORS | sim -g LIB MAPPED VECTORS | graph [-w K] [-i] IN | big SEED N LIB | verilog LIB MAPPED | unverilog LIB VER";

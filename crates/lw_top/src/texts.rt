@@ -24,7 +24,8 @@ pub trait TakesLines<C> {
 
     fn take_line(&mut self, over: &C, line: &Line)
         requires { accepts line.now }
-        ensures { (lines : List LogicalLine) → given self.old over.now lines → given self.new over.now (lines ++ line.now ∷ []) };
+        ensures { (lines : List LogicalLine) → given self.old over.now lines →
+            given self.new over.now (lines ++ line.now ∷ []) };
 }
 
 impl TakesLines<()> for LibReader {
@@ -78,8 +79,11 @@ impl TakesLines<u32> for Vectors {
 
 // Gives a reader the lines that are finished.
 fn give_lines<C, R: TakesLines<C>>(lines: &mut Lines, over: &C, reader: &mut R)
-    requires { (marked : Bool) × IsGivenSome (λ r ls. R.given r over.now ls) R.accepts marked lines.old reader.old }
-    ensures given { (marked : Bool) (all : List LogicalLine) (fed : List ℕ) → IsGiven (λ r ls. R.given r over.now ls) R.accepts marked lines.old reader.old all fed → IsGivenAll (λ r ls. R.given r over.now ls) R.accepts marked lines.new reader.new all fed }
+    requires { (marked : Bool) × IsGivenSome
+        (λ r ls. R.given r over.now ls) R.accepts marked lines.old reader.old }
+    ensures given { (marked : Bool) (all : List LogicalLine) (fed : List ℕ) →
+        IsGiven (λ r ls. R.given r over.now ls) R.accepts marked lines.old reader.old all fed →
+        IsGivenAll (λ r ls. R.given r over.now ls) R.accepts marked lines.new reader.new all fed }
     ensures count { fed_count lines.new ≡ fed_count lines.old }
     ensures finished { is_finished lines.new ≡ is_finished lines.old }
 {

@@ -10,6 +10,7 @@ ghost use Rattle.lw_top.specs.Reading.{Known};
 ghost use Rattle.lw_top.specs.Mappings.{AsksForMapping, AsksForCheck, IsMappingText, LacksOutput, IsCheckedMapping};
 ghost use Rattle.lw_top.specs.Outcome.{IsDone, IsCutShort, Meets, outcome_status};
 ghost use Rattle.lw_top.specs.Telling.{Told, outcome_line, refusal_line};
+ghost use Rattle.lw_top.specs.Complete.{IsComplete};
 ghost use Rattle.lw_top.specs.declared.outcome.Outcome.{Outcome};
 ghost use Rattle.lw_top.specs.declared.refusal.Refusal.{Refusal};
 
@@ -22,8 +23,9 @@ use std::alloc::Global;
 
 /// Does what the words ask for, and answers the exit status.
 ///
-/// It reads the files that the words name, one after another and each once. The whole answer stands before the first byte goes to
-/// `out`. At a status other than 0 it writes one line to `err`, whose faults change no status.
+/// It reads the files that the words name, one after another and each once. The whole answer stands
+/// before the first byte goes to `out`. At a status other than 0 it writes one line to `err`, whose
+/// faults change no status.
 pub fn run<F: Shelf, O: Sink, E: Sink>(
     alloc: Global,
     words: &Vec<String>,
@@ -35,56 +37,72 @@ pub fn run<F: Shelf, O: Sink, E: Sink>(
     ensures untouched { result ≢ 0 → result ≢ 7 → out.new ≡ out.old }
 
     // At 0 the whole text went out: over known files it is the answer's.
-    ensures done { result ≡ 0 → ((text : List ℕ) × Known (F.files shelf.old) (IsAnswer (map string_bytes words.now.items)) (Ok text)
+    ensures done { result ≡ 0 → ((text : List ℕ) ×
+        Known (F.files shelf.old) (IsAnswer (map string_bytes words.now.items)) (Ok text)
         × IsDone O.taken O.is_finished out.old out.new text) }
 
-    // At 0, over known files and where a mapping was asked for, that text is of a netlist of the library's cells, with the latches of the
-    // network's text. It gives each root, which is an output or what a latch reads, the network's value for all values of the inputs and
-    // of the latches' outputs, and brings it, counted from the inputs' arrivals, at the least time of all covers of all trees that the
-    // command's laws derive for it.
-    ensures mapping { (files : List File) → F.files shelf.old ≡ Some files → AsksForMapping (map string_bytes words.now.items) → result ≡ 0
-        → ((text : List ℕ) × IsMappingText (map string_bytes words.now.items) (bytes_of files) text × IsDone O.taken O.is_finished out.old out.new text) }
+    // At 0, over known files and where a mapping was asked for, that text is of a netlist of the
+    // library's cells, with the latches of the network's text. It gives each root, which is an
+    // output or what a latch reads, the network's value for all values of the inputs and of the
+    // latches' outputs, and brings it, counted from the inputs' arrivals, at the least time of all
+    // covers of all trees that the command's laws derive for it.
+    ensures mapping { (files : List File) → F.files shelf.old ≡ Some files →
+        AsksForMapping (map string_bytes words.now.items) → result ≡ 0
+        → ((text : List ℕ) × IsMappingText (map string_bytes words.now.items) (bytes_of files) text
+        × IsDone O.taken O.is_finished out.old out.new text) }
 
-    // At 6, over known files and where a mapping was asked for, no tree that the command's laws derive for the root whose name is told has
-    // a cover.
-    ensures no_cover { (files : List File) → F.files shelf.old ≡ Some files → AsksForMapping (map string_bytes words.now.items) → result ≡ 6
+    // At 6, over known files and where a mapping was asked for, no tree that the command's laws
+    // derive for the root whose name is told has a cover.
+    ensures no_cover { (files : List File) → F.files shelf.old ≡ Some files →
+        AsksForMapping (map string_bytes words.now.items) → result ≡ 6
         → ((name : List ℕ) × LacksOutput (map string_bytes words.now.items) (bytes_of files) name
-        × Told E.taken E.faults err.old err.new (refusal_line (command_of (map string_bytes words.now.items)) (Refusal.NoCover name))) }
+        × Told E.taken E.faults err.old err.new
+        (refusal_line (command_of (map string_bytes words.now.items)) (Refusal.NoCover name))) }
 
-    // At 0, over known files and where a check was asked for, the mapped netlist is such a mapping of the network, whoever wrote it.
-    ensures checked { (files : List File) → F.files shelf.old ≡ Some files → AsksForCheck (map string_bytes words.now.items) → result ≡ 0
+    // At 0, over known files and where a check was asked for, the mapped netlist is such a mapping
+    // of the network, whoever wrote it.
+    ensures checked { (files : List File) → F.files shelf.old ≡ Some files →
+        AsksForCheck (map string_bytes words.now.items) → result ≡ 0
         → IsCheckedMapping (map string_bytes words.now.items) (bytes_of files) }
 
     // At 7 the stream failed, and a prefix of the text that 0 would have written went out.
-    ensures cut_short { result ≡ 7 → ((text : List ℕ) × Known (F.files shelf.old) (IsAnswer (map string_bytes words.now.items)) (Ok text)
+    ensures cut_short { result ≡ 7 →
+        ((text : List ℕ) × Known (F.files shelf.old) (IsAnswer (map string_bytes words.now.items))
+        (Ok text)
         × IsCutShort O.taken O.faults out.old out.new text) }
 
     // A file was not read because the shelf failed, or because known files lack it.
     ensures unread { result ≡ 2 → (Rose (F.faults shelf.old) (F.faults shelf.new)
-        ⊎ ((files : List File) × (a : Result (List ℕ) Refusal) × (F.files shelf.old ≡ Some files) × IsAnswer (map string_bytes words.now.items) (bytes_of files) a × (status_in a ≡ 2))) }
+        ⊎ ((files : List File) × (a : Result (List ℕ) Refusal) × (F.files shelf.old ≡ Some files) ×
+        IsAnswer (map string_bytes words.now.items) (bytes_of files) a × (status_in a ≡ 2))) }
 
-    // At 2 the line names a file of the command whose turn had come: over known files each file that the command reads before it is there,
-    // and within its limit and its grammar.
-    ensures blamed { result ≡ 2 → ((command : Command) × (w : Which) × (command_of (map string_bytes words.now.items) ≡ Some command)
-        × ((files : List File) → F.files shelf.old ≡ Some files → IsReached command w (bytes_of files))
+    // At 2 the line names a file of the command whose turn had come: over known files each file
+    // that the command reads before it is there, and within its limit and its grammar.
+    ensures blamed { result ≡ 2 → ((command : Command) × (w : Which) ×
+        (command_of (map string_bytes words.now.items) ≡ Some command)
+        × ((files : List File) → F.files shelf.old ≡ Some files →
+        IsReached command w (bytes_of files))
         × Told E.taken E.faults err.old err.new (refusal_line (Some command) (Refusal.Unread w))) }
 
     // Words of no form are told as such, whatever the files.
     ensures words { (result ≡ 1) ↔ (command_of (map string_bytes words.now.items) ≡ None) }
 
-    // Over known files each other status but want of memory is the answer's.
-    ensures agrees { (files : List File) → F.files shelf.old ≡ Some files → result ≢ 2 → result ≢ 7 → result ≢ 8
-        → ((a : Result (List ℕ) Refusal) × IsAnswer (map string_bytes words.now.items) (bytes_of files) a × (result ≡ status_in a)) }
-
-    // Where nothing fails the status is the answer's, unless memory runs out.
+    // Over known files, whatever failed, a status other than 2, 7 and 8 is the answer's, and so is
+    // the line on `err`. Where nothing failed each status is, unless memory runs out.
     ensures complete { (files : List File) → F.files shelf.old ≡ Some files
-        → (Rose (F.faults shelf.old) (F.faults shelf.new) → ⊥) → (Rose (O.faults out.old) (O.faults out.new) → ⊥)
-        → ((a : Result (List ℕ) Refusal) × IsAnswer (map string_bytes words.now.items) (bytes_of files) a × (result ≡ status_in a)) ⊎ (result ≡ 8) }
+        → IsComplete (IsAnswer (map string_bytes words.now.items) (bytes_of files))
+        (command_of (map string_bytes words.now.items))
+        (Told E.taken E.faults err.old err.new) (Rose (F.faults shelf.old) (F.faults shelf.new))
+        (Rose (O.faults out.old) (O.faults out.new)) result }
 
-    // Some outcome has this status: it is what happened, and its line went to err, or a prefix where err failed.
+    // Some outcome has this status: it is what happened, and its line went to err, or a prefix
+    // where err failed.
     ensures told { (o : Outcome) × (result ≡ outcome_status o)
-        × Meets (F.files shelf.old) (F.faults shelf.old) (F.faults shelf.new) O.taken O.is_finished O.faults out.old out.new (IsAnswer (map string_bytes words.now.items)) o
-        × Told E.taken E.faults err.old err.new (outcome_line (command_of (map string_bytes words.now.items)) o) }
+        × Meets (F.files shelf.old) (F.faults shelf.old)
+        (F.faults shelf.new) O.taken O.is_finished O.faults out.old out.new
+        (IsAnswer (map string_bytes words.now.items)) o
+        × Told E.taken E.faults err.old err.new
+        (outcome_line (command_of (map string_bytes words.now.items)) o) }
 
     // The files stay, and no count of faults falls.
     ensures files { F.files shelf.new ≡ F.files shelf.old }
@@ -114,7 +132,9 @@ fn status_of(refusal: &Refusal) -> u8
         | Refusal::Twice(_)
         | Refusal::Undriven(_)
         | Refusal::NetCycle(_)
+        | Refusal::Verilog(..)
         | Refusal::Vector(_) => 10,
+        Refusal::NoVerilog(_) => 11,
     }
 }
 

@@ -2,7 +2,7 @@
 ghost use Rattle.std.specs.Prelude.{◌≡◌, None, Some, map, string_bytes, option_map, MatchOption};
 ghost use Rattle.std.specs.List.{list_all};
 ghost use Rattle.std.specs.Char.{is_ascii_digit};
-ghost use Rattle.lw_top.specs.Words.{width_of, is_file_word, two, three, one_file, two_files, three_files, with_mode, with_width, begun_by, is_numeral, number_of, seed_of, count_of, certified_of, mapping_begun, checking_begun, counting_begun, timing_of, simulation_of, drawing_of, named, command_of, file_word};
+ghost use Rattle.lw_top.specs.Words.{width_of, is_file_word, two, three, one_file, two_files, three_files, with_mode, with_width, begun_by, is_numeral, number_of, seed_of, count_of, certified_of, mapping_begun, checking_begun, counting_begun, timing_of, simulation_of, drawing_of, to_verilog_of, from_verilog_of, named, command_of, file_word};
 ghost use Rattle.lw_top.specs.Commands.{plain_begun, asked};
 ghost use Rattle.lw_map.specs.Options.{plain_options};
 
@@ -27,6 +27,10 @@ pub enum Command<'a> {
     Counting(Options, &'a str),
     /// A network drawn from a number, of so many nodes, mapped to cells of the library.
     Drawing(u64, u32, &'a str),
+    /// A mapped netlist, written in Verilog.
+    ToVerilog(&'a str, &'a str),
+    /// A netlist in Verilog, written as a mapped netlist.
+    FromVerilog(&'a str, &'a str),
 }
 
 fn is_file_word(word: &str) -> bool
@@ -36,7 +40,8 @@ fn is_file_word(word: &str) -> bool
 }
 
 fn one_file(words: &[String]) -> Option<&str>
-    ensures { MatchOption result (one_file (map string_bytes words.now) ≡ None) (λ a. one_file (map string_bytes words.now) ≡ Some a.now) }
+    ensures { MatchOption result (one_file (map string_bytes words.now) ≡ None)
+        (λ a. one_file (map string_bytes words.now) ≡ Some a.now) }
 {
     match words {
         [a] if is_file_word(a.as_str()) => Some(a.as_str()),
@@ -45,7 +50,8 @@ fn one_file(words: &[String]) -> Option<&str>
 }
 
 fn two_files(words: &[String]) -> Option<(&str, &str)>
-    ensures { MatchOption result (two_files (map string_bytes words.now) ≡ None) (λ files. two_files (map string_bytes words.now) ≡ Some (two files.0.now files.1.now)) }
+    ensures { MatchOption result (two_files (map string_bytes words.now) ≡ None)
+        (λ files. two_files (map string_bytes words.now) ≡ Some (two files.0.now files.1.now)) }
 {
     match words {
         [a, b] if is_file_word(a.as_str()) && is_file_word(b.as_str()) => {
@@ -56,7 +62,9 @@ fn two_files(words: &[String]) -> Option<(&str, &str)>
 }
 
 fn three_files(words: &[String]) -> Option<(&str, &str, &str)>
-    ensures { MatchOption result (three_files (map string_bytes words.now) ≡ None) (λ files. three_files (map string_bytes words.now) ≡ Some (three files.0.now files.1.now files.2.now)) }
+    ensures { MatchOption result (three_files (map string_bytes words.now) ≡ None)
+        (λ files. three_files (map string_bytes words.now)
+        ≡ Some (three files.0.now files.1.now files.2.now)) }
 {
     match words {
         [a, b, c]
@@ -246,6 +254,20 @@ fn drawing_of(words: &[String]) -> Option<Command<'_>>
     }
 }
 
+fn to_verilog_of(words: &[String]) -> Option<Command<'_>>
+    ensures { asked result ≡ to_verilog_of (two_files (map string_bytes words.now)) }
+{
+    let (library, mapped) = two_files(words)?;
+    Some(Command::ToVerilog(library, mapped))
+}
+
+fn from_verilog_of(words: &[String]) -> Option<Command<'_>>
+    ensures { asked result ≡ from_verilog_of (two_files (map string_bytes words.now)) }
+{
+    let (library, verilog) = two_files(words)?;
+    Some(Command::FromVerilog(library, verilog))
+}
+
 fn named<'a>(name: &str, words: &'a [String]) -> Option<Command<'a>>
     ensures { asked result ≡ named name.now (map string_bytes words.now) }
 {
@@ -256,6 +278,8 @@ fn named<'a>(name: &str, words: &'a [String]) -> Option<Command<'a>>
         "sim" => simulation_of(words),
         "graph" => counting_of(words),
         "big" => drawing_of(words),
+        "verilog" => to_verilog_of(words),
+        "unverilog" => from_verilog_of(words),
         _ => None,
     }
 }
@@ -281,7 +305,9 @@ pub fn file_word<'a>(command: Option<Command<'a>>, which: Which) -> &'a [u8]
                 | Command::Checking(_, library, _, _)
                 | Command::Timing(library, _)
                 | Command::GateSimulation(library, _, _)
-                | Command::Drawing(_, _, library),
+                | Command::Drawing(_, _, library)
+                | Command::ToVerilog(library, _)
+                | Command::FromVerilog(library, _),
             ),
             Which::Library,
         ) => library.as_bytes(),
@@ -298,7 +324,9 @@ pub fn file_word<'a>(command: Option<Command<'a>>, which: Which) -> &'a [u8]
             Some(
                 Command::Checking(_, _, _, mapped)
                 | Command::Timing(_, mapped)
-                | Command::GateSimulation(_, mapped, _),
+                | Command::GateSimulation(_, mapped, _)
+                | Command::ToVerilog(_, mapped)
+                | Command::FromVerilog(_, mapped),
             ),
             Which::Mapped,
         ) => mapped.as_bytes(),

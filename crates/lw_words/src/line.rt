@@ -8,7 +8,8 @@ pub struct Line {
     pub number: u32,
     /// Some word had more than 4,095 bytes.
     pub long: bool,
-    /// Its words, one or more: no word holds a blank or a line feed, and none but a first word `#@` holds `#`.
+    /// Its words, one or more: no word holds a blank or a line feed, and none but a first word `#@`
+    /// holds `#`.
     pub words: Words,
 }
 

@@ -55,7 +55,8 @@ impl Lines {
         requires unfinished { is_finished self.old ≡ false }
         requires room { fed_count self.old + length piece.now ≤ 67108865 }
         ensures stands { OnOk result
-            ((fed : List ℕ) (taken : ℕ) → StandsFor self.old fed taken → StandsFor self.new (fed ++ piece.now) taken) }
+            ((fed : List ℕ) (taken : ℕ) → StandsFor self.old fed taken →
+            StandsFor self.new (fed ++ piece.now) taken) }
         ensures count { OnOk result (fed_count self.new ≡ fed_count self.old + length piece.now) }
         ensures unfinished { OnOk result (is_finished self.new ≡ false) }
         ensures marked { OnOk result (is_marked self.new ≡ is_marked self.old) }
@@ -71,7 +72,8 @@ impl Lines {
     pub fn finish(&mut self) -> Result<(), AllocError>
         requires { is_finished self.old ≡ false }
         ensures stands { OnOk result
-            ((fed : List ℕ) (taken : ℕ) → StandsFor self.old fed taken → StandsFor self.new fed taken) }
+            ((fed : List ℕ) (taken : ℕ) → StandsFor self.old fed taken →
+            StandsFor self.new fed taken) }
         ensures count { OnOk result (fed_count self.new ≡ fed_count self.old) }
         ensures finished { OnOk result (is_finished self.new ≡ true) }
         ensures marked { OnOk result (is_marked self.new ≡ is_marked self.old) }
@@ -84,8 +86,10 @@ impl Lines {
 
     /// The next line, if one is finished. It takes no memory.
     pub fn take(&mut self) -> Option<Line>
-        ensures line { (fed : List ℕ) (taken : ℕ) → StandsFor self.old fed taken → result ≡ slice_get (lines_so_far self.old fed) taken }
-        ensures stands { (fed : List ℕ) (taken : ℕ) → StandsFor self.old fed taken → StandsFor self.new fed (taken + length (option_to_list result)) }
+        ensures line { (fed : List ℕ) (taken : ℕ) → StandsFor self.old fed taken →
+            result ≡ slice_get (lines_so_far self.old fed) taken }
+        ensures stands { (fed : List ℕ) (taken : ℕ) → StandsFor self.old fed taken →
+            StandsFor self.new fed (taken + length (option_to_list result)) }
         ensures count { fed_count self.new ≡ fed_count self.old }
         ensures finished { is_finished self.new ≡ is_finished self.old }
         ensures marked { is_marked self.new ≡ is_marked self.old }

@@ -51,7 +51,8 @@ fn plain(gathering: &mut Gathering, b: u8) -> Result<(), AllocError>
 pub fn over_plain(gathering: &mut Gathering, bytes: &[u8]) -> Result<usize, AllocError>
     ensures within { IfOk result (λ n. n ≤ length bytes.now) }
     ensures plain { IfOk result (λ n. All IsPlainByte (take n bytes.now)) }
-    ensures gathered { IfOk result (λ n. gathering.new ≡ over_bytes gathering.old (take n bytes.now)) }
+    ensures gathered { IfOk result
+        (λ n. gathering.new ≡ over_bytes gathering.old (take n bytes.now)) }
 {
     for (i, b) in bytes.iter().enumerate() {
         if !is_plain(*b) {
@@ -99,7 +100,8 @@ fn text(gathering: &mut Gathering, b: u8) -> Result<Place, AllocError>
 fn stroke(gathering: &mut Gathering, b: u8) -> Result<Place, AllocError>
     requires { b ≢ 10 }
     ensures place { IfOk result (λ p. p ≡ after_stroke b) }
-    ensures gathered { OnOk result (gathering.new ≡ over_stroke b gathering.old (with_byte 92 gathering.old)) }
+    ensures gathered { OnOk result
+        (gathering.new ≡ over_stroke b gathering.old (with_byte 92 gathering.old)) }
 {
     if b == b'#' {
         return Ok(Place::ContinuedComment);
@@ -115,7 +117,8 @@ fn stroke(gathering: &mut Gathering, b: u8) -> Result<Place, AllocError>
 fn gap(gathering: &mut Gathering, b: u8) -> Result<Place, AllocError>
     requires { b ≢ 10 }
     ensures place { IfOk result (λ p. p ≡ after_stroke b) }
-    ensures gathered { OnOk result (gathering.new ≡ over_stroke b gathering.old (ended (with_byte 92 gathering.old))) }
+    ensures gathered { OnOk result
+        (gathering.new ≡ over_stroke b gathering.old (ended (with_byte 92 gathering.old))) }
 {
     if b == b'#' {
         return Ok(Place::ContinuedComment);

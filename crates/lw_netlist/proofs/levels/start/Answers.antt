@@ -4,7 +4,6 @@ use Rattle.lw_netlist.proofs.levels.start.Goals as goal
 
 pub all-preserved : goal.all-preserved
 all-preserved c = record {
-  depths = c.in_ok-push-3.ensures.items ∙ (ap (λ l. l ++ 0 ∷ []) c.all.invariant.depths ∙ replicate_more c.all.s 0);
-  starts = c.in_ok-push-4.ensures.items ∙ (ap (λ l. l ++ c.all.s ∷ []) c.all.invariant.starts ∙ places_more c.all.s);
-  waiting = c.in_ok-push-5.ensures.items ∙ (ap (λ v. c.all.waiting.items ++ v ∷ []) c.empty.ensures ∙ (ap (λ l. l ++ [] ∷ []) c.all.invariant.waiting ∙ replicate_more c.all.s []));
+  depths = c.in_ok-push.ensures.items ∙ (ap (λ l. l ++ 0 ∷ []) c.all.invariant.depths ∙ replicate_more c.all.s 0);
+  starts = c.in_ok-push-2.ensures.items ∙ (ap (λ l. l ++ c.all.s ∷ []) c.all.invariant.starts ∙ places_more c.all.s);
 }

@@ -1,16 +1,9 @@
-use Rattle.std.proofs.Common.{◌≡◌, ◌++◌, [], replicate}
+use Rattle.std.proofs.Common.{◌≡◌, replicate}
 use Rattle.std.specs.List.{range_with_len}
 use Rattle.lw_netlist.proofs.levels.start.Given as goal
-
-abbrev pub invariant-ones : goal.invariant-ones
-invariant-ones l = l.heights.items ≡ replicate l._made 1
-
-abbrev pub invariant-zeros : goal.invariant-zeros
-invariant-zeros l = l.heights.items ≡ replicate l.inputs 1 ++ replicate l._made 0
 
 abbrev pub invariant-all : goal.invariant-all
 invariant-all l = record {
   depths : l.depths.items ≡ replicate l.s 0;
   starts : l.starts.items ≡ range_with_len 0 l.s;
-  waiting : l.waiting.items ≡ replicate l.s [];
 }

@@ -1,6 +1,6 @@
 use Rattle.std.proofs.Common.{◌≡◌, map, take, drop}
 use Rattle.lw_netlist.specs.Closing.{undriven_in}
-use Rattle.lw_netlist.specs.Numbered.{number_in}
+use Rattle.lw_dag.specs.Names.{number_in}
 use Rattle.lw_netlist.proofs.naming.numbers_of.Given as goal
 
 abbrev pub invariant-loop-name : goal.invariant-loop-name

@@ -1,12 +1,10 @@
-use Rattle.std.proofs.Common.{◌∙◌}
 use Rattle.std.proofs.lemmas.Result.{err_from_is_err_and}
 use Rattle.lw_map.specs.Options.{plain_options}
 use Rattle.lw_top.specs.declared.refusal.Which.TheVariants as which
-use Rattle.lw_top.specs.Steps.{followed_by}
 use Rattle.lw_top.specs.Words.{counting}
 use Rattle.lw_top.specs.Counts.{Counts}
 use Rattle.lw_top.specs.Answers.{ReadsModel}
-use Rattle.lw_top.proofs.Steps.{refused, refused_later}
+use Rattle.lw_top.proofs.Steps.{refused}
 use Rattle.lw_top.proofs.Answering.{file_refused, given_says, says_later, ends}
 use Rattle.lw_top.proofs.answer.count_files.Goals as goal
 

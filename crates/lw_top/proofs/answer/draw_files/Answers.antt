@@ -1,11 +1,9 @@
-use Rattle.std.proofs.Common.{◌∙◌}
 use Rattle.std.proofs.lemmas.Result.{err_from_is_err_and}
 use Rattle.lw_top.specs.declared.refusal.Which.TheVariants as which
-use Rattle.lw_top.specs.Steps.{followed_by}
 use Rattle.lw_top.specs.Words.{drawing}
 use Rattle.lw_top.specs.Counts.{Draws}
 use Rattle.lw_top.specs.Answers.{ReadsLibrary}
-use Rattle.lw_top.proofs.Steps.{refused, refused_later}
+use Rattle.lw_top.proofs.Steps.{refused}
 use Rattle.lw_top.proofs.Answering.{file_refused, given_says, says_later, ends}
 use Rattle.lw_top.proofs.answer.draw_files.Goals as goal
 

@@ -1,4 +1,3 @@
-use Rattle.std.proofs.Common.{◌∙◌}
 use Rattle.std.proofs.lemmas.Result.{err_from_is_err_and}
 use Rattle.lw_map.specs.Options.{plain_options}
 use Rattle.lw_top.specs.declared.refusal.Which.TheVariants as which

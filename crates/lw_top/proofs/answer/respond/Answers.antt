@@ -20,3 +20,9 @@ returns-in-Counting-clause-answered g c = rw c.in-Counting.is c.count_files.ensu
 
 pub returns-in-Drawing-clause-answered : goal.returns-in-Drawing-clause-answered
 returns-in-Drawing-clause-answered g c = rw c.in-Drawing.is c.draw_files.ensures.answered
+
+pub returns-in-ToVerilog-clause-answered : goal.returns-in-ToVerilog-clause-answered
+returns-in-ToVerilog-clause-answered g c = rw c.in-ToVerilog.is c.to_verilog_files.ensures.answered
+
+pub returns-in-FromVerilog-clause-answered : goal.returns-in-FromVerilog-clause-answered
+returns-in-FromVerilog-clause-answered g c = rw c.in-FromVerilog.is c.from_verilog_files.ensures.answered

@@ -24,6 +24,9 @@ returns-in-Cycle g c = rw c.in-Cycle.is (rw c.as_bytes-in-Cycle.ensures.bytes at
 pub returns-in-Mapped : goal.returns-in-Mapped
 returns-in-Mapped g c = rw c.in-Mapped.is (rw c.mapped_kind_text.ensures at (rw c.file_word-mapped.ensures at c.put_broken-in-Mapped.ensures))
 
+pub returns-in-Verilog : goal.returns-in-Verilog
+returns-in-Verilog g c = rw c.in-Verilog.is (rw c.verilog_kind_text.ensures at (rw c.file_word-mapped.ensures at c.put_broken-in-Verilog.ensures))
+
 pub returns-in-Twice : goal.returns-in-Twice
 returns-in-Twice g c = rw c.in-Twice.is (rw c.as_bytes-in-Twice.ensures.bytes at (rw c.file_word-mapped.ensures at c.put_four.ensures))
 
@@ -47,6 +50,9 @@ returns-in-NoCover g c = rw c.in-NoCover.is (rw c.as_bytes-in-NoCover.ensures.by
 
 pub returns-in-No : goal.returns-in-No
 returns-in-No g c = rw c.in-No.is c.put_no.ensures
+
+pub returns-in-NoVerilog : goal.returns-in-NoVerilog
+returns-in-NoVerilog g c = rw c.in-NoVerilog.is c.put_unsaid.ensures
 
 pub returns-in-Memory : goal.returns-in-Memory
 returns-in-Memory g c = rw c.in-Memory.is c.put-in-Memory.ensures

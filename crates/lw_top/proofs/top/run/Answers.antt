@@ -3,7 +3,7 @@ use Rattle.lw_top.specs.Words.{command_of}
 use Rattle.lw_top.specs.Answers.{IsAnswer}
 use Rattle.lw_top.specs.Telling.{Told}
 use Rattle.lw_top.proofs.InRange.{asked_in_range}
-use Rattle.lw_top.proofs.Whole.{unread, done, cut, agrees, complete}
+use Rattle.lw_top.proofs.Whole.{unread, done, cut, complete}
 use Rattle.lw_top.proofs.Headline.{done-maps, named-lacks}
 use Rattle.lw_top.proofs.Checked.{done_checked}
 use Rattle.lw_top.proofs.Reached.{blamed}
@@ -28,15 +28,11 @@ returns-clause-cut_short g c = λ is.
     let asks = rw c.deref.ensures.value at c.command_of-command.ensures in
     cut (g.F.Shelf.files c.args.shelf.now) (g.F.Shelf.faults c.args.shelf.now) (g.F.Shelf.faults c.serve-outcome.new.shelf) g.O.Sink.taken g.O.Sink.is_finished g.O.Sink.faults c.args.out.now c.serve-outcome.new.out (IsAnswer (map string_bytes c.args.words.now.items)) c.serve-outcome.result (rw asks at c.serve-outcome.ensures.meets) (sym c.status.ensures ∙ is)
 
-pub returns-clause-agrees : goal.returns-clause-agrees
-returns-clause-agrees g c = λ files is not_2 not_7 not_8.
-    let asks = rw c.deref.ensures.value at c.command_of-command.ensures in
-    agrees (g.F.Shelf.files c.args.shelf.now) (g.F.Shelf.faults c.args.shelf.now) (g.F.Shelf.faults c.serve-outcome.new.shelf) g.O.Sink.taken g.O.Sink.is_finished g.O.Sink.faults c.args.out.now c.serve-outcome.new.out (IsAnswer (map string_bytes c.args.words.now.items)) c.serve-outcome.result c.status.result files (rw asks at c.serve-outcome.ensures.meets) c.status.ensures is not_2 not_7 not_8
-
 pub returns-clause-complete : goal.returns-clause-complete
-returns-clause-complete g c = λ files is quiet steady.
+returns-clause-complete g c = λ files is.
     let asks = rw c.deref.ensures.value at c.command_of-command.ensures in
-    complete (g.F.Shelf.files c.args.shelf.now) (g.F.Shelf.faults c.args.shelf.now) (g.F.Shelf.faults c.serve-outcome.new.shelf) g.O.Sink.taken g.O.Sink.is_finished g.O.Sink.faults c.args.out.now c.serve-outcome.new.out (IsAnswer (map string_bytes c.args.words.now.items)) c.serve-outcome.result c.status.result files (rw asks at c.serve-outcome.ensures.meets) c.status.ensures is quiet steady
+    let said = told _ _ _ _ _ c.tell.result c.tell.ensures in
+    complete (g.F.Shelf.files c.args.shelf.now) (g.F.Shelf.faults c.args.shelf.now) (g.F.Shelf.faults c.serve-outcome.new.shelf) g.O.Sink.taken g.O.Sink.is_finished g.O.Sink.faults c.args.out.now c.serve-outcome.new.out (IsAnswer (map string_bytes c.args.words.now.items)) (command_of (map string_bytes c.args.words.now.items)) (Told g.E.Sink.taken g.E.Sink.faults c.args.err.now c.tell.new.err) c.status.result files c.serve-outcome.result (rw asks at c.serve-outcome.ensures.meets) c.status.ensures is (simp asks at said)
 
 pub returns-clause-mapping : goal.returns-clause-mapping
 returns-clause-mapping g c = λ files is asks_for zero.

@@ -4,7 +4,7 @@ use Rattle.lw_net.specs.Numbers.{draft_in}
 use Rattle.lw_net.specs.Ordering.{TellDepths}
 use Rattle.lw_net.specs.Written.{named_node, named_nodes, IsWithin}
 use Rattle.lw_net.proofs.Assembled.{of_order_distinct, of_order_few, of_order_kept, of_order_rises}
-use Rattle.lw_net.proofs.NamedOrder.{by_name, tell_numbered, rising_named, closed_by}
+use Rattle.lw_net.proofs.NamedOrder.{at_out, tell_numbered, rising_named, closed_by}
 use Rattle.lw_net.proofs.network.Network.of_written.Goals as goal
 
 pub of_ordered-requires-clause-names : goal.of_ordered-requires-clause-names
@@ -22,7 +22,7 @@ of_ordered-requires-clause-distinct c =
     let order = c.in_ok-nodes.nodes.items in
     let given = c.deref-2.result.now in
     of_order_distinct (draft_in c.args.w) c.in_ok-depths.depths.items given (named_nodes keys order) (named_nodes keys order) c.requires.draft c.in_ok-depths.ensures.right c.deref-2.ensures.value (IsPermutation-map (named_node keys) nodes order c.in_ok-nodes.ensures.permutation)
-    (λ depth tell. rising_named keys depth order (c.in_ok-nodes.ensures.rising (by_name keys depth) (tell_numbered keys depth given nodes tell))) refl
+    (λ depth tell. rising_named keys depth order (c.in_ok-nodes.ensures.rising (at_out keys depth) (tell_numbered keys depth given nodes tell))) refl
 
 pub of_ordered-requires-clause-few : goal.of_ordered-requires-clause-few
 of_ordered-requires-clause-few c =
@@ -31,7 +31,7 @@ of_ordered-requires-clause-few c =
     let order = c.in_ok-nodes.nodes.items in
     let given = c.deref-2.result.now in
     of_order_few (draft_in c.args.w) c.in_ok-depths.depths.items given (named_nodes keys order) (named_nodes keys order) c.requires.draft c.in_ok-depths.ensures.right c.deref-2.ensures.value (IsPermutation-map (named_node keys) nodes order c.in_ok-nodes.ensures.permutation)
-    (λ depth tell. rising_named keys depth order (c.in_ok-nodes.ensures.rising (by_name keys depth) (tell_numbered keys depth given nodes tell))) refl
+    (λ depth tell. rising_named keys depth order (c.in_ok-nodes.ensures.rising (at_out keys depth) (tell_numbered keys depth given nodes tell))) refl
 
 pub of_ordered-requires-clause-kept : goal.of_ordered-requires-clause-kept
 of_ordered-requires-clause-kept c =
@@ -40,7 +40,7 @@ of_ordered-requires-clause-kept c =
     let order = c.in_ok-nodes.nodes.items in
     let given = c.deref-2.result.now in
     of_order_kept (draft_in c.args.w) c.in_ok-depths.depths.items given (named_nodes keys order) (named_nodes keys order) c.requires.draft c.in_ok-depths.ensures.right c.deref-2.ensures.value (IsPermutation-map (named_node keys) nodes order c.in_ok-nodes.ensures.permutation)
-    (λ depth tell. rising_named keys depth order (c.in_ok-nodes.ensures.rising (by_name keys depth) (tell_numbered keys depth given nodes tell))) refl
+    (λ depth tell. rising_named keys depth order (c.in_ok-nodes.ensures.rising (at_out keys depth) (tell_numbered keys depth given nodes tell))) refl
 
 pub returns-clause-closed : goal.returns-clause-closed
 returns-clause-closed c =
@@ -49,7 +49,7 @@ returns-clause-closed c =
     let draft = draft_in c.args.w in
     let right = c.in_ok-depths.ensures.right in
     closed_by draft c.in_ok-depths.depths.items keys nodes c.in_ok-nodes.nodes.items c.in_ok-network.network refl right
-    (c.in_ok-nodes.ensures.order (by_name keys right.depth) (tell_numbered keys right.depth c.deref-2.result.now nodes (subst (λ l. TellDepths l draft.nodes right.depth) (sym c.deref-2.ensures.value) right.told)))
+    (c.in_ok-nodes.ensures.order (at_out keys right.depth) (tell_numbered keys right.depth c.deref-2.result.now nodes (subst (λ l. TellDepths l draft.nodes right.depth) (sym c.deref-2.ensures.value) right.told)))
     c.in_ok-network.ensures
 
 pub returns-clause-depths : goal.returns-clause-depths
@@ -59,4 +59,4 @@ returns-clause-depths c =
     let order = c.in_ok-nodes.nodes.items in
     let given = c.deref-2.result.now in
     of_order_rises (draft_in c.args.w) c.in_ok-depths.depths.items given (named_nodes keys order) (named_nodes keys order) c.requires.draft c.in_ok-depths.ensures.right c.deref-2.ensures.value (IsPermutation-map (named_node keys) nodes order c.in_ok-nodes.ensures.permutation)
-    (λ depth tell. rising_named keys depth order (c.in_ok-nodes.ensures.rising (by_name keys depth) (tell_numbered keys depth given nodes tell))) refl c.in_ok-network.network c.in_ok-network.ensures
+    (λ depth tell. rising_named keys depth order (c.in_ok-nodes.ensures.rising (at_out keys depth) (tell_numbered keys depth given nodes tell))) refl c.in_ok-network.network c.in_ok-network.ensures

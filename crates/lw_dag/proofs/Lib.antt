@@ -1,0 +1,8 @@
+pub mod Named
+pub mod Names
+pub mod Numbering
+pub mod Ordered
+pub mod Ranks
+pub mod Rising
+pub mod Searching
+pub mod Sorting

@@ -1,0 +1,18 @@
+use Rattle.std.proofs.Common.{◌≡◌, ◌+◌, [], refl, sym, subst, ◌∙◌, arith, Contains}
+use Rattle.std.proofs.lemmas.Bool.{false≢true}
+use Rattle.std.proofs.lemmas.List.{get_or_read}
+use Rattle.lw_dag.specs.Graphs.{fanins_at}
+use Rattle.lw_dag.proofs.Searching.{placed_no_cycle}
+use Rattle.lw_dag.proofs.Ranks.{clear_below}
+use Rattle.lw_dag.proofs.cycles.is_on_cycle.Goals as goal
+
+pub returns-then-heights-inputs-ne0 : goal.returns-then-heights-inputs-ne0
+returns-then-heights-inputs-ne0 c =
+    (λ is. absurd (false≢true is), λ path. absurd (placed_no_cycle c.args.inputs c.args.graph.now c.args.heights.now c.requires.heights.known c.args.p (omega arith) path))
+
+pub returns-then-are_below : goal.returns-then-are_below
+returns-then-are_below c =
+    let graph = c.args.graph.now in
+    let p = c.args.p in
+    let fanins : c.as_slice.result.now ≡ fanins_at graph p = c.as_slice.ensures ∙ get_or_read graph p c.index-graph-p.result c.requires.within c.index-graph-p.is [] in
+    (λ is. absurd (false≢true is), λ path. absurd (clear_below c.args.inputs graph c.args.ranks.now c.requires.ranks p (λ k among. c.are_below.ensures c.if-are_below.true k (subst (λ ns. Contains ns (c.args.inputs + k)) (sym fanins) among)) (c.args.inputs + p) path refl))

@@ -1,0 +1,70 @@
+use Rattle.std.proofs.Common.{◌≡◌, ◌<◌, ◌+◌, ◌++◌, ◌∷◌, [], length, get_or, refl, sym, ap, ◌∙◌, subst, arith, All, Contains}
+use Rattle.std.proofs.lemmas.List.{get_or_read}
+use Rattle.std.proofs.lemmas.List.Elements.{All-contains}
+use Rattle.lw_dag.specs.Graphs.{fanins_at, height_at, tallest}
+use Rattle.lw_dag.proofs.Rising.{rising_waits, rising_placed, rising_known, tallest_low, unknown-set}
+use Rattle.lw_dag.proofs.Ordered.{ordered_placed}
+use Rattle.lw_dag.proofs.levels.settle.Goals as goal
+
+pub overflow_add-height : goal.overflow_add-height
+overflow_add-height c =
+    let r = c.requires.rising in
+    let low = tallest_low c.args.levels.now.heights.items _ (length c.args.graph.now) c.as_slice-fanins.result.now r.low r.few in
+    let is = rw c.deref-in-None.ensures.value at c.tallest_of-height.ensures in
+    let l = c.args.levels.now in
+    let j = get_or c.args.list.now c.args.at 0 in
+    let node : j < length c.args.graph.now = c.requires.nodes c.args.at 0 c.requires.place in
+    let within : c.args.inputs + j < length l.heights.items = omega (arith, r.known.one_each) in
+    let read = get_or_read l.heights.items (c.args.inputs + j) c.index.result.now within c.index.ensures 0 in
+    let open_there = unknown-set l.heights.items (c.args.inputs + j) 1 within (sym read ∙ c.if-index-ne0.false) (omega arith) in
+    omega (arith, is, low, open_there)
+
+pub returns-then-index-ne0-clause-rising : goal.returns-then-index-ne0-clause-rising
+returns-then-index-ne0-clause-rising c =
+    let l = c.args.levels.now in
+    let j = get_or c.args.list.now c.args.at 0 in
+    let node : j < length c.args.graph.now = c.requires.nodes c.args.at 0 c.requires.place in
+    let within : c.args.inputs + j < length l.heights.items = omega (arith, c.requires.rising.known.one_each) in
+    let read = get_or_read l.heights.items (c.args.inputs + j) c.index.result.now within c.index.ensures 0 in
+    rising_known c.args.inputs c.args.graph.now l.heights.items l.waiting.items l.ready.items c.args.list.now c.args.at j c.requires.place refl (λ none. omega (arith, c.if-index-ne0.true, read, none)) c.requires.rising
+
+pub returns-in_ok-push-in-Some-clause-rising : goal.returns-in_ok-push-in-Some-clause-rising
+returns-in_ok-push-in-Some-clause-rising c =
+    let l = c.args.levels.now in
+    let j = get_or c.args.list.now c.args.at 0 in
+    let s = c.in-Some.s in
+    let graph = c.args.graph.now in
+    let node : j < length graph = c.requires.nodes c.args.at 0 c.requires.place in
+    let fanins : c.as_slice-fanins.result.now ≡ fanins_at graph j = c.as_slice-fanins.ensures ∙ get_or_read graph j c.index-graph-j.result node c.index-graph-j.is [] in
+    let among : Contains (fanins_at graph j) s = subst (λ ns. Contains ns s) fanins c.in-Some.ensures.among in
+    let within : s < c.args.inputs + length graph = All-contains (λ n. n < c.args.inputs + length graph) (fanins_at graph j) s (c.requires.graph j) among in
+    let in_waiting : s < length l.waiting.items = omega (arith, c.requires.rising.lists) in
+    let old = get_or_read l.waiting.items s c.index_mut-nodes.result.now in_waiting c.index_mut-nodes.ensures.value [] in
+    rising_waits c.args.inputs graph l.heights.items l.waiting.items l.ready.items c.args.list.now c.args.at j c.requires.place refl node c.requires.rising s c.push.new.self among (rw c.deref.ensures.value at c.in-Some.ensures.lacks) within (c.in_ok-push-in-Some.ensures.ok ∙ ap (λ ns. ns ++ j ∷ []) old)
+
+pub returns-in_ok-push-in-None-2-clause-rising : goal.returns-in_ok-push-in-None-2-clause-rising
+returns-in_ok-push-in-None-2-clause-rising c =
+    let l = c.args.levels.now in
+    let j = get_or c.args.list.now c.args.at 0 in
+    let graph = c.args.graph.now in
+    let node : j < length graph = c.requires.nodes c.args.at 0 c.requires.place in
+    let fanins : c.as_slice-fanins.result.now ≡ fanins_at graph j = c.as_slice-fanins.ensures ∙ get_or_read graph j c.index-graph-j.result node c.index-graph-j.is [] in
+    let within : c.args.inputs + j < length l.heights.items = omega (arith, c.requires.rising.known.one_each) in
+    let read = get_or_read l.heights.items (c.args.inputs + j) c.index.result.now within c.index.ensures 0 in
+    let none : height_at l.heights.items (c.args.inputs + j) ≡ 0 = sym read ∙ c.if-index-ne0.false in
+    let all = subst (All (λ s. 0 < height_at l.heights.items s)) fanins (rw c.deref.ensures.value at c.in-None.ensures.none) in
+    let is = (rw c.deref-in-None.ensures.value at c.tallest_of-height.ensures) ∙ ap (tallest l.heights.items) fanins in
+    rw c.in_ok-push-in-None.ensures.items (rising_placed c.args.inputs graph l.heights.items l.waiting.items l.ready.items c.args.list.now c.args.at j _ c.requires.place refl node c.requires.rising none all (ap (λ t. 1 + t) is))
+
+pub returns-in_ok-push-in-None-2-clause-ordered : goal.returns-in_ok-push-in-None-2-clause-ordered
+returns-in_ok-push-in-None-2-clause-ordered c =
+    let l = c.args.levels.now in
+    let j = get_or c.args.list.now c.args.at 0 in
+    let graph = c.args.graph.now in
+    let node : j < length graph = c.requires.nodes c.args.at 0 c.requires.place in
+    let fanins : c.as_slice-fanins.result.now ≡ fanins_at graph j = c.as_slice-fanins.ensures ∙ get_or_read graph j c.index-graph-j.result node c.index-graph-j.is [] in
+    let within : c.args.inputs + j < length l.heights.items = omega (arith, c.requires.rising.known.one_each) in
+    let read = get_or_read l.heights.items (c.args.inputs + j) c.index.result.now within c.index.ensures 0 in
+    let none : height_at l.heights.items (c.args.inputs + j) ≡ 0 = sym read ∙ c.if-index-ne0.false in
+    let all = subst (All (λ s. 0 < height_at l.heights.items s)) fanins (rw c.deref.ensures.value at c.in-None.ensures.none) in
+    rw c.in_ok-push-in-None-2.ensures.items (ordered_placed c.args.inputs graph l.heights.items l.order.items j _ (c.requires.graph j) node within none (omega arith) all c.requires.ordered)

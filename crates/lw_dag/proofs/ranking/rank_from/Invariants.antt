@@ -1,0 +1,10 @@
+use Rattle.std.proofs.Common.{◌+◌, ◌*◌, [], vec_len}
+use Rattle.lw_dag.specs.Rising.{unknown}
+use Rattle.lw_dag.specs.Ranking.{IsRanking}
+use Rattle.lw_dag.proofs.ranking.rank_from.Given as goal
+
+abbrev pub invariant-search : goal.invariant-search
+invariant-search l = IsRanking l.inputs l.graph l.rank l.ranks.items l.ready.items []
+
+abbrev pub decreases-search : goal.decreases-search
+decreases-search l = 2 * unknown l.ranks.items + vec_len l.ready

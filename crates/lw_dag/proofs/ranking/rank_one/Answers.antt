@@ -1,0 +1,31 @@
+use Rattle.std.proofs.Common.{◌≡◌, ◌<◌, ◌+◌, ◌-◌, ℕ, length, get_or, refl, ap, arith}
+use Rattle.std.proofs.lemmas.List.{get_or_read}
+use Rattle.lw_dag.specs.Ranking.{rank_at}
+use Rattle.lw_dag.proofs.Ranks.{ranking_known, ranking_given}
+use Rattle.lw_dag.proofs.ranking.rank_one.Goals as goal
+
+pub returns-then-s-inputs-clause-ranking : goal.returns-then-s-inputs-clause-ranking
+returns-then-s-inputs-clause-ranking c = λ graph ranking.
+    ranking_known c.args.inputs graph c.args.rank c.args.ranks.now.items c.args.ready.now.items c.args.fanins.now c.args.at (get_or c.args.fanins.now c.args.at 0) c.requires.some c.requires.place refl ranking (λ y is. absurd (omega (arith, c.if-s-inputs.true, is)))
+
+pub returns-then-index-ne0-clause-ranking : goal.returns-then-index-ne0-clause-ranking
+returns-then-index-ne0-clause-ranking c = λ graph ranking.
+    let s = get_or c.args.fanins.now c.args.at 0 in
+    let ranks = c.args.ranks.now.items in
+    let node : ℕ = s - c.args.inputs in
+    let in_range : s < c.args.inputs + length ranks = omega (arith, c.requires.signals c.args.at 0 c.requires.place) in
+    let within : node < length ranks = omega (arith, c.if-s-inputs.false) in
+    let read = get_or_read ranks node c.index.result.now within c.index.ensures 0 in
+    let has : 0 < rank_at ranks node = omega (arith, read, c.if-index-ne0.true) in
+    ranking_known c.args.inputs graph c.args.rank ranks c.args.ready.now.items c.args.fanins.now c.args.at s c.requires.some c.requires.place refl ranking (λ y is. let e : node ≡ y = omega (arith, is) in omega (arith, has, ap (rank_at ranks) e))
+
+pub returns-clause-ranking : goal.returns-clause-ranking
+returns-clause-ranking c = λ graph ranking.
+    let s = get_or c.args.fanins.now c.args.at 0 in
+    let ranks = c.args.ranks.now.items in
+    let node : ℕ = s - c.args.inputs in
+    let in_range : s < c.args.inputs + length ranks = omega (arith, c.requires.signals c.args.at 0 c.requires.place) in
+    let within : node < length ranks = omega (arith, c.if-s-inputs.false) in
+    let read = get_or_read ranks node c.index.result.now within c.index.ensures 0 in
+    let none : rank_at ranks node ≡ 0 = omega (arith, read, c.if-index-ne0.false) in
+    rw c.in_ok-push.ensures.items (ranking_given c.args.inputs graph c.args.rank ranks c.args.ready.now.items c.args.fanins.now c.args.at s c.requires.some c.requires.place refl ranking node (omega (arith, c.if-s-inputs.false)) within none)

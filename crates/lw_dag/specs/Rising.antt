@@ -1,0 +1,29 @@
+-- While heights are being found.
+use Rattle.std.specs.Prelude.{ℕ, ◌+◌, ◌<◌, ◌≤◌, ◌≡◌, ◌⊎◌, ◌==◌, count_by, List, [], length, slice_index_or, Contains, All}
+use Rattle.lw_dag.specs.Graphs.{fanins_at, height_at, AreKnown}
+
+-- how many heights aren't known
+abbrev pub unknown : List ℕ → ℕ
+unknown heights = count_by (λ h. h == 0) heights
+
+-- the nodes that wait for a signal
+abbrev pub waiting_at : List (List ℕ) → ℕ → List ℕ
+waiting_at waiting s = slice_index_or waiting s []
+
+-- the node waits for one of its fan-ins
+pub record IsHeld (waiting : List (List ℕ)) (fanins : List ℕ) (j : ℕ) : Type 0 where
+  pub signal : ℕ
+  pub among : Contains fanins signal
+  pub there : Contains (waiting_at waiting signal) j
+
+-- Each node that has no height waits for a fan-in, or is still to be looked at, and a signal that nodes wait for has no height, or is
+-- still to be told to them.
+pub record IsRising (inputs : ℕ) (graph : List (List ℕ)) (heights : List ℕ) (waiting : List (List ℕ)) (ready later : List ℕ) : Type 0 where
+  pub known : AreKnown inputs graph heights
+  pub lists : length waiting ≡ inputs + length graph
+  pub waits : (j : ℕ) → j < length graph → height_at heights (inputs + j) ≡ 0 → IsHeld waiting (fanins_at graph j) j ⊎ Contains later j
+  pub served : (s : ℕ) → 0 < height_at heights s → Contains ready s ⊎ (waiting_at waiting s ≡ [])
+  pub few : unknown heights ≤ length graph
+  pub low : (s : ℕ) → height_at heights s + unknown heights ≤ 1 + length graph
+  pub signals : All (λ s. s < inputs + length graph) ready
+  pub nodes : (s : ℕ) → All (λ j. j < length graph) (waiting_at waiting s)

@@ -1,0 +1,221 @@
+// The first node that leads to itself.
+ghost use Rattle.std.specs.Prelude.{◌≡◌, ◌+◌, ◌*◌, ◌<◌, ◌≤◌, ◌↔◌, [], ℕ, false, length, drop, replicate, vec_len, IsTrue, IfOk, IfSome, IfNone, OnOk, Contains, All};
+ghost use Rattle.lw_dag.specs.Graphs.{most_signals, IsGraph, fanins_at, height_at, AreHeights, IsStuck, Leads, IsFirst};
+ghost use Rattle.lw_dag.specs.Searching.{unseen, IsSearching};
+ghost use Rattle.lw_dag.specs.Ranking.{AreRanks};
+
+use crate::levels::open_fanin;
+use crate::ranking::{are_below, ranks};
+use lw_pool::Numbers;
+use std::alloc::{AllocError, Global};
+
+// The first node without a height.
+fn first_stuck(inputs: usize, heights: &[u32]) -> Option<usize>
+    requires { inputs ≤ length heights.now }
+    ensures within { IfSome result (λ j. inputs + j < length heights.now) }
+    ensures lacks { IfSome result (λ j. height_at heights.now (inputs + j) ≡ 0) }
+    ensures none { IfNone result ((j : ℕ) → inputs + j < length heights.now →
+        0 < height_at heights.now (inputs + j)) }
+{
+    for j in 0..heights.len() - inputs {
+        if heights[inputs + j] == 0 {
+            return Some(j);
+        }
+    }
+    None
+}
+
+// A fan-in without a height, as a node.
+fn stuck_fanin(inputs: usize, fanins: &[u32], heights: &[u32]) -> usize
+    requires signals { All (λ s. s < length heights.now) fanins.now }
+    requires given_ones { (s : ℕ) → s < inputs → height_at heights.now s ≡ 1 }
+    requires stuck { IsStuck heights.now fanins.now }
+    ensures among { Contains fanins.now (inputs + result) }
+    ensures lacks { height_at heights.now (inputs + result) ≡ 0 }
+{
+    match open_fanin(fanins, heights) {
+        Some(s) => s as usize - inputs,
+        None => unreachable!(),
+    }
+}
+
+// Nothing is seen yet.
+pub(crate) fn flags(alloc: Global, n: usize) -> Result<Vec<bool>, AllocError>
+    ensures { IfOk result (λ seen. seen.items ≡ replicate n false) }
+{
+    let mut seen = Vec::with_capacity(alloc, n)?;
+    for _made in 0..n {
+        seen.push(false)?;
+    }
+    Ok(seen)
+}
+
+// Goes from a node without a height to such a fan-in, until one comes again: it is on a cycle.
+fn on_cycle(
+    alloc: Global,
+    inputs: usize,
+    graph: &[Numbers],
+    heights: &[u32],
+    start: usize,
+) -> Result<usize, AllocError>
+    requires graph { IsGraph inputs graph.now }
+    requires heights { AreHeights inputs graph.now heights.now }
+    requires within { start < length graph.now }
+    requires lacks { height_at heights.now (inputs + start) ≡ 0 }
+    ensures within { IfOk result (λ p. p < length graph.now) }
+    ensures cycle { IfOk result (λ p. Leads inputs graph.now p (inputs + p)) }
+{
+    let mut seen = flags(alloc, graph.len())?;
+    let mut at = start;
+    'walk: while !seen[at] {
+        seen[at] = true;
+        at = stuck_fanin(inputs, graph[at].as_slice(), heights);
+    }
+    Ok(at)
+}
+
+// Notes one of the fan-ins, where it is a node that wasn't seen.
+fn note(
+    seen: &mut Vec<bool>,
+    ready: &mut Vec<u32>,
+    inputs: usize,
+    fanins: &[u32],
+    at: usize,
+) -> Result<(), AllocError>
+    requires place { at < length fanins.now }
+    requires signals { All (λ s. s < inputs + vec_len seen.old) fanins.now }
+    ensures searching { OnOk result
+        ((graph : _) (p : ℕ) → IsSearching inputs graph p seen.old.items ready.old.items
+        (drop at fanins.now) → IsSearching inputs graph p seen.new.items ready.new.items
+        (drop (at + 1) fanins.now)) }
+    ensures less { OnOk result (2 * unseen seen.new.items + vec_len ready.new ≤
+        2 * unseen seen.old.items + vec_len ready.old) }
+    ensures len { vec_len seen.new ≡ vec_len seen.old }
+{
+    let s = fanins[at];
+    if (s as usize) < inputs {
+        return Ok(());
+    }
+    let node = s as usize - inputs;
+    if seen[node] {
+        return Ok(());
+    }
+    ready.push(node as u32)?;
+    seen[node] = true;
+    Ok(())
+}
+
+// Notes all the fan-ins of a node.
+fn note_all(
+    seen: &mut Vec<bool>,
+    ready: &mut Vec<u32>,
+    inputs: usize,
+    fanins: &[u32],
+) -> Result<(), AllocError>
+    requires signals { All (λ s. s < inputs + vec_len seen.old) fanins.now }
+    ensures searching { OnOk result
+        ((graph : _) (p : ℕ) → IsSearching inputs graph p seen.old.items ready.old.items fanins.now
+        → IsSearching inputs graph p seen.new.items ready.new.items []) }
+    ensures less { OnOk result (2 * unseen seen.new.items + vec_len ready.new ≤
+        2 * unseen seen.old.items + vec_len ready.old) }
+    ensures len { vec_len seen.new ≡ vec_len seen.old }
+{
+    for at in 0..fanins.len() {
+        note(seen, ready, inputs, fanins, at)?;
+    }
+    Ok(())
+}
+
+// Whether a node leads to itself.
+fn leads_to_itself(
+    alloc: Global,
+    inputs: usize,
+    graph: &[Numbers],
+    p: usize,
+) -> Result<bool, AllocError>
+    requires graph { IsGraph inputs graph.now }
+    requires few { inputs + length graph.now ≤ most_signals }
+    requires within { p < length graph.now }
+    ensures { IfOk result (λ b. IsTrue b ↔ Leads inputs graph.now p (inputs + p)) }
+{
+    let mut seen = flags(alloc, graph.len())?;
+    let mut ready = Vec::new(alloc);
+    ready.push(p as u32)?;
+    'search: while let Some(x) = ready.pop() {
+        note_all(&mut seen, &mut ready, inputs, graph[x as usize].as_slice())?;
+    }
+    Ok(seen[p])
+}
+
+// Whether a node is on a cycle; one that has a height is not, nor is one whose fan-ins are all
+// below it.
+fn is_on_cycle(
+    alloc: Global,
+    inputs: usize,
+    graph: &[Numbers],
+    heights: &[u32],
+    ranks: &[usize],
+    p: usize,
+) -> Result<bool, AllocError>
+    requires graph { IsGraph inputs graph.now }
+    requires few { inputs + length graph.now ≤ most_signals }
+    requires heights { AreHeights inputs graph.now heights.now }
+    requires ranks { AreRanks inputs graph.now ranks.now }
+    requires within { p < length graph.now }
+    ensures { IfOk result (λ b. IsTrue b ↔ Leads inputs graph.now p (inputs + p)) }
+{
+    if heights[inputs + p] != 0 {
+        return Ok(false);
+    }
+    if are_below(ranks, inputs, graph[p].as_slice(), ranks[p]) {
+        return Ok(false);
+    }
+    leads_to_itself(alloc, inputs, graph, p)
+}
+
+// The first node that leads to itself, where some node has no height. By the ranks, only a node on
+// a cycle is searched from.
+fn first_behind(
+    alloc: Global,
+    inputs: usize,
+    graph: &[Numbers],
+    heights: &[u32],
+    start: usize,
+) -> Result<usize, AllocError>
+    requires graph { IsGraph inputs graph.now }
+    requires few { inputs + length graph.now ≤ most_signals }
+    requires heights { AreHeights inputs graph.now heights.now }
+    requires within { start < length graph.now }
+    requires lacks { height_at heights.now (inputs + start) ≡ 0 }
+    ensures { IfOk result (IsFirst inputs graph.now) }
+{
+    let last = on_cycle(alloc, inputs, graph, heights, start)?;
+    let ranks = ranks(alloc, inputs, graph)?;
+    for p in 0..last {
+        if is_on_cycle(alloc, inputs, graph, heights, &ranks, p)? {
+            return Ok(p);
+        }
+    }
+    Ok(last)
+}
+
+/// The first node that leads to itself, or `None` where each signal has a height. It works in time
+/// in proportion to the graph.
+pub fn first_on_cycle(
+    alloc: Global,
+    inputs: usize,
+    graph: &[Numbers],
+    heights: &[u32],
+) -> Result<Option<usize>, AllocError>
+    requires graph { IsGraph inputs graph.now }
+    requires few { inputs + length graph.now ≤ most_signals }
+    requires heights { AreHeights inputs graph.now heights.now }
+    ensures some { IfOk result (λ first. IfSome first (IsFirst inputs graph.now)) }
+    ensures none { IfOk result (λ first. IfNone first (All (λ h. 0 < h) heights.now)) }
+{
+    let Some(start) = first_stuck(inputs, heights) else {
+        return Ok(None);
+    };
+    let first = first_behind(alloc, inputs, graph, heights, start)?;
+    Ok(Some(first))
+}

@@ -1,0 +1,152 @@
+// Ranks of nodes, by which most nodes that are on no cycle are told without a search.
+ghost use Rattle.std.specs.Prelude.{◌≡◌, ◌+◌, ◌*◌, ◌<◌, ◌≤◌, [], ℕ, length, drop, replicate, vec_len, IsTrue, IfOk, OnOk, Contains, All};
+ghost use Rattle.lw_dag.specs.Graphs.{most_signals, IsGraph};
+ghost use Rattle.lw_dag.specs.Rising.{unknown};
+ghost use Rattle.lw_dag.specs.Ranking.{rank_at, AreRanks, IsRanking};
+
+use crate::turning::turned_order;
+use lw_pool::Numbers;
+use std::alloc::{AllocError, Global};
+
+// No node has a rank yet.
+fn zeros(alloc: Global, n: usize) -> Result<Vec<usize>, AllocError>
+    ensures { IfOk result (λ ranks. ranks.items ≡ replicate n 0) }
+{
+    let mut ranks = Vec::with_capacity(alloc, n)?;
+    for _made in 0..n {
+        ranks.push(0)?;
+    }
+    Ok(ranks)
+}
+
+// Gives the rank to one of the fan-ins, where it is a node that has none.
+fn rank_one(
+    ranks: &mut Vec<usize>,
+    ready: &mut Vec<u32>,
+    inputs: usize,
+    fanins: &[u32],
+    at: usize,
+    rank: usize,
+) -> Result<(), AllocError>
+    requires some { 0 < rank }
+    requires place { at < length fanins.now }
+    requires signals { All (λ s. s < inputs + vec_len ranks.old) fanins.now }
+    ensures ranking { OnOk result ((graph : _) →
+        IsRanking inputs graph rank ranks.old.items ready.old.items (drop at fanins.now) →
+        IsRanking inputs graph rank ranks.new.items ready.new.items (drop (at + 1) fanins.now)) }
+    ensures less { OnOk result (2 * unknown ranks.new.items + vec_len ready.new ≤
+        2 * unknown ranks.old.items + vec_len ready.old) }
+    ensures len { vec_len ranks.new ≡ vec_len ranks.old }
+{
+    let s = fanins[at];
+    if (s as usize) < inputs {
+        return Ok(());
+    }
+    let node = s as usize - inputs;
+    if ranks[node] != 0 {
+        return Ok(());
+    }
+    ready.push(node as u32)?;
+    ranks[node] = rank;
+    Ok(())
+}
+
+// Gives the rank to all the fan-ins of a node that have none.
+fn rank_all(
+    ranks: &mut Vec<usize>,
+    ready: &mut Vec<u32>,
+    inputs: usize,
+    fanins: &[u32],
+    rank: usize,
+) -> Result<(), AllocError>
+    requires some { 0 < rank }
+    requires signals { All (λ s. s < inputs + vec_len ranks.old) fanins.now }
+    ensures ranking { OnOk result ((graph : _) →
+        IsRanking inputs graph rank ranks.old.items ready.old.items fanins.now →
+        IsRanking inputs graph rank ranks.new.items ready.new.items []) }
+    ensures less { OnOk result (2 * unknown ranks.new.items + vec_len ready.new ≤
+        2 * unknown ranks.old.items + vec_len ready.old) }
+    ensures len { vec_len ranks.new ≡ vec_len ranks.old }
+{
+    for at in 0..fanins.len() {
+        rank_one(ranks, ready, inputs, fanins, at, rank)?;
+    }
+    Ok(())
+}
+
+// Gives a rank above all others to a node and to all that it leads to, but for those that have one.
+fn rank_from(
+    alloc: Global,
+    ranks: &mut Vec<usize>,
+    inputs: usize,
+    graph: &[Numbers],
+    p: usize,
+    rank: usize,
+) -> Result<(), AllocError>
+    requires graph { IsGraph inputs graph.now }
+    requires few { inputs + length graph.now ≤ most_signals }
+    requires within { p < length graph.now }
+    requires ranks { AreRanks inputs graph.now ranks.old.items }
+    requires above { (x : ℕ) → rank_at ranks.old.items x < rank }
+    ensures ranks { OnOk result (AreRanks inputs graph.now ranks.new.items) }
+    ensures low { OnOk result ((x : ℕ) → rank_at ranks.new.items x ≤ rank) }
+{
+    if ranks[p] != 0 {
+        return Ok(());
+    }
+    ranks[p] = rank;
+    let mut ready = Vec::new(alloc);
+    ready.push(p as u32)?;
+    'search: while let Some(x) = ready.pop() {
+        rank_all(
+            ranks,
+            &mut ready,
+            inputs,
+            graph[x as usize].as_slice(),
+            rank,
+        )?;
+    }
+    Ok(())
+}
+
+// Ranks of the nodes. By the order in which they are given, nodes share a rank only where each
+// leads to the other.
+pub(crate) fn ranks(
+    alloc: Global,
+    inputs: usize,
+    graph: &[Numbers],
+) -> Result<Vec<usize>, AllocError>
+    requires graph { IsGraph inputs graph.now }
+    requires few { inputs + length graph.now ≤ most_signals }
+    ensures { IfOk result (λ ranks. AreRanks inputs graph.now ranks.items) }
+{
+    let order = turned_order(alloc, inputs, graph)?;
+    let mut ranks = zeros(alloc, graph.len())?;
+    for i in 0..order.len() {
+        let p = order[order.len() - 1 - i];
+        rank_from(alloc, &mut ranks, inputs, graph, p as usize, i + 1)?;
+    }
+    Ok(ranks)
+}
+
+// Whether a signal is an input, or a node below a rank.
+fn is_below(ranks: &[usize], inputs: usize, s: u32, rank: usize) -> bool
+    requires { s < inputs + length ranks.now }
+    ensures { IsTrue result → (k : ℕ) → s ≡ inputs + k → rank_at ranks.now k < rank }
+{
+    (s as usize) < inputs || ranks[s as usize - inputs] < rank
+}
+
+// Whether that is so of some signals.
+pub(crate) fn are_below(ranks: &[usize], inputs: usize, fanins: &[u32], rank: usize) -> bool
+    requires { All (λ s. s < inputs + length ranks.now) fanins.now }
+    ensures { IsTrue result → (k : ℕ) → Contains fanins.now (inputs + k) →
+        rank_at ranks.now k < rank }
+{
+    for s in fanins {
+        if !is_below(ranks, inputs, *s, rank) {
+            return false;
+        }
+    }
+    true
+}

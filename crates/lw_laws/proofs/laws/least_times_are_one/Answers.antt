@@ -1,6 +1,0 @@
--- By the lemma.
-use Rattle.lw_laws.proofs.NetlistOnce.{least_time_once}
-use Rattle.lw_laws.proofs.laws.least_times_are_one.Goals as goal
-
-pub returns : goal.returns
-returns c = least_time_once

@@ -1,6 +1,0 @@
--- By the lemma.
-use Rattle.lw_laws.proofs.RoundLaws.{lowered_sound}
-use Rattle.lw_laws.proofs.laws.lowered_labels_are_sound.Goals as goal
-
-pub returns : goal.returns
-returns c = lowered_sound

@@ -1,6 +1,0 @@
--- By the lemma.
-use Rattle.lw_laws.proofs.PatternLaws.{trees_value}
-use Rattle.lw_laws.proofs.laws.patterns_have_the_function.Goals as goal
-
-pub returns : goal.returns
-returns c = trees_value

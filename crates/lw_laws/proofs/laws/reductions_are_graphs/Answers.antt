@@ -1,6 +1,0 @@
--- By the lemma.
-use Rattle.lw_laws.proofs.GraphEncodes.{reduction_is_graph}
-use Rattle.lw_laws.proofs.laws.reductions_are_graphs.Goals as goal
-
-pub returns : goal.returns
-returns c = λ mode width net d g wide facts. reduction_is_graph mode width net d g wide facts

@@ -1,6 +1,0 @@
--- By the lemma.
-use Rattle.lw_laws.proofs.ReductionOnce.{reduction_once}
-use Rattle.lw_laws.proofs.laws.reductions_are_one.Goals as goal
-
-pub returns : goal.returns
-returns c = reduction_once

@@ -1,6 +1,0 @@
--- By the lemma.
-use Rattle.lw_laws.proofs.Mapping.{unlabelled_root}
-use Rattle.lw_laws.proofs.laws.unlabelled_outputs_have_no_cover.Goals as goal
-
-pub returns : goal.returns
-returns c = unlabelled_root

@@ -1,0 +1,295 @@
+//! Laws about netlists and about the headline. Each function has an empty body; its clauses are the
+//! law.
+ghost use Rattle.lw_laws.specs.Costs.{Cost};
+ghost use Rattle.lw_laws.specs.Covers.{Timing, ArePatterns, Pattern};
+ghost use Rattle.lw_laws.specs.Decompositions.{Listing};
+ghost use Rattle.lw_laws.specs.Delays.{delay_cost};
+ghost use Rattle.lw_laws.specs.Encodings.{Encodes};
+ghost use Rattle.lw_laws.specs.Extracts.{AreDistinctLeaves, AreGateClasses, HaveLeafLabels, IsChosen, IsExtracted, IsNetOf, Match, class_at};
+ghost use Rattle.lw_laws.specs.Forms.{Form};
+ghost use Rattle.lw_laws.specs.Graphs.{Graph};
+ghost use Rattle.lw_laws.specs.Headline.{HasLeastArrival, HasLeastTime, HasNoCover, IsMapping, Ports, StandsForCover};
+ghost use Rattle.lw_laws.specs.Mapped.{AreRooted, IsCoverAt, IsLabelledOver, IsMapped, IsMappedOver, IsRootedAt, forms_of, root_class};
+ghost use Rattle.lw_laws.specs.MappedNetlists.{AreNetNames, ArePortNames, HasPorts, IsNetlistOf};
+ghost use Rattle.lw_laws.specs.Matches.{IsLeastCover};
+ghost use Rattle.lw_laws.specs.Modes.{Mode};
+ghost use Rattle.lw_laws.specs.Names.{AreDifferent, AreNameable, net_names};
+ghost use Rattle.lw_laws.specs.Netlists.{AreArrivals, AreByDepth, AreNetCosts, AreNetDepths, AreNetlistValues, AreOrdered, CellTruth, HaveCellTruths, Netlist};
+ghost use Rattle.lw_laws.specs.Networks.{AreValues, IsInOrder, Network};
+ghost use Rattle.lw_laws.specs.NumberedForms.{family_of};
+ghost use Rattle.lw_laws.specs.Rounds.{labels_in};
+ghost use Rattle.std.specs.Prelude.{◌++◌, ◌≡◌, ◌≤◌, ◌<◌, ◌^◌, ◌+◌, ℕ, List, Option, Bool, Some, None, map, length, slice_get, slice_index_or, min};
+
+// Netlists
+
+/// A netlist in order has a right assignment of values for all values of its inputs.
+pub fn some_netlist_values_are_right()
+    ensures { (n : Netlist) → AreOrdered n → (truth : CellTruth) (x : ℕ → Bool) →
+        (values : List Bool) × AreNetlistValues truth n x values }
+{}
+
+/// A netlist in order has no second right assignment.
+pub fn netlist_values_are_one()
+    ensures { (n : Netlist) → AreOrdered n →
+        (truth : CellTruth) (x : ℕ → Bool) (values others : List Bool) →
+        AreNetlistValues truth n x values → AreNetlistValues truth n x others → values ≡ others }
+{}
+
+/// A netlist in order has arrivals.
+pub fn some_arrivals_are_right()
+    ensures { (n : Netlist) → AreOrdered n → (timing : Timing) →
+        (arrivals : List ℕ) × AreArrivals timing n arrivals }
+{}
+
+/// A netlist in order has no second list of arrivals.
+pub fn arrivals_are_one()
+    ensures { (n : Netlist) → AreOrdered n → (timing : Timing) (arrivals others : List ℕ) →
+        AreArrivals timing n arrivals → AreArrivals timing n others → arrivals ≡ others }
+{}
+
+/// A netlist in order has costs of its nets.
+pub fn some_net_costs_are_right()
+    ensures { (n : Netlist) → AreOrdered n → (cost : Cost) → (costs : List ℕ) ×
+        AreNetCosts cost n costs }
+{}
+
+/// A netlist in order has no second list of costs of its nets.
+pub fn net_costs_are_one()
+    ensures { (n : Netlist) → AreOrdered n → (cost : Cost) (costs others : List ℕ) →
+        AreNetCosts cost n costs → AreNetCosts cost n others → costs ≡ others }
+{}
+
+/// A netlist in order has depths of its nets.
+pub fn some_net_depths_are_right()
+    ensures { (n : Netlist) → AreOrdered n → (depths : List ℕ) × AreNetDepths n depths }
+{}
+
+/// A netlist in order has no second list of depths of its nets.
+pub fn net_depths_are_one()
+    ensures { (n : Netlist) → AreOrdered n → (depths others : List ℕ) → AreNetDepths n depths →
+        AreNetDepths n others → depths ≡ others }
+{}
+
+/// A net of a netlist whose gates are matches stands for a cover of its class, has the value of the
+/// cover's tree, and arrives at the cover's time.
+pub fn mapped_nets_stand_for_covers()
+    ensures { (g : Graph) (pats : List Pattern) (timing : Timing) (truth : CellTruth) (n : Netlist)
+        (class : ℕ → ℕ) →
+        ArePatterns (map length timing.delays) pats →
+        HaveCellTruths (map length timing.delays) truth pats → AreOrdered n →
+        IsMapped g (map length timing.delays) pats n class → (net : ℕ) →
+        net < n.inputs + length n.gates → IsCoverAt g pats timing truth n class net }
+{}
+
+/// The chosen match of a class is one.
+pub fn chosen_matches_are_one()
+    ensures { (g : Graph) (cost : Cost) (pats : List Pattern) (labels : ℕ → Option ℕ)
+        (heights : ℕ → ℕ) (c : ℕ) (m k : Match) (p q : Pattern) →
+        IsChosen g cost pats labels heights c m p → IsChosen g cost pats labels heights c k q →
+        m ≡ k }
+{}
+
+/// The list of the classes with a gate is one.
+pub fn gate_classes_are_one()
+    ensures { (g : Graph) (cost : Cost) (pats : List Pattern) (labels : ℕ → Option ℕ)
+        (heights : ℕ → ℕ) (roots gates others : List ℕ) →
+        AreGateClasses g cost pats labels heights roots gates →
+        AreGateClasses g cost pats labels heights roots others → gates ≡ others }
+{}
+
+/// The netlist of the chosen matches is one, where the inputs' classes differ.
+pub fn extracted_netlists_are_one()
+    ensures { (g : Graph) (cost : Cost) (pats : List Pattern) (labels : ℕ → Option ℕ)
+        (heights : ℕ → ℕ) (roots gates : List ℕ) →
+        AreGateClasses g cost pats labels heights roots gates → AreDistinctLeaves g →
+        (n m : Netlist) → IsExtracted g cost pats labels heights gates n →
+        IsExtracted g cost pats labels heights gates m → n ≡ m }
+{}
+
+/// The netlist of the chosen matches is in order, and each gate is a match of its class with the
+/// classes of its pins.
+pub fn extracted_netlists_are_mapped()
+    ensures { (g : Graph) (cost : Cost) (pats : List Pattern) (labels : ℕ → Option ℕ)
+        (heights : ℕ → ℕ) (roots gates : List ℕ) →
+        AreGateClasses g cost pats labels heights roots gates → (n : Netlist) →
+        IsExtracted g cost pats labels heights gates n →
+        AreOrdered n × IsMapped g cost.pin_counts pats n (class_at g gates) }
+{}
+
+/// Each net of the netlist of the chosen matches costs the label of its class, where each input's
+/// class has its leaf's cost as its
+/// label.
+pub fn extracted_costs_are_labels()
+    ensures { (g : Graph) (cost : Cost) (pats : List Pattern) (labels : ℕ → Option ℕ)
+        (heights : ℕ → ℕ) (roots gates : List ℕ) (n : Netlist) (costs : List ℕ) →
+        AreGateClasses g cost pats labels heights roots gates →
+        IsExtracted g cost pats labels heights gates n → AreNetCosts cost n costs →
+        HaveLeafLabels g cost labels → (c net : ℕ) → IsNetOf g gates c net →
+        labels c ≡ Some (slice_index_or costs net 0) }
+{}
+
+/// The costs of nets under the delay cost are their arrivals, cut at the cap.
+pub fn net_costs_are_arrivals()
+    ensures { (timing : Timing) (cap : ℕ) (n : Netlist) (arrivals : List ℕ) →
+        AreArrivals timing n arrivals →
+        AreNetCosts (delay_cost timing cap) n (map (min cap) arrivals) }
+{}
+
+/// Each net of the netlist of the chosen matches arrives at the label of its class, where no label
+/// reaches the cap.
+pub fn extracted_arrivals_are_labels()
+    ensures { (g : Graph) (pats : List Pattern) (timing : Timing) (cap : ℕ) (labels : ℕ → Option ℕ)
+        (heights : ℕ → ℕ) (roots gates : List ℕ) (n : Netlist) (arrivals : List ℕ) →
+        AreGateClasses g (delay_cost timing cap) pats labels heights roots gates →
+        IsExtracted g (delay_cost timing cap) pats labels heights gates n →
+        AreArrivals timing n arrivals → HaveLeafLabels g (delay_cost timing cap) labels →
+        ((c l : ℕ) → labels c ≡ Some l → l < cap) → (c net : ℕ) → IsNetOf g gates c net →
+        labels c ≡ Some (slice_index_or arrivals net 0) }
+{}
+
+/// The names of the nets of a mapped netlist differ.
+pub fn net_names_differ()
+    ensures { (inputs outputs : List (List ℕ)) (leaves roots gates : List ℕ) →
+        AreNameable inputs outputs leaves roots gates →
+        AreDifferent (net_names inputs outputs roots gates) }
+{}
+
+/// A net with an output's name is at the output's class.
+pub fn outputs_own_their_names()
+    ensures { (inputs outputs : List (List ℕ)) (leaves roots gates : List ℕ) →
+        AreNameable inputs outputs leaves roots gates → length leaves ≡ length inputs →
+        (j k : ℕ) (name : List ℕ) → slice_get (net_names inputs outputs roots gates) j ≡ Some name →
+        slice_get outputs k ≡ Some name → slice_get (leaves ++ gates) j ≡ slice_get roots k }
+{}
+
+// The headline
+
+/// The arrival of an output of a mapped netlist is the least time of a library cover of a tree that
+/// the laws derive for it.
+pub fn mapped_outputs_are_least()
+    ensures { (mode : Mode) (width : ℕ) (net : Network) (g : Graph) (pats : List Pattern)
+        (timing : Timing) (cap : ℕ) (labels : List (Option ℕ)) (n : Netlist) (class : ℕ → ℕ)
+        (arrivals : List ℕ) →
+        IsMappedOver mode width net g pats timing cap labels n class →
+        AreArrivals timing n arrivals → (s k : ℕ) →
+        IsRootedAt width net g labels n class arrivals s k →
+        HasLeastArrival mode width net pats timing s (slice_index_or arrivals k 0) }
+{}
+
+/// An output of a mapped netlist has the network's value for all values of the inputs.
+pub fn mapped_outputs_have_values()
+    ensures { (mode : Mode) (width : ℕ) (net : Network) (g : Graph) (pats : List Pattern)
+        (timing : Timing) (cap : ℕ) (labels : List (Option ℕ)) (n : Netlist) (class : ℕ → ℕ)
+        (arrivals : List ℕ) (truth : CellTruth) →
+        IsInOrder net → IsMappedOver mode width net g pats timing cap labels n class →
+        HaveCellTruths (map length timing.delays) truth pats → AreArrivals timing n arrivals →
+        (x : ℕ → Bool) (values mapped : List Bool) → AreValues net x values →
+        AreNetlistValues truth n x mapped → (s k : ℕ) →
+        IsRootedAt width net g labels n class arrivals s k →
+        slice_get values s ≡ slice_get mapped k }
+{}
+
+/// The net of an output of a mapped netlist stands for a cover of a tree that the laws derive for
+/// the output, and arrives at the cover's time.
+pub fn mapped_outputs_stand_for_covers()
+    ensures { (mode : Mode) (width : ℕ) (net : Network) (g : Graph) (pats : List Pattern)
+        (timing : Timing) (cap : ℕ) (labels : List (Option ℕ)) (n : Netlist) (class : ℕ → ℕ)
+        (arrivals : List ℕ) →
+        IsMappedOver mode width net g pats timing cap labels n class →
+        AreArrivals timing n arrivals → (s k : ℕ) →
+        IsRootedAt width net g labels n class arrivals s k →
+        StandsForCover mode width net pats timing n s k (slice_index_or arrivals k 0) }
+{}
+
+/// Where the class of an output's sum of products has no label, no cover is of a tree that the laws
+/// derive for it.
+pub fn unlabelled_outputs_have_no_cover()
+    ensures { (mode : Mode) (width : ℕ) (net : Network) (g : Graph) (pats : List Pattern)
+        (timing : Timing) (cap : ℕ) (labels : List (Option ℕ)) →
+        IsLabelledOver mode width net g pats timing cap labels → (s : ℕ) →
+        s < net.inputs + length net.nodes → labels_in labels (root_class width net g s) ≡ None →
+        HasNoCover mode width net pats timing s }
+{}
+
+/// A netlist whose gates are matches, with each output at the class of the network's output and
+/// arriving at its label, is a mapping: it computes the network's outputs, each at the least time.
+pub fn rooted_netlists_are_mappings()
+    ensures { (mode : Mode) (width : ℕ) (net : Network) (g : Graph) (pats : List Pattern)
+        (timing : Timing) (cap : ℕ) (labels : List (Option ℕ)) (n : Netlist) (class : ℕ → ℕ)
+        (arrivals : List ℕ) (truth : CellTruth) (ports mapped : Ports) →
+        IsInOrder net → IsMappedOver mode width net g pats timing cap labels n class →
+        HaveCellTruths (map length timing.delays) truth pats → AreArrivals timing n arrivals →
+        AreRooted width net g labels n class arrivals ports mapped →
+        IsMapping mode width net ports pats timing truth n mapped }
+{}
+
+/// The least cost at the class of an output's sum of products, where it is below the cap, is the
+/// output's least arrival.
+pub fn least_labels_are_least_arrivals()
+    ensures { (mode : Mode) (width : ℕ) (net : Network) (g : Graph) (pats : List Pattern)
+        (timing : Timing) (cap : ℕ) →
+        2 ≤ width → Encodes (family_of mode (forms_of width net)) g → (s : ℕ) →
+        s < net.inputs + length net.nodes → (d : ℕ) → d < cap →
+        IsLeastCover g pats (delay_cost timing cap) (root_class width net g s) (Some d) →
+        HasLeastArrival mode width net pats timing s d }
+{}
+
+/// Where no cover stands at the class of an output's sum of products, the output has none.
+pub fn uncovered_classes_have_no_cover()
+    ensures { (mode : Mode) (width : ℕ) (net : Network) (g : Graph) (pats : List Pattern)
+        (timing : Timing) (cap : ℕ) →
+        2 ≤ width → Encodes (family_of mode (forms_of width net)) g → (s : ℕ) →
+        s < net.inputs + length net.nodes →
+        IsLeastCover g pats (delay_cost timing cap) (root_class width net g s) None →
+        HasNoCover mode width net pats timing s }
+{}
+
+/// The netlist that a network is mapped to has its ports and values, and the least arrivals.
+pub fn netlists_are_mappings()
+    ensures { (mode : Mode) (width : ℕ) (net : Network) (ports : Ports) (pats : List Pattern)
+        (timing : Timing) (cap : ℕ) (truth : CellTruth) (n : Netlist) (names : List (List ℕ))
+        (mapped : Ports) →
+        2 ≤ width → IsInOrder net → net.inputs < 2 ^ 32 → HasPorts net ports →
+        ArePatterns (map length timing.delays) pats →
+        HaveCellTruths (map length timing.delays) truth pats →
+        (is : IsNetlistOf mode width net ports pats timing cap n names mapped) →
+        ((c l : ℕ) → labels_in is.labels c ≡ Some l → l < cap) →
+        IsMapping mode width net ports pats timing truth n mapped }
+{}
+
+/// The names of the nets of the netlist that a network is mapped to differ, and a net with an
+/// output's name is that output's, where
+/// the names of the network's inputs and outputs tell them apart.
+pub fn mapped_nets_have_names()
+    ensures { (mode : Mode) (width : ℕ) (net : Network) (ports : Ports) (pats : List Pattern)
+        (timing : Timing) (cap : ℕ) (n : Netlist) (names : List (List ℕ)) (mapped : Ports) →
+        2 ≤ width → IsNetlistOf mode width net ports pats timing cap n names mapped →
+        ArePortNames net ports →
+        1 + (length n.gates + (length ports.inputs + length ports.outputs)) < 2 ^ 64 →
+        AreNetNames n names mapped }
+{}
+
+/// The gates of the netlist that a network is mapped to stand by depth.
+pub fn mapped_gates_are_by_depth()
+    ensures { (mode : Mode) (width : ℕ) (net : Network) (ports : Ports) (pats : List Pattern)
+        (timing : Timing) (cap : ℕ) (n : Netlist) (names : List (List ℕ)) (mapped : Ports) →
+        2 ≤ width → ArePatterns (map length timing.delays) pats →
+        IsNetlistOf mode width net ports pats timing cap n names mapped → AreByDepth n }
+{}
+
+/// A form has one least time.
+pub fn least_times_are_one()
+    ensures { (mode : Mode) (o : Listing) (pats : List Pattern) (timing : Timing) (f : Form)
+        (d e : ℕ) →
+        HasLeastTime mode o pats timing f d → HasLeastTime mode o pats timing f e → d ≡ e }
+{}
+
+/// The netlist that a network is mapped to is one, and so are the names of its nets and its ports.
+pub fn netlists_are_one()
+    ensures { (mode : Mode) (width : ℕ) (net : Network) (ports : Ports) (pats : List Pattern)
+        (timing : Timing) (cap : ℕ) (n m : Netlist) (names others : List (List ℕ))
+        (mapped also : Ports) →
+        2 ≤ width → IsNetlistOf mode width net ports pats timing cap n names mapped →
+        IsNetlistOf mode width net ports pats timing cap m others also →
+        (n ≡ m) × (names ≡ others) × (mapped ≡ also) }
+{}

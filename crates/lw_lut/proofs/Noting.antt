@@ -1,0 +1,65 @@
+-- Flags of classes that are needed.
+use Rattle.std.proofs.Common.{ℕ, zero, suc, ◌+◌, ◌<◌, ◌≤◌, ◌≡◌, ◌⊎◌, inl, inr, Bool, true, false, List, [], ◌∷◌, ◌++◌, length, take, replicate, get_or, Contains, slice_index_or, slice_set, refl, ap, sym, ◌∙◌, subst, arith, true≢false}
+use Rattle.std.proofs.lemmas.Bool.{cases_eq}
+use Rattle.std.proofs.lemmas.List.{length-set, length-replicate, get_or-set_same, get_or-set_other, map_push, take_more, take_all}
+use Rattle.std.proofs.lemmas.List.Elements.{Contains-push, Contains-push_cases, Contains-append_left}
+use Rattle.lw_pool.specs.declared.id.ClassId.{ClassId}
+use Rattle.lw_lut.specs.Cuts.{numbers}
+use Rattle.lw_lut.specs.Choosing.{AreRoots, HasAlso}
+
+pub also_none : (old : List Bool) → HasAlso old [] old
+also_none old = record { one_each = refl; are = λ c. (λ e. inl e, from c) }
+  where
+    from : (c : ℕ) → (slice_index_or old c false ≡ true) ⊎ Contains (numbers []) c → slice_index_or old c false ≡ true
+    from c (inl e) = e
+    from c (inr (k, lt, e)) = absurd (omega arith)
+
+also_push : (old now : List Bool) (cs : List ClassId) (c : ClassId) → c.0 < length now → HasAlso old cs now → HasAlso old (cs ++ c ∷ []) (slice_set now c.0 true)
+also_push old now cs c below has = record {
+  one_each = length-set now c.0 true ∙ has.one_each;
+  are = λ b. (to b (cases_eq b c.0), from b (cases_eq b c.0));
+}
+  where
+    same : numbers (cs ++ c ∷ []) ≡ numbers cs ++ c.0 ∷ []
+    same = map_push (λ (x : ClassId). x.0) cs c
+
+    to : (b : ℕ) → (b ≡ c.0) ⊎ (b ≡ c.0 → ⊥) → slice_index_or (slice_set now c.0 true) b false ≡ true → (slice_index_or old b false ≡ true) ⊎ Contains (numbers (cs ++ c ∷ [])) b
+    to b (inl e) s = inr (subst (λ ns. Contains ns b) (sym same) (subst (λ n. Contains (numbers cs ++ c.0 ∷ []) n) (sym e) (Contains-push (numbers cs) c.0)))
+    to b (inr other) s = by_case ((has.are b).0 (sym (get_or-set_other now c.0 b true false other) ∙ s))
+      where
+        by_case : (slice_index_or old b false ≡ true) ⊎ Contains (numbers cs) b → (slice_index_or old b false ≡ true) ⊎ Contains (numbers (cs ++ c ∷ [])) b
+        by_case (inl e) = inl e
+        by_case (inr k) = inr (subst (λ ns. Contains ns b) (sym same) (Contains-append_left (numbers cs) (c.0 ∷ []) b k))
+
+    from : (b : ℕ) → (b ≡ c.0) ⊎ (b ≡ c.0 → ⊥) → (slice_index_or old b false ≡ true) ⊎ Contains (numbers (cs ++ c ∷ [])) b → slice_index_or (slice_set now c.0 true) b false ≡ true
+    from b (inl e) s = ap (λ n. slice_index_or (slice_set now c.0 true) n false) e ∙ get_or-set_same now c.0 true false below
+    from b (inr other) (inl e) = get_or-set_other now c.0 b true false other ∙ (has.are b).1 (inl e)
+    from b (inr other) (inr k) = by_case (Contains-push_cases (numbers cs) c.0 b (subst (λ ns. Contains ns b) same k))
+      where
+        by_case : Contains (numbers cs) b ⊎ (c.0 ≡ b) → slice_index_or (slice_set now c.0 true) b false ≡ true
+        by_case (inl k) = get_or-set_other now c.0 b true false other ∙ (has.are b).1 (inr k)
+        by_case (inr e) = absurd (other (sym e))
+
+-- one more of some classes is noted
+pub also_more : (old now : List Bool) (cs : List ClassId) (i : ℕ) (d : ClassId) → i < length cs → (get_or cs i d).0 < length now → HasAlso old (take i cs) now → HasAlso old (take (i + 1) cs) (slice_set now (get_or cs i d).0 true)
+also_more old now cs i d lt below has =
+    subst (λ (xs : List ClassId). HasAlso old xs (slice_set now (get_or cs i d).0 true)) (sym (take_more cs i d lt)) (also_push old now (take i cs) (get_or cs i d) below has)
+
+pub also_all : (old now : List Bool) (cs : List ClassId) (i : ℕ) → length cs ≤ i → HasAlso old (take i cs) now → HasAlso old cs now
+also_all old now cs i le has = subst (λ (xs : List ClassId). HasAlso old xs now) (take_all i cs le) has
+
+none_noted : (n c : ℕ) → slice_index_or (replicate n false) c false ≡ false
+none_noted zero c = refl
+none_noted (suc n) zero = refl
+none_noted (suc n) (suc c) = none_noted n c
+
+-- flags of the roots alone
+pub roots_noted : (roots : List ClassId) (classes : ℕ) (needed : List Bool) → HasAlso (replicate classes false) roots needed → AreRoots roots classes needed
+roots_noted roots classes needed has = record {
+  one_each = has.one_each ∙ length-replicate classes false;
+  are = λ c. (λ e. by_case c ((has.are c).0 e), λ k. (has.are c).1 (inr k));
+}
+  where
+    by_case : (c : ℕ) → (slice_index_or (replicate classes false) c false ≡ true) ⊎ Contains (numbers roots) c → Contains (numbers roots) c
+    by_case c (inl e) = absurd (true≢false (sym e ∙ none_noted classes c))
+    by_case c (inr k) = k

@@ -1,0 +1,120 @@
+-- What a network of tables keeps.
+use Rattle.std.proofs.Common.{ℕ, zero, suc, ◌+◌, ◌<◌, ◌≡◌, ◌⊎◌, inl, inr, List, [], ◌∷◌, ◌++◌, length, take, get_or, All, Contains, Some, slice_get, ap, ap₂, sym, ◌∙◌, subst, arith}
+use Rattle.std.proofs.lemmas.List.{take_more, map-append}
+use Rattle.std.proofs.lemmas.List.Elements.{All-contains, Contains-append_left, Contains-append_right}
+use Rattle.std.proofs.lemmas.Option.{slice_get-get_or, slice_get_within, get_or_from_slice_get}
+use native.Mathlib.Decide.{dec_lt}
+use Rattle.lw_laws.proofs.Lists.{in_map}
+use Rattle.lw_laws.proofs.Numbers.{slice_get_map_back}
+use Rattle.lw_graph.proofs.Indexing.{map_back}
+use Rattle.lw_pool.specs.declared.id.ClassId.{ClassId}
+use Rattle.lw_laws.specs.Graphs.{Graph, Unfolds}
+use Rattle.lw_laws.specs.Extracts.{IsLeafClass}
+use Rattle.lw_lut.specs.Choosing.{AreTables, IsNeeded}
+use Rattle.lw_lut.specs.Choosing.IsNeeded.{by_root, by_fanin}
+use Rattle.lw_lut.specs.Covers.{TableCover, IsTableCover, tree_of, depth_of, IsLeastDepth}
+use Rattle.lw_lut.specs.Covers.TableCover.{wire, table}
+use Rattle.lw_lut.specs.Cuts.{numbers}
+use Rattle.lw_lut.specs.Depths.{DepthLists, AreLeastDepths}
+use Rattle.lw_lut.specs.Nets.{AreFit, IsTableNet, table_classes}
+use Rattle.lw_lut.specs.Searches.{depth_in, IsKnown}
+use Rattle.lw_lut.specs.declared.ports.TablePorts.{TablePorts}
+use Rattle.lw_lut.specs.declared.table.Table.{Table}
+use Rattle.lw_lut.proofs.RisingClasses.{contains_at}
+use Rattle.lw_lut.proofs.Sorting.{within_some}
+
+pub numbers_more : (xs : List ClassId) (leaves : List ℕ) (i : ℕ) (c : ClassId) → numbers xs ≡ take i leaves → slice_get leaves i ≡ Some c.0 → numbers (xs ++ c ∷ []) ≡ take (i + 1) leaves
+numbers_more xs leaves i c is at =
+    map-append (λ (x : ClassId). x.0) xs (c ∷ [])
+    ∙ (ap₂ (λ ys y. ys ++ y ∷ []) is (sym (get_or_from_slice_get leaves i c.0 0 at))
+    ∙ sym (take_more leaves i 0 (slice_get_within leaves i c.0 at)))
+
+split : (xs ys : List ℕ) (k c : ℕ) → slice_get (xs ++ ys) k ≡ Some c → (slice_get xs k ≡ Some c) ⊎ ((m : ℕ) × (slice_get ys m ≡ Some c) × (k ≡ length xs + m))
+split [] ys k c e = inr (k, e, omega arith)
+split (x ∷ xs) ys zero c e = inl e
+split (x ∷ xs) ys (suc k) c e = elim (split xs ys k c e) [ inl f ↦ inl f | inr (m, f, s) ↦ inr (m, f, omega (arith, s)) ]
+
+module _ (g : Graph) (most : ℕ) (lists : DepthLists) (least : AreLeastDepths g most lists) where
+  shallow : (c : ℕ) → depth_in lists.depths c ≡ Some 0 → IsLeafClass g c
+  shallow c at = by_cover (subst (λ o. IsLeastDepth g most c o) at (least.least c)).0
+    where
+      by_cover : (k : TableCover) × IsTableCover most k × Unfolds g (tree_of k) c × (depth_of k ≡ 0) → IsLeafClass g c
+      by_cover (wire i, ok, u, e) = (i, u)
+      by_cover (table p ks, ok, u, e) = absurd (omega (arith, e))
+
+  deep : (c d : ℕ) → depth_in lists.depths c ≡ Some (suc d) → IsLeafClass g c → ⊥
+  deep c d at (i, u) = let le = (subst (λ o. IsLeastDepth g most c o) at (least.least c)).1 (wire i) tt u in omega (arith, le)
+
+  module _ (ports : TablePorts) (fit : AreFit g ports) (covered : All (λ (root : ClassId). IsKnown lists.depths root.0) ports.roots) (tables : List Table) (are : AreTables g most lists.depths (numbers ports.roots) tables) where
+    table_at : (m c : ℕ) → slice_get (table_classes tables) m ≡ Some c → (t : Table) × (slice_get tables m ≡ Some t) × (t.out.0 ≡ c)
+    table_at m c e = slice_get_map_back (λ (t : Table). t.out.0) tables m c e
+
+    not_leaf : (m c : ℕ) → slice_get (table_classes tables) m ≡ Some c → IsLeafClass g c → ⊥
+    not_leaf m c e input = let (t, at, s) = table_at m c e in (are.needed t (contains_at tables m t at)).1 (subst (IsLeafClass g) (sym s) input)
+
+    not_before : (m n c : ℕ) → slice_get (table_classes tables) m ≡ Some c → slice_get (table_classes tables) n ≡ Some c → m < n → ⊥
+    not_before m n c e f lt =
+        let (t, at, s) = table_at m c e in
+        let (u, bt, r) = table_at n c f in
+        let d = are.each t (contains_at tables m t at) in
+        let other : depth_in lists.depths u.out.0 ≡ Some (suc d.depth) = ap (depth_in lists.depths) (r ∙ sym s) ∙ d.depth_is in
+        elim (are.sorted m n t u at bt lt (suc d.depth) (suc d.depth) d.depth_is other) [ inl l ↦ omega (arith, l) | inr (same, l) ↦ omega (arith, l, s, r) ]
+
+    pub classes_below : (i c : ℕ) → slice_get (table_classes tables) i ≡ Some c → c < length lists.depths
+    classes_below i c e =
+        let (t, at, s) = table_at i c e in
+        let d = are.each t (contains_at tables i t at) in
+        let below = within_some lists.depths t.out.0 (suc d.depth) d.depth_is in
+        omega (arith, below, s)
+
+    pub outs_below : All (λ (t : Table). t.out.0 < length lists.depths) tables
+    outs_below i z below =
+        let t = get_or tables i z in
+        let d = are.each t (contains_at tables i t (slice_get-get_or tables i z below)) in
+        within_some lists.depths t.out.0 (suc d.depth) d.depth_is
+
+    pub outs_apart : (i j c : ℕ) → slice_get (table_classes tables) i ≡ Some c → slice_get (table_classes tables) j ≡ Some c → i < j → ⊥
+    outs_apart = not_before
+
+    known : (c : ℕ) → IsNeeded (numbers ports.roots) tables c → IsKnown lists.depths c
+    known c (by_root k) = let (x, i, e) = map_back (λ (r : ClassId). r.0) ports.roots c k in subst (IsKnown lists.depths) e (All-contains (λ (r : ClassId). IsKnown lists.depths r.0) ports.roots x covered i)
+    known q (by_fanin t n k i) =
+        let (x, j, e) = map_back (λ (r : ClassId). r.0) t.fanins q i in
+        let (d, at, lt) = (are.each t k).below x j in
+        (d, ap (depth_in lists.depths) (sym e) ∙ at)
+
+    module _ (inputs : List ClassId) (leaves : numbers inputs ≡ g.leaves) (names : List (List ℕ)) where
+      in_net : (c : ℕ) → IsNeeded (numbers ports.roots) tables c → Contains (numbers inputs ++ table_classes tables) c
+      in_net c n = let (e, at) = known c n in by_depth e at
+        where
+          by_depth : (e : ℕ) → depth_in lists.depths c ≡ Some e → Contains (numbers inputs ++ table_classes tables) c
+          by_depth zero at =
+              let (i, u) = shallow c at in
+              Contains-append_left (numbers inputs) (table_classes tables) c (subst (λ xs. Contains xs c) (sym leaves) (contains_at g.leaves i c u))
+          by_depth (suc e) at =
+              let (t, k, s) = are.all c n (deep c e at) in
+              Contains-append_right (numbers inputs) (table_classes tables) c (subst (λ x. Contains (table_classes tables) x) s (in_map (λ (t : Table). t.out.0) tables t k))
+
+      once : (i j c : ℕ) → slice_get (numbers inputs ++ table_classes tables) i ≡ Some c → slice_get (numbers inputs ++ table_classes tables) j ≡ Some c → i ≡ j
+      once i j c e f = cases (split (numbers inputs) (table_classes tables) i c e) (split (numbers inputs) (table_classes tables) j c f)
+        where
+          leaf_at : (k : ℕ) → slice_get (numbers inputs) k ≡ Some c → slice_get g.leaves k ≡ Some c
+          leaf_at k at = subst (λ xs. slice_get xs k ≡ Some c) leaves at
+
+          cases : (slice_get (numbers inputs) i ≡ Some c) ⊎ ((m : ℕ) × (slice_get (table_classes tables) m ≡ Some c) × (i ≡ length (numbers inputs) + m)) → (slice_get (numbers inputs) j ≡ Some c) ⊎ ((m : ℕ) × (slice_get (table_classes tables) m ≡ Some c) × (j ≡ length (numbers inputs) + m)) → i ≡ j
+          cases (inl a) (inl b) = fit.apart i j c (leaf_at i a) (leaf_at j b)
+          cases (inl a) (inr (n, b, s)) = absurd (not_leaf n c b (i, leaf_at i a))
+          cases (inr (m, a, s)) (inl b) = absurd (not_leaf m c a (j, leaf_at j b))
+          cases (inr (m, a, s)) (inr (n, b, r)) = by_order (dec_lt m n) (dec_lt n m)
+            where
+              by_order : Dec (m < n) → Dec (n < m) → i ≡ j
+              by_order (yes lt) other = absurd (not_before m n c a b lt)
+              by_order (no ge) (yes lt) = absurd (not_before n m c b a lt)
+              by_order (no ge) (no le) = omega (arith, ge, le, s, r)
+
+      pub net_kept : IsTableNet (record { ports = ports; inputs = inputs; tables = tables; names = names })
+      net_kept = record {
+        once = once;
+        roots = λ c k. in_net c (by_root k);
+        fanins = λ t c k i. in_net c (by_fanin t (are.needed t k).0 k i);
+      }

@@ -1,0 +1,88 @@
+use Rattle.std.proofs.Common.{◌≡◌, ◌∙◌, ◌-◌, ◌<◌, suc, All, false, length, reverse, drop, get_or, sym, ap, subst, subst₂, arith}
+use Rattle.std.proofs.lemmas.List.{get_or_read}
+use Rattle.lw_pool.specs.declared.id.ClassId.{ClassId}
+use Rattle.lw_lut.specs.Choosing.{AreRoots, HasAlso}
+use Rattle.lw_lut.specs.declared.choosing.Place.{Place}
+use Rattle.lw_lut.proofs.Descent.{IsDown, down_start, drop_all, turn_class, turn_cut, turn_fanins, turn_skip, turn_take, turns_end}
+use Rattle.lw_lut.proofs.choosing.choose_down.Goals as goal
+
+abbrev none : Place
+none = record { depth = 0; class = record { 0 = 0 } }
+
+pub loop-k-init : goal.loop-k-init
+loop-k-init c =
+    let lists = c.args.depths.now in
+    let needed = c.in_ok-needed.needed.items in
+    let roots : AreRoots c.args.roots.now (length lists.depths) needed = subst (λ n. AreRoots c.args.roots.now n needed) c.len.ensures c.in_ok-needed.ensures in
+    record {
+      one_each = roots.one_each;
+      down = λ g most least. subst₂ (λ seen ups. IsDown g most lists.depths c.args.roots.now seen needed ups) (sym (drop_all c.args.places.now)) (ap reverse (sym c.new-tables.ensures.items)) (down_start g most lists.depths c.args.roots.now needed roots);
+    }
+
+pub index-requires : goal.index-requires
+index-requires c =
+    let (g, most, least) = c.requires.depths in
+    let k = c.loop-k.k - 1 in
+    let lt : k < length c.args.places.now = omega (arith, c.loop-k-test.true, c.loop-k.auto.k) in
+    let below = turn_class g most c.args.depths.now least c.args.roots.now c.args.places.now c.requires.places k none lt in
+    omega (arith, below, c.loop-k.invariant.one_each)
+
+pub cut-requires : goal.cut-requires
+cut-requires c =
+    let (g, most, least) = c.requires.depths in
+    let k = c.loop-k.k - 1 in
+    let lt : k < length c.args.places.now = omega (arith, c.loop-k-test.true, c.loop-k.auto.k) in
+    turn_cut g most c.args.depths.now least c.args.roots.now c.args.places.now c.requires.places k none lt
+
+pub need-requires : goal.need-requires
+need-requires c =
+    let (g, most, least) = c.requires.depths in
+    let k = c.loop-k.k - 1 in
+    let lt : k < length c.args.places.now = omega (arith, c.loop-k-test.true, c.loop-k.auto.k) in
+    let all = turn_fanins g most c.args.depths.now least c.args.roots.now c.args.places.now c.requires.places k none lt c.cut.result.now c.cut.ensures c.in_ok-table.table.fanins c.in_ok-table.ensures.same in
+    subst₂ (λ n xs. All (λ (x : ClassId). x.0 < n) xs) (sym c.loop-k.invariant.one_each) (sym c.as_slice.ensures) all
+
+pub loop-k-preserved-in-Continue-branch-3 : goal.loop-k-preserved-in-Continue-branch-3
+loop-k-preserved-in-Continue-branch-3 c =
+    let lists = c.args.depths.now in
+    let places = c.args.places.now in
+    let k = c.loop-k.k - 1 in
+    let lt : k < length places = omega (arith, c.loop-k-test.true, c.loop-k.auto.k) in
+    let next : suc k ≡ c.loop-k.k = let t = c.loop-k-test.true in omega (arith, t) in
+    let needed = c.loop-k.needed.items in
+    let new = c.need.new.needed.items in
+    let t = c.in_ok-table.table in
+    let also : HasAlso needed t.fanins new = subst (λ xs. HasAlso needed xs new) c.as_slice.ensures c.need.ensures in
+    record {
+      one_each = also.one_each ∙ c.loop-k.invariant.one_each;
+      down = λ g most least.
+          let below = turn_class g most lists least c.args.roots.now places c.requires.places k none lt in
+          let flag = sym (get_or_read needed (get_or places k none).class.0 c.index.result.now (omega (arith, below, c.loop-k.invariant.one_each)) c.index.ensures false) ∙ c.if-index.true in
+          let old = subst (λ n. IsDown g most lists.depths c.args.roots.now (drop n places) needed (reverse c.loop-k.tables.items)) (sym next) (c.loop-k.invariant.down g most least) in
+          turn_take g most lists least c.args.roots.now places c.requires.places k none lt needed new c.loop-k.tables.items c.push.new.self.items c.cut.result.now c.cut.ensures t c.in_ok-table.ensures.out c.in_ok-table.ensures.rising c.in_ok-table.ensures.same c.in_ok-table.ensures.few c.in_ok-table.ensures.bits flag also c.in_ok-push.ensures.items old;
+    }
+
+pub loop-k-preserved : goal.loop-k-preserved
+loop-k-preserved c =
+    let lists = c.args.depths.now in
+    let places = c.args.places.now in
+    let k = c.loop-k.k - 1 in
+    let lt : k < length places = omega (arith, c.loop-k-test.true, c.loop-k.auto.k) in
+    let next : suc k ≡ c.loop-k.k = let t = c.loop-k-test.true in omega (arith, t) in
+    let needed = c.loop-k.needed.items in
+    record {
+      one_each = c.loop-k.invariant.one_each;
+      down = λ g most least.
+          let below = turn_class g most lists least c.args.roots.now places c.requires.places k none lt in
+          let flag = sym (get_or_read needed (get_or places k none).class.0 c.index.result.now (omega (arith, below, c.loop-k.invariant.one_each)) c.index.ensures false) ∙ c.if-index.false in
+          let old = subst (λ n. IsDown g most lists.depths c.args.roots.now (drop n places) needed (reverse c.loop-k.tables.items)) (sym next) (c.loop-k.invariant.down g most least) in
+          turn_skip g most lists least c.args.roots.now places c.requires.places k none needed c.loop-k.tables.items lt flag old;
+    }
+
+pub returns : goal.returns
+returns c = λ g most least covered.
+    let lists = c.args.depths.now in
+    let places = c.args.places.now in
+    let end : c.loop-k.k ≡ 0 = let f = c.loop-k-test.false in omega (arith, f) in
+    let old = subst (λ n. IsDown g most lists.depths c.args.roots.now (drop n places) c.loop-k.needed.items (reverse c.loop-k.tables.items)) end (c.loop-k.invariant.down g most least) in
+    turns_end g most lists least c.args.roots.now places c.requires.places c.loop-k.needed.items c.loop-k.tables.items covered old

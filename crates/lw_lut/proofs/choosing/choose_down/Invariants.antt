@@ -1,0 +1,11 @@
+use Rattle.std.proofs.Common.{◌≡◌, ℕ, length, reverse, drop}
+use Rattle.lw_laws.specs.Graphs.{Graph}
+use Rattle.lw_lut.specs.Depths.{AreLeastDepths}
+use Rattle.lw_lut.proofs.Descent.{IsDown}
+use Rattle.lw_lut.proofs.choosing.choose_down.Given as goal
+
+abbrev pub invariant-loop-k : goal.invariant-loop-k
+invariant-loop-k l = record {
+  one_each : length l.needed.items ≡ length l.depths.depths;
+  down : (g : Graph) (most : ℕ) → AreLeastDepths g most l.depths → IsDown g most l.depths.depths l.roots (drop l.k l.places) l.needed.items (reverse l.tables.items);
+}

@@ -1,0 +1,9 @@
+use Rattle.std.proofs.Common.{◌≡◌, ◌++◌, take}
+use Rattle.lw_lut.specs.Packed.{joined_bits}
+use Rattle.lw_lut.proofs.cut.joined.Given as goal
+
+abbrev pub invariant-loop-pin : goal.invariant-loop-pin
+invariant-loop-pin l = record {
+  pins : l.cut.pins ≡ l.x.pins ++ take l.pin-index l.pin-items;
+  bits : l.cut.bits ≡ joined_bits l.x l.fn.left.0 l.y l.fn.right.0 l.fn.class.0;
+}

@@ -1,0 +1,69 @@
+-- The needed classes, each with its table, and how they are found from the deepest down.
+use Rattle.std.specs.Prelude.{ℕ, suc, ◌+◌, ◌*◌, ◌^◌, ◌<◌, ◌≡◌, ◌⊎◌, ◌↔◌, Bool, true, false, List, Contains, length, Option, Some, slice_get, slice_index_or}
+use Rattle.lw_pool.specs.declared.id.ClassId.{ClassId}
+use Rattle.lw_laws.specs.Graphs.{Graph}
+use Rattle.lw_laws.specs.Extracts.{IsLeafClass}
+use Rattle.lw_lut.specs.Cuts.{numbers}
+use Rattle.lw_lut.specs.Searches.{depth_in, IsBelow}
+use Rattle.lw_lut.specs.Tables.{IsTableAt, AreRisingClasses}
+use Rattle.lw_lut.specs.declared.table.Table.{Table}
+use Rattle.lw_lut.specs.declared.choosing.Place.{Place}
+
+-- the least set that has the roots and the fan-ins of the tables of classes in it
+pub data IsNeeded (roots : List ℕ) (tables : List Table) : ℕ → Type 0 where
+  by_root : {c : ℕ} → Contains roots c → IsNeeded roots tables c
+  by_fanin : {q : ℕ} (t : Table) → IsNeeded roots tables t.out.0 → Contains tables t → Contains (numbers t.fanins) q → IsNeeded roots tables q
+
+-- A table of at most so many fan-ins that stands at its class, with fan-ins that are less deep than the class.
+pub record IsTable (g : Graph) (most : ℕ) (depths : List (Option ℕ)) (t : Table) : Type 0 where
+  pub at : IsTableAt g most t.out.0 (numbers t.fanins) t.bits
+  pub few : length t.fanins < suc most
+  pub rising : AreRisingClasses t.fanins
+  pub depth : ℕ
+  pub depth_is : depth_in depths t.out.0 ≡ Some (suc depth)
+  pub below : (q : ClassId) → Contains t.fanins q → IsBelow depths (suc depth) q.0
+
+-- in the order of depth and then class
+abbrev pub IsTableBefore : List (Option ℕ) → Table → Table → Type 0
+IsTableBefore depths t u =
+    (d e : ℕ) → depth_in depths t.out.0 ≡ Some d → depth_in depths u.out.0 ≡ Some e → (d < e) ⊎ ((d ≡ e) × (t.out.0 < u.out.0))
+
+-- One table for each needed class that is no input's, by depth and then class.
+pub record AreTables (g : Graph) (most : ℕ) (depths : List (Option ℕ)) (roots : List ℕ) (tables : List Table) : Type 0 where
+  pub each : (t : Table) → Contains tables t → IsTable g most depths t
+  pub needed : (t : Table) → Contains tables t → IsNeeded roots tables t.out.0 × (IsLeafClass g t.out.0 → ⊥)
+  pub all : (c : ℕ) → IsNeeded roots tables c → (IsLeafClass g c → ⊥) → (t : Table) × Contains tables t × (t.out.0 ≡ c)
+  pub sorted : (i j : ℕ) (t u : Table) → slice_get tables i ≡ Some t → slice_get tables j ≡ Some u → i < j → IsTableBefore depths t u
+
+-- Places.
+
+abbrev pub place_key : Place → ℕ
+place_key p = p.depth * 2 ^ 32 + p.class.0
+
+abbrev pub IsPlaceBefore : Place → Place → Type 0
+IsPlaceBefore p q = (p.depth < q.depth) ⊎ ((p.depth ≡ q.depth) × (p.class.0 < q.class.0))
+
+-- the places are those of the classes that have a depth other than 0
+pub record ArePlaces (depths : List (Option ℕ)) (places : List Place) : Type 0 where
+  pub each : (p : Place) → Contains places p → (e : ℕ) × (depth_in depths p.class.0 ≡ Some (suc e)) × (p.depth ≡ suc e)
+  pub all : (c e : ℕ) → depth_in depths c ≡ Some (suc e) → (p : Place) × Contains places p × (p.class.0 ≡ c)
+
+-- in the order of the classes' numbers
+pub record AreListed (depths : List (Option ℕ)) (places : List Place) : Type 0 where
+  pub are : ArePlaces depths places
+  pub rising : (i j : ℕ) (p q : Place) → slice_get places i ≡ Some p → slice_get places j ≡ Some q → i < j → p.class.0 < q.class.0
+
+-- by depth and then class
+pub record AreByDepth (depths : List (Option ℕ)) (places : List Place) : Type 0 where
+  pub are : ArePlaces depths places
+  pub sorted : (i j : ℕ) (p q : Place) → slice_get places i ≡ Some p → slice_get places j ≡ Some q → i < j → IsPlaceBefore p q
+
+-- the classes of the roots are noted, and no others
+pub record AreRoots (roots : List ClassId) (classes : ℕ) (needed : List Bool) : Type 0 where
+  pub one_each : length needed ≡ classes
+  pub are : (c : ℕ) → slice_index_or needed c false ≡ true ↔ Contains (numbers roots) c
+
+-- these classes are noted too
+pub record HasAlso (old : List Bool) (classes : List ClassId) (new : List Bool) : Type 0 where
+  pub one_each : length new ≡ length old
+  pub are : (c : ℕ) → slice_index_or new c false ≡ true ↔ ((slice_index_or old c false ≡ true) ⊎ Contains (numbers classes) c)

@@ -1,0 +1,9 @@
+pub mod Choosing
+pub mod Covers
+pub mod Cuts
+pub mod Depths
+pub mod Naming
+pub mod Nets
+pub mod Packed
+pub mod Searches
+pub mod Tables

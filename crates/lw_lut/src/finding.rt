@@ -1,0 +1,43 @@
+ghost use Rattle.std.specs.Prelude.{◌≡◌, ◌≤◌, ◌<◌, ◌+◌, ◌^◌, ℕ, suc, None, length, slice_index_or, IfOk};
+ghost use Rattle.lw_lut.specs.Covers.{IsLeastDepth};
+ghost use Rattle.lw_lut.specs.Depths.{AreLeastDepths};
+ghost use Rattle.lw_lut.specs.Searches.{AreCounts, AreDepthsUpTo, depth_in, unknown_count};
+
+use crate::found::Depths;
+use crate::search::Search;
+use lw_graph::Graph;
+use std::alloc::{AllocError, Global};
+
+impl Search {
+    // Finds all depths.
+    fn find_all(&mut self, graph: &Graph, leaves: u8)
+        requires some { 2 ≤ leaves }
+        requires few { leaves ≤ 6 }
+        requires counts { AreCounts graph.now leaves 1 self.old }
+        requires depths { AreDepthsUpTo graph.now leaves self.old.depths.items 0 }
+        ensures counts { (d : ℕ) × AreCounts graph.now leaves d self.new }
+        ensures least { (c : ℕ) → IsLeastDepth graph.now leaves c
+            (depth_in self.new.depths.items c) }
+    {
+        let _ = graph.classes();
+        let mut depth = 1;
+        while self.deepen_all(graph, leaves, depth) {
+            depth += 1;
+        }
+    }
+}
+
+/// The least depth of each class of a graph in tables of at most `leaves` pins, which is 2 to 6,
+/// over all covers of all trees that unfold there.
+pub fn depths(alloc: Global, graph: &Graph, leaves: u8) -> Result<Depths, AllocError>
+    requires some { 2 ≤ leaves }
+    requires few { leaves ≤ 6 }
+    ensures { IfOk result (AreLeastDepths graph.now leaves) }
+{
+    let mut search = Search::new(alloc, graph, leaves)?;
+    search.find_all(graph, leaves);
+    Ok(Depths {
+        depths: search.depths,
+        cuts: search.cuts,
+    })
+}

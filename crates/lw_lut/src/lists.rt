@@ -1,0 +1,40 @@
+use crate::table::Table;
+use std::marker::Model;
+
+/// Tables in order.
+#[derive(Debug, Drop)]
+pub struct Tables {
+    items: Vec<Table>,
+}
+
+impl Model for Tables {
+    ghost use Rattle.std.specs.Prelude.{List};
+    ghost use Rattle.lw_lut.specs.declared.table.Table.{Table};
+
+    ghost Value = { List Table };
+
+    ghost view = { λ l. l.items.items };
+}
+
+impl Tables {
+    ghost use Rattle.std.specs.Prelude.{◌≡◌, length};
+
+    /// The entries of a vector, without memory.
+    pub fn from_vec(items: Vec<Table>) -> Self
+        ensures { result ≡ items.items }
+    {
+        Tables { items }
+    }
+
+    pub fn len(&self) -> usize
+        ensures { result ≡ length self.now }
+    {
+        self.items.len()
+    }
+
+    pub fn as_slice(&self) -> &[Table]
+        ensures { result.now ≡ self.now }
+    {
+        &self.items
+    }
+}

@@ -1,0 +1,238 @@
+// The search for depths, leaf count by leaf count.
+ghost use Rattle.std.specs.Prelude.{◌≡◌, ◌+◌, ◌*◌, ◌/◌, ◌<◌, ◌≤◌, ◌⊎◌, ◌^◌, ◌||◌, ℕ, suc, true, false, length, All, Contains, IfOk, IfSome, IsNone, Some, None, slice_get, slice_index, slice_index_or};
+ghost use Rattle.lw_laws.specs.Graphs.{HoldsPair};
+ghost use Rattle.lw_lut.specs.Covers.{IsLeastDepth};
+ghost use Rattle.lw_lut.specs.Cuts.{IsCutAt, is_odd};
+ghost use Rattle.lw_lut.specs.Searches.{AreBounded, AreCounts, AreDepthsUpTo, AreSettled, AreSettling, Falls, IsBoundedAt, IsBelow, IsDeepened, count_at, depth_in, unknown_count};
+ghost use Rattle.lw_lut.specs.declared.search.Search.{Search};
+ghost use Rattle.lw_pool.specs.declared.id.ClassId.{ClassId};
+
+use crate::cut::{Cut, joined};
+use lw_graph::{Graph, Pair};
+use lw_pool::ClassId;
+use std::alloc::{AllocError, Global};
+
+// For each place, which is a class and its complement: how many leaves a table there has at least
+// over the classes that have a depth, one more than a table may have where it has too many; the
+// cut with these leaves, or from when it got its depth; and the class of the place that serves as
+// a pin, once there is one. And the depth of each class, where it is known.
+#[derive(Drop)]
+pub(crate) struct Search {
+    pub(crate) counts: Vec<u8>,
+    pub(crate) cuts: Vec<Cut>,
+    pub(crate) pins: Vec<Option<ClassId>>,
+    pub(crate) depths: Vec<Option<u32>>,
+}
+
+// The place of a class.
+fn place_of(class: ClassId) -> usize
+    ensures { result ≡ class.0 / 2 }
+{
+    (class.0 / 2) as usize
+}
+
+// Whether one of the two is true.
+fn either(one: bool, other: bool) -> bool
+    ensures { result ≡ (one || other) }
+{
+    one || other
+}
+
+// The leaves of a pair.
+fn leaves_of(counts: &[u8], pair: Pair) -> u8
+    requires x { pair.x.0 / 2 < length counts.now }
+    requires y { pair.y.0 / 2 < length counts.now }
+    requires few { All (λ n. n ≤ 7) counts.now }
+    ensures { result ≡ count_at counts.now pair.x.0 + count_at counts.now pair.y.0 }
+{
+    counts[place_of(pair.x)] + counts[place_of(pair.y)]
+}
+
+// The pair of a class with the fewest leaves, if it has fewer than the class.
+fn better_pair(graph: &Graph, counts: &[u8], class: ClassId) -> Option<Pair>
+    requires class { class.0 < length graph.now.pairs }
+    requires places { length graph.now.pairs ≡ 2 * length counts.now }
+    requires few { All (λ n. n ≤ 7) counts.now }
+    ensures some { IfSome result (λ pair. HoldsPair graph.now class.0 pair.x.0 pair.y.0 ×
+        (count_at counts.now pair.x.0 + count_at counts.now pair.y.0 < count_at counts.now class.0)
+        × (pair.x.0 / 2 < length counts.now) × (pair.y.0 / 2 < length counts.now)) }
+    ensures none { IsNone result → IsBoundedAt graph.now counts.now class.0 }
+{
+    let mut best = counts[place_of(class)];
+    let mut found = None;
+    for pair in graph.nands(class) {
+        let leaves = leaves_of(counts, *pair);
+        if leaves < best {
+            best = leaves;
+            found = Some(*pair);
+        }
+    }
+    found
+}
+
+// The pin of a place that has this many leaves, where it stands for itself.
+fn serving(pin: Option<ClassId>, leaves: u8) -> Option<ClassId>
+    ensures some { IfSome result (λ q. (pin ≡ Some q) × (leaves ≡ 1)) }
+    ensures none { IsNone result → (pin ≡ None) ⊎ (leaves ≡ 1 → ⊥) }
+{
+    if leaves == 1 { pin } else { None }
+}
+
+// Gives the classes of a place this depth, where they have none, and says whether one had none.
+fn deepen(depths: &mut Vec<Option<u32>>, place: usize, depth: u32) -> bool
+    requires { 2 * place + 1 < length depths.old.items }
+    ensures { IsDeepened depths.old.items place depth depths.new.items result }
+{
+    let (first, second) = (depths[2 * place], depths[2 * place + 1]);
+    depths[2 * place] = Some(first.unwrap_or(depth));
+    depths[2 * place + 1] = Some(second.unwrap_or(depth));
+    either(second.is_none(), first.is_none())
+}
+
+// The pin that a place has, or else its first class.
+fn pin_of(pin: Option<ClassId>, place: usize) -> ClassId
+    requires { place < 2 ^ 31 }
+    ensures some { (q : ClassId) → pin ≡ Some q → result ≡ q }
+    ensures none { pin ≡ None → result.0 ≡ 2 * place }
+{
+    match pin {
+        Some(pin) => pin,
+        None => ClassId(2 * place as u32),
+    }
+}
+
+impl Search {
+    // The cut of the place of a class: its pin, where it has one and no constant stands there, or
+    // its own cut.
+    fn side(&self, class: ClassId) -> Cut
+        requires within { class.0 / 2 < length self.now.cuts.items }
+        requires pins { length self.now.pins.items ≡ length self.now.cuts.items }
+        requires counts { length self.now.counts.items ≡ length self.now.cuts.items }
+        ensures { (g : _) (most d : ℕ) → AreCounts g most d self.now →
+            count_at self.now.counts.items class.0 ≤ most →
+            IsCutAt g class.0 (is_odd class.0) result ×
+            (length result.pins ≡ count_at self.now.counts.items class.0) ×
+            ((k : ℕ) (q : _) → slice_get result.pins k ≡ Some q →
+            IsBelow self.now.depths.items d q.0) }
+    {
+        let place = place_of(class);
+        match serving(self.pins[place], self.counts[place]) {
+            Some(pin) => Cut::pin(pin),
+            None => self.cuts[place].copy(),
+        }
+    }
+
+    // Gives the place of a class the cut of a pair of the class that has fewer leaves, if there
+    // is one.
+    fn lower(&mut self, graph: &Graph, leaves: u8, class: ClassId) -> bool
+        requires class { class.0 < length graph.now.pairs }
+        requires leaves { leaves ≤ 6 }
+        requires counts { (d : ℕ) × AreCounts graph.now leaves d self.old }
+        ensures counts { (d : ℕ) → AreCounts graph.now leaves d self.old →
+            AreCounts graph.now leaves d self.new }
+        ensures depths { self.new.depths ≡ self.old.depths }
+        ensures falls { Falls graph.now self.old self.new (λ c. c ≡ class.0) result }
+    {
+        let Some(pair) = better_pair(graph, &self.counts, class) else {
+            return false;
+        };
+        let (left, right) = (self.side(pair.x), self.side(pair.y));
+        let cut = joined(&left, pair.x, &right, pair.y, class);
+        let place = (class.0 / 2) as usize;
+        self.counts[place] = cut.pins().len() as u8;
+        self.cuts[place] = cut;
+        true
+    }
+
+    // Goes once through all classes.
+    fn lower_round(&mut self, graph: &Graph, leaves: u8) -> bool
+        requires leaves { leaves ≤ 6 }
+        requires counts { (d : ℕ) × AreCounts graph.now leaves d self.old }
+        ensures counts { (d : ℕ) → AreCounts graph.now leaves d self.old →
+            AreCounts graph.now leaves d self.new }
+        ensures depths { self.new.depths ≡ self.old.depths }
+        ensures falls { Falls graph.now self.old self.new (λ c. c < length graph.now.pairs) result }
+    {
+        let mut changed = false;
+        for class in 0..graph.classes() {
+            let lowered = self.lower(graph, leaves, ClassId(class));
+            changed = either(lowered, changed);
+        }
+        changed
+    }
+
+    // Lets counts fall until no pair would lower one.
+    fn lower_all(&mut self, graph: &Graph, leaves: u8)
+        requires leaves { leaves ≤ 6 }
+        requires counts { (d : ℕ) × AreCounts graph.now leaves d self.old }
+        ensures counts { (d : ℕ) → AreCounts graph.now leaves d self.old →
+            AreCounts graph.now leaves d self.new }
+        ensures depths { self.new.depths ≡ self.old.depths }
+        ensures bounded { AreBounded graph.now self.new.counts.items }
+    {
+        while self.lower_round(graph, leaves) {}
+    }
+
+    // Gives the classes of a place with few enough leaves this depth, where they have none, and a
+    // pin to the place.
+    fn settle(&mut self, leaves: u8, place: usize, depth: u32) -> bool
+        requires place { place < length self.old.counts.items }
+        requires cuts { length self.old.pins.items ≡ length self.old.counts.items }
+        requires depths { length self.old.depths.items ≡ 2 * length self.old.counts.items }
+        requires few { length self.old.counts.items < 2 ^ 31 }
+        ensures lists { (g : _) → AreSettling g leaves depth self.old →
+            AreSettling g leaves depth self.new }
+        ensures counts { length self.new.counts.items ≡ length self.old.counts.items }
+        ensures pins { length self.new.pins.items ≡ length self.old.pins.items }
+        ensures depths { length self.new.depths.items ≡ length self.old.depths.items }
+        ensures settled { (g : _) (first : Search) (changed : _) →
+            AreSettling g leaves depth self.old →
+            AreSettled leaves depth first self.old place changed →
+            AreSettled leaves depth first self.new (place + 1) (result || changed) }
+    {
+        if self.counts[place] > leaves {
+            return false;
+        }
+        let deeper = deepen(&mut self.depths, place, depth);
+        self.pins[place] = Some(pin_of(self.pins[place], place));
+        self.counts[place] = self.counts[place].min(1);
+        deeper
+    }
+
+    // The same for all places.
+    fn settle_all(&mut self, leaves: u8, depth: u32) -> bool
+        requires cuts { length self.old.pins.items ≡ length self.old.counts.items }
+        requires depths { length self.old.depths.items ≡ 2 * length self.old.counts.items }
+        requires few { length self.old.counts.items < 2 ^ 31 }
+        ensures lists { (g : _) → AreSettling g leaves depth self.old →
+            AreSettling g leaves depth self.new }
+        ensures settled { (g : _) → AreSettling g leaves depth self.old →
+            AreSettled leaves depth self.old self.new (length self.old.counts.items) result }
+    {
+        let mut changed = false;
+        for place in 0..self.counts.len() {
+            let deeper = self.settle(leaves, place, depth);
+            changed = either(deeper, changed);
+        }
+        changed
+    }
+
+    // One depth more: the classes whose tables need no deeper pins get it. Says whether there are
+    // any.
+    pub(crate) fn deepen_all(&mut self, graph: &Graph, leaves: u8, depth: u32) -> bool
+        requires leaves { leaves ≤ 6 }
+        requires counts { AreCounts graph.now leaves depth self.old }
+        requires depths { (d : ℕ) × (depth ≡ suc d) ×
+            AreDepthsUpTo graph.now leaves self.old.depths.items d }
+        ensures counts { AreCounts graph.now leaves (suc depth) self.new }
+        ensures depths { AreDepthsUpTo graph.now leaves self.new.depths.items depth }
+        ensures falls { result ≡ true →
+            unknown_count self.new.depths.items < unknown_count self.old.depths.items }
+        ensures least { result ≡ false → 2 ≤ leaves → (c : ℕ) →
+            IsLeastDepth graph.now leaves c (depth_in self.new.depths.items c) }
+    {
+        let _ = graph.classes();
+        self.lower_all(graph, leaves);
+        self.settle_all(leaves, depth)
+    }
+}

@@ -1,0 +1,129 @@
+ghost use Rattle.std.specs.Prelude.{◌≡◌, ◌≤◌, ◌<◌, ◌^◌, ◌↔◌, ℕ, length, Contains, IfOk, OnOk, IsTrue, IsFalse};
+ghost use Rattle.std.specs.List.Sorted.{IsNonDecreasingBy, IsPermutation};
+ghost use Rattle.lw_pool.specs.declared.id.ClassId.{ClassId};
+ghost use Rattle.lw_lut.specs.Cuts.{numbers, spelled};
+ghost use Rattle.lw_lut.specs.Packed.{packed};
+ghost use Rattle.lw_lut.specs.Tables.{AreRisingClasses, IsAdded, given, table_value};
+
+use crate::cut::{Cut, appended, is_odd, is_set, numbers_of, turned};
+use lw_pool::{ClassId, Classes};
+use std::alloc::{AllocError, Global};
+
+/// A lookup table for a class: its fan-ins, which are different and in rising order, and its
+/// bits. Bit j is the value where the fan-ins, the first as the highest bit, spell j.
+#[derive(Debug, Drop)]
+pub struct Table {
+    pub out: ClassId,
+    pub fanins: Classes,
+    pub bits: u64,
+}
+
+// Whether a class is among some.
+fn is_among(classes: &[ClassId], class: ClassId) -> bool
+    ensures some { IsTrue result → Contains classes.now class }
+    ensures none { IsFalse result → Contains classes.now class → ⊥ }
+{
+    for at in classes {
+        if at.0 == class.0 {
+            return true;
+        }
+    }
+    false
+}
+
+// Sorts classes by their numbers.
+fn sort(classes: &mut Vec<ClassId>)
+    ensures permutation { IsPermutation classes.old.items classes.new.items }
+    ensures sorted { IsNonDecreasingBy (λ (c : ClassId). c.0) classes.new.items }
+{
+    classes.sort_unstable_by_key(|class| class.0);
+}
+
+// Appends a class, unless it is there.
+fn add(classes: &mut Vec<ClassId>, class: ClassId) -> Result<(), AllocError>
+    ensures { OnOk result (IsAdded classes.old.items class classes.new.items) }
+{
+    if is_among(classes, class) {
+        return Ok(());
+    }
+    classes.push(class)?;
+    Ok(())
+}
+
+// The classes in rising order, each once.
+fn rising(alloc: Global, classes: &[ClassId]) -> Result<Vec<ClassId>, AllocError>
+    ensures rising { IfOk result (λ r. AreRisingClasses r.items) }
+    ensures same { IfOk result (λ r. (c : ClassId) → Contains r.items c ↔ Contains classes.now c) }
+    ensures few { IfOk result (λ r. length r.items ≤ length classes.now) }
+{
+    let mut sorted = Vec::from_slice(alloc, classes)?;
+    sort(&mut sorted);
+    let mut rising = Vec::new(alloc);
+    for class in &sorted {
+        add(&mut rising, *class)?;
+    }
+    Ok(rising)
+}
+
+// The value that a number gives to a class, where classes spell it.
+fn given(classes: &[ClassId], place: u32, class: ClassId) -> bool
+    requires { length classes.now ≤ 6 }
+    ensures { result ≡ given (numbers classes.now) place class.0 }
+{
+    for k in 0..classes.len() {
+        if classes[k].0 == class.0 {
+            return is_set(place as u64, (classes.len() - 1 - k) as u32);
+        }
+    }
+    false
+}
+
+// The number that pins spell where fan-ins spell another.
+fn spelled(pins: &[ClassId], fanins: &[ClassId], place: u32) -> u64
+    requires pins { length pins.now ≤ 6 }
+    requires fanins { length fanins.now ≤ 6 }
+    ensures number { result ≡ spelled (given (numbers fanins.now) place) (numbers pins.now) }
+    ensures few { result < 64 }
+{
+    let mut number = 0;
+    for pin in pins {
+        number = appended(number, given(fanins, place, *pin));
+    }
+    number
+}
+
+// The bits of a cut at a class over its fan-ins.
+fn bits_over(cut: &Cut, class: ClassId, fanins: &[ClassId]) -> u64
+    requires { length fanins.now ≤ 6 }
+    ensures { result ≡ packed (table_value cut.now class.0 (numbers fanins.now)) 0
+        (2 ^ length fanins.now) }
+{
+    let mut bits = 0;
+    for place in (0..numbers_of(fanins.len())).rev() {
+        let number = spelled(cut.pins(), fanins, place);
+        let value = is_set(cut.bits(), number as u32);
+        bits = appended(bits, turned(is_odd(class), value));
+    }
+    bits
+}
+
+impl Table {
+    // The table of a cut at a class.
+    pub(crate) fn of(alloc: Global, class: ClassId, cut: &Cut) -> Result<Self, AllocError>
+        ensures out { IfOk result (λ t. t.out ≡ class) }
+        ensures rising { IfOk result (λ t. AreRisingClasses t.fanins) }
+        ensures same { IfOk result (λ t. (c : ClassId) → Contains t.fanins c ↔
+            Contains cut.now.pins c) }
+        ensures few { IfOk result (λ t. length t.fanins ≤ length cut.now.pins) }
+        ensures bits { IfOk result (λ t. t.bits
+            ≡ packed (table_value cut.now class.0 (numbers t.fanins)) 0 (2 ^ length t.fanins)) }
+    {
+        let fanins = rising(alloc, cut.pins())?;
+        let bits = bits_over(cut, class, &fanins);
+        Ok(Table {
+            out: class,
+            fanins: Classes::from_vec(fanins),
+            bits,
+        })
+    }
+}

@@ -1,0 +1,54 @@
+// Labels of the classes of a graph.
+ghost use Rattle.std.specs.Prelude.{◌≡◌, ℕ, Some, IfOk, IfErr, slice_get};
+ghost use Rattle.lw_laws.specs.Matches.{IsLeastCover};
+ghost use Rattle.lw_laws.specs.Rounds.{labels_in};
+ghost use Rattle.lw_match.specs.Least.{AreOfCells};
+ghost use Rattle.lw_label.specs.Labels.{AreLeastMarks, costs_of};
+ghost use Rattle.lw_settle.specs.Steps.{AreSteps};
+
+use crate::MapFault;
+use lw_graph::Graph;
+use lw_label::{Labels, relabel};
+use lw_match::Cost;
+use lw_pattern::Patterns;
+use lw_settle::{StoreFault, settle, store_matches};
+use std::alloc::Global;
+
+/// The labels of the classes of a graph, and how often a stored match was read to find them: none
+/// where there are too many matches to store, and the labels are found in rounds.
+#[derive(Drop)]
+pub(crate) struct Labelled {
+    pub labels: Labels,
+    pub steps: Option<u64>,
+}
+
+/// The least cost of a cover of each class, and the height of the class.
+pub(crate) fn label<C: Cost>(
+    alloc: Global,
+    graph: &Graph,
+    pats: &Patterns,
+    cost: &C,
+) -> Result<Labelled, MapFault>
+    requires of_cells { AreOfCells (C.costs cost.now).pin_counts pats.now }
+    requires leaves { (i c : ℕ) → slice_get graph.now.leaves i ≡ Some c →
+        IsLeastCover graph.now pats.now (C.costs cost.now) c (Some ((C.costs cost.now).leaf i)) }
+    ensures least { IfOk result (λ l. AreLeastMarks graph.now (C.costs cost.now) pats.now l.labels) }
+    ensures steps { IfOk result (λ l. AreSteps graph.now pats.now
+        (labels_in (costs_of l.labels)) l.steps) }
+    ensures memory { IfErr result (λ e. e ≡ MapFault.Memory) }
+{
+    let _ = graph.classes();
+    match store_matches(alloc, graph, pats) {
+        Ok(mut store) => {
+            let labels = settle(alloc, &mut store, graph, cost)?;
+            let steps = Some(store.done());
+            Ok(Labelled { labels, steps })
+        }
+        Err(StoreFault::TooMany) => {
+            let labels = relabel(alloc, graph, pats, cost)?;
+            let steps = None;
+            Ok(Labelled { labels, steps })
+        }
+        Err(StoreFault::Memory) => Err(MapFault::Memory),
+    }
+}

@@ -1,9 +1,0 @@
-use Rattle.std.proofs.Common.{ℕ, ◌≤◌}
-use Rattle.lw_net.specs.Ranking.{AreRanks, rank_at}
-use Rattle.lw_net.proofs.ranking.ranks.Given as goal
-
-abbrev pub invariant-loop-i : goal.invariant-loop-i
-invariant-loop-i l = record {
-  are : AreRanks l.inputs l.graph l.ranks.items;
-  low : (x : ℕ) → rank_at l.ranks.items x ≤ l.i;
-}

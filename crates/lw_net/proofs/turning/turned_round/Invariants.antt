@@ -1,9 +1,0 @@
-use Rattle.std.proofs.Common.{◌≡◌, length, vec_len}
-use Rattle.lw_net.specs.Ranking.{AreWithin}
-use Rattle.lw_net.proofs.turning.turned_round.Given as goal
-
-abbrev pub invariant-loop-j : goal.invariant-loop-j
-invariant-loop-j l = record {
-  len : vec_len l.rows ≡ length l.graph;
-  within : AreWithin (length l.graph) l.rows.items;
-}

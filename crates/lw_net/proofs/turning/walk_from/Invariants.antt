@@ -1,6 +1,0 @@
-use Rattle.std.proofs.Common.{length}
-use Rattle.lw_net.specs.Ranking.{IsWalk}
-use Rattle.lw_net.proofs.turning.walk_from.Given as goal
-
-abbrev pub invariant-loop : goal.invariant-loop
-invariant-loop l = IsWalk (length l.rows) l.walk

@@ -1,9 +1,0 @@
-use Rattle.std.proofs.Common.{◌+◌, ◌*◌, [], vec_len}
-use Rattle.lw_netlist.specs.Numbered.{IsSearching, unseen}
-use Rattle.lw_netlist.proofs.cycles.leads_to_itself.Given as goal
-
-abbrev pub invariant-search : goal.invariant-search
-invariant-search l = IsSearching l.inputs l.graph l.p l.seen.items l.ready.items []
-
-abbrev pub decreases-search : goal.decreases-search
-decreases-search l = 2 * unseen l.seen.items + vec_len l.ready

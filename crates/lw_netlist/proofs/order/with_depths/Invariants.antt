@@ -1,8 +1,0 @@
-use Rattle.std.proofs.Common.{◌≡◌, ◌++◌, map, drop}
-use Rattle.std.specs.List.{zip}
-use Rattle.std.specs.Vec.Iter.{into_iter_items}
-use Rattle.lw_netlist.proofs.Sorting.{deep_from}
-use Rattle.lw_netlist.proofs.order.with_depths.Given as goal
-
-abbrev pub invariant-loop-depth : goal.invariant-loop-depth
-invariant-loop-depth l = l.deep.items ++ map deep_from (zip (into_iter_items l.left) (drop l.depth-index l.depths)) ≡ map deep_from (zip l.fn.gates l.depths)

@@ -1,0 +1,32 @@
+-- What a library says of its cells.
+use Rattle.std.proofs.Common.{◌≡◌, ◌<◌, arith, ℕ, zero, suc, List, [], ◌∷◌, Some, length, map, slice_get, ap, sym, ◌∙◌}
+use Rattle.std.proofs.lemmas.List.{length-map}
+use Rattle.std.proofs.lemmas.Option.{same_Some, none-some}
+use Rattle.lw_laws.specs.Covers.{HasPins, delays_of}
+use Rattle.lw_genlib.specs.Cells.{CellParts}
+use Rattle.lw_genlib.specs.Tables.{millionths, cell_delays, delays_of_cells}
+use Rattle.lw_trade.specs.Areas.{area_of_cell, area_at}
+
+-- the area of a cell of the library
+pub area_is : (cells : List CellParts) (place : ℕ) (cell : CellParts) → slice_get cells place ≡ Some cell → area_at cells place ≡ cell.area.0
+area_is [] place cell at = absurd (none-some cell at)
+area_is (other ∷ cells) zero cell at = ap area_of_cell (same_Some other cell at)
+area_is (other ∷ cells) (suc place) cell at = area_is cells place cell at
+
+-- the delays of its pins
+pub delays_are : (cells : List CellParts) (place : ℕ) (cell : CellParts) → slice_get cells place ≡ Some cell → delays_of (delays_of_cells cells) place ≡ cell_delays cell
+delays_are [] place cell at = absurd (none-some cell at)
+delays_are (other ∷ cells) zero cell at = ap cell_delays (same_Some other cell at)
+delays_are (other ∷ cells) (suc place) cell at = delays_are cells place cell at
+
+-- how many pins it has
+pub pins_are : (cells : List CellParts) (place n : ℕ) (cell : CellParts) → slice_get cells place ≡ Some cell → HasPins (map length (delays_of_cells cells)) place n → length cell.delays ≡ n
+pins_are [] place n cell at has = absurd (none-some cell at)
+pins_are (other ∷ cells) zero n cell at has = ap (λ (c : CellParts). length c.delays) (sym (same_Some other cell at)) ∙ (sym (length-map other.delays millionths) ∙ same_Some (length (map millionths other.delays)) n has)
+pins_are (other ∷ cells) (suc place) n cell at has = pins_are cells place n cell at has
+
+-- a cell with some number of pins is there
+pub cell_in : (cells : List CellParts) (place n : ℕ) → HasPins (map length (delays_of_cells cells)) place n → place < length cells
+cell_in [] place n has = cc
+cell_in (cell ∷ cells) zero n has = omega arith
+cell_in (cell ∷ cells) (suc place) n has = let ih = cell_in cells place n has in omega arith

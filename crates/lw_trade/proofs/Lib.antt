@@ -1,0 +1,14 @@
+pub mod Adding
+pub mod Cells
+pub mod Exact
+pub mod Fronting
+pub mod InRange
+pub mod Joint
+pub mod Linking
+pub mod Listing
+pub mod Lists
+pub mod Prices
+pub mod Queueing
+pub mod Starts
+pub mod Stepping
+pub mod Using

@@ -1,0 +1,41 @@
+use Rattle.std.proofs.Common.{◌<◌, slice_index_or, length, arith}
+use Rattle.lw_trade.specs.declared.point.Point.{Point}
+use Rattle.lw_trade.proofs.Lists.{get_in, got}
+use Rattle.lw_trade.proofs.Fronting.{seek_first, seek_none, seek_next, seek_over, seek_found}
+use Rattle.lw_trade.proofs.fronts.area_by.Goals as goal
+
+pub returns-in_default : goal.returns-in_default
+returns-in_default c = seek_none c.args.links.now.classes c.args.points.now c.args.class.0 c.args.time c.in_default.ensures
+
+pub loop-place-init : goal.loop-place-init
+loop-place-init c = seek_first c.args.links.now.classes c.args.points.now c.args.class.0 c.args.time c.in-Some.place c.in-Some.ensures
+
+pub bounds-points-place : goal.bounds-points-place
+bounds-points-place c = let h = get_in c.args.links.now.classes c.loop-place.place c.args.class.0 c.loop-place.invariant.at in omega (arith, h, c.requires.one_each)
+
+pub bounds-points-place-2 : goal.bounds-points-place-2
+bounds-points-place-2 c = let h = get_in c.args.links.now.classes c.loop-place.place c.args.class.0 c.loop-place.invariant.at in omega (arith, h, c.requires.one_each)
+
+pub returns-in_default-before : goal.returns-in_default-before
+returns-in_default-before c =
+    let d : Point = record { time = record { 0 = 0 }; area = 0 } in
+    let h = get_in c.args.links.now.classes c.loop-place.place c.args.class.0 c.loop-place.invariant.at in
+    let lt : c.loop-place.place < length c.args.points.now = omega (arith, h, c.requires.one_each) in
+    seek_over c.args.links.now.classes c.args.points.now c.args.class.0 c.args.time c.loop-place.place (slice_index_or c.args.points.now c.loop-place.place d) c.loop-place.invariant (got c.args.points.now c.loop-place.place d lt) c.loop-place-test.true (c.in_default-before.ensures c.args.class.0 c.loop-place.invariant.at)
+
+pub loop-place-smaller : goal.loop-place-smaller
+loop-place-smaller c = (c.in-Some-before.ensures c.args.class.0 c.loop-place.invariant.at).0
+
+pub loop-place-preserved : goal.loop-place-preserved
+loop-place-preserved c =
+    let d : Point = record { time = record { 0 = 0 }; area = 0 } in
+    let h = get_in c.args.links.now.classes c.loop-place.place c.args.class.0 c.loop-place.invariant.at in
+    let lt : c.loop-place.place < length c.args.points.now = omega (arith, h, c.requires.one_each) in
+    seek_next c.args.links.now.classes c.args.points.now c.args.class.0 c.args.time c.loop-place.place c.in-Some-before.before (slice_index_or c.args.points.now c.loop-place.place d) c.loop-place.invariant (got c.args.points.now c.loop-place.place d lt) c.loop-place-test.true (c.in-Some-before.ensures c.args.class.0 c.loop-place.invariant.at)
+
+pub returns : goal.returns
+returns c =
+    let d : Point = record { time = record { 0 = 0 }; area = 0 } in
+    let h = get_in c.args.links.now.classes c.loop-place.place c.args.class.0 c.loop-place.invariant.at in
+    let lt : c.loop-place.place < length c.args.points.now = omega (arith, h, c.requires.one_each) in
+    seek_found c.args.links.now.classes c.args.points.now c.args.class.0 c.args.time c.loop-place.place (slice_index_or c.args.points.now c.loop-place.place d) c.requires.apart c.loop-place.invariant (got c.args.points.now c.loop-place.place d lt) c.loop-place-test.false

@@ -1,0 +1,42 @@
+use Rattle.std.proofs.Common.{◌≡◌, ◌<◌, ◌-◌, suc, Some, length, refl, subst, arith}
+use Rattle.lw_pool.specs.declared.id.ClassId.{ClassId}
+use Rattle.lw_fixed.specs.declared.micro.Micro.{Micro}
+use Rattle.lw_trade.proofs.Prices.{IsBestFrom, from_last, from_late, from_none, from_some}
+use Rattle.lw_trade.proofs.pricing.area_of_pins.Goals as goal
+
+pub loop-pin-init : goal.loop-pin-init
+loop-pin-init c = record {
+  within = omega arith;
+  best = from_last c.args.fronts.now.spots c.args.time c.args.delays.now c.args.pins.now c.requires.one_each (length c.args.pins.now) refl;
+}
+
+pub returns-then-delays-pin : goal.returns-then-delays-pin
+returns-then-delays-pin c =
+    let y : ClassId = record { 0 = 0 } in
+    let z : Micro = record { 0 = 0 } in
+    let lt : c.loop-pin.pin - 1 < length c.args.pins.now = omega (arith, c.loop-pin-test.true, c.loop-pin.invariant.within) in
+    from_late c.args.fronts.now.spots c.args.time c.args.delays.now c.args.pins.now c.requires.one_each (c.loop-pin.pin - 1) lt z y c.if-delays-pin.true
+
+pub returns-in_default : goal.returns-in_default
+returns-in_default c =
+    let y : ClassId = record { 0 = 0 } in
+    let z : Micro = record { 0 = 0 } in
+    let lt : c.loop-pin.pin - 1 < length c.args.pins.now = omega (arith, c.loop-pin-test.true, c.loop-pin.invariant.within) in
+    from_none c.args.fronts.now.spots c.args.time c.args.delays.now c.args.pins.now c.requires.one_each (c.loop-pin.pin - 1) lt z y (omega (arith, c.if-delays-pin.false)) c.in_default.ensures
+
+pub loop-pin-preserved : goal.loop-pin-preserved
+loop-pin-preserved c =
+    let y : ClassId = record { 0 = 0 } in
+    let z : Micro = record { 0 = 0 } in
+    let lt : c.loop-pin.pin - 1 < length c.args.pins.now = omega (arith, c.loop-pin-test.true, c.loop-pin.invariant.within) in
+    let one : c.loop-pin.pin ≡ suc (c.loop-pin.pin - 1) = omega (arith, c.loop-pin-test.true) in
+    let best = subst (λ n. IsBestFrom c.args.fronts.now.spots c.args.time c.args.delays.now c.args.pins.now c.requires.one_each n (Some c.loop-pin.area)) one c.loop-pin.invariant.best in
+    record {
+      within = omega (arith, lt);
+      best = from_some c.args.fronts.now.spots c.args.time c.args.delays.now c.args.pins.now c.requires.one_each (c.loop-pin.pin - 1) lt z y c.in-Some.first c.loop-pin.area c.joined-area.result (omega (arith, c.if-delays-pin.false)) c.in-Some.ensures best c.joined-area.ensures;
+    }
+
+pub returns : goal.returns
+returns c =
+    let zero : c.loop-pin.pin ≡ 0 = omega (arith, c.loop-pin-test.false) in
+    subst (λ n. IsBestFrom c.args.fronts.now.spots c.args.time c.args.delays.now c.args.pins.now c.requires.one_each n (Some c.loop-pin.area)) zero c.loop-pin.invariant.best

@@ -1,0 +1,17 @@
+use Rattle.std.proofs.Common.{◌≡◌, List, length}
+use Rattle.lw_laws.specs.Covers.{Pattern}
+use Rattle.lw_laws.specs.Graphs.{Graph}
+use Rattle.lw_trade.specs.Points.{task}
+use Rattle.lw_trade.specs.Rows.{plain_rows}
+use Rattle.lw_trade.specs.Settling.{IsStillFor}
+use Rattle.lw_trade.proofs.settling.next_gain.Given as goal
+
+abbrev pub invariant-loop-number : goal.invariant-loop-number
+invariant-loop-number l = record {
+  fronts : l.fronts ≡ l.initial.fronts;
+  horizon : l.queue.horizon ≡ l.initial.queue.horizon;
+  still : (g : Graph) (pats : List Pattern) → IsStillFor (task g pats l.lib l.starts) (plain_rows l.rows) l.time l.initial.fronts.spots l.initial.queue → IsStillFor (task g pats l.lib l.starts) (plain_rows l.rows) l.time l.initial.fronts.spots l.queue;
+}
+
+abbrev pub decreases-loop-number : goal.decreases-loop-number
+decreases-loop-number l = length l.queue.items

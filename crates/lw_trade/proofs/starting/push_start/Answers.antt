@@ -1,0 +1,16 @@
+use Rattle.std.proofs.Common.{◌≤◌, sym, subst}
+use Rattle.std.proofs.lemmas.Option.{same_Some}
+use Rattle.lw_trade.specs.Settling.{Waits}
+use Rattle.lw_trade.proofs.Starts.{only_number}
+use Rattle.lw_trade.proofs.starting.push_start.Goals as goal
+
+pub returns-clause-starts : goal.returns-clause-starts
+returns-clause-starts c =
+    let due = c.in_ok-push_due.ensures.due in
+    record {
+      kept = due.kept;
+      only = λ t m w. only_number c.args.queue.now c.in-Some.time c.args.number t m (due.only t m w);
+      here = λ s t a e gives le.
+          let same = same_Some c.in-Some.time t (c.in-Some.ensures s t a e gives) in
+          subst (λ u. Waits c.push_due.new.queue u c.args.number) same (due.here (subst (λ u. u ≤ c.args.queue.now.horizon) (sym same) le));
+    }

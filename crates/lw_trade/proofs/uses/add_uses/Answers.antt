@@ -1,0 +1,23 @@
+use Rattle.std.proofs.Common.{◌≡◌, ◌∙◌, length, option_map, ap, subst, arith}
+use Rattle.std.proofs.lemmas.List.{length-map}
+use Rattle.std.proofs.lemmas.Option.{slice_get-map}
+use Rattle.lw_trade.specs.Points.{task}
+use Rattle.lw_trade.specs.Rows.{plain_row, plain_rows}
+use Rattle.lw_trade.specs.Uses.{AreUsesTo}
+use Rattle.lw_trade.proofs.Lists.{read_at}
+use Rattle.lw_trade.proofs.uses.add_uses.Goals as goal
+
+pub loop-choice-preserved : goal.loop-choice-preserved
+loop-choice-preserved c =
+    let k = c.loop-choice.choice in
+    let row = c.index-rows-choice.result in
+    let at = slice_get-map plain_row c.args.rows.now k ∙ ap (option_map plain_row) (read_at c.args.rows.now k row c.loop-choice-test.true c.index-rows-choice.is) in
+    record {
+      count = c.in_ok-add_choice.ensures.count ∙ c.loop-choice.invariant.count;
+      uses = λ g pats starts. c.in_ok-add_choice.ensures.uses g pats starts (plain_rows c.args.rows.now) at (c.loop-choice.invariant.uses g pats starts);
+    }
+
+pub returns-clause-uses : goal.returns-clause-uses
+returns-clause-uses c g pats starts =
+    let n : c.loop-choice.choice ≡ length (plain_rows c.args.rows.now) = omega (arith, c.loop-choice-test.false, c.loop-choice.auto.choice-end, length-map c.args.rows.now plain_row) in
+    subst (λ k. AreUsesTo (task g pats c.args.lib.now starts) (plain_rows c.args.rows.now) k 0 c.loop-choice.links.classes c.loop-choice.uses.items) n (c.loop-choice.invariant.uses g pats starts)

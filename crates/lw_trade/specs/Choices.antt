@@ -1,0 +1,35 @@
+-- What may stand at the classes of a graph: the inputs, and the matches of the patterns.
+use Rattle.std.specs.Prelude.{ℕ, ◌≡◌, ◌<◌, List, length, Some, slice_get, slice_index_or}
+use Rattle.lw_laws.specs.Matches.{IsMatchAt}
+use Rattle.lw_laws.specs.Covers.{delays_of}
+use Rattle.lw_trade.specs.Areas.{area_cost}
+use Rattle.lw_trade.specs.Points.{Task, timing}
+
+-- an input, or a cell with the classes of its pins
+pub data Part : Type 0 where
+  input : ℕ → Part
+  gate : ℕ → List ℕ → Part
+
+pub record Choice : Type 0 where
+  pub class : ℕ
+  pub part : Part
+
+-- the input has this class, or the cell has a match there
+abbrev pub MayStand : Task → ℕ → Part → Type 0
+MayStand s c (input i) = slice_get s.graph.leaves i ≡ Some c
+MayStand s c (gate cell ps) = IsMatchAt s.graph (area_cost s.cells).pin_counts s.patterns c cell ps
+
+-- each that may stand at a class of the graph, and no other
+pub record AreChoices (s : Task) (choices : List Choice) : Type 0 where
+  pub each : (n : ℕ) (x : Choice) → slice_get choices n ≡ Some x → MayStand s x.class x.part
+  pub all : (c : ℕ) (part : Part) → c < length s.graph.pairs → MayStand s c part → (n : ℕ) × (slice_get choices n ≡ Some (record { class = c; part = part }))
+
+-- the pin with this number has the class
+abbrev pub HasPinAt : Part → ℕ → ℕ → Type 0
+HasPinAt (input i) k p = ⊥
+HasPinAt (gate cell ps) k p = slice_get ps k ≡ Some p
+
+-- the delay of a pin
+abbrev pub delay_at : Task → Part → ℕ → ℕ
+delay_at s (input i) k = 0
+delay_at s (gate cell ps) k = slice_index_or (delays_of (timing s).delays cell) k 0

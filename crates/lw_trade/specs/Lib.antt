@@ -1,0 +1,11 @@
+pub mod AreaLaws
+pub mod Areas
+pub mod Choices
+pub mod Fronts
+pub mod Links
+pub mod Points
+pub mod Pricing
+pub mod Queues
+pub mod Rows
+pub mod Settling
+pub mod Uses

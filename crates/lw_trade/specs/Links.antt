@@ -1,0 +1,27 @@
+-- Places of one array that are linked by their classes: each to the last one before it with the same class.
+use Rattle.std.specs.Prelude.{ℕ, ◌+◌, ◌<◌, ◌≡◌, List, length, map, Option, Some, None, slice_get}
+use Rattle.lw_trade.specs.declared.links.Link.{Link}
+
+-- the classes of the places, and how many classes there are
+pub record LinkState : Type 0 where
+  pub classes : List ℕ
+  pub count : ℕ
+
+abbrev pub classes_of : List Link → List ℕ
+classes_of links = map (λ (l : Link). l.class.0) links
+
+-- none of the places from a place on and before another has the class
+abbrev pub HasNone : List ℕ → ℕ → ℕ → ℕ → Type 0
+HasNone cs c from to = (j : ℕ) → from < j + 1 → j < to → slice_get cs j ≡ Some c → ⊥
+
+-- the last of the first n places that has the class, and none where none of them has
+abbrev pub IsLast : List ℕ → ℕ → ℕ → Option ℕ → Type 0
+IsLast cs c n None = HasNone cs c 0 n
+IsLast cs c n (Some i) = (i < n) × (slice_get cs i ≡ Some c) × HasNone cs c (i + 1) n
+
+-- what the links keep
+pub record AreLinks (links : List Link) (heads : List (Option ℕ)) : Type 0 where
+  pub few : length links < 4294967296
+  pub within : (i c : ℕ) → slice_get (classes_of links) i ≡ Some c → c < length heads
+  pub heads_are : (c : ℕ) (o : Option ℕ) → slice_get heads c ≡ Some o → IsLast (classes_of links) c (length links) o
+  pub before_is : (i : ℕ) (l : Link) → slice_get links i ≡ Some l → IsLast (classes_of links) l.class.0 i l.before

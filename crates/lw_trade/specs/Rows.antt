@@ -1,0 +1,28 @@
+-- What may stand at classes, as the code lists it.
+use Rattle.std.specs.Prelude.{ℕ, ◌<◌, ◌≡◌, List, map, Some, slice_get}
+use Rattle.lw_match.specs.Values.{numbers}
+use Rattle.lw_trade.specs.declared.choices.Row.{Row}
+use Rattle.lw_trade.specs.declared.choices.Stand.{Stand}
+use Rattle.lw_trade.specs.declared.choices.Stand.TheVariants.{Input, Gate}
+use Rattle.lw_trade.specs.Choices.{Part, Choice, MayStand}
+use Rattle.lw_trade.specs.Choices.Part.{input, gate}
+use Rattle.lw_trade.specs.Points.{Task}
+
+abbrev pub plain_part : Stand → Part
+plain_part (Input i) = input i
+plain_part (Gate g) = gate g.cell.0 (numbers g.pins)
+
+abbrev pub plain_row : Row → Choice
+plain_row r = record { class = r.class.0; part = plain_part r.stand }
+
+abbrev pub plain_rows : List Row → List Choice
+plain_rows rows = map plain_row rows
+
+abbrev pub IsAmong : List Choice → ℕ → Part → Type 0
+IsAmong choices c part = (n : ℕ) × (slice_get choices n ≡ Some (record { class = c; part = part }))
+
+-- the first inputs, and the matches at the first classes, each of which may stand at its class
+pub record IsListing (s : Task) (inputs classes : ℕ) (choices : List Choice) : Type 0 where
+  pub each : (n : ℕ) (x : Choice) → slice_get choices n ≡ Some x → MayStand s x.class x.part
+  pub inputs_are : (i c : ℕ) → i < inputs → slice_get s.graph.leaves i ≡ Some c → IsAmong choices c (input i)
+  pub gates_are : (c cell : ℕ) (ps : List ℕ) → c < classes → MayStand s c (gate cell ps) → IsAmong choices c (gate cell ps)

@@ -1,0 +1,161 @@
+-- What is kept while points are settled by rising time.
+use Rattle.std.specs.Prelude.{ℕ, ◌+◌, ◌-◌, ◌*◌, ◌/◌, ◌%◌, ◌<◌, ◌≤◌, ◌≡◌, ◌⊎◌, min, List, [], length, map, Option, Some, None, Result, Ok, Err, Contains, slice_get}
+use Rattle.std.specs.List.{AllZip}
+use Rattle.lw_fixed.specs.declared.micro.Micro.{Micro}
+use Rattle.lw_pool.specs.declared.id.ClassId.{ClassId}
+use Rattle.lw_laws.specs.Costs.{Cost}
+use Rattle.lw_laws.specs.Choices.{HasCost}
+use Rattle.lw_laws.specs.Matches.{choices_of}
+use Rattle.lw_laws.specs.Covers.{start_of, latest, delays_of}
+use Rattle.lw_trade.specs.Areas.{area_cost, most_area, area_at, total}
+use Rattle.lw_trade.specs.Points.{Task, timing, most_points}
+use Rattle.lw_trade.specs.declared.point.CurveFault.{CurveFault}
+use Rattle.lw_trade.specs.declared.point.CurveFault.TheVariants.{Limit, Memory}
+use Rattle.lw_trade.specs.Choices.{Part, Choice, HasPinAt, delay_at, AreChoices}
+use Rattle.lw_trade.specs.Choices.Part.{input, gate}
+
+-- a point of a class
+pub record Spot : Type 0 where
+  pub class : ℕ
+  pub time : ℕ
+  pub area : ℕ
+
+-- the point is among them
+abbrev pub Has : List Spot → Spot → Type 0
+Has spots k = (i : ℕ) × (slice_get spots i ≡ Some k)
+
+abbrev pub spot : ℕ → ℕ → ℕ → Spot
+spot c time area = record { class = c; time = time; area = area }
+
+-- a point of the class by this time and of this area at most
+abbrev pub HasAtMost : List Spot → ℕ → ℕ → ℕ → Type 0
+HasAtMost spots c time area =
+    (k : Spot) × Has spots k × (k.class ≡ c) × (k.time ≤ time) × (k.area ≤ area)
+
+-- of two points of a class the later has less area
+abbrev pub AreApart : List Spot → Type 0
+AreApart spots =
+    (i j : ℕ) (k l : Spot) → i < j → slice_get spots i ≡ Some k → slice_get spots j ≡ Some l → k.class ≡ l.class → (k.time < l.time) × (l.area < k.area)
+
+abbrev pub times : List Spot → List ℕ
+times ks = map (λ (k : Spot). k.time) ks
+
+abbrev pub areas : List Spot → List ℕ
+areas ks = map (λ (k : Spot). k.area) ks
+
+abbrev pub IsSpotOf : List Spot → ℕ → Spot → Type 0
+IsSpotOf spots p k = Has spots k × (k.class ≡ p)
+
+-- when an input starts, or when a cell arrives and what it takes together with points of its pins
+abbrev pub Gives : Task → List Spot → Part → ℕ → ℕ → Type 0
+Gives s spots (input i) time area =
+    (time ≡ start_of (timing s).starts i) × (area ≡ 0)
+Gives s spots (gate cell ps) time area =
+    (ks : List Spot) × AllZip (IsSpotOf spots) ps ks × (time ≡ latest (delays_of (timing s).delays cell) (times ks)) × (area ≡ min most_area (area_at s.cells cell + total (areas ks)))
+
+-- the least area that it gives by a time, and none where it gives none
+abbrev pub IsBest : Task → List Spot → Part → ℕ → Option ℕ → Type 0
+IsBest s spots part time None = (t a : ℕ) → Gives s spots part t a → t ≤ time → ⊥
+IsBest s spots part time (Some best) =
+    ((t : ℕ) × (t ≤ time) × Gives s spots part t best) × ((t a : ℕ) → Gives s spots part t a → t ≤ time → best ≤ a)
+
+-- a time and an area as one number
+abbrev pub joint : ℕ → ℕ → ℕ
+joint time area = time * (most_area + 1) + area
+
+abbrev pub time_in : ℕ → ℕ
+time_in d = d / (most_area + 1)
+
+abbrev pub area_in : ℕ → ℕ
+area_in d = d % (most_area + 1)
+
+-- the time and the area of a cover together
+abbrev pub joint_cost : Task → Cost
+joint_cost s = record {
+  cap = 0;
+  leaf = λ i. joint (start_of (timing s).starts i) 0;
+  value = λ cell ds. joint (latest (delays_of (timing s).delays cell) (map time_in ds)) (min most_area (area_at s.cells cell + total (map area_in ds)));
+  pin_counts = (area_cost s.cells).pin_counts;
+}
+
+-- some cover of the class arrives by the time and has this area
+abbrev pub IsReached : Task → Spot → Type 0
+IsReached s k =
+    (d : ℕ) × HasCost (choices_of s.graph (area_cost s.cells).pin_counts s.patterns) (joint_cost s) k.class d × (time_in d ≤ k.time) × (area_in d ≡ k.area)
+
+-- the choices that wait: how much time is left up to a horizon, a number that says which comes first of equal times, and the
+-- number of the choice
+pub record Queued : Type 0 where
+  pub horizon : ℕ
+  pub items : List (ℕ × (ℕ × ℕ))
+
+abbrev pub Waits : Queued → ℕ → ℕ → Type 0
+Waits q time n = (time ≤ q.horizon) × ((hint : ℕ) × Contains q.items (q.horizon - time, (hint, n)))
+
+-- All points are covers' and none is later than now. A use of a point from now on waits, and what a choice gives with points is
+-- had or waits.
+pub record IsSettling (s : Task) (choices : List Choice) (now : ℕ) (spots had : List Spot) (q : Queued) : Type 0 where
+  pub reached : (k : Spot) → Has had k → IsReached s k
+  pub low : (k : Spot) → Has had k → k.time ≤ now
+  pub waiting : (t n : ℕ) → Waits q t n → (now ≤ t) × (n < length choices)
+  pub uses : (k : Spot) (n j : ℕ) (x : Choice) → Has spots k → slice_get choices n ≡ Some x → HasPinAt x.part j k.class → k.time + delay_at s x.part j ≤ q.horizon → (k.time + delay_at s x.part j ≤ now) ⊎ Waits q (k.time + delay_at s x.part j) n
+  pub given : (n t a : ℕ) (x : Choice) → slice_get choices n ≡ Some x → Gives s spots x.part t a → t ≤ q.horizon → HasAtMost had x.class t a ⊎ Waits q t n
+
+-- the same where nothing is between the points that are had and those that are used
+abbrev pub IsStill : Task → List Choice → ℕ → List Spot → Queued → Type 0
+IsStill s choices now spots q = IsSettling s choices now spots spots q
+
+-- a point was added, in place of one of the same class and time if there was one
+pub record IsGained (old new : List Spot) (k : Spot) : Type 0 where
+  pub has : Has new k
+  pub only : (l : Spot) → Has new l → Has old l ⊎ (l ≡ k)
+  pub kept : (l : Spot) → Has old l → HasAtMost new l.class l.time l.area
+
+-- a point was added whose uses do not yet wait
+pub record IsGaining (s : Task) (choices : List Choice) (now class : ℕ) (new : List Spot) (q : Queued) : Type 0 where
+  pub old : List Spot
+  pub area : ℕ
+  pub settling : IsSettling s choices now old new q
+  pub gained : IsGained old new (spot class now area)
+
+-- all uses of a class at a time wait too
+pub record AreUsesAdded (s : Task) (choices : List Choice) (class time : ℕ) (old new : Queued) : Type 0 where
+  pub horizon : new.horizon ≡ old.horizon
+  pub kept : (t n : ℕ) → Waits old t n → Waits new t n
+  pub added : (n j : ℕ) (x : Choice) → slice_get choices n ≡ Some x → HasPinAt x.part j class → time + delay_at s x.part j ≤ old.horizon → Waits new (time + delay_at s x.part j) n
+  pub only : (t n : ℕ) → Waits new t n → Waits old t n ⊎ ((time ≤ t) × (n < length choices))
+
+-- Up to a time the points are settled: each choice gives no more than what is had.
+pub record AreSettled (s : Task) (now : ℕ) (choices : List Choice) (spots : List Spot) : Type 0 where
+  pub reached : (k : Spot) → Has spots k → IsReached s k
+  pub low : (k : Spot) → Has spots k → k.time ≤ now
+  pub given : (n t a : ℕ) (x : Choice) → slice_get choices n ≡ Some x → Gives s spots x.part t a → t ≤ now → HasAtMost spots x.class t a
+
+-- the choices are those of the task, and all is kept
+abbrev pub IsStillFor : Task → List Choice → ℕ → List Spot → Queued → Type 0
+IsStillFor s choices now spots q = AreChoices s choices × IsStill s choices now spots q
+
+-- a class has gained a point, or none has and none of the choices waits at this time
+abbrev pub IsAfter : Task → List Choice → ℕ → List Spot → Queued → Option ClassId → Type 0
+IsAfter s choices now spots q None = IsStillFor s choices now spots q × ((t n : ℕ) → Waits q t n → now < t)
+IsAfter s choices now spots q (Some class) = AreChoices s choices × IsGaining s choices now class.0 spots q
+
+-- a choice waits too, unless the time is past the horizon
+pub record IsLetWait (old new : Queued) (time n : ℕ) : Type 0 where
+  pub horizon : new.horizon ≡ old.horizon
+  pub kept : (t m : ℕ) → Waits old t m → Waits new t m
+  pub only : (t m : ℕ) → Waits new t m → Waits old t m ⊎ ((t ≡ time) × (m ≡ n))
+  pub here : time ≤ old.horizon → Waits new time n
+
+-- a choice waits at the time at which it gives a point without points of pins
+pub record IsStarted (starts : List Micro) (part : Part) (old new : Queued) (n : ℕ) : Type 0 where
+  pub kept : (t m : ℕ) → Waits old t m → Waits new t m
+  pub only : (t m : ℕ) → Waits new t m → Waits old t m ⊎ (m ≡ n)
+  pub here : (s : Task) (t a : ℕ) → s.starts ≡ starts → Gives s [] part t a → t ≤ old.horizon → Waits new t n
+
+-- All points up to the horizon are settled, or those up to some time, and then they are too many.
+abbrev pub AreSettledOr : Task → List Choice → ℕ → List Spot → Result (Unit {0}) CurveFault → Type 0
+AreSettledOr s choices horizon spots (Ok u) = AreSettled s horizon choices spots
+AreSettledOr s choices horizon spots (Err Limit) =
+    (now : ℕ) × (now ≤ horizon) × AreSettled s now choices spots × (most_points < length spots)
+AreSettledOr s choices horizon spots (Err Memory) = Unit {0}

@@ -1,0 +1,101 @@
+ghost use Rattle.std.specs.Prelude.{◌≡◌, ◌+◌, ◌<◌, ◌≤◌, ℕ, [], List, IfOk, OnOk, Some, length, slice_get};
+ghost use Rattle.lw_match.specs.Least.{AreOfCells};
+ghost use Rattle.lw_genlib.specs.Cells.{CellParts};
+ghost use Rattle.lw_fixed.specs.declared.micro.Micro.{Micro as MicroOf};
+ghost use Rattle.lw_trade.specs.Areas.{area_cost};
+ghost use Rattle.lw_trade.specs.Choices.{AreChoices};
+ghost use Rattle.lw_trade.specs.Points.{task};
+ghost use Rattle.lw_trade.specs.Rows.{IsListing, plain_rows};
+
+use lw_graph::Graph;
+use lw_match::{Cursor, Pins};
+use lw_pattern::Patterns;
+use lw_pool::{CellId, ClassId};
+use std::alloc::{AllocError, Global};
+
+/// A cell with the classes of its pins.
+#[derive(Debug, Drop)]
+pub(crate) struct Gate {
+    pub cell: CellId,
+    pub pins: Pins,
+}
+
+/// What may stand at a class: an input, or a cell by a match.
+#[derive(Debug, Drop)]
+pub(crate) enum Stand {
+    Input(u32),
+    Gate(Gate),
+}
+
+/// What may stand at which class.
+#[derive(Debug, Drop)]
+pub(crate) struct Row {
+    pub class: ClassId,
+    pub stand: Stand,
+}
+
+// Appends the inputs.
+fn list_inputs(graph: &Graph, rows: &mut Vec<Row>) -> Result<(), AllocError>
+    requires { rows.old.items ≡ [] }
+    ensures { OnOk result ((pats : _) (cells : List CellParts) (starts : List MicroOf) →
+        IsListing (task graph.now pats cells starts)
+        (length graph.now.leaves) 0 (plain_rows rows.new.items)) }
+{
+    let _ = graph.classes();
+    for input in 0..graph.inputs() {
+        rows.push(Row {
+            class: graph.leaf(input),
+            stand: Stand::Input(input),
+        })?;
+    }
+    Ok(())
+}
+
+// Appends the matches at a class.
+fn list_class(
+    graph: &Graph,
+    pats: &Patterns,
+    class: ClassId,
+    rows: &mut Vec<Row>,
+) -> Result<(), AllocError>
+    requires class { class.0 < length graph.now.pairs }
+    ensures { OnOk result ((cells : List CellParts) (starts : List MicroOf) →
+        AreOfCells (area_cost cells).pin_counts pats.now →
+        IsListing (task graph.now pats.now cells starts)
+        (length graph.now.leaves) class.0 (plain_rows rows.old.items) →
+        IsListing (task graph.now pats.now cells starts) (length graph.now.leaves) (class.0 + 1)
+        (plain_rows rows.new.items)) }
+{
+    let _ = graph.classes();
+    let mut cursor = Cursor::new(class);
+    while let Some(found) = cursor.next(graph, pats) {
+        let cell = pats.get(found.pat).cell;
+        let gate = Gate {
+            cell,
+            pins: found.pins,
+        };
+        rows.push(Row {
+            class,
+            stand: Stand::Gate(gate),
+        })?;
+    }
+    Ok(())
+}
+
+/// All that may stand at the classes of a graph: the inputs, and then the matches, class by class.
+pub(crate) fn list_choices(
+    alloc: Global,
+    graph: &Graph,
+    pats: &Patterns,
+) -> Result<Vec<Row>, AllocError>
+    ensures { IfOk result (λ rows. (cells : List CellParts) (starts : List MicroOf) →
+        AreOfCells (area_cost cells).pin_counts pats.now →
+        AreChoices (task graph.now pats.now cells starts) (plain_rows rows.items)) }
+{
+    let mut rows = Vec::new(alloc);
+    list_inputs(graph, &mut rows)?;
+    for class in 0..graph.classes() {
+        list_class(graph, pats, ClassId(class), &mut rows)?;
+    }
+    Ok(rows)
+}

@@ -1,0 +1,158 @@
+ghost use Rattle.std.specs.Prelude.{◌≡◌, ◌<◌, ◌≤◌, [], IfOk, IfNone, IfSome, OnOk, OnErr, length};
+ghost use Rattle.lw_trade.specs.Areas.{most_area};
+ghost use Rattle.lw_trade.specs.Fronts.{IsLastAt, IsLeastSpot, IsTried, spots_of};
+ghost use Rattle.lw_trade.specs.Settling.{Spot, spot, Has, AreApart, IsGained};
+
+use crate::links::Links;
+use crate::point::Point;
+use lw_fixed::Micro;
+use lw_pool::ClassId;
+use std::alloc::{AllocError, Global};
+use std::marker::Model;
+
+/// The points of all classes that were found so far, in the order in which they were found.
+#[derive(Drop)]
+pub(crate) struct Fronts {
+    links: Links,
+    points: Vec<Point>,
+    // the least area of a point of each class, and one more than the greatest area where it has
+    // none
+    least: Vec<u64>,
+}
+
+impl Model for Fronts {
+    ghost use Rattle.lw_trade.specs.Fronts.{FrontState, IsFronts, spots_of};
+
+    ghost Value = { FrontState };
+
+    ghost view = { λ f. record { spots = spots_of f.links.classes f.points.items; least = f.least.items } };
+
+    ghost invariant = { λ f. IsFronts f.links f.points.items f.least.items };
+}
+
+// The last place of a class, where its point is of a time that no point of the class is after.
+fn place_at(links: &Links, points: &[Point], class: ClassId, time: Micro) -> Option<u32>
+    requires class { class.0 < links.now.count }
+    requires one_each { length points.now ≡ length links.now.classes }
+    requires apart { AreApart (spots_of links.now.classes points.now) }
+    requires late { (k : Spot) → Has (spots_of links.now.classes points.now) k → k.time ≤ time.0 }
+    ensures some { IfSome result (λ place. IsLastAt links.now.classes points.now class.0 time.0
+        place) }
+    ensures none { IfNone result ((k : Spot) → Has (spots_of links.now.classes points.now) k →
+        k.class ≡ class.0 → k.time < time.0) }
+{
+    let Some(place) = links.last(class) else {
+        return None;
+    };
+    if points[place as usize].time.0 == time.0 {
+        return Some(place);
+    }
+    None
+}
+
+// The least area of the points of a class by a time.
+fn area_by(links: &Links, points: &[Point], class: ClassId, time: u64) -> Option<u64>
+    requires class { class.0 < links.now.count }
+    requires one_each { length points.now ≡ length links.now.classes }
+    requires apart { AreApart (spots_of links.now.classes points.now) }
+    ensures { IsLeastSpot (spots_of links.now.classes points.now) class.0 time result }
+{
+    let Some(mut place) = links.last(class) else {
+        return None;
+    };
+    while points[place as usize].time.0 > time {
+        let Some(before) = links.before(place) else {
+            return None;
+        };
+        place = before;
+    }
+    Some(points[place as usize].area)
+}
+
+// Puts a point of a class behind all, or in place of the last one of the class where that is of the
+// same time.
+fn put(
+    links: &mut Links,
+    points: &mut Vec<Point>,
+    class: ClassId,
+    point: Point,
+) -> Result<(), AllocError>
+    requires class { class.0 < links.old.count }
+    requires one_each { length points.old.items ≡ length links.old.classes }
+    requires apart { AreApart (spots_of links.old.classes points.old.items) }
+    requires late { (k : Spot) → Has (spots_of links.old.classes points.old.items) k →
+        k.time ≤ point.time.0 }
+    requires less { (k : Spot) → Has (spots_of links.old.classes points.old.items) k →
+        k.class ≡ class.0 → point.area < k.area }
+    ensures one_each { length points.new.items ≡ length links.new.classes }
+    ensures count { links.new.count ≡ links.old.count }
+    ensures apart { AreApart (spots_of links.new.classes points.new.items) }
+    ensures gained { OnOk result (IsGained (spots_of links.old.classes points.old.items)
+        (spots_of links.new.classes points.new.items) (spot class.0 point.time.0 point.area)) }
+    ensures err { OnErr result (spots_of links.new.classes points.new.items
+        ≡ spots_of links.old.classes points.old.items) }
+{
+    if let Some(place) = place_at(links, points.as_slice(), class, point.time) {
+        points[place as usize] = point;
+        return Ok(());
+    }
+    points.reserve(1)?;
+    links.push(class)?;
+    points.push(point)?;
+    Ok(())
+}
+
+// More than any area.
+const NO_AREA: u64 = 4_611_686_018_427_387_905;
+
+impl Fronts {
+    /// No points, for so many classes.
+    pub(crate) fn new(alloc: Global, classes: usize) -> Result<Fronts, AllocError>
+        ensures spots { IfOk result (λ fronts. fronts.spots ≡ []) }
+        ensures classes { IfOk result (λ fronts. length fronts.least ≡ classes) }
+    {
+        Ok(Fronts {
+            links: Links::new(alloc, classes)?,
+            points: Vec::new(alloc),
+            least: vec![in alloc; NO_AREA; classes]?,
+        })
+    }
+
+    /// How many points there are.
+    pub(crate) fn len(&self) -> u32
+        ensures { result ≡ length self.now.spots }
+    {
+        self.links.len()
+    }
+
+    /// The least area of the points of a class by a time.
+    pub(crate) fn area_by(&self, class: ClassId, time: u64) -> Option<u64>
+        requires { class.0 < length self.now.least }
+        ensures { IsLeastSpot self.now.spots class.0 time result }
+    {
+        area_by(&self.links, self.points.as_slice(), class, time)
+    }
+
+    /// Adds a point of a class, unless the class has one of no greater area, and says whether it
+    /// did.
+    pub(crate) fn gain(&mut self, class: ClassId, time: u64, area: u64) -> Result<bool, AllocError>
+        requires class { class.0 < length self.old.least }
+        requires area { area ≤ most_area }
+        requires late { (k : Spot) → Has self.old.spots k → k.time ≤ time }
+        ensures count { length self.new.least ≡ length self.old.least }
+        ensures tried { IfOk result (IsTried self.old self.new (spot class.0 time area)) }
+    {
+        if self.least[class.0 as usize] <= area {
+            return Ok(false);
+        }
+        let time = Micro(time);
+        put(
+            &mut self.links,
+            &mut self.points,
+            class,
+            Point { time, area },
+        )?;
+        self.least[class.0 as usize] = area;
+        Ok(true)
+    }
+}

@@ -1,0 +1,98 @@
+ghost use Rattle.std.specs.Prelude.{◌≡◌, ◌<◌, ◌++◌, [], ◌∷◌, ℕ, IfOk, OnOk, OnErr, length, Some, slice_get};
+ghost use Rattle.lw_trade.specs.Links.{IsLast};
+
+use lw_pool::ClassId;
+use std::alloc::{AllocError, Global};
+use std::marker::Model;
+
+/// A place with a class, and the last one before it that has the class too.
+#[derive(Clone, Copy, Debug)]
+pub(crate) struct Link {
+    pub class: ClassId,
+    pub before: Option<u32>,
+}
+
+/// The classes of the places of an array, each place linked to the last one before it that has the
+/// same class.
+#[derive(Drop)]
+pub(crate) struct Links {
+    links: Vec<Link>,
+    heads: Vec<Option<u32>>,
+}
+
+impl Model for Links {
+    ghost use Rattle.std.specs.Prelude.{length};
+    ghost use Rattle.lw_trade.specs.Links.{LinkState, AreLinks, classes_of};
+
+    ghost Value = { LinkState };
+
+    ghost view = { λ l. record { classes = classes_of l.links.items; count = length l.heads.items } };
+
+    ghost invariant = { λ l. AreLinks l.links.items l.heads.items };
+}
+
+impl Links {
+    ghost use Rattle.lw_trade.specs.Links.{classes_of};
+
+    /// No places, for so many classes.
+    pub(crate) fn new(alloc: Global, classes: usize) -> Result<Links, AllocError>
+        ensures classes { IfOk result (λ links. links.classes ≡ []) }
+        ensures count { IfOk result (λ links. links.count ≡ classes) }
+    {
+        Ok(Links {
+            links: Vec::new(alloc),
+            heads: vec![in alloc; None; classes]?,
+        })
+    }
+
+    /// The number of places.
+    pub(crate) fn len(&self) -> u32
+        ensures len { result ≡ length self.now.classes }
+        ensures within { (i c : ℕ) → slice_get self.now.classes i ≡ Some c → c < self.now.count }
+    {
+        self.links.len() as u32
+    }
+
+    /// The class of a place.
+    pub(crate) fn class(&self, place: u32) -> ClassId
+        requires { place < length self.now.classes }
+        ensures class { slice_get self.now.classes place ≡ Some result.0 }
+        ensures within { result.0 < self.now.count }
+    {
+        self.links[place as usize].class
+    }
+
+    /// The last place with a class.
+    pub(crate) fn last(&self, class: ClassId) -> Option<u32>
+        requires { class.0 < self.now.count }
+        ensures { IsLast self.now.classes class.0 (length self.now.classes) result }
+    {
+        self.heads[class.0 as usize]
+    }
+
+    /// The last place before one that has its class.
+    pub(crate) fn before(&self, place: u32) -> Option<u32>
+        requires { place < length self.now.classes }
+        ensures { (c : ℕ) → slice_get self.now.classes place ≡ Some c →
+            IsLast self.now.classes c place result }
+    {
+        self.links[place as usize].before
+    }
+
+    /// Appends a place with a class. There is no memory for 2^32 places.
+    pub(crate) fn push(&mut self, class: ClassId) -> Result<(), AllocError>
+        requires { class.0 < self.old.count }
+        ensures classes { OnOk result (self.new.classes ≡ self.old.classes ++ class.0 ∷ []) }
+        ensures count { self.new.count ≡ self.old.count }
+        ensures err { OnErr result (self.new ≡ self.old) }
+    {
+        if self.links.len() >= 4_294_967_295 {
+            return Err(AllocError);
+        }
+        let place = self.links.len() as u32;
+        let before = self.heads[class.0 as usize];
+        self.links.push(Link { class, before })?;
+        self.heads[class.0 as usize] = Some(place);
+        Ok(())
+    }
+}

@@ -1,0 +1,84 @@
+ghost use Rattle.std.specs.Prelude.{◌≡◌, ◌<◌, ◌≤◌, List, All, IfSome, length, map};
+ghost use Rattle.lw_genlib.specs.Tables.{millionths};
+ghost use Rattle.lw_match.specs.Values.{numbers};
+ghost use Rattle.lw_laws.specs.Covers.{start_of};
+ghost use Rattle.lw_laws.specs.Graphs.{Graph as PlainGraph};
+ghost use Rattle.lw_laws.specs.Covers.{Pattern as TreeOfCell};
+ghost use Rattle.lw_trade.specs.Areas.{most_area};
+ghost use Rattle.lw_trade.specs.Points.{task};
+ghost use Rattle.lw_trade.specs.Pricing.{IsBestOfPins, IsOfLibrary, IsWithin};
+ghost use Rattle.lw_trade.specs.Rows.{plain_part};
+ghost use Rattle.lw_trade.specs.Settling.{IsBest};
+
+use crate::area::joined;
+use crate::choices::Stand;
+use crate::fronts::Fronts;
+use lw_fixed::Micro;
+use lw_genlib::Library;
+use lw_pool::ClassId;
+
+/// When an input starts.
+pub(crate) fn start_of(starts: &[Micro], input: u32) -> u64
+    ensures { result ≡ start_of (map millionths starts.now) input }
+{
+    let input = input as usize;
+    if input < starts.len() {
+        starts[input].0
+    } else {
+        0
+    }
+}
+
+// The least area of some pins together by a time.
+fn area_of_pins(delays: &[Micro], pins: &[ClassId], fronts: &Fronts, time: u64) -> Option<u64>
+    requires one_each { length delays.now ≡ length pins.now }
+    requires within { All (λ (c : ClassId). c.0 < length fronts.now.least) pins.now }
+    ensures { IsBestOfPins fronts.now.spots (map millionths delays.now)
+        (numbers pins.now) time result }
+{
+    let mut area = 0;
+    let mut pin = pins.len();
+    while pin > 0 {
+        pin -= 1;
+        if delays[pin].0 > time {
+            return None;
+        }
+        let Some(first) = fronts.area_by(pins[pin], time - delays[pin].0) else {
+            return None;
+        };
+        area = joined(first, area);
+    }
+    Some(area)
+}
+
+/// The least area that a choice gives by a time, with the points that were found so far.
+pub(crate) fn price(
+    stand: &Stand,
+    lib: &Library,
+    starts: &[Micro],
+    fronts: &Fronts,
+    time: u64,
+) -> Option<u64>
+    requires within { IsWithin (length fronts.now.least) (plain_part stand.now) }
+    requires cell { IsOfLibrary lib.now (plain_part stand.now) }
+    ensures low { IfSome result (λ area. area ≤ most_area) }
+    ensures best { (g : PlainGraph) (pats : List TreeOfCell) →
+        IsBest (task g pats lib.now starts.now) fronts.now.spots
+        (plain_part stand.now) time result }
+{
+    match stand {
+        Stand::Input(input) => {
+            if start_of(starts, *input) > time {
+                return None;
+            }
+            Some(0)
+        }
+        Stand::Gate(gate) => {
+            let cell = lib.cell(gate.cell);
+            match area_of_pins(cell.delays(), gate.pins.as_slice(), fronts, time) {
+                Some(pins) => Some(joined(cell.area().0, pins)),
+                None => None,
+            }
+        }
+    }
+}

@@ -1,0 +1,10 @@
+use Rattle.std.proofs.Common.{◌∷◌, ap, ◌∙◌}
+use Rattle.lw_io.proofs.Putting.{Puts-more}
+use Rattle.lw_verilog.proofs.PutParts.{Puts-is}
+use Rattle.lw_verilog.specs.Texts.{escaped}
+use Rattle.lw_verilog.proofs.putting.put_further.Goals as goal
+
+pub loop-name-preserved : goal.loop-name-preserved
+loop-name-preserved g c =
+    Puts-more (λ name. 44 ∷ 32 ∷ escaped name) c.args.names.now c.loop-name.name-index c.name-item.result c.loop-name-test.true c.loop-name.invariant
+    (Puts-is c.put_next.ensures (ap (λ n. 44 ∷ 32 ∷ escaped n) (c.as_bytes.ensures.bytes ∙ c.name-item.is)))

@@ -1,0 +1,27 @@
+use Rattle.std.proofs.Common.{◌+◌, Err, take, ap, sym, ◌∙◌}
+use Rattle.lw_verilog.proofs.Parsing.{stands-first, stands-last, parse-told, piece-told, piece-passed}
+use Rattle.lw_verilog.specs.Readings.{FaultAt, piece_fault}
+use Rattle.lw_verilog.specs.Tokens.{name_of}
+use Rattle.lw_verilog.proofs.reader.parse.Goals as goal
+
+pub loop-rest-init : goal.loop-rest-init
+loop-rest-init c = stands-first c.args.lib.now c.args.text.now c.new-contents.result (c.new-contents.ensures c.args.lib.now)
+
+pub returns-in-Err-clause-fault : goal.returns-in-Err-clause-fault
+returns-in-Err-clause-fault c =
+    let s = c.loop-rest.invariant in
+    let p = c.first_piece-piece.result in
+    parse-told c.args.lib.now c.args.text.now (piece_fault c.args.lib.now s.reading p.kind (name_of (take p.size c.loop-rest.rest.now))) c.in-Err.refusal c.line_of.result c.refused_at.result c.refused_at.ensures (c.in-Err.ensures.fault s.reading s.keeps)
+    (λ k e. piece-told c.args.lib.now c.args.text.now c.loop-rest.contents c.loop-rest.line c.loop-rest.rest.now s p c.first_piece-piece.ensures.piece (sym c.is_done.ensures ∙ c.loop-rest-test.true) k e
+    ∙ ap (λ n. let f : FaultAt = record { line = n; kind = k } in Err f) (sym c.line_of.ensures))
+
+pub loop-rest-preserved : goal.loop-rest-preserved
+loop-rest-preserved c =
+    let s = c.loop-rest.invariant in
+    let p = c.first_piece-piece.result in
+    piece-passed c.args.lib.now c.args.text.now c.loop-rest.contents c.loop-rest.line c.loop-rest.rest.now s p c.first_piece-piece.ensures.piece (sym c.is_done.ensures ∙ c.loop-rest-test.true) c.read.new.self
+    (c.loop-rest.line + c.line_feeds-line.result) c.behind-rest.result.now (sym (c.in_default.ensures.fault s.reading s.keeps)) (c.in_default.ensures.keeps s.reading s.keeps) c.in_default.ensures.weight
+    (c.first_piece-piece.ensures.some c.in_default.ensures.ended) c.first_piece-piece.ensures.within (ap (λ n. c.loop-rest.line + n) c.line_feeds-line.ensures.count) c.behind-rest.ensures
+
+pub returns-clause-parsed : goal.returns-clause-parsed
+returns-clause-parsed c = stands-last c.args.lib.now c.args.text.now c.loop-rest.contents c.loop-rest.line c.loop-rest.rest.now c.loop-rest.invariant (sym c.is_done.ensures ∙ c.loop-rest-test.false)

@@ -1,0 +1,9 @@
+pub mod Grammar
+pub mod Keeping
+pub mod Pieces
+pub mod Readings
+pub mod Sayable
+pub mod Statements
+pub mod Texts
+pub mod Tokens
+pub mod Verdicts

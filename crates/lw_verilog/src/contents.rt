@@ -1,0 +1,279 @@
+// What the tokens that were read say together.
+ghost use Rattle.std.specs.Prelude.{◌≡◌, ◌<◌, ◌++◌, [], ◌∷◌, false, None, length, OnOk};
+ghost use Rattle.lw_netlist.specs.Closing.{is_among};
+ghost use Rattle.lw_verilog.specs.Readings.{cell_in, missing_fault};
+ghost use Rattle.lw_verilog.specs.Statements.{gate_by, ties_in, wire_by};
+ghost use Rattle.lw_verilog.specs.Tokens.{name_of};
+
+use crate::gates::gate_of;
+use crate::place::move_at;
+use crate::rules::{cell_fault, declared_fault, missing_fault, name_fault, pin_fault, ports_fault};
+use crate::{Kind, Place, Refusal, Task, VerilogKind};
+use indexmap::IndexSet;
+use lw_genlib::Library;
+use lw_netlist::{DraftGates, GateDraft, Wire, Wires};
+use lw_pool::{Name, Names};
+use std::alloc::{AllocError, Global};
+use std::mem;
+
+/// What the tokens that were read say together.
+#[derive(Drop)]
+pub struct Contents {
+    pub(crate) alloc: Global,
+    pub(crate) place: Place,
+    // Those of the statement that is open.
+    pub(crate) names: Names,
+    // The ports that are declared.
+    pub(crate) declared: IndexSet<Name>,
+    // The model, and then the ports that are listed.
+    pub(crate) header: Names,
+    pub(crate) inputs: Names,
+    pub(crate) outputs: Names,
+    pub(crate) gates: DraftGates,
+    pub(crate) wires: Wires,
+}
+
+// A name without the backslash before it.
+fn name_of(bytes: &[u8]) -> &[u8]
+    ensures { result.now ≡ name_of bytes.now }
+{
+    match bytes {
+        [b'\\', name @ ..] => name,
+        _ => bytes,
+    }
+}
+
+// Appends a copy of a name.
+fn push_name(alloc: Global, names: &mut Names, name: &[u8]) -> Result<(), AllocError>
+    requires { 0 < length name.now }
+    ensures { OnOk result (names.new ≡ names.old ++ name.now ∷ []) }
+{
+    names.push(Name::from_slice(alloc, name)?)
+}
+
+// Appends names.
+fn append(names: &mut Names, more: Names) -> Result<(), AllocError>
+    ensures { OnOk result (names.new ≡ names.old ++ more) }
+{
+    let mut left = more.into_vec().into_iter();
+    'names: while let Some(name) = left.next() {
+        names.push(name)?;
+    }
+    Ok(())
+}
+
+// Adds a name that is not there.
+fn declare(alloc: Global, declared: &mut IndexSet<Name>, name: &[u8]) -> Result<(), AllocError>
+    requires some { 0 < length name.now }
+    requires new { is_among declared.old.keys name.now ≡ false }
+    ensures { OnOk result (declared.new.keys ≡ declared.old.keys ++ name.now ∷ []) }
+{
+    let name = Name::from_slice(alloc, name)?;
+    let Ok(_) = declared.insert(name) else {
+        return Err(AllocError);
+    };
+    Ok(())
+}
+
+// Appends the wire of an assignment of these names.
+fn push_wire(alloc: Global, wires: &mut Wires, names: &[Name]) -> Result<(), AllocError>
+    ensures { OnOk result (wires.new ≡ wires.old ++ wire_by names.now) }
+{
+    if names.len() < 2 {
+        return Ok(());
+    }
+    let to = Name::from_slice(alloc, names[0].as_bytes())?;
+    let from = Name::from_slice(alloc, names[1].as_bytes())?;
+    wires.push(Wire { from, to })
+}
+
+// Appends the gate of an instance of these names.
+fn push_gate(
+    alloc: Global,
+    lib: &Library,
+    gates: &mut DraftGates,
+    names: &[Name],
+) -> Result<(), AllocError>
+    requires { missing_fault (cell_in lib.now names.now) (ties_in names.now) ≡ None }
+    ensures { OnOk result (gates.new ≡ gates.old ++ gate_by lib.now names.now) }
+{
+    if let Some(gate) = gate_of(alloc, lib, names)? {
+        gates.push(gate)?;
+    }
+    Ok(())
+}
+
+impl Contents {
+    ghost use Rattle.std.specs.Prelude.{◌≡◌, ◌<◌, ◌≤◌, ◌+◌, List, None, drop, length, IfOk, OnOk, true, false};
+    ghost use Rattle.lw_genlib.specs.Cells.{CellParts};
+    ghost use Rattle.lw_verilog.specs.Tokens.{is_end, is_name, name_of};
+    ghost use Rattle.lw_verilog.specs.declared.place.Task.TheVariants as tasks;
+    ghost use Rattle.lw_verilog.specs.Grammar.{move_at};
+    ghost use Rattle.lw_verilog.specs.Keeping.{Acts, Adds, Keeps, TellsFault, weight};
+    ghost use Rattle.lw_verilog.specs.Statements.{model_of};
+    ghost use Rattle.lw_verilog.specs.Readings.{Reading, is_done, is_word, moved_on, nothing_read, rule_fault, piece_fault, piece_read, token_fault};
+
+    pub(crate) fn new(alloc: Global) -> Self
+        ensures { (cells : List CellParts) → Keeps cells result nothing_read }
+    {
+        Contents {
+            alloc,
+            place: Place::Begin,
+            names: Names::new(alloc),
+            declared: IndexSet::new(alloc),
+            header: Names::new(alloc),
+            inputs: Names::new(alloc),
+            outputs: Names::new(alloc),
+            gates: DraftGates::new(alloc),
+            wires: Wires::new(alloc),
+        }
+    }
+
+    pub(crate) fn is_done(&self) -> bool
+        ensures { result ≡ is_done self.now.place }
+    {
+        matches!(self.place, Place::Done)
+    }
+
+    // The names of the ports.
+    fn ports(&self) -> &[Name]
+        ensures { result.now ≡ drop 1 self.now.header }
+    {
+        match self.header.as_slice() {
+            [_, ports @ ..] => ports,
+            [] => &[],
+        }
+    }
+
+    // The rule that a token breaks which may stand here.
+    #[tactic(auto, unfolding(crate::specs::Readings::rule_fault))]
+    fn fault(
+        &self,
+        task: Task,
+        name: &[u8],
+        lib: &Library,
+    ) -> Result<Option<VerilogKind>, AllocError>
+        requires { task ≡ tasks.Declare → 0 < length name.now }
+        ensures { IfOk result (λ fault. fault
+            ≡ rule_fault lib.now self.now.names
+            (drop 1 self.now.header) self.now.declared.keys task name.now) }
+    {
+        match task {
+            Task::Word => Ok(name_fault(name)),
+            Task::Declare => declared_fault(self.alloc, &self.declared, name),
+            Task::Cell => Ok(cell_fault(lib, name)),
+            Task::Pin => Ok(pin_fault(lib, self.names.as_slice(), name)),
+            Task::Instance => Ok(missing_fault(lib, self.names.as_slice())),
+            Task::Finish => ports_fault(self.alloc, self.ports(), &self.declared),
+            _ => Ok(None),
+        }
+    }
+
+    // Ends a statement. The rest stays.
+    fn end(&mut self, task: Task, lib: &Library) -> Result<(), AllocError>
+        requires { task ≡ tasks.Instance →
+            missing_fault (cell_in lib.now self.old.names) (ties_in self.old.names) ≡ None }
+        ensures adds { OnOk result (Adds lib.now task self.old.names self.old self.new) }
+        ensures names { OnOk result (self.new.names ≡ []) }
+        ensures declared { self.new.declared.keys ≡ self.old.declared.keys }
+    {
+        let names = mem::replace(&mut self.names, Names::new(self.alloc));
+        match task {
+            Task::Header => append(&mut self.header, names),
+            Task::Inputs => append(&mut self.inputs, names),
+            Task::Outputs => append(&mut self.outputs, names),
+            Task::Assignment => push_wire(self.alloc, &mut self.wires, names.as_slice()),
+            Task::Instance => push_gate(self.alloc, lib, &mut self.gates, names.as_slice()),
+            _ => Ok(()),
+        }
+    }
+
+    // Does the task of a token.
+    fn act(&mut self, task: Task, name: &[u8], lib: &Library) -> Result<(), AllocError>
+        requires some { is_word task ≡ true → 0 < length name.now }
+        requires rule { rule_fault lib.now self.old.names
+            (drop 1 self.old.header) self.old.declared.keys task name.now ≡ None }
+        ensures { OnOk result (Acts lib.now task name.now self.old self.new) }
+    {
+        match task {
+            Task::Skip => Ok(()),
+            Task::Word | Task::Cell | Task::Pin => push_name(self.alloc, &mut self.names, name),
+            Task::Declare => {
+                declare(self.alloc, &mut self.declared, name)?;
+                push_name(self.alloc, &mut self.names, name)
+            }
+            _ => self.end(task, lib),
+        }
+    }
+
+    /// Takes a token of this kind and this name, or tells the first rule that it breaks.
+    pub(crate) fn take(&mut self, kind: Kind, name: &[u8], lib: &Library) -> Result<(), Refusal>
+        requires { is_name kind ≡ true → 0 < length name.now }
+        ensures fault { (r : Reading) → Keeps lib.now self.old r →
+            TellsFault result (token_fault lib.now r kind name.now) }
+        ensures weight { OnOk result (weight self.new ≤ weight self.old + 1) }
+        ensures ended { OnOk result (is_end kind ≡ false) }
+        ensures keeps { OnOk result ((r : Reading) → Keeps lib.now self.old r →
+            Keeps lib.now self.new (moved_on r name.now (move_at r.place kind))) }
+    {
+        if matches!(kind, Kind::Strange) {
+            return Err(Refusal::Broken(VerilogKind::BadByte));
+        }
+        let Some(step) = move_at(self.place, kind) else {
+            return Err(Refusal::Broken(VerilogKind::Expected));
+        };
+        if let Some(fault) = self.fault(step.task, name, lib)? {
+            return Err(Refusal::Broken(fault));
+        }
+        self.act(step.task, name, lib)?;
+        self.place = step.next;
+        Ok(())
+    }
+
+    /// Takes a piece of this kind and these bytes, or tells the first rule that it breaks.
+    pub(crate) fn read(&mut self, kind: Kind, bytes: &[u8], lib: &Library) -> Result<(), Refusal>
+        requires { is_name kind ≡ true → 0 < length (name_of bytes.now) }
+        ensures fault { (r : Reading) → Keeps lib.now self.old r →
+            TellsFault result (piece_fault lib.now r kind (name_of bytes.now)) }
+        ensures weight { OnOk result (weight self.new ≤ weight self.old + 1) }
+        ensures ended { OnOk result (is_end kind ≡ false) }
+        ensures keeps { OnOk result ((r : Reading) → Keeps lib.now self.old r →
+            Keeps lib.now self.new (piece_read r kind (name_of bytes.now))) }
+    {
+        match kind {
+            Kind::Gap => Ok(()),
+            _ => self.take(kind, name_of(bytes), lib),
+        }
+    }
+
+    /// The netlist by names.
+    pub(crate) fn draft(self, alloc: Global) -> Result<GateDraft, AllocError>
+        ensures { IfOk result (λ draft. draft
+            ≡ record {
+              model = model_of self.header;
+              inputs = self.inputs;
+              outputs = self.outputs;
+              gates = self.gates;
+              wires = self.wires;
+            }) }
+    {
+        let model = match self.header.as_slice() {
+            [model, ..] => Name::from_slice(alloc, model.as_bytes())?,
+            [] => Name::from_slice(alloc, b"unnamed")?,
+        };
+        let Contents {
+            inputs,
+            outputs,
+            gates,
+            wires,
+            ..
+        } = self;
+        Ok(GateDraft {
+            model,
+            inputs,
+            outputs,
+            gates,
+            wires,
+        })
+    }
+}

@@ -1,0 +1,248 @@
+// The pieces of a text.
+ghost use Rattle.std.specs.Prelude.{◌≡◌, ◌≤◌, ◌<◌, ◌+◌, ◌^◌, length, not, take, true, false};
+ghost use Rattle.std.specs.List.{position};
+ghost use Rattle.lw_verilog.specs.Tokens.{is_end, is_name, name_of};
+ghost use Rattle.lw_verilog.specs.Pieces.{byte_at, is_separator, is_line_feed, is_visible, is_letter, begins_name, is_name_byte, separators, visibles, name_bytes, line_bytes, before_pair, word_kind, sign_kind, closed, escaped, comment_or_sign, first_piece};
+
+use crate::{Kind, Piece};
+
+fn byte_at(bytes: &[u8], place: usize) -> u8
+    ensures { result ≡ byte_at bytes.now place }
+{
+    if place < bytes.len() {
+        return bytes[place];
+    }
+    0
+}
+
+fn is_separator(b: u8) -> bool
+    ensures { result ≡ is_separator b }
+{
+    b == b' ' || b == b'\t' || b == b'\n' || b == 12 || b == b'\r'
+}
+
+pub(crate) fn is_visible(b: u8) -> bool
+    ensures { result ≡ is_visible b }
+{
+    33 <= b && b <= 126
+}
+
+fn begins_name(b: u8) -> bool
+    ensures { result ≡ begins_name b }
+{
+    (b'A' <= b && b <= b'Z') || (b'a' <= b && b <= b'z') || b == b'_'
+}
+
+fn is_name_byte(b: u8) -> bool
+    ensures { result ≡ is_name_byte b }
+{
+    begins_name(b) || (b'0' <= b && b <= b'9') || b == b'$'
+}
+
+fn separators_end(bytes: &[u8]) -> Option<usize>
+    ensures { result ≡ position (λ b. not (is_separator b)) bytes.now }
+{
+    bytes.iter().position(|b| !is_separator(*b))
+}
+
+fn separators(bytes: &[u8]) -> usize
+    ensures count { result ≡ separators bytes.now }
+    ensures within { result ≤ length bytes.now }
+{
+    separators_end(bytes).unwrap_or(bytes.len())
+}
+
+fn visibles_end(bytes: &[u8]) -> Option<usize>
+    ensures { result ≡ position (λ b. not (is_visible b)) bytes.now }
+{
+    bytes.iter().position(|b| !is_visible(*b))
+}
+
+fn visibles(bytes: &[u8]) -> usize
+    ensures count { result ≡ visibles bytes.now }
+    ensures within { result ≤ length bytes.now }
+{
+    visibles_end(bytes).unwrap_or(bytes.len())
+}
+
+fn name_bytes_end(bytes: &[u8]) -> Option<usize>
+    ensures { result ≡ position (λ b. not (is_name_byte b)) bytes.now }
+{
+    bytes.iter().position(|b| !is_name_byte(*b))
+}
+
+fn name_bytes(bytes: &[u8]) -> usize
+    ensures count { result ≡ name_bytes bytes.now }
+    ensures within { result ≤ length bytes.now }
+{
+    name_bytes_end(bytes).unwrap_or(bytes.len())
+}
+
+fn line_bytes_end(bytes: &[u8]) -> Option<usize>
+    ensures { result ≡ position is_line_feed bytes.now }
+{
+    bytes.iter().position(|b| *b == b'\n')
+}
+
+fn line_bytes(bytes: &[u8]) -> usize
+    ensures count { result ≡ line_bytes bytes.now }
+    ensures within { result ≤ length bytes.now }
+{
+    line_bytes_end(bytes).unwrap_or(bytes.len())
+}
+
+// How many bytes stand before the first place where these two follow each other, or all.
+fn before_pair(first: u8, second: u8, bytes: &[u8]) -> usize
+    requires { 0 < second }
+    ensures before { result ≡ before_pair first second bytes.now }
+    ensures within { result ≤ length bytes.now }
+    ensures pair { result < length bytes.now → result + 1 < length bytes.now }
+{
+    for place in 0..bytes.len() {
+        if bytes[place] == first && byte_at(bytes, place + 1) == second {
+            return place;
+        }
+    }
+    bytes.len()
+}
+
+#[tactic(auto, unfolding(crate::specs::Pieces::word_kind))]
+fn word_kind(word: &[u8]) -> Kind
+    ensures { result ≡ word_kind word.now }
+{
+    if word == b"module".as_slice() {
+        return Kind::Module;
+    }
+    if word == b"endmodule".as_slice() {
+        return Kind::EndModule;
+    }
+    if word == b"input".as_slice() {
+        return Kind::Input;
+    }
+    if word == b"output".as_slice() {
+        return Kind::Output;
+    }
+    if word == b"wire".as_slice() {
+        return Kind::Wire;
+    }
+    if word == b"assign".as_slice() {
+        return Kind::Assign;
+    }
+    Kind::Name
+}
+
+#[tactic(auto, unfolding(crate::specs::Pieces::sign_kind))]
+fn sign_kind(b: u8) -> Kind
+    ensures kind { result ≡ sign_kind b }
+    ensures sign { is_name result ≡ false }
+{
+    match b {
+        b'(' => Kind::Open,
+        b')' => Kind::Close,
+        b',' => Kind::Comma,
+        b';' => Kind::Semicolon,
+        b'.' => Kind::Point,
+        b'=' => Kind::Equals,
+        _ => Kind::Strange,
+    }
+}
+
+// A comment that ends with these two bytes; its beginning is left out.
+fn closed(first: u8, second: u8, inside: &[u8]) -> Piece
+    requires { 0 < second }
+    ensures piece { result ≡ closed inside.now (before_pair first second inside.now) }
+    ensures gap { is_name result.kind ≡ false }
+    ensures some { 0 < result.size }
+    ensures within { result.size ≤ length inside.now + 2 }
+{
+    let count = before_pair(first, second, inside);
+    if count < inside.len() {
+        return Piece {
+            kind: Kind::Gap,
+            size: count + 4,
+        };
+    }
+    Piece {
+        kind: Kind::Unclosed,
+        size: 1,
+    }
+}
+
+// A backslash and so many bytes of a name.
+fn escaped(count: usize) -> Piece
+    requires { count < 2 ^ 63 }
+    ensures { result ≡ escaped count }
+{
+    if count == 0 {
+        return Piece {
+            kind: Kind::Strange,
+            size: 1,
+        };
+    }
+    Piece {
+        kind: Kind::Name,
+        size: count + 1,
+    }
+}
+
+#[tactic(auto, unfolding(crate::specs::Pieces::comment_or_sign))]
+fn comment_or_sign(bytes: &[u8]) -> Piece
+    requires { 0 < length bytes.now }
+    ensures piece { result ≡ comment_or_sign bytes.now }
+    ensures sign { is_name result.kind ≡ false }
+    ensures some { 0 < result.size }
+    ensures within { result.size ≤ length bytes.now }
+{
+    let first = bytes[0];
+    let second = byte_at(bytes, 1);
+    if first == b'/' && second == b'/' {
+        return Piece {
+            kind: Kind::Gap,
+            size: 2 + line_bytes(&bytes[2..]),
+        };
+    }
+    if first == b'/' && second == b'*' {
+        return closed(b'*', b'/', &bytes[2..]);
+    }
+    if first == b'(' && second == b'*' {
+        return closed(b'*', b')', &bytes[2..]);
+    }
+    Piece {
+        kind: sign_kind(first),
+        size: 1,
+    }
+}
+
+/// The piece with which a text begins.
+#[tactic(auto, unfolding(crate::specs::Pieces::first_piece))]
+pub(crate) fn first_piece(bytes: &[u8]) -> Piece
+    ensures piece { result ≡ first_piece bytes.now }
+    ensures some { is_end result.kind ≡ false → 0 < result.size }
+    ensures within { result.size ≤ length bytes.now }
+    ensures named { is_name result.kind ≡ true → 0 < length (name_of (take result.size bytes.now)) }
+{
+    if bytes.is_empty() {
+        return Piece {
+            kind: Kind::End,
+            size: 0,
+        };
+    }
+    let first = bytes[0];
+    if is_separator(first) {
+        return Piece {
+            kind: Kind::Gap,
+            size: 1 + separators(&bytes[1..]),
+        };
+    }
+    if first == b'\\' {
+        return escaped(visibles(&bytes[1..]));
+    }
+    if begins_name(first) {
+        let size = 1 + name_bytes(&bytes[1..]);
+        return Piece {
+            kind: word_kind(&bytes[..size]),
+            size,
+        };
+    }
+    comment_or_sign(bytes)
+}

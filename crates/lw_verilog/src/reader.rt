@@ -1,0 +1,99 @@
+// A text, token by token.
+ghost use Rattle.std.specs.Prelude.{◌≡◌, ◌<◌, ◌≤◌, ◌+◌, ◌^◌, length, drop, take, if◌then◌else◌, IfOk, IfErr};
+ghost use Rattle.lw_netlist.specs.Plain.{IsOver};
+ghost use Rattle.lw_verilog.specs.Keeping.{IsParsed, TellsParse, refused_at};
+ghost use Rattle.lw_verilog.specs.Tokens.{is_end, last_line, line_feeds};
+ghost use Rattle.lw_verilog.specs.Verdicts.{IsRead};
+
+use crate::contents::Contents;
+use crate::pieces::first_piece;
+use crate::{Kind, Refusal, VerilogFault};
+use lw_genlib::Library;
+use lw_netlist::Netlist;
+use lw_pool::Bytes;
+use std::alloc::Global;
+
+fn line_feeds(bytes: &[u8]) -> u32
+    requires { length bytes.now < 2 ^ 32 }
+    ensures count { result ≡ line_feeds bytes.now }
+    ensures few { result ≤ length bytes.now }
+{
+    let mut count = 0;
+    for b in bytes {
+        if *b == b'\n' {
+            count += 1;
+        }
+    }
+    count
+}
+
+// The number of the last line.
+fn last_line(text: &[u8]) -> u32
+    requires { length text.now ≤ 67108864 }
+    ensures { result ≡ last_line text.now }
+{
+    1 + line_feeds(&text[..text.len().saturating_sub(1)])
+}
+
+// The line of a token.
+fn line_of(kind: Kind, line: u32, text: &[u8]) -> u32
+    requires { length text.now ≤ 67108864 }
+    ensures { result ≡ (if is_end kind then last_line text.now else line) }
+{
+    match kind {
+        Kind::End => last_line(text),
+        _ => line,
+    }
+}
+
+fn refused_at(refusal: Refusal, line: u32) -> VerilogFault
+    ensures { result ≡ refused_at refusal line }
+{
+    match refusal {
+        Refusal::Broken(kind) => VerilogFault::Line(line, kind),
+        Refusal::Memory => VerilogFault::Memory,
+    }
+}
+
+// What is behind so many bytes.
+fn behind(bytes: &[u8], count: usize) -> &[u8]
+    requires { count ≤ length bytes.now }
+    ensures { result.now ≡ drop count bytes.now }
+{
+    &bytes[count..]
+}
+
+// Reads a text up to the end of its module.
+fn parse(alloc: Global, text: &[u8], lib: &Library) -> Result<Contents, VerilogFault>
+    requires { length text.now ≤ 67108864 }
+    ensures parsed { IfOk result (IsParsed lib.now text.now) }
+    ensures fault { IfErr result (TellsParse lib.now text.now) }
+{
+    let mut contents = Contents::new(alloc);
+    let mut rest = text;
+    let mut line = 1;
+    while !contents.is_done() {
+        let piece = first_piece(rest);
+        let bytes = &rest[..piece.size];
+        if let Err(refusal) = contents.read(piece.kind, bytes, lib) {
+            return Err(refused_at(refusal, line_of(piece.kind, line, text)));
+        }
+        line += line_feeds(bytes);
+        rest = behind(rest, piece.size);
+    }
+    Ok(contents)
+}
+
+/// The netlist of a text of structural Verilog over the library's cells, or its first fault in the
+/// order of the bytes. Where no token has a fault, that of the netlist as a whole is told. The
+/// lines are counted from 1. All behind `endmodule` is ignored. The text has at most 67,108,864
+/// bytes.
+pub fn read_verilog(alloc: Global, bytes: &Bytes, lib: &Library) -> Result<Netlist, VerilogFault>
+    requires { length bytes.now ≤ 67108864 }
+    ensures read { IsRead lib.now bytes.now result }
+    ensures over { IfOk result (λ netlist. IsOver lib.now netlist) }
+{
+    let contents = parse(alloc, bytes.as_slice(), lib)?;
+    let draft = contents.draft(alloc)?;
+    Ok(Netlist::close(alloc, draft, lib)?)
+}

@@ -1,0 +1,241 @@
+// The rules that names break.
+ghost use Rattle.std.specs.Prelude.{◌≡◌, ◌<◌, true, false, None, Some, [], length, drop, is_none, option_map, IfOk, IfSome, IfNone, slice_get, slice_index_or};
+ghost use Rattle.std.specs.List.{list_all, list_any};
+ghost use Rattle.std.specs.Option.{option_or};
+ghost use Rattle.std.specs.Str.{bytes_eq};
+ghost use Rattle.indexmap.specs.IndexSet.{index_set_len};
+ghost use Rattle.lw_netlist.specs.Closing.{is_among, twice_after};
+ghost use Rattle.lw_mapped.specs.GateLines.{is_formal, is_name};
+ghost use Rattle.lw_verilog.specs.Readings.{has_hash, name_fault, declared_fault, cell_fault, formal_fault, cell_in, gives_all, missing_fault, ports_fault};
+ghost use Rattle.lw_verilog.specs.Statements.{first_name, is_for, net_for, number_of, ties_in};
+
+use crate::VerilogKind;
+use indexmap::IndexSet;
+use lw_genlib::{Cell, Library};
+use lw_pool::{CellId, Name};
+use std::alloc::{AllocError, Global};
+
+const NAME_MAX: usize = 2000;
+
+fn has_hash(name: &[u8]) -> bool
+    ensures { result ≡ has_hash name.now }
+{
+    name.iter().any(|b| *b == b'#')
+}
+
+fn is_name(name: &[u8]) -> bool
+    ensures { result ≡ is_name name.now }
+{
+    name.len() <= NAME_MAX && !name.ends_with(b"\\")
+}
+
+/// The rule that a name breaks which is no cell's and no pin's.
+pub(crate) fn name_fault(name: &[u8]) -> Option<VerilogKind>
+    ensures { result ≡ name_fault name.now }
+{
+    if is_name(name) && !has_hash(name) {
+        return None;
+    }
+    Some(VerilogKind::BadName)
+}
+
+/// The rule that the name of an input or an output breaks where it is declared.
+pub(crate) fn declared_fault(
+    alloc: Global,
+    declared: &IndexSet<Name>,
+    name: &[u8],
+) -> Result<Option<VerilogKind>, AllocError>
+    requires { 0 < length name.now }
+    ensures { IfOk result (λ fault. fault
+        ≡ option_or (name_fault name.now) (declared_fault declared.now.keys name.now)) }
+{
+    let fault = name_fault(name);
+    if fault.is_some() {
+        return Ok(fault);
+    }
+    let name = Name::from_slice(alloc, name)?;
+    if declared.contains(&name) {
+        return Ok(Some(VerilogKind::Port));
+    }
+    Ok(None)
+}
+
+/// The rule that the name of a cell breaks.
+pub(crate) fn cell_fault(lib: &Library, name: &[u8]) -> Option<VerilogKind>
+    ensures { result ≡ cell_fault lib.now name.now }
+{
+    match lib.find(name) {
+        Some(_) => None,
+        None => Some(VerilogKind::NoCell),
+    }
+}
+
+// The first of some names.
+fn first_name(names: &[Name]) -> &[u8]
+    ensures { result.now ≡ first_name names.now }
+{
+    match names {
+        [first, ..] => first.as_bytes(),
+        [] => b"",
+    }
+}
+
+/// The cell of an instance of these names.
+pub(crate) fn cell_id(lib: &Library, names: &[Name]) -> Option<CellId>
+    ensures number { number_of lib.now names.now ≡ option_map (λ id. id.0) result }
+    ensures within { IfSome result (λ id. id.0 < length lib.now) }
+{
+    let _count = lib.len();
+    match lib.find(first_name(names)) {
+        Some(id) => Some(id),
+        None => None,
+    }
+}
+
+fn is_at(names: &[Name], place: usize, name: &[u8]) -> bool
+    requires { place < length names.now }
+    ensures { result ≡ bytes_eq (slice_index_or names.now place []) name.now }
+{
+    names[place].as_bytes() == name
+}
+
+/// The place of the net of a pin or of the output, among the names of an instance.
+pub(crate) fn net_place(names: &[Name], formal: &[u8]) -> Option<usize>
+    ensures given { IfSome result (λ place. list_any (is_for formal.now) (ties_in names.now) ≡ true) }
+    ensures net { IfSome result (λ place. slice_get names.now place
+        ≡ Some (net_for (ties_in names.now) formal.now)) }
+    ensures none { IfNone result (list_any (is_for formal.now) (ties_in names.now) ≡ false) }
+{
+    let mut place = 2;
+    while place < names.len() && place + 1 < names.len() {
+        if is_at(names, place, formal) {
+            return Some(place + 1);
+        }
+        place += 2;
+    }
+    None
+}
+
+// Whether an instance of these names gives the pin or the output.
+fn gives(names: &[Name], formal: &[u8]) -> bool
+    ensures { result ≡ list_any (is_for formal.now) (ties_in names.now) }
+{
+    net_place(names, formal).is_some()
+}
+
+pub(crate) fn is_pin(pins: &[Name], name: &[u8]) -> bool
+    ensures { result ≡ is_among pins.now name.now }
+{
+    pins.iter().any(|pin| name == pin.as_bytes())
+}
+
+// The rule that the name of a pin breaks behind these names of an instance of the cell.
+fn formal_fault(cell: &Cell, names: &[Name], name: &[u8]) -> Option<VerilogKind>
+    ensures { result ≡ formal_fault (Some cell.now) (ties_in names.now) name.now }
+{
+    if !is_pin(cell.pins(), name) && name != cell.output().as_bytes() {
+        return Some(VerilogKind::PinUnknown);
+    }
+    if gives(names, name) {
+        return Some(VerilogKind::PinTwice);
+    }
+    None
+}
+
+/// The rule that the name of a pin breaks behind these names of an instance.
+pub(crate) fn pin_fault(lib: &Library, names: &[Name], name: &[u8]) -> Option<VerilogKind>
+    ensures { result ≡ formal_fault (cell_in lib.now names.now) (ties_in names.now) name.now }
+{
+    match cell_id(lib, names) {
+        Some(id) => formal_fault(lib.cell(id), names, name),
+        None => Some(VerilogKind::PinUnknown),
+    }
+}
+
+fn gives_pins(names: &[Name], pins: &[Name]) -> bool
+    ensures { result ≡ list_all (λ pin. list_any (is_for pin) (ties_in names.now)) pins.now }
+{
+    pins.iter().all(|pin| gives(names, pin.as_bytes()))
+}
+
+fn gives_all(names: &[Name], cell: &Cell) -> bool
+    ensures { result ≡ gives_all (ties_in names.now) cell.now }
+{
+    gives_pins(names, cell.pins()) && gives(names, cell.output().as_bytes())
+}
+
+/// The rule that the end of an instance of these names breaks.
+pub(crate) fn missing_fault(lib: &Library, names: &[Name]) -> Option<VerilogKind>
+    ensures { result ≡ missing_fault (cell_in lib.now names.now) (ties_in names.now) }
+{
+    match cell_id(lib, names) {
+        Some(id) if gives_all(names, lib.cell(id)) => None,
+        _ => Some(VerilogKind::PinMissing),
+    }
+}
+
+// The names, if they differ.
+fn set_of(alloc: Global, names: &[Name]) -> Result<Option<IndexSet<Name>>, AllocError>
+    ensures some { IfOk result (λ set. IfSome set
+        (λ s. (s.keys ≡ names.now) × (twice_after [] names.now ≡ None))) }
+    ensures none { IfOk result (λ set. IfNone set (is_none (twice_after [] names.now) ≡ false)) }
+{
+    let mut set = IndexSet::new(alloc);
+    for name in names {
+        if set.contains(name) {
+            return Ok(None);
+        }
+        let Ok(_) = set.insert(Name::from_slice(alloc, name.as_bytes())?) else {
+            return Err(AllocError);
+        };
+    }
+    Ok(Some(set))
+}
+
+fn are_among(set: &IndexSet<Name>, names: &[Name]) -> bool
+    ensures { result ≡ list_all (is_among set.now.keys) names.now }
+{
+    names.iter().all(|name| set.contains(name))
+}
+
+fn name_at(set: &IndexSet<Name>, place: usize) -> &Name
+    requires { place < index_set_len set.now }
+    ensures { slice_get set.now.keys place ≡ Some result.now }
+{
+    set.get_index(place).unwrap()
+}
+
+fn has(set: &IndexSet<Name>, name: &Name) -> bool
+    ensures { result ≡ is_among set.now.keys name.now }
+{
+    set.contains(name)
+}
+
+// Whether each name of the second set is one of the first.
+fn has_all(set: &IndexSet<Name>, others: &IndexSet<Name>) -> bool
+    ensures { result ≡ list_all (is_among set.now.keys) others.now.keys }
+{
+    for place in 0..others.len() {
+        if !has(set, name_at(others, place)) {
+            return false;
+        }
+    }
+    true
+}
+
+/// The rule that the end of a module breaks, with these ports, and with these inputs and outputs.
+pub(crate) fn ports_fault(
+    alloc: Global,
+    ports: &[Name],
+    declared: &IndexSet<Name>,
+) -> Result<Option<VerilogKind>, AllocError>
+    ensures { IfOk result (λ fault. fault ≡ ports_fault ports.now declared.now.keys) }
+{
+    let Some(set) = set_of(alloc, ports)? else {
+        return Ok(Some(VerilogKind::Port));
+    };
+    if are_among(declared, ports) && has_all(&set, declared) {
+        return Ok(None);
+    }
+    Ok(Some(VerilogKind::Port))
+}

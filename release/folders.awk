@@ -1,0 +1,18 @@
+# Prints the folders of the crate lwmap and of all crates that it stands on, by crates.txt, in one line; 'kinds' names the
+# folders of each crate: awk -v kinds='src specs' -f release/folders.awk crates.txt
+{
+    sub(/#.*/, "")
+    at = index($0, ":")
+    split(substr($0, 1, at), head, /[ :]/)
+    if (at) below[head[1]] = substr($0, at + 1)
+}
+END {
+    kind_count = split(kinds, each_kind, " ")
+    reached["lwmap"] = list[count = 1] = "lwmap"
+    for (i = 1; i <= count; i++) if (list[i] in below) {
+        for (j = 1; j <= kind_count; j++) printf "%scrates/%s/%s", (told++ ? " " : ""), list[i], each_kind[j]
+        n = split(below[list[i]], names, " ")
+        for (j = 1; j <= n; j++) if (!(names[j] in reached)) reached[names[j]] = list[++count] = names[j]
+    }
+    print ""
+}
