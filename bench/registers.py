@@ -5,6 +5,8 @@
   registers.py restore NETWORK CUT         the nodes of CUT between the ports and latches of NETWORK
   registers.py ports GIVEN MAPPED NAME     the module NAME of MAPPED, whose ports have one bit each, with the ports that it has in
                                            GIVEN; both are RTLIL of Yosys
+  registers.py shell GIVEN NAME PART       the module NAME of Verilog, with the ports that it has in GIVEN, RTLIL of Yosys, around
+                                           an instance of PART, a module whose ports have one bit each
   registers.py compare TOP GIVEN MADE FOLDER
       Two flat netlists of single-bit cells, as Yosys's write_json writes them: finds for each register of GIVEN the one of
       MADE with the same name, and writes FOLDER/given.blif and FOLDER/made.blif, plain logic whose inputs are the inputs
@@ -92,7 +94,7 @@ def ports(given, mapped, name):
              for at, index in enumerate(indices)}
     lines, joined, found = [], [], set()
     for line in without_part(list(lines_of(mapped, name))):
-        port = re.fullmatch(r"  wire (?:offset \d+ )?(input|output) \d+ (\S+)\n", line)
+        port = re.fullmatch(r"  wire (?:offset -?\d+ )?(input|output) \d+ (?:signed )?(\S+)\n", line)
         if line.startswith("module "):
             line = f"module \\{name}\n" + "".join(text for text, _, indices in declared.values() if len(indices) > 1)
         elif port and port[2] in wires and wires[port[2]][1] == port[1]:
@@ -112,6 +114,21 @@ def ports(given, mapped, name):
     if found != wanted:
         raise Differ(f"{min(wanted - found)} is not a port of the netlist")
     return "".join(lines)
+
+
+def shell(given, name, part):
+    declared = declarations(given, name)
+    lines, ties = [], []
+    for own, (line, way, indices) in declared.items():
+        sign = "signed " if " signed " in line else ""
+        span = f"[{indices[-1]}:{indices[0]}] " if len(indices) > 1 else ""
+        lines.append(f"{way} {sign}{span}\\{own} ;\n")
+        ties += [f".\\{own}[{index}] (\\{own} [{index}])" for index in indices] if span else [f".\\{own} (\\{own} )"]
+    instance = "netlist"
+    while instance in declared:
+        instance += "_"
+    names = ", ".join(f"\\{own} " for own in declared)
+    return f"module {name} ({names});\n" + "".join(lines) + f"{part} {instance} ({', '.join(ties)});\nendmodule\n"
 
 
 PART = "lwmap_logic."
@@ -157,14 +174,14 @@ def lines_of(path, module):
 
 
 def declarations(path, module):
-    """The ports of a module of RTLIL, by name: the line, the direction, and the indices from the lowest bit on."""
-    found = {}
+    """The ports of a module of RTLIL in their order, by name: the line, the direction, and the indices from the lowest bit on."""
+    found = []
     for line in lines_of(path, module):
-        wire = re.fullmatch(r"  wire (?:width (\d+) )?(upto )?(?:offset (\d+) )?(input|output|inout) \d+ \\(\S+)\n", line)
+        wire = re.fullmatch(r"  wire (?:width (\d+) )?(upto )?(?:offset (-?\d+) )?(input|output|inout) (\d+) (?:signed )?\\(\S+)\n", line)
         if wire:
             indices = range(int(wire[3] or 0), int(wire[3] or 0) + int(wire[1] or 1))
-            found[wire[5]] = (line, wire[4], list(reversed(indices)) if wire[2] else list(indices))
-    return found
+            found.append((int(wire[5]), wire[6], (line, wire[4], list(reversed(indices)) if wire[2] else list(indices))))
+    return {name: port for _, name, port in sorted(found)}
 
 
 def text(lines):
@@ -440,6 +457,8 @@ def main(words):
         sys.stdout.write(restore(words[1], words[2]))
     elif len(words) == 4 and words[0] == "ports":
         sys.stdout.write(ports(*words[1:]))
+    elif len(words) == 4 and words[0] == "shell":
+        sys.stdout.write(shell(*words[1:]))
     elif len(words) == 5 and words[0] == "compare":
         compare(*words[1:])
     else:

@@ -13,7 +13,8 @@
 #            this holds for the registers alone that a '.latch' of BLIF cannot say, those with an enable, a set or a reset
 #   -o       the folder for the files of each step (flow_TOP, in the folder that the script is called from)
 #
-# It prints delay, area and gates, and then one line that says what was compared. That line begins with 'equivalent' only
+# It prints delay, area and gates, a line with the reason where not lwmap but Yosys wrote the netlist's Verilog, as for all
+# registers, and then one line that says what was compared. That line begins with 'equivalent' only
 # where the netlist, with its registers, their clocks and their initial values, was shown equal to the Verilog. The status
 # is 0 then, that of lwmap where lwmap refuses, and else 1.
 # LIMIT holds the seconds that one step may take (60). The program is the one that release/program.sh
@@ -138,24 +139,45 @@ fi
 python3 "$timing" "$lib" "$folder/mapped.blif" >"$folder/timing.txt"
 python3 "$timing" -s "$lib" "$folder/mapped.blif" | { read -r delay area gates && printf 'delay %s\narea %s\ngates %s\n' "$delay" "$area" "$gates"; }
 
-# 5. The whole netlist as Verilog, with its registers. Ports get back their several bits; where one counts these the other
+# The whole netlist by Yosys, with its registers. Ports get back their several bits; where one counts these the other
 # way round, bits are not drawn together, since this Yosys would write the registers of such a port in the wrong order.
 # 'submod' leaves an unknown initial value at the nets that leave the part, which would hide the known one of a latch in it.
+by_yosys() {
+    if [ -n "$parts" ]; then
+        sed "/^ *attribute .init 1'x$/d" "$folder/bits.il" >"$folder/whole.il"
+        mv -- "$folder/whole.il" "$folder/bits.il"
+        whole="read_rtlil \"$folder/bits.il\""
+        ! grep -q '^module .lwmap_logic$' "$folder/bits.il" || whole="$whole; delete lwmap_logic; read_blif \"$folder/mapped.blif\""
+    else
+        whole="read_blif \"$folder/mapped.blif\""
+    fi
+    run_yosys whole.log "read_verilog -lib \"$folder/cells.v\"; $whole; hierarchy -check -top $top; flatten; opt_clean
+        write_rtlil \"$folder/whole.il\""
+    python3 "$registers" ports "$folder/yosys.il" "$folder/whole.il" "$top" >"$folder/mapped.il"
+    tidy=opt_clean
+    ! grep -q '^ *wire .*upto' "$folder/yosys.il" || tidy=
+    run_yosys netlist.log "read_verilog -lib \"$folder/cells.v\"; read_rtlil \"$folder/mapped.il\"; hierarchy -check -top $top; $tidy
+        write_verilog -noattr \"$folder/mapped.v\""
+}
+
+# 5. The netlist as Verilog. lwmap writes it, with one port for each bit, as the module lwmap_TOP, and behind it stands the
+# module TOP, with the ports that the Verilog gives it. What lwmap cannot say, registers above all, Yosys writes.
+status=0
 if [ -n "$parts" ]; then
-    sed "/^ *attribute .init 1'x$/d" "$folder/bits.il" >"$folder/whole.il"
-    mv -- "$folder/whole.il" "$folder/bits.il"
-    whole="read_rtlil \"$folder/bits.il\""
-    ! grep -q '^module .lwmap_logic$' "$folder/bits.il" || whole="$whole; delete lwmap_logic; read_blif \"$folder/mapped.blif\""
+    status=11 && echo registers >"$folder/verilog.log"
 else
-    whole="read_blif \"$folder/mapped.blif\""
+    sed "s/^\.model .*/.model lwmap_$top/" "$folder/mapped.blif" |
+        timeout "$limit" "$program" verilog "$lib" /dev/stdin >"$folder/mapped.v" 2>"$folder/verilog.log" || status=$?
 fi
-run_yosys whole.log "read_verilog -lib \"$folder/cells.v\"; $whole; hierarchy -check -top $top; flatten; opt_clean
-    write_rtlil \"$folder/whole.il\""
-python3 "$registers" ports "$folder/yosys.il" "$folder/whole.il" "$top" >"$folder/mapped.il"
-tidy=opt_clean
-! grep -q '^ *wire .*upto' "$folder/yosys.il" || tidy=
-run_yosys netlist.log "read_verilog -lib \"$folder/cells.v\"; read_rtlil \"$folder/mapped.il\"; hierarchy -check -top $top; $tidy
-    write_verilog -noattr \"$folder/mapped.v\""
+if [ "$status" -eq 0 ]; then
+    python3 "$registers" shell "$folder/yosys.il" "$top" "lwmap_$top" >>"$folder/mapped.v"
+elif [ "$status" -ne 11 ]; then
+    sed 's/^/flow: /' "$folder/verilog.log" >&2
+    fail "lwmap wrote no Verilog"
+else
+    echo "mapped.v by Yosys: $(sed 's/^lwmap: no verilog: //' "$folder/verilog.log")"
+    by_yosys
+fi
 
 # 6. The comparison with the Verilog.
 LIMIT=$limit sh "$root/examples/equal.sh" "$folder" "$@" "$top"

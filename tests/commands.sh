@@ -1,4 +1,4 @@
-# Cases of check, time, sim, graph, big, verilog and unverilog for tests/rows.sh, which reads this file behind the functions that are used here.
+# Cases of check, time, sim, graph, lut, big, verilog and unverilog for tests/rows.sh, which reads this file behind the functions that are used here.
 # (the names of its files and folders are set there)
 # shellcheck shell=sh disable=SC2015,SC2154
 
@@ -11,7 +11,7 @@ checked_files() {
 }
 
 # Each command of these words on the files above, as: for words in $each; do set -- $(echo "$words" | tr : ' '); ..
-each='map:-c:LIB:IN check:LIB:IN:MAPPED time:LIB:MAPPED sim:IN:VECTORS sim:-g:LIB:MAPPED:VECTORS graph:IN big:0:20:more verilog:LIB:MAPPED unverilog:LIB:VER'
+each='map:-c:LIB:IN check:LIB:IN:MAPPED time:LIB:MAPPED sim:IN:VECTORS sim:-g:LIB:MAPPED:VECTORS graph:IN lut:4:IN big:0:20:more verilog:LIB:MAPPED unverilog:LIB:VER'
 
 each_command_where_standard_output_is_full() {
     [ -c /dev/full ] || { echo "there is no /dev/full" && return 9; }

@@ -37,7 +37,7 @@ all_files() {
     printf '%s\n' 'module m (a, f);' 'input a;' 'output f;' 'inv u1 (.a(a), .O(f));' 'endmodule' >VER
     printf '%s\n' 'GATE inv 1 O=!a;' 'PIN * INV 1 999 1 0 1 0' 'GATE nand2 2 O=!(a*b);' 'PIN * INV 1 999 1.5 0 1.5 0' >MORE
 }
-each='map:LIB:IN map:-c:LIB:IN check:LIB:IN:MAPPED time:LIB:MAPPED sim:IN:VECTORS sim:-g:LIB:MAPPED:VECTORS graph:IN big:0:20:MORE verilog:LIB:MAPPED unverilog:LIB:VER'
+each='map:LIB:IN map:-c:LIB:IN check:LIB:IN:MAPPED time:LIB:MAPPED sim:IN:VECTORS sim:-g:LIB:MAPPED:VECTORS graph:IN lut:4:IN big:0:20:MORE verilog:LIB:MAPPED unverilog:LIB:VER'
 
 # Calls a case's own function with the words of each command.
 with_each() { # FUNCTION WORD..
@@ -147,6 +147,8 @@ chain_of_latches() {
         print ".end"
     }' >IN
     run map LIB IN
+    status $? 0 && same out IN && holds err || return
+    run lut 4 IN
     status $? 0 && same out IN && holds err || return
     awk 'BEGIN { for (i = 0; i < 262143; i++) print "arrival q" i " 0"; print "max 0\narea 0" }' >wanted
     run time LIB IN

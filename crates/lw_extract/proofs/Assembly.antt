@@ -30,7 +30,7 @@ use Rattle.lw_extract.specs.Gates.{AreGatesOf, HaveNets}
 use Rattle.lw_extract.specs.Choosing.{labels, heights, chosen_classes, AreChosen}
 use Rattle.lw_extract.specs.Covers.{AreFit, IsCoverOf}
 use Rattle.lw_extract.proofs.ClassNets.{some_is, not_none}
-use Rattle.lw_extract.proofs.NameCount.{name_count}
+use Rattle.lw_naming.proofs.NameCount.{name_count}
 use Rattle.lw_extract.proofs.Places.{slice_get_left, slice_get_right, all_places, all_at, place_map, from_map, place_beside, some_within, zip_read, zip_maps, zip_right, from_all_map, contains_at, few_distinct}
 
 not_before_itself : (heights : ℕ → ℕ) (c : ℕ) → IsGateBefore heights c c → ⊥

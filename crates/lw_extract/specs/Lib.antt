@@ -1,6 +1,5 @@
 pub mod Covers
 pub mod Orders
 pub mod Nets
-pub mod Naming
 pub mod Choosing
 pub mod Gates

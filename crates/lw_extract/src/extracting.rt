@@ -3,6 +3,7 @@ ghost use Rattle.lw_match.specs.Least.{AreOfCells};
 ghost use Rattle.lw_label.specs.Labels.{AreLeastMarks};
 ghost use Rattle.lw_laws.specs.Costs.{Cost as Costs};
 ghost use Rattle.lw_laws.specs.Extracts.{HaveLeafLabels};
+ghost use Rattle.lw_laws.specs.Names.{net_names};
 ghost use Rattle.lw_genlib.specs.Tables.{delays_of_cells};
 ghost use Rattle.lw_netlist.specs.Plain.{IsOver};
 ghost use Rattle.lw_extract.specs.declared.fault.ExtractFault.TheVariants.{NoCover};
@@ -13,16 +14,16 @@ ghost use Rattle.lw_extract.specs.Covers.{AreFit, IsFirstUncovered, IsCoverOf, C
 
 use crate::choosing::{Chosen, choose};
 use crate::gates::{gates_of, outputs_of};
-use crate::naming::names_of;
 use crate::nets::{add_gates, input_nets};
 use crate::{Cover, ExtractFault, Ports};
 use lw_genlib::Library;
 use lw_graph::Graph;
 use lw_label::Labels;
 use lw_match::{Cost, Mark};
+use lw_naming::net_names;
 use lw_netlist::Netlist;
 use lw_pattern::Patterns;
-use lw_pool::{ClassId, Classes, Name, NetId};
+use lw_pool::{ClassId, Classes, Name, Names, NetId};
 use std::alloc::{AllocError, Global};
 
 // The first of the roots that has no mark.
@@ -52,6 +53,23 @@ fn classes_of(alloc: Global, chosen: &[Chosen]) -> Result<Classes, AllocError>
     Ok(Classes::from_vec(classes))
 }
 
+// The names of the inputs and of the gates of some classes.
+fn names_of(
+    alloc: Global,
+    graph: &Graph,
+    ports: &Ports,
+    gates: &[ClassId],
+) -> Result<Names, AllocError>
+    requires fit { AreFit graph.now ports.now }
+    requires gates { All (λ gate. gate.0 < length graph.now.pairs) gates.now }
+    ensures { IfOk result (λ names. names ≡ net_names ports.now.inputs ports.now.outputs
+        (numbers ports.now.roots) (numbers gates.now)) }
+{
+    let classes = graph.classes() as usize;
+    let (inputs, outputs, roots) = (&ports.inputs, &ports.outputs, ports.roots.as_slice());
+    net_names(alloc, inputs, outputs, roots, classes, gates)
+}
+
 // The netlist of these matches, over the nets of their classes and of the inputs'.
 fn assemble(
     alloc: Global,
@@ -77,11 +95,12 @@ fn assemble(
     let inputs = graph.inputs();
     let gates = gates_of(alloc, pats, nets, inputs, chosen)?;
     let outputs = outputs_of(alloc, nets, ports)?;
-    let names = names_of(alloc, graph.classes() as usize, ports, chosen)?;
+    let classes = classes_of(alloc, chosen)?;
+    let names = names_of(alloc, graph, ports, classes.as_slice())?;
     let model = Name::from_slice(alloc, ports.model.as_bytes())?;
     Ok(Cover {
         netlist: Netlist::new(model, names, inputs, gates, outputs),
-        classes: classes_of(alloc, chosen)?,
+        classes,
     })
 }
 

@@ -4,14 +4,10 @@
 mod choosing;
 mod extracting;
 mod fault;
-mod free_names;
 mod gates;
 mod laws;
-mod name_set;
-mod naming;
 mod nets;
 mod ordering;
-mod owners;
 mod ports;
 
 pub use extracting::extract;

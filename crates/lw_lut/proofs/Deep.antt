@@ -76,7 +76,7 @@ row_in [] c x (k, lt, e) = absurd (omega arith)
 row_in (r ∷ rows) zero x h = omega arith
 row_in (r ∷ rows) (suc c) x h = let l = row_in rows c x h in omega (arith, l)
 
-pair_in : (g : Graph) (c x y : ℕ) → HoldsPair g c x y → c < length g.pairs
+pub pair_in : (g : Graph) (c x y : ℕ) → HoldsPair g c x y → c < length g.pairs
 pair_in g c x y h = elim h [ inl k ↦ row_in g.pairs c (record { x = x; y = y }) k | inr k ↦ row_in g.pairs c (record { x = y; y = x }) k ]
 
 get_all : (P : ℕ → Type 0) (xs : List ℕ) (i x : ℕ) → All P xs → slice_get xs i ≡ Some x → P x

@@ -9,10 +9,10 @@ use Rattle.lw_lut.specs.Tables.{given}
 use Rattle.lw_lut.proofs.Bits.{spelled_join, spelled_low}
 use Rattle.lw_lut.proofs.Joining.{quotient}
 
-same_test : (a b : ℕ) → a ≡ b → (a == b) ≡ true
+pub same_test : (a b : ℕ) → a ≡ b → (a == b) ≡ true
 same_test a b e = grind (arith, e)
 
-other_test : (a b : ℕ) → a ≢ b → (a == b) ≡ false
+pub other_test : (a b : ℕ) → a ≢ b → (a == b) ≡ false
 other_test a b ne = grind (arith, ne)
 
 -- the class is not the first one

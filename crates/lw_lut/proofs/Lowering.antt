@@ -62,13 +62,13 @@ module _ (g : Graph) (most d : ℕ) (s : Search) (are : AreCounts g most d s) (c
   abbrev counts : List ℕ
   counts = slice_set s.counts.items (c / 2) n
 
-  lower_count : (k : ℕ) → slice_index counts k ≤ slice_index s.counts.items k
+  pub lower_count : (k : ℕ) → slice_index counts k ≤ slice_index s.counts.items k
   lower_count k = elim (number_set s.counts.items (c / 2) n k here) [
     | inl (same, e) ↦ let f = fewer in let at : slice_index s.counts.items k ≡ slice_index s.counts.items (c / 2) = ap (slice_index s.counts.items) same in omega (arith, e, f, at)
     | inr (other, e) ↦ omega (arith, e)
   ]
 
-  same_count : (k : ℕ) → (k ≡ c / 2 → ⊥) → slice_index counts k ≡ slice_index s.counts.items k
+  pub same_count : (k : ℕ) → (k ≡ c / 2 → ⊥) → slice_index counts k ≡ slice_index s.counts.items k
   same_count k other = elim (number_set s.counts.items (c / 2) n k here) [ inl (same, e) ↦ absurd (other same) | inr (o, e) ↦ e ]
 
   new_count : slice_index counts (c / 2) ≡ n

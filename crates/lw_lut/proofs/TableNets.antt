@@ -29,7 +29,7 @@ numbers_more xs leaves i c is at =
     ∙ (ap₂ (λ ys y. ys ++ y ∷ []) is (sym (get_or_from_slice_get leaves i c.0 0 at))
     ∙ sym (take_more leaves i 0 (slice_get_within leaves i c.0 at)))
 
-split : (xs ys : List ℕ) (k c : ℕ) → slice_get (xs ++ ys) k ≡ Some c → (slice_get xs k ≡ Some c) ⊎ ((m : ℕ) × (slice_get ys m ≡ Some c) × (k ≡ length xs + m))
+pub split : (xs ys : List ℕ) (k c : ℕ) → slice_get (xs ++ ys) k ≡ Some c → (slice_get xs k ≡ Some c) ⊎ ((m : ℕ) × (slice_get ys m ≡ Some c) × (k ≡ length xs + m))
 split [] ys k c e = inr (k, e, omega arith)
 split (x ∷ xs) ys zero c e = inl e
 split (x ∷ xs) ys (suc k) c e = elim (split xs ys k c e) [ inl f ↦ inl f | inr (m, f, s) ↦ inr (m, f, omega (arith, s)) ]

@@ -93,10 +93,11 @@ fn choose_down(
     requires depths { (g : PlainGraph) × (most : ℕ) × AreLeastDepths g most depths.now }
     requires roots { All (λ root. root.0 < length depths.now.depths) roots.now }
     requires places { AreByDepth depths.now.depths places.now }
-    ensures { (g : PlainGraph) (most : ℕ) → AreLeastDepths g most depths.now →
+    ensures tables { (g : PlainGraph) (most : ℕ) → AreLeastDepths g most depths.now →
         All (λ root. IsKnown depths.now.depths root.0) roots.now →
         IfOk result (λ tables. AreTables g most depths.now.depths (numbers roots.now)
         (reverse tables.items)) }
+    ensures few { IfOk result (λ tables. All (λ x. length x.fanins ≤ 6) (reverse tables.items)) }
 {
     let mut needed = needed_by_roots(alloc, roots, depths.len())?;
     let mut tables = Vec::new(alloc);
@@ -120,9 +121,10 @@ pub(crate) fn choose(
     requires few { length depths.now.depths < 2 ^ 32 }
     requires depths { (g : PlainGraph) × (most : ℕ) × AreLeastDepths g most depths.now }
     requires roots { All (λ root. root.0 < length depths.now.depths) roots.now }
-    ensures { (g : PlainGraph) (most : ℕ) → AreLeastDepths g most depths.now →
+    ensures tables { (g : PlainGraph) (most : ℕ) → AreLeastDepths g most depths.now →
         All (λ root. IsKnown depths.now.depths root.0) roots.now →
         IfOk result (λ tables. AreTables g most depths.now.depths (numbers roots.now) tables.items) }
+    ensures few { IfOk result (λ tables. All (λ x. length x.fanins ≤ 6) tables.items) }
 {
     let places = by_depth(alloc, depths.depths())?;
     let mut tables = choose_down(alloc, depths, roots, &places)?;

@@ -1,16 +1,21 @@
-ghost use Rattle.std.specs.Prelude.{◌≡◌, ◌≤◌, ◌<◌, ◌+◌, ◌^◌, ℕ, suc, None, length, slice_index_or, IfOk};
+ghost use Rattle.std.specs.Prelude.{◌≡◌, ◌≤◌, ◌<◌, ◌+◌, ◌*◌, ◌^◌, ℕ, suc, None, length, slice_index_or, IfOk};
 ghost use Rattle.lw_lut.specs.Covers.{IsLeastDepth};
 ghost use Rattle.lw_lut.specs.Depths.{AreLeastDepths};
+ghost use Rattle.lw_lut.specs.Reaches.{AreReaches};
 ghost use Rattle.lw_lut.specs.Searches.{AreCounts, AreDepthsUpTo, depth_in, unknown_count};
 
 use crate::found::Depths;
+use crate::reach::reaches;
 use crate::search::Search;
+use crate::span::Span;
 use lw_graph::Graph;
 use std::alloc::{AllocError, Global};
 
 impl Search {
     // Finds all depths.
-    fn find_all(&mut self, graph: &Graph, leaves: u8)
+    fn find_all(&mut self, graph: &Graph, leaves: u8, reach: &[Span])
+        requires places { length graph.now.pairs ≡ 2 * length reach.now }
+        requires reaches { AreReaches graph.now reach.now }
         requires some { 2 ≤ leaves }
         requires few { leaves ≤ 6 }
         requires counts { AreCounts graph.now leaves 1 self.old }
@@ -19,9 +24,12 @@ impl Search {
         ensures least { (c : ℕ) → IsLeastDepth graph.now leaves c
             (depth_in self.new.depths.items c) }
     {
-        let _ = graph.classes();
+        let mut span = Span {
+            low: 0,
+            high: graph.classes(),
+        };
         let mut depth = 1;
-        while self.deepen_all(graph, leaves, depth) {
+        while self.deepen_all(graph, leaves, depth, reach, &mut span) {
             depth += 1;
         }
     }
@@ -35,7 +43,8 @@ pub fn depths(alloc: Global, graph: &Graph, leaves: u8) -> Result<Depths, AllocE
     ensures { IfOk result (AreLeastDepths graph.now leaves) }
 {
     let mut search = Search::new(alloc, graph, leaves)?;
-    search.find_all(graph, leaves);
+    let reach = reaches(alloc, graph)?;
+    search.find_all(graph, leaves, &reach);
     Ok(Depths {
         depths: search.depths,
         cuts: search.cuts,

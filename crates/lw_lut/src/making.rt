@@ -11,6 +11,7 @@ use crate::found::Depths;
 use crate::lists::Tables;
 use crate::naming::names_of;
 use crate::net::TableNet;
+use crate::placing::places_of;
 use lw_graph::Graph;
 use lw_pool::{Classes, Name, Names};
 use std::alloc::{AllocError, Global};
@@ -67,10 +68,13 @@ pub fn tables(
     let _ = (graph.classes(), leaves);
     let chosen = choose(alloc, depths, ports.roots.as_slice())?;
     let names = names_of(alloc, depths.len(), ports, &chosen)?;
+    let inputs = inputs_of(alloc, graph)?;
+    let places = places_of(alloc, depths.len(), inputs.as_slice(), &chosen)?;
     Ok(TableNet {
         ports: copy_ports(alloc, ports)?,
-        inputs: inputs_of(alloc, graph)?,
+        inputs,
         tables: Tables::from_vec(chosen),
         names,
+        places,
     })
 }

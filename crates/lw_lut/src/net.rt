@@ -1,32 +1,39 @@
-ghost use Rattle.std.specs.Prelude.{◌≡◌};
+ghost use Rattle.std.specs.Prelude.{◌≡◌, ◌≤◌, All, Contains, length};
+ghost use Rattle.lw_lut.specs.Nets.{IsTableNet, net_classes};
+ghost use Rattle.lw_lut.specs.Texts.{net_name};
 
 use crate::TablePorts;
 use crate::lists::Tables;
-use lw_pool::{Classes, Names};
+use lw_pool::{ClassId, Classes, Names};
 use std::marker::Model;
 
 /// A network of tables: its ports, the class of each input, the tables by depth and then class,
 /// and a name for each table. No two of its inputs and tables have one class, and each root and
-/// each fan-in is the class of one of them.
+/// each fan-in is the class of one of them. No table has more than six fan-ins.
 #[derive(Drop)]
 pub struct TableNet {
     pub(crate) ports: TablePorts,
     pub(crate) inputs: Classes,
     pub(crate) tables: Tables,
     pub(crate) names: Names,
+    // For each class of an input or a table its place among the inputs and then the tables.
+    pub(crate) places: Vec<u32>,
 }
 
 impl Model for TableNet {
-    ghost use Rattle.lw_lut.specs.Nets.{PlainTableNet, IsTableNet};
+    ghost use Rattle.lw_lut.specs.Nets.{PlainTableNet};
+    ghost use Rattle.lw_lut.specs.Placed.{IsPlaced};
 
     ghost Value = { PlainTableNet };
 
     ghost view = { λ n. record { ports = n.ports; inputs = n.inputs; tables = n.tables; names = n.names } };
 
-    ghost invariant = { λ n. IsTableNet (record { ports = n.ports; inputs = n.inputs; tables = n.tables; names = n.names }) };
+    ghost invariant = { λ n. IsPlaced (record { ports = n.ports; inputs = n.inputs; tables = n.tables; names = n.names }) n.places.items };
 }
 
 impl TableNet {
+    ghost use Rattle.lw_lut.specs.Nets.{IsTableNet};
+
     pub fn ports(&self) -> &TablePorts
         ensures { result.now ≡ self.now.ports }
     {
@@ -51,5 +58,28 @@ impl TableNet {
         ensures { result.now ≡ self.now.names }
     {
         &self.names
+    }
+
+    /// What each network of tables keeps.
+    pub fn keeps(&self)
+        ensures kept { IsTableNet self.now }
+        ensures roots { length self.now.ports.roots ≡ length self.now.ports.outputs }
+        ensures few { All (λ x. length x.fanins ≤ 6) self.now.tables }
+    {
+        let _ = &self.places;
+    }
+
+    // The name of the net of a class: the input's, or the table's.
+    pub(crate) fn net_name(&self, class: ClassId) -> &[u8]
+        requires { Contains (net_classes self.now) class.0 }
+        ensures { result.now ≡ net_name self.now class.0 }
+    {
+        let place = self.places[class.0 as usize] as usize;
+        let inputs = self.ports.inputs.as_slice();
+        if place < inputs.len() {
+            inputs[place].as_bytes()
+        } else {
+            self.names.as_slice()[place - inputs.len()].as_bytes()
+        }
     }
 }

@@ -3,11 +3,13 @@ ghost use Rattle.std.specs.Prelude.{◌≡◌, ◌+◌, ◌*◌, ◌/◌, ◌<�
 ghost use Rattle.lw_laws.specs.Graphs.{HoldsPair};
 ghost use Rattle.lw_lut.specs.Covers.{IsLeastDepth};
 ghost use Rattle.lw_lut.specs.Cuts.{IsCutAt, is_odd};
-ghost use Rattle.lw_lut.specs.Searches.{AreBounded, AreCounts, AreDepthsUpTo, AreSettled, AreSettling, Falls, IsBoundedAt, IsBelow, IsDeepened, count_at, depth_in, unknown_count};
+ghost use Rattle.lw_lut.specs.Searches.{AreBounded, AreCounts, AreDepthsUpTo, AreSettled, AreSettling, Falls, IsBoundedAt, IsBelow, IsDeepened, count_at, depth_in, total, unknown_count};
+ghost use Rattle.lw_lut.specs.Reaches.{AreBoundedBut, AreKnownBut, AreReaches, IsIn, IsOutside, IsWithin, span_at};
 ghost use Rattle.lw_lut.specs.declared.search.Search.{Search};
 ghost use Rattle.lw_pool.specs.declared.id.ClassId.{ClassId};
 
 use crate::cut::{Cut, joined};
+use crate::span::Span;
 use lw_graph::{Graph, Pair};
 use lw_pool::ClassId;
 use std::alloc::{AllocError, Global};
@@ -132,6 +134,10 @@ impl Search {
             AreCounts graph.now leaves d self.new }
         ensures depths { self.new.depths ≡ self.old.depths }
         ensures falls { Falls graph.now self.old self.new (λ c. c ≡ class.0) result }
+        ensures fewer { (k : ℕ) →
+            slice_index self.new.counts.items k ≤ slice_index self.old.counts.items k }
+        ensures elsewhere { (k : ℕ) → (k ≡ class.0 / 2 → ⊥) →
+            slice_index self.new.counts.items k ≡ slice_index self.old.counts.items k }
     {
         let Some(pair) = better_pair(graph, &self.counts, class) else {
             return false;
@@ -144,33 +150,85 @@ impl Search {
         true
     }
 
-    // Goes once through all classes.
-    fn lower_round(&mut self, graph: &Graph, leaves: u8) -> bool
+    // The same. Where a count falls the class and those that hold pairs with its place, whose span
+    // is given, are to be looked at again.
+    fn lower_at(
+        &mut self,
+        graph: &Graph,
+        leaves: u8,
+        reach: &[Span],
+        class: ClassId,
+        next: Span,
+    ) -> Span
+        requires class { class.0 < length graph.now.pairs }
+        requires places { length graph.now.pairs ≡ 2 * length reach.now }
         requires leaves { leaves ≤ 6 }
         requires counts { (d : ℕ) × AreCounts graph.now leaves d self.old }
         ensures counts { (d : ℕ) → AreCounts graph.now leaves d self.old →
             AreCounts graph.now leaves d self.new }
         ensures depths { self.new.depths ≡ self.old.depths }
-        ensures falls { Falls graph.now self.old self.new (λ c. c < length graph.now.pairs) result }
+        ensures elsewhere { (k : ℕ) → (k ≡ class.0 / 2 → ⊥) →
+            slice_index self.new.counts.items k ≡ slice_index self.old.counts.items k }
+        ensures grown { IsWithin next result }
+        ensures falls { (total self.new.counts.items < total self.old.counts.items) ⊎
+            ((result ≡ next) × (self.new ≡ self.old)) }
+        ensures bounded { AreReaches graph.now reach.now → (c : ℕ) → (IsIn result c → ⊥) →
+            (c ≡ class.0) ⊎ IsBoundedAt graph.now self.old.counts.items c →
+            IsBoundedAt graph.now self.new.counts.items c }
     {
-        let mut changed = false;
-        for class in 0..graph.classes() {
-            let lowered = self.lower(graph, leaves, ClassId(class));
-            changed = either(lowered, changed);
+        let _ = graph.classes();
+        if !self.lower(graph, leaves, class) {
+            return next;
         }
-        changed
+        next.join(reach[place_of(class)]).with(class)
     }
 
-    // Lets counts fall until no pair would lower one.
-    fn lower_all(&mut self, graph: &Graph, leaves: u8)
+    // Goes once through the classes of a span. What is to be looked at again is answered.
+    fn lower_round(&mut self, graph: &Graph, leaves: u8, reach: &[Span], span: Span) -> Span
+        requires places { length graph.now.pairs ≡ 2 * length reach.now }
+        requires reaches { AreReaches graph.now reach.now }
         requires leaves { leaves ≤ 6 }
         requires counts { (d : ℕ) × AreCounts graph.now leaves d self.old }
+        requires bounded { AreBoundedBut graph.now self.old.counts.items span }
+        ensures counts { (d : ℕ) → AreCounts graph.now leaves d self.old →
+            AreCounts graph.now leaves d self.new }
+        ensures depths { self.new.depths ≡ self.old.depths }
+        ensures bounded { AreBoundedBut graph.now self.new.counts.items result }
+        ensures elsewhere { (k : ℕ) → IsOutside span k →
+            slice_index self.new.counts.items k ≡ slice_index self.old.counts.items k }
+        ensures fewer { total self.new.counts.items ≤ total self.old.counts.items }
+        ensures falls { (c : ℕ) → IsIn result c →
+            total self.new.counts.items < total self.old.counts.items }
+    {
+        let mut next = Span::nothing();
+        for class in span.low..span.high.min(graph.classes()) {
+            next = self.lower_at(graph, leaves, reach, ClassId(class), next);
+        }
+        next
+    }
+
+    // Lets counts fall until no pair would lower one. Only classes of the span are not bounded. A
+    // span with the places where counts have fallen is answered.
+    fn lower_all(&mut self, graph: &Graph, leaves: u8, reach: &[Span], span: Span) -> Span
+        requires places { length graph.now.pairs ≡ 2 * length reach.now }
+        requires reaches { AreReaches graph.now reach.now }
+        requires leaves { leaves ≤ 6 }
+        requires counts { (d : ℕ) × AreCounts graph.now leaves d self.old }
+        requires bounded { AreBoundedBut graph.now self.old.counts.items span }
         ensures counts { (d : ℕ) → AreCounts graph.now leaves d self.old →
             AreCounts graph.now leaves d self.new }
         ensures depths { self.new.depths ≡ self.old.depths }
         ensures bounded { AreBounded graph.now self.new.counts.items }
+        ensures swept { IsWithin span result }
+        ensures elsewhere { (k : ℕ) → IsOutside result k →
+            slice_index self.new.counts.items k ≡ slice_index self.old.counts.items k }
     {
-        while self.lower_round(graph, leaves) {}
+        let (mut span, mut swept) = (span, span);
+        while span.low < span.high {
+            span = self.lower_round(graph, leaves, reach, span);
+            swept = swept.join(span);
+        }
+        swept
     }
 
     // Gives the classes of a place with few enough leaves this depth, where they have none, and a
@@ -189,6 +247,15 @@ impl Search {
             AreSettling g leaves depth self.old →
             AreSettled leaves depth first self.old place changed →
             AreSettled leaves depth first self.new (place + 1) (result || changed) }
+        ensures fewer { (k : ℕ) →
+            slice_index self.new.counts.items k ≤ slice_index self.old.counts.items k }
+        ensures elsewhere { (k : ℕ) → (k ≡ place → ⊥) →
+            slice_index self.new.counts.items k ≡ slice_index self.old.counts.items k }
+        ensures same { (slice_index self.old.counts.items place ≤ 1) ⊎
+            (leaves < slice_index self.old.counts.items place) →
+            slice_index self.new.counts.items place ≡ slice_index self.old.counts.items place }
+        ensures few { (k : ℕ) → slice_index self.new.counts.items k ≤ leaves →
+            slice_index self.old.counts.items k ≤ leaves }
     {
         if self.counts[place] > leaves {
             return false;
@@ -199,18 +266,51 @@ impl Search {
         deeper
     }
 
-    // The same for all places.
-    fn settle_all(&mut self, leaves: u8, depth: u32) -> bool
+    // A span with those that hold pairs with a place whose count falls when it is settled.
+    fn seen(&self, leaves: u8, reach: &[Span], place: usize, next: Span) -> Span
+        requires place { place < length self.now.counts.items }
+        requires places { length reach.now ≡ length self.now.counts.items }
+        ensures grown { IsWithin next result }
+        ensures seen { (slice_index self.now.counts.items place ≤ 1 → ⊥) →
+            slice_index self.now.counts.items place ≤ leaves →
+            IsWithin (span_at reach.now place) result }
+    {
+        if self.counts[place] > 1 && self.counts[place] <= leaves {
+            return next.join(reach[place]);
+        }
+        next
+    }
+
+    // The same for the places of a span. The classes of the others that have few enough leaves
+    // have depths. The other span grows by the classes that are then to be looked at.
+    fn settle_all(
+        &mut self,
+        leaves: u8,
+        depth: u32,
+        reach: &[Span],
+        swept: Span,
+        next: &mut Span,
+    ) -> bool
         requires cuts { length self.old.pins.items ≡ length self.old.counts.items }
         requires depths { length self.old.depths.items ≡ 2 * length self.old.counts.items }
         requires few { length self.old.counts.items < 2 ^ 31 }
+        requires places { length reach.now ≡ length self.old.counts.items }
         ensures lists { (g : _) → AreSettling g leaves depth self.old →
             AreSettling g leaves depth self.new }
         ensures settled { (g : _) → AreSettling g leaves depth self.old →
+            AreKnownBut leaves self.old.counts.items self.old.depths.items swept →
             AreSettled leaves depth self.old self.new (length self.old.counts.items) result }
+        ensures few { (k : ℕ) → slice_index self.new.counts.items k ≤ leaves →
+            slice_index self.old.counts.items k ≤ leaves }
+        ensures bounded { (g : _) → AreReaches g reach.now → AreBounded g self.old.counts.items →
+            AreBoundedBut g self.new.counts.items next.new }
     {
+        let places = self.counts.len();
+        let first = ((swept.low / 2) as usize).min(places);
+        let last = ((swept.high / 2) as usize + 1).min(places);
         let mut changed = false;
-        for place in 0..self.counts.len() {
+        for place in first..last {
+            *next = self.seen(leaves, reach, place, *next);
             let deeper = self.settle(leaves, place, depth);
             changed = either(deeper, changed);
         }
@@ -218,8 +318,19 @@ impl Search {
     }
 
     // One depth more: the classes whose tables need no deeper pins get it. Says whether there are
-    // any.
-    pub(crate) fn deepen_all(&mut self, graph: &Graph, leaves: u8, depth: u32) -> bool
+    // any. Only classes of the span are not bounded, or have few enough leaves and no depth.
+    pub(crate) fn deepen_all(
+        &mut self,
+        graph: &Graph,
+        leaves: u8,
+        depth: u32,
+        reach: &[Span],
+        span: &mut Span,
+    ) -> bool
+        requires places { length graph.now.pairs ≡ 2 * length reach.now }
+        requires reaches { AreReaches graph.now reach.now }
+        requires bounded { AreBoundedBut graph.now self.old.counts.items span.old }
+        requires known { AreKnownBut leaves self.old.counts.items self.old.depths.items span.old }
         requires leaves { leaves ≤ 6 }
         requires counts { AreCounts graph.now leaves depth self.old }
         requires depths { (d : ℕ) × (depth ≡ suc d) ×
@@ -230,9 +341,12 @@ impl Search {
             unknown_count self.new.depths.items < unknown_count self.old.depths.items }
         ensures least { result ≡ false → 2 ≤ leaves → (c : ℕ) →
             IsLeastDepth graph.now leaves c (depth_in self.new.depths.items c) }
+        ensures bounded { AreBoundedBut graph.now self.new.counts.items span.new }
+        ensures known { AreKnownBut leaves self.new.counts.items self.new.depths.items span.new }
     {
         let _ = graph.classes();
-        self.lower_all(graph, leaves);
-        self.settle_all(leaves, depth)
+        let swept = self.lower_all(graph, leaves, reach, *span);
+        *span = Span::nothing();
+        self.settle_all(leaves, depth, reach, swept, span)
     }
 }

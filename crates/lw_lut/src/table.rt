@@ -115,6 +115,7 @@ impl Table {
         ensures same { IfOk result (λ t. (c : ClassId) → Contains t.fanins c ↔
             Contains cut.now.pins c) }
         ensures few { IfOk result (λ t. length t.fanins ≤ length cut.now.pins) }
+        ensures six { IfOk result (λ t. length t.fanins ≤ 6) }
         ensures bits { IfOk result (λ t. t.bits
             ≡ packed (table_value cut.now class.0 (numbers t.fanins)) 0 (2 ^ length t.fanins)) }
     {

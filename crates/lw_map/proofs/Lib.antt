@@ -13,3 +13,5 @@ mod ChoiceLemmas
 mod GateCount
 mod Composed
 pub mod Leaves
+mod Tables
+mod TableTexts

@@ -1,16 +1,12 @@
 -- The netlist that a network is mapped to computes the network's outputs, each at the least time.
 use Rattle.std.proofs.Common.{ℕ, ◌+◌, ◌*◌, ◌^◌, ◌<◌, ◌≤◌, ◌≡◌, List, length, map, All, Option, Some, arith, mul-le-mul_right}
-use Rattle.std.proofs.lemmas.List.{length-map}
-use Rattle.lw_pool.specs.declared.id.NetId.{NetId}
 use Rattle.lw_laws.specs.Decompositions.{listing_of}
 use Rattle.lw_laws.specs.Graphs.{Graph}
 use Rattle.lw_laws.specs.Classes.{IsGraphOf}
 use Rattle.lw_laws.specs.Matches.{IsLeastCover}
 use Rattle.lw_laws.specs.Rounds.{labels_in}
 use Rattle.lw_laws.specs.Delays.{delay_cost}
-use Rattle.lw_laws.specs.Headline.{Port as PlainPort, IsMapping}
-use Rattle.lw_laws.specs.MappedNetlists.{HasPorts}
-use Rattle.lw_laws.proofs.Lists.{all_map}
+use Rattle.lw_laws.specs.Headline.{IsMapping}
 use Rattle.lw_laws.proofs.NetlistOf.{netlist_maps}
 use Rattle.lw_net.specs.Networks.{NetworkParts, IsNetwork}
 use Rattle.lw_net.specs.Plain as network
@@ -24,19 +20,15 @@ use Rattle.lw_label.specs.Delays.{most_time}
 use Rattle.lw_netlist.specs.Netlists.{NetlistParts}
 use Rattle.lw_netlist.specs.Plain as netlist
 use Rattle.lw_map.specs.Options.{Options, IsWide}
-use Rattle.lw_map.specs.Mapped.{output_port, ports_of, mapped_ports, base_count, IsMappedNetlist}
+use Rattle.lw_map.specs.Mapped.{ports_of, mapped_ports, base_count, IsMappedNetlist}
 use Rattle.lw_label.proofs.CellLaws.{timing_up}
 use Rattle.lw_map.proofs.Ranges.{pairs_bound, label_below}
-use Rattle.lw_map.proofs.CellLaws.{by_place, delay_patterns, delay_truths}
+use Rattle.lw_map.proofs.CellLaws.{delay_patterns, delay_truths}
+use Rattle.lw_map.proofs.PortNames.{has_ports}
 
 module _ (options : Options) (cells : List CellParts) (net : NetworkParts) (starts : List Micro) (wide : IsWide options) (kept : IsNetwork net) (early : All IsSmall starts) (lib : IsLibrary cells) where
   few_inputs : net.inputs < 2 ^ 32
   few_inputs = let n = kept.named in let m = kept.few in omega arith
-
-  has_ports : HasPorts (network.plain net) (ports_of net)
-  has_ports = all_map (λ (o : NetId). o.0 < length net.names) (λ (p : PlainPort). p.net < net.inputs + length (map network.plain_node net.nodes)) (output_port net) net.outputs
-      (λ o lt. let n = kept.named in let m = length-map net.nodes network.plain_node in omega arith)
-      (by_place (λ (o : NetId). o.0 < length net.names) net.outputs kept.outputs)
 
   -- a time by few classes and small delays is one that is told
   labels_low : base_count options net ≤ most_bases → (g : Graph) → IsGraphOf options.mode net.inputs (listing_of options.width (network.plain net)) g → (labels : List (Option ℕ)) → ((c : ℕ) → IsLeastCover g (library_patterns cells) (delay_cost (timing_of cells starts) most_time) c (labels_in labels c)) → (c l : ℕ) → labels_in labels c ≡ Some l → l < most_time
@@ -52,4 +44,4 @@ module _ (options : Options) (cells : List CellParts) (net : NetworkParts) (star
   pub mapped_is_mapping : base_count options net ≤ most_bases → (n : NetlistParts) → IsMappedNetlist options cells net starts n → IsMapping options.mode options.width (network.plain net) (ports_of net) (library_patterns cells) (timing_of cells starts) (truth_of_cells cells) (netlist.plain n) (mapped_ports n)
   mapped_is_mapping few n is =
       netlist_maps options.mode options.width (network.plain net) (ports_of net) (library_patterns cells) (timing_of cells starts) most_time (truth_of_cells cells) (netlist.plain n) n.names (mapped_ports n)
-      wide.least (in_order net kept) few_inputs has_ports (delay_patterns cells lib) (delay_truths cells lib) is.is (labels_low few is.is.graph is.is.is_graph is.is.labels is.is.least)
+      wide.least (in_order net kept) few_inputs (has_ports net kept) (delay_patterns cells lib) (delay_truths cells lib) is.is (labels_low few is.is.graph is.is.is_graph is.is.labels is.is.least)

@@ -1,5 +1,5 @@
 -- The names of a network's inputs and outputs tell them apart.
-use Rattle.std.proofs.Common.{ℕ, zero, suc, ◌<◌, ◌≤◌, ◌≡◌, ◌⊎◌, inl, inr, Bool, true, false, ◌||◌, List, [], ◌∷◌, map, take, length, Option, Some, None, Contains, slice_get, slice_index_or, refl, ap, sym, ◌∙◌, subst, arith}
+use Rattle.std.proofs.Common.{ℕ, zero, suc, ◌+◌, ◌<◌, ◌≤◌, ◌≡◌, ◌⊎◌, inl, inr, Bool, true, false, ◌||◌, List, [], ◌∷◌, map, take, length, Option, Some, None, Contains, slice_get, slice_index_or, refl, ap, sym, ◌∙◌, subst, arith}
 use Rattle.std.specs.List.{AllByRecursion, IsDistinct}
 use Rattle.std.specs.Prelude.{All}
 use Rattle.std.specs.Cmp.{IsEquivalence}
@@ -15,8 +15,8 @@ use Rattle.std.proofs.lemmas.Slice.Eq.{bytes_eq-Decides}
 use Rattle.lw_pool.specs.declared.id.NetId.{NetId}
 use Rattle.lw_laws.specs.Names.{AreDifferent}
 use Rattle.lw_laws.specs.Headline.{Port as PlainPort}
-use Rattle.lw_laws.specs.MappedNetlists.{ArePortNames}
-use Rattle.lw_laws.proofs.Lists.{slice_get_in, slice_get_some}
+use Rattle.lw_laws.specs.MappedNetlists.{HasPorts, ArePortNames}
+use Rattle.lw_laws.proofs.Lists.{slice_get_in, slice_get_some, all_map}
 use Rattle.lw_laws.proofs.Numbers.{slice_get_map_back}
 use Rattle.lw_net.specs.Networks.{NetworkParts, IsNetwork, name_in, input_names, output_names}
 use Rattle.lw_net.specs.Plain as network
@@ -75,9 +75,14 @@ module _ (net : NetworkParts) (kept : IsNetwork net) where
       let name_is : name_in net o ≡ p.name = ap (λ (q : PlainPort). q.name) same in
       sym net_is ∙ different net.names differ o.0 i p.name (name_at o (in_range k o f) ∙ ap Some name_is) (take-back net.inputs net.names i p.name e)
 
-  port_list : (outputs : List NetId) → map (λ (p : PlainPort). p.name) (map (output_port net) outputs) ≡ map (name_in net) outputs
+  pub port_list : (outputs : List NetId) → map (λ (p : PlainPort). p.name) (map (output_port net) outputs) ≡ map (name_in net) outputs
   port_list [] = refl
   port_list (o ∷ outputs) = ap (λ (ns : List (List ℕ)). name_in net o ∷ ns) (port_list outputs)
+
+  pub has_ports : HasPorts (network.plain net) (ports_of net)
+  has_ports = all_map (λ (o : NetId). o.0 < length net.names) (λ (p : PlainPort). p.net < net.inputs + length (map network.plain_node net.nodes)) (output_port net) net.outputs
+      (λ o lt. let n = kept.named in let m = length-map net.nodes network.plain_node in omega arith)
+      (recursion_from_All (λ (o : NetId). o.0 < length net.names) net.outputs kept.outputs)
 
   pub port_names : IsDistinct bytes_eq net.names → IsDistinct bytes_eq (input_names net) → IsDistinct bytes_eq (output_names net) → ArePortNames (network.plain net) (ports_of net)
   port_names differ inputs outputs = record {

@@ -4,3 +4,4 @@ pub mod Choices
 pub mod Ports
 pub mod Mappings
 pub mod Faults
+pub mod Tabled

@@ -35,8 +35,8 @@ pub struct Mapping {
     pub steps: Option<u64>,
 }
 
-// The ports at which the graph of a network is covered.
-fn ports(alloc: Global, net: &Network, choices: &Choices) -> Result<Ports, AllocError>
+/// The ports at which the graph of a network is covered.
+pub(crate) fn ports(alloc: Global, net: &Network, choices: &Choices) -> Result<Ports, AllocError>
     ensures { IfOk result (ArePortsOf net.now choices.now) }
 {
     let mut roots = Vec::with_capacity(alloc, choices.roots.len())?;

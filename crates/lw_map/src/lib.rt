@@ -1,4 +1,4 @@
-//! A network mapped to the cells of a library: the layers one after another.
+//! A network mapped to the cells of a library, or to lookup tables: the layers one after another.
 #![tactic(auto)]
 
 mod certifying;
@@ -6,11 +6,15 @@ mod choices;
 mod covering;
 mod fault;
 mod labelling;
+mod laws;
 mod naming;
 mod options;
+mod tabling;
 
 pub use certifying::certificate;
 pub use choices::{Choices, decompose};
 pub use covering::{Mapping, cover};
 pub use fault::MapFault;
+pub use laws::tabled_texts_are_mappings;
 pub use options::Options;
+pub use tabling::tabulate;

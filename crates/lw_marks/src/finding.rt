@@ -25,7 +25,7 @@ use std::test::Fail;
 
 /// Libraries: small cells; cells with pins that stand twice; constants, a pin alone and no delays;
 /// cells of many pins; and cells that tie.
-const LIBRARIES: [&str; 5] = [
+pub(crate) const LIBRARIES: [&str; 5] = [
     "GATE inv 1 O=!a;PIN * INV 1 999 1 0 1 0\nGATE nand2 2 O=!(a*b);PIN * INV 1 999 1.5 0 1.5 0\nGATE nand3 3 O=!(a*b*c);PIN * INV 1 999 2 0 2 0\n",
     "GATE inv 1 O=!a;PIN * INV 1 999 .5 0 .5 0\nGATE square 1 O=!(a*a);PIN * INV 1 999 1 0 1 0\nGATE xor 5 O=a*!b+!a*b;PIN a UNKNOWN 1 999 2 0 2 0 PIN b UNKNOWN 1 999 1.5 0 1.5 0\nGATE majority 6 O=a*b+a*c+b*c;PIN * NONINV 1 999 2.5 0 2.5 0\nGATE mux 4 O=s*a+!s*b;PIN * UNKNOWN 1 999 2 0 2 0\n",
     "GATE zero 0 O=CONST0;\nGATE one 0 O=CONST1;\nGATE wire 0 O=a;PIN * NONINV 1 999 0 0 0 0\nGATE inv 0 O=!a;PIN * INV 1 999 0 0 0 0\nGATE nand2 0 O=!(a*b);PIN * INV 1 999 0 0 0 0\n",

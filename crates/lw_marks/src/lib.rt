@@ -14,4 +14,8 @@ mod libraries;
 #[cfg(test)]
 mod plain;
 #[cfg(test)]
+mod settling;
+#[cfg(test)]
 mod sketch;
+#[cfg(test)]
+mod steep;

@@ -1,5 +1,5 @@
 // Libraries of small texts, and their patterns.
-ghost use Rattle.std.specs.Prelude.{All, IfOk, length, map};
+ghost use Rattle.std.specs.Prelude.{◌≡◌, [], All, IfOk, length, map};
 ghost use Rattle.lw_genlib.specs.Cells.{IsSmall};
 ghost use Rattle.lw_genlib.specs.Tables.{delays_of_cells};
 ghost use Rattle.lw_match.specs.Least.{AreOfCells};
@@ -52,7 +52,8 @@ pub(crate) fn patterns_of(alloc: Global, lib: &Library) -> Result<Patterns, Allo
 
 /// No start, so that each input starts at 0.
 pub(crate) fn no_starts(alloc: Global) -> Micros
-    ensures { All IsSmall result }
+    ensures small { All IsSmall result }
+    ensures none { result ≡ [] }
 {
     Micros::from_vec(Vec::new(alloc))
 }

@@ -13,3 +13,5 @@ pub mod Steps
 pub mod Walking
 pub mod Rooted
 pub mod Telling
+pub mod Reaching
+pub mod TooMany

@@ -43,7 +43,7 @@ text_there w name text files there few =
     let short : nat_le (length text) 67108864 ≡ true = grind (arith, nat_tests) in
     ap (within_limit w) there ∙ ap (λ b. cond b (Ok text) (Err (TooLong w))) short
 
-names_read : (name : List ℕ) (files : Files) (model : Parsed) → ReadsModel name files (Ok model) → IsNamed model
+pub names_read : (name : List ℕ) (files : Files) (model : Parsed) → ReadsModel name files (Ok model) → IsNamed model
 names_read name files model (inl (bytes, text, is)) = model_named bytes model is
 names_read name files model (inr (e, refused, is)) = cc
 

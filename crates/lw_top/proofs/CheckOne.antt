@@ -27,6 +27,8 @@ use Rattle.lw_top.specs.declared.refusal.Refusal.TheVariants.{Forms, Splits, No}
 use Rattle.lw_top.specs.Steps.{Files}
 use Rattle.lw_top.specs.Maps.{LacksGraph}
 use Rattle.lw_top.specs.Checks.{HasVerdict, Checks}
+use Rattle.lw_top.specs.Answers.{AreAlike}
+use Rattle.lw_top.specs.Tables.{Tabulates}
 use Rattle.lw_top.specs.Counts.{pair_total, counts_text, Counts}
 
 numbers_back : (xs ys : List ClassId) → numbers xs ≡ numbers ys → xs ≡ ys
@@ -104,3 +106,10 @@ module _ (options : Options) (model : Parsed) (wide : IsWide options) where
   counts_one files (Ok s) (Err r) p q = absurd (within_has_graph options model.network wide p.within r q)
   counts_one files (Err r) (Ok t) p q = absurd (within_has_graph options model.network wide q.within r p)
   counts_one files (Err r) (Err s) p q = ap (λ (z : Refusal). Err z) (graph_lack_one options model.network wide r s p q)
+
+  -- tables have several texts
+  pub tables_alike : (leaves : ℕ) (files : Files) (a b : Result (List ℕ) Refusal) → Tabulates leaves options model files a → Tabulates leaves options model files b → AreAlike (λ s t. Unit {0}) a b
+  tables_alike leaves files (Ok s) (Ok t) p q = tt
+  tables_alike leaves files (Ok s) (Err r) p q = absurd (within_has_graph options model.network wide p.within r q)
+  tables_alike leaves files (Err r) (Ok t) p q = absurd (within_has_graph options model.network wide q.within r p)
+  tables_alike leaves files (Err r) (Err s) p q = graph_lack_one options model.network wide r s p q

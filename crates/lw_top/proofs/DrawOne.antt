@@ -39,7 +39,7 @@ pub drawing_wide : IsWide drawing_options
 drawing_wide = record { least = omega arith; most = omega arith }
 
 -- all inputs start at 0, which is early
-pub at_once_small : (net : NetworkParts) → All IsSmall (at_once net)
+pub at_once_small : (net : NetworkParts) → All IsSmall (at_once net.inputs)
 at_once_small net = All-replicate IsSmall net.inputs (record { 0 = 0 }) (omega arith)
 
 module _ (seed count : ℕ) (cells : List CellParts) (few : IsCount count) (lib : IsLibrary cells) where
@@ -49,22 +49,22 @@ module _ (seed count : ℕ) (cells : List CellParts) (few : IsCount count) (lib 
   -- this netlist is mapped to, with these arrivals, and the text says its sizes
   abbrev Says : NetworkParts → List ℕ → List ℕ → Option ℕ → NetlistParts → Type 0
   Says net text ds steps n =
-      (p : IsMappedNetlist drawing_options cells net (at_once net) n) × AreArrivals (timing_of cells (at_once net)) (netlist.plain n) ds
+      (p : IsMappedNetlist drawing_options cells net (at_once net.inputs) n) × AreArrivals (timing_of cells (at_once net.inputs)) (netlist.plain n) ds
       × AreSteps p.is.graph (library_patterns cells) (labels_in p.is.labels) steps
       × (text ≡ sizes_text count (length p.is.graph.pairs) (length n.gates) (greatest (output_arrivals n ds)) steps)
 
   -- over one graph the labels are the same
-  labels_once : (net : NetworkParts) (n : NetlistParts) (p q : IsMappedNetlist drawing_options cells net (at_once net) n) → q.is.graph ≡ p.is.graph → labels_in q.is.labels ≡ labels_in p.is.labels
+  labels_once : (net : NetworkParts) (n : NetlistParts) (p q : IsMappedNetlist drawing_options cells net (at_once net.inputs) n) → q.is.graph ≡ p.is.graph → labels_in q.is.labels ≡ labels_in p.is.labels
   labels_once net n p q same =
-      fun_ext (λ c. least_cover_once p.is.graph (library_patterns cells) (time_cost cells (at_once net)) c (labels_in q.is.labels c) (labels_in p.is.labels c)
-      (subst (λ (g : Graph). IsLeastCover g (library_patterns cells) (time_cost cells (at_once net)) c (labels_in q.is.labels c)) same (q.is.least c)) (p.is.least c))
+      fun_ext (λ c. least_cover_once p.is.graph (library_patterns cells) (time_cost cells (at_once net.inputs)) c (labels_in q.is.labels c) (labels_in p.is.labels c)
+      (subst (λ (g : Graph). IsLeastCover g (library_patterns cells) (time_cost cells (at_once net.inputs)) c (labels_in q.is.labels c)) same (q.is.least c)) (p.is.least c))
 
   sizes_once : (net : NetworkParts) (text other : List ℕ) → IsSizeText seed count cells net text → IsSizeText seed count cells net other → text ≡ other
   sizes_once net text other a b =
-      let same = mapped_once drawing_options cells net (at_once net) drawing_wide b.netlist a.netlist b.is_mapped a.is_mapped in
+      let same = mapped_once drawing_options cells net (at_once net.inputs) drawing_wide b.netlist a.netlist b.is_mapped a.is_mapped in
       let (q, arrive, read, says) = subst (Says net other b.arrivals b.steps) same (b.is_mapped, b.arrive, b.steps_are, b.says) in
       let graph = graph_one drawing_options net drawing_wide a.is_mapped.is.graph q.is.graph a.is_mapped.is.is_graph q.is.is_graph in
-      let times = arrivals_once (netlist.plain a.netlist) (ordered a.netlist a.is_mapped.kept) (timing_of cells (at_once net)) a.arrivals b.arrivals a.arrive arrive in
+      let times = arrivals_once (netlist.plain a.netlist) (ordered a.netlist a.is_mapped.kept) (timing_of cells (at_once net.inputs)) a.arrivals b.arrivals a.arrive arrive in
       let labels = labels_once net a.netlist a.is_mapped q (sym graph) in
       let steps = counts_once a.is_mapped.is.graph (library_patterns cells) (labels_in a.is_mapped.is.labels) a.steps b.steps a.steps_are (subst₂ (λ (g : Graph) (ls : Labels). AreSteps g (library_patterns cells) ls b.steps) (sym graph) labels read) in
       a.says ∙ (ap₂ (λ (g : Graph) (ds : List ℕ). sizes_text count (length g.pairs) (length a.netlist.gates) (greatest (output_arrivals a.netlist ds)) a.steps) graph times
@@ -73,7 +73,7 @@ module _ (seed count : ℕ) (cells : List CellParts) (few : IsCount count) (lib 
   -- what is drawn is this network, and it comes to this
   abbrev DrawsAs : NetworkParts → Result (List ℕ) Refusal → Type 0
   DrawsAs net (Ok text) = IsSizeText seed count cells net text
-  DrawsAs net (Err r) = LacksMapping drawing_options cells net (at_once net) r
+  DrawsAs net (Err r) = LacksMapping drawing_options cells net (at_once net.inputs) r
 
   drawn_as : (files : Files) (a : Result (List ℕ) Refusal) → Draws seed count cells files a → (net : NetworkParts) × IsGenerated seed count net × DrawsAs net a
   drawn_as files (Ok text) (net, p) = (net, p.generated, p)
@@ -81,9 +81,9 @@ module _ (seed count : ℕ) (cells : List CellParts) (few : IsCount count) (lib 
 
   draws_by : (net : NetworkParts) → IsGenerated seed count net → (a b : Result (List ℕ) Refusal) → DrawsAs net a → DrawsAs net b → a ≡ b
   draws_by net g (Ok s) (Ok t) p q = ap (λ (z : List ℕ). Ok z) (sizes_once net s t p q)
-  draws_by net g (Ok s) (Err r) p q = absurd (not_both drawing_options cells net (at_once net) drawing_wide (generated_kept seed count net few.most g) (at_once_small net) lib p.within p.netlist p.is_mapped r q)
-  draws_by net g (Err r) (Ok t) p q = absurd (not_both drawing_options cells net (at_once net) drawing_wide (generated_kept seed count net few.most g) (at_once_small net) lib q.within q.netlist q.is_mapped r p)
-  draws_by net g (Err r) (Err s) p q = ap (λ (z : Refusal). Err z) (lack_one drawing_options cells net (at_once net) drawing_wide r s p q)
+  draws_by net g (Ok s) (Err r) p q = absurd (not_both drawing_options cells net (at_once net.inputs) drawing_wide (generated_kept seed count net few.most g) (at_once_small net) lib p.within p.netlist p.is_mapped r q)
+  draws_by net g (Err r) (Ok t) p q = absurd (not_both drawing_options cells net (at_once net.inputs) drawing_wide (generated_kept seed count net few.most g) (at_once_small net) lib q.within q.netlist q.is_mapped r p)
+  draws_by net g (Err r) (Err s) p q = ap (λ (z : Refusal). Err z) (lack_one drawing_options cells net (at_once net.inputs) drawing_wide r s p q)
 
   pub draws_one : (files : Files) (a b : Result (List ℕ) Refusal) → Draws seed count cells files a → Draws seed count cells files b → a ≡ b
   draws_one files a b p q =

@@ -1,5 +1,5 @@
 -- What steps that read no file answer.
-use Rattle.std.proofs.Common.{ℕ, ◌≡◌, Bool, true, false, List, [], ◌∷◌, length, map, Option, Some, None, Ok, Err, refl, ap, sym, ◌∙◌, subst, subst₂, arith}
+use Rattle.std.proofs.Common.{ℕ, ◌≤◌, ◌≡◌, Bool, true, false, List, [], ◌∷◌, length, map, Option, Some, None, Ok, Err, refl, ap, sym, ◌∙◌, subst, subst₂, arith}
 use Rattle.std.specs.List.{AllZip}
 use Rattle.std.proofs.lemmas.List.{length-map, length-take-le}
 use Rattle.lw_fixed.specs.declared.micro.Micro.{Micro}
@@ -38,6 +38,9 @@ use Rattle.lw_top.specs.Mapped.{IsCertificateFor}
 use Rattle.lw_top.specs.Named.{map_refusal}
 use Rattle.lw_top.specs.Answered.{Gives}
 use Rattle.lw_top.specs.Checks.{HasVerdict}
+use Rattle.lw_lut.specs.Nets.{PlainTableNet}
+use Rattle.lw_map.specs.Tabled.{IsTabled}
+use Rattle.lw_top.specs.Tables.{Tabulates}
 use Rattle.lw_top.specs.Counts.{pair_total, counts_text, sizes_text, IsCountText, Counts, drawing_options, at_once, Draws}
 
 -- a step that refuses for want of a graph, and one that refuses for want of a mapping
@@ -106,6 +109,16 @@ module _ (cells : List CellParts) (model : Parsed) (c : Choices) (m : Mapping) (
     (over, framed, gate_classes certified certificate a),
   )
 
+-- tables with the frame of the model
+pub tables_given : (leaves : ℕ) (model : Parsed) (c : Choices) (n : PlainTableNet) → IsModel model → AreChoices model.network c → IsTabled (plain_options c.options) leaves model.network n → Gives (Tabulates leaves (plain_options c.options) model) (Ok (answer.Tables n model.frame))
+tables_given leaves model c n fits are is = (
+  λ text files says. record { within = are.within; net = n; tabled = is; says = says },
+  record {
+    inputs = subst (λ (names : List (List ℕ)). model.frame.inputs ≤ length names) (sym is.inputs) fits.frame.own_inputs;
+    outputs = subst (λ (names : List (List ℕ)). model.frame.outputs ≤ length names) (sym is.outputs) fits.frame.own_outputs;
+  },
+)
+
 -- the counts of a graph
 pub counts_given : (options : Options) (model : Parsed) (c : Choices) → plain_options c.options ≡ options → AreChoices model.network c → Gives (Counts options model) (Ok (answer.Counts c.forms (length c.graph.pairs) (pair_total c.graph)))
 counts_given options model c same are = (λ text files says. subst (λ (o : Options). IsCountText o model.network text) same (counted text says), tt)
@@ -131,10 +144,10 @@ verdict_given options cells model m c g v same are kept is =
     })
 
 -- the sizes of a drawn network
-module _ (cells : List CellParts) (net : NetworkParts) (c : Choices) (m : Mapping) (t : TimingParts) (same : plain_options c.options ≡ drawing_options) (are : AreChoices net c) (is : IsMappingOf cells net (at_once net) c m) (timed : IsTimingOf cells m.netlist (at_once net) t) where
+module _ (cells : List CellParts) (net : NetworkParts) (c : Choices) (m : Mapping) (t : TimingParts) (same : plain_options c.options ≡ drawing_options) (are : AreChoices net c) (is : IsMappingOf cells net (at_once net.inputs) c m) (timed : IsTimingOf cells m.netlist (at_once net.inputs) t) where
   -- the netlist is that of the network by the options of a drawing
   abbrev IsDrawn : Options → Type 0
-  IsDrawn o = IsWithinLimits o net × ((mapped : IsMappedNetlist o cells net (at_once net) m.netlist) × (mapped.is.graph ≡ c.graph) × (mapped.is.labels ≡ costs_of m.labels))
+  IsDrawn o = IsWithinLimits o net × ((mapped : IsMappedNetlist o cells net (at_once net.inputs) m.netlist) × (mapped.is.graph ≡ c.graph) × (mapped.is.labels ≡ costs_of m.labels))
 
   drawn : IsDrawn drawing_options
   drawn = subst IsDrawn same (are.within, (is.mapped, is.graph, is.labels))

@@ -19,7 +19,8 @@ use Rattle.lw_top.specs.Words.{Command, mapping, command_of}
 use Rattle.lw_top.specs.Answers.{within_limit, text_of, ReadsLibrary, ReadsModel, asked_for, IsCommandAnswer, IsAnswer}
 use Rattle.lw_top.specs.Outcome.{IsDone, Meets, outcome_status}
 use Rattle.lw_top.specs.Telling.{outcome_line, refusal_line}
-use Rattle.lw_top.specs.Mappings.{AsksForMapping, AreRead, IsMappingText, LacksOutput}
+use Rattle.lw_top.specs.Mappings.{AsksForMapping, AsksForTables, AreRead, IsMappingText, LacksOutput}
+use Rattle.lw_top.specs.Tabled.{AreTables}
 use Rattle.lw_top.proofs.Steps.{IsLast, last-ok, last-err}
 use Rattle.lw_top.proofs.InRange.{command_in_range}
 use Rattle.lw_top.proofs.Sound.{asked_some, cells_kept, model_kept}
@@ -121,6 +122,13 @@ module _ {O : Type 0} (words : List (List ℕ)) (told : Option (List File)) (bef
   done-maps asks WriteFault m files is e = absurd (omega (arith, e))
   done-maps asks (Refused (NoCover name)) m files is e = absurd (omega (arith, e))
   done-maps asks (Refused other) m files is e = absurd (omega (arith, e))
+
+  -- a run that is done wrote a text of tables
+  pub done-tables : AsksForTables words → ((files : Files) (text : List ℕ) → AsksForTables words → IsAnswer words files (Ok text) → AreTables words files text) → (o : Outcome) → Met o → (files : List File) → told ≡ Some files → 0 ≡ outcome_status o → (text : List ℕ) × AreTables words (bytes_of files) text × IsDone taken is_finished old new text
+  done-tables asks law Done m files is e = (m.0, law (bytes_of files) m.0 asks (m.1 files is), m.2)
+  done-tables asks law WriteFault m files is e = absurd (omega (arith, e))
+  done-tables asks law (Refused (NoCover name)) m files is e = absurd (omega (arith, e))
+  done-tables asks law (Refused other) m files is e = absurd (omega (arith, e))
 
   -- a run that finds no cover names an output without one
   pub named-lacks : AsksForMapping words → (o : Outcome) → Met o → said (outcome_line (command_of words) o) → (files : List File) → told ≡ Some files → 6 ≡ outcome_status o → (name : List ℕ) × LacksOutput words (bytes_of files) name × said (refusal_line (command_of words) (NoCover name))

@@ -6,7 +6,8 @@ use Rattle.std.specs.Str.{bytes_eq}
 use Rattle.std.proofs.lemmas.Bool.{leb-true}
 use Rattle.lw_laws.specs.Modes.Mode.{plain, idempotent}
 use Rattle.lw_map.specs.Options.{Options, IsWide}
-use Rattle.lw_top.specs.Words.{Command, mapping, checking, timing, simulation, gate_simulation, counting, drawing, to_verilog, from_verilog, Two, Three, Begun, one_file, two_files, three_files, width_of, with_mode, with_width, begun_by, number_of, seed_of, count_in, count_of, mapping_of, certified_of, mapping_begun, checking_of, checking_begun, counting_of, counting_begun, timing_of, network_simulation, netlist_simulation, simulation_of, drawing_by, drawing_of, to_verilog_of, from_verilog_of, named, command_of, IsCount, IsInRange}
+use Rattle.lw_map.specs.Tabled.{AreLeaves}
+use Rattle.lw_top.specs.Words.{Command, mapping, checking, timing, simulation, gate_simulation, counting, tabling, drawing, to_verilog, from_verilog, Two, Three, Begun, one_file, two_files, three_files, width_of, with_mode, with_width, begun_by, number_of, seed_of, count_in, count_of, mapping_of, certified_of, mapping_begun, checking_of, checking_begun, counting_of, counting_begun, leaves_of, tabling_of, tabling_by, tabling_begun, timing_of, network_simulation, netlist_simulation, simulation_of, drawing_by, drawing_of, to_verilog_of, from_verilog_of, named, command_of, IsCount, IsInRange}
 
 -- each value that an option holds
 abbrev Each : {A : Type 0} → (A → Type 0) → Option A → Type 0
@@ -119,6 +120,35 @@ counting_in_range (Some begun) wide c is = by_file (one_file begun.rest) is
         let same : counting begun.options file ≡ c = cc in
         subst IsInRange same (wide begun refl)
 
+digit_leaves : (low high : Bool) (digit : ℕ) → nat_le 50 digit ≡ low → nat_le digit 54 ≡ high → Each AreLeaves (if low && high then Some (digit - 48) else None)
+digit_leaves true true digit above below leaves is =
+    let same : digit - 48 ≡ leaves = cc in
+    let le : 50 ≤ digit = leb-true _ _ above in
+    let ge : digit ≤ 54 = leb-true _ _ below in
+    record { least = omega arith; limit = omega arith }
+digit_leaves true false digit above below leaves is = cc
+digit_leaves false high digit above below leaves is = cc
+
+word_leaves : (word : List ℕ) → Each AreLeaves (leaves_of word)
+word_leaves [] leaves is = cc
+word_leaves (digit ∷ []) leaves is = digit_leaves (nat_le 50 digit) (nat_le digit 54) digit refl refl leaves is
+word_leaves (digit ∷ other ∷ word) leaves is = cc
+
+tables_in_range : (leaves : Option ℕ) (begun : Option Begun) → Each AreLeaves leaves → Each HasWide begun → Each IsInRange (tabling_by leaves begun)
+tables_in_range None begun few wide c is = cc
+tables_in_range (Some leaves) None few wide c is = cc
+tables_in_range (Some leaves) (Some begun) few wide c is = by_file (one_file begun.rest) is
+  where
+    by_file : (file : Option (List ℕ)) → tabling_of leaves begun.options file ≡ Some c → IsInRange c
+    by_file None is = cc
+    by_file (Some file) is =
+        let same : tabling leaves begun.options file ≡ c = cc in
+        subst IsInRange same (few leaves refl, wide begun refl)
+
+tabling_in_range : (words : List (List ℕ)) → Each IsInRange (tabling_begun words)
+tabling_in_range [] c is = cc
+tabling_in_range (leaves ∷ words) c is = tables_in_range (leaves_of leaves) (begun_by words) (word_leaves leaves) (begun_wide words) c is
+
 timing_in_range : (files : Option Two) → Each IsInRange (timing_of files)
 timing_in_range None c is = cc
 timing_in_range (Some files) c is = let same : timing files.first files.second ≡ c = cc in subst IsInRange same tt
@@ -174,7 +204,8 @@ named_in_range name words =
     (chosen (bytes_eq name (codes "graph")) _ _ (counting_in_range (begun_by words) (begun_wide words))
     (chosen (bytes_eq name (codes "big")) _ _ (drawing_in_range words)
     (chosen (bytes_eq name (codes "verilog")) _ _ (to_verilog_in_range (two_files words))
-    (chosen (bytes_eq name (codes "unverilog")) _ None (from_verilog_in_range (two_files words)) (λ c is. cc))))))))
+    (chosen (bytes_eq name (codes "unverilog")) _ _ (from_verilog_in_range (two_files words))
+    (chosen (bytes_eq name (codes "lut")) _ None (tabling_in_range words) (λ c is. cc)))))))))
 
 -- a command's numbers are those that words may say
 pub command_in_range : (words : List (List ℕ)) (c : Command) → command_of words ≡ Some c → IsInRange c

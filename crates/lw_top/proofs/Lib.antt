@@ -23,8 +23,10 @@ pub mod Uncovered
 pub mod Hashes
 pub mod Given
 pub mod FormGraphs
-pub mod FreeNames
 pub mod NetNames
 pub mod SignalNames
 pub mod MappedChecks
 pub mod Accepted
+pub mod Writable
+pub mod ComesBack
+pub mod TableAnswers

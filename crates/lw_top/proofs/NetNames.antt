@@ -9,7 +9,7 @@ use Rattle.std.proofs.lemmas.Fmt.{length-decimal-le, digits_decimal}
 use Rattle.std.proofs.lemmas.List.Elements.{All-filter}
 use Rattle.lw_words.specs.Gathering.{IsInk, IsNoHash}
 use Rattle.lw_laws.specs.Names.{is_name_among, numbered_name, numbered_names, free_names, output_name, gate_names, net_names}
-use Rattle.lw_top.proofs.FreeNames.{enough_free}
+use Rattle.lw_naming.proofs.FreeNames.{enough_free}
 use Rattle.lw_mapped.specs.Readable.{IsSignalName}
 use Rattle.lw_mapped.proofs.GoodWords.{IsGood, good-bytes}
 use Rattle.lw_mapped.proofs.Printing.{own, digits-good}

@@ -27,13 +27,15 @@ use Rattle.lw_top.specs.Maps.{Maps}
 use Rattle.lw_top.specs.Checks.{Checks}
 use Rattle.lw_top.specs.Reports.{Times, Simulates, SimulatesNetlist}
 use Rattle.lw_top.specs.Counts.{Counts, Draws}
-use Rattle.lw_top.specs.Words.{Command, mapping, checking, timing, simulation, gate_simulation, counting, drawing, to_verilog, from_verilog, command_of, IsInRange, IsCount}
-use Rattle.lw_top.specs.Answers.{text_of, marked_lines_in, HasCells, HasModel, HasMapped, HasVerilog, HasVectors, ReadsLibrary, ReadsModel, ReadsMapped, ReadsVerilog, ReadsVectors, IsMappingAnswer, IsCheckAnswer, IsTimingAnswer, IsSimulationAnswer, IsGateSimulationAnswer, IsCountAnswer, IsDrawingAnswer, IsToVerilogAnswer, IsFromVerilogAnswer, IsCommandAnswer, asked_for, IsAnswer}
+use Rattle.lw_top.specs.Tables.{Tabulates}
+use Rattle.lw_top.specs.Words.{Command, mapping, checking, timing, simulation, gate_simulation, counting, tabling, drawing, to_verilog, from_verilog, command_of, IsInRange, IsCount}
+use Rattle.lw_top.specs.Answers.{text_of, marked_lines_in, HasCells, HasModel, HasMapped, HasVerilog, HasVectors, ReadsLibrary, ReadsModel, ReadsMapped, ReadsVerilog, ReadsVectors, IsMappingAnswer, IsCheckAnswer, IsTimingAnswer, IsSimulationAnswer, IsGateSimulationAnswer, IsCountAnswer, IsTablingAnswer, IsDrawingAnswer, IsToVerilogAnswer, IsFromVerilogAnswer, IsCommandAnswer, asked_for, IsAnswer, AreAlike}
+use Rattle.lw_top.specs.Mappings.{AsksForTables}
 use Rattle.lw_top.proofs.Closed.{has_one_model}
 use Rattle.lw_top.proofs.InRange.{command_in_range}
 use Rattle.lw_top.proofs.Sound.{asked_some, cells_kept, AreKept, model_kept, IsReadBy, mapped_kept, claim_kept}
 use Rattle.lw_top.proofs.MapAnswers.{maps_one}
-use Rattle.lw_top.proofs.CheckOne.{checks_one, counts_one}
+use Rattle.lw_top.proofs.CheckOne.{checks_one, counts_one, tables_alike}
 use Rattle.lw_top.proofs.DrawOne.{draws_one}
 use Rattle.lw_top.specs.Verilogs.{SaysVerilog, SaysMapped}
 use Rattle.lw_top.proofs.VerilogOne.{verilog_one, says_one, mapped_said_one}
@@ -48,11 +50,15 @@ IsOne {A} step = (files : Files) (a b : Result A Refusal) → step files a → s
 gives_one : {A : Type 0} (f : Files → Result A Refusal) → IsOne (gives f)
 gives_one f = λ files a b p q. sym p ∙ q
 
+-- what the step comes to is related
+abbrev IsBy : {A : Type 0} → (Result A Refusal → Result A Refusal → Type 0) → Step A → Type 0
+IsBy {A} R step = (files : Files) (a b : Result A Refusal) → step files a → step files b → R a b
+
 -- where the first step hands on what a fact holds of
-followed_one : {A B : Type 0} (P : A → Type 0) (first : Step A) (next : A → Step B) → IsOne first → ((files : Files) (x : A) → first files (Ok x) → P x) → ((x : A) → P x → IsOne (next x)) → IsOne (followed_by first next)
-followed_one {A = A} {B = B} P first next one holds each = λ files a b p q. both files a b p q
+followed_so : {A B : Type 0} (R : Result B Refusal → Result B Refusal → Type 0) (P : A → Type 0) (first : Step A) (next : A → Step B) → ((e : Refusal) → R (Err e) (Err e)) → IsOne first → ((files : Files) (x : A) → first files (Ok x) → P x) → ((x : A) → P x → IsBy R (next x)) → IsBy R (followed_by first next)
+followed_so {A = A} {B = B} R P first next same_refusal one holds each = λ files a b p q. both files a b p q
   where
-    both : (files : Files) (a b : Result B Refusal) → followed_by first next files a → followed_by first next files b → a ≡ b
+    both : (files : Files) (a b : Result B Refusal) → followed_by first next files a → followed_by first next files b → R a b
     both files a b (inl (x, f, n)) (inl (y, g, m)) =
         let is : ◌≡◌ {A = Result A Refusal} (Ok x) (Ok y) = one files (Ok x) (Ok y) f g in
         let same : x ≡ y = cc in
@@ -65,13 +71,13 @@ followed_one {A = A} {B = B} P first next one holds each = λ files a b p q. bot
         cc
     both files a b (inr (e, f, r)) (inr (h, g, s)) =
         let is : ◌≡◌ {A = Result A Refusal} (Err e) (Err h) = one files (Err e) (Err h) f g in
-        cc
+        let same : e ≡ h = cc in
+        let left : a ≡ Err h = cc in
+        let right : b ≡ Err h = cc in
+        subst (λ z. R z b) (sym left) (subst (λ z. R (Err h) z) (sym right) (same_refusal h))
 
--- the outcomes are alike, or the same refusal
-abbrev AreAlike : {A : Type 0} → (A → A → Type 0) → Result A Refusal → Result A Refusal → Type 0
-AreAlike Alike (Ok x) (Ok y) = Alike x y
-AreAlike Alike (Err e) (Err h) = e ≡ h
-AreAlike Alike a b = ⊥
+followed_one : {A B : Type 0} (P : A → Type 0) (first : Step A) (next : A → Step B) → IsOne first → ((files : Files) (x : A) → first files (Ok x) → P x) → ((x : A) → P x → IsOne (next x)) → IsOne (followed_by first next)
+followed_one P first next one holds each = followed_so (λ a b. a ≡ b) P first next (λ e. refl) one holds each
 
 -- the step comes to things that are alike
 abbrev IsAlike : {A : Type 0} → (A → A → Type 0) → Step A → Type 0
@@ -276,18 +282,48 @@ from_verilog_one library verilog =
     followed_one IsLibrary (ReadsLibrary library) (λ cells. followed_by (ReadsVerilog verilog cells) (λ n. SaysMapped cells n)) (library_one library) (cells_kept library)
     (λ cells lib. followed_one Any (ReadsVerilog verilog cells) (λ n. SaysMapped cells n) (verilog_read_one verilog cells) (λ files x p. tt) (λ n any. mapped_said_one cells n))
 
-command_one : (c : Command) → IsInRange c → IsOne (IsCommandAnswer c)
-command_one (mapping options certified library network) wide = mapping_one options certified library network wide
-command_one (checking options library network mapped) wide = check_one options library network mapped wide
-command_one (timing library mapped) wide = timing_one library mapped
-command_one (simulation network vectors) wide = simulation_one network vectors
-command_one (gate_simulation library mapped vectors) wide = gate_simulation_one library mapped vectors
-command_one (counting options network) wide = count_one options network wide
-command_one (drawing seed count library) few = drawing_one seed count library few
-command_one (to_verilog library mapped) any = to_verilog_one library mapped
-command_one (from_verilog library verilog) any = from_verilog_one library verilog
+-- several texts of tables
+tabling_alike : (leaves : ℕ) (options : Options) (network : List ℕ) → IsWide options → IsBy (AreAlike (λ s t. Unit {0})) (IsTablingAnswer leaves options network)
+tabling_alike leaves options network wide =
+    followed_so (AreAlike (λ s t. Unit {0})) Any (ReadsModel network) (λ model. Tabulates leaves options model) (λ e. refl) (model_read_one network) (λ files x p. tt)
+    (λ model any files a b p q. tables_alike options model wide leaves files a b p q)
 
-pub answer_one : (words : List (List ℕ)) (files : Files) (a b : Result (List ℕ) Refusal) → IsAnswer words files a → IsAnswer words files b → a ≡ b
-answer_one words =
-    followed_one IsInRange (gives (λ files. asked_for (command_of words))) IsCommandAnswer (gives_one (λ files. asked_for (command_of words)))
-    (λ files c p. command_in_range words c (asked_some (command_of words) c p)) command_one
+abbrev IsTabling : Command → Type 0
+IsTabling (tabling leaves options network) = Unit {0}
+IsTabling other = ⊥
+
+command_one : (c : Command) → IsInRange c → (IsTabling c → ⊥) → IsOne (IsCommandAnswer c)
+command_one (mapping options certified library network) wide other = mapping_one options certified library network wide
+command_one (checking options library network mapped) wide other = check_one options library network mapped wide
+command_one (timing library mapped) wide other = timing_one library mapped
+command_one (simulation network vectors) wide other = simulation_one network vectors
+command_one (gate_simulation library mapped vectors) wide other = gate_simulation_one library mapped vectors
+command_one (counting options network) wide other = count_one options network wide
+command_one (tabling leaves options network) wide other = absurd (other tt)
+command_one (drawing seed count library) few other = drawing_one seed count library few
+command_one (to_verilog library mapped) any other = to_verilog_one library mapped
+command_one (from_verilog library verilog) any other = from_verilog_one library verilog
+
+same_alike : (a b : Result (List ℕ) Refusal) → a ≡ b → AreAlike (λ s t. Unit {0}) a b
+same_alike (Ok s) (Ok t) e = tt
+same_alike (Ok s) (Err r) e = cc
+same_alike (Err r) (Ok t) e = cc
+same_alike (Err r) (Err s) e = cc
+
+command_alike : (c : Command) → IsInRange c → IsBy (AreAlike (λ s t. Unit {0})) (IsCommandAnswer c)
+command_alike (tabling leaves options network) wide = tabling_alike leaves options network wide.1
+command_alike other wide = λ files a b p q. same_alike a b (command_one other wide (λ t. t) files a b p q)
+
+asks_for_tables : (words : List (List ℕ)) (c : Command) → command_of words ≡ Some c → IsTabling c → AsksForTables words
+asks_for_tables words (tabling leaves options network) is tabled = record { leaves = leaves; options = options; network = network; form = is }
+asks_for_tables words other is tabled = absurd tabled
+
+pub answer_one : (words : List (List ℕ)) → (AsksForTables words → ⊥) → (files : Files) (a b : Result (List ℕ) Refusal) → IsAnswer words files a → IsAnswer words files b → a ≡ b
+answer_one words other =
+    followed_one (λ c. IsInRange c × (IsTabling c → ⊥)) (gives (λ files. asked_for (command_of words))) IsCommandAnswer (gives_one (λ files. asked_for (command_of words)))
+    (λ files c p. let is = asked_some (command_of words) c p in (command_in_range words c is, λ tabled. other (asks_for_tables words c is tabled))) (λ c both. command_one c both.0 both.1)
+
+pub answers_alike : (words : List (List ℕ)) (files : Files) (a b : Result (List ℕ) Refusal) → IsAnswer words files a → IsAnswer words files b → AreAlike (λ s t. Unit {0}) a b
+answers_alike words =
+    followed_so (AreAlike (λ s t. Unit {0})) IsInRange (gives (λ files. asked_for (command_of words))) IsCommandAnswer (λ e. refl) (gives_one (λ files. asked_for (command_of words)))
+    (λ files c p. command_in_range words c (asked_some (command_of words) c p)) command_alike

@@ -3,6 +3,7 @@ use Rattle.std.specs.Prelude.{◌≡◌, ◌≢◌, ℕ, List, length, Option, R
 use Rattle.lw_io.specs.declared.file.File.{File}
 use Rattle.lw_netlist.specs.Plain.{IsOver}
 use Rattle.lw_mapped.specs.Texts.{IsFramed, HasGateClasses}
+use Rattle.lw_lut.specs.Texts.{IsFramed as IsTableFramed}
 use Rattle.lw_report.specs.Made.{IsTimingFor, places_of}
 use Rattle.lw_top.specs.declared.answer.Answer.{Answer}
 use Rattle.lw_top.specs.declared.answer.Answer.TheVariants as answer
@@ -21,6 +22,7 @@ CanBeWritten (answer.Times library netlist timing) = IsOver library netlist × I
 CanBeWritten (answer.Values network vectors sim) = (places_of sim ≡ length network.names) × AreReadVectors network.inputs vectors
 CanBeWritten (answer.GateValues library netlist vectors sim) = IsOver library netlist × (places_of sim ≡ length netlist.names) × AreReadVectors netlist.inputs vectors
 CanBeWritten (answer.Verilog library netlist) = IsOver library netlist
+CanBeWritten (answer.Tables net frame) = IsTableFramed net frame
 CanBeWritten other = Unit {0}
 
 -- Each text of the answer is what the step says of the files, where they are known; or there is a reason to refuse.

@@ -22,11 +22,12 @@ use Rattle.lw_top.specs.declared.refusal.Refusal.TheVariants.{Words, Unread, Too
 use Rattle.lw_top.specs.declared.refusal.Which.{Which}
 use Rattle.lw_top.specs.declared.refusal.Which.TheVariants as which
 use Rattle.lw_top.specs.Steps.{Files, Step, gives, followed_by}
-use Rattle.lw_top.specs.Words.{Command, mapping, checking, timing, simulation, gate_simulation, counting, drawing, to_verilog, from_verilog, command_of}
+use Rattle.lw_top.specs.Words.{Command, mapping, checking, timing, simulation, gate_simulation, counting, tabling, drawing, to_verilog, from_verilog, command_of}
 use Rattle.lw_top.specs.Maps.{Maps}
 use Rattle.lw_top.specs.Checks.{Checks}
 use Rattle.lw_top.specs.Reports.{Times, Simulates, SimulatesNetlist}
 use Rattle.lw_top.specs.Counts.{Counts, Draws}
+use Rattle.lw_top.specs.Tables.{Tabulates}
 use Rattle.lw_top.specs.Verilogs.{SaysVerilog, SaysMapped}
 
 -- Files.
@@ -125,6 +126,10 @@ IsGateSimulationAnswer library mapped vectors = followed_by (ReadsLibrary librar
 abbrev pub IsCountAnswer : Options → List ℕ → Step (List ℕ)
 IsCountAnswer options network = followed_by (ReadsModel network) (λ model. Counts options model)
 
+-- what a network comes to in lookup tables
+abbrev pub IsTablingAnswer : ℕ → Options → List ℕ → Step (List ℕ)
+IsTablingAnswer leaves options network = followed_by (ReadsModel network) (λ model. Tabulates leaves options model)
+
 abbrev pub IsDrawingAnswer : ℕ → ℕ → List ℕ → Step (List ℕ)
 IsDrawingAnswer seed count library = followed_by (ReadsLibrary library) (λ cells. Draws seed count cells)
 
@@ -144,6 +149,7 @@ IsCommandAnswer (timing library mapped) = IsTimingAnswer library mapped
 IsCommandAnswer (simulation network vectors) = IsSimulationAnswer network vectors
 IsCommandAnswer (gate_simulation library mapped vectors) = IsGateSimulationAnswer library mapped vectors
 IsCommandAnswer (counting options network) = IsCountAnswer options network
+IsCommandAnswer (tabling leaves options network) = IsTablingAnswer leaves options network
 IsCommandAnswer (drawing seed count library) = IsDrawingAnswer seed count library
 IsCommandAnswer (to_verilog library mapped) = IsToVerilogAnswer library mapped
 IsCommandAnswer (from_verilog library verilog) = IsFromVerilogAnswer library verilog
@@ -159,6 +165,12 @@ IsAnswerTo command = followed_by (gives (λ files. asked_for command)) IsCommand
 -- what words come to
 abbrev pub IsAnswer : List (List ℕ) → Step (List ℕ)
 IsAnswer words = IsAnswerTo (command_of words)
+
+-- two outcomes are the same refusal, or things that are alike
+abbrev pub AreAlike : {A : Type 0} → (A → A → Type 0) → Result A Refusal → Result A Refusal → Type 0
+AreAlike Alike (Ok x) (Ok y) = Alike x y
+AreAlike Alike (Err e) (Err h) = e ≡ h
+AreAlike Alike a b = ⊥
 
 -- Turns.
 

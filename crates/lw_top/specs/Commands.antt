@@ -3,7 +3,7 @@ use Rattle.std.specs.Prelude.{Option, map, string_bytes, option_map}
 use Rattle.lw_map.specs.Options.{plain_options}
 use Rattle.lw_top.specs.declared.words.Begun.{Begun}
 use Rattle.lw_top.specs.declared.words.Command.{Command}
-use Rattle.lw_top.specs.declared.words.Command.TheVariants.{Mapping, Checking, Timing, Simulation, GateSimulation, Counting, Drawing, ToVerilog, FromVerilog}
+use Rattle.lw_top.specs.declared.words.Command.TheVariants.{Mapping, Checking, Timing, Simulation, GateSimulation, Counting, Tabling, Drawing, ToVerilog, FromVerilog}
 use Rattle.lw_top.specs.Words as spec
 
 -- the command, without where its words lie in memory
@@ -14,6 +14,7 @@ plain_command (Timing library mapped) = spec.timing library.now mapped.now
 plain_command (Simulation network vectors) = spec.simulation network.now vectors.now
 plain_command (GateSimulation library mapped vectors) = spec.gate_simulation library.now mapped.now vectors.now
 plain_command (Counting options network) = spec.counting (plain_options options) network.now
+plain_command (Tabling leaves options network) = spec.tabling leaves (plain_options options) network.now
 plain_command (Drawing seed count library) = spec.drawing seed count library.now
 plain_command (ToVerilog library mapped) = spec.to_verilog library.now mapped.now
 plain_command (FromVerilog library verilog) = spec.from_verilog library.now verilog.now

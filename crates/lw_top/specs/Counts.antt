@@ -59,8 +59,8 @@ abbrev pub drawing_options : Options
 drawing_options = record { width = 6; mode = plain_mode }
 
 -- all inputs start at 0
-abbrev pub at_once : NetworkParts → List Micro
-at_once net = replicate net.inputs (record { 0 = 0 })
+abbrev pub at_once : ℕ → List Micro
+at_once inputs = replicate inputs (record { 0 = 0 })
 
 -- how often stored matches are read, where there are not too many to store
 abbrev pub steps_text : Option ℕ → List ℕ
@@ -80,9 +80,9 @@ pub record IsSizeText (seed count : ℕ) (cells : List CellParts) (net : Network
   pub generated : IsGenerated seed count net
   pub within : IsWithinLimits drawing_options net
   pub netlist : NetlistParts
-  pub is_mapped : IsMappedNetlist drawing_options cells net (at_once net) netlist
+  pub is_mapped : IsMappedNetlist drawing_options cells net (at_once net.inputs) netlist
   pub arrivals : List ℕ
-  pub arrive : AreArrivals (timing_of cells (at_once net)) (plain_netlist netlist) arrivals
+  pub arrive : AreArrivals (timing_of cells (at_once net.inputs)) (plain_netlist netlist) arrivals
   pub steps : Option ℕ
   pub steps_are : AreSteps is_mapped.is.graph (library_patterns cells) (labels_in is_mapped.is.labels) steps
   pub says : text ≡ sizes_text count (length is_mapped.is.graph.pairs) (length netlist.gates) (greatest (output_arrivals netlist arrivals)) steps
@@ -90,4 +90,4 @@ pub record IsSizeText (seed count : ℕ) (cells : List CellParts) (net : Network
 -- What the network of so many nodes that is drawn from the seed comes to, by these cells: the sizes, or why it is not mapped.
 abbrev pub Draws : ℕ → ℕ → List CellParts → Step (List ℕ)
 Draws seed count cells files (Ok text) = (net : NetworkParts) × IsSizeText seed count cells net text
-Draws seed count cells files (Err r) = (net : NetworkParts) × IsGenerated seed count net × LacksMapping drawing_options cells net (at_once net) r
+Draws seed count cells files (Err r) = (net : NetworkParts) × IsGenerated seed count net × LacksMapping drawing_options cells net (at_once net.inputs) r

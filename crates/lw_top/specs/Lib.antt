@@ -19,3 +19,6 @@ pub mod Complete
 pub mod Mappings
 pub mod Texts
 pub mod Checked
+pub mod Tables
+pub mod Tabled
+pub mod Backs

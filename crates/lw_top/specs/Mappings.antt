@@ -19,7 +19,7 @@ use Rattle.lw_map.specs.Options.{Options}
 use Rattle.lw_map.specs.Mapped.{ports_of, mapped_ports, IsMappedNetlist, LacksCover}
 use Rattle.lw_top.specs.Steps.{Files}
 use Rattle.lw_top.specs.Maps.{IsAskedFor}
-use Rattle.lw_top.specs.Words.{mapping, checking, command_of}
+use Rattle.lw_top.specs.Words.{mapping, checking, tabling, command_of}
 use Rattle.lw_top.specs.Answers.{ReadsLibrary, ReadsModel, ReadsMapped}
 
 -- the words ask for the mapping of a network to a library
@@ -37,6 +37,13 @@ pub record AsksForCheck (words : List (List ℕ)) : Type 0 where
   pub network : List ℕ
   pub mapped : List ℕ
   pub form : command_of words ≡ Some (checking options library network mapped)
+
+-- the words ask for lookup tables
+pub record AsksForTables (words : List (List ℕ)) : Type 0 where
+  pub leaves : ℕ
+  pub options : Options
+  pub network : List ℕ
+  pub form : command_of words ≡ Some (tabling leaves options network)
 
 -- the words ask for the mapping of a network to a library, whose texts are these cells and this model
 pub record AreRead (words : List (List ℕ)) (files : Files) (options : Options) (certified : Bool) (cells : List CellParts) (model : Parsed) : Type 0 where

@@ -18,6 +18,7 @@ use Rattle.lw_top.specs.declared.refusal.Refusal.{Refusal}
 use Rattle.lw_top.specs.declared.refusal.Refusal.TheVariants.{Words, Unread, TooLong, Forms, Splits, NoCover, Memory}
 use Rattle.lw_top.specs.declared.answer.Answer.{Answer}
 use Rattle.lw_top.specs.declared.answer.Answer.TheVariants as answer
+use Rattle.lw_lut.specs.Texts.{tables_text}
 use Rattle.lw_verilog.specs.Texts.{verilog_text}
 use Rattle.lw_top.specs.Steps.{Files, Step}
 use Rattle.lw_top.specs.Checks.{yes_text}
@@ -68,5 +69,6 @@ IsTextOf (answer.Times library netlist timing) text = text ≡ timing_text libra
 IsTextOf (answer.Values network vectors sim) text = IsNetworkSimulation network (values_in vectors) text
 IsTextOf (answer.GateValues library netlist vectors sim) text = IsNetlistSimulation library netlist (values_in vectors) text
 IsTextOf (answer.Verilog library netlist) text = text ≡ verilog_text library netlist
+IsTextOf (answer.Tables net frame) text = text ≡ tables_text net frame
 IsTextOf (answer.Counts forms classes alternatives) text = text ≡ counts_text forms classes alternatives
 IsTextOf (answer.Sizes nodes classes gates latest steps) text = text ≡ sizes_text nodes classes gates latest.0 steps

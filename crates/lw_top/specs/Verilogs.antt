@@ -1,6 +1,5 @@
 -- What a mapped netlist comes to in Verilog, and a netlist in Verilog as a mapped text.
-use Rattle.std.specs.Prelude.{ℕ, ◌≡◌, List, [], length, replicate, Some, None, Ok, Err}
-use Rattle.lw_fixed.specs.declared.micro.Micro.{Micro}
+use Rattle.std.specs.Prelude.{ℕ, ◌≡◌, List, [], length, Some, None, Ok, Err}
 use Rattle.lw_pool.specs.declared.latch.Frame.{Frame}
 use Rattle.lw_genlib.specs.Cells.{CellParts}
 use Rattle.lw_netlist.specs.Netlists.{NetlistParts}
@@ -9,6 +8,7 @@ use Rattle.lw_mapped.specs.Texts.{mapped_text}
 use Rattle.lw_verilog.specs.Sayable.{refused}
 use Rattle.lw_verilog.specs.Texts.{verilog_text}
 use Rattle.lw_top.specs.declared.refusal.Refusal.TheVariants.{NoVerilog}
+use Rattle.lw_top.specs.Counts.{at_once}
 use Rattle.lw_top.specs.Steps.{Step}
 
 -- the netlist's text in Verilog, whatever the files, or why it has none
@@ -21,13 +21,9 @@ SaysVerilog cells mapped files (Err other) = ⊥
 abbrev pub whole_frame : NetlistParts → Frame
 whole_frame n = record { inputs = n.inputs; outputs = length n.outputs; latches = [] }
 
--- all inputs start at 0
-abbrev pub at_once : NetlistParts → List Micro
-at_once n = replicate n.inputs (record { 0 = 0 })
-
 -- the mapped text of a netlist without latches, starts and certificate
 abbrev pub plain_text : List CellParts → NetlistParts → List ℕ
-plain_text cells n = mapped_text cells n (whole_frame n) (at_once n) None
+plain_text cells n = mapped_text cells n (whole_frame n) (at_once n.inputs) None
 
 abbrev pub SaysMapped : List CellParts → NetlistParts → Step (List ℕ)
 SaysMapped cells n files (Ok text) = text ≡ plain_text cells n

@@ -6,6 +6,7 @@ use Rattle.std.specs.Str.{bytes_eq}
 use Rattle.std.specs.Str.Parse.{digits_value}
 use Rattle.lw_laws.specs.Modes.Mode.{plain, idempotent}
 use Rattle.lw_map.specs.Options.{Options, IsWide}
+use Rattle.lw_map.specs.Tabled.{AreLeaves}
 use Rattle.lw_top.specs.declared.refusal.Which.{Which}
 use Rattle.lw_top.specs.declared.refusal.Which.TheVariants as which
 
@@ -22,6 +23,8 @@ pub data Command : Type 0 where
   gate_simulation : List ℕ → List ℕ → List ℕ → Command
   -- how large the graph of a network's forms is
   counting : Options → List ℕ → Command
+  -- a network covered by lookup tables of at most so many fan-ins
+  tabling : ℕ → Options → List ℕ → Command
   -- a network drawn from a number, of so many nodes, mapped to cells of the library
   drawing : ℕ → ℕ → List ℕ → Command
   -- a mapped netlist, written in Verilog
@@ -69,6 +72,11 @@ three_files words = None
 abbrev pub width_of : List ℕ → Option ℕ
 width_of (digit ∷ []) = if nat_le 50 digit && nat_le digit 56 then Some (digit - 48) else None
 width_of word = None
+
+-- one of the words `2` to `6`
+abbrev pub leaves_of : List ℕ → Option ℕ
+leaves_of (digit ∷ []) = if nat_le 50 digit && nat_le digit 54 then Some (digit - 48) else None
+leaves_of word = None
 
 -- options, and the words behind them
 pub record Begun : Type 0 where
@@ -144,6 +152,19 @@ abbrev pub counting_begun : Option Begun → Option Command
 counting_begun None = None
 counting_begun (Some begun) = counting_of begun.options (one_file begun.rest)
 
+abbrev pub tabling_of : ℕ → Options → Option (List ℕ) → Option Command
+tabling_of leaves options None = None
+tabling_of leaves options (Some file) = Some (tabling leaves options file)
+
+abbrev pub tabling_by : Option ℕ → Option Begun → Option Command
+tabling_by (Some leaves) (Some begun) = tabling_of leaves begun.options (one_file begun.rest)
+tabling_by leaves begun = None
+
+-- `L [-w K] [-i] IN`
+abbrev pub tabling_begun : List (List ℕ) → Option Command
+tabling_begun [] = None
+tabling_begun (leaves ∷ words) = tabling_by (leaves_of leaves) (begun_by words)
+
 -- `LIB MAPPED`
 abbrev pub timing_of : Option Two → Option Command
 timing_of None = None
@@ -190,7 +211,8 @@ named name words =
     else (if bytes_eq name (codes "graph") then counting_begun (begun_by words)
     else (if bytes_eq name (codes "big") then drawing_of words
     else (if bytes_eq name (codes "verilog") then to_verilog_of (two_files words)
-    else (if bytes_eq name (codes "unverilog") then from_verilog_of (two_files words) else None)))))))
+    else (if bytes_eq name (codes "unverilog") then from_verilog_of (two_files words)
+    else (if bytes_eq name (codes "lut") then tabling_begun words else None))))))))
 
 -- The command that the words are a written form of.
 abbrev pub command_of : List (List ℕ) → Option Command
@@ -207,6 +229,7 @@ abbrev pub IsInRange : Command → Type 0
 IsInRange (mapping options certified library network) = IsWide options
 IsInRange (checking options library network mapped) = IsWide options
 IsInRange (counting options network) = IsWide options
+IsInRange (tabling leaves options network) = AreLeaves leaves × IsWide options
 IsInRange (drawing seed count library) = IsCount count
 IsInRange other = Unit {0}
 
@@ -225,6 +248,7 @@ file_in (gate_simulation library mapped vectors) which.Library = library
 file_in (gate_simulation library mapped vectors) which.Mapped = mapped
 file_in (gate_simulation library mapped vectors) which.Vectors = vectors
 file_in (counting options network) which.Network = network
+file_in (tabling leaves options network) which.Network = network
 file_in (drawing seed count library) which.Library = library
 file_in (to_verilog library mapped) which.Library = library
 file_in (to_verilog library mapped) which.Mapped = mapped

@@ -1,20 +1,23 @@
 // From a command to its answer.
 ghost use Rattle.std.specs.Prelude.{◌≡◌, ◌≤◌};
-ghost use Rattle.lw_top.specs.Words.{IsInRange, IsCount, mapping, checking, timing, simulation, gate_simulation, counting, drawing, to_verilog, from_verilog};
+ghost use Rattle.lw_top.specs.Words.{IsInRange, IsCount, mapping, checking, timing, simulation, gate_simulation, counting, tabling, drawing, to_verilog, from_verilog};
 ghost use Rattle.lw_top.specs.Commands.{plain_command};
 ghost use Rattle.lw_top.specs.Answered.{IsAnswered};
 ghost use Rattle.lw_map.specs.Options.{IsWide, plain_options};
+ghost use Rattle.lw_map.specs.Tabled.{AreLeaves};
 
 use crate::counting::{count_model, draw};
 use crate::mapping::map_model;
 use crate::refusal::Refusal;
 use crate::reports::{check_mapped, simulate, simulate_gates, time_mapped};
 use crate::sources::{read_library, read_mapped, read_model, read_netlist, read_vectors};
+use crate::tabling::table_model;
 use crate::verilog::{map_verilog, say_verilog};
 use crate::words::Command;
 use lw_fixed::{Micro, Micros};
 use lw_genlib::Library;
 use lw_io::Shelf;
+use lw_lut::TableNet;
 use lw_map::Options;
 use lw_mapped::Certificate;
 use lw_net::Network;
@@ -38,6 +41,8 @@ pub enum Answer {
     Values(Network, Vectors, Sim),
     /// A library, a netlist of its cells, vectors for its inputs, and a simulator of it.
     GateValues(Library, Netlist, Vectors, Sim),
+    /// A network of lookup tables, and what stands around it.
+    Tables(TableNet, Frame),
     /// How many base forms, classes and pairs there are.
     Counts(u32, u32, u128),
     /// How many nodes, classes and gates there are, the greatest arrival, and how often stored
@@ -150,6 +155,24 @@ fn count_files<F: Shelf>(
     count_model(alloc, &model, options)
 }
 
+fn table_files<F: Shelf>(
+    alloc: Global,
+    leaves: u8,
+    options: Options,
+    network: &str,
+    shelf: &mut F,
+) -> Result<Answer, Refusal>
+    requires leaves { AreLeaves leaves }
+    requires wide { IsWide (plain_options options) }
+    ensures answered { IsAnswered (F.files shelf.old) (F.faults shelf.old) (F.faults shelf.new)
+        (tabling leaves (plain_options options) network.now) result }
+    ensures later { F.faults shelf.old ≤ F.faults shelf.new }
+    ensures files { F.files shelf.new ≡ F.files shelf.old }
+{
+    let model = read_model(alloc, shelf, network)?;
+    table_model(alloc, model, options, leaves)
+}
+
 fn draw_files<F: Shelf>(
     alloc: Global,
     seed: u64,
@@ -224,6 +247,9 @@ pub fn respond<F: Shelf>(
             simulate_gate_files(alloc, library, mapped, vectors, shelf)
         }
         Command::Counting(options, network) => count_files(alloc, options, network, shelf),
+        Command::Tabling(leaves, options, network) => {
+            table_files(alloc, leaves, options, network, shelf)
+        }
         Command::Drawing(seed, count, library) => draw_files(alloc, seed, count, library, shelf),
         Command::ToVerilog(library, mapped) => to_verilog_files(alloc, library, mapped, shelf),
         Command::FromVerilog(library, verilog) => {

@@ -49,11 +49,11 @@ pub(crate) fn count_model(
     Ok(Answer::Counts(choices.forms, classes, pairs))
 }
 
-// A start of 0 for each input.
-fn all_at_once(alloc: Global, net: &Network) -> Result<Micros, AllocError>
-    ensures { IfOk result (λ starts. starts ≡ at_once net.now) }
+/// A start of 0 for each input.
+pub(crate) fn all_at_once(alloc: Global, inputs: u32) -> Result<Micros, AllocError>
+    ensures { IfOk result (λ starts. starts ≡ at_once inputs) }
 {
-    Ok(Micros::from_vec(vec![in alloc; Micro(0); net.inputs() as usize]?))
+    Ok(Micros::from_vec(vec![in alloc; Micro(0); inputs as usize]?))
 }
 
 // What a network comes to by the cells of a library.
@@ -62,7 +62,7 @@ fn map_drawn(alloc: Global, library: &Library, net: &Network, count: u32) -> Res
     ensures { (seed : ℕ) → IsGenerated seed count net.now →
         Gives (Draws seed count library.now) result }
 {
-    let starts = all_at_once(alloc, net)?;
+    let starts = all_at_once(alloc, net.inputs())?;
     let options = Options {
         width: WIDTH,
         mode: Mode::Plain,

@@ -6,16 +6,23 @@ ghost use Rattle.lw_blif.specs.declared.parsed.Parsed.{Parsed};
 ghost use Rattle.lw_top.specs.Steps.{Files};
 ghost use Rattle.lw_map.specs.Options.{Options};
 ghost use Rattle.lw_map.specs.Mapped.{IsWithinLimits, IsUncovered};
-ghost use Rattle.lw_top.specs.Answers.{IsAnswer, status_in};
+ghost use Rattle.lw_top.specs.Answers.{AreAlike, IsAnswer, status_in};
+ghost use Rattle.lw_top.specs.Backs.{IsBackOf, ComesBack};
 ghost use Rattle.lw_top.specs.Checks.{yes_text};
 ghost use Rattle.lw_top.specs.Checked.{IsCheckOf};
-ghost use Rattle.lw_top.specs.Mappings.{AsksForMapping, AreRead, IsMappingText};
+ghost use Rattle.lw_top.specs.Mappings.{AsksForMapping, AsksForTables, AreRead, IsMappingText};
+ghost use Rattle.lw_top.specs.Tabled.{AreTables};
 ghost use Rattle.lw_top.specs.declared.refusal.Refusal.{Refusal};
 
-/// Words over known files come to one answer at most.
+use lw_map::tabled_texts_are_mappings;
+
+/// Words over known files come to one answer at most. Only where they ask for lookup tables may
+/// there be several texts, and even there one refusal at most, and then no text.
 pub fn answers_are_one()
-    ensures { (words : List (List ℕ)) (files : Files) (a b : Result (List ℕ) Refusal) →
-        IsAnswer words files a → IsAnswer words files b → a ≡ b }
+    ensures one { (words : List (List ℕ)) (files : Files) (a b : Result (List ℕ) Refusal) →
+        (AsksForTables words → ⊥) → IsAnswer words files a → IsAnswer words files b → a ≡ b }
+    ensures refusal { (words : List (List ℕ)) (files : Files) (a b : Result (List ℕ) Refusal) →
+        IsAnswer words files a → IsAnswer words files b → AreAlike (λ text other. Unit {0}) a b }
 {}
 
 /// Where a mapping is asked for, an answer with a text is the text of a mapping.
@@ -23,6 +30,15 @@ pub fn answers_are_mappings()
     ensures { (words : List (List ℕ)) (files : Files) (text : List ℕ) → AsksForMapping words →
         IsAnswer words files (Ok text) → IsMappingText words files text }
 {}
+
+/// Where lookup tables are asked for, an answer with a text is a text of tables: a network that
+/// computes the roots of the one that was read, each at its least depth.
+pub fn answers_are_tables()
+    ensures { (words : List (List ℕ)) (files : Files) (text : List ℕ) → AsksForTables words →
+        IsAnswer words files (Ok text) → AreTables words files text }
+{
+    tabled_texts_are_mappings();
+}
 
 /// Where the words ask for a mapping of a network that is within the limits, the answer is that
 /// there is no cover exactly where some root has none: no tree that the laws derive for it has a
@@ -42,4 +58,12 @@ pub fn written_mappings_are_accepted()
     ensures { (words checks : List (List ℕ)) (files others : Files) (text : List ℕ)
         → IsCheckOf words files text checks others → IsAnswer words files (Ok text) →
         IsAnswer checks others (Ok yes_text) }
+{}
+
+/// What was written in Verilog is read back: where a text in Verilog was written of a mapped
+/// netlist, the mapped text of that netlist is the answer to the text, over the same library.
+pub fn verilog_reads_back()
+    ensures { (words backs : List (List ℕ)) (files others : Files) (text : List ℕ) →
+        IsBackOf words files text backs others → IsAnswer words files (Ok text) →
+        ComesBack words files backs others }
 {}

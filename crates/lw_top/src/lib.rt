@@ -13,6 +13,7 @@ mod reasons;
 mod refusal;
 mod reports;
 mod sources;
+mod tabling;
 mod telling;
 mod texts;
 mod top;

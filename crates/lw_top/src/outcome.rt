@@ -15,6 +15,7 @@ use crate::refusal::Refusal;
 use crate::words::Command;
 use lw_fixed::Micro;
 use lw_io::{Failed, Shelf, Sink, Waiting, end, put, write_all};
+use lw_lut::write_tables;
 use lw_mapped::write;
 use lw_verilog::write_verilog;
 use std::alloc::Global;
@@ -86,6 +87,7 @@ fn write_text<O: Sink>(answer: Answer, out: &mut O) -> Result<(), Failed>
             )
         }
         Answer::Verilog(library, netlist) => write_verilog(&netlist, &library, out),
+        Answer::Tables(net, frame) => write_tables(&net, &frame, out),
         Answer::Yes => write_all(out, b"yes\n"),
         Answer::Times(library, netlist, timing) => timing.write(&netlist, &library, out),
         Answer::Values(network, vectors, mut sim) => sim.network(&network, &vectors, out),

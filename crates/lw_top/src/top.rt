@@ -7,13 +7,15 @@ ghost use Rattle.lw_top.specs.declared.refusal.Which.{Which};
 ghost use Rattle.lw_top.specs.Words.{Command, command_of};
 ghost use Rattle.lw_top.specs.Answers.{IsAnswer, IsReached, status_in, status_of};
 ghost use Rattle.lw_top.specs.Reading.{Known};
-ghost use Rattle.lw_top.specs.Mappings.{AsksForMapping, AsksForCheck, IsMappingText, LacksOutput, IsCheckedMapping};
+ghost use Rattle.lw_top.specs.Mappings.{AsksForMapping, AsksForCheck, AsksForTables, IsMappingText, LacksOutput, IsCheckedMapping};
+ghost use Rattle.lw_top.specs.Tabled.{AreTables};
 ghost use Rattle.lw_top.specs.Outcome.{IsDone, IsCutShort, Meets, outcome_status};
 ghost use Rattle.lw_top.specs.Telling.{Told, outcome_line, refusal_line};
 ghost use Rattle.lw_top.specs.Complete.{IsComplete};
 ghost use Rattle.lw_top.specs.declared.outcome.Outcome.{Outcome};
 ghost use Rattle.lw_top.specs.declared.refusal.Refusal.{Refusal};
 
+use crate::laws::answers_are_tables;
 use crate::outcome::{Outcome, serve};
 use crate::refusal::Refusal;
 use crate::telling::tell;
@@ -65,6 +67,16 @@ pub fn run<F: Shelf, O: Sink, E: Sink>(
         AsksForCheck (map string_bytes words.now.items) → result ≡ 0
         → IsCheckedMapping (map string_bytes words.now.items) (bytes_of files) }
 
+    // At 0, over known files and where lookup tables were asked for, that text is BLIF: a network with
+    // the latches of the network's text, whose nodes have no more fan-ins than were asked for. It
+    // gives each root the network's value under every assignment, and each root is as deep, wires
+    // not counted, as the shallowest of all covers by tables of all trees that the command's laws
+    // derive for it.
+    ensures tables { (files : List File) → F.files shelf.old ≡ Some files →
+        AsksForTables (map string_bytes words.now.items) → result ≡ 0
+        → ((text : List ℕ) × AreTables (map string_bytes words.now.items) (bytes_of files) text
+        × IsDone O.taken O.is_finished out.old out.new text) }
+
     // At 7 the stream failed, and a prefix of the text that 0 would have written went out.
     ensures cut_short { result ≡ 7 →
         ((text : List ℕ) × Known (F.files shelf.old) (IsAnswer (map string_bytes words.now.items))
@@ -110,6 +122,7 @@ pub fn run<F: Shelf, O: Sink, E: Sink>(
     ensures written { O.faults out.old ≤ O.faults out.new }
     ensures said { E.faults err.old ≤ E.faults err.new }
 {
+    answers_are_tables();
     let command = command_of(words);
     let outcome = serve(alloc, command, shelf, out);
     let _ = tell(command, &outcome, err);

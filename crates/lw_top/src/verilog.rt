@@ -1,19 +1,18 @@
 // Netlists in Verilog.
-ghost use Rattle.std.specs.Prelude.{◌≡◌, IfOk};
 ghost use Rattle.lw_netlist.specs.Plain.{IsOver};
 ghost use Rattle.lw_top.specs.Answered.{Gives};
 ghost use Rattle.lw_top.specs.Named.{IsReadNetlist};
-ghost use Rattle.lw_top.specs.Verilogs.{SaysVerilog, SaysMapped, at_once};
+ghost use Rattle.lw_top.specs.Verilogs.{SaysVerilog, SaysMapped};
 
 use crate::answer::Answer;
+use crate::counting::all_at_once;
 use crate::refusal::Refusal;
-use lw_fixed::{Micro, Micros};
 use lw_genlib::Library;
 use lw_mapped::Mapped;
 use lw_netlist::Netlist;
 use lw_pool::{Frame, Latches};
 use lw_verilog::sayable;
-use std::alloc::{AllocError, Global};
+use std::alloc::Global;
 
 /// What a mapped netlist comes to in Verilog.
 pub(crate) fn say_verilog(
@@ -30,14 +29,6 @@ pub(crate) fn say_verilog(
     }
 }
 
-// A start of 0 for each input.
-fn all_at_once(alloc: Global, netlist: &Netlist) -> Result<Micros, AllocError>
-    ensures { IfOk result (λ starts. starts ≡ at_once netlist.now) }
-{
-    let inputs = netlist.inputs() as usize;
-    Ok(Micros::from_vec(vec![in alloc; Micro(0); inputs]?))
-}
-
 /// What a netlist in Verilog comes to as a mapped text.
 pub(crate) fn map_verilog(
     alloc: Global,
@@ -47,7 +38,7 @@ pub(crate) fn map_verilog(
     requires { IsOver library netlist }
     ensures { Gives (SaysMapped library netlist) result }
 {
-    let starts = all_at_once(alloc, &netlist)?;
+    let starts = all_at_once(alloc, netlist.inputs())?;
     let Ok(outputs) = u32::try_from(netlist.outputs().len()) else {
         return Err(Refusal::Memory);
     };

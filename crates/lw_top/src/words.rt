@@ -2,7 +2,7 @@
 ghost use Rattle.std.specs.Prelude.{◌≡◌, None, Some, map, string_bytes, option_map, MatchOption};
 ghost use Rattle.std.specs.List.{list_all};
 ghost use Rattle.std.specs.Char.{is_ascii_digit};
-ghost use Rattle.lw_top.specs.Words.{width_of, is_file_word, two, three, one_file, two_files, three_files, with_mode, with_width, begun_by, is_numeral, number_of, seed_of, count_of, certified_of, mapping_begun, checking_begun, counting_begun, timing_of, simulation_of, drawing_of, to_verilog_of, from_verilog_of, named, command_of, file_word};
+ghost use Rattle.lw_top.specs.Words.{width_of, is_file_word, two, three, one_file, two_files, three_files, with_mode, with_width, begun_by, is_numeral, number_of, seed_of, count_of, certified_of, mapping_begun, checking_begun, counting_begun, leaves_of, tabling_begun, timing_of, simulation_of, drawing_of, to_verilog_of, from_verilog_of, named, command_of, file_word};
 ghost use Rattle.lw_top.specs.Commands.{plain_begun, asked};
 ghost use Rattle.lw_map.specs.Options.{plain_options};
 
@@ -25,6 +25,8 @@ pub enum Command<'a> {
     GateSimulation(&'a str, &'a str, &'a str),
     /// How large the graph of a network's forms is.
     Counting(Options, &'a str),
+    /// A network covered by lookup tables of at most so many fan-ins.
+    Tabling(u8, Options, &'a str),
     /// A network drawn from a number, of so many nodes, mapped to cells of the library.
     Drawing(u64, u32, &'a str),
     /// A mapped netlist, written in Verilog.
@@ -81,6 +83,16 @@ fn width_of(word: &str) -> Option<u8>
 {
     match word.as_bytes() {
         [digit] if 50 <= *digit && *digit <= 56 => Some(*digit - 48),
+        _ => None,
+    }
+}
+
+// One of the words `2` to `6`.
+fn leaves_of(word: &str) -> Option<u8>
+    ensures { result ≡ leaves_of word.now }
+{
+    match word.as_bytes() {
+        [digit] if 50 <= *digit && *digit <= 54 => Some(*digit - 48),
         _ => None,
     }
 }
@@ -216,6 +228,21 @@ fn counting_of(words: &[String]) -> Option<Command<'_>>
     Some(Command::Counting(begun.options, network))
 }
 
+// `L [-w K] [-i] IN`.
+fn tabling_of(words: &[String]) -> Option<Command<'_>>
+    ensures { asked result ≡ tabling_begun (map string_bytes words.now) }
+{
+    match words {
+        [leaves, rest @ ..] => {
+            let leaves = leaves_of(leaves.as_str())?;
+            let begun = begun_by(rest)?;
+            let network = one_file(begun.rest)?;
+            Some(Command::Tabling(leaves, begun.options, network))
+        }
+        _ => None,
+    }
+}
+
 fn timing_of(words: &[String]) -> Option<Command<'_>>
     ensures { asked result ≡ timing_of (two_files (map string_bytes words.now)) }
 {
@@ -280,6 +307,7 @@ fn named<'a>(name: &str, words: &'a [String]) -> Option<Command<'a>>
         "big" => drawing_of(words),
         "verilog" => to_verilog_of(words),
         "unverilog" => from_verilog_of(words),
+        "lut" => tabling_of(words),
         _ => None,
     }
 }
@@ -316,7 +344,8 @@ pub fn file_word<'a>(command: Option<Command<'a>>, which: Which) -> &'a [u8]
                 Command::Mapping(_, _, _, network)
                 | Command::Checking(_, _, network, _)
                 | Command::Simulation(network, _)
-                | Command::Counting(_, network),
+                | Command::Counting(_, network)
+                | Command::Tabling(_, _, network),
             ),
             Which::Network,
         ) => network.as_bytes(),

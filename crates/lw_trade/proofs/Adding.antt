@@ -18,10 +18,6 @@ use Rattle.lw_trade.specs.Uses.{AreUses}
 use Rattle.lw_trade.proofs.Lists.{get_in, below_or, read_at}
 use Rattle.lw_trade.proofs.Stepping.{in_tail, in_cons}
 
-abbrev pub place_measure : Option ℕ → ℕ
-place_measure None = 0
-place_measure (Some p) = suc p
-
 -- The uses at the places from a bound on wait, and the next place is the last one before it.
 pub record IsAdding (rows : List Row) (classes : List ℕ) (uses : List Use) (class time : ℕ) (old q : Queued) (next : Option ℕ) : Type 0 where
   pub horizon : q.horizon ≡ old.horizon
@@ -128,10 +124,6 @@ total_set (x ∷ xs) (suc i) v w at lt = let ih = total_set xs i v w at lt in om
 
 pub row_at : (rows : List Row) (n : ℕ) (r : Row) → n < length rows → r ≡ slice_index_or rows n r → slice_get (plain_rows rows) n ≡ Some (plain_row r)
 row_at rows n r lt e = slice_get-map plain_row rows n ∙ ap (option_map plain_row) (read_at rows n r lt e)
-
-pub place_falls : (classes : List ℕ) (c place : ℕ) (o : Option ℕ) → IsLast classes c place o → place_measure o < suc place
-place_falls classes c place None last = omega arith
-place_falls classes c place (Some p) (lt, at, none) = omega arith
 
 pub use_from : (q : Queued) (time d m k t n : ℕ) → m < k → Waits q t n ⊎ ((t ≡ time + d) × (n ≡ m)) → Waits q t n ⊎ ((time ≤ t) × (n < k))
 use_from q time d m k t n lt (inl w) = inl w

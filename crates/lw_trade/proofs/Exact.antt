@@ -65,7 +65,7 @@ module _ (s : Task) (is_graph : IsGraph s.graph) (choices : List Choice) (are : 
         (j ∷ js, ((has, same), zip), omega arith, omega arith)
 
   module _ (once : PairsInOneClass s.graph) (patterns : ArePatterns (area_cost s.cells).pin_counts s.patterns) (apart : AreApart spots) where
-    cover_had : (c t : ℕ) (k : Cover) → IsCoverBy s c t k → t ≤ now → HasAtMost spots c (time_of (timing s) k) (area_of s k)
+    pub cover_had : (c t : ℕ) (k : Cover) → IsCoverBy s c t k → t ≤ now → HasAtMost spots c (time_of (timing s) k) (area_of s k)
     cover_had c t k by le =
         let time = joint_cover_time s k in
         let in_time = by.in_time in

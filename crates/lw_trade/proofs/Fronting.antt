@@ -1,39 +1,40 @@
 -- Points by class stay apart when one is added.
-use Rattle.std.proofs.Common.{◌≡◌, ◌≢◌, ℕ, zero, suc, ◌+◌, ◌<◌, ◌≤◌, ◌⊎◌, inl, inr, length, List, [], ◌∷◌, ◌++◌, Some, None, slice_get, slice_set, refl, ap, sym, ◌∙◌, subst, subst₂, arith}
+use Rattle.std.proofs.Common.{◌≡◌, ◌≢◌, ℕ, zero, suc, ◌+◌, ◌<◌, ◌≤◌, ◌⊎◌, inl, inr, length, map, List, [], ◌∷◌, ◌++◌, Some, None, slice_get, slice_set, refl, ap, sym, ◌∙◌, subst, subst₂, arith}
 use native.Mathlib.Decide.{ℕ_discrete}
 use Rattle.std.proofs.lemmas.Option.{same_Some}
-use Rattle.lw_trade.specs.declared.point.Point.{Point}
+use Rattle.lw_trade.specs.declared.found.Found.{Found}
 use Rattle.lw_trade.specs.Areas.{most_area}
 use Rattle.lw_trade.specs.Links.{IsLast}
-use Rattle.lw_trade.specs.Fronts.{spots_of, IsLastAt, IsLeastOf, IsLeastSpot}
+use Rattle.lw_trade.specs.Backing.{Held, IsHeld, IsHeldGained, spot_in}
+use Rattle.lw_trade.specs.Fronts.{spots_of, held_at, held_of, IsLastAt, IsLeastOf, IsLeastSpot}
 use Rattle.lw_trade.specs.Settling.{Spot, spot, Has, AreApart, HasAtMost, IsGained}
 use Rattle.lw_trade.proofs.Lists.{get_in, get_last, get_push, push_cases, get_set, get_set_other, set_cases, below_or}
 
-pub spots_push : (cs : List ℕ) (ps : List Point) (c : ℕ) (p : Point) → length ps ≡ length cs → spots_of (cs ++ c ∷ []) (ps ++ p ∷ []) ≡ spots_of cs ps ++ spot c p.time.0 p.area ∷ []
+pub spots_push : (cs : List ℕ) (ps : List Found) (c : ℕ) (p : Found) → length ps ≡ length cs → spots_of (cs ++ c ∷ []) (ps ++ p ∷ []) ≡ spots_of cs ps ++ spot c p.time.0 p.area ∷ []
 spots_push [] [] c p e = refl
 spots_push [] (q ∷ ps) c p e = absurd (omega arith)
 spots_push (d ∷ cs) [] c p e = absurd (omega arith)
 spots_push (d ∷ cs) (q ∷ ps) c p e = ap (λ ks. spot d q.time.0 q.area ∷ ks) (spots_push cs ps c p (omega arith))
 
-pub spots_set : (cs : List ℕ) (ps : List Point) (i c : ℕ) (p : Point) → length ps ≡ length cs → slice_get cs i ≡ Some c → spots_of cs (slice_set ps i p) ≡ slice_set (spots_of cs ps) i (spot c p.time.0 p.area)
+pub spots_set : (cs : List ℕ) (ps : List Found) (i c : ℕ) (p : Found) → length ps ≡ length cs → slice_get cs i ≡ Some c → spots_of cs (slice_set ps i p) ≡ slice_set (spots_of cs ps) i (spot c p.time.0 p.area)
 spots_set [] ps i c p e at = cc
 spots_set (d ∷ cs) [] i c p e at = absurd (omega arith)
 spots_set (d ∷ cs) (q ∷ ps) zero c p e at = ap (λ x. spot x p.time.0 p.area ∷ spots_of cs ps) (same_Some d c at)
 spots_set (d ∷ cs) (q ∷ ps) (suc i) c p e at = ap (λ ks. spot d q.time.0 q.area ∷ ks) (spots_set cs ps i c p (omega arith) at)
 
-pub spots_at : (cs : List ℕ) (ps : List Point) (i c : ℕ) (p : Point) → slice_get cs i ≡ Some c → slice_get ps i ≡ Some p → slice_get (spots_of cs ps) i ≡ Some (spot c p.time.0 p.area)
+pub spots_at : (cs : List ℕ) (ps : List Found) (i c : ℕ) (p : Found) → slice_get cs i ≡ Some c → slice_get ps i ≡ Some p → slice_get (spots_of cs ps) i ≡ Some (spot c p.time.0 p.area)
 spots_at [] ps i c p at bt = cc
 spots_at (d ∷ cs) [] i c p at bt = cc
 spots_at (d ∷ cs) (q ∷ ps) zero c p at bt = ap (λ (x : Spot). Some x) (λ k. spot (same_Some d c at k) (same_Some q p bt k).time.0 (same_Some q p bt k).area)
 spots_at (d ∷ cs) (q ∷ ps) (suc i) c p at bt = spots_at cs ps i c p at bt
 
-pub spot_class : (cs : List ℕ) (ps : List Point) (i : ℕ) (k : Spot) → slice_get (spots_of cs ps) i ≡ Some k → slice_get cs i ≡ Some k.class
+pub spot_class : (cs : List ℕ) (ps : List Found) (i : ℕ) (k : Spot) → slice_get (spots_of cs ps) i ≡ Some k → slice_get cs i ≡ Some k.class
 spot_class [] ps i k e = cc
 spot_class (d ∷ cs) [] i k e = cc
 spot_class (d ∷ cs) (q ∷ ps) zero k e = ap (λ (x : Spot). Some x.class) (same_Some (spot d q.time.0 q.area) k e)
 spot_class (d ∷ cs) (q ∷ ps) (suc i) k e = spot_class cs ps i k e
 
-pub length_spots : (cs : List ℕ) (ps : List Point) → length ps ≡ length cs → length (spots_of cs ps) ≡ length cs
+pub length_spots : (cs : List ℕ) (ps : List Found) → length ps ≡ length cs → length (spots_of cs ps) ≡ length cs
 length_spots [] ps e = refl
 length_spots (d ∷ cs) [] e = absurd (omega arith)
 length_spots (d ∷ cs) (q ∷ ps) e = ap suc (length_spots cs ps (omega arith))
@@ -130,11 +131,11 @@ module _ (old new : List Spot) (s : Spot) (gained : IsGained old new s) where
 
 -- Where the search for the points of a class by a time has come to: the place has the class, and no later place has a point of the
 -- class by the time.
-pub record IsSeeking (cs : List ℕ) (ps : List Point) (c time place : ℕ) : Type 0 where
+pub record IsSeeking (cs : List ℕ) (ps : List Found) (c time place : ℕ) : Type 0 where
   pub at : slice_get cs place ≡ Some c
   pub late : (k : Spot) (j : ℕ) → place < j → slice_get (spots_of cs ps) j ≡ Some k → k.class ≡ c → k.time ≤ time → ⊥
 
-module _ (cs : List ℕ) (ps : List Point) (c time : ℕ) where
+module _ (cs : List ℕ) (ps : List Found) (c time : ℕ) where
   pub seek_first : (place : ℕ) → IsLast cs c (length cs) (Some place) → IsSeeking cs ps c time place
   seek_first place (lt, at, none) = record {
     at = at;
@@ -144,13 +145,13 @@ module _ (cs : List ℕ) (ps : List Point) (c time : ℕ) where
   pub seek_none : IsLast cs c (length cs) None → IsLeastSpot (spots_of cs ps) c time None
   seek_none none k (j, here) e by = let h = spot_class cs ps j k here in none j (omega arith) (get_in cs j k.class h) (h ∙ ap Some e)
 
-  not_here : (place : ℕ) (p : Point) → slice_get cs place ≡ Some c → slice_get ps place ≡ Some p → time < p.time.0 → (k : Spot) → slice_get (spots_of cs ps) place ≡ Some k → k.time ≤ time → ⊥
+  not_here : (place : ℕ) (p : Found) → slice_get cs place ≡ Some c → slice_get ps place ≡ Some p → time < p.time.0 → (k : Spot) → slice_get (spots_of cs ps) place ≡ Some k → k.time ≤ time → ⊥
   not_here place p at bt lt k here by =
       let same = same_Some (spot c p.time.0 p.area) k (sym (spots_at cs ps place c p at bt) ∙ here) in
       let t = ap (λ (z : Spot). z.time) same in
       absurd (omega arith)
 
-  pub seek_next : (place next : ℕ) (p : Point) → IsSeeking cs ps c time place → slice_get ps place ≡ Some p → time < p.time.0 → IsLast cs c place (Some next) → IsSeeking cs ps c time next
+  pub seek_next : (place next : ℕ) (p : Found) → IsSeeking cs ps c time place → slice_get ps place ≡ Some p → time < p.time.0 → IsLast cs c place (Some next) → IsSeeking cs ps c time next
   seek_next place next p seeking bt lt (below, at, none) = record {
     at = at;
     late = λ k j after here e by. by_place k j after here e by (ℕ_discrete j place);
@@ -164,7 +165,7 @@ module _ (cs : List ℕ) (ps : List Point) (c time : ℕ) where
           before (inl l) = none j (omega arith) l (spot_class cs ps j k here ∙ ap Some e)
           before (inr l) = seeking.late k j (omega arith) here e by
 
-  pub seek_over : (place : ℕ) (p : Point) → IsSeeking cs ps c time place → slice_get ps place ≡ Some p → time < p.time.0 → IsLast cs c place None → IsLeastSpot (spots_of cs ps) c time None
+  pub seek_over : (place : ℕ) (p : Found) → IsSeeking cs ps c time place → slice_get ps place ≡ Some p → time < p.time.0 → IsLast cs c place None → IsLeastSpot (spots_of cs ps) c time None
   seek_over place p seeking bt lt none k (j, here) e by = by_place (ℕ_discrete j place)
     where
       by_place : Dec (j ≡ place) → ⊥
@@ -175,7 +176,7 @@ module _ (cs : List ℕ) (ps : List Point) (c time : ℕ) where
           before (inl l) = none j (omega arith) l (spot_class cs ps j k here ∙ ap Some e)
           before (inr l) = seeking.late k j (omega arith) here e by
 
-  pub seek_found : (place : ℕ) (p : Point) → AreApart (spots_of cs ps) → IsSeeking cs ps c time place → slice_get ps place ≡ Some p → p.time.0 ≤ time → IsLeastSpot (spots_of cs ps) c time (Some p.area)
+  pub seek_found : (place : ℕ) (p : Found) → AreApart (spots_of cs ps) → IsSeeking cs ps c time place → slice_get ps place ≡ Some p → p.time.0 ≤ time → IsLeastSpot (spots_of cs ps) c time (Some p.area)
   seek_found place p apart seeking bt le = ((spot c p.time.0 p.area, (place, here), refl, le, refl), λ k (j, kt) e by. least k j kt e by (ℕ_discrete j place))
     where
       here : slice_get (spots_of cs ps) place ≡ Some (spot c p.time.0 p.area)
@@ -193,7 +194,7 @@ module _ (cs : List ℕ) (ps : List Point) (c time : ℕ) where
           before (inr l) = absurd (seeking.late k j (omega arith) kt e by)
 
 -- A point is put.
-module _ (cs : List ℕ) (ps : List Point) (c : ℕ) (p : Point) (one_each : length ps ≡ length cs) (apart : AreApart (spots_of cs ps)) (less : (k : Spot) → Has (spots_of cs ps) k → k.class ≡ c → p.area < k.area) where
+module _ (cs : List ℕ) (ps : List Found) (c : ℕ) (p : Found) (one_each : length ps ≡ length cs) (apart : AreApart (spots_of cs ps)) (less : (k : Spot) → Has (spots_of cs ps) k → k.class ≡ c → p.area < k.area) where
   pub put_push : ((k : Spot) → Has (spots_of cs ps) k → k.class ≡ c → k.time < p.time.0) → AreApart (spots_of (cs ++ c ∷ []) (ps ++ p ∷ [])) × IsGained (spots_of cs ps) (spots_of (cs ++ c ∷ []) (ps ++ p ∷ [])) (spot c p.time.0 p.area)
   put_push late =
       let s = spot c p.time.0 p.area in
@@ -215,7 +216,7 @@ module _ (cs : List ℕ) (ps : List Point) (c : ℕ) (p : Point) (one_each : len
       )
 
 -- points of the class are before a time that is not the last one's
-pub last_before : (cs : List ℕ) (ps : List Point) (c time place : ℕ) (q : Point) → AreApart (spots_of cs ps) → ((k : Spot) → Has (spots_of cs ps) k → k.time ≤ time) → IsLast cs c (length cs) (Some place) → slice_get ps place ≡ Some q → q.time.0 ≢ time → (k : Spot) → Has (spots_of cs ps) k → k.class ≡ c → k.time < time
+pub last_before : (cs : List ℕ) (ps : List Found) (c time place : ℕ) (q : Found) → AreApart (spots_of cs ps) → ((k : Spot) → Has (spots_of cs ps) k → k.time ≤ time) → IsLast cs c (length cs) (Some place) → slice_get ps place ≡ Some q → q.time.0 ≢ time → (k : Spot) → Has (spots_of cs ps) k → k.class ≡ c → k.time < time
 last_before cs ps c time place q apart late (lt, at, none) bt ne k (j, kt) e = by_place (ℕ_discrete j place)
   where
     here : slice_get (spots_of cs ps) place ≡ Some (spot c q.time.0 q.area)
@@ -235,7 +236,7 @@ last_before cs ps c time place q apart late (lt, at, none) bt ne k (j, kt) e = b
         before (inl l) = let (t, a) = apart j place k (spot c q.time.0 q.area) l kt here e in omega (arith, t, earlier)
         before (inr l) = let h = spot_class cs ps j k kt in absurd (none j (omega arith) (get_in cs j k.class h) (h ∙ ap Some e))
 
-pub none_before : (cs : List ℕ) (ps : List Point) (c time : ℕ) → IsLast cs c (length cs) None → (k : Spot) → Has (spots_of cs ps) k → k.class ≡ c → k.time < time
+pub none_before : (cs : List ℕ) (ps : List Found) (c time : ℕ) → IsLast cs c (length cs) None → (k : Spot) → Has (spots_of cs ps) k → k.class ≡ c → k.time < time
 none_before cs ps c time none k (j, kt) e = let h = spot_class cs ps j k kt in absurd (none j (omega arith) (get_in cs j k.class h) (h ∙ ap Some e))
 
 pub least_had : (spots : List Spot) (c time area v : ℕ) → IsLeastOf spots c v → v ≤ area → area ≤ most_area → ((k : Spot) → Has spots k → k.time ≤ time) → HasAtMost spots c time area
@@ -244,3 +245,89 @@ least_had spots c time area v is le small late = by_at is.at
     by_at : (v ≡ most_area + 1) ⊎ ((k : Spot) × Has spots k × (k.class ≡ c) × (k.area ≡ v)) → HasAtMost spots c time area
     by_at (inl e) = absurd (omega arith)
     by_at (inr (k, has, e, f)) = (k, has, e, late k has, omega arith)
+
+-- The same points with their choices.
+
+pub held_spots : (cs : List ℕ) (ps : List Found) → map spot_in (held_of cs ps) ≡ spots_of cs ps
+held_spots [] ps = refl
+held_spots (c ∷ cs) [] = refl
+held_spots (c ∷ cs) (p ∷ ps) = ap (λ ks. spot c p.time.0 p.area ∷ ks) (held_spots cs ps)
+
+held_push : (cs : List ℕ) (ps : List Found) (c : ℕ) (p : Found) → length ps ≡ length cs → held_of (cs ++ c ∷ []) (ps ++ p ∷ []) ≡ held_of cs ps ++ held_at c p ∷ []
+held_push [] [] c p e = refl
+held_push [] (q ∷ ps) c p e = absurd (omega arith)
+held_push (d ∷ cs) [] c p e = absurd (omega arith)
+held_push (d ∷ cs) (q ∷ ps) c p e = ap (λ ks. held_at d q ∷ ks) (held_push cs ps c p (omega arith))
+
+held_set : (cs : List ℕ) (ps : List Found) (i c : ℕ) (p : Found) → length ps ≡ length cs → slice_get cs i ≡ Some c → held_of cs (slice_set ps i p) ≡ slice_set (held_of cs ps) i (held_at c p)
+held_set [] ps i c p e at = cc
+held_set (d ∷ cs) [] i c p e at = absurd (omega arith)
+held_set (d ∷ cs) (q ∷ ps) zero c p e at = ap (λ x. held_at x p ∷ held_of cs ps) (same_Some d c at)
+held_set (d ∷ cs) (q ∷ ps) (suc i) c p e at = ap (λ ks. held_at d q ∷ ks) (held_set cs ps i c p (omega arith) at)
+
+pub held_get : (cs : List ℕ) (ps : List Found) (i c : ℕ) (p : Found) → slice_get cs i ≡ Some c → slice_get ps i ≡ Some p → slice_get (held_of cs ps) i ≡ Some (held_at c p)
+held_get [] ps i c p at bt = cc
+held_get (d ∷ cs) [] i c p at bt = cc
+held_get (d ∷ cs) (q ∷ ps) zero c p at bt = ap (λ (x : Held). Some x) (λ k. held_at (same_Some d c at k) (same_Some q p bt k))
+held_get (d ∷ cs) (q ∷ ps) (suc i) c p at bt = held_get cs ps i c p at bt
+
+pub held_class : (cs : List ℕ) (ps : List Found) (i : ℕ) (h : Held) → slice_get (held_of cs ps) i ≡ Some h → slice_get cs i ≡ Some h.spot.class
+held_class [] ps i h e = cc
+held_class (d ∷ cs) [] i h e = cc
+held_class (d ∷ cs) (q ∷ ps) zero h e = ap (λ (x : Held). Some x.spot.class) (same_Some (held_at d q) h e)
+held_class (d ∷ cs) (q ∷ ps) (suc i) h e = held_class cs ps i h e
+
+pub held_spot : (cs : List ℕ) (ps : List Found) (i : ℕ) (h : Held) → slice_get (held_of cs ps) i ≡ Some h → slice_get (spots_of cs ps) i ≡ Some h.spot
+held_spot [] ps i h e = cc
+held_spot (d ∷ cs) [] i h e = cc
+held_spot (d ∷ cs) (q ∷ ps) zero h e = ap (λ (x : Held). Some x.spot) (same_Some (held_at d q) h e)
+held_spot (d ∷ cs) (q ∷ ps) (suc i) h e = held_spot cs ps i h e
+
+held_gained_push : (xs : List Held) (h : Held) → ((l : Held) → IsHeld xs l → l.order < h.order) → IsHeldGained xs (xs ++ h ∷ []) h
+held_gained_push xs h fresh = record {
+  has = (length xs, get_last xs h);
+  only = λ l (i, at). old l i (push_cases xs h i l at);
+  kept = λ l (i, at). inl (i, get_push xs h i l at);
+  fresh = fresh;
+}
+  where
+    old : (l : Held) (i : ℕ) → (slice_get xs i ≡ Some l) ⊎ ((i ≡ length xs) × (h ≡ l)) → IsHeld xs l ⊎ (l ≡ h)
+    old l i (inl at) = inl (i, at)
+    old l i (inr (e, f)) = inr (sym f)
+
+held_gained_set : (xs : List Held) (h o : Held) (place : ℕ) → slice_get xs place ≡ Some o → o.spot.class ≡ h.spot.class → o.spot.time ≡ h.spot.time → h.spot.area < o.spot.area → ((l : Held) → IsHeld xs l → l.order < h.order) → IsHeldGained xs (slice_set xs place h) h
+held_gained_set xs h o place at class time less fresh = record {
+  has = (place, get_set xs place h (get_in xs place o at));
+  only = λ l (i, bt). old l i (set_cases xs place i h l bt);
+  kept = λ l (i, bt). kept l i bt (ℕ_discrete i place);
+  fresh = fresh;
+}
+  where
+    old : (l : Held) (i : ℕ) → ((i ≡ place) × (h ≡ l)) ⊎ ((i ≢ place) × (slice_get xs i ≡ Some l)) → IsHeld xs l ⊎ (l ≡ h)
+    old l i (inl (e, f)) = inr (sym f)
+    old l i (inr (ne, bt)) = inl (i, bt)
+
+    kept : (l : Held) (i : ℕ) → slice_get xs i ≡ Some l → Dec (i ≡ place) → IsHeld (slice_set xs place h) l ⊎ ((l.spot.class ≡ h.spot.class) × (l.spot.time ≡ h.spot.time) × (h.spot.area < l.spot.area))
+    kept l i bt (yes e) =
+        let same : o ≡ l = same_Some o l (sym at ∙ (ap (slice_get xs) (sym e) ∙ bt)) in
+        inr (subst (λ (z : Held). (z.spot.class ≡ h.spot.class) × (z.spot.time ≡ h.spot.time) × (h.spot.area < z.spot.area)) same (class, time, less))
+    kept l i bt (no ne) = inl (i, get_set_other xs place i h l ne bt)
+
+module _ (cs : List ℕ) (ps : List Found) (c : ℕ) (p : Found) (one_each : length ps ≡ length cs) (fresh : (h : Held) → IsHeld (held_of cs ps) h → h.order < p.order) where
+  pub put_held_push : IsHeldGained (held_of cs ps) (held_of (cs ++ c ∷ []) (ps ++ p ∷ [])) (held_at c p)
+  put_held_push = subst (λ xs. IsHeldGained (held_of cs ps) xs (held_at c p)) (sym (held_push cs ps c p one_each)) (held_gained_push (held_of cs ps) (held_at c p) fresh)
+
+  pub put_held_set : (place : ℕ) → ((k : Spot) → Has (spots_of cs ps) k → k.class ≡ c → p.area < k.area) → IsLastAt cs ps c p.time.0 place → IsHeldGained (held_of cs ps) (held_of cs (slice_set ps place p)) (held_at c p)
+  put_held_set place less l =
+      let (lt, at, none) = l.last in
+      let here = held_get cs ps place c l.point at l.at in
+      let low = less (spot c l.point.time.0 l.point.area) (place, spots_at cs ps place c l.point at l.at) refl in
+      subst (λ xs. IsHeldGained (held_of cs ps) xs (held_at c p)) (sym (held_set cs ps place c p one_each at)) (held_gained_set (held_of cs ps) (held_at c p) (held_at c l.point) place here refl l.time_is low fresh)
+
+-- orders stay below the number of gains
+pub orders_gained : (old new : List Held) (h : Held) (gains : ℕ) → IsHeldGained old new h → h.order ≡ gains → ((l : Held) → IsHeld old l → l.order < gains) → (l : Held) → IsHeld new l → l.order < gains + 1
+orders_gained old new h gains gained e orders l has = by_case (gained.only l has)
+  where
+    by_case : IsHeld old l ⊎ (l ≡ h) → l.order < gains + 1
+    by_case (inl in') = let low = orders l in' in omega arith
+    by_case (inr same) = let o = ap (λ (x : Held). x.order) same in omega arith

@@ -76,3 +76,12 @@ module _ (links : List Link) (heads : List (Option ℕ)) (class : ClassId) (befo
     heads_are = λ c o e. subst₂ (λ xs n. IsLast xs c n o) (sym pushed) (ap (λ n. n + 1) width ∙ sym size) (all_heads c o (set_cases heads class.0 c (Some (length links)) o e));
     before_is = λ i l e. subst (λ xs. IsLast xs l.class.0 i l.before) (sym pushed) (all_before i l (push_cases links new i l e));
   }
+
+-- a measure of a place and of the places before it
+abbrev pub place_measure : Option ℕ → ℕ
+place_measure None = 0
+place_measure (Some p) = suc p
+
+pub place_falls : (classes : List ℕ) (c place : ℕ) (o : Option ℕ) → IsLast classes c place o → place_measure o < suc place
+place_falls classes c place None last = omega arith
+place_falls classes c place (Some p) (lt, at, none) = omega arith

@@ -1,5 +1,5 @@
 -- Listings of what may stand at classes grow by inputs and matches.
-use Rattle.std.proofs.Common.{◌≡◌, ℕ, zero, suc, ◌+◌, ◌<◌, ◌⊎◌, inl, inr, length, List, [], ◌∷◌, ◌++◌, Contains, Some, slice_get, slice_index_or, refl, ap, sym, ◌∙◌, subst, arith}
+use Rattle.std.proofs.Common.{◌≡◌, ℕ, zero, suc, ◌+◌, ◌<◌, ◌⊎◌, inl, inr, length, List, [], ◌∷◌, ◌++◌, Contains, Some, slice_get, refl, ap, sym, ◌∙◌, subst, arith}
 use native.Mathlib.Nat.{eq-or-lt_of_le}
 use Rattle.std.proofs.lemmas.Option.{same_Some}
 use Rattle.lw_laws.specs.Covers.{Pattern}
@@ -13,7 +13,7 @@ use Rattle.lw_trade.specs.Choices.{Part, Choice, MayStand, AreChoices}
 use Rattle.lw_trade.specs.Choices.Part.{input, gate}
 use Rattle.lw_trade.specs.Points.{Task}
 use Rattle.lw_trade.specs.Rows.{plain_row, plain_rows, IsAmong, IsListing}
-use Rattle.lw_trade.proofs.Lists.{get_in, get_last, get_push, push_cases, got}
+use Rattle.lw_trade.proofs.Lists.{get_in, get_last, get_push, push_cases, contained_at, at_contained}
 
 pub rows_push : (rows : List Row) (r : Row) → plain_rows (rows ++ r ∷ []) ≡ plain_rows rows ++ plain_row r ∷ []
 rows_push [] r = refl
@@ -21,12 +21,6 @@ rows_push (q ∷ rows) r = ap (λ xs. plain_row q ∷ xs) (rows_push rows r)
 
 among_push : (xs : List Choice) (x : Choice) (c : ℕ) (part : Part) → IsAmong xs c part → IsAmong (xs ++ x ∷ []) c part
 among_push xs x c part (n, at) = (n, get_push xs x n (record { class = c; part = part }) at)
-
-contained_at : {X : Type 0} (xs : List X) (x : X) → Contains xs x → (n : ℕ) × (slice_get xs n ≡ Some x)
-contained_at xs x (k, lt, e) = (k, got xs k x lt ∙ ap Some e)
-
-at_contained : {X : Type 0} (xs : List X) (n : ℕ) (x : X) → slice_get xs n ≡ Some x → Contains xs x
-at_contained xs n x at = let lt = get_in xs n x at in (n, lt, same_Some (slice_index_or xs n x) x (sym (got xs n x lt) ∙ at))
 
 module _ (s : Task) where
   each_push : (xs : List Choice) (x : Choice) → ((n : ℕ) (y : Choice) → slice_get xs n ≡ Some y → MayStand s y.class y.part) → MayStand s x.class x.part → (n : ℕ) (y : Choice) → slice_get (xs ++ x ∷ []) n ≡ Some y → MayStand s y.class y.part
@@ -36,17 +30,26 @@ module _ (s : Task) where
       by_case (inl e) = each n y e
       by_case (inr (e, f)) = subst (λ (z : Choice). MayStand s z.class z.part) f may
 
+  within_push : (xs : List Choice) (x : Choice) → ((n : ℕ) (y : Choice) → slice_get xs n ≡ Some y → y.class < length s.graph.pairs) → x.class < length s.graph.pairs → (n : ℕ) (y : Choice) → slice_get (xs ++ x ∷ []) n ≡ Some y → y.class < length s.graph.pairs
+  within_push xs x within low n y at = by_case (push_cases xs x n y at)
+    where
+      by_case : (slice_get xs n ≡ Some y) ⊎ ((n ≡ length xs) × (x ≡ y)) → y.class < length s.graph.pairs
+      by_case (inl e) = within n y e
+      by_case (inr (e, f)) = subst (λ (z : Choice). z.class < length s.graph.pairs) f low
+
   pub none_listed : IsListing s 0 0 []
   none_listed = record {
     each = λ n x at. cc;
+    within = λ n x at. cc;
     inputs_are = λ i c lt at. absurd (omega arith);
     gates_are = λ c cell ps lt may. absurd (omega arith);
   }
 
   -- one more input
-  pub input_listed : (k c : ℕ) (xs : List Choice) → slice_get s.graph.leaves k ≡ Some c → IsListing s k 0 xs → IsListing s (k + 1) 0 (xs ++ (record { class = c; part = input k }) ∷ [])
-  input_listed k c xs at is = record {
+  pub input_listed : (k c : ℕ) (xs : List Choice) → slice_get s.graph.leaves k ≡ Some c → c < length s.graph.pairs → IsListing s k 0 xs → IsListing s (k + 1) 0 (xs ++ (record { class = c; part = input k }) ∷ [])
+  input_listed k c xs at low is = record {
     each = each_push xs new is.each at;
+    within = within_push xs new is.within low;
     inputs_are = λ i d lt e. by_place i d e (eq-or-lt_of_le {n = i} {m = k} (omega arith));
     gates_are = λ d cell ps lt may. absurd (omega arith);
   }
@@ -63,6 +66,7 @@ module _ (s : Task) where
   -- Where the matches at a class that are still to come are these, and all others are listed.
   pub record IsListingAt (inputs c : ℕ) (left : List Match) (xs : List Choice) : Type 0 where
     pub each : (n : ℕ) (x : Choice) → slice_get xs n ≡ Some x → MayStand s x.class x.part
+    pub within : (n : ℕ) (x : Choice) → slice_get xs n ≡ Some x → x.class < length s.graph.pairs
     pub inputs_are : (i d : ℕ) → i < inputs → slice_get s.graph.leaves i ≡ Some d → IsAmong xs d (input i)
     pub gates_are : (d cell : ℕ) (ps : List ℕ) → d < c → MayStand s d (gate cell ps) → IsAmong xs d (gate cell ps)
     pub coming : (m : Match) → Contains left m → IsMatch s.graph s.patterns c m
@@ -72,6 +76,7 @@ module _ (s : Task) where
     pub listing_start : (ms : List Match) (xs : List Choice) → AreMatches s.graph s.patterns c ms → IsListing s inputs c xs → IsListingAt inputs c ms xs
     listing_start ms xs are is = record {
       each = is.each;
+      within = is.within;
       inputs_are = is.inputs_are;
       gates_are = is.gates_are;
       coming = λ m in'. (are.each m).0 in';
@@ -81,9 +86,10 @@ module _ (s : Task) where
     may_stand : (m : Match) (p : Pattern) → MatchesAt s.graph (area_cost s.cells) s.patterns c m p → MayStand s c (gate p.cell m.pins)
     may_stand m p at = record { pattern = p; listed = at_contained s.patterns m.pattern p at.listed; cell_is = refl; pins = at.pins; stands = at.stands }
 
-    pub listing_next : (m : Match) (left : List Match) (xs : List Choice) (p : Pattern) → slice_get s.patterns m.pattern ≡ Some p → IsListingAt inputs c (m ∷ left) xs → IsListingAt inputs c left (xs ++ (record { class = c; part = gate p.cell m.pins }) ∷ [])
-    listing_next m left xs p listed is = record {
+    pub listing_next : (m : Match) (left : List Match) (xs : List Choice) (p : Pattern) → c < length s.graph.pairs → slice_get s.patterns m.pattern ≡ Some p → IsListingAt inputs c (m ∷ left) xs → IsListingAt inputs c left (xs ++ (record { class = c; part = gate p.cell m.pins }) ∷ [])
+    listing_next m left xs p low listed is = record {
       each = each_push xs new is.each may;
+      within = within_push xs new is.within low;
       inputs_are = λ i d lt e. among_push xs new d (input i) (is.inputs_are i d lt e);
       gates_are = λ d cell ps lt e. among_push xs new d (gate cell ps) (is.gates_are d cell ps lt e);
       coming = λ n in'. is.coming n (later n in');
@@ -112,6 +118,7 @@ module _ (s : Task) where
     pub listing_over : (left : List Match) (xs : List Choice) → left ≡ [] → IsListingAt inputs c left xs → IsListing s inputs (c + 1) xs
     listing_over left xs none is = record {
       each = is.each;
+      within = is.within;
       inputs_are = is.inputs_are;
       gates_are = λ d cell ps lt may. by_place d cell ps may (eq-or-lt_of_le {n = d} {m = c} (omega arith));
     }
@@ -134,7 +141,7 @@ module _ (s : Task) where
         by_place d cell ps may (inr lt) = is.gates_are d cell ps lt may
 
   pub all_choices : (xs : List Choice) → IsListing s (length s.graph.leaves) (length s.graph.pairs) xs → AreChoices s xs
-  all_choices xs is = record { each = is.each; all = λ c part lt may. among c part lt may }
+  all_choices xs is = record { each = is.each; within = is.within; all = λ c part lt may. among c part lt may }
     where
       among : (c : ℕ) (part : Part) → c < length s.graph.pairs → MayStand s c part → IsAmong xs c part
       among c (input i) lt may = is.inputs_are i c (get_in s.graph.leaves i c may) may

@@ -1,5 +1,5 @@
 -- Lists by place, with an element behind them or another in place of one.
-use Rattle.std.proofs.Common.{◌≡◌, ◌≢◌, ℕ, zero, suc, ◌+◌, ◌<◌, ◌≤◌, ◌⊎◌, inl, inr, length, take, List, [], ◌∷◌, ◌++◌, Some, slice_get, slice_index_or, slice_set, refl, sym, ap, subst, arith}
+use Rattle.std.proofs.Common.{◌≡◌, ◌≢◌, ℕ, zero, suc, ◌+◌, ◌<◌, ◌≤◌, ◌⊎◌, inl, inr, length, take, List, [], ◌∷◌, ◌++◌, Contains, Some, slice_get, slice_index_or, slice_set, refl, sym, ap, ◌∙◌, subst, arith}
 use Rattle.std.proofs.lemmas.Option.{same_Some}
 use Rattle.lw_trade.specs.Areas.{total}
 
@@ -78,6 +78,12 @@ module _ {X : Type 0} where
       more : ((i ≡ c) × (x ≡ y)) ⊎ ((i ≢ c) × (slice_get xs i ≡ Some y)) → ((suc i ≡ suc c) × (x ≡ y)) ⊎ ((suc i ≢ suc c) × (slice_get xs i ≡ Some y))
       more (inl (s, f)) = inl (ap suc s, f)
       more (inr (ne, at)) = inr ((λ s. ne (omega arith)), at)
+
+  pub contained_at : (xs : List X) (x : X) → Contains xs x → (n : ℕ) × (slice_get xs n ≡ Some x)
+  contained_at xs x (k, lt, e) = (k, got xs k x lt ∙ ap Some e)
+
+  pub at_contained : (xs : List X) (n : ℕ) (x : X) → slice_get xs n ≡ Some x → Contains xs x
+  at_contained xs n x at = let lt = get_in xs n x at in (n, lt, same_Some (slice_index_or xs n x) x (sym (got xs n x lt) ∙ at))
 
 total_suc : (xs : List ℕ) (k : ℕ) → k < length xs → total (take (suc k) xs) ≡ total (take k xs) + slice_index_or xs k 0
 total_suc [] k lt = absurd (omega arith)

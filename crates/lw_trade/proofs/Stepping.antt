@@ -180,7 +180,7 @@ zip_at spots (p ∷ ps) (l ∷ ks) zero k ((has, e), zip) at =
     (subst (Has spots) same has, ap Some (sym e ∙ ap (λ (z : Spot). z.class) same))
 zip_at spots (p ∷ ps) (l ∷ ks) (suc j) k (first, zip) at = zip_at spots ps ks j k zip at
 
-zip_length : (spots : List Spot) (ps : List ℕ) (ks : List Spot) → AllZip (IsSpotOf spots) ps ks → length ps ≡ length ks
+pub zip_length : (spots : List Spot) (ps : List ℕ) (ks : List Spot) → AllZip (IsSpotOf spots) ps ks → length ps ≡ length ks
 zip_length spots [] [] zip = refl
 zip_length spots [] (l ∷ ks) zip = absurd zip
 zip_length spots (p ∷ ps) [] zip = absurd zip

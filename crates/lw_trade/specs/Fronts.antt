@@ -1,7 +1,8 @@
 -- The points that were found, by class.
 use Rattle.std.specs.Prelude.{ℕ, ◌+◌, ◌<◌, ◌≤◌, ◌≡◌, ◌⊎◌, Bool, true, false, List, [], ◌∷◌, length, Option, Some, None, slice_get, slice_set}
-use Rattle.lw_trade.specs.declared.point.Point.{Point}
+use Rattle.lw_trade.specs.declared.found.Found.{Found}
 use Rattle.lw_trade.specs.Areas.{most_area}
+use Rattle.lw_trade.specs.Backing.{Held, IsHeld, IsHeldGained}
 use Rattle.lw_trade.specs.Links.{LinkState, IsLast}
 use Rattle.lw_trade.specs.Settling.{Spot, spot, Has, AreApart, HasAtMost, IsGained}
 
@@ -9,15 +10,24 @@ pub record FrontState : Type 0 where
   pub spots : List Spot
   -- the least area of each class
   pub least : List ℕ
+  -- the points with their choices, in the same order
+  pub held : List Held
 
-abbrev pub spots_of : List ℕ → List Point → List Spot
+abbrev pub spots_of : List ℕ → List Found → List Spot
 spots_of (c ∷ cs) (p ∷ ps) = spot c p.time.0 p.area ∷ spots_of cs ps
 spots_of _ _ = []
 
+abbrev pub held_at : ℕ → Found → Held
+held_at c p = record { spot = spot c p.time.0 p.area; choice = p.choice; order = p.order }
+
+abbrev pub held_of : List ℕ → List Found → List Held
+held_of (c ∷ cs) (p ∷ ps) = held_at c p ∷ held_of cs ps
+held_of _ _ = []
+
 -- the place is the last with the class, and its point is of the time
-pub record IsLastAt (classes : List ℕ) (points : List Point) (c time place : ℕ) : Type 0 where
+pub record IsLastAt (classes : List ℕ) (points : List Found) (c time place : ℕ) : Type 0 where
   pub last : IsLast classes c (length classes) (Some place)
-  pub point : Point
+  pub point : Found
   pub at : slice_get points place ≡ Some point
   pub time_is : point.time.0 ≡ time
 
@@ -26,11 +36,12 @@ pub record IsLeastOf (spots : List Spot) (c area : ℕ) : Type 0 where
   pub low : (k : Spot) → Has spots k → k.class ≡ c → area ≤ k.area
   pub at : (area ≡ most_area + 1) ⊎ ((k : Spot) × Has spots k × (k.class ≡ c) × (k.area ≡ area))
 
-pub record IsFronts (links : LinkState) (points : List Point) (least : List ℕ) : Type 0 where
+pub record IsFronts (links : LinkState) (points : List Found) (least : List ℕ) (gains : ℕ) : Type 0 where
   pub one_each : length points ≡ length links.classes
   pub count : links.count ≡ length least
   pub apart : AreApart (spots_of links.classes points)
   pub least_is : (c area : ℕ) → slice_get least c ≡ Some area → IsLeastOf (spots_of links.classes points) c area
+  pub orders : (h : Held) → IsHeld (held_of links.classes points) h → h.order < gains
 
 -- the least area of the points of the class by the time, and none where it has none
 abbrev pub IsLeastSpot : List Spot → ℕ → ℕ → Option ℕ → Type 0
@@ -39,8 +50,8 @@ IsLeastSpot spots c time None =
 IsLeastSpot spots c time (Some area) =
     ((k : Spot) × Has spots k × (k.class ≡ c) × (k.time ≤ time) × (k.area ≡ area)) × ((k : Spot) → Has spots k → k.class ≡ c → k.time ≤ time → area ≤ k.area)
 
--- the point is added, or a point of the class has no more area
-abbrev pub IsTried : FrontState → FrontState → Spot → Bool → Type 0
-IsTried old new k true =
-    IsGained old.spots new.spots k × (new.least ≡ slice_set old.least k.class k.area) × ((area : ℕ) → slice_get old.least k.class ≡ Some area → k.area < area)
-IsTried old new k false = (new ≡ old) × HasAtMost old.spots k.class k.time k.area
+-- the point is added with its choice, or a point of the class has no more area
+abbrev pub IsTried : FrontState → FrontState → Spot → ℕ → Bool → Type 0
+IsTried old new k choice true =
+    IsGained old.spots new.spots k × (new.least ≡ slice_set old.least k.class k.area) × ((area : ℕ) → slice_get old.least k.class ≡ Some area → k.area < area) × ((order : ℕ) × IsHeldGained old.held new.held (record { spot = k; choice = choice; order = order }))
+IsTried old new k choice false = (new ≡ old) × HasAtMost old.spots k.class k.time k.area

@@ -1,11 +1,15 @@
 pub mod AreaLaws
 pub mod Areas
+pub mod Backing
 pub mod Choices
 pub mod Fronts
+pub mod Groups
+pub mod Lasts
 pub mod Links
 pub mod Points
 pub mod Pricing
 pub mod Queues
 pub mod Rows
 pub mod Settling
+pub mod Trades
 pub mod Uses

@@ -77,3 +77,8 @@ pub record AreTooMany (s : Task) (horizon : ℕ) : Type 0 where
 abbrev pub IsWhy : Task → ℕ → CurveFault → Type 0
 IsWhy s horizon Limit = AreTooMany s horizon
 IsWhy s horizon Memory = Unit {0}
+
+-- each cover that arrives by the horizon has a point of its class that is no later and has no more area
+abbrev pub BoundCovers : Task → ℕ → List (List Point) → Type 0
+BoundCovers s horizon curves =
+    (c : ℕ) (k : Cover) → IsCoverBy s c horizon k → (row : List Point) × (p : Point) × (slice_get curves c ≡ Some row) × Contains row p × (p.time.0 ≤ time_of (timing s) k) × (p.area ≤ area_of s k)

@@ -1,5 +1,5 @@
 -- What may stand at classes, as the code lists it.
-use Rattle.std.specs.Prelude.{ℕ, ◌<◌, ◌≡◌, List, map, Some, slice_get}
+use Rattle.std.specs.Prelude.{ℕ, ◌<◌, ◌≡◌, List, length, map, Some, slice_get}
 use Rattle.lw_match.specs.Values.{numbers}
 use Rattle.lw_trade.specs.declared.choices.Row.{Row}
 use Rattle.lw_trade.specs.declared.choices.Stand.{Stand}
@@ -24,5 +24,6 @@ IsAmong choices c part = (n : ℕ) × (slice_get choices n ≡ Some (record { cl
 -- the first inputs, and the matches at the first classes, each of which may stand at its class
 pub record IsListing (s : Task) (inputs classes : ℕ) (choices : List Choice) : Type 0 where
   pub each : (n : ℕ) (x : Choice) → slice_get choices n ≡ Some x → MayStand s x.class x.part
+  pub within : (n : ℕ) (x : Choice) → slice_get choices n ≡ Some x → x.class < length s.graph.pairs
   pub inputs_are : (i c : ℕ) → i < inputs → slice_get s.graph.leaves i ≡ Some c → IsAmong choices c (input i)
   pub gates_are : (c cell : ℕ) (ps : List ℕ) → c < classes → MayStand s c (gate cell ps) → IsAmong choices c (gate cell ps)

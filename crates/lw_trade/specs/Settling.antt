@@ -153,9 +153,21 @@ pub record IsStarted (starts : List Micro) (part : Part) (old new : Queued) (n :
   pub only : (t m : ℕ) → Waits new t m → Waits old t m ⊎ (m ≡ n)
   pub here : (s : Task) (t a : ℕ) → s.starts ≡ starts → Gives s [] part t a → t ≤ old.horizon → Waits new t n
 
--- All points up to the horizon are settled, or those up to some time, and then they are too many.
+-- Up to some time the points are settled, and they are too many.
+pub record HaveTooMany (s : Task) (choices : List Choice) (horizon : ℕ) : Type 0 where
+  pub now : ℕ
+  pub in_time : now ≤ horizon
+  pub spots : List Spot
+  pub settled : AreSettled s now choices spots
+  pub apart : AreApart spots
+  pub many : most_points < length spots
+
+-- why the points are not settled
+abbrev pub IsStop : Task → List Choice → ℕ → CurveFault → Type 0
+IsStop s choices horizon Limit = HaveTooMany s choices horizon
+IsStop s choices horizon Memory = Unit {0}
+
+-- All points up to the horizon are settled, or there is a reason.
 abbrev pub AreSettledOr : Task → List Choice → ℕ → List Spot → Result (Unit {0}) CurveFault → Type 0
 AreSettledOr s choices horizon spots (Ok u) = AreSettled s horizon choices spots
-AreSettledOr s choices horizon spots (Err Limit) =
-    (now : ℕ) × (now ≤ horizon) × AreSettled s now choices spots × (most_points < length spots)
-AreSettledOr s choices horizon spots (Err Memory) = Unit {0}
+AreSettledOr s choices horizon spots (Err fault) = IsStop s choices horizon fault

@@ -83,12 +83,14 @@ fn list_class(
 }
 
 /// All that may stand at the classes of a graph: the inputs, and then the matches, class by class.
+/// There is no memory for 2^32 of them.
 pub(crate) fn list_choices(
     alloc: Global,
     graph: &Graph,
     pats: &Patterns,
 ) -> Result<Vec<Row>, AllocError>
-    ensures { IfOk result (λ rows. (cells : List CellParts) (starts : List MicroOf) →
+    ensures few { IfOk result (λ rows. length rows.items < 4294967296) }
+    ensures choices { IfOk result (λ rows. (cells : List CellParts) (starts : List MicroOf) →
         AreOfCells (area_cost cells).pin_counts pats.now →
         AreChoices (task graph.now pats.now cells starts) (plain_rows rows.items)) }
 {
@@ -96,6 +98,9 @@ pub(crate) fn list_choices(
     list_inputs(graph, &mut rows)?;
     for class in 0..graph.classes() {
         list_class(graph, pats, ClassId(class), &mut rows)?;
+    }
+    if rows.len() >= 4_294_967_296 {
+        return Err(AllocError);
     }
     Ok(rows)
 }

@@ -1,8 +1,11 @@
-ghost use Rattle.std.specs.Prelude.{◌≡◌, ◌<◌, ◌≤◌, [], IfOk, IfNone, IfSome, OnOk, OnErr, length};
+ghost use Rattle.std.specs.Prelude.{◌≡◌, ◌<◌, ◌≤◌, [], IfOk, IfNone, IfSome, OnOk, OnErr, length, map};
 ghost use Rattle.lw_trade.specs.Areas.{most_area};
-ghost use Rattle.lw_trade.specs.Fronts.{IsLastAt, IsLeastSpot, IsTried, spots_of};
+ghost use Rattle.lw_trade.specs.Backing.{Held, IsHeld, IsHeldGained, spot_in};
+ghost use Rattle.lw_trade.specs.Fronts.{IsLastAt, IsLeastSpot, IsTried, held_at, held_of, spots_of};
+ghost use Rattle.lw_trade.specs.Groups.{IsRowPushed};
 ghost use Rattle.lw_trade.specs.Settling.{Spot, spot, Has, AreApart, IsGained};
 
+use crate::found::{Found, Way};
 use crate::links::Links;
 use crate::point::Point;
 use lw_fixed::Micro;
@@ -14,24 +17,30 @@ use std::marker::Model;
 #[derive(Drop)]
 pub(crate) struct Fronts {
     links: Links,
-    points: Vec<Point>,
+    points: Vec<Found>,
+    // how many areas were gained
+    gains: u64,
     // the least area of a point of each class, and one more than the greatest area where it has
     // none
     least: Vec<u64>,
 }
 
 impl Model for Fronts {
-    ghost use Rattle.lw_trade.specs.Fronts.{FrontState, IsFronts, spots_of};
+    ghost use Rattle.lw_trade.specs.Fronts.{FrontState, IsFronts, held_of, spots_of};
 
     ghost Value = { FrontState };
 
-    ghost view = { λ f. record { spots = spots_of f.links.classes f.points.items; least = f.least.items } };
+    ghost view = { λ f. record {
+      spots = spots_of f.links.classes f.points.items;
+      least = f.least.items;
+      held = held_of f.links.classes f.points.items;
+    } };
 
-    ghost invariant = { λ f. IsFronts f.links f.points.items f.least.items };
+    ghost invariant = { λ f. IsFronts f.links f.points.items f.least.items f.gains };
 }
 
 // The last place of a class, where its point is of a time that no point of the class is after.
-fn place_at(links: &Links, points: &[Point], class: ClassId, time: Micro) -> Option<u32>
+fn place_at(links: &Links, points: &[Found], class: ClassId, time: Micro) -> Option<u32>
     requires class { class.0 < links.now.count }
     requires one_each { length points.now ≡ length links.now.classes }
     requires apart { AreApart (spots_of links.now.classes points.now) }
@@ -51,7 +60,7 @@ fn place_at(links: &Links, points: &[Point], class: ClassId, time: Micro) -> Opt
 }
 
 // The least area of the points of a class by a time.
-fn area_by(links: &Links, points: &[Point], class: ClassId, time: u64) -> Option<u64>
+fn area_by(links: &Links, points: &[Found], class: ClassId, time: u64) -> Option<u64>
     requires class { class.0 < links.now.count }
     requires one_each { length points.now ≡ length links.now.classes }
     requires apart { AreApart (spots_of links.now.classes points.now) }
@@ -73,9 +82,9 @@ fn area_by(links: &Links, points: &[Point], class: ClassId, time: u64) -> Option
 // same time.
 fn put(
     links: &mut Links,
-    points: &mut Vec<Point>,
+    points: &mut Vec<Found>,
     class: ClassId,
-    point: Point,
+    point: Found,
 ) -> Result<(), AllocError>
     requires class { class.0 < links.old.count }
     requires one_each { length points.old.items ≡ length links.old.classes }
@@ -84,13 +93,19 @@ fn put(
         k.time ≤ point.time.0 }
     requires less { (k : Spot) → Has (spots_of links.old.classes points.old.items) k →
         k.class ≡ class.0 → point.area < k.area }
+    requires fresh { (h : Held) → IsHeld (held_of links.old.classes points.old.items) h →
+        h.order < point.order }
     ensures one_each { length points.new.items ≡ length links.new.classes }
     ensures count { links.new.count ≡ links.old.count }
     ensures apart { AreApart (spots_of links.new.classes points.new.items) }
     ensures gained { OnOk result (IsGained (spots_of links.old.classes points.old.items)
         (spots_of links.new.classes points.new.items) (spot class.0 point.time.0 point.area)) }
+    ensures held { OnOk result (IsHeldGained (held_of links.old.classes points.old.items)
+        (held_of links.new.classes points.new.items) (held_at class.0 point)) }
     ensures err { OnErr result (spots_of links.new.classes points.new.items
         ≡ spots_of links.old.classes points.old.items) }
+    ensures held_err { OnErr result (held_of links.new.classes points.new.items
+        ≡ held_of links.old.classes points.old.items) }
 {
     if let Some(place) = place_at(links, points.as_slice(), class, point.time) {
         points[place as usize] = point;
@@ -102,6 +117,36 @@ fn put(
     Ok(())
 }
 
+// Puts the points of a class and how they came behind others, the last one first.
+fn push_row(
+    links: &Links,
+    points: &[Found],
+    class: ClassId,
+    to: &mut Vec<Point>,
+    ways: &mut Vec<Way>,
+) -> Result<(), AllocError>
+    requires class { class.0 < links.now.count }
+    requires one_each { length points.now ≡ length links.now.classes }
+    requires apart { AreApart (spots_of links.now.classes points.now) }
+    ensures { OnOk result (IsRowPushed (held_of links.now.classes points.now) class.0
+        to.old.items to.new.items ways.old.items ways.new.items) }
+{
+    let mut next = links.last(class);
+    while let Some(place) = next {
+        let found = points[place as usize];
+        to.push(Point {
+            time: found.time,
+            area: found.area,
+        })?;
+        ways.push(Way {
+            order: found.order,
+            choice: found.choice,
+        })?;
+        next = links.before(place);
+    }
+    Ok(())
+}
+
 // More than any area.
 const NO_AREA: u64 = 4_611_686_018_427_387_905;
 
@@ -109,18 +154,22 @@ impl Fronts {
     /// No points, for so many classes.
     pub(crate) fn new(alloc: Global, classes: usize) -> Result<Fronts, AllocError>
         ensures spots { IfOk result (λ fronts. fronts.spots ≡ []) }
+        ensures held { IfOk result (λ fronts. fronts.held ≡ []) }
         ensures classes { IfOk result (λ fronts. length fronts.least ≡ classes) }
     {
         Ok(Fronts {
             links: Links::new(alloc, classes)?,
             points: Vec::new(alloc),
+            gains: 0,
             least: vec![in alloc; NO_AREA; classes]?,
         })
     }
 
     /// How many points there are.
     pub(crate) fn len(&self) -> u32
-        ensures { result ≡ length self.now.spots }
+        ensures len { result ≡ length self.now.spots }
+        ensures apart { AreApart self.now.spots }
+        ensures spots { map spot_in self.now.held ≡ self.now.spots }
     {
         self.links.len()
     }
@@ -133,25 +182,50 @@ impl Fronts {
         area_by(&self.links, self.points.as_slice(), class, time)
     }
 
-    /// Adds a point of a class, unless the class has one of no greater area, and says whether it
-    /// did.
-    pub(crate) fn gain(&mut self, class: ClassId, time: u64, area: u64) -> Result<bool, AllocError>
+    /// Puts the points of a class and how they came behind others, the last one first.
+    pub(crate) fn push_row(
+        &self,
+        class: ClassId,
+        to: &mut Vec<Point>,
+        ways: &mut Vec<Way>,
+    ) -> Result<(), AllocError>
+        requires { class.0 < length self.now.least }
+        ensures { OnOk result (IsRowPushed self.now.held class.0 to.old.items to.new.items
+            ways.old.items ways.new.items) }
+    {
+        push_row(&self.links, self.points.as_slice(), class, to, ways)
+    }
+
+    /// Adds a point of a class that a choice gives, unless the class has one of no greater area, and
+    /// says whether it did. There is no memory for 2^64 gains.
+    pub(crate) fn gain(
+        &mut self,
+        class: ClassId,
+        time: u64,
+        area: u64,
+        choice: u32,
+    ) -> Result<bool, AllocError>
         requires class { class.0 < length self.old.least }
         requires area { area ≤ most_area }
         requires late { (k : Spot) → Has self.old.spots k → k.time ≤ time }
         ensures count { length self.new.least ≡ length self.old.least }
-        ensures tried { IfOk result (IsTried self.old self.new (spot class.0 time area)) }
+        ensures spots { map spot_in self.old.held ≡ self.old.spots }
+        ensures tried { IfOk result (IsTried self.old self.new (spot class.0 time area) choice) }
     {
         if self.least[class.0 as usize] <= area {
             return Ok(false);
         }
-        let time = Micro(time);
-        put(
-            &mut self.links,
-            &mut self.points,
-            class,
-            Point { time, area },
-        )?;
+        if self.gains == u64::MAX {
+            return Err(AllocError);
+        }
+        let found = Found {
+            time: Micro(time),
+            area,
+            order: self.gains,
+            choice,
+        };
+        put(&mut self.links, &mut self.points, class, found)?;
+        self.gains += 1;
         self.least[class.0 as usize] = area;
         Ok(true)
     }

@@ -3,9 +3,14 @@
 #![tactic(auto)]
 
 mod area;
+mod bisecting;
 mod choices;
+mod found;
 mod fronts;
+mod grouping;
+mod laws;
 mod links;
+mod making;
 mod point;
 mod pricing;
 mod queue;
@@ -14,4 +19,7 @@ mod starting;
 mod uses;
 
 pub use area::AreaCost;
+pub use grouping::Curves;
+pub use laws::{built_nets_are_covers, pins_come_before};
+pub use making::curves;
 pub use point::{CurveFault, Point};

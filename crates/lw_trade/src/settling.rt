@@ -4,6 +4,7 @@ ghost use Rattle.lw_laws.specs.Graphs.{Graph as PlainGraph};
 ghost use Rattle.lw_laws.specs.Covers.{Pattern as TreeOfCell};
 ghost use Rattle.lw_trade.specs.Areas.{total};
 ghost use Rattle.lw_genlib.specs.Cells.{CellParts};
+ghost use Rattle.lw_trade.specs.Backing.{AreBacked};
 ghost use Rattle.lw_trade.specs.Points.{task};
 ghost use Rattle.lw_trade.specs.Pricing.{IsOfLibrary, IsWithin};
 ghost use Rattle.lw_trade.specs.Rows.{plain_part, plain_rows};
@@ -94,13 +95,18 @@ fn next_gain(
     ensures falls { IfOk result (λ gain. IfSome gain
         (λ class. (class.0 < length fronts.old.least) ×
         (total fronts.new.least < total fronts.old.least))) }
+    ensures backed { OnOk result ((g : PlainGraph) (pats : List TreeOfCell) →
+        IsStillFor (task g pats lib.now starts.now)
+        (plain_rows rows.now) time fronts.old.spots queue.old →
+        AreBacked (task g pats lib.now starts.now) (plain_rows rows.now) fronts.old.held →
+        AreBacked (task g pats lib.now starts.now) (plain_rows rows.now) fronts.new.held) }
 {
     while let Some(number) = queue.take_at(time) {
         let row = &rows[number as usize];
         let Some(area) = price(&row.stand, lib, starts, fronts, time) else {
             continue;
         };
-        if fronts.gain(row.class, time, area)? {
+        if fronts.gain(row.class, time, area, number)? {
             return Ok(Some(row.class));
         }
     }
@@ -140,6 +146,12 @@ pub(crate) fn settle_at(
         AreUses (task g pats lib.now starts.now) (plain_rows rows.now) links.now.classes uses.now →
         IsAfter (task g pats lib.now starts.now)
         (plain_rows rows.now) time fronts.new.spots queue.new None) }
+    ensures backed { OnOk result ((g : PlainGraph) (pats : List TreeOfCell) →
+        IsStillFor (task g pats lib.now starts.now)
+        (plain_rows rows.now) time fronts.old.spots queue.old →
+        AreUses (task g pats lib.now starts.now) (plain_rows rows.now) links.now.classes uses.now →
+        AreBacked (task g pats lib.now starts.now) (plain_rows rows.now) fronts.old.held →
+        AreBacked (task g pats lib.now starts.now) (plain_rows rows.now) fronts.new.held) }
 {
     while let Some(class) = next_gain(rows, lib, starts, fronts, queue, time)? {
         push_uses(rows, links, uses, queue, class, time)?;
@@ -181,6 +193,12 @@ pub(crate) fn settle_all(
         AreUses (task g pats lib.now starts.now) (plain_rows rows.now) links.now.classes uses.now →
         AreSettledOr (task g pats lib.now starts.now)
         (plain_rows rows.now) queue.old.horizon fronts.new.spots result }
+    ensures backed { OnOk result ((g : PlainGraph) (pats : List TreeOfCell) →
+        IsStillFor (task g pats lib.now starts.now)
+        (plain_rows rows.now) 0 fronts.old.spots queue.old →
+        AreUses (task g pats lib.now starts.now) (plain_rows rows.now) links.now.classes uses.now →
+        AreBacked (task g pats lib.now starts.now) (plain_rows rows.now) fronts.old.held →
+        AreBacked (task g pats lib.now starts.now) (plain_rows rows.now) fronts.new.held) }
 {
     while let Some(time) = queue.next_time() {
         settle_at(rows, lib, starts, links, uses, fronts, queue, time)?;

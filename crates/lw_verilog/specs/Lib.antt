@@ -1,5 +1,7 @@
+pub mod Chains
 pub mod Grammar
 pub mod Keeping
+pub mod Phrases
 pub mod Pieces
 pub mod Readings
 pub mod Sayable
@@ -7,3 +9,5 @@ pub mod Statements
 pub mod Texts
 pub mod Tokens
 pub mod Verdicts
+pub mod Writable
+pub mod Windows

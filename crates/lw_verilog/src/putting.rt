@@ -1,5 +1,5 @@
 // Names and declarations.
-ghost use Rattle.std.specs.Prelude.{◌≡◌, ◌<◌, ◌≤◌, ◌∷◌, ◌++◌, [], length, map, All, IfSome, IfNone};
+ghost use Rattle.std.specs.Prelude.{◌≡◌, ◌<◌, ◌≤◌, ◌∷◌, ◌++◌, [], codes, cond, length, map, All, IfSome, IfNone};
 ghost use Rattle.std.specs.List.{flat_map, list_any};
 ghost use Rattle.std.specs.Str.{bytes_eq};
 ghost use Rattle.lw_netlist.specs.Closing.{is_among};
@@ -7,6 +7,7 @@ ghost use Rattle.lw_mapped.specs.Texts.{net_name, port_name};
 ghost use Rattle.lw_io.specs.Waitings.{Puts};
 ghost use Rattle.lw_verilog.specs.Texts.{escaped, further, joined, declaration, wire_text, tie_text, pins_text, assignment, assignment_text};
 
+use crate::known::Known;
 use lw_io::{Sink, Waiting, put};
 use lw_netlist::Port;
 use lw_pool::{Name, NetId};
@@ -162,11 +163,12 @@ pub(crate) fn is_output(outputs: &[Port], name: &[u8]) -> bool
     has_name(outputs, name)
 }
 
-fn put_wire<S: Sink>(sink: &mut S, waiting: &mut Waiting, outputs: &[Port], name: &[u8])
+// The declaration of a net, if it has none as an output.
+fn put_wire<S: Sink>(sink: &mut S, waiting: &mut Waiting, known: bool, name: &[u8])
     ensures { Puts (S.taken sink.old) (S.faults sink.old) waiting.old (S.taken sink.new)
-        (S.faults sink.new) waiting.new (wire_text (map port_name outputs.now) name.now) }
+        (S.faults sink.new) waiting.new (cond known [] (declaration (codes "wire ") name.now)) }
 {
-    if !is_output(outputs, name) {
+    if !known {
         put_declaration(sink, waiting, b"wire ", name);
     }
 }
@@ -182,8 +184,10 @@ pub(crate) fn put_wires<S: Sink>(
         (S.faults sink.new) waiting.new
         (flat_map (wire_text (map port_name outputs.now)) names.now) }
 {
-    for name in names {
-        put_wire(sink, waiting, outputs, name.as_bytes());
+    let mut known = Known::new(names, outputs);
+    for (place, name) in names.iter().enumerate() {
+        let is_output = known.is_output(names, outputs, place);
+        put_wire(sink, waiting, is_output, name.as_bytes());
     }
 }
 

@@ -1,19 +1,18 @@
 // The Verilog text of a netlist.
 ghost use Rattle.std.specs.Prelude.{◌≡◌, ◌<◌, ◌≤◌, ◌+◌, ◌^◌, ◌++◌, drop, take, length, map, Some, All, OnOk, OnErr};
-ghost use Rattle.std.specs.List.{flat_map, list_any};
 ghost use Rattle.std.specs.Io.KnownBytes.{Appends};
 ghost use Rattle.lw_io.specs.Causes.{HasCause};
 ghost use Rattle.lw_io.specs.Moves.{AppendsPrefix};
 ghost use Rattle.lw_io.specs.Waitings.{Puts};
-ghost use Rattle.lw_netlist.specs.Closing.{is_among};
 ghost use Rattle.lw_netlist.specs.Plain.{HasCell, IsOver};
 ghost use Rattle.lw_mapped.specs.Texts.{net_name, port_name, HasNames, names_of_inputs};
-ghost use Rattle.lw_verilog.specs.Texts.{begins_u, tie_text, pins_text, instance_name, gate_line, gate_text, passed, gates_text, header_text, verilog_text};
+ghost use Rattle.lw_verilog.specs.Texts.{tie_text, pins_text, instance_name, gate_line, gate_text, gates_text, header_text, verilog_text};
 
 use crate::putting::{
-    is_output, name_of, put_assignments, put_declarations, put_escaped, put_joined,
-    put_port_declarations, put_wires,
+    name_of, put_assignments, put_declarations, put_escaped, put_joined, put_port_declarations,
+    put_wires,
 };
+use crate::taken::{Taken, has_begun, skipped};
 use itoa::Buffer;
 use lw_genlib::{Cell, Library};
 use lw_io::{Failed, Sink, Waiting, end, put};
@@ -101,69 +100,6 @@ fn put_gate_of<S: Sink>(
     put_gate(sink, waiting, names, number, gate, lib.cell(gate.cell));
 }
 
-fn is_name(names: &[Name], name: &[u8]) -> bool
-    ensures { result ≡ is_among names.now name.now }
-{
-    names.iter().any(|other| name == other.as_bytes())
-}
-
-// Whether a net or an output has the name of the instance with this number.
-fn is_taken(names: &[Name], outputs: &[Port], number: u64) -> bool
-    ensures { result ≡ is_among (names.now ++ map port_name outputs.now) (instance_name number) }
-{
-    let mut digits = Buffer::new();
-    let digits = digits.format(number).as_bytes();
-    let mut text = [0; 21];
-    text[0] = b'u';
-    let size = 1 + digits.len();
-    text[1..size].copy_from_slice(digits);
-    is_name(names, &text[..size]) || is_output(outputs, &text[..size])
-}
-
-// How many numbers from this one on are passed over, at most so many.
-fn passed(names: &[Name], outputs: &[Port], most: u64, number: u64) -> u64
-    requires { number + most < 2 ^ 64 }
-    ensures { result ≡ passed (names.now ++ map port_name outputs.now) most number }
-{
-    for count in 0..most {
-        if !is_taken(names, outputs, number + count) {
-            return count;
-        }
-    }
-    most
-}
-
-fn is_begun(names: &[Name]) -> bool
-    ensures { result ≡ list_any begins_u names.now }
-{
-    names.iter().any(|name| name.as_bytes()[0] == b'u')
-}
-
-fn is_output_begun(ports: &[Port]) -> bool
-    ensures { result ≡ list_any (λ port. begins_u port.name) ports.now }
-{
-    ports.iter().any(|port| port.name.as_bytes()[0] == b'u')
-}
-
-// Whether a net or an output has a name that begins as those of instances do.
-fn has_begun(names: &[Name], outputs: &[Port]) -> bool
-    ensures { result ≡ list_any begins_u (names.now ++ map port_name outputs.now) }
-{
-    is_begun(names) || is_output_begun(outputs)
-}
-
-// The same as `passed`, at once where no name begins as those of instances do.
-fn skipped(begun: bool, names: &[Name], outputs: &[Port], most: u64, number: u64) -> u64
-    requires begun { begun ≡ list_any begins_u (names.now ++ map port_name outputs.now) }
-    requires few { number + most < 2 ^ 64 }
-    ensures { result ≡ passed (names.now ++ map port_name outputs.now) most number }
-{
-    if !begun {
-        return 0;
-    }
-    passed(names, outputs, most, number)
-}
-
 // So many names and gates are counted.
 fn room(names: &[Name], outputs: &[Port], gates: &[Gate]) -> u64
     requires { length names.now < 2 ^ 32 }
@@ -190,10 +126,11 @@ fn put_gates<S: Sink>(
 {
     let _room = room(names, outputs, gates);
     let begun = has_begun(names, outputs);
+    let mut taken = Taken::new(names, outputs);
     let mut most = names.len() as u64 + outputs.len() as u64;
     let mut number: u64 = 1;
     for gate in gates {
-        let count = skipped(begun, names, outputs, most, number);
+        let count = skipped(begun, &mut taken, names, outputs, most, number);
         put_gate_of(sink, waiting, names, lib, number + count, gate);
         most -= count;
         number += count + 1;

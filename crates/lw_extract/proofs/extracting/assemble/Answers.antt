@@ -1,6 +1,11 @@
-use Rattle.std.proofs.Common.{◌∙◌, ◌<◌, ℕ, All, refl, sym, subst, arith}
+use Rattle.std.proofs.Common.{◌∙◌, ◌<◌, length, refl, ap, sym, subst, arith}
+use Rattle.std.proofs.lemmas.List.Elements.{All-map}
+use Rattle.lw_laws.specs.Names.{net_names}
+use Rattle.lw_match.specs.Values.{numbers}
+use Rattle.lw_naming.proofs.ClassNumbers.{classes_below}
 use Rattle.lw_netlist.specs.Netlists.{NetlistParts}
 use Rattle.lw_extract.specs.declared.choosing.Chosen.{Chosen}
+use Rattle.lw_extract.specs.Choosing.{chosen_classes}
 use Rattle.lw_extract.proofs.Assembly.{AreParts, classes_within, few_chosen, patterns_within, roots_have_nets, pins_have_nets, is_netlist, is_over, is_cover}
 use Rattle.lw_extract.proofs.extracting.assemble.Goals as goal
 
@@ -23,8 +28,10 @@ outputs_of-requires-clause-nets c =
 
 pub names_of-requires-clause-gates : goal.names_of-requires-clause-gates
 names_of-requires-clause-gates c =
+    let n = length c.args.graph.now.pairs in
+    let same = ap numbers c.as_slice.ensures ∙ c.in_ok-classes.ensures in
     let within = classes_within c.args.graph.now c.requires.chosen.0 c.args.pats.now c.requires.chosen.1 c.args.ports.now.roots c.args.chosen.now c.requires.chosen.4 c.requires.chosen.3 in
-    subst (λ (n : ℕ). All (λ (x : Chosen). x.class.0 < n) c.args.chosen.now) (sym c.classes.ensures.classes) within
+    classes_below n c.as_slice.result.now (chosen_classes c.args.chosen.now) same (All-map (λ k. k < n) (λ (x : Chosen). x.class.0) c.args.chosen.now within)
 
 pub new-requires : goal.new-requires
 new-requires c =
@@ -33,7 +40,7 @@ new-requires c =
       inputs = c.inputs-inputs.ensures.inputs;
       gates = c.in_ok-gates.ensures;
       model = c.in_ok-model.ensures ∙ c.as_bytes.ensures.bytes;
-      names = c.in_ok-names.ensures;
+      names = c.in_ok-names.ensures ∙ ap (net_names c.args.ports.now.inputs c.args.ports.now.outputs (numbers c.args.ports.now.roots)) (ap numbers c.as_slice.ensures ∙ c.in_ok-classes.ensures);
       output_names = c.in_ok-outputs.ensures.names;
       output_nets = c.in_ok-outputs.ensures.nets;
     } in
@@ -46,12 +53,12 @@ returns-clause-cover c = λ costs marks are.
       inputs = c.inputs-inputs.ensures.inputs;
       gates = c.in_ok-gates.ensures;
       model = c.in_ok-model.ensures ∙ c.as_bytes.ensures.bytes;
-      names = c.in_ok-names.ensures;
+      names = c.in_ok-names.ensures ∙ ap (net_names c.args.ports.now.inputs c.args.ports.now.outputs (numbers c.args.ports.now.roots)) (ap numbers c.as_slice.ensures ∙ c.in_ok-classes.ensures);
       output_names = c.in_ok-outputs.ensures.names;
       output_nets = c.in_ok-outputs.ensures.nets;
     } in
     is_cover c.args.graph.now costs c.args.pats.now marks c.args.ports.now.roots c.args.chosen.now are c.args.nets.now c.requires.nets c.args.ports.now c.new.result
-    (subst (λ m. AreParts c.args.graph.now c.args.pats.now c.args.ports.now c.args.chosen.now c.args.nets.now m) (sym c.new.ensures) parts) refl c.in_ok-classes_of.field-0 c.in_ok-classes_of.ensures
+    (subst (λ m. AreParts c.args.graph.now c.args.pats.now c.args.ports.now c.args.chosen.now c.args.nets.now m) (sym c.new.ensures) parts) refl c.in_ok-classes.classes c.in_ok-classes.ensures
 
 pub returns-clause-over : goal.returns-clause-over
 returns-clause-over c =
@@ -60,7 +67,7 @@ returns-clause-over c =
       inputs = c.inputs-inputs.ensures.inputs;
       gates = c.in_ok-gates.ensures;
       model = c.in_ok-model.ensures ∙ c.as_bytes.ensures.bytes;
-      names = c.in_ok-names.ensures;
+      names = c.in_ok-names.ensures ∙ ap (net_names c.args.ports.now.inputs c.args.ports.now.outputs (numbers c.args.ports.now.roots)) (ap numbers c.as_slice.ensures ∙ c.in_ok-classes.ensures);
       output_names = c.in_ok-outputs.ensures.names;
       output_nets = c.in_ok-outputs.ensures.nets;
     } in

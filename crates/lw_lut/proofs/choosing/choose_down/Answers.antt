@@ -1,13 +1,18 @@
-use Rattle.std.proofs.Common.{◌≡◌, ◌∙◌, ◌-◌, ◌<◌, suc, All, false, length, reverse, drop, get_or, sym, ap, subst, subst₂, arith}
-use Rattle.std.proofs.lemmas.List.{get_or_read}
+use Rattle.std.proofs.Common.{◌≡◌, ◌∙◌, ◌-◌, ◌<◌, ◌≤◌, suc, [], ◌∷◌, All, List, false, length, reverse, drop, get_or, sym, ap, subst, subst₂, arith}
+use Rattle.std.proofs.lemmas.List.{get_or_read, reverse-append}
+use Rattle.std.proofs.lemmas.List.Elements.{All-nil, All-cons}
 use Rattle.lw_pool.specs.declared.id.ClassId.{ClassId}
 use Rattle.lw_lut.specs.Choosing.{AreRoots, HasAlso}
 use Rattle.lw_lut.specs.declared.choosing.Place.{Place}
+use Rattle.lw_lut.specs.declared.table.Table.{Table}
 use Rattle.lw_lut.proofs.Descent.{IsDown, down_start, drop_all, turn_class, turn_cut, turn_fanins, turn_skip, turn_take, turns_end}
 use Rattle.lw_lut.proofs.choosing.choose_down.Goals as goal
 
 abbrev none : Place
 none = record { depth = 0; class = record { 0 = 0 } }
+
+abbrev HasFew : Table → Type 0
+HasFew t = length t.fanins ≤ 6
 
 pub loop-k-init : goal.loop-k-init
 loop-k-init c =
@@ -17,6 +22,7 @@ loop-k-init c =
     record {
       one_each = roots.one_each;
       down = λ g most least. subst₂ (λ seen ups. IsDown g most lists.depths c.args.roots.now seen needed ups) (sym (drop_all c.args.places.now)) (ap reverse (sym c.new-tables.ensures.items)) (down_start g most lists.depths c.args.roots.now needed roots);
+      few = subst (λ (ts : List Table). All HasFew (reverse ts)) (sym c.new-tables.ensures.items) (All-nil HasFew);
     }
 
 pub index-requires : goal.index-requires
@@ -60,6 +66,7 @@ loop-k-preserved-in-Continue-branch-3 c =
           let flag = sym (get_or_read needed (get_or places k none).class.0 c.index.result.now (omega (arith, below, c.loop-k.invariant.one_each)) c.index.ensures false) ∙ c.if-index.true in
           let old = subst (λ n. IsDown g most lists.depths c.args.roots.now (drop n places) needed (reverse c.loop-k.tables.items)) (sym next) (c.loop-k.invariant.down g most least) in
           turn_take g most lists least c.args.roots.now places c.requires.places k none lt needed new c.loop-k.tables.items c.push.new.self.items c.cut.result.now c.cut.ensures t c.in_ok-table.ensures.out c.in_ok-table.ensures.rising c.in_ok-table.ensures.same c.in_ok-table.ensures.few c.in_ok-table.ensures.bits flag also c.in_ok-push.ensures.items old;
+      few = subst (λ (ts : List Table). All HasFew (reverse ts)) (sym c.in_ok-push.ensures.items) (subst (All HasFew) (sym (reverse-append c.loop-k.tables.items (t ∷ []))) (All-cons HasFew t (reverse c.loop-k.tables.items) c.in_ok-table.ensures.six c.loop-k.invariant.few));
     }
 
 pub loop-k-preserved : goal.loop-k-preserved
@@ -77,10 +84,11 @@ loop-k-preserved c =
           let flag = sym (get_or_read needed (get_or places k none).class.0 c.index.result.now (omega (arith, below, c.loop-k.invariant.one_each)) c.index.ensures false) ∙ c.if-index.false in
           let old = subst (λ n. IsDown g most lists.depths c.args.roots.now (drop n places) needed (reverse c.loop-k.tables.items)) (sym next) (c.loop-k.invariant.down g most least) in
           turn_skip g most lists least c.args.roots.now places c.requires.places k none needed c.loop-k.tables.items lt flag old;
+      few = c.loop-k.invariant.few;
     }
 
-pub returns : goal.returns
-returns c = λ g most least covered.
+pub returns-clause-tables : goal.returns-clause-tables
+returns-clause-tables c = λ g most least covered.
     let lists = c.args.depths.now in
     let places = c.args.places.now in
     let end : c.loop-k.k ≡ 0 = let f = c.loop-k-test.false in omega (arith, f) in

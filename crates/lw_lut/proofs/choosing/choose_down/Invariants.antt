@@ -1,6 +1,7 @@
-use Rattle.std.proofs.Common.{◌≡◌, ℕ, length, reverse, drop}
+use Rattle.std.proofs.Common.{◌≡◌, ◌≤◌, ℕ, All, length, reverse, drop}
 use Rattle.lw_laws.specs.Graphs.{Graph}
 use Rattle.lw_lut.specs.Depths.{AreLeastDepths}
+use Rattle.lw_lut.specs.declared.table.Table.{Table}
 use Rattle.lw_lut.proofs.Descent.{IsDown}
 use Rattle.lw_lut.proofs.choosing.choose_down.Given as goal
 
@@ -8,4 +9,5 @@ abbrev pub invariant-loop-k : goal.invariant-loop-k
 invariant-loop-k l = record {
   one_each : length l.needed.items ≡ length l.depths.depths;
   down : (g : Graph) (most : ℕ) → AreLeastDepths g most l.depths → IsDown g most l.depths.depths l.roots (drop l.k l.places) l.needed.items (reverse l.tables.items);
+  few : All (λ (t : Table). length t.fanins ≤ 6) (reverse l.tables.items);
 }

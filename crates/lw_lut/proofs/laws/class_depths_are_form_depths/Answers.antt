@@ -1,12 +1,4 @@
-use Rattle.std.proofs.Common.{◌≡◌, ◌≤◌, ℕ, Option, Some, None, refl}
-use Rattle.lw_laws.specs.Classes.{IsGraphOf, class_in}
-use Rattle.lw_laws.specs.Decompositions.{Occurs, listing_of}
-use Rattle.lw_laws.specs.Forms.{Form}
-use Rattle.lw_laws.specs.Graphs.{Graph}
-use Rattle.lw_laws.specs.Modes.{Mode}
-use Rattle.lw_laws.specs.Networks.{Network}
-use Rattle.lw_laws.proofs.GraphEncodes.{graph_trees}
-use Rattle.lw_lut.specs.Covers.{IsLeastDepth}
+use Rattle.lw_lut.proofs.FormDepths.{some_depth}
 use Rattle.lw_lut.proofs.laws.class_depths_are_form_depths.Goals as goal
 
 pub returns-clause-least : goal.returns-clause-least
@@ -16,12 +8,6 @@ returns-clause-least c = λ mode width net g wide is most f d occurs ((k, ok, u,
       attained = (k, ok, (trees f _ occurs).0 u, e);
       least = λ l good has. least l good ((trees f _ occurs).1 has);
     }
-
-some_depth : (mode : Mode) (width : ℕ) (net : Network) (g : Graph) → 2 ≤ width → IsGraphOf mode net.inputs (listing_of width net) g → (most : ℕ) (f : Form) (o : Option ℕ) → Occurs (listing_of width net) f → IsLeastDepth g most (class_in (listing_of width net) g f) o → (d : ℕ) × (o ≡ Some d)
-some_depth mode width net g wide is most f (Some d) occurs least = (d, refl)
-some_depth mode width net g wide is most f None occurs none =
-    let (t, has, again) = (is.classes f f occurs occurs).0 refl in
-    absurd (none t ((graph_trees mode width net g wide is f t occurs).1 has))
 
 pub returns-clause-some : goal.returns-clause-some
 returns-clause-some c = some_depth

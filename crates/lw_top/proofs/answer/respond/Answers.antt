@@ -18,6 +18,9 @@ returns-in-GateSimulation-clause-answered g c = rw c.in-GateSimulation.is c.simu
 pub returns-in-Counting-clause-answered : goal.returns-in-Counting-clause-answered
 returns-in-Counting-clause-answered g c = rw c.in-Counting.is c.count_files.ensures.answered
 
+pub returns-in-Tabling-clause-answered : goal.returns-in-Tabling-clause-answered
+returns-in-Tabling-clause-answered g c = rw c.in-Tabling.is c.table_files.ensures.answered
+
 pub returns-in-Drawing-clause-answered : goal.returns-in-Drawing-clause-answered
 returns-in-Drawing-clause-answered g c = rw c.in-Drawing.is c.draw_files.ensures.answered
 

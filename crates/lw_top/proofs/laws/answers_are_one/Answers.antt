@@ -1,5 +1,8 @@
-use Rattle.lw_top.proofs.One.{answer_one}
+use Rattle.lw_top.proofs.One.{answer_one, answers_alike}
 use Rattle.lw_top.proofs.laws.answers_are_one.Goals as goal
 
-pub returns : goal.returns
-returns c = answer_one
+pub returns-clause-one : goal.returns-clause-one
+returns-clause-one c = λ words files a b other. answer_one words other files a b
+
+pub returns-clause-refusal : goal.returns-clause-refusal
+returns-clause-refusal c = answers_alike

@@ -4,7 +4,7 @@ use Rattle.lw_top.specs.Answers.{IsAnswer}
 use Rattle.lw_top.specs.Telling.{Told}
 use Rattle.lw_top.proofs.InRange.{asked_in_range}
 use Rattle.lw_top.proofs.Whole.{unread, done, cut, complete}
-use Rattle.lw_top.proofs.Headline.{done-maps, named-lacks}
+use Rattle.lw_top.proofs.Headline.{done-maps, done-tables, named-lacks}
 use Rattle.lw_top.proofs.Checked.{done_checked}
 use Rattle.lw_top.proofs.Reached.{blamed}
 use Rattle.lw_top.proofs.Prefix.{told}
@@ -38,6 +38,11 @@ pub returns-clause-mapping : goal.returns-clause-mapping
 returns-clause-mapping g c = λ files is asks_for zero.
     let asks = rw c.deref.ensures.value at c.command_of-command.ensures in
     done-maps (map string_bytes c.args.words.now.items) (g.F.Shelf.files c.args.shelf.now) (g.F.Shelf.faults c.args.shelf.now) (g.F.Shelf.faults c.serve-outcome.new.shelf) g.O.Sink.taken g.O.Sink.is_finished g.O.Sink.faults c.args.out.now c.serve-outcome.new.out (Told g.E.Sink.taken g.E.Sink.faults c.args.err.now c.tell.new.err) asks_for c.serve-outcome.result (rw asks at c.serve-outcome.ensures.meets) files is (sym zero ∙ c.status.ensures)
+
+pub returns-clause-tables : goal.returns-clause-tables
+returns-clause-tables g c = λ files is asks_for zero.
+    let asks = rw c.deref.ensures.value at c.command_of-command.ensures in
+    done-tables (map string_bytes c.args.words.now.items) (g.F.Shelf.files c.args.shelf.now) (g.F.Shelf.faults c.args.shelf.now) (g.F.Shelf.faults c.serve-outcome.new.shelf) g.O.Sink.taken g.O.Sink.is_finished g.O.Sink.faults c.args.out.now c.serve-outcome.new.out (Told g.E.Sink.taken g.E.Sink.faults c.args.err.now c.tell.new.err) asks_for (c.answers_are_tables.ensures (map string_bytes c.args.words.now.items)) c.serve-outcome.result (rw asks at c.serve-outcome.ensures.meets) files is (sym zero ∙ c.status.ensures)
 
 pub returns-clause-no_cover : goal.returns-clause-no_cover
 returns-clause-no_cover g c = λ files is asks_for six.

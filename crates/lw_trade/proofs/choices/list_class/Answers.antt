@@ -38,7 +38,7 @@ loop-found-preserved c =
           let s = task c.args.graph.now c.args.pats.now cells starts in
           let xs = plain_rows c.loop-found.rows.items in
           let here = subst (λ ms. IsListingAt s (length c.args.graph.now.leaves) c.args.class.0 ms xs) first (c.loop-found.invariant.listing cells starts of_cells is) in
-          let next = listing_next s of_cells (length c.args.graph.now.leaves) c.args.class.0 m left xs (pattern_of c.get.result.now) c.get.ensures.listed here in
+          let next = listing_next s of_cells (length c.args.graph.now.leaves) c.args.class.0 m left xs (pattern_of c.get.result.now) c.requires.class c.get.ensures.listed here in
           let e = rows_push c.loop-found.rows.items _ in
           subst (λ rows. IsListingAt s (length c.args.graph.now.leaves) c.args.class.0 left (plain_rows rows)) (sym c.in_ok-push.ensures.items) (subst (IsListingAt s (length c.args.graph.now.leaves) c.args.class.0 left) (sym e) next);
     }

@@ -12,7 +12,7 @@ pub loop-input-preserved : goal.loop-input-preserved
 loop-input-preserved c pats cells starts =
     let s = task c.args.graph.now pats cells starts in
     let xs = plain_rows c.loop-input.rows.items in
-    let next = input_listed s c.loop-input.input c.leaf.result.0 xs c.leaf.ensures.class (c.loop-input.invariant pats cells starts) in
+    let next = input_listed s c.loop-input.input c.leaf.result.0 xs c.leaf.ensures.class c.leaf.ensures.within (c.loop-input.invariant pats cells starts) in
     let e = rows_push c.loop-input.rows.items _ in
     subst (λ rows. IsListing s (c.loop-input.input + 1) 0 (plain_rows rows)) (sym c.in_ok-push.ensures.items) (subst (IsListing s (c.loop-input.input + 1) 0) (sym e) next)
 

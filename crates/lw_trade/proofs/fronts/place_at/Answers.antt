@@ -1,5 +1,5 @@
 use Rattle.std.proofs.Common.{◌<◌, slice_index_or, length, arith}
-use Rattle.lw_trade.specs.declared.point.Point.{Point}
+use Rattle.lw_trade.specs.declared.found.Found.{Found}
 use Rattle.lw_trade.proofs.Lists.{got}
 use Rattle.lw_trade.proofs.Fronting.{none_before, last_before}
 use Rattle.lw_trade.proofs.fronts.place_at.Goals as goal
@@ -9,7 +9,7 @@ returns-in_default-clause-none c = none_before c.args.links.now.classes c.args.p
 
 pub returns-then-points-place-clause-some : goal.returns-then-points-place-clause-some
 returns-then-points-place-clause-some c =
-    let d : Point = record { time = record { 0 = 0 }; area = 0 } in
+    let d : Found = record { time = record { 0 = 0 }; area = 0; order = 0; choice = 0 } in
     let points = c.args.points.now in
     let place = c.in-Some.place in
     let lt : place < length points = omega (arith, c.in-Some.ensures.0, c.requires.one_each) in
@@ -17,7 +17,7 @@ returns-then-points-place-clause-some c =
 
 pub returns-clause-none : goal.returns-clause-none
 returns-clause-none c =
-    let d : Point = record { time = record { 0 = 0 }; area = 0 } in
+    let d : Found = record { time = record { 0 = 0 }; area = 0; order = 0; choice = 0 } in
     let points = c.args.points.now in
     let place = c.in-Some.place in
     let lt : place < length points = omega (arith, c.in-Some.ensures.0, c.requires.one_each) in

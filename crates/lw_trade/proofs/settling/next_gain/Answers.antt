@@ -1,12 +1,14 @@
-use Rattle.std.proofs.Common.{◌<◌, ◌≤◌, ◌∙◌, Some, None, true, length, slice_index_or, sym, ap, subst, subst₂, arith}
+use Rattle.std.proofs.Common.{◌≡◌, ◌<◌, ◌≤◌, ◌∙◌, Some, None, true, length, map, refl, slice_index_or, sym, ap, subst, subst₂, arith}
 use Rattle.std.proofs.lemmas.List.{length-map}
 use Rattle.lw_trade.specs.declared.choices.Row.{Row}
 use Rattle.lw_trade.specs.Areas.{total}
+use Rattle.lw_trade.specs.Backing.{Held, AreBacked, spot_in}
 use Rattle.lw_trade.specs.Fronts.{FrontState, IsTried}
 use Rattle.lw_trade.specs.Points.{task}
 use Rattle.lw_trade.specs.Pricing.{IsOfLibrary, IsWithin}
 use Rattle.lw_trade.specs.Rows.{plain_part, plain_row, plain_rows}
 use Rattle.lw_trade.specs.Settling.{Spot, spot, Has, HasAtMost, IsBest, IsGained, IsGaining, IsStill, IsStillFor}
+use Rattle.lw_trade.proofs.Backed.{backed_gained, reached_low}
 use Rattle.lw_trade.proofs.Lists.{got}
 use Rattle.lw_trade.proofs.Adding.{taken_waits, taken_less, total_set, row_at}
 use Rattle.lw_trade.proofs.Stepping.{taken_none, taken_had, taken_gained}
@@ -99,7 +101,7 @@ returns-then-branch-clause-gain c g pats st =
     let lt : c.in-Some.number < length c.args.rows.now = omega (arith, (still.waiting c.args.time c.in-Some.number w).1, length-map c.args.rows.now plain_row) in
     let at = row_at c.args.rows.now c.in-Some.number r lt c.index-rows-number.is in
     let best = subst (λ (f : FrontState). IsBest s f.spots (plain_part r.stand) c.args.time (Some c.in-Some-price.area)) c.loop-number.invariant.fronts (c.in-Some-price.ensures.best g pats) in
-    let tried = subst (IsTried c.loop-number.fronts c.gain.new.self (spot r.class.0 c.args.time c.in-Some-price.area)) c.if-branch.true c.in_ok-gain.ensures.tried in
+    let tried = subst (IsTried c.loop-number.fronts c.gain.new.self (spot r.class.0 c.args.time c.in-Some-price.area) c.in-Some.number) c.if-branch.true c.in_ok-gain.ensures.tried in
     let gained = subst (λ (f : FrontState). IsGained f.spots c.gain.new.self.spots (spot r.class.0 c.args.time c.in-Some-price.area)) c.loop-number.invariant.fronts tried.0 in
     (are, taken_gained s (plain_rows c.args.rows.now) c.args.time c.in-Some.number c.args.fronts.now.spots c.loop-number.queue c.take_at.new.self (plain_row r) within still c.in-Some.ensures at are c.in-Some-price.area c.gain.new.self.spots best gained)
 
@@ -112,8 +114,8 @@ returns-then-branch-clause-falls c =
     let w = taken_waits c.loop-number.queue c.take_at.new.self c.args.time c.in-Some.number within c.in-Some.ensures in
     let lt : c.in-Some.number < length c.args.rows.now = omega (arith, (still.waiting c.args.time c.in-Some.number w).1, length-map c.args.rows.now plain_row) in
     let in' = subst (λ (q : Row). q.class.0 < length c.args.fronts.now.least) (sym c.index-rows-number.is) (c.requires.classes c.in-Some.number r lt) in
-    let tried = subst (IsTried c.loop-number.fronts c.gain.new.self (spot r.class.0 c.args.time c.in-Some-price.area)) c.if-branch.true c.in_ok-gain.ensures.tried in
-    let tried' = subst (λ f. IsTried f c.gain.new.self (spot r.class.0 c.args.time c.in-Some-price.area) true) c.loop-number.invariant.fronts tried in
+    let tried = subst (IsTried c.loop-number.fronts c.gain.new.self (spot r.class.0 c.args.time c.in-Some-price.area) c.in-Some.number) c.if-branch.true c.in_ok-gain.ensures.tried in
+    let tried' = subst (λ f. IsTried f c.gain.new.self (spot r.class.0 c.args.time c.in-Some-price.area) c.in-Some.number true) c.loop-number.invariant.fronts tried in
     let at = got c.args.fronts.now.least r.class.0 0 in' in
     let falls = total_set c.args.fronts.now.least r.class.0 c.in-Some-price.area (slice_index_or c.args.fronts.now.least r.class.0 0) at (tried'.2 (slice_index_or c.args.fronts.now.least r.class.0 0) at) in
     (in', subst (λ xs. total xs < total c.args.fronts.now.least) (sym tried'.1) falls)
@@ -126,7 +128,7 @@ loop-number-smaller c =
 pub loop-number-preserved : goal.loop-number-preserved
 loop-number-preserved c =
     let r = c.index-rows-number.result in
-    let tried = subst (IsTried c.loop-number.fronts c.gain.new.self (spot r.class.0 c.args.time c.in-Some-price.area)) c.if-branch.false c.in_ok-gain.ensures.tried in
+    let tried = subst (IsTried c.loop-number.fronts c.gain.new.self (spot r.class.0 c.args.time c.in-Some-price.area) c.in-Some.number) c.if-branch.false c.in_ok-gain.ensures.tried in
     record {
       fronts = tried.0 ∙ c.loop-number.invariant.fronts;
       horizon = c.in-Some.ensures.0 ∙ c.loop-number.invariant.horizon;
@@ -149,3 +151,25 @@ returns-clause-gain c g pats st =
     let (same, over) = c.in_default.ensures in
     let here = subst (λ (f : FrontState). IsStill s (plain_rows c.args.rows.now) c.args.time f.spots c.loop-number.queue) (sym c.loop-number.invariant.fronts) still in
     ((are, subst (λ q. IsStill s (plain_rows c.args.rows.now) c.args.time c.loop-number.fronts.spots q) (sym same) here), subst (λ q. (t n : _) → Rattle.lw_trade.specs.Settling.Waits q t n → c.args.time < t) (sym same) over)
+
+pub returns-then-branch-clause-backed : goal.returns-then-branch-clause-backed
+returns-then-branch-clause-backed c g pats st backed =
+    let s = task g pats c.args.lib.now c.args.starts.now in
+    let r = c.index-rows-number.result in
+    let old = c.args.fronts.now in
+    let (are, still) = c.loop-number.invariant.still g pats st in
+    let within : c.args.time ≤ c.loop-number.queue.horizon = omega (arith, c.requires.time, c.loop-number.invariant.horizon) in
+    let w = taken_waits c.loop-number.queue c.take_at.new.self c.args.time c.in-Some.number within c.in-Some.ensures in
+    let lt : c.in-Some.number < length c.args.rows.now = omega (arith, (still.waiting c.args.time c.in-Some.number w).1, length-map c.args.rows.now plain_row) in
+    let at = row_at c.args.rows.now c.in-Some.number r lt c.index-rows-number.is in
+    let best = subst (λ (f : FrontState). IsBest s f.spots (plain_part r.stand) c.args.time (Some c.in-Some-price.area)) c.loop-number.invariant.fronts (c.in-Some-price.ensures.best g pats) in
+    let tried = subst (IsTried c.loop-number.fronts c.gain.new.self (spot r.class.0 c.args.time c.in-Some-price.area) c.in-Some.number) c.if-branch.true c.in_ok-gain.ensures.tried in
+    let tried' = subst (λ f. IsTried f c.gain.new.self (spot r.class.0 c.args.time c.in-Some-price.area) c.in-Some.number true) c.loop-number.invariant.fronts tried in
+    let same = subst (λ (f : FrontState). map spot_in f.held ≡ f.spots) c.loop-number.invariant.fronts c.in_ok-gain.ensures.spots in
+    let (order, gained) = tried'.3 in
+    let h : Held = record { spot = spot r.class.0 c.args.time c.in-Some-price.area; choice = c.in-Some.number; order = order } in
+    backed_gained old.held c.gain.new.self.held h gained s (plain_rows c.args.rows.now) old.spots same (λ k has. reached_low s k (still.reached k has)) (plain_row r) are at refl best backed
+
+pub returns-clause-backed : goal.returns-clause-backed
+returns-clause-backed c g pats st backed =
+    subst (λ (f : FrontState). AreBacked (task g pats c.args.lib.now c.args.starts.now) (plain_rows c.args.rows.now) f.held) (sym c.loop-number.invariant.fronts) backed

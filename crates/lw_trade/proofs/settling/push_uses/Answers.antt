@@ -3,7 +3,8 @@ use Rattle.lw_trade.specs.declared.uses.Use.{Use}
 use Rattle.lw_trade.specs.Links.{IsLast}
 use Rattle.lw_trade.specs.Points.{task}
 use Rattle.lw_trade.proofs.Lists.{get_in, got}
-use Rattle.lw_trade.proofs.Adding.{IsAdding, adding_first, adding_next, adding_over, place_measure, place_falls, use_from}
+use Rattle.lw_trade.proofs.Adding.{IsAdding, adding_first, adding_next, adding_over, use_from}
+use Rattle.lw_trade.proofs.Linking.{place_measure, place_falls}
 use Rattle.lw_trade.proofs.settling.push_uses.Goals as goal
 
 pub loop-next-init : goal.loop-next-init

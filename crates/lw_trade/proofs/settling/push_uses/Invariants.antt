@@ -1,4 +1,5 @@
-use Rattle.lw_trade.proofs.Adding.{IsAdding, place_measure}
+use Rattle.lw_trade.proofs.Adding.{IsAdding}
+use Rattle.lw_trade.proofs.Linking.{place_measure}
 use Rattle.lw_trade.proofs.settling.push_uses.Given as goal
 
 abbrev pub invariant-loop-next : goal.invariant-loop-next

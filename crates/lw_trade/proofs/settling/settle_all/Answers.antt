@@ -20,12 +20,15 @@ returns-then-len-gt-MOST_POINTS-clause-settled c g pats st us =
     let ((n, w), first) = c.in-Some.ensures in
     let later = still_later s xs now c.loop-time.fronts.spots c.loop-time.queue still c.in-Some.time first (still.waiting c.in-Some.time n w).0 in
     let ((are', still'), over) = c.in_ok-settle_at.ensures.still g pats (are, later) us in
-    let in_time : c.in-Some.time ≤ c.args.queue.now.horizon = omega (arith, w.0, c.loop-time.invariant.horizon) in (
-      c.in-Some.time,
-      in_time,
-      settled_to s xs c.in-Some.time c.settle_at.new.fronts.spots c.settle_at.new.queue still' c.in-Some.time (omega arith) (omega (arith, w.0, c.in_ok-settle_at.ensures.horizon)) over,
-      omega (arith, c.if-len-gt-MOST_POINTS.true, c.len.ensures),
-    )
+    let in_time : c.in-Some.time ≤ c.args.queue.now.horizon = omega (arith, w.0, c.loop-time.invariant.horizon) in
+    record {
+      now = c.in-Some.time;
+      in_time = in_time;
+      spots = c.settle_at.new.fronts.spots;
+      settled = settled_to s xs c.in-Some.time c.settle_at.new.fronts.spots c.settle_at.new.queue still' c.in-Some.time (omega arith) (omega (arith, w.0, c.in_ok-settle_at.ensures.horizon)) over;
+      apart = c.len.ensures.apart;
+      many = omega (arith, c.if-len-gt-MOST_POINTS.true, c.len.ensures.len);
+    }
 
 pub loop-time-smaller : goal.loop-time-smaller
 loop-time-smaller c =
@@ -51,6 +54,13 @@ loop-time-preserved c = record {
       let (still', over) = c.in_ok-settle_at.ensures.still g pats (are, later) us in
       let in_time : c.in-Some.time ≤ c.args.queue.now.horizon = omega (arith, w.0, c.loop-time.invariant.horizon) in
       (c.in-Some.time, in_time, still');
+  backed = λ g pats st us backed.
+      let s = task g pats c.args.lib.now c.args.starts.now in
+      let xs = plain_rows c.args.rows.now in
+      let (now, le, (are, still)) = c.loop-time.invariant.still g pats st us in
+      let ((n, w), first) = c.in-Some.ensures in
+      let later = still_later s xs now c.loop-time.fronts.spots c.loop-time.queue still c.in-Some.time first (still.waiting c.in-Some.time n w).0 in
+      c.in_ok-settle_at.ensures.backed g pats (are, later) us (c.loop-time.invariant.backed g pats st us backed);
 }
 
 pub returns-clause-settled : goal.returns-clause-settled

@@ -17,6 +17,7 @@ loop-class-preserved c = record {
       let (are, gaining) = subst (λ o. IsAfter s xs c.args.time next.fronts.spots next.queue o) c.in-Some.is (c.in_ok-class.ensures.gain g pats now) in
       let added = c.in_ok-push_uses.ensures.added g pats c.args.lib.now c.args.starts.now us in
       (are, uses_added s xs are c.args.time c.in-Some.class.0 next.fronts.spots next.queue c.push_uses.new.queue gaining added);
+  backed = λ g pats st us backed. c.in_ok-class.ensures.backed g pats (c.loop-class.invariant.still g pats st us) (c.loop-class.invariant.backed g pats st us backed);
 }
 
 pub returns-in_err-push_uses-clause-horizon : goal.returns-in_err-push_uses-clause-horizon
@@ -25,3 +26,6 @@ returns-in_err-push_uses-clause-horizon c = c.in_err-push_uses.ensures.horizon �
 pub returns-clause-still : goal.returns-clause-still
 returns-clause-still c g pats st us =
     subst (λ o. IsAfter (task g pats c.args.lib.now c.args.starts.now) (plain_rows c.args.rows.now) c.args.time c.next_gain.new.fronts.spots c.next_gain.new.queue o) c.in_default.is (c.in_ok-class.ensures.gain g pats (c.loop-class.invariant.still g pats st us))
+
+pub returns-clause-backed : goal.returns-clause-backed
+returns-clause-backed c g pats st us backed = c.in_ok-class.ensures.backed g pats (c.loop-class.invariant.still g pats st us) (c.loop-class.invariant.backed g pats st us backed)

@@ -2,6 +2,7 @@ use Rattle.std.proofs.Common.{◌≡◌, List, length}
 use Rattle.lw_laws.specs.Covers.{Pattern}
 use Rattle.lw_laws.specs.Graphs.{Graph}
 use Rattle.lw_trade.specs.Areas.{total}
+use Rattle.lw_trade.specs.Backing.{AreBacked}
 use Rattle.lw_trade.specs.Points.{task}
 use Rattle.lw_trade.specs.Rows.{plain_rows}
 use Rattle.lw_trade.specs.Settling.{IsStillFor}
@@ -13,6 +14,7 @@ invariant-loop-class l = record {
   count : length l.fronts.least ≡ length l.initial.fronts.least;
   horizon : l.queue.horizon ≡ l.initial.queue.horizon;
   still : (g : Graph) (pats : List Pattern) → IsStillFor (task g pats l.lib l.starts) (plain_rows l.rows) l.time l.initial.fronts.spots l.initial.queue → AreUses (task g pats l.lib l.starts) (plain_rows l.rows) l.links.classes l.uses → IsStillFor (task g pats l.lib l.starts) (plain_rows l.rows) l.time l.fronts.spots l.queue;
+  backed : (g : Graph) (pats : List Pattern) → IsStillFor (task g pats l.lib l.starts) (plain_rows l.rows) l.time l.initial.fronts.spots l.initial.queue → AreUses (task g pats l.lib l.starts) (plain_rows l.rows) l.links.classes l.uses → AreBacked (task g pats l.lib l.starts) (plain_rows l.rows) l.initial.fronts.held → AreBacked (task g pats l.lib l.starts) (plain_rows l.rows) l.fronts.held;
 }
 
 abbrev pub decreases-loop-class : goal.decreases-loop-class

@@ -1,11 +1,21 @@
-use Rattle.std.proofs.Common.{map, ap, ◌∙◌}
+use Rattle.std.proofs.Common.{[], map, cond, codes, ap, ap₂, sym, ◌∙◌}
 use Rattle.lw_io.proofs.Putting.{Puts-more}
-use Rattle.lw_verilog.proofs.PutParts.{Puts-is}
+use Rattle.lw_netlist.specs.Closing.{is_among}
+use Rattle.lw_mapped.proofs.TextParts.{get_or-any}
 use Rattle.lw_mapped.specs.Texts.{port_name}
-use Rattle.lw_verilog.specs.Texts.{wire_text}
+use Rattle.lw_verilog.specs.Texts.{declaration, wire_text}
+use Rattle.lw_verilog.proofs.PutParts.{Puts-is}
 use Rattle.lw_verilog.proofs.putting.put_wires.Goals as goal
 
-pub loop-name-preserved : goal.loop-name-preserved
-loop-name-preserved g c =
-    Puts-more (wire_text (map port_name c.args.outputs.now)) c.args.names.now c.loop-name.name-index c.name-item.result c.loop-name-test.true c.loop-name.invariant
-    (Puts-is c.put_wire.ensures (ap (wire_text (map port_name c.args.outputs.now)) (c.as_bytes.ensures.bytes ∙ c.name-item.is)))
+pub loop-place-preserved : goal.loop-place-preserved
+loop-place-preserved g c =
+    let names = c.args.names.now in
+    let outputs = map port_name c.args.outputs.now in
+    let place = c.loop-place.place in
+    let known = c.is_output-is_output.ensures.known ∙ ap (is_among outputs) (sym (get_or-any names place c.index-names-place.result [] c.loop-place-test.true)) in
+    let name = c.as_bytes.ensures.bytes ∙ c.index-names-place.is in
+    record {
+      stands = c.is_output-is_output.ensures.stands;
+      put = Puts-more (wire_text outputs) names place c.index-names-place.result c.loop-place-test.true c.loop-place.invariant.put
+          (Puts-is c.put_wire.ensures (ap₂ (λ b l. cond b [] (declaration (codes "wire ") l)) known name));
+    }

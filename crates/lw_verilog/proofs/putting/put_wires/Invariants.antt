@@ -2,8 +2,12 @@ use Rattle.std.proofs.Common.{map, take}
 use Rattle.std.specs.List.{flat_map}
 use Rattle.lw_io.specs.Waitings.{Puts}
 use Rattle.lw_mapped.specs.Texts.{port_name}
+use Rattle.lw_verilog.specs.Chains.{AreKnown}
 use Rattle.lw_verilog.specs.Texts.{wire_text}
 use Rattle.lw_verilog.proofs.putting.put_wires.Given as goal
 
-abbrev pub invariant-loop-name : goal.invariant-loop-name
-invariant-loop-name g l = Puts (g.S.Sink.taken l.initial.sink) (g.S.Sink.faults l.initial.sink) l.initial.waiting (g.S.Sink.taken l.sink) (g.S.Sink.faults l.sink) l.waiting (flat_map (wire_text (map port_name l.outputs)) (take l.name-index l.names))
+abbrev pub invariant-loop-place : goal.invariant-loop-place
+invariant-loop-place g l = record {
+  stands : AreKnown l.names (map port_name l.outputs) l.known.base l.known.flags;
+  put : Puts (g.S.Sink.taken l.initial.sink) (g.S.Sink.faults l.initial.sink) l.initial.waiting (g.S.Sink.taken l.sink) (g.S.Sink.faults l.sink) l.waiting (flat_map (wire_text (map port_name l.outputs)) (take l.place l.names));
+}

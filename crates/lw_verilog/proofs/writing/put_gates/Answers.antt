@@ -12,10 +12,13 @@ loop-gate-init g c =
     let taken = c.args.names.now ++ outputs in
     let long : length taken ≡ length c.args.names.now + length c.args.outputs.now = length-append c.args.names.now outputs ∙ ap (λ n. length c.args.names.now + n) (length-map c.args.outputs.now port_name) in
     record {
-      text = [];
-      puts = Puts-none;
-      whole = ap (λ n. gates_text c.args.lib.now c.args.names.now taken n 1 c.args.gates.now) (sym long);
-      few = omega (arith, long);
+      stands = c.new-taken.ensures;
+      put = record {
+        text = [];
+        puts = Puts-none;
+        whole = ap (λ n. gates_text c.args.lib.now c.args.names.now taken n 1 c.args.gates.now) (sym long);
+        few = omega (arith, long);
+      };
     }
 
 pub overflow_add-number : goal.overflow_add-number
@@ -23,36 +26,39 @@ overflow_add-number g c =
     let outputs = map port_name c.args.outputs.now in
     let taken = c.args.names.now ++ outputs in
     let long : length taken ≡ length c.args.names.now + length c.args.outputs.now = length-append c.args.names.now outputs ∙ ap (λ n. length c.args.names.now + n) (length-map c.args.outputs.now port_name) in
-    let most : c.skipped-count.result ≤ c.loop-gate.most = subst (λ k. k ≤ c.loop-gate.most) (sym c.skipped-count.ensures) (passed-le taken c.loop-gate.most c.loop-gate.number) in
-    omega (arith, long, most, c.loop-gate.invariant.few, c.loop-gate-test.true, c.room-room.ensures, c.room-room.type_inv)
+    let most : c.skipped-count.result ≤ c.loop-gate.most = subst (λ k. k ≤ c.loop-gate.most) (sym c.skipped-count.ensures.skipped) (passed-le taken c.loop-gate.most c.loop-gate.number) in
+    omega (arith, long, most, c.loop-gate.invariant.put.few, c.loop-gate-test.true, c.room-room.ensures, c.room-room.type_inv)
 
 pub overflow_sub-most : goal.overflow_sub-most
-overflow_sub-most g c = subst (λ k. k ≤ c.loop-gate.most) (sym c.skipped-count.ensures) (passed-le (c.args.names.now ++ map port_name c.args.outputs.now) c.loop-gate.most c.loop-gate.number)
+overflow_sub-most g c = subst (λ k. k ≤ c.loop-gate.most) (sym c.skipped-count.ensures.skipped) (passed-le (c.args.names.now ++ map port_name c.args.outputs.now) c.loop-gate.most c.loop-gate.number)
 
 pub overflow_add-number-in-loop-gate : goal.overflow_add-number-in-loop-gate
 overflow_add-number-in-loop-gate g c =
     let outputs = map port_name c.args.outputs.now in
     let taken = c.args.names.now ++ outputs in
     let long : length taken ≡ length c.args.names.now + length c.args.outputs.now = length-append c.args.names.now outputs ∙ ap (λ n. length c.args.names.now + n) (length-map c.args.outputs.now port_name) in
-    let most : c.skipped-count.result ≤ c.loop-gate.most = subst (λ k. k ≤ c.loop-gate.most) (sym c.skipped-count.ensures) (passed-le taken c.loop-gate.most c.loop-gate.number) in
-    omega (arith, long, most, c.loop-gate.invariant.few, c.loop-gate-test.true, c.room-room.ensures, c.room-room.type_inv)
+    let most : c.skipped-count.result ≤ c.loop-gate.most = subst (λ k. k ≤ c.loop-gate.most) (sym c.skipped-count.ensures.skipped) (passed-le taken c.loop-gate.most c.loop-gate.number) in
+    omega (arith, long, most, c.loop-gate.invariant.put.few, c.loop-gate-test.true, c.room-room.ensures, c.room-room.type_inv)
 
 pub overflow_add-number-in-loop-gate-2 : goal.overflow_add-number-in-loop-gate-2
 overflow_add-number-in-loop-gate-2 g c =
     let outputs = map port_name c.args.outputs.now in
     let taken = c.args.names.now ++ outputs in
     let long : length taken ≡ length c.args.names.now + length c.args.outputs.now = length-append c.args.names.now outputs ∙ ap (λ n. length c.args.names.now + n) (length-map c.args.outputs.now port_name) in
-    let most : c.skipped-count.result ≤ c.loop-gate.most = subst (λ k. k ≤ c.loop-gate.most) (sym c.skipped-count.ensures) (passed-le taken c.loop-gate.most c.loop-gate.number) in
-    omega (arith, long, most, c.loop-gate.invariant.few, c.loop-gate-test.true, c.room-room.ensures, c.room-room.type_inv)
+    let most : c.skipped-count.result ≤ c.loop-gate.most = subst (λ k. k ≤ c.loop-gate.most) (sym c.skipped-count.ensures.skipped) (passed-le taken c.loop-gate.most c.loop-gate.number) in
+    omega (arith, long, most, c.loop-gate.invariant.put.few, c.loop-gate-test.true, c.room-room.ensures, c.room-room.type_inv)
 
 pub loop-gate-preserved : goal.loop-gate-preserved
 loop-gate-preserved g c =
-    gate-put c.loop-gate.invariant c.loop-gate-test.true c.gate-item.result c.gate-item.is c.skipped-count.result c.skipped-count.ensures c.put_gate_of.ensures
+    record {
+      stands = c.skipped-count.ensures.stands;
+      put = gate-put c.loop-gate.invariant.put c.loop-gate-test.true c.gate-item.result c.gate-item.is c.skipped-count.result c.skipped-count.ensures.skipped c.put_gate_of.ensures;
+    }
 
 pub returns : goal.returns
 returns g c =
     let taken = c.args.names.now ++ map port_name c.args.outputs.now in
     let over : length c.args.gates.now ≤ c.loop-gate.gate-index = omega (arith, c.loop-gate-test.false) in
-    Puts-is c.loop-gate.invariant.puts
-    (sym (append-nil c.loop-gate.invariant.text)
-    ∙ (ap (λ l. c.loop-gate.invariant.text ++ l) (sym (gates-end c.args.lib.now c.args.names.now taken c.loop-gate.most c.loop-gate.number c.args.gates.now c.loop-gate.gate-index over)) ∙ c.loop-gate.invariant.whole))
+    Puts-is c.loop-gate.invariant.put.puts
+    (sym (append-nil c.loop-gate.invariant.put.text)
+    ∙ (ap (λ l. c.loop-gate.invariant.put.text ++ l) (sym (gates-end c.args.lib.now c.args.names.now taken c.loop-gate.most c.loop-gate.number c.args.gates.now c.loop-gate.gate-index over)) ∙ c.loop-gate.invariant.put.whole))

@@ -1,7 +1,7 @@
-use Rattle.std.proofs.Common.{◌≡◌, ◌<◌, ◌+◌, ◌++◌, ◌/◌, ◌∙◌, length, slice_set, ap, refl, sym, subst, subst₂, arith, true≢false}
+use Rattle.std.proofs.Common.{◌≡◌, ◌<◌, ◌≤◌, ◌+◌, ◌++◌, ◌/◌, ◌∙◌, length, slice_set, slice_index, ap, refl, sym, subst, subst₂, arith, true≢false}
 use Rattle.lw_lut.specs.Cuts.{PlainCut}
 use Rattle.lw_lut.specs.Searches.{AreLists, IsBoundedAt, count_at, total}
-use Rattle.lw_lut.proofs.Lowering.{lowered, lowered_total}
+use Rattle.lw_lut.proofs.Lowering.{lowered, lowered_total, lower_count}
 use Rattle.lw_lut.proofs.search.Search.lower.Goals as goal
 
 pub returns-in_default-clause-falls : goal.returns-in_default-clause-falls
@@ -56,3 +56,19 @@ returns-clause-falls c =
       same = λ e. absurd (true≢false e);
       bounded = λ e. absurd (true≢false e);
     }
+
+pub returns-clause-fewer : goal.returns-clause-fewer
+returns-clause-fewer c = λ k.
+    let (d, are) = c.requires.counts in
+    let s = c.args.self.now in
+    let g = c.args.graph.now in
+    let most = c.args.leaves in
+    let less : count_at s.counts.items c.in-Some.pair.x.0 + count_at s.counts.items c.in-Some.pair.y.0 < count_at s.counts.items c.args.class.0 = subst (λ xs. count_at xs c.in-Some.pair.x.0 + count_at xs c.in-Some.pair.y.0 < count_at xs c.args.class.0) c.deref.ensures.value c.in-Some.ensures.some.1 in
+    let top = are.low (c.args.class.0 / 2) in
+    let x = c.side-left.ensures g most d are (omega (arith, less, top)) in
+    let y = c.side-right.ensures g most d are (omega (arith, less, top)) in
+    let a = c.side-left.result in
+    let b = c.side-right.result in
+    let here = c.args.class.0 / 2 in
+    let n : length c.pins.result.now ≡ length (a.pins ++ b.pins) = ap length (c.pins.ensures.pins ∙ ap (λ (k : PlainCut). k.pins) c.joined-cut.ensures) in
+    subst (λ m. slice_index (slice_set s.counts.items here m) k ≤ slice_index s.counts.items k) (sym n) (lower_count g most d s are c.args.class.0 c.in-Some.pair.x.0 c.in-Some.pair.y.0 c.requires.class c.in-Some.ensures.some.0 less a b x y k)

@@ -1,6 +1,7 @@
-use Rattle.std.proofs.Common.{◌≡◌, length}
+use Rattle.std.proofs.Common.{◌≡◌, ◌≤◌, ℕ, length, slice_index}
 use Rattle.lw_laws.specs.Graphs.{Graph}
-use Rattle.lw_lut.specs.Searches.{AreSettled, AreSettling}
+use Rattle.lw_lut.specs.Reaches.{AreBoundedBut, AreKnownBut, AreReaches}
+use Rattle.lw_lut.specs.Searches.{AreBounded, AreSettled, AreSettling}
 use Rattle.lw_lut.proofs.search.Search.settle_all.Given as goal
 
 abbrev pub invariant-loop-place : goal.invariant-loop-place
@@ -9,5 +10,8 @@ invariant-loop-place l = record {
   pins : length l.self.pins.items ≡ length l.initial.self.pins.items;
   depths : length l.self.depths.items ≡ length l.initial.self.depths.items;
   lists : (g : Graph) → AreSettling g l.leaves l.depth l.initial.self → AreSettling g l.leaves l.depth l.self;
-  settled : (g : Graph) → AreSettling g l.leaves l.depth l.initial.self → AreSettled l.leaves l.depth l.initial.self l.self l.place l.changed;
+  settled : (g : Graph) → AreSettling g l.leaves l.depth l.initial.self → AreKnownBut l.leaves l.initial.self.counts.items l.initial.self.depths.items l.fn.swept → AreSettled l.leaves l.depth l.initial.self l.self l.place l.changed;
+  within : l.place ≤ length l.initial.self.counts.items;
+  few : (k : ℕ) → slice_index l.self.counts.items k ≤ l.leaves → slice_index l.initial.self.counts.items k ≤ l.leaves;
+  bounded : (g : Graph) → AreReaches g l.reach → AreBounded g l.initial.self.counts.items → AreBoundedBut g l.self.counts.items l.next;
 }

@@ -1,10 +1,11 @@
-use Rattle.std.proofs.Common.{◌≡◌, ◌∙◌, ◌<◌, ◌≤◌, Some, length, slice_get, slice_set, refl, sym, ap, subst, arith}
+use Rattle.std.proofs.Common.{◌≡◌, ◌∙◌, ◌<◌, ◌≤◌, Some, length, map, slice_get, slice_set, refl, sym, ap, subst, arith}
 use Rattle.std.proofs.lemmas.List.{length-set}
 use Rattle.std.proofs.lemmas.Option.{same_Some}
-use Rattle.lw_trade.specs.Fronts.{FrontState, spots_of, IsLeastOf}
+use Rattle.lw_trade.specs.Backing.{Held, IsHeld, IsHeldGained, spot_in}
+use Rattle.lw_trade.specs.Fronts.{FrontState, spots_of, held_of, IsLeastOf}
 use Rattle.lw_trade.specs.Settling.{Spot, spot, Has, HasAtMost, IsGained}
 use Rattle.lw_trade.proofs.Lists.{read_at}
-use Rattle.lw_trade.proofs.Fronting.{least_had, least_all}
+use Rattle.lw_trade.proofs.Fronting.{least_had, least_all, orders_gained, held_spots}
 use Rattle.lw_trade.proofs.fronts.Fronts.gain.Goals as goal
 
 pub returns-then-index-area-clause-tried : goal.returns-then-index-area-clause-tried
@@ -34,6 +35,7 @@ invariant_of-self c = record {
   count = c.in_err-put.ensures.count ∙ c.self.invariant.count;
   apart = c.in_err-put.ensures.apart;
   least_is = λ d a e. subst (λ xs. IsLeastOf xs d a) (sym c.in_err-put.ensures.err) (c.self.invariant.least_is d a e);
+  orders = subst (λ hs. (h : Held) → IsHeld hs h → h.order < c.self.inside.gains) (sym c.in_err-put.ensures.held_err) c.self.invariant.orders;
 }
 
 pub invariant_of-self-2 : goal.invariant_of-self-2
@@ -49,6 +51,7 @@ invariant_of-self-2 c =
       count = c.in_ok-put.ensures.count ∙ (c.self.invariant.count ∙ sym (length-set least c.args.class.0 c.args.area));
       apart = c.in_ok-put.ensures.apart;
       least_is = least_all spots next (spot c.args.class.0 c.args.time c.args.area) c.in_ok-put.ensures.gained least c.requires.area below c.self.invariant.least_is;
+      orders = orders_gained (held_of c.self.inside.links.classes c.self.inside.points.items) (held_of c.put.new.links.classes c.put.new.points.items) _ c.self.inside.gains c.in_ok-put.ensures.held refl c.self.invariant.orders;
     }
 
 pub returns-clause-tried : goal.returns-clause-tried
@@ -64,4 +67,17 @@ returns-clause-tried c =
           let here = subst (λ (s : FrontState). slice_get s.least c.args.class.0 ≡ Some area) (sym c.self.view_is) e in
           let same = same_Some c.index.result.now area (sym at ∙ here) in
           omega (arith, same, c.if-index-area.false),
+      (c.self.inside.gains, subst (λ (s : FrontState). IsHeldGained s.held (held_of c.put.new.links.classes c.put.new.points.items) (record { spot = spot c.args.class.0 c.args.time c.args.area; choice = c.args.choice; order = c.self.inside.gains })) c.self.view_is c.in_ok-put.ensures.held),
     )
+
+pub returns-then-index-area-clause-spots : goal.returns-then-index-area-clause-spots
+returns-then-index-area-clause-spots c = subst (λ (s : FrontState). map spot_in s.held ≡ s.spots) c.self.view_is (held_spots c.self.inside.links.classes c.self.inside.points.items)
+
+pub returns-then-self-clause-spots : goal.returns-then-self-clause-spots
+returns-then-self-clause-spots c = subst (λ (s : FrontState). map spot_in s.held ≡ s.spots) c.self.view_is (held_spots c.self.inside.links.classes c.self.inside.points.items)
+
+pub returns-in_err-put-clause-spots : goal.returns-in_err-put-clause-spots
+returns-in_err-put-clause-spots c = subst (λ (s : FrontState). map spot_in s.held ≡ s.spots) c.self.view_is (held_spots c.self.inside.links.classes c.self.inside.points.items)
+
+pub returns-clause-spots : goal.returns-clause-spots
+returns-clause-spots c = subst (λ (s : FrontState). map spot_in s.held ≡ s.spots) c.self.view_is (held_spots c.self.inside.links.classes c.self.inside.points.items)

@@ -1,6 +1,0 @@
-use Rattle.std.proofs.Common.{take}
-use Rattle.lw_extract.specs.Naming.{HoldsAlso}
-use Rattle.lw_extract.proofs.name_set.NameSet.add_all.Given as goal
-
-abbrev pub invariant-loop-name : goal.invariant-loop-name
-invariant-loop-name l = HoldsAlso l.initial.self l.self (take l.name-index l.names)

@@ -1,0 +1,36 @@
+// Places of nets.
+ghost use Rattle.std.specs.Prelude.{◌≡◌, ◌+◌, ◌<◌, ◌^◌, ◌++◌, ℕ, Some, All, IfOk, length, slice_get};
+ghost use Rattle.lw_lut.specs.Cuts.{numbers};
+ghost use Rattle.lw_lut.specs.Nets.{table_classes};
+ghost use Rattle.lw_lut.specs.Placed.{HasPlaces};
+
+use crate::table::Table;
+use lw_pool::ClassId;
+use std::alloc::{AllocError, Global};
+
+// At each class of an input or a table its place among the inputs and then the tables, which have
+// different classes.
+pub(crate) fn places_of(
+    alloc: Global,
+    classes: usize,
+    inputs: &[ClassId],
+    tables: &[Table],
+) -> Result<Vec<u32>, AllocError>
+    requires few { length inputs.now + length tables.now < 2 ^ 32 }
+    requires inputs { All (λ input. input.0 < classes) inputs.now }
+    requires tables { All (λ x. x.out.0 < classes) tables.now }
+    requires once { (i j c : ℕ) →
+        slice_get (numbers inputs.now ++ table_classes tables.now) i ≡ Some c →
+        slice_get (numbers inputs.now ++ table_classes tables.now) j ≡ Some c → i ≡ j }
+    ensures { IfOk result (λ places.
+        HasPlaces (numbers inputs.now ++ table_classes tables.now) places.items) }
+{
+    let mut places = vec![in alloc; 0; classes]?;
+    for input in 0..inputs.len() {
+        places[inputs[input].0 as usize] = input as u32;
+    }
+    for k in 0..tables.len() {
+        places[tables[k].out.0 as usize] = (inputs.len() + k) as u32;
+    }
+    Ok(places)
+}

@@ -1,0 +1,52 @@
+// Which classes hold pairs with a class.
+ghost use Rattle.std.specs.Prelude.{◌≡◌, ◌-◌, ◌*◌, ◌/◌, ◌<◌, ◌^◌, ℕ, All, Contains, IfOk, length};
+ghost use Rattle.lw_graph.specs.declared.pair.Pair.{Pair};
+ghost use Rattle.lw_lut.specs.Reaches.{AreReaches, IsIn, IsWithin, span_at};
+ghost use Rattle.lw_lut.specs.declared.span.Span.{Span};
+
+use crate::span::Span;
+use lw_graph::{Graph, Pair};
+use lw_pool::ClassId;
+use std::alloc::{AllocError, Global};
+
+// Notes that a class holds a pair with another.
+fn note(reach: &mut Vec<Span>, end: ClassId, class: ClassId)
+    requires end { end.0 / 2 < length reach.old.items }
+    requires class { class.0 < 2 ^ 32 - 1 }
+    ensures one_each { length reach.new.items ≡ length reach.old.items }
+    ensures grown { (k : ℕ) → IsWithin (span_at reach.old.items k) (span_at reach.new.items k) }
+    ensures noted { IsIn (span_at reach.new.items (end.0 / 2)) class.0 }
+{
+    let place = (end.0 / 2) as usize;
+    reach[place] = reach[place].with(class);
+}
+
+// Notes the pairs of a class.
+fn note_row(reach: &mut Vec<Span>, class: ClassId, row: &[Pair])
+    requires ends { All (λ (p : Pair). (p.x.0 / 2 < length reach.old.items) ×
+        (p.y.0 / 2 < length reach.old.items)) row.now }
+    requires class { class.0 < 2 ^ 32 - 1 }
+    ensures one_each { length reach.new.items ≡ length reach.old.items }
+    ensures grown { (k : ℕ) → IsWithin (span_at reach.old.items k) (span_at reach.new.items k) }
+    ensures noted { (p : Pair) → Contains row.now p →
+        IsIn (span_at reach.new.items (p.x.0 / 2)) class.0 ×
+        IsIn (span_at reach.new.items (p.y.0 / 2)) class.0 }
+{
+    for pair in row {
+        note(reach, pair.x, class);
+        note(reach, pair.y, class);
+    }
+}
+
+// For the place of each class the span of those that hold a pair with one of its classes.
+pub(crate) fn reaches(alloc: Global, graph: &Graph) -> Result<Vec<Span>, AllocError>
+    ensures one_each { IfOk result (λ reach. length graph.now.pairs ≡ 2 * length reach.items) }
+    ensures reaches { IfOk result (λ reach. AreReaches graph.now reach.items) }
+{
+    let classes = graph.classes();
+    let mut reach = vec![in alloc; Span::nothing(); (classes / 2) as usize]?;
+    for class in 0..classes {
+        note_row(&mut reach, ClassId(class), graph.nands(ClassId(class)));
+    }
+    Ok(reach)
+}

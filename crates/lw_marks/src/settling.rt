@@ -1,0 +1,179 @@
+// Stores against the matches of cursors, and marks that are settled against those that are found in
+// rounds, in graphs that are drawn.
+ghost use Rattle.std.specs.Prelude.{◌≡◌, ◌<◌, ℕ, length, map, OnOk};
+ghost use Rattle.lw_genlib.specs.Tables.{delays_of_cells};
+ghost use Rattle.lw_match.specs.Least.{AreOfCells};
+
+use crate::drawing::{Dice, Size, drawn_graph};
+use crate::finding::LIBRARIES;
+use crate::libraries::{library_of, no_starts, patterns_of};
+use crate::plain::all_matches;
+use crate::steep::SteepCost;
+use lw_genlib::Library;
+use lw_graph::Graph;
+use lw_label::{DelayCost, relabel};
+use lw_match::{Cost, Mark, Match};
+use lw_pattern::Patterns;
+use lw_pool::ClassId;
+use lw_settle::{Store, settle, store_matches};
+use std::alloc::{AllocError, Global};
+use std::process::Abort;
+use std::test::Fail;
+
+/// What is drawn with each library: inputs, further base forms, facts and links, and how many
+/// graphs.
+const SIZES: [(u32, u32, u32, u32, u32); 3] = [(1, 3, 4, 0, 8), (3, 6, 9, 1, 4), (4, 8, 16, 2, 2)];
+
+/// A class, and the classes of the pins of a match at it, in order.
+type Line = (usize, Vec<u32>);
+
+// The matches of cursors.
+fn lines_of(alloc: Global, matches: &[Vec<Match>]) -> Result<Vec<Line>, AllocError> {
+    let mut lines = Vec::new(alloc);
+    for (class, at) in matches.iter().enumerate() {
+        for found in at {
+            let mut pins = Vec::new(alloc);
+            for pin in found.pins.as_slice() {
+                pins.push(pin.0)?;
+            }
+            pins.sort()?;
+            lines.push((class, pins))?;
+        }
+    }
+    Ok(lines)
+}
+
+// Adds a class to the matches that its uses tell.
+fn add_uses(store: &mut Store, class: ClassId, lines: &mut [Line]) -> Result<(), AllocError>
+    requires { class.0 < length store.old.lists }
+    ensures { OnOk result (store.new.lists ≡ store.old.lists) }
+{
+    for n in 0..store.uses(class) {
+        if store.done() < 1_000_000_000 {
+            let place = store.use_at(class, n);
+            if let Some((_class, pins)) = lines.get_mut(place as usize) {
+                pins.push(class.0)?;
+            }
+        }
+    }
+    Ok(())
+}
+
+// The matches of a store: their classes by their heads, and their pins by the uses of each class.
+fn stored_lines(alloc: Global, store: &mut Store, graph: &Graph) -> Result<Vec<Line>, AllocError>
+    requires { length store.old.lists ≡ length graph.now.pairs }
+{
+    let mut lines = Vec::new(alloc);
+    for place in 0..store.matches() {
+        lines.push((store.head(place).class.0 as usize, Vec::new(alloc)))?;
+    }
+    for class in 0..graph.classes() {
+        add_uses(store, ClassId(class), &mut lines)?;
+    }
+    Ok(lines)
+}
+
+// How often settling reads a match: once for each pin that has a mark, and once where all have one.
+fn steps_of(marks: &[Option<Mark>], matches: &[Vec<Match>]) -> u64 {
+    let mut steps: u64 = 0;
+    for found in matches.iter().flatten() {
+        let pins = found.pins.as_slice();
+        let marked = pins
+            .iter()
+            .filter(|pin| marks.get(pin.0 as usize).copied().flatten().is_some())
+            .count();
+        let priced = if marked == pins.len() { 1 } else { 0 };
+        steps = steps.saturating_add(marked as u64).saturating_add(priced);
+    }
+    steps
+}
+
+// Settles a graph by a cost whose inputs cost nothing, and compares with marks by rounds.
+fn check_cost<C: Cost>(
+    rt: &impl Abort,
+    alloc: Global,
+    graph: &Graph,
+    pats: &Patterns,
+    cost: &C,
+    matches: &[Vec<Match>],
+) -> Result<(), Fail>
+    requires of_cells { AreOfCells (C.costs cost.now).pin_counts pats.now }
+    requires none { (i : ℕ) → (C.costs cost.now).leaf i ≡ 0 }
+{
+    let mut store = store_matches(alloc, graph, pats)?;
+    let settled = settle(alloc, &mut store, graph, cost)?;
+    let labels = relabel(alloc, graph, pats, cost)?;
+    assert_eq!(rt; settled.marks(), labels.marks());
+    assert_eq!(rt; store.done(), steps_of(labels.marks(), matches));
+    Ok(())
+}
+
+fn check_store(
+    rt: &impl Abort,
+    alloc: Global,
+    graph: &Graph,
+    pats: &Patterns,
+    matches: &[Vec<Match>],
+) -> Result<(), Fail> {
+    let mut store = store_matches(alloc, graph, pats)?;
+    let mut stored = stored_lines(alloc, &mut store, graph)?;
+    stored.sort()?;
+    let mut wanted = lines_of(alloc, matches)?;
+    wanted.sort()?;
+    assert_eq!(rt; stored, wanted);
+    Ok(())
+}
+
+fn check_graph(
+    rt: &impl Abort,
+    alloc: Global,
+    lib: &Library,
+    pats: &Patterns,
+    graph: &Graph,
+) -> Result<(), Fail>
+    requires { AreOfCells (map length (delays_of_cells lib.now)) pats.now }
+{
+    let matches = all_matches(alloc, graph, pats)?;
+    check_store(rt, alloc, graph, pats, &matches)?;
+    let starts = no_starts(alloc);
+    check_cost(
+        rt,
+        alloc,
+        graph,
+        pats,
+        &DelayCost::new(lib, &starts),
+        &matches,
+    )?;
+    for (from, rise) in [(0, 1), (3, 1_000)] {
+        let cost = SteepCost { lib, from, rise };
+        check_cost(rt, alloc, graph, pats, &cost, &matches)?;
+    }
+    Ok(())
+}
+
+fn check_library(rt: &impl Abort, alloc: Global, text: &str, dice: &mut Dice) -> Result<(), Fail> {
+    let lib = library_of(alloc, text)?;
+    let pats = patterns_of(alloc, &lib)?;
+    for (inputs, forms, facts, links, count) in SIZES {
+        let size = Size {
+            inputs,
+            forms,
+            facts,
+            links,
+        };
+        for _graph in 0..count {
+            let graph = drawn_graph(alloc, dice, size)?;
+            check_graph(rt, alloc, &lib, &pats, &graph)?;
+        }
+    }
+    Ok(())
+}
+
+#[test]
+fn stores_settle_as_rounds(rt: HostRuntime) -> Result<(), Fail> {
+    let mut dice = Dice::new(28);
+    for text in LIBRARIES {
+        check_library(&rt, rt.alloc(), text, &mut dice)?;
+    }
+    Ok(())
+}

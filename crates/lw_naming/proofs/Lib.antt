@@ -1,0 +1,5 @@
+pub mod ClassNumbers
+pub mod FreeNames
+pub mod NameCount
+mod NamesGiven
+mod NamesHeld

@@ -1,0 +1,49 @@
+-- An answer with a text of tables.
+use Rattle.std.proofs.Common.{◌≡◌, inl, inr, ℕ, List, Some, Ok, Err, subst, All}
+use Rattle.lw_blif.specs.declared.parsed.Parsed.{Parsed}
+use Rattle.lw_mapped.specs.Readable as mapped
+use Rattle.lw_lut.specs.Readable.{IsSignalName, IsReadableLatch}
+use Rattle.lw_pool.specs.declared.latch.Latch.{Latch}
+use Rattle.lw_map.specs.Options.{Options}
+use Rattle.lw_map.specs.Tabled.{HasReadableNames}
+use Rattle.lw_top.specs.Steps.{Files, Step, followed_by}
+use Rattle.lw_top.specs.Tables.{IsTablesText, Tabulates}
+use Rattle.lw_top.specs.Answers.{ReadsModel, IsTablingAnswer}
+use Rattle.lw_top.proofs.Accepted.{names_read}
+use Rattle.lw_top.proofs.SignalNames.{IsNamed}
+use Rattle.lw_top.proofs.Sound.{AreKept}
+
+-- the model and its tables
+pub record IsTabulated (leaves : ℕ) (options : Options) (network : List ℕ) (files : Files) (text : List ℕ) : Type 0 where
+  pub model : Parsed
+  pub read : ReadsModel network files (Ok model)
+  pub comes : IsTablesText leaves options model text
+
+-- a step that another follows comes to something
+first_ok : {A B : Type 0} (first : Step A) (next : A → Step B) (files : Files) (b : B) → followed_by first next files (Ok b) → (x : A) × first files (Ok x) × next x files (Ok b)
+first_ok first next files b (inl there) = there
+first_ok first next files b (inr (e, refused, is)) = cc
+
+pub tabulated : (leaves : ℕ) (options : Options) (network : List ℕ) (files : Files) (text : List ℕ) → IsTablingAnswer leaves options network files (Ok text) → IsTabulated leaves options network files text
+tabulated leaves options network files text answer =
+    let (model, read, comes) = first_ok (ReadsModel network) (λ (model : Parsed). Tabulates leaves options model) files text answer in
+    record { model = model; read = read; comes = comes }
+
+-- the same names, for tables
+signal : (name : List ℕ) → mapped.IsSignalName name → IsSignalName name
+signal name is = record { word = is.word; no_hash = is.no_hash; ends = is.ends }
+
+signals : (names : List (List ℕ)) → All mapped.IsSignalName names → All IsSignalName names
+signals names all k d lt = signal _ (all k d lt)
+
+latch : (l : Latch) → mapped.IsReadableLatch l → IsReadableLatch l
+latch l is = record { input = signal l.input is.input; output = signal l.output is.output; rest = signals l.rest is.rest; few = is.few }
+
+pub readable_names : (model : Parsed) → IsNamed model → AreKept model → HasReadableNames model.network model.frame
+readable_names model named kept = record {
+  model = signal model.network.model named.model;
+  inputs = signals _ named.inputs;
+  outputs = signals _ named.outputs;
+  latches = λ k d lt. latch _ (named.latches k d lt);
+  frame_fits = kept.fits.frame;
+}

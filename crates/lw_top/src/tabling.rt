@@ -1,0 +1,30 @@
+// A network covered by lookup tables.
+ghost use Rattle.lw_blif.specs.BlifNetworks.{IsModel};
+ghost use Rattle.lw_map.specs.Options.{IsWide, plain_options};
+ghost use Rattle.lw_map.specs.Tabled.{AreLeaves};
+ghost use Rattle.lw_top.specs.Answered.{Gives};
+ghost use Rattle.lw_top.specs.Tables.{Tabulates};
+
+use crate::answer::Answer;
+use crate::refusal::Refusal;
+use lw_blif::Parsed;
+use lw_map::{Options, decompose, tabulate};
+use std::alloc::Global;
+
+/// What a model comes to in lookup tables of at most `leaves` fan-ins, or why there are none.
+pub(crate) fn table_model(
+    alloc: Global,
+    model: Parsed,
+    options: Options,
+    leaves: u8,
+) -> Result<Answer, Refusal>
+    requires leaves { AreLeaves leaves }
+    requires wide { IsWide (plain_options options) }
+    requires model { IsModel model }
+    ensures { Gives (Tabulates leaves (plain_options options) model) result }
+{
+    let _ = model.network.inputs();
+    let choices = decompose(alloc, &model.network, options)?;
+    let net = tabulate(alloc, &model.network, &choices, leaves)?;
+    Ok(Answer::Tables(net, model.frame))
+}

@@ -1,0 +1,170 @@
+-- Nets that are built from points stand for covers by the points' times and of their areas.
+use Rattle.std.proofs.Common.{◌≡◌, ℕ, zero, suc, ◌+◌, ◌<◌, ◌≤◌, inl, inr, min, map, length, List, [], ◌∷◌, ◌++◌, Some, slice_get, slice_index_or, refl, ap, sym, ◌∙◌, subst, subst₂, arith}
+use Rattle.std.specs.List.{AllZip}
+use Rattle.std.proofs.lemmas.Option.{same_Some}
+use Rattle.lw_laws.specs.Costs.{cost_of, costs_of}
+use Rattle.lw_laws.specs.Covers.{Cover, Covers, tree_of, latest, start_of, delays_of, time_of, times_of}
+use Rattle.lw_laws.specs.Covers.Cover.{wire, gate}
+use Rattle.lw_laws.specs.Covers.Covers.{no_covers, cover}
+use Rattle.lw_laws.specs.Graphs.{Unfolds}
+use Rattle.lw_laws.specs.Mapped.{IsMapped}
+use Rattle.lw_laws.specs.Matches.{IsMatchAt}
+use Rattle.lw_laws.specs.Netlists.{Gate, Netlist, IsGate, StandsFor, StandForAll}
+use Rattle.lw_laws.proofs.Netlists.{net_covered}
+use Rattle.lw_trade.specs.Areas.{most_area, area_at, total, area_cost}
+use Rattle.lw_trade.specs.Backing.{Held, IsHeld, IsPinOf, held_times, held_areas, IsGivenBy, AreBacked}
+use Rattle.lw_trade.specs.Choices.{Part, Choice, AreChoices}
+use Rattle.lw_trade.specs.Choices.Part.{input, gate as by_gate}
+use Rattle.lw_trade.specs.Groups.{CurveLists, HaveWays, point_in}
+use Rattle.lw_trade.specs.Points.{Task, timing, IsCoverBy, IsPoint, AreCurves}
+use Rattle.lw_trade.specs.Trades.{IsNetOfPoint, HavePinNets, IsBuilt, IsCoverOfPoint, BuiltNetsAreCovers}
+use Rattle.lw_trade.proofs.Grouped.{get_map}
+use Rattle.lw_trade.proofs.Lists.{get_in, get_some, got, at_contained}
+
+abbrev tail : List ℕ → List ℕ
+tail [] = []
+tail (x ∷ xs) = xs
+
+index_left : (xs ys : List ℕ) (i : ℕ) → i < length xs → slice_index_or (xs ++ ys) i 0 ≡ slice_index_or xs i 0
+index_left [] ys i lt = absurd (omega arith)
+index_left (x ∷ xs) ys zero lt = refl
+index_left (x ∷ xs) ys (suc i) lt = index_left xs ys i (omega arith)
+
+index_right : (xs ys : List ℕ) (k j y : ℕ) → k ≡ length xs + j → slice_get ys j ≡ Some y → slice_index_or (xs ++ ys) k 0 ≡ y
+index_right [] [] k j y e at = cc
+index_right [] (z ∷ ys) zero zero y e at = same_Some z y at
+index_right [] (z ∷ ys) zero (suc j) y e at = absurd (omega arith)
+index_right [] (z ∷ ys) (suc k) zero y e at = absurd (omega arith)
+index_right [] (z ∷ ys) (suc k) (suc j) y e at = index_right [] ys k j y (omega arith) at
+index_right (x ∷ xs) ys zero j y e at = absurd (omega arith)
+index_right (x ∷ xs) ys (suc k) j y e at = index_right xs ys k j y (omega arith) at
+
+got_at : (xs : List ℕ) (i x : ℕ) → slice_get xs i ≡ Some x → slice_index_or xs i 0 ≡ x
+got_at xs i x at = same_Some (slice_index_or xs i 0) x (sym (got xs i 0 (get_in xs i x at)) ∙ at)
+
+module _ (s : Task) (choices : List Choice) (are : AreChoices s choices) (held : List Held) (backed : AreBacked s choices held) (nodes : List Held) (n : Netlist) (built : IsBuilt s choices held nodes n) where
+  -- what the choice of a point gives
+  given : (h : Held) (c : ℕ) (part : Part) → IsHeld held h → slice_get choices h.choice ≡ Some (record { class = c; part = part }) → IsGivenBy s held h part × (c ≡ h.spot.class)
+  given h c part in' at =
+      let is = backed h in' in
+      let same : is.by ≡ record { class = c; part = part } = same_Some is.by (record { class = c; part = part }) (sym is.listed ∙ at) in
+      (subst (λ (x : Choice). IsGivenBy s held h x.part) same is.given, ap (λ (x : Choice). x.class) (sym same) ∙ is.class_is)
+
+  module _ (falls : (k l : Held) → IsHeld held k → IsHeld held l → k.spot.class ≡ l.spot.class → k.spot.time ≤ l.spot.time → l.spot.area ≤ k.spot.area) where
+    mutual
+      cover_low : (k : Cover) (h : Held) (net : ℕ) → IsHeld held h → IsNetOfPoint choices nodes n.inputs h net → StandsFor n k net → (time_of (timing s) k ≤ h.spot.time) × (cost_of (area_cost s.cells) k ≤ h.spot.area)
+      cover_low (wire i) h net in' (inl (c, j, at, e, lt)) (f, in_range) =
+          let same : j ≡ i = sym e ∙ f in
+          let start = (given h c (input j) in' at).0 in
+          (subst (λ x. start_of (timing s).starts x ≤ h.spot.time) same start, omega arith)
+      cover_low (wire i) h net in' (inr (j, at, e)) (f, in_range) = absurd (omega (arith, e, f, in_range))
+      cover_low (gate p ks) h net in' (inl (c, i, at, e, lt)) (j, g, gt, f, cell, all) = absurd (omega (arith, e, f, lt))
+      cover_low (gate p ks) h net in' (inr (i, at, e)) (j, g, gt, f, cell, all) =
+          let same : i ≡ j = omega (arith, e, f) in
+          let b = built.gates j h g (ap (slice_get nodes) (sym same) ∙ at) gt in
+          let ((ls, zip, in_time, in_area), class) = given h b.class (by_gate g.cell b.pins) in' b.chosen in
+          let (t, a) = covers_low ks h h.spot.time (delays_of (timing s).delays g.cell) b.pins g.pins ls b.nets zip in_time all in
+          let a' : min most_area (area_at s.cells g.cell + total (costs_of (area_cost s.cells) ks)) ≤ h.spot.area = omega (arith, a, in_area) in (
+            subst (λ x. latest (delays_of (timing s).delays x) (times_of (timing s) ks) ≤ h.spot.time) cell t,
+            subst (λ x. min most_area (area_at s.cells x + total (costs_of (area_cost s.cells) ks)) ≤ h.spot.area) cell a',
+          )
+
+      covers_low : (ks : Covers) (h : Held) (time : ℕ) (ds ps nets : List ℕ) (ls : List Held) → HavePinNets choices held nodes n.inputs time ds ps nets → AllZip (IsPinOf held h) ps ls → latest ds (held_times ls) ≤ time → StandForAll n ks nets → (latest ds (times_of (timing s) ks) ≤ time) × (total (costs_of (area_cost s.cells) ks) ≤ total (held_areas ls))
+      covers_low no_covers h time [] ps nets ls have zip le stand = (omega arith, omega arith)
+      covers_low no_covers h time (d ∷ ds) ps nets ls have zip le stand = (omega arith, omega arith)
+      covers_low (cover k ks) h time ds ps [] ls have zip le (net, rest, e, stand, all) = cc
+      covers_low (cover k ks) h time [] [] (m ∷ ms) ls have zip le stand = absurd have
+      covers_low (cover k ks) h time [] (p ∷ ps) (m ∷ ms) ls have zip le stand = absurd have
+      covers_low (cover k ks) h time (d ∷ ds) [] (m ∷ ms) ls have zip le stand = absurd have
+      covers_low (cover k ks) h time (d ∷ ds) (p ∷ ps) (m ∷ ms) [] have zip le stand = absurd zip
+      covers_low (cover k ks) h time (d ∷ ds) (p ∷ ps) (m ∷ ms) (q ∷ ls) ((l, last, net_of), have) (pin, zip) le (net, rest, e, stand, all) =
+          let first : m ≡ net = ap (λ xs. slice_index_or xs 0 0) e in
+          let others : ms ≡ rest = ap tail e in
+          let (t, a) = cover_low k l m last.held_is net_of (subst (StandsFor n k) (sym first) stand) in
+          let (ts, as') = covers_low ks h time ds ps ms ls have zip (omega (arith, le)) (subst (StandForAll n ks) (sym others) all) in
+          let later = last.last q pin.0 pin.1 (omega (arith, le)) in
+          let less = falls q l pin.0 last.held_is (pin.1 ∙ sym last.class_is) later in
+          let in_time = last.in_time in
+          (omega (arith, t, ts, in_time), omega (arith, a, as', less))
+
+  -- the classes of nets
+  class_at : ℕ → ℕ
+  class_at net = slice_index_or (s.graph.leaves ++ map (λ (h : Held). h.spot.class) nodes) net 0
+
+  class_is : (h : Held) (net : ℕ) → IsHeld held h → IsNetOfPoint choices nodes n.inputs h net → class_at net ≡ h.spot.class
+  unfolding class_at
+  class_is h net in' (inl (c, i, at, e, lt)) =
+      let class = (given h c (input i) in' at).1 in
+      let leaf = are.each h.choice (record { class = c; part = input i }) at in
+      ap (λ k. slice_index_or (s.graph.leaves ++ map (λ (h : Held). h.spot.class) nodes) k 0) e ∙ (index_left s.graph.leaves (map (λ (h : Held). h.spot.class) nodes) i (get_in s.graph.leaves i c leaf) ∙ (got_at s.graph.leaves i c leaf ∙ class))
+  class_is h net in' (inr (j, at, e)) =
+      index_right s.graph.leaves (map (λ (h : Held). h.spot.class) nodes) net j h.spot.class (omega (arith, e, built.inputs)) (get_map (λ (h : Held). h.spot.class) nodes j h at)
+
+  pin_classes : (time : ℕ) (ds ps nets : List ℕ) → HavePinNets choices held nodes n.inputs time ds ps nets → map class_at nets ≡ ps
+  pin_classes time [] [] [] have = refl
+  pin_classes time [] [] (m ∷ ms) have = absurd have
+  pin_classes time [] (p ∷ ps) [] have = absurd have
+  pin_classes time [] (p ∷ ps) (m ∷ ms) have = absurd have
+  pin_classes time (d ∷ ds) [] [] have = absurd have
+  pin_classes time (d ∷ ds) [] (m ∷ ms) have = absurd have
+  pin_classes time (d ∷ ds) (p ∷ ps) [] have = absurd have
+  pin_classes time (d ∷ ds) (p ∷ ps) (m ∷ ms) ((l, last, net_of), have) =
+      let first = class_is l m last.held_is net_of ∙ last.class_is in
+      let rest = pin_classes time ds ps ms have in
+      (λ i. first i ∷ rest i)
+
+  input_class : (i : ℕ) → i < n.inputs → slice_get s.graph.leaves i ≡ Some (class_at i)
+  unfolding class_at
+  input_class i lt =
+      let in' : i < length s.graph.leaves = omega (arith, lt, built.inputs) in
+      got s.graph.leaves i 0 in' ∙ ap (λ (c : ℕ). Some c) (sym (index_left s.graph.leaves (map (λ (h : Held). h.spot.class) nodes) i in'))
+
+  gate_class : (j : ℕ) (g : Gate) → IsGate n j g → IsMatchAt s.graph (area_cost s.cells).pin_counts s.patterns (class_at (n.inputs + j)) g.cell (map class_at g.pins)
+  gate_class j g gt =
+      let lt = get_in n.gates j g gt in
+      let (h, at) = get_some nodes j (omega (arith, lt, built.one_each)) in
+      let in' = built.nodes_are h (j, at) in
+      let b = built.gates j h g at gt in
+      let class = (given h b.class (by_gate g.cell b.pins) in' b.chosen).1 in
+      let here = class_is h (n.inputs + j) in' (inr (j, at, refl)) in
+      let pins = pin_classes h.spot.time (delays_of (timing s).delays g.cell) b.pins g.pins b.nets in
+      subst₂ (λ c ps. IsMatchAt s.graph (area_cost s.cells).pin_counts s.patterns c g.cell ps) (class ∙ sym here) (sym pins) (are.each h.choice (record { class = b.class; part = by_gate g.cell b.pins }) b.chosen)
+
+  mapped : IsMapped s.graph (area_cost s.cells).pin_counts s.patterns n class_at
+  mapped = record { inputs = input_class; gates = gate_class }
+
+  in_range : (h : Held) (net : ℕ) → IsNetOfPoint choices nodes n.inputs h net → net < n.inputs + length n.gates
+  in_range h net (inl (c, i, at, e, lt)) = omega (arith, e, lt)
+  in_range h net (inr (j, at, e)) = let lt = get_in nodes j h at in omega (arith, e, lt, built.one_each)
+
+  pub built_cover : (point : (h : Held) → IsHeld held h → IsPoint s h.spot.class (point_in h)) (falls : (k l : Held) → IsHeld held k → IsHeld held l → k.spot.class ≡ l.spot.class → k.spot.time ≤ l.spot.time → l.spot.area ≤ k.spot.area) (h : Held) (net : ℕ) → IsHeld held h → IsNetOfPoint choices nodes n.inputs h net → IsCoverOfPoint s n h net
+  built_cover point falls h net in' net_of =
+      let k = net_covered s.graph (area_cost s.cells).pin_counts s.patterns n class_at built.ordered mapped net (in_range h net net_of) in
+      let (t, a) = cover_low falls k.by h net in' net_of k.stands in
+      let by : IsCoverBy s h.spot.class h.spot.time k.by = record { is_cover = k.is_cover; unfolds = subst (λ c. Unfolds s.graph (tree_of k.by) c) (class_is h net in' net_of) k.unfolds; in_time = t } in
+      let least = (point h in').least.1 k.by by in
+      record { by = k.by; stands = k.stands; is_cover = by; area_is = omega (arith, a, least) }
+
+-- the points of curves
+module _ (s : Task) (horizon : ℕ) (curves : CurveLists) (ways : HaveWays s curves) (are : AreCurves s horizon curves.points) where
+  pub held_point : (h : Held) → IsHeld ways.held h → IsPoint s h.spot.class (point_in h)
+  held_point h in' =
+      let is = ways.backed h in' in
+      let low : h.spot.class < length s.graph.pairs = subst (λ c. c < length s.graph.pairs) is.class_is (ways.choices.within h.choice is.by is.listed) in
+      let rows = ways.rows in
+      let (row, at) = get_some rows.rows h.spot.class (let m = rows.are.one_each in omega (arith, low, m)) in
+      let none : ◌≡◌ {A = ℕ} (0 + h.spot.class) h.spot.class = omega arith in
+      let (i, here) = (rows.are.each h.spot.class row at).all h in' (sym none) in
+      let shown : slice_get curves.points h.spot.class ≡ Some (map point_in row) = ap (λ ps. slice_get ps h.spot.class) rows.points_are ∙ get_map (map point_in) rows.rows h.spot.class row at in
+      ((are.each h.spot.class (map point_in row) shown).are.each (point_in h) (at_contained (map point_in row) i (point_in h) (get_map point_in row i h here))).0
+
+  pub held_falls : (k l : Held) → IsHeld ways.held k → IsHeld ways.held l → k.spot.class ≡ l.spot.class → k.spot.time ≤ l.spot.time → l.spot.area ≤ k.spot.area
+  held_falls k l in' also e le =
+      let ((found, by, area), least) = (held_point k in').least in
+      let in_time = by.in_time in
+      let low = (held_point l also).least.1 found (record { is_cover = by.is_cover; unfolds = subst (λ c. Unfolds s.graph (tree_of found) c) e by.unfolds; in_time = omega (arith, in_time, le) }) in
+      omega (arith, low, area)
+
+pub built_nets : BuiltNetsAreCovers
+built_nets s horizon curves ways nodes n are built h net in' net_of =
+    built_cover s curves.choices ways.choices ways.held ways.backed nodes n built (held_point s horizon curves ways are) (held_falls s horizon curves ways are) h net in' net_of

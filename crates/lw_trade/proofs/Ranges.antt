@@ -1,0 +1,109 @@
+-- What may stand at classes is in range: the classes of pins, the cells and their pins, and the delays.
+use Rattle.std.proofs.Common.{◌≡◌, ℕ, zero, suc, ◌<◌, ◌⊎◌, inl, inr, All, List, [], ◌∷◌, length, map, option_map, Contains, Some, slice_get, slice_index_or, refl, sym, ap, ◌∙◌, subst, arith}
+use Rattle.std.specs.List.{AllByRecursion}
+use Rattle.std.proofs.lemmas.List.{length-map}
+use Rattle.std.proofs.lemmas.Option.{same_Some, slice_get-map}
+use Rattle.lw_genlib.specs.Cells.{CellParts, IsLibrary, IsListed, IsSmall}
+use Rattle.lw_genlib.specs.Tables.{millionths, delays_of_cells}
+use Rattle.lw_fixed.specs.declared.micro.Micro.{Micro}
+use Rattle.lw_graph.specs.Graphs.{IsGraph}
+use Rattle.lw_laws.specs.Covers.{delays_of}
+use Rattle.lw_laws.specs.Flip.{flip}
+use Rattle.lw_laws.specs.Graphs.{Graph, Pair, HoldsPair, Stands}
+use Rattle.lw_laws.specs.Trees.{Tree, leaf, const_one, const_zero, inv, nand, HasLeaf}
+use Rattle.lw_match.specs.Least.{AreOfCells}
+use Rattle.lw_match.proofs.Branches.{flip_below}
+use Rattle.lw_trade.specs.declared.choices.Row.{Row}
+use Rattle.lw_trade.specs.declared.uses.Use.{Use}
+use Rattle.lw_trade.specs.Areas.{area_cost}
+use Rattle.lw_trade.specs.Choices.{Part, MayStand, AreChoices, delay_at}
+use Rattle.lw_trade.specs.Choices.Part.{input, gate}
+use Rattle.lw_trade.specs.Points.{Task}
+use Rattle.lw_trade.specs.Pricing.{IsWithin, IsOfLibrary}
+use Rattle.lw_trade.specs.Rows.{plain_part, plain_row, plain_rows}
+use Rattle.lw_trade.specs.Uses.{AreUses}
+use Rattle.lw_trade.proofs.Lists.{get_in, got}
+
+all_got : {X : Type 0} (P : X → Type 0) (xs : List X) (k : ℕ) (x : X) → All P xs → slice_get xs k ≡ Some x → P x
+all_got P xs k x all at = let lt = get_in xs k x at in subst P (same_Some (slice_index_or xs k x) x (sym (got xs k x lt) ∙ at)) (all k x lt)
+
+all_by : (n : ℕ) (ps : List ℕ) → ((k p : ℕ) → slice_get ps k ≡ Some p → p < n) → AllByRecursion (λ p. p < n) ps
+all_by n [] each = tt
+all_by n (p ∷ ps) each = (each 0 p refl, all_by n ps (λ k q at. each (suc k) q at))
+
+-- what stands below a class of the graph stands at classes of the graph
+module _ (g : Graph) (is : IsGraph g) (ps : List ℕ) where
+  held_below : (c x y : ℕ) → c < length g.pairs → Contains (slice_index_or g.pairs c []) (record { x = x; y = y }) → (x < length g.pairs) × (y < length g.pairs)
+  held_below c x y lt (k, in', e) = subst (λ (p : Pair). (p.x < length g.pairs) × (p.y < length g.pairs)) e (is.pairs c [] lt k (record { x = x; y = y }) in')
+
+  both_below : (c x y : ℕ) → c < length g.pairs → HoldsPair g c x y → (x < length g.pairs) × (y < length g.pairs)
+  both_below c x y lt (inl h) = held_below c x y lt h
+  both_below c x y lt (inr h) = let (a, b) = held_below c y x lt h in (b, a)
+
+  pin_below : (t : Tree) (c k p : ℕ) → c < length g.pairs → Stands g ps t c → HasLeaf t k → slice_get ps k ≡ Some p → p < length g.pairs
+  pin_below (leaf i) c k p lt at e pt =
+      let same : c ≡ p = same_Some c p (sym at ∙ (ap (slice_get ps) e ∙ pt)) in
+      subst (λ d. d < length g.pairs) same lt
+  pin_below const_one c k p lt at none pt = absurd none
+  pin_below const_zero c k p lt at none pt = absurd none
+  pin_below (inv t) c k p lt at has pt = pin_below t (flip c) k p (flip_below (length g.pairs) c is.even lt) at has pt
+  pin_below (nand t u) c k p lt (x, y, held, left, right) has pt =
+      let (a, b) = both_below c x y lt held in
+      by_side (λ l. pin_below t x k p a left l pt) (λ l. pin_below u y k p b right l pt) has
+    where
+      by_side : (HasLeaf t k → p < length g.pairs) → (HasLeaf u k → p < length g.pairs) → HasLeaf t k ⊎ HasLeaf u k → p < length g.pairs
+      by_side f h (inl l) = f l
+      by_side f h (inr l) = h l
+
+module _ (s : Task) (is_graph : IsGraph s.graph) (of_cells : AreOfCells (area_cost s.cells).pin_counts s.patterns) where
+  part_within : (c : ℕ) (part : Part) → c < length s.graph.pairs → MayStand s c part → IsWithin (length s.graph.pairs) part
+  part_within c (input i) lt may = tt
+  part_within c (gate cell ps) lt may =
+      let is = of_cells may.pattern may.listed in
+      let n : is.pin_count ≡ length ps = same_Some is.pin_count (length ps) (sym is.has ∙ (ap (slice_get (area_cost s.cells).pin_counts) may.cell_is ∙ may.pins)) in
+      all_by (length s.graph.pairs) ps (λ k p at.
+      let l = get_in ps k p at in
+      pin_below s.graph is_graph ps may.pattern.tree c k p lt may.stands ((is.pins k).1 (omega (arith, l, n))) at)
+
+  part_of_library : (c : ℕ) (part : Part) → MayStand s c part → IsOfLibrary s.cells part
+  part_of_library c (input i) may = tt
+  part_of_library c (gate cell ps) may = may.pins
+
+  module _ (rows : List Row) (are : AreChoices s (plain_rows rows)) where
+    listed : (k : ℕ) (d : Row) → k < length rows → slice_get (plain_rows rows) k ≡ Some (plain_row (slice_index_or rows k d))
+    listed k d lt = slice_get-map plain_row rows k ∙ ap (option_map plain_row) (got rows k d lt)
+
+    pub rows_within : All (λ (r : Row). IsWithin (length s.graph.pairs) (plain_part r.stand)) rows
+    rows_within k d lt =
+        let r = plain_row (slice_index_or rows k d) in
+        part_within r.class r.part (are.within k r (listed k d lt)) (are.each k r (listed k d lt))
+
+    pub rows_of_library : All (λ (r : Row). IsOfLibrary s.cells (plain_part r.stand)) rows
+    rows_of_library k d lt = let r = plain_row (slice_index_or rows k d) in part_of_library r.class r.part (are.each k r (listed k d lt))
+
+    pub rows_classes : All (λ (r : Row). r.class.0 < length s.graph.pairs) rows
+    rows_classes k d lt = are.within k (plain_row (slice_index_or rows k d)) (listed k d lt)
+
+small_in : (ds : List Micro) (k : ℕ) → All IsSmall ds → slice_index_or (map millionths ds) k 0 < 1000000000000
+small_in [] k all = omega arith
+small_in (d ∷ ds) zero all = let l = all 0 d (omega arith) in omega arith
+small_in (d ∷ ds) (suc k) all = small_in ds k (λ j e lt. all (suc j) e (omega arith))
+
+small_at : (cells : List CellParts) (cell k : ℕ) → ((n : ℕ) (x : CellParts) → slice_get cells n ≡ Some x → All IsSmall x.delays) → slice_index_or (delays_of (delays_of_cells cells) cell) k 0 < 1000000000000
+small_at [] cell k small = omega arith
+small_at (x ∷ cells) zero k small = small_in x.delays k (small 0 x refl)
+small_at (x ∷ cells) (suc cell) k small = small_at cells cell k (λ n y at. small (suc n) y at)
+
+-- uses are of choices, and their delays are those of a library
+pub uses_small : (s : Task) (rows : List Row) (classes : List ℕ) (uses : List Use) → IsLibrary s.cells → AreUses s (plain_rows rows) classes uses → All (λ (u : Use). (u.choice < length rows) × (u.delay < 1000000000000)) uses
+uses_small s rows classes uses library are k d lt =
+    let u = slice_index_or uses k d in
+    let is = are.each k u (got uses k d lt) in
+    let low = get_in (plain_rows rows) u.choice is.choice is.listed in
+    let n = length-map rows plain_row in
+    let small = delay_small is.choice.part is.pin in
+    (omega (arith, low, n), omega (arith, small, is.delay_is))
+  where
+    delay_small : (part : Part) (j : ℕ) → delay_at s part j < 1000000000000
+    delay_small (input i) j = omega arith
+    delay_small (gate cell ps) j = small_at s.cells cell j (λ n x at. (all_got IsListed s.cells n x library.each at).delays)

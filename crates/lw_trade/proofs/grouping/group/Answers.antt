@@ -1,0 +1,13 @@
+use Rattle.std.proofs.Common.{reverse, sym, subst, subst₂}
+use Rattle.lw_trade.specs.Groups.{AreCurveArrays}
+use Rattle.lw_trade.proofs.Grouped.{table_rising}
+use Rattle.lw_trade.proofs.grouping.group.Goals as goal
+
+pub invariant_of-result : goal.invariant_of-result
+invariant_of-result c =
+    let points = c.push_rows.new.points.items in
+    let ways = c.push_rows.new.ways.items in
+    let lefts = c.push_rows.new.lefts.items in
+    let here = table_rising c.args.fronts.now.held c.args.classes (reverse points) (reverse ways) (reverse lefts) c.in_ok-push_rows.ensures in
+    let there = subst₂ (λ xs ys. AreCurveArrays xs ys (reverse lefts)) (sym c.reverse.ensures.items) (sym c.reverse-2.ensures.items) here in
+    subst (λ ls. AreCurveArrays c.reverse.new.self.items c.reverse-2.new.self.items ls) (sym c.reverse-3.ensures.items) there

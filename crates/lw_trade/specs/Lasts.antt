@@ -1,0 +1,20 @@
+-- The last of some points by a time.
+use Rattle.std.specs.Prelude.{ℕ, ◌+◌, ◌<◌, ◌≤◌, ◌≡◌, List, Option, Some, None, slice_get}
+use Rattle.lw_trade.specs.declared.point.Point.{Point}
+
+abbrev pub ArePointsRising : List Point → Type 0
+ArePointsRising ps =
+    (i j : ℕ) (p q : Point) → i < j → slice_get ps i ≡ Some p → slice_get ps j ≡ Some q → p.time.0 < q.time.0
+
+-- the point at the place comes by the time, with the delay, and none behind it does
+pub record IsLastIn (ps : List Point) (delay time place : ℕ) : Type 0 where
+  pub point : Point
+  pub at : slice_get ps place ≡ Some point
+  pub in_time : point.time.0 + delay ≤ time
+  pub last : (j : ℕ) (q : Point) → slice_get ps j ≡ Some q → q.time.0 + delay ≤ time → j ≤ place
+
+-- the place of the last one, and none where none comes by the time
+abbrev pub IsLastPlace : List Point → ℕ → ℕ → Option ℕ → Type 0
+IsLastPlace ps delay time None =
+    (j : ℕ) (q : Point) → slice_get ps j ≡ Some q → q.time.0 + delay ≤ time → ⊥
+IsLastPlace ps delay time (Some place) = IsLastIn ps delay time place

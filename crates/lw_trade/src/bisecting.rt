@@ -1,0 +1,20 @@
+// The last point by a time.
+ghost use Rattle.std.specs.Prelude.{◌≡◌};
+ghost use Rattle.lw_trade.specs.Lasts.{ArePointsRising, IsLastPlace};
+
+use crate::point::Point;
+
+/// The place of the last of some points that comes by a time, with a delay.
+pub(crate) fn last_by(points: &[Point], delay: u64, time: u64) -> Option<usize>
+    requires { ArePointsRising points.now }
+    ensures { IsLastPlace points.now delay time result }
+{
+    let Some(by) = time.checked_sub(delay) else {
+        return None;
+    };
+    let count = points.partition_point(|point| point.time.0 <= by);
+    if count == 0 {
+        return None;
+    }
+    Some(count - 1)
+}

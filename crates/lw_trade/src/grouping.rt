@@ -1,0 +1,148 @@
+ghost use Rattle.std.specs.Prelude.{◌≡◌, ◌<◌, ◌≤◌, ℕ, [], IfOk, List, OnOk, Some, length, map, reverse, slice_get, slice_range};
+ghost use Rattle.lw_trade.specs.Backing.{spot_in};
+ghost use Rattle.lw_trade.specs.Groups.{AreRowsOf, IsTable};
+ghost use Rattle.lw_trade.specs.Lasts.{ArePointsRising, IsLastPlace};
+ghost use Rattle.lw_trade.specs.Points.{AreCurves, BoundCovers, IsLeastAreaBy, Task};
+ghost use Rattle.lw_trade.specs.Rows.{plain_rows};
+ghost use Rattle.lw_trade.specs.Settling.{AreApart};
+
+use crate::bisecting::last_by;
+use crate::choices::Row;
+use crate::found::Way;
+use crate::fronts::Fronts;
+use crate::point::Point;
+use lw_fixed::Micro;
+use lw_pool::ClassId;
+use std::alloc::{AllocError, Global};
+use std::marker::Model;
+
+/// The points of each class, and the choices that gave them their areas.
+///
+/// The points stand in one array, one class after the other, and for each class it is noted how many
+/// are left from its first one on.
+#[derive(Drop)]
+pub struct Curves {
+    points: Vec<Point>,
+    // one for each point
+    ways: Vec<Way>,
+    // one more than there are classes: none are left behind the last one
+    lefts: Vec<usize>,
+    rows: Vec<Row>,
+}
+
+impl Model for Curves {
+    ghost use Rattle.lw_trade.specs.Groups.{AreCurveArrays, CurveLists, rows_of};
+    ghost use Rattle.lw_trade.specs.Rows.{plain_rows};
+
+    ghost Value = { CurveLists };
+
+    ghost view = { λ c. record {
+      points = rows_of c.points.items c.lefts.items;
+      ways = rows_of c.ways.items c.lefts.items;
+      choices = plain_rows c.rows.items;
+    } };
+
+    ghost invariant = { λ c. AreCurveArrays c.points.items c.ways.items c.lefts.items };
+}
+
+impl Curves {
+    /// The points of a class, by rising time.
+    pub fn of(&self, class: ClassId) -> &[Point]
+        requires { class.0 < length self.now.points }
+        ensures points { slice_get self.now.points class.0 ≡ Some result.now }
+        ensures rising { ArePointsRising result.now }
+    {
+        let class = class.0 as usize;
+        let count = self.points.len();
+        let first = count - self.lefts[class];
+        let end = count - self.lefts[class + 1];
+        part(self.points.as_slice(), first, end)
+    }
+
+    /// The least area of the covers of a class that arrive by a time, as far as the curves go.
+    pub fn area_by(&self, class: ClassId, time: Micro) -> Option<u64>
+        requires { class.0 < length self.now.points }
+        ensures { (s : Task) (horizon : ℕ) → AreCurves s horizon self.now.points →
+            BoundCovers s horizon self.now.points → time.0 ≤ horizon →
+            IsLeastAreaBy s class.0 time.0 result }
+    {
+        let points = self.of(class);
+        match last_by(points, 0, time.0) {
+            Some(place) => Some(points[place].area),
+            None => None,
+        }
+    }
+
+    /// The place of the last point of a class that comes by a time, with a delay.
+    pub(crate) fn last_by(&self, class: ClassId, delay: u64, time: u64) -> Option<usize>
+        requires { class.0 < length self.now.points }
+        ensures { (row : List Point) → slice_get self.now.points class.0 ≡ Some row →
+            IsLastPlace row delay time result }
+    {
+        last_by(self.of(class), delay, time)
+    }
+}
+
+// The points at the places from one on and before another.
+fn part(points: &[Point], first: usize, end: usize) -> &[Point]
+    requires first { first ≤ end }
+    requires end { end ≤ length points.now }
+    ensures { result.now ≡ slice_range points.now first end }
+{
+    &points[first..end]
+}
+
+// Lists the points of the classes, the last one of the last class first, how they came, and how many
+// points are listed before and behind those of each class.
+fn push_rows(
+    fronts: &Fronts,
+    classes: u32,
+    points: &mut Vec<Point>,
+    ways: &mut Vec<Way>,
+    lefts: &mut Vec<usize>,
+) -> Result<(), AllocError>
+    requires classes { classes ≡ length fronts.now.least }
+    requires points { points.old.items ≡ [] }
+    requires ways { ways.old.items ≡ [] }
+    requires lefts { lefts.old.items ≡ [] }
+    ensures { OnOk result (IsTable fronts.now.held classes 0 (reverse points.new.items)
+        (reverse ways.new.items) (reverse lefts.new.items)) }
+{
+    lefts.push(0)?;
+    let mut class = classes;
+    while class > 0 {
+        class -= 1;
+        fronts.push_row(ClassId(class), points, ways)?;
+        lefts.push(points.len())?;
+    }
+    Ok(())
+}
+
+/// Groups points by their classes, beside what may stand at these.
+pub(crate) fn group(
+    alloc: Global,
+    fronts: &Fronts,
+    classes: u32,
+    rows: Vec<Row>,
+) -> Result<Curves, AllocError>
+    requires { classes ≡ length fronts.now.least }
+    ensures apart { IfOk result (λ curves. AreApart fronts.now.spots) }
+    ensures spots { IfOk result (λ curves. map spot_in fronts.now.held ≡ fronts.now.spots) }
+    ensures rows { IfOk result (AreRowsOf fronts.now.held classes) }
+    ensures choices { IfOk result (λ curves. curves.choices ≡ plain_rows rows.items) }
+{
+    let count = fronts.len() as usize;
+    let mut points = Vec::with_capacity(alloc, count)?;
+    let mut ways = Vec::with_capacity(alloc, count)?;
+    let mut lefts = Vec::new(alloc);
+    push_rows(fronts, classes, &mut points, &mut ways, &mut lefts)?;
+    points.reverse();
+    ways.reverse();
+    lefts.reverse();
+    Ok(Curves {
+        points,
+        ways,
+        lefts,
+        rows,
+    })
+}

@@ -1,0 +1,93 @@
+ghost use Rattle.std.specs.Prelude.{◌≡◌, ◌<◌, List, All, IfErr, IfOk, length};
+ghost use Rattle.lw_laws.specs.Covers.{Pattern as TreeOfCell};
+ghost use Rattle.lw_laws.specs.Graphs.{Graph as PlainGraph};
+ghost use Rattle.lw_match.specs.Least.{AreOfCells};
+ghost use Rattle.lw_trade.specs.Areas.{area_cost};
+ghost use Rattle.lw_trade.specs.Backing.{AreBacked};
+ghost use Rattle.lw_trade.specs.Choices.{AreChoices};
+ghost use Rattle.lw_trade.specs.Groups.{HaveWays};
+ghost use Rattle.lw_trade.specs.Points.{AreCurves, BoundCovers, IsWhy, task};
+ghost use Rattle.lw_trade.specs.Pricing.{IsOfLibrary, IsWithin};
+ghost use Rattle.lw_trade.specs.Rows.{plain_part, plain_rows};
+ghost use Rattle.lw_trade.specs.Settling.{AreSettled, IsStop};
+
+use crate::choices::{Row, list_choices};
+use crate::fronts::Fronts;
+use crate::grouping::{Curves, group};
+use crate::links::Links;
+use crate::point::CurveFault;
+use crate::queue::Queue;
+use crate::settling::settle_all;
+use crate::starting::push_starts;
+use crate::uses::add_uses;
+use lw_fixed::{Micro, Micros};
+use lw_genlib::Library;
+use lw_graph::Graph;
+use lw_pattern::Patterns;
+use std::alloc::Global;
+
+// Settles the points of all classes up to a horizon, by what may stand at them.
+fn settle_rows(
+    alloc: Global,
+    rows: &[Row],
+    lib: &Library,
+    starts: &[Micro],
+    classes: u32,
+    horizon: u64,
+) -> Result<Fronts, CurveFault>
+    requires few_rows { length rows.now < 4294967296 }
+    requires few { horizon < 9223372036854775808 }
+    requires within { All (λ (r : Row). IsWithin classes (plain_part r.stand)) rows.now }
+    requires of_library { All (λ (r : Row). IsOfLibrary lib.now (plain_part r.stand)) rows.now }
+    requires classes { All (λ (r : Row). r.class.0 < classes) rows.now }
+    requires choices { (g : PlainGraph) × (pats : List TreeOfCell) ×
+        AreChoices (task g pats lib.now starts.now) (plain_rows rows.now) }
+    ensures count { IfOk result (λ fronts. classes ≡ length fronts.least) }
+    ensures settled { IfOk result (λ fronts. (g : PlainGraph) (pats : List TreeOfCell) →
+        AreChoices (task g pats lib.now starts.now) (plain_rows rows.now) →
+        AreSettled (task g pats lib.now starts.now) horizon (plain_rows rows.now) fronts.spots) }
+    ensures backed { IfOk result (λ fronts. (g : PlainGraph) (pats : List TreeOfCell) →
+        AreChoices (task g pats lib.now starts.now) (plain_rows rows.now) →
+        AreBacked (task g pats lib.now starts.now) (plain_rows rows.now) fronts.held) }
+    ensures stop { IfErr result (λ fault. (g : PlainGraph) (pats : List TreeOfCell) →
+        AreChoices (task g pats lib.now starts.now) (plain_rows rows.now) →
+        IsStop (task g pats lib.now starts.now) (plain_rows rows.now) horizon fault) }
+{
+    let _ = lib.len();
+    let mut links = Links::new(alloc, classes as usize)?;
+    let mut uses = Vec::new(alloc);
+    add_uses(rows, lib, &mut links, &mut uses)?;
+    let mut queue = Queue::new(alloc, horizon);
+    push_starts(&mut queue, rows, starts)?;
+    let mut fronts = Fronts::new(alloc, classes as usize)?;
+    settle_all(rows, lib, starts, &links, &uses, &mut fronts, &mut queue)?;
+    Ok(fronts)
+}
+
+/// The points of each class up to a horizon: the times at which the least area of the covers that
+/// arrive by then falls, and that area. Inputs start at these times, and at 0 past the last of
+/// them.
+pub fn curves(
+    alloc: Global,
+    graph: &Graph,
+    pats: &Patterns,
+    lib: &Library,
+    starts: &Micros,
+    horizon: Micro,
+) -> Result<Curves, CurveFault>
+    requires of_cells { AreOfCells (area_cost lib.now).pin_counts pats.now }
+    requires horizon { horizon.0 < 9223372036854775808 }
+    ensures curves { IfOk result (λ curves. AreCurves
+        (task graph.now pats.now lib.now starts.now) horizon.0 curves.points) }
+    ensures bound { IfOk result (λ curves. BoundCovers
+        (task graph.now pats.now lib.now starts.now) horizon.0 curves.points) }
+    ensures ways { IfOk result (HaveWays (task graph.now pats.now lib.now starts.now)) }
+    ensures why { IfErr result (IsWhy (task graph.now pats.now lib.now starts.now) horizon.0) }
+{
+    let rows = list_choices(alloc, graph, pats)?;
+    let classes = graph.classes();
+    let starts = starts.as_slice();
+    let fronts = settle_rows(alloc, &rows, lib, starts, classes, horizon.0)?;
+    let curves = group(alloc, &fronts, classes, rows)?;
+    Ok(curves)
+}

@@ -1,0 +1,27 @@
+use Rattle.std.proofs.Common.{[], ap, ◌∙◌, arith}
+use Rattle.std.proofs.lemmas.List.{length-set}
+use Rattle.lw_mapped.proofs.TextParts.{get_or-any}
+use Rattle.lw_verilog.specs.Chains.{bucket_of}
+use Rattle.lw_verilog.proofs.Chains.{chains-more, chains-none}
+use Rattle.lw_verilog.proofs.known.link.Goals as goal
+
+pub loop-place-init : goal.loop-place-init
+loop-place-init c = record {
+  chains = chains-none c.args.names.now c.clear.new.heads c.args.next.now (λ b lt. c.clear.ensures.none b (omega (arith, lt, c.requires.buckets)));
+  buckets = c.clear.ensures.many ∙ c.requires.buckets;
+  places = c.requires.places;
+}
+
+pub loop-place-preserved : goal.loop-place-preserved
+loop-place-preserved c =
+    let names = c.args.names.now in
+    let place = c.loop-place.place in
+    let heads = c.loop-place.heads in
+    let next = c.loop-place.next in
+    let bucket = c.bucket_of-bucket.result in
+    let own = c.bucket_of-bucket.ensures.bucket ∙ ap bucket_of (c.as_bytes.ensures.bytes ∙ (c.index-names-place.is ∙ get_or-any names place c.index-names-place.result [] c.loop-place-test.true)) in
+    record {
+      chains = chains-more names place heads next bucket own (omega (arith, c.bucket_of-bucket.ensures.low, c.loop-place.invariant.buckets)) (omega (arith, c.loop-place-test.true, c.requires.few, c.loop-place.invariant.places)) c.loop-place.invariant.buckets c.loop-place.invariant.chains;
+      buckets = length-set heads bucket _ ∙ c.loop-place.invariant.buckets;
+      places = length-set next place _ ∙ c.loop-place.invariant.places;
+    }

@@ -1,7 +1,0 @@
-use Rattle.std.proofs.Common.{◌≡◌, ◌+◌, ◌-◌, ◌++◌, map}
-use Rattle.lw_mapped.specs.Texts.{port_name}
-use Rattle.lw_verilog.specs.Texts.{passed}
-use Rattle.lw_verilog.proofs.writing.passed.Given as goal
-
-abbrev pub invariant-loop-count : goal.invariant-loop-count
-invariant-loop-count l = passed (l.names ++ map port_name l.outputs) l.most l.number ≡ l.count + passed (l.names ++ map port_name l.outputs) (l.most - l.count) (l.number + l.count)

@@ -1,7 +1,0 @@
-use Rattle.std.proofs.Common.{◌++◌, map, sym, ◌∙◌}
-use Rattle.lw_mapped.specs.Texts.{port_name}
-use Rattle.lw_verilog.proofs.PutParts.{none-passed}
-use Rattle.lw_verilog.proofs.writing.skipped.Goals as goal
-
-pub returns-then-not-begun : goal.returns-then-not-begun
-returns-then-not-begun c = sym (none-passed (c.args.names.now ++ map port_name c.args.outputs.now) c.args.most c.args.number (sym c.requires.begun ∙ c.if-not-begun.true))

@@ -1,0 +1,16 @@
+-- Flags for a run of numbers.
+use Rattle.std.specs.Prelude.{ℕ, ◌≡◌, ◌<◌, ◌≤◌, ◌+◌, ◌||◌, ◌^◌, Bool, false, List, length, slice_index_or}
+use Rattle.lw_netlist.specs.Closing.{is_among}
+use Rattle.lw_verilog.specs.Texts.{instance_name}
+
+-- flags after those were raised whose places pass a test
+pub record Raises (test : ℕ → Bool) (old new : List Bool) : Type 0 where
+  pub many : length new ≡ length old
+  pub each : (i : ℕ) → i < length old → slice_index_or new i false ≡ (slice_index_or old i false || test i)
+
+-- Each flag tells whether the instance of its number, counted from the base, has one of these
+-- names.
+pub record AreTaken (names : List (List ℕ)) (base : ℕ) (flags : List Bool) : Type 0 where
+  pub many : length flags ≡ 65536
+  pub few : base + 65536 ≤ 2 ^ 60
+  pub each : (i : ℕ) → i < 65536 → slice_index_or flags i false ≡ is_among names (instance_name (base + i))

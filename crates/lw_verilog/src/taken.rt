@@ -1,0 +1,245 @@
+// Which numbers make names of instances that are taken.
+ghost use Rattle.std.specs.Prelude.{◌≡◌, ◌≢◌, ◌<◌, ◌≤◌, ◌+◌, ◌++◌, ◌^◌, ℕ, min, length, map, decimal, IsTrue, IfSome, IfNone};
+ghost use Rattle.std.specs.Char.{is_ascii_digit};
+ghost use Rattle.std.specs.List.{list_all, list_any};
+ghost use Rattle.std.specs.Str.{bytes_eq};
+ghost use Rattle.std.specs.Str.Parse.{digits_value};
+ghost use Rattle.lw_netlist.specs.Closing.{is_among};
+ghost use Rattle.lw_mapped.specs.Texts.{port_name};
+ghost use Rattle.lw_verilog.specs.Texts.{begins_u, instance_name, passed};
+ghost use Rattle.lw_verilog.specs.Windows.{AreTaken, Raises};
+
+use crate::putting::is_output;
+use itoa::Buffer;
+use lw_netlist::Port;
+use lw_pool::Name;
+
+// Numbers from here on are looked up one by one.
+const MOST: u64 = 1 << 60;
+
+// How many numbers have flags at a time.
+const WIDTH: usize = 65536;
+
+/// Which numbers from a base on make the name of a net or an output.
+#[derive(Drop)]
+pub(crate) struct Taken {
+    base: u64,
+    flags: [bool; WIDTH],
+}
+
+fn are_digits(bytes: &[u8]) -> bool
+    ensures { result ≡ list_all is_ascii_digit bytes.now }
+{
+    bytes.iter().all(|b| b.is_ascii_digit())
+}
+
+// The value of digits, or the greatest where it is greater.
+fn capped_value(digits: &[u8]) -> u64
+    requires { IsTrue (list_all is_ascii_digit digits.now) }
+    ensures { result ≡ min (digits_value 10 digits.now) 1152921504606846976 }
+{
+    let mut value = 0;
+    for digit in digits {
+        value = (value * 10 + u64::from(*digit - b'0')).min(MOST);
+    }
+    value
+}
+
+// The number of which these are the digits.
+fn number_in(digits: &[u8]) -> Option<u64>
+    ensures some { IfSome result (λ k. digits.now ≡ decimal k) }
+    ensures few { IfSome result (λ k. k ≤ 2 ^ 60) }
+    ensures none { IfNone result ((k : ℕ) → k < 2 ^ 60 → digits.now ≢ decimal k) }
+{
+    if !are_digits(digits) {
+        return None;
+    }
+    let number = capped_value(digits);
+    let mut text = Buffer::new();
+    if text.format(number).as_bytes() != digits {
+        return None;
+    }
+    Some(number)
+}
+
+// The number of the instance that has the name.
+fn number_of(name: &[u8]) -> Option<u64>
+    ensures some { IfSome result (λ k. name.now ≡ instance_name k) }
+    ensures few { IfSome result (λ k. k ≤ 2 ^ 60) }
+    ensures none { IfNone result ((k : ℕ) → k < 2 ^ 60 → name.now ≢ instance_name k) }
+{
+    if name.is_empty() || name[0] != b'u' {
+        return None;
+    }
+    number_in(&name[1..])
+}
+
+// Raises the flag of the number whose instance has the name.
+fn mark(flags: &mut [bool], base: u64, name: &[u8])
+    requires { base + length flags.old ≤ 2 ^ 60 }
+    ensures { Raises (λ i. bytes_eq (instance_name (base + i)) name.now) flags.old flags.new }
+{
+    let Some(number) = number_of(name) else {
+        return;
+    };
+    if number < base {
+        return;
+    }
+    let place = number - base;
+    if place >= flags.len() as u64 {
+        return;
+    }
+    flags[place as usize] = true;
+}
+
+fn mark_names(flags: &mut [bool], base: u64, names: &[Name])
+    requires { base + length flags.old ≤ 2 ^ 60 }
+    ensures { Raises (λ i. is_among names.now (instance_name (base + i))) flags.old flags.new }
+{
+    for name in names {
+        mark(flags, base, name.as_bytes());
+    }
+}
+
+fn mark_outputs(flags: &mut [bool], base: u64, outputs: &[Port])
+    requires { base + length flags.old ≤ 2 ^ 60 }
+    ensures { Raises (λ i. is_among (map port_name outputs.now) (instance_name (base + i)))
+        flags.old flags.new }
+{
+    for port in outputs {
+        mark(flags, base, port.name.as_bytes());
+    }
+}
+
+// Flags for the numbers from the base on.
+fn mark_taken(flags: &mut [bool], base: u64, names: &[Name], outputs: &[Port])
+    requires many { length flags.old ≡ 65536 }
+    requires few { base + 65536 ≤ 2 ^ 60 }
+    ensures { AreTaken (names.now ++ map port_name outputs.now) base flags.new }
+{
+    flags.fill(false);
+    mark_names(flags, base, names);
+    mark_outputs(flags, base, outputs);
+}
+
+fn is_name(names: &[Name], name: &[u8]) -> bool
+    ensures { result ≡ is_among names.now name.now }
+{
+    names.iter().any(|other| name == other.as_bytes())
+}
+
+// Whether a net or an output has the name of the instance with this number.
+fn has_instance(names: &[Name], outputs: &[Port], number: u64) -> bool
+    ensures { result ≡ is_among (names.now ++ map port_name outputs.now) (instance_name number) }
+{
+    let mut digits = Buffer::new();
+    let digits = digits.format(number).as_bytes();
+    let mut text = [0; 21];
+    text[0] = b'u';
+    let size = 1 + digits.len();
+    text[1..size].copy_from_slice(digits);
+    is_name(names, &text[..size]) || is_output(outputs, &text[..size])
+}
+
+impl Taken {
+    /// Flags for the first numbers.
+    pub(crate) fn new(names: &[Name], outputs: &[Port]) -> Taken
+        ensures { AreTaken (names.now ++ map port_name outputs.now) result.base result.flags }
+    {
+        let mut flags = [false; WIDTH];
+        mark_taken(&mut flags, 1, names, outputs);
+        Taken { base: 1, flags }
+    }
+
+    // Moves the flags to where they have the number.
+    fn reach(&mut self, names: &[Name], outputs: &[Port], number: u64)
+        requires few { number + 65536 ≤ 2 ^ 60 }
+        requires stands { AreTaken (names.now ++ map port_name outputs.now) self.old.base
+            self.old.flags }
+        ensures stands { AreTaken (names.now ++ map port_name outputs.now) self.new.base
+            self.new.flags }
+        ensures low { self.new.base ≤ number }
+        ensures high { number < self.new.base + 65536 }
+    {
+        if self.base <= number && number - self.base < WIDTH as u64 {
+            return;
+        }
+        self.base = number;
+        mark_taken(&mut self.flags, number, names, outputs);
+    }
+
+    // Whether a net or an output has the name of the instance with this number.
+    fn is_taken(&mut self, names: &[Name], outputs: &[Port], number: u64) -> bool
+        requires stands { AreTaken (names.now ++ map port_name outputs.now) self.old.base
+            self.old.flags }
+        ensures stands { AreTaken (names.now ++ map port_name outputs.now) self.new.base
+            self.new.flags }
+        ensures taken { result ≡ is_among (names.now ++ map port_name outputs.now)
+            (instance_name number) }
+    {
+        if number >= MOST - WIDTH as u64 {
+            return has_instance(names, outputs, number);
+        }
+        self.reach(names, outputs, number);
+        self.flags[(number - self.base) as usize]
+    }
+}
+
+// How many numbers from this one on are passed over, at most so many.
+fn passed(taken: &mut Taken, names: &[Name], outputs: &[Port], most: u64, number: u64) -> u64
+    requires few { number + most < 2 ^ 64 }
+    requires stands { AreTaken (names.now ++ map port_name outputs.now) taken.old.base
+        taken.old.flags }
+    ensures stands { AreTaken (names.now ++ map port_name outputs.now) taken.new.base
+        taken.new.flags }
+    ensures passed { result ≡ passed (names.now ++ map port_name outputs.now) most number }
+{
+    for count in 0..most {
+        if !taken.is_taken(names, outputs, number + count) {
+            return count;
+        }
+    }
+    most
+}
+
+fn is_begun(names: &[Name]) -> bool
+    ensures { result ≡ list_any begins_u names.now }
+{
+    names.iter().any(|name| name.as_bytes()[0] == b'u')
+}
+
+fn is_output_begun(ports: &[Port]) -> bool
+    ensures { result ≡ list_any (λ port. begins_u port.name) ports.now }
+{
+    ports.iter().any(|port| port.name.as_bytes()[0] == b'u')
+}
+
+/// Whether a net or an output has a name that begins as those of instances do.
+pub(crate) fn has_begun(names: &[Name], outputs: &[Port]) -> bool
+    ensures { result ≡ list_any begins_u (names.now ++ map port_name outputs.now) }
+{
+    is_begun(names) || is_output_begun(outputs)
+}
+
+/// The same as `passed`, at once where no name begins as those of instances do.
+pub(crate) fn skipped(
+    begun: bool,
+    taken: &mut Taken,
+    names: &[Name],
+    outputs: &[Port],
+    most: u64,
+    number: u64,
+) -> u64
+    requires begun { begun ≡ list_any begins_u (names.now ++ map port_name outputs.now) }
+    requires few { number + most < 2 ^ 64 }
+    requires stands { AreTaken (names.now ++ map port_name outputs.now) taken.old.base
+        taken.old.flags }
+    ensures stands { AreTaken (names.now ++ map port_name outputs.now) taken.new.base
+        taken.new.flags }
+    ensures skipped { result ≡ passed (names.now ++ map port_name outputs.now) most number }
+{
+    if !begun {
+        return 0;
+    }
+    passed(taken, names, outputs, most, number)
+}
