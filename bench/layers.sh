@@ -10,24 +10,20 @@ set -eu
 root=$(dirname -- "$(dirname -- "$(readlink -f -- "$0")")")
 program=$(sh "$root/release/program.sh") || exit 1
 [ -x /usr/bin/time ] || { echo "layers: there is no /usr/bin/time; it is Debian's package time" >&2 && exit 1; }
+runs=3
 room=$(mktemp -d)
 trap 'rm -rf "$room"' EXIT
 cd "$room"
 : >empty
 
+# shellcheck source=bench/least.sh
+. "$root/bench/least.sh"
+
 # What is run, the status that is wanted, and the words.
 run() { # WHAT STATUS WORD..
-    what=$1 && wanted=$2 && shift 2
-    best=
-    for _ in 1 2 3; do
-        status=0
-        /usr/bin/time -q -f '%U %S %M' -o took "$program" "$@" >out 2>err || status=$?
-        [ "$status" -eq "$wanted" ] || { echo "layers: $what ended with $status: $(head -c 100 err)" >&2 && exit 1; }
-        took=$(awk '{ printf "%d", ($1 + $2) * 1000 }' took)
-        memory=$(awk '{ printf "%d", $3 / 1024 }' took)
-        if [ -z "$best" ] || [ "$took" -lt "$best" ]; then best=$took; fi
-    done
-    echo "$what: $best ms, $memory MB"
+    what=$1 && shift
+    ended layers "$@"
+    echo "$what: $best ms, $((memory / 1024)) MB"
 }
 
 awk -v n=8600 -f "$root/bench/eights.awk" >network

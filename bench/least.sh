@@ -1,4 +1,4 @@
-# Read by bench/check.sh and bench/circuits.sh, which set 'limit', 'runs' and 'room': the least processor time of some runs
+# Read by the scripts beside it, which set 'runs' and 'room', and 'limit' or 'program': the least processor time of some runs
 # goes to 'best', in milliseconds, and the most memory to 'memory', in megabytes. What a run writes is left in the room.
 # shellcheck shell=sh disable=SC2034,SC2154
 least() { # COMMAND..
@@ -8,5 +8,21 @@ least() { # COMMAND..
         took=$(awk '{ printf "%d", ($1 + $2) * 1000 }' "$room/took")
         memory=$(awk '{ printf "%d", $3 / 1024 }' "$room/took")
         if [ -z "$best" ] || [ "$took" -lt "$best" ]; then best=$took; fi
+    done
+}
+
+# The same of a run of 'program' that has to end with a status: the least time in milliseconds goes to 'best', the most memory in
+# kilobytes to 'memory', and what the last run wrote stays in out and err. Where it ends otherwise, the script ends.
+ended() { # SCRIPT STATUS WORD..
+    script=$1 && wanted=$2 && shift 2
+    best='' && memory=0
+    for _ in $(seq "$runs"); do
+        status=0
+        /usr/bin/time -q -f '%U %S %M' -o "$room/took" "$program" "$@" >"$room/out" 2>"$room/err" || status=$?
+        [ "$status" -eq "$wanted" ] || { echo "$script: $1 ended with $status: $(head -c 100 "$room/err")" >&2 && exit 1; }
+        took=$(awk '{ printf "%d", ($1 + $2) * 1000 + 0.5 }' "$room/took")
+        most=$(awk '{ print $3 }' "$room/took")
+        if [ -z "$best" ] || [ "$took" -lt "$best" ]; then best=$took; fi
+        if [ "$most" -gt "$memory" ]; then memory=$most; fi
     done
 }

@@ -22,20 +22,8 @@ trap 'rm -rf "$room"' EXIT
 trap 'exit 1' HUP INT TERM
 cd "$room"
 
-# The least time in milliseconds goes to 'best', the most memory in KB to 'memory'.
-run() { # STATUS WORD..
-    wanted=$1 && shift
-    best='' && memory=0
-    for _ in $(seq "$runs"); do
-        status=0
-        /usr/bin/time -q -f '%U %S %M' -o took "$program" "$@" >out 2>err || status=$?
-        [ "$status" -eq "$wanted" ] || { echo "verilog: $1 ended with $status: $(head -c 100 err)" >&2 && exit 1; }
-        took=$(awk '{ printf "%d", ($1 + $2) * 1000 + 0.5 }' took)
-        most=$(awk '{ print $3 }' took)
-        if [ -z "$best" ] || [ "$took" -lt "$best" ]; then best=$took; fi
-        if [ "$most" -gt "$memory" ]; then memory=$most; fi
-    done
-}
+# shellcheck source=bench/least.sh
+. "$root/bench/least.sh"
 
 # Copies of a mapped netlist; the number behind each name has as many digits in all of them.
 copies() { # NUMBER MAPPED
@@ -82,9 +70,9 @@ echo "$number copies of $circuit with $(basename "$lib" .genlib), $gates gates; 
 echo
 echo "| command | MB of Verilog | ms | MB a second | MB of memory | times the Verilog |"
 echo "|---|---|---|---|---|---|"
-run 0 verilog "$lib" MAPPED
+ended verilog 0 verilog "$lib" MAPPED
 row verilog
-run 0 unverilog "$lib" VER
+ended verilog 0 unverilog "$lib" VER
 row unverilog
 rm -f MAPPED one twenty
 
@@ -95,7 +83,7 @@ stretched() { # FIRST TEXT LAST
 
 # The times of unverilog for a text, and its answer: what it was told, or that it is read.
 extreme() { # WHAT STATUS
-    run "$2" unverilog "$root/bench/libs/tiny.genlib" VER
+    ended verilog "$2" unverilog "$root/bench/libs/tiny.genlib" VER
     said=$(sed 's/^lwmap: VER //' err)
     echo "| $1 | $(wc -c <VER | awk '{ printf "%.1f", $1 / 1048576 }') | ${said:-read} | $best | $((memory / 1024)) |"
 }
