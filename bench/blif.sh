@@ -1,15 +1,23 @@
 #!/bin/sh
-# Makes two networks of 262,144 signals, reads them, and prints how many megabytes a second and the most memory that was
-# held: one whose nodes have 14 fan-ins, in some 60 MB, and one whose nodes have two, in some 12 MB. It takes the program
-# of crates/lw_bench_net, which 'rt run <stdin' in that folder or the gate builds, and GNU time. The figures are of the
-# wall clock: run it where nothing else runs.
+# Makes two networks of 262,144 signals, has the program read and close them for 'sim' with no vectors, and prints how many
+# megabytes a second that is, by processor time, and the most memory that was held: one whose nodes have 14 fan-ins, in some
+# 60 MB, and one whose nodes have two, in some 12 MB; and a comment and empty lines of as many bytes as a file may have.
+#
+#   sh bench/blif.sh
+#
+# The program is the one that release/program.sh finds. The least time of three runs counts.
 set -eu
 root=$(dirname -- "$(dirname -- "$(readlink -f -- "$0")")")
-program=$root/crates/lw_bench_net/out/lw_bench_net
-[ -x "$program" ] || { echo "blif: there is no program $program; 'rt run <stdin' in crates/lw_bench_net builds it" >&2 && exit 1; }
+program=$(sh "$root/release/program.sh") || exit 1
 [ -x /usr/bin/time ] || { echo "blif: there is no /usr/bin/time; it is Debian's package time" >&2 && exit 1; }
+# shellcheck disable=SC2034
+runs=3
 room=$(mktemp -d)
 trap 'rm -rf "$room"' EXIT
+: >"$room/vectors"
+
+# shellcheck source=bench/least.sh
+. "$root/bench/least.sh"
 
 # 1,024 inputs, and nodes of so many fan-ins each: the signals just before, and one from far off. The rows follow.
 network() {
@@ -31,22 +39,22 @@ network() {
     }'
 }
 
-# Reads the text five times.
+# An empty network behind so many bytes of a text.
+behind() {
+    { head -c 67108800 && printf '\n.model m\n.inputs\n.outputs\n.end\n'; }
+}
+
 measure() {
     size=$(wc -c <"$room/text")
-    best=
-    for _ in 1 2 3 4 5; do
-        start=$(date +%s%N)
-        /usr/bin/time -f %M -o "$room/memory" "$program" <"$room/text" >"$room/answer"
-        end=$(date +%s%N)
-        took=$((end - start))
-        if [ -z "$best" ] || [ "$took" -lt "$best" ]; then best=$took; fi
-    done
-    echo "$1: $size bytes, $((size * 1000 / best)) MB/s, $((best / 1000000)) ms at best of 5 runs, $(cat "$room/answer")"
-    echo "$1: $(cat "$room/memory") KB, $(($(cat "$room/memory") * 10240 / size)) tenths of the text"
+    ended blif 0 sim "$room/text" "$room/vectors"
+    echo "$1: $size bytes, $best ms, $((size / (best + 1) / 1000)) MB/s, $((memory / 1024)) MB held"
 }
 
 network 14 "1-0-1-0-1-0-1- -1-0-1-0-1-0-1" >"$room/text"
 measure "14 fan-ins"
 network 2 "11" >"$room/text"
 measure "2 fan-ins"
+yes '#' | tr -d '\n' | behind >"$room/text"
+measure "one comment"
+yes '' | behind >"$room/text"
+measure "empty lines"

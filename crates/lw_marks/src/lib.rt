@@ -1,6 +1,8 @@
-//! Tests of matches and of labels, by the public calls of their crates.
+//! Tests of classes, of matches and of labels, by the public calls of their crates.
 #![tactic(auto)]
 
+#[cfg(test)]
+mod classes;
 #[cfg(test)]
 mod counts;
 #[cfg(test)]

@@ -6,6 +6,4 @@ mod decimals;
 #[cfg(test)]
 mod lines;
 #[cfg(test)]
-mod nets;
-#[cfg(test)]
 mod pools;

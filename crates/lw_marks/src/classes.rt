@@ -1,0 +1,48 @@
+// Forms that share a class, and pairs that are found with and without an index.
+use crate::sketch::{Sketch, graph_of};
+use lw_graph::{Graph, Pair};
+use lw_pool::ClassId;
+use std::process::Abort;
+use std::test::Fail;
+
+/// Two forms that are NANDs of the same two inputs, in both orders, and one that is linked to their
+/// complement.
+const SHARED: Sketch<'static> = Sketch {
+    inputs: 2,
+    samples: &[true, true, false],
+    facts: &[(6, 2, 4), (8, 4, 2)],
+    links: &[(10, 7)],
+};
+
+/// Two classes, and the class that holds their pair.
+const HOLDERS: [(u32, u32, Option<ClassId>); 4] = [
+    (2, 4, Some(ClassId(6))),
+    (4, 2, Some(ClassId(6))),
+    (2, 2, None),
+    (6, 2, None),
+];
+
+fn check_holders(rt: &impl Abort, graph: &Graph) {
+    for (x, y, class) in HOLDERS {
+        if x < graph.classes() && y < graph.classes() {
+            assert!(rt; graph.holder(ClassId(x), ClassId(y)) == class);
+        }
+    }
+}
+
+#[test]
+fn forms_share_classes_whose_pairs_are_found(rt: HostRuntime) -> Result<(), Fail> {
+    let mut graph = graph_of(rt.alloc(), SHARED)?;
+    if graph.classes() != 8 {
+        return Err(Fail::from("the forms have eight classes"));
+    }
+    let pair = Pair {
+        x: ClassId(2),
+        y: ClassId(4),
+    };
+    assert!(rt; graph.nands(ClassId(6)) == [pair].as_slice());
+    check_holders(&rt, &graph);
+    graph.make_index()?;
+    check_holders(&rt, &graph);
+    Ok(())
+}
