@@ -231,10 +231,13 @@ pub(crate) fn ports_fault(
 ) -> Result<Option<VerilogKind>, AllocError>
     ensures { IfOk result (λ fault. fault ≡ ports_fault ports.now declared.now.keys) }
 {
+    if !are_among(declared, ports) {
+        return Ok(Some(VerilogKind::Port));
+    }
     let Some(set) = set_of(alloc, ports)? else {
         return Ok(Some(VerilogKind::Port));
     };
-    if are_among(declared, ports) && has_all(&set, declared) {
+    if has_all(&set, declared) {
         return Ok(None);
     }
     Ok(Some(VerilogKind::Port))
