@@ -180,7 +180,7 @@ fn set_of(alloc: Global, names: &[Name]) -> Result<Option<IndexSet<Name>>, Alloc
         (λ s. (s.keys ≡ names.now) × (twice_after [] names.now ≡ None))) }
     ensures none { IfOk result (λ set. IfNone set (is_none (twice_after [] names.now) ≡ false)) }
 {
-    let mut set = IndexSet::new(alloc);
+    let mut set = IndexSet::with_capacity(alloc, names.len())?;
     for name in names {
         if set.contains(name) {
             return Ok(None);
