@@ -180,7 +180,7 @@ fn set_of(alloc: Global, names: &[Name]) -> Result<Option<IndexSet<Name>>, Alloc
         (λ s. (s.keys ≡ names.now) × (twice_after [] names.now ≡ None))) }
     ensures none { IfOk result (λ set. IfNone set (is_none (twice_after [] names.now) ≡ false)) }
 {
-    let mut set = IndexSet::new(alloc);
+    let mut set = IndexSet::with_capacity(alloc, names.len())?;
     for name in names {
         if set.contains(name) {
             return Ok(None);
@@ -231,10 +231,13 @@ pub(crate) fn ports_fault(
 ) -> Result<Option<VerilogKind>, AllocError>
     ensures { IfOk result (λ fault. fault ≡ ports_fault ports.now declared.now.keys) }
 {
+    if !are_among(declared, ports) {
+        return Ok(Some(VerilogKind::Port));
+    }
     let Some(set) = set_of(alloc, ports)? else {
         return Ok(Some(VerilogKind::Port));
     };
-    if are_among(declared, ports) && has_all(&set, declared) {
+    if has_all(&set, declared) {
         return Ok(None);
     }
     Ok(Some(VerilogKind::Port))
