@@ -12,6 +12,7 @@ checked_files() {
 
 # Each command of these words on the files above, as: for words in $each; do set -- $(echo "$words" | tr : ' '); ..
 each='map:-c:LIB:IN check:LIB:IN:MAPPED time:LIB:MAPPED sim:IN:VECTORS sim:-g:LIB:MAPPED:VECTORS graph:IN lut:4:IN big:0:20:more verilog:LIB:MAPPED unverilog:LIB:VER'
+case $("$program" 2>&1) in *'| trade '*) each="$each trade:8:LIB:IN" ;; esac
 
 each_command_where_standard_output_is_full() {
     [ -c /dev/full ] || { echo "there is no /dev/full" && return 9; }

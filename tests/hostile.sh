@@ -38,6 +38,7 @@ all_files() {
     printf '%s\n' 'GATE inv 1 O=!a;' 'PIN * INV 1 999 1 0 1 0' 'GATE nand2 2 O=!(a*b);' 'PIN * INV 1 999 1.5 0 1.5 0' >MORE
 }
 each='map:LIB:IN map:-c:LIB:IN check:LIB:IN:MAPPED time:LIB:MAPPED sim:IN:VECTORS sim:-g:LIB:MAPPED:VECTORS graph:IN lut:4:IN big:0:20:MORE verilog:LIB:MAPPED unverilog:LIB:VER'
+case $("$program" 2>&1) in *'| trade '*) each="$each trade:8:LIB:IN" ;; esac
 
 # Calls a case's own function with the words of each command.
 with_each() { # FUNCTION WORD..
@@ -279,6 +280,7 @@ line_of_words() {
 
 line_of_continued_lines() {
     inverter_files
+    # shellcheck disable=SC1003
     { printf '.model m\n.inputs a\n.outputs f' && yes '\' | head -n 33000000 && printf '\n.names a f\n0 1\n.end\n'; } >IN
     run map LIB IN
     status $? 0 && holds_inverter out && holds err || return
@@ -318,7 +320,7 @@ most_bytes_of_a_library() {
 reads_the_most() { # WORD..
     case $* in
     big*) refused 6 'no cover for output g4' "$@" ;;
-    map*) run "$@" && grep -v '^#@' out >rest && same rest IN && holds err ;;
+    map* | trade*) run "$@" && grep -v '^#@' out >rest && same rest IN && holds err ;;
     check*) refused 9 'no: label of class 2 is none, a match gives 0' "$@" ;;
     time*) run "$@" && holds out 'arrival a 0' 'max 0' 'area 0' ;;
     sim*) run "$@" && holds out 0 1 ;;
