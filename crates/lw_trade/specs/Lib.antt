@@ -11,5 +11,8 @@ pub mod Pricing
 pub mod Queues
 pub mod Rows
 pub mod Settling
+pub mod Targets
+pub mod Traded
 pub mod Trades
 pub mod Uses
+pub mod Walks

@@ -7,7 +7,7 @@ ghost use Rattle.lw_trade.specs.Rows.{plain_rows};
 ghost use Rattle.lw_trade.specs.Settling.{AreApart};
 
 use crate::bisecting::last_by;
-use crate::choices::Row;
+use crate::choices::{Row, Stand};
 use crate::found::Way;
 use crate::fronts::Fronts;
 use crate::point::Point;
@@ -73,13 +73,30 @@ impl Curves {
         }
     }
 
+    /// How many points there are.
+    pub(crate) fn points(&self) -> usize {
+        self.points.len()
+    }
+
     /// The place of the last point of a class that comes by a time, with a delay.
-    pub(crate) fn last_by(&self, class: ClassId, delay: u64, time: u64) -> Option<usize>
+    pub(crate) fn place_by(&self, class: ClassId, delay: u64, time: u64) -> Option<usize>
         requires { class.0 < length self.now.points }
-        ensures { (row : List Point) → slice_get self.now.points class.0 ≡ Some row →
-            IsLastPlace row delay time result }
     {
-        last_by(self.of(class), delay, time)
+        let first = self.points.len() - self.lefts[class.0 as usize];
+        match last_by(self.of(class), delay, time) {
+            Some(place) => Some(first + place),
+            None => None,
+        }
+    }
+
+    /// The time of the point at a place.
+    pub(crate) fn time_at(&self, place: usize) -> u64 {
+        self.points[place].time.0
+    }
+
+    /// What stands at the point at a place.
+    pub(crate) fn stand_at(&self, place: usize) -> &Stand {
+        &self.rows[self.ways[place].choice as usize].stand
     }
 }
 
