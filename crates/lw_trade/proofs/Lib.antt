@@ -1,7 +1,6 @@
 pub mod Adding
 pub mod Backed
 pub mod Bisected
-pub mod Built
 pub mod Cells
 pub mod Counting
 pub mod Curving
@@ -11,7 +10,6 @@ pub mod Fronting
 pub mod Grouped
 pub mod InRange
 pub mod Joint
-pub mod Lasting
 pub mod Linking
 pub mod Listing
 pub mod Lists

