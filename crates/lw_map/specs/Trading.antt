@@ -58,8 +58,8 @@ pub record IsTradedNetlist (options : Options) (cells : List CellParts) (net : N
   pub over : netlist.IsOver cells n
   pub model_name : n.model ≡ net.model
   pub inputs : n.inputs ≡ net.inputs
-  pub input_names : (mapped_ports n).inputs ≡ (ports_of net).inputs
-  pub output_names : AllZip (λ p q. p.name ≡ q.name) (ports_of net).outputs (mapped_ports n).outputs
+  pub inputs_named : (mapped_ports n).inputs ≡ (ports_of net).inputs
+  pub outputs_named : AllZip (λ p q. p.name ≡ q.name) (ports_of net).outputs (mapped_ports n).outputs
   pub values : (x : ℕ → Bool) (vs ws : List Bool) → AreValues (plain net) x vs → AreNetlistValues (truth_of_cells cells) (netlist.plain n) x ws → AllZip (λ p q. slice_get vs p.net ≡ slice_get ws q.net) (ports_of net).outputs (mapped_ports n).outputs
   pub outputs : (ds areas : List ℕ) → AreArrivals (timing_of cells starts) (netlist.plain n) ds → AreNetCosts (area_cost cells) (netlist.plain n) areas → AllZip (λ p q. HasLeastArea options cells net starts deadline n p.net q.net (slice_index_or ds q.net 0) (slice_index_or areas q.net 0)) (ports_of net).outputs (mapped_ports n).outputs
   pub names : IsDistinct bytes_eq net.names → IsDistinct bytes_eq (input_names net) → IsDistinct bytes_eq (output_names net) → AreNetNames (netlist.plain n) n.names (mapped_ports n)

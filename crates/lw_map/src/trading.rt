@@ -17,11 +17,29 @@ use lw_extract::{ExtractFault, extract};
 use lw_fixed::{Micro, Micros};
 use lw_genlib::Library;
 use lw_label::DelayCost;
+use lw_match::Mark;
 use lw_net::Network;
 use lw_netlist::Netlist;
 use lw_pattern::{Patterns, patterns};
+use lw_pool::ClassId;
 use lw_trade::{AreaCost, Targets, curves, trade};
-use std::alloc::Global;
+use std::alloc::{AllocError, Global};
+
+// The labels of some classes, or the place of the first that has none.
+fn labels_of(
+    alloc: Global,
+    marks: &[Option<Mark>],
+    roots: &[ClassId],
+) -> Result<Result<Vec<Micro>, u32>, AllocError> {
+    let mut labels = Vec::with_capacity(alloc, roots.len())?;
+    for (k, root) in roots.iter().enumerate() {
+        match marks[root.0 as usize] {
+            None => return Ok(Err(k as u32)),
+            Some(mark) => labels.push(Micro(mark.cost))?,
+        }
+    }
+    Ok(Ok(labels))
+}
 
 // The least time of each output.
 fn earliest(
@@ -34,15 +52,10 @@ fn earliest(
 ) -> Result<Vec<Micro>, MapFault> {
     let cost = DelayCost::new(lib, starts);
     let labelled = label(alloc, &choices.graph, pats, &cost)?;
-    let marks = labelled.labels.marks();
-    let mut times = Vec::with_capacity(alloc, choices.roots.len())?;
-    for (k, root) in choices.roots.as_slice().iter().enumerate() {
-        match marks[root.0 as usize] {
-            None => return Err(MapFault::NoCover(output_name(alloc, net, k as u32)?)),
-            Some(mark) => times.push(Micro(mark.cost))?,
-        }
+    match labels_of(alloc, labelled.labels.marks(), choices.roots.as_slice())? {
+        Ok(times) => Ok(times),
+        Err(place) => Err(MapFault::NoCover(output_name(alloc, net, place)?)),
     }
-    Ok(times)
 }
 
 // The latest of some times, and at least the deadline.
