@@ -1,5 +1,5 @@
 -- The netlist of least area under a deadline that a network comes to.
-use Rattle.std.specs.Prelude.{ℕ, ◌≤◌, ◌≡◌, max, Bool, List, [], ◌∷◌, map, length, Option, Some, None, slice_get, slice_index_or}
+use Rattle.std.specs.Prelude.{ℕ, ◌^◌, ◌<◌, ◌≤◌, ◌≡◌, ◌⊎◌, Contains, max, Bool, List, [], ◌∷◌, map, length, Option, Some, None, slice_get, slice_index_or}
 use Rattle.std.specs.List.{AllZip, IsDistinct}
 use Rattle.std.specs.Str.{bytes_eq}
 use Rattle.lw_pool.specs.declared.id.NetId.{NetId}
@@ -13,6 +13,7 @@ use Rattle.lw_laws.specs.Graphs.{Graph}
 use Rattle.lw_laws.specs.Classes.{IsGraphOf}
 use Rattle.lw_laws.specs.Headline.{HasLeastArrival}
 use Rattle.lw_laws.specs.MappedNetlists.{AreNetNames}
+use Rattle.lw_laws.specs.Names.{numbered_name}
 use Rattle.lw_laws.specs.Netlists.{AreByDepth, AreArrivals, AreNetCosts, AreNetlistValues, StandsFor}
 use Rattle.lw_net.specs.Networks.{NetworkParts, input_names, output_names}
 use Rattle.lw_net.specs.Plain.{plain}
@@ -63,6 +64,7 @@ pub record IsTradedNetlist (options : Options) (cells : List CellParts) (net : N
   pub values : (x : ℕ → Bool) (vs ws : List Bool) → AreValues (plain net) x vs → AreNetlistValues (truth_of_cells cells) (netlist.plain n) x ws → AllZip (λ p q. slice_get vs p.net ≡ slice_get ws q.net) (ports_of net).outputs (mapped_ports n).outputs
   pub outputs : (ds areas : List ℕ) → AreArrivals (timing_of cells starts) (netlist.plain n) ds → AreNetCosts (area_cost cells) (netlist.plain n) areas → AllZip (λ p q. HasLeastArea options cells net starts deadline n p.net q.net (slice_index_or ds q.net 0) (slice_index_or areas q.net 0)) (ports_of net).outputs (mapped_ports n).outputs
   pub names : IsDistinct bytes_eq net.names → IsDistinct bytes_eq (input_names net) → IsDistinct bytes_eq (output_names net) → AreNetNames (netlist.plain n) n.names (mapped_ports n)
+  pub own_names : (name : List ℕ) → Contains n.names name → Contains (input_names net) name ⊎ (Contains (output_names net) name ⊎ ((k : ℕ) × (k < 2 ^ 64) × (name ≡ numbered_name k)))
   pub by_depth : AreByDepth (netlist.plain n)
 
 -- Limits.
