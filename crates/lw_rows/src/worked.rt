@@ -9,7 +9,7 @@ const SLOW_PIN: &[u8] =
     b"GATE and2 3 O=a*b;\nPIN a NONINV 1 999 1 0 1 0\nPIN b NONINV 1 999 5 0 4 0\n";
 
 const USAGE: &[u8] =
-    b"lwmap: usage: map [-w K] [-i] [-c] LIB IN | check [-w K] [-i] LIB IN MAPPED | time LIB MAPPED | sim IN VECTORS | sim -g LIB MAPPED VECTORS | graph [-w K] [-i] IN | big SEED N LIB | verilog LIB MAPPED | unverilog LIB VER | lut L [-w K] [-i] IN\n";
+    b"lwmap: usage: map [-w K] [-i] [-c] LIB IN | check [-w K] [-i] LIB IN MAPPED | time LIB MAPPED | sim IN VECTORS | sim -g LIB MAPPED VECTORS | graph [-w K] [-i] IN | big SEED N LIB | verilog LIB MAPPED | unverilog LIB VER | lut L [-w K] [-i] IN | trade [-w K] [-i] T LIB IN\n";
 
 fn mapped<'a>(library: &'a [u8], network: &'a [u8], out: &'a [u8]) -> Row<'a> {
     Row {
