@@ -1,15 +1,15 @@
 -- What a network and cells come to by a deadline: an answer with a text, and that there is one refusal at most.
-use Rattle.std.proofs.Common.{◌≡◌, ◌⊎◌, inl, inr, ℕ, zero, suc, List, [], ◌∷◌, All, Option, Some, None, Result, Ok, Err, map, length, refl, ap, sym, ◌∙◌, subst, arith}
+use Rattle.std.proofs.Common.{◌≡◌, ◌⊎◌, inl, inr, ℕ, zero, suc, List, [], ◌∷◌, Option, Some, None, Result, Ok, Err, map, length, refl, ap, sym, ◌∙◌, subst, arith}
 use Rattle.std.specs.List.{AllZip}
-use Rattle.std.specs.Prelude.{slice_get, IfSome}
+use Rattle.std.specs.Prelude.{slice_get}
 use Rattle.std.proofs.lemmas.List.{length-map, length-take-le}
 use Rattle.lw_fixed.specs.declared.micro.Micro.{Micro}
 use Rattle.lw_pool.specs.declared.id.NetId.{NetId}
 use Rattle.lw_net.specs.Networks.{NetworkParts, IsNetwork, name_in}
-use Rattle.lw_genlib.specs.Cells.{CellParts, IsSmall}
+use Rattle.lw_genlib.specs.Cells.{CellParts}
 use Rattle.lw_blif.specs.declared.parsed.Parsed.{Parsed}
 use Rattle.lw_blif.specs.BlifNetworks.{IsModel}
-use Rattle.lw_laws.specs.Headline.{HasLeastArrival, Port as PlainPort}
+use Rattle.lw_laws.specs.Headline.{HasLeastArrival}
 use Rattle.lw_net.specs.Plain.{plain}
 use Rattle.lw_genlib.specs.Tables.{timing_of}
 use Rattle.lw_pattern.specs.Libraries.{library_patterns}
@@ -26,12 +26,12 @@ use Rattle.lw_map.specs.Trading.{IsTradeable, IsTradedNetlist, HasTooManyPoints,
 use Rattle.lw_top.specs.declared.answer.Answer.TheVariants as answer
 use Rattle.lw_top.specs.declared.refusal.Refusal.{Refusal}
 use Rattle.lw_top.specs.declared.refusal.Refusal.TheVariants.{Points}
-use Rattle.lw_top.specs.Steps.{Files, Step}
+use Rattle.lw_top.specs.Steps.{Files}
 use Rattle.lw_top.specs.Maps.{LacksMapping}
 use Rattle.lw_top.specs.Named.{map_refusal}
 use Rattle.lw_top.specs.Answered.{Gives}
 use Rattle.lw_top.specs.Answers.{AreAlike}
-use Rattle.lw_top.specs.Trades.{IsTradedText, LacksPoints, LacksTrade, Trades}
+use Rattle.lw_top.specs.Trades.{LacksPoints, LacksTrade, Trades}
 use Rattle.lw_top.proofs.MapAnswers.{by_lack, lack_one, within_lacks}
 
 -- what stands beside an element

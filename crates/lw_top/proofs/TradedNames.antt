@@ -1,5 +1,5 @@
 -- A netlist of least area has names of the format where the network was read.
-use Rattle.std.proofs.Common.{ℕ, ◌^◌, ◌<◌, ◌≡◌, ◌⊎◌, inl, inr, List, [], ◌∷◌, length, map, All, Option, Contains, slice_index_or, refl, ap₂, sym, subst}
+use Rattle.std.proofs.Common.{ℕ, ◌^◌, ◌<◌, ◌≡◌, ◌⊎◌, inl, inr, List, [], ◌∷◌, map, All, Option, Contains, slice_index_or, refl, ap₂, sym, subst}
 use Rattle.std.specs.List.{AllZip}
 use Rattle.std.proofs.lemmas.List.{get_or_default}
 use Rattle.lw_pool.specs.declared.id.NetId.{NetId}

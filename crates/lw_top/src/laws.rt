@@ -18,8 +18,8 @@ ghost use Rattle.lw_top.specs.declared.refusal.Refusal.{Refusal};
 use lw_map::tabled_texts_are_mappings;
 
 /// Words over known files come to one answer at most. Only where they ask for lookup tables, or for
-/// the least area by a deadline, may there be several texts, and even there one refusal at most, and
-/// then no text.
+/// the least area by a deadline, may there be several texts, and even there one refusal at most,
+/// and then no text.
 pub fn answers_are_one()
     ensures one { (words : List (List ℕ)) (files : Files) (a b : Result (List ℕ) Refusal) →
         (AsksForTables words → ⊥) → (AsksForTrade words → ⊥) →

@@ -78,11 +78,11 @@ pub fn run<F: Shelf, O: Sink, E: Sink>(
         → ((text : List ℕ) × AreTables (map string_bytes words.now.items) (bytes_of files) text
         × IsDone O.taken O.is_finished out.old out.new text) }
 
-    // At 0, over known files and where the least area by a deadline was asked for, that text is of a
-    // netlist of the library's cells, with the latches of the network's text. It gives each root the
-    // network's value under every assignment. Each root arrives by the deadline, or at its least
-    // time where that is later, and has the least area, in which each use of a shared part counts,
-    // of all covers that are in time of all trees that the command's laws derive for it.
+    // At 0, over known files and where the least area by a deadline was asked for, that text is of
+    // a netlist of the library's cells, with the latches of the network's text. It gives each root
+    // the network's value under every assignment. Each root arrives by the deadline, or at its
+    // least time where that is later, and has the least area, in which each use of a shared part
+    // counts, of all covers that are in time of all trees that the command's laws derive for it.
     ensures trading { (files : List File) → F.files shelf.old ≡ Some files →
         AsksForTrade (map string_bytes words.now.items) → result ≡ 0
         → ((text : List ℕ) × IsTrade (map string_bytes words.now.items) (bytes_of files) text

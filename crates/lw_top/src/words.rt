@@ -34,7 +34,7 @@ pub enum Command<'a> {
     ToVerilog(&'a str, &'a str),
     /// A netlist in Verilog, written as a mapped netlist.
     FromVerilog(&'a str, &'a str),
-    /// The network mapped to cells of the library with the least area by a deadline, or without one.
+    /// The network mapped to cells of the library with the least area by a deadline, if any.
     Trading(Option<Micro>, Options, &'a str, &'a str),
 }
 
