@@ -1,3 +1,5 @@
+pub mod NetNames
+pub mod FewPoints
 pub mod PortNames
 pub mod Names
 pub mod Ranges
@@ -13,5 +15,11 @@ mod ChoiceLemmas
 mod GateCount
 mod Composed
 pub mod Leaves
+mod Traded
+mod AnyTime
+mod Deadlines
+mod TradedNames
+mod OwnNames
+mod Earliest
 mod Tables
 mod TableTexts

@@ -31,7 +31,7 @@ module _ (options : Options) (cells : List CellParts) (net : NetworkParts) (star
   few_inputs = let n = kept.named in let m = kept.few in omega arith
 
   -- a time by few classes and small delays is one that is told
-  labels_low : base_count options net ≤ most_bases → (g : Graph) → IsGraphOf options.mode net.inputs (listing_of options.width (network.plain net)) g → (labels : List (Option ℕ)) → ((c : ℕ) → IsLeastCover g (library_patterns cells) (delay_cost (timing_of cells starts) most_time) c (labels_in labels c)) → (c l : ℕ) → labels_in labels c ≡ Some l → l < most_time
+  pub labels_low : base_count options net ≤ most_bases → (g : Graph) → IsGraphOf options.mode net.inputs (listing_of options.width (network.plain net)) g → (labels : List (Option ℕ)) → ((c : ℕ) → IsLeastCover g (library_patterns cells) (delay_cost (timing_of cells starts) most_time) c (labels_in labels c)) → (c l : ℕ) → labels_in labels c ≡ Some l → l < most_time
   labels_low few g is labels least c l e =
       let low = label_below options.mode options.width (network.plain net) g wide.least is (library_patterns cells) (timing_of cells starts) most_time 1000000000000 few_inputs (delay_patterns cells lib) (timing_up cells lib starts early) (omega arith) labels least c l e in
       let p = pairs_bound 0 g.forms in

@@ -5,3 +5,4 @@ pub mod Ports
 pub mod Mappings
 pub mod Faults
 pub mod Tabled
+pub mod Trading

@@ -4,6 +4,7 @@ ghost use Rattle.lw_map.specs.declared.fault.MapFault.TheVariants.{Memory};
 use lw_assoc::GraphFault;
 use lw_form::FormFault;
 use lw_pool::Name;
+use lw_trade::CurveFault;
 use std::alloc::AllocError;
 
 /// Why a network is not mapped.
@@ -15,6 +16,8 @@ pub enum MapFault {
     Splits,
     /// This output has no cover, and each one before it has.
     NoCover(Name),
+    /// The classes have more points than are dealt with.
+    Points,
     /// Memory ran out.
     Memory,
 }
@@ -51,6 +54,20 @@ impl From<GraphFault> for MapFault {
         match fault {
             GraphFault::Limit => MapFault::Splits,
             GraphFault::Memory => MapFault::Memory,
+        }
+    }
+}
+
+impl From<CurveFault> for MapFault {
+    ghost use Rattle.std.specs.Prelude.{◌≡◌};
+    ghost use Rattle.lw_map.specs.Faults.{curve_fault};
+
+    ghost from_gives = { λ fault e. e ≡ curve_fault fault };
+
+    fn from(fault: CurveFault) -> MapFault {
+        match fault {
+            CurveFault::Limit => MapFault::Points,
+            CurveFault::Memory => MapFault::Memory,
         }
     }
 }

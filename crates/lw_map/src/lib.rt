@@ -1,4 +1,5 @@
-//! A network mapped to the cells of a library, or to lookup tables: the layers one after another.
+//! A network mapped to the cells of a library, by least time or by least area, or to lookup tables:
+//! the layers one after another.
 #![tactic(auto)]
 
 mod certifying;
@@ -10,6 +11,7 @@ mod laws;
 mod naming;
 mod options;
 mod tabling;
+mod trading;
 
 pub use certifying::certificate;
 pub use choices::{Choices, decompose};
@@ -18,3 +20,4 @@ pub use fault::MapFault;
 pub use laws::tabled_texts_are_mappings;
 pub use options::Options;
 pub use tabling::tabulate;
+pub use trading::exchange;

@@ -1,5 +1,5 @@
 -- What was written in Verilog is read back.
-use Rattle.std.proofs.Common.{ℕ, ◌≤◌, ◌<◌, ◌^◌, ◌≡◌, inl, inr, List, length, Some, None, Ok, Err, refl, ap, ◌∙◌, subst, arith}
+use Rattle.std.proofs.Common.{ℕ, ◌≤◌, ◌<◌, ◌^◌, inl, inr, List, length, Some, Ok, refl, ap, ◌∙◌, subst, arith}
 use Rattle.lw_genlib.specs.Cells.{CellParts}
 use Rattle.lw_mapped.specs.declared.closing.Mapped.{Mapped}
 use Rattle.lw_mapped.specs.Readable.{IsNamed}

@@ -49,12 +49,14 @@ module _ (step : Step (List ℕ)) (options : Options) (net : NetworkParts) where
   choice_refused lacks map_fault.Forms is = λ files. lacks files _ is
   choice_refused lacks map_fault.Splits is = λ files. lacks files _ is
   choice_refused lacks (map_fault.NoCover name) is = absurd is
+  choice_refused lacks map_fault.Points is = absurd is
   choice_refused lacks map_fault.Memory is = tt
 
   pub cover_refused : (cells : List CellParts) (starts : List Micro) (c : Choices) → plain_options c.options ≡ options → ((files : Files) (r : Refusal) → LacksMapping options cells net starts r → step files (Err r)) → (fault : MapFault) → IsCoverFault cells net starts c fault → Gives step (Err (map_refusal fault))
   cover_refused cells starts c same lacks map_fault.Forms is = absurd is
   cover_refused cells starts c same lacks map_fault.Splits is = absurd is
   cover_refused cells starts c same lacks (map_fault.NoCover name) is = λ files. lacks files _ (subst (λ (o : Options). LacksCover o cells net starts name) same is)
+  cover_refused cells starts c same lacks map_fault.Points is = absurd is
   cover_refused cells starts c same lacks map_fault.Memory is = tt
 
 zip_length : {X Y : Type 0} (R : X → Y → Type 0) (xs : List X) (ys : List Y) → AllZip R xs ys → length xs ≡ length ys

@@ -15,15 +15,19 @@ use Rattle.lw_top.specs.declared.outcome.Outcome.{Outcome}
 use Rattle.lw_top.specs.declared.outcome.Outcome.TheVariants.{Done, WriteFault, Refused}
 use Rattle.lw_top.specs.Steps.{Files}
 use Rattle.lw_top.specs.Maps.{Maps}
-use Rattle.lw_top.specs.Words.{Command, mapping, command_of}
+use Rattle.lw_top.specs.Words.{Command, mapping, trading, command_of}
 use Rattle.lw_top.specs.Answers.{within_limit, text_of, ReadsLibrary, ReadsModel, asked_for, IsCommandAnswer, IsAnswer}
 use Rattle.lw_top.specs.Outcome.{IsDone, Meets, outcome_status}
 use Rattle.lw_top.specs.Telling.{outcome_line, refusal_line}
 use Rattle.lw_top.specs.Mappings.{AsksForMapping, AsksForTables, AreRead, IsMappingText, LacksOutput}
 use Rattle.lw_top.specs.Tabled.{AreTables}
+use Rattle.lw_top.specs.Trades.{Trades}
+use Rattle.lw_top.specs.Traded.{AsksForTrade, IsTrade, LacksTradedOutput}
 use Rattle.lw_top.proofs.Steps.{IsLast, last-ok, last-err}
 use Rattle.lw_top.proofs.InRange.{command_in_range}
 use Rattle.lw_top.proofs.Sound.{asked_some, cells_kept, model_kept}
+use Rattle.lw_top.proofs.Accepted.{names_read}
+use Rattle.lw_top.proofs.TradedNames.{traded_named}
 
 -- no step before the mapping refuses for want of a cover
 words-stand : (o : Option Command) (name : List ℕ) → ◌≡◌ {A = Result Command Refusal} (asked_for o) (Err (NoCover name)) → ⊥
@@ -112,6 +116,40 @@ module _ (words : List (List ℕ)) (files : Files) (options : Options) (certifie
       let (c, is, comes) = asked-lacks words files name answer in
       lacks-output name (last-err (ReadsLibrary library) (ReadsModel network) (λ (cells : List CellParts) (model : Parsed). Maps options certified cells model) files (NoCover name) (library-stands library files name) (network-stands network files name) (subst (λ (d : Command). IsCommandAnswer d files (Err (NoCover name))) (own-command c is) comes))
 
+module _ (words : List (List ℕ)) (files : Files) (asks : AsksForTrade words) where
+  abbrev own-trade : Command
+  own-trade = trading asks.deadline asks.options asks.library asks.network
+
+  trade-command : (c : Command) → command_of words ≡ Some c → c ≡ own-trade
+  trade-command c is = let form = asks.form in let both : Some c ≡ Some own-trade = sym is ∙ form in cc
+
+  -- an answer that is a text is that of a netlist of least area
+  pub answer-traded : (text : List ℕ) → IsAnswer words files (Ok text) → IsTrade words files text
+  answer-traded text answer =
+      let (c, is, comes) = asked-ok words files text answer in
+      let m = last-ok (ReadsLibrary asks.library) (ReadsModel asks.network) (λ (cells : List CellParts) (model : Parsed). Trades asks.deadline asks.options cells model) files text (subst (λ (d : Command). IsCommandAnswer d files (Ok text)) (trade-command c is) comes) in
+      let kept = model_kept asks.network files m.b m.two in
+      record {
+        asks = asks;
+        cells = m.a;
+        model = m.b;
+        netlist = m.comes.netlist;
+        library = m.one;
+        network = m.two;
+        written = m.comes.written;
+        frame = kept.fits.frame;
+        starts = kept.fits.starts;
+        traded = m.comes.traded;
+        named = traded_named asks.options m.a m.b asks.deadline m.comes.netlist m.comes.traded kept (names_read asks.network files m.b m.two);
+      }
+
+  -- an answer that names an output is of one without a cover
+  pub answer-untraded : (name : List ℕ) → IsAnswer words files (Err (NoCover name)) → LacksTradedOutput words files name
+  answer-untraded name answer =
+      let (c, is, comes) = asked-lacks words files name answer in
+      let m = last-err (ReadsLibrary asks.library) (ReadsModel asks.network) (λ (cells : List CellParts) (model : Parsed). Trades asks.deadline asks.options cells model) files (NoCover name) (library-stands asks.library files name) (network-stands asks.network files name) (subst (λ (d : Command). IsCommandAnswer d files (Err (NoCover name))) (trade-command c is) comes) in
+      record { asks = asks; cells = m.a; model = m.b; library = m.one; network = m.two; lacks = m.comes }
+
 module _ {O : Type 0} (words : List (List ℕ)) (told : Option (List File)) (before now : ℕ) (taken : O → Option (List ℕ)) (is_finished : O → Bool) (faults : O → ℕ) (old new : O) (said : List ℕ → Type 0) where
   abbrev pub Met : Outcome → Type 0
   Met o = Meets told before now taken is_finished faults old new (IsAnswer words) o
@@ -136,3 +174,16 @@ module _ {O : Type 0} (words : List (List ℕ)) (told : Option (List File)) (bef
   named-lacks asks WriteFault m line files is e = absurd (omega (arith, e))
   named-lacks asks (Refused (NoCover name)) m line files is e = (name, answer-lacks words (bytes_of files) asks.options asks.certified asks.library asks.network asks.form name (m.0 files is), line)
   named-lacks asks (Refused other) m line files is e = absurd (omega (arith, e))
+
+  -- a run that is done wrote the text of a netlist of least area
+  pub done-trades : AsksForTrade words → (o : Outcome) → Met o → (files : List File) → told ≡ Some files → 0 ≡ outcome_status o → (text : List ℕ) × IsTrade words (bytes_of files) text × IsDone taken is_finished old new text
+  done-trades asks Done m files is e = (m.0, answer-traded words (bytes_of files) asks m.0 (m.1 files is), m.2)
+  done-trades asks WriteFault m files is e = absurd (omega (arith, e))
+  done-trades asks (Refused (NoCover name)) m files is e = absurd (omega (arith, e))
+  done-trades asks (Refused other) m files is e = absurd (omega (arith, e))
+
+  pub named-untraded : AsksForTrade words → (o : Outcome) → Met o → said (outcome_line (command_of words) o) → (files : List File) → told ≡ Some files → 6 ≡ outcome_status o → (name : List ℕ) × LacksTradedOutput words (bytes_of files) name × said (refusal_line (command_of words) (NoCover name))
+  named-untraded asks Done m line files is e = absurd (omega (arith, e))
+  named-untraded asks WriteFault m line files is e = absurd (omega (arith, e))
+  named-untraded asks (Refused (NoCover name)) m line files is e = (name, answer-untraded words (bytes_of files) asks name (m.0 files is), line)
+  named-untraded asks (Refused other) m line files is e = absurd (omega (arith, e))

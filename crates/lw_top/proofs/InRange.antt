@@ -1,13 +1,18 @@
 -- The numbers of a command.
-use Rattle.std.proofs.Common.{◌≡◌, ℕ, ◌≤◌, ◌-◌, Bool, true, false, ◌&&◌, nat_le, List, [], ◌∷◌, Option, Some, None, if◌then◌else◌, refl, sym, subst, arith}
+use Rattle.std.proofs.Common.{◌≡◌, ℕ, ◌≤◌, ◌-◌, Bool, true, false, ◌&&◌, nat_le, List, [], ◌∷◌, Option, Some, None, Result, Ok, Err, if◌then◌else◌, refl, sym, subst, arith}
 use Rattle.std.specs.Prelude.{IfSome, codes, nat_eq}
 use Rattle.std.specs.List.{starts_with}
 use Rattle.std.specs.Str.{bytes_eq}
 use Rattle.std.proofs.lemmas.Bool.{leb-true}
+use Rattle.lw_fixed.specs.Decimals.{decimal_of}
+use Rattle.lw_fixed.specs.declared.fault.DecimalFault.{DecimalFault}
+use Rattle.lw_fixed.specs.declared.micro.Micro.{Micro}
+use Rattle.lw_blif.proofs.Early.{decimal_below}
+use Rattle.lw_genlib.specs.Cells.{IsSmall}
 use Rattle.lw_laws.specs.Modes.Mode.{plain, idempotent}
 use Rattle.lw_map.specs.Options.{Options, IsWide}
 use Rattle.lw_map.specs.Tabled.{AreLeaves}
-use Rattle.lw_top.specs.Words.{Command, mapping, checking, timing, simulation, gate_simulation, counting, tabling, drawing, to_verilog, from_verilog, Two, Three, Begun, one_file, two_files, three_files, width_of, with_mode, with_width, begun_by, number_of, seed_of, count_in, count_of, mapping_of, certified_of, mapping_begun, checking_of, checking_begun, counting_of, counting_begun, leaves_of, tabling_of, tabling_by, tabling_begun, timing_of, network_simulation, netlist_simulation, simulation_of, drawing_by, drawing_of, to_verilog_of, from_verilog_of, named, command_of, IsCount, IsInRange}
+use Rattle.lw_top.specs.Words.{Command, mapping, checking, timing, simulation, gate_simulation, counting, tabling, drawing, to_verilog, from_verilog, Two, Three, Begun, one_file, two_files, three_files, width_of, with_mode, with_width, begun_by, number_of, seed_of, count_in, count_of, mapping_of, certified_of, mapping_begun, checking_of, checking_begun, counting_of, counting_begun, leaves_of, tabling_of, tabling_by, tabling_begun, timing_of, network_simulation, netlist_simulation, simulation_of, drawing_by, drawing_of, to_verilog_of, from_verilog_of, trading, time_read, deadline_of, trading_of, traded_of, trading_begun, named, command_of, IsCount, IsInRange}
 
 -- each value that an option holds
 abbrev Each : {A : Type 0} → (A → Type 0) → Option A → Type 0
@@ -191,6 +196,35 @@ from_verilog_in_range : (files : Option Two) → Each IsInRange (from_verilog_of
 from_verilog_in_range None c is = cc
 from_verilog_in_range (Some files) c is = let same : from_verilog files.first files.second ≡ c = cc in subst IsInRange same tt
 
+abbrev IsTime : Option Micro → Type 0
+IsTime deadline = IfSome deadline IsSmall
+
+time_small : (word : List ℕ) (r : Result Micro DecimalFault) → decimal_of word 1000000 ≡ r → Each IsTime (time_read r)
+time_small word (Ok time) e deadline is =
+    let same : Some time ≡ deadline = cc in
+    subst IsTime same (decimal_below word 1000000 time e)
+time_small word (Err fault) e deadline is = cc
+
+word_time : (b : Bool) (o : Option (Option Micro)) → Each IsTime o → Each IsTime (if b then Some None else o)
+word_time true o times deadline is = let same : None ≡ deadline = cc in subst IsTime same tt
+word_time false o times deadline is = times deadline is
+
+trades_in_range : (options : Options) (deadline : Option (Option Micro)) (files : Option Two) → IsWide options → Each IsTime deadline → Each IsInRange (trading_of options deadline files)
+trades_in_range options None files wide times c is = cc
+trades_in_range options (Some deadline) None wide times c is = cc
+trades_in_range options (Some deadline) (Some files) wide times c is =
+    let same : trading deadline options files.first files.second ≡ c = cc in
+    subst IsInRange same (times deadline refl, wide)
+
+traded_in_range : (options : Options) (words : List (List ℕ)) → IsWide options → Each IsInRange (traded_of options words)
+traded_in_range options [] wide c is = cc
+traded_in_range options (time ∷ words) wide c is =
+    trades_in_range options (deadline_of time) (two_files words) wide (word_time (bytes_eq time (codes "none")) (time_read (decimal_of time 1000000)) (time_small time (decimal_of time 1000000) refl)) c is
+
+trading_in_range : (begun : Option Begun) → Each HasWide begun → Each IsInRange (trading_begun begun)
+trading_in_range None wide c is = cc
+trading_in_range (Some begun) wide c is = traded_in_range begun.options begun.rest (wide begun refl) c is
+
 chosen : (b : Bool) (o p : Option Command) → Each IsInRange o → Each IsInRange p → Each IsInRange (if b then o else p)
 chosen true o p first other c is = first c is
 chosen false o p first other c is = other c is
@@ -205,7 +239,8 @@ named_in_range name words =
     (chosen (bytes_eq name (codes "big")) _ _ (drawing_in_range words)
     (chosen (bytes_eq name (codes "verilog")) _ _ (to_verilog_in_range (two_files words))
     (chosen (bytes_eq name (codes "unverilog")) _ _ (from_verilog_in_range (two_files words))
-    (chosen (bytes_eq name (codes "lut")) _ None (tabling_in_range words) (λ c is. cc)))))))))
+    (chosen (bytes_eq name (codes "lut")) _ _ (tabling_in_range words)
+    (chosen (bytes_eq name (codes "trade")) _ None (trading_in_range (begun_by words) (begun_wide words)) (λ c is. cc))))))))))
 
 -- a command's numbers are those that words may say
 pub command_in_range : (words : List (List ℕ)) (c : Command) → command_of words ≡ Some c → IsInRange c

@@ -30,3 +30,5 @@ pub mod Accepted
 pub mod Writable
 pub mod ComesBack
 pub mod TableAnswers
+pub mod TradeAnswers
+pub mod TradedNames

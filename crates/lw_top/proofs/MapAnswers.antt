@@ -45,7 +45,7 @@ module _ (options : Options) (cells : List CellParts) (net : NetworkParts) (star
   lack_one r s p q = lacks_one (by_lack options cells net starts r p) (by_lack options cells net starts s q)
 
   -- a network within the limits is mapped, or an output has no cover
-  within_lacks : {r : Refusal} → IsWithinLimits options net → Lack options cells net starts r → (name : List ℕ) × LacksCover options cells net starts name
+  pub within_lacks : {r : Refusal} → IsWithinLimits options net → Lack options cells net starts r → (name : List ℕ) × LacksCover options cells net starts name
   within_lacks w (of_forms p) = let f = w.forms in absurd (omega arith)
   within_lacks w (of_splits p) = let f = w.splits in let g = p.1 in absurd (omega arith)
   within_lacks w (of_cover {name = name} p) = (name, p)

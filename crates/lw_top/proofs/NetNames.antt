@@ -41,7 +41,7 @@ good-name word some few each = record {
   ends = let short : nat_le (length word) 2000 ≡ true = grind (arith, nat_tests) in ap₂ (λ a b. a && not b) short (no-stroke word some each);
 }
 
-numbered-name : (k : ℕ) → k < 2 ^ 64 → IsSignalName (numbered_name k)
+pub numbered-name : (k : ℕ) → k < 2 ^ 64 → IsSignalName (numbered_name k)
 numbered-name k lt =
     let short : length (decimal k) ≤ 20 = length-decimal-le 20 k (omega arith) (omega arith) lt in
     good-name (numbered_name k) (omega arith) (omega arith)

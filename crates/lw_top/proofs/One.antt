@@ -28,8 +28,10 @@ use Rattle.lw_top.specs.Checks.{Checks}
 use Rattle.lw_top.specs.Reports.{Times, Simulates, SimulatesNetlist}
 use Rattle.lw_top.specs.Counts.{Counts, Draws}
 use Rattle.lw_top.specs.Tables.{Tabulates}
-use Rattle.lw_top.specs.Words.{Command, mapping, checking, timing, simulation, gate_simulation, counting, tabling, drawing, to_verilog, from_verilog, command_of, IsInRange, IsCount}
-use Rattle.lw_top.specs.Answers.{text_of, marked_lines_in, HasCells, HasModel, HasMapped, HasVerilog, HasVectors, ReadsLibrary, ReadsModel, ReadsMapped, ReadsVerilog, ReadsVectors, IsMappingAnswer, IsCheckAnswer, IsTimingAnswer, IsSimulationAnswer, IsGateSimulationAnswer, IsCountAnswer, IsTablingAnswer, IsDrawingAnswer, IsToVerilogAnswer, IsFromVerilogAnswer, IsCommandAnswer, asked_for, IsAnswer, AreAlike}
+use Rattle.lw_top.specs.Trades.{Trades}
+use Rattle.lw_top.specs.Traded.{AsksForTrade}
+use Rattle.lw_top.specs.Words.{Command, mapping, checking, timing, simulation, gate_simulation, counting, tabling, drawing, to_verilog, from_verilog, trading, command_of, IsInRange, IsCount}
+use Rattle.lw_top.specs.Answers.{text_of, marked_lines_in, HasCells, HasModel, HasMapped, HasVerilog, HasVectors, ReadsLibrary, ReadsModel, ReadsMapped, ReadsVerilog, ReadsVectors, IsMappingAnswer, IsCheckAnswer, IsTimingAnswer, IsSimulationAnswer, IsGateSimulationAnswer, IsCountAnswer, IsTablingAnswer, IsDrawingAnswer, IsToVerilogAnswer, IsFromVerilogAnswer, IsTradingAnswer, IsCommandAnswer, asked_for, IsAnswer, AreAlike}
 use Rattle.lw_top.specs.Mappings.{AsksForTables}
 use Rattle.lw_top.proofs.Closed.{has_one_model}
 use Rattle.lw_top.proofs.InRange.{command_in_range}
@@ -37,6 +39,7 @@ use Rattle.lw_top.proofs.Sound.{asked_some, cells_kept, AreKept, model_kept, IsR
 use Rattle.lw_top.proofs.MapAnswers.{maps_one}
 use Rattle.lw_top.proofs.CheckOne.{checks_one, counts_one, tables_alike}
 use Rattle.lw_top.proofs.DrawOne.{draws_one}
+use Rattle.lw_top.proofs.TradeAnswers.{trades_alike}
 use Rattle.lw_top.specs.Verilogs.{SaysVerilog, SaysMapped}
 use Rattle.lw_top.proofs.VerilogOne.{verilog_one, says_one, mapped_said_one}
 
@@ -288,21 +291,33 @@ tabling_alike leaves options network wide =
     followed_so (AreAlike (λ s t. Unit {0})) Any (ReadsModel network) (λ model. Tabulates leaves options model) (λ e. refl) (model_read_one network) (λ files x p. tt)
     (λ model any files a b p q. tables_alike options model wide leaves files a b p q)
 
+-- several texts of netlists of least area
+trading_alike : (deadline : Option Micro) (options : Options) (library network : List ℕ) → IsWide options → IsBy (AreAlike (λ s t. Unit {0})) (IsTradingAnswer deadline options library network)
+trading_alike deadline options library network wide =
+    followed_so (AreAlike (λ s t. Unit {0})) Any (ReadsLibrary library) (λ cells. followed_by (ReadsModel network) (λ model. Trades deadline options cells model)) (λ e. refl) (library_one library) (λ files x p. tt)
+    (λ cells any. followed_so (AreAlike (λ s t. Unit {0})) Any (ReadsModel network) (λ model. Trades deadline options cells model) (λ e. refl) (model_read_one network) (λ files x p. tt)
+    (λ model some files a b p q. trades_alike options cells model deadline wide files a b p q))
+
 abbrev IsTabling : Command → Type 0
 IsTabling (tabling leaves options network) = Unit {0}
 IsTabling other = ⊥
 
-command_one : (c : Command) → IsInRange c → (IsTabling c → ⊥) → IsOne (IsCommandAnswer c)
-command_one (mapping options certified library network) wide other = mapping_one options certified library network wide
-command_one (checking options library network mapped) wide other = check_one options library network mapped wide
-command_one (timing library mapped) wide other = timing_one library mapped
-command_one (simulation network vectors) wide other = simulation_one network vectors
-command_one (gate_simulation library mapped vectors) wide other = gate_simulation_one library mapped vectors
-command_one (counting options network) wide other = count_one options network wide
-command_one (tabling leaves options network) wide other = absurd (other tt)
-command_one (drawing seed count library) few other = drawing_one seed count library few
-command_one (to_verilog library mapped) any other = to_verilog_one library mapped
-command_one (from_verilog library verilog) any other = from_verilog_one library verilog
+abbrev IsTrading : Command → Type 0
+IsTrading (trading deadline options library network) = Unit {0}
+IsTrading other = ⊥
+
+command_one : (c : Command) → IsInRange c → (IsTabling c → ⊥) → (IsTrading c → ⊥) → IsOne (IsCommandAnswer c)
+command_one (mapping options certified library network) wide other none = mapping_one options certified library network wide
+command_one (checking options library network mapped) wide other none = check_one options library network mapped wide
+command_one (timing library mapped) wide other none = timing_one library mapped
+command_one (simulation network vectors) wide other none = simulation_one network vectors
+command_one (gate_simulation library mapped vectors) wide other none = gate_simulation_one library mapped vectors
+command_one (counting options network) wide other none = count_one options network wide
+command_one (tabling leaves options network) wide other none = absurd (other tt)
+command_one (drawing seed count library) few other none = drawing_one seed count library few
+command_one (to_verilog library mapped) any other none = to_verilog_one library mapped
+command_one (from_verilog library verilog) any other none = from_verilog_one library verilog
+command_one (trading deadline options library network) wide other none = absurd (none tt)
 
 same_alike : (a b : Result (List ℕ) Refusal) → a ≡ b → AreAlike (λ s t. Unit {0}) a b
 same_alike (Ok s) (Ok t) e = tt
@@ -312,16 +327,21 @@ same_alike (Err r) (Err s) e = cc
 
 command_alike : (c : Command) → IsInRange c → IsBy (AreAlike (λ s t. Unit {0})) (IsCommandAnswer c)
 command_alike (tabling leaves options network) wide = tabling_alike leaves options network wide.1
-command_alike other wide = λ files a b p q. same_alike a b (command_one other wide (λ t. t) files a b p q)
+command_alike (trading deadline options library network) wide = trading_alike deadline options library network wide.1
+command_alike other wide = λ files a b p q. same_alike a b (command_one other wide (λ t. t) (λ t. t) files a b p q)
 
 asks_for_tables : (words : List (List ℕ)) (c : Command) → command_of words ≡ Some c → IsTabling c → AsksForTables words
 asks_for_tables words (tabling leaves options network) is tabled = record { leaves = leaves; options = options; network = network; form = is }
 asks_for_tables words other is tabled = absurd tabled
 
-pub answer_one : (words : List (List ℕ)) → (AsksForTables words → ⊥) → (files : Files) (a b : Result (List ℕ) Refusal) → IsAnswer words files a → IsAnswer words files b → a ≡ b
-answer_one words other =
-    followed_one (λ c. IsInRange c × (IsTabling c → ⊥)) (gives (λ files. asked_for (command_of words))) IsCommandAnswer (gives_one (λ files. asked_for (command_of words)))
-    (λ files c p. let is = asked_some (command_of words) c p in (command_in_range words c is, λ tabled. other (asks_for_tables words c is tabled))) (λ c both. command_one c both.0 both.1)
+asks_for_trade : (words : List (List ℕ)) (c : Command) → command_of words ≡ Some c → IsTrading c → AsksForTrade words
+asks_for_trade words (trading deadline options library network) is traded = record { deadline = deadline; options = options; library = library; network = network; form = is }
+asks_for_trade words other is traded = absurd traded
+
+pub answer_one : (words : List (List ℕ)) → (AsksForTables words → ⊥) → (AsksForTrade words → ⊥) → (files : Files) (a b : Result (List ℕ) Refusal) → IsAnswer words files a → IsAnswer words files b → a ≡ b
+answer_one words other none =
+    followed_one (λ c. IsInRange c × ((IsTabling c → ⊥) × (IsTrading c → ⊥))) (gives (λ files. asked_for (command_of words))) IsCommandAnswer (gives_one (λ files. asked_for (command_of words)))
+    (λ files c p. let is = asked_some (command_of words) c p in (command_in_range words c is, (λ tabled. other (asks_for_tables words c is tabled), λ traded. none (asks_for_trade words c is traded)))) (λ c both. command_one c both.0 both.1.0 both.1.1)
 
 pub answers_alike : (words : List (List ℕ)) (files : Files) (a b : Result (List ℕ) Refusal) → IsAnswer words files a → IsAnswer words files b → AreAlike (λ s t. Unit {0}) a b
 answers_alike words =

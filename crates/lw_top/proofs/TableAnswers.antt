@@ -1,5 +1,5 @@
 -- An answer with a text of tables.
-use Rattle.std.proofs.Common.{◌≡◌, inl, inr, ℕ, List, Some, Ok, Err, subst, All}
+use Rattle.std.proofs.Common.{inl, inr, ℕ, List, Ok, All}
 use Rattle.lw_blif.specs.declared.parsed.Parsed.{Parsed}
 use Rattle.lw_mapped.specs.Readable as mapped
 use Rattle.lw_lut.specs.Readable.{IsSignalName, IsReadableLatch}
@@ -9,7 +9,6 @@ use Rattle.lw_map.specs.Tabled.{HasReadableNames}
 use Rattle.lw_top.specs.Steps.{Files, Step, followed_by}
 use Rattle.lw_top.specs.Tables.{IsTablesText, Tabulates}
 use Rattle.lw_top.specs.Answers.{ReadsModel, IsTablingAnswer}
-use Rattle.lw_top.proofs.Accepted.{names_read}
 use Rattle.lw_top.proofs.SignalNames.{IsNamed}
 use Rattle.lw_top.proofs.Sound.{AreKept}
 

@@ -1,5 +1,5 @@
 -- Which netlists have a text in Verilog that reads back.
-use Rattle.std.proofs.Common.{◌≡◌, ℕ, ◌<◌, ◌^◌, Bool, true, false, List, length, Option, Some, None, if◌then◌else◌}
+use Rattle.std.proofs.Common.{◌≡◌, ◌<◌, ◌^◌, Bool, true, false, List, length, Option, Some, None, if◌then◌else◌}
 use Rattle.std.specs.Prelude.{nat_lt}
 use Rattle.lw_pool.specs.declared.latch.Frame.{Frame}
 use Rattle.lw_genlib.specs.Cells.{CellParts, IsLibrary}

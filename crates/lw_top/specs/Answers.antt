@@ -1,5 +1,6 @@
 -- The answer to words over known files: a list of steps, of which the first that refuses decides.
 use Rattle.std.specs.Prelude.{◌≡◌, ℕ, Bool, true, false, nat_le, List, length, map, Option, Some, None, Result, Ok, Err, if◌then◌else◌}
+use Rattle.lw_fixed.specs.declared.micro.Micro.{Micro}
 use Rattle.lw_words.specs.Lines.{LogicalLine, logical_lines}
 use Rattle.lw_genlib.specs.declared.fault.LibFault.TheVariants as lib_fault
 use Rattle.lw_genlib.specs.Cells.{CellParts}
@@ -18,16 +19,17 @@ use Rattle.lw_verilog.specs.Verdicts.{IsRead}
 use Rattle.lw_report.specs.Vectors.{first_fault, vector_of}
 use Rattle.lw_map.specs.Options.{Options}
 use Rattle.lw_top.specs.declared.refusal.Refusal.{Refusal}
-use Rattle.lw_top.specs.declared.refusal.Refusal.TheVariants.{Words, Unread, TooLong, Library, Network, Undefined, Cycle, Mapped, Verilog, Twice, Undriven, NetCycle, Vector, Forms, Splits, NoCover, No, NoVerilog, Memory}
+use Rattle.lw_top.specs.declared.refusal.Refusal.TheVariants.{Words, Unread, TooLong, Library, Network, Undefined, Cycle, Mapped, Verilog, Twice, Undriven, NetCycle, Vector, Forms, Splits, NoCover, Points, No, NoVerilog, Memory}
 use Rattle.lw_top.specs.declared.refusal.Which.{Which}
 use Rattle.lw_top.specs.declared.refusal.Which.TheVariants as which
 use Rattle.lw_top.specs.Steps.{Files, Step, gives, followed_by}
-use Rattle.lw_top.specs.Words.{Command, mapping, checking, timing, simulation, gate_simulation, counting, tabling, drawing, to_verilog, from_verilog, command_of}
+use Rattle.lw_top.specs.Words.{Command, mapping, checking, timing, simulation, gate_simulation, counting, tabling, drawing, to_verilog, from_verilog, trading, command_of}
 use Rattle.lw_top.specs.Maps.{Maps}
 use Rattle.lw_top.specs.Checks.{Checks}
 use Rattle.lw_top.specs.Reports.{Times, Simulates, SimulatesNetlist}
 use Rattle.lw_top.specs.Counts.{Counts, Draws}
 use Rattle.lw_top.specs.Tables.{Tabulates}
+use Rattle.lw_top.specs.Trades.{Trades}
 use Rattle.lw_top.specs.Verilogs.{SaysVerilog, SaysMapped}
 
 -- Files.
@@ -141,6 +143,10 @@ IsToVerilogAnswer library mapped = followed_by (ReadsLibrary library) (λ cells.
 abbrev pub IsFromVerilogAnswer : List ℕ → List ℕ → Step (List ℕ)
 IsFromVerilogAnswer library verilog = followed_by (ReadsLibrary library) (λ cells. followed_by (ReadsVerilog verilog cells) (λ n. SaysMapped cells n))
 
+-- what a mapping of the network with the least area by a deadline comes to
+abbrev pub IsTradingAnswer : Option Micro → Options → List ℕ → List ℕ → Step (List ℕ)
+IsTradingAnswer deadline options library network = followed_by (ReadsLibrary library) (λ cells. followed_by (ReadsModel network) (λ model. Trades deadline options cells model))
+
 -- what a command comes to
 abbrev pub IsCommandAnswer : Command → Step (List ℕ)
 IsCommandAnswer (mapping options certified library network) = IsMappingAnswer options certified library network
@@ -153,6 +159,7 @@ IsCommandAnswer (tabling leaves options network) = IsTablingAnswer leaves option
 IsCommandAnswer (drawing seed count library) = IsDrawingAnswer seed count library
 IsCommandAnswer (to_verilog library mapped) = IsToVerilogAnswer library mapped
 IsCommandAnswer (from_verilog library verilog) = IsFromVerilogAnswer library verilog
+IsCommandAnswer (trading deadline options library network) = IsTradingAnswer deadline options library network
 
 -- words of no written form are refused
 abbrev pub asked_for : Option Command → Result Command Refusal
@@ -194,6 +201,7 @@ IsReached (gate_simulation library mapped vectors) which.Mapped files = HasLibra
 IsReached (gate_simulation library mapped vectors) which.Vectors files = HasNetlist library mapped files
 IsReached (to_verilog library mapped) which.Mapped files = HasLibrary library files
 IsReached (from_verilog library verilog) which.Mapped files = HasLibrary library files
+IsReached (trading deadline options library network) which.Network files = HasLibrary library files
 IsReached command w files = Unit {0}
 
 -- Statuses.
@@ -209,6 +217,7 @@ status_of (Library line kind) = 4
 status_of (TooLong w) = 5
 status_of Forms = 5
 status_of Splits = 5
+status_of Points = 5
 status_of (NoCover name) = 6
 status_of Memory = 8
 status_of (No reason) = 9

@@ -20,5 +20,7 @@ pub mod Mappings
 pub mod Texts
 pub mod Checked
 pub mod Tables
+pub mod Trades
+pub mod Traded
 pub mod Tabled
 pub mod Backs

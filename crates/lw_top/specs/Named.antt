@@ -15,7 +15,7 @@ use Rattle.lw_report.specs.Simulated.{IsNetworkSimulation, IsNetlistSimulation}
 use Rattle.lw_map.specs.declared.fault.MapFault.{MapFault}
 use Rattle.lw_map.specs.declared.fault.MapFault.TheVariants as map_fault
 use Rattle.lw_top.specs.declared.refusal.Refusal.{Refusal}
-use Rattle.lw_top.specs.declared.refusal.Refusal.TheVariants.{Words, Unread, TooLong, Forms, Splits, NoCover, Memory}
+use Rattle.lw_top.specs.declared.refusal.Refusal.TheVariants.{Words, Unread, TooLong, Forms, Splits, NoCover, Points, Memory}
 use Rattle.lw_top.specs.declared.answer.Answer.{Answer}
 use Rattle.lw_top.specs.declared.answer.Answer.TheVariants as answer
 use Rattle.lw_lut.specs.Texts.{tables_text}
@@ -29,6 +29,7 @@ abbrev pub map_refusal : MapFault → Refusal
 map_refusal map_fault.Forms = Forms
 map_refusal map_fault.Splits = Splits
 map_refusal (map_fault.NoCover name) = NoCover name
+map_refusal map_fault.Points = Points
 map_refusal map_fault.Memory = Memory
 
 -- The step has this outcome, whatever the files; running out of memory needs no reason, and of the words and the files nothing is refused.

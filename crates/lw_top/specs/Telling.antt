@@ -4,7 +4,7 @@ use Rattle.std.specs.Io.KnownBytes.{Appends}
 use Rattle.lw_io.specs.Causes.{Rose}
 use Rattle.lw_io.specs.Moves.{AppendsPrefix}
 use Rattle.lw_top.specs.declared.refusal.Refusal.{Refusal}
-use Rattle.lw_top.specs.declared.refusal.Refusal.TheVariants.{Words, Unread, TooLong, Library, Network, Undefined, Cycle, Mapped, Verilog, Twice, Undriven, NetCycle, Vector, Forms, Splits, NoCover, No, NoVerilog, Memory}
+use Rattle.lw_top.specs.declared.refusal.Refusal.TheVariants.{Words, Unread, TooLong, Library, Network, Undefined, Cycle, Mapped, Verilog, Twice, Undriven, NetCycle, Vector, Forms, Splits, NoCover, Points, No, NoVerilog, Memory}
 use Rattle.lw_top.specs.declared.refusal.Which.TheVariants as which
 use Rattle.lw_top.specs.Words.{Command, file_word}
 use Rattle.lw_top.specs.Kinds.{blif_text, lib_text, mapped_kind_text, verilog_kind_text}
@@ -17,7 +17,7 @@ abbrev pub Told : {E : Type 0} → (E → Option (List ℕ)) → (E → ℕ) →
 Told taken faults old new text = Appends (taken old) (taken new) text ⊎ (Rose (faults old) (faults new) × AppendsPrefix (taken old) (taken new) text)
 
 abbrev pub usage_text : List ℕ
-usage_text = codes "usage: map [-w K] [-i] [-c] LIB IN | check [-w K] [-i] LIB IN MAPPED | time LIB MAPPED | sim IN VECTORS | sim -g LIB MAPPED VECTORS | graph [-w K] [-i] IN | big SEED N LIB | verilog LIB MAPPED | unverilog LIB VER | lut L [-w K] [-i] IN"
+usage_text = codes "usage: map [-w K] [-i] [-c] LIB IN | check [-w K] [-i] LIB IN MAPPED | time LIB MAPPED | sim IN VECTORS | sim -g LIB MAPPED VECTORS | graph [-w K] [-i] IN | big SEED N LIB | verilog LIB MAPPED | unverilog LIB VER | lut L [-w K] [-i] IN | trade [-w K] [-i] T LIB IN"
 
 -- a line of a file breaks the rule of this text
 abbrev pub broken_text : List ℕ → ℕ → List ℕ → List ℕ
@@ -40,6 +40,7 @@ refusal_text command (Vector line) = broken_text (file_word command which.Vector
 refusal_text command Forms = codes "limit: more than 2097152 forms"
 refusal_text command Splits = codes "limit: more than 16777216 splits"
 refusal_text command (NoCover name) = codes "no cover for output " ++ name
+refusal_text command Points = codes "limit: more than 8000000 points"
 refusal_text command (No reason) = codes "no: " ++ reason_text reason
 refusal_text command (NoVerilog why) = codes "no verilog: " ++ no_verilog_text why
 refusal_text command Memory = codes "out of memory"

@@ -1,9 +1,13 @@
 -- The words of a command.
-use Rattle.std.specs.Prelude.{ℕ, ◌≤◌, ◌-◌, ◌^◌, Bool, true, false, not, ◌&&◌, nat_le, nat_lt, nat_eq, List, [], ◌∷◌, length, Option, Some, None, if◌then◌else◌, codes}
+use Rattle.std.specs.Prelude.{ℕ, ◌≤◌, ◌-◌, ◌^◌, Bool, true, false, not, ◌&&◌, nat_le, nat_lt, nat_eq, List, [], ◌∷◌, length, Option, Some, None, Result, Ok, Err, if◌then◌else◌, codes, IfSome}
 use Rattle.std.specs.List.{list_all, starts_with}
 use Rattle.std.specs.Char.{is_ascii_digit}
 use Rattle.std.specs.Str.{bytes_eq}
 use Rattle.std.specs.Str.Parse.{digits_value}
+use Rattle.lw_fixed.specs.Decimals.{decimal_of}
+use Rattle.lw_fixed.specs.declared.fault.DecimalFault.{DecimalFault}
+use Rattle.lw_fixed.specs.declared.micro.Micro.{Micro}
+use Rattle.lw_genlib.specs.Cells.{IsSmall}
 use Rattle.lw_laws.specs.Modes.Mode.{plain, idempotent}
 use Rattle.lw_map.specs.Options.{Options, IsWide}
 use Rattle.lw_map.specs.Tabled.{AreLeaves}
@@ -31,6 +35,8 @@ pub data Command : Type 0 where
   to_verilog : List ℕ → List ℕ → Command
   -- a netlist in Verilog, written as a mapped netlist
   from_verilog : List ℕ → List ℕ → Command
+  -- the network mapped to cells of the library with the least area by a deadline, or without one
+  trading : Option Micro → Options → List ℕ → List ℕ → Command
 
 -- Files.
 
@@ -202,6 +208,27 @@ abbrev pub from_verilog_of : Option Two → Option Command
 from_verilog_of None = None
 from_verilog_of (Some files) = Some (from_verilog files.first files.second)
 
+abbrev pub time_read : Result Micro DecimalFault → Option (Option Micro)
+time_read (Ok time) = Some (Some time)
+time_read (Err fault) = None
+
+-- `none`, or a decimal below 1000000
+abbrev pub deadline_of : List ℕ → Option (Option Micro)
+deadline_of word = if bytes_eq word (codes "none") then Some None else time_read (decimal_of word 1000000)
+
+abbrev pub trading_of : Options → Option (Option Micro) → Option Two → Option Command
+trading_of options (Some deadline) (Some files) = Some (trading deadline options files.first files.second)
+trading_of options deadline files = None
+
+-- `T LIB IN`
+abbrev pub traded_of : Options → List (List ℕ) → Option Command
+traded_of options [] = None
+traded_of options (time ∷ words) = trading_of options (deadline_of time) (two_files words)
+
+abbrev pub trading_begun : Option Begun → Option Command
+trading_begun None = None
+trading_begun (Some begun) = traded_of begun.options begun.rest
+
 abbrev pub named : List ℕ → List (List ℕ) → Option Command
 named name words =
     if bytes_eq name (codes "map") then mapping_begun (begun_by words)
@@ -212,7 +239,8 @@ named name words =
     else (if bytes_eq name (codes "big") then drawing_of words
     else (if bytes_eq name (codes "verilog") then to_verilog_of (two_files words)
     else (if bytes_eq name (codes "unverilog") then from_verilog_of (two_files words)
-    else (if bytes_eq name (codes "lut") then tabling_begun words else None))))))))
+    else (if bytes_eq name (codes "lut") then tabling_begun words
+    else (if bytes_eq name (codes "trade") then trading_begun (begun_by words) else None)))))))))
 
 -- The command that the words are a written form of.
 abbrev pub command_of : List (List ℕ) → Option Command
@@ -231,6 +259,7 @@ IsInRange (checking options library network mapped) = IsWide options
 IsInRange (counting options network) = IsWide options
 IsInRange (tabling leaves options network) = AreLeaves leaves × IsWide options
 IsInRange (drawing seed count library) = IsCount count
+IsInRange (trading deadline options library network) = IfSome deadline IsSmall × IsWide options
 IsInRange other = Unit {0}
 
 -- the word of a file, and none where the command reads no such file
@@ -254,6 +283,8 @@ file_in (to_verilog library mapped) which.Library = library
 file_in (to_verilog library mapped) which.Mapped = mapped
 file_in (from_verilog library verilog) which.Library = library
 file_in (from_verilog library verilog) which.Mapped = verilog
+file_in (trading deadline options library network) which.Library = library
+file_in (trading deadline options library network) which.Network = network
 file_in other w = []
 
 -- no file where there is no command

@@ -1,6 +1,7 @@
 // From a command to its answer.
-ghost use Rattle.std.specs.Prelude.{◌≡◌, ◌≤◌};
-ghost use Rattle.lw_top.specs.Words.{IsInRange, IsCount, mapping, checking, timing, simulation, gate_simulation, counting, tabling, drawing, to_verilog, from_verilog};
+ghost use Rattle.std.specs.Prelude.{◌≡◌, ◌≤◌, IfSome};
+ghost use Rattle.lw_genlib.specs.Cells.{IsSmall};
+ghost use Rattle.lw_top.specs.Words.{IsInRange, IsCount, mapping, checking, timing, simulation, gate_simulation, counting, tabling, drawing, to_verilog, from_verilog, trading};
 ghost use Rattle.lw_top.specs.Commands.{plain_command};
 ghost use Rattle.lw_top.specs.Answered.{IsAnswered};
 ghost use Rattle.lw_map.specs.Options.{IsWide, plain_options};
@@ -12,6 +13,7 @@ use crate::refusal::Refusal;
 use crate::reports::{check_mapped, simulate, simulate_gates, time_mapped};
 use crate::sources::{read_library, read_mapped, read_model, read_netlist, read_vectors};
 use crate::tabling::table_model;
+use crate::trading::trade_model;
 use crate::verilog::{map_verilog, say_verilog};
 use crate::words::Command;
 use lw_fixed::{Micro, Micros};
@@ -222,6 +224,26 @@ fn from_verilog_files<F: Shelf>(
     map_verilog(alloc, library, netlist)
 }
 
+fn trade_files<F: Shelf>(
+    alloc: Global,
+    deadline: Option<Micro>,
+    options: Options,
+    library: &str,
+    network: &str,
+    shelf: &mut F,
+) -> Result<Answer, Refusal>
+    requires late { IfSome deadline IsSmall }
+    requires wide { IsWide (plain_options options) }
+    ensures answered { IsAnswered (F.files shelf.old) (F.faults shelf.old) (F.faults shelf.new)
+        (trading deadline (plain_options options) library.now network.now) result }
+    ensures later { F.faults shelf.old ≤ F.faults shelf.new }
+    ensures files { F.files shelf.new ≡ F.files shelf.old }
+{
+    let library = read_library(alloc, shelf, library)?;
+    let model = read_model(alloc, shelf, network)?;
+    trade_model(alloc, library, model, options, deadline)
+}
+
 /// What a command comes to, or why there is no answer.
 pub fn respond<F: Shelf>(
     alloc: Global,
@@ -254,6 +276,9 @@ pub fn respond<F: Shelf>(
         Command::ToVerilog(library, mapped) => to_verilog_files(alloc, library, mapped, shelf),
         Command::FromVerilog(library, verilog) => {
             from_verilog_files(alloc, library, verilog, shelf)
+        }
+        Command::Trading(deadline, options, library, network) => {
+            trade_files(alloc, deadline, options, library, network, shelf)
         }
     }
 }

@@ -12,15 +12,18 @@ ghost use Rattle.lw_top.specs.Checks.{yes_text};
 ghost use Rattle.lw_top.specs.Checked.{IsCheckOf};
 ghost use Rattle.lw_top.specs.Mappings.{AsksForMapping, AsksForTables, AreRead, IsMappingText};
 ghost use Rattle.lw_top.specs.Tabled.{AreTables};
+ghost use Rattle.lw_top.specs.Traded.{AsksForTrade, IsTrade};
 ghost use Rattle.lw_top.specs.declared.refusal.Refusal.{Refusal};
 
 use lw_map::tabled_texts_are_mappings;
 
-/// Words over known files come to one answer at most. Only where they ask for lookup tables may
-/// there be several texts, and even there one refusal at most, and then no text.
+/// Words over known files come to one answer at most. Only where they ask for lookup tables, or for
+/// the least area by a deadline, may there be several texts, and even there one refusal at most,
+/// and then no text.
 pub fn answers_are_one()
     ensures one { (words : List (List ℕ)) (files : Files) (a b : Result (List ℕ) Refusal) →
-        (AsksForTables words → ⊥) → IsAnswer words files a → IsAnswer words files b → a ≡ b }
+        (AsksForTables words → ⊥) → (AsksForTrade words → ⊥) →
+        IsAnswer words files a → IsAnswer words files b → a ≡ b }
     ensures refusal { (words : List (List ℕ)) (files : Files) (a b : Result (List ℕ) Refusal) →
         IsAnswer words files a → IsAnswer words files b → AreAlike (λ text other. Unit {0}) a b }
 {}
@@ -39,6 +42,13 @@ pub fn answers_are_tables()
 {
     tabled_texts_are_mappings();
 }
+
+/// Where the least area by a deadline is asked for, an answer with a text is the text of a netlist
+/// that computes the roots of the network that was read, each in time and at its least area.
+pub fn answers_are_trades()
+    ensures { (words : List (List ℕ)) (files : Files) (text : List ℕ) → AsksForTrade words →
+        IsAnswer words files (Ok text) → IsTrade words files text }
+{}
 
 /// Where the words ask for a mapping of a network that is within the limits, the answer is that
 /// there is no cover exactly where some root has none: no tree that the laws derive for it has a

@@ -17,6 +17,7 @@ mod tabling;
 mod telling;
 mod texts;
 mod top;
+mod trading;
 mod verilog;
 mod words;
 

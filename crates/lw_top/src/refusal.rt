@@ -55,6 +55,8 @@ pub enum Refusal {
     Splits,
     /// This output has no cover.
     NoCover(Name),
+    /// The classes have more points than are dealt with.
+    Points,
     /// The mapped netlist is no fastest mapping of the network.
     No(Reason),
     /// The mapped netlist has no text in Verilog.
@@ -82,6 +84,7 @@ impl From<MapFault> for Refusal {
             MapFault::Forms => Refusal::Forms,
             MapFault::Splits => Refusal::Splits,
             MapFault::NoCover(name) => Refusal::NoCover(name),
+            MapFault::Points => Refusal::Points,
             MapFault::Memory => Refusal::Memory,
         }
     }

@@ -113,6 +113,7 @@ fn put_refusal<E: Sink>(
         Refusal::Forms => put(err, waiting, b"limit: more than 2097152 forms"),
         Refusal::Splits => put(err, waiting, b"limit: more than 16777216 splits"),
         Refusal::NoCover(s) => put_two(err, waiting, b"no cover for output ", s.as_bytes()),
+        Refusal::Points => put(err, waiting, b"limit: more than 8000000 points"),
         Refusal::No(reason) => put_no(err, waiting, reason),
         Refusal::NoVerilog(why) => put_unsaid(err, waiting, why),
         Refusal::Memory => put(err, waiting, b"out of memory"),
@@ -148,4 +149,4 @@ const TWICE: &[u8] = b" driven twice";
 const UNDRIVEN: &[u8] = b" not driven";
 
 const USAGE: &[u8] =
-    b"usage: map [-w K] [-i] [-c] LIB IN | check [-w K] [-i] LIB IN MAPPED | time LIB MAPPED | sim IN VECTORS | sim -g LIB MAPPED VECTORS | graph [-w K] [-i] IN | big SEED N LIB | verilog LIB MAPPED | unverilog LIB VER | lut L [-w K] [-i] IN";
+    b"usage: map [-w K] [-i] [-c] LIB IN | check [-w K] [-i] LIB IN MAPPED | time LIB MAPPED | sim IN VECTORS | sim -g LIB MAPPED VECTORS | graph [-w K] [-i] IN | big SEED N LIB | verilog LIB MAPPED | unverilog LIB VER | lut L [-w K] [-i] IN | trade [-w K] [-i] T LIB IN";

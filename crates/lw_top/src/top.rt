@@ -9,6 +9,7 @@ ghost use Rattle.lw_top.specs.Answers.{IsAnswer, IsReached, status_in, status_of
 ghost use Rattle.lw_top.specs.Reading.{Known};
 ghost use Rattle.lw_top.specs.Mappings.{AsksForMapping, AsksForCheck, AsksForTables, IsMappingText, LacksOutput, IsCheckedMapping};
 ghost use Rattle.lw_top.specs.Tabled.{AreTables};
+ghost use Rattle.lw_top.specs.Traded.{AsksForTrade, IsTrade, LacksTradedOutput};
 ghost use Rattle.lw_top.specs.Outcome.{IsDone, IsCutShort, Meets, outcome_status};
 ghost use Rattle.lw_top.specs.Telling.{Told, outcome_line, refusal_line};
 ghost use Rattle.lw_top.specs.Complete.{IsComplete};
@@ -77,6 +78,23 @@ pub fn run<F: Shelf, O: Sink, E: Sink>(
         → ((text : List ℕ) × AreTables (map string_bytes words.now.items) (bytes_of files) text
         × IsDone O.taken O.is_finished out.old out.new text) }
 
+    // At 0, over known files and where the least area by a deadline was asked for, that text is of
+    // a netlist of the library's cells, with the latches of the network's text. It gives each root
+    // the network's value under every assignment. Each root arrives by the deadline, or at its
+    // least time where that is later, and has the least area, in which each use of a shared part
+    // counts, of all covers that are in time of all trees that the command's laws derive for it.
+    ensures trading { (files : List File) → F.files shelf.old ≡ Some files →
+        AsksForTrade (map string_bytes words.now.items) → result ≡ 0
+        → ((text : List ℕ) × IsTrade (map string_bytes words.now.items) (bytes_of files) text
+        × IsDone O.taken O.is_finished out.old out.new text) }
+
+    // At 6, over known files and where it was asked for, the root whose name is told has no cover.
+    ensures no_trade { (files : List File) → F.files shelf.old ≡ Some files →
+        AsksForTrade (map string_bytes words.now.items) → result ≡ 6
+        → ((name : List ℕ) × LacksTradedOutput (map string_bytes words.now.items)
+        (bytes_of files) name × Told E.taken E.faults err.old err.new
+        (refusal_line (command_of (map string_bytes words.now.items)) (Refusal.NoCover name))) }
+
     // At 7 the stream failed, and a prefix of the text that 0 would have written went out.
     ensures cut_short { result ≡ 7 →
         ((text : List ℕ) × Known (F.files shelf.old) (IsAnswer (map string_bytes words.now.items))
@@ -137,7 +155,7 @@ fn status_of(refusal: &Refusal) -> u8
         Refusal::Unread(_) => 2,
         Refusal::Network(..) | Refusal::Undefined(_) | Refusal::Cycle(_) => 3,
         Refusal::Library(..) => 4,
-        Refusal::TooLong(_) | Refusal::Forms | Refusal::Splits => 5,
+        Refusal::TooLong(_) | Refusal::Forms | Refusal::Splits | Refusal::Points => 5,
         Refusal::NoCover(_) => 6,
         Refusal::Memory => 8,
         Refusal::No(_) => 9,

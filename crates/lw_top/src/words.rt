@@ -2,12 +2,13 @@
 ghost use Rattle.std.specs.Prelude.{◌≡◌, None, Some, map, string_bytes, option_map, MatchOption};
 ghost use Rattle.std.specs.List.{list_all};
 ghost use Rattle.std.specs.Char.{is_ascii_digit};
-ghost use Rattle.lw_top.specs.Words.{width_of, is_file_word, two, three, one_file, two_files, three_files, with_mode, with_width, begun_by, is_numeral, number_of, seed_of, count_of, certified_of, mapping_begun, checking_begun, counting_begun, leaves_of, tabling_begun, timing_of, simulation_of, drawing_of, to_verilog_of, from_verilog_of, named, command_of, file_word};
+ghost use Rattle.lw_top.specs.Words.{width_of, is_file_word, two, three, one_file, two_files, three_files, with_mode, with_width, begun_by, is_numeral, number_of, seed_of, count_of, certified_of, mapping_begun, checking_begun, counting_begun, leaves_of, tabling_begun, deadline_of, traded_of, trading_begun, timing_of, simulation_of, drawing_of, to_verilog_of, from_verilog_of, named, command_of, file_word};
 ghost use Rattle.lw_top.specs.Commands.{plain_begun, asked};
 ghost use Rattle.lw_map.specs.Options.{plain_options};
 
 use crate::refusal::Which;
 use lw_assoc::Mode;
+use lw_fixed::{Micro, read};
 use lw_map::Options;
 
 /// A command, with its options and the words for its files.
@@ -33,6 +34,8 @@ pub enum Command<'a> {
     ToVerilog(&'a str, &'a str),
     /// A netlist in Verilog, written as a mapped netlist.
     FromVerilog(&'a str, &'a str),
+    /// The network mapped to cells of the library with the least area by a deadline, if any.
+    Trading(Option<Micro>, Options, &'a str, &'a str),
 }
 
 fn is_file_word(word: &str) -> bool
@@ -295,6 +298,40 @@ fn from_verilog_of(words: &[String]) -> Option<Command<'_>>
     Some(Command::FromVerilog(library, verilog))
 }
 
+// `none`, or a decimal below 1000000.
+fn deadline_of(word: &str) -> Option<Option<Micro>>
+    ensures { result ≡ deadline_of word.now }
+{
+    if word == "none" {
+        return Some(None);
+    }
+    match read(word.as_bytes(), 1_000_000) {
+        Ok(time) => Some(Some(time)),
+        Err(_) => None,
+    }
+}
+
+// `T LIB IN`.
+fn traded_of(options: Options, words: &[String]) -> Option<Command<'_>>
+    ensures { asked result ≡ traded_of (plain_options options) (map string_bytes words.now) }
+{
+    match words {
+        [time, rest @ ..] => {
+            let deadline = deadline_of(time.as_str())?;
+            let (library, network) = two_files(rest)?;
+            Some(Command::Trading(deadline, options, library, network))
+        }
+        _ => None,
+    }
+}
+
+fn trading_of(words: &[String]) -> Option<Command<'_>>
+    ensures { asked result ≡ trading_begun (begun_by (map string_bytes words.now)) }
+{
+    let begun = begun_by(words)?;
+    traded_of(begun.options, begun.rest)
+}
+
 fn named<'a>(name: &str, words: &'a [String]) -> Option<Command<'a>>
     ensures { asked result ≡ named name.now (map string_bytes words.now) }
 {
@@ -308,6 +345,7 @@ fn named<'a>(name: &str, words: &'a [String]) -> Option<Command<'a>>
         "verilog" => to_verilog_of(words),
         "unverilog" => from_verilog_of(words),
         "lut" => tabling_of(words),
+        "trade" => trading_of(words),
         _ => None,
     }
 }
@@ -335,7 +373,8 @@ pub fn file_word<'a>(command: Option<Command<'a>>, which: Which) -> &'a [u8]
                 | Command::GateSimulation(library, _, _)
                 | Command::Drawing(_, _, library)
                 | Command::ToVerilog(library, _)
-                | Command::FromVerilog(library, _),
+                | Command::FromVerilog(library, _)
+                | Command::Trading(_, _, library, _),
             ),
             Which::Library,
         ) => library.as_bytes(),
@@ -345,7 +384,8 @@ pub fn file_word<'a>(command: Option<Command<'a>>, which: Which) -> &'a [u8]
                 | Command::Checking(_, _, network, _)
                 | Command::Simulation(network, _)
                 | Command::Counting(_, network)
-                | Command::Tabling(_, _, network),
+                | Command::Tabling(_, _, network)
+                | Command::Trading(_, _, _, network),
             ),
             Which::Network,
         ) => network.as_bytes(),

@@ -14,7 +14,7 @@ use Rattle.lw_laws.proofs.Netlists.{net_covered}
 use Rattle.lw_trade.specs.Areas.{most_area, area_at, total, area_cost}
 use Rattle.lw_trade.specs.Backing.{Held, IsHeld, IsPinOf, held_times, held_areas, IsGivenBy, AreBacked}
 use Rattle.lw_trade.specs.Choices.{Part, Choice, AreChoices}
-use Rattle.lw_trade.specs.Choices.Part.{input, gate as by_gate}
+use Rattle.lw_trade.specs.Choices.Part.{gate as by_gate}
 use Rattle.lw_trade.specs.Groups.{CurveLists, HaveWays, point_in}
 use Rattle.lw_trade.specs.Points.{Task, timing, IsCoverBy, IsPoint, AreCurves}
 use Rattle.lw_trade.specs.Trades.{IsNetOfPoint, HavePinNets, IsBuilt, IsCoverOfPoint, BuiltNetsAreCovers}
@@ -52,15 +52,16 @@ module _ (s : Task) (choices : List Choice) (are : AreChoices s choices) (held :
 
   module _ (falls : (k l : Held) → IsHeld held k → IsHeld held l → k.spot.class ≡ l.spot.class → k.spot.time ≤ l.spot.time → l.spot.area ≤ k.spot.area) where
     mutual
-      cover_low : (k : Cover) (h : Held) (net : ℕ) → IsHeld held h → IsNetOfPoint choices nodes n.inputs h net → StandsFor n k net → (time_of (timing s) k ≤ h.spot.time) × (cost_of (area_cost s.cells) k ≤ h.spot.area)
-      cover_low (wire i) h net in' (inl (c, j, at, e, lt)) (f, in_range) =
-          let same : j ≡ i = sym e ∙ f in
-          let start = (given h c (input j) in' at).0 in
-          (subst (λ x. start_of (timing s).starts x ≤ h.spot.time) same start, omega arith)
-      cover_low (wire i) h net in' (inr (j, at, e)) (f, in_range) = absurd (omega (arith, e, f, in_range))
-      cover_low (gate p ks) h net in' (inl (c, i, at, e, lt)) (j, g, gt, f, cell, all) = absurd (omega (arith, e, f, lt))
-      cover_low (gate p ks) h net in' (inr (i, at, e)) (j, g, gt, f, cell, all) =
-          let same : i ≡ j = omega (arith, e, f) in
+      cover_low : (k : Cover) (h : Held) (net : ℕ) → IsHeld held h → IsNetOfPoint s nodes h net → StandsFor n k net → (time_of (timing s) k ≤ h.spot.time) × (cost_of (area_cost s.cells) k ≤ h.spot.area)
+      cover_low (wire i) h net in' (inl (leaf, start)) (f, in_range) =
+          (subst (λ x. start_of (timing s).starts x ≤ h.spot.time) f start, omega arith)
+      cover_low (wire i) h net in' (inr (none, j, at, e)) (f, in_range) =
+          absurd (omega (arith, e, f, in_range, built.inputs))
+      cover_low (gate p ks) h net in' (inl (leaf, start)) (j, g, gt, f, cell, all) =
+          let lt = get_in s.graph.leaves net h.spot.class leaf in
+          absurd (omega (arith, f, lt, built.inputs))
+      cover_low (gate p ks) h net in' (inr (none, i, at, e)) (j, g, gt, f, cell, all) =
+          let same : i ≡ j = omega (arith, e, f, built.inputs) in
           let b = built.gates j h g (ap (slice_get nodes) (sym same) ∙ at) gt in
           let ((ls, zip, in_time, in_area), class) = given h b.class (by_gate g.cell b.pins) in' b.chosen in
           let (t, a) = covers_low ks h h.spot.time (delays_of (timing s).delays g.cell) b.pins g.pins ls b.nets zip in_time all in
@@ -69,7 +70,7 @@ module _ (s : Task) (choices : List Choice) (are : AreChoices s choices) (held :
             subst (λ x. min most_area (area_at s.cells x + total (costs_of (area_cost s.cells) ks)) ≤ h.spot.area) cell a',
           )
 
-      covers_low : (ks : Covers) (h : Held) (time : ℕ) (ds ps nets : List ℕ) (ls : List Held) → HavePinNets choices held nodes n.inputs time ds ps nets → AllZip (IsPinOf held h) ps ls → latest ds (held_times ls) ≤ time → StandForAll n ks nets → (latest ds (times_of (timing s) ks) ≤ time) × (total (costs_of (area_cost s.cells) ks) ≤ total (held_areas ls))
+      covers_low : (ks : Covers) (h : Held) (time : ℕ) (ds ps nets : List ℕ) (ls : List Held) → HavePinNets s held nodes time ds ps nets → AllZip (IsPinOf held h) ps ls → latest ds (held_times ls) ≤ time → StandForAll n ks nets → (latest ds (times_of (timing s) ks) ≤ time) × (total (costs_of (area_cost s.cells) ks) ≤ total (held_areas ls))
       covers_low no_covers h time [] ps nets ls have zip le stand = (omega arith, omega arith)
       covers_low no_covers h time (d ∷ ds) ps nets ls have zip le stand = (omega arith, omega arith)
       covers_low (cover k ks) h time ds ps [] ls have zip le (net, rest, e, stand, all) = cc
@@ -91,16 +92,14 @@ module _ (s : Task) (choices : List Choice) (are : AreChoices s choices) (held :
   class_at : ℕ → ℕ
   class_at net = slice_index_or (s.graph.leaves ++ map (λ (h : Held). h.spot.class) nodes) net 0
 
-  class_is : (h : Held) (net : ℕ) → IsHeld held h → IsNetOfPoint choices nodes n.inputs h net → class_at net ≡ h.spot.class
+  class_is : (h : Held) (net : ℕ) → IsHeld held h → IsNetOfPoint s nodes h net → class_at net ≡ h.spot.class
   unfolding class_at
-  class_is h net in' (inl (c, i, at, e, lt)) =
-      let class = (given h c (input i) in' at).1 in
-      let leaf = are.each h.choice (record { class = c; part = input i }) at in
-      ap (λ k. slice_index_or (s.graph.leaves ++ map (λ (h : Held). h.spot.class) nodes) k 0) e ∙ (index_left s.graph.leaves (map (λ (h : Held). h.spot.class) nodes) i (get_in s.graph.leaves i c leaf) ∙ (got_at s.graph.leaves i c leaf ∙ class))
-  class_is h net in' (inr (j, at, e)) =
-      index_right s.graph.leaves (map (λ (h : Held). h.spot.class) nodes) net j h.spot.class (omega (arith, e, built.inputs)) (get_map (λ (h : Held). h.spot.class) nodes j h at)
+  class_is h net in' (inl (leaf, start)) =
+      index_left s.graph.leaves (map (λ (h : Held). h.spot.class) nodes) net (get_in s.graph.leaves net h.spot.class leaf) ∙ got_at s.graph.leaves net h.spot.class leaf
+  class_is h net in' (inr (none, j, at, e)) =
+      index_right s.graph.leaves (map (λ (h : Held). h.spot.class) nodes) net j h.spot.class e (get_map (λ (h : Held). h.spot.class) nodes j h at)
 
-  pin_classes : (time : ℕ) (ds ps nets : List ℕ) → HavePinNets choices held nodes n.inputs time ds ps nets → map class_at nets ≡ ps
+  pin_classes : (time : ℕ) (ds ps nets : List ℕ) → HavePinNets s held nodes time ds ps nets → map class_at nets ≡ ps
   pin_classes time [] [] [] have = refl
   pin_classes time [] [] (m ∷ ms) have = absurd have
   pin_classes time [] (p ∷ ps) [] have = absurd have
@@ -119,6 +118,11 @@ module _ (s : Task) (choices : List Choice) (are : AreChoices s choices) (held :
       let in' : i < length s.graph.leaves = omega (arith, lt, built.inputs) in
       got s.graph.leaves i 0 in' ∙ ap (λ (c : ℕ). Some c) (sym (index_left s.graph.leaves (map (λ (h : Held). h.spot.class) nodes) i in'))
 
+  here_is : (j : ℕ) (h : Held) → slice_get nodes j ≡ Some h → IsHeld held h → class_at (n.inputs + j) ≡ h.spot.class
+  unfolding class_at
+  here_is j h at in' =
+      index_right s.graph.leaves (map (λ (h : Held). h.spot.class) nodes) (n.inputs + j) j h.spot.class (omega (arith, built.inputs)) (get_map (λ (h : Held). h.spot.class) nodes j h at)
+
   gate_class : (j : ℕ) (g : Gate) → IsGate n j g → IsMatchAt s.graph (area_cost s.cells).pin_counts s.patterns (class_at (n.inputs + j)) g.cell (map class_at g.pins)
   gate_class j g gt =
       let lt = get_in n.gates j g gt in
@@ -126,18 +130,20 @@ module _ (s : Task) (choices : List Choice) (are : AreChoices s choices) (held :
       let in' = built.nodes_are h (j, at) in
       let b = built.gates j h g at gt in
       let class = (given h b.class (by_gate g.cell b.pins) in' b.chosen).1 in
-      let here = class_is h (n.inputs + j) in' (inr (j, at, refl)) in
+      let here = here_is j h at in' in
       let pins = pin_classes h.spot.time (delays_of (timing s).delays g.cell) b.pins g.pins b.nets in
       subst₂ (λ c ps. IsMatchAt s.graph (area_cost s.cells).pin_counts s.patterns c g.cell ps) (class ∙ sym here) (sym pins) (are.each h.choice (record { class = b.class; part = by_gate g.cell b.pins }) b.chosen)
 
   mapped : IsMapped s.graph (area_cost s.cells).pin_counts s.patterns n class_at
   mapped = record { inputs = input_class; gates = gate_class }
 
-  in_range : (h : Held) (net : ℕ) → IsNetOfPoint choices nodes n.inputs h net → net < n.inputs + length n.gates
-  in_range h net (inl (c, i, at, e, lt)) = omega (arith, e, lt)
-  in_range h net (inr (j, at, e)) = let lt = get_in nodes j h at in omega (arith, e, lt, built.one_each)
+  in_range : (h : Held) (net : ℕ) → IsNetOfPoint s nodes h net → net < n.inputs + length n.gates
+  in_range h net (inl (leaf, start)) =
+      let lt = get_in s.graph.leaves net h.spot.class leaf in omega (arith, lt, built.inputs)
+  in_range h net (inr (none, j, at, e)) =
+      let lt = get_in nodes j h at in omega (arith, e, lt, built.one_each, built.inputs)
 
-  pub built_cover : (point : (h : Held) → IsHeld held h → IsPoint s h.spot.class (point_in h)) (falls : (k l : Held) → IsHeld held k → IsHeld held l → k.spot.class ≡ l.spot.class → k.spot.time ≤ l.spot.time → l.spot.area ≤ k.spot.area) (h : Held) (net : ℕ) → IsHeld held h → IsNetOfPoint choices nodes n.inputs h net → IsCoverOfPoint s n h net
+  pub built_cover : (point : (h : Held) → IsHeld held h → IsPoint s h.spot.class (point_in h)) (falls : (k l : Held) → IsHeld held k → IsHeld held l → k.spot.class ≡ l.spot.class → k.spot.time ≤ l.spot.time → l.spot.area ≤ k.spot.area) (h : Held) (net : ℕ) → IsHeld held h → IsNetOfPoint s nodes h net → IsCoverOfPoint s n h net
   built_cover point falls h net in' net_of =
       let k = net_covered s.graph (area_cost s.cells).pin_counts s.patterns n class_at built.ordered mapped net (in_range h net net_of) in
       let (t, a) = cover_low falls k.by h net in' net_of k.stands in

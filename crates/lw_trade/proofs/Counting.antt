@@ -1,11 +1,12 @@
 -- Points of all classes are as many as those of each class together.
-use Rattle.std.proofs.Common.{◌≡◌, ◌≢◌, ℕ, zero, suc, ◌<◌, ◌⊎◌, inl, inr, max, length, replicate, List, [], ◌∷◌, Contains, Some, slice_get, refl, ap, ◌∙◌, subst, arith}
+use Rattle.std.proofs.Common.{◌≡◌, ◌≢◌, ℕ, zero, suc, ◌+◌, ◌<◌, ◌≤◌, ◌⊎◌, inl, inr, max, length, replicate, List, [], ◌∷◌, Contains, Some, slice_get, refl, ap, ◌∙◌, subst, arith}
 use Rattle.std.proofs.lemmas.Option.{same_Some}
 use Rattle.lw_trade.specs.declared.point.Point.{Point}
-use Rattle.lw_trade.specs.Groups.{point_of, IsRow}
+use Rattle.lw_trade.specs.Groups.{point_of, IsRow, AreRows}
+use Rattle.lw_trade.specs.Lasts.{ArePointsRising}
 use Rattle.lw_trade.specs.Points.{point_count}
 use Rattle.lw_trade.specs.Settling.{Spot, spot, Has, AreApart}
-use Rattle.lw_trade.proofs.Lists.{at_contained}
+use Rattle.lw_trade.proofs.Lists.{at_contained, contained_at}
 use Rattle.lw_trade.proofs.Stepping.{in_tail, in_cons}
 
 -- the rows with a point in front of one of them
@@ -129,3 +130,75 @@ rows_grouped n (k ∷ ks) apart c row at = by_case (rows_grouped n ks (apart_tai
     by_case : ((d : ℕ) (r : List Point) → slice_get (grouped n ks) d ≡ Some r → IsRow ks d r) → ((k.class ≡ c) × (old : List Point) × (slice_get (grouped n ks) c ≡ Some old) × (point_of k ∷ old ≡ row)) ⊎ ((k.class ≢ c) × (slice_get (grouped n ks) c ≡ Some row)) → IsRow (k ∷ ks) c row
     by_case rows (inl (e, old, at, f)) = subst (IsRow (k ∷ ks) c) f (row_same k ks c old apart e (rows c old at))
     by_case rows (inr (ne, at)) = row_other k ks c row ne (rows c row at)
+
+-- Rows of the points have no more points together.
+
+add_most : (rows : List (List Point)) (c : ℕ) (p : Point) → point_count (add_to rows c p) ≤ suc (point_count rows)
+add_most [] c p = omega arith
+add_most (row ∷ rows) zero p = omega arith
+add_most (row ∷ rows) (suc c) p = let ih = add_most rows c p in omega arith
+
+grouped_most : (n : ℕ) (ks : List Spot) → point_count (grouped n ks) ≤ length ks
+grouped_most n [] = let e = count_none n in omega arith
+grouped_most n (k ∷ ks) =
+    let ih = grouped_most n ks in
+    let more = add_most (grouped n ks) k.class (point_of k) in
+    omega arith
+
+head_less : (x : Point) (xs : List Point) → ArePointsRising (x ∷ xs) → (p : Point) → Contains xs p → x.time.0 < p.time.0
+head_less x xs rising p in' =
+    let (i, at) = contained_at xs p in' in rising 0 (suc i) x p (omega arith) refl at
+
+tail_rising : (x : Point) (xs : List Point) → ArePointsRising (x ∷ xs) → ArePointsRising xs
+tail_rising x xs rising i j p q lt at bt = rising (suc i) (suc j) p q (omega arith) at bt
+
+no_longer : (xs ys : List Point) → ArePointsRising xs → ArePointsRising ys → ((p : Point) → Contains xs p → Contains ys p) → length xs ≤ length ys
+no_longer [] ys up up' all = omega arith
+no_longer (x ∷ xs) [] up up' all = let (k, lt, e) = all x (0, omega arith, refl) in absurd (omega (arith, lt))
+no_longer (x ∷ xs) (y ∷ ys) up up' all = by_head (no_longer xs ys (tail_rising x xs up) (tail_rising y ys up')) (no_longer (x ∷ xs) ys up (tail_rising y ys up')) (in_cons y x ys (all x (0, omega arith, refl)))
+  where
+    by_head : (((p : Point) → Contains xs p → Contains ys p) → length xs ≤ length ys) → (((p : Point) → Contains (x ∷ xs) p → Contains ys p) → length (x ∷ xs) ≤ length ys) → (y ≡ x) ⊎ Contains ys x → length (x ∷ xs) ≤ length (y ∷ ys)
+    by_head both behind (inl e) =
+        let ih = both (λ p in'. later p in' (in_cons y p ys (all p (in_tail x p xs in')))) in
+        omega (arith, ih)
+      where
+        later : (p : Point) → Contains xs p → (y ≡ p) ⊎ Contains ys p → Contains ys p
+        later p in' (inr there) = there
+        later p in' (inl f) =
+            let less = head_less x xs up p in' in
+            let t = ap (λ (q : Point). q.time.0) e in
+            let u = ap (λ (q : Point). q.time.0) f in
+            absurd (omega (arith, less, t, u))
+    by_head both behind (inr there) =
+        let ih = behind (λ p in'. later p (in_cons x p xs in') (in_cons y p ys (all p in'))) in
+        omega (arith, ih)
+      where
+        later : (p : Point) → (x ≡ p) ⊎ Contains xs p → (y ≡ p) ⊎ Contains ys p → Contains ys p
+        later p here (inr other) = other
+        later p (inl e) (inl f) = subst (Contains ys) e there
+        later p (inr in') (inl f) =
+            let less = head_less x xs up p in' in
+            let first = head_less y ys up' x there in
+            let u = ap (λ (q : Point). q.time.0) f in
+            absurd (omega (arith, less, first, u))
+
+counts_below : (rows others : List (List Point)) → length rows ≡ length others → ((c : ℕ) (row other : List Point) → slice_get rows c ≡ Some row → slice_get others c ≡ Some other → length row ≤ length other) → point_count rows ≤ point_count others
+counts_below [] others e below = omega arith
+counts_below (row ∷ rows) [] e below = absurd (omega (arith, e))
+counts_below (row ∷ rows) (other ∷ others) e below =
+    let first = below 0 row other refl refl in
+    let ih = counts_below rows others (omega (arith, e)) (λ c r o at bt. below (suc c) r o at bt) in
+    omega (arith, first, ih)
+
+pub rows_few : (n : ℕ) (ks : List Spot) (rows : List (List Point)) → AreApart ks → AreRows ks n 0 rows → point_count rows ≤ length ks
+rows_few n ks rows apart are =
+    let size = length_grouped n ks in
+    let below = counts_below rows (grouped n ks) (omega (arith, size, are.one_each)) (λ c row other at bt. shorter c row other (are.each c row at) (rows_grouped n ks apart c other bt)) in
+    let most = grouped_most n ks in
+    omega (arith, below, most)
+  where
+    shorter : (c : ℕ) (row other : List Point) → IsRow ks (0 + c) row → IsRow ks c other → length row ≤ length other
+    shorter c row other is are =
+        let same : ◌≡◌ {A = ℕ} (0 + c) c = omega arith in
+        let is' = subst (λ d. IsRow ks d row) same is in
+        no_longer row other is'.rising are.rising (λ p in'. are.all (spot c p.time.0 p.area) (is'.each p in') refl)

@@ -225,7 +225,7 @@ left_falls most (k ∷ ls) (suc c) l m (le, are) at bt = left_falls k ls c l m a
 
 -- Rows without the choices.
 
-map_get : {X : Type 0} {Y : Type 0} (f : X → Y) (xs : List X) (i : ℕ) (y : Y) → slice_get (map f xs) i ≡ Some y → (x : X) × (slice_get xs i ≡ Some x) × (f x ≡ y)
+pub map_get : {X : Type 0} {Y : Type 0} (f : X → Y) (xs : List X) (i : ℕ) (y : Y) → slice_get (map f xs) i ≡ Some y → (x : X) × (slice_get xs i ≡ Some x) × (f x ≡ y)
 map_get f [] i y at = cc
 map_get f (x ∷ xs) zero y at = (x, refl, same_Some (f x) y at)
 map_get f (x ∷ xs) (suc i) y at = map_get f xs i y at

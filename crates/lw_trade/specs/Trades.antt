@@ -1,10 +1,10 @@
 -- Netlists that are built from points by their choices.
-use Rattle.std.specs.Prelude.{ℕ, ◌+◌, ◌<◌, ◌≤◌, ◌≡◌, ◌⊎◌, List, [], ◌∷◌, length, Some, slice_get}
-use Rattle.lw_laws.specs.Covers.{Cover, delays_of}
+use Rattle.std.specs.Prelude.{ℕ, ◌+◌, ◌≤◌, ◌≡◌, ◌⊎◌, List, [], ◌∷◌, length, Some, slice_get}
+use Rattle.lw_laws.specs.Covers.{Cover, delays_of, start_of}
 use Rattle.lw_laws.specs.Netlists.{Gate, Netlist, IsGate, AreOrdered, StandsFor}
 use Rattle.lw_trade.specs.Backing.{Held, IsHeld, IsBefore}
 use Rattle.lw_trade.specs.Choices.{Choice}
-use Rattle.lw_trade.specs.Choices.Part.{input, gate}
+use Rattle.lw_trade.specs.Choices.Part.{gate}
 use Rattle.lw_trade.specs.Groups.{CurveLists, HaveWays}
 use Rattle.lw_trade.specs.Points.{Task, timing, IsCoverBy, area_of, AreCurves}
 
@@ -15,31 +15,32 @@ pub record IsLastBy (held : List Held) (c delay time : ℕ) (l : Held) : Type 0 
   pub in_time : l.spot.time + delay ≤ time
   pub last : (k : Held) → IsHeld held k → k.spot.class ≡ c → k.spot.time + delay ≤ time → k.spot.time ≤ l.spot.time
 
--- the net of the input, where the choice of the point is one, and else that of its gate, which stands where the point does
-abbrev pub IsNetOfPoint : List Choice → List Held → ℕ → Held → ℕ → Type 0
-IsNetOfPoint choices nodes inputs h net =
-    ((c : ℕ) × (i : ℕ) × (slice_get choices h.choice ≡ Some (record { class = c; part = input i })) × (net ≡ i) × (i < inputs)) ⊎ ((j : ℕ) × (slice_get nodes j ≡ Some h) × (net ≡ inputs + j))
+-- the net of an input that has the class of the point, and starts by its time; or else that of the point's gate, which stands where the
+-- point does
+abbrev pub IsNetOfPoint : Task → List Held → Held → ℕ → Type 0
+IsNetOfPoint s nodes h net =
+    ((slice_get s.graph.leaves net ≡ Some h.spot.class) × (start_of (timing s).starts net ≤ h.spot.time)) ⊎ (((i : ℕ) → slice_get s.graph.leaves i ≡ Some h.spot.class → ⊥) × (j : ℕ) × (slice_get nodes j ≡ Some h) × (net ≡ length s.graph.leaves + j))
 
 -- for each pin the net of the last point of its class by the time, with the delay of the pin
-abbrev pub HavePinNets : List Choice → List Held → List Held → ℕ → ℕ → List ℕ → List ℕ → List ℕ → Type 0
-HavePinNets choices held nodes inputs time [] [] [] = Unit {0}
-HavePinNets choices held nodes inputs time (d ∷ ds) (p ∷ ps) (net ∷ nets) =
-    ((l : Held) × IsLastBy held p d time l × IsNetOfPoint choices nodes inputs l net) × HavePinNets choices held nodes inputs time ds ps nets
-HavePinNets choices held nodes inputs time _ _ _ = ⊥
+abbrev pub HavePinNets : Task → List Held → List Held → ℕ → List ℕ → List ℕ → List ℕ → Type 0
+HavePinNets s held nodes time [] [] [] = Unit {0}
+HavePinNets s held nodes time (d ∷ ds) (p ∷ ps) (net ∷ nets) =
+    ((l : Held) × IsLastBy held p d time l × IsNetOfPoint s nodes l net) × HavePinNets s held nodes time ds ps nets
+HavePinNets s held nodes time _ _ _ = ⊥
 
 -- the gate has the cell of the point's choice, and such nets at its pins
-pub record IsGateOfPoint (s : Task) (choices : List Choice) (held nodes : List Held) (inputs : ℕ) (h : Held) (g : Gate) : Type 0 where
+pub record IsGateOfPoint (s : Task) (choices : List Choice) (held nodes : List Held) (h : Held) (g : Gate) : Type 0 where
   pub class : ℕ
   pub pins : List ℕ
   pub chosen : slice_get choices h.choice ≡ Some (record { class = class; part = gate g.cell pins })
-  pub nets : HavePinNets choices held nodes inputs h.spot.time (delays_of (timing s).delays g.cell) pins g.pins
+  pub nets : HavePinNets s held nodes h.spot.time (delays_of (timing s).delays g.cell) pins g.pins
 
 -- the netlist has a gate for each of these points, in their order
 pub record IsBuilt (s : Task) (choices : List Choice) (held nodes : List Held) (n : Netlist) : Type 0 where
   pub inputs : n.inputs ≡ length s.graph.leaves
   pub one_each : length n.gates ≡ length nodes
   pub nodes_are : (h : Held) → IsHeld nodes h → IsHeld held h
-  pub gates : (j : ℕ) (h : Held) (g : Gate) → slice_get nodes j ≡ Some h → IsGate n j g → IsGateOfPoint s choices held nodes n.inputs h g
+  pub gates : (j : ℕ) (h : Held) (g : Gate) → slice_get nodes j ≡ Some h → IsGate n j g → IsGateOfPoint s choices held nodes h g
   pub ordered : AreOrdered n
 
 -- a cover of the class of the point by its time that has its area
@@ -52,7 +53,7 @@ pub record IsCoverOfPoint (s : Task) (n : Netlist) (h : Held) (net : ℕ) : Type
 -- In a netlist that is built from the points of curves the net of each point stands for such a cover.
 abbrev pub BuiltNetsAreCovers : Type 0
 BuiltNetsAreCovers =
-    (s : Task) (horizon : ℕ) (curves : CurveLists) (ways : HaveWays s curves) (nodes : List Held) (n : Netlist) → AreCurves s horizon curves.points → IsBuilt s curves.choices ways.held nodes n → (h : Held) (net : ℕ) → IsHeld ways.held h → IsNetOfPoint curves.choices nodes n.inputs h net → IsCoverOfPoint s n h net
+    (s : Task) (horizon : ℕ) (curves : CurveLists) (ways : HaveWays s curves) (nodes : List Held) (n : Netlist) → AreCurves s horizon curves.points → IsBuilt s curves.choices ways.held nodes n → (h : Held) (net : ℕ) → IsHeld ways.held h → IsNetOfPoint s nodes h net → IsCoverOfPoint s n h net
 
 -- for each pin the last point of its class by the point's time, with the delay of the pin, and it comes before the point
 abbrev pub HaveLastPins : List Held → Held → List ℕ → List ℕ → Type 0

@@ -1,13 +1,14 @@
-ghost use Rattle.std.specs.Prelude.{◌≡◌, ◌<◌, ◌≤◌, ℕ, [], IfOk, List, OnOk, Some, length, map, reverse, slice_get, slice_range};
+ghost use Rattle.std.specs.Prelude.{IfOk, IfSome, List, OnOk, Some, [], length, map, reverse, slice_get, slice_range, ℕ, ◌<◌, ◌≡◌, ◌≤◌};
 ghost use Rattle.lw_trade.specs.Backing.{spot_in};
+ghost use Rattle.lw_trade.specs.Checks.{IsStandAt};
 ghost use Rattle.lw_trade.specs.Groups.{AreRowsOf, IsTable};
 ghost use Rattle.lw_trade.specs.Lasts.{ArePointsRising, IsLastPlace};
 ghost use Rattle.lw_trade.specs.Points.{AreCurves, BoundCovers, IsLeastAreaBy, Task};
-ghost use Rattle.lw_trade.specs.Rows.{plain_rows};
+ghost use Rattle.lw_trade.specs.Rows.{plain_row, plain_rows};
 ghost use Rattle.lw_trade.specs.Settling.{AreApart};
 
 use crate::bisecting::last_by;
-use crate::choices::Row;
+use crate::choices::{Row, Stand};
 use crate::found::Way;
 use crate::fronts::Fronts;
 use crate::point::Point;
@@ -81,10 +82,52 @@ impl Curves {
     {
         last_by(self.of(class), delay, time)
     }
+
+    /// How the points of a class came, in their order.
+    pub(crate) fn ways_of(&self, class: ClassId) -> &[Way]
+        requires { class.0 < length self.now.ways }
+        ensures { slice_get self.now.ways class.0 ≡ Some result.now }
+    {
+        let class = class.0 as usize;
+        let count = self.ways.len();
+        let first = count - self.lefts[class];
+        let end = count - self.lefts[class + 1];
+        part(self.ways.as_slice(), first, end)
+    }
+
+    /// How many points there are.
+    pub(crate) fn points(&self) -> usize {
+        self.points.len()
+    }
+
+    /// What stands at the point of a class at a place.
+    pub(crate) fn stand(&self, class: ClassId, place: u32) -> Option<&Stand>
+        requires { class.0 < length self.now.ways }
+        ensures { IfSome result (λ stand. IsStandAt self.now class.0 place stand.now) }
+    {
+        let ways = self.ways_of(class);
+        let place = place as usize;
+        if place >= ways.len() {
+            return None;
+        }
+        let choice = ways[place].choice;
+        if choice as usize >= self.rows.len() {
+            return None;
+        }
+        Some(&self.choice(choice).stand)
+    }
+
+    /// A choice: what may stand at which class.
+    pub(crate) fn choice(&self, choice: u32) -> &Row
+        requires { choice < length self.now.choices }
+        ensures { slice_get self.now.choices choice ≡ Some (plain_row result.now) }
+    {
+        &self.rows[choice as usize]
+    }
 }
 
-// The points at the places from one on and before another.
-fn part(points: &[Point], first: usize, end: usize) -> &[Point]
+// What stands at the places from one on and before another.
+fn part<T>(points: &[T], first: usize, end: usize) -> &[T]
     requires first { first ≤ end }
     requires end { end ≤ length points.now }
     ensures { result.now ≡ slice_range points.now first end }

@@ -4,6 +4,7 @@
 
 mod area;
 mod bisecting;
+mod checking;
 mod choices;
 mod found;
 mod fronts;
@@ -11,15 +12,21 @@ mod grouping;
 mod laws;
 mod links;
 mod making;
+mod ordering;
 mod point;
 mod pricing;
 mod queue;
 mod settling;
 mod starting;
+mod targets;
+mod trading;
 mod uses;
+mod walking;
 
 pub use area::AreaCost;
 pub use grouping::Curves;
 pub use laws::{built_nets_are_covers, pins_come_before};
 pub use making::curves;
 pub use point::{CurveFault, Point};
+pub use targets::Targets;
+pub use trading::trade;

@@ -1,4 +1,4 @@
-ghost use Rattle.std.specs.Prelude.{◌≡◌, ◌<◌, List, All, IfErr, IfOk, length};
+ghost use Rattle.std.specs.Prelude.{◌≡◌, ◌<◌, ◌≤◌, List, All, IfErr, IfOk, length};
 ghost use Rattle.lw_laws.specs.Covers.{Pattern as TreeOfCell};
 ghost use Rattle.lw_laws.specs.Graphs.{Graph as PlainGraph};
 ghost use Rattle.lw_match.specs.Least.{AreOfCells};
@@ -6,7 +6,7 @@ ghost use Rattle.lw_trade.specs.Areas.{area_cost};
 ghost use Rattle.lw_trade.specs.Backing.{AreBacked};
 ghost use Rattle.lw_trade.specs.Choices.{AreChoices};
 ghost use Rattle.lw_trade.specs.Groups.{HaveWays};
-ghost use Rattle.lw_trade.specs.Points.{AreCurves, BoundCovers, IsWhy, task};
+ghost use Rattle.lw_trade.specs.Points.{AreCurves, BoundCovers, IsWhy, most_points, point_count, task};
 ghost use Rattle.lw_trade.specs.Pricing.{IsOfLibrary, IsWithin};
 ghost use Rattle.lw_trade.specs.Rows.{plain_part, plain_rows};
 ghost use Rattle.lw_trade.specs.Settling.{AreSettled, IsStop};
@@ -43,6 +43,7 @@ fn settle_rows(
     requires choices { (g : PlainGraph) × (pats : List TreeOfCell) ×
         AreChoices (task g pats lib.now starts.now) (plain_rows rows.now) }
     ensures count { IfOk result (λ fronts. classes ≡ length fronts.least) }
+    ensures few { IfOk result (λ fronts. length fronts.spots ≤ most_points) }
     ensures settled { IfOk result (λ fronts. (g : PlainGraph) (pats : List TreeOfCell) →
         AreChoices (task g pats lib.now starts.now) (plain_rows rows.now) →
         AreSettled (task g pats lib.now starts.now) horizon (plain_rows rows.now) fronts.spots) }
@@ -81,6 +82,7 @@ pub fn curves(
         (task graph.now pats.now lib.now starts.now) horizon.0 curves.points) }
     ensures bound { IfOk result (λ curves. BoundCovers
         (task graph.now pats.now lib.now starts.now) horizon.0 curves.points) }
+    ensures few { IfOk result (λ curves. point_count curves.points ≤ most_points) }
     ensures ways { IfOk result (HaveWays (task graph.now pats.now lib.now starts.now)) }
     ensures why { IfErr result (IsWhy (task graph.now pats.now lib.now starts.now) horizon.0) }
 {

@@ -5,7 +5,7 @@ ghost use Rattle.lw_laws.specs.Covers.{Pattern as TreeOfCell};
 ghost use Rattle.lw_trade.specs.Areas.{total};
 ghost use Rattle.lw_genlib.specs.Cells.{CellParts};
 ghost use Rattle.lw_trade.specs.Backing.{AreBacked};
-ghost use Rattle.lw_trade.specs.Points.{task};
+ghost use Rattle.lw_trade.specs.Points.{most_points, task};
 ghost use Rattle.lw_trade.specs.Pricing.{IsOfLibrary, IsWithin};
 ghost use Rattle.lw_trade.specs.Rows.{plain_part, plain_rows};
 ghost use Rattle.lw_trade.specs.Settling.{AreSettledOr, AreUsesAdded, IsAfter, IsLetWait, IsStillFor};
@@ -182,11 +182,13 @@ pub(crate) fn settle_all(
     requires one_each { length uses.now ≡ length links.now.classes }
     requires choices { All (λ (u : Use). (u.choice < length rows.now) × (u.delay < 1000000000000))
         uses.now }
+    requires few_points { length fronts.old.spots ≤ most_points }
     requires still { (g : PlainGraph) × (pats : List TreeOfCell) ×
         IsStillFor (task g pats lib.now starts.now)
         (plain_rows rows.now) 0 fronts.old.spots queue.old ×
         AreUses (task g pats lib.now starts.now) (plain_rows rows.now) links.now.classes uses.now }
     ensures count { length fronts.new.least ≡ length fronts.old.least }
+    ensures few_points { OnOk result (length fronts.new.spots ≤ most_points) }
     ensures settled { (g : PlainGraph) (pats : List TreeOfCell) →
         IsStillFor (task g pats lib.now starts.now)
         (plain_rows rows.now) 0 fronts.old.spots queue.old →

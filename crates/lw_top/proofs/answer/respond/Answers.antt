@@ -29,3 +29,6 @@ returns-in-ToVerilog-clause-answered g c = rw c.in-ToVerilog.is c.to_verilog_fil
 
 pub returns-in-FromVerilog-clause-answered : goal.returns-in-FromVerilog-clause-answered
 returns-in-FromVerilog-clause-answered g c = rw c.in-FromVerilog.is c.from_verilog_files.ensures.answered
+
+pub returns-in-Trading-clause-answered : goal.returns-in-Trading-clause-answered
+returns-in-Trading-clause-answered g c = rw c.in-Trading.is c.trade_files.ensures.answered

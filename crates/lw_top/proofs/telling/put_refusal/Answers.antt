@@ -48,6 +48,9 @@ returns-in-Splits g c = rw c.in-Splits.is c.put-in-Splits.ensures
 pub returns-in-NoCover : goal.returns-in-NoCover
 returns-in-NoCover g c = rw c.in-NoCover.is (rw c.as_bytes-in-NoCover.ensures.bytes at c.put_two-in-NoCover.ensures)
 
+pub returns-in-Points : goal.returns-in-Points
+returns-in-Points g c = rw c.in-Points.is c.put-in-Points.ensures
+
 pub returns-in-No : goal.returns-in-No
 returns-in-No g c = rw c.in-No.is c.put_no.ensures
 

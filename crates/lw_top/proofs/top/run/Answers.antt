@@ -4,7 +4,7 @@ use Rattle.lw_top.specs.Answers.{IsAnswer}
 use Rattle.lw_top.specs.Telling.{Told}
 use Rattle.lw_top.proofs.InRange.{asked_in_range}
 use Rattle.lw_top.proofs.Whole.{unread, done, cut, complete}
-use Rattle.lw_top.proofs.Headline.{done-maps, done-tables, named-lacks}
+use Rattle.lw_top.proofs.Headline.{done-maps, done-tables, done-trades, named-lacks, named-untraded}
 use Rattle.lw_top.proofs.Checked.{done_checked}
 use Rattle.lw_top.proofs.Reached.{blamed}
 use Rattle.lw_top.proofs.Prefix.{told}
@@ -67,3 +67,14 @@ pub returns-clause-checked : goal.returns-clause-checked
 returns-clause-checked g c = λ files is asks_for zero.
     let asks = rw c.deref.ensures.value at c.command_of-command.ensures in
     done_checked (map string_bytes c.args.words.now.items) (g.F.Shelf.files c.args.shelf.now) (g.F.Shelf.faults c.args.shelf.now) (g.F.Shelf.faults c.serve-outcome.new.shelf) g.O.Sink.taken g.O.Sink.is_finished g.O.Sink.faults c.args.out.now c.serve-outcome.new.out asks_for c.serve-outcome.result (rw asks at c.serve-outcome.ensures.meets) files is (sym zero ∙ c.status.ensures)
+
+pub returns-clause-trading : goal.returns-clause-trading
+returns-clause-trading g c = λ files is asks_for zero.
+    let asks = rw c.deref.ensures.value at c.command_of-command.ensures in
+    done-trades (map string_bytes c.args.words.now.items) (g.F.Shelf.files c.args.shelf.now) (g.F.Shelf.faults c.args.shelf.now) (g.F.Shelf.faults c.serve-outcome.new.shelf) g.O.Sink.taken g.O.Sink.is_finished g.O.Sink.faults c.args.out.now c.serve-outcome.new.out (Told g.E.Sink.taken g.E.Sink.faults c.args.err.now c.tell.new.err) asks_for c.serve-outcome.result (rw asks at c.serve-outcome.ensures.meets) files is (sym zero ∙ c.status.ensures)
+
+pub returns-clause-no_trade : goal.returns-clause-no_trade
+returns-clause-no_trade g c = λ files is asks_for six.
+    let asks = rw c.deref.ensures.value at c.command_of-command.ensures in
+    let said = told _ _ _ _ _ c.tell.result c.tell.ensures in
+    named-untraded (map string_bytes c.args.words.now.items) (g.F.Shelf.files c.args.shelf.now) (g.F.Shelf.faults c.args.shelf.now) (g.F.Shelf.faults c.serve-outcome.new.shelf) g.O.Sink.taken g.O.Sink.is_finished g.O.Sink.faults c.args.out.now c.serve-outcome.new.out (Told g.E.Sink.taken g.E.Sink.faults c.args.err.now c.tell.new.err) asks_for c.serve-outcome.result (rw asks at c.serve-outcome.ensures.meets) (simp asks at said) files is (sym six ∙ c.status.ensures)

@@ -1,4 +1,4 @@
-use Rattle.std.proofs.Common.{◌<◌, All, sym, subst, subst₂}
+use Rattle.std.proofs.Common.{◌<◌, All, sym, subst, subst₂, arith}
 use Rattle.lw_trade.specs.declared.choices.Row.{Row}
 use Rattle.lw_trade.specs.Areas.{area_cost}
 use Rattle.lw_trade.specs.Backing.{AreBacked}
@@ -9,6 +9,7 @@ use Rattle.lw_trade.specs.Pricing.{IsWithin}
 use Rattle.lw_trade.specs.Rows.{plain_part, plain_rows}
 use Rattle.lw_label.proofs.Marked.{patterns_of_cells}
 use Rattle.lw_trade.proofs.Curving.{err_is, rows_bound, rows_curves, why_stopped}
+use Rattle.lw_trade.proofs.Counting.{rows_few}
 use Rattle.lw_trade.proofs.Grouped.{rows_shown}
 use Rattle.lw_trade.proofs.Ranges.{rows_within, rows_of_library, rows_classes}
 use Rattle.lw_trade.proofs.making.curves.Goals as goal
@@ -82,3 +83,11 @@ returns-clause-ways c =
       backed = subst (λ xs. AreBacked s xs c.in_ok-fronts.fronts.held) (sym c.in_ok-curves.ensures.choices) backed';
     } in
     subst (λ starts. HaveWays (task c.args.graph.now c.args.pats.now c.args.lib.now starts) c.in_ok-curves.curves) c.as_slice-starts.ensures have
+
+pub returns-clause-few : goal.returns-clause-few
+returns-clause-few c =
+    let rows = c.in_ok-curves.ensures.rows in
+    let shown = rows_shown c.in_ok-fronts.fronts.held c.classes-classes.result 0 rows.rows rows.are in
+    let here = subst₂ (λ ks rs. AreRows ks c.classes-classes.result 0 rs) c.in_ok-curves.ensures.spots (sym rows.points_are) shown in
+    let few = rows_few c.classes-classes.result c.in_ok-fronts.fronts.spots c.in_ok-curves.curves.points c.in_ok-curves.ensures.apart here in
+    omega (arith, few, c.in_ok-fronts.ensures.few)

@@ -43,6 +43,7 @@ loop-time-smaller c =
 
 pub loop-time-preserved : goal.loop-time-preserved
 loop-time-preserved c = record {
+  few_points = omega (arith, c.if-len-gt-MOST_POINTS.false, c.len.ensures.len);
   count = c.in_ok-settle_at.ensures.count ∙ c.loop-time.invariant.count;
   horizon = c.in_ok-settle_at.ensures.horizon ∙ c.loop-time.invariant.horizon;
   still = λ g pats st us.

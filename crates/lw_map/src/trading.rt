@@ -1,0 +1,225 @@
+// The netlist of least area under a deadline that a network comes to.
+ghost use Rattle.std.specs.Prelude.{All, IfErr, IfOk, IfSome, List, None, Some, length, map, ℕ, ◌<◌, ◌^◌, ◌≡◌};
+ghost use Rattle.std.specs.List.{IsDistinct};
+ghost use Rattle.std.specs.Str.{bytes_eq};
+ghost use Rattle.lw_genlib.specs.Cells.{IsSmall};
+ghost use Rattle.lw_pool.specs.declared.id.ClassId.{ClassId as Class};
+ghost use Rattle.lw_fixed.specs.declared.micro.Micro.{Micro as MicroOf};
+ghost use Rattle.lw_net.specs.Networks.{output_names};
+ghost use Rattle.lw_pattern.specs.Libraries.{library_patterns};
+ghost use Rattle.lw_match.specs.Least.{AreOfCells};
+ghost use Rattle.lw_trade.specs.Areas.{area_cost};
+ghost use Rattle.lw_map.specs.Choices.{AreChoices};
+ghost use Rattle.lw_map.specs.Faults.{IsCoverFault, IsTradeFault};
+ghost use Rattle.lw_map.specs.Options.{plain_options};
+ghost use Rattle.lw_map.specs.Trading.{AreEarliest, HasFewPoints, HaveLabelsTo, IsTradeable, IsTradedNetlist, LacksLabel, latest_of, micros, put_off};
+
+use crate::covering::ports;
+use crate::labelling::label;
+use crate::naming::output_name;
+use crate::{Choices, MapFault};
+use lw_extract::{ExtractFault, extract};
+use lw_fixed::{Micro, Micros};
+use lw_genlib::Library;
+use lw_label::DelayCost;
+use lw_match::Mark;
+use lw_net::Network;
+use lw_netlist::Netlist;
+use lw_pattern::{Patterns, patterns};
+use lw_pool::ClassId;
+use lw_trade::{AreaCost, Targets, curves, trade};
+use std::alloc::{AllocError, Global};
+
+// The labels of some classes, or the first of them that has none.
+fn labels_of(
+    alloc: Global,
+    marks: &[Option<Mark>],
+    roots: &[ClassId],
+) -> Result<Vec<Micro>, ExtractFault>
+    requires few { length roots.now < 2 ^ 32 }
+    requires in_range { All (λ (root : Class). root.0 < length marks.now) roots.now }
+    ensures labels { IfOk result (λ labels. HaveLabelsTo marks.now roots.now (length roots.now)
+        labels.items) }
+    ensures lacks { IfErr result (LacksLabel marks.now roots.now) }
+{
+    let mut labels = Vec::with_capacity(alloc, roots.len())?;
+    for (k, root) in roots.iter().enumerate() {
+        match marks[root.0 as usize] {
+            None => return Err(ExtractFault::NoCover(k as u32)),
+            Some(mark) => match labels.push(Micro(mark.cost)) {
+                Ok(()) => (),
+                Err(_) => return Err(ExtractFault::Memory),
+            },
+        }
+    }
+    Ok(labels)
+}
+
+// The least time of each output.
+fn earliest(
+    alloc: Global,
+    lib: &Library,
+    net: &Network,
+    starts: &Micros,
+    choices: &Choices,
+    pats: &Patterns,
+) -> Result<Vec<Micro>, MapFault>
+    requires choices { AreChoices net.now choices.now }
+    requires outputs { IsDistinct bytes_eq (output_names net.now) }
+    requires early { All IsSmall starts.now }
+    requires patterns { pats.now ≡ library_patterns lib.now }
+    requires of_cells { AreOfCells (area_cost lib.now).pin_counts pats.now }
+    ensures earliest { IfOk result (λ times. AreEarliest (plain_options choices.now.options)
+        lib.now net.now starts.now (micros times.items)) }
+    ensures low { IfOk result (λ times. All (λ (time : MicroOf). time.0 < 9223372036854775808)
+        times.items) }
+    ensures fault { IfErr result (IsCoverFault lib.now net.now starts.now choices.now) }
+{
+    let _ = lib.len();
+    let _ = net.inputs();
+    let cost = DelayCost::new(lib, starts);
+    let labelled = label(alloc, &choices.graph, pats, &cost)?;
+    match labels_of(alloc, labelled.labels.marks(), choices.roots.as_slice()) {
+        Ok(times) => Ok(times),
+        Err(ExtractFault::NoCover(place)) => Err(MapFault::NoCover(output_name(
+            alloc, net, place,
+        )?)),
+        Err(ExtractFault::Memory) => Err(MapFault::Memory),
+    }
+}
+
+// The latest of some times, and at least the deadline.
+fn latest_of(deadline: Micro, times: &[Micro]) -> Micro
+    ensures { result.0 ≡ latest_of deadline.0 (micros times.now) }
+{
+    let mut latest = deadline.0;
+    for time in times {
+        latest = latest.max(time.0);
+    }
+    Micro(latest)
+}
+
+// Each time, or the deadline where that is later.
+fn put_off(alloc: Global, times: &[Micro], deadline: Micro) -> Result<Vec<Micro>, AllocError>
+    ensures { IfOk result (λ later. later.items ≡ map (put_off deadline) times.now) }
+{
+    let mut later = Vec::with_capacity(alloc, times.len())?;
+    for time in times {
+        later.push(Micro(time.0.max(deadline.0)))?;
+    }
+    Ok(later)
+}
+
+// The netlist of least area by a deadline, where these are the least times of the outputs.
+fn in_time(
+    alloc: Global,
+    lib: &Library,
+    net: &Network,
+    starts: &Micros,
+    choices: &Choices,
+    pats: &Patterns,
+    times: Vec<Micro>,
+    deadline: Micro,
+) -> Result<Netlist, MapFault>
+    requires choices { AreChoices net.now choices.now }
+    requires outputs { IsDistinct bytes_eq (output_names net.now) }
+    requires early { All IsSmall starts.now }
+    requires late { IsSmall deadline }
+    requires patterns { pats.now ≡ library_patterns lib.now }
+    requires of_cells { AreOfCells (area_cost lib.now).pin_counts pats.now }
+    requires earliest { AreEarliest (plain_options choices.now.options) lib.now net.now starts.now
+        (micros times.items) }
+    requires low { All (λ (time : MicroOf). time.0 < 9223372036854775808) times.items }
+    ensures traded { IfOk result (IsTradedNetlist (plain_options choices.now.options) lib.now
+        net.now starts.now (Some deadline)) }
+    ensures few { IfOk result (λ n. HasFewPoints (plain_options choices.now.options) lib.now
+        net.now starts.now (Some deadline)) }
+    ensures fault { IfErr result (IsTradeFault lib.now net.now starts.now choices.now
+        (Some deadline)) }
+{
+    let _ = lib.len();
+    let _ = net.inputs();
+    let graph = &choices.graph;
+    let horizon = latest_of(deadline, times.as_slice());
+    let curves = curves(alloc, graph, pats, lib, starts, horizon)?;
+    let later = put_off(alloc, times.as_slice(), deadline)?;
+    let ports = ports(alloc, net, choices)?;
+    let targets = Targets {
+        model: ports.model,
+        inputs: ports.inputs,
+        outputs: ports.outputs,
+        roots: ports.roots,
+        times: Micros::from_vec(later),
+    };
+    let netlist = trade(alloc, graph, pats, lib, starts, &curves, &targets)?;
+    let _ = netlist.gates();
+    Ok(netlist)
+}
+
+// The netlist of least area, where each output has a cover.
+fn at_any_time(
+    alloc: Global,
+    lib: &Library,
+    net: &Network,
+    choices: &Choices,
+    pats: &Patterns,
+) -> Result<Netlist, MapFault>
+    requires choices { AreChoices net.now choices.now }
+    requires outputs { IsDistinct bytes_eq (output_names net.now) }
+    requires patterns { pats.now ≡ library_patterns lib.now }
+    requires of_cells { AreOfCells (area_cost lib.now).pin_counts pats.now }
+    requires covered { (starts : List MicroOf) × (times : List ℕ) ×
+        AreEarliest (plain_options choices.now.options) lib.now net.now starts times }
+    ensures traded { IfOk result (λ n. (starts : List MicroOf) (times : List ℕ) →
+        AreEarliest (plain_options choices.now.options) lib.now net.now starts times →
+        IsTradedNetlist (plain_options choices.now.options) lib.now net.now starts None n) }
+    ensures memory { IfErr result (λ e. e ≡ MapFault.Memory) }
+{
+    let _ = lib.len();
+    let _ = net.inputs();
+    let cost = AreaCost::new(lib);
+    let labelled = label(alloc, &choices.graph, pats, &cost)?;
+    let labels = labelled.labels;
+    let ports = ports(alloc, net, choices)?;
+    match extract(alloc, &choices.graph, pats, lib, &labels, &ports, &cost) {
+        Ok(cover) => {
+            let _ = cover.netlist.gates();
+            Ok(cover.netlist)
+        }
+        Err(ExtractFault::NoCover(_)) => unreachable!(),
+        Err(ExtractFault::Memory) => Err(MapFault::Memory),
+    }
+}
+
+/// Covers the choices of a network by cells of a library with the least area by a deadline: each
+/// output arrives by it, or at its least time where that is later, and each use of a shared part
+/// counts. Without a deadline the area is the least of all. `NoCover` tells the first output that
+/// has no cover, and comes exactly where there is one; `Points` comes exactly where there is none,
+/// and where the classes have more than 8,000,000 points up to the latest of these times.
+pub fn exchange(
+    alloc: Global,
+    lib: &Library,
+    net: &Network,
+    starts: &Micros,
+    choices: &Choices,
+    deadline: Option<Micro>,
+) -> Result<Netlist, MapFault>
+    requires choices { AreChoices net.now choices.now }
+    requires outputs { IsDistinct bytes_eq (output_names net.now) }
+    requires early { All IsSmall starts.now }
+    requires late { IfSome deadline IsSmall }
+    ensures traded { IfOk result (IsTradedNetlist (plain_options choices.now.options) lib.now
+        net.now starts.now deadline) }
+    ensures tradeable { IfOk result (λ n. IsTradeable (plain_options choices.now.options) lib.now
+        net.now starts.now deadline) }
+    ensures fault { IfErr result (IsTradeFault lib.now net.now starts.now choices.now deadline) }
+{
+    let _ = lib.len();
+    let _ = net.inputs();
+    let pats = patterns(alloc, lib)?;
+    let times = earliest(alloc, lib, net, starts, choices, &pats)?;
+    match deadline {
+        Some(deadline) => in_time(alloc, lib, net, starts, choices, &pats, times, deadline),
+        None => at_any_time(alloc, lib, net, choices, &pats),
+    }
+}

@@ -1,0 +1,42 @@
+// A network mapped to the cells of a library with the least area by a deadline.
+ghost use Rattle.std.specs.Prelude.{IfSome};
+ghost use Rattle.lw_blif.specs.BlifNetworks.{IsModel};
+ghost use Rattle.lw_genlib.specs.Cells.{IsSmall};
+ghost use Rattle.lw_map.specs.Options.{IsWide, plain_options};
+ghost use Rattle.lw_top.specs.Answered.{Gives};
+ghost use Rattle.lw_top.specs.Trades.{Trades};
+
+use crate::answer::Answer;
+use crate::refusal::Refusal;
+use lw_blif::Parsed;
+use lw_fixed::Micro;
+use lw_genlib::Library;
+use lw_map::{Options, decompose, exchange};
+use std::alloc::Global;
+
+/// What a library and a model come to by a deadline, or without one: the netlist of least area with
+/// what stands around it, or why there is none.
+pub(crate) fn trade_model(
+    alloc: Global,
+    library: Library,
+    model: Parsed,
+    options: Options,
+    deadline: Option<Micro>,
+) -> Result<Answer, Refusal>
+    requires late { IfSome deadline IsSmall }
+    requires wide { IsWide (plain_options options) }
+    requires model { IsModel model }
+    ensures { Gives (Trades deadline (plain_options options) library model) result }
+{
+    let _ = model.network.inputs();
+    let choices = decompose(alloc, &model.network, options)?;
+    let netlist = exchange(
+        alloc,
+        &library,
+        &model.network,
+        &model.starts,
+        &choices,
+        deadline,
+    )?;
+    Ok(Answer::Mapping(library, netlist, model.frame, model.starts, None))
+}

@@ -1,0 +1,36 @@
+use Rattle.std.proofs.Common.{◌≡◌, ◌<◌, ◌+◌, ◌-◌, ℕ, inl, inr, Some, None, length, slice_get, slice_index_or, refl, ap, sym, ◌∙◌, subst, arith}
+use Rattle.lw_trade.specs.Lasts.{IsLastPlace}
+use Rattle.lw_trade.proofs.Lists.{get_some, got}
+use Rattle.lw_trade.proofs.checking.is_net.Goals as goal
+
+pub returns-in-Some-inputs : goal.returns-in-Some-inputs
+returns-in-Some-inputs c = λ yes.
+    let (row, at) = get_some c.args.curves.now.points c.args.class.0 (omega (arith, c.if-class-inputs.false, c.requires)) in
+    let net : c.args.net ≡ c.in-Some-inputs.input = c.if-net-input.false in
+    record {
+      row = row;
+      at = at;
+      place = c.in-Some.place;
+      last = subst (IsLastPlace row c.args.delay c.args.time) c.in-Some.is (c.last_by.ensures row at);
+      right = inl (got c.args.inputs.now c.args.class.0 None (omega (arith, c.if-class-inputs.false)) ∙ ap Some (c.in-Some-inputs.is ∙ ap Some (sym net)));
+    }
+
+pub returns : goal.returns
+returns c = λ yes.
+    let (row, at) = get_some c.args.curves.now.points c.args.class.0 (omega (arith, c.if-class-inputs.false, c.requires)) in
+    let gate = c.args.net - c.args.count in
+    record {
+      row = row;
+      at = at;
+      place = c.in-Some.place;
+      last = subst (IsLastPlace row c.args.delay c.args.time) c.in-Some.is (c.last_by.ensures row at);
+      right = inr (
+        got c.args.inputs.now c.args.class.0 None (omega (arith, c.if-class-inputs.false)) ∙ ap Some c.in_default-inputs.is,
+        gate,
+        slice_index_or c.args.nodes.now gate (record { class = record { 0 = 0 }; place = 0 }),
+        got c.args.nodes.now gate (record { class = record { 0 = 0 }; place = 0 }) (omega (arith, c.if-net-count-2.false)),
+        c.if-node-class.false,
+        c.if-node-place.false,
+        omega (arith, c.if-net-count.false),
+      );
+    }

@@ -1,0 +1,60 @@
+-- The points that get a gate, as a walk from the roots down finds them, and the nets of their pins.
+use Rattle.std.specs.Prelude.{ℕ, ◌+◌, ◌<◌, ◌≤◌, ◌≡◌, List, [], ◌∷◌, length, Option, Some, None, Contains, slice_get}
+use Rattle.lw_pool.specs.declared.id.CellId.{CellId}
+use Rattle.lw_pool.specs.declared.id.ClassId.{ClassId}
+use Rattle.lw_fixed.specs.declared.micro.Micro.{Micro}
+use Rattle.lw_laws.specs.Graphs.{Graph}
+use Rattle.lw_genlib.specs.Cells.{CellParts}
+use Rattle.lw_dag.specs.Graphs.{fanins_at}
+use Rattle.lw_trade.specs.Backing.{Held, IsHeld}
+use Rattle.lw_trade.specs.Choices.{Choice}
+use Rattle.lw_trade.specs.Points.{Task, most_points}
+use Rattle.lw_trade.specs.declared.targets.Targets.{Targets}
+use Rattle.lw_trade.specs.Groups.{CurveLists}
+use Rattle.lw_trade.specs.Targets.{AreTargets, AreCurvesFor}
+use Rattle.lw_trade.specs.Trades.{IsLastBy, IsNetOfPoint, IsGateOfPoint}
+
+-- one of the first inputs for each class that one of them has
+pub record AreInputsTo (g : Graph) (n : ℕ) (inputs : List (Option ℕ)) : Type 0 where
+  pub one_each : length inputs ≡ length g.pairs
+  pub some : (c i : ℕ) → slice_get inputs c ≡ Some (Some i) → slice_get g.leaves i ≡ Some c
+  pub none : (c i : ℕ) → slice_get inputs c ≡ Some None → i < n → slice_get g.leaves i ≡ Some c → ⊥
+
+-- each place that was noted has its gate, and no other has one
+pub record AreNoted (places : List ℕ) (gates : List (Option ℕ)) : Type 0 where
+  pub each : (k place : ℕ) → slice_get places k ≡ Some place → slice_get gates place ≡ Some (Some k)
+  pub only : (place k : ℕ) → slice_get gates place ≡ Some (Some k) → slice_get places k ≡ Some place
+
+-- for each root the net of the last point of its class by its time
+abbrev pub HaveRootNets : Task → List Held → List Held → List ClassId → List Micro → List ℕ → Type 0
+HaveRootNets s held nodes [] [] [] = Unit {0}
+HaveRootNets s held nodes (root ∷ roots) (time ∷ times) (net ∷ nets) =
+    ((l : Held) × IsLastBy held root.0 0 time.0 l × IsNetOfPoint s nodes l net) × HaveRootNets s held nodes roots times nets
+HaveRootNets s held nodes _ _ _ = ⊥
+
+-- the net is a root's, or a pin's of a node whose net is such a one
+pub data IsUsed (inputs : ℕ) (graph : List (List ℕ)) (roots : List ℕ) : ℕ → Type 0 where
+  by_root : {net : ℕ} → Contains roots net → IsUsed inputs graph roots net
+  by_pin : (j : ℕ) {net : ℕ} → IsUsed inputs graph roots (inputs + j) → Contains (fanins_at graph j) net → IsUsed inputs graph roots net
+
+-- Each node is a point, none twice, with the cell of its choice and the nets of its pins; and it is used.
+pub record IsWalk (s : Task) (choices : List Choice) (held nodes : List Held) (roots : List ClassId) (times : List Micro) (cells : List CellId) (graph : List (List ℕ)) (nets : List ℕ) : Type 0 where
+  pub one_cell : length cells ≡ length nodes
+  pub one_row : length graph ≡ length nodes
+  pub few : length nodes ≤ most_points
+  pub are : (h : Held) → IsHeld nodes h → IsHeld held h
+  pub once : (i j : ℕ) (h : Held) → slice_get nodes i ≡ Some h → slice_get nodes j ≡ Some h → i ≡ j
+  pub gates : (j : ℕ) (h : Held) (cell : CellId) → slice_get nodes j ≡ Some h → slice_get cells j ≡ Some cell → IsGateOfPoint s choices held nodes h (record { cell = cell.0; pins = fanins_at graph j })
+  pub root_nets : HaveRootNets s held nodes roots times nets
+  pub used : (j : ℕ) → j < length graph → IsUsed (length s.graph.leaves) graph nets (length s.graph.leaves + j)
+
+-- the curves are those of some task over this graph and these cells, for some targets with these roots and times
+pub record IsReady (g : Graph) (cells : List CellParts) (roots : List ClassId) (times : List Micro) (curves : CurveLists) : Type 0 where
+  pub task : Task
+  pub targets : Targets
+  pub graph_is : task.graph ≡ g
+  pub cells_are : task.cells ≡ cells
+  pub roots_are : targets.roots ≡ roots
+  pub times_are : targets.times ≡ times
+  pub fit : AreTargets g targets
+  pub curves_are : AreCurvesFor task targets curves

@@ -1,0 +1,231 @@
+// What a walk has found, looked through.
+ghost use Rattle.std.specs.Prelude.{◌≡◌, ◌+◌, IsTrue, length};
+ghost use Rattle.lw_trade.specs.Checks.{ArePinsRight, AreRootsRight, IsNetBy, IsNodeRight, IsOwned, IsRightWalk, IsUsedEarlier};
+
+use crate::choices::Stand;
+use crate::grouping::Curves;
+use crate::walking::{Node, Trail, User, Walk};
+use lw_fixed::Micro;
+use lw_genlib::Library;
+use lw_pool::{CellId, ClassId, Numbers};
+
+// Whether the net is that of the last point of a class by a time, with a delay.
+fn is_net(
+    curves: &Curves,
+    inputs: &[Option<u32>],
+    count: u32,
+    nodes: &[Node],
+    class: ClassId,
+    delay: u64,
+    time: u64,
+    net: u32,
+) -> bool
+    requires { length inputs.now ≡ length curves.now.points }
+    ensures { IsTrue result →
+        IsNetBy curves.now.points inputs.now count nodes.now class.0 delay time net }
+{
+    if class.0 as usize >= inputs.len() {
+        return false;
+    }
+    let Some(place) = curves.last_by(class, delay, time) else {
+        return false;
+    };
+    if let Some(input) = inputs[class.0 as usize] {
+        if net != input {
+            return false;
+        }
+        return true;
+    }
+    if net < count || (net - count) as usize >= nodes.len() {
+        return false;
+    }
+    let node = nodes[(net - count) as usize];
+    if node.class.0 != class.0 || node.place as usize != place {
+        return false;
+    }
+    true
+}
+
+// Whether the nets of roots are those of their classes' last points by their times.
+fn are_roots(
+    curves: &Curves,
+    inputs: &[Option<u32>],
+    count: u32,
+    nodes: &[Node],
+    roots: &[ClassId],
+    times: &[Micro],
+    nets: &[u32],
+) -> bool
+    requires { length inputs.now ≡ length curves.now.points }
+    ensures { IsTrue result → AreRootsRight curves.now.points inputs.now count nodes.now roots.now
+        times.now nets.now }
+{
+    if nets.len() != roots.len() || times.len() != roots.len() {
+        return false;
+    }
+    for k in 0..roots.len() {
+        if !is_net(
+            curves, inputs, count, nodes, roots[k], 0, times[k].0, nets[k],
+        ) {
+            return false;
+        }
+    }
+    true
+}
+
+// Whether the nets of pins are those of their classes' last points by a time, with their delays.
+fn are_pins(
+    curves: &Curves,
+    inputs: &[Option<u32>],
+    count: u32,
+    nodes: &[Node],
+    pins: &[ClassId],
+    delays: &[Micro],
+    time: u64,
+    nets: &[u32],
+) -> bool
+    requires { length inputs.now ≡ length curves.now.points }
+    ensures { IsTrue result → ArePinsRight curves.now.points inputs.now count nodes.now time
+        pins.now delays.now nets.now }
+{
+    if nets.len() != pins.len() || delays.len() != pins.len() {
+        return false;
+    }
+    for k in 0..pins.len() {
+        if !is_net(
+            curves,
+            inputs,
+            count,
+            nodes,
+            pins[k],
+            delays[k].0,
+            time,
+            nets[k],
+        ) {
+            return false;
+        }
+    }
+    true
+}
+
+// Whether a gate has the cell of its point's choice, and the nets of its pins.
+fn is_node(
+    curves: &Curves,
+    inputs: &[Option<u32>],
+    count: u32,
+    lib: &Library,
+    nodes: &[Node],
+    node: Node,
+    cell: CellId,
+    nets: &[u32],
+) -> bool
+    requires inputs { length inputs.now ≡ length curves.now.points }
+    requires ways { length curves.now.ways ≡ length curves.now.points }
+    ensures { IsTrue result → IsNodeRight curves.now inputs.now count nodes.now lib.now node cell
+        nets.now }
+{
+    if node.class.0 as usize >= inputs.len() || cell.0 >= lib.len() {
+        return false;
+    }
+    let points = curves.of(node.class);
+    let place = node.place as usize;
+    if place >= points.len() {
+        return false;
+    }
+    match curves.stand(node.class, node.place) {
+        Some(Stand::Gate(gate)) if gate.cell.0 == cell.0 => {
+            let delays = lib.cell(cell).delays();
+            let (pins, time) = (gate.pins.as_slice(), points[place].time.0);
+            are_pins(curves, inputs, count, nodes, pins, delays, time, nets)
+        }
+        _ => false,
+    }
+}
+
+// Whether a net is that of the gate with a number.
+fn is_of_gate(count: u32, net: u32, number: usize) -> bool
+    ensures { IsTrue result → net ≡ count + number }
+{
+    net >= count && (net - count) as usize == number
+}
+
+// Whether the net of the gate with a number is a root's, or that of a pin of an earlier gate.
+fn is_used(count: u32, pins: &[Numbers], nets: &[u32], user: User, number: usize) -> bool
+    ensures { IsTrue result → IsUsedEarlier count pins.now nets.now number }
+{
+    let place = user.place as usize;
+    let Some(gate) = user.gate else {
+        return place < nets.len() && is_of_gate(count, nets[place], number);
+    };
+    let gate = gate as usize;
+    if gate >= number || gate >= pins.len() {
+        return false;
+    }
+    let row = pins[gate].as_slice();
+    place < row.len() && is_of_gate(count, row[place], number)
+}
+
+// Whether the gate of a point has a number.
+fn is_owned(owners: &[Vec<u32>], node: Node, number: usize) -> bool
+    ensures { IsTrue result → IsOwned owners.now node number }
+{
+    let class = node.class.0 as usize;
+    if class >= owners.len() {
+        return false;
+    }
+    let row = &owners[class];
+    let place = node.place as usize;
+    if place >= row.len() || row[place] as usize != number {
+        return false;
+    }
+    true
+}
+
+/// Whether what a walk has found is right: there are no more gates than points, each is that of a
+/// point of its own, has its cell and the nets of its pins, and is used; and so have the roots.
+pub(crate) fn is_right(
+    curves: &Curves,
+    inputs: &[Option<u32>],
+    count: u32,
+    lib: &Library,
+    trail: &Trail,
+    walk: &Walk,
+    roots: &[ClassId],
+    times: &[Micro],
+) -> bool
+    requires inputs { length inputs.now ≡ length curves.now.points }
+    requires ways { length curves.now.ways ≡ length curves.now.points }
+    ensures { IsTrue result → IsRightWalk curves.now inputs.now count lib.now roots.now times.now
+        trail.now.nodes.items trail.now.owners.items walk.now.cells.items walk.now.pins.items
+        walk.now.nets.items }
+{
+    let _ = lib.len();
+    let (nodes, pins) = (trail.nodes.as_slice(), walk.pins.as_slice());
+    let number = nodes.len();
+    if number > 8_000_000
+        || walk.cells.len() != number
+        || pins.len() != number
+        || trail.users.len() != number
+        || !are_roots(curves, inputs, count, nodes, roots, times, &walk.nets)
+    {
+        return false;
+    }
+    for j in 0..number {
+        let nets = pins[j].as_slice();
+        if !is_node(
+            curves,
+            inputs,
+            count,
+            lib,
+            nodes,
+            nodes[j],
+            walk.cells[j],
+            nets,
+        ) || !is_used(count, pins, &walk.nets, trail.users[j], j)
+            || !is_owned(&trail.owners, nodes[j], j)
+        {
+            return false;
+        }
+    }
+    true
+}

@@ -1,0 +1,203 @@
+// Gates by depth.
+ghost use Rattle.std.specs.Prelude.{◌≡◌, ◌+◌, ◌<◌, ◌≤◌, All, IfOk, List, length, map};
+ghost use Rattle.std.specs.List.{range_with_len};
+ghost use Rattle.std.specs.List.Sorted.{IsPermutation};
+ghost use Rattle.lw_dag.specs.Graphs.{IsGraph, fanins_at, most_signals};
+ghost use Rattle.lw_genlib.specs.Cells.{IsLibrary};
+ghost use Rattle.lw_naming.specs.Naming.{numbers};
+ghost use Rattle.lw_trade.specs.Backing.{Held};
+ghost use Rattle.lw_trade.specs.Groups.{CurveLists};
+ghost use Rattle.lw_trade.specs.Placed.{ArePlaces, HaveHeights, IsByHeight, placed_gate, placed_net};
+ghost use Rattle.lw_trade.specs.Points.{Task};
+ghost use Rattle.lw_trade.specs.Targets.{AreCurvesFor, AreTargets};
+ghost use Rattle.lw_trade.specs.Traded.{IsTraded, port_name, port_net};
+ghost use Rattle.lw_trade.specs.Walks.{IsWalk};
+
+use crate::targets::Targets;
+use crate::walking::Walk;
+use lw_dag::{find_levels, in_order};
+use lw_naming::net_names;
+use lw_netlist::{Gate, Gates, Netlist, Port, PortList};
+use lw_pool::{ClassId, Name, NetId, Nets, Numbers};
+use std::alloc::{AllocError, Global};
+
+// The nodes by depth, and at one depth in the order in which they were found.
+fn by_depth(alloc: Global, inputs: usize, pins: &[Numbers]) -> Result<Vec<u32>, AllocError>
+    requires graph { IsGraph inputs pins.now }
+    requires few { inputs + length pins.now ≤ most_signals }
+    requires high { HaveHeights inputs pins.now }
+    ensures { IfOk result (λ order. IsByHeight inputs pins.now order.items) }
+{
+    let levels = find_levels(alloc, inputs, pins)?;
+    let mut gates = Vec::with_capacity(alloc, pins.len())?;
+    for gate in 0..pins.len() {
+        gates.push(gate as u32)?;
+    }
+    in_order(alloc, gates, &levels.heights[inputs..])
+}
+
+// The place of each node in an order.
+fn places_in(alloc: Global, order: &[u32]) -> Result<Vec<u32>, AllocError>
+    requires few { length order.now ≤ most_signals }
+    requires moved { IsPermutation (range_with_len 0 (length order.now)) order.now }
+    ensures { IfOk result (λ places. ArePlaces order.now places.items) }
+{
+    let mut places = vec![in alloc; 0; order.len()]?;
+    for place in 0..order.len() {
+        places[order[place] as usize] = place as u32;
+    }
+    Ok(places)
+}
+
+// A net, where the nodes stand in other places.
+fn net_at(inputs: u32, places: &[u32], net: u32) -> NetId
+    requires few { inputs + length places.now ≤ most_signals }
+    requires low { All (λ p. p < length places.now) places.now }
+    requires net { net < inputs + length places.now }
+    ensures { result.0 ≡ placed_net inputs places.now net }
+{
+    if net < inputs {
+        NetId(net)
+    } else {
+        NetId(inputs + places[(net - inputs) as usize])
+    }
+}
+
+// The gate of a node.
+fn gate_of(
+    alloc: Global,
+    inputs: u32,
+    places: &[u32],
+    walk: &Walk,
+    gate: u32,
+) -> Result<Gate, AllocError>
+    requires few { inputs + length places.now ≤ most_signals }
+    requires low { All (λ p. p < length places.now) places.now }
+    requires gate { gate < length places.now }
+    requires cells { length walk.now.cells.items ≡ length places.now }
+    requires rows { length walk.now.pins.items ≡ length places.now }
+    requires pins { All (λ net. net < inputs + length places.now)
+        (fanins_at walk.now.pins.items gate) }
+    ensures { IfOk result (λ g. g
+        ≡ placed_gate inputs places.now walk.now.cells.items walk.now.pins.items gate) }
+{
+    let row = walk.pins[gate as usize].as_slice();
+    let mut nets = Vec::with_capacity(alloc, row.len())?;
+    for pin in row {
+        nets.push(net_at(inputs, places, *pin))?;
+    }
+    Ok(Gate {
+        cell: walk.cells[gate as usize],
+        pins: Nets::from_vec(nets),
+        out: net_at(inputs, places, inputs + gate),
+    })
+}
+
+// The gates of nodes.
+fn gates_of(
+    alloc: Global,
+    inputs: u32,
+    places: &[u32],
+    walk: &Walk,
+    order: &[u32],
+) -> Result<Vec<Gate>, AllocError>
+    requires few { inputs + length places.now ≤ most_signals }
+    requires low { All (λ p. p < length places.now) places.now }
+    requires order { All (λ j. j < length places.now) order.now }
+    requires cells { length walk.now.cells.items ≡ length places.now }
+    requires rows { length walk.now.pins.items ≡ length places.now }
+    requires pins { IsGraph inputs walk.now.pins.items }
+    ensures { IfOk result (λ gates. gates.items ≡ map
+        (placed_gate inputs places.now walk.now.cells.items walk.now.pins.items) order.now) }
+{
+    let mut gates = Vec::with_capacity(alloc, order.len())?;
+    for gate in order {
+        gates.push(gate_of(alloc, inputs, places, walk, *gate)?)?;
+    }
+    Ok(gates)
+}
+
+// The outputs with these names at these nets.
+fn outputs_of(
+    alloc: Global,
+    inputs: u32,
+    places: &[u32],
+    names: &[Name],
+    nets: &[u32],
+) -> Result<Vec<Port>, AllocError>
+    requires few { inputs + length places.now ≤ most_signals }
+    requires low { All (λ p. p < length places.now) places.now }
+    requires nets { All (λ net. net < inputs + length places.now) nets.now }
+    requires one_each { length nets.now ≡ length names.now }
+    ensures names { IfOk result (λ ports. map port_name ports.items ≡ names.now) }
+    ensures nets { IfOk result (λ ports. map port_net ports.items
+        ≡ map (placed_net inputs places.now) nets.now) }
+{
+    let mut outputs = Vec::with_capacity(alloc, names.len())?;
+    for k in 0..names.len() {
+        let name = Name::from_slice(alloc, names[k].as_bytes())?;
+        let net = net_at(inputs, places, nets[k]);
+        outputs.push(Port { name, net })?;
+    }
+    Ok(outputs)
+}
+
+// The nets of outputs, as classes of their own.
+fn classes_of_outputs(alloc: Global, outputs: &[Port]) -> Result<Vec<ClassId>, AllocError>
+    ensures { IfOk result (λ classes. numbers classes.items ≡ map port_net outputs.now) }
+{
+    let mut classes = Vec::with_capacity(alloc, outputs.len())?;
+    for port in outputs {
+        classes.push(ClassId(port.net.0))?;
+    }
+    Ok(classes)
+}
+
+// The nets that gates drive, as classes of their own.
+fn classes_of_gates(alloc: Global, inputs: u32, gates: usize) -> Result<Vec<ClassId>, AllocError>
+    requires { inputs + gates ≤ most_signals }
+    ensures { IfOk result (λ classes. numbers classes.items ≡ range_with_len inputs gates) }
+{
+    let mut classes = Vec::with_capacity(alloc, gates)?;
+    for gate in 0..gates {
+        classes.push(ClassId(inputs + gate as u32))?;
+    }
+    Ok(classes)
+}
+
+/// The netlist of the gates that a walk has found, by depth.
+pub(crate) fn assemble(
+    alloc: Global,
+    inputs: u32,
+    walk: &Walk,
+    targets: &Targets,
+) -> Result<Netlist, AllocError>
+    requires walk { (s : Task) × (curves : CurveLists) × (c : AreCurvesFor s targets.now curves) ×
+        (nodes : List Held) × AreTargets s.graph targets.now × (length s.graph.leaves ≡ inputs) ×
+        IsWalk s curves.choices c.ways.held nodes targets.now.roots targets.now.times
+        walk.now.cells.items walk.now.pins.items walk.now.nets.items }
+    ensures { IfOk result (λ n. (s : Task) (curves : CurveLists)
+        (c : AreCurvesFor s targets.now curves) (nodes : List Held) →
+        IsLibrary s.cells → AreTargets s.graph targets.now → (length s.graph.leaves ≡ inputs) →
+        IsWalk s curves.choices c.ways.held nodes targets.now.roots targets.now.times
+        walk.now.cells.items walk.now.pins.items walk.now.nets.items → IsTraded s targets.now n) }
+{
+    let order = by_depth(alloc, inputs as usize, &walk.pins)?;
+    let places = places_in(alloc, &order)?;
+    let gates = gates_of(alloc, inputs, &places, walk, &order)?;
+    let outputs = outputs_of(
+        alloc,
+        inputs,
+        &places,
+        targets.outputs.as_slice(),
+        &walk.nets,
+    )?;
+    let roots = classes_of_outputs(alloc, &outputs)?;
+    let own = classes_of_gates(alloc, inputs, order.len())?;
+    let nets = inputs as usize + order.len();
+    let names = net_names(alloc, &targets.inputs, &targets.outputs, &roots, nets, &own)?;
+    let model = Name::from_slice(alloc, targets.model.as_bytes())?;
+    let gates = Gates::from_vec(gates);
+    let outputs = PortList::from_vec(outputs);
+    Ok(Netlist::new(model, names, inputs, gates, outputs))
+}
