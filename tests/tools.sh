@@ -1,6 +1,6 @@
 #!/bin/sh
-# Runs the scripts of tools/ and the pictures of bench/ and examples/ on the examples, and compares what they print. It needs Python, and
-# no program of the repository; what needs ABC or Debian's qflow-tech-osu035 is skipped where that is not there.
+# Runs the scripts of tools/ and the pictures of bench/ and examples/ on the examples, and compares what they print. It needs
+# Python, and no program of the repository; what needs ABC or Debian's qflow-tech-osu035 is skipped where that is not there.
 #
 #   sh tests/tools.sh
 #
