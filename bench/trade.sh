@@ -109,7 +109,7 @@ means() {
         }' "$room/sizes"
 }
 
-# shellcheck disable=SC2046
+# shellcheck disable=SC2046,SC2012
 [ $# -gt 0 ] || set -- $(cd "$bench/circuits" && ls | sed 's/\.blif$//')
 for library in ${LIBS:-tiny mcnc rich}; do
     echo "| $library: delay, area, ms, MB | map | trade at 1 | at 1.05 | at 1.1 | at 1.25 | trade none | ABC: map | map -a | amap | dch; map |"

@@ -87,6 +87,7 @@ good "a page without the table"
 
 
 # The second program in the place of the built one.
+# shellcheck disable=SC2016
 printf '#!/bin/sh\ncase $1 in trade) part=_trade ;; *) part= ;; esac\nexec python3 "%s/tests/reference$part.py" "$@"\n' "$root" >"$room/program"
 chmod +x "$room/program"
 curve() { # LIB IN PICTURE FACTOR..
