@@ -10,7 +10,8 @@ with damage, as a label moved by a millionth, two classes or two pins exchanged,
 function, or another latch. 'verilog' takes each of these netlists, and 'unverilog' what was written, as it is and with damage;
 where it is as it was, it has to be the netlist again, and the same text once more. Where the program knows them, 'lut' and
 'trade' are compared too. The text of 'lut', and of 'trade' with a time, is not determined; there what the program wrote has to
-pass the test of tests/reference_lut.py or tests/reference_trade.py.
+pass the test of tests/reference_lut.py or tests/reference_trade.py. The times of 'trade' are some fixed ones, and one at, just
+before or just behind a time at which the least area of a root falls.
 
 The program is the one that release/program.sh finds. A case on which the two differ stays in a folder that is told, with the
 words of each run. The last lines count the runs by command and status, and are then 'N passed, N failed'.
@@ -73,6 +74,15 @@ def wanted_of(words, got):
     return got if tested == (0, b"yes\n", b"") else tested
 
 
+def deadlines(draw, options):
+    """A time at which the least area of a root falls, or a millionth before or after it, where there is one."""
+    status, text, _ = theirs(["points", *options, "1000", "LIB", "IN"], reference_trade)
+    times = text.decode().split()
+    if status or not times:
+        return []
+    return [reference.printed(max(0, reference.decimal(draw.choice(times).encode()) + draw.choice([-1, 0, 0, 1]))).decode()]
+
+
 class Case:
     """The runs on files of one folder, which is where the process is."""
 
@@ -99,7 +109,7 @@ class Case:
         if "lut" in commands:
             self.same("lut", str(draw.randint(2, 6)), *options, "IN")
         if "trade" in commands:
-            for deadline in ["none", draw.choice(["0", "2", "3.5", "6", "9.25", "100000"])]:
+            for deadline in ["none", draw.choice(["0", "2", "3.5", "6", "9.25", "100000"]), *deadlines(draw, options)]:
                 self.same("trade", *options, deadline, "LIB", "IN")
 
     def in_verilog(self, draw, library, mapped, damages):

@@ -38,7 +38,8 @@ all_files() {
     printf '%s\n' 'GATE inv 1 O=!a;' 'PIN * INV 1 999 1 0 1 0' 'GATE nand2 2 O=!(a*b);' 'PIN * INV 1 999 1.5 0 1.5 0' >MORE
 }
 each='map:LIB:IN map:-c:LIB:IN check:LIB:IN:MAPPED time:LIB:MAPPED sim:IN:VECTORS sim:-g:LIB:MAPPED:VECTORS graph:IN lut:4:IN big:0:20:MORE verilog:LIB:MAPPED unverilog:LIB:VER'
-case $("$program" 2>&1) in *'| trade '*) each="$each trade:8:LIB:IN" ;; esac
+# shellcheck disable=SC2154
+case $("$program" 2>&1) in *'| trade '*) each="$each trade:3:LIB:IN trade:none:LIB:IN" ;; esac
 
 # Calls a case's own function with the words of each command.
 with_each() { # FUNCTION WORD..

@@ -3,6 +3,7 @@
 
   reference_trade.py trade [-w K] [-i] T LIB IN             writes a netlist, and ends as lwmap does
   reference_trade.py test [-w K] [-i] T LIB IN MAPPED       says whether MAPPED, what 'trade' wrote, is as it has to be
+  reference_trade.py points [-w K] [-i] T LIB IN            the times of the points of the roots, up to their deadlines
 
 T is a time, or 'none' for no deadline. The deadline of a root is the greater of T and its least time. The area of a cover is the
 sum over its gates, where each use of a shared part counts; the netlist may share gates all the same. With 'none' the netlist is
@@ -204,18 +205,23 @@ def standing(graph, matches, network, made):
 def answer(given):
     words = reference.Words(given)
     command = words.next()
-    words.test(command in (b"trade", b"test"))
+    words.test(command in (b"trade", b"test", b"points"))
     width, idempotent = words.width(), words.option(b"-i")
     word = words.next()
     try:
         deadline = None if word == b"none" else reference.decimal(word)
     except ValueError:
         words.test(False)
-    files = words.files(2 if command == b"trade" else 3)
+    words.test(command != b"points" or deadline is not None)
+    files = words.files(3 if command == b"test" else 2)
     cells, network = reference.library_of(files[0]), reference.network_of(files[1])
     traded = Traded(network, cells, width, idempotent, deadline)
     if command == b"test":
         return test(reference.text_of(files[2]), traded)
+    if command == b"points":
+        found = {point.time for root, time in zip(traded.graph.roots, traded.times)
+                 for point in traded.curves[root].points if point.time <= time}
+        return b"".join(reference.printed(time) + b"\n" for time in sorted(found))
     if deadline is None:
         return reference.Mapping(network, cells, width, idempotent, area_of, [0 for _ in network.leaves()]).text(False)
     return netlist(traded)

@@ -1,6 +1,6 @@
 #!/bin/sh
-# Runs the scripts of tools/ and the pictures of bench/ on the examples, and compares what they print. It needs Python, and
-# no program of the repository; what needs ABC or Debian's qflow-tech-osu035 is skipped where that is not there.
+# Runs the scripts of tools/ and the pictures of bench/ and examples/ on the examples, and compares what they print. It needs
+# Python, and no program of the repository; what needs ABC or Debian's qflow-tech-osu035 is skipped where that is not there.
 #
 #   sh tests/tools.sh
 #
@@ -84,6 +84,23 @@ for name in delay time and3; do
 done
 refused 'no table' python3 bench/plot.py README.md "$room"
 good "a page without the table"
+
+
+# The second program in the place of the built one.
+# shellcheck disable=SC2016
+printf '#!/bin/sh\ncase $1 in trade) part=_trade ;; *) part= ;; esac\nexec python3 "%s/tests/reference$part.py" "$@"\n' "$root" >"$room/program"
+chmod +x "$room/program"
+curve() { # LIB IN PICTURE FACTOR..
+    LWMAP_PROGRAM=$room/program python3 examples/curve.py "$@"
+}
+curve examples/small/small.genlib examples/small/full_adder.blif "$room/curve.svg" 1 1.1 >"$room/curve" &&
+    [ "$(sed 1,2d "$room/curve" | tr -d ' \n')" = '|map|5.4|31|37||trade5.4|5.4|31|37||trade5.94|5.6|28|31||tradenone|7.1|26|30|' ] &&
+    python3 -c 'import sys, xml.dom.minidom as dom; dom.parse(sys.argv[1])' "$room/curve.svg" && grep -q 'class="b hollow"' "$room/curve.svg"
+good "the curve of the full adder"
+refused 'map ended with 6' curve /dev/null examples/small/full_adder.blif "$room/curve.svg"
+good "the curve of what has no cover"
+refused 'usage' curve examples/small/small.genlib
+good "the curve of no network"
 
 echo "$passed passed, $failed failed"
 [ "$failed" -eq 0 ]
