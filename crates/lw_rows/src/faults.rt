@@ -53,7 +53,7 @@ const VECTORS: &[u8] = b"111\n110\n";
 const VER: &[u8] =
     b"module \\and3 (\\a , \\b , \\c , \\f );\ninput \\a ;\ninput \\b ;\ninput \\c ;\noutput \\f ;\nwire \\n1 ;\n\\nand3 u1 (.\\a (\\a ), .\\b (\\b ), .\\c (\\c ), .\\O (\\n1 ));\n\\inv u2 (.\\a (\\n1 ), .\\O (\\f ));\nendmodule\n";
 
-const ROWS: [Row<'static>; 16] = [
+const ROWS: [Row<'static>; 17] = [
     Row {
         words: "map -c LIB IN",
         reads: &[("LIB", LIB), ("IN", IN)],
@@ -113,6 +113,13 @@ const ROWS: [Row<'static>; 16] = [
     Row {
         words: "unverilog LIB VER",
         reads: &[("LIB", LIB), ("VER", VER)],
+        status: 0,
+        out: b".model and3\n.inputs a b c\n.outputs f\n.gate nand3 a=a b=b c=c O=n1\n.gate inv a=n1 O=f\n.end\n",
+        err: b"",
+    },
+    Row {
+        words: "trade none LIB IN",
+        reads: &[("LIB", LIB), ("IN", IN)],
         status: 0,
         out: b".model and3\n.inputs a b c\n.outputs f\n.gate nand3 a=a b=b c=c O=n1\n.gate inv a=n1 O=f\n.end\n",
         err: b"",
