@@ -14,6 +14,7 @@ use Rattle.lw_mapped.specs.declared.certificate.Certificate.{Certificate}
 use Rattle.lw_mapped.specs.Certified.{IsCertificateOf}
 use Rattle.lw_map.specs.declared.choices.Choices.{Choices}
 use Rattle.lw_map.specs.declared.covering.Mapping.{Mapping}
+use Rattle.lw_map.specs.declared.labeller.Labeller.{Labeller}
 use Rattle.lw_map.specs.Mappings.{IsMappingOf, AreCertified, label_of}
 
 abbrev micros : Micro → ℕ
@@ -35,7 +36,7 @@ nets_same : (classes : List ClassId) → map (option_map class_number) (map Some
 nets_same [] = refl
 nets_same (c ∷ classes) = ap (λ (ns : List (Option ℕ)). Some c.0 ∷ ns) (nets_same classes)
 
-module _ (cells : List CellParts) (net : NetworkParts) (starts : List Micro) (c : Choices) (m : Mapping) (is : IsMappingOf cells net starts c m) (certificate : Certificate) (are : AreCertified m.labels m.classes certificate) where
+module _ (labeller : Labeller) (cells : List CellParts) (net : NetworkParts) (starts : List Micro) (c : Choices) (m : Mapping) (is : IsMappingOf labeller cells net starts c m) (certificate : Certificate) (are : AreCertified m.labels m.classes certificate) where
   pub certificate_of_netlist : IsCertificateOf is.mapped.is certificate
   certificate_of_netlist = record {
     labels = λ k. ap (λ (ls : List (Option Micro)). option_map micros (slice_index_or ls k None)) are.labels_are ∙ (labels_same m.labels k ∙ ap (λ (ls : List (Option ℕ)). labels_in ls k) (sym is.labels));

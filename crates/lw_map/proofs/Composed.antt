@@ -32,7 +32,6 @@ use Rattle.lw_match.specs.Values.{plain_mark, numbers}
 use Rattle.lw_label.specs.Delays.{most_time, time_cost}
 use Rattle.lw_label.specs.Labels.{cost_in, costs_of, most_classes, AreLeastMarks}
 use Rattle.lw_label.proofs.Marked.{label_at}
-use Rattle.lw_settle.specs.Steps.{AreSteps}
 use Rattle.lw_netlist.specs.Netlists.{IsNetlist}
 use Rattle.lw_netlist.specs.Plain.{plain_gate}
 use Rattle.lw_netlist.specs.Plain.{plain as plain_netlist}
@@ -46,6 +45,8 @@ use Rattle.lw_map.specs.Mapped.{output_port, IsUncovered, LacksCover}
 use Rattle.lw_map.specs.Choices.{AreChoices}
 use Rattle.lw_map.specs.Ports.{ArePortsOf}
 use Rattle.lw_map.specs.Mappings.{IsMappingOf}
+use Rattle.lw_map.specs.Labelled.{AreStepsBy}
+use Rattle.lw_map.specs.declared.labeller.Labeller.{Labeller}
 use Rattle.lw_map.proofs.CoverNetlists.{port_name, cover_is_netlist}
 use Rattle.lw_map.proofs.GateCount.{few_gates}
 use Rattle.lw_map.proofs.Leaves.{start_is_least}
@@ -99,9 +100,9 @@ module _ (net : NetworkParts) (starts : List Micro) (c : Choices) (ports : Ports
     leaf_labels patterns k i at =
         input_label options.mode options.width (network.plain net) c.graph are.wide.least are.graph (library_patterns cells) (timing_of cells starts) most_time patterns i k (labels_in (costs_of marks) k) at (own_least.least k)
 
-    pub cover_maps : (steps : Option ℕ) → AreSteps c.graph pats (labels_in (costs_of marks)) steps → (cover : NetlistCover) → IsNetlist cover.netlist → IsCoverOf c.graph (time_cost cells starts) pats marks ports cover → IsMappingOf cells net starts c (record { netlist = cover.netlist; classes = cover.classes; labels = marks; steps = steps })
+    pub cover_maps : (labeller : Labeller) (steps : Option ℕ) → AreStepsBy labeller c.graph pats (labels_in (costs_of marks)) steps → (cover : NetlistCover) → IsNetlist cover.netlist → IsCoverOf c.graph (time_cost cells starts) pats marks ports cover → IsMappingOf labeller cells net starts c (record { netlist = cover.netlist; classes = cover.classes; labels = marks; steps = steps })
     unfolding cover_is_netlist
-    cover_maps steps read cover own is = record {
+    cover_maps labeller steps read cover own is = record {
       mapped = record {
         kept = own;
         model_name = is.model ∙ named.model;
@@ -112,7 +113,7 @@ module _ (net : NetworkParts) (starts : List Micro) (c : Choices) (ports : Ports
       labels = refl;
       gates = refl;
       one_each = least.one_each;
-      steps = subst (λ ps. AreSteps c.graph ps (labels_in (costs_of marks)) steps) pats_are read;
+      steps = subst (λ ps. AreStepsBy labeller c.graph ps (labels_in (costs_of marks)) steps) pats_are read;
     }
 
     -- there are few gates

@@ -2,6 +2,7 @@ pub mod Options
 pub mod Mapped
 pub mod Choices
 pub mod Ports
+pub mod Labelled
 pub mod Mappings
 pub mod Faults
 pub mod Tabled

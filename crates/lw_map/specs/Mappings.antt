@@ -9,22 +9,23 @@ use Rattle.lw_match.specs.Values.{numbers}
 use Rattle.lw_laws.specs.Rounds.{labels_in}
 use Rattle.lw_pattern.specs.Libraries.{library_patterns}
 use Rattle.lw_label.specs.Labels.{costs_of}
-use Rattle.lw_settle.specs.Steps.{AreSteps}
 use Rattle.lw_mapped.specs.declared.certificate.Certificate.{Certificate}
 use Rattle.lw_map.specs.declared.choices.Choices.{Choices}
+use Rattle.lw_map.specs.declared.labeller.Labeller.{Labeller}
 use Rattle.lw_map.specs.declared.covering.Mapping.{Mapping}
 use Rattle.lw_map.specs.Options.{plain_options}
+use Rattle.lw_map.specs.Labelled.{AreStepsBy}
 use Rattle.lw_map.specs.Mapped.{IsMappedNetlist}
 
 -- the netlist that the network is mapped to, over the graph of the choices, with the classes of its gates, the labels of the classes, and
 -- how often stored matches are read to find them
-pub record IsMappingOf (cells : List CellParts) (net : NetworkParts) (starts : List Micro) (c : Choices) (m : Mapping) : Type 0 where
+pub record IsMappingOf (labeller : Labeller) (cells : List CellParts) (net : NetworkParts) (starts : List Micro) (c : Choices) (m : Mapping) : Type 0 where
   pub mapped : IsMappedNetlist (plain_options c.options) cells net starts m.netlist
   pub graph : mapped.is.graph ≡ c.graph
   pub labels : mapped.is.labels ≡ costs_of m.labels
   pub gates : mapped.is.gates ≡ numbers m.classes
   pub one_each : length m.labels ≡ length c.graph.pairs
-  pub steps : AreSteps c.graph (library_patterns cells) (labels_in (costs_of m.labels)) m.steps
+  pub steps : AreStepsBy labeller c.graph (library_patterns cells) (labels_in (costs_of m.labels)) m.steps
 
 abbrev pub label_of : Mark → Micro
 label_of mark = record { 0 = mark.cost }

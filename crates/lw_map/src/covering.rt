@@ -13,7 +13,7 @@ ghost use Rattle.lw_map.specs.Faults.{IsCoverFault};
 
 use crate::labelling::label;
 use crate::naming::{input_names, output_name, output_names};
-use crate::{Choices, MapFault};
+use crate::{Choices, Labeller, MapFault};
 use lw_extract::{ExtractFault, Ports, extract};
 use lw_fixed::Micros;
 use lw_genlib::Library;
@@ -25,8 +25,8 @@ use lw_pool::{Classes, Name};
 use std::alloc::{AllocError, Global};
 
 /// The netlist that a network is mapped to, with the class of each gate and the labels of all
-/// classes, and how often a stored match was read to find them: none where there are too many
-/// matches to store.
+/// classes, and how often a stored match was read to find them: none where they were found in
+/// rounds.
 #[derive(Drop)]
 pub struct Mapping {
     pub netlist: Netlist,
@@ -60,11 +60,12 @@ pub fn cover(
     net: &Network,
     starts: &Micros,
     choices: &Choices,
+    labeller: Labeller,
 ) -> Result<Mapping, MapFault>
     requires choices { AreChoices net.now choices.now }
     requires outputs { IsDistinct bytes_eq (output_names net.now) }
     requires early { All IsSmall starts.now }
-    ensures mapping { IfOk result (IsMappingOf lib.now net.now starts.now choices.now) }
+    ensures mapping { IfOk result (IsMappingOf labeller lib.now net.now starts.now choices.now) }
     ensures over { IfOk result (λ m. IsOver lib.now m.netlist) }
     ensures few { IfOk result (λ m. length m.netlist.gates ≤ most_classes) }
     ensures fault { IfErr result (IsCoverFault lib.now net.now starts.now choices.now) }
@@ -73,7 +74,7 @@ pub fn cover(
     let _ = net.inputs();
     let pats = patterns(alloc, lib)?;
     let cost = DelayCost::new(lib, starts);
-    let labelled = label(alloc, &choices.graph, &pats, &cost)?;
+    let labelled = label(alloc, &choices.graph, &pats, &cost, labeller)?;
     let labels = labelled.labels;
     let ports = ports(alloc, net, choices)?;
     match extract(alloc, &choices.graph, &pats, lib, &labels, &ports, &cost) {

@@ -5,8 +5,9 @@ ghost use Rattle.lw_laws.specs.Rounds.{labels_in};
 ghost use Rattle.lw_match.specs.Least.{AreOfCells};
 ghost use Rattle.lw_label.specs.Labels.{AreLeastMarks, costs_of};
 ghost use Rattle.lw_settle.specs.Steps.{AreSteps};
+ghost use Rattle.lw_map.specs.Labelled.{AreStepsBy};
 
-use crate::MapFault;
+use crate::{Labeller, MapFault};
 use lw_graph::Graph;
 use lw_label::{Labels, relabel};
 use lw_match::Cost;
@@ -22,8 +23,8 @@ pub(crate) struct Labelled {
     pub steps: Option<u64>,
 }
 
-/// The least cost of a cover of each class, and the height of the class.
-pub(crate) fn label<C: Cost>(
+// The least cost of a cover of each class, and the height of the class, by stored matches.
+fn settled<C: Cost>(
     alloc: Global,
     graph: &Graph,
     pats: &Patterns,
@@ -50,5 +51,31 @@ pub(crate) fn label<C: Cost>(
             Ok(Labelled { labels, steps })
         }
         Err(StoreFault::Memory) => Err(MapFault::Memory),
+    }
+}
+
+/// The least cost of a cover of each class, and the height of the class.
+pub(crate) fn label<C: Cost>(
+    alloc: Global,
+    graph: &Graph,
+    pats: &Patterns,
+    cost: &C,
+    labeller: Labeller,
+) -> Result<Labelled, MapFault>
+    requires of_cells { AreOfCells (C.costs cost.now).pin_counts pats.now }
+    requires leaves { (i c : ℕ) → slice_get graph.now.leaves i ≡ Some c →
+        IsLeastCover graph.now pats.now (C.costs cost.now) c (Some ((C.costs cost.now).leaf i)) }
+    ensures least { IfOk result (λ l. AreLeastMarks graph.now (C.costs cost.now) pats.now l.labels) }
+    ensures steps { IfOk result (λ l. AreStepsBy labeller graph.now pats.now
+        (labels_in (costs_of l.labels)) l.steps) }
+    ensures memory { IfErr result (λ e. e ≡ MapFault.Memory) }
+{
+    match labeller {
+        Labeller::Rounds => {
+            let labels = relabel(alloc, graph, pats, cost)?;
+            let steps = None;
+            Ok(Labelled { labels, steps })
+        }
+        Labeller::Store => settled(alloc, graph, pats, cost),
     }
 }

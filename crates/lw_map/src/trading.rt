@@ -17,7 +17,7 @@ ghost use Rattle.lw_map.specs.Trading.{AreEarliest, HasFewPoints, HaveLabelsTo, 
 use crate::covering::ports;
 use crate::labelling::label;
 use crate::naming::output_name;
-use crate::{Choices, MapFault};
+use crate::{Choices, Labeller, MapFault};
 use lw_extract::{ExtractFault, extract};
 use lw_fixed::{Micro, Micros};
 use lw_genlib::Library;
@@ -78,7 +78,7 @@ fn earliest(
     let _ = lib.len();
     let _ = net.inputs();
     let cost = DelayCost::new(lib, starts);
-    let labelled = label(alloc, &choices.graph, pats, &cost)?;
+    let labelled = label(alloc, &choices.graph, pats, &cost, Labeller::Rounds)?;
     match labels_of(alloc, labelled.labels.marks(), choices.roots.as_slice()) {
         Ok(times) => Ok(times),
         Err(ExtractFault::NoCover(place)) => Err(MapFault::NoCover(output_name(
@@ -178,7 +178,7 @@ fn at_any_time(
     let _ = lib.len();
     let _ = net.inputs();
     let cost = AreaCost::new(lib);
-    let labelled = label(alloc, &choices.graph, pats, &cost)?;
+    let labelled = label(alloc, &choices.graph, pats, &cost, Labeller::Rounds)?;
     let labels = labelled.labels;
     let ports = ports(alloc, net, choices)?;
     match extract(alloc, &choices.graph, pats, lib, &labels, &ports, &cost) {

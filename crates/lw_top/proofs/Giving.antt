@@ -27,6 +27,7 @@ use Rattle.lw_map.specs.declared.fault.MapFault.TheVariants as map_fault
 use Rattle.lw_map.specs.Options.{Options, plain_options}
 use Rattle.lw_map.specs.Mapped.{output_port, plain_port, IsMappedNetlist, IsWithinLimits, LacksCover}
 use Rattle.lw_map.specs.Choices.{AreChoices}
+use Rattle.lw_map.specs.declared.labeller.Labeller.TheVariants.{Rounds, Store}
 use Rattle.lw_map.specs.Mappings.{IsMappingOf}
 use Rattle.lw_map.specs.Faults.{IsChoiceFault, IsCoverFault}
 use Rattle.lw_map.proofs.Certified.{certificate_of_netlist, certificate_one_each, certificate_gates}
@@ -65,7 +66,7 @@ zip_length R [] (y ∷ ys) a = absurd a
 zip_length R (x ∷ xs) [] a = absurd a
 zip_length R (x ∷ xs) (y ∷ ys) (r, a) = let ih = zip_length R xs ys a in omega arith
 
-module _ (cells : List CellParts) (model : Parsed) (c : Choices) (m : Mapping) (kept : IsNetwork model.network) (fits : IsModel model) (are : AreChoices model.network c) (is : IsMappingOf cells model.network model.starts c m) where
+module _ (cells : List CellParts) (model : Parsed) (c : Choices) (m : Mapping) (kept : IsNetwork model.network) (fits : IsModel model) (are : AreChoices model.network c) (is : IsMappingOf Rounds cells model.network model.starts c m) where
   -- the frame and the starts fit the netlist
   framed : IsFramed m.netlist model.frame model.starts
   framed =
@@ -90,13 +91,13 @@ module _ (cells : List CellParts) (model : Parsed) (c : Choices) (m : Mapping) (
   asked_for false None a = tt
   asked_for false (Some d) a = absurd a
   asked_for true None a = absurd a
-  asked_for true (Some d) a = record { is_of = certificate_of_netlist cells model.network model.starts c m is d a; one_each = certificate_one_each cells model.network model.starts c m is d a }
+  asked_for true (Some d) a = record { is_of = certificate_of_netlist Rounds cells model.network model.starts c m is d a; one_each = certificate_one_each Rounds cells model.network model.starts c m is d a }
 
   gate_classes : (certified : Bool) (certificate : Option Certificate) → IsCertificateFor m certified certificate → HasGateClasses m.netlist certificate
   gate_classes false None a = tt
   gate_classes false (Some d) a = absurd a
   gate_classes true None a = absurd a
-  gate_classes true (Some d) a = certificate_gates cells model.network model.starts c m is d a
+  gate_classes true (Some d) a = certificate_gates Rounds cells model.network model.starts c m is d a
 
   pub mapping_given : IsOver cells m.netlist → (certified : Bool) (certificate : Option Certificate) → IsCertificateFor m certified certificate → Gives (Maps (plain_options c.options) certified cells model) (Ok (answer.Mapping cells m.netlist model.frame model.starts certificate))
   mapping_given over certified certificate a = (
@@ -146,7 +147,7 @@ verdict_given options cells model m c g v same are kept is =
     })
 
 -- the sizes of a drawn network
-module _ (cells : List CellParts) (net : NetworkParts) (c : Choices) (m : Mapping) (t : TimingParts) (same : plain_options c.options ≡ drawing_options) (are : AreChoices net c) (is : IsMappingOf cells net (at_once net.inputs) c m) (timed : IsTimingOf cells m.netlist (at_once net.inputs) t) where
+module _ (cells : List CellParts) (net : NetworkParts) (c : Choices) (m : Mapping) (t : TimingParts) (same : plain_options c.options ≡ drawing_options) (are : AreChoices net c) (is : IsMappingOf Store cells net (at_once net.inputs) c m) (timed : IsTimingOf cells m.netlist (at_once net.inputs) t) where
   -- the netlist is that of the network by the options of a drawing
   abbrev IsDrawn : Options → Type 0
   IsDrawn o = IsWithinLimits o net × ((mapped : IsMappedNetlist o cells net (at_once net.inputs) m.netlist) × (mapped.is.graph ≡ c.graph) × (mapped.is.labels ≡ costs_of m.labels))

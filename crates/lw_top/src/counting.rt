@@ -17,7 +17,7 @@ use lw_blif::Parsed;
 use lw_fixed::{Micro, Micros};
 use lw_genlib::Library;
 use lw_graph::Graph;
-use lw_map::{Options, cover, decompose};
+use lw_map::{Labeller, Options, cover, decompose};
 use lw_net::Network;
 use lw_pool::ClassId;
 use lw_report::Timing;
@@ -68,7 +68,7 @@ fn map_drawn(alloc: Global, library: &Library, net: &Network, count: u32) -> Res
         mode: Mode::Plain,
     };
     let choices = decompose(alloc, net, options)?;
-    let mapping = cover(alloc, library, net, &starts, &choices)?;
+    let mapping = cover(alloc, library, net, &starts, &choices, Labeller::Store)?;
     let timing = Timing::new(alloc, &mapping.netlist, library, &starts)?;
     Ok(Answer::Sizes(
         count,

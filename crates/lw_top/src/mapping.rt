@@ -10,7 +10,7 @@ use crate::answer::Answer;
 use crate::refusal::Refusal;
 use lw_blif::Parsed;
 use lw_genlib::Library;
-use lw_map::{Mapping, Options, certificate, cover, decompose};
+use lw_map::{Labeller, Mapping, Options, certificate, cover, decompose};
 use lw_mapped::Certificate;
 use std::alloc::{AllocError, Global};
 
@@ -43,7 +43,14 @@ pub(crate) fn map_model(
 {
     let _ = model.network.inputs();
     let choices = decompose(alloc, &model.network, options)?;
-    let mapping = cover(alloc, &library, &model.network, &model.starts, &choices)?;
+    let mapping = cover(
+        alloc,
+        &library,
+        &model.network,
+        &model.starts,
+        &choices,
+        Labeller::Rounds,
+    )?;
     let certificate = certificate_of(alloc, &mapping, certified)?;
     Ok(Answer::Mapping(
         library,

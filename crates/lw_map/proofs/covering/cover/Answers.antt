@@ -27,7 +27,7 @@ pub returns-in-Ok-clause-mapping : goal.returns-in-Ok-clause-mapping
 returns-in-Ok-clause-mapping c =
     cover_maps c.args.net.now c.args.starts.now c.args.choices.now c.in_ok-ports.ports c.inputs.ensures.kept c.requires.choices c.in_ok-ports.ensures
     c.args.lib.now c.in_ok-pats.pats c.in_ok-labelled.labelled.labels c.in_ok-pats.ensures.list (rw (c.new-cost.ensures.lib, c.new-cost.ensures.starts) at c.in_ok-labelled.ensures.least)
-    c.in_ok-labelled.labelled.steps c.in_ok-labelled.ensures.steps c.in-Ok.cover c.gates.ensures.kept (rw (c.new-cost.ensures.lib, c.new-cost.ensures.starts) at c.in-Ok.ensures.cover)
+    c.args.labeller c.in_ok-labelled.labelled.steps c.in_ok-labelled.ensures.steps c.in-Ok.cover c.gates.ensures.kept (rw (c.new-cost.ensures.lib, c.new-cost.ensures.starts) at c.in-Ok.ensures.cover)
 
 pub output_name-requires : goal.output_name-requires
 output_name-requires c =

@@ -1,6 +1,0 @@
-use Rattle.std.proofs.Common.{◌≡◌, take}
-use Rattle.lw_marks.specs.Steep.{joined, total}
-use Rattle.lw_marks.proofs.steep.together.Given as goal
-
-abbrev pub invariant-loop-pin : goal.invariant-loop-pin
-invariant-loop-pin l = l.total ≡ joined 0 (total (take l.pin-index l.pins))

@@ -1,9 +1,0 @@
--- The names differ.
-use Rattle.std.proofs.Common.{sym, subst, refl}
-use Rattle.std.specs.List.{IsDistinct}
-use Rattle.std.specs.Str.{bytes_eq}
-use Rattle.lw_rows.proofs.faults.shelf.Goals as goal
-
-pub new-requires-clause-names_differ : goal.new-requires-clause-names_differ
-unfolding IsDistinct
-new-requires-clause-names_differ c = subst (λ names. IsDistinct bytes_eq names) (sym c.in_ok-files.ensures) ((refl, (refl, (refl, (refl, (refl, tt))))), ((refl, (refl, (refl, (refl, tt)))), ((refl, (refl, (refl, tt))), ((refl, (refl, tt)), ((refl, tt), (tt, tt))))))
