@@ -1,9 +1,7 @@
 -- Numbers that fall to what the pairs of a class give.
-use Rattle.std.proofs.Common.{ℕ, ◌⊎◌, ◌+◌, ◌*◌, ◌%◌, ◌<◌, ◌≤◌, ◌≡◌, ◌||◌, Bool, true, false, if◌then◌else◌, List, [], length, min, max, Option, Some, slice_get, get_or, refl, sym, ap, subst, ◌∙◌, inl, inr, arith}
+use Rattle.std.proofs.Common.{ℕ, ◌⊎◌, ◌+◌, ◌*◌, ◌%◌, ◌<◌, ◌≤◌, ◌≡◌, ◌||◌, Bool, true, false, if◌then◌else◌, List, [], length, max, Option, Some, slice_get, get_or, refl, sym, ap, subst, ◌∙◌, inl, inr, arith}
 use Rattle.std.proofs.Math.ListN.{set}
-use Rattle.std.proofs.lemmas.Option.{same_Some}
 use Rattle.std.proofs.lemmas.List.Sums.{sum_by-set}
-use native.Mathlib.Decide.{dec_lt}
 use native.Mathlib.Nat.{eq-or-lt_of_le}
 use Rattle.lw_laws.specs.Flip.{flip}
 use Rattle.lw_laws.specs.Graphs.{Graph, Pair as PlainPair, HoldsPair}
@@ -14,7 +12,7 @@ use Rattle.lw_match.specs.declared.mark.Mark.{Mark}
 use Rattle.lw_match.specs.declared.parts.Side.{Side}
 use Rattle.lw_match.specs.declared.parts.Part.{Part}
 use Rattle.lw_match.specs.Numbers.{Reading, class_below, side_number, pair_number}
-use Rattle.lw_match.specs.Bounds.{total, reading_of, IsSettledAt, AreSettledBelow}
+use Rattle.lw_match.specs.Bounds.{total, reading_of, AreSettledBelow}
 use Rattle.lw_match.proofs.Branches.{flip_below}
 use Rattle.lw_match.proofs.Pairs.{pair_at}
 

@@ -1,5 +1,5 @@
 -- Where the sides of parts stand in rows.
-use Rattle.std.proofs.Common.{ℕ, ◌⊎◌, ◌+◌, ◌*◌, ◌<◌, ◌≤◌, ◌≡◌, Bool, true, false, if◌then◌else◌, List, [], ◌∷◌, ◌++◌, length, Some, slice_get, refl, sym, ap, subst, ◌∙◌, inl, inr, arith, append_assoc}
+use Rattle.std.proofs.Common.{ℕ, ◌⊎◌, ◌+◌, ◌*◌, ◌<◌, ◌≤◌, ◌≡◌, Bool, true, false, List, [], ◌∷◌, ◌++◌, length, Some, slice_get, refl, sym, ap, subst, ◌∙◌, inl, inr, arith, append_assoc}
 use Rattle.std.proofs.lemmas.List.{length-append}
 use Rattle.std.proofs.lemmas.Option.{slice_get_within}
 use Rattle.lw_match.specs.declared.parts.Kind.{Kind}
@@ -7,7 +7,7 @@ use Rattle.lw_match.specs.declared.parts.Kind.TheVariants.{Any, Leaf, One, Joine
 use Rattle.lw_match.specs.declared.parts.Side.{Side}
 use Rattle.lw_match.specs.declared.parts.Part.{Part}
 use Rattle.lw_match.specs.declared.parts.Place.{Place}
-use Rattle.lw_match.specs.Places.{AreMoreGaps, HasPlace, IsPlaceOf, ArePlaced, ArePlacesOf, AreWithin, row_length}
+use Rattle.lw_match.specs.Places.{AreMoreGaps, HasPlace, IsPlaceOf, ArePlacesOf, row_length}
 use Rattle.lw_match.proofs.MoreParts.{get_in_more, get_in_both}
 
 pub more_gaps : (a b c : List ℕ) → AreMoreGaps a b → AreMoreGaps b c → AreMoreGaps a c

@@ -1,5 +1,5 @@
 -- Rows of the numbers of all sides at a class, and what pairs of them give.
-use Rattle.std.proofs.Common.{ℕ, ◌⊎◌, ◌+◌, ◌*◌, ◌<◌, ◌≤◌, ◌≡◌, ◌≢◌, ◌||◌, Bool, true, false, if◌then◌else◌, List, [], length, min, max, Option, Some, None, slice_get, slice_index, slice_index_or, get_or, refl, sym, ap, ap₂, subst, ◌∙◌, inl, inr, arith}
+use Rattle.std.proofs.Common.{ℕ, ◌⊎◌, ◌+◌, ◌*◌, ◌<◌, ◌≤◌, ◌≡◌, Bool, true, false, if◌then◌else◌, List, length, min, max, Option, Some, None, slice_get, slice_index, slice_index_or, refl, sym, ap, ap₂, subst, ◌∙◌, inl, inr, arith}
 use Rattle.std.proofs.Math.ListN.{set}
 use Rattle.std.proofs.lemmas.List.{get_or-set_same, get_or-set_other, length-set}
 use Rattle.std.proofs.lemmas.Option.{same_Some, slice_get_within, slice_get-get_or, get_or_from_slice_get}
@@ -8,11 +8,10 @@ use Rattle.lw_laws.specs.Flip.{flip}
 use Rattle.lw_graph.specs.declared.pair.Pair.{Pair}
 use Rattle.lw_match.specs.declared.parts.Kind.{Kind}
 use Rattle.lw_match.specs.declared.parts.Kind.TheVariants.{Any, Leaf, One, Joined}
-use Rattle.lw_match.specs.declared.parts.Side.{Side}
 use Rattle.lw_match.specs.declared.parts.Part.{Part}
 use Rattle.lw_match.specs.declared.parts.Place.{Place}
 use Rattle.lw_match.specs.declared.mark.Mark.{Mark}
-use Rattle.lw_match.specs.Numbers.{Reading, leaf_number, part_number, kind_number, side_number, pair_number}
+use Rattle.lw_match.specs.Numbers.{Reading, leaf_number, part_number, kind_number, pair_number}
 use Rattle.lw_match.specs.Places.{HasPlace, IsPlaceOf, ArePlaced, AreWithin, HasSides, crossed, row_length}
 use Rattle.lw_match.proofs.Placing.{place_within}
 

@@ -25,6 +25,7 @@ mod search;
 mod seeking;
 mod settling;
 mod shapes;
+mod times;
 
 pub use bounds::Bounds;
 pub use cost::Cost;
