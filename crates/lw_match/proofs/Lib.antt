@@ -19,11 +19,13 @@ pub mod Nexts
 pub mod OfCells
 pub mod Pairs
 pub mod Passes
+pub mod Placing
 pub mod Ranking
 pub mod Refusals
 pub mod RootShapes
 pub mod Rooting
 pub mod Settled
+pub mod SideRows
 pub mod Soughts
 pub mod Starting
 pub mod Steps

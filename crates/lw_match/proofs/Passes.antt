@@ -6,32 +6,32 @@ use Rattle.lw_laws.specs.Covers.{Pattern}
 use Rattle.lw_match.specs.declared.mark.Mark.{Mark}
 use Rattle.lw_match.specs.Bounds.{BoundsState, BoundsFit, AreSettledAt, bounds_weight}
 
--- the table so far: a number fell, or none did and those of the first n classes are settled
-pub record ArePassed (pats : List Pattern) (g : Graph) (marks : List (Option Mark)) (old new : BoundsState) (n : ℕ) (fell : Bool) : Type 0 where
+-- the table so far: a number fell, or none did and in a whole round those of the first n classes are settled
+pub record ArePassed (pats : List Pattern) (g : Graph) (marks : List (Option Mark)) (whole : Bool) (old new : BoundsState) (n : ℕ) (fell : Bool) : Type 0 where
   pub fits : BoundsFit new pats g
   pub falls : fell ≡ true → bounds_weight new < bounds_weight old
   pub same : fell ≡ false → new ≡ old
-  pub settled : fell ≡ false → (c : ℕ) → c < n → AreSettledAt old g marks c
+  pub settled : whole ≡ true → fell ≡ false → (c : ℕ) → c < n → AreSettledAt old g marks c
 
-pub passed_none : (pats : List Pattern) (g : Graph) (marks : List (Option Mark)) (old : BoundsState) → BoundsFit old pats g → ArePassed pats g marks old old 0 false
-passed_none pats g marks old fits =
-    record { fits = fits; falls = λ e. cc; same = λ e. refl; settled = λ e c lt. absurd (omega arith) }
+pub passed_none : (pats : List Pattern) (g : Graph) (marks : List (Option Mark)) (whole : Bool) (old : BoundsState) → BoundsFit old pats g → ArePassed pats g marks whole old old 0 false
+passed_none pats g marks whole old fits =
+    record { fits = fits; falls = λ e. cc; same = λ e. refl; settled = λ w e c lt. absurd (omega arith) }
 
-pub passed_more : (pats : List Pattern) (g : Graph) (marks : List (Option Mark)) (old mid new : BoundsState) (n : ℕ) (one fell : Bool) → ArePassed pats g marks old mid n fell → (BoundsFit mid pats g → BoundsFit new pats g) → (one ≡ true → bounds_weight new < bounds_weight mid) → (one ≡ false → new ≡ mid) → (one ≡ false → AreSettledAt mid g marks n) → ArePassed pats g marks old new (n + 1) (one || fell)
-passed_more pats g marks old mid new n true true h fits falls same settled =
-    record { fits = fits h.fits; falls = λ e. let a = h.falls refl in let b = falls refl in omega arith; same = λ e. cc; settled = λ e. cc }
-passed_more pats g marks old mid new n true false h fits falls same settled =
-    record { fits = fits h.fits; falls = λ e. let a = ap bounds_weight (h.same refl) in let b = falls refl in omega arith; same = λ e. cc; settled = λ e. cc }
-passed_more pats g marks old mid new n false true h fits falls same settled =
-    record { fits = fits h.fits; falls = λ e. let a = h.falls refl in let b = ap bounds_weight (same refl) in omega arith; same = λ e. cc; settled = λ e. cc }
-passed_more pats g marks old mid new n false false h fits falls same settled = record {
+pub passed_more : (pats : List Pattern) (g : Graph) (marks : List (Option Mark)) (whole : Bool) (old mid new : BoundsState) (n : ℕ) (one fell : Bool) → ArePassed pats g marks whole old mid n fell → (BoundsFit mid pats g → BoundsFit new pats g) → (one ≡ true → bounds_weight new < bounds_weight mid) → (one ≡ false → new ≡ mid) → (whole ≡ true → one ≡ false → AreSettledAt mid g marks n) → ArePassed pats g marks whole old new (n + 1) (one || fell)
+passed_more pats g marks whole old mid new n true true h fits falls same settled =
+    record { fits = fits h.fits; falls = λ e. let a = h.falls refl in let b = falls refl in omega arith; same = λ e. cc; settled = λ w e. cc }
+passed_more pats g marks whole old mid new n true false h fits falls same settled =
+    record { fits = fits h.fits; falls = λ e. let a = ap bounds_weight (h.same refl) in let b = falls refl in omega arith; same = λ e. cc; settled = λ w e. cc }
+passed_more pats g marks whole old mid new n false true h fits falls same settled =
+    record { fits = fits h.fits; falls = λ e. let a = h.falls refl in let b = ap bounds_weight (same refl) in omega arith; same = λ e. cc; settled = λ w e. cc }
+passed_more pats g marks whole old mid new n false false h fits falls same settled = record {
   fits = fits h.fits;
   falls = λ e. cc;
   same = λ e. same refl ∙ h.same refl;
-  settled = λ e c lt. place c (eq-or-lt_of_le {n = c} {m = n} (omega arith));
+  settled = λ w e c lt. place w c (eq-or-lt_of_le {n = c} {m = n} (omega arith));
 }
   where
-    place : (c : ℕ) → (c ≡ n) ⊎ (c < n) → AreSettledAt old g marks c
-    place c (inl e) =
-        subst (λ (d : ℕ). AreSettledAt old g marks d) (sym e) (subst (λ (b : BoundsState). AreSettledAt b g marks n) (h.same refl) (settled refl))
-    place c (inr lt) = h.settled refl c lt
+    place : whole ≡ true → (c : ℕ) → (c ≡ n) ⊎ (c < n) → AreSettledAt old g marks c
+    place w c (inl e) =
+        subst (λ (d : ℕ). AreSettledAt old g marks d) (sym e) (subst (λ (b : BoundsState). AreSettledAt b g marks n) (h.same refl) (settled w refl))
+    place w c (inr lt) = h.settled w refl c lt

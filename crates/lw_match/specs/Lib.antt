@@ -6,6 +6,7 @@ pub mod Jobs
 pub mod Least
 pub mod Matching
 pub mod Numbers
+pub mod Places
 pub mod Searching
 pub mod Seeking
 pub mod Shapes

@@ -3,8 +3,10 @@ ghost use Rattle.lw_laws.specs.Covers.{Pattern as TreeOfCell};
 
 use crate::cuts::Cuts;
 use crate::gaps::all_guesses;
-use crate::parts::{Part, Side};
+use crate::parts::{Part, Place, Side};
+use crate::places::places_of;
 use crate::renewing::{Renewal, renew_parts};
+use crate::rows::Plan;
 use crate::shapes::{all_sides, root_sides};
 use crate::{Cost, Mark};
 use indexmap::IndexSet;
@@ -36,15 +38,25 @@ pub struct Bounds {
     sides: Vec<Vec<Side>>,
     roots: Vec<Side>,
     numbers: Vec<u64>,
+    // the gaps of the pins that are sides of parts, and the places of the sides of each part
+    leaves: IndexSet<u64>,
+    places: Vec<Place>,
+    // room to work in: the numbers of all sides at the two classes of a pair, and what they give
+    xs: Vec<u64>,
+    ys: Vec<u64>,
+    least: Vec<u64>,
 }
 
 impl Model for Bounds {
     ghost use Rattle.std.specs.Prelude.{map};
     ghost use Rattle.lw_match.specs.Bounds.{BoundsState};
+    ghost use Rattle.lw_match.specs.Places.{HasRoom};
 
     ghost Value = { BoundsState };
 
     ghost view = { λ b. record { parts = b.parts.keys; gaps = b.gaps.items; sides = map (λ side. side.items) b.sides.items; roots = b.roots.items; numbers = b.numbers.items } };
+
+    ghost invariant = { λ b. HasRoom b.parts.keys b.leaves.keys b.places.items b.xs.items b.ys.items b.least.items };
 }
 
 impl Bounds {
@@ -70,12 +82,23 @@ impl Bounds {
         let sides = all_sides(alloc, &mut parts, room, &gaps, pats)?;
         let roots = root_sides(alloc, pats, &sides)?;
         let numbers = vec![in alloc; u64::MAX; parts.len() * graph.classes() as usize]?;
+        let mut leaves = IndexSet::new(alloc);
+        let places = places_of(alloc, &mut leaves, parts.as_slice())?;
+        let size = 2 * parts.len() + 3 + 2 * leaves.len();
+        let xs = vec![in alloc; 0; size]?;
+        let ys = vec![in alloc; 0; size]?;
+        let least = vec![in alloc; 0; parts.len()]?;
         Ok(Bounds {
             parts,
             gaps,
             sides,
             roots,
             numbers,
+            leaves,
+            places,
+            xs,
+            ys,
+            least,
         })
     }
 
@@ -96,10 +119,21 @@ impl Bounds {
         let renewal = Renewal {
             graph,
             marks,
-            parts: self.parts.as_slice(),
             class,
         };
-        renew_parts(renewal, &mut self.numbers)
+        let plan = Plan {
+            parts: self.parts.as_slice(),
+            gaps: self.leaves.as_slice(),
+            places: &self.places,
+        };
+        renew_parts(
+            renewal,
+            plan,
+            &mut self.xs,
+            &mut self.ys,
+            &mut self.least,
+            &mut self.numbers,
+        )
     }
 
     /// What searches are cut by.

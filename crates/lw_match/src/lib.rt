@@ -17,12 +17,15 @@ mod mark;
 mod numbers;
 mod parts;
 mod pins;
+mod places;
 mod query;
 mod renewing;
+mod rows;
 mod search;
 mod seeking;
 mod settling;
 mod shapes;
+mod times;
 
 pub use bounds::Bounds;
 pub use cost::Cost;

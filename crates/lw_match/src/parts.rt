@@ -24,3 +24,10 @@ pub struct Part {
     pub left: Side,
     pub right: Side,
 }
+
+/// Where the numbers of the two sides of a part stand in a row of the numbers of all sides.
+#[derive(Clone, Copy, Debug, PartialEq, Eq)]
+pub struct Place {
+    pub left: u32,
+    pub right: u32,
+}

@@ -1,11 +1,12 @@
 // Numbers of the parts at a class, as its pairs give them.
-ghost use Rattle.std.specs.Prelude.{◌≡◌, ◌<◌, ◌||◌, length, IsTrue, IsFalse};
+ghost use Rattle.std.specs.Prelude.{◌≡◌, ◌+◌, ◌<◌, ◌≤◌, ◌||◌, ℕ, length, slice_index, IsTrue, IsFalse};
 ghost use Rattle.lw_graph.specs.Graphs.{IsGraph};
-ghost use Rattle.lw_match.specs.Bounds.{total, reading_of, AreRows, IsSettledAt, AreSettledBelow};
+ghost use Rattle.lw_match.specs.Bounds.{total, reading_of, AreRows, AreSettledBelow};
+ghost use Rattle.lw_match.specs.Places.{ArePlaced, row_length};
 
 use crate::Mark;
-use crate::numbers::{Numbers, least_number};
-use crate::parts::Part;
+use crate::numbers::Numbers;
+use crate::rows::{Plan, lessen_all};
 use lw_graph::Graph;
 use lw_pool::ClassId;
 
@@ -14,35 +15,17 @@ use lw_pool::ClassId;
 pub struct Renewal<'a> {
     pub graph: &'a Graph,
     pub marks: &'a [Option<Mark>],
-    pub parts: &'a [Part],
     pub class: ClassId,
 }
 
-// Lets the number of a part fall to what the pairs give, and says whether it fell.
-fn renew_part(renewal: Renewal, part: usize, numbers: &mut [u64]) -> bool
-    requires graph { IsGraph renewal.graph.now }
-    requires class { renewal.class.0 < length renewal.graph.now.pairs }
-    requires one_each { length renewal.marks.now ≡ length renewal.graph.now.pairs }
-    requires rows { AreRows renewal.parts.now numbers.old renewal.graph.now }
-    requires part { part < length renewal.parts.now }
+// Lets a number fall to another, and says whether it fell.
+fn lower_number(numbers: &mut [u64], place: usize, least: u64) -> bool
+    requires { place < length numbers.old }
     ensures falls { IsTrue result → total numbers.new < total numbers.old }
     ensures same { IsFalse result → numbers.new ≡ numbers.old }
-    ensures settled { IsFalse result →
-        IsSettledAt renewal.entry.graph.now
-        (reading_of renewal.entry.graph.now renewal.entry.marks.now renewal.entry.parts.now
-        numbers.old) renewal.entry.parts.now renewal.entry.class.0 part }
+    ensures settled { IsFalse result → slice_index numbers.old place ≤ least }
 {
-    let place = renewal.class.0 as usize * renewal.parts.len() + part;
-    let number = numbers[place];
-    let at = Numbers {
-        one: renewal.graph.one(),
-        marks: renewal.marks,
-        width: renewal.parts.len(),
-        numbers,
-    };
-    let row = renewal.graph.nands(renewal.class);
-    let least = least_number(at, renewal.parts[part], row, number);
-    if least < number {
+    if least < numbers[place] {
         numbers[place] = least;
         true
     } else {
@@ -57,26 +40,59 @@ pub(crate) fn either(one: bool, other: bool) -> bool
     one || other
 }
 
+// Lets the numbers from a place on fall to others, and says whether one fell.
+fn lower_numbers(numbers: &mut [u64], start: usize, least: &[u64]) -> bool
+    requires { start + length least.now ≤ length numbers.old }
+    ensures falls { IsTrue result → total numbers.new < total numbers.old }
+    ensures same { IsFalse result → numbers.new ≡ numbers.old }
+    ensures settled { IsFalse result → (n : ℕ) → n < length least.now →
+        slice_index numbers.old (start + n) ≤ slice_index least.now n }
+{
+    let mut fell = false;
+    for part in 0..least.len() {
+        fell = either(lower_number(numbers, start + part, least[part]), fell);
+    }
+    fell
+}
+
 // Lets the numbers of all parts at a class fall to what the pairs give, and says whether one fell.
-pub(crate) fn renew_parts(renewal: Renewal, numbers: &mut [u64]) -> bool
+// The other lists of numbers are room to work in.
+pub(crate) fn renew_parts(
+    renewal: Renewal,
+    plan: Plan,
+    xs: &mut [u64],
+    ys: &mut [u64],
+    least: &mut [u64],
+    numbers: &mut [u64],
+) -> bool
     requires graph { IsGraph renewal.graph.now }
     requires class { renewal.class.0 < length renewal.graph.now.pairs }
     requires one_each { length renewal.marks.now ≡ length renewal.graph.now.pairs }
-    requires rows { AreRows renewal.parts.now numbers.old renewal.graph.now }
+    requires rows { AreRows plan.parts.now numbers.old renewal.graph.now }
+    requires placed { ArePlaced plan.parts.now plan.gaps.now plan.places.now }
+    requires xs { length xs.old ≡ row_length (length plan.parts.now) plan.gaps.now }
+    requires ys { length ys.old ≡ row_length (length plan.parts.now) plan.gaps.now }
+    requires least { length least.old ≡ length plan.parts.now }
     ensures falls { IsTrue result → total numbers.new < total numbers.old }
     ensures same { IsFalse result → numbers.new ≡ numbers.old }
     ensures settled { IsFalse result →
         AreSettledBelow renewal.entry.graph.now
-        (reading_of renewal.entry.graph.now renewal.entry.marks.now renewal.entry.parts.now
-        numbers.old) renewal.entry.parts.now renewal.entry.class.0
-        (length renewal.entry.parts.now) }
+        (reading_of renewal.entry.graph.now renewal.entry.marks.now plan.entry.parts.now
+        numbers.old) plan.entry.parts.now renewal.entry.class.0
+        (length plan.entry.parts.now) }
 {
-    if renewal.graph.nands(renewal.class).is_empty() {
+    let pairs = renewal.graph.nands(renewal.class);
+    if pairs.is_empty() {
         return false;
     }
-    let mut fell = false;
-    for part in 0..renewal.parts.len() {
-        fell = either(renew_part(renewal, part, numbers), fell);
-    }
-    fell
+    let width = plan.parts.len();
+    let at = Numbers {
+        one: renewal.graph.one(),
+        marks: renewal.marks,
+        width,
+        numbers,
+    };
+    least.fill(u64::MAX);
+    lessen_all(at, plan, pairs, xs, ys, least);
+    lower_numbers(numbers, renewal.class.0 as usize * width, least)
 }

@@ -4,27 +4,94 @@ ghost use Rattle.lw_match.specs.Bounds.{BoundsFit, AreSettledAt, AreBounds, boun
 ghost use Rattle.lw_match.specs.Least.{AreOfCells};
 
 use crate::renewing::either;
+use crate::times::Times;
 use crate::{Bounds, Cost, Mark};
 use lw_graph::Graph;
 use lw_pattern::Patterns;
 use lw_pool::ClassId;
 use std::alloc::{AllocError, Global};
 
-// Lets the numbers of all classes fall, class by class, and says whether one fell.
-fn renew_all(bounds: &mut Bounds, graph: &Graph, pats: &Patterns, marks: &[Option<Mark>]) -> bool
+// Lets the numbers of a class fall, if that is due or the round is a whole one, and says whether one
+// fell.
+fn renew_class(
+    bounds: &mut Bounds,
+    times: &mut Times,
+    graph: &Graph,
+    pats: &Patterns,
+    marks: &[Option<Mark>],
+    class: ClassId,
+    whole: bool,
+) -> bool
+    requires class { class.0 < length graph.now.pairs }
     requires one_each { length marks.now ≡ length graph.now.pairs }
+    requires times { times.old ≡ length graph.now.pairs }
     requires fits { BoundsFit bounds.old pats.now graph.now }
+    ensures times { times.new ≡ times.old }
+    ensures fits { BoundsFit bounds.new pats.now graph.now }
+    ensures falls { IsTrue result → bounds_weight bounds.new < bounds_weight bounds.old }
+    ensures same { IsFalse result → bounds.new ≡ bounds.old }
+    ensures settled { IsTrue whole → IsFalse result →
+        AreSettledAt bounds.old graph.now marks.now class.0 }
+{
+    let _ = pats.len();
+    if !whole && !times.is_due(graph, class) {
+        return false;
+    }
+    let fell = bounds.renew(graph, marks, class);
+    times.note(class, fell);
+    fell
+}
+
+// Lets the numbers fall class by class, and says whether one fell. A whole round passes over none.
+fn renew_round(
+    bounds: &mut Bounds,
+    times: &mut Times,
+    graph: &Graph,
+    pats: &Patterns,
+    marks: &[Option<Mark>],
+    whole: bool,
+) -> bool
+    requires one_each { length marks.now ≡ length graph.now.pairs }
+    requires times { times.old ≡ length graph.now.pairs }
+    requires fits { BoundsFit bounds.old pats.now graph.now }
+    ensures times { times.new ≡ times.old }
+    ensures fits { BoundsFit bounds.new pats.now graph.now }
+    ensures falls { IsTrue result → bounds_weight bounds.new < bounds_weight bounds.old }
+    ensures same { IsFalse result → bounds.new ≡ bounds.old }
+    ensures settled { IsTrue whole → IsFalse result → (c : ℕ) → c < length graph.now.pairs →
+        AreSettledAt bounds.new graph.now marks.now c }
+{
+    let mut fell = false;
+    for number in 0..graph.classes() {
+        let class = ClassId(number);
+        fell = either(
+            renew_class(bounds, times, graph, pats, marks, class, whole),
+            fell,
+        );
+    }
+    fell
+}
+
+// Goes through the classes that are due until no number falls, and then through all. Says whether
+// one fell in the last round.
+fn renew_rounds(
+    bounds: &mut Bounds,
+    times: &mut Times,
+    graph: &Graph,
+    pats: &Patterns,
+    marks: &[Option<Mark>],
+) -> bool
+    requires one_each { length marks.now ≡ length graph.now.pairs }
+    requires times { times.old ≡ length graph.now.pairs }
+    requires fits { BoundsFit bounds.old pats.now graph.now }
+    ensures times { times.new ≡ times.old }
     ensures fits { BoundsFit bounds.new pats.now graph.now }
     ensures falls { IsTrue result → bounds_weight bounds.new < bounds_weight bounds.old }
     ensures settled { IsFalse result → (c : ℕ) → c < length graph.now.pairs →
         AreSettledAt bounds.new graph.now marks.now c }
 {
-    let _ = pats.len();
-    let mut fell = false;
-    for class in 0..graph.classes() {
-        fell = either(bounds.renew(graph, marks, ClassId(class)), fell);
-    }
-    fell
+    while renew_round(bounds, times, graph, pats, marks, false) {}
+    renew_round(bounds, times, graph, pats, marks, true)
 }
 
 impl Bounds {
@@ -42,8 +109,9 @@ impl Bounds {
         ensures bounds { IfOk result (λ b. AreBounds b graph.now marks.now) }
     {
         let _ = graph.classes();
+        let mut times = Times::new(alloc, graph)?;
         let mut bounds = Bounds::new(alloc, graph, pats, cost)?;
-        while renew_all(&mut bounds, graph, pats, marks) {}
+        while renew_rounds(&mut bounds, &mut times, graph, pats, marks) {}
         Ok(bounds)
     }
 }
