@@ -11,14 +11,14 @@ use Rattle.std.proofs.lemmas.List.Sorted.{Contains-permutation, IsPermutation-sy
 use Rattle.lw_laws.proofs.Lists.{all_contains, contains_all, in_map}
 use Rattle.lw_reduce.specs.declared.facts.Fact.{Fact}
 use Rattle.lw_reduce.specs.declared.facts.Link.{Link}
-use Rattle.lw_reduce.specs.Names.{CanName, IsFlat, LinkAgrees, name_of}
+use Rattle.lw_reduce.specs.Representatives.{AreRepresentatives, IsFlat, LinkAgrees, rep_of}
 use Rattle.lw_reduce.specs.Settling.{AreSettled, HaveOwnParts, IsSettled, fact_key, no_fact, parts_key, renamed_fact}
 use Rattle.lw_reduce.proofs.Strict.{default_same, same_rows}
 
-module _ (n : ℕ) (nands : List Fact) (links : List Link) (names : List ℕ) (rows : List Fact) (is : IsSettled n nands links names rows) (few : n < 2 ^ 31) where
-  pub in_rows : (p : Fact) → Contains nands p → Contains rows (renamed_fact names p)
+module _ (n : ℕ) (nands : List Fact) (links : List Link) (reps : List ℕ) (rows : List Fact) (is : IsSettled n nands links reps rows) (few : n < 2 ^ 31) where
+  pub in_rows : (p : Fact) → Contains nands p → Contains rows (renamed_fact reps p)
   in_rows p c =
-      Contains-permutation (map (renamed_fact names) nands) rows (renamed_fact names p) is.permutation (in_map (renamed_fact names) nands p c)
+      Contains-permutation (map (renamed_fact reps) nands) rows (renamed_fact reps p) is.permutation (in_map (renamed_fact reps) nands p c)
 
   -- settled facts with the same parts
   same_members : (r s : Fact) → Contains rows r → Contains rows s → fact_key r ≡ fact_key s → r ≡ s
@@ -29,27 +29,27 @@ module _ (n : ℕ) (nands : List Fact) (links : List Link) (names : List ℕ) (r
       sym x ∙ (by_order (dec_le i j) k ∙ y)
     where
       by_order : Dec (i ≤ j) → fact_key (get_or rows i no_fact) ≡ fact_key (get_or rows j no_fact) → get_or rows i no_fact ≡ get_or rows j no_fact
-      by_order (yes le) k = same_rows n nands links names rows is few i j le lj k
-      by_order (no gt) k = sym (same_rows n nands links names rows is few j i (omega arith) li (sym k))
+      by_order (yes le) k = same_rows n nands links reps rows is few i j le lj k
+      by_order (no gt) k = sym (same_rows n nands links reps rows is few j i (omega arith) li (sym k))
 
-  pub settled_by_rows : AreSettled n nands links names
+  pub settled_by_rows : AreSettled n nands links reps
   settled_by_rows = record {
-    can = is.can;
+    valid = is.valid;
     flat = is.flat;
     linked = is.linked;
-    agree = λ p q a b e f. ap (λ (r : Fact). r.form) (same_members (renamed_fact names p) (renamed_fact names q) (in_rows p a) (in_rows q b) (ap₂ (λ x y. x * 2 ^ 32 + y) e f));
+    agree = λ p q a b e f. ap (λ (r : Fact). r.form) (same_members (renamed_fact reps p) (renamed_fact reps q) (in_rows p a) (in_rows q b) (ap₂ (λ x y. x * 2 ^ 32 + y) e f));
   }
 
-pub settled_by_own : (n : ℕ) (nands : List Fact) (links : List Link) (names : List ℕ) → CanName n nands links names → IsFlat names → All (LinkAgrees names) links → HaveOwnParts names nands → AreSettled n nands links names
-settled_by_own n nands links names can flat linked own = record {
-  can = can;
+pub settled_by_own : (n : ℕ) (nands : List Fact) (links : List Link) (reps : List ℕ) → AreRepresentatives n nands links reps → IsFlat reps → All (LinkAgrees reps) links → HaveOwnParts reps nands → AreSettled n nands links reps
+settled_by_own n nands links reps valid flat linked own = record {
+  valid = valid;
   flat = flat;
   linked = linked;
-  agree = λ p q a b e f. ap (λ (r : Fact). name_of names r.form) (own p q a b (ap₂ (λ x y. x * 2 ^ 32 + y) e f));
+  agree = λ p q a b e f. ap (λ (r : Fact). rep_of reps r.form) (own p q a b (ap₂ (λ x y. x * 2 ^ 32 + y) e f));
 }
 
-pub settled_from : (m n : ℕ) (nands : List Fact) (links : List Link) (names : List ℕ) → m ≡ n → AreSettled m nands links names → AreSettled n nands links names
-settled_from m n nands links names e is = subst (λ k. AreSettled k nands links names) e is
+pub settled_from : (m n : ℕ) (nands : List Fact) (links : List Link) (reps : List ℕ) → m ≡ n → AreSettled m nands links reps → AreSettled n nands links reps
+settled_from m n nands links reps e is = subst (λ k. AreSettled k nands links reps) e is
 
 differ : (x y : ℕ) → x < y → (x == y) ≡ false
 differ x y l = grind (arith, l)
@@ -81,24 +81,24 @@ flips x y = by_case (ℕ_discrete x y)
         a ∙ sym b
 
 -- keys that rise strictly in some order belong to one fact each
-pub own_parts : (names : List ℕ) (nands : List Fact) (sorted : List ℕ) → IsPermutation (map (parts_key names) nands) sorted → IsStrictlyIncreasing sorted → HaveOwnParts names nands
-own_parts names nands sorted perm rise p q (i, li, ei) (j, lj, ej) e = by_place (dec_lt i j) (dec_lt j i)
+pub own_parts : (reps : List ℕ) (nands : List Fact) (sorted : List ℕ) → IsPermutation (map (parts_key reps) nands) sorted → IsStrictlyIncreasing sorted → HaveOwnParts reps nands
+own_parts reps nands sorted perm rise p q (i, li, ei) (j, lj, ej) e = by_place (dec_lt i j) (dec_lt j i)
   where
-    distinct : IsDistinct (λ a b. a == b) (map (parts_key names) nands)
+    distinct : IsDistinct (λ a b. a == b) (map (parts_key reps) nands)
     distinct =
-        IsDistinct-IsPermutation (λ a b. a == b) flips sorted (map (parts_key names) nands) (IsPermutation-sym (map (parts_key names) nands) sorted perm) (distinct_from sorted (λ i j d l lt. AllPairs-from_increasing sorted rise i j d l lt))
+        IsDistinct-IsPermutation (λ a b. a == b) flips sorted (map (parts_key reps) nands) (IsPermutation-sym (map (parts_key reps) nands) sorted perm) (distinct_from sorted (λ i j d l lt. AllPairs-from_increasing sorted rise i j d l lt))
 
-    at : (k : ℕ) (r : Fact) → k < length nands → get_or nands k r ≡ r → get_or (map (parts_key names) nands) k 0 ≡ parts_key names r
-    at k r lt e = get_or-map (parts_key names) nands k r 0 lt ∙ ap (parts_key names) e
+    at : (k : ℕ) (r : Fact) → k < length nands → get_or nands k r ≡ r → get_or (map (parts_key reps) nands) k 0 ≡ parts_key reps r
+    at k r lt e = get_or-map (parts_key reps) nands k r 0 lt ∙ ap (parts_key reps) e
 
-    in_keys : (k : ℕ) → k < length nands → k < length (map (parts_key names) nands)
-    in_keys k lt = subst (λ m. k < m) (sym (length-map nands (parts_key names))) lt
+    in_keys : (k : ℕ) → k < length nands → k < length (map (parts_key reps) nands)
+    in_keys k lt = subst (λ m. k < m) (sym (length-map nands (parts_key reps))) lt
 
     by_place : Dec (i < j) → Dec (j < i) → p ≡ q
     by_place (yes l) d =
-        absurd (distinct_at (map (parts_key names) nands) distinct i j l (in_keys j lj) (at i p li ei ∙ (e ∙ sym (at j q lj ej))))
+        absurd (distinct_at (map (parts_key reps) nands) distinct i j l (in_keys j lj) (at i p li ei ∙ (e ∙ sym (at j q lj ej))))
     by_place (no n) (yes l) =
-        absurd (distinct_at (map (parts_key names) nands) distinct j i l (in_keys i li) (at j q lj ej ∙ (sym e ∙ sym (at i p li ei))))
+        absurd (distinct_at (map (parts_key reps) nands) distinct j i l (in_keys i li) (at j q lj ej ∙ (sym e ∙ sym (at i p li ei))))
     by_place (no n) (no m) =
         let s : i ≡ j = omega arith in
         sym ei ∙ (default_same nands i p q li ∙ (ap (λ k. get_or nands k q) s ∙ ej))

@@ -1,6 +1,6 @@
 pub mod Flips
-pub mod Keeping
-pub mod Naming
+pub mod RepSteps
+pub mod RepLemmas
 pub mod Sharing
 pub mod Settling
 pub mod Classing

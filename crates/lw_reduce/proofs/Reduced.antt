@@ -15,13 +15,13 @@ use Rattle.lw_reduce.specs.declared.facts.Fact.{Fact}
 use Rattle.lw_reduce.specs.declared.facts.Link.{Link}
 use Rattle.lw_reduce.specs.Classing.{AreClasses}
 use Rattle.lw_reduce.specs.Drafting.{plain_draft, plain_fact, plain_link}
-use Rattle.lw_reduce.specs.Names.{IsFactIn, family, name_of}
+use Rattle.lw_reduce.specs.Representatives.{IsFactIn, family, rep_of}
 use Rattle.lw_reduce.specs.Rows.{IsOrdered}
 use Rattle.lw_reduce.specs.Settling.{AreSettled, renamed_fact}
 use Rattle.lw_reduce.specs.Spreading.{of_class, pair_of}
-use Rattle.lw_reduce.proofs.Closed.{agree, min_max_same, min_max_turned, named}
+use Rattle.lw_reduce.proofs.Closed.{agree, min_max_same, min_max_turned, same_rep_iff}
 use Rattle.lw_reduce.proofs.Members.{filter_in, filter_back, map_back}
-use Rattle.lw_reduce.proofs.Roots.{IsRoot, class_name, class_once, class_below}
+use Rattle.lw_reduce.proofs.Roots.{IsRoot, class_of_rep, class_once, class_below}
 use Rattle.lw_reduce.proofs.Settling.{min_max}
 use Rattle.lw_reduce.proofs.Strict.{fact_is}
 
@@ -34,15 +34,15 @@ same_is a c e = grind (arith, e)
 abbrev pub pairs_of : List Fact → List PlainPair
 pairs_of rows = map (λ (r : Fact). record { x = r.left; y = r.right }) rows
 
-module _ (n : ℕ) (nands : List Fact) (links : List Link) (names : List ℕ) (is : AreSettled n nands links names) (few : n < 2 ^ 31) (forms : List ℕ) (are : AreClasses names forms) (count : length forms ≡ n) where
+module _ (n : ℕ) (nands : List Fact) (links : List Link) (reps : List ℕ) (is : AreSettled n nands links reps) (few : n < 2 ^ 31) (forms : List ℕ) (are : AreClasses reps forms) (count : length forms ≡ n) where
   abbrev entries : List Fact
   entries = map (renamed_fact forms) nands
 
-  count' : length forms ≡ length names
-  count' = let c = is.can.count in omega arith
+  count' : length forms ≡ length reps
+  count' = let c = is.valid.count in omega arith
 
-  known : (f : ℕ) → f / 2 < n → f / 2 < length names
-  known f lt = let c = is.can.count in omega arith
+  known : (f : ℕ) → f / 2 < n → f / 2 < length reps
+  known f lt = let c = is.valid.count in omega arith
 
   -- the entries are the facts in terms of classes
   listed_in : (p : Fact) → Contains nands p → Contains entries (renamed_fact forms p)
@@ -52,12 +52,12 @@ module _ (n : ℕ) (nands : List Fact) (links : List Link) (names : List ℕ) (i
   listed_back r c = map_back (renamed_fact forms) nands r c
 
   parts_in : (p : Fact) → Contains nands p → IsFactIn n p
-  parts_in p c = All-contains (IsFactIn n) nands p is.can.nands_in c
+  parts_in p c = All-contains (IsFactIn n) nands p is.valid.nands_in c
 
-  below : (f : ℕ) → f / 2 < n → name_of forms f < 2 * pair_count 0 forms
-  below f lt = class_below names forms are count' f (known f lt)
+  below : (f : ℕ) → f / 2 < n → rep_of forms f < 2 * pair_count 0 forms
+  below f lt = class_below reps forms are count' f (known f lt)
 
-  small : (f : ℕ) → f / 2 < n → name_of forms f < 2 ^ 32
+  small : (f : ℕ) → f / 2 < n → rep_of forms f < 2 ^ 32
   small f lt = let b = below f lt in let g = are.few in omega arith
 
   pub entry_ordered : (r : Fact) → Contains entries r → IsOrdered (pair_of r)
@@ -82,41 +82,41 @@ module _ (n : ℕ) (nands : List Fact) (links : List Link) (names : List ℕ) (i
       let b = below p.right in'.2 in
       subst (λ (q : Fact). (q.left < 2 * pair_count 0 forms) × (q.right < 2 * pair_count 0 forms)) e (omega arith, omega arith)
 
-  root : (f : ℕ) → f / 2 < n → IsRoot names (name_of names f)
+  root : (f : ℕ) → f / 2 < n → IsRoot reps (rep_of reps f)
   root f lt = record {
-    within = known (name_of names f) (is.can.sound f lt).0;
+    within = known (rep_of reps f) (is.valid.sound f lt).0;
     own = is.flat f (known f lt);
   }
 
   -- forms of one class have one name
-  one_name : (f h : ℕ) → f / 2 < n → h / 2 < n → name_of forms f ≡ name_of forms h → name_of names f ≡ name_of names h
-  one_name f h a b e =
-      let x = class_name names forms are count' f (known f a) in
-      let y = class_name names forms are count' h (known h b) in
-      class_once names forms are count' (name_of names f) (name_of names h) (root f a) (root h b) (x ∙ (e ∙ sym y))
+  one_rep : (f h : ℕ) → f / 2 < n → h / 2 < n → rep_of forms f ≡ rep_of forms h → rep_of reps f ≡ rep_of reps h
+  one_rep f h a b e =
+      let x = class_of_rep reps forms are count' f (known f a) in
+      let y = class_of_rep reps forms are count' h (known h b) in
+      class_once reps forms are count' (rep_of reps f) (rep_of reps h) (root f a) (root h b) (x ∙ (e ∙ sym y))
 
   -- facts whose parts have the same classes have forms of one class
-  one_class : (p q : Fact) → Contains nands p → Contains nands q → (renamed_fact forms p).left ≡ (renamed_fact forms q).left → (renamed_fact forms p).right ≡ (renamed_fact forms q).right → name_of forms p.form ≡ name_of forms q.form
+  one_class : (p q : Fact) → Contains nands p → Contains nands q → (renamed_fact forms p).left ≡ (renamed_fact forms q).left → (renamed_fact forms p).right ≡ (renamed_fact forms q).right → rep_of forms p.form ≡ rep_of forms q.form
   one_class p q a b e f =
       let i = parts_in p a in
       let j = parts_in q b in
-      let x = class_name names forms are count' p.form (known p.form i.0) in
-      let y = class_name names forms are count' q.form (known q.form j.0) in
-      sym x ∙ (ap (name_of forms) (agree n nands links names is p q a b (by_order (min_max (name_of forms p.left) (name_of forms p.right)) (min_max (name_of forms q.left) (name_of forms q.right)))) ∙ y)
+      let x = class_of_rep reps forms are count' p.form (known p.form i.0) in
+      let y = class_of_rep reps forms are count' q.form (known q.form j.0) in
+      sym x ∙ (ap (rep_of forms) (agree n nands links reps is p q a b (by_order (min_max (rep_of forms p.left) (rep_of forms p.right)) (min_max (rep_of forms q.left) (rep_of forms q.right)))) ∙ y)
     where
-      same : name_of forms p.left ≡ name_of forms q.left → name_of forms p.right ≡ name_of forms q.right → (min (name_of names p.left) (name_of names p.right) ≡ min (name_of names q.left) (name_of names q.right)) × (max (name_of names p.left) (name_of names p.right) ≡ max (name_of names q.left) (name_of names q.right))
+      same : rep_of forms p.left ≡ rep_of forms q.left → rep_of forms p.right ≡ rep_of forms q.right → (min (rep_of reps p.left) (rep_of reps p.right) ≡ min (rep_of reps q.left) (rep_of reps q.right)) × (max (rep_of reps p.left) (rep_of reps p.right) ≡ max (rep_of reps q.left) (rep_of reps q.right))
       same c d =
           let i = parts_in p a in
           let j = parts_in q b in
-          min_max_same (name_of names p.left) (name_of names p.right) (name_of names q.left) (name_of names q.right) (one_name p.left q.left i.1 j.1 c) (one_name p.right q.right i.2 j.2 d)
+          min_max_same (rep_of reps p.left) (rep_of reps p.right) (rep_of reps q.left) (rep_of reps q.right) (one_rep p.left q.left i.1 j.1 c) (one_rep p.right q.right i.2 j.2 d)
 
-      turned' : name_of forms p.left ≡ name_of forms q.right → name_of forms p.right ≡ name_of forms q.left → (min (name_of names p.left) (name_of names p.right) ≡ min (name_of names q.left) (name_of names q.right)) × (max (name_of names p.left) (name_of names p.right) ≡ max (name_of names q.left) (name_of names q.right))
+      turned' : rep_of forms p.left ≡ rep_of forms q.right → rep_of forms p.right ≡ rep_of forms q.left → (min (rep_of reps p.left) (rep_of reps p.right) ≡ min (rep_of reps q.left) (rep_of reps q.right)) × (max (rep_of reps p.left) (rep_of reps p.right) ≡ max (rep_of reps q.left) (rep_of reps q.right))
       turned' c d =
           let i = parts_in p a in
           let j = parts_in q b in
-          min_max_turned (name_of names p.left) (name_of names p.right) (name_of names q.left) (name_of names q.right) (one_name p.left q.right i.1 j.2 c) (one_name p.right q.left i.2 j.1 d)
+          min_max_turned (rep_of reps p.left) (rep_of reps p.right) (rep_of reps q.left) (rep_of reps q.right) (one_rep p.left q.right i.1 j.2 c) (one_rep p.right q.left i.2 j.1 d)
 
-      by_order : ((min (name_of forms p.left) (name_of forms p.right) ≡ name_of forms p.left) × (max (name_of forms p.left) (name_of forms p.right) ≡ name_of forms p.right)) ⊎ ((min (name_of forms p.left) (name_of forms p.right) ≡ name_of forms p.right) × (max (name_of forms p.left) (name_of forms p.right) ≡ name_of forms p.left)) → ((min (name_of forms q.left) (name_of forms q.right) ≡ name_of forms q.left) × (max (name_of forms q.left) (name_of forms q.right) ≡ name_of forms q.right)) ⊎ ((min (name_of forms q.left) (name_of forms q.right) ≡ name_of forms q.right) × (max (name_of forms q.left) (name_of forms q.right) ≡ name_of forms q.left)) → (min (name_of names p.left) (name_of names p.right) ≡ min (name_of names q.left) (name_of names q.right)) × (max (name_of names p.left) (name_of names p.right) ≡ max (name_of names q.left) (name_of names q.right))
+      by_order : ((min (rep_of forms p.left) (rep_of forms p.right) ≡ rep_of forms p.left) × (max (rep_of forms p.left) (rep_of forms p.right) ≡ rep_of forms p.right)) ⊎ ((min (rep_of forms p.left) (rep_of forms p.right) ≡ rep_of forms p.right) × (max (rep_of forms p.left) (rep_of forms p.right) ≡ rep_of forms p.left)) → ((min (rep_of forms q.left) (rep_of forms q.right) ≡ rep_of forms q.left) × (max (rep_of forms q.left) (rep_of forms q.right) ≡ rep_of forms q.right)) ⊎ ((min (rep_of forms q.left) (rep_of forms q.right) ≡ rep_of forms q.right) × (max (rep_of forms q.left) (rep_of forms q.right) ≡ rep_of forms q.left)) → (min (rep_of reps p.left) (rep_of reps p.right) ≡ min (rep_of reps q.left) (rep_of reps q.right)) × (max (rep_of reps p.left) (rep_of reps p.right) ≡ max (rep_of reps q.left) (rep_of reps q.right))
       by_order (inl (c, d)) (inl (g, h)) = same (sym c ∙ (e ∙ g)) (sym d ∙ (f ∙ h))
       by_order (inl (c, d)) (inr (g, h)) = turned' (sym c ∙ (e ∙ g)) (sym d ∙ (f ∙ h))
       by_order (inr (c, d)) (inl (g, h)) = turned' (sym d ∙ (f ∙ h)) (sym c ∙ (e ∙ g))
@@ -175,10 +175,10 @@ module _ (n : ℕ) (nands : List Fact) (links : List Link) (names : List ℕ) (i
     classes_are f h o p =
         let a : f / 2 < n = subst (λ m. f / 2 < m) known_samples o in
         let b : h / 2 < n = subst (λ m. h / 2 < m) known_samples p in
-        let x = class_name names forms are count' f (known f a) in
-        let y = class_name names forms are count' h (known h b) in
-        let k = named n nands links names is f h a b in
-        (λ e. to_draft (k.0 (one_name f h a b e)), λ e. sym x ∙ (ap (name_of forms) (k.1 (from_draft e)) ∙ y))
+        let x = class_of_rep reps forms are count' f (known f a) in
+        let y = class_of_rep reps forms are count' h (known h b) in
+        let k = same_rep_iff n nands links reps is f h a b in
+        (λ e. to_draft (k.0 (one_rep f h a b e)), λ e. sym x ∙ (ap (rep_of forms) (k.1 (from_draft e)) ∙ y))
 
     swapped : (c x y : ℕ) → HasNand (facts_of draft) graph c x y → HasNand (facts_of draft) graph c y x
     swapped c x y h = record {
@@ -199,9 +199,9 @@ module _ (n : ℕ) (nands : List Fact) (links : List Link) (names : List ℕ) (i
     row_nand c x y h =
         let (r, k, f, l, t) = row_back c x y h in
         let (p, d, e) = listed_back r k in
-        by_order p d (ap (λ (q : Fact). q.form) e ∙ f) (ap (λ (q : Fact). q.left) e ∙ l) (ap (λ (q : Fact). q.right) e ∙ t) (min_max (name_of forms p.left) (name_of forms p.right))
+        by_order p d (ap (λ (q : Fact). q.form) e ∙ f) (ap (λ (q : Fact). q.left) e ∙ l) (ap (λ (q : Fact). q.right) e ∙ t) (min_max (rep_of forms p.left) (rep_of forms p.right))
       where
-        by_order : (p : Fact) → Contains nands p → name_of forms p.form ≡ c → min (name_of forms p.left) (name_of forms p.right) ≡ x → max (name_of forms p.left) (name_of forms p.right) ≡ y → ((min (name_of forms p.left) (name_of forms p.right) ≡ name_of forms p.left) × (max (name_of forms p.left) (name_of forms p.right) ≡ name_of forms p.right)) ⊎ ((min (name_of forms p.left) (name_of forms p.right) ≡ name_of forms p.right) × (max (name_of forms p.left) (name_of forms p.right) ≡ name_of forms p.left)) → HasNand (facts_of draft) graph c x y
+        by_order : (p : Fact) → Contains nands p → rep_of forms p.form ≡ c → min (rep_of forms p.left) (rep_of forms p.right) ≡ x → max (rep_of forms p.left) (rep_of forms p.right) ≡ y → ((min (rep_of forms p.left) (rep_of forms p.right) ≡ rep_of forms p.left) × (max (rep_of forms p.left) (rep_of forms p.right) ≡ rep_of forms p.right)) ⊎ ((min (rep_of forms p.left) (rep_of forms p.right) ≡ rep_of forms p.right) × (max (rep_of forms p.left) (rep_of forms p.right) ≡ rep_of forms p.left)) → HasNand (facts_of draft) graph c x y
         by_order p d f l t (inl (a, b)) = record {
           form = p.form;
           left = p.left;
@@ -221,27 +221,27 @@ module _ (n : ℕ) (nands : List Fact) (links : List Link) (names : List ℕ) (i
           right_at = sym b ∙ t;
         }
 
-    fact_row : (f x y : ℕ) → Contains nands (record { form = f; left = x; right = y }) → HoldsPair graph (name_of forms f) (name_of forms x) (name_of forms y)
+    fact_row : (f x y : ℕ) → Contains nands (record { form = f; left = x; right = y }) → HoldsPair graph (rep_of forms f) (rep_of forms x) (rep_of forms y)
     fact_row f x y c =
-        by_order (row_in (renamed_fact forms (record { form = f; left = x; right = y })) (listed_in (record { form = f; left = x; right = y }) c)) (min_max (name_of forms x) (name_of forms y))
+        by_order (row_in (renamed_fact forms (record { form = f; left = x; right = y })) (listed_in (record { form = f; left = x; right = y }) c)) (min_max (rep_of forms x) (rep_of forms y))
       where
-        by_order : Contains (slice_index_or pairs (name_of forms f) []) (record { x = min (name_of forms x) (name_of forms y); y = max (name_of forms x) (name_of forms y) }) → ((min (name_of forms x) (name_of forms y) ≡ name_of forms x) × (max (name_of forms x) (name_of forms y) ≡ name_of forms y)) ⊎ ((min (name_of forms x) (name_of forms y) ≡ name_of forms y) × (max (name_of forms x) (name_of forms y) ≡ name_of forms x)) → HoldsPair graph (name_of forms f) (name_of forms x) (name_of forms y)
+        by_order : Contains (slice_index_or pairs (rep_of forms f) []) (record { x = min (rep_of forms x) (rep_of forms y); y = max (rep_of forms x) (rep_of forms y) }) → ((min (rep_of forms x) (rep_of forms y) ≡ rep_of forms x) × (max (rep_of forms x) (rep_of forms y) ≡ rep_of forms y)) ⊎ ((min (rep_of forms x) (rep_of forms y) ≡ rep_of forms y) × (max (rep_of forms x) (rep_of forms y) ≡ rep_of forms x)) → HoldsPair graph (rep_of forms f) (rep_of forms x) (rep_of forms y)
         by_order m (inl (a, b)) =
-            inl (subst₂ (λ x y. Contains (slice_index_or pairs (name_of forms f) []) (record { x = x; y = y })) a b m)
+            inl (subst₂ (λ x y. Contains (slice_index_or pairs (rep_of forms f) []) (record { x = x; y = y })) a b m)
         by_order m (inr (a, b)) =
-            inr (subst₂ (λ x y. Contains (slice_index_or pairs (name_of forms f) []) (record { x = x; y = y })) a b m)
+            inr (subst₂ (λ x y. Contains (slice_index_or pairs (rep_of forms f) []) (record { x = x; y = y })) a b m)
 
     holds_turned : (c x y : ℕ) → HoldsPair graph c x y → HoldsPair graph c y x
     holds_turned c x y (inl h) = inr h
     holds_turned c x y (inr h) = inl h
 
     nand_row : (c x y : ℕ) → HasNand (facts_of draft) graph c x y → HoldsPair graph c x y
-    nand_row c x y h = subst (λ k. HoldsPair graph k x y) h.form_at (subst₂ (λ a b. HoldsPair graph (name_of forms h.form) a b) h.left_at h.right_at (by_side h.is_nand))
+    nand_row c x y h = subst (λ k. HoldsPair graph k x y) h.form_at (subst₂ (λ a b. HoldsPair graph (rep_of forms h.form) a b) h.left_at h.right_at (by_side h.is_nand))
       where
-        by_side : {f a b : ℕ} → IsNand (facts_of draft) f a b → HoldsPair graph (name_of forms f) (name_of forms a) (name_of forms b)
+        by_side : {f a b : ℕ} → IsNand (facts_of draft) f a b → HoldsPair graph (rep_of forms f) (rep_of forms a) (rep_of forms b)
         by_side {f} {a} {b} (inl c) = fact_row f a b (fact_back f a b c)
         by_side {f} {a} {b} (inr c) =
-            holds_turned (name_of forms f) (name_of forms b) (name_of forms a) (fact_row f b a (fact_back f b a c))
+            holds_turned (rep_of forms f) (rep_of forms b) (rep_of forms a) (fact_row f b a (fact_back f b a c))
 
     pairs_are : (c x y : ℕ) → HoldsPair graph c x y ↔ HasNand (facts_of draft) graph c x y
     pairs_are c x y = (from_row, nand_row c x y)

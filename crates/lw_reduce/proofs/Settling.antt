@@ -7,7 +7,7 @@ use Rattle.std.proofs.lemmas.List.Sorted.{All-permutation}
 use Rattle.lw_laws.specs.Families.{Equivalent}
 use Rattle.lw_reduce.specs.declared.facts.Fact.{Fact}
 use Rattle.lw_reduce.specs.declared.facts.Link.{Link}
-use Rattle.lw_reduce.specs.Names.{CanName, HasParts, IsFlat, LinkAgrees, family, name_of}
+use Rattle.lw_reduce.specs.Representatives.{AreRepresentatives, HasParts, IsFlat, LinkAgrees, family, rep_of}
 use Rattle.lw_reduce.specs.Settling.{AgreesAt, IsRenamed, IsSettled, fact_key, renamed_fact}
 
 -- the lower and the higher of two numbers are these two
@@ -19,36 +19,36 @@ min_max l r = by_order (dec_le l r)
     by_order (no gt) = inr (omega arith, omega arith)
 
 module _ (n : ℕ) (nands : List Fact) (links : List Link) where
-  pub fact_renamed : (names : List ℕ) (p : Fact) → CanName n nands links names → Contains nands p → IsRenamed n nands links (renamed_fact names p)
-  fact_renamed names p can listed =
-      let in' = All-contains (λ q. (q.form / 2 < n) × (q.left / 2 < n) × (q.right / 2 < n)) nands p can.nands_in listed in
-      let f = can.sound p.form in'.0 in
-      let l = can.sound p.left in'.1 in
-      let r = can.sound p.right in'.2 in
+  pub fact_renamed : (reps : List ℕ) (p : Fact) → AreRepresentatives n nands links reps → Contains nands p → IsRenamed n nands links (renamed_fact reps p)
+  fact_renamed reps p valid listed =
+      let in' = All-contains (λ q. (q.form / 2 < n) × (q.left / 2 < n) × (q.right / 2 < n)) nands p valid.nands_in listed in
+      let f = valid.sound p.form in'.0 in
+      let l = valid.sound p.left in'.1 in
+      let r = valid.sound p.right in'.2 in
       record {
         fact = p;
         listed = listed;
         alike = f.1;
-        parts = by_order l.1 r.1 (min_max (name_of names p.left) (name_of names p.right));
+        parts = by_order l.1 r.1 (min_max (rep_of reps p.left) (rep_of reps p.right));
         within = f.0;
       }
     where
-      by_order : Equivalent (family n nands links) p.left (name_of names p.left) → Equivalent (family n nands links) p.right (name_of names p.right) → ((min (name_of names p.left) (name_of names p.right) ≡ name_of names p.left) × (max (name_of names p.left) (name_of names p.right) ≡ name_of names p.right)) ⊎ ((min (name_of names p.left) (name_of names p.right) ≡ name_of names p.right) × (max (name_of names p.left) (name_of names p.right) ≡ name_of names p.left)) → HasParts n nands links p (min (name_of names p.left) (name_of names p.right)) (max (name_of names p.left) (name_of names p.right))
+      by_order : Equivalent (family n nands links) p.left (rep_of reps p.left) → Equivalent (family n nands links) p.right (rep_of reps p.right) → ((min (rep_of reps p.left) (rep_of reps p.right) ≡ rep_of reps p.left) × (max (rep_of reps p.left) (rep_of reps p.right) ≡ rep_of reps p.right)) ⊎ ((min (rep_of reps p.left) (rep_of reps p.right) ≡ rep_of reps p.right) × (max (rep_of reps p.left) (rep_of reps p.right) ≡ rep_of reps p.left)) → HasParts n nands links p (min (rep_of reps p.left) (rep_of reps p.right)) (max (rep_of reps p.left) (rep_of reps p.right))
       by_order l r (inl (e, f)) =
           inl (subst (λ k. Equivalent (family n nands links) p.left k) (sym e) l, subst (λ k. Equivalent (family n nands links) p.right k) (sym f) r)
       by_order l r (inr (e, f)) =
           inr (subst (λ k. Equivalent (family n nands links) p.left k) (sym f) l, subst (λ k. Equivalent (family n nands links) p.right k) (sym e) r)
 
-  pub rows_renamed : (names : List ℕ) (rows : List Fact) → CanName n nands links names → IsPermutation (map (renamed_fact names) nands) rows → All (IsRenamed n nands links) rows
-  rows_renamed names rows can perm =
-      All-permutation (IsRenamed n nands links) (map (renamed_fact names) nands) rows perm (All-map (IsRenamed n nands links) (renamed_fact names) nands (λ k d lt. fact_renamed names (get_or nands k d) can (Contains-get_or nands k d lt)))
+  pub rows_renamed : (reps : List ℕ) (rows : List Fact) → AreRepresentatives n nands links reps → IsPermutation (map (renamed_fact reps) nands) rows → All (IsRenamed n nands links) rows
+  rows_renamed reps rows valid perm =
+      All-permutation (IsRenamed n nands links) (map (renamed_fact reps) nands) rows perm (All-map (IsRenamed n nands links) (renamed_fact reps) nands (λ k d lt. fact_renamed reps (get_or nands k d) valid (Contains-get_or nands k d lt)))
 
-  pub settled : (fl mid new : List ℕ) (rows : List Fact) → CanName n nands links new → IsFlat fl → (mid ≡ fl) × All (LinkAgrees fl) links → (IsFlat mid → (new ≡ mid) × ((place : ℕ) → 1 ≤ place → place < length rows → AgreesAt mid rows place)) → IsPermutation (map (renamed_fact mid) nands) rows → IsNonDecreasingBy fact_key rows → IsSettled n nands links new rows
-  settled fl mid new rows can flat (m, linked) more perm sorted =
+  pub settled : (fl mid new : List ℕ) (rows : List Fact) → AreRepresentatives n nands links new → IsFlat fl → (mid ≡ fl) × All (LinkAgrees fl) links → (IsFlat mid → (new ≡ mid) × ((place : ℕ) → 1 ≤ place → place < length rows → AgreesAt mid rows place)) → IsPermutation (map (renamed_fact mid) nands) rows → IsNonDecreasingBy fact_key rows → IsSettled n nands links new rows
+  settled fl mid new rows valid flat (m, linked) more perm sorted =
       let flat' = subst IsFlat (sym m) flat in
       let (s, agree) = more flat' in
       record {
-        can = can;
+        valid = valid;
         flat = subst IsFlat (sym s) flat';
         linked = subst (λ ns. All (LinkAgrees ns) links) (sym s) (subst (λ ns. All (LinkAgrees ns) links) (sym m) linked);
         permutation = subst (λ ns. IsPermutation (map (renamed_fact ns) nands) rows) (sym s) perm;

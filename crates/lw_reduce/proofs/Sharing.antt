@@ -5,7 +5,7 @@ use Rattle.lw_laws.specs.Families.{Equivalent}
 use Rattle.lw_laws.specs.Families.Equivalent.{turned as turned_by, joined, nanded}
 use Rattle.lw_reduce.specs.declared.facts.Fact.{Fact}
 use Rattle.lw_reduce.specs.declared.facts.Link.{Link}
-use Rattle.lw_reduce.specs.Names.{family, HasParts}
+use Rattle.lw_reduce.specs.Representatives.{family, HasParts}
 use Rattle.lw_reduce.specs.Seeing.{HasFact}
 use Rattle.lw_reduce.specs.Settling.{IsRenamed, no_fact}
 

@@ -4,7 +4,7 @@ use Rattle.std.proofs.lemmas.List.Elements.{All-get_or, All-map, All-contains, C
 use Rattle.std.proofs.lemmas.List.Sorted.{All-permutation}
 use Rattle.lw_reduce.specs.declared.facts.Fact.{Fact}
 use Rattle.lw_reduce.specs.declared.facts.Link.{Link}
-use Rattle.lw_reduce.specs.Names.{IsFactIn, name_of}
+use Rattle.lw_reduce.specs.Representatives.{IsFactIn, rep_of}
 use Rattle.lw_reduce.specs.Settling.{IsSettled, fact_key, no_fact, renamed_fact}
 use Rattle.lw_reduce.proofs.Roots.{IsRoot}
 use Rattle.lw_reduce.proofs.Settling.{min_max}
@@ -22,50 +22,50 @@ default_same (x ∷ xs) zero d e lt = refl
 default_same (x ∷ xs) (suc k) d e lt = default_same xs k d e (omega arith)
 
 -- a fact in terms of names that are their own, the lower part first
-pub record IsNamed (names : List ℕ) (r : Fact) : Type 0 where
-  pub form : IsRoot names r.form
-  pub left : IsRoot names r.left
-  pub right : IsRoot names r.right
+pub record IsCanonical (reps : List ℕ) (r : Fact) : Type 0 where
+  pub form : IsRoot reps r.form
+  pub left : IsRoot reps r.left
+  pub right : IsRoot reps r.right
   pub order : r.left ≤ r.right
 
-module _ (n : ℕ) (nands : List Fact) (links : List Link) (names : List ℕ) (rows : List Fact) (is : IsSettled n nands links names rows) (few : n < 2 ^ 31) where
-  root : (f : ℕ) → f / 2 < n → IsRoot names (name_of names f)
+module _ (n : ℕ) (nands : List Fact) (links : List Link) (reps : List ℕ) (rows : List Fact) (is : IsSettled n nands links reps rows) (few : n < 2 ^ 31) where
+  root : (f : ℕ) → f / 2 < n → IsRoot reps (rep_of reps f)
   root f lt =
-      let c = is.can.count in
+      let c = is.valid.count in
       record {
-        within = subst (λ m. name_of names f / 2 < m) (sym c) (is.can.sound f lt).0;
+        within = subst (λ m. rep_of reps f / 2 < m) (sym c) (is.valid.sound f lt).0;
         own = is.flat f (subst (λ m. f / 2 < m) (sym c) lt);
       }
 
-  pub fact_named : (p : Fact) → Contains nands p → IsNamed names (renamed_fact names p)
-  fact_named p listed =
-      let in' = All-contains (IsFactIn n) nands p is.can.nands_in listed in
+  pub fact_canonical : (p : Fact) → Contains nands p → IsCanonical reps (renamed_fact reps p)
+  fact_canonical p listed =
+      let in' = All-contains (IsFactIn n) nands p is.valid.nands_in listed in
       let l = root p.left in'.1 in
       let r = root p.right in'.2 in
       record {
         form = root p.form in'.0;
-        left = by_low l r (min_max (name_of names p.left) (name_of names p.right));
-        right = by_high l r (min_max (name_of names p.left) (name_of names p.right));
+        left = by_low l r (min_max (rep_of reps p.left) (rep_of reps p.right));
+        right = by_high l r (min_max (rep_of reps p.left) (rep_of reps p.right));
         order = omega arith;
       }
     where
-      by_low : {a b : ℕ} → IsRoot names a → IsRoot names b → ((min a b ≡ a) × (max a b ≡ b)) ⊎ ((min a b ≡ b) × (max a b ≡ a)) → IsRoot names (min a b)
-      by_low l r (inl (e, f)) = subst (IsRoot names) (sym e) l
-      by_low l r (inr (e, f)) = subst (IsRoot names) (sym e) r
+      by_low : {a b : ℕ} → IsRoot reps a → IsRoot reps b → ((min a b ≡ a) × (max a b ≡ b)) ⊎ ((min a b ≡ b) × (max a b ≡ a)) → IsRoot reps (min a b)
+      by_low l r (inl (e, f)) = subst (IsRoot reps) (sym e) l
+      by_low l r (inr (e, f)) = subst (IsRoot reps) (sym e) r
 
-      by_high : {a b : ℕ} → IsRoot names a → IsRoot names b → ((min a b ≡ a) × (max a b ≡ b)) ⊎ ((min a b ≡ b) × (max a b ≡ a)) → IsRoot names (max a b)
-      by_high l r (inl (e, f)) = subst (IsRoot names) (sym f) r
-      by_high l r (inr (e, f)) = subst (IsRoot names) (sym f) l
+      by_high : {a b : ℕ} → IsRoot reps a → IsRoot reps b → ((min a b ≡ a) × (max a b ≡ b)) ⊎ ((min a b ≡ b) × (max a b ≡ a)) → IsRoot reps (max a b)
+      by_high l r (inl (e, f)) = subst (IsRoot reps) (sym f) r
+      by_high l r (inr (e, f)) = subst (IsRoot reps) (sym f) l
 
-  pub all_named : All (IsNamed names) rows
-  all_named =
-      All-permutation (IsNamed names) (map (renamed_fact names) nands) rows is.permutation (All-map (IsNamed names) (renamed_fact names) nands (λ k d lt. fact_named (get_or nands k d) (Contains-get_or nands k d lt)))
+  pub all_canonical : All (IsCanonical reps) rows
+  all_canonical =
+      All-permutation (IsCanonical reps) (map (renamed_fact reps) nands) rows is.permutation (All-map (IsCanonical reps) (renamed_fact reps) nands (λ k d lt. fact_canonical (get_or nands k d) (Contains-get_or nands k d lt)))
 
-  named_at : (i : ℕ) → i < length rows → IsNamed names (get_or rows i no_fact)
-  named_at i lt = All-get_or (IsNamed names) rows i no_fact lt all_named
+  canonical_at : (i : ℕ) → i < length rows → IsCanonical reps (get_or rows i no_fact)
+  canonical_at i lt = All-get_or (IsCanonical reps) rows i no_fact lt all_canonical
 
-  small : (r : Fact) → IsNamed names r → r.right < 2 ^ 32
-  small r named = let w = named.right.within in let c = is.can.count in omega arith
+  small : (r : Fact) → IsCanonical reps r → r.right < 2 ^ 32
+  small r canonical = let w = canonical.right.within in let c = is.valid.count in omega arith
 
   -- settled facts with the same parts are equal
   run : (i k : ℕ) → i + k < length rows → fact_key (get_or rows i no_fact) ≡ fact_key (get_or rows (i + k) no_fact) → get_or rows i no_fact ≡ get_or rows (i + k) no_fact
@@ -76,11 +76,11 @@ module _ (n : ℕ) (nands : List Fact) (links : List Link) (names : List ℕ) (r
       let ih = run i k (omega arith) (omega arith) in
       let p = get_or rows (i + k) no_fact in
       let q = get_or rows (i + suc k) no_fact in
-      let np = named_at (i + k) (omega arith) in
-      let nq = named_at (i + suc k) lt in
+      let np = canonical_at (i + k) (omega arith) in
+      let nq = canonical_at (i + suc k) lt in
       let (l, r) = key_parts p q (small p np) (small q nq) (omega arith) in
       let m : i + suc k - 1 ≡ i + k = omega arith in
-      let a = subst (λ j. (get_or rows j no_fact).left ≡ q.left → (get_or rows j no_fact).right ≡ q.right → name_of names (get_or rows j no_fact).form ≡ name_of names q.form) m (is.agree (i + suc k) (omega arith) lt) in
+      let a = subst (λ j. (get_or rows j no_fact).left ≡ q.left → (get_or rows j no_fact).right ≡ q.right → rep_of reps (get_or rows j no_fact).form ≡ rep_of reps q.form) m (is.agree (i + suc k) (omega arith) lt) in
       ih ∙ fact_is p q (sym np.form.own ∙ (a l r ∙ nq.form.own)) l r
 
   pub same_rows : (i j : ℕ) → i ≤ j → j < length rows → fact_key (get_or rows i no_fact) ≡ fact_key (get_or rows j no_fact) → get_or rows i no_fact ≡ get_or rows j no_fact

@@ -4,7 +4,7 @@ use Rattle.lw_reduce.specs.declared.cascade.Seen.{Seen}
 use Rattle.lw_reduce.specs.declared.cascade.Seen.TheVariants.{Form, Free, Full}
 use Rattle.lw_reduce.specs.declared.facts.Fact.{Fact}
 use Rattle.lw_reduce.specs.declared.facts.Link.{Link}
-use Rattle.lw_reduce.specs.Names.{HasParts}
+use Rattle.lw_reduce.specs.Representatives.{HasParts}
 
 -- a listed fact with these parts has this form
 abbrev pub HasFact : ℕ → List Fact → List Link → ℕ → ℕ → ℕ → Type 0

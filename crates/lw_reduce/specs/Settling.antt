@@ -4,14 +4,14 @@ use Rattle.std.specs.List.Sorted.{IsNonDecreasingBy, IsPermutation}
 use Rattle.lw_laws.specs.Families.{Equivalent}
 use Rattle.lw_reduce.specs.declared.facts.Fact.{Fact}
 use Rattle.lw_reduce.specs.declared.facts.Link.{Link}
-use Rattle.lw_reduce.specs.Names.{CanName, HasParts, IsFlat, LinkAgrees, family, name_of}
+use Rattle.lw_reduce.specs.Representatives.{AreRepresentatives, HasParts, IsFlat, LinkAgrees, family, rep_of}
 
 -- the fact in terms of names, the lower part first
 abbrev pub renamed_fact : List ℕ → Fact → Fact
-renamed_fact names p =
-    let l = name_of names p.left in
-    let r = name_of names p.right in
-    record { form = name_of names p.form; left = min l r; right = max l r }
+renamed_fact reps p =
+    let l = rep_of reps p.left in
+    let r = rep_of reps p.right in
+    record { form = rep_of reps p.form; left = min l r; right = max l r }
 
 -- in the order of the first part and then the second
 abbrev pub fact_key : Fact → ℕ
@@ -30,32 +30,32 @@ no_fact = record { form = 0; left = 0; right = 0 }
 
 -- the form at the place and the one before it have one name, if their parts are the same
 abbrev pub AgreesAt : List ℕ → List Fact → ℕ → Type 0
-AgreesAt names rows place =
+AgreesAt reps rows place =
     let p = slice_index_or rows (place - 1) no_fact in
     let q = slice_index_or rows place no_fact in
-    p.left ≡ q.left → p.right ≡ q.right → name_of names p.form ≡ name_of names q.form
+    p.left ≡ q.left → p.right ≡ q.right → rep_of reps p.form ≡ rep_of reps q.form
 
 -- the names are flat, linked forms have one name, and so have forms with the same parts
-pub record IsSettled (n : ℕ) (nands : List Fact) (links : List Link) (names : List ℕ) (rows : List Fact) : Type 0 where
-  pub can : CanName n nands links names
-  pub flat : IsFlat names
-  pub linked : All (LinkAgrees names) links
-  pub permutation : IsPermutation (map (renamed_fact names) nands) rows
+pub record IsSettled (n : ℕ) (nands : List Fact) (links : List Link) (reps : List ℕ) (rows : List Fact) : Type 0 where
+  pub valid : AreRepresentatives n nands links reps
+  pub flat : IsFlat reps
+  pub linked : All (LinkAgrees reps) links
+  pub permutation : IsPermutation (map (renamed_fact reps) nands) rows
   pub sorted : IsNonDecreasingBy fact_key rows
-  pub agree : (place : ℕ) → 1 ≤ place → place < length rows → AgreesAt names rows place
+  pub agree : (place : ℕ) → 1 ≤ place → place < length rows → AgreesAt reps rows place
 
 -- the names are flat, linked forms have one name, and so have forms of facts whose parts have the same names
-pub record AreSettled (n : ℕ) (nands : List Fact) (links : List Link) (names : List ℕ) : Type 0 where
-  pub can : CanName n nands links names
-  pub flat : IsFlat names
-  pub linked : All (LinkAgrees names) links
-  pub agree : (p q : Fact) → Contains nands p → Contains nands q → (renamed_fact names p).left ≡ (renamed_fact names q).left → (renamed_fact names p).right ≡ (renamed_fact names q).right → name_of names p.form ≡ name_of names q.form
+pub record AreSettled (n : ℕ) (nands : List Fact) (links : List Link) (reps : List ℕ) : Type 0 where
+  pub valid : AreRepresentatives n nands links reps
+  pub flat : IsFlat reps
+  pub linked : All (LinkAgrees reps) links
+  pub agree : (p q : Fact) → Contains nands p → Contains nands q → (renamed_fact reps p).left ≡ (renamed_fact reps q).left → (renamed_fact reps p).right ≡ (renamed_fact reps q).right → rep_of reps p.form ≡ rep_of reps q.form
 
 -- the names of a fact's parts as one number
 abbrev pub parts_key : List ℕ → Fact → ℕ
-parts_key names p = fact_key (renamed_fact names p)
+parts_key reps p = fact_key (renamed_fact reps p)
 
 -- no two facts have parts of the same names
 abbrev pub HaveOwnParts : List ℕ → List Fact → Type 0
-HaveOwnParts names nands =
-    (p q : Fact) → Contains nands p → Contains nands q → parts_key names p ≡ parts_key names q → p ≡ q
+HaveOwnParts reps nands =
+    (p q : Fact) → Contains nands p → Contains nands q → parts_key reps p ≡ parts_key reps q → p ≡ q

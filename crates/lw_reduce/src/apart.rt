@@ -1,7 +1,7 @@
 // Whether the facts have parts of their own, so that no fact makes two forms equivalent.
 ghost use Rattle.std.specs.Prelude.{◌≡◌, length, map, All, IfOk, IsTrue};
 ghost use Rattle.std.specs.List.Sorted.{IsStrictlyIncreasing};
-ghost use Rattle.lw_reduce.specs.Names.{IsFactIn};
+ghost use Rattle.lw_reduce.specs.Representatives.{IsFactIn};
 ghost use Rattle.lw_reduce.specs.Settling.{HaveOwnParts, fact_key, parts_key, renamed_fact};
 
 use crate::facts::Fact;
@@ -9,22 +9,22 @@ use crate::rounds::renamed;
 use std::alloc::{AllocError, Global};
 
 // The names of a fact's parts as one number.
-fn key(names: &[u32], fact: Fact) -> u64
-    requires { IsFactIn (length names.now) fact }
-    ensures { result ≡ parts_key names.now fact }
+fn key(reps: &[u32], fact: Fact) -> u64
+    requires { IsFactIn (length reps.now) fact }
+    ensures { result ≡ parts_key reps.now fact }
 {
-    let row = renamed(names, fact);
+    let row = renamed(reps, fact);
     row.left as u64 * 0x1_0000_0000 + row.right as u64
 }
 
 // Those of all facts.
-fn keys_of(alloc: Global, names: &[u32], nands: &[Fact]) -> Result<Vec<u64>, AllocError>
-    requires { All (IsFactIn (length names.now)) nands.now }
-    ensures { IfOk result (λ keys. keys.items ≡ map (parts_key names.now) nands.now) }
+fn keys_of(alloc: Global, reps: &[u32], nands: &[Fact]) -> Result<Vec<u64>, AllocError>
+    requires { All (IsFactIn (length reps.now)) nands.now }
+    ensures { IfOk result (λ keys. keys.items ≡ map (parts_key reps.now) nands.now) }
 {
     let mut keys = Vec::with_capacity(alloc, nands.len())?;
     for fact in nands {
-        keys.push(key(names, *fact))?;
+        keys.push(key(reps, *fact))?;
     }
     Ok(keys)
 }
@@ -45,13 +45,13 @@ fn rise(keys: &[u64]) -> bool
 // to sort facts.
 pub(crate) fn have_own_parts(
     alloc: Global,
-    names: &[u32],
+    reps: &[u32],
     nands: &[Fact],
 ) -> Result<bool, AllocError>
-    requires { All (IsFactIn (length names.now)) nands.now }
-    ensures { IfOk result (λ own. IsTrue own → HaveOwnParts names.now nands.now) }
+    requires { All (IsFactIn (length reps.now)) nands.now }
+    ensures { IfOk result (λ own. IsTrue own → HaveOwnParts reps.now nands.now) }
 {
-    let mut keys = keys_of(alloc, names, nands)?;
+    let mut keys = keys_of(alloc, reps, nands)?;
     keys.sort_unstable();
     Ok(rise(&keys))
 }

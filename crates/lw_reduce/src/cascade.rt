@@ -1,12 +1,12 @@
 // Passes over the facts that were renamed, with a table of those that were seen by the names of
 // their parts.
 ghost use Rattle.std.specs.Prelude.{◌≡◌, ◌+◌, ◌/◌, ◌^◌, ◌<◌, ◌≤◌, ℕ, length, vec_len, slice_index_or, All, Contains, IfOk, IfSome, IsTrue};
-ghost use Rattle.lw_reduce.specs.Names.{CanName, HasParts, IsFactIn, Keeps, family};
+ghost use Rattle.lw_reduce.specs.Representatives.{AreRepresentatives, HasParts, IsFactIn, Keeps, family};
 ghost use Rattle.lw_reduce.specs.Seeing.{IsSeen};
 ghost use Rattle.lw_reduce.specs.Settling.{IsRenamed, no_fact};
 
 use crate::facts::{Fact, Link};
-use crate::names::{find, name, unify};
+use crate::representatives::{find, rep_of, unify};
 use std::alloc::{AllocError, Global};
 
 // The names of two parts, the lower one first.
@@ -27,14 +27,14 @@ enum Seen {
 }
 
 // The names of a fact's parts.
-fn parts_of(names: &mut [u32], nands: &[Fact], links: &[Link], fact: Fact) -> Parts
-    requires can { CanName (length names.old) nands.now links.now names.old }
-    requires within { IsFactIn (length names.old) fact }
-    ensures kept { Keeps (length names.old) nands.now links.now names.old names.new }
-    ensures parts { HasParts (length names.old) nands.now links.now fact result.low result.high }
+fn parts_of(reps: &mut [u32], nands: &[Fact], links: &[Link], fact: Fact) -> Parts
+    requires valid { AreRepresentatives (length reps.old) nands.now links.now reps.old }
+    requires within { IsFactIn (length reps.old) fact }
+    ensures kept { Keeps (length reps.old) nands.now links.now reps.old reps.new }
+    ensures parts { HasParts (length reps.old) nands.now links.now fact result.low result.high }
 {
-    let left = find(names, nands, links, fact.left);
-    let right = find(names, nands, links, fact.right);
+    let left = find(reps, nands, links, fact.left);
+    let right = find(reps, nands, links, fact.right);
     if left <= right {
         Parts {
             low: left,
@@ -49,14 +49,14 @@ fn parts_of(names: &mut [u32], nands: &[Fact], links: &[Link], fact: Fact) -> Pa
 }
 
 // Whether a fact's parts have these names.
-fn has_parts(names: &mut [u32], nands: &[Fact], links: &[Link], fact: Fact, parts: Parts) -> bool
-    requires can { CanName (length names.old) nands.now links.now names.old }
-    requires within { IsFactIn (length names.old) fact }
-    ensures kept { Keeps (length names.old) nands.now links.now names.old names.new }
+fn has_parts(reps: &mut [u32], nands: &[Fact], links: &[Link], fact: Fact, parts: Parts) -> bool
+    requires valid { AreRepresentatives (length reps.old) nands.now links.now reps.old }
+    requires within { IsFactIn (length reps.old) fact }
+    ensures kept { Keeps (length reps.old) nands.now links.now reps.old reps.new }
     ensures parts { IsTrue result →
-        HasParts (length names.old) nands.now links.now fact parts.low parts.high }
+        HasParts (length reps.old) nands.now links.now fact parts.low parts.high }
 {
-    let own = parts_of(names, nands, links, fact);
+    let own = parts_of(reps, nands, links, fact);
     own.low == parts.low && own.high == parts.high
 }
 
@@ -81,12 +81,12 @@ fn next_slot(slot: usize, slots: usize) -> usize
 }
 
 // Looks for a fact with these parts.
-fn seek(names: &mut [u32], nands: &[Fact], links: &[Link], slots: &[u32], parts: Parts) -> Seen
-    requires can { CanName (length names.old) nands.now links.now names.old }
+fn seek(reps: &mut [u32], nands: &[Fact], links: &[Link], slots: &[u32], parts: Parts) -> Seen
+    requires valid { AreRepresentatives (length reps.old) nands.now links.now reps.old }
     requires some { 0 < length slots.now }
     requires places { All (λ e. e ≤ length nands.now) slots.now }
-    ensures kept { Keeps (length names.old) nands.now links.now names.old names.new }
-    ensures seen { IsSeen (length names.old) nands.now links.now
+    ensures kept { Keeps (length reps.old) nands.now links.now reps.old reps.new }
+    ensures seen { IsSeen (length reps.old) nands.now links.now
         (length slots.now) parts.low parts.high result }
 {
     let mut slot = slot_of(parts, slots.len());
@@ -96,7 +96,7 @@ fn seek(names: &mut [u32], nands: &[Fact], links: &[Link], slots: &[u32], parts:
             return Seen::Free(slot);
         }
         let fact = nands[entry as usize - 1];
-        if has_parts(names, nands, links, fact, parts) {
+        if has_parts(reps, nands, links, fact, parts) {
             return Seen::Form(fact.form);
         }
         slot = next_slot(slot, slots.len());
@@ -105,10 +105,10 @@ fn seek(names: &mut [u32], nands: &[Fact], links: &[Link], slots: &[u32], parts:
 }
 
 // Whether a fact's parts are their own names.
-fn is_named(names: &[u32], fact: Fact) -> bool
-    requires { IsFactIn (length names.now) fact }
+fn has_root_operands(reps: &[u32], fact: Fact) -> bool
+    requires { IsFactIn (length reps.now) fact }
 {
-    name(names, fact.left) == fact.left && name(names, fact.right) == fact.right
+    rep_of(reps, fact.left) == fact.left && rep_of(reps, fact.right) == fact.right
 }
 
 // The fact in terms of names with these parts, among some that stand in the order of their parts.
@@ -133,28 +133,28 @@ fn row_with(rows: &[Fact], parts: Parts) -> Option<usize>
 // Gives a form the name of one with the same parts, among those that the table has, or puts the
 // fact of the form there.
 fn enter(
-    names: &mut [u32],
+    reps: &mut [u32],
     nands: &[Fact],
     links: &[Link],
     slots: &mut [u32],
     place: usize,
     parts: Parts,
 )
-    requires can { CanName (length names.old) nands.now links.now names.old }
+    requires valid { AreRepresentatives (length reps.old) nands.now links.now reps.old }
     requires some { 0 < length slots.old }
     requires places { All (λ e. e ≤ length nands.now) slots.old }
     requires within { place < length nands.now }
     requires few { length nands.now < 2 ^ 32 }
-    requires parts { HasParts (length names.old) nands.now links.now
+    requires parts { HasParts (length reps.old) nands.now links.now
         (slice_index_or nands.now place no_fact) parts.low parts.high }
-    ensures kept { Keeps (length names.old) nands.now links.now names.old names.new }
+    ensures kept { Keeps (length reps.old) nands.now links.now reps.old reps.new }
     ensures places { All (λ e. e ≤ length nands.now) slots.new }
     ensures len { length slots.new ≡ length slots.old }
 {
     let fact = nands[place];
-    match seek(names, nands, links, slots, parts) {
+    match seek(reps, nands, links, slots, parts) {
         Seen::Form(form) => {
-            let _changed = unify(names, nands, links, fact.form, form);
+            let _changed = unify(reps, nands, links, fact.form, form);
         }
         Seen::Free(slot) => slots[slot] = place as u32 + 1,
         Seen::Full => {}
@@ -163,49 +163,49 @@ fn enter(
 
 // Gives the form of a fact, whose parts have other names now, the name of one with these parts.
 fn visit(
-    names: &mut [u32],
+    reps: &mut [u32],
     nands: &[Fact],
     links: &[Link],
     rows: &[Fact],
     slots: &mut [u32],
     place: usize,
 )
-    requires can { CanName (length names.old) nands.now links.now names.old }
-    requires rows { All (IsRenamed (length names.old) nands.now links.now) rows.now }
+    requires valid { AreRepresentatives (length reps.old) nands.now links.now reps.old }
+    requires rows { All (IsRenamed (length reps.old) nands.now links.now) rows.now }
     requires some { 0 < length slots.old }
     requires places { All (λ e. e ≤ length nands.now) slots.old }
     requires within { place < length nands.now }
     requires few { length nands.now < 2 ^ 32 }
-    ensures kept { Keeps (length names.old) nands.now links.now names.old names.new }
+    ensures kept { Keeps (length reps.old) nands.now links.now reps.old reps.new }
     ensures places { All (λ e. e ≤ length nands.now) slots.new }
 {
     let fact = nands[place];
-    if is_named(names, fact) {
+    if has_root_operands(reps, fact) {
         return;
     }
-    let parts = parts_of(names, nands, links, fact);
+    let parts = parts_of(reps, nands, links, fact);
     if let Some(row) = row_with(rows, parts) {
-        let _changed = unify(names, nands, links, fact.form, rows[row].form);
+        let _changed = unify(reps, nands, links, fact.form, rows[row].form);
         return;
     }
-    enter(names, nands, links, slots, place, parts);
+    enter(reps, nands, links, slots, place, parts);
 }
 
 // Visits all facts in their order, and then in the other order.
-fn visit_all(names: &mut [u32], nands: &[Fact], links: &[Link], rows: &[Fact], slots: &mut [u32])
-    requires can { CanName (length names.old) nands.now links.now names.old }
-    requires rows { All (IsRenamed (length names.old) nands.now links.now) rows.now }
+fn visit_all(reps: &mut [u32], nands: &[Fact], links: &[Link], rows: &[Fact], slots: &mut [u32])
+    requires valid { AreRepresentatives (length reps.old) nands.now links.now reps.old }
+    requires rows { All (IsRenamed (length reps.old) nands.now links.now) rows.now }
     requires some { 0 < length slots.old }
     requires places { All (λ e. e ≤ length nands.now) slots.old }
     requires few { length nands.now < 2 ^ 32 }
-    ensures { Keeps (length names.old) nands.now links.now names.old names.new }
+    ensures { Keeps (length reps.old) nands.now links.now reps.old reps.new }
 {
     let count = nands.len();
     for step in 0..count {
-        visit(names, nands, links, rows, slots, step);
+        visit(reps, nands, links, rows, slots, step);
     }
     for step in 0..count {
-        visit(names, nands, links, rows, slots, count - 1 - step);
+        visit(reps, nands, links, rows, slots, count - 1 - step);
     }
 }
 
@@ -236,19 +236,19 @@ fn empty_slots(alloc: Global, facts: usize) -> Result<Vec<u32>, AllocError>
 // enough, however many forms become equivalent one after the other; and then in the other order.
 pub(crate) fn cascade(
     alloc: Global,
-    names: &mut [u32],
+    reps: &mut [u32],
     nands: &[Fact],
     links: &[Link],
     rows: &[Fact],
 ) -> Result<(), AllocError>
-    requires can { CanName (length names.old) nands.now links.now names.old }
-    requires rows { All (IsRenamed (length names.old) nands.now links.now) rows.now }
-    ensures { Keeps (length names.old) nands.now links.now names.old names.new }
+    requires valid { AreRepresentatives (length reps.old) nands.now links.now reps.old }
+    requires rows { All (IsRenamed (length reps.old) nands.now links.now) rows.now }
+    ensures { Keeps (length reps.old) nands.now links.now reps.old reps.new }
 {
     if nands.len() > 0xFFFF_FFFF {
         return Ok(());
     }
     let mut slots = empty_slots(alloc, nands.len())?;
-    visit_all(names, nands, links, rows, &mut slots);
+    visit_all(reps, nands, links, rows, &mut slots);
     Ok(())
 }

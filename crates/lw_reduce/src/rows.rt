@@ -1,6 +1,6 @@
 // Facts in terms of classes.
 ghost use Rattle.std.specs.Prelude.{◌≡◌, length, map, vec_len, All};
-ghost use Rattle.lw_reduce.specs.Names.{IsFactIn};
+ghost use Rattle.lw_reduce.specs.Representatives.{IsFactIn};
 ghost use Rattle.lw_reduce.specs.Settling.{renamed_fact};
 
 use crate::facts::Fact;

@@ -1,5 +1,5 @@
 use Rattle.std.proofs.Common.{◌≡◌, ◌∙◌, length, get_or, slice_set, sym, ap, subst}
-use Rattle.lw_reduce.specs.Names.{IsFactIn}
+use Rattle.lw_reduce.specs.Representatives.{IsFactIn}
 use Rattle.lw_reduce.specs.Settling.{renamed_fact}
 use Rattle.lw_reduce.specs.declared.facts.Fact.{Fact}
 use Rattle.lw_reduce.proofs.InPlace.{in_place_more, in_place_at, in_place_all, in_place_none}
