@@ -1,4 +1,4 @@
--- The code's graph of settled names.
+-- The code's graph of settled representatives.
 use Rattle.std.proofs.Common.{ℕ, ◌+◌, ◌-◌, ◌*◌, ◌<◌, ◌≡◌, ◌^◌, Bool, false, List, [], ◌∷◌, length, map, filter, drop, get_or, slice_index, replicate, All, Contains, ◌↔◌, refl, ap, sym, ◌∙◌, subst, subst₂, arith, length-drop}
 use Rattle.std.specs.List.{slice_get, slice_range}
 use Rattle.std.specs.Prelude.{Some, slice_index_or}
@@ -14,12 +14,12 @@ use Rattle.lw_graph.specs.declared.pair.Pair.{Pair}
 use Rattle.lw_graph.specs.Graphs.{IsBelow, IsGraph, numbers, plain_graph, plain_pair, plain_row}
 use Rattle.lw_reduce.specs.declared.facts.Fact.{Fact}
 use Rattle.lw_reduce.specs.declared.facts.Link.{Link}
-use Rattle.lw_reduce.specs.Classing.{AreClasses, as_class}
+use Rattle.lw_reduce.specs.ClassNumbers.{AreClasses, as_class}
 use Rattle.lw_reduce.specs.Drafting.{plain_draft}
 use Rattle.lw_reduce.specs.Rows.{IsOrdered, IsRowOf}
-use Rattle.lw_reduce.specs.Settling.{AreSettled, renamed_fact}
-use Rattle.lw_reduce.specs.Spreading.{of_class, pair_of}
-use Rattle.lw_reduce.proofs.Classing.{rep_of-double}
+use Rattle.lw_reduce.specs.Settling.{AreSettled, canonical_fact}
+use Rattle.lw_reduce.specs.Buckets.{of_class, pair_of}
+use Rattle.lw_reduce.proofs.ClassNumbers.{rep_of-double}
 use Rattle.lw_reduce.proofs.Members.{filter_back, map_back}
 use Rattle.lw_reduce.proofs.Reduced.{entry_form, entry_ordered, pairs_of, pairs_once, reduced, rows_below}
 
@@ -32,12 +32,12 @@ plain_pairs [] = refl
 plain_pairs (r ∷ rows) = ap (λ ps. record { x = r.left; y = r.right } ∷ ps) (plain_pairs rows)
 
 module _ (n : ℕ) (nands : List Fact) (links : List Link) (reps : List ℕ) (is : AreSettled n nands links reps) (few : n < 2 ^ 31) (forms : List ℕ) (are : AreClasses reps forms) (count : length forms ≡ n) where
-  pub entries_below : (m : ℕ) → m ≡ 2 * pair_count 0 forms → All (λ (r : Fact). r.form < m) (map (renamed_fact forms) nands)
+  pub entries_below : (m : ℕ) → m ≡ 2 * pair_count 0 forms → All (λ (r : Fact). r.form < m) (map (canonical_fact forms) nands)
   entries_below m e k d lt =
-      let b = entry_form n nands links reps is few forms are count (get_or (map (renamed_fact forms) nands) k d) (Contains-get_or (map (renamed_fact forms) nands) k d lt) in
+      let b = entry_form n nands links reps is few forms are count (get_or (map (canonical_fact forms) nands) k d) (Contains-get_or (map (canonical_fact forms) nands) k d lt) in
       omega arith
 
-  module _ (inputs : ℕ) (inputs_in : inputs < n) (one : ClassId) (leaves classes : List ClassId) (lists : List (List Pair)) (pairs : ℕ) (one_is : one.0 ≡ slice_index forms 0) (leaves_are : leaves ≡ map as_class (slice_range forms 1 (inputs + 1))) (classes_are : classes ≡ map as_class forms) (pairs_is : pairs ≡ pair_count 0 forms) (lists_count : length lists ≡ pairs * 2) (lists_are : (c : ℕ) → IsRowOf (map pair_of (filter (of_class c) (map (renamed_fact forms) nands))) (slice_index_or lists c [])) where
+  module _ (inputs : ℕ) (inputs_in : inputs < n) (one : ClassId) (leaves classes : List ClassId) (lists : List (List Pair)) (pairs : ℕ) (one_is : one.0 ≡ slice_index forms 0) (leaves_are : leaves ≡ map as_class (slice_range forms 1 (inputs + 1))) (classes_are : classes ≡ map as_class forms) (pairs_is : pairs ≡ pair_count 0 forms) (lists_count : length lists ≡ pairs * 2) (lists_are : (c : ℕ) → IsRowOf (map pair_of (filter (of_class c) (map (canonical_fact forms) nands))) (slice_index_or lists c [])) where
     abbrev graph : PlainGraph
     graph = record { one = one.0; leaves = numbers leaves; forms = forms; pairs = map plain_row lists }
 
@@ -50,7 +50,7 @@ module _ (n : ℕ) (nands : List Fact) (links : List Link) (reps : List ℕ) (is
     at c = plain_lists.get_or-map plain_row lists c []
 
     abbrev own : ℕ → List Fact
-    own c = filter (of_class c) (map (renamed_fact forms) nands)
+    own c = filter (of_class c) (map (canonical_fact forms) nands)
 
     members : (c : ℕ) (p : PlainPair) → Contains (slice_index_or (map plain_row lists) c []) p ↔ Contains (pairs_of (own c)) p
     members c p = (to, from)
@@ -67,7 +67,7 @@ module _ (n : ℕ) (nands : List Fact) (links : List Link) (reps : List ℕ) (is
 
     rises : (c : ℕ) → AreRising (slice_index_or (map plain_row lists) c [])
     rises c =
-        subst AreRising (sym (at c)) ((lists_are c).rising (All-map IsOrdered pair_of (own c) (λ k d lt. entry_ordered n nands links reps is few forms are count (get_or (own c) k d) (filter_back (of_class c) (map (renamed_fact forms) nands) (get_or (own c) k d) (Contains-get_or (own c) k d lt)).0)))
+        subst AreRising (sym (at c)) ((lists_are c).rising (All-map IsOrdered pair_of (own c) (λ k d lt. entry_ordered n nands links reps is few forms are count (get_or (own c) k d) (filter_back (of_class c) (map (canonical_fact forms) nands) (get_or (own c) k d) (Contains-get_or (own c) k d lt)).0)))
 
     row_count : length (map plain_row lists) ≡ 2 * pair_count 0 forms
     row_count = length-map lists plain_row ∙ (lists_count ∙ (omega arith))

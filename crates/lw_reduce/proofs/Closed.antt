@@ -1,4 +1,5 @@
--- Settled names are closed under links and facts, so two forms have one name exactly where they are equivalent.
+-- Settled representatives are closed under links and facts, so two forms have one representative exactly where they are
+-- equivalent.
 use Rattle.std.proofs.Common.{ℕ, ◌/◌, ◌<◌, ◌≡◌, ◌↔◌, inl, inr, min, max, List, Contains, ap, ap₂, sym, ◌∙◌, arith}
 use Rattle.std.proofs.lemmas.List.Elements.{All-contains}
 use Rattle.lw_laws.specs.Families.{IsNand, Equivalent}
@@ -13,8 +14,8 @@ use Rattle.lw_reduce.proofs.RepSteps.{rep_of-flip}
 pub min_max_same : (a b c d : ℕ) → a ≡ c → b ≡ d → (min a b ≡ min c d) × (max a b ≡ max c d)
 min_max_same a b c d e f = (ap₂ min e f, ap₂ max e f)
 
-pub min_max_turned : (a b c d : ℕ) → a ≡ d → b ≡ c → (min a b ≡ min c d) × (max a b ≡ max c d)
-min_max_turned a b c d e f = (omega arith, omega arith)
+pub min_max_exchanged : (a b c d : ℕ) → a ≡ d → b ≡ c → (min a b ≡ min c d) × (max a b ≡ max c d)
+min_max_exchanged a b c d e f = (omega arith, omega arith)
 
 module _ (n : ℕ) (nands : List Fact) (links : List Link) (reps : List ℕ) (is : AreSettled n nands links reps) where
   pub agree : (p q : Fact) → Contains nands p → Contains nands q → (min (rep_of reps p.left) (rep_of reps p.right) ≡ min (rep_of reps q.left) (rep_of reps q.right)) × (max (rep_of reps p.left) (rep_of reps p.right) ≡ max (rep_of reps q.left) (rep_of reps q.right)) → rep_of reps p.form ≡ rep_of reps q.form
@@ -24,9 +25,9 @@ module _ (n : ℕ) (nands : List Fact) (links : List Link) (reps : List ℕ) (is
   closed_nands f h x y u v (inl a) (inl b) d e =
       agree (record { form = f; left = x; right = y }) (record { form = h; left = u; right = v }) a b (min_max_same (rep_of reps x) (rep_of reps y) (rep_of reps u) (rep_of reps v) d e)
   closed_nands f h x y u v (inl a) (inr b) d e =
-      agree (record { form = f; left = x; right = y }) (record { form = h; left = v; right = u }) a b (min_max_turned (rep_of reps x) (rep_of reps y) (rep_of reps v) (rep_of reps u) d e)
+      agree (record { form = f; left = x; right = y }) (record { form = h; left = v; right = u }) a b (min_max_exchanged (rep_of reps x) (rep_of reps y) (rep_of reps v) (rep_of reps u) d e)
   closed_nands f h x y u v (inr a) (inl b) d e =
-      agree (record { form = f; left = y; right = x }) (record { form = h; left = u; right = v }) a b (min_max_turned (rep_of reps y) (rep_of reps x) (rep_of reps u) (rep_of reps v) e d)
+      agree (record { form = f; left = y; right = x }) (record { form = h; left = u; right = v }) a b (min_max_exchanged (rep_of reps y) (rep_of reps x) (rep_of reps u) (rep_of reps v) e d)
   closed_nands f h x y u v (inr a) (inr b) d e =
       agree (record { form = f; left = y; right = x }) (record { form = h; left = v; right = u }) a b (min_max_same (rep_of reps y) (rep_of reps x) (rep_of reps v) (rep_of reps u) e d)
 

@@ -1,4 +1,4 @@
--- Names that take a lower equivalent name stay sound, and weigh no more.
+-- A form that takes a lower equivalent representative: representatives stay sound, and weigh less.
 use Rattle.std.proofs.Common.{ℕ, suc, zero, ◌+◌, ◌*◌, ◌/◌, ◌%◌, ◌<◌, ◌≤◌, ◌≡◌, ◌≢◌, ◌==◌, ◌⊎◌, inl, inr, Bool, true, false, List, length, slice_index, slice_set, refl, ap, sym, ◌∙◌, subst, subst₂, arith, true≢false, get_or-set_same, get_or-set_other, length-set, if◌then◌else◌}
 use native.Mathlib.Decide.{ℕ_discrete, dec_lt}
 use Rattle.std.proofs.lemmas.List.Sums.{sum_by-set}
@@ -8,7 +8,7 @@ use Rattle.lw_laws.specs.Families.Equivalent.{same, turned as turned_by, joined,
 use Rattle.lw_laws.proofs.Flips.{flip-flip, half-flip, odd-flip, flip_even}
 use Rattle.lw_reduce.specs.declared.facts.Fact.{Fact}
 use Rattle.lw_reduce.specs.declared.facts.Link.{Link}
-use Rattle.lw_reduce.specs.Representatives.{family, turned, rep_of, AreSound, IsFlat, rep_weight, AreRepresentatives, Progresses, IsClimbing, IsFound}
+use Rattle.lw_reduce.specs.Representatives.{family, in_phase, rep_of, AreSound, IsFlat, rep_weight, AreRepresentatives, Progresses, IsOnPath, IsFound}
 
 by_digit : (r s c : ℕ) → r < 2 → s < 2 → r ≡ s → (if r == 0 then (if s == 0 then c else flip c) else flip (if s == 0 then c else flip c)) ≡ c
 by_digit zero zero c a b e = refl
@@ -26,15 +26,15 @@ by_other_digit zero (suc (suc s)) c a b e = absurd (omega arith)
 by_other_digit (suc zero) (suc s) c a b e = absurd (omega arith)
 by_other_digit (suc (suc r)) s c a b e = absurd (omega arith)
 
--- turned twice, for forms with the same last bit, and for others
-pub turned_same : (k f c : ℕ) → k % 2 ≡ f % 2 → turned k (turned f c) ≡ c
-turned_same k f c e = by_digit (k % 2) (f % 2) c (omega arith) (omega arith) e
+-- twice in phase, for forms of the same phase, and for others
+pub in_phase_same : (k f c : ℕ) → k % 2 ≡ f % 2 → in_phase k (in_phase f c) ≡ c
+in_phase_same k f c e = by_digit (k % 2) (f % 2) c (omega arith) (omega arith) e
 
-pub turned_other : (k f c : ℕ) → k % 2 ≢ f % 2 → turned k (turned f c) ≡ flip c
-turned_other k f c e = by_other_digit (k % 2) (f % 2) c (omega arith) (omega arith) e
+pub in_phase_other : (k f c : ℕ) → k % 2 ≢ f % 2 → in_phase k (in_phase f c) ≡ flip c
+in_phase_other k f c e = by_other_digit (k % 2) (f % 2) c (omega arith) (omega arith) e
 
-pub half-turned : (f c : ℕ) → turned f c / 2 ≡ c / 2
-half-turned f c = by_bit (f % 2 == 0)
+pub half-in_phase : (f c : ℕ) → in_phase f c / 2 ≡ c / 2
+half-in_phase f c = by_bit (f % 2 == 0)
   where
     by_bit : (b : Bool) → (if b then c else flip c) / 2 ≡ c / 2
     by_bit true = refl
@@ -47,25 +47,25 @@ other_bit k f e ne = let h = half-flip f in let o = odd-flip f in omega arith
 pub by_up : {up at rep : ℕ} → up ≡ rep → up ≡ at → rep ≡ at
 by_up e f = sym e ∙ f
 
-turned_by_digit : (r h : ℕ) → r < 2 → (if r == 0 then 2 * h else flip (2 * h)) ≡ 2 * h + r
-turned_by_digit zero h lt = omega arith
-turned_by_digit (suc zero) h lt = flip_even (2 * h) h refl
-turned_by_digit (suc (suc r)) h lt = absurd (omega arith)
+in_phase_by_digit : (r h : ℕ) → r < 2 → (if r == 0 then 2 * h else flip (2 * h)) ≡ 2 * h + r
+in_phase_by_digit zero h lt = omega arith
+in_phase_by_digit (suc zero) h lt = flip_even (2 * h) h refl
+in_phase_by_digit (suc (suc r)) h lt = absurd (omega arith)
 
-pub turned_half : (k : ℕ) → turned k (2 * (k / 2)) ≡ k
-turned_half k = turned_by_digit (k % 2) (k / 2) (omega arith) ∙ (omega arith)
+pub in_phase_half : (k : ℕ) → in_phase k (2 * (k / 2)) ≡ k
+in_phase_half k = in_phase_by_digit (k % 2) (k / 2) (omega arith) ∙ (omega arith)
 
 module _ (n : ℕ) (nands : List Fact) (links : List Link) where
   abbrev F : Family
   F = family n nands links
 
-  -- the base form of f takes the name that makes f's name c
-  module _ (old new : List ℕ) (f c : ℕ) (valid : AreRepresentatives n nands links old) (in' : f / 2 < n) (in'' : c / 2 < n) (alike : Equivalent F f c) (lower : c / 2 < f / 2) (set : new ≡ slice_set old (f / 2) (turned f c)) where
+  -- the base form of f takes the representative that makes that of f equal to c
+  module _ (old new : List ℕ) (f c : ℕ) (valid : AreRepresentatives n nands links old) (in' : f / 2 < n) (in'' : c / 2 < n) (alike : Equivalent F f c) (lower : c / 2 < f / 2) (set : new ≡ slice_set old (f / 2) (in_phase f c)) where
     in_old : f / 2 < length old
     in_old = let k = valid.count in omega arith
 
-    here : (k : ℕ) → k / 2 ≡ f / 2 → slice_index new (k / 2) ≡ turned f c
-    here k e = ap (slice_index new) e ∙ (ap (λ ns. slice_index ns (f / 2)) set ∙ get_or-set_same old (f / 2) (turned f c) 0 in_old)
+    here : (k : ℕ) → k / 2 ≡ f / 2 → slice_index new (k / 2) ≡ in_phase f c
+    here k e = ap (slice_index new) e ∙ (ap (λ ns. slice_index ns (f / 2)) set ∙ get_or-set_same old (f / 2) (in_phase f c) 0 in_old)
 
     pub elsewhere : (b : ℕ) → b ≢ f / 2 → slice_index new b ≡ slice_index old b
     elsewhere b ne = ap (λ ns. slice_index ns b) set ∙ rw get_or-set_other
@@ -73,11 +73,11 @@ module _ (n : ℕ) (nands : List Fact) (links : List Link) where
     -- the base form of f: f itself, and its complement
     sound_here : (k : ℕ) → k / 2 ≡ f / 2 → Dec (k % 2 ≡ f % 2) → F.Occurs (rep_of new k) × Equivalent F k (rep_of new k)
     sound_here k e (yes b) =
-        let m : rep_of new k ≡ c = ap (turned k) (here k e) ∙ turned_same k f c b in
+        let m : rep_of new k ≡ c = ap (in_phase k) (here k e) ∙ in_phase_same k f c b in
         let s : k ≡ f = omega arith in
         (subst (λ m. m / 2 < n) (sym m) in'', subst₂ (λ x y. Equivalent F x y) (sym s) (sym m) alike)
     sound_here k e (no b) =
-        let m : rep_of new k ≡ flip c = ap (turned k) (here k e) ∙ turned_other k f c b in
+        let m : rep_of new k ≡ flip c = ap (in_phase k) (here k e) ∙ in_phase_other k f c b in
         let s : k ≡ flip f = other_bit k f e b in
         let o' : flip c / 2 < n = subst (λ m. m < n) (sym (half-flip c)) in'' in
         (subst (λ m. m / 2 < n) (sym m) o', subst₂ (λ x y. Equivalent F x y) (sym s) (sym m) (flipped alike))
@@ -88,7 +88,7 @@ module _ (n : ℕ) (nands : List Fact) (links : List Link) where
         by_base : Dec (k / 2 ≡ f / 2) → F.Occurs (rep_of new k) × Equivalent F k (rep_of new k)
         by_base (yes e) = sound_here k e (ℕ_discrete (k % 2) (f % 2))
         by_base (no ne) =
-            let m : rep_of new k ≡ rep_of old k = ap (turned k) (elsewhere (k / 2) ne) in
+            let m : rep_of new k ≡ rep_of old k = ap (in_phase k) (elsewhere (k / 2) ne) in
             let s = valid.sound k o in
             (subst (λ m. m / 2 < n) (sym m) s.0, subst (λ m. Equivalent F k m) (sym m) s.1)
 
@@ -97,41 +97,41 @@ module _ (n : ℕ) (nands : List Fact) (links : List Link) where
       where
         by_base : Dec (b ≡ f / 2) → (slice_index new b ≡ 2 * b) ⊎ (slice_index new b / 2 < b)
         by_base (yes e) =
-            let h : slice_index new b ≡ turned f c = ap (slice_index new) e ∙ here f refl in
-            let t = half-turned f c in
+            let h : slice_index new b ≡ in_phase f c = ap (slice_index new) e ∙ here f refl in
+            let t = half-in_phase f c in
             inr (rw h (omega arith))
         by_base (no ne) = subst (λ m. (m ≡ 2 * b) ⊎ (m / 2 < b)) (sym (elsewhere b ne)) (valid.lower b lt)
 
     pub set_weight : rep_weight new + slice_index old (f / 2) / 2 ≡ rep_weight old + c / 2
     set_weight =
-        let v = half-turned f c in
-        let e = sum_by-set (λ c. c / 2) old (f / 2) (turned f c) 0 in_old in
+        let v = half-in_phase f c in
+        let e = sum_by-set (λ c. c / 2) old (f / 2) (in_phase f c) 0 in_old in
         let s = ap rep_weight set in
         omega arith
 
     pub set_valid : AreRepresentatives n nands links new
     set_valid = record {
-      count = ap length set ∙ (length-set old (f / 2) (turned f c) ∙ valid.count);
+      count = ap length set ∙ (length-set old (f / 2) (in_phase f c) ∙ valid.count);
       sound = sound';
       lower = lower';
       nands_in = valid.nands_in;
       links_in = valid.links_in;
-      apart = valid.apart;
+      consistent = valid.consistent;
     }
 
-  -- a form that has another name than itself has a lower one
+  -- a form that is no root has a lower representative
   pub rep_lower : (reps : List ℕ) (k : ℕ) → AreRepresentatives n nands links reps → k / 2 < n → rep_of reps k ≢ k → rep_of reps k / 2 < k / 2
   rep_lower reps k valid lt ne = by_case (valid.lower (k / 2) lt)
     where
       by_case : (slice_index reps (k / 2) ≡ 2 * (k / 2)) ⊎ (slice_index reps (k / 2) / 2 < k / 2) → rep_of reps k / 2 < k / 2
-      by_case (inl e) = absurd (ne (ap (turned k) e ∙ turned_half k))
-      by_case (inr l) = let h = half-turned k (slice_index reps (k / 2)) in omega arith
+      by_case (inl e) = absurd (ne (ap (in_phase k) e ∙ in_phase_half k))
+      by_case (inr l) = let h = half-in_phase k (slice_index reps (k / 2)) in omega arith
 
   half-rep_of : (reps : List ℕ) (k : ℕ) → rep_of reps k / 2 ≡ slice_index reps (k / 2) / 2
-  half-rep_of reps k = half-turned k (slice_index reps (k / 2))
+  half-rep_of reps k = half-in_phase k (slice_index reps (k / 2))
 
-  pub climb_start : (old : List ℕ) (form : ℕ) → AreRepresentatives n nands links old → form / 2 < n → IsClimbing n nands links old old form form
-  climb_start old form valid lt = record {
+  pub path_start : (old : List ℕ) (form : ℕ) → AreRepresentatives n nands links old → form / 2 < n → IsOnPath n nands links old old form form
+  path_start old form valid lt = record {
     valid = valid;
     low = omega arith;
     within = lt;
@@ -140,9 +140,9 @@ module _ (n : ℕ) (nands : List Fact) (links : List Link) where
     flat = λ f. (refl, inl refl);
   }
 
-  module _ (old reps : List ℕ) (form at : ℕ) (is : IsClimbing n nands links old reps form at) where
-    pub climb_here : rep_of reps at ≡ at → IsFound n nands links old reps form at
-    climb_here e = record {
+  module _ (old reps : List ℕ) (form at : ℕ) (is : IsOnPath n nands links old reps form at) where
+    pub path_here : rep_of reps at ≡ at → IsFound n nands links old reps form at
+    path_here e = record {
       valid = is.valid;
       low = is.low;
       within = is.within;
@@ -159,7 +159,7 @@ module _ (n : ℕ) (nands : List Fact) (links : List Link) where
         flat' : IsFlat old → (reps ≡ old) × (at ≡ rep_of old form)
         flat' f = let (s, a) = is.flat f in (s, by_case s a)
 
-    -- in a flat list, a name is reached in one step
+    -- in a flat list, the root is reached in one step
     flat_up : (form' : ℕ) → IsFlat old → form' / 2 < length old → (at ≡ form') ⊎ (at ≡ rep_of old form') → rep_of old at ≡ rep_of old form'
     flat_up form' f lt (inl a) = ap (rep_of old) a
     flat_up form' f lt (inr a) = ap (rep_of old) a ∙ f form' lt
@@ -171,8 +171,8 @@ module _ (n : ℕ) (nands : List Fact) (links : List Link) where
       up_alike : Equivalent F form up
       up_alike = rw up_is (joined is.alike (is.valid.sound at is.within).1)
 
-      pub climb_above : rep_of reps up ≡ up → IsFound n nands links old reps form up
-      climb_above e = record {
+      pub path_above : rep_of reps up ≡ up → IsFound n nands links old reps form up
+      path_above e = record {
         valid = is.valid;
         low = is.low;
         within = up_within;
@@ -182,15 +182,15 @@ module _ (n : ℕ) (nands : List Fact) (links : List Link) where
         flat = λ f. let (s, a) = is.flat f in (s, up_is ∙ (ap (λ ns. rep_of ns at) s ∙ flat_up form f form_in a));
       }
 
-      module _ (new : List ℕ) (top : ℕ) (top_is : top ≡ rep_of reps up) (ne : up ≢ at) (ne' : top ≢ up) (set : new ≡ slice_set reps (at / 2) (turned at top)) where
+      module _ (new : List ℕ) (top : ℕ) (top_is : top ≡ rep_of reps up) (ne : up ≢ at) (ne' : top ≢ up) (set : new ≡ slice_set reps (at / 2) (in_phase at top)) where
         up_lower : up / 2 < at / 2
         up_lower = rw up_is (rep_lower reps at is.valid is.within (subst (λ u. u ≢ at) up_is ne))
 
         top_lower : top / 2 < up / 2
         top_lower = rw top_is (rep_lower reps up is.valid up_within (subst (λ u. u ≢ up) top_is ne'))
 
-        pub climb_falls : top < at
-        climb_falls = let a = up_lower in let b = top_lower in omega arith
+        pub path_falls : top < at
+        path_falls = let a = up_lower in let b = top_lower in omega arith
 
         top_within : top / 2 < n
         top_within = let a = up_within in let b = top_lower in omega arith
@@ -198,7 +198,7 @@ module _ (n : ℕ) (nands : List Fact) (links : List Link) where
         top_alike : Equivalent F at top
         top_alike = rw (top_is, up_is) (joined (is.valid.sound at is.within).1 (is.valid.sound (rep_of reps at) (is.valid.sound at is.within).0).1)
 
-        -- the name that is set is lower than its form
+        -- the representative that is set is lower than its form
         lower_at : top / 2 < at / 2
         lower_at = let a = up_lower in let b = top_lower in omega arith
 
@@ -218,10 +218,10 @@ module _ (n : ℕ) (nands : List Fact) (links : List Link) where
                 let u : up / 2 ≡ rep_of reps at / 2 = ap (λ m. m / 2) up_is in
                 absurd (omega arith)
             by_base (no ne) =
-                ap (turned r) (elsewhere reps new at top is.valid is.within top_within top_alike lower_at set (r / 2) ne) ∙ kept
+                ap (in_phase r) (elsewhere reps new at top is.valid is.within top_within top_alike lower_at set (r / 2) ne) ∙ kept
 
-        pub climb_step : IsClimbing n nands links old new form top
-        climb_step = record {
+        pub path_step : IsOnPath n nands links old new form top
+        path_step = record {
           valid = set_valid reps new at top is.valid is.within top_within top_alike lower_at set;
           low =
               let w = set_weight reps new at top is.valid is.within top_within top_alike lower_at set in
@@ -239,7 +239,7 @@ module _ (n : ℕ) (nands : List Fact) (links : List Link) where
         }
 
   -- the higher of two roots takes the lower one
-  module _ (old late new : List ℕ) (lo hi : ℕ) (valid : AreRepresentatives n nands links late) (low : rep_weight late ≤ rep_weight old) (in' : lo / 2 < n) (in'' : hi / 2 < n) (root : rep_of late hi ≡ hi) (alike : Equivalent F hi lo) (lt : lo < hi) (set : new ≡ slice_set late (hi / 2) (turned hi lo)) where
+  module _ (old late new : List ℕ) (lo hi : ℕ) (valid : AreRepresentatives n nands links late) (low : rep_weight late ≤ rep_weight old) (in' : lo / 2 < n) (in'' : hi / 2 < n) (root : rep_of late hi ≡ hi) (alike : Equivalent F hi lo) (lt : lo < hi) (set : new ≡ slice_set late (hi / 2) (in_phase hi lo)) where
     bases_apart : lo / 2 < hi / 2
     bases_apart = by_order (dec_lt (lo / 2) (hi / 2))
       where
@@ -247,7 +247,7 @@ module _ (n : ℕ) (nands : List Fact) (links : List Link) where
         by_order (yes l) = l
         by_order (no out) =
             let s : hi ≡ flip lo = other_bit hi lo (omega arith) (omega arith) in
-            absurd (valid.apart lo (subst (λ k. Equivalent F k lo) s alike))
+            absurd (valid.consistent lo (subst (λ k. Equivalent F k lo) s alike))
 
     pub taken : Progresses n nands links old new true
     taken = record {
@@ -284,10 +284,10 @@ module _ (n : ℕ) (nands : List Fact) (links : List Link) where
     weights : rep_weight late ≤ rep_weight old
     weights = let l = fa.low in let m = fb.low in omega arith
 
-    pub unify_right : (new : List ℕ) → Equivalent F left right → a < b → new ≡ slice_set late (b / 2) (turned b a) → Progresses n nands links old new true
+    pub unify_right : (new : List ℕ) → Equivalent F left right → a < b → new ≡ slice_set late (b / 2) (in_phase b a) → Progresses n nands links old new true
     unify_right new alike lt set =
         taken old late new a b fb.valid weights fa.within fb.within fb.root (joined (turned_by fb.alike) (joined (turned_by alike) fa.alike)) lt set
 
-    pub unify_left : (new : List ℕ) → Equivalent F left right → b ≤ a → a ≢ b → new ≡ slice_set late (a / 2) (turned a b) → Progresses n nands links old new true
+    pub unify_left : (new : List ℕ) → Equivalent F left right → b ≤ a → a ≢ b → new ≡ slice_set late (a / 2) (in_phase a b) → Progresses n nands links old new true
     unify_left new alike le ne set =
         taken old late new b a fb.valid weights fb.within fa.within (fb.roots a fa.within fa.root) (joined (turned_by fa.alike) (joined alike fb.alike)) (omega arith) set

@@ -2,21 +2,21 @@
 ghost use Rattle.std.specs.Prelude.{◌≡◌, ◌+◌, ◌-◌, ◌*◌, ◌<◌, ◌≤◌, ◌^◌, ℕ, Bool, List, length, map, slice_index, IfOk};
 ghost use Rattle.lw_laws.specs.Drafts.{IsReduced};
 ghost use Rattle.lw_reduce.specs.Drafting.{plain_draft};
-ghost use Rattle.lw_reduce.specs.Classing.{as_class};
+ghost use Rattle.lw_reduce.specs.ClassNumbers.{as_class};
 ghost use Rattle.lw_reduce.specs.Representatives.{AreRepresentatives};
 ghost use Rattle.lw_reduce.specs.Settling.{AreSettled};
 
 use crate::Draft;
+use crate::buckets::class_pairs;
+use crate::class_facts::class_facts;
 use crate::classes::number;
 use crate::facts::{Fact, Link};
 use crate::rounds::settle;
-use crate::rows::class_rows;
-use crate::spread::class_pairs;
 use lw_graph::Graph;
 use lw_pool::{ClassId, Classes};
 use std::alloc::{AllocError, Global};
 
-// Each base form is its own name.
+// Each base form as its own representative.
 fn own_reps(alloc: Global, samples: &[bool]) -> Result<Vec<u32>, AllocError>
     requires { length samples.now < 2 ^ 31 }
     ensures count { IfOk result (λ v. length v.items ≡ length samples.now) }
@@ -44,7 +44,7 @@ fn class_list(alloc: Global, numbers: &[u32]) -> Result<Classes, AllocError>
     Ok(Classes::from_vec(as_classes(alloc, numbers)?))
 }
 
-// The graph of settled names.
+// The graph of settled representatives.
 fn graph_of(
     alloc: Global,
     inputs: u32,
@@ -60,8 +60,8 @@ fn graph_of(
         IsReduced (plain_draft inputs samples nands.items links.now) graph) }
 {
     let numbered = number(alloc, reps)?;
-    let rows = class_rows(&numbered.forms, nands);
-    let lists = class_pairs(alloc, rows, numbered.pairs as usize * 2)?;
+    let facts = class_facts(&numbered.forms, nands);
+    let lists = class_pairs(alloc, facts, numbered.pairs as usize * 2)?;
     let leaves = class_list(alloc, &numbered.forms[1..inputs as usize + 1])?;
     let forms = class_list(alloc, &numbered.forms)?;
     let one = ClassId(numbered.forms[0]);
@@ -69,7 +69,7 @@ fn graph_of(
     Ok(graph)
 }
 
-// The graph of base forms that each are their own name.
+// The graph of a draft's facts: settles the representatives, then builds the graph.
 fn graph_by(
     alloc: Global,
     inputs: u32,
@@ -95,7 +95,7 @@ fn graph_by(
 /// equivalent forms are, and forms that are NANDs of equivalent forms, in this order or exchanged,
 /// are, and no others but by these. Pairs of classes are numbered by their first base forms,
 /// without gaps; a class holds a pair of classes, the lower one first, where some NAND fact has its
-/// form in this class and its parts in those two. Pairs stand in rising order, each once.
+/// form in this class and its operands in those two. Pairs stand in rising order, each once.
 pub fn reduce(alloc: Global, draft: Draft) -> Result<Graph, AllocError>
     ensures { IfOk result (IsReduced draft) }
 {

@@ -1,7 +1,7 @@
 use Rattle.std.proofs.Common.{◌≡◌, ◌∙◌, ◌+◌, ◌*◌, ◌++◌, ◌∷◌, [], length, ap, refl, slice_index}
 use Rattle.std.proofs.lemmas.List.{length_push}
 use Rattle.lw_reduce.specs.Representatives.{rep_of}
-use Rattle.lw_reduce.proofs.Classing.{number_root, number_low}
+use Rattle.lw_reduce.proofs.ClassNumbers.{number_root, number_low}
 use Rattle.lw_reduce.proofs.classes.number.Goals as goal
 use Rattle.lw_reduce.proofs.classes.number.Goals.{then-up-base+in_ok-push, else-up-base+in_ok-push-2}
 

@@ -1,6 +1,6 @@
 use Rattle.std.proofs.Common.{◌≡◌, length}
 use Rattle.lw_laws.specs.Graphs.{pair_count}
-use Rattle.lw_reduce.specs.Classing.{AreClasses}
+use Rattle.lw_reduce.specs.ClassNumbers.{AreClasses}
 use Rattle.lw_reduce.proofs.classes.number.Given as goal
 
 abbrev pub invariant-loop-base : goal.invariant-loop-base

@@ -1,6 +1,6 @@
 use Rattle.std.proofs.Common.{length, sym, subst, ◌∙◌}
 use Rattle.lw_reduce.specs.Settling.{AreSettled}
-use Rattle.lw_reduce.proofs.Agreeing.{settled_from}
+use Rattle.lw_reduce.proofs.SettledReps.{settled_from}
 use Rattle.lw_reduce.proofs.reduction.graph_by.Goals as goal
 
 pub settle-requires-clause-valid : goal.settle-requires-clause-valid

@@ -1,6 +1,6 @@
 use Rattle.std.proofs.Common.{length, slice_index, refl, sym, subst, ◌+◌, arith}
-use Rattle.lw_reduce.specs.Representatives.{IsFlatBelow, Keeps}
-use Rattle.lw_reduce.proofs.RepSteps.{flat_from_below, flat_here, flatten_keeps, flat_more, keeps_more}
+use Rattle.lw_reduce.specs.Representatives.{IsFlatBelow, StayRepresentatives}
+use Rattle.lw_reduce.proofs.RepSteps.{flat_from_below, flat_here, flatten_stays, flat_more, stay_more}
 use Rattle.lw_reduce.proofs.RepLemmas.{by_up}
 use Rattle.lw_reduce.proofs.representatives.flatten.Goals as goal
 use Rattle.lw_reduce.proofs.representatives.flatten.Goals.{then-top-up, else-top-up}
@@ -20,11 +20,11 @@ loop-base-preserved c =
     let top = c.rep_of-top.result in
     elim c.if-top-up.branch [
       | then-top-up w ↦ record {
-        kept = keeps_more n nands links old l.reps new k (flatten_keeps n nands links l.reps l.base k.valid lt below new up top refl c.rep_of-top.ensures w.if-top-up.true w.reps-is);
+        kept = stay_more n nands links old l.reps new k (flatten_stays n nands links l.reps l.base k.valid lt below new up top refl c.rep_of-top.ensures w.if-top-up.true w.reps-is);
         flat = flat_more n nands links l.reps l.base k.valid lt below new up top refl c.rep_of-top.ensures w.if-top-up.true w.reps-is;
       }
       | else-top-up w ↦ record {
-        kept = subst (λ ns. Keeps n nands links old ns) (sym w.reps-is) k;
+        kept = subst (λ ns. StayRepresentatives n nands links old ns) (sym w.reps-is) k;
         flat = subst (λ ns. IsFlatBelow ns (l.base + 1)) (sym w.reps-is) (flat_here n nands links l.reps l.base k.valid lt below (by_up c.rep_of-top.ensures w.if-top-up.false));
       }
     ]
