@@ -11,9 +11,9 @@ use native.Mathlib.Decide.{dec_lt}
 use Rattle.lw_laws.specs.Expressions.{Expr}
 use Rattle.lw_genlib.specs.Postfix.{first_expr}
 use Rattle.lw_genlib.specs.Cells.{CellParts, IsCell, IsForm, HaveOneTruth, IsListed, form_count, names_of}
-use Rattle.lw_genlib.specs.Joining.{with_form}
+use Rattle.lw_genlib.specs.Merging.{with_form}
 use Rattle.lw_genlib.specs.Kept.{AreCells}
-use Rattle.lw_genlib.specs.Places.{HasRoom}
+use Rattle.lw_genlib.specs.Expects.{HasRoom}
 use Rattle.lw_genlib.proofs.Pins.{distinct-more}
 
 -- One more form.
@@ -81,8 +81,8 @@ listed-with_form cell form h kept = record {
   pins_differ = h.pins_differ;
 }
 
-pub cells-joined : (cells : List CellParts) (entries place : ℕ) (cell : CellParts) (form : Expr) → AreCells cells entries → HasRoom cells → place < length cells → cell ≡ get_or cells place cell → IsCell (with_form cell form) → AreCells (set cells place (with_form cell form)) (entries + 1)
-cells-joined cells entries place cell form h room below is kept = record {
+pub cells-merged : (cells : List CellParts) (entries place : ℕ) (cell : CellParts) (form : Expr) → AreCells cells entries → HasRoom cells → place < length cells → cell ≡ get_or cells place cell → IsCell (with_form cell form) → AreCells (set cells place (with_form cell form)) (entries + 1)
+cells-merged cells entries place cell form h room below is kept = record {
   library = record {
     few = omega (arith, sum, room);
     each = All-set IsListed cells place (with_form cell form) (listed-with_form cell form listed kept) h.library.each;

@@ -6,7 +6,7 @@ use native.Mathlib.Decide.{dec_lt}
 use Rattle.lw_laws.specs.Expressions.{Expr, expr_value, MentionsPin}
 use Rattle.lw_genlib.specs.Cells.{HaveOneTruth}
 use Rattle.lw_genlib.specs.Words.{assigned}
-use Rattle.lw_genlib.specs.Joining.{is_same, have_same_table}
+use Rattle.lw_genlib.specs.Merging.{is_same, have_same_table}
 use Rattle.lw_genlib.proofs.Assignments.{truth_below}
 
 same-true : (a b : Bool) → a ≡ b → is_same a b ≡ true

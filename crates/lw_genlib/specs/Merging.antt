@@ -4,8 +4,8 @@ use Rattle.std.specs.List.{list_any, list_all, position, slice_set, zip, range_w
 use Rattle.std.specs.Str.{bytes_eq}
 use Rattle.lw_fixed.specs.declared.micro.Micro.{Micro}
 use Rattle.lw_laws.specs.Expressions.{Expr, expr_value}
-use Rattle.lw_genlib.specs.declared.sign.Sign.{Sign}
-use Rattle.lw_genlib.specs.declared.sign.Sign.TheVariants.{Name, Mark}
+use Rattle.lw_genlib.specs.declared.token.Token.{Token}
+use Rattle.lw_genlib.specs.declared.token.Token.TheVariants.{Name, Punct}
 use Rattle.lw_genlib.specs.declared.fault.LibKind.TheVariants.{PinMissing, CellDiffers}
 use Rattle.lw_genlib.specs.declared.fault.LibFault.{LibFault}
 use Rattle.lw_genlib.specs.declared.fault.LibFault.TheVariants.{Line}
@@ -17,13 +17,13 @@ use Rattle.lw_genlib.specs.Entries.{Entry, pins_of, no_delay}
 
 -- What an entry says.
 
-abbrev pub name_first : List Sign → List ℕ
+abbrev pub name_first : List Token → List ℕ
 name_first [] = []
-name_first (Name name ∷ signs) = name
-name_first (Mark b ∷ signs) = []
+name_first (Name name ∷ tokens) = name
+name_first (Punct b ∷ tokens) = []
 
 abbrev pub output_of : Entry → List ℕ
-output_of entry = name_first entry.signs
+output_of entry = name_first entry.tokens
 
 -- a delay that a pin's name was given wins over that of all pins
 abbrev pub own_or : Option Micro → Option Micro → Option Micro
@@ -45,7 +45,7 @@ delays_of entry = map (delay_by entry.every) entry.named
 
 -- the entry's expression over these pins
 abbrev pub form_over : List (List ℕ) → Entry → Expr
-form_over pins entry = expression_of pins (inner_of entry.signs)
+form_over pins entry = expression_of pins (inner_of entry.tokens)
 
 abbrev pub cell_of : Entry → CellParts
 cell_of entry = record { name = entry.name; area = entry.area; output = output_of entry; pins = pins_of entry; delays = delays_of entry; forms = form_over (pins_of entry) entry ∷ [] }
@@ -86,9 +86,9 @@ abbrev pub with_form : CellParts → Expr → CellParts
 with_form cell form = record { name = cell.name; area = cell.area; output = cell.output; pins = cell.pins; delays = cell.delays; forms = cell.forms ++ form ∷ [] }
 
 -- the cells with the entry's, where this is the place of its name among them
-abbrev pub joined_at : List CellParts → Entry → Option ℕ → Result (List CellParts) LibFault
-joined_at cells entry None = Ok (cells ++ cell_of entry ∷ [])
-joined_at cells entry (Some place) =
+abbrev pub merged_at : List CellParts → Entry → Option ℕ → Result (List CellParts) LibFault
+merged_at cells entry None = Ok (cells ++ cell_of entry ∷ [])
+merged_at cells entry (Some place) =
     if agrees (slice_index_or cells place (cell_of entry)) entry
     then Ok (slice_set cells place (with_form (slice_index_or cells place (cell_of entry)) (form_over (slice_index_or cells place (cell_of entry)).pins entry)))
     else Err (Line entry.line CellDiffers)
@@ -98,7 +98,7 @@ abbrev pub place_of : List CellParts → Entry → Option ℕ
 place_of cells entry = position (λ (cell : CellParts). bytes_eq entry.name cell.name) cells
 
 -- The cells where one more entry is at its end.
-unfoldable pub joined : List CellParts → Entry → Result (List CellParts) LibFault
-joined cells entry =
+unfoldable pub merged : List CellParts → Entry → Result (List CellParts) LibFault
+merged cells entry =
     if lacks_delay entry then Err (Line entry.line PinMissing)
-    else joined_at cells entry (place_of cells entry)
+    else merged_at cells entry (place_of cells entry)

@@ -3,124 +3,138 @@ ghost use Rattle.std.specs.Prelude.{◌≡◌, ◌<◌, MatchResult, Ok, Some, N
 ghost use Rattle.std.specs.List.{list_any};
 ghost use Rattle.std.specs.Str.{bytes_eq};
 ghost use Rattle.lw_genlib.specs.Cells.{CellParts, IsListed, form_count};
-ghost use Rattle.lw_genlib.specs.Places.{HasRoom};
-ghost use Rattle.lw_genlib.specs.Joining as joining;
+ghost use Rattle.lw_genlib.specs.Expects.{HasRoom};
+ghost use Rattle.lw_genlib.specs.Merging as merging;
 ghost use Rattle.lw_genlib.specs.Libraries as library;
 ghost use Rattle.lw_genlib.specs.Tells.{TellsErr};
 
 use crate::entry::delays;
-use crate::joining::{join, place_of};
-use crate::parts::{Book, Entry};
+use crate::merge_entry::{merge, place_of};
+use crate::state_parts::{CellsSoFar, Entry};
 use crate::{Cell, Exprs, LibFault, LibKind};
 use lw_fixed::Micros;
 use std::alloc::{AllocError, Global};
 
 /// No cells.
-pub(crate) fn no_book(alloc: Global) -> Book
-    ensures { result ≡ library.no_book }
+pub(crate) fn no_cells(alloc: Global) -> CellsSoFar
+    ensures { result ≡ library.no_cells }
 {
-    Book {
+    CellsSoFar {
         cells: Vec::new(alloc),
         entries: 0,
     }
 }
 
-/// The book where the entry, if there is one, is at its end.
-pub(crate) fn ended(alloc: Global, book: Book, entry: Option<Entry>) -> Result<Book, LibFault>
-    requires { IfSome entry (λ e. HasRoom book.cells) }
+/// The cells so far with the entry, if there is one, at its end.
+pub(crate) fn end_entry(
+    alloc: Global,
+    so_far: CellsSoFar,
+    entry: Option<Entry>,
+) -> Result<CellsSoFar, LibFault>
+    requires { IfSome entry (λ e. HasRoom so_far.cells) }
     ensures { MatchResult result
-        (λ new. library.entry_ended (library.with_open book entry) ≡ Ok new)
-        (TellsErr (library.entry_ended (library.with_open book entry))) }
+        (λ new. library.entry_ended (library.with_open so_far entry) ≡ Ok new)
+        (TellsErr (library.entry_ended (library.with_open so_far entry))) }
 {
-    let _ = &book.cells;
+    let _ = &so_far.cells;
     match entry {
-        None => Ok(book),
-        Some(entry) => joined(alloc, book, entry),
+        None => Ok(so_far),
+        Some(entry) => close_entry(alloc, so_far, entry),
     }
 }
 
-fn joined(alloc: Global, book: Book, entry: Entry) -> Result<Book, LibFault>
-    requires { HasRoom book.cells }
+fn close_entry(alloc: Global, so_far: CellsSoFar, entry: Entry) -> Result<CellsSoFar, LibFault>
+    requires { HasRoom so_far.cells }
     ensures cells { MatchResult result
-        (λ new. joining.joined book.cells entry ≡ Ok new.cells)
-        (TellsErr (joining.joined book.cells entry)) }
+        (λ new. merging.merged so_far.cells entry ≡ Ok new.cells)
+        (TellsErr (merging.merged so_far.cells entry)) }
     ensures whole { IfOk result (λ new. new.entry ≡ None) }
 {
     match delays(alloc, &entry.named, entry.every)? {
-        Some(delays) => placed(alloc, book, entry, delays),
+        Some(delays) => add_cell_or_form(alloc, so_far, entry, delays),
         None => Err(LibFault::Line(entry.line, LibKind::PinMissing)),
     }
 }
 
-// The book where the entry, whose pins have these delays, is at its end.
-fn placed(alloc: Global, book: Book, entry: Entry, delays: Micros) -> Result<Book, LibFault>
-    requires room { HasRoom book.cells }
-    requires delays { delays ≡ joining.delays_of entry }
+// The cells so far with the entry, whose pins have these delays: a new cell, or one more form.
+fn add_cell_or_form(
+    alloc: Global,
+    so_far: CellsSoFar,
+    entry: Entry,
+    delays: Micros,
+) -> Result<CellsSoFar, LibFault>
+    requires room { HasRoom so_far.cells }
+    requires delays { delays ≡ merging.delays_of entry }
     ensures cells { MatchResult result
-        (λ new. joining.joined_at book.cells entry (joining.place_of book.cells entry)
+        (λ new. merging.merged_at so_far.cells entry (merging.place_of so_far.cells entry)
         ≡ Ok new.cells)
-        (TellsErr (joining.joined_at book.cells entry (joining.place_of book.cells entry))) }
+        (TellsErr (merging.merged_at so_far.cells entry (merging.place_of so_far.cells entry))) }
     ensures whole { IfOk result (λ new. new.entry ≡ None) }
 {
-    match place_of(&book.cells, entry.name.as_bytes()) {
+    match place_of(&so_far.cells, entry.name.as_bytes()) {
         None => {
-            let book = with_new(alloc, book, entry, delays)?;
-            Ok(book)
+            let so_far = with_new(alloc, so_far, entry, delays)?;
+            Ok(so_far)
         }
-        Some(place) => with_form(alloc, book, place, entry, delays),
+        Some(place) => with_form(alloc, so_far, place, entry, delays),
     }
 }
 
-// The book with the cell of an entry of a new name.
-fn with_new(alloc: Global, book: Book, entry: Entry, delays: Micros) -> Result<Book, AllocError>
-    requires room { HasRoom book.cells }
-    requires delays { delays ≡ joining.delays_of entry }
-    requires new_name { joining.place_of book.cells entry ≡ None }
+// The cells so far and the cell of an entry of a new name.
+fn with_new(
+    alloc: Global,
+    so_far: CellsSoFar,
+    entry: Entry,
+    delays: Micros,
+) -> Result<CellsSoFar, AllocError>
+    requires room { HasRoom so_far.cells }
+    requires delays { delays ≡ merging.delays_of entry }
+    requires new_name { merging.place_of so_far.cells entry ≡ None }
     ensures { IfOk result (λ new. new
-        ≡ record { cells = book.cells ++ joining.cell_of entry ∷ []; entry = None }) }
+        ≡ record { cells = so_far.cells ++ merging.cell_of entry ∷ []; entry = None }) }
 {
     let cell = new_cell(alloc, entry, delays)?;
-    with_cell(book, cell)
+    with_cell(so_far, cell)
 }
 
-// The book with one more cell.
-fn with_cell(book: Book, cell: Cell) -> Result<Book, AllocError>
-    requires room { HasRoom book.cells }
+// The cells so far and one more cell.
+fn with_cell(so_far: CellsSoFar, cell: Cell) -> Result<CellsSoFar, AllocError>
+    requires room { HasRoom so_far.cells }
     requires cell { IsListed cell }
     requires one_form { form_count cell ≡ 1 }
-    requires new_name { list_any (λ (other : CellParts). bytes_eq cell.name other.name) book.cells
+    requires new_name { list_any (λ (other : CellParts). bytes_eq cell.name other.name) so_far.cells
         ≡ false }
-    ensures { IfOk result (λ new. new ≡ record { cells = book.cells ++ cell ∷ []; entry = None }) }
+    ensures { IfOk result (λ new. new ≡ record { cells = so_far.cells ++ cell ∷ []; entry = None }) }
 {
-    let Book { mut cells, entries } = book;
+    let CellsSoFar { mut cells, entries } = so_far;
     cells.push(cell)?;
-    Ok(Book {
+    Ok(CellsSoFar {
         cells,
         entries: entries + 1,
     })
 }
 
-// The book where the cell at a place has the entry's form too.
+// The cells so far, where the cell at an index has the entry's form too.
 fn with_form(
     alloc: Global,
-    book: Book,
+    so_far: CellsSoFar,
     place: usize,
     entry: Entry,
     delays: Micros,
-) -> Result<Book, LibFault>
-    requires room { HasRoom book.cells }
-    requires delays { delays ≡ joining.delays_of entry }
-    requires place { place < length book.cells }
+) -> Result<CellsSoFar, LibFault>
+    requires room { HasRoom so_far.cells }
+    requires delays { delays ≡ merging.delays_of entry }
+    requires place { place < length so_far.cells }
     ensures cells { MatchResult result
-        (λ new. joining.joined_at book.cells entry (Some place) ≡ Ok new.cells)
-        (TellsErr (joining.joined_at book.cells entry (Some place))) }
+        (λ new. merging.merged_at so_far.cells entry (Some place) ≡ Ok new.cells)
+        (TellsErr (merging.merged_at so_far.cells entry (Some place))) }
     ensures whole { IfOk result (λ new. new.entry ≡ None) }
 {
-    let Book { mut cells, entries } = book;
-    if !join(alloc, &mut cells[place], &entry, &delays)? {
+    let CellsSoFar { mut cells, entries } = so_far;
+    if !merge(alloc, &mut cells[place], &entry, &delays)? {
         return Err(LibFault::Line(entry.line, LibKind::CellDiffers));
     }
-    Ok(Book {
+    Ok(CellsSoFar {
         cells,
         entries: entries + 1,
     })
@@ -128,9 +142,9 @@ fn with_form(
 
 // The cell of an entry of a new name.
 fn new_cell(alloc: Global, entry: Entry, delays: Micros) -> Result<Cell, AllocError>
-    requires { delays ≡ joining.delays_of entry }
-    ensures cell { IfOk result (λ cell. cell ≡ joining.cell_of entry) }
-    ensures listed { IfOk result (λ _. IsListed (joining.cell_of entry)) }
+    requires { delays ≡ merging.delays_of entry }
+    ensures cell { IfOk result (λ cell. cell ≡ merging.cell_of entry) }
+    ensures listed { IfOk result (λ _. IsListed (merging.cell_of entry)) }
 {
     let Entry {
         name,

@@ -1,4 +1,4 @@
-// Single words of entries.
+// Fields of an entry, each one word.
 ghost use Rattle.std.specs.Prelude.{◌≡◌, Ok, Err, IfSome, IfNone};
 ghost use Rattle.std.specs.List.{position};
 ghost use Rattle.std.specs.Str.{bytes_eq};

@@ -1,53 +1,53 @@
-// What is kept of the signs of a function that were seen.
+// What a check of a function's tokens keeps of those before, and tests of single tokens.
 ghost use Rattle.std.specs.Prelude.{◌≡◌, ◌||◌, OnOk, IfOk, true, false, not, ◌&&◌};
 ghost use Rattle.lw_genlib.specs.Cells.{ends_in_stroke};
 ghost use Rattle.lw_genlib.specs.Grammar as grammar;
 ghost use Rattle.lw_genlib.specs.Functions as function;
 
-use crate::Sign;
+use crate::Token;
 use lw_pool::Names;
 
-/// What is kept of the signs of a function that were seen.
+/// What is kept of the tokens of a function that were checked.
 #[derive(Drop)]
-pub(crate) struct Seen {
+pub(crate) struct FunctionCheck {
     pub(crate) count: usize,
     pub(crate) equals: bool,
     pub(crate) awaits: bool,
     pub(crate) depth: usize,
     pub(crate) names: usize,
     pub(crate) constant: bool,
-    pub(crate) plain: usize,
+    pub(crate) no_parens: usize,
     pub(crate) pins: Names,
 }
 
-pub(crate) fn is_mark(mark: u8, sign: &Sign) -> bool
-    ensures { result ≡ grammar.is_mark mark sign.now }
+pub(crate) fn is_punct(punct: u8, token: &Token) -> bool
+    ensures { result ≡ grammar.is_punct punct token.now }
 {
-    match sign {
-        Sign::Name(_) => false,
-        Sign::Mark(byte) => *byte == mark,
+    match token {
+        Token::Name(_) => false,
+        Token::Punct(byte) => *byte == punct,
     }
 }
 
-pub(crate) fn is_name(sign: &Sign) -> bool
-    ensures { result ≡ grammar.is_name sign.now }
+pub(crate) fn is_name(token: &Token) -> bool
+    ensures { result ≡ grammar.is_name token.now }
 {
-    matches!(sign, Sign::Name(_))
+    matches!(token, Token::Name(_))
 }
 
-pub(crate) fn awaits_behind(sign: &Sign) -> bool
-    ensures { result ≡ (grammar.is_mark 61 sign.now || grammar.awaits_behind sign.now) }
+pub(crate) fn awaits_behind(token: &Token) -> bool
+    ensures { result ≡ (grammar.is_punct 61 token.now || grammar.awaits_behind token.now) }
 {
-    match sign {
-        Sign::Name(_) => false,
-        Sign::Mark(byte) => matches!(*byte, b'=' | b'(' | b'!' | b'+' | b'*'),
+    match token {
+        Token::Name(_) => false,
+        Token::Punct(byte) => matches!(*byte, b'=' | b'(' | b'!' | b'+' | b'*'),
     }
 }
 
-pub(crate) fn is_plain(sign: &Sign) -> bool
-    ensures { result ≡ function.is_plain sign.now }
+pub(crate) fn is_no_paren(token: &Token) -> bool
+    ensures { result ≡ function.is_no_paren token.now }
 {
-    !is_mark(b'(', sign) && !is_mark(b')', sign)
+    !is_punct(b'(', token) && !is_punct(b')', token)
 }
 
 pub(crate) fn is_constant_name(name: &[u8]) -> bool
@@ -56,12 +56,12 @@ pub(crate) fn is_constant_name(name: &[u8]) -> bool
     name == b"CONST0".as_slice() || name == b"CONST1".as_slice()
 }
 
-pub(crate) fn is_constant(sign: &Sign) -> bool
-    ensures { result ≡ function.is_constant sign.now }
+pub(crate) fn is_constant(token: &Token) -> bool
+    ensures { result ≡ function.is_constant token.now }
 {
-    match sign {
-        Sign::Name(name) => is_constant_name(name.as_bytes()),
-        Sign::Mark(_) => false,
+    match token {
+        Token::Name(name) => is_constant_name(name.as_bytes()),
+        Token::Punct(_) => false,
     }
 }
 
@@ -85,14 +85,14 @@ pub(crate) fn ends_in_stroke(name: &[u8]) -> bool
     }
 }
 
-pub(crate) fn fits(awaits: bool, depth: usize, sign: &Sign) -> bool
-    ensures { result ≡ grammar.fits awaits depth sign.now }
+pub(crate) fn fits(awaits: bool, depth: usize, token: &Token) -> bool
+    ensures { result ≡ grammar.fits awaits depth token.now }
 {
-    match sign {
-        Sign::Name(_) => true,
-        Sign::Mark(b'(' | b'!') => true,
-        Sign::Mark(b')') => !awaits && depth > 0,
-        Sign::Mark(b'\'' | b'+' | b'*') => !awaits,
-        Sign::Mark(_) => false,
+    match token {
+        Token::Name(_) => true,
+        Token::Punct(b'(' | b'!') => true,
+        Token::Punct(b')') => !awaits && depth > 0,
+        Token::Punct(b'\'' | b'+' | b'*') => !awaits,
+        Token::Punct(_) => false,
     }
 }

@@ -1,21 +1,21 @@
-// The text of a function, word by word.
+// The text of a function, word by word, as tokens.
 ghost use Rattle.std.specs.Prelude.{◌≡◌, ◌+◌, ◌≤◌, ◌++◌, IfOk, OnOk, length, replicate, false, true, IfSome, IfNone};
 ghost use Rattle.std.specs.List.{list_any, before_first, after_first, position};
 ghost use Rattle.lw_genlib.specs.Cells.{IsPart};
 ghost use Rattle.lw_genlib.specs.Entries as words;
 ghost use Rattle.lw_genlib.specs.Kept.{IsOpenText};
 
-use crate::Sign;
-use crate::parts::Text;
-use crate::wording::push_signs;
+use crate::Token;
+use crate::state_parts::FunctionText;
+use crate::tokenize::push_tokens;
 use std::alloc::{AllocError, Global};
 
 /// No words. The blank before the first word is no byte of the text, which has at most 2,048.
-pub(crate) fn no_text(alloc: Global) -> Text
+pub(crate) fn no_text(alloc: Global) -> FunctionText
     ensures { result ≡ words.no_text }
 {
-    Text {
-        signs: Vec::new(alloc),
+    FunctionText {
+        tokens: Vec::new(alloc),
         lines: Vec::new(alloc),
         room: 2049,
     }
@@ -24,25 +24,25 @@ pub(crate) fn no_text(alloc: Global) -> Text
 /// The text with one more word, or a part of one.
 pub(crate) fn with_word(
     alloc: Global,
-    text: Text,
+    text: FunctionText,
     line: u32,
     bytes: &[u8],
-) -> Result<Text, AllocError>
+) -> Result<FunctionText, AllocError>
     requires part { IsPart bytes.now }
     requires no_end { list_any words.is_end bytes.now ≡ false }
     requires room { 1 + length bytes.now ≤ text.room }
     ensures { IfOk result (λ new. new ≡ words.with_word text line bytes.now) }
 {
-    let Text {
-        mut signs,
+    let FunctionText {
+        mut tokens,
         mut lines,
         room,
     } = text;
-    push_signs(alloc, bytes, &mut signs)?;
-    let more = signs.len() - lines.len();
+    push_tokens(alloc, bytes, &mut tokens)?;
+    let more = tokens.len() - lines.len();
     push_often(&mut lines, line, more)?;
-    Ok(Text {
-        signs,
+    Ok(FunctionText {
+        tokens,
         lines,
         room: room - bytes.len() - 1,
     })
@@ -57,20 +57,20 @@ fn push_often(lines: &mut Vec<u32>, line: u32, count: usize) -> Result<(), Alloc
     Ok(())
 }
 
-/// The signs with the `;` on this line, and the lines of them.
-pub(crate) fn with_end(text: Text, line: u32) -> Result<(Vec<Sign>, Vec<u32>), AllocError>
-    ensures signs { IfOk result (λ all. all.0.items ≡ (words.with_end text line).signs) }
+/// The tokens with the `;` on this line, and the lines of them.
+pub(crate) fn with_end(text: FunctionText, line: u32) -> Result<(Vec<Token>, Vec<u32>), AllocError>
+    ensures tokens { IfOk result (λ all. all.0.items ≡ (words.with_end text line).tokens) }
     ensures lines { IfOk result (λ all. all.1.items ≡ (words.with_end text line).lines) }
-    ensures kept { IsOpenText text.signs text.lines text.room }
+    ensures kept { IsOpenText text.tokens text.lines text.room }
 {
-    let Text {
-        mut signs,
+    let FunctionText {
+        mut tokens,
         mut lines,
         ..
     } = text;
-    signs.push(Sign::Mark(b';'))?;
+    tokens.push(Token::Punct(b';'))?;
     lines.push(line)?;
-    Ok((signs, lines))
+    Ok((tokens, lines))
 }
 
 /// A word up to its first `;`, and what is behind it, if there is one.

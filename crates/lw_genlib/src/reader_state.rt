@@ -1,11 +1,11 @@
-ghost use Rattle.lw_genlib.specs.Places.{IsPlace, one_place};
+ghost use Rattle.lw_genlib.specs.Expects.{CanExpect, one_expect};
 
-use crate::parts::{Book, Place};
+use crate::state_parts::{CellsSoFar, Expect};
 
 /// What was read, and what is read next.
 #[derive(Drop)]
-pub(crate) struct Progress {
-    pub(crate) book: Book,
-    pub(crate) place: Place,
-    ghost kept: { IsPlace place book.cells } by { one_place place book.cells },
+pub(crate) struct ReaderState {
+    pub(crate) so_far: CellsSoFar,
+    pub(crate) expect: Expect,
+    ghost kept: { CanExpect expect so_far.cells } by { one_expect expect so_far.cells },
 }

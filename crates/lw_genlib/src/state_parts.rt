@@ -1,34 +1,34 @@
-// What a reader keeps of the words that it read.
+// The parts of a reader's state.
 ghost use Rattle.lw_genlib.specs.Cells.{IsWord, IsSmall};
 
 use crate::function::Function;
-use crate::{Cell, Field, Sign, Target};
+use crate::{Cell, Field, Target, Token};
 use lw_fixed::Micro;
 use lw_pool::Name;
 use std::marker::Model;
 
-/// The signs of a function so far, the line of each, and how many bytes there is room for.
+/// The tokens of a function so far, the line of each, and how many bytes there is room for.
 #[derive(Drop)]
-pub(crate) struct Text {
-    pub(crate) signs: Vec<Sign>,
+pub(crate) struct FunctionText {
+    pub(crate) tokens: Vec<Token>,
     pub(crate) lines: Vec<u32>,
     pub(crate) room: usize,
 }
 
-impl Model for Text {
-    ghost use Rattle.lw_genlib.specs.Entries.{Text as Words};
+impl Model for FunctionText {
+    ghost use Rattle.lw_genlib.specs.Entries.{FunctionText as Words};
     ghost use Rattle.lw_genlib.specs.Kept.{IsOpenText};
 
     ghost Value = { Words };
 
-    ghost view = { λ t. record { signs = t.signs.items; lines = t.lines.items; room = t.room } };
+    ghost view = { λ t. record { tokens = t.tokens.items; lines = t.lines.items; room = t.room } };
 
-    ghost invariant = { λ t. IsOpenText t.signs.items t.lines.items t.room };
+    ghost invariant = { λ t. IsOpenText t.tokens.items t.lines.items t.room };
 }
 
 /// What stands before the function of an entry.
 #[derive(Drop)]
-pub(crate) struct Heading {
+pub(crate) struct GateHeader {
     pub(crate) line: u32,
     pub(crate) name: Name,
     pub(crate) area: Micro,
@@ -42,7 +42,7 @@ pub(crate) struct Entry {
     pub(crate) line: u32,
     pub(crate) name: Name,
     pub(crate) area: Micro,
-    pub(crate) signs: Vec<Sign>,
+    pub(crate) tokens: Vec<Token>,
     pub(crate) function: Function,
     // The last delay of each pin that its name was given.
     pub(crate) named: Vec<Option<Micro>>,
@@ -56,22 +56,22 @@ impl Model for Entry {
 
     ghost Value = { Words };
 
-    ghost view = { λ e. record { line = e.line; name = e.name; area = e.area; signs = e.signs.items; named = e.named.items; every = e.every } };
+    ghost view = { λ e. record { line = e.line; name = e.name; area = e.area; tokens = e.tokens.items; named = e.named.items; every = e.every } };
 
-    ghost invariant = { λ e. IsEntry e.name e.area e.signs.items e.function.output e.function.pins e.function.form e.named.items e.every };
+    ghost invariant = { λ e. IsEntry e.name e.area e.tokens.items e.function.output e.function.pins e.function.form e.named.items e.every };
 }
 
 /// The cells of the entries that are at their end.
 #[derive(Drop)]
-pub(crate) struct Book {
+pub(crate) struct CellsSoFar {
     pub(crate) cells: Vec<Cell>,
     // How many entries there were.
     pub(crate) entries: u32,
 }
 
-impl Model for Book {
+impl Model for CellsSoFar {
     ghost use Rattle.std.specs.Prelude.{None};
-    ghost use Rattle.lw_genlib.specs.Libraries.{Book as Pieces};
+    ghost use Rattle.lw_genlib.specs.Libraries.{CellsSoFar as Pieces};
     ghost use Rattle.lw_genlib.specs.Kept.{AreCells};
     ghost use Rattle.lw_genlib.specs.Codes.{cell_code};
     ghost use Rattle.std.specs.Coded.{codes};
@@ -87,7 +87,7 @@ impl Model for Book {
 
 /// What is read next.
 #[derive(Drop)]
-pub(crate) enum Place {
+pub(crate) enum Expect {
     /// A pin of the entry, if there is one, or an entry.
     Piece(Option<Entry>),
     /// Words of a latch, or an entry.
@@ -97,7 +97,7 @@ pub(crate) enum Place {
     /// The area.
     Area(u32, Name),
     /// More words of the function.
-    Function(Heading, Text),
+    Function(GateHeader, FunctionText),
     /// The name of a pin.
     Pin(Entry),
     /// A word behind it.

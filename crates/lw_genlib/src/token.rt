@@ -1,10 +1,10 @@
 use lw_pool::Name;
 
-/// A sign of a function: a name, or one byte of `( ) ! ' + * = & | ^ " ;`.
+/// A token of a function: a name, or one byte of `( ) ! ' + * = & | ^ " ;`.
 #[derive(Debug, Drop)]
-pub(crate) enum Sign {
+pub(crate) enum Token {
     /// A name.
     Name(Name),
-    /// Another sign.
-    Mark(u8),
+    /// A punctuation byte.
+    Punct(u8),
 }

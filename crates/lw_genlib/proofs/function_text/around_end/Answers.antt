@@ -2,7 +2,7 @@ use Rattle.std.proofs.Common.{◌≡◌, ◌+◌, ◌-◌, ℕ, sym, ap, ◌∙�
 use Rattle.std.proofs.lemmas.List.{take_all}
 use Rattle.lw_genlib.specs.Entries as words
 use Rattle.lw_genlib.proofs.Listed.{no-place, first-place, some-passes}
-use Rattle.lw_genlib.proofs.text.around_end.Goals as goal
+use Rattle.lw_genlib.proofs.function_text.around_end.Goals as goal
 
 pub returns-in-Some-clause-some : goal.returns-in-Some-clause-some
 returns-in-Some-clause-some c =

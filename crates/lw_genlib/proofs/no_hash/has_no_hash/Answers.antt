@@ -4,7 +4,7 @@ use Rattle.std.specs.Str.{bytes_eq}
 use Rattle.lw_words.specs.Lines.{LogicalLine}
 use Rattle.lw_words.specs.Gathering.{IsNoHash}
 use Rattle.lw_genlib.proofs.Plain.{plain-words}
-use Rattle.lw_genlib.proofs.plain_line.has_no_hash.Goals as goal
+use Rattle.lw_genlib.proofs.no_hash.has_no_hash.Goals as goal
 
 pub returns : goal.returns
 returns c =
