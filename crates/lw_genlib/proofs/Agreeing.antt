@@ -3,7 +3,7 @@ use Rattle.std.proofs.Common.{ℕ, ◌+◌, ◌≡◌, ◌<◌, ◌≤◌, Bool,
 use Rattle.std.specs.Prelude.{◌⊎◌, ◌==◌}
 use Rattle.std.specs.List.{list_all, zip, IsDistinct}
 use Rattle.std.specs.Str.{bytes_eq}
-use Rattle.std.proofs.lemmas.Bool.{false≢true}
+use Rattle.std.proofs.lemmas.Bool.{false≢true, and_parts}
 use Rattle.std.proofs.lemmas.List.{length-map}
 use Rattle.lw_fixed.specs.declared.micro.Micro.{Micro}
 use Rattle.lw_laws.specs.Expressions.{Expr}
@@ -25,14 +25,6 @@ use Rattle.lw_genlib.proofs.Pins.{Named, In, pins_from, pins-have, pins-are, ove
 use Rattle.lw_genlib.proofs.Tables.{table-of_truth, table-test}
 use Rattle.lw_genlib.proofs.Begun.{pins-end}
 
-left_true : (v w : Bool) → (v && w) ≡ true → v ≡ true
-left_true true w e = refl
-left_true false w e = e
-
-right_true : (v w : Bool) → (v && w) ≡ true → w ≡ true
-right_true true w e = e
-right_true false w e = absurd (false≢true e)
-
 -- a pin among pins with their delays is a pin among them
 pin-in : (qs : List (List ℕ)) (es : List Micro) (p : List ℕ) (d : Micro) → is_pin_among (zip qs es) (p, d) ≡ true → In qs p
 pin-in [] es p d h = absurd (false≢true h)
@@ -40,14 +32,14 @@ pin-in (q ∷ qs) [] p d h = absurd (false≢true h)
 pin-in (q ∷ qs) (e ∷ es) p d h = at (is_same_pin (p, d) (q, e)) refl h (λ g. pin-in qs es p d g)
   where
     at : (b : Bool) → is_same_pin (p, d) (q, e) ≡ b → (b || is_pin_among (zip qs es) (p, d)) ≡ true → (is_pin_among (zip qs es) (p, d) ≡ true → In qs p) → In (q ∷ qs) p
-    at true is g others = inl (sym (same_name p q (left_true (bytes_eq p q) _ is)))
+    at true is g others = inl (sym (same_name p q (and_parts (bytes_eq p q) _ is).0))
     at false is g others = inr (others g)
 
 pins-in : (ps qs : List (List ℕ)) (ds es : List Micro) (n : List ℕ) → length ds ≡ length ps → list_all (is_pin_among (zip qs es)) (zip ps ds) ≡ true → In ps n → In qs n
 pins-in [] qs ds es n size h g = absurd g
 pins-in (p ∷ ps) qs [] es n size h g = absurd (omega arith)
-pins-in (p ∷ ps) qs (d ∷ ds) es n size h (inl e) = subst (In qs) e (pin-in qs es p d (left_true (is_pin_among (zip qs es) (p, d)) _ h))
-pins-in (p ∷ ps) qs (d ∷ ds) es n size h (inr g) = pins-in ps qs ds es n (omega arith) (right_true (is_pin_among (zip qs es) (p, d)) _ h) g
+pins-in (p ∷ ps) qs (d ∷ ds) es n size h (inl e) = subst (In qs) e (pin-in qs es p d (and_parts (is_pin_among (zip qs es) (p, d)) _ h).0)
+pins-in (p ∷ ps) qs (d ∷ ds) es n size h (inr g) = pins-in ps qs ds es n (omega arith) (and_parts (is_pin_among (zip qs es) (p, d)) _ h).1 g
 
 module _ (tokens : List Token) (output : List ℕ) (pins : List (List ℕ)) (form : Expr) (f : IsFunction tokens output pins form) where
   pub inner-is : inner_of tokens ≡ f.inner
@@ -75,8 +67,8 @@ module _ (tokens : List Token) (output : List ℕ) (pins : List (List ℕ)) (for
   other-form cell delays other kept differ one_each same spelled =
       let whole = spelled_postfix cell.pins f.inner other spelled f.names in
       let back : tree_of (postfix other) ≡ other = tree_of-postfix other in
-      let to_cell = left_true (list_all (is_pin_among (zip cell.pins cell.delays)) (zip pins delays)) _ same in
-      let from_cell = right_true (list_all (is_pin_among (zip cell.pins cell.delays)) (zip pins delays)) _ same in
+      let to_cell = (and_parts (list_all (is_pin_among (zip cell.pins cell.delays)) (zip pins delays)) _ same).0 in
+      let from_cell = (and_parts (list_all (is_pin_among (zip cell.pins cell.delays)) (zip pins delays)) _ same).1 in
       record {
         few = subst (λ (t : Expr). literals t ≤ 64) back whole.few;
         wide = subst IsWide back whole.wide;

@@ -2,7 +2,7 @@
 use Rattle.std.proofs.Common.{ℕ, suc, ◌+◌, ◌-◌, ◌<◌, ◌≤◌, ◌≡◌, Bool, true, false, not, ◌&&◌, ◌||◌, cond, eqb, List, [], ◌∷◌, ◌++◌, length, take, drop, Some, None, refl, sym, ap, ap₂, ◌∙◌, subst, arith, length-append, append_assoc, append-nil}
 use Rattle.std.specs.Prelude.{Option, nat_le}
 use Rattle.std.specs.List.{list_any}
-use Rattle.std.proofs.lemmas.Bool.{ne_eqb, leb-false, eqb-true}
+use Rattle.std.proofs.lemmas.Bool.{ne_eqb, leb-false, eqb-true, or_parts}
 use Rattle.std.proofs.lemmas.List.{take_at}
 use Rattle.std.proofs.lemmas.Bool.Decides.{nat_tests}
 use Rattle.lw_genlib.specs.declared.token.Token.{Token}
@@ -110,23 +110,15 @@ rest_goes_on before (line ∷ lines) (token ∷ rest) size none ends two names p
     let parts = first_none before line lines token (rest ++ Punct 59 ∷ []) none in
     let here = parts.0 in
     let size' : length (before ++ token ∷ []) ≡ length before + 1 = length-append before (token ∷ []) in
-    let others = rest_goes_on (before ++ token ∷ []) lines rest (omega arith) parts.1 (second_false (is_punct 59 token) (list_any (is_punct 59) rest) ends) (omega arith) (named_few before token here names)
+    let others = rest_goes_on (before ++ token ∷ []) lines rest (omega arith) parts.1 (or_parts (is_punct 59 token) (list_any (is_punct 59) rest) ends).1 (omega arith) (named_few before token here names)
     (pinned_few before token (omega arith) here pins) in
     let same : (before ++ token ∷ []) ++ rest ≡ before ++ token ∷ rest = append_assoc before (token ∷ []) rest in
     record {
-      goes_on = here_and_on (first_false (is_punct 59 token) (list_any (is_punct 59) rest) ends) here.may others.goes_on;
+      goes_on = here_and_on (or_parts (is_punct 59 token) (list_any (is_punct 59) rest) ends).0 here.may others.goes_on;
       names = subst (λ s. names_in s ≤ 65) same others.names;
       pins = subst (λ s. length (pins_in s) ≤ 16) same others.pins;
     }
   where
-    first_false : (a b : Bool) → (a || b) ≡ false → a ≡ false
-    first_false true b e = cc
-    first_false false b e = refl
-
-    second_false : (a b : Bool) → (a || b) ≡ false → b ≡ false
-    second_false true b e = cc
-    second_false false b e = e
-
     here_and_on : is_punct 59 token ≡ false → may_follow before token ≡ true → go_on (awaits (before ++ token ∷ [])) (depth_in (before ++ token ∷ [])) rest ≡ true → go_on (awaits before) (depth_in before) (token ∷ rest) ≡ true
     here_and_on not_end may others =
         let fit : fits (awaits before) (depth_in before) token ≡ true =

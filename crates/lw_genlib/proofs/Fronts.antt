@@ -1,7 +1,7 @@
 -- Tokens that may stand one after the other spell an expression by the grammar.
 use Rattle.std.proofs.Common.{ℕ, zero, suc, ◌+◌, ◌*◌, ◌<◌, ◌≤◌, ◌≡◌, Bool, true, false, not, ◌&&◌, ◌||◌, eqb, List, [], ◌∷◌, ◌++◌, length, ◌⊎◌, inl, inr, refl, sym, ap, ◌∙◌, subst, arith, append-nil}
 use Rattle.std.specs.Prelude.{nat_lt, None}
-use Rattle.std.proofs.lemmas.Bool.{eqb-true}
+use Rattle.std.proofs.lemmas.Bool.{eqb-true, and_parts, or_from}
 use Rattle.std.proofs.lemmas.Bool.Decides.{nat_tests}
 use Rattle.lw_laws.specs.Expressions.{Expr}
 use Rattle.lw_genlib.specs.declared.token.Token.{Token}
@@ -14,7 +14,7 @@ use Rattle.lw_genlib.specs.Grammar.IsAtom.{name_atom}
 use Rattle.lw_genlib.specs.Spelled.{expression_of, inner_of}
 use Rattle.lw_genlib.specs.Functions.{IsText, Says, pins_in, first_fault}
 use Rattle.lw_genlib.specs.Merging.{name_first}
-use Rattle.lw_genlib.proofs.Spelling.{SoFar, sum_begins, sum_goes_on, sum_ends, sum_stops, product_begins, product_goes_on, product_ends, product_stops, quoted, complemented, grouped, atom_is_factor, rest_length, names_short, next_goes_on, next_shorter, plus_goes_on, plus_shorter, nothing_left}
+use Rattle.lw_genlib.proofs.Spelling.{SoFar, sum_begins, sum_goes_on, sum_ends, sum_stops, product_begins, product_goes_on, product_ends, product_stops, quoted, complemented, grouped, atom_is_factor, rest_length, names_short, next_goes_on, next_shorter, plus_goes_on, plus_shorter, nothing_left, after_nothing}
 use Rattle.lw_genlib.proofs.Spelled.{spelled_is_read}
 use Rattle.lw_genlib.proofs.Faultless.{faultless, inner_at}
 
@@ -34,10 +34,6 @@ shorter tokens read rest whole some =
     let short : names_in read ≤ length read = names_short read in
     omega arith
 
-first_true : (a b : Bool) → (a && b) ≡ true → a ≡ true
-first_true true b e = refl
-first_true false b e = cc
-
 -- Behind a sum in a group stands the group's end.
 
 close_test : (o c n q p s x : Bool) → (q || s || (o || n) || p) ≡ false → ((o || c || n || q || p || s) && not (c && x)) ≡ true → c ≡ true
@@ -50,7 +46,7 @@ closes depth (Punct b ∷ rest) stops ok = (
   rest,
   ap (λ m. Punct m ∷ rest) (eqb-true b 41
       (close_test (eqb b 40) (eqb b 41) (eqb b 33) (eqb b 39) (eqb b 43) (eqb b 42) (eqb (depth + 1) 0) stops
-      (first_true (fits false (depth + 1) (Punct b)) (go_on (awaits_behind (Punct b)) (depth_behind (Punct b) (depth + 1)) rest) ok))),
+      (and_parts (fits false (depth + 1) (Punct b)) (go_on (awaits_behind (Punct b)) (depth_behind (Punct b) (depth + 1)) rest) ok).0)),
 )
 
 no_operand : (o n r : Bool) → o ≡ false → n ≡ false → ((o || n) && r) ≡ true → ⊥
@@ -58,24 +54,17 @@ no_operand o n r no_group no_bang ok = grind (arith, nat_tests)
 
 -- What stands behind, if it goes on.
 
-both_false : (a b : Bool) → a ≡ false → b ≡ false → (a || b) ≡ false
-both_false a b e f = grind (arith, nat_tests)
-
 next_factor : (rest : List Token) → ((behind : List Token) × IsNextFactor rest behind) ⊎ (begins_with (λ token. is_punct 42 token || begins_operand token) rest ≡ false)
 next_factor [] = inr refl
 next_factor (Name m ∷ rest) = inl (Name m ∷ rest, inr (refl, refl))
 next_factor (Punct b ∷ rest) =
     by_test (eqb b 42) (λ star. inl (rest, inl (ap (λ m. Punct m ∷ rest) (eqb-true b 42 star))))
-    (λ other. by_test (eqb b 40 || eqb b 33) (λ begins. inl (Punct b ∷ rest, inr (refl, begins))) (λ none. inr (both_false (eqb b 42) (eqb b 40 || eqb b 33) other none)))
+    (λ other. by_test (eqb b 40 || eqb b 33) (λ begins. inl (Punct b ∷ rest, inr (refl, begins))) (λ none. inr (or_from (eqb b 42) (eqb b 40 || eqb b 33) other none)))
 
 next_product : (rest : List Token) → ((behind : List Token) × (rest ≡ plus_token ∷ behind)) ⊎ (begins_with (is_punct 43) rest ≡ false)
 next_product [] = inr refl
 next_product (Name m ∷ rest) = inr refl
 next_product (Punct b ∷ rest) = by_test (eqb b 43) (λ plus. inl (rest, ap (λ m. Punct m ∷ rest) (eqb-true b 43 plus))) (λ other. inr other)
-
-after_nothing : (tokens : List Token) → begins_with after_atom tokens ≡ false
-after_nothing [] = refl
-after_nothing (token ∷ tokens) = refl
 
 module _ (pins : List (List ℕ)) where
   name_front : (depth : ℕ) (name : List ℕ) (tokens : List Token) (old : List ExprOp) → go_on true depth (Name name ∷ tokens) ≡ true → Front (IsAtom pins) after_atom depth (Name name ∷ tokens) old

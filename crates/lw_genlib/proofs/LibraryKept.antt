@@ -3,7 +3,7 @@ use Rattle.std.proofs.Common.{ℕ, zero, suc, ◌+◌, ◌-◌, ◌<◌, ◌≤�
 use Rattle.std.specs.Prelude.{All, nat_lt, nat_le, sum_by, replicate, slice_get, slice_index, IsTrue, codes}
 use Rattle.std.specs.List.{AllByRecursion, list_any, list_all, position, slice_set, before_first, after_first, zip}
 use Rattle.std.specs.Str.{bytes_eq}
-use Rattle.std.proofs.lemmas.Bool.{false≢true, leb-false, leb-true}
+use Rattle.std.proofs.lemmas.Bool.{false≢true, leb-false, leb-true, and_parts}
 use Rattle.std.proofs.lemmas.List.{length-set, length-replicate, length-drop, length-take}
 use Rattle.std.proofs.lemmas.List.Elements.{All-set, recursion_from_All}
 use Rattle.std.proofs.lemmas.List.Quantifiers.{position-Some}
@@ -34,7 +34,7 @@ use Rattle.lw_genlib.proofs.Small.{small_number, small-behind}
 use Rattle.lw_genlib.proofs.Delays.{no-delays}
 use Rattle.lw_genlib.proofs.Begun.{function-kept}
 use Rattle.lw_genlib.proofs.Fronts.{spells_read, function_says}
-use Rattle.lw_genlib.proofs.Texts.{word-kept, before-part, before-none, before-plain}
+use Rattle.lw_genlib.proofs.Texts.{all-take, word-kept, before-part, before-none, before-plain}
 use Rattle.lw_genlib.proofs.Tables.{truth-of_table}
 use Rattle.lw_genlib.proofs.Agreeing.{Mergeable, mergeable, inner-is}
 use Rattle.lw_genlib.proofs.MergeLemmas.{cell-with_form, cells-more, cells-merged, no-cells}
@@ -85,19 +85,6 @@ all-drop (suc n) (b ∷ bytes) h = all-drop n bytes (tail (is_word_byte b) h)
     tail : (t : Bool) → (t && list_all is_word_byte bytes) ≡ true → list_all is_word_byte bytes ≡ true
     tail true e = e
     tail false e = absurd (false≢true e)
-
-all-take : (n : ℕ) (bytes : List ℕ) → list_all is_word_byte bytes ≡ true → list_all is_word_byte (take n bytes) ≡ true
-all-take zero bytes h = refl
-all-take (suc n) [] h = refl
-all-take (suc n) (b ∷ bytes) h = both (is_word_byte b) h (all-take n bytes)
-  where
-    both : (t : Bool) → (t && list_all is_word_byte bytes) ≡ true → (list_all is_word_byte bytes ≡ true → list_all is_word_byte (take n bytes) ≡ true) → (t && list_all is_word_byte (take n bytes)) ≡ true
-    both true h rest = rest h
-    both false h rest = absurd (false≢true h)
-
-first_of : (a b : Bool) → (a && b) ≡ true → a ≡ true
-first_of true b e = refl
-first_of false b e = absurd (false≢true e)
 
 first_of_three : (a b c : Bool) → (a && b && c) ≡ true → a ≡ true
 first_of_three true b c e = refl
@@ -258,10 +245,6 @@ same-at [] i c d lt = absurd (omega arith)
 same-at (x ∷ xs) zero c d lt = refl
 same-at (x ∷ xs) (suc i) c d lt = same-at xs i c d (omega arith)
 
-second_of : (a b : Bool) → (a && b) ≡ true → b ≡ true
-second_of true b e = e
-second_of false b e = absurd (false≢true e)
-
 module _ (cells : List CellParts) (entry : Entry) (lib : IsLibrary cells) (room : HasRoom cells) (k : IsKept entry) where
   are-cells : AreCells cells (sum_by form_count cells)
   are-cells = record { library = lib; count = refl }
@@ -297,8 +280,8 @@ module _ (cells : List CellParts) (entry : Entry) (lib : IsLibrary cells) (room 
     merged-library : agrees own entry ≡ true → IsLibrary (slice_set cells place (with_form own (form_over own.pins entry)))
     unfolding agrees
     merged-library agree =
-        let alike = first_of (is_alike own (output_of entry) entry.area (zip (pins_of entry) (delays_of entry))) (have_same_table (length own.pins) (first_expr own.forms) (form_over own.pins entry)) agree in
-        let table = second_of (is_alike own (output_of entry) entry.area (zip (pins_of entry) (delays_of entry))) (have_same_table (length own.pins) (first_expr own.forms) (form_over own.pins entry)) agree in
+        let alike = (and_parts (is_alike own (output_of entry) entry.area (zip (pins_of entry) (delays_of entry))) (have_same_table (length own.pins) (first_expr own.forms) (form_over own.pins entry)) agree).0 in
+        let table = (and_parts (is_alike own (output_of entry) entry.area (zip (pins_of entry) (delays_of entry))) (have_same_table (length own.pins) (first_expr own.forms) (form_over own.pins entry)) agree).1 in
         (cells-merged cells (sum_by form_count cells) place own (form_over own.pins entry) are-cells room below own-again (with-form-kept alike table)).library
 
     agreed-kept : (b : Bool) (more : List CellParts) → agrees own entry ≡ b → ◌≡◌ {A = Result (List CellParts) LibFault} (if b then Ok (slice_set cells place (with_form own (form_over own.pins entry))) else Err (Line entry.line CellDiffers)) (Ok more) → IsLibrary more

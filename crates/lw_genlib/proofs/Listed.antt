@@ -4,6 +4,7 @@ use Rattle.std.specs.Prelude.{All, Contains, MatchOption, MatchResult, IfOk}
 use Rattle.std.specs.List.{list_any, position, position_or_len}
 use Rattle.std.proofs.lemmas.List.{length-map}
 use Rattle.std.proofs.lemmas.Bool.Decides.{nat_tests}
+use Rattle.std.proofs.lemmas.Bool.{or_parts}
 use Rattle.lw_fixed.specs.declared.micro.Micro.{Micro}
 use Rattle.lw_laws.specs.Expressions.{Expr, expr_value}
 use Rattle.lw_genlib.specs.declared.token.Token.{Token}
@@ -62,10 +63,6 @@ listed-parts entry output pins form h = record {
   pins_differ = h.function.pins_differ;
 }
 
-pub form-read : (entry : Entry) (output : List ℕ) (pins : List (List ℕ)) (form : Expr) → IsFunction entry.tokens output pins form → form_over (pins_of entry) entry ≡ form
-form-read entry output pins form f =
-    ap₂ (λ (ps : List (List ℕ)) (s : List Token). expression_of ps s) (sym f.pins_are) (inner-is entry.tokens output pins form f) ∙ sym f.form_is
-
 pub listed-cell : (entry : Entry) (output : List ℕ) (pins : List (List ℕ)) (form : Expr) → IsEntry entry.name entry.area entry.tokens output pins form entry.named entry.every → IsListed (cell_of entry)
 listed-cell entry output pins form h =
     let f : IsFunction entry.tokens output pins form = h.function in
@@ -77,14 +74,6 @@ listed-cell entry output pins form h =
 
 -- Places.
 
-left_false : (v w : Bool) → (v || w) ≡ false → v ≡ false
-left_false true w e = cc
-left_false false w e = refl
-
-right_false : (v w : Bool) → (v || w) ≡ false → w ≡ false
-right_false true w e = cc
-right_false false w e = e
-
 less-false : (a b : ℕ) → b ≤ a → nat_lt a b ≡ false
 less-false a b h = grind (arith, nat_tests)
 
@@ -94,7 +83,7 @@ not-less a b h = grind (arith, nat_tests)
 module _ {X : Type 0} where
   all-before : (p : X → Bool) (xs : List X) → list_any p xs ≡ false → length xs ≤ position_or_len p xs
   all-before p [] h = omega arith
-  all-before p (x ∷ xs) h = at (p x) (left_false (p x) (list_any p xs) h) (all-before p xs (right_false (p x) (list_any p xs) h))
+  all-before p (x ∷ xs) h = at (p x) (or_parts (p x) (list_any p xs) h).0 (all-before p xs (or_parts (p x) (list_any p xs) h).1)
     where
       at : (b : Bool) → b ≡ false → length xs ≤ position_or_len p xs → length (x ∷ xs) ≤ cond (not b) (1 + position_or_len p xs) 0
       at true e le = cc

@@ -4,6 +4,7 @@ use native.Mathlib.Decide.{dec_lt}
 use Rattle.std.specs.List.{prefix_len, list_all}
 use Rattle.std.proofs.lemmas.List.{take-append-drop, drop_more, drop_all, get_or-take, length-take-le}
 use Rattle.std.proofs.lemmas.List.Sums.{prefix_len_passes, prefix_len_stops, prefix_len-le-length, list_all-from_AllPass}
+use Rattle.std.proofs.lemmas.Bool.{and_parts, not-false, not-true}
 use Rattle.lw_genlib.specs.declared.token.Token.{Token}
 use Rattle.lw_genlib.specs.declared.token.Token.TheVariants.{Name, Punct}
 use Rattle.lw_genlib.specs.Cells.{is_punct_byte}
@@ -15,14 +16,6 @@ is_name_byte b = not (is_punct_byte b)
 -- behind a whole name stands a punctuation byte, or nothing
 pub record IsCut (bytes : List ℕ) : Type 0 where
   alone : (b : ℕ) → with_byte b (tokens_in bytes) ≡ Name (b ∷ []) ∷ tokens_in bytes
-
-not_false : (b : Bool) → not b ≡ false → b ≡ true
-not_false true e = refl
-not_false false e = cc
-
-not_true : (b : Bool) → not b ≡ true → b ≡ false
-not_true true e = cc
-not_true false e = refl
 
 pub punct_first : (m : ℕ) (bytes : List ℕ) → is_punct_byte m ≡ true → tokens_in (m ∷ bytes) ≡ Punct m ∷ tokens_in bytes
 punct_first m bytes is = ap (λ b. cond b (Punct m ∷ tokens_in bytes) (with_byte m (tokens_in bytes))) is
@@ -36,17 +29,13 @@ cut_nothing = record { alone = λ b. refl }
 cut_punct : (m : ℕ) (bytes : List ℕ) → is_punct_byte m ≡ true → IsCut (m ∷ bytes)
 cut_punct m bytes is = record { alone = λ b. ap (with_byte b) (punct_first m bytes is) ∙ ap (λ s. Name (b ∷ []) ∷ s) (sym (punct_first m bytes is)) }
 
-both_true : (a b : Bool) → (a && b) ≡ true → (a ≡ true) × (b ≡ true)
-both_true true b e = (refl, e)
-both_true false b e = cc
-
 -- a name and what stands behind it
 run_of_name : (name rest : List ℕ) → list_all is_name_byte name ≡ true → 0 < length name → IsCut rest → tokens_in (name ++ rest) ≡ Name name ∷ tokens_in rest
 run_of_name [] rest all some cut = absurd (omega arith)
-run_of_name (b ∷ []) rest all some cut = byte_first b rest (not_true (is_punct_byte b) (both_true (is_name_byte b) true all).0) ∙ cut.alone b
+run_of_name (b ∷ []) rest all some cut = byte_first b rest (not-true (is_punct_byte b) (and_parts (is_name_byte b) true all).0) ∙ cut.alone b
 run_of_name (b ∷ c ∷ name) rest all some cut =
-    let parts = both_true (is_name_byte b) (list_all is_name_byte (c ∷ name)) all in
-    byte_first b (c ∷ name ++ rest) (not_true (is_punct_byte b) parts.0) ∙ ap (with_byte b) (run_of_name (c ∷ name) rest parts.1 (omega arith) cut)
+    let parts = and_parts (is_name_byte b) (list_all is_name_byte (c ∷ name)) all in
+    byte_first b (c ∷ name ++ rest) (not-true (is_punct_byte b) parts.0) ∙ ap (with_byte b) (run_of_name (c ∷ name) rest parts.1 (omega arith) cut)
 
 module _ (bytes : List ℕ) where
   front_passes : list_all is_name_byte (take (prefix_len is_name_byte bytes) bytes) ≡ true
@@ -61,7 +50,7 @@ module _ (bytes : List ℕ) where
   behind_cut = at_end (dec_lt (prefix_len is_name_byte bytes) (length bytes))
     where
       at_end : Dec (prefix_len is_name_byte bytes < length bytes) → IsCut (drop (prefix_len is_name_byte bytes) bytes)
-      at_end (yes lt) = subst IsCut (sym (drop_more bytes (prefix_len is_name_byte bytes) 0 lt)) (cut_punct _ _ (not_false _ (prefix_len_stops is_name_byte bytes 0 lt)))
+      at_end (yes lt) = subst IsCut (sym (drop_more bytes (prefix_len is_name_byte bytes) 0 lt)) (cut_punct _ _ (not-false _ (prefix_len_stops is_name_byte bytes 0 lt)))
       at_end (no past) = subst IsCut (sym (drop_all (prefix_len is_name_byte bytes) bytes (omega arith))) cut_nothing
 
   -- the name at the front, and what stands behind it
@@ -78,9 +67,6 @@ pub record Worded (word rest : List ℕ) (old new : List Token) : Type 0 where
 pub goes_on_by : (word rest behind : List ℕ) (old new new' : List Token) (token : Token) → Worded word rest old new → tokens_in rest ≡ token ∷ tokens_in behind → new' ≡ new ++ token ∷ [] → Worded word behind old new'
 goes_on_by word rest behind old new new' token w next grown =
     record { tokens = ap (λ n. n ++ tokens_in behind) grown ∙ (append_assoc new (token ∷ []) (tokens_in behind) ∙ (ap (λ s. new ++ s) (sym next) ∙ w.tokens)) }
-
-pub words_end : (word : List ℕ) (old new : List Token) → Worded word [] old new → new ≡ old ++ tokens_in word
-words_end word old new w = sym (append-nil new) ∙ w.tokens
 
 pub some_name : (bytes : List ℕ) (b : ℕ) → Some b ≡ slice_get bytes 0 → false ≡ is_punct_byte b → 0 < prefix_len is_name_byte bytes
 some_name [] b at is = cc

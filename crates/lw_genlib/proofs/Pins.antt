@@ -3,7 +3,7 @@ use Rattle.std.proofs.Common.{ℕ, zero, suc, ◌≡◌, ◌<◌, Bool, true, fa
 use Rattle.std.specs.Prelude.{◌⊎◌, fold, codes}
 use Rattle.std.specs.List.{IsDistinct, AllByRecursion, position}
 use Rattle.std.specs.Str.{bytes_eq}
-use Rattle.std.proofs.lemmas.Bool.{false≢true}
+use Rattle.std.proofs.lemmas.Bool.{false≢true, or_parts}
 use Rattle.std.proofs.lemmas.List.Quantifiers.{position-Some}
 use Rattle.lw_laws.specs.Expressions.{Expr, MentionsPin, SomeMentionsPin}
 use Rattle.lw_laws.specs.Expressions.Expr.{expr_const, expr_pin}
@@ -89,16 +89,8 @@ pin-from pins m n h = at (is_constant_name m) (is_among m pins) refl h
 pub distinct-more : (pins : List (List ℕ)) (m : List ℕ) → IsDistinct bytes_eq pins → is_among m pins ≡ false → IsDistinct bytes_eq (pins ++ m ∷ [])
 unfolding IsDistinct
 distinct-more [] m h e = (tt, tt)
-distinct-more (x ∷ xs) m h e = (others xs h.0 (differ_back m x (first (bytes_eq m x) (is_among m xs) e)), distinct-more xs m h.1 (second (bytes_eq m x) (is_among m xs) e))
+distinct-more (x ∷ xs) m h e = (others xs h.0 (differ_back m x (or_parts (bytes_eq m x) (is_among m xs) e).0), distinct-more xs m h.1 (or_parts (bytes_eq m x) (is_among m xs) e).1)
   where
-    first : (a b : Bool) → (a || b) ≡ false → a ≡ false
-    first true b e = cc
-    first false b e = refl
-
-    second : (a b : Bool) → (a || b) ≡ false → b ≡ false
-    second true b e = cc
-    second false b e = e
-
     others : (ys : List (List ℕ)) → AllByRecursion (λ y. bytes_eq x y ≡ false) ys → bytes_eq x m ≡ false → AllByRecursion (λ y. bytes_eq x y ≡ false) (ys ++ m ∷ [])
     others [] all e = (e, tt)
     others (y ∷ ys) all e = (all.0, others ys all.1 e)

@@ -3,6 +3,7 @@ use Rattle.std.proofs.Common.{ℕ, zero, suc, ◌+◌, ◌-◌, ◌<◌, ◌≤�
 use Rattle.std.proofs.lemmas.List.{replicate_more}
 use Rattle.std.proofs.lemmas.Bool.Decides.{nat_tests}
 use Rattle.std.specs.Prelude.{replicate}
+use Rattle.std.proofs.lemmas.Bool.{and_parts, or_from}
 use Rattle.lw_laws.specs.Expressions.{Expr}
 use Rattle.lw_laws.specs.Expressions.Expr.{expr_not}
 use Rattle.lw_genlib.specs.declared.token.Token.{Token}
@@ -193,6 +194,11 @@ module _ (pins : List (List ℕ)) (depth : ℕ) (tokens rest : List Token) (old 
     stops = stops;
   }
 
+-- no token follows an atom's name or group that is part of it
+pub after_nothing : (tokens : List Token) → begins_with after_atom tokens ≡ false
+after_nothing [] = refl
+after_nothing (token ∷ tokens) = refl
+
 module _ (pins : List (List ℕ)) (depth : ℕ) (old new new' : List ExprOp) (more : new' ≡ new ++ Not ∷ []) where
   complement_steps : (e : Expr) → new ≡ old ++ postfix e → new' ≡ old ++ postfix (expr_not e)
   complement_steps e was = ends_steps old new new' (postfix e) Not was more
@@ -207,13 +213,9 @@ module _ (pins : List (List ℕ)) (depth : ℕ) (old new new' : List ExprOp) (mo
     some = let names : names_in (r.read ++ quote_token ∷ []) ≡ names_in r.read + 0 = names_append r.read (quote_token ∷ []) in let one : 1 ≤ names_in r.read = r.some in omega arith;
     steps = complement_steps r.tree r.steps;
     left = behind_quote (subst (λ b. go_on false depth b ≡ true) at r.left);
-    stops = none behind;
+    stops = after_nothing behind;
   }
     where
-      none : (tokens : List Token) → begins_with after_atom tokens ≡ false
-      none [] = refl
-      none (token ∷ tokens) = refl
-
       behind_quote : go_on false depth (quote_token ∷ behind) ≡ true → go_on false depth behind ≡ true
       behind_quote ok = ok
 
@@ -256,17 +258,10 @@ names_short [] = omega arith
 names_short (Name n ∷ tokens) = let rest : names_in tokens ≤ length tokens = names_short tokens in omega arith
 names_short (Punct b ∷ tokens) = let rest : names_in tokens ≤ length tokens = names_short tokens in omega arith
 
-second : (a b : Bool) → (a && b) ≡ true → b ≡ true
-second true b e = e
-second false b e = cc
-
-both_false : (a b : Bool) → a ≡ false → b ≡ false → (a || b) ≡ false
-both_false a b e f = ap₂ (λ x y. x || y) e f
-
 -- what follows an operand may begin one
 pub operand_goes_on : (depth : ℕ) (rest : List Token) → begins_with begins_operand rest ≡ true → go_on false depth rest ≡ true → go_on true depth rest ≡ true
 operand_goes_on depth [] begins ok = cc
-operand_goes_on depth (token ∷ rest) begins ok = ap₂ (λ a b. a && b) begins (second (fits false depth token) (go_on (awaits_behind token) (depth_behind token depth) rest) ok)
+operand_goes_on depth (token ∷ rest) begins ok = ap₂ (λ a b. a && b) begins (and_parts (fits false depth token) (go_on (awaits_behind token) (depth_behind token depth) rest) ok).1
 
 pub next_goes_on : (depth : ℕ) (rest behind : List Token) → IsNextFactor rest behind → go_on false depth rest ≡ true → go_on true depth behind ≡ true
 next_goes_on depth rest behind (inl at) ok = behind_star (subst (λ r. go_on false depth r ≡ true) at ok)
@@ -301,7 +296,7 @@ plus_goes_on depth rest behind at ok = behind_plus (subst (λ r. go_on false dep
 
 pub sum_stops : (rest : List Token) → begins_with after_product rest ≡ false → begins_with (is_punct 43) rest ≡ false → begins_with after_sum rest ≡ false
 sum_stops [] before plus = refl
-sum_stops (token ∷ rest) before plus = both_false (after_product token) (is_punct 43 token) before plus
+sum_stops (token ∷ rest) before plus = or_from (after_product token) (is_punct 43 token) before plus
 
 pub product_stops : (rest : List Token) → begins_with after_factor rest ≡ false → begins_with (λ token. is_punct 42 token || begins_operand token) rest ≡ false → begins_with after_product rest ≡ false
 product_stops [] before next = refl
@@ -313,10 +308,6 @@ product_stops (token ∷ rest) before next = merged_or (is_punct 39 token) (is_p
     merged_or true b c e f = cc
 
 -- Groups and names.
-
-after_nothing : (tokens : List Token) → begins_with after_atom tokens ≡ false
-after_nothing [] = refl
-after_nothing (token ∷ tokens) = refl
 
 module _ (pins : List (List ℕ)) (depth : ℕ) (old new : List ExprOp) where
   -- a group
@@ -334,7 +325,7 @@ module _ (pins : List (List ℕ)) (depth : ℕ) (old new : List ExprOp) where
         spelled = group_atom r.read r.spelled.0 r.spelled.1;
         some = omega arith;
         steps = r.steps ∙ ap (λ e. old ++ postfix e) r.spelled.2;
-        left = subst (λ d. go_on false d behind ≡ true) out (second (fits false (depth + 1) close_token) (go_on false (depth + 1 - 1) behind) (subst (λ s. go_on false (depth + 1) s ≡ true) next r.left));
+        left = subst (λ d. go_on false d behind ≡ true) out (and_parts (fits false (depth + 1) close_token) (go_on false (depth + 1 - 1) behind) (subst (λ s. go_on false (depth + 1) s ≡ true) next r.left)).1;
         stops = after_nothing behind;
       }
 
@@ -405,8 +396,4 @@ inner_after (Punct b) after fit = after_tests (eqb b 40) (eqb b 41) (eqb b 33) (
 
 pub nothing_left : (rest : List Token) → go_on false 0 rest ≡ true → begins_with after_sum rest ≡ false → rest ≡ []
 nothing_left [] ok stops = refl
-nothing_left (token ∷ rest) ok stops = absurd (inner_after token stops (first_true (fits false 0 token) (go_on (awaits_behind token) (depth_behind token 0) rest) ok))
-  where
-    first_true : (a b : Bool) → (a && b) ≡ true → a ≡ true
-    first_true true b e = refl
-    first_true false b e = cc
+nothing_left (token ∷ rest) ok stops = absurd (inner_after token stops (and_parts (fits false 0 token) (go_on (awaits_behind token) (depth_behind token 0) rest) ok).0)

@@ -79,34 +79,15 @@ gate-begins so_far line bytes rest latch gate room =
     ap (λ b. cond b (done so_far (behind_latch rest)) (cond (is_word (codes "GATE") bytes) (cond (nat_le 4096 (sum_by form_count so_far.cells)) (broken (Line line LimitCells)) (gate_on so_far line rest)) (broken (Line line Expected)))) latch
     ∙ ap₂ (λ b c. cond b (cond c (broken (Line line LimitCells)) (gate_on so_far line rest)) (broken (Line line Expected))) gate room
 
-pub too-many : (so_far : CellsSoFar) (line : ℕ) (bytes : List ℕ) (rest : List StreamItem) → is_word (codes "LATCH") bytes ≡ false → is_word (codes "GATE") bytes ≡ true → nat_le 4096 (sum_by form_count so_far.cells) ≡ true → entry_on line bytes rest so_far ≡ broken (Line line LimitCells)
-too-many so_far line bytes rest latch gate room =
-    ap (λ b. cond b (done so_far (behind_latch rest)) (cond (is_word (codes "GATE") bytes) (cond (nat_le 4096 (sum_by form_count so_far.cells)) (broken (Line line LimitCells)) (gate_on so_far line rest)) (broken (Line line Expected)))) latch
-    ∙ ap₂ (λ b c. cond b (cond c (broken (Line line LimitCells)) (gate_on so_far line rest)) (broken (Line line Expected))) gate room
-
-pub nothing-begins : (so_far : CellsSoFar) (line : ℕ) (bytes : List ℕ) (rest : List StreamItem) → is_word (codes "LATCH") bytes ≡ false → is_word (codes "GATE") bytes ≡ false → entry_on line bytes rest so_far ≡ broken (Line line Expected)
-nothing-begins so_far line bytes rest latch gate =
-    ap (λ b. cond b (done so_far (behind_latch rest)) (cond (is_word (codes "GATE") bytes) (cond (nat_le 4096 (sum_by form_count so_far.cells)) (broken (Line line LimitCells)) (gate_on so_far line rest)) (broken (Line line Expected)))) latch
-    ∙ ap (λ b. cond b (cond (nat_le 4096 (sum_by form_count so_far.cells)) (broken (Line line LimitCells)) (gate_on so_far line rest)) (broken (Line line Expected))) gate
-
 -- The words of an entry.
 
 pub name-read : (so_far : CellsSoFar) (gate line : ℕ) (bytes name : List ℕ) (rest : List StreamItem) → cell_name bytes ≡ Ok name → gate_on so_far gate (word_on line bytes ∷ rest) ≡ opened_by so_far (behind_name gate name rest)
 name-read so_far gate line bytes name rest is =
     ap (λ (r : Result (List ℕ) LibKind). opened_by so_far (and_then (with_rest rest (on_line line r)) (λ n others. behind_name gate n others))) is
 
-pub name-fault : (so_far : CellsSoFar) (gate line : ℕ) (bytes : List ℕ) (rest : List StreamItem) (kind : LibKind) → cell_name bytes ≡ Err kind → gate_on so_far gate (word_on line bytes ∷ rest) ≡ broken (Line line kind)
-name-fault so_far gate line bytes rest kind is =
-    ap (λ (r : Result (List ℕ) LibKind). opened_by so_far (and_then (with_rest rest (on_line line r)) (λ n others. behind_name gate n others))) is
-
 pub area-read : (so_far : CellsSoFar) (gate line : ℕ) (name bytes : List ℕ) (area : Micro) (rest : List StreamItem) (r : Result Micro LibFault) → r ≡ on_line line (number_of bytes) → r ≡ Ok area
     → opened_by so_far (behind_name gate name (word_on line bytes ∷ rest)) ≡ opened_by so_far (behind_words gate name area (record { tokens = []; lines = []; room = 2049 }) rest)
 area-read so_far gate line name bytes area rest r said is =
-    ap (λ (x : Result Micro LibFault). opened_by so_far (and_then (with_rest rest x) (λ a others. behind_words gate name a (record { tokens = []; lines = []; room = 2049 }) others))) (sym said ∙ is)
-
-pub area-fault : (so_far : CellsSoFar) (gate line : ℕ) (name bytes : List ℕ) (fault : LibFault) (rest : List StreamItem) (r : Result Micro LibFault) → r ≡ on_line line (number_of bytes) → r ≡ Err fault
-    → opened_by so_far (behind_name gate name (word_on line bytes ∷ rest)) ≡ broken fault
-area-fault so_far gate line name bytes fault rest r said is =
     ap (λ (x : Result Micro LibFault). opened_by so_far (and_then (with_rest rest x) (λ a others. behind_words gate name a (record { tokens = []; lines = []; room = 2049 }) others))) (sym said ∙ is)
 
 -- a value that a word means is the number's
@@ -156,11 +137,6 @@ pub pin-read : (so_far : CellsSoFar) (entry : Entry) (line : ℕ) (bytes : List 
 pin-read so_far entry line bytes pins rest r said is =
     ap (λ (x : Result Target LibFault). opened_by so_far (and_then (with_rest rest x) (λ t others. behind_target entry t pin_fields no_delay others))) (sym said ∙ is)
 
-pub pin-fault : (so_far : CellsSoFar) (entry : Entry) (line : ℕ) (bytes : List ℕ) (fault : LibFault) (rest : List StreamItem) (r : Result Target LibFault) → r ≡ on_line line (target_of (pins_of entry) bytes) → r ≡ Err fault
-    → pin_on so_far entry (word_on line bytes ∷ rest) ≡ broken fault
-pin-fault so_far entry line bytes fault rest r said is =
-    ap (λ (x : Result Target LibFault). opened_by so_far (and_then (with_rest rest x) (λ t others. behind_target entry t pin_fields no_delay others))) (sym said ∙ is)
-
 abbrev field_step : CellsSoFar → Entry → Target → Field → List StreamItem → Result Micro LibFault → Reading CellsSoFar
 field_step so_far entry pins field rest r = opened_by so_far (and_then (and_then (with_rest rest r) (λ larger others. delay_from (fields_behind field) larger others)) (λ delay others. done (with_delay entry pins delay) others))
 
@@ -188,10 +164,6 @@ pub moved : {P : Type 0} (r s : Reading CellsSoFar) (result : Result P LibFault)
 moved r s result next_of is h =
     subst (λ (x : Reading CellsSoFar). MatchResult result (λ new. reads_on (piece_by x) ≡ next_of new) (BreaksAt (reads_on (piece_by x)))) (sym is) h
 
-pub ended-breaks : (so_far : CellsSoFar) (line : ℕ) (bytes : List ℕ) (rest : List StreamItem) (r : Reading CellsSoFar) (fault : LibFault) → r ≡ entry_behind so_far line bytes rest → TellsErr (entry_ended so_far) fault → BreaksAt (reads_on (piece_by r)) fault
-ended-breaks so_far line bytes rest r (Line at kind) is said = breaks at kind r (is ∙ ended-fault so_far line bytes rest at kind said)
-ended-breaks so_far line bytes rest r Memory is said = tt
-
 pub open-none : (so_far : CellsSoFar) → so_far.entry ≡ None → with_open so_far None ≡ so_far
 open-none so_far none = ap (λ (e : Option Entry). with_open so_far e) (sym none)
 
@@ -201,12 +173,6 @@ pub function-ends : (so_far : CellsSoFar) (entry : Entry) (gate : ℕ) (name : L
 function-ends so_far entry gate name area text line left rest begun =
     ap (λ (r : Result Entry LibFault). reads_on (piece_by (opened_by so_far (with_rest (left_over line left ++ rest) r)))) begun
     ∙ piece-again (with_open so_far (Some entry)) (left_over line left ++ rest)
-
-pub function-breaks : (so_far : CellsSoFar) (gate : ℕ) (name : List ℕ) (area : Micro) (text : FunctionText) (line : ℕ) (stream : List StreamItem) (fault : LibFault) → TellsErr (entry_begun gate name area (with_end text line)) fault
-    → BreaksAt (reads_on (piece_by (opened_by so_far (with_rest stream (entry_begun gate name area (with_end text line)))))) fault
-function-breaks so_far gate name area text line stream (Line at kind) said =
-    breaks at kind (opened_by so_far (with_rest stream (entry_begun gate name area (with_end text line)))) (ap (λ (r : Result Entry LibFault). opened_by so_far (with_rest stream r)) said)
-function-breaks so_far gate name area text line stream Memory said = tt
 
 pub outcome-moved : {P : Type 0} (result : Result P LibFault) (next_of : P → Outcome) (a b : Outcome) → a ≡ b → MatchResult result (λ (new : P). b ≡ next_of new) (BreaksAt b) → MatchResult result (λ (new : P). a ≡ next_of new) (BreaksAt a)
 outcome-moved result next_of a b is h = subst (λ (o : Outcome). MatchResult result (λ new. o ≡ next_of new) (BreaksAt o)) (sym is) h
@@ -246,14 +212,6 @@ breaks-any Memory r is = tt
 pub larger-fault : (line : ℕ) (delay : Micro) (r : Result Micro LibKind) (fault : LibFault) → Err fault ≡ on_line line r → Err fault ≡ on_line line (larger delay r)
 larger-fault line delay (Ok x) fault e = cc
 larger-fault line delay (Err kind) fault e = e
-
-pub larger-done : (line : ℕ) (delay : Micro) (r : Result Micro LibKind) (block : Micro) → Ok block ≡ on_line line r → Ok (record { 0 = max delay.0 block.0 }) ≡ on_line line (larger delay r)
-larger-done line delay (Ok x) block e = ap (again line delay) e
-  where
-    again : ℕ → Micro → Result Micro LibFault → Result Micro LibFault
-    again n d (Ok m) = Ok (record { 0 = max d.0 m.0 })
-    again n d (Err f) = Err f
-larger-done line delay (Err kind) block e = cc
 
 pub resume-at : (state : ReaderState) (p : Expect) (stream : List StreamItem) → state.expect ≡ p → resume state stream ≡ reads_on (piece_at state.so_far p stream)
 unfolding resume

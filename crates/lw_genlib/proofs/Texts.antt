@@ -2,7 +2,7 @@
 use Rattle.std.proofs.Common.{ℕ, zero, suc, ◌+◌, ◌-◌, ◌≡◌, ◌≤◌, Bool, true, false, not, ◌||◌, ◌&&◌, cond, List, [], ◌∷◌, ◌++◌, length, take, length-take, refl, ap, ap₂, sym, ◌∙◌, subst, arith, length-append}
 use Rattle.std.specs.Prelude.{replicate}
 use Rattle.std.specs.List.{list_any, list_all, before_first, position_or_len}
-use Rattle.std.proofs.lemmas.Bool.{false≢true}
+use Rattle.std.proofs.lemmas.Bool.{false≢true, and_parts, or_parts}
 use Rattle.std.proofs.lemmas.List.{length-replicate}
 use Rattle.std.proofs.lemmas.List.Folds.{list_any-append}
 use Rattle.lw_genlib.specs.declared.token.Token.{Token}
@@ -41,22 +41,6 @@ byte-end b (Punct c ∷ tokens) = refl
 
 -- The tokens of a word.
 
-left_true : (v w : Bool) → (v && w) ≡ true → v ≡ true
-left_true true w e = refl
-left_true false w e = e
-
-right_true : (v w : Bool) → (v && w) ≡ true → w ≡ true
-right_true true w e = e
-right_true false w e = absurd (false≢true e)
-
-left_false : (v w : Bool) → (v || w) ≡ false → v ≡ false
-left_false true w e = cc
-left_false false w e = refl
-
-right_false : (v w : Bool) → (v || w) ≡ false → w ≡ false
-right_false true w e = cc
-right_false false w e = e
-
 runs-step : (n b : ℕ) (tokens : List Token) (m : Bool) → is_punct_byte b ≡ m → is_word_byte b ≡ true → AreRunsWithin n tokens → AreRunsWithin (n + 1) (cond m (Punct b ∷ tokens) (with_byte b tokens))
 runs-step n b tokens true is word h = more-runs n tokens h
 runs-step n b tokens false is word h = byte-runs n b tokens word is h
@@ -66,8 +50,8 @@ runs_in [] words = tt
 runs_in (b ∷ bytes) words =
     let size : length bytes + 1 ≡ length (b ∷ bytes) = omega arith in
     subst (λ n. AreRunsWithin n (tokens_in (b ∷ bytes))) size
-    (runs-step (length bytes) b (tokens_in bytes) (is_punct_byte b) refl (left_true (is_word_byte b) (list_all is_word_byte bytes) words)
-    (runs_in bytes (right_true (is_word_byte b) (list_all is_word_byte bytes) words)))
+    (runs-step (length bytes) b (tokens_in bytes) (is_punct_byte b) refl (and_parts (is_word_byte b) (list_all is_word_byte bytes) words).0
+    (runs_in bytes (and_parts (is_word_byte b) (list_all is_word_byte bytes) words).1))
 
 pub count_in : (bytes : List ℕ) → length (tokens_in bytes) ≤ length bytes
 count_in [] = omega arith
@@ -84,7 +68,7 @@ end-step b tokens false none h = byte-end b tokens ∙ h
 pub no_end_in : (bytes : List ℕ) → list_any is_end bytes ≡ false → list_any (is_punct 59) (tokens_in bytes) ≡ false
 no_end_in [] none = refl
 no_end_in (b ∷ bytes) none =
-    end-step b (tokens_in bytes) (is_punct_byte b) (left_false (is_end b) (list_any is_end bytes) none) (no_end_in bytes (right_false (is_end b) (list_any is_end bytes) none))
+    end-step b (tokens_in bytes) (is_punct_byte b) (or_parts (is_end b) (list_any is_end bytes) none).0 (no_end_in bytes (or_parts (is_end b) (list_any is_end bytes) none).1)
 
 runs-up-to : (n m : ℕ) (tokens : List Token) → n ≤ m → AreRunsWithin n tokens → AreRunsWithin m tokens
 runs-up-to n m [] le h = tt
@@ -141,14 +125,14 @@ any-take-suc b bytes n here h =
     let next : 1 + n ≡ suc n = omega arith in
     ap (λ m. list_any is_end (take m (b ∷ bytes))) next ∙ ap₂ (λ v w. v || w) here h
 
-all-take : (n : ℕ) (bytes : List ℕ) → list_all is_word_byte bytes ≡ true → list_all is_word_byte (take n bytes) ≡ true
+pub all-take : (n : ℕ) (bytes : List ℕ) → list_all is_word_byte bytes ≡ true → list_all is_word_byte (take n bytes) ≡ true
 all-take zero bytes h = refl
 all-take (suc n) [] h = refl
-all-take (suc n) (b ∷ bytes) h = ap₂ (λ v w. v && w) (left_true (is_word_byte b) (list_all is_word_byte bytes) h) (all-take n bytes (right_true (is_word_byte b) (list_all is_word_byte bytes) h))
+all-take (suc n) (b ∷ bytes) h = ap₂ (λ v w. v && w) (and_parts (is_word_byte b) (list_all is_word_byte bytes) h).0 (all-take n bytes (and_parts (is_word_byte b) (list_all is_word_byte bytes) h).1)
 
 pub before-none : (bytes : List ℕ) → list_any is_end bytes ≡ false → before_first is_end bytes ≡ bytes
 before-none [] none = refl
-before-none (b ∷ bytes) none = at (is_end b) (left_false (is_end b) (list_any is_end bytes) none) (before-none bytes (right_false (is_end b) (list_any is_end bytes) none))
+before-none (b ∷ bytes) none = at (is_end b) (or_parts (is_end b) (list_any is_end bytes) none).0 (before-none bytes (or_parts (is_end b) (list_any is_end bytes) none).1)
   where
     at : (e : Bool) → e ≡ false → before_first is_end bytes ≡ bytes → take (cond (not e) (1 + position_or_len is_end bytes) 0) (b ∷ bytes) ≡ b ∷ bytes
     at true is h = cc

@@ -1,5 +1,5 @@
 -- What a reader stands for: the lines that it was given.
-use Rattle.std.specs.Prelude.{ℕ, ⊤, ◌≡◌, List, ◌∷◌, ◌++◌, Option, Some, None, Result, Ok, Err, All}
+use Rattle.std.specs.Prelude.{ℕ, ⊤, ◌≡◌, List, ◌∷◌, ◌++◌, Option, Some, None, Result, Ok, Err, All, MatchResult}
 use Rattle.lw_words.specs.Lines.{LogicalLine}
 use Rattle.lw_words.specs.Gathering.{IsNoHash}
 use Rattle.lw_genlib.specs.declared.fault.LibFault.{LibFault}
@@ -11,6 +11,7 @@ use Rattle.lw_genlib.specs.declared.reader.Status.{Status}
 use Rattle.lw_genlib.specs.declared.reader.Status.TheVariants.{Reading, Stopped}
 use Rattle.lw_genlib.specs.declared.reader.LibReader.{LibReader}
 use Rattle.lw_genlib.specs.Streams.{StreamItem, stream_of, last_number}
+use Rattle.lw_genlib.specs.Streams as streams
 use Rattle.lw_genlib.specs.Fields.{fields_behind}
 use Rattle.lw_genlib.specs.Entries as entry
 use Rattle.lw_genlib.specs.Libraries as library
@@ -39,6 +40,12 @@ resume state stream = reads_on (piece_at state.so_far state.expect stream)
 abbrev pub BreaksAt : library.Outcome → LibFault → Type 0
 BreaksAt outcome (Line line kind) = outcome.fault ≡ Some (Line line kind)
 BreaksAt outcome Memory = ⊤
+
+-- A word was read: what comes of this step, and of the pieces behind it, is what comes of the new state with the rest, or
+-- it breaks at this fault.
+abbrev pub ReadsOn : streams.Reading library.CellsSoFar → Result ReaderState LibFault → List StreamItem → Type 0
+ReadsOn step result rest =
+    MatchResult result (λ (new : ReaderState). reads_on (library.piece_by step) ≡ resume new rest) (BreaksAt (reads_on (library.piece_by step)))
 
 -- whatever follows the lines
 abbrev pub IsAt : Status → ℕ → List LogicalLine → Type 0

@@ -5,7 +5,7 @@ ghost use Rattle.lw_genlib.specs.Streams.{StreamItem, word_on, with_rest};
 ghost use Rattle.lw_genlib.specs.Entries as words;
 ghost use Rattle.lw_genlib.specs.Libraries as library;
 ghost use Rattle.lw_genlib.specs.Expects.{HasRoom};
-ghost use Rattle.lw_genlib.specs.Standing.{resume, reads_on, BreaksAt};
+ghost use Rattle.lw_genlib.specs.Standing.{resume, reads_on, BreaksAt, ReadsOn};
 ghost use Rattle.lw_genlib.specs.Fields.{fields_behind};
 
 use crate::cells_so_far::end_entry;
@@ -62,12 +62,9 @@ fn read_piece(
     word: &[u8],
 ) -> Result<ReaderState, LibFault>
     requires { IfSome entry (λ e. HasRoom so_far.cells) }
-    ensures { (rest : List StreamItem) → MatchResult result
-        (λ new. reads_on (library.piece_by
-        (library.words_behind (library.with_open so_far entry) entry line word.now rest))
-        ≡ resume new rest)
-        (BreaksAt (reads_on (library.piece_by
-        (library.words_behind (library.with_open so_far entry) entry line word.now rest)))) }
+    ensures { (rest : List StreamItem) → ReadsOn
+        (library.words_behind (library.with_open so_far entry) entry line word.now rest)
+        result rest }
 {
     let _ = &so_far.cells;
     match entry {
@@ -85,13 +82,9 @@ fn read_behind(
     word: &[u8],
 ) -> Result<ReaderState, LibFault>
     requires { HasRoom so_far.cells }
-    ensures { (rest : List StreamItem) → MatchResult result
-        (λ new. reads_on (library.piece_by
-        (library.words_behind (library.with_open so_far (Some entry))
-        (Some entry) line word.now rest)) ≡ resume new rest)
-        (BreaksAt (reads_on (library.piece_by
-        (library.words_behind (library.with_open so_far (Some entry))
-        (Some entry) line word.now rest)))) }
+    ensures { (rest : List StreamItem) → ReadsOn
+        (library.words_behind (library.with_open so_far (Some entry)) (Some entry) line word.now
+        rest) result rest }
 {
     if word == b"PIN".as_slice() {
         return Ok(ReaderState {
@@ -106,10 +99,8 @@ fn read_behind(
 // A word that begins an entry.
 fn read_entry(so_far: CellsSoFar, line: u32, word: &[u8]) -> Result<ReaderState, LibFault>
     requires { so_far.entry ≡ None }
-    ensures { (rest : List StreamItem) → MatchResult result
-        (λ new. reads_on (library.piece_by (library.entry_on line word.now rest so_far))
-        ≡ resume new rest)
-        (BreaksAt (reads_on (library.piece_by (library.entry_on line word.now rest so_far)))) }
+    ensures { (rest : List StreamItem) → ReadsOn
+        (library.entry_on line word.now rest so_far) result rest }
 {
     if word == b"LATCH".as_slice() {
         return Ok(ReaderState {
@@ -138,11 +129,8 @@ fn read_name(
 ) -> Result<ReaderState, LibFault>
     requires room { HasRoom so_far.cells }
     requires word { IsWord 4095 word.now }
-    ensures { (rest : List StreamItem) → MatchResult result
-        (λ new. reads_on (library.piece_by
-        (library.gate_on so_far gate (word_on line word.now ∷ rest))) ≡ resume new rest)
-        (BreaksAt (reads_on (library.piece_by
-        (library.gate_on so_far gate (word_on line word.now ∷ rest))))) }
+    ensures { (rest : List StreamItem) → ReadsOn
+        (library.gate_on so_far gate (word_on line word.now ∷ rest)) result rest }
 {
     let Some(name) = cell_name(word) else {
         return Err(LibFault::Line(line, LibKind::Expected));
@@ -164,12 +152,9 @@ fn read_area(
 ) -> Result<ReaderState, LibFault>
     requires room { HasRoom so_far.cells }
     requires name { IsWord 4095 name }
-    ensures { (rest : List StreamItem) → MatchResult result
-        (λ new. reads_on (library.piece_by
-        (library.opened_by so_far (words.behind_name gate name (word_on line word.now ∷ rest))))
-        ≡ resume new rest)
-        (BreaksAt (reads_on (library.piece_by
-        (library.opened_by so_far (words.behind_name gate name (word_on line word.now ∷ rest)))))) }
+    ensures { (rest : List StreamItem) → ReadsOn
+        (library.opened_by so_far (words.behind_name gate name (word_on line word.now ∷ rest)))
+        result rest }
 {
     let area = number(line, word)?;
     let header = GateHeader {
@@ -194,13 +179,9 @@ fn read_function(
 ) -> Result<ReaderState, LibFault>
     requires room { HasRoom so_far.cells }
     requires word { IsWord 4095 word.now }
-    ensures { (rest : List StreamItem) → MatchResult result
-        (λ new. reads_on (library.piece_by
+    ensures { (rest : List StreamItem) → ReadsOn
         (library.opened_by so_far (words.behind_words header.line header.name header.area text
-        (word_on line word.now ∷ rest)))) ≡ resume new rest)
-        (BreaksAt (reads_on (library.piece_by
-        (library.opened_by so_far (words.behind_words header.line header.name header.area text
-        (word_on line word.now ∷ rest)))))) }
+        (word_on line word.now ∷ rest))) result rest }
 {
     let (part, behind) = around_end(word);
     if part.len() >= text.room {
@@ -226,14 +207,10 @@ fn end_function(
     left: &[u8],
 ) -> Result<ReaderState, LibFault>
     requires room { HasRoom so_far.cells }
-    ensures { (rest : List StreamItem) → MatchResult result
-        (λ new. reads_on (library.piece_by
+    ensures { (rest : List StreamItem) → ReadsOn
         (library.opened_by so_far (with_rest (words.left_over line left.now ++ rest)
-        (words.entry_begun header.line header.name header.area (words.with_end text line)))))
-        ≡ resume new rest)
-        (BreaksAt (reads_on (library.piece_by
-        (library.opened_by so_far (with_rest (words.left_over line left.now ++ rest)
-        (words.entry_begun header.line header.name header.area (words.with_end text line))))))) }
+        (words.entry_begun header.line header.name header.area (words.with_end text line))))
+        result rest }
 {
     let entry = begin_entry(alloc, header, text, line)?;
     if left.is_empty() {
@@ -252,13 +229,9 @@ fn read_pin(
     word: &[u8],
 ) -> Result<ReaderState, LibFault>
     requires { HasRoom so_far.cells }
-    ensures { (rest : List StreamItem) → MatchResult result
-        (λ new. reads_on (library.piece_by
-        (library.pin_on (library.with_open so_far (Some entry)) entry (word_on line word.now ∷ rest)))
-        ≡ resume new rest)
-        (BreaksAt (reads_on (library.piece_by
-        (library.pin_on (library.with_open so_far (Some entry)) entry
-        (word_on line word.now ∷ rest))))) }
+    ensures { (rest : List StreamItem) → ReadsOn
+        (library.pin_on (library.with_open so_far (Some entry)) entry (word_on line word.now ∷
+        rest)) result rest }
 {
     let pins = target(entry.pins(), line, word)?;
     Ok(ReaderState {
@@ -279,15 +252,9 @@ fn read_field(
 ) -> Result<ReaderState, LibFault>
     requires room { HasRoom so_far.cells }
     requires small { IsSmall delay }
-    ensures { (rest : List StreamItem) → MatchResult result
-        (λ new. reads_on (library.piece_by
-        (library.opened_by (library.with_open so_far (Some entry))
-        (words.behind_target entry pins (field ∷ fields_behind field) delay
-        (word_on line word.now ∷ rest)))) ≡ resume new rest)
-        (BreaksAt (reads_on (library.piece_by
-        (library.opened_by (library.with_open so_far (Some entry))
-        (words.behind_target entry pins (field ∷ fields_behind field) delay
-        (word_on line word.now ∷ rest)))))) }
+    ensures { (rest : List StreamItem) → ReadsOn
+        (library.opened_by (library.with_open so_far (Some entry)) (words.behind_target entry pins
+        (field ∷ fields_behind field) delay (word_on line word.now ∷ rest))) result rest }
 {
     match delay_behind(field, delay, line, word) {
         Ok(more) => Ok(behind_field(so_far, entry, pins, field, more)),
