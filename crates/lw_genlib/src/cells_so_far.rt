@@ -104,7 +104,8 @@ fn with_cell(so_far: CellsSoFar, cell: Cell) -> Result<CellsSoFar, AllocError>
     requires one_form { form_count cell ≡ 1 }
     requires new_name { list_any (λ (other : CellParts). bytes_eq cell.name other.name) so_far.cells
         ≡ false }
-    ensures { IfOk result (λ new. new ≡ record { cells = so_far.cells ++ cell ∷ []; entry = None }) }
+    ensures { IfOk result (λ new. new
+        ≡ record { cells = so_far.cells ++ cell ∷ []; entry = None }) }
 {
     let CellsSoFar { mut cells, entries } = so_far;
     cells.push(cell)?;

@@ -130,7 +130,8 @@ fn equals_behind(equals: bool, token: &Token) -> bool
 }
 
 fn constant_behind(count: usize, constant: bool, token: &Token) -> bool
-    ensures { result ≡ (if count == 0 then false else (constant || function.is_constant token.now)) }
+    ensures { result
+        ≡ (if count == 0 then false else (constant || function.is_constant token.now)) }
 {
     count != 0 && (constant || function_check::is_constant(token))
 }

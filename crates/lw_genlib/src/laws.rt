@@ -11,17 +11,17 @@ ghost use Rattle.lw_genlib.specs.Cells.{CellParts, IsLibrary, IsWord};
 ghost use Rattle.lw_genlib.specs.Libraries.{library_of};
 
 /// The text of a function in which no token has a fault is the output's name, `=`, tokens and `;`,
-/// and by the grammar those tokens spell the expression that is read from them, over the pins in the
-/// order in which they first stand.
+/// and by the grammar those tokens spell the expression that is read from them, over the pins in
+/// the order in which they first stand.
 pub fn functions_say_what_is_read()
-    ensures { (tokens : List Token) (lines : List ℕ) → IsText tokens → length lines ≡ length tokens →
-        first_fault [] lines tokens ≡ None →
+    ensures { (tokens : List Token) (lines : List ℕ) → IsText tokens →
+        length lines ≡ length tokens → first_fault [] lines tokens ≡ None →
         Says tokens (name_first tokens) (pins_in tokens)
         (expression_of (pins_in tokens) (inner_of tokens)) }
 {}
 
-/// Tokens that may stand one after the other spell, by the grammar, the expression that is read from
-/// them.
+/// Tokens that may stand one after the other spell, by the grammar, the expression that is read
+/// from them.
 pub fn what_is_read_is_spelled()
     ensures { (pins : List (List ℕ)) (tokens : List Token) → go_on true 0 tokens ≡ true →
         SpellsSum pins tokens (expression_of pins tokens) }

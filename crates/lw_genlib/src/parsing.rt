@@ -24,7 +24,7 @@ pub(crate) fn expression(alloc: Global, tokens: &[Token], pins: &[Name]) -> Resu
     Ok(Expr::new(ops))
 }
 
-// Reads a sum from the front of the tokens, appends its steps, and answers the tokens that are left.
+// Reads a sum from the front of the tokens, appends its steps, and gives the tokens that are left.
 #[cycle(expression)]
 fn sum<'a>(
     tokens: &'a [Token],
@@ -37,7 +37,8 @@ fn sum<'a>(
     requires short { depth + length tokens.now ≤ 2 ^ 32 }
     requires pins { length pins.now ≤ 16 }
     ensures { IfOk result (λ rest. Reads
-        (SpellsSum pins.now) grammar.after_sum depth tokens.now rest.now ops.old.items ops.new.items) }
+        (SpellsSum pins.now) grammar.after_sum depth tokens.now rest.now ops.old.items
+        ops.new.items) }
 {
     let mut rest = product(tokens, depth, pins, ops)?;
     let mut products = 1u8;
@@ -112,7 +113,8 @@ fn quoted<'a>(
     requires short { depth + length tokens.now ≤ 2 ^ 32 }
     requires pins { length pins.now ≤ 16 }
     ensures { IfOk result (λ rest. Reads
-        (IsAtom pins.now) grammar.after_factor depth tokens.now rest.now ops.old.items ops.new.items) }
+        (IsAtom pins.now) grammar.after_factor depth tokens.now rest.now ops.old.items
+        ops.new.items) }
 {
     let mut rest = atom(tokens, depth, pins, ops)?;
     while let Some(behind) = behind_punct(b'\'', rest) {
@@ -135,7 +137,8 @@ fn atom<'a>(
     requires short { depth + length tokens.now ≤ 2 ^ 32 }
     requires pins { length pins.now ≤ 16 }
     ensures { IfOk result (λ rest. Reads
-        (IsAtom pins.now) grammar.after_atom depth tokens.now rest.now ops.old.items ops.new.items) }
+        (IsAtom pins.now) grammar.after_atom depth tokens.now rest.now ops.old.items
+        ops.new.items) }
 {
     if let Some(inner) = behind_punct(b'(', tokens) {
         let rest = sum(inner, depth + 1, pins, ops)?;

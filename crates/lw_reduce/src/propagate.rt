@@ -31,7 +31,8 @@ fn operands_of(reps: &mut [u32], nands: &[Fact], links: &[Link], fact: Fact) -> 
     requires valid { AreRepresentatives (length reps.old) nands.now links.now reps.old }
     requires within { IsFactIn (length reps.old) fact }
     ensures kept { StayRepresentatives (length reps.old) nands.now links.now reps.old reps.new }
-    ensures operands { HasOperands (length reps.old) nands.now links.now fact result.low result.high }
+    ensures operands { HasOperands (length reps.old) nands.now links.now
+        fact result.low result.high }
 {
     let left = find(reps, nands, links, fact.left);
     let right = find(reps, nands, links, fact.right);
@@ -126,8 +127,10 @@ fn has_root_operands(reps: &[u32], fact: Fact) -> bool
 // Where these operands stand among canonical facts that are sorted by their operands.
 fn find_canonical(canonical: &[Fact], operands: Operands) -> Option<usize>
     ensures within { IfSome result (λ i. i < length canonical.now) }
-    ensures left { IfSome result (λ i. (slice_index_or canonical.now i no_fact).left ≡ operands.low) }
-    ensures right { IfSome result (λ i. (slice_index_or canonical.now i no_fact).right ≡ operands.high) }
+    ensures left { IfSome result
+        (λ i. (slice_index_or canonical.now i no_fact).left ≡ operands.low) }
+    ensures right { IfSome result
+        (λ i. (slice_index_or canonical.now i no_fact).right ≡ operands.high) }
 {
     let place = canonical.partition_point(|found| {
         found.left < operands.low || (found.left == operands.low && found.right < operands.high)
@@ -250,9 +253,10 @@ fn empty_slots(alloc: Global, facts: usize) -> Result<Vec<u32>, AllocError>
     Ok(slots)
 }
 
-// Unifies forms along chains of facts: where a round gave operands new representatives, the forms of
-// their facts may become equivalent in turn. The first pass goes in the order of the facts, so that
-// where operands come before their forms one pass carries a whole chain; the second in reverse.
+// Unifies forms along chains of facts: where a round gave operands new representatives, the forms
+// of their facts may become equivalent in turn. The first pass goes in the order of the facts, so
+// that where operands come before their forms one pass carries a whole chain; the second goes in
+// reverse.
 pub(crate) fn propagate(
     alloc: Global,
     reps: &mut [u32],

@@ -111,7 +111,8 @@ fn unify_equal(reps: &mut [u32], nands: &[Fact], links: &[Link], canonical: &[Fa
     requires canonical { All (IsImplied (length reps.old) nands.now links.now) canonical.now }
     ensures progress { Progresses (length reps.old) nands.now links.now reps.old reps.new result }
     ensures same { IsFalse result → IsFlat reps.old → (reps.new ≡ reps.old) ×
-        ((place : ℕ) → 1 ≤ place → place < length canonical.now → AgreesAt reps.old canonical.now place) }
+        ((place : ℕ) → 1 ≤ place → place < length canonical.now →
+        AgreesAt reps.old canonical.now place) }
 {
     let mut changed = false;
     for place in 1..canonical.len() {
@@ -156,7 +157,8 @@ fn are_settled(
     links: &[Link],
 ) -> Result<bool, AllocError>
     requires { AreRepresentatives (length reps.old) nands.now links.now reps.old }
-    ensures valid { IfOk result (λ own. AreRepresentatives (length reps.old) nands.now links.now reps.new) }
+    ensures valid { IfOk result
+        (λ own. AreRepresentatives (length reps.old) nands.now links.now reps.new) }
     ensures settled { IfOk result (λ own. IsTrue own →
         AreSettled (length reps.old) nands.now links.now reps.new) }
 {
