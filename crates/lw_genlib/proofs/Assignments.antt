@@ -8,6 +8,7 @@ use Rattle.std.proofs.lemmas.Nat.{pow-add}
 use Rattle.std.proofs.Math.Nat.{pow-le-pow_right}
 use Rattle.std.proofs.lemmas.Nat.Bits.{bit_at_cat_low, bit_at_cat_high, bit_at-lt, shr_and_one, same_from_bits_below}
 use Rattle.std.proofs.lemmas.Bool.Decides.{nat_tests}
+use Rattle.std.proofs.lemmas.Bool.{and_parts}
 use Rattle.lw_laws.specs.Expressions.{Expr, Exprs, expr_value, all_true, some_true, MentionsPin, SomeMentionsPin}
 use Rattle.lw_laws.specs.Expressions.Expr.{expr_const, expr_pin, expr_not, expr_and, expr_or}
 use Rattle.lw_laws.specs.Expressions.Exprs.{no_exprs, more_exprs}
@@ -37,18 +38,13 @@ abbrev all_below : (ℕ → Bool) → ℕ → Bool
 all_below p zero = true
 all_below p (suc n) = p n && all_below p n
 
-both : (a b : Bool) → (a && b) ≡ true → (a ≡ true) × (b ≡ true)
-both true true e = (refl, refl)
-both true false e = cc
-both false b e = cc
-
 below_passes : (p : ℕ → Bool) (n k : ℕ) → all_below p n ≡ true → k < n → p k ≡ true
 below_passes p zero k all lt = absurd (omega arith)
-below_passes p (suc n) k all lt = at_place (dec_lt k n) (below_passes p n k (both (p n) (all_below p n) all).1)
+below_passes p (suc n) k all lt = at_place (dec_lt k n) (below_passes p n k (and_parts (p n) (all_below p n) all).1)
   where
     at_place : Dec (k < n) → (k < n → p k ≡ true) → p k ≡ true
     at_place (yes less) earlier = earlier less
-    at_place (no more) earlier = let same : k ≡ n = omega arith in ap p same ∙ (both (p n) (all_below p n) all).0
+    at_place (no more) earlier = let same : k ≡ n = omega arith in ap p same ∙ (and_parts (p n) (all_below p n) all).0
 
 abbrev alike : Bool → Bool → Bool
 alike true b = b

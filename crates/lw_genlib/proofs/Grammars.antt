@@ -1,12 +1,12 @@
--- What signs spell has as many literals as names stand among them, and no operator of fewer than two operands.
+-- What tokens spell has as many literals as names stand among them, and no operator of fewer than two operands.
 use Rattle.std.proofs.Common.{ℕ, ◌+◌, ◌≤◌, ◌≡◌, Bool, true, false, cond, List, [], ◌∷◌, ◌++◌, length, refl, sym, ap, ◌∙◌, subst, arith, length-append, append-nil}
 use Rattle.lw_laws.specs.Expressions.{Expr}
 use Rattle.lw_laws.specs.Expressions.Expr.{expr_const, expr_pin, expr_not}
-use Rattle.lw_genlib.specs.declared.sign.Sign.{Sign}
+use Rattle.lw_genlib.specs.declared.token.Token.{Token}
 use Rattle.lw_genlib.specs.declared.op.ExprOp.{ExprOp}
 use Rattle.lw_genlib.specs.Postfix.{exprs_of, postfix, literals, literals_of_all, IsWide, AreWide, IsPostfix, tree_of}
 use Rattle.lw_genlib.specs.Codes.{tree_of-postfix}
-use Rattle.lw_genlib.specs.Grammar.{literal_of, product_of, sum_of, close_sign, quote_sign, star_sign, plus_sign, IsSum, IsProduct, IsFactor, IsAtom, names_in, SpellsSum, Reads, after_sum}
+use Rattle.lw_genlib.specs.Grammar.{literal_of, product_of, sum_of, close_token, quote_token, star_token, plus_token, IsSum, IsProduct, IsFactor, IsAtom, names_in, SpellsSum, Reads, after_sum}
 use Rattle.lw_genlib.specs.Grammar.IsSum.{first_product, next_product}
 use Rattle.lw_genlib.specs.Grammar.IsProduct.{first_factor, beside_factor, times_factor}
 use Rattle.lw_genlib.specs.Grammar.IsFactor.{plain_factor, bang_factor}
@@ -61,35 +61,35 @@ literal_good false false k = record { count = refl; wide = tt }
 
 module _ (pins : List (List ℕ)) where
   mutual
-    sums_good : (signs : List Sign) (es : List Expr) → IsSum pins signs es → AreGood (names_in signs) es
-    sums_good _ _ (first_product signs es p) = alone (product_of es) (names_in signs) (product_good es (names_in signs) (products_good signs es p))
-    sums_good _ _ (next_product before signs sums es s p) =
-        one_more sums (product_of es) (names_in before) (names_in signs) (names_in (before ++ plus_sign ∷ signs)) (sums_good before sums s) (product_good es (names_in signs) (products_good signs es p)) (names_append before (plus_sign ∷ signs))
+    sums_good : (tokens : List Token) (es : List Expr) → IsSum pins tokens es → AreGood (names_in tokens) es
+    sums_good _ _ (first_product tokens es p) = alone (product_of es) (names_in tokens) (product_good es (names_in tokens) (products_good tokens es p))
+    sums_good _ _ (next_product before tokens sums es s p) =
+        one_more sums (product_of es) (names_in before) (names_in tokens) (names_in (before ++ plus_token ∷ tokens)) (sums_good before sums s) (product_good es (names_in tokens) (products_good tokens es p)) (names_append before (plus_token ∷ tokens))
 
-    products_good : (signs : List Sign) (es : List Expr) → IsProduct pins signs es → AreGood (names_in signs) es
-    products_good _ _ (first_factor signs e f) = alone e (names_in signs) (factor_good signs e f)
-    products_good _ _ (beside_factor before signs es e p f) = one_more es e (names_in before) (names_in signs) (names_in (before ++ signs)) (products_good before es p) (factor_good signs e f) (names_append before signs)
-    products_good _ _ (times_factor before signs es e p f) =
-        one_more es e (names_in before) (names_in signs) (names_in (before ++ star_sign ∷ signs)) (products_good before es p) (factor_good signs e f) (names_append before (star_sign ∷ signs))
+    products_good : (tokens : List Token) (es : List Expr) → IsProduct pins tokens es → AreGood (names_in tokens) es
+    products_good _ _ (first_factor tokens e f) = alone e (names_in tokens) (factor_good tokens e f)
+    products_good _ _ (beside_factor before tokens es e p f) = one_more es e (names_in before) (names_in tokens) (names_in (before ++ tokens)) (products_good before es p) (factor_good tokens e f) (names_append before tokens)
+    products_good _ _ (times_factor before tokens es e p f) =
+        one_more es e (names_in before) (names_in tokens) (names_in (before ++ star_token ∷ tokens)) (products_good before es p) (factor_good tokens e f) (names_append before (star_token ∷ tokens))
 
-    factor_good : (signs : List Sign) (e : Expr) → IsFactor pins signs e → IsGood (names_in signs) e
-    factor_good _ _ (plain_factor signs e a) = atom_good signs e a
-    factor_good _ _ (bang_factor signs e f) = complement_good e (names_in signs) (names_in signs) (factor_good signs e f) refl
+    factor_good : (tokens : List Token) (e : Expr) → IsFactor pins tokens e → IsGood (names_in tokens) e
+    factor_good _ _ (plain_factor tokens e a) = atom_good tokens e a
+    factor_good _ _ (bang_factor tokens e f) = complement_good e (names_in tokens) (names_in tokens) (factor_good tokens e f) refl
 
-    atom_good : (signs : List Sign) (e : Expr) → IsAtom pins signs e → IsGood (names_in signs) e
+    atom_good : (tokens : List Token) (e : Expr) → IsAtom pins tokens e → IsGood (names_in tokens) e
     atom_good _ _ (name_atom name) = subst (λ n. IsGood n (literal_of pins name)) refl (literal_good _ _ _)
-    atom_good _ _ (group_atom signs es s) =
-        let names : names_in (signs ++ close_sign ∷ []) ≡ names_in signs + 0 = names_append signs (close_sign ∷ []) in
-        subst (λ n. IsGood n (sum_of es)) (omega arith) (sum_good es (names_in signs) (sums_good signs es s))
-    atom_good _ _ (quoted_atom signs e a) =
-        let names : names_in (signs ++ quote_sign ∷ []) ≡ names_in signs + 0 = names_append signs (quote_sign ∷ []) in
-        complement_good e (names_in signs) (names_in (signs ++ quote_sign ∷ [])) (atom_good signs e a) (omega arith)
+    atom_good _ _ (group_atom tokens es s) =
+        let names : names_in (tokens ++ close_token ∷ []) ≡ names_in tokens + 0 = names_append tokens (close_token ∷ []) in
+        subst (λ n. IsGood n (sum_of es)) (omega arith) (sum_good es (names_in tokens) (sums_good tokens es s))
+    atom_good _ _ (quoted_atom tokens e a) =
+        let names : names_in (tokens ++ quote_token ∷ []) ≡ names_in tokens + 0 = names_append tokens (quote_token ∷ []) in
+        complement_good e (names_in tokens) (names_in (tokens ++ quote_token ∷ [])) (atom_good tokens e a) (omega arith)
 
-  pub spelled_postfix : (signs : List Sign) (e : Expr) → SpellsSum pins signs e → names_in signs ≤ 64 → IsPostfix (postfix e)
-  spelled_postfix signs e (es, s, is) few =
-      let good : IsGood (names_in signs) (sum_of es) = sum_good es (names_in signs) (sums_good signs es s) in
-      let whole : IsGood (names_in signs) e = subst (IsGood (names_in signs)) (sym is) good in
-      let count : literals e ≡ names_in signs = whole.count in
+  pub spelled_postfix : (tokens : List Token) (e : Expr) → SpellsSum pins tokens e → names_in tokens ≤ 64 → IsPostfix (postfix e)
+  spelled_postfix tokens e (es, s, is) few =
+      let good : IsGood (names_in tokens) (sum_of es) = sum_good es (names_in tokens) (sums_good tokens es s) in
+      let whole : IsGood (names_in tokens) e = subst (IsGood (names_in tokens)) (sym is) good in
+      let count : literals e ≡ names_in tokens = whole.count in
       let back : tree_of (postfix e) ≡ e = tree_of-postfix e in
       record {
         whole = ap postfix back;
@@ -98,17 +98,17 @@ module _ (pins : List (List ℕ)) where
       }
 
 -- What was read as a whole.
-pub record IsWhole (pins : List (List ℕ)) (signs : List Sign) (ops : List ExprOp) : Type 0 where
+pub record IsWhole (pins : List (List ℕ)) (tokens : List Token) (ops : List ExprOp) : Type 0 where
   pub steps : IsPostfix ops
-  pub spelled : SpellsSum pins signs (tree_of ops)
+  pub spelled : SpellsSum pins tokens (tree_of ops)
 
-pub whole_read : (pins : List (List ℕ)) (signs rest : List Sign) (old new : List ExprOp) → Reads (SpellsSum pins) after_sum 0 signs rest old new → old ≡ [] → names_in signs ≤ 64 → IsWhole pins signs new
-whole_read pins signs rest old new r none few =
-    let all : signs ≡ r.read = r.whole ∙ (ap (λ b. r.read ++ b) (nothing_left rest r.left r.stops) ∙ append-nil r.read) in
+pub whole_read : (pins : List (List ℕ)) (tokens rest : List Token) (old new : List ExprOp) → Reads (SpellsSum pins) after_sum 0 tokens rest old new → old ≡ [] → names_in tokens ≤ 64 → IsWhole pins tokens new
+whole_read pins tokens rest old new r none few =
+    let all : tokens ≡ r.read = r.whole ∙ (ap (λ b. r.read ++ b) (nothing_left rest r.left r.stops) ∙ append-nil r.read) in
     let steps : new ≡ postfix r.tree = r.steps ∙ ap (λ o. o ++ postfix r.tree) none in
-    let spelled : SpellsSum pins signs r.tree = subst (λ s. SpellsSum pins s r.tree) (sym all) r.spelled in
+    let spelled : SpellsSum pins tokens r.tree = subst (λ s. SpellsSum pins s r.tree) (sym all) r.spelled in
     let back : tree_of new ≡ r.tree = ap tree_of steps ∙ tree_of-postfix r.tree in
     record {
-      steps = subst IsPostfix (sym steps) (spelled_postfix pins signs r.tree spelled few);
-      spelled = subst (SpellsSum pins signs) (sym back) spelled;
+      steps = subst IsPostfix (sym steps) (spelled_postfix pins tokens r.tree spelled few);
+      spelled = subst (SpellsSum pins tokens) (sym back) spelled;
     }

@@ -8,7 +8,7 @@ mod Faultless
 mod Fronts
 mod Grammars
 mod NameRuns
-mod Joins
+mod MergeLemmas
 mod LibraryExamples
 mod Lines
 mod Listed
@@ -18,7 +18,7 @@ mod Pieces
 mod Pins
 mod Plain
 mod Running
-mod Sighting
+mod CheckLemmas
 mod Small
 mod Spelled
 mod Spelling

@@ -4,9 +4,10 @@ use Rattle.std.specs.Prelude.{All, Contains, MatchOption, MatchResult, IfOk}
 use Rattle.std.specs.List.{list_any, position, position_or_len}
 use Rattle.std.proofs.lemmas.List.{length-map}
 use Rattle.std.proofs.lemmas.Bool.Decides.{nat_tests}
+use Rattle.std.proofs.lemmas.Bool.{or_parts}
 use Rattle.lw_fixed.specs.declared.micro.Micro.{Micro}
 use Rattle.lw_laws.specs.Expressions.{Expr, expr_value}
-use Rattle.lw_genlib.specs.declared.sign.Sign.{Sign}
+use Rattle.lw_genlib.specs.declared.token.Token.{Token}
 use Rattle.lw_genlib.specs.declared.fault.LibFault.{LibFault}
 use Rattle.lw_genlib.specs.declared.fault.LibFault.TheVariants.{Line, Memory}
 use Rattle.lw_genlib.specs.declared.fault.LibKind.TheVariants.{PinMissing}
@@ -14,8 +15,8 @@ use Rattle.lw_genlib.specs.Cells.{CellParts, IsForm, IsSmall, IsListed, HaveOneT
 use Rattle.lw_genlib.specs.Spelled.{expression_of}
 use Rattle.lw_genlib.specs.Entries.{Entry, pins_of}
 use Rattle.lw_genlib.specs.Kept.{IsFunction, IsEntry, IsSmallDelay}
-use Rattle.lw_genlib.specs.Joining.{name_first, output_of, own_or, delay_by, delays_of, form_over, cell_of, lacks_delay, is_missing, joined, joined_at, place_of}
-use Rattle.lw_genlib.specs.Libraries.{Book, with_open, with_cells, entry_ended}
+use Rattle.lw_genlib.specs.Merging.{name_first, output_of, own_or, delay_by, delays_of, form_over, cell_of, lacks_delay, is_missing, merged, merged_at, place_of}
+use Rattle.lw_genlib.specs.Libraries.{CellsSoFar, with_open, with_cells, entry_ended}
 use Rattle.lw_genlib.specs.Tells.{TellsErr}
 use Rattle.lw_genlib.proofs.Agreeing.{inner-is}
 
@@ -45,7 +46,7 @@ small-delays every (own ∷ named) h g (suc k) d below = small-delays every name
 abbrev parts : Entry → List ℕ → List (List ℕ) → Expr → CellParts
 parts entry output pins form = record { name = entry.name; area = entry.area; output = output; pins = pins; delays = delays_of entry; forms = form ∷ [] }
 
-listed-parts : (entry : Entry) (output : List ℕ) (pins : List (List ℕ)) (form : Expr) → IsEntry entry.name entry.area entry.signs output pins form entry.named entry.every → IsListed (parts entry output pins form)
+listed-parts : (entry : Entry) (output : List ℕ) (pins : List (List ℕ)) (form : Expr) → IsEntry entry.name entry.area entry.tokens output pins form entry.named entry.every → IsListed (parts entry output pins form)
 listed-parts entry output pins form h = record {
   kept = record {
     few_pins = h.function.few_pins;
@@ -62,28 +63,16 @@ listed-parts entry output pins form h = record {
   pins_differ = h.function.pins_differ;
 }
 
-pub form-read : (entry : Entry) (output : List ℕ) (pins : List (List ℕ)) (form : Expr) → IsFunction entry.signs output pins form → form_over (pins_of entry) entry ≡ form
-form-read entry output pins form f =
-    ap₂ (λ (ps : List (List ℕ)) (s : List Sign). expression_of ps s) (sym f.pins_are) (inner-is entry.signs output pins form f) ∙ sym f.form_is
-
-pub listed-cell : (entry : Entry) (output : List ℕ) (pins : List (List ℕ)) (form : Expr) → IsEntry entry.name entry.area entry.signs output pins form entry.named entry.every → IsListed (cell_of entry)
+pub listed-cell : (entry : Entry) (output : List ℕ) (pins : List (List ℕ)) (form : Expr) → IsEntry entry.name entry.area entry.tokens output pins form entry.named entry.every → IsListed (cell_of entry)
 listed-cell entry output pins form h =
-    let f : IsFunction entry.signs output pins form = h.function in
+    let f : IsFunction entry.tokens output pins form = h.function in
     let out : output_of entry ≡ output = ap name_first f.whole in
     let named : pins_of entry ≡ pins = sym f.pins_are in
-    let read : form_over (pins_of entry) entry ≡ form = ap₂ (λ (ps : List (List ℕ)) (s : List Sign). expression_of ps s) named (inner-is entry.signs output pins form f) ∙ sym f.form_is in
+    let read : form_over (pins_of entry) entry ≡ form = ap₂ (λ (ps : List (List ℕ)) (s : List Token). expression_of ps s) named (inner-is entry.tokens output pins form f) ∙ sym f.form_is in
     subst IsListed (sym (ap (λ (o : List ℕ). parts entry o (pins_of entry) (form_over (pins_of entry) entry)) out ∙ ap₂ (λ (ps : List (List ℕ)) (e : Expr). parts entry output ps e) named read))
     (listed-parts entry output pins form h)
 
 -- Places.
-
-left_false : (v w : Bool) → (v || w) ≡ false → v ≡ false
-left_false true w e = cc
-left_false false w e = refl
-
-right_false : (v w : Bool) → (v || w) ≡ false → w ≡ false
-right_false true w e = cc
-right_false false w e = e
 
 less-false : (a b : ℕ) → b ≤ a → nat_lt a b ≡ false
 less-false a b h = grind (arith, nat_tests)
@@ -94,7 +83,7 @@ not-less a b h = grind (arith, nat_tests)
 module _ {X : Type 0} where
   all-before : (p : X → Bool) (xs : List X) → list_any p xs ≡ false → length xs ≤ position_or_len p xs
   all-before p [] h = omega arith
-  all-before p (x ∷ xs) h = at (p x) (left_false (p x) (list_any p xs) h) (all-before p xs (right_false (p x) (list_any p xs) h))
+  all-before p (x ∷ xs) h = at (p x) (or_parts (p x) (list_any p xs) h).0 (all-before p xs (or_parts (p x) (list_any p xs) h).1)
     where
       at : (b : Bool) → b ≡ false → length xs ≤ position_or_len p xs → length (x ∷ xs) ≤ cond (not b) (1 + position_or_len p xs) 0
       at true e le = cc
@@ -135,13 +124,13 @@ module _ {X : Type 0} where
 
 -- The tests at an entry's end.
 
-pub missing : (cells : List CellParts) (entry : Entry) → lacks_delay entry ≡ true → joined cells entry ≡ Err (Line entry.line PinMissing)
-unfolding joined
-missing cells entry h = ap (λ b. cond b (Err (Line entry.line PinMissing)) (joined_at cells entry (place_of cells entry))) h
+pub missing : (cells : List CellParts) (entry : Entry) → lacks_delay entry ≡ true → merged cells entry ≡ Err (Line entry.line PinMissing)
+unfolding merged
+missing cells entry h = ap (λ b. cond b (Err (Line entry.line PinMissing)) (merged_at cells entry (place_of cells entry))) h
 
-pub none-missing : (cells : List CellParts) (entry : Entry) → lacks_delay entry ≡ false → joined cells entry ≡ joined_at cells entry (place_of cells entry)
-unfolding joined
-none-missing cells entry h = ap (λ b. cond b (Err (Line entry.line PinMissing)) (joined_at cells entry (place_of cells entry))) h
+pub none-missing : (cells : List CellParts) (entry : Entry) → lacks_delay entry ≡ false → merged cells entry ≡ merged_at cells entry (place_of cells entry)
+unfolding merged
+none-missing cells entry h = ap (λ b. cond b (Err (Line entry.line PinMissing)) (merged_at cells entry (place_of cells entry))) h
 
 pub lacks-by : (entry : Entry) (named : List (Option Micro)) (every : Option Micro) (b : Bool) → named ≡ entry.named → every ≡ entry.every → list_any (λ (own : Option Micro). is_missing (own_or every own)) named ≡ b → lacks_delay entry ≡ b
 lacks-by entry named every b named_is every_is h =
@@ -153,22 +142,22 @@ of-some o x P Q is h = subst (λ p. MatchOption p P Q) is h
 pub of-none : {A : Type 0} (o : Option A) (P : Type 0) (Q : A → Type 0) → o ≡ None → MatchOption o P Q → P
 of-none o P Q is h = subst (λ p. MatchOption p P Q) is h
 
--- The book where an entry is at its end.
+-- The cells so far where an entry is at its end.
 
-abbrev as_ok : Book → Result Book LibFault
-as_ok book = Ok book
+abbrev as_ok : CellsSoFar → Result CellsSoFar LibFault
+as_ok so_far = Ok so_far
 
-pub ended-none : (book : Book) → book.entry ≡ None → entry_ended (with_open book None) ≡ Ok book
-ended-none book none = ap (λ (e : Option Entry). as_ok (with_open book e)) (sym none)
+pub ended-none : (so_far : CellsSoFar) → so_far.entry ≡ None → entry_ended (with_open so_far None) ≡ Ok so_far
+ended-none so_far none = ap (λ (e : Option Entry). as_ok (with_open so_far e)) (sym none)
 
-pub ended-some : (book new : Book) (entry : Entry) → joined book.cells entry ≡ Ok new.cells → new.entry ≡ None → entry_ended (with_open book (Some entry)) ≡ Ok new
-ended-some book new entry is none = ap with_cells is ∙ ap (λ (e : Option Entry). as_ok (with_open new e)) (sym none)
+pub ended-some : (so_far new : CellsSoFar) (entry : Entry) → merged so_far.cells entry ≡ Ok new.cells → new.entry ≡ None → entry_ended (with_open so_far (Some entry)) ≡ Ok new
+ended-some so_far new entry is none = ap with_cells is ∙ ap (λ (e : Option Entry). as_ok (with_open new e)) (sym none)
 
-pub ended-fault : (book : Book) (entry : Entry) (fault : LibFault) → TellsErr (joined book.cells entry) fault → TellsErr (entry_ended (with_open book (Some entry))) fault
-ended-fault book entry (Line line kind) is = ap with_cells is
-ended-fault book entry Memory is = tt
+pub ended-fault : (so_far : CellsSoFar) (entry : Entry) (fault : LibFault) → TellsErr (merged so_far.cells entry) fault → TellsErr (entry_ended (with_open so_far (Some entry))) fault
+ended-fault so_far entry (Line line kind) is = ap with_cells is
+ended-fault so_far entry Memory is = tt
 
-pub ended-answer : (book : Book) (o : Option Entry) (entry : Entry) (r : Result Book LibFault) → o ≡ Some entry → MatchResult r (λ (new : Book). joined book.cells entry ≡ Ok new.cells) (TellsErr (joined book.cells entry))
-    → IfOk r (λ (new : Book). new.entry ≡ None) → MatchResult r (λ (new : Book). entry_ended (with_open book o) ≡ Ok new) (TellsErr (entry_ended (with_open book o)))
-ended-answer book o entry (Ok new) is said whole = ap (λ (p : Option Entry). entry_ended (with_open book p)) is ∙ ended-some book new entry said whole
-ended-answer book o entry (Err fault) is said whole = subst (λ (p : Option Entry). TellsErr (entry_ended (with_open book p)) fault) (sym is) (ended-fault book entry fault said)
+pub ended-answer : (so_far : CellsSoFar) (o : Option Entry) (entry : Entry) (r : Result CellsSoFar LibFault) → o ≡ Some entry → MatchResult r (λ (new : CellsSoFar). merged so_far.cells entry ≡ Ok new.cells) (TellsErr (merged so_far.cells entry))
+    → IfOk r (λ (new : CellsSoFar). new.entry ≡ None) → MatchResult r (λ (new : CellsSoFar). entry_ended (with_open so_far o) ≡ Ok new) (TellsErr (entry_ended (with_open so_far o)))
+ended-answer so_far o entry (Ok new) is said whole = ap (λ (p : Option Entry). entry_ended (with_open so_far p)) is ∙ ended-some so_far new entry said whole
+ended-answer so_far o entry (Err fault) is said whole = subst (λ (p : Option Entry). TellsErr (entry_ended (with_open so_far p)) fault) (sym is) (ended-fault so_far entry fault said)

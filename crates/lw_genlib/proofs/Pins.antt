@@ -3,22 +3,22 @@ use Rattle.std.proofs.Common.{ℕ, zero, suc, ◌≡◌, ◌<◌, Bool, true, fa
 use Rattle.std.specs.Prelude.{◌⊎◌, fold, codes}
 use Rattle.std.specs.List.{IsDistinct, AllByRecursion, position}
 use Rattle.std.specs.Str.{bytes_eq}
-use Rattle.std.proofs.lemmas.Bool.{false≢true}
+use Rattle.std.proofs.lemmas.Bool.{false≢true, or_parts}
 use Rattle.std.proofs.lemmas.List.Quantifiers.{position-Some}
 use Rattle.lw_laws.specs.Expressions.{Expr, MentionsPin, SomeMentionsPin}
 use Rattle.lw_laws.specs.Expressions.Expr.{expr_const, expr_pin}
-use Rattle.lw_genlib.specs.declared.sign.Sign.{Sign}
-use Rattle.lw_genlib.specs.declared.sign.Sign.TheVariants.{Name, Mark}
+use Rattle.lw_genlib.specs.declared.token.Token.{Token}
+use Rattle.lw_genlib.specs.declared.token.Token.TheVariants.{Name, Punct}
 use Rattle.lw_genlib.specs.Postfix.{exprs_of, IsOver}
-use Rattle.lw_genlib.specs.Grammar.{IsSum, first_product, next_product, IsProduct, first_factor, beside_factor, times_factor, IsFactor, plain_factor, bang_factor, IsAtom, name_atom, group_atom, quoted_atom, SpellsSum, literal_of, product_of, sum_of, plus_sign, star_sign, close_sign, quote_sign}
+use Rattle.lw_genlib.specs.Grammar.{IsSum, first_product, next_product, IsProduct, first_factor, beside_factor, times_factor, IsFactor, plain_factor, bang_factor, IsAtom, name_atom, group_atom, quoted_atom, SpellsSum, literal_of, product_of, sum_of, plus_token, star_token, close_token, quote_token}
 use Rattle.lw_genlib.specs.Functions.{is_constant_name, is_among, with_pin}
 use Rattle.lw_genlib.proofs.Names.{same_name, alike, differ_back, first_place}
 
--- a name that is no constant stands among the signs
-abbrev pub Named : List Sign → List ℕ → Type 0
+-- a name that is no constant stands among the tokens
+abbrev pub Named : List Token → List ℕ → Type 0
 Named [] n = ⊥
-Named (Name m ∷ signs) n = ((m ≡ n) × (is_constant_name m ≡ false)) ⊎ Named signs n
-Named (Mark b ∷ signs) n = Named signs n
+Named (Name m ∷ tokens) n = ((m ≡ n) × (is_constant_name m ≡ false)) ⊎ Named tokens n
+Named (Punct b ∷ tokens) n = Named tokens n
 
 abbrev pub In : List (List ℕ) → List ℕ → Type 0
 In [] n = ⊥
@@ -89,16 +89,8 @@ pin-from pins m n h = at (is_constant_name m) (is_among m pins) refl h
 pub distinct-more : (pins : List (List ℕ)) (m : List ℕ) → IsDistinct bytes_eq pins → is_among m pins ≡ false → IsDistinct bytes_eq (pins ++ m ∷ [])
 unfolding IsDistinct
 distinct-more [] m h e = (tt, tt)
-distinct-more (x ∷ xs) m h e = (others xs h.0 (differ_back m x (first (bytes_eq m x) (is_among m xs) e)), distinct-more xs m h.1 (second (bytes_eq m x) (is_among m xs) e))
+distinct-more (x ∷ xs) m h e = (others xs h.0 (differ_back m x (or_parts (bytes_eq m x) (is_among m xs) e).0), distinct-more xs m h.1 (or_parts (bytes_eq m x) (is_among m xs) e).1)
   where
-    first : (a b : Bool) → (a || b) ≡ false → a ≡ false
-    first true b e = cc
-    first false b e = refl
-
-    second : (a b : Bool) → (a || b) ≡ false → b ≡ false
-    second true b e = cc
-    second false b e = e
-
     others : (ys : List (List ℕ)) → AllByRecursion (λ y. bytes_eq x y ≡ false) ys → bytes_eq x m ≡ false → AllByRecursion (λ y. bytes_eq x y ≡ false) (ys ++ m ∷ [])
     others [] all e = (e, tt)
     others (y ∷ ys) all e = (all.0, others ys all.1 e)
@@ -113,37 +105,37 @@ pin-distinct pins m h = at (is_constant_name m) (is_among m pins) refl
 
 -- All names.
 
-abbrev pub pins_from : List (List ℕ) → List Sign → List (List ℕ)
-pins_from pins signs = fold with_pin pins signs
+abbrev pub pins_from : List (List ℕ) → List Token → List (List ℕ)
+pins_from pins tokens = fold with_pin pins tokens
 
-pub pins-kept : (pins : List (List ℕ)) (signs : List Sign) (n : List ℕ) → In pins n → In (pins_from pins signs) n
+pub pins-kept : (pins : List (List ℕ)) (tokens : List Token) (n : List ℕ) → In pins n → In (pins_from pins tokens) n
 pins-kept pins [] n h = h
-pins-kept pins (Mark b ∷ signs) n h = pins-kept pins signs n h
-pins-kept pins (Name m ∷ signs) n h = pins-kept (with_pin pins (Name m)) signs n (pin-kept (is_constant_name m || is_among m pins) pins m n h)
+pins-kept pins (Punct b ∷ tokens) n h = pins-kept pins tokens n h
+pins-kept pins (Name m ∷ tokens) n h = pins-kept (with_pin pins (Name m)) tokens n (pin-kept (is_constant_name m || is_among m pins) pins m n h)
 
-pub pins-have : (pins : List (List ℕ)) (signs : List Sign) (n : List ℕ) → Named signs n → In (pins_from pins signs) n
+pub pins-have : (pins : List (List ℕ)) (tokens : List Token) (n : List ℕ) → Named tokens n → In (pins_from pins tokens) n
 pins-have pins [] n h = absurd h
-pins-have pins (Mark b ∷ signs) n h = pins-have pins signs n h
-pins-have pins (Name m ∷ signs) n (inl (e, plain)) = pins-kept (with_pin pins (Name m)) signs n (pin-new pins m n e plain)
-pins-have pins (Name m ∷ signs) n (inr h) = pins-have (with_pin pins (Name m)) signs n h
+pins-have pins (Punct b ∷ tokens) n h = pins-have pins tokens n h
+pins-have pins (Name m ∷ tokens) n (inl (e, plain)) = pins-kept (with_pin pins (Name m)) tokens n (pin-new pins m n e plain)
+pins-have pins (Name m ∷ tokens) n (inr h) = pins-have (with_pin pins (Name m)) tokens n h
 
-pub pins-are : (pins : List (List ℕ)) (signs : List Sign) (n : List ℕ) → In (pins_from pins signs) n → In pins n ⊎ Named signs n
+pub pins-are : (pins : List (List ℕ)) (tokens : List Token) (n : List ℕ) → In (pins_from pins tokens) n → In pins n ⊎ Named tokens n
 pins-are pins [] n h = inl h
-pins-are pins (Mark b ∷ signs) n h = pins-are pins signs n h
-pins-are pins (Name m ∷ signs) n h = at (pins-are (with_pin pins (Name m)) signs n h)
+pins-are pins (Punct b ∷ tokens) n h = pins-are pins tokens n h
+pins-are pins (Name m ∷ tokens) n h = at (pins-are (with_pin pins (Name m)) tokens n h)
   where
-    before : In pins n ⊎ ((m ≡ n) × (is_constant_name m ≡ false)) → In pins n ⊎ Named (Name m ∷ signs) n
+    before : In pins n ⊎ ((m ≡ n) × (is_constant_name m ≡ false)) → In pins n ⊎ Named (Name m ∷ tokens) n
     before (inl g) = inl g
     before (inr g) = inr (inl g)
 
-    at : In (with_pin pins (Name m)) n ⊎ Named signs n → In pins n ⊎ Named (Name m ∷ signs) n
+    at : In (with_pin pins (Name m)) n ⊎ Named tokens n → In pins n ⊎ Named (Name m ∷ tokens) n
     at (inl g) = before (pin-from pins m n g)
     at (inr g) = inr (inr g)
 
-pub pins-distinct : (pins : List (List ℕ)) (signs : List Sign) → IsDistinct bytes_eq pins → IsDistinct bytes_eq (pins_from pins signs)
+pub pins-distinct : (pins : List (List ℕ)) (tokens : List Token) → IsDistinct bytes_eq pins → IsDistinct bytes_eq (pins_from pins tokens)
 pins-distinct pins [] h = h
-pins-distinct pins (Mark b ∷ signs) h = pins-distinct pins signs h
-pins-distinct pins (Name m ∷ signs) h = pins-distinct (with_pin pins (Name m)) signs (pin-distinct pins m h)
+pins-distinct pins (Punct b ∷ tokens) h = pins-distinct pins tokens h
+pins-distinct pins (Name m ∷ tokens) h = pins-distinct (with_pin pins (Name m)) tokens (pin-distinct pins m h)
 
 -- Places.
 
@@ -167,25 +159,25 @@ others-before (x ∷ xs) (suc k) (suc j) distinct below lt = others-before xs k 
 -- Which pins an expression mentions.
 
 module _ (pins : List (List ℕ)) where
-  abbrev Mention : List Sign → ℕ → Type 0
+  abbrev Mention : List Token → ℕ → Type 0
   Mention [] k = ⊥
-  Mention (Name m ∷ signs) k = MentionsPin (literal_of pins m) k ⊎ Mention signs k
-  Mention (Mark b ∷ signs) k = Mention signs k
+  Mention (Name m ∷ tokens) k = MentionsPin (literal_of pins m) k ⊎ Mention tokens k
+  Mention (Punct b ∷ tokens) k = Mention tokens k
 
-  mention-left : (xs ys : List Sign) (k : ℕ) → Mention xs k → Mention (xs ++ ys) k
+  mention-left : (xs ys : List Token) (k : ℕ) → Mention xs k → Mention (xs ++ ys) k
   mention-left [] ys k h = absurd h
   mention-left (Name m ∷ xs) ys k (inl h) = inl h
   mention-left (Name m ∷ xs) ys k (inr h) = inr (mention-left xs ys k h)
-  mention-left (Mark b ∷ xs) ys k h = mention-left xs ys k h
+  mention-left (Punct b ∷ xs) ys k h = mention-left xs ys k h
 
-  mention-right : (xs ys : List Sign) (k : ℕ) → Mention ys k → Mention (xs ++ ys) k
+  mention-right : (xs ys : List Token) (k : ℕ) → Mention ys k → Mention (xs ++ ys) k
   mention-right [] ys k h = h
   mention-right (Name m ∷ xs) ys k h = inr (mention-right xs ys k h)
-  mention-right (Mark b ∷ xs) ys k h = mention-right xs ys k h
+  mention-right (Punct b ∷ xs) ys k h = mention-right xs ys k h
 
-  mention-either : (xs ys : List Sign) (k : ℕ) → Mention (xs ++ ys) k → Mention xs k ⊎ Mention ys k
+  mention-either : (xs ys : List Token) (k : ℕ) → Mention (xs ++ ys) k → Mention xs k ⊎ Mention ys k
   mention-either [] ys k h = inr h
-  mention-either (Mark b ∷ xs) ys k h = mention-either xs ys k h
+  mention-either (Punct b ∷ xs) ys k h = mention-either xs ys k h
   mention-either (Name m ∷ xs) ys k (inl h) = inl (inl h)
   mention-either (Name m ∷ xs) ys k (inr h) = at (mention-either xs ys k h)
     where
@@ -241,55 +233,55 @@ module _ (pins : List (List ℕ)) where
   either f g (inl a) = f a
   either f g (inr b) = g b
 
-  -- what an expression mentions stands among its signs
+  -- what an expression mentions stands among its tokens
   mutual
-    atom-to : (s : List Sign) (e : Expr) (k : ℕ) → IsAtom pins s e → MentionsPin e k → Mention s k
+    atom-to : (s : List Token) (e : Expr) (k : ℕ) → IsAtom pins s e → MentionsPin e k → Mention s k
     atom-to _ _ k (name_atom name) h = inl h
-    atom-to _ _ k (group_atom signs es sum) h = mention-left signs (close_sign ∷ []) k (sum-to signs es k sum (sum-mentions es k h))
-    atom-to _ _ k (quoted_atom signs e atom) h = mention-left signs (quote_sign ∷ []) k (atom-to signs e k atom h)
+    atom-to _ _ k (group_atom tokens es sum) h = mention-left tokens (close_token ∷ []) k (sum-to tokens es k sum (sum-mentions es k h))
+    atom-to _ _ k (quoted_atom tokens e atom) h = mention-left tokens (quote_token ∷ []) k (atom-to tokens e k atom h)
 
-    factor-to : (s : List Sign) (e : Expr) (k : ℕ) → IsFactor pins s e → MentionsPin e k → Mention s k
-    factor-to _ _ k (plain_factor signs e atom) h = atom-to signs e k atom h
-    factor-to _ _ k (bang_factor signs e factor) h = factor-to signs e k factor h
+    factor-to : (s : List Token) (e : Expr) (k : ℕ) → IsFactor pins s e → MentionsPin e k → Mention s k
+    factor-to _ _ k (plain_factor tokens e atom) h = atom-to tokens e k atom h
+    factor-to _ _ k (bang_factor tokens e factor) h = factor-to tokens e k factor h
 
-    product-to : (s : List Sign) (es : List Expr) (k : ℕ) → IsProduct pins s es → Some_of es k → Mention s k
-    product-to _ _ k (first_factor signs e factor) (inl h) = factor-to signs e k factor h
-    product-to _ _ k (first_factor signs e factor) (inr h) = absurd h
-    product-to _ _ k (beside_factor before signs es e product factor) h =
-        either (λ g. mention-left before signs k (product-to before es k product g)) (λ g. mention-right before signs k (factor-to signs e k factor g)) (some-either es e k h)
-    product-to _ _ k (times_factor before signs es e product factor) h =
-        either (λ g. mention-left before (star_sign ∷ signs) k (product-to before es k product g)) (λ g. mention-right before (star_sign ∷ signs) k (factor-to signs e k factor g)) (some-either es e k h)
+    product-to : (s : List Token) (es : List Expr) (k : ℕ) → IsProduct pins s es → Some_of es k → Mention s k
+    product-to _ _ k (first_factor tokens e factor) (inl h) = factor-to tokens e k factor h
+    product-to _ _ k (first_factor tokens e factor) (inr h) = absurd h
+    product-to _ _ k (beside_factor before tokens es e product factor) h =
+        either (λ g. mention-left before tokens k (product-to before es k product g)) (λ g. mention-right before tokens k (factor-to tokens e k factor g)) (some-either es e k h)
+    product-to _ _ k (times_factor before tokens es e product factor) h =
+        either (λ g. mention-left before (star_token ∷ tokens) k (product-to before es k product g)) (λ g. mention-right before (star_token ∷ tokens) k (factor-to tokens e k factor g)) (some-either es e k h)
 
-    sum-to : (s : List Sign) (es : List Expr) (k : ℕ) → IsSum pins s es → Some_of es k → Mention s k
-    sum-to _ _ k (first_product signs es product) (inl h) = product-to signs es k product (product-mentions es k h)
-    sum-to _ _ k (first_product signs es product) (inr h) = absurd h
-    sum-to _ _ k (next_product before signs sums es sum product) h =
-        either (λ g. mention-left before (plus_sign ∷ signs) k (sum-to before sums k sum g)) (λ g. mention-right before (plus_sign ∷ signs) k (product-to signs es k product (product-mentions es k g))) (some-either sums (product_of es) k h)
+    sum-to : (s : List Token) (es : List Expr) (k : ℕ) → IsSum pins s es → Some_of es k → Mention s k
+    sum-to _ _ k (first_product tokens es product) (inl h) = product-to tokens es k product (product-mentions es k h)
+    sum-to _ _ k (first_product tokens es product) (inr h) = absurd h
+    sum-to _ _ k (next_product before tokens sums es sum product) h =
+        either (λ g. mention-left before (plus_token ∷ tokens) k (sum-to before sums k sum g)) (λ g. mention-right before (plus_token ∷ tokens) k (product-to tokens es k product (product-mentions es k g))) (some-either sums (product_of es) k h)
 
   -- and what stands there it mentions
   mutual
-    atom-from : (s : List Sign) (e : Expr) (k : ℕ) → IsAtom pins s e → Mention s k → MentionsPin e k
+    atom-from : (s : List Token) (e : Expr) (k : ℕ) → IsAtom pins s e → Mention s k → MentionsPin e k
     atom-from _ _ k (name_atom name) (inl h) = h
     atom-from _ _ k (name_atom name) (inr h) = absurd h
-    atom-from _ _ k (group_atom signs es sum) h =
-        mentions-sum es k (sum-from signs es k sum (either (λ g. g) (λ g. absurd g) (mention-either signs (close_sign ∷ []) k h)))
-    atom-from _ _ k (quoted_atom signs e atom) h = atom-from signs e k atom (either (λ g. g) (λ g. absurd g) (mention-either signs (quote_sign ∷ []) k h))
+    atom-from _ _ k (group_atom tokens es sum) h =
+        mentions-sum es k (sum-from tokens es k sum (either (λ g. g) (λ g. absurd g) (mention-either tokens (close_token ∷ []) k h)))
+    atom-from _ _ k (quoted_atom tokens e atom) h = atom-from tokens e k atom (either (λ g. g) (λ g. absurd g) (mention-either tokens (quote_token ∷ []) k h))
 
-    factor-from : (s : List Sign) (e : Expr) (k : ℕ) → IsFactor pins s e → Mention s k → MentionsPin e k
-    factor-from _ _ k (plain_factor signs e atom) h = atom-from signs e k atom h
-    factor-from _ _ k (bang_factor signs e factor) h = factor-from signs e k factor h
+    factor-from : (s : List Token) (e : Expr) (k : ℕ) → IsFactor pins s e → Mention s k → MentionsPin e k
+    factor-from _ _ k (plain_factor tokens e atom) h = atom-from tokens e k atom h
+    factor-from _ _ k (bang_factor tokens e factor) h = factor-from tokens e k factor h
 
-    product-from : (s : List Sign) (es : List Expr) (k : ℕ) → IsProduct pins s es → Mention s k → Some_of es k
-    product-from _ _ k (first_factor signs e factor) h = inl (factor-from signs e k factor h)
-    product-from _ _ k (beside_factor before signs es e product factor) h =
-        either (λ g. some-left es e k (product-from before es k product g)) (λ g. some-last es e k (factor-from signs e k factor g)) (mention-either before signs k h)
-    product-from _ _ k (times_factor before signs es e product factor) h =
-        either (λ g. some-left es e k (product-from before es k product g)) (λ g. some-last es e k (factor-from signs e k factor g)) (mention-either before (star_sign ∷ signs) k h)
+    product-from : (s : List Token) (es : List Expr) (k : ℕ) → IsProduct pins s es → Mention s k → Some_of es k
+    product-from _ _ k (first_factor tokens e factor) h = inl (factor-from tokens e k factor h)
+    product-from _ _ k (beside_factor before tokens es e product factor) h =
+        either (λ g. some-left es e k (product-from before es k product g)) (λ g. some-last es e k (factor-from tokens e k factor g)) (mention-either before tokens k h)
+    product-from _ _ k (times_factor before tokens es e product factor) h =
+        either (λ g. some-left es e k (product-from before es k product g)) (λ g. some-last es e k (factor-from tokens e k factor g)) (mention-either before (star_token ∷ tokens) k h)
 
-    sum-from : (s : List Sign) (es : List Expr) (k : ℕ) → IsSum pins s es → Mention s k → Some_of es k
-    sum-from _ _ k (first_product signs es product) h = inl (mentions-product es k (product-from signs es k product h))
-    sum-from _ _ k (next_product before signs sums es sum product) h =
-        either (λ g. some-left sums (product_of es) k (sum-from before sums k sum g)) (λ g. some-last sums (product_of es) k (mentions-product es k (product-from signs es k product g))) (mention-either before (plus_sign ∷ signs) k h)
+    sum-from : (s : List Token) (es : List Expr) (k : ℕ) → IsSum pins s es → Mention s k → Some_of es k
+    sum-from _ _ k (first_product tokens es product) h = inl (mentions-product es k (product-from tokens es k product h))
+    sum-from _ _ k (next_product before tokens sums es sum product) h =
+        either (λ g. some-left sums (product_of es) k (sum-from before sums k sum g)) (λ g. some-last sums (product_of es) k (mentions-product es k (product-from tokens es k product g))) (mention-either before (plus_token ∷ tokens) k h)
 
   place : List ℕ → ℕ
   place n = unwrap_or (position (bytes_eq n) pins) 0
@@ -327,17 +319,17 @@ module _ (pins : List (List ℕ)) where
   unfolding place
   place-at k distinct below = first_place (bytes_eq (get_or pins k [])) pins k below (λ j lt. others-before pins k j distinct below lt) (alike (get_or pins k []) (get_or pins k []) refl)
 
-  named-mention : (signs : List Sign) (n : List ℕ) (k : ℕ) → place n ≡ k → Named signs n → Mention signs k
+  named-mention : (tokens : List Token) (n : List ℕ) (k : ℕ) → place n ≡ k → Named tokens n → Mention tokens k
   named-mention [] n k is h = absurd h
-  named-mention (Mark b ∷ signs) n k is h = named-mention signs n k is h
-  named-mention (Name m ∷ signs) n k is (inr h) = inr (named-mention signs n k is h)
-  named-mention (Name m ∷ signs) n k is (inl (e, plain)) = inl (subst (λ (x : Expr). MentionsPin x k) (sym (literal-of-pin m plain)) (ap place e ∙ is))
+  named-mention (Punct b ∷ tokens) n k is h = named-mention tokens n k is h
+  named-mention (Name m ∷ tokens) n k is (inr h) = inr (named-mention tokens n k is h)
+  named-mention (Name m ∷ tokens) n k is (inl (e, plain)) = inl (subst (λ (x : Expr). MentionsPin x k) (sym (literal-of-pin m plain)) (ap place e ∙ is))
 
-  mention-below : (signs : List Sign) (k : ℕ) → ((n : List ℕ) → Named signs n → In pins n) → Mention signs k → k < length pins
+  mention-below : (tokens : List Token) (k : ℕ) → ((n : List ℕ) → Named tokens n → In pins n) → Mention tokens k → k < length pins
   mention-below [] k known h = absurd h
-  mention-below (Mark b ∷ signs) k known h = mention-below signs k known h
-  mention-below (Name m ∷ signs) k known (inr h) = mention-below signs k (λ n g. known n (inr g)) h
-  mention-below (Name m ∷ signs) k known (inl h) = at (is_constant_name m) refl
+  mention-below (Punct b ∷ tokens) k known h = mention-below tokens k known h
+  mention-below (Name m ∷ tokens) k known (inr h) = mention-below tokens k (λ n g. known n (inr g)) h
+  mention-below (Name m ∷ tokens) k known (inl h) = at (is_constant_name m) refl
     where
       at : (c : Bool) → is_constant_name m ≡ c → k < length pins
       at true is = absurd (literal-constant m k is h)
@@ -346,9 +338,9 @@ module _ (pins : List (List ℕ)) where
           subst (λ j. j < length pins) here (place-below m (known m (inl (refl, is))))
 
   -- each pin stands in the expression, and no other
-  pub over_pins : (signs : List Sign) (e : Expr) → SpellsSum pins signs e → IsDistinct bytes_eq pins → ((n : List ℕ) → Named signs n → In pins n) → ((n : List ℕ) → In pins n → Named signs n) → IsOver (length pins) e
-  over_pins signs e (es, sum, is) distinct known stand k = (
-    λ h. mention-below signs k known (sum-to signs es k sum (sum-mentions es k (subst (λ (x : Expr). MentionsPin x k) is h))),
-    λ below. subst (λ (x : Expr). MentionsPin x k) (sym is) (mentions-sum es k (sum-from signs es k sum
-        (named-mention signs (get_or pins k []) k (place-at k distinct below) (stand (get_or pins k []) (in-at pins k below))))),
+  pub over_pins : (tokens : List Token) (e : Expr) → SpellsSum pins tokens e → IsDistinct bytes_eq pins → ((n : List ℕ) → Named tokens n → In pins n) → ((n : List ℕ) → In pins n → Named tokens n) → IsOver (length pins) e
+  over_pins tokens e (es, sum, is) distinct known stand k = (
+    λ h. mention-below tokens k known (sum-to tokens es k sum (sum-mentions es k (subst (λ (x : Expr). MentionsPin x k) is h))),
+    λ below. subst (λ (x : Expr). MentionsPin x k) (sym is) (mentions-sum es k (sum-from tokens es k sum
+        (named-mention tokens (get_or pins k []) k (place-at k distinct below) (stand (get_or pins k []) (in-at pins k below))))),
   )

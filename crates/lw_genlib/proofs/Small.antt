@@ -6,7 +6,7 @@ use Rattle.std.specs.Char.{is_ascii_digit}
 use Rattle.std.specs.Str.Parse.{digits_value}
 use Rattle.std.proofs.lemmas.Str.Parse.{IsNumeralModel, numerals_by_value, digits_value_short}
 use Rattle.std.proofs.lemmas.List.Folds.{list_all-append}
-use Rattle.std.proofs.lemmas.Bool.{leb-false, false≢true}
+use Rattle.std.proofs.lemmas.Bool.{leb-false, false≢true, and_parts}
 use Rattle.lw_fixed.specs.declared.micro.Micro.{Micro}
 use Rattle.lw_fixed.specs.declared.fault.DecimalFault.TheVariants.{Shape, Large, Fine, Negative}
 use Rattle.lw_fixed.specs.Decimals.{decimal_of, value_of_decimals, decimals, units_of, whole_part, is_decimal, is_finer, is_negative, millionths_of}
@@ -20,15 +20,11 @@ use Rattle.lw_genlib.specs.Entries.{number_of, in_library, larger, delay_behind,
 own : IsNumeralModel (λ ds. list_all is_ascii_digit ds ≡ true) (digits_value 10)
 own = numerals_by_value _ (search rules)
 
-both : (a b : Bool) → (a && b) ≡ true → (a ≡ true) × (b ≡ true)
-both true b e = (refl, e)
-both false b e = absurd (false≢true e)
-
 all-take : (n : ℕ) (xs : List ℕ) → list_all is_ascii_digit xs ≡ true → list_all is_ascii_digit (take n xs) ≡ true
 all-take zero xs h = refl
 all-take (suc n) [] h = refl
 all-take (suc n) (x ∷ xs) h =
-    let parts = both (is_ascii_digit x) (list_all is_ascii_digit xs) h in
+    let parts = and_parts (is_ascii_digit x) (list_all is_ascii_digit xs) h in
     ap (λ b. b && list_all is_ascii_digit (take n xs)) parts.0 ∙ all-take n xs parts.1
 
 below_one : (part : List ℕ) → list_all is_ascii_digit part ≡ true → value_of_decimals part < 1000000
@@ -54,7 +50,7 @@ small_number bytes m e =
         omega arith
 
     digits : (x y z : Bool) → (x && y && z) ≡ true → y ≡ true
-    digits true y z h = (both y z h).0
+    digits true y z h = (and_parts y z h).0
     digits false y z h = absurd (false≢true h)
 
     at : (d l f n : Bool) → is_decimal bytes ≡ d → nat_le 1000000 (units_of bytes) ≡ l

@@ -1,25 +1,26 @@
--- Reading expressions from signs: how what was read grows.
+-- Reading expressions from tokens: how what was read grows.
 use Rattle.std.proofs.Common.{ℕ, zero, suc, ◌+◌, ◌-◌, ◌<◌, ◌≤◌, ◌≡◌, ◌^◌, Bool, true, false, not, ◌&&◌, ◌||◌, eqb, List, [], ◌∷◌, ◌++◌, length, refl, sym, ap, ap₂, ◌∙◌, subst, arith, append_assoc, append-nil, length-append, inl, inr, add-one}
 use Rattle.std.proofs.lemmas.List.{replicate_more}
 use Rattle.std.proofs.lemmas.Bool.Decides.{nat_tests}
 use Rattle.std.specs.Prelude.{replicate}
+use Rattle.std.proofs.lemmas.Bool.{and_parts, or_from}
 use Rattle.lw_laws.specs.Expressions.{Expr}
 use Rattle.lw_laws.specs.Expressions.Expr.{expr_not}
-use Rattle.lw_genlib.specs.declared.sign.Sign.{Sign}
-use Rattle.lw_genlib.specs.declared.sign.Sign.TheVariants.{Name, Mark}
+use Rattle.lw_genlib.specs.declared.token.Token.{Token}
+use Rattle.lw_genlib.specs.declared.token.Token.TheVariants.{Name, Punct}
 use Rattle.lw_genlib.specs.declared.op.ExprOp.{ExprOp}
 use Rattle.lw_genlib.specs.declared.op.ExprOp.TheVariants.{Not, And, Or}
 use Rattle.lw_genlib.specs.Postfix.{exprs_of, postfix, postfixes, part_count}
-use Rattle.lw_genlib.specs.Grammar.{literal_of, product_of, sum_of, open_sign, close_sign, bang_sign, quote_sign, star_sign, plus_sign, IsSum, IsProduct, IsFactor, IsAtom, is_mark, begins_operand, awaits_behind, depth_behind, fits, go_on, names_in, begins_with, Reads, SpellsProduct, SpellsSum, after_atom, after_factor, after_product, after_sum, IsNextFactor}
+use Rattle.lw_genlib.specs.Grammar.{literal_of, product_of, sum_of, open_token, close_token, bang_token, quote_token, star_token, plus_token, IsSum, IsProduct, IsFactor, IsAtom, is_punct, begins_operand, awaits_behind, depth_behind, fits, go_on, names_in, begins_with, Reads, SpellsProduct, SpellsSum, after_atom, after_factor, after_product, after_sum, IsNextFactor}
 use Rattle.lw_genlib.specs.Grammar.IsSum.{first_product, next_product}
 use Rattle.lw_genlib.specs.Grammar.IsProduct.{first_factor, beside_factor, times_factor}
 use Rattle.lw_genlib.specs.Grammar.IsFactor.{plain_factor, bang_factor}
 use Rattle.lw_genlib.specs.Grammar.IsAtom.{name_atom, group_atom, quoted_atom}
 
-pub names_append : (xs ys : List Sign) → names_in (xs ++ ys) ≡ names_in xs + names_in ys
+pub names_append : (xs ys : List Token) → names_in (xs ++ ys) ≡ names_in xs + names_in ys
 names_append [] ys = omega arith
 names_append (Name n ∷ xs) ys = let rest : names_in (xs ++ ys) ≡ names_in xs + names_in ys = names_append xs ys in omega arith
-names_append (Mark b ∷ xs) ys = names_append xs ys
+names_append (Punct b ∷ xs) ys = names_append xs ys
 
 part_count_of : (es : List Expr) → part_count (exprs_of es) ≡ length es
 part_count_of [] = refl
@@ -30,10 +31,10 @@ postfixes_more [] e = append-nil (postfix e)
 postfixes_more (x ∷ es) e = ap (λ r. postfix x ++ r) (postfixes_more es e) ∙ sym (append_assoc (postfix x) (postfixes (exprs_of es)) (postfix e))
 
 -- A list of expressions that was read so far.
-pub record SoFar (IsList : List Sign → List Expr → Type 0) (follows : Sign → Bool) (depth : ℕ) (signs rest : List Sign) (old new : List ExprOp) (count : ℕ) : Type 0 where
-  pub read : List Sign
+pub record SoFar (IsList : List Token → List Expr → Type 0) (follows : Token → Bool) (depth : ℕ) (tokens rest : List Token) (old new : List ExprOp) (count : ℕ) : Type 0 where
+  pub read : List Token
   pub parts : List Expr
-  pub whole : signs ≡ read ++ rest
+  pub whole : tokens ≡ read ++ rest
   pub spelled : IsList read parts
   pub size : length parts ≡ count
   pub positive : 1 ≤ count
@@ -43,16 +44,16 @@ pub record SoFar (IsList : List Sign → List Expr → Type 0) (follows : Sign �
   pub stops : begins_with follows rest ≡ false
 
 -- where one more part was read behind a separator
-joined : (signs read gap more rest rest' behind : List Sign) → signs ≡ read ++ rest → rest ≡ gap ++ behind → behind ≡ more ++ rest' → signs ≡ (read ++ (gap ++ more)) ++ rest'
-joined signs read gap more rest rest' behind whole at next =
+merged : (tokens read gap more rest rest' behind : List Token) → tokens ≡ read ++ rest → rest ≡ gap ++ behind → behind ≡ more ++ rest' → tokens ≡ (read ++ (gap ++ more)) ++ rest'
+merged tokens read gap more rest rest' behind whole at next =
     whole ∙ (ap (λ r. read ++ r) (at ∙ ap (λ b. gap ++ b) next) ∙ (ap (λ r. read ++ r) (sym (append_assoc gap more rest')) ∙ sym (append_assoc read (gap ++ more) rest')))
 
 grown_steps : (old new new' : List ExprOp) (es : List Expr) (e : Expr) → new ≡ old ++ postfixes (exprs_of es) → new' ≡ new ++ postfix e → new' ≡ old ++ postfixes (exprs_of (es ++ e ∷ []))
 grown_steps old new new' es e was is =
     is ∙ (ap (λ n. n ++ postfix e) was ∙ (append_assoc old (postfixes (exprs_of es)) (postfix e) ∙ ap (λ r. old ++ r) (sym (postfixes_more es e))))
 
-module _ (pins : List (List ℕ)) (depth : ℕ) (signs : List Sign) (old : List ExprOp) where
-  pub sum_begins : (rest : List Sign) (new : List ExprOp) → Reads (SpellsProduct pins) after_product depth signs rest old new → SoFar (IsSum pins) after_product depth signs rest old new 1
+module _ (pins : List (List ℕ)) (depth : ℕ) (tokens : List Token) (old : List ExprOp) where
+  pub sum_begins : (rest : List Token) (new : List ExprOp) → Reads (SpellsProduct pins) after_product depth tokens rest old new → SoFar (IsSum pins) after_product depth tokens rest old new 1
   sum_begins rest new r =
       let es : List Expr = r.spelled.0 in
       record {
@@ -68,17 +69,17 @@ module _ (pins : List (List ℕ)) (depth : ℕ) (signs : List Sign) (old : List 
         stops = r.stops;
       }
 
-  pub sum_goes_on : (rest behind rest' : List Sign) (new new' : List ExprOp) (count : ℕ) → SoFar (IsSum pins) after_product depth signs rest old new count → rest ≡ plus_sign ∷ behind
-      → Reads (SpellsProduct pins) after_product depth behind rest' new new' → SoFar (IsSum pins) after_product depth signs rest' old new' (count + 1)
+  pub sum_goes_on : (rest behind rest' : List Token) (new new' : List ExprOp) (count : ℕ) → SoFar (IsSum pins) after_product depth tokens rest old new count → rest ≡ plus_token ∷ behind
+      → Reads (SpellsProduct pins) after_product depth behind rest' new new' → SoFar (IsSum pins) after_product depth tokens rest' old new' (count + 1)
   sum_goes_on rest behind rest' new new' count s at r =
-      let names : names_in (s.read ++ plus_sign ∷ r.read) ≡ names_in s.read + names_in r.read = names_append s.read (plus_sign ∷ r.read) in
+      let names : names_in (s.read ++ plus_token ∷ r.read) ≡ names_in s.read + names_in r.read = names_append s.read (plus_token ∷ r.read) in
       let one : 1 ≤ names_in r.read = r.some in
       let few : count ≤ names_in s.read = s.few in
       let size : length s.parts ≡ count = s.size in
       record {
-        read = s.read ++ plus_sign ∷ r.read;
+        read = s.read ++ plus_token ∷ r.read;
         parts = s.parts ++ product_of r.spelled.0 ∷ [];
-        whole = joined signs s.read (plus_sign ∷ []) r.read rest rest' behind s.whole at r.whole;
+        whole = merged tokens s.read (plus_token ∷ []) r.read rest rest' behind s.whole at r.whole;
         spelled = next_product s.read r.read s.parts r.spelled.0 s.spelled r.spelled.1;
         size = length-append s.parts (product_of r.spelled.0 ∷ []) ∙ omega arith;
         positive = omega arith;
@@ -88,7 +89,7 @@ module _ (pins : List (List ℕ)) (depth : ℕ) (signs : List Sign) (old : List 
         stops = r.stops;
       }
 
-  pub product_begins : (rest : List Sign) (new : List ExprOp) → Reads (IsFactor pins) after_factor depth signs rest old new → SoFar (IsProduct pins) after_factor depth signs rest old new 1
+  pub product_begins : (rest : List Token) (new : List ExprOp) → Reads (IsFactor pins) after_factor depth tokens rest old new → SoFar (IsProduct pins) after_factor depth tokens rest old new 1
   product_begins rest new r = record {
     read = r.read;
     parts = r.tree ∷ [];
@@ -102,17 +103,17 @@ module _ (pins : List (List ℕ)) (depth : ℕ) (signs : List Sign) (old : List 
     stops = r.stops;
   }
 
-  pub product_goes_on : (rest behind rest' : List Sign) (new new' : List ExprOp) (count : ℕ) → SoFar (IsProduct pins) after_factor depth signs rest old new count → IsNextFactor rest behind
-      → Reads (IsFactor pins) after_factor depth behind rest' new new' → SoFar (IsProduct pins) after_factor depth signs rest' old new' (count + 1)
+  pub product_goes_on : (rest behind rest' : List Token) (new new' : List ExprOp) (count : ℕ) → SoFar (IsProduct pins) after_factor depth tokens rest old new count → IsNextFactor rest behind
+      → Reads (IsFactor pins) after_factor depth behind rest' new new' → SoFar (IsProduct pins) after_factor depth tokens rest' old new' (count + 1)
   product_goes_on rest behind rest' new new' count s (inl at) r =
-      let names : names_in (s.read ++ star_sign ∷ r.read) ≡ names_in s.read + names_in r.read = names_append s.read (star_sign ∷ r.read) in
+      let names : names_in (s.read ++ star_token ∷ r.read) ≡ names_in s.read + names_in r.read = names_append s.read (star_token ∷ r.read) in
       let one : 1 ≤ names_in r.read = r.some in
       let few : count ≤ names_in s.read = s.few in
       let size : length s.parts ≡ count = s.size in
       record {
-        read = s.read ++ star_sign ∷ r.read;
+        read = s.read ++ star_token ∷ r.read;
         parts = s.parts ++ r.tree ∷ [];
-        whole = joined signs s.read (star_sign ∷ []) r.read rest rest' behind s.whole at r.whole;
+        whole = merged tokens s.read (star_token ∷ []) r.read rest rest' behind s.whole at r.whole;
         spelled = times_factor s.read r.read s.parts r.tree s.spelled r.spelled;
         size = length-append s.parts (r.tree ∷ []) ∙ omega arith;
         positive = omega arith;
@@ -129,7 +130,7 @@ module _ (pins : List (List ℕ)) (depth : ℕ) (signs : List Sign) (old : List 
       record {
         read = s.read ++ r.read;
         parts = s.parts ++ r.tree ∷ [];
-        whole = joined signs s.read [] r.read rest rest' behind s.whole at.0 r.whole;
+        whole = merged tokens s.read [] r.read rest rest' behind s.whole at.0 r.whole;
         spelled = beside_factor s.read r.read s.parts r.tree s.spelled r.spelled;
         size = length-append s.parts (r.tree ∷ []) ∙ omega arith;
         positive = omega arith;
@@ -143,7 +144,7 @@ module _ (pins : List (List ℕ)) (depth : ℕ) (signs : List Sign) (old : List 
 ends_steps : (old new final ops : List ExprOp) (op : ExprOp) → new ≡ old ++ ops → final ≡ new ++ op ∷ [] → final ≡ old ++ (ops ++ op ∷ [])
 ends_steps old new final ops op was is = is ∙ (ap (λ n. n ++ op ∷ []) was ∙ append_assoc old ops (op ∷ []))
 
-module _ (pins : List (List ℕ)) (depth : ℕ) (signs rest : List Sign) (old new final : List ExprOp) (count : ℕ) where
+module _ (pins : List (List ℕ)) (depth : ℕ) (tokens rest : List Token) (old new final : List ExprOp) (count : ℕ) where
   some_names : (n : ℕ) → 1 ≤ count → count ≤ n → 1 ≤ n
   some_names n one few = omega arith
 
@@ -167,8 +168,8 @@ module _ (pins : List (List ℕ)) (depth : ℕ) (signs rest : List Sign) (old ne
       let same : count ≡ part_count (exprs_of (e ∷ f ∷ es)) = sym size ∙ sym (part_count_of (e ∷ f ∷ es)) in
       ends_steps old new final (postfixes (exprs_of (e ∷ f ∷ es))) (And (part_count (exprs_of (e ∷ f ∷ es)))) steps (more many ∙ ap (λ n. new ++ And n ∷ []) same)
 
-  pub sum_ends : SoFar (IsSum pins) after_product depth signs rest old new count → (count ≤ 1 → final ≡ new) → (1 < count → final ≡ new ++ Or count ∷ [])
-      → begins_with after_sum rest ≡ false → Reads (SpellsSum pins) after_sum depth signs rest old final
+  pub sum_ends : SoFar (IsSum pins) after_product depth tokens rest old new count → (count ≤ 1 → final ≡ new) → (1 < count → final ≡ new ++ Or count ∷ [])
+      → begins_with after_sum rest ≡ false → Reads (SpellsSum pins) after_sum depth tokens rest old final
   sum_ends s alone more stops = record {
     read = s.read;
     tree = sum_of s.parts;
@@ -180,8 +181,8 @@ module _ (pins : List (List ℕ)) (depth : ℕ) (signs rest : List Sign) (old ne
     stops = stops;
   }
 
-  pub product_ends : SoFar (IsProduct pins) after_factor depth signs rest old new count → (count ≤ 1 → final ≡ new) → (1 < count → final ≡ new ++ And count ∷ [])
-      → begins_with after_product rest ≡ false → Reads (SpellsProduct pins) after_product depth signs rest old final
+  pub product_ends : SoFar (IsProduct pins) after_factor depth tokens rest old new count → (count ≤ 1 → final ≡ new) → (1 < count → final ≡ new ++ And count ∷ [])
+      → begins_with after_product rest ≡ false → Reads (SpellsProduct pins) after_product depth tokens rest old final
   product_ends s alone more stops = record {
     read = s.read;
     tree = product_of s.parts;
@@ -193,36 +194,37 @@ module _ (pins : List (List ℕ)) (depth : ℕ) (signs rest : List Sign) (old ne
     stops = stops;
   }
 
+-- no token follows an atom's name or group that is part of it
+pub after_nothing : (tokens : List Token) → begins_with after_atom tokens ≡ false
+after_nothing [] = refl
+after_nothing (token ∷ tokens) = refl
+
 module _ (pins : List (List ℕ)) (depth : ℕ) (old new new' : List ExprOp) (more : new' ≡ new ++ Not ∷ []) where
   complement_steps : (e : Expr) → new ≡ old ++ postfix e → new' ≡ old ++ postfix (expr_not e)
   complement_steps e was = ends_steps old new new' (postfix e) Not was more
 
   -- a `'` behind an atom
-  pub quoted : (signs rest behind : List Sign) → Reads (IsAtom pins) after_atom depth signs rest old new → rest ≡ quote_sign ∷ behind → Reads (IsAtom pins) after_atom depth signs behind old new'
-  quoted signs rest behind r at = record {
-    read = r.read ++ quote_sign ∷ [];
+  pub quoted : (tokens rest behind : List Token) → Reads (IsAtom pins) after_atom depth tokens rest old new → rest ≡ quote_token ∷ behind → Reads (IsAtom pins) after_atom depth tokens behind old new'
+  quoted tokens rest behind r at = record {
+    read = r.read ++ quote_token ∷ [];
     tree = expr_not r.tree;
-    whole = r.whole ∙ (ap (λ b. r.read ++ b) at ∙ sym (append_assoc r.read (quote_sign ∷ []) behind));
+    whole = r.whole ∙ (ap (λ b. r.read ++ b) at ∙ sym (append_assoc r.read (quote_token ∷ []) behind));
     spelled = quoted_atom r.read r.tree r.spelled;
-    some = let names : names_in (r.read ++ quote_sign ∷ []) ≡ names_in r.read + 0 = names_append r.read (quote_sign ∷ []) in let one : 1 ≤ names_in r.read = r.some in omega arith;
+    some = let names : names_in (r.read ++ quote_token ∷ []) ≡ names_in r.read + 0 = names_append r.read (quote_token ∷ []) in let one : 1 ≤ names_in r.read = r.some in omega arith;
     steps = complement_steps r.tree r.steps;
     left = behind_quote (subst (λ b. go_on false depth b ≡ true) at r.left);
-    stops = none behind;
+    stops = after_nothing behind;
   }
     where
-      none : (signs : List Sign) → begins_with after_atom signs ≡ false
-      none [] = refl
-      none (sign ∷ signs) = refl
-
-      behind_quote : go_on false depth (quote_sign ∷ behind) ≡ true → go_on false depth behind ≡ true
+      behind_quote : go_on false depth (quote_token ∷ behind) ≡ true → go_on false depth behind ≡ true
       behind_quote ok = ok
 
   -- a `!` before a factor
-  pub complemented : (signs rest : List Sign) → Reads (IsFactor pins) after_factor depth signs rest old new → Reads (IsFactor pins) after_factor depth (bang_sign ∷ signs) rest old new'
-  complemented signs rest r = record {
-    read = bang_sign ∷ r.read;
+  pub complemented : (tokens rest : List Token) → Reads (IsFactor pins) after_factor depth tokens rest old new → Reads (IsFactor pins) after_factor depth (bang_token ∷ tokens) rest old new'
+  complemented tokens rest r = record {
+    read = bang_token ∷ r.read;
     tree = expr_not r.tree;
-    whole = ap (λ s. bang_sign ∷ s) r.whole;
+    whole = ap (λ s. bang_token ∷ s) r.whole;
     spelled = bang_factor r.read r.tree r.spelled;
     some = r.some;
     steps = complement_steps r.tree r.steps;
@@ -231,8 +233,8 @@ module _ (pins : List (List ℕ)) (depth : ℕ) (old new new' : List ExprOp) (mo
   }
 
 -- an atom that no `'` follows is a factor
-pub atom_is_factor : (pins : List (List ℕ)) (depth : ℕ) (signs rest : List Sign) (old new : List ExprOp) → Reads (IsAtom pins) after_factor depth signs rest old new → Reads (IsFactor pins) after_factor depth signs rest old new
-atom_is_factor pins depth signs rest old new r = record {
+pub atom_is_factor : (pins : List (List ℕ)) (depth : ℕ) (tokens rest : List Token) (old new : List ExprOp) → Reads (IsAtom pins) after_factor depth tokens rest old new → Reads (IsFactor pins) after_factor depth tokens rest old new
+atom_is_factor pins depth tokens rest old new r = record {
   read = r.read;
   tree = r.tree;
   whole = r.whole;
@@ -245,37 +247,30 @@ atom_is_factor pins depth signs rest old new r = record {
 
 -- What is left, and how long it is.
 
-pub rest_names : (signs read rest : List Sign) → signs ≡ read ++ rest → names_in signs ≡ names_in read + names_in rest
-rest_names signs read rest whole = ap names_in whole ∙ names_append read rest
+pub rest_names : (tokens read rest : List Token) → tokens ≡ read ++ rest → names_in tokens ≡ names_in read + names_in rest
+rest_names tokens read rest whole = ap names_in whole ∙ names_append read rest
 
-pub rest_length : (signs read rest : List Sign) → signs ≡ read ++ rest → length signs ≡ length read + length rest
-rest_length signs read rest whole = ap length whole ∙ length-append read rest
+pub rest_length : (tokens read rest : List Token) → tokens ≡ read ++ rest → length tokens ≡ length read + length rest
+rest_length tokens read rest whole = ap length whole ∙ length-append read rest
 
-pub names_short : (signs : List Sign) → names_in signs ≤ length signs
+pub names_short : (tokens : List Token) → names_in tokens ≤ length tokens
 names_short [] = omega arith
-names_short (Name n ∷ signs) = let rest : names_in signs ≤ length signs = names_short signs in omega arith
-names_short (Mark b ∷ signs) = let rest : names_in signs ≤ length signs = names_short signs in omega arith
-
-second : (a b : Bool) → (a && b) ≡ true → b ≡ true
-second true b e = e
-second false b e = cc
-
-both_false : (a b : Bool) → a ≡ false → b ≡ false → (a || b) ≡ false
-both_false a b e f = ap₂ (λ x y. x || y) e f
+names_short (Name n ∷ tokens) = let rest : names_in tokens ≤ length tokens = names_short tokens in omega arith
+names_short (Punct b ∷ tokens) = let rest : names_in tokens ≤ length tokens = names_short tokens in omega arith
 
 -- what follows an operand may begin one
-pub operand_goes_on : (depth : ℕ) (rest : List Sign) → begins_with begins_operand rest ≡ true → go_on false depth rest ≡ true → go_on true depth rest ≡ true
+pub operand_goes_on : (depth : ℕ) (rest : List Token) → begins_with begins_operand rest ≡ true → go_on false depth rest ≡ true → go_on true depth rest ≡ true
 operand_goes_on depth [] begins ok = cc
-operand_goes_on depth (sign ∷ rest) begins ok = ap₂ (λ a b. a && b) begins (second (fits false depth sign) (go_on (awaits_behind sign) (depth_behind sign depth) rest) ok)
+operand_goes_on depth (token ∷ rest) begins ok = ap₂ (λ a b. a && b) begins (and_parts (fits false depth token) (go_on (awaits_behind token) (depth_behind token depth) rest) ok).1
 
-pub next_goes_on : (depth : ℕ) (rest behind : List Sign) → IsNextFactor rest behind → go_on false depth rest ≡ true → go_on true depth behind ≡ true
+pub next_goes_on : (depth : ℕ) (rest behind : List Token) → IsNextFactor rest behind → go_on false depth rest ≡ true → go_on true depth behind ≡ true
 next_goes_on depth rest behind (inl at) ok = behind_star (subst (λ r. go_on false depth r ≡ true) at ok)
   where
-    behind_star : go_on false depth (star_sign ∷ behind) ≡ true → go_on true depth behind ≡ true
+    behind_star : go_on false depth (star_token ∷ behind) ≡ true → go_on true depth behind ≡ true
     behind_star here = here
 next_goes_on depth rest behind (inr at) ok = subst (λ r. go_on true depth r ≡ true) at.0 (operand_goes_on depth rest at.1 ok)
 
-pub next_shorter : (rest behind : List Sign) → IsNextFactor rest behind → (names_in behind ≤ names_in rest) × (length behind ≤ length rest)
+pub next_shorter : (rest behind : List Token) → IsNextFactor rest behind → (names_in behind ≤ names_in rest) × (length behind ≤ length rest)
 next_shorter rest behind (inl at) =
     let names : names_in rest ≡ names_in behind = ap names_in at in
     let long : length rest ≡ suc (length behind) = ap length at in
@@ -285,62 +280,58 @@ next_shorter rest behind (inr at) =
     let long : length rest ≡ length behind = ap length at.0 in
     (omega arith, omega arith)
 
-pub plus_shorter : (rest behind : List Sign) → rest ≡ plus_sign ∷ behind → (names_in behind ≤ names_in rest) × (length behind ≤ length rest)
+pub plus_shorter : (rest behind : List Token) → rest ≡ plus_token ∷ behind → (names_in behind ≤ names_in rest) × (length behind ≤ length rest)
 plus_shorter rest behind at =
     let names : names_in rest ≡ names_in behind = ap names_in at in
     let long : length rest ≡ suc (length behind) = ap length at in
     (omega arith, omega arith)
 
-pub plus_goes_on : (depth : ℕ) (rest behind : List Sign) → rest ≡ plus_sign ∷ behind → go_on false depth rest ≡ true → go_on true depth behind ≡ true
+pub plus_goes_on : (depth : ℕ) (rest behind : List Token) → rest ≡ plus_token ∷ behind → go_on false depth rest ≡ true → go_on true depth behind ≡ true
 plus_goes_on depth rest behind at ok = behind_plus (subst (λ r. go_on false depth r ≡ true) at ok)
   where
-    behind_plus : go_on false depth (plus_sign ∷ behind) ≡ true → go_on true depth behind ≡ true
+    behind_plus : go_on false depth (plus_token ∷ behind) ≡ true → go_on true depth behind ≡ true
     behind_plus here = here
 
 -- Where a sum or a product stops.
 
-pub sum_stops : (rest : List Sign) → begins_with after_product rest ≡ false → begins_with (is_mark 43) rest ≡ false → begins_with after_sum rest ≡ false
+pub sum_stops : (rest : List Token) → begins_with after_product rest ≡ false → begins_with (is_punct 43) rest ≡ false → begins_with after_sum rest ≡ false
 sum_stops [] before plus = refl
-sum_stops (sign ∷ rest) before plus = both_false (after_product sign) (is_mark 43 sign) before plus
+sum_stops (token ∷ rest) before plus = or_from (after_product token) (is_punct 43 token) before plus
 
-pub product_stops : (rest : List Sign) → begins_with after_factor rest ≡ false → begins_with (λ sign. is_mark 42 sign || begins_operand sign) rest ≡ false → begins_with after_product rest ≡ false
+pub product_stops : (rest : List Token) → begins_with after_factor rest ≡ false → begins_with (λ token. is_punct 42 token || begins_operand token) rest ≡ false → begins_with after_product rest ≡ false
 product_stops [] before next = refl
-product_stops (sign ∷ rest) before next = joined_or (is_mark 39 sign) (is_mark 42 sign) (begins_operand sign) before next
+product_stops (token ∷ rest) before next = merged_or (is_punct 39 token) (is_punct 42 token) (begins_operand token) before next
   where
-    joined_or : (a b c : Bool) → a ≡ false → (b || c) ≡ false → (a || b || c) ≡ false
-    joined_or false false c e f = f
-    joined_or false true c e f = f
-    joined_or true b c e f = cc
+    merged_or : (a b c : Bool) → a ≡ false → (b || c) ≡ false → (a || b || c) ≡ false
+    merged_or false false c e f = f
+    merged_or false true c e f = f
+    merged_or true b c e f = cc
 
 -- Groups and names.
 
-after_nothing : (signs : List Sign) → begins_with after_atom signs ≡ false
-after_nothing [] = refl
-after_nothing (sign ∷ signs) = refl
-
 module _ (pins : List (List ℕ)) (depth : ℕ) (old new : List ExprOp) where
   -- a group
-  pub grouped : (signs inner rest behind : List Sign) → signs ≡ open_sign ∷ inner → Reads (SpellsSum pins) after_sum (depth + 1) inner rest old new → rest ≡ close_sign ∷ behind
-      → Reads (IsAtom pins) after_atom depth signs behind old new
-  grouped signs inner rest behind at r next =
+  pub grouped : (tokens inner rest behind : List Token) → tokens ≡ open_token ∷ inner → Reads (SpellsSum pins) after_sum (depth + 1) inner rest old new → rest ≡ close_token ∷ behind
+      → Reads (IsAtom pins) after_atom depth tokens behind old new
+  grouped tokens inner rest behind at r next =
       let es : List Expr = r.spelled.0 in
-      let names : names_in (r.read ++ close_sign ∷ []) ≡ names_in r.read + 0 = names_append r.read (close_sign ∷ []) in
+      let names : names_in (r.read ++ close_token ∷ []) ≡ names_in r.read + 0 = names_append r.read (close_token ∷ []) in
       let one : 1 ≤ names_in r.read = r.some in
       let out : depth + 1 - 1 ≡ depth = omega arith in
       record {
-        read = open_sign ∷ (r.read ++ close_sign ∷ []);
+        read = open_token ∷ (r.read ++ close_token ∷ []);
         tree = sum_of r.spelled.0;
-        whole = at ∙ ap (λ s. open_sign ∷ s) (r.whole ∙ (ap (λ b. r.read ++ b) next ∙ sym (append_assoc r.read (close_sign ∷ []) behind)));
+        whole = at ∙ ap (λ s. open_token ∷ s) (r.whole ∙ (ap (λ b. r.read ++ b) next ∙ sym (append_assoc r.read (close_token ∷ []) behind)));
         spelled = group_atom r.read r.spelled.0 r.spelled.1;
         some = omega arith;
         steps = r.steps ∙ ap (λ e. old ++ postfix e) r.spelled.2;
-        left = subst (λ d. go_on false d behind ≡ true) out (second (fits false (depth + 1) close_sign) (go_on false (depth + 1 - 1) behind) (subst (λ s. go_on false (depth + 1) s ≡ true) next r.left));
+        left = subst (λ d. go_on false d behind ≡ true) out (and_parts (fits false (depth + 1) close_token) (go_on false (depth + 1 - 1) behind) (subst (λ s. go_on false (depth + 1) s ≡ true) next r.left)).1;
         stops = after_nothing behind;
       }
 
-  pub named : (signs behind : List Sign) (name : List ℕ) (op : ExprOp) → signs ≡ Name name ∷ behind → go_on true depth signs ≡ true → op ∷ [] ≡ postfix (literal_of pins name) → new ≡ old ++ op ∷ []
-      → Reads (IsAtom pins) after_atom depth signs behind old new
-  named signs behind name op at ok literal step = record {
+  pub named : (tokens behind : List Token) (name : List ℕ) (op : ExprOp) → tokens ≡ Name name ∷ behind → go_on true depth tokens ≡ true → op ∷ [] ≡ postfix (literal_of pins name) → new ≡ old ++ op ∷ []
+      → Reads (IsAtom pins) after_atom depth tokens behind old new
+  named tokens behind name op at ok literal step = record {
     read = Name name ∷ [];
     tree = literal_of pins name;
     whole = at;
@@ -355,43 +346,43 @@ module _ (pins : List (List ℕ)) (depth : ℕ) (old new : List ExprOp) where
       behind_name here = here
 
 -- a `!` each before a factor
-pub all_complemented : (pins : List (List ℕ)) (depth count : ℕ) (operand rest : List Sign) (old mid new : List ExprOp) → Reads (IsFactor pins) after_factor depth operand rest old mid → new ≡ mid ++ replicate count Not
-    → Reads (IsFactor pins) after_factor depth (replicate count bang_sign ++ operand) rest old new
+pub all_complemented : (pins : List (List ℕ)) (depth count : ℕ) (operand rest : List Token) (old mid new : List ExprOp) → Reads (IsFactor pins) after_factor depth operand rest old mid → new ≡ mid ++ replicate count Not
+    → Reads (IsFactor pins) after_factor depth (replicate count bang_token ++ operand) rest old new
 all_complemented pins depth zero operand rest old mid new r grown = subst (λ ops. Reads (IsFactor pins) after_factor depth operand rest old ops) (sym (grown ∙ append-nil mid)) r
 all_complemented pins depth (suc count) operand rest old mid new r grown =
     let more : new ≡ (mid ++ replicate count Not) ++ Not ∷ [] =
     grown ∙ (ap (λ ops. mid ++ ops) (sym (replicate_more count Not ∙ ap (λ n. replicate n Not) (add-one count))) ∙ sym (append_assoc mid (replicate count Not) (Not ∷ []))) in
-    complemented pins depth old (mid ++ replicate count Not) new more (replicate count bang_sign ++ operand) rest (all_complemented pins depth count operand rest old mid (mid ++ replicate count Not) r refl)
+    complemented pins depth old (mid ++ replicate count Not) new more (replicate count bang_token ++ operand) rest (all_complemented pins depth count operand rest old mid (mid ++ replicate count Not) r refl)
 
 -- behind `!` an operand still follows
-pub bangs_go_on : (depth count : ℕ) (operand : List Sign) → go_on true depth (replicate count bang_sign ++ operand) ≡ true → go_on true depth operand ≡ true
+pub bangs_go_on : (depth count : ℕ) (operand : List Token) → go_on true depth (replicate count bang_token ++ operand) ≡ true → go_on true depth operand ≡ true
 bangs_go_on depth zero operand ok = ok
 bangs_go_on depth (suc count) operand ok = bangs_go_on depth count operand ok
 
 -- What is read next is no longer than what is left.
-pub record IsWithin (depth : ℕ) (signs next : List Sign) : Type 0 where
+pub record IsWithin (depth : ℕ) (tokens next : List Token) : Type 0 where
   pub ok : go_on true depth next ≡ true
   pub few : names_in next ≤ 64
-  pub shorter : length next < length signs
+  pub shorter : length next < length tokens
   pub room : depth + length next ≤ 2 ^ 32
 
-pub within : (depth : ℕ) (signs read rest next : List Sign) → signs ≡ read ++ rest → 1 ≤ names_in read → names_in signs ≤ 64 → depth + length signs ≤ 2 ^ 32
-    → go_on true depth next ≡ true → names_in next ≤ names_in rest → length next ≤ length rest → IsWithin depth signs next
-within depth signs read rest next whole some few room ok names long =
-    let all : names_in signs ≡ names_in read + names_in rest = rest_names signs read rest whole in
-    let size : length signs ≡ length read + length rest = rest_length signs read rest whole in
+pub within : (depth : ℕ) (tokens read rest next : List Token) → tokens ≡ read ++ rest → 1 ≤ names_in read → names_in tokens ≤ 64 → depth + length tokens ≤ 2 ^ 32
+    → go_on true depth next ≡ true → names_in next ≤ names_in rest → length next ≤ length rest → IsWithin depth tokens next
+within depth tokens read rest next whole some few room ok names long =
+    let all : names_in tokens ≡ names_in read + names_in rest = rest_names tokens read rest whole in
+    let size : length tokens ≡ length read + length rest = rest_length tokens read rest whole in
     let short : names_in read ≤ length read = names_short read in
     record { ok = ok; few = omega arith; shorter = omega arith; room = omega arith }
 
-pub count_fits : (signs read rest : List Sign) (count : ℕ) → signs ≡ read ++ rest → count ≤ names_in read → names_in signs ≤ 64 → count ≤ 64
-count_fits signs read rest count whole few most =
-    let all : names_in signs ≡ names_in read + names_in rest = rest_names signs read rest whole in
+pub count_fits : (tokens read rest : List Token) (count : ℕ) → tokens ≡ read ++ rest → count ≤ names_in read → names_in tokens ≤ 64 → count ≤ 64
+count_fits tokens read rest count whole few most =
+    let all : names_in tokens ≡ names_in read + names_in rest = rest_names tokens read rest whole in
     omega arith
 
-pub bangs_within : (depth count : ℕ) (signs operand : List Sign) → signs ≡ replicate count bang_sign ++ operand → go_on true depth signs ≡ true → (go_on true depth operand ≡ true) × (names_in operand ≤ names_in signs) × (length operand ≤ length signs)
-bangs_within depth count signs operand whole ok =
-    let all : names_in signs ≡ names_in (replicate count bang_sign) + names_in operand = rest_names signs (replicate count bang_sign) operand whole in
-    let size : length signs ≡ length (replicate count bang_sign) + length operand = rest_length signs (replicate count bang_sign) operand whole in
+pub bangs_within : (depth count : ℕ) (tokens operand : List Token) → tokens ≡ replicate count bang_token ++ operand → go_on true depth tokens ≡ true → (go_on true depth operand ≡ true) × (names_in operand ≤ names_in tokens) × (length operand ≤ length tokens)
+bangs_within depth count tokens operand whole ok =
+    let all : names_in tokens ≡ names_in (replicate count bang_token) + names_in operand = rest_names tokens (replicate count bang_token) operand whole in
+    let size : length tokens ≡ length (replicate count bang_token) + length operand = rest_length tokens (replicate count bang_token) operand whole in
     (bangs_go_on depth count operand (subst (λ s. go_on true depth s ≡ true) whole ok), omega arith, omega arith)
 
 -- Where no group is open, nothing is left behind a sum.
@@ -399,14 +390,10 @@ bangs_within depth count signs operand whole ok =
 after_tests : (o c n q p s : Bool) → (q || s || (o || n) || p) ≡ false → ((o || c || n || q || p || s) && not (c && true)) ≡ true → ⊥
 after_tests o c n q p s after fit = grind (arith, nat_tests)
 
-inner_after : (sign : Sign) → after_sum sign ≡ false → fits false 0 sign ≡ true → ⊥
+inner_after : (token : Token) → after_sum token ≡ false → fits false 0 token ≡ true → ⊥
 inner_after (Name name) after fit = cc
-inner_after (Mark b) after fit = after_tests (eqb b 40) (eqb b 41) (eqb b 33) (eqb b 39) (eqb b 43) (eqb b 42) after fit
+inner_after (Punct b) after fit = after_tests (eqb b 40) (eqb b 41) (eqb b 33) (eqb b 39) (eqb b 43) (eqb b 42) after fit
 
-pub nothing_left : (rest : List Sign) → go_on false 0 rest ≡ true → begins_with after_sum rest ≡ false → rest ≡ []
+pub nothing_left : (rest : List Token) → go_on false 0 rest ≡ true → begins_with after_sum rest ≡ false → rest ≡ []
 nothing_left [] ok stops = refl
-nothing_left (sign ∷ rest) ok stops = absurd (inner_after sign stops (first_true (fits false 0 sign) (go_on (awaits_behind sign) (depth_behind sign 0) rest) ok))
-  where
-    first_true : (a b : Bool) → (a && b) ≡ true → a ≡ true
-    first_true true b e = refl
-    first_true false b e = cc
+nothing_left (token ∷ rest) ok stops = absurd (inner_after token stops (and_parts (fits false 0 token) (go_on (awaits_behind token) (depth_behind token 0) rest) ok).0)

@@ -1,12 +1,12 @@
 -- Truth tables.
 use Rattle.std.proofs.Common.{ℕ, zero, suc, ◌+◌, ◌^◌, ◌≡◌, ◌<◌, ◌≤◌, Bool, true, false, ◌&&◌, refl, ap, ◌∙◌, subst, arith}
 use Rattle.std.specs.List.{list_all, range_with_len}
-use Rattle.std.proofs.lemmas.Bool.{false≢true}
+use Rattle.std.proofs.lemmas.Bool.{false≢true, and_parts}
 use native.Mathlib.Decide.{dec_lt}
 use Rattle.lw_laws.specs.Expressions.{Expr, expr_value, MentionsPin}
 use Rattle.lw_genlib.specs.Cells.{HaveOneTruth}
 use Rattle.lw_genlib.specs.Words.{assigned}
-use Rattle.lw_genlib.specs.Joining.{is_same, have_same_table}
+use Rattle.lw_genlib.specs.Merging.{is_same, have_same_table}
 use Rattle.lw_genlib.proofs.Assignments.{truth_below}
 
 same-true : (a b : Bool) → a ≡ b → is_same a b ≡ true
@@ -25,22 +25,14 @@ all-range : (p : ℕ → Bool) (a n : ℕ) → ((k : ℕ) → p k ≡ true) → 
 all-range p a zero h = refl
 all-range p a (suc n) h = ap (λ b. b && list_all p (range_with_len (a + 1) n)) (h a) ∙ all-range p (a + 1) n h
 
-left_true : (x y : Bool) → (x && y) ≡ true → x ≡ true
-left_true true y e = refl
-left_true false y e = e
-
-right_true : (x y : Bool) → (x && y) ≡ true → y ≡ true
-right_true true y e = e
-right_true false y e = absurd (false≢true e)
-
 range-all : (p : ℕ → Bool) (a n k : ℕ) → list_all p (range_with_len a n) ≡ true → a ≤ k → k < a + n → p k ≡ true
 range-all p a zero k h low high = absurd (omega arith)
 range-all p a (suc n) k h low high =
-    at (dec_lt a k) (λ le. range-all p (a + 1) n k (right_true (p a) (list_all p (range_with_len (a + 1) n)) h) le (omega arith))
+    at (dec_lt a k) (λ le. range-all p (a + 1) n k (and_parts (p a) (list_all p (range_with_len (a + 1) n)) h).1 le (omega arith))
   where
     at : Dec (a < k) → (a + 1 ≤ k → p k ≡ true) → p k ≡ true
     at (yes less) others = others (omega arith)
-    at (no more) others = let same : a ≡ k = omega arith in subst (λ j. p j ≡ true) same (left_true (p a) (list_all p (range_with_len (a + 1) n)) h)
+    at (no more) others = let same : a ≡ k = omega arith in subst (λ j. p j ≡ true) same (and_parts (p a) (list_all p (range_with_len (a + 1) n)) h).0
 
 pub table-of_truth : (pins : ℕ) (e f : Expr) → HaveOneTruth e f → have_same_table pins e f ≡ true
 unfolding have_same_table

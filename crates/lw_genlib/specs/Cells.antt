@@ -52,19 +52,19 @@ IsWord most name = (0 < length name) × (length name ≤ most) × IsTrue (list_a
 abbrev pub IsPart : List ℕ → Type 0
 IsPart bytes = (length bytes ≤ 4095) × IsTrue (list_all is_word_byte bytes)
 
--- a sign of functions: one of `( ) ! ' + * = & | ^ " ;`
-abbrev pub is_mark_byte : ℕ → Bool
-is_mark_byte b = list_any (λ mark. mark == b) (40 ∷ 41 ∷ 33 ∷ 39 ∷ 43 ∷ 42 ∷ 61 ∷ 38 ∷ 124 ∷ 94 ∷ 34 ∷ 59 ∷ [])
+-- a punctuation byte of functions: one of `( ) ! ' + * = & | ^ " ;`
+abbrev pub is_punct_byte : ℕ → Bool
+is_punct_byte b = list_any (λ punct. punct == b) (40 ∷ 41 ∷ 33 ∷ 39 ∷ 43 ∷ 42 ∷ 61 ∷ 38 ∷ 124 ∷ 94 ∷ 34 ∷ 59 ∷ [])
 
 abbrev pub ends_in_stroke : List ℕ → Bool
 ends_in_stroke [] = false
 ends_in_stroke (b ∷ []) = b == 92
 ends_in_stroke (b ∷ next ∷ bytes) = ends_in_stroke (next ∷ bytes)
 
--- a name of a pin or an output: no sign of functions stands in it, and it does not end in `\`
+-- a name of a pin or an output: no punctuation byte stands in it, and it does not end in `\`
 pub record IsPinName (name : List ℕ) : Type 0 where
   pub word : IsWord 2048 name
-  pub no_mark : IsTrue (list_all (λ b. not (is_mark_byte b)) name)
+  pub no_mark : IsTrue (list_all (λ b. not (is_punct_byte b)) name)
   pub no_stroke : IsTrue (not (ends_in_stroke name))
 
 -- Libraries.

@@ -6,8 +6,8 @@ use Rattle.std.specs.Char.{is_ascii_digit}
 use Rattle.lw_fixed.specs.declared.micro.Micro.{Micro}
 use Rattle.lw_fixed.specs.declared.fault.DecimalFault.{DecimalFault}
 use Rattle.lw_fixed.specs.Decimals.{decimal_of}
-use Rattle.lw_genlib.specs.declared.sign.Sign.{Sign}
-use Rattle.lw_genlib.specs.declared.sign.Sign.TheVariants.{Mark}
+use Rattle.lw_genlib.specs.declared.token.Token.{Token}
+use Rattle.lw_genlib.specs.declared.token.Token.TheVariants.{Punct}
 use Rattle.lw_genlib.specs.declared.fault.LibKind.{LibKind}
 use Rattle.lw_genlib.specs.declared.fault.LibKind.TheVariants.{Expected, PinUnknown, PhaseWord, Decimal, LimitText, LongWord}
 use Rattle.lw_genlib.specs.declared.fault.LibFault.{LibFault}
@@ -16,8 +16,8 @@ use Rattle.lw_genlib.specs.declared.pin.Field.{Field}
 use Rattle.lw_genlib.specs.declared.pin.Field.TheVariants.{Phase, Load, MostLoad, Rise, RiseUnused, Fall, FallUnused}
 use Rattle.lw_genlib.specs.declared.pin.Target.{Target}
 use Rattle.lw_genlib.specs.declared.pin.Target.TheVariants.{Every, One}
-use Rattle.lw_genlib.specs.Functions.{signs_in, first_fault, pins_in}
-use Rattle.lw_genlib.specs.Streams.{Token, word_on, long_line, text_end, Reading, done, broken, cut_short, and_then, with_rest, word_by}
+use Rattle.lw_genlib.specs.Functions.{tokens_in, first_fault, pins_in}
+use Rattle.lw_genlib.specs.Streams.{StreamItem, word_on, long_line, text_end, Reading, done, broken, cut_short, and_then, with_rest, word_by}
 
 -- Single words.
 
@@ -54,35 +54,35 @@ is_phase bytes = list_any (bytes_eq bytes) (codes "INV" ∷ codes "NONINV" ∷ c
 abbrev pub is_end : ℕ → Bool
 is_end b = b == 59
 
--- The signs of a function so far, the line of each, and how many bytes there is room for. A blank is counted before each word.
-pub record Text : Type 0 where
-  pub signs : List Sign
+-- The tokens of a function so far, the line of each, and how many bytes there is room for. A blank is counted before each word.
+pub record FunctionText : Type 0 where
+  pub tokens : List Token
   pub lines : List ℕ
   pub room : ℕ
 
 -- The blank before the first word is no byte of the text, which has at most 2,048.
-abbrev pub no_text : Text
-no_text = record { signs = []; lines = []; room = 2049 }
+abbrev pub no_text : FunctionText
+no_text = record { tokens = []; lines = []; room = 2049 }
 
 -- one more word, or a part of one
-abbrev pub with_word : Text → ℕ → List ℕ → Text
+abbrev pub with_word : FunctionText → ℕ → List ℕ → FunctionText
 with_word text line bytes = record {
-  signs = text.signs ++ signs_in bytes;
-  lines = text.lines ++ replicate (length (signs_in bytes)) line;
+  tokens = text.tokens ++ tokens_in bytes;
+  lines = text.lines ++ replicate (length (tokens_in bytes)) line;
   room = text.room - (1 + length bytes);
 }
 
 -- the `;`
-abbrev pub with_end : Text → ℕ → Text
-with_end text line = record { signs = text.signs ++ Mark 59 ∷ []; lines = text.lines ++ line ∷ []; room = text.room }
+abbrev pub with_end : FunctionText → ℕ → FunctionText
+with_end text line = record { tokens = text.tokens ++ Punct 59 ∷ []; lines = text.lines ++ line ∷ []; room = text.room }
 
 -- what is left of a word, if any byte is, is a word of its own
-abbrev pub left_over : ℕ → List ℕ → List Token
+abbrev pub left_over : ℕ → List ℕ → List StreamItem
 left_over line [] = []
 left_over line (b ∷ bytes) = word_on line (b ∷ bytes) ∷ []
 
 -- the text of a function behind the words so far, up to the first `;`
-unfoldable pub text_from : Text → List Token → Reading Text
+unfoldable pub text_from : FunctionText → List StreamItem → Reading FunctionText
 text_from text [] = cut_short
 text_from text (text_end line ∷ rest) = broken (Line line Expected)
 text_from text (long_line line ∷ rest) = broken (Line line LongWord)
@@ -99,36 +99,36 @@ pub record Entry : Type 0 where
   pub line : ℕ
   pub name : List ℕ
   pub area : Micro
-  pub signs : List Sign
+  pub tokens : List Token
   -- the last delay of each pin that its name was given
   pub named : List (Option Micro)
   -- the last delay of all pins
   pub every : Option Micro
 
 abbrev pub pins_of : Entry → List (List ℕ)
-pins_of entry = pins_in entry.signs
+pins_of entry = pins_in entry.tokens
 
--- the entry that begins with these words, or the first sign of the function that may not stand
-abbrev pub entry_by : ℕ → List ℕ → Micro → Text → Option LibFault → Result Entry LibFault
+-- the entry that begins with these words, or the first token of the function that may not stand
+abbrev pub entry_by : ℕ → List ℕ → Micro → FunctionText → Option LibFault → Result Entry LibFault
 entry_by line name area text (Some fault) = Err fault
-entry_by line name area text None = Ok (record { line = line; name = name; area = area; signs = text.signs; named = replicate (length (pins_in text.signs)) None; every = None })
+entry_by line name area text None = Ok (record { line = line; name = name; area = area; tokens = text.tokens; named = replicate (length (pins_in text.tokens)) None; every = None })
 
-abbrev pub entry_begun : ℕ → List ℕ → Micro → Text → Result Entry LibFault
-entry_begun line name area text = entry_by line name area text (first_fault [] text.lines text.signs)
+abbrev pub entry_begun : ℕ → List ℕ → Micro → FunctionText → Result Entry LibFault
+entry_begun line name area text = entry_by line name area text (first_fault [] text.lines text.tokens)
 
 -- what follows the area, the name and the word `GATE`
 
-abbrev pub behind_words : ℕ → List ℕ → Micro → Text → List Token → Reading Entry
-behind_words line name area text tokens = and_then (text_from text tokens) (λ whole rest. with_rest rest (entry_begun line name area whole))
+abbrev pub behind_words : ℕ → List ℕ → Micro → FunctionText → List StreamItem → Reading Entry
+behind_words line name area text stream = and_then (text_from text stream) (λ whole rest. with_rest rest (entry_begun line name area whole))
 
-abbrev pub behind_area : ℕ → List ℕ → Micro → List Token → Reading Entry
-behind_area line name area tokens = behind_words line name area no_text tokens
+abbrev pub behind_area : ℕ → List ℕ → Micro → List StreamItem → Reading Entry
+behind_area line name area stream = behind_words line name area no_text stream
 
-abbrev pub behind_name : ℕ → List ℕ → List Token → Reading Entry
-behind_name line name tokens = and_then (word_by number_of tokens) (λ area rest. behind_area line name area rest)
+abbrev pub behind_name : ℕ → List ℕ → List StreamItem → Reading Entry
+behind_name line name stream = and_then (word_by number_of stream) (λ area rest. behind_area line name area rest)
 
-abbrev pub behind_gate : ℕ → List Token → Reading Entry
-behind_gate line tokens = and_then (word_by cell_name tokens) (λ name rest. behind_name line name rest)
+abbrev pub behind_gate : ℕ → List StreamItem → Reading Entry
+behind_gate line stream = and_then (word_by cell_name stream) (λ name rest. behind_name line name rest)
 
 -- Pins.
 
@@ -155,22 +155,22 @@ delay_behind Rise delay bytes = larger delay (number_of bytes)
 delay_behind Fall delay bytes = larger delay (number_of bytes)
 delay_behind unused delay bytes = if is_like_number bytes then Ok delay else Err Expected
 
-abbrev pub delay_from : List Field → Micro → List Token → Reading Micro
-delay_from [] delay tokens = done delay tokens
-delay_from (field ∷ fields) delay tokens = and_then (word_by (delay_behind field delay) tokens) (λ larger rest. delay_from fields larger rest)
+abbrev pub delay_from : List Field → Micro → List StreamItem → Reading Micro
+delay_from [] delay stream = done delay stream
+delay_from (field ∷ fields) delay stream = and_then (word_by (delay_behind field delay) stream) (λ larger rest. delay_from fields larger rest)
 
 abbrev pub no_delay : Micro
 no_delay = record { 0 = 0 }
 
 -- the entry with one more delay: of pins of one kind the last wins
 abbrev pub with_delay : Entry → Target → Micro → Entry
-with_delay entry Every delay = record { line = entry.line; name = entry.name; area = entry.area; signs = entry.signs; named = entry.named; every = Some delay }
-with_delay entry (One place) delay = record { line = entry.line; name = entry.name; area = entry.area; signs = entry.signs; named = slice_set entry.named place (Some delay); every = entry.every }
+with_delay entry Every delay = record { line = entry.line; name = entry.name; area = entry.area; tokens = entry.tokens; named = entry.named; every = Some delay }
+with_delay entry (One place) delay = record { line = entry.line; name = entry.name; area = entry.area; tokens = entry.tokens; named = slice_set entry.named place (Some delay); every = entry.every }
 
 -- what follows a pin's name, and the word `PIN`
 
-abbrev pub behind_target : Entry → Target → List Field → Micro → List Token → Reading Entry
-behind_target entry target fields delay tokens = and_then (delay_from fields delay tokens) (λ delay rest. done (with_delay entry target delay) rest)
+abbrev pub behind_target : Entry → Target → List Field → Micro → List StreamItem → Reading Entry
+behind_target entry target fields delay stream = and_then (delay_from fields delay stream) (λ delay rest. done (with_delay entry target delay) rest)
 
-abbrev pub behind_pin : Entry → List Token → Reading Entry
-behind_pin entry tokens = and_then (word_by (target_of (pins_of entry)) tokens) (λ target rest. behind_target entry target pin_fields no_delay rest)
+abbrev pub behind_pin : Entry → List StreamItem → Reading Entry
+behind_pin entry stream = and_then (word_by (target_of (pins_of entry)) stream) (λ target rest. behind_target entry target pin_fields no_delay rest)

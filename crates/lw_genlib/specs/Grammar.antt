@@ -1,11 +1,11 @@
--- The functions of cells: which signs spell which expression.
+-- The functions of cells: which tokens spell which expression.
 use Rattle.std.specs.Prelude.{ℕ, ◌+◌, ◌-◌, ◌≤◌, ◌≡◌, ◌==◌, Bool, true, false, not, ◌&&◌, ◌||◌, ◌⊎◌, List, [], ◌∷◌, ◌++◌, unwrap_or, if◌then◌else◌, codes}
 use Rattle.std.specs.List.{position}
 use Rattle.std.specs.Str.{bytes_eq}
 use Rattle.lw_laws.specs.Expressions.{Expr}
 use Rattle.lw_laws.specs.Expressions.Expr.{expr_const, expr_pin, expr_not, expr_and, expr_or}
-use Rattle.lw_genlib.specs.declared.sign.Sign.{Sign}
-use Rattle.lw_genlib.specs.declared.sign.Sign.TheVariants.{Name, Mark}
+use Rattle.lw_genlib.specs.declared.token.Token.{Token}
+use Rattle.lw_genlib.specs.declared.token.Token.TheVariants.{Name, Punct}
 use Rattle.lw_genlib.specs.declared.op.ExprOp.{ExprOp}
 use Rattle.lw_genlib.specs.Postfix.{exprs_of, postfix}
 
@@ -27,126 +27,126 @@ sum_of [] = expr_or (exprs_of [])
 sum_of (e ∷ []) = e
 sum_of (e ∷ f ∷ es) = expr_or (exprs_of (e ∷ f ∷ es))
 
-abbrev pub open_sign : Sign
-open_sign = Mark 40
+abbrev pub open_token : Token
+open_token = Punct 40
 
-abbrev pub close_sign : Sign
-close_sign = Mark 41
+abbrev pub close_token : Token
+close_token = Punct 41
 
-abbrev pub bang_sign : Sign
-bang_sign = Mark 33
+abbrev pub bang_token : Token
+bang_token = Punct 33
 
-abbrev pub quote_sign : Sign
-quote_sign = Mark 39
+abbrev pub quote_token : Token
+quote_token = Punct 39
 
-abbrev pub star_sign : Sign
-star_sign = Mark 42
+abbrev pub star_token : Token
+star_token = Punct 42
 
-abbrev pub plus_sign : Sign
-plus_sign = Mark 43
+abbrev pub plus_token : Token
+plus_token = Punct 43
 
--- Signs that spell a sum of products, a product of factors, a factor, and a name or a group with the `'` behind it.
+-- Tokens that spell a sum of products, a product of factors, a factor, and a name or a group with the `'` behind it.
 mutual
-  pub data IsSum (pins : List (List ℕ)) : List Sign → List Expr → Type 0 where
-    first_product : (signs : List Sign) (es : List Expr) → IsProduct pins signs es → IsSum pins signs (product_of es ∷ [])
-    next_product : (before signs : List Sign) (sums es : List Expr) → IsSum pins before sums → IsProduct pins signs es → IsSum pins (before ++ plus_sign ∷ signs) (sums ++ product_of es ∷ [])
+  pub data IsSum (pins : List (List ℕ)) : List Token → List Expr → Type 0 where
+    first_product : (tokens : List Token) (es : List Expr) → IsProduct pins tokens es → IsSum pins tokens (product_of es ∷ [])
+    next_product : (before tokens : List Token) (sums es : List Expr) → IsSum pins before sums → IsProduct pins tokens es → IsSum pins (before ++ plus_token ∷ tokens) (sums ++ product_of es ∷ [])
 
-  pub data IsProduct (pins : List (List ℕ)) : List Sign → List Expr → Type 0 where
-    first_factor : (signs : List Sign) (e : Expr) → IsFactor pins signs e → IsProduct pins signs (e ∷ [])
-    beside_factor : (before signs : List Sign) (es : List Expr) (e : Expr) → IsProduct pins before es → IsFactor pins signs e → IsProduct pins (before ++ signs) (es ++ e ∷ [])
-    times_factor : (before signs : List Sign) (es : List Expr) (e : Expr) → IsProduct pins before es → IsFactor pins signs e → IsProduct pins (before ++ star_sign ∷ signs) (es ++ e ∷ [])
+  pub data IsProduct (pins : List (List ℕ)) : List Token → List Expr → Type 0 where
+    first_factor : (tokens : List Token) (e : Expr) → IsFactor pins tokens e → IsProduct pins tokens (e ∷ [])
+    beside_factor : (before tokens : List Token) (es : List Expr) (e : Expr) → IsProduct pins before es → IsFactor pins tokens e → IsProduct pins (before ++ tokens) (es ++ e ∷ [])
+    times_factor : (before tokens : List Token) (es : List Expr) (e : Expr) → IsProduct pins before es → IsFactor pins tokens e → IsProduct pins (before ++ star_token ∷ tokens) (es ++ e ∷ [])
 
-  pub data IsFactor (pins : List (List ℕ)) : List Sign → Expr → Type 0 where
-    plain_factor : (signs : List Sign) (e : Expr) → IsAtom pins signs e → IsFactor pins signs e
-    bang_factor : (signs : List Sign) (e : Expr) → IsFactor pins signs e → IsFactor pins (bang_sign ∷ signs) (expr_not e)
+  pub data IsFactor (pins : List (List ℕ)) : List Token → Expr → Type 0 where
+    plain_factor : (tokens : List Token) (e : Expr) → IsAtom pins tokens e → IsFactor pins tokens e
+    bang_factor : (tokens : List Token) (e : Expr) → IsFactor pins tokens e → IsFactor pins (bang_token ∷ tokens) (expr_not e)
 
-  pub data IsAtom (pins : List (List ℕ)) : List Sign → Expr → Type 0 where
+  pub data IsAtom (pins : List (List ℕ)) : List Token → Expr → Type 0 where
     name_atom : (name : List ℕ) → IsAtom pins (Name name ∷ []) (literal_of pins name)
-    group_atom : (signs : List Sign) (es : List Expr) → IsSum pins signs es → IsAtom pins (open_sign ∷ (signs ++ close_sign ∷ [])) (sum_of es)
-    quoted_atom : (signs : List Sign) (e : Expr) → IsAtom pins signs e → IsAtom pins (signs ++ quote_sign ∷ []) (expr_not e)
+    group_atom : (tokens : List Token) (es : List Expr) → IsSum pins tokens es → IsAtom pins (open_token ∷ (tokens ++ close_token ∷ [])) (sum_of es)
+    quoted_atom : (tokens : List Token) (e : Expr) → IsAtom pins tokens e → IsAtom pins (tokens ++ quote_token ∷ []) (expr_not e)
 
 -- What may follow.
 
-abbrev pub is_mark : ℕ → Sign → Bool
-is_mark m (Name name) = false
-is_mark m (Mark b) = b == m
+abbrev pub is_punct : ℕ → Token → Bool
+is_punct m (Name name) = false
+is_punct m (Punct b) = b == m
 
-abbrev pub is_name : Sign → Bool
+abbrev pub is_name : Token → Bool
 is_name (Name name) = true
-is_name (Mark b) = false
+is_name (Punct b) = false
 
 -- a name, `(` or `!`
-abbrev pub begins_operand : Sign → Bool
+abbrev pub begins_operand : Token → Bool
 begins_operand (Name name) = true
-begins_operand (Mark b) = b == 40 || b == 33
+begins_operand (Punct b) = b == 40 || b == 33
 
 -- behind `(`, `!`, `+` and `*` an operand has to follow
-abbrev pub awaits_behind : Sign → Bool
+abbrev pub awaits_behind : Token → Bool
 awaits_behind (Name name) = false
-awaits_behind (Mark b) = b == 40 || b == 33 || b == 43 || b == 42
+awaits_behind (Punct b) = b == 40 || b == 33 || b == 43 || b == 42
 
--- a name or one of the signs of expressions
-abbrev pub is_inner : Sign → Bool
+-- a name or one of the punctuation bytes of expressions
+abbrev pub is_inner : Token → Bool
 is_inner (Name name) = true
-is_inner (Mark b) = b == 40 || b == 41 || b == 33 || b == 39 || b == 43 || b == 42
+is_inner (Punct b) = b == 40 || b == 41 || b == 33 || b == 39 || b == 43 || b == 42
 
--- how many groups are open behind a sign
-abbrev pub depth_behind : Sign → ℕ → ℕ
+-- how many groups are open behind a token
+abbrev pub depth_behind : Token → ℕ → ℕ
 depth_behind (Name name) depth = depth
-depth_behind (Mark b) depth = if b == 40 then depth + 1 else (if b == 41 then depth - 1 else depth)
+depth_behind (Punct b) depth = if b == 40 then depth + 1 else (if b == 41 then depth - 1 else depth)
 
--- the sign may stand where so many groups are open, and an operand is awaited or not
-abbrev pub fits : Bool → ℕ → Sign → Bool
-fits true depth sign = begins_operand sign
-fits false depth sign = is_inner sign && not (is_mark 41 sign && depth == 0)
+-- the token may stand where so many groups are open, and an operand is awaited or not
+abbrev pub fits : Bool → ℕ → Token → Bool
+fits true depth token = begins_operand token
+fits false depth token = is_inner token && not (is_punct 41 token && depth == 0)
 
--- the signs may stand one after the other, and end where no group is open and no operand awaited
-abbrev pub go_on : Bool → ℕ → List Sign → Bool
+-- the tokens may stand one after the other, and end where no group is open and no operand awaited
+abbrev pub go_on : Bool → ℕ → List Token → Bool
 go_on awaits depth [] = not awaits && depth == 0
-go_on awaits depth (sign ∷ signs) = fits awaits depth sign && go_on (awaits_behind sign) (depth_behind sign depth) signs
+go_on awaits depth (token ∷ tokens) = fits awaits depth token && go_on (awaits_behind token) (depth_behind token depth) tokens
 
--- how many names stand among the signs
-abbrev pub names_in : List Sign → ℕ
+-- how many names stand among the tokens
+abbrev pub names_in : List Token → ℕ
 names_in [] = 0
-names_in (Name name ∷ signs) = 1 + names_in signs
-names_in (Mark b ∷ signs) = names_in signs
+names_in (Name name ∷ tokens) = 1 + names_in tokens
+names_in (Punct b ∷ tokens) = names_in tokens
 
--- the signs begin with one of these
-abbrev pub begins_with : (Sign → Bool) → List Sign → Bool
+-- the tokens begin with one of these
+abbrev pub begins_with : (Token → Bool) → List Token → Bool
 begins_with p [] = false
-begins_with p (sign ∷ signs) = p sign
+begins_with p (token ∷ tokens) = p token
 
--- What a reader did: the signs before those that are left spell this expression, whose steps were appended, and none of these signs follows.
-pub record Reads (Spells : List Sign → Expr → Type 0) (follows : Sign → Bool) (depth : ℕ) (signs rest : List Sign) (old new : List ExprOp) : Type 0 where
-  pub read : List Sign
+-- What a reader did: the tokens before those that are left spell this expression, whose steps were appended, and none of these tokens follows.
+pub record Reads (Spells : List Token → Expr → Type 0) (follows : Token → Bool) (depth : ℕ) (tokens rest : List Token) (old new : List ExprOp) : Type 0 where
+  pub read : List Token
   pub tree : Expr
-  pub whole : signs ≡ read ++ rest
+  pub whole : tokens ≡ read ++ rest
   pub spelled : Spells read tree
   pub some : 1 ≤ names_in read
   pub steps : new ≡ old ++ postfix tree
   pub left : go_on false depth rest ≡ true
   pub stops : begins_with follows rest ≡ false
 
--- the signs spell the product, or the sum, of some expressions
-abbrev pub SpellsProduct : List (List ℕ) → List Sign → Expr → Type 0
-SpellsProduct pins signs e = (es : List Expr) × IsProduct pins signs es × (e ≡ product_of es)
+-- the tokens spell the product, or the sum, of some expressions
+abbrev pub SpellsProduct : List (List ℕ) → List Token → Expr → Type 0
+SpellsProduct pins tokens e = (es : List Expr) × IsProduct pins tokens es × (e ≡ product_of es)
 
-abbrev pub SpellsSum : List (List ℕ) → List Sign → Expr → Type 0
-SpellsSum pins signs e = (es : List Expr) × IsSum pins signs es × (e ≡ sum_of es)
+abbrev pub SpellsSum : List (List ℕ) → List Token → Expr → Type 0
+SpellsSum pins tokens e = (es : List Expr) × IsSum pins tokens es × (e ≡ sum_of es)
 
 -- what cannot follow an atom, a factor, a product and a sum
-abbrev pub after_atom : Sign → Bool
-after_atom sign = false
+abbrev pub after_atom : Token → Bool
+after_atom token = false
 
-abbrev pub after_factor : Sign → Bool
-after_factor sign = is_mark 39 sign
+abbrev pub after_factor : Token → Bool
+after_factor token = is_punct 39 token
 
-abbrev pub after_product : Sign → Bool
-after_product sign = is_mark 39 sign || is_mark 42 sign || begins_operand sign
+abbrev pub after_product : Token → Bool
+after_product token = is_punct 39 token || is_punct 42 token || begins_operand token
 
-abbrev pub after_sum : Sign → Bool
-after_sum sign = is_mark 39 sign || is_mark 42 sign || begins_operand sign || is_mark 43 sign
+abbrev pub after_sum : Token → Bool
+after_sum token = is_punct 39 token || is_punct 42 token || begins_operand token || is_punct 43 token
 
 -- one more factor follows, behind `*` or right away
-abbrev pub IsNextFactor : List Sign → List Sign → Type 0
-IsNextFactor rest behind = (rest ≡ star_sign ∷ behind) ⊎ ((rest ≡ behind) × (begins_with begins_operand rest ≡ true))
+abbrev pub IsNextFactor : List Token → List Token → Type 0
+IsNextFactor rest behind = (rest ≡ star_token ∷ behind) ⊎ ((rest ≡ behind) × (begins_with begins_operand rest ≡ true))

@@ -4,41 +4,41 @@ use Rattle.std.specs.List.{list_any, list_all, IsDistinct}
 use Rattle.std.specs.Str.{bytes_eq}
 use Rattle.lw_fixed.specs.declared.micro.Micro.{Micro}
 use Rattle.lw_laws.specs.Expressions.{Expr}
-use Rattle.lw_genlib.specs.declared.sign.Sign.{Sign}
-use Rattle.lw_genlib.specs.declared.sign.Sign.TheVariants.{Name, Mark}
-use Rattle.lw_genlib.specs.Cells.{CellParts, IsWord, IsPinName, IsSmall, IsForm, IsLibrary, form_count, is_mark_byte}
-use Rattle.lw_genlib.specs.Grammar.{is_mark, go_on, names_in}
+use Rattle.lw_genlib.specs.declared.token.Token.{Token}
+use Rattle.lw_genlib.specs.declared.token.Token.TheVariants.{Name, Punct}
+use Rattle.lw_genlib.specs.Cells.{CellParts, IsWord, IsPinName, IsSmall, IsForm, IsLibrary, form_count, is_punct_byte}
+use Rattle.lw_genlib.specs.Grammar.{is_punct, go_on, names_in}
 use Rattle.lw_genlib.specs.Functions.{pins_in}
 use Rattle.lw_genlib.specs.Spelled.{expression_of}
 
 -- a name in a function, of at most so many bytes, maybe one that ends in `\`
 abbrev pub IsRun : ℕ → List ℕ → Type 0
-IsRun most name = IsWord most name × IsTrue (list_all (λ b. not (is_mark_byte b)) name)
+IsRun most name = IsWord most name × IsTrue (list_all (λ b. not (is_punct_byte b)) name)
 
-abbrev pub AreRunsWithin : ℕ → List Sign → Type 0
+abbrev pub AreRunsWithin : ℕ → List Token → Type 0
 AreRunsWithin most [] = ⊤
-AreRunsWithin most (Name name ∷ signs) = IsWord most name × IsTrue (list_all (λ b. not (is_mark_byte b)) name) × AreRunsWithin most signs
-AreRunsWithin most (Mark b ∷ signs) = AreRunsWithin most signs
+AreRunsWithin most (Name name ∷ tokens) = IsWord most name × IsTrue (list_all (λ b. not (is_punct_byte b)) name) × AreRunsWithin most tokens
+AreRunsWithin most (Punct b ∷ tokens) = AreRunsWithin most tokens
 
-abbrev pub AreRuns : List Sign → Type 0
-AreRuns signs = AreRunsWithin 2048 signs
+abbrev pub AreRuns : List Token → Type 0
+AreRuns tokens = AreRunsWithin 2048 tokens
 
--- the signs of a function before its `;`, the lines of them, and how many bytes there is room for
-pub record IsOpenText (signs : List Sign) (lines : List ℕ) (room : ℕ) : Type 0 where
-  pub paired : length lines ≡ length signs
-  pub few : length signs + room ≤ 2049
-  pub no_end : list_any (is_mark 59) signs ≡ false
-  pub runs : AreRuns signs
+-- the tokens of a function before its `;`, the lines of them, and how many bytes there is room for
+pub record IsOpenText (tokens : List Token) (lines : List ℕ) (room : ℕ) : Type 0 where
+  pub paired : length lines ≡ length tokens
+  pub few : length tokens + room ≤ 2049
+  pub no_end : list_any (is_punct 59) tokens ≡ false
+  pub runs : AreRuns tokens
 
--- what the signs of a whole function say
-pub record IsFunction (signs : List Sign) (output : List ℕ) (pins : List (List ℕ)) (form : Expr) : Type 0 where
-  pub inner : List Sign
-  pub whole : signs ≡ Name output ∷ Mark 61 ∷ (inner ++ Mark 59 ∷ [])
+-- what the tokens of a whole function say
+pub record IsFunction (tokens : List Token) (output : List ℕ) (pins : List (List ℕ)) (form : Expr) : Type 0 where
+  pub inner : List Token
+  pub whole : tokens ≡ Name output ∷ Punct 61 ∷ (inner ++ Punct 59 ∷ [])
   pub goes_on : go_on true 0 inner ≡ true
   pub names : names_in inner ≤ 64
   pub short : length inner ≤ 2049
   pub few_pins : length pins ≤ 16
-  pub pins_are : pins ≡ pins_in signs
+  pub pins_are : pins ≡ pins_in tokens
   pub form_is : form ≡ expression_of pins inner
   pub is_form : IsForm (length pins) form
   pub output_name : IsPinName output
@@ -59,8 +59,8 @@ pub record AreCells (cells : List CellParts) (entries : ℕ) : Type 0 where
   pub count : entries ≡ sum_by form_count cells
 
 -- an entry whose function is whole
-pub record IsEntry (name : List ℕ) (area : Micro) (signs : List Sign) (output : List ℕ) (pins : List (List ℕ)) (form : Expr) (named : List (Option Micro)) (every : Option Micro) : Type 0 where
+pub record IsEntry (name : List ℕ) (area : Micro) (tokens : List Token) (output : List ℕ) (pins : List (List ℕ)) (form : Expr) (named : List (Option Micro)) (every : Option Micro) : Type 0 where
   pub word : IsWord 4095 name
   pub small : IsSmall area
-  pub function : IsFunction signs output pins form
+  pub function : IsFunction tokens output pins form
   pub delays : AreDelays named every pins

@@ -6,33 +6,33 @@ use Rattle.lw_genlib.specs.declared.fault.LibKind.TheVariants.{Expected, LongWor
 use Rattle.lw_genlib.specs.declared.fault.LibFault.{LibFault}
 use Rattle.lw_genlib.specs.declared.fault.LibFault.TheVariants.{Line}
 use Rattle.lw_genlib.specs.Cells.{CellParts, form_count}
-use Rattle.lw_genlib.specs.Streams.{Token, word_on, long_line, text_end, stream_of, last_number, Reading, done, broken, cut_short, and_then}
+use Rattle.lw_genlib.specs.Streams.{StreamItem, word_on, long_line, text_end, stream_of, last_number, Reading, done, broken, cut_short, and_then}
 use Rattle.lw_genlib.specs.Entries.{Entry, behind_gate, behind_pin}
-use Rattle.lw_genlib.specs.Joining.{joined}
+use Rattle.lw_genlib.specs.Merging.{merged}
 
 -- what was read: the cells of the entries that are at their end, and the entry whose pins may follow
-pub record Book : Type 0 where
+pub record CellsSoFar : Type 0 where
   pub cells : List CellParts
   pub entry : Option Entry
 
-abbrev pub no_book : Book
-no_book = record { cells = []; entry = None }
+abbrev pub no_cells : CellsSoFar
+no_cells = record { cells = []; entry = None }
 
-abbrev pub with_open : Book → Option Entry → Book
-with_open book open_one = record { cells = book.cells; entry = open_one }
+abbrev pub with_open : CellsSoFar → Option Entry → CellsSoFar
+with_open so_far open_one = record { cells = so_far.cells; entry = open_one }
 
--- the book of these cells, with no entry whose pins may follow
-abbrev pub with_cells : Result (List CellParts) LibFault → Result Book LibFault
+-- these cells, with no entry whose pins may follow
+abbrev pub with_cells : Result (List CellParts) LibFault → Result CellsSoFar LibFault
 with_cells (Ok cells) = Ok (record { cells = cells; entry = None })
 with_cells (Err fault) = Err fault
 
 -- the cells where the entry, if there is one, is at its end
-abbrev pub joined_with : List CellParts → Option Entry → Result (List CellParts) LibFault
-joined_with cells None = Ok cells
-joined_with cells (Some entry) = joined cells entry
+abbrev pub merged_with : List CellParts → Option Entry → Result (List CellParts) LibFault
+merged_with cells None = Ok cells
+merged_with cells (Some entry) = merged cells entry
 
-abbrev pub entry_ended : Book → Result Book LibFault
-entry_ended book = with_cells (joined_with book.cells book.entry)
+abbrev pub entry_ended : CellsSoFar → Result CellsSoFar LibFault
+entry_ended so_far = with_cells (merged_with so_far.cells so_far.entry)
 
 abbrev pub is_word : List ℕ → List ℕ → Bool
 is_word word bytes = bytes_eq bytes word
@@ -41,54 +41,54 @@ abbrev pub begins_entry : List ℕ → Bool
 begins_entry bytes = is_word (codes "GATE") bytes || is_word (codes "LATCH") bytes
 
 -- what follows the words of a latch
-unfoldable pub behind_latch : List Token → List Token
+unfoldable pub behind_latch : List StreamItem → List StreamItem
 behind_latch [] = []
 behind_latch (text_end line ∷ rest) = text_end line ∷ rest
 behind_latch (long_line line ∷ rest) = long_line line ∷ rest
 behind_latch (word_on line bytes ∷ rest) = if begins_entry bytes then word_on line bytes ∷ rest else behind_latch rest
 
--- a book with what is left of the stream, if there is no fault
-abbrev pub go_on_with : Result Book LibFault → (Book → Reading Book) → Reading Book
-go_on_with (Ok book) f = f book
+-- the cells so far with what is left of the stream, if there is no fault
+abbrev pub go_on_with : Result CellsSoFar LibFault → (CellsSoFar → Reading CellsSoFar) → Reading CellsSoFar
+go_on_with (Ok so_far) f = f so_far
 go_on_with (Err fault) f = broken fault
 
--- the book with the entry that is read, whose pins may follow
-abbrev pub opened_by : Book → Reading Entry → Reading Book
-opened_by book entry = and_then entry (λ read rest. done (with_open book (Some read)) rest)
+-- the cells so far with the entry that is read, whose pins may follow
+abbrev pub opened_by : CellsSoFar → Reading Entry → Reading CellsSoFar
+opened_by so_far entry = and_then entry (λ read rest. done (with_open so_far (Some read)) rest)
 
 -- the entry that begins with the word `GATE` on this line
-abbrev pub gate_on : Book → ℕ → List Token → Reading Book
-gate_on book line tokens = opened_by book (behind_gate line tokens)
+abbrev pub gate_on : CellsSoFar → ℕ → List StreamItem → Reading CellsSoFar
+gate_on so_far line stream = opened_by so_far (behind_gate line stream)
 
 -- the words of an entry behind a word that begins it
-abbrev pub entry_on : ℕ → List ℕ → List Token → Book → Reading Book
-entry_on line bytes rest book =
-    if is_word (codes "LATCH") bytes then done book (behind_latch rest)
+abbrev pub entry_on : ℕ → List ℕ → List StreamItem → CellsSoFar → Reading CellsSoFar
+entry_on line bytes rest so_far =
+    if is_word (codes "LATCH") bytes then done so_far (behind_latch rest)
     else (if is_word (codes "GATE") bytes
-    then (if nat_le 4096 (sum_by form_count book.cells) then broken (Line line LimitCells) else gate_on book line rest)
+    then (if nat_le 4096 (sum_by form_count so_far.cells) then broken (Line line LimitCells) else gate_on so_far line rest)
     else broken (Line line Expected))
 
 -- The tests at the end of an entry come before those of the word that ends it.
-abbrev pub entry_behind : Book → ℕ → List ℕ → List Token → Reading Book
-entry_behind book line bytes rest = go_on_with (entry_ended book) (entry_on line bytes rest)
+abbrev pub entry_behind : CellsSoFar → ℕ → List ℕ → List StreamItem → Reading CellsSoFar
+entry_behind so_far line bytes rest = go_on_with (entry_ended so_far) (entry_on line bytes rest)
 
-abbrev pub pin_on : Book → Entry → List Token → Reading Book
-pin_on book entry tokens = opened_by book (behind_pin entry tokens)
+abbrev pub pin_on : CellsSoFar → Entry → List StreamItem → Reading CellsSoFar
+pin_on so_far entry stream = opened_by so_far (behind_pin entry stream)
 
 -- The words `PIN` and those behind it, of an entry whose pins may follow, or a new entry.
-abbrev pub words_behind : Book → Option Entry → ℕ → List ℕ → List Token → Reading Book
-words_behind book None line bytes rest = entry_behind book line bytes rest
-words_behind book (Some entry) line bytes rest = if is_word (codes "PIN") bytes then pin_on book entry rest else entry_behind book line bytes rest
+abbrev pub words_behind : CellsSoFar → Option Entry → ℕ → List ℕ → List StreamItem → Reading CellsSoFar
+words_behind so_far None line bytes rest = entry_behind so_far line bytes rest
+words_behind so_far (Some entry) line bytes rest = if is_word (codes "PIN") bytes then pin_on so_far entry rest else entry_behind so_far line bytes rest
 
--- What comes of one pin or one entry: a book with the stream that is left, a fault, nothing yet, or at the end of the text the cells.
+-- What comes of one pin or one entry: the cells so far with the stream that is left, a fault, nothing yet, or at the end of the text the cells.
 pub data Piece : Type 0 where
-  next : Book → List Token → Piece
+  next : CellsSoFar → List StreamItem → Piece
   stopped : LibFault → Piece
   unfinished : Piece
   finished : List CellParts → Piece
 
-abbrev pub piece_by : Reading Book → Piece
-piece_by (done book rest) = next book rest
+abbrev pub piece_by : Reading CellsSoFar → Piece
+piece_by (done so_far rest) = next so_far rest
 piece_by (broken fault) = stopped fault
 piece_by cut_short = unfinished
 
@@ -96,11 +96,11 @@ abbrev pub last_piece : Result (List CellParts) LibFault → Piece
 last_piece (Ok cells) = finished cells
 last_piece (Err fault) = stopped fault
 
-unfoldable pub piece : Book → List Token → Piece
-piece book [] = unfinished
-piece book (text_end line ∷ rest) = last_piece (joined_with book.cells book.entry)
-piece book (long_line line ∷ rest) = stopped (Line line LongWord)
-piece book (word_on line bytes ∷ rest) = piece_by (words_behind book book.entry line bytes rest)
+unfoldable pub piece : CellsSoFar → List StreamItem → Piece
+piece so_far [] = unfinished
+piece so_far (text_end line ∷ rest) = last_piece (merged_with so_far.cells so_far.entry)
+piece so_far (long_line line ∷ rest) = stopped (Line line LongWord)
+piece so_far (word_on line bytes ∷ rest) = piece_by (words_behind so_far so_far.entry line bytes rest)
 
 -- the first fault, and the cells where the stream comes to the end of the text without one
 pub record Outcome : Type 0 where
@@ -108,22 +108,22 @@ pub record Outcome : Type 0 where
   pub cells : List CellParts
 
 -- what follows a piece
-abbrev pub after : Piece → (Book → List Token → Outcome) → Outcome
-after (next book rest) others = others book rest
+abbrev pub after : Piece → (CellsSoFar → List StreamItem → Outcome) → Outcome
+after (next so_far rest) others = others so_far rest
 after (stopped fault) others = record { fault = Some fault; cells = [] }
 after unfinished others = record { fault = None; cells = [] }
 after (finished cells) others = record { fault = None; cells = cells }
 
 -- The pieces of a stream, in at most so many turns. Each piece takes a word or more.
-unfoldable pub pieces : ℕ → Book → List Token → Outcome
-pieces zero book tokens = record { fault = None; cells = [] }
-pieces (suc turns) book tokens = after (piece book tokens) (pieces turns)
+unfoldable pub pieces : ℕ → CellsSoFar → List StreamItem → Outcome
+pieces zero so_far stream = record { fault = None; cells = [] }
+pieces (suc turns) so_far stream = after (piece so_far stream) (pieces turns)
 
-unfoldable pub outcome_from : Book → List Token → Outcome
-outcome_from book tokens = pieces (suc (length tokens)) book tokens
+unfoldable pub outcome_from : CellsSoFar → List StreamItem → Outcome
+outcome_from so_far stream = pieces (suc (length stream)) so_far stream
 
-unfoldable pub outcome_of : List Token → Outcome
-outcome_of tokens = outcome_from no_book tokens
+unfoldable pub outcome_of : List StreamItem → Outcome
+outcome_of stream = outcome_from no_cells stream
 
 abbrev pub cells_or_fault : Option LibFault → List CellParts → Result (List CellParts) LibFault
 cells_or_fault (Some fault) cells = Err fault

@@ -1,9 +1,9 @@
--- The expression that signs spell, read from left to right: what is kept of each group that is open.
+-- The expression that tokens spell, read from left to right: what is kept of each group that is open.
 use Rattle.std.specs.Prelude.{ℕ, ◌-◌, ◌==◌, zero, suc, List, [], ◌∷◌, ◌++◌, fold, length, take, drop, Option, Some, None, if◌then◌else◌, false}
 use Rattle.lw_laws.specs.Expressions.{Expr}
 use Rattle.lw_laws.specs.Expressions.Expr.{expr_const, expr_not}
-use Rattle.lw_genlib.specs.declared.sign.Sign.{Sign}
-use Rattle.lw_genlib.specs.declared.sign.Sign.TheVariants.{Name, Mark}
+use Rattle.lw_genlib.specs.declared.token.Token.{Token}
+use Rattle.lw_genlib.specs.declared.token.Token.TheVariants.{Name, Punct}
 use Rattle.lw_genlib.specs.Grammar.{literal_of, product_of, sum_of}
 
 pub record Group : Type 0 where
@@ -63,11 +63,11 @@ abbrev pub group_closed : Expr → List Group → List Group
 group_closed e [] = []
 group_closed e (g ∷ groups) = with_atom g e ∷ groups
 
--- the open groups behind one more sign
-abbrev pub with_sign : List (List ℕ) → List Group → Sign → List Group
-with_sign pins [] sign = []
-with_sign pins (g ∷ groups) (Name name) = with_atom g (literal_of pins name) ∷ groups
-with_sign pins (g ∷ groups) (Mark b) =
+-- the open groups behind one more token
+abbrev pub with_token : List (List ℕ) → List Group → Token → List Group
+with_token pins [] token = []
+with_token pins (g ∷ groups) (Name name) = with_atom g (literal_of pins name) ∷ groups
+with_token pins (g ∷ groups) (Punct b) =
     if b == 33 then with_bang g ∷ groups
     else (if b == 39 then with_quote g ∷ groups
     else (if b == 42 then factor_ended g ∷ groups
@@ -80,10 +80,10 @@ abbrev pub value_of_all : List Group → Expr
 value_of_all [] = expr_const false
 value_of_all (g ∷ groups) = value_of g
 
--- the expression of these signs
-unfoldable pub expression_of : List (List ℕ) → List Sign → Expr
-expression_of pins signs = value_of_all (fold (with_sign pins) (new_group ∷ []) signs)
+-- the expression of these tokens
+unfoldable pub expression_of : List (List ℕ) → List Token → Expr
+expression_of pins tokens = value_of_all (fold (with_token pins) (new_group ∷ []) tokens)
 
--- the signs of an expression, among those of a function with its `;`
-abbrev pub inner_of : List Sign → List Sign
-inner_of signs = take (length signs - 1 - 2) (drop 2 signs)
+-- the tokens of an expression, among those of a function with its `;`
+abbrev pub inner_of : List Token → List Token
+inner_of tokens = take (length tokens - 1 - 2) (drop 2 tokens)

@@ -33,7 +33,7 @@ impl Cell {
     ghost use Rattle.std.specs.Prelude.{◌≡◌, length, OnOk, OnErr};
     ghost use Rattle.lw_genlib.specs.Cells.{IsCell, IsForm, HaveOneTruth, cell_value};
     ghost use Rattle.lw_genlib.specs.Postfix.{first_expr};
-    ghost use Rattle.lw_genlib.specs.Joining.{with_form};
+    ghost use Rattle.lw_genlib.specs.Merging.{with_form};
 
     /// The cell of these parts, without memory.
     pub fn new(

@@ -3,38 +3,38 @@ ghost use Rattle.std.specs.Prelude.{◌≡◌, ◌<◌, ⊤, MatchResult, MatchO
 ghost use Rattle.std.specs.List.{list_any};
 ghost use Rattle.lw_genlib.specs.Cells.{IsSmall};
 ghost use Rattle.lw_genlib.specs.Entries as words;
-ghost use Rattle.lw_genlib.specs.Joining as joining;
+ghost use Rattle.lw_genlib.specs.Merging as merging;
 ghost use Rattle.lw_genlib.specs.Tells.{TellsErr};
 
 use crate::function::function_of;
-use crate::parts::{Entry, Heading, Text};
-use crate::text::with_end;
+use crate::function_text::with_end;
+use crate::state_parts::{Entry, FunctionText, GateHeader};
 use crate::{LibFault, Target};
 use lw_fixed::{Micro, Micros};
 use lw_pool::Name;
 use std::alloc::{AllocError, Global};
 
 /// The entry that begins so, where the function's text ends with this `;`.
-pub(crate) fn begin(
+pub(crate) fn begin_entry(
     alloc: Global,
-    heading: Heading,
-    text: Text,
+    header: GateHeader,
+    text: FunctionText,
     line: u32,
 ) -> Result<Entry, LibFault>
-    ensures { MatchResult result (λ e. words.entry_begun heading.line heading.name heading.area
+    ensures { MatchResult result (λ e. words.entry_begun header.line header.name header.area
         (words.with_end text line) ≡ Ok e)
-        (TellsErr (words.entry_begun heading.line heading.name heading.area
+        (TellsErr (words.entry_begun header.line header.name header.area
         (words.with_end text line))) }
 {
-    let (signs, lines) = with_end(text, line)?;
-    let function = function_of(alloc, &signs, &lines)?;
+    let (tokens, lines) = with_end(text, line)?;
+    let function = function_of(alloc, &tokens, &lines)?;
     let named = no_delays(alloc, function.pins.len())?;
-    let Heading { line, name, area } = heading;
+    let GateHeader { line, name, area } = header;
     Ok(Entry {
         line,
         name,
         area,
-        signs,
+        tokens,
         function,
         named,
         every: None,
@@ -72,12 +72,12 @@ impl Entry {
     ghost use Rattle.std.specs.Prelude.{◌≡◌, ◌<◌, ◌≤◌, length, IfOk};
     ghost use Rattle.lw_genlib.specs.Cells.{IsSmall};
     ghost use Rattle.lw_genlib.specs.Entries as words;
-    ghost use Rattle.lw_genlib.specs.Joining as joining;
+    ghost use Rattle.lw_genlib.specs.Merging as merging;
     ghost use Rattle.lw_genlib.specs.Libraries as library;
 
     /// The output's name.
     pub(crate) fn output(&self) -> &Name
-        ensures { result.now ≡ joining.output_of self.now }
+        ensures { result.now ≡ merging.output_of self.now }
     {
         &self.function.output
     }
@@ -97,9 +97,9 @@ pub(crate) fn delays(
     every: Option<Micro>,
 ) -> Result<Option<Micros>, AllocError>
     ensures { IfOk result (λ all. MatchOption all
-        (list_any (λ own. joining.is_missing (joining.own_or every own)) named.now ≡ true)
-        (λ delays. (list_any (λ own. joining.is_missing (joining.own_or every own)) named.now
-        ≡ false) × (delays ≡ map (joining.delay_by every) named.now))) }
+        (list_any (λ own. merging.is_missing (merging.own_or every own)) named.now ≡ true)
+        (λ delays. (list_any (λ own. merging.is_missing (merging.own_or every own)) named.now
+        ≡ false) × (delays ≡ map (merging.delay_by every) named.now))) }
 {
     let mut delays = Vec::new(alloc);
     for own in named {

@@ -4,7 +4,7 @@ use std::alloc::AllocError;
 /// What is wrong in the text of a library.
 #[derive(Clone, Copy, Debug, PartialEq, Eq)]
 pub enum LibKind {
-    /// Another word or sign is required here, or the file ends inside an entry.
+    /// Another word or token is required here, or the file ends inside an entry.
     Expected,
     /// A byte that may not stand in a function.
     BadByte,

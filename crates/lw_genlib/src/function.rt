@@ -3,9 +3,9 @@ ghost use Rattle.std.specs.Prelude.{◌≡◌, ◌<◌, ◌≤◌, ◌-◌, ◌^
 ghost use Rattle.lw_genlib.specs.Functions.{IsText, Says, first_fault};
 ghost use Rattle.lw_genlib.specs.Tells.{TellsFault};
 
-use crate::checking::pins_of;
+use crate::check_tokens::pins_of;
 use crate::parsing::{expression, first_name};
-use crate::{Expr, LibFault, Sign};
+use crate::{Expr, LibFault, Token};
 use lw_pool::{Name, Names};
 use std::alloc::Global;
 
@@ -17,34 +17,34 @@ pub(crate) struct Function {
     pub(crate) form: Expr,
 }
 
-/// The function that the signs spell, or the first sign that may not stand, by its line.
+/// The function that the tokens spell, or the first token that may not stand, by its line.
 pub(crate) fn function_of(
     alloc: Global,
-    signs: &[Sign],
+    tokens: &[Token],
     lines: &[u32],
 ) -> Result<Function, LibFault>
-    requires lines { length lines.now ≡ length signs.now }
-    requires short { length signs.now < 2 ^ 32 }
-    requires text { IsText signs.now }
+    requires lines { length lines.now ≡ length tokens.now }
+    requires short { length tokens.now < 2 ^ 32 }
+    requires text { IsText tokens.now }
     ensures { MatchResult result
-        (λ f. Says signs.now f.output f.pins f.form × (first_fault [] lines.now signs.now ≡ None))
-        (TellsFault (first_fault [] lines.now signs.now)) }
+        (λ f. Says tokens.now f.output f.pins f.form × (first_fault [] lines.now tokens.now ≡ None))
+        (TellsFault (first_fault [] lines.now tokens.now)) }
 {
-    let pins = pins_of(alloc, signs, lines)?;
-    let (output, _) = first_name(signs);
+    let pins = pins_of(alloc, tokens, lines)?;
+    let (output, _) = first_name(tokens);
     let Ok(output) = Name::from_slice(alloc, output.as_bytes()) else {
         return Err(LibFault::Memory);
     };
-    let Ok(form) = expression(alloc, between(signs), pins.as_slice()) else {
+    let Ok(form) = expression(alloc, between(tokens), pins.as_slice()) else {
         return Err(LibFault::Memory);
     };
     Ok(Function { output, pins, form })
 }
 
-// The signs behind the first two and before the last.
-pub(crate) fn between(signs: &[Sign]) -> &[Sign]
-    requires { 3 ≤ length signs.now }
-    ensures { result.now ≡ take (length signs.now - 1 - 2) (drop 2 signs.now) }
+// The tokens behind the first two and before the last.
+pub(crate) fn between(tokens: &[Token]) -> &[Token]
+    requires { 3 ≤ length tokens.now }
+    ensures { result.now ≡ take (length tokens.now - 1 - 2) (drop 2 tokens.now) }
 {
-    &signs[2..signs.len() - 1]
+    &tokens[2..tokens.len() - 1]
 }

@@ -1,42 +1,42 @@
 //! Laws over definitions: functions with empty bodies, whose clauses are the laws.
 ghost use Rattle.std.specs.Prelude.{◌≡◌, ℕ, List, [], true, None, Ok, All, length};
 ghost use Rattle.lw_laws.specs.Expressions.{Expr};
-ghost use Rattle.lw_genlib.specs.declared.sign.Sign.{Sign};
+ghost use Rattle.lw_genlib.specs.declared.token.Token.{Token};
 ghost use Rattle.lw_genlib.specs.Functions.{IsText, Says, pins_in, first_fault};
 ghost use Rattle.lw_genlib.specs.Grammar.{SpellsSum, go_on};
-ghost use Rattle.lw_genlib.specs.Joining.{name_first};
+ghost use Rattle.lw_genlib.specs.Merging.{name_first};
 ghost use Rattle.lw_genlib.specs.Spelled.{expression_of, inner_of};
 ghost use Rattle.lw_words.specs.Lines.{LogicalLine};
 ghost use Rattle.lw_genlib.specs.Cells.{CellParts, IsLibrary, IsWord};
 ghost use Rattle.lw_genlib.specs.Libraries.{library_of};
 
-/// The text of a function in which no sign has a fault is the output's name, `=`, signs and `;`,
-/// and by the grammar those signs spell the expression that is read from them, over the pins in the
-/// order in which they first stand.
+/// The text of a function in which no token has a fault is the output's name, `=`, tokens and `;`,
+/// and by the grammar those tokens spell the expression that is read from them, over the pins in
+/// the order in which they first stand.
 pub fn functions_say_what_is_read()
-    ensures { (signs : List Sign) (lines : List ℕ) → IsText signs → length lines ≡ length signs →
-        first_fault [] lines signs ≡ None →
-        Says signs (name_first signs) (pins_in signs)
-        (expression_of (pins_in signs) (inner_of signs)) }
+    ensures { (tokens : List Token) (lines : List ℕ) → IsText tokens →
+        length lines ≡ length tokens → first_fault [] lines tokens ≡ None →
+        Says tokens (name_first tokens) (pins_in tokens)
+        (expression_of (pins_in tokens) (inner_of tokens)) }
 {}
 
-/// Signs that may stand one after the other spell, by the grammar, the expression that is read from
-/// them.
+/// Tokens that may stand one after the other spell, by the grammar, the expression that is read
+/// from them.
 pub fn what_is_read_is_spelled()
-    ensures { (pins : List (List ℕ)) (signs : List Sign) → go_on true 0 signs ≡ true →
-        SpellsSum pins signs (expression_of pins signs) }
+    ensures { (pins : List (List ℕ)) (tokens : List Token) → go_on true 0 tokens ≡ true →
+        SpellsSum pins tokens (expression_of pins tokens) }
 {}
 
-/// Signs that spell an expression by the grammar may stand one after the other.
-pub fn spelled_signs_go_on()
-    ensures { (pins : List (List ℕ)) (signs : List Sign) (e : Expr) → SpellsSum pins signs e →
-        go_on true 0 signs ≡ true }
+/// Tokens that spell an expression by the grammar may stand one after the other.
+pub fn spelled_tokens_go_on()
+    ensures { (pins : List (List ℕ)) (tokens : List Token) (e : Expr) → SpellsSum pins tokens e →
+        go_on true 0 tokens ≡ true }
 {}
 
-/// Signs spell at most one expression.
-pub fn signs_spell_one_expression()
-    ensures { (pins : List (List ℕ)) (signs : List Sign) (e f : Expr) → SpellsSum pins signs e →
-        SpellsSum pins signs f → e ≡ f }
+/// Tokens spell at most one expression.
+pub fn tokens_spell_one_expression()
+    ensures { (pins : List (List ℕ)) (tokens : List Token) (e f : Expr) → SpellsSum pins tokens e →
+        SpellsSum pins tokens f → e ≡ f }
 {}
 
 /// The cells that are read from lines of words are a library.

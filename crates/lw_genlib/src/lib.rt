@@ -1,44 +1,50 @@
 //! Libraries of cells in genlib: their expressions and cells, and what the text of a function says.
+//!
+//! A `LibReader` takes lines and keeps a `ReaderState`: the cells so far, and what is expected next
+//! (`read_word`). The words of an entry are read field by field (`fields`). Those of a function are
+//! cut into tokens (`tokenize`, `function_text`), checked one by one (`check_tokens`) and parsed
+//! (`parsing`). At its end an entry becomes a cell, or gives one more form to the cell of its name
+//! (`cells_so_far`, `merge_entry`), where truth tables are compared (`truth`, `eval`).
 #![tactic(auto)]
 
-mod book;
 mod cell;
-mod checking;
+mod cells_so_far;
+mod check_tokens;
 mod entry;
 mod eval;
 mod expr;
 mod fault;
+mod fields;
 mod function;
-mod joining;
+mod function_check;
+mod function_text;
 mod laws;
 mod library;
 mod lists;
+mod merge_entry;
+mod no_hash;
 mod op;
 mod parsing;
-mod parts;
 mod pin;
-mod plain_line;
-mod progress;
+mod read_word;
 mod reader;
-mod reading;
-mod seen;
-mod sign;
-mod text;
+mod reader_state;
+mod state_parts;
+mod token;
+mod tokenize;
 mod truth;
-mod word;
-mod wording;
 
 pub use cell::Cell;
 pub use expr::Expr;
 pub use fault::{LibFault, LibKind};
 pub use laws::{
-    functions_say_what_is_read, signs_spell_one_expression, spelled_signs_go_on,
+    functions_say_what_is_read, spelled_tokens_go_on, tokens_spell_one_expression,
     what_is_read_is_spelled,
 };
 pub use library::Library;
 pub use lists::Exprs;
+pub use no_hash::has_no_hash;
 pub use op::ExprOp;
 pub(crate) use pin::{Field, Target};
-pub use plain_line::has_no_hash;
 pub use reader::LibReader;
-pub(crate) use sign::Sign;
+pub(crate) use token::Token;

@@ -1,47 +1,48 @@
-// The expression that signs spell, which may stand one after the other.
+// Parses an expression from tokens that may stand one after the other.
 ghost use Rattle.std.specs.Prelude.{◌≡◌, ◌+◌, ◌≤◌, ◌^◌, ◌||◌, ◌∷◌, [], true, false, IfOk, OnOk, IfSome, IfNone, length, unwrap_or, replicate, ◌++◌};
 ghost use Rattle.std.specs.List.{position};
 ghost use Rattle.std.specs.Str.{bytes_eq};
-ghost use Rattle.lw_genlib.specs.declared.sign.Sign.TheVariants.{Mark};
+ghost use Rattle.lw_genlib.specs.declared.token.Token.TheVariants.{Punct};
 ghost use Rattle.lw_genlib.specs.Grammar as grammar;
 ghost use Rattle.lw_genlib.specs.Grammar.{Reads, IsAtom, IsFactor, SpellsProduct, SpellsSum, go_on, begins_with, names_in};
 ghost use Rattle.lw_genlib.specs.Postfix.{postfix};
 
-use crate::{Expr, ExprOp, Sign};
+use crate::{Expr, ExprOp, Token};
 use lw_pool::Name;
 use std::alloc::{AllocError, Global};
 
-/// The expression that the signs spell, over these pins.
-pub(crate) fn expression(alloc: Global, signs: &[Sign], pins: &[Name]) -> Result<Expr, AllocError>
-    requires fits { go_on true 0 signs.now ≡ true }
-    requires few { names_in signs.now ≤ 64 }
-    requires short { length signs.now ≤ 2 ^ 32 }
+/// The expression that the tokens spell, over these pins.
+pub(crate) fn expression(alloc: Global, tokens: &[Token], pins: &[Name]) -> Result<Expr, AllocError>
+    requires fits { go_on true 0 tokens.now ≡ true }
+    requires few { names_in tokens.now ≤ 64 }
+    requires short { length tokens.now ≤ 2 ^ 32 }
     requires pins { length pins.now ≤ 16 }
-    ensures { IfOk result (λ expr. SpellsSum pins.now signs.now expr) }
+    ensures { IfOk result (λ expr. SpellsSum pins.now tokens.now expr) }
 {
     let mut ops = Vec::new(alloc);
-    sum(signs, 0, pins, &mut ops)?;
+    sum(tokens, 0, pins, &mut ops)?;
     Ok(Expr::new(ops))
 }
 
-// Reads a sum from the front of the signs, appends its steps, and answers the signs that are left.
+// Reads a sum from the front of the tokens, appends its steps, and gives the tokens that are left.
 #[cycle(expression)]
 fn sum<'a>(
-    signs: &'a [Sign],
+    tokens: &'a [Token],
     depth: usize,
     pins: &[Name],
     ops: &mut Vec<ExprOp>,
-) -> Result<&'a [Sign], AllocError>
-    requires fits { go_on true depth signs.now ≡ true }
-    requires few { names_in signs.now ≤ 64 }
-    requires short { depth + length signs.now ≤ 2 ^ 32 }
+) -> Result<&'a [Token], AllocError>
+    requires fits { go_on true depth tokens.now ≡ true }
+    requires few { names_in tokens.now ≤ 64 }
+    requires short { depth + length tokens.now ≤ 2 ^ 32 }
     requires pins { length pins.now ≤ 16 }
     ensures { IfOk result (λ rest. Reads
-        (SpellsSum pins.now) grammar.after_sum depth signs.now rest.now ops.old.items ops.new.items) }
+        (SpellsSum pins.now) grammar.after_sum depth tokens.now rest.now ops.old.items
+        ops.new.items) }
 {
-    let mut rest = product(signs, depth, pins, ops)?;
+    let mut rest = product(tokens, depth, pins, ops)?;
     let mut products = 1u8;
-    while let Some(behind) = behind_mark(b'+', rest) {
+    while let Some(behind) = behind_punct(b'+', rest) {
         rest = product(behind, depth, pins, ops)?;
         products += 1;
     }
@@ -53,20 +54,20 @@ fn sum<'a>(
 
 #[cycle(expression)]
 fn product<'a>(
-    signs: &'a [Sign],
+    tokens: &'a [Token],
     depth: usize,
     pins: &[Name],
     ops: &mut Vec<ExprOp>,
-) -> Result<&'a [Sign], AllocError>
-    requires fits { go_on true depth signs.now ≡ true }
-    requires few { names_in signs.now ≤ 64 }
-    requires short { depth + length signs.now ≤ 2 ^ 32 }
+) -> Result<&'a [Token], AllocError>
+    requires fits { go_on true depth tokens.now ≡ true }
+    requires few { names_in tokens.now ≤ 64 }
+    requires short { depth + length tokens.now ≤ 2 ^ 32 }
     requires pins { length pins.now ≤ 16 }
     ensures { IfOk result (λ rest. Reads
-        (SpellsProduct pins.now) grammar.after_product depth signs.now rest.now ops.old.items
+        (SpellsProduct pins.now) grammar.after_product depth tokens.now rest.now ops.old.items
         ops.new.items) }
 {
-    let mut rest = factor(signs, depth, pins, ops)?;
+    let mut rest = factor(tokens, depth, pins, ops)?;
     let mut factors = 1u8;
     while let Some(behind) = next_factor(rest) {
         rest = factor(behind, depth, pins, ops)?;
@@ -80,20 +81,20 @@ fn product<'a>(
 
 #[cycle(expression)]
 fn factor<'a>(
-    signs: &'a [Sign],
+    tokens: &'a [Token],
     depth: usize,
     pins: &[Name],
     ops: &mut Vec<ExprOp>,
-) -> Result<&'a [Sign], AllocError>
-    requires fits { go_on true depth signs.now ≡ true }
-    requires few { names_in signs.now ≤ 64 }
-    requires short { depth + length signs.now ≤ 2 ^ 32 }
+) -> Result<&'a [Token], AllocError>
+    requires fits { go_on true depth tokens.now ≡ true }
+    requires few { names_in tokens.now ≤ 64 }
+    requires short { depth + length tokens.now ≤ 2 ^ 32 }
     requires pins { length pins.now ≤ 16 }
     ensures { IfOk result (λ rest. Reads
-        (IsFactor pins.now) grammar.after_factor depth signs.now rest.now ops.old.items
+        (IsFactor pins.now) grammar.after_factor depth tokens.now rest.now ops.old.items
         ops.new.items) }
 {
-    let (bangs, operand) = without_bangs(signs);
+    let (bangs, operand) = without_bangs(tokens);
     let rest = quoted(operand, depth, pins, ops)?;
     push_complements(ops, bangs)?;
     Ok(rest)
@@ -101,21 +102,22 @@ fn factor<'a>(
 
 #[cycle(expression)]
 fn quoted<'a>(
-    signs: &'a [Sign],
+    tokens: &'a [Token],
     depth: usize,
     pins: &[Name],
     ops: &mut Vec<ExprOp>,
-) -> Result<&'a [Sign], AllocError>
-    requires fits { go_on true depth signs.now ≡ true }
-    requires no_bang { begins_with (grammar.is_mark 33) signs.now ≡ false }
-    requires few { names_in signs.now ≤ 64 }
-    requires short { depth + length signs.now ≤ 2 ^ 32 }
+) -> Result<&'a [Token], AllocError>
+    requires fits { go_on true depth tokens.now ≡ true }
+    requires no_bang { begins_with (grammar.is_punct 33) tokens.now ≡ false }
+    requires few { names_in tokens.now ≤ 64 }
+    requires short { depth + length tokens.now ≤ 2 ^ 32 }
     requires pins { length pins.now ≤ 16 }
     ensures { IfOk result (λ rest. Reads
-        (IsAtom pins.now) grammar.after_factor depth signs.now rest.now ops.old.items ops.new.items) }
+        (IsAtom pins.now) grammar.after_factor depth tokens.now rest.now ops.old.items
+        ops.new.items) }
 {
-    let mut rest = atom(signs, depth, pins, ops)?;
-    while let Some(behind) = behind_mark(b'\'', rest) {
+    let mut rest = atom(tokens, depth, pins, ops)?;
+    while let Some(behind) = behind_punct(b'\'', rest) {
         ops.push(ExprOp::Not)?;
         rest = behind;
     }
@@ -124,56 +126,57 @@ fn quoted<'a>(
 
 #[cycle(expression)]
 fn atom<'a>(
-    signs: &'a [Sign],
+    tokens: &'a [Token],
     depth: usize,
     pins: &[Name],
     ops: &mut Vec<ExprOp>,
-) -> Result<&'a [Sign], AllocError>
-    requires fits { go_on true depth signs.now ≡ true }
-    requires no_bang { begins_with (grammar.is_mark 33) signs.now ≡ false }
-    requires few { names_in signs.now ≤ 64 }
-    requires short { depth + length signs.now ≤ 2 ^ 32 }
+) -> Result<&'a [Token], AllocError>
+    requires fits { go_on true depth tokens.now ≡ true }
+    requires no_bang { begins_with (grammar.is_punct 33) tokens.now ≡ false }
+    requires few { names_in tokens.now ≤ 64 }
+    requires short { depth + length tokens.now ≤ 2 ^ 32 }
     requires pins { length pins.now ≤ 16 }
     ensures { IfOk result (λ rest. Reads
-        (IsAtom pins.now) grammar.after_atom depth signs.now rest.now ops.old.items ops.new.items) }
+        (IsAtom pins.now) grammar.after_atom depth tokens.now rest.now ops.old.items
+        ops.new.items) }
 {
-    if let Some(inner) = behind_mark(b'(', signs) {
+    if let Some(inner) = behind_punct(b'(', tokens) {
         let rest = sum(inner, depth + 1, pins, ops)?;
         return Ok(behind_group(rest));
     }
-    let (name, rest) = first_name(signs);
+    let (name, rest) = first_name(tokens);
     ops.push(literal_of(name, pins))?;
     Ok(rest)
 }
 
-// What stands behind this sign, if it stands first.
-fn behind_mark(mark: u8, signs: &[Sign]) -> Option<&[Sign]>
-    ensures some { IfSome result (λ rest. signs.now ≡ Mark mark ∷ rest.now) }
-    ensures none { IfNone result (begins_with (grammar.is_mark mark) signs.now ≡ false) }
+// What stands behind this punctuation byte, if it stands first.
+fn behind_punct(punct: u8, tokens: &[Token]) -> Option<&[Token]>
+    ensures some { IfSome result (λ rest. tokens.now ≡ Punct punct ∷ rest.now) }
+    ensures none { IfNone result (begins_with (grammar.is_punct punct) tokens.now ≡ false) }
 {
-    match signs {
-        [Sign::Mark(byte), rest @ ..] if *byte == mark => Some(rest),
+    match tokens {
+        [Token::Punct(byte), rest @ ..] if *byte == punct => Some(rest),
         _ => None,
     }
 }
 
 // The name that stands first, and what stands behind it.
-pub(crate) fn first_name(signs: &[Sign]) -> (&Name, &[Sign])
-    requires { begins_with grammar.is_name signs.now ≡ true }
-    ensures { signs.now ≡ Sign.Name result.0.now ∷ result.1.now }
+pub(crate) fn first_name(tokens: &[Token]) -> (&Name, &[Token])
+    requires { begins_with grammar.is_name tokens.now ≡ true }
+    ensures { tokens.now ≡ Token.Name result.0.now ∷ result.1.now }
 {
-    match signs {
-        [Sign::Name(name), rest @ ..] => (name, rest),
+    match tokens {
+        [Token::Name(name), rest @ ..] => (name, rest),
         _ => unreachable!(),
     }
 }
 
 // What stands behind the `)` that stands first.
-fn behind_group(signs: &[Sign]) -> &[Sign]
-    requires { begins_with (grammar.is_mark 41) signs.now ≡ true }
-    ensures { signs.now ≡ Mark 41 ∷ result.now }
+fn behind_group(tokens: &[Token]) -> &[Token]
+    requires { begins_with (grammar.is_punct 41) tokens.now ≡ true }
+    ensures { tokens.now ≡ Punct 41 ∷ result.now }
 {
-    match signs {
+    match tokens {
         [_, rest @ ..] => rest,
         [] => unreachable!(),
     }
@@ -189,27 +192,27 @@ fn push_complements(ops: &mut Vec<ExprOp>, count: usize) -> Result<(), AllocErro
 }
 
 // How many `!` stand first, and what stands behind them.
-fn without_bangs(signs: &[Sign]) -> (usize, &[Sign])
-    ensures whole { signs.now ≡ replicate result.0 (Mark 33) ++ result.1.now }
-    ensures stops { begins_with (grammar.is_mark 33) result.1.now ≡ false }
+fn without_bangs(tokens: &[Token]) -> (usize, &[Token])
+    ensures whole { tokens.now ≡ replicate result.0 (Punct 33) ++ result.1.now }
+    ensures stops { begins_with (grammar.is_punct 33) result.1.now ≡ false }
 {
     let mut bangs = 0;
-    let mut rest = signs;
-    while let Some(behind) = behind_mark(b'!', rest) {
+    let mut rest = tokens;
+    while let Some(behind) = behind_punct(b'!', rest) {
         bangs += 1;
         rest = behind;
     }
     (bangs, rest)
 }
 
-fn next_factor(rest: &[Sign]) -> Option<&[Sign]>
+fn next_factor(rest: &[Token]) -> Option<&[Token]>
     ensures some { IfSome result (λ behind. grammar.IsNextFactor rest.now behind.now) }
     ensures none { IfNone result (begins_with
-        (λ sign. grammar.is_mark 42 sign || grammar.begins_operand sign) rest.now ≡ false) }
+        (λ token. grammar.is_punct 42 token || grammar.begins_operand token) rest.now ≡ false) }
 {
     match rest {
-        [Sign::Mark(b'*'), behind @ ..] => Some(behind),
-        [Sign::Name(_) | Sign::Mark(b'(' | b'!'), ..] => Some(rest),
+        [Token::Punct(b'*'), behind @ ..] => Some(behind),
+        [Token::Name(_) | Token::Punct(b'(' | b'!'), ..] => Some(rest),
         _ => None,
     }
 }

@@ -2,15 +2,15 @@
 ghost use Rattle.std.specs.Prelude.{◌≡◌, ◌++◌, [], ◌∷◌, List, Ok, All, IfOk, IfErr, MatchResult, map};
 ghost use Rattle.lw_genlib.specs.declared.fault.LibFault.TheVariants.{Memory};
 ghost use Rattle.lw_genlib.specs.Cells.{IsWord};
-ghost use Rattle.lw_genlib.specs.Streams.{Token, word_on, text_end, tokens_on};
+ghost use Rattle.lw_genlib.specs.Streams.{StreamItem, word_on, text_end, items_on};
 ghost use Rattle.lw_genlib.specs.Libraries.{library_by};
 ghost use Rattle.lw_genlib.specs.Tells.{TellsErr};
 ghost use Rattle.lw_genlib.specs.Standing.{resume, BreaksAt, HasNoHash};
 
-use crate::book::{ended, no_book};
-use crate::parts::{Book, Place};
-use crate::progress::Progress;
-use crate::reading::read_word;
+use crate::cells_so_far::{end_entry, no_cells};
+use crate::read_word::read_word;
+use crate::reader_state::ReaderState;
+use crate::state_parts::{CellsSoFar, Expect};
 use crate::{LibFault, LibKind, Library};
 use lw_words::{Line, Words};
 use std::alloc::Global;
@@ -23,20 +23,20 @@ pub struct LibReader {
     alloc: Global,
     // The number of the last line.
     last: u32,
-    state: State,
+    status: Status,
 }
 
 /// What a reader reads next, or why it reads no more lines.
 #[derive(Drop)]
-pub(crate) enum State {
-    Reading(Progress),
+pub(crate) enum Status {
+    Reading(ReaderState),
     Stopped(LibFault),
 }
 
 impl LibReader {
     ghost use Rattle.std.specs.Prelude.{◌≡◌, ◌++◌, [], ◌∷◌, List, Ok, Err, IfSome, IsSome, MatchResult};
     ghost use Rattle.lw_words.specs.Lines.{LogicalLine};
-    ghost use Rattle.lw_genlib.specs.Streams.{Token, tokens_on};
+    ghost use Rattle.lw_genlib.specs.Streams.{StreamItem, items_on};
     ghost use Rattle.lw_genlib.specs.Tells.{TellsErr};
     ghost use Rattle.lw_genlib.specs.Libraries.{fault_so_far, library_of};
     ghost use Rattle.lw_genlib.specs.Standing.{StandsFor, Tells, HasNoHash, resume, stop_of, BreaksAt};
@@ -47,9 +47,9 @@ impl LibReader {
         LibReader {
             alloc,
             last: 0,
-            state: State::Reading(Progress {
-                book: no_book(alloc),
-                place: Place::Piece(None),
+            status: Status::Reading(ReaderState {
+                so_far: no_cells(alloc),
+                expect: Expect::Piece(None),
             }),
         }
     }
@@ -67,20 +67,20 @@ impl LibReader {
         ensures again { IfSome (stop_of self.old) (λ fault. result ≡ Err fault) }
         ensures unchanged { IsSome (stop_of self.old) → self.new ≡ self.old }
     {
-        match mem::replace(&mut self.state, State::Stopped(LibFault::Memory)) {
-            State::Stopped(fault) => {
-                self.state = State::Stopped(fault);
+        match mem::replace(&mut self.status, Status::Stopped(LibFault::Memory)) {
+            Status::Stopped(fault) => {
+                self.status = Status::Stopped(fault);
                 Err(fault)
             }
-            State::Reading(progress) => {
+            Status::Reading(state) => {
                 self.last = line.number;
-                match read_line(self.alloc, progress, line) {
-                    Ok(progress) => {
-                        self.state = State::Reading(progress);
+                match read_line(self.alloc, state, line) {
+                    Ok(state) => {
+                        self.status = Status::Reading(state);
                         Ok(())
                     }
                     Err(fault) => {
-                        self.state = State::Stopped(fault);
+                        self.status = Status::Stopped(fault);
                         Err(fault)
                     }
                 }
@@ -95,71 +95,75 @@ impl LibReader {
             (TellsErr (library_of lines)) }
         ensures again { IfSome (stop_of self) (λ fault. result ≡ Err fault) }
     {
-        let LibReader { alloc, last, state } = self;
-        match state {
-            State::Stopped(fault) => Err(fault),
-            State::Reading(progress) => finish(alloc, last, progress),
+        let LibReader {
+            alloc,
+            last,
+            status,
+        } = self;
+        match status {
+            Status::Stopped(fault) => Err(fault),
+            Status::Reading(state) => finish(alloc, last, state),
         }
     }
 }
 
 // Reads the words of a line.
-fn read_line(alloc: Global, progress: Progress, line: &Line) -> Result<Progress, LibFault>
+fn read_line(alloc: Global, state: ReaderState, line: &Line) -> Result<ReaderState, LibFault>
     requires { HasNoHash line.now }
-    ensures { (rest : List Token) → MatchResult result
-        (λ new. resume progress (tokens_on line.now ++ rest) ≡ resume new rest)
-        (BreaksAt (resume progress (tokens_on line.now ++ rest))) }
+    ensures { (rest : List StreamItem) → MatchResult result
+        (λ new. resume state (items_on line.now ++ rest) ≡ resume new rest)
+        (BreaksAt (resume state (items_on line.now ++ rest))) }
 {
     if line.long {
         return Err(LibFault::Line(line.number, LibKind::LongWord));
     }
-    read_words(alloc, progress, line.number, &line.words)
+    read_words(alloc, state, line.number, &line.words)
 }
 
 fn read_words(
     alloc: Global,
-    begun: Progress,
+    begun: ReaderState,
     line: u32,
     words: &Words,
-) -> Result<Progress, LibFault>
+) -> Result<ReaderState, LibFault>
     requires { All (IsWord 4095) words.now }
-    ensures { (rest : List Token) → MatchResult result
+    ensures { (rest : List StreamItem) → MatchResult result
         (λ new. resume begun (map (word_on line) words.now ++ rest) ≡ resume new rest)
         (BreaksAt (resume begun (map (word_on line) words.now ++ rest))) }
 {
-    let mut progress = begun;
+    let mut state = begun;
     for place in 0..words.len() {
-        match read_word(alloc, progress, line, words.get(place)) {
-            Ok(more) => progress = more,
+        match read_word(alloc, state, line, words.get(place)) {
+            Ok(more) => state = more,
             Err(fault) => return Err(fault),
         }
     }
-    Ok(progress)
+    Ok(state)
 }
 
 // The library of what was read, where no line follows the last one.
-fn finish(alloc: Global, last: u32, progress: Progress) -> Result<Library, LibFault>
+fn finish(alloc: Global, last: u32, state: ReaderState) -> Result<Library, LibFault>
     ensures { MatchResult result
-        (λ library. library_by (resume progress (text_end last ∷ [])) ≡ Ok library)
-        (TellsErr (library_by (resume progress (text_end last ∷ [])))) }
+        (λ library. library_by (resume state (text_end last ∷ [])) ≡ Ok library)
+        (TellsErr (library_by (resume state (text_end last ∷ [])))) }
 {
-    let Progress { book, place } = progress;
-    let _ = &book.cells;
-    match place {
-        Place::Piece(entry) => match ended(alloc, book, entry) {
-            Ok(book) => library_in(alloc, book),
+    let ReaderState { so_far, expect } = state;
+    let _ = &so_far.cells;
+    match expect {
+        Expect::Piece(entry) => match end_entry(alloc, so_far, entry) {
+            Ok(so_far) => library_in(alloc, so_far),
             Err(fault) => Err(fault),
         },
-        Place::Latch => library_in(alloc, book),
+        Expect::Latch => library_in(alloc, so_far),
         _ => Err(LibFault::Line(last, LibKind::Expected)),
     }
 }
 
-fn library_in(alloc: Global, book: Book) -> Result<Library, LibFault>
-    ensures cells { IfOk result (λ library. library ≡ book.cells) }
+fn library_in(alloc: Global, so_far: CellsSoFar) -> Result<Library, LibFault>
+    ensures cells { IfOk result (λ library. library ≡ so_far.cells) }
     ensures memory { IfErr result (λ fault. fault ≡ Memory) }
 {
-    match Library::new(alloc, book.cells) {
+    match Library::new(alloc, so_far.cells) {
         Ok(library) => Ok(library),
         Err(_) => Err(LibFault::Memory),
     }

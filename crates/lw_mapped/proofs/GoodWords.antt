@@ -7,7 +7,7 @@ use Rattle.std.proofs.lemmas.Bool.{and_parts}
 use Rattle.std.proofs.lemmas.Bool.Decides.{nat_tests}
 use Rattle.lw_words.specs.Gathering.{IsInk, IsNoHash}
 use Rattle.lw_words.specs.Lines.{is_blank}
-use Rattle.lw_genlib.specs.Cells.{IsPinName, is_word_byte, is_mark_byte}
+use Rattle.lw_genlib.specs.Cells.{IsPinName, is_word_byte, is_punct_byte as is_mark_byte}
 use Rattle.lw_genlib.specs.Cells as genlib
 use Rattle.lw_mapped.specs.GateLines.{is_equals}
 use Rattle.lw_mapped.specs.Readable.{IsSignalName}

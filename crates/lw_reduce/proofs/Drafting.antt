@@ -13,8 +13,8 @@ use Rattle.lw_laws.proofs.Truths.{flip_not_equivalent}
 use Rattle.lw_reduce.specs.declared.facts.Fact.{Fact}
 use Rattle.lw_reduce.specs.declared.facts.Link.{Link}
 use Rattle.lw_reduce.specs.Drafting.{FitsLink, FitsNand, IsDraft, plain_draft, plain_fact, plain_link, sample_of}
-use Rattle.lw_reduce.specs.Names.{CanName, family, name_of}
-use Rattle.lw_reduce.proofs.Naming.{turned_half}
+use Rattle.lw_reduce.specs.Representatives.{AreRepresentatives, family, rep_of}
+use Rattle.lw_reduce.proofs.RepLemmas.{in_phase_half}
 
 all_one : {X : Type 0} (P : X → Type 0) (y : X) → P y → All P (y ∷ [])
 all_one P y p zero d lt = p
@@ -70,13 +70,13 @@ module _ (inputs : ℕ) (samples : List Bool) (nands : List Fact) (links : List 
     links = λ f h c. (fits_link (record { left = f; right = h }) c).fits;
   }
 
-  -- each base form is its own name
-  pub own_can : (names : List ℕ) → length names ≡ length samples → ((b : ℕ) → b < length samples → slice_index names b ≡ 2 * b) → CanName (length names) nands links names
-  own_can names count own = subst (λ n. CanName n nands links names) (sym count) (record {
+  -- each base form is its own representative
+  pub own_valid : (reps : List ℕ) → length reps ≡ length samples → ((b : ℕ) → b < length samples → slice_index reps b ≡ 2 * b) → AreRepresentatives (length reps) nands links reps
+  own_valid reps count own = subst (λ n. AreRepresentatives n nands links reps) (sym count) (record {
     count = count;
-    sound = λ f lt. let e : name_of names f ≡ f = ap (λ s. if f % 2 == 0 then s else flip s) (own (f / 2) lt) ∙ turned_half f in (subst (λ k. k / 2 < length samples) (sym e) lt, subst (λ k. Equivalent (family (length samples) nands links) f k) (sym e) (same lt));
+    sound = λ f lt. let e : rep_of reps f ≡ f = ap (λ s. if f % 2 == 0 then s else flip s) (own (f / 2) lt) ∙ in_phase_half f in (subst (λ k. k / 2 < length samples) (sym e) lt, subst (λ k. Equivalent (family (length samples) nands links) f k) (sym e) (same lt));
     lower = λ b lt. inl (own b lt);
     nands_in = λ k d lt. let c = fits_nand (get_or nands k d) (Contains-get_or nands k d lt) in (c.form, c.left, c.right);
     links_in = λ k d lt. let c = fits_link (get_or links k d) (Contains-get_or links k d lt) in (c.left, c.right);
-    apart = λ f e. flip_not_equivalent (family (length samples) nands links) (λ i. false) (sample_of samples) valuation f e;
+    consistent = λ f e. flip_not_equivalent (family (length samples) nands links) (λ i. false) (sample_of samples) valuation f e;
   })

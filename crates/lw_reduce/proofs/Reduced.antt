@@ -1,4 +1,4 @@
--- The graph of settled names: its classes, its pairs, and what its type keeps.
+-- The graph of settled representatives: its classes, its pairs, and what its type keeps.
 use Rattle.std.proofs.Common.{ℕ, ◌+◌, ◌*◌, ◌/◌, ◌<◌, ◌≡◌, ◌^◌, ◌==◌, ◌⊎◌, ◌↔◌, inl, inr, min, max, Bool, true, List, [], length, map, filter, get_or, All, Contains, refl, ap, sym, ◌∙◌, subst, subst₂, arith}
 use Rattle.std.specs.List.{slice_get}
 use Rattle.std.specs.Prelude.{Some, slice_index_or}
@@ -13,20 +13,18 @@ use Rattle.lw_laws.proofs.Lists.{in_map}
 use Rattle.lw_graph.specs.Graphs.{IsBelow}
 use Rattle.lw_reduce.specs.declared.facts.Fact.{Fact}
 use Rattle.lw_reduce.specs.declared.facts.Link.{Link}
-use Rattle.lw_reduce.specs.Classing.{AreClasses}
+use Rattle.lw_reduce.specs.ClassNumbers.{AreClasses}
 use Rattle.lw_reduce.specs.Drafting.{plain_draft, plain_fact, plain_link}
-use Rattle.lw_reduce.specs.Names.{IsFactIn, family, name_of}
+use Rattle.lw_reduce.specs.Representatives.{IsFactIn, family, rep_of}
 use Rattle.lw_reduce.specs.Rows.{IsOrdered}
-use Rattle.lw_reduce.specs.Settling.{AreSettled, renamed_fact}
-use Rattle.lw_reduce.specs.Spreading.{of_class, pair_of}
-use Rattle.lw_reduce.proofs.Closed.{agree, min_max_same, min_max_turned, named}
+use Rattle.lw_reduce.specs.Settling.{AreSettled, canonical_fact}
+use Rattle.lw_reduce.specs.Buckets.{of_class, pair_of}
+use Rattle.lw_reduce.proofs.BucketLemmas.{is_same}
+use Rattle.lw_reduce.proofs.Closed.{agree, min_max_same, min_max_exchanged, same_rep_iff}
 use Rattle.lw_reduce.proofs.Members.{filter_in, filter_back, map_back}
-use Rattle.lw_reduce.proofs.Roots.{IsRoot, class_name, class_once, class_below}
+use Rattle.lw_reduce.proofs.Roots.{IsRoot, class_of_rep, class_once, class_below}
 use Rattle.lw_reduce.proofs.Settling.{min_max}
-use Rattle.lw_reduce.proofs.Strict.{fact_is}
-
-is_same : (a c : ℕ) → a ≡ c → (a == c) ≡ true
-is_same a c e = grind (arith, e)
+use Rattle.lw_reduce.proofs.SettledFacts.{fact_is}
 
 same_is : (a c : ℕ) → (a == c) ≡ true → a ≡ c
 same_is a c e = grind (arith, e)
@@ -34,92 +32,92 @@ same_is a c e = grind (arith, e)
 abbrev pub pairs_of : List Fact → List PlainPair
 pairs_of rows = map (λ (r : Fact). record { x = r.left; y = r.right }) rows
 
-module _ (n : ℕ) (nands : List Fact) (links : List Link) (names : List ℕ) (is : AreSettled n nands links names) (few : n < 2 ^ 31) (forms : List ℕ) (are : AreClasses names forms) (count : length forms ≡ n) where
+module _ (n : ℕ) (nands : List Fact) (links : List Link) (reps : List ℕ) (is : AreSettled n nands links reps) (few : n < 2 ^ 31) (forms : List ℕ) (are : AreClasses reps forms) (count : length forms ≡ n) where
   abbrev entries : List Fact
-  entries = map (renamed_fact forms) nands
+  entries = map (canonical_fact forms) nands
 
-  count' : length forms ≡ length names
-  count' = let c = is.can.count in omega arith
+  count' : length forms ≡ length reps
+  count' = let c = is.valid.count in omega arith
 
-  known : (f : ℕ) → f / 2 < n → f / 2 < length names
-  known f lt = let c = is.can.count in omega arith
+  known : (f : ℕ) → f / 2 < n → f / 2 < length reps
+  known f lt = let c = is.valid.count in omega arith
 
-  -- the entries are the facts in terms of classes
-  listed_in : (p : Fact) → Contains nands p → Contains entries (renamed_fact forms p)
-  listed_in p c = in_map (renamed_fact forms) nands p c
+  -- the entries are the facts over classes
+  listed_in : (p : Fact) → Contains nands p → Contains entries (canonical_fact forms p)
+  listed_in p c = in_map (canonical_fact forms) nands p c
 
-  listed_back : (r : Fact) → Contains entries r → (p : Fact) × Contains nands p × (renamed_fact forms p ≡ r)
-  listed_back r c = map_back (renamed_fact forms) nands r c
+  listed_back : (r : Fact) → Contains entries r → (p : Fact) × Contains nands p × (canonical_fact forms p ≡ r)
+  listed_back r c = map_back (canonical_fact forms) nands r c
 
-  parts_in : (p : Fact) → Contains nands p → IsFactIn n p
-  parts_in p c = All-contains (IsFactIn n) nands p is.can.nands_in c
+  operands_in : (p : Fact) → Contains nands p → IsFactIn n p
+  operands_in p c = All-contains (IsFactIn n) nands p is.valid.nands_in c
 
-  below : (f : ℕ) → f / 2 < n → name_of forms f < 2 * pair_count 0 forms
-  below f lt = class_below names forms are count' f (known f lt)
+  below : (f : ℕ) → f / 2 < n → rep_of forms f < 2 * pair_count 0 forms
+  below f lt = class_below reps forms are count' f (known f lt)
 
-  small : (f : ℕ) → f / 2 < n → name_of forms f < 2 ^ 32
+  small : (f : ℕ) → f / 2 < n → rep_of forms f < 2 ^ 32
   small f lt = let b = below f lt in let g = are.few in omega arith
 
   pub entry_ordered : (r : Fact) → Contains entries r → IsOrdered (pair_of r)
   entry_ordered r c =
       let (p, l, e) = listed_back r c in
-      let in' = parts_in p l in
+      let in' = operands_in p l in
       let a = small p.left in'.1 in
       let b = small p.right in'.2 in
       subst (λ (q : Fact). IsOrdered (pair_of q)) e (omega arith, omega arith)
 
-  -- a class and parts of it are below the number of classes
+  -- a class and its operands are below the number of classes
   pub entry_form : (r : Fact) → Contains entries r → r.form < 2 * pair_count 0 forms
   entry_form r c =
       let (p, l, e) = listed_back r c in
-      subst (λ (q : Fact). q.form < 2 * pair_count 0 forms) e (below p.form (parts_in p l).0)
+      subst (λ (q : Fact). q.form < 2 * pair_count 0 forms) e (below p.form (operands_in p l).0)
 
-  entry_parts : (r : Fact) → Contains entries r → (r.left < 2 * pair_count 0 forms) × (r.right < 2 * pair_count 0 forms)
-  entry_parts r c =
+  entry_operands : (r : Fact) → Contains entries r → (r.left < 2 * pair_count 0 forms) × (r.right < 2 * pair_count 0 forms)
+  entry_operands r c =
       let (p, l, e) = listed_back r c in
-      let in' = parts_in p l in
+      let in' = operands_in p l in
       let a = below p.left in'.1 in
       let b = below p.right in'.2 in
       subst (λ (q : Fact). (q.left < 2 * pair_count 0 forms) × (q.right < 2 * pair_count 0 forms)) e (omega arith, omega arith)
 
-  root : (f : ℕ) → f / 2 < n → IsRoot names (name_of names f)
+  root : (f : ℕ) → f / 2 < n → IsRoot reps (rep_of reps f)
   root f lt = record {
-    within = known (name_of names f) (is.can.sound f lt).0;
+    within = known (rep_of reps f) (is.valid.sound f lt).0;
     own = is.flat f (known f lt);
   }
 
-  -- forms of one class have one name
-  one_name : (f h : ℕ) → f / 2 < n → h / 2 < n → name_of forms f ≡ name_of forms h → name_of names f ≡ name_of names h
-  one_name f h a b e =
-      let x = class_name names forms are count' f (known f a) in
-      let y = class_name names forms are count' h (known h b) in
-      class_once names forms are count' (name_of names f) (name_of names h) (root f a) (root h b) (x ∙ (e ∙ sym y))
+  -- forms of one class have one representative
+  one_rep : (f h : ℕ) → f / 2 < n → h / 2 < n → rep_of forms f ≡ rep_of forms h → rep_of reps f ≡ rep_of reps h
+  one_rep f h a b e =
+      let x = class_of_rep reps forms are count' f (known f a) in
+      let y = class_of_rep reps forms are count' h (known h b) in
+      class_once reps forms are count' (rep_of reps f) (rep_of reps h) (root f a) (root h b) (x ∙ (e ∙ sym y))
 
-  -- facts whose parts have the same classes have forms of one class
-  one_class : (p q : Fact) → Contains nands p → Contains nands q → (renamed_fact forms p).left ≡ (renamed_fact forms q).left → (renamed_fact forms p).right ≡ (renamed_fact forms q).right → name_of forms p.form ≡ name_of forms q.form
+  -- facts whose operands have the same classes have forms of one class
+  one_class : (p q : Fact) → Contains nands p → Contains nands q → (canonical_fact forms p).left ≡ (canonical_fact forms q).left → (canonical_fact forms p).right ≡ (canonical_fact forms q).right → rep_of forms p.form ≡ rep_of forms q.form
   one_class p q a b e f =
-      let i = parts_in p a in
-      let j = parts_in q b in
-      let x = class_name names forms are count' p.form (known p.form i.0) in
-      let y = class_name names forms are count' q.form (known q.form j.0) in
-      sym x ∙ (ap (name_of forms) (agree n nands links names is p q a b (by_order (min_max (name_of forms p.left) (name_of forms p.right)) (min_max (name_of forms q.left) (name_of forms q.right)))) ∙ y)
+      let i = operands_in p a in
+      let j = operands_in q b in
+      let x = class_of_rep reps forms are count' p.form (known p.form i.0) in
+      let y = class_of_rep reps forms are count' q.form (known q.form j.0) in
+      sym x ∙ (ap (rep_of forms) (agree n nands links reps is p q a b (by_order (min_max (rep_of forms p.left) (rep_of forms p.right)) (min_max (rep_of forms q.left) (rep_of forms q.right)))) ∙ y)
     where
-      same : name_of forms p.left ≡ name_of forms q.left → name_of forms p.right ≡ name_of forms q.right → (min (name_of names p.left) (name_of names p.right) ≡ min (name_of names q.left) (name_of names q.right)) × (max (name_of names p.left) (name_of names p.right) ≡ max (name_of names q.left) (name_of names q.right))
+      same : rep_of forms p.left ≡ rep_of forms q.left → rep_of forms p.right ≡ rep_of forms q.right → (min (rep_of reps p.left) (rep_of reps p.right) ≡ min (rep_of reps q.left) (rep_of reps q.right)) × (max (rep_of reps p.left) (rep_of reps p.right) ≡ max (rep_of reps q.left) (rep_of reps q.right))
       same c d =
-          let i = parts_in p a in
-          let j = parts_in q b in
-          min_max_same (name_of names p.left) (name_of names p.right) (name_of names q.left) (name_of names q.right) (one_name p.left q.left i.1 j.1 c) (one_name p.right q.right i.2 j.2 d)
+          let i = operands_in p a in
+          let j = operands_in q b in
+          min_max_same (rep_of reps p.left) (rep_of reps p.right) (rep_of reps q.left) (rep_of reps q.right) (one_rep p.left q.left i.1 j.1 c) (one_rep p.right q.right i.2 j.2 d)
 
-      turned' : name_of forms p.left ≡ name_of forms q.right → name_of forms p.right ≡ name_of forms q.left → (min (name_of names p.left) (name_of names p.right) ≡ min (name_of names q.left) (name_of names q.right)) × (max (name_of names p.left) (name_of names p.right) ≡ max (name_of names q.left) (name_of names q.right))
-      turned' c d =
-          let i = parts_in p a in
-          let j = parts_in q b in
-          min_max_turned (name_of names p.left) (name_of names p.right) (name_of names q.left) (name_of names q.right) (one_name p.left q.right i.1 j.2 c) (one_name p.right q.left i.2 j.1 d)
+      exchanged' : rep_of forms p.left ≡ rep_of forms q.right → rep_of forms p.right ≡ rep_of forms q.left → (min (rep_of reps p.left) (rep_of reps p.right) ≡ min (rep_of reps q.left) (rep_of reps q.right)) × (max (rep_of reps p.left) (rep_of reps p.right) ≡ max (rep_of reps q.left) (rep_of reps q.right))
+      exchanged' c d =
+          let i = operands_in p a in
+          let j = operands_in q b in
+          min_max_exchanged (rep_of reps p.left) (rep_of reps p.right) (rep_of reps q.left) (rep_of reps q.right) (one_rep p.left q.right i.1 j.2 c) (one_rep p.right q.left i.2 j.1 d)
 
-      by_order : ((min (name_of forms p.left) (name_of forms p.right) ≡ name_of forms p.left) × (max (name_of forms p.left) (name_of forms p.right) ≡ name_of forms p.right)) ⊎ ((min (name_of forms p.left) (name_of forms p.right) ≡ name_of forms p.right) × (max (name_of forms p.left) (name_of forms p.right) ≡ name_of forms p.left)) → ((min (name_of forms q.left) (name_of forms q.right) ≡ name_of forms q.left) × (max (name_of forms q.left) (name_of forms q.right) ≡ name_of forms q.right)) ⊎ ((min (name_of forms q.left) (name_of forms q.right) ≡ name_of forms q.right) × (max (name_of forms q.left) (name_of forms q.right) ≡ name_of forms q.left)) → (min (name_of names p.left) (name_of names p.right) ≡ min (name_of names q.left) (name_of names q.right)) × (max (name_of names p.left) (name_of names p.right) ≡ max (name_of names q.left) (name_of names q.right))
+      by_order : ((min (rep_of forms p.left) (rep_of forms p.right) ≡ rep_of forms p.left) × (max (rep_of forms p.left) (rep_of forms p.right) ≡ rep_of forms p.right)) ⊎ ((min (rep_of forms p.left) (rep_of forms p.right) ≡ rep_of forms p.right) × (max (rep_of forms p.left) (rep_of forms p.right) ≡ rep_of forms p.left)) → ((min (rep_of forms q.left) (rep_of forms q.right) ≡ rep_of forms q.left) × (max (rep_of forms q.left) (rep_of forms q.right) ≡ rep_of forms q.right)) ⊎ ((min (rep_of forms q.left) (rep_of forms q.right) ≡ rep_of forms q.right) × (max (rep_of forms q.left) (rep_of forms q.right) ≡ rep_of forms q.left)) → (min (rep_of reps p.left) (rep_of reps p.right) ≡ min (rep_of reps q.left) (rep_of reps q.right)) × (max (rep_of reps p.left) (rep_of reps p.right) ≡ max (rep_of reps q.left) (rep_of reps q.right))
       by_order (inl (c, d)) (inl (g, h)) = same (sym c ∙ (e ∙ g)) (sym d ∙ (f ∙ h))
-      by_order (inl (c, d)) (inr (g, h)) = turned' (sym c ∙ (e ∙ g)) (sym d ∙ (f ∙ h))
-      by_order (inr (c, d)) (inl (g, h)) = turned' (sym d ∙ (f ∙ h)) (sym c ∙ (e ∙ g))
+      by_order (inl (c, d)) (inr (g, h)) = exchanged' (sym c ∙ (e ∙ g)) (sym d ∙ (f ∙ h))
+      by_order (inr (c, d)) (inl (g, h)) = exchanged' (sym d ∙ (f ∙ h)) (sym c ∙ (e ∙ g))
       by_order (inr (c, d)) (inr (g, h)) = same (sym d ∙ (f ∙ h)) (sym c ∙ (e ∙ g))
 
   module _ (inputs : ℕ) (samples : List Bool) (one : ℕ) (leaves : List ℕ) (pairs : List (List PlainPair)) (known_samples : length samples ≡ n) (members : (c : ℕ) (p : PlainPair) → Contains (slice_index_or pairs c []) p ↔ Contains (pairs_of (filter (of_class c) entries)) p) (rises : (c : ℕ) → AreRising (slice_index_or pairs c [])) (classes : length pairs ≡ 2 * pair_count 0 forms) where
@@ -175,33 +173,33 @@ module _ (n : ℕ) (nands : List Fact) (links : List Link) (names : List ℕ) (i
     classes_are f h o p =
         let a : f / 2 < n = subst (λ m. f / 2 < m) known_samples o in
         let b : h / 2 < n = subst (λ m. h / 2 < m) known_samples p in
-        let x = class_name names forms are count' f (known f a) in
-        let y = class_name names forms are count' h (known h b) in
-        let k = named n nands links names is f h a b in
-        (λ e. to_draft (k.0 (one_name f h a b e)), λ e. sym x ∙ (ap (name_of forms) (k.1 (from_draft e)) ∙ y))
+        let x = class_of_rep reps forms are count' f (known f a) in
+        let y = class_of_rep reps forms are count' h (known h b) in
+        let k = same_rep_iff n nands links reps is f h a b in
+        (λ e. to_draft (k.0 (one_rep f h a b e)), λ e. sym x ∙ (ap (rep_of forms) (k.1 (from_draft e)) ∙ y))
 
     swapped : (c x y : ℕ) → HasNand (facts_of draft) graph c x y → HasNand (facts_of draft) graph c y x
     swapped c x y h = record {
       form = h.form;
       left = h.right;
       right = h.left;
-      is_nand = turned' h.is_nand;
+      is_nand = exchanged' h.is_nand;
       form_at = h.form_at;
       left_at = h.right_at;
       right_at = h.left_at;
     }
       where
-        turned' : {f a b : ℕ} → IsNand (facts_of draft) f a b → IsNand (facts_of draft) f b a
-        turned' (inl c) = inr c
-        turned' (inr c) = inl c
+        exchanged' : {f a b : ℕ} → IsNand (facts_of draft) f a b → IsNand (facts_of draft) f b a
+        exchanged' (inl c) = inr c
+        exchanged' (inr c) = inl c
 
     row_nand : (c x y : ℕ) → Contains (slice_index_or pairs c []) (record { x = x; y = y }) → HasNand (facts_of draft) graph c x y
     row_nand c x y h =
         let (r, k, f, l, t) = row_back c x y h in
         let (p, d, e) = listed_back r k in
-        by_order p d (ap (λ (q : Fact). q.form) e ∙ f) (ap (λ (q : Fact). q.left) e ∙ l) (ap (λ (q : Fact). q.right) e ∙ t) (min_max (name_of forms p.left) (name_of forms p.right))
+        by_order p d (ap (λ (q : Fact). q.form) e ∙ f) (ap (λ (q : Fact). q.left) e ∙ l) (ap (λ (q : Fact). q.right) e ∙ t) (min_max (rep_of forms p.left) (rep_of forms p.right))
       where
-        by_order : (p : Fact) → Contains nands p → name_of forms p.form ≡ c → min (name_of forms p.left) (name_of forms p.right) ≡ x → max (name_of forms p.left) (name_of forms p.right) ≡ y → ((min (name_of forms p.left) (name_of forms p.right) ≡ name_of forms p.left) × (max (name_of forms p.left) (name_of forms p.right) ≡ name_of forms p.right)) ⊎ ((min (name_of forms p.left) (name_of forms p.right) ≡ name_of forms p.right) × (max (name_of forms p.left) (name_of forms p.right) ≡ name_of forms p.left)) → HasNand (facts_of draft) graph c x y
+        by_order : (p : Fact) → Contains nands p → rep_of forms p.form ≡ c → min (rep_of forms p.left) (rep_of forms p.right) ≡ x → max (rep_of forms p.left) (rep_of forms p.right) ≡ y → ((min (rep_of forms p.left) (rep_of forms p.right) ≡ rep_of forms p.left) × (max (rep_of forms p.left) (rep_of forms p.right) ≡ rep_of forms p.right)) ⊎ ((min (rep_of forms p.left) (rep_of forms p.right) ≡ rep_of forms p.right) × (max (rep_of forms p.left) (rep_of forms p.right) ≡ rep_of forms p.left)) → HasNand (facts_of draft) graph c x y
         by_order p d f l t (inl (a, b)) = record {
           form = p.form;
           left = p.left;
@@ -221,27 +219,27 @@ module _ (n : ℕ) (nands : List Fact) (links : List Link) (names : List ℕ) (i
           right_at = sym b ∙ t;
         }
 
-    fact_row : (f x y : ℕ) → Contains nands (record { form = f; left = x; right = y }) → HoldsPair graph (name_of forms f) (name_of forms x) (name_of forms y)
+    fact_row : (f x y : ℕ) → Contains nands (record { form = f; left = x; right = y }) → HoldsPair graph (rep_of forms f) (rep_of forms x) (rep_of forms y)
     fact_row f x y c =
-        by_order (row_in (renamed_fact forms (record { form = f; left = x; right = y })) (listed_in (record { form = f; left = x; right = y }) c)) (min_max (name_of forms x) (name_of forms y))
+        by_order (row_in (canonical_fact forms (record { form = f; left = x; right = y })) (listed_in (record { form = f; left = x; right = y }) c)) (min_max (rep_of forms x) (rep_of forms y))
       where
-        by_order : Contains (slice_index_or pairs (name_of forms f) []) (record { x = min (name_of forms x) (name_of forms y); y = max (name_of forms x) (name_of forms y) }) → ((min (name_of forms x) (name_of forms y) ≡ name_of forms x) × (max (name_of forms x) (name_of forms y) ≡ name_of forms y)) ⊎ ((min (name_of forms x) (name_of forms y) ≡ name_of forms y) × (max (name_of forms x) (name_of forms y) ≡ name_of forms x)) → HoldsPair graph (name_of forms f) (name_of forms x) (name_of forms y)
+        by_order : Contains (slice_index_or pairs (rep_of forms f) []) (record { x = min (rep_of forms x) (rep_of forms y); y = max (rep_of forms x) (rep_of forms y) }) → ((min (rep_of forms x) (rep_of forms y) ≡ rep_of forms x) × (max (rep_of forms x) (rep_of forms y) ≡ rep_of forms y)) ⊎ ((min (rep_of forms x) (rep_of forms y) ≡ rep_of forms y) × (max (rep_of forms x) (rep_of forms y) ≡ rep_of forms x)) → HoldsPair graph (rep_of forms f) (rep_of forms x) (rep_of forms y)
         by_order m (inl (a, b)) =
-            inl (subst₂ (λ x y. Contains (slice_index_or pairs (name_of forms f) []) (record { x = x; y = y })) a b m)
+            inl (subst₂ (λ x y. Contains (slice_index_or pairs (rep_of forms f) []) (record { x = x; y = y })) a b m)
         by_order m (inr (a, b)) =
-            inr (subst₂ (λ x y. Contains (slice_index_or pairs (name_of forms f) []) (record { x = x; y = y })) a b m)
+            inr (subst₂ (λ x y. Contains (slice_index_or pairs (rep_of forms f) []) (record { x = x; y = y })) a b m)
 
-    holds_turned : (c x y : ℕ) → HoldsPair graph c x y → HoldsPair graph c y x
-    holds_turned c x y (inl h) = inr h
-    holds_turned c x y (inr h) = inl h
+    holds_exchanged : (c x y : ℕ) → HoldsPair graph c x y → HoldsPair graph c y x
+    holds_exchanged c x y (inl h) = inr h
+    holds_exchanged c x y (inr h) = inl h
 
     nand_row : (c x y : ℕ) → HasNand (facts_of draft) graph c x y → HoldsPair graph c x y
-    nand_row c x y h = subst (λ k. HoldsPair graph k x y) h.form_at (subst₂ (λ a b. HoldsPair graph (name_of forms h.form) a b) h.left_at h.right_at (by_side h.is_nand))
+    nand_row c x y h = subst (λ k. HoldsPair graph k x y) h.form_at (subst₂ (λ a b. HoldsPair graph (rep_of forms h.form) a b) h.left_at h.right_at (by_side h.is_nand))
       where
-        by_side : {f a b : ℕ} → IsNand (facts_of draft) f a b → HoldsPair graph (name_of forms f) (name_of forms a) (name_of forms b)
+        by_side : {f a b : ℕ} → IsNand (facts_of draft) f a b → HoldsPair graph (rep_of forms f) (rep_of forms a) (rep_of forms b)
         by_side {f} {a} {b} (inl c) = fact_row f a b (fact_back f a b c)
         by_side {f} {a} {b} (inr c) =
-            holds_turned (name_of forms f) (name_of forms b) (name_of forms a) (fact_row f b a (fact_back f b a c))
+            holds_exchanged (rep_of forms f) (rep_of forms b) (rep_of forms a) (fact_row f b a (fact_back f b a c))
 
     pairs_are : (c x y : ℕ) → HoldsPair graph c x y ↔ HasNand (facts_of draft) graph c x y
     pairs_are c x y = (from_row, nand_row c x y)
@@ -250,7 +248,7 @@ module _ (n : ℕ) (nands : List Fact) (links : List Link) (names : List ℕ) (i
         from_row (inl h) = row_nand c x y h
         from_row (inr h) = swapped c y x (row_nand c y x h)
 
-    -- the entry of a pair that a class holds, the lower part first
+    -- the entry of a pair that a class holds, the lower operand first
     pair_entry : (c x y : ℕ) → HoldsPair graph c x y → (r : Fact) × Contains entries r × (r.form ≡ c) × (r.left ≡ min x y) × (r.right ≡ max x y)
     pair_entry c x y (inl h) =
         let (r, k, f, l, t) = row_back c x y h in
@@ -275,7 +273,7 @@ module _ (n : ℕ) (nands : List Fact) (links : List Link) (names : List ℕ) (i
     rows_below c k d lt =
         let m = (members c (get_or (slice_index_or pairs c []) k d)).0 (Contains-get_or (slice_index_or pairs c []) k d lt) in
         let (r, q, e) = map_back (λ (r : Fact). record { x = r.left; y = r.right }) (filter (of_class c) entries) (get_or (slice_index_or pairs c []) k d) m in
-        let (a, b) = entry_parts r (filter_back (of_class c) entries r q).0 in
+        let (a, b) = entry_operands r (filter_back (of_class c) entries r q).0 in
         subst (IsBelow (length pairs)) e (omega arith, omega arith)
 
     pub reduced : length leaves ≡ inputs → one ≡ class_of graph 0 → ((i : ℕ) → i < inputs → slice_get leaves i ≡ Some (class_of graph (2 * (i + 1)))) → IsReduced draft graph

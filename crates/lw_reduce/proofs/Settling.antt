@@ -1,4 +1,4 @@
--- A round that changes nothing has given equivalent forms one name.
+-- A round that unifies nothing has given equivalent forms one representative.
 use Rattle.std.proofs.Common.{ℕ, ◌+◌, ◌/◌, ◌<◌, ◌≤◌, ◌≡◌, ◌⊎◌, inl, inr, min, max, List, length, map, get_or, All, Contains, sym, ◌∙◌, subst, arith}
 use native.Mathlib.Decide.{ℕ_discrete, dec_le}
 use Rattle.std.specs.List.Sorted.{IsNonDecreasingBy, IsPermutation}
@@ -7,8 +7,8 @@ use Rattle.std.proofs.lemmas.List.Sorted.{All-permutation}
 use Rattle.lw_laws.specs.Families.{Equivalent}
 use Rattle.lw_reduce.specs.declared.facts.Fact.{Fact}
 use Rattle.lw_reduce.specs.declared.facts.Link.{Link}
-use Rattle.lw_reduce.specs.Names.{CanName, HasParts, IsFlat, LinkAgrees, family, name_of}
-use Rattle.lw_reduce.specs.Settling.{AgreesAt, IsRenamed, IsSettled, fact_key, renamed_fact}
+use Rattle.lw_reduce.specs.Representatives.{AreRepresentatives, HasOperands, IsFlat, LinkAgrees, family, rep_of}
+use Rattle.lw_reduce.specs.Settling.{AgreesAt, IsImplied, IsSettled, fact_key, canonical_fact}
 
 -- the lower and the higher of two numbers are these two
 pub min_max : (l r : ℕ) → ((min l r ≡ l) × (max l r ≡ r)) ⊎ ((min l r ≡ r) × (max l r ≡ l))
@@ -19,48 +19,48 @@ min_max l r = by_order (dec_le l r)
     by_order (no gt) = inr (omega arith, omega arith)
 
 module _ (n : ℕ) (nands : List Fact) (links : List Link) where
-  pub fact_renamed : (names : List ℕ) (p : Fact) → CanName n nands links names → Contains nands p → IsRenamed n nands links (renamed_fact names p)
-  fact_renamed names p can listed =
-      let in' = All-contains (λ q. (q.form / 2 < n) × (q.left / 2 < n) × (q.right / 2 < n)) nands p can.nands_in listed in
-      let f = can.sound p.form in'.0 in
-      let l = can.sound p.left in'.1 in
-      let r = can.sound p.right in'.2 in
+  pub fact_implied : (reps : List ℕ) (p : Fact) → AreRepresentatives n nands links reps → Contains nands p → IsImplied n nands links (canonical_fact reps p)
+  fact_implied reps p valid listed =
+      let in' = All-contains (λ q. (q.form / 2 < n) × (q.left / 2 < n) × (q.right / 2 < n)) nands p valid.nands_in listed in
+      let f = valid.sound p.form in'.0 in
+      let l = valid.sound p.left in'.1 in
+      let r = valid.sound p.right in'.2 in
       record {
         fact = p;
         listed = listed;
         alike = f.1;
-        parts = by_order l.1 r.1 (min_max (name_of names p.left) (name_of names p.right));
+        operands = by_order l.1 r.1 (min_max (rep_of reps p.left) (rep_of reps p.right));
         within = f.0;
       }
     where
-      by_order : Equivalent (family n nands links) p.left (name_of names p.left) → Equivalent (family n nands links) p.right (name_of names p.right) → ((min (name_of names p.left) (name_of names p.right) ≡ name_of names p.left) × (max (name_of names p.left) (name_of names p.right) ≡ name_of names p.right)) ⊎ ((min (name_of names p.left) (name_of names p.right) ≡ name_of names p.right) × (max (name_of names p.left) (name_of names p.right) ≡ name_of names p.left)) → HasParts n nands links p (min (name_of names p.left) (name_of names p.right)) (max (name_of names p.left) (name_of names p.right))
+      by_order : Equivalent (family n nands links) p.left (rep_of reps p.left) → Equivalent (family n nands links) p.right (rep_of reps p.right) → ((min (rep_of reps p.left) (rep_of reps p.right) ≡ rep_of reps p.left) × (max (rep_of reps p.left) (rep_of reps p.right) ≡ rep_of reps p.right)) ⊎ ((min (rep_of reps p.left) (rep_of reps p.right) ≡ rep_of reps p.right) × (max (rep_of reps p.left) (rep_of reps p.right) ≡ rep_of reps p.left)) → HasOperands n nands links p (min (rep_of reps p.left) (rep_of reps p.right)) (max (rep_of reps p.left) (rep_of reps p.right))
       by_order l r (inl (e, f)) =
           inl (subst (λ k. Equivalent (family n nands links) p.left k) (sym e) l, subst (λ k. Equivalent (family n nands links) p.right k) (sym f) r)
       by_order l r (inr (e, f)) =
           inr (subst (λ k. Equivalent (family n nands links) p.left k) (sym f) l, subst (λ k. Equivalent (family n nands links) p.right k) (sym e) r)
 
-  pub rows_renamed : (names : List ℕ) (rows : List Fact) → CanName n nands links names → IsPermutation (map (renamed_fact names) nands) rows → All (IsRenamed n nands links) rows
-  rows_renamed names rows can perm =
-      All-permutation (IsRenamed n nands links) (map (renamed_fact names) nands) rows perm (All-map (IsRenamed n nands links) (renamed_fact names) nands (λ k d lt. fact_renamed names (get_or nands k d) can (Contains-get_or nands k d lt)))
+  pub all_implied : (reps : List ℕ) (canonical : List Fact) → AreRepresentatives n nands links reps → IsPermutation (map (canonical_fact reps) nands) canonical → All (IsImplied n nands links) canonical
+  all_implied reps canonical valid perm =
+      All-permutation (IsImplied n nands links) (map (canonical_fact reps) nands) canonical perm (All-map (IsImplied n nands links) (canonical_fact reps) nands (λ k d lt. fact_implied reps (get_or nands k d) valid (Contains-get_or nands k d lt)))
 
-  pub settled : (fl mid new : List ℕ) (rows : List Fact) → CanName n nands links new → IsFlat fl → (mid ≡ fl) × All (LinkAgrees fl) links → (IsFlat mid → (new ≡ mid) × ((place : ℕ) → 1 ≤ place → place < length rows → AgreesAt mid rows place)) → IsPermutation (map (renamed_fact mid) nands) rows → IsNonDecreasingBy fact_key rows → IsSettled n nands links new rows
-  settled fl mid new rows can flat (m, linked) more perm sorted =
+  pub settled : (fl mid new : List ℕ) (canonical : List Fact) → AreRepresentatives n nands links new → IsFlat fl → (mid ≡ fl) × All (LinkAgrees fl) links → (IsFlat mid → (new ≡ mid) × ((place : ℕ) → 1 ≤ place → place < length canonical → AgreesAt mid canonical place)) → IsPermutation (map (canonical_fact mid) nands) canonical → IsNonDecreasingBy fact_key canonical → IsSettled n nands links new canonical
+  settled fl mid new canonical valid flat (m, linked) more perm sorted =
       let flat' = subst IsFlat (sym m) flat in
       let (s, agree) = more flat' in
       record {
-        can = can;
+        valid = valid;
         flat = subst IsFlat (sym s) flat';
         linked = subst (λ ns. All (LinkAgrees ns) links) (sym s) (subst (λ ns. All (LinkAgrees ns) links) (sym m) linked);
-        permutation = subst (λ ns. IsPermutation (map (renamed_fact ns) nands) rows) (sym s) perm;
+        permutation = subst (λ ns. IsPermutation (map (canonical_fact ns) nands) canonical) (sym s) perm;
         sorted = sorted;
-        agree = subst (λ ns. (place : ℕ) → 1 ≤ place → place < length rows → AgreesAt ns rows place) (sym s) agree;
+        agree = subst (λ ns. (place : ℕ) → 1 ≤ place → place < length canonical → AgreesAt ns canonical place) (sym s) agree;
       }
 
-  pub agree_next : (old mid new : List ℕ) (rows : List Fact) (i : ℕ) → IsFlat old → (mid ≡ old) × ((place : ℕ) → 1 ≤ place → place < i → AgreesAt old rows place) → (IsFlat mid → (new ≡ mid) × AgreesAt mid rows i) → (new ≡ old) × ((place : ℕ) → 1 ≤ place → place < i + 1 → AgreesAt old rows place)
-  agree_next old mid new rows i flat (m, agree) more =
+  pub agree_next : (old mid new : List ℕ) (canonical : List Fact) (i : ℕ) → IsFlat old → (mid ≡ old) × ((place : ℕ) → 1 ≤ place → place < i → AgreesAt old canonical place) → (IsFlat mid → (new ≡ mid) × AgreesAt mid canonical i) → (new ≡ old) × ((place : ℕ) → 1 ≤ place → place < i + 1 → AgreesAt old canonical place)
+  agree_next old mid new canonical i flat (m, agree) more =
       let (s, here) = more (subst IsFlat (sym m) flat) in
-      (s ∙ m, λ place a b. by_place place a b (ℕ_discrete place i) (subst (λ ns. AgreesAt ns rows i) m here))
+      (s ∙ m, λ place a b. by_place place a b (ℕ_discrete place i) (subst (λ ns. AgreesAt ns canonical i) m here))
     where
-      by_place : (place : ℕ) → 1 ≤ place → place < i + 1 → Dec (place ≡ i) → AgreesAt old rows i → AgreesAt old rows place
-      by_place place a b (yes e) here = subst (λ k. AgreesAt old rows k) (sym e) here
+      by_place : (place : ℕ) → 1 ≤ place → place < i + 1 → Dec (place ≡ i) → AgreesAt old canonical i → AgreesAt old canonical place
+      by_place place a b (yes e) here = subst (λ k. AgreesAt old canonical k) (sym e) here
       by_place place a b (no ne) here = agree place a (omega arith)

@@ -1,61 +1,61 @@
--- Facts in terms of names, in the order of their parts, and when a round has settled the names.
+-- Canonical facts, over representatives, sorted by their operands; and when representatives are settled.
 use Rattle.std.specs.Prelude.{ℕ, ◌+◌, ◌-◌, ◌*◌, ◌/◌, ◌^◌, ◌<◌, ◌≤◌, ◌≡◌, min, max, List, length, map, Contains, All, slice_index_or}
 use Rattle.std.specs.List.Sorted.{IsNonDecreasingBy, IsPermutation}
 use Rattle.lw_laws.specs.Families.{Equivalent}
 use Rattle.lw_reduce.specs.declared.facts.Fact.{Fact}
 use Rattle.lw_reduce.specs.declared.facts.Link.{Link}
-use Rattle.lw_reduce.specs.Names.{CanName, HasParts, IsFlat, LinkAgrees, family, name_of}
+use Rattle.lw_reduce.specs.Representatives.{AreRepresentatives, HasOperands, IsFlat, LinkAgrees, family, rep_of}
 
--- the fact in terms of names, the lower part first
-abbrev pub renamed_fact : List ℕ → Fact → Fact
-renamed_fact names p =
-    let l = name_of names p.left in
-    let r = name_of names p.right in
-    record { form = name_of names p.form; left = min l r; right = max l r }
+-- the fact over representatives, the lower operand first
+abbrev pub canonical_fact : List ℕ → Fact → Fact
+canonical_fact reps p =
+    let l = rep_of reps p.left in
+    let r = rep_of reps p.right in
+    record { form = rep_of reps p.form; left = min l r; right = max l r }
 
--- in the order of the first part and then the second
+-- sorts by the first operand and then the second
 abbrev pub fact_key : Fact → ℕ
 fact_key p = p.left * 2 ^ 32 + p.right
 
--- some fact has these parts, and an equivalent form
-pub record IsRenamed (n : ℕ) (nands : List Fact) (links : List Link) (row : Fact) : Type 0 where
+-- some listed fact has these operands, and an equivalent form
+pub record IsImplied (n : ℕ) (nands : List Fact) (links : List Link) (implied : Fact) : Type 0 where
   pub fact : Fact
   pub listed : Contains nands fact
-  pub alike : Equivalent (family n nands links) fact.form row.form
-  pub parts : HasParts n nands links fact row.left row.right
-  pub within : row.form / 2 < n
+  pub alike : Equivalent (family n nands links) fact.form implied.form
+  pub operands : HasOperands n nands links fact implied.left implied.right
+  pub within : implied.form / 2 < n
 
 abbrev pub no_fact : Fact
 no_fact = record { form = 0; left = 0; right = 0 }
 
--- the form at the place and the one before it have one name, if their parts are the same
+-- the form at the place and the one before it have one representative, if their operands are the same
 abbrev pub AgreesAt : List ℕ → List Fact → ℕ → Type 0
-AgreesAt names rows place =
-    let p = slice_index_or rows (place - 1) no_fact in
-    let q = slice_index_or rows place no_fact in
-    p.left ≡ q.left → p.right ≡ q.right → name_of names p.form ≡ name_of names q.form
+AgreesAt reps canonical place =
+    let p = slice_index_or canonical (place - 1) no_fact in
+    let q = slice_index_or canonical place no_fact in
+    p.left ≡ q.left → p.right ≡ q.right → rep_of reps p.form ≡ rep_of reps q.form
 
--- the names are flat, linked forms have one name, and so have forms with the same parts
-pub record IsSettled (n : ℕ) (nands : List Fact) (links : List Link) (names : List ℕ) (rows : List Fact) : Type 0 where
-  pub can : CanName n nands links names
-  pub flat : IsFlat names
-  pub linked : All (LinkAgrees names) links
-  pub permutation : IsPermutation (map (renamed_fact names) nands) rows
-  pub sorted : IsNonDecreasingBy fact_key rows
-  pub agree : (place : ℕ) → 1 ≤ place → place < length rows → AgreesAt names rows place
+-- the representatives are flat, linked forms have one, and so have forms of neighbours with the same operands
+pub record IsSettled (n : ℕ) (nands : List Fact) (links : List Link) (reps : List ℕ) (canonical : List Fact) : Type 0 where
+  pub valid : AreRepresentatives n nands links reps
+  pub flat : IsFlat reps
+  pub linked : All (LinkAgrees reps) links
+  pub permutation : IsPermutation (map (canonical_fact reps) nands) canonical
+  pub sorted : IsNonDecreasingBy fact_key canonical
+  pub agree : (place : ℕ) → 1 ≤ place → place < length canonical → AgreesAt reps canonical place
 
--- the names are flat, linked forms have one name, and so have forms of facts whose parts have the same names
-pub record AreSettled (n : ℕ) (nands : List Fact) (links : List Link) (names : List ℕ) : Type 0 where
-  pub can : CanName n nands links names
-  pub flat : IsFlat names
-  pub linked : All (LinkAgrees names) links
-  pub agree : (p q : Fact) → Contains nands p → Contains nands q → (renamed_fact names p).left ≡ (renamed_fact names q).left → (renamed_fact names p).right ≡ (renamed_fact names q).right → name_of names p.form ≡ name_of names q.form
+-- the representatives are flat, linked forms have one, and so have forms of facts whose operands have the same ones
+pub record AreSettled (n : ℕ) (nands : List Fact) (links : List Link) (reps : List ℕ) : Type 0 where
+  pub valid : AreRepresentatives n nands links reps
+  pub flat : IsFlat reps
+  pub linked : All (LinkAgrees reps) links
+  pub agree : (p q : Fact) → Contains nands p → Contains nands q → (canonical_fact reps p).left ≡ (canonical_fact reps q).left → (canonical_fact reps p).right ≡ (canonical_fact reps q).right → rep_of reps p.form ≡ rep_of reps q.form
 
--- the names of a fact's parts as one number
-abbrev pub parts_key : List ℕ → Fact → ℕ
-parts_key names p = fact_key (renamed_fact names p)
+-- the representatives of a fact's operands as one number
+abbrev pub operands_key : List ℕ → Fact → ℕ
+operands_key reps p = fact_key (canonical_fact reps p)
 
--- no two facts have parts of the same names
-abbrev pub HaveOwnParts : List ℕ → List Fact → Type 0
-HaveOwnParts names nands =
-    (p q : Fact) → Contains nands p → Contains nands q → parts_key names p ≡ parts_key names q → p ≡ q
+-- no two facts have operands with the same representatives
+abbrev pub HaveDistinctOperands : List ℕ → List Fact → Type 0
+HaveDistinctOperands reps nands =
+    (p q : Fact) → Contains nands p → Contains nands q → operands_key reps p ≡ operands_key reps q → p ≡ q

@@ -1,36 +1,36 @@
 // The classes of forms: pairs of classes are numbered by their first base forms.
 ghost use Rattle.std.specs.Prelude.{◌≡◌, ◌*◌, ◌<◌, ◌≤◌, ◌^◌, ℕ, length, map, IfOk};
 ghost use Rattle.lw_laws.specs.Graphs.{pair_count};
-ghost use Rattle.lw_reduce.specs.Classing.{AreClasses};
-ghost use Rattle.lw_reduce.specs.Names.{IsLower};
+ghost use Rattle.lw_reduce.specs.ClassNumbers.{AreClasses};
+ghost use Rattle.lw_reduce.specs.Representatives.{IsLower};
 
-use crate::names::name;
+use crate::representatives::rep_of;
 use std::alloc::{AllocError, Global};
 
-// The class of each base form, and how many pairs of classes there are.
+// The class of each base form, and how many pairs of a class and its complement there are.
 #[derive(Drop)]
 pub(crate) struct Numbered {
     pub(crate) forms: Vec<u32>,
     pub(crate) pairs: u32,
 }
 
-// Numbers the classes of base forms: a base form that is its own name has the next pair.
-pub(crate) fn number(alloc: Global, names: &[u32]) -> Result<Numbered, AllocError>
-    requires few { length names.now < 2 ^ 31 }
-    requires lower { IsLower names.now }
-    ensures classes { IfOk result (λ n. AreClasses names.now n.forms.items) }
-    ensures count { IfOk result (λ n. length n.forms.items ≡ length names.now) }
+// Numbers the classes of base forms: a base form that is its own representative has the next pair.
+pub(crate) fn number(alloc: Global, reps: &[u32]) -> Result<Numbered, AllocError>
+    requires few { length reps.now < 2 ^ 31 }
+    requires lower { IsLower reps.now }
+    ensures classes { IfOk result (λ n. AreClasses reps.now n.forms.items) }
+    ensures count { IfOk result (λ n. length n.forms.items ≡ length reps.now) }
     ensures pairs { IfOk result (λ n. n.pairs ≡ pair_count 0 n.forms.items) }
 {
-    let mut forms = Vec::with_capacity(alloc, names.len())?;
+    let mut forms = Vec::with_capacity(alloc, reps.len())?;
     let mut pairs = 0;
-    for base in 0..names.len() {
-        let up = names[base];
+    for base in 0..reps.len() {
+        let up = reps[base];
         if up == base as u32 * 2 {
             forms.push(pairs * 2)?;
             pairs += 1;
         } else {
-            forms.push(name(&forms, up))?;
+            forms.push(rep_of(&forms, up))?;
         }
     }
     Ok(Numbered { forms, pairs })

@@ -1,5 +1,5 @@
-// A form that is the NAND of two. The parts stand first, the right one before the left, as one
-// number of the processor.
+// A form that is the NAND of two operands. The operands stand first, the right one before the left:
+// so they are one number of the processor.
 #[derive(Clone, Copy, Debug, PartialEq, Eq)]
 pub(crate) struct Fact {
     pub(crate) right: u32,

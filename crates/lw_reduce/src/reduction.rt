@@ -2,90 +2,90 @@
 ghost use Rattle.std.specs.Prelude.{◌≡◌, ◌+◌, ◌-◌, ◌*◌, ◌<◌, ◌≤◌, ◌^◌, ℕ, Bool, List, length, map, slice_index, IfOk};
 ghost use Rattle.lw_laws.specs.Drafts.{IsReduced};
 ghost use Rattle.lw_reduce.specs.Drafting.{plain_draft};
-ghost use Rattle.lw_reduce.specs.Classing.{mark};
-ghost use Rattle.lw_reduce.specs.Names.{CanName};
+ghost use Rattle.lw_reduce.specs.ClassNumbers.{as_class};
+ghost use Rattle.lw_reduce.specs.Representatives.{AreRepresentatives};
 ghost use Rattle.lw_reduce.specs.Settling.{AreSettled};
 
 use crate::Draft;
+use crate::buckets::class_pairs;
+use crate::class_facts::class_facts;
 use crate::classes::number;
 use crate::facts::{Fact, Link};
 use crate::rounds::settle;
-use crate::rows::class_rows;
-use crate::spread::class_pairs;
 use lw_graph::Graph;
 use lw_pool::{ClassId, Classes};
 use std::alloc::{AllocError, Global};
 
-// Each base form is its own name.
-fn own_names(alloc: Global, samples: &[bool]) -> Result<Vec<u32>, AllocError>
+// Each base form as its own representative.
+fn own_reps(alloc: Global, samples: &[bool]) -> Result<Vec<u32>, AllocError>
     requires { length samples.now < 2 ^ 31 }
     ensures count { IfOk result (λ v. length v.items ≡ length samples.now) }
     ensures own { IfOk result (λ v. (b : ℕ) → b < length samples.now →
         slice_index v.items b ≡ 2 * b) }
 {
-    let mut names = Vec::with_capacity(alloc, samples.len())?;
+    let mut reps = Vec::with_capacity(alloc, samples.len())?;
     for base in 0..samples.len() {
-        names.push(base as u32 * 2)?;
+        reps.push(base as u32 * 2)?;
     }
-    Ok(names)
+    Ok(reps)
 }
 
 // Numbers as classes.
-fn marked(alloc: Global, numbers: &[u32]) -> Result<Vec<ClassId>, AllocError>
-    ensures { IfOk result (λ classes. classes.items ≡ map mark numbers.now) }
+fn as_classes(alloc: Global, numbers: &[u32]) -> Result<Vec<ClassId>, AllocError>
+    ensures { IfOk result (λ classes. classes.items ≡ map as_class numbers.now) }
 {
     numbers.iter().map(|n| ClassId(*n)).collect(alloc)
 }
 
 // Numbers as a list of classes.
-fn classes_of(alloc: Global, numbers: &[u32]) -> Result<Classes, AllocError>
-    ensures { IfOk result (λ classes. classes ≡ map mark numbers.now) }
+fn class_list(alloc: Global, numbers: &[u32]) -> Result<Classes, AllocError>
+    ensures { IfOk result (λ classes. classes ≡ map as_class numbers.now) }
 {
-    Ok(Classes::from_vec(marked(alloc, numbers)?))
+    Ok(Classes::from_vec(as_classes(alloc, numbers)?))
 }
 
-// The graph of settled names.
+// The graph of settled representatives.
 fn graph_of(
     alloc: Global,
     inputs: u32,
-    names: &[u32],
+    reps: &[u32],
     nands: Vec<Fact>,
     links: &[Link],
 ) -> Result<Graph, AllocError>
-    requires settled { AreSettled (length names.now) nands.items links.now names.now }
-    requires few { length names.now < 2 ^ 31 }
-    requires inputs { inputs < length names.now }
+    requires settled { AreSettled (length reps.now) nands.items links.now reps.now }
+    requires few { length reps.now < 2 ^ 31 }
+    requires inputs { inputs < length reps.now }
     requires few_nands { length nands.items < 2 ^ 32 - 1 }
-    ensures { IfOk result (λ graph. (samples : List Bool) → length samples ≡ length names.now →
+    ensures { IfOk result (λ graph. (samples : List Bool) → length samples ≡ length reps.now →
         IsReduced (plain_draft inputs samples nands.items links.now) graph) }
 {
-    let numbered = number(alloc, names)?;
-    let rows = class_rows(&numbered.forms, nands);
-    let lists = class_pairs(alloc, rows, numbered.pairs as usize * 2)?;
-    let leaves = classes_of(alloc, &numbered.forms[1..inputs as usize + 1])?;
-    let forms = classes_of(alloc, &numbered.forms)?;
+    let numbered = number(alloc, reps)?;
+    let facts = class_facts(&numbered.forms, nands);
+    let lists = class_pairs(alloc, facts, numbered.pairs as usize * 2)?;
+    let leaves = class_list(alloc, &numbered.forms[1..inputs as usize + 1])?;
+    let forms = class_list(alloc, &numbered.forms)?;
     let one = ClassId(numbered.forms[0]);
     let graph = Graph::flat(alloc, one, leaves, forms, lists.ends, lists.pairs)?;
     Ok(graph)
 }
 
-// The graph of base forms that each are their own name.
+// The graph of a draft's facts: settles the representatives, then builds the graph.
 fn graph_by(
     alloc: Global,
     inputs: u32,
-    names: &mut [u32],
+    reps: &mut [u32],
     nands: Vec<Fact>,
     links: &[Link],
 ) -> Result<Graph, AllocError>
-    requires can { CanName (length names.old) nands.items links.now names.old }
-    requires few { length names.old < 2 ^ 31 }
-    requires inputs { inputs < length names.old }
+    requires valid { AreRepresentatives (length reps.old) nands.items links.now reps.old }
+    requires few { length reps.old < 2 ^ 31 }
+    requires inputs { inputs < length reps.old }
     requires few_nands { length nands.items < 2 ^ 32 - 1 }
-    ensures { IfOk result (λ graph. (samples : List Bool) → length samples ≡ length names.old →
+    ensures { IfOk result (λ graph. (samples : List Bool) → length samples ≡ length reps.old →
         IsReduced (plain_draft inputs samples nands.items links.now) graph) }
 {
-    settle(alloc, names, &nands, links)?;
-    let graph = graph_of(alloc, inputs, names, nands, links)?;
+    settle(alloc, reps, &nands, links)?;
+    let graph = graph_of(alloc, inputs, reps, nands, links)?;
     Ok(graph)
 }
 
@@ -95,7 +95,7 @@ fn graph_by(
 /// equivalent forms are, and forms that are NANDs of equivalent forms, in this order or exchanged,
 /// are, and no others but by these. Pairs of classes are numbered by their first base forms,
 /// without gaps; a class holds a pair of classes, the lower one first, where some NAND fact has its
-/// form in this class and its parts in those two. Pairs stand in rising order, each once.
+/// form in this class and its operands in those two. Pairs stand in rising order, each once.
 pub fn reduce(alloc: Global, draft: Draft) -> Result<Graph, AllocError>
     ensures { IfOk result (IsReduced draft) }
 {
@@ -105,7 +105,7 @@ pub fn reduce(alloc: Global, draft: Draft) -> Result<Graph, AllocError>
         nands,
         links,
     } = draft;
-    let mut names = own_names(alloc, &samples)?;
-    let graph = graph_by(alloc, inputs, &mut names, nands, &links)?;
+    let mut reps = own_reps(alloc, &samples)?;
+    let graph = graph_by(alloc, inputs, &mut reps, nands, &links)?;
     Ok(graph)
 }

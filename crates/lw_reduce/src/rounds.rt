@@ -1,114 +1,122 @@
-// Rounds of renaming, until one changes nothing.
+// Rounds that unify forms, until one changes nothing.
 ghost use Rattle.std.specs.Prelude.{◌≡◌, ◌+◌, ◌-◌, ◌/◌, ◌^◌, ◌<◌, ◌≤◌, ℕ, length, map, vec_len, All, IfOk, OnOk, IsTrue, IsFalse};
 ghost use Rattle.std.specs.List.Sorted.{IsNonDecreasingBy, IsPermutation};
-ghost use Rattle.lw_reduce.specs.Names.{CanName, IsFactIn, IsFlat, LinkAgrees, Progresses};
-ghost use Rattle.lw_reduce.specs.Settling.{AgreesAt, AreSettled, IsRenamed, IsSettled, fact_key, renamed_fact};
+ghost use Rattle.lw_reduce.specs.Representatives.{AreRepresentatives, IsFactIn, IsFlat, LinkAgrees, Progresses};
+ghost use Rattle.lw_reduce.specs.Settling.{AgreesAt, AreSettled, IsImplied, IsSettled, fact_key, canonical_fact};
 
-use crate::apart::have_own_parts;
-use crate::cascade::cascade;
+use crate::distinct_operands::have_distinct_operands;
 use crate::facts::{Fact, Link};
-use crate::names::{flatten, name, unify};
+use crate::propagate::propagate;
+use crate::representatives::{flatten, rep_of, unify};
 use std::alloc::{AllocError, Global};
 
-// What a round leaves: the facts in terms of names, by their parts, and whether some names changed
-// after that.
+// What a round gives: the canonical facts sorted by their operands, and whether the round unified
+// some forms.
 #[derive(Drop)]
-struct Turn {
-    rows: Vec<Fact>,
+struct RoundOutcome {
+    canonical: Vec<Fact>,
     changed: bool,
 }
 
-// Gives linked forms one name, and says whether some had two.
-fn join_linked(names: &mut [u32], nands: &[Fact], links: &[Link]) -> bool
-    requires { CanName (length names.old) nands.now links.now names.old }
-    ensures progress { Progresses (length names.old) nands.now links.now names.old names.new result }
-    ensures same { IsFalse result → IsFlat names.old → (names.new ≡ names.old) ×
-        All (LinkAgrees names.old) links.now }
+// Unifies linked forms, and says whether some had two representatives.
+fn unify_linked(reps: &mut [u32], nands: &[Fact], links: &[Link]) -> bool
+    requires { AreRepresentatives (length reps.old) nands.now links.now reps.old }
+    ensures progress { Progresses (length reps.old) nands.now links.now reps.old reps.new result }
+    ensures same { IsFalse result → IsFlat reps.old → (reps.new ≡ reps.old) ×
+        All (LinkAgrees reps.old) links.now }
 {
     let mut changed = false;
     for link in links {
-        if unify(names, nands, links, link.left, link.right) {
+        if unify(reps, nands, links, link.left, link.right) {
             changed = true;
         }
     }
     changed
 }
 
-// A fact in terms of names, the lower part first.
-pub(crate) fn renamed(names: &[u32], fact: Fact) -> Fact
-    requires { IsFactIn (length names.now) fact }
-    ensures { result ≡ renamed_fact names.now fact }
+// A fact over representatives, the lower operand first.
+pub(crate) fn canonical_fact(reps: &[u32], fact: Fact) -> Fact
+    requires { IsFactIn (length reps.now) fact }
+    ensures { result ≡ canonical_fact reps.now fact }
 {
-    let left = name(names, fact.left);
-    let right = name(names, fact.right);
+    let left = rep_of(reps, fact.left);
+    let right = rep_of(reps, fact.right);
     Fact {
-        form: name(names, fact.form),
+        form: rep_of(reps, fact.form),
         left: left.min(right),
         right: left.max(right),
     }
 }
 
-// The facts in terms of names.
-fn renamed_facts(alloc: Global, names: &[u32], nands: &[Fact]) -> Result<Vec<Fact>, AllocError>
-    requires { All (IsFactIn (length names.now)) nands.now }
-    ensures { IfOk result (λ rows. rows.items ≡ map (renamed_fact names.now) nands.now) }
+// The canonical forms of all facts.
+fn canonical_facts(alloc: Global, reps: &[u32], nands: &[Fact]) -> Result<Vec<Fact>, AllocError>
+    requires { All (IsFactIn (length reps.now)) nands.now }
+    ensures { IfOk result (λ canonical. canonical.items ≡ map (canonical_fact reps.now) nands.now) }
 {
-    let mut rows = Vec::with_capacity(alloc, nands.len())?;
+    let mut canonical = Vec::with_capacity(alloc, nands.len())?;
     for fact in nands {
-        rows.push(renamed(names, *fact))?;
+        canonical.push(canonical_fact(reps, *fact))?;
     }
-    Ok(rows)
+    Ok(canonical)
 }
 
-// Sorts facts by their parts.
-fn sort(rows: &mut Vec<Fact>)
-    ensures permutation { IsPermutation rows.old.items rows.new.items }
-    ensures sorted { IsNonDecreasingBy fact_key rows.new.items }
+// Sorts facts by their operands.
+fn sort_by_operands(canonical: &mut Vec<Fact>)
+    ensures permutation { IsPermutation canonical.old.items canonical.new.items }
+    ensures sorted { IsNonDecreasingBy fact_key canonical.new.items }
 {
-    rows.sort_unstable_by_key(|row| row.left as u64 * 0x1_0000_0000 + row.right as u64);
+    canonical.sort_unstable_by_key(|fact| fact.left as u64 * 0x1_0000_0000 + fact.right as u64);
 }
 
-// The facts in terms of names, in the order of their parts.
-fn sorted_facts(alloc: Global, names: &[u32], nands: &[Fact]) -> Result<Vec<Fact>, AllocError>
-    requires { All (IsFactIn (length names.now)) nands.now }
+// The canonical facts, sorted by their operands.
+fn sorted_facts(alloc: Global, reps: &[u32], nands: &[Fact]) -> Result<Vec<Fact>, AllocError>
+    requires { All (IsFactIn (length reps.now)) nands.now }
     ensures permutation { IfOk result
-        (λ rows. IsPermutation (map (renamed_fact names.now) nands.now) rows.items) }
-    ensures sorted { IfOk result (λ rows. IsNonDecreasingBy fact_key rows.items) }
+        (λ canonical. IsPermutation (map (canonical_fact reps.now) nands.now) canonical.items) }
+    ensures sorted { IfOk result (λ canonical. IsNonDecreasingBy fact_key canonical.items) }
 {
-    let mut rows = renamed_facts(alloc, names, nands)?;
-    sort(&mut rows);
-    Ok(rows)
+    let mut canonical = canonical_facts(alloc, reps, nands)?;
+    sort_by_operands(&mut canonical);
+    Ok(canonical)
 }
 
-// Gives the form at a place the name of the one before it, where their parts are the same.
-fn join_at(names: &mut [u32], nands: &[Fact], links: &[Link], rows: &[Fact], place: usize) -> bool
-    requires can { CanName (length names.old) nands.now links.now names.old }
-    requires rows { All (IsRenamed (length names.old) nands.now links.now) rows.now }
+// Unifies the form of the fact at an index with that of the fact before it, where their operands
+// are the same.
+fn unify_at(
+    reps: &mut [u32],
+    nands: &[Fact],
+    links: &[Link],
+    canonical: &[Fact],
+    place: usize,
+) -> bool
+    requires valid { AreRepresentatives (length reps.old) nands.now links.now reps.old }
+    requires canonical { All (IsImplied (length reps.old) nands.now links.now) canonical.now }
     requires start { 1 ≤ place }
-    requires within { place < length rows.now }
-    ensures progress { Progresses (length names.old) nands.now links.now names.old names.new result }
-    ensures same { IsFalse result → IsFlat names.old → (names.new ≡ names.old) ×
-        AgreesAt names.old rows.now place }
+    requires within { place < length canonical.now }
+    ensures progress { Progresses (length reps.old) nands.now links.now reps.old reps.new result }
+    ensures same { IsFalse result → IsFlat reps.old → (reps.new ≡ reps.old) ×
+        AgreesAt reps.old canonical.now place }
 {
-    let first = rows[place - 1];
-    let second = rows[place];
+    let first = canonical[place - 1];
+    let second = canonical[place];
     if first.left != second.left || first.right != second.right {
         return false;
     }
-    unify(names, nands, links, first.form, second.form)
+    unify(reps, nands, links, first.form, second.form)
 }
 
-// Gives forms whose parts are the same one name, and says whether some had two.
-fn join_equal(names: &mut [u32], nands: &[Fact], links: &[Link], rows: &[Fact]) -> bool
-    requires can { CanName (length names.old) nands.now links.now names.old }
-    requires rows { All (IsRenamed (length names.old) nands.now links.now) rows.now }
-    ensures progress { Progresses (length names.old) nands.now links.now names.old names.new result }
-    ensures same { IsFalse result → IsFlat names.old → (names.new ≡ names.old) ×
-        ((place : ℕ) → 1 ≤ place → place < length rows.now → AgreesAt names.old rows.now place) }
+// Unifies forms with the same operands, and says whether some had two representatives.
+fn unify_equal(reps: &mut [u32], nands: &[Fact], links: &[Link], canonical: &[Fact]) -> bool
+    requires valid { AreRepresentatives (length reps.old) nands.now links.now reps.old }
+    requires canonical { All (IsImplied (length reps.old) nands.now links.now) canonical.now }
+    ensures progress { Progresses (length reps.old) nands.now links.now reps.old reps.new result }
+    ensures same { IsFalse result → IsFlat reps.old → (reps.new ≡ reps.old) ×
+        ((place : ℕ) → 1 ≤ place → place < length canonical.now →
+        AgreesAt reps.old canonical.now place) }
 {
     let mut changed = false;
-    for place in 1..rows.len() {
-        if join_at(names, nands, links, rows, place) {
+    for place in 1..canonical.len() {
+        if unify_at(reps, nands, links, canonical, place) {
             changed = true;
         }
     }
@@ -116,71 +124,72 @@ fn join_equal(names: &mut [u32], nands: &[Fact], links: &[Link], rows: &[Fact]) 
 }
 
 // One round over links and facts.
-fn round(
+fn run_round(
     alloc: Global,
-    names: &mut [u32],
+    reps: &mut [u32],
     nands: &[Fact],
     links: &[Link],
-) -> Result<Turn, AllocError>
-    requires { CanName (length names.old) nands.now links.now names.old }
+) -> Result<RoundOutcome, AllocError>
+    requires { AreRepresentatives (length reps.old) nands.now links.now reps.old }
     ensures progress { IfOk result
-        (λ r. Progresses (length names.old) nands.now links.now names.old names.new r.changed) }
-    ensures rows { IfOk result (λ r. All
-        (IsRenamed (length names.old) nands.now links.now) r.rows.items) }
+        (λ r. Progresses (length reps.old) nands.now links.now reps.old reps.new r.changed) }
+    ensures canonical { IfOk result (λ r. All
+        (IsImplied (length reps.old) nands.now links.now) r.canonical.items) }
     ensures settled { IfOk result (λ r. IsFalse r.changed →
-        IsSettled (length names.old) nands.now links.now names.new r.rows.items) }
+        IsSettled (length reps.old) nands.now links.now reps.new r.canonical.items) }
 {
-    flatten(names, nands, links);
-    let linked = join_linked(names, nands, links);
-    let rows = sorted_facts(alloc, names, nands)?;
-    let equal = join_equal(names, nands, links, &rows);
-    Ok(Turn {
-        rows,
+    flatten(reps, nands, links);
+    let linked = unify_linked(reps, nands, links);
+    let canonical = sorted_facts(alloc, reps, nands)?;
+    let equal = unify_equal(reps, nands, links, &canonical);
+    Ok(RoundOutcome {
+        canonical,
         changed: linked || equal,
     })
 }
 
-// Whether names are settled that are made flat, with no look at the order of facts: linked forms
-// have one name, and each fact has parts of its own.
+// Flattens the representatives and says whether they are settled without sorting the facts: linked
+// forms have one representative, and all facts have different operands.
 fn are_settled(
     alloc: Global,
-    names: &mut [u32],
+    reps: &mut [u32],
     nands: &[Fact],
     links: &[Link],
 ) -> Result<bool, AllocError>
-    requires { CanName (length names.old) nands.now links.now names.old }
-    ensures can { IfOk result (λ own. CanName (length names.old) nands.now links.now names.new) }
+    requires { AreRepresentatives (length reps.old) nands.now links.now reps.old }
+    ensures valid { IfOk result
+        (λ own. AreRepresentatives (length reps.old) nands.now links.now reps.new) }
     ensures settled { IfOk result (λ own. IsTrue own →
-        AreSettled (length names.old) nands.now links.now names.new) }
+        AreSettled (length reps.old) nands.now links.now reps.new) }
 {
-    flatten(names, nands, links);
-    if join_linked(names, nands, links) {
+    flatten(reps, nands, links);
+    if unify_linked(reps, nands, links) {
         return Ok(false);
     }
-    let own = have_own_parts(alloc, names, nands)?;
+    let own = have_distinct_operands(alloc, reps, nands)?;
     Ok(own)
 }
 
-// Goes on until a round changes nothing.
+// Runs rounds until one unifies nothing: the congruence closure.
 pub(crate) fn settle(
     alloc: Global,
-    names: &mut [u32],
+    reps: &mut [u32],
     nands: &[Fact],
     links: &[Link],
 ) -> Result<(), AllocError>
-    requires can { CanName (length names.old) nands.now links.now names.old }
-    requires few { length names.old < 2 ^ 31 }
-    ensures { OnOk result (AreSettled (length names.old) nands.now links.now names.new) }
+    requires valid { AreRepresentatives (length reps.old) nands.now links.now reps.old }
+    requires few { length reps.old < 2 ^ 31 }
+    ensures { OnOk result (AreSettled (length reps.old) nands.now links.now reps.new) }
 {
-    let _linked = join_linked(names, nands, links);
-    if are_settled(alloc, names, nands, links)? {
+    let _linked = unify_linked(reps, nands, links);
+    if are_settled(alloc, reps, nands, links)? {
         return Ok(());
     }
     'rounds: loop {
-        let turn = round(alloc, names, nands, links)?;
-        if !turn.changed {
+        let outcome = run_round(alloc, reps, nands, links)?;
+        if !outcome.changed {
             return Ok(());
         }
-        cascade(alloc, names, nands, links, &turn.rows)?;
+        propagate(alloc, reps, nands, links, &outcome.canonical)?;
     }
 }

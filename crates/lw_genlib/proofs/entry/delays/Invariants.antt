@@ -1,6 +1,6 @@
 use Rattle.std.proofs.Common.{◌≡◌, false, map, take}
 use Rattle.std.specs.List.{list_any}
-use Rattle.lw_genlib.specs.Joining.{is_missing, own_or, delay_by}
+use Rattle.lw_genlib.specs.Merging.{is_missing, own_or, delay_by}
 use Rattle.lw_genlib.proofs.entry.delays.Given as goal
 
 abbrev pub invariant-loop-own : goal.invariant-loop-own

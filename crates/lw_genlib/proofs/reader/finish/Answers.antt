@@ -2,7 +2,7 @@ use Rattle.std.proofs.Common.{List, [], ◌∷◌, sym, ap, ◌∙◌, subst, Re
 use Rattle.lw_genlib.specs.declared.fault.LibFault.{LibFault}
 use Rattle.lw_genlib.specs.Cells.{CellParts}
 use Rattle.lw_genlib.specs.Streams.{text_end}
-use Rattle.lw_genlib.specs.Libraries.{Book, library_by}
+use Rattle.lw_genlib.specs.Libraries.{CellsSoFar, library_by}
 use Rattle.lw_genlib.specs.Standing.{resume}
 use Rattle.lw_genlib.specs.Tells.{TellsErr}
 use Rattle.lw_genlib.proofs.Lines.{answer-of, end-at_piece, end-at_latch, end-inside, cells-ended, fault-ended}
@@ -10,20 +10,20 @@ use Rattle.lw_genlib.proofs.reader.finish.Goals as goal
 
 pub returns-in-Ok : goal.returns-in-Ok
 returns-in-Ok c =
-    answer-of c.library_in.result (library_by (resume c.args.progress (text_end c.args.last ∷ []))) c.in-Ok.book.cells
-    (end-at_piece c.args.progress c.in-Piece.entry c.args.last c.in-Piece.is ∙ cells-ended c.args.progress.book c.in-Ok.book c.in-Piece.entry c.in-Ok.ensures)
+    answer-of c.library_in.result (library_by (resume c.args.state (text_end c.args.last ∷ []))) c.in-Ok.so_far.cells
+    (end-at_piece c.args.state c.in-Piece.entry c.args.last c.in-Piece.is ∙ cells-ended c.args.state.so_far c.in-Ok.so_far c.in-Piece.entry c.in-Ok.ensures)
     c.library_in.ensures.cells c.library_in.ensures.memory
 
 pub returns-in-Err : goal.returns-in-Err
 returns-in-Err c =
-    subst (λ (r : Result (List CellParts) LibFault). TellsErr r c.in-Err.fault) (sym (end-at_piece c.args.progress c.in-Piece.entry c.args.last c.in-Piece.is))
-    (fault-ended c.args.progress.book c.in-Piece.entry c.in-Err.fault c.in-Err.ensures)
+    subst (λ (r : Result (List CellParts) LibFault). TellsErr r c.in-Err.fault) (sym (end-at_piece c.args.state c.in-Piece.entry c.args.last c.in-Piece.is))
+    (fault-ended c.args.state.so_far c.in-Piece.entry c.in-Err.fault c.in-Err.ensures)
 
 pub returns-in-Latch : goal.returns-in-Latch
 returns-in-Latch c =
-    answer-of c.library_in-in-Latch.result (library_by (resume c.args.progress (text_end c.args.last ∷ []))) c.args.progress.book.cells
-    (end-at_latch c.args.progress c.args.last c.in-Latch.is (sym (ap (λ (b : Book). b.entry) c.book.view_is)))
+    answer-of c.library_in-in-Latch.result (library_by (resume c.args.state (text_end c.args.last ∷ []))) c.args.state.so_far.cells
+    (end-at_latch c.args.state c.args.last c.in-Latch.is (sym (ap (λ (b : CellsSoFar). b.entry) c.so_far.view_is)))
     c.library_in-in-Latch.ensures.cells c.library_in-in-Latch.ensures.memory
 
 pub returns-in_default : goal.returns-in_default
-returns-in_default c = end-inside c.args.progress c.args.last c.in_default.not-Piece c.in_default.not-Latch
+returns-in_default c = end-inside c.args.state c.args.last c.in_default.not-Piece c.in_default.not-Latch

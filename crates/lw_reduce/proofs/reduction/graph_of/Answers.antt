@@ -8,43 +8,43 @@ use Rattle.lw_graph.specs.Rows.{rows_from}
 use Rattle.lw_graph.proofs.Rows.{length-rows_from}
 use Rattle.std.proofs.lemmas.List.{length-map}
 use Rattle.lw_reduce.specs.declared.facts.Fact.{Fact}
-use Rattle.lw_reduce.specs.Classing.{mark}
+use Rattle.lw_reduce.specs.ClassNumbers.{as_class}
 use Rattle.lw_reduce.specs.Drafting.{plain_draft}
-use Rattle.lw_reduce.specs.Names.{IsFactIn}
+use Rattle.lw_reduce.specs.Representatives.{IsFactIn}
 use Rattle.lw_reduce.specs.Rows.{IsRowOf}
-use Rattle.lw_reduce.specs.Settling.{renamed_fact}
-use Rattle.lw_reduce.specs.Spreading.{of_class, pair_of}
+use Rattle.lw_reduce.specs.Settling.{canonical_fact}
+use Rattle.lw_reduce.specs.Buckets.{of_class, pair_of}
 use Rattle.lw_reduce.proofs.Assembled.{entries_below, is_graph, is_reduced}
 use Rattle.lw_reduce.proofs.reduction.graph_of.Goals as goal
 
-pub class_rows-rows-requires : goal.class_rows-rows-requires
-class_rows-rows-requires c =
+pub class_facts-facts-requires : goal.class_facts-facts-requires
+class_facts-facts-requires c =
     let is = c.requires.settled in
     let e = ap length c.deref.ensures.value ∙ c.in_ok-numbered.ensures.count in
-    subst (λ m. All (IsFactIn m) c.args.nands.items) (sym e) is.can.nands_in
+    subst (λ m. All (IsFactIn m) c.args.nands.items) (sym e) is.valid.nands_in
 
 pub class_pairs-requires-clause-within : goal.class_pairs-requires-clause-within
 class_pairs-requires-clause-within c =
-    let n = length c.args.names.now in
+    let n = length c.args.reps.now in
     let nands = c.args.nands.items in
     let is = c.requires.settled in
     let forms = c.in_ok-numbered.numbered.forms.items in
     let pairs = c.in_ok-numbered.numbered.pairs in
-    let e = c.class_rows-rows.ensures ∙ ap (λ fs. map (renamed_fact fs) nands) c.deref.ensures.value in
+    let e = c.class_facts-facts.ensures ∙ ap (λ fs. map (canonical_fact fs) nands) c.deref.ensures.value in
     let p = c.in_ok-numbered.ensures.pairs in
-    subst (λ es. All (λ (r : Fact). r.form < pairs * 2) es) (sym e) (entries_below n nands c.args.links.now c.args.names.now is c.requires.few forms c.in_ok-numbered.ensures.classes c.in_ok-numbered.ensures.count (pairs * 2) (omega arith))
+    subst (λ es. All (λ (r : Fact). r.form < pairs * 2) es) (sym e) (entries_below n nands c.args.links.now c.args.reps.now is c.requires.few forms c.in_ok-numbered.ensures.classes c.in_ok-numbered.ensures.count (pairs * 2) (omega arith))
 
 pub class_pairs-requires-clause-few : goal.class_pairs-requires-clause-few
 class_pairs-requires-clause-few c =
     let nands = c.args.nands.items in
     let forms = c.deref.result.now in
-    let e = ap length c.class_rows-rows.ensures ∙ length-map nands (renamed_fact forms) in
+    let e = ap length c.class_facts-facts.ensures ∙ length-map nands (canonical_fact forms) in
     let few = c.requires.few_nands in
     omega arith
 
 pub flat-requires-clause-graph : goal.flat-requires-clause-graph
 flat-requires-clause-graph c =
-    let n = length c.args.names.now in
+    let n = length c.args.reps.now in
     let nands = c.args.nands.items in
     let is = c.requires.settled in
     let forms = c.in_ok-numbered.numbered.forms.items in
@@ -55,17 +55,17 @@ flat-requires-clause-graph c =
     let lists_count = length-rows_from rows.pairs.items 0 rows.ends ∙ c.in_ok-lists.ensures.count in
     let count = c.in_ok-numbered.ensures.count in
     let in' = c.requires.inputs in
-    let e = c.class_rows-rows.ensures ∙ ap (λ fs. map (renamed_fact fs) nands) c.deref.ensures.value in
+    let e = c.class_facts-facts.ensures ∙ ap (λ fs. map (canonical_fact fs) nands) c.deref.ensures.value in
     let one : ClassId = record { 0 = c.index.result.now } in
     let one_is = c.index.ensures ∙ get_or_default_zero forms 0 c.index.result.now (omega arith) in
-    let leaves_are = c.in_ok-leaves.ensures ∙ ap (λ fs. map mark (slice_range fs 1 (inputs + 1))) c.deref-2.ensures.value in
-    let classes_are = c.in_ok-forms.ensures ∙ ap (map mark) c.deref-3.ensures.value in
-    let lists_are : (k : ℕ) → IsRowOf (map pair_of (filter (of_class k) (map (renamed_fact forms) nands))) (slice_index_or lists k []) = λ k. subst (λ es. IsRowOf (map pair_of (filter (of_class k) es)) (slice_index_or lists k [])) e (c.in_ok-lists.ensures.lists k) in
-    is_graph n nands c.args.links.now c.args.names.now is c.requires.few forms c.in_ok-numbered.ensures.classes count inputs c.requires.inputs one c.in_ok-leaves.leaves c.in_ok-forms.forms lists pairs one_is leaves_are classes_are c.in_ok-numbered.ensures.pairs lists_count lists_are
+    let leaves_are = c.in_ok-leaves.ensures ∙ ap (λ fs. map as_class (slice_range fs 1 (inputs + 1))) c.deref-2.ensures.value in
+    let classes_are = c.in_ok-forms.ensures ∙ ap (map as_class) c.deref-3.ensures.value in
+    let lists_are : (k : ℕ) → IsRowOf (map pair_of (filter (of_class k) (map (canonical_fact forms) nands))) (slice_index_or lists k []) = λ k. subst (λ es. IsRowOf (map pair_of (filter (of_class k) es)) (slice_index_or lists k [])) e (c.in_ok-lists.ensures.lists k) in
+    is_graph n nands c.args.links.now c.args.reps.now is c.requires.few forms c.in_ok-numbered.ensures.classes count inputs c.requires.inputs one c.in_ok-leaves.leaves c.in_ok-forms.forms lists pairs one_is leaves_are classes_are c.in_ok-numbered.ensures.pairs lists_count lists_are
 
 pub returns : goal.returns
 returns c =
-    let n = length c.args.names.now in
+    let n = length c.args.reps.now in
     let nands = c.args.nands.items in
     let is = c.requires.settled in
     let forms = c.in_ok-numbered.numbered.forms.items in
@@ -76,10 +76,10 @@ returns c =
     let lists_count = length-rows_from rows.pairs.items 0 rows.ends ∙ c.in_ok-lists.ensures.count in
     let count = c.in_ok-numbered.ensures.count in
     let in' = c.requires.inputs in
-    let e = c.class_rows-rows.ensures ∙ ap (λ fs. map (renamed_fact fs) nands) c.deref.ensures.value in
+    let e = c.class_facts-facts.ensures ∙ ap (λ fs. map (canonical_fact fs) nands) c.deref.ensures.value in
     let one : ClassId = record { 0 = c.index.result.now } in
     let one_is = c.index.ensures ∙ get_or_default_zero forms 0 c.index.result.now (omega arith) in
-    let leaves_are = c.in_ok-leaves.ensures ∙ ap (λ fs. map mark (slice_range fs 1 (inputs + 1))) c.deref-2.ensures.value in
-    let classes_are = c.in_ok-forms.ensures ∙ ap (map mark) c.deref-3.ensures.value in
-    let lists_are : (k : ℕ) → IsRowOf (map pair_of (filter (of_class k) (map (renamed_fact forms) nands))) (slice_index_or lists k []) = λ k. subst (λ es. IsRowOf (map pair_of (filter (of_class k) es)) (slice_index_or lists k [])) e (c.in_ok-lists.ensures.lists k) in
-    λ samples known. subst (IsReduced (plain_draft inputs samples nands c.args.links.now)) (sym c.in_ok-graph.ensures) (is_reduced n nands c.args.links.now c.args.names.now is c.requires.few forms c.in_ok-numbered.ensures.classes count inputs c.requires.inputs one c.in_ok-leaves.leaves c.in_ok-forms.forms lists pairs one_is leaves_are classes_are c.in_ok-numbered.ensures.pairs lists_count lists_are samples known)
+    let leaves_are = c.in_ok-leaves.ensures ∙ ap (λ fs. map as_class (slice_range fs 1 (inputs + 1))) c.deref-2.ensures.value in
+    let classes_are = c.in_ok-forms.ensures ∙ ap (map as_class) c.deref-3.ensures.value in
+    let lists_are : (k : ℕ) → IsRowOf (map pair_of (filter (of_class k) (map (canonical_fact forms) nands))) (slice_index_or lists k []) = λ k. subst (λ es. IsRowOf (map pair_of (filter (of_class k) es)) (slice_index_or lists k [])) e (c.in_ok-lists.ensures.lists k) in
+    λ samples known. subst (IsReduced (plain_draft inputs samples nands c.args.links.now)) (sym c.in_ok-graph.ensures) (is_reduced n nands c.args.links.now c.args.reps.now is c.requires.few forms c.in_ok-numbered.ensures.classes count inputs c.requires.inputs one c.in_ok-leaves.leaves c.in_ok-forms.forms lists pairs one_is leaves_are classes_are c.in_ok-numbered.ensures.pairs lists_count lists_are samples known)

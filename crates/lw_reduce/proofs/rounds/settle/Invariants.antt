@@ -1,9 +1,9 @@
 use Rattle.std.proofs.Common.{length}
-use Rattle.lw_reduce.specs.Names.{CanName, name_weight}
+use Rattle.lw_reduce.specs.Representatives.{AreRepresentatives, rep_weight}
 use Rattle.lw_reduce.proofs.rounds.settle.Given as goal
 
 abbrev pub invariant-rounds : goal.invariant-rounds
-invariant-rounds l = CanName (length l.fn.names) l.nands l.links l.names
+invariant-rounds l = AreRepresentatives (length l.fn.reps) l.nands l.links l.reps
 
 abbrev pub decreases-rounds : goal.decreases-rounds
-decreases-rounds l = name_weight l.names
+decreases-rounds l = rep_weight l.reps

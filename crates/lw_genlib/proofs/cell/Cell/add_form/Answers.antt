@@ -2,7 +2,7 @@ use Rattle.std.proofs.Common.{List, ◌++◌, [], ◌∷◌, sym, subst, length}
 use Rattle.lw_laws.specs.Expressions.{Expr}
 use Rattle.lw_genlib.specs.Cells.{CellParts, IsCell, IsForm, HaveOneTruth}
 use Rattle.lw_genlib.specs.Postfix.{first_expr}
-use Rattle.lw_genlib.proofs.Joins.{cell-with_form, push-either}
+use Rattle.lw_genlib.proofs.MergeLemmas.{cell-with_form, push-either}
 use Rattle.lw_genlib.proofs.cell.Cell.add_form.Goals as goal
 
 pub invariant_of-self : goal.invariant_of-self

@@ -1,0 +1,159 @@
+// The cells of the entries that are at their end.
+ghost use Rattle.std.specs.Prelude.{◌≡◌, ◌<◌, MatchResult, Ok, Some, None, IfOk, IfSome, ◌++◌, [], ◌∷◌, length, false};
+ghost use Rattle.std.specs.List.{list_any};
+ghost use Rattle.std.specs.Str.{bytes_eq};
+ghost use Rattle.lw_genlib.specs.Cells.{CellParts, IsListed, form_count};
+ghost use Rattle.lw_genlib.specs.Expects.{HasRoom};
+ghost use Rattle.lw_genlib.specs.Merging as merging;
+ghost use Rattle.lw_genlib.specs.Libraries as library;
+ghost use Rattle.lw_genlib.specs.Tells.{TellsErr};
+
+use crate::entry::delays;
+use crate::merge_entry::{merge, place_of};
+use crate::state_parts::{CellsSoFar, Entry};
+use crate::{Cell, Exprs, LibFault, LibKind};
+use lw_fixed::Micros;
+use std::alloc::{AllocError, Global};
+
+/// No cells.
+pub(crate) fn no_cells(alloc: Global) -> CellsSoFar
+    ensures { result ≡ library.no_cells }
+{
+    CellsSoFar {
+        cells: Vec::new(alloc),
+        entries: 0,
+    }
+}
+
+/// The cells so far with the entry, if there is one, at its end.
+pub(crate) fn end_entry(
+    alloc: Global,
+    so_far: CellsSoFar,
+    entry: Option<Entry>,
+) -> Result<CellsSoFar, LibFault>
+    requires { IfSome entry (λ e. HasRoom so_far.cells) }
+    ensures { MatchResult result
+        (λ new. library.entry_ended (library.with_open so_far entry) ≡ Ok new)
+        (TellsErr (library.entry_ended (library.with_open so_far entry))) }
+{
+    let _ = &so_far.cells;
+    match entry {
+        None => Ok(so_far),
+        Some(entry) => close_entry(alloc, so_far, entry),
+    }
+}
+
+fn close_entry(alloc: Global, so_far: CellsSoFar, entry: Entry) -> Result<CellsSoFar, LibFault>
+    requires { HasRoom so_far.cells }
+    ensures cells { MatchResult result
+        (λ new. merging.merged so_far.cells entry ≡ Ok new.cells)
+        (TellsErr (merging.merged so_far.cells entry)) }
+    ensures whole { IfOk result (λ new. new.entry ≡ None) }
+{
+    match delays(alloc, &entry.named, entry.every)? {
+        Some(delays) => add_cell_or_form(alloc, so_far, entry, delays),
+        None => Err(LibFault::Line(entry.line, LibKind::PinMissing)),
+    }
+}
+
+// The cells so far with the entry, whose pins have these delays: a new cell, or one more form.
+fn add_cell_or_form(
+    alloc: Global,
+    so_far: CellsSoFar,
+    entry: Entry,
+    delays: Micros,
+) -> Result<CellsSoFar, LibFault>
+    requires room { HasRoom so_far.cells }
+    requires delays { delays ≡ merging.delays_of entry }
+    ensures cells { MatchResult result
+        (λ new. merging.merged_at so_far.cells entry (merging.place_of so_far.cells entry)
+        ≡ Ok new.cells)
+        (TellsErr (merging.merged_at so_far.cells entry (merging.place_of so_far.cells entry))) }
+    ensures whole { IfOk result (λ new. new.entry ≡ None) }
+{
+    match place_of(&so_far.cells, entry.name.as_bytes()) {
+        None => {
+            let so_far = with_new(alloc, so_far, entry, delays)?;
+            Ok(so_far)
+        }
+        Some(place) => with_form(alloc, so_far, place, entry, delays),
+    }
+}
+
+// The cells so far and the cell of an entry of a new name.
+fn with_new(
+    alloc: Global,
+    so_far: CellsSoFar,
+    entry: Entry,
+    delays: Micros,
+) -> Result<CellsSoFar, AllocError>
+    requires room { HasRoom so_far.cells }
+    requires delays { delays ≡ merging.delays_of entry }
+    requires new_name { merging.place_of so_far.cells entry ≡ None }
+    ensures { IfOk result (λ new. new
+        ≡ record { cells = so_far.cells ++ merging.cell_of entry ∷ []; entry = None }) }
+{
+    let cell = new_cell(alloc, entry, delays)?;
+    with_cell(so_far, cell)
+}
+
+// The cells so far and one more cell.
+fn with_cell(so_far: CellsSoFar, cell: Cell) -> Result<CellsSoFar, AllocError>
+    requires room { HasRoom so_far.cells }
+    requires cell { IsListed cell }
+    requires one_form { form_count cell ≡ 1 }
+    requires new_name { list_any (λ (other : CellParts). bytes_eq cell.name other.name) so_far.cells
+        ≡ false }
+    ensures { IfOk result (λ new. new
+        ≡ record { cells = so_far.cells ++ cell ∷ []; entry = None }) }
+{
+    let CellsSoFar { mut cells, entries } = so_far;
+    cells.push(cell)?;
+    Ok(CellsSoFar {
+        cells,
+        entries: entries + 1,
+    })
+}
+
+// The cells so far, where the cell at an index has the entry's form too.
+fn with_form(
+    alloc: Global,
+    so_far: CellsSoFar,
+    place: usize,
+    entry: Entry,
+    delays: Micros,
+) -> Result<CellsSoFar, LibFault>
+    requires room { HasRoom so_far.cells }
+    requires delays { delays ≡ merging.delays_of entry }
+    requires place { place < length so_far.cells }
+    ensures cells { MatchResult result
+        (λ new. merging.merged_at so_far.cells entry (Some place) ≡ Ok new.cells)
+        (TellsErr (merging.merged_at so_far.cells entry (Some place))) }
+    ensures whole { IfOk result (λ new. new.entry ≡ None) }
+{
+    let CellsSoFar { mut cells, entries } = so_far;
+    if !merge(alloc, &mut cells[place], &entry, &delays)? {
+        return Err(LibFault::Line(entry.line, LibKind::CellDiffers));
+    }
+    Ok(CellsSoFar {
+        cells,
+        entries: entries + 1,
+    })
+}
+
+// The cell of an entry of a new name.
+fn new_cell(alloc: Global, entry: Entry, delays: Micros) -> Result<Cell, AllocError>
+    requires { delays ≡ merging.delays_of entry }
+    ensures cell { IfOk result (λ cell. cell ≡ merging.cell_of entry) }
+    ensures listed { IfOk result (λ _. IsListed (merging.cell_of entry)) }
+{
+    let Entry {
+        name,
+        area,
+        function,
+        ..
+    } = entry;
+    let mut forms = Exprs::new(alloc);
+    forms.push(function.form)?;
+    Ok(Cell::new(name, area, function.output, function.pins, delays, forms))
+}

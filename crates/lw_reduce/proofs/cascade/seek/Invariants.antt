@@ -1,9 +1,0 @@
-use Rattle.std.proofs.Common.{◌<◌, length}
-use Rattle.lw_reduce.specs.Names.{Keeps}
-use Rattle.lw_reduce.proofs.cascade.seek.Given as goal
-
-abbrev pub invariant-loop-step : goal.invariant-loop-step
-invariant-loop-step l = record {
-  kept : Keeps (length l.fn.names) l.nands l.links l.fn.names l.names;
-  within : l.slot < length l.slots;
-}

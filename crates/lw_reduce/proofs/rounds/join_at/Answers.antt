@@ -1,7 +1,0 @@
-use Rattle.std.proofs.Common.{length}
-use Rattle.lw_reduce.proofs.Sharing.{rows_alike}
-use Rattle.lw_reduce.proofs.rounds.join_at.Goals as goal
-
-pub unify-requires-clause-alike : goal.unify-requires-clause-alike
-unify-requires-clause-alike c =
-    rows_alike (length c.args.names.now) c.args.nands.now c.args.links.now c.args.rows.now c.args.place c.requires.rows c.requires.within c.if-first-second.false c.if-first-second-2.false

@@ -1,0 +1,38 @@
+use Rattle.std.proofs.Common.{ℕ, length, sym, subst, ◌≡◌, ◌≤◌, ◌<◌, ◌∙◌, true≢false}
+use Rattle.lw_reduce.specs.Representatives.{IsFlat}
+use Rattle.lw_reduce.specs.Settling.{AgreesAt}
+use Rattle.lw_reduce.proofs.RepSteps.{valid_at}
+use Rattle.lw_reduce.proofs.Settling.{all_implied, settled}
+use Rattle.lw_reduce.proofs.rounds.run_round.Goals as goal
+use Rattle.lw_reduce.proofs.rounds.run_round.Goals.{then-linked, else-linked}
+
+pub unify_equal-equal-requires-clause-canonical : goal.unify_equal-equal-requires-clause-canonical
+unify_equal-equal-requires-clause-canonical c =
+    let mid = c.unify_linked-linked.new.reps in
+    let valid = c.unify_linked-linked.ensures.progress.valid in
+    all_implied (length mid) c.args.nands.now c.args.links.now mid c.deref.result.now (valid_at (length mid) c.args.nands.now c.args.links.now mid (length c.flatten.new.reps) valid (sym valid.count)) (rw c.deref.ensures.value c.in_ok-canonical.ensures.permutation)
+
+pub returns-clause-settled : goal.returns-clause-settled
+returns-clause-settled c =
+    let n = length c.args.reps.now in
+    let nands = c.args.nands.now in
+    let links = c.args.links.now in
+    let fl = c.flatten.new.reps in
+    let mid = c.unify_linked-linked.new.reps in
+    let new = c.unify_equal-equal.new.reps in
+    let canonical = c.in_ok-canonical.canonical.items in
+    let counts = c.unify_linked-linked.ensures.progress.valid.count ∙ c.flatten.ensures.kept.valid.count in
+    elim c.if-linked.branch [
+      | then-linked w ↦ λ e. absurd (true≢false (sym w.if-linked.true ∙ (sym w.result-is ∙ e)))
+      | else-linked w ↦ λ e.
+          settled n nands links fl mid new canonical (valid_at n nands links new (length mid) c.unify_equal-equal.ensures.progress.valid counts) c.flatten.ensures.flat (c.unify_linked-linked.ensures.same w.if-linked.false c.flatten.ensures.flat) (subst (λ rs. IsFlat mid → (new ≡ mid) × ((place : ℕ) → 1 ≤ place → place < length rs → AgreesAt mid rs place)) c.deref.ensures.value (c.unify_equal-equal.ensures.same (sym w.result-is ∙ e))) c.in_ok-canonical.ensures.permutation c.in_ok-canonical.ensures.sorted
+    ]
+
+pub returns-clause-canonical : goal.returns-clause-canonical
+returns-clause-canonical c =
+    let mid = c.unify_linked-linked.new.reps in
+    let n = length c.args.reps.now in
+    let nands = c.args.nands.now in
+    let links = c.args.links.now in
+    let counts = c.unify_linked-linked.ensures.progress.valid.count ∙ c.flatten.ensures.kept.valid.count in
+    all_implied n nands links mid c.in_ok-canonical.canonical.items (valid_at n nands links mid (length c.flatten.new.reps) c.unify_linked-linked.ensures.progress.valid c.flatten.ensures.kept.valid.count) c.in_ok-canonical.ensures.permutation

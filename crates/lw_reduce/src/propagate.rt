@@ -1,0 +1,277 @@
+// Passes over the facts whose operands have new representatives, with a hash table of facts by the
+// representatives of their operands.
+ghost use Rattle.std.specs.Prelude.{◌≡◌, ◌+◌, ◌/◌, ◌^◌, ◌<◌, ◌≤◌, ℕ, length, vec_len, slice_index_or, All, Contains, IfOk, IfSome, IsTrue};
+ghost use Rattle.lw_reduce.specs.Representatives.{AreRepresentatives, HasOperands, IsFactIn, StayRepresentatives, family};
+ghost use Rattle.lw_reduce.specs.Lookups.{IsLookup};
+ghost use Rattle.lw_reduce.specs.Settling.{IsImplied, no_fact};
+
+use crate::facts::{Fact, Link};
+use crate::representatives::{find, rep_of, unify};
+use std::alloc::{AllocError, Global};
+
+// The representatives of a fact's two operands, the lower one first.
+#[derive(Clone, Copy)]
+struct Operands {
+    low: u32,
+    high: u32,
+}
+
+// What the table has for these operands.
+enum Lookup {
+    // The form of a fact with these operands.
+    Form(u32),
+    // The first free slot.
+    Free(usize),
+    // No slot is free.
+    Full,
+}
+
+// The roots of a fact's operands.
+fn operands_of(reps: &mut [u32], nands: &[Fact], links: &[Link], fact: Fact) -> Operands
+    requires valid { AreRepresentatives (length reps.old) nands.now links.now reps.old }
+    requires within { IsFactIn (length reps.old) fact }
+    ensures kept { StayRepresentatives (length reps.old) nands.now links.now reps.old reps.new }
+    ensures operands { HasOperands (length reps.old) nands.now links.now
+        fact result.low result.high }
+{
+    let left = find(reps, nands, links, fact.left);
+    let right = find(reps, nands, links, fact.right);
+    if left <= right {
+        Operands {
+            low: left,
+            high: right,
+        }
+    } else {
+        Operands {
+            low: right,
+            high: left,
+        }
+    }
+}
+
+// Whether a fact's operands have these roots.
+fn has_operands(
+    reps: &mut [u32],
+    nands: &[Fact],
+    links: &[Link],
+    fact: Fact,
+    operands: Operands,
+) -> bool
+    requires valid { AreRepresentatives (length reps.old) nands.now links.now reps.old }
+    requires within { IsFactIn (length reps.old) fact }
+    ensures kept { StayRepresentatives (length reps.old) nands.now links.now reps.old reps.new }
+    ensures operands { IsTrue result →
+        HasOperands (length reps.old) nands.now links.now fact operands.low operands.high }
+{
+    let own = operands_of(reps, nands, links, fact);
+    own.low == operands.low && own.high == operands.high
+}
+
+// The slot where the search for these operands starts.
+#[tactic(auto, using(std::proofs::lemmas::Nat::and_le_r))]
+fn slot_of(operands: Operands, slots: usize) -> usize
+    requires { 0 < slots }
+    ensures { result < slots }
+{
+    let key = ((operands.low as u64) << 32) | operands.high as u64;
+    let mixed = key.wrapping_mul(0x9E37_79B9_7F4A_7C15) >> 32;
+    mixed as usize & (slots - 1)
+}
+
+// The slot after this one; after the last comes the first.
+#[tactic(auto, using(std::proofs::lemmas::Nat::and_le_r))]
+fn next_slot(slot: usize, slots: usize) -> usize
+    requires within { slot < slots }
+    ensures { result < slots }
+{
+    (slot + 1) & (slots - 1)
+}
+
+// Looks up a fact with these operands.
+fn look_up(
+    reps: &mut [u32],
+    nands: &[Fact],
+    links: &[Link],
+    slots: &[u32],
+    operands: Operands,
+) -> Lookup
+    requires valid { AreRepresentatives (length reps.old) nands.now links.now reps.old }
+    requires some { 0 < length slots.now }
+    requires places { All (λ e. e ≤ length nands.now) slots.now }
+    ensures kept { StayRepresentatives (length reps.old) nands.now links.now reps.old reps.new }
+    ensures found { IsLookup (length reps.old) nands.now links.now
+        (length slots.now) operands.low operands.high result }
+{
+    let mut slot = slot_of(operands, slots.len());
+    for _step in 0..slots.len() {
+        let entry = slots[slot];
+        if entry == 0 {
+            return Lookup::Free(slot);
+        }
+        let fact = nands[entry as usize - 1];
+        if has_operands(reps, nands, links, fact, operands) {
+            return Lookup::Form(fact.form);
+        }
+        slot = next_slot(slot, slots.len());
+    }
+    Lookup::Full
+}
+
+// Whether a fact's operands are their own representatives.
+fn has_root_operands(reps: &[u32], fact: Fact) -> bool
+    requires { IsFactIn (length reps.now) fact }
+{
+    rep_of(reps, fact.left) == fact.left && rep_of(reps, fact.right) == fact.right
+}
+
+// Where these operands stand among canonical facts that are sorted by their operands.
+fn find_canonical(canonical: &[Fact], operands: Operands) -> Option<usize>
+    ensures within { IfSome result (λ i. i < length canonical.now) }
+    ensures left { IfSome result
+        (λ i. (slice_index_or canonical.now i no_fact).left ≡ operands.low) }
+    ensures right { IfSome result
+        (λ i. (slice_index_or canonical.now i no_fact).right ≡ operands.high) }
+{
+    let place = canonical.partition_point(|found| {
+        found.left < operands.low || (found.left == operands.low && found.right < operands.high)
+    });
+    if place >= canonical.len() {
+        return None;
+    }
+    let found = canonical[place];
+    if found.left != operands.low || found.right != operands.high {
+        return None;
+    }
+    Some(place)
+}
+
+// Unifies the form of a fact with that of a fact in the table with the same operands, or inserts
+// the fact.
+fn unify_or_insert(
+    reps: &mut [u32],
+    nands: &[Fact],
+    links: &[Link],
+    slots: &mut [u32],
+    place: usize,
+    operands: Operands,
+)
+    requires valid { AreRepresentatives (length reps.old) nands.now links.now reps.old }
+    requires some { 0 < length slots.old }
+    requires places { All (λ e. e ≤ length nands.now) slots.old }
+    requires within { place < length nands.now }
+    requires few { length nands.now < 2 ^ 32 }
+    requires operands { HasOperands (length reps.old) nands.now links.now
+        (slice_index_or nands.now place no_fact) operands.low operands.high }
+    ensures kept { StayRepresentatives (length reps.old) nands.now links.now reps.old reps.new }
+    ensures places { All (λ e. e ≤ length nands.now) slots.new }
+    ensures len { length slots.new ≡ length slots.old }
+{
+    let fact = nands[place];
+    match look_up(reps, nands, links, slots, operands) {
+        Lookup::Form(form) => {
+            let _changed = unify(reps, nands, links, fact.form, form);
+        }
+        Lookup::Free(slot) => slots[slot] = place as u32 + 1,
+        Lookup::Full => {}
+    }
+}
+
+// Unifies the form of a fact, whose operands have new representatives, with that of a fact with the
+// same operands.
+fn visit(
+    reps: &mut [u32],
+    nands: &[Fact],
+    links: &[Link],
+    canonical: &[Fact],
+    slots: &mut [u32],
+    place: usize,
+)
+    requires valid { AreRepresentatives (length reps.old) nands.now links.now reps.old }
+    requires canonical { All (IsImplied (length reps.old) nands.now links.now) canonical.now }
+    requires some { 0 < length slots.old }
+    requires places { All (λ e. e ≤ length nands.now) slots.old }
+    requires within { place < length nands.now }
+    requires few { length nands.now < 2 ^ 32 }
+    ensures kept { StayRepresentatives (length reps.old) nands.now links.now reps.old reps.new }
+    ensures places { All (λ e. e ≤ length nands.now) slots.new }
+{
+    let fact = nands[place];
+    if has_root_operands(reps, fact) {
+        return;
+    }
+    let operands = operands_of(reps, nands, links, fact);
+    if let Some(found) = find_canonical(canonical, operands) {
+        let _changed = unify(reps, nands, links, fact.form, canonical[found].form);
+        return;
+    }
+    unify_or_insert(reps, nands, links, slots, place, operands);
+}
+
+// Visits all facts in their order, and then in reverse.
+fn visit_all(
+    reps: &mut [u32],
+    nands: &[Fact],
+    links: &[Link],
+    canonical: &[Fact],
+    slots: &mut [u32],
+)
+    requires valid { AreRepresentatives (length reps.old) nands.now links.now reps.old }
+    requires canonical { All (IsImplied (length reps.old) nands.now links.now) canonical.now }
+    requires some { 0 < length slots.old }
+    requires places { All (λ e. e ≤ length nands.now) slots.old }
+    requires few { length nands.now < 2 ^ 32 }
+    ensures { StayRepresentatives (length reps.old) nands.now links.now reps.old reps.new }
+{
+    let count = nands.len();
+    for step in 0..count {
+        visit(reps, nands, links, canonical, slots, step);
+    }
+    for step in 0..count {
+        visit(reps, nands, links, canonical, slots, count - 1 - step);
+    }
+}
+
+// How many slots the table of this many facts has: a power of two, at least twice as many.
+fn slot_count(facts: usize) -> usize
+    ensures { 0 < result }
+{
+    let mut slots: usize = 2;
+    for _bit in 1..40u32 {
+        if slots / 2 < facts {
+            slots = slots.saturating_mul(2);
+        }
+    }
+    slots
+}
+
+// A table without facts.
+fn empty_slots(alloc: Global, facts: usize) -> Result<Vec<u32>, AllocError>
+    ensures some { IfOk result (λ slots. 0 < vec_len slots) }
+    ensures empty { IfOk result (λ slots. All (λ e. e ≡ 0) slots.items) }
+{
+    let slots = vec![in alloc; 0; slot_count(facts)]?;
+    Ok(slots)
+}
+
+// Unifies forms along chains of facts: where a round gave operands new representatives, the forms
+// of their facts may become equivalent in turn. The first pass goes in the order of the facts, so
+// that where operands come before their forms one pass carries a whole chain; the second goes in
+// reverse.
+pub(crate) fn propagate(
+    alloc: Global,
+    reps: &mut [u32],
+    nands: &[Fact],
+    links: &[Link],
+    canonical: &[Fact],
+) -> Result<(), AllocError>
+    requires valid { AreRepresentatives (length reps.old) nands.now links.now reps.old }
+    requires canonical { All (IsImplied (length reps.old) nands.now links.now) canonical.now }
+    ensures { StayRepresentatives (length reps.old) nands.now links.now reps.old reps.new }
+{
+    if nands.len() > 0xFFFF_FFFF {
+        return Ok(());
+    }
+    let mut slots = empty_slots(alloc, nands.len())?;
+    visit_all(reps, nands, links, canonical, &mut slots);
+    Ok(())
+}

@@ -1,0 +1,137 @@
+// Sorts the pairs of each class and drops repeats.
+ghost use Rattle.std.specs.Prelude.{◌≡◌, ◌+◌, ◌-◌, ◌^◌, ◌<◌, ◌≤◌, ◌++◌, ◌∷◌, ℕ, [], length, slice_index, slice_index_or, vec_len, IfOk, OnOk};
+ghost use Rattle.std.specs.List.{dedup, slice_range};
+ghost use Rattle.std.specs.List.Sorted.{IsNonDecreasingBy, IsPermutation};
+ghost use Rattle.lw_graph.specs.Index.{pair_key};
+ghost use Rattle.lw_graph.specs.Rows.{AreEnds, rows_from, start_at};
+ghost use Rattle.lw_reduce.specs.Rows.{IsRowOf, same_pair};
+
+use lw_graph::Pair;
+use lw_pool::{Numbers, PairId, Pool};
+use std::alloc::{AllocError, Global};
+
+// Sorts pairs by their classes.
+fn sort_pairs(row: &mut Vec<Pair>)
+    ensures permutation { IsPermutation row.old.items row.new.items }
+    ensures sorted { IsNonDecreasingBy pair_key row.new.items }
+{
+    row.sort_unstable_by_key(|pair| pair.x.0 as u64 * 0x1_0000_0000 + pair.y.0 as u64);
+}
+
+// Keeps one of each run of equal pairs.
+fn dedup_pairs(row: &mut Vec<Pair>)
+    ensures row { row.new.items ≡ dedup same_pair row.old.items }
+    ensures few { length row.new.items ≤ length row.old.items }
+{
+    row.dedup();
+}
+
+// Sorts the pairs of a class and drops repeats.
+fn sort_and_dedup(row: &mut Vec<Pair>)
+    ensures row { IsRowOf row.old.items row.new.items }
+    ensures few { length row.new.items ≤ length row.old.items }
+{
+    sort_pairs(row);
+    dedup_pairs(row);
+}
+
+// Fills a row with the pairs of a class, sorted and without repeats.
+fn fill_row(row: &mut Vec<Pair>, pairs: &[Pair]) -> Result<(), AllocError>
+    ensures row { OnOk result (IsRowOf pairs.now row.new.items) }
+    ensures few { OnOk result (length row.new.items ≤ length pairs.now) }
+{
+    row.clear();
+    row.extend_from_slice(pairs)?;
+    sort_and_dedup(row);
+    Ok(())
+}
+
+// Where the pairs of a class start: where those of the class before it end.
+fn start_of(ends: &[u32], class: usize) -> usize
+    requires { class < length ends.now }
+    ensures { result ≡ start_at 0 ends.now class }
+{
+    if class == 0 {
+        return 0;
+    }
+    ends[class - 1] as usize
+}
+
+// The pairs of a class, as they stand in the array.
+fn pairs_at<'a>(pairs: &'a [Pair], ends: &[u32], class: usize) -> &'a [Pair]
+    requires ends { AreEnds (length pairs.now) 0 ends.now }
+    requires within { class < length ends.now }
+    ensures pairs { result.now ≡ slice_range pairs.now (start_at 0 ends.now class)
+        (slice_index ends.now class) }
+    ensures size { start_at 0 ends.now class + length result.now ≡ slice_index ends.now class }
+{
+    let start = start_of(ends, class);
+    &pairs[start..ends[class] as usize]
+}
+
+// The pairs of all classes, sorted within each class, and where those of each class end.
+#[derive(Drop)]
+pub(crate) struct Rows {
+    pub(crate) pairs: Pool<PairId, Pair>,
+    pub(crate) ends: Numbers,
+}
+
+// Appends pairs to a pool.
+fn append(pool: &mut Pool<PairId, Pair>, row: &[Pair]) -> Result<(), AllocError>
+    requires { length pool.old.items + length row.now < 2 ^ 32 - 1 }
+    ensures { OnOk result (pool.new.items ≡ pool.old.items ++ row.now) }
+{
+    for pair in row {
+        if pool.push(*pair).is_err() {
+            return Err(AllocError);
+        }
+    }
+    Ok(())
+}
+
+// Appends the row of the next class.
+fn add_row(rows: &mut Rows, row: &[Pair]) -> Result<(), AllocError>
+    requires ends { AreEnds (length rows.old.pairs.items) 0 rows.old.ends }
+    requires few { length rows.old.pairs.items + length row.now < 2 ^ 32 - 1 }
+    ensures ends { OnOk result (AreEnds (length rows.new.pairs.items) 0 rows.new.ends) }
+    ensures rows { OnOk result (rows_from rows.new.pairs.items 0 rows.new.ends
+        ≡ rows_from rows.old.pairs.items 0 rows.old.ends ++ row.now ∷ []) }
+    ensures size { OnOk result (length rows.new.pairs.items
+        ≡ length rows.old.pairs.items + length row.now) }
+{
+    append(&mut rows.pairs, row)?;
+    rows.ends.push(rows.pairs.len())?;
+    Ok(())
+}
+
+// No rows, with room for this many pairs.
+fn no_rows(alloc: Global, pairs: usize) -> Result<Rows, AllocError>
+    ensures pairs { IfOk result (λ r. r.pairs.items ≡ []) }
+    ensures ends { IfOk result (λ r. r.ends ≡ []) }
+{
+    let mut pool = Pool::new(alloc);
+    pool.reserve(pairs)?;
+    Ok(Rows {
+        pairs: pool,
+        ends: Numbers::empty(alloc),
+    })
+}
+
+// The pairs of each class, sorted and without repeats.
+pub(crate) fn sorted_rows(alloc: Global, pairs: &[Pair], ends: &[u32]) -> Result<Rows, AllocError>
+    requires ends { AreEnds (length pairs.now) 0 ends.now }
+    requires few { length pairs.now < 2 ^ 32 - 1 }
+    ensures ends { IfOk result (λ r. AreEnds (length r.pairs.items) 0 r.ends) }
+    ensures count { IfOk result (λ r. length r.ends ≡ length ends.now) }
+    ensures rows { IfOk result (λ r. (c : ℕ) →
+        IsRowOf (slice_index_or (rows_from pairs.now 0 ends.now) c [])
+        (slice_index_or (rows_from r.pairs.items 0 r.ends) c [])) }
+{
+    let mut rows = no_rows(alloc, pairs.len())?;
+    let mut row = Vec::new(alloc);
+    for class in 0..ends.len() {
+        fill_row(&mut row, pairs_at(pairs, ends, class))?;
+        add_row(&mut rows, &row)?;
+    }
+    Ok(rows)
+}
