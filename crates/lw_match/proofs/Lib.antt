@@ -1,4 +1,5 @@
 pub mod AllMatches
+pub mod Better
 pub mod BoundClasses
 pub mod Bounding
 pub mod Branches
@@ -7,6 +8,7 @@ pub mod CellMatches
 pub mod Certified
 pub mod Cursors
 pub mod CutsOfBounds
+pub mod Floors
 pub mod Found
 pub mod Improving
 pub mod Intervals

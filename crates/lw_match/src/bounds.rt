@@ -114,6 +114,7 @@ impl Bounds {
         ensures same { IsFalse result → self.new ≡ self.old }
         ensures settled { IsFalse result → AreSettledAt self.old graph.now marks.now class.0 }
         ensures never_rises { bounds_weight self.new ≤ bounds_weight self.old }
+        ensures gaps { self.new.gaps ≡ self.old.gaps }
     {
         let _ = graph.classes();
         let renewal = Renewal {

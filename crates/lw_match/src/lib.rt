@@ -1,6 +1,7 @@
 //! Matches of a library's patterns at the classes of a graph, and the least of them under a cost.
 #![tactic(auto)]
 
+mod bettering;
 mod binding;
 mod bisecting;
 mod bounds;
@@ -26,7 +27,9 @@ mod seeking;
 mod settling;
 mod shapes;
 mod times;
+mod tops;
 
+pub use bettering::better_within;
 pub use bounds::Bounds;
 pub use cost::Cost;
 pub use cursor::Cursor;
@@ -36,3 +39,4 @@ pub use laws::{
 };
 pub use mark::{Best, Mark, Match};
 pub use pins::Pins;
+pub use tops::Tops;

@@ -13,4 +13,6 @@ pub struct Query<'a, C> {
     pub cost: &'a C,
     pub class: ClassId,
     pub cuts: Cuts<'a>,
+    /// What no match at the class costs less than.
+    pub floor: u64,
 }

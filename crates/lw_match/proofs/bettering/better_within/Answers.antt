@@ -1,0 +1,13 @@
+use Rattle.std.proofs.Common.{sym, subst}
+use Rattle.lw_match.specs.Cutting.{CutsState, CutsFit, AreCutsOf}
+use Rattle.lw_match.proofs.CutsOfBounds.{bounds_cut, bounds_cut_well}
+use Rattle.lw_match.proofs.bettering.better_within.Goals as goal
+
+pub better-requires-clause-cuts : goal.better-requires-clause-cuts
+better-requires-clause-cuts g c =
+    subst (λ (cuts : CutsState). CutsFit cuts c.args.graph.now) (sym c.cuts.ensures) (bounds_cut c.args.bounds.now c.args.pats.now c.args.graph.now c.requires.fit)
+
+pub returns-clause-none : goal.returns-clause-none
+returns-clause-none g c =
+    λ e bounds.
+    c.better.ensures.none e (subst (λ (cuts : CutsState). AreCutsOf cuts c.args.pats.now c.args.graph.now c.args.marks.now) (sym c.cuts.ensures) (bounds_cut_well c.args.bounds.now c.args.pats.now c.args.graph.now c.args.marks.now c.requires.fit bounds))

@@ -1,0 +1,97 @@
+// Numbers at which the gaps of all patterns may be trusted, remembered over many searches.
+ghost use Rattle.std.specs.Prelude.{◌≡◌, ◌<◌, ◌≢◌, IsTrue, List, ℕ};
+ghost use Rattle.lw_laws.specs.Costs.{Cost as PlainCost};
+ghost use Rattle.lw_laws.specs.Covers.{Pattern as TreeOfCell};
+ghost use Rattle.lw_match.specs.Least.{AreOfCells};
+ghost use Rattle.lw_match.specs.Numbers.{never};
+ghost use Rattle.lw_match.specs.Cutting.{AreCertified, AreKnown};
+
+use crate::Cost;
+use crate::counting::pin_count;
+use crate::gaps::{gaps_at, is_certified};
+use lw_pattern::Patterns;
+use lw_pool::PatId;
+use std::marker::Model;
+
+/// How many numbers are remembered at most.
+const PLACES: usize = 1024;
+
+/// Whether the gaps of all patterns are certified at a number.
+fn are_certified<C: Cost>(pats: &Patterns, cost: &C, gaps: &[[u64; 16]], top: u64) -> bool
+    requires { AreOfCells (C.costs cost.now).pin_counts pats.now }
+    ensures { IsTrue result → AreCertified (C.costs cost.now) pats.now gaps.now top }
+{
+    for number in 0..pats.len() {
+        let pattern = pats.get(PatId(number));
+        let pins = pin_count(pattern.nodes.as_slice());
+        let own = gaps_at(gaps, PatId(number));
+        if !is_certified(cost, pattern.cell, pins, own, top) {
+            return false;
+        }
+    }
+    true
+}
+
+/// The place of a number: numbers that lie close together have different ones.
+fn place_of(top: u64) -> usize
+    ensures { result < 1024 }
+{
+    (top.wrapping_mul(0x9e37_79b9_7f4a_7c15) >> 32) as usize % PLACES
+}
+
+/// Numbers at which the gaps of all patterns were certified. Each place has the last of those that
+/// belong there.
+#[derive(Drop)]
+pub struct Tops {
+    tops: [u64; 1024],
+}
+
+impl Model for Tops {
+    ghost use Rattle.std.specs.Prelude.{List, ℕ, ◌≡◌, length};
+
+    ghost Value = { List ℕ };
+
+    ghost view = { λ t. t.tops };
+
+    ghost invariant = { λ t. length t.tops ≡ 1024 };
+}
+
+impl Tops {
+    /// Nothing is remembered yet.
+    pub fn new() -> Self
+        ensures { (cost : PlainCost) (pats : List TreeOfCell) (gaps : List (List ℕ)) →
+            AreKnown cost pats gaps result }
+    {
+        Tops {
+            tops: [u64::MAX; 1024],
+        }
+    }
+
+    /// Whether the gaps of all patterns are certified at a number, which is remembered.
+    pub(crate) fn are_sure_at<C: Cost>(
+        &mut self,
+        pats: &Patterns,
+        cost: &C,
+        gaps: &[[u64; 16]],
+        top: u64,
+    ) -> bool
+        requires of_cells { AreOfCells (C.costs cost.now).pin_counts pats.now }
+        requires known { AreKnown (C.costs cost.now) pats.now gaps.now self.old }
+        ensures known { AreKnown (C.costs cost.now) pats.now gaps.now self.new }
+        ensures some { IsTrue result → top ≢ never }
+        ensures sure { IsTrue result → AreCertified (C.costs cost.now) pats.now gaps.now top }
+    {
+        if top == u64::MAX {
+            return false;
+        }
+        let place = place_of(top);
+        if self.tops[place] == top {
+            return true;
+        }
+        if !are_certified(pats, cost, gaps, top) {
+            return false;
+        }
+        self.tops[place] = top;
+        true
+    }
+}
