@@ -22,7 +22,8 @@ use Rattle.lw_match.specs.declared.mark.Mark.{Mark}
 use Rattle.lw_match.specs.Values.{plain_mark, marks_in, AreInRange}
 use Rattle.lw_match.specs.Bounds.{BoundsState, AreBounds}
 use Rattle.lw_match.proofs.Settled.{bounds_of_fewer}
-use Rattle.lw_match.specs.Least.{plain_best, IsLeastMatch, IsMarkBefore, IsLeastBelow}
+use Rattle.lw_match.specs.Cutting.{IsFloor}
+use Rattle.lw_match.specs.Least.{Priced, plain_best, IsPricedAt, IsMarkBefore, IsLeastBelow}
 use Rattle.lw_label.specs.Labels.{cost_in, costs_of, AreLeastMarks}
 use Rattle.lw_label.specs.Lowering.{AreLowering}
 use Rattle.lw_label.specs.Rising.{IsWithinSteps, HasHeightAtMost, marked, AreRising, height_weight, height_limit, heights_weight, IsReached, Raises}
@@ -113,26 +114,26 @@ module _ (g : Graph) (cost : Cost) (pats : List Pattern) (labels : List (Option 
   rising_bounds b marks bounds are = bounds_of_fewer b g labels marks bounds (λ c m e. mark_of_label labels c m.cost (are.costs c m e))
 
   -- A class gets the height of the best match.
-  module _ (marks : List (Option Mark)) (are : AreRising g cost pats labels marks) (c : ℕ) (best : Best) (below : c < length marks) (least : IsLeastMatch g cost pats (marks_in marks) c (Some best)) (label : L c ≡ Some best.mark.cost) where
-    value_is : best.mark.cost ≡ cost.value least.0.pattern.cell (costs_in least.0.pin_marks)
-    value_is = ap (λ (k : PlainMark). k.cost) least.0.mark
+  module _ (marks : List (Option Mark)) (are : AreRising g cost pats labels marks) (c : ℕ) (best : Best) (below : c < length marks) (priced_at : IsPricedAt g cost pats (marks_in marks) c (plain_best best)) (label : L c ≡ Some best.mark.cost) where
+    value_is : best.mark.cost ≡ cost.value priced_at.pattern.cell (costs_in priced_at.pin_marks)
+    value_is = ap (λ (k : PlainMark). k.cost) priced_at.mark
 
-    height_is : best.mark.height ≡ suc (greatest_height least.0.pin_marks)
-    height_is = ap (λ (k : PlainMark). k.height) least.0.mark
+    height_is : best.mark.height ≡ suc (greatest_height priced_at.pin_marks)
+    height_is = ap (λ (k : PlainMark). k.height) priced_at.mark
 
-    best_attains : Attains (choices_of g cost.pin_counts pats) cost L c least.0.pattern.cell (plain_best best).found.pins
+    best_attains : Attains (choices_of g cost.pin_counts pats) cost L c priced_at.pattern.cell (plain_best best).found.pins
     best_attains = record {
-      stands = standing g cost pats (marks_in marks) c (plain_best best) least.0;
-      pin_labels = costs_in least.0.pin_marks;
-      have = pins_labelled marks are (plain_best best).found.pins least.0.pin_marks least.0.have;
+      stands = standing g cost pats (marks_in marks) c (plain_best best) priced_at;
+      pin_labels = costs_in priced_at.pin_marks;
+      have = pins_labelled marks are (plain_best best).found.pins priced_at.pin_marks priced_at.have;
       value = label ∙ ap (λ n. Some n) value_is;
     }
 
     best_within : IsWithinSteps g cost pats labels c best.mark.height
-    best_within = subst (λ h. IsWithinSteps g cost pats labels c h) (sym height_is) (inr (least.0.pattern.cell, (plain_best best).found.pins, best_attains, pins_within marks are (greatest_height least.0.pin_marks) (plain_best best).found.pins least.0.pin_marks least.0.have (omega arith)))
+    best_within = subst (λ h. IsWithinSteps g cost pats labels c h) (sym height_is) (inr (priced_at.pattern.cell, (plain_best best).found.pins, best_attains, pins_within marks are (greatest_height priced_at.pin_marks) (plain_best best).found.pins priced_at.pin_marks priced_at.have (omega arith)))
 
     best_low : best.mark.height ≤ marked marks + 1
-    best_low = let low = heights_low marks are (plain_best best).found.pins least.0.pin_marks least.0.have in omega (arith, low, height_is)
+    best_low = let low = heights_low marks are (plain_best best).found.pins priced_at.pin_marks priced_at.have in omega (arith, low, height_is)
 
     module _ (shorter : best.mark.height < height_weight (slice_index_or marks c None)) where
       marked_next : (marked marks ≤ marked (slice_set marks c (Some best.mark))) × (best.mark.height ≤ marked (slice_set marks c (Some best.mark)))
@@ -178,13 +179,20 @@ module _ (g : Graph) (cost : Cost) (pats : List Pattern) (labels : List (Option 
                   absurd (omega (arith, lower, is, low))
           input_at b (m, e, low) (inr other) = (m, mark_set_other marks c b (Some best.mark) other ∙ e, low)
 
-  -- the label of a class is not above the cost of the best match
-  label_at_most : (marks : List (Option Mark)) → AreRising g cost pats labels marks → AreBoundedIn g pats cost (costs_of labels) → (c l : ℕ) (best : Best) → L c ≡ Some l → IsLeastMatch g cost pats (marks_in marks) c (Some best) → l ≤ best.mark.cost
-  label_at_most marks are bounded c l best label least =
-      let (k, at, low) = bounded c least.0.pattern.cell (plain_best best).found.pins (costs_in least.0.pin_marks) (standing g cost pats (marks_in marks) c (plain_best best) least.0) (pins_labelled marks are (plain_best best).found.pins least.0.pin_marks least.0.have) in
-      let value : best.mark.cost ≡ cost.value least.0.pattern.cell (costs_in least.0.pin_marks) = ap (λ (m : PlainMark). m.cost) least.0.mark in
+  -- the label of a class is not above the cost of a match
+  pub label_at_most : (marks : List (Option Mark)) → AreRising g cost pats labels marks → AreBoundedIn g pats cost (costs_of labels) → (c l : ℕ) (b : Priced) → L c ≡ Some l → IsPricedAt g cost pats (marks_in marks) c b → l ≤ b.mark.cost
+  label_at_most marks are bounded c l b label is =
+      let (k, at, low) = bounded c is.pattern.cell b.found.pins (costs_in is.pin_marks) (standing g cost pats (marks_in marks) c b is) (pins_labelled marks are b.found.pins is.pin_marks is.have) in
+      let value : b.mark.cost ≡ cost.value is.pattern.cell (costs_in is.pin_marks) = ap (λ (m : PlainMark). m.cost) is.mark in
       let same : l ≡ k = same_Some l k (sym label ∙ at) in
       omega (arith, low, value, same)
+
+  -- so it is a floor
+  pub label_is_floor : (marks : List (Option Mark)) → IsCoverProblem g pats cost → AreLowering g cost pats labels → AreRising g cost pats labels marks → AreBoundedIn g pats cost (costs_of labels) → (c l : ℕ) → L c ≡ Some l → IsFloor g cost pats (marks_in marks) c l
+  label_is_floor marks problem low are bounded c l label = record {
+    capped = labels_capped g pats cost (costs_of labels) problem low.sound.attained c l label;
+    below = λ b is. label_at_most marks are bounded c l b label is;
+  }
 
   -- A class whose height stays.
   pub reached_unlabelled : (marks : List (Option Mark)) (c : ℕ) → L c ≡ None → IsReached g cost pats labels marks c
@@ -220,8 +228,8 @@ module _ (g : Graph) (cost : Cost) (pats : List Pattern) (labels : List (Option 
             let limit : bound.height ≡ old.height = same_height ∙ ap height_limit s in
             (plain_mark old, ap (option_map plain_mark) s, omega (arith, limit, high))
 
-    pub attains_under : AreBoundedIn g pats cost (costs_of labels) → (best : Best) → IsLeastBelow g cost pats (marks_in marks) c bound (Some best) → (L c ≡ Some best.mark.cost) × (best.mark.height < height_weight (slice_index_or marks c None))
-    attains_under bounded best (least, before) = by_order before (label_at_most marks are bounded c l best label least)
+    pub attains_under : AreBoundedIn g pats cost (costs_of labels) → (best : Best) → IsPricedAt g cost pats (marks_in marks) c (plain_best best) → IsMarkBefore (plain_mark best.mark) bound → (L c ≡ Some best.mark.cost) × (best.mark.height < height_weight (slice_index_or marks c None))
+    attains_under bounded best is before = by_order before (label_at_most marks are bounded c l (plain_best best) label is)
       where
         within_limit : (o : Option Mark) → best.mark.height < height_limit o → best.mark.height < height_weight o
         within_limit None lt = omega arith

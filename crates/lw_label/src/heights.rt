@@ -2,6 +2,7 @@
 ghost use Rattle.std.specs.Prelude.{◌≡◌, ◌<◌, ◌/◌, ℕ, None, true, false, length, replicate};
 ghost use Rattle.lw_graph.specs.Graphs.{IsGraph};
 ghost use Rattle.lw_match.specs.Bounds.{AreBounds, BoundsFit};
+ghost use Rattle.lw_match.specs.Cutting.{AreKnown};
 ghost use Rattle.lw_match.specs.Least.{AreOfCells};
 ghost use Rattle.lw_label.specs.Labels.{costs_of, AreLeastMarks};
 ghost use Rattle.lw_label.specs.Lowering.{AreLowering};
@@ -12,7 +13,7 @@ ghost use Rattle.lw_laws.specs.Laws.{AreBoundedIn, IsCoverProblem};
 use crate::lowering::{either, is_ahead};
 use crate::visits::Visits;
 use lw_graph::Graph;
-use lw_match::{Bounds, Cost, Mark, least_within};
+use lw_match::{Bounds, Cost, Mark, Tops, better_within};
 use lw_pattern::Patterns;
 use lw_pool::ClassId;
 
@@ -52,6 +53,7 @@ fn raise<C: Cost>(
     pats: &Patterns,
     cost: &C,
     bounds: &Bounds,
+    tops: &mut Tops,
     labels: &[Option<Mark>],
     marks: &mut [Option<Mark>],
     class: ClassId,
@@ -62,9 +64,11 @@ fn raise<C: Cost>(
     requires problem { IsCoverProblem graph.now pats.now (C.costs cost.now) }
     requires lowering { AreLowering graph.now (C.costs cost.now) pats.now labels.now }
     requires fits { BoundsFit bounds.now pats.now graph.now }
+    requires known { AreKnown (C.costs cost.now) pats.now bounds.now.gaps tops.old }
     requires bounds { AreBounds bounds.now graph.now labels.now }
     requires bounded { AreBoundedIn graph.now pats.now (C.costs cost.now) (costs_of labels.now) }
     requires rising { AreRising graph.now (C.costs cost.now) pats.now labels.now marks.old }
+    ensures known { AreKnown (C.costs cost.now) pats.now bounds.now.gaps tops.new }
     ensures rising { AreRising graph.now (C.costs cost.now) pats.now labels.now marks.new }
     ensures raises { Raises graph.now (C.costs cost.now) pats.now labels.now marks.old marks.new
         (λ c. c ≡ class.0) result }
@@ -73,7 +77,17 @@ fn raise<C: Cost>(
         return false;
     };
     let bound = height_bound(label, marks[class.0 as usize]);
-    let Some(best) = least_within(graph, pats, bounds, marks, class, cost, Some(bound)) else {
+    let Some(best) = better_within(
+        graph,
+        pats,
+        bounds,
+        marks,
+        class,
+        cost,
+        tops,
+        label.cost,
+        Some(bound),
+    ) else {
         return false;
     };
     marks[class.0 as usize] = Some(best.mark);
@@ -87,6 +101,7 @@ fn raise_again<C: Cost>(
     pats: &Patterns,
     cost: &C,
     bounds: &Bounds,
+    tops: &mut Tops,
     labels: &[Option<Mark>],
     marks: &mut [Option<Mark>],
     place: u32,
@@ -98,9 +113,11 @@ fn raise_again<C: Cost>(
     requires problem { IsCoverProblem graph.now pats.now (C.costs cost.now) }
     requires lowering { AreLowering graph.now (C.costs cost.now) pats.now labels.now }
     requires fits { BoundsFit bounds.now pats.now graph.now }
+    requires known { AreKnown (C.costs cost.now) pats.now bounds.now.gaps tops.old }
     requires bounds { AreBounds bounds.now graph.now labels.now }
     requires bounded { AreBoundedIn graph.now pats.now (C.costs cost.now) (costs_of labels.now) }
     requires rising { AreRising graph.now (C.costs cost.now) pats.now labels.now marks.old }
+    ensures known { AreKnown (C.costs cost.now) pats.now bounds.now.gaps tops.new }
     ensures rising { AreRising graph.now (C.costs cost.now) pats.now labels.now marks.new }
     ensures raises { Raises graph.now (C.costs cost.now) pats.now labels.now marks.old marks.new
         (λ c. ⊥) result }
@@ -108,7 +125,7 @@ fn raise_again<C: Cost>(
     let class = ClassId(place * 2 + 1);
     let other = marks[(place * 2) as usize];
     if raised && is_ahead(other, marks[class.0 as usize]) {
-        return raise(graph, pats, cost, bounds, labels, marks, class);
+        return raise(graph, pats, cost, bounds, tops, labels, marks, class);
     }
     false
 }
@@ -119,6 +136,7 @@ fn raise_pair<C: Cost>(
     pats: &Patterns,
     cost: &C,
     bounds: &Bounds,
+    tops: &mut Tops,
     labels: &[Option<Mark>],
     marks: &mut [Option<Mark>],
     place: u32,
@@ -129,17 +147,30 @@ fn raise_pair<C: Cost>(
     requires problem { IsCoverProblem graph.now pats.now (C.costs cost.now) }
     requires lowering { AreLowering graph.now (C.costs cost.now) pats.now labels.now }
     requires fits { BoundsFit bounds.now pats.now graph.now }
+    requires known { AreKnown (C.costs cost.now) pats.now bounds.now.gaps tops.old }
     requires bounds { AreBounds bounds.now graph.now labels.now }
     requires bounded { AreBoundedIn graph.now pats.now (C.costs cost.now) (costs_of labels.now) }
     requires rising { AreRising graph.now (C.costs cost.now) pats.now labels.now marks.old }
+    ensures known { AreKnown (C.costs cost.now) pats.now bounds.now.gaps tops.new }
     ensures rising { AreRising graph.now (C.costs cost.now) pats.now labels.now marks.new }
     ensures raises { Raises graph.now (C.costs cost.now) pats.now labels.now marks.old marks.new
         (λ c. c / 2 ≡ place) result }
 {
     let class = ClassId(place * 2 + 1);
-    let first = raise(graph, pats, cost, bounds, labels, marks, class);
-    let second = raise(graph, pats, cost, bounds, labels, marks, ClassId(place * 2));
-    let third = raise_again(graph, pats, cost, bounds, labels, marks, place, second);
+    let first = raise(graph, pats, cost, bounds, tops, labels, marks, class);
+    let second = raise(
+        graph,
+        pats,
+        cost,
+        bounds,
+        tops,
+        labels,
+        marks,
+        ClassId(place * 2),
+    );
+    let third = raise_again(
+        graph, pats, cost, bounds, tops, labels, marks, place, second,
+    );
     either(third, either(second, first))
 }
 
@@ -149,6 +180,7 @@ fn raise_place<C: Cost>(
     pats: &Patterns,
     cost: &C,
     bounds: &Bounds,
+    tops: &mut Tops,
     labels: &[Option<Mark>],
     visits: &mut Visits,
     marks: &mut [Option<Mark>],
@@ -162,10 +194,12 @@ fn raise_place<C: Cost>(
     requires problem { IsCoverProblem graph.now pats.now (C.costs cost.now) }
     requires lowering { AreLowering graph.now (C.costs cost.now) pats.now labels.now }
     requires fits { BoundsFit bounds.now pats.now graph.now }
+    requires known { AreKnown (C.costs cost.now) pats.now bounds.now.gaps tops.old }
     requires bounds { AreBounds bounds.now graph.now labels.now }
     requires bounded { AreBoundedIn graph.now pats.now (C.costs cost.now) (costs_of labels.now) }
     requires rising { AreRising graph.now (C.costs cost.now) pats.now labels.now marks.old }
     ensures visits { visits.new ≡ visits.old }
+    ensures known { AreKnown (C.costs cost.now) pats.now bounds.now.gaps tops.new }
     ensures rising { AreRising graph.now (C.costs cost.now) pats.now labels.now marks.new }
     ensures raises { Raises graph.now (C.costs cost.now) pats.now labels.now marks.old marks.new
         (IsVisited whole visits.old.order number) result }
@@ -173,7 +207,7 @@ fn raise_place<C: Cost>(
     let Some(place) = visits.due(graph, number, whole) else {
         return false;
     };
-    let raised = raise_pair(graph, pats, cost, bounds, labels, marks, place);
+    let raised = raise_pair(graph, pats, cost, bounds, tops, labels, marks, place);
     visits.note(place, raised);
     raised
 }
@@ -185,6 +219,7 @@ fn raise_round<C: Cost>(
     pats: &Patterns,
     cost: &C,
     bounds: &Bounds,
+    tops: &mut Tops,
     labels: &[Option<Mark>],
     visits: &mut Visits,
     marks: &mut [Option<Mark>],
@@ -196,10 +231,12 @@ fn raise_round<C: Cost>(
     requires problem { IsCoverProblem graph.now pats.now (C.costs cost.now) }
     requires lowering { AreLowering graph.now (C.costs cost.now) pats.now labels.now }
     requires fits { BoundsFit bounds.now pats.now graph.now }
+    requires known { AreKnown (C.costs cost.now) pats.now bounds.now.gaps tops.old }
     requires bounds { AreBounds bounds.now graph.now labels.now }
     requires bounded { AreBoundedIn graph.now pats.now (C.costs cost.now) (costs_of labels.now) }
     requires rising { AreRising graph.now (C.costs cost.now) pats.now labels.now marks.old }
     ensures visits { visits.new ≡ visits.old }
+    ensures known { AreKnown (C.costs cost.now) pats.now bounds.now.gaps tops.new }
     ensures rising { AreRising graph.now (C.costs cost.now) pats.now labels.now marks.new }
     ensures raises { Raises graph.now (C.costs cost.now) pats.now labels.now marks.old marks.new
         (λ c. (whole ≡ true) × (c < length graph.now.pairs)) result }
@@ -207,7 +244,7 @@ fn raise_round<C: Cost>(
     let mut changed = false;
     for number in 0..visits.len() {
         let raised = raise_place(
-            graph, pats, cost, bounds, labels, visits, marks, number, whole,
+            graph, pats, cost, bounds, tops, labels, visits, marks, number, whole,
         );
         changed = either(raised, changed);
     }
@@ -221,6 +258,7 @@ fn raise_rounds<C: Cost>(
     pats: &Patterns,
     cost: &C,
     bounds: &Bounds,
+    tops: &mut Tops,
     labels: &[Option<Mark>],
     visits: &mut Visits,
     marks: &mut [Option<Mark>],
@@ -231,17 +269,21 @@ fn raise_rounds<C: Cost>(
     requires problem { IsCoverProblem graph.now pats.now (C.costs cost.now) }
     requires lowering { AreLowering graph.now (C.costs cost.now) pats.now labels.now }
     requires fits { BoundsFit bounds.now pats.now graph.now }
+    requires known { AreKnown (C.costs cost.now) pats.now bounds.now.gaps tops.old }
     requires bounds { AreBounds bounds.now graph.now labels.now }
     requires bounded { AreBoundedIn graph.now pats.now (C.costs cost.now) (costs_of labels.now) }
     requires rising { AreRising graph.now (C.costs cost.now) pats.now labels.now marks.old }
     ensures visits { visits.new ≡ visits.old }
+    ensures known { AreKnown (C.costs cost.now) pats.now bounds.now.gaps tops.new }
     ensures rising { AreRising graph.now (C.costs cost.now) pats.now labels.now marks.new }
     ensures falls { result ≡ true → heights_weight marks.new < heights_weight marks.old }
     ensures reached { result ≡ false → (c : ℕ) → c < length graph.now.pairs →
         IsReached graph.now (C.costs cost.now) pats.now labels.now marks.new c }
 {
-    while raise_round(graph, pats, cost, bounds, labels, visits, marks, false) {}
-    raise_round(graph, pats, cost, bounds, labels, visits, marks, true)
+    while raise_round(
+        graph, pats, cost, bounds, tops, labels, visits, marks, false,
+    ) {}
+    raise_round(graph, pats, cost, bounds, tops, labels, visits, marks, true)
 }
 
 // Finds the height of each class that has a label.
@@ -250,6 +292,7 @@ pub(crate) fn raise_all<C: Cost>(
     pats: &Patterns,
     cost: &C,
     bounds: &Bounds,
+    tops: &mut Tops,
     labels: &[Option<Mark>],
     visits: &mut Visits,
     marks: &mut [Option<Mark>],
@@ -260,10 +303,11 @@ pub(crate) fn raise_all<C: Cost>(
     requires problem { IsCoverProblem graph.now pats.now (C.costs cost.now) }
     requires lowering { AreLowering graph.now (C.costs cost.now) pats.now labels.now }
     requires fits { BoundsFit bounds.now pats.now graph.now }
+    requires known { AreKnown (C.costs cost.now) pats.now bounds.now.gaps tops.old }
     requires bounds { AreBounds bounds.now graph.now labels.now }
     requires bounded { AreBoundedIn graph.now pats.now (C.costs cost.now) (costs_of labels.now) }
     requires rising { AreRising graph.now (C.costs cost.now) pats.now labels.now marks.old }
     ensures { AreLeastMarks graph.now (C.costs cost.now) pats.now marks.new }
 {
-    while raise_rounds(graph, pats, cost, bounds, labels, visits, marks) {}
+    while raise_rounds(graph, pats, cost, bounds, tops, labels, visits, marks) {}
 }

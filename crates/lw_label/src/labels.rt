@@ -8,7 +8,7 @@ use crate::heights::{raise_all, start_heights};
 use crate::lowering::{label_inputs, lower_all, no_marks};
 use crate::visits::Visits;
 use lw_graph::Graph;
-use lw_match::{Bounds, Cost, Mark};
+use lw_match::{Bounds, Cost, Mark, Tops};
 use lw_pattern::Patterns;
 use lw_pool::ClassId;
 use std::alloc::{AllocError, Global};
@@ -100,8 +100,9 @@ fn mark_all<C: Cost>(
 {
     let _ = graph.classes();
     label_inputs(graph, cost, labels);
-    lower_all(graph, pats, cost, visits, bounds, labels);
+    let mut tops = Tops::new();
+    lower_all(graph, pats, cost, visits, bounds, &mut tops, labels);
     start_heights(graph, labels, marks);
     visits.restart();
-    raise_all(graph, pats, cost, bounds, labels, visits, marks);
+    raise_all(graph, pats, cost, bounds, &mut tops, labels, visits, marks);
 }

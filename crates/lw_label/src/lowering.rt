@@ -2,6 +2,7 @@
 ghost use Rattle.std.specs.Prelude.{◌≡◌, ◌<◌, ◌≤◌, ◌/◌, ◌||◌, ℕ, Some, None, true, false, IfOk, length, replicate, slice_get, slice_index_or};
 ghost use Rattle.lw_match.specs.Least.{AreOfCells};
 ghost use Rattle.lw_match.specs.Bounds.{AreBounds, BoundsFit};
+ghost use Rattle.lw_match.specs.Cutting.{AreKnown};
 ghost use Rattle.lw_label.specs.Labels.{costs_of};
 ghost use Rattle.lw_label.specs.Lowering.{AreLowering, IsBounded, IsLabelled, IsLowerOf, Lowers, state, state_weight, weight};
 ghost use Rattle.lw_label.specs.Orders.{IsPassed, IsVisited, places_of};
@@ -9,7 +10,7 @@ ghost use Rattle.lw_laws.specs.Laws.{AreBoundedIn, IsCoverProblem};
 
 use crate::visits::Visits;
 use lw_graph::Graph;
-use lw_match::{Bounds, Cost, Mark, least_within};
+use lw_match::{Bounds, Cost, Mark, Tops, better_within};
 use lw_pattern::Patterns;
 use lw_pool::ClassId;
 use std::alloc::{AllocError, Global};
@@ -51,6 +52,7 @@ fn lower_mark<C: Cost>(
     pats: &Patterns,
     cost: &C,
     bounds: &Bounds,
+    tops: &mut Tops,
     marks: &mut [Option<Mark>],
     class: ClassId,
 ) -> bool
@@ -58,7 +60,9 @@ fn lower_mark<C: Cost>(
     requires of_cells { AreOfCells (C.costs cost.now).pin_counts pats.now }
     requires problem { IsCoverProblem graph.now pats.now (C.costs cost.now) }
     requires fits { BoundsFit bounds.now pats.now graph.now }
+    requires known { AreKnown (C.costs cost.now) pats.now bounds.now.gaps tops.old }
     requires lowering { AreLowering graph.now (C.costs cost.now) pats.now marks.old }
+    ensures known { AreKnown (C.costs cost.now) pats.now bounds.now.gaps tops.new }
     ensures lowering { AreLowering graph.now (C.costs cost.now) pats.now marks.new }
     ensures falls { result ≡ true →
         weight (C.costs cost.now) marks.new < weight (C.costs cost.now) marks.old }
@@ -67,7 +71,7 @@ fn lower_mark<C: Cost>(
         IsBounded graph.now (C.costs cost.now) pats.now marks.old class.0 }
 {
     let old = marks[class.0 as usize];
-    let Some(best) = least_within(graph, pats, bounds, marks, class, cost, old) else {
+    let Some(best) = better_within(graph, pats, bounds, marks, class, cost, tops, 0, old) else {
         return false;
     };
     marks[class.0 as usize] = Some(Mark {
@@ -90,6 +94,7 @@ fn lower<C: Cost>(
     pats: &Patterns,
     cost: &C,
     bounds: &mut Bounds,
+    tops: &mut Tops,
     marks: &mut [Option<Mark>],
     class: ClassId,
 ) -> bool
@@ -97,14 +102,16 @@ fn lower<C: Cost>(
     requires of_cells { AreOfCells (C.costs cost.now).pin_counts pats.now }
     requires problem { IsCoverProblem graph.now pats.now (C.costs cost.now) }
     requires fits { BoundsFit bounds.old pats.now graph.now }
+    requires known { AreKnown (C.costs cost.now) pats.now bounds.old.gaps tops.old }
     requires lowering { AreLowering graph.now (C.costs cost.now) pats.now marks.old }
     ensures fits { BoundsFit bounds.new pats.now graph.now }
+    ensures known { AreKnown (C.costs cost.now) pats.now bounds.new.gaps tops.new }
     ensures lowering { AreLowering graph.now (C.costs cost.now) pats.now marks.new }
     ensures lowers { Lowers graph.now (C.costs cost.now) pats.now (state bounds.old marks.old)
         (state bounds.new marks.new) (λ c. c ≡ class.0) result }
 {
     let renewed = bounds.renew(graph, marks, class);
-    let lowered = lower_mark(graph, pats, cost, bounds, marks, class);
+    let lowered = lower_mark(graph, pats, cost, bounds, tops, marks, class);
     either(lowered, renewed)
 }
 
@@ -124,6 +131,7 @@ fn lower_again<C: Cost>(
     pats: &Patterns,
     cost: &C,
     bounds: &mut Bounds,
+    tops: &mut Tops,
     marks: &mut [Option<Mark>],
     place: u32,
     lowered: bool,
@@ -132,8 +140,10 @@ fn lower_again<C: Cost>(
     requires of_cells { AreOfCells (C.costs cost.now).pin_counts pats.now }
     requires problem { IsCoverProblem graph.now pats.now (C.costs cost.now) }
     requires fits { BoundsFit bounds.old pats.now graph.now }
+    requires known { AreKnown (C.costs cost.now) pats.now bounds.old.gaps tops.old }
     requires lowering { AreLowering graph.now (C.costs cost.now) pats.now marks.old }
     ensures fits { BoundsFit bounds.new pats.now graph.now }
+    ensures known { AreKnown (C.costs cost.now) pats.now bounds.new.gaps tops.new }
     ensures lowering { AreLowering graph.now (C.costs cost.now) pats.now marks.new }
     ensures lowers { Lowers graph.now (C.costs cost.now) pats.now (state bounds.old marks.old)
         (state bounds.new marks.new) (λ c. ⊥) result }
@@ -142,7 +152,7 @@ fn lower_again<C: Cost>(
     let class = ClassId(place * 2 + 1);
     let other = marks[(place * 2) as usize];
     if lowered && is_ahead(other, marks[class.0 as usize]) {
-        return lower(graph, pats, cost, bounds, marks, class);
+        return lower(graph, pats, cost, bounds, tops, marks, class);
     }
     false
 }
@@ -153,6 +163,7 @@ fn lower_pair<C: Cost>(
     pats: &Patterns,
     cost: &C,
     bounds: &mut Bounds,
+    tops: &mut Tops,
     marks: &mut [Option<Mark>],
     place: u32,
 ) -> bool
@@ -160,17 +171,19 @@ fn lower_pair<C: Cost>(
     requires of_cells { AreOfCells (C.costs cost.now).pin_counts pats.now }
     requires problem { IsCoverProblem graph.now pats.now (C.costs cost.now) }
     requires fits { BoundsFit bounds.old pats.now graph.now }
+    requires known { AreKnown (C.costs cost.now) pats.now bounds.old.gaps tops.old }
     requires lowering { AreLowering graph.now (C.costs cost.now) pats.now marks.old }
     ensures fits { BoundsFit bounds.new pats.now graph.now }
+    ensures known { AreKnown (C.costs cost.now) pats.now bounds.new.gaps tops.new }
     ensures lowering { AreLowering graph.now (C.costs cost.now) pats.now marks.new }
     ensures lowers { Lowers graph.now (C.costs cost.now) pats.now (state bounds.old marks.old)
         (state bounds.new marks.new) (λ c. c / 2 ≡ place) result }
 {
     let _ = graph.classes();
     let class = ClassId(place * 2 + 1);
-    let first = lower(graph, pats, cost, bounds, marks, class);
-    let second = lower(graph, pats, cost, bounds, marks, ClassId(place * 2));
-    let third = lower_again(graph, pats, cost, bounds, marks, place, second);
+    let first = lower(graph, pats, cost, bounds, tops, marks, class);
+    let second = lower(graph, pats, cost, bounds, tops, marks, ClassId(place * 2));
+    let third = lower_again(graph, pats, cost, bounds, tops, marks, place, second);
     either(third, either(second, first))
 }
 
@@ -181,6 +194,7 @@ fn lower_place<C: Cost>(
     cost: &C,
     visits: &mut Visits,
     bounds: &mut Bounds,
+    tops: &mut Tops,
     marks: &mut [Option<Mark>],
     number: usize,
     whole: bool,
@@ -190,9 +204,11 @@ fn lower_place<C: Cost>(
     requires of_cells { AreOfCells (C.costs cost.now).pin_counts pats.now }
     requires problem { IsCoverProblem graph.now pats.now (C.costs cost.now) }
     requires fits { BoundsFit bounds.old pats.now graph.now }
+    requires known { AreKnown (C.costs cost.now) pats.now bounds.old.gaps tops.old }
     requires lowering { AreLowering graph.now (C.costs cost.now) pats.now marks.old }
     ensures visits { visits.new ≡ visits.old }
     ensures fits { BoundsFit bounds.new pats.now graph.now }
+    ensures known { AreKnown (C.costs cost.now) pats.now bounds.new.gaps tops.new }
     ensures lowering { AreLowering graph.now (C.costs cost.now) pats.now marks.new }
     ensures lowers { Lowers graph.now (C.costs cost.now) pats.now (state bounds.old marks.old)
         (state bounds.new marks.new) (IsVisited whole visits.old.order number) result }
@@ -200,7 +216,7 @@ fn lower_place<C: Cost>(
     let Some(place) = visits.due(graph, number, whole) else {
         return false;
     };
-    let lowered = lower_pair(graph, pats, cost, bounds, marks, place);
+    let lowered = lower_pair(graph, pats, cost, bounds, tops, marks, place);
     visits.note(place, lowered);
     lowered
 }
@@ -213,6 +229,7 @@ fn lower_round<C: Cost>(
     cost: &C,
     visits: &mut Visits,
     bounds: &mut Bounds,
+    tops: &mut Tops,
     marks: &mut [Option<Mark>],
     whole: bool,
 ) -> bool
@@ -220,9 +237,11 @@ fn lower_round<C: Cost>(
     requires of_cells { AreOfCells (C.costs cost.now).pin_counts pats.now }
     requires problem { IsCoverProblem graph.now pats.now (C.costs cost.now) }
     requires fits { BoundsFit bounds.old pats.now graph.now }
+    requires known { AreKnown (C.costs cost.now) pats.now bounds.old.gaps tops.old }
     requires lowering { AreLowering graph.now (C.costs cost.now) pats.now marks.old }
     ensures visits { visits.new ≡ visits.old }
     ensures fits { BoundsFit bounds.new pats.now graph.now }
+    ensures known { AreKnown (C.costs cost.now) pats.now bounds.new.gaps tops.new }
     ensures lowering { AreLowering graph.now (C.costs cost.now) pats.now marks.new }
     ensures lowers { Lowers graph.now (C.costs cost.now) pats.now (state bounds.old marks.old)
         (state bounds.new marks.new) (λ c. (whole ≡ true) × (c < length graph.now.pairs)) result }
@@ -230,7 +249,9 @@ fn lower_round<C: Cost>(
     let _ = graph.classes();
     let mut changed = false;
     for number in 0..visits.len() {
-        let lowered = lower_place(graph, pats, cost, visits, bounds, marks, number, whole);
+        let lowered = lower_place(
+            graph, pats, cost, visits, bounds, tops, marks, number, whole,
+        );
         changed = either(lowered, changed);
     }
     changed
@@ -244,15 +265,18 @@ fn lower_rounds<C: Cost>(
     cost: &C,
     visits: &mut Visits,
     bounds: &mut Bounds,
+    tops: &mut Tops,
     marks: &mut [Option<Mark>],
 ) -> bool
     requires places { visits.old.places ≡ places_of graph.now }
     requires of_cells { AreOfCells (C.costs cost.now).pin_counts pats.now }
     requires problem { IsCoverProblem graph.now pats.now (C.costs cost.now) }
     requires fits { BoundsFit bounds.old pats.now graph.now }
+    requires known { AreKnown (C.costs cost.now) pats.now bounds.old.gaps tops.old }
     requires lowering { AreLowering graph.now (C.costs cost.now) pats.now marks.old }
     ensures visits { visits.new ≡ visits.old }
     ensures fits { BoundsFit bounds.new pats.now graph.now }
+    ensures known { AreKnown (C.costs cost.now) pats.now bounds.new.gaps tops.new }
     ensures lowering { AreLowering graph.now (C.costs cost.now) pats.now marks.new }
     ensures falls { result ≡ true →
         state_weight (C.costs cost.now)
@@ -261,8 +285,8 @@ fn lower_rounds<C: Cost>(
     ensures labelled { result ≡ false → (c : ℕ) → c < length graph.now.pairs →
         IsLabelled graph.now (C.costs cost.now) pats.now (state bounds.new marks.new) c }
 {
-    while lower_round(graph, pats, cost, visits, bounds, marks, false) {}
-    lower_round(graph, pats, cost, visits, bounds, marks, true)
+    while lower_round(graph, pats, cost, visits, bounds, tops, marks, false) {}
+    lower_round(graph, pats, cost, visits, bounds, tops, marks, true)
 }
 
 // Lowers labels until no match would lower one.
@@ -272,19 +296,22 @@ pub(crate) fn lower_all<C: Cost>(
     cost: &C,
     visits: &mut Visits,
     bounds: &mut Bounds,
+    tops: &mut Tops,
     marks: &mut [Option<Mark>],
 )
     requires places { visits.old.places ≡ places_of graph.now }
     requires of_cells { AreOfCells (C.costs cost.now).pin_counts pats.now }
     requires problem { IsCoverProblem graph.now pats.now (C.costs cost.now) }
     requires fits { BoundsFit bounds.old pats.now graph.now }
+    requires known { AreKnown (C.costs cost.now) pats.now bounds.old.gaps tops.old }
     requires lowering { AreLowering graph.now (C.costs cost.now) pats.now marks.old }
     ensures visits { visits.new ≡ visits.old }
     ensures fits { BoundsFit bounds.new pats.now graph.now }
+    ensures known { AreKnown (C.costs cost.now) pats.now bounds.new.gaps tops.new }
     ensures lowering { AreLowering graph.now (C.costs cost.now) pats.now marks.new }
     ensures bounds { AreBounds bounds.new graph.now marks.new }
     ensures bounded { AreBoundedIn graph.now pats.now (C.costs cost.now) (costs_of marks.new) }
 {
     let _ = graph.classes();
-    while lower_rounds(graph, pats, cost, visits, bounds, marks) {}
+    while lower_rounds(graph, pats, cost, visits, bounds, tops, marks) {}
 }

@@ -14,6 +14,7 @@ loop-number-preserved g c =
     let pass = subst (λ v. Raises c.args.graph.now costs c.args.pats.now c.args.labels.now c.loop-number.marks visit.new.marks (IsVisited whole v.order number) visit.result) c.loop-number.invariant.visits visit.ensures.raises in
     record {
       visits = visit.ensures.visits ∙ c.loop-number.invariant.visits;
+      known = visit.ensures.known;
       rising = visit.ensures.rising;
       raises = subst (λ b. Raises c.args.graph.now costs c.args.pats.now c.args.labels.now c.args.marks.now visit.new.marks (IsPassed whole order (number + 1)) b) (sym c.either-changed.ensures) (passes_next heights_weight (IsReached c.args.graph.now costs c.args.pats.now c.args.labels.now) c.args.marks.now c.loop-number.marks visit.new.marks whole order number c.loop-number.changed visit.result c.loop-number.invariant.raises pass);
     }

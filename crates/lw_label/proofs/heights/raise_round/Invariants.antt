@@ -1,4 +1,5 @@
 use Rattle.std.proofs.Common.{◌≡◌}
+use Rattle.lw_match.specs.Cutting.{AreKnown}
 use Rattle.lw_label.specs.Rising.{AreRising, Raises}
 use Rattle.lw_label.specs.Orders.{IsPassed}
 use Rattle.lw_label.proofs.heights.raise_round.Given as goal
@@ -6,6 +7,7 @@ use Rattle.lw_label.proofs.heights.raise_round.Given as goal
 abbrev pub invariant-loop-number : goal.invariant-loop-number
 invariant-loop-number g l = record {
   visits : l.visits ≡ l.initial.visits;
+  known : AreKnown (g.C.Cost.costs l.cost) l.pats l.bounds.gaps l.tops;
   rising : AreRising l.graph (g.C.Cost.costs l.cost) l.pats l.labels l.marks;
   raises : Raises l.graph (g.C.Cost.costs l.cost) l.pats l.labels l.initial.marks l.marks (IsPassed l.whole l.initial.visits.order l.number) l.changed;
 }

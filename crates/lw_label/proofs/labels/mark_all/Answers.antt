@@ -14,3 +14,7 @@ lower_all-requires-clause-lowering g c = c.label_inputs.ensures c.args.pats.now
 
 pub raise_all-requires-clause-rising : goal.raise_all-requires-clause-rising
 raise_all-requires-clause-rising g c = c.start_heights.ensures (g.C.Cost.costs c.args.cost.now) c.args.pats.now c.lower_all.ensures.lowering
+
+pub lower_all-requires-clause-known : goal.lower_all-requires-clause-known
+lower_all-requires-clause-known g c =
+    c.new-tops.ensures (g.C.Cost.costs c.args.cost.now) c.args.pats.now c.args.bounds.now.gaps

@@ -5,8 +5,8 @@ use Rattle.lw_label.proofs.Marked.{lowering_in_range}
 use Rattle.lw_label.proofs.Falling.{bounded_under, lower_under, best_capped, lowered, weight_falls, label_is_cost}
 use Rattle.lw_label.proofs.lowering.lower_mark.Goals as goal
 
-pub least_within-requires-clause-in_range : goal.least_within-requires-clause-in_range
-least_within-requires-clause-in_range g c =
+pub better_within-requires-clause-in_range : goal.better_within-requires-clause-in_range
+better_within-requires-clause-in_range g c =
     let costs = g.C.Cost.costs c.args.cost.now in
     subst (λ cap. AreInRange cap c.args.marks.now) (g.met.C.Cost.cap c.args.cost.now) (lowering_in_range c.args.graph.now costs c.args.pats.now c.args.marks.now c.requires.problem c.requires.lowering)
 
@@ -14,7 +14,7 @@ pub returns-in_default-clause-bounded : goal.returns-in_default-clause-bounded
 returns-in_default-clause-bounded g c = λ e are.
     let marks = c.args.marks.now in
     let class = c.args.class.0 in
-    bounded_under c.args.graph.now (g.C.Cost.costs c.args.cost.now) c.args.pats.now marks class (slice_index_or marks class None) refl (c.in_default.ensures.least are)
+    bounded_under c.args.graph.now (g.C.Cost.costs c.args.cost.now) c.args.pats.now marks class (slice_index_or marks class None) refl (c.in_default.ensures.none refl are)
 
 pub returns-clause-lowering : goal.returns-clause-lowering
 returns-clause-lowering g c =

@@ -20,6 +20,7 @@ loop-number-preserved g c =
     record {
       visits = visit.ensures.visits ∙ c.loop-number.invariant.visits;
       fits = visit.ensures.fits;
+      known = visit.ensures.known;
       lowering = visit.ensures.lowering;
       lowers = subst (λ b. Lowers graph costs pats old new (IsPassed whole order (number + 1)) b) (sym c.either-changed.ensures) (passes_next (state_weight costs) (IsLabelled graph costs pats) old mid new whole order number c.loop-number.changed visit.result c.loop-number.invariant.lowers pass);
     }
