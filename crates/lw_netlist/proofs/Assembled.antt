@@ -81,6 +81,9 @@ module _ (draft : GateDraft) (depths starts : List ℕ) (order : List DraftGate)
   start_among name from (of_driver among) = Contains-permutation firsts names from firsts_moved among
   start_among name from (of_wire wire among named rest) = start_among wire.from from rest
 
+  pub starts_among : (name : List ℕ) → Contains driven name → Contains names (start name)
+  starts_among name among = start_among name (start name) (right.starts_are name among)
+
   start_depth : (name from : List ℕ) → IsStart draft name from → right.depth name ≡ right.depth from
   start_depth name from (of_driver among) = refl
   start_depth name from (of_wire wire (k, lt, e) named rest) =

@@ -7,5 +7,6 @@ pub mod Names
 pub mod NetValues
 pub mod Paths
 pub mod Pins
+pub mod Places
 pub mod Settling
 pub mod Starting

@@ -1,11 +1,10 @@
 -- Names that differ, and their numbers.
 use Rattle.std.proofs.Common.{◌≡◌, ℕ, ◌+◌, ◌<◌, Bool, true, false, not, ◌||◌, cond, List, [], ◌∷◌, ◌++◌, length, map, take, drop, get_or, Some, None, refl, sym, ap, ap₂, subst, ◌∙◌, append_assoc}
-use Rattle.std.proofs.lemmas.List.{take_more, at_drop_more, get_or_read, map_more, map-append, append-nil}
+use Rattle.std.proofs.lemmas.List.{at_drop_more, map_more, map-append, append-nil}
 use Rattle.std.proofs.lemmas.Bool.{false≢true}
-use Rattle.std.specs.List.{list_any, flat_map, IsDistinct, AllByRecursion}
+use Rattle.std.specs.List.{flat_map, IsDistinct, AllByRecursion}
 use Rattle.std.specs.Str.{bytes_eq}
-use Rattle.indexmap.specs.IndexSet.{insert_key}
-use Rattle.lw_dag.proofs.Names.{differ_back, find_first, find_later, none_before}
+use Rattle.lw_dag.proofs.Names.{differ_back, find_first, find_later}
 use Rattle.lw_netlist.specs.declared.draft.DraftGate.{DraftGate}
 use Rattle.lw_netlist.specs.declared.draft.GateDraft.{GateDraft}
 use Rattle.lw_netlist.specs.declared.draft.Wire.{Wire}
@@ -21,13 +20,6 @@ numbered_more {X = X} driven link xs old new i x ns below here was is grown =
     let one : Link → List ℕ = λ l. map (number_in driven) l.needs in
     let more : map link (take (i + 1) xs) ≡ map link (take i xs) ++ link (get_or xs i x) ∷ [] = map_more link xs i x below in
     grown ∙ (ap₂ (λ l n. l ++ n ∷ []) was (is ∙ ap (λ (y : X). one (link y)) here) ∙ sym (ap (map one) more ∙ map-append one (map link (take i xs)) (link (get_or xs i x) ∷ [])))
-
--- one more name is numbered
-pub inserted : (names old new : List (List ℕ)) (i : ℕ) (name item : List ℕ) → IsDistinct bytes_eq names → i < length names → item ≡ get_or names i item → name ≡ item → old ≡ take i names → new ≡ insert_key bytes_eq old name → new ≡ take (i + 1) names
-inserted names old new i name item distinct below read copied was is =
-    let here : name ≡ get_or names i name = copied ∙ get_or_read names i item below read name in
-    let fresh : list_any (bytes_eq name) old ≡ false = ap (λ l. list_any (bytes_eq name) l) was ∙ (ap (λ n. list_any (bytes_eq n) (take i names)) here ∙ none_before names i name distinct below) in
-    is ∙ (ap (λ b. cond b old (old ++ name ∷ [])) fresh ∙ (ap (λ l. l ++ name ∷ []) was ∙ (ap (λ n. take i names ++ n ∷ []) here ∙ sym (take_more names i name below))))
 
 -- an undriven name of the first names is the first of all
 pub undriven_first : (signals xs ys : List (List ℕ)) (fault : NetlistFault) → TellsUndriven signals xs fault → TellsUndriven signals (xs ++ ys) fault
@@ -58,6 +50,15 @@ undriven_in_link driven link xs i x fault below here rest e =
 pub undriven_behind_link : {X : Type 0} (driven : List (List ℕ)) (link : X → Link) (xs : List X) (i : ℕ) (x : X) → i < length xs → x ≡ get_or xs i x → undriven_in driven (flat_map needs_of (map link (drop i xs))) ≡ undriven_in driven (flat_map needs_of (map link xs)) → undriven_in driven (link x).needs ≡ None → undriven_in driven (flat_map needs_of (map link (drop (i + 1) xs))) ≡ undriven_in driven (flat_map needs_of (map link xs))
 undriven_behind_link driven link xs i x below here rest e =
     sym (undriven_later driven (link x).needs (flat_map needs_of (map link (drop (i + 1) xs))) e) ∙ (ap (undriven_in driven) (sym (needs_from link xs i x below here)) ∙ rest)
+
+-- what the first of some links hangs on, and what those behind it do
+pub undriven_in_head : {X : Type 0} (driven : List (List ℕ)) (link : X → Link) (x : X) (xs : List X) (all : List (List ℕ)) (fault : NetlistFault) → undriven_in driven (flat_map needs_of (map link (x ∷ xs))) ≡ undriven_in driven all → TellsUndriven driven (link x).needs fault → TellsUndriven driven all fault
+undriven_in_head driven link x xs all fault same e =
+    let others = flat_map needs_of (map link xs) in
+    undriven_same driven ((link x).needs ++ others) all fault same (undriven_first driven (link x).needs others fault e)
+
+pub undriven_behind_head : {X : Type 0} (driven : List (List ℕ)) (link : X → Link) (x : X) (xs : List X) (all : List (List ℕ)) → undriven_in driven (flat_map needs_of (map link (x ∷ xs))) ≡ undriven_in driven all → undriven_in driven (link x).needs ≡ None → undriven_in driven (flat_map needs_of (map link xs)) ≡ undriven_in driven all
+undriven_behind_head driven link x xs all same e = sym (undriven_later driven (link x).needs (flat_map needs_of (map link xs)) e) ∙ same
 
 -- where none is there twice, they differ
 AllByRecursion-split : (P : List ℕ → Type 0) (xs ys : List (List ℕ)) → AllByRecursion P xs → AllByRecursion P ys → AllByRecursion P (xs ++ ys)

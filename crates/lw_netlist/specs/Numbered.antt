@@ -1,15 +1,11 @@
 -- A draft whose names are numbered: inputs, and then what gates and wires drive, as they are given.
-use Rattle.std.specs.Prelude.{ℕ, ◌+◌, ◌<◌, ◌≤◌, ◌≡◌, max, nat_lt, cond, Some, ⊤, List, [], ◌∷◌, map, length, slice_index_or, Contains, All}
+use Rattle.std.specs.Prelude.{ℕ, ◌+◌, ◌<◌, ◌≤◌, ◌≡◌, max, nat_lt, cond, Some, ⊤, List, [], ◌∷◌, map, length, slice_index_or, Contains}
 use Rattle.lw_dag.specs.Graphs.{fanins_at, height_at}
 pub use Rattle.lw_dag.specs.Names.{number_in}
 use Rattle.lw_pool.specs.declared.id.NetId.{NetId}
-use Rattle.lw_netlist.specs.declared.draft.DraftGate.{DraftGate}
 use Rattle.lw_netlist.specs.declared.fault.NetlistFault.{NetlistFault}
 use Rattle.lw_netlist.specs.declared.fault.NetlistFault.TheVariants.{Twice, Undriven, Cycle, Memory}
 use Rattle.lw_netlist.specs.Closing.{Link, twice_after, undriven_in}
-
-abbrev pub net_in : List (List ℕ) → List ℕ → NetId
-net_in names name = record { 0 = number_in names name }
 
 -- The first of these names that is there twice is named.
 abbrev pub TellsTwice : List (List ℕ) → NetlistFault → Type 0
@@ -28,15 +24,6 @@ TellsUndriven driven names Memory = ⊤
 -- the numbers of the names that each hangs on
 abbrev pub numbered : List (List ℕ) → List Link → List (List ℕ)
 numbered driven ls = map (λ (link : Link). map (number_in driven) link.needs) ls
-
--- A gate's own number, and the row of the graph with those of its pins.
-pub record HasRow (inputs : ℕ) (driven graph : List (List ℕ)) (gate : DraftGate) : Type 0 where
-  pub place : ℕ
-  pub within : place < length graph
-  pub among : Contains driven gate.out
-  pub own : number_in driven gate.out ≡ inputs + place
-  pub known : All (Contains driven) gate.pins
-  pub row : fanins_at graph place ≡ map (number_in driven) gate.pins
 
 -- the net with this number
 abbrev pub net_at : List NetId → ℕ → NetId

@@ -8,9 +8,11 @@ mod closing;
 mod draft;
 mod fault;
 mod gate;
+mod graph;
 mod levels;
 mod naming;
 mod netlist;
+mod placing;
 mod values;
 
 pub use draft::{DraftGate, DraftGates, GateDraft, Wire, Wires};

@@ -1,7 +1,6 @@
 // Names in place of which numbers stand.
 ghost use Rattle.std.specs.Prelude.{◌≡◌, ◌<◌, ◌≤◌, ◌++◌, ◌∷◌, [], None, length, map, IfOk, IfErr, OnOk};
-ghost use Rattle.std.specs.List.{IsDistinct, flat_map};
-ghost use Rattle.std.specs.Str.{bytes_eq};
+ghost use Rattle.std.specs.List.{flat_map};
 ghost use Rattle.lw_netlist.specs.Closing.{drivers, gate_link, needs_of, out_of, twice_after, undriven_in, wire_link};
 ghost use Rattle.lw_dag.specs.Graphs.{most_signals};
 ghost use Rattle.lw_dag.specs.Names.{number_in};
@@ -66,18 +65,6 @@ pub(crate) fn numbers(alloc: Global, names: Vec<Name>) -> Result<IndexSet<Name>,
     Ok(set)
 }
 
-// Numbers copies of names, which differ.
-pub(crate) fn number_copies(alloc: Global, names: &[Name]) -> Result<IndexSet<Name>, AllocError>
-    requires { IsDistinct bytes_eq names.now }
-    ensures { IfOk result (λ set. set.keys ≡ names.now) }
-{
-    let mut set = IndexSet::with_capacity(alloc, names.len())?;
-    for name in names {
-        set.insert(Name::from_slice(alloc, name.as_bytes())?)?;
-    }
-    Ok(set)
-}
-
 // The number of a name, or the fault that it has none.
 fn number_of(alloc: Global, name: &Name, signals: &IndexSet<Name>) -> Result<u32, NetlistFault>
     ensures ok { IfOk result (λ n. n ≡ number_in signals.now.keys name.now) }
@@ -114,21 +101,22 @@ pub(crate) fn numbers_of(
     Ok(Numbers::new(numbers))
 }
 
-// The numbers of the pins of each gate, or the first pin that has none.
+// The numbers of the pins of each gate, or the first pin that has none. Each gate is let go.
 fn gate_rows(
     alloc: Global,
-    gates: &[DraftGate],
+    gates: Vec<DraftGate>,
     signals: &IndexSet<Name>,
 ) -> Result<Vec<Numbers>, NetlistFault>
     ensures ok { IfOk result (λ rows. rows.items
-        ≡ numbered signals.now.keys (map gate_link gates.now)) }
+        ≡ numbered signals.now.keys (map gate_link gates.items)) }
     ensures known { OnOk result (undriven_in signals.now.keys
-        (flat_map needs_of (map gate_link gates.now)) ≡ None) }
+        (flat_map needs_of (map gate_link gates.items)) ≡ None) }
     ensures fault { IfErr result (TellsUndriven signals.now.keys
-        (flat_map needs_of (map gate_link gates.now))) }
+        (flat_map needs_of (map gate_link gates.items))) }
 {
-    let mut rows = Vec::new(alloc);
-    for gate in gates {
+    let mut rows = Vec::with_capacity(alloc, gates.len())?;
+    let mut left = gates.into_iter();
+    'gates: while let Some(gate) = left.next() {
         let row = numbers_of(alloc, gate.pins.as_slice(), signals)?;
         let Ok(()) = rows.push(row) else {
             return Err(NetlistFault::Memory);
@@ -179,16 +167,16 @@ fn wire_rows(
 // none.
 pub(crate) fn rows(
     alloc: Global,
-    gates: &[DraftGate],
+    gates: Vec<DraftGate>,
     wires: &[Wire],
     signals: &IndexSet<Name>,
 ) -> Result<Vec<Numbers>, NetlistFault>
     ensures ok { IfOk result (λ rows. rows.items
-        ≡ numbered signals.now.keys (map gate_link gates.now ++ map wire_link wires.now)) }
+        ≡ numbered signals.now.keys (map gate_link gates.items ++ map wire_link wires.now)) }
     ensures known { OnOk result (undriven_in signals.now.keys
-        (flat_map needs_of (map gate_link gates.now ++ map wire_link wires.now)) ≡ None) }
+        (flat_map needs_of (map gate_link gates.items ++ map wire_link wires.now)) ≡ None) }
     ensures fault { IfErr result (TellsUndriven signals.now.keys
-        (flat_map needs_of (map gate_link gates.now ++ map wire_link wires.now))) }
+        (flat_map needs_of (map gate_link gates.items ++ map wire_link wires.now))) }
 {
     let mut rows = gate_rows(alloc, gates, signals)?;
     wire_rows(alloc, wires, signals, &mut rows)?;

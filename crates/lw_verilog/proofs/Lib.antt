@@ -12,10 +12,12 @@ pub mod Marks
 pub mod Named
 pub mod OneMeaning
 pub mod Parsing
+pub mod Ports
 pub mod PutParts
 pub mod ReadBack
 pub mod ReadRuns
 pub mod Runs
+pub mod SpelledNames
 pub mod Spellings
 pub mod Stepping
 pub mod Unbroken

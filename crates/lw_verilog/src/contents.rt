@@ -1,20 +1,20 @@
 // What the tokens that were read say together.
-ghost use Rattle.std.specs.Prelude.{◌≡◌, ◌<◌, ◌++◌, [], ◌∷◌, false, None, length, OnOk};
+ghost use Rattle.std.specs.Prelude.{◌≡◌, ◌<◌, ◌++◌, [], ◌∷◌, false, None, length, IfOk, OnOk};
 ghost use Rattle.lw_netlist.specs.Closing.{is_among};
 ghost use Rattle.lw_verilog.specs.Readings.{cell_in, missing_fault};
-ghost use Rattle.lw_verilog.specs.Statements.{gate_by, ties_in, wire_by};
+ghost use Rattle.lw_verilog.specs.Statements.{gate_by, model_of, ties_in, wire_by};
 ghost use Rattle.lw_verilog.specs.Tokens.{name_of};
 
 use crate::gates::gate_of;
 use crate::place::move_at;
 use crate::rules::{cell_fault, declared_fault, missing_fault, name_fault, pin_fault, ports_fault};
+use crate::spelled::Spelled;
 use crate::{Kind, Place, Refusal, Task, VerilogKind};
 use indexmap::IndexSet;
 use lw_genlib::Library;
 use lw_netlist::{DraftGates, GateDraft, Wire, Wires};
 use lw_pool::{Name, Names};
 use std::alloc::{AllocError, Global};
-use std::mem;
 
 /// What the tokens that were read say together.
 #[derive(Drop)]
@@ -22,11 +22,11 @@ pub struct Contents {
     pub(crate) alloc: Global,
     pub(crate) place: Place,
     // Those of the statement that is open.
-    pub(crate) names: Names,
+    pub(crate) names: Spelled,
     // The ports that are declared.
     pub(crate) declared: IndexSet<Name>,
     // The model, and then the ports that are listed.
-    pub(crate) header: Names,
+    pub(crate) header: Spelled,
     pub(crate) inputs: Names,
     pub(crate) outputs: Names,
     pub(crate) gates: DraftGates,
@@ -43,21 +43,32 @@ fn name_of(bytes: &[u8]) -> &[u8]
     }
 }
 
-// Appends a copy of a name.
-fn push_name(alloc: Global, names: &mut Names, name: &[u8]) -> Result<(), AllocError>
-    requires { 0 < length name.now }
-    ensures { OnOk result (names.new ≡ names.old ++ name.now ∷ []) }
+// The name of the model, by the header.
+fn model_of(alloc: Global, header: &Spelled) -> Result<Name, AllocError>
+    ensures { IfOk result (λ model. model ≡ model_of header.now) }
 {
-    names.push(Name::from_slice(alloc, name)?)
+    if header.len() == 0 {
+        return Name::from_slice(alloc, b"unnamed");
+    }
+    Name::from_slice(alloc, header.get(0))
 }
 
-// Appends names.
-fn append(names: &mut Names, more: Names) -> Result<(), AllocError>
-    ensures { OnOk result (names.new ≡ names.old ++ more) }
+// Appends copies of names.
+fn append(alloc: Global, names: &mut Names, more: &Spelled) -> Result<(), AllocError>
+    ensures { OnOk result (names.new ≡ names.old ++ more.now) }
 {
-    let mut left = more.into_vec().into_iter();
-    'names: while let Some(name) = left.next() {
-        names.push(name)?;
+    for place in 0..more.len() {
+        names.push(Name::from_slice(alloc, more.get(place))?)?;
+    }
+    Ok(())
+}
+
+// Appends names to those of the header.
+fn append_header(header: &mut Spelled, more: &Spelled) -> Result<(), AllocError>
+    ensures { OnOk result (header.new ≡ header.old ++ more.now) }
+{
+    for place in 0..more.len() {
+        header.push(more.get(place))?;
     }
     Ok(())
 }
@@ -76,14 +87,14 @@ fn declare(alloc: Global, declared: &mut IndexSet<Name>, name: &[u8]) -> Result<
 }
 
 // Appends the wire of an assignment of these names.
-fn push_wire(alloc: Global, wires: &mut Wires, names: &[Name]) -> Result<(), AllocError>
+fn push_wire(alloc: Global, wires: &mut Wires, names: &Spelled) -> Result<(), AllocError>
     ensures { OnOk result (wires.new ≡ wires.old ++ wire_by names.now) }
 {
     if names.len() < 2 {
         return Ok(());
     }
-    let to = Name::from_slice(alloc, names[0].as_bytes())?;
-    let from = Name::from_slice(alloc, names[1].as_bytes())?;
+    let to = Name::from_slice(alloc, names.get(0))?;
+    let from = Name::from_slice(alloc, names.get(1))?;
     wires.push(Wire { from, to })
 }
 
@@ -92,7 +103,7 @@ fn push_gate(
     alloc: Global,
     lib: &Library,
     gates: &mut DraftGates,
-    names: &[Name],
+    names: &Spelled,
 ) -> Result<(), AllocError>
     requires { missing_fault (cell_in lib.now names.now) (ties_in names.now) ≡ None }
     ensures { OnOk result (gates.new ≡ gates.old ++ gate_by lib.now names.now) }
@@ -119,9 +130,9 @@ impl Contents {
         Contents {
             alloc,
             place: Place::Begin,
-            names: Names::new(alloc),
+            names: Spelled::new(alloc),
             declared: IndexSet::new(alloc),
-            header: Names::new(alloc),
+            header: Spelled::new(alloc),
             inputs: Names::new(alloc),
             outputs: Names::new(alloc),
             gates: DraftGates::new(alloc),
@@ -133,16 +144,6 @@ impl Contents {
         ensures { result ≡ is_done self.now.place }
     {
         matches!(self.place, Place::Done)
-    }
-
-    // The names of the ports.
-    fn ports(&self) -> &[Name]
-        ensures { result.now ≡ drop 1 self.now.header }
-    {
-        match self.header.as_slice() {
-            [_, ports @ ..] => ports,
-            [] => &[],
-        }
     }
 
     // The rule that a token breaks which may stand here.
@@ -162,10 +163,28 @@ impl Contents {
             Task::Word => Ok(name_fault(name)),
             Task::Declare => declared_fault(self.alloc, &self.declared, name),
             Task::Cell => Ok(cell_fault(lib, name)),
-            Task::Pin => Ok(pin_fault(lib, self.names.as_slice(), name)),
-            Task::Instance => Ok(missing_fault(lib, self.names.as_slice())),
-            Task::Finish => ports_fault(self.alloc, self.ports(), &self.declared),
+            Task::Pin => Ok(pin_fault(lib, &self.names, name)),
+            Task::Instance => Ok(missing_fault(lib, &self.names)),
+            Task::Finish => ports_fault(self.alloc, &self.header, &self.declared),
             _ => Ok(None),
+        }
+    }
+
+    // Adds what a statement says at its end. The rest stays.
+    fn add(&mut self, task: Task, lib: &Library) -> Result<(), AllocError>
+        requires { task ≡ tasks.Instance →
+            missing_fault (cell_in lib.now self.old.names) (ties_in self.old.names) ≡ None }
+        ensures adds { OnOk result (Adds lib.now task self.old.names self.old self.new) }
+        ensures names { self.new.names ≡ self.old.names }
+        ensures declared { self.new.declared.keys ≡ self.old.declared.keys }
+    {
+        match task {
+            Task::Header => append_header(&mut self.header, &self.names),
+            Task::Inputs => append(self.alloc, &mut self.inputs, &self.names),
+            Task::Outputs => append(self.alloc, &mut self.outputs, &self.names),
+            Task::Assignment => push_wire(self.alloc, &mut self.wires, &self.names),
+            Task::Instance => push_gate(self.alloc, lib, &mut self.gates, &self.names),
+            _ => Ok(()),
         }
     }
 
@@ -177,15 +196,9 @@ impl Contents {
         ensures names { OnOk result (self.new.names ≡ []) }
         ensures declared { self.new.declared.keys ≡ self.old.declared.keys }
     {
-        let names = mem::replace(&mut self.names, Names::new(self.alloc));
-        match task {
-            Task::Header => append(&mut self.header, names),
-            Task::Inputs => append(&mut self.inputs, names),
-            Task::Outputs => append(&mut self.outputs, names),
-            Task::Assignment => push_wire(self.alloc, &mut self.wires, names.as_slice()),
-            Task::Instance => push_gate(self.alloc, lib, &mut self.gates, names.as_slice()),
-            _ => Ok(()),
-        }
+        self.add(task, lib)?;
+        self.names.clear();
+        Ok(())
     }
 
     // Does the task of a token.
@@ -197,10 +210,10 @@ impl Contents {
     {
         match task {
             Task::Skip => Ok(()),
-            Task::Word | Task::Cell | Task::Pin => push_name(self.alloc, &mut self.names, name),
+            Task::Word | Task::Cell | Task::Pin => self.names.push(name),
             Task::Declare => {
                 declare(self.alloc, &mut self.declared, name)?;
-                push_name(self.alloc, &mut self.names, name)
+                self.names.push(name)
             }
             _ => self.end(task, lib),
         }
@@ -257,10 +270,7 @@ impl Contents {
               wires = self.wires;
             }) }
     {
-        let model = match self.header.as_slice() {
-            [model, ..] => Name::from_slice(alloc, model.as_bytes())?,
-            [] => Name::from_slice(alloc, b"unnamed")?,
-        };
+        let model = model_of(alloc, &self.header)?;
         let Contents {
             inputs,
             outputs,

@@ -5,22 +5,23 @@ ghost use Rattle.lw_verilog.specs.Readings.{cell_in, missing_fault};
 ghost use Rattle.lw_verilog.specs.Statements.{gate_by, is_for, net_for, ties_in};
 
 use crate::rules::{cell_id, net_place};
+use crate::spelled::Spelled;
 use lw_genlib::Library;
 use lw_netlist::DraftGate;
 use lw_pool::{Name, Names};
 use std::alloc::{AllocError, Global};
 
 // The net of a pin or of the output.
-fn net_of(alloc: Global, names: &[Name], formal: &[u8]) -> Result<Name, AllocError>
+fn net_of(alloc: Global, names: &Spelled, formal: &[u8]) -> Result<Name, AllocError>
     requires { list_any (is_for formal.now) (ties_in names.now) ≡ true }
     ensures { IfOk result (λ net. net ≡ net_for (ties_in names.now) formal.now) }
 {
     let place = net_place(names, formal).unwrap();
-    Name::from_slice(alloc, names[place].as_bytes())
+    Name::from_slice(alloc, names.get(place))
 }
 
 // The nets of the pins.
-fn pin_nets(alloc: Global, names: &[Name], pins: &[Name]) -> Result<Names, AllocError>
+fn pin_nets(alloc: Global, names: &Spelled, pins: &[Name]) -> Result<Names, AllocError>
     requires { All (λ pin. list_any (is_for pin) (ties_in names.now) ≡ true) pins.now }
     ensures { IfOk result (λ nets. nets ≡ map (net_for (ties_in names.now)) pins.now) }
 {
@@ -35,7 +36,7 @@ fn pin_nets(alloc: Global, names: &[Name], pins: &[Name]) -> Result<Names, Alloc
 pub(crate) fn gate_of(
     alloc: Global,
     lib: &Library,
-    names: &[Name],
+    names: &Spelled,
 ) -> Result<Option<DraftGate>, AllocError>
     requires { missing_fault (cell_in lib.now names.now) (ties_in names.now) ≡ None }
     ensures { IfOk result (λ gate. option_to_list gate ≡ gate_by lib.now names.now) }

@@ -14,6 +14,7 @@ mod reader;
 mod reason;
 mod refusing;
 mod rules;
+mod spelled;
 mod taken;
 mod writing;
 

@@ -1,5 +1,5 @@
 // The rules that names break.
-ghost use Rattle.std.specs.Prelude.{◌≡◌, ◌<◌, true, false, None, Some, [], length, drop, is_none, option_map, IfOk, IfSome, IfNone, slice_get, slice_index_or};
+ghost use Rattle.std.specs.Prelude.{◌≡◌, ◌<◌, true, false, None, Some, [], length, drop, is_none, option_map, ◌&&◌, IfOk, IfSome, IfNone, slice_get, slice_index_or};
 ghost use Rattle.std.specs.List.{list_all, list_any};
 ghost use Rattle.std.specs.Option.{option_or};
 ghost use Rattle.std.specs.Str.{bytes_eq};
@@ -10,6 +10,7 @@ ghost use Rattle.lw_verilog.specs.Readings.{has_hash, name_fault, declared_fault
 ghost use Rattle.lw_verilog.specs.Statements.{first_name, is_for, net_for, number_of, ties_in};
 
 use crate::VerilogKind;
+use crate::spelled::Spelled;
 use indexmap::IndexSet;
 use lw_genlib::{Cell, Library};
 use lw_pool::{CellId, Name};
@@ -71,17 +72,17 @@ pub(crate) fn cell_fault(lib: &Library, name: &[u8]) -> Option<VerilogKind>
 }
 
 // The first of some names.
-fn first_name(names: &[Name]) -> &[u8]
+fn first_name(names: &Spelled) -> &[u8]
     ensures { result.now ≡ first_name names.now }
 {
-    match names {
-        [first, ..] => first.as_bytes(),
-        [] => b"",
+    if names.len() == 0 {
+        return b"";
     }
+    names.get(0)
 }
 
 /// The cell of an instance of these names.
-pub(crate) fn cell_id(lib: &Library, names: &[Name]) -> Option<CellId>
+pub(crate) fn cell_id(lib: &Library, names: &Spelled) -> Option<CellId>
     ensures number { number_of lib.now names.now ≡ option_map (λ id. id.0) result }
     ensures within { IfSome result (λ id. id.0 < length lib.now) }
 {
@@ -92,22 +93,23 @@ pub(crate) fn cell_id(lib: &Library, names: &[Name]) -> Option<CellId>
     }
 }
 
-fn is_at(names: &[Name], place: usize, name: &[u8]) -> bool
+fn is_at(names: &Spelled, place: usize, name: &[u8]) -> bool
     requires { place < length names.now }
     ensures { result ≡ bytes_eq (slice_index_or names.now place []) name.now }
 {
-    names[place].as_bytes() == name
+    names.get(place) == name
 }
 
 /// The place of the net of a pin or of the output, among the names of an instance.
-pub(crate) fn net_place(names: &[Name], formal: &[u8]) -> Option<usize>
+pub(crate) fn net_place(names: &Spelled, formal: &[u8]) -> Option<usize>
     ensures given { IfSome result (λ place. list_any (is_for formal.now) (ties_in names.now) ≡ true) }
     ensures net { IfSome result (λ place. slice_get names.now place
         ≡ Some (net_for (ties_in names.now) formal.now)) }
     ensures none { IfNone result (list_any (is_for formal.now) (ties_in names.now) ≡ false) }
 {
+    let count = names.len();
     let mut place = 2;
-    while place < names.len() && place + 1 < names.len() {
+    while place < count && place + 1 < count {
         if is_at(names, place, formal) {
             return Some(place + 1);
         }
@@ -117,7 +119,7 @@ pub(crate) fn net_place(names: &[Name], formal: &[u8]) -> Option<usize>
 }
 
 // Whether an instance of these names gives the pin or the output.
-fn gives(names: &[Name], formal: &[u8]) -> bool
+fn gives(names: &Spelled, formal: &[u8]) -> bool
     ensures { result ≡ list_any (is_for formal.now) (ties_in names.now) }
 {
     net_place(names, formal).is_some()
@@ -130,7 +132,7 @@ pub(crate) fn is_pin(pins: &[Name], name: &[u8]) -> bool
 }
 
 // The rule that the name of a pin breaks behind these names of an instance of the cell.
-fn formal_fault(cell: &Cell, names: &[Name], name: &[u8]) -> Option<VerilogKind>
+fn formal_fault(cell: &Cell, names: &Spelled, name: &[u8]) -> Option<VerilogKind>
     ensures { result ≡ formal_fault (Some cell.now) (ties_in names.now) name.now }
 {
     if !is_pin(cell.pins(), name) && name != cell.output().as_bytes() {
@@ -143,7 +145,7 @@ fn formal_fault(cell: &Cell, names: &[Name], name: &[u8]) -> Option<VerilogKind>
 }
 
 /// The rule that the name of a pin breaks behind these names of an instance.
-pub(crate) fn pin_fault(lib: &Library, names: &[Name], name: &[u8]) -> Option<VerilogKind>
+pub(crate) fn pin_fault(lib: &Library, names: &Spelled, name: &[u8]) -> Option<VerilogKind>
     ensures { result ≡ formal_fault (cell_in lib.now names.now) (ties_in names.now) name.now }
 {
     match cell_id(lib, names) {
@@ -152,20 +154,20 @@ pub(crate) fn pin_fault(lib: &Library, names: &[Name], name: &[u8]) -> Option<Ve
     }
 }
 
-fn gives_pins(names: &[Name], pins: &[Name]) -> bool
+fn gives_pins(names: &Spelled, pins: &[Name]) -> bool
     ensures { result ≡ list_all (λ pin. list_any (is_for pin) (ties_in names.now)) pins.now }
 {
     pins.iter().all(|pin| gives(names, pin.as_bytes()))
 }
 
-fn gives_all(names: &[Name], cell: &Cell) -> bool
+fn gives_all(names: &Spelled, cell: &Cell) -> bool
     ensures { result ≡ gives_all (ties_in names.now) cell.now }
 {
     gives_pins(names, cell.pins()) && gives(names, cell.output().as_bytes())
 }
 
 /// The rule that the end of an instance of these names breaks.
-pub(crate) fn missing_fault(lib: &Library, names: &[Name]) -> Option<VerilogKind>
+pub(crate) fn missing_fault(lib: &Library, names: &Spelled) -> Option<VerilogKind>
     ensures { result ≡ missing_fault (cell_in lib.now names.now) (ties_in names.now) }
 {
     match cell_id(lib, names) {
@@ -174,28 +176,34 @@ pub(crate) fn missing_fault(lib: &Library, names: &[Name]) -> Option<VerilogKind
     }
 }
 
-// The names, if they differ.
-fn set_of(alloc: Global, names: &[Name]) -> Result<Option<IndexSet<Name>>, AllocError>
-    ensures some { IfOk result (λ set. IfSome set
-        (λ s. (s.keys ≡ names.now) × (twice_after [] names.now ≡ None))) }
-    ensures none { IfOk result (λ set. IfNone set (is_none (twice_after [] names.now) ≡ false)) }
+// The names behind the first, if they differ and are all declared.
+fn port_set(
+    alloc: Global,
+    header: &Spelled,
+    declared: &IndexSet<Name>,
+) -> Result<Option<IndexSet<Name>>, AllocError>
+    ensures keys { IfOk result (λ set. IfSome set (λ s. s.keys ≡ drop 1 header.now)) }
+    ensures once { IfOk result (λ set. IfSome set (λ s. twice_after [] (drop 1 header.now) ≡ None)) }
+    ensures declared { IfOk result (λ set. IfSome set
+        (λ s. list_all (is_among declared.now.keys) (drop 1 header.now) ≡ true)) }
+    ensures none { IfOk result (λ set. IfNone set
+        ((is_none (twice_after [] (drop 1 header.now))
+        && list_all (is_among declared.now.keys) (drop 1 header.now)) ≡ false)) }
 {
-    let mut set = IndexSet::with_capacity(alloc, names.len())?;
-    for name in names {
-        if set.contains(name) {
+    let mut set = IndexSet::with_capacity(alloc, declared.len())?;
+    for place in 1..header.len() {
+        let name = Name::from_slice(alloc, header.get(place))?;
+        if !has(declared, &name) {
             return Ok(None);
         }
-        let Ok(_) = set.insert(Name::from_slice(alloc, name.as_bytes())?) else {
+        if has(&set, &name) {
+            return Ok(None);
+        }
+        let Ok(_) = set.insert(name) else {
             return Err(AllocError);
         };
     }
     Ok(Some(set))
-}
-
-fn are_among(set: &IndexSet<Name>, names: &[Name]) -> bool
-    ensures { result ≡ list_all (is_among set.now.keys) names.now }
-{
-    names.iter().all(|name| set.contains(name))
 }
 
 fn name_at(set: &IndexSet<Name>, place: usize) -> &Name
@@ -223,18 +231,15 @@ fn has_all(set: &IndexSet<Name>, others: &IndexSet<Name>) -> bool
     true
 }
 
-/// The rule that the end of a module breaks, with these ports, and with these inputs and outputs.
+/// The rule that the end of a module breaks, with this header, and with these inputs and outputs.
 pub(crate) fn ports_fault(
     alloc: Global,
-    ports: &[Name],
+    header: &Spelled,
     declared: &IndexSet<Name>,
 ) -> Result<Option<VerilogKind>, AllocError>
-    ensures { IfOk result (λ fault. fault ≡ ports_fault ports.now declared.now.keys) }
+    ensures { IfOk result (λ fault. fault ≡ ports_fault (drop 1 header.now) declared.now.keys) }
 {
-    if !are_among(declared, ports) {
-        return Ok(Some(VerilogKind::Port));
-    }
-    let Some(set) = set_of(alloc, ports)? else {
+    let Some(set) = port_set(alloc, header, declared)? else {
         return Ok(Some(VerilogKind::Port));
     };
     if has_all(&set, declared) {

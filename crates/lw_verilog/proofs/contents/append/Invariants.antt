@@ -1,8 +1,5 @@
-use Rattle.std.proofs.Common.{◌≡◌, ◌++◌, length}
+use Rattle.std.proofs.Common.{◌≡◌, ◌++◌, take}
 use Rattle.lw_verilog.proofs.contents.append.Given as goal
 
-abbrev pub invariant-names : goal.invariant-names
-invariant-names l = l.names ++ l.left.rest.items ≡ l.initial.names ++ l.initial.left.rest.items
-
-abbrev pub decreases-names : goal.decreases-names
-decreases-names l = length l.left.rest.items
+abbrev pub invariant-loop-place : goal.invariant-loop-place
+invariant-loop-place l = l.names ≡ l.initial.names ++ take l.place l.more

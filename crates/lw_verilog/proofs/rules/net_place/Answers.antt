@@ -9,14 +9,14 @@ pub returns-then-is_at-clause-given : goal.returns-then-is_at-clause-given
 returns-then-is_at-clause-given c =
     let names = c.args.names.now in
     let place = c.loop-place.place in
-    let below : place + 1 < length names = c.if-place-names.true in
+    let below : place + 1 < length names = omega (arith, c.if-place-count.true, c.len-count.ensures) in
     sym c.loop-place.invariant.given ∙ given-here names place [] c.args.formal.now below (sym c.is_at.ensures ∙ c.if-is_at.true)
 
 pub returns-then-is_at-clause-net : goal.returns-then-is_at-clause-net
 returns-then-is_at-clause-net c =
     let names = c.args.names.now in
     let place = c.loop-place.place in
-    let below : place + 1 < length names = c.if-place-names.true in
+    let below : place + 1 < length names = omega (arith, c.if-place-count.true, c.len-count.ensures) in
     slice_get-get_or names (place + 1) [] below
     ∙ ap (λ n. Some n) (sym (net-here names place [] c.args.formal.now below (sym c.is_at.ensures ∙ c.if-is_at.true)) ∙ c.loop-place.invariant.net)
 
@@ -24,7 +24,7 @@ pub loop-place-preserved : goal.loop-place-preserved
 loop-place-preserved c =
     let names = c.args.names.now in
     let place = c.loop-place.place in
-    let below : place + 1 < length names = c.if-place-names.true in
+    let below : place + 1 < length names = omega (arith, c.if-place-count.true, c.len-count.ensures) in
     let miss = sym c.is_at.ensures ∙ c.if-is_at.false in
     record {
       from = omega (arith, c.loop-place.invariant.from);
@@ -32,9 +32,9 @@ loop-place-preserved c =
       net = sym (net-later names place [] c.args.formal.now below miss) ∙ c.loop-place.invariant.net;
     }
 
-pub returns-else-place-names-clause-none : goal.returns-else-place-names-clause-none
-returns-else-place-names-clause-none c =
+pub returns-else-place-count-clause-none : goal.returns-else-place-count-clause-none
+returns-else-place-count-clause-none c =
     let names = c.args.names.now in
     let place = c.loop-place.place in
-    let far : length names ≤ place + 1 = omega (arith, c.if-place-names.false) in
+    let far : length names ≤ place + 1 = omega (arith, c.if-place-count.false, c.len-count.ensures) in
     sym c.loop-place.invariant.given ∙ ap (list_any (is_for c.args.formal.now)) (pair-none names place far)

@@ -1,60 +1,82 @@
-use Rattle.std.proofs.Common.{◌+◌, ◌-◌, take, drop}
-use Rattle.lw_netlist.proofs.Closed.{slice_is, slice_least, order_distinct, order_few, order_rows, order_outputs, order_kept, is_closed, is_over}
+use Rattle.std.proofs.Common.{◌≡◌, ◌+◌, ◌-◌, length, take, drop, ap, ◌∙◌, arith}
+use Rattle.std.proofs.lemmas.List.FromFn.{length-range_with_len}
+use Rattle.std.specs.List.{range_with_len}
+use Rattle.lw_netlist.proofs.Moving.{cells_many}
+use Rattle.lw_netlist.proofs.Closed.{slice_is, slice_length, slice_least, is_placed, is_closed, is_over}
 use Rattle.lw_netlist.proofs.netlist.Netlist.close.Goals as goal
+
+pub in_order-requires-clause-same : goal.in_order-requires-clause-same
+in_order-requires-clause-same c =
+    let draft = c.args.draft in
+    let graph = c.in_ok-graph.graph in
+    let made = c.in_ok-graph.ensures.graph in
+    let depths = c.in_ok-found.found.depths.items in
+    let starts = c.in_ok-found.found.starts.items in
+    let right = c.in_ok-found.ensures.right draft made in
+    let counted : c.len-count.result ≡ length graph.cells.items = omega (arith, c.len-count.ensures, graph.cells.ok.0) in
+    let many : c.len-count.result ≡ length draft.gates = counted ∙ cells_many draft graph made in
+    let slice = take (graph.inputs + c.len-count.result - graph.inputs) (drop graph.inputs c.deref.result.now) in
+    let sliced = slice_is draft depths c.deref.result.now graph.inputs c.len-count.result made.inputs many c.deref.ensures.value in
+    omega (arith, ap length c.in_ok-places_below.ensures, length-range_with_len 0 c.len-count.result, many, slice_length draft graph made depths starts right slice sliced)
 
 pub in_order-requires-clause-least : goal.in_order-requires-clause-least
 in_order-requires-clause-least c =
-    slice_least c.args.draft c.in_ok-graph.graph.signals.keys c.in_ok-graph.graph.rows.items c.in_ok-graph.ensures.graph c.in_ok-found.found.depths.items c.in_ok-found.found.starts.items c.in_ok-found.ensures.right
-    (take (c.len-first.result + c.len.result - c.len-first.result) (drop c.len-first.result c.deref.result.now))
-    (slice_is c.args.draft c.in_ok-found.found.depths.items c.deref.result.now c.len-first.result c.len.result c.len-first.ensures c.len.ensures c.deref.ensures.value)
+    let draft = c.args.draft in
+    let graph = c.in_ok-graph.graph in
+    let made = c.in_ok-graph.ensures.graph in
+    let depths = c.in_ok-found.found.depths.items in
+    let starts = c.in_ok-found.found.starts.items in
+    let right = c.in_ok-found.ensures.right draft made in
+    let counted : c.len-count.result ≡ length graph.cells.items = omega (arith, c.len-count.ensures, graph.cells.ok.0) in
+    let many : c.len-count.result ≡ length draft.gates = counted ∙ cells_many draft graph made in
+    let slice = take (graph.inputs + c.len-count.result - graph.inputs) (drop graph.inputs c.deref.result.now) in
+    let sliced = slice_is draft depths c.deref.result.now graph.inputs c.len-count.result made.inputs many c.deref.ensures.value in
+    slice_least draft graph made depths starts right slice sliced
 
-pub of_ordered-requires-clause-distinct : goal.of_ordered-requires-clause-distinct
-of_ordered-requires-clause-distinct c =
-    order_distinct c.args.draft c.in_ok-graph.graph.signals.keys c.in_ok-graph.graph.rows.items c.in_ok-graph.ensures.graph c.in_ok-found.found.depths.items c.in_ok-found.found.starts.items c.in_ok-found.ensures.right
-    (take (c.len-first.result + c.len.result - c.len-first.result) (drop c.len-first.result c.deref.result.now))
-    (slice_is c.args.draft c.in_ok-found.found.depths.items c.deref.result.now c.len-first.result c.len.result c.len-first.ensures c.len.ensures c.deref.ensures.value)
-    c.args.lib.now c.requires c.in_ok-in_order.field-0.items c.from_vec-gates.result (rw c.into_vec.ensures at c.in_ok-in_order.ensures.permutation) (λ depth. (rw c.into_vec.ensures at c.in_ok-in_order.ensures.rising) (λ gate. depth gate.out)) c.from_vec-gates.ensures
-
-pub of_ordered-requires-clause-rows : goal.of_ordered-requires-clause-rows
-of_ordered-requires-clause-rows c =
-    order_rows c.args.draft c.in_ok-graph.graph.signals.keys c.in_ok-graph.graph.rows.items c.in_ok-graph.ensures.graph c.in_ok-found.found.depths.items c.in_ok-found.found.starts.items c.in_ok-found.ensures.right
-    (take (c.len-first.result + c.len.result - c.len-first.result) (drop c.len-first.result c.deref.result.now))
-    (slice_is c.args.draft c.in_ok-found.found.depths.items c.deref.result.now c.len-first.result c.len.result c.len-first.ensures c.len.ensures c.deref.ensures.value)
-    c.args.lib.now c.requires c.in_ok-in_order.field-0.items c.from_vec-gates.result (rw c.into_vec.ensures at c.in_ok-in_order.ensures.permutation) (λ depth. (rw c.into_vec.ensures at c.in_ok-in_order.ensures.rising) (λ gate. depth gate.out)) c.from_vec-gates.ensures
-
-pub of_ordered-requires-clause-outputs : goal.of_ordered-requires-clause-outputs
-of_ordered-requires-clause-outputs c =
-    order_outputs c.args.draft c.in_ok-graph.graph.signals.keys c.in_ok-graph.graph.rows.items c.in_ok-graph.ensures.graph c.in_ok-found.found.depths.items c.in_ok-found.found.starts.items c.in_ok-found.ensures.right
-    (take (c.len-first.result + c.len.result - c.len-first.result) (drop c.len-first.result c.deref.result.now))
-    (slice_is c.args.draft c.in_ok-found.found.depths.items c.deref.result.now c.len-first.result c.len.result c.len-first.ensures c.len.ensures c.deref.ensures.value)
-    c.args.lib.now c.requires c.in_ok-in_order.field-0.items c.from_vec-gates.result (rw c.into_vec.ensures at c.in_ok-in_order.ensures.permutation) (λ depth. (rw c.into_vec.ensures at c.in_ok-in_order.ensures.rising) (λ gate. depth gate.out)) c.from_vec-gates.ensures
-
-pub of_ordered-requires-clause-few : goal.of_ordered-requires-clause-few
-of_ordered-requires-clause-few c =
-    order_few c.args.draft c.in_ok-graph.graph.signals.keys c.in_ok-graph.graph.rows.items c.in_ok-graph.ensures.graph c.in_ok-found.found.depths.items c.in_ok-found.found.starts.items c.in_ok-found.ensures.right
-    (take (c.len-first.result + c.len.result - c.len-first.result) (drop c.len-first.result c.deref.result.now))
-    (slice_is c.args.draft c.in_ok-found.found.depths.items c.deref.result.now c.len-first.result c.len.result c.len-first.ensures c.len.ensures c.deref.ensures.value)
-    c.args.lib.now c.requires c.in_ok-in_order.field-0.items c.from_vec-gates.result (rw c.into_vec.ensures at c.in_ok-in_order.ensures.permutation) (λ depth. (rw c.into_vec.ensures at c.in_ok-in_order.ensures.rising) (λ gate. depth gate.out)) c.from_vec-gates.ensures
-
-pub of_ordered-requires-clause-kept : goal.of_ordered-requires-clause-kept
-of_ordered-requires-clause-kept c =
-    rw c.deref-2.ensures.value (order_kept c.args.draft c.in_ok-graph.graph.signals.keys c.in_ok-graph.graph.rows.items c.in_ok-graph.ensures.graph c.in_ok-found.found.depths.items c.in_ok-found.found.starts.items c.in_ok-found.ensures.right
-    (take (c.len-first.result + c.len.result - c.len-first.result) (drop c.len-first.result c.deref.result.now))
-    (slice_is c.args.draft c.in_ok-found.found.depths.items c.deref.result.now c.len-first.result c.len.result c.len-first.ensures c.len.ensures c.deref.ensures.value)
-    c.args.lib.now c.requires c.in_ok-in_order.field-0.items c.from_vec-gates.result (rw c.into_vec.ensures at c.in_ok-in_order.ensures.permutation) (λ depth. (rw c.into_vec.ensures at c.in_ok-in_order.ensures.rising) (λ gate. depth gate.out)) c.from_vec-gates.ensures)
+pub placed-requires : goal.placed-requires
+placed-requires c =
+    let draft = c.args.draft in
+    let graph = c.in_ok-graph.graph in
+    let made = c.in_ok-graph.ensures.graph in
+    let depths = c.in_ok-found.found.depths.items in
+    let starts = c.in_ok-found.found.starts.items in
+    let right = c.in_ok-found.ensures.right draft made in
+    let counted : c.len-count.result ≡ length graph.cells.items = omega (arith, c.len-count.ensures, graph.cells.ok.0) in
+    let many : c.len-count.result ≡ length draft.gates = counted ∙ cells_many draft graph made in
+    let slice = take (graph.inputs + c.len-count.result - graph.inputs) (drop graph.inputs c.deref.result.now) in
+    let sliced = slice_is draft depths c.deref.result.now graph.inputs c.len-count.result made.inputs many c.deref.ensures.value in
+    let ranged = c.in_ok-places_below.ensures ∙ ap (range_with_len 0) many in
+    (draft, rw (c.deref-2.ensures.value, c.deref-3.ensures.value) (is_placed draft graph made depths starts right slice sliced c.args.lib.now c.requires c.in_ok-places_below.field-0.items c.in_ok-places.places.items ranged c.in_ok-places.ensures.permutation c.in_ok-places.ensures.rising))
 
 pub returns-clause-closed : goal.returns-clause-closed
 returns-clause-closed c =
-    is_closed c.args.draft c.in_ok-graph.graph.signals.keys c.in_ok-graph.graph.rows.items c.in_ok-graph.ensures.graph c.in_ok-found.found.depths.items c.in_ok-found.found.starts.items c.in_ok-found.ensures.right
-    (take (c.len-first.result + c.len.result - c.len-first.result) (drop c.len-first.result c.deref.result.now))
-    (slice_is c.args.draft c.in_ok-found.found.depths.items c.deref.result.now c.len-first.result c.len.result c.len-first.ensures c.len.ensures c.deref.ensures.value)
-    c.args.lib.now c.requires c.in_ok-in_order.field-0.items c.from_vec-gates.result (rw c.into_vec.ensures at c.in_ok-in_order.ensures.permutation) (λ depth. (rw c.into_vec.ensures at c.in_ok-in_order.ensures.rising) (λ gate. depth gate.out)) c.from_vec-gates.ensures
-    c.in_ok-netlist.netlist (rw c.deref-2.ensures.value at c.in_ok-netlist.ensures) (λ depth. (rw c.into_vec.ensures at c.in_ok-in_order.ensures.order) (λ gate. depth gate.out))
+    let draft = c.args.draft in
+    let graph = c.in_ok-graph.graph in
+    let made = c.in_ok-graph.ensures.graph in
+    let depths = c.in_ok-found.found.depths.items in
+    let starts = c.in_ok-found.found.starts.items in
+    let right = c.in_ok-found.ensures.right draft made in
+    let counted : c.len-count.result ≡ length graph.cells.items = omega (arith, c.len-count.ensures, graph.cells.ok.0) in
+    let many : c.len-count.result ≡ length draft.gates = counted ∙ cells_many draft graph made in
+    let slice = take (graph.inputs + c.len-count.result - graph.inputs) (drop graph.inputs c.deref.result.now) in
+    let sliced = slice_is draft depths c.deref.result.now graph.inputs c.len-count.result made.inputs many c.deref.ensures.value in
+    let ranged = c.in_ok-places_below.ensures ∙ ap (range_with_len 0) many in
+    is_closed draft graph made depths starts right slice sliced c.args.lib.now c.requires c.in_ok-places_below.field-0.items c.in_ok-places.places.items ranged c.in_ok-places.ensures.permutation c.in_ok-places.ensures.rising
+    c.in_ok-netlist.netlist ((rw (c.deref-2.ensures.value, c.deref-3.ensures.value) at c.in_ok-netlist.ensures) draft (is_placed draft graph made depths starts right slice sliced c.args.lib.now c.requires c.in_ok-places_below.field-0.items c.in_ok-places.places.items ranged c.in_ok-places.ensures.permutation c.in_ok-places.ensures.rising))
+    c.in_ok-places.ensures.order
 
 pub returns-clause-over : goal.returns-clause-over
 returns-clause-over c =
-    is_over c.args.draft c.in_ok-graph.graph.signals.keys c.in_ok-graph.graph.rows.items c.in_ok-graph.ensures.graph c.in_ok-found.found.depths.items c.in_ok-found.found.starts.items c.in_ok-found.ensures.right
-    (take (c.len-first.result + c.len.result - c.len-first.result) (drop c.len-first.result c.deref.result.now))
-    (slice_is c.args.draft c.in_ok-found.found.depths.items c.deref.result.now c.len-first.result c.len.result c.len-first.ensures c.len.ensures c.deref.ensures.value)
-    c.args.lib.now c.requires c.in_ok-in_order.field-0.items c.from_vec-gates.result (rw c.into_vec.ensures at c.in_ok-in_order.ensures.permutation) (λ depth. (rw c.into_vec.ensures at c.in_ok-in_order.ensures.rising) (λ gate. depth gate.out)) c.from_vec-gates.ensures
-    c.in_ok-netlist.netlist (rw c.deref-2.ensures.value at c.in_ok-netlist.ensures)
+    let draft = c.args.draft in
+    let graph = c.in_ok-graph.graph in
+    let made = c.in_ok-graph.ensures.graph in
+    let depths = c.in_ok-found.found.depths.items in
+    let starts = c.in_ok-found.found.starts.items in
+    let right = c.in_ok-found.ensures.right draft made in
+    let counted : c.len-count.result ≡ length graph.cells.items = omega (arith, c.len-count.ensures, graph.cells.ok.0) in
+    let many : c.len-count.result ≡ length draft.gates = counted ∙ cells_many draft graph made in
+    let slice = take (graph.inputs + c.len-count.result - graph.inputs) (drop graph.inputs c.deref.result.now) in
+    let sliced = slice_is draft depths c.deref.result.now graph.inputs c.len-count.result made.inputs many c.deref.ensures.value in
+    let ranged = c.in_ok-places_below.ensures ∙ ap (range_with_len 0) many in
+    is_over draft graph made depths starts right slice sliced c.args.lib.now c.requires c.in_ok-places_below.field-0.items c.in_ok-places.places.items ranged c.in_ok-places.ensures.permutation c.in_ok-places.ensures.rising
+    c.in_ok-netlist.netlist ((rw (c.deref-2.ensures.value, c.deref-3.ensures.value) at c.in_ok-netlist.ensures) draft (is_placed draft graph made depths starts right slice sliced c.args.lib.now c.requires c.in_ok-places_below.field-0.items c.in_ok-places.places.items ranged c.in_ok-places.ensures.permutation c.in_ok-places.ensures.rising))

@@ -1,0 +1,57 @@
+-- What is kept of a draft while it is closed, and where its gates stand.
+use Rattle.std.specs.Prelude.{ℕ, ◌+◌, ◌<◌, ◌≤◌, ◌≡◌, ◌++◌, All, List, [], Contains, length, map, slice_index_or}
+use Rattle.std.specs.List.{IsDistinct}
+use Rattle.std.specs.Str.{bytes_eq}
+use Rattle.lw_pool.specs.declared.id.CellId.{CellId}
+use Rattle.lw_netlist.specs.declared.graph.Graph.{Graph}
+use Rattle.lw_netlist.specs.declared.draft.DraftGate.{DraftGate}
+use Rattle.lw_netlist.specs.declared.draft.GateDraft.{GateDraft}
+use Rattle.lw_netlist.specs.Closing.{netlist_in, out_of}
+use Rattle.lw_netlist.specs.Netlists.{IsNetlist, most_nets}
+use Rattle.lw_netlist.specs.Numbered.{start_at}
+use Rattle.lw_netlist.specs.Ordering.{IsGraphOf, net_by, start_in}
+
+abbrev pub cell_of : DraftGate → CellId
+cell_of gate = gate.cell
+
+-- the gate at a place
+abbrev pub gate_at : List DraftGate → ℕ → DraftGate
+gate_at gates place = slice_index_or gates place (record { cell = record { 0 = 0 }; pins = []; out = [] })
+
+-- the gates at some places
+abbrev pub gates_at : List DraftGate → List ℕ → List DraftGate
+gates_at gates places = map (gate_at gates) places
+
+-- the names of the inputs, and then of the gates at some places
+abbrev pub names_at : GateDraft → List ℕ → List (List ℕ)
+names_at draft places = draft.inputs ++ map out_of (gates_at draft.gates places)
+
+-- the name of the signal that the gate at a place drives
+abbrev pub signal_at : ℕ → List (List ℕ) → ℕ → List ℕ
+signal_at inputs signals place = slice_index_or signals (inputs + place) []
+
+-- This is kept of a draft that has neither of the first two faults.
+pub record IsMadeOf (draft : GateDraft) (g : Graph) : Type 0 where
+  pub graph : IsGraphOf draft g.signals.keys g.rows.items
+  pub model : g.model ≡ draft.model
+  pub inputs : g.inputs ≡ length draft.inputs
+  pub outputs : g.outputs ≡ draft.outputs
+  pub cells : g.cells.items ≡ map cell_of draft.gates
+
+-- The numbers of inputs and gates among the nets, where the gates stand at these places.
+pub record AreTurned (inputs : ℕ) (places turned : List ℕ) : Type 0 where
+  pub own : (s : ℕ) → s < inputs → start_at turned s ≡ s
+  pub gates : (k : ℕ) → k < length places → start_at turned (inputs + slice_index_or places k 0) ≡ inputs + k
+
+-- The gates can stand at these places, where the nets of names start there.
+pub record IsPlaced (draft : GateDraft) (g : Graph) (starts places : List ℕ) : Type 0 where
+  pub made : IsMadeOf draft g
+  pub many : length places ≡ length draft.gates
+  pub within : All (λ p. p < length draft.gates) places
+  pub distinct : IsDistinct bytes_eq (names_at draft places)
+  pub few : length (names_at draft places) ≤ most_nets
+  pub starts_each : length starts ≡ length g.signals.keys
+  pub below : All (λ s. s < length g.signals.keys) starts
+  pub started : (name : List ℕ) → Contains g.signals.keys name → Contains (names_at draft places) (start_in g.signals.keys starts name)
+  pub outputs : All (Contains g.signals.keys) draft.outputs
+  pub kept : IsNetlist (netlist_in draft (gates_at draft.gates places) (net_by g.signals.keys starts (names_at draft places)))

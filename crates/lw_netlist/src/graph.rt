@@ -1,0 +1,14 @@
+use indexmap::IndexSet;
+use lw_pool::{CellId, Name, Names, Numbers};
+
+// What is kept of a draft: the names that are driven, the numbers of what each gate and then each
+// wire hangs on among them, the cells of the gates, and the rest but for the names of pins.
+#[derive(Drop)]
+pub(crate) struct Graph {
+    pub(crate) model: Name,
+    pub(crate) inputs: usize,
+    pub(crate) outputs: Names,
+    pub(crate) cells: Vec<CellId>,
+    pub(crate) signals: IndexSet<Name>,
+    pub(crate) rows: Vec<Numbers>,
+}

@@ -1,0 +1,168 @@
+// Netlists of graphs, with the gates at given places.
+ghost use Rattle.std.specs.Prelude.{◌≡◌, ◌+◌, ◌≤◌, ◌<◌, ◌++◌, ℕ, [], List, length, map, slice_index_or, take, All, IfOk};
+ghost use Rattle.std.specs.List.{range_with_len};
+ghost use Rattle.lw_dag.specs.Graphs.{most_signals};
+ghost use Rattle.lw_netlist.specs.declared.draft.GateDraft.{GateDraft};
+ghost use Rattle.lw_netlist.specs.Closing.{closed_gate, netlist_in};
+ghost use Rattle.lw_netlist.specs.Numbered.{net_at, start_at};
+ghost use Rattle.lw_netlist.specs.Ordering.{TellNets, net_by};
+ghost use Rattle.lw_netlist.specs.Placing.{AreTurned, IsMadeOf, IsPlaced, gate_at, gates_at, names_at, signal_at};
+
+use crate::closing::ports;
+use crate::graph::Graph;
+use crate::{Gate, Gates, Netlist, PortList};
+use lw_pool::{Name, Names, NetId, Nets};
+use std::alloc::{AllocError, Global};
+
+// All places below a number.
+pub(crate) fn places_below(alloc: Global, count: usize) -> Result<Vec<u32>, AllocError>
+    requires { count ≤ most_signals }
+    ensures { IfOk result (λ places. places.items ≡ range_with_len 0 count) }
+{
+    let mut places = Vec::with_capacity(alloc, count)?;
+    'all: for place in 0..count {
+        places.push(place as u32)?;
+    }
+    Ok(places)
+}
+
+// Copies the names of the inputs, and then those that the gates at these places drive.
+fn names_by(
+    alloc: Global,
+    signals: &[Name],
+    inputs: usize,
+    places: &[u32],
+) -> Result<Vec<Name>, AllocError>
+    requires first { inputs ≤ length signals.now }
+    requires within { All (λ p. inputs + p < length signals.now) places.now }
+    ensures { IfOk result (λ names. names.items
+        ≡ take inputs signals.now ++ map (signal_at inputs signals.now) places.now) }
+{
+    let mut names = Vec::with_capacity(alloc, signals.len())?;
+    for name in &signals[..inputs] {
+        names.push(Name::from_slice(alloc, name.as_bytes())?)?;
+    }
+    for place in places {
+        let name = &signals[inputs + *place as usize];
+        names.push(Name::from_slice(alloc, name.as_bytes())?)?;
+    }
+    Ok(names)
+}
+
+// The numbers of inputs and gates among the nets, by their numbers among the signals.
+fn turned(
+    alloc: Global,
+    inputs: usize,
+    signals: usize,
+    places: &[u32],
+) -> Result<Vec<u32>, AllocError>
+    requires few { signals ≤ most_signals }
+    requires first { inputs + length places.now ≤ signals }
+    requires within { All (λ p. inputs + p < signals) places.now }
+    requires differ { (j k : ℕ) → j < k → k < length places.now →
+        slice_index_or places.now j 0 ≡ slice_index_or places.now k 0 → ⊥ }
+    ensures turned { IfOk result (λ turned. AreTurned inputs places.now turned.items) }
+    ensures one_each { IfOk result (λ turned. length turned.items ≡ signals) }
+{
+    let mut turned = places_below(alloc, signals)?;
+    'places: for k in 0..places.len() {
+        turned[inputs + places[k] as usize] = (inputs + k) as u32;
+    }
+    Ok(turned)
+}
+
+// The nets of all signals, by the signals at which they start.
+fn nets_by(alloc: Global, starts: &[u32], turned: &[u32]) -> Result<Vec<NetId>, AllocError>
+    requires { All (λ s. s < length turned.now) starts.now }
+    ensures { IfOk result (λ nets. nets.items
+        ≡ map (λ s. record { 0 = start_at turned.now s }) starts.now) }
+{
+    let mut nets = Vec::with_capacity(alloc, starts.len())?;
+    for start in starts {
+        nets.push(NetId(turned[*start as usize]))?;
+    }
+    Ok(nets)
+}
+
+// The nets of numbers.
+fn nets_at(alloc: Global, numbers: &[u32], nets: &[NetId]) -> Result<Nets, AllocError>
+    requires { All (λ s. s < length nets.now) numbers.now }
+    ensures { IfOk result (λ found. found ≡ map (net_at nets.now) numbers.now) }
+{
+    let mut found = Vec::with_capacity(alloc, numbers.len())?;
+    for number in numbers {
+        found.push(nets[*number as usize])?;
+    }
+    Ok(Nets::from_vec(found))
+}
+
+// The gate at a place with nets in place of names.
+fn closed(alloc: Global, graph: &Graph, place: usize, nets: &[NetId]) -> Result<Gate, AllocError>
+    requires made { (draft : GateDraft) × IsMadeOf draft graph.now }
+    requires count { length nets.now ≡ length graph.now.signals.keys }
+    requires within { place < length graph.now.cells.items }
+    ensures { IfOk result (λ closed. (draft : GateDraft) (net : List ℕ → ℕ) →
+        IsMadeOf draft graph.now → TellNets graph.now.signals.keys nets.now net →
+        closed ≡ closed_gate net (gate_at draft.gates place)) }
+{
+    let pins = nets_at(alloc, graph.rows[place].as_slice(), nets)?;
+    Ok(Gate {
+        cell: graph.cells[place],
+        pins,
+        out: nets[graph.inputs + place],
+    })
+}
+
+// The gates at these places with nets in place of names.
+fn closed_gates(
+    alloc: Global,
+    graph: &Graph,
+    places: &[u32],
+    nets: &[NetId],
+) -> Result<Vec<Gate>, AllocError>
+    requires made { (draft : GateDraft) × IsMadeOf draft graph.now }
+    requires count { length nets.now ≡ length graph.now.signals.keys }
+    requires within { All (λ p. p < length graph.now.cells.items) places.now }
+    ensures { IfOk result (λ done. (draft : GateDraft) (net : List ℕ → ℕ) →
+        IsMadeOf draft graph.now → TellNets graph.now.signals.keys nets.now net →
+        done.items ≡ map (closed_gate net) (gates_at draft.gates places.now)) }
+{
+    let mut done = Vec::with_capacity(alloc, places.len())?;
+    for place in places {
+        done.push(closed(alloc, graph, *place as usize, nets)?)?;
+    }
+    Ok(done)
+}
+
+// The netlist of a graph whose gates stand at these places.
+pub(crate) fn placed(
+    alloc: Global,
+    graph: Graph,
+    starts: &[u32],
+    places: &[u32],
+) -> Result<Netlist, AllocError>
+    requires { (draft : GateDraft) × IsPlaced draft graph starts.now places.now }
+    ensures { IfOk result (λ n. (draft : GateDraft) → IsPlaced draft graph starts.now places.now →
+        n ≡ netlist_in draft (gates_at draft.gates places.now)
+        (net_by graph.signals.keys starts.now (names_at draft places.now))) }
+{
+    let names = names_by(alloc, graph.signals.as_slice(), graph.inputs, places)?;
+    let turned = turned(alloc, graph.inputs, graph.signals.len(), places)?;
+    let nets = nets_by(alloc, starts, &turned)?;
+    let gates = closed_gates(alloc, &graph, places, &nets)?;
+    let Graph {
+        model,
+        inputs,
+        outputs,
+        signals,
+        ..
+    } = graph;
+    let outputs = ports(alloc, outputs.into_vec(), &signals, &nets)?;
+    Ok(Netlist::new(
+        model,
+        Names::from_vec(names),
+        inputs as u32,
+        Gates::from_vec(gates),
+        PortList::from_vec(outputs),
+    ))
+}

@@ -1,0 +1,110 @@
+// Names, one after another in one list of bytes.
+ghost use Rattle.std.specs.Prelude.{◌≡◌, ◌+◌, ◌<◌, ◌≤◌, length, slice_get, Some};
+ghost use Rattle.std.specs.List.{slice_range};
+ghost use Rattle.lw_words.specs.Arenas.{words_at, begin_of};
+ghost use Rattle.lw_verilog.specs.Spelled.{AreSpelled};
+
+use std::alloc::{AllocError, Global};
+use std::marker::Model;
+
+/// Names of one byte or more.
+#[derive(Drop)]
+pub struct Spelled {
+    bytes: Vec<u8>,
+    // Where each name ends among the bytes.
+    ends: Vec<usize>,
+}
+
+impl Model for Spelled {
+    ghost use Rattle.std.specs.Prelude.{List, ℕ, length};
+    ghost use Rattle.lw_words.specs.Arenas.{words_at};
+    ghost use Rattle.lw_verilog.specs.Spelled.{AreSpelled};
+
+    ghost Value = { List (List ℕ) };
+
+    ghost view = { λ s. words_at 0 s.bytes.items s.ends.items };
+
+    ghost invariant = { λ s. AreSpelled 0 (length s.bytes.items) s.ends.items };
+}
+
+impl Spelled {
+    ghost use Rattle.std.specs.Prelude.{◌≡◌, ◌<◌, ◌++◌, [], ◌∷◌, ◌↔◌, length, slice_get, IsTrue, OnOk, Some};
+
+    /// No names. Growth takes memory from `alloc`.
+    pub(crate) fn new(alloc: Global) -> Self
+        ensures { result ≡ [] }
+    {
+        Spelled {
+            bytes: Vec::new(alloc),
+            ends: Vec::new(alloc),
+        }
+    }
+
+    pub(crate) fn len(&self) -> usize
+        ensures { result ≡ length self.now }
+    {
+        self.ends.len()
+    }
+
+    /// The name at a place.
+    pub(crate) fn get(&self, place: usize) -> &[u8]
+        requires { place < length self.now }
+        ensures name { slice_get self.now place ≡ Some result.now }
+        ensures some { 0 < length result.now }
+    {
+        name_at(&self.bytes, &self.ends, place)
+    }
+
+    /// Appends a name.
+    pub(crate) fn push(&mut self, name: &[u8]) -> Result<(), AllocError>
+        requires { 0 < length name.now }
+        ensures { OnOk result (self.new ≡ self.old ++ name.now ∷ []) }
+    {
+        self.ends.reserve(1)?;
+        self.bytes.extend_from_slice(name)?;
+        let end = self.bytes.len();
+        self.ends.push_reserved(end);
+        Ok(())
+    }
+
+    /// Removes all names, and keeps the memory.
+    pub(crate) fn clear(&mut self)
+        ensures { self.new ≡ [] }
+    {
+        self.bytes.clear();
+        self.ends.clear();
+    }
+}
+
+// Where the name at a place begins.
+fn begin_at(ends: &[usize], place: usize) -> usize
+    requires { place < length ends.now }
+    ensures { result ≡ begin_of 0 ends.now place }
+{
+    if place == 0 {
+        return 0;
+    }
+    ends[place - 1]
+}
+
+// A part of the bytes.
+fn part(bytes: &[u8], from: usize, end: usize) -> &[u8]
+    requires order { from ≤ end }
+    requires end { end ≤ length bytes.now }
+    ensures part { result.now ≡ slice_range bytes.now from end }
+    ensures len { length result.now + from ≡ end }
+{
+    &bytes[from..end]
+}
+
+// The name at a place, where these are the bytes of all names and where each of them ends.
+fn name_at<'a>(bytes: &'a [u8], ends: &[usize], place: usize) -> &'a [u8]
+    requires ends { AreSpelled 0 (length bytes.now) ends.now }
+    requires place { place < length ends.now }
+    ensures name { slice_get (words_at 0 bytes.now ends.now) place ≡ Some result.now }
+    ensures some { 0 < length result.now }
+{
+    let from = begin_at(ends, place);
+    let end = ends[place];
+    part(bytes, from, end)
+}
