@@ -89,13 +89,16 @@ fn lessen(places: &[Place], xs: &[u64], ys: &[u64], least: &mut [u64])
     ensures { (n : ℕ) (q : Place) → slice_get places.now n ≡ Some q →
         slice_index least.new n ≡ min (crossed xs.now ys.now q) (slice_index least.old n) }
 {
-    for number in 0..places.len() {
-        let place = places[number];
+    for part in 0..places.len() {
+        let place = places[part];
         let left = place.left as usize;
         let right = place.right as usize;
         let one = xs[left].max(ys[right]);
         let other = ys[left].max(xs[right]);
-        least[number] = one.min(other).min(least[number]);
+        let given = one.min(other);
+        if given < least[part] {
+            least[part] = given;
+        }
     }
 }
 
