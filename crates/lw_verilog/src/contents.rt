@@ -15,6 +15,7 @@ use lw_genlib::Library;
 use lw_netlist::{DraftGates, GateDraft, Wire, Wires};
 use lw_pool::{Name, Names};
 use std::alloc::{AllocError, Global};
+use std::mem;
 
 /// What the tokens that were read say together.
 #[derive(Drop)]
@@ -115,7 +116,7 @@ fn push_gate(
 }
 
 impl Contents {
-    ghost use Rattle.std.specs.Prelude.{◌≡◌, ◌<◌, ◌≤◌, ◌+◌, List, None, drop, length, IfOk, OnOk, true, false};
+    ghost use Rattle.std.specs.Prelude.{◌≡◌, ◌<◌, ◌≤◌, ◌+◌, ◌++◌, List, None, drop, length, IfOk, OnOk, true, false};
     ghost use Rattle.lw_genlib.specs.Cells.{CellParts};
     ghost use Rattle.lw_verilog.specs.Tokens.{is_end, is_name, name_of};
     ghost use Rattle.lw_verilog.specs.declared.place.Task.TheVariants as tasks;
@@ -170,16 +171,31 @@ impl Contents {
         }
     }
 
-    // Adds what a statement says at its end. The rest stays.
+    // Adds the names of the statement to those of the header, without a copy where there are none.
+    fn add_header(&mut self) -> Result<(), AllocError>
+        ensures header { OnOk result (self.new.header ≡ self.old.header ++ self.old.names) }
+        ensures declared { self.new.declared.keys ≡ self.old.declared.keys }
+        ensures inputs { self.new.inputs ≡ self.old.inputs }
+        ensures outputs { self.new.outputs ≡ self.old.outputs }
+        ensures gates { self.new.gates ≡ self.old.gates }
+        ensures wires { self.new.wires ≡ self.old.wires }
+    {
+        if self.header.len() > 0 {
+            return append_header(&mut self.header, &self.names);
+        }
+        mem::swap(&mut self.header, &mut self.names);
+        Ok(())
+    }
+
+    // Adds what a statement says at its end. Its names may be lost; the rest stays.
     fn add(&mut self, task: Task, lib: &Library) -> Result<(), AllocError>
         requires { task ≡ tasks.Instance →
             missing_fault (cell_in lib.now self.old.names) (ties_in self.old.names) ≡ None }
         ensures adds { OnOk result (Adds lib.now task self.old.names self.old self.new) }
-        ensures names { self.new.names ≡ self.old.names }
         ensures declared { self.new.declared.keys ≡ self.old.declared.keys }
     {
         match task {
-            Task::Header => append_header(&mut self.header, &self.names),
+            Task::Header => self.add_header(),
             Task::Inputs => append(self.alloc, &mut self.inputs, &self.names),
             Task::Outputs => append(self.alloc, &mut self.outputs, &self.names),
             Task::Assignment => push_wire(self.alloc, &mut self.wires, &self.names),

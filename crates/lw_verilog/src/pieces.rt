@@ -52,6 +52,8 @@ fn separators(bytes: &[u8]) -> usize
     separators_end(bytes).unwrap_or(bytes.len())
 }
 
+// A loop of its own keeps its count in a register.
+#[inline(never)]
 fn visibles_end(bytes: &[u8]) -> Option<usize>
     ensures { result ≡ position (λ b. not (is_visible b)) bytes.now }
 {
@@ -65,6 +67,7 @@ fn visibles(bytes: &[u8]) -> usize
     visibles_end(bytes).unwrap_or(bytes.len())
 }
 
+#[inline(never)]
 fn name_bytes_end(bytes: &[u8]) -> Option<usize>
     ensures { result ≡ position (λ b. not (is_name_byte b)) bytes.now }
 {
