@@ -1,17 +1,17 @@
 -- The cells of a text are a library.
-use Rattle.std.proofs.Common.{ℕ, zero, suc, ◌+◌, ◌-◌, ◌<◌, ◌≤◌, ◌≡◌, Bool, true, false, not, ◌&&◌, ◌||◌, ◌==◌, cond, List, [], ◌∷◌, ◌++◌, map, length, take, drop, get_or, Option, Some, None, Result, Ok, Err, if◌then◌else◌, refl, ap, sym, ◌∙◌, subst, arith, length-append}
-use Rattle.std.specs.Prelude.{All, nat_lt, nat_le, sum_by, replicate, slice_get, slice_index, IsTrue, codes}
-use Rattle.std.specs.List.{AllByRecursion, list_any, list_all, position, slice_set, before_first, after_first, zip}
+use Rattle.std.proofs.Common.{ℕ, zero, suc, ◌+◌, ◌-◌, ◌<◌, ◌≤◌, ◌≡◌, Bool, true, false, ◌&&◌, ◌==◌, List, [], ◌∷◌, ◌++◌, map, length, take, drop, get_or, Option, Some, None, Result, Ok, Err, if◌then◌else◌, refl, ap, sym, ◌∙◌, subst, arith, length-append}
+use Rattle.std.specs.Prelude.{All, nat_lt, nat_le, sum_by, replicate, slice_index, codes}
+use Rattle.std.specs.List.{AllByRecursion, list_any, list_all, slice_set, before_first, after_first, zip}
 use Rattle.std.specs.Str.{bytes_eq}
 use Rattle.std.proofs.lemmas.Bool.{false≢true, leb-false, leb-true, and_parts}
-use Rattle.std.proofs.lemmas.List.{length-set, length-replicate, length-drop, length-take}
+use Rattle.std.proofs.lemmas.List.{length-set, length-drop, length-take}
 use Rattle.std.proofs.lemmas.List.Elements.{All-set, recursion_from_All}
 use Rattle.std.proofs.lemmas.List.Quantifiers.{position-Some}
 use Rattle.lw_fixed.specs.declared.micro.Micro.{Micro}
 use Rattle.lw_laws.specs.Expressions.{Expr}
 use Rattle.lw_words.specs.Lines.{LogicalLine}
 use Rattle.lw_genlib.specs.declared.token.Token.{Token}
-use Rattle.lw_genlib.specs.declared.token.Token.TheVariants.{Name, Punct}
+use Rattle.lw_genlib.specs.declared.token.Token.TheVariants.{Punct}
 use Rattle.lw_genlib.specs.declared.fault.LibKind.{LibKind}
 use Rattle.lw_genlib.specs.declared.fault.LibKind.TheVariants.{Expected, LimitText, PinMissing, CellDiffers, LimitCells}
 use Rattle.lw_genlib.specs.declared.fault.LibFault.{LibFault}
@@ -20,15 +20,15 @@ use Rattle.lw_genlib.specs.declared.pin.Field.{Field}
 use Rattle.lw_genlib.specs.declared.pin.Target.{Target}
 use Rattle.lw_genlib.specs.declared.pin.Target.TheVariants.{Every, One}
 use Rattle.lw_genlib.specs.Postfix.{first_expr}
-use Rattle.lw_genlib.specs.Grammar.{is_punct, go_on}
+use Rattle.lw_genlib.specs.Grammar.{go_on}
 use Rattle.lw_genlib.specs.Cells.{CellParts, IsWord, IsPart, IsSmall, IsForm, IsCell, IsListed, IsLibrary, form_count, is_word_byte}
 use Rattle.lw_genlib.specs.Functions.{IsText, pins_in, first_fault}
 use Rattle.lw_genlib.specs.Spelled.{expression_of, inner_of}
 use Rattle.lw_genlib.specs.Streams.{StreamItem, word_on, long_line, text_end, stream_of, items_on, last_number, Reading, done, broken, cut_short, and_then, with_rest, on_line, word_by}
-use Rattle.lw_genlib.specs.Entries.{Entry, FunctionText, no_text, with_word, with_end, is_end, left_over, text_from, cell_name, is_quoted, is_quote_alone, number_of, delay_behind, delay_from, no_delay, with_delay, pins_of, target_of, pin_fields, entry_by, entry_begun, behind_words, behind_area, behind_name, behind_gate, behind_target, behind_pin}
+use Rattle.lw_genlib.specs.Entries.{Entry, FunctionText, no_text, with_word, with_end, is_end, left_over, text_from, cell_name, is_quoted, is_quote_alone, number_of, delay_behind, delay_from, no_delay, with_delay, pins_of, target_of, pin_fields, entry_by, entry_begun, behind_area, behind_name, behind_gate, behind_target, behind_pin}
 use Rattle.lw_genlib.specs.Merging.{name_first, output_of, lacks_delay, delays_of, form_over, cell_of, with_form, is_alike, have_same_table, agrees, merged_at, place_of, merged}
-use Rattle.lw_genlib.specs.Libraries.{CellsSoFar, no_cells, with_open, with_cells, merged_with, entry_ended, is_word, begins_entry, behind_latch, go_on_with, opened_by, gate_on, entry_on, entry_behind, pin_on, words_behind, Piece, next, stopped, unfinished, finished, piece_by, last_piece, piece, Outcome, after, pieces, outcome_from, outcome_of, cells_or_fault, library_by, library_of}
-use Rattle.lw_genlib.specs.Kept.{AreRuns, IsOpenText, IsFunction, IsSmallDelay, AreDelays, AreCells, IsEntry}
+use Rattle.lw_genlib.specs.Libraries.{CellsSoFar, no_cells, with_open, with_cells, merged_with, is_word, begins_entry, behind_latch, go_on_with, opened_by, gate_on, entry_on, entry_behind, pin_on, words_behind, Piece, next, stopped, unfinished, finished, piece_by, last_piece, piece, Outcome, after, pieces, outcome_from, outcome_of, cells_or_fault, library_of}
+use Rattle.lw_genlib.specs.Kept.{IsOpenText, IsSmallDelay, AreCells, IsEntry}
 use Rattle.lw_genlib.specs.Expects.{HasRoom}
 use Rattle.lw_genlib.proofs.Small.{small_number, small-behind}
 use Rattle.lw_genlib.proofs.Delays.{no-delays}

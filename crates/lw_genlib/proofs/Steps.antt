@@ -1,5 +1,5 @@
 -- What one more word makes of what was read.
-use Rattle.std.proofs.Common.{ℕ, ◌+◌, ◌≡◌, ◌<◌, ◌≤◌, Bool, true, false, not, cond, List, [], ◌∷◌, ◌++◌, length, max, Option, Some, None, Result, Ok, Err, refl, ap, ap₂, sym, ◌∙◌, subst, arith}
+use Rattle.std.proofs.Common.{ℕ, ◌+◌, ◌≡◌, ◌<◌, ◌≤◌, Bool, true, false, not, cond, List, [], ◌∷◌, ◌++◌, length, Option, Some, None, Result, Ok, Err, refl, ap, ap₂, sym, ◌∙◌, subst, arith}
 use Rattle.std.specs.Prelude.{codes, sum_by, nat_le, nat_lt, ◌==◌, MatchResult, IfSome, IfNone}
 use Rattle.std.specs.List.{list_any, before_first, after_first}
 use Rattle.std.proofs.lemmas.Bool.Decides.{nat_tests}
@@ -19,7 +19,6 @@ use Rattle.lw_genlib.specs.Entries.{FunctionText, Entry, text_from, with_word, w
 use Rattle.lw_genlib.specs.Libraries.{CellsSoFar, Outcome, next, piece_by, piece, outcome_from, with_open, with_cells, merged_with, entry_ended, entry_on, entry_behind, words_behind, go_on_with, gate_on, opened_by, pin_on, is_word, begins_entry, behind_latch}
 use Rattle.lw_genlib.specs.Standing.{piece_at, reads_on, resume, BreaksAt}
 use Rattle.lw_genlib.specs.declared.reader_state.ReaderState.{ReaderState}
-use Rattle.lw_genlib.specs.Tells.{TellsErr}
 use Rattle.lw_genlib.proofs.Pieces.{outcome-piece}
 
 -- a whole piece, and then what follows it

@@ -1,7 +1,7 @@
 -- Truth tables.
 use Rattle.std.proofs.Common.{ℕ, zero, suc, ◌+◌, ◌^◌, ◌≡◌, ◌<◌, ◌≤◌, Bool, true, false, ◌&&◌, refl, ap, ◌∙◌, subst, arith}
 use Rattle.std.specs.List.{list_all, range_with_len}
-use Rattle.std.proofs.lemmas.Bool.{false≢true, and_parts}
+use Rattle.std.proofs.lemmas.Bool.{and_parts}
 use native.Mathlib.Decide.{dec_lt}
 use Rattle.lw_laws.specs.Expressions.{Expr, expr_value, MentionsPin}
 use Rattle.lw_genlib.specs.Cells.{HaveOneTruth}

@@ -36,6 +36,7 @@ pub(crate) fn end_entry(
         (λ new. library.entry_ended (library.with_open so_far entry) ≡ Ok new)
         (TellsErr (library.entry_ended (library.with_open so_far entry))) }
 {
+    // Brings in what the type of `so_far` keeps.
     let _ = &so_far.cells;
     match entry {
         None => Ok(so_far),

@@ -32,6 +32,7 @@ pub(crate) fn read_word(
         (BreaksAt (resume state (word_on line word.now ∷ rest))) }
 {
     let ReaderState { so_far, expect } = state;
+    // Brings in what the type of `so_far` keeps.
     let _ = &so_far.cells;
     match expect {
         Expect::Piece(entry) => read_piece(alloc, so_far, entry, line, word),
@@ -66,6 +67,7 @@ fn read_piece(
         (library.words_behind (library.with_open so_far entry) entry line word.now rest)
         result rest }
 {
+    // Brings in what the type of `so_far` keeps.
     let _ = &so_far.cells;
     match entry {
         Some(entry) => read_behind(alloc, so_far, entry, line, word),

@@ -148,6 +148,7 @@ fn finish(alloc: Global, last: u32, state: ReaderState) -> Result<Library, LibFa
         (TellsErr (library_by (resume state (text_end last ∷ [])))) }
 {
     let ReaderState { so_far, expect } = state;
+    // Brings in what the type of `so_far` keeps.
     let _ = &so_far.cells;
     match expect {
         Expect::Piece(entry) => match end_entry(alloc, so_far, entry) {

@@ -1,7 +1,6 @@
-use Rattle.std.proofs.Common.{◌≡◌, ◌+◌, ◌-◌, ◌∙◌, rules, length, take, drop, slice_index, ap, sym, arith, length-drop}
+use Rattle.std.proofs.Common.{◌-◌, rules, length, drop, slice_index, arith, length-drop}
 use Rattle.std.proofs.lemmas.List.{length-take-le}
 use Rattle.std.proofs.lemmas.Grind.{common_steps}
-use Rattle.lw_graph.specs.Rows.{start_at}
 use Rattle.lw_graph.proofs.Rows.{end_after, end_within}
 use Rattle.lw_reduce.proofs.sorted_pairs.pairs_at.Goals as goal
 

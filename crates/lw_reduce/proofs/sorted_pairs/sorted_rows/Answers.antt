@@ -1,4 +1,4 @@
-use Rattle.std.proofs.Common.{ℕ, ◌++◌, ◌+◌, ◌≡◌, ◌≤◌, List, ◌∷◌, [], suc, ap, sym, subst₂, refl, ◌∙◌, length, slice_index, arith}
+use Rattle.std.proofs.Common.{ℕ, ◌++◌, ◌+◌, ◌≡◌, List, ◌∷◌, [], suc, ap, sym, subst₂, refl, ◌∙◌, length, slice_index, arith}
 use Rattle.std.proofs.lemmas.List.{length-append}
 use Rattle.lw_graph.specs.declared.pair.Pair.{Pair}
 use Rattle.lw_graph.specs.Rows.{AreEnds, rows_from, start_at}
