@@ -19,6 +19,7 @@ pub mod Lasting
 pub mod Linking
 pub mod Listing
 pub mod Lists
+pub mod LookedAt
 pub mod Lowest
 pub mod Moved
 pub mod Placed

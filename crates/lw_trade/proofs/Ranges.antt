@@ -14,7 +14,7 @@ use Rattle.lw_laws.specs.Trees.{Tree, leaf, const_one, const_zero, inv, nand, Ha
 use Rattle.lw_match.specs.Least.{AreOfCells}
 use Rattle.lw_match.proofs.Branches.{flip_below}
 use Rattle.lw_trade.specs.declared.choices.Row.{Row}
-use Rattle.lw_trade.specs.declared.uses.Use.{Use}
+use Rattle.lw_trade.specs.declared.uses.Uses.{Uses}
 use Rattle.lw_trade.specs.Areas.{area_cost}
 use Rattle.lw_trade.specs.Choices.{Part, MayStand, AreChoices, delay_at}
 use Rattle.lw_trade.specs.Choices.Part.{input, gate}
@@ -84,26 +84,8 @@ module _ (s : Task) (is_graph : IsGraph s.graph) (of_cells : AreOfCells (area_co
     pub rows_classes : All (λ (r : Row). r.class.0 < length s.graph.pairs) rows
     rows_classes k d lt = are.within k (plain_row (slice_index_or rows k d)) (listed k d lt)
 
-small_in : (ds : List Micro) (k : ℕ) → All IsSmall ds → slice_index_or (map millionths ds) k 0 < 1000000000000
-small_in [] k all = omega arith
-small_in (d ∷ ds) zero all = let l = all 0 d (omega arith) in omega arith
-small_in (d ∷ ds) (suc k) all = small_in ds k (λ j e lt. all (suc j) e (omega arith))
-
-small_at : (cells : List CellParts) (cell k : ℕ) → ((n : ℕ) (x : CellParts) → slice_get cells n ≡ Some x → All IsSmall x.delays) → slice_index_or (delays_of (delays_of_cells cells) cell) k 0 < 1000000000000
-small_at [] cell k small = omega arith
-small_at (x ∷ cells) zero k small = small_in x.delays k (small 0 x refl)
-small_at (x ∷ cells) (suc cell) k small = small_at cells cell k (λ n y at. small (suc n) y at)
-
--- uses are of choices, and their delays are those of a library
-pub uses_small : (s : Task) (rows : List Row) (classes : List ℕ) (uses : List Use) → IsLibrary s.cells → AreUses s (plain_rows rows) classes uses → All (λ (u : Use). (u.choice < length rows) × (u.delay < 1000000000000)) uses
-uses_small s rows classes uses library are k d lt =
-    let u = slice_index_or uses k d in
-    let is = are.each k u (got uses k d lt) in
-    let low = get_in (plain_rows rows) u.choice is.choice is.listed in
-    let n = length-map rows plain_row in
-    let small = delay_small is.choice.part is.pin in
-    (omega (arith, low, n), omega (arith, small, is.delay_is))
-  where
-    delay_small : (part : Part) (j : ℕ) → delay_at s part j < 1000000000000
-    delay_small (input i) j = omega arith
-    delay_small (gate cell ps) j = small_at s.cells cell j (λ n x at. (all_got IsListed s.cells n x library.each at).delays)
+-- pins are of choices
+pub owners_low : (s : Task) (rows : List Row) (u : Uses) → AreUses s (plain_rows rows) u → All (λ n. n < length rows) u.owners.items
+owners_low s rows u are j d lt =
+    let low = are.low j (slice_index_or u.owners.items j d) (got u.owners.items j d lt) in
+    omega (arith, low, length-map rows plain_row)

@@ -9,11 +9,14 @@ use Rattle.lw_match.specs.Values.{numbers}
 use Rattle.lw_laws.specs.Covers.{latest, start_of, delays_of}
 use Rattle.lw_genlib.specs.Tables.{millionths}
 use Rattle.lw_trade.specs.declared.choices.Row.{Row}
-use Rattle.lw_trade.specs.Choices.{Choice}
+use Rattle.lw_trade.specs.declared.uses.Uses.{Uses}
+use Rattle.lw_trade.specs.Choices.{Choice, AreChoices}
 use Rattle.lw_trade.specs.Choices.Part.{input, gate}
 use Rattle.lw_trade.specs.Points.{Task, timing}
 use Rattle.lw_trade.specs.Rows.{plain_row, plain_rows}
-use Rattle.lw_trade.specs.Settling.{Gives, Queued, Waits, IsStarted, IsStill}
+use Rattle.lw_trade.specs.Settling.{Gives, Queued, Waits, AreFirst, IsStarted, IsStillFor}
+use Rattle.lw_trade.specs.Uses.{turns_of}
+use Rattle.lw_trade.proofs.Queueing.{none_waits}
 
 latest_none : (ds : List ℕ) → latest ds [] ≡ 0
 latest_none [] = refl
@@ -53,17 +56,32 @@ started_next starts rows n r q q' at same is are = record {
         let y : x ≡ plain_row r = same_Some x (plain_row r) (sym xt ∙ (ap (slice_get (plain_rows rows)) f ∙ at)) in
         subst (λ k. Waits q' t k) (sym f) (is.here s t a e (subst (λ (z : Choice). Gives s [] z.part t a) y gives) le)
 
-pub started_all : (s : Task) (rows : List Row) (n : ℕ) (q : Queued) → n ≡ length rows → AreStarted s.starts rows n q → IsStill s (plain_rows rows) 0 [] q
-started_all s rows n q e are = record {
-  reached = λ k (i, at). cc;
-  low = λ k (i, at). cc;
-  waiting = λ t m w. let l = are.waiting t m w in (omega arith, omega (arith, l, e, length-map rows plain_row));
-  uses = λ k m j x (i, at) xt pn le. cc;
-  given = λ m t a x xt gives le. inr (are.given s m t a x (in_rows m x xt) refl xt gives le);
+pub started_all : (s : Task) (rows : List Row) (n : ℕ) (q : Queued) → n ≡ length rows → AreStarted s.starts rows n q → AreChoices s (plain_rows rows) → AreFirst s (plain_rows rows) q
+started_all s rows n q e are choices = record {
+  are = choices;
+  low = λ t m w. let l = are.waiting t m w in omega (arith, l, e, length-map rows plain_row);
+  given = λ m t a x xt gives le. are.given s m t a x (in_rows m x xt) refl xt gives le;
 }
   where
     in_rows : (m : ℕ) (x : Choice) → slice_get (plain_rows rows) m ≡ Some x → m < n
     in_rows m x xt = let l = Rattle.lw_trade.proofs.Lists.get_in (plain_rows rows) m x xt in omega (arith, l, e, length-map rows plain_row)
+
+-- nothing was found so far, and nothing comes
+pub first_still : (s : Task) (choices : List Choice) (u : Uses) (coming looked : Queued) → AreFirst s choices looked → coming.items ≡ [] → looked.horizon ≡ coming.horizon → IsStillFor s choices 0 [] (turns_of u coming looked)
+first_still s choices u coming looked first none same = (
+  first.are,
+  record {
+    horizon = same;
+    looked = λ t n w. (omega arith, first.low t n w);
+    coming = λ t g w. absurd (none_waits coming none t g w);
+  },
+  record {
+    reached = λ k (i, at). cc;
+    low = λ k (i, at). cc;
+    uses = λ k m j x (i, at) xt pn le. cc;
+    given = λ m t a x xt gives le. inr (inl (first.given m t a x xt gives (omega (arith, le, same))));
+  },
+)
 
 pub numbers_none : (cs : List ClassId) → numbers cs ≡ [] → cs ≡ []
 numbers_none [] e = refl

@@ -14,7 +14,7 @@ use Rattle.lw_trade.specs.Points.{Task, timing}
 use Rattle.lw_trade.specs.Choices.{Part, Choice, AreChoices, MayStand, HasPinAt, delay_at}
 use Rattle.lw_trade.specs.Choices.Part.{input, gate}
 use Rattle.lw_trade.specs.Queues.{Item, IsTaken}
-use Rattle.lw_trade.specs.Settling.{Spot, spot, Has, HasAtMost, IsSpotOf, times, areas, Gives, IsBest, joint, time_in, area_in, joint_cost, IsReached, Queued, Waits, IsSettling, IsStill, IsGained, IsGaining, AreUsesAdded, AreSettled}
+use Rattle.lw_trade.specs.Settling.{Spot, spot, Has, HasAtMost, IsSpotOf, times, areas, Gives, IsBest, joint, time_in, area_in, joint_cost, IsReached, Queued, Waits, Turns, turns, Comes, IsSettling, IsStill, IsGained, IsGaining, GivesNoMore, IsGroupLookedAt, AreSettled}
 use Rattle.lw_trade.proofs.Joint.{joint_time, joint_area}
 use Rattle.lw_trade.proofs.Lists.{below_or}
 
@@ -77,79 +77,126 @@ module _ (s : Task) (spots : List Spot) (all : (k : Spot) → Has spots k → Is
       let much = joint_area (latest ds (map time_in es)) sum low in
       (joint (latest ds (map time_in es)) sum, by_gate may costs, omega (arith, when, lt, et, le), much ∙ (ap (λ bs. min most_area (area_at s.cells cell + total bs)) same ∙ sym ea))
 
--- Taking a choice that waits.
+-- Where nothing that comes is lost but what gives no more than what is had.
 
-module _ (s : Task) (choices : List Choice) (now n : ℕ) (spots had : List Spot) (old new : Queued) (x : Choice) (within : now ≤ old.horizon) (still : IsStill s choices now spots old) (taken : IsTaken old new now (Some n)) (at : slice_get choices n ≡ Some x) where
-  taken_settling : ((k : Spot) → Has had k → IsReached s k) → ((k : Spot) → Has had k → k.time ≤ now) → ((c t a : ℕ) → HasAtMost spots c t a → HasAtMost had c t a) → ((a : ℕ) → Gives s spots x.part now a → HasAtMost had x.class now a) → IsSettling s choices now spots had new
-  taken_settling reached low kept cover = record {
+module _ (s : Task) (choices : List Choice) (now horizon : ℕ) (spots had : List Spot) (comes comes' : ℕ → ℕ → Type 0) (still : IsStill s choices now horizon spots comes) (left : (t m : ℕ) → comes t m → comes' t m ⊎ ((t ≡ now) × ((y : Choice) (a : ℕ) → slice_get choices m ≡ Some y → Gives s spots y.part now a → HasAtMost had y.class now a))) where
+  pub settling_on : ((k : Spot) → Has had k → IsReached s k) → ((k : Spot) → Has had k → k.time ≤ now) → ((c t a : ℕ) → HasAtMost spots c t a → HasAtMost had c t a) → IsSettling s choices now horizon spots had comes'
+  settling_on reached low kept = record {
     reached = reached;
     low = low;
-    waiting = λ t m w. still.waiting t m (waits_back old new now n within taken t m w);
-    uses = λ k m j y has yt pn le. use_at k m j y (still.uses k m j y has yt pn (subst (λ h. k.time + delay_at s y.part j ≤ h) taken.0 le));
-    given = λ m t a y yt gives le. give m t a y yt gives (still.given m t a y yt gives (subst (λ h. t ≤ h) taken.0 le));
+    uses = λ k m j y has yt pn le. use_at k m j y (still.uses k m j y has yt pn le);
+    given = λ m t a y yt gives le. give m t a y yt gives (still.given m t a y yt gives le);
   }
     where
-      use_at : (k : Spot) (m j : ℕ) (y : Choice) → (k.time + delay_at s y.part j ≤ now) ⊎ Waits old (k.time + delay_at s y.part j) m → (k.time + delay_at s y.part j ≤ now) ⊎ Waits new (k.time + delay_at s y.part j) m
+      use_at : (k : Spot) (m j : ℕ) (y : Choice) → (k.time + delay_at s y.part j ≤ now) ⊎ comes (k.time + delay_at s y.part j) m → (k.time + delay_at s y.part j ≤ now) ⊎ comes' (k.time + delay_at s y.part j) m
       use_at k m j y (inl le) = inl le
-      use_at k m j y (inr w) = left (waits_left old new now n within taken (k.time + delay_at s y.part j) m w)
+      use_at k m j y (inr w) = by_case (left (k.time + delay_at s y.part j) m w)
         where
-          left : Waits new (k.time + delay_at s y.part j) m ⊎ ((k.time + delay_at s y.part j ≡ now) × (m ≡ n)) → (k.time + delay_at s y.part j ≤ now) ⊎ Waits new (k.time + delay_at s y.part j) m
-          left (inl v) = inr v
-          left (inr (e, f)) = inl (omega arith)
+          by_case : {X : Type 0} → comes' (k.time + delay_at s y.part j) m ⊎ ((k.time + delay_at s y.part j ≡ now) × X) → (k.time + delay_at s y.part j ≤ now) ⊎ comes' (k.time + delay_at s y.part j) m
+          by_case (inl v) = inr v
+          by_case (inr (e, f)) = inl (omega arith)
 
-      give : (m t a : ℕ) (y : Choice) → slice_get choices m ≡ Some y → Gives s spots y.part t a → HasAtMost spots y.class t a ⊎ Waits old t m → HasAtMost had y.class t a ⊎ Waits new t m
+      give : (m t a : ℕ) (y : Choice) → slice_get choices m ≡ Some y → Gives s spots y.part t a → HasAtMost spots y.class t a ⊎ comes t m → HasAtMost had y.class t a ⊎ comes' t m
       give m t a y yt gives (inl h) = inl (kept y.class t a h)
-      give m t a y yt gives (inr w) = left (waits_left old new now n within taken t m w)
+      give m t a y yt gives (inr w) = by_case (left t m w)
         where
-          left : Waits new t m ⊎ ((t ≡ now) × (m ≡ n)) → HasAtMost had y.class t a ⊎ Waits new t m
-          left (inl v) = inr v
-          left (inr (e, f)) =
-              let same : y ≡ x = same_Some y x (sym yt ∙ (ap (slice_get choices) f ∙ at)) in
-              let g : Gives s spots x.part now a = subst₂ (λ (z : Choice) u. Gives s spots z.part u a) same e gives in
-              inl (subst₂ (λ (z : Choice) u. HasAtMost had z.class u a) (sym same) (sym e) (cover a g))
+          by_case : comes' t m ⊎ ((t ≡ now) × ((z : Choice) (b : ℕ) → slice_get choices m ≡ Some z → Gives s spots z.part now b → HasAtMost had z.class now b)) → HasAtMost had y.class t a ⊎ comes' t m
+          by_case (inl v) = inr v
+          by_case (inr (e, f)) = inl (subst (λ u. HasAtMost had y.class u a) (sym e) (f y a yt (subst (λ u. Gives s spots y.part u a) e gives)))
 
-module _ (s : Task) (choices : List Choice) (now n : ℕ) (spots : List Spot) (old new : Queued) (x : Choice) (within : now ≤ old.horizon) (still : IsStill s choices now spots old) (taken : IsTaken old new now (Some n)) (at : slice_get choices n ≡ Some x) where
-  -- it gives nothing
-  pub taken_none : IsBest s spots x.part now None → IsStill s choices now spots new
-  taken_none none = taken_settling s choices now n spots spots old new x within still taken at still.reached still.low (λ c t a h. h) (λ a g. absurd (none now a g (omega arith)))
+pub at_most : (spots : List Spot) (c t a b : ℕ) → a ≤ b → HasAtMost spots c t a → HasAtMost spots c t b
+at_most spots c t a b le (k, has, e, kt, ka) = (k, has, e, kt, omega arith)
 
-  at_most : (c t a b : ℕ) → a ≤ b → HasAtMost spots c t a → HasAtMost spots c t b
-  at_most c t a b le (k, has, e, kt, ka) = (k, has, e, kt, omega arith)
+-- what a choice gives no more
+pub none_more : (s : Task) (choices : List Choice) (spots : List Spot) (now n : ℕ) (x : Choice) → slice_get choices n ≡ Some x → IsBest s spots x.part now None → GivesNoMore s choices spots now n
+none_more s choices spots now n x at none y a yt gives = absurd (none now a (subst (λ (z : Choice). Gives s spots z.part now a) (same_Some y x (sym yt ∙ at)) gives) (omega arith))
 
-  -- it gives no more than what is had
-  pub taken_had : (best : ℕ) → IsBest s spots x.part now (Some best) → HasAtMost spots x.class now best → IsStill s choices now spots new
-  taken_had best (attained, least) had = taken_settling s choices now n spots spots old new x within still taken at still.reached still.low (λ c t a h. h) (λ a g. at_most x.class now best a (least now a g (omega arith)) had)
+pub had_more : (s : Task) (choices : List Choice) (spots : List Spot) (now n best : ℕ) (x : Choice) → slice_get choices n ≡ Some x → IsBest s spots x.part now (Some best) → HasAtMost spots x.class now best → GivesNoMore s choices spots now n
+had_more s choices spots now n best x at (attained, least) had y a yt gives =
+    let same = same_Some y x (sym yt ∙ at) in
+    let g = subst (λ (z : Choice). Gives s spots z.part now a) same gives in
+    subst (λ (z : Choice). HasAtMost spots z.class now a) (sym same) (at_most spots x.class now best a (least now a g (omega arith)) had)
+
+-- Taking a choice that waits.
+
+module _ (s : Task) (choices : List Choice) (now n : ℕ) (spots : List Spot) (w : Turns) (new : Queued) (within : now ≤ w.looked.horizon) (still : IsStill s choices now w.coming.horizon spots (Comes w)) (taken : IsTaken w.looked new now (Some n)) where
+  abbrev next : Turns
+  next = turns w.groups w.owners w.count w.coming new
+
+  turns_left : (t m : ℕ) → Comes w t m → Comes next t m ⊎ ((t ≡ now) × (m ≡ n))
+  turns_left t m (inr comes) = inl (inr comes)
+  turns_left t m (inl waits) = by_case (waits_left w.looked new now n within taken t m waits)
+    where
+      by_case : Waits new t m ⊎ ((t ≡ now) × (m ≡ n)) → Comes next t m ⊎ ((t ≡ now) × (m ≡ n))
+      by_case (inl there) = inl (inl there)
+      by_case (inr gone) = inr gone
+
+  -- it gives no more
+  pub taken_over : GivesNoMore s choices spots now n → IsStill s choices now w.coming.horizon spots (Comes next)
+  taken_over more = settling_on s choices now w.coming.horizon spots spots (Comes w) (Comes next) still (λ t m c. by_case t m (turns_left t m c)) still.reached still.low (λ c t a h. h)
+    where
+      by_case : (t m : ℕ) → Comes next t m ⊎ ((t ≡ now) × (m ≡ n)) → Comes next t m ⊎ ((t ≡ now) × GivesNoMore s choices spots now m)
+      by_case t m (inl there) = inl there
+      by_case t m (inr (e, f)) = inr (e, subst (GivesNoMore s choices spots now) (sym f) more)
 
   -- it gives a point
-  pub taken_gained : AreChoices s choices → (best : ℕ) (next : List Spot) → IsBest s spots x.part now (Some best) → IsGained spots next (spot x.class now best) → IsGaining s choices now x.class next new
-  taken_gained are best next ((t, le, gives), least) gained = record {
+  pub taken_gained : (x : Choice) → slice_get choices n ≡ Some x → AreChoices s choices → (best : ℕ) (after : List Spot) → IsBest s spots x.part now (Some best) → IsGained spots after (spot x.class now best) → IsGaining s choices now w.coming.horizon x.class after (Comes next)
+  taken_gained x at are best after ((t, le, gives), least) gained = record {
     old = spots;
     area = best;
-    settling = taken_settling s choices now n spots next old new x within still taken at reached low kept cover;
+    settling = settling_on s choices now w.coming.horizon spots after (Comes w) (Comes next) still (λ t m c. by_case t m (turns_left t m c)) reached low kept;
     gained = gained;
   }
     where
-      reached : (k : Spot) → Has next k → IsReached s k
-      reached k has = by_case (gained.only k has)
+      reached : (k : Spot) → Has after k → IsReached s k
+      reached k has = by_case' (gained.only k has)
         where
-          by_case : Has spots k ⊎ (k ≡ spot x.class now best) → IsReached s k
-          by_case (inl h) = still.reached k h
-          by_case (inr e) = subst (IsReached s) (sym e) (gives_reached s spots still.reached x.class x.part t best now (are.each n x at) gives le)
+          by_case' : Has spots k ⊎ (k ≡ spot x.class now best) → IsReached s k
+          by_case' (inl h) = still.reached k h
+          by_case' (inr e) = subst (IsReached s) (sym e) (gives_reached s spots still.reached x.class x.part t best now (are.each n x at) gives le)
 
-      low : (k : Spot) → Has next k → k.time ≤ now
-      low k has = by_case (gained.only k has)
+      low : (k : Spot) → Has after k → k.time ≤ now
+      low k has = by_case' (gained.only k has)
         where
-          by_case : Has spots k ⊎ (k ≡ spot x.class now best) → k.time ≤ now
-          by_case (inl h) = still.low k h
-          by_case (inr e) = let f = ap (λ (z : Spot). z.time) e in omega arith
+          by_case' : Has spots k ⊎ (k ≡ spot x.class now best) → k.time ≤ now
+          by_case' (inl h) = still.low k h
+          by_case' (inr e) = let f = ap (λ (z : Spot). z.time) e in omega arith
 
-      kept : (c u a : ℕ) → HasAtMost spots c u a → HasAtMost next c u a
+      kept : (c u a : ℕ) → HasAtMost spots c u a → HasAtMost after c u a
       kept c u a (k, has, e, kt, ka) =
           let (l, lh, le', lt, la) = gained.kept k has in
           (l, lh, le' ∙ e, omega arith, omega arith)
 
-      cover : (a : ℕ) → Gives s spots x.part now a → HasAtMost next x.class now a
-      cover a g = (spot x.class now best, gained.has, refl, omega arith, least now a g (omega arith))
+      cover : (y : Choice) (a : ℕ) → slice_get choices n ≡ Some y → Gives s spots y.part now a → HasAtMost after y.class now a
+      cover y a yt g =
+          let same = same_Some y x (sym yt ∙ at) in
+          let g' = subst (λ (z : Choice). Gives s spots z.part now a) same g in
+          (spot x.class now best, gained.has, ap (λ (z : Choice). z.class) (sym same), omega arith, least now a g' (omega arith))
+
+      by_case : (t m : ℕ) → Comes next t m ⊎ ((t ≡ now) × (m ≡ n)) → Comes next t m ⊎ ((t ≡ now) × ((y : Choice) (a : ℕ) → slice_get choices m ≡ Some y → Gives s spots y.part now a → HasAtMost after y.class now a))
+      by_case t m (inl there) = inl there
+      by_case t m (inr (e, f)) = inr (e, λ y a yt g. cover y a (ap (slice_get choices) (sym f) ∙ yt) g)
+
+-- A group that comes is taken, and its choices are looked at.
+
+module _ (s : Task) (choices : List Choice) (now g : ℕ) (spots : List Spot) (w : Turns) (coming looked : Queued) (within : now ≤ w.coming.horizon) (still : IsStill s choices now w.coming.horizon spots (Comes w)) (taken : IsTaken w.coming coming now (Some g)) (at : IsGroupLookedAt s choices spots w.groups w.owners w.looked looked now g) where
+  abbrev next' : Turns
+  next' = turns w.groups w.owners w.count coming looked
+
+  group_left : (t m : ℕ) → Comes w t m → Comes next' t m ⊎ ((t ≡ now) × GivesNoMore s choices spots now m)
+  group_left t m (inl waits) = inl (inl (at.kept t m waits))
+  group_left t m (inr (j, h, jt, mt, waits)) = by_case (waits_left w.coming coming now g within taken t h waits)
+    where
+      done : t ≡ now → Waits looked now m ⊎ GivesNoMore s choices spots now m → Comes next' t m ⊎ ((t ≡ now) × GivesNoMore s choices spots now m)
+      done e (inl there) = inl (inl (subst (λ u. Waits looked u m) (sym e) there))
+      done e (inr more) = inr (e, more)
+
+      by_case : Waits coming t h ⊎ ((t ≡ now) × (h ≡ g)) → Comes next' t m ⊎ ((t ≡ now) × GivesNoMore s choices spots now m)
+      by_case (inl there) = inl (inr (j, h, jt, mt, there))
+      by_case (inr (e, f)) = done e (at.done j m (jt ∙ ap Some f) mt)
+
+  pub group_over : IsStill s choices now w.coming.horizon spots (Comes next')
+  group_over = settling_on s choices now w.coming.horizon spots spots (Comes w) (Comes next') still group_left still.reached still.low (λ c t a h. h)
 
 -- Uses of a point that was gained.
 
@@ -198,7 +245,7 @@ zip_split old new k only (p ∷ ps) (l ∷ ks) ((has, e), zip) = by_case (only l
     by_case (inl h) (inr (j, at)) = inr (suc j, at)
     by_case (inr same) rest = inr (0, ap Some same)
 
-module _ (s : Task) (choices : List Choice) (are : AreChoices s choices) (now class : ℕ) (next : List Spot) (q q' : Queued) (gaining : IsGaining s choices now class next q) (added : AreUsesAdded s choices class now q q') where
+module _ (s : Task) (choices : List Choice) (are : AreChoices s choices) (now horizon class : ℕ) (next : List Spot) (comes comes' : ℕ → ℕ → Type 0) (gaining : IsGaining s choices now horizon class next comes) (more : (t n : ℕ) → comes t n → comes' t n) (added : (n j : ℕ) (x : Choice) → slice_get choices n ≡ Some x → HasPinAt x.part j class → now + delay_at s x.part j ≤ horizon → comes' (now + delay_at s x.part j) n) where
   abbrev Old : List Spot
   Old = gaining.old
 
@@ -208,93 +255,87 @@ module _ (s : Task) (choices : List Choice) (are : AreChoices s choices) (now cl
       (l, lh, le' ∙ e, omega arith, omega arith)
 
   -- each use of a point waits now, if it is not over
-  use_at : (k : Spot) (n j : ℕ) (x : Choice) → Has next k → slice_get choices n ≡ Some x → HasPinAt x.part j k.class → k.time + delay_at s x.part j ≤ q.horizon → (k.time + delay_at s x.part j ≤ now) ⊎ Waits q' (k.time + delay_at s x.part j) n
+  use_at : (k : Spot) (n j : ℕ) (x : Choice) → Has next k → slice_get choices n ≡ Some x → HasPinAt x.part j k.class → k.time + delay_at s x.part j ≤ horizon → (k.time + delay_at s x.part j ≤ now) ⊎ comes' (k.time + delay_at s x.part j) n
   use_at k n j x has at pn le = by_case (gaining.gained.only k has)
     where
-      from_old : (k.time + delay_at s x.part j ≤ now) ⊎ Waits q (k.time + delay_at s x.part j) n → (k.time + delay_at s x.part j ≤ now) ⊎ Waits q' (k.time + delay_at s x.part j) n
+      from_old : (k.time + delay_at s x.part j ≤ now) ⊎ comes (k.time + delay_at s x.part j) n → (k.time + delay_at s x.part j ≤ now) ⊎ comes' (k.time + delay_at s x.part j) n
       from_old (inl l) = inl l
-      from_old (inr w) = inr (added.kept (k.time + delay_at s x.part j) n w)
+      from_old (inr w) = inr (more (k.time + delay_at s x.part j) n w)
 
-      by_case : Has Old k ⊎ (k ≡ spot class now gaining.area) → (k.time + delay_at s x.part j ≤ now) ⊎ Waits q' (k.time + delay_at s x.part j) n
+      by_case : Has Old k ⊎ (k ≡ spot class now gaining.area) → (k.time + delay_at s x.part j ≤ now) ⊎ comes' (k.time + delay_at s x.part j) n
       by_case (inl h) = from_old (gaining.settling.uses k n j x h at pn le)
       by_case (inr e) =
           let t = ap (λ (z : Spot). z.time) e in
           let p : HasPinAt x.part j class = subst (λ (z : Spot). HasPinAt x.part j z.class) e pn in
-          inr (subst (λ u. Waits q' (u + delay_at s x.part j) n) (sym t) (added.added n j x at p (subst (λ u. u + delay_at s x.part j ≤ q.horizon) t le)))
+          inr (subst (λ u. comes' (u + delay_at s x.part j) n) (sym t) (added n j x at p (subst (λ u. u + delay_at s x.part j ≤ horizon) t le)))
 
-  give : (n t a c : ℕ) (part : Part) → slice_get choices n ≡ Some (record { class = c; part = part }) → Gives s next part t a → t ≤ q.horizon → HasAtMost next c t a ⊎ Waits q' t n
+  give : (n t a c : ℕ) (part : Part) → slice_get choices n ≡ Some (record { class = c; part = part }) → Gives s next part t a → t ≤ horizon → HasAtMost next c t a ⊎ comes' t n
   give n t a c (input i) at gives le = from_old (gaining.settling.given n t a (record { class = c; part = input i }) at gives le)
     where
-      from_old : HasAtMost next c t a ⊎ Waits q t n → HasAtMost next c t a ⊎ Waits q' t n
+      from_old : HasAtMost next c t a ⊎ comes t n → HasAtMost next c t a ⊎ comes' t n
       from_old (inl h) = inl h
-      from_old (inr w) = inr (added.kept t n w)
+      from_old (inr w) = inr (more t n w)
   give n t a c (gate cell ps) at (ks, zip, et, ea) le = by_time (below_or now t)
     where
       sizes : length (delays_of (timing s).delays cell) ≡ length ks
       sizes = length-delays_of (timing s).delays cell (length ps) (are.each n (record { class = c; part = gate cell ps }) at).pins ∙ zip_length next ps ks zip
 
-      from_old : HasAtMost next c t a ⊎ Waits q t n → HasAtMost next c t a ⊎ Waits q' t n
+      from_old : HasAtMost next c t a ⊎ comes t n → HasAtMost next c t a ⊎ comes' t n
       from_old (inl h) = inl h
-      from_old (inr w) = inr (added.kept t n w)
+      from_old (inr w) = inr (more t n w)
 
-      by_split : t ≤ now → AllZip (IsSpotOf Old) ps ks ⊎ ((j : ℕ) × (slice_get ks j ≡ Some (spot class now gaining.area))) → HasAtMost next c t a ⊎ Waits q' t n
+      by_split : t ≤ now → AllZip (IsSpotOf Old) ps ks ⊎ ((j : ℕ) × (slice_get ks j ≡ Some (spot class now gaining.area))) → HasAtMost next c t a ⊎ comes' t n
       by_split low (inl old) = from_old (gaining.settling.given n t a (record { class = c; part = gate cell ps }) at (ks, old, et, ea) le)
       by_split low (inr (j, jt)) =
           let (has, p) = zip_at next ps ks j (spot class now gaining.area) zip jt in
           let below = pin_below (delays_of (timing s).delays cell) ks j (spot class now gaining.area) sizes jt in
           let same : now + slice_index_or (delays_of (timing s).delays cell) j 0 ≡ t = omega (arith, below, et, low) in
-          inr (subst (λ u. Waits q' u n) same (added.added n j (record { class = c; part = gate cell ps }) at p (omega (arith, same, le))))
+          inr (subst (λ u. comes' u n) same (added n j (record { class = c; part = gate cell ps }) at p (omega (arith, same, le))))
 
-      by_time : (now < t) ⊎ (t ≤ now) → HasAtMost next c t a ⊎ Waits q' t n
+      by_time : (now < t) ⊎ (t ≤ now) → HasAtMost next c t a ⊎ comes' t n
       by_time (inl lt) =
           let (j, k, jt, e) = pin_attains (delays_of (timing s).delays cell) ks now (omega (arith, lt, et)) in
           let (has, p) = zip_at next ps ks j k zip jt in
           let same : k.time + slice_index_or (delays_of (timing s).delays cell) j 0 ≡ t = sym e ∙ sym et in
           late k j same (use_at k n j (record { class = c; part = gate cell ps }) has at p (omega (arith, same, le)))
         where
-          late : (k : Spot) (j : ℕ) → k.time + slice_index_or (delays_of (timing s).delays cell) j 0 ≡ t → (k.time + slice_index_or (delays_of (timing s).delays cell) j 0 ≤ now) ⊎ Waits q' (k.time + slice_index_or (delays_of (timing s).delays cell) j 0) n → HasAtMost next c t a ⊎ Waits q' t n
+          late : (k : Spot) (j : ℕ) → k.time + slice_index_or (delays_of (timing s).delays cell) j 0 ≡ t → (k.time + slice_index_or (delays_of (timing s).delays cell) j 0 ≤ now) ⊎ comes' (k.time + slice_index_or (delays_of (timing s).delays cell) j 0) n → HasAtMost next c t a ⊎ comes' t n
           late k j same (inl low) = absurd (omega arith)
-          late k j same (inr w) = inr (subst (λ u. Waits q' u n) same w)
+          late k j same (inr w) = inr (subst (λ u. comes' u n) same w)
       by_time (inr low) = by_split low (zip_split Old next (spot class now gaining.area) gaining.gained.only ps ks zip)
 
   -- all is kept again
-  pub uses_added : IsStill s choices now next q'
+  pub uses_added : IsStill s choices now horizon next comes'
   uses_added = record {
     reached = gaining.settling.reached;
     low = gaining.settling.low;
-    waiting = λ t n w. waits t n (added.only t n w);
-    uses = λ k n j x has at pn le. use_at k n j x has at pn (subst (λ h. k.time + delay_at s x.part j ≤ h) added.horizon le);
-    given = λ n t a x at gives le. give n t a x.class x.part at gives (subst (λ h. t ≤ h) added.horizon le);
+    uses = use_at;
+    given = λ n t a x at gives le. give n t a x.class x.part at gives le;
   }
-    where
-      waits : (t n : ℕ) → Waits q t n ⊎ ((now ≤ t) × (n < length choices)) → (now ≤ t) × (n < length choices)
-      waits t n (inl w) = gaining.settling.waiting t n w
-      waits t n (inr w) = w
 
 -- From one time to the next.
 
-module _ (s : Task) (choices : List Choice) (now : ℕ) (spots : List Spot) (q : Queued) (still : IsStill s choices now spots q) where
-  pub still_later : (next : ℕ) → ((t n : ℕ) → Waits q t n → next ≤ t) → now ≤ next → IsStill s choices next spots q
-  still_later next first le = record {
+module _ (s : Task) (choices : List Choice) (now horizon : ℕ) (spots : List Spot) (comes : ℕ → ℕ → Type 0) (still : IsStill s choices now horizon spots comes) where
+  pub still_later : (next : ℕ) → now ≤ next → IsStill s choices next horizon spots comes
+  still_later next le = record {
     reached = still.reached;
     low = λ k has. let low = still.low k has in omega arith;
-    waiting = λ t n w. (first t n w, (still.waiting t n w).1);
     uses = λ k n j x has at pn within. use_at k n j x (still.uses k n j x has at pn within);
     given = still.given;
   }
     where
-      use_at : (k : Spot) (n j : ℕ) (x : Choice) → (k.time + delay_at s x.part j ≤ now) ⊎ Waits q (k.time + delay_at s x.part j) n → (k.time + delay_at s x.part j ≤ next) ⊎ Waits q (k.time + delay_at s x.part j) n
+      use_at : (k : Spot) (n j : ℕ) (x : Choice) → (k.time + delay_at s x.part j ≤ now) ⊎ comes (k.time + delay_at s x.part j) n → (k.time + delay_at s x.part j ≤ next) ⊎ comes (k.time + delay_at s x.part j) n
       use_at k n j x (inl low) = inl (omega arith)
       use_at k n j x (inr w) = inr w
 
   -- where none waits up to a time, the points are settled up to it
-  pub settled_to : (time : ℕ) → now ≤ time → time ≤ q.horizon → ((t n : ℕ) → Waits q t n → time < t) → AreSettled s time choices spots
+  pub settled_to : (time : ℕ) → now ≤ time → time ≤ horizon → ((t n : ℕ) → comes t n → time < t) → AreSettled s time choices spots
   settled_to time le within over = record {
     reached = still.reached;
     low = λ k has. let low = still.low k has in omega arith;
     given = λ n t a x at gives low. had t n low (still.given n t a x at gives (omega arith));
   }
     where
-      had : {c a : ℕ} (t n : ℕ) → t ≤ time → HasAtMost spots c t a ⊎ Waits q t n → HasAtMost spots c t a
+      had : {c a : ℕ} (t n : ℕ) → t ≤ time → HasAtMost spots c t a ⊎ comes t n → HasAtMost spots c t a
       had t n low (inl h) = h
       had t n low (inr w) = let f = over t n w in absurd (omega arith)

@@ -1,87 +1,146 @@
--- Uses grow by pins.
-use Rattle.std.proofs.Common.{◌≡◌, ℕ, zero, suc, ◌+◌, ◌<◌, ◌⊎◌, inl, inr, length, map, List, [], ◌∷◌, ◌++◌, Some, slice_get, slice_index_or, refl, ap, sym, ◌∙◌, subst, subst₂, arith}
+-- Pins are added to groups.
+use Rattle.std.proofs.Common.{◌≡◌, ℕ, zero, suc, ◌+◌, ◌<◌, ◌⊎◌, inl, inr, length, map, List, [], ◌∷◌, ◌++◌, Some, None, Option, slice_get, slice_index_or, refl, ap, sym, ◌∙◌, subst, subst₂, arith}
 use native.Mathlib.Nat.{eq-or-lt_of_le}
 use Rattle.std.proofs.lemmas.Option.{same_Some}
 use Rattle.lw_fixed.specs.declared.micro.Micro.{Micro}
 use Rattle.lw_genlib.specs.Tables.{millionths}
 use Rattle.lw_laws.specs.Covers.{delays_of}
-use Rattle.lw_trade.specs.declared.uses.Use.{Use}
+use Rattle.lw_trade.specs.declared.uses.Uses.{Uses}
 use Rattle.lw_trade.specs.Choices.{Choice, HasPinAt, delay_at}
 use Rattle.lw_trade.specs.Choices.Part.{input, gate}
 use Rattle.lw_trade.specs.Points.{Task, timing}
-use Rattle.lw_trade.specs.Uses.{IsUse, HasUse, AreUsesTo}
+use Rattle.lw_trade.specs.Uses.{IsGroup, HasUse, AreGroups, IsGroupAdded, IsPinAdded, AreUsesTo}
 use Rattle.lw_trade.proofs.Lists.{get_in, get_last, get_push, push_cases, length_push}
 
-use_kept : (cs : List ℕ) (us : List Use) (c : ℕ) (u : Use) (n delay d : ℕ) → HasUse cs us n delay d → HasUse (cs ++ c ∷ []) (us ++ u ∷ []) n delay d
-use_kept cs us c u n delay d (j, v, at, e, f, bt) = (j, v, get_push us u j v at, e, f, get_push cs c j d bt)
+-- a group of its own is added
+module _ (old new : Uses) (c delay group : ℕ) (links : new.links.classes ≡ old.links.classes ++ c ∷ []) (delays : new.delays.items ≡ old.delays.items ++ delay ∷ []) (members : new.members.classes ≡ old.members.classes) (owners : new.owners.items ≡ old.owners.items) (count : new.members.count ≡ old.members.count + 1) (at : group ≡ length old.links.classes) where
+  longer : length new.links.classes ≡ length old.links.classes + 1
+  longer = ap length links ∙ length_push old.links.classes c
 
-module _ (s : Task) (choices : List Choice) where
-  pub none_used : AreUsesTo s choices 0 0 [] []
-  none_used = record {
-    one_each = refl;
-    each = λ j u at. cc;
-    all = λ m i c x before at pn. none m i before;
+  pub group_added : IsGroupAdded old new c delay group
+  group_added = record {
+    are = λ are. record {
+      one_each = ap length delays ∙ (length_push old.delays.items delay ∙ (ap (λ n. n + 1) are.one_each ∙ sym longer));
+      owners_each = ap length owners ∙ (are.owners_each ∙ sym (ap length members));
+      count = count ∙ (ap (λ n. n + 1) are.count ∙ sym longer);
+    };
+    group_is = λ are. (
+      subst₂ (λ cs g. slice_get cs g ≡ Some c) (sym links) (sym at) (get_last old.links.classes c),
+      subst₂ (λ ds g. slice_get ds g ≡ Some delay) (sym delays) (are.one_each ∙ sym at) (get_last old.delays.items delay),
+    );
+    low = λ are. omega (arith, count, are.count, at);
+    kept = λ g d e (ct, dt). (
+      subst (λ cs. slice_get cs g ≡ Some d) (sym links) (get_push old.links.classes c g d ct),
+      subst (λ ds. slice_get ds g ≡ Some e) (sym delays) (get_push old.delays.items delay g e dt),
+    );
+    members = members;
+    owners = owners;
+  }
+
+-- nothing is added where the group is there
+pub group_there : (u : Uses) (c delay group : ℕ) → IsGroup u.links.classes u.delays.items c delay group → IsGroupAdded u u c delay group
+group_there u c delay group is = record {
+  are = λ are. are;
+  group_is = λ are. is;
+  low = λ are. let lt = get_in u.links.classes group c is.0 in omega (arith, lt, are.count);
+  kept = λ g d e there. there;
+  members = refl;
+  owners = refl;
+}
+
+-- a pin is added to a group
+module _ (old mid new : Uses) (c delay group n : ℕ) (are : AreGroups old) (added : IsGroupAdded old mid c delay group) (links : new.links ≡ mid.links) (delays : new.delays.items ≡ mid.delays.items) (count : new.members.count ≡ mid.members.count) (members : new.members.classes ≡ mid.members.classes ++ group ∷ []) (owners : new.owners.items ≡ mid.owners.items ++ n ∷ []) where
+  between : AreGroups mid
+  between = added.are are
+
+  groups_same : (d e g : ℕ) → IsGroup mid.links.classes mid.delays.items d e g → IsGroup new.links.classes new.delays.items d e g
+  groups_same d e g is = subst₂ (λ (l : _) ds. IsGroup l.classes ds d e g) (sym links) (sym delays) is
+
+  pub pin_added : IsPinAdded old new c delay n
+  pin_added = record {
+    are = record {
+      one_each = ap length delays ∙ (between.one_each ∙ sym (ap (λ l. length l.classes) links));
+      owners_each = ap length owners ∙ (length_push mid.owners.items n ∙ (ap (λ k. k + 1) between.owners_each ∙ (sym (length_push mid.members.classes group) ∙ sym (ap length members))));
+      count = count ∙ (between.count ∙ sym (ap (λ l. length l.classes) links));
+    };
+    has = record {
+      group = group;
+      place = length mid.members.classes;
+      group_is = groups_same c delay group (added.group_is are);
+      member = subst (λ gs. slice_get gs (length mid.members.classes) ≡ Some group) (sym members) (get_last mid.members.classes group);
+      owner = subst₂ (λ os j. slice_get os j ≡ Some n) (sym owners) between.owners_each (get_last mid.owners.items n);
+    };
+    kept = λ m e d has. record {
+      group = has.group;
+      place = has.place;
+      group_is = groups_same d e has.group (added.kept has.group d e has.group_is);
+      member = subst (λ gs. slice_get gs has.place ≡ Some has.group) (sym members) (get_push mid.members.classes group has.place has.group (subst (λ gs. slice_get gs has.place ≡ Some has.group) (sym added.members) has.member));
+      owner = subst (λ os. slice_get os has.place ≡ Some m) (sym owners) (get_push mid.owners.items n has.place m (subst (λ os. slice_get os has.place ≡ Some m) (sym added.owners) has.owner));
+    };
+    only = λ j m there. by_case j m (push_cases mid.owners.items n j m (subst (λ os. slice_get os j ≡ Some m) owners there));
   }
     where
-      none : {X : Type 0} (m i : ℕ) → (m < 0) ⊎ ((m ≡ 0) × (i < 0)) → X
-      none m i (inl lt) = absurd (omega arith)
-      none m i (inr (e, lt)) = absurd (omega arith)
+      by_case : (j m : ℕ) → (slice_get mid.owners.items j ≡ Some m) ⊎ ((j ≡ length mid.owners.items) × (n ≡ m)) → (slice_get old.owners.items j ≡ Some m) ⊎ (m ≡ n)
+      by_case j m (inl there) = inl (subst (λ os. slice_get os j ≡ Some m) added.owners there)
+      by_case j m (inr (e, f)) = inr (sym f)
+
+module _ (s : Task) (choices : List Choice) where
+  pub none_used : (u : Uses) → AreGroups u → u.owners.items ≡ [] → AreUsesTo s choices 0 0 u
+  none_used u are none = record {
+    are = are;
+    low = λ j m at. absurd (nothing j m at);
+    all = λ m i c x before at pn. no_pin m i before;
+  }
+    where
+      nothing : (j m : ℕ) → slice_get u.owners.items j ≡ Some m → ⊥
+      nothing j m at =
+          let zero' : length u.owners.items ≡ 0 = ap length none in
+          let lt = get_in u.owners.items j m at in
+          absurd (omega arith)
+
+      no_pin : {X : Type 0} (m i : ℕ) → (m < 0) ⊎ ((m ≡ 0) × (i < 0)) → X
+      no_pin m i (inl lt) = absurd (omega arith)
+      no_pin m i (inr (e, lt)) = absurd (omega arith)
 
   -- one more pin
-  pub pin_used : (n k c cell : ℕ) (ps : List ℕ) (class : ℕ) (cs : List ℕ) (us : List Use) (u : Use) → slice_get choices n ≡ Some (record { class = class; part = gate cell ps }) → slice_get ps k ≡ Some c → u.choice ≡ n → u.delay ≡ slice_index_or (delays_of (timing s).delays cell) k 0 → AreUsesTo s choices n k cs us → AreUsesTo s choices n (k + 1) (cs ++ c ∷ []) (us ++ u ∷ [])
-  pin_used n k c cell ps class cs us u at pn e f are = record {
-    one_each = length_push us u ∙ (ap (λ m. m + 1) are.one_each ∙ sym (length_push cs c));
-    each = λ j v vt. each j v (push_cases us u j v vt);
+  pub pin_used : (n k c cell class : ℕ) (ps : List ℕ) (u v : Uses) → slice_get choices n ≡ Some (record { class = class; part = gate cell ps }) → slice_get ps k ≡ Some c → IsPinAdded u v c (slice_index_or (delays_of (timing s).delays cell) k 0) n → AreUsesTo s choices n k u → AreUsesTo s choices n (k + 1) v
+  pin_used n k c cell class ps u v at pn added are = record {
+    are = added.are;
+    low = λ j m there. by_owner j m (added.only j m there);
     all = λ m i d x before xt xp. all m i d x before xt xp;
   }
     where
-      here : IsUse s choices (cs ++ c ∷ []) (length cs) u
-      here = record {
-        choice = record { class = class; part = gate cell ps };
-        pin = k;
-        class = c;
-        listed = ap (slice_get choices) e ∙ at;
-        at = get_last cs c;
-        has_pin = pn;
-        delay_is = f;
-      }
+      by_owner : (j m : ℕ) → (slice_get u.owners.items j ≡ Some m) ⊎ (m ≡ n) → m < length choices
+      by_owner j m (inl there) = are.low j m there
+      by_owner j m (inr e) = let lt = get_in choices n (record { class = class; part = gate cell ps }) at in omega arith
 
-      each : (j : ℕ) (v : Use) → (slice_get us j ≡ Some v) ⊎ ((j ≡ length us) × (u ≡ v)) → IsUse s choices (cs ++ c ∷ []) j v
-      each j v (inl vt) =
-          let is = are.each j v vt in
-          record { choice = is.choice; pin = is.pin; class = is.class; listed = is.listed; at = get_push cs c j is.class is.at; has_pin = is.has_pin; delay_is = is.delay_is }
-      each j v (inr (g, h)) = subst₂ (λ i w. IsUse s choices (cs ++ c ∷ []) i w) (sym (g ∙ are.one_each)) h here
-
-      last : HasUse (cs ++ c ∷ []) (us ++ u ∷ []) n (slice_index_or (delays_of (timing s).delays cell) k 0) c
-      last = (length us, u, get_last us u, e, f, subst (λ j. slice_get (cs ++ c ∷ []) j ≡ Some c) (sym are.one_each) (get_last cs c))
-
-      all : (m i d : ℕ) (x : Choice) → (m < n) ⊎ ((m ≡ n) × (i < k + 1)) → slice_get choices m ≡ Some x → HasPinAt x.part i d → HasUse (cs ++ c ∷ []) (us ++ u ∷ []) m (delay_at s x.part i) d
-      all m i d x (inl lt) xt xp = use_kept cs us c u m (delay_at s x.part i) d (are.all m i d x (inl lt) xt xp)
+      all : (m i d : ℕ) (x : Choice) → (m < n) ⊎ ((m ≡ n) × (i < k + 1)) → slice_get choices m ≡ Some x → HasPinAt x.part i d → HasUse v m (delay_at s x.part i) d
+      all m i d x (inl lt) xt xp = added.kept m (delay_at s x.part i) d (are.all m i d x (inl lt) xt xp)
       all m i d x (inr (g, lt)) xt xp = by_place (eq-or-lt_of_le {n = i} {m = k} (omega arith))
         where
-          by_place : (i ≡ k) ⊎ (i < k) → HasUse (cs ++ c ∷ []) (us ++ u ∷ []) m (delay_at s x.part i) d
-          by_place (inr less) = use_kept cs us c u m (delay_at s x.part i) d (are.all m i d x (inr (g, less)) xt xp)
+          by_place : (i ≡ k) ⊎ (i < k) → HasUse v m (delay_at s x.part i) d
+          by_place (inr less) = added.kept m (delay_at s x.part i) d (are.all m i d x (inr (g, less)) xt xp)
           by_place (inl same) =
               let y : x ≡ record { class = class; part = gate cell ps } = same_Some x (record { class = class; part = gate cell ps }) (sym xt ∙ (ap (slice_get choices) g ∙ at)) in
               let xp' : slice_get ps i ≡ Some d = subst (λ (z : Choice). HasPinAt z.part i d) y xp in
               let cd : c ≡ d = same_Some c d (sym pn ∙ (ap (slice_get ps) (sym same) ∙ xp')) in
               let dl : delay_at s x.part i ≡ slice_index_or (delays_of (timing s).delays cell) k 0 = ap (λ (z : Choice). delay_at s z.part i) y ∙ ap (λ j. slice_index_or (delays_of (timing s).delays cell) j 0) same in
-              let l = subst (λ b. HasUse (cs ++ c ∷ []) (us ++ u ∷ []) n (slice_index_or (delays_of (timing s).delays cell) k 0) b) cd last in
-              subst₂ (λ a b. HasUse (cs ++ c ∷ []) (us ++ u ∷ []) a b d) (sym g) (sym dl) l
+              let l = subst (λ b. HasUse v n (slice_index_or (delays_of (timing s).delays cell) k 0) b) cd added.has in
+              subst₂ (λ a b. HasUse v a b d) (sym g) (sym dl) l
 
   -- all pins of a choice
-  pub choice_used : (n k cell class : ℕ) (ps cs : List ℕ) (us : List Use) → slice_get choices n ≡ Some (record { class = class; part = gate cell ps }) → length ps ≡ k → AreUsesTo s choices n k cs us → AreUsesTo s choices (n + 1) 0 cs us
-  choice_used n k cell class ps cs us at size are = record {
-    one_each = are.one_each;
-    each = are.each;
+  pub choice_used : (n k cell class : ℕ) (ps : List ℕ) (u : Uses) → slice_get choices n ≡ Some (record { class = class; part = gate cell ps }) → length ps ≡ k → AreUsesTo s choices n k u → AreUsesTo s choices (n + 1) 0 u
+  choice_used n k cell class ps u at size are = record {
+    are = are.are;
+    low = are.low;
     all = λ m i c x before xt xp. all m i c x before xt xp;
   }
     where
-      all : (m i c : ℕ) (x : Choice) → (m < n + 1) ⊎ ((m ≡ n + 1) × (i < 0)) → slice_get choices m ≡ Some x → HasPinAt x.part i c → HasUse cs us m (delay_at s x.part i) c
+      all : (m i c : ℕ) (x : Choice) → (m < n + 1) ⊎ ((m ≡ n + 1) × (i < 0)) → slice_get choices m ≡ Some x → HasPinAt x.part i c → HasUse u m (delay_at s x.part i) c
       all m i c x (inr (e, lt)) xt xp = absurd (omega arith)
       all m i c x (inl lt) xt xp = by_place (eq-or-lt_of_le {n = m} {m = n} (omega arith))
         where
-          by_place : (m ≡ n) ⊎ (m < n) → HasUse cs us m (delay_at s x.part i) c
+          by_place : (m ≡ n) ⊎ (m < n) → HasUse u m (delay_at s x.part i) c
           by_place (inr less) = are.all m i c x (inl less) xt xp
           by_place (inl same) =
               let y : x ≡ record { class = class; part = gate cell ps } = same_Some x (record { class = class; part = gate cell ps }) (sym xt ∙ (ap (slice_get choices) same ∙ at)) in
@@ -90,18 +149,18 @@ module _ (s : Task) (choices : List Choice) where
               are.all m i c x (inr (same, omega arith)) xt xp
 
   -- an input has no pins
-  pub input_used : (n i class : ℕ) (cs : List ℕ) (us : List Use) → slice_get choices n ≡ Some (record { class = class; part = input i }) → AreUsesTo s choices n 0 cs us → AreUsesTo s choices (n + 1) 0 cs us
-  input_used n i class cs us at are = record {
-    one_each = are.one_each;
-    each = are.each;
+  pub input_used : (n i class : ℕ) (u : Uses) → slice_get choices n ≡ Some (record { class = class; part = input i }) → AreUsesTo s choices n 0 u → AreUsesTo s choices (n + 1) 0 u
+  input_used n i class u at are = record {
+    are = are.are;
+    low = are.low;
     all = λ m k c x before xt xp. all m k c x before xt xp;
   }
     where
-      all : (m k c : ℕ) (x : Choice) → (m < n + 1) ⊎ ((m ≡ n + 1) × (k < 0)) → slice_get choices m ≡ Some x → HasPinAt x.part k c → HasUse cs us m (delay_at s x.part k) c
+      all : (m k c : ℕ) (x : Choice) → (m < n + 1) ⊎ ((m ≡ n + 1) × (k < 0)) → slice_get choices m ≡ Some x → HasPinAt x.part k c → HasUse u m (delay_at s x.part k) c
       all m k c x (inr (e, lt)) xt xp = absurd (omega arith)
       all m k c x (inl lt) xt xp = by_place (eq-or-lt_of_le {n = m} {m = n} (omega arith))
         where
-          by_place : (m ≡ n) ⊎ (m < n) → HasUse cs us m (delay_at s x.part k) c
+          by_place : (m ≡ n) ⊎ (m < n) → HasUse u m (delay_at s x.part k) c
           by_place (inr less) = are.all m k c x (inl less) xt xp
           by_place (inl same) =
               let y : x ≡ record { class = class; part = input i } = same_Some x (record { class = class; part = input i }) (sym xt ∙ (ap (slice_get choices) same ∙ at)) in

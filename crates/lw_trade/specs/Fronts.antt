@@ -50,6 +50,11 @@ IsLeastSpot spots c time None =
 IsLeastSpot spots c time (Some area) =
     ((k : Spot) × Has spots k × (k.class ≡ c) × (k.time ≤ time) × (k.area ≡ area)) × ((k : Spot) → Has spots k → k.class ≡ c → k.time ≤ time → area ≤ k.area)
 
+-- a point of the class has no more area by this time, unless it was said that there is none
+abbrev pub IsLessOr : List Spot → ℕ → ℕ → ℕ → Bool → Type 0
+IsLessOr spots c time area true = Unit {0}
+IsLessOr spots c time area false = HasAtMost spots c time area
+
 -- the point is added with its choice, or a point of the class has no more area
 abbrev pub IsTried : FrontState → FrontState → Spot → ℕ → Bool → Type 0
 IsTried old new k choice true =

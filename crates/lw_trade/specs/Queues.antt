@@ -1,5 +1,5 @@
 -- A queue of choices by the times at which they wait.
-use Rattle.std.specs.Prelude.{ℕ, ◌-◌, ◌<◌, ◌≤◌, ◌≡◌, List, [], ◌∷◌, All, Option, Some, None}
+use Rattle.std.specs.Prelude.{ℕ, ◌-◌, ◌<◌, ◌≤◌, ◌≡◌, ◌⊎◌, List, [], ◌∷◌, All, Option, Some, None}
 use Rattle.std.specs.BinaryHeap.{IsHeap}
 use Rattle.std.specs.declared.cmp.Ordering.{Ordering}
 use Rattle.std.specs.Ordering.{nat_cmp, ordering_then}
@@ -22,6 +22,12 @@ abbrev pub IsFirstTime : Queued → Option ℕ → Type 0
 IsFirstTime q None = q.items ≡ []
 IsFirstTime q (Some time) =
     ((n : ℕ) × Waits q time n) × ((t n : ℕ) → Waits q t n → time ≤ t)
+
+-- the first time at which something waits in one of two queues, and none where nothing does
+abbrev pub IsFirstOf : Queued → Queued → Option ℕ → Type 0
+IsFirstOf p q None = (p.items ≡ []) × (q.items ≡ [])
+IsFirstOf p q (Some time) =
+    (((n : ℕ) × Waits p time n) ⊎ ((n : ℕ) × Waits q time n)) × ((t n : ℕ) → Waits p t n → time ≤ t) × ((t n : ℕ) → Waits q t n → time ≤ t)
 
 -- one that waits at the time is taken, or none does
 abbrev pub IsTaken : Queued → Queued → ℕ → Option ℕ → Type 0

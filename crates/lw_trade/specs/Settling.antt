@@ -83,8 +83,8 @@ abbrev pub IsReached : Task → Spot → Type 0
 IsReached s k =
     (d : ℕ) × HasCost (choices_of s.graph (area_cost s.cells).pin_counts s.patterns) (joint_cost s) k.class d × (time_in d ≤ k.time) × (area_in d ≡ k.area)
 
--- the choices that wait: how much time is left up to a horizon, a number that says which comes first of equal times, and the
--- number of the choice
+-- the choices or groups that wait: how much time is left up to a horizon, a number that says which comes first of equal times,
+-- and the number of the choice or group
 pub record Queued : Type 0 where
   pub horizon : ℕ
   pub items : List (ℕ × (ℕ × ℕ))
@@ -92,18 +92,37 @@ pub record Queued : Type 0 where
 abbrev pub Waits : Queued → ℕ → ℕ → Type 0
 Waits q time n = (time ≤ q.horizon) × ((hint : ℕ) × Contains q.items (q.horizon - time, (hint, n)))
 
--- All points are covers' and none is later than now. A use of a point from now on waits, and what a choice gives with points is
--- had or waits.
-pub record IsSettling (s : Task) (choices : List Choice) (now : ℕ) (spots had : List Spot) (q : Queued) : Type 0 where
+-- a group of pins has one class and one delay
+pub record Turns : Type 0 where
+  -- the groups of pins, and the choices that these are pins of
+  pub groups : List ℕ
+  pub owners : List ℕ
+  -- how many groups there are
+  pub count : ℕ
+  -- the groups that come, and the choices that wait
+  pub coming : Queued
+  pub looked : Queued
+
+abbrev pub turns : List ℕ → List ℕ → ℕ → Queued → Queued → Turns
+turns groups owners count coming looked =
+    record { groups = groups; owners = owners; count = count; coming = coming; looked = looked }
+
+-- the choice waits, or a group with a pin of it comes
+abbrev pub Comes : Turns → ℕ → ℕ → Type 0
+Comes w t n =
+    Waits w.looked t n ⊎ ((j g : ℕ) × (slice_get w.groups j ≡ Some g) × (slice_get w.owners j ≡ Some n) × Waits w.coming t g)
+
+-- All points are covers' and none is later than now. A use of a point from now on comes, and what a choice gives with points is
+-- had or comes.
+pub record IsSettling (s : Task) (choices : List Choice) (now horizon : ℕ) (spots had : List Spot) (comes : ℕ → ℕ → Type 0) : Type 0 where
   pub reached : (k : Spot) → Has had k → IsReached s k
   pub low : (k : Spot) → Has had k → k.time ≤ now
-  pub waiting : (t n : ℕ) → Waits q t n → (now ≤ t) × (n < length choices)
-  pub uses : (k : Spot) (n j : ℕ) (x : Choice) → Has spots k → slice_get choices n ≡ Some x → HasPinAt x.part j k.class → k.time + delay_at s x.part j ≤ q.horizon → (k.time + delay_at s x.part j ≤ now) ⊎ Waits q (k.time + delay_at s x.part j) n
-  pub given : (n t a : ℕ) (x : Choice) → slice_get choices n ≡ Some x → Gives s spots x.part t a → t ≤ q.horizon → HasAtMost had x.class t a ⊎ Waits q t n
+  pub uses : (k : Spot) (n j : ℕ) (x : Choice) → Has spots k → slice_get choices n ≡ Some x → HasPinAt x.part j k.class → k.time + delay_at s x.part j ≤ horizon → (k.time + delay_at s x.part j ≤ now) ⊎ comes (k.time + delay_at s x.part j) n
+  pub given : (n t a : ℕ) (x : Choice) → slice_get choices n ≡ Some x → Gives s spots x.part t a → t ≤ horizon → HasAtMost had x.class t a ⊎ comes t n
 
 -- the same where nothing is between the points that are had and those that are used
-abbrev pub IsStill : Task → List Choice → ℕ → List Spot → Queued → Type 0
-IsStill s choices now spots q = IsSettling s choices now spots spots q
+abbrev pub IsStill : Task → List Choice → ℕ → ℕ → List Spot → (ℕ → ℕ → Type 0) → Type 0
+IsStill s choices now horizon spots comes = IsSettling s choices now horizon spots spots comes
 
 -- a point was added, in place of one of the same class and time if there was one
 pub record IsGained (old new : List Spot) (k : Spot) : Type 0 where
@@ -111,19 +130,38 @@ pub record IsGained (old new : List Spot) (k : Spot) : Type 0 where
   pub only : (l : Spot) → Has new l → Has old l ⊎ (l ≡ k)
   pub kept : (l : Spot) → Has old l → HasAtMost new l.class l.time l.area
 
--- a point was added whose uses do not yet wait
-pub record IsGaining (s : Task) (choices : List Choice) (now class : ℕ) (new : List Spot) (q : Queued) : Type 0 where
+-- a point was added whose uses do not yet come
+pub record IsGaining (s : Task) (choices : List Choice) (now horizon class : ℕ) (new : List Spot) (comes : ℕ → ℕ → Type 0) : Type 0 where
   pub old : List Spot
   pub area : ℕ
-  pub settling : IsSettling s choices now old new q
+  pub settling : IsSettling s choices now horizon old new comes
   pub gained : IsGained old new (spot class now area)
 
--- all uses of a class at a time wait too
-pub record AreUsesAdded (s : Task) (choices : List Choice) (class time : ℕ) (old new : Queued) : Type 0 where
+-- all groups of a class come too, each by its delay after a time
+pub record AreGroupsAdded (classes delays : List ℕ) (class time : ℕ) (old new : Queued) : Type 0 where
   pub horizon : new.horizon ≡ old.horizon
-  pub kept : (t n : ℕ) → Waits old t n → Waits new t n
-  pub added : (n j : ℕ) (x : Choice) → slice_get choices n ≡ Some x → HasPinAt x.part j class → time + delay_at s x.part j ≤ old.horizon → Waits new (time + delay_at s x.part j) n
-  pub only : (t n : ℕ) → Waits new t n → Waits old t n ⊎ ((time ≤ t) × (n < length choices))
+  pub kept : (t g : ℕ) → Waits old t g → Waits new t g
+  pub added : (g d : ℕ) → slice_get delays g ≡ Some d → slice_get classes g ≡ Some class → time + d ≤ old.horizon → Waits new (time + d) g
+  pub only : (t g : ℕ) → Waits new t g → Waits old t g ⊎ ((time ≤ t) × (g < length delays))
+
+-- the choice gives no more at this time than what is had
+abbrev pub GivesNoMore : Task → List Choice → List Spot → ℕ → ℕ → Type 0
+GivesNoMore s choices spots time n =
+    (x : Choice) (a : ℕ) → slice_get choices n ≡ Some x → Gives s spots x.part time a → HasAtMost spots x.class time a
+
+-- a choice waits too, or it gives no more
+pub record IsLookedAt (s : Task) (choices : List Choice) (spots : List Spot) (old new : Queued) (time n : ℕ) : Type 0 where
+  pub horizon : new.horizon ≡ old.horizon
+  pub kept : (t m : ℕ) → Waits old t m → Waits new t m
+  pub only : (t m : ℕ) → Waits new t m → Waits old t m ⊎ ((t ≡ time) × (m ≡ n))
+  pub done : Waits new time n ⊎ GivesNoMore s choices spots time n
+
+-- so does each choice with a pin in the group
+pub record IsGroupLookedAt (s : Task) (choices : List Choice) (spots : List Spot) (groups owners : List ℕ) (old new : Queued) (time group : ℕ) : Type 0 where
+  pub horizon : new.horizon ≡ old.horizon
+  pub kept : (t m : ℕ) → Waits old t m → Waits new t m
+  pub only : (t m : ℕ) → Waits new t m → Waits old t m ⊎ ((t ≡ time) × (m < length choices))
+  pub done : (j n : ℕ) → slice_get groups j ≡ Some group → slice_get owners j ≡ Some n → Waits new time n ⊎ GivesNoMore s choices spots time n
 
 -- Up to a time the points are settled: each choice gives no more than what is had.
 pub record AreSettled (s : Task) (now : ℕ) (choices : List Choice) (spots : List Spot) : Type 0 where
@@ -131,14 +169,27 @@ pub record AreSettled (s : Task) (now : ℕ) (choices : List Choice) (spots : Li
   pub low : (k : Spot) → Has spots k → k.time ≤ now
   pub given : (n t a : ℕ) (x : Choice) → slice_get choices n ≡ Some x → Gives s spots x.part t a → t ≤ now → HasAtMost spots x.class t a
 
--- the choices are those of the task, and all is kept
-abbrev pub IsStillFor : Task → List Choice → ℕ → List Spot → Queued → Type 0
-IsStillFor s choices now spots q = AreChoices s choices × IsStill s choices now spots q
+-- none waits or comes before now, and all that do are there
+pub record AreInTime (now choices : ℕ) (w : Turns) : Type 0 where
+  pub horizon : w.looked.horizon ≡ w.coming.horizon
+  pub looked : (t n : ℕ) → Waits w.looked t n → (now ≤ t) × (n < choices)
+  pub coming : (t g : ℕ) → Waits w.coming t g → (now ≤ t) × (g < w.count)
 
--- a class has gained a point, or none has and none of the choices waits at this time
-abbrev pub IsAfter : Task → List Choice → ℕ → List Spot → Queued → Option ClassId → Type 0
-IsAfter s choices now spots q None = IsStillFor s choices now spots q × ((t n : ℕ) → Waits q t n → now < t)
-IsAfter s choices now spots q (Some class) = AreChoices s choices × IsGaining s choices now class.0 spots q
+-- the choices are those of the task, and all is kept
+abbrev pub IsStillFor : Task → List Choice → ℕ → List Spot → Turns → Type 0
+IsStillFor s choices now spots w =
+    AreChoices s choices × AreInTime now (length choices) w × IsStill s choices now w.coming.horizon spots (Comes w)
+
+-- none waits or comes up to now
+abbrev pub NoneComes : ℕ → Turns → Type 0
+NoneComes now w =
+    ((t n : ℕ) → Waits w.looked t n → now < t) × ((t g : ℕ) → Waits w.coming t g → now < t)
+
+-- a class has gained a point, or none has and nothing waits or comes at this time
+abbrev pub IsAfter : Task → List Choice → ℕ → List Spot → Turns → Option ClassId → Type 0
+IsAfter s choices now spots w None = IsStillFor s choices now spots w × NoneComes now w
+IsAfter s choices now spots w (Some class) =
+    AreChoices s choices × AreInTime now (length choices) w × IsGaining s choices now w.coming.horizon class.0 spots (Comes w)
 
 -- a choice waits too, unless the time is past the horizon
 pub record IsLetWait (old new : Queued) (time n : ℕ) : Type 0 where
@@ -152,6 +203,12 @@ pub record IsStarted (starts : List Micro) (part : Part) (old new : Queued) (n :
   pub kept : (t m : ℕ) → Waits old t m → Waits new t m
   pub only : (t m : ℕ) → Waits new t m → Waits old t m ⊎ (m ≡ n)
   pub here : (s : Task) (t a : ℕ) → s.starts ≡ starts → Gives s [] part t a → t ≤ old.horizon → Waits new t n
+
+-- those choices wait that give points without points of pins
+pub record AreFirst (s : Task) (choices : List Choice) (q : Queued) : Type 0 where
+  pub are : AreChoices s choices
+  pub low : (t n : ℕ) → Waits q t n → n < length choices
+  pub given : (n t a : ℕ) (x : Choice) → slice_get choices n ≡ Some x → Gives s [] x.part t a → t ≤ q.horizon → Waits q t n
 
 -- Up to some time the points are settled, and they are too many.
 pub record HaveTooMany (s : Task) (choices : List Choice) (horizon : ℕ) : Type 0 where

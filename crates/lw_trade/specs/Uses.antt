@@ -1,30 +1,54 @@
--- The pins of all choices, by their classes.
+-- The pins of all choices, in groups: those of one class with one delay.
 use Rattle.std.specs.Prelude.{ℕ, ◌<◌, ◌≡◌, ◌⊎◌, List, length, Some, slice_get}
-use Rattle.lw_trade.specs.declared.uses.Use.{Use}
+use Rattle.lw_trade.specs.declared.uses.Uses.{Uses}
 use Rattle.lw_trade.specs.Choices.{Choice, HasPinAt, delay_at}
 use Rattle.lw_trade.specs.Points.{Task}
+use Rattle.lw_trade.specs.Settling.{Queued, Turns, turns}
 
--- the place has the class, and tells of a pin of the choice that has this class
-pub record IsUse (s : Task) (choices : List Choice) (classes : List ℕ) (j : ℕ) (u : Use) : Type 0 where
-  pub choice : Choice
-  pub pin : ℕ
-  pub class : ℕ
-  pub listed : slice_get choices u.choice ≡ Some choice
-  pub at : slice_get classes j ≡ Some class
-  pub has_pin : HasPinAt choice.part pin class
-  pub delay_is : u.delay ≡ delay_at s choice.part pin
+-- the group is of this class and this delay
+abbrev pub IsGroup : List ℕ → List ℕ → ℕ → ℕ → ℕ → Type 0
+IsGroup classes delays c delay g = (slice_get classes g ≡ Some c) × (slice_get delays g ≡ Some delay)
 
--- some place has the class and tells of the pin
-abbrev pub HasUse : List ℕ → List Use → ℕ → ℕ → ℕ → Type 0
-HasUse classes uses n delay c =
-    (j : ℕ) × (u : Use) × (slice_get uses j ≡ Some u) × (u.choice ≡ n) × (u.delay ≡ delay) × (slice_get classes j ≡ Some c)
+-- the choice has a pin in a group of this class and this delay
+pub record HasUse (u : Uses) (n delay c : ℕ) : Type 0 where
+  pub group : ℕ
+  pub place : ℕ
+  pub group_is : IsGroup u.links.classes u.delays.items c delay group
+  pub member : slice_get u.members.classes place ≡ Some group
+  pub owner : slice_get u.owners.items place ≡ Some n
+
+-- each group has a delay, and each pin a choice
+pub record AreGroups (u : Uses) : Type 0 where
+  pub one_each : length u.delays.items ≡ length u.links.classes
+  pub owners_each : length u.owners.items ≡ length u.members.classes
+  pub count : u.members.count ≡ length u.links.classes
+
+-- one group more, the last one, of this class and this delay
+pub record IsGroupAdded (old new : Uses) (c delay group : ℕ) : Type 0 where
+  pub are : AreGroups old → AreGroups new
+  pub group_is : AreGroups old → IsGroup new.links.classes new.delays.items c delay group
+  pub low : AreGroups old → group < new.members.count
+  pub kept : (g d e : ℕ) → IsGroup old.links.classes old.delays.items d e g → IsGroup new.links.classes new.delays.items d e g
+  pub members : new.members.classes ≡ old.members.classes
+  pub owners : new.owners.items ≡ old.owners.items
+
+-- one pin of a choice more, in a group of this class and this delay
+pub record IsPinAdded (old new : Uses) (c delay n : ℕ) : Type 0 where
+  pub are : AreGroups new
+  pub has : HasUse new n delay c
+  pub kept : (m e d : ℕ) → HasUse old m e d → HasUse new m e d
+  pub only : (j m : ℕ) → slice_get new.owners.items j ≡ Some m → (slice_get old.owners.items j ≡ Some m) ⊎ (m ≡ n)
 
 -- the pins of the first choices, and the first pins of the next one
-pub record AreUsesTo (s : Task) (choices : List Choice) (n k : ℕ) (classes : List ℕ) (uses : List Use) : Type 0 where
-  pub one_each : length uses ≡ length classes
-  pub each : (j : ℕ) (u : Use) → slice_get uses j ≡ Some u → IsUse s choices classes j u
-  pub all : (m i c : ℕ) (x : Choice) → (m < n) ⊎ ((m ≡ n) × (i < k)) → slice_get choices m ≡ Some x → HasPinAt x.part i c → HasUse classes uses m (delay_at s x.part i) c
+pub record AreUsesTo (s : Task) (choices : List Choice) (n k : ℕ) (u : Uses) : Type 0 where
+  pub are : AreGroups u
+  pub low : (j m : ℕ) → slice_get u.owners.items j ≡ Some m → m < length choices
+  pub all : (m i c : ℕ) (x : Choice) → (m < n) ⊎ ((m ≡ n) × (i < k)) → slice_get choices m ≡ Some x → HasPinAt x.part i c → HasUse u m (delay_at s x.part i) c
 
 -- the pins of all choices
-abbrev pub AreUses : Task → List Choice → List ℕ → List Use → Type 0
-AreUses s choices classes uses = AreUsesTo s choices (length choices) 0 classes uses
+abbrev pub AreUses : Task → List Choice → Uses → Type 0
+AreUses s choices u = AreUsesTo s choices (length choices) 0 u
+
+-- what waits and comes with these groups
+abbrev pub turns_of : Uses → Queued → Queued → Turns
+turns_of u coming looked = turns u.members.classes u.owners.items u.members.count coming looked

@@ -1,7 +1,7 @@
 ghost use Rattle.std.specs.Prelude.{◌≡◌, ◌<◌, ◌≤◌, [], IfOk, IfNone, IfSome, OnOk, OnErr, length, map};
 ghost use Rattle.lw_trade.specs.Areas.{most_area};
 ghost use Rattle.lw_trade.specs.Backing.{Held, IsHeld, IsHeldGained, spot_in};
-ghost use Rattle.lw_trade.specs.Fronts.{IsLastAt, IsLeastSpot, IsTried, held_at, held_of, spots_of};
+ghost use Rattle.lw_trade.specs.Fronts.{IsLastAt, IsLeastSpot, IsLessOr, IsTried, held_at, held_of, spots_of};
 ghost use Rattle.lw_trade.specs.Groups.{IsRowPushed};
 ghost use Rattle.lw_trade.specs.Settling.{Spot, spot, Has, AreApart, IsGained};
 
@@ -194,6 +194,20 @@ impl Fronts {
             ways.old.items ways.new.items) }
     {
         push_row(&self.links, self.points.as_slice(), class, to, ways)
+    }
+
+    /// Whether all points of a class have more than an area.
+    pub(crate) fn is_less(&self, class: ClassId, time: u64, area: u64) -> bool
+        requires class { class.0 < length self.now.least }
+        requires area { area ≤ most_area }
+        requires late { (k : Spot) → Has self.now.spots k → k.time ≤ time }
+        ensures { IsLessOr self.now.spots class.0 time area result }
+    {
+        let least = self.least[class.0 as usize];
+        if least <= area {
+            return false;
+        }
+        true
     }
 
     /// Adds a point of a class that a choice gives, unless the class has one of no greater area, and

@@ -11,6 +11,7 @@ mod fronts;
 mod grouping;
 mod laws;
 mod links;
+mod looking;
 mod making;
 mod ordering;
 mod point;

@@ -1,4 +1,4 @@
-ghost use Rattle.std.specs.Prelude.{◌≡◌, ◌<◌, ◌++◌, [], ◌∷◌, ℕ, IfOk, OnOk, OnErr, length, Some, slice_get};
+ghost use Rattle.std.specs.Prelude.{◌≡◌, ◌+◌, ◌<◌, ◌++◌, [], ◌∷◌, ℕ, IfOk, OnOk, OnErr, length, Some, slice_get};
 ghost use Rattle.lw_trade.specs.Links.{IsLast};
 
 use lw_pool::ClassId;
@@ -77,6 +77,16 @@ impl Links {
             IsLast self.now.classes c place result }
     {
         self.links[place as usize].before
+    }
+
+    /// One class more, which no place has.
+    pub(crate) fn grow(&mut self) -> Result<(), AllocError>
+        ensures classes { self.new.classes ≡ self.old.classes }
+        ensures count { OnOk result (self.new.count ≡ self.old.count + 1) }
+        ensures err { OnErr result (self.new ≡ self.old) }
+    {
+        self.heads.push(None)?;
+        Ok(())
     }
 
     /// Appends a place with a class. There is no memory for 2^32 places.

@@ -14,12 +14,11 @@ ghost use Rattle.lw_trade.specs.Settling.{AreSettled, IsStop};
 use crate::choices::{Row, list_choices};
 use crate::fronts::Fronts;
 use crate::grouping::{Curves, group};
-use crate::links::Links;
 use crate::point::CurveFault;
 use crate::queue::Queue;
 use crate::settling::settle_all;
 use crate::starting::push_starts;
-use crate::uses::add_uses;
+use crate::uses::uses_of;
 use lw_fixed::{Micro, Micros};
 use lw_genlib::Library;
 use lw_graph::Graph;
@@ -55,13 +54,20 @@ fn settle_rows(
         IsStop (task g pats lib.now starts.now) (plain_rows rows.now) horizon fault) }
 {
     let _ = lib.len();
-    let mut links = Links::new(alloc, classes as usize)?;
-    let mut uses = Vec::new(alloc);
-    add_uses(rows, lib, &mut links, &mut uses)?;
+    let uses = uses_of(alloc, rows, lib, classes as usize)?;
     let mut queue = Queue::new(alloc, horizon);
     push_starts(&mut queue, rows, starts)?;
+    let mut coming = Queue::new(alloc, horizon);
     let mut fronts = Fronts::new(alloc, classes as usize)?;
-    settle_all(rows, lib, starts, &links, &uses, &mut fronts, &mut queue)?;
+    settle_all(
+        rows,
+        lib,
+        starts,
+        &uses,
+        &mut fronts,
+        &mut coming,
+        &mut queue,
+    )?;
     Ok(fronts)
 }
 

@@ -1,23 +1,23 @@
-ghost use Rattle.std.specs.Prelude.{◌≡◌, ◌<◌, ◌≤◌, List, All, IfOk, IfSome, None, OnOk, length};
+ghost use Rattle.std.specs.Prelude.{◌≡◌, ◌+◌, ◌<◌, ◌≤◌, ℕ, List, All, IfOk, IfSome, None, OnOk, length};
 ghost use Rattle.lw_fixed.specs.declared.micro.Micro.{Micro as MicroOf};
 ghost use Rattle.lw_laws.specs.Graphs.{Graph as PlainGraph};
 ghost use Rattle.lw_laws.specs.Covers.{Pattern as TreeOfCell};
 ghost use Rattle.lw_trade.specs.Areas.{total};
-ghost use Rattle.lw_genlib.specs.Cells.{CellParts};
 ghost use Rattle.lw_trade.specs.Backing.{AreBacked};
 ghost use Rattle.lw_trade.specs.Points.{most_points, task};
 ghost use Rattle.lw_trade.specs.Pricing.{IsOfLibrary, IsWithin};
+ghost use Rattle.lw_trade.specs.Queues.{IsFirstOf};
 ghost use Rattle.lw_trade.specs.Rows.{plain_part, plain_rows};
-ghost use Rattle.lw_trade.specs.Settling.{AreSettledOr, AreUsesAdded, IsAfter, IsLetWait, IsStillFor};
-ghost use Rattle.lw_trade.specs.Uses.{AreUses};
+ghost use Rattle.lw_trade.specs.Settling.{AreGroupsAdded, AreSettledOr, IsAfter, IsLetWait, IsStillFor, Waits};
+ghost use Rattle.lw_trade.specs.Uses.{AreGroups, AreUses, turns_of};
 
 use crate::choices::Row;
 use crate::fronts::Fronts;
-use crate::links::Links;
+use crate::looking::look_at_groups;
 use crate::point::CurveFault;
 use crate::pricing::price;
 use crate::queue::Queue;
-use crate::uses::Use;
+use crate::uses::Uses;
 use lw_fixed::Micro;
 use lw_genlib::Library;
 use lw_pool::ClassId;
@@ -35,34 +35,36 @@ pub(crate) fn push_due(queue: &mut Queue, time: u64, number: u32) -> Result<(), 
     Ok(())
 }
 
-// Lets all uses of a class from a time on wait.
-fn push_uses(
-    rows: &[Row],
-    links: &Links,
-    uses: &[Use],
-    queue: &mut Queue,
-    class: ClassId,
-    time: u64,
-) -> Result<(), AllocError>
-    requires class { class.0 < links.now.count }
+// Lets a group come by a delay after a time, unless that is past the horizon.
+fn push_after(queue: &mut Queue, time: u64, delay: u64, group: u32) -> Result<(), AllocError>
     requires time { time ≤ queue.old.horizon }
-    requires one_each { length uses.now ≡ length links.now.classes }
-    requires few { queue.old.horizon < 9223372036854775808 }
-    requires choices { All (λ (u : Use). (u.choice < length rows.now) × (u.delay < 1000000000000))
-        uses.now }
     ensures horizon { queue.new.horizon ≡ queue.old.horizon }
-    ensures added { OnOk result ((g : PlainGraph) (pats : List TreeOfCell) (cells : List CellParts)
-        (starts : List MicroOf) → AreUses (task g pats cells starts)
-        (plain_rows rows.now) links.now.classes uses.now →
-        AreUsesAdded (task g pats cells starts)
-        (plain_rows rows.now) class.0 time queue.old queue.new) }
+    ensures due { OnOk result (IsLetWait queue.old queue.new (time + delay) group) }
 {
-    let _ = links.len();
-    let mut next = links.last(class);
-    while let Some(place) = next {
-        let found = uses[place as usize];
-        push_due(queue, time + found.delay, found.choice)?;
-        next = links.before(place);
+    let horizon = queue.horizon();
+    let left = horizon - time;
+    if delay > left {
+        return Ok(());
+    }
+    queue.push(time + delay, 0, group)?;
+    Ok(())
+}
+
+// Lets all groups of a class come that gained a point at a time.
+fn push_groups(uses: &Uses, coming: &mut Queue, class: ClassId, time: u64) -> Result<(), AllocError>
+    requires class { class.0 < uses.now.links.count }
+    requires are { AreGroups uses.now }
+    requires time { time ≤ coming.old.horizon }
+    ensures horizon { coming.new.horizon ≡ coming.old.horizon }
+    ensures added { OnOk result (AreGroupsAdded uses.now.links.classes uses.now.delays.items
+        class.0 time coming.old coming.new) }
+{
+    let _ = uses.links.len();
+    let mut next = uses.links.last(class);
+    while let Some(group) = next {
+        let delay = uses.delays[group as usize];
+        push_after(coming, time, delay, group)?;
+        next = uses.links.before(group);
     }
     Ok(())
 }
@@ -73,31 +75,33 @@ fn next_gain(
     rows: &[Row],
     lib: &Library,
     starts: &[Micro],
+    uses: &Uses,
     fronts: &mut Fronts,
+    coming: &Queue,
     queue: &mut Queue,
     time: u64,
 ) -> Result<Option<ClassId>, AllocError>
-    requires time { time ≤ queue.old.horizon }
+    requires time { time ≤ coming.now.horizon }
     requires within { All (λ (r : Row). IsWithin (length fronts.old.least) (plain_part r.stand))
         rows.now }
     requires of_library { All (λ (r : Row). IsOfLibrary lib.now (plain_part r.stand)) rows.now }
     requires classes { All (λ (r : Row). r.class.0 < length fronts.old.least) rows.now }
+    requires over { (t g : ℕ) → Waits coming.now t g → time < t }
     requires still { (g : PlainGraph) × (pats : List TreeOfCell) ×
-        IsStillFor (task g pats lib.now starts.now)
-        (plain_rows rows.now) time fronts.old.spots queue.old }
-    ensures horizon { queue.new.horizon ≡ queue.old.horizon }
+        IsStillFor (task g pats lib.now starts.now) (plain_rows rows.now) time fronts.old.spots
+        (turns_of uses.now coming.now queue.old) }
     ensures count { length fronts.new.least ≡ length fronts.old.least }
     ensures gain { IfOk result (λ gain. (g : PlainGraph) (pats : List TreeOfCell) →
-        IsStillFor (task g pats lib.now starts.now)
-        (plain_rows rows.now) time fronts.old.spots queue.old →
-        IsAfter (task g pats lib.now starts.now)
-        (plain_rows rows.now) time fronts.new.spots queue.new gain) }
+        IsStillFor (task g pats lib.now starts.now) (plain_rows rows.now) time fronts.old.spots
+        (turns_of uses.now coming.now queue.old) →
+        IsAfter (task g pats lib.now starts.now) (plain_rows rows.now) time fronts.new.spots
+        (turns_of uses.now coming.now queue.new) gain) }
     ensures falls { IfOk result (λ gain. IfSome gain
         (λ class. (class.0 < length fronts.old.least) ×
         (total fronts.new.least < total fronts.old.least))) }
     ensures backed { OnOk result ((g : PlainGraph) (pats : List TreeOfCell) →
-        IsStillFor (task g pats lib.now starts.now)
-        (plain_rows rows.now) time fronts.old.spots queue.old →
+        IsStillFor (task g pats lib.now starts.now) (plain_rows rows.now) time fronts.old.spots
+        (turns_of uses.now coming.now queue.old) →
         AreBacked (task g pats lib.now starts.now) (plain_rows rows.now) fronts.old.held →
         AreBacked (task g pats lib.now starts.now) (plain_rows rows.now) fronts.new.held) }
 {
@@ -113,100 +117,150 @@ fn next_gain(
     Ok(None)
 }
 
-// Gives the classes their points at a time, before which no choice waits.
-pub(crate) fn settle_at(
+// Looks at the groups that come at a time, and then at the choices that wait until one gives its
+// class a point, and says which class it is.
+fn gain_at(
     rows: &[Row],
     lib: &Library,
     starts: &[Micro],
-    links: &Links,
-    uses: &[Use],
+    uses: &Uses,
     fronts: &mut Fronts,
+    coming: &mut Queue,
     queue: &mut Queue,
     time: u64,
-) -> Result<(), AllocError>
-    requires time { time ≤ queue.old.horizon }
-    requires few { queue.old.horizon < 9223372036854775808 }
+) -> Result<Option<ClassId>, AllocError>
+    requires time { time ≤ coming.old.horizon }
     requires within { All (λ (r : Row). IsWithin (length fronts.old.least) (plain_part r.stand))
         rows.now }
     requires of_library { All (λ (r : Row). IsOfLibrary lib.now (plain_part r.stand)) rows.now }
     requires classes { All (λ (r : Row). r.class.0 < length fronts.old.least) rows.now }
-    requires count { links.now.count ≡ length fronts.old.least }
-    requires one_each { length uses.now ≡ length links.now.classes }
-    requires choices { All (λ (u : Use). (u.choice < length rows.now) × (u.delay < 1000000000000))
-        uses.now }
     requires still { (g : PlainGraph) × (pats : List TreeOfCell) ×
-        IsStillFor (task g pats lib.now starts.now)
-        (plain_rows rows.now) time fronts.old.spots queue.old ×
-        AreUses (task g pats lib.now starts.now) (plain_rows rows.now) links.now.classes uses.now }
-    ensures horizon { queue.new.horizon ≡ queue.old.horizon }
+        IsStillFor (task g pats lib.now starts.now) (plain_rows rows.now) time fronts.old.spots
+        (turns_of uses.now coming.old queue.old) ×
+        AreUses (task g pats lib.now starts.now) (plain_rows rows.now) uses.now }
+    ensures horizon { coming.new.horizon ≡ coming.old.horizon }
     ensures count { length fronts.new.least ≡ length fronts.old.least }
-    ensures still { OnOk result ((g : PlainGraph) (pats : List TreeOfCell) →
-        IsStillFor (task g pats lib.now starts.now)
-        (plain_rows rows.now) time fronts.old.spots queue.old →
-        AreUses (task g pats lib.now starts.now) (plain_rows rows.now) links.now.classes uses.now →
-        IsAfter (task g pats lib.now starts.now)
-        (plain_rows rows.now) time fronts.new.spots queue.new None) }
+    ensures gain { IfOk result (λ gain. (g : PlainGraph) (pats : List TreeOfCell) →
+        IsStillFor (task g pats lib.now starts.now) (plain_rows rows.now) time fronts.old.spots
+        (turns_of uses.now coming.old queue.old) →
+        IsAfter (task g pats lib.now starts.now) (plain_rows rows.now) time fronts.new.spots
+        (turns_of uses.now coming.new queue.new) gain) }
+    ensures falls { IfOk result (λ gain. IfSome gain
+        (λ class. (class.0 < length fronts.old.least) ×
+        (total fronts.new.least < total fronts.old.least))) }
     ensures backed { OnOk result ((g : PlainGraph) (pats : List TreeOfCell) →
-        IsStillFor (task g pats lib.now starts.now)
-        (plain_rows rows.now) time fronts.old.spots queue.old →
-        AreUses (task g pats lib.now starts.now) (plain_rows rows.now) links.now.classes uses.now →
+        IsStillFor (task g pats lib.now starts.now) (plain_rows rows.now) time fronts.old.spots
+        (turns_of uses.now coming.old queue.old) →
         AreBacked (task g pats lib.now starts.now) (plain_rows rows.now) fronts.old.held →
         AreBacked (task g pats lib.now starts.now) (plain_rows rows.now) fronts.new.held) }
 {
-    while let Some(class) = next_gain(rows, lib, starts, fronts, queue, time)? {
-        push_uses(rows, links, uses, queue, class, time)?;
+    look_at_groups(rows, lib, starts, uses, fronts, coming, queue, time)?;
+    next_gain(rows, lib, starts, uses, fronts, coming, queue, time)
+}
+
+// Gives the classes their points at a time, before which nothing waits or comes.
+pub(crate) fn settle_at(
+    rows: &[Row],
+    lib: &Library,
+    starts: &[Micro],
+    uses: &Uses,
+    fronts: &mut Fronts,
+    coming: &mut Queue,
+    queue: &mut Queue,
+    time: u64,
+) -> Result<(), AllocError>
+    requires time { time ≤ coming.old.horizon }
+    requires within { All (λ (r : Row). IsWithin (length fronts.old.least) (plain_part r.stand))
+        rows.now }
+    requires of_library { All (λ (r : Row). IsOfLibrary lib.now (plain_part r.stand)) rows.now }
+    requires classes { All (λ (r : Row). r.class.0 < length fronts.old.least) rows.now }
+    requires count { uses.now.links.count ≡ length fronts.old.least }
+    requires still { (g : PlainGraph) × (pats : List TreeOfCell) ×
+        IsStillFor (task g pats lib.now starts.now) (plain_rows rows.now) time fronts.old.spots
+        (turns_of uses.now coming.old queue.old) ×
+        AreUses (task g pats lib.now starts.now) (plain_rows rows.now) uses.now }
+    ensures horizon { coming.new.horizon ≡ coming.old.horizon }
+    ensures count { length fronts.new.least ≡ length fronts.old.least }
+    ensures still { OnOk result ((g : PlainGraph) (pats : List TreeOfCell) →
+        IsStillFor (task g pats lib.now starts.now) (plain_rows rows.now) time fronts.old.spots
+        (turns_of uses.now coming.old queue.old) →
+        AreUses (task g pats lib.now starts.now) (plain_rows rows.now) uses.now →
+        IsAfter (task g pats lib.now starts.now) (plain_rows rows.now) time fronts.new.spots
+        (turns_of uses.now coming.new queue.new) None) }
+    ensures backed { OnOk result ((g : PlainGraph) (pats : List TreeOfCell) →
+        IsStillFor (task g pats lib.now starts.now) (plain_rows rows.now) time fronts.old.spots
+        (turns_of uses.now coming.old queue.old) →
+        AreUses (task g pats lib.now starts.now) (plain_rows rows.now) uses.now →
+        AreBacked (task g pats lib.now starts.now) (plain_rows rows.now) fronts.old.held →
+        AreBacked (task g pats lib.now starts.now) (plain_rows rows.now) fronts.new.held) }
+{
+    while let Some(class) = gain_at(rows, lib, starts, uses, fronts, coming, queue, time)? {
+        push_groups(uses, coming, class, time)?;
     }
     Ok(())
+}
+
+// The first time at which something waits in one of two queues.
+fn first_time(coming: &Queue, queue: &Queue) -> Option<u64>
+    ensures { IsFirstOf coming.now queue.now result }
+{
+    let Some(one) = coming.next_time() else {
+        return queue.next_time();
+    };
+    let Some(other) = queue.next_time() else {
+        return Some(one);
+    };
+    if one < other {
+        return Some(one);
+    }
+    Some(other)
 }
 
 // How many points all classes have together at most.
 const MOST_POINTS: u32 = 8_000_000;
 
-/// Gives the classes their points by rising time, up to the horizon of the queue. It stops behind
+/// Gives the classes their points by rising time, up to the horizon of the queues. It stops behind
 /// the first time by which all classes together have more than 8,000,000.
 pub(crate) fn settle_all(
     rows: &[Row],
     lib: &Library,
     starts: &[Micro],
-    links: &Links,
-    uses: &[Use],
+    uses: &Uses,
     fronts: &mut Fronts,
+    coming: &mut Queue,
     queue: &mut Queue,
 ) -> Result<(), CurveFault>
-    requires few { queue.old.horizon < 9223372036854775808 }
     requires within { All (λ (r : Row). IsWithin (length fronts.old.least) (plain_part r.stand))
         rows.now }
     requires of_library { All (λ (r : Row). IsOfLibrary lib.now (plain_part r.stand)) rows.now }
     requires classes { All (λ (r : Row). r.class.0 < length fronts.old.least) rows.now }
-    requires count { links.now.count ≡ length fronts.old.least }
-    requires one_each { length uses.now ≡ length links.now.classes }
-    requires choices { All (λ (u : Use). (u.choice < length rows.now) × (u.delay < 1000000000000))
-        uses.now }
+    requires count { uses.now.links.count ≡ length fronts.old.least }
     requires few_points { length fronts.old.spots ≤ most_points }
     requires still { (g : PlainGraph) × (pats : List TreeOfCell) ×
-        IsStillFor (task g pats lib.now starts.now)
-        (plain_rows rows.now) 0 fronts.old.spots queue.old ×
-        AreUses (task g pats lib.now starts.now) (plain_rows rows.now) links.now.classes uses.now }
+        IsStillFor (task g pats lib.now starts.now) (plain_rows rows.now) 0 fronts.old.spots
+        (turns_of uses.now coming.old queue.old) ×
+        AreUses (task g pats lib.now starts.now) (plain_rows rows.now) uses.now }
     ensures count { length fronts.new.least ≡ length fronts.old.least }
     ensures few_points { OnOk result (length fronts.new.spots ≤ most_points) }
     ensures settled { (g : PlainGraph) (pats : List TreeOfCell) →
-        IsStillFor (task g pats lib.now starts.now)
-        (plain_rows rows.now) 0 fronts.old.spots queue.old →
-        AreUses (task g pats lib.now starts.now) (plain_rows rows.now) links.now.classes uses.now →
+        IsStillFor (task g pats lib.now starts.now) (plain_rows rows.now) 0 fronts.old.spots
+        (turns_of uses.now coming.old queue.old) →
+        AreUses (task g pats lib.now starts.now) (plain_rows rows.now) uses.now →
         AreSettledOr (task g pats lib.now starts.now)
-        (plain_rows rows.now) queue.old.horizon fronts.new.spots result }
+        (plain_rows rows.now) coming.old.horizon fronts.new.spots result }
     ensures backed { OnOk result ((g : PlainGraph) (pats : List TreeOfCell) →
-        IsStillFor (task g pats lib.now starts.now)
-        (plain_rows rows.now) 0 fronts.old.spots queue.old →
-        AreUses (task g pats lib.now starts.now) (plain_rows rows.now) links.now.classes uses.now →
+        IsStillFor (task g pats lib.now starts.now) (plain_rows rows.now) 0 fronts.old.spots
+        (turns_of uses.now coming.old queue.old) →
+        AreUses (task g pats lib.now starts.now) (plain_rows rows.now) uses.now →
         AreBacked (task g pats lib.now starts.now) (plain_rows rows.now) fronts.old.held →
         AreBacked (task g pats lib.now starts.now) (plain_rows rows.now) fronts.new.held) }
 {
-    while let Some(time) = queue.next_time() {
-        settle_at(rows, lib, starts, links, uses, fronts, queue, time)?;
+    while let Some(time) = first_time(coming, queue) {
+        settle_at(rows, lib, starts, uses, fronts, coming, queue, time)?;
         if fronts.len() > MOST_POINTS {
             return Err(CurveFault::Limit);
         }
+        let _ = coming.horizon();
         let _ = queue.horizon();
     }
     Ok(())

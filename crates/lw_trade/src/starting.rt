@@ -6,7 +6,7 @@ ghost use Rattle.lw_laws.specs.Graphs.{Graph as PlainGraph};
 ghost use Rattle.lw_trade.specs.Choices.{AreChoices};
 ghost use Rattle.lw_trade.specs.Points.{Task, task};
 ghost use Rattle.lw_trade.specs.Rows.{plain_part, plain_rows};
-ghost use Rattle.lw_trade.specs.Settling.{Gives, IsStarted, IsStillFor};
+ghost use Rattle.lw_trade.specs.Settling.{Gives, IsStarted, AreFirst};
 
 use crate::choices::{Row, Stand};
 use crate::pricing::start_of;
@@ -55,7 +55,7 @@ pub(crate) fn push_starts(
     ensures horizon { queue.new.horizon ≡ queue.old.horizon }
     ensures still { OnOk result ((g : PlainGraph) (pats : List TreeOfCell) (cells : List CellParts)
         → AreChoices (task g pats cells starts.now) (plain_rows rows.now) →
-        IsStillFor (task g pats cells starts.now) (plain_rows rows.now) 0 [] queue.new) }
+        AreFirst (task g pats cells starts.now) (plain_rows rows.now) queue.new) }
 {
     for (number, row) in rows.iter().enumerate() {
         push_start(queue, row, starts, number as u32)?;

@@ -1,4 +1,4 @@
-ghost use Rattle.std.specs.Prelude.{◌≡◌, ◌+◌, ◌<◌, ℕ, [], List, All, OnOk, length, map, slice_get, Some};
+ghost use Rattle.std.specs.Prelude.{◌≡◌, ◌+◌, ◌<◌, ℕ, [], List, All, IfOk, IfSome, OnOk, length, map, slice_get, Some};
 ghost use Rattle.lw_genlib.specs.Tables.{millionths};
 ghost use Rattle.lw_laws.specs.Covers.{delays_of, Pattern as TreeOfCell};
 ghost use Rattle.lw_laws.specs.Graphs.{Graph as PlainGraph};
@@ -9,7 +9,7 @@ ghost use Rattle.lw_trade.specs.Choices.Part.{gate};
 ghost use Rattle.lw_trade.specs.Points.{Task, task, timing};
 ghost use Rattle.lw_trade.specs.Pricing.{IsOfLibrary, IsWithin};
 ghost use Rattle.lw_trade.specs.Rows.{plain_part, plain_row, plain_rows};
-ghost use Rattle.lw_trade.specs.Uses.{AreUses, AreUsesTo};
+ghost use Rattle.lw_trade.specs.Uses.{AreGroups, AreUses, AreUsesTo, IsGroup, IsGroupAdded, IsPinAdded};
 
 use crate::choices::{Row, Stand};
 use crate::links::Links;
@@ -18,83 +18,151 @@ use lw_genlib::Library;
 use lw_pool::ClassId;
 use std::alloc::{AllocError, Global};
 
-/// A choice that a class is a pin of, and the delay of the pin.
-#[derive(Clone, Copy, Debug)]
-pub(crate) struct Use {
-    pub choice: u32,
-    pub delay: u64,
+/// The pins of choices, in groups: those of one class with one delay.
+#[derive(Drop)]
+pub(crate) struct Uses {
+    // the groups, linked by their classes
+    pub links: Links,
+    // the delay of each group
+    pub delays: Vec<u64>,
+    // the pins, linked by their groups
+    pub members: Links,
+    // the choice of each pin
+    pub owners: Vec<u32>,
+}
+
+// A group of a class and a delay, if there is one.
+fn group_with(links: &Links, delays: &[u64], class: ClassId, delay: u64) -> Option<u32>
+    requires class { class.0 < links.now.count }
+    requires one_each { length delays.now ≡ length links.now.classes }
+    ensures { IfSome result (IsGroup links.now.classes delays.now class.0 delay) }
+{
+    let mut next = links.last(class);
+    while let Some(place) = next {
+        if delays[place as usize] == delay {
+            return Some(place);
+        }
+        next = links.before(place);
+    }
+    None
+}
+
+// Adds a group of a class and a delay.
+fn new_group(uses: &mut Uses, class: ClassId, delay: u64) -> Result<u32, AllocError>
+    requires class { class.0 < uses.old.links.count }
+    ensures count { uses.new.links.count ≡ uses.old.links.count }
+    ensures added { IfOk result (IsGroupAdded uses.old uses.new class.0 delay) }
+{
+    let group = uses.links.len();
+    uses.links.push(class)?;
+    uses.delays.push(delay)?;
+    uses.members.grow()?;
+    Ok(group)
+}
+
+// The group of a class and a delay, which is added where there is none.
+fn group_for(uses: &mut Uses, class: ClassId, delay: u64) -> Result<u32, AllocError>
+    requires class { class.0 < uses.old.links.count }
+    requires are { AreGroups uses.old }
+    ensures count { uses.new.links.count ≡ uses.old.links.count }
+    ensures added { IfOk result (IsGroupAdded uses.old uses.new class.0 delay) }
+{
+    let delays = uses.delays.as_slice();
+    if let Some(group) = group_with(&uses.links, delays, class, delay) {
+        return Ok(group);
+    }
+    new_group(uses, class, delay)
+}
+
+// Adds a pin of a choice to the group of its class and its delay.
+fn add_pin(uses: &mut Uses, class: ClassId, delay: u64, choice: u32) -> Result<(), AllocError>
+    requires class { class.0 < uses.old.links.count }
+    requires are { AreGroups uses.old }
+    ensures count { uses.new.links.count ≡ uses.old.links.count }
+    ensures added { OnOk result (IsPinAdded uses.old uses.new class.0 delay choice) }
+{
+    let group = group_for(uses, class, delay)?;
+    uses.members.push(ClassId(group))?;
+    uses.owners.push(choice)?;
+    Ok(())
 }
 
 // Adds the pins of a choice.
 fn add_pins(
-    links: &mut Links,
-    uses: &mut Vec<Use>,
+    uses: &mut Uses,
     delays: &[Micro],
     pins: &[ClassId],
     choice: u32,
 ) -> Result<(), AllocError>
     requires one_each { length delays.now ≡ length pins.now }
-    requires within { All (λ (c : ClassId). c.0 < links.old.count) pins.now }
-    ensures count { links.new.count ≡ links.old.count }
+    requires within { All (λ (c : ClassId). c.0 < uses.old.links.count) pins.now }
+    requires are { AreGroups uses.old }
+    ensures count { uses.new.links.count ≡ uses.old.links.count }
+    ensures are { OnOk result (AreGroups uses.new) }
     ensures uses { OnOk result ((s : Task) (xs : List Choice) (c cell : ℕ) →
         slice_get xs choice ≡ Some (record { class = c; part = gate cell (numbers pins.now) }) →
         delays_of (timing s).delays cell ≡ map millionths delays.now →
-        AreUsesTo s xs choice 0 links.old.classes uses.old.items →
-        AreUsesTo s xs choice (length pins.now) links.new.classes uses.new.items) }
+        AreUsesTo s xs choice 0 uses.old → AreUsesTo s xs choice (length pins.now) uses.new) }
 {
     for (pin, class) in pins.iter().enumerate() {
-        links.push(*class)?;
-        uses.push(Use {
-            choice,
-            delay: delays[pin].0,
-        })?;
+        add_pin(uses, *class, delays[pin].0, choice)?;
     }
     Ok(())
 }
 
 // Adds the pins of a choice, if it has any.
-fn add_choice(
-    links: &mut Links,
-    uses: &mut Vec<Use>,
-    lib: &Library,
-    row: &Row,
-    choice: u32,
-) -> Result<(), AllocError>
-    requires within { IsWithin links.old.count (plain_part row.now.stand) }
+fn add_choice(uses: &mut Uses, lib: &Library, row: &Row, choice: u32) -> Result<(), AllocError>
+    requires within { IsWithin uses.old.links.count (plain_part row.now.stand) }
     requires of_library { IsOfLibrary lib.now (plain_part row.now.stand) }
-    ensures count { links.new.count ≡ links.old.count }
+    requires are { AreGroups uses.old }
+    ensures count { uses.new.links.count ≡ uses.old.links.count }
+    ensures are { OnOk result (AreGroups uses.new) }
     ensures uses { OnOk result ((g : PlainGraph) (pats : List TreeOfCell) (starts : List MicroOf)
         (xs : List Choice) → slice_get xs choice ≡ Some (plain_row row.now) →
-        AreUsesTo (task g pats lib.now starts) xs choice 0 links.old.classes uses.old.items →
-        AreUsesTo (task g pats lib.now starts) xs (choice + 1) 0 links.new.classes uses.new.items) }
+        AreUsesTo (task g pats lib.now starts) xs choice 0 uses.old →
+        AreUsesTo (task g pats lib.now starts) xs (choice + 1) 0 uses.new) }
 {
     match &row.stand {
         Stand::Input(_) => Ok(()),
         Stand::Gate(gate) => {
             let delays = lib.cell(gate.cell).delays();
-            add_pins(links, uses, delays, gate.pins.as_slice(), choice)?;
+            add_pins(uses, delays, gate.pins.as_slice(), choice)?;
             Ok(())
         }
     }
 }
 
-/// Links the pins of all choices by their classes.
-pub(crate) fn add_uses(
+// No pins, for so many classes.
+fn no_uses(alloc: Global, classes: usize) -> Result<Uses, AllocError>
+    ensures count { IfOk result (λ uses. uses.links.count ≡ classes) }
+    ensures are { IfOk result AreGroups }
+    ensures none { IfOk result (λ uses. (uses.owners.items ≡ [])) }
+{
+    Ok(Uses {
+        links: Links::new(alloc, classes)?,
+        delays: Vec::new(alloc),
+        members: Links::new(alloc, 0)?,
+        owners: Vec::new(alloc),
+    })
+}
+
+/// The pins of all choices in groups, for so many classes.
+pub(crate) fn uses_of(
+    alloc: Global,
     rows: &[Row],
     lib: &Library,
-    links: &mut Links,
-    uses: &mut Vec<Use>,
-) -> Result<(), AllocError>
+    classes: usize,
+) -> Result<Uses, AllocError>
     requires few { length rows.now < 4294967296 }
-    requires within { All (λ (r : Row). IsWithin links.old.count (plain_part r.stand)) rows.now }
+    requires within { All (λ (r : Row). IsWithin classes (plain_part r.stand)) rows.now }
     requires of_library { All (λ (r : Row). IsOfLibrary lib.now (plain_part r.stand)) rows.now }
-    requires none { (links.old.classes ≡ []) × (uses.old.items ≡ []) }
-    ensures count { links.new.count ≡ links.old.count }
-    ensures uses { OnOk result ((g : PlainGraph) (pats : List TreeOfCell) (starts : List MicroOf) →
-        AreUses (task g pats lib.now starts) (plain_rows rows.now) links.new.classes uses.new.items) }
+    ensures count { IfOk result (λ uses. uses.links.count ≡ classes) }
+    ensures uses { IfOk result (λ uses. (g : PlainGraph) (pats : List TreeOfCell)
+        (starts : List MicroOf) → AreUses (task g pats lib.now starts) (plain_rows rows.now) uses) }
 {
+    let mut uses = no_uses(alloc, classes)?;
     for (choice, row) in rows.iter().enumerate() {
-        add_choice(links, uses, lib, row, choice as u32)?;
+        add_choice(&mut uses, lib, row, choice as u32)?;
     }
-    Ok(())
+    Ok(uses)
 }

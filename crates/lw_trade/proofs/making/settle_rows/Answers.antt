@@ -6,57 +6,54 @@ use Rattle.lw_trade.specs.Choices.{AreChoices}
 use Rattle.lw_trade.specs.Points.{task}
 use Rattle.lw_trade.specs.Rows.{plain_rows}
 use Rattle.lw_trade.specs.Settling.{AreSettled, IsStillFor, IsStop}
-use Rattle.lw_trade.specs.Uses.{AreUses}
+use Rattle.lw_trade.specs.Uses.{turns_of}
 use Rattle.lw_trade.proofs.Backed.{none_backed}
 use Rattle.lw_trade.proofs.Curving.{err_is}
-use Rattle.lw_trade.proofs.Ranges.{uses_small}
+use Rattle.lw_trade.proofs.Starts.{first_still}
 use Rattle.lw_trade.proofs.making.settle_rows.Goals as goal
-
-pub settle_all-requires-clause-one_each : goal.settle_all-requires-clause-one_each
-settle_all-requires-clause-one_each c =
-    let (g, pats, are) = c.requires.choices in
-    let uses = subst (λ us. AreUses (task g pats c.args.lib.now c.args.starts.now) (plain_rows c.args.rows.now) c.add_uses.new.links.classes us) (sym c.deref.ensures.value) (c.in_ok-add_uses.ensures.uses g pats c.args.starts.now) in
-    uses.one_each
-
-pub settle_all-requires-clause-choices : goal.settle_all-requires-clause-choices
-settle_all-requires-clause-choices c =
-    let (g, pats, are) = c.requires.choices in
-    let s = task g pats c.args.lib.now c.args.starts.now in
-    let uses = subst (λ us. AreUses s (plain_rows c.args.rows.now) c.add_uses.new.links.classes us) (sym c.deref.ensures.value) (c.in_ok-add_uses.ensures.uses g pats c.args.starts.now) in
-    uses_small s c.args.rows.now c.add_uses.new.links.classes c.deref.result.now c.len.ensures.kept uses
 
 pub settle_all-requires-clause-still : goal.settle_all-requires-clause-still
 settle_all-requires-clause-still c =
     let (g, pats, are) = c.requires.choices in
     let s = task g pats c.args.lib.now c.args.starts.now in
     let rows = plain_rows c.args.rows.now in
-    let uses = subst (λ us. AreUses s rows c.add_uses.new.links.classes us) (sym c.deref.ensures.value) (c.in_ok-add_uses.ensures.uses g pats c.args.starts.now) in
-    let still = c.in_ok-push_starts.ensures.still g pats c.args.lib.now are in
-    (g, pats, subst (λ ks. IsStillFor s rows 0 ks c.push_starts.new.queue) (sym c.in_ok-fronts.ensures.spots) still, uses)
+    let u = c.in_ok-uses.uses in
+    let uses = c.in_ok-uses.ensures.uses g pats c.args.starts.now in
+    let same = c.in_ok-push_starts.ensures.horizon ∙ (c.new-queue.ensures.horizon ∙ sym c.new-coming.ensures.horizon) in
+    let first = first_still s rows u c.new-coming.result c.push_starts.new.queue (c.in_ok-push_starts.ensures.still g pats c.args.lib.now are) c.new-coming.ensures.items same in
+    let still = subst (λ ks. IsStillFor s rows 0 ks (turns_of u c.new-coming.result c.push_starts.new.queue)) (sym c.in_ok-fronts.ensures.spots) first in
+    (g, pats, still, uses)
 
 pub returns-in_err-settle_all-clause-stop : goal.returns-in_err-settle_all-clause-stop
 returns-in_err-settle_all-clause-stop c =
     err_is (λ fault. (g : Graph) (pats : List Pattern) → AreChoices (task g pats c.args.lib.now c.args.starts.now) (plain_rows c.args.rows.now) → IsStop (task g pats c.args.lib.now c.args.starts.now) (plain_rows c.args.rows.now) c.args.horizon fault) c.from_residual-in_err-settle_all.result c.in_err-settle_all.field-0.0 c.from_residual-in_err-settle_all.ensures.1 (λ g pats are.
     let s = task g pats c.args.lib.now c.args.starts.now in
     let rows = plain_rows c.args.rows.now in
-    let uses = subst (λ us. AreUses s rows c.add_uses.new.links.classes us) (sym c.deref.ensures.value) (c.in_ok-add_uses.ensures.uses g pats c.args.starts.now) in
-    let still = subst (λ ks. IsStillFor s rows 0 ks c.push_starts.new.queue) (sym c.in_ok-fronts.ensures.spots) (c.in_ok-push_starts.ensures.still g pats c.args.lib.now are) in
-    let horizon = c.in_ok-push_starts.ensures.horizon ∙ c.new-queue.ensures.horizon in
-    subst (λ h. IsStop s rows h c.in_err-settle_all.field-0.0) horizon (c.in_err-settle_all.ensures.settled g pats still uses))
+    let u = c.in_ok-uses.uses in
+    let uses = c.in_ok-uses.ensures.uses g pats c.args.starts.now in
+    let same = c.in_ok-push_starts.ensures.horizon ∙ (c.new-queue.ensures.horizon ∙ sym c.new-coming.ensures.horizon) in
+    let first = first_still s rows u c.new-coming.result c.push_starts.new.queue (c.in_ok-push_starts.ensures.still g pats c.args.lib.now are) c.new-coming.ensures.items same in
+    let still = subst (λ ks. IsStillFor s rows 0 ks (turns_of u c.new-coming.result c.push_starts.new.queue)) (sym c.in_ok-fronts.ensures.spots) first in
+    subst (λ h. IsStop s rows h c.in_err-settle_all.field-0.0) c.new-coming.ensures.horizon (c.in_err-settle_all.ensures.settled g pats still uses))
 
 pub returns-clause-settled : goal.returns-clause-settled
 returns-clause-settled c g pats are =
     let s = task g pats c.args.lib.now c.args.starts.now in
     let rows = plain_rows c.args.rows.now in
-    let uses = subst (λ us. AreUses s rows c.add_uses.new.links.classes us) (sym c.deref.ensures.value) (c.in_ok-add_uses.ensures.uses g pats c.args.starts.now) in
-    let still = subst (λ ks. IsStillFor s rows 0 ks c.push_starts.new.queue) (sym c.in_ok-fronts.ensures.spots) (c.in_ok-push_starts.ensures.still g pats c.args.lib.now are) in
-    let horizon = c.in_ok-push_starts.ensures.horizon ∙ c.new-queue.ensures.horizon in
-    subst (λ h. AreSettled s h rows c.settle_all.new.fronts.spots) horizon (c.in_ok-settle_all.ensures.settled g pats still uses)
+    let u = c.in_ok-uses.uses in
+    let uses = c.in_ok-uses.ensures.uses g pats c.args.starts.now in
+    let same = c.in_ok-push_starts.ensures.horizon ∙ (c.new-queue.ensures.horizon ∙ sym c.new-coming.ensures.horizon) in
+    let first = first_still s rows u c.new-coming.result c.push_starts.new.queue (c.in_ok-push_starts.ensures.still g pats c.args.lib.now are) c.new-coming.ensures.items same in
+    let still = subst (λ ks. IsStillFor s rows 0 ks (turns_of u c.new-coming.result c.push_starts.new.queue)) (sym c.in_ok-fronts.ensures.spots) first in
+    subst (λ h. AreSettled s h rows c.settle_all.new.fronts.spots) c.new-coming.ensures.horizon (c.in_ok-settle_all.ensures.settled g pats still uses)
 
 pub returns-clause-backed : goal.returns-clause-backed
 returns-clause-backed c g pats are =
     let s = task g pats c.args.lib.now c.args.starts.now in
     let rows = plain_rows c.args.rows.now in
-    let uses = subst (λ us. AreUses s rows c.add_uses.new.links.classes us) (sym c.deref.ensures.value) (c.in_ok-add_uses.ensures.uses g pats c.args.starts.now) in
-    let still = subst (λ ks. IsStillFor s rows 0 ks c.push_starts.new.queue) (sym c.in_ok-fronts.ensures.spots) (c.in_ok-push_starts.ensures.still g pats c.args.lib.now are) in
+    let u = c.in_ok-uses.uses in
+    let uses = c.in_ok-uses.ensures.uses g pats c.args.starts.now in
+    let same = c.in_ok-push_starts.ensures.horizon ∙ (c.new-queue.ensures.horizon ∙ sym c.new-coming.ensures.horizon) in
+    let first = first_still s rows u c.new-coming.result c.push_starts.new.queue (c.in_ok-push_starts.ensures.still g pats c.args.lib.now are) c.new-coming.ensures.items same in
+    let still = subst (λ ks. IsStillFor s rows 0 ks (turns_of u c.new-coming.result c.push_starts.new.queue)) (sym c.in_ok-fronts.ensures.spots) first in
     c.in_ok-settle_all.ensures.backed g pats still uses (subst (AreBacked s rows) (sym c.in_ok-fronts.ensures.held) (none_backed s rows))

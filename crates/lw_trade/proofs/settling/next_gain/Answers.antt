@@ -7,76 +7,85 @@ use Rattle.lw_trade.specs.Fronts.{FrontState, IsTried}
 use Rattle.lw_trade.specs.Points.{task}
 use Rattle.lw_trade.specs.Pricing.{IsOfLibrary, IsWithin}
 use Rattle.lw_trade.specs.Rows.{plain_part, plain_row, plain_rows}
-use Rattle.lw_trade.specs.Settling.{Spot, spot, Has, HasAtMost, IsBest, IsGained, IsGaining, IsStill, IsStillFor}
+use Rattle.lw_trade.specs.Settling.{Spot, spot, Has, HasAtMost, IsBest, IsGained, IsGaining, IsStill, IsStillFor, Waits}
 use Rattle.lw_trade.proofs.Backed.{backed_gained, reached_low}
 use Rattle.lw_trade.proofs.Lists.{got}
-use Rattle.lw_trade.proofs.Adding.{taken_waits, taken_less, total_set, row_at}
-use Rattle.lw_trade.proofs.Stepping.{taken_none, taken_had, taken_gained}
+use Rattle.lw_trade.specs.Uses.{turns_of}
+use Rattle.lw_trade.proofs.Adding.{looked_in_time, taken_waits, taken_less, total_set, row_at}
+use Rattle.lw_trade.proofs.Stepping.{had_more, none_more, taken_gained, taken_over}
 use Rattle.lw_trade.proofs.settling.next_gain.Goals as goal
+
+pub take_at-requires-clause-within : goal.take_at-requires-clause-within
+take_at-requires-clause-within c =
+    let (g, pats, st) = c.requires.still in
+    let (are, time, still) = c.loop-number.invariant.still g pats st in
+    omega (arith, c.requires.time, time.horizon)
 
 pub take_at-requires-clause-first : goal.take_at-requires-clause-first
 take_at-requires-clause-first c t n w =
     let (g, pats, st) = c.requires.still in
-    let (are, still) = c.loop-number.invariant.still g pats st in
-    (still.waiting t n w).0
+    let (are, time, still) = c.loop-number.invariant.still g pats st in
+    (time.looked t n w).0
 
 pub bounds-rows-number : goal.bounds-rows-number
 bounds-rows-number c =
     let (g, pats, st) = c.requires.still in
-    let (are, still) = c.loop-number.invariant.still g pats st in
-    let within : c.args.time ≤ c.loop-number.queue.horizon = omega (arith, c.requires.time, c.loop-number.invariant.horizon) in
+    let (are, time, still) = c.loop-number.invariant.still g pats st in
+    let within : c.args.time ≤ c.loop-number.queue.horizon = omega (arith, c.requires.time, time.horizon) in
     let w = taken_waits c.loop-number.queue c.take_at.new.self c.args.time c.in-Some.number within c.in-Some.ensures in
-    omega (arith, (still.waiting c.args.time c.in-Some.number w).1, length-map c.args.rows.now plain_row)
+    omega (arith, (time.looked c.args.time c.in-Some.number w).1, length-map c.args.rows.now plain_row)
 
 pub price-requires-clause-within : goal.price-requires-clause-within
 price-requires-clause-within c =
     let r = c.index-rows-number.result in
     let (g, pats, st) = c.requires.still in
-    let (are, still) = c.loop-number.invariant.still g pats st in
-    let within : c.args.time ≤ c.loop-number.queue.horizon = omega (arith, c.requires.time, c.loop-number.invariant.horizon) in
+    let (are, time, still) = c.loop-number.invariant.still g pats st in
+    let within : c.args.time ≤ c.loop-number.queue.horizon = omega (arith, c.requires.time, time.horizon) in
     let w = taken_waits c.loop-number.queue c.take_at.new.self c.args.time c.in-Some.number within c.in-Some.ensures in
-    let lt : c.in-Some.number < length c.args.rows.now = omega (arith, (still.waiting c.args.time c.in-Some.number w).1, length-map c.args.rows.now plain_row) in
+    let lt : c.in-Some.number < length c.args.rows.now = omega (arith, (time.looked c.args.time c.in-Some.number w).1, length-map c.args.rows.now plain_row) in
     subst₂ (λ (f : FrontState) (q : Row). IsWithin (length f.least) (plain_part q.stand)) (sym c.loop-number.invariant.fronts) (sym c.index-rows-number.is) (c.requires.within c.in-Some.number r lt)
 
 pub price-requires-clause-cell : goal.price-requires-clause-cell
 price-requires-clause-cell c =
     let r = c.index-rows-number.result in
     let (g, pats, st) = c.requires.still in
-    let (are, still) = c.loop-number.invariant.still g pats st in
-    let within : c.args.time ≤ c.loop-number.queue.horizon = omega (arith, c.requires.time, c.loop-number.invariant.horizon) in
+    let (are, time, still) = c.loop-number.invariant.still g pats st in
+    let within : c.args.time ≤ c.loop-number.queue.horizon = omega (arith, c.requires.time, time.horizon) in
     let w = taken_waits c.loop-number.queue c.take_at.new.self c.args.time c.in-Some.number within c.in-Some.ensures in
-    let lt : c.in-Some.number < length c.args.rows.now = omega (arith, (still.waiting c.args.time c.in-Some.number w).1, length-map c.args.rows.now plain_row) in
+    let lt : c.in-Some.number < length c.args.rows.now = omega (arith, (time.looked c.args.time c.in-Some.number w).1, length-map c.args.rows.now plain_row) in
     subst (λ (q : Row). IsOfLibrary c.args.lib.now (plain_part q.stand)) (sym c.index-rows-number.is) (c.requires.of_library c.in-Some.number r lt)
 
 pub loop-number-smaller-in_default-price : goal.loop-number-smaller-in_default-price
 loop-number-smaller-in_default-price c =
-    let within : c.args.time ≤ c.loop-number.queue.horizon = omega (arith, c.requires.time, c.loop-number.invariant.horizon) in
+    let (g, pats, st) = c.requires.still in
+    let (are, time, still) = c.loop-number.invariant.still g pats st in
+    let within : c.args.time ≤ c.loop-number.queue.horizon = omega (arith, c.requires.time, time.horizon) in
     taken_less c.loop-number.queue c.take_at.new.self c.args.time c.in-Some.number within c.in-Some.ensures
 
 pub loop-number-preserved-in_default-price : goal.loop-number-preserved-in_default-price
 loop-number-preserved-in_default-price c = record {
   fronts = c.loop-number.invariant.fronts;
-  horizon = c.in-Some.ensures.0 ∙ c.loop-number.invariant.horizon;
   still = λ g pats st.
       let s = task g pats c.args.lib.now c.args.starts.now in
       let r = c.index-rows-number.result in
-      let (are, still) = c.loop-number.invariant.still g pats st in
-      let within : c.args.time ≤ c.loop-number.queue.horizon = omega (arith, c.requires.time, c.loop-number.invariant.horizon) in
+      let (are, time, still) = c.loop-number.invariant.still g pats st in
+      let within : c.args.time ≤ c.loop-number.queue.horizon = omega (arith, c.requires.time, time.horizon) in
       let w = taken_waits c.loop-number.queue c.take_at.new.self c.args.time c.in-Some.number within c.in-Some.ensures in
-      let lt : c.in-Some.number < length c.args.rows.now = omega (arith, (still.waiting c.args.time c.in-Some.number w).1, length-map c.args.rows.now plain_row) in
+      let lt : c.in-Some.number < length c.args.rows.now = omega (arith, (time.looked c.args.time c.in-Some.number w).1, length-map c.args.rows.now plain_row) in
       let at = row_at c.args.rows.now c.in-Some.number r lt c.index-rows-number.is in
       let best = subst (λ (f : FrontState). IsBest s f.spots (plain_part r.stand) c.args.time None) c.loop-number.invariant.fronts (c.in_default-price.ensures.best g pats) in
-      (are, taken_none s (plain_rows c.args.rows.now) c.args.time c.in-Some.number c.args.fronts.now.spots c.loop-number.queue c.take_at.new.self (plain_row r) within still c.in-Some.ensures at best);
+      let intime = looked_in_time c.args.time (length (plain_rows c.args.rows.now)) (turns_of c.args.uses.now c.args.coming.now c.loop-number.queue) time c.take_at.new.self c.in-Some.number within c.in-Some.ensures in
+      (are, intime, taken_over s (plain_rows c.args.rows.now) c.args.time c.in-Some.number c.args.fronts.now.spots (turns_of c.args.uses.now c.args.coming.now c.loop-number.queue) c.take_at.new.self within still c.in-Some.ensures (none_more s (plain_rows c.args.rows.now) c.args.fronts.now.spots c.args.time c.in-Some.number (plain_row r) at best));
 }
 
 pub gain-requires-clause-class : goal.gain-requires-clause-class
 gain-requires-clause-class c =
     let r = c.index-rows-number.result in
     let (g, pats, st) = c.requires.still in
-    let (are, still) = c.loop-number.invariant.still g pats st in
-    let within : c.args.time ≤ c.loop-number.queue.horizon = omega (arith, c.requires.time, c.loop-number.invariant.horizon) in
+    let (are, time, still) = c.loop-number.invariant.still g pats st in
+    let within : c.args.time ≤ c.loop-number.queue.horizon = omega (arith, c.requires.time, time.horizon) in
     let w = taken_waits c.loop-number.queue c.take_at.new.self c.args.time c.in-Some.number within c.in-Some.ensures in
-    let lt : c.in-Some.number < length c.args.rows.now = omega (arith, (still.waiting c.args.time c.in-Some.number w).1, length-map c.args.rows.now plain_row) in
+    let lt : c.in-Some.number < length c.args.rows.now = omega (arith, (time.looked c.args.time c.in-Some.number w).1, length-map c.args.rows.now plain_row) in
     subst₂ (λ (f : FrontState) (q : Row). q.class.0 < length f.least) (sym c.loop-number.invariant.fronts) (sym c.index-rows-number.is) (c.requires.classes c.in-Some.number r lt)
 
 pub gain-requires-clause-area : goal.gain-requires-clause-area
@@ -85,7 +94,7 @@ gain-requires-clause-area c = c.in-Some-price.ensures.low
 pub gain-requires-clause-late : goal.gain-requires-clause-late
 gain-requires-clause-late c k has =
     let (g, pats, st) = c.requires.still in
-    let (are, still) = c.loop-number.invariant.still g pats st in
+    let (are, time, still) = c.loop-number.invariant.still g pats st in
     still.low k (subst (λ (f : FrontState). Has f.spots k) c.loop-number.invariant.fronts has)
 
 pub returns-in_err-gain-clause-count : goal.returns-in_err-gain-clause-count
@@ -95,24 +104,25 @@ pub returns-then-branch-clause-gain : goal.returns-then-branch-clause-gain
 returns-then-branch-clause-gain c g pats st =
     let s = task g pats c.args.lib.now c.args.starts.now in
     let r = c.index-rows-number.result in
-    let (are, still) = c.loop-number.invariant.still g pats st in
-    let within : c.args.time ≤ c.loop-number.queue.horizon = omega (arith, c.requires.time, c.loop-number.invariant.horizon) in
+    let (are, time, still) = c.loop-number.invariant.still g pats st in
+    let within : c.args.time ≤ c.loop-number.queue.horizon = omega (arith, c.requires.time, time.horizon) in
     let w = taken_waits c.loop-number.queue c.take_at.new.self c.args.time c.in-Some.number within c.in-Some.ensures in
-    let lt : c.in-Some.number < length c.args.rows.now = omega (arith, (still.waiting c.args.time c.in-Some.number w).1, length-map c.args.rows.now plain_row) in
+    let lt : c.in-Some.number < length c.args.rows.now = omega (arith, (time.looked c.args.time c.in-Some.number w).1, length-map c.args.rows.now plain_row) in
     let at = row_at c.args.rows.now c.in-Some.number r lt c.index-rows-number.is in
     let best = subst (λ (f : FrontState). IsBest s f.spots (plain_part r.stand) c.args.time (Some c.in-Some-price.area)) c.loop-number.invariant.fronts (c.in-Some-price.ensures.best g pats) in
     let tried = subst (IsTried c.loop-number.fronts c.gain.new.self (spot r.class.0 c.args.time c.in-Some-price.area) c.in-Some.number) c.if-branch.true c.in_ok-gain.ensures.tried in
     let gained = subst (λ (f : FrontState). IsGained f.spots c.gain.new.self.spots (spot r.class.0 c.args.time c.in-Some-price.area)) c.loop-number.invariant.fronts tried.0 in
-    (are, taken_gained s (plain_rows c.args.rows.now) c.args.time c.in-Some.number c.args.fronts.now.spots c.loop-number.queue c.take_at.new.self (plain_row r) within still c.in-Some.ensures at are c.in-Some-price.area c.gain.new.self.spots best gained)
+    let intime = looked_in_time c.args.time (length (plain_rows c.args.rows.now)) (turns_of c.args.uses.now c.args.coming.now c.loop-number.queue) time c.take_at.new.self c.in-Some.number within c.in-Some.ensures in
+    (are, intime, taken_gained s (plain_rows c.args.rows.now) c.args.time c.in-Some.number c.args.fronts.now.spots (turns_of c.args.uses.now c.args.coming.now c.loop-number.queue) c.take_at.new.self within still c.in-Some.ensures (plain_row r) at are c.in-Some-price.area c.gain.new.self.spots best gained)
 
 pub returns-then-branch-clause-falls : goal.returns-then-branch-clause-falls
 returns-then-branch-clause-falls c =
     let r = c.index-rows-number.result in
     let (g, pats, st) = c.requires.still in
-    let (are, still) = c.loop-number.invariant.still g pats st in
-    let within : c.args.time ≤ c.loop-number.queue.horizon = omega (arith, c.requires.time, c.loop-number.invariant.horizon) in
+    let (are, time, still) = c.loop-number.invariant.still g pats st in
+    let within : c.args.time ≤ c.loop-number.queue.horizon = omega (arith, c.requires.time, time.horizon) in
     let w = taken_waits c.loop-number.queue c.take_at.new.self c.args.time c.in-Some.number within c.in-Some.ensures in
-    let lt : c.in-Some.number < length c.args.rows.now = omega (arith, (still.waiting c.args.time c.in-Some.number w).1, length-map c.args.rows.now plain_row) in
+    let lt : c.in-Some.number < length c.args.rows.now = omega (arith, (time.looked c.args.time c.in-Some.number w).1, length-map c.args.rows.now plain_row) in
     let in' = subst (λ (q : Row). q.class.0 < length c.args.fronts.now.least) (sym c.index-rows-number.is) (c.requires.classes c.in-Some.number r lt) in
     let tried = subst (IsTried c.loop-number.fronts c.gain.new.self (spot r.class.0 c.args.time c.in-Some-price.area) c.in-Some.number) c.if-branch.true c.in_ok-gain.ensures.tried in
     let tried' = subst (λ f. IsTried f c.gain.new.self (spot r.class.0 c.args.time c.in-Some-price.area) c.in-Some.number true) c.loop-number.invariant.fronts tried in
@@ -122,7 +132,9 @@ returns-then-branch-clause-falls c =
 
 pub loop-number-smaller : goal.loop-number-smaller
 loop-number-smaller c =
-    let within : c.args.time ≤ c.loop-number.queue.horizon = omega (arith, c.requires.time, c.loop-number.invariant.horizon) in
+    let (g, pats, st) = c.requires.still in
+    let (are, time, still) = c.loop-number.invariant.still g pats st in
+    let within : c.args.time ≤ c.loop-number.queue.horizon = omega (arith, c.requires.time, time.horizon) in
     taken_less c.loop-number.queue c.take_at.new.self c.args.time c.in-Some.number within c.in-Some.ensures
 
 pub loop-number-preserved : goal.loop-number-preserved
@@ -131,36 +143,37 @@ loop-number-preserved c =
     let tried = subst (IsTried c.loop-number.fronts c.gain.new.self (spot r.class.0 c.args.time c.in-Some-price.area) c.in-Some.number) c.if-branch.false c.in_ok-gain.ensures.tried in
     record {
       fronts = tried.0 ∙ c.loop-number.invariant.fronts;
-      horizon = c.in-Some.ensures.0 ∙ c.loop-number.invariant.horizon;
       still = λ g pats st.
           let s = task g pats c.args.lib.now c.args.starts.now in
-          let (are, still) = c.loop-number.invariant.still g pats st in
-          let within : c.args.time ≤ c.loop-number.queue.horizon = omega (arith, c.requires.time, c.loop-number.invariant.horizon) in
+          let (are, time, still) = c.loop-number.invariant.still g pats st in
+          let within : c.args.time ≤ c.loop-number.queue.horizon = omega (arith, c.requires.time, time.horizon) in
           let w = taken_waits c.loop-number.queue c.take_at.new.self c.args.time c.in-Some.number within c.in-Some.ensures in
-          let lt : c.in-Some.number < length c.args.rows.now = omega (arith, (still.waiting c.args.time c.in-Some.number w).1, length-map c.args.rows.now plain_row) in
+          let lt : c.in-Some.number < length c.args.rows.now = omega (arith, (time.looked c.args.time c.in-Some.number w).1, length-map c.args.rows.now plain_row) in
           let at = row_at c.args.rows.now c.in-Some.number r lt c.index-rows-number.is in
           let best = subst (λ (f : FrontState). IsBest s f.spots (plain_part r.stand) c.args.time (Some c.in-Some-price.area)) c.loop-number.invariant.fronts (c.in-Some-price.ensures.best g pats) in
           let had = subst (λ (f : FrontState). HasAtMost f.spots r.class.0 c.args.time c.in-Some-price.area) c.loop-number.invariant.fronts tried.1 in
-          (are, taken_had s (plain_rows c.args.rows.now) c.args.time c.in-Some.number c.args.fronts.now.spots c.loop-number.queue c.take_at.new.self (plain_row r) within still c.in-Some.ensures at c.in-Some-price.area best had);
+          let intime = looked_in_time c.args.time (length (plain_rows c.args.rows.now)) (turns_of c.args.uses.now c.args.coming.now c.loop-number.queue) time c.take_at.new.self c.in-Some.number within c.in-Some.ensures in
+          (are, intime, taken_over s (plain_rows c.args.rows.now) c.args.time c.in-Some.number c.args.fronts.now.spots (turns_of c.args.uses.now c.args.coming.now c.loop-number.queue) c.take_at.new.self within still c.in-Some.ensures (had_more s (plain_rows c.args.rows.now) c.args.fronts.now.spots c.args.time c.in-Some.number c.in-Some-price.area (plain_row r) at best had));
     }
 
 pub returns-clause-gain : goal.returns-clause-gain
 returns-clause-gain c g pats st =
     let s = task g pats c.args.lib.now c.args.starts.now in
-    let (are, still) = c.loop-number.invariant.still g pats st in
+    let now = c.loop-number.invariant.still g pats st in
     let (same, over) = c.in_default.ensures in
-    let here = subst (λ (f : FrontState). IsStill s (plain_rows c.args.rows.now) c.args.time f.spots c.loop-number.queue) (sym c.loop-number.invariant.fronts) still in
-    ((are, subst (λ q. IsStill s (plain_rows c.args.rows.now) c.args.time c.loop-number.fronts.spots q) (sym same) here), subst (λ q. (t n : _) → Rattle.lw_trade.specs.Settling.Waits q t n → c.args.time < t) (sym same) over)
+    let here = subst (λ (f : FrontState). IsStillFor s (plain_rows c.args.rows.now) c.args.time f.spots (turns_of c.args.uses.now c.args.coming.now c.loop-number.queue)) (sym c.loop-number.invariant.fronts) now in
+    let here' = subst (λ q. IsStillFor s (plain_rows c.args.rows.now) c.args.time c.loop-number.fronts.spots (turns_of c.args.uses.now c.args.coming.now q)) (sym same) here in
+    (here', (subst (λ q. (t n : _) → Waits q t n → c.args.time < t) (sym same) over, c.requires.over))
 
 pub returns-then-branch-clause-backed : goal.returns-then-branch-clause-backed
 returns-then-branch-clause-backed c g pats st backed =
     let s = task g pats c.args.lib.now c.args.starts.now in
     let r = c.index-rows-number.result in
     let old = c.args.fronts.now in
-    let (are, still) = c.loop-number.invariant.still g pats st in
-    let within : c.args.time ≤ c.loop-number.queue.horizon = omega (arith, c.requires.time, c.loop-number.invariant.horizon) in
+    let (are, time, still) = c.loop-number.invariant.still g pats st in
+    let within : c.args.time ≤ c.loop-number.queue.horizon = omega (arith, c.requires.time, time.horizon) in
     let w = taken_waits c.loop-number.queue c.take_at.new.self c.args.time c.in-Some.number within c.in-Some.ensures in
-    let lt : c.in-Some.number < length c.args.rows.now = omega (arith, (still.waiting c.args.time c.in-Some.number w).1, length-map c.args.rows.now plain_row) in
+    let lt : c.in-Some.number < length c.args.rows.now = omega (arith, (time.looked c.args.time c.in-Some.number w).1, length-map c.args.rows.now plain_row) in
     let at = row_at c.args.rows.now c.in-Some.number r lt c.index-rows-number.is in
     let best = subst (λ (f : FrontState). IsBest s f.spots (plain_part r.stand) c.args.time (Some c.in-Some-price.area)) c.loop-number.invariant.fronts (c.in-Some-price.ensures.best g pats) in
     let tried = subst (IsTried c.loop-number.fronts c.gain.new.self (spot r.class.0 c.args.time c.in-Some-price.area) c.in-Some.number) c.if-branch.true c.in_ok-gain.ensures.tried in

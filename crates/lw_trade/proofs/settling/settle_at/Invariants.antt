@@ -6,15 +6,15 @@ use Rattle.lw_trade.specs.Backing.{AreBacked}
 use Rattle.lw_trade.specs.Points.{task}
 use Rattle.lw_trade.specs.Rows.{plain_rows}
 use Rattle.lw_trade.specs.Settling.{IsStillFor}
-use Rattle.lw_trade.specs.Uses.{AreUses}
+use Rattle.lw_trade.specs.Uses.{AreUses, turns_of}
 use Rattle.lw_trade.proofs.settling.settle_at.Given as goal
 
 abbrev pub invariant-loop-class : goal.invariant-loop-class
 invariant-loop-class l = record {
   count : length l.fronts.least ≡ length l.initial.fronts.least;
-  horizon : l.queue.horizon ≡ l.initial.queue.horizon;
-  still : (g : Graph) (pats : List Pattern) → IsStillFor (task g pats l.lib l.starts) (plain_rows l.rows) l.time l.initial.fronts.spots l.initial.queue → AreUses (task g pats l.lib l.starts) (plain_rows l.rows) l.links.classes l.uses → IsStillFor (task g pats l.lib l.starts) (plain_rows l.rows) l.time l.fronts.spots l.queue;
-  backed : (g : Graph) (pats : List Pattern) → IsStillFor (task g pats l.lib l.starts) (plain_rows l.rows) l.time l.initial.fronts.spots l.initial.queue → AreUses (task g pats l.lib l.starts) (plain_rows l.rows) l.links.classes l.uses → AreBacked (task g pats l.lib l.starts) (plain_rows l.rows) l.initial.fronts.held → AreBacked (task g pats l.lib l.starts) (plain_rows l.rows) l.fronts.held;
+  horizon : l.coming.horizon ≡ l.initial.coming.horizon;
+  still : (g : Graph) (pats : List Pattern) → IsStillFor (task g pats l.lib l.starts) (plain_rows l.rows) l.time l.initial.fronts.spots (turns_of l.uses l.initial.coming l.initial.queue) → AreUses (task g pats l.lib l.starts) (plain_rows l.rows) l.uses → IsStillFor (task g pats l.lib l.starts) (plain_rows l.rows) l.time l.fronts.spots (turns_of l.uses l.coming l.queue);
+  backed : (g : Graph) (pats : List Pattern) → IsStillFor (task g pats l.lib l.starts) (plain_rows l.rows) l.time l.initial.fronts.spots (turns_of l.uses l.initial.coming l.initial.queue) → AreUses (task g pats l.lib l.starts) (plain_rows l.rows) l.uses → AreBacked (task g pats l.lib l.starts) (plain_rows l.rows) l.initial.fronts.held → AreBacked (task g pats l.lib l.starts) (plain_rows l.rows) l.fronts.held;
 }
 
 abbrev pub decreases-loop-class : goal.decreases-loop-class

@@ -26,4 +26,4 @@ loop-number-preserved c =
 pub returns-clause-still : goal.returns-clause-still
 returns-clause-still c g pats cells are =
     let n : c.loop-number.number ≡ length c.args.rows.now = omega (arith, c.loop-number-test.false, c.loop-number.auto.number-end) in
-    (are, started_all (task g pats cells c.args.starts.now) c.args.rows.now c.loop-number.number c.loop-number.queue n c.loop-number.invariant.started)
+    started_all (task g pats cells c.args.starts.now) c.args.rows.now c.loop-number.number c.loop-number.queue n c.loop-number.invariant.started are

@@ -23,13 +23,13 @@ add_pins-requires-clause-one_each c =
 
 pub add_pins-requires-clause-within : goal.add_pins-requires-clause-within
 add_pins-requires-clause-within c =
-    let within = subst (λ (st : Stand). IsWithin c.args.links.now.count (plain_part st)) c.in-Gate.is c.requires.within in
-    within_pins c.args.links.now.count c.as_slice.result.now (subst (λ ps. AllByRecursion (λ p. p < c.args.links.now.count) (numbers ps)) (sym c.as_slice.ensures.classes) within)
+    let within = subst (λ (st : Stand). IsWithin c.args.uses.now.links.count (plain_part st)) c.in-Gate.is c.requires.within in
+    within_pins c.args.uses.now.links.count c.as_slice.result.now (subst (λ ps. AllByRecursion (λ p. p < c.args.uses.now.links.count) (numbers ps)) (sym c.as_slice.ensures.classes) within)
 
 pub returns-in-Input-clause-uses : goal.returns-in-Input-clause-uses
 returns-in-Input-clause-uses c g pats starts xs at are =
     let here = at ∙ ap (λ (st : Stand). Some (record { class = c.args.row.now.class.0; part = plain_part st })) c.in-Input.is in
-    input_used (task g pats c.args.lib.now starts) xs c.args.choice _ c.args.row.now.class.0 c.args.links.now.classes c.args.uses.now.items here are
+    input_used (task g pats c.args.lib.now starts) xs c.args.choice _ c.args.row.now.class.0 c.args.uses.now here are
 
 pub returns-in_ok-add_pins-in-Gate-clause-uses : goal.returns-in_ok-add_pins-in-Gate-clause-uses
 returns-in_ok-add_pins-in-Gate-clause-uses c g pats starts xs at are =
@@ -39,4 +39,4 @@ returns-in_ok-add_pins-in-Gate-clause-uses c g pats starts xs at are =
     let here' = subst (λ ps. slice_get xs c.args.choice ≡ Some (record { class = c.args.row.now.class.0; part = gate gate'.cell.0 (numbers ps) })) (sym c.as_slice.ensures.classes) here in
     let delays = delays_are c.args.lib.now gate'.cell.0 c.cell.result.now c.cell.ensures ∙ ap (map millionths) (sym c.delays-delays.ensures.delays) in
     let all = c.in_ok-add_pins-in-Gate.ensures.uses s xs c.args.row.now.class.0 gate'.cell.0 here' delays are in
-    choice_used s xs c.args.choice (length c.as_slice.result.now) gate'.cell.0 c.args.row.now.class.0 (numbers c.as_slice.result.now) c.add_pins.new.links.classes c.add_pins.new.uses.items here' (length-map c.as_slice.result.now (λ (p : ClassId). p.0)) all
+    choice_used s xs c.args.choice (length c.as_slice.result.now) gate'.cell.0 c.args.row.now.class.0 (numbers c.as_slice.result.now) c.add_pins.new.uses here' (length-map c.as_slice.result.now (λ (p : ClassId). p.0)) all

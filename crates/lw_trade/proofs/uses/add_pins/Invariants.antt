@@ -5,11 +5,12 @@ use Rattle.lw_match.specs.Values.{numbers}
 use Rattle.lw_trade.specs.Choices.{Choice}
 use Rattle.lw_trade.specs.Choices.Part.{gate}
 use Rattle.lw_trade.specs.Points.{Task, timing}
-use Rattle.lw_trade.specs.Uses.{AreUsesTo}
+use Rattle.lw_trade.specs.Uses.{AreGroups, AreUsesTo}
 use Rattle.lw_trade.proofs.uses.add_pins.Given as goal
 
 abbrev pub invariant-loop-pin : goal.invariant-loop-pin
 invariant-loop-pin l = record {
-  count : l.links.count ≡ l.initial.links.count;
-  uses : (s : Task) (xs : List Choice) (c cell : ℕ) → slice_get xs l.choice ≡ Some (record { class = c; part = gate cell (numbers l.pins) }) → delays_of (timing s).delays cell ≡ map millionths l.delays → AreUsesTo s xs l.choice 0 l.initial.links.classes l.initial.uses.items → AreUsesTo s xs l.choice l.pin l.links.classes l.uses.items;
+  count : l.uses.links.count ≡ l.initial.uses.links.count;
+  are : AreGroups l.uses;
+  uses : (s : Task) (xs : List Choice) (c cell : ℕ) → slice_get xs l.choice ≡ Some (record { class = c; part = gate cell (numbers l.pins) }) → delays_of (timing s).delays cell ≡ map millionths l.delays → AreUsesTo s xs l.choice 0 l.initial.uses → AreUsesTo s xs l.choice l.pin l.uses;
 }
