@@ -70,12 +70,49 @@ fn area_by(links: &Links, points: &[Found], class: ClassId, time: u64) -> Option
         return None;
     };
     while points[place as usize].time.0 > time {
+        let jump = points[place as usize].jump;
+        if jump < place && links.class(jump).0 == class.0 && points[jump as usize].time.0 > time {
+            place = jump;
+            continue;
+        }
         let Some(before) = links.before(place) else {
             return None;
         };
         place = before;
     }
     Some(points[place as usize].area)
+}
+
+// How many points of a class are before a new one, and the place of one of them: from one to the
+// next a search leaves out about half of those that are left.
+fn jump_for(links: &Links, points: &[Found], class: ClassId, time: u64) -> (u32, u32)
+    requires class { class.0 < links.now.count }
+    requires one_each { length points.now ≡ length links.now.classes }
+{
+    let Some(last) = links.last(class) else {
+        return (0, u32::MAX);
+    };
+    let point = points[last as usize];
+    if point.time.0 == time {
+        return (point.depth, point.jump);
+    }
+    let depth = point.depth.saturating_add(1);
+    if point.jump as usize >= points.len() {
+        return (depth, last);
+    }
+    let near = points[point.jump as usize];
+    if near.jump as usize >= points.len() {
+        return (depth, last);
+    }
+    let far = points[near.jump as usize];
+    let (one, other) = (
+        point.depth.saturating_sub(near.depth),
+        near.depth.saturating_sub(far.depth),
+    );
+    if one == other {
+        return (depth, near.jump);
+    }
+    (depth, last)
 }
 
 // Puts a point of a class behind all, or in place of the last one of the class where that is of the
@@ -232,11 +269,14 @@ impl Fronts {
         if self.gains == u64::MAX {
             return Err(AllocError);
         }
+        let (depth, jump) = jump_for(&self.links, self.points.as_slice(), class, time);
         let found = Found {
             time: Micro(time),
             area,
             order: self.gains,
             choice,
+            depth,
+            jump,
         };
         put(&mut self.links, &mut self.points, class, found)?;
         self.gains += 1;

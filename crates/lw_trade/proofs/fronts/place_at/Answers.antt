@@ -9,7 +9,7 @@ returns-in_default-clause-none c = none_before c.args.links.now.classes c.args.p
 
 pub returns-then-points-place-clause-some : goal.returns-then-points-place-clause-some
 returns-then-points-place-clause-some c =
-    let d : Found = record { time = record { 0 = 0 }; area = 0; order = 0; choice = 0 } in
+    let d : Found = record { time = record { 0 = 0 }; area = 0; order = 0; choice = 0; depth = 0; jump = 0 } in
     let points = c.args.points.now in
     let place = c.in-Some.place in
     let lt : place < length points = omega (arith, c.in-Some.ensures.0, c.requires.one_each) in
@@ -17,7 +17,7 @@ returns-then-points-place-clause-some c =
 
 pub returns-clause-none : goal.returns-clause-none
 returns-clause-none c =
-    let d : Found = record { time = record { 0 = 0 }; area = 0; order = 0; choice = 0 } in
+    let d : Found = record { time = record { 0 = 0 }; area = 0; order = 0; choice = 0; depth = 0; jump = 0 } in
     let points = c.args.points.now in
     let place = c.in-Some.place in
     let lt : place < length points = omega (arith, c.in-Some.ensures.0, c.requires.one_each) in

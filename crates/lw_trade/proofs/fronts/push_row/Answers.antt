@@ -27,7 +27,7 @@ loop-next-smaller c =
 
 pub loop-next-preserved : goal.loop-next-preserved
 loop-next-preserved c =
-    let d : Found = record { time = record { 0 = 0 }; area = 0; order = 0; choice = 0 } in
+    let d : Found = record { time = record { 0 = 0 }; area = 0; order = 0; choice = 0; depth = 0; jump = 0 } in
     let place = c.in-Some.place in
     let classes = c.args.links.now.classes in
     let points = c.args.points.now in
