@@ -6,8 +6,8 @@
 #   sh bench/check.sh [CIRCUIT..]
 #
 # LIBS names the libraries (tiny, mcnc, rich by default), OPTIONS the options of both (none by default, or as '-w 4'), LIMIT the
-# seconds that a run may take (60), RUNS how often each is run; the least time counts, and for the ratio a time below the 10 ms
-# of the clock as 10. The program is the one that release/program.sh finds.
+# seconds that a run may take (60), RUNS how often each is run (3); the least time counts. The program is the one that
+# release/program.sh finds.
 set -eu
 root=$(dirname -- "$(dirname -- "$(readlink -f -- "$0")")")
 program=$(sh "$root/release/program.sh") || exit 1
@@ -36,7 +36,7 @@ for library in ${LIBS:-tiny mcnc rich}; do
         cp "$room/out" "$room/mapped"
         # shellcheck disable=SC2086
         least "$program" check $options "$lib" "$network" "$room/mapped" || { echo "| $circuit | $map | over $limit s, or refused: $(cat "$room/err") | | | | | |" && continue; }
-        ratio=$(awk -v a="$best" -v b="$map" 'BEGIN { if (b < 10) b = 10; if (a < 10) a = 10; printf "%.2f", a / b }')
+        ratio=$(awk -v a="$best" -v b="$map" 'BEGIN { printf "%.2f", a / b }')
         echo "$ratio" >>"$room/ratios"
         bytes=$(wc -c <"$room/mapped") && certificate=$(grep '^#@' "$room/mapped" | wc -c)
         echo "| $circuit | $map | $best | $ratio | $map_memory | $memory | $bytes | $certificate |"

@@ -7,8 +7,7 @@
 #   sh bench/circuits.sh [-e] [CIRCUIT..]
 #
 # LIBS names the libraries (tiny, mcnc, rich by default), LIMIT the seconds that a run may take (60), RUNS how often each
-# is run; the least time counts, and for the ratio a time below the 10 ms of the clock as 10. The program is the one
-# that release/program.sh finds.
+# is run (3); the least time counts. The program is the one that release/program.sh finds.
 set -eu
 root=$(dirname -- "$(dirname -- "$(readlink -f -- "$0")")")
 program=$(sh "$root/release/program.sh") || exit 1
@@ -54,7 +53,7 @@ for library in ${LIBS:-tiny mcnc rich}; do
         if [ -n "$abc" ] && heard "$abc" -q "read_genlib $room/flat; read_blif $network; strash; map; write_blif $room/abc.blif"; then
             theirs=$best
             their_delay=$(python3 "$bench/timing.py" -s "$lib" "$room/abc.blif" | awk '{ print $1 }')
-            ratio=$(awk -v a="$ours" -v b="$theirs" 'BEGIN { if (b < 10) b = 10; if (a < 10) a = 10; printf "%.2f", a / b }')
+            ratio=$(awk -v a="$ours" -v b="$theirs" 'BEGIN { printf "%.3f", a / b }')
             echo "$ratio" >>"$room/ratios"
         fi
         echo "| $circuit | $ours | $held | $delay | $gates | $theirs | $their_delay | $ratio |"
@@ -64,5 +63,5 @@ for library in ${LIBS:-tiny mcnc rich}; do
             grep -q 'are equivalent' "$room/verdict" || { echo "circuits: $circuit with $library is not equivalent:" >&2 && cat "$room/verdict" >&2 && exit 1; }
         fi
     done
-    awk -v library="$library" '{ sum += log($1); n++ } END { if (n) printf "geometric mean of the ratios with %s: %.2f over %d circuits\n\n", library, exp(sum / n), n }' "$room/ratios"
+    awk -v library="$library" '{ sum += log($1); n++; if ($1 > 1) slower++ } END { if (n) printf "geometric mean of the ratios with %s: %.3f over %d circuits, %d of them slower\n\n", library, exp(sum / n), n, slower }' "$room/ratios"
 done

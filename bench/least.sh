@@ -1,14 +1,12 @@
 # Read by the scripts beside it, which set 'runs' and 'room', and 'limit' or 'program': the least processor time of some runs
-# goes to 'best', in milliseconds, and the most memory to 'memory', in megabytes. What a run writes is left in the room.
+# goes to 'best', in milliseconds with two decimals, and the most memory to 'memory', in megabytes. One run more comes first,
+# which tells the memory, and whose writing is left in the room.
 # shellcheck shell=sh disable=SC2034,SC2154
 least() { # COMMAND..
     best= && memory=0
-    for _ in $(seq "$runs"); do
-        timeout "$limit" /usr/bin/time -f '%U %S %M' -o "$room/took" "$@" >"$room/out" 2>"$room/err" || return
-        took=$(awk '{ printf "%d", ($1 + $2) * 1000 }' "$room/took")
-        memory=$(awk '{ printf "%d", $3 / 1024 }' "$room/took")
-        if [ -z "$best" ] || [ "$took" -lt "$best" ]; then best=$took; fi
-    done
+    timeout "$limit" /usr/bin/time -f '%M' -o "$room/took" "$@" >"$room/out" 2>"$room/err" || return
+    memory=$(awk '{ printf "%d", $1 / 1024 }' "$room/took")
+    best=$(python3 "$root/bench/took.py" "$runs" "$@")
 }
 
 # The same of a run of 'program' that has to end with a status: the least time in milliseconds goes to 'best', the most memory in

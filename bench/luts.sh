@@ -12,8 +12,8 @@
 # FRONTS names the front ends, by the names of bench/fronts.sh, or as 'dch;if6', which is the network of ABC's 'dch; if -K 6'.
 #
 # All depths are those of bench/tables.py, for ABC's networks too. OPTIONS are the options of 'lut' (none by default, or as
-# '-w 4'), LIMIT the seconds that a run may take (60), RUNS how often each is run; the least time counts, and for the ratio a time
-# below the 10 ms of the clock as 10. The program is the one that release/program.sh finds.
+# '-w 4'), LIMIT the seconds that a run may take (60), RUNS how often each is run (3); the least time counts. The program is the
+# one that release/program.sh finds.
 set -eu
 root=$(dirname -- "$(dirname -- "$(readlink -f -- "$0")")")
 program=$(sh "$root/release/program.sh") || exit 1
@@ -120,8 +120,7 @@ echo "|---|---|---|---|---|---|---|---|---|---|---|"
 : >"$room/ratios"
 for circuit; do given_row "$circuit"; done
 awk '
-    function clocked(ms) { return ms < 10 ? 10 : ms }
-    { n[$1]++; times[$1] += log(clocked($4) / clocked($5)) }
+    { n[$1]++; times[$1] += log($4 / $5) }
     $2 > 0 && $3 > 0 { m[$1]++; depths[$1] += log($2 / $3) }
     END {
         if (NR) print ""
