@@ -1,7 +1,8 @@
 // What pins cost less than their cells: guesses, and tests of whether they may be trusted.
-ghost use Rattle.std.specs.Prelude.{◌≡◌, ◌<◌, ◌≤◌, ℕ, IsTrue, replicate, slice_index, slice_set};
+ghost use Rattle.std.specs.Prelude.{◌≡◌, ◌<◌, ◌≤◌, ℕ, IsTrue, length, replicate, slice_index, slice_set};
 ghost use Rattle.lw_laws.specs.Covers.{HasPins};
 ghost use Rattle.lw_pattern.specs.Listed.{IsKept};
+ghost use Rattle.lw_match.specs.Cutting.{IsCertifiedBy};
 ghost use Rattle.lw_match.specs.Least.{AreOfCells};
 ghost use Rattle.lw_match.specs.Searching.{IsCertified};
 ghost use Rattle.lw_match.specs.Shapes.{gaps_of};
@@ -64,6 +65,24 @@ pub(crate) fn is_certified<C: Cost>(
         }
     }
     true
+}
+
+/// Whether the gaps of a pattern's pins are certified at a number.
+pub(crate) fn is_certified_by<C: Cost>(
+    pats: &Patterns,
+    cost: &C,
+    gaps: &[[u64; 16]],
+    pat: PatId,
+    top: u64,
+) -> bool
+    requires of_cells { AreOfCells (C.costs cost.now).pin_counts pats.now }
+    requires pat { pat.0 < length pats.now }
+    ensures { IsTrue result → IsCertifiedBy (C.costs cost.now) pats.now gaps.now pat.0 top }
+{
+    let pattern = pats.get(pat);
+    let pins = pin_count(pattern.nodes.as_slice());
+    let own = gaps_at(gaps, pat);
+    is_certified(cost, pattern.cell, pins, own, top)
 }
 
 // The gap of each pin of a cell, guessed from what the cell costs by the pin alone. Nothing rests

@@ -1,14 +1,13 @@
 // Numbers at which the gaps of all patterns may be trusted, remembered over many searches.
-ghost use Rattle.std.specs.Prelude.{◌≡◌, ◌<◌, ◌≢◌, IsTrue, List, ℕ};
+ghost use Rattle.std.specs.Prelude.{◌≡◌, ◌<◌, ◌≢◌, IsTrue, List, ℕ, length};
 ghost use Rattle.lw_laws.specs.Costs.{Cost as PlainCost};
 ghost use Rattle.lw_laws.specs.Covers.{Pattern as TreeOfCell};
 ghost use Rattle.lw_match.specs.Least.{AreOfCells};
 ghost use Rattle.lw_match.specs.Numbers.{never};
-ghost use Rattle.lw_match.specs.Cutting.{AreCertified, AreKnown};
+ghost use Rattle.lw_match.specs.Cutting.{AreCertified, AreKnown, IsLikeLast};
 
 use crate::Cost;
-use crate::counting::pin_count;
-use crate::gaps::{gaps_at, is_certified};
+use crate::gaps::{gaps_at, is_certified_by};
 use lw_pattern::Patterns;
 use lw_pool::PatId;
 use std::marker::Model;
@@ -16,16 +15,30 @@ use std::marker::Model;
 /// How many numbers are remembered at most.
 const PLACES: usize = 1024;
 
-/// Whether the gaps of all patterns are certified at a number.
+/// Whether a pattern has the cell and the gaps of the one before it, as the patterns of a cell have,
+/// which stand together.
+fn is_like_last(pats: &Patterns, gaps: &[[u64; 16]], number: u32) -> bool
+    requires { number < length pats.now }
+    ensures { IsTrue result → IsLikeLast pats.now gaps.now number }
+{
+    if number == 0 {
+        return false;
+    }
+    let pattern = pats.get(PatId(number));
+    let last = pats.get(PatId(number - 1));
+    pattern.cell == last.cell && gaps_at(gaps, PatId(number)) == gaps_at(gaps, PatId(number - 1))
+}
+
+/// Whether the gaps of all patterns are certified at a number. It is asked once for each cell.
 fn are_certified<C: Cost>(pats: &Patterns, cost: &C, gaps: &[[u64; 16]], top: u64) -> bool
     requires { AreOfCells (C.costs cost.now).pin_counts pats.now }
     ensures { IsTrue result → AreCertified (C.costs cost.now) pats.now gaps.now top }
 {
     for number in 0..pats.len() {
-        let pattern = pats.get(PatId(number));
-        let pins = pin_count(pattern.nodes.as_slice());
-        let own = gaps_at(gaps, PatId(number));
-        if !is_certified(cost, pattern.cell, pins, own, top) {
+        if is_like_last(pats, gaps, number) {
+            continue;
+        }
+        if !is_certified_by(pats, cost, gaps, PatId(number), top) {
             return false;
         }
     }

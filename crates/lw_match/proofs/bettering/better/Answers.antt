@@ -1,7 +1,7 @@
-use Rattle.std.proofs.Common.{◌+◌, refl, ap, sym, subst, ◌∙◌, arith}
+use Rattle.std.proofs.Common.{◌+◌, refl, ap, sym, subst, ◌∙◌, inl, arith}
 use Rattle.lw_match.specs.declared.binding.Binding.{Binding}
 use Rattle.lw_match.specs.Cutting.{IsSharper, cuts_state}
-use Rattle.lw_match.proofs.Better.{IsHunted, hunted_start, hunted_found, hunted_on, hunted_none}
+use Rattle.lw_match.proofs.Better.{IsHunted, hunted_start, hunted_found, hunted_on, hunted_none, match_late, none_if}
 use Rattle.lw_match.proofs.bettering.better.Goals as goal
 use Rattle.lw_match.proofs.bettering.better.Goals.{in-Some, in_default}
 
@@ -13,7 +13,7 @@ loop-number-init g c =
     record {
       no_pins = ap (λ (b : Binding). b.pins) found.ensures.kept ∙ c.empty-binding.ensures.pins;
       no_costs = ap (λ (b : Binding). b.costs) found.ensures.kept ∙ c.empty-binding.ensures.costs;
-      hunted = hunted_start (cuts_state q.cuts) q.graph.now (g.C.Cost.costs q.cost.now) q.pats.now q.marks.now q.class.0 c.args.bound target.new.tops target.result found.result target.ensures.known target.ensures.target (subst (λ b. IsSharper b target.result.bound) c.bound_after.ensures target.ensures.sharper) found.ensures.sound;
+      hunted = hunted_start (cuts_state q.cuts) q.graph.now (g.C.Cost.costs q.cost.now) q.pats.now q.marks.now q.class.0 c.args.bound target.result found.result target.ensures.top (subst (λ b. IsSharper b target.result.bound) c.bound_after.ensures target.ensures.sharper) found.ensures.sound;
     }
 
 pub loop-number-preserved : goal.loop-number-preserved
@@ -30,20 +30,30 @@ loop-number-preserved g c =
         | in-Some w ↦
             let next = w.target_of-target-in-Some in
             let best = w.in-Some.best in
-            subst (λ ts. IsHunted cuts q.graph.now costs q.pats.now q.marks.now q.class.0 (l.number + 1) c.args.bound ts step.target step.found) (sym w.tops-is)
-            (subst (λ t. IsHunted cuts q.graph.now costs q.pats.now q.marks.now q.class.0 (l.number + 1) c.args.bound next.new.tops t step.found) (sym w.target-is)
-            (subst (λ f. IsHunted cuts q.graph.now costs q.pats.now q.marks.now q.class.0 (l.number + 1) c.args.bound next.new.tops next.result f) (sym w.found-is)
-            (hunted_found cuts q.graph.now costs q.pats.now q.marks.now q.class.0 c.args.bound l.number l.tops next.new.tops l.target next.result l.found best l.invariant.hunted w.in-Some.ensures.sound next.ensures.known next.ensures.target next.ensures.sharper)))
+            subst (λ t. IsHunted cuts q.graph.now costs q.pats.now q.marks.now q.class.0 (l.number + 1) c.args.bound t step.found) (sym w.target-is)
+            (subst (λ f. IsHunted cuts q.graph.now costs q.pats.now q.marks.now q.class.0 (l.number + 1) c.args.bound next.result f) (sym w.found-is)
+            (hunted_found cuts q.graph.now costs q.pats.now q.marks.now q.class.0 c.args.bound l.number l.target next.result l.found best l.invariant.hunted w.in-Some.ensures.sound next.ensures.top next.ensures.sharper))
         | in_default w ↦
-            subst (λ ts. IsHunted cuts q.graph.now costs q.pats.now q.marks.now q.class.0 (l.number + 1) c.args.bound ts step.target step.found) (sym w.tops-is)
-            (subst (λ t. IsHunted cuts q.graph.now costs q.pats.now q.marks.now q.class.0 (l.number + 1) c.args.bound l.tops t step.found) (sym w.target-is)
-            (subst (λ f. IsHunted cuts q.graph.now costs q.pats.now q.marks.now q.class.0 (l.number + 1) c.args.bound l.tops l.target f) (sym w.found-is)
-            (hunted_on cuts q.graph.now costs q.pats.now q.marks.now q.class.0 c.args.bound l.number l.tops l.target l.found l.invariant.hunted (w.in_default.ensures.none refl))))
+            subst (λ t. IsHunted cuts q.graph.now costs q.pats.now q.marks.now q.class.0 (l.number + 1) c.args.bound t step.found) (sym w.target-is)
+            (subst (λ f. IsHunted cuts q.graph.now costs q.pats.now q.marks.now q.class.0 (l.number + 1) c.args.bound l.target f) (sym w.found-is)
+            (hunted_on cuts q.graph.now costs q.pats.now q.marks.now q.class.0 c.args.bound l.number l.target l.found l.invariant.hunted (w.in_default.ensures.none refl)))
       ];
     }
 
-pub returns-clause-none : goal.returns-clause-none
-returns-clause-none g c =
+pub returns-then-are_sure-clause-none : goal.returns-then-are_sure-clause-none
+returns-then-are_sure-clause-none g c = λ e bounds.
     let q = c.args.query.now in
     let l = c.loop-number in
-    hunted_none (cuts_state q.cuts) q.graph.now (g.C.Cost.costs q.cost.now) q.pats.now q.marks.now q.class.0 c.args.bound l.number l.tops l.target l.found (omega (arith, c.loop-number-test.false, c.len-number-end.ensures.len)) l.invariant.hunted
+    hunted_none (cuts_state q.cuts) q.graph.now (g.C.Cost.costs q.cost.now) q.pats.now q.marks.now q.class.0 c.args.bound l.number l.target l.found (omega (arith, c.loop-number-test.false, c.len-number-end.ensures.len)) l.invariant.hunted (none_if l.found c.is_some.result c.is_some.ensures c.if-is_some.false) (λ i lt cut. inl (c.are_sure.ensures.sure c.if-are_sure.true i)) bounds
+
+pub returns-clause-sound : goal.returns-clause-sound
+returns-clause-sound g c =
+    let q = c.args.query.now in
+    let l = c.loop-number in
+    match_late (cuts_state q.cuts) q.graph.now (g.C.Cost.costs q.cost.now) q.pats.now q.marks.now q.class.0 c.args.bound l.target l.found c.doubted.result (none_if l.found c.is_some.result c.is_some.ensures c.if-is_some.false) l.invariant.hunted.sharper c.doubted.ensures.sound
+
+pub returns-clause-none : goal.returns-clause-none
+returns-clause-none g c = λ e bounds.
+    let q = c.args.query.now in
+    let l = c.loop-number in
+    hunted_none (cuts_state q.cuts) q.graph.now (g.C.Cost.costs q.cost.now) q.pats.now q.marks.now q.class.0 c.args.bound l.number l.target l.found (omega (arith, c.loop-number-test.false, c.len-number-end.ensures.len)) l.invariant.hunted (none_if l.found c.is_some.result c.is_some.ensures c.if-is_some.false) (c.doubted.ensures.none e) bounds

@@ -7,5 +7,5 @@ abbrev pub invariant-loop-number : goal.invariant-loop-number
 invariant-loop-number g l = record {
   no_pins : l.binding.pins ≡ replicate 16 None;
   no_costs : l.binding.costs ≡ replicate 16 0;
-  hunted : IsHunted (cuts_state l.query.cuts) l.query.graph.now (g.C.Cost.costs l.query.cost.now) l.query.pats.now l.query.marks.now l.query.class.0 l.number l.fn.bound l.tops l.target l.found;
+  hunted : IsHunted (cuts_state l.query.cuts) l.query.graph.now (g.C.Cost.costs l.query.cost.now) l.query.pats.now l.query.marks.now l.query.class.0 l.number l.fn.bound l.target l.found;
 }

@@ -1,32 +1,17 @@
-use Rattle.std.proofs.Common.{ℕ, ◌<◌, ◌↔◌, subst, arith}
-use Rattle.lw_laws.specs.Trees.{HasLeaf}
-use Rattle.lw_pattern.specs.Nodes.{tree_of}
-use Rattle.lw_pattern.specs.Listed.{pattern_of}
-use Rattle.lw_match.proofs.Better.{certified_start, certified_next, certified_end}
-use Rattle.lw_match.proofs.Floors.{certified_by}
-use Rattle.lw_match.proofs.Found.{listed_in}
-use Rattle.lw_match.proofs.Starting.{pattern_pins}
+use Rattle.std.proofs.Common.{arith}
+use Rattle.lw_match.proofs.Better.{certified_start, certified_next, certified_like, certified_end}
 use Rattle.lw_match.proofs.tops.are_certified.Goals as goal
 
 pub loop-number-init : goal.loop-number-init
 loop-number-init g c =
     certified_start (g.C.Cost.costs c.args.cost.now) c.args.pats.now c.args.gaps.now c.args.top
 
-pub is_certified-requires-clause-has : goal.is_certified-requires-clause-has
-is_certified-requires-clause-has g c =
-    let p = c.get-pattern.result.now in
-    let pins : (k : ℕ) → HasLeaf (tree_of p.nodes) k ↔ (k < c.pin_count-pins.result) = subst (λ ns. (k : ℕ) → HasLeaf (tree_of ns) k ↔ (k < c.pin_count-pins.result)) c.as_slice.ensures c.pin_count-pins.ensures.pins in
-    pattern_pins (g.C.Cost.costs c.args.cost.now).pin_counts (pattern_of p) c.pin_count-pins.result (c.requires (pattern_of p) (listed_in c.args.pats.now c.loop-number.number (pattern_of p) c.get-pattern.ensures.listed)) pins
-
-pub loop-number-preserved : goal.loop-number-preserved
-loop-number-preserved g c =
-    let costs = g.C.Cost.costs c.args.cost.now in
-    let p = c.get-pattern.result.now in
-    let pins : (k : ℕ) → HasLeaf (tree_of p.nodes) k ↔ (k < c.pin_count-pins.result) = subst (λ ns. (k : ℕ) → HasLeaf (tree_of ns) k ↔ (k < c.pin_count-pins.result)) c.as_slice.ensures c.pin_count-pins.ensures.pins in
-    let has = pattern_pins costs.pin_counts (pattern_of p) c.pin_count-pins.result (c.requires (pattern_of p) (listed_in c.args.pats.now c.loop-number.number (pattern_of p) c.get-pattern.ensures.listed)) pins in
-    certified_next costs c.args.pats.now c.args.gaps.now c.args.top c.loop-number.number c.loop-number.invariant
-    (certified_by costs c.args.pats.now c.args.gaps.now c.loop-number.number (pattern_of p) c.pin_count-pins.result c.gaps_at-own.result.now c.args.top c.get-pattern.ensures.listed has c.gaps_at-own.ensures (c.is_certified.ensures c.if-not-is_certified.false))
-
 pub returns : goal.returns
 returns g c = λ t.
     certified_end (g.C.Cost.costs c.args.cost.now) c.args.pats.now c.args.gaps.now c.args.top c.loop-number.number (omega arith) c.loop-number.invariant
+
+pub loop-number-preserved-then-is_like_last : goal.loop-number-preserved-then-is_like_last
+loop-number-preserved-then-is_like_last g c =
+    let costs = g.C.Cost.costs c.args.cost.now in
+    let l = c.loop-number in
+    certified_next costs c.args.pats.now c.args.gaps.now c.args.top l.number l.invariant (certified_like costs c.args.pats.now c.args.gaps.now c.args.top l.number (omega (arith, c.loop-number-test.true, c.len-number-end.ensures.len)) (c.is_like_last.ensures c.if-is_like_last.true) l.invariant)
