@@ -19,6 +19,7 @@ pub mod Members
 pub mod MoreParts
 pub mod Nexts
 pub mod OfCells
+pub mod Opens
 pub mod Pairs
 pub mod Passes
 pub mod Placing

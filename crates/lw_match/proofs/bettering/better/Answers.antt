@@ -9,7 +9,7 @@ pub loop-number-init : goal.loop-number-init
 loop-number-init g c =
     let q = c.args.query.now in
     let target = c.target_of-target in
-    let found = c.first_found-found in
+    let found = c.early_found-found in
     record {
       no_pins = ap (λ (b : Binding). b.pins) found.ensures.kept ∙ c.empty-binding.ensures.pins;
       no_costs = ap (λ (b : Binding). b.costs) found.ensures.kept ∙ c.empty-binding.ensures.costs;
