@@ -1,6 +1,7 @@
 ghost use Rattle.std.specs.Prelude.{◌≡◌, ◌<◌, ◌≤◌, ◌*◌, List, IfOk, IsTrue, IsFalse, length};
 ghost use Rattle.lw_laws.specs.Covers.{Pattern as TreeOfCell};
 
+use crate::bare::bare_patterns;
 use crate::cuts::Cuts;
 use crate::gaps::all_guesses;
 use crate::parts::{Part, Place, Side};
@@ -12,7 +13,7 @@ use crate::{Cost, Mark};
 use indexmap::IndexSet;
 use lw_graph::Graph;
 use lw_pattern::Patterns;
-use lw_pool::ClassId;
+use lw_pool::{ClassId, PatId};
 use std::alloc::{AllocError, Global};
 use std::marker::Model;
 
@@ -45,6 +46,8 @@ pub struct Bounds {
     xs: Vec<u64>,
     ys: Vec<u64>,
     least: Vec<u64>,
+    // the patterns without NANDs
+    bare: Vec<PatId>,
 }
 
 impl Model for Bounds {
@@ -88,6 +91,7 @@ impl Bounds {
         let xs = vec![in alloc; 0; size]?;
         let ys = vec![in alloc; 0; size]?;
         let least = vec![in alloc; 0; parts.len()]?;
+        let bare = bare_patterns(alloc, pats)?;
         Ok(Bounds {
             parts,
             gaps,
@@ -99,6 +103,7 @@ impl Bounds {
             xs,
             ys,
             least,
+            bare,
         })
     }
 
@@ -135,6 +140,11 @@ impl Bounds {
             &mut self.least,
             &mut self.numbers,
         )
+    }
+
+    /// The patterns without NANDs.
+    pub(crate) fn bare(&self) -> &[PatId] {
+        &self.bare
     }
 
     /// What searches are cut by.

@@ -1,6 +1,7 @@
 //! Matches of a library's patterns at the classes of a graph, and the least of them under a cost.
 #![tactic(auto)]
 
+mod bare;
 mod bettering;
 mod binding;
 mod bisecting;
@@ -31,7 +32,7 @@ mod shapes;
 mod times;
 mod tops;
 
-pub use bettering::better_within;
+pub use bettering::{better_bare, better_within};
 pub use bounds::Bounds;
 pub use cost::Cost;
 pub use cursor::Cursor;
