@@ -1,5 +1,5 @@
 -- Passes that find heights.
-use Rattle.std.proofs.Common.{ℕ, zero, suc, ◌+◌, ◌<◌, ◌≤◌, ◌^◌, ◌-◌, ◌≡◌, ◌⊎◌, inl, inr, true, false, List, [], ◌∷◌, length, Option, Some, None, option_map, slice_get, slice_index_or, slice_set, replicate, refl, ap, ap₂, sym, ◌∙◌, subst, arith}
+use Rattle.std.proofs.Common.{ℕ, zero, suc, ◌+◌, ◌<◌, ◌≤◌, ◌^◌, ◌-◌, ◌≡◌, ◌⊎◌, inl, inr, Bool, true, false, List, [], ◌∷◌, length, Option, Some, None, option_map, slice_get, slice_index_or, slice_set, replicate, refl, ap, ap₂, sym, ◌∙◌, subst, arith}
 use Rattle.std.specs.List.{AllByRecursion, AllZip}
 use Rattle.std.proofs.lemmas.List.{length-set, length-map, length-replicate}
 use Rattle.std.proofs.lemmas.Bool.{cases_eq}
@@ -26,9 +26,8 @@ use Rattle.lw_match.specs.Cutting.{IsFloor}
 use Rattle.lw_match.specs.Least.{Priced, plain_best, IsPricedAt, IsMarkBefore, IsLeastBelow}
 use Rattle.lw_label.specs.Labels.{cost_in, costs_of, AreLeastMarks}
 use Rattle.lw_label.specs.Lowering.{AreLowering}
-use Rattle.lw_label.specs.Rising.{IsWithinSteps, HasHeightAtMost, marked, AreRising, height_weight, height_limit, heights_weight, IsReached, Raises}
+use Rattle.lw_label.specs.Rising.{IsWithinSteps, HasHeightAtMost, marked, AreRising, height_weight, height_limit, heights_weight, IsReached, Raises, TakesHeight}
 use Rattle.lw_label.proofs.Marked.{label_at, label_of_mark, mark_of_label, mark_set_same, mark_set_other, priced, standing}
-use Rattle.lw_label.proofs.Passing.{passes_still, passes_lower}
 use Rattle.lw_label.proofs.Falling.{not_below, graph_classes}
 
 none_marked : (n c : ℕ) (m : PlainMark) → marks_in (replicate n None) c ≡ Some m → ⊥
@@ -242,12 +241,16 @@ module _ (g : Graph) (cost : Cost) (pats : List Pattern) (labels : List (Option 
             (label ∙ ap (λ n. Some n) same, within_limit (slice_index_or marks c None) (subst (λ h. best.mark.height < h) same_height lt))
 
   -- a class that keeps its height
-  pub raises_nothing : (marks : List (Option Mark)) (c : ℕ) → IsReached g cost pats labels marks c → Raises g cost pats labels marks marks (λ b. b ≡ c) false
-  raises_nothing marks c reached = passes_still heights_weight (IsReached g cost pats labels) marks (λ b. b ≡ c) (λ b s. subst (λ a. IsReached g cost pats labels marks a) (sym s) reached)
+  pub raises_at : (marks new : List (Option Mark)) (c : ℕ) (changed : Bool) → TakesHeight g cost pats labels marks new changed → (changed ≡ false → IsReached g cost pats labels marks c) → Raises g cost pats labels marks new (λ b. b ≡ c) changed
+  raises_at marks new c changed takes reached = record {
+    falls = takes.falls;
+    same = takes.same;
+    still = λ e b at. subst (λ a. IsReached g cost pats labels marks a) (sym at) (reached e);
+  }
 
-  -- a class that gets one, or a lower one
-  pub raises_one : (marks other : List (Option Mark)) (c : ℕ) → heights_weight other < heights_weight marks → Raises g cost pats labels marks other (λ b. b ≡ c) true
-  raises_one marks other c less = passes_lower heights_weight (IsReached g cost pats labels) marks other (λ b. b ≡ c) less
+  pub raises_any : (marks new : List (Option Mark)) (changed : Bool) → TakesHeight g cost pats labels marks new changed → Raises g cost pats labels marks new (λ b. ⊥) changed
+  raises_any marks new changed takes =
+      record { falls = takes.falls; same = takes.same; still = λ e b none. absurd none }
 
   -- Once no height can be lowered, each class with a label has its height.
   module _ (marks : List (Option Mark)) (problem : IsCoverProblem g pats cost) (graph : IsGraph g) (low : AreLowering g cost pats labels) (bounded : AreBoundedIn g pats cost (costs_of labels)) (are : AreRising g cost pats labels marks) (reached : (c : ℕ) → c < length g.pairs → IsReached g cost pats labels marks c) where

@@ -23,7 +23,7 @@ use Rattle.lw_match.specs.Cutting.{IsBeforeBound, IsLeastWithin}
 use Rattle.lw_match.specs.Least.{Priced, plain_best, IsPricedAt, IsPricedAtMost, IsLeastMatch}
 use Rattle.lw_match.proofs.Settled.{settled_bounds_are_bounds}
 use Rattle.lw_label.specs.Labels.{cost_in, costs_of}
-use Rattle.lw_label.specs.Lowering.{AreLowering, LabelState, state, state_weight, weight, IsBounded, IsLabelled, Lowers}
+use Rattle.lw_label.specs.Lowering.{AreLowering, LabelState, state, state_weight, weight, IsBounded, IsLabelled, Lowers, Takes}
 use Rattle.lw_label.proofs.Passing.{passes_lower}
 use Rattle.lw_label.proofs.Marked.{label_of_mark, labels_of_marks, marks_of_labels, costs_set, mark_set_same, mark_set_other, priced, standing}
 
@@ -117,6 +117,14 @@ module _ (g : Graph) (cost : Cost) (pats : List Pattern) where
         same = λ e. ap₂ state numbers (same_label refl);
         still = λ e n at. subst (λ a. IsLabelled g cost pats (state b marks) a) (sym at) (settled refl, λ are. bounded refl (subst (λ k. AreBounds k g marks) (sym numbers) are));
       }
+
+  -- a label of no class in particular
+  pub marks_pass : (b : BoundsState) (marks new : List (Option Mark)) (changed : Bool) → Takes g cost pats marks new changed → Lowers g cost pats (state b marks) (state b new) (λ n. ⊥) changed
+  marks_pass b marks new changed takes = record {
+    falls = λ e. let less = takes.falls e in let w : bounds_weight b + weight cost new < bounds_weight b + weight cost marks = omega (arith, less) in w;
+    same = λ e. ap (state b) (takes.same e);
+    still = λ e n none. absurd none;
+  }
 
   -- once no number and no label would fall, the table is one of bounds, and no label would fall
   pub labelled_bounds : (s : LabelState) → IsGraph g → BoundsFit s.bounds pats g → ((c : ℕ) → c < length g.pairs → IsLabelled g cost pats s c) → AreBounds s.bounds g s.marks

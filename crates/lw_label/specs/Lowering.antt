@@ -1,5 +1,5 @@
 -- Labels that are lowered until no match would lower one.
-use Rattle.std.specs.Prelude.{ℕ, ◌+◌, ◌<◌, ◌≤◌, ◌≡◌, ◌⊎◌, Bool, List, length, Option, Some}
+use Rattle.std.specs.Prelude.{ℕ, ◌+◌, ◌<◌, ◌≤◌, ◌≡◌, ◌⊎◌, Bool, true, false, List, length, Option, Some}
 use Rattle.lw_laws.specs.Graphs.{Graph}
 use Rattle.lw_laws.specs.Costs.{Cost}
 use Rattle.lw_laws.specs.Covers.{Pattern}
@@ -31,6 +31,12 @@ IsLowerOf mark leaf new =
 -- how far the labels can still fall
 abbrev pub weight : Cost → List (Option Mark) → ℕ
 weight cost marks = total_weight cost.cap (costs_of marks)
+
+-- the labels still are costs of covers, and one has fallen, or none has changed
+pub record Takes (g : Graph) (cost : Cost) (pats : List Pattern) (old new : List (Option Mark)) (changed : Bool) : Type 0 where
+  pub lowering : AreLowering g cost pats new
+  pub falls : changed ≡ true → weight cost new < weight cost old
+  pub same : changed ≡ false → new ≡ old
 
 -- no match at the class would give it a lower label
 abbrev pub IsBounded : Graph → Cost → List Pattern → List (Option Mark) → ℕ → Type 0

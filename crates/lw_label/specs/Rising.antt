@@ -1,5 +1,5 @@
 -- Heights that are found along matches that attain labels.
-use Rattle.std.specs.Prelude.{ℕ, suc, ◌≤◌, ◌≡◌, ◌^◌, Bool, ◌+◌, ◌-◌, List, [], ◌∷◌, length, Option, Some, None, slice_get}
+use Rattle.std.specs.Prelude.{ℕ, suc, ◌<◌, ◌≤◌, ◌≡◌, ◌^◌, Bool, true, false, ◌+◌, ◌-◌, List, [], ◌∷◌, length, Option, Some, None, slice_get}
 use Rattle.lw_laws.specs.Graphs.{Graph}
 use Rattle.lw_laws.specs.Costs.{Cost}
 use Rattle.lw_laws.specs.Covers.{Pattern}
@@ -51,6 +51,12 @@ height_limit (Some m) = m.height
 abbrev pub heights_weight : List (Option Mark) → ℕ
 heights_weight [] = 0
 heights_weight (m ∷ marks) = height_weight m + heights_weight marks
+
+-- the marks still are labels with numbers of steps, and a height has been found or has fallen, or none has changed
+pub record TakesHeight (g : Graph) (cost : Cost) (pats : List Pattern) (labels old new : List (Option Mark)) (changed : Bool) : Type 0 where
+  pub rising : AreRising g cost pats labels new
+  pub falls : changed ≡ true → heights_weight new < heights_weight old
+  pub same : changed ≡ false → new ≡ old
 
 -- a match at the class that attains its label, and whose pins have marks, gives it no less height
 abbrev pub IsReached : Graph → Cost → List Pattern → List (Option Mark) → List (Option Mark) → ℕ → Type 0

@@ -1,19 +1,21 @@
 // Heights in rounds.
-ghost use Rattle.std.specs.Prelude.{◌≡◌, ◌<◌, ◌/◌, ℕ, None, true, false, length, replicate};
+ghost use Rattle.std.specs.Prelude.{◌≡◌, ◌<◌, ◌/◌, ℕ, Some, None, true, false, length, replicate, slice_index_or};
 ghost use Rattle.lw_graph.specs.Graphs.{IsGraph};
 ghost use Rattle.lw_match.specs.Bounds.{AreBounds, BoundsFit};
-ghost use Rattle.lw_match.specs.Cutting.{AreKnown};
+ghost use Rattle.lw_match.specs.Cutting.{AreKnown, IsMatchWithin};
+ghost use Rattle.lw_match.specs.Values.{marks_in};
 ghost use Rattle.lw_match.specs.Least.{AreOfCells};
 ghost use Rattle.lw_label.specs.Labels.{costs_of, AreLeastMarks};
 ghost use Rattle.lw_label.specs.Lowering.{AreLowering};
 ghost use Rattle.lw_label.specs.Orders.{IsVisited, places_of};
-ghost use Rattle.lw_label.specs.Rising.{AreRising, IsReached, Raises, height_limit, heights_weight};
+ghost use Rattle.lw_label.specs.Rising.{AreRising, IsReached, Raises, TakesHeight, height_limit, heights_weight};
 ghost use Rattle.lw_laws.specs.Laws.{AreBoundedIn, IsCoverProblem};
+ghost use Rattle.lw_laws.specs.Rounds.{labels_in};
 
 use crate::lowering::{either, is_ahead};
 use crate::visits::Visits;
 use lw_graph::Graph;
-use lw_match::{Bounds, Cost, Mark, Tops, better_within};
+use lw_match::{Best, Bounds, Cost, Mark, Tops, better_bare, better_within};
 use lw_pattern::Patterns;
 use lw_pool::ClassId;
 
@@ -46,8 +48,26 @@ pub(crate) fn start_heights(graph: &Graph, labels: &[Option<Mark>], marks: &mut 
     }
 }
 
-// Gives a class the least height of a match that attains its label and whose pins have marks, where
-// that is lower than its own.
+// Gives a class the mark of a match that was found.
+fn put_height(marks: &mut [Option<Mark>], class: ClassId, found: Option<Best>) -> bool
+    requires { class.0 < length marks.old }
+    ensures takes { (graph : _) (cost : _) (pats : _) (labels : _) (bound : _) →
+        AreBoundedIn graph pats cost (costs_of labels) →
+        AreRising graph cost pats labels marks.old → labels_in (costs_of labels) class.0 ≡
+        Some bound.cost → bound.height ≡ height_limit (slice_index_or marks.old class.0 None) →
+        IsMatchWithin graph cost pats (marks_in marks.old) class.0 (Some bound) found →
+        TakesHeight graph cost pats labels marks.old marks.new result }
+    ensures none { result ≡ false → found ≡ None }
+{
+    let Some(best) = found else {
+        return false;
+    };
+    marks[class.0 as usize] = Some(best.mark);
+    true
+}
+
+// Gives a class the height of a match that attains its label and whose pins have marks, mostly the
+// least, where that is lower than its own.
 fn raise<C: Cost>(
     graph: &Graph,
     pats: &Patterns,
@@ -69,15 +89,16 @@ fn raise<C: Cost>(
     requires bounded { AreBoundedIn graph.now pats.now (C.costs cost.now) (costs_of labels.now) }
     requires rising { AreRising graph.now (C.costs cost.now) pats.now labels.now marks.old }
     ensures known { AreKnown (C.costs cost.now) pats.now bounds.now.gaps tops.new }
-    ensures rising { AreRising graph.now (C.costs cost.now) pats.now labels.now marks.new }
-    ensures raises { Raises graph.now (C.costs cost.now) pats.now labels.now marks.old marks.new
-        (λ c. c ≡ class.0) result }
+    ensures takes { TakesHeight graph.now (C.costs cost.now) pats.now labels.now marks.old
+        marks.new result }
+    ensures reached { result ≡ false → IsReached graph.now (C.costs cost.now) pats.now labels.now
+        marks.old class.0 }
 {
     let Some(label) = labels[class.0 as usize] else {
         return false;
     };
     let bound = height_bound(label, marks[class.0 as usize]);
-    let Some(best) = better_within(
+    let found = better_within(
         graph,
         pats,
         bounds,
@@ -87,21 +108,56 @@ fn raise<C: Cost>(
         tops,
         label.cost,
         Some(bound),
-    ) else {
+    );
+    put_height(marks, class, found)
+}
+
+// Gives a class the height of a match by a pattern without NANDs that attains its label, where that
+// is lower than its own.
+fn raise_bare<C: Cost>(
+    graph: &Graph,
+    pats: &Patterns,
+    cost: &C,
+    bounds: &Bounds,
+    labels: &[Option<Mark>],
+    marks: &mut [Option<Mark>],
+    class: ClassId,
+) -> bool
+    requires class { class.0 < length graph.now.pairs }
+    requires of_cells { AreOfCells (C.costs cost.now).pin_counts pats.now }
+    requires graph { IsGraph graph.now }
+    requires problem { IsCoverProblem graph.now pats.now (C.costs cost.now) }
+    requires lowering { AreLowering graph.now (C.costs cost.now) pats.now labels.now }
+    requires fits { BoundsFit bounds.now pats.now graph.now }
+    requires bounded { AreBoundedIn graph.now pats.now (C.costs cost.now) (costs_of labels.now) }
+    requires rising { AreRising graph.now (C.costs cost.now) pats.now labels.now marks.old }
+    ensures { TakesHeight graph.now (C.costs cost.now) pats.now labels.now marks.old marks.new
+        result }
+{
+    let Some(label) = labels[class.0 as usize] else {
         return false;
     };
-    marks[class.0 as usize] = Some(best.mark);
-    true
+    let bound = height_bound(label, marks[class.0 as usize]);
+    let found = better_bare(
+        graph,
+        pats,
+        bounds,
+        marks,
+        class,
+        cost,
+        label.cost,
+        Some(bound),
+    );
+    put_height(marks, class, found)
 }
 
 // Raises the odd class of a place a second time where its complement, which was raised since, may
-// be a pin of a match of less height.
+// be the pin of a match of less height. By patterns without NANDs alone can it be one.
 fn raise_again<C: Cost>(
     graph: &Graph,
     pats: &Patterns,
     cost: &C,
     bounds: &Bounds,
-    tops: &mut Tops,
     labels: &[Option<Mark>],
     marks: &mut [Option<Mark>],
     place: u32,
@@ -113,19 +169,15 @@ fn raise_again<C: Cost>(
     requires problem { IsCoverProblem graph.now pats.now (C.costs cost.now) }
     requires lowering { AreLowering graph.now (C.costs cost.now) pats.now labels.now }
     requires fits { BoundsFit bounds.now pats.now graph.now }
-    requires known { AreKnown (C.costs cost.now) pats.now bounds.now.gaps tops.old }
-    requires bounds { AreBounds bounds.now graph.now labels.now }
     requires bounded { AreBoundedIn graph.now pats.now (C.costs cost.now) (costs_of labels.now) }
     requires rising { AreRising graph.now (C.costs cost.now) pats.now labels.now marks.old }
-    ensures known { AreKnown (C.costs cost.now) pats.now bounds.now.gaps tops.new }
-    ensures rising { AreRising graph.now (C.costs cost.now) pats.now labels.now marks.new }
-    ensures raises { Raises graph.now (C.costs cost.now) pats.now labels.now marks.old marks.new
-        (λ c. ⊥) result }
+    ensures { TakesHeight graph.now (C.costs cost.now) pats.now labels.now marks.old marks.new
+        result }
 {
     let class = ClassId(place * 2 + 1);
     let other = marks[(place * 2) as usize];
     if raised && is_ahead(other, marks[class.0 as usize]) {
-        return raise(graph, pats, cost, bounds, tops, labels, marks, class);
+        return raise_bare(graph, pats, cost, bounds, labels, marks, class);
     }
     false
 }
@@ -168,9 +220,7 @@ fn raise_pair<C: Cost>(
         marks,
         ClassId(place * 2),
     );
-    let third = raise_again(
-        graph, pats, cost, bounds, tops, labels, marks, place, second,
-    );
+    let third = raise_again(graph, pats, cost, bounds, labels, marks, place, second);
     either(third, either(second, first))
 }
 

@@ -2,15 +2,16 @@
 ghost use Rattle.std.specs.Prelude.{◌≡◌, ◌<◌, ◌≤◌, ◌/◌, ◌||◌, ℕ, Some, None, true, false, IfOk, length, replicate, slice_get, slice_index_or};
 ghost use Rattle.lw_match.specs.Least.{AreOfCells};
 ghost use Rattle.lw_match.specs.Bounds.{AreBounds, BoundsFit};
-ghost use Rattle.lw_match.specs.Cutting.{AreKnown};
+ghost use Rattle.lw_match.specs.Cutting.{AreKnown, IsMatchWithin};
+ghost use Rattle.lw_match.specs.Values.{marks_in};
 ghost use Rattle.lw_label.specs.Labels.{costs_of};
-ghost use Rattle.lw_label.specs.Lowering.{AreLowering, IsBounded, IsLabelled, IsLowerOf, Lowers, state, state_weight, weight};
+ghost use Rattle.lw_label.specs.Lowering.{AreLowering, IsBounded, IsLabelled, IsLowerOf, Lowers, Takes, state, state_weight, weight};
 ghost use Rattle.lw_label.specs.Orders.{IsPassed, IsVisited, places_of};
 ghost use Rattle.lw_laws.specs.Laws.{AreBoundedIn, IsCoverProblem};
 
 use crate::visits::Visits;
 use lw_graph::Graph;
-use lw_match::{Bounds, Cost, Mark, Tops, better_within};
+use lw_match::{Best, Bounds, Cost, Mark, Tops, better_bare, better_within};
 use lw_pattern::Patterns;
 use lw_pool::ClassId;
 use std::alloc::{AllocError, Global};
@@ -46,7 +47,27 @@ pub(crate) fn label_inputs<C: Cost>(graph: &Graph, cost: &C, marks: &mut [Option
     }
 }
 
-// Gives a class the least cost of a match whose pins have marks, where that is lower than its own.
+// Gives a class the cost of a match that was found.
+fn put_label(marks: &mut [Option<Mark>], class: ClassId, found: Option<Best>) -> bool
+    requires { class.0 < length marks.old }
+    ensures takes { (graph : _) (cost : _) (pats : _) → IsCoverProblem graph pats cost →
+        AreLowering graph cost pats marks.old → IsMatchWithin graph cost pats (marks_in marks.old)
+        class.0 (slice_index_or marks.old class.0 None) found →
+        Takes graph cost pats marks.old marks.new result }
+    ensures none { result ≡ false → found ≡ None }
+{
+    let Some(best) = found else {
+        return false;
+    };
+    marks[class.0 as usize] = Some(Mark {
+        cost: best.mark.cost,
+        height: 0,
+    });
+    true
+}
+
+// Gives a class the cost of a match whose pins have marks, mostly the least, where that is lower
+// than its own.
 fn lower_mark<C: Cost>(
     graph: &Graph,
     pats: &Patterns,
@@ -63,22 +84,34 @@ fn lower_mark<C: Cost>(
     requires known { AreKnown (C.costs cost.now) pats.now bounds.now.gaps tops.old }
     requires lowering { AreLowering graph.now (C.costs cost.now) pats.now marks.old }
     ensures known { AreKnown (C.costs cost.now) pats.now bounds.now.gaps tops.new }
-    ensures lowering { AreLowering graph.now (C.costs cost.now) pats.now marks.new }
-    ensures falls { result ≡ true →
-        weight (C.costs cost.now) marks.new < weight (C.costs cost.now) marks.old }
-    ensures same { result ≡ false → marks.new ≡ marks.old }
+    ensures takes { Takes graph.now (C.costs cost.now) pats.now marks.old marks.new result }
     ensures bounded { result ≡ false → AreBounds bounds.now graph.now marks.old →
         IsBounded graph.now (C.costs cost.now) pats.now marks.old class.0 }
 {
     let old = marks[class.0 as usize];
-    let Some(best) = better_within(graph, pats, bounds, marks, class, cost, tops, 0, old) else {
-        return false;
-    };
-    marks[class.0 as usize] = Some(Mark {
-        cost: best.mark.cost,
-        height: 0,
-    });
-    true
+    let found = better_within(graph, pats, bounds, marks, class, cost, tops, 0, old);
+    put_label(marks, class, found)
+}
+
+// Gives a class the cost of a match by a pattern without NANDs, where that is lower than its own.
+fn lower_bare<C: Cost>(
+    graph: &Graph,
+    pats: &Patterns,
+    cost: &C,
+    bounds: &Bounds,
+    marks: &mut [Option<Mark>],
+    class: ClassId,
+) -> bool
+    requires class { class.0 < length graph.now.pairs }
+    requires of_cells { AreOfCells (C.costs cost.now).pin_counts pats.now }
+    requires problem { IsCoverProblem graph.now pats.now (C.costs cost.now) }
+    requires fits { BoundsFit bounds.now pats.now graph.now }
+    requires lowering { AreLowering graph.now (C.costs cost.now) pats.now marks.old }
+    ensures { Takes graph.now (C.costs cost.now) pats.now marks.old marks.new result }
+{
+    let old = marks[class.0 as usize];
+    let found = better_bare(graph, pats, bounds, marks, class, cost, 0, old);
+    put_label(marks, class, found)
 }
 
 // Whether one of the two is true.
@@ -125,13 +158,13 @@ pub(crate) fn is_ahead(mark: Option<Mark>, other: Option<Mark>) -> bool {
 }
 
 // Lowers the odd class of a place a second time where its complement, which was lowered since, may
-// be a pin of a better match.
+// be the pin of a better match. By patterns without NANDs alone can it be one, and the complement
+// could not be lowered by such a match in turn, since a cell costs no less than its pins.
 fn lower_again<C: Cost>(
     graph: &Graph,
     pats: &Patterns,
     cost: &C,
-    bounds: &mut Bounds,
-    tops: &mut Tops,
+    bounds: &Bounds,
     marks: &mut [Option<Mark>],
     place: u32,
     lowered: bool,
@@ -139,20 +172,15 @@ fn lower_again<C: Cost>(
     requires place { place < places_of graph.now }
     requires of_cells { AreOfCells (C.costs cost.now).pin_counts pats.now }
     requires problem { IsCoverProblem graph.now pats.now (C.costs cost.now) }
-    requires fits { BoundsFit bounds.old pats.now graph.now }
-    requires known { AreKnown (C.costs cost.now) pats.now bounds.old.gaps tops.old }
+    requires fits { BoundsFit bounds.now pats.now graph.now }
     requires lowering { AreLowering graph.now (C.costs cost.now) pats.now marks.old }
-    ensures fits { BoundsFit bounds.new pats.now graph.now }
-    ensures known { AreKnown (C.costs cost.now) pats.now bounds.new.gaps tops.new }
-    ensures lowering { AreLowering graph.now (C.costs cost.now) pats.now marks.new }
-    ensures lowers { Lowers graph.now (C.costs cost.now) pats.now (state bounds.old marks.old)
-        (state bounds.new marks.new) (λ c. ⊥) result }
+    ensures { Takes graph.now (C.costs cost.now) pats.now marks.old marks.new result }
 {
     let _ = graph.classes();
     let class = ClassId(place * 2 + 1);
     let other = marks[(place * 2) as usize];
     if lowered && is_ahead(other, marks[class.0 as usize]) {
-        return lower(graph, pats, cost, bounds, tops, marks, class);
+        return lower_bare(graph, pats, cost, bounds, marks, class);
     }
     false
 }
@@ -183,7 +211,7 @@ fn lower_pair<C: Cost>(
     let class = ClassId(place * 2 + 1);
     let first = lower(graph, pats, cost, bounds, tops, marks, class);
     let second = lower(graph, pats, cost, bounds, tops, marks, ClassId(place * 2));
-    let third = lower_again(graph, pats, cost, bounds, tops, marks, place, second);
+    let third = lower_again(graph, pats, cost, bounds, marks, place, second);
     either(third, either(second, first))
 }
 

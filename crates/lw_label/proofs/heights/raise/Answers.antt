@@ -1,58 +1,43 @@
-use Rattle.std.proofs.Common.{◌<◌, ◌∙◌, length, refl, ap, subst, arith}
+use Rattle.std.proofs.Common.{◌<◌, ◌∙◌, Some, length, refl, ap, sym, subst, arith}
 use Rattle.lw_match.specs.Values.{plain_mark, AreInRange}
 use Rattle.lw_label.specs.Labels.{cost_in}
 use Rattle.lw_label.proofs.Falling.{label_is_cost}
-use Rattle.lw_label.proofs.Climbing.{rising_in_range, rising_bounds, label_is_floor, reached_unlabelled, reached_under, attains_under, raised, raises_nothing, raises_one, heights_fall}
+use Rattle.lw_label.proofs.Climbing.{rising_in_range, rising_bounds, label_is_floor, reached_unlabelled, reached_under}
 use Rattle.lw_label.proofs.heights.raise.Goals as goal
 
-pub better_within-requires-clause-in_range : goal.better_within-requires-clause-in_range
-better_within-requires-clause-in_range g c =
+pub better_within-found-requires-clause-in_range : goal.better_within-found-requires-clause-in_range
+better_within-found-requires-clause-in_range g c =
     let costs = g.C.Cost.costs c.args.cost.now in
     subst (λ cap. AreInRange cap c.args.marks.now) (g.met.C.Cost.cap c.args.cost.now) (rising_in_range c.args.graph.now costs c.args.pats.now c.args.labels.now c.args.marks.now c.requires.problem c.requires.graph c.requires.lowering c.requires.rising)
 
-pub better_within-requires-clause-floor : goal.better_within-requires-clause-floor
-better_within-requires-clause-floor g c =
+pub better_within-found-requires-clause-floor : goal.better_within-found-requires-clause-floor
+better_within-found-requires-clause-floor g c =
     let costs = g.C.Cost.costs c.args.cost.now in
     let labels = c.args.labels.now in
     let label = label_is_cost c.args.graph.now costs c.args.pats.now labels c.args.class.0 ∙ ap cost_in c.in-Some.is in
     label_is_floor c.args.graph.now costs c.args.pats.now labels c.args.marks.now c.requires.problem c.requires.lowering c.requires.rising c.requires.bounded c.args.class.0 c.in-Some.label.cost label
 
-pub returns-in_default-clause-raises : goal.returns-in_default-clause-raises
-returns-in_default-clause-raises g c =
+pub returns-in_default-clause-reached : goal.returns-in_default-clause-reached
+returns-in_default-clause-reached g c = λ e.
     let costs = g.C.Cost.costs c.args.cost.now in
     let labels = c.args.labels.now in
     let none = label_is_cost c.args.graph.now costs c.args.pats.now labels c.args.class.0 ∙ ap cost_in c.in_default.is in
-    raises_nothing c.args.graph.now costs c.args.pats.now labels c.args.marks.now c.args.class.0 (reached_unlabelled c.args.graph.now costs c.args.pats.now labels c.args.marks.now c.args.class.0 none)
+    reached_unlabelled c.args.graph.now costs c.args.pats.now labels c.args.marks.now c.args.class.0 none
 
-pub returns-in_default-better_within-clause-raises : goal.returns-in_default-better_within-clause-raises
-returns-in_default-better_within-clause-raises g c =
+pub returns-clause-takes : goal.returns-clause-takes
+returns-clause-takes g c =
     let costs = g.C.Cost.costs c.args.cost.now in
     let labels = c.args.labels.now in
+    let label = label_is_cost c.args.graph.now costs c.args.pats.now labels c.args.class.0 ∙ ap cost_in c.in-Some.is in
+    c.put_height.ensures.takes c.args.graph.now costs c.args.pats.now labels c.height_bound-bound.result c.requires.bounded c.requires.rising (label ∙ ap Some (sym c.height_bound-bound.ensures.cost)) c.height_bound-bound.ensures.height c.better_within-found.ensures.sound
+
+pub returns-clause-reached : goal.returns-clause-reached
+returns-clause-reached g c = λ e.
+    let costs = g.C.Cost.costs c.args.cost.now in
+    let labels = c.args.labels.now in
+    let label = label_is_cost c.args.graph.now costs c.args.pats.now labels c.args.class.0 ∙ ap cost_in c.in-Some.is in
     let marks = c.args.marks.now in
     let class = c.args.class.0 in
     let below : class < length marks = omega (arith, c.requires.class, c.requires.rising.one_each) in
-    let label = label_is_cost c.args.graph.now costs c.args.pats.now labels class ∙ ap cost_in c.in-Some.is in
     let bounds = rising_bounds c.args.graph.now costs c.args.pats.now labels c.args.bounds.now marks c.requires.bounds c.requires.rising in
-    raises_nothing c.args.graph.now costs c.args.pats.now labels marks class (reached_under c.args.graph.now costs c.args.pats.now labels marks c.requires.rising class c.in-Some.label.cost (plain_mark c.height_bound-bound.result) label c.height_bound-bound.ensures.cost c.height_bound-bound.ensures.height c.requires.graph below (c.in_default-better_within.ensures.none refl bounds))
-
-pub returns-clause-rising : goal.returns-clause-rising
-returns-clause-rising g c =
-    let costs = g.C.Cost.costs c.args.cost.now in
-    let labels = c.args.labels.now in
-    let marks = c.args.marks.now in
-    let class = c.args.class.0 in
-    let below : class < length marks = omega (arith, c.requires.class, c.requires.rising.one_each) in
-    let label = label_is_cost c.args.graph.now costs c.args.pats.now labels class ∙ ap cost_in c.in-Some.is in
-    let (same, shorter) = attains_under c.args.graph.now costs c.args.pats.now labels marks c.requires.rising class c.in-Some.label.cost (plain_mark c.height_bound-bound.result) label c.height_bound-bound.ensures.cost c.height_bound-bound.ensures.height c.requires.bounded c.in-Some-better_within.best c.in-Some-better_within.ensures.sound.0 c.in-Some-better_within.ensures.sound.1 in
-    raised c.args.graph.now costs c.args.pats.now labels marks c.requires.rising class c.in-Some-better_within.best below c.in-Some-better_within.ensures.sound.0 same shorter
-
-pub returns-clause-raises : goal.returns-clause-raises
-returns-clause-raises g c =
-    let costs = g.C.Cost.costs c.args.cost.now in
-    let labels = c.args.labels.now in
-    let marks = c.args.marks.now in
-    let class = c.args.class.0 in
-    let below : class < length marks = omega (arith, c.requires.class, c.requires.rising.one_each) in
-    let label = label_is_cost c.args.graph.now costs c.args.pats.now labels class ∙ ap cost_in c.in-Some.is in
-    let (same, shorter) = attains_under c.args.graph.now costs c.args.pats.now labels marks c.requires.rising class c.in-Some.label.cost (plain_mark c.height_bound-bound.result) label c.height_bound-bound.ensures.cost c.height_bound-bound.ensures.height c.requires.bounded c.in-Some-better_within.best c.in-Some-better_within.ensures.sound.0 c.in-Some-better_within.ensures.sound.1 in
-    raises_one c.args.graph.now costs c.args.pats.now labels marks _ class (heights_fall marks class c.in-Some-better_within.best.mark below shorter)
+    reached_under c.args.graph.now costs c.args.pats.now labels marks c.requires.rising class c.in-Some.label.cost (plain_mark c.height_bound-bound.result) label c.height_bound-bound.ensures.cost c.height_bound-bound.ensures.height c.requires.graph below (c.better_within-found.ensures.none (c.put_height.ensures.none e) bounds)

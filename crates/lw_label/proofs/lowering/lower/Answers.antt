@@ -12,4 +12,4 @@ returns-clause-lowers g c =
     let marks = c.args.marks.now in
     let numbers = c.renew-renewed in
     let label = c.lower_mark-lowered in
-    subst (λ b. Lowers graph costs pats (state bounds marks) (state numbers.new.self label.new.marks) (λ n. n ≡ c.args.class.0) b) (sym c.either.ensures) (label_pass graph costs pats bounds numbers.new.self marks label.new.marks c.args.class.0 numbers.result label.result numbers.ensures.never_rises numbers.ensures.falls numbers.ensures.same numbers.ensures.settled label.ensures.falls label.ensures.same label.ensures.bounded)
+    subst (λ b. Lowers graph costs pats (state bounds marks) (state numbers.new.self label.new.marks) (λ n. n ≡ c.args.class.0) b) (sym c.either.ensures) (label_pass graph costs pats bounds numbers.new.self marks label.new.marks c.args.class.0 numbers.result label.result numbers.ensures.never_rises numbers.ensures.falls numbers.ensures.same numbers.ensures.settled label.ensures.takes.falls label.ensures.takes.same label.ensures.bounded)
