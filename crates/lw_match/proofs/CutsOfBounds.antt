@@ -1,5 +1,5 @@
 -- What a table of bounds cuts.
-use Rattle.std.proofs.Common.{ℕ, ◌<◌, ◌≡◌, List, [], length, Option, Some, slice_get, slice_index_or, get_or, subst, ◌∙◌, arith}
+use Rattle.std.proofs.Common.{ℕ, ◌<◌, ◌≡◌, List, [], length, Option, Some, slice_get, slice_index_or, get_or, sym, subst, arith}
 use Rattle.std.proofs.lemmas.Option.{slice_get_within, slice_get-get_or}
 use Rattle.std.proofs.lemmas.List.{get_or_past}
 use native.Mathlib.Decide.{dec_lt}
@@ -10,12 +10,13 @@ use Rattle.lw_pattern.specs.Nodes.{tree_at, nodes_of}
 use Rattle.lw_match.specs.declared.mark.Mark.{Mark}
 use Rattle.lw_match.specs.declared.parts.Side.{Side}
 use Rattle.lw_match.specs.Shapes.{SideFits, gaps_of}
+use Rattle.lw_match.specs.Numbers.{AreStarts}
 use Rattle.lw_match.specs.Bounds.{BoundsState, BoundsFit, AreBounds}
 use Rattle.lw_match.specs.Cutting.{CutsState, CutsFit, AreCutsOf}
 use Rattle.lw_match.proofs.MoreParts.{shape_fits}
 
 abbrev pub cuts_of : BoundsState → CutsState
-cuts_of b = record { sides = b.sides; roots = b.roots; width = length b.parts; numbers = b.numbers; gaps = b.gaps }
+cuts_of b = record { sides = b.sides; roots = b.roots; width = length b.parts; starts = b.starts; numbers = b.numbers; gaps = b.gaps }
 
 pub bounds_cut : (b : BoundsState) (pats : List Pattern) (g : Graph) → BoundsFit b pats g → CutsFit (cuts_of b) g
 bounds_cut b pats g fit = record {
@@ -30,13 +31,13 @@ bounds_cut b pats g fit = record {
         let p = get_or pats i none in
         let lt = slice_get_within b.roots i side at in
         let count = fit.root_count in
-        shape_fits b.parts (gaps_of b.gaps i) p.tree side (fit.roots i p side (slice_get-get_or pats i none (omega arith)) at)
+        shape_fits b.parts (gaps_of b.gaps i) 0 p.tree side (fit.roots i p side (slice_get-get_or pats i none (omega arith)) at)
 
     sides : (i place : ℕ) (side : Side) → slice_get (slice_index_or b.sides i []) place ≡ Some side → Dec (i < length pats) → SideFits (length b.parts) side
     sides i place side at (yes lt) =
         let none : Pattern = record { cell = 0; tree = const_one } in
         let p = get_or pats i none in
-        shape_fits b.parts (gaps_of b.gaps i) (tree_at (nodes_of p.tree) place) side (fit.sides i p (slice_get-get_or pats i none lt) place side at)
+        shape_fits b.parts (gaps_of b.gaps i) 0 (tree_at (nodes_of p.tree) place) side (fit.sides i p (slice_get-get_or pats i none lt) place side at)
     sides i place side at (no ge) =
         let count = fit.count in
         let empty : slice_get [] place ≡ Some side = subst (λ (ss : List Side). slice_get ss place ≡ Some side) (get_or_past b.sides i [] (omega arith)) at in
@@ -49,9 +50,13 @@ bounds_cut_well b pats g marks fit bounds = record {
 }
 
 -- other numbers, as many
-pub fits_with : (b : BoundsState) (pats : List Pattern) (g : Graph) (numbers : List ℕ) → length numbers ≡ length b.numbers → BoundsFit b pats g → BoundsFit (record { parts = b.parts; gaps = b.gaps; sides = b.sides; roots = b.roots; numbers = numbers }) pats g
+pub fits_with : (b : BoundsState) (pats : List Pattern) (g : Graph) (numbers : List ℕ) → length numbers ≡ length b.numbers → BoundsFit b pats g → BoundsFit (record { parts = b.parts; gaps = b.gaps; sides = b.sides; roots = b.roots; starts = b.starts; numbers = numbers }) pats g
 fits_with b pats g numbers size fit = record {
-  rows = record { closed = fit.rows.closed; rows = size ∙ fit.rows.rows };
+  rows = record {
+    closed = fit.rows.closed;
+    rows = subst (AreStarts (length b.parts) b.starts) (sym size) fit.rows.rows;
+    bare = fit.rows.bare;
+  };
   count = fit.count;
   sides = fit.sides;
   root_count = fit.root_count;

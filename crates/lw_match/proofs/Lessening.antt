@@ -1,5 +1,5 @@
 -- Numbers that fall to what the pairs of a class give.
-use Rattle.std.proofs.Common.{ℕ, ◌⊎◌, ◌+◌, ◌*◌, ◌%◌, ◌<◌, ◌≤◌, ◌≡◌, ◌||◌, Bool, true, false, if◌then◌else◌, List, [], length, max, Option, Some, slice_get, get_or, refl, sym, ap, subst, ◌∙◌, inl, inr, arith}
+use Rattle.std.proofs.Common.{ℕ, ◌⊎◌, ◌+◌, ◌*◌, ◌%◌, ◌<◌, ◌≤◌, ◌≡◌, ◌||◌, Bool, true, false, if◌then◌else◌, List, [], ◌∷◌, length, max, Option, Some, slice_get, get_or, refl, sym, ap, subst, ◌∙◌, inl, inr, arith}
 use Rattle.std.proofs.Math.ListN.{set}
 use Rattle.std.proofs.lemmas.List.Sums.{sum_by-set}
 use native.Mathlib.Nat.{eq-or-lt_of_le}
@@ -7,12 +7,13 @@ use Rattle.lw_laws.specs.Flip.{flip}
 use Rattle.lw_laws.specs.Graphs.{Graph, Pair as PlainPair, HoldsPair}
 use Rattle.lw_graph.specs.declared.pair.Pair.{Pair}
 use Rattle.lw_graph.specs.Graphs.{plain_row}
-use Rattle.std.proofs.Common.{slice_index_or, Contains}
+use Rattle.std.proofs.Common.{slice_index, slice_index_or, Contains, eqb-true}
+use Rattle.std.specs.Prelude.{◌==◌}
 use Rattle.lw_match.specs.declared.mark.Mark.{Mark}
 use Rattle.lw_match.specs.declared.parts.Side.{Side}
 use Rattle.lw_match.specs.declared.parts.Part.{Part}
-use Rattle.lw_match.specs.Numbers.{Reading, class_below, side_number, pair_number}
-use Rattle.lw_match.specs.Bounds.{total, reading_of, AreSettledBelow}
+use Rattle.lw_match.specs.Numbers.{never, no_row, start_of, AreStarts, number_from, Reading, class_below, side_number, pair_number}
+use Rattle.lw_match.specs.Bounds.{total, reading_of, AreBare, AreSettledBelow}
 use Rattle.lw_match.proofs.Branches.{flip_below}
 use Rattle.lw_match.proofs.Pairs.{pair_at}
 
@@ -72,8 +73,28 @@ lowered_more start least old mid new n false false h falls same settled = record
         subst (λ (j : ℕ). get_or old (start + j) 0 ≤ get_or least j 0) (sym e) (subst (λ (ns : List ℕ). get_or ns (start + n) 0 ≤ get_or least n 0) (h.same refl) (settled refl))
     place k (inr lt) = h.settled refl k lt
 
+pub number_at : (numbers : List ℕ) (n start : ℕ) → (start ≡ no_row → ⊥) → number_from numbers n start ≡ slice_index numbers (start + n)
+number_at numbers n start has = by_test (start == no_row) refl
+  where
+    by_test : (b : Bool) → (start == no_row) ≡ b → (if b then never else slice_index numbers (start + n)) ≡ slice_index numbers (start + n)
+    by_test true e = absurd (has (eqb-true start no_row e))
+    by_test false e = refl
+
 -- numbers that are not above those that the pairs give are settled
-pub lowered_settles : (g : Graph) (marks : List (Option Mark)) (parts : List Part) (c : ℕ) (row : List Pair) (old least : List ℕ) → plain_row row ≡ slice_index_or g.pairs c [] → length least ≡ length parts → ((k : ℕ) → k < length least → get_or old (c * length parts + k) 0 ≤ get_or least k 0) → ((i : ℕ) (q : Pair) (k : ℕ) (p : Part) → slice_get row i ≡ Some q → slice_get parts k ≡ Some p → get_or least k 0 ≤ pair_number (reading_of g marks parts old) p q.x.0 q.y.0) → AreSettledBelow g (reading_of g marks parts old) parts c (length parts)
-lowered_settles g marks parts c row old least is count falls below k lt p x y at h =
+pub lowered_settles : (g : Graph) (marks : List (Option Mark)) (parts : List Part) (starts : List ℕ) (c : ℕ) (row : List Pair) (old least : List ℕ) → plain_row row ≡ slice_index_or g.pairs c [] → (start_of starts c ≡ no_row → ⊥) → length least ≡ length parts → ((k : ℕ) → k < length least → get_or old (start_of starts c + k) 0 ≤ get_or least k 0) → ((i : ℕ) (q : Pair) (k : ℕ) (p : Part) → slice_get row i ≡ Some q → slice_get parts k ≡ Some p → get_or least k 0 ≤ pair_number (reading_of g marks parts starts old) p q.x.0 q.y.0) → AreSettledBelow g (reading_of g marks parts starts old) parts c (length parts)
+lowered_settles g marks parts starts c row old least is has count falls below k lt p x y at h =
     let le = falls k (omega arith) in
-    least_settles g (reading_of g marks parts old) p c row is (get_or old (c * length parts + k) 0) (λ i q f. let m = below i q k p f at in omega arith) x y h
+    let number = number_at old k (start_of starts c) has in
+    least_settles g (reading_of g marks parts starts old) p c row is (number_from old k (start_of starts c)) (λ i q f. let m = below i q k p f at in omega arith) x y h
+
+-- a class with a pair has a row
+pub row_there : (g : Graph) (starts : List ℕ) (c : ℕ) (row : List Pair) → plain_row row ≡ slice_index_or g.pairs c [] → AreBare starts g → (length row ≡ 0 → ⊥) → start_of starts c ≡ no_row → ⊥
+row_there g starts c [] is bare some none = absurd (some refl)
+row_there g starts c (q ∷ row) is bare some none = cc (is ∙ bare c none)
+
+pub whole_row : (width : ℕ) (starts : List ℕ) (size c : ℕ) → (start_of starts c ≡ no_row → ⊥) → AreStarts width starts size → start_of starts c + width ≤ size
+whole_row width starts size c has are = by_row (are c)
+  where
+    by_row : (start_of starts c ≡ no_row) ⊎ (start_of starts c + width ≤ size) → start_of starts c + width ≤ size
+    by_row (inl e) = absurd (has e)
+    by_row (inr le) = le

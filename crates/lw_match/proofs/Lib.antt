@@ -28,6 +28,7 @@ pub mod Refusals
 pub mod RootShapes
 pub mod Rooting
 pub mod Settled
+pub mod Rowing
 pub mod SideRows
 pub mod Soughts
 pub mod Starting

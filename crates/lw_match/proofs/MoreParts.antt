@@ -1,5 +1,5 @@
 -- Shapes under more parts.
-use Rattle.std.proofs.Common.{Vec, Global, ℕ, zero, suc, ◌⊎◌, ◌+◌, ◌<◌, ◌≤◌, ◌≡◌, Bool, true, false, ◌&&◌, not, position, if◌then◌else◌, List, [], ◌∷◌, ◌++◌, length, Some, slice_get, slice_index, get_or, refl, sym, ap, ap₂, subst, ◌∙◌, inl, inr, arith, append-nil, append_assoc, eqb-true}
+use Rattle.std.proofs.Common.{Vec, Global, ℕ, zero, suc, ◌⊎◌, ◌+◌, ◌<◌, ◌≤◌, ◌≡◌, Bool, true, false, ◌&&◌, not, position, if◌then◌else◌, List, [], ◌∷◌, ◌++◌, length, Some, slice_get, slice_index, get_or, refl, sym, ap, ap₂, subst, ◌∙◌, inl, inr, arith, append-nil, append_assoc, eqb-true, nat_eq, zero-add, ◌-◌}
 use Rattle.std.specs.List.{list_any}
 use Rattle.std.proofs.lemmas.List.{length-append}
 use Rattle.std.proofs.lemmas.List.Quantifiers.{position-Some}
@@ -16,26 +16,8 @@ use Rattle.lw_match.specs.declared.parts.Part.{Part}
 use Rattle.lw_match.specs.contracts.parts.KindPartialEq.TheImpl.{eq-value as kind_eq}
 use Rattle.lw_match.specs.contracts.parts.SidePartialEq.TheImpl.{eq-value as side_eq}
 use Rattle.lw_match.specs.contracts.parts.PartPartialEq.TheImpl.{eq-value as part_eq}
-use Rattle.lw_match.specs.Shapes.{turned, AreEitherOf, IsJoined, JoinsShapes, HasShape, KindFits, SideFits, AreClosed, AreParts, AreMoreParts, HaveShapes, AllHaveShapes, gaps_of}
-
--- a test of equality
-pub same_kind : (a b : Kind) → kind_eq.it a b ≡ true → a ≡ b
-same_kind Any Any e = refl
-same_kind Any (Leaf n) e = cc
-same_kind Any One e = cc
-same_kind Any (Joined n) e = cc
-same_kind (Leaf m) Any e = cc
-same_kind (Leaf m) (Leaf n) e = ap Leaf (eqb-true m n e)
-same_kind (Leaf m) One e = cc
-same_kind (Leaf m) (Joined n) e = cc
-same_kind One Any e = cc
-same_kind One (Leaf n) e = cc
-same_kind One One e = refl
-same_kind One (Joined n) e = cc
-same_kind (Joined m) Any e = cc
-same_kind (Joined m) (Leaf n) e = cc
-same_kind (Joined m) One e = cc
-same_kind (Joined m) (Joined n) e = ap Joined (eqb-true m n e)
+use native.Mathlib.Decide.{ℕ_discrete}
+use Rattle.lw_match.specs.Shapes.{turned, HasPin, IsPinned, kind_base, kind_above, side_above, AreEitherOf, IsJoined, JoinsShapes, HasShape, KindFits, SideFits, AreClosed, AreParts, AreMoreParts, HaveShapes, AllHaveShapes, gaps_of}
 
 and_left : (s t : Bool) → (s && t) ≡ true → s ≡ true
 and_left true t e = refl
@@ -44,6 +26,26 @@ and_left false t e = e
 and_right : (s t : Bool) → (s && t) ≡ true → t ≡ true
 and_right true t e = e
 and_right false t e = cc
+
+-- a test of equality
+pub same_kind : (a b : Kind) → kind_eq.it a b ≡ true → a ≡ b
+same_kind Any Any e = refl
+same_kind Any (Leaf n) e = cc
+same_kind Any One e = cc
+same_kind Any (Joined n d) e = cc
+same_kind (Leaf m) Any e = cc
+same_kind (Leaf m) (Leaf n) e = ap Leaf (eqb-true m n e)
+same_kind (Leaf m) One e = cc
+same_kind (Leaf m) (Joined n d) e = cc
+same_kind One Any e = cc
+same_kind One (Leaf n) e = cc
+same_kind One One e = refl
+same_kind One (Joined n d) e = cc
+same_kind (Joined m c) Any e = cc
+same_kind (Joined m c) (Leaf n) e = cc
+same_kind (Joined m c) One e = cc
+same_kind (Joined m c) (Joined n d) e =
+    ap₂ Joined (eqb-true m n (and_left (nat_eq m n) (nat_eq c d) e)) (eqb-true c d (and_right (nat_eq m n) (nat_eq c d) e))
 
 abbrev side_with : Kind → Bool → Side
 side_with kind flipped = record { kind = kind; flipped = flipped }
@@ -91,37 +93,37 @@ get_in_both (z ∷ xs) y (suc n) x e = deeper (get_in_both xs y n x e)
     deeper (inl f) = inl f
     deeper (inr (f, g)) = inr (ap suc f, g)
 
-pub shape_more : (parts rest : List Part) (gaps : List ℕ) (t : Tree) (s : Side) → HasShape parts gaps t s → HasShape (parts ++ rest) gaps t s
-shape_more parts rest gaps (leaf k) s h = h
-shape_more parts rest gaps const_one s h = h
-shape_more parts rest gaps const_zero s h = h
-shape_more parts rest gaps (inv t) s h = shape_more parts rest gaps t (turned s) h
-shape_more parts rest gaps (nand t u) s (inl e) = inl e
-shape_more parts rest gaps (nand t u) s (inr (n, p, e, at, inl (left, right))) =
-    inr (n, p, e, get_in_more parts rest n p at, inl (shape_more parts rest gaps t p.left left, shape_more parts rest gaps u p.right right))
-shape_more parts rest gaps (nand t u) s (inr (n, p, e, at, inr (right, left))) =
-    inr (n, p, e, get_in_more parts rest n p at, inr (shape_more parts rest gaps t p.right right, shape_more parts rest gaps u p.left left))
+pub shape_more : (parts rest : List Part) (gaps : List ℕ) (base : ℕ) (t : Tree) (s : Side) → HasShape parts gaps base t s → HasShape (parts ++ rest) gaps base t s
+shape_more parts rest gaps base (leaf k) s h = h
+shape_more parts rest gaps base const_one s h = h
+shape_more parts rest gaps base const_zero s h = h
+shape_more parts rest gaps base (inv t) s h = shape_more parts rest gaps base t (turned s) h
+shape_more parts rest gaps base (nand t u) s (inl e) = inl e
+shape_more parts rest gaps base (nand t u) s (inr (n, d, p, e, at, pin, inl (left, right))) =
+    inr (n, d, p, e, get_in_more parts rest n p at, pin, inl (shape_more parts rest gaps (base + d) t p.left left, shape_more parts rest gaps (base + d) u p.right right))
+shape_more parts rest gaps base (nand t u) s (inr (n, d, p, e, at, pin, inr (right, left))) =
+    inr (n, d, p, e, get_in_more parts rest n p at, pin, inr (shape_more parts rest gaps (base + d) t p.right right, shape_more parts rest gaps (base + d) u p.left left))
 
 fits_plain : (n : ℕ) (s : Side) (kind : Kind) → s.kind ≡ kind → KindFits n kind → SideFits n s
 fits_plain n s kind e h = subst (KindFits n) (sym e) h
 
-pub shape_fits : (parts : List Part) (gaps : List ℕ) (t : Tree) (s : Side) → HasShape parts gaps t s → SideFits (length parts) s
-shape_fits parts gaps (leaf k) s (inl e) = fits_plain (length parts) s Any e tt
-shape_fits parts gaps (leaf k) s (inr e) = fits_plain (length parts) s (Leaf (slice_index gaps k)) (ap (λ (s : Side). s.kind) e) tt
-shape_fits parts gaps const_one s (inl e) = fits_plain (length parts) s Any e tt
-shape_fits parts gaps const_one s (inr e) = fits_plain (length parts) s One (ap (λ (s : Side). s.kind) e) tt
-shape_fits parts gaps const_zero s (inl e) = fits_plain (length parts) s Any e tt
-shape_fits parts gaps const_zero s (inr e) = fits_plain (length parts) s One (ap (λ (s : Side). s.kind) e) tt
-shape_fits parts gaps (inv t) s h = shape_fits parts gaps t (turned s) h
-shape_fits parts gaps (nand t u) s (inl e) = fits_plain (length parts) s Any e tt
-shape_fits parts gaps (nand t u) s (inr (n, p, e, at, sides)) =
-    fits_plain (length parts) s (Joined n) (ap (λ (s : Side). s.kind) e) (slice_get_within parts n p at)
+pub shape_fits : (parts : List Part) (gaps : List ℕ) (base : ℕ) (t : Tree) (s : Side) → HasShape parts gaps base t s → SideFits (length parts) s
+shape_fits parts gaps base (leaf k) s (inl e) = fits_plain (length parts) s Any e tt
+shape_fits parts gaps base (leaf k) s (inr (d, e, gap)) = fits_plain (length parts) s (Leaf d) (ap (λ (s : Side). s.kind) e) tt
+shape_fits parts gaps base const_one s (inl e) = fits_plain (length parts) s Any e tt
+shape_fits parts gaps base const_one s (inr e) = fits_plain (length parts) s One (ap (λ (s : Side). s.kind) e) tt
+shape_fits parts gaps base const_zero s (inl e) = fits_plain (length parts) s Any e tt
+shape_fits parts gaps base const_zero s (inr e) = fits_plain (length parts) s One (ap (λ (s : Side). s.kind) e) tt
+shape_fits parts gaps base (inv t) s h = shape_fits parts gaps base t (turned s) h
+shape_fits parts gaps base (nand t u) s (inl e) = fits_plain (length parts) s Any e tt
+shape_fits parts gaps base (nand t u) s (inr (n, d, p, e, at, pin, sides)) =
+    fits_plain (length parts) s (Joined n d) (ap (λ (s : Side). s.kind) e) (slice_get_within parts n p at)
 
 pub kind_fits_more : (n m : ℕ) (kind : Kind) → n ≤ m → KindFits n kind → KindFits m kind
 kind_fits_more n m Any le h = tt
 kind_fits_more n m (Leaf gap) le h = tt
 kind_fits_more n m One le h = tt
-kind_fits_more n m (Joined k) le h = omega arith
+kind_fits_more n m (Joined k d) le h = omega arith
 
 -- one more part whose sides name earlier ones
 pub closed_more : (parts : List Part) (p : Part) → AreClosed parts → SideFits (length parts) p.left → SideFits (length parts) p.right → AreClosed (parts ++ p ∷ [])
@@ -144,25 +146,76 @@ parts_grown room keys new p are few left right e = subst (AreParts room) (sym e)
     by_test true = are
     by_test false = record { few = omega (arith, length-append keys (p ∷ [])); closed = closed_more keys p are.closed left right }
 
--- the sides of a part in the list make a NAND
-pub joins : (parts new : List Part) (left right : Side) (p : Part) (s : Side) → AreEitherOf left right p → AreMoreParts parts new → IsJoined new p s → JoinsShapes parts new left right s
-joins parts new left right p s (inl (l, r)) (rest, more) (n, e, at) gaps t u first second =
-    inr (n, p, e, at, inl (shape_in left p.left t l first, shape_in right p.right u r second))
+-- a side with its shift relative to a base
+pub above_fits : (n base : ℕ) (s : Side) → SideFits n s → SideFits n (side_above base s)
+above_fits n base s h = by_kind s.kind h
   where
-    shape_in : (a b : Side) (t : Tree) → b ≡ a → HasShape parts gaps t a → HasShape new gaps t b
-    shape_in a b t same h =
-        subst (λ ps. HasShape ps gaps t b) (sym more) (shape_more parts rest gaps t b (subst (HasShape parts gaps t) (sym same) h))
-joins parts new left right p s (inr (l, r)) (rest, more) (n, e, at) gaps t u first second =
-    inr (n, p, e, at, inr (shape_in left p.right t r first, shape_in right p.left u l second))
+    by_kind : (k : Kind) → KindFits n k → KindFits n (kind_above base k)
+    by_kind Any h = tt
+    by_kind (Leaf d) h = tt
+    by_kind One h = tt
+    by_kind (Joined p d) h = h
+
+pin_above : (base : ℕ) (k : Kind) → (kind_base k ≡ 18446744073709551615 → ⊥) → HasPin (kind_above base k)
+pin_above base Any some = absurd (some refl)
+pin_above base (Leaf d) some = tt
+pin_above base One some = absurd (some refl)
+pin_above base (Joined p d) some = tt
+
+-- what has a shape has it above a base, where each pin of the side is
+pub shape_above : (parts : List Part) (gaps : List ℕ) (base : ℕ) (t : Tree) (s : Side) → base ≤ kind_base s.kind → HasShape parts gaps 0 t s → HasShape parts gaps base t (side_above base s)
+shape_above parts gaps base (leaf k) s le (inl e) = inl (ap (kind_above base) e)
+shape_above parts gaps base (leaf k) s le (inr (d, e, gap)) =
+    let low : base ≤ d = subst (λ (s : Side). base ≤ kind_base s.kind) e le in
+    inr (d - base, ap (side_above base) e, omega arith)
+shape_above parts gaps base const_one s le (inl e) = inl (ap (kind_above base) e)
+shape_above parts gaps base const_one s le (inr e) = inr (ap (side_above base) e)
+shape_above parts gaps base const_zero s le (inl e) = inl (ap (kind_above base) e)
+shape_above parts gaps base const_zero s le (inr e) = inr (ap (side_above base) e)
+shape_above parts gaps base (inv t) s le h = shape_above parts gaps base t (turned s) le h
+shape_above parts gaps base (nand t u) s le (inl e) = inl (ap (kind_above base) e)
+shape_above parts gaps base (nand t u) s le (inr (n, d, p, e, at, pin, sides)) =
+    let low : base ≤ d = subst (λ (s : Side). base ≤ kind_base s.kind) e le in
+    let same : 0 + d ≡ base + (d - base) = omega arith in
+    inr (n, d - base, p, ap (side_above base) e, at, pin, subst (λ (b : ℕ). (HasShape parts gaps b t p.left × HasShape parts gaps b u p.right) ⊎ (HasShape parts gaps b t p.right × HasShape parts gaps b u p.left)) same sides)
+
+-- the sides of a part in the list make a NAND, one of which has a pin
+pub joins : (parts new : List Part) (left right : Side) (base : ℕ) (p : Part) (s : Side) → base ≤ kind_base left.kind → base ≤ kind_base right.kind → (kind_base left.kind ≡ 18446744073709551615 → kind_base right.kind ≡ 18446744073709551615 → ⊥) → AreEitherOf (side_above base left) (side_above base right) p → AreMoreParts parts new → IsJoined new p base s → JoinsShapes parts new left right s
+joins parts new left right base p s in_left in_right some either (rest, more) (n, e, at) gaps t u first second =
+    inr (n, base, p, e, at, pinned either, sides either)
   where
-    shape_in : (a b : Side) (t : Tree) → b ≡ a → HasShape parts gaps t a → HasShape new gaps t b
-    shape_in a b t same h =
-        subst (λ ps. HasShape ps gaps t b) (sym more) (shape_more parts rest gaps t b (subst (HasShape parts gaps t) (sym same) h))
+    pins : HasPin (kind_above base left.kind) ⊎ HasPin (kind_above base right.kind)
+    pins = by_test (ℕ_discrete (kind_base left.kind) 18446744073709551615)
+      where
+        by_test : Dec (kind_base left.kind ≡ 18446744073709551615) → HasPin (kind_above base left.kind) ⊎ HasPin (kind_above base right.kind)
+        by_test (yes q) = inr (pin_above base right.kind (some q))
+        by_test (no q) = inl (pin_above base left.kind q)
+
+    pin_in : (a b : Side) → b ≡ a → HasPin a.kind → HasPin b.kind
+    pin_in a b same h = subst (λ (s : Side). HasPin s.kind) (sym same) h
+
+    pinned : AreEitherOf (side_above base left) (side_above base right) p → IsPinned p
+    pinned (inl (l, r)) = elim pins [
+      | inl h ↦ inl (pin_in (side_above base left) p.left l h)
+      | inr h ↦ inr (pin_in (side_above base right) p.right r h)
+    ]
+    pinned (inr (l, r)) = elim pins [
+      | inl h ↦ inr (pin_in (side_above base left) p.right r h)
+      | inr h ↦ inl (pin_in (side_above base right) p.left l h)
+    ]
+
+    shape_in : (a b : Side) (t : Tree) → b ≡ side_above base a → base ≤ kind_base a.kind → HasShape parts gaps 0 t a → HasShape new gaps (0 + base) t b
+    shape_in a b t same le h =
+        subst (λ ps. HasShape ps gaps (0 + base) t b) (sym more) (shape_more parts rest gaps (0 + base) t b (subst (HasShape parts gaps (0 + base) t) (sym same) (subst (λ (d : ℕ). HasShape parts gaps d t (side_above base a)) (sym (zero-add base)) (shape_above parts gaps base t a le h))))
+
+    sides : AreEitherOf (side_above base left) (side_above base right) p → (HasShape new gaps (0 + base) t p.left × HasShape new gaps (0 + base) u p.right) ⊎ (HasShape new gaps (0 + base) t p.right × HasShape new gaps (0 + base) u p.left)
+    sides (inl (l, r)) = inl (shape_in left p.left t l in_left first, shape_in right p.right u r in_right second)
+    sides (inr (l, r)) = inr (shape_in left p.right t r in_left first, shape_in right p.left u l in_right second)
 
 -- under more parts
 pub have_more : (keys more : List Part) (gaps : List ℕ) (nodes : List PatNode) (sides : List Side) → AreMoreParts keys more → HaveShapes keys gaps nodes sides → HaveShapes more gaps nodes sides
 have_more keys more gaps nodes sides (rest, e) have place s at =
-    subst (λ ps. HasShape ps gaps (tree_at nodes place) s) (sym e) (shape_more keys rest gaps (tree_at nodes place) s (have place s at))
+    subst (λ ps. HasShape ps gaps 0 (tree_at nodes place) s) (sym e) (shape_more keys rest gaps 0 (tree_at nodes place) s (have place s at))
 
 more_twice : (a b c : List Part) → AreMoreParts a b → AreMoreParts b c → AreMoreParts a c
 more_twice a b c (r, e) (q, f) = (r ++ q, f ∙ (ap (λ xs. xs ++ q) e ∙ append_assoc a r q))
@@ -178,7 +231,7 @@ pub shaped_none : (room : ℕ) (keys : List Part) (gaps : List ℕ) (nodes : Lis
 shaped_none room keys gaps nodes are =
     record { parts = are; more = ([], sym (append-nil keys)); count = refl; shapes = λ place s e. cc }
 
-pub shaped_more : (room : ℕ) (before keys new : List Part) (gaps : List ℕ) (nodes : List PatNode) (sides : List Side) (n : ℕ) (s : Side) → AreShaped room before keys gaps nodes sides n → AreParts room new → AreMoreParts keys new → HasShape new gaps (tree_at nodes (length sides)) s → AreShaped room before new gaps nodes (sides ++ s ∷ []) (n + 1)
+pub shaped_more : (room : ℕ) (before keys new : List Part) (gaps : List ℕ) (nodes : List PatNode) (sides : List Side) (n : ℕ) (s : Side) → AreShaped room before keys gaps nodes sides n → AreParts room new → AreMoreParts keys new → HasShape new gaps 0 (tree_at nodes (length sides)) s → AreShaped room before new gaps nodes (sides ++ s ∷ []) (n + 1)
 shaped_more room before keys new gaps nodes sides n s h are more shape = record {
   parts = are;
   more = more_twice before keys new h.more more;
@@ -186,10 +239,10 @@ shaped_more room before keys new gaps nodes sides n s h are more shape = record 
   shapes = λ place k e. at_place place k (get_in_both sides s place k e);
 }
   where
-    at_place : (place : ℕ) (k : Side) → (slice_get sides place ≡ Some k) ⊎ ((place ≡ length sides) × (k ≡ s)) → HasShape new gaps (tree_at nodes place) k
+    at_place : (place : ℕ) (k : Side) → (slice_get sides place ≡ Some k) ⊎ ((place ≡ length sides) × (k ≡ s)) → HasShape new gaps 0 (tree_at nodes place) k
     at_place place k (inl e) = have_more keys new gaps nodes sides more h.shapes place k e
     at_place place k (inr (e, f)) =
-        subst (λ p. HasShape new gaps (tree_at nodes p) k) (sym e) (subst (λ (k : Side). HasShape new gaps (tree_at nodes (length sides)) k) (sym f) shape)
+        subst (λ p. HasShape new gaps 0 (tree_at nodes p) k) (sym e) (subst (λ (k : Side). HasShape new gaps 0 (tree_at nodes (length sides)) k) (sym f) shape)
 
 get_in_sides : (all : List (List Side)) (sides : List Side) (i place : ℕ) (s : Side) → slice_get (get_or (all ++ sides ∷ []) i []) place ≡ Some s → (slice_get (get_or all i []) place ≡ Some s) ⊎ ((i ≡ length all) × (slice_get sides place ≡ Some s))
 get_in_sides [] sides zero place s e = inr (refl, e)
@@ -205,12 +258,12 @@ get_in_sides (xs ∷ all) sides (suc i) place s e = deeper (get_in_sides all sid
 pub all_more : (keys new : List Part) (gaps : List (List ℕ)) (pats : List Pattern) (all : List (List Side)) (p : Pattern) (sides : List Side) → AllHaveShapes keys gaps pats all → AreMoreParts keys new → slice_get pats (length all) ≡ Some p → HaveShapes new (gaps_of gaps (length all)) (nodes_of p.tree) sides → AllHaveShapes new gaps pats (all ++ sides ∷ [])
 all_more keys new gaps pats all p sides have more listed shapes i q e place s at = by_place (get_in_sides all sides i place s at)
   where
-    by_place : (slice_get (get_or all i []) place ≡ Some s) ⊎ ((i ≡ length all) × (slice_get sides place ≡ Some s)) → HasShape new (gaps_of gaps i) (tree_at (nodes_of q.tree) place) s
+    by_place : (slice_get (get_or all i []) place ≡ Some s) ⊎ ((i ≡ length all) × (slice_get sides place ≡ Some s)) → HasShape new (gaps_of gaps i) 0 (tree_at (nodes_of q.tree) place) s
     by_place (inl f) = have_more keys new (gaps_of gaps i) (nodes_of q.tree) (get_or all i []) more (have i q e) place s f
     by_place (inr (f, g)) =
         let there : slice_get pats (length all) ≡ Some q = subst (λ j. slice_get pats j ≡ Some q) f e in
         let same : q ≡ p = cc in
-        subst (λ (q : Pattern). HasShape new (gaps_of gaps i) (tree_at (nodes_of q.tree) place) s) (sym same) (subst (λ j. HasShape new (gaps_of gaps j) (tree_at (nodes_of p.tree) place) s) (sym f) (shapes place s g))
+        subst (λ (q : Pattern). HasShape new (gaps_of gaps i) 0 (tree_at (nodes_of q.tree) place) s) (sym same) (subst (λ j. HasShape new (gaps_of gaps j) 0 (tree_at (nodes_of p.tree) place) s) (sym f) (shapes place s g))
 
 abbrev pub items_of : Vec Side Global → List Side
 items_of sides = sides.items

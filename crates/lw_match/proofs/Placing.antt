@@ -1,69 +1,117 @@
--- Where the sides of parts stand in rows.
-use Rattle.std.proofs.Common.{ℕ, ◌⊎◌, ◌+◌, ◌*◌, ◌<◌, ◌≤◌, ◌≡◌, Bool, true, false, List, [], ◌∷◌, ◌++◌, length, Some, slice_get, refl, sym, ap, subst, ◌∙◌, inl, inr, arith, append_assoc}
-use Rattle.std.proofs.lemmas.List.{length-append}
-use Rattle.std.proofs.lemmas.Option.{slice_get_within}
+-- The rules of parts, in groups.
+use Rattle.std.proofs.Common.{ℕ, zero, suc, ◌⊎◌, ◌+◌, ◌*◌, ◌/◌, ◌%◌, ◌<◌, ◌≤◌, ◌≡◌, Bool, true, false, List, [], ◌∷◌, ◌++◌, length, Some, slice_get, refl, sym, ap, subst, ◌∙◌, inl, inr, arith}
+use Rattle.std.proofs.lemmas.Option.{slice_get_within, same_Some}
+use native.Mathlib.Nat.{eq-or-lt_of_le}
 use Rattle.lw_match.specs.declared.parts.Kind.{Kind}
 use Rattle.lw_match.specs.declared.parts.Kind.TheVariants.{Any, Leaf, One, Joined}
 use Rattle.lw_match.specs.declared.parts.Side.{Side}
 use Rattle.lw_match.specs.declared.parts.Part.{Part}
-use Rattle.lw_match.specs.declared.parts.Place.{Place}
-use Rattle.lw_match.specs.Places.{AreMoreGaps, HasPlace, IsPlaceOf, ArePlacesOf, row_length}
+use Rattle.lw_match.specs.declared.parts.Rule.{Rule}
+use Rattle.lw_match.specs.declared.parts.Group.{Group}
+use Rattle.lw_match.specs.Places.{list_by, list_of, rule_of, AreRulesOf, HaveRules, IsGroupOf, HasRule, AreGroupsOf, AreGrouped}
 use Rattle.lw_match.proofs.MoreParts.{get_in_more, get_in_both}
 
-pub more_gaps : (a b c : List ℕ) → AreMoreGaps a b → AreMoreGaps b c → AreMoreGaps a c
-more_gaps a b c (r, e) (q, f) = (r ++ q, f ∙ (ap (λ (xs : List ℕ). xs ++ q) e ∙ append_assoc a r q))
-
--- a place is kept under more gaps
-pub place_more : (width : ℕ) (gaps more : List ℕ) (s : Side) (k : ℕ) → AreMoreGaps gaps more → IsPlaceOf width gaps s k → IsPlaceOf width more s k
-place_more width gaps more s k (rest, same) h = by_kind s.kind h
+pub list_small : (s : Side) → list_of s ≤ 2
+list_small s = by_kind s.kind s.flipped
   where
-    by_kind : (kind : Kind) → HasPlace width gaps k s.flipped kind → HasPlace width more k s.flipped kind
-    by_kind Any e = e
-    by_kind (Leaf gap) (i, at, e) =
-        (i, subst (λ (gs : List ℕ). slice_get gs i ≡ Some gap) (sym same) (get_in_more gaps rest i gap at), e)
-    by_kind One e = e
-    by_kind (Joined p) e = e
+    by_kind : (k : Kind) (b : Bool) → list_by k b ≤ 2
+    by_kind Any b = omega arith
+    by_kind (Leaf d) b = omega arith
+    by_kind One b = omega arith
+    by_kind (Joined p d) true = omega arith
+    by_kind (Joined p d) false = omega arith
 
--- a place is in a row
-pub place_within : (width : ℕ) (gaps : List ℕ) (s : Side) (k : ℕ) → IsPlaceOf width gaps s k → k < row_length width gaps
-place_within width gaps s k h = by_kind s.flipped s.kind h
+get_added : {A : Type 0} (xs : List A) (y : A) → slice_get (xs ++ y ∷ []) (length xs) ≡ Some y
+get_added [] y = refl
+get_added (x ∷ xs) y = get_added xs y
+
+-- one more part, of which the rule is added
+pub rules_more : (parts : List Part) (left right : ℕ) (rules : List Rule) (n : ℕ) (p : Part) → slice_get parts n ≡ Some p → list_of p.left ≡ left → list_of p.right ≡ right → AreRulesOf parts left right rules → AreRulesOf parts left right (rules ++ rule_of n p ∷ [])
+rules_more parts left right rules n p at l r are i q e = by_place (get_in_both rules (rule_of n p) i q e)
   where
-    by_kind : (b : Bool) (kind : Kind) → HasPlace width gaps k b kind → k < row_length width gaps
-    by_kind b Any e = omega arith
-    by_kind true (Leaf gap) (i, at, e) = let lt = slice_get_within gaps i gap at in omega arith
-    by_kind false (Leaf gap) (i, at, e) = let lt = slice_get_within gaps i gap at in omega arith
-    by_kind true One e = omega arith
-    by_kind false One e = omega arith
-    by_kind true (Joined p) (lt, e) = omega arith
-    by_kind false (Joined p) (lt, e) = omega arith
+    by_place : (slice_get rules i ≡ Some q) ⊎ ((i ≡ length rules) × (q ≡ rule_of n p)) → (n : ℕ) × (p : Part) × (slice_get parts n ≡ Some p) × (q ≡ rule_of n p) × (list_of p.left ≡ left) × (list_of p.right ≡ right)
+    by_place (inl f) = are i q f
+    by_place (inr (f, same)) = (n, p, at, same, l, r)
 
--- the places of the sides of the first parts
-pub record AreFirstPlaced (width : ℕ) (parts : List Part) (gaps : List ℕ) (places : List Place) (n : ℕ) : Type 0 where
-  pub few : length gaps ≤ 2 * n
-  pub count : length places ≡ n
-  pub sides : ArePlacesOf width parts gaps places
+pub have_more_rules : (parts : List Part) (left right : ℕ) (rules : List Rule) (n : ℕ) (p : Part) → slice_get parts n ≡ Some p → HaveRules parts left right rules n → HaveRules parts left right (rules ++ rule_of n p ∷ []) (n + 1)
+have_more_rules parts left right rules n p at have k q lt here l r = by_place (eq-or-lt_of_le {n = k} {m = n} (omega arith))
+  where
+    by_place : (k ≡ n) ⊎ (k < n) → (i : ℕ) × (slice_get (rules ++ rule_of n p ∷ []) i ≡ Some (rule_of k q))
+    by_place (inl same) =
+        let there : slice_get parts n ≡ Some q = subst (λ (j : ℕ). slice_get parts j ≡ Some q) same here in
+        let part_is : p ≡ q = same_Some p q (sym at ∙ there) in
+        let rule_is : rule_of n p ≡ rule_of k q = ap (rule_of n) part_is ∙ ap (λ (j : ℕ). rule_of j q) (sym same) in
+        (length rules, get_added rules (rule_of n p) ∙ ap Some rule_is)
+    by_place (inr before) =
+        let (i, e) = have k q before here l r in
+        (i, get_in_more rules (rule_of n p ∷ []) i (rule_of k q) e)
 
-pub placed_none : (width : ℕ) (parts : List Part) (gaps : List ℕ) → gaps ≡ [] → AreFirstPlaced width parts gaps [] 0
-placed_none width parts gaps none =
-    record { few = let e = ap length none in omega arith; count = refl; sides = λ n p q at there. cc }
+-- one more part, which is not in the two lists
+pub have_passed : (parts : List Part) (left right : ℕ) (rules : List Rule) (n : ℕ) (p : Part) → slice_get parts n ≡ Some p → (list_of p.left ≡ left → list_of p.right ≡ right → ⊥) → HaveRules parts left right rules n → HaveRules parts left right rules (n + 1)
+have_passed parts left right rules n p at not have k q lt here l r = by_place (eq-or-lt_of_le {n = k} {m = n} (omega arith))
+  where
+    by_place : (k ≡ n) ⊎ (k < n) → (i : ℕ) × (slice_get rules i ≡ Some (rule_of k q))
+    by_place (inl same) =
+        let there : slice_get parts n ≡ Some q = subst (λ (j : ℕ). slice_get parts j ≡ Some q) same here in
+        let part_is : q ≡ p = same_Some q p (sym there ∙ at) in
+        absurd (not (subst (λ (x : Part). list_of x.left ≡ left) part_is l) (subst (λ (x : Part). list_of x.right ≡ right) part_is r))
+    by_place (inr before) = have k q before here l r
 
-pub placed_more : (width : ℕ) (parts : List Part) (gaps mid more : List ℕ) (places : List Place) (n : ℕ) (p : Part) (q : Place) → AreFirstPlaced width parts gaps places n → slice_get parts n ≡ Some p → AreMoreGaps gaps mid → AreMoreGaps mid more → length mid ≤ length gaps + 1 → length more ≤ length mid + 1 → IsPlaceOf width mid p.left q.left → IsPlaceOf width more p.right q.right → AreFirstPlaced width parts more (places ++ q ∷ []) (n + 1)
-placed_more width parts gaps mid more places n p q h at first second few_first few_second left right = record {
-  few = let f = h.few in omega arith;
-  count = let c = h.count in omega (arith, length-append places (q ∷ []));
-  sides = λ k part place here there. by_place k part place here (get_in_both places q k place there);
+-- the parts whose sides are in the first pairs of lists have their rules
+abbrev pub HaveRulesBelow : List Part → List Group → ℕ → Type 0
+HaveRulesBelow parts groups count =
+    (n : ℕ) (p : Part) → slice_get parts n ≡ Some p → 3 * list_of p.left + list_of p.right < count → HasRule groups n p
+
+module _ (parts : List Part) (groups : List Group) (count : ℕ) (group : Group) (few : count < 9) (is : IsGroupOf parts (count / 3) (count % 3) group) where
+  pub groups_more : AreGroupsOf parts groups → AreGroupsOf parts (groups ++ group ∷ [])
+  groups_more are i g e = by_place (get_in_both groups group i g e)
+    where
+      left : group.left ≤ 2
+      left = let l = is.left_is in omega arith
+
+      right : group.right ≤ 2
+      right = let r = is.right_is in omega arith
+
+      rules : AreRulesOf parts group.left group.right group.rules.items
+      rules =
+          subst (λ (l : ℕ). AreRulesOf parts l group.right group.rules.items) (sym is.left_is) (subst (λ (r : ℕ). AreRulesOf parts (count / 3) r group.rules.items) (sym is.right_is) is.rules)
+
+      by_place : (slice_get groups i ≡ Some g) ⊎ ((i ≡ length groups) × (g ≡ group)) → (g.left ≤ 2) × (g.right ≤ 2) × AreRulesOf parts g.left g.right g.rules.items
+      by_place (inl f) = are i g f
+      by_place (inr (f, same)) =
+          subst (λ (g : Group). (g.left ≤ 2) × (g.right ≤ 2) × AreRulesOf parts g.left g.right g.rules.items) (sym same) (left, right, rules)
+
+  -- the part is in the lists of the group
+  in_group : (n : ℕ) (p : Part) → slice_get parts n ≡ Some p → 3 * list_of p.left + list_of p.right ≡ count → (list_of p.left ≡ count / 3) × (list_of p.right ≡ count % 3) × ((i : ℕ) × (slice_get group.rules.items i ≡ Some (rule_of n p)))
+  in_group n p at same =
+      let small = list_small p.right in
+      let left : list_of p.left ≡ count / 3 = omega arith in
+      let right : list_of p.right ≡ count % 3 = omega arith in
+      (left, right, is.whole n p (slice_get_within parts n p at) at left right)
+
+  pub have_more_groups : HaveRulesBelow parts groups count → HaveRulesBelow parts (groups ++ group ∷ []) (count + 1)
+  have_more_groups have n p at lt = by_place (eq-or-lt_of_le {n = 3 * list_of p.left + list_of p.right} {m = count} (omega arith))
+    where
+      by_place : (3 * list_of p.left + list_of p.right ≡ count) ⊎ (3 * list_of p.left + list_of p.right < count) → HasRule (groups ++ group ∷ []) n p
+      by_place (inl same) =
+          let (left, right, (j, e)) = in_group n p at same in
+          (length groups, j, group, get_added groups group, is.left_is ∙ sym left, is.right_is ∙ sym right, e)
+      by_place (inr before) =
+          let (i, j, g, at_i, left, right, e) = have n p at before in
+          (i, j, g, get_in_more groups (group ∷ []) i g at_i, left, right, e)
+
+  pub have_no_more : length group.rules.items ≡ 0 → HaveRulesBelow parts groups count → HaveRulesBelow parts groups (count + 1)
+  have_no_more none have n p at lt = by_place (eq-or-lt_of_le {n = 3 * list_of p.left + list_of p.right} {m = count} (omega arith))
+    where
+      by_place : (3 * list_of p.left + list_of p.right ≡ count) ⊎ (3 * list_of p.left + list_of p.right < count) → HasRule groups n p
+      by_place (inl same) =
+          let (left, right, (j, e)) = in_group n p at same in
+          let within = slice_get_within group.rules.items j (rule_of n p) e in
+          absurd (omega arith)
+      by_place (inr before) = have n p at before
+
+pub all_grouped : (parts : List Part) (groups : List Group) (count : ℕ) → 9 ≤ count → AreGroupsOf parts groups → HaveRulesBelow parts groups count → AreGrouped parts groups
+all_grouped parts groups count many are have = record {
+  rules = are;
+  whole = λ n p at. let l = list_small p.left in let r = list_small p.right in have n p at (omega arith);
 }
-  where
-    both : IsPlaceOf width more p.left q.left × IsPlaceOf width more p.right q.right
-    both = (place_more width mid more p.left q.left second left, right)
-
-    by_place : (k : ℕ) (part : Part) (place : Place) → slice_get parts k ≡ Some part → (slice_get places k ≡ Some place) ⊎ ((k ≡ length places) × (place ≡ q)) → IsPlaceOf width more part.left place.left × IsPlaceOf width more part.right place.right
-    by_place k part place here (inl e) =
-        let (l, r) = h.sides k part place here e in
-        let all = more_gaps gaps mid more first second in
-        (place_more width gaps more part.left place.left all l, place_more width gaps more part.right place.right all r)
-    by_place k part place here (inr (e, same)) =
-        let count = h.count in
-        let last : slice_get parts n ≡ Some part = subst (λ (j : ℕ). slice_get parts j ≡ Some part) (e ∙ count) here in
-        let part_is : p ≡ part = cc in
-        subst (λ (x : Place). IsPlaceOf width more part.left x.left × IsPlaceOf width more part.right x.right) (sym same) (subst (λ (x : Part). IsPlaceOf width more x.left q.left × IsPlaceOf width more x.right q.right) part_is both)

@@ -1,5 +1,5 @@
 -- Bounds on what the pins cost where a part of a pattern stands.
-use Rattle.std.specs.Prelude.{ℕ, ◌+◌, ◌*◌, ◌-◌, ◌<◌, ◌≤◌, ◌≡◌, List, length, min, max, Option, Some, slice_get, slice_index}
+use Rattle.std.specs.Prelude.{ℕ, ◌+◌, ◌*◌, ◌-◌, ◌<◌, ◌≤◌, ◌≡◌, List, [], length, min, max, Option, Some, slice_get, slice_index, slice_index_or}
 use Rattle.std.specs.List.{sum_by}
 use Rattle.lw_laws.specs.Graphs.{Graph, HoldsPair, Stands}
 use Rattle.lw_laws.specs.Trees.{Tree}
@@ -11,32 +11,39 @@ use Rattle.lw_match.specs.declared.parts.Side.{Side}
 use Rattle.lw_match.specs.declared.parts.Part.{Part}
 use Rattle.lw_match.specs.Values.{marks_in}
 use Rattle.lw_match.specs.Shapes.{HasShape, AllHaveShapes, HaveRootShapes, AreClosed}
-use Rattle.lw_match.specs.Numbers.{never, Reading, part_number, side_number}
+use Rattle.lw_match.specs.Numbers.{never, no_row, start_of, AreStarts, Reading, part_number, side_number}
 
--- the parts, the gaps of the pins of each pattern, the side of each node of each pattern and of its root, and the numbers
--- of the parts at each class
+-- the parts, the gaps of the pins of each pattern, the side of each node of each pattern and of its root, where the row of
+-- each class starts, and the numbers of the parts in these rows
 pub record BoundsState : Type 0 where
   pub parts : List Part
   pub gaps : List (List ℕ)
   pub sides : List (List Side)
   pub roots : List Side
+  pub starts : List ℕ
   pub numbers : List ℕ
 
-abbrev pub reading_of : Graph → List (Option Mark) → List Part → List ℕ → Reading
-reading_of g marks parts numbers =
-    record { one = g.one; marks = marks; width = length parts; numbers = numbers }
+abbrev pub reading_of : Graph → List (Option Mark) → List Part → List ℕ → List ℕ → Reading
+reading_of g marks parts starts numbers =
+    record { one = g.one; marks = marks; width = length parts; starts = starts; numbers = numbers }
 
 abbrev pub bounds_reading : BoundsState → Graph → List (Option Mark) → Reading
-bounds_reading b g marks = reading_of g marks b.parts b.numbers
+bounds_reading b g marks = reading_of g marks b.parts b.starts b.numbers
 
--- a row for each class, with a number for each part
-pub record AreRows (parts : List Part) (numbers : List ℕ) (g : Graph) : Type 0 where
+-- each class without a row has no pairs
+abbrev pub AreBare : List ℕ → Graph → Type 0
+AreBare starts g =
+    (c : ℕ) → start_of starts c ≡ no_row → slice_index_or g.pairs c [] ≡ []
+
+-- a row for each class that has pairs, with a number for each part
+pub record AreRows (parts : List Part) (starts numbers : List ℕ) (g : Graph) : Type 0 where
   pub closed : AreClosed parts
-  pub rows : length numbers ≡ length parts * length g.pairs
+  pub rows : AreStarts (length parts) starts (length numbers)
+  pub bare : AreBare starts g
 
 -- the table is of these patterns and this graph
 pub record BoundsFit (b : BoundsState) (pats : List Pattern) (g : Graph) : Type 0 where
-  pub rows : AreRows b.parts b.numbers g
+  pub rows : AreRows b.parts b.starts b.numbers g
   pub count : length b.sides ≡ length pats
   pub sides : AllHaveShapes b.parts b.gaps pats b.sides
   pub root_count : length b.roots ≡ length pats
@@ -66,7 +73,7 @@ BoundsTree g r gaps t s =
 
 abbrev pub AreBounds : BoundsState → Graph → List (Option Mark) → Type 0
 AreBounds b g marks =
-    (gaps : List ℕ) (t : Tree) (s : Side) → HasShape b.parts gaps t s → BoundsTree g (bounds_reading b g marks) gaps t s
+    (gaps : List ℕ) (t : Tree) (s : Side) → HasShape b.parts gaps 0 t s → BoundsTree g (bounds_reading b g marks) gaps t s
 
 abbrev pub total : List ℕ → ℕ
 total ns = sum_by (λ n. n) ns

@@ -1,5 +1,5 @@
 -- The numbers of sides at classes.
-use Rattle.std.specs.Prelude.{ℕ, ◌+◌, ◌*◌, ◌-◌, ◌≡◌, ◌%◌, ◌==◌, if◌then◌else◌, List, length, min, max, Option, Some, None, slice_index, slice_index_or}
+use Rattle.std.specs.Prelude.{ℕ, ◌+◌, ◌*◌, ◌-◌, ◌≡◌, ◌≤◌, ◌⊎◌, ◌%◌, ◌==◌, if◌then◌else◌, List, length, min, max, Option, Some, None, slice_get, slice_index, slice_index_or}
 use Rattle.lw_laws.specs.Flip.{flip}
 use Rattle.lw_match.specs.declared.mark.Mark.{Mark}
 use Rattle.lw_match.specs.declared.parts.Kind.{Kind}
@@ -12,35 +12,58 @@ use Rattle.lw_match.specs.declared.numbers.Numbers.{Numbers}
 abbrev pub never : ℕ
 never = 18446744073709551615
 
--- what numbers are read from: the class of true, the marks, and the numbers of parts in rows of this width
+-- where the row of a class would start that has none
+abbrev pub no_row : ℕ
+no_row = 4294967295
+
+-- what numbers are read from: the class of true, the marks, and the numbers of parts in rows of this width, by where the
+-- row of each class starts
 pub record Reading : Type 0 where
   pub one : ℕ
   pub marks : List (Option Mark)
   pub width : ℕ
+  pub starts : List ℕ
   pub numbers : List ℕ
 
 abbrev pub reading : Numbers → Reading
-reading at = record { one = at.one.0; marks = at.marks.now; width = at.width; numbers = at.numbers.now }
+reading at =
+    record { one = at.one.0; marks = at.marks.now; width = at.width; starts = at.starts.now; numbers = at.numbers.now }
 
--- a row for each class, and classes in pairs
+-- where the row of a class starts
+abbrev pub start_of : List ℕ → ℕ → ℕ
+start_of starts c = slice_index_or starts c no_row
+
+-- each class has no row or a whole one, in so many numbers
+abbrev pub AreStarts : ℕ → List ℕ → ℕ → Type 0
+AreStarts width starts size =
+    (c : ℕ) → (start_of starts c ≡ no_row) ⊎ (start_of starts c + width ≤ size)
+
+-- whole rows, and classes in pairs
 pub record IsReading (r : Reading) : Type 0 where
-  pub rows : length r.numbers ≡ r.width * length r.marks
+  pub rows : AreStarts r.width r.starts (length r.numbers)
   pub even : length r.marks % 2 ≡ 0
 
--- a pin with a gap at a class with this mark
-abbrev pub leaf_number : Option Mark → ℕ → ℕ
-leaf_number None gap = never
-leaf_number (Some m) gap = min (m.cost + gap) (never - 1)
+-- a number with its shift: what is never stays so, and nothing else becomes it
+abbrev pub shifted : ℕ → ℕ → ℕ
+shifted n shift = max n (min (n + shift) (never - 1))
+
+-- a pin at a class with this mark
+abbrev pub mark_number : Option Mark → ℕ
+mark_number None = never
+mark_number (Some m) = min m.cost (never - 1)
+
+abbrev pub number_from : List ℕ → ℕ → ℕ → ℕ
+number_from numbers n start = if start == no_row then never else slice_index numbers (start + n)
 
 -- the number of a part at a class
 abbrev pub part_number : Reading → ℕ → ℕ → ℕ
-part_number r n c = slice_index r.numbers (c * r.width + n)
+part_number r n c = number_from r.numbers n (start_of r.starts c)
 
 abbrev pub kind_number : Reading → Kind → ℕ → ℕ
 kind_number r Any c = 0
-kind_number r (Leaf gap) c = leaf_number (slice_index_or r.marks c None) gap
+kind_number r (Leaf shift) c = shifted (mark_number (slice_index_or r.marks c None)) shift
 kind_number r One c = if c == r.one then 0 else never
-kind_number r (Joined n) c = part_number r n c
+kind_number r (Joined n shift) c = shifted (part_number r n c) shift
 
 -- the class itself, and its complement where an inverter stands before the side
 abbrev pub class_below : Side → ℕ → ℕ

@@ -4,11 +4,12 @@ ghost use Rattle.lw_laws.specs.Covers.{Pattern as TreeOfCell};
 use crate::bare::bare_patterns;
 use crate::cuts::Cuts;
 use crate::gaps::all_guesses;
-use crate::parts::{Part, Place, Side};
-use crate::places::places_of;
+use crate::lowering::Plan;
+use crate::parts::{Group, Part, Side};
+use crate::places::groups_of;
 use crate::renewing::{Renewal, renew_parts};
-use crate::rows::Plan;
 use crate::shapes::{all_sides, root_sides};
+use crate::starts::starts_of;
 use crate::{Cost, Mark};
 use indexmap::IndexSet;
 use lw_graph::Graph;
@@ -38,13 +39,12 @@ pub struct Bounds {
     gaps: Vec<[u64; 16]>,
     sides: Vec<Vec<Side>>,
     roots: Vec<Side>,
+    // where the row of each class starts in the numbers
+    starts: Vec<u32>,
     numbers: Vec<u64>,
-    // the gaps of the pins that are sides of parts, and the places of the sides of each part
-    leaves: IndexSet<u64>,
-    places: Vec<Place>,
-    // room to work in: the numbers of all sides at the two classes of a pair, and what they give
-    xs: Vec<u64>,
-    ys: Vec<u64>,
+    // how the numbers of the parts follow from those of their sides
+    groups: Vec<Group>,
+    // room to work in: what the pairs of a class give
     least: Vec<u64>,
     // the patterns without NANDs
     bare: Vec<PatId>,
@@ -57,9 +57,9 @@ impl Model for Bounds {
 
     ghost Value = { BoundsState };
 
-    ghost view = { λ b. record { parts = b.parts.keys; gaps = b.gaps.items; sides = map (λ side. side.items) b.sides.items; roots = b.roots.items; numbers = b.numbers.items } };
+    ghost view = { λ b. record { parts = b.parts.keys; gaps = b.gaps.items; sides = map (λ side. side.items) b.sides.items; roots = b.roots.items; starts = b.starts.items; numbers = b.numbers.items } };
 
-    ghost invariant = { λ b. HasRoom b.parts.keys b.leaves.keys b.places.items b.xs.items b.ys.items b.least.items };
+    ghost invariant = { λ b. HasRoom b.parts.keys b.groups.items b.least.items };
 }
 
 impl Bounds {
@@ -84,12 +84,9 @@ impl Bounds {
         let gaps = all_guesses(alloc, pats, cost)?;
         let sides = all_sides(alloc, &mut parts, room, &gaps, pats)?;
         let roots = root_sides(alloc, pats, &sides)?;
-        let numbers = vec![in alloc; u64::MAX; parts.len() * graph.classes() as usize]?;
-        let mut leaves = IndexSet::new(alloc);
-        let places = places_of(alloc, &mut leaves, parts.as_slice())?;
-        let size = 2 * parts.len() + 3 + 2 * leaves.len();
-        let xs = vec![in alloc; 0; size]?;
-        let ys = vec![in alloc; 0; size]?;
+        let rows = starts_of(alloc, graph, parts.len() as u32)?;
+        let numbers = vec![in alloc; u64::MAX; rows.size as usize]?;
+        let groups = groups_of(alloc, parts.as_slice())?;
         let least = vec![in alloc; 0; parts.len()]?;
         let bare = bare_patterns(alloc, pats)?;
         Ok(Bounds {
@@ -97,11 +94,9 @@ impl Bounds {
             gaps,
             sides,
             roots,
+            starts: rows.starts,
             numbers,
-            leaves,
-            places,
-            xs,
-            ys,
+            groups,
             least,
             bare,
         })
@@ -112,7 +107,7 @@ impl Bounds {
     pub fn renew(&mut self, graph: &Graph, marks: &[Option<Mark>], class: ClassId) -> bool
         requires class { class.0 < length graph.now.pairs }
         requires one_each { length marks.now ≡ length graph.now.pairs }
-        requires rows { AreRows self.old.parts self.old.numbers graph.now }
+        requires rows { AreRows self.old.parts self.old.starts self.old.numbers graph.now }
         ensures fits { (pats : List TreeOfCell) → BoundsFit self.old pats graph.now →
             BoundsFit self.new pats graph.now }
         ensures falls { IsTrue result → bounds_weight self.new < bounds_weight self.old }
@@ -125,21 +120,14 @@ impl Bounds {
         let renewal = Renewal {
             graph,
             marks,
+            starts: &self.starts,
             class,
         };
         let plan = Plan {
             parts: self.parts.as_slice(),
-            gaps: self.leaves.as_slice(),
-            places: &self.places,
+            groups: &self.groups,
         };
-        renew_parts(
-            renewal,
-            plan,
-            &mut self.xs,
-            &mut self.ys,
-            &mut self.least,
-            &mut self.numbers,
-        )
+        renew_parts(renewal, plan, &mut self.least, &mut self.numbers)
     }
 
     /// The patterns without NANDs.
@@ -153,6 +141,7 @@ impl Bounds {
           sides = self.now.sides;
           roots = self.now.roots;
           width = length self.now.parts;
+          starts = self.now.starts;
           numbers = self.now.numbers;
           gaps = self.now.gaps;
         } }
@@ -161,6 +150,7 @@ impl Bounds {
             sides: &self.sides,
             roots: &self.roots,
             width: self.parts.len(),
+            starts: &self.starts,
             numbers: &self.numbers,
             gaps: &self.gaps,
         }

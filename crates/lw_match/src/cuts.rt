@@ -4,12 +4,13 @@ use crate::parts::Side;
 use lw_pool::PatId;
 
 /// What searches are cut by: the side that each node of each pattern is and that its root is, the
-/// numbers of the parts, and the gaps of the pins of each pattern. With no sides no search is cut.
+/// numbers of the parts by rows, and the gaps of the pins of each pattern. With no sides no search is cut.
 #[derive(Clone, Copy)]
 pub struct Cuts<'a> {
     pub sides: &'a [Vec<Side>],
     pub roots: &'a [Side],
     pub width: usize,
+    pub starts: &'a [u32],
     pub numbers: &'a [u64],
     pub gaps: &'a [[u64; 16]],
 }

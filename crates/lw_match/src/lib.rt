@@ -16,6 +16,7 @@ mod goals;
 mod hunting;
 mod job;
 mod laws;
+mod lowering;
 mod mark;
 mod numbers;
 mod parts;
@@ -29,6 +30,7 @@ mod search;
 mod seeking;
 mod settling;
 mod shapes;
+mod starts;
 mod times;
 mod tops;
 

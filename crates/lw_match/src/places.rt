@@ -1,76 +1,91 @@
-// Where the sides of parts stand in rows of numbers.
-ghost use Rattle.std.specs.Prelude.{◌≡◌, ◌+◌, ◌*◌, ◌<◌, ◌≤◌, if◌then◌else◌, length, OnOk, IfOk, []};
-ghost use Rattle.lw_match.specs.Shapes.{AreClosed, SideFits};
-ghost use Rattle.lw_match.specs.declared.parts.Kind.TheVariants.{Leaf};
-ghost use Rattle.lw_match.specs.Places.{AreMoreGaps, ArePlaced, HasPlace, IsPlaceOf};
+// The rules of parts, in groups by the lists in which the numbers of their sides stand.
+ghost use Rattle.std.specs.Prelude.{◌≡◌, ◌<◌, ◌≤◌, length, IfOk, IsTrue, IsFalse};
+ghost use Rattle.lw_match.specs.Places.{list_of, place_of, shift_of, rule_of, AreGrouped, IsGroupOf};
 
-use crate::parts::{Kind, Part, Place, Side};
-use indexmap::IndexSet;
+use crate::parts::{Group, Kind, Part, Rule, Side};
 use std::alloc::{AllocError, Global};
 
-// 1 for a side with an inverter before it.
-fn one_if(flipped: bool) -> u32
-    ensures { result ≡ (if flipped then 1 else 0) }
-{
-    if flipped { 1 } else { 0 }
-}
-
-// The place of a pin with a gap, which is listed where it isn't there.
-fn leaf_place(
-    gaps: &mut IndexSet<u64>,
-    width: u32,
-    gap: u64,
-    flipped: bool,
-) -> Result<u32, AllocError>
-    requires width { width ≤ 67108864 }
-    requires few { length gaps.old.keys ≤ 134217728 }
-    ensures more { OnOk result (AreMoreGaps gaps.old.keys gaps.new.keys) }
-    ensures few { OnOk result (length gaps.new.keys ≤ length gaps.old.keys + 1) }
-    ensures place { IfOk result (λ place. HasPlace width gaps.new.keys place flipped (Leaf gap)) }
-{
-    let (number, _fresh) = gaps.insert_full(gap)?;
-    Ok(2 * width + 3 + 2 * number as u32 + one_if(flipped))
-}
-
-// The place of a side in a row: the parts stand first, then their complements, then what is any
-// tree, true and its complement, and then the pins and their complements by their gaps.
-fn place_of(gaps: &mut IndexSet<u64>, width: u32, side: Side) -> Result<u32, AllocError>
-    requires width { width ≤ 67108864 }
-    requires few { length gaps.old.keys ≤ 134217728 }
-    requires fits { SideFits width side }
-    ensures more { OnOk result (AreMoreGaps gaps.old.keys gaps.new.keys) }
-    ensures few { OnOk result (length gaps.new.keys ≤ length gaps.old.keys + 1) }
-    ensures place { IfOk result (λ place. IsPlaceOf width gaps.new.keys side place) }
+// The list in which the number of a side stands: that of pins and constants, the row of the class,
+// or the row of its complement.
+fn list_of(side: Side) -> u8
+    ensures { result ≡ list_of side }
 {
     match side.kind {
-        Kind::Any => Ok(2 * width),
-        Kind::One => Ok(2 * width + 1 + one_if(side.flipped)),
-        Kind::Joined(part) => Ok(width * one_if(side.flipped) + part),
-        Kind::Leaf(gap) => {
-            let place = leaf_place(gaps, width, gap, side.flipped)?;
-            Ok(place)
-        }
+        Kind::Joined(_part, _shift) => { if side.flipped { 2 } else { 1 } }
+        _ => 0,
     }
 }
 
-// The places of the sides of parts. The gaps of the pins among them are listed.
-pub(crate) fn places_of(
-    alloc: Global,
-    gaps: &mut IndexSet<u64>,
-    parts: &[Part],
-) -> Result<Vec<Place>, AllocError>
-    requires few { length parts.now ≤ 67108864 }
-    requires closed { AreClosed parts.now }
-    requires none { gaps.old.keys ≡ [] }
-    ensures few { OnOk result (length gaps.new.keys ≤ 134217728) }
-    ensures placed { IfOk result (λ places. ArePlaced parts.now gaps.new.keys places.items) }
+// The place of the number of a side in its list.
+fn place_of(side: Side) -> u32
+    ensures { result ≡ place_of side }
 {
-    let width = parts.len() as u32;
-    let mut places = Vec::new(alloc);
-    for part in parts {
-        let left = place_of(gaps, width, part.left)?;
-        let right = place_of(gaps, width, part.right)?;
-        places.push(Place { left, right })?;
+    match side.kind {
+        Kind::Leaf(_shift) => { if side.flipped { 1 } else { 0 } }
+        Kind::One => { if side.flipped { 3 } else { 2 } }
+        Kind::Any => 4,
+        Kind::Joined(part, _shift) => part,
     }
-    Ok(places)
+}
+
+// What is added to the number below a side.
+fn shift_of(side: Side) -> u64
+    ensures { result ≡ shift_of side.kind }
+{
+    match side.kind {
+        Kind::Leaf(shift) => shift,
+        Kind::Joined(_part, shift) => shift,
+        _ => 0,
+    }
+}
+
+// The rule of a part.
+fn rule_of(number: u32, part: Part) -> Rule
+    ensures { result ≡ rule_of number part }
+{
+    Rule {
+        part: number,
+        left: place_of(part.left),
+        right: place_of(part.right),
+        left_shift: shift_of(part.left),
+        right_shift: shift_of(part.right),
+    }
+}
+
+// Whether the sides of a part have their numbers in two lists.
+fn is_in(part: Part, left: u8, right: u8) -> bool
+    ensures yes { IsTrue result → (list_of part.left ≡ left) × (list_of part.right ≡ right) }
+    ensures no { IsFalse result → list_of part.left ≡ left → list_of part.right ≡ right → ⊥ }
+{
+    list_of(part.left) == left && list_of(part.right) == right
+}
+
+// The rules of the parts whose sides have their numbers in two lists.
+fn group_of(alloc: Global, parts: &[Part], left: u8, right: u8) -> Result<Group, AllocError>
+    requires few { length parts.now ≤ 67108864 }
+    ensures { IfOk result (λ group. IsGroupOf parts.now left right group) }
+{
+    let mut rules = Vec::new(alloc);
+    for number in 0..parts.len() {
+        let part = parts[number];
+        if is_in(part, left, right) {
+            rules.push(rule_of(number as u32, part))?;
+        }
+    }
+    Ok(Group { left, right, rules })
+}
+
+// The rules of all parts, in groups of which none is empty.
+pub(crate) fn groups_of(alloc: Global, parts: &[Part]) -> Result<Vec<Group>, AllocError>
+    requires few { length parts.now ≤ 67108864 }
+    ensures { IfOk result (λ groups. AreGrouped parts.now groups.items) }
+{
+    let mut groups = Vec::new(alloc);
+    for number in 0..9 {
+        let group = group_of(alloc, parts, number / 3, number % 3)?;
+        if !group.rules.is_empty() {
+            groups.push(group)?;
+        }
+    }
+    Ok(groups)
 }

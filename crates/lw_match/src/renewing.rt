@@ -2,11 +2,11 @@
 ghost use Rattle.std.specs.Prelude.{◌≡◌, ◌+◌, ◌<◌, ◌≤◌, ◌||◌, ℕ, length, slice_index, IsTrue, IsFalse};
 ghost use Rattle.lw_graph.specs.Graphs.{IsGraph};
 ghost use Rattle.lw_match.specs.Bounds.{total, reading_of, AreRows, AreSettledBelow};
-ghost use Rattle.lw_match.specs.Places.{ArePlaced, row_length};
+ghost use Rattle.lw_match.specs.Places.{AreGrouped};
 
 use crate::Mark;
-use crate::numbers::Numbers;
-use crate::rows::{Plan, lessen_all};
+use crate::lowering::{Plan, lower_by_all};
+use crate::numbers::{Numbers, start_of};
 use lw_graph::Graph;
 use lw_pool::ClassId;
 
@@ -15,6 +15,7 @@ use lw_pool::ClassId;
 pub struct Renewal<'a> {
     pub graph: &'a Graph,
     pub marks: &'a [Option<Mark>],
+    pub starts: &'a [u32],
     pub class: ClassId,
 }
 
@@ -56,43 +57,40 @@ fn lower_numbers(numbers: &mut [u64], start: usize, least: &[u64]) -> bool
 }
 
 // Lets the numbers of all parts at a class fall to what the pairs give, and says whether one fell.
-// The other lists of numbers are room to work in.
+// The other list of numbers is room to work in.
 pub(crate) fn renew_parts(
     renewal: Renewal,
     plan: Plan,
-    xs: &mut [u64],
-    ys: &mut [u64],
     least: &mut [u64],
     numbers: &mut [u64],
 ) -> bool
     requires graph { IsGraph renewal.graph.now }
     requires class { renewal.class.0 < length renewal.graph.now.pairs }
     requires one_each { length renewal.marks.now ≡ length renewal.graph.now.pairs }
-    requires rows { AreRows plan.parts.now numbers.old renewal.graph.now }
-    requires placed { ArePlaced plan.parts.now plan.gaps.now plan.places.now }
-    requires xs { length xs.old ≡ row_length (length plan.parts.now) plan.gaps.now }
-    requires ys { length ys.old ≡ row_length (length plan.parts.now) plan.gaps.now }
+    requires rows { AreRows plan.parts.now renewal.starts.now numbers.old renewal.graph.now }
+    requires grouped { AreGrouped plan.parts.now plan.groups.now }
     requires least { length least.old ≡ length plan.parts.now }
     ensures falls { IsTrue result → total numbers.new < total numbers.old }
     ensures same { IsFalse result → numbers.new ≡ numbers.old }
     ensures settled { IsFalse result →
         AreSettledBelow renewal.entry.graph.now
         (reading_of renewal.entry.graph.now renewal.entry.marks.now plan.entry.parts.now
-        numbers.old) plan.entry.parts.now renewal.entry.class.0
+        renewal.entry.starts.now numbers.old) plan.entry.parts.now renewal.entry.class.0
         (length plan.entry.parts.now) }
 {
     let pairs = renewal.graph.nands(renewal.class);
     if pairs.is_empty() {
         return false;
     }
-    let width = plan.parts.len();
     let at = Numbers {
         one: renewal.graph.one(),
         marks: renewal.marks,
-        width,
+        width: plan.parts.len(),
+        starts: renewal.starts,
         numbers,
     };
     least.fill(u64::MAX);
-    lessen_all(at, plan, pairs, xs, ys, least);
-    lower_numbers(numbers, renewal.class.0 as usize * width, least)
+    lower_by_all(at, plan, pairs, least);
+    let start = start_of(renewal.starts, renewal.class);
+    lower_numbers(numbers, start as usize, least)
 }

@@ -1,0 +1,6 @@
+use Rattle.lw_match.proofs.SideRows.{AreLowBy}
+use Rattle.lw_match.proofs.lowering.lower_all.Given as goal
+
+abbrev pub invariant-loop-number : goal.invariant-loop-number
+invariant-loop-number l =
+    AreLowBy l.plan.groups.now l.one l.other l.initial.least l.least l.number

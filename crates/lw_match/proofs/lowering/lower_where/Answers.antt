@@ -1,0 +1,18 @@
+use Rattle.std.proofs.Common.{◌≡◌, List, length, Bool, true, false, sym, ap, subst, ◌∙◌, arith}
+use Rattle.lw_match.specs.declared.parts.Rule.{Rule}
+use Rattle.lw_match.specs.Places.{list_at, AreRulesOf, AreWithin}
+use Rattle.lw_match.proofs.SideRows.{rules_within, not_empty}
+use Rattle.lw_match.proofs.lowering.lower_where.Goals as goal
+
+pub lower-requires : goal.lower-requires
+lower-requires c =
+    let group = c.args.group.now in
+    let parts = c.args.plan.parts.now in
+    let rules = c.deref.result.now in
+    let are : AreRulesOf parts group.left group.right rules = subst (AreRulesOf parts group.left group.right) (sym c.deref.ensures.value) c.requires.rules in
+    let xs = list_at c.args.one group.left in
+    let ys = list_at c.args.other group.right in
+    let some : length xs ≡ 0 → ⊥ = λ e. not_empty c.list_at-xs.result.now c.is_empty.result c.if-is_empty.false c.is_empty.ensures (ap length c.list_at-xs.ensures ∙ e) in
+    let some_other : length ys ≡ 0 → ⊥ = λ e. not_empty c.list_at-ys.result.now c.is_empty-else-is_empty.result c.if-is_empty-2.false c.is_empty-else-is_empty.ensures (ap length c.list_at-ys.ensures ∙ e) in
+    let within : AreWithin xs ys c.args.least.now rules = rules_within parts c.args.one c.args.other c.requires.closed c.requires.one c.requires.other group.left group.right rules c.args.least.now c.requires.one_each are some some_other in
+    record { within = subst (λ (xs : List _). AreWithin xs c.list_at-ys.result.now c.args.least.now rules) (sym c.list_at-xs.ensures) (subst (λ (ys : List _). AreWithin xs ys c.args.least.now rules) (sym c.list_at-ys.ensures) within) }

@@ -1,0 +1,124 @@
+// Numbers of parts that fall to what pairs give.
+ghost use Rattle.std.specs.Prelude.{◌≡◌, ◌+◌, ◌<◌, ◌≤◌, ◌⊎◌, ℕ, length, max, Some, slice_get, slice_index, slice_index_or};
+ghost use Rattle.lw_graph.specs.declared.pair.Pair.{Pair};
+ghost use Rattle.lw_match.specs.Numbers.{reading, pair_number, IsReading};
+ghost use Rattle.lw_match.specs.Shapes.{AreClosed};
+ghost use Rattle.lw_match.specs.declared.parts.Part.{Part};
+ghost use Rattle.lw_match.specs.declared.parts.Rule.{Rule};
+ghost use Rattle.lw_match.specs.Places.{list_at, view_number, given, AreRulesOf, AreGrouped, AreNoMore, AreNumbers, AreWithin, IsView};
+
+use crate::numbers::{Numbers, shifted};
+use crate::parts::{Group, Part, Rule};
+use crate::rows::{View, leaves_at, list_at, view_at};
+use lw_graph::Pair;
+
+/// The parts, and their rules in groups.
+#[derive(Clone, Copy)]
+pub struct Plan<'a> {
+    pub parts: &'a [Part],
+    pub groups: &'a [Group],
+}
+
+// Lets the number of each rule's part fall to what two lists give.
+fn lower(rules: &[Rule], xs: &[u64], ys: &[u64], least: &mut [u64])
+    requires within { AreWithin xs.now ys.now least.old rules.now }
+    ensures no_more { AreNoMore least.new least.old }
+    ensures lowered { (i : ℕ) (q : Rule) → slice_get rules.now i ≡ Some q →
+        slice_index least.new q.part ≤ given xs.now ys.now q }
+{
+    for number in 0..rules.len() {
+        let rule = rules[number];
+        let left = shifted(xs[rule.left as usize], rule.left_shift);
+        let right = shifted(ys[rule.right as usize], rule.right_shift);
+        let part = rule.part as usize;
+        let given = left.max(right);
+        if given < least[part] {
+            least[part] = given;
+        }
+    }
+}
+
+// The same, where one of the lists may be an empty row: nothing stands there.
+fn lower_where(plan: Plan, group: &Group, one: View, other: View, least: &mut [u64])
+    requires closed { AreClosed plan.parts.now }
+    requires rules { AreRulesOf plan.parts.now group.now.left group.now.right group.now.rules.items }
+    requires left { group.now.left ≤ 2 }
+    requires right { group.now.right ≤ 2 }
+    requires one { IsView (length plan.parts.now) one }
+    requires other { IsView (length plan.parts.now) other }
+    requires one_each { length least.old ≡ length plan.parts.now }
+    requires numbers { AreNumbers least.old }
+    ensures no_more { AreNoMore least.new least.old }
+    ensures lowered { (i : ℕ) (q : Rule) → slice_get group.now.rules.items i ≡ Some q →
+        slice_index least.new q.part ≤ given (list_at one.entry group.now.left)
+        (list_at other.entry group.now.right) q }
+{
+    let xs = list_at(one, group.left);
+    let ys = list_at(other, group.right);
+    if xs.is_empty() || ys.is_empty() {
+        return;
+    }
+    lower(&group.rules, xs, ys, least);
+}
+
+// Lets the number of each part fall to what it is with its left side in one place and its right
+// side in the other.
+fn lower_all(plan: Plan, one: View, other: View, least: &mut [u64])
+    requires closed { AreClosed plan.parts.now }
+    requires grouped { AreGrouped plan.parts.now plan.groups.now }
+    requires one { IsView (length plan.parts.now) one }
+    requires other { IsView (length plan.parts.now) other }
+    requires one_each { length least.old ≡ length plan.parts.now }
+    requires numbers { AreNumbers least.old }
+    ensures no_more { AreNoMore least.new least.old }
+    ensures lowered { (n : ℕ) (p : Part) → slice_get plan.entry.parts.now n ≡ Some p →
+        slice_index least.new n
+        ≤ max (view_number one.entry p.left) (view_number other.entry p.right) }
+{
+    for number in 0..plan.groups.len() {
+        lower_where(plan, &plan.groups[number], one, other, least);
+    }
+}
+
+// Lets the number of each part fall to what a pair gives.
+fn lower_by(at: Numbers, plan: Plan, pair: Pair, least: &mut [u64])
+    requires reading { IsReading (reading at) }
+    requires left { pair.x.0 < length at.marks.now }
+    requires right { pair.y.0 < length at.marks.now }
+    requires width { at.width ≡ length plan.parts.now }
+    requires closed { AreClosed plan.parts.now }
+    requires grouped { AreGrouped plan.parts.now plan.groups.now }
+    requires one_each { length least.old ≡ length plan.parts.now }
+    requires numbers { AreNumbers least.old }
+    ensures no_more { AreNoMore least.new least.old }
+    ensures lowered { (n : ℕ) (p : Part) → slice_get plan.entry.parts.now n ≡ Some p →
+        slice_index least.new n ≤ pair_number (reading at.entry) p pair.x.0 pair.y.0 }
+{
+    let xs = leaves_at(at, pair.x);
+    let ys = leaves_at(at, pair.y);
+    let one = view_at(at, &xs, pair.x);
+    let other = view_at(at, &ys, pair.y);
+    lower_all(plan, one, other, least);
+    if pair.x != pair.y {
+        lower_all(plan, other, one, least);
+    }
+}
+
+/// Lets the number of each part fall to what each of the pairs gives.
+pub(crate) fn lower_by_all(at: Numbers, plan: Plan, pairs: &[Pair], least: &mut [u64])
+    requires reading { IsReading (reading at) }
+    requires pairs { (i : ℕ) (q : Pair) → slice_get pairs.now i ≡ Some q →
+        (q.x.0 < length at.marks.now) × (q.y.0 < length at.marks.now) }
+    requires width { at.width ≡ length plan.parts.now }
+    requires closed { AreClosed plan.parts.now }
+    requires grouped { AreGrouped plan.parts.now plan.groups.now }
+    requires one_each { length least.old ≡ length plan.parts.now }
+    requires numbers { AreNumbers least.old }
+    ensures { (i : ℕ) (q : Pair) (n : ℕ) (p : Part) → slice_get pairs.now i ≡ Some q →
+        slice_get plan.entry.parts.now n ≡ Some p →
+        slice_index least.new n ≤ pair_number (reading at.entry) p q.x.0 q.y.0 }
+{
+    for pair in pairs {
+        lower_by(at, plan, *pair, least);
+    }
+}
