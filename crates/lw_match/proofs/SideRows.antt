@@ -1,12 +1,11 @@
 -- The numbers of sides in the lists at a class, and the rules that read them.
-use Rattle.std.proofs.Common.{ℕ, ◌⊎◌, ◌+◌, ◌*◌, ◌<◌, ◌≤◌, ◌≡◌, Bool, true, false, if◌then◌else◌, List, [], ◌∷◌, length, min, max, Option, Some, None, slice_get, slice_index, slice_index_or, refl, sym, ap, ap₂, subst, subst₂, ◌∙◌, inl, inr, arith}
+use Rattle.std.proofs.Common.{ℕ, ◌⊎◌, ◌+◌, ◌<◌, ◌≤◌, ◌≡◌, Bool, true, false, if◌then◌else◌, List, [], ◌∷◌, length, max, Some, None, slice_get, slice_index, slice_index_or, refl, sym, ap, subst, subst₂, ◌∙◌, inl, inr, arith}
 use Rattle.std.specs.Prelude.{◌==◌}
 use Rattle.std.proofs.lemmas.Option.{slice_get_within, same_Some}
 use Rattle.std.proofs.lemmas.Bool.{eq-eqb, false≢true}
 use native.Mathlib.Nat.{eq-or-lt_of_le}
 use Rattle.lw_laws.specs.Flip.{flip}
 use Rattle.lw_graph.specs.declared.pair.Pair.{Pair}
-use Rattle.lw_match.specs.declared.mark.Mark.{Mark}
 use Rattle.lw_match.specs.declared.parts.Kind.{Kind}
 use Rattle.lw_match.specs.declared.parts.Kind.TheVariants.{Any, Leaf, One, Joined}
 use Rattle.lw_match.specs.declared.parts.Side.{Side}
@@ -16,7 +15,7 @@ use Rattle.lw_match.specs.declared.parts.Group.{Group}
 use Rattle.lw_match.specs.declared.rows.View.{View}
 use Rattle.lw_match.specs.Shapes.{KindFits, SideFits, AreClosed}
 use Rattle.lw_match.specs.Numbers.{never, shifted, mark_number, part_number, kind_number, side_number, pair_number, Reading}
-use Rattle.lw_match.specs.Places.{list_by, list_of, place_by, place_of, shift_of, rule_of, AreRulesOf, HasRule, AreGrouped, leaves_of, list_at, IsRow, IsView, view_number, HasSides, given, AreWithin, AreNoMore, AreNumbers}
+use Rattle.lw_match.specs.Places.{list_by, list_of, place_by, place_of, shift_of, rule_of, AreRulesOf, AreGrouped, leaves_of, list_at, IsRow, IsView, view_number, HasSides, given, AreWithin, AreNoMore, AreNumbers}
 
 pub leaves_are : (r : Reading) (c other a b m n : ℕ) → other ≡ flip c → a ≡ mark_number (slice_index_or r.marks c None) → b ≡ mark_number (slice_index_or r.marks other None) → m ≡ kind_number r One c → n ≡ kind_number r One other → (a ∷ b ∷ m ∷ n ∷ 0 ∷ []) ≡ leaves_of r c
 leaves_are r c other a b m n flipped first second one not_one =

@@ -1,5 +1,5 @@
 -- The numbers of sides at classes.
-use Rattle.std.specs.Prelude.{ℕ, ◌+◌, ◌*◌, ◌-◌, ◌≡◌, ◌≤◌, ◌⊎◌, ◌%◌, ◌==◌, if◌then◌else◌, List, length, min, max, Option, Some, None, slice_get, slice_index, slice_index_or}
+use Rattle.std.specs.Prelude.{ℕ, ◌+◌, ◌-◌, ◌≡◌, ◌≤◌, ◌⊎◌, ◌%◌, ◌==◌, if◌then◌else◌, List, length, min, max, Option, Some, None, slice_index, slice_index_or}
 use Rattle.lw_laws.specs.Flip.{flip}
 use Rattle.lw_match.specs.declared.mark.Mark.{Mark}
 use Rattle.lw_match.specs.declared.parts.Kind.{Kind}

@@ -1,5 +1,5 @@
 -- Lists of the numbers of sides at a class, and the rules by which the numbers of parts follow from them.
-use Rattle.std.specs.Prelude.{ℕ, ◌+◌, ◌*◌, ◌-◌, ◌<◌, ◌≤◌, ◌≡◌, ◌⊎◌, ◌==◌, if◌then◌else◌, Bool, List, [], ◌∷◌, length, max, Some, None, slice_get, slice_index, slice_index_or}
+use Rattle.std.specs.Prelude.{ℕ, ◌<◌, ◌≤◌, ◌≡◌, ◌⊎◌, ◌==◌, if◌then◌else◌, Bool, List, [], ◌∷◌, length, max, Some, None, slice_get, slice_index, slice_index_or}
 use Rattle.lw_match.specs.declared.parts.Kind.{Kind}
 use Rattle.lw_match.specs.declared.parts.Kind.TheVariants.{Any, Leaf, One, Joined}
 use Rattle.lw_match.specs.declared.parts.Side.{Side}

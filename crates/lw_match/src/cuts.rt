@@ -1,6 +1,11 @@
 ghost use Rattle.std.specs.Prelude.{◌≡◌, map, [], slice_index_or};
+ghost use Rattle.lw_match.specs.Numbers.{reading};
+ghost use Rattle.lw_match.specs.Cutting.{cuts_state, cuts_reading};
 
+use crate::Mark;
+use crate::numbers::Numbers;
 use crate::parts::Side;
+use lw_graph::Graph;
 use lw_pool::PatId;
 
 /// What searches are cut by: the side that each node of each pattern is and that its root is, the
@@ -13,6 +18,23 @@ pub struct Cuts<'a> {
     pub starts: &'a [u32],
     pub numbers: &'a [u64],
     pub gaps: &'a [[u64; 16]],
+}
+
+/// What the numbers of sides are read from.
+pub(crate) fn numbers_of<'a>(
+    graph: &Graph,
+    marks: &'a [Option<Mark>],
+    cuts: Cuts<'a>,
+) -> Numbers<'a>
+    ensures { reading result ≡ cuts_reading (cuts_state cuts.entry) graph.now marks.entry.now }
+{
+    Numbers {
+        one: graph.one(),
+        marks,
+        width: cuts.width,
+        starts: cuts.starts,
+        numbers: cuts.numbers,
+    }
 }
 
 /// The sides that the nodes of a pattern are, none where it is not known.

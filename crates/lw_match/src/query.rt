@@ -1,5 +1,10 @@
+ghost use Rattle.std.specs.Prelude.{◌≡◌, length};
+ghost use Rattle.lw_match.specs.Cutting.{cuts_state, cuts_reading};
+ghost use Rattle.lw_match.specs.Places.{HasSides};
+
 use crate::Mark;
 use crate::cuts::Cuts;
+use crate::rows::View;
 use lw_graph::Graph;
 use lw_pattern::Patterns;
 use lw_pool::ClassId;
@@ -15,4 +20,8 @@ pub struct Query<'a, C> {
     pub cuts: Cuts<'a>,
     /// What no match at the class costs less than.
     pub floor: u64,
+    /// The numbers of sides at the class.
+    pub view: View<'a>,
+    ghost leaves: { length view.leaves.now ≡ 5 },
+    ghost sides: { HasSides (cuts_reading (cuts_state cuts) graph.now marks.now) class.0 view },
 }

@@ -1,9 +1,10 @@
 // Lists of the numbers of sides at a class.
 ghost use Rattle.std.specs.Prelude.{◌≡◌, ◌<◌, ℕ, length, slice_index_or};
-ghost use Rattle.lw_match.specs.Numbers.{reading, never, part_number, IsReading};
-ghost use Rattle.lw_match.specs.Places.{leaves_of, list_at, HasSides, IsRow, IsView};
+ghost use Rattle.lw_match.specs.Numbers.{reading, never, shifted, part_number, IsReading};
+ghost use Rattle.lw_match.specs.Places.{leaves_of, list_at, view_number, HasSides, IsRow, IsView};
 
-use crate::numbers::{NO_ROW, Numbers, mark_number, one_number, start_of};
+use crate::numbers::{NO_ROW, Numbers, mark_number, one_number, shifted, start_of};
+use crate::parts::{Kind, Side};
 use lw_pool::ClassId;
 
 /// The numbers of sides at a class: those of pins and constants, and the rows of the class and of
@@ -13,6 +14,49 @@ pub struct View<'a> {
     pub leaves: &'a [u64],
     pub row: &'a [u64],
     pub other: &'a [u64],
+}
+
+// A number of a row with its shift, never where the row is empty.
+fn row_number(row: &[u64], part: u32, shift: u64) -> u64
+    ensures { result ≡ shifted (slice_index_or row.now part never) shift }
+{
+    let place = part as usize;
+    if place < row.len() {
+        shifted(row[place], shift)
+    } else {
+        u64::MAX
+    }
+}
+
+/// The number of a side by the lists.
+pub(crate) fn view_number(view: View, side: Side) -> u64
+    requires { length view.leaves.now ≡ 5 }
+    ensures { result ≡ view_number view.entry side }
+{
+    match side.kind {
+        Kind::Joined(part, shift) => {
+            let row = if side.flipped { view.other } else { view.row };
+            row_number(row, part, shift)
+        }
+        Kind::Leaf(shift) => {
+            shifted(
+                if side.flipped {
+                    view.leaves[1]
+                } else {
+                    view.leaves[0]
+                },
+                shift,
+            )
+        }
+        Kind::One => {
+            if side.flipped {
+                view.leaves[3]
+            } else {
+                view.leaves[2]
+            }
+        }
+        Kind::Any => view.leaves[4],
+    }
 }
 
 // The row of a class, which is empty where it has none.

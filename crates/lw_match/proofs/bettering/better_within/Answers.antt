@@ -5,9 +5,9 @@ use Rattle.lw_match.proofs.bettering.better_within.Goals as goal
 
 pub better-requires-clause-cuts : goal.better-requires-clause-cuts
 better-requires-clause-cuts g c =
-    subst (λ (cuts : CutsState). CutsFit cuts c.args.graph.now) (sym c.cuts.ensures) (bounds_cut c.args.bounds.now c.args.pats.now c.args.graph.now c.requires.fit)
+    subst (λ (cuts : CutsState). CutsFit cuts c.args.graph.now) (sym c.cuts-cuts.ensures) (bounds_cut c.args.bounds.now c.args.pats.now c.args.graph.now c.requires.fit)
 
 pub returns-clause-none : goal.returns-clause-none
 returns-clause-none g c =
     λ e bounds.
-    c.better.ensures.none e (subst (λ (cuts : CutsState). AreCutsOf cuts c.args.pats.now c.args.graph.now c.args.marks.now) (sym c.cuts.ensures) (bounds_cut_well c.args.bounds.now c.args.pats.now c.args.graph.now c.args.marks.now c.requires.fit bounds))
+    c.better.ensures.none e (subst (λ (cuts : CutsState). AreCutsOf cuts c.args.pats.now c.args.graph.now c.args.marks.now) (sym c.cuts-cuts.ensures) (bounds_cut_well c.args.bounds.now c.args.pats.now c.args.graph.now c.args.marks.now c.requires.fit bounds))

@@ -1,5 +1,4 @@
-use Rattle.std.proofs.Common.{◌≡◌, List, length, Bool, true, false, sym, ap, subst, ◌∙◌, arith}
-use Rattle.lw_match.specs.declared.parts.Rule.{Rule}
+use Rattle.std.proofs.Common.{◌≡◌, List, length, sym, ap, subst, ◌∙◌}
 use Rattle.lw_match.specs.Places.{list_at, AreRulesOf, AreWithin}
 use Rattle.lw_match.proofs.SideRows.{rules_within, not_empty}
 use Rattle.lw_match.proofs.lowering.lower_where.Goals as goal

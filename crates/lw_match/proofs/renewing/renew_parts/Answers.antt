@@ -1,4 +1,4 @@
-use Rattle.std.proofs.Common.{ℕ, ◌+◌, ◌<◌, ◌≤◌, ◌≡◌, length, Some, slice_get, slice_index, subst, sym, ◌∙◌, arith}
+use Rattle.std.proofs.Common.{ℕ, ◌+◌, ◌<◌, ◌≤◌, ◌≡◌, length, Some, slice_get, slice_index, subst, ◌∙◌, arith}
 use Rattle.lw_graph.specs.declared.pair.Pair.{Pair}
 use Rattle.lw_match.specs.declared.parts.Part.{Part}
 use Rattle.lw_match.specs.Numbers.{Reading, pair_number, no_row, start_of}
