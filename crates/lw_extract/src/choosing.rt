@@ -128,11 +128,14 @@ pub(crate) fn choose<C: Cost>(
     graph: &Graph,
     pats: &Patterns,
     cost: &C,
+    bounds: &Bounds,
     marks: &[Option<Mark>],
     roots: &[ClassId],
     nets: &[Option<NetId>],
 ) -> Result<Vec<Chosen>, AllocError>
     requires of_cells { AreOfCells (C.costs cost.now).pin_counts pats.now }
+    requires fits { BoundsFit bounds.now pats.now graph.now }
+    requires bounds { AreBounds bounds.now graph.now marks.now }
     requires least { AreLeastMarks graph.now (C.costs cost.now) pats.now marks.now }
     requires roots { All (λ root. root.0 < length graph.now.pairs) roots.now }
     requires covered { All (λ root. IsSome (slice_index_or marks.now root.0 None)) roots.now }
@@ -141,9 +144,8 @@ pub(crate) fn choose<C: Cost>(
         (C.costs cost.now) pats.now marks.now roots.now chosen.items) }
 {
     let _ = graph.classes();
-    let bounds = Bounds::settled(alloc, graph, pats, marks, cost)?;
     let places = by_height(alloc, nets, marks)?;
-    let mut chosen = choose_down(alloc, graph, pats, cost, &bounds, marks, roots, &places)?;
+    let mut chosen = choose_down(alloc, graph, pats, cost, bounds, marks, roots, &places)?;
     chosen.reverse();
     Ok(chosen)
 }

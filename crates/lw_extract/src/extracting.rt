@@ -1,5 +1,6 @@
-ghost use Rattle.std.specs.Prelude.{◌≡◌, ◌<◌, ◌^◌, ◌↔◌, ℕ, All, IfOk, IsSome, None, Err, length, map, slice_index_or, MatchOption};
+ghost use Rattle.std.specs.Prelude.{◌≡◌, ◌<◌, ◌^◌, ◌↔◌, ℕ, All, IfOk, IfSome, IsSome, None, Err, length, map, slice_index_or, MatchOption};
 ghost use Rattle.lw_match.specs.Least.{AreOfCells};
+ghost use Rattle.lw_match.specs.Bounds.{BoundsFit, AreBounds};
 ghost use Rattle.lw_label.specs.Labels.{AreLeastMarks};
 ghost use Rattle.lw_laws.specs.Costs.{Cost as Costs};
 ghost use Rattle.lw_laws.specs.Extracts.{HaveLeafLabels};
@@ -19,7 +20,7 @@ use crate::{Cover, ExtractFault, Ports};
 use lw_genlib::Library;
 use lw_graph::Graph;
 use lw_label::Labels;
-use lw_match::{Cost, Mark};
+use lw_match::{Bounds, Cost, Mark};
 use lw_naming::net_names;
 use lw_netlist::Netlist;
 use lw_pattern::Patterns;
@@ -110,12 +111,15 @@ fn cover<C: Cost>(
     graph: &Graph,
     pats: &Patterns,
     lib: &Library,
+    bounds: &Bounds,
     marks: &[Option<Mark>],
     ports: &Ports,
     cost: &C,
 ) -> Result<Cover, AllocError>
     requires cells { (C.costs cost.now).pin_counts ≡ map length (delays_of_cells lib.now) }
     requires of_cells { AreOfCells (C.costs cost.now).pin_counts pats.now }
+    requires fits { BoundsFit bounds.now pats.now graph.now }
+    requires bounds { AreBounds bounds.now graph.now marks.now }
     requires least { AreLeastMarks graph.now (C.costs cost.now) pats.now marks.now }
     requires leaves { HaveLeafLabels graph.now (C.costs cost.now) (labels_of marks.now) }
     requires fit { AreFit graph.now ports.now }
@@ -131,6 +135,7 @@ fn cover<C: Cost>(
         graph,
         pats,
         cost,
+        bounds,
         marks,
         ports.roots.as_slice(),
         &nets,
@@ -139,9 +144,47 @@ fn cover<C: Cost>(
     assemble(alloc, graph, pats, lib, ports, &nets, &chosen)
 }
 
-/// The netlist that the labels of a graph's classes give to some outputs: a gate for each class
-/// that is needed, the chosen match of the class. Each net costs the label of its class. `NoCover`
-/// comes exactly where the class of an output has no label.
+/// The netlist that the labels of a graph's classes give to some outputs, by a table of bounds for
+/// them where one is at hand: a gate for each class that is needed, the chosen match of the class.
+/// Each net costs the label of its class. `NoCover` comes exactly where the class of an output has
+/// no label.
+pub fn extract_with<C: Cost>(
+    alloc: Global,
+    graph: &Graph,
+    pats: &Patterns,
+    lib: &Library,
+    labels: &Labels,
+    bounds: Option<&Bounds>,
+    ports: &Ports,
+    cost: &C,
+) -> Result<Cover, ExtractFault>
+    requires cells { (C.costs cost.now).pin_counts ≡ map length (delays_of_cells lib.now) }
+    requires of_cells { AreOfCells (C.costs cost.now).pin_counts pats.now }
+    requires least { AreLeastMarks graph.now (C.costs cost.now) pats.now labels.now }
+    requires fits { IfSome bounds (λ b. BoundsFit b.now pats.now graph.now) }
+    requires bounds { IfSome bounds (λ b. AreBounds b.now graph.now labels.now) }
+    requires leaves { HaveLeafLabels graph.now (C.costs cost.now) (labels_of labels.now) }
+    requires fit { AreFit graph.now ports.now }
+    ensures no_cover { (k : ℕ) → (result ≡ Err (NoCover k)) ↔
+        IsFirstUncovered labels.now ports.now.roots k }
+    ensures cover { IfOk result (IsCoverOf graph.now
+        (C.costs cost.now) pats.now labels.now ports.now) }
+    ensures over { IfOk result (λ cover. IsOver lib.now cover.netlist) }
+    ensures costs { IfOk result (CostTheirLabels graph.now (C.costs cost.now) labels.now) }
+{
+    let marks = labels.marks();
+    if let Some(output) = first_uncovered(marks, ports.roots.as_slice()) {
+        return Err(ExtractFault::NoCover(output));
+    }
+    if let Some(bounds) = bounds {
+        return Ok(cover(alloc, graph, pats, lib, bounds, marks, ports, cost)?);
+    }
+    let bounds = Bounds::settled(alloc, graph, pats, marks, cost)?;
+    Ok(cover(alloc, graph, pats, lib, &bounds, marks, ports, cost)?)
+}
+
+/// The netlist that the labels of a graph's classes give to some outputs, as `extract_with` gives
+/// it without a table.
 pub fn extract<C: Cost>(
     alloc: Global,
     graph: &Graph,
@@ -163,9 +206,5 @@ pub fn extract<C: Cost>(
     ensures over { IfOk result (λ cover. IsOver lib.now cover.netlist) }
     ensures costs { IfOk result (CostTheirLabels graph.now (C.costs cost.now) labels.now) }
 {
-    let marks = labels.marks();
-    if let Some(output) = first_uncovered(marks, ports.roots.as_slice()) {
-        return Err(ExtractFault::NoCover(output));
-    }
-    Ok(cover(alloc, graph, pats, lib, marks, ports, cost)?)
+    extract_with(alloc, graph, pats, lib, labels, None, ports, cost)
 }

@@ -10,7 +10,7 @@ mod nets;
 mod ordering;
 mod ports;
 
-pub use extracting::extract;
+pub use extracting::{extract, extract_with};
 pub use fault::ExtractFault;
 pub use laws::{inputs_keep_their_starts, nets_arrive_at_their_labels};
 pub use ports::{Cover, Ports};

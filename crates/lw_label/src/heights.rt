@@ -357,7 +357,8 @@ pub(crate) fn raise_all<C: Cost>(
     requires bounds { AreBounds bounds.now graph.now labels.now }
     requires bounded { AreBoundedIn graph.now pats.now (C.costs cost.now) (costs_of labels.now) }
     requires rising { AreRising graph.now (C.costs cost.now) pats.now labels.now marks.old }
-    ensures { AreLeastMarks graph.now (C.costs cost.now) pats.now marks.new }
+    ensures least { AreLeastMarks graph.now (C.costs cost.now) pats.now marks.new }
+    ensures bounds { AreBounds bounds.now graph.now marks.new }
 {
     while raise_rounds(graph, pats, cost, bounds, tops, labels, visits, marks) {}
 }

@@ -1,5 +1,5 @@
 ghost use Rattle.std.specs.Prelude.{◌≡◌, ◌<◌, None, IfOk, length, replicate, slice_index_or};
-ghost use Rattle.lw_match.specs.Bounds.{BoundsFit};
+ghost use Rattle.lw_match.specs.Bounds.{BoundsFit, AreBounds};
 ghost use Rattle.lw_match.specs.Least.{AreOfCells};
 ghost use Rattle.lw_label.specs.Labels.{AreLeastMarks};
 ghost use Rattle.lw_label.specs.Orders.{places_of};
@@ -65,6 +65,30 @@ pub fn relabel<C: Cost>(
     requires { AreOfCells (C.costs cost.now).pin_counts pats.now }
     ensures { IfOk result (AreLeastMarks graph.now (C.costs cost.now) pats.now) }
 {
+    let found = relabel_with_bounds(alloc, graph, pats, cost)?;
+    Ok(found.labels)
+}
+
+/// The labels of the classes of a graph, and the table of bounds by which they were found.
+#[derive(Drop)]
+pub struct BoundedLabels {
+    pub labels: Labels,
+    pub bounds: Bounds,
+}
+
+/// The labels as `relabel` gives them, and the table of bounds for them: what chooses among the
+/// matches needs no other.
+pub fn relabel_with_bounds<C: Cost>(
+    alloc: Global,
+    graph: &Graph,
+    pats: &Patterns,
+    cost: &C,
+) -> Result<BoundedLabels, AllocError>
+    requires { AreOfCells (C.costs cost.now).pin_counts pats.now }
+    ensures least { IfOk result (λ l. AreLeastMarks graph.now (C.costs cost.now) pats.now l.labels) }
+    ensures fits { IfOk result (λ l. BoundsFit l.bounds pats.now graph.now) }
+    ensures bounds { IfOk result (λ l. AreBounds l.bounds graph.now l.labels) }
+{
     let mut labels = no_marks(alloc, graph)?;
     let mut marks = no_marks(alloc, graph)?;
     let mut visits = Visits::new(alloc, graph)?;
@@ -78,7 +102,8 @@ pub fn relabel<C: Cost>(
         &mut labels,
         &mut marks,
     );
-    Ok(Labels { marks })
+    let labels = Labels { marks };
+    Ok(BoundedLabels { labels, bounds })
 }
 
 // Fills in the marks of all classes, by way of their labels.
@@ -96,7 +121,9 @@ fn mark_all<C: Cost>(
     requires fits { BoundsFit bounds.old pats.now graph.now }
     requires no_labels { labels.old ≡ replicate (length graph.now.pairs) None }
     requires no_marks { marks.old ≡ replicate (length graph.now.pairs) None }
-    ensures { AreLeastMarks graph.now (C.costs cost.now) pats.now marks.new }
+    ensures least { AreLeastMarks graph.now (C.costs cost.now) pats.now marks.new }
+    ensures fits { BoundsFit bounds.new pats.now graph.now }
+    ensures bounds { AreBounds bounds.new graph.now marks.new }
 {
     let _ = graph.classes();
     label_inputs(graph, cost, labels);

@@ -17,5 +17,5 @@ mod order;
 mod visits;
 
 pub use delay::DelayCost;
-pub use labels::{Labels, relabel};
+pub use labels::{BoundedLabels, Labels, relabel, relabel_with_bounds};
 pub use laws::{library_patterns_are_of_cells, library_times_are_low, times_stay_low};

@@ -14,7 +14,7 @@ ghost use Rattle.lw_map.specs.Faults.{IsCoverFault};
 use crate::labelling::label;
 use crate::naming::{input_names, output_name, output_names};
 use crate::{Choices, Labeller, MapFault};
-use lw_extract::{ExtractFault, Ports, extract};
+use lw_extract::{ExtractFault, Ports, extract_with};
 use lw_fixed::Micros;
 use lw_genlib::Library;
 use lw_label::{DelayCost, Labels};
@@ -76,8 +76,10 @@ pub fn cover(
     let cost = DelayCost::new(lib, starts);
     let labelled = label(alloc, &choices.graph, &pats, &cost, labeller)?;
     let labels = labelled.labels;
+    let bounds = labelled.bounds.as_ref();
     let ports = ports(alloc, net, choices)?;
-    match extract(alloc, &choices.graph, &pats, lib, &labels, &ports, &cost) {
+    let graph = &choices.graph;
+    match extract_with(alloc, graph, &pats, lib, &labels, bounds, &ports, &cost) {
         Ok(cover) => {
             let _ = cover.netlist.gates();
             Ok(Mapping {

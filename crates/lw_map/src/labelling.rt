@@ -1,7 +1,8 @@
 // Labels of the classes of a graph.
-ghost use Rattle.std.specs.Prelude.{◌≡◌, ℕ, Some, IfOk, IfErr, slice_get};
+ghost use Rattle.std.specs.Prelude.{◌≡◌, ℕ, Some, None, IfOk, IfErr, IfSome, slice_get};
 ghost use Rattle.lw_laws.specs.Matches.{IsLeastCover};
 ghost use Rattle.lw_laws.specs.Rounds.{labels_in};
+ghost use Rattle.lw_match.specs.Bounds.{BoundsFit, AreBounds};
 ghost use Rattle.lw_match.specs.Least.{AreOfCells};
 ghost use Rattle.lw_label.specs.Labels.{AreLeastMarks, costs_of};
 ghost use Rattle.lw_settle.specs.Steps.{AreSteps};
@@ -9,18 +10,42 @@ ghost use Rattle.lw_map.specs.Labelled.{AreStepsBy};
 
 use crate::{Labeller, MapFault};
 use lw_graph::Graph;
-use lw_label::{Labels, relabel};
-use lw_match::Cost;
+use lw_label::{Labels, relabel_with_bounds};
+use lw_match::{Bounds, Cost};
 use lw_pattern::Patterns;
 use lw_settle::{StoreFault, settle, store_matches};
 use std::alloc::Global;
 
-/// The labels of the classes of a graph, and how often a stored match was read to find them: none
-/// where there are too many matches to store, and the labels are found in rounds.
+/// The labels of the classes of a graph, the table of bounds for them where they are found in
+/// rounds, and how often a stored match was read to find them: none in rounds, which are taken too
+/// where there are too many matches to store.
 #[derive(Drop)]
 pub(crate) struct Labelled {
     pub labels: Labels,
+    pub bounds: Option<Bounds>,
     pub steps: Option<u64>,
+}
+
+// The least cost of a cover of each class, and the height of the class, in rounds.
+fn by_rounds<C: Cost>(
+    alloc: Global,
+    graph: &Graph,
+    pats: &Patterns,
+    cost: &C,
+) -> Result<Labelled, MapFault>
+    requires { AreOfCells (C.costs cost.now).pin_counts pats.now }
+    ensures least { IfOk result (λ l. AreLeastMarks graph.now (C.costs cost.now) pats.now l.labels) }
+    ensures fits { IfOk result (λ l. IfSome l.bounds (λ b. BoundsFit b pats.now graph.now)) }
+    ensures bounds { IfOk result (λ l. IfSome l.bounds (λ b. AreBounds b graph.now l.labels)) }
+    ensures steps { IfOk result (λ l. l.steps ≡ None) }
+    ensures memory { IfErr result (λ e. e ≡ MapFault.Memory) }
+{
+    let found = relabel_with_bounds(alloc, graph, pats, cost)?;
+    Ok(Labelled {
+        labels: found.labels,
+        bounds: Some(found.bounds),
+        steps: None,
+    })
 }
 
 // The least cost of a cover of each class, and the height of the class, by stored matches.
@@ -34,6 +59,8 @@ fn settled<C: Cost>(
     requires leaves { (i c : ℕ) → slice_get graph.now.leaves i ≡ Some c →
         IsLeastCover graph.now pats.now (C.costs cost.now) c (Some ((C.costs cost.now).leaf i)) }
     ensures least { IfOk result (λ l. AreLeastMarks graph.now (C.costs cost.now) pats.now l.labels) }
+    ensures fits { IfOk result (λ l. IfSome l.bounds (λ b. BoundsFit b pats.now graph.now)) }
+    ensures bounds { IfOk result (λ l. IfSome l.bounds (λ b. AreBounds b graph.now l.labels)) }
     ensures steps { IfOk result (λ l. AreSteps graph.now pats.now
         (labels_in (costs_of l.labels)) l.steps) }
     ensures memory { IfErr result (λ e. e ≡ MapFault.Memory) }
@@ -42,14 +69,15 @@ fn settled<C: Cost>(
     match store_matches(alloc, graph, pats) {
         Ok(mut store) => {
             let labels = settle(alloc, &mut store, graph, cost)?;
+            let bounds = None;
             let steps = Some(store.done());
-            Ok(Labelled { labels, steps })
+            Ok(Labelled {
+                labels,
+                bounds,
+                steps,
+            })
         }
-        Err(StoreFault::TooMany) => {
-            let labels = relabel(alloc, graph, pats, cost)?;
-            let steps = None;
-            Ok(Labelled { labels, steps })
-        }
+        Err(StoreFault::TooMany) => by_rounds(alloc, graph, pats, cost),
         Err(StoreFault::Memory) => Err(MapFault::Memory),
     }
 }
@@ -66,16 +94,14 @@ pub(crate) fn label<C: Cost>(
     requires leaves { (i c : ℕ) → slice_get graph.now.leaves i ≡ Some c →
         IsLeastCover graph.now pats.now (C.costs cost.now) c (Some ((C.costs cost.now).leaf i)) }
     ensures least { IfOk result (λ l. AreLeastMarks graph.now (C.costs cost.now) pats.now l.labels) }
+    ensures fits { IfOk result (λ l. IfSome l.bounds (λ b. BoundsFit b pats.now graph.now)) }
+    ensures bounds { IfOk result (λ l. IfSome l.bounds (λ b. AreBounds b graph.now l.labels)) }
     ensures steps { IfOk result (λ l. AreStepsBy labeller graph.now pats.now
         (labels_in (costs_of l.labels)) l.steps) }
     ensures memory { IfErr result (λ e. e ≡ MapFault.Memory) }
 {
     match labeller {
-        Labeller::Rounds => {
-            let labels = relabel(alloc, graph, pats, cost)?;
-            let steps = None;
-            Ok(Labelled { labels, steps })
-        }
+        Labeller::Rounds => by_rounds(alloc, graph, pats, cost),
         Labeller::Store => settled(alloc, graph, pats, cost),
     }
 }

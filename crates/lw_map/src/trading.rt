@@ -18,7 +18,7 @@ use crate::covering::ports;
 use crate::labelling::label;
 use crate::naming::output_name;
 use crate::{Choices, Labeller, MapFault};
-use lw_extract::{ExtractFault, extract};
+use lw_extract::{ExtractFault, extract_with};
 use lw_fixed::{Micro, Micros};
 use lw_genlib::Library;
 use lw_label::DelayCost;
@@ -180,8 +180,10 @@ fn at_any_time(
     let cost = AreaCost::new(lib);
     let labelled = label(alloc, &choices.graph, pats, &cost, Labeller::Rounds)?;
     let labels = labelled.labels;
+    let bounds = labelled.bounds.as_ref();
     let ports = ports(alloc, net, choices)?;
-    match extract(alloc, &choices.graph, pats, lib, &labels, &ports, &cost) {
+    let graph = &choices.graph;
+    match extract_with(alloc, graph, pats, lib, &labels, bounds, &ports, &cost) {
         Ok(cover) => {
             let _ = cover.netlist.gates();
             Ok(cover.netlist)

@@ -7,20 +7,20 @@ use Rattle.lw_map.proofs.covering.cover.Goals as goal
 pub label-requires-clause-of_cells : goal.label-requires-clause-of_cells
 label-requires-clause-of_cells c = rw c.new-cost.ensures.lib (patterns_of_cells c.args.lib.now c.len.ensures.kept c.in_ok-pats.pats c.in_ok-pats.ensures.list c.in_ok-pats.ensures.pins)
 
-pub extract-requires-clause-of_cells : goal.extract-requires-clause-of_cells
-extract-requires-clause-of_cells c = rw c.new-cost.ensures.lib (patterns_of_cells c.args.lib.now c.len.ensures.kept c.in_ok-pats.pats c.in_ok-pats.ensures.list c.in_ok-pats.ensures.pins)
+pub extract_with-requires-clause-of_cells : goal.extract_with-requires-clause-of_cells
+extract_with-requires-clause-of_cells c = rw c.new-cost.ensures.lib (patterns_of_cells c.args.lib.now c.len.ensures.kept c.in_ok-pats.pats c.in_ok-pats.ensures.list c.in_ok-pats.ensures.pins)
 
-pub extract-requires-clause-cells : goal.extract-requires-clause-cells
-extract-requires-clause-cells c = rw c.new-cost.ensures.lib refl
+pub extract_with-requires-clause-cells : goal.extract_with-requires-clause-cells
+extract_with-requires-clause-cells c = rw c.new-cost.ensures.lib refl
 
-pub extract-requires-clause-leaves : goal.extract-requires-clause-leaves
-extract-requires-clause-leaves c =
+pub extract_with-requires-clause-leaves : goal.extract_with-requires-clause-leaves
+extract_with-requires-clause-leaves c =
     rw c.new-cost.ensures.starts (leaf_labels c.args.net.now c.args.starts.now c.args.choices.now c.in_ok-ports.ports c.inputs.ensures.kept c.requires.choices c.in_ok-ports.ensures
     c.args.lib.now c.in_ok-pats.pats c.in_ok-labelled.labelled.labels c.in_ok-pats.ensures.list (rw (c.new-cost.ensures.lib, c.new-cost.ensures.starts) at c.in_ok-labelled.ensures.least)
     (delay_patterns c.args.lib.now c.len.ensures.kept))
 
-pub extract-requires-clause-fit : goal.extract-requires-clause-fit
-extract-requires-clause-fit c =
+pub extract_with-requires-clause-fit : goal.extract_with-requires-clause-fit
+extract_with-requires-clause-fit c =
     ports_fit c.args.net.now c.args.starts.now c.args.choices.now c.in_ok-ports.ports c.inputs.ensures.kept c.requires.choices c.in_ok-ports.ensures c.requires.outputs
 
 pub returns-in-Ok-clause-mapping : goal.returns-in-Ok-clause-mapping

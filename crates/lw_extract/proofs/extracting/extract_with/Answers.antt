@@ -2,7 +2,7 @@ use Rattle.std.proofs.Common.{All, IsSome, Option, None, List, slice_index_or, s
 use Rattle.lw_pool.specs.declared.id.ClassId.{ClassId}
 use Rattle.lw_match.specs.declared.mark.Mark.{Mark}
 use Rattle.lw_extract.proofs.Uncovered.{covered_ok}
-use Rattle.lw_extract.proofs.extracting.extract.Goals as goal
+use Rattle.lw_extract.proofs.extracting.extract_with.Goals as goal
 
 pub returns-clause-no_cover : goal.returns-clause-no_cover
 returns-clause-no_cover g c =
