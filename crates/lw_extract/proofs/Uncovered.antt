@@ -6,7 +6,7 @@ use Rattle.lw_pool.specs.declared.id.ClassId.{ClassId}
 use Rattle.lw_match.specs.declared.mark.Mark.{Mark}
 use Rattle.lw_extract.specs.declared.ports.Cover.{Cover}
 use Rattle.lw_extract.specs.declared.fault.ExtractFault.{ExtractFault}
-use Rattle.lw_extract.specs.declared.fault.ExtractFault.TheVariants.{NoCover}
+use Rattle.lw_extract.specs.declared.fault.ExtractFault.TheVariants.{NoCover, Memory}
 use Rattle.lw_extract.specs.Covers.{IsFirstUncovered}
 use Rattle.lw_extract.proofs.ClassNets.{some_is, some_of}
 use Rattle.lw_extract.proofs.Places.{all_at}
@@ -53,3 +53,6 @@ module _ (marks : List (Option Mark)) (roots : List ClassId) where
 module _ (marks : List (Option Mark)) (roots : List ClassId) (all : All (λ root. IsSome (slice_index_or marks root.0 None)) roots) where
   pub covered_ok : (cover : Cover) (k : ℕ) → ◌≡◌ {A = Result Cover ExtractFault} (Ok cover) (Err (NoCover k)) ↔ IsFirstUncovered marks roots k
   covered_ok cover k = (λ e. cc, λ is. absurd (none_uncovered marks roots k all is))
+
+  pub covered_memory : (k : ℕ) → ◌≡◌ {A = Result Cover ExtractFault} (Err Memory) (Err (NoCover k)) ↔ IsFirstUncovered marks roots k
+  covered_memory k = (λ e. cc, λ is. absurd (none_uncovered marks roots k all is))

@@ -144,6 +144,39 @@ fn cover<C: Cost>(
     assemble(alloc, graph, pats, lib, ports, &nets, &chosen)
 }
 
+// The netlist of the chosen matches, by a table of bounds that is at hand or is made here.
+fn cover_with<C: Cost>(
+    alloc: Global,
+    graph: &Graph,
+    pats: &Patterns,
+    lib: &Library,
+    bounds: Option<&Bounds>,
+    marks: &[Option<Mark>],
+    ports: &Ports,
+    cost: &C,
+) -> Result<Cover, AllocError>
+    requires cells { (C.costs cost.now).pin_counts ≡ map length (delays_of_cells lib.now) }
+    requires of_cells { AreOfCells (C.costs cost.now).pin_counts pats.now }
+    requires fits { IfSome bounds (λ b. BoundsFit b.now pats.now graph.now) }
+    requires bounds { IfSome bounds (λ b. AreBounds b.now graph.now marks.now) }
+    requires least { AreLeastMarks graph.now (C.costs cost.now) pats.now marks.now }
+    requires leaves { HaveLeafLabels graph.now (C.costs cost.now) (labels_of marks.now) }
+    requires fit { AreFit graph.now ports.now }
+    requires covered { All (λ root. IsSome (slice_index_or marks.now root.0 None)) ports.now.roots }
+    ensures cover { IfOk result (IsCoverOf graph.now
+        (C.costs cost.now) pats.now marks.now ports.now) }
+    ensures over { IfOk result (λ cover. IsOver lib.now cover.netlist) }
+    ensures costs { IfOk result (CostTheirLabels graph.now (C.costs cost.now) marks.now) }
+{
+    match bounds {
+        Some(bounds) => cover(alloc, graph, pats, lib, bounds, marks, ports, cost),
+        None => {
+            let bounds = Bounds::settled(alloc, graph, pats, marks, cost)?;
+            cover(alloc, graph, pats, lib, &bounds, marks, ports, cost)
+        }
+    }
+}
+
 /// The netlist that the labels of a graph's classes give to some outputs, by a table of bounds for
 /// them where one is at hand: a gate for each class that is needed, the chosen match of the class.
 /// Each net costs the label of its class. `NoCover` comes exactly where the class of an output has
@@ -176,11 +209,10 @@ pub fn extract_with<C: Cost>(
     if let Some(output) = first_uncovered(marks, ports.roots.as_slice()) {
         return Err(ExtractFault::NoCover(output));
     }
-    if let Some(bounds) = bounds {
-        return Ok(cover(alloc, graph, pats, lib, bounds, marks, ports, cost)?);
+    match cover_with(alloc, graph, pats, lib, bounds, marks, ports, cost) {
+        Ok(cover) => Ok(cover),
+        Err(_) => Err(ExtractFault::Memory),
     }
-    let bounds = Bounds::settled(alloc, graph, pats, marks, cost)?;
-    Ok(cover(alloc, graph, pats, lib, &bounds, marks, ports, cost)?)
 }
 
 /// The netlist that the labels of a graph's classes give to some outputs, as `extract_with` gives
