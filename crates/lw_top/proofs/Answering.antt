@@ -8,19 +8,19 @@ use Rattle.lw_top.specs.declared.refusal.Refusal.TheVariants.{Words, Unread, Too
 use Rattle.lw_top.specs.declared.refusal.Which.{Which}
 use Rattle.lw_top.specs.Steps.{Step, followed_by}
 use Rattle.lw_top.specs.Words.{Command}
-use Rattle.lw_top.specs.Answers.{IsReached, IsCommandAnswer}
+use Rattle.lw_top.specs.Answers.{IsFileOf, IsReached, IsCommandAnswer}
 use Rattle.lw_top.specs.Reading.{Known, HasReason, Blames, Reaches}
 use Rattle.lw_top.specs.Answered.{Says, IsAnswered, Gives}
 use Rattle.lw_top.proofs.Steps.{refused_later, answered}
 
 -- what is known at a file's turn
 abbrev pub Turn : Option (List File) → Command → Which → Type 0
-Turn told command w = (files : List File) → told ≡ Some files → IsReached command w (bytes_of files)
+Turn told command w = IsFileOf command w × ((files : List File) → told ≡ Some files → IsReached command w (bytes_of files))
 
 module _ (told : Option (List File)) (before now : ℕ) (command : Command) where
   -- a file's turn came, and it was not read
   reaches : (w : Which) (e : Refusal) → Blames w e → Turn told command w → Reaches told command e
-  reaches w (Unread v) b turn = λ files is. subst (λ (u : Which). IsReached command u (bytes_of files)) (sym b) (turn files is)
+  reaches w (Unread v) b turn = subst (λ (u : Which). Turn told command u) (sym b) turn
   reaches w other b turn = tt
 
   -- a file is refused

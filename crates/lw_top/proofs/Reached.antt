@@ -8,18 +8,18 @@ use Rattle.lw_top.specs.declared.refusal.Which.{Which}
 use Rattle.lw_top.specs.declared.outcome.Outcome.{Outcome}
 use Rattle.lw_top.specs.declared.outcome.Outcome.TheVariants.{Done, WriteFault, Refused}
 use Rattle.lw_top.specs.Words.{Command}
-use Rattle.lw_top.specs.Answers.{IsReached}
+use Rattle.lw_top.specs.Answers.{IsFileOf, IsReached}
 use Rattle.lw_top.specs.Outcome.{IsReachedBy, outcome_status}
 use Rattle.lw_top.specs.Telling.{outcome_line, refusal_line}
 
 -- the file that the line names
 abbrev pub IsBlamed : Option (List File) → Option Command → (List ℕ → Type 0) → Type 0
-IsBlamed told command said = (c : Command) × (w : Which) × (command ≡ Some c) × ((files : List File) → told ≡ Some files → IsReached c w (bytes_of files)) × said (refusal_line (Some c) (Unread w))
+IsBlamed told command said = (c : Command) × (w : Which) × (command ≡ Some c) × IsFileOf c w × ((files : List File) → told ≡ Some files → IsReached c w (bytes_of files)) × said (refusal_line (Some c) (Unread w))
 
 module _ (told : Option (List File)) (said : List ℕ → Type 0) where
   blamed_refusal : (r : Refusal) (command : Option Command) → outcome_status (Refused r) ≡ 2 → (command ≡ None → ◌≡◌ {A = Outcome} (Refused r) (Refused Words)) → IsReachedBy told command (Refused r) → said (outcome_line command (Refused r)) → IsBlamed told command said
   blamed_refusal (Unread w) None e words reached line = let is = words refl in cc
-  blamed_refusal (Unread w) (Some c) e words reached line = (c, w, refl, reached, line)
+  blamed_refusal (Unread w) (Some c) e words reached line = (c, w, refl, reached.0, reached.1, line)
   blamed_refusal other command e words reached line = absurd (omega (arith, e))
 
   pub blamed : (o : Outcome) (command : Option Command) → outcome_status o ≡ 2 → (command ≡ None → o ≡ Refused Words) → IsReachedBy told command o → said (outcome_line command o) → IsBlamed told command said

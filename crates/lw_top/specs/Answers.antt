@@ -190,6 +190,31 @@ HasNetwork name files = (model : Parsed) × ReadsModel name files (Ok model)
 abbrev pub HasNetlist : List ℕ → List ℕ → Files → Type 0
 HasNetlist library mapped files = (cells : List CellParts) × (m : MappedParts) × ReadsLibrary library files (Ok cells) × ReadsMapped mapped cells files (Ok m)
 
+-- the command reads this file
+abbrev pub IsFileOf : Command → Which → Type 0
+IsFileOf (mapping options certified library network) which.Library = Unit {0}
+IsFileOf (mapping options certified library network) which.Network = Unit {0}
+IsFileOf (checking options library network mapped) which.Library = Unit {0}
+IsFileOf (checking options library network mapped) which.Network = Unit {0}
+IsFileOf (checking options library network mapped) which.Mapped = Unit {0}
+IsFileOf (timing library mapped) which.Library = Unit {0}
+IsFileOf (timing library mapped) which.Mapped = Unit {0}
+IsFileOf (simulation network vectors) which.Network = Unit {0}
+IsFileOf (simulation network vectors) which.Vectors = Unit {0}
+IsFileOf (gate_simulation library mapped vectors) which.Library = Unit {0}
+IsFileOf (gate_simulation library mapped vectors) which.Mapped = Unit {0}
+IsFileOf (gate_simulation library mapped vectors) which.Vectors = Unit {0}
+IsFileOf (counting options network) which.Network = Unit {0}
+IsFileOf (tabling leaves options network) which.Network = Unit {0}
+IsFileOf (drawing seed count library) which.Library = Unit {0}
+IsFileOf (to_verilog library mapped) which.Library = Unit {0}
+IsFileOf (to_verilog library mapped) which.Mapped = Unit {0}
+IsFileOf (from_verilog library verilog) which.Library = Unit {0}
+IsFileOf (from_verilog library verilog) which.Mapped = Unit {0}
+IsFileOf (trading deadline options library network) which.Library = Unit {0}
+IsFileOf (trading deadline options library network) which.Network = Unit {0}
+IsFileOf other w = ⊥
+
 -- The file's turn comes: each file that the command reads before it is there, and within its limit and its grammar.
 abbrev pub IsReached : Command → Which → Files → Type 0
 IsReached (mapping options certified library network) which.Network files = HasLibrary library files

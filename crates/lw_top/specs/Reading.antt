@@ -9,7 +9,7 @@ use Rattle.lw_top.specs.declared.refusal.Refusal.TheVariants.{Unread, Memory}
 use Rattle.lw_top.specs.declared.refusal.Which.{Which}
 use Rattle.lw_top.specs.Steps.{Step}
 use Rattle.lw_top.specs.Words.{Command}
-use Rattle.lw_top.specs.Answers.{IsReached}
+use Rattle.lw_top.specs.Answers.{IsFileOf, IsReached}
 
 -- n bytes were read and added to the text: none only where the file ends, or where there is no room
 pub record ReadsPiece (left rest : Option (List ℕ)) (old new : List ℕ) (room n : ℕ) : Type 0 where
@@ -41,8 +41,8 @@ abbrev pub Blames : Which → Refusal → Type 0
 Blames which (Unread w) = w ≡ which
 Blames which other = Unit {0}
 
--- Where a file was not read its turn had come: over known files each file that the command reads before it is there, and within its limit
+-- A file that was not read is one of the command's, and its turn had come: over known files each file that the command reads before it is there, and within its limit
 -- and its grammar.
 abbrev pub Reaches : Option (List File) → Command → Refusal → Type 0
-Reaches told command (Unread w) = (files : List File) → told ≡ Some files → IsReached command w (bytes_of files)
+Reaches told command (Unread w) = IsFileOf command w × ((files : List File) → told ≡ Some files → IsReached command w (bytes_of files))
 Reaches told command other = Unit {0}

@@ -5,7 +5,7 @@ ghost use Rattle.lw_io.specs.Causes.{Rose};
 ghost use Rattle.lw_io.specs.Files.{bytes_of};
 ghost use Rattle.lw_top.specs.declared.refusal.Which.{Which};
 ghost use Rattle.lw_top.specs.Words.{Command, command_of};
-ghost use Rattle.lw_top.specs.Answers.{IsAnswer, IsReached, status_in, status_of};
+ghost use Rattle.lw_top.specs.Answers.{IsAnswer, IsFileOf, IsReached, status_in, status_of};
 ghost use Rattle.lw_top.specs.Reading.{Known};
 ghost use Rattle.lw_top.specs.Mappings.{AsksForMapping, AsksForCheck, AsksForTables, IsMappingText, LacksOutput, IsCheckedMapping};
 ghost use Rattle.lw_top.specs.Tabled.{AreTables};
@@ -110,7 +110,7 @@ pub fn run<F: Shelf, O: Sink, E: Sink>(
     // that the command reads before it is there, and within its limit and its grammar.
     ensures blamed { result ≡ 2 → ((command : Command) × (w : Which) ×
         (command_of (map string_bytes words.now.items) ≡ Some command)
-        × ((files : List File) → F.files shelf.old ≡ Some files →
+        × IsFileOf command w × ((files : List File) → F.files shelf.old ≡ Some files →
         IsReached command w (bytes_of files))
         × Told E.taken E.faults err.old err.new (refusal_line (Some command) (Refusal.Unread w))) }
 

@@ -10,7 +10,7 @@ use Rattle.lw_top.proofs.answer.draw_files.Goals as goal
 pub returns-in_err-library-clause-answered : goal.returns-in_err-library-clause-answered
 returns-in_err-library-clause-answered g c =
     let p = err_from_is_err_and c.from_residual.result c.from_residual.ensures.1 in
-    rw (p.1, p.2) (file_refused _ _ _ (drawing c.args.seed c.args.count c.args.library.now) which.Library _ c.in_err-library.ensures.blames c.in_err-library.ensures.not_words (λ files is. tt)
+    rw (p.1, p.2) (file_refused _ _ _ (drawing c.args.seed c.args.count c.args.library.now) which.Library _ c.in_err-library.ensures.blames c.in_err-library.ensures.not_words (tt, λ files is. tt)
     (refused _ (ReadsLibrary c.args.library.now) (λ cells. Draws c.args.seed c.args.count cells) _ _ _ c.in_err-library.ensures.reads))
 
 pub returns-clause-answered : goal.returns-clause-answered

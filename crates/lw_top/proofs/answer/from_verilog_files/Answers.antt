@@ -11,13 +11,13 @@ use Rattle.lw_top.proofs.answer.from_verilog_files.Goals as goal
 pub returns-in_err-library-clause-answered : goal.returns-in_err-library-clause-answered
 returns-in_err-library-clause-answered g c =
     let p = err_from_is_err_and c.from_residual.result c.from_residual.ensures.1 in
-    rw (p.1, p.2) (file_refused _ _ _ (from_verilog c.args.library.now c.args.verilog.now) which.Library _ c.in_err-library.ensures.blames c.in_err-library.ensures.not_words (λ files is. tt)
+    rw (p.1, p.2) (file_refused _ _ _ (from_verilog c.args.library.now c.args.verilog.now) which.Library _ c.in_err-library.ensures.blames c.in_err-library.ensures.not_words (tt, λ files is. tt)
     (refused _ (ReadsLibrary c.args.library.now) (λ cells. followed_by (ReadsVerilog c.args.verilog.now cells) (λ n. SaysMapped cells n)) _ _ _ c.in_err-library.ensures.reads))
 
 pub returns-in_err-netlist-clause-answered : goal.returns-in_err-netlist-clause-answered
 returns-in_err-netlist-clause-answered g c =
     let p = err_from_is_err_and c.from_residual-in_err-netlist.result c.from_residual-in_err-netlist.ensures.1 in
-    rw (p.1, p.2) (file_refused _ _ _ (from_verilog c.args.library.now c.args.verilog.now) which.Mapped _ c.in_err-netlist.ensures.blames c.in_err-netlist.ensures.not_words (λ files is. (c.in_ok-library.library, c.in_ok-library.ensures.reads files is))
+    rw (p.1, p.2) (file_refused _ _ _ (from_verilog c.args.library.now c.args.verilog.now) which.Mapped _ c.in_err-netlist.ensures.blames c.in_err-netlist.ensures.not_words (tt, λ files is. (c.in_ok-library.library, c.in_ok-library.ensures.reads files is))
     (refused_later _ (ReadsLibrary c.args.library.now) (λ cells. followed_by (ReadsVerilog c.args.verilog.now cells) (λ n. SaysMapped cells n)) _ _ _ c.in_ok-library.library _ c.read_library.ensures.later c.in_ok-library.ensures.reads
     (refused _ (ReadsVerilog c.args.verilog.now c.in_ok-library.library) (λ n. SaysMapped c.in_ok-library.library n) _ _ _ (rw (c.read_library.ensures.files) at c.in_err-netlist.ensures.reads))))
 

@@ -12,13 +12,13 @@ use Rattle.lw_top.proofs.answer.simulate_files.Goals as goal
 pub returns-in_err-model-clause-answered : goal.returns-in_err-model-clause-answered
 returns-in_err-model-clause-answered g c =
     let p = err_from_is_err_and c.from_residual.result c.from_residual.ensures.1 in
-    rw (p.1, p.2) (file_refused _ _ _ (simulation c.args.network.now c.args.vectors.now) which.Network _ c.in_err-model.ensures.blames c.in_err-model.ensures.not_words (λ files is. tt)
+    rw (p.1, p.2) (file_refused _ _ _ (simulation c.args.network.now c.args.vectors.now) which.Network _ c.in_err-model.ensures.blames c.in_err-model.ensures.not_words (tt, λ files is. tt)
     (refused _ (ReadsModel c.args.network.now) (λ model. followed_by (ReadsVectors c.args.vectors.now model.network.inputs) (λ xs. Simulates model xs)) _ _ _ c.in_err-model.ensures.reads))
 
 pub returns-in_err-vectors-clause-answered : goal.returns-in_err-vectors-clause-answered
 returns-in_err-vectors-clause-answered g c =
     let p = err_from_is_err_and c.from_residual-in_err-vectors.result c.from_residual-in_err-vectors.ensures.1 in
-    rw (p.1, p.2) (file_refused _ _ _ (simulation c.args.network.now c.args.vectors.now) which.Vectors _ c.in_err-vectors.ensures.blames c.in_err-vectors.ensures.not_words (λ files is. (c.in_ok-model.model, c.in_ok-model.ensures.reads files is))
+    rw (p.1, p.2) (file_refused _ _ _ (simulation c.args.network.now c.args.vectors.now) which.Vectors _ c.in_err-vectors.ensures.blames c.in_err-vectors.ensures.not_words (tt, λ files is. (c.in_ok-model.model, c.in_ok-model.ensures.reads files is))
     (refused_later _ (ReadsModel c.args.network.now) (λ model. followed_by (ReadsVectors c.args.vectors.now model.network.inputs) (λ xs. Simulates model xs)) _ _ _ c.in_ok-model.model _ c.read_model.ensures.later c.in_ok-model.ensures.reads
     (refused _ (ReadsVectors c.args.vectors.now c.in_ok-model.model.network.inputs) (λ xs. Simulates c.in_ok-model.model xs) _ _ _ (rw (c.read_model.ensures.files, c.inputs.ensures.inputs) at c.in_err-vectors.ensures.reads))))
 

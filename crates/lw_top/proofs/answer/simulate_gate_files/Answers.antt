@@ -13,20 +13,20 @@ use Rattle.lw_top.proofs.answer.simulate_gate_files.Goals as goal
 pub returns-in_err-library-clause-answered : goal.returns-in_err-library-clause-answered
 returns-in_err-library-clause-answered g c =
     let p = err_from_is_err_and c.from_residual.result c.from_residual.ensures.1 in
-    rw (p.1, p.2) (file_refused _ _ _ (gate_simulation c.args.library.now c.args.mapped.now c.args.vectors.now) which.Library _ c.in_err-library.ensures.blames c.in_err-library.ensures.not_words (λ files is. tt)
+    rw (p.1, p.2) (file_refused _ _ _ (gate_simulation c.args.library.now c.args.mapped.now c.args.vectors.now) which.Library _ c.in_err-library.ensures.blames c.in_err-library.ensures.not_words (tt, λ files is. tt)
     (refused _ (ReadsLibrary c.args.library.now) (λ cells. followed_by (ReadsMapped c.args.mapped.now cells) (λ m. followed_by (ReadsVectors c.args.vectors.now m.netlist.inputs) (λ xs. SimulatesNetlist cells m.netlist xs))) _ _ _ c.in_err-library.ensures.reads))
 
 pub returns-in_err-mapped-clause-answered : goal.returns-in_err-mapped-clause-answered
 returns-in_err-mapped-clause-answered g c =
     let p = err_from_is_err_and c.from_residual-in_err-mapped.result c.from_residual-in_err-mapped.ensures.1 in
-    rw (p.1, p.2) (file_refused _ _ _ (gate_simulation c.args.library.now c.args.mapped.now c.args.vectors.now) which.Mapped _ c.in_err-mapped.ensures.blames c.in_err-mapped.ensures.not_words (λ files is. (c.in_ok-library.library, c.in_ok-library.ensures.reads files is))
+    rw (p.1, p.2) (file_refused _ _ _ (gate_simulation c.args.library.now c.args.mapped.now c.args.vectors.now) which.Mapped _ c.in_err-mapped.ensures.blames c.in_err-mapped.ensures.not_words (tt, λ files is. (c.in_ok-library.library, c.in_ok-library.ensures.reads files is))
     (refused_later _ (ReadsLibrary c.args.library.now) (λ cells. followed_by (ReadsMapped c.args.mapped.now cells) (λ m. followed_by (ReadsVectors c.args.vectors.now m.netlist.inputs) (λ xs. SimulatesNetlist cells m.netlist xs))) _ _ _ c.in_ok-library.library _ c.read_library.ensures.later c.in_ok-library.ensures.reads
     (refused _ (ReadsMapped c.args.mapped.now c.in_ok-library.library) (λ m. followed_by (ReadsVectors c.args.vectors.now m.netlist.inputs) (λ xs. SimulatesNetlist c.in_ok-library.library m.netlist xs)) _ _ _ (rw (c.read_library.ensures.files) at c.in_err-mapped.ensures.reads))))
 
 pub returns-in_err-vectors-clause-answered : goal.returns-in_err-vectors-clause-answered
 returns-in_err-vectors-clause-answered g c =
     let p = err_from_is_err_and c.from_residual-in_err-vectors.result c.from_residual-in_err-vectors.ensures.1 in
-    rw (p.1, p.2) (file_refused _ _ _ (gate_simulation c.args.library.now c.args.mapped.now c.args.vectors.now) which.Vectors _ c.in_err-vectors.ensures.blames c.in_err-vectors.ensures.not_words (λ files is. (c.in_ok-library.library, c.in_ok-mapped.mapped, c.in_ok-library.ensures.reads files is, (rw (c.read_library.ensures.files) at c.in_ok-mapped.ensures.reads) files is))
+    rw (p.1, p.2) (file_refused _ _ _ (gate_simulation c.args.library.now c.args.mapped.now c.args.vectors.now) which.Vectors _ c.in_err-vectors.ensures.blames c.in_err-vectors.ensures.not_words (tt, λ files is. (c.in_ok-library.library, c.in_ok-mapped.mapped, c.in_ok-library.ensures.reads files is, (rw (c.read_library.ensures.files) at c.in_ok-mapped.ensures.reads) files is))
     (refused_later _ (ReadsLibrary c.args.library.now) (λ cells. followed_by (ReadsMapped c.args.mapped.now cells) (λ m. followed_by (ReadsVectors c.args.vectors.now m.netlist.inputs) (λ xs. SimulatesNetlist cells m.netlist xs))) _ _ _ c.in_ok-library.library _ c.read_library.ensures.later c.in_ok-library.ensures.reads
     (refused_later _ (ReadsMapped c.args.mapped.now c.in_ok-library.library) (λ m. followed_by (ReadsVectors c.args.vectors.now m.netlist.inputs) (λ xs. SimulatesNetlist c.in_ok-library.library m.netlist xs)) _ _ _ c.in_ok-mapped.mapped _ c.read_mapped.ensures.later (rw (c.read_library.ensures.files) at c.in_ok-mapped.ensures.reads)
     (refused _ (ReadsVectors c.args.vectors.now c.in_ok-mapped.mapped.netlist.inputs) (λ xs. SimulatesNetlist c.in_ok-library.library c.in_ok-mapped.mapped.netlist xs) _ _ _ (rw (c.read_mapped.ensures.files ∙ c.read_library.ensures.files, c.inputs.ensures.inputs) at c.in_err-vectors.ensures.reads)))))

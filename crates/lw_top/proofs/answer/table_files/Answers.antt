@@ -12,7 +12,7 @@ pub returns-in_err-model-clause-answered : goal.returns-in_err-model-clause-answ
 returns-in_err-model-clause-answered g c =
     let options = plain_options c.args.options in
     let p = err_from_is_err_and c.from_residual.result c.from_residual.ensures.1 in
-    rw (p.1, p.2) (file_refused _ _ _ (tabling c.args.leaves options c.args.network.now) which.Network _ c.in_err-model.ensures.blames c.in_err-model.ensures.not_words (λ files is. tt)
+    rw (p.1, p.2) (file_refused _ _ _ (tabling c.args.leaves options c.args.network.now) which.Network _ c.in_err-model.ensures.blames c.in_err-model.ensures.not_words (tt, λ files is. tt)
     (refused _ (ReadsModel c.args.network.now) (λ model. Tabulates c.args.leaves options model) _ _ _ c.in_err-model.ensures.reads))
 
 pub returns-clause-answered : goal.returns-clause-answered

@@ -11,13 +11,13 @@ use Rattle.lw_top.proofs.answer.to_verilog_files.Goals as goal
 pub returns-in_err-library-clause-answered : goal.returns-in_err-library-clause-answered
 returns-in_err-library-clause-answered g c =
     let p = err_from_is_err_and c.from_residual.result c.from_residual.ensures.1 in
-    rw (p.1, p.2) (file_refused _ _ _ (to_verilog c.args.library.now c.args.mapped.now) which.Library _ c.in_err-library.ensures.blames c.in_err-library.ensures.not_words (λ files is. tt)
+    rw (p.1, p.2) (file_refused _ _ _ (to_verilog c.args.library.now c.args.mapped.now) which.Library _ c.in_err-library.ensures.blames c.in_err-library.ensures.not_words (tt, λ files is. tt)
     (refused _ (ReadsLibrary c.args.library.now) (λ cells. followed_by (ReadsMapped c.args.mapped.now cells) (λ m. SaysVerilog cells m)) _ _ _ c.in_err-library.ensures.reads))
 
 pub returns-in_err-mapped-clause-answered : goal.returns-in_err-mapped-clause-answered
 returns-in_err-mapped-clause-answered g c =
     let p = err_from_is_err_and c.from_residual-in_err-mapped.result c.from_residual-in_err-mapped.ensures.1 in
-    rw (p.1, p.2) (file_refused _ _ _ (to_verilog c.args.library.now c.args.mapped.now) which.Mapped _ c.in_err-mapped.ensures.blames c.in_err-mapped.ensures.not_words (λ files is. (c.in_ok-library.library, c.in_ok-library.ensures.reads files is))
+    rw (p.1, p.2) (file_refused _ _ _ (to_verilog c.args.library.now c.args.mapped.now) which.Mapped _ c.in_err-mapped.ensures.blames c.in_err-mapped.ensures.not_words (tt, λ files is. (c.in_ok-library.library, c.in_ok-library.ensures.reads files is))
     (refused_later _ (ReadsLibrary c.args.library.now) (λ cells. followed_by (ReadsMapped c.args.mapped.now cells) (λ m. SaysVerilog cells m)) _ _ _ c.in_ok-library.library _ c.read_library.ensures.later c.in_ok-library.ensures.reads
     (refused _ (ReadsMapped c.args.mapped.now c.in_ok-library.library) (λ m. SaysVerilog c.in_ok-library.library m) _ _ _ (rw (c.read_library.ensures.files) at c.in_err-mapped.ensures.reads))))
 
