@@ -247,20 +247,6 @@ won_step n at tree entry pos lt long is won i ipos ilt but = by (cases_eq i at)
         subst (IsWonAt (set tree at entry)) (sym same) (here ∙ (is ∙ sym (ap₂ lesser one two)))
     by (inr ne) = won_kept tree at i entry ne (λ e. but (omega arith)) (λ e. but (omega arith)) (won i ipos ilt ne)
 
-pub won_set : (n class : ℕ) (tree : List Entry) (entry : Entry) → class < n → AreWonBut n tree 0 → AreWonBut n (set tree (n + class) entry) ((n + class) / 2)
-won_set n class tree entry lt won i pos ilt but =
-    won_kept tree (n + class) i entry (λ e. omega arith) (λ e. but (omega arith)) (λ e. but (omega arith)) (won i pos ilt (λ e. omega arith))
-
--- a tree of one entry alone
-pub won_same : (n : ℕ) (tree : List Entry) (entry : Entry) → tree ≡ replicate (2 * n) entry → AreWonBut n tree 0
-won_same n tree entry e i pos lt but =
-    let at : (k : ℕ) → k < 2 * n → node tree k ≡ entry = λ k l. ap (λ xs. get_or xs k no_entry) e ∙ get_or-replicate (2 * n) k entry no_entry l in
-    let same = lesser_same entry in
-    at i (omega arith) ∙ sym (ap₂ lesser (at (2 * i) (omega arith)) (at (2 * i + 1) (omega arith)) ∙ same)
-  where
-    lesser_same : (x : Entry) → lesser x x ≡ x
-    lesser_same x = cond_both (is_before x x) x x (λ y. y ≡ x) (λ t. refl) (λ f. refl)
-
 -- each leaf behind a write to one
 pub leaf_after : (n class c : ℕ) (tree new : List Entry) (entry : Entry) → length tree ≡ 2 * n → class < n → drop n new ≡ set (drop n tree) class entry → ((c ≡ class) × (node new (n + c) ≡ entry)) ⊎ ((c ≡ class → ⊥) × (node new (n + c) ≡ node tree (n + c)))
 leaf_after n class c tree new entry long lt leaves = by (cases_eq c class)

@@ -2,7 +2,7 @@
 use Rattle.std.proofs.Common.{ℕ, zero, suc, ◌+◌, ◌-◌, ◌*◌, ◌^◌, ◌<◌, ◌≤◌, ◌≡◌, ◌≢◌, ◌⊎◌, Bool, true, false, cond, eqb, is_some, List, [], ◌∷◌, ◌++◌, length, map, drop, replicate, get_or, set, Option, Some, None, option_map, slice_get, refl, ap, ap₂, sym, ◌∙◌, subst, subst₂, inl, inr, add-one, arith}
 use Rattle.std.specs.List.{AllByRecursion}
 use Rattle.std.proofs.lemmas.Bool.{cases_eq, cases_lt, eq-eqb, ne_eqb, cond-true, cond-false}
-use Rattle.std.proofs.lemmas.List.{drop_more, drop_all, length-set, get_or-set_same, get_or-set_other}
+use Rattle.std.proofs.lemmas.List.{drop_more, length-set, get_or-set_same, get_or-set_other}
 use Rattle.std.proofs.lemmas.Option.{same_Some, slice_get_within, get_or_from_slice_get}
 use Rattle.lw_laws.specs.Graphs.{Graph}
 use Rattle.lw_laws.specs.Costs.{Cost, IsCost}
@@ -15,7 +15,7 @@ use Rattle.lw_label.proofs.Marked.{mark_set_same, mark_set_other}
 use Rattle.lw_settle.specs.declared.queue.Taken.{Taken}
 use Rattle.lw_settle.specs.Queues.{IsFirst, IsLowered}
 use Rattle.lw_settle.specs.Stores.{Stored, Placed, placed, pins_of, times, uses_from, uses_of, AreKeptLists, AreOfStoredCells}
-use Rattle.lw_settle.specs.Settling.{HasAtMost, IsSound, IsCovered, IsCounted, IsOffering, IsMatchOffered, IsSettling, IsReading, IsReadingOf, IsReadingSome, AreInputsOffered, Stage, first_stage, untaken, used, zeros, pin_count}
+use Rattle.lw_settle.specs.Settling.{HasAtMost, IsSound, IsCovered, IsCounted, IsMatchOffered, IsSettling, IsReadingOf, IsReadingSome, AreInputsOffered, Stage, first_stage, untaken, used, zeros, pin_count}
 use Rattle.lw_settle.proofs.Taking.{at_most_itself, at_most_more, offer_sound, offer_keeps, offer_has, take_sound, take_covered, read_covered, price_fits, price_above, all_marked}
 
 -- how often matches were read
@@ -254,13 +254,6 @@ none_is (Some x) e = cc
 pub marks_some : (marks : List (Option Mark)) (c : ℕ) (m : Mark) → get_or marks c None ≡ Some m → marks_in marks c ≡ Some (plain_mark m)
 marks_some marks c m e = ap (option_map plain_mark) e
 
-pub marks_none : (marks : List (Option Mark)) (c : ℕ) → marks_in marks c ≡ None → get_or marks c None ≡ None
-marks_none marks c e = by (get_or marks c None) refl
-  where
-    by : (o : Option Mark) → get_or marks c None ≡ o → get_or marks c None ≡ None
-    by None f = f
-    by (Some m) f = let there = marks_some marks c m f in absurd (cc)
-
 some_of : (marks : List (Option Mark)) (c : ℕ) (k : PlainMark) → marks_in marks c ≡ Some k → (m : Mark) × (get_or marks c None ≡ Some m) × (plain_mark m ≡ k)
 some_of marks c k e = by (get_or marks c None) refl
   where
@@ -277,19 +270,6 @@ mark_set_none (o ∷ marks) (suc c) = mark_set_none marks c
 pub marked_below : (marks : List (Option Mark)) (c : ℕ) (m : Mark) → c < length marks → get_or marks c None ≡ None → marked marks < length marks
 marked_below marks c m lt none =
     omega (arith, marked_more marks c m lt none, marked_most (set marks c (Some m)), length-set marks c (Some m))
-
--- what a queue does with a mark that it is offered
-pub lowered_is : (marks wait wait' : List (Option Mark)) (c : ℕ) (m : Mark) → c < length wait → get_or marks c None ≡ None → IsLowered wait wait' c m → IsOffering (marks_in marks) (marks_in wait) (marks_in wait') c (plain_mark m)
-lowered_is marks wait wait' c m lt none (inl (new, least)) = record {
-  closed = λ j e. let there = ap (option_map plain_mark) none in absurd (cc);
-  others = λ d ne. ap (λ w. marks_in w d) new ∙ mark_set_other wait c d (Some m) ne;
-  at = λ e. inl (ap (λ w. marks_in w c) new ∙ mark_set_same wait c m lt, λ j f. let (x, at, same) = some_of wait c j f in subst (IsMarkAtMost (plain_mark m)) same (least x at));
-}
-lowered_is marks wait wait' c m lt none (inr (new, (x, at, le))) = record {
-  closed = λ j e. let there = ap (option_map plain_mark) none in absurd (cc);
-  others = λ d ne. ap (λ w. marks_in w d) new;
-  at = λ e. inr (plain_mark x, marks_some wait c x at, ap (λ w. marks_in w c) new ∙ marks_some wait c x at, le);
-}
 
 -- one more input
 pub inputs_more : (g : Graph) (cost : Cost) (i c : ℕ) (m : Mark) (wait wait' : List (Option Mark)) → AreInputsOffered g cost i wait → slice_get g.leaves i ≡ Some c → c < length g.pairs → plain_mark m ≡ leaf_mark cost i → IsLowered wait wait' c m → AreInputsOffered g cost (i + 1) wait'
@@ -465,8 +445,3 @@ module _ (cost : Cost) (lists : List (List Stored)) (g : Graph) (start done : �
   pub marks_rise : length (set marks class (Some t.mark)) - marked (set marks class (Some t.mark)) < length marks - marked marks
   marks_rise =
       omega (arith, marked_more marks class t.mark class_within unmarked, marked_most (set marks class (Some t.mark)), length-set marks class (Some t.mark))
-
--- all uses of a class are read
-pub uses_read : (cost : Cost) (lists : List (List Stored)) (s : Stage) (class n done : ℕ) (marks wait : List (Option Mark)) (left : List ℕ) → length (uses_of lists class) ≤ n → IsReadingOf cost lists s class n done marks wait left → IsReading cost lists s [] done marks wait left
-uses_read cost lists s class n done marks wait left le w =
-    subst (λ u. IsReading cost lists s u done marks wait left) (drop_all n (uses_of lists class) le) w.reading

@@ -121,14 +121,11 @@ times_uses j n (suc i) c (q ∷ ms) m e at =
     times-append j (replicate (times c (pins_of q)) n) (uses_from (suc n) ms c) ∙ omega arith
 
 -- what is left of pins
-untaken_marked : (taken : Marks) (ps : List ℕ) (ks : List Mark) → HaveMarks taken ps ks → untaken taken ps ≡ 0
-untaken_marked taken [] ks have = refl
-untaken_marked taken (p ∷ ps) [] have = absurd have
-untaken_marked taken (p ∷ ps) (k ∷ ks) (e, have) =
-    cond-true (is_some (taken p)) (untaken taken ps) (suc (untaken taken ps)) (ap is_some e) ∙ untaken_marked taken ps ks have
-
 pub none_untaken : (taken : Marks) (ps : List ℕ) (ks : List Mark) → HaveMarks taken ps ks → untaken taken ps ≡ 0
-none_untaken taken ps ks have = untaken_marked taken ps ks have
+none_untaken taken [] ks have = refl
+none_untaken taken (p ∷ ps) [] have = absurd have
+none_untaken taken (p ∷ ps) (k ∷ ks) (e, have) =
+    cond-true (is_some (taken p)) (untaken taken ps) (suc (untaken taken ps)) (ap is_some e) ∙ none_untaken taken ps ks have
 
 pub all_marked : (taken : Marks) (ps : List ℕ) → untaken taken ps ≡ 0 → AllByRecursion (λ p. (k : Mark) × (taken p ≡ Some k)) ps
 all_marked taken [] e = tt
