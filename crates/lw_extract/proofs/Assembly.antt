@@ -14,11 +14,13 @@ use Rattle.lw_laws.specs.Netlists as laws
 use Rattle.lw_laws.specs.Extracts.{Match, IsChosen, IsLeafClass, IsNeeded, IsGateBefore, AreGateClasses, IsExtracted, IsNetOf}
 use Rattle.lw_laws.specs.Extracts.IsNeeded.{by_root, by_pin}
 use Rattle.lw_laws.proofs.Extracts.{extracted_ordered}
+use Rattle.lw_laws.proofs.Numbers.{slice_get_map, slice_get_map_back}
 use Rattle.lw_match.specs.declared.mark.Mark.{Mark}
 use Rattle.lw_match.specs.Values.{numbers, plain_match}
 use Rattle.lw_label.specs.Labels.{cost_in}
 use Rattle.lw_genlib.specs.Cells.{CellParts, IsLibrary, IsListed}
 use Rattle.lw_genlib.specs.Tables.{cell_delays, delays_of_cells, millionths}
+use Rattle.lw_match.proofs.MoreParts.{get_in_more}
 use Rattle.lw_netlist.specs.declared.gate.Gate.{Gate}
 use Rattle.lw_netlist.specs.declared.gate.Port.{Port}
 use Rattle.lw_netlist.specs.Netlists.{NetlistParts, IsNetlist, IsGateAt}
@@ -31,7 +33,7 @@ use Rattle.lw_extract.specs.Choosing.{labels, heights, chosen_classes, AreChosen
 use Rattle.lw_extract.specs.Covers.{AreFit, IsCoverOf}
 use Rattle.lw_extract.proofs.ClassNets.{some_is, not_none}
 use Rattle.lw_naming.proofs.NameCount.{name_count}
-use Rattle.lw_extract.proofs.Places.{slice_get_left, slice_get_right, all_places, all_at, place_map, from_map, place_beside, some_within, zip_read, zip_maps, zip_right, from_all_map, contains_at, few_distinct}
+use Rattle.lw_extract.proofs.Places.{slice_get_right, all_places, all_at, place_beside, some_within, zip_read, zip_maps, zip_right, from_all_map, contains_at, few_distinct}
 
 not_before_itself : (heights : ℕ → ℕ) (c : ℕ) → IsGateBefore heights c c → ⊥
 not_before_itself heights c (inl lt) = omega arith
@@ -48,7 +50,7 @@ pub record AreParts (g : Graph) (pats : List Pattern) (ports : Ports) (chosen : 
 
 module _ (g : Graph) (cost : Cost) (pats : List Pattern) (marks : List (Option Mark)) (roots : List ClassId) (chosen : List Chosen) (are : AreChosen g cost pats marks roots chosen) where
   class_of : (j : ℕ) (x : Chosen) → slice_get chosen j ≡ Some x → slice_get (chosen_classes chosen) j ≡ Some x.class.0
-  class_of j x at = place_map (λ (y : Chosen). y.class.0) chosen j x at
+  class_of j x at = slice_get_map (λ (y : Chosen). y.class.0) chosen j x at
 
   labelled : (j : ℕ) (x : Chosen) → slice_get chosen j ≡ Some x → x.class.0 < length marks
   labelled j x at =
@@ -72,7 +74,7 @@ module _ (g : Graph) (cost : Cost) (pats : List Pattern) (marks : List (Option M
 
       below : (i c : ℕ) → slice_get (chosen_classes chosen) i ≡ Some c → c < length g.pairs
       below i c at =
-          let (x, here, same) = from_map (λ (y : Chosen). y.class.0) chosen i c at in
+          let (x, here, same) = slice_get_map_back (λ (y : Chosen). y.class.0) chosen i c at in
           let inside = labelled i x here in
           omega arith
 
@@ -87,13 +89,13 @@ module _ (g : Graph) (cost : Cost) (pats : List Pattern) (marks : List (Option M
         by_net : (o : Option NetId) → slice_index_or nets c None ≡ o → IsSome (slice_index_or nets c None)
         by_net (Some n) e = some_is (slice_index_or nets c None) n e
         by_net None e =
-            let no_leaf : IsLeafClass g c → ⊥ = λ (i, at). not_none (slice_index_or nets c None) e (have.all c i (slice_get_left g.leaves (chosen_classes chosen) i c at)) in
+            let no_leaf : IsLeafClass g c → ⊥ = λ (i, at). not_none (slice_index_or nets c None) e (have.all c i (get_in_more g.leaves (chosen_classes chosen) i c at)) in
             let (j, here) = are.gate_classes.all c needed no_leaf in
             absurd (not_none (slice_index_or nets c None) e (have.all c (length g.leaves + j) (slice_get_right g.leaves (chosen_classes chosen) j c here)))
 
     pub roots_have_nets : HaveNets nets roots
     roots_have_nets =
-        all_places (λ (q : ClassId). IsSome (net_in nets q)) roots (λ k q at. needed_net q.0 (by_root (contains_at (numbers roots) k q.0 (place_map (λ (c : ClassId). c.0) roots k q at))))
+        all_places (λ (q : ClassId). IsSome (net_in nets q)) roots (λ k q at. needed_net q.0 (by_root (contains_at (numbers roots) k q.0 (slice_get_map (λ (c : ClassId). c.0) roots k q at))))
 
     pub pins_have_nets : All (λ (x : Chosen). HaveNets nets x.found.pins) chosen
     pins_have_nets = all_places (λ (x : Chosen). HaveNets nets x.found.pins) chosen of_match
@@ -102,14 +104,14 @@ module _ (g : Graph) (cost : Cost) (pats : List Pattern) (marks : List (Option M
         of_match j x at =
             let (p, is) = are.each j x at in
             let (needed, no_leaf) = are.gate_classes.needed j x.class.0 (class_of j x at) in
-            all_places (λ (q : ClassId). IsSome (net_in nets q)) x.found.pins (λ k q here. needed_net q.0 (by_pin needed no_leaf is (contains_at (numbers x.found.pins) k q.0 (place_map (λ (c : ClassId). c.0) x.found.pins k q here))))
+            all_places (λ (q : ClassId). IsSome (net_in nets q)) x.found.pins (λ k q here. needed_net q.0 (by_pin needed no_leaf is (contains_at (numbers x.found.pins) k q.0 (slice_get_map (λ (c : ClassId). c.0) x.found.pins k q here))))
 
     module _ (ports : Ports) (n : NetlistParts) (parts : AreParts g pats ports chosen nets n) where
       pub extracted : IsExtracted g cost pats (labels marks) (heights marks) (chosen_classes chosen) (plain n)
       extracted = record {
         inputs = parts.inputs;
         one_each = length-map n.gates plain_gate ∙ (parts.gates.one_each ∙ sym (length-map chosen (λ (x : Chosen). x.class.0)));
-        chosen = λ j gt at. of_gate j gt (from_map plain_gate n.gates j gt at);
+        chosen = λ j gt at. of_gate j gt (slice_get_map_back plain_gate n.gates j gt at);
       }
         where
           of_gate : (j : ℕ) (gt : laws.Gate) → (gate : Gate) × (slice_get n.gates j ≡ Some gate) × (plain_gate gate ≡ gt) → (c : ℕ) × (m : Match) × (p : Pattern) × (slice_get (chosen_classes chosen) j ≡ Some c) × IsChosen g cost pats (labels marks) (heights marks) c m p × (gt.cell ≡ p.cell) × AllZip (λ q net. IsNetOf g (chosen_classes chosen) q net) m.pins gt.pins
@@ -150,7 +152,7 @@ module _ (g : Graph) (cost : Cost) (pats : List Pattern) (marks : List (Option M
           gate_at j gate at =
               let (x, here) = place_beside n.gates chosen j gate parts.gates.one_each at in
               let of = parts.gates.each j x gate here at in
-              let before = extracted_ordered g cost pats (labels marks) (heights marks) (chosen_classes chosen) (plain n) are.gate_classes.sorted extracted j (plain_gate gate) (place_map plain_gate n.gates j gate at) in
+              let before = extracted_ordered g cost pats (labels marks) (heights marks) (chosen_classes chosen) (plain n) are.gate_classes.sorted extracted j (plain_gate gate) (slice_get_map plain_gate n.gates j gate at) in
               record {
                 drives = of.out;
                 before = All-from_recursion (λ (net : NetId). net.0 < n.inputs + j) gate.pins (from_all_map (λ p. p < n.inputs + j) net_number gate.pins before);
@@ -165,8 +167,8 @@ module _ (g : Graph) (cost : Cost) (pats : List Pattern) (marks : List (Option M
               let (p, is) = are.each j x here in
               let of = parts.gates.each j x gate here at in
               let pins = subst (λ ns. HasPins ns p.cell (length (numbers x.found.pins))) counts is.supports.matches.pins in
-              let (delays, delays_at, one_delay) = from_map length (delays_of_cells lib) p.cell (length (numbers x.found.pins)) pins in
-              let (cell, cell_at, same) = from_map cell_delays lib p.cell delays delays_at in
+              let (delays, delays_at, one_delay) = slice_get_map_back length (delays_of_cells lib) p.cell (length (numbers x.found.pins)) pins in
+              let (cell, cell_at, same) = slice_get_map_back cell_delays lib p.cell delays delays_at in
               let listed = all_at IsListed lib p.cell cell is_library.each cell_at in
               let pins_of_match = length-map x.found.pins (λ (c : ClassId). c.0) in
               let nets_of_gate : length gate.pins ≡ length x.found.pins = sym (length-map gate.pins Some) ∙ (ap length of.pins ∙ length-map x.found.pins (net_in nets)) in

@@ -21,7 +21,8 @@ use Rattle.lw_extract.specs.Choosing.{labels, heights, chosen_classes, AreChosen
 use Rattle.lw_extract.specs.Nets.{AreInputNets}
 use Rattle.lw_extract.specs.Orders.{IsPlaceBefore, ArePlaces, AreByHeight}
 use Rattle.lw_extract.proofs.Picking.{height_at, mark_at, pin_label, pins_below, root_mark}
-use Rattle.lw_extract.proofs.Sorting.{contains_at, at_contains, contains_back, seen_place, back_place, before_seen, within_some}
+use Rattle.lw_extract.proofs.Sorting.{at_contains, contains_back, seen_place, back_place, before_seen}
+use Rattle.lw_extract.proofs.Places.{some_within, contains_at}
 
 abbrev IsNoted : List Bool → ℕ → Type 0
 IsNoted needed c = slice_index_or needed c false ≡ true
@@ -226,7 +227,7 @@ module _ (g : Graph) (cost : Cost) (pats : List Pattern) (marks : List (Option M
   pub turn_within : (k : ℕ) (p : Place) → length marks ≡ length g.pairs → IsTurn places k p → p.class.0 < length g.pairs
   turn_within k p same turn =
       let (m, at) = turn_mark k p turn in
-      let below = within_some marks p.class.0 m at in
+      let below = some_within marks p.class.0 m at in
       omega (arith, below, same)
 
   -- the match of the next place
@@ -245,7 +246,7 @@ module _ (g : Graph) (cost : Cost) (pats : List Pattern) (marks : List (Option M
   -- its pins are in range
   pub turn_pins : (k : ℕ) (p : Place) (found : Match) → length marks ≡ length g.pairs → IsTurn places k p → IsChoice g cost pats marks p.class.0 found → All (λ (c : ClassId). c.0 < length g.pairs) found.pins
   turn_pins k p found same turn (pattern, chosen) =
-      All-from_recursion (λ (c : ClassId). c.0 < length g.pairs) found.pins (pins_below (length g.pairs) (labels marks) found.pins chosen.supports.pin_labels (λ q l e. let (m, at) = mark_at marks q l e in let below = within_some marks q m at in omega (arith, below, same)) chosen.supports.have)
+      All-from_recursion (λ (c : ClassId). c.0 < length g.pairs) found.pins (pins_below (length g.pairs) (labels marks) found.pins chosen.supports.pin_labels (λ q l e. let (m, at) = mark_at marks q l e in let below = some_within marks q m at in omega (arith, below, same)) chosen.supports.have)
 
   abbrev DownAt : List Place → List Bool → List Chosen → Type 0
   DownAt seen needed chosen = IsDown g cost pats marks roots seen needed (reverse chosen)

@@ -1,18 +1,11 @@
 -- Flags of classes that are needed.
-use Rattle.std.proofs.Common.{ℕ, zero, suc, ◌+◌, ◌<◌, ◌≤◌, ◌≡◌, ◌⊎◌, inl, inr, Bool, true, false, List, [], ◌∷◌, ◌++◌, length, take, replicate, get_or, Contains, slice_index_or, slice_set, refl, ap, sym, ◌∙◌, subst, arith, true≢false}
+use Rattle.std.proofs.Common.{ℕ, ◌+◌, ◌<◌, ◌≡◌, ◌⊎◌, inl, inr, Bool, true, false, List, [], ◌∷◌, ◌++◌, length, take, get_or, Contains, slice_index_or, slice_set, ap, sym, ◌∙◌, subst}
 use Rattle.std.proofs.lemmas.Bool.{cases_eq}
-use Rattle.std.proofs.lemmas.List.{length-set, length-replicate, get_or-set_same, get_or-set_other, map_push, take_more, take_all}
+use Rattle.std.proofs.lemmas.List.{length-set, get_or-set_same, get_or-set_other, map_push, take_more}
 use Rattle.std.proofs.lemmas.List.Elements.{Contains-push, Contains-push_cases, Contains-append_left}
 use Rattle.lw_pool.specs.declared.id.ClassId.{ClassId}
 use Rattle.lw_match.specs.Values.{numbers}
-use Rattle.lw_extract.specs.Choosing.{AreRoots, HasAlso}
-
-pub also_none : (old : List Bool) → HasAlso old [] old
-also_none old = record { one_each = refl; are = λ c. (λ e. inl e, from c) }
-  where
-    from : (c : ℕ) → (slice_index_or old c false ≡ true) ⊎ Contains (numbers []) c → slice_index_or old c false ≡ true
-    from c (inl e) = e
-    from c (inr (k, lt, e)) = absurd (omega arith)
+use Rattle.lw_extract.specs.Choosing.{HasAlso}
 
 also_push : (old now : List Bool) (cs : List ClassId) (c : ClassId) → c.0 < length now → HasAlso old cs now → HasAlso old (cs ++ c ∷ []) (slice_set now c.0 true)
 also_push old now cs c below has = record {
@@ -44,22 +37,3 @@ also_push old now cs c below has = record {
 pub also_more : (old now : List Bool) (cs : List ClassId) (i : ℕ) (d : ClassId) → i < length cs → (get_or cs i d).0 < length now → HasAlso old (take i cs) now → HasAlso old (take (i + 1) cs) (slice_set now (get_or cs i d).0 true)
 also_more old now cs i d lt below has =
     subst (λ (xs : List ClassId). HasAlso old xs (slice_set now (get_or cs i d).0 true)) (sym (take_more cs i d lt)) (also_push old now (take i cs) (get_or cs i d) below has)
-
-pub also_all : (old now : List Bool) (cs : List ClassId) (i : ℕ) → length cs ≤ i → HasAlso old (take i cs) now → HasAlso old cs now
-also_all old now cs i le has = subst (λ (xs : List ClassId). HasAlso old xs now) (take_all i cs le) has
-
-none_noted : (n c : ℕ) → slice_index_or (replicate n false) c false ≡ false
-none_noted zero c = refl
-none_noted (suc n) zero = refl
-none_noted (suc n) (suc c) = none_noted n c
-
--- flags of the roots alone
-pub roots_noted : (roots : List ClassId) (classes : ℕ) (needed : List Bool) → HasAlso (replicate classes false) roots needed → AreRoots roots classes needed
-roots_noted roots classes needed has = record {
-  one_each = has.one_each ∙ length-replicate classes false;
-  are = λ c. (λ e. by_case c ((has.are c).0 e), λ k. (has.are c).1 (inr k));
-}
-  where
-    by_case : (c : ℕ) → (slice_index_or (replicate classes false) c false ≡ true) ⊎ Contains (numbers roots) c → Contains (numbers roots) c
-    by_case c (inl e) = absurd (true≢false (sym e ∙ none_noted classes c))
-    by_case c (inr k) = k

@@ -21,6 +21,7 @@ use Rattle.lw_match.specs.Least.{IsLeastMatch, IsLeastBelow, IsMarkBefore}
 use Rattle.lw_label.specs.Labels.{AreLeastMarks}
 use Rattle.lw_label.proofs.Marked.{label_at, mark_of_label}
 use Rattle.lw_extract.specs.Choosing.{labels, heights, IsChoice}
+use Rattle.lw_extract.proofs.ClassNets.{some_of}
 
 -- the labels of marks as one function
 pub labels_are : (marks : List (Option Mark)) → labels marks ≡ labels_of (marks_in marks)
@@ -53,10 +54,6 @@ pub pins_below : (n : ℕ) (known : Labels) (cs : List ClassId) (ls : List ℕ) 
 pins_below n known [] ls below a = tt
 pins_below n known (c ∷ cs) [] below a = absurd a
 pins_below n known (c ∷ cs) (l ∷ ls) below (e, a) = (below c.0 l e, pins_below n known cs ls below a)
-
-some_of : {X : Type 0} (o : Option X) → IsSome o → (x : X) × (o ≡ Some x)
-some_of None s = cc
-some_of (Some x) s = (x, refl)
 
 -- each of the roots has a mark
 pub root_mark : (marks : List (Option Mark)) (roots : List ClassId) (c : ℕ) → All (λ (root : ClassId). IsSome (slice_index_or marks root.0 None)) roots → Contains (numbers roots) c → (m : Mark) × (slice_index_or marks c None ≡ Some m)

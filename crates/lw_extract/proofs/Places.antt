@@ -9,11 +9,6 @@ use Rattle.std.proofs.lemmas.Map.Steps.{length-le_from_distinct_below}
 use Rattle.std.proofs.lemmas.Bool.{ne_eqb}
 
 -- a place of a list in a longer one
-pub slice_get_left : {X : Type 0} (xs ys : List X) (k : ℕ) (x : X) → slice_get xs k ≡ Some x → slice_get (xs ++ ys) k ≡ Some x
-slice_get_left [] ys k x e = absurd (none-some x e)
-slice_get_left (z ∷ xs) ys zero x e = e
-slice_get_left (z ∷ xs) ys (suc k) x e = slice_get_left xs ys k x e
-
 pub slice_get_right : {X : Type 0} (xs ys : List X) (k : ℕ) (x : X) → slice_get ys k ≡ Some x → slice_get (xs ++ ys) (length xs + k) ≡ Some x
 slice_get_right [] ys k x e = rw zero-add e
 slice_get_right (z ∷ xs) ys k x e = rw suc-add (slice_get_right xs ys k x e)
@@ -26,17 +21,6 @@ pub all_at : {X : Type 0} (P : X → Type 0) (xs : List X) (k : ℕ) (x : X) →
 all_at P xs k x h e =
     let inside = slice_get_within xs k x e in
     subst P (same_Some (get_or xs k x) x (sym (slice_get-get_or xs k x inside) ∙ e)) (h k x inside)
-
--- the places of a map
-pub place_map : {X Y : Type 0} (f : X → Y) (xs : List X) (k : ℕ) (x : X) → slice_get xs k ≡ Some x → slice_get (map f xs) k ≡ Some (f x)
-place_map f [] k x e = absurd (none-some x e)
-place_map f (z ∷ xs) zero x e = ap (λ y. Some (f y)) (same_Some z x e)
-place_map f (z ∷ xs) (suc k) x e = place_map f xs k x e
-
-pub from_map : {X Y : Type 0} (f : X → Y) (xs : List X) (k : ℕ) (y : Y) → slice_get (map f xs) k ≡ Some y → (x : X) × (slice_get xs k ≡ Some x) × (f x ≡ y)
-from_map f [] k y e = absurd (none-some y e)
-from_map f (z ∷ xs) zero y e = (z, refl, same_Some (f z) y e)
-from_map f (z ∷ xs) (suc k) y e = from_map f xs k y e
 
 -- a list of the same length has something at the place
 pub place_beside : {X Y : Type 0} (xs : List X) (ys : List Y) (k : ℕ) (x : X) → length xs ≡ length ys → slice_get xs k ≡ Some x → (y : Y) × (slice_get ys k ≡ Some y)

@@ -1,5 +1,5 @@
 -- The classes with marks that are no input's, in the order of their numbers and then by height.
-use Rattle.std.proofs.Common.{ℕ, zero, suc, ◌+◌, ◌-◌, ◌^◌, ◌<◌, ◌≤◌, ◌≡◌, ◌==◌, ◌⊎◌, inl, inr, min, Bool, true, false, List, [], ◌∷◌, ◌++◌, length, take, reverse, get_or, Contains, Option, Some, None, is_some, slice_get, slice_index_or, refl, ap, sym, ◌∙◌, subst, arith, true≢false}
+use Rattle.std.proofs.Common.{ℕ, ◌+◌, ◌-◌, ◌^◌, ◌<◌, ◌≤◌, ◌≡◌, ◌==◌, ◌⊎◌, inl, inr, min, Bool, true, false, List, [], ◌∷◌, ◌++◌, length, take, reverse, get_or, Contains, Option, Some, None, is_some, slice_get, slice_index_or, refl, ap, sym, ◌∙◌, subst, arith, true≢false}
 use native.Mathlib.Decide.{dec_lt}
 use Rattle.std.specs.List.{IsDistinct}
 use Rattle.std.specs.List.Sorted.{IsPermutation, IsNonDecreasingBy}
@@ -8,29 +8,16 @@ use Rattle.std.proofs.lemmas.List.{get_or-take, get_or-reverse, length-take, len
 use Rattle.std.proofs.lemmas.List.Elements.{Contains-push, Contains-push_cases, Contains-append_left}
 use Rattle.std.proofs.lemmas.List.Sorted.{Contains-permutation, IsPermutation-sym}
 use Rattle.std.proofs.lemmas.Map.Keys.{IsDistinct-from_apart, IsDistinct-IsPermutation, apart_from_distinct}
-use Rattle.std.proofs.lemmas.Option.{none-some, same_Some, slice_get_within, slice_get-get_or, get_or_from_slice_get}
+use Rattle.std.proofs.lemmas.Option.{none-some, slice_get_within, slice_get-get_or, get_or_from_slice_get}
 use Rattle.lw_pool.specs.declared.id.NetId.{NetId}
 use Rattle.lw_match.specs.declared.mark.Mark.{Mark}
 use Rattle.lw_extract.specs.declared.ordering.Place.{Place}
 use Rattle.lw_extract.specs.Orders.{place_key, IsPlaceBefore, AreMarked, AreByHeight}
+use Rattle.lw_extract.proofs.Places.{some_within, contains_at, push_cases}
 
 -- an element at a place of a list
-pub contains_at : {X : Type 0} (xs : List X) (k : ℕ) (x : X) → slice_get xs k ≡ Some x → Contains xs x
-contains_at xs k x e = (k, slice_get_within xs k x e, get_or_from_slice_get xs k x x e)
-
 pub at_contains : {X : Type 0} (xs : List X) (x : X) → Contains xs x → (k : ℕ) × (slice_get xs k ≡ Some x)
 at_contains xs x (k, lt, e) = (k, slice_get-get_or xs k x lt ∙ ap (λ y. Some y) e)
-
--- an element of a list with one more
-pub at_push : {X : Type 0} (xs : List X) (y : X) (i : ℕ) (x : X) → slice_get (xs ++ y ∷ []) i ≡ Some x → (slice_get xs i ≡ Some x) ⊎ ((i ≡ length xs) × (y ≡ x))
-at_push [] y zero x e = inr (refl, same_Some y x e)
-at_push [] y (suc i) x e = absurd (none-some x e)
-at_push (z ∷ xs) y zero x e = inl e
-at_push (z ∷ xs) y (suc i) x e = by_case (at_push xs y i x e)
-  where
-    by_case : (slice_get xs i ≡ Some x) ⊎ ((i ≡ length xs) × (y ≡ x)) → (slice_get (z ∷ xs) (suc i) ≡ Some x) ⊎ ((suc i ≡ length (z ∷ xs)) × (y ≡ x))
-    by_case (inl f) = inl f
-    by_case (inr (s, f)) = inr (ap suc s, f)
 
 -- what a test for a value says
 pub none_of : {X : Type 0} (o : Option X) → is_some o ≡ false → o ≡ None
@@ -39,12 +26,6 @@ none_of (Some x) e = absurd (true≢false e)
 
 pub some_not_none : {X : Type 0} (o : Option X) → is_some o ≡ true → o ≡ None → ⊥
 some_not_none o e f = true≢false (sym e ∙ ap is_some f)
-
--- an element that a list has is within it
-pub within_some : {X : Type 0} (xs : List (Option X)) (c : ℕ) (x : X) → slice_index_or xs c None ≡ Some x → c < length xs
-within_some [] c x e = absurd (none-some x e)
-within_some (o ∷ xs) zero x e = omega arith
-within_some (o ∷ xs) (suc c) x e = let below = within_some xs c x e in omega arith
 
 module _ (nets : List (Option NetId)) (marks : List (Option Mark)) where
   -- the places of the classes below a number
@@ -68,7 +49,7 @@ module _ (nets : List (Option NetId)) (marks : List (Option Mark)) where
     below = λ q k. below_at q (Contains-push_cases places p q k);
     each = λ q k. each_at q (Contains-push_cases places p q k);
     all = λ c n lt e f. all_at c n lt e f (cases_eq c count);
-    rising = λ i j q r e f lt. rising_at i j q r lt (at_push places p i q e) (at_push places p j r f);
+    rising = λ i j q r e f lt. rising_at i j q r lt (push_cases places p i q e) (push_cases places p j r f);
   }
     where
       below_at : (q : Place) → Contains places q ⊎ (p ≡ q) → q.class.0 < count + 1
@@ -114,7 +95,7 @@ module _ (nets : List (Option NetId)) (marks : List (Option Mark)) where
   marked_all count places all are = record {
     are = record {
       each = are.each;
-      all = λ c m e f. let in' = within_some marks c m e in are.all c m (omega (arith, in', all)) e f;
+      all = λ c m e f. let in' = some_within marks c m e in are.all c m (omega (arith, in', all)) e f;
     };
     rising = are.rising;
   }
@@ -154,8 +135,8 @@ module _ (nets : List (Option NetId)) (marks : List (Option Mark)) where
     sorted = λ i j p q e f lt.
         let (m, at_p, high_p, net_p) = each p (contains_at rows i p e) in
         let (n, at_q, high_q, net_q) = each q (contains_at rows j q f) in
-        let low = within_some marks p.class.0 m at_p in
-        let low' = within_some marks q.class.0 n at_q in
+        let low = some_within marks p.class.0 m at_p in
+        let low' = some_within marks q.class.0 n at_q in
         let in' = slice_get_within rows j q f in
         let read_p : get_or rows i p ≡ p = get_or_from_slice_get rows i p p e in
         let read_q : get_or rows j p ≡ q = get_or_from_slice_get rows j q p f in

@@ -1,5 +1,5 @@
 -- The first root without a mark.
-use Rattle.std.proofs.Common.{ℕ, ◌+◌, ◌<◌, ◌≤◌, ◌≡◌, ◌⊎◌, inl, inr, false, List, length, All, Option, Some, None, IsSome, is_some, Result, Ok, Err, ◌↔◌, slice_get, slice_index_or, get_or, refl, ap, sym, ◌∙◌, subst, arith}
+use Rattle.std.proofs.Common.{ℕ, ◌+◌, ◌<◌, ◌≤◌, ◌≡◌, ◌⊎◌, inl, inr, false, List, length, All, Option, Some, None, IsSome, is_some, Result, Ok, Err, ◌↔◌, slice_get, slice_index_or, get_or, ap, sym, ◌∙◌, subst, arith}
 use Rattle.std.proofs.lemmas.Bool.{cases_eq}
 use Rattle.std.proofs.lemmas.Option.{same_Some, none-some, slice_get-get_or}
 use Rattle.lw_pool.specs.declared.id.ClassId.{ClassId}
@@ -10,10 +10,7 @@ use Rattle.lw_extract.specs.declared.fault.ExtractFault.TheVariants.{NoCover, Me
 use Rattle.lw_extract.specs.Covers.{IsFirstUncovered}
 use Rattle.lw_extract.proofs.ClassNets.{some_is, some_of}
 use Rattle.lw_extract.proofs.Places.{all_at}
-
-none_of : {X : Type 0} (o : Option X) → is_some o ≡ false → o ≡ None
-none_of None h = refl
-none_of (Some x) h = absurd (cc)
+use Rattle.lw_extract.proofs.Sorting.{none_of}
 
 module _ (marks : List (Option Mark)) (roots : List ClassId) where
   -- the first roots have marks
