@@ -1,6 +1,7 @@
 -- What one more line adds to the lines that are read, and to their faults.
 use Rattle.std.proofs.Common.{ℕ, ◌≡◌, Bool, true, false, ◌||◌, not, cond, List, [], ◌∷◌, ◌++◌, Option, Some, None, refl, ap, sym, ◌∙◌, append-nil, append_assoc}
 use Rattle.std.specs.List.{list_any}
+use Rattle.std.proofs.Math.Bool.{or-false}
 use Rattle.lw_words.specs.Lines.{LogicalLine}
 use Rattle.lw_genlib.specs.Cells.{CellParts}
 use Rattle.lw_mapped.specs.declared.fault.MappedKind.{MappedKind}
@@ -37,14 +38,6 @@ unfolding first_fault
 first_fault-next cells lines line e = first_fault-later cells [] lines (line ∷ []) e
 
 -- A line behind lines that have not ended, and that does not end the reading, is read.
-
-front-more : {A : Type 0} (p q : A → Bool) → ((x : A) → p x ≡ not (q x)) → (xs : List A) (y : A) → list_any q xs ≡ false → q y ≡ false → front p (xs ++ y ∷ []) ≡ xs ++ y ∷ []
-front-more p q same [] y none fails = ap (λ b. cond b (y ∷ []) []) (same y ∙ ap not fails)
-front-more p q same (x ∷ xs) y none fails = at_first (q x) refl none (λ n. front-more p q same xs y n fails)
-  where
-    at_first : (b : Bool) → q x ≡ b → (q x || list_any q xs) ≡ false → (list_any q xs ≡ false → front p (xs ++ y ∷ []) ≡ xs ++ y ∷ []) → front p (x ∷ xs ++ y ∷ []) ≡ x ∷ xs ++ y ∷ []
-    at_first true e n others = let wrong : true ≡ false = sym (ap (λ b. b || list_any q xs) e) ∙ n in cc
-    at_first false e n others = ap (λ c. cond c (x ∷ front p (xs ++ y ∷ [])) []) (same x ∙ ap not e) ∙ ap (λ r. x ∷ r) (others (sym (ap (λ b. b || list_any q xs) e) ∙ n))
 
 front-none : {A : Type 0} (p q : A → Bool) → ((x : A) → p x ≡ not (q x)) → (xs : List A) → list_any q xs ≡ false → front p xs ≡ xs
 front-none p q same [] none = refl
@@ -87,18 +80,10 @@ lines_read-all (first ∷ lines) still = at_first (ends true (command first)) re
 pub has_ended-more : (lines : List LogicalLine) (line : LogicalLine) → has_ended lines ≡ false → has_ended (lines ++ line ∷ []) ≡ ends (is_first lines) (command line)
 unfolding has_ended
 has_ended-more [] line still = or-false (ends true (command line))
-  where
-    or-false : (b : Bool) → (b || false) ≡ b
-    or-false true = refl
-    or-false false = refl
 has_ended-more (first ∷ lines) line still = at_first (ends true (command first)) refl still
   where
     any-last : (xs : List LogicalLine) → list_any ends_later xs ≡ false → list_any ends_later (xs ++ line ∷ []) ≡ ends_later line
     any-last [] n = or-false (ends_later line)
-      where
-        or-false : (b : Bool) → (b || false) ≡ b
-        or-false true = refl
-        or-false false = refl
     any-last (x ∷ xs) n = by_case (ends_later x) refl n (any-last xs)
       where
         by_case : (b : Bool) → ends_later x ≡ b → (ends_later x || list_any ends_later xs) ≡ false → (list_any ends_later xs ≡ false → list_any ends_later (xs ++ line ∷ []) ≡ ends_later line) → (ends_later x || list_any ends_later (xs ++ line ∷ [])) ≡ ends_later line

@@ -4,7 +4,7 @@ use Rattle.std.specs.Prelude.{nat_le}
 use Rattle.std.specs.List.{flat_map, AllByRecursion as Each}
 use Rattle.std.proofs.lemmas.Grind.{flat_map-append}
 use Rattle.std.proofs.lemmas.List.{length-map}
-use Rattle.std.proofs.lemmas.List.Elements.{All-append}
+use Rattle.std.proofs.lemmas.List.Elements.{All-append, All-from_recursion}
 use Rattle.lw_words.specs.Lines.{LogicalLine}
 use Rattle.lw_genlib.specs.Cells.{CellParts}
 use Rattle.lw_netlist.specs.declared.draft.DraftGate.{DraftGate}
@@ -21,7 +21,6 @@ use Rattle.lw_mapped.specs.Sayings.{said, fault_in, are_names, first_word, secon
 use Rattle.lw_mapped.specs.LineFaults.{line_says, lines_say, what_is_said}
 use Rattle.lw_mapped.proofs.Driving.{each-flat}
 use Rattle.lw_mapped.proofs.SaidLines.{arrival-all, certificate-all, default-all, gate-all, said-all}
-use Rattle.lw_mapped.proofs.WrittenLines.{all-of}
 
 abbrev gates_of : Result Saying MappedKind → List DraftGate
 gates_of result = flat_map gates_in (what_is_said result)
@@ -67,7 +66,7 @@ gates-alone cells command.Plain words P none some = none
 
 of-gate : (cells : List CellParts) (words : List (List ℕ)) → All (IsOfCell cells) (gates_of (gate_says cells words))
 of-gate cells words =
-    all-of (IsOfCell cells) (gates_of (gate_says cells words))
+    All-from_recursion (IsOfCell cells) (gates_of (gate_says cells words))
     (each-flat (IsOfCell cells) gates_in (what_is_said (gate_says cells words))
     (gate-all (λ s. Each (IsOfCell cells) (gates_in s)) cells words (λ number cell at none. (record { cell = cell; at = at; pins = length-map cell.pins (net_for (drop 1 words)) }, tt))))
 

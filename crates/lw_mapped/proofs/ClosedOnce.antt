@@ -9,6 +9,8 @@ use Rattle.std.proofs.lemmas.List.{get_or_default}
 use Rattle.std.proofs.lemmas.List.Elements.{All-contains, All-head, All-tail, All-weaker, Contains-append_left, Contains-append_right}
 use Rattle.std.proofs.lemmas.List.Sorted.{IsPermutation-refl, IsPermutation-sym, IsPermutation-trans, IsPermutation-cons, IsPermutation-middle, IsPermutation-append_left, IsPermutation-append_right, IsPermutation-map, Contains-permutation}
 use Rattle.std.proofs.lemmas.Option.{slice_get_within}
+use Rattle.lw_laws.proofs.Lists.{in_map}
+use Rattle.lw_laws.proofs.Numbers.{slice_get_map_back}
 use Rattle.lw_pool.specs.declared.id.NetId.{NetId}
 use Rattle.lw_netlist.specs.declared.draft.DraftGate.{DraftGate}
 use Rattle.lw_netlist.specs.declared.draft.GateDraft.{GateDraft}
@@ -21,7 +23,7 @@ use Rattle.lw_netlist.proofs.Names.{once_distinct, drivers_are, to_of}
 use Rattle.lw_dag.proofs.Numbering.{none_unknown, none_split, distinct_moved}
 use Rattle.lw_netlist.proofs.Paths.{driven_needs}
 use Rattle.lw_netlist.proofs.Starting.{bare_gate, link_of_gate}
-use Rattle.lw_mapped.proofs.Places.{get-left, get-right, one-place, get-contains, contains-get, contains-map, map-get}
+use Rattle.lw_mapped.proofs.Places.{get-left, get-right, one-place, get-contains, contains-get}
 
 -- The order by depth holds each gate.
 
@@ -142,7 +144,7 @@ module _ (draft : GateDraft) (n : NetlistParts) (a : IsClosed draft n) where
   pub out-known : (gate : DraftGate) → Contains draft.gates gate → Contains (drivers draft) gate.out
   out-known gate among =
       subst (λ l. Contains l gate.out) (sym (drivers_are draft))
-      (Contains-append_left (draft.inputs ++ map out_of draft.gates) (map to_of draft.wires) gate.out (Contains-append_right draft.inputs (map out_of draft.gates) gate.out (contains-map out_of draft.gates gate among)))
+      (Contains-append_left (draft.inputs ++ map out_of draft.gates) (map to_of draft.wires) gate.out (Contains-append_right draft.inputs (map out_of draft.gates) gate.out (in_map out_of draft.gates gate among)))
 
 -- The depths of two netlists.
 module _ (draft : GateDraft) (n m : NetlistParts) (a : IsClosed draft n) (b : IsClosed draft m) where
@@ -159,7 +161,7 @@ module _ (draft : GateDraft) (n m : NetlistParts) (a : IsClosed draft n) (b : Is
       All-contains (λ i. a.depth i ≡ 0) draft.inputs name a.depths.inputs (get-contains draft.inputs place name e)
       ∙ sym (All-contains (λ i. b.depth i ≡ 0) draft.inputs name b.depths.inputs (get-contains draft.inputs place name e))
   agree-at k agree name net (at_gate place e) below =
-      let at = map-get out_of (by_depth a.depth draft.gates) place name e in
+      let at = slice_get_map_back out_of (by_depth a.depth draft.gates) place name e in
       let gate = at.0 in
       let among = gate-known draft n a gate (get-contains (by_depth a.depth draft.gates) place gate at.1) in
       let here = All-contains (λ (g : DraftGate). a.depth g.out ≡ 1 + greatest (map a.depth g.pins)) draft.gates gate a.depths.gates among in

@@ -6,7 +6,7 @@ use Rattle.std.specs.Str.{bytes_eq}
 use Rattle.std.specs.Cmp.Lexicographic.{bytes_decides}
 use Rattle.std.proofs.lemmas.Bool.{cases_lt}
 use Rattle.std.proofs.lemmas.List.{length-map, length-take-le, length-drop, get_or-take, get_or-drop}
-use Rattle.std.proofs.lemmas.List.Elements.{Contains-append_cases}
+use Rattle.std.proofs.lemmas.List.Elements.{Contains-append_cases, All-from_recursion}
 use Rattle.std.proofs.lemmas.Map.Keys.{IsDistinct-head, IsDistinct-tail}
 use Rattle.std.proofs.lemmas.Option.{slice_get-get_or, slice_get_within, get_or_from_slice_get}
 use Rattle.lw_laws.specs.Netlists as laws
@@ -14,6 +14,7 @@ use Rattle.lw_laws.specs.Netlists.{AreNetDepths, AreByDepth}
 use Rattle.lw_laws.specs.Networks.{greatest_depth}
 use Rattle.lw_laws.specs.MappedNetlists.{AreNetNames}
 use Rattle.lw_laws.proofs.NetlistValues.{some_net_depths}
+use Rattle.lw_laws.proofs.Numbers.{slice_get_map_back}
 use Rattle.lw_pool.specs.declared.id.NetId.{NetId}
 use Rattle.lw_netlist.specs.declared.draft.DraftGate.{DraftGate}
 use Rattle.lw_netlist.specs.declared.draft.GateDraft.{GateDraft}
@@ -33,9 +34,9 @@ use Rattle.lw_mapped.specs.Texts.{net_name, port_name}
 use Rattle.lw_mapped.proofs.Driving as back
 use Rattle.lw_mapped.proofs.Driving.{draft_of, wire_of, wires_of, each-flat, each-map, each-at, at-each}
 use Rattle.lw_mapped.proofs.Items.{named_gate, port_wire}
-use Rattle.lw_mapped.proofs.Places.{get-contains, contains-get, map-get}
+use Rattle.lw_mapped.proofs.Places.{get-contains, contains-get}
 use Rattle.lw_mapped.proofs.Ranked.{AreRising, by_depth-rising}
-use Rattle.lw_mapped.proofs.WrittenLines.{all-of, each-append, each-weaker}
+use Rattle.lw_mapped.proofs.WrittenLines.{each-append, each-weaker}
 
 -- the net of the first output of a name
 abbrev net_of_output : List Port → List ℕ → ℕ
@@ -145,7 +146,7 @@ module _ (n : NetlistParts) (is : IsNetlist n) (named : AreNetNames (plain n) n.
 
   ordered : laws.AreOrdered (plain n)
   ordered j g e =
-      let gate = map-get plain_gate n.gates j g e in
+      let gate = slice_get_map_back plain_gate n.gates j g e in
       subst (λ (h : laws.Gate). Each (λ p. p < m + j) h.pins) gate.2 (each-map (λ p. p < m + j) net_number gate.0.pins (pin-before j gate.0 gate.1))
 
   depths : List ℕ
@@ -209,7 +210,7 @@ module _ (n : NetlistParts) (is : IsNetlist n) (named : AreNetNames (plain n) n.
       own false rest = (ap (λ k. get_or depths k 0) same, rest)
 
   named-get : (j : ℕ) (gate : DraftGate) → slice_get d.gates j ≡ Some gate → (g : Gate) × (slice_get n.gates j ≡ Some g) × (named_gate names g ≡ gate)
-  named-get j gate e = map-get (named_gate names) n.gates j gate e
+  named-get j gate e = slice_get_map_back (named_gate names) n.gates j gate e
 
   gates-deep : Each (λ (gate : DraftGate). depth gate.out ≡ 1 + greatest (map depth gate.pins)) d.gates
   gates-deep =
@@ -218,9 +219,9 @@ module _ (n : NetlistParts) (is : IsNetlist n) (named : AreNetNames (plain n) n.
 
   right-depths : AreDepths d depth
   right-depths = record {
-    inputs = all-of (λ name. depth name ≡ 0) d.inputs inputs-deep;
-    gates = all-of (λ (gate : DraftGate). depth gate.out ≡ 1 + greatest (map depth gate.pins)) d.gates gates-deep;
-    wires = all-of (λ (w : Wire). depth w.to ≡ depth w.from) d.wires (wires-deep n.outputs (λ i port e. (i, e)));
+    inputs = All-from_recursion (λ name. depth name ≡ 0) d.inputs inputs-deep;
+    gates = All-from_recursion (λ (gate : DraftGate). depth gate.out ≡ 1 + greatest (map depth gate.pins)) d.gates gates-deep;
+    wires = All-from_recursion (λ (w : Wire). depth w.to ≡ depth w.from) d.wires (wires-deep n.outputs (λ i port e. (i, e)));
   }
 
   -- The gates stand by depth.
@@ -363,7 +364,7 @@ module _ (n : NetlistParts) (is : IsNetlist n) (named : AreNetNames (plain n) n.
           subst (λ x. IsNetOf d d.gates x (net x)) (get_or_from_slice_get names place.0 name [] place.1) (subst (IsNetOf d d.gates (at place.0)) (sym (net-at place.0 lt)) (net-is-at place.0 lt))
       by_part (inr c) =
           let place = contains-get (map to_of d.wires) name c in
-          let wire = map-get to_of d.wires place.0 name place.1 in
+          let wire = slice_get_map_back to_of d.wires place.0 name place.1 in
           subst (λ x. IsNetOf d d.gates x (net x)) wire.2
           (at-each (λ (w : Wire). Contains d.wires w → IsNetOf d d.gates w.to (net w.to)) d.wires place.0 wire.0 (wire-net n.outputs (λ i port e. (i, e))) wire.1 (get-contains d.wires place.0 wire.0 wire.1))
 

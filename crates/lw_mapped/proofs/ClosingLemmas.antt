@@ -4,6 +4,7 @@ use Rattle.std.specs.Prelude.{unwrap_or, option_to_list, codes, IfOk, IfErr, sli
 use Rattle.std.specs.Str.{bytes_eq}
 use Rattle.indexmap.specs.IndexMap.{get}
 use Rattle.std.specs.List.{flat_map}
+use Rattle.std.proofs.lemmas.List.{length-map}
 use Rattle.lw_fixed.specs.declared.micro.Micro.{Micro}
 use Rattle.lw_pool.specs.declared.latch.Frame.{Frame}
 use Rattle.lw_pool.specs.declared.latch.Latch.{Latch}
@@ -48,14 +49,10 @@ draft-is kept said model inputs outputs k em ei eo =
     (eo ∙ (ap (λ l. root_names l kept.latches) k.outputs ∙ (ap (λ l. root_names (each_once (flat_map outputs_in said)) l) k.latches ∙ once-twice (flat_map outputs_in said) (flat_map read_by (flat_map latches_in said)))))
     k.gates k.wires
 
-length-map : {A B : Type 0} (f : A → B) (xs : List A) → length (map f xs) ≡ length xs
-length-map f [] = refl
-length-map f (x ∷ xs) = grind (arith, length-map f xs)
-
 pub may-close : (kept : Contents) (cells : List CellParts) (draft : GateDraft) (few : IsOfFew kept cells) → draft ≡ draft_said few.said → IsGateDraft cells draft
 may-close kept cells draft few e = subst (IsGateDraft cells) (sym e) (record {
   gates = few.gates;
-  few = omega (arith, few.few, length-append (flat_map inputs_in few.said) (map output_of (flat_map latches_in few.said)), length-map output_of (flat_map latches_in few.said));
+  few = omega (arith, few.few, length-append (flat_map inputs_in few.said) (map output_of (flat_map latches_in few.said)), length-map (flat_map latches_in few.said) output_of);
 })
 
 -- Starts.

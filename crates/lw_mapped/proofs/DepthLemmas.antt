@@ -3,6 +3,7 @@ use Rattle.std.proofs.Common.{ℕ, zero, suc, ◌≡◌, ◌<◌, ◌≤◌, ◌
 use Rattle.std.specs.Prelude.{filter}
 use Rattle.std.specs.List.{flat_map, range_with_len}
 use Rattle.std.proofs.lemmas.Bool.Decides.{nat_tests}
+use Rattle.std.proofs.lemmas.List.{length-map}
 use Rattle.lw_netlist.specs.declared.draft.DraftGate.{DraftGate}
 use Rattle.lw_netlist.specs.declared.draft.GateDraft.{GateDraft}
 use Rattle.lw_netlist.specs.Netlists.{NetlistParts}
@@ -63,11 +64,7 @@ total-few : (depth : List ℕ → ℕ) (gates : List DraftGate) (from n : ℕ) �
 total-few depth [] from n = omega (arith, total-none depth from n)
 total-few depth (gate ∷ gates) from n = omega (arith, total-more depth gate gates from n, hits-once (depth gate.out) from n, total-few depth gates from n)
 
-length-map : {A B : Type 0} (f : A → B) (xs : List A) → length (map f xs) ≡ length xs
-length-map f [] = refl
-length-map f (x ∷ xs) = grind (arith, length-map f xs)
-
 pub no-more-gates : (draft : GateDraft) (n : NetlistParts) → IsClosed draft n → length n.gates ≤ length draft.gates
 no-more-gates draft n closed =
     let order : List DraftGate = by_depth closed.depth draft.gates in
-    omega (arith, ap (λ (m : NetlistParts). length m.gates) closed.are, length-map (closed_gate closed.net) order, total-few closed.depth draft.gates 1 (greatest (map (λ (gate : DraftGate). closed.depth gate.out) draft.gates)))
+    omega (arith, ap (λ (m : NetlistParts). length m.gates) closed.are, length-map order (closed_gate closed.net), total-few closed.depth draft.gates 1 (greatest (map (λ (gate : DraftGate). closed.depth gate.out) draft.gates)))

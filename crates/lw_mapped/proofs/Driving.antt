@@ -10,6 +10,7 @@ use Rattle.std.proofs.lemmas.List.{take-append-drop, drop_all}
 use Rattle.std.proofs.lemmas.Map.Keys.{IsDistinct-cons, IsDistinct-head, IsDistinct-tail, IsDistinct-from_apart}
 use Rattle.std.proofs.lemmas.Option.{slice_get-get_or, slice_get_within, get_or_from_slice_get}
 use Rattle.lw_laws.specs.MappedNetlists.{AreNetNames}
+use Rattle.lw_laws.proofs.Lists.{in_map}
 use Rattle.lw_pool.specs.declared.id.NetId.{NetId}
 use Rattle.lw_netlist.specs.declared.draft.GateDraft.{GateDraft}
 use Rattle.lw_netlist.specs.declared.draft.Wire.{Wire}
@@ -25,7 +26,7 @@ use Rattle.lw_dag.proofs.Numbering.{number_at}
 use Rattle.lw_mapped.specs.Readable.{ports_of, plain_port}
 use Rattle.lw_mapped.specs.Texts.{net_name, names_of_inputs, names_of_outputs, port_name}
 use Rattle.lw_mapped.proofs.Items.{named_gate, port_wire}
-use Rattle.lw_mapped.proofs.Places.{get-left, get-right, get-contains, contains-get, contains-map}
+use Rattle.lw_mapped.proofs.Places.{get-left, get-right, get-contains, contains-get}
 use Rattle.lw_mapped.proofs.WrittenLines.{each-of, each-append}
 
 -- Names that differ.
@@ -310,7 +311,7 @@ module _ (n : NetlistParts) (is : IsNetlist n) (named : AreNetNames (plain n) n.
       by_test : (b : Bool) → bytes_eq (net_name names port.net) port.name ≡ b → Contains (drivers d) port.name
       by_test true f = subst (Contains (drivers d)) ((bytes_decides (net_name names port.net) port.name).0 f) (driven-net port.net.0 (at-each (λ (p : Port). p.net.0 < length names) n.outputs k port port-within e))
       by_test false f =
-          let place = contains-get (map to_of d.wires) port.name (contains-map to_of d.wires (port_wire names port) (to-contains n.outputs k port e f)) in
+          let place = contains-get (map to_of d.wires) port.name (in_map to_of d.wires (port_wire names port) (to-contains n.outputs k port e f)) in
           subst (λ l. Contains l port.name) (sym driven-are) (get-contains (names ++ map to_of d.wires) (length names + place.0) port.name (get-right names (map to_of d.wires) place.0 port.name place.1))
 
   pub driven : first_undriven d ≡ None

@@ -9,7 +9,7 @@ use Rattle.lw_mapped.specs.declared.saying.Saying.{Saying}
 use Rattle.lw_mapped.specs.Commands.{command_of, point_command}
 use Rattle.lw_mapped.specs.Sayings.{first_word, words_say}
 use Rattle.lw_mapped.specs.LineFaults.{ends, front, goes_on, lines_read, is_names_command, is_row, wire_without_row, what_is_said, lines_say, told_fault, saying_fault, fault_behind, line_fault, fault_or, first_fault, fault_else, text_fault}
-use Rattle.lw_mapped.proofs.ReadingLemmas.{say-last, wire-last, row-says, row-wire}
+use Rattle.lw_mapped.proofs.ReadingLemmas.{say-last, wire-last, row-says, row-wire, none-wire, none-say}
 use Rattle.lw_mapped.proofs.WrittenLines.{numbered}
 
 -- A line, what it says, and whether it is a wire, behind which its row comes.
@@ -142,14 +142,6 @@ read-lines number words lines first each =
     ap (λ b. cond b [] (at_line number words ∷ front goes_on (numbered (number + 1) (lines ++ last_line ∷ [])))) first
     ∙ ap (λ l. at_line number words ∷ l) (front-before (number + 1) lines each)
 
-no-wire : wire_without_row [] ≡ None
-unfolding wire_without_row
-no-wire = refl
-
-nothing-said : (cells : List CellParts) → lines_say cells [] ≡ []
-unfolding lines_say
-nothing-said cells = refl
-
 -- Lines of items behind a first one that is no wire, and then the end: no line breaks a rule, and each says what its item says.
 pub record AreTold (cells : List CellParts) (lines : List LogicalLine) (said : List Saying) : Type 0 where
   pub faultless : text_fault cells lines ≡ None
@@ -164,7 +156,7 @@ items-told cells words what items goes each on fresh =
     let first : Item = record { words = words; what = what; wired = false } in
     let lines = words ∷ all_lines items in
     let read = read-lines 1 words (all_lines items) goes on in
-    let good = good-items cells [] 1 (first ∷ items) each (subst (λ s. AreFresh s (first ∷ items)) (sym (nothing-said cells)) fresh) no-wire in
+    let good = good-items cells [] 1 (first ∷ items) each (subst (λ s. AreFresh s (first ∷ items)) (sym (none-say cells)) fresh) none-wire in
     record {
       faultless = ap (λ ls. fault_else (first_fault cells [] ls) (wire_without_row ls)) read ∙ ap₂ fault_else good.none good.row_given;
       says = ap (lines_say cells) read ∙ says-items cells 1 (first ∷ items) each;

@@ -3,7 +3,7 @@ use Rattle.std.proofs.Common.{ℕ, suc, ◌≡◌, ◌≢◌, ◌<◌, ◌≤◌
 use Rattle.std.specs.Prelude.{nat_le}
 use Rattle.std.specs.List.{list_all, list_any, ends_with, AllByRecursion as Each}
 use Rattle.std.specs.Cmp.Lexicographic.{pointwise}
-use Rattle.std.proofs.lemmas.Bool.{and_parts}
+use Rattle.std.proofs.lemmas.Bool.{and_parts, not-true}
 use Rattle.std.proofs.lemmas.Bool.Decides.{nat_tests}
 use Rattle.lw_words.specs.Gathering.{IsInk, IsNoHash}
 use Rattle.lw_words.specs.Lines.{is_blank}
@@ -90,10 +90,10 @@ ends-good (b ∷ c ∷ word) some each = ends-behind b (c ∷ word) (ends-good (
 
 -- Names.
 
-abbrev ends_stroke : List ℕ → Bool
+abbrev pub ends_stroke : List ℕ → Bool
 ends_stroke word = ends_with nat_eq word (92 ∷ [])
 
-stroke-behind : (b c : ℕ) (word : List ℕ) → ends_stroke (b ∷ c ∷ word) ≡ ends_stroke (c ∷ word)
+pub stroke-behind : (b c : ℕ) (word : List ℕ) → ends_stroke (b ∷ c ∷ word) ≡ ends_stroke (c ∷ word)
 stroke-behind b c word =
     let long : suc (suc (length word)) - 1 ≡ suc (length word) = omega arith in
     let short : suc (length word) - 1 ≡ length word = omega arith in
@@ -106,10 +106,6 @@ ends-name : (word : List ℕ) → 0 < length word → Each IsInk word → ends_s
 ends-name [] some each e = absurd (omega arith)
 ends-name (b ∷ []) some each e = record { front = []; last = b; are = refl; ink = each.0.0; no_stroke = stroke-last b e }
 ends-name (b ∷ c ∷ word) some each e = ends-behind b (c ∷ word) (ends-name (c ∷ word) (omega arith) each.1 (sym (stroke-behind b c word) ∙ e))
-
-not-true : (b : Bool) → not b ≡ true → b ≡ false
-not-true true e = cc
-not-true false e = refl
 
 pub right-name : (name : List ℕ) → IsSignalName name → IsRight name
 right-name name is = ((is.word.some, is.word.few, each-of IsInk name is.word.ink), each-of IsNoHash name is.no_hash)

@@ -8,6 +8,7 @@ use Rattle.std.proofs.lemmas.List.{length-map}
 use Rattle.std.proofs.lemmas.List.Elements.{All-contains, All-map, All-weaker, Contains-get_or}
 use Rattle.std.proofs.lemmas.List.Sorted.{IsPermutation-sym, All-permutation, length_permutation}
 use Rattle.std.proofs.lemmas.Option.{slice_get-map, slice_get_within}
+use Rattle.lw_laws.proofs.Numbers.{slice_get_map_back}
 use Rattle.lw_pool.specs.declared.id.NetId.{NetId}
 use Rattle.lw_genlib.specs.Cells.{CellParts}
 use Rattle.lw_netlist.specs.declared.draft.DraftGate.{DraftGate}
@@ -21,7 +22,7 @@ use Rattle.lw_netlist.specs.Netlists.{IsGateAt, IsNetlist, NetlistParts}
 use Rattle.lw_netlist.specs.Plain.{HasCell, IsOver}
 use Rattle.lw_mapped.proofs.ClosedOnce.{at-most, gate-known, moved, nets-once, out-known, outputs-known, pins-known, ranked}
 use Rattle.lw_mapped.proofs.Driving.{at-each}
-use Rattle.lw_mapped.proofs.Places.{get-contains, map-get}
+use Rattle.lw_mapped.proofs.Places.{get-contains}
 use Rattle.lw_mapped.proofs.Ranked.{AreRising}
 use Rattle.lw_mapped.proofs.WrittenLines.{each-append, each-weaker}
 
@@ -108,7 +109,7 @@ module _ (draft : GateDraft) (n : NetlistParts) (a : IsClosed draft n) where
   driver-of : (name : List ℕ) (net : ℕ) → IsNetOf draft order name net → (net < m) ⊎ IsDriven name net
   driver-of name net (at_input place e) = inl (slice_get_within draft.inputs place name e)
   driver-of name net (at_gate place e) =
-      let gate = map-get out_of order place name e in
+      let gate = slice_get_map_back out_of order place name e in
       inr (record { place = place; gate = gate.0; at = gate.1; is = refl; deep = sym (ap a.depth gate.2) })
   driver-of name net (at_wire wire among to rest) = by_driver (driver-of wire.from net rest)
     where
@@ -167,7 +168,7 @@ module _ (draft : GateDraft) (n : NetlistParts) (a : IsClosed draft n) where
       (record {
         named = many-ends ∙ ap (λ k. m + k) (sym (length-map order (closed_gate a.net)));
         few = omega (arith, few, many-ends, many);
-        gates = λ j gate e. by_image j gate (map-get (closed_gate a.net) order j gate e);
+        gates = λ j gate e. by_image j gate (slice_get_map_back (closed_gate a.net) order j gate e);
         outputs = All-map (λ (port : Port). port.net.0 < length ends) (port_at a.net) draft.outputs
             (All-weaker (Contains (drivers draft)) (λ name. a.net name < length ends) net-below draft.outputs (outputs-known draft n a));
       })

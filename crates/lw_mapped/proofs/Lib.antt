@@ -16,7 +16,6 @@ pub mod GoodWords
 pub mod Items
 pub mod KeepingLemmas
 pub mod Kept
-pub mod LabelLemmas
 pub mod Limits
 pub mod Loops
 pub mod NamedNets

@@ -7,7 +7,7 @@ use Rattle.std.specs.Option.{IfSome}
 use Rattle.std.specs.Str.{bytes_eq}
 use Rattle.std.specs.Str.Parse.{digits_value}
 use Rattle.std.proofs.lemmas.Bool.Decides.{nat_tests}
-use Rattle.std.proofs.lemmas.List.Elements.{All-append, All-filter, All-map, All-replicate}
+use Rattle.std.proofs.lemmas.List.Elements.{All-append, All-filter, All-map, All-replicate, All-from_recursion}
 use Rattle.std.proofs.lemmas.List.Folds.{list_all-append}
 use Rattle.std.proofs.lemmas.List.Sorted.{All-permutation, IsPermutation-reverse}
 use Rattle.std.proofs.lemmas.Str.Parse.{digits_value_short}
@@ -32,7 +32,7 @@ use Rattle.lw_mapped.specs.Sayings.{said, fault_in, are_names, first_word, secon
 use Rattle.lw_mapped.proofs.Driving.{each-flat}
 use Rattle.lw_mapped.proofs.Printing.{Digits, own, digits-take}
 use Rattle.lw_mapped.proofs.SaidLines.{arrival-all, certificate-all, default-all, gate-all, said-all}
-use Rattle.lw_mapped.proofs.WrittenLines.{all-of, each-of, each-append, each-weaker}
+use Rattle.lw_mapped.proofs.WrittenLines.{each-of, each-append, each-weaker}
 
 -- Decimals.
 
@@ -178,7 +178,7 @@ own-early arrivals name all =
 pub starts-early : (ss : List Saying) (inputs : List (List ℕ)) (latches : ℕ) → Each IsFit ss → All IsEarly (starts_of (flat_map arrivals_in ss) inputs latches)
 starts-early ss inputs latches fit =
     let arrivals = flat_map arrivals_in ss in
-    let all = all-of IsEarlyArrival arrivals (each-flat IsEarlyArrival arrivals_in ss (each-weaker IsFit (λ s. Each IsEarlyArrival (arrivals_in s)) arrivals-early ss fit)) in
+    let all = All-from_recursion IsEarlyArrival arrivals (each-flat IsEarlyArrival arrivals_in ss (each-weaker IsFit (λ s. Each IsEarlyArrival (arrivals_in s)) arrivals-early ss fit)) in
     All-append IsEarly (map (start_of arrivals) inputs) (replicate latches at_once)
     (All-map IsEarly (start_of arrivals) inputs (λ k d lt. own-early arrivals (get_or inputs k d) all))
     (All-replicate IsEarly latches at_once once-early)

@@ -4,13 +4,14 @@ use Rattle.std.specs.Prelude.{slice_get, option_map}
 use Rattle.std.specs.List.{IsDistinct, AllByRecursion as Each}
 use Rattle.std.specs.Str.{bytes_eq}
 use Rattle.std.proofs.lemmas.List.{length-map}
-use Rattle.std.proofs.lemmas.List.Elements.{All-contains, All-head, All-tail}
+use Rattle.std.proofs.lemmas.List.Elements.{All-contains, All-head, All-tail, All-from_recursion}
 use Rattle.std.proofs.lemmas.List.Sorted.{IsPermutation-sym, All-permutation}
 use Rattle.std.proofs.lemmas.Option.{slice_get-get_or, slice_get-map, slice_get_within, get_or_from_slice_get}
 use Rattle.lw_laws.specs.Headline.{Port as PlainPort}
 use Rattle.lw_laws.specs.MappedNetlists.{AreNetNames}
 use Rattle.lw_laws.specs.Netlists.{AreNetDepths}
 use Rattle.lw_laws.specs.Networks.{greatest_depth}
+use Rattle.lw_laws.proofs.Numbers.{slice_get_map_back}
 use Rattle.lw_pool.specs.declared.id.NetId.{NetId}
 use Rattle.lw_netlist.specs.declared.draft.DraftGate.{DraftGate}
 use Rattle.lw_netlist.specs.declared.draft.GateDraft.{GateDraft}
@@ -26,8 +27,8 @@ use Rattle.lw_mapped.proofs.ClosedOnce.{gate-known, keys-distinct, moved, output
 use Rattle.lw_mapped.proofs.Driving.{each-map}
 use Rattle.lw_mapped.proofs.Fitted.{port-names}
 use Rattle.lw_mapped.proofs.Kept.{many-ends, rising-at, sorted}
-use Rattle.lw_mapped.proofs.Places.{get-contains, get-left, map-get, one-place}
-use Rattle.lw_mapped.proofs.WrittenLines.{all-of, each-append, each-of}
+use Rattle.lw_mapped.proofs.Places.{get-contains, get-left, one-place}
+use Rattle.lw_mapped.proofs.WrittenLines.{each-append, each-of}
 
 abbrev pub HasName : DraftGate → Type 0
 HasName gate = IsSignalName gate.out
@@ -69,7 +70,7 @@ module _ (draft : GateDraft) (n : NetlistParts) (a : IsClosed draft n) (depths :
       get_or_from_slice_get depths place 0 0 (are.inputs place (slice_get_within draft.inputs place name e))
       ∙ sym (All-contains (λ i. a.depth i ≡ 0) draft.inputs name a.depths.inputs (get-contains draft.inputs place name e))
   net-deep k agree name net (at_gate place e) below =
-      let at = map-get out_of gates place name e in
+      let at = slice_get_map_back out_of gates place name e in
       let gate = at.0 in
       let among = gate-known draft n a gate (get-contains gates place gate at.1) in
       let deep = All-contains (λ (g : DraftGate). a.depth g.out ≡ 1 + greatest (map a.depth g.pins)) draft.gates gate a.depths.gates among in
@@ -126,8 +127,8 @@ module _ (draft : GateDraft) (n : NetlistParts) (a : IsClosed draft n) (is : IsN
   -- a net with an output's name is that output's
   owned : (j k : ℕ) (p : PlainPort) → slice_get (map plain_port (map (port_at a.net) draft.outputs)) k ≡ Some p → slice_get ends j ≡ Some p.name → j ≡ p.net
   owned j k p e =
-      let port = map-get plain_port (map (port_at a.net) draft.outputs) k p e in
-      let name = map-get (port_at a.net) draft.outputs k port.0 port.1 in
+      let port = slice_get_map_back plain_port (map (port_at a.net) draft.outputs) k p e in
+      let name = slice_get_map_back (port_at a.net) draft.outputs k port.0 port.1 in
       let known = All-contains (Contains (drivers draft)) draft.outputs name.0 (outputs-known draft n a) (get-contains draft.outputs k name.0 name.1) in
       subst (λ (q : PlainPort). slice_get ends j ≡ Some q.name → j ≡ q.net) (ap plain_port name.2 ∙ port.2)
       (λ f. start-alone draft n n a a name.0 j (a.net name.0) f (start-or-wire draft n n a a name.0 (a.net name.0) (a.nets name.0 known)))
@@ -143,7 +144,7 @@ module _ (draft : GateDraft) (n : NetlistParts) (a : IsClosed draft n) (is : IsN
   -- They are names of the format.
 
   outs-named : All HasName os
-  outs-named = All-permutation HasName draft.gates os (IsPermutation-sym os draft.gates (moved draft n a)) (all-of HasName draft.gates is.gates)
+  outs-named = All-permutation HasName draft.gates os (IsPermutation-sym os draft.gates (moved draft n a)) (All-from_recursion HasName draft.gates is.gates)
 
   pub closed-named : IsNamed n
   closed-named =
@@ -151,7 +152,7 @@ module _ (draft : GateDraft) (n : NetlistParts) (a : IsClosed draft n) (is : IsN
       (record {
         by_depth = λ depths are i j before within. deep-rising draft n a depths are i j before (omega (arith, within, many-gates));
         model = is.model;
-        signals = all-of IsSignalName ends (each-append IsSignalName draft.inputs (map out_of os) is.inputs (each-map IsSignalName out_of os (each-of HasName os outs-named)));
-        outputs = subst (All IsSignalName) (sym (port-names a.net draft.outputs)) (all-of IsSignalName draft.outputs is.outputs);
+        signals = All-from_recursion IsSignalName ends (each-append IsSignalName draft.inputs (map out_of os) is.inputs (each-map IsSignalName out_of os (each-of HasName os outs-named)));
+        outputs = subst (All IsSignalName) (sym (port-names a.net draft.outputs)) (All-from_recursion IsSignalName draft.outputs is.outputs);
         names = names-are;
       })

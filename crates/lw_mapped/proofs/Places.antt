@@ -1,9 +1,8 @@
 -- Elements by their places.
-use Rattle.std.proofs.Common.{ℕ, zero, suc, ◌≡◌, ◌+◌, ◌<◌, List, [], ◌∷◌, ◌++◌, length, map, get_or, Some, Contains, refl, ap, sym, ◌∙◌, subst, arith}
+use Rattle.std.proofs.Common.{ℕ, zero, suc, ◌≡◌, ◌+◌, ◌<◌, List, [], ◌∷◌, ◌++◌, length, get_or, Some, Contains, ap, sym, ◌∙◌, arith}
 use Rattle.std.specs.Prelude.{slice_get}
 use Rattle.std.specs.List.{IsDistinct}
 use Rattle.std.specs.Str.{bytes_eq}
-use Rattle.std.proofs.lemmas.List.{length-map, get_or-map}
 use Rattle.std.proofs.lemmas.Option.{slice_get_within, get_or_from_slice_get}
 use Rattle.lw_netlist.specs.Numbered.{number_in}
 use Rattle.lw_dag.proofs.Numbering.{number_at}
@@ -37,12 +36,3 @@ contains-get {A = A} xs x (i, below, e) = (i, at xs i below e)
     at [] k lt is = absurd (omega arith)
     at (y ∷ ys) zero lt is = ap (λ z. Some z) is
     at (y ∷ ys) (suc k) lt is = at ys k (omega arith) is
-
-pub contains-map : {A B : Type 0} (f : A → B) (xs : List A) (x : A) → Contains xs x → Contains (map f xs) (f x)
-contains-map f xs x (k, lt, e) = (k, subst (λ n. k < n) (sym (length-map xs f)) lt, get_or-map f xs k x (f x) lt ∙ ap f e)
-
--- what a list that was mapped has at a place
-pub map-get : {A B : Type 0} (f : A → B) (xs : List A) (i : ℕ) (y : B) → slice_get (map f xs) i ≡ Some y → (x : A) × (slice_get xs i ≡ Some x) × (f x ≡ y)
-map-get f [] i y e = cc
-map-get f (x ∷ xs) zero y e = let same : f x ≡ y = cc in (x, refl, same)
-map-get f (x ∷ xs) (suc i) y e = map-get f xs i y e

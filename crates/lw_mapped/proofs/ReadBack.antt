@@ -3,7 +3,7 @@ use Rattle.std.proofs.Common.{ℕ, zero, suc, ◌≡◌, ◌≢◌, ◌<◌, ◌
 use Rattle.std.specs.Prelude.{slice_get, slice_index_or, replicate}
 use Rattle.std.specs.List.{flat_map, IsDistinct, AllByRecursion as Each}
 use Rattle.std.specs.Str.{bytes_eq}
-use Rattle.std.proofs.lemmas.List.{take-append-drop, length-take-le, length-map}
+use Rattle.std.proofs.lemmas.List.{take-append-drop, length-take-le, length-map, take-take, take-map}
 use Rattle.std.proofs.lemmas.Map.Keys.{IsDistinct-head, IsDistinct-tail}
 use Rattle.lw_fixed.specs.declared.micro.Micro.{Micro}
 use Rattle.lw_frame.specs.Frames.{each_once, input_names, root_names}
@@ -43,17 +43,6 @@ use Rattle.lw_mapped.proofs.WrittenItems.{model-says, model-begins}
 use Rattle.lw_mapped.proofs.WrittenLines.{numbered, lines-again, each-of, each-append}
 
 -- Parts of lists.
-
-take-take : {A : Type 0} (k m : ℕ) (xs : List A) → k ≤ m → take k (take m xs) ≡ take k xs
-take-take zero m xs le = refl
-take-take (suc k) zero xs le = absurd (omega arith)
-take-take (suc k) (suc m) [] le = refl
-take-take (suc k) (suc m) (x ∷ xs) le = ap (λ l. x ∷ l) (take-take k m xs (omega arith))
-
-take-map : {A B : Type 0} (f : A → B) (k : ℕ) (xs : List A) → take k (map f xs) ≡ map f (take k xs)
-take-map f zero xs = refl
-take-map f (suc k) [] = refl
-take-map f (suc k) (x ∷ xs) = ap (λ l. f x ∷ l) (take-map f k xs)
 
 distinct-take : (k : ℕ) (xs : List (List ℕ)) → IsDistinct bytes_eq xs → IsDistinct bytes_eq (take k xs)
 unfolding IsDistinct

@@ -99,11 +99,11 @@ no-wire (Some number) e = cc
 
 -- Before the first line.
 
-none-wire : wire_without_row [] ≡ None
+pub none-wire : wire_without_row [] ≡ None
 unfolding wire_without_row
 none-wire = refl
 
-none-say : (cells : List CellParts) → lines_say cells [] ≡ []
+pub none-say : (cells : List CellParts) → lines_say cells [] ≡ []
 unfolding lines_say
 none-say cells = refl
 

@@ -5,7 +5,7 @@ use Rattle.std.specs.List.{flat_map, position_or_len, AllByRecursion as Each}
 use Rattle.std.specs.Str.{bytes_eq}
 use Rattle.std.proofs.lemmas.Bool.{and_parts}
 use Rattle.std.proofs.lemmas.Bool.Decides.{nat_tests}
-use Rattle.std.proofs.lemmas.List.Elements.{All-nil, All-cons, All-filter}
+use Rattle.std.proofs.lemmas.List.Elements.{All-nil, All-cons, All-filter, All-from_recursion}
 use Rattle.lw_words.specs.Gathering.{IsInk, IsNoHash}
 use Rattle.lw_words.specs.Lines.{LogicalLine, logical_lines}
 use Rattle.lw_pool.specs.declared.latch.Latch.{Latch}
@@ -32,12 +32,12 @@ use Rattle.lw_mapped.proofs.ReadKept.{comes-said}
 use Rattle.lw_mapped.proofs.SaidLines.{arrival-all, certificate-all, default-all, gate-all}
 use Rattle.lw_mapped.proofs.TextWords.{HasRight, read-right}
 use Rattle.lw_mapped.proofs.TieLemmas.{IsTied, gives-output, net-has, ties-tied, whole-first}
-use Rattle.lw_mapped.proofs.WrittenLines.{all-of, each-append, each-drop, each-of, each-weaker}
+use Rattle.lw_mapped.proofs.WrittenLines.{each-append, each-drop, each-of, each-weaker}
 
 -- Words.
 
 signal : (word : List ℕ) → IsRight word → is_name word ≡ true → IsSignalName word
-signal word right name = record { word = record { some = right.0.0; few = right.0.1; ink = all-of IsInk word right.0.2 }; no_hash = all-of IsNoHash word right.1; ends = name }
+signal word right name = record { word = record { some = right.0.0; few = right.0.1; ink = All-from_recursion IsInk word right.0.2 }; no_hash = All-from_recursion IsNoHash word right.1; ends = name }
 
 signals : (words : List (List ℕ)) → Each IsRight words → are_names words ≡ true → Each IsSignalName words
 signals [] right names = tt
@@ -72,7 +72,7 @@ latch-named [] few each = cc
 latch-named (input ∷ []) few each = cc
 latch-named (input ∷ output ∷ rest) few each =
     let most : nat_le (length (input ∷ output ∷ rest)) 5 ≡ true = (and_parts (nat_le 2 (length (input ∷ output ∷ rest))) (nat_le (length (input ∷ output ∷ rest)) 5) few).1 in
-    record { input = each.0; output = each.1.0; rest = all-of IsSignalName rest each.1.1; few = grind (arith, nat_tests) }
+    record { input = each.0; output = each.1.0; rest = All-from_recursion IsSignalName rest each.1.1; few = grind (arith, nat_tests) }
 
 -- Gates.
 

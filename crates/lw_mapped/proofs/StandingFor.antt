@@ -1,5 +1,6 @@
 -- What a reader stands for, line by line.
 use Rattle.std.proofs.Common.{ℕ, ◌≡◌, Bool, true, false, not, List, [], ◌∷◌, ◌++◌, Option, Some, None, Result, Err, refl, ap, sym, ◌∙◌, subst}
+use Rattle.std.proofs.Math.Bool.{not-not}
 use Rattle.lw_words.specs.Lines.{LogicalLine}
 use Rattle.lw_genlib.specs.Cells.{CellParts}
 use Rattle.lw_mapped.specs.declared.reader.Stop.{Stop}
@@ -19,10 +20,6 @@ use Rattle.lw_mapped.specs.LineFaults.{FaultAt, fault_or, fault_else, text_fault
 use Rattle.lw_mapped.specs.Standing.{IsKept, Stops, KeepsLines, Tells, fault_of, stop_at}
 use Rattle.lw_mapped.proofs.Appending.{lines_read-all, has_ended-more, lines_read-ended, lines_read-end}
 use Rattle.lw_mapped.proofs.Given.{first-more, ended-stays, ended-some, stops-stay, read-next}
-
-not-twice : (b : Bool) → not (not b) ≡ b
-not-twice true = refl
-not-twice false = refl
 
 -- Behind a fault.
 
@@ -84,7 +81,7 @@ is-open cells begun ended o parts lines e is h =
     let still = sym (h.ended e) ∙ is in
     record {
       still = still;
-      first = ap not (h.begun e) ∙ not-twice (is_first lines);
+      first = ap not (h.begun e) ∙ not-not (is_first lines);
       none = no_fault cells begun ended o parts lines e h;
       kept = subst (λ (ls : List LogicalLine). KeepsLines parts cells ls) (lines_read-all lines still) (h.kept e);
     }

@@ -1,5 +1,5 @@
 -- The text of lines, part by part.
-use Rattle.std.proofs.Common.{◌≡◌, ◌<◌, ◌+◌, ℕ, zero, suc, List, [], ◌∷◌, ◌++◌, get_or, length, map, take, Option, None, refl, sym, ◌∙◌, ap, arith, append_assoc, append-nil}
+use Rattle.std.proofs.Common.{◌≡◌, ◌<◌, ◌+◌, ℕ, zero, suc, List, [], ◌∷◌, ◌++◌, get_or, length, map, take, Option, None, refl, sym, ◌∙◌, ap, arith, append_assoc, append-nil, add-one}
 use Rattle.std.specs.List.{flat_map}
 use Rattle.std.proofs.lemmas.Grind.{flat_map-append}
 use Rattle.lw_fixed.specs.declared.micro.Micro.{Micro}
@@ -44,22 +44,19 @@ nets_suc names (gate ∷ gates) (class ∷ classes) (suc k) d in_gates in_classe
 nets_suc names [] classes k d in_gates in_classes = absurd (omega arith)
 nets_suc names (gate ∷ gates) [] k d in_gates in_classes = absurd (omega arith)
 
-pub at_next : (k : ℕ) → k + 1 ≡ suc k
-at_next k = omega arith
-
 pub labels_more : (labels : List (Option Micro)) (k : ℕ) → k < length labels → label_lines 0 (take (k + 1) labels) ≡ label_lines 0 (take k labels) ++ optional_label k (get_or labels k None)
 labels_more labels k below =
     let same : 0 + k ≡ k = omega arith in
-    ap (λ n. label_lines 0 (take n labels)) (at_next k) ∙ (labels_suc 0 labels k below ∙ ap (λ n. label_lines 0 (take k labels) ++ optional_label n (get_or labels k None)) same)
+    ap (λ n. label_lines 0 (take n labels)) (add-one k) ∙ (labels_suc 0 labels k below ∙ ap (λ n. label_lines 0 (take k labels) ++ optional_label n (get_or labels k None)) same)
 
 pub nets_more : (names : List (List ℕ)) (gates : List Gate) (classes : List (Option ClassId)) (k : ℕ) (d : Gate) → k < length gates → k < length classes → net_lines names (take (k + 1) gates) (take (k + 1) classes) ≡ net_lines names (take k gates) (take k classes) ++ optional_net (net_name names (get_or gates k d).out) (get_or classes k None)
-nets_more names gates classes k d in_gates in_classes = ap (λ n. net_lines names (take n gates) (take n classes)) (at_next k) ∙ nets_suc names gates classes k d in_gates in_classes
+nets_more names gates classes k d in_gates in_classes = ap (λ n. net_lines names (take n gates) (take n classes)) (add-one k) ∙ nets_suc names gates classes k d in_gates in_classes
 
 -- one more pin, as words
 pub ties_more : (names pins : List (List ℕ)) (nets : List NetId) (k : ℕ) → k < length pins → k < length nets → spaced (ties names (take (k + 1) pins) (take (k + 1) nets)) ≡ spaced (ties names (take k pins) (take k nets)) ++ 32 ∷ tie (get_or pins k []) (net_name names (get_or nets k (record { 0 = 0 })))
 ties_more names pins nets k in_pins in_nets =
     let last = tie (get_or pins k []) (net_name names (get_or nets k (record { 0 = 0 }))) in
-    ap (λ n. spaced (ties names (take n pins) (take n nets))) (at_next k) ∙ (ap spaced (ties_suc names pins nets k in_pins in_nets)
+    ap (λ n. spaced (ties names (take n pins) (take n nets))) (add-one k) ∙ (ap spaced (ties_suc names pins nets k in_pins in_nets)
     ∙ (flat_map-append (λ word. 32 ∷ word) (ties names (take k pins) (take k nets)) (last ∷ []) ∙ ap (λ l. spaced (ties names (take k pins) (take k nets)) ++ l) (append-nil (32 ∷ last))))
 
 -- one more input
@@ -77,7 +74,7 @@ arrivals_none [] = refl
 arrivals_none (name ∷ names) = refl
 
 pub arrivals_more : (names : List (List ℕ)) (starts : List Micro) (k : ℕ) (d : Micro) → k < length names → k < length starts → arrival_lines names (take (k + 1) starts) ≡ arrival_lines names (take k starts) ++ optional_arrival (get_or names k []) (get_or starts k d)
-arrivals_more names starts k d in_names in_starts = ap (λ n. arrival_lines names (take n starts)) (at_next k) ∙ arrivals_suc names starts k d in_names in_starts
+arrivals_more names starts k d in_names in_starts = ap (λ n. arrival_lines names (take n starts)) (add-one k) ∙ arrivals_suc names starts k d in_names in_starts
 
 -- names of ports
 pub ports_spaced : (ports : List Port) → flat_map (λ (port : Port). 32 ∷ port.name) ports ≡ spaced (map port_name ports)

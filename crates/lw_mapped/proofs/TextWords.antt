@@ -46,7 +46,7 @@ split-parts p Q (b ∷ bytes) h = by_test (p b) refl (slice_split p bytes) (spli
     by_test false e [] all = (((e, h.0), tt), tt)
     by_test false e (part ∷ parts) all = (((e, h.0), all.0), all.1)
 
-any-bytes : (bytes : List ℕ) → Each (λ b. Unit {0}) bytes
+pub any-bytes : (bytes : List ℕ) → Each (λ b. Unit {0}) bytes
 any-bytes [] = tt
 any-bytes (b ∷ bytes) = (tt, any-bytes bytes)
 

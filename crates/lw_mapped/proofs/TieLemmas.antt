@@ -3,6 +3,7 @@ use Rattle.std.proofs.Common.{ℕ, zero, suc, ◌≡◌, ◌<◌, Bool, true, fa
 use Rattle.std.specs.Prelude.{is_some, All}
 use Rattle.std.specs.List.{list_all, AllByRecursion as Each}
 use Rattle.std.specs.Option.{option_or}
+use Rattle.std.proofs.lemmas.Bool.{and_parts}
 use Rattle.lw_genlib.specs.Cells.{CellParts}
 use Rattle.lw_mapped.specs.declared.fault.MappedKind.{MappedKind}
 use Rattle.lw_mapped.specs.declared.fault.MappedKind.TheVariants as kind
@@ -77,19 +78,15 @@ missing-parts true None e = (refl, refl)
 missing-parts false None e = cc
 missing-parts whole (Some k) e = cc
 
-and-parts : (a b : Bool) → (a && b) ≡ true → (a ≡ true) × (b ≡ true)
-and-parts true b e = (refl, e)
-and-parts false b e = cc
-
 all-at : {A : Type 0} (p : A → Bool) (xs : List A) (k : ℕ) (d : A) → k < length xs → list_all p xs ≡ true → p (get_or xs k d) ≡ true
-all-at p (x ∷ xs) zero d below all = (and-parts (p x) (list_all p xs) all).0
-all-at p (x ∷ xs) (suc k) d below all = all-at p xs k d (omega arith) (and-parts (p x) (list_all p xs) all).1
+all-at p (x ∷ xs) zero d below all = (and_parts (p x) (list_all p xs) all).0
+all-at p (x ∷ xs) (suc k) d below all = all-at p xs k d (omega arith) (and_parts (p x) (list_all p xs) all).1
 all-at p [] k d below all = absurd (omega arith)
 
 pub pin-nets : (cell : CellParts) (ties : List (List ℕ)) → ties_fault cell ties ≡ None → All (λ pin. 0 < length (net_for ties pin)) cell.pins
 pin-nets cell ties e =
     let parts = missing-parts (gives_all cell ties) (first_tie_fault cell [] ties) e in
-    let both = and-parts (list_all (gives ties) cell.pins) (gives ties cell.output) parts.0 in
+    let both = and_parts (list_all (gives ties) cell.pins) (gives ties cell.output) parts.0 in
     λ k d below. net-some cell [] ties (get_or cell.pins k d) parts.1 (all-at (gives ties) cell.pins k d below both.0)
 
 pub whole-first : (cell : CellParts) (ties : List (List ℕ)) → ties_fault cell ties ≡ None → first_tie_fault cell [] ties ≡ None
@@ -97,22 +94,10 @@ whole-first cell ties e = (missing-parts (gives_all cell ties) (first_tie_fault 
 
 -- the output is given
 pub gives-output : (cell : CellParts) (ties : List (List ℕ)) → ties_fault cell ties ≡ None → gives ties cell.output ≡ true
-gives-output cell ties e = (and-parts (list_all (gives ties) cell.pins) (gives ties cell.output) (missing-parts (gives_all cell ties) (first_tie_fault cell [] ties) e).0).1
+gives-output cell ties e = (and_parts (list_all (gives ties) cell.pins) (gives ties cell.output) (missing-parts (gives_all cell ties) (first_tie_fault cell [] ties) e).0).1
 
 pub output-net : (cell : CellParts) (ties : List (List ℕ)) → ties_fault cell ties ≡ None → 0 < length (net_for ties cell.output)
 output-net cell ties e = net-some cell [] ties cell.output (whole-first cell ties e) (gives-output cell ties e)
-
-pub missing-some : (whole : Bool) (o : Option MappedKind) → is_some o ≡ true → o ≡ or_missing whole o
-missing-some whole None e = cc
-missing-some whole (Some k) e = refl
-
-pub missing-whole : (o : Option MappedKind) → o ≡ or_missing true o
-missing-whole None = refl
-missing-whole (Some k) = refl
-
-pub missing-not : (o : Option MappedKind) → is_some o ≡ false → Some kind.PinMissing ≡ or_missing false o
-missing-not None e = refl
-missing-not (Some k) e = cc
 
 pub net-here : (word : List ℕ) (words : List (List ℕ)) (formal : List ℕ) → is_for formal word ≡ true → net_for (word ∷ words) formal ≡ actual_of word
 net-here word words formal e = ap (λ b. cond b (actual_of word) (net_for words formal)) e

@@ -1,5 +1,5 @@
 -- Each line of a gate has three words or more, of nine bytes or more.
-use Rattle.std.proofs.Common.{ℕ, zero, suc, ◌≡◌, ◌<◌, ◌≤◌, ◌+◌, ◌*◌, Bool, true, false, not, ◌&&◌, ◌||◌, cond, nat_lt, All, List, [], ◌∷◌, length, get_or, Option, Some, None, Result, Ok, Err, refl, ap, sym, subst, arith, length-append, length-drop, length-take}
+use Rattle.std.proofs.Common.{ℕ, zero, suc, ◌≡◌, ◌<◌, ◌≤◌, ◌+◌, ◌*◌, Bool, true, false, not, ◌||◌, cond, nat_lt, All, List, [], ◌∷◌, length, get_or, Option, Some, None, Result, Ok, Err, refl, ap, sym, subst, arith, length-append, length-drop, length-take}
 use Rattle.std.specs.Prelude.{slice_get, position, codes, IfOk}
 use Rattle.std.specs.List.{flat_map, position_or_len}
 use Rattle.std.specs.Str.{bytes_eq}
@@ -7,6 +7,7 @@ use Rattle.std.specs.Cmp.Lexicographic.{bytes_decides}
 use Rattle.std.proofs.lemmas.Bool.Decides.{nat_tests}
 use Rattle.std.proofs.lemmas.Grind.{flat_map-append}
 use Rattle.std.proofs.lemmas.List.Sums.{prefix_len_stops, sum_by-cons}
+use Rattle.std.proofs.lemmas.Bool.{and_parts, not-false}
 use Rattle.lw_words.specs.Lines.{LogicalLine, weight, lines_weight}
 use Rattle.lw_genlib.specs.Cells.{CellParts, IsLibrary, IsListed, names_of}
 use Rattle.lw_mapped.specs.declared.closing.Mapped.{Mapped}
@@ -79,11 +80,7 @@ found-some names word k e = by_case (nat_lt (position_or_len (bytes_eq word) nam
     by_case true f h =
         let below : position_or_len (bytes_eq word) names < length names = grind (arith, nat_tests, f) in
         let stops : not (bytes_eq word (get_or names (position_or_len (bytes_eq word) names) word)) ≡ false = prefix_len_stops (λ x. not (bytes_eq word x)) names word below in
-        (position_or_len (bytes_eq word) names, below, sym ((bytes_decides word (get_or names (position_or_len (bytes_eq word) names) word)).0 (is-true (bytes_eq word (get_or names (position_or_len (bytes_eq word) names) word)) stops)))
-      where
-        is-true : (t : Bool) → not t ≡ false → t ≡ true
-        is-true true g = refl
-        is-true false g = cc
+        (position_or_len (bytes_eq word) names, below, sym ((bytes_decides word (get_or names (position_or_len (bytes_eq word) names) word)).0 (not-false (bytes_eq word (get_or names (position_or_len (bytes_eq word) names) word)) stops)))
     by_case false f h = cc
 
 named-some : (cells : List CellParts) (k : ℕ) (d : List ℕ) → All IsListed cells → k < length (names_of cells) → 0 < length (get_or (names_of cells) k d)
@@ -95,14 +92,10 @@ named-some (cell ∷ cells) (suc k) d all below = named-some cells k d (λ j e l
 
 tie-long : (word : List ℕ) → is_tie word ≡ true → 3 ≤ length word
 tie-long word e =
-    let both = and-parts (nat_lt 0 (length (formal_of word))) (nat_lt 0 (length (actual_of word))) e in
+    let both = and_parts (nat_lt 0 (length (formal_of word))) (nat_lt 0 (length (actual_of word))) e in
     let formal : 0 < length (formal_of word) = grind (arith, nat_tests, both.0) in
     let actual : 0 < length (actual_of word) = grind (arith, nat_tests, both.1) in
     omega (arith, formal, actual, length-take (position_or_len is_equals word) word, length-drop (position_or_len is_equals word + 1) word)
-  where
-    and-parts : (a b : Bool) → (a && b) ≡ true → (a ≡ true) × (b ≡ true)
-    and-parts true b h = (refl, h)
-    and-parts false b h = cc
 
 -- A line.
 

@@ -1,6 +1,6 @@
 -- Lists of words, place by place.
 use Rattle.std.proofs.Common.{ℕ, zero, suc, ◌≡◌, ◌≤◌, ◌<◌, ◌+◌, ◌-◌, Bool, ◌&&◌, List, [], ◌∷◌, ◌++◌, length, take, drop, Some, refl, ap, sym, ◌∙◌, arith, length-drop}
-use Rattle.std.specs.Prelude.{slice_get, slice_index_or}
+use Rattle.std.specs.Prelude.{slice_get}
 use Rattle.std.specs.List.{list_all, slice_range}
 use Rattle.std.proofs.lemmas.List.{take_all}
 use Rattle.lw_mapped.specs.Sayings.{first_word}
@@ -38,11 +38,6 @@ slice_range-more xs from i x le e =
 pub list_all-get : (p : List ℕ → Bool) (words : List (List ℕ)) (i : ℕ) (word : List ℕ) (b : Bool) → slice_get words i ≡ Some word → p word ≡ b → list_all p (drop i words) ≡ (b && list_all p (drop (i + 1) words))
 list_all-get p words i word b e is = ap (list_all p) (drop-get words i word e) ∙ ap (λ t. t && list_all p (drop (i + 1) words)) is
 
-pub get-or : {A : Type 0} (xs : List A) (i : ℕ) (x d : A) → slice_get xs i ≡ Some x → slice_index_or xs i d ≡ x
-get-or [] i x d e = cc
-get-or (y ∷ xs) zero x d e = cc
-get-or (y ∷ xs) (suc i) x d e = get-or xs i x d e
-
 -- the first word of a part
 pub range-first : {A : Type 0} (xs : List A) (i end : ℕ) (x : A) → i < end → slice_get xs i ≡ Some x → slice_range xs i end ≡ x ∷ slice_range xs (i + 1) end
 range-first xs i end x below e =
@@ -63,14 +58,3 @@ range-all xs from end within far = take_all (end - from) (drop from xs) (omega (
 pub first-get : (words : List (List ℕ)) (word : List ℕ) → slice_get words 0 ≡ Some word → word ≡ first_word words
 first-get [] word e = cc
 first-get (w ∷ words) word e = cc
-
-pub get-at : {A : Type 0} (xs : List A) (i : ℕ) (d : A) → i < length xs → slice_get xs i ≡ Some (slice_index_or xs i d)
-get-at [] i d below = absurd (omega arith)
-get-at (x ∷ xs) zero d below = refl
-get-at (x ∷ xs) (suc i) d below = get-at xs i d (omega arith)
-
-pub drop-all : {A : Type 0} (xs : List A) (i : ℕ) → length xs ≤ i → drop i xs ≡ []
-drop-all [] zero far = refl
-drop-all [] (suc i) far = refl
-drop-all (x ∷ xs) zero far = absurd (omega arith)
-drop-all (x ∷ xs) (suc i) far = drop-all xs i (omega arith)

@@ -3,7 +3,7 @@ use Rattle.std.proofs.Common.{ℕ, zero, suc, ◌≡◌, ◌≢◌, ◌<◌, ◌
 use Rattle.std.specs.List.{flat_map, slice_split, list_any, onto_first, AllByRecursion as Each}
 use Rattle.std.proofs.lemmas.Bool.Decides.{nat_tests}
 use Rattle.std.proofs.lemmas.List.{take_all}
-use Rattle.std.proofs.lemmas.List.Elements.{All-head, All-tail}
+use Rattle.std.proofs.lemmas.List.Elements.{All-head, All-tail, All-from_recursion}
 use Rattle.std.proofs.lemmas.List.Splits.{slice_split_at, slice_split_none}
 use Rattle.lw_words.specs.Gathering.{IsInk, IsNoHash}
 use Rattle.lw_words.specs.Lines.{LogicalLine, Text, is_blank, is_line_feed, has_some, lines_among, physical_lines, before_hash, is_cut, has_mark, uncommented, trimmed, is_continued, with_blank, continued_by, text_before, text_of, texts_from, is_long, words_of, line_of, has_words, lines_of, logical_lines}
@@ -16,11 +16,6 @@ use Rattle.lw_mapped.proofs.TextParts.{ended_is}
 pub each-of : {A : Type 0} (P : A → Type 0) (xs : List A) → All P xs → Each P xs
 each-of P [] all = tt
 each-of P (x ∷ xs) all = (All-head P x xs all, each-of P xs (All-tail P x xs all))
-
-pub all-of : {A : Type 0} (P : A → Type 0) (xs : List A) → Each P xs → All P xs
-all-of P [] each k d lt = absurd (omega arith)
-all-of P (x ∷ xs) each zero d lt = each.0
-all-of P (x ∷ xs) each (suc k) d lt = all-of P xs each.1 k d (omega arith)
 
 pub each-append : {A : Type 0} (P : A → Type 0) (xs ys : List A) → Each P xs → Each P ys → Each P (xs ++ ys)
 each-append P [] ys a b = b
@@ -178,10 +173,10 @@ word-some (b ∷ word) some = refl
 split-words : (words : List (List ℕ)) (first : List ℕ) → IsWordOf first → Each IsWordOf words → words_of (first ++ spaced words) ≡ first ∷ words
 split-words [] first is each =
     ap words_of (append-nil first)
-    ∙ (ap (filter has_some) (slice_split_none is_blank first (all-of (λ b. is_blank b ≡ false) first (each-weaker IsInk (λ b. is_blank b ≡ false) inkless first is.2)))
+    ∙ (ap (filter has_some) (slice_split_none is_blank first (All-from_recursion (λ b. is_blank b ≡ false) first (each-weaker IsInk (λ b. is_blank b ≡ false) inkless first is.2)))
     ∙ ap (λ t. cond t (first ∷ []) []) (word-some first is.0))
 split-words (word ∷ words) first is each =
-    ap (filter has_some) (slice_split_at is_blank first 32 (word ++ spaced words) (all-of (λ b. is_blank b ≡ false) first (each-weaker IsInk (λ b. is_blank b ≡ false) inkless first is.2)) refl)
+    ap (filter has_some) (slice_split_at is_blank first 32 (word ++ spaced words) (All-from_recursion (λ b. is_blank b ≡ false) first (each-weaker IsInk (λ b. is_blank b ≡ false) inkless first is.2)) refl)
     ∙ (ap (λ t. cond t (first ∷ words_of (word ++ spaced words)) (words_of (word ++ spaced words))) (word-some first is.0)
     ∙ ap (λ l. first ∷ l) (split-words words word each.0 each.1))
 
@@ -231,7 +226,7 @@ physical : (lines : List (List (List ℕ))) → Each IsWritten lines → physica
 physical [] each = refl
 physical (words ∷ lines) each =
     ap (physical_lines true) (line-ended words (lines_text lines) each.0.last)
-    ∙ (ap (lines_among true) (slice_split_at is_line_feed (line_bytes words) 10 (lines_text lines) (all-of (λ b. is_line_feed b ≡ false) (line_bytes words) (feedless words each.0.are_words)) refl)
+    ∙ (ap (lines_among true) (slice_split_at is_line_feed (line_bytes words) 10 (lines_text lines) (All-from_recursion (λ b. is_line_feed b ≡ false) (line_bytes words) (feedless words each.0.are_words)) refl)
     ∙ (among-more (line_bytes words) (lines_text lines) ∙ ap (λ l. line_bytes words ∷ l) (physical lines each.1)))
 
 -- Logical lines.

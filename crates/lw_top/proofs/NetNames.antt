@@ -1,30 +1,20 @@
 -- The names of the nets of a mapped netlist are names of the format where those of the inputs and of the outputs are.
-use Rattle.std.proofs.Common.{ℕ, zero, suc, ◌+◌, ◌-◌, ◌^◌, ◌<◌, ◌≤◌, ◌≡◌, ◌==◌, Bool, true, false, not, ◌&&◌, nat_eq, if◌then◌else◌, List, [], ◌∷◌, ◌++◌, length, drop, Option, Some, None, All, refl, ap, ap₂, sym, ◌∙◌, subst, arith}
+use Rattle.std.proofs.Common.{ℕ, zero, suc, ◌+◌, ◌-◌, ◌^◌, ◌<◌, ◌≤◌, ◌≡◌, ◌==◌, Bool, true, false, not, ◌&&◌, nat_eq, if◌then◌else◌, List, [], ◌∷◌, ◌++◌, length, Option, Some, None, All, refl, ap, ap₂, ◌∙◌, subst, arith}
 use Rattle.std.specs.Prelude.{nat_le}
-use Rattle.std.specs.List.{ends_with, AllByRecursion as Each}
-use Rattle.std.specs.Cmp.Lexicographic.{pointwise}
+use Rattle.std.specs.List.{AllByRecursion as Each}
 use Rattle.std.specs.Fmt.{decimal}
 use Rattle.std.proofs.lemmas.Bool.Decides.{nat_tests}
 use Rattle.std.proofs.lemmas.Fmt.{length-decimal-le, digits_decimal}
-use Rattle.std.proofs.lemmas.List.Elements.{All-filter}
+use Rattle.std.proofs.lemmas.List.Elements.{All-filter, All-from_recursion}
 use Rattle.lw_words.specs.Gathering.{IsInk, IsNoHash}
 use Rattle.lw_laws.specs.Names.{is_name_among, numbered_name, numbered_names, free_names, output_name, gate_names, net_names}
 use Rattle.lw_naming.proofs.FreeNames.{enough_free}
 use Rattle.lw_mapped.specs.Readable.{IsSignalName}
-use Rattle.lw_mapped.proofs.GoodWords.{IsGood, good-bytes}
+use Rattle.lw_mapped.proofs.GoodWords.{IsGood, good-bytes, stroke-behind, ends_stroke}
 use Rattle.lw_mapped.proofs.Printing.{own, digits-good}
-use Rattle.lw_mapped.proofs.WrittenLines.{each-of, all-of, each-append, each-weaker}
+use Rattle.lw_mapped.proofs.WrittenLines.{each-of, each-append, each-weaker}
 
 -- Numbered names.
-
-abbrev ends_stroke : List ℕ → Bool
-ends_stroke word = ends_with nat_eq word (92 ∷ [])
-
-stroke-behind : (b c : ℕ) (word : List ℕ) → ends_stroke (b ∷ c ∷ word) ≡ ends_stroke (c ∷ word)
-stroke-behind b c word =
-    let long : suc (suc (length word)) - 1 ≡ suc (length word) = omega arith in
-    let short : suc (length word) - 1 ≡ length word = omega arith in
-    ap (λ k. pointwise nat_eq (92 ∷ []) (drop k (b ∷ c ∷ word))) long ∙ sym (ap (λ k. pointwise nat_eq (92 ∷ []) (drop k (c ∷ word))) short)
 
 stroke-last : (b : ℕ) → (b == 92) ≡ false → (nat_eq 92 b && true) ≡ false
 stroke-last b e = grind (arith, nat_tests)
@@ -36,8 +26,8 @@ no-stroke (b ∷ c ∷ word) some each = stroke-behind b c word ∙ no-stroke (c
 
 good-name : (word : List ℕ) → 0 < length word → length word ≤ 2000 → Each IsGood word → IsSignalName word
 good-name word some few each = record {
-  word = record { some = some; few = omega arith; ink = all-of IsInk word (each-weaker IsGood IsInk (λ b h. h.0) word each) };
-  no_hash = all-of IsNoHash word (each-weaker IsGood IsNoHash (λ b h. h.1) word each);
+  word = record { some = some; few = omega arith; ink = All-from_recursion IsInk word (each-weaker IsGood IsInk (λ b h. h.0) word each) };
+  no_hash = All-from_recursion IsNoHash word (each-weaker IsGood IsNoHash (λ b h. h.1) word each);
   ends = let short : nat_le (length word) 2000 ≡ true = grind (arith, nat_tests) in ap₂ (λ a b. a && not b) short (no-stroke word some each);
 }
 
@@ -54,7 +44,7 @@ numbered-each first (suc count) lt = (numbered-name first (omega arith), numbere
 free-each : (taken : List (List ℕ)) (count : ℕ) → 1 + (count + length taken) < 2 ^ 64 → Each IsSignalName (free_names taken count)
 free-each taken count room =
     each-of IsSignalName (free_names taken count)
-    (All-filter (λ name. not (is_name_among name taken)) IsSignalName (numbered_names 1 (count + length taken)) (all-of IsSignalName (numbered_names 1 (count + length taken)) (numbered-each 1 (count + length taken) room)))
+    (All-filter (λ name. not (is_name_among name taken)) IsSignalName (numbered_names 1 (count + length taken)) (All-from_recursion IsSignalName (numbered_names 1 (count + length taken)) (numbered-each 1 (count + length taken) room)))
 
 -- Names of gates.
 
@@ -86,5 +76,5 @@ pub nets-named : (inputs outputs : List (List ℕ)) (roots gates : List ℕ) →
 nets-named inputs outputs roots gates room ins outs =
     let taken = inputs ++ outputs in
     let frees = free_names taken (length gates) in
-    all-of IsSignalName (inputs ++ gate_names outputs roots frees gates)
+    All-from_recursion IsSignalName (inputs ++ gate_names outputs roots frees gates)
     (each-append IsSignalName inputs (gate_names outputs roots frees gates) ins (gates-named outputs roots outs frees gates (enough_free taken (length gates) room) (free-each taken (length gates) room)))

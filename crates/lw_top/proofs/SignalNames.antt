@@ -4,6 +4,7 @@ use Rattle.std.specs.Prelude.{nat_le}
 use Rattle.std.specs.List.{list_all, flat_map, AllByRecursion as Each}
 use Rattle.std.proofs.lemmas.Bool.{and_parts}
 use Rattle.std.proofs.lemmas.Bool.Decides.{nat_tests}
+use Rattle.std.proofs.lemmas.List.Elements.{All-from_recursion}
 use Rattle.lw_words.specs.Lines.{LogicalLine}
 use Rattle.lw_words.specs.Gathering.{IsInk, IsNoHash}
 use Rattle.lw_pool.specs.declared.latch.Frame.{Frame}
@@ -25,7 +26,7 @@ use Rattle.lw_blif.proofs.Appending.{fault_or_none}
 use Rattle.lw_blif.proofs.Sound.{lines-draft}
 use Rattle.lw_mapped.specs.Readable.{IsSignalName, IsReadableLatch}
 use Rattle.lw_mapped.proofs.GoodWords.{right-word}
-use Rattle.lw_mapped.proofs.WrittenLines.{each-of, all-of, each-append, each-weaker}
+use Rattle.lw_mapped.proofs.WrittenLines.{each-of, each-append, each-weaker}
 use Rattle.lw_mapped.proofs.SaidNames.{control-named, model-or-unnamed, once-named}
 use Rattle.lw_top.specs.Answers.{lines_in}
 use Rattle.lw_top.proofs.WordLines.{lines_have_words}
@@ -41,7 +42,7 @@ HasWords line = AreWords line.words
 signal : (word : List ℕ) → IsWord 4095 word → is_name word ≡ true → IsSignalName word
 signal word is name =
     let right = right-word 4095 word (omega arith) is in
-    record { word = record { some = right.0.0; few = right.0.1; ink = all-of IsInk word right.0.2 }; no_hash = all-of IsNoHash word right.1; ends = name }
+    record { word = record { some = right.0.0; few = right.0.1; ink = All-from_recursion IsInk word right.0.2 }; no_hash = All-from_recursion IsNoHash word right.1; ends = name }
 
 signals : (words : List (List ℕ)) → AreWords words → list_all is_name words ≡ true → Each IsSignalName words
 signals [] are names = tt
@@ -101,7 +102,7 @@ latch-named [] names few = tt
 latch-named (word ∷ []) names few = tt
 latch-named (word ∷ input ∷ []) names few = tt
 latch-named (word ∷ input ∷ output ∷ rest) names few =
-    (record { input = names.0; output = names.1.0; rest = all-of IsSignalName rest names.1.1; few = grind (arith, nat_tests) }, tt)
+    (record { input = names.0; output = names.1.0; rest = All-from_recursion IsSignalName rest names.1.1; few = grind (arith, nat_tests) }, tt)
 
 record IsNamedLine (c : Command) (words : List (List ℕ)) : Type 0 where
   model : Each IsSignalName (model_for c words)
@@ -189,9 +190,9 @@ lines-model lines read words none is =
     let outs = each-append IsSignalName (flat_map outputs_on lines) (flat_map read_by latches) are.outputs (reads-named latches are.latches) in
     record {
       model = subst IsSignalName (sym (ap (λ (n : NetworkParts). n.model) is.network.network)) (model-or-unnamed (flat_map model_on lines) are.model);
-      inputs = subst (All IsSignalName) (sym (closed_inputs (draft_of lines) read.network draft is.network)) (all-of IsSignalName (flat_map inputs_on lines ++ map output_of latches) ins);
-      outputs = subst (All IsSignalName) (sym (closed_outputs (draft_of lines) read.network draft is.network)) (all-of IsSignalName (each_once (flat_map outputs_on lines ++ flat_map read_by latches)) (once-named (flat_map outputs_on lines ++ flat_map read_by latches) outs));
-      latches = subst (λ (f : Frame). All IsReadableLatch f.latches) (sym is.frame) (all-of IsReadableLatch latches are.latches);
+      inputs = subst (All IsSignalName) (sym (closed_inputs (draft_of lines) read.network draft is.network)) (All-from_recursion IsSignalName (flat_map inputs_on lines ++ map output_of latches) ins);
+      outputs = subst (All IsSignalName) (sym (closed_outputs (draft_of lines) read.network draft is.network)) (All-from_recursion IsSignalName (each_once (flat_map outputs_on lines ++ flat_map read_by latches)) (once-named (flat_map outputs_on lines ++ flat_map read_by latches) outs));
+      latches = subst (λ (f : Frame). All IsReadableLatch f.latches) (sym is.frame) (All-from_recursion IsReadableLatch latches are.latches);
     }
 
 pub model_named : (bytes : List ℕ) (read : Parsed) → IsBlifNetwork (lines_in bytes) (Ok read) → IsNamed read

@@ -1,7 +1,8 @@
 use Rattle.std.proofs.Common.{◌≤◌, ◌+◌, length, drop, ap, sym, ◌∙◌, arith}
 use Rattle.std.specs.Str.{bytes_eq}
+use Rattle.std.proofs.lemmas.List.{drop_all}
 use Rattle.lw_mapped.specs.GateLines.{net_for}
-use Rattle.lw_mapped.proofs.WordLists.{drop-get, drop-all}
+use Rattle.lw_mapped.proofs.WordLists.{drop-get}
 use Rattle.lw_mapped.proofs.TieLemmas.{net-here, net-later}
 use Rattle.lw_mapped.proofs.ties.net_for.Goals as goal
 
@@ -25,4 +26,4 @@ loop-place-preserved c =
 pub returns : goal.returns
 returns c =
     let far : length c.args.words.now ≤ c.loop-place.place = omega (arith, c.loop-place-test.false, c.len-place-end.ensures) in
-    sym (ap (λ l. net_for l c.args.formal.now) (drop-all c.args.words.now c.loop-place.place far)) ∙ c.loop-place.invariant
+    sym (ap (λ l. net_for l c.args.formal.now) (drop_all c.loop-place.place c.args.words.now far)) ∙ c.loop-place.invariant
