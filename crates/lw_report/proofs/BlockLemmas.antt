@@ -103,11 +103,6 @@ last_more blocks b y v some at is =
     let before : vectors_in blocks ≡ vectors_in (take i blocks) ++ block_vectors b = ap vectors_in whole ∙ (flat_map-append block_vectors (take i blocks) (b ∷ []) ∙ ap (λ vs. vectors_in (take i blocks) ++ vs) (append-nil (block_vectors b))) in
     last_front blocks b y some at ∙ (ap (λ vs. vectors_in (take i blocks) ++ vs) is ∙ (sym (append_assoc (vectors_in (take i blocks)) (block_vectors b) (v ∷ [])) ∙ ap (λ vs. vs ++ v ∷ []) (sym before)))
 
--- a block without vectors at the end
-pub none_more : (blocks : List Block) (y : Block) → block_vectors y ≡ [] → vectors_in (blocks ++ y ∷ []) ≡ vectors_in blocks
-none_more blocks y empty =
-    flat_map-append block_vectors blocks (y ∷ []) ∙ (ap (λ vs. vectors_in blocks ++ vs) (append-nil (block_vectors y) ∙ empty) ∙ append-nil (vectors_in blocks))
-
 -- a block with room at the end
 pub room_behind : (blocks : List Block) (y : Block) → y.count < 64 → HasRoom (blocks ++ y ∷ [])
 room_behind blocks y few =

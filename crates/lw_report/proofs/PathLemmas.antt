@@ -1,8 +1,8 @@
 -- Paths to nets.
-use Rattle.std.proofs.Common.{ℕ, suc, ◌+◌, ◌<◌, ◌≤◌, ◌≡◌, ◌≢◌, List, [], ◌∷◌, ◌++◌, All, Some, None, length, map, get_or, reverse, slice_get, refl, sym, ap, subst, ◌∙◌, arith, append_assoc, append-nil}
+use Rattle.std.proofs.Common.{ℕ, suc, ◌+◌, ◌<◌, ◌≡◌, ◌≢◌, List, [], ◌∷◌, ◌++◌, All, Some, None, length, map, get_or, reverse, slice_get, refl, sym, ap, subst, ◌∙◌, arith, append_assoc, append-nil}
 use Rattle.std.proofs.lemmas.List.{get_or-map, length-map, reverse-append}
 use Rattle.std.proofs.lemmas.List.Elements.{All-append, All-push}
-use Rattle.std.proofs.lemmas.Option.{slice_get-map, slice_get-get_or, slice_get_within, slice_get_past, slice_get_read, same_Some}
+use Rattle.std.proofs.lemmas.Option.{slice_get-map, slice_get-get_or, slice_get_within, slice_get_read, same_Some}
 use Rattle.lw_fixed.specs.declared.micro.Micro.{Micro}
 use Rattle.lw_pool.specs.declared.id.NetId.{NetId}
 use Rattle.lw_laws.specs.Covers.{latest}
@@ -135,6 +135,3 @@ port_read arrivals ports place port d below is inside =
     slice_get-map (port_arrival (map millionths arrivals)) ports place
     ∙ (ap (λ o. Rattle.std.specs.Option.option_map (port_arrival (map millionths arrivals)) o) (slice_get_read ports (length ports) place port refl below is)
     ∙ ap (λ t. Some t) (get_or-map millionths arrivals port.net.0 d 0 inside))
-
-pub ports_past : (arrivals : List ℕ) (ports : List Port) (place : ℕ) → length ports ≤ place → slice_get (map (port_arrival arrivals) ports) place ≡ None
-ports_past arrivals ports place past = slice_get-map (port_arrival arrivals) ports place ∙ ap (λ o. Rattle.std.specs.Option.option_map (port_arrival arrivals) o) (slice_get_past ports place past)
