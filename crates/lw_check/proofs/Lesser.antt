@@ -2,13 +2,11 @@
 use Rattle.std.proofs.Common.{ℕ, ◌<◌, ◌≤◌, ◌≡◌, ◌⊎◌, inl, inr, Bool, true, false, cond, ltb, nat_eq, Option, Some, None, refl, sym, ◌∙◌, arith}
 use Rattle.std.proofs.lemmas.Bool.Decides.{nat_tests}
 use native.Mathlib.Decide.{dec_lt}
+use Rattle.std.proofs.lemmas.Bool.{ltb-false}
 use Rattle.lw_check.specs.Least.{IsLeastOf, lesser_of}
 
 below : (a b : ℕ) → ltb b a ≡ true → b ≤ a
 below a b e = grind (arith, nat_tests)
-
-not_below : (a b : ℕ) → ltb b a ≡ false → a ≤ b
-not_below a b e = grind (arith, nat_tests)
 
 pub same_number : (a b : ℕ) (t : Bool) → t ≡ nat_eq a b → t ≡ true → a ≡ b
 same_number a b t is e = let f : nat_eq a b ≡ true = sym is ∙ e in grind (arith, nat_tests)
@@ -25,7 +23,7 @@ module _ (P Q : ℕ → Type 0) where
     where
       by_test : (t : Bool) → ltb b a ≡ t → IsLeastOf (λ n. P n ⊎ Q n) (cond t (Some b) (Some a))
       by_test true e = (inr bt, λ n h. elim h [ inl i ↦ (let le = p n i in let lt = below a b e in omega arith) | inr j ↦ q n j ])
-      by_test false e = (inl at, λ n h. elim h [ inl i ↦ p n i | inr j ↦ (let le = q n j in let ge = not_below a b e in omega arith) ])
+      by_test false e = (inl at, λ n h. elim h [ inl i ↦ p n i | inr j ↦ (let le = q n j in let ge = ltb-false b a e in omega arith) ])
 
   -- the same property in other words
   pub least_same : (o : Option ℕ) → ((n : ℕ) → P n → Q n) → ((n : ℕ) → Q n → P n) → IsLeastOf P o → IsLeastOf Q o

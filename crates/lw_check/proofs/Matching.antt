@@ -1,5 +1,5 @@
 -- Gates as matches: the classes of nets, and the patterns of a cell.
-use Rattle.std.proofs.Common.{ℕ, zero, suc, ◌+◌, ◌-◌, ◌<◌, ◌≤◌, ◌≡◌, ◌⊎◌, inl, inr, Bool, true, false, List, [], ◌∷◌, ◌++◌, length, map, take, Option, Some, None, IfSome, option_map, slice_get, slice_index_or, get_or, length-append, refl, ap, sym, ◌∙◌, subst, arith}
+use Rattle.std.proofs.Common.{ℕ, zero, suc, ◌+◌, ◌-◌, ◌<◌, ◌≤◌, ◌≡◌, ◌⊎◌, inl, inr, List, [], ◌∷◌, ◌++◌, length, map, take, Option, Some, None, IfSome, option_map, slice_get, slice_index_or, get_or, length-append, refl, ap, sym, ◌∙◌, subst, arith}
 use Rattle.std.proofs.lemmas.List.{length-map, map-append, take_all, take_more}
 use Rattle.std.proofs.lemmas.Option.{same_Some, none-some, slice_get_within, slice_get-get_or}
 use Rattle.lw_pool.specs.declared.id.CellId.{CellId}
@@ -22,10 +22,6 @@ use Rattle.lw_check.specs.Standing.{AreWithin, StandsAlone}
 use Rattle.lw_check.specs.declared.spans.Span.{Span}
 use Rattle.lw_check.proofs.Places.{all_place, from_map, map_at, read_map, some_left, some_right}
 use Rattle.lw_check.proofs.Unknown.{net_known}
-
-pub true_unless : (t : Bool) → (t ≡ false → ⊥) → t ≡ true
-true_unless true not = refl
-true_unless false not = absurd (not refl)
 
 module _ (k : Claim) where
   -- the class of an input's net, and of a gate's

@@ -1,24 +1,21 @@
 -- The names of outputs, side by side.
-use Rattle.std.proofs.Common.{ℕ, ◌<◌, ◌≡◌, Bool, true, false, not, bytes_eq, List, [], length, map, Some, slice_get, slice_index_or, get_or, refl, ap, sym, ◌∙◌, arith}
+use Rattle.std.proofs.Common.{ℕ, ◌<◌, ◌≡◌, Bool, true, false, not, bytes_eq, List, [], length, map, Some, slice_get, slice_index_or, get_or, ap, sym, ◌∙◌, arith}
 use Rattle.std.proofs.lemmas.Bool.Decides.{Decides-not}
 use Rattle.std.proofs.lemmas.Option.{same_Some, slice_get-get_or, get_or_from_slice_get}
 use Rattle.std.proofs.lemmas.Slice.Eq.{bytes_eq-Decides}
+use Rattle.std.proofs.lemmas.Bool.{not-false}
 use Rattle.lw_pool.specs.declared.id.NetId.{NetId}
 use Rattle.lw_mapped.specs.Texts.{port_name}
 use Rattle.lw_net.specs.Networks.{NetworkParts, name_in}
 use Rattle.lw_netlist.specs.declared.gate.Port.{Port}
 use Rattle.lw_check.proofs.Places.{map_at}
 
-not_true : (t : Bool) → not t ≡ false → t ≡ true
-not_true true e = refl
-not_true false e = cc
-
 -- what a test for other bytes tells
 pub differ : (a b : List ℕ) (t : Bool) → t ≡ not (bytes_eq a b) → t ≡ true → a ≡ b → ⊥
 differ a b t is e = (Decides-not (bytes_eq a b) (bytes_eq-Decides a b)).0 (sym is ∙ e)
 
 pub agree : (a b : List ℕ) (t : Bool) → t ≡ not (bytes_eq a b) → t ≡ false → a ≡ b
-agree a b t is e = (bytes_eq-Decides a b).0 (not_true (bytes_eq a b) (sym is ∙ e))
+agree a b t is e = (bytes_eq-Decides a b).0 (not-false (bytes_eq a b) (sym is ∙ e))
 
 module _ (ports : List Port) (net : NetworkParts) (outputs : List NetId) (k : ℕ) where
   port_at : (port : Port) → k < length ports → port ≡ slice_index_or ports k port → slice_get (map port_name ports) k ≡ Some port.name

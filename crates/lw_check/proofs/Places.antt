@@ -47,11 +47,6 @@ pub item_at : {A : Type 0} (xs ys : List A) (j : ℕ) (x : A) → xs ≡ ys → 
 item_at xs ys j x e lt is = subst (λ zs. slice_get zs j ≡ Some x) e (slice_get-get_or xs j x lt ∙ ap Some (sym is))
 
 -- what is read from a list of optional numbers
-pub read_at : {A : Type 0} (xs : List (Option A)) (j : ℕ) (o : Option A) → slice_get xs j ≡ Some o → slice_index_or xs j None ≡ o
-read_at [] j o e = absurd (none-some o e)
-read_at (z ∷ xs) zero o e = same_Some z o e
-read_at (z ∷ xs) (suc j) o e = read_at xs j o e
-
 pub read_map : {A B : Type 0} (f : Option A → Option B) → f None ≡ None → (xs : List (Option A)) (j : ℕ) → slice_index_or (map f xs) j None ≡ f (slice_index_or xs j None)
 read_map f e [] j = sym e
 read_map f e (z ∷ xs) zero = refl

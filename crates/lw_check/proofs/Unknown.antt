@@ -3,6 +3,7 @@ use Rattle.std.proofs.Common.{ℕ, zero, suc, ◌+◌, ◌<◌, ◌≤◌, ◌�
 use Rattle.std.specs.List.{AllByRecursion, filter_map}
 use Rattle.std.proofs.lemmas.Bool.Decides.{nat_tests}
 use Rattle.std.proofs.lemmas.Option.{same_Some, none-some}
+use Rattle.std.proofs.lemmas.Bool.{lt-leb}
 use Rattle.lw_fixed.specs.declared.micro.Micro.{Micro}
 use Rattle.lw_pool.specs.declared.id.ClassId.{ClassId}
 use Rattle.lw_mapped.specs.declared.certificate.Certificate.{Certificate}
@@ -11,14 +12,11 @@ use Rattle.lw_check.specs.Claims.{class_number, class_numbers, labelled_from}
 abbrev numbers_of : List (Option ClassId) → List ℕ
 numbers_of nets = filter_map (option_map class_number) nets
 
-le_false : (n c : ℕ) → c < n → leb n c ≡ false
-le_false n c lt = grind (arith, nat_tests)
-
 module _ (n : ℕ) where
   -- where all are below the number, none is found that is not
   pub none_found : (xs : List ℕ) → AllByRecursion (λ c. c < n) xs → find (nat_le n) xs ≡ None
   none_found [] a = refl
-  none_found (x ∷ xs) (lt, a) = subst (λ t. cond t (Some x) (find (nat_le n) xs) ≡ None) (sym (le_false n x lt)) (none_found xs a)
+  none_found (x ∷ xs) (lt, a) = subst (λ t. cond t (Some x) (find (nat_le n) xs) ≡ None) (sym (lt-leb n x lt)) (none_found xs a)
 
   pub all_below : (xs : List ℕ) → find (nat_le n) xs ≡ None → AllByRecursion (λ c. c < n) xs
   all_below [] e = tt
@@ -118,7 +116,7 @@ module _ (n : ℕ) where
   skipped (Some l ∷ ls) m (suc k) le =
       let e : suc m + k ≡ m + suc k = omega arith in
       let low : m < n = omega arith in
-      subst (λ t. cond t (Some m) (find (nat_le n) (labelled_from (suc m) ls)) ≡ find (nat_le n) (labelled_from (suc m) ls)) (sym (le_false n m low)) refl ∙ (skipped ls (suc m) k (omega arith) ∙ ap (λ i. find (nat_le n) (labelled_from i (drop k ls))) e)
+      subst (λ t. cond t (Some m) (find (nat_le n) (labelled_from (suc m) ls)) ≡ find (nat_le n) (labelled_from (suc m) ls)) (sym (lt-leb n m low)) refl ∙ (skipped ls (suc m) k (omega arith) ∙ ap (λ i. find (nat_le n) (labelled_from i (drop k ls))) e)
 
   -- one more class without a label, and one with a label
   pub labelled_next : (ls : List (Option Micro)) (m k : ℕ) → slice_index_or ls k None ≡ None → labelled_from m (drop k ls) ≡ labelled_from (m + 1) (drop (k + 1) ls)
@@ -154,7 +152,7 @@ module _ (n : ℕ) where
   beyond_next (None ∷ nets) zero o e low = refl
   beyond_next (Some c ∷ nets) zero o e low =
       let lt = low c (sym (same_Some (Some c) o e)) in
-      subst (λ t. cond t (Some c.0) (find (nat_le n) (numbers_of nets)) ≡ find (nat_le n) (numbers_of nets)) (sym (le_false n c.0 lt)) refl
+      subst (λ t. cond t (Some c.0) (find (nat_le n) (numbers_of nets)) ≡ find (nat_le n) (numbers_of nets)) (sym (lt-leb n c.0 lt)) refl
   beyond_next (x ∷ nets) (suc k) o e low =
       let f : suc (k + 1) ≡ suc k + 1 = omega arith in
       beyond_next nets k o e low ∙ ap (λ i. find (nat_le n) (numbers_of (drop i (x ∷ nets)))) f
