@@ -60,6 +60,7 @@ use Rattle.lw_map.proofs.CoverNetlists.{port_name, zip_outputs}
 use Rattle.lw_map.proofs.NetNames.{names_tell, own_names}
 use Rattle.lw_map.proofs.PortNames.{port_list, port_names, few_outputs}
 use Rattle.lw_map.proofs.Traded.{IsBest, StandsFor-cost, best_area, best_values, tree_back}
+use Rattle.lw_map.proofs.Once.{zip_at}
 
 zip_weaker : {X Y : Type 0} (R S : X → Y → Type 0) (xs : List X) (ys : List Y) → ((x : X) (y : Y) → R x y → S x y) → AllZip R xs ys → AllZip S xs ys
 zip_weaker R S [] [] f a = tt
@@ -73,12 +74,6 @@ zip_get R [] (z ∷ ys) k y a e = absurd a
 zip_get R (x ∷ xs) [] k y a e = cc
 zip_get R (x ∷ xs) (z ∷ ys) zero y (r, a) e = let same : z ≡ y = cc in (x, refl, subst (R x) same r)
 zip_get R (x ∷ xs) (z ∷ ys) (suc k) y (r, a) e = zip_get R xs ys k y a e
-
-zip_left : {X Y : Type 0} (R : X → Y → Type 0) (xs : List X) (ys : List Y) (k : ℕ) (x : X) → AllZip R xs ys → slice_get xs k ≡ Some x → (y : Y) × R x y
-zip_left R [] ys k x a e = cc
-zip_left R (z ∷ xs) [] k x a e = absurd a
-zip_left R (z ∷ xs) (y ∷ ys) zero x (r, a) e = let same : z ≡ x = cc in (y, subst (λ w. R w y) same r)
-zip_left R (z ∷ xs) (y ∷ ys) (suc k) x (r, a) e = zip_left R xs ys k x a e
 
 -- an input has no area
 pub leaves_free : (c : Choices) (cells : List CellParts) (pats : List Pattern) (i k : ℕ) → slice_get c.graph.leaves i ≡ Some k → IsLeastCover c.graph pats (area_cost cells) k (Some 0)
@@ -100,7 +95,7 @@ module _ (net : NetworkParts) (starts : List Micro) (c : Choices) (cells : List 
       let (p, e, same) = slice_get_map_back (λ (p : PlainPort). root_class (plain_options c.options).width (network.plain net) c.graph p.net) (map (output_port net) net.outputs) k is.root.0 there in
       let (o, f, port) = slice_get_map_back (output_port net) net.outputs k p e in
       let low : o.0 < length net.names = subst (λ (q : NetId). q.0 < length net.names) (get_or_from_slice_get net.outputs k o o f) (kept.outputs k o (slice_get_in net.outputs k o f)) in
-      let (d, first) = zip_left (λ (output : NetId) (d : ℕ). HasLeastArrival (plain_options c.options).mode (plain_options c.options).width (network.plain net) (library_patterns cells) (timing_of cells starts) output.0 d) net.outputs times k o earliest f in
+      let (d, first) = zip_at (λ (output : NetId) (d : ℕ). HasLeastArrival (plain_options c.options).mode (plain_options c.options).width (network.plain net) (library_patterns cells) (timing_of cells starts) output.0 d) net.outputs times k o earliest f in
       let (by, by_is, tree, time) = first.attained in
       let class : root_class (plain_options c.options).width (network.plain net) c.graph o.0 ≡ is.root.0 = ap (λ (q : PlainPort). root_class (plain_options c.options).width (network.plain net) c.graph q.net) port ∙ same in
       let label : labels marks is.root.0 ≡ None = label_at marks is.root.0 ∙ ap (λ (m : Option Mark). option_map (λ (p : PlainMark). p.cost) (option_map plain_mark m)) is.uncovered in

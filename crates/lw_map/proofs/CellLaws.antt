@@ -1,8 +1,8 @@
 -- What the cells of a library say, in the words of the laws.
-use Rattle.std.proofs.Common.{ℕ, suc, ◌<◌, ◌≡◌, ◌↔◌, List, [], ◌∷◌, map, length, Option, Some, slice_get, Contains, refl, ap, sym, ◌∙◌, subst, arith}
-use Rattle.std.specs.List.{AllByRecursion}
+use Rattle.std.proofs.Common.{ℕ, ◌<◌, ◌≡◌, ◌↔◌, List, [], ◌∷◌, map, length, Option, Some, slice_get, Contains, refl, ap, sym, ◌∙◌, subst, arith}
 use Rattle.std.specs.Prelude.{All}
-use Rattle.std.proofs.lemmas.Option.{get_or_from_slice_get, slice_get_within}
+use Rattle.std.proofs.lemmas.Option.{get_or_from_slice_get, slice_get_within, same_Some}
+use Rattle.std.proofs.lemmas.List.Elements.{recursion_from_All}
 use Rattle.lw_laws.specs.Covers.{HasPins, ArePatterns}
 use Rattle.lw_laws.specs.Networks.{given}
 use Rattle.lw_laws.specs.Cells.{AreCells}
@@ -17,10 +17,6 @@ use Rattle.lw_genlib.specs.Tables.{delays_of_cells, truth_of_cells}
 use Rattle.lw_pattern.specs.Libraries.{forms_of, pin_count, pin_counts, value_of, library_patterns, library_truth}
 use Rattle.lw_label.proofs.CellLaws as label
 
-pub by_place : {X : Type 0} (P : X → Type 0) (xs : List X) → All P xs → AllByRecursion P xs
-by_place P [] a = tt
-by_place P (x ∷ xs) a = (a 0 x (omega arith), by_place P xs (λ k d lt. a (suc k) d (omega arith)))
-
 -- the cell at a place, with its forms and its number of pins
 record IsAt (cells : List CellParts) (cell : ℕ) (forms : List Expr) (n : ℕ) : Type 0 where
   own : CellParts
@@ -32,14 +28,11 @@ record IsAt (cells : List CellParts) (cell : ℕ) (forms : List Expr) (n : ℕ) 
 kept_at : (cells : List CellParts) (cell : ℕ) (own : CellParts) → All IsListed cells → slice_get cells cell ≡ Some own → IsListed own
 kept_at cells cell own all at = subst IsListed (get_or_from_slice_get cells cell own own at) (all cell own (slice_get_within cells cell own at))
 
-some_injective : {A : Type 0} (x y : A) → Some x ≡ Some y → x ≡ y
-some_injective x y e = cc
-
 is_at : (cells : List CellParts) (cell n : ℕ) (forms : List Expr) → IsLibrary cells → slice_get (map forms_of cells) cell ≡ Some forms → HasPins (pin_counts cells) cell n → IsAt cells cell forms n
 is_at cells cell n forms lib e has =
     let (own, at, same) = slice_get_map_back forms_of cells cell forms e in
     let (other, there, pins) = slice_get_map_back pin_count cells cell n has in
-    let one : own ≡ other = some_injective own other (sym at ∙ there) in
+    let one : own ≡ other = same_Some own other (sym at ∙ there) in
     record { own = own; at = at; kept = kept_at cells cell own lib.each at; forms_are = same; pins_are = ap pin_count one ∙ pins }
 
 first_form : (forms : List Expr) → 0 < length forms → Contains forms (first_expr forms)
@@ -51,7 +44,7 @@ are_cells cells lib = record {
   pins = λ cell n k forms e listed c has.
       let a = is_at cells cell n forms lib listed has in
       let own : Contains a.own.forms e = subst (λ fs. Contains fs e) (sym a.forms_are) c in
-      let form : IsForm (pin_count a.own) e = all_contains (IsForm (pin_count a.own)) a.own.forms e (by_place (IsForm (pin_count a.own)) a.own.forms a.kept.kept.forms) own in
+      let form : IsForm (pin_count a.own) e = all_contains (IsForm (pin_count a.own)) a.own.forms e (recursion_from_All (IsForm (pin_count a.own)) a.own.forms a.kept.kept.forms) own in
       subst (λ m. MentionsPin e k ↔ (k < m)) a.pins_are (form.over k);
   truths = λ cell forms e ys listed c has.
       let a = is_at cells cell (length ys) forms lib listed has in

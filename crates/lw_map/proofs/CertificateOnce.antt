@@ -27,6 +27,7 @@ use Rattle.lw_net.specs.Plain as network
 use Rattle.lw_genlib.specs.Cells.{CellParts}
 use Rattle.lw_genlib.specs.Tables.{timing_of}
 use Rattle.lw_pattern.specs.Libraries.{library_patterns}
+use Rattle.lw_match.proofs.Bounding.{same_class}
 use Rattle.lw_label.specs.Delays.{most_time}
 use Rattle.lw_netlist.specs.Netlists.{NetlistParts}
 use Rattle.lw_netlist.specs.Plain as netlist
@@ -96,9 +97,6 @@ same_lists (x ∷ xs) (y ∷ ys) e f = ap₂ (λ z zs. z ∷ zs) (f 0) (same_lis
 micro_back : (x y : Micro) → x.0 ≡ y.0 → x ≡ y
 micro_back x y e = let f : ℕ → Micro = λ n. record { 0 = n } in ap f e
 
-class_back : (x y : ClassId) → x.0 ≡ y.0 → x ≡ y
-class_back x y e = let f : ℕ → ClassId = λ n. record { 0 = n } in ap f e
-
 option_back : {X : Type 0} (f : X → ℕ) → ((x y : X) → f x ≡ f y → x ≡ y) → (o p : Option X) → option_map f o ≡ option_map f p → o ≡ p
 option_back f back None None e = refl
 option_back f back None (Some y) e = cc
@@ -165,7 +163,7 @@ module _ (options : Options) (cells : List CellParts) (net : NetworkParts) (star
       let gates = gate_classes_once g cost pats (labels_in a.labels) a.heights roots b.gates a.gates moved a.gate_classes in
       let label_at : (k : ℕ) → slice_index_or c.labels k None ≡ slice_index_or d.labels k None = λ k. option_back (λ (label : Micro). label.0) micro_back (slice_index_or c.labels k None) (slice_index_or d.labels k None) (a.labels_are k ∙ (ap (λ (ls : Labels). ls k) (sym same) ∙ sym (b.labels_are k))) in
       ap₂ certificate_of (same_lists c.labels d.labels (a.one_each ∙ sym b.one_each) label_at)
-      (options_back (λ (class : ClassId). class.0) class_back c.nets d.nets (a.nets_are ∙ (ap (λ gs. map Some gs) (sym gates) ∙ sym b.nets_are)))
+      (options_back (λ (class : ClassId). class.0) same_class c.nets d.nets (a.nets_are ∙ (ap (λ gs. map Some gs) (sym gates) ∙ sym b.nets_are)))
 
   pub certificate_once : (n m : NetlistParts) (a : IsMappedNetlist options cells net starts n) (b : IsMappedNetlist options cells net starts m) (c d : Certificate) → IsCertificateOf a.is c → IsCertificateOf b.is d → length c.labels ≡ length a.is.graph.pairs → length d.labels ≡ length b.is.graph.pairs → c ≡ d
   certificate_once n m a b c d of_a of_b count also =

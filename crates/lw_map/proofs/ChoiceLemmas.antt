@@ -4,6 +4,7 @@ use Rattle.std.specs.List.{AllByRecursion}
 use Rattle.std.specs.Prelude.{All}
 use Rattle.std.proofs.lemmas.List.{length-map}
 use Rattle.std.proofs.lemmas.Option.{get_or_from_slice_get}
+use Rattle.std.proofs.lemmas.List.Elements.{recursion_from_All}
 use Rattle.lw_pool.specs.declared.id.ClassId.{ClassId}
 use Rattle.lw_pool.specs.declared.id.NetId.{NetId}
 use Rattle.lw_laws.specs.Graphs.{Graph, class_of}
@@ -30,7 +31,6 @@ use Rattle.lw_map.specs.Mapped.{output_port, base_count, splits_count}
 use Rattle.lw_map.specs.Choices.{root_of}
 use Rattle.lw_map.specs.Faults as faults
 use Rattle.lw_map.specs.Faults.{IsChoiceFault}
-use Rattle.lw_map.proofs.CellLaws.{by_place}
 
 -- listed forms are few
 pub few_bases : (options : Options) (net : NetworkParts) (forms : NumberedForms) → AreForms forms → forms ≡ forms_of options.width (network.plain net) → base_count options net ≤ most_bases
@@ -83,4 +83,4 @@ module _ (width : ℕ) (net : NetworkParts) (forms : NumberedForms) (g : Graph) 
 
   -- the classes of the outputs
   pub roots_are : map (root_of forms g) net.outputs ≡ root_classes width (network.plain net) g (map (output_port net) net.outputs)
-  roots_are = roots_in net.outputs (by_place (λ (o : NetId). o.0 < length net.names) net.outputs kept.outputs)
+  roots_are = roots_in net.outputs (recursion_from_All (λ (o : NetId). o.0 < length net.names) net.outputs kept.outputs)

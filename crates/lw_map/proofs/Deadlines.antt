@@ -7,6 +7,7 @@ use Rattle.std.proofs.lemmas.Bool.{cases_lt}
 use Rattle.std.proofs.lemmas.List.{length-map}
 use Rattle.std.proofs.lemmas.Option.{get_or_from_slice_get}
 use Rattle.std.proofs.lemmas.Slice.Zip.{AllZip-long}
+use Rattle.std.proofs.lemmas.List.Elements.{recursion_from_All}
 use Rattle.lw_pool.specs.declared.id.NetId.{NetId}
 use Rattle.lw_pool.specs.declared.id.ClassId.{ClassId}
 use Rattle.lw_fixed.specs.declared.micro.Micro.{Micro}
@@ -34,13 +35,13 @@ use Rattle.lw_map.specs.Mapped.{output_port, ports_of}
 use Rattle.lw_map.specs.Choices.{AreChoices}
 use Rattle.lw_map.specs.Ports.{ArePortsOf}
 use Rattle.lw_map.specs.Trading.{AreEarliest, latest_of, micros, put_off}
-use Rattle.lw_map.proofs.CellLaws.{by_place, delay_patterns}
+use Rattle.lw_map.proofs.CellLaws.{delay_patterns}
 use Rattle.lw_map.proofs.Composed.{ports_fit}
 use Rattle.lw_map.proofs.Traded.{zip_places, tree_back, class_of_net}
 
 -- the greatest of times that are low is low, and none of them is above it
 pub latest_low : (m d : ℕ) (ts : List Micro) → d < m → All (λ (t : Micro). t.0 < m) ts → latest_of d (micros ts) < m
-latest_low m d ts first all = by_list ts (by_place (λ (t : Micro). t.0 < m) ts all)
+latest_low m d ts first all = by_list ts (recursion_from_All (λ (t : Micro). t.0 < m) ts all)
   where
     by_list : (ts : List Micro) → AllByRecursion (λ (t : Micro). t.0 < m) ts → latest_of d (micros ts) < m
     by_list [] a = first

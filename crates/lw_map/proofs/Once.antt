@@ -23,7 +23,7 @@ use Rattle.lw_map.proofs.PlainNetlists.{parts_back}
 use Rattle.lw_map.proofs.Mappings.{mapped_is_mapping}
 
 -- what stands beside an element
-zip_at : {X Y : Type 0} (R : X → Y → Type 0) (xs : List X) (ys : List Y) (k : ℕ) (x : X) → AllZip R xs ys → slice_get xs k ≡ Some x → (y : Y) × R x y
+pub zip_at : {X Y : Type 0} (R : X → Y → Type 0) (xs : List X) (ys : List Y) (k : ℕ) (x : X) → AllZip R xs ys → slice_get xs k ≡ Some x → (y : Y) × R x y
 zip_at R [] ys k x a e = cc
 zip_at R (z ∷ xs) [] k x a e = absurd a
 zip_at R (z ∷ xs) (y ∷ ys) zero x (r, a) e = let same : z ≡ x = cc in (y, subst (λ w. R w y) same r)

@@ -1,16 +1,14 @@
 -- The names of a network's inputs and outputs tell them apart.
-use Rattle.std.proofs.Common.{ℕ, zero, suc, ◌+◌, ◌<◌, ◌≤◌, ◌≡◌, ◌⊎◌, inl, inr, Bool, true, false, ◌||◌, List, [], ◌∷◌, map, take, length, Option, Some, None, Contains, slice_get, slice_index_or, refl, ap, sym, ◌∙◌, subst, arith}
+use Rattle.std.proofs.Common.{ℕ, zero, suc, ◌+◌, ◌<◌, ◌≤◌, ◌≡◌, Bool, true, false, ◌||◌, List, [], ◌∷◌, map, take, length, Option, Some, None, Contains, slice_get, refl, ap, sym, ◌∙◌, subst, arith}
 use Rattle.std.specs.List.{AllByRecursion, IsDistinct}
 use Rattle.std.specs.Prelude.{All}
 use Rattle.std.specs.Cmp.{IsEquivalence}
 use Rattle.std.specs.Set.{is_member}
 use Rattle.std.specs.Str.{bytes_eq}
-use Rattle.std.proofs.lemmas.Bool.{cases_lt}
 use Rattle.std.proofs.lemmas.List.{length-map, length-take-le}
 use Rattle.std.proofs.lemmas.List.Elements.{recursion_from_All}
-use Rattle.std.proofs.lemmas.Map.Keys.{apart_from_distinct}
 use Rattle.std.proofs.lemmas.Map.Made.{is_member-Decides, length-le_from_is_member}
-use Rattle.std.proofs.lemmas.Option.{get_or_from_slice_get, slice_get_within}
+use Rattle.std.proofs.lemmas.Option.{get_or_from_slice_get}
 use Rattle.std.proofs.lemmas.Slice.Eq.{bytes_eq-Decides}
 use Rattle.lw_pool.specs.declared.id.NetId.{NetId}
 use Rattle.lw_laws.specs.Names.{AreDifferent}
@@ -20,26 +18,10 @@ use Rattle.lw_laws.proofs.Lists.{slice_get_in, slice_get_some, all_map}
 use Rattle.lw_laws.proofs.Numbers.{slice_get_map_back}
 use Rattle.lw_net.specs.Networks.{NetworkParts, IsNetwork, name_in, input_names, output_names}
 use Rattle.lw_net.specs.Plain as network
+use Rattle.lw_lut.proofs.ReadNames.{different_of}
 use Rattle.lw_map.specs.Mapped.{output_port, ports_of}
 
 -- Names that differ
-
-apart : (xs : List (List ℕ)) (i j : ℕ) (name : List ℕ) → IsDistinct bytes_eq xs → slice_get xs i ≡ Some name → slice_get xs j ≡ Some name → i < j → ⊥
-apart xs i j name differ e f lt =
-    let off = apart_from_distinct bytes_eq xs i j name differ lt (slice_get_within xs j name f) in
-    let on : bytes_eq name name ≡ true = (bytes_eq-Decides name name).1 refl in
-    let left = get_or_from_slice_get xs i name name e in
-    let right = get_or_from_slice_get xs j name name f in
-    let same : bytes_eq name name ≡ false = subst (λ (y : List ℕ). bytes_eq name y ≡ false) right (subst (λ (x : List ℕ). bytes_eq x (slice_index_or xs j name) ≡ false) left off) in
-    cc
-
-different : (xs : List (List ℕ)) → IsDistinct bytes_eq xs → AreDifferent xs
-different xs differ i j name e f = by_order (cases_lt i j) (cases_lt j i)
-  where
-    by_order : (i < j) ⊎ (j ≤ i) → (j < i) ⊎ (i ≤ j) → i ≡ j
-    by_order (inl lt) other = absurd (apart xs i j name differ e f lt)
-    by_order (inr ge) (inl lt) = absurd (apart xs j i name differ f e lt)
-    by_order (inr ge) (inr le) = omega arith
 
 bytes_laws : IsEquivalence bytes_eq
 bytes_laws = record { refl = λ x. (bytes_eq-Decides x x).1 refl; symm = λ x y. either x y (bytes_eq x y) (bytes_eq y x) refl refl; congr = λ x y z e. ap (λ (w : List ℕ). bytes_eq w z) ((bytes_eq-Decides x y).0 e) }
@@ -73,7 +55,7 @@ module _ (net : NetworkParts) (kept : IsNetwork net) where
       let (o, f, same) = slice_get_map_back (output_port net) net.outputs k p at in
       let net_is : o.0 ≡ p.net = ap (λ (q : PlainPort). q.net) same in
       let name_is : name_in net o ≡ p.name = ap (λ (q : PlainPort). q.name) same in
-      sym net_is ∙ different net.names differ o.0 i p.name (name_at o (in_range k o f) ∙ ap Some name_is) (take-back net.inputs net.names i p.name e)
+      sym net_is ∙ different_of net.names differ o.0 i p.name (name_at o (in_range k o f) ∙ ap Some name_is) (take-back net.inputs net.names i p.name e)
 
   pub port_list : (outputs : List NetId) → map (λ (p : PlainPort). p.name) (map (output_port net) outputs) ≡ map (name_in net) outputs
   port_list [] = refl
@@ -87,8 +69,8 @@ module _ (net : NetworkParts) (kept : IsNetwork net) where
   pub port_names : IsDistinct bytes_eq net.names → IsDistinct bytes_eq (input_names net) → IsDistinct bytes_eq (output_names net) → ArePortNames (network.plain net) (ports_of net)
   port_names differ inputs outputs = record {
     one_each = let n = kept.named in length-take-le net.inputs net.names (omega arith);
-    inputs_differ = different (input_names net) inputs;
-    outputs_differ = subst AreDifferent (sym (port_list net.outputs)) (different (output_names net) outputs);
+    inputs_differ = different_of (input_names net) inputs;
+    outputs_differ = subst AreDifferent (sym (port_list net.outputs)) (different_of (output_names net) outputs);
     tied = tied differ;
   }
 

@@ -39,7 +39,7 @@ pairs_bound next (c ∷ cs) = by_test (c == 2 * next) (λ k. pairs_bound k cs) w
   by_test false rest = let p = rest next in omega arith
 
 -- each class in the list is one of the pairs
-numbered_low : (next : ℕ) (cs : List ℕ) (i c : ℕ) → AreNumberedFrom next cs → slice_get cs i ≡ Some c → c / 2 < pair_count next cs
+pub numbered_low : (next : ℕ) (cs : List ℕ) (i c : ℕ) → AreNumberedFrom next cs → slice_get cs i ≡ Some c → c / 2 < pair_count next cs
 numbered_low next [] i c are e = cc
 numbered_low next (d ∷ cs) i c (inl (first, are)) e = by_test (d == 2 * next) (λ k. pairs_rise k cs) (eq-eqb d (2 * next) first) (λ j f. numbered_low (suc next) cs j c are f) i e
   where
@@ -53,12 +53,6 @@ numbered_low next (d ∷ cs) i c (inr (low, are)) e = by_test (d == 2 * next) re
     by_test true is rises rest i e = let same = eqb-true d (2 * next) is in absurd (omega arith)
     by_test false is rises rest zero e = let r = rises next in let same : d ≡ c = cc in omega arith
     by_test false is rises rest (suc i) e = rest i e
-
-low_of_half : (c m : ℕ) → c / 2 < m → c < 2 * m
-low_of_half c m lt = omega arith
-
-half_of_low : (c m : ℕ) → c < 2 * m → c / 2 < m
-half_of_low c m lt = omega arith
 
 choice_low : (t : Bool) (c m : ℕ) → c / 2 < m → (if t then c else flip c) / 2 < m
 choice_low true c m lt = lt
