@@ -1,5 +1,5 @@
 -- The graph of a network's forms is what each graph is: its classes stand in pairs, and all that it names is one of them.
-use Rattle.std.proofs.Common.{ℕ, zero, suc, ◌*◌, ◌^◌, ◌/◌, ◌%◌, ◌==◌, ◌<◌, ◌≤◌, ◌≡◌, inl, inr, Bool, true, false, if◌then◌else◌, List, [], ◌∷◌, length, Some, All, Contains, slice_get, slice_index, slice_index_or, refl, sym, subst, arith, eq-eqb, eqb-true}
+use Rattle.std.proofs.Common.{ℕ, zero, suc, ◌^◌, ◌/◌, ◌%◌, ◌==◌, ◌<◌, ◌≤◌, ◌≡◌, inl, Bool, true, false, if◌then◌else◌, List, [], ◌∷◌, length, Some, All, Contains, slice_get, slice_index, slice_index_or, refl, sym, subst, arith}
 use Rattle.std.proofs.lemmas.List.{get_or_default}
 use Rattle.std.proofs.lemmas.List.Elements.{Contains-get_or}
 use Rattle.std.proofs.lemmas.Option.{get_or_from_slice_get}
@@ -9,38 +9,13 @@ use Rattle.lw_laws.specs.Trees.{leaf, const_one}
 use Rattle.lw_laws.specs.Networks.{Network}
 use Rattle.lw_laws.specs.Decompositions.{listing_of}
 use Rattle.lw_laws.specs.Numbering.{number}
-use Rattle.lw_laws.specs.Graphs.{Graph, Pair, class_of, AreNumberedFrom, pair_count}
+use Rattle.lw_laws.specs.Graphs.{Graph, Pair, class_of, pair_count}
 use Rattle.lw_laws.specs.Classes.{IsGraphOf}
 use Rattle.lw_laws.proofs.Flips.{half-flip}
 use Rattle.lw_laws.proofs.Lists.{slice_get_some}
 use Rattle.lw_laws.proofs.GraphEncodes.{graph_pairs_once}
 use Rattle.lw_graph.specs.Graphs.{IsBelow, IsGraph}
-use Rattle.lw_map.proofs.Ranges.{unfolds_low}
-
--- each class in a list of numbered classes is one of the pairs
-
-pairs_rise : (next : ℕ) (cs : List ℕ) → next ≤ pair_count next cs
-pairs_rise next [] = omega arith
-pairs_rise next (c ∷ cs) = by_test (c == 2 * next) (λ k. pairs_rise k cs)
-  where
-    by_test : (t : Bool) → ((k : ℕ) → k ≤ pair_count k cs) → next ≤ pair_count (if t then suc next else next) cs
-    by_test true rest = let p = rest (suc next) in omega arith
-    by_test false rest = rest next
-
-numbered_low : (next : ℕ) (cs : List ℕ) (i c : ℕ) → AreNumberedFrom next cs → slice_get cs i ≡ Some c → c / 2 < pair_count next cs
-numbered_low next [] i c are e = cc
-numbered_low next (d ∷ cs) i c (inl (first, are)) e = by_test (d == 2 * next) (λ k. pairs_rise k cs) (eq-eqb d (2 * next) first) (λ j f. numbered_low (suc next) cs j c are f) i e
-  where
-    by_test : (t : Bool) → ((k : ℕ) → k ≤ pair_count k cs) → t ≡ true → ((j : ℕ) → slice_get cs j ≡ Some c → c / 2 < pair_count (suc next) cs) → (i : ℕ) → slice_get (d ∷ cs) i ≡ Some c → c / 2 < pair_count (if t then suc next else next) cs
-    by_test false rises is rest i e = cc
-    by_test true rises is rest zero e = let r = rises (suc next) in let same : d ≡ c = cc in omega arith
-    by_test true rises is rest (suc i) e = rest i e
-numbered_low next (d ∷ cs) i c (inr (low, are)) e = by_test (d == 2 * next) refl (λ k. pairs_rise k cs) (λ j f. numbered_low next cs j c are f) i e
-  where
-    by_test : (t : Bool) → (d == 2 * next) ≡ t → ((k : ℕ) → k ≤ pair_count k cs) → ((j : ℕ) → slice_get cs j ≡ Some c → c / 2 < pair_count next cs) → (i : ℕ) → slice_get (d ∷ cs) i ≡ Some c → c / 2 < pair_count (if t then suc next else next) cs
-    by_test true is rises rest i e = let same = eqb-true d (2 * next) is in absurd (omega arith)
-    by_test false is rises rest zero e = let r = rises next in let same : d ≡ c = cc in omega arith
-    by_test false is rises rest (suc i) e = rest i e
+use Rattle.lw_map.proofs.Ranges.{unfolds_low, numbered_low}
 
 module _ (mode : Mode) (width : ℕ) (net : Network) (g : Graph) (wide : 2 ≤ width) (is : IsGraphOf mode net.inputs (listing_of width net) g) where
   one_low : g.one < length g.pairs

@@ -1,7 +1,7 @@
 -- What steps that read no file answer.
-use Rattle.std.proofs.Common.{ℕ, ◌≤◌, ◌≡◌, Bool, true, false, List, [], ◌∷◌, length, map, Option, Some, None, Ok, Err, refl, ap, sym, ◌∙◌, subst, subst₂, arith}
-use Rattle.std.specs.List.{AllZip}
+use Rattle.std.proofs.Common.{ℕ, ◌≤◌, ◌≡◌, Bool, true, false, List, length, map, Option, Some, None, Ok, Err, ap, sym, ◌∙◌, subst, subst₂, arith}
 use Rattle.std.proofs.lemmas.List.{length-map, length-take-le}
+use Rattle.std.proofs.lemmas.Slice.Zip.{AllZip-long}
 use Rattle.lw_fixed.specs.declared.micro.Micro.{Micro}
 use Rattle.lw_net.specs.Networks.{NetworkParts, IsNetwork, name_in}
 use Rattle.lw_genlib.specs.Cells.{CellParts}
@@ -60,12 +60,6 @@ module _ (step : Step (List ℕ)) (options : Options) (net : NetworkParts) where
   cover_refused cells starts c same lacks map_fault.Points is = absurd is
   cover_refused cells starts c same lacks map_fault.Memory is = tt
 
-zip_length : {X Y : Type 0} (R : X → Y → Type 0) (xs : List X) (ys : List Y) → AllZip R xs ys → length xs ≡ length ys
-zip_length R [] [] a = refl
-zip_length R [] (y ∷ ys) a = absurd a
-zip_length R (x ∷ xs) [] a = absurd a
-zip_length R (x ∷ xs) (y ∷ ys) (r, a) = let ih = zip_length R xs ys a in omega arith
-
 module _ (cells : List CellParts) (model : Parsed) (c : Choices) (m : Mapping) (kept : IsNetwork model.network) (fits : IsModel model) (are : AreChoices model.network c) (is : IsMappingOf Rounds cells model.network model.starts c m) where
   -- the frame and the starts fit the netlist
   framed : IsFramed m.netlist model.frame model.starts
@@ -77,7 +71,7 @@ module _ (cells : List CellParts) (model : Parsed) (c : Choices) (m : Mapping) (
       let starts = fits.starts.one_each in
       let n = kept.named in
       let names = length-take-le model.network.inputs model.network.names (omega arith) in
-      let zipped = zip_length _ (map (output_port model.network) model.network.outputs) (map plain_port m.netlist.outputs) is.mapped.is.outputs in
+      let zipped = AllZip-long _ (map (output_port model.network) model.network.outputs) (map plain_port m.netlist.outputs) is.mapped.is.outputs in
       let a = length-map model.network.outputs (output_port model.network) in
       let b = length-map m.netlist.outputs plain_port in
       let d = length-map model.network.outputs (name_in model.network) in

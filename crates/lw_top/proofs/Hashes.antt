@@ -4,7 +4,7 @@ use Rattle.std.specs.List.{AllByRecursion, slice_split, onto_first}
 use Rattle.std.proofs.lemmas.Bool.{eqb-false}
 use Rattle.std.proofs.lemmas.List.Elements.{All-from_recursion, All-map, All-filter, All-take}
 use Rattle.lw_words.specs.Gathering.{IsNoHash}
-use Rattle.lw_words.specs.Lines.{Text, is_blank, has_some, before_hash, before_trimmed, trimmed, is_continued, with_blank, continued_by, text_before, text_of, texts_from, words_of, line_of, has_words, lines_of, physical_lines, logical_lines, finished_lines}
+use Rattle.lw_words.specs.Lines.{Text, is_blank, has_some, before_hash, before_trimmed, trimmed, is_continued, with_blank, continued_by, text_before, text_of, texts_from, words_of, line_of, has_words, lines_of, physical_lines, logical_lines}
 use Rattle.lw_genlib.specs.Standing.{HasNoHash}
 
 -- the bytes hold no `#`
@@ -102,7 +102,3 @@ lines-plain texts h =
 pub logical-plain : (bytes : List ℕ) → All HasNoHash (logical_lines false bytes)
 unfolding logical_lines
 logical-plain bytes = lines-plain (texts_from true false true 1 (physical_lines true bytes)) (texts-plain true true 1 (physical_lines true bytes))
-
-pub finished-plain : (bytes : List ℕ) → All HasNoHash (finished_lines false bytes)
-unfolding finished_lines
-finished-plain bytes = lines-plain (texts_from false false true 1 (physical_lines false bytes)) (texts-plain false true 1 (physical_lines false bytes))

@@ -5,6 +5,7 @@ use Rattle.std.specs.List.{AllZip, AllByRecursion as Each}
 use Rattle.std.proofs.lemmas.List.{length-map, length-take-le, get_or_default}
 use Rattle.std.proofs.lemmas.List.Elements.{All-nil, All-cons}
 use Rattle.std.proofs.lemmas.Option.{get_or_from_slice_get, slice_get_within}
+use Rattle.std.proofs.lemmas.Slice.Zip.{AllZip-long}
 use Rattle.lw_fixed.specs.declared.micro.Micro.{Micro}
 use Rattle.lw_pool.specs.declared.id.ClassId.{ClassId}
 use Rattle.lw_pool.specs.declared.id.NetId.{NetId}
@@ -68,12 +69,6 @@ use Rattle.lw_top.proofs.SignalNames.{IsNamed}
 use Rattle.lw_top.proofs.Sound.{AreKept}
 
 -- Lists beside each other.
-
-zip_length : {A B : Type 0} (R : A → B → Type 0) (xs : List A) (ys : List B) → AllZip R xs ys → length xs ≡ length ys
-zip_length R [] [] z = refl
-zip_length R [] (y ∷ ys) z = absurd z
-zip_length R (x ∷ xs) [] z = absurd z
-zip_length R (x ∷ xs) (y ∷ ys) z = ap suc (zip_length R xs ys z.1)
 
 -- the names of outputs side by side
 names_beside : (R : PlainPort → PlainPort → Type 0) (net : NetworkParts) (outputs : List NetId) (ports : List Port) → AllZip (λ p q. (p.name ≡ q.name) × R p q) (map (output_port net) outputs) (map plain_port ports) → map port_name ports ≡ map (name_in net) outputs
@@ -179,13 +174,13 @@ module _ (options : Options) (cells : List CellParts) (model : Parsed) (wide : I
           let (delays, delays_at, one_delay) = slice_get_map_back length (delays_of_cells cells) p.cell (length m.pins) chosen.supports.matches.pins in
           let (cell, cell_at, same) = slice_get_map_back cell_delays cells p.cell delays delays_at in
           let listed : IsListed cell = subst IsListed (get_or_from_slice_get cells p.cell cell cell cell_at) (lib.each p.cell cell (slice_get_within cells p.cell cell cell_at)) in
-          let nets_of_match = zip_length _ m.pins (netlist.plain_gate gate).pins nets in
+          let nets_of_match = AllZip-long _ m.pins (netlist.plain_gate gate).pins nets in
           let nets_of_gate = length-map gate.pins netlist.net_number in
           let delays_of_cell : length cell.delays ≡ length delays = sym (length-map cell.delays millionths) ∙ ap length same in
           record {
             cell = cell;
             at = ap (slice_get cells) cell_is ∙ cell_at;
-            pins = sym nets_of_gate ∙ (sym nets_of_match ∙ (sym one_delay ∙ (sym delays_of_cell ∙ listed.kept.delays)));
+            pins = sym nets_of_gate ∙ (nets_of_match ∙ (sym one_delay ∙ (sym delays_of_cell ∙ listed.kept.delays)));
           }
 
   by_depth : AreByDepth (netlist.plain n)

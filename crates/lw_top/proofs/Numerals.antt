@@ -1,9 +1,9 @@
 -- Numerals that are parsed.
-use Rattle.std.proofs.Common.{ℕ, ◌<◌, ◌^◌, ◌≡◌, Bool, true, false, ◌&&◌, nat_le, nat_lt, List, length, Some, None, Ok, Err, refl, ap, rules}
+use Rattle.std.proofs.Common.{ℕ, ◌<◌, ◌^◌, ◌≡◌, Bool, true, false, nat_le, nat_lt, List, length, Some, None, Ok, Err, refl, ap, rules}
 use Rattle.std.specs.List.{list_all}
 use Rattle.std.specs.Char.{is_ascii_digit}
 use Rattle.std.specs.Str.Parse.{digits_value, ParsesUnsigned}
-use Rattle.std.proofs.lemmas.Bool.{leb-true, ltb-true, lt-ltb}
+use Rattle.std.proofs.lemmas.Bool.{leb-true, ltb-true, lt-ltb, and_parts}
 use Rattle.std.proofs.lemmas.Str.Parse.{IsDigitsTest, IsNumeralModel, numerals_by_value, parse_digits}
 use Rattle.lw_top.specs.Words.{is_numeral, number_of}
 
@@ -15,11 +15,6 @@ digits_test = search rules
 
 own : IsNumeralModel AreDigits (digits_value 10)
 own = numerals_by_value AreDigits digits_test
-
-and_parts : (a b : Bool) → (a && b) ≡ true → (a ≡ true) × (b ≡ true)
-and_parts true true e = (refl, refl)
-and_parts true false e = cc
-and_parts false b e = cc
 
 -- a numeral that is parsed, and one that is too large
 pub parsed : (word : List ℕ) (n : ℕ) → ParsesUnsigned {E = Unit {0}} 64 10 word (Ok n) → is_numeral word ≡ true → Some n ≡ number_of word

@@ -1,8 +1,7 @@
 -- What a network and cells come to by a deadline: an answer with a text, and that there is one refusal at most.
-use Rattle.std.proofs.Common.{◌≡◌, ◌⊎◌, inl, inr, ℕ, zero, suc, List, [], ◌∷◌, Option, Some, None, Result, Ok, Err, map, length, refl, ap, sym, ◌∙◌, subst, arith}
-use Rattle.std.specs.List.{AllZip}
-use Rattle.std.specs.Prelude.{slice_get}
+use Rattle.std.proofs.Common.{◌≡◌, ◌⊎◌, inl, inr, ℕ, List, Option, Some, None, Result, Ok, Err, map, refl, sym, ◌∙◌, subst, arith}
 use Rattle.std.proofs.lemmas.List.{length-map, length-take-le}
+use Rattle.std.proofs.lemmas.Slice.Zip.{AllZip-long}
 use Rattle.lw_fixed.specs.declared.micro.Micro.{Micro}
 use Rattle.lw_pool.specs.declared.id.NetId.{NetId}
 use Rattle.lw_net.specs.Networks.{NetworkParts, IsNetwork, name_in}
@@ -23,6 +22,7 @@ use Rattle.lw_map.specs.Mapped.{output_port, plain_port, IsWithinLimits, LacksCo
 use Rattle.lw_map.specs.Choices.{AreChoices}
 use Rattle.lw_map.specs.Faults.{IsTradeFault}
 use Rattle.lw_map.specs.Trading.{IsTradeable, IsTradedNetlist, HasTooManyPoints, HasFewPoints, AreEarliest}
+use Rattle.lw_map.proofs.Once.{zip_at}
 use Rattle.lw_top.specs.declared.answer.Answer.TheVariants as answer
 use Rattle.lw_top.specs.declared.refusal.Refusal.{Refusal}
 use Rattle.lw_top.specs.declared.refusal.Refusal.TheVariants.{Points}
@@ -33,19 +33,6 @@ use Rattle.lw_top.specs.Answered.{Gives}
 use Rattle.lw_top.specs.Answers.{AreAlike}
 use Rattle.lw_top.specs.Trades.{LacksPoints, LacksTrade, Trades}
 use Rattle.lw_top.proofs.MapAnswers.{by_lack, lack_one, within_lacks}
-
--- what stands beside an element
-zip_at : {X Y : Type 0} (R : X → Y → Type 0) (xs : List X) (ys : List Y) (k : ℕ) (x : X) → AllZip R xs ys → slice_get xs k ≡ Some x → (y : Y) × R x y
-zip_at R [] ys k x a e = cc
-zip_at R (z ∷ xs) [] k x a e = absurd a
-zip_at R (z ∷ xs) (y ∷ ys) zero x (r, a) e = let same : z ≡ x = cc in (y, subst (λ w. R w y) same r)
-zip_at R (z ∷ xs) (y ∷ ys) (suc k) x (r, a) e = zip_at R xs ys k x a e
-
-zip_length : {X Y : Type 0} (R : X → Y → Type 0) (xs : List X) (ys : List Y) → AllZip R xs ys → length xs ≡ length ys
-zip_length R [] [] a = refl
-zip_length R [] (y ∷ ys) a = absurd a
-zip_length R (x ∷ xs) [] a = absurd a
-zip_length R (x ∷ xs) (y ∷ ys) (r, a) = ap suc (zip_length R xs ys a)
 
 module _ (options : Options) (cells : List CellParts) (net : NetworkParts) (starts : List Micro) (wide : IsWide options) where
   -- where each output has a least time, none lacks a cover
@@ -122,7 +109,7 @@ framed options cells model deadline n kept fits is =
     let own = fits.frame.own_inputs in
     let roots = fits.frame.own_outputs in
     let starts = fits.starts.one_each in
-    let zipped = zip_length _ (map (output_port model.network) model.network.outputs) (map plain_port n.outputs) is.outputs_named in
+    let zipped = AllZip-long _ (map (output_port model.network) model.network.outputs) (map plain_port n.outputs) is.outputs_named in
     let a = length-map model.network.outputs (output_port model.network) in
     let b = length-map n.outputs plain_port in
     let d = length-map model.network.outputs (name_in model.network) in

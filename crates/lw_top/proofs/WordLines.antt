@@ -5,6 +5,7 @@ use Rattle.std.proofs.lemmas.List.{length-take}
 use Rattle.std.proofs.lemmas.List.Elements.{All-from_recursion}
 use Rattle.lw_words.specs.Lines.{LogicalLine, Text, is_blank, is_line_feed, has_some, lines_among, physical_lines, before_hash, before_trimmed, trimmed, is_continued, with_blank, continued_by, text_before, text_of, texts_from, line_of, has_words, lines_of, logical_lines}
 use Rattle.lw_genlib.specs.Cells.{IsWord, is_word_byte}
+use Rattle.lw_mapped.proofs.TextWords.{any-bytes}
 use Rattle.lw_top.specs.Answers.{lines_in}
 
 -- no line feed, and no `#`
@@ -30,10 +31,6 @@ split-parts p Q (b ∷ bytes) h = by (p b) refl (slice_split p bytes) (split-par
     by true e parts all = (tt, all)
     by false e [] all = (((e, h.0), tt), tt)
     by false e (part ∷ parts) all = (((e, h.0), all.0), all.1)
-
-any-bytes : (bytes : List ℕ) → AllByRecursion (λ b. Unit {0}) bytes
-any-bytes [] = tt
-any-bytes (b ∷ bytes) = (tt, any-bytes bytes)
 
 among : (ends : Bool) (parts : List (List ℕ)) → AllByRecursion IsLine parts → AllByRecursion IsLine (lines_among ends parts)
 among ends [] all = tt
