@@ -18,10 +18,10 @@ use lw_pool::{ClassId, PatId};
 use std::alloc::{AllocError, Global};
 use std::marker::Model;
 
-/// The most numbers that a table has.
+/// The most numbers that a table would have with a row for each class.
 const MOST_NUMBERS: u32 = 67108864;
 
-// How many parts have numbers at so many classes.
+// How many parts have numbers, given how many classes there are.
 fn room_for(classes: u32) -> u32
     requires { 0 < classes }
     ensures room { result * classes ≤ 67108864 }
@@ -30,9 +30,9 @@ fn room_for(classes: u32) -> u32
     MOST_NUMBERS / classes
 }
 
-/// Numbers of the parts of patterns at the classes of a graph: what a pin costs at least, with its
-/// gap, where a part stands there. Where it stands nowhere, or by pins without marks alone, the
-/// number is `u64::MAX`.
+/// Numbers of the parts of patterns at the classes of a graph: what a pin costs at least, with what
+/// its gap is above the part's shift, where a part stands there. Where it stands nowhere, or by pins
+/// without marks alone, the number is `u64::MAX`; a class without pairs has no numbers.
 #[derive(Drop)]
 pub struct Bounds {
     parts: IndexSet<Part>,

@@ -9,7 +9,8 @@ use lw_graph::Graph;
 use lw_pool::PatId;
 
 /// What searches are cut by: the side that each node of each pattern is and that its root is, the
-/// numbers of the parts by rows, and the gaps of the pins of each pattern. With no sides no search is cut.
+/// numbers of the parts by rows, and the gaps of the pins of each pattern. With no sides no search
+/// is cut.
 #[derive(Clone, Copy)]
 pub struct Cuts<'a> {
     pub sides: &'a [Vec<Side>],

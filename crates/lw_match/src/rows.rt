@@ -39,21 +39,12 @@ pub(crate) fn view_number(view: View, side: Side) -> u64
             row_number(row, part, shift)
         }
         Kind::Leaf(shift) => {
-            shifted(
-                if side.flipped {
-                    view.leaves[1]
-                } else {
-                    view.leaves[0]
-                },
-                shift,
-            )
+            let place = if side.flipped { 1 } else { 0 };
+            shifted(view.leaves[place], shift)
         }
         Kind::One => {
-            if side.flipped {
-                view.leaves[3]
-            } else {
-                view.leaves[2]
-            }
+            let place = if side.flipped { 3 } else { 2 };
+            view.leaves[place]
         }
         Kind::Any => view.leaves[4],
     }
