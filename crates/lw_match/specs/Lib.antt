@@ -7,6 +7,7 @@ pub mod Least
 pub mod Matching
 pub mod Numbers
 pub mod Places
+pub mod Queries
 pub mod Searching
 pub mod Seeking
 pub mod Shapes

@@ -1,11 +1,18 @@
-use Rattle.std.proofs.Common.{sym, subst}
+use Rattle.std.proofs.Common.{rules, sym, subst}
 use Rattle.lw_match.specs.Cutting.{CutsState, CutsFit, AreCutsOf}
 use Rattle.lw_match.proofs.CutsOfBounds.{bounds_cut, bounds_cut_well}
 use Rattle.lw_match.proofs.bettering.better_within.Goals as goal
 
-pub better-requires-clause-cuts : goal.better-requires-clause-cuts
-better-requires-clause-cuts g c =
-    subst (λ (cuts : CutsState). CutsFit cuts c.args.graph.now) (sym c.cuts-cuts.ensures) (bounds_cut c.args.bounds.now c.args.pats.now c.args.graph.now c.requires.fit)
+pub better-requires-clause-query : goal.better-requires-clause-query
+better-requires-clause-query g c = record {
+  graph = search rules;
+  class = c.requires.class;
+  one_each = c.requires.one_each;
+  in_range = c.requires.in_range;
+  of_cells = c.requires.of_cells;
+  cuts = subst (λ (cuts : CutsState). CutsFit cuts c.args.graph.now) (sym c.cuts-cuts.ensures) (bounds_cut c.args.bounds.now c.args.pats.now c.args.graph.now c.requires.fit);
+  floor = c.requires.floor;
+}
 
 pub returns-clause-none : goal.returns-clause-none
 returns-clause-none g c =
