@@ -13,7 +13,7 @@ use lw_pool::PatId;
 use std::marker::Model;
 
 /// How many numbers are remembered at most.
-const PLACES: usize = 1024;
+const PLACES: usize = 4096;
 
 /// Whether a pattern has the cell and the gaps of the one before it, as the patterns of a cell have,
 /// which stand together.
@@ -47,7 +47,7 @@ fn are_certified<C: Cost>(pats: &Patterns, cost: &C, gaps: &[[u64; 16]], top: u6
 
 /// The place of a number: numbers that lie close together have different ones.
 fn place_of(top: u64) -> usize
-    ensures { result < 1024 }
+    ensures { result < 4096 }
 {
     (top.wrapping_mul(0x9e37_79b9_7f4a_7c15) >> 32) as usize % PLACES
 }
@@ -56,7 +56,7 @@ fn place_of(top: u64) -> usize
 /// belong there.
 #[derive(Drop)]
 pub struct Tops {
-    tops: [u64; 1024],
+    tops: [u64; 4096],
 }
 
 impl Model for Tops {
@@ -66,7 +66,7 @@ impl Model for Tops {
 
     ghost view = { λ t. t.tops };
 
-    ghost invariant = { λ t. length t.tops ≡ 1024 };
+    ghost invariant = { λ t. length t.tops ≡ 4096 };
 }
 
 impl Tops {
@@ -76,7 +76,7 @@ impl Tops {
             AreKnown cost pats gaps result }
     {
         Tops {
-            tops: [u64::MAX; 1024],
+            tops: [u64::MAX; 4096],
         }
     }
 
