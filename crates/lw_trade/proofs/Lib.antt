@@ -16,6 +16,7 @@ pub mod InRange
 pub mod Inputs
 pub mod Joint
 pub mod Lasting
+pub mod Laning
 pub mod Linking
 pub mod Listing
 pub mod Lists
@@ -26,6 +27,7 @@ pub mod Placed
 pub mod Places
 pub mod Prices
 pub mod Queueing
+pub mod SeenPoints
 pub mod Ranges
 pub mod Standing
 pub mod Starts

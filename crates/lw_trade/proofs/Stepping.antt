@@ -14,7 +14,7 @@ use Rattle.lw_trade.specs.Points.{Task, timing}
 use Rattle.lw_trade.specs.Choices.{Part, Choice, AreChoices, MayStand, HasPinAt, delay_at}
 use Rattle.lw_trade.specs.Choices.Part.{input, gate}
 use Rattle.lw_trade.specs.Queues.{Item, IsTaken}
-use Rattle.lw_trade.specs.Settling.{Spot, spot, Has, HasAtMost, IsSpotOf, times, areas, Gives, IsBest, joint, time_in, area_in, joint_cost, IsReached, Queued, Waits, Turns, turns, Comes, IsSettling, IsStill, IsGained, IsGaining, GivesNoMore, IsGroupLookedAt, AreSettled}
+use Rattle.lw_trade.specs.Settling.{Spot, spot, Has, HasAtMost, IsSpotOf, times, areas, Gives, IsBest, joint, time_in, area_in, joint_cost, IsReached, Queued, Waits, Turns, turns, Comes, IsSettling, IsStill, IsGained, IsGaining, GivesNoMore, GivesNoMoreSeen, IsGroupLookedAt, AreSettled}
 use Rattle.lw_trade.proofs.Joint.{joint_time, joint_area}
 use Rattle.lw_trade.proofs.Lists.{below_or}
 
@@ -79,7 +79,12 @@ module _ (s : Task) (spots : List Spot) (all : (k : Spot) → Has spots k → Is
 
 -- Where nothing that comes is lost but what gives no more than what is had.
 
-module _ (s : Task) (choices : List Choice) (now horizon : ℕ) (spots had : List Spot) (comes comes' : ℕ → ℕ → Type 0) (still : IsStill s choices now horizon spots comes) (left : (t m : ℕ) → comes t m → comes' t m ⊎ ((t ≡ now) × ((y : Choice) (a : ℕ) → slice_get choices m ≡ Some y → Gives s spots y.part now a → HasAtMost had y.class now a))) where
+-- it gives no more than what is had, or comes still
+abbrev IsHadOr : Task → List Choice → ℕ → List Spot → List Spot → (ℕ → ℕ → Type 0) → ℕ → Type 0
+IsHadOr s choices now spots had comes m =
+    (y : Choice) (a : ℕ) → slice_get choices m ≡ Some y → Gives s spots y.part now a → HasAtMost had y.class now a ⊎ comes now m
+
+module _ (s : Task) (choices : List Choice) (now horizon : ℕ) (spots had : List Spot) (comes comes' : ℕ → ℕ → Type 0) (still : IsStill s choices now horizon spots comes) (left : (t m : ℕ) → comes t m → comes' t m ⊎ ((t ≡ now) × IsHadOr s choices now spots had comes' m)) where
   pub settling_on : ((k : Spot) → Has had k → IsReached s k) → ((k : Spot) → Has had k → k.time ≤ now) → ((c t a : ℕ) → HasAtMost spots c t a → HasAtMost had c t a) → IsSettling s choices now horizon spots had comes'
   settling_on reached low kept = record {
     reached = reached;
@@ -100,9 +105,13 @@ module _ (s : Task) (choices : List Choice) (now horizon : ℕ) (spots had : Lis
       give m t a y yt gives (inl h) = inl (kept y.class t a h)
       give m t a y yt gives (inr w) = by_case (left t m w)
         where
-          by_case : comes' t m ⊎ ((t ≡ now) × ((z : Choice) (b : ℕ) → slice_get choices m ≡ Some z → Gives s spots z.part now b → HasAtMost had z.class now b)) → HasAtMost had y.class t a ⊎ comes' t m
+          at_time : t ≡ now → HasAtMost had y.class now a ⊎ comes' now m → HasAtMost had y.class t a ⊎ comes' t m
+          at_time e (inl h) = inl (subst (λ u. HasAtMost had y.class u a) (sym e) h)
+          at_time e (inr v) = inr (subst (λ u. comes' u m) (sym e) v)
+
+          by_case : comes' t m ⊎ ((t ≡ now) × IsHadOr s choices now spots had comes' m) → HasAtMost had y.class t a ⊎ comes' t m
           by_case (inl v) = inr v
-          by_case (inr (e, f)) = inl (subst (λ u. HasAtMost had y.class u a) (sym e) (f y a yt (subst (λ u. Gives s spots y.part u a) e gives)))
+          by_case (inr (e, f)) = at_time e (f y a yt (subst (λ u. Gives s spots y.part u a) e gives))
 
 pub at_most : (spots : List Spot) (c t a b : ℕ) → a ≤ b → HasAtMost spots c t a → HasAtMost spots c t b
 at_most spots c t a b le (k, has, e, kt, ka) = (k, has, e, kt, omega arith)
@@ -135,9 +144,9 @@ module _ (s : Task) (choices : List Choice) (now n : ℕ) (spots : List Spot) (w
   pub taken_over : GivesNoMore s choices spots now n → IsStill s choices now w.coming.horizon spots (Comes next)
   taken_over more = settling_on s choices now w.coming.horizon spots spots (Comes w) (Comes next) still (λ t m c. by_case t m (turns_left t m c)) still.reached still.low (λ c t a h. h)
     where
-      by_case : (t m : ℕ) → Comes next t m ⊎ ((t ≡ now) × (m ≡ n)) → Comes next t m ⊎ ((t ≡ now) × GivesNoMore s choices spots now m)
+      by_case : (t m : ℕ) → Comes next t m ⊎ ((t ≡ now) × (m ≡ n)) → Comes next t m ⊎ ((t ≡ now) × IsHadOr s choices now spots spots (Comes next) m)
       by_case t m (inl there) = inl there
-      by_case t m (inr (e, f)) = inr (e, subst (GivesNoMore s choices spots now) (sym f) more)
+      by_case t m (inr (e, f)) = inr (e, λ y a yt g. inl (more y a (ap (slice_get choices) (sym f) ∙ yt) g))
 
   -- it gives a point
   pub taken_gained : (x : Choice) → slice_get choices n ≡ Some x → AreChoices s choices → (best : ℕ) (after : List Spot) → IsBest s spots x.part now (Some best) → IsGained spots after (spot x.class now best) → IsGaining s choices now w.coming.horizon x.class after (Comes next)
@@ -173,25 +182,29 @@ module _ (s : Task) (choices : List Choice) (now n : ℕ) (spots : List Spot) (w
           let g' = subst (λ (z : Choice). Gives s spots z.part now a) same g in
           (spot x.class now best, gained.has, ap (λ (z : Choice). z.class) (sym same), omega arith, least now a g' (omega arith))
 
-      by_case : (t m : ℕ) → Comes next t m ⊎ ((t ≡ now) × (m ≡ n)) → Comes next t m ⊎ ((t ≡ now) × ((y : Choice) (a : ℕ) → slice_get choices m ≡ Some y → Gives s spots y.part now a → HasAtMost after y.class now a))
+      by_case : (t m : ℕ) → Comes next t m ⊎ ((t ≡ now) × (m ≡ n)) → Comes next t m ⊎ ((t ≡ now) × IsHadOr s choices now spots after (Comes next) m)
       by_case t m (inl there) = inl there
-      by_case t m (inr (e, f)) = inr (e, λ y a yt g. cover y a (ap (slice_get choices) (sym f) ∙ yt) g)
+      by_case t m (inr (e, f)) = inr (e, λ y a yt g. inl (cover y a (ap (slice_get choices) (sym f) ∙ yt) g))
 
 -- A group that comes is taken, and its choices are looked at.
 
-module _ (s : Task) (choices : List Choice) (now g : ℕ) (spots : List Spot) (w : Turns) (coming looked : Queued) (within : now ≤ w.coming.horizon) (still : IsStill s choices now w.coming.horizon spots (Comes w)) (taken : IsTaken w.coming coming now (Some g)) (at : IsGroupLookedAt s choices spots w.groups w.owners w.looked looked now g) where
+module _ (s : Task) (choices : List Choice) (now g : ℕ) (spots : List Spot) (unseen : ℕ → Type 0) (w : Turns) (coming looked : Queued) (within : now ≤ w.coming.horizon) (still : IsStill s choices now w.coming.horizon spots (Comes w)) (taken : IsTaken w.coming coming now (Some g)) (at : IsGroupLookedAt s choices spots unseen w.groups w.owners w.looked looked now g) (later : (m : ℕ) → unseen m → Comes (turns w.groups w.owners w.count coming looked) now m) where
   abbrev next' : Turns
   next' = turns w.groups w.owners w.count coming looked
 
-  group_left : (t m : ℕ) → Comes w t m → Comes next' t m ⊎ ((t ≡ now) × GivesNoMore s choices spots now m)
+  group_left : (t m : ℕ) → Comes w t m → Comes next' t m ⊎ ((t ≡ now) × IsHadOr s choices now spots spots (Comes next') m)
   group_left t m (inl waits) = inl (inl (at.kept t m waits))
   group_left t m (inr (j, h, jt, mt, waits)) = by_case (waits_left w.coming coming now g within taken t h waits)
     where
-      done : t ≡ now → Waits looked now m ⊎ GivesNoMore s choices spots now m → Comes next' t m ⊎ ((t ≡ now) × GivesNoMore s choices spots now m)
-      done e (inl there) = inl (inl (subst (λ u. Waits looked u m) (sym e) there))
-      done e (inr more) = inr (e, more)
+      had_or : (c a : ℕ) → HasAtMost spots c now a ⊎ unseen m → HasAtMost spots c now a ⊎ Comes next' now m
+      had_or c a (inl had) = inl had
+      had_or c a (inr un) = inr (later m un)
 
-      by_case : Waits coming t h ⊎ ((t ≡ now) × (h ≡ g)) → Comes next' t m ⊎ ((t ≡ now) × GivesNoMore s choices spots now m)
+      done : t ≡ now → Waits looked now m ⊎ GivesNoMoreSeen s choices spots unseen now m → Comes next' t m ⊎ ((t ≡ now) × IsHadOr s choices now spots spots (Comes next') m)
+      done e (inl there) = inl (inl (subst (λ u. Waits looked u m) (sym e) there))
+      done e (inr more) = inr (e, λ y a yt gives. had_or y.class a (more y a yt gives))
+
+      by_case : Waits coming t h ⊎ ((t ≡ now) × (h ≡ g)) → Comes next' t m ⊎ ((t ≡ now) × IsHadOr s choices now spots spots (Comes next') m)
       by_case (inl there) = inl (inr (j, h, jt, mt, there))
       by_case (inr (e, f)) = done e (at.done j m (jt ∙ ap Some f) mt)
 
@@ -218,7 +231,7 @@ pin_attains (d ∷ ds) (k ∷ ks) now lt = by_case (pin_attains ds ks (d + k.tim
     by_case more_of (inl more) = let (j, l, at, e) = more_of more in (suc j, l, at, omega arith)
     by_case more_of (inr le) = (0, k, refl, omega arith)
 
-zip_at : (spots : List Spot) (ps : List ℕ) (ks : List Spot) (j : ℕ) (k : Spot) → AllZip (IsSpotOf spots) ps ks → slice_get ks j ≡ Some k → Has spots k × (slice_get ps j ≡ Some k.class)
+pub zip_at : (spots : List Spot) (ps : List ℕ) (ks : List Spot) (j : ℕ) (k : Spot) → AllZip (IsSpotOf spots) ps ks → slice_get ks j ≡ Some k → Has spots k × (slice_get ps j ≡ Some k.class)
 zip_at spots [] [] j k zip at = cc
 zip_at spots [] (l ∷ ks) j k zip at = absurd zip
 zip_at spots (p ∷ ps) [] j k zip at = absurd zip

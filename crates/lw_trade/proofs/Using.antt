@@ -9,11 +9,12 @@ use Rattle.lw_trade.specs.declared.uses.Uses.{Uses}
 use Rattle.lw_trade.specs.Choices.{Choice, HasPinAt, delay_at}
 use Rattle.lw_trade.specs.Choices.Part.{input, gate}
 use Rattle.lw_trade.specs.Points.{Task, timing}
-use Rattle.lw_trade.specs.Uses.{IsGroup, HasUse, AreGroups, IsGroupAdded, IsPinAdded, AreUsesTo}
+use Rattle.lw_trade.specs.Links.{LinkState}
+use Rattle.lw_trade.specs.Uses.{IsGroup, HasUse, AreGroups, IsFirstAdded, IsGroupAdded, IsPinAdded, AreUsesTo}
 use Rattle.lw_trade.proofs.Lists.{get_in, get_last, get_push, push_cases, length_push}
 
 -- a group of its own is added
-module _ (old new : Uses) (c delay group : ℕ) (links : new.links.classes ≡ old.links.classes ++ c ∷ []) (delays : new.delays.items ≡ old.delays.items ++ delay ∷ []) (members : new.members.classes ≡ old.members.classes) (owners : new.owners.items ≡ old.owners.items) (count : new.members.count ≡ old.members.count + 1) (at : group ≡ length old.links.classes) where
+module _ (old new : Uses) (c delay group : ℕ) (links : new.links.classes ≡ old.links.classes ++ c ∷ []) (delays : new.delays.items ≡ old.delays.items ++ delay ∷ []) (members : new.members.classes ≡ old.members.classes) (owners : new.owners.items ≡ old.owners.items) (firsts : new.firsts.items ≡ old.firsts.items) (count : new.members.count ≡ old.members.count + 1) (at : group ≡ length old.links.classes) where
   longer : length new.links.classes ≡ length old.links.classes + 1
   longer = ap length links ∙ length_push old.links.classes c
 
@@ -35,6 +36,7 @@ module _ (old new : Uses) (c delay group : ℕ) (links : new.links.classes ≡ o
     );
     members = members;
     owners = owners;
+    firsts = firsts;
   }
 
 -- nothing is added where the group is there
@@ -46,10 +48,11 @@ group_there u c delay group is = record {
   kept = λ g d e there. there;
   members = refl;
   owners = refl;
+  firsts = refl;
 }
 
 -- a pin is added to a group
-module _ (old mid new : Uses) (c delay group n : ℕ) (are : AreGroups old) (added : IsGroupAdded old mid c delay group) (links : new.links ≡ mid.links) (delays : new.delays.items ≡ mid.delays.items) (count : new.members.count ≡ mid.members.count) (members : new.members.classes ≡ mid.members.classes ++ group ∷ []) (owners : new.owners.items ≡ mid.owners.items ++ n ∷ []) where
+module _ (old mid new : Uses) (c delay group n : ℕ) (are : AreGroups old) (added : IsGroupAdded old mid c delay group) (links : new.links ≡ mid.links) (delays : new.delays.items ≡ mid.delays.items) (count : new.members.count ≡ mid.members.count) (members : new.members.classes ≡ mid.members.classes ++ group ∷ []) (owners : new.owners.items ≡ mid.owners.items ++ n ∷ []) (firsts : new.firsts.items ≡ mid.firsts.items) where
   between : AreGroups mid
   between = added.are are
 
@@ -63,16 +66,24 @@ module _ (old mid new : Uses) (c delay group n : ℕ) (are : AreGroups old) (add
       owners_each = ap length owners ∙ (length_push mid.owners.items n ∙ (ap (λ k. k + 1) between.owners_each ∙ (sym (length_push mid.members.classes group) ∙ sym (ap length members))));
       count = count ∙ (between.count ∙ sym (ap (λ l. length l.classes) links));
     };
-    has = record {
+    longer = ap length members ∙ (length_push mid.members.classes group ∙ ap (λ gs. length gs + 1) added.members);
+    firsts = firsts ∙ added.firsts;
+    has = λ i first at here. record {
       group = group;
       place = length mid.members.classes;
+      first = first;
+      first_at = subst (λ fs. slice_get fs n ≡ Some first) (sym (firsts ∙ added.firsts)) at;
+      place_is = ap length added.members ∙ here;
       group_is = groups_same c delay group (added.group_is are);
       member = subst (λ gs. slice_get gs (length mid.members.classes) ≡ Some group) (sym members) (get_last mid.members.classes group);
       owner = subst₂ (λ os j. slice_get os j ≡ Some n) (sym owners) between.owners_each (get_last mid.owners.items n);
     };
-    kept = λ m e d has. record {
+    kept = λ m i e d has. record {
       group = has.group;
       place = has.place;
+      first = has.first;
+      first_at = subst (λ fs. slice_get fs m ≡ Some has.first) (sym (firsts ∙ added.firsts)) has.first_at;
+      place_is = has.place_is;
       group_is = groups_same d e has.group (added.kept has.group d e has.group_is);
       member = subst (λ gs. slice_get gs has.place ≡ Some has.group) (sym members) (get_push mid.members.classes group has.place has.group (subst (λ gs. slice_get gs has.place ≡ Some has.group) (sym added.members) has.member));
       owner = subst (λ os. slice_get os has.place ≡ Some m) (sym owners) (get_push mid.owners.items n has.place m (subst (λ os. slice_get os has.place ≡ Some m) (sym added.owners) has.owner));
@@ -83,6 +94,37 @@ module _ (old mid new : Uses) (c delay group n : ℕ) (are : AreGroups old) (add
       by_case : (j m : ℕ) → (slice_get mid.owners.items j ≡ Some m) ⊎ ((j ≡ length mid.owners.items) × (n ≡ m)) → (slice_get old.owners.items j ≡ Some m) ⊎ (m ≡ n)
       by_case j m (inl there) = inl (subst (λ os. slice_get os j ≡ Some m) added.owners there)
       by_case j m (inr (e, f)) = inr (sym f)
+
+-- it is noted where the pins of the next choice begin
+module _ (u v : Uses) (added : IsFirstAdded u v) where
+  pub groups_first : AreGroups u → AreGroups v
+  groups_first are = record {
+    one_each = ap length added.delays ∙ (are.one_each ∙ sym (ap (λ (l : LinkState). length l.classes) added.links));
+    owners_each = ap length added.owners ∙ (are.owners_each ∙ sym (ap (λ (l : LinkState). length l.classes) added.members));
+    count = ap (λ (l : LinkState). l.count) added.members ∙ (are.count ∙ sym (ap (λ (l : LinkState). length l.classes) added.links));
+  }
+
+  first_kept : (m i e d : ℕ) → HasUse u m i e d → HasUse v m i e d
+  first_kept m i e d has = record {
+    group = has.group;
+    place = has.place;
+    first = has.first;
+    first_at = subst (λ fs. slice_get fs m ≡ Some has.first) (sym added.firsts) (get_push u.firsts.items (length u.members.classes) m has.first has.first_at);
+    place_is = has.place_is;
+    group_is = subst₂ (λ (l : LinkState) ds. IsGroup l.classes ds d e has.group) (sym added.links) (sym added.delays) has.group_is;
+    member = subst (λ (l : LinkState). slice_get l.classes has.place ≡ Some has.group) (sym added.members) has.member;
+    owner = subst (λ os. slice_get os has.place ≡ Some m) (sym added.owners) has.owner;
+  }
+
+  -- they begin behind all
+  pub first_behind : (n : ℕ) → length u.firsts.items ≡ n → slice_get v.firsts.items n ≡ Some (length v.members.classes)
+  first_behind n e =
+      let at = get_last u.firsts.items (length u.members.classes) in
+      let at' = subst₂ (λ fs k. slice_get fs k ≡ Some (length u.members.classes)) (sym added.firsts) e at in
+      at' ∙ ap (λ (l : LinkState). Some (length l.classes)) (sym added.members)
+
+  pub firsts_longer : length v.firsts.items ≡ length u.firsts.items + 1
+  firsts_longer = ap length added.firsts ∙ length_push u.firsts.items (length u.members.classes)
 
 module _ (s : Task) (choices : List Choice) where
   pub none_used : (u : Uses) → AreGroups u → u.owners.items ≡ [] → AreUsesTo s choices 0 0 u
@@ -102,9 +144,17 @@ module _ (s : Task) (choices : List Choice) where
       no_pin m i (inl lt) = absurd (omega arith)
       no_pin m i (inr (e, lt)) = absurd (omega arith)
 
+  -- where the pins of the next choice begin
+  pub first_used : (n : ℕ) (u v : Uses) → IsFirstAdded u v → AreUsesTo s choices n 0 u → AreUsesTo s choices n 0 v
+  first_used n u v added are = record {
+    are = groups_first u v added are.are;
+    low = λ j m there. are.low j m (subst (λ os. slice_get os j ≡ Some m) added.owners there);
+    all = λ m i c x before xt xp. first_kept u v added m i (delay_at s x.part i) c (are.all m i c x before xt xp);
+  }
+
   -- one more pin
-  pub pin_used : (n k c cell class : ℕ) (ps : List ℕ) (u v : Uses) → slice_get choices n ≡ Some (record { class = class; part = gate cell ps }) → slice_get ps k ≡ Some c → IsPinAdded u v c (slice_index_or (delays_of (timing s).delays cell) k 0) n → AreUsesTo s choices n k u → AreUsesTo s choices n (k + 1) v
-  pin_used n k c cell class ps u v at pn added are = record {
+  pub pin_used : (n k c cell class first : ℕ) (ps : List ℕ) (u v : Uses) → slice_get u.firsts.items n ≡ Some first → length u.members.classes ≡ first + k → slice_get choices n ≡ Some (record { class = class; part = gate cell ps }) → slice_get ps k ≡ Some c → IsPinAdded u v c (slice_index_or (delays_of (timing s).delays cell) k 0) n → AreUsesTo s choices n k u → AreUsesTo s choices n (k + 1) v
+  pin_used n k c cell class first ps u v first_at here at pn added are = record {
     are = added.are;
     low = λ j m there. by_owner j m (added.only j m there);
     all = λ m i d x before xt xp. all m i d x before xt xp;
@@ -114,19 +164,20 @@ module _ (s : Task) (choices : List Choice) where
       by_owner j m (inl there) = are.low j m there
       by_owner j m (inr e) = let lt = get_in choices n (record { class = class; part = gate cell ps }) at in omega arith
 
-      all : (m i d : ℕ) (x : Choice) → (m < n) ⊎ ((m ≡ n) × (i < k + 1)) → slice_get choices m ≡ Some x → HasPinAt x.part i d → HasUse v m (delay_at s x.part i) d
-      all m i d x (inl lt) xt xp = added.kept m (delay_at s x.part i) d (are.all m i d x (inl lt) xt xp)
+      all : (m i d : ℕ) (x : Choice) → (m < n) ⊎ ((m ≡ n) × (i < k + 1)) → slice_get choices m ≡ Some x → HasPinAt x.part i d → HasUse v m i (delay_at s x.part i) d
+      all m i d x (inl lt) xt xp = added.kept m i (delay_at s x.part i) d (are.all m i d x (inl lt) xt xp)
       all m i d x (inr (g, lt)) xt xp = by_place (eq-or-lt_of_le {n = i} {m = k} (omega arith))
         where
-          by_place : (i ≡ k) ⊎ (i < k) → HasUse v m (delay_at s x.part i) d
-          by_place (inr less) = added.kept m (delay_at s x.part i) d (are.all m i d x (inr (g, less)) xt xp)
+          by_place : (i ≡ k) ⊎ (i < k) → HasUse v m i (delay_at s x.part i) d
+          by_place (inr less) = added.kept m i (delay_at s x.part i) d (are.all m i d x (inr (g, less)) xt xp)
           by_place (inl same) =
               let y : x ≡ record { class = class; part = gate cell ps } = same_Some x (record { class = class; part = gate cell ps }) (sym xt ∙ (ap (slice_get choices) g ∙ at)) in
               let xp' : slice_get ps i ≡ Some d = subst (λ (z : Choice). HasPinAt z.part i d) y xp in
               let cd : c ≡ d = same_Some c d (sym pn ∙ (ap (slice_get ps) (sym same) ∙ xp')) in
               let dl : delay_at s x.part i ≡ slice_index_or (delays_of (timing s).delays cell) k 0 = ap (λ (z : Choice). delay_at s z.part i) y ∙ ap (λ j. slice_index_or (delays_of (timing s).delays cell) j 0) same in
-              let l = subst (λ b. HasUse v n (slice_index_or (delays_of (timing s).delays cell) k 0) b) cd added.has in
-              subst₂ (λ a b. HasUse v a b d) (sym g) (sym dl) l
+              let l = subst (λ b. HasUse v n k (slice_index_or (delays_of (timing s).delays cell) k 0) b) cd (added.has k first first_at here) in
+              let l' = subst (λ j. HasUse v n j (slice_index_or (delays_of (timing s).delays cell) k 0) d) (sym same) l in
+              subst₂ (λ a b. HasUse v a i b d) (sym g) (sym dl) l'
 
   -- all pins of a choice
   pub choice_used : (n k cell class : ℕ) (ps : List ℕ) (u : Uses) → slice_get choices n ≡ Some (record { class = class; part = gate cell ps }) → length ps ≡ k → AreUsesTo s choices n k u → AreUsesTo s choices (n + 1) 0 u
@@ -136,11 +187,11 @@ module _ (s : Task) (choices : List Choice) where
     all = λ m i c x before xt xp. all m i c x before xt xp;
   }
     where
-      all : (m i c : ℕ) (x : Choice) → (m < n + 1) ⊎ ((m ≡ n + 1) × (i < 0)) → slice_get choices m ≡ Some x → HasPinAt x.part i c → HasUse u m (delay_at s x.part i) c
+      all : (m i c : ℕ) (x : Choice) → (m < n + 1) ⊎ ((m ≡ n + 1) × (i < 0)) → slice_get choices m ≡ Some x → HasPinAt x.part i c → HasUse u m i (delay_at s x.part i) c
       all m i c x (inr (e, lt)) xt xp = absurd (omega arith)
       all m i c x (inl lt) xt xp = by_place (eq-or-lt_of_le {n = m} {m = n} (omega arith))
         where
-          by_place : (m ≡ n) ⊎ (m < n) → HasUse u m (delay_at s x.part i) c
+          by_place : (m ≡ n) ⊎ (m < n) → HasUse u m i (delay_at s x.part i) c
           by_place (inr less) = are.all m i c x (inl less) xt xp
           by_place (inl same) =
               let y : x ≡ record { class = class; part = gate cell ps } = same_Some x (record { class = class; part = gate cell ps }) (sym xt ∙ (ap (slice_get choices) same ∙ at)) in
@@ -156,11 +207,11 @@ module _ (s : Task) (choices : List Choice) where
     all = λ m k c x before xt xp. all m k c x before xt xp;
   }
     where
-      all : (m k c : ℕ) (x : Choice) → (m < n + 1) ⊎ ((m ≡ n + 1) × (k < 0)) → slice_get choices m ≡ Some x → HasPinAt x.part k c → HasUse u m (delay_at s x.part k) c
+      all : (m k c : ℕ) (x : Choice) → (m < n + 1) ⊎ ((m ≡ n + 1) × (k < 0)) → slice_get choices m ≡ Some x → HasPinAt x.part k c → HasUse u m k (delay_at s x.part k) c
       all m k c x (inr (e, lt)) xt xp = absurd (omega arith)
       all m k c x (inl lt) xt xp = by_place (eq-or-lt_of_le {n = m} {m = n} (omega arith))
         where
-          by_place : (m ≡ n) ⊎ (m < n) → HasUse u m (delay_at s x.part k) c
+          by_place : (m ≡ n) ⊎ (m < n) → HasUse u m k (delay_at s x.part k) c
           by_place (inr less) = are.all m k c x (inl less) xt xp
           by_place (inl same) =
               let y : x ≡ record { class = class; part = input i } = same_Some x (record { class = class; part = input i }) (sym xt ∙ (ap (slice_get choices) same ∙ at)) in

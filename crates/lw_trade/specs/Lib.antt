@@ -12,6 +12,7 @@ pub mod Points
 pub mod Pricing
 pub mod Queues
 pub mod Rows
+pub mod Seen
 pub mod Settling
 pub mod Targets
 pub mod Traded

@@ -1,5 +1,5 @@
 -- A queue of choices by the times at which they wait.
-use Rattle.std.specs.Prelude.{ℕ, ◌-◌, ◌<◌, ◌≤◌, ◌≡◌, ◌⊎◌, List, [], ◌∷◌, All, Option, Some, None}
+use Rattle.std.specs.Prelude.{ℕ, ◌-◌, ◌<◌, ◌≤◌, ◌≡◌, ◌⊎◌, List, [], ◌∷◌, ◌++◌, All, Contains, Option, Some, None, Bool, true, false, slice_get}
 use Rattle.std.specs.BinaryHeap.{IsHeap}
 use Rattle.std.specs.declared.cmp.Ordering.{Ordering}
 use Rattle.std.specs.Ordering.{nat_cmp, ordering_then}
@@ -13,9 +13,45 @@ Item = ℕ × (ℕ × ℕ)
 abbrev pub item_cmp : Item → Item → Ordering
 item_cmp a b = ordering_then (nat_cmp a.0 b.0) (ordering_then (nat_cmp a.1.0 b.1.0) (nat_cmp a.1.1 b.1.1))
 
-pub record IsQueue (horizon : ℕ) (items : List Item) : Type 0 where
-  pub heap : IsHeap item_cmp items
-  pub within : All (λ (x : Item). x.0 ≤ horizon) items
+-- none has more time left than one before it, nor less than the last
+pub record IsLane (items : List Item) (last : ℕ) : Type 0 where
+  pub falling : (i j : ℕ) (x y : Item) → i < j → slice_get items i ≡ Some x → slice_get items j ≡ Some y → y.0 ≤ x.0
+  pub low : (i : ℕ) (x : Item) → slice_get items i ≡ Some x → last ≤ x.0
+
+-- what waits in all lanes
+abbrev pub flat : List (List Item) → List Item
+flat [] = []
+flat (lane ∷ lanes) = lane ++ flat lanes
+
+-- one has this time left, and none has more
+abbrev pub IsMostLeft : List Item → Option ℕ → Type 0
+IsMostLeft items None = items ≡ []
+IsMostLeft items (Some left) = ((x : Item) × Contains items x × (x.0 ≡ left)) × All (λ (x : Item). x.0 ≤ left) items
+
+-- none has as much time left, if none has more
+abbrev pub HaveLess : List Item → ℕ → Type 0
+HaveLess items left = All (λ (x : Item). x.0 ≤ left) items → All (λ (x : Item). x.0 < left) items
+
+-- the first one is taken, if it has this time left
+abbrev pub IsLaneTaken : List Item → List Item → ℕ → Option (ℕ × ℕ) → Type 0
+IsLaneTaken old new left None = (new ≡ old) × HaveLess old left
+IsLaneTaken old new left (Some found) = old ≡ (left, found) ∷ new
+
+-- one of some lanes from one on that has this time left is taken, or none there has it
+abbrev pub IsTakenIn : List (List Item) → List (List Item) → ℕ → ℕ → ℕ → Option (ℕ × ℕ) → Type 0
+IsTakenIn old new first end left None =
+    (new ≡ old) × ((i : ℕ) (lane : List Item) → first ≤ i → i < end → slice_get old i ≡ Some lane → HaveLess lane left)
+IsTakenIn old new first end left (Some found) = IsPermutation (flat old) ((left, found) ∷ flat new)
+
+-- one more waits in some lane, or none does
+abbrev pub IsPushedBehind : List (List Item) → List (List Item) → Item → Bool → Type 0
+IsPushedBehind old new item true = IsPermutation (item ∷ flat old) (flat new)
+IsPushedBehind old new item false = new ≡ old
+
+-- the heap is one, and none waits longer than up to the horizon
+pub record IsQueue (horizon : ℕ) (heap lanes : List Item) : Type 0 where
+  pub is_heap : IsHeap item_cmp heap
+  pub within : All (λ (x : Item). x.0 ≤ horizon) (heap ++ lanes)
 
 -- the first time at which something waits, and none where nothing does
 abbrev pub IsFirstTime : Queued → Option ℕ → Type 0

@@ -149,19 +149,24 @@ abbrev pub GivesNoMore : Task → List Choice → List Spot → ℕ → ℕ → 
 GivesNoMore s choices spots time n =
     (x : Choice) (a : ℕ) → slice_get choices n ≡ Some x → Gives s spots x.part time a → HasAtMost spots x.class time a
 
+-- the same, but for choices with a point that was not seen
+abbrev pub GivesNoMoreSeen : Task → List Choice → List Spot → (ℕ → Type 0) → ℕ → ℕ → Type 0
+GivesNoMoreSeen s choices spots unseen time n =
+    (x : Choice) (a : ℕ) → slice_get choices n ≡ Some x → Gives s spots x.part time a → HasAtMost spots x.class time a ⊎ unseen n
+
 -- a choice waits too, or it gives no more
-pub record IsLookedAt (s : Task) (choices : List Choice) (spots : List Spot) (old new : Queued) (time n : ℕ) : Type 0 where
+pub record IsLookedAt (s : Task) (choices : List Choice) (spots : List Spot) (unseen : ℕ → Type 0) (old new : Queued) (time n : ℕ) : Type 0 where
   pub horizon : new.horizon ≡ old.horizon
   pub kept : (t m : ℕ) → Waits old t m → Waits new t m
   pub only : (t m : ℕ) → Waits new t m → Waits old t m ⊎ ((t ≡ time) × (m ≡ n))
-  pub done : Waits new time n ⊎ GivesNoMore s choices spots time n
+  pub done : Waits new time n ⊎ GivesNoMoreSeen s choices spots unseen time n
 
 -- so does each choice with a pin in the group
-pub record IsGroupLookedAt (s : Task) (choices : List Choice) (spots : List Spot) (groups owners : List ℕ) (old new : Queued) (time group : ℕ) : Type 0 where
+pub record IsGroupLookedAt (s : Task) (choices : List Choice) (spots : List Spot) (unseen : ℕ → Type 0) (groups owners : List ℕ) (old new : Queued) (time group : ℕ) : Type 0 where
   pub horizon : new.horizon ≡ old.horizon
   pub kept : (t m : ℕ) → Waits old t m → Waits new t m
   pub only : (t m : ℕ) → Waits new t m → Waits old t m ⊎ ((t ≡ time) × (m < length choices))
-  pub done : (j n : ℕ) → slice_get groups j ≡ Some group → slice_get owners j ≡ Some n → Waits new time n ⊎ GivesNoMore s choices spots time n
+  pub done : (j n : ℕ) → slice_get groups j ≡ Some group → slice_get owners j ≡ Some n → Waits new time n ⊎ GivesNoMoreSeen s choices spots unseen time n
 
 -- Up to a time the points are settled: each choice gives no more than what is had.
 pub record AreSettled (s : Task) (now : ℕ) (choices : List Choice) (spots : List Spot) : Type 0 where

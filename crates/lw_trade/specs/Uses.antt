@@ -1,5 +1,5 @@
 -- The pins of all choices, in groups: those of one class with one delay.
-use Rattle.std.specs.Prelude.{ℕ, ◌<◌, ◌≡◌, ◌⊎◌, List, length, Some, slice_get}
+use Rattle.std.specs.Prelude.{ℕ, ◌+◌, ◌<◌, ◌≡◌, ◌⊎◌, List, [], ◌∷◌, ◌++◌, length, Some, slice_get}
 use Rattle.lw_trade.specs.declared.uses.Uses.{Uses}
 use Rattle.lw_trade.specs.Choices.{Choice, HasPinAt, delay_at}
 use Rattle.lw_trade.specs.Points.{Task}
@@ -9,10 +9,13 @@ use Rattle.lw_trade.specs.Settling.{Queued, Turns, turns}
 abbrev pub IsGroup : List ℕ → List ℕ → ℕ → ℕ → ℕ → Type 0
 IsGroup classes delays c delay g = (slice_get classes g ≡ Some c) × (slice_get delays g ≡ Some delay)
 
--- the choice has a pin in a group of this class and this delay
-pub record HasUse (u : Uses) (n delay c : ℕ) : Type 0 where
+-- the pin of a choice with this number is in a group of this class and this delay
+pub record HasUse (u : Uses) (n i delay c : ℕ) : Type 0 where
   pub group : ℕ
   pub place : ℕ
+  pub first : ℕ
+  pub first_at : slice_get u.firsts.items n ≡ Some first
+  pub place_is : place ≡ first + i
   pub group_is : IsGroup u.links.classes u.delays.items c delay group
   pub member : slice_get u.members.classes place ≡ Some group
   pub owner : slice_get u.owners.items place ≡ Some n
@@ -31,19 +34,30 @@ pub record IsGroupAdded (old new : Uses) (c delay group : ℕ) : Type 0 where
   pub kept : (g d e : ℕ) → IsGroup old.links.classes old.delays.items d e g → IsGroup new.links.classes new.delays.items d e g
   pub members : new.members.classes ≡ old.members.classes
   pub owners : new.owners.items ≡ old.owners.items
+  pub firsts : new.firsts.items ≡ old.firsts.items
 
--- one pin of a choice more, in a group of this class and this delay
+-- the pins of one more choice begin behind all
+pub record IsFirstAdded (old new : Uses) : Type 0 where
+  pub links : new.links ≡ old.links
+  pub delays : new.delays.items ≡ old.delays.items
+  pub members : new.members ≡ old.members
+  pub owners : new.owners.items ≡ old.owners.items
+  pub firsts : new.firsts.items ≡ old.firsts.items ++ length old.members.classes ∷ []
+
+-- one pin of a choice more, behind all, in a group of this class and this delay
 pub record IsPinAdded (old new : Uses) (c delay n : ℕ) : Type 0 where
   pub are : AreGroups new
-  pub has : HasUse new n delay c
-  pub kept : (m e d : ℕ) → HasUse old m e d → HasUse new m e d
+  pub longer : length new.members.classes ≡ length old.members.classes + 1
+  pub firsts : new.firsts.items ≡ old.firsts.items
+  pub has : (i first : ℕ) → slice_get old.firsts.items n ≡ Some first → length old.members.classes ≡ first + i → HasUse new n i delay c
+  pub kept : (m i e d : ℕ) → HasUse old m i e d → HasUse new m i e d
   pub only : (j m : ℕ) → slice_get new.owners.items j ≡ Some m → (slice_get old.owners.items j ≡ Some m) ⊎ (m ≡ n)
 
 -- the pins of the first choices, and the first pins of the next one
 pub record AreUsesTo (s : Task) (choices : List Choice) (n k : ℕ) (u : Uses) : Type 0 where
   pub are : AreGroups u
   pub low : (j m : ℕ) → slice_get u.owners.items j ≡ Some m → m < length choices
-  pub all : (m i c : ℕ) (x : Choice) → (m < n) ⊎ ((m ≡ n) × (i < k)) → slice_get choices m ≡ Some x → HasPinAt x.part i c → HasUse u m (delay_at s x.part i) c
+  pub all : (m i c : ℕ) (x : Choice) → (m < n) ⊎ ((m ≡ n) × (i < k)) → slice_get choices m ≡ Some x → HasPinAt x.part i c → HasUse u m i (delay_at s x.part i) c
 
 -- the pins of all choices
 abbrev pub AreUses : Task → List Choice → Uses → Type 0

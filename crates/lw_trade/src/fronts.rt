@@ -185,7 +185,7 @@ fn push_row(
 }
 
 // More than any area.
-const NO_AREA: u64 = 4_611_686_018_427_387_905;
+pub(crate) const NO_AREA: u64 = 4_611_686_018_427_387_905;
 
 impl Fronts {
     /// No points, for so many classes.

@@ -16,6 +16,7 @@ use crate::fronts::Fronts;
 use crate::grouping::{Curves, group};
 use crate::point::CurveFault;
 use crate::queue::Queue;
+use crate::seeing::none_seen;
 use crate::settling::settle_all;
 use crate::starting::push_starts;
 use crate::uses::uses_of;
@@ -55,15 +56,17 @@ fn settle_rows(
 {
     let _ = lib.len();
     let uses = uses_of(alloc, rows, lib, classes as usize)?;
-    let mut queue = Queue::new(alloc, horizon);
+    let mut queue = Queue::new(alloc, horizon, 1)?;
     push_starts(&mut queue, rows, starts)?;
-    let mut coming = Queue::new(alloc, horizon);
+    let mut coming = Queue::new(alloc, horizon, uses.steps.len())?;
     let mut fronts = Fronts::new(alloc, classes as usize)?;
+    let mut seen = none_seen(alloc, uses.links.len())?;
     settle_all(
         rows,
         lib,
         starts,
         &uses,
+        &mut seen,
         &mut fronts,
         &mut coming,
         &mut queue,

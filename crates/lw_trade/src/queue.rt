@@ -1,42 +1,66 @@
-ghost use Rattle.std.specs.Prelude.{◌≡◌, ◌-◌, ◌<◌, ◌≤◌, ◌∷◌, [], ℕ, All, OnOk};
+ghost use Rattle.std.specs.Prelude.{◌≡◌, ◌-◌, ◌<◌, ◌≤◌, ◌∷◌, [], ℕ, All, IfOk, OnOk};
 ghost use Rattle.std.specs.List.Sorted.{IsPermutation};
-ghost use Rattle.lw_trade.specs.Queues.{IsFirstTime, IsTaken};
+ghost use Rattle.std.specs.BinaryHeap.{IsHeap, heap_items};
+ghost use Rattle.lw_trade.specs.Queues.{IsFirstTime, IsMostLeft, IsTaken, item_cmp};
 ghost use Rattle.lw_trade.specs.Settling.{Waits};
 
+use crate::lane::Lane;
+use crate::lanes::{most_left, no_lanes, push_behind, take_any};
 use std::alloc::{AllocError, Global};
 use std::collections::BinaryHeap;
 use std::marker::Model;
 
-/// The choices that wait to be looked at, each at a time up to a horizon, the earliest first. Of
-/// equal times the greatest hint comes first.
+/// The choices that wait to be looked at, each at a time up to a horizon, the earliest first.
+///
+/// They stand in lanes, in each by rising time, and where one would come before the last of its lane
+/// in a heap.
 #[derive(Drop)]
 pub(crate) struct Queue {
     horizon: u64,
+    lanes: Vec<Lane>,
+    // the lane from which one was taken last
+    at: usize,
     heap: BinaryHeap<(u64, (u64, u32))>,
 }
 
 impl Model for Queue {
+    ghost use Rattle.std.specs.Prelude.{◌++◌};
     ghost use Rattle.std.specs.BinaryHeap.{heap_items};
     ghost use Rattle.lw_trade.specs.Settling.{Queued};
-    ghost use Rattle.lw_trade.specs.Queues.{IsQueue};
+    ghost use Rattle.lw_trade.specs.Queues.{IsQueue, flat};
 
     ghost Value = { Queued };
 
-    ghost view = { λ q. record { horizon = q.horizon; items = heap_items q.heap } };
+    ghost view = { λ q. record {
+      horizon = q.horizon;
+      items = heap_items q.heap ++ flat q.lanes.items;
+    } };
 
-    ghost invariant = { λ q. IsQueue q.horizon (heap_items q.heap) };
+    ghost invariant = { λ q. IsQueue q.horizon (heap_items q.heap) (flat q.lanes.items) };
+}
+
+// The most time that is left to any in a heap.
+fn most_in_heap(heap: &BinaryHeap<(u64, (u64, u32))>) -> Option<u64>
+    ensures { IsHeap item_cmp (heap_items heap.now) → IsMostLeft (heap_items heap.now) result }
+{
+    match heap.peek() {
+        Some(first) => Some(first.0),
+        None => None,
+    }
 }
 
 impl Queue {
-    /// Nothing waits.
-    pub(crate) fn new(alloc: Global, horizon: u64) -> Queue
-        ensures horizon { result.horizon ≡ horizon }
-        ensures items { result.items ≡ [] }
+    /// Nothing waits, in so many lanes.
+    pub(crate) fn new(alloc: Global, horizon: u64, lanes: usize) -> Result<Queue, AllocError>
+        ensures horizon { IfOk result (λ queue. queue.horizon ≡ horizon) }
+        ensures items { IfOk result (λ queue. queue.items ≡ []) }
     {
-        Queue {
+        Ok(Queue {
             horizon,
+            lanes: no_lanes(alloc, lanes)?,
+            at: 0,
             heap: BinaryHeap::new(alloc),
-        }
+        })
     }
 
     /// The last time at which a choice may wait.
@@ -47,14 +71,24 @@ impl Queue {
         self.horizon
     }
 
-    /// Lets a choice wait.
-    pub(crate) fn push(&mut self, time: u64, hint: u64, number: u32) -> Result<(), AllocError>
+    /// Lets a choice wait, in a lane whose others wait no longer if it can.
+    pub(crate) fn push(
+        &mut self,
+        lane: u32,
+        time: u64,
+        hint: u64,
+        number: u32,
+    ) -> Result<(), AllocError>
         requires { time ≤ self.old.horizon }
         ensures horizon { self.new.horizon ≡ self.old.horizon }
         ensures items { OnOk result (IsPermutation
             ((self.old.horizon - time, (hint, number)) ∷ self.old.items) self.new.items) }
     {
-        self.heap.push((self.horizon - time, (hint, number)))?;
+        let item = (self.horizon - time, (hint, number));
+        if push_behind(&mut self.lanes, lane, item)? {
+            return Ok(());
+        }
+        self.heap.push(item)?;
         Ok(())
     }
 
@@ -62,8 +96,8 @@ impl Queue {
     pub(crate) fn next_time(&self) -> Option<u64>
         ensures { IsFirstTime self.now result }
     {
-        match self.heap.peek() {
-            Some(first) => Some(self.horizon - first.0),
+        match most_left(&self.lanes, most_in_heap(&self.heap)) {
+            Some(left) => Some(self.horizon - left),
             None => None,
         }
     }
@@ -74,10 +108,15 @@ impl Queue {
         requires first { (t n : ℕ) → Waits self.old t n → time ≤ t }
         ensures { IsTaken self.old self.new time result }
     {
-        let Some(first) = self.next_time() else {
+        let left = self.horizon - time;
+        if let Some((lane, found)) = take_any(&mut self.lanes, self.at, left) {
+            self.at = lane;
+            return Some(found.1);
+        }
+        let Some(first) = most_in_heap(&self.heap) else {
             return None;
         };
-        if first != time {
+        if first != left {
             return None;
         }
         let Some(taken) = self.heap.pop() else {

@@ -8,6 +8,7 @@ ghost use Rattle.lw_trade.specs.Points.{most_points, task};
 ghost use Rattle.lw_trade.specs.Pricing.{IsOfLibrary, IsWithin};
 ghost use Rattle.lw_trade.specs.Queues.{IsFirstOf};
 ghost use Rattle.lw_trade.specs.Rows.{plain_part, plain_rows};
+ghost use Rattle.lw_trade.specs.Seen.{AreSeen, AreSeenAfter};
 ghost use Rattle.lw_trade.specs.Settling.{AreGroupsAdded, AreSettledOr, IsAfter, IsLetWait, IsStillFor, Waits};
 ghost use Rattle.lw_trade.specs.Uses.{AreGroups, AreUses, turns_of};
 
@@ -17,7 +18,7 @@ use crate::looking::look_at_groups;
 use crate::point::CurveFault;
 use crate::pricing::price;
 use crate::queue::Queue;
-use crate::uses::Uses;
+use crate::uses::{Uses, lane_of};
 use lw_fixed::Micro;
 use lw_genlib::Library;
 use lw_pool::ClassId;
@@ -31,12 +32,18 @@ pub(crate) fn push_due(queue: &mut Queue, time: u64, number: u32) -> Result<(), 
     if time > queue.horizon() {
         return Ok(());
     }
-    queue.push(time, 0, number)?;
+    queue.push(0, time, 0, number)?;
     Ok(())
 }
 
 // Lets a group come by a delay after a time, unless that is past the horizon.
-fn push_after(queue: &mut Queue, time: u64, delay: u64, group: u32) -> Result<(), AllocError>
+fn push_after(
+    queue: &mut Queue,
+    lane: u32,
+    time: u64,
+    delay: u64,
+    group: u32,
+) -> Result<(), AllocError>
     requires time { time ≤ queue.old.horizon }
     ensures horizon { queue.new.horizon ≡ queue.old.horizon }
     ensures due { OnOk result (IsLetWait queue.old queue.new (time + delay) group) }
@@ -46,7 +53,7 @@ fn push_after(queue: &mut Queue, time: u64, delay: u64, group: u32) -> Result<()
     if delay > left {
         return Ok(());
     }
-    queue.push(time + delay, 0, group)?;
+    queue.push(lane, time + delay, 0, group)?;
     Ok(())
 }
 
@@ -63,7 +70,7 @@ fn push_groups(uses: &Uses, coming: &mut Queue, class: ClassId, time: u64) -> Re
     let mut next = uses.links.last(class);
     while let Some(group) = next {
         let delay = uses.delays[group as usize];
-        push_after(coming, time, delay, group)?;
+        push_after(coming, lane_of(uses, group), time, delay, group)?;
         next = uses.links.before(group);
     }
     Ok(())
@@ -96,6 +103,9 @@ fn next_gain(
         (turns_of uses.now coming.now queue.old) →
         IsAfter (task g pats lib.now starts.now) (plain_rows rows.now) time fronts.new.spots
         (turns_of uses.now coming.now queue.new) gain) }
+    ensures seen { IfOk result (λ gain. (seen : List ℕ) →
+        AreSeen uses.now seen fronts.old.spots coming.now →
+        AreSeenAfter uses.now seen fronts.new.spots coming.now time gain) }
     ensures falls { IfOk result (λ gain. IfSome gain
         (λ class. (class.0 < length fronts.old.least) ×
         (total fronts.new.least < total fronts.old.least))) }
@@ -124,52 +134,15 @@ fn gain_at(
     lib: &Library,
     starts: &[Micro],
     uses: &Uses,
+    seen: &mut [u64],
     fronts: &mut Fronts,
     coming: &mut Queue,
     queue: &mut Queue,
     time: u64,
 ) -> Result<Option<ClassId>, AllocError>
     requires time { time ≤ coming.old.horizon }
-    requires within { All (λ (r : Row). IsWithin (length fronts.old.least) (plain_part r.stand))
-        rows.now }
-    requires of_library { All (λ (r : Row). IsOfLibrary lib.now (plain_part r.stand)) rows.now }
-    requires classes { All (λ (r : Row). r.class.0 < length fronts.old.least) rows.now }
-    requires still { (g : PlainGraph) × (pats : List TreeOfCell) ×
-        IsStillFor (task g pats lib.now starts.now) (plain_rows rows.now) time fronts.old.spots
-        (turns_of uses.now coming.old queue.old) ×
-        AreUses (task g pats lib.now starts.now) (plain_rows rows.now) uses.now }
-    ensures horizon { coming.new.horizon ≡ coming.old.horizon }
-    ensures count { length fronts.new.least ≡ length fronts.old.least }
-    ensures gain { IfOk result (λ gain. (g : PlainGraph) (pats : List TreeOfCell) →
-        IsStillFor (task g pats lib.now starts.now) (plain_rows rows.now) time fronts.old.spots
-        (turns_of uses.now coming.old queue.old) →
-        IsAfter (task g pats lib.now starts.now) (plain_rows rows.now) time fronts.new.spots
-        (turns_of uses.now coming.new queue.new) gain) }
-    ensures falls { IfOk result (λ gain. IfSome gain
-        (λ class. (class.0 < length fronts.old.least) ×
-        (total fronts.new.least < total fronts.old.least))) }
-    ensures backed { OnOk result ((g : PlainGraph) (pats : List TreeOfCell) →
-        IsStillFor (task g pats lib.now starts.now) (plain_rows rows.now) time fronts.old.spots
-        (turns_of uses.now coming.old queue.old) →
-        AreBacked (task g pats lib.now starts.now) (plain_rows rows.now) fronts.old.held →
-        AreBacked (task g pats lib.now starts.now) (plain_rows rows.now) fronts.new.held) }
-{
-    look_at_groups(rows, lib, starts, uses, fronts, coming, queue, time)?;
-    next_gain(rows, lib, starts, uses, fronts, coming, queue, time)
-}
-
-// Gives the classes their points at a time, before which nothing waits or comes.
-pub(crate) fn settle_at(
-    rows: &[Row],
-    lib: &Library,
-    starts: &[Micro],
-    uses: &Uses,
-    fronts: &mut Fronts,
-    coming: &mut Queue,
-    queue: &mut Queue,
-    time: u64,
-) -> Result<(), AllocError>
-    requires time { time ≤ coming.old.horizon }
+    requires one_each { length seen.old ≡ uses.now.members.count }
+    requires seen { AreSeen uses.now seen.old fronts.old.spots coming.old }
     requires within { All (λ (r : Row). IsWithin (length fronts.old.least) (plain_part r.stand))
         rows.now }
     requires of_library { All (λ (r : Row). IsOfLibrary lib.now (plain_part r.stand)) rows.now }
@@ -181,6 +154,56 @@ pub(crate) fn settle_at(
         AreUses (task g pats lib.now starts.now) (plain_rows rows.now) uses.now }
     ensures horizon { coming.new.horizon ≡ coming.old.horizon }
     ensures count { length fronts.new.least ≡ length fronts.old.least }
+    ensures one_each { length seen.new ≡ uses.now.members.count }
+    ensures seen { IfOk result (AreSeenAfter uses.now seen.new fronts.new.spots coming.new time) }
+    ensures gain { IfOk result (λ gain. (g : PlainGraph) (pats : List TreeOfCell) →
+        IsStillFor (task g pats lib.now starts.now) (plain_rows rows.now) time fronts.old.spots
+        (turns_of uses.now coming.old queue.old) →
+        AreUses (task g pats lib.now starts.now) (plain_rows rows.now) uses.now →
+        IsAfter (task g pats lib.now starts.now) (plain_rows rows.now) time fronts.new.spots
+        (turns_of uses.now coming.new queue.new) gain) }
+    ensures falls { IfOk result (λ gain. IfSome gain
+        (λ class. (class.0 < length fronts.old.least) ×
+        (total fronts.new.least < total fronts.old.least))) }
+    ensures backed { OnOk result ((g : PlainGraph) (pats : List TreeOfCell) →
+        IsStillFor (task g pats lib.now starts.now) (plain_rows rows.now) time fronts.old.spots
+        (turns_of uses.now coming.old queue.old) →
+        AreUses (task g pats lib.now starts.now) (plain_rows rows.now) uses.now →
+        AreBacked (task g pats lib.now starts.now) (plain_rows rows.now) fronts.old.held →
+        AreBacked (task g pats lib.now starts.now) (plain_rows rows.now) fronts.new.held) }
+{
+    look_at_groups(rows, lib, uses, seen, fronts, coming, queue, time)?;
+    next_gain(rows, lib, starts, uses, fronts, coming, queue, time)
+}
+
+// Gives the classes their points at a time, before which nothing waits or comes.
+pub(crate) fn settle_at(
+    rows: &[Row],
+    lib: &Library,
+    starts: &[Micro],
+    uses: &Uses,
+    seen: &mut [u64],
+    fronts: &mut Fronts,
+    coming: &mut Queue,
+    queue: &mut Queue,
+    time: u64,
+) -> Result<(), AllocError>
+    requires time { time ≤ coming.old.horizon }
+    requires one_each { length seen.old ≡ uses.now.members.count }
+    requires seen { AreSeen uses.now seen.old fronts.old.spots coming.old }
+    requires within { All (λ (r : Row). IsWithin (length fronts.old.least) (plain_part r.stand))
+        rows.now }
+    requires of_library { All (λ (r : Row). IsOfLibrary lib.now (plain_part r.stand)) rows.now }
+    requires classes { All (λ (r : Row). r.class.0 < length fronts.old.least) rows.now }
+    requires count { uses.now.links.count ≡ length fronts.old.least }
+    requires still { (g : PlainGraph) × (pats : List TreeOfCell) ×
+        IsStillFor (task g pats lib.now starts.now) (plain_rows rows.now) time fronts.old.spots
+        (turns_of uses.now coming.old queue.old) ×
+        AreUses (task g pats lib.now starts.now) (plain_rows rows.now) uses.now }
+    ensures horizon { coming.new.horizon ≡ coming.old.horizon }
+    ensures count { length fronts.new.least ≡ length fronts.old.least }
+    ensures one_each { length seen.new ≡ uses.now.members.count }
+    ensures seen { OnOk result (AreSeen uses.now seen.new fronts.new.spots coming.new) }
     ensures still { OnOk result ((g : PlainGraph) (pats : List TreeOfCell) →
         IsStillFor (task g pats lib.now starts.now) (plain_rows rows.now) time fronts.old.spots
         (turns_of uses.now coming.old queue.old) →
@@ -194,7 +217,7 @@ pub(crate) fn settle_at(
         AreBacked (task g pats lib.now starts.now) (plain_rows rows.now) fronts.old.held →
         AreBacked (task g pats lib.now starts.now) (plain_rows rows.now) fronts.new.held) }
 {
-    while let Some(class) = gain_at(rows, lib, starts, uses, fronts, coming, queue, time)? {
+    while let Some(class) = gain_at(rows, lib, starts, uses, seen, fronts, coming, queue, time)? {
         push_groups(uses, coming, class, time)?;
     }
     Ok(())
@@ -226,6 +249,7 @@ pub(crate) fn settle_all(
     lib: &Library,
     starts: &[Micro],
     uses: &Uses,
+    seen: &mut [u64],
     fronts: &mut Fronts,
     coming: &mut Queue,
     queue: &mut Queue,
@@ -235,6 +259,8 @@ pub(crate) fn settle_all(
     requires of_library { All (λ (r : Row). IsOfLibrary lib.now (plain_part r.stand)) rows.now }
     requires classes { All (λ (r : Row). r.class.0 < length fronts.old.least) rows.now }
     requires count { uses.now.links.count ≡ length fronts.old.least }
+    requires one_each { length seen.old ≡ uses.now.members.count }
+    requires seen { AreSeen uses.now seen.old fronts.old.spots coming.old }
     requires few_points { length fronts.old.spots ≤ most_points }
     requires still { (g : PlainGraph) × (pats : List TreeOfCell) ×
         IsStillFor (task g pats lib.now starts.now) (plain_rows rows.now) 0 fronts.old.spots
@@ -256,7 +282,7 @@ pub(crate) fn settle_all(
         AreBacked (task g pats lib.now starts.now) (plain_rows rows.now) fronts.new.held) }
 {
     while let Some(time) = first_time(coming, queue) {
-        settle_at(rows, lib, starts, uses, fronts, coming, queue, time)?;
+        settle_at(rows, lib, starts, uses, seen, fronts, coming, queue, time)?;
         if fronts.len() > MOST_POINTS {
             return Err(CurveFault::Limit);
         }

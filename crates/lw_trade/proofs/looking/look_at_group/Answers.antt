@@ -2,6 +2,9 @@ use Rattle.std.proofs.Common.{◌∙◌, ◌<◌, Some, length, map, slice_get, 
 use Rattle.std.proofs.lemmas.List.{length-map}
 use Rattle.lw_trade.specs.Links.{IsLast}
 use Rattle.lw_trade.specs.Points.{task}
+use Rattle.lw_trade.specs.Seen.{HasUnseen}
+use Rattle.lw_trade.specs.Uses.{AreUses}
+use Rattle.lw_fixed.specs.declared.micro.Micro.{Micro}
 use Rattle.lw_trade.specs.Rows.{plain_row, plain_rows}
 use Rattle.lw_trade.proofs.Lists.{get_in, got, read_at}
 use Rattle.lw_trade.proofs.Linking.{place_measure, place_falls}
@@ -11,7 +14,7 @@ use Rattle.lw_trade.proofs.looking.look_at_group.Goals as goal
 pub loop-next-init : goal.loop-next-init
 loop-next-init c = record {
   horizon = refl;
-  looking = (length c.args.uses.now.members.classes, c.last-next.ensures, λ g pats. looking_first (task g pats c.args.lib.now c.args.starts.now) (plain_rows c.args.rows.now) c.args.fronts.now.spots c.args.uses.now.members.classes c.args.uses.now.owners.items c.args.queue.now c.args.time c.args.group);
+  looking = (length c.args.uses.now.members.classes, c.last-next.ensures, λ g pats starts us. looking_first (task g pats c.args.lib.now starts) (plain_rows c.args.rows.now) c.args.fronts.now.spots (HasUnseen c.args.uses.now c.args.seen.now c.args.fronts.now.spots c.args.time) c.args.uses.now.members.classes c.args.uses.now.owners.items c.args.queue.now c.args.time c.args.group);
 }
 
 pub index-number-requires : goal.index-number-requires
@@ -58,13 +61,13 @@ loop-next-preserved c =
       looking = (
         place,
         c.before-next.ensures c.args.group last'.1,
-        λ g pats.
-            looking_next (task g pats c.args.lib.now c.args.starts.now) (plain_rows c.args.rows.now) c.args.fronts.now.spots groups owners c.args.queue.now c.args.time c.args.group c.loop-next.queue c.look_at.new.queue bound place number last' (all g pats) (read_at owners place number in' c.index-number.ensures) low' (c.in_ok-look_at.ensures.looked g pats),
+        λ g pats starts us.
+            looking_next (task g pats c.args.lib.now starts) (plain_rows c.args.rows.now) c.args.fronts.now.spots (HasUnseen c.args.uses.now c.args.seen.now c.args.fronts.now.spots c.args.time) groups owners c.args.queue.now c.args.time c.args.group c.loop-next.queue c.look_at.new.queue bound place number last' (all g pats starts us) (read_at owners place number in' c.index-number.ensures) low' (c.in_ok-look_at.ensures.looked g pats starts us),
       );
     }
 
 pub returns-clause-looked : goal.returns-clause-looked
-returns-clause-looked c g pats =
+returns-clause-looked c g pats starts us =
     let (bound, last, all) = c.loop-next.invariant.looking in
     let none = subst (λ o. IsLast c.args.uses.now.members.classes c.args.group bound o) c.in_default.is last in
-    looking_over (task g pats c.args.lib.now c.args.starts.now) (plain_rows c.args.rows.now) c.args.fronts.now.spots c.args.uses.now.members.classes c.args.uses.now.owners.items c.args.queue.now c.args.time c.args.group c.loop-next.queue bound none (all g pats)
+    looking_over (task g pats c.args.lib.now starts) (plain_rows c.args.rows.now) c.args.fronts.now.spots (HasUnseen c.args.uses.now c.args.seen.now c.args.fronts.now.spots c.args.time) c.args.uses.now.members.classes c.args.uses.now.owners.items c.args.queue.now c.args.time c.args.group c.loop-next.queue bound none (all g pats starts us)

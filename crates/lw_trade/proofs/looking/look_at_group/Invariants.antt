@@ -3,6 +3,9 @@ use Rattle.lw_laws.specs.Covers.{Pattern}
 use Rattle.lw_laws.specs.Graphs.{Graph}
 use Rattle.lw_trade.specs.Links.{IsLast}
 use Rattle.lw_trade.specs.Points.{task}
+use Rattle.lw_trade.specs.Seen.{HasUnseen}
+use Rattle.lw_trade.specs.Uses.{AreUses}
+use Rattle.lw_fixed.specs.declared.micro.Micro.{Micro}
 use Rattle.lw_trade.specs.Rows.{plain_rows}
 use Rattle.lw_trade.proofs.Linking.{place_measure}
 use Rattle.lw_trade.proofs.LookedAt.{IsLooking}
@@ -11,7 +14,7 @@ use Rattle.lw_trade.proofs.looking.look_at_group.Given as goal
 abbrev pub invariant-loop-next : goal.invariant-loop-next
 invariant-loop-next l = record {
   horizon : l.queue.horizon ≡ l.initial.queue.horizon;
-  looking : (bound : ℕ) × IsLast l.uses.members.classes l.group bound l.next × ((g : Graph) (pats : List Pattern) → IsLooking (task g pats l.lib l.starts) (plain_rows l.rows) l.fronts.spots l.uses.members.classes l.uses.owners.items l.initial.queue l.queue l.time l.group bound);
+  looking : (bound : ℕ) × IsLast l.uses.members.classes l.group bound l.next × ((g : Graph) (pats : List Pattern) (starts : List Micro) → AreUses (task g pats l.lib starts) (plain_rows l.rows) l.uses → IsLooking (task g pats l.lib starts) (plain_rows l.rows) l.fronts.spots (HasUnseen l.uses l.seen l.fronts.spots l.time) l.uses.members.classes l.uses.owners.items l.initial.queue l.queue l.time l.group bound);
 }
 
 abbrev pub decreases-loop-next : goal.decreases-loop-next

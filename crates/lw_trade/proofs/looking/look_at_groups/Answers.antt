@@ -1,46 +1,66 @@
 use Rattle.std.proofs.Common.{◌∙◌, ◌<◌, ◌≤◌, ℕ, length, sym, subst, arith}
 use Rattle.lw_trade.specs.Points.{task}
 use Rattle.lw_trade.specs.Rows.{plain_rows}
+use Rattle.lw_trade.specs.Seen.{AreSeen, HasUnseen}
 use Rattle.lw_trade.specs.Settling.{IsStillFor, IsStill, Comes, Waits}
 use Rattle.lw_trade.specs.Uses.{turns_of}
 use Rattle.lw_trade.proofs.Adding.{group_in_time, taken_less, taken_waits}
+use Rattle.lw_trade.proofs.Backed.{reached_low}
+use Rattle.lw_trade.proofs.SeenPoints.{seen_taken, unseen_comes}
 use Rattle.lw_trade.proofs.Ranges.{owners_low}
 use Rattle.lw_trade.proofs.Stepping.{group_over}
 use Rattle.lw_trade.proofs.looking.look_at_groups.Goals as goal
 
 pub take_at-requires-clause-first : goal.take_at-requires-clause-first
 take_at-requires-clause-first c t n w =
-    let (g, pats, st, us) = c.requires.still in
-    let (are, time, still) = c.loop-group.invariant.still g pats st in
+    let (g, pats, starts, st, us) = c.requires.still in
+    let (are, time, still) = c.loop-group.invariant.still g pats starts st us in
     (time.coming t n w).0
 
 pub look_at_group-requires-clause-time : goal.look_at_group-requires-clause-time
 look_at_group-requires-clause-time c =
-    let (g, pats, st, us) = c.requires.still in
-    let (are, time, still) = c.loop-group.invariant.still g pats st in
+    let (g, pats, starts, st, us) = c.requires.still in
+    let (are, time, still) = c.loop-group.invariant.still g pats starts st us in
     omega (arith, c.requires.time, c.loop-group.invariant.horizon, time.horizon)
 
 pub look_at_group-requires-clause-group : goal.look_at_group-requires-clause-group
 look_at_group-requires-clause-group c =
-    let (g, pats, st, us) = c.requires.still in
-    let (are, time, still) = c.loop-group.invariant.still g pats st in
+    let (g, pats, starts, st, us) = c.requires.still in
+    let (are, time, still) = c.loop-group.invariant.still g pats starts st us in
     let within : c.args.time ≤ c.loop-group.coming.horizon = omega (arith, c.requires.time, c.loop-group.invariant.horizon) in
     let w = taken_waits c.loop-group.coming c.take_at.new.self c.args.time c.in-Some.group within c.in-Some.ensures in
     (time.coming c.args.time c.in-Some.group w).1
 
 pub look_at_group-requires-clause-are : goal.look_at_group-requires-clause-are
-look_at_group-requires-clause-are c = let (g, pats, st, us) = c.requires.still in us.are
+look_at_group-requires-clause-are c = let (g, pats, starts, st, us) = c.requires.still in us.are
 
 pub look_at_group-requires-clause-owners : goal.look_at_group-requires-clause-owners
 look_at_group-requires-clause-owners c =
-    let (g, pats, st, us) = c.requires.still in
-    owners_low (task g pats c.args.lib.now c.args.starts.now) c.args.rows.now c.args.uses.now us
+    let (g, pats, starts, st, us) = c.requires.still in
+    owners_low (task g pats c.args.lib.now starts) c.args.rows.now c.args.uses.now us
 
 pub look_at_group-requires-clause-late : goal.look_at_group-requires-clause-late
 look_at_group-requires-clause-late c k has =
-    let (g, pats, st, us) = c.requires.still in
-    let (are, time, still) = c.loop-group.invariant.still g pats st in
+    let (g, pats, starts, st, us) = c.requires.still in
+    let (are, time, still) = c.loop-group.invariant.still g pats starts st us in
     still.low k has
+
+pub look_at_group-requires-clause-small : goal.look_at_group-requires-clause-small
+look_at_group-requires-clause-small c k has =
+    let (g, pats, starts, st, us) = c.requires.still in
+    let (are, time, still) = c.loop-group.invariant.still g pats starts st us in
+    reached_low (task g pats c.args.lib.now starts) k (still.reached k has)
+
+pub see-requires-clause-group : goal.see-requires-clause-group
+see-requires-clause-group c =
+    let (g, pats, starts, st, us) = c.requires.still in
+    let (are, time, still) = c.loop-group.invariant.still g pats starts st us in
+    let within : c.args.time ≤ c.loop-group.coming.horizon = omega (arith, c.requires.time, c.loop-group.invariant.horizon) in
+    let w = taken_waits c.loop-group.coming c.take_at.new.self c.args.time c.in-Some.group within c.in-Some.ensures in
+    (time.coming c.args.time c.in-Some.group w).1
+
+pub see-requires-clause-are : goal.see-requires-clause-are
+see-requires-clause-are c = let (g, pats, starts, st, us) = c.requires.still in us.are
 
 pub loop-group-smaller : goal.loop-group-smaller
 loop-group-smaller c =
@@ -48,23 +68,39 @@ loop-group-smaller c =
     taken_less c.loop-group.coming c.take_at.new.self c.args.time c.in-Some.group within c.in-Some.ensures
 
 pub loop-group-preserved : goal.loop-group-preserved
-loop-group-preserved c = record {
-  horizon = c.in-Some.ensures.0 ∙ c.loop-group.invariant.horizon;
-  still = λ g pats st.
-      let s = task g pats c.args.lib.now c.args.starts.now in
-      let xs = plain_rows c.args.rows.now in
-      let w = turns_of c.args.uses.now c.loop-group.coming c.loop-group.queue in
-      let (are, time, still) = c.loop-group.invariant.still g pats st in
-      let within : c.args.time ≤ c.loop-group.coming.horizon = omega (arith, c.requires.time, c.loop-group.invariant.horizon) in
-      let looked = c.in_ok-look_at_group.ensures.looked g pats in
-      let here = group_over s xs c.args.time c.in-Some.group c.args.fronts.now.spots w c.take_at.new.self c.look_at_group.new.queue within still c.in-Some.ensures looked in
-      let here' = subst (λ h. IsStill s xs c.args.time h c.args.fronts.now.spots (Comes (turns_of c.args.uses.now c.take_at.new.self c.look_at_group.new.queue))) (sym c.in-Some.ensures.0) here in
-      (are, group_in_time c.args.time (length xs) w time c.take_at.new.self c.look_at_group.new.queue c.in-Some.group within c.in-Some.ensures looked.horizon looked.only, here');
-}
+loop-group-preserved c =
+    let within : c.args.time ≤ c.loop-group.coming.horizon = omega (arith, c.requires.time, c.loop-group.invariant.horizon) in
+    let all = seen_taken c.args.uses.now c.loop-group.seen c.see.new.seen c.args.fronts.now.spots c.loop-group.coming c.take_at.new.self c.args.time c.in-Some.group within c.in-Some.ensures c.see.ensures c.loop-group.invariant.seen in
+    record {
+      horizon = c.in-Some.ensures.0 ∙ c.loop-group.invariant.horizon;
+      one_each = c.see.ensures.one_each ∙ c.loop-group.invariant.one_each;
+      seen = all;
+      still = λ g pats starts st us.
+          let s = task g pats c.args.lib.now starts in
+          let xs = plain_rows c.args.rows.now in
+          let u = c.args.uses.now in
+          let ks = c.args.fronts.now.spots in
+          let coming = c.take_at.new.self in
+          let queue = c.look_at_group.new.queue in
+          let unseen : ℕ → Type 0 = HasUnseen u c.see.new.seen ks c.args.time in
+          let w = turns_of u c.loop-group.coming c.loop-group.queue in
+          let (are, time, still) = c.loop-group.invariant.still g pats starts st us in
+          let looked = c.in_ok-look_at_group.ensures.looked g pats starts us in
+          let time' = group_in_time c.args.time (length xs) w time coming queue c.in-Some.group within c.in-Some.ensures looked.horizon looked.only in
+          let within' : c.args.time ≤ coming.horizon = omega (arith, within, c.in-Some.ensures.0) in
+          let later : (m : ℕ) → HasUnseen u c.see.new.seen ks c.args.time m → Comes (turns_of u coming queue) c.args.time m = λ m un. unseen_comes u c.see.new.seen ks c.args.time (length xs) m coming queue within' all time' un in
+          let here = group_over s xs c.args.time c.in-Some.group ks unseen w coming queue within still c.in-Some.ensures looked later in
+          let here' = subst (λ h. IsStill s xs c.args.time h ks (Comes (turns_of u coming queue))) (sym c.in-Some.ensures.0) here in
+          (are, time', here');
+    }
+
+pub returns-clause-seen : goal.returns-clause-seen
+returns-clause-seen c =
+    subst (AreSeen c.args.uses.now c.loop-group.seen c.args.fronts.now.spots) (sym c.in_default.ensures.0) c.loop-group.invariant.seen
 
 pub returns-clause-over : goal.returns-clause-over
 returns-clause-over c = subst (λ q. (t g : ℕ) → Waits q t g → c.args.time < t) (sym c.in_default.ensures.0) c.in_default.ensures.1
 
 pub returns-clause-still : goal.returns-clause-still
-returns-clause-still c g pats st =
-    subst (λ q. IsStillFor (task g pats c.args.lib.now c.args.starts.now) (plain_rows c.args.rows.now) c.args.time c.args.fronts.now.spots (turns_of c.args.uses.now q c.loop-group.queue)) (sym c.in_default.ensures.0) (c.loop-group.invariant.still g pats st)
+returns-clause-still c g pats starts st us =
+    subst (λ q. IsStillFor (task g pats c.args.lib.now starts) (plain_rows c.args.rows.now) c.args.time c.args.fronts.now.spots (turns_of c.args.uses.now q c.loop-group.queue)) (sym c.in_default.ensures.0) (c.loop-group.invariant.still g pats starts st us)

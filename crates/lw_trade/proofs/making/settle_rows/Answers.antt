@@ -1,10 +1,11 @@
-use Rattle.std.proofs.Common.{◌∙◌, List, sym, subst}
+use Rattle.std.proofs.Common.{◌∙◌, List, ap, length, sym, subst}
 use Rattle.lw_laws.specs.Covers.{Pattern}
 use Rattle.lw_laws.specs.Graphs.{Graph}
 use Rattle.lw_trade.specs.Backing.{AreBacked}
 use Rattle.lw_trade.specs.Choices.{AreChoices}
 use Rattle.lw_trade.specs.Points.{task}
 use Rattle.lw_trade.specs.Rows.{plain_rows}
+use Rattle.lw_trade.specs.Seen.{AreSeen}
 use Rattle.lw_trade.specs.Settling.{AreSettled, IsStillFor, IsStop}
 use Rattle.lw_trade.specs.Uses.{turns_of}
 use Rattle.lw_trade.proofs.Backed.{none_backed}
@@ -19,10 +20,19 @@ settle_all-requires-clause-still c =
     let rows = plain_rows c.args.rows.now in
     let u = c.in_ok-uses.uses in
     let uses = c.in_ok-uses.ensures.uses g pats c.args.starts.now in
-    let same = c.in_ok-push_starts.ensures.horizon ∙ (c.new-queue.ensures.horizon ∙ sym c.new-coming.ensures.horizon) in
-    let first = first_still s rows u c.new-coming.result c.push_starts.new.queue (c.in_ok-push_starts.ensures.still g pats c.args.lib.now are) c.new-coming.ensures.items same in
-    let still = subst (λ ks. IsStillFor s rows 0 ks (turns_of u c.new-coming.result c.push_starts.new.queue)) (sym c.in_ok-fronts.ensures.spots) first in
+    let same = c.in_ok-push_starts.ensures.horizon ∙ (c.in_ok-queue.ensures.horizon ∙ sym c.in_ok-coming.ensures.horizon) in
+    let first = first_still s rows u c.in_ok-coming.coming c.push_starts.new.queue (c.in_ok-push_starts.ensures.still g pats c.args.lib.now are) c.in_ok-coming.ensures.items same in
+    let still = subst (λ ks. IsStillFor s rows 0 ks (turns_of u c.in_ok-coming.coming c.push_starts.new.queue)) (sym c.in_ok-fronts.ensures.spots) first in
     (g, pats, still, uses)
+
+pub settle_all-requires-clause-one_each : goal.settle_all-requires-clause-one_each
+settle_all-requires-clause-one_each c =
+    let (g, pats, are) = c.requires.choices in
+    let uses = c.in_ok-uses.ensures.uses g pats c.args.starts.now in
+    ap length c.deref_mut.ensures.value ∙ (c.in_ok-seen.ensures ∙ (c.len-3.ensures.len ∙ sym uses.are.count))
+
+pub settle_all-requires-clause-seen : goal.settle_all-requires-clause-seen
+settle_all-requires-clause-seen c = subst (λ ks. AreSeen c.in_ok-uses.uses c.deref_mut.result.now ks c.in_ok-coming.coming) (sym c.in_ok-fronts.ensures.spots) (λ k g d (i, at) is le. cc)
 
 pub returns-in_err-settle_all-clause-stop : goal.returns-in_err-settle_all-clause-stop
 returns-in_err-settle_all-clause-stop c =
@@ -31,10 +41,10 @@ returns-in_err-settle_all-clause-stop c =
     let rows = plain_rows c.args.rows.now in
     let u = c.in_ok-uses.uses in
     let uses = c.in_ok-uses.ensures.uses g pats c.args.starts.now in
-    let same = c.in_ok-push_starts.ensures.horizon ∙ (c.new-queue.ensures.horizon ∙ sym c.new-coming.ensures.horizon) in
-    let first = first_still s rows u c.new-coming.result c.push_starts.new.queue (c.in_ok-push_starts.ensures.still g pats c.args.lib.now are) c.new-coming.ensures.items same in
-    let still = subst (λ ks. IsStillFor s rows 0 ks (turns_of u c.new-coming.result c.push_starts.new.queue)) (sym c.in_ok-fronts.ensures.spots) first in
-    subst (λ h. IsStop s rows h c.in_err-settle_all.field-0.0) c.new-coming.ensures.horizon (c.in_err-settle_all.ensures.settled g pats still uses))
+    let same = c.in_ok-push_starts.ensures.horizon ∙ (c.in_ok-queue.ensures.horizon ∙ sym c.in_ok-coming.ensures.horizon) in
+    let first = first_still s rows u c.in_ok-coming.coming c.push_starts.new.queue (c.in_ok-push_starts.ensures.still g pats c.args.lib.now are) c.in_ok-coming.ensures.items same in
+    let still = subst (λ ks. IsStillFor s rows 0 ks (turns_of u c.in_ok-coming.coming c.push_starts.new.queue)) (sym c.in_ok-fronts.ensures.spots) first in
+    subst (λ h. IsStop s rows h c.in_err-settle_all.field-0.0) c.in_ok-coming.ensures.horizon (c.in_err-settle_all.ensures.settled g pats still uses))
 
 pub returns-clause-settled : goal.returns-clause-settled
 returns-clause-settled c g pats are =
@@ -42,10 +52,10 @@ returns-clause-settled c g pats are =
     let rows = plain_rows c.args.rows.now in
     let u = c.in_ok-uses.uses in
     let uses = c.in_ok-uses.ensures.uses g pats c.args.starts.now in
-    let same = c.in_ok-push_starts.ensures.horizon ∙ (c.new-queue.ensures.horizon ∙ sym c.new-coming.ensures.horizon) in
-    let first = first_still s rows u c.new-coming.result c.push_starts.new.queue (c.in_ok-push_starts.ensures.still g pats c.args.lib.now are) c.new-coming.ensures.items same in
-    let still = subst (λ ks. IsStillFor s rows 0 ks (turns_of u c.new-coming.result c.push_starts.new.queue)) (sym c.in_ok-fronts.ensures.spots) first in
-    subst (λ h. AreSettled s h rows c.settle_all.new.fronts.spots) c.new-coming.ensures.horizon (c.in_ok-settle_all.ensures.settled g pats still uses)
+    let same = c.in_ok-push_starts.ensures.horizon ∙ (c.in_ok-queue.ensures.horizon ∙ sym c.in_ok-coming.ensures.horizon) in
+    let first = first_still s rows u c.in_ok-coming.coming c.push_starts.new.queue (c.in_ok-push_starts.ensures.still g pats c.args.lib.now are) c.in_ok-coming.ensures.items same in
+    let still = subst (λ ks. IsStillFor s rows 0 ks (turns_of u c.in_ok-coming.coming c.push_starts.new.queue)) (sym c.in_ok-fronts.ensures.spots) first in
+    subst (λ h. AreSettled s h rows c.settle_all.new.fronts.spots) c.in_ok-coming.ensures.horizon (c.in_ok-settle_all.ensures.settled g pats still uses)
 
 pub returns-clause-backed : goal.returns-clause-backed
 returns-clause-backed c g pats are =
@@ -53,7 +63,7 @@ returns-clause-backed c g pats are =
     let rows = plain_rows c.args.rows.now in
     let u = c.in_ok-uses.uses in
     let uses = c.in_ok-uses.ensures.uses g pats c.args.starts.now in
-    let same = c.in_ok-push_starts.ensures.horizon ∙ (c.new-queue.ensures.horizon ∙ sym c.new-coming.ensures.horizon) in
-    let first = first_still s rows u c.new-coming.result c.push_starts.new.queue (c.in_ok-push_starts.ensures.still g pats c.args.lib.now are) c.new-coming.ensures.items same in
-    let still = subst (λ ks. IsStillFor s rows 0 ks (turns_of u c.new-coming.result c.push_starts.new.queue)) (sym c.in_ok-fronts.ensures.spots) first in
+    let same = c.in_ok-push_starts.ensures.horizon ∙ (c.in_ok-queue.ensures.horizon ∙ sym c.in_ok-coming.ensures.horizon) in
+    let first = first_still s rows u c.in_ok-coming.coming c.push_starts.new.queue (c.in_ok-push_starts.ensures.still g pats c.args.lib.now are) c.in_ok-coming.ensures.items same in
+    let still = subst (λ ks. IsStillFor s rows 0 ks (turns_of u c.in_ok-coming.coming c.push_starts.new.queue)) (sym c.in_ok-fronts.ensures.spots) first in
     c.in_ok-settle_all.ensures.backed g pats still uses (subst (AreBacked s rows) (sym c.in_ok-fronts.ensures.held) (none_backed s rows))

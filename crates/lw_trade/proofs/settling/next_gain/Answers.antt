@@ -7,6 +7,7 @@ use Rattle.lw_trade.specs.Fronts.{FrontState, IsTried}
 use Rattle.lw_trade.specs.Points.{task}
 use Rattle.lw_trade.specs.Pricing.{IsOfLibrary, IsWithin}
 use Rattle.lw_trade.specs.Rows.{plain_part, plain_row, plain_rows}
+use Rattle.lw_trade.specs.Seen.{AreSeen}
 use Rattle.lw_trade.specs.Settling.{Spot, spot, Has, HasAtMost, IsBest, IsGained, IsGaining, IsStill, IsStillFor, Waits}
 use Rattle.lw_trade.proofs.Backed.{backed_gained, reached_low}
 use Rattle.lw_trade.proofs.Lists.{got}
@@ -114,6 +115,16 @@ returns-then-branch-clause-gain c g pats st =
     let gained = subst (λ (f : FrontState). IsGained f.spots c.gain.new.self.spots (spot r.class.0 c.args.time c.in-Some-price.area)) c.loop-number.invariant.fronts tried.0 in
     let intime = looked_in_time c.args.time (length (plain_rows c.args.rows.now)) (turns_of c.args.uses.now c.args.coming.now c.loop-number.queue) time c.take_at.new.self c.in-Some.number within c.in-Some.ensures in
     (are, intime, taken_gained s (plain_rows c.args.rows.now) c.args.time c.in-Some.number c.args.fronts.now.spots (turns_of c.args.uses.now c.args.coming.now c.loop-number.queue) c.take_at.new.self within still c.in-Some.ensures (plain_row r) at are c.in-Some-price.area c.gain.new.self.spots best gained)
+
+pub returns-then-branch-clause-seen : goal.returns-then-branch-clause-seen
+returns-then-branch-clause-seen c seen are =
+    let r = c.index-rows-number.result in
+    let tried = subst (IsTried c.loop-number.fronts c.gain.new.self (spot r.class.0 c.args.time c.in-Some-price.area) c.in-Some.number) c.if-branch.true c.in_ok-gain.ensures.tried in
+    let gained = subst (λ (f : FrontState). IsGained f.spots c.gain.new.self.spots (spot r.class.0 c.args.time c.in-Some-price.area)) c.loop-number.invariant.fronts tried.0 in
+    (c.args.fronts.now.spots, c.in-Some-price.area, are, gained)
+
+pub returns-clause-seen : goal.returns-clause-seen
+returns-clause-seen c seen are = subst (λ (f : FrontState). AreSeen c.args.uses.now seen f.spots c.args.coming.now) (sym c.loop-number.invariant.fronts) are
 
 pub returns-then-branch-clause-falls : goal.returns-then-branch-clause-falls
 returns-then-branch-clause-falls c =

@@ -1,4 +1,4 @@
-use Rattle.std.proofs.Common.{◌+◌, ◌∙◌, slice_index_or, option_map, refl, sym, ap, subst, arith}
+use Rattle.std.proofs.Common.{◌≡◌, ◌+◌, ◌∙◌, Some, length, slice_get, slice_index_or, option_map, refl, sym, ap, subst, arith}
 use Rattle.std.proofs.lemmas.Option.{slice_get-map}
 use Rattle.lw_pool.specs.declared.id.ClassId.{ClassId}
 use Rattle.lw_fixed.specs.declared.micro.Micro.{Micro}
@@ -12,6 +12,8 @@ pub loop-pin-preserved : goal.loop-pin-preserved
 loop-pin-preserved c = record {
   count = c.in_ok-add_pin.ensures.count ∙ c.loop-pin.invariant.count;
   are = c.in_ok-add_pin.ensures.added.are;
+  firsts = c.in_ok-add_pin.ensures.added.firsts ∙ c.loop-pin.invariant.firsts;
+  longer = let one = c.in_ok-add_pin.ensures.added.longer in omega (arith, one, c.loop-pin.invariant.longer);
   uses = λ s xs class cell at delays start.
       let here = c.loop-pin.invariant.uses s xs class cell at delays start in
       let k = c.loop-pin.pin in
@@ -20,5 +22,5 @@ loop-pin-preserved c = record {
       let p = slice_index_or c.args.pins.now k y in
       let pn = slice_get-map (λ (q : ClassId). q.0) c.args.pins.now k ∙ ap (option_map (λ (q : ClassId). q.0)) (got c.args.pins.now k y c.loop-pin-test.true) in
       let dl = delay_read s xs cell c.args.delays.now k z (omega (arith, c.loop-pin-test.true, c.requires.one_each)) delays in
-      pin_used s xs c.args.choice k p.0 cell class (numbers c.args.pins.now) c.loop-pin.uses c.add_pin.new.uses at pn (subst (λ d. IsPinAdded c.loop-pin.uses c.add_pin.new.uses p.0 d c.args.choice) dl c.in_ok-add_pin.ensures.added) here;
+      pin_used s xs c.args.choice k p.0 cell class (length c.args.uses.now.members.classes) (numbers c.args.pins.now) c.loop-pin.uses c.add_pin.new.uses (subst (λ fs. slice_get fs c.args.choice ≡ Some (length c.args.uses.now.members.classes)) (sym c.loop-pin.invariant.firsts) c.requires.first) c.loop-pin.invariant.longer at pn (subst (λ d. IsPinAdded c.loop-pin.uses c.add_pin.new.uses p.0 d c.args.choice) dl c.in_ok-add_pin.ensures.added) here;
 }

@@ -1,4 +1,4 @@
-use Rattle.std.proofs.Common.{◌≡◌, ℕ, List, Some, map, slice_get}
+use Rattle.std.proofs.Common.{◌≡◌, ◌+◌, ℕ, List, Some, length, map, slice_get}
 use Rattle.lw_genlib.specs.Tables.{millionths}
 use Rattle.lw_laws.specs.Covers.{delays_of}
 use Rattle.lw_match.specs.Values.{numbers}
@@ -12,5 +12,7 @@ abbrev pub invariant-loop-pin : goal.invariant-loop-pin
 invariant-loop-pin l = record {
   count : l.uses.links.count ≡ l.initial.uses.links.count;
   are : AreGroups l.uses;
+  firsts : l.uses.firsts.items ≡ l.initial.uses.firsts.items;
+  longer : length l.uses.members.classes ≡ length l.initial.uses.members.classes + l.pin;
   uses : (s : Task) (xs : List Choice) (c cell : ℕ) → slice_get xs l.choice ≡ Some (record { class = c; part = gate cell (numbers l.pins) }) → delays_of (timing s).delays cell ≡ map millionths l.delays → AreUsesTo s xs l.choice 0 l.initial.uses → AreUsesTo s xs l.choice l.pin l.uses;
 }

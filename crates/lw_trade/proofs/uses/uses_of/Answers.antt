@@ -12,6 +12,7 @@ pub loop-choice-init : goal.loop-choice-init
 loop-choice-init c = record {
   count = c.in_ok-uses.ensures.count;
   are = c.in_ok-uses.ensures.are;
+  next = ap length c.in_ok-uses.ensures.firsts;
   uses = λ g pats starts. none_used (task g pats c.args.lib.now starts) (plain_rows c.args.rows.now) c.in_ok-uses.uses c.in_ok-uses.ensures.are c.in_ok-uses.ensures.none;
 }
 
@@ -23,6 +24,7 @@ loop-choice-preserved c =
     record {
       count = c.in_ok-add_choice.ensures.count ∙ c.loop-choice.invariant.count;
       are = c.in_ok-add_choice.ensures.are;
+      next = c.in_ok-add_choice.ensures.next;
       uses = λ g pats starts. c.in_ok-add_choice.ensures.uses g pats starts (plain_rows c.args.rows.now) at (c.loop-choice.invariant.uses g pats starts);
     }
 

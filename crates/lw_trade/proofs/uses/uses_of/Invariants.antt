@@ -1,4 +1,4 @@
-use Rattle.std.proofs.Common.{◌≡◌, List}
+use Rattle.std.proofs.Common.{◌≡◌, List, length}
 use Rattle.lw_fixed.specs.declared.micro.Micro.{Micro}
 use Rattle.lw_laws.specs.Covers.{Pattern}
 use Rattle.lw_laws.specs.Graphs.{Graph}
@@ -11,5 +11,6 @@ abbrev pub invariant-loop-choice : goal.invariant-loop-choice
 invariant-loop-choice l = record {
   count : l.uses.links.count ≡ l.fn.classes;
   are : AreGroups l.uses;
+  next : length l.uses.firsts.items ≡ l.choice;
   uses : (g : Graph) (pats : List Pattern) (starts : List Micro) → AreUsesTo (task g pats l.lib starts) (plain_rows l.rows) l.choice 0 l.uses;
 }

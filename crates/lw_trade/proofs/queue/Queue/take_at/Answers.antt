@@ -1,35 +1,70 @@
-use Rattle.std.proofs.Common.{◌≤◌, ◌∷◌, Some, refl, sym, subst, heap_items, arith}
-use Rattle.std.proofs.lemmas.List.Sorted.{All-permutation}
-use Rattle.std.proofs.lemmas.List.Elements.{All-tail}
-use Rattle.lw_trade.specs.Settling.{Queued}
-use Rattle.lw_trade.specs.Queues.{Item, IsFirstTime, IsTaken}
-use Rattle.lw_trade.proofs.Queueing.{none_waits, taken_is}
+use Rattle.std.proofs.Common.{◌≡◌, ◌-◌, ◌≤◌, ◌<◌, ◌∷◌, ◌++◌, ◌∙◌, ℕ, All, Some, None, heap_items, sym, ap, subst, subst₂, arith}
+use Rattle.std.specs.List.Sorted.{IsPermutation}
+use Rattle.lw_trade.specs.Queues.{Item, IsMostLeft, IsQueue, IsTaken, flat}
+use Rattle.lw_trade.specs.Settling.{Queued, Waits}
+use Rattle.lw_trade.proofs.Lists.{get_in}
+use Rattle.lw_trade.proofs.Queueing.{heap_without, none_in, none_taken, queue_taken, taken_heap, taken_lanes, taken_left}
 use Rattle.lw_trade.proofs.queue.Queue.take_at.Goals as goal
 
-pub returns-in_default : goal.returns-in_default
-returns-in_default c = (refl, λ t n w. absurd (none_waits c.args.self.now c.in_default.ensures t n w))
+pub invariant_of-self : goal.invariant_of-self
+invariant_of-self c =
+    let item : Item = (c.self.inside.horizon - c.args.time, c.in-Some.found) in
+    let heap = heap_items c.self.inside.heap in
+    let old = flat c.self.inside.lanes.items in
+    let new = flat c.take_any.new.lanes.items in
+    queue_taken c.self.inside.horizon item heap old heap new c.self.invariant c.self.invariant.is_heap (taken_lanes item heap old new c.in-Some.ensures)
 
-pub returns-then-first-time : goal.returns-then-first-time
-returns-then-first-time c =
-    let ((n, w), first) = c.in-Some.ensures in
-    let low = c.requires.first c.in-Some.first n w in
-    (refl, λ t m v. let l = first t m v in omega (arith, l, low, c.if-first-time.true))
+pub returns-in-Some : goal.returns-in-Some
+returns-in-Some c =
+    let item : Item = (c.self.inside.horizon - c.args.time, c.in-Some.found) in
+    let heap = heap_items c.self.inside.heap in
+    let old = flat c.self.inside.lanes.items in
+    let new = flat c.take_any.new.lanes.items in
+    let perm = taken_lanes item heap old new c.in-Some.ensures in
+    let e = ap (λ (q : Queued). q.horizon) c.self.view_is in
+    (e, (c.in-Some.found.0, subst (λ (q : Queued). IsPermutation q.items ((q.horizon - c.args.time, c.in-Some.found) ∷ (heap ++ new))) c.self.view_is perm))
+
+pub returns-in_default-most_in_heap : goal.returns-in_default-most_in_heap
+returns-in_default-most_in_heap c =
+    let horizon = c.self.inside.horizon in
+    let heap = heap_items c.self.inside.heap in
+    let old = c.self.inside.lanes.items in
+    let (same, less) = c.in_default.ensures in
+    let first = subst (λ (q : Queued). (t n : ℕ) → Waits q t n → c.args.time ≤ t) (sym c.self.view_is) c.requires.first in
+    let within : c.args.time ≤ horizon = omega (arith, c.requires.within, ap (λ (q : Queued). q.horizon) c.self.view_is) in
+    let over = none_taken horizon c.args.time heap old c.self.invariant within first (λ i lane at. less i lane (omega arith) (get_in old i lane at) at) (none_in (horizon - c.args.time) heap (c.in_default-most_in_heap.ensures c.self.invariant.is_heap)) in
+    (ap (λ ls. record { horizon = horizon; items = heap ++ flat ls }) same ∙ c.self.view_is, subst (λ (q : Queued). (t n : ℕ) → Waits q t n → c.args.time < t) c.self.view_is over)
+
+pub returns-then-first-left : goal.returns-then-first-left
+returns-then-first-left c =
+    let horizon = c.self.inside.horizon in
+    let heap = heap_items c.self.inside.heap in
+    let old = c.self.inside.lanes.items in
+    let (same, less) = c.in_default.ensures in
+    let first = subst (λ (q : Queued). (t n : ℕ) → Waits q t n → c.args.time ≤ t) (sym c.self.view_is) c.requires.first in
+    let within : c.args.time ≤ horizon = omega (arith, c.requires.within, ap (λ (q : Queued). q.horizon) c.self.view_is) in
+    let over = none_taken horizon c.args.time heap old c.self.invariant within first (λ i lane at. less i lane (omega arith) (get_in old i lane at) at) (heap_without (horizon - c.args.time) c.in-Some-most_in_heap.first heap (c.in-Some-most_in_heap.ensures c.self.invariant.is_heap) c.if-first-left.true) in
+    (ap (λ ls. record { horizon = horizon; items = heap ++ flat ls }) same ∙ c.self.view_is, subst (λ (q : Queued). (t n : ℕ) → Waits q t n → c.args.time < t) c.self.view_is over)
 
 pub invariant_of-self-2 : goal.invariant_of-self-2
 invariant_of-self-2 c =
-    let items = heap_items c.self.inside.heap in
-    let new = heap_items c.pop.new.self in
-    record {
-      heap = (c.in-Some-pop.ensures.heap_order c.self.invariant.heap).0;
-      within = All-tail (λ (x : Item). x.0 ≤ c.self.inside.horizon) c.in-Some-pop.taken new (All-permutation (λ (x : Item). x.0 ≤ c.self.inside.horizon) items (c.in-Some-pop.taken ∷ new) c.in-Some-pop.ensures.permutation c.self.invariant.within);
-    }
+    let horizon = c.self.inside.horizon in
+    let heap = heap_items c.self.inside.heap in
+    let heap' = heap_items c.pop.new.self in
+    let old = c.self.inside.lanes.items in
+    let item = c.in-Some-pop.taken in
+    subst (λ ls. IsQueue horizon heap' (flat ls)) (sym c.in_default.ensures.0) (queue_taken horizon item heap (flat old) heap' (flat old) c.self.invariant (c.in-Some-pop.ensures.heap_order c.self.invariant.is_heap).0 (taken_heap item heap heap' (flat old) c.in-Some-pop.ensures.permutation))
 
 pub returns : goal.returns
 returns c =
-    let items = heap_items c.self.inside.heap in
-    let new = heap_items c.pop.new.self in
-    let next : Queued = record { horizon = c.self.inside.horizon; items = new } in
-    let time = subst (λ t. IsFirstTime c.args.self.now (Some t)) c.if-first-time.false c.in-Some.ensures in
-    let time' = subst (λ q. IsFirstTime q (Some c.args.time)) (sym c.self.view_is) time in
-    let here = taken_is c.self.inside.horizon c.args.time items new c.in-Some-pop.taken c.self.invariant (c.in-Some-pop.ensures.heap_order c.self.invariant.heap).1 c.in-Some-pop.ensures.permutation time' in
-    subst (λ q. IsTaken q next c.args.time (Some c.in-Some-pop.taken.1.1)) c.self.view_is here
+    let horizon = c.self.inside.horizon in
+    let heap = heap_items c.self.inside.heap in
+    let heap' = heap_items c.pop.new.self in
+    let old = c.self.inside.lanes.items in
+    let item = c.in-Some-pop.taken in
+    let most = subst (λ n. IsMostLeft heap (Some n)) c.if-first-left.false (c.in-Some-most_in_heap.ensures c.self.invariant.is_heap) in
+    let left = taken_left heap heap' item (horizon - c.args.time) most c.in-Some-pop.ensures.permutation (c.in-Some-pop.ensures.heap_order c.self.invariant.is_heap).1 in
+    let perm = taken_heap item heap heap' (flat old) c.in-Some-pop.ensures.permutation in
+    let perm' = subst₂ (λ n ls. IsPermutation (heap ++ flat old) ((n, item.1) ∷ (heap' ++ flat ls))) left (sym c.in_default.ensures.0) perm in
+    let e = ap (λ (q : Queued). q.horizon) c.self.view_is in
+    (e, (item.1.0, subst (λ (q : Queued). IsPermutation q.items ((q.horizon - c.args.time, item.1) ∷ (heap' ++ flat c.take_any.new.lanes.items))) c.self.view_is perm'))

@@ -1,0 +1,68 @@
+-- What the groups of pins have seen: the least area of the points of their class that came.
+use Rattle.std.specs.Prelude.{ℕ, zero, suc, ◌+◌, ◌<◌, ◌≤◌, ◌≡◌, ◌⊎◌, List, length, Option, Some, None, slice_get, slice_index_or}
+use Rattle.lw_pool.specs.declared.id.ClassId.{ClassId}
+use Rattle.lw_genlib.specs.Cells.{CellParts}
+use Rattle.lw_trade.specs.declared.uses.Uses.{Uses}
+use Rattle.lw_trade.specs.Areas.{most_area, area_at}
+use Rattle.lw_trade.specs.Choices.{Part}
+use Rattle.lw_trade.specs.Choices.Part.{input, gate}
+use Rattle.lw_trade.specs.Settling.{Spot, spot, Has, IsGained, Queued, Waits}
+use Rattle.lw_trade.specs.Uses.{IsGroup}
+
+-- the group has seen an area of no more than this
+abbrev pub HasSeen : List ℕ → ℕ → ℕ → Type 0
+HasSeen seen g area = (own : ℕ) × (slice_get seen g ≡ Some own) × (own ≤ area)
+
+-- each group has seen the points of its class, but for those that it comes for
+abbrev pub AreSeen : Uses → List ℕ → List Spot → Queued → Type 0
+AreSeen u seen spots coming =
+    (k : Spot) (g delay : ℕ) → Has spots k → IsGroup u.links.classes u.delays.items k.class delay g → k.time + delay ≤ coming.horizon → HasSeen seen g k.area ⊎ Waits coming (k.time + delay) g
+
+-- the same, where a class has gained a point at a time for which no group comes yet
+abbrev pub AreSeenAfter : Uses → List ℕ → List Spot → Queued → ℕ → Option ClassId → Type 0
+AreSeenAfter u seen spots coming time None = AreSeen u seen spots coming
+AreSeenAfter u seen spots coming time (Some class) =
+    (old : List Spot) × (area : ℕ) × AreSeen u seen old coming × IsGained old spots (spot class.0 time area)
+
+-- a group sees the points of its class by a time, and none has seen less than before
+pub record IsSeeing (u : Uses) (spots : List Spot) (old new : List ℕ) (group time : ℕ) : Type 0 where
+  pub one_each : length new ≡ length old
+  pub kept : (g area : ℕ) → HasSeen old g area → HasSeen new g area
+  pub here : (k : Spot) (delay : ℕ) → Has spots k → IsGroup u.links.classes u.delays.items k.class delay group → k.time + delay ≤ time → HasSeen new group k.area
+
+-- a point of a pin's class that the pin's group has not seen, in time for the choice
+pub record HasUnseen (u : Uses) (seen : List ℕ) (spots : List Spot) (time n : ℕ) : Type 0 where
+  pub point : Spot
+  pub has : Has spots point
+  pub group : ℕ
+  pub delay : ℕ
+  pub group_is : IsGroup u.links.classes u.delays.items point.class delay group
+  pub in_time : point.time + delay ≤ time
+  pub place : ℕ
+  pub member : slice_get u.members.classes place ≡ Some group
+  pub owner : slice_get u.owners.items place ≡ Some n
+  pub unseen : HasSeen seen group point.area → ⊥
+
+-- what the group of the pin at a place has seen
+abbrev pub seen_at : List ℕ → List ℕ → ℕ → ℕ
+seen_at groups seen place = slice_index_or seen (slice_index_or groups place 0) 0
+
+-- those of so many pins from a place on together
+abbrev pub sum_seen : List ℕ → List ℕ → ℕ → ℕ → ℕ
+sum_seen groups seen place zero = 0
+sum_seen groups seen place (suc n) = seen_at groups seen place + sum_seen groups seen (place + 1) n
+
+-- no more than what the groups of so many pins have seen together, and none where one has seen nothing
+abbrev pub IsSeenOfPins : List ℕ → List ℕ → ℕ → ℕ → Option ℕ → Type 0
+IsSeenOfPins groups seen first n None =
+    (i : ℕ) × (i < n) × (most_area < seen_at groups seen (first + i))
+IsSeenOfPins groups seen first n (Some area) = (area ≤ most_area) × (area ≤ sum_seen groups seen first n)
+
+-- no more than what a choice gives with points that its groups have seen, and none where one has seen nothing
+abbrev pub IsSeenPrice : List CellParts → Uses → List ℕ → Part → ℕ → Option ℕ → Type 0
+IsSeenPrice cells u seen (input i) n None = ⊥
+IsSeenPrice cells u seen (input i) n (Some area) = area ≡ 0
+IsSeenPrice cells u seen (gate cell ps) n None =
+    (first : ℕ) × (slice_get u.firsts.items n ≡ Some first) × IsSeenOfPins u.members.classes seen first (length ps) None
+IsSeenPrice cells u seen (gate cell ps) n (Some area) =
+    (area ≡ 0) ⊎ ((first : ℕ) × (slice_get u.firsts.items n ≡ Some first) × (area ≤ most_area) × (area ≤ area_at cells cell + sum_seen u.members.classes seen first (length ps)))

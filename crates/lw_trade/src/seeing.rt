@@ -1,0 +1,99 @@
+// What the groups of pins have seen: the least area of the points of their class that came.
+ghost use Rattle.std.specs.Prelude.{◌≡◌, ◌-◌, ◌<◌, ◌≤◌, IfOk, IfSome, length};
+ghost use Rattle.lw_trade.specs.Areas.{most_area};
+ghost use Rattle.lw_trade.specs.Pricing.{IsOfLibrary};
+ghost use Rattle.lw_trade.specs.Rows.{plain_part};
+ghost use Rattle.lw_trade.specs.Seen.{IsSeeing, IsSeenOfPins, IsSeenPrice};
+ghost use Rattle.lw_trade.specs.Uses.{AreGroups};
+
+use crate::area::{MOST_AREA, joined};
+use crate::choices::Stand;
+use crate::fronts::{Fronts, NO_AREA};
+use crate::links::Links;
+use crate::uses::Uses;
+use lw_genlib::Library;
+use std::alloc::{AllocError, Global};
+
+/// No group has seen a point yet.
+pub(crate) fn none_seen(alloc: Global, groups: u32) -> Result<Vec<u64>, AllocError>
+    ensures { IfOk result (λ seen. length seen.items ≡ groups) }
+{
+    vec![in alloc; NO_AREA; groups as usize]
+}
+
+/// Lets a group see the last point of its class that comes by a time.
+pub(crate) fn see(uses: &Uses, fronts: &Fronts, seen: &mut [u64], group: u32, time: u64)
+    requires group { group < uses.now.members.count }
+    requires are { AreGroups uses.now }
+    requires one_each { length seen.old ≡ uses.now.members.count }
+    requires count { uses.now.links.count ≡ length fronts.now.least }
+    ensures { IsSeeing uses.now fronts.now.spots seen.old seen.new group time }
+{
+    let delay = uses.delays[group as usize];
+    if delay > time {
+        return;
+    }
+    let class = uses.links.class(group);
+    let Some(area) = fronts.area_by(class, time - delay) else {
+        return;
+    };
+    if area < seen[group as usize] {
+        seen[group as usize] = area;
+    }
+}
+
+// What the groups of the pins from a place on and before another have seen together, and none where
+// one has seen nothing.
+fn seen_of_pins(groups: &Links, seen: &[u64], first: u32, end: u32) -> Option<u64>
+    requires order { first ≤ end }
+    requires within { end ≤ length groups.now.classes }
+    requires one_each { length seen.now ≡ groups.now.count }
+    ensures { IsSeenOfPins groups.now.classes seen.now first (end - first) result }
+{
+    let mut area = 0;
+    let mut place = end;
+    while place > first {
+        place -= 1;
+        let group = groups.class(place);
+        let own = seen[group.0 as usize];
+        if own > MOST_AREA {
+            return None;
+        }
+        area = joined(own, area);
+    }
+    Some(area)
+}
+
+/// No more than the area that a choice gives with points that its groups have seen, and none where
+/// a group has seen nothing.
+pub(crate) fn seen_price(
+    stand: &Stand,
+    lib: &Library,
+    uses: &Uses,
+    seen: &[u64],
+    number: u32,
+) -> Option<u64>
+    requires one_each { length seen.now ≡ uses.now.members.count }
+    requires cell { IsOfLibrary lib.now (plain_part stand.now) }
+    ensures low { IfSome result (λ area. area ≤ most_area) }
+    ensures seen { IsSeenPrice lib.now uses.now seen.now (plain_part stand.now) number result }
+{
+    let Stand::Gate(gate) = stand else {
+        return Some(0);
+    };
+    let number = number as usize;
+    if number >= uses.firsts.len() {
+        return Some(0);
+    }
+    let first = uses.firsts[number];
+    let Some(end) = first.checked_add(gate.pins.len() as u32) else {
+        return Some(0);
+    };
+    if end > uses.members.len() {
+        return Some(0);
+    }
+    match seen_of_pins(&uses.members, seen, first, end) {
+        Some(area) => Some(joined(lib.cell(gate.cell).area().0, area)),
+        None => None,
+    }
+}
