@@ -59,7 +59,7 @@ impl Contents {
         ensures takes { OnOk result (Takes self.old saying self.new) }
     {
         match saying {
-            Saying::Gate(gate) => Ok(self.gates.push(gate)?),
+            Saying::Gate(gate) => Ok(self.gates.push_spelled(gate)?),
             Saying::Label(class, label) => self.take_label(class, label),
             Saying::Net(name, class) => self.take_net(name, class),
             Saying::Wire(wire) => Ok(self.wires.push(wire)?),

@@ -1,5 +1,5 @@
 use lw_fixed::Micro;
-use lw_netlist::{DraftGate, Wire};
+use lw_netlist::{SpelledGate, Wire};
 use lw_pool::{ClassId, Latch, Name, Names};
 
 /// What a line says.
@@ -8,7 +8,7 @@ pub enum Saying {
     Model(Name),
     Inputs(Names),
     Outputs(Names),
-    Gate(DraftGate),
+    Gate(SpelledGate),
     Wire(Wire),
     Latch(Latch),
     /// An input arrives at this time.

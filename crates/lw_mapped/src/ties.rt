@@ -1,5 +1,5 @@
 // The words of a gate: `PIN=NET` for each pin, and `OUTPUT=NET`.
-ghost use Rattle.std.specs.Prelude.{◌≡◌, ◌<◌, [], All, ◌≤◌, ◌&&◌, nat_lt, None, length, drop, take, map, IfOk, IsTrue, slice_get, slice_index_or};
+ghost use Rattle.std.specs.Prelude.{◌≡◌, ◌<◌, [], All, ◌≤◌, ◌&&◌, nat_lt, None, length, drop, take, map, ◌++◌, IfOk, OnOk, IsTrue, slice_get, slice_index_or};
 ghost use Rattle.std.specs.List.{before_first, after_first, slice_range, position, position_or_len, list_all};
 ghost use Rattle.lw_genlib.specs.Cells.{CellParts};
 ghost use Rattle.lw_mapped.specs.Commands.{is_among};
@@ -8,8 +8,8 @@ ghost use Rattle.lw_mapped.specs.GateLines.{is_equals, is_for, gives, is_formal,
 use crate::MappedKind;
 use crate::naming::is_name;
 use lw_genlib::Cell;
-use lw_netlist::DraftGate;
-use lw_pool::{CellId, Name, Names};
+use lw_netlist::SpelledGate;
+use lw_pool::{CellId, Name};
 use lw_words::Words;
 use std::alloc::{AllocError, Global};
 
@@ -155,17 +155,20 @@ fn net_for<'a>(words: &'a Words, formal: &[u8]) -> &'a [u8]
     b""
 }
 
-// The nets of the pins.
-fn pin_nets(alloc: Global, words: &Words, pins: &[Name]) -> Result<Names, AllocError>
+// Appends the nets of these pins.
+fn push_pins(gate: &mut SpelledGate, words: &Words, pins: &[Name]) -> Result<(), AllocError>
     requires count { 2 ≤ length words.now }
     requires given { All (λ pin. 0 < length (net_for (drop 2 words.now) pin)) pins.now }
-    ensures { IfOk result (λ nets. nets ≡ map (net_for (drop 2 words.now)) pins.now) }
+    ensures { OnOk result (gate.new ≡ record {
+      cell = gate.old.cell;
+      pins = gate.old.pins ++ map (net_for (drop 2 words.now)) pins.now;
+      out = gate.old.out;
+    }) }
 {
-    let mut nets = Vec::with_capacity(alloc, pins.len())?;
     for pin in pins {
-        nets.push(Name::from_slice(alloc, net_for(words, pin.as_bytes()))?)?;
+        gate.push(net_for(words, pin.as_bytes()))?;
     }
-    Ok(Names::from_vec(nets))
+    Ok(())
 }
 
 /// The gate of words that break no rule.
@@ -174,16 +177,13 @@ pub(crate) fn gate_of(
     id: CellId,
     cell: &Cell,
     words: &Words,
-) -> Result<DraftGate, AllocError>
+) -> Result<SpelledGate, AllocError>
     requires count { 2 ≤ length words.now }
     requires whole { ties_fault cell.now (drop 2 words.now) ≡ None }
     ensures { IfOk result (λ gate. gate ≡ gate_of id.0 cell.now (drop 2 words.now)) }
 {
-    let pins = pin_nets(alloc, words, cell.pins())?;
-    let out = Name::from_slice(alloc, net_for(words, cell.output().as_bytes()))?;
-    Ok(DraftGate {
-        cell: id,
-        pins,
-        out,
-    })
+    let out = net_for(words, cell.output().as_bytes());
+    let mut gate = SpelledGate::new(alloc, id, out)?;
+    push_pins(&mut gate, words, cell.pins())?;
+    Ok(gate)
 }

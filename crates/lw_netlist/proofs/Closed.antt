@@ -34,7 +34,7 @@ module _ (draft : GateDraft) (graph : Graph) (made : IsMadeOf draft graph) (dept
   m = length draft.inputs
 
   abbrev keys : List (List ℕ)
-  keys = graph.signals.keys
+  keys = graph.signals
 
   once : IsDistinct bytes_eq (drivers draft)
   once = once_distinct (drivers draft) made.graph.once

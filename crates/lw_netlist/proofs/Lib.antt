@@ -1,6 +1,8 @@
 pub mod Assembled
+pub mod Chains
 pub mod Closed
 pub mod Filling
+pub mod Found
 pub mod Latest
 pub mod Moving
 pub mod Names
@@ -9,4 +11,5 @@ pub mod Paths
 pub mod Pins
 pub mod Places
 pub mod Settling
+pub mod SpelledNames
 pub mod Starting

@@ -45,7 +45,7 @@ module _ (draft : GateDraft) (graph : Graph) (made : IsMadeOf draft graph) where
   g = length draft.gates
 
   abbrev keys : List (List ℕ)
-  keys = graph.signals.keys
+  keys = graph.signals
 
   abbrev rows : List (List ℕ)
   rows = graph.rows.items
@@ -194,10 +194,10 @@ parts_are draft places net model names inputs gates outputs modelled named count
     ∙ ap (λ ps. with_parts draft.model (names_at draft places) (length draft.inputs) (map (closed_gate net) order) ps) ports)))
 
 -- the parts that are made
-pub placed_parts : (draft : GateDraft) (graph : Graph) (starts places : List ℕ) (is : IsPlaced draft graph starts places) (signals names taken : List (List ℕ)) (turned read : List ℕ) (nets gate_nets port_nets : List NetId) (gates : List Gate) (outputs : List Port) → signals ≡ graph.signals.keys → names ≡ take graph.inputs signals ++ map (signal_at graph.inputs signals) places → AreTurned graph.inputs places turned → read ≡ turned → nets ≡ map (λ s. record { 0 = start_at read s }) starts → gate_nets ≡ nets → port_nets ≡ nets → ((d : GateDraft) (net : List ℕ → ℕ) → IsMadeOf d graph → TellNets graph.signals.keys gate_nets net → gates ≡ map (closed_gate net) (gates_at d.gates places)) → ((net : List ℕ → ℕ) → TellNets graph.signals.keys port_nets net → outputs ≡ map (port_at net) taken) → taken ≡ graph.outputs → ◌≡◌ {A = NetlistParts} (record { model = graph.model; names = names; inputs = graph.inputs; gates = gates; outputs = outputs }) (netlist_in draft (gates_at draft.gates places) (net_by graph.signals.keys starts (names_at draft places)))
+pub placed_parts : (draft : GateDraft) (graph : Graph) (starts places : List ℕ) (is : IsPlaced draft graph starts places) (signals names taken : List (List ℕ)) (turned read : List ℕ) (nets gate_nets port_nets : List NetId) (gates : List Gate) (outputs : List Port) → signals ≡ graph.signals → names ≡ take graph.inputs signals ++ map (signal_at graph.inputs signals) places → AreTurned graph.inputs places turned → read ≡ turned → nets ≡ map (λ s. record { 0 = start_at read s }) starts → gate_nets ≡ nets → port_nets ≡ nets → ((d : GateDraft) (net : List ℕ → ℕ) → IsMadeOf d graph → TellNets graph.signals gate_nets net → gates ≡ map (closed_gate net) (gates_at d.gates places)) → ((net : List ℕ → ℕ) → TellNets graph.signals port_nets net → outputs ≡ map (port_at net) taken) → taken ≡ graph.outputs → ◌≡◌ {A = NetlistParts} (record { model = graph.model; names = names; inputs = graph.inputs; gates = gates; outputs = outputs }) (netlist_in draft (gates_at draft.gates places) (net_by graph.signals starts (names_at draft places)))
 placed_parts draft graph starts places is signals names taken turned read nets gate_nets port_nets gates outputs same named turns as_read are for_gates for_ports closed ports took =
     let made = is.made in
-    let keys = graph.signals.keys in
+    let keys = graph.signals in
     let net : List ℕ → ℕ = net_by keys starts (names_at draft places) in
     let turns' : AreTurned (length draft.inputs) places turned = subst (λ n. AreTurned n places turned) made.inputs turns in
     let tell : TellNets keys nets net = nets_tell draft graph made starts places is turned turns' nets (are ∙ ap (λ (t : List ℕ). map (λ s. let e : NetId = record { 0 = start_at t s } in e) starts) as_read) in

@@ -1,7 +1,8 @@
 -- Names that differ, and their numbers.
-use Rattle.std.proofs.Common.{◌≡◌, ℕ, ◌+◌, ◌<◌, Bool, true, false, not, ◌||◌, cond, List, [], ◌∷◌, ◌++◌, length, map, take, drop, get_or, Some, None, refl, sym, ap, ap₂, subst, ◌∙◌, append_assoc}
+use Rattle.std.proofs.Common.{◌≡◌, ℕ, ◌+◌, ◌<◌, Bool, true, false, not, ◌||◌, cond, List, [], ◌∷◌, ◌++◌, length, map, take, drop, get_or, slice_get, Some, None, refl, sym, ap, ap₂, subst, ◌∙◌, append_assoc}
 use Rattle.std.proofs.lemmas.List.{at_drop_more, map_more, map-append, append-nil}
 use Rattle.std.proofs.lemmas.Bool.{false≢true}
+use Rattle.std.proofs.lemmas.Option.{slice_get_within, get_or_from_slice_get}
 use Rattle.std.specs.List.{flat_map, IsDistinct, AllByRecursion}
 use Rattle.std.specs.Str.{bytes_eq}
 use Rattle.lw_dag.proofs.Names.{differ_back, find_first, find_later}
@@ -37,6 +38,25 @@ undriven_same signals xs ys (Undriven name) same e = sym same ∙ e
 undriven_same signals xs ys (Cycle name) same e = e
 undriven_same signals xs ys (Twice name) same e = e
 undriven_same signals xs ys Memory same e = e
+
+-- one of some names, and those behind it
+name_from : (driven names : List (List ℕ)) (i : ℕ) (name : List ℕ) → slice_get names i ≡ Some name → undriven_in driven (drop i names) ≡ undriven_in driven (name ∷ drop (i + 1) names)
+name_from driven names i name at = at_drop_more (undriven_in driven) names i [] (slice_get_within names i name at) ∙ ap (λ n. undriven_in driven (n ∷ drop (i + 1) names)) (get_or_from_slice_get names i name [] at)
+
+pub undriven_at : (driven names : List (List ℕ)) (i : ℕ) (name : List ℕ) (fault : NetlistFault) → slice_get names i ≡ Some name → undriven_in driven (drop i names) ≡ undriven_in driven names → TellsUndriven driven (name ∷ []) fault → TellsUndriven driven names fault
+undriven_at driven names i name fault at rest e =
+    undriven_same driven (name ∷ drop (i + 1) names) names fault (sym (name_from driven names i name at) ∙ rest) (undriven_first driven (name ∷ []) (drop (i + 1) names) fault e)
+
+pub undriven_behind : (driven names : List (List ℕ)) (i : ℕ) (name : List ℕ) → slice_get names i ≡ Some name → undriven_in driven (drop i names) ≡ undriven_in driven names → undriven_in driven (name ∷ []) ≡ None → undriven_in driven (drop (i + 1) names) ≡ undriven_in driven names
+undriven_behind driven names i name at rest e = sym (undriven_later driven (name ∷ []) (drop (i + 1) names) e) ∙ (sym (name_from driven names i name at) ∙ rest)
+
+-- one more name is numbered
+pub number_more : (driven names : List (List ℕ)) (i : ℕ) (name : List ℕ) (n : ℕ) (old new : List ℕ) → slice_get names i ≡ Some name → n ≡ number_in driven name → old ≡ map (number_in driven) (take i names) → new ≡ old ++ n ∷ [] → new ≡ map (number_in driven) (take (i + 1) names)
+number_more driven names i name n old new at is was grown =
+    let below = slice_get_within names i name at in
+    grown
+    ∙ (ap₂ (λ l k. l ++ k ∷ []) was (is ∙ ap (number_in driven) (sym (get_or_from_slice_get names i name [] at)))
+    ∙ sym (map_more (number_in driven) names i [] below))
 
 -- what one link hangs on, and what those behind it do
 needs_from : {X : Type 0} (link : X → Link) (xs : List X) (i : ℕ) (x : X) → i < length xs → x ≡ get_or xs i x → flat_map needs_of (map link (drop i xs)) ≡ (link x).needs ++ flat_map needs_of (map link (drop (i + 1) xs))

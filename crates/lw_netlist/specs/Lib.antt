@@ -1,3 +1,4 @@
+pub mod Chains
 pub mod Closing
 pub mod Filling
 pub mod Netlists
@@ -5,3 +6,4 @@ pub mod Numbered
 pub mod Ordering
 pub mod Placing
 pub mod Plain
+pub mod Spelled

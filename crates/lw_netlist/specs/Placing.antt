@@ -32,7 +32,7 @@ signal_at inputs signals place = slice_index_or signals (inputs + place) []
 
 -- This is kept of a draft that has neither of the first two faults.
 pub record IsMadeOf (draft : GateDraft) (g : Graph) : Type 0 where
-  pub graph : IsGraphOf draft g.signals.keys g.rows.items
+  pub graph : IsGraphOf draft g.signals g.rows.items
   pub model : g.model ≡ draft.model
   pub inputs : g.inputs ≡ length draft.inputs
   pub outputs : g.outputs ≡ draft.outputs
@@ -50,8 +50,8 @@ pub record IsPlaced (draft : GateDraft) (g : Graph) (starts places : List ℕ) :
   pub within : All (λ p. p < length draft.gates) places
   pub distinct : IsDistinct bytes_eq (names_at draft places)
   pub few : length (names_at draft places) ≤ most_nets
-  pub starts_each : length starts ≡ length g.signals.keys
-  pub below : All (λ s. s < length g.signals.keys) starts
-  pub started : (name : List ℕ) → Contains g.signals.keys name → Contains (names_at draft places) (start_in g.signals.keys starts name)
-  pub outputs : All (Contains g.signals.keys) draft.outputs
-  pub kept : IsNetlist (netlist_in draft (gates_at draft.gates places) (net_by g.signals.keys starts (names_at draft places)))
+  pub starts_each : length starts ≡ length g.signals
+  pub below : All (λ s. s < length g.signals) starts
+  pub started : (name : List ℕ) → Contains g.signals name → Contains (names_at draft places) (start_in g.signals starts name)
+  pub outputs : All (Contains g.signals) draft.outputs
+  pub kept : IsNetlist (netlist_in draft (gates_at draft.gates places) (net_by g.signals starts (names_at draft places)))

@@ -1,5 +1,5 @@
 // Drafts that are closed to netlists.
-ghost use Rattle.std.specs.Prelude.{◌≡◌, ℕ, List, length, map, All, Contains, IfOk, IfErr};
+ghost use Rattle.std.specs.Prelude.{◌≡◌, ◌<◌, ℕ, List, length, map, All, Contains, IfOk, IfErr};
 ghost use Rattle.std.specs.List.{IsDistinct};
 ghost use Rattle.std.specs.Str.{bytes_eq};
 ghost use Rattle.lw_dag.specs.Names.{number_in};
@@ -11,19 +11,19 @@ ghost use Rattle.lw_netlist.specs.Placing.{IsMadeOf, cell_of};
 use crate::graph::Graph;
 use crate::levels::{Starts, find_starts};
 use crate::naming::{driven, numbers, numbers_of, rows};
-use crate::{DraftGate, GateDraft, NetlistFault, Port};
-use indexmap::IndexSet;
+use crate::signals::Signals;
+use crate::{GateDraft, NetlistFault, Port, SpelledGate};
 use lw_dag::{find_levels, first_on_cycle};
 use lw_pool::{CellId, Name, NetId};
 use std::alloc::{AllocError, Global};
 
 // The cells of gates.
-fn cells_of(alloc: Global, gates: &[DraftGate]) -> Result<Vec<CellId>, AllocError>
+fn cells_of(alloc: Global, gates: &[SpelledGate]) -> Result<Vec<CellId>, AllocError>
     ensures { IfOk result (λ cells. cells.items ≡ map cell_of gates.now) }
 {
     let mut cells = Vec::with_capacity(alloc, gates.len())?;
     for gate in gates {
-        cells.push(gate.cell)?;
+        cells.push(gate.cell())?;
     }
     Ok(cells)
 }
@@ -44,7 +44,7 @@ pub(crate) fn graph_of(alloc: Global, draft: GateDraft) -> Result<Graph, Netlist
         gates,
         wires,
     } = draft;
-    let rows = rows(alloc, gates.into_vec(), wires.as_slice(), &signals)?;
+    let rows = rows(alloc, gates.as_slice(), wires.as_slice(), &signals)?;
     let _outputs = numbers_of(alloc, outputs.as_slice(), &signals)?;
     Ok(Graph {
         model,
@@ -76,18 +76,23 @@ pub(crate) fn starts_of(alloc: Global, graph: &Graph) -> Result<Starts, NetlistF
 }
 
 // The number of a name.
-fn place_of(names: &IndexSet<Name>, name: &Name) -> usize
-    ensures { result ≡ number_in names.now.keys name.now }
+fn place_of(names: &Signals, name: &Name) -> usize
+    requires { Contains names.now name.now }
+    ensures number { result ≡ number_in names.now name.now }
+    ensures within { result < length names.now }
 {
-    names.get_index_of(name).unwrap_or(0)
+    match names.find(name.as_bytes()) {
+        Some(place) => place,
+        None => 0,
+    }
 }
 
 // An output with its net.
-fn port(signals: &IndexSet<Name>, name: Name, nets: &[NetId]) -> Port
-    requires distinct { IsDistinct bytes_eq signals.now.keys }
-    requires count { length nets.now ≡ length signals.now.keys }
-    requires known { Contains signals.now.keys name }
-    ensures { (net : List ℕ → ℕ) → TellNets signals.now.keys nets.now net →
+fn port(signals: &Signals, name: Name, nets: &[NetId]) -> Port
+    requires distinct { IsDistinct bytes_eq signals.now }
+    requires count { length nets.now ≡ length signals.now }
+    requires known { Contains signals.now name }
+    ensures { (net : List ℕ → ℕ) → TellNets signals.now nets.now net →
         result ≡ port_at net name }
 {
     let net = nets[place_of(signals, &name)];
@@ -98,13 +103,13 @@ fn port(signals: &IndexSet<Name>, name: Name, nets: &[NetId]) -> Port
 pub(crate) fn ports(
     alloc: Global,
     names: Vec<Name>,
-    signals: &IndexSet<Name>,
+    signals: &Signals,
     nets: &[NetId],
 ) -> Result<Vec<Port>, AllocError>
-    requires distinct { IsDistinct bytes_eq signals.now.keys }
-    requires count { length nets.now ≡ length signals.now.keys }
-    requires known { All (Contains signals.now.keys) names.items }
-    ensures { IfOk result (λ ports. (net : List ℕ → ℕ) → TellNets signals.now.keys nets.now net →
+    requires distinct { IsDistinct bytes_eq signals.now }
+    requires count { length nets.now ≡ length signals.now }
+    requires known { All (Contains signals.now) names.items }
+    ensures { IfOk result (λ ports. (net : List ℕ → ℕ) → TellNets signals.now nets.now net →
         ports.items ≡ map (port_at net) names.items) }
 {
     let mut done = Vec::with_capacity(alloc, names.len())?;

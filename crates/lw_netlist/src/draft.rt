@@ -1,5 +1,7 @@
 ghost use Rattle.std.specs.Prelude.{◌≡◌, ◌++◌, [], ◌∷◌, ◌↔◌, length, IsTrue, OnOk, OnErr};
 
+use crate::SpelledGate;
+use crate::spelled::spelled;
 use lw_pool::{CellId, Name, Names};
 use std::alloc::{AllocError, Global};
 use std::marker::Model;
@@ -22,7 +24,7 @@ pub struct Wire {
 /// Gates by names, in order.
 #[derive(Debug, Drop)]
 pub struct DraftGates {
-    items: Vec<DraftGate>,
+    items: Vec<SpelledGate>,
 }
 
 impl Model for DraftGates {
@@ -44,20 +46,6 @@ impl DraftGates {
         }
     }
 
-    /// The entries of a vector, without memory.
-    pub fn from_vec(items: Vec<DraftGate>) -> Self
-        ensures { result ≡ items.items }
-    {
-        DraftGates { items }
-    }
-
-    /// The entries, without memory.
-    pub fn into_vec(self) -> Vec<DraftGate>
-        ensures { result.items ≡ self }
-    {
-        self.items
-    }
-
     pub fn len(&self) -> usize
         ensures { result ≡ length self.now }
     {
@@ -70,7 +58,7 @@ impl DraftGates {
         self.items.is_empty()
     }
 
-    pub fn as_slice(&self) -> &[DraftGate]
+    pub fn as_slice(&self) -> &[SpelledGate]
         ensures { result.now ≡ self.now }
     {
         &self.items
@@ -78,6 +66,15 @@ impl DraftGates {
 
     /// Appends an entry. For want of memory nothing is changed.
     pub fn push(&mut self, item: DraftGate) -> Result<(), AllocError>
+        ensures ok { OnOk result (self.new ≡ self.old ++ item ∷ []) }
+        ensures err { OnErr result (self.new ≡ self.old) }
+    {
+        let gate = spelled(*self.items.allocator(), &item)?;
+        self.push_spelled(gate)
+    }
+
+    /// Appends an entry that is spelled. For want of memory nothing is changed.
+    pub fn push_spelled(&mut self, item: SpelledGate) -> Result<(), AllocError>
         ensures ok { OnOk result (self.new ≡ self.old ++ item ∷ []) }
         ensures err { OnErr result (self.new ≡ self.old) }
     {

@@ -1,4 +1,4 @@
-use indexmap::IndexSet;
+use crate::signals::Signals;
 use lw_pool::{CellId, Name, Names, Numbers};
 
 // What is kept of a draft: the names that are driven, the numbers of what each gate and then each
@@ -9,6 +9,6 @@ pub(crate) struct Graph {
     pub(crate) inputs: usize,
     pub(crate) outputs: Names,
     pub(crate) cells: Vec<CellId>,
-    pub(crate) signals: IndexSet<Name>,
+    pub(crate) signals: Signals,
     pub(crate) rows: Vec<Numbers>,
 }

@@ -3,6 +3,7 @@
 #![tactic(auto)]
 
 mod arrivals;
+mod buckets;
 mod close;
 mod closing;
 mod draft;
@@ -13,9 +14,12 @@ mod levels;
 mod naming;
 mod netlist;
 mod placing;
+mod signals;
+mod spelled;
 mod values;
 
 pub use draft::{DraftGate, DraftGates, GateDraft, Wire, Wires};
 pub use fault::NetlistFault;
 pub use gate::{Gate, Gates, Port, PortList};
 pub use netlist::Netlist;
+pub use spelled::SpelledGate;

@@ -1,13 +1,14 @@
 // Names in place of which numbers stand.
-ghost use Rattle.std.specs.Prelude.{◌≡◌, ◌<◌, ◌≤◌, ◌++◌, ◌∷◌, [], None, length, map, IfOk, IfErr, OnOk};
+ghost use Rattle.std.specs.Prelude.{◌≡◌, ◌<◌, ◌≤◌, ◌++◌, ◌∷◌, [], None, length, map, replicate, IfOk, IfErr, OnOk};
 ghost use Rattle.std.specs.List.{flat_map};
 ghost use Rattle.lw_netlist.specs.Closing.{drivers, gate_link, needs_of, out_of, twice_after, undriven_in, wire_link};
 ghost use Rattle.lw_dag.specs.Graphs.{most_signals};
 ghost use Rattle.lw_dag.specs.Names.{number_in};
 ghost use Rattle.lw_netlist.specs.Numbered.{TellsTwice, TellsUndriven, numbered};
 
-use crate::{DraftGate, GateDraft, NetlistFault, Wire};
-use indexmap::IndexSet;
+use crate::buckets::link;
+use crate::signals::Signals;
+use crate::{GateDraft, NetlistFault, SpelledGate, Wire};
 use lw_pool::{Name, Numbers};
 use std::alloc::{AllocError, Global};
 
@@ -15,7 +16,7 @@ use std::alloc::{AllocError, Global};
 pub(crate) fn names_of(
     alloc: Global,
     inputs: &[Name],
-    gates: &[DraftGate],
+    gates: &[SpelledGate],
 ) -> Result<Vec<Name>, AllocError>
     ensures { IfOk result (λ names. names.items ≡ inputs.now ++ map out_of gates.now) }
 {
@@ -24,7 +25,7 @@ pub(crate) fn names_of(
         names.push(Name::from_slice(alloc, name.as_bytes())?)?;
     }
     for gate in gates {
-        names.push(Name::from_slice(alloc, gate.out.as_bytes())?)?;
+        names.push(Name::from_slice(alloc, gate.out())?)?;
     }
     Ok(names)
 }
@@ -40,10 +41,16 @@ pub(crate) fn driven(alloc: Global, draft: &GateDraft) -> Result<Vec<Name>, Allo
     Ok(names)
 }
 
+fn zeros(alloc: Global, count: usize) -> Result<Vec<u32>, AllocError>
+    ensures { IfOk result (λ v. v.items ≡ replicate count 0) }
+{
+    vec![in alloc; 0; count]
+}
+
 // Numbers names, or tells the first that is there twice. For more of them than there are numbers
 // there is no memory.
-pub(crate) fn numbers(alloc: Global, names: Vec<Name>) -> Result<IndexSet<Name>, NetlistFault>
-    ensures keys { IfOk result (λ set. set.keys ≡ names.items) }
+pub(crate) fn numbers(alloc: Global, names: Vec<Name>) -> Result<Signals, NetlistFault>
+    ensures names { IfOk result (λ set. set ≡ names.items) }
     ensures once { OnOk result (twice_after [] names.items ≡ None) }
     ensures few { OnOk result (length names.items ≤ most_signals) }
     ensures fault { IfErr result (TellsTwice names.items) }
@@ -51,28 +58,24 @@ pub(crate) fn numbers(alloc: Global, names: Vec<Name>) -> Result<IndexSet<Name>,
     if names.len() >= u32::MAX as usize {
         return Err(NetlistFault::Memory);
     }
-    let mut set = IndexSet::with_capacity(alloc, names.len())?;
-    let mut left = names.into_iter();
-    'names: while let Some(name) = left.next() {
-        if set.contains(&name) {
-            return Err(NetlistFault::Twice(name));
-        }
-        let Ok(_) = set.insert(name) else {
-            return Err(NetlistFault::Memory);
-        };
+    let mut heads = zeros(alloc, 2 * names.len() + 1)?;
+    let mut next = zeros(alloc, names.len())?;
+    if let Some(place) = link(&names, &mut heads, &mut next) {
+        let name = Name::from_slice(alloc, names[place].as_bytes())?;
+        return Err(NetlistFault::Twice(name));
     }
-    let _count = set.len();
-    Ok(set)
+    Ok(Signals::new(names, heads, next))
 }
 
 // The number of a name, or the fault that it has none.
-fn number_of(alloc: Global, name: &Name, signals: &IndexSet<Name>) -> Result<u32, NetlistFault>
-    ensures ok { IfOk result (λ n. n ≡ number_in signals.now.keys name.now) }
-    ensures known { OnOk result (undriven_in signals.now.keys (name.now ∷ []) ≡ None) }
-    ensures fault { IfErr result (TellsUndriven signals.now.keys (name.now ∷ [])) }
+fn number_of(alloc: Global, name: &[u8], signals: &Signals) -> Result<u32, NetlistFault>
+    requires { 0 < length name.now }
+    ensures ok { IfOk result (λ n. n ≡ number_in signals.now name.now) }
+    ensures known { OnOk result (undriven_in signals.now (name.now ∷ []) ≡ None) }
+    ensures fault { IfErr result (TellsUndriven signals.now (name.now ∷ [])) }
 {
-    let Some(place) = signals.get_index_of(name) else {
-        let name = Name::from_slice(alloc, name.as_bytes())?;
+    let Some(place) = signals.find(name) else {
+        let name = Name::from_slice(alloc, name)?;
         return Err(NetlistFault::Undriven(name));
     };
     let Ok(number) = u32::try_from(place) else {
@@ -85,15 +88,15 @@ fn number_of(alloc: Global, name: &Name, signals: &IndexSet<Name>) -> Result<u32
 pub(crate) fn numbers_of(
     alloc: Global,
     names: &[Name],
-    signals: &IndexSet<Name>,
+    signals: &Signals,
 ) -> Result<Numbers, NetlistFault>
-    ensures ok { IfOk result (λ ns. ns ≡ map (number_in signals.now.keys) names.now) }
-    ensures known { OnOk result (undriven_in signals.now.keys names.now ≡ None) }
-    ensures fault { IfErr result (TellsUndriven signals.now.keys names.now) }
+    ensures ok { IfOk result (λ ns. ns ≡ map (number_in signals.now) names.now) }
+    ensures known { OnOk result (undriven_in signals.now names.now ≡ None) }
+    ensures fault { IfErr result (TellsUndriven signals.now names.now) }
 {
     let mut numbers = Vec::with_capacity(alloc, names.len())?;
     for name in names {
-        let number = number_of(alloc, name, signals)?;
+        let number = number_of(alloc, name.as_bytes(), signals)?;
         let Ok(()) = numbers.push(number) else {
             return Err(NetlistFault::Memory);
         };
@@ -101,23 +104,43 @@ pub(crate) fn numbers_of(
     Ok(Numbers::new(numbers))
 }
 
-// The numbers of the pins of each gate, or the first pin that has none. Each gate is let go.
+// The numbers of the pins of a gate, or the first pin that has none.
+fn pin_numbers(
+    alloc: Global,
+    gate: &SpelledGate,
+    signals: &Signals,
+) -> Result<Numbers, NetlistFault>
+    ensures ok { IfOk result (λ ns. ns
+        ≡ map (number_in signals.now) (gate_link gate.now).needs) }
+    ensures known { OnOk result (undriven_in signals.now (gate_link gate.now).needs ≡ None) }
+    ensures fault { IfErr result (TellsUndriven signals.now (gate_link gate.now).needs) }
+{
+    let mut numbers = Vec::with_capacity(alloc, gate.len())?;
+    for place in 0..gate.len() {
+        let number = number_of(alloc, gate.pin(place), signals)?;
+        let Ok(()) = numbers.push(number) else {
+            return Err(NetlistFault::Memory);
+        };
+    }
+    Ok(Numbers::new(numbers))
+}
+
+// The numbers of the pins of each gate, or the first pin that has none.
 fn gate_rows(
     alloc: Global,
-    gates: Vec<DraftGate>,
-    signals: &IndexSet<Name>,
+    gates: &[SpelledGate],
+    signals: &Signals,
 ) -> Result<Vec<Numbers>, NetlistFault>
     ensures ok { IfOk result (λ rows. rows.items
-        ≡ numbered signals.now.keys (map gate_link gates.items)) }
-    ensures known { OnOk result (undriven_in signals.now.keys
-        (flat_map needs_of (map gate_link gates.items)) ≡ None) }
-    ensures fault { IfErr result (TellsUndriven signals.now.keys
-        (flat_map needs_of (map gate_link gates.items))) }
+        ≡ numbered signals.now (map gate_link gates.now)) }
+    ensures known { OnOk result (undriven_in signals.now
+        (flat_map needs_of (map gate_link gates.now)) ≡ None) }
+    ensures fault { IfErr result (TellsUndriven signals.now
+        (flat_map needs_of (map gate_link gates.now))) }
 {
     let mut rows = Vec::with_capacity(alloc, gates.len())?;
-    let mut left = gates.into_iter();
-    'gates: while let Some(gate) = left.next() {
-        let row = numbers_of(alloc, gate.pins.as_slice(), signals)?;
+    for gate in gates {
+        let row = pin_numbers(alloc, gate, signals)?;
         let Ok(()) = rows.push(row) else {
             return Err(NetlistFault::Memory);
         };
@@ -126,13 +149,13 @@ fn gate_rows(
 }
 
 // The number of the source of a wire, as a row.
-fn wire_row(alloc: Global, wire: &Wire, signals: &IndexSet<Name>) -> Result<Numbers, NetlistFault>
+fn wire_row(alloc: Global, wire: &Wire, signals: &Signals) -> Result<Numbers, NetlistFault>
     ensures ok { IfOk result (λ ns. ns
-        ≡ map (number_in signals.now.keys) (wire_link wire.now).needs) }
-    ensures known { OnOk result (undriven_in signals.now.keys (wire_link wire.now).needs ≡ None) }
-    ensures fault { IfErr result (TellsUndriven signals.now.keys (wire_link wire.now).needs) }
+        ≡ map (number_in signals.now) (wire_link wire.now).needs) }
+    ensures known { OnOk result (undriven_in signals.now (wire_link wire.now).needs ≡ None) }
+    ensures fault { IfErr result (TellsUndriven signals.now (wire_link wire.now).needs) }
 {
-    let number = number_of(alloc, &wire.from, signals)?;
+    let number = number_of(alloc, wire.from.as_bytes(), signals)?;
     let mut row = Numbers::empty(alloc);
     let Ok(()) = row.push(number) else {
         return Err(NetlistFault::Memory);
@@ -144,14 +167,14 @@ fn wire_row(alloc: Global, wire: &Wire, signals: &IndexSet<Name>) -> Result<Numb
 fn wire_rows(
     alloc: Global,
     wires: &[Wire],
-    signals: &IndexSet<Name>,
+    signals: &Signals,
     rows: &mut Vec<Numbers>,
 ) -> Result<(), NetlistFault>
     ensures ok { OnOk result (rows.new.items ≡ rows.old.items
-        ++ numbered signals.now.keys (map wire_link wires.now)) }
-    ensures known { OnOk result (undriven_in signals.now.keys
+        ++ numbered signals.now (map wire_link wires.now)) }
+    ensures known { OnOk result (undriven_in signals.now
         (flat_map needs_of (map wire_link wires.now)) ≡ None) }
-    ensures fault { IfErr result (TellsUndriven signals.now.keys
+    ensures fault { IfErr result (TellsUndriven signals.now
         (flat_map needs_of (map wire_link wires.now))) }
 {
     for wire in wires {
@@ -167,16 +190,16 @@ fn wire_rows(
 // none.
 pub(crate) fn rows(
     alloc: Global,
-    gates: Vec<DraftGate>,
+    gates: &[SpelledGate],
     wires: &[Wire],
-    signals: &IndexSet<Name>,
+    signals: &Signals,
 ) -> Result<Vec<Numbers>, NetlistFault>
     ensures ok { IfOk result (λ rows. rows.items
-        ≡ numbered signals.now.keys (map gate_link gates.items ++ map wire_link wires.now)) }
-    ensures known { OnOk result (undriven_in signals.now.keys
-        (flat_map needs_of (map gate_link gates.items ++ map wire_link wires.now)) ≡ None) }
-    ensures fault { IfErr result (TellsUndriven signals.now.keys
-        (flat_map needs_of (map gate_link gates.items ++ map wire_link wires.now))) }
+        ≡ numbered signals.now (map gate_link gates.now ++ map wire_link wires.now)) }
+    ensures known { OnOk result (undriven_in signals.now
+        (flat_map needs_of (map gate_link gates.now ++ map wire_link wires.now)) ≡ None) }
+    ensures fault { IfErr result (TellsUndriven signals.now
+        (flat_map needs_of (map gate_link gates.now ++ map wire_link wires.now))) }
 {
     let mut rows = gate_rows(alloc, gates, signals)?;
     wire_rows(alloc, wires, signals, &mut rows)?;

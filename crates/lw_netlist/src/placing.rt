@@ -99,10 +99,10 @@ fn nets_at(alloc: Global, numbers: &[u32], nets: &[NetId]) -> Result<Nets, Alloc
 // The gate at a place with nets in place of names.
 fn closed(alloc: Global, graph: &Graph, place: usize, nets: &[NetId]) -> Result<Gate, AllocError>
     requires made { (draft : GateDraft) × IsMadeOf draft graph.now }
-    requires count { length nets.now ≡ length graph.now.signals.keys }
+    requires count { length nets.now ≡ length graph.now.signals }
     requires within { place < length graph.now.cells.items }
     ensures { IfOk result (λ closed. (draft : GateDraft) (net : List ℕ → ℕ) →
-        IsMadeOf draft graph.now → TellNets graph.now.signals.keys nets.now net →
+        IsMadeOf draft graph.now → TellNets graph.now.signals nets.now net →
         closed ≡ closed_gate net (gate_at draft.gates place)) }
 {
     let pins = nets_at(alloc, graph.rows[place].as_slice(), nets)?;
@@ -121,10 +121,10 @@ fn closed_gates(
     nets: &[NetId],
 ) -> Result<Vec<Gate>, AllocError>
     requires made { (draft : GateDraft) × IsMadeOf draft graph.now }
-    requires count { length nets.now ≡ length graph.now.signals.keys }
+    requires count { length nets.now ≡ length graph.now.signals }
     requires within { All (λ p. p < length graph.now.cells.items) places.now }
     ensures { IfOk result (λ done. (draft : GateDraft) (net : List ℕ → ℕ) →
-        IsMadeOf draft graph.now → TellNets graph.now.signals.keys nets.now net →
+        IsMadeOf draft graph.now → TellNets graph.now.signals nets.now net →
         done.items ≡ map (closed_gate net) (gates_at draft.gates places.now)) }
 {
     let mut done = Vec::with_capacity(alloc, places.len())?;
@@ -144,7 +144,7 @@ pub(crate) fn placed(
     requires { (draft : GateDraft) × IsPlaced draft graph starts.now places.now }
     ensures { IfOk result (λ n. (draft : GateDraft) → IsPlaced draft graph starts.now places.now →
         n ≡ netlist_in draft (gates_at draft.gates places.now)
-        (net_by graph.signals.keys starts.now (names_at draft places.now))) }
+        (net_by graph.signals starts.now (names_at draft places.now))) }
 {
     let names = names_by(alloc, graph.signals.as_slice(), graph.inputs, places)?;
     let turned = turned(alloc, graph.inputs, graph.signals.len(), places)?;

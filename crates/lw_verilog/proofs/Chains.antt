@@ -5,6 +5,7 @@ use Rattle.std.proofs.lemmas.Bool.{cases_lt}
 use Rattle.std.proofs.lemmas.Grind.{get_or-set_at}
 use Rattle.std.proofs.lemmas.List.{drop_more, get_or-set_other, length-set}
 use Rattle.lw_dag.proofs.Names.{same_name}
+use Rattle.lw_netlist.proofs.Chains.{same-or-not}
 use Rattle.lw_verilog.specs.Chains.{AreChains, bucket_at, bucket_from, bucket_of, name_at}
 use Rattle.lw_verilog.specs.Windows.{Raises}
 use Rattle.lw_verilog.proofs.Marks.{or-no}
@@ -12,91 +13,6 @@ use Rattle.lw_verilog.proofs.Marks.{or-no}
 -- one byte more
 pub bucket-more : (hash : ℕ) (name : List ℕ) (i : ℕ) → i < length name → bucket_from hash (drop i name) ≡ bucket_from ((hash * 31 + get_or name i 0) % 32768) (drop (i + 1) name)
 bucket-more hash name i lt = ap (bucket_from hash) (drop_more name i 0 lt)
-
-same-or-not : (a b : ℕ) → (a ≡ b) ⊎ (a ≢ b)
-same-or-not a b = by_order (cases_lt a b) (cases_lt b a)
-  where
-    by_order : (a < b) ⊎ (b ≤ a) → (b < a) ⊎ (a ≤ b) → (a ≡ b) ⊎ (a ≢ b)
-    by_order (inl less) other = inr (omega (arith, less))
-    by_order (inr most) (inl more) = inr (omega (arith, more))
-    by_order (inr most) (inr least) = inl (omega (arith, most, least))
-
--- no chain yet
-pub chains-none : (names : List (List ℕ)) (heads next : List ℕ) → ((b : ℕ) → b < 32768 → get_or heads b 0 ≡ 0) → AreChains names 0 heads next
-chains-none names heads next none = record {
-  first = λ k lt. absurd (omega (arith, lt));
-  later = λ j k before lt same. absurd (omega (arith, lt));
-  low = λ b lt. omega (arith, none b lt);
-  falling = λ j lt. absurd (omega (arith, lt));
-  headed = λ b k lt e. absurd (omega (arith, none b lt, e));
-  chained = λ j k lt e. absurd (omega (arith, lt));
-}
-
-module _ (names : List (List ℕ)) (n : ℕ) (heads next : List ℕ) (b : ℕ) (own : b ≡ bucket_at names n) (in_heads : b < length heads) (in_next : n < length next) (buckets : length heads ≡ 32768) (c : AreChains names n heads next) where
-  old : ℕ
-  old = get_or heads b 0
-
-  at-head : (x : ℕ) → x ≡ b → get_or (set heads b (n + 1)) x 0 ≡ n + 1
-  at-head x same = get_or-set_at heads b x (n + 1) 0 same in_heads
-
-  off-head : (x : ℕ) → x ≢ b → get_or (set heads b (n + 1)) x 0 ≡ get_or heads x 0
-  off-head x apart = get_or-set_other heads b x (n + 1) 0 apart
-
-  at-next : (j : ℕ) → j ≡ n → get_or (set next n old) j 0 ≡ old
-  at-next j same = get_or-set_at next n j old 0 same in_next
-
-  off-next : (j : ℕ) → j ≢ n → get_or (set next n old) j 0 ≡ get_or next j 0
-  off-next j apart = get_or-set_other next n j old 0 apart
-
-  low-old : old ≤ n
-  unfolding old
-  low-old = c.low b (omega (arith, in_heads, buckets))
-
-  first-more : (k : ℕ) → k < n + 1 → (bucket_at names k ≡ b) ⊎ (bucket_at names k ≢ b) → k < get_or (set heads b (n + 1)) (bucket_at names k) 0
-  first-more k lt (inl same) = omega (arith, at-head (bucket_at names k) same, lt)
-  first-more k lt (inr apart) = by_place (same-or-not k n)
-    where
-      by_place : (k ≡ n) ⊎ (k ≢ n) → k < get_or (set heads b (n + 1)) (bucket_at names k) 0
-      by_place (inl last) = absurd (apart (ap (bucket_at names) last ∙ sym own))
-      by_place (inr before) = omega (arith, off-head (bucket_at names k) apart, c.first k (omega (arith, lt, before)))
-
-  later-more : (j k : ℕ) → k < j → j < n + 1 → bucket_at names k ≡ bucket_at names j → (j ≡ n) ⊎ (j ≢ n) → k < get_or (set next n old) j 0
-  unfolding old
-  later-more j k before lt same (inl last) =
-      let bucket : bucket_at names k ≡ b = same ∙ (ap (bucket_at names) last ∙ sym own) in
-      let head : get_or heads (bucket_at names k) 0 ≡ get_or heads b 0 = ap (λ x. get_or heads x 0) bucket in
-      omega (arith, at-next j last, c.first k (omega (arith, before, last)), head)
-  later-more j k before lt same (inr apart) = omega (arith, off-next j apart, c.later j k before (omega (arith, lt, apart)) same)
-
-  low-more : (x : ℕ) → x < 32768 → (x ≡ b) ⊎ (x ≢ b) → get_or (set heads b (n + 1)) x 0 ≤ n + 1
-  low-more x lt (inl same) = omega (arith, at-head x same)
-  low-more x lt (inr apart) = omega (arith, off-head x apart, c.low x lt)
-
-  falling-more : (j : ℕ) → j < n + 1 → (j ≡ n) ⊎ (j ≢ n) → get_or (set next n old) j 0 ≤ j
-  falling-more j lt (inl last) = omega (arith, at-next j last, low-old, last)
-  falling-more j lt (inr apart) = omega (arith, off-next j apart, c.falling j (omega (arith, lt, apart)))
-
-  headed-more : (x k : ℕ) → x < 32768 → get_or (set heads b (n + 1)) x 0 ≡ suc k → (x ≡ b) ⊎ (x ≢ b) → bucket_at names k ≡ x
-  headed-more x k lt e (inl same) =
-      let place : k ≡ n = omega (arith, e, at-head x same) in
-      ap (bucket_at names) place ∙ (sym own ∙ sym same)
-  headed-more x k lt e (inr apart) = c.headed x k lt (sym (off-head x apart) ∙ e)
-
-  chained-more : (j k : ℕ) → j < n + 1 → get_or (set next n old) j 0 ≡ suc k → (j ≡ n) ⊎ (j ≢ n) → bucket_at names k ≡ bucket_at names j
-  unfolding old
-  chained-more j k lt e (inl last) = c.headed b k (omega (arith, in_heads, buckets)) (sym (at-next j last) ∙ e) ∙ (own ∙ ap (bucket_at names) (sym last))
-  chained-more j k lt e (inr apart) = c.chained j k (omega (arith, lt, apart)) (sym (off-next j apart) ∙ e)
-
-  pub chains-more : AreChains names (n + 1) (set heads b (n + 1)) (set next n (get_or heads b 0))
-  unfolding old
-  chains-more = record {
-    first = λ k lt. first-more k lt (same-or-not (bucket_at names k) b);
-    later = λ j k before lt same. later-more j k before lt same (same-or-not j n);
-    low = λ x lt. low-more x lt (same-or-not x b);
-    falling = λ j lt. falling-more j lt (same-or-not j n);
-    headed = λ x k lt e. headed-more x k lt e (same-or-not x b);
-    chained = λ j k lt e. chained-more j k lt e (same-or-not j n);
-  }
 
 -- The chain of a name's bucket is walked down to a place.
 pub record IsWalked (names : List (List ℕ)) (name : List ℕ) (left : ℕ) (old new : List Bool) : Type 0 where
@@ -114,7 +30,7 @@ other-bucket x name apart = by_test (bytes_eq x name) refl
     by_test true e = absurd (apart (ap bucket_of (same_name x name e)))
     by_test false e = refl
 
-pub walked-first : (names : List (List ℕ)) (heads next : List ℕ) (name : List ℕ) (b : ℕ) (flags : List Bool) → AreChains names (length names) heads next → b ≡ bucket_of name → b < 32768 → length flags ≡ length names → IsWalked names name (get_or heads b 0) flags flags
+pub walked-first : (names : List (List ℕ)) (heads next : List ℕ) (name : List ℕ) (b : ℕ) (flags : List Bool) → AreChains bucket_of 32768 names (length names) heads next → b ≡ bucket_of name → b < 32768 → length flags ≡ length names → IsWalked names name (get_or heads b 0) flags flags
 walked-first names heads next name b flags c own in_heads many = record {
   many = refl;
   low = c.low b in_heads;
@@ -128,7 +44,7 @@ walked-first names heads next name b flags c own in_heads many = record {
         let head : get_or heads (bucket_at names i) 0 ≡ get_or heads b 0 = ap (λ x. get_or heads x 0) (same ∙ sym own) in
         omega (arith, c.first i (omega (arith, lt, many)), head, past)
 
-module _ (names : List (List ℕ)) (heads next : List ℕ) (name : List ℕ) (left j : ℕ) (old new : List Bool) (c : AreChains names (length names) heads next) (is : left ≡ suc j) (many : length old ≡ length names) (w : IsWalked names name left old new) where
+module _ (names : List (List ℕ)) (heads next : List ℕ) (name : List ℕ) (left j : ℕ) (old new : List Bool) (c : AreChains bucket_of 32768 names (length names) heads next) (is : left ≡ suc j) (many : length old ≡ length names) (w : IsWalked names name left old new) where
   hit : Bool
   hit = bytes_eq (name_at names j) name
 

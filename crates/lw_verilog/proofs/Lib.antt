@@ -17,7 +17,6 @@ pub mod PutParts
 pub mod ReadBack
 pub mod ReadRuns
 pub mod Runs
-pub mod SpelledNames
 pub mod Spellings
 pub mod Stepping
 pub mod Unbroken

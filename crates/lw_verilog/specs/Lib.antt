@@ -5,7 +5,6 @@ pub mod Phrases
 pub mod Pieces
 pub mod Readings
 pub mod Sayable
-pub mod Spelled
 pub mod Statements
 pub mod Texts
 pub mod Tokens

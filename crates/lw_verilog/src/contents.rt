@@ -7,13 +7,15 @@ ghost use Rattle.lw_verilog.specs.Tokens.{name_of};
 
 use crate::gates::gate_of;
 use crate::place::move_at;
-use crate::rules::{cell_fault, declared_fault, missing_fault, name_fault, pin_fault, ports_fault};
+use crate::rules::{
+    cell_fault, declared_fault, find_cell, missing_fault, name_fault, pin_fault, ports_fault,
+};
 use crate::spelled::Spelled;
 use crate::{Kind, Place, Refusal, Task, VerilogKind};
 use indexmap::IndexSet;
 use lw_genlib::Library;
 use lw_netlist::{DraftGates, GateDraft, Wire, Wires};
-use lw_pool::{Name, Names};
+use lw_pool::{CellId, Name, Names};
 use std::alloc::{AllocError, Global};
 use std::mem;
 
@@ -22,6 +24,8 @@ use std::mem;
 pub struct Contents {
     pub(crate) alloc: Global,
     pub(crate) place: Place,
+    // The number of a cell: most often that of the instance which is open.
+    pub(crate) hint: CellId,
     // Those of the statement that is open.
     pub(crate) names: Spelled,
     // The ports that are declared.
@@ -99,18 +103,27 @@ fn push_wire(alloc: Global, wires: &mut Wires, names: &Spelled) -> Result<(), Al
     wires.push(Wire { from, to })
 }
 
+// The number of the cell with a name, or this one.
+fn near(lib: &Library, hint: CellId, name: &[u8]) -> CellId {
+    match find_cell(lib, hint, name) {
+        Some(id) => id,
+        None => hint,
+    }
+}
+
 // Appends the gate of an instance of these names.
 fn push_gate(
     alloc: Global,
     lib: &Library,
+    hint: CellId,
     gates: &mut DraftGates,
     names: &Spelled,
 ) -> Result<(), AllocError>
     requires { missing_fault (cell_in lib.now names.now) (ties_in names.now) ≡ None }
     ensures { OnOk result (gates.new ≡ gates.old ++ gate_by lib.now names.now) }
 {
-    if let Some(gate) = gate_of(alloc, lib, names)? {
-        gates.push(gate)?;
+    if let Some(gate) = gate_of(alloc, lib, hint, names)? {
+        gates.push_spelled(gate)?;
     }
     Ok(())
 }
@@ -131,6 +144,7 @@ impl Contents {
         Contents {
             alloc,
             place: Place::Begin,
+            hint: CellId(0),
             names: Spelled::new(alloc),
             declared: IndexSet::new(alloc),
             header: Spelled::new(alloc),
@@ -163,9 +177,9 @@ impl Contents {
         match task {
             Task::Word => Ok(name_fault(name)),
             Task::Declare => declared_fault(self.alloc, &self.declared, name),
-            Task::Cell => Ok(cell_fault(lib, name)),
-            Task::Pin => Ok(pin_fault(lib, &self.names, name)),
-            Task::Instance => Ok(missing_fault(lib, &self.names)),
+            Task::Cell => Ok(cell_fault(lib, self.hint, name)),
+            Task::Pin => Ok(pin_fault(lib, self.hint, &self.names, name)),
+            Task::Instance => Ok(missing_fault(lib, self.hint, &self.names)),
             Task::Finish => ports_fault(self.alloc, &self.header, &self.declared),
             _ => Ok(None),
         }
@@ -199,7 +213,7 @@ impl Contents {
             Task::Inputs => append(self.alloc, &mut self.inputs, &self.names),
             Task::Outputs => append(self.alloc, &mut self.outputs, &self.names),
             Task::Assignment => push_wire(self.alloc, &mut self.wires, &self.names),
-            Task::Instance => push_gate(self.alloc, lib, &mut self.gates, &self.names),
+            Task::Instance => push_gate(self.alloc, lib, self.hint, &mut self.gates, &self.names),
             _ => Ok(()),
         }
     }
@@ -226,7 +240,11 @@ impl Contents {
     {
         match task {
             Task::Skip => Ok(()),
-            Task::Word | Task::Cell | Task::Pin => self.names.push(name),
+            Task::Word | Task::Pin => self.names.push(name),
+            Task::Cell => {
+                self.hint = near(lib, self.hint, name);
+                self.names.push(name)
+            }
             Task::Declare => {
                 declare(self.alloc, &mut self.declared, name)?;
                 self.names.push(name)

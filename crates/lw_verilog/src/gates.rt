@@ -1,5 +1,5 @@
 // The gates of instances.
-ghost use Rattle.std.specs.Prelude.{◌≡◌, true, None, All, map, option_to_list, IfOk};
+ghost use Rattle.std.specs.Prelude.{◌≡◌, ◌<◌, ◌++◌, true, None, All, length, map, option_to_list, IfOk, OnOk};
 ghost use Rattle.std.specs.List.{list_any};
 ghost use Rattle.lw_verilog.specs.Readings.{cell_in, missing_fault};
 ghost use Rattle.lw_verilog.specs.Statements.{gate_by, is_for, net_for, ties_in};
@@ -7,49 +7,51 @@ ghost use Rattle.lw_verilog.specs.Statements.{gate_by, is_for, net_for, ties_in}
 use crate::rules::{cell_id, net_place};
 use crate::spelled::Spelled;
 use lw_genlib::Library;
-use lw_netlist::DraftGate;
-use lw_pool::{Name, Names};
+use lw_netlist::SpelledGate;
+use lw_pool::{CellId, Name};
 use std::alloc::{AllocError, Global};
 
 // The net of a pin or of the output.
-fn net_of(alloc: Global, names: &Spelled, formal: &[u8]) -> Result<Name, AllocError>
+fn net_of<'a>(names: &'a Spelled, formal: &[u8]) -> &'a [u8]
     requires { list_any (is_for formal.now) (ties_in names.now) ≡ true }
-    ensures { IfOk result (λ net. net ≡ net_for (ties_in names.now) formal.now) }
+    ensures net { result.now ≡ net_for (ties_in names.now) formal.now }
+    ensures some { 0 < length result.now }
 {
     let place = net_place(names, formal).unwrap();
-    Name::from_slice(alloc, names.get(place))
+    names.get(place)
 }
 
-// The nets of the pins.
-fn pin_nets(alloc: Global, names: &Spelled, pins: &[Name]) -> Result<Names, AllocError>
+// Appends the nets of these pins.
+fn push_pins(gate: &mut SpelledGate, names: &Spelled, pins: &[Name]) -> Result<(), AllocError>
     requires { All (λ pin. list_any (is_for pin) (ties_in names.now) ≡ true) pins.now }
-    ensures { IfOk result (λ nets. nets ≡ map (net_for (ties_in names.now)) pins.now) }
+    ensures { OnOk result (gate.new ≡ record {
+      cell = gate.old.cell;
+      pins = gate.old.pins ++ map (net_for (ties_in names.now)) pins.now;
+      out = gate.old.out;
+    }) }
 {
-    let mut nets = Vec::with_capacity(alloc, pins.len())?;
     for pin in pins {
-        nets.push(net_of(alloc, names, pin.as_bytes())?)?;
+        gate.push(net_of(names, pin.as_bytes()))?;
     }
-    Ok(Names::from_vec(nets))
+    Ok(())
 }
 
 /// The gate of an instance of these names.
 pub(crate) fn gate_of(
     alloc: Global,
     lib: &Library,
+    hint: CellId,
     names: &Spelled,
-) -> Result<Option<DraftGate>, AllocError>
+) -> Result<Option<SpelledGate>, AllocError>
     requires { missing_fault (cell_in lib.now names.now) (ties_in names.now) ≡ None }
     ensures { IfOk result (λ gate. option_to_list gate ≡ gate_by lib.now names.now) }
 {
-    let Some(id) = cell_id(lib, names) else {
+    let Some(id) = cell_id(lib, hint, names) else {
         return Ok(None);
     };
     let cell = lib.cell(id);
-    let pins = pin_nets(alloc, names, cell.pins())?;
-    let out = net_of(alloc, names, cell.output().as_bytes())?;
-    Ok(Some(DraftGate {
-        cell: id,
-        pins,
-        out,
-    }))
+    let out = net_of(names, cell.output().as_bytes());
+    let mut gate = SpelledGate::new(alloc, id, out)?;
+    push_pins(&mut gate, names, cell.pins())?;
+    Ok(Some(gate))
 }

@@ -46,7 +46,7 @@ fn link(names: &[Name], heads: &mut [u16], next: &mut [u16])
     requires few { length names.now ≤ 32768 }
     requires buckets { length heads.old ≡ 32768 }
     requires places { length next.old ≡ 32768 }
-    ensures chains { AreChains names.now (length names.now) heads.new next.new }
+    ensures chains { AreChains bucket_of 32768 names.now (length names.now) heads.new next.new }
     ensures buckets { length heads.new ≡ 32768 }
     ensures places { length next.new ≡ 32768 }
 {
@@ -60,7 +60,7 @@ fn link(names: &[Name], heads: &mut [u16], next: &mut [u16])
 
 // Raises the flag of each name that is this one.
 fn mark_equal(names: &[Name], heads: &[u16], next: &[u16], flags: &mut [bool], name: &[u8])
-    requires chains { AreChains names.now (length names.now) heads.now next.now }
+    requires chains { AreChains bucket_of 32768 names.now (length names.now) heads.now next.now }
     requires few { length names.now ≤ 32768 }
     requires buckets { length heads.now ≡ 32768 }
     requires places { length next.now ≡ 32768 }
@@ -78,7 +78,7 @@ fn mark_equal(names: &[Name], heads: &[u16], next: &[u16], flags: &mut [bool], n
 
 // Raises the flag of each name that an output has.
 fn mark_known(names: &[Name], heads: &[u16], next: &[u16], flags: &mut [bool], outputs: &[Port])
-    requires chains { AreChains names.now (length names.now) heads.now next.now }
+    requires chains { AreChains bucket_of 32768 names.now (length names.now) heads.now next.now }
     requires few { length names.now ≤ 32768 }
     requires buckets { length heads.now ≡ 32768 }
     requires places { length next.now ≡ 32768 }

@@ -1,8 +1,9 @@
 // The rules that names break.
-ghost use Rattle.std.specs.Prelude.{◌≡◌, ◌<◌, true, false, None, Some, [], length, drop, is_none, option_map, ◌&&◌, IfOk, IfSome, IfNone, slice_get, slice_index_or};
+ghost use Rattle.std.specs.Prelude.{◌≡◌, ◌<◌, true, false, None, Some, [], length, drop, is_none, option_map, ◌&&◌, Contains, IfOk, IfSome, IfNone, slice_get, slice_index_or};
 ghost use Rattle.std.specs.List.{list_all, list_any};
 ghost use Rattle.std.specs.Option.{option_or};
 ghost use Rattle.std.specs.Str.{bytes_eq};
+ghost use Rattle.lw_genlib.specs.Cells.{names_of};
 ghost use Rattle.indexmap.specs.IndexSet.{index_set_len};
 ghost use Rattle.lw_netlist.specs.Closing.{is_among, twice_after};
 ghost use Rattle.lw_mapped.specs.GateLines.{is_formal, is_name};
@@ -61,11 +62,35 @@ pub(crate) fn declared_fault(
     Ok(None)
 }
 
+// Whether the cell with this number, if there is one, has the name.
+fn has_cell(lib: &Library, id: CellId, name: &[u8]) -> bool
+    ensures { result ≡ true → slice_get (names_of lib.now) id.0 ≡ Some name.now }
+{
+    if id.0 >= lib.len() {
+        return false;
+    }
+    lib.cell(id).name().as_bytes() == name
+}
+
+/// The number of the cell with a name. It is tried first whether it is this one.
+pub(crate) fn find_cell(lib: &Library, hint: CellId, name: &[u8]) -> Option<CellId>
+    ensures found { IfSome result (λ id. slice_get (names_of lib.now) id.0 ≡ Some name.now) }
+    ensures none { IfNone result (¬ Contains (names_of lib.now) name.now) }
+{
+    if has_cell(lib, hint, name) {
+        return Some(hint);
+    }
+    match lib.find(name) {
+        Some(id) => Some(id),
+        None => None,
+    }
+}
+
 /// The rule that the name of a cell breaks.
-pub(crate) fn cell_fault(lib: &Library, name: &[u8]) -> Option<VerilogKind>
+pub(crate) fn cell_fault(lib: &Library, hint: CellId, name: &[u8]) -> Option<VerilogKind>
     ensures { result ≡ cell_fault lib.now name.now }
 {
-    match lib.find(name) {
+    match find_cell(lib, hint, name) {
         Some(_) => None,
         None => Some(VerilogKind::NoCell),
     }
@@ -82,12 +107,12 @@ fn first_name(names: &Spelled) -> &[u8]
 }
 
 /// The cell of an instance of these names.
-pub(crate) fn cell_id(lib: &Library, names: &Spelled) -> Option<CellId>
+pub(crate) fn cell_id(lib: &Library, hint: CellId, names: &Spelled) -> Option<CellId>
     ensures number { number_of lib.now names.now ≡ option_map (λ id. id.0) result }
     ensures within { IfSome result (λ id. id.0 < length lib.now) }
 {
     let _count = lib.len();
-    match lib.find(first_name(names)) {
+    match find_cell(lib, hint, first_name(names)) {
         Some(id) => Some(id),
         None => None,
     }
@@ -145,10 +170,15 @@ fn formal_fault(cell: &Cell, names: &Spelled, name: &[u8]) -> Option<VerilogKind
 }
 
 /// The rule that the name of a pin breaks behind these names of an instance.
-pub(crate) fn pin_fault(lib: &Library, names: &Spelled, name: &[u8]) -> Option<VerilogKind>
+pub(crate) fn pin_fault(
+    lib: &Library,
+    hint: CellId,
+    names: &Spelled,
+    name: &[u8],
+) -> Option<VerilogKind>
     ensures { result ≡ formal_fault (cell_in lib.now names.now) (ties_in names.now) name.now }
 {
-    match cell_id(lib, names) {
+    match cell_id(lib, hint, names) {
         Some(id) => formal_fault(lib.cell(id), names, name),
         None => Some(VerilogKind::PinUnknown),
     }
@@ -167,10 +197,14 @@ fn gives_all(names: &Spelled, cell: &Cell) -> bool
 }
 
 /// The rule that the end of an instance of these names breaks.
-pub(crate) fn missing_fault(lib: &Library, names: &Spelled) -> Option<VerilogKind>
+pub(crate) fn missing_fault(
+    lib: &Library,
+    hint: CellId,
+    names: &Spelled,
+) -> Option<VerilogKind>
     ensures { result ≡ missing_fault (cell_in lib.now names.now) (ties_in names.now) }
 {
-    match cell_id(lib, names) {
+    match cell_id(lib, hint, names) {
         Some(id) if gives_all(names, lib.cell(id)) => None,
         _ => Some(VerilogKind::PinMissing),
     }

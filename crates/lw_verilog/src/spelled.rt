@@ -2,7 +2,7 @@
 ghost use Rattle.std.specs.Prelude.{◌≡◌, ◌+◌, ◌<◌, ◌≤◌, length, slice_get, Some};
 ghost use Rattle.std.specs.List.{slice_range};
 ghost use Rattle.lw_words.specs.Arenas.{words_at, begin_of};
-ghost use Rattle.lw_verilog.specs.Spelled.{AreSpelled};
+ghost use Rattle.lw_netlist.specs.Spelled.{AreSpelled};
 
 use std::alloc::{AllocError, Global};
 use std::marker::Model;
@@ -18,7 +18,7 @@ pub struct Spelled {
 impl Model for Spelled {
     ghost use Rattle.std.specs.Prelude.{List, ℕ, length};
     ghost use Rattle.lw_words.specs.Arenas.{words_at};
-    ghost use Rattle.lw_verilog.specs.Spelled.{AreSpelled};
+    ghost use Rattle.lw_netlist.specs.Spelled.{AreSpelled};
 
     ghost Value = { List (List ℕ) };
 

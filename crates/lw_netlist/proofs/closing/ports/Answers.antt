@@ -6,8 +6,8 @@ use Rattle.lw_netlist.proofs.closing.ports.Goals as goal
 
 pub port-requires-clause-known : goal.port-requires-clause-known
 port-requires-clause-known c =
-    All-head (Contains c.args.signals.now.keys) c.in-Some.name (into_iter_items c.next.new.self)
-    (subst (All (Contains c.args.signals.now.keys)) c.in-Some.ensures.items c.names.invariant.known)
+    All-head (Contains c.args.signals.now) c.in-Some.name (into_iter_items c.next.new.self)
+    (subst (All (Contains c.args.signals.now)) c.in-Some.ensures.items c.names.invariant.known)
 
 pub names-preserved : goal.names-preserved
 names-preserved c =
@@ -19,12 +19,12 @@ names-preserved c =
           ∙ (append_assoc done (c.port.result ∷ []) (map (port_at net) rest)
           ∙ (ap (λ n. done ++ n ∷ map (port_at net) rest) (c.port.ensures net is)
           ∙ (ap (λ xs. done ++ map (port_at net) xs) (sym c.in-Some.ensures.items) ∙ c.names.invariant.so_far net is)));
-      known = All-tail (Contains c.args.signals.now.keys) c.in-Some.name rest
-          (subst (All (Contains c.args.signals.now.keys)) c.in-Some.ensures.items c.names.invariant.known);
+      known = All-tail (Contains c.args.signals.now) c.in-Some.name rest
+          (subst (All (Contains c.args.signals.now)) c.in-Some.ensures.items c.names.invariant.known);
     }
 
 pub names-init : goal.names-init
 names-init c = record {
   so_far = λ net tell. ap₂ (λ a b. a ++ map (port_at net) b) c.in_ok-done.ensures.items c.into_iter-left.ensures.rest;
-  known = subst (All (Contains c.args.signals.now.keys)) (sym c.into_iter-left.ensures.rest) c.requires.known;
+  known = subst (All (Contains c.args.signals.now)) (sym c.into_iter-left.ensures.rest) c.requires.known;
 }

@@ -6,8 +6,8 @@ use Rattle.lw_netlist.proofs.closing.ports.Given as goal
 
 abbrev pub invariant-names : goal.invariant-names
 invariant-names l = record {
-  so_far : (net : List ℕ → ℕ) → TellNets l.signals.keys l.nets net → l.done.items ++ map (port_at net) (into_iter_items l.left) ≡ map (port_at net) l.fn.names.items;
-  known : All (Contains l.signals.keys) (into_iter_items l.left);
+  so_far : (net : List ℕ → ℕ) → TellNets l.signals l.nets net → l.done.items ++ map (port_at net) (into_iter_items l.left) ≡ map (port_at net) l.fn.names.items;
+  known : All (Contains l.signals) (into_iter_items l.left);
 }
 
 abbrev pub decreases-names : goal.decreases-names

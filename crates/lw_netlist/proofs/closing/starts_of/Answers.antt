@@ -8,33 +8,33 @@ pub find_levels-requires-clause-graph : goal.find_levels-requires-clause-graph
 find_levels-requires-clause-graph c =
     let graph = c.args.graph.now in
     let made = c.requires.1 in
-    rw c.deref.ensures.value (graph_is c.requires.0 graph.signals.keys graph.rows.items graph.inputs made.graph made.inputs)
+    rw c.deref.ensures.value (graph_is c.requires.0 graph.signals graph.rows.items graph.inputs made.graph made.inputs)
 
 pub first_on_cycle-requires-clause-graph : goal.first_on_cycle-requires-clause-graph
 first_on_cycle-requires-clause-graph c =
     let graph = c.args.graph.now in
     let made = c.requires.1 in
-    rw c.deref-2.ensures.value (graph_is c.requires.0 graph.signals.keys graph.rows.items graph.inputs made.graph made.inputs)
+    rw c.deref-2.ensures.value (graph_is c.requires.0 graph.signals graph.rows.items graph.inputs made.graph made.inputs)
 
 pub find_starts-requires-clause-graph : goal.find_starts-requires-clause-graph
 find_starts-requires-clause-graph c =
     let graph = c.args.graph.now in
     let made = c.requires.1 in
-    rw c.deref-4.ensures.value (graph_is c.requires.0 graph.signals.keys graph.rows.items graph.inputs made.graph made.inputs)
+    rw c.deref-4.ensures.value (graph_is c.requires.0 graph.signals graph.rows.items graph.inputs made.graph made.inputs)
 
 pub returns-in-Some-clause-fault : goal.returns-in-Some-clause-fault
 returns-in-Some-clause-fault c = λ draft made.
     let graph = c.args.graph.now in
     let item = c.index-as_slice-inputs.result in
-    fault_cycle draft graph.signals.keys graph.rows.items graph.inputs made.graph made.inputs c.in-Some.place item c.in_ok-name.name
+    fault_cycle draft graph.signals graph.rows.items graph.inputs made.graph made.inputs c.in-Some.place item c.in_ok-name.name
     (rw (c.in-Some.is, c.deref-2.ensures.value) at c.in_ok-first.ensures.some)
-    (c.index-as_slice-inputs.is ∙ ap (λ l. get_or l (graph.inputs + c.in-Some.place) item) c.as_slice.ensures.keys)
+    (c.index-as_slice-inputs.is ∙ ap (λ l. get_or l (graph.inputs + c.in-Some.place) item) c.as_slice.ensures.names)
     (c.in_ok-name.ensures ∙ c.as_bytes.ensures.bytes)
 
 pub returns-clause-right : goal.returns-clause-right
 returns-clause-right c = λ draft made.
     let graph = c.args.graph.now in
-    right_of draft graph.signals.keys graph.rows.items graph.inputs c.len.result c.in_ok-levels.levels.heights.items c.in_ok-levels.levels.order.items c.in_ok-found.found.depths.items c.in_ok-found.found.starts.items made.graph made.inputs (let e : c.len.result ≡ length graph.cells.items = omega (arith, c.len.ensures, graph.cells.ok.0) in e ∙ cells_many draft graph made)
+    right_of draft graph.signals graph.rows.items graph.inputs c.len.result c.in_ok-levels.levels.heights.items c.in_ok-levels.levels.order.items c.in_ok-found.found.depths.items c.in_ok-found.found.starts.items made.graph made.inputs (let e : c.len.result ≡ length graph.cells.items = omega (arith, c.len.ensures, graph.cells.ok.0) in e ∙ cells_many draft graph made)
     (rw c.deref.ensures.value at c.in_ok-levels.ensures.heights).known
     (rw c.deref.ensures.value at c.in_ok-levels.ensures.ordered)
     (rw c.deref-4.ensures.value at c.in_ok-found.ensures)

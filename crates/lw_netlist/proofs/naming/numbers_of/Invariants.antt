@@ -5,6 +5,6 @@ use Rattle.lw_netlist.proofs.naming.numbers_of.Given as goal
 
 abbrev pub invariant-loop-name : goal.invariant-loop-name
 invariant-loop-name l = record {
-  so_far : l.numbers.items ≡ map (number_in l.signals.keys) (take l.name-index l.names);
-  rest : undriven_in l.signals.keys (drop l.name-index l.names) ≡ undriven_in l.signals.keys l.names;
+  so_far : l.numbers.items ≡ map (number_in l.signals) (take l.name-index l.names);
+  rest : undriven_in l.signals (drop l.name-index l.names) ≡ undriven_in l.signals l.names;
 }

@@ -6,4 +6,4 @@ use Rattle.lw_netlist.specs.Placing.{IsMadeOf, gates_at}
 use Rattle.lw_netlist.proofs.placing.closed_gates.Given as goal
 
 abbrev pub invariant-loop-place : goal.invariant-loop-place
-invariant-loop-place l = (draft : GateDraft) (net : List ℕ → ℕ) → IsMadeOf draft l.graph → TellNets l.graph.signals.keys l.nets net → l.done.items ≡ map (closed_gate net) (gates_at draft.gates (take l.place-index l.places))
+invariant-loop-place l = (draft : GateDraft) (net : List ℕ → ℕ) → IsMadeOf draft l.graph → TellNets l.graph.signals l.nets net → l.done.items ≡ map (closed_gate net) (gates_at draft.gates (take l.place-index l.places))

@@ -8,13 +8,13 @@ pub turned-requires-clause-first : goal.turned-requires-clause-first
 turned-requires-clause-first c =
     let draft = c.requires.0 in
     let is = c.requires.1 in
-    omega (arith, c.len.ensures.len, keys_many draft c.args.graph is.made, is.many, is.made.inputs)
+    omega (arith, c.len.ensures, keys_many draft c.args.graph is.made, is.many, is.made.inputs)
 
 pub turned-requires-clause-within : goal.turned-requires-clause-within
 turned-requires-clause-within c =
     let draft = c.requires.0 in
     let is = c.requires.1 in
-    All-weaker (λ p. p < length draft.gates) (λ p. c.args.graph.inputs + p < c.len.result) (λ p lt. omega (arith, lt, c.len.ensures.len, keys_many draft c.args.graph is.made, is.made.inputs)) c.args.places.now is.within
+    All-weaker (λ p. p < length draft.gates) (λ p. c.args.graph.inputs + p < c.len.result) (λ p lt. omega (arith, lt, c.len.ensures, keys_many draft c.args.graph is.made, is.made.inputs)) c.args.places.now is.within
 
 pub turned-requires-clause-differ : goal.turned-requires-clause-differ
 turned-requires-clause-differ c = differ c.requires.0 c.args.graph c.requires.1.made c.args.starts.now c.args.places.now c.requires.1
@@ -22,12 +22,12 @@ turned-requires-clause-differ c = differ c.requires.0 c.args.graph c.requires.1.
 pub ports-requires-clause-known : goal.ports-requires-clause-known
 ports-requires-clause-known c =
     let is = c.requires.1 in
-    subst (All (Contains c.args.graph.signals.keys)) (sym (c.into_vec.ensures ∙ is.made.outputs)) is.outputs
+    subst (All (Contains c.args.graph.signals)) (sym (c.into_vec.ensures ∙ is.made.outputs)) is.outputs
 
 pub new-requires : goal.new-requires
 new-requires c =
     subst IsNetlist (sym (placed_parts c.requires.0 c.args.graph c.args.starts.now c.args.places.now c.requires.1 c.as_slice.result.now c.from_vec.result c.into_vec.result.items c.in_ok-turned.turned.items c.deref.result.now c.in_ok-nets.nets.items c.deref-2.result.now c.deref-3.result.now c.from_vec-2.result c.from_vec-3.result
-    c.as_slice.ensures.keys (c.from_vec.ensures ∙ c.in_ok-names.ensures) c.in_ok-turned.ensures.turned c.deref.ensures.value c.in_ok-nets.ensures c.deref-2.ensures.value c.deref-3.ensures.value
+    c.as_slice.ensures.names (c.from_vec.ensures ∙ c.in_ok-names.ensures) c.in_ok-turned.ensures.turned c.deref.ensures.value c.in_ok-nets.ensures c.deref-2.ensures.value c.deref-3.ensures.value
     (λ d net made tell. c.from_vec-2.ensures ∙ c.in_ok-gates.ensures d net made tell)
     (λ net tell. c.from_vec-3.ensures ∙ c.in_ok-outputs.ensures net tell)
     c.into_vec.ensures)) c.requires.1.kept
@@ -36,7 +36,7 @@ pub returns : goal.returns
 returns c = λ draft is.
     c.new.ensures
     ∙ placed_parts draft c.args.graph c.args.starts.now c.args.places.now is c.as_slice.result.now c.from_vec.result c.into_vec.result.items c.in_ok-turned.turned.items c.deref.result.now c.in_ok-nets.nets.items c.deref-2.result.now c.deref-3.result.now c.from_vec-2.result c.from_vec-3.result
-    c.as_slice.ensures.keys (c.from_vec.ensures ∙ c.in_ok-names.ensures) c.in_ok-turned.ensures.turned c.deref.ensures.value c.in_ok-nets.ensures c.deref-2.ensures.value c.deref-3.ensures.value
+    c.as_slice.ensures.names (c.from_vec.ensures ∙ c.in_ok-names.ensures) c.in_ok-turned.ensures.turned c.deref.ensures.value c.in_ok-nets.ensures c.deref-2.ensures.value c.deref-3.ensures.value
     (λ d net made tell. c.from_vec-2.ensures ∙ c.in_ok-gates.ensures d net made tell)
     (λ net tell. c.from_vec-3.ensures ∙ c.in_ok-outputs.ensures net tell)
     c.into_vec.ensures

@@ -2,12 +2,12 @@ use Rattle.std.proofs.Common.{[], ap, ◌∙◌, arith}
 use Rattle.std.proofs.lemmas.List.{length-set}
 use Rattle.lw_mapped.proofs.TextParts.{get_or-any}
 use Rattle.lw_verilog.specs.Chains.{bucket_of}
-use Rattle.lw_verilog.proofs.Chains.{chains-more, chains-none}
+use Rattle.lw_netlist.proofs.Chains.{chains-more, chains-none}
 use Rattle.lw_verilog.proofs.known.link.Goals as goal
 
 pub loop-place-init : goal.loop-place-init
 loop-place-init c = record {
-  chains = chains-none c.args.names.now c.clear.new.heads c.args.next.now (λ b lt. c.clear.ensures.none b (omega (arith, lt, c.requires.buckets)));
+  chains = chains-none bucket_of 32768 c.args.names.now c.clear.new.heads c.args.next.now (λ b lt. c.clear.ensures.none b (omega (arith, lt, c.requires.buckets)));
   buckets = c.clear.ensures.many ∙ c.requires.buckets;
   places = c.requires.places;
 }
@@ -21,7 +21,7 @@ loop-place-preserved c =
     let bucket = c.bucket_of-bucket.result in
     let own = c.bucket_of-bucket.ensures.bucket ∙ ap bucket_of (c.as_bytes.ensures.bytes ∙ (c.index-names-place.is ∙ get_or-any names place c.index-names-place.result [] c.loop-place-test.true)) in
     record {
-      chains = chains-more names place heads next bucket own (omega (arith, c.bucket_of-bucket.ensures.low, c.loop-place.invariant.buckets)) (omega (arith, c.loop-place-test.true, c.requires.few, c.loop-place.invariant.places)) c.loop-place.invariant.buckets c.loop-place.invariant.chains;
+      chains = chains-more bucket_of 32768 names place heads next bucket own (omega (arith, c.bucket_of-bucket.ensures.low, c.loop-place.invariant.buckets)) (omega (arith, c.loop-place-test.true, c.requires.few, c.loop-place.invariant.places)) c.loop-place.invariant.buckets c.loop-place.invariant.chains;
       buckets = length-set heads bucket _ ∙ c.loop-place.invariant.buckets;
       places = length-set next place _ ∙ c.loop-place.invariant.places;
     }

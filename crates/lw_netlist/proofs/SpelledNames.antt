@@ -7,9 +7,9 @@ use Rattle.std.proofs.lemmas.List.{take-append-le, drop-append-le, length-drop, 
 use Rattle.std.proofs.Math.Seq.{drop-append_seam}
 use Rattle.lw_words.specs.Arenas.{words_at, last_end, begin_of}
 use Rattle.lw_words.proofs.WordsAt.{words_at-push}
-use Rattle.lw_verilog.specs.Spelled.{AreSpelled}
+use Rattle.lw_netlist.specs.Spelled.{AreSpelled}
 
-spelled-first : (from size : ℕ) (ends : List ℕ) → AreSpelled from size ends → from ≤ size
+pub spelled-first : (from size : ℕ) (ends : List ℕ) → AreSpelled from size ends → from ≤ size
 spelled-first from size [] h = omega (arith, h)
 spelled-first from size (end ∷ ends) h = omega (arith, h.0, spelled-first end size ends h.1)
 
@@ -37,11 +37,11 @@ behind bytes more =
     let size : length bytes + length more - length bytes ≡ length more = omega arith in
     ap₂ (λ n l. take n l) size (drop-append_seam bytes more) ∙ take_all (length more) more (omega arith)
 
-pub names-push : (bytes more ends : List ℕ) → AreSpelled 0 (length bytes) ends → words_at 0 (bytes ++ more) (ends ++ (length bytes + length more) ∷ []) ≡ words_at 0 bytes ends ++ more ∷ []
-names-push bytes more ends h =
-    words_at-push 0 (bytes ++ more) ends (length bytes + length more)
-    ∙ ap₂ (λ ws w. ws ++ w ∷ []) (words-append 0 bytes more ends h)
-    (ap (λ n. slice_range (bytes ++ more) n (length bytes + length more)) (spelled-last 0 (length bytes) ends h) ∙ behind bytes more)
+pub names-push : (from : ℕ) (bytes more ends : List ℕ) → AreSpelled from (length bytes) ends → words_at from (bytes ++ more) (ends ++ (length bytes + length more) ∷ []) ≡ words_at from bytes ends ++ more ∷ []
+names-push from bytes more ends h =
+    words_at-push from (bytes ++ more) ends (length bytes + length more)
+    ∙ ap₂ (λ ws w. ws ++ w ∷ []) (words-append from bytes more ends h)
+    (ap (λ n. slice_range (bytes ++ more) n (length bytes + length more)) (spelled-last from (length bytes) ends h) ∙ behind bytes more)
 
 pub record IsWithin (size begin end : ℕ) : Type 0 where
   pub some : begin < end
@@ -53,18 +53,22 @@ name-within from size (end ∷ ends) zero lt h = record { some = h.0; within = s
 name-within from size (end ∷ ends) (suc place) lt h = name-within end size ends place (omega arith) h.1
 
 -- a name behind the others
-module _ (bytes name ends longer more : List ℕ) (end : ℕ) (spelled : AreSpelled 0 (length bytes) ends) (longer_is : longer ≡ bytes ++ name) (end_is : end ≡ length bytes + length name) (more_is : more ≡ ends ++ end ∷ []) where
+module _ (from : ℕ) (bytes name ends longer more : List ℕ) (end : ℕ) (spelled : AreSpelled from (length bytes) ends) (longer_is : longer ≡ bytes ++ name) (end_is : end ≡ length bytes + length name) (more_is : more ≡ ends ++ end ∷ []) where
   more_ends : more ≡ ends ++ (length bytes + length name) ∷ []
   more_ends = more_is ∙ ap (λ n. ends ++ n ∷ []) end_is
 
-  pub pushed-spelled : 0 < length name → AreSpelled 0 (length longer) more
+  pub pushed-spelled : 0 < length name → AreSpelled from (length longer) more
   pushed-spelled some =
-      subst (λ es. AreSpelled 0 (length longer) es) (sym more_ends)
-      (subst (λ n. AreSpelled 0 n (ends ++ (length bytes + length name) ∷ [])) (sym (ap length longer_is ∙ length-append bytes name))
-      (spelled-push 0 (length bytes) (length bytes + length name) ends spelled (omega (arith, some))))
+      subst (λ es. AreSpelled from (length longer) es) (sym more_ends)
+      (subst (λ n. AreSpelled from n (ends ++ (length bytes + length name) ∷ [])) (sym (ap length longer_is ∙ length-append bytes name))
+      (spelled-push from (length bytes) (length bytes + length name) ends spelled (omega (arith, some))))
 
-  pub pushed-names : words_at 0 longer more ≡ words_at 0 bytes ends ++ name ∷ []
-  pushed-names = ap₂ (words_at 0) longer_is more_ends ∙ names-push bytes name ends spelled
+  pub pushed-names : words_at from longer more ≡ words_at from bytes ends ++ name ∷ []
+  pushed-names = ap₂ (words_at from) longer_is more_ends ∙ names-push from bytes name ends spelled
+
+  -- the bytes before all names stay
+  pub pushed-front : take from longer ≡ take from bytes
+  pushed-front = ap (take from) longer_is ∙ take-append-le from bytes name (spelled-first from (length bytes) ends spelled)
 
 -- one more name of a list is copied
 pub copied-more : (first names now new : List (List ℕ)) (place : ℕ) (name : List ℕ) → slice_get names place ≡ Some name → now ≡ first ++ take place names → new ≡ now ++ name ∷ [] → new ≡ first ++ take (place + 1) names

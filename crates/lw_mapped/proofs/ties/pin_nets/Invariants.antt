@@ -1,6 +1,0 @@
-use Rattle.std.proofs.Common.{◌≡◌, map, take, drop}
-use Rattle.lw_mapped.specs.GateLines.{net_for}
-use Rattle.lw_mapped.proofs.ties.pin_nets.Given as goal
-
-abbrev pub invariant-loop-pin : goal.invariant-loop-pin
-invariant-loop-pin l = l.nets.items ≡ map (net_for (drop 2 l.words)) (take l.pin-index l.pins)

@@ -1,0 +1,128 @@
+-- Chains of the places of names.
+use Rattle.std.proofs.Common.{ℕ, suc, ◌≡◌, ◌≢◌, ◌<◌, ◌≤◌, ◌+◌, ◌*◌, ◌%◌, ◌⊎◌, inl, inr, List, length, drop, set, get_or, ap, sym, ◌∙◌, arith}
+use Rattle.std.proofs.lemmas.Bool.{cases_lt}
+use Rattle.std.proofs.lemmas.Grind.{get_or-set_at}
+use Rattle.std.proofs.lemmas.List.{drop_more, get_or-set_other}
+use Rattle.lw_netlist.specs.Chains.{AreChains, hash_from, name_at}
+
+-- one byte more
+pub hash-more : (hash : ℕ) (name : List ℕ) (i : ℕ) → i < length name → hash_from hash (drop i name) ≡ hash_from ((hash * 2654435769 + get_or name i 0) % 4294967296) (drop (i + 1) name)
+hash-more hash name i lt = ap (hash_from hash) (drop_more name i 0 lt)
+
+pub same-or-not : (a b : ℕ) → (a ≡ b) ⊎ (a ≢ b)
+same-or-not a b = by_order (cases_lt a b) (cases_lt b a)
+  where
+    by_order : (a < b) ⊎ (b ≤ a) → (b < a) ⊎ (a ≤ b) → (a ≡ b) ⊎ (a ≢ b)
+    by_order (inl less) other = inr (omega (arith, less))
+    by_order (inr most) (inl more) = inr (omega (arith, more))
+    by_order (inr most) (inr least) = inl (omega (arith, most, least))
+
+-- no chain yet
+pub chains-none : (bucket : List ℕ → ℕ) (size : ℕ) (names : List (List ℕ)) (heads next : List ℕ) → ((b : ℕ) → b < size → get_or heads b 0 ≡ 0) → AreChains bucket size names 0 heads next
+chains-none bucket size names heads next none = record {
+  first = λ k lt. absurd (omega (arith, lt));
+  later = λ j k before lt same. absurd (omega (arith, lt));
+  low = λ b lt. omega (arith, none b lt);
+  falling = λ j lt. absurd (omega (arith, lt));
+  headed = λ b k lt e. absurd (omega (arith, none b lt, e));
+  chained = λ j k lt e. absurd (omega (arith, lt));
+}
+
+module _ (bucket : List ℕ → ℕ) (size : ℕ) (names : List (List ℕ)) (n : ℕ) (heads next : List ℕ) (b : ℕ) (own : b ≡ bucket (name_at names n)) (in_heads : b < length heads) (in_next : n < length next) (buckets : length heads ≡ size) (c : AreChains bucket size names n heads next) where
+  abbrev bucket_at : ℕ → ℕ
+  bucket_at k = bucket (name_at names k)
+
+  old : ℕ
+  old = get_or heads b 0
+
+  at-head : (x : ℕ) → x ≡ b → get_or (set heads b (n + 1)) x 0 ≡ n + 1
+  at-head x same = get_or-set_at heads b x (n + 1) 0 same in_heads
+
+  off-head : (x : ℕ) → x ≢ b → get_or (set heads b (n + 1)) x 0 ≡ get_or heads x 0
+  off-head x apart = get_or-set_other heads b x (n + 1) 0 apart
+
+  at-next : (j : ℕ) → j ≡ n → get_or (set next n old) j 0 ≡ old
+  at-next j same = get_or-set_at next n j old 0 same in_next
+
+  off-next : (j : ℕ) → j ≢ n → get_or (set next n old) j 0 ≡ get_or next j 0
+  off-next j apart = get_or-set_other next n j old 0 apart
+
+  low-old : old ≤ n
+  unfolding old
+  low-old = c.low b (omega (arith, in_heads, buckets))
+
+  first-more : (k : ℕ) → k < n + 1 → (bucket_at k ≡ b) ⊎ (bucket_at k ≢ b) → k < get_or (set heads b (n + 1)) (bucket_at k) 0
+  first-more k lt (inl same) = omega (arith, at-head (bucket_at k) same, lt)
+  first-more k lt (inr apart) = by_place (same-or-not k n)
+    where
+      by_place : (k ≡ n) ⊎ (k ≢ n) → k < get_or (set heads b (n + 1)) (bucket_at k) 0
+      by_place (inl last) = absurd (apart (ap bucket_at last ∙ sym own))
+      by_place (inr before) = omega (arith, off-head (bucket_at k) apart, c.first k (omega (arith, lt, before)))
+
+  later-more : (j k : ℕ) → k < j → j < n + 1 → bucket_at k ≡ bucket_at j → (j ≡ n) ⊎ (j ≢ n) → k < get_or (set next n old) j 0
+  unfolding old
+  later-more j k before lt same (inl last) =
+      let here : bucket_at k ≡ b = same ∙ (ap bucket_at last ∙ sym own) in
+      let head : get_or heads (bucket_at k) 0 ≡ get_or heads b 0 = ap (λ x. get_or heads x 0) here in
+      omega (arith, at-next j last, c.first k (omega (arith, before, last)), head)
+  later-more j k before lt same (inr apart) = omega (arith, off-next j apart, c.later j k before (omega (arith, lt, apart)) same)
+
+  low-more : (x : ℕ) → x < size → (x ≡ b) ⊎ (x ≢ b) → get_or (set heads b (n + 1)) x 0 ≤ n + 1
+  low-more x lt (inl same) = omega (arith, at-head x same)
+  low-more x lt (inr apart) = omega (arith, off-head x apart, c.low x lt)
+
+  falling-more : (j : ℕ) → j < n + 1 → (j ≡ n) ⊎ (j ≢ n) → get_or (set next n old) j 0 ≤ j
+  falling-more j lt (inl last) = omega (arith, at-next j last, low-old, last)
+  falling-more j lt (inr apart) = omega (arith, off-next j apart, c.falling j (omega (arith, lt, apart)))
+
+  headed-more : (x k : ℕ) → x < size → get_or (set heads b (n + 1)) x 0 ≡ suc k → (x ≡ b) ⊎ (x ≢ b) → bucket_at k ≡ x
+  headed-more x k lt e (inl same) =
+      let place : k ≡ n = omega (arith, e, at-head x same) in
+      ap bucket_at place ∙ (sym own ∙ sym same)
+  headed-more x k lt e (inr apart) = c.headed x k lt (sym (off-head x apart) ∙ e)
+
+  chained-more : (j k : ℕ) → j < n + 1 → get_or (set next n old) j 0 ≡ suc k → (j ≡ n) ⊎ (j ≢ n) → bucket_at k ≡ bucket_at j
+  unfolding old
+  chained-more j k lt e (inl last) = c.headed b k (omega (arith, in_heads, buckets)) (sym (at-next j last) ∙ e) ∙ (own ∙ ap bucket_at (sym last))
+  chained-more j k lt e (inr apart) = c.chained j k (omega (arith, lt, apart)) (sym (off-next j apart) ∙ e)
+
+  pub chains-more : AreChains bucket size names (n + 1) (set heads b (n + 1)) (set next n (get_or heads b 0))
+  unfolding old
+  chains-more = record {
+    first = λ k lt. first-more k lt (same-or-not (bucket_at k) b);
+    later = λ j k before lt same. later-more j k before lt same (same-or-not j n);
+    low = λ x lt. low-more x lt (same-or-not x b);
+    falling = λ j lt. falling-more j lt (same-or-not j n);
+    headed = λ x k lt e. headed-more x k lt e (same-or-not x b);
+    chained = λ j k lt e. chained-more j k lt e (same-or-not j n);
+  }
+
+-- The chain of a name's bucket was walked down to a place, and the name was not there.
+pub record IsSought (bucket : List ℕ → ℕ) (names : List (List ℕ)) (count : ℕ) (name : List ℕ) (left : ℕ) : Type 0 where
+  pub low : left ≤ count
+  pub chain : (k : ℕ) → left ≡ suc k → bucket (name_at names k) ≡ bucket name
+  pub above : (i : ℕ) → i < count → left ≤ i → name_at names i ≢ name
+
+pub sought-first : (bucket : List ℕ → ℕ) (size : ℕ) (names : List (List ℕ)) (count : ℕ) (heads next : List ℕ) (name : List ℕ) (b : ℕ) → AreChains bucket size names count heads next → b ≡ bucket name → b < size → IsSought bucket names count name (get_or heads b 0)
+sought-first bucket size names count heads next name b c own inside = record {
+  low = c.low b inside;
+  chain = λ k e. c.headed b k inside e ∙ own;
+  above = λ i lt past same.
+      let head : get_or heads (bucket (name_at names i)) 0 ≡ get_or heads b 0 = ap (λ x. get_or heads x 0) (ap bucket same ∙ sym own) in
+      omega (arith, c.first i lt, head, past);
+}
+
+pub sought-next : (bucket : List ℕ → ℕ) (size : ℕ) (names : List (List ℕ)) (count : ℕ) (heads next : List ℕ) (name : List ℕ) (left j : ℕ) → AreChains bucket size names count heads next → left ≡ suc j → name_at names j ≢ name → IsSought bucket names count name left → IsSought bucket names count name (get_or next j 0)
+sought-next bucket size names count heads next name left j c is other w = record {
+  low = omega (arith, c.falling j inside, inside);
+  chain = λ k e. c.chained j k inside e ∙ w.chain j is;
+  above = λ i lt past same. by_order i lt past same (cases_lt i j) (same-or-not i j);
+}
+  where
+    inside : j < count
+    inside = omega (arith, w.low, is)
+
+    by_order : (i : ℕ) → i < count → get_or next j 0 ≤ i → name_at names i ≡ name → (i < j) ⊎ (j ≤ i) → (i ≡ j) ⊎ (i ≢ j) → ⊥
+    by_order i lt past same order (inl here) = other (ap (name_at names) (sym here) ∙ same)
+    by_order i lt past same (inl before) (inr apart) = omega (arith, c.later j i before inside (ap bucket same ∙ sym (w.chain j is)), past)
+    by_order i lt past same (inr behind) (inr apart) = w.above i lt (omega (arith, behind, apart, is)) same

@@ -1,6 +1,0 @@
-use Rattle.std.proofs.Common.{◌≡◌, map, take}
-use Rattle.lw_verilog.specs.Statements.{net_for, ties_in}
-use Rattle.lw_verilog.proofs.gates.pin_nets.Given as goal
-
-abbrev pub invariant-loop-pin : goal.invariant-loop-pin
-invariant-loop-pin l = l.nets.items ≡ map (net_for (ties_in l.names)) (take l.pin-index l.pins)
