@@ -6,7 +6,7 @@ use Rattle.lw_match.proofs.bettering.better_bare.Goals as goal
 pub better_of-requires : goal.better_of-requires
 better_of-requires g c = record {
   query = record {
-  graph = search rules;
+    graph = search rules;
     class = c.requires.class;
     one_each = c.requires.one_each;
     in_range = c.requires.in_range;
