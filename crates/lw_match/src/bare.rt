@@ -1,5 +1,5 @@
-// Patterns without NANDs: those of buffers, inverters and constants. Where a class was given a lower
-// mark, they alone may lower its complement without another class being lowered.
+// Patterns without NANDs: those of buffers, inverters and constants. Where a class was given a
+// lower mark, they alone may lower its complement without another class being lowered.
 use lw_pattern::{PatNode, Patterns};
 use lw_pool::PatId;
 use std::alloc::{AllocError, Global};

@@ -31,8 +31,8 @@ fn room_for(classes: u32) -> u32
 }
 
 /// Numbers of the parts of patterns at the classes of a graph: what a pin costs at least, with what
-/// its gap is above the part's shift, where a part stands there. Where it stands nowhere, or by pins
-/// without marks alone, the number is `u64::MAX`; a class without pairs has no numbers.
+/// its gap is above the part's shift, where a part stands there. Where it stands nowhere, or by
+/// pins without marks alone, the number is `u64::MAX`; a class without pairs has no numbers.
 #[derive(Drop)]
 pub struct Bounds {
     parts: IndexSet<Part>,

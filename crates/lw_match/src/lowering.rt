@@ -41,7 +41,8 @@ fn lower(rules: &[Rule], xs: &[u64], ys: &[u64], least: &mut [u64])
 // The same, where one of the lists may be an empty row: nothing stands there.
 fn lower_where(plan: Plan, group: &Group, one: View, other: View, least: &mut [u64])
     requires closed { AreClosed plan.parts.now }
-    requires rules { AreRulesOf plan.parts.now group.now.left group.now.right group.now.rules.items }
+    requires rules { AreRulesOf plan.parts.now group.now.left group.now.right
+        group.now.rules.items }
     requires left { group.now.left ≤ 2 }
     requires right { group.now.right ≤ 2 }
     requires one { IsView (length plan.parts.now) one }

@@ -15,8 +15,8 @@ use std::marker::Model;
 /// How many numbers are remembered at most.
 const PLACES: usize = 4096;
 
-/// Whether a pattern has the cell and the gaps of the one before it, as the patterns of a cell have,
-/// which stand together.
+/// Whether a pattern has the cell and the gaps of the one before it, as the patterns of a cell
+/// have, which stand together.
 fn is_like_last(pats: &Patterns, gaps: &[[u64; 16]], number: u32) -> bool
     requires { number < length pats.now }
     ensures { IsTrue result → IsLikeLast pats.now gaps.now number }

@@ -1,5 +1,5 @@
 -- Chains of the places of names, by which an output's name is found among those of nets.
-use Rattle.std.specs.Prelude.{ℕ, suc, ◌≡◌, ◌<◌, ◌≤◌, ◌+◌, ◌*◌, ◌%◌, Bool, false, List, [], ◌∷◌, length, slice_index_or}
+use Rattle.std.specs.Prelude.{ℕ, ◌≡◌, ◌<◌, ◌+◌, ◌*◌, ◌%◌, Bool, false, List, [], ◌∷◌, length, slice_index_or}
 pub use Rattle.lw_netlist.specs.Chains.{AreChains, name_at}
 use Rattle.lw_netlist.specs.Closing.{is_among}
 

@@ -197,11 +197,7 @@ fn gives_all(names: &Spelled, cell: &Cell) -> bool
 }
 
 /// The rule that the end of an instance of these names breaks.
-pub(crate) fn missing_fault(
-    lib: &Library,
-    hint: CellId,
-    names: &Spelled,
-) -> Option<VerilogKind>
+pub(crate) fn missing_fault(lib: &Library, hint: CellId, names: &Spelled) -> Option<VerilogKind>
     ensures { result ≡ missing_fault (cell_in lib.now names.now) (ties_in names.now) }
 {
     match cell_id(lib, hint, names) {

@@ -11,9 +11,11 @@ gate_by cell pins out = record { cell = cell; pins = pins; out = out }
 pub invariant_of-self-2 : goal.invariant_of-self-2
 invariant_of-self-2 c =
     let s = c.self.inside in
-    let end : c.len-end.result ≡ length s.bytes.items + length c.args.pin.now = c.len-end.ensures.value ∙ (ap length c.in_ok-extend_from_slice.ensures.ok ∙ length-append s.bytes.items c.args.pin.now) in
-    (c.self.invariant.0, pushed-spelled s.out s.bytes.items c.args.pin.now s.ends.items c.extend_from_slice.new.self.items c.push_reserved.new.self.items c.len-end.result c.self.invariant.1 c.in_ok-extend_from_slice.ensures.ok end
-    (c.push_reserved.ensures.items ∙ ap (λ l. l ++ c.len-end.result ∷ []) c.reserve.ensures.items) c.requires)
+    let end : c.len-end.result ≡ length s.bytes.items + length c.args.pin.now = c.len-end.ensures.value ∙ (ap length c.in_ok-extend_from_slice.ensures.ok ∙ length-append s.bytes.items c.args.pin.now) in (
+      c.self.invariant.0,
+      pushed-spelled s.out s.bytes.items c.args.pin.now s.ends.items c.extend_from_slice.new.self.items c.push_reserved.new.self.items c.len-end.result c.self.invariant.1 c.in_ok-extend_from_slice.ensures.ok end
+          (c.push_reserved.ensures.items ∙ ap (λ l. l ++ c.len-end.result ∷ []) c.reserve.ensures.items) c.requires,
+    )
 
 pub returns : goal.returns
 returns c =
