@@ -39,7 +39,7 @@ index_right [] (z ∷ ys) (suc k) (suc j) y e at = index_right [] ys k j y (omeg
 index_right (x ∷ xs) ys zero j y e at = absurd (omega arith)
 index_right (x ∷ xs) ys (suc k) j y e at = index_right xs ys k j y (omega arith) at
 
-got_at : (xs : List ℕ) (i x : ℕ) → slice_get xs i ≡ Some x → slice_index_or xs i 0 ≡ x
+pub got_at : (xs : List ℕ) (i x : ℕ) → slice_get xs i ≡ Some x → slice_index_or xs i 0 ≡ x
 got_at xs i x at = same_Some (slice_index_or xs i 0) x (sym (got xs i 0 (get_in xs i x at)) ∙ at)
 
 module _ (s : Task) (choices : List Choice) (are : AreChoices s choices) (held : List Held) (backed : AreBacked s choices held) (nodes : List Held) (n : Netlist) (built : IsBuilt s choices held nodes n) where

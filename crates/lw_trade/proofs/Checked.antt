@@ -14,8 +14,7 @@ use Rattle.lw_trade.specs.declared.found.Way.{Way}
 use Rattle.lw_trade.specs.declared.point.Point.{Point}
 use Rattle.lw_trade.specs.declared.walking.Node.{Node}
 use Rattle.lw_trade.specs.Backing.{Held, IsHeld}
-use Rattle.lw_trade.specs.Checks.{IsNetBy, AreRootsRight, IsUsedEarlier, IsGateRight, IsRightWalk}
-use Rattle.lw_trade.specs.Choices.{Choice}
+use Rattle.lw_trade.specs.Checks.{IsNetBy, IsUsedEarlier, IsGateRight, IsRightWalk}
 use Rattle.lw_trade.specs.Choices.Part.{gate as by_gate}
 use Rattle.lw_trade.specs.Groups.{CurveLists, HaveWays, point_in, way_in, IsHeldRow}
 use Rattle.lw_trade.specs.Lasts.{IsLastIn}
@@ -25,7 +24,7 @@ use Rattle.lw_trade.specs.Walks.{AreInputsTo, HaveRootNets, IsUsed, IsWalk}
 use Rattle.lw_trade.specs.Walks.IsUsed.{by_root, by_pin}
 use Rattle.lw_trade.proofs.Cells.{delays_are}
 use Rattle.lw_trade.proofs.Grouped.{get_map, map_get}
-use Rattle.lw_trade.proofs.Lists.{at_contained, below_or, get_in, get_some}
+use Rattle.lw_trade.proofs.Lists.{at_contained, below_or, get_in}
 use Rattle.lw_trade.proofs.Placed.{placed_last}
 
 module _ (s : Task) (curves : CurveLists) (ways : HaveWays s curves) (starts : (i c : ℕ) (row : List Point) (p : Point) → slice_get s.graph.leaves i ≡ Some c → slice_get curves.points c ≡ Some row → Contains row p → p.time.0 ≡ start_of (timing s).starts i) (inputs : List (Option ℕ)) (own : AreInputsTo s.graph (length s.graph.leaves) inputs) (nodes : List Node) where

@@ -1,10 +1,10 @@
--- The input of each class, input by input, and the gate of each place that is noted.
-use Rattle.std.proofs.Common.{◌≡◌, ◌≢◌, ℕ, zero, suc, ◌+◌, ◌<◌, ◌⊎◌, inl, inr, length, replicate, List, [], ◌∷◌, ◌++◌, Option, Some, None, slice_get, slice_set, refl, ap, sym, ◌∙◌, subst, arith}
+-- The input of each class, input by input.
+use Rattle.std.proofs.Common.{◌≡◌, ◌≢◌, ℕ, zero, suc, ◌+◌, ◌<◌, ◌⊎◌, inl, inr, length, replicate, List, [], ◌∷◌, Option, Some, None, slice_get, slice_set, refl, ap, sym, ◌∙◌, subst, arith}
 use native.Mathlib.Nat.{eq-or-lt_of_le}
 use Rattle.std.proofs.lemmas.Option.{same_Some}
 use Rattle.lw_laws.specs.Graphs.{Graph}
-use Rattle.lw_trade.specs.Walks.{AreInputsTo, AreNoted}
-use Rattle.lw_trade.proofs.Lists.{get_last, get_push, get_set, get_set_other, push_cases, set_cases}
+use Rattle.lw_trade.specs.Walks.{AreInputsTo}
+use Rattle.lw_trade.proofs.Lists.{set_cases}
 
 all_none : (n c : ℕ) (o : Option ℕ) → slice_get (replicate n None) c ≡ Some o → None ≡ o
 all_none zero c o at = cc
@@ -46,20 +46,3 @@ module _ (g : Graph) where
           by_place : (i ≡ n) ⊎ (i < n) → ⊥
           by_place (inl e) = ne (same_Some d c (sym leaf ∙ (ap (slice_get g.leaves) e ∙ here)))
           by_place (inr low) = are.none d i at low leaf
-
-pub noted_more : (places : List ℕ) (gates : List (Option ℕ)) (place k : ℕ) → AreNoted places gates → k ≡ length places → place < length gates → ((j : ℕ) → slice_get gates place ≡ Some (Some j) → ⊥) → AreNoted (places ++ place ∷ []) (slice_set gates place (Some k))
-noted_more places gates place k are e lt fresh = record {
-  each = λ j p at. each j p (push_cases places place j p at);
-  only = λ p j at. only p j (set_cases gates place p (Some k) (Some j) at);
-}
-  where
-    each : (j p : ℕ) → (slice_get places j ≡ Some p) ⊎ ((j ≡ length places) × (place ≡ p)) → slice_get (slice_set gates place (Some k)) p ≡ Some (Some j)
-    each j p (inl at) =
-        get_set_other gates place p (Some k) (Some j) (λ f. fresh j (subst (λ q. slice_get gates q ≡ Some (Some j)) f (are.each j p at))) (are.each j p at)
-    each j p (inr (f, same)) =
-        subst (λ q. slice_get (slice_set gates place (Some k)) q ≡ Some (Some j)) same (get_set gates place (Some k) lt ∙ ap (λ (i : ℕ). Some (Some i)) (e ∙ sym f))
-
-    only : (p j : ℕ) → ((p ≡ place) × (Some k ≡ Some j)) ⊎ ((p ≢ place) × (slice_get gates p ≡ Some (Some j))) → slice_get (places ++ place ∷ []) j ≡ Some p
-    only p j (inl (f, same)) =
-        ap (slice_get (places ++ place ∷ [])) (sym (same_Some k j same) ∙ e) ∙ (get_last places place ∙ ap (λ (i : ℕ). Some i) (sym f))
-    only p j (inr (ne, at)) = get_push places place j p (are.only p j at)

@@ -1,5 +1,5 @@
 -- The last place of a row is that of the last point of its class.
-use Rattle.std.proofs.Common.{◌≡◌, ℕ, ◌+◌, ◌<◌, ◌≤◌, ◌⊎◌, inl, inr, map, List, Some, None, slice_get, refl, ap, sym, ◌∙◌, subst, subst₂, arith}
+use Rattle.std.proofs.Common.{◌≡◌, ℕ, ◌+◌, ◌<◌, ◌≤◌, ◌⊎◌, inl, inr, map, List, Some, None, slice_get, ap, sym, ◌∙◌, arith}
 use Rattle.std.proofs.lemmas.Option.{same_Some}
 use native.Mathlib.Nat.{eq-or-lt_of_le}
 use Rattle.lw_trade.specs.declared.point.Point.{Point}

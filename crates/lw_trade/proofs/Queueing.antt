@@ -5,10 +5,9 @@ use Rattle.std.specs.BinaryHeap.{IsHeap, IsUpperBound}
 use Rattle.std.specs.Ordering.{nat_cmp, ordering_then}
 use Rattle.std.specs.List.Sorted.{IsPermutation}
 use Rattle.std.proofs.lemmas.List.Sorted.{first_le_from_greatest, All-permutation, Contains-permutation, IsPermutation-sym, IsPermutation-trans, IsPermutation-append_left, IsPermutation-append_right, IsPermutation-middle}
-use Rattle.std.proofs.lemmas.List.Elements.{All-contains, All-cons, All-tail, All-append, Contains-append_left, Contains-append_right, Contains-append_cases}
-use Rattle.lw_trade.specs.Queues.{Item, item_cmp, flat, HaveLess, IsMostLeft, IsQueue, IsFirstTime, IsFirstOf, IsTaken}
+use Rattle.std.proofs.lemmas.List.Elements.{All-contains, All-cons, All-tail, All-append}
+use Rattle.lw_trade.specs.Queues.{Item, item_cmp, flat, HaveLess, IsMostLeft, IsQueue, IsFirstTime, IsFirstOf}
 use Rattle.lw_trade.specs.Settling.{Queued, Waits, Turns, AreInTime}
-use Rattle.lw_trade.proofs.Lists.{got}
 
 pub most_is : (items : List Item) (x : Item) → Contains items x → IsUpperBound item_cmp x items → IsMostLeft items (Some x.0)
 most_is items x there upper =

@@ -1,13 +1,9 @@
 -- What may stand at classes is in range: the classes of pins, the cells and their pins, and the delays.
-use Rattle.std.proofs.Common.{◌≡◌, ℕ, zero, suc, ◌<◌, ◌⊎◌, inl, inr, All, List, [], ◌∷◌, length, map, option_map, Contains, Some, slice_get, slice_index_or, refl, sym, ap, ◌∙◌, subst, arith}
+use Rattle.std.proofs.Common.{◌≡◌, ℕ, suc, ◌<◌, ◌⊎◌, inl, inr, All, List, [], ◌∷◌, length, option_map, Contains, Some, slice_get, slice_index_or, refl, sym, ap, ◌∙◌, subst, arith}
 use Rattle.std.specs.List.{AllByRecursion}
 use Rattle.std.proofs.lemmas.List.{length-map}
 use Rattle.std.proofs.lemmas.Option.{same_Some, slice_get-map}
-use Rattle.lw_genlib.specs.Cells.{CellParts, IsLibrary, IsListed, IsSmall}
-use Rattle.lw_genlib.specs.Tables.{millionths, delays_of_cells}
-use Rattle.lw_fixed.specs.declared.micro.Micro.{Micro}
 use Rattle.lw_graph.specs.Graphs.{IsGraph}
-use Rattle.lw_laws.specs.Covers.{delays_of}
 use Rattle.lw_laws.specs.Flip.{flip}
 use Rattle.lw_laws.specs.Graphs.{Graph, Pair, HoldsPair, Stands}
 use Rattle.lw_laws.specs.Trees.{Tree, leaf, const_one, const_zero, inv, nand, HasLeaf}
@@ -16,7 +12,7 @@ use Rattle.lw_match.proofs.Branches.{flip_below}
 use Rattle.lw_trade.specs.declared.choices.Row.{Row}
 use Rattle.lw_trade.specs.declared.uses.Uses.{Uses}
 use Rattle.lw_trade.specs.Areas.{area_cost}
-use Rattle.lw_trade.specs.Choices.{Part, MayStand, AreChoices, delay_at}
+use Rattle.lw_trade.specs.Choices.{Part, MayStand, AreChoices}
 use Rattle.lw_trade.specs.Choices.Part.{input, gate}
 use Rattle.lw_trade.specs.Points.{Task}
 use Rattle.lw_trade.specs.Pricing.{IsWithin, IsOfLibrary}

@@ -7,7 +7,7 @@ use Rattle.std.proofs.lemmas.Option.{same_Some}
 use Rattle.lw_laws.specs.Covers.{delays_of, latest}
 use Rattle.lw_laws.proofs.Delays.{length-delays_of}
 use Rattle.lw_trade.specs.declared.uses.Uses.{Uses}
-use Rattle.lw_trade.specs.Areas.{most_area, area_at, total}
+use Rattle.lw_trade.specs.Areas.{most_area, total}
 use Rattle.lw_trade.specs.Choices.{Part, Choice}
 use Rattle.lw_trade.specs.Choices.Part.{input, gate}
 use Rattle.lw_trade.specs.Fronts.{IsLeastSpot}
@@ -17,7 +17,8 @@ use Rattle.lw_trade.specs.Queues.{IsTaken}
 use Rattle.lw_trade.specs.Seen.{HasSeen, AreSeen, HasUnseen, IsSeeing, IsSeenPrice, seen_at, sum_seen}
 use Rattle.lw_trade.specs.Settling.{Spot, spot, Has, HasAtMost, IsSpotOf, times, areas, Gives, Queued, Waits, Comes, IsGained, AreGroupsAdded, AreInTime, GivesNoMoreSeen}
 use Rattle.lw_trade.specs.Uses.{AreUses, HasUse, IsGroup, turns_of}
-use Rattle.lw_trade.proofs.Lists.{below_or, get_in, get_set, get_set_other, got}
+use Rattle.lw_trade.proofs.Built.{got_at}
+use Rattle.lw_trade.proofs.Lists.{below_or, get_in, get_set, get_set_other}
 use Rattle.lw_trade.proofs.Stepping.{at_most, waits_left}
 
 -- A group that comes is taken, and sees.
@@ -68,9 +69,6 @@ module _ (u : Uses) (seen : List ℕ) (spots : List Spot) (now choices n : ℕ) 
 
 -- What a choice gives, and what its groups have seen.
 
-pub at_place : (xs : List ℕ) (i x : ℕ) → slice_get xs i ≡ Some x → slice_index_or xs i 0 ≡ x
-at_place xs i x at = same_Some (slice_index_or xs i 0) x (sym (got xs i 0 (get_in xs i x at)) ∙ at)
-
 module _ (u : Uses) (seen : List ℕ) (spots : List Spot) (now n first : ℕ) (first_at : slice_get u.firsts.items n ≡ Some first) where
   pin_seen : (i d p : ℕ) (k : Spot) → HasUse u n i d p → Has spots k → k.class ≡ p → k.time + d ≤ now → (seen_at u.members.classes seen (first + i) ≤ k.area) ⊎ HasUnseen u seen spots now n
   pin_seen i d p k its has e le = by_case (below_or k.area (seen_at u.members.classes seen (first + i)))
@@ -79,11 +77,11 @@ module _ (u : Uses) (seen : List ℕ) (spots : List Spot) (now n first : ℕ) (f
       same = same_Some its.first first (sym its.first_at ∙ first_at)
 
       group : slice_index_or u.members.classes (first + i) 0 ≡ its.group
-      group = at_place u.members.classes (first + i) its.group (subst (λ j. slice_get u.members.classes j ≡ Some its.group) (its.place_is ∙ ap (λ f. f + i) same) its.member)
+      group = got_at u.members.classes (first + i) its.group (subst (λ j. slice_get u.members.classes j ≡ Some its.group) (its.place_is ∙ ap (λ f. f + i) same) its.member)
 
       unseen : k.area < seen_at u.members.classes seen (first + i) → HasSeen seen its.group k.area → ⊥
       unseen lt (own, at, low) =
-          let own_is : slice_index_or seen its.group 0 ≡ own = at_place seen its.group own at in
+          let own_is : slice_index_or seen its.group 0 ≡ own = got_at seen its.group own at in
           let here : seen_at u.members.classes seen (first + i) ≡ own = ap (λ j. slice_index_or seen j 0) group ∙ own_is in
           absurd (omega (arith, lt, here, low))
 

@@ -20,11 +20,6 @@ pub record AreInputsTo (g : Graph) (n : ℕ) (inputs : List (Option ℕ)) : Type
   pub some : (c i : ℕ) → slice_get inputs c ≡ Some (Some i) → slice_get g.leaves i ≡ Some c
   pub none : (c i : ℕ) → slice_get inputs c ≡ Some None → i < n → slice_get g.leaves i ≡ Some c → ⊥
 
--- each place that was noted has its gate, and no other has one
-pub record AreNoted (places : List ℕ) (gates : List (Option ℕ)) : Type 0 where
-  pub each : (k place : ℕ) → slice_get places k ≡ Some place → slice_get gates place ≡ Some (Some k)
-  pub only : (place k : ℕ) → slice_get gates place ≡ Some (Some k) → slice_get places k ≡ Some place
-
 -- for each root the net of the last point of its class by its time
 abbrev pub HaveRootNets : Task → List Held → List Held → List ClassId → List Micro → List ℕ → Type 0
 HaveRootNets s held nodes [] [] [] = Unit {0}

@@ -1,4 +1,4 @@
-use Rattle.std.proofs.Common.{◌≡◌, ◌<◌, ◌+◌, ◌-◌, ℕ, inl, inr, Some, None, length, slice_get, slice_index_or, refl, ap, sym, ◌∙◌, subst, arith}
+use Rattle.std.proofs.Common.{◌≡◌, ◌-◌, inl, inr, Some, None, slice_index_or, ap, sym, ◌∙◌, subst, arith}
 use Rattle.lw_trade.specs.Lasts.{IsLastPlace}
 use Rattle.lw_trade.proofs.Lists.{get_some, got}
 use Rattle.lw_trade.proofs.checking.is_net.Goals as goal

@@ -1,4 +1,4 @@
-use Rattle.std.proofs.Common.{◌≡◌, ◌<◌, ℕ, Some, length, slice_get, refl, ap, sym, ◌∙◌, arith}
+use Rattle.std.proofs.Common.{arith}
 use Rattle.lw_trade.proofs.Lists.{read_at}
 use Rattle.lw_trade.proofs.checking.is_owned.Goals as goal
 

@@ -1,7 +1,7 @@
-use Rattle.std.proofs.Common.{◌≡◌, ◌<◌, ◌≤◌, ◌+◌, ℕ, ◌⊎◌, inl, inr, Some, length, slice_get, slice_index_or, refl, ap, sym, ◌∙◌, subst, subst₂, arith}
+use Rattle.std.proofs.Common.{◌≡◌, ◌<◌, ◌≤◌, ◌+◌, ℕ, ◌⊎◌, inl, inr, slice_get, slice_index_or, ap, sym, ◌∙◌, subst, subst₂, arith}
 use Rattle.lw_trade.specs.declared.walking.Node.{Node}
 use Rattle.lw_trade.specs.Checks.{IsGateRight, IsNodeRight, IsOwned, IsUsedEarlier}
-use Rattle.lw_trade.proofs.Lists.{below_or, get_some, got, read_at}
+use Rattle.lw_trade.proofs.Lists.{below_or, got, read_at}
 use Rattle.lw_trade.proofs.checking.is_right.Goals as goal
 
 abbrev no_node : Node

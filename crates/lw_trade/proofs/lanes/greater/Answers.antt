@@ -1,6 +1,6 @@
 use Rattle.std.proofs.Common.{subst}
 use Rattle.lw_trade.specs.Queues.{IsMostLeft}
-use Rattle.lw_trade.proofs.Laning.{most_both, most_first, most_second}
+use Rattle.lw_trade.proofs.Laning.{most_both}
 use Rattle.lw_trade.proofs.lanes.greater.Goals as goal
 
 pub returns : goal.returns

@@ -1,4 +1,4 @@
-use Rattle.std.proofs.Common.{◌≡◌, ◌∙◌, [], ap}
+use Rattle.std.proofs.Common.{◌∙◌, ap}
 use Rattle.lw_trade.specs.Queues.{flat}
 use Rattle.lw_trade.proofs.Laning.{flat_none}
 use Rattle.lw_trade.proofs.lanes.no_lanes.Goals as goal

@@ -1,4 +1,4 @@
-use Rattle.std.proofs.Common.{◌++◌, ◌∷◌, [], ◌<◌, length, sym, subst, slice_set, arith}
+use Rattle.std.proofs.Common.{◌∷◌, ◌<◌, length, sym, subst, slice_set, arith}
 use Rattle.std.specs.List.Sorted.{IsPermutation}
 use Rattle.lw_trade.specs.Queues.{flat}
 use Rattle.lw_trade.proofs.Laning.{flat_pushed}

@@ -1,4 +1,4 @@
-use Rattle.std.proofs.Common.{◌≡◌, ◌∷◌, ◌<◌, ◌∙◌, Some, length, slice_get, slice_index_or, slice_set, sym, ap, subst, arith}
+use Rattle.std.proofs.Common.{◌≡◌, ◌∷◌, ◌<◌, ◌∙◌, Some, length, slice_get, slice_set, ap, subst, arith}
 use Rattle.std.specs.List.Sorted.{IsPermutation}
 use Rattle.lw_trade.specs.Queues.{flat}
 use Rattle.lw_trade.proofs.Laning.{flat_taken, less_next, set_same}

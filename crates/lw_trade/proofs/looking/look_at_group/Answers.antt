@@ -1,12 +1,10 @@
-use Rattle.std.proofs.Common.{◌∙◌, ◌<◌, Some, length, map, slice_get, slice_index_or, refl, sym, subst, arith}
+use Rattle.std.proofs.Common.{◌∙◌, ◌<◌, length, refl, sym, subst, arith}
 use Rattle.std.proofs.lemmas.List.{length-map}
 use Rattle.lw_trade.specs.Links.{IsLast}
 use Rattle.lw_trade.specs.Points.{task}
 use Rattle.lw_trade.specs.Seen.{HasUnseen}
-use Rattle.lw_trade.specs.Uses.{AreUses}
-use Rattle.lw_fixed.specs.declared.micro.Micro.{Micro}
 use Rattle.lw_trade.specs.Rows.{plain_row, plain_rows}
-use Rattle.lw_trade.proofs.Lists.{get_in, got, read_at}
+use Rattle.lw_trade.proofs.Lists.{get_in, read_at}
 use Rattle.lw_trade.proofs.Linking.{place_measure, place_falls}
 use Rattle.lw_trade.proofs.LookedAt.{looking_first, looking_next, looking_over}
 use Rattle.lw_trade.proofs.looking.look_at_group.Goals as goal

@@ -1,4 +1,4 @@
-use Rattle.std.proofs.Common.{◌≡◌, ◌<◌, length, sym, arith}
+use Rattle.std.proofs.Common.{◌<◌, length, arith}
 use Rattle.lw_trade.proofs.Lists.{got, read_at}
 use Rattle.lw_trade.proofs.SeenPoints.{seeing_less, seeing_same}
 use Rattle.lw_trade.proofs.seeing.see.Goals as goal

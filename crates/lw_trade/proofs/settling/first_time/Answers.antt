@@ -1,4 +1,4 @@
-use Rattle.std.proofs.Common.{◌≤◌, arith}
+use Rattle.std.proofs.Common.{arith}
 use Rattle.lw_trade.proofs.Queueing.{first_of, second_of}
 use Rattle.lw_trade.proofs.settling.first_time.Goals as goal
 

@@ -8,7 +8,7 @@ use Rattle.lw_trade.specs.Points.{task}
 use Rattle.lw_trade.specs.Pricing.{IsOfLibrary, IsWithin}
 use Rattle.lw_trade.specs.Rows.{plain_part, plain_row, plain_rows}
 use Rattle.lw_trade.specs.Seen.{AreSeen}
-use Rattle.lw_trade.specs.Settling.{Spot, spot, Has, HasAtMost, IsBest, IsGained, IsGaining, IsStill, IsStillFor, Waits}
+use Rattle.lw_trade.specs.Settling.{spot, Has, HasAtMost, IsBest, IsGained, IsStillFor, Waits}
 use Rattle.lw_trade.proofs.Backed.{backed_gained, reached_low}
 use Rattle.lw_trade.proofs.Lists.{got}
 use Rattle.lw_trade.specs.Uses.{turns_of}

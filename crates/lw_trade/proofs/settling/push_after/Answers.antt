@@ -1,4 +1,4 @@
-use Rattle.std.proofs.Common.{◌+◌, ◌-◌, ◌≤◌, inl, refl, arith}
+use Rattle.std.proofs.Common.{◌+◌, ◌≤◌, inl, refl, arith}
 use Rattle.lw_trade.proofs.Adding.{pushed_waits, pushed_kept, pushed_only}
 use Rattle.lw_trade.proofs.settling.push_after.Goals as goal
 

@@ -11,7 +11,7 @@ use Rattle.lw_trade.specs.Pricing.{IsOfLibrary, IsWithin}
 use Rattle.lw_trade.specs.Rows.{plain_part}
 use Rattle.lw_trade.proofs.Cells.{delays_are, pins_are}
 use Rattle.lw_trade.proofs.Prices.{within_pins}
-use Rattle.lw_trade.proofs.Using.{choice_used, first_behind, first_used, firsts_longer, groups_first, input_used}
+use Rattle.lw_trade.proofs.Using.{choice_used, first_behind, first_used, groups_first, input_used}
 use Rattle.lw_trade.proofs.uses.add_choice.Goals as goal
 
 pub add_pins-requires-clause-are : goal.add_pins-requires-clause-are

@@ -1,6 +1,6 @@
 use Rattle.std.proofs.Common.{◌≡◌, ◌<◌, ◌+◌, ◌-◌, ◌∙◌, ℕ, List, suc, Some, length, slice_get, slice_range, sym, ap, subst, arith}
 use Rattle.lw_trade.specs.declared.found.Way.{Way}
-use Rattle.lw_trade.specs.Groups.{CurveLists, rows_of}
+use Rattle.lw_trade.specs.Groups.{CurveLists}
 use Rattle.lw_trade.proofs.Lists.{read_at}
 use Rattle.lw_trade.proofs.Grouped.{lefts_in, left_low, left_falls, row_is}
 use Rattle.lw_trade.proofs.grouping.Curves.ways_of.Goals as goal

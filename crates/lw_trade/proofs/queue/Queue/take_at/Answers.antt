@@ -1,6 +1,6 @@
-use Rattle.std.proofs.Common.{◌≡◌, ◌-◌, ◌≤◌, ◌<◌, ◌∷◌, ◌++◌, ◌∙◌, ℕ, All, Some, None, heap_items, sym, ap, subst, subst₂, arith}
+use Rattle.std.proofs.Common.{◌-◌, ◌≤◌, ◌<◌, ◌∷◌, ◌++◌, ◌∙◌, ℕ, Some, heap_items, sym, ap, subst, subst₂, arith}
 use Rattle.std.specs.List.Sorted.{IsPermutation}
-use Rattle.lw_trade.specs.Queues.{Item, IsMostLeft, IsQueue, IsTaken, flat}
+use Rattle.lw_trade.specs.Queues.{Item, IsMostLeft, IsQueue, flat}
 use Rattle.lw_trade.specs.Settling.{Queued, Waits}
 use Rattle.lw_trade.proofs.Lists.{get_in}
 use Rattle.lw_trade.proofs.Queueing.{heap_without, none_in, none_taken, queue_taken, taken_heap, taken_lanes, taken_left}
