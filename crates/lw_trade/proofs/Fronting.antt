@@ -166,14 +166,17 @@ module _ (cs : List ℕ) (ps : List Found) (c time : ℕ) where
           before (inr l) = seeking.late k j (omega arith) here e by
 
   -- any earlier place of the class will do, where its point is late too
-  pub seek_jump : (place : ℕ) (p : Found) → AreApart (spots_of cs ps) → slice_get cs place ≡ Some c → slice_get ps place ≡ Some p → time < p.time.0 → IsSeeking cs ps c time place
-  seek_jump place p apart at bt lt = record {
+  pub seek_at : (place : ℕ) (p : Found) → AreApart (spots_of cs ps) → slice_get cs place ≡ Some c → slice_get ps place ≡ Some p → time ≤ p.time.0 → IsSeeking cs ps c time place
+  seek_at place p apart at bt low = record {
     at = at;
     late = λ k j after here e by.
         let there = spots_at cs ps place c p at bt in
         let (t, a) = apart place j (spot c p.time.0 p.area) k after there here (sym e) in
         absurd (omega arith);
   }
+
+  pub seek_jump : (place : ℕ) (p : Found) → AreApart (spots_of cs ps) → slice_get cs place ≡ Some c → slice_get ps place ≡ Some p → time < p.time.0 → IsSeeking cs ps c time place
+  seek_jump place p apart at bt lt = seek_at place p apart at bt (omega arith)
 
   pub seek_over : (place : ℕ) (p : Found) → IsSeeking cs ps c time place → slice_get ps place ≡ Some p → time < p.time.0 → IsLast cs c place None → IsLeastSpot (spots_of cs ps) c time None
   seek_over place p seeking bt lt none k (j, here) e by = by_place (ℕ_discrete j place)

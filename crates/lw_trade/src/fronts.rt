@@ -83,6 +83,24 @@ fn area_by(links: &Links, points: &[Found], class: ClassId, time: u64) -> Option
     Some(points[place as usize].area)
 }
 
+// The area of the point at a place, if that is one of a class at a time.
+fn area_at(links: &Links, points: &[Found], class: ClassId, time: u64, place: u64) -> Option<u64>
+    requires one_each { length points.now ≡ length links.now.classes }
+    requires apart { AreApart (spots_of links.now.classes points.now) }
+    ensures { IfSome result (λ area. IsLeastSpot (spots_of links.now.classes points.now) class.0 time
+        (Some area)) }
+{
+    if place >= points.len() as u64 {
+        return None;
+    }
+    let _ = links.len();
+    let found = points[place as usize];
+    if links.class(place as u32).0 != class.0 || found.time.0 != time {
+        return None;
+    }
+    Some(found.area)
+}
+
 // How many points of a class are before a new one, and the place of one of them: from one to the
 // next a search leaves out about half of those that are left.
 fn jump_for(links: &Links, points: &[Found], class: ClassId, time: u64) -> (u32, u32)
@@ -217,6 +235,28 @@ impl Fronts {
         ensures { IsLeastSpot self.now.spots class.0 time result }
     {
         area_by(&self.links, self.points.as_slice(), class, time)
+    }
+
+    /// The same, where the point of the class at this time may stand at a place.
+    pub(crate) fn area_near(&self, class: ClassId, time: u64, place: u64) -> Option<u64>
+        requires { class.0 < length self.now.least }
+        ensures { IsLeastSpot self.now.spots class.0 time result }
+    {
+        let points = self.points.as_slice();
+        if let Some(area) = area_at(&self.links, points, class, time, place) {
+            return Some(area);
+        }
+        area_by(&self.links, points, class, time)
+    }
+
+    /// Where the last point of a class stands.
+    pub(crate) fn last_place(&self, class: ClassId) -> u64
+        requires { class.0 < length self.now.least }
+    {
+        match self.links.last(class) {
+            Some(place) => place as u64,
+            None => u64::MAX,
+        }
     }
 
     /// Puts the points of a class and how they came behind others, the last one first.

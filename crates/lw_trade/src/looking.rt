@@ -128,8 +128,8 @@ pub(crate) fn look_at_groups(
         IsStillFor (task g pats lib.now starts) (plain_rows rows.now) time fronts.now.spots
         (turns_of uses.now coming.new queue.new)) }
 {
-    while let Some(group) = coming.take_at(time) {
-        see(uses, fronts, seen, group, time);
+    while let Some((place, group)) = coming.take_hinted_at(time) {
+        see(uses, fronts, seen, group, time, place);
         look_at_group(rows, lib, uses, seen, fronts, queue, group, time)?;
     }
     Ok(())

@@ -1,4 +1,4 @@
-ghost use Rattle.std.specs.Prelude.{◌≡◌, ◌-◌, ◌<◌, ◌≤◌, ◌∷◌, [], ℕ, All, IfOk, OnOk};
+ghost use Rattle.std.specs.Prelude.{◌≡◌, ◌-◌, ◌<◌, ◌≤◌, ◌∷◌, [], ℕ, All, IfOk, OnOk, option_map};
 ghost use Rattle.std.specs.List.Sorted.{IsPermutation};
 ghost use Rattle.std.specs.BinaryHeap.{IsHeap, heap_items};
 ghost use Rattle.lw_trade.specs.Queues.{IsFirstTime, IsMostLeft, IsTaken, item_cmp};
@@ -108,10 +108,22 @@ impl Queue {
         requires first { (t n : ℕ) → Waits self.old t n → time ≤ t }
         ensures { IsTaken self.old self.new time result }
     {
+        match self.take_hinted_at(time) {
+            Some(found) => Some(found.1),
+            None => None,
+        }
+    }
+
+    /// The same, with the hint that it was pushed with.
+    pub(crate) fn take_hinted_at(&mut self, time: u64) -> Option<(u64, u32)>
+        requires within { time ≤ self.old.horizon }
+        requires first { (t n : ℕ) → Waits self.old t n → time ≤ t }
+        ensures { IsTaken self.old self.new time (option_map (λ p. p.1) result) }
+    {
         let left = self.horizon - time;
         if let Some((lane, found)) = take_any(&mut self.lanes, self.at, left) {
             self.at = lane;
-            return Some(found.1);
+            return Some(found);
         }
         let Some(first) = most_in_heap(&self.heap) else {
             return None;
@@ -122,6 +134,6 @@ impl Queue {
         let Some(taken) = self.heap.pop() else {
             return None;
         };
-        Some(taken.1.1)
+        Some(taken.1)
     }
 }

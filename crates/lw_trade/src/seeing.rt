@@ -21,8 +21,8 @@ pub(crate) fn none_seen(alloc: Global, groups: u32) -> Result<Vec<u64>, AllocErr
     vec![in alloc; NO_AREA; groups as usize]
 }
 
-/// Lets a group see the last point of its class that comes by a time.
-pub(crate) fn see(uses: &Uses, fronts: &Fronts, seen: &mut [u64], group: u32, time: u64)
+/// Lets a group see the last point of its class that comes by a time. It may stand at a place.
+pub(crate) fn see(uses: &Uses, fronts: &Fronts, seen: &mut [u64], group: u32, time: u64, place: u64)
     requires group { group < uses.now.members.count }
     requires are { AreGroups uses.now }
     requires one_each { length seen.old ≡ uses.now.members.count }
@@ -34,7 +34,7 @@ pub(crate) fn see(uses: &Uses, fronts: &Fronts, seen: &mut [u64], group: u32, ti
         return;
     }
     let class = uses.links.class(group);
-    let Some(area) = fronts.area_by(class, time - delay) else {
+    let Some(area) = fronts.area_near(class, time - delay, place) else {
         return;
     };
     if area < seen[group as usize] {

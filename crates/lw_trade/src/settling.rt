@@ -42,6 +42,7 @@ fn push_after(
     lane: u32,
     time: u64,
     delay: u64,
+    hint: u64,
     group: u32,
 ) -> Result<(), AllocError>
     requires time { time ≤ queue.old.horizon }
@@ -53,12 +54,18 @@ fn push_after(
     if delay > left {
         return Ok(());
     }
-    queue.push(lane, time + delay, 0, group)?;
+    queue.push(lane, time + delay, hint, group)?;
     Ok(())
 }
 
-// Lets all groups of a class come that gained a point at a time.
-fn push_groups(uses: &Uses, coming: &mut Queue, class: ClassId, time: u64) -> Result<(), AllocError>
+// Lets all groups of a class come that gained a point at a time, with a hint.
+fn push_groups(
+    uses: &Uses,
+    coming: &mut Queue,
+    class: ClassId,
+    time: u64,
+    hint: u64,
+) -> Result<(), AllocError>
     requires class { class.0 < uses.now.links.count }
     requires are { AreGroups uses.now }
     requires time { time ≤ coming.old.horizon }
@@ -70,7 +77,7 @@ fn push_groups(uses: &Uses, coming: &mut Queue, class: ClassId, time: u64) -> Re
     let mut next = uses.links.last(class);
     while let Some(group) = next {
         let delay = uses.delays[group as usize];
-        push_after(coming, lane_of(uses, group), time, delay, group)?;
+        push_after(coming, lane_of(uses, group), time, delay, hint, group)?;
         next = uses.links.before(group);
     }
     Ok(())
@@ -218,7 +225,8 @@ pub(crate) fn settle_at(
         AreBacked (task g pats lib.now starts.now) (plain_rows rows.now) fronts.new.held) }
 {
     while let Some(class) = gain_at(rows, lib, starts, uses, seen, fronts, coming, queue, time)? {
-        push_groups(uses, coming, class, time)?;
+        let place = fronts.last_place(class);
+        push_groups(uses, coming, class, time, place)?;
     }
     Ok(())
 }

@@ -11,24 +11,24 @@ use Rattle.lw_trade.proofs.Ranges.{owners_low}
 use Rattle.lw_trade.proofs.Stepping.{group_over}
 use Rattle.lw_trade.proofs.looking.look_at_groups.Goals as goal
 
-pub take_at-requires-clause-first : goal.take_at-requires-clause-first
-take_at-requires-clause-first c t n w =
+pub take_hinted_at-requires-clause-first : goal.take_hinted_at-requires-clause-first
+take_hinted_at-requires-clause-first c t n w =
     let (g, pats, starts, st, us) = c.requires.still in
-    let (are, time, still) = c.loop-group.invariant.still g pats starts st us in
+    let (are, time, still) = c.loop-place.invariant.still g pats starts st us in
     (time.coming t n w).0
 
 pub look_at_group-requires-clause-time : goal.look_at_group-requires-clause-time
 look_at_group-requires-clause-time c =
     let (g, pats, starts, st, us) = c.requires.still in
-    let (are, time, still) = c.loop-group.invariant.still g pats starts st us in
-    omega (arith, c.requires.time, c.loop-group.invariant.horizon, time.horizon)
+    let (are, time, still) = c.loop-place.invariant.still g pats starts st us in
+    omega (arith, c.requires.time, c.loop-place.invariant.horizon, time.horizon)
 
 pub look_at_group-requires-clause-group : goal.look_at_group-requires-clause-group
 look_at_group-requires-clause-group c =
     let (g, pats, starts, st, us) = c.requires.still in
-    let (are, time, still) = c.loop-group.invariant.still g pats starts st us in
-    let within : c.args.time ≤ c.loop-group.coming.horizon = omega (arith, c.requires.time, c.loop-group.invariant.horizon) in
-    let w = taken_waits c.loop-group.coming c.take_at.new.self c.args.time c.in-Some.group within c.in-Some.ensures in
+    let (are, time, still) = c.loop-place.invariant.still g pats starts st us in
+    let within : c.args.time ≤ c.loop-place.coming.horizon = omega (arith, c.requires.time, c.loop-place.invariant.horizon) in
+    let w = taken_waits c.loop-place.coming c.take_hinted_at.new.self c.args.time c.in-Some.group within c.in-Some.ensures in
     (time.coming c.args.time c.in-Some.group w).1
 
 pub look_at_group-requires-clause-are : goal.look_at_group-requires-clause-are
@@ -42,49 +42,49 @@ look_at_group-requires-clause-owners c =
 pub look_at_group-requires-clause-late : goal.look_at_group-requires-clause-late
 look_at_group-requires-clause-late c k has =
     let (g, pats, starts, st, us) = c.requires.still in
-    let (are, time, still) = c.loop-group.invariant.still g pats starts st us in
+    let (are, time, still) = c.loop-place.invariant.still g pats starts st us in
     still.low k has
 
 pub look_at_group-requires-clause-small : goal.look_at_group-requires-clause-small
 look_at_group-requires-clause-small c k has =
     let (g, pats, starts, st, us) = c.requires.still in
-    let (are, time, still) = c.loop-group.invariant.still g pats starts st us in
+    let (are, time, still) = c.loop-place.invariant.still g pats starts st us in
     reached_low (task g pats c.args.lib.now starts) k (still.reached k has)
 
 pub see-requires-clause-group : goal.see-requires-clause-group
 see-requires-clause-group c =
     let (g, pats, starts, st, us) = c.requires.still in
-    let (are, time, still) = c.loop-group.invariant.still g pats starts st us in
-    let within : c.args.time ≤ c.loop-group.coming.horizon = omega (arith, c.requires.time, c.loop-group.invariant.horizon) in
-    let w = taken_waits c.loop-group.coming c.take_at.new.self c.args.time c.in-Some.group within c.in-Some.ensures in
+    let (are, time, still) = c.loop-place.invariant.still g pats starts st us in
+    let within : c.args.time ≤ c.loop-place.coming.horizon = omega (arith, c.requires.time, c.loop-place.invariant.horizon) in
+    let w = taken_waits c.loop-place.coming c.take_hinted_at.new.self c.args.time c.in-Some.group within c.in-Some.ensures in
     (time.coming c.args.time c.in-Some.group w).1
 
 pub see-requires-clause-are : goal.see-requires-clause-are
 see-requires-clause-are c = let (g, pats, starts, st, us) = c.requires.still in us.are
 
-pub loop-group-smaller : goal.loop-group-smaller
-loop-group-smaller c =
-    let within : c.args.time ≤ c.loop-group.coming.horizon = omega (arith, c.requires.time, c.loop-group.invariant.horizon) in
-    taken_less c.loop-group.coming c.take_at.new.self c.args.time c.in-Some.group within c.in-Some.ensures
+pub loop-place-smaller : goal.loop-place-smaller
+loop-place-smaller c =
+    let within : c.args.time ≤ c.loop-place.coming.horizon = omega (arith, c.requires.time, c.loop-place.invariant.horizon) in
+    taken_less c.loop-place.coming c.take_hinted_at.new.self c.args.time c.in-Some.group within c.in-Some.ensures
 
-pub loop-group-preserved : goal.loop-group-preserved
-loop-group-preserved c =
-    let within : c.args.time ≤ c.loop-group.coming.horizon = omega (arith, c.requires.time, c.loop-group.invariant.horizon) in
-    let all = seen_taken c.args.uses.now c.loop-group.seen c.see.new.seen c.args.fronts.now.spots c.loop-group.coming c.take_at.new.self c.args.time c.in-Some.group within c.in-Some.ensures c.see.ensures c.loop-group.invariant.seen in
+pub loop-place-preserved : goal.loop-place-preserved
+loop-place-preserved c =
+    let within : c.args.time ≤ c.loop-place.coming.horizon = omega (arith, c.requires.time, c.loop-place.invariant.horizon) in
+    let all = seen_taken c.args.uses.now c.loop-place.seen c.see.new.seen c.args.fronts.now.spots c.loop-place.coming c.take_hinted_at.new.self c.args.time c.in-Some.group within c.in-Some.ensures c.see.ensures c.loop-place.invariant.seen in
     record {
-      horizon = c.in-Some.ensures.0 ∙ c.loop-group.invariant.horizon;
-      one_each = c.see.ensures.one_each ∙ c.loop-group.invariant.one_each;
+      horizon = c.in-Some.ensures.0 ∙ c.loop-place.invariant.horizon;
+      one_each = c.see.ensures.one_each ∙ c.loop-place.invariant.one_each;
       seen = all;
       still = λ g pats starts st us.
           let s = task g pats c.args.lib.now starts in
           let xs = plain_rows c.args.rows.now in
           let u = c.args.uses.now in
           let ks = c.args.fronts.now.spots in
-          let coming = c.take_at.new.self in
+          let coming = c.take_hinted_at.new.self in
           let queue = c.look_at_group.new.queue in
           let unseen : ℕ → Type 0 = HasUnseen u c.see.new.seen ks c.args.time in
-          let w = turns_of u c.loop-group.coming c.loop-group.queue in
-          let (are, time, still) = c.loop-group.invariant.still g pats starts st us in
+          let w = turns_of u c.loop-place.coming c.loop-place.queue in
+          let (are, time, still) = c.loop-place.invariant.still g pats starts st us in
           let looked = c.in_ok-look_at_group.ensures.looked g pats starts us in
           let time' = group_in_time c.args.time (length xs) w time coming queue c.in-Some.group within c.in-Some.ensures looked.horizon looked.only in
           let within' : c.args.time ≤ coming.horizon = omega (arith, within, c.in-Some.ensures.0) in
@@ -96,11 +96,11 @@ loop-group-preserved c =
 
 pub returns-clause-seen : goal.returns-clause-seen
 returns-clause-seen c =
-    subst (AreSeen c.args.uses.now c.loop-group.seen c.args.fronts.now.spots) (sym c.in_default.ensures.0) c.loop-group.invariant.seen
+    subst (AreSeen c.args.uses.now c.loop-place.seen c.args.fronts.now.spots) (sym c.in_default.ensures.0) c.loop-place.invariant.seen
 
 pub returns-clause-over : goal.returns-clause-over
 returns-clause-over c = subst (λ q. (t g : ℕ) → Waits q t g → c.args.time < t) (sym c.in_default.ensures.0) c.in_default.ensures.1
 
 pub returns-clause-still : goal.returns-clause-still
 returns-clause-still c g pats starts st us =
-    subst (λ q. IsStillFor (task g pats c.args.lib.now starts) (plain_rows c.args.rows.now) c.args.time c.args.fronts.now.spots (turns_of c.args.uses.now q c.loop-group.queue)) (sym c.in_default.ensures.0) (c.loop-group.invariant.still g pats starts st us)
+    subst (λ q. IsStillFor (task g pats c.args.lib.now starts) (plain_rows c.args.rows.now) c.args.time c.args.fronts.now.spots (turns_of c.args.uses.now q c.loop-place.queue)) (sym c.in_default.ensures.0) (c.loop-place.invariant.still g pats starts st us)

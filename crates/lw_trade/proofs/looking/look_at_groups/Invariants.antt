@@ -9,13 +9,13 @@ use Rattle.lw_trade.specs.Settling.{IsStillFor}
 use Rattle.lw_trade.specs.Uses.{AreUses, turns_of}
 use Rattle.lw_trade.proofs.looking.look_at_groups.Given as goal
 
-abbrev pub invariant-loop-group : goal.invariant-loop-group
-invariant-loop-group l = record {
+abbrev pub invariant-loop-place : goal.invariant-loop-place
+invariant-loop-place l = record {
   horizon : l.coming.horizon ≡ l.initial.coming.horizon;
   one_each : length l.seen ≡ l.uses.members.count;
   seen : AreSeen l.uses l.seen l.fronts.spots l.coming;
   still : (g : Graph) (pats : List Pattern) (starts : List Micro) → IsStillFor (task g pats l.lib starts) (plain_rows l.rows) l.time l.fronts.spots (turns_of l.uses l.initial.coming l.initial.queue) → AreUses (task g pats l.lib starts) (plain_rows l.rows) l.uses → IsStillFor (task g pats l.lib starts) (plain_rows l.rows) l.time l.fronts.spots (turns_of l.uses l.coming l.queue);
 }
 
-abbrev pub decreases-loop-group : goal.decreases-loop-group
-decreases-loop-group l = length l.coming.items
+abbrev pub decreases-loop-place : goal.decreases-loop-place
+decreases-loop-place l = length l.coming.items

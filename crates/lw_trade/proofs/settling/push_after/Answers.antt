@@ -9,9 +9,9 @@ returns-clause-due c =
     let within : c.args.time + c.args.delay ≤ old.horizon = omega (arith, c.if-delay-left.false, c.horizon-horizon.ensures.horizon, c.requires.time) in
     record {
       horizon = c.in_ok-push.ensures.horizon;
-      kept = pushed_kept old new (c.args.time + c.args.delay) 0 c.args.group within c.in_ok-push.ensures.horizon c.in_ok-push.ensures.items;
-      only = pushed_only old new (c.args.time + c.args.delay) 0 c.args.group within c.in_ok-push.ensures.horizon c.in_ok-push.ensures.items;
-      here = λ le. pushed_waits old new (c.args.time + c.args.delay) 0 c.args.group within c.in_ok-push.ensures.horizon c.in_ok-push.ensures.items;
+      kept = pushed_kept old new (c.args.time + c.args.delay) c.args.hint c.args.group within c.in_ok-push.ensures.horizon c.in_ok-push.ensures.items;
+      only = pushed_only old new (c.args.time + c.args.delay) c.args.hint c.args.group within c.in_ok-push.ensures.horizon c.in_ok-push.ensures.items;
+      here = λ le. pushed_waits old new (c.args.time + c.args.delay) c.args.hint c.args.group within c.in_ok-push.ensures.horizon c.in_ok-push.ensures.items;
     }
 
 pub returns-then-delay-left-clause-due : goal.returns-then-delay-left-clause-due

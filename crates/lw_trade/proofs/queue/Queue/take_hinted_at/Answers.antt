@@ -4,7 +4,7 @@ use Rattle.lw_trade.specs.Queues.{Item, IsMostLeft, IsQueue, flat}
 use Rattle.lw_trade.specs.Settling.{Queued, Waits}
 use Rattle.lw_trade.proofs.Lists.{get_in}
 use Rattle.lw_trade.proofs.Queueing.{heap_without, none_in, none_taken, queue_taken, taken_heap, taken_lanes, taken_left}
-use Rattle.lw_trade.proofs.queue.Queue.take_at.Goals as goal
+use Rattle.lw_trade.proofs.queue.Queue.take_hinted_at.Goals as goal
 
 pub invariant_of-self : goal.invariant_of-self
 invariant_of-self c =
