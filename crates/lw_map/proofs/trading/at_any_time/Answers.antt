@@ -6,12 +6,12 @@ use Rattle.lw_map.proofs.trading.at_any_time.Goals as goal
 pub label-requires-clause-leaves : goal.label-requires-clause-leaves
 label-requires-clause-leaves c = λ i k at. leaves_free c.args.choices.now c.new-cost.result.lib.now c.args.pats.now i k at
 
-pub extract-requires-clause-leaves : goal.extract-requires-clause-leaves
-extract-requires-clause-leaves c =
+pub extract_with-requires-clause-leaves : goal.extract_with-requires-clause-leaves
+extract_with-requires-clause-leaves c =
     leaf_labels c.args.choices.now c.args.lib.now c.in_ok-labelled.labelled.labels (rw (c.requires.patterns, c.new-cost.ensures) at c.in_ok-labelled.ensures.least)
 
-pub extract-requires-clause-fit : goal.extract-requires-clause-fit
-extract-requires-clause-fit c =
+pub extract_with-requires-clause-fit : goal.extract_with-requires-clause-fit
+extract_with-requires-clause-fit c =
     ports_fit c.args.net.now [] c.args.choices.now c.in_ok-ports.ports c.inputs.ensures.kept c.requires.choices c.in_ok-ports.ensures c.requires.outputs
 
 pub returns-in-Ok-clause-traded : goal.returns-in-Ok-clause-traded
