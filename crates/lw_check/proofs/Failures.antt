@@ -7,14 +7,14 @@ use Rattle.lw_laws.specs.Graphs.{Graph}
 use Rattle.lw_laws.specs.Costs.{Cost}
 use Rattle.lw_laws.specs.Covers.{Pattern, HasPins}
 use Rattle.lw_laws.specs.Choices.{Labels, HasLabelAtMost}
-use Rattle.lw_laws.specs.Extracts.{Match, MatchesAt}
+use Rattle.lw_laws.specs.Extracts.{Match, IsMatchOf}
 use Rattle.lw_laws.specs.Laws.{HasClasses}
 use Rattle.lw_laws.specs.Mapped.{IsPotentialOf}
 use Rattle.lw_laws.specs.Rounds.{labels_in}
 use Rattle.lw_laws.proofs.Extracts.{listed_at}
 use Rattle.lw_laws.proofs.RoundLaws.{match_in}
 use Rattle.lw_graph.specs.Graphs.{IsGraph}
-use Rattle.lw_match.specs.Coming.{IsMatch}
+use Rattle.lw_match.specs.Coming.{IsPatternMatch}
 use Rattle.lw_match.specs.Least.{AreOfCells}
 use Rattle.lw_match.proofs.CellMatches.{of_cell, of_pattern}
 use Rattle.lw_label.proofs.Marked.{place_of}
@@ -53,7 +53,7 @@ module _ (g : Graph) (cost : Cost) (pats : List Pattern) where
         by_side (inr match') = inr (is.value, match', is.above)
 
     -- a match and what it costs, as one at its class
-    pub cost_at : (c : ℕ) (m : Match) (d : ℕ) → AreOfCells cost.pin_counts pats → IsMatch g pats c m → CostsBy cost pats labels m d → IsMatchCost g cost pats labels c d
+    pub cost_at : (c : ℕ) (m : Match) (d : ℕ) → AreOfCells cost.pin_counts pats → IsPatternMatch g pats c m → CostsBy cost pats labels m d → IsMatchCost g cost pats labels c d
     cost_at c m d cells is by =
         let (p, at) = of_cell g cost pats c m cells is in
         let same : p ≡ by.pattern = same_Some p by.pattern (sym at.listed ∙ by.listed) in
@@ -67,21 +67,21 @@ module _ (g : Graph) (cost : Cost) (pats : List Pattern) where
         }
 
     -- what a match at a class costs, by the match
-    pub at_cost : (c d : ℕ) → AreOfCells cost.pin_counts pats → IsMatchCost g cost pats labels c d → (m : Match) × IsMatch g pats c m × CostsBy cost pats labels m d
+    pub at_cost : (c d : ℕ) → AreOfCells cost.pin_counts pats → IsMatchCost g cost pats labels c d → (m : Match) × IsPatternMatch g pats c m × CostsBy cost pats labels m d
     at_cost c d cells is =
         let s = is.stands in
         let (n, at) = place_of pats s.pattern s.listed in
         let m : Match = record { pattern = n; pins = is.pins } in
-        let matches : MatchesAt g cost pats c m s.pattern = record { listed = at; pins = subst (λ cell. HasPins cost.pin_counts cell (length is.pins)) (sym s.cell_is) s.pins; stands = s.stands } in (
+        let matches : IsMatchOf g cost pats c m s.pattern = record { listed = at; pins = subst (λ cell. HasPins cost.pin_counts cell (length is.pins)) (sym s.cell_is) s.pins; stands = s.stands } in (
           m,
           of_pattern g cost pats c m cells (s.pattern, matches),
           record { pattern = s.pattern; listed = at; pin_labels = is.pin_labels; have = is.have; value = is.value ∙ ap (λ cell. cost.value cell is.pin_labels) (sym s.cell_is) },
         )
 
-    pub low_of : (c : ℕ) (m : Match) → AreOfCells cost.pin_counts pats → IsMatch g pats c m → IsLowMatch cost pats labels (labels c) m → IsLow g cost pats labels c
+    pub low_of : (c : ℕ) (m : Match) → AreOfCells cost.pin_counts pats → IsPatternMatch g pats c m → IsLowMatch cost pats labels (labels c) m → IsLow g cost pats labels c
     low_of c m cells is (d, by, above) = (d, cost_at c m d cells is by, above)
 
-    pub by_pattern : (c : ℕ) (m : Match) → AreOfCells cost.pin_counts pats → IsMatch g pats c m → IsByPattern cost.pin_counts pats m
+    pub by_pattern : (c : ℕ) (m : Match) → AreOfCells cost.pin_counts pats → IsPatternMatch g pats c m → IsByPattern cost.pin_counts pats m
     by_pattern c m cells is = let (p, at) = of_cell g cost pats c m cells is in record { pattern = p; listed = at.listed; pins = at.pins }
 
   module _ (labels : List (Option ℕ)) where

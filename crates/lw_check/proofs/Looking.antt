@@ -8,7 +8,7 @@ use Rattle.lw_laws.specs.Costs.{Cost}
 use Rattle.lw_laws.specs.Covers.{Pattern}
 use Rattle.lw_laws.specs.Extracts.{Match}
 use Rattle.lw_laws.specs.Graphs.{Graph}
-use Rattle.lw_match.specs.Coming.{AreMatches, IsMatch}
+use Rattle.lw_match.specs.Coming.{AreMatches, IsPatternMatch}
 use Rattle.lw_match.specs.Least.{AreOfCells}
 use Rattle.lw_match.specs.Values.{numbers}
 use Rattle.lw_dag.proofs.Rising.{contains_cons, contains_none}
@@ -75,8 +75,8 @@ module _ (g : Graph) (cost : Cost) (pats : List Pattern) (labels : Labels) (c : 
 
   -- each match at the class is not low, or is still to come
   pub record IsLookingAt (coming : List Match) : Type 0 where
-    pub each : (m : Match) → Contains coming m → IsMatch g pats c m
-    pub gone : (m : Match) → IsMatch g pats c m → (IsLowMatch cost pats labels label m → ⊥) ⊎ Contains coming m
+    pub each : (m : Match) → Contains coming m → IsPatternMatch g pats c m
+    pub gone : (m : Match) → IsPatternMatch g pats c m → (IsLowMatch cost pats labels label m → ⊥) ⊎ Contains coming m
 
   pub looking_first : (coming : List Match) → AreMatches g pats c coming → IsLookingAt coming
   looking_first coming are = record {
@@ -84,7 +84,7 @@ module _ (g : Graph) (cost : Cost) (pats : List Pattern) (labels : Labels) (c : 
     gone = λ m is. inr ((are.each m).1 is);
   }
 
-  pub looking_here : (coming rest : List Match) (found : Match) → coming ≡ found ∷ rest → IsLookingAt coming → IsMatch g pats c found
+  pub looking_here : (coming rest : List Match) (found : Match) → coming ≡ found ∷ rest → IsLookingAt coming → IsPatternMatch g pats c found
   looking_here coming rest found e is = is.each found (subst (λ ms. Contains ms found) (sym e) (0, omega arith, refl))
 
   pub looking_more : (coming rest : List Match) (found : Match) → coming ≡ found ∷ rest → (IsLowMatch cost pats labels label found → ⊥) → IsLookingAt coming → IsLookingAt rest

@@ -25,15 +25,15 @@ use Rattle.lw_netlist.specs.Plain.{plain}
 use Rattle.lw_extract.specs.declared.ports.Ports.{Ports}
 use Rattle.lw_extract.specs.declared.ports.Cover.{Cover as Extracted}
 use Rattle.lw_extract.specs.Choosing.{labels, heights}
-use Rattle.lw_extract.specs.Covers.{AreFit, IsCoverOf, CostTheirLabels, ArriveAtLabels}
+use Rattle.lw_extract.specs.Covers.{AreFit, IsExtractedCover, CostTheirLabels, ArriveAtLabels}
 
 -- each net of a cover costs the label of its class
-pub cost_their_labels : (g : Graph) (cost : Cost) (pats : List Pattern) (marks : List (Option Mark)) → HaveLeafLabels g cost (labels marks) → (ports : Ports) (cover : Extracted) → IsCoverOf g cost pats marks ports cover → CostTheirLabels g cost marks cover
+pub cost_their_labels : (g : Graph) (cost : Cost) (pats : List Pattern) (marks : List (Option Mark)) → HaveLeafLabels g cost (labels marks) → (ports : Ports) (cover : Extracted) → IsExtractedCover g cost pats marks ports cover → CostTheirLabels g cost marks cover
 cost_their_labels g cost pats marks leaves ports cover is costs are =
     extracted_costs g cost pats (labels marks) (heights marks) (numbers ports.roots) (numbers cover.classes) (plain cover.netlist) costs is.gate_classes is.extracted are leaves
 
 -- each net of a cover arrives at the label of its class, where the cost is the time
-pub arrive_at_labels : (g : Graph) (cells : List CellParts) (starts : List Micro) (pats : List Pattern) (marks : List (Option Mark)) (ports : Ports) (cover : Extracted) → IsGraph g → IsLibrary cells → All IsSmall starts → AreOfCells (time_cost cells starts).pin_counts pats → AreLeastMarks g (time_cost cells starts) pats marks → HaveLeafLabels g (time_cost cells starts) (labels marks) → AreFit g ports → IsCoverOf g (time_cost cells starts) pats marks ports cover → ArriveAtLabels g cells starts marks cover
+pub arrive_at_labels : (g : Graph) (cells : List CellParts) (starts : List Micro) (pats : List Pattern) (marks : List (Option Mark)) (ports : Ports) (cover : Extracted) → IsGraph g → IsLibrary cells → All IsSmall starts → AreOfCells (time_cost cells starts).pin_counts pats → AreLeastMarks g (time_cost cells starts) pats marks → HaveLeafLabels g (time_cost cells starts) (labels marks) → AreFit g ports → IsExtractedCover g (time_cost cells starts) pats marks ports cover → ArriveAtLabels g cells starts marks cover
 arrive_at_labels g cells starts pats marks ports cover graph lib small of_cells least leaves fit is arrivals are =
     extracted_arrivals g pats (timing_of cells starts) most_time (labels marks) (heights marks) (numbers ports.roots) (numbers cover.classes) (plain cover.netlist) arrivals is.gate_classes is.extracted are leaves (labels_below_cap g cells starts pats marks graph lib small of_cells fit.few least)
 

@@ -30,7 +30,7 @@ use Rattle.lw_extract.specs.declared.ports.Ports.{Ports}
 use Rattle.lw_extract.specs.Nets.{Nets, net_in, AreClassNets}
 use Rattle.lw_extract.specs.Gates.{AreGatesOf, HaveNets}
 use Rattle.lw_extract.specs.Choosing.{labels, heights, chosen_classes, AreChosen}
-use Rattle.lw_extract.specs.Covers.{AreFit, IsCoverOf}
+use Rattle.lw_extract.specs.Covers.{AreFit, IsExtractedCover}
 use Rattle.lw_extract.proofs.ClassNets.{some_is, not_none}
 use Rattle.lw_naming.proofs.NameCount.{name_count}
 use Rattle.lw_extract.proofs.Places.{slice_get_right, all_places, all_at, place_beside, some_within, zip_read, zip_maps, zip_right, from_all_map, contains_at, few_distinct}
@@ -180,7 +180,7 @@ module _ (g : Graph) (cost : Cost) (pats : List Pattern) (marks : List (Option M
                 pins = nets_of_gate ∙ (sym pins_of_match ∙ (sym one_delay ∙ (sym delays_of_cell ∙ one_each)));
               }
 
-      pub is_cover : roots ≡ ports.roots → (classes : List ClassId) → numbers classes ≡ chosen_classes chosen → IsCoverOf g cost pats marks ports (record { netlist = n; classes = classes })
+      pub is_cover : roots ≡ ports.roots → (classes : List ClassId) → numbers classes ≡ chosen_classes chosen → IsExtractedCover g cost pats marks ports (record { netlist = n; classes = classes })
       is_cover same classes e = record {
         gate_classes = subst (λ cs. AreGateClasses g cost pats (labels marks) (heights marks) (numbers ports.roots) cs) (sym e) (subst (λ rs. AreGateClasses g cost pats (labels marks) (heights marks) (numbers rs) (chosen_classes chosen)) same are.gate_classes);
         extracted = subst (λ cs. IsExtracted g cost pats (labels marks) (heights marks) cs (plain n)) (sym e) extracted;

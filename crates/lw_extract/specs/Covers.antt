@@ -38,7 +38,7 @@ pub record IsFirstUncovered (marks : List (Option Mark)) (roots : List ClassId) 
 
 -- A gate for each needed class that is no input's, by height and then class: the chosen match of the class. Nets have the names of the
 -- inputs, of the first output of their class, or n1, n2 and so on; the outputs are at their roots' nets.
-pub record IsCoverOf (g : Graph) (cost : Cost) (pats : List Pattern) (marks : List (Option Mark)) (ports : Ports) (cover : Cover) : Type 0 where
+pub record IsExtractedCover (g : Graph) (cost : Cost) (pats : List Pattern) (marks : List (Option Mark)) (ports : Ports) (cover : Cover) : Type 0 where
   pub gate_classes : AreGateClasses g cost pats (labels marks) (heights marks) (numbers ports.roots) (numbers cover.classes)
   pub extracted : IsExtracted g cost pats (labels marks) (heights marks) (numbers cover.classes) (plain cover.netlist)
   pub model : cover.netlist.model ≡ ports.model

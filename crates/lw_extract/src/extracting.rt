@@ -11,7 +11,7 @@ ghost use Rattle.lw_extract.specs.declared.fault.ExtractFault.TheVariants.{NoCov
 ghost use Rattle.lw_match.specs.Values.{numbers};
 ghost use Rattle.lw_extract.specs.Choosing.{AreChosen, chosen_classes, labels as labels_of};
 ghost use Rattle.lw_extract.specs.Nets.{AreClassNets};
-ghost use Rattle.lw_extract.specs.Covers.{AreFit, IsFirstUncovered, IsCoverOf, CostTheirLabels};
+ghost use Rattle.lw_extract.specs.Covers.{AreFit, IsFirstUncovered, IsExtractedCover, CostTheirLabels};
 
 use crate::choosing::{Chosen, choose};
 use crate::gates::{gates_of, outputs_of};
@@ -89,7 +89,7 @@ fn assemble(
     requires nets { AreClassNets graph.now (chosen_classes chosen.now) nets.now }
     ensures cover { (costs : Costs) (marks : _) →
         AreChosen graph.now costs pats.now marks ports.now.roots chosen.now →
-        IfOk result (IsCoverOf graph.now costs pats.now marks ports.now) }
+        IfOk result (IsExtractedCover graph.now costs pats.now marks ports.now) }
     ensures over { IfOk result (λ cover. IsOver lib.now cover.netlist) }
 {
     let _ = lib.len();
@@ -124,7 +124,7 @@ fn cover<C: Cost>(
     requires leaves { HaveLeafLabels graph.now (C.costs cost.now) (labels_of marks.now) }
     requires fit { AreFit graph.now ports.now }
     requires covered { All (λ root. IsSome (slice_index_or marks.now root.0 None)) ports.now.roots }
-    ensures cover { IfOk result (IsCoverOf graph.now
+    ensures cover { IfOk result (IsExtractedCover graph.now
         (C.costs cost.now) pats.now marks.now ports.now) }
     ensures over { IfOk result (λ cover. IsOver lib.now cover.netlist) }
     ensures costs { IfOk result (CostTheirLabels graph.now (C.costs cost.now) marks.now) }
@@ -163,7 +163,7 @@ fn cover_with<C: Cost>(
     requires leaves { HaveLeafLabels graph.now (C.costs cost.now) (labels_of marks.now) }
     requires fit { AreFit graph.now ports.now }
     requires covered { All (λ root. IsSome (slice_index_or marks.now root.0 None)) ports.now.roots }
-    ensures cover { IfOk result (IsCoverOf graph.now
+    ensures cover { IfOk result (IsExtractedCover graph.now
         (C.costs cost.now) pats.now marks.now ports.now) }
     ensures over { IfOk result (λ cover. IsOver lib.now cover.netlist) }
     ensures costs { IfOk result (CostTheirLabels graph.now (C.costs cost.now) marks.now) }
@@ -200,7 +200,7 @@ pub fn extract_with<C: Cost>(
     requires fit { AreFit graph.now ports.now }
     ensures no_cover { (k : ℕ) → (result ≡ Err (NoCover k)) ↔
         IsFirstUncovered labels.now ports.now.roots k }
-    ensures cover { IfOk result (IsCoverOf graph.now
+    ensures cover { IfOk result (IsExtractedCover graph.now
         (C.costs cost.now) pats.now labels.now ports.now) }
     ensures over { IfOk result (λ cover. IsOver lib.now cover.netlist) }
     ensures costs { IfOk result (CostTheirLabels graph.now (C.costs cost.now) labels.now) }
@@ -233,7 +233,7 @@ pub fn extract<C: Cost>(
     requires fit { AreFit graph.now ports.now }
     ensures no_cover { (k : ℕ) → (result ≡ Err (NoCover k)) ↔
         IsFirstUncovered labels.now ports.now.roots k }
-    ensures cover { IfOk result (IsCoverOf graph.now
+    ensures cover { IfOk result (IsExtractedCover graph.now
         (C.costs cost.now) pats.now labels.now ports.now) }
     ensures over { IfOk result (λ cover. IsOver lib.now cover.netlist) }
     ensures costs { IfOk result (CostTheirLabels graph.now (C.costs cost.now) labels.now) }

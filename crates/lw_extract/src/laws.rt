@@ -16,7 +16,7 @@ ghost use Rattle.lw_label.specs.Labels.{AreLeastMarks};
 ghost use Rattle.lw_extract.specs.declared.ports.Ports.{Ports};
 ghost use Rattle.lw_extract.specs.declared.ports.Cover.{Cover};
 ghost use Rattle.lw_extract.specs.Choosing.{labels};
-ghost use Rattle.lw_extract.specs.Covers.{AreFit, IsCoverOf, ArriveAtLabels};
+ghost use Rattle.lw_extract.specs.Covers.{AreFit, IsExtractedCover, ArriveAtLabels};
 
 /// Where the cost is the time, each net of a cover arrives at the label of its class.
 pub fn nets_arrive_at_their_labels()
@@ -25,7 +25,7 @@ pub fn nets_arrive_at_their_labels()
         All IsSmall starts → AreOfCells (time_cost cells starts).pin_counts pats →
         AreLeastMarks g (time_cost cells starts) pats marks →
         HaveLeafLabels g (time_cost cells starts) (labels marks) → AreFit g ports →
-        IsCoverOf g (time_cost cells starts) pats marks ports cover →
+        IsExtractedCover g (time_cost cells starts) pats marks ports cover →
         ArriveAtLabels g cells starts marks cover }
 {}
 

@@ -7,7 +7,7 @@ use Rattle.lw_laws.specs.Covers.{Pattern, HasPins}
 use Rattle.lw_laws.specs.Choices.{Choices, Labels, HaveLabels, Attains, IsWithin}
 use Rattle.lw_laws.specs.Matches.{choices_of, IsMatchAt}
 use Rattle.lw_laws.specs.Marks.{Mark, IsMarkAtMost, Marks, HaveMarks, HasMarkAtMost, greatest_height, costs_in, price, labels_of, heights_of}
-use Rattle.lw_laws.specs.Extracts.{Match, MatchesAt, Supports, IsChosen, IsMatchAtMost, IsLeafClass}
+use Rattle.lw_laws.specs.Extracts.{Match, IsMatchOf, Supports, IsChosen, IsMatchAtMost, IsLeafClass}
 use Rattle.lw_laws.specs.Priced.{IsPriced, IsPricedAtMost, AreMarks}
 use Rattle.lw_laws.proofs.Heights.{IsWithin_more}
 use Rattle.lw_laws.proofs.Extracts.{listed_at}
@@ -50,7 +50,7 @@ module _ (g : Graph) (cost : Cost) (pats : List Pattern) (marks : Marks) where
       let (ms, have, t) = have_marks ps ls a in
       (k ∷ ms, (at, have), ap₂ (λ x xs. x ∷ xs) s t)
 
-  standing : (c : ℕ) (m : Match) (p : Pattern) → MatchesAt g cost pats c m p → IsMatchAt g cost.pin_counts pats c p.cell m.pins
+  standing : (c : ℕ) (m : Match) (p : Pattern) → IsMatchOf g cost pats c m p → IsMatchAt g cost.pin_counts pats c p.cell m.pins
   standing c m p at = record { pattern = p; listed = listed_at pats m.pattern p at.listed; cell_is = refl; pins = at.pins; stands = at.stands }
 
   module _ (are : AreMarks g cost pats marks) where

@@ -11,7 +11,7 @@ use Rattle.lw_laws.specs.Graphs.{Graph, PairsInOneClass, Unfolds}
 use Rattle.lw_laws.specs.Costs.{Cost}
 use Rattle.lw_laws.specs.Covers.{Timing, Pattern, ArePatterns, tree_of}
 use Rattle.lw_laws.specs.Matches.{choices_of, IsLeastCover}
-use Rattle.lw_laws.specs.Choices.{Choices, Labels, HasCost, HaveCosts, IsLeast, HaveLabels, HasLabelAtMost, IsPotential}
+use Rattle.lw_laws.specs.Choices.{Choices, Labels, HasCost, HaveCosts, IsLeastCost, HaveLabels, HasLabelAtMost, IsPotential}
 use Rattle.lw_laws.specs.Choices.HasCost.{by_wire, by_gate}
 use Rattle.lw_laws.specs.Choices.HaveCosts.{no_pins, pin}
 use Rattle.lw_laws.specs.Rounds.{labels_in}
@@ -40,7 +40,7 @@ use Rattle.lw_laws.proofs.Delays.{cost_of-time}
 use Rattle.lw_laws.proofs.Lists.{slice_get_in}
 
 -- the least costs over covers are those over matches
-least_match : (g : Graph) (pats : List Pattern) (cost : Cost) → PairsInOneClass g → ArePatterns cost.pin_counts pats → (c : ℕ) (o : Option ℕ) → IsLeastCover g pats cost c o → IsLeast (choices_of g cost.pin_counts pats) cost c o
+least_match : (g : Graph) (pats : List Pattern) (cost : Cost) → PairsInOneClass g → ArePatterns cost.pin_counts pats → (c : ℕ) (o : Option ℕ) → IsLeastCover g pats cost c o → IsLeastCost (choices_of g cost.pin_counts pats) cost c o
 least_match g pats cost once patterns c (Some d) ((k, is, u, e), low) = (
   subst (HasCost (choices_of g cost.pin_counts pats) cost c) e (cover_costs g once cost pats patterns k c is u),
   λ e h. let w = cost_covered g cost pats h in subst (λ z. d ≤ z) w.costs (low w.by w.is_cover w.unfolds),
@@ -48,12 +48,12 @@ least_match g pats cost once patterns c (Some d) ((k, is, u, e), low) = (
 least_match g pats cost once patterns c None none = λ e h. let w = cost_covered g cost pats h in none w.by w.is_cover w.unfolds
 
 -- least costs are a potential
-module _ (M : Choices) (cost : Cost) (labels : Labels) (least : (c : ℕ) → IsLeast M cost c (labels c)) where
-  at_most : (c d : ℕ) (o : Option ℕ) → labels c ≡ o → IsLeast M cost c o → HasCost M cost c d → HasLabelAtMost labels c d
+module _ (M : Choices) (cost : Cost) (labels : Labels) (least : (c : ℕ) → IsLeastCost M cost c (labels c)) where
+  at_most : (c d : ℕ) (o : Option ℕ) → labels c ≡ o → IsLeastCost M cost c o → HasCost M cost c d → HasLabelAtMost labels c d
   at_most c d None e is h = absurd (is d h)
   at_most c d (Some l) e (has, low) h = (l, e, low d h)
 
-  cost_of_label : (c l : ℕ) (o : Option ℕ) → labels c ≡ o → IsLeast M cost c o → labels c ≡ Some l → HasCost M cost c l
+  cost_of_label : (c l : ℕ) (o : Option ℕ) → labels c ≡ o → IsLeastCost M cost c o → labels c ≡ Some l → HasCost M cost c l
   cost_of_label c l None e is f = cc
   cost_of_label c l (Some d) e (has, low) f = let same : d ≡ l = cc in subst (HasCost M cost c) same has
 
@@ -72,7 +72,7 @@ module _ (M : Choices) (cost : Cost) (labels : Labels) (least : (c : ℕ) → Is
 -- the least costs over covers are a potential, and costs of covers
 pub least_costs_bound : (g : Graph) (pats : List Pattern) (cost : Cost) (labels : List (Option ℕ)) → IsCoverProblem g pats cost → ((c : ℕ) → IsLeastCover g pats cost c (labels_in labels c)) → IsPotentialOf g pats cost labels × IsAttainedIn g pats cost labels
 least_costs_bound g pats cost labels is least =
-    let over : (c : ℕ) → IsLeast (choices_of g cost.pin_counts pats) cost c (labels_in labels c) = λ c. least_match g pats cost is.once is.patterns c (labels_in labels c) (least c) in
+    let over : (c : ℕ) → IsLeastCost (choices_of g cost.pin_counts pats) cost c (labels_in labels c) = λ c. least_match g pats cost is.once is.patterns c (labels_in labels c) (least c) in
     (least_potential (choices_of g cost.pin_counts pats) cost (labels_in labels) over, λ c l e. cost_of_label (choices_of g cost.pin_counts pats) cost (labels_in labels) over c l (labels_in labels c) refl (over c) e)
 
 each : (R S : Port → Port → Type 0) → ((p q : Port) → R p q → S p q) → (ps qs : List Port) → AllZip R ps qs → AllZip S ps qs

@@ -5,7 +5,7 @@ use Rattle.lw_laws.specs.NumberedForms.{NumberedForms, family_of, AreNumberedFor
 use Rattle.lw_laws.specs.Encodings.{Encodes}
 use Rattle.lw_laws.specs.Truth.{IsValuation}
 use Rattle.lw_laws.specs.Costs.{Cost, IsCost, cost_of}
-use Rattle.lw_laws.specs.Choices.{IsLeast, IsAttained, AreChoices}
+use Rattle.lw_laws.specs.Choices.{IsLeastCost, IsAttained, AreChoices}
 use Rattle.lw_laws.specs.Covers.{Timing, Pattern, ArePatterns, tree_of}
 use Rattle.lw_laws.specs.Rounds.{labels_in}
 use Rattle.lw_laws.specs.Delays.{delay_cost}
@@ -42,15 +42,15 @@ bounds_covers g pats cost labels few once patterns is_cost potential k c is u =
     potential_bounds (choices_of g cost.pin_counts pats) cost is_cost (graph_choices g pats cost few) (labels_in labels) potential (cover_costs g once cost pats patterns k c is u)
 
 -- the least cost over covers is that over matches put together
-pub IsLeast-covers : (g : Graph) (pats : List Pattern) (cost : Cost) → PairsInOneClass g → ArePatterns cost.pin_counts pats → (c : ℕ) (o : Option ℕ) → IsLeast (choices_of g cost.pin_counts pats) cost c o → IsLeastCover g pats cost c o
-IsLeast-covers g pats cost once patterns c (Some d) (k, least) =
+pub IsLeastCost-covers : (g : Graph) (pats : List Pattern) (cost : Cost) → PairsInOneClass g → ArePatterns cost.pin_counts pats → (c : ℕ) (o : Option ℕ) → IsLeastCost (choices_of g cost.pin_counts pats) cost c o → IsLeastCover g pats cost c o
+IsLeastCost-covers g pats cost once patterns c (Some d) (k, least) =
     let h = cost_covered g cost pats k in
     ((h.by, h.is_cover, h.unfolds, h.costs), λ k is u. least (cost_of cost k) (cover_costs g once cost pats patterns k c is u))
-IsLeast-covers g pats cost once patterns c None none = λ k is u. none (cost_of cost k) (cover_costs g once cost pats patterns k c is u)
+IsLeastCost-covers g pats cost once patterns c None none = λ k is u. none (cost_of cost k) (cover_costs g once cost pats patterns k c is u)
 
 pub least_covers : (g : Graph) (pats : List Pattern) (cost : Cost) (labels : List (Option ℕ)) → length g.leaves < 2 ^ 32 → PairsInOneClass g → ArePatterns cost.pin_counts pats → IsCost cost → IsPotentialOf g pats cost labels → IsAttained (choices_of g cost.pin_counts pats) cost (labels_in labels) → (c : ℕ) → IsLeastCover g pats cost c (labels_in labels c)
 least_covers g pats cost labels few once patterns is_cost potential attained c =
-    IsLeast-covers g pats cost once patterns c (labels_in labels c) (labels_are_least (choices_of g cost.pin_counts pats) cost is_cost (graph_choices g pats cost few) (labels_in labels) potential attained c)
+    IsLeastCost-covers g pats cost once patterns c (labels_in labels c) (labels_are_least (choices_of g cost.pin_counts pats) cost is_cost (graph_choices g pats cost few) (labels_in labels) potential attained c)
 
 -- the net of a certified netlist that is at a form's class, with the label as its arrival, has the least time
 pub certified_least : (mode : Mode) (forms : NumberedForms) (g : Graph) (pats : List Pattern) (timing : Timing) (cap : ℕ) (labels : List (Option ℕ)) (n : Netlist) (class arrivals : ℕ → ℕ) → IsCertified mode forms g pats timing cap labels n class arrivals → (net f : ℕ) → NumberOccurs forms f → IsOutput g labels n class arrivals net f → HasLeastNumberedTime mode forms pats timing f (arrivals net)

@@ -15,8 +15,8 @@ pub record HasLeastTime (mode : Mode) (o : Listing) (pats : List Pattern) (timin
   pub least : (k : Cover) → IsCover (map length timing.delays) pats k → HasTree mode o f (tree_of k) → d ≤ time_of timing k
 
 -- no cover is of a tree that the form has
-abbrev pub IsUncovered : Mode → Listing → List Pattern → Timing → Form → Type 0
-IsUncovered mode o pats timing f = (k : Cover) → IsCover (map length timing.delays) pats k → HasTree mode o f (tree_of k) → ⊥
+abbrev pub HasNoCoverOf : Mode → Listing → List Pattern → Timing → Form → Type 0
+HasNoCoverOf mode o pats timing f = (k : Cover) → IsCover (map length timing.delays) pats k → HasTree mode o f (tree_of k) → ⊥
 
 -- Of all covers by the library of all trees that the laws derive for the net's sum of products, the fastest takes d.
 abbrev pub HasLeastArrival : Mode → ℕ → Network → List Pattern → Timing → ℕ → ℕ → Type 0
@@ -24,7 +24,7 @@ HasLeastArrival mode width net pats timing s d = HasLeastTime mode (listing_of w
 
 -- No cover by the library is of a tree that the laws derive for the net's sum of products.
 abbrev pub HasNoCover : Mode → ℕ → Network → List Pattern → Timing → ℕ → Type 0
-HasNoCover mode width net pats timing s = IsUncovered mode (listing_of width net) pats timing (sop_at (signals_of width net) s)
+HasNoCover mode width net pats timing s = HasNoCoverOf mode (listing_of width net) pats timing (sop_at (signals_of width net) s)
 
 -- an output: its name, as bytes, and its net
 pub record Port : Type 0 where

@@ -6,11 +6,11 @@ use Rattle.lw_laws.specs.Covers.{Pattern}
 use Rattle.lw_laws.specs.Matches.{choices_of}
 use Rattle.lw_laws.specs.Choices.{IsPotential, IsHeight}
 use Rattle.lw_laws.specs.Marks.{Mark, Marks, HaveMarks, price, labels_of}
-use Rattle.lw_laws.specs.Extracts.{Match, MatchesAt, IsMatchAtMost}
+use Rattle.lw_laws.specs.Extracts.{Match, IsMatchOf, IsMatchAtMost}
 
 -- the match stands at the class, its pins have marks, and these price it at this mark
 pub record IsPriced (g : Graph) (cost : Cost) (pats : List Pattern) (marks : Marks) (c : ℕ) (m : Match) (p : Pattern) (mark : Mark) : Type 0 where
-  pub matches : MatchesAt g cost pats c m p
+  pub matches : IsMatchOf g cost pats c m p
   pub pin_marks : List Mark
   pub have : HaveMarks marks m.pins pin_marks
   pub mark_is : mark ≡ price cost p.cell pin_marks

@@ -15,7 +15,7 @@ use Rattle.lw_laws.proofs.Lists.{contains_all}
 use Rattle.lw_laws.proofs.NameLaws.{names_differ, names_owned}
 use Rattle.lw_lut.specs.Choosing.{AreTables}
 use Rattle.lw_lut.specs.Cuts.{numbers}
-use Rattle.lw_lut.specs.Nets.{PlainTableNet, AreFit, IsNetOf, IsTableNet, net_classes, table_classes}
+use Rattle.lw_lut.specs.Nets.{PlainTableNet, AreFit, IsTableNetOf, IsTableNet, net_classes, table_classes}
 use Rattle.lw_lut.specs.Readable.{AreSayablePorts, IsSayable, IsSignalName, names_of_nets}
 use Rattle.lw_lut.specs.declared.ports.TablePorts.{TablePorts}
 use Rattle.lw_lut.specs.declared.table.Table.{Table}
@@ -108,7 +108,7 @@ module _ (g : Graph) (most : ℕ) (depths : List (Option ℕ)) (n : PlainTableNe
     latches = made.ports.latches;
   }
 
-pub made_are_sayable : (g : Graph) (most : ℕ) (depths : List (Option ℕ)) (ports : TablePorts) (n : PlainTableNet) (frame : Frame) → most ≤ 6 → AreFit g ports → AreSayablePorts ports g.leaves frame → IsNetOf g most depths ports n → IsTableNet n →
+pub made_are_sayable : (g : Graph) (most : ℕ) (depths : List (Option ℕ)) (ports : TablePorts) (n : PlainTableNet) (frame : Frame) → most ≤ 6 → AreFit g ports → AreSayablePorts ports g.leaves frame → IsTableNetOf g most depths ports n → IsTableNet n →
     1 + (length n.tables + length (ports.inputs ++ ports.outputs)) < 2 ^ 64 → IsSayable n frame
 made_are_sayable g most depths ports n frame small fit can is net room =
     let own : n.ports ≡ ports = is.ports_are in

@@ -12,7 +12,7 @@ use Rattle.lw_laws.proofs.Numbers.{slice_get_map_back}
 use Rattle.lw_lut.specs.Cuts.{numbers}
 use Rattle.lw_lut.specs.Depths.{DepthLists, AreLeastDepths}
 use Rattle.lw_lut.specs.Meaning.{AreNamedApart, ArePortsApart, net_names}
-use Rattle.lw_lut.specs.Nets.{AreFit, PlainTableNet, IsNetOf, IsTableNet, net_classes, table_classes}
+use Rattle.lw_lut.specs.Nets.{AreFit, PlainTableNet, IsTableNetOf, IsTableNet, net_classes, table_classes}
 use Rattle.lw_lut.specs.declared.ports.TablePorts.{TablePorts}
 use Rattle.lw_lut.specs.declared.table.Table.{Table}
 use Rattle.lw_naming.proofs.NameCount.{name_count}
@@ -21,7 +21,7 @@ use Rattle.lw_lut.proofs.RisingClasses.{contains_at}
 use Rattle.lw_lut.proofs.Sorting.{within_some}
 use Rattle.lw_lut.proofs.TableValues.{long}
 
-module _ (g : Graph) (most : ℕ) (lists : DepthLists) (ports : TablePorts) (n : PlainTableNet) (least : AreLeastDepths g most lists) (fit : AreFit g ports) (apart : ArePortsApart g ports) (is : IsNetOf g most lists.depths ports n) (kept : IsTableNet n) (few : 1 + (length g.pairs + (length ports.inputs + length ports.outputs)) < 2 ^ 64) where
+module _ (g : Graph) (most : ℕ) (lists : DepthLists) (ports : TablePorts) (n : PlainTableNet) (least : AreLeastDepths g most lists) (fit : AreFit g ports) (apart : ArePortsApart g ports) (is : IsTableNetOf g most lists.depths ports n) (kept : IsTableNet n) (few : 1 + (length g.pairs + (length ports.inputs + length ports.outputs)) < 2 ^ 64) where
   abbrev gates : List ℕ
   gates = table_classes n.tables
 

@@ -39,7 +39,7 @@ pub record AreFit (g : Graph) (ports : TablePorts) : Type 0 where
 
 -- One table for each needed class that is no input's, with the name of the first output of its class, or else the next of n1,
 -- n2 and so on that no port has.
-pub record IsNetOf (g : Graph) (most : ℕ) (depths : List (Option ℕ)) (ports : TablePorts) (n : PlainTableNet) : Type 0 where
+pub record IsTableNetOf (g : Graph) (most : ℕ) (depths : List (Option ℕ)) (ports : TablePorts) (n : PlainTableNet) : Type 0 where
   pub ports_are : n.ports ≡ ports
   pub inputs : numbers n.inputs ≡ g.leaves
   pub tables : AreTables g most depths (numbers ports.roots) n.tables

@@ -18,7 +18,7 @@ ghost use Rattle.lw_lut.specs.Covers.{HasLeastDepth, IsLeastDepth};
 ghost use Rattle.lw_lut.specs.Cuts.{numbers};
 ghost use Rattle.lw_lut.specs.Depths.{DepthLists, AreLeastDepths};
 ghost use Rattle.lw_lut.specs.Meaning.{AreNamedApart, ArePortsApart, ArePortsOf, HaveRoots, IsDraftOfAnySize, IsTableMapping, IsTableNetwork};
-ghost use Rattle.lw_lut.specs.Nets.{PlainTableNet, AreFit, IsNetOf, IsTableNet};
+ghost use Rattle.lw_lut.specs.Nets.{PlainTableNet, AreFit, IsTableNetOf, IsTableNet};
 ghost use Rattle.lw_lut.specs.Readable.{AreSayablePorts, AreUnlimited, IsSayable, IsTablesRead};
 ghost use Rattle.lw_lut.specs.Searches.{IsKnown};
 ghost use Rattle.lw_lut.specs.Said.{AreTableDepths, draft_said};
@@ -74,7 +74,7 @@ pub fn table_nets_are_kept()
     ensures { (g : Graph) (most : ℕ) (lists : DepthLists) (ports : TablePorts)
         (n : PlainTableNet) → AreLeastDepths g most lists → AreFit g ports →
         All (λ root. IsKnown lists.depths root.0) ports.roots →
-        IsNetOf g most lists.depths ports n → IsTableNet n }
+        IsTableNetOf g most lists.depths ports n → IsTableNet n }
 {}
 
 /// The names of a network of tables tell its nets apart, where those of the ports do and no number
@@ -82,7 +82,7 @@ pub fn table_nets_are_kept()
 pub fn table_nets_are_named_apart()
     ensures { (g : Graph) (most : ℕ) (lists : DepthLists) (ports : TablePorts)
         (n : PlainTableNet) → AreLeastDepths g most lists → AreFit g ports →
-        ArePortsApart g ports → IsNetOf g most lists.depths ports n → IsTableNet n →
+        ArePortsApart g ports → IsTableNetOf g most lists.depths ports n → IsTableNet n →
         1 + (length g.pairs + (length ports.inputs + length ports.outputs)) < 2 ^ 64 →
         AreNamedApart n }
 {}
@@ -92,7 +92,7 @@ pub fn tables_close()
     ensures draft { (n : PlainTableNet) → IsTableNet n → AreNamedApart n →
         IsDraftOfAnySize (draft_said n) }
     ensures closed { (g : Graph) (most : ℕ) (depths : List (Option ℕ)) (ports : TablePorts)
-        (n : PlainTableNet) → IsNetOf g most depths ports n → IsTableNet n → AreNamedApart n →
+        (n : PlainTableNet) → IsTableNetOf g most depths ports n → IsTableNet n → AreNamedApart n →
         (net : NetworkParts) × IsClosed (draft_said n) net }
 {}
 
@@ -102,7 +102,7 @@ pub fn tables_close()
 pub fn tables_compute_classes()
     ensures { (g : Graph) (most : ℕ) (lists : DepthLists) (ports : TablePorts) (n : PlainTableNet)
         (net : NetworkParts) → 1 ≤ most → AreLeastDepths g most lists →
-        IsNetOf g most lists.depths ports n → IsTableNet n → AreNamedApart n →
+        IsTableNetOf g most lists.depths ports n → IsTableNet n → AreNamedApart n →
         IsClosed (draft_said n) net → IsTableNetwork g most lists.depths ports net }
 {}
 
@@ -149,7 +149,7 @@ pub fn the_limit_alone_is_left_out()
 pub fn made_tables_are_sayable()
     ensures { (g : Graph) (most : ℕ) (depths : List (Option ℕ)) (ports : TablePorts)
         (n : PlainTableNet) (frame : Frame) → most ≤ 6 → AreFit g ports →
-        AreSayablePorts ports g.leaves frame → IsNetOf g most depths ports n → IsTableNet n →
+        AreSayablePorts ports g.leaves frame → IsTableNetOf g most depths ports n → IsTableNet n →
         1 + (length n.tables + length (ports.inputs ++ ports.outputs)) < 2 ^ 64 →
         IsSayable n frame }
 {}
@@ -163,14 +163,14 @@ pub fn table_texts_are_mappings()
         IsGraphOf mode from.inputs (listing_of width from) g → AreLeastDepths g most lists →
         ArePortsOf width from outer g ports → AreFit g ports →
         1 + (length g.pairs + (length ports.inputs + length ports.outputs)) < 2 ^ 64 →
-        IsNetOf g most lists.depths ports n → (net : NetworkParts) × IsClosed (draft_said n) net }
+        IsTableNetOf g most lists.depths ports n → (net : NetworkParts) × IsClosed (draft_said n) net }
     ensures each { (mode : Mode) (width : ℕ) (from : Network) (outer : Ports) (g : Graph)
         (most : ℕ) (lists : DepthLists) (ports : TablePorts) (n : PlainTableNet)
         (net : NetworkParts) → 2 ≤ width → 1 ≤ most → IsInOrder from → HasPorts from outer →
         ArePortNames from outer → IsGraphOf mode from.inputs (listing_of width from) g →
         AreLeastDepths g most lists → ArePortsOf width from outer g ports → AreFit g ports →
         1 + (length g.pairs + (length ports.inputs + length ports.outputs)) < 2 ^ 64 →
-        IsNetOf g most lists.depths ports n → IsClosed (draft_said n) net →
+        IsTableNetOf g most lists.depths ports n → IsClosed (draft_said n) net →
         IsTableMapping mode width from outer ports.model most net }
 {
     network_ports_fit();

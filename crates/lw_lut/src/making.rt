@@ -2,7 +2,7 @@ ghost use Rattle.std.specs.Prelude.{◌≡◌, ◌<◌, ◌^◌, All, IfOk, leng
 ghost use Rattle.lw_pool.specs.declared.id.ClassId.{ClassId};
 ghost use Rattle.lw_lut.specs.Cuts.{numbers};
 ghost use Rattle.lw_lut.specs.Depths.{AreLeastDepths};
-ghost use Rattle.lw_lut.specs.Nets.{AreFit, IsNetOf};
+ghost use Rattle.lw_lut.specs.Nets.{AreFit, IsTableNetOf};
 ghost use Rattle.lw_lut.specs.Searches.{IsKnown};
 
 use crate::TablePorts;
@@ -63,7 +63,7 @@ pub fn tables(
     requires depths { AreLeastDepths graph.now leaves depths.now }
     requires fit { AreFit graph.now ports.now }
     requires known { All (λ root. IsKnown depths.now.depths root.0) ports.now.roots }
-    ensures { IfOk result (IsNetOf graph.now leaves depths.now.depths ports.now) }
+    ensures { IfOk result (IsTableNetOf graph.now leaves depths.now.depths ports.now) }
 {
     let _ = (graph.classes(), leaves);
     let chosen = choose(alloc, depths, ports.roots.as_slice())?;

@@ -48,12 +48,12 @@ use Rattle.lw_netlist.specs.Plain as netlist
 use Rattle.lw_extract.specs.declared.ports.Ports.{Ports}
 use Rattle.lw_extract.specs.declared.ports.Cover.{Cover as NetlistCover}
 use Rattle.lw_extract.specs.Choosing.{labels, heights}
-use Rattle.lw_extract.specs.Covers.{IsCoverOf, IsFirstUncovered}
+use Rattle.lw_extract.specs.Covers.{IsExtractedCover, IsFirstUncovered}
 use Rattle.lw_trade.specs.Areas.{area_cost}
 use Rattle.lw_map.specs.declared.choices.Choices.{Choices}
 use Rattle.lw_map.specs.Options.{plain_options}
 use Rattle.lw_map.specs.Mapped.{output_port, plain_port, ports_of, mapped_ports}
-use Rattle.lw_map.specs.Choices.{AreChoices}
+use Rattle.lw_map.specs.Choices.{AreChoicesOf}
 use Rattle.lw_map.specs.Ports.{ArePortsOf}
 use Rattle.lw_map.specs.Trading.{AreEarliest, HasLeastArea, IsTradedNetlist}
 use Rattle.lw_map.proofs.CoverNetlists.{port_name, zip_outputs}
@@ -86,7 +86,7 @@ leaf_labels c cells marks least k i at = by_label (labels marks k) refl (least.l
     by_label None e none = absurd (none (wire i) tt at)
     by_label (Some d) e (by, low) = let le = low (wire i) tt at in e ∙ ap Some (omega (arith, le))
 
-module _ (net : NetworkParts) (starts : List Micro) (c : Choices) (cells : List CellParts) (kept : IsNetwork net) (are : AreChoices net c) (marks : List (Option Mark)) (least : AreLeastMarks c.graph (area_cost cells) (library_patterns cells) marks) (ports : Ports) (named : ArePortsOf net c ports) (times : List ℕ) (earliest : AreEarliest (plain_options c.options) cells net starts times) where
+module _ (net : NetworkParts) (starts : List Micro) (c : Choices) (cells : List CellParts) (kept : IsNetwork net) (are : AreChoicesOf net c) (marks : List (Option Mark)) (least : AreLeastMarks c.graph (area_cost cells) (library_patterns cells) marks) (ports : Ports) (named : ArePortsOf net c ports) (times : List ℕ) (earliest : AreEarliest (plain_options c.options) cells net starts times) where
   -- each output has a label, where each has a least time
   pub none_lacks : (k : ℕ) → IsFirstUncovered marks ports.roots k → ⊥
   none_lacks k is =
@@ -102,7 +102,7 @@ module _ (net : NetworkParts) (starts : List Micro) (c : Choices) (cells : List 
       let no : IsLeastCover c.graph (library_patterns cells) (area_cost cells) is.root.0 None = subst (IsLeastCover c.graph (library_patterns cells) (area_cost cells) is.root.0) label (least.least is.root.0) in
       no by by_is (subst (Unfolds c.graph (tree_of by)) class (tree_back net starts c cells kept are o.0 (tree_of by) low tree))
 
-module _ (net : NetworkParts) (starts : List Micro) (c : Choices) (cells : List CellParts) (kept : IsNetwork net) (are : AreChoices net c) (marks : List (Option Mark)) (least : AreLeastMarks c.graph (area_cost cells) (library_patterns cells) marks) (ports : Ports) (named : ArePortsOf net c ports) (cover : NetlistCover) (is : IsCoverOf c.graph (area_cost cells) (library_patterns cells) marks ports cover) (times : List ℕ) (earliest : AreEarliest (plain_options c.options) cells net starts times) where
+module _ (net : NetworkParts) (starts : List Micro) (c : Choices) (cells : List CellParts) (kept : IsNetwork net) (are : AreChoicesOf net c) (marks : List (Option Mark)) (least : AreLeastMarks c.graph (area_cost cells) (library_patterns cells) marks) (ports : Ports) (named : ArePortsOf net c ports) (cover : NetlistCover) (is : IsExtractedCover c.graph (area_cost cells) (library_patterns cells) marks ports cover) (times : List ℕ) (earliest : AreEarliest (plain_options c.options) cells net starts times) where
   abbrev gates : List ℕ
   gates = numbers cover.classes
 

@@ -38,11 +38,11 @@ use Rattle.lw_netlist.specs.Plain.{plain as plain_netlist}
 use Rattle.lw_extract.specs.declared.ports.Ports.{Ports}
 use Rattle.lw_extract.specs.declared.ports.Cover.{Cover as NetlistCover}
 use Rattle.lw_extract.specs.Choosing.{labels, heights}
-use Rattle.lw_extract.specs.Covers.{AreFit, IsFirstUncovered, IsCoverOf}
+use Rattle.lw_extract.specs.Covers.{AreFit, IsFirstUncovered, IsExtractedCover}
 use Rattle.lw_map.specs.declared.choices.Choices.{Choices}
 use Rattle.lw_map.specs.Options.{Options, plain_options}
 use Rattle.lw_map.specs.Mapped.{output_port, IsUncovered, LacksCover}
-use Rattle.lw_map.specs.Choices.{AreChoices}
+use Rattle.lw_map.specs.Choices.{AreChoicesOf}
 use Rattle.lw_map.specs.Ports.{ArePortsOf}
 use Rattle.lw_map.specs.Mappings.{IsMappingOf}
 use Rattle.lw_map.specs.Labelled.{AreStepsBy}
@@ -57,12 +57,12 @@ port_names net [] = refl
 port_names net (o ∷ outputs) = ap (λ (names : List (List ℕ)). name_in net o ∷ names) (port_names net outputs)
 
 -- the start of an input is the least time of the input's class
-pub leaves_least : (net : NetworkParts) (starts : List Micro) (c : Choices) → AreChoices net c → (cells : List CellParts) (pats : List Pattern) → pats ≡ library_patterns cells → ArePatterns (map length (delays_of_cells cells)) (library_patterns cells) → (i k : ℕ) → slice_get c.graph.leaves i ≡ Some k → IsLeastCover c.graph pats (time_cost cells starts) k (Some ((time_cost cells starts).leaf i))
+pub leaves_least : (net : NetworkParts) (starts : List Micro) (c : Choices) → AreChoicesOf net c → (cells : List CellParts) (pats : List Pattern) → pats ≡ library_patterns cells → ArePatterns (map length (delays_of_cells cells)) (library_patterns cells) → (i k : ℕ) → slice_get c.graph.leaves i ≡ Some k → IsLeastCover c.graph pats (time_cost cells starts) k (Some ((time_cost cells starts).leaf i))
 leaves_least net starts c are cells pats pats_are patterns i k at =
     subst (λ ps. IsLeastCover c.graph ps (time_cost cells starts) k (Some ((time_cost cells starts).leaf i))) (sym pats_are) (start_is_least (plain_options c.options).mode (plain_options c.options).width (network.plain net) c.graph are.wide.least are.graph (library_patterns cells) (timing_of cells starts) most_time patterns i k at)
 
 -- the choices and the ports of a network
-module _ (net : NetworkParts) (starts : List Micro) (c : Choices) (ports : Ports) (kept : IsNetwork net) (are : AreChoices net c) (named : ArePortsOf net c ports) where
+module _ (net : NetworkParts) (starts : List Micro) (c : Choices) (ports : Ports) (kept : IsNetwork net) (are : AreChoicesOf net c) (named : ArePortsOf net c ports) where
   abbrev options : Options
   options = plain_options c.options
 
@@ -100,14 +100,14 @@ module _ (net : NetworkParts) (starts : List Micro) (c : Choices) (ports : Ports
     leaf_labels patterns k i at =
         input_label options.mode options.width (network.plain net) c.graph are.wide.least are.graph (library_patterns cells) (timing_of cells starts) most_time patterns i k (labels_in (costs_of marks) k) at (own_least.least k)
 
-    pub cover_maps : (labeller : Labeller) (steps : Option ℕ) → AreStepsBy labeller c.graph pats (labels_in (costs_of marks)) steps → (cover : NetlistCover) → IsNetlist cover.netlist → IsCoverOf c.graph (time_cost cells starts) pats marks ports cover → IsMappingOf labeller cells net starts c (record { netlist = cover.netlist; classes = cover.classes; labels = marks; steps = steps })
+    pub cover_maps : (labeller : Labeller) (steps : Option ℕ) → AreStepsBy labeller c.graph pats (labels_in (costs_of marks)) steps → (cover : NetlistCover) → IsNetlist cover.netlist → IsExtractedCover c.graph (time_cost cells starts) pats marks ports cover → IsMappingOf labeller cells net starts c (record { netlist = cover.netlist; classes = cover.classes; labels = marks; steps = steps })
     unfolding cover_is_netlist
     cover_maps labeller steps read cover own is = record {
       mapped = record {
         kept = own;
         model_name = is.model ∙ named.model;
         is = cover_is_netlist options.mode options.width (network.plain net) c.graph (library_patterns cells) (timing_of cells starts) most_time marks ports cover (input_names net) (map (output_port net) net.outputs)
-            are.graph own_least (subst (λ ps. IsCoverOf c.graph (time_cost cells starts) ps marks ports cover) pats_are is) some_names named.inputs (named.outputs ∙ port_names net net.outputs) roots_of;
+            are.graph own_least (subst (λ ps. IsExtractedCover c.graph (time_cost cells starts) ps marks ports cover) pats_are is) some_names named.inputs (named.outputs ∙ port_names net net.outputs) roots_of;
       };
       graph = refl;
       labels = refl;
@@ -117,7 +117,7 @@ module _ (net : NetworkParts) (starts : List Micro) (c : Choices) (ports : Ports
     }
 
     -- there are few gates
-    pub gates_few : (cover : NetlistCover) → IsCoverOf c.graph (time_cost cells starts) pats marks ports cover → length cover.netlist.gates ≤ most_classes
+    pub gates_few : (cover : NetlistCover) → IsExtractedCover c.graph (time_cost cells starts) pats marks ports cover → length cover.netlist.gates ≤ most_classes
     gates_few cover is =
         let n = few_gates c.graph (time_cost cells starts) pats (costs_of marks) (heights marks) (numbers ports.roots) (numbers cover.classes) is.gate_classes (plain_netlist cover.netlist) is.extracted in
         let count : length (plain_netlist cover.netlist).gates ≡ length cover.netlist.gates = length-map cover.netlist.gates plain_gate in

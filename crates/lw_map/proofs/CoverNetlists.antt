@@ -28,7 +28,7 @@ use Rattle.lw_netlist.specs.Plain.{plain}
 use Rattle.lw_extract.specs.declared.ports.Ports.{Ports}
 use Rattle.lw_extract.specs.declared.ports.Cover.{Cover}
 use Rattle.lw_extract.specs.Choosing.{heights}
-use Rattle.lw_extract.specs.Covers.{IsCoverOf}
+use Rattle.lw_extract.specs.Covers.{IsExtractedCover}
 use Rattle.lw_map.specs.Mapped.{plain_port, mapped_ports}
 
 abbrev pub port_name : PlainPort → List ℕ
@@ -55,7 +55,7 @@ module _ (mode : Mode) (width : ℕ) (net : Network) (g : Graph) (pats : List Pa
       let same : m.height ≡ heights marks c = sym (ap (λ o. heights_of (λ d. o) c) at) in
       subst (λ h. IsHeight (choices_of g (map length timing.delays) pats) (delay_cost timing cap) (labels_in (costs_of marks)) c h) same (are.heights c m at)
 
-  unfoldable pub cover_is_netlist : IsGraphOf mode net.inputs (listing_of width net) g → AreLeastMarks g (delay_cost timing cap) pats marks → IsCoverOf g (delay_cost timing cap) pats marks ports cover → length inputs ≡ net.inputs → ports.inputs ≡ inputs → ports.outputs ≡ map port_name outputs → numbers ports.roots ≡ root_classes width net g outputs → IsNetlistOf mode width net (record { inputs = inputs; outputs = outputs }) pats timing cap (plain cover.netlist) cover.netlist.names (mapped_ports cover.netlist)
+  unfoldable pub cover_is_netlist : IsGraphOf mode net.inputs (listing_of width net) g → AreLeastMarks g (delay_cost timing cap) pats marks → IsExtractedCover g (delay_cost timing cap) pats marks ports cover → length inputs ≡ net.inputs → ports.inputs ≡ inputs → ports.outputs ≡ map port_name outputs → numbers ports.roots ≡ root_classes width net g outputs → IsNetlistOf mode width net (record { inputs = inputs; outputs = outputs }) pats timing cap (plain cover.netlist) cover.netlist.names (mapped_ports cover.netlist)
   cover_is_netlist graph_is are is long input_names output_names roots =
       let cost = delay_cost timing cap in
       let names : cover.netlist.names ≡ net_names inputs (map port_name outputs) (root_classes width net g outputs) (numbers cover.classes) =

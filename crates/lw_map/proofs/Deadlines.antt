@@ -32,7 +32,7 @@ use Rattle.lw_trade.specs.Targets.{AreTargets, AreCurvesFor, HasPointBy}
 use Rattle.lw_map.specs.declared.choices.Choices.{Choices}
 use Rattle.lw_map.specs.Options.{plain_options}
 use Rattle.lw_map.specs.Mapped.{output_port, ports_of}
-use Rattle.lw_map.specs.Choices.{AreChoices}
+use Rattle.lw_map.specs.Choices.{AreChoicesOf}
 use Rattle.lw_map.specs.Ports.{ArePortsOf}
 use Rattle.lw_map.specs.Trading.{AreEarliest, latest_of, micros, put_off}
 use Rattle.lw_map.proofs.CellLaws.{delay_patterns}
@@ -67,7 +67,7 @@ zip_both R (z ∷ xs) [] k x y a e f = absurd a
 zip_both R (z ∷ xs) (w ∷ ys) zero x y (r, a) e f = let p : z ≡ x = cc in let q : w ≡ y = cc in subst (λ v. R v y) p (subst (R z) q r)
 zip_both R (z ∷ xs) (w ∷ ys) (suc k) x y (r, a) e f = zip_both R xs ys k x y a e f
 
-module _ (net : NetworkParts) (starts : List Micro) (c : Choices) (cells : List CellParts) (kept : IsNetwork net) (are : AreChoices net c) (times : List Micro) (deadline : Micro) (earliest : AreEarliest (plain_options c.options) cells net starts (micros times)) where
+module _ (net : NetworkParts) (starts : List Micro) (c : Choices) (cells : List CellParts) (kept : IsNetwork net) (are : AreChoicesOf net c) (times : List Micro) (deadline : Micro) (earliest : AreEarliest (plain_options c.options) cells net starts (micros times)) where
   abbrev pub s : Task
   s = task c.graph (library_patterns cells) cells starts
 

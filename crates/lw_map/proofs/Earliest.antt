@@ -32,7 +32,7 @@ use Rattle.lw_map.specs.declared.choices.Choices.{Choices}
 use Rattle.lw_map.specs.Options.{plain_options}
 use Rattle.lw_map.specs.Mapped.{output_port}
 use Rattle.lw_extract.specs.declared.ports.Ports.{Ports}
-use Rattle.lw_map.specs.Choices.{AreChoices}
+use Rattle.lw_map.specs.Choices.{AreChoicesOf}
 use Rattle.lw_map.specs.Ports.{ArePortsOf}
 use Rattle.lw_map.proofs.Composed.{ports_fit}
 use Rattle.lw_map.specs.Trading.{AreEarliest, HaveLabelsTo, micros}
@@ -46,14 +46,14 @@ ports_for net c = record { model = net.model; inputs = input_names net; outputs 
 pub are_ports : (net : NetworkParts) (c : Choices) → ArePortsOf net c (ports_for net c)
 are_ports net c = record { model = refl; inputs = refl; outputs = refl; roots = refl }
 
-pub roots_low : (net : NetworkParts) (c : Choices) → IsNetwork net → AreChoices net c → IsDistinct bytes_eq (output_names net) → length c.roots < 2 ^ 32
+pub roots_low : (net : NetworkParts) (c : Choices) → IsNetwork net → AreChoicesOf net c → IsDistinct bytes_eq (output_names net) → length c.roots < 2 ^ 32
 roots_low net c kept are differ =
     let fit = ports_fit net [] c (ports_for net c) kept are (are_ports net c) differ in
     let few = fit.few_outputs in
     let one = fit.one_root in
     omega arith
 
-module _ (net : NetworkParts) (starts : List Micro) (c : Choices) (cells : List CellParts) (kept : IsNetwork net) (are : AreChoices net c) (early : All IsSmall starts) (lib : IsLibrary cells) (marks : List (Option Mark)) (least : AreLeastMarks c.graph (time_cost cells starts) (library_patterns cells) marks) where
+module _ (net : NetworkParts) (starts : List Micro) (c : Choices) (cells : List CellParts) (kept : IsNetwork net) (are : AreChoicesOf net c) (early : All IsSmall starts) (lib : IsLibrary cells) (marks : List (Option Mark)) (least : AreLeastMarks c.graph (time_cost cells starts) (library_patterns cells) marks) where
   label_of : (k : ℕ) (m : Mark) → slice_index_or marks k None ≡ Some m → labels_in (costs_of marks) k ≡ Some m.cost
   label_of k m some = label_at marks k ∙ ap (λ (n : Option Mark). option_map (λ (p : PlainMark). p.cost) (option_map plain_mark n)) some
 

@@ -17,7 +17,7 @@ use Rattle.lw_trade.specs.declared.point.Point.{Point}
 use Rattle.lw_trade.specs.Points.{Task, task, IsPoint, ArePoints, AreCurves, AreTooMany, BoundCovers, IsCoverBy, timing, point_count, most_points}
 use Rattle.lw_trade.proofs.Lists.{get_in, get_some, contained_at, at_contained}
 use Rattle.lw_map.specs.declared.choices.Choices.{Choices}
-use Rattle.lw_map.specs.Choices.{AreChoices}
+use Rattle.lw_map.specs.Choices.{AreChoicesOf}
 use Rattle.lw_map.specs.Options.{Options, plain_options}
 use Rattle.lw_map.specs.Trading.{AreEarliest, HasTooManyPoints, latest_of}
 
@@ -113,7 +113,7 @@ module _ (options : Options) (cells : List CellParts) (net : NetworkParts) (star
       (λ i. first i ∷ rest i)
 
 -- where the curves up to the latest time have few points, so has each graph of the network's forms
-pub few_points : (net : NetworkParts) (c : Choices) → AreChoices net c → (cells : List CellParts) (starts : List Micro) (deadline : Micro) (times : List ℕ) → AreEarliest (plain_options c.options) cells net starts times → (curves : List (List Point)) → AreCurves (task c.graph (library_patterns cells) cells starts) (latest_of deadline.0 times) curves → BoundCovers (task c.graph (library_patterns cells) cells starts) (latest_of deadline.0 times) curves → point_count curves ≤ most_points → HasTooManyPoints (plain_options c.options) cells net starts deadline → ⊥
+pub few_points : (net : NetworkParts) (c : Choices) → AreChoicesOf net c → (cells : List CellParts) (starts : List Micro) (deadline : Micro) (times : List ℕ) → AreEarliest (plain_options c.options) cells net starts times → (curves : List (List Point)) → AreCurves (task c.graph (library_patterns cells) cells starts) (latest_of deadline.0 times) curves → BoundCovers (task c.graph (library_patterns cells) cells starts) (latest_of deadline.0 times) curves → point_count curves ≤ most_points → HasTooManyPoints (plain_options c.options) cells net starts deadline → ⊥
 few_points net c choices cells starts deadline times earliest curves are bound few many =
     let graph = graphs_once (plain_options c.options).mode net.inputs (listing_of c.options.width (plain net)) (occurring_is_listing c.options.width choices.wide.least (plain net)) many.graph c.graph many.is_graph choices.graph in
     let same = earliest_once (plain_options c.options) cells net starts net.outputs many.times times many.earliest earliest in

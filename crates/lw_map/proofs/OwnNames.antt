@@ -31,7 +31,7 @@ use Rattle.lw_trade.specs.Traded.{IsTraded, output_nets, port_name, port_net}
 use Rattle.lw_map.specs.declared.choices.Choices.{Choices}
 use Rattle.lw_map.specs.Options.{plain_options}
 use Rattle.lw_map.specs.Mapped.{output_port, plain_port, ports_of, mapped_ports}
-use Rattle.lw_map.specs.Choices.{AreChoices}
+use Rattle.lw_map.specs.Choices.{AreChoicesOf}
 use Rattle.lw_map.specs.Ports.{ArePortsOf}
 use Rattle.lw_map.specs.Trading.{AreEarliest, IsTradedNetlist, micros, put_off}
 use Rattle.lw_map.proofs.Traded.{class_of_net}
@@ -75,7 +75,7 @@ module _ (P : List ℕ → Type 0) (each : (k : ℕ) → k < 2 ^ 64 → P (numbe
   names_each inputs outputs roots gates room ins outs =
       all_append P inputs (gate_names outputs roots (free_names (inputs ++ outputs) (length gates)) gates) ins (gates_each outputs roots (free_names (inputs ++ outputs) (length gates)) gates outs (enough_free (inputs ++ outputs) (length gates) room) (free_each (inputs ++ outputs) (length gates) room))
 
-module _ (net : NetworkParts) (starts : List Micro) (c : Choices) (cells : List CellParts) (kept : IsNetwork net) (are : AreChoices net c) (times : List Micro) (deadline : Micro) (earliest : AreEarliest (plain_options c.options) cells net starts (micros times)) (ports : Ports) (named : ArePortsOf net c ports) (later : List Micro) (later_are : later ≡ map (put_off deadline) times) (n : NetlistParts) (own : IsNetlist n) (is : IsTraded (s net starts c cells kept are times deadline earliest) (targets net starts c cells kept are times deadline earliest ports named later later_are) n) (outputs_differ : IsDistinct bytes_eq (output_names net)) where
+module _ (net : NetworkParts) (starts : List Micro) (c : Choices) (cells : List CellParts) (kept : IsNetwork net) (are : AreChoicesOf net c) (times : List Micro) (deadline : Micro) (earliest : AreEarliest (plain_options c.options) cells net starts (micros times)) (ports : Ports) (named : ArePortsOf net c ports) (later : List Micro) (later_are : later ≡ map (put_off deadline) times) (n : NetlistParts) (own : IsNetlist n) (is : IsTraded (s net starts c cells kept are times deadline earliest) (targets net starts c cells kept are times deadline earliest ports named later later_are) n) (outputs_differ : IsDistinct bytes_eq (output_names net)) where
   abbrev gates_of : List ℕ
   gates_of = range_with_len n.inputs (length n.gates)
 

@@ -14,13 +14,13 @@ use Rattle.lw_lut.specs.declared.ports.TablePorts.{TablePorts}
 use Rattle.lw_lut.specs.Depths.{DepthLists, AreLeastDepths}
 use Rattle.lw_lut.specs.Meaning.{ArePortsOf as AreTablePortsOf}
 use Rattle.lw_lut.specs.Searches.{IsKnown}
-use Rattle.lw_lut.specs.Nets.{PlainTableNet, IsTableNet, AreFit, IsNetOf}
+use Rattle.lw_lut.specs.Nets.{PlainTableNet, IsTableNet, AreFit, IsTableNetOf}
 use Rattle.lw_lut.proofs.FormDepths.{some_depth}
 use Rattle.lw_lut.proofs.PortsFit as fitting
 use Rattle.lw_map.specs.declared.choices.Choices.{Choices}
 use Rattle.lw_map.specs.Options.{Options, plain_options}
 use Rattle.lw_map.specs.Mapped.{ports_of}
-use Rattle.lw_map.specs.Choices.{AreChoices}
+use Rattle.lw_map.specs.Choices.{AreChoicesOf}
 use Rattle.lw_map.specs.Ports.{ArePortsOf}
 use Rattle.lw_map.specs.Tabled.{IsTabled}
 use Rattle.lw_map.proofs.Composed.{ports_fit}
@@ -30,7 +30,7 @@ use Rattle.lw_map.proofs.PortNames.{has_ports, port_list}
 abbrev pub table_ports : Ports → TablePorts
 table_ports ports = record { model = ports.model; inputs = ports.inputs; outputs = ports.outputs; roots = ports.roots }
 
-module _ (net : NetworkParts) (c : Choices) (ports : Ports) (kept : IsNetwork net) (are : AreChoices net c) (named : ArePortsOf net c ports) where
+module _ (net : NetworkParts) (c : Choices) (ports : Ports) (kept : IsNetwork net) (are : AreChoicesOf net c) (named : ArePortsOf net c ports) where
   abbrev options : Options
   options = plain_options c.options
 
@@ -58,7 +58,7 @@ module _ (net : NetworkParts) (c : Choices) (ports : Ports) (kept : IsNetwork ne
         fitting.roots_known options.mode options.width (network.plain net) (ports_of net) c.graph (table_ports ports) are.wide.least are.graph of_network most lists (has_ports net kept) least
         (λ f o. some_depth options.mode options.width (network.plain net) c.graph are.wide.least are.graph most f o)
 
-    pub network_tabled : (n : PlainTableNet) → IsDistinct bytes_eq (output_names net) → IsTableNet n → IsNetOf c.graph most lists.depths (table_ports ports) n → IsTabled options most net n
+    pub network_tabled : (n : PlainTableNet) → IsDistinct bytes_eq (output_names net) → IsTableNet n → IsTableNetOf c.graph most lists.depths (table_ports ports) n → IsTabled options most net n
     network_tabled n differ own is = record {
       kept = own;
       graph = c.graph;
@@ -70,5 +70,5 @@ module _ (net : NetworkParts) (c : Choices) (ports : Ports) (kept : IsNetwork ne
       outputs = subst (λ (p : TablePorts). p.outputs ≡ output_names net) (sym is.ports_are) named.outputs;
       roots = subst (λ (p : TablePorts). numbers p.roots ≡ root_classes options.width (network.plain net) c.graph (ports_of net).outputs) (sym is.ports_are) of_network.roots;
       fit = subst (AreFit c.graph) (sym is.ports_are) (table_ports_fit differ);
-      is_net = subst (λ (p : TablePorts). IsNetOf c.graph most lists.depths p n) (sym is.ports_are) is;
+      is_net = subst (λ (p : TablePorts). IsTableNetOf c.graph most lists.depths p n) (sym is.ports_are) is;
     }

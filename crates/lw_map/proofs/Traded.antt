@@ -37,7 +37,7 @@ use Rattle.lw_trade.specs.Areas.{area_cost}
 use Rattle.lw_map.specs.declared.choices.Choices.{Choices}
 use Rattle.lw_map.specs.Options.{Options, plain_options}
 use Rattle.lw_map.specs.Mapped.{output_port, plain_port}
-use Rattle.lw_map.specs.Choices.{AreChoices}
+use Rattle.lw_map.specs.Choices.{AreChoicesOf}
 use Rattle.lw_map.specs.Trading.{IsInTime, HasLeastArea}
 use Rattle.lw_map.proofs.CellLaws.{delay_patterns, delay_truths}
 
@@ -72,7 +72,7 @@ module _ (net : NetworkParts) (starts : List Micro) (c : Choices) (cells : List 
     pub in_time : IsInTime deadline earliest (time_of (timing_of cells starts) by)
     pub best : (other : Cover) → IsCover (map length (delays_of_cells cells)) (library_patterns cells) other → Unfolds c.graph (tree_of other) class → IsInTime deadline earliest (time_of (timing_of cells starts) other) → cost_of (area_cost cells) by ≤ cost_of (area_cost cells) other
 
-  module _ (kept : IsNetwork net) (are : AreChoices net c) where
+  module _ (kept : IsNetwork net) (are : AreChoicesOf net c) where
     abbrev pub own : Options
     own = plain_options c.options
 

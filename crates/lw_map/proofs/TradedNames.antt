@@ -33,7 +33,7 @@ use Rattle.lw_trade.specs.Traded.{IsTraded, output_nets, port_name, port_net}
 use Rattle.lw_map.specs.declared.choices.Choices.{Choices}
 use Rattle.lw_map.specs.Options.{plain_options}
 use Rattle.lw_map.specs.Mapped.{output_port, plain_port, ports_of, mapped_ports}
-use Rattle.lw_map.specs.Choices.{AreChoices}
+use Rattle.lw_map.specs.Choices.{AreChoicesOf}
 use Rattle.lw_map.specs.Ports.{ArePortsOf}
 use Rattle.lw_map.specs.Trading.{AreEarliest, HasLeastArea, micros, put_off}
 use Rattle.lw_map.proofs.Traded.{IsBest, best_area, best_values, class_of_net, zip_places}
@@ -59,7 +59,7 @@ ranges_back a (suc m) l (suc j) x e =
     let ih = ranges_back (a + 1) m l j x (subst (λ b. slice_get (range_with_len (a + 1) m ++ range_with_len b l) j ≡ Some x) shift e) in
     omega arith
 
-module _ (net : NetworkParts) (starts : List Micro) (c : Choices) (cells : List CellParts) (kept : IsNetwork net) (are : AreChoices net c) (times : List Micro) (deadline : Micro) (earliest : AreEarliest (plain_options c.options) cells net starts (micros times)) (ports : Ports) (named : ArePortsOf net c ports) (later : List Micro) (later_are : later ≡ map (put_off deadline) times) (n : NetlistParts) (own : IsNetlist n) (is : IsTraded (s net starts c cells kept are times deadline earliest) (targets net starts c cells kept are times deadline earliest ports named later later_are) n) where
+module _ (net : NetworkParts) (starts : List Micro) (c : Choices) (cells : List CellParts) (kept : IsNetwork net) (are : AreChoicesOf net c) (times : List Micro) (deadline : Micro) (earliest : AreEarliest (plain_options c.options) cells net starts (micros times)) (ports : Ports) (named : ArePortsOf net c ports) (later : List Micro) (later_are : later ≡ map (put_off deadline) times) (n : NetlistParts) (own : IsNetlist n) (is : IsTraded (s net starts c cells kept are times deadline earliest) (targets net starts c cells kept are times deadline earliest ports named later later_are) n) where
   names_of : map port_name n.outputs ≡ output_names net
   names_of = is.output_names ∙ named.outputs
 

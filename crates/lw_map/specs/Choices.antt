@@ -20,7 +20,7 @@ abbrev pub root_of : NumberedForms → Graph → NetId → ℕ
 root_of forms g output = class_of g (slice_index_or forms.sops output.0 0)
 
 -- how many base forms occur in the network, the graph of their classes, and the classes of the outputs' sums of products
-pub record AreChoices (net : NetworkParts) (c : Choices) : Type 0 where
+pub record AreChoicesOf (net : NetworkParts) (c : Choices) : Type 0 where
   pub wide : IsWide (plain_options c.options)
   pub within : IsWithinLimits (plain_options c.options) net
   pub forms : c.forms ≡ base_count (plain_options c.options) net

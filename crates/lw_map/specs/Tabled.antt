@@ -13,7 +13,7 @@ use Rattle.lw_net.specs.Plain.{plain}
 use Rattle.lw_match.specs.Values.{numbers}
 use Rattle.lw_lut.specs.Depths.{DepthLists, AreLeastDepths}
 use Rattle.lw_lut.specs.Meaning.{IsTableMapping}
-use Rattle.lw_lut.specs.Nets.{PlainTableNet, AreFit, IsTableNet, IsNetOf}
+use Rattle.lw_lut.specs.Nets.{PlainTableNet, AreFit, IsTableNet, IsTableNetOf}
 use Rattle.lw_lut.specs.Readable.{IsReadableLatch, IsSignalName, IsTablesRead}
 use Rattle.lw_map.specs.Options.{Options}
 use Rattle.lw_map.specs.Mapped.{ports_of}
@@ -36,7 +36,7 @@ pub record IsTabled (options : Options) (most : ℕ) (net : NetworkParts) (n : P
   pub outputs : n.ports.outputs ≡ output_names net
   pub roots : numbers n.ports.roots ≡ root_classes options.width (plain net) graph (ports_of net).outputs
   pub fit : AreFit graph n.ports
-  pub is_net : IsNetOf graph most lists.depths n.ports n
+  pub is_net : IsTableNetOf graph most lists.depths n.ports n
 
 -- the model, the inputs and the outputs of the network have names of the format, and so have the latches of the frame, which fits it
 pub record HasReadableNames (net : NetworkParts) (frame : Frame) : Type 0 where

@@ -3,7 +3,7 @@ ghost use Rattle.std.specs.Prelude.{◌≡◌, ◌<◌, All, IfOk, IfErr, length
 ghost use Rattle.lw_pool.specs.declared.id.ClassId.{ClassId};
 ghost use Rattle.lw_match.specs.Values.{numbers};
 ghost use Rattle.lw_map.specs.Options.{IsWide, plain_options};
-ghost use Rattle.lw_map.specs.Choices.{AreChoices, root_of};
+ghost use Rattle.lw_map.specs.Choices.{AreChoicesOf, root_of};
 ghost use Rattle.lw_map.specs.Faults.{IsChoiceFault};
 
 use crate::{MapFault, Options};
@@ -45,7 +45,7 @@ fn roots(alloc: Global, net: &Network, forms: &Forms, graph: &Graph) -> Result<C
 /// more than are dealt with.
 pub fn decompose(alloc: Global, net: &Network, options: Options) -> Result<Choices, MapFault>
     requires { IsWide (plain_options options) }
-    ensures choices { IfOk result (λ c. (c.options ≡ options) × AreChoices net.now c) }
+    ensures choices { IfOk result (λ c. (c.options ≡ options) × AreChoicesOf net.now c) }
     ensures fault { IfErr result (IsChoiceFault (plain_options options) net.now) }
 {
     let _ = net.inputs();

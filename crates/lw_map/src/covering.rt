@@ -6,7 +6,7 @@ ghost use Rattle.std.specs.List.{IsDistinct};
 ghost use Rattle.std.specs.Str.{bytes_eq};
 ghost use Rattle.lw_net.specs.Networks.{output_names};
 ghost use Rattle.lw_netlist.specs.Plain.{IsOver};
-ghost use Rattle.lw_map.specs.Choices.{AreChoices};
+ghost use Rattle.lw_map.specs.Choices.{AreChoicesOf};
 ghost use Rattle.lw_map.specs.Ports.{ArePortsOf};
 ghost use Rattle.lw_map.specs.Mappings.{IsMappingOf};
 ghost use Rattle.lw_map.specs.Faults.{IsCoverFault};
@@ -62,7 +62,7 @@ pub fn cover(
     choices: &Choices,
     labeller: Labeller,
 ) -> Result<Mapping, MapFault>
-    requires choices { AreChoices net.now choices.now }
+    requires choices { AreChoicesOf net.now choices.now }
     requires outputs { IsDistinct bytes_eq (output_names net.now) }
     requires early { All IsSmall starts.now }
     ensures mapping { IfOk result (IsMappingOf labeller lib.now net.now starts.now choices.now) }

@@ -3,7 +3,7 @@ ghost use Rattle.std.specs.Prelude.{IfOk};
 ghost use Rattle.std.specs.List.{IsDistinct};
 ghost use Rattle.std.specs.Str.{bytes_eq};
 ghost use Rattle.lw_net.specs.Networks.{output_names};
-ghost use Rattle.lw_map.specs.Choices.{AreChoices};
+ghost use Rattle.lw_map.specs.Choices.{AreChoicesOf};
 ghost use Rattle.lw_map.specs.Options.{plain_options};
 ghost use Rattle.lw_map.specs.Tabled.{AreLeaves, IsTabled};
 
@@ -21,7 +21,7 @@ pub fn tabulate(
     choices: &Choices,
     leaves: u8,
 ) -> Result<TableNet, AllocError>
-    requires choices { AreChoices net.now choices.now }
+    requires choices { AreChoicesOf net.now choices.now }
     requires outputs { IsDistinct bytes_eq (output_names net.now) }
     requires leaves { AreLeaves leaves }
     ensures { IfOk result (IsTabled (plain_options choices.now.options) leaves net.now) }

@@ -9,7 +9,7 @@ ghost use Rattle.lw_net.specs.Networks.{output_names};
 ghost use Rattle.lw_pattern.specs.Libraries.{library_patterns};
 ghost use Rattle.lw_match.specs.Least.{AreOfCells};
 ghost use Rattle.lw_trade.specs.Areas.{area_cost};
-ghost use Rattle.lw_map.specs.Choices.{AreChoices};
+ghost use Rattle.lw_map.specs.Choices.{AreChoicesOf};
 ghost use Rattle.lw_map.specs.Faults.{IsCoverFault, IsTradeFault};
 ghost use Rattle.lw_map.specs.Options.{plain_options};
 ghost use Rattle.lw_map.specs.Trading.{AreEarliest, HasFewPoints, HaveLabelsTo, IsTradeable, IsTradedNetlist, LacksLabel, latest_of, micros, put_off};
@@ -64,7 +64,7 @@ fn earliest(
     choices: &Choices,
     pats: &Patterns,
 ) -> Result<Vec<Micro>, MapFault>
-    requires choices { AreChoices net.now choices.now }
+    requires choices { AreChoicesOf net.now choices.now }
     requires outputs { IsDistinct bytes_eq (output_names net.now) }
     requires early { All IsSmall starts.now }
     requires patterns { pats.now ≡ library_patterns lib.now }
@@ -121,7 +121,7 @@ fn in_time(
     times: Vec<Micro>,
     deadline: Micro,
 ) -> Result<Netlist, MapFault>
-    requires choices { AreChoices net.now choices.now }
+    requires choices { AreChoicesOf net.now choices.now }
     requires outputs { IsDistinct bytes_eq (output_names net.now) }
     requires early { All IsSmall starts.now }
     requires late { IsSmall deadline }
@@ -164,7 +164,7 @@ fn at_any_time(
     choices: &Choices,
     pats: &Patterns,
 ) -> Result<Netlist, MapFault>
-    requires choices { AreChoices net.now choices.now }
+    requires choices { AreChoicesOf net.now choices.now }
     requires outputs { IsDistinct bytes_eq (output_names net.now) }
     requires patterns { pats.now ≡ library_patterns lib.now }
     requires of_cells { AreOfCells (area_cost lib.now).pin_counts pats.now }
@@ -206,7 +206,7 @@ pub fn exchange(
     choices: &Choices,
     deadline: Option<Micro>,
 ) -> Result<Netlist, MapFault>
-    requires choices { AreChoices net.now choices.now }
+    requires choices { AreChoicesOf net.now choices.now }
     requires outputs { IsDistinct bytes_eq (output_names net.now) }
     requires early { All IsSmall starts.now }
     requires late { IfSome deadline IsSmall }

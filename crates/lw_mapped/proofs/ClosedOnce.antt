@@ -16,8 +16,8 @@ use Rattle.lw_netlist.specs.declared.draft.DraftGate.{DraftGate}
 use Rattle.lw_netlist.specs.declared.draft.GateDraft.{GateDraft}
 use Rattle.lw_netlist.specs.declared.draft.Wire.{Wire}
 use Rattle.lw_netlist.specs.declared.gate.Gate.{Gate}
-use Rattle.lw_netlist.specs.Closing.{IsClosed, IsNetOf, by_depth, closed_gate, drivers, greatest, links, needs_of, netlist_in, out_of, port_at, undriven_in}
-use Rattle.lw_netlist.specs.Closing.IsNetOf.{at_input, at_gate, at_wire}
+use Rattle.lw_netlist.specs.Closing.{IsClosed, IsNetNamed, by_depth, closed_gate, drivers, greatest, links, needs_of, netlist_in, out_of, port_at, undriven_in}
+use Rattle.lw_netlist.specs.Closing.IsNetNamed.{at_input, at_gate, at_wire}
 use Rattle.lw_netlist.specs.Netlists.{NetlistParts}
 use Rattle.lw_netlist.proofs.Names.{once_distinct, drivers_are, to_of}
 use Rattle.lw_dag.proofs.Numbering.{none_unknown, none_split, distinct_moved}
@@ -156,7 +156,7 @@ module _ (draft : GateDraft) (n m : NetlistParts) (a : IsClosed draft n) (b : Is
   greatest-same k agree (pin ∷ pins) among below =
       ap₂ max (agree pin (All-head (Contains (drivers draft)) pin pins among) (omega arith)) (greatest-same k agree pins (All-tail (Contains (drivers draft)) pin pins among) (omega arith))
 
-  agree-at : (k : ℕ) → AgreeBelow k → (name : List ℕ) (net : ℕ) → IsNetOf draft (by_depth a.depth draft.gates) name net → a.depth name ≤ k → a.depth name ≡ b.depth name
+  agree-at : (k : ℕ) → AgreeBelow k → (name : List ℕ) (net : ℕ) → IsNetNamed draft (by_depth a.depth draft.gates) name net → a.depth name ≤ k → a.depth name ≡ b.depth name
   agree-at k agree name net (at_input place e) below =
       All-contains (λ i. a.depth i ≡ 0) draft.inputs name a.depths.inputs (get-contains draft.inputs place name e)
       ∙ sym (All-contains (λ i. b.depth i ≡ 0) draft.inputs name b.depths.inputs (get-contains draft.inputs place name e))
@@ -191,10 +191,10 @@ module _ (draft : GateDraft) (n m : NetlistParts) (a : IsClosed draft n) (b : Is
     place : ℕ
     at : slice_get draft.wires place ≡ Some wire
     to : wire.to ≡ name
-    rest : IsNetOf draft (by_depth a.depth draft.gates) wire.from net
+    rest : IsNetNamed draft (by_depth a.depth draft.gates) wire.from net
 
   -- the net starts at the name, or a wire drives it
-  pub start-or-wire : (name : List ℕ) (net : ℕ) → IsNetOf draft (by_depth a.depth draft.gates) name net → (slice_get (ends draft n a) net ≡ Some name) ⊎ IsWired name net
+  pub start-or-wire : (name : List ℕ) (net : ℕ) → IsNetNamed draft (by_depth a.depth draft.gates) name net → (slice_get (ends draft n a) net ≡ Some name) ⊎ IsWired name net
   start-or-wire name net (at_input place e) = inl (get-left draft.inputs (map out_of (by_depth a.depth draft.gates)) place name e)
   start-or-wire name net (at_gate place e) = inl (get-right draft.inputs (map out_of (by_depth a.depth draft.gates)) place name e)
   start-or-wire name net (at_wire wire among to rest) =
@@ -225,11 +225,11 @@ module _ (draft : GateDraft) (n m : NetlistParts) (a : IsClosed draft n) (b : Is
       let both : Some v ≡ Some w = sym at ∙ (ap (slice_get draft.wires) here ∙ at') in
       cc
 
-  pub nets-once : (name : List ℕ) (net other : ℕ) → IsNetOf draft (by_depth a.depth draft.gates) name net → IsNetOf draft (by_depth a.depth draft.gates) name other → net ≡ other
+  pub nets-once : (name : List ℕ) (net other : ℕ) → IsNetNamed draft (by_depth a.depth draft.gates) name net → IsNetNamed draft (by_depth a.depth draft.gates) name other → net ≡ other
   nets-once name net other (at_input place e) d = start-alone name net other (get-left draft.inputs (map out_of (by_depth a.depth draft.gates)) place name e) (start-or-wire name other d)
   nets-once name net other (at_gate place e) d = start-alone name net other (get-right draft.inputs (map out_of (by_depth a.depth draft.gates)) place name e) (start-or-wire name other d)
   nets-once name net other (at_wire wire among to rest) d =
-      by_start (start-or-wire name other d) (λ w. nets-once wire.from net other rest (subst (λ (v : Wire). IsNetOf draft (by_depth a.depth draft.gates) v.from other) (sym (same w)) w.rest))
+      by_start (start-or-wire name other d) (λ w. nets-once wire.from net other rest (subst (λ (v : Wire). IsNetNamed draft (by_depth a.depth draft.gates) v.from other) (sym (same w)) w.rest))
     where
       at : (i : ℕ) × (slice_get draft.wires i ≡ Some wire)
       at = contains-get draft.wires wire among
@@ -242,7 +242,7 @@ module _ (draft : GateDraft) (n m : NetlistParts) (a : IsClosed draft n) (b : Is
       by_start (inr w) wired = wired w
 
   net-same : (name : List ℕ) → Contains (drivers draft) name → a.net name ≡ b.net name
-  net-same name among = nets-once name (a.net name) (b.net name) (a.nets name among) (subst (λ o. IsNetOf draft o name (b.net name)) (sym orders-same) (b.nets name among))
+  net-same name among = nets-once name (a.net name) (b.net name) (a.nets name among) (subst (λ o. IsNetNamed draft o name (b.net name)) (sym orders-same) (b.nets name among))
 
   pins-same : (pins : List (List ℕ)) → All (Contains (drivers draft)) pins → map (λ pin. let net : NetId = record { 0 = a.net pin } in net) pins ≡ map (λ pin. let net : NetId = record { 0 = b.net pin } in net) pins
   pins-same [] among = refl

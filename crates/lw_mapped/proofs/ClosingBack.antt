@@ -21,8 +21,8 @@ use Rattle.lw_netlist.specs.declared.draft.GateDraft.{GateDraft}
 use Rattle.lw_netlist.specs.declared.draft.Wire.{Wire}
 use Rattle.lw_netlist.specs.declared.gate.Gate.{Gate}
 use Rattle.lw_netlist.specs.declared.gate.Port.{Port}
-use Rattle.lw_netlist.specs.Closing.{AreDepths, IsClosed, IsNetOf, HasNoCycle, Hangs, Reaches, Link, by_depth, closed_gate, drivers, first_twice, first_undriven, gate_link, wire_link, greatest, is_among, links, netlist_in, out_of, port_at}
-use Rattle.lw_netlist.specs.Closing.IsNetOf.{at_input, at_gate, at_wire}
+use Rattle.lw_netlist.specs.Closing.{AreNameDepths, IsClosed, IsNetNamed, HasNoCycle, Hangs, Reaches, Link, by_depth, closed_gate, drivers, first_twice, first_undriven, gate_link, wire_link, greatest, is_among, links, netlist_in, out_of, port_at}
+use Rattle.lw_netlist.specs.Closing.IsNetNamed.{at_input, at_gate, at_wire}
 use Rattle.lw_netlist.specs.Closing.Reaches.{by_step, by_path}
 use Rattle.lw_netlist.specs.Netlists.{NetlistParts, IsNetlist, IsGateAt}
 use Rattle.lw_netlist.specs.Numbered.{number_in}
@@ -217,7 +217,7 @@ module _ (n : NetlistParts) (is : IsNetlist n) (named : AreNetNames (plain n) n.
       each-at (λ (gate : DraftGate). depth gate.out ≡ 1 + greatest (map depth gate.pins)) d.gates
       (λ j gate e. let g = named-get j gate e in subst (λ (x : DraftGate). depth x.out ≡ 1 + greatest (map depth x.pins)) g.2 (gate-deep j g.0 g.1))
 
-  right-depths : AreDepths d depth
+  right-depths : AreNameDepths d depth
   right-depths = record {
     inputs = All-from_recursion (λ name. depth name ≡ 0) d.inputs inputs-deep;
     gates = All-from_recursion (λ (gate : DraftGate). depth gate.out ≡ 1 + greatest (map depth gate.pins)) d.gates gates-deep;
@@ -322,7 +322,7 @@ module _ (n : NetlistParts) (is : IsNetlist n) (named : AreNetNames (plain n) n.
   few : length (take m names) ≡ m
   few = length-take-le m names (omega (arith, many))
 
-  net-is-at : (k : ℕ) → k < length names → IsNetOf d d.gates (at k) k
+  net-is-at : (k : ℕ) → k < length names → IsNetNamed d d.gates (at k) k
   net-is-at k lt = by_place (cases_lt k m)
     where
       gate-place : (m ≤ k) → slice_get (map out_of d.gates) (k - m) ≡ Some (at k)
@@ -331,13 +331,13 @@ module _ (n : NetlistParts) (is : IsNetlist n) (named : AreNetNames (plain n) n.
           let same : m + (k - m) ≡ k = omega arith in
           ap (λ l. slice_get l (k - m)) outs ∙ (slice_get-get_or (drop m names) (k - m) [] within ∙ ap (λ x. Some x) (get_or-drop m names (k - m) [] ∙ ap at same))
 
-      by_place : (k < m) ⊎ (m ≤ k) → IsNetOf d d.gates (at k) k
+      by_place : (k < m) ⊎ (m ≤ k) → IsNetNamed d d.gates (at k) k
       by_place (inl below) = at_input k (slice_get-get_or (take m names) k [] (omega (arith, few)) ∙ ap (λ x. Some x) (get_or-take m names k [] below))
       by_place (inr le) =
           let same : length (take m names) + (k - m) ≡ k = omega (arith, few) in
-          subst (IsNetOf d d.gates (at k)) same (at_gate (k - m) (gate-place le))
+          subst (IsNetNamed d d.gates (at k)) same (at_gate (k - m) (gate-place le))
 
-  wire-net : (ports : List Port) → ((i : ℕ) (port : Port) → slice_get ports i ≡ Some port → (k : ℕ) × (slice_get n.outputs k ≡ Some port)) → Each (λ (w : Wire). Contains d.wires w → IsNetOf d d.gates w.to (net w.to)) (wires_of names ports)
+  wire-net : (ports : List Port) → ((i : ℕ) (port : Port) → slice_get ports i ≡ Some port → (k : ℕ) × (slice_get n.outputs k ≡ Some port)) → Each (λ (w : Wire). Contains d.wires w → IsNetNamed d d.gates w.to (net w.to)) (wires_of names ports)
   wire-net [] here = tt
   wire-net (port ∷ ports) here = own (bytes_eq (net_name names port.net) port.name) (wire-net ports (λ i p e. here (suc i) p e))
     where
@@ -347,26 +347,26 @@ module _ (n : NetlistParts) (is : IsNetlist n) (named : AreNetNames (plain n) n.
       within : port.net.0 < length names
       within = at-each (λ (p : Port). p.net.0 < length names) n.outputs place.0 port port-within place.1
 
-      own : (b : Bool) → Each (λ (w : Wire). Contains d.wires w → IsNetOf d d.gates w.to (net w.to)) (wires_of names ports) → Each (λ (w : Wire). Contains d.wires w → IsNetOf d d.gates w.to (net w.to)) (cond b [] (port_wire names port ∷ []) ++ wires_of names ports)
+      own : (b : Bool) → Each (λ (w : Wire). Contains d.wires w → IsNetNamed d d.gates w.to (net w.to)) (wires_of names ports) → Each (λ (w : Wire). Contains d.wires w → IsNetNamed d d.gates w.to (net w.to)) (cond b [] (port_wire names port ∷ []) ++ wires_of names ports)
       own true rest = rest
       own false rest = (
-        (λ among. at_wire (port_wire names port) among refl (subst (IsNetOf d d.gates (net_name names port.net)) (sym (net-of-port place.0 port place.1)) (net-is-at port.net.0 within))),
+        (λ among. at_wire (port_wire names port) among refl (subst (IsNetNamed d d.gates (net_name names port.net)) (sym (net-of-port place.0 port place.1)) (net-is-at port.net.0 within))),
         rest,
       )
 
-  net-is : (name : List ℕ) → Contains (drivers d) name → IsNetOf d d.gates name (net name)
+  net-is : (name : List ℕ) → Contains (drivers d) name → IsNetNamed d d.gates name (net name)
   net-is name among = by_part (Contains-append_cases names (map to_of d.wires) name (subst (λ l. Contains l name) driven-are among))
     where
-      by_part : Contains names name ⊎ Contains (map to_of d.wires) name → IsNetOf d d.gates name (net name)
+      by_part : Contains names name ⊎ Contains (map to_of d.wires) name → IsNetNamed d d.gates name (net name)
       by_part (inl c) =
           let place = contains-get names name c in
           let lt = slice_get_within names place.0 name place.1 in
-          subst (λ x. IsNetOf d d.gates x (net x)) (get_or_from_slice_get names place.0 name [] place.1) (subst (IsNetOf d d.gates (at place.0)) (sym (net-at place.0 lt)) (net-is-at place.0 lt))
+          subst (λ x. IsNetNamed d d.gates x (net x)) (get_or_from_slice_get names place.0 name [] place.1) (subst (IsNetNamed d d.gates (at place.0)) (sym (net-at place.0 lt)) (net-is-at place.0 lt))
       by_part (inr c) =
           let place = contains-get (map to_of d.wires) name c in
           let wire = slice_get_map_back to_of d.wires place.0 name place.1 in
-          subst (λ x. IsNetOf d d.gates x (net x)) wire.2
-          (at-each (λ (w : Wire). Contains d.wires w → IsNetOf d d.gates w.to (net w.to)) d.wires place.0 wire.0 (wire-net n.outputs (λ i port e. (i, e))) wire.1 (get-contains d.wires place.0 wire.0 wire.1))
+          subst (λ x. IsNetNamed d d.gates x (net x)) wire.2
+          (at-each (λ (w : Wire). Contains d.wires w → IsNetNamed d d.gates w.to (net w.to)) d.wires place.0 wire.0 (wire-net n.outputs (λ i port e. (i, e))) wire.1 (get-contains d.wires place.0 wire.0 wire.1))
 
   -- The netlist again.
 
@@ -403,6 +403,6 @@ module _ (n : NetlistParts) (is : IsNetlist n) (named : AreNetNames (plain n) n.
     depth = depth;
     depths = right-depths;
     net = net;
-    nets = λ name among. subst (λ o. IsNetOf d o name (net name)) (sym in-order) (net-is name among);
+    nets = λ name among. subst (λ o. IsNetNamed d o name (net name)) (sym in-order) (net-is name among);
     are = sym (ap (λ o. netlist_in d o net) in-order ∙ again);
   }

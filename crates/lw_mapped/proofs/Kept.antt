@@ -16,8 +16,8 @@ use Rattle.lw_netlist.specs.declared.draft.GateDraft.{GateDraft}
 use Rattle.lw_netlist.specs.declared.draft.Wire.{Wire}
 use Rattle.lw_netlist.specs.declared.gate.Gate.{Gate}
 use Rattle.lw_netlist.specs.declared.gate.Port.{Port}
-use Rattle.lw_netlist.specs.Closing.{IsClosed, IsNetOf, IsOfCell, by_depth, closed_gate, drivers, greatest, out_of, port_at}
-use Rattle.lw_netlist.specs.Closing.IsNetOf.{at_input, at_gate, at_wire}
+use Rattle.lw_netlist.specs.Closing.{IsClosed, IsNetNamed, IsOfCell, by_depth, closed_gate, drivers, greatest, out_of, port_at}
+use Rattle.lw_netlist.specs.Closing.IsNetNamed.{at_input, at_gate, at_wire}
 use Rattle.lw_netlist.specs.Netlists.{IsGateAt, IsNetlist, NetlistParts}
 use Rattle.lw_netlist.specs.Plain.{HasCell, IsOver}
 use Rattle.lw_mapped.proofs.ClosedOnce.{at-most, gate-known, moved, nets-once, out-known, outputs-known, pins-known, ranked}
@@ -106,7 +106,7 @@ module _ (draft : GateDraft) (n : NetlistParts) (a : IsClosed draft n) where
     deep : a.depth name ≡ a.depth gate.out
 
   -- an input or a gate drives the net of a name
-  driver-of : (name : List ℕ) (net : ℕ) → IsNetOf draft order name net → (net < m) ⊎ IsDriven name net
+  driver-of : (name : List ℕ) (net : ℕ) → IsNetNamed draft order name net → (net < m) ⊎ IsDriven name net
   driver-of name net (at_input place e) = inl (slice_get_within draft.inputs place name e)
   driver-of name net (at_gate place e) =
       let gate = slice_get_map_back out_of order place name e in

@@ -16,8 +16,8 @@ use Rattle.lw_pool.specs.declared.id.NetId.{NetId}
 use Rattle.lw_netlist.specs.declared.draft.DraftGate.{DraftGate}
 use Rattle.lw_netlist.specs.declared.draft.GateDraft.{GateDraft}
 use Rattle.lw_netlist.specs.declared.draft.Wire.{Wire}
-use Rattle.lw_netlist.specs.Closing.{IsClosed, IsNetOf, by_depth, closed_gate, drivers, greatest, netlist_in, out_of, port_at}
-use Rattle.lw_netlist.specs.Closing.IsNetOf.{at_input, at_gate, at_wire}
+use Rattle.lw_netlist.specs.Closing.{IsClosed, IsNetNamed, by_depth, closed_gate, drivers, greatest, netlist_in, out_of, port_at}
+use Rattle.lw_netlist.specs.Closing.IsNetNamed.{at_input, at_gate, at_wire}
 use Rattle.lw_netlist.specs.Netlists.{NetlistParts}
 use Rattle.lw_netlist.specs.Plain.{plain, plain_gate, net_number}
 use Rattle.lw_netlist.proofs.Names.{to_of}
@@ -65,7 +65,7 @@ module _ (draft : GateDraft) (n : NetlistParts) (a : IsClosed draft n) (depths :
   pins-deep k agree (pin ∷ pins) among below =
       ap₂ max (agree pin (All-head (Contains (drivers draft)) pin pins among) (omega arith)) (pins-deep k agree pins (All-tail (Contains (drivers draft)) pin pins among) (omega arith))
 
-  net-deep : (k : ℕ) → AgreeBelow k → (name : List ℕ) (net : ℕ) → IsNetOf draft gates name net → a.depth name ≤ k → get_or depths net 0 ≡ a.depth name
+  net-deep : (k : ℕ) → AgreeBelow k → (name : List ℕ) (net : ℕ) → IsNetNamed draft gates name net → a.depth name ≤ k → get_or depths net 0 ≡ a.depth name
   net-deep k agree name net (at_input place e) below =
       get_or_from_slice_get depths place 0 0 (are.inputs place (slice_get_within draft.inputs place name e))
       ∙ sym (All-contains (λ i. a.depth i ≡ 0) draft.inputs name a.depths.inputs (get-contains draft.inputs place name e))

@@ -4,13 +4,13 @@ use Rattle.lw_laws.specs.Graphs.{Graph}
 use Rattle.lw_laws.specs.Trees.{HasLeaf}
 use Rattle.lw_laws.specs.Covers.{Pattern}
 use Rattle.lw_laws.specs.Costs.{Cost}
-use Rattle.lw_laws.specs.Extracts.{Match, MatchesAt}
+use Rattle.lw_laws.specs.Extracts.{Match, IsMatchOf}
 use Rattle.lw_match.specs.Least.{AreOfCells}
-use Rattle.lw_match.specs.Coming.{IsMatch}
+use Rattle.lw_match.specs.Coming.{IsPatternMatch}
 use Rattle.lw_match.proofs.Found.{listed_in}
 use Rattle.lw_match.proofs.Starting.{pattern_pins}
 
-pub of_cell : (g : Graph) (cost : Cost) (pats : List Pattern) (c : ℕ) (m : Match) → AreOfCells cost.pin_counts pats → IsMatch g pats c m → (p : Pattern) × MatchesAt g cost pats c m p
+pub of_cell : (g : Graph) (cost : Cost) (pats : List Pattern) (c : ℕ) (m : Match) → AreOfCells cost.pin_counts pats → IsPatternMatch g pats c m → (p : Pattern) × IsMatchOf g cost pats c m p
 of_cell g cost pats c m of i = (
   i.pattern,
   record {
@@ -20,7 +20,7 @@ of_cell g cost pats c m of i = (
   },
 )
 
-pub of_pattern : (g : Graph) (cost : Cost) (pats : List Pattern) (c : ℕ) (m : Match) → AreOfCells cost.pin_counts pats → ((p : Pattern) × MatchesAt g cost pats c m p) → IsMatch g pats c m
+pub of_pattern : (g : Graph) (cost : Cost) (pats : List Pattern) (c : ℕ) (m : Match) → AreOfCells cost.pin_counts pats → ((p : Pattern) × IsMatchOf g cost pats c m p) → IsPatternMatch g pats c m
 of_pattern g cost pats c m of (p, i) =
     let cell = of p (listed_in pats m.pattern p i.listed) in
     let has = cell.has in

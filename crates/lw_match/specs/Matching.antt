@@ -5,13 +5,13 @@ use Rattle.lw_laws.specs.Covers.{Pattern, ArePatterns}
 use Rattle.lw_laws.specs.Expressions.{Expr}
 use Rattle.lw_laws.specs.Patterns.{patterns_of}
 use Rattle.lw_laws.specs.Costs.{Cost}
-use Rattle.lw_laws.specs.Extracts.{Match, MatchesAt}
+use Rattle.lw_laws.specs.Extracts.{Match, IsMatchOf}
 use Rattle.lw_match.specs.Least.{AreOfCells}
-use Rattle.lw_match.specs.Coming.{IsMatch}
+use Rattle.lw_match.specs.Coming.{IsPatternMatch}
 
 abbrev pub MatchesHaveCells : Type 0
 MatchesHaveCells =
-    (g : Graph) (cost : Cost) (pats : List Pattern) (c : ℕ) (m : Match) → AreOfCells cost.pin_counts pats → IsMatch g pats c m ↔ ((p : Pattern) × MatchesAt g cost pats c m p)
+    (g : Graph) (cost : Cost) (pats : List Pattern) (c : ℕ) (m : Match) → AreOfCells cost.pin_counts pats → IsPatternMatch g pats c m ↔ ((p : Pattern) × IsMatchOf g cost pats c m p)
 
 -- the patterns of a library are of its cells, where each cell has its number of pins
 abbrev pub LibraryPatternsAreOfCells : Type 0

@@ -4,7 +4,7 @@ ghost use Rattle.lw_laws.specs.Covers.{HasPins};
 ghost use Rattle.lw_pattern.specs.Listed.{IsKept};
 ghost use Rattle.lw_match.specs.Cutting.{IsCertifiedBy};
 ghost use Rattle.lw_match.specs.Least.{AreOfCells};
-ghost use Rattle.lw_match.specs.Searching.{IsCertified};
+ghost use Rattle.lw_match.specs.Searching.{IsGapCertified};
 ghost use Rattle.lw_match.specs.Shapes.{gaps_of};
 
 use crate::Cost;
@@ -56,7 +56,7 @@ pub(crate) fn is_certified<C: Cost>(
 ) -> bool
     requires has { HasPins (C.costs cost.now).pin_counts cell.0 pins }
     requires few { pins ≤ 16 }
-    ensures { IsTrue result → IsCertified (C.costs cost.now) cell.0 pins gaps.now top }
+    ensures { IsTrue result → IsGapCertified (C.costs cost.now) cell.0 pins gaps.now top }
 {
     for pin in 0..pins {
         let amount = top.saturating_sub(gap_at(gaps, pin));

@@ -10,7 +10,7 @@ use Rattle.lw_net.specs.declared.draft.DraftNode.{DraftNode}
 use Rattle.lw_net.specs.declared.fault.NetFault.{NetFault}
 use Rattle.lw_net.specs.declared.fault.NetFault.TheVariants.{Undefined, Cycle, Memory}
 use Rattle.lw_net.proofs.Names.{undefined_first, undefined_later}
-use Rattle.lw_net.specs.Closing.{HasFault, signals_of, out_of, fanins_of, number_in, undefined_in, first_undefined, Reaches, HasNoCycle, IsFirstOnCycle, AreDepths, greatest}
+use Rattle.lw_net.specs.Closing.{HasFault, signals_of, out_of, fanins_of, number_in, undefined_in, first_undefined, Reaches, HasNoCycle, IsFirstOnCycle, AreSignalDepths, greatest}
 use Rattle.lw_net.specs.Closing.Reaches.{by_fanin, by_path}
 use Rattle.lw_dag.specs.Graphs.{IsGraph, fanins_at, height_at, tallest, AreKnown, AreHeights, Leads, IsFirst}
 use Rattle.lw_net.specs.Numbered.{TellsUndefined, numbered}
@@ -120,7 +120,7 @@ module _ (draft : Draft) (distinct : IsDistinct bytes_eq (signals_of draft)) (no
     at_node : (j : ℕ) → j < length nodes → depth (get_or nodes j bare).out ≡ height_at heights (m + j) - 1
     at_node j lt = ap (λ s. height_at heights s - 1) (number_out j lt)
 
-    depths : AreDepths draft depth
+    depths : AreSignalDepths draft depth
     depths = record {
       inputs = λ k d lt. input_at k d lt;
       nodes = λ j d lt. subst (λ (n : DraftNode). depth n.out ≡ 1 + greatest (map depth n.fanins)) (get_or_default nodes j bare d lt) (omega (arith, at_node j lt, height_of_node j lt));

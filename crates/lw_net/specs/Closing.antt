@@ -55,7 +55,7 @@ pub record IsFirstOnCycle (nodes : List DraftNode) (name : List ℕ) : Type 0 wh
   pub first : (j : ℕ) (other : List ℕ) → j < place → slice_get (map out_of nodes) j ≡ Some other → Reaches nodes other other → ⊥
 
 -- The depths of the signals: 0 at an input, and at a node 1 more than the greatest of its fan-ins.
-pub record AreDepths (draft : Draft) (depth : List ℕ → ℕ) : Type 0 where
+pub record AreSignalDepths (draft : Draft) (depth : List ℕ → ℕ) : Type 0 where
   pub inputs : All (λ name. depth name ≡ 0) draft.inputs
   pub nodes : All (λ (node : DraftNode). depth node.out ≡ 1 + greatest (map depth node.fanins)) draft.nodes
 
@@ -88,7 +88,7 @@ pub record IsClosed (draft : Draft) (net : NetworkParts) : Type 0 where
   pub defined : first_undefined draft ≡ None
   pub no_cycle : HasNoCycle draft.nodes
   pub depth : List ℕ → ℕ
-  pub depths : AreDepths draft depth
+  pub depths : AreSignalDepths draft depth
   pub network : net ≡ network_in draft (by_depth depth draft.nodes)
 
 -- The draft has this fault.

@@ -15,8 +15,8 @@ use Rattle.lw_netlist.specs.declared.draft.GateDraft.{GateDraft}
 use Rattle.lw_netlist.specs.declared.draft.Wire.{Wire}
 use Rattle.lw_netlist.specs.declared.gate.Gate.{Gate}
 use Rattle.lw_netlist.specs.declared.gate.Port.{Port}
-use Rattle.lw_netlist.specs.Closing.{IsNetOf, IsOfCell, closed_gate, drivers, first_undriven, greatest, links, needs_of, netlist_in, out_of, port_at, undriven_in}
-use Rattle.lw_netlist.specs.Closing.IsNetOf.{at_input, at_gate, at_wire}
+use Rattle.lw_netlist.specs.Closing.{IsNetNamed, IsOfCell, closed_gate, drivers, first_undriven, greatest, links, needs_of, netlist_in, out_of, port_at, undriven_in}
+use Rattle.lw_netlist.specs.Closing.IsNetNamed.{at_input, at_gate, at_wire}
 use Rattle.lw_netlist.specs.Netlists.{IsGateAt, IsNetlist, most_nets}
 use Rattle.lw_dag.specs.Names.{number_in}
 use Rattle.lw_netlist.specs.Ordering.{AreRight, IsStart, net_by, start_in}
@@ -98,7 +98,7 @@ module _ (draft : GateDraft) (depths starts : List ℕ) (order : List DraftGate)
   number_out : (j : ℕ) → j < length order → number_in names (get_or order j bare_gate).out ≡ m + j
   number_out j lt = ap (number_in names) (sym (out_at j lt)) ∙ number_at names (m + j) [] ordered_distinct (omega (arith, many))
 
-  driver_net : (name : List ℕ) → Contains names name → IsNetOf draft order name (number_in names name)
+  driver_net : (name : List ℕ) → Contains names name → IsNetNamed draft order name (number_in names name)
   driver_net name (k, lt, e) = by_place (cases_lt k m)
     where
       number : number_in names name ≡ k
@@ -107,21 +107,21 @@ module _ (draft : GateDraft) (depths starts : List ℕ) (order : List DraftGate)
       named : get_or names k [] ≡ name
       named = get_or_default names k [] name lt ∙ e
 
-      by_place : (k < m) ⊎ (m ≤ k) → IsNetOf draft order name (number_in names name)
+      by_place : (k < m) ⊎ (m ≤ k) → IsNetNamed draft order name (number_in names name)
       by_place (inl input) =
-          subst (IsNetOf draft order name) (sym number)
+          subst (IsNetNamed draft order name) (sym number)
           (at_input k (slice_get-get_or draft.inputs k [] input ∙ ap (λ n. Some n) (sym (get_or_append_left draft.inputs (map out_of order) [] k input) ∙ named)))
       by_place (inr gate) =
           let same : m + (k - m) ≡ k = omega arith in
           let inside : k - m < length order = omega (arith, many) in
-          subst (IsNetOf draft order name) (same ∙ sym number)
+          subst (IsNetNamed draft order name) (same ∙ sym number)
           (at_gate (k - m) (slice_get-get_or (map out_of order) (k - m) [] (omega (arith, length-map order out_of)) ∙ ap (λ n. Some n) (get_or-map out_of order (k - m) bare_gate [] inside ∙ (sym (out_at (k - m) inside) ∙ (ap (λ n. get_or names n []) same ∙ named)))))
 
-  start_net : (name from : List ℕ) → IsStart draft name from → IsNetOf draft order name (number_in names from)
+  start_net : (name from : List ℕ) → IsStart draft name from → IsNetNamed draft order name (number_in names from)
   start_net name from (of_driver among) = driver_net name (Contains-permutation firsts names name firsts_moved among)
   start_net name from (of_wire wire among named rest) = at_wire wire among named (start_net wire.from from rest)
 
-  pub nets_are : (name : List ℕ) → Contains driven name → IsNetOf draft order name (net_of name)
+  pub nets_are : (name : List ℕ) → Contains driven name → IsNetNamed draft order name (net_of name)
   nets_are name among = start_net name (start name) (right.starts_are name among)
 
   net_below : (name : List ℕ) → Contains driven name → net_of name < length names

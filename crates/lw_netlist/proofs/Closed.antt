@@ -9,7 +9,7 @@ use Rattle.lw_genlib.specs.Cells.{CellParts}
 use Rattle.lw_netlist.specs.declared.draft.DraftGate.{DraftGate}
 use Rattle.lw_netlist.specs.declared.draft.GateDraft.{GateDraft}
 use Rattle.lw_netlist.specs.declared.graph.Graph.{Graph}
-use Rattle.lw_netlist.specs.Closing.{IsClosed, IsGateDraft, IsNetOf, by_depth, drivers, netlist_in}
+use Rattle.lw_netlist.specs.Closing.{IsClosed, IsGateDraft, IsNetNamed, by_depth, drivers, netlist_in}
 use Rattle.lw_netlist.specs.Netlists.{IsNetlist, NetlistParts}
 use Rattle.lw_netlist.specs.Ordering.{AreRight, TellDepths, net_by, start_in}
 use Rattle.lw_netlist.specs.Placing.{IsMadeOf, IsPlaced, gates_at, names_at}
@@ -99,7 +99,7 @@ module _ (draft : GateDraft) (graph : Graph) (made : IsMadeOf draft graph) (dept
             depth = right.depth;
             depths = right.right;
             net = Net (drivers draft);
-            nets = λ name among. subst (λ o. IsNetOf draft o name (Net (drivers draft) name)) by (nets_are draft depths starts order once is.few made.graph.known made.graph.none right gates_moved rising name among);
+            nets = λ name among. subst (λ o. IsNetNamed draft o name (Net (drivers draft) name)) by (nets_are draft depths starts order once is.few made.graph.known made.graph.none right gates_moved rising name among);
             are = ordered_parts ∙ ap (λ o. netlist_in draft o (Net (drivers draft))) by;
           }
 

@@ -9,7 +9,7 @@ use Rattle.std.specs.Str.{bytes_eq}
 use Rattle.lw_netlist.specs.declared.draft.DraftGate.{DraftGate}
 use Rattle.lw_netlist.specs.declared.draft.GateDraft.{GateDraft}
 use Rattle.lw_netlist.specs.declared.draft.Wire.{Wire}
-use Rattle.lw_netlist.specs.Closing.{AreDepths, Link, drivers, gate_link, greatest, links, name_of, needs_of, out_of, undriven_in, wire_link}
+use Rattle.lw_netlist.specs.Closing.{AreNameDepths, Link, drivers, gate_link, greatest, links, name_of, needs_of, out_of, undriven_in, wire_link}
 use Rattle.lw_dag.specs.Graphs.{AreKnown, IsOrdered, height_at, fanins_at, tallest}
 use Rattle.lw_dag.specs.Names.{number_in}
 use Rattle.lw_netlist.specs.Numbered.{AreSettled, IsSettled, deepest, depth_at, first_start, numbered, start_at, step_of}
@@ -119,7 +119,7 @@ module _ (draft : GateDraft) (distinct : IsDistinct bytes_eq (drivers draft)) (n
       let row : deepest depths (fanins_at graph (g + k)) ≡ max (depth (get_or draft.wires k bare_wire).from) 0 = ap (deepest depths) (wire_row k lt) in
       s.depth ∙ omega (arith, step, row)
 
-  depths_are : AreDepths draft depth
+  depths_are : AreNameDepths draft depth
   depths_are = record {
     inputs = λ k d lt. ap (depth_at depths) (input_number k d lt) ∙ (settled.at_inputs k lt).0;
     gates = λ j d lt. subst (λ (gate : DraftGate). depth gate.out ≡ 1 + greatest (map depth gate.pins)) (get_or_default draft.gates j bare_gate d lt) (ap (depth_at depths) (gate_number j lt) ∙ gate_depth j lt);

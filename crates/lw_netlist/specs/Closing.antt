@@ -93,7 +93,7 @@ pub record IsFirstOnCycle (ls : List Link) (name : List ℕ) : Type 0 where
   pub first : (j : ℕ) (other : List ℕ) → j < place → slice_get (map name_of ls) j ≡ Some other → Reaches ls other other → ⊥
 
 -- The depths of the names: 0 at an input, at a gate 1 more than the greatest of its pins, and at a wire that of its source.
-pub record AreDepths (draft : GateDraft) (depth : List ℕ → ℕ) : Type 0 where
+pub record AreNameDepths (draft : GateDraft) (depth : List ℕ → ℕ) : Type 0 where
   pub inputs : All (λ name. depth name ≡ 0) draft.inputs
   pub gates : All (λ (gate : DraftGate). depth gate.out ≡ 1 + greatest (map depth gate.pins)) draft.gates
   pub wires : All (λ (wire : Wire). depth wire.to ≡ depth wire.from) draft.wires
@@ -107,10 +107,10 @@ by_depth depth gates =
     flat_map (λ d. filter (λ (gate : DraftGate). depth gate.out == d) gates) (range_with_len 1 (greatest (map (λ (gate : DraftGate). depth gate.out) gates)))
 
 -- The net that a name comes to, where the gates stand in this order: that of the input or of the gate, or that of a wire's source.
-pub data IsNetOf (draft : GateDraft) (order : List DraftGate) : List ℕ → ℕ → Type 0 where
-  at_input : {name : List ℕ} (place : ℕ) → slice_get draft.inputs place ≡ Some name → IsNetOf draft order name place
-  at_gate : {name : List ℕ} (place : ℕ) → slice_get (map out_of order) place ≡ Some name → IsNetOf draft order name (length draft.inputs + place)
-  at_wire : {name : List ℕ} {net : ℕ} (wire : Wire) → Contains draft.wires wire → wire.to ≡ name → IsNetOf draft order wire.from net → IsNetOf draft order name net
+pub data IsNetNamed (draft : GateDraft) (order : List DraftGate) : List ℕ → ℕ → Type 0 where
+  at_input : {name : List ℕ} (place : ℕ) → slice_get draft.inputs place ≡ Some name → IsNetNamed draft order name place
+  at_gate : {name : List ℕ} (place : ℕ) → slice_get (map out_of order) place ≡ Some name → IsNetNamed draft order name (length draft.inputs + place)
+  at_wire : {name : List ℕ} {net : ℕ} (wire : Wire) → Contains draft.wires wire → wire.to ≡ name → IsNetNamed draft order wire.from net → IsNetNamed draft order name net
 
 -- a gate with nets in place of names
 abbrev pub closed_gate : (List ℕ → ℕ) → DraftGate → Gate
@@ -136,9 +136,9 @@ pub record IsClosed (draft : GateDraft) (parts : NetlistParts) : Type 0 where
   pub driven : first_undriven draft ≡ None
   pub no_cycle : HasNoCycle (links draft)
   pub depth : List ℕ → ℕ
-  pub depths : AreDepths draft depth
+  pub depths : AreNameDepths draft depth
   pub net : List ℕ → ℕ
-  pub nets : (name : List ℕ) → Contains (drivers draft) name → IsNetOf draft (by_depth depth draft.gates) name (net name)
+  pub nets : (name : List ℕ) → Contains (drivers draft) name → IsNetNamed draft (by_depth depth draft.gates) name (net name)
   pub are : parts ≡ netlist_in draft (by_depth depth draft.gates) net
 
 -- The draft has this fault, and none of those that are looked for before it.

@@ -5,7 +5,7 @@ use Rattle.lw_pool.specs.declared.id.NetId.{NetId}
 use Rattle.lw_netlist.specs.declared.draft.GateDraft.{GateDraft}
 use Rattle.lw_netlist.specs.declared.draft.DraftGate.{DraftGate}
 use Rattle.lw_netlist.specs.declared.draft.Wire.{Wire}
-use Rattle.lw_netlist.specs.Closing.{AreDepths, HasNoCycle, drivers, first_twice, first_undriven, links, needs_of, out_of, undriven_in}
+use Rattle.lw_netlist.specs.Closing.{AreNameDepths, HasNoCycle, drivers, first_twice, first_undriven, links, needs_of, out_of, undriven_in}
 use Rattle.lw_dag.specs.Graphs.{most_signals}
 use Rattle.lw_dag.specs.Names.{number_in}
 use Rattle.lw_netlist.specs.Numbered.{depth_at, net_at, numbered, start_at}
@@ -36,7 +36,7 @@ start_in driven starts name = slice_index_or driven (start_at starts (number_in 
 pub record AreRight (draft : GateDraft) (depths starts : List ℕ) : Type 0 where
   pub no_cycle : HasNoCycle (links draft)
   pub depth : List ℕ → ℕ
-  pub right : AreDepths draft depth
+  pub right : AreNameDepths draft depth
   pub depths_each : length depths ≡ length (drivers draft)
   pub told : (k : ℕ) (d : DraftGate) → k < length draft.gates → depth_at depths (length draft.inputs + k) ≡ depth (slice_index_or draft.gates k d).out
   pub starts_each : length starts ≡ length (drivers draft)

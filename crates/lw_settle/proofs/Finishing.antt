@@ -7,7 +7,7 @@ use Rattle.std.proofs.lemmas.Option.{same_Some, slice_get_within, get_or_from_sl
 use Rattle.lw_graph.specs.Graphs.{IsGraph}
 use Rattle.lw_laws.specs.Graphs.{Graph}
 use Rattle.lw_laws.specs.Costs.{Cost, IsCost}
-use Rattle.lw_laws.specs.Choices.{Choices, AreChoices, HasCost, HaveCosts, IsLeast, Labels, IsPotential, IsAttained, Attains, IsInputClass, IsHeight, AreHeights}
+use Rattle.lw_laws.specs.Choices.{Choices, AreChoices, HasCost, HaveCosts, IsLeastCost, Labels, IsPotential, IsAttained, Attains, IsInputClass, IsHeight, AreHeights}
 use Rattle.lw_laws.specs.Choices.HasCost.{by_wire, by_gate}
 use Rattle.lw_laws.specs.Choices.HaveCosts.{no_pins, pin}
 use Rattle.lw_laws.specs.Marks.{Mark as PlainMark, Marks, HaveMarks, IsMarkAtMost, leaf_mark, price, costs_in, greatest_height, heights_of}
@@ -153,7 +153,7 @@ module _ (cost : Cost) (lists : List (List Stored)) (s : Stage) (done : ℕ) (ma
         (j.cost, label_of_mark marks c j t, subst (λ ds. j.cost ≤ cost.value cell ds) same le.cost);
   }
 
-  least : (c : ℕ) → IsLeast M cost c (labels c)
+  least : (c : ℕ) → IsLeastCost M cost c (labels c)
   least = labels_are_least M cost is choices labels potential attained
 
   abbrev heights : ℕ → ℕ

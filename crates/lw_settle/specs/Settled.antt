@@ -2,7 +2,7 @@
 use Rattle.std.specs.Prelude.{ℕ, suc, ◌+◌, ◌≡◌, ◌==◌, if◌then◌else◌, is_some, List, [], ◌∷◌, length, Option, Some, slice_get}
 use Rattle.lw_laws.specs.Graphs.{Graph}
 use Rattle.lw_laws.specs.Costs.{Cost}
-use Rattle.lw_laws.specs.Choices.{Choices, Labels, IsLeast, IsHeight}
+use Rattle.lw_laws.specs.Choices.{Choices, Labels, IsLeastCost, IsHeight}
 use Rattle.lw_laws.specs.Marks.{Mark as PlainMark}
 use Rattle.lw_laws.specs.Rounds.{labels_in}
 use Rattle.lw_match.specs.declared.mark.Mark.{Mark}
@@ -28,7 +28,7 @@ store_choices g lists = choices_among g (placed lists)
 -- Each class has a mark where it has a cover of stored matches: the least cost of these covers, and its height.
 pub record AreSettledMarks (g : Graph) (cost : Cost) (lists : List (List Stored)) (marks : List (Option Mark)) : Type 0 where
   pub one_each : length marks ≡ length g.pairs
-  pub least : (c : ℕ) → IsLeast (store_choices g lists) cost c (labels_in (costs_of marks) c)
+  pub least : (c : ℕ) → IsLeastCost (store_choices g lists) cost c (labels_in (costs_of marks) c)
   pub heights : (c : ℕ) (m : PlainMark) → marks_in marks c ≡ Some m → IsHeight (store_choices g lists) cost (labels_in (costs_of marks)) c m.height
   -- no cost above the cap, and heights that can rise by one
   pub in_range : AreInRange cost.cap marks
@@ -36,7 +36,7 @@ pub record AreSettledMarks (g : Graph) (cost : Cost) (lists : List (List Stored)
 -- no cover of an input's class costs less than the input
 abbrev pub HaveLeafCosts : Graph → Cost → List (List Stored) → Type 0
 HaveLeafCosts g cost lists =
-    (i c : ℕ) → slice_get g.leaves i ≡ Some c → IsLeast (store_choices g lists) cost c (Some (cost.leaf i))
+    (i c : ℕ) → slice_get g.leaves i ≡ Some c → IsLeastCost (store_choices g lists) cost c (Some (cost.leaf i))
 
 -- how many of the classes have a label
 abbrev pub labelled : Labels → List ℕ → ℕ

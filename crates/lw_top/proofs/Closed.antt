@@ -9,7 +9,7 @@ use Rattle.std.proofs.lemmas.Slice.Eq.{bytes_eq-Decides}
 use Rattle.lw_net.specs.declared.draft.Draft.{Draft}
 use Rattle.lw_net.specs.declared.draft.DraftNode.{DraftNode}
 use Rattle.lw_net.specs.Networks.{NetworkParts}
-use Rattle.lw_net.specs.Closing.{out_of, fanins_of, signals_of, is_among, undefined_in, first_undefined, IsFirstOnCycle, greatest, AreDepths, by_depth, network_in, IsClosed}
+use Rattle.lw_net.specs.Closing.{out_of, fanins_of, signals_of, is_among, undefined_in, first_undefined, IsFirstOnCycle, greatest, AreSignalDepths, by_depth, network_in, IsClosed}
 use Rattle.lw_net.specs.declared.fault.NetFault.TheVariants as whole
 use Rattle.lw_blif.specs.declared.fault.BlifFault.TheVariants as fault
 use Rattle.lw_blif.specs.LineFaults.{FaultAt, first_fault, lines_read}
@@ -64,7 +64,7 @@ driven draft defined =
 
 -- Two depths of one draft
 
-module _ (draft : Draft) (depth other : List ℕ → ℕ) (depths : AreDepths draft depth) (others : AreDepths draft other) (defined : first_undefined draft ≡ None) where
+module _ (draft : Draft) (depth other : List ℕ → ℕ) (depths : AreSignalDepths draft depth) (others : AreSignalDepths draft other) (defined : first_undefined draft ≡ None) where
   -- they agree at the names of this depth at most
   abbrev Agree : ℕ → List ℕ → Type 0
   Agree n name = depth name ≤ n → depth name ≡ other name

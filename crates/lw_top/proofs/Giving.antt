@@ -26,7 +26,7 @@ use Rattle.lw_map.specs.declared.fault.MapFault.{MapFault}
 use Rattle.lw_map.specs.declared.fault.MapFault.TheVariants as map_fault
 use Rattle.lw_map.specs.Options.{Options, plain_options}
 use Rattle.lw_map.specs.Mapped.{output_port, plain_port, IsMappedNetlist, IsWithinLimits, LacksCover}
-use Rattle.lw_map.specs.Choices.{AreChoices}
+use Rattle.lw_map.specs.Choices.{AreChoicesOf}
 use Rattle.lw_map.specs.declared.labeller.Labeller.TheVariants.{Rounds, Store}
 use Rattle.lw_map.specs.Mappings.{IsMappingOf}
 use Rattle.lw_map.specs.Faults.{IsChoiceFault, IsCoverFault}
@@ -60,7 +60,7 @@ module _ (step : Step (List ℕ)) (options : Options) (net : NetworkParts) where
   cover_refused cells starts c same lacks map_fault.Points is = absurd is
   cover_refused cells starts c same lacks map_fault.Memory is = tt
 
-module _ (cells : List CellParts) (model : Parsed) (c : Choices) (m : Mapping) (kept : IsNetwork model.network) (fits : IsModel model) (are : AreChoices model.network c) (is : IsMappingOf Rounds cells model.network model.starts c m) where
+module _ (cells : List CellParts) (model : Parsed) (c : Choices) (m : Mapping) (kept : IsNetwork model.network) (fits : IsModel model) (are : AreChoicesOf model.network c) (is : IsMappingOf Rounds cells model.network model.starts c m) where
   -- the frame and the starts fit the netlist
   framed : IsFramed m.netlist model.frame model.starts
   framed =
@@ -107,7 +107,7 @@ module _ (cells : List CellParts) (model : Parsed) (c : Choices) (m : Mapping) (
   )
 
 -- tables with the frame of the model
-pub tables_given : (leaves : ℕ) (model : Parsed) (c : Choices) (n : PlainTableNet) → IsModel model → AreChoices model.network c → IsTabled (plain_options c.options) leaves model.network n → Gives (Tabulates leaves (plain_options c.options) model) (Ok (answer.Tables n model.frame))
+pub tables_given : (leaves : ℕ) (model : Parsed) (c : Choices) (n : PlainTableNet) → IsModel model → AreChoicesOf model.network c → IsTabled (plain_options c.options) leaves model.network n → Gives (Tabulates leaves (plain_options c.options) model) (Ok (answer.Tables n model.frame))
 tables_given leaves model c n fits are is = (
   λ text files says. record { within = are.within; net = n; tabled = is; says = says },
   record {
@@ -117,7 +117,7 @@ tables_given leaves model c n fits are is = (
 )
 
 -- the counts of a graph
-pub counts_given : (options : Options) (model : Parsed) (c : Choices) → plain_options c.options ≡ options → AreChoices model.network c → Gives (Counts options model) (Ok (answer.Counts c.forms (length c.graph.pairs) (pair_total c.graph)))
+pub counts_given : (options : Options) (model : Parsed) (c : Choices) → plain_options c.options ≡ options → AreChoicesOf model.network c → Gives (Counts options model) (Ok (answer.Counts c.forms (length c.graph.pairs) (pair_total c.graph)))
 counts_given options model c same are = (λ text files says. subst (λ (o : Options). IsCountText o model.network text) same (counted text says), tt)
   where
     counted : (text : List ℕ) → text ≡ counts_text c.forms (length c.graph.pairs) (pair_total c.graph) → IsCountText (plain_options c.options) model.network text
@@ -129,7 +129,7 @@ counts_given options model c same are = (λ text files says. subst (λ (o : Opti
     }
 
 -- a verdict over the graph of the choices
-pub verdict_given : (options : Options) (cells : List CellParts) (model : Parsed) (m : MappedParts) (c : Choices) (g : Graph) (v : Verdict) → plain_options c.options ≡ options → AreChoices model.network c → g ≡ c.graph → IsVerdict model.network model.frame model.starts cells g (library_patterns cells) c.roots m v → HasVerdict options cells model m v
+pub verdict_given : (options : Options) (cells : List CellParts) (model : Parsed) (m : MappedParts) (c : Choices) (g : Graph) (v : Verdict) → plain_options c.options ≡ options → AreChoicesOf model.network c → g ≡ c.graph → IsVerdict model.network model.frame model.starts cells g (library_patterns cells) c.roots m v → HasVerdict options cells model m v
 verdict_given options cells model m c g v same are kept is =
     subst (λ (o : Options). HasVerdict o cells model m v) same (record {
       within = are.within;
@@ -141,7 +141,7 @@ verdict_given options cells model m c g v same are kept is =
     })
 
 -- the sizes of a drawn network
-module _ (cells : List CellParts) (net : NetworkParts) (c : Choices) (m : Mapping) (t : TimingParts) (same : plain_options c.options ≡ drawing_options) (are : AreChoices net c) (is : IsMappingOf Store cells net (at_once net.inputs) c m) (timed : IsTimingOf cells m.netlist (at_once net.inputs) t) where
+module _ (cells : List CellParts) (net : NetworkParts) (c : Choices) (m : Mapping) (t : TimingParts) (same : plain_options c.options ≡ drawing_options) (are : AreChoicesOf net c) (is : IsMappingOf Store cells net (at_once net.inputs) c m) (timed : IsTimingOf cells m.netlist (at_once net.inputs) t) where
   -- the netlist is that of the network by the options of a drawing
   abbrev IsDrawn : Options → Type 0
   IsDrawn o = IsWithinLimits o net × ((mapped : IsMappedNetlist o cells net (at_once net.inputs) m.netlist) × (mapped.is.graph ≡ c.graph) × (mapped.is.labels ≡ costs_of m.labels))

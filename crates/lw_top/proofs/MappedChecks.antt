@@ -60,7 +60,7 @@ use Rattle.lw_map.proofs.CellLaws.{delay_patterns}
 use Rattle.lw_map.proofs.Names.{mapped_has_names}
 use Rattle.lw_map.proofs.PortNames.{few_outputs}
 use Rattle.lw_map.proofs.Ranges.{pairs_bound, unfolds_low, label_below}
-use Rattle.lw_top.specs.Maps.{IsCertified}
+use Rattle.lw_top.specs.Maps.{HasCertificate}
 use Rattle.lw_top.specs.Checks.{HasVerdict}
 use Rattle.lw_top.specs.Checked.{AreApart}
 use Rattle.lw_top.proofs.FormGraphs.{form_graph}
@@ -218,7 +218,7 @@ module _ (options : Options) (cells : List CellParts) (model : Parsed) (wide : I
         (nets-named (input_names model.network) (map (λ (p : PlainPort). p.name) (ports_of model.network).outputs) (root_classes options.width net g (ports_of model.network).outputs) is.is.gates room (each-of IsSignalName (input_names model.network) named.inputs)
         (subst (Each IsSignalName) (sym (port_names model.network model.network.outputs)) (each-of IsSignalName (output_names model.network) named.outputs)))
 
-    module _ (certificate : Certificate) (asked : IsCertified options cells model.network model.starts n is certificate) where
+    module _ (certificate : Certificate) (asked : HasCertificate options cells model.network model.starts n is certificate) where
       -- The certificate.
 
       label_said : (class : ℕ) (label : Micro) → slice_index_or certificate.labels class None ≡ Some label → labels_in is.is.labels class ≡ Some label.0

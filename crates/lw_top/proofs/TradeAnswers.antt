@@ -19,7 +19,7 @@ use Rattle.lw_map.specs.declared.fault.MapFault.{MapFault}
 use Rattle.lw_map.specs.declared.fault.MapFault.TheVariants as map_fault
 use Rattle.lw_map.specs.Options.{Options, IsWide, plain_options}
 use Rattle.lw_map.specs.Mapped.{output_port, plain_port, IsWithinLimits, LacksCover}
-use Rattle.lw_map.specs.Choices.{AreChoices}
+use Rattle.lw_map.specs.Choices.{AreChoicesOf}
 use Rattle.lw_map.specs.Faults.{IsTradeFault}
 use Rattle.lw_map.specs.Trading.{IsTradeable, IsTradedNetlist, HasTooManyPoints, HasFewPoints, AreEarliest}
 use Rattle.lw_map.proofs.Once.{zip_at}
@@ -115,7 +115,7 @@ framed options cells model deadline n kept fits is =
     let d = length-map model.network.outputs (name_in model.network) in
     record { inputs = omega arith; outputs = omega arith; one_start = omega arith }
 
-pub trade_given : (cells : List CellParts) (model : Parsed) (c : Choices) (deadline : Option Micro) (n : NetlistParts) → IsNetwork model.network → IsModel model → AreChoices model.network c → IsTradeable (plain_options c.options) cells model.network model.starts deadline → IsTradedNetlist (plain_options c.options) cells model.network model.starts deadline n → Gives (Trades deadline (plain_options c.options) cells model) (Ok (answer.Mapping cells n model.frame model.starts None))
+pub trade_given : (cells : List CellParts) (model : Parsed) (c : Choices) (deadline : Option Micro) (n : NetlistParts) → IsNetwork model.network → IsModel model → AreChoicesOf model.network c → IsTradeable (plain_options c.options) cells model.network model.starts deadline → IsTradedNetlist (plain_options c.options) cells model.network model.starts deadline n → Gives (Trades deadline (plain_options c.options) cells model) (Ok (answer.Mapping cells n model.frame model.starts None))
 trade_given cells model c deadline n kept fits are can is = (
   λ text files says. record { within = are.within; tradeable = can; netlist = n; traded = is; written = says },
   (is.over, framed (plain_options c.options) cells model deadline n kept fits is, tt),

@@ -15,13 +15,13 @@ use Rattle.lw_top.specs.declared.refusal.Refusal.TheVariants.{Forms, Splits, NoC
 use Rattle.lw_top.specs.Steps.{Step}
 
 -- There is a certificate where one is asked for, that of the netlist, with a place for each class and no more.
-pub record IsCertified (options : Options) (cells : List CellParts) (net : NetworkParts) (starts : List Micro) (n : NetlistParts) (is : IsMappedNetlist options cells net starts n) (certificate : Certificate) : Type 0 where
+pub record HasCertificate (options : Options) (cells : List CellParts) (net : NetworkParts) (starts : List Micro) (n : NetlistParts) (is : IsMappedNetlist options cells net starts n) (certificate : Certificate) : Type 0 where
   pub is_of : IsCertificateOf is.is certificate
   pub one_each : length certificate.labels ≡ length is.is.graph.pairs
 
 abbrev pub IsAskedFor : (options : Options) (cells : List CellParts) (net : NetworkParts) (starts : List Micro) (n : NetlistParts) → IsMappedNetlist options cells net starts n → Bool → Option Certificate → Type 0
 IsAskedFor options cells net starts n is false None = Unit {0}
-IsAskedFor options cells net starts n is true (Some certificate) = IsCertified options cells net starts n is certificate
+IsAskedFor options cells net starts n is true (Some certificate) = HasCertificate options cells net starts n is certificate
 IsAskedFor options cells net starts n is certified certificate = ⊥
 
 -- the text is that of the netlist that the model is mapped to, with its frame and its starts, and with its certificate where it is asked for

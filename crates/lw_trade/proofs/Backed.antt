@@ -6,7 +6,7 @@ use Rattle.lw_laws.specs.Covers.{latest, delays_of}
 use Rattle.lw_laws.proofs.Delays.{length-delays_of}
 use Rattle.lw_trade.specs.Areas.{most_area, area_at, total}
 use Rattle.lw_trade.specs.Backing.{Held, IsHeld, spot_in, IsBefore, IsPinOf, held_times, held_areas, IsGivenBy, IsBacked, AreBacked, IsHeldGained}
-use Rattle.lw_trade.specs.Choices.{Part, Choice, AreChoices}
+use Rattle.lw_trade.specs.Choices.{Part, Choice, AreListedChoices}
 use Rattle.lw_trade.specs.Choices.Part.{input, gate}
 use Rattle.lw_trade.specs.Points.{Task, timing}
 use Rattle.lw_trade.specs.Settling.{Spot, Has, IsSpotOf, times, areas, Gives, IsBest, IsReached}
@@ -82,7 +82,7 @@ module _ (old new : List Held) (h : Held) (gained : IsHeldGained old new h) wher
           let (js, rest, ts, as') = pins_new most ds ps ks zip (omega (arith, size)) (omega (arith, in_time)) (omega (arith, in_most)) in_area in
           (j ∷ js, (pin, rest), (λ i. (e i).time ∷ ts i), (λ i. (e i).area ∷ as' i))
 
-      given_new : (c : ℕ) (part : Part) (n t : ℕ) → AreChoices s choices → slice_get choices n ≡ Some (record { class = c; part = part }) → Gives s spots part t h.spot.area → t ≤ h.spot.time → IsGivenBy s new h part
+      given_new : (c : ℕ) (part : Part) (n t : ℕ) → AreListedChoices s choices → slice_get choices n ≡ Some (record { class = c; part = part }) → Gives s spots part t h.spot.area → t ≤ h.spot.time → IsGivenBy s new h part
       given_new c (input i) n t are at (et, ea) le = omega (arith, et, le)
       given_new c (gate cell ps) n t are at (ks, zip, et, ea) le =
           let ds = delays_of (timing s).delays cell in
@@ -90,10 +90,10 @@ module _ (old new : List Held) (h : Held) (gained : IsHeldGained old new h) wher
           let (js, rest, ts, as') = pins_new (area_at s.cells cell + total (areas ks)) ds ps ks zip size (omega (arith, et, le)) (omega arith) (omega (arith, ea)) in
           (js, rest, subst (λ xs. latest ds xs ≤ h.spot.time) (sym ts) (omega (arith, et, le)), subst (λ xs. min most_area (area_at s.cells cell + total xs) ≤ h.spot.area) (sym as') (omega (arith, ea)))
 
-      backed_new : (x : Choice) → AreChoices s choices → slice_get choices h.choice ≡ Some x → x.class ≡ h.spot.class → IsBest s spots x.part h.spot.time (Some h.spot.area) → IsBacked s choices new h
+      backed_new : (x : Choice) → AreListedChoices s choices → slice_get choices h.choice ≡ Some x → x.class ≡ h.spot.class → IsBest s spots x.part h.spot.time (Some h.spot.area) → IsBacked s choices new h
       backed_new x are at e ((t, le, gives), least) = record { by = x; listed = at; class_is = e; given = given_new x.class x.part h.choice t are at gives le }
 
-      pub backed_gained : (x : Choice) → AreChoices s choices → slice_get choices h.choice ≡ Some x → x.class ≡ h.spot.class → IsBest s spots x.part h.spot.time (Some h.spot.area) → AreBacked s choices old → AreBacked s choices new
+      pub backed_gained : (x : Choice) → AreListedChoices s choices → slice_get choices h.choice ≡ Some x → x.class ≡ h.spot.class → IsBest s spots x.part h.spot.time (Some h.spot.area) → AreBacked s choices old → AreBacked s choices new
       backed_gained x are at e best backed l has = by_case (gained.only l has)
         where
           by_case : IsHeld old l ⊎ (l ≡ h) → IsBacked s choices new l

@@ -13,7 +13,7 @@ use Rattle.lw_laws.specs.Netlists.{Gate, Netlist, IsGate, StandsFor, StandForAll
 use Rattle.lw_laws.proofs.Netlists.{net_covered}
 use Rattle.lw_trade.specs.Areas.{most_area, area_at, total, area_cost}
 use Rattle.lw_trade.specs.Backing.{Held, IsHeld, IsPinOf, held_times, held_areas, IsGivenBy, AreBacked}
-use Rattle.lw_trade.specs.Choices.{Part, Choice, AreChoices}
+use Rattle.lw_trade.specs.Choices.{Part, Choice, AreListedChoices}
 use Rattle.lw_trade.specs.Choices.Part.{gate as by_gate}
 use Rattle.lw_trade.specs.Groups.{CurveLists, HaveWays, point_in}
 use Rattle.lw_trade.specs.Points.{Task, timing, IsCoverBy, IsPoint, AreCurves}
@@ -42,7 +42,7 @@ index_right (x ∷ xs) ys (suc k) j y e at = index_right xs ys k j y (omega arit
 pub got_at : (xs : List ℕ) (i x : ℕ) → slice_get xs i ≡ Some x → slice_index_or xs i 0 ≡ x
 got_at xs i x at = same_Some (slice_index_or xs i 0) x (sym (got xs i 0 (get_in xs i x at)) ∙ at)
 
-module _ (s : Task) (choices : List Choice) (are : AreChoices s choices) (held : List Held) (backed : AreBacked s choices held) (nodes : List Held) (n : Netlist) (built : IsBuilt s choices held nodes n) where
+module _ (s : Task) (choices : List Choice) (are : AreListedChoices s choices) (held : List Held) (backed : AreBacked s choices held) (nodes : List Held) (n : Netlist) (built : IsBuilt s choices held nodes n) where
   -- what the choice of a point gives
   given : (h : Held) (c : ℕ) (part : Part) → IsHeld held h → slice_get choices h.choice ≡ Some (record { class = c; part = part }) → IsGivenBy s held h part × (c ≡ h.spot.class)
   given h c part in' at =

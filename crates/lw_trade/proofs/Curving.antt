@@ -6,7 +6,7 @@ use Rattle.lw_trade.specs.declared.point.Point.{Point}
 use Rattle.lw_trade.specs.declared.point.CurveFault.{CurveFault}
 use Rattle.lw_trade.specs.declared.point.CurveFault.TheVariants.{Limit, Memory}
 use Rattle.lw_trade.specs.Areas.{area_cost}
-use Rattle.lw_trade.specs.Choices.{Choice, AreChoices}
+use Rattle.lw_trade.specs.Choices.{Choice, AreListedChoices}
 use Rattle.lw_trade.specs.Groups.{point_of, IsRow, AreRows}
 use Rattle.lw_trade.specs.Points.{Task, ArePoints, IsCurve, AreCurves, AreTooMany, IsWhy, BoundCovers, timing, area_of}
 use Rattle.lw_trade.specs.Settling.{Spot, spot, AreApart, AreSettled, HasAtMost, HaveTooMany, IsStop, joint_cost}
@@ -15,7 +15,7 @@ use Rattle.lw_trade.proofs.Exact.{cover_had, spot_is_point, point_is_spot}
 use Rattle.lw_trade.proofs.InRange.{cost_in}
 use Rattle.lw_trade.proofs.Lists.{get_some}
 
-module _ (s : Task) (is_graph : IsGraph s.graph) (choices : List Choice) (are : AreChoices s choices) (patterns : ArePatterns (area_cost s.cells).pin_counts s.patterns) where
+module _ (s : Task) (is_graph : IsGraph s.graph) (choices : List Choice) (are : AreListedChoices s choices) (patterns : ArePatterns (area_cost s.cells).pin_counts s.patterns) where
   module _ (now : ℕ) (spots : List Spot) (settled : AreSettled s now choices spots) (apart : AreApart spots) where
     row_points : (c horizon : ℕ) (row : List Point) → now ≤ horizon → IsRow spots c row → ArePoints s c horizon row
     row_points c horizon row le is = record {
@@ -63,6 +63,6 @@ pub err_is : {T : Type 0} (P : CurveFault → Type 0) (r : Result T CurveFault) 
 err_is P (Ok x) e same p = tt
 err_is P (Err f) e same p = subst P (sym same) p
 
-pub why_stopped : (s : Task) → IsGraph s.graph → (choices : List Choice) → AreChoices s choices → ArePatterns (area_cost s.cells).pin_counts s.patterns → (horizon : ℕ) (fault : CurveFault) → IsStop s choices horizon fault → IsWhy s horizon fault
+pub why_stopped : (s : Task) → IsGraph s.graph → (choices : List Choice) → AreListedChoices s choices → ArePatterns (area_cost s.cells).pin_counts s.patterns → (horizon : ℕ) (fault : CurveFault) → IsStop s choices horizon fault → IsWhy s horizon fault
 why_stopped s is_graph choices are patterns horizon Limit have = too_many s is_graph choices are patterns horizon have
 why_stopped s is_graph choices are patterns horizon Memory have = tt

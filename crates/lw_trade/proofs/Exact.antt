@@ -14,7 +14,7 @@ use Rattle.lw_laws.proofs.Delays.{length-delays_of}
 use Rattle.lw_trade.specs.declared.point.Point.{Point}
 use Rattle.lw_trade.specs.Areas.{most_area, area_at, total, area_cost}
 use Rattle.lw_trade.specs.Points.{Task, timing, IsCoverBy, area_of, IsLeastAreaBy, IsPoint}
-use Rattle.lw_trade.specs.Choices.{Choice, AreChoices}
+use Rattle.lw_trade.specs.Choices.{Choice, AreListedChoices}
 use Rattle.lw_trade.specs.Choices.Part.{input, gate}
 use Rattle.lw_trade.specs.Settling.{Spot, spot, Has, HasAtMost, AreApart, IsSpotOf, times, areas, time_in, area_in, joint_cost, IsReached, AreSettled}
 use Rattle.lw_graph.specs.Graphs.{IsGraph}
@@ -25,7 +25,7 @@ use Rattle.lw_trade.proofs.Joint.{joint_time, joint_area, joint_cover_time, join
 pub spot_same : (l : Spot) (c t a : ℕ) → l.class ≡ c → l.time ≡ t → l.area ≡ a → l ≡ spot c t a
 spot_same l c t a e f g = λ i. record { class = e i; time = f i; area = g i }
 
-module _ (s : Task) (is_graph : IsGraph s.graph) (choices : List Choice) (are : AreChoices s choices) (now : ℕ) (spots : List Spot) (settled : AreSettled s now choices spots) where
+module _ (s : Task) (is_graph : IsGraph s.graph) (choices : List Choice) (are : AreListedChoices s choices) (now : ℕ) (spots : List Spot) (settled : AreSettled s now choices spots) where
   -- points for pins, of no greater times and areas
   abbrev Below : List ℕ → List ℕ → List ℕ → Type 0
   Below ds ps es =

@@ -3,13 +3,13 @@ use Rattle.std.proofs.Common.{◌≡◌, ℕ, zero, suc, ◌+◌, ◌<◌, ◌�
 use native.Mathlib.Nat.{eq-or-lt_of_le}
 use Rattle.std.proofs.lemmas.Option.{same_Some}
 use Rattle.lw_laws.specs.Covers.{Pattern}
-use Rattle.lw_laws.specs.Extracts.{Match, MatchesAt}
-use Rattle.lw_match.specs.Coming.{AreMatches, IsMatch}
+use Rattle.lw_laws.specs.Extracts.{Match, IsMatchOf}
+use Rattle.lw_match.specs.Coming.{AreMatches, IsPatternMatch}
 use Rattle.lw_match.specs.Least.{AreOfCells}
 use Rattle.lw_match.proofs.CellMatches.{of_cell, of_pattern}
 use Rattle.lw_trade.specs.declared.choices.Row.{Row}
 use Rattle.lw_trade.specs.Areas.{area_cost}
-use Rattle.lw_trade.specs.Choices.{Part, Choice, MayStand, AreChoices}
+use Rattle.lw_trade.specs.Choices.{Part, Choice, MayStand, AreListedChoices}
 use Rattle.lw_trade.specs.Choices.Part.{input, gate}
 use Rattle.lw_trade.specs.Points.{Task}
 use Rattle.lw_trade.specs.Rows.{plain_row, plain_rows, IsAmong, IsListing}
@@ -69,8 +69,8 @@ module _ (s : Task) where
     pub within : (n : ℕ) (x : Choice) → slice_get xs n ≡ Some x → x.class < length s.graph.pairs
     pub inputs_are : (i d : ℕ) → i < inputs → slice_get s.graph.leaves i ≡ Some d → IsAmong xs d (input i)
     pub gates_are : (d cell : ℕ) (ps : List ℕ) → d < c → MayStand s d (gate cell ps) → IsAmong xs d (gate cell ps)
-    pub coming : (m : Match) → Contains left m → IsMatch s.graph s.patterns c m
-    pub here : (m : Match) (p : Pattern) → MatchesAt s.graph (area_cost s.cells) s.patterns c m p → Contains left m ⊎ IsAmong xs c (gate p.cell m.pins)
+    pub coming : (m : Match) → Contains left m → IsPatternMatch s.graph s.patterns c m
+    pub here : (m : Match) (p : Pattern) → IsMatchOf s.graph (area_cost s.cells) s.patterns c m p → Contains left m ⊎ IsAmong xs c (gate p.cell m.pins)
 
   module _ (of_cells : AreOfCells (area_cost s.cells).pin_counts s.patterns) (inputs c : ℕ) where
     pub listing_start : (ms : List Match) (xs : List Choice) → AreMatches s.graph s.patterns c ms → IsListing s inputs c xs → IsListingAt inputs c ms xs
@@ -83,7 +83,7 @@ module _ (s : Task) where
       here = λ m p at. inl ((are.each m).1 (of_pattern s.graph (area_cost s.cells) s.patterns c m of_cells (p, at)));
     }
 
-    may_stand : (m : Match) (p : Pattern) → MatchesAt s.graph (area_cost s.cells) s.patterns c m p → MayStand s c (gate p.cell m.pins)
+    may_stand : (m : Match) (p : Pattern) → IsMatchOf s.graph (area_cost s.cells) s.patterns c m p → MayStand s c (gate p.cell m.pins)
     may_stand m p at = record { pattern = p; listed = at_contained s.patterns m.pattern p at.listed; cell_is = refl; pins = at.pins; stands = at.stands }
 
     pub listing_next : (m : Match) (left : List Match) (xs : List Choice) (p : Pattern) → c < length s.graph.pairs → slice_get s.patterns m.pattern ≡ Some p → IsListingAt inputs c (m ∷ left) xs → IsListingAt inputs c left (xs ++ (record { class = c; part = gate p.cell m.pins }) ∷ [])
@@ -108,7 +108,7 @@ module _ (s : Task) where
             let same : q ≡ p = same_Some q p (sym at.listed ∙ listed) in
             subst (λ (r : Pattern). MayStand s c (gate r.cell m.pins)) same (may_stand m q at)
 
-        by_case : (n : Match) (q : Pattern) → MatchesAt s.graph (area_cost s.cells) s.patterns c n q → Contains (m ∷ left) n ⊎ IsAmong xs c (gate q.cell n.pins) → Contains left n ⊎ IsAmong (xs ++ new ∷ []) c (gate q.cell n.pins)
+        by_case : (n : Match) (q : Pattern) → IsMatchOf s.graph (area_cost s.cells) s.patterns c n q → Contains (m ∷ left) n ⊎ IsAmong xs c (gate q.cell n.pins) → Contains left n ⊎ IsAmong (xs ++ new ∷ []) c (gate q.cell n.pins)
         by_case n q at (inl (zero, lt, e)) =
             let same : q ≡ p = same_Some q p (sym at.listed ∙ (ap (λ (k : Match). slice_get s.patterns k.pattern) (sym e) ∙ listed)) in
             inr (length xs, get_last xs new ∙ ap Some (λ j. record { class = c; part = gate (sym same j).cell (e j).pins }))
@@ -140,7 +140,7 @@ module _ (s : Task) where
         by_place d cell ps may (inl same) = subst (λ k. IsAmong xs k (gate cell ps)) (sym same) (here cell ps (subst (λ k. MayStand s k (gate cell ps)) same may))
         by_place d cell ps may (inr lt) = is.gates_are d cell ps lt may
 
-  pub all_choices : (xs : List Choice) → IsListing s (length s.graph.leaves) (length s.graph.pairs) xs → AreChoices s xs
+  pub all_choices : (xs : List Choice) → IsListing s (length s.graph.leaves) (length s.graph.pairs) xs → AreListedChoices s xs
   all_choices xs is = record { each = is.each; within = is.within; all = λ c part lt may. among c part lt may }
     where
       among : (c : ℕ) (part : Part) → c < length s.graph.pairs → MayStand s c part → IsAmong xs c part

@@ -12,7 +12,7 @@ use Rattle.lw_match.proofs.Branches.{flip_below}
 use Rattle.lw_trade.specs.declared.choices.Row.{Row}
 use Rattle.lw_trade.specs.declared.uses.Uses.{Uses}
 use Rattle.lw_trade.specs.Areas.{area_cost}
-use Rattle.lw_trade.specs.Choices.{Part, MayStand, AreChoices}
+use Rattle.lw_trade.specs.Choices.{Part, MayStand, AreListedChoices}
 use Rattle.lw_trade.specs.Choices.Part.{input, gate}
 use Rattle.lw_trade.specs.Points.{Task}
 use Rattle.lw_trade.specs.Pricing.{IsWithin, IsOfLibrary}
@@ -65,7 +65,7 @@ module _ (s : Task) (is_graph : IsGraph s.graph) (of_cells : AreOfCells (area_co
   part_of_library c (input i) may = tt
   part_of_library c (gate cell ps) may = may.pins
 
-  module _ (rows : List Row) (are : AreChoices s (plain_rows rows)) where
+  module _ (rows : List Row) (are : AreListedChoices s (plain_rows rows)) where
     listed : (k : ℕ) (d : Row) → k < length rows → slice_get (plain_rows rows) k ≡ Some (plain_row (slice_index_or rows k d))
     listed k d lt = slice_get-map plain_row rows k ∙ ap (option_map plain_row) (got rows k d lt)
 

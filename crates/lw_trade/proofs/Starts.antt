@@ -10,7 +10,7 @@ use Rattle.lw_laws.specs.Covers.{latest, start_of, delays_of}
 use Rattle.lw_genlib.specs.Tables.{millionths}
 use Rattle.lw_trade.specs.declared.choices.Row.{Row}
 use Rattle.lw_trade.specs.declared.uses.Uses.{Uses}
-use Rattle.lw_trade.specs.Choices.{Choice, AreChoices}
+use Rattle.lw_trade.specs.Choices.{Choice, AreListedChoices}
 use Rattle.lw_trade.specs.Choices.Part.{input, gate}
 use Rattle.lw_trade.specs.Points.{Task, timing}
 use Rattle.lw_trade.specs.Rows.{plain_row, plain_rows}
@@ -56,7 +56,7 @@ started_next starts rows n r q q' at same is are = record {
         let y : x ≡ plain_row r = same_Some x (plain_row r) (sym xt ∙ (ap (slice_get (plain_rows rows)) f ∙ at)) in
         subst (λ k. Waits q' t k) (sym f) (is.here s t a e (subst (λ (z : Choice). Gives s [] z.part t a) y gives) le)
 
-pub started_all : (s : Task) (rows : List Row) (n : ℕ) (q : Queued) → n ≡ length rows → AreStarted s.starts rows n q → AreChoices s (plain_rows rows) → AreFirst s (plain_rows rows) q
+pub started_all : (s : Task) (rows : List Row) (n : ℕ) (q : Queued) → n ≡ length rows → AreStarted s.starts rows n q → AreListedChoices s (plain_rows rows) → AreFirst s (plain_rows rows) q
 started_all s rows n q e are choices = record {
   are = choices;
   low = λ t m w. let l = are.waiting t m w in omega (arith, l, e, length-map rows plain_row);

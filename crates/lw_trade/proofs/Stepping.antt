@@ -11,7 +11,7 @@ use Rattle.lw_laws.specs.Matches.{choices_of}
 use Rattle.lw_laws.proofs.Delays.{length-delays_of}
 use Rattle.lw_trade.specs.Areas.{most_area, area_at, total, area_cost}
 use Rattle.lw_trade.specs.Points.{Task, timing}
-use Rattle.lw_trade.specs.Choices.{Part, Choice, AreChoices, MayStand, HasPinAt, delay_at}
+use Rattle.lw_trade.specs.Choices.{Part, Choice, AreListedChoices, MayStand, HasPinAt, delay_at}
 use Rattle.lw_trade.specs.Choices.Part.{input, gate}
 use Rattle.lw_trade.specs.Queues.{Item, IsTaken}
 use Rattle.lw_trade.specs.Settling.{Spot, spot, Has, HasAtMost, IsSpotOf, times, areas, Gives, IsBest, joint, time_in, area_in, joint_cost, IsReached, Queued, Waits, Turns, turns, Comes, IsSettling, IsStill, IsGained, IsGaining, GivesNoMore, GivesNoMoreSeen, IsGroupLookedAt, AreSettled}
@@ -149,7 +149,7 @@ module _ (s : Task) (choices : List Choice) (now n : ℕ) (spots : List Spot) (w
       by_case t m (inr (e, f)) = inr (e, λ y a yt g. inl (more y a (ap (slice_get choices) (sym f) ∙ yt) g))
 
   -- it gives a point
-  pub taken_gained : (x : Choice) → slice_get choices n ≡ Some x → AreChoices s choices → (best : ℕ) (after : List Spot) → IsBest s spots x.part now (Some best) → IsGained spots after (spot x.class now best) → IsGaining s choices now w.coming.horizon x.class after (Comes next)
+  pub taken_gained : (x : Choice) → slice_get choices n ≡ Some x → AreListedChoices s choices → (best : ℕ) (after : List Spot) → IsBest s spots x.part now (Some best) → IsGained spots after (spot x.class now best) → IsGaining s choices now w.coming.horizon x.class after (Comes next)
   taken_gained x at are best after ((t, le, gives), least) gained = record {
     old = spots;
     area = best;
@@ -258,7 +258,7 @@ zip_split old new k only (p ∷ ps) (l ∷ ks) ((has, e), zip) = by_case (only l
     by_case (inl h) (inr (j, at)) = inr (suc j, at)
     by_case (inr same) rest = inr (0, ap Some same)
 
-module _ (s : Task) (choices : List Choice) (are : AreChoices s choices) (now horizon class : ℕ) (next : List Spot) (comes comes' : ℕ → ℕ → Type 0) (gaining : IsGaining s choices now horizon class next comes) (more : (t n : ℕ) → comes t n → comes' t n) (added : (n j : ℕ) (x : Choice) → slice_get choices n ≡ Some x → HasPinAt x.part j class → now + delay_at s x.part j ≤ horizon → comes' (now + delay_at s x.part j) n) where
+module _ (s : Task) (choices : List Choice) (are : AreListedChoices s choices) (now horizon class : ℕ) (next : List Spot) (comes comes' : ℕ → ℕ → Type 0) (gaining : IsGaining s choices now horizon class next comes) (more : (t n : ℕ) → comes t n → comes' t n) (added : (n j : ℕ) (x : Choice) → slice_get choices n ≡ Some x → HasPinAt x.part j class → now + delay_at s x.part j ≤ horizon → comes' (now + delay_at s x.part j) n) where
   abbrev Old : List Spot
   Old = gaining.old
 

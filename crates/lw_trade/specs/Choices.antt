@@ -20,7 +20,7 @@ MayStand s c (input i) = slice_get s.graph.leaves i ≡ Some c
 MayStand s c (gate cell ps) = IsMatchAt s.graph (area_cost s.cells).pin_counts s.patterns c cell ps
 
 -- each that may stand at a class of the graph, and no other
-pub record AreChoices (s : Task) (choices : List Choice) : Type 0 where
+pub record AreListedChoices (s : Task) (choices : List Choice) : Type 0 where
   pub each : (n : ℕ) (x : Choice) → slice_get choices n ≡ Some x → MayStand s x.class x.part
   pub within : (n : ℕ) (x : Choice) → slice_get choices n ≡ Some x → x.class < length s.graph.pairs
   pub all : (c : ℕ) (part : Part) → c < length s.graph.pairs → MayStand s c part → (n : ℕ) × (slice_get choices n ≡ Some (record { class = c; part = part }))

@@ -3,7 +3,7 @@ use Rattle.std.specs.Prelude.{ℕ, ◌+◌, ◌-◌, ◌<◌, ◌≤◌, ◌≡�
 use Rattle.lw_trade.specs.declared.found.Way.{Way}
 use Rattle.lw_trade.specs.declared.point.Point.{Point}
 use Rattle.lw_trade.specs.Backing.{Held, IsHeld, AreBacked}
-use Rattle.lw_trade.specs.Choices.{Choice, AreChoices}
+use Rattle.lw_trade.specs.Choices.{Choice, AreListedChoices}
 use Rattle.lw_trade.specs.Lasts.{ArePointsRising}
 use Rattle.lw_trade.specs.Points.{Task}
 use Rattle.lw_trade.specs.Settling.{Spot, spot, Has}
@@ -89,7 +89,7 @@ pub record AreRowsOf (held : List Held) (count : ℕ) (curves : CurveLists) : Ty
 
 -- Each point has a choice that gives it its area, by points of its pins that come before it.
 pub record HaveWays (s : Task) (curves : CurveLists) : Type 0 where
-  pub choices : AreChoices s curves.choices
+  pub choices : AreListedChoices s curves.choices
   pub held : List Held
   pub rows : AreRowsOf held (length s.graph.pairs) curves
   pub backed : AreBacked s curves.choices held

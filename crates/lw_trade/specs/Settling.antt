@@ -11,7 +11,7 @@ use Rattle.lw_trade.specs.Areas.{area_cost, most_area, area_at, total}
 use Rattle.lw_trade.specs.Points.{Task, timing, most_points}
 use Rattle.lw_trade.specs.declared.point.CurveFault.{CurveFault}
 use Rattle.lw_trade.specs.declared.point.CurveFault.TheVariants.{Limit, Memory}
-use Rattle.lw_trade.specs.Choices.{Part, Choice, HasPinAt, delay_at, AreChoices}
+use Rattle.lw_trade.specs.Choices.{Part, Choice, HasPinAt, delay_at, AreListedChoices}
 use Rattle.lw_trade.specs.Choices.Part.{input, gate}
 
 -- a point of a class
@@ -183,7 +183,7 @@ pub record AreInTime (now choices : ℕ) (w : Turns) : Type 0 where
 -- the choices are those of the task, and all is kept
 abbrev pub IsStillFor : Task → List Choice → ℕ → List Spot → Turns → Type 0
 IsStillFor s choices now spots w =
-    AreChoices s choices × AreInTime now (length choices) w × IsStill s choices now w.coming.horizon spots (Comes w)
+    AreListedChoices s choices × AreInTime now (length choices) w × IsStill s choices now w.coming.horizon spots (Comes w)
 
 -- none waits or comes up to now
 abbrev pub NoneComes : ℕ → Turns → Type 0
@@ -194,7 +194,7 @@ NoneComes now w =
 abbrev pub IsAfter : Task → List Choice → ℕ → List Spot → Turns → Option ClassId → Type 0
 IsAfter s choices now spots w None = IsStillFor s choices now spots w × NoneComes now w
 IsAfter s choices now spots w (Some class) =
-    AreChoices s choices × AreInTime now (length choices) w × IsGaining s choices now w.coming.horizon class.0 spots (Comes w)
+    AreListedChoices s choices × AreInTime now (length choices) w × IsGaining s choices now w.coming.horizon class.0 spots (Comes w)
 
 -- a choice waits too, unless the time is past the horizon
 pub record IsLetWait (old new : Queued) (time n : ℕ) : Type 0 where
@@ -211,7 +211,7 @@ pub record IsStarted (starts : List Micro) (part : Part) (old new : Queued) (n :
 
 -- those choices wait that give points without points of pins
 pub record AreFirst (s : Task) (choices : List Choice) (q : Queued) : Type 0 where
-  pub are : AreChoices s choices
+  pub are : AreListedChoices s choices
   pub low : (t n : ℕ) → Waits q t n → n < length choices
   pub given : (n t a : ℕ) (x : Choice) → slice_get choices n ≡ Some x → Gives s [] x.part t a → t ≤ q.horizon → Waits q t n
 

@@ -3,7 +3,7 @@ ghost use Rattle.lw_match.specs.Least.{AreOfCells};
 ghost use Rattle.lw_genlib.specs.Cells.{CellParts};
 ghost use Rattle.lw_fixed.specs.declared.micro.Micro.{Micro as MicroOf};
 ghost use Rattle.lw_trade.specs.Areas.{area_cost};
-ghost use Rattle.lw_trade.specs.Choices.{AreChoices};
+ghost use Rattle.lw_trade.specs.Choices.{AreListedChoices};
 ghost use Rattle.lw_trade.specs.Points.{task};
 ghost use Rattle.lw_trade.specs.Rows.{IsListing, plain_rows};
 
@@ -92,7 +92,7 @@ pub(crate) fn list_choices(
     ensures few { IfOk result (λ rows. length rows.items < 4294967296) }
     ensures choices { IfOk result (λ rows. (cells : List CellParts) (starts : List MicroOf) →
         AreOfCells (area_cost cells).pin_counts pats.now →
-        AreChoices (task graph.now pats.now cells starts) (plain_rows rows.items)) }
+        AreListedChoices (task graph.now pats.now cells starts) (plain_rows rows.items)) }
 {
     let mut rows = Vec::new(alloc);
     list_inputs(graph, &mut rows)?;

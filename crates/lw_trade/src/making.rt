@@ -4,7 +4,7 @@ ghost use Rattle.lw_laws.specs.Graphs.{Graph as PlainGraph};
 ghost use Rattle.lw_match.specs.Least.{AreOfCells};
 ghost use Rattle.lw_trade.specs.Areas.{area_cost};
 ghost use Rattle.lw_trade.specs.Backing.{AreBacked};
-ghost use Rattle.lw_trade.specs.Choices.{AreChoices};
+ghost use Rattle.lw_trade.specs.Choices.{AreListedChoices};
 ghost use Rattle.lw_trade.specs.Groups.{HaveWays};
 ghost use Rattle.lw_trade.specs.Points.{AreCurves, BoundCovers, IsWhy, most_points, point_count, task};
 ghost use Rattle.lw_trade.specs.Pricing.{IsOfLibrary, IsWithin};
@@ -41,17 +41,17 @@ fn settle_rows(
     requires of_library { All (λ (r : Row). IsOfLibrary lib.now (plain_part r.stand)) rows.now }
     requires classes { All (λ (r : Row). r.class.0 < classes) rows.now }
     requires choices { (g : PlainGraph) × (pats : List TreeOfCell) ×
-        AreChoices (task g pats lib.now starts.now) (plain_rows rows.now) }
+        AreListedChoices (task g pats lib.now starts.now) (plain_rows rows.now) }
     ensures count { IfOk result (λ fronts. classes ≡ length fronts.least) }
     ensures few { IfOk result (λ fronts. length fronts.spots ≤ most_points) }
     ensures settled { IfOk result (λ fronts. (g : PlainGraph) (pats : List TreeOfCell) →
-        AreChoices (task g pats lib.now starts.now) (plain_rows rows.now) →
+        AreListedChoices (task g pats lib.now starts.now) (plain_rows rows.now) →
         AreSettled (task g pats lib.now starts.now) horizon (plain_rows rows.now) fronts.spots) }
     ensures backed { IfOk result (λ fronts. (g : PlainGraph) (pats : List TreeOfCell) →
-        AreChoices (task g pats lib.now starts.now) (plain_rows rows.now) →
+        AreListedChoices (task g pats lib.now starts.now) (plain_rows rows.now) →
         AreBacked (task g pats lib.now starts.now) (plain_rows rows.now) fronts.held) }
     ensures stop { IfErr result (λ fault. (g : PlainGraph) (pats : List TreeOfCell) →
-        AreChoices (task g pats lib.now starts.now) (plain_rows rows.now) →
+        AreListedChoices (task g pats lib.now starts.now) (plain_rows rows.now) →
         IsStop (task g pats lib.now starts.now) (plain_rows rows.now) horizon fault) }
 {
     let _ = lib.len();

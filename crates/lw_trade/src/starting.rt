@@ -3,7 +3,7 @@ ghost use Rattle.lw_fixed.specs.declared.micro.Micro.{Micro as MicroOf};
 ghost use Rattle.lw_genlib.specs.Cells.{CellParts};
 ghost use Rattle.lw_laws.specs.Covers.{Pattern as TreeOfCell};
 ghost use Rattle.lw_laws.specs.Graphs.{Graph as PlainGraph};
-ghost use Rattle.lw_trade.specs.Choices.{AreChoices};
+ghost use Rattle.lw_trade.specs.Choices.{AreListedChoices};
 ghost use Rattle.lw_trade.specs.Points.{Task, task};
 ghost use Rattle.lw_trade.specs.Rows.{plain_part, plain_rows};
 ghost use Rattle.lw_trade.specs.Settling.{Gives, IsStarted, AreFirst};
@@ -54,7 +54,7 @@ pub(crate) fn push_starts(
     requires none { queue.old.items ≡ [] }
     ensures horizon { queue.new.horizon ≡ queue.old.horizon }
     ensures still { OnOk result ((g : PlainGraph) (pats : List TreeOfCell) (cells : List CellParts)
-        → AreChoices (task g pats cells starts.now) (plain_rows rows.now) →
+        → AreListedChoices (task g pats cells starts.now) (plain_rows rows.now) →
         AreFirst (task g pats cells starts.now) (plain_rows rows.now) queue.new) }
 {
     for (number, row) in rows.iter().enumerate() {

@@ -3,7 +3,7 @@ use Rattle.std.specs.Result.{IfOk}
 use Rattle.std.proofs.lemmas.List.Elements.{All-same}
 use Rattle.std.proofs.lemmas.Result.{IfOk-weaker}
 use Rattle.lw_extract.specs.declared.choosing.Chosen.{Chosen}
-use Rattle.lw_extract.specs.Covers.{IsCoverOf, CostTheirLabels}
+use Rattle.lw_extract.specs.Covers.{IsExtractedCover, CostTheirLabels}
 use Rattle.lw_extract.proofs.Arriving.{cost_their_labels}
 use Rattle.lw_extract.proofs.Assembly.{classes_within, few_chosen}
 use Rattle.lw_extract.proofs.extracting.cover.Goals as goal
@@ -24,7 +24,7 @@ add_gates-requires-clause-in_range g c =
 pub returns-clause-costs : goal.returns-clause-costs
 returns-clause-costs g c =
     let cost = g.C.Cost.costs c.args.cost.now in
-    let covers : IfOk c.assemble.result (IsCoverOf c.args.graph.now cost c.args.pats.now c.args.marks.now c.args.ports.now) = search rules in
-    IfOk-weaker c.assemble.result (IsCoverOf c.args.graph.now cost c.args.pats.now c.args.marks.now c.args.ports.now) (CostTheirLabels c.args.graph.now cost c.args.marks.now)
+    let covers : IfOk c.assemble.result (IsExtractedCover c.args.graph.now cost c.args.pats.now c.args.marks.now c.args.ports.now) = search rules in
+    IfOk-weaker c.assemble.result (IsExtractedCover c.args.graph.now cost c.args.pats.now c.args.marks.now c.args.ports.now) (CostTheirLabels c.args.graph.now cost c.args.marks.now)
     (λ cover is. cost_their_labels c.args.graph.now cost c.args.pats.now c.args.marks.now c.requires.leaves c.args.ports.now cover is)
     covers

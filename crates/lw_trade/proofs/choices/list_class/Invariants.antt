@@ -1,7 +1,7 @@
 use Rattle.std.proofs.Common.{List, Contains, length}
 use Rattle.lw_fixed.specs.declared.micro.Micro.{Micro}
 use Rattle.lw_genlib.specs.Cells.{CellParts}
-use Rattle.lw_match.specs.Coming.{FitsGraph, IsMatch, still_to_come}
+use Rattle.lw_match.specs.Coming.{FitsGraph, IsPatternMatch, still_to_come}
 use Rattle.lw_laws.specs.Extracts.{Match}
 use Rattle.lw_match.specs.Least.{AreOfCells}
 use Rattle.lw_trade.specs.Areas.{area_cost}
@@ -13,7 +13,7 @@ use Rattle.lw_trade.proofs.choices.list_class.Given as goal
 abbrev pub invariant-loop-found : goal.invariant-loop-found
 invariant-loop-found l = record {
   fits : FitsGraph l.cursor l.graph;
-  coming : (m : Match) → Contains (still_to_come l.cursor l.graph l.pats) m → IsMatch l.graph l.pats l.class.0 m;
+  coming : (m : Match) → Contains (still_to_come l.cursor l.graph l.pats) m → IsPatternMatch l.graph l.pats l.class.0 m;
   listing : (cells : List CellParts) (starts : List Micro) → AreOfCells (area_cost cells).pin_counts l.pats → IsListing (task l.graph l.pats cells starts) (length l.graph.leaves) l.class.0 (plain_rows l.initial.rows.items) → IsListingAt (task l.graph l.pats cells starts) (length l.graph.leaves) l.class.0 (still_to_come l.cursor l.graph l.pats) (plain_rows l.rows.items);
 }
 

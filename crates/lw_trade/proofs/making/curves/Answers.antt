@@ -2,7 +2,7 @@ use Rattle.std.proofs.Common.{◌<◌, All, sym, subst, subst₂, arith}
 use Rattle.lw_trade.specs.declared.choices.Row.{Row}
 use Rattle.lw_trade.specs.Areas.{area_cost}
 use Rattle.lw_trade.specs.Backing.{AreBacked}
-use Rattle.lw_trade.specs.Choices.{AreChoices}
+use Rattle.lw_trade.specs.Choices.{AreListedChoices}
 use Rattle.lw_trade.specs.Groups.{AreRows, AreRowsOf, HaveWays}
 use Rattle.lw_trade.specs.Points.{AreCurves, BoundCovers, IsWhy, task}
 use Rattle.lw_trade.specs.Pricing.{IsWithin}
@@ -17,29 +17,29 @@ use Rattle.lw_trade.proofs.making.curves.Goals as goal
 pub settle_rows-requires-clause-within : goal.settle_rows-requires-clause-within
 settle_rows-requires-clause-within c =
     let s = task c.args.graph.now c.args.pats.now c.args.lib.now c.args.starts.now in
-    let are = subst (λ rows. AreChoices s (plain_rows rows)) (sym c.deref.ensures.value) (c.in_ok-rows.ensures.choices c.args.lib.now c.args.starts.now c.requires.of_cells) in
+    let are = subst (λ rows. AreListedChoices s (plain_rows rows)) (sym c.deref.ensures.value) (c.in_ok-rows.ensures.choices c.args.lib.now c.args.starts.now c.requires.of_cells) in
     subst (λ n. All (λ (r : Row). IsWithin n (plain_part r.stand)) c.deref.result.now) (sym c.classes-classes.ensures.classes) (rows_within s c.classes-classes.ensures.kept c.requires.of_cells c.deref.result.now are)
 
 pub settle_rows-requires-clause-of_library : goal.settle_rows-requires-clause-of_library
 settle_rows-requires-clause-of_library c =
     let s = task c.args.graph.now c.args.pats.now c.args.lib.now c.args.starts.now in
-    let are = subst (λ rows. AreChoices s (plain_rows rows)) (sym c.deref.ensures.value) (c.in_ok-rows.ensures.choices c.args.lib.now c.args.starts.now c.requires.of_cells) in
+    let are = subst (λ rows. AreListedChoices s (plain_rows rows)) (sym c.deref.ensures.value) (c.in_ok-rows.ensures.choices c.args.lib.now c.args.starts.now c.requires.of_cells) in
     rows_of_library s c.classes-classes.ensures.kept c.requires.of_cells c.deref.result.now are
 
 pub settle_rows-requires-clause-classes : goal.settle_rows-requires-clause-classes
 settle_rows-requires-clause-classes c =
     let s = task c.args.graph.now c.args.pats.now c.args.lib.now c.args.starts.now in
-    let are = subst (λ rows. AreChoices s (plain_rows rows)) (sym c.deref.ensures.value) (c.in_ok-rows.ensures.choices c.args.lib.now c.args.starts.now c.requires.of_cells) in
+    let are = subst (λ rows. AreListedChoices s (plain_rows rows)) (sym c.deref.ensures.value) (c.in_ok-rows.ensures.choices c.args.lib.now c.args.starts.now c.requires.of_cells) in
     subst (λ n. All (λ (r : Row). r.class.0 < n) c.deref.result.now) (sym c.classes-classes.ensures.classes) (rows_classes s c.classes-classes.ensures.kept c.requires.of_cells c.deref.result.now are)
 
 pub settle_rows-requires-clause-choices : goal.settle_rows-requires-clause-choices
 settle_rows-requires-clause-choices c =
-    (c.args.graph.now, c.args.pats.now, subst (λ rows. AreChoices (task c.args.graph.now c.args.pats.now c.args.lib.now c.as_slice-starts.result.now) (plain_rows rows)) (sym c.deref.ensures.value) (c.in_ok-rows.ensures.choices c.args.lib.now c.as_slice-starts.result.now c.requires.of_cells))
+    (c.args.graph.now, c.args.pats.now, subst (λ rows. AreListedChoices (task c.args.graph.now c.args.pats.now c.args.lib.now c.as_slice-starts.result.now) (plain_rows rows)) (sym c.deref.ensures.value) (c.in_ok-rows.ensures.choices c.args.lib.now c.as_slice-starts.result.now c.requires.of_cells))
 
 pub returns-in_err-fronts-clause-why : goal.returns-in_err-fronts-clause-why
 returns-in_err-fronts-clause-why c =
     let s = task c.args.graph.now c.args.pats.now c.args.lib.now c.as_slice-starts.result.now in
-    let are = subst (λ rows. AreChoices s (plain_rows rows)) (sym c.deref.ensures.value) (c.in_ok-rows.ensures.choices c.args.lib.now c.as_slice-starts.result.now c.requires.of_cells) in
+    let are = subst (λ rows. AreListedChoices s (plain_rows rows)) (sym c.deref.ensures.value) (c.in_ok-rows.ensures.choices c.args.lib.now c.as_slice-starts.result.now c.requires.of_cells) in
     let stop = c.in_err-fronts.ensures.stop c.args.graph.now c.args.pats.now are in
     let why = why_stopped s c.classes-classes.ensures.kept (plain_rows c.deref.result.now) are (patterns_of_cells (area_cost c.args.lib.now).pin_counts c.args.pats.now c.requires.of_cells) c.args.horizon.0 c.in_err-fronts.field-0.0 stop in
     let why' = subst (λ starts. IsWhy (task c.args.graph.now c.args.pats.now c.args.lib.now starts) c.args.horizon.0 c.in_err-fronts.field-0.0) c.as_slice-starts.ensures why in
@@ -49,7 +49,7 @@ pub returns-clause-curves : goal.returns-clause-curves
 returns-clause-curves c =
     let s = task c.args.graph.now c.args.pats.now c.args.lib.now c.as_slice-starts.result.now in
     let n = c.classes-classes.result in
-    let are = subst (λ rows. AreChoices s (plain_rows rows)) (sym c.deref.ensures.value) (c.in_ok-rows.ensures.choices c.args.lib.now c.as_slice-starts.result.now c.requires.of_cells) in
+    let are = subst (λ rows. AreListedChoices s (plain_rows rows)) (sym c.deref.ensures.value) (c.in_ok-rows.ensures.choices c.args.lib.now c.as_slice-starts.result.now c.requires.of_cells) in
     let settled = c.in_ok-fronts.ensures.settled c.args.graph.now c.args.pats.now are in
     let rows = c.in_ok-curves.ensures.rows in
     let shown = rows_shown c.in_ok-fronts.fronts.held n 0 rows.rows rows.are in
@@ -61,7 +61,7 @@ pub returns-clause-bound : goal.returns-clause-bound
 returns-clause-bound c =
     let s = task c.args.graph.now c.args.pats.now c.args.lib.now c.as_slice-starts.result.now in
     let n = c.classes-classes.result in
-    let are = subst (λ rows. AreChoices s (plain_rows rows)) (sym c.deref.ensures.value) (c.in_ok-rows.ensures.choices c.args.lib.now c.as_slice-starts.result.now c.requires.of_cells) in
+    let are = subst (λ rows. AreListedChoices s (plain_rows rows)) (sym c.deref.ensures.value) (c.in_ok-rows.ensures.choices c.args.lib.now c.as_slice-starts.result.now c.requires.of_cells) in
     let settled = c.in_ok-fronts.ensures.settled c.args.graph.now c.args.pats.now are in
     let rows = c.in_ok-curves.ensures.rows in
     let shown = rows_shown c.in_ok-fronts.fronts.held n 0 rows.rows rows.are in
@@ -73,11 +73,11 @@ pub returns-clause-ways : goal.returns-clause-ways
 returns-clause-ways c =
     let s = task c.args.graph.now c.args.pats.now c.args.lib.now c.as_slice-starts.result.now in
     let are = c.in_ok-rows.ensures.choices c.args.lib.now c.as_slice-starts.result.now c.requires.of_cells in
-    let are' = subst (λ rows. AreChoices s (plain_rows rows)) (sym c.deref.ensures.value) are in
+    let are' = subst (λ rows. AreListedChoices s (plain_rows rows)) (sym c.deref.ensures.value) are in
     let backed = c.in_ok-fronts.ensures.backed c.args.graph.now c.args.pats.now are' in
     let backed' = subst (λ rows. AreBacked s (plain_rows rows) c.in_ok-fronts.fronts.held) c.deref.ensures.value backed in
     let have : HaveWays s c.in_ok-curves.curves = record {
-      choices = subst (AreChoices s) (sym c.in_ok-curves.ensures.choices) are;
+      choices = subst (AreListedChoices s) (sym c.in_ok-curves.ensures.choices) are;
       held = c.in_ok-fronts.fronts.held;
       rows = subst (λ n. AreRowsOf c.in_ok-fronts.fronts.held n c.in_ok-curves.curves) c.classes-classes.ensures.classes c.in_ok-curves.ensures.rows;
       backed = subst (λ xs. AreBacked s xs c.in_ok-fronts.fronts.held) (sym c.in_ok-curves.ensures.choices) backed';

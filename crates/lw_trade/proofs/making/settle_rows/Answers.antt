@@ -2,7 +2,7 @@ use Rattle.std.proofs.Common.{◌∙◌, List, ap, length, sym, subst}
 use Rattle.lw_laws.specs.Covers.{Pattern}
 use Rattle.lw_laws.specs.Graphs.{Graph}
 use Rattle.lw_trade.specs.Backing.{AreBacked}
-use Rattle.lw_trade.specs.Choices.{AreChoices}
+use Rattle.lw_trade.specs.Choices.{AreListedChoices}
 use Rattle.lw_trade.specs.Points.{task}
 use Rattle.lw_trade.specs.Rows.{plain_rows}
 use Rattle.lw_trade.specs.Seen.{AreSeen}
@@ -36,7 +36,7 @@ settle_all-requires-clause-seen c = subst (λ ks. AreSeen c.in_ok-uses.uses c.de
 
 pub returns-in_err-settle_all-clause-stop : goal.returns-in_err-settle_all-clause-stop
 returns-in_err-settle_all-clause-stop c =
-    err_is (λ fault. (g : Graph) (pats : List Pattern) → AreChoices (task g pats c.args.lib.now c.args.starts.now) (plain_rows c.args.rows.now) → IsStop (task g pats c.args.lib.now c.args.starts.now) (plain_rows c.args.rows.now) c.args.horizon fault) c.from_residual-in_err-settle_all.result c.in_err-settle_all.field-0.0 c.from_residual-in_err-settle_all.ensures.1 (λ g pats are.
+    err_is (λ fault. (g : Graph) (pats : List Pattern) → AreListedChoices (task g pats c.args.lib.now c.args.starts.now) (plain_rows c.args.rows.now) → IsStop (task g pats c.args.lib.now c.args.starts.now) (plain_rows c.args.rows.now) c.args.horizon fault) c.from_residual-in_err-settle_all.result c.in_err-settle_all.field-0.0 c.from_residual-in_err-settle_all.ensures.1 (λ g pats are.
     let s = task g pats c.args.lib.now c.args.starts.now in
     let rows = plain_rows c.args.rows.now in
     let u = c.in_ok-uses.uses in
