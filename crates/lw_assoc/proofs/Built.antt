@@ -2,7 +2,7 @@
 use Rattle.std.proofs.Common.{ℕ, suc, ◌+◌, ◌*◌, ◌/◌, ◌==◌, ◌≤◌, ◌≡◌, Bool, true, false, if◌then◌else◌, List, [], ◌∷◌, length, subst, arith}
 use Rattle.lw_laws.specs.Modes.{Mode}
 use Rattle.lw_laws.specs.Networks.{Network}
-use Rattle.lw_laws.specs.Graphs.{Graph, PairsInOneClass, pair_count}
+use Rattle.lw_laws.specs.Graphs.{Graph, PairsInOneClass, pair_count, most_classes}
 use Rattle.lw_laws.specs.Encodings.{Encodes}
 use Rattle.lw_laws.specs.NumberedForms.{NumberedForms, family_of}
 use Rattle.lw_laws.specs.NumberedValues.{AreNumberedValues}
@@ -19,7 +19,6 @@ use Rattle.lw_laws.proofs.NumberedValues.{form_values_fit}
 use Rattle.lw_laws.proofs.Together.{has_the_trees, has_truth}
 use Rattle.lw_form.specs.Kept.{AreForms}
 use Rattle.lw_assoc.specs.Drafting.{IsDraftOf}
-use Rattle.lw_assoc.specs.Splits.{most_classes}
 use Rattle.lw_assoc.proofs.SameFacts.{same_facts}
 
 pairs_bound : (next : ℕ) (cs : List ℕ) → pair_count next cs ≤ next + length cs

@@ -10,10 +10,6 @@ use Rattle.lw_laws.specs.Occurring.{splits_of}
 abbrev pub most_splits : ℕ
 most_splits = 16777216
 
--- how many classes a graph of listed forms has at most
-abbrev pub most_classes : ℕ
-most_classes = 4194304
-
 abbrev pub base_splits : Mode → Base → ℕ
 base_splits mode (base_and fs) = splits_of mode (length fs)
 base_splits mode base_true = 0

@@ -1,6 +1,6 @@
 ghost use Rattle.std.specs.Prelude.{◌≡◌, ◌<◌, ◌≤◌, ◌↔◌, ℕ, Bool, length, Err, IfOk};
 ghost use Rattle.lw_laws.specs.Networks.{Network};
-ghost use Rattle.lw_laws.specs.Graphs.{IsWritten, PairsInOneClass};
+ghost use Rattle.lw_laws.specs.Graphs.{IsWritten, PairsInOneClass, most_classes};
 ghost use Rattle.lw_laws.specs.Encodings.{Encodes};
 ghost use Rattle.lw_laws.specs.NumberedForms.{family_of};
 ghost use Rattle.lw_laws.specs.NumberedValues.{AreNumberedValues};
@@ -10,7 +10,7 @@ ghost use Rattle.lw_laws.specs.Decompositions.{listing_of};
 ghost use Rattle.lw_laws.specs.Occurring.{occurring_forms, split_count};
 ghost use Rattle.lw_laws.specs.Mapped.{forms_of};
 ghost use Rattle.lw_assoc.specs.Modes.{law_mode};
-ghost use Rattle.lw_assoc.specs.Splits.{most_classes, most_splits, numbered_splits};
+ghost use Rattle.lw_assoc.specs.Splits.{most_splits, numbered_splits};
 ghost use Rattle.lw_assoc.specs.declared.fault.GraphFault.TheVariants.{Limit};
 
 use crate::drafting::draft_of;

@@ -3,7 +3,8 @@ use Rattle.std.proofs.Common.{ℕ, ◌≡◌, Bool, true, false, ◌||◌, not, 
 use Rattle.std.specs.List.{list_any}
 use Rattle.lw_words.specs.Lines.{LogicalLine}
 use Rattle.lw_blif.specs.declared.fault.BlifKind.{BlifKind}
-use Rattle.lw_blif.specs.LineFaults.{FaultAt, fault_or, line_fault, first_fault, ends, command, goes_on, front, lines_read, has_ended, is_first}
+use Rattle.lw_blif.specs.LineFaults.{FaultAt, fault_or, line_fault, first_fault, ends, command, goes_on, lines_read, has_ended, is_first}
+use Rattle.lw_words.specs.Words.{front}
 
 -- no fault here, and none behind
 pub fault_or_none : (number : ℕ) (o : Option BlifKind) (r : Option FaultAt) → fault_or number o r ≡ None → (o ≡ None) × (r ≡ None)

@@ -10,7 +10,7 @@ use Rattle.lw_blif.specs.declared.command.Command.{Command}
 use Rattle.lw_blif.specs.declared.command.Command.TheVariants.{Model, Inputs, Outputs, Names, Arrival, DefaultArrival, End, Ignored, Unsupported, Unknown, Row}
 use Rattle.lw_blif.specs.declared.fault.BlifKind.{BlifKind}
 use Rattle.lw_blif.specs.declared.fault.BlifKind.TheVariants as kind
-use Rattle.lw_blif.specs.LineFaults.{first_broken, first_word, other_words, wants_words, names_for, is_name, times_for, start_in, start_rules, arrival_rules}
+use Rattle.lw_blif.specs.LineFaults.{first_broken, other_words, wants_words, names_for, times_for, start_in, start_rules, arrival_rules}
 use Rattle.lw_blif.specs.Drafts.{arrival_of, arrivals_for, latch_of, latches_for}
 use Rattle.lw_pool.specs.declared.latch.Latch.{Latch}
 use Rattle.lw_blif.specs.declared.command.Command.TheVariants as asks
@@ -18,6 +18,7 @@ use Rattle.std.proofs.lemmas.Bool.{and_parts}
 use Rattle.lw_blif.specs.Readers.{start_or_kind, start_said_on}
 use Rattle.lw_blif.specs.Keeping.{IsArrivalLine}
 use Rattle.lw_blif.proofs.WordLists.{drop-get}
+use Rattle.lw_words.specs.Words.{first_word, is_name}
 
 pub arrival-left : (c : Command) → IsArrivalLine c → (c ≡ Arrival → ⊥) → c ≡ DefaultArrival
 arrival-left Arrival is other = absurd (other refl)

@@ -6,9 +6,9 @@ use Rattle.std.specs.Str.{bytes_eq}
 use Rattle.std.proofs.lemmas.Bool.{and_parts}
 use Rattle.std.proofs.lemmas.List.Sorted.{IsPermutation-refl, IsPermutation-sym, IsPermutation-trans, IsPermutation-to_front, IsPermutation-append_comm, IsPermutation-append_left, IsPermutation-append_right}
 use Rattle.std.proofs.lemmas.Map.Keys.{IsDistinct-IsPermutation, IsDistinct-cons}
-use Rattle.lw_blif.specs.Commands.{is_among}
 use Rattle.lw_blif.specs.Readers.{are_fresh}
 use Rattle.lw_frame.proofs.Once.{eq-flips}
+use Rattle.lw_words.specs.Words.{is_among}
 
 -- a name that is none of these differs from each
 none-among : (names : List (List ℕ)) (name : List ℕ) → is_among names name ≡ false → AllByRecursion (λ other. bytes_eq name other ≡ false) names

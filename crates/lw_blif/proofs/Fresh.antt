@@ -2,10 +2,10 @@
 use Rattle.std.proofs.Common.{ℕ, ◌≡◌, Bool, true, false, not, ◌&&◌, ◌||◌, List, [], ◌∷◌, ◌++◌, refl, ap, sym, ◌∙◌}
 use Rattle.std.specs.List.{list_any}
 use Rattle.std.specs.Str.{bytes_eq}
-use Rattle.lw_blif.specs.Commands.{is_among}
 use Rattle.lw_blif.specs.LineFaults.{has_twice}
 use Rattle.lw_blif.specs.Readers.{are_fresh}
 use Rattle.lw_frame.proofs.Once.{eq-flips}
+use Rattle.lw_words.specs.Words.{is_among}
 
 or-assoc : (a b c : Bool) → ((a || b) || c) ≡ (a || (b || c))
 or-assoc true b c = refl

@@ -14,7 +14,7 @@ use Rattle.lw_blif.specs.declared.command.Command.{Command}
 use Rattle.lw_blif.specs.declared.command.Command.TheVariants.{Ignored, Row}
 use Rattle.lw_blif.specs.declared.fault.BlifKind.{BlifKind}
 use Rattle.lw_blif.specs.declared.fault.BlifKind.TheVariants as kind
-use Rattle.lw_blif.specs.LineFaults.{first_word, first_broken, row_rules, rules_for, line_fault, name_rules, wants_words, is_name, names_for, words_before_last, has_twice, other_words, is_ignored_command, is_row_command, is_names_command, defined_for, command, is_row, is_names, is_ignored, last_word, fanins_on, has_shape, is_value, is_column, defined_on, defined_by, rows_before, node_before}
+use Rattle.lw_blif.specs.LineFaults.{first_broken, row_rules, rules_for, line_fault, name_rules, wants_words, names_for, words_before_last, has_twice, other_words, is_ignored_command, is_row_command, is_names_command, defined_for, command, is_row, is_names, is_ignored, last_word, fanins_on, has_shape, is_value, is_column, defined_on, defined_by, rows_before, node_before}
 use Rattle.lw_blif.specs.Drafts.{draft_of, nodes_of, model_for, inputs_for, outputs_for, node_of, row_of, is_off_row, columns_of, model_on, inputs_on, outputs_on, latches_on, arrivals_on, latches_for, arrivals_for}
 use Rattle.lw_frame.specs.Frames.{each_once, input_names, root_names, read_by}
 use Rattle.lw_frame.specs.Standing.{StandsFor}
@@ -25,9 +25,9 @@ use Rattle.lw_frame.specs.Starts as starts
 use Rattle.lw_blif.specs.Readers.{fault_else, names_fault_of, are_fresh, whole_nodes, value_word, is_value_of, row_fault_of, row_added, HaveValue, HaveValueOf, Kept, KeptAround}
 use Rattle.lw_blif.proofs.NodesBehind.{nodes-parts, rows-ignored, node-ignored, whole-ignored, rows-row, node-row, whole-row, rows-other, node-other, whole-other}
 use Rattle.indexmap.specs.IndexSet.{insert_all}
-use Rattle.lw_blif.specs.Commands.{is_among}
 use Rattle.lw_blif.proofs.Fresh.{fresh-are}
 use Rattle.lw_blif.proofs.RowsBehind.{length-map, some-length, row_fault-node, row_fault-none}
+use Rattle.lw_words.specs.Words.{is_among, first_word, is_name}
 
 -- what one more line adds
 flat-more : {A : Type 0} (f : LogicalLine → List A) (lines : List LogicalLine) (line : LogicalLine) (more : List A) → f line ≡ more → flat_map f (lines ++ line ∷ []) ≡ flat_map f lines ++ more

@@ -16,13 +16,14 @@ use Rattle.lw_blif.specs.declared.command.Command.{Command}
 use Rattle.lw_blif.specs.declared.command.Command.TheVariants as asks
 use Rattle.lw_blif.specs.declared.parsed.Parsed.{Parsed}
 use Rattle.lw_blif.specs.declared.drafting.Said.{Said}
-use Rattle.lw_blif.specs.LineFaults.{FaultAt, first_fault, lines_read, command, first_word, other_words, times_for, start_in}
+use Rattle.lw_blif.specs.LineFaults.{FaultAt, first_fault, lines_read, command, other_words, times_for, start_in}
 use Rattle.lw_blif.specs.Drafts.{draft_of, frame_on, starts_on, inputs_on, outputs_on, latches_on, arrivals_on, arrivals_for, arrival_of}
 use Rattle.lw_blif.specs.BlifNetworks.{IsModelOf, IsModel, IsBlifNetwork, ComesTo}
 use Rattle.lw_blif.specs.Keeping.{SaidFits}
 use Rattle.lw_blif.proofs.Closing.{model-fits}
 use Rattle.lw_blif.proofs.Early.{AreEarly, joined_early, said_early, starts_early}
 use Rattle.lw_blif.proofs.Sound.{lines-draft}
+use Rattle.lw_words.specs.Words.{first_word}
 
 -- Starts
 

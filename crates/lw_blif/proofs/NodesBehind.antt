@@ -7,9 +7,10 @@ use Rattle.std.proofs.lemmas.List.Folds.{list_all-append}
 use Rattle.lw_words.specs.Lines.{LogicalLine}
 use Rattle.lw_blif.specs.declared.command.Command.{Command}
 use Rattle.lw_blif.specs.declared.command.Command.TheVariants.{Model, Inputs, Outputs, Names, Latch, Arrival, DefaultArrival, End, Ignored, Unsupported, Unknown, Row}
-use Rattle.lw_blif.specs.LineFaults.{command, is_row_command, is_names_command, is_row, is_names, is_ignored, front, nearest, rows_before, node_before}
+use Rattle.lw_blif.specs.LineFaults.{command, is_row_command, is_names_command, is_row, is_names, is_ignored, nearest, rows_before, node_before}
 use Rattle.lw_blif.specs.Drafts.{node_of, nodes_of}
 use Rattle.lw_blif.specs.Readers.{whole_nodes}
+use Rattle.lw_words.specs.Words.{front}
 
 abbrev is_kept : LogicalLine → Bool
 is_kept line = not (is_ignored line)

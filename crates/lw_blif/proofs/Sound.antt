@@ -16,7 +16,7 @@ use Rattle.lw_blif.specs.declared.command.Command.{Command}
 use Rattle.lw_blif.specs.declared.command.Command.TheVariants.{Model, Inputs, Outputs, Names, Latch, Arrival, DefaultArrival, End, Ignored, Unsupported, Unknown, Row}
 use Rattle.lw_blif.specs.declared.fault.BlifKind.{BlifKind}
 use Rattle.lw_blif.specs.declared.fault.BlifKind.TheVariants as kind
-use Rattle.lw_blif.specs.LineFaults.{command, last_word, other_words, is_row_command, is_names_command, is_ignored_command, is_row, is_names, is_ignored, defined_for, defined_on, defined_by, fanins_on, front, nearest, rows_before, node_before, has_shape, is_column, is_value, first_broken, row_rules, name_rules, rules_for, wants_words, line_fault, first_fault, differs_from}
+use Rattle.lw_blif.specs.LineFaults.{command, last_word, other_words, is_row_command, is_names_command, is_ignored_command, is_row, is_names, is_ignored, defined_for, defined_on, defined_by, fanins_on, nearest, rows_before, node_before, has_shape, is_column, is_value, first_broken, row_rules, name_rules, rules_for, wants_words, line_fault, first_fault, differs_from}
 use Rattle.lw_blif.specs.Drafts.{draft_of, nodes_of, node_of, row_of, columns_of, inputs_for, inputs_on, outputs_on, latch_of, latches_for, latches_on}
 use Rattle.lw_blif.specs.Readers.{whole_nodes, are_fresh, fault_else, names_fault_of}
 use Rattle.lw_blif.proofs.Appending.{fault_or_none}
@@ -26,6 +26,7 @@ use Rattle.lw_blif.proofs.Differing.{distinct-fresh, in-two}
 use Rattle.lw_frame.proofs.Once.{none-distinct}
 use Rattle.lw_blif.proofs.NodesBehind.{nodes-parts, rows-ignored, node-ignored, whole-ignored, rows-row, node-row, whole-row, rows-other, node-other, whole-other}
 use Rattle.lw_blif.proofs.Keeping.{defined-more, names_fault-rules, fit-names, none-whole, none-defined, none-node, none-rows, map-push}
+use Rattle.lw_words.specs.Words.{front}
 
 -- Columns.
 

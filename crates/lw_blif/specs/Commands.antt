@@ -4,30 +4,13 @@ use Rattle.std.specs.Str.{bytes_eq}
 use Rattle.std.specs.List.{list_any}
 use Rattle.lw_blif.specs.declared.command.Command.{Command}
 use Rattle.lw_blif.specs.declared.command.Command.TheVariants.{Model, Inputs, Outputs, Names, Latch, Arrival, DefaultArrival, End, Ignored, Unsupported, Unknown, Row}
-
-abbrev pub is_among : List (List ℕ) → List ℕ → Bool
-is_among words word = list_any (bytes_eq word) words
+use Rattle.lw_words.specs.Words.{is_among, is_ignored_word, has_point}
 
 abbrev pub unsupported_words : List (List ℕ)
 unsupported_words = codes ".gate" ∷ codes ".mlatch" ∷ codes ".subckt" ∷ codes ".search" ∷ codes ".clock" ∷ codes ".start_kiss" ∷ []
 
-abbrev pub ignored_words : List (List ℕ)
-ignored_words =
-    codes ".area" ∷ codes ".delay" ∷ codes ".wire_load_slope" ∷ codes ".wire"
-    ∷ codes ".output_required" ∷ codes ".default_output_required" ∷ codes ".input_drive"
-    ∷ codes ".default_input_drive" ∷ codes ".output_load" ∷ codes ".default_output_load" ∷ codes ".max_input_load"
-    ∷ codes ".default_max_input_load" ∷ codes ".cycle" ∷ codes ".clock_event" ∷ []
-
 unfoldable pub is_unsupported_word : List ℕ → Bool
 is_unsupported_word word = is_among unsupported_words word
-
-unfoldable pub is_ignored_word : List ℕ → Bool
-is_ignored_word word = is_among ignored_words word
-
--- a word that begins with `.`
-abbrev pub has_point : List ℕ → Bool
-has_point [] = false
-has_point (b ∷ word) = b == 46
 
 -- what a word that begins with `.` asks for, if it is none of a network's own lines
 unfoldable pub other_command : List ℕ → Command

@@ -8,13 +8,14 @@ use Rattle.lw_net.specs.declared.draft.DraftNode.{DraftNode}
 use Rattle.lw_blif.specs.declared.command.Command.{Command}
 use Rattle.lw_blif.specs.declared.command.Command.TheVariants as asks
 use Rattle.lw_blif.specs.declared.command.Command.TheVariants.{Model, Inputs, Outputs}
-use Rattle.lw_blif.specs.LineFaults.{first_word, last_word, other_words, command, is_row, is_names, is_ignored, fanins_on, front, times_for, start_in}
+use Rattle.lw_blif.specs.LineFaults.{last_word, other_words, command, is_row, is_names, is_ignored, fanins_on, times_for, start_in}
 use Rattle.lw_fixed.specs.declared.micro.Micro.{Micro}
 use Rattle.lw_fixed.specs.declared.fault.DecimalFault.{DecimalFault}
 use Rattle.lw_pool.specs.declared.latch.Latch.{Latch}
 use Rattle.lw_pool.specs.declared.latch.Frame.{Frame}
 use Rattle.lw_frame.specs.Frames.{root_names, frame_of, input_names}
 use Rattle.lw_frame.specs.Starts.{Arrival, starts_of}
+use Rattle.lw_words.specs.Words.{first_word, front}
 
 -- the columns of a row
 abbrev pub columns_of : List (List ℕ) → List ℕ

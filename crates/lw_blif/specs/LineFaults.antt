@@ -7,17 +7,14 @@ use Rattle.lw_blif.specs.declared.command.Command.{Command}
 use Rattle.lw_blif.specs.declared.command.Command.TheVariants.{Model, Inputs, Outputs, Names, Latch, Arrival, DefaultArrival, End, Ignored, Unsupported, Unknown, Row}
 use Rattle.lw_blif.specs.declared.fault.BlifKind.{BlifKind}
 use Rattle.lw_blif.specs.declared.fault.BlifKind.TheVariants as kind
-use Rattle.lw_blif.specs.Commands.{command_of, is_among}
+use Rattle.lw_blif.specs.Commands.{command_of}
 use Rattle.lw_fixed.specs.declared.micro.Micro.{Micro}
 use Rattle.lw_fixed.specs.declared.fault.DecimalFault.{DecimalFault}
 use Rattle.lw_fixed.specs.declared.fault.DecimalFault.TheVariants.{Shape}
 use Rattle.lw_frame.specs.Starts.{start_said}
+use Rattle.lw_words.specs.Words.{is_among, first_word, front, is_name}
 
 -- Words.
-
-abbrev pub first_word : List (List ℕ) → List ℕ
-first_word [] = []
-first_word (word ∷ words) = word
 
 abbrev pub last_word : List (List ℕ) → List ℕ
 last_word [] = []
@@ -69,11 +66,6 @@ ends first End = true
 ends first Model = not first
 ends first other = false
 
--- what stands before the first element that fails
-abbrev pub front : {A : Type 0} → (A → Bool) → List A → List A
-front p [] = []
-front p (x ∷ xs) = if p x then x ∷ front p xs else []
-
 abbrev pub goes_on : LogicalLine → Bool
 goes_on line = not (ends false (command line))
 
@@ -83,10 +75,6 @@ lines_read [] = []
 lines_read (line ∷ lines) = if ends true (command line) then [] else line ∷ front goes_on lines
 
 -- Names and signals.
-
--- at most 2,000 bytes, the last of which is no `\`
-abbrev pub is_name : List ℕ → Bool
-is_name word = nat_le (length word) 2000 && not (ends_with nat_eq word (92 ∷ []))
 
 -- the words in places of names
 abbrev pub names_for : Command → List (List ℕ) → List (List ℕ)

@@ -5,10 +5,9 @@ use Rattle.lw_net.specs.declared.draft.DraftNode.{DraftNode}
 use Rattle.lw_words.specs.Lines.{LogicalLine, has_some}
 use Rattle.lw_blif.specs.declared.fault.BlifKind.{BlifKind}
 use Rattle.lw_blif.specs.declared.fault.BlifKind.TheVariants as kind
-use Rattle.lw_blif.specs.LineFaults.{defined_by, last_word, has_shape, nearest, rows_before, node_before, wants_words, is_name, names_for, defined_for, is_names_command, words_before_last, other_words, times_for, start_in}
+use Rattle.lw_blif.specs.LineFaults.{defined_by, last_word, has_shape, nearest, rows_before, node_before, wants_words, names_for, defined_for, is_names_command, words_before_last, other_words, times_for, start_in}
 use Rattle.lw_blif.specs.declared.command.Command.{Command}
 use Rattle.std.specs.List.{list_all, flat_map}
-use Rattle.lw_blif.specs.Commands.{is_among}
 use Rattle.lw_blif.specs.Drafts.{nodes_of, node_of, columns_of, model_on, inputs_on, outputs_on, latches_on, arrivals_on}
 use Rattle.lw_frame.specs.Frames.{each_once}
 use Rattle.lw_frame.specs.Standing.{StandsFor}
@@ -16,6 +15,7 @@ use Rattle.lw_frame.specs.declared.arrivals.Arrivals.{Arrivals}
 use Rattle.lw_pool.specs.declared.latch.Latch.{Latch}
 use Rattle.lw_fixed.specs.declared.micro.Micro.{Micro}
 use Rattle.lw_fixed.specs.declared.fault.DecimalFault.{DecimalFault}
+use Rattle.lw_words.specs.Words.{is_among, is_name}
 
 -- the nodes to which no row can be added
 unfoldable pub whole_nodes : List LogicalLine → List DraftNode

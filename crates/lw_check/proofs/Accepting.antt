@@ -42,14 +42,15 @@ use Rattle.lw_netlist.specs.declared.gate.Port.{Port}
 use Rattle.lw_netlist.specs.Plain as netlist
 use Rattle.lw_mapped.specs.Parsed.{IsLabel}
 use Rattle.lw_mapped.specs.Standing.{AreLabels}
-use Rattle.lw_mapped.specs.Texts.{port_name}
 use Rattle.lw_check.specs.Claims.{AreMatches, Claim, HasPotential, IsAtRoot, IsOnTimeAt, class_number, class_numbers, class_of_net, first_unknown_class, label_of_class, labelled_from, net_classes, plain_labels, timing_in}
 use Rattle.lw_check.specs.Mappings.{IsKept, IsMappingOf, IsOverGraph}
-use Rattle.lw_check.specs.Ports.{output_port, plain_port, ports_of, mapped_ports}
 use Rattle.lw_check.specs.Verdicts.{IsVerdictOn}
 use Rattle.lw_check.specs.declared.verdict.Verdict.TheVariants.{Yes}
 use Rattle.lw_check.proofs.Places.{zip_at, zip_left, map_at, from_map, read_map, read_some, read_within, somes_append, some_mapped, all_by_place}
 use Rattle.lw_check.proofs.Unknown.{none_found, labelled_below, nets_below}
+use Rattle.lw_net.specs.Ports.{output_port, ports_of}
+use Rattle.lw_netlist.specs.Plain.{plain_port, mapped_ports, port_name}
+use Rattle.lw_pool.specs.Numbers.{net_number}
 
 -- a tree that unfolds at a class of a graph does so at one in range
 module _ (g : Graph) (is : IsGraph g) where
@@ -150,7 +151,7 @@ module _ (mode : Mode) (width : ℕ) (k : Claim) (kept : IsKept k) (over : IsOve
     ordered : AreOrdered n
     ordered = (ordered_and_mapped k.graph cost k.pats (labels_in labels) heights roots gates gate_classes n extracted).0
 
-    pins_there : (pins : List NetId) → AllByRecursion (λ (net : NetId). net.0 < length classes) pins → map (class_of_net k) pins ≡ map Some (map (class_at k.graph gates) (map netlist.net_number pins))
+    pins_there : (pins : List NetId) → AllByRecursion (λ (net : NetId). net.0 < length classes) pins → map (class_of_net k) pins ≡ map Some (map (class_at k.graph gates) (map net_number pins))
     pins_there [] a = refl
     pins_there (pin ∷ pins) (lt, a) = let head = class_there pin lt in let rest = pins_there pins a in λ i. head i ∷ rest i
 
@@ -165,9 +166,9 @@ module _ (mode : Mode) (width : ℕ) (k : Claim) (kept : IsKept k) (over : IsOve
         record {
           class = class_at k.graph gates gate.out.0;
           has_class = class_there gate.out own;
-          pins = map (class_at k.graph gates) (map netlist.net_number gate.pins);
+          pins = map (class_at k.graph gates) (map net_number gate.pins);
           have_classes = pins_there gate.pins (all_rec gate.pins (λ i d lt. before (get_or gate.pins i d) (row.before i d lt)));
-          stands = subst (λ o. IsMatchAt k.graph cost.pin_counts k.pats (class_at k.graph gates o) gate.cell.0 (map (class_at k.graph gates) (map netlist.net_number gate.pins))) (sym row.drives) match';
+          stands = subst (λ o. IsMatchAt k.graph cost.pin_counts k.pats (class_at k.graph gates o) gate.cell.0 (map (class_at k.graph gates) (map net_number gate.pins))) (sym row.drives) match';
         }
       where
         all_rec : (pins : List NetId) → All (λ (net : NetId). net.0 < length classes) pins → AllByRecursion (λ (net : NetId). net.0 < length classes) pins

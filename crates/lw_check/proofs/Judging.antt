@@ -24,25 +24,26 @@ use Rattle.lw_netlist.specs.declared.gate.Gate.{Gate}
 use Rattle.lw_netlist.specs.declared.gate.Port.{Port}
 use Rattle.lw_netlist.specs.Netlists.{IsNetlist, NetlistParts}
 use Rattle.lw_netlist.specs.Plain as netlist
-use Rattle.lw_mapped.specs.Texts.{port_name}
 use Rattle.lw_check.specs.Claims.{Claim, Arrives, HasSamePorts, IsMatchGate, IsOnTime, class_number, class_of_net, cost_in, label_of_class, net_classes, plain_labels, timing_in}
 use Rattle.lw_check.specs.Mappings.{IsFastestMapping, IsKept, IsOverForms}
-use Rattle.lw_check.specs.Ports.{output_port, plain_port, ports_of, mapped_ports}
 use Rattle.lw_check.specs.Verdicts.{IsVerdictOn}
 use Rattle.lw_check.specs.declared.verdict.Verdict.TheVariants.{Yes}
 use Rattle.lw_check.proofs.Places.{zip_places, map_at, from_map, read_map, some_left}
+use Rattle.lw_net.specs.Ports.{output_port, ports_of}
+use Rattle.lw_netlist.specs.Plain.{plain_port, mapped_ports, port_name}
+use Rattle.lw_pool.specs.Numbers.{net_number}
 
 -- a netlist's gates stand in order
 pub netlist_ordered : (n : NetlistParts) → IsNetlist n → AreOrdered (netlist.plain n)
 netlist_ordered n is j g at =
     let (gate, here, same) = from_map netlist.plain_gate n.gates j g at in
     subst (λ (z : laws.Gate). Rattle.std.specs.List.AllByRecursion (λ p. p < n.inputs + j) z.pins) same
-    (contains_all (λ p. p < n.inputs + j) (map netlist.net_number gate.pins) (λ p c. before gate.pins p ((is.gates j gate here).before) c))
+    (contains_all (λ p. p < n.inputs + j) (map net_number gate.pins) (λ p c. before gate.pins p ((is.gates j gate here).before) c))
   where
-    before : (pins : List NetId) (p : ℕ) → All (λ (net : NetId). net.0 < n.inputs + j) pins → Contains (map netlist.net_number pins) p → p < n.inputs + j
+    before : (pins : List NetId) (p : ℕ) → All (λ (net : NetId). net.0 < n.inputs + j) pins → Contains (map net_number pins) p → p < n.inputs + j
     before pins p all (k, lt, e) =
-        let size = length-map pins netlist.net_number in
-        let (net, at', same) = from_map netlist.net_number pins k (get_or (map netlist.net_number pins) k p) (slice_get-get_or (map netlist.net_number pins) k p lt) in
+        let size = length-map pins net_number in
+        let (net, at', same) = from_map net_number pins k (get_or (map net_number pins) k p) (slice_get-get_or (map net_number pins) k p lt) in
         let inside = slice_get_within pins k net at' in
         let low = all k net inside in
         let is_net : get_or pins k net ≡ net = get_or_from_slice_get pins k net net at' in
@@ -87,7 +88,7 @@ module _ (mode : Mode) (width : ℕ) (truth : CellTruth) (k : Claim) (kept : IsK
   class_is : (net : NetId) (c : ℕ) → class_of_net k net ≡ Some c → class net.0 ≡ c
   class_is net c e = ap (λ o. unwrap_or o 0) e
 
-  classes_are : (pins : List NetId) (ps : List ℕ) → map (class_of_net k) pins ≡ map Some ps → map class (map netlist.net_number pins) ≡ ps
+  classes_are : (pins : List NetId) (ps : List ℕ) → map (class_of_net k) pins ≡ map Some ps → map class (map net_number pins) ≡ ps
   classes_are [] [] e = refl
   classes_are [] (p ∷ ps) e = cc
   classes_are (pin ∷ pins) [] e = cc
@@ -110,13 +111,13 @@ module _ (mode : Mode) (width : ℕ) (truth : CellTruth) (k : Claim) (kept : IsK
         subst (λ (z : laws.Gate). IsMatchAt k.graph (cost_in k).pin_counts k.pats (class (n.inputs + j)) z.cell (map class z.pins)) same (gate_matched j gate here);
   }
     where
-      gate_matched : (j : ℕ) (gate : Gate) → slice_get k.mapped.netlist.gates j ≡ Some gate → IsMatchAt k.graph (cost_in k).pin_counts k.pats (class (n.inputs + j)) gate.cell.0 (map class (map netlist.net_number gate.pins))
+      gate_matched : (j : ℕ) (gate : Gate) → slice_get k.mapped.netlist.gates j ≡ Some gate → IsMatchAt k.graph (cost_in k).pin_counts k.pats (class (n.inputs + j)) gate.cell.0 (map class (map net_number gate.pins))
       gate_matched j gate here =
           let is : IsMatchGate k gate = yes'.2 j gate here in
           let drives = (kept.netlist.gates j gate here).drives in
           let own : class (n.inputs + j) ≡ is.class = ap class (sym drives) ∙ class_is gate.out is.class is.has_class in
           let pins = classes_are gate.pins is.pins is.have_classes in
-          subst (λ c. IsMatchAt k.graph (cost_in k).pin_counts k.pats c gate.cell.0 (map class (map netlist.net_number gate.pins))) (sym own)
+          subst (λ c. IsMatchAt k.graph (cost_in k).pin_counts k.pats c gate.cell.0 (map class (map net_number gate.pins))) (sym own)
           (subst (λ ps. IsMatchAt k.graph (cost_in k).pin_counts k.pats is.class gate.cell.0 ps) (sym pins) is.stands)
 
   ordered : AreOrdered n

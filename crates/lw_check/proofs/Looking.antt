@@ -10,12 +10,12 @@ use Rattle.lw_laws.specs.Extracts.{Match}
 use Rattle.lw_laws.specs.Graphs.{Graph}
 use Rattle.lw_match.specs.Coming.{AreMatches, IsPatternMatch}
 use Rattle.lw_match.specs.Least.{AreOfCells}
-use Rattle.lw_match.specs.Values.{numbers}
 use Rattle.lw_dag.proofs.Rising.{contains_cons, contains_none}
 use Rattle.lw_check.specs.Claims.{class_number}
 use Rattle.lw_check.specs.Least.{CostsBy, IsLow, IsLowMatch}
 use Rattle.lw_check.proofs.Failures.{at_cost}
 use Rattle.lw_check.proofs.Places.{map_at, zip_right}
+use Rattle.lw_pool.specs.Numbers.{numbers}
 
 module _ (labels : Labels) where
   have_more : (ps ls : List ℕ) (p l : ℕ) → HaveLabels labels ps ls → labels p ≡ Some l → HaveLabels labels (ps ++ p ∷ []) (ls ++ l ∷ [])

@@ -11,7 +11,6 @@ use Rattle.lw_laws.proofs.Extracts.{listed_at}
 use Rattle.lw_genlib.specs.Cells.{IsLibrary, IsListed}
 use Rattle.lw_genlib.specs.Tables.{cell_delays, delays_of_cells, millionths}
 use Rattle.lw_label.proofs.Marked.{place_of}
-use Rattle.lw_match.specs.Values.{numbers}
 use Rattle.lw_netlist.specs.declared.gate.Gate.{Gate}
 use Rattle.lw_netlist.specs.Plain.{HasCell}
 use Rattle.lw_mapped.specs.Texts.{net_name}
@@ -22,6 +21,7 @@ use Rattle.lw_check.specs.Standing.{AreWithin, StandsAlone}
 use Rattle.lw_check.specs.declared.spans.Span.{Span}
 use Rattle.lw_check.proofs.Places.{all_place, from_map, map_at, read_map, some_left, some_right}
 use Rattle.lw_check.proofs.Unknown.{net_known}
+use Rattle.lw_pool.specs.Numbers.{numbers}
 
 module _ (k : Claim) where
   -- the class of an input's net, and of a gate's

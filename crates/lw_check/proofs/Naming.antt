@@ -5,10 +5,10 @@ use Rattle.std.proofs.lemmas.Option.{same_Some, slice_get-get_or, get_or_from_sl
 use Rattle.std.proofs.lemmas.Slice.Eq.{bytes_eq-Decides}
 use Rattle.std.proofs.lemmas.Bool.{not-false}
 use Rattle.lw_pool.specs.declared.id.NetId.{NetId}
-use Rattle.lw_mapped.specs.Texts.{port_name}
 use Rattle.lw_net.specs.Networks.{NetworkParts, name_in}
 use Rattle.lw_netlist.specs.declared.gate.Port.{Port}
 use Rattle.lw_check.proofs.Places.{map_at}
+use Rattle.lw_netlist.specs.Plain.{port_name}
 
 -- what a test for other bytes tells
 pub differ : (a b : List ℕ) (t : Bool) → t ≡ not (bytes_eq a b) → t ≡ true → a ≡ b → ⊥

@@ -8,12 +8,12 @@ use Rattle.lw_laws.specs.Graphs.{Graph, HoldsPair, Stands}
 use Rattle.lw_laws.specs.Trees.{Tree, leaf, const_one, const_zero, inv, nand}
 use Rattle.lw_laws.proofs.Flips.{flip-flip, half-flip}
 use Rattle.lw_graph.specs.Graphs.{IsGraph}
-use Rattle.lw_match.specs.Values.{numbers}
 use Rattle.lw_pattern.specs.declared.node.PatNode.{PatNode}
 use Rattle.lw_pattern.specs.Nodes.{tree_at, tree_of}
 use Rattle.lw_check.specs.Claims.{class_number}
 use Rattle.lw_check.specs.Standing.{AreStanding, AreWithin, StandsAlone}
 use Rattle.lw_check.proofs.Places.{from_map, map_at, all_place}
+use Rattle.lw_pool.specs.Numbers.{numbers}
 
 module _ (g : Graph) where
   pub pin_alone : (pins : List ClassId) (k : ℕ) → AreWithin g pins → StandsAlone g (numbers pins) (leaf k) (slice_get pins k)

@@ -18,12 +18,11 @@ use Rattle.lw_genlib.specs.Tables.{millionths, timing_of}
 use Rattle.lw_label.specs.Delays.{time_cost}
 use Rattle.lw_netlist.specs.declared.gate.Gate.{Gate}
 use Rattle.lw_netlist.specs.declared.gate.Port.{Port}
-use Rattle.lw_netlist.specs.Plain.{plain}
+use Rattle.lw_netlist.specs.Plain.{plain, mapped_ports, port_name}
 use Rattle.lw_mapped.specs.declared.certificate.Certificate.{Certificate}
 use Rattle.lw_mapped.specs.declared.closing.Mapped.{Mapped}
-use Rattle.lw_mapped.specs.Texts.{net_name, port_name}
+use Rattle.lw_mapped.specs.Texts.{net_name}
 use Rattle.lw_check.specs.Failing.{Gives, IsFirstFailing}
-use Rattle.lw_check.specs.Ports.{mapped_ports}
 
 -- The claim that a netlist with its frame and certificate is a fastest mapping: of a network with its frame and the starts of its
 -- inputs, by cells and their patterns, over a graph in which the outputs have these classes.

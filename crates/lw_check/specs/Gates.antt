@@ -5,8 +5,8 @@ use Rattle.lw_pool.specs.declared.id.ClassId.{ClassId}
 use Rattle.lw_pool.specs.declared.id.NetId.{NetId}
 use Rattle.lw_laws.specs.Covers.{Pattern}
 use Rattle.lw_laws.specs.Graphs.{Stands}
-use Rattle.lw_match.specs.Values.{numbers}
 use Rattle.lw_check.specs.Claims.{Claim, class_of_net, AreMatches, IsMatchAtPlace}
+use Rattle.lw_pool.specs.Numbers.{numbers}
 
 -- the nets have these classes, or some net has none
 abbrev pub AreClassesOf : Claim → List NetId → Option (List ClassId) → Type 0

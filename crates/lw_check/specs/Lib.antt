@@ -5,7 +5,6 @@ pub mod Gates
 pub mod Least
 pub mod Mappings
 pub mod Outputs
-pub mod Ports
 pub mod Spans
 pub mod Standing
 pub mod Verdicts

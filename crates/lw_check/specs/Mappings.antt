@@ -15,16 +15,16 @@ use Rattle.lw_laws.specs.NumberedForms.{family_of}
 use Rattle.lw_net.specs.Networks.{IsNetwork}
 use Rattle.lw_net.specs.Plain.{plain as plain_network}
 use Rattle.lw_graph.specs.Graphs.{IsGraph}
-use Rattle.lw_match.specs.Values.{numbers}
 use Rattle.lw_label.specs.Delays.{most_time}
 use Rattle.lw_netlist.specs.Netlists.{IsNetlist}
-use Rattle.lw_netlist.specs.Plain.{plain as plain_netlist}
+use Rattle.lw_netlist.specs.Plain.{plain as plain_netlist, mapped_ports}
 use Rattle.lw_mapped.specs.declared.certificate.Certificate.{Certificate}
 use Rattle.lw_mapped.specs.declared.closing.Mapped.{Mapped}
 use Rattle.lw_mapped.specs.Certified.{IsCertificateOf, AreSameCertificates}
 use Rattle.lw_mapped.specs.Standing.{AreLabels}
 use Rattle.lw_check.specs.Claims.{Claim, timing_in, cost_in}
-use Rattle.lw_check.specs.Ports.{ports_of, mapped_ports}
+use Rattle.lw_pool.specs.Numbers.{numbers}
+use Rattle.lw_net.specs.Ports.{ports_of}
 
 -- the classes of the outputs' sums of products are those of the claim
 abbrev pub HasRootClasses : ℕ → Claim → Type 0

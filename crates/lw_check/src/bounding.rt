@@ -5,10 +5,11 @@ ghost use Rattle.lw_laws.specs.Laws.{BoundsCovers};
 ghost use Rattle.lw_laws.specs.Mapped.{IsPotentialOf};
 ghost use Rattle.lw_laws.specs.Rounds.{labels_in};
 ghost use Rattle.lw_match.specs.Least.{AreOfCells};
-ghost use Rattle.lw_match.specs.Values.{plain_match, numbers};
+ghost use Rattle.lw_match.specs.Values.{plain_match};
 ghost use Rattle.lw_check.specs.Claims.{class_number};
 ghost use Rattle.lw_check.specs.Failing.{IsAbove, IsFirstFailing};
 ghost use Rattle.lw_check.specs.Least.{IsByPattern, IsCostOf, IsLate, IsLeastOf, IsLow, IsLowMatch, lesser_of};
+ghost use Rattle.lw_pool.specs.Numbers.{numbers};
 
 use lw_graph::Graph;
 use lw_match::{Cost, Cursor, Match};

@@ -1,10 +1,10 @@
 // The class numbers of a certificate.
 ghost use Rattle.std.specs.Prelude.{◌≡◌, ◌≤◌, find, length, nat_le, option_map};
 ghost use Rattle.std.specs.List.{filter_map};
-ghost use Rattle.lw_mapped.specs.Sayings.{most_classes};
 ghost use Rattle.lw_mapped.specs.Standing.{AreLabels};
 ghost use Rattle.lw_check.specs.Cases.{claim_of};
 ghost use Rattle.lw_check.specs.Claims.{class_number, first_unknown_class, labelled_from};
+ghost use Rattle.lw_laws.specs.Graphs.{most_classes};
 
 use crate::case::Case;
 use lw_fixed::Micro;

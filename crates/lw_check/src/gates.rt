@@ -3,12 +3,12 @@ ghost use Rattle.std.specs.Prelude.{◌≡◌, ◌↔◌, ◌<◌, ◌≤◌, �
 ghost use Rattle.lw_netlist.specs.declared.gate.Gate.{Gate as NetGate};
 ghost use Rattle.lw_netlist.specs.Plain.{HasCell};
 ghost use Rattle.lw_mapped.specs.Texts.{net_name};
-ghost use Rattle.lw_match.specs.Values.{numbers};
 ghost use Rattle.lw_check.specs.Cases.{claim_of, IsAskable, Tells};
 ghost use Rattle.lw_check.specs.Claims.{AreMatches, class_number, class_of_net, HasKnownClasses, HasSamePorts, IsMatchGate};
 ghost use Rattle.lw_check.specs.Gates.{AreClassesOf, FindsNoMatch, IsMatchBy};
 ghost use Rattle.lw_check.specs.Spans.{AreSpans, IsIn};
 ghost use Rattle.lw_check.specs.Standing.{AreWithin};
+ghost use Rattle.lw_pool.specs.Numbers.{numbers};
 
 use crate::Reason;
 use crate::case::Case;

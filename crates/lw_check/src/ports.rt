@@ -2,10 +2,10 @@
 ghost use Rattle.std.specs.Prelude.{◌≡◌, ◌↔◌, ◌<◌, IsTrue, All, length, map};
 ghost use Rattle.lw_pool.specs.declared.id.NetId.{NetId};
 ghost use Rattle.lw_pool.specs.declared.latch.Latch.{Latch as LatchOfFrame};
-ghost use Rattle.lw_mapped.specs.Texts.{port_name};
 ghost use Rattle.lw_net.specs.Networks.{name_in};
 ghost use Rattle.lw_check.specs.Cases.{claim_of};
 ghost use Rattle.lw_check.specs.Claims.{HasSamePorts};
+ghost use Rattle.lw_netlist.specs.Plain.{port_name};
 
 use crate::case::Case;
 use lw_net::Network;

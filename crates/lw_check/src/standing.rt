@@ -1,10 +1,10 @@
 // The class at which a pattern stands, from its pins upward.
 ghost use Rattle.std.specs.Prelude.{◌≡◌, ◌<◌, ◌≤◌, ℕ, List, IfSome, length, slice_get};
 ghost use Rattle.lw_laws.specs.Trees.{inv, nand, Tree};
-ghost use Rattle.lw_match.specs.Values.{numbers};
 ghost use Rattle.lw_pattern.specs.Listed.{IsKept};
 ghost use Rattle.lw_pattern.specs.Nodes.{tree_at, tree_of};
 ghost use Rattle.lw_check.specs.Standing.{AreStanding, AreWithin, StandsAlone};
+ghost use Rattle.lw_pool.specs.Numbers.{numbers};
 
 use lw_graph::Graph;
 use lw_pattern::{PatNode, PatNodes};

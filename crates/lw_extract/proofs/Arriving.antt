@@ -16,7 +16,6 @@ use Rattle.lw_genlib.specs.Tables.{timing_of}
 use Rattle.lw_graph.specs.Graphs.{IsGraph}
 use Rattle.lw_match.specs.declared.mark.Mark.{Mark}
 use Rattle.lw_match.specs.Least.{AreOfCells}
-use Rattle.lw_match.specs.Values.{numbers}
 use Rattle.lw_label.specs.Delays.{most_time, time_cost}
 use Rattle.lw_label.specs.Labels.{AreLeastMarks}
 use Rattle.lw_label.proofs.Low.{labels_below_cap}
@@ -26,6 +25,7 @@ use Rattle.lw_extract.specs.declared.ports.Ports.{Ports}
 use Rattle.lw_extract.specs.declared.ports.Cover.{Cover as Extracted}
 use Rattle.lw_extract.specs.Choosing.{labels, heights}
 use Rattle.lw_extract.specs.Covers.{AreFit, IsExtractedCover, CostTheirLabels, ArriveAtLabels}
+use Rattle.lw_pool.specs.Numbers.{numbers}
 
 -- each net of a cover costs the label of its class
 pub cost_their_labels : (g : Graph) (cost : Cost) (pats : List Pattern) (marks : List (Option Mark)) → HaveLeafLabels g cost (labels marks) → (ports : Ports) (cover : Extracted) → IsExtractedCover g cost pats marks ports cover → CostTheirLabels g cost marks cover

@@ -16,7 +16,7 @@ use Rattle.lw_laws.specs.Extracts.IsNeeded.{by_root, by_pin}
 use Rattle.lw_laws.proofs.Extracts.{extracted_ordered}
 use Rattle.lw_laws.proofs.Numbers.{slice_get_map, slice_get_map_back}
 use Rattle.lw_match.specs.declared.mark.Mark.{Mark}
-use Rattle.lw_match.specs.Values.{numbers, plain_match}
+use Rattle.lw_match.specs.Values.{plain_match}
 use Rattle.lw_label.specs.Labels.{cost_in}
 use Rattle.lw_genlib.specs.Cells.{CellParts, IsLibrary, IsListed}
 use Rattle.lw_genlib.specs.Tables.{cell_delays, delays_of_cells, millionths}
@@ -24,7 +24,7 @@ use Rattle.lw_match.proofs.MoreParts.{get_in_more}
 use Rattle.lw_netlist.specs.declared.gate.Gate.{Gate}
 use Rattle.lw_netlist.specs.declared.gate.Port.{Port}
 use Rattle.lw_netlist.specs.Netlists.{NetlistParts, IsNetlist, IsGateAt}
-use Rattle.lw_netlist.specs.Plain.{net_number, plain_gate, plain, HasCell, IsOver}
+use Rattle.lw_netlist.specs.Plain.{plain_gate, plain, HasCell, IsOver}
 use Rattle.lw_extract.specs.declared.choosing.Chosen.{Chosen}
 use Rattle.lw_extract.specs.declared.ports.Ports.{Ports}
 use Rattle.lw_extract.specs.Nets.{Nets, net_in, AreClassNets}
@@ -34,6 +34,7 @@ use Rattle.lw_extract.specs.Covers.{AreFit, IsExtractedCover}
 use Rattle.lw_extract.proofs.ClassNets.{some_is, not_none}
 use Rattle.lw_naming.proofs.NameCount.{name_count}
 use Rattle.lw_extract.proofs.Places.{slice_get_right, all_places, all_at, place_beside, some_within, zip_read, zip_maps, zip_right, from_all_map, contains_at, few_distinct}
+use Rattle.lw_pool.specs.Numbers.{numbers, net_number}
 
 not_before_itself : (heights : ℕ → ℕ) (c : ℕ) → IsGateBefore heights c c → ⊥
 not_before_itself heights c (inl lt) = omega arith

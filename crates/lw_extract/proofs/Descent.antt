@@ -14,7 +14,7 @@ use Rattle.lw_laws.proofs.Extracts.{IsChosen_once}
 use Rattle.lw_laws.proofs.Lists.{all_contains}
 use Rattle.lw_match.specs.declared.mark.Mark.{Mark}
 use Rattle.lw_match.specs.declared.mark.Match.{Match}
-use Rattle.lw_match.specs.Values.{numbers, plain_match}
+use Rattle.lw_match.specs.Values.{plain_match}
 use Rattle.lw_extract.specs.declared.choosing.Chosen.{Chosen}
 use Rattle.lw_extract.specs.declared.ordering.Place.{Place}
 use Rattle.lw_extract.specs.Choosing.{labels, heights, chosen_classes, AreChosen, AreRoots, HasAlso, IsChoice}
@@ -23,6 +23,7 @@ use Rattle.lw_extract.specs.Orders.{IsPlaceBefore, ArePlaces, AreByHeight}
 use Rattle.lw_extract.proofs.Picking.{height_at, mark_at, pin_label, pins_below, root_mark}
 use Rattle.lw_extract.proofs.Sorting.{at_contains, contains_back, seen_place, back_place, before_seen}
 use Rattle.lw_extract.proofs.Places.{some_within, contains_at}
+use Rattle.lw_pool.specs.Numbers.{numbers}
 
 abbrev IsNoted : List Bool → ℕ → Type 0
 IsNoted needed c = slice_index_or needed c false ≡ true

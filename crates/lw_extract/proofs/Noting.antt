@@ -4,8 +4,8 @@ use Rattle.std.proofs.lemmas.Bool.{cases_eq}
 use Rattle.std.proofs.lemmas.List.{length-set, get_or-set_same, get_or-set_other, map_push, take_more}
 use Rattle.std.proofs.lemmas.List.Elements.{Contains-push, Contains-push_cases, Contains-append_left}
 use Rattle.lw_pool.specs.declared.id.ClassId.{ClassId}
-use Rattle.lw_match.specs.Values.{numbers}
 use Rattle.lw_extract.specs.Choosing.{HasAlso}
+use Rattle.lw_pool.specs.Numbers.{numbers}
 
 also_push : (old now : List Bool) (cs : List ClassId) (c : ClassId) → c.0 < length now → HasAlso old cs now → HasAlso old (cs ++ c ∷ []) (slice_set now c.0 true)
 also_push old now cs c below has = record {

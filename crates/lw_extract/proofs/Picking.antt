@@ -16,12 +16,13 @@ use Rattle.lw_laws.specs.Extracts.{IsChosen, IsLeafClass}
 use Rattle.lw_laws.proofs.MarkLaws.{supports_priced, some_supports, least_chosen}
 use Rattle.lw_match.specs.declared.mark.Mark.{Mark}
 use Rattle.lw_match.specs.declared.mark.Best.{Best}
-use Rattle.lw_match.specs.Values.{marks_in, numbers, plain_mark, plain_match}
+use Rattle.lw_match.specs.Values.{marks_in, plain_mark, plain_match}
 use Rattle.lw_match.specs.Least.{IsLeastMatch, IsLeastBelow, IsMarkBefore}
 use Rattle.lw_label.specs.Labels.{AreLeastMarks}
 use Rattle.lw_label.proofs.Marked.{label_at, mark_of_label}
 use Rattle.lw_extract.specs.Choosing.{labels, heights, IsChoice}
 use Rattle.lw_extract.proofs.ClassNets.{some_of}
+use Rattle.lw_pool.specs.Numbers.{numbers}
 
 -- the labels of marks as one function
 pub labels_are : (marks : List (Option Mark)) → labels marks ≡ labels_of (marks_in marks)

@@ -3,7 +3,7 @@ use Rattle.std.specs.Prelude.{ℕ, ◌<◌, ◌≤◌, ◌^◌, ◌≡◌, List,
 use Rattle.std.specs.List.{AllZip}
 use Rattle.lw_pool.specs.declared.id.ClassId.{ClassId}
 use Rattle.lw_fixed.specs.declared.micro.Micro.{Micro}
-use Rattle.lw_laws.specs.Graphs.{Graph}
+use Rattle.lw_laws.specs.Graphs.{Graph, most_classes}
 use Rattle.lw_laws.specs.Costs.{Cost}
 use Rattle.lw_laws.specs.Covers.{Pattern}
 use Rattle.lw_laws.specs.Names.{net_names}
@@ -12,13 +12,12 @@ use Rattle.lw_laws.specs.Extracts.{AreGateClasses, IsExtracted, IsNetOf}
 use Rattle.lw_genlib.specs.Cells.{CellParts}
 use Rattle.lw_genlib.specs.Tables.{timing_of}
 use Rattle.lw_match.specs.declared.mark.Mark.{Mark}
-use Rattle.lw_match.specs.Values.{numbers}
-use Rattle.lw_label.specs.Labels.{most_classes}
 use Rattle.lw_netlist.specs.declared.gate.Port.{Port}
 use Rattle.lw_netlist.specs.Plain.{plain}
 use Rattle.lw_extract.specs.declared.ports.Ports.{Ports}
 use Rattle.lw_extract.specs.declared.ports.Cover.{Cover}
 use Rattle.lw_extract.specs.Choosing.{labels, heights}
+use Rattle.lw_pool.specs.Numbers.{numbers}
 
 -- one name for each input of the graph, and for each output one of its classes
 pub record AreFit (g : Graph) (ports : Ports) : Type 0 where

@@ -8,10 +8,10 @@ ghost use Rattle.lw_laws.specs.Names.{net_names};
 ghost use Rattle.lw_genlib.specs.Tables.{delays_of_cells};
 ghost use Rattle.lw_netlist.specs.Plain.{IsOver};
 ghost use Rattle.lw_extract.specs.declared.fault.ExtractFault.TheVariants.{NoCover};
-ghost use Rattle.lw_match.specs.Values.{numbers};
 ghost use Rattle.lw_extract.specs.Choosing.{AreChosen, chosen_classes, labels as labels_of};
 ghost use Rattle.lw_extract.specs.Nets.{AreClassNets};
 ghost use Rattle.lw_extract.specs.Covers.{AreFit, IsFirstUncovered, IsExtractedCover, CostTheirLabels};
+ghost use Rattle.lw_pool.specs.Numbers.{numbers};
 
 use crate::choosing::{Chosen, choose};
 use crate::gates::{gates_of, outputs_of};

@@ -24,8 +24,9 @@ use Rattle.lw_form.proofs.ListedForms.{longer_add, longer_fault, listed_kept, ba
 use Rattle.lw_form.proofs.Rows.{signed_form}
 use Rattle.lw_form.specs.Products.{signed_number, HaveColumns}
 use Rattle.lw_pool.specs.declared.id.NetId.{NetId}
-use Rattle.lw_net.specs.Plain.{net_number, plain_node}
+use Rattle.lw_net.specs.Plain.{plain_node}
 use Rattle.lw_net.specs.Signs.{asked}
+use Rattle.lw_pool.specs.Numbers.{net_number}
 
 pub added_last : (signals : List Signal) (s : Signal) (bases : List Form) → add_signals (signals ++ s ∷ []) bases ≡ add_form s.fac (add_form s.sop (add_signals signals bases))
 added_last [] s bases = refl

@@ -1,7 +1,7 @@
 // The forms of the nets of a network, and the list of what occurs in them.
 ghost use Rattle.std.specs.Prelude.{◌≡◌, ◌+◌, ◌/◌, ◌<◌, ◌≤◌, ◌++◌, [], ◌∷◌, ℕ, List, map, length, All, IfOk, IfErr, OnOk, slice_index_or};
 ghost use Rattle.lw_net.specs.Networks.{most_nets};
-ghost use Rattle.lw_net.specs.Plain.{plain, plain_node, net_number};
+ghost use Rattle.lw_net.specs.Plain.{plain, plain_node};
 ghost use Rattle.lw_net.specs.Signs.{asked};
 ghost use Rattle.lw_laws.specs.Forms.{Form};
 ghost use Rattle.lw_laws.specs.Forms.Form.{true_form};
@@ -13,6 +13,7 @@ ghost use Rattle.lw_form.specs.Listed.{bases_of, IsTooLong};
 ghost use Rattle.lw_form.specs.Nets.{signal_at, AreListed, AreNodes};
 ghost use Rattle.lw_form.specs.Products.{HaveColumns};
 ghost use Rattle.lw_form.specs.Tables.{made, AreBelow, forms_at, HasMore};
+ghost use Rattle.lw_pool.specs.Numbers.{net_number};
 
 use crate::factoring::factored;
 use crate::listing::Listing;

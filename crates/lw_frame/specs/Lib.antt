@@ -1,4 +1,5 @@
 pub mod Frames
 pub mod Kept
+pub mod Latches
 pub mod Standing
 pub mod Starts

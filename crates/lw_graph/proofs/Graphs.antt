@@ -10,9 +10,10 @@ use Rattle.lw_laws.proofs.Flips.{half-flip}
 use Rattle.lw_laws.specs.Flip.{flip}
 use Rattle.lw_laws.specs.Graphs.{Graph as PlainGraph, AreRising, class_of}
 use Rattle.lw_graph.specs.declared.pair.Pair.{Pair}
-use Rattle.lw_graph.specs.Graphs.{numbers, plain_pair, plain_row, plain_graph, flat_graph, IsBelow, IsGraph}
+use Rattle.lw_graph.specs.Graphs.{plain_pair, plain_row, plain_graph, flat_graph, IsBelow, IsGraph}
 use Rattle.lw_graph.specs.Rows.{rows_from, start_at}
 use Rattle.lw_graph.proofs.Rows.{length-rows_from, row_at}
+use Rattle.lw_pool.specs.Numbers.{numbers}
 
 flip_below : (n c : ℕ) → n % 2 ≡ 0 → c < n → flip c < n
 flip_below n c even lt = let h = half-flip c in omega arith

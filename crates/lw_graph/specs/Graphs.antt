@@ -4,9 +4,7 @@ use Rattle.lw_pool.specs.declared.id.ClassId.{ClassId}
 use Rattle.lw_laws.specs.Graphs.{Graph as PlainGraph, Pair as PlainPair, AreRising, PairsInOneClass}
 use Rattle.lw_graph.specs.declared.pair.Pair.{Pair}
 use Rattle.lw_graph.specs.Rows.{rows_from}
-
-abbrev pub numbers : List ClassId → List ℕ
-numbers classes = map (λ (c : ClassId). c.0) classes
+use Rattle.lw_pool.specs.Numbers.{numbers}
 
 abbrev pub plain_pair : Pair → PlainPair
 plain_pair p = record { x = p.x.0; y = p.y.0 }

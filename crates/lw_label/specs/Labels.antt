@@ -26,7 +26,3 @@ pub record AreLeastMarks (g : Graph) (cost : Cost) (pats : List Pattern) (marks 
   pub heights : (c : ℕ) (m : PlainMark) → marks_in marks c ≡ Some m → IsHeight (choices_of g cost.pin_counts pats) cost (labels_in (costs_of marks)) c m.height
   -- no cost above the cap, and heights that a number of 32 bits holds
   pub in_range : AreInRange cost.cap marks
-
--- how many classes there are at most where no label reaches the greatest time
-abbrev pub most_classes : ℕ
-most_classes = 4194304

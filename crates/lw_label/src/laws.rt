@@ -1,7 +1,7 @@
 ghost use Rattle.std.specs.Prelude.{ℕ, ◌≡◌, ◌≤◌, ◌<◌, ◌+◌, ◌*◌, List, Option, Some, All, length, map};
 ghost use Rattle.lw_fixed.specs.declared.micro.Micro.{Micro};
 ghost use Rattle.lw_laws.specs.Covers.{ArePatterns, Pattern};
-ghost use Rattle.lw_laws.specs.Graphs.{Graph};
+ghost use Rattle.lw_laws.specs.Graphs.{Graph, most_classes};
 ghost use Rattle.lw_laws.specs.Laws.{IsTimingUpTo};
 ghost use Rattle.lw_laws.specs.Netlists.{HaveCellTruths};
 ghost use Rattle.lw_laws.specs.Rounds.{labels_in};
@@ -12,7 +12,7 @@ ghost use Rattle.lw_graph.specs.Graphs.{IsGraph};
 ghost use Rattle.lw_match.specs.declared.mark.Mark.{Mark};
 ghost use Rattle.lw_match.specs.Least.{AreOfCells};
 ghost use Rattle.lw_label.specs.Delays.{most_time, time_cost};
-ghost use Rattle.lw_label.specs.Labels.{AreLeastMarks, costs_of, most_classes};
+ghost use Rattle.lw_label.specs.Labels.{AreLeastMarks, costs_of};
 
 /// The patterns of a library are of its cells, each with the pins of its cell.
 pub fn library_patterns_are_of_cells()

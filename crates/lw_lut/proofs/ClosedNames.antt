@@ -23,7 +23,7 @@ use Rattle.lw_net.specs.Closing.{IsClosed, signals_of, out_of, fanins_of, by_dep
 use Rattle.lw_pool.specs.declared.id.NetId.{NetId}
 use Rattle.lw_net.specs.Networks.{NetworkParts, IsNodeAt, input_names, name_in, output_names}
 use Rattle.lw_lut.specs.Meaning.{IsNetworkOfAnySize}
-use Rattle.lw_net.specs.Plain.{plain, plain_node, net_number}
+use Rattle.lw_net.specs.Plain.{plain, plain_node}
 use Rattle.lw_net.specs.Signs.{asked}
 use Rattle.lw_net.proofs.Buckets.{moved, rising, within_greatest}
 use Rattle.lw_graph.proofs.Indexing.{map_back}
@@ -31,6 +31,7 @@ use Rattle.lw_lut.specs.Said.{AreTableDepths, deepest, is_wire}
 use Rattle.lw_lut.proofs.NetNames.{left_entry, right_entry}
 use Rattle.lw_lut.proofs.RisingClasses.{at_contains, contains_at}
 use Rattle.lw_lut.proofs.TableValues.{said_value, said_wire}
+use Rattle.lw_pool.specs.Numbers.{net_number}
 
 module _ (draft : Draft) (distinct : IsDistinct bytes_eq (signals_of draft)) (net : NetworkParts) (closed : IsClosed draft net) where
   abbrev depth_of : DraftNode → ℕ

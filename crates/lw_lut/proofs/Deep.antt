@@ -18,7 +18,7 @@ use Rattle.std.proofs.lemmas.List.Sorted.{length_permutation, All-permutation}
 use Rattle.std.proofs.lemmas.List.FromFn.{get_or-range_with_len}
 use Rattle.std.proofs.lemmas.Option.{slice_get_within, get_or_from_slice_get}
 use Rattle.lw_graph.specs.Graphs.{IsGraph}
-use Rattle.lw_lut.specs.Cuts.{PlainCut, IsCutAt, numbers, is_odd}
+use Rattle.lw_lut.specs.Cuts.{PlainCut, IsCutAt, is_odd}
 use Rattle.lw_lut.specs.Searches.{AreCounts, AreBounded, AreSettled, IsBelow}
 use Rattle.lw_lut.specs.declared.search.Search.{Search}
 use Rattle.lw_lut.proofs.Joining.{class_cut}
@@ -27,6 +27,7 @@ use Rattle.lw_lut.specs.Covers.{TableCover, TableCovers, tree_of, trees_of, leav
 use Rattle.lw_lut.specs.Covers.TableCover.{wire, table}
 use Rattle.lw_lut.specs.Covers.TableCovers.{no_covers, cover}
 use Rattle.lw_lut.specs.Searches.{depth_in, IsKnown, AreDepthsUpTo, IsBoundedAt, count_at}
+use Rattle.lw_pool.specs.Numbers.{numbers}
 
 -- Each tree has a cover by tables of at most two pins.
 

@@ -17,12 +17,13 @@ use Rattle.lw_lut.specs.Depths.{DepthLists, AreLeastDepths, IsTableCut}
 use Rattle.lw_lut.specs.Packed.{packed}
 use Rattle.lw_lut.specs.Tables.{IsTableAt, AreRisingClasses, table_value}
 use Rattle.lw_lut.proofs.TablesAt.{cut_table}
-use Rattle.lw_lut.specs.Cuts.{PlainCut, numbers}
+use Rattle.lw_lut.specs.Cuts.{PlainCut}
 use Rattle.lw_lut.specs.Searches.{depth_in, IsKnown}
 use Rattle.lw_lut.specs.Choosing.{IsNeeded, IsTable, IsTableBefore, AreTables, AreRoots, HasAlso, IsPlaceBefore, ArePlaces, AreByDepth}
 use Rattle.lw_lut.specs.Choosing.IsNeeded.{by_root, by_fanin}
 use Rattle.lw_lut.proofs.RisingClasses.{contains_at, at_contains}
 use Rattle.lw_lut.proofs.Sorting.{within_some}
+use Rattle.lw_pool.specs.Numbers.{numbers}
 
 abbrev IsNoted : List Bool → ℕ → Type 0
 IsNoted needed c = slice_index_or needed c false ≡ true

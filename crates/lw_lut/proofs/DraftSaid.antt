@@ -13,7 +13,7 @@ use Rattle.lw_frame.proofs.Once.{once-distinct, roots_differ}
 use Rattle.lw_blif.specs.declared.command.Command.{Command}
 use Rattle.lw_blif.specs.declared.command.Command.TheVariants.{Model, Inputs, Outputs, Names, Row}
 use Rattle.lw_blif.specs.declared.command.Command.TheVariants as asks
-use Rattle.lw_blif.specs.LineFaults.{command, first_word, other_words, ends, goes_on, front, is_ignored, is_ignored_command, lines_read}
+use Rattle.lw_blif.specs.LineFaults.{command, other_words, ends, goes_on, is_ignored, is_ignored_command, lines_read}
 use Rattle.lw_blif.specs.Drafts.{model_for, inputs_for, outputs_for, latches_for, arrivals_for, model_on, inputs_on, outputs_on, latches_on, arrivals_on, nodes_of, draft_of, frame_on, starts_on}
 use Rattle.lw_lut.specs.Nets.{PlainTableNet}
 use Rattle.lw_lut.specs.Said.{draft_said, table_node, wire_nodes}
@@ -22,6 +22,7 @@ use Rattle.lw_lut.proofs.ReadNames.{distinct_left}
 use Rattle.lw_lut.proofs.NodesSaid.{IsKeptLine, nodes_in, nodes_kept, skip_line, nodes_said}
 use Rattle.lw_lut.proofs.TextLines.{Words, latch_words, node_lines, model_words, inputs_words, outputs_words, inner_lines, end_words, lines_said}
 use Rattle.lw_lut.proofs.WordLines.{numbered}
+use Rattle.lw_words.specs.Words.{first_word, front}
 
 -- Lines that are read.
 

@@ -4,10 +4,11 @@ use Rattle.std.proofs.lemmas.Bool.{cases_eq}
 use Rattle.std.proofs.lemmas.List.{take_more, map-append}
 use Rattle.std.proofs.Math.Nat.{pow-le-pow_right}
 use Rattle.lw_pool.specs.declared.id.ClassId.{ClassId}
-use Rattle.lw_lut.specs.Cuts.{numbers, spelled, is_set}
+use Rattle.lw_lut.specs.Cuts.{spelled, is_set}
 use Rattle.lw_lut.specs.Tables.{given}
 use Rattle.lw_lut.proofs.Bits.{spelled_join, spelled_low}
 use Rattle.lw_lut.proofs.Joining.{quotient}
+use Rattle.lw_pool.specs.Numbers.{numbers}
 
 pub same_test : (a b : ℕ) → a ≡ b → (a == b) ≡ true
 same_test a b e = grind (arith, e)

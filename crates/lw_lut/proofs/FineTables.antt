@@ -13,10 +13,9 @@ use Rattle.lw_frame.specs.Frames.{output_of}
 use Rattle.lw_laws.proofs.Lists.{all_append}
 use Rattle.lw_blif.specs.declared.command.Command.TheVariants.{Model, Inputs, Outputs, Names}
 use Rattle.lw_blif.specs.declared.command.Command.TheVariants as asks
-use Rattle.lw_blif.specs.Commands.{is_among}
 use Rattle.lw_blif.specs.LineFaults.{other_words, words_before_last, has_twice}
 use Rattle.lw_lut.specs.Nets.{PlainTableNet}
-use Rattle.lw_lut.specs.Readable.{IsSignalName, IsReadableLatch, IsSayable, AreUnlimited}
+use Rattle.lw_lut.specs.Readable.{IsSayable, AreUnlimited}
 use Rattle.lw_lut.specs.Texts.{fanin_names, net_name}
 use Rattle.lw_lut.specs.declared.table.Table.{Table}
 use Rattle.lw_lut.proofs.DraftSaid.{body, all_inputs}
@@ -27,6 +26,8 @@ use Rattle.lw_lut.proofs.SayableNames.{IsFairTable, wire_outputs, names_pass, ta
 use Rattle.lw_lut.proofs.TextLines.{Words, row_lines, table_head, table_lines, wire_head, wire_row, wire_lines, latch_words, node_lines, model_words, inputs_words, outputs_words, inner_lines}
 use Rattle.lw_lut.proofs.Unlimited.{IsNameLine, AreFine, fine_line, fine_node, fine_none, fine_all}
 use Rattle.lw_lut.proofs.WordLines.{numbered}
+use Rattle.lw_words.specs.Words.{is_among, IsSignalName}
+use Rattle.lw_frame.specs.Latches.{IsReadableLatch}
 
 -- one more name, which is none of those before it
 fresh_one : (defined : List (List ℕ)) (name : List ℕ) (more : List (List ℕ)) → IsDistinct bytes_eq (defined ++ name ∷ more) → (has_twice (name ∷ []) || list_any (is_among defined) (name ∷ [])) ≡ false

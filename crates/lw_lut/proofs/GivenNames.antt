@@ -13,9 +13,9 @@ use Rattle.std.proofs.lemmas.Str.Parse.{IsNumeralModel, numerals_by_value}
 use Rattle.lw_words.specs.Gathering.{IsInk, IsNoHash}
 use Rattle.lw_laws.specs.Names.{is_name_among, numbered_name, numbered_names, free_names, output_name, gate_names}
 use Rattle.lw_laws.proofs.Heights.{all_weaker}
-use Rattle.lw_lut.specs.Readable.{IsSignalName}
 use Rattle.lw_naming.proofs.FreeNames.{enough_free}
 use Rattle.lw_lut.proofs.WrittenWords.{IsGood, is_good, good_bytes, ends_stroke, stroke_behind}
+use Rattle.lw_words.specs.Words.{IsSignalName}
 
 -- Numbered names.
 

@@ -13,9 +13,10 @@ use Rattle.lw_laws.specs.Graphs.{Graph, Stands, HoldsPair}
 use Rattle.lw_laws.proofs.Extracts.{slice_get_left, slice_get_right}
 use Rattle.lw_laws.proofs.Flips.{flip-flip, half-flip, odd-flip}
 use Rattle.lw_lut.specs.Covers.{leaves_of}
-use Rattle.lw_lut.specs.Cuts.{PlainCut, IsCutAt, numbers, spelled, is_set, pin_value, turned, is_odd}
+use Rattle.lw_lut.specs.Cuts.{PlainCut, IsCutAt, spelled, is_set, pin_value, turned, is_odd}
 use Rattle.lw_lut.specs.Packed.{joined_value, joined_bits}
 use Rattle.lw_lut.proofs.Bits.{packed_set, spelled_low, spelled_join}
+use Rattle.lw_pool.specs.Numbers.{numbers}
 
 -- the tree with its pins that many further on
 abbrev pub moved : ℕ → Tree → Tree

@@ -17,13 +17,14 @@ use Rattle.lw_blif.specs.declared.command.Command.{Command}
 use Rattle.lw_blif.specs.declared.command.Command.TheVariants.{Model, Inputs, Outputs, Names, Arrival, DefaultArrival, End, Ignored, Unsupported, Unknown, Row}
 use Rattle.lw_blif.specs.declared.command.Command.TheVariants as asks
 use Rattle.lw_blif.specs.Commands.{command_of, point_command}
-use Rattle.lw_blif.specs.LineFaults.{first_word, last_word, ends, is_column, is_value, has_shape, is_ignored_command}
+use Rattle.lw_blif.specs.LineFaults.{last_word, ends, is_column, is_value, has_shape, is_ignored_command}
 use Rattle.lw_lut.specs.Cuts.{is_set}
 use Rattle.lw_lut.specs.Nets.{PlainTableNet}
 use Rattle.lw_lut.specs.Texts.{binary, is_buffer, net_name}
 use Rattle.lw_lut.specs.declared.table.Table.{Table}
 use Rattle.lw_lut.proofs.TextLines.{Words, row_words, row_lines_from, off_row, row_lines, table_head, table_lines, wire_head, wire_row, wire_one, wire_lines, latch_words, node_lines, inner_lines}
 use Rattle.lw_lut.proofs.WrittenWords.{length_binary}
+use Rattle.lw_words.specs.Words.{first_word}
 
 abbrev pub asks_for : Words → Command
 asks_for words = command_of (first_word words)

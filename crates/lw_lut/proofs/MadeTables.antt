@@ -14,13 +14,14 @@ use Rattle.lw_laws.proofs.Extracts.{slice_get_left, slice_get_right}
 use Rattle.lw_laws.proofs.Lists.{contains_all}
 use Rattle.lw_laws.proofs.NameLaws.{names_differ, names_owned}
 use Rattle.lw_lut.specs.Choosing.{AreTables}
-use Rattle.lw_lut.specs.Cuts.{numbers}
 use Rattle.lw_lut.specs.Nets.{PlainTableNet, AreFit, IsTableNetOf, IsTableNet, net_classes, table_classes}
-use Rattle.lw_lut.specs.Readable.{AreSayablePorts, IsSayable, IsSignalName, names_of_nets}
+use Rattle.lw_lut.specs.Readable.{AreSayablePorts, IsSayable, names_of_nets}
 use Rattle.lw_lut.specs.declared.ports.TablePorts.{TablePorts}
 use Rattle.lw_lut.specs.declared.table.Table.{Table}
 use Rattle.lw_lut.proofs.GivenNames.{given_each, length_given}
 use Rattle.lw_lut.proofs.ReadNames.{different_of}
+use Rattle.lw_words.specs.Words.{IsSignalName}
+use Rattle.lw_pool.specs.Numbers.{numbers}
 
 -- what is made of the network's own ports
 record IsMade (g : Graph) (most : ℕ) (depths : List (Option ℕ)) (n : PlainTableNet) (frame : Frame) : Type 0 where

@@ -9,7 +9,6 @@ use Rattle.lw_laws.specs.Names as laws
 use Rattle.lw_laws.proofs.Lists.{slice_get_some}
 use Rattle.lw_laws.proofs.NameLaws.{names_differ, names_owned}
 use Rattle.lw_laws.proofs.Numbers.{slice_get_map_back}
-use Rattle.lw_lut.specs.Cuts.{numbers}
 use Rattle.lw_lut.specs.Depths.{DepthLists, AreLeastDepths}
 use Rattle.lw_lut.specs.Meaning.{AreNamedApart, ArePortsApart, net_names}
 use Rattle.lw_lut.specs.Nets.{AreFit, PlainTableNet, IsTableNetOf, IsTableNet, net_classes, table_classes}
@@ -20,6 +19,7 @@ use Rattle.lw_lut.proofs.NetNames.{left_entry, right_entry}
 use Rattle.lw_lut.proofs.RisingClasses.{contains_at}
 use Rattle.lw_lut.proofs.Sorting.{within_some}
 use Rattle.lw_lut.proofs.TableValues.{long}
+use Rattle.lw_pool.specs.Numbers.{numbers}
 
 module _ (g : Graph) (most : ℕ) (lists : DepthLists) (ports : TablePorts) (n : PlainTableNet) (least : AreLeastDepths g most lists) (fit : AreFit g ports) (apart : ArePortsApart g ports) (is : IsTableNetOf g most lists.depths ports n) (kept : IsTableNet n) (few : 1 + (length g.pairs + (length ports.inputs + length ports.outputs)) < 2 ^ 64) where
   abbrev gates : List ℕ

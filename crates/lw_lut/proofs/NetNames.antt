@@ -5,13 +5,13 @@ use Rattle.std.proofs.lemmas.List.{length-map}
 use Rattle.std.proofs.lemmas.Option.{slice_get_within, same_Some}
 use Rattle.lw_laws.proofs.Numbers.{slice_get_map}
 use Rattle.lw_pool.specs.declared.id.ClassId.{ClassId}
-use Rattle.lw_lut.specs.Cuts.{numbers}
 use Rattle.lw_lut.specs.Nets.{PlainTableNet, IsTableNet, net_classes, table_classes}
 use Rattle.lw_lut.specs.Meaning.{AreNamedApart, net_names}
 use Rattle.lw_lut.specs.Texts.{name_at, net_name}
 use Rattle.lw_lut.specs.declared.table.Table.{Table}
 use Rattle.lw_lut.proofs.Fanins.{same_test, other_test}
 use Rattle.lw_lut.proofs.TableValues.{long}
+use Rattle.lw_pool.specs.Numbers.{numbers}
 
 -- the name of a class stands at a place of the class
 pub name_place : (cs : List ℕ) (names : List (List ℕ)) (c : ℕ) → length cs ≡ length names → Contains cs c → (i : ℕ) × (slice_get cs i ≡ Some c) × (slice_get names i ≡ Some (name_at cs names c))

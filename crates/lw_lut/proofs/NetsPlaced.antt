@@ -5,13 +5,13 @@ use Rattle.std.proofs.lemmas.Option.{slice_get-get_or}
 use Rattle.lw_laws.proofs.Lists.{in_map}
 use Rattle.lw_laws.proofs.Numbers.{slice_get_map_back}
 use Rattle.lw_pool.specs.declared.id.ClassId.{ClassId}
-use Rattle.lw_lut.specs.Cuts.{numbers}
 use Rattle.lw_lut.specs.Nets.{PlainTableNet, IsTableNet, net_classes, table_classes}
 use Rattle.lw_lut.specs.Placed.{HasNets}
 use Rattle.lw_lut.specs.declared.table.Table.{Table}
 use Rattle.lw_lut.proofs.PlacedNames.{IsOnce, class_count, few_classes}
 use Rattle.lw_lut.proofs.RisingClasses.{contains_at}
 use Rattle.lw_lut.proofs.TableNets.{split}
+use Rattle.lw_pool.specs.Numbers.{numbers}
 
 -- each table and its fan-ins have nets
 pub have_nets : (n : PlainTableNet) → IsTableNet n → All (λ (t : Table). length t.fanins ≤ 6) n.tables → All (HasNets n) n.tables

@@ -10,7 +10,7 @@ use Rattle.lw_words.specs.Lines.{LogicalLine}
 use Rattle.lw_net.specs.declared.draft.DraftNode.{DraftNode}
 use Rattle.lw_blif.specs.declared.command.Command.{Command}
 use Rattle.lw_blif.specs.declared.command.Command.TheVariants.{Names, Row}
-use Rattle.lw_blif.specs.LineFaults.{last_word, other_words, words_before_last, is_row_command, is_names_command, is_row, is_ignored, is_ignored_command, front}
+use Rattle.lw_blif.specs.LineFaults.{last_word, other_words, words_before_last, is_row_command, is_names_command, is_row, is_ignored, is_ignored_command}
 use Rattle.lw_blif.specs.Drafts.{columns_of, is_off_row, row_of, nodes_of}
 use Rattle.lw_lut.specs.Cuts.{is_set}
 use Rattle.lw_lut.specs.Nets.{PlainTableNet}
@@ -20,6 +20,7 @@ use Rattle.lw_lut.specs.declared.table.Table.{Table}
 use Rattle.lw_lut.proofs.LineKinds.{asks_for, asks_names, IsRowOf, row_value, table_rows_are, wire_is}
 use Rattle.lw_lut.proofs.TextLines.{Words, row_words, row_lines_from, off_row, row_lines, table_head, table_lines, wire_head, wire_row, wire_lines, node_lines}
 use Rattle.lw_lut.proofs.WordLines.{numbered}
+use Rattle.lw_words.specs.Words.{front}
 
 -- Nodes of lines, by their words.
 

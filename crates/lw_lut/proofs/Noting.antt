@@ -4,8 +4,8 @@ use Rattle.std.proofs.lemmas.Bool.{cases_eq}
 use Rattle.std.proofs.lemmas.List.{length-set, length-replicate, get_or-set_same, get_or-set_other, map_push, take_more, take_all}
 use Rattle.std.proofs.lemmas.List.Elements.{Contains-push, Contains-push_cases, Contains-append_left}
 use Rattle.lw_pool.specs.declared.id.ClassId.{ClassId}
-use Rattle.lw_lut.specs.Cuts.{numbers}
 use Rattle.lw_lut.specs.Choosing.{AreRoots, HasAlso}
+use Rattle.lw_pool.specs.Numbers.{numbers}
 
 pub also_none : (old : List Bool) → HasAlso old [] old
 also_none old = record { one_each = refl; are = λ c. (λ e. inl e, from c) }

@@ -9,8 +9,9 @@ use Rattle.lw_lut.specs.Cuts.{is_set}
 use Rattle.lw_lut.specs.Nets.{PlainTableNet}
 use Rattle.lw_pool.specs.declared.latch.Frame.{Frame}
 use Rattle.lw_lut.specs.Placed.{header_text}
-use Rattle.lw_lut.specs.Texts.{line, ended, binary, row, rows_from, wires, wire_text, net_name}
+use Rattle.lw_lut.specs.Texts.{binary, row, rows_from, wires, wire_text, net_name}
 use Rattle.lw_lut.specs.declared.table.Table.{Table}
+use Rattle.lw_words.specs.Texts.{ended, line}
 
 -- words and then a line end
 pub ended_is : (words : List (List ℕ)) → ended words ≡ flat_map (λ (word : List ℕ). 32 ∷ word) words ++ 10 ∷ []

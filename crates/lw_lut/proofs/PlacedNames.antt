@@ -6,12 +6,12 @@ use native.Mathlib.Decide.{dec_lt}
 use Rattle.indexmap.proofs.IndexTableLemmas.Probe.{pigeonhole}
 use Rattle.lw_laws.proofs.Numbers.{slice_get_map}
 use Rattle.lw_pool.specs.declared.id.ClassId.{ClassId}
-use Rattle.lw_lut.specs.Cuts.{numbers}
 use Rattle.lw_lut.specs.Nets.{PlainTableNet, net_classes, table_classes}
 use Rattle.lw_lut.specs.Placed.{IsPlaced}
 use Rattle.lw_lut.specs.Texts.{name_at, net_name}
 use Rattle.lw_lut.specs.declared.table.Table.{Table}
 use Rattle.lw_lut.proofs.RisingClasses.{at_contains}
+use Rattle.lw_pool.specs.Numbers.{numbers}
 
 abbrev pub IsOnce : List ℕ → Type 0
 IsOnce classes = (i j c : ℕ) → slice_get classes i ≡ Some c → slice_get classes j ≡ Some c → i ≡ j

@@ -11,11 +11,11 @@ use Rattle.lw_pool.specs.declared.id.ClassId.{ClassId}
 use Rattle.lw_frame.proofs.Once.{is_among, eq-flips}
 use Rattle.lw_laws.specs.Names.{AreDifferent}
 use Rattle.lw_laws.proofs.Lists.{all_append, all_contains, contains_all}
-use Rattle.lw_lut.specs.Cuts.{numbers}
 use Rattle.lw_lut.specs.Nets.{PlainTableNet, table_classes, net_classes}
 use Rattle.lw_lut.specs.Texts.{name_at, net_name}
 use Rattle.lw_lut.specs.declared.table.Table.{Table}
 use Rattle.lw_lut.proofs.RisingClasses.{contains_at}
+use Rattle.lw_pool.specs.Numbers.{numbers}
 
 -- Names by class.
 

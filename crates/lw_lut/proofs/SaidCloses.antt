@@ -16,7 +16,7 @@ use Rattle.lw_net.specs.declared.draft.DraftNode.{DraftNode}
 use Rattle.lw_net.specs.Closing.{IsClosed, out_of}
 use Rattle.lw_net.specs.Networks.{NetworkParts}
 use Rattle.lw_lut.specs.Choosing.{IsTable}
-use Rattle.lw_lut.specs.Cuts.{is_set, numbers}
+use Rattle.lw_lut.specs.Cuts.{is_set}
 use Rattle.lw_lut.specs.Meaning.{AreNamedApart, IsDraftOfAnySize, net_names}
 use Rattle.lw_lut.specs.Nets.{PlainTableNet, IsTableNet, net_classes, table_classes}
 use Rattle.lw_lut.specs.Said.{AreTableDepths, columns_from, draft_said, table_node}
@@ -31,6 +31,7 @@ use Rattle.lw_lut.proofs.RisingClasses.{contains_at}
 use Rattle.lw_lut.proofs.SaidNodes.{IsWire, IsTables, node_cases}
 use Rattle.lw_lut.proofs.SaidSignals.{contains_among, distinct_by_place, said_distinct, said_defined, wire_apart}
 use Rattle.lw_lut.proofs.TableCovers.{greatest_above}
+use Rattle.lw_pool.specs.Numbers.{numbers}
 
 abbrev Name : Type 0
 Name = List ℕ

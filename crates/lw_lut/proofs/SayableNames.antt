@@ -10,13 +10,13 @@ use Rattle.lw_pool.specs.declared.id.ClassId.{ClassId}
 use Rattle.lw_pool.specs.declared.latch.Frame.{Frame}
 use Rattle.lw_frame.proofs.Once.{is_among, roots_differ}
 use Rattle.lw_laws.proofs.Lists.{all_map, contains_all, in_map}
-use Rattle.lw_blif.specs.LineFaults.{is_name}
-use Rattle.lw_lut.specs.Cuts.{numbers}
 use Rattle.lw_lut.specs.Nets.{PlainTableNet, table_classes, net_classes}
-use Rattle.lw_lut.specs.Readable.{IsSignalName, IsSayable, names_of_nets}
+use Rattle.lw_lut.specs.Readable.{IsSayable, names_of_nets}
 use Rattle.lw_lut.specs.Texts.{fanin_names, net_name}
 use Rattle.lw_lut.specs.declared.table.Table.{Table}
 use Rattle.lw_lut.proofs.ReadNames.{at_some, name_there, one_each, tables_named, distinct_of, distinct_append}
+use Rattle.lw_words.specs.Words.{is_name, IsSignalName}
+use Rattle.lw_pool.specs.Numbers.{numbers}
 
 -- a table of few fan-ins, whose nets have names of the format
 pub record IsFairTable (n : PlainTableNet) (t : Table) : Type 0 where

@@ -14,7 +14,7 @@ use Rattle.lw_lut.specs.Choosing.{IsTable}
 use Rattle.lw_lut.specs.Covers.{TableCover, TableCovers, IsTableCover, AreTableCovers, HasPinsOnce, tree_of, trees_of, depth_of, greatest_depth}
 use Rattle.lw_lut.specs.Covers.TableCover.{wire, table}
 use Rattle.lw_lut.specs.Covers.TableCovers.{no_covers, cover}
-use Rattle.lw_lut.specs.Cuts.{numbers, pin_value}
+use Rattle.lw_lut.specs.Cuts.{pin_value}
 use Rattle.lw_lut.specs.Meaning.{AreNamedApart}
 use Rattle.lw_lut.specs.Nets.{PlainTableNet, IsTableNet, net_classes, table_classes}
 use Rattle.lw_lut.specs.Said.{table_node, draft_said}
@@ -25,6 +25,7 @@ use Rattle.lw_lut.proofs.NetNames.{input_named}
 use Rattle.lw_lut.proofs.RisingClasses.{at_contains}
 use Rattle.lw_lut.proofs.SaidNodes.{table_in}
 use Rattle.lw_lut.proofs.TableValues.{said_value, said_wire, table_said, table_no_wire}
+use Rattle.lw_pool.specs.Numbers.{numbers}
 
 -- values of names that are right for the nodes that the text says
 pub record AreSaidValues (n : PlainTableNet) (x : ℕ → Bool) (value : List ℕ → Bool) : Type 0 where

@@ -8,9 +8,10 @@ use Rattle.lw_laws.proofs.Numbers.{slice_get_map}
 use Rattle.lw_pool.specs.declared.id.NetId.{NetId}
 use Rattle.lw_net.specs.declared.node.Node.{Node}
 use Rattle.lw_net.specs.Networks.{NetworkParts}
-use Rattle.lw_net.specs.Plain.{plain, plain_node, net_number}
+use Rattle.lw_net.specs.Plain.{plain, plain_node}
 use Rattle.lw_lut.specs.Said.{AreTableDepths, deepest, is_wire}
 use Rattle.lw_lut.proofs.SaidSignals.{list_alike}
+use Rattle.lw_pool.specs.Numbers.{net_number}
 
 deepest_alike : (ds es : List ℕ) (nets : List NetId) → ((s : NetId) → Contains nets s → slice_index_or ds s.0 0 ≡ slice_index_or es s.0 0) → deepest ds nets ≡ deepest es nets
 deepest_alike ds es [] same = refl

@@ -14,7 +14,6 @@ use Rattle.lw_lut.specs.Choosing.{AreTables, IsNeeded}
 use Rattle.lw_lut.specs.Choosing.IsNeeded.{by_root, by_fanin}
 use Rattle.lw_lut.specs.Covers.{TableCover, IsTableCover, tree_of, depth_of, IsLeastDepth}
 use Rattle.lw_lut.specs.Covers.TableCover.{wire, table}
-use Rattle.lw_lut.specs.Cuts.{numbers}
 use Rattle.lw_lut.specs.Depths.{DepthLists, AreLeastDepths}
 use Rattle.lw_lut.specs.Nets.{AreFit, IsTableNet, table_classes}
 use Rattle.lw_lut.specs.Searches.{depth_in, IsKnown}
@@ -22,6 +21,7 @@ use Rattle.lw_lut.specs.declared.ports.TablePorts.{TablePorts}
 use Rattle.lw_lut.specs.declared.table.Table.{Table}
 use Rattle.lw_lut.proofs.RisingClasses.{contains_at}
 use Rattle.lw_lut.proofs.Sorting.{within_some}
+use Rattle.lw_pool.specs.Numbers.{numbers}
 
 pub numbers_more : (xs : List ClassId) (leaves : List ℕ) (i : ℕ) (c : ClassId) → numbers xs ≡ take i leaves → slice_get leaves i ≡ Some c.0 → numbers (xs ++ c ∷ []) ≡ take (i + 1) leaves
 numbers_more xs leaves i c is at =

@@ -19,7 +19,6 @@ use Rattle.std.proofs.lemmas.List.Elements.{Contains-append_cases}
 use Rattle.lw_lut.specs.Choosing.{IsTable}
 use Rattle.lw_lut.specs.Covers.{depth_of, IsLeastDepth}
 use Rattle.lw_lut.specs.Covers.TableCover.{wire}
-use Rattle.lw_lut.specs.Cuts.{numbers}
 use Rattle.lw_lut.specs.Depths.{DepthLists, AreLeastDepths}
 use Rattle.lw_lut.specs.Meaning.{AreNamedApart, IsRootAt, IsTableNetwork}
 use Rattle.lw_lut.specs.Nets.{PlainTableNet, IsTableNet, net_classes, table_classes}
@@ -33,6 +32,7 @@ use Rattle.lw_lut.proofs.SaidCloses.{said_depths, said_draft}
 use Rattle.lw_lut.proofs.SaidNodes.{IsWire, IsTables, node_cases, wire_node, wire_in}
 use Rattle.lw_lut.proofs.SaidSignals.{said_distinct}
 use Rattle.lw_lut.proofs.TableCovers.{IsNamedCover, covered}
+use Rattle.lw_pool.specs.Numbers.{numbers}
 
 module _ (g : Graph) (most : ℕ) (lists : DepthLists) (least : AreLeastDepths g most lists) (n : PlainTableNet) (apart : AreNamedApart n) (kept : IsTableNet n) (leaves : numbers n.inputs ≡ g.leaves) (tables_are : (t : Table) → Contains n.tables t → IsTable g most lists.depths t) where
   leaf_depth : (c : ℕ) → IsLeafClass g c → depth_in lists.depths c ≡ Some 0

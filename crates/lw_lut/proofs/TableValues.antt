@@ -6,13 +6,14 @@ use Rattle.lw_pool.specs.declared.id.ClassId.{ClassId}
 use Rattle.lw_net.specs.declared.draft.DraftNode.{DraftNode}
 use Rattle.lw_net.specs.Signs.{asked}
 use Rattle.lw_laws.specs.Networks.{agrees, row_value}
-use Rattle.lw_lut.specs.Cuts.{numbers, spelled, is_set}
+use Rattle.lw_lut.specs.Cuts.{spelled, is_set}
 use Rattle.lw_lut.specs.Nets.{PlainTableNet}
 use Rattle.lw_lut.specs.Texts.{fanin_names, is_buffer, net_name}
 use Rattle.lw_lut.specs.Said.{columns_from, table_node}
 use Rattle.lw_lut.specs.declared.table.Table.{Table}
 use Rattle.lw_lut.proofs.RowValues.{columns_hold}
 use Rattle.lw_lut.proofs.Fanins.{other_test}
+use Rattle.lw_pool.specs.Numbers.{numbers}
 
 -- the value of a node by the values of names
 abbrev pub said_value : (List ℕ → Bool) → DraftNode → Bool

@@ -9,9 +9,11 @@ use Rattle.lw_pool.specs.declared.latch.Frame.{Frame}
 use Rattle.lw_pool.specs.declared.latch.Latch.{Latch}
 use Rattle.lw_lut.specs.Cuts.{is_set}
 use Rattle.lw_lut.specs.Nets.{PlainTableNet}
-use Rattle.lw_lut.specs.Texts.{line, binary, row, rows_from, is_buffer, table_rows, fanin_names, net_name, table_text, wires, latch_line, tables_text}
+use Rattle.lw_lut.specs.Texts.{binary, row, rows_from, is_buffer, table_rows, fanin_names, net_name, table_text, wires, tables_text}
 use Rattle.lw_lut.specs.declared.table.Table.{Table}
 use Rattle.lw_lut.proofs.WordLines.{line_text, lines_text}
+use Rattle.lw_words.specs.Texts.{line}
+use Rattle.lw_frame.specs.Latches.{latch_line}
 
 -- a line is its words
 abbrev pub Words : Type 0

@@ -11,10 +11,9 @@ use Rattle.lw_blif.specs.declared.command.Command.TheVariants.{Model, Inputs, Ou
 use Rattle.lw_blif.specs.declared.command.Command.TheVariants as asks
 use Rattle.lw_blif.specs.declared.fault.BlifKind.{BlifKind}
 use Rattle.lw_blif.specs.declared.fault.BlifKind.TheVariants as kind
-use Rattle.lw_blif.specs.Commands.{is_among}
 use Rattle.lw_blif.specs.Keeping.{IsNamesLine}
 use Rattle.lw_blif.specs.Readers.{HaveValue}
-use Rattle.lw_blif.specs.LineFaults.{Rule, rules_for, row_rules, name_rules, wants_words, is_name, names_for, defined_for, defined_by, node_before, rows_before, command, is_row_command, is_names_command, is_ignored_command, words_before_last, other_words, last_word, has_twice, has_shape, differs_from, fanins_on}
+use Rattle.lw_blif.specs.LineFaults.{Rule, rules_for, row_rules, name_rules, wants_words, names_for, defined_for, defined_by, node_before, rows_before, command, is_row_command, is_names_command, is_ignored_command, words_before_last, other_words, last_word, has_twice, has_shape, differs_from, fanins_on}
 use Rattle.lw_blif.proofs.Keeping.{defined-more, none-defined}
 use Rattle.lw_blif.proofs.NodesBehind.{rows-row, node-row, rows-other, node-other}
 use Rattle.lw_blif.proofs.RowsBehind.{differs-value}
@@ -22,6 +21,7 @@ use Rattle.lw_lut.specs.Readable.{rules_on, IsUnlimited, AreUnlimited}
 use Rattle.lw_lut.proofs.LineKinds.{asks_for, IsRowOf}
 use Rattle.lw_lut.proofs.TextLines.{Words}
 use Rattle.lw_lut.proofs.WordLines.{numbered}
+use Rattle.lw_words.specs.Words.{is_among, is_name}
 
 -- Lines, one after another.
 

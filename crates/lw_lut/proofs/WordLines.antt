@@ -10,7 +10,7 @@ use Rattle.lw_laws.proofs.Lists.{all_append}
 use Rattle.lw_words.specs.Gathering.{IsInk, IsNoHash}
 use Rattle.lw_words.specs.Lines.{LogicalLine, Text, is_blank, is_line_feed, has_some, lines_among, physical_lines, before_hash, trimmed, is_continued, with_blank, continued_by, text_before, text_of, texts_from, is_long, words_of, line_of, has_words, lines_of, logical_lines}
 use Rattle.lw_words.proofs.Trimming.{trimmed-ink, is_continued-last}
-use Rattle.lw_lut.specs.Texts.{ended, line}
+use Rattle.lw_words.specs.Texts.{ended, line}
 
 -- Words that can be written.
 

@@ -10,13 +10,15 @@ use Rattle.lw_pool.specs.declared.latch.Latch.{Latch}
 use Rattle.lw_laws.proofs.Lists.{all_append}
 use Rattle.lw_lut.specs.Cuts.{is_set}
 use Rattle.lw_lut.specs.Nets.{PlainTableNet}
-use Rattle.lw_lut.specs.Readable.{IsSignalName, IsReadableLatch, IsSayable}
+use Rattle.lw_lut.specs.Readable.{IsSayable}
 use Rattle.lw_lut.specs.Texts.{is_buffer, fanin_names, net_name}
 use Rattle.lw_lut.specs.declared.table.Table.{Table}
 use Rattle.lw_lut.proofs.SayableNames.{IsFairTable, tables_fair, roots_named, own_inputs, own_outputs}
 use Rattle.lw_lut.proofs.TextLines.{row_words, row_lines_from, off_row, row_lines, table_lines, wire_head, wire_row, wire_one, wire_lines, latch_words, node_lines, inner_lines, end_words, lines_said}
 use Rattle.lw_lut.proofs.WordLines.{IsWritten, IsWrittenLine}
 use Rattle.lw_lut.proofs.WrittenWords.{fixed_word, name_word, binary_word}
+use Rattle.lw_words.specs.Words.{IsSignalName}
+use Rattle.lw_frame.specs.Latches.{IsReadableLatch}
 
 names_written : (names : List (List ℕ)) → Each IsSignalName names → Each IsWritten names
 names_written [] each = tt

@@ -11,9 +11,9 @@ use Rattle.std.proofs.lemmas.Nat.Bits.{bit_at-lt}
 use Rattle.lw_laws.proofs.Heights.{all_weaker}
 use Rattle.lw_words.specs.Gathering.{IsInk, IsNoHash}
 use Rattle.lw_words.specs.Lines.{is_blank}
-use Rattle.lw_lut.specs.Readable.{IsSignalName}
 use Rattle.lw_lut.specs.Texts.{binary}
 use Rattle.lw_lut.proofs.WordLines.{EndsWell, IsWritten}
+use Rattle.lw_words.specs.Words.{IsSignalName}
 
 -- Bytes.
 

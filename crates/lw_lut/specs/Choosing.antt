@@ -3,11 +3,11 @@ use Rattle.std.specs.Prelude.{ℕ, suc, ◌+◌, ◌*◌, ◌^◌, ◌<◌, ◌�
 use Rattle.lw_pool.specs.declared.id.ClassId.{ClassId}
 use Rattle.lw_laws.specs.Graphs.{Graph}
 use Rattle.lw_laws.specs.Extracts.{IsLeafClass}
-use Rattle.lw_lut.specs.Cuts.{numbers}
 use Rattle.lw_lut.specs.Searches.{depth_in, IsBelow}
 use Rattle.lw_lut.specs.Tables.{IsTableAt, AreRisingClasses}
 use Rattle.lw_lut.specs.declared.table.Table.{Table}
 use Rattle.lw_lut.specs.declared.choosing.Place.{Place}
+use Rattle.lw_pool.specs.Numbers.{numbers}
 
 -- the least set that has the roots and the fan-ins of the tables of classes in it
 pub data IsNeeded (roots : List ℕ) (tables : List Table) : ℕ → Type 0 where

@@ -6,9 +6,7 @@ use Rattle.lw_pool.specs.declared.id.ClassId.{ClassId}
 use Rattle.lw_laws.specs.Trees.{Tree, tree_value}
 use Rattle.lw_laws.specs.Graphs.{Graph, Stands}
 use Rattle.lw_lut.specs.Covers.{leaves_of}
-
-abbrev pub numbers : List ClassId → List ℕ
-numbers classes = map (λ (c : ClassId). c.0) classes
+use Rattle.lw_pool.specs.Numbers.{numbers}
 
 -- the number that the values of some classes spell, the first as the highest bit
 abbrev pub spelled : (ℕ → Bool) → List ℕ → ℕ

@@ -22,10 +22,10 @@ use Rattle.lw_net.specs.Networks.{NetworkParts, IsNodeAt, input_names, output_na
 use Rattle.lw_net.specs.Plain.{plain}
 use Rattle.lw_lut.specs.declared.ports.TablePorts.{TablePorts}
 use Rattle.lw_lut.specs.Covers.{TableCover, IsTableCover, tree_of, depth_of, HasLeastDepth}
-use Rattle.lw_lut.specs.Cuts.{numbers}
 use Rattle.lw_lut.specs.Nets.{PlainTableNet, net_classes}
 use Rattle.lw_lut.specs.Said.{AreTableDepths}
 use Rattle.lw_lut.specs.Searches.{depth_in}
+use Rattle.lw_pool.specs.Numbers.{numbers}
 
 -- the names of the nets: the inputs' and then the tables'
 abbrev pub net_names : PlainTableNet → List (List ℕ)

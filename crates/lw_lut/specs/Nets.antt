@@ -5,9 +5,9 @@ use Rattle.lw_laws.specs.Graphs.{Graph}
 use Rattle.lw_laws.specs.Extracts.{AreDistinctLeaves}
 use Rattle.lw_laws.specs.Names.{gate_names, free_names}
 use Rattle.lw_lut.specs.Choosing.{AreTables}
-use Rattle.lw_lut.specs.Cuts.{numbers}
 use Rattle.lw_lut.specs.declared.ports.TablePorts.{TablePorts}
 use Rattle.lw_lut.specs.declared.table.Table.{Table}
+use Rattle.lw_pool.specs.Numbers.{numbers}
 
 abbrev pub table_classes : List Table → List ℕ
 table_classes tables = map (λ (t : Table). t.out.0) tables

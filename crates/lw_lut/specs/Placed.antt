@@ -3,8 +3,8 @@ use Rattle.std.specs.Prelude.{ℕ, ◌≤◌, ◌≡◌, List, [], ◌∷◌, �
 use Rattle.lw_pool.specs.declared.id.ClassId.{ClassId}
 use Rattle.lw_pool.specs.declared.latch.Frame.{Frame}
 use Rattle.lw_lut.specs.Nets.{PlainTableNet, IsTableNet, net_classes}
-use Rattle.lw_lut.specs.Texts.{line}
 use Rattle.lw_lut.specs.declared.table.Table.{Table}
+use Rattle.lw_words.specs.Texts.{line}
 
 -- at each class that stands in the list there is its place in it
 abbrev pub HasPlaces : List ℕ → List ℕ → Type 0

@@ -8,13 +8,15 @@ use Rattle.lw_net.specs.declared.draft.Draft.{Draft}
 use Rattle.lw_frame.specs.Frames.{Fits}
 use Rattle.lw_frame.specs.Starts.{at_once}
 use Rattle.lw_blif.specs.declared.fault.BlifKind.TheVariants as kind
-use Rattle.lw_blif.specs.LineFaults.{Rule, rules_for, node_before, rows_before, defined_by, command, lines_read, is_name}
+use Rattle.lw_blif.specs.LineFaults.{Rule, rules_for, node_before, rows_before, defined_by, command, lines_read}
 use Rattle.lw_blif.specs.Drafts.{draft_of, frame_on, starts_on}
 use Rattle.lw_laws.specs.Names.{AreDifferent}
-use Rattle.lw_lut.specs.Cuts.{numbers}
 use Rattle.lw_lut.specs.Nets.{PlainTableNet, IsTableNet, net_classes}
 use Rattle.lw_lut.specs.declared.ports.TablePorts.{TablePorts}
 use Rattle.lw_lut.specs.declared.table.Table.{Table}
+use Rattle.lw_words.specs.Words.{is_name, IsSignalName}
+use Rattle.lw_pool.specs.Numbers.{numbers}
+use Rattle.lw_frame.specs.Latches.{IsReadableLatch}
 
 -- Reading.
 
@@ -45,19 +47,6 @@ pub record IsTablesRead (text : List ℕ) (draft : Draft) (frame : Frame) : Type
   pub starts_are : starts_on (lines_in text) ≡ replicate (length draft.inputs) at_once
 
 -- Networks.
-
--- a name of the format: a word without `#`, of at most 2,000 bytes, that does not end in `\`
-pub record IsSignalName (name : List ℕ) : Type 0 where
-  pub word : IsWord name
-  pub no_hash : All IsNoHash name
-  pub ends : is_name name ≡ true
-
--- two names, and up to three further ones
-pub record IsReadableLatch (latch : Latch) : Type 0 where
-  pub input : IsSignalName latch.input
-  pub output : IsSignalName latch.output
-  pub rest : All IsSignalName latch.rest
-  pub few : length latch.rest ≤ 3
 
 -- the names of the nets: the inputs' and then the tables'
 abbrev pub names_of_nets : PlainTableNet → List (List ℕ)

@@ -4,7 +4,8 @@ use Rattle.lw_pool.specs.declared.id.ClassId.{ClassId}
 use Rattle.lw_laws.specs.Trees.{Tree, tree_value}
 use Rattle.lw_laws.specs.Graphs.{Graph, Stands}
 use Rattle.lw_lut.specs.Covers.{HasPinsOnce}
-use Rattle.lw_lut.specs.Cuts.{PlainCut, numbers, spelled, is_set, pin_value, turned, is_odd}
+use Rattle.lw_lut.specs.Cuts.{PlainCut, spelled, is_set, pin_value, turned, is_odd}
+use Rattle.lw_pool.specs.Numbers.{numbers}
 
 -- The table stands for a table of a cover at the class: some tree over at most so many pins at the fan-ins' classes, each pin
 -- in it exactly once, stands there, and for all values of the classes the bit whose number the fan-ins' values spell, the

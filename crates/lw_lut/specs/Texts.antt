@@ -9,14 +9,8 @@ use Rattle.lw_pool.specs.declared.latch.Latch.{Latch}
 use Rattle.lw_lut.specs.Cuts.{is_set}
 use Rattle.lw_lut.specs.Nets.{PlainTableNet, net_classes}
 use Rattle.lw_lut.specs.declared.table.Table.{Table}
-
--- words with a space before each, and a line end
-abbrev pub ended : List (List ℕ) → List ℕ
-ended [] = 10 ∷ []
-ended (word ∷ words) = 32 ∷ (word ++ ended words)
-
-abbrev pub line : List ℕ → List (List ℕ) → List ℕ
-line first others = first ++ ended others
+use Rattle.lw_words.specs.Texts.{line}
+use Rattle.lw_frame.specs.Latches.{latch_line}
 
 -- the name that stands where the class does
 abbrev pub name_at : List ℕ → List (List ℕ) → ℕ → List ℕ
@@ -69,10 +63,6 @@ abbrev pub wires : PlainTableNet → List (List ℕ) → List ClassId → List �
 wires n (output ∷ outputs) (root ∷ roots) = wire_text (net_name n root.0) output ++ wires n outputs roots
 wires n [] roots = []
 wires n (output ∷ outputs) [] = []
-
--- what a latch stores, what it gives, and its further words
-abbrev pub latch_line : Latch → List ℕ
-latch_line latch = line (codes ".latch") (latch.input ∷ latch.output ∷ latch.rest)
 
 -- what a file declares of itself is among the inputs and outputs
 pub record IsFramed (n : PlainTableNet) (frame : Frame) : Type 0 where

@@ -3,9 +3,9 @@ ghost use Rattle.std.specs.Prelude.{◌≡◌, ◌+◌, ◌/◌, ◌<◌, ◌≤
 ghost use Rattle.std.specs.List.Sorted.{IsNonDecreasingBy, IsPermutation};
 ghost use Rattle.lw_laws.specs.Graphs.{Graph as PlainGraph};
 ghost use Rattle.lw_lut.specs.Choosing.{AreByDepth, AreListed, AreRoots, AreTables, HasAlso, IsTable, place_key};
-ghost use Rattle.lw_lut.specs.Cuts.{numbers};
 ghost use Rattle.lw_lut.specs.Depths.{AreLeastDepths};
 ghost use Rattle.lw_lut.specs.Searches.{depth_in, IsKnown};
+ghost use Rattle.lw_pool.specs.Numbers.{numbers};
 
 use crate::found::Depths;
 use crate::table::Table;

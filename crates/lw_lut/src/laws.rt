@@ -15,7 +15,6 @@ ghost use Rattle.lw_net.specs.Closing.{IsClosed};
 ghost use Rattle.lw_net.specs.Networks.{NetworkParts};
 ghost use Rattle.lw_net.specs.Plain.{plain};
 ghost use Rattle.lw_lut.specs.Covers.{HasLeastDepth, IsLeastDepth};
-ghost use Rattle.lw_lut.specs.Cuts.{numbers};
 ghost use Rattle.lw_lut.specs.Depths.{DepthLists, AreLeastDepths};
 ghost use Rattle.lw_lut.specs.Meaning.{AreNamedApart, ArePortsApart, ArePortsOf, HaveRoots, IsDraftOfAnySize, IsTableMapping, IsTableNetwork};
 ghost use Rattle.lw_lut.specs.Nets.{PlainTableNet, AreFit, IsTableNetOf, IsTableNet};
@@ -26,6 +25,7 @@ ghost use Rattle.lw_lut.specs.Texts.{tables_text};
 ghost use Rattle.lw_lut.specs.declared.ports.TablePorts.{TablePorts};
 ghost use Rattle.lw_pool.specs.declared.latch.Frame.{Frame};
 ghost use Rattle.lw_words.specs.Lines.{LogicalLine};
+ghost use Rattle.lw_pool.specs.Numbers.{numbers};
 
 use lw_laws::graphs::{graphs_have_the_trees, graphs_have_the_values, input_classes_differ};
 

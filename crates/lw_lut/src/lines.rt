@@ -2,7 +2,8 @@
 ghost use Rattle.std.specs.Prelude.{◌≡◌, ◌∷◌};
 ghost use Rattle.std.specs.List.{flat_map};
 ghost use Rattle.lw_io.specs.Waitings.{Puts};
-ghost use Rattle.lw_lut.specs.Texts.{line, latch_line};
+ghost use Rattle.lw_words.specs.Texts.{line};
+ghost use Rattle.lw_frame.specs.Latches.{latch_line};
 
 use lw_io::{Sink, Waiting, put};
 use lw_pool::{Latch, Name};

@@ -1,9 +1,9 @@
 ghost use Rattle.std.specs.Prelude.{◌≡◌, ◌<◌, ◌^◌, All, IfOk, length};
 ghost use Rattle.lw_pool.specs.declared.id.ClassId.{ClassId};
-ghost use Rattle.lw_lut.specs.Cuts.{numbers};
 ghost use Rattle.lw_lut.specs.Depths.{AreLeastDepths};
 ghost use Rattle.lw_lut.specs.Nets.{AreFit, IsTableNetOf};
 ghost use Rattle.lw_lut.specs.Searches.{IsKnown};
+ghost use Rattle.lw_pool.specs.Numbers.{numbers};
 
 use crate::TablePorts;
 use crate::choosing::choose;

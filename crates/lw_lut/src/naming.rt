@@ -1,8 +1,8 @@
 // The names of nets.
 ghost use Rattle.std.specs.Prelude.{◌≡◌, ◌+◌, ◌<◌, ◌^◌, ◌++◌, All, IfOk, length};
 ghost use Rattle.lw_laws.specs.Names.{free_names, gate_names};
-ghost use Rattle.lw_lut.specs.Cuts.{numbers};
 ghost use Rattle.lw_lut.specs.Nets.{table_classes};
+ghost use Rattle.lw_pool.specs.Numbers.{numbers};
 
 use crate::TablePorts;
 use crate::table::Table;

@@ -1,8 +1,8 @@
 // Places of nets.
 ghost use Rattle.std.specs.Prelude.{◌≡◌, ◌+◌, ◌<◌, ◌^◌, ◌++◌, ℕ, Some, All, IfOk, length, slice_get};
-ghost use Rattle.lw_lut.specs.Cuts.{numbers};
 ghost use Rattle.lw_lut.specs.Nets.{table_classes};
 ghost use Rattle.lw_lut.specs.Placed.{HasPlaces};
+ghost use Rattle.lw_pool.specs.Numbers.{numbers};
 
 use crate::table::Table;
 use lw_pool::ClassId;

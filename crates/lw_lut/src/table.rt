@@ -1,9 +1,10 @@
 ghost use Rattle.std.specs.Prelude.{◌≡◌, ◌≤◌, ◌<◌, ◌^◌, ◌↔◌, ℕ, length, Contains, IfOk, OnOk, IsTrue, IsFalse};
 ghost use Rattle.std.specs.List.Sorted.{IsNonDecreasingBy, IsPermutation};
 ghost use Rattle.lw_pool.specs.declared.id.ClassId.{ClassId};
-ghost use Rattle.lw_lut.specs.Cuts.{numbers, spelled};
+ghost use Rattle.lw_lut.specs.Cuts.{spelled};
 ghost use Rattle.lw_lut.specs.Packed.{packed};
 ghost use Rattle.lw_lut.specs.Tables.{AreRisingClasses, IsAdded, given, table_value};
+ghost use Rattle.lw_pool.specs.Numbers.{numbers};
 
 use crate::cut::{Cut, appended, is_odd, is_set, numbers_of, turned};
 use lw_pool::{ClassId, Classes};

@@ -36,7 +36,7 @@ use Rattle.lw_genlib.specs.Cells.{CellParts, IsLibrary}
 use Rattle.lw_genlib.specs.Tables.{timing_of, truth_of_cells}
 use Rattle.lw_pattern.specs.Libraries.{library_patterns}
 use Rattle.lw_match.specs.declared.mark.Mark.{Mark}
-use Rattle.lw_match.specs.Values.{numbers, plain_mark}
+use Rattle.lw_match.specs.Values.{plain_mark}
 use Rattle.lw_laws.specs.Marks.{Mark as PlainMark}
 use Rattle.lw_label.specs.Labels.{AreLeastMarks, costs_of}
 use Rattle.lw_label.proofs.Marked.{label_at, mark_of_label}
@@ -52,7 +52,6 @@ use Rattle.lw_extract.specs.Covers.{IsExtractedCover, IsFirstUncovered}
 use Rattle.lw_trade.specs.Areas.{area_cost}
 use Rattle.lw_map.specs.declared.choices.Choices.{Choices}
 use Rattle.lw_map.specs.Options.{plain_options}
-use Rattle.lw_map.specs.Mapped.{output_port, plain_port, ports_of, mapped_ports}
 use Rattle.lw_map.specs.Choices.{AreChoicesOf}
 use Rattle.lw_map.specs.Ports.{ArePortsOf}
 use Rattle.lw_map.specs.Trading.{AreEarliest, HasLeastArea, IsTradedNetlist}
@@ -61,6 +60,9 @@ use Rattle.lw_map.proofs.NetNames.{names_tell, own_names}
 use Rattle.lw_map.proofs.PortNames.{port_list, port_names, few_outputs}
 use Rattle.lw_map.proofs.Traded.{IsBest, StandsFor-cost, best_area, best_values, tree_back}
 use Rattle.lw_map.proofs.Once.{zip_at}
+use Rattle.lw_pool.specs.Numbers.{numbers}
+use Rattle.lw_net.specs.Ports.{output_port, ports_of}
+use Rattle.lw_netlist.specs.Plain.{plain_port, mapped_ports}
 
 zip_weaker : {X Y : Type 0} (R S : X → Y → Type 0) (xs : List X) (ys : List Y) → ((x : X) (y : Y) → R x y → S x y) → AllZip R xs ys → AllZip S xs ys
 zip_weaker R S [] [] f a = tt

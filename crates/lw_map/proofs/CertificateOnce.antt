@@ -34,7 +34,8 @@ use Rattle.lw_netlist.specs.Plain as netlist
 use Rattle.lw_mapped.specs.declared.certificate.Certificate.{Certificate}
 use Rattle.lw_mapped.specs.Certified.{IsCertificateOf}
 use Rattle.lw_map.specs.Options.{Options, IsWide}
-use Rattle.lw_map.specs.Mapped.{ports_of, IsMappedNetlist}
+use Rattle.lw_map.specs.Mapped.{IsMappedNetlist}
+use Rattle.lw_net.specs.Ports.{ports_of}
 
 -- heights that agree where there are labels choose the same matches, and so need the same classes
 module _ (g : Graph) (cost : Cost) (pats : List Pattern) (labels : Labels) where

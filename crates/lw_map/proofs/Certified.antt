@@ -7,7 +7,6 @@ use Rattle.lw_laws.specs.Rounds.{labels_in}
 use Rattle.lw_net.specs.Networks.{NetworkParts}
 use Rattle.lw_genlib.specs.Cells.{CellParts}
 use Rattle.lw_match.specs.declared.mark.Mark.{Mark}
-use Rattle.lw_match.specs.Values.{numbers}
 use Rattle.lw_label.specs.Labels.{cost_in, costs_of}
 use Rattle.lw_netlist.specs.Plain.{plain_gate}
 use Rattle.lw_mapped.specs.declared.certificate.Certificate.{Certificate}
@@ -16,6 +15,7 @@ use Rattle.lw_map.specs.declared.choices.Choices.{Choices}
 use Rattle.lw_map.specs.declared.covering.Mapping.{Mapping}
 use Rattle.lw_map.specs.declared.labeller.Labeller.{Labeller}
 use Rattle.lw_map.specs.Mappings.{IsMappingOf, AreCertified, label_of}
+use Rattle.lw_pool.specs.Numbers.{numbers}
 
 abbrev micros : Micro → ℕ
 micros label = label.0

@@ -27,10 +27,11 @@ use Rattle.lw_assoc.specs.declared.fault.GraphFault.{GraphFault}
 use Rattle.lw_assoc.specs.declared.fault.GraphFault.TheVariants as graph_fault
 use Rattle.lw_map.specs.declared.choices.Choices.{Choices}
 use Rattle.lw_map.specs.Options.{Options, IsWide, plain_options}
-use Rattle.lw_map.specs.Mapped.{output_port, base_count, splits_count}
+use Rattle.lw_map.specs.Mapped.{base_count, splits_count}
 use Rattle.lw_map.specs.Choices.{root_of}
 use Rattle.lw_map.specs.Faults as faults
 use Rattle.lw_map.specs.Faults.{IsChoiceFault}
+use Rattle.lw_net.specs.Ports.{output_port}
 
 -- listed forms are few
 pub few_bases : (options : Options) (net : NetworkParts) (forms : NumberedForms) → AreForms forms → forms ≡ forms_of options.width (network.plain net) → base_count options net ≤ most_bases

@@ -8,7 +8,7 @@ use Rattle.std.proofs.lemmas.Option.{get_or_from_slice_get}
 use Rattle.lw_pool.specs.declared.id.ClassId.{ClassId}
 use Rattle.lw_pool.specs.declared.id.NetId.{NetId}
 use Rattle.lw_fixed.specs.declared.micro.Micro.{Micro}
-use Rattle.lw_laws.specs.Graphs.{Unfolds}
+use Rattle.lw_laws.specs.Graphs.{Unfolds, most_classes}
 use Rattle.lw_laws.specs.Signals.{sop_at, signals_of}
 use Rattle.lw_laws.specs.Covers.{Pattern, ArePatterns, tree_of}
 use Rattle.lw_laws.specs.Matches.{IsLeastCover}
@@ -28,9 +28,9 @@ use Rattle.lw_genlib.specs.Cells.{CellParts}
 use Rattle.lw_genlib.specs.Tables.{delays_of_cells, timing_of}
 use Rattle.lw_pattern.specs.Libraries.{library_patterns}
 use Rattle.lw_match.specs.declared.mark.Mark.{Mark}
-use Rattle.lw_match.specs.Values.{plain_mark, numbers}
+use Rattle.lw_match.specs.Values.{plain_mark}
 use Rattle.lw_label.specs.Delays.{most_time, time_cost}
-use Rattle.lw_label.specs.Labels.{cost_in, costs_of, most_classes, AreLeastMarks}
+use Rattle.lw_label.specs.Labels.{cost_in, costs_of, AreLeastMarks}
 use Rattle.lw_label.proofs.Marked.{label_at}
 use Rattle.lw_netlist.specs.Netlists.{IsNetlist}
 use Rattle.lw_netlist.specs.Plain.{plain_gate}
@@ -41,7 +41,7 @@ use Rattle.lw_extract.specs.Choosing.{labels, heights}
 use Rattle.lw_extract.specs.Covers.{AreFit, IsFirstUncovered, IsExtractedCover}
 use Rattle.lw_map.specs.declared.choices.Choices.{Choices}
 use Rattle.lw_map.specs.Options.{Options, plain_options}
-use Rattle.lw_map.specs.Mapped.{output_port, IsUncovered, LacksCover}
+use Rattle.lw_map.specs.Mapped.{IsUncovered, LacksCover}
 use Rattle.lw_map.specs.Choices.{AreChoicesOf}
 use Rattle.lw_map.specs.Ports.{ArePortsOf}
 use Rattle.lw_map.specs.Mappings.{IsMappingOf}
@@ -51,6 +51,8 @@ use Rattle.lw_map.proofs.CoverNetlists.{port_name, cover_is_netlist}
 use Rattle.lw_map.proofs.GateCount.{few_gates}
 use Rattle.lw_map.proofs.Leaves.{start_is_least}
 use Rattle.lw_map.proofs.PortNames.{few_outputs}
+use Rattle.lw_pool.specs.Numbers.{numbers}
+use Rattle.lw_net.specs.Ports.{output_port}
 
 port_names : (net : NetworkParts) (outputs : List NetId) → map (name_in net) outputs ≡ map port_name (map (output_port net) outputs)
 port_names net [] = refl

@@ -20,16 +20,15 @@ use Rattle.lw_laws.specs.Mapped.{root_class}
 use Rattle.lw_laws.specs.Headline.{Port as PlainPort}
 use Rattle.lw_laws.specs.MappedNetlists.{root_classes, IsNetlistOf}
 use Rattle.lw_match.specs.declared.mark.Mark.{Mark}
-use Rattle.lw_match.specs.Values.{numbers}
 use Rattle.lw_label.specs.Labels.{costs_of, AreLeastMarks}
 use Rattle.lw_label.proofs.Marked.{mark_of_label}
 use Rattle.lw_netlist.specs.declared.gate.Port.{Port}
-use Rattle.lw_netlist.specs.Plain.{plain}
+use Rattle.lw_netlist.specs.Plain.{plain, plain_port, mapped_ports}
 use Rattle.lw_extract.specs.declared.ports.Ports.{Ports}
 use Rattle.lw_extract.specs.declared.ports.Cover.{Cover}
 use Rattle.lw_extract.specs.Choosing.{heights}
 use Rattle.lw_extract.specs.Covers.{IsExtractedCover}
-use Rattle.lw_map.specs.Mapped.{plain_port, mapped_ports}
+use Rattle.lw_pool.specs.Numbers.{numbers}
 
 abbrev pub port_name : PlainPort → List ℕ
 port_name p = p.name

@@ -23,7 +23,6 @@ use Rattle.lw_genlib.specs.Cells.{CellParts, IsLibrary}
 use Rattle.lw_genlib.specs.Tables.{timing_of}
 use Rattle.lw_pattern.specs.Libraries.{library_patterns}
 use Rattle.lw_extract.specs.declared.ports.Ports.{Ports}
-use Rattle.lw_match.specs.Values.{numbers}
 use Rattle.lw_trade.specs.declared.point.Point.{Point}
 use Rattle.lw_trade.specs.declared.targets.Targets.{Targets}
 use Rattle.lw_trade.specs.Points.{Task, task, timing, IsCoverBy, IsPoint, AreCurves, BoundCovers, point_count, most_points}
@@ -31,13 +30,14 @@ use Rattle.lw_trade.specs.Groups.{CurveLists, HaveWays}
 use Rattle.lw_trade.specs.Targets.{AreTargets, AreCurvesFor, HasPointBy}
 use Rattle.lw_map.specs.declared.choices.Choices.{Choices}
 use Rattle.lw_map.specs.Options.{plain_options}
-use Rattle.lw_map.specs.Mapped.{output_port, ports_of}
 use Rattle.lw_map.specs.Choices.{AreChoicesOf}
 use Rattle.lw_map.specs.Ports.{ArePortsOf}
 use Rattle.lw_map.specs.Trading.{AreEarliest, latest_of, micros, put_off}
 use Rattle.lw_map.proofs.CellLaws.{delay_patterns}
 use Rattle.lw_map.proofs.Composed.{ports_fit}
 use Rattle.lw_map.proofs.Traded.{zip_places, tree_back, class_of_net}
+use Rattle.lw_pool.specs.Numbers.{numbers}
+use Rattle.lw_net.specs.Ports.{output_port, ports_of}
 
 -- the greatest of times that are low is low, and none of them is above it
 pub latest_low : (m d : ℕ) (ts : List Micro) → d < m → All (λ (t : Micro). t.0 < m) ts → latest_of d (micros ts) < m

@@ -30,7 +30,6 @@ use Rattle.lw_label.specs.Labels.{costs_of, AreLeastMarks}
 use Rattle.lw_label.proofs.Marked.{label_at}
 use Rattle.lw_map.specs.declared.choices.Choices.{Choices}
 use Rattle.lw_map.specs.Options.{plain_options}
-use Rattle.lw_map.specs.Mapped.{output_port}
 use Rattle.lw_extract.specs.declared.ports.Ports.{Ports}
 use Rattle.lw_map.specs.Choices.{AreChoicesOf}
 use Rattle.lw_map.specs.Ports.{ArePortsOf}
@@ -38,6 +37,7 @@ use Rattle.lw_map.proofs.Composed.{ports_fit}
 use Rattle.lw_map.specs.Trading.{AreEarliest, HaveLabelsTo, micros}
 use Rattle.lw_map.proofs.Mappings.{labels_low}
 use Rattle.lw_map.proofs.Traded.{zip_places}
+use Rattle.lw_net.specs.Ports.{output_port}
 
 -- the ports of a network
 abbrev pub ports_for : NetworkParts → Choices → Ports

@@ -15,8 +15,10 @@ use Rattle.lw_label.specs.Delays.{most_time}
 use Rattle.lw_netlist.specs.Netlists.{NetlistParts}
 use Rattle.lw_netlist.specs.Plain as netlist
 use Rattle.lw_map.specs.Options.{Options, IsWide}
-use Rattle.lw_map.specs.Mapped.{output_port, ports_of, mapped_ports, IsMappedNetlist}
+use Rattle.lw_map.specs.Mapped.{IsMappedNetlist}
 use Rattle.lw_map.proofs.PortNames.{port_names, few_outputs}
+use Rattle.lw_net.specs.Ports.{output_port, ports_of}
+use Rattle.lw_netlist.specs.Plain.{mapped_ports}
 
 pub mapped_has_names : (options : Options) (cells : List CellParts) (net : NetworkParts) (starts : List Micro) → IsWide options → IsNetwork net → IsDistinct bytes_eq net.names → IsDistinct bytes_eq (input_names net) → IsDistinct bytes_eq (output_names net) → (n : NetlistParts) → IsMappedNetlist options cells net starts n → AreNetNames (netlist.plain n) n.names (mapped_ports n)
 mapped_has_names options cells net starts wide kept differ inputs outputs n is =

@@ -18,9 +18,11 @@ use Rattle.lw_label.specs.Delays.{most_time}
 use Rattle.lw_netlist.specs.Netlists.{NetlistParts}
 use Rattle.lw_netlist.specs.Plain as netlist
 use Rattle.lw_map.specs.Options.{Options, IsWide}
-use Rattle.lw_map.specs.Mapped.{output_port, ports_of, plain_port, mapped_ports, base_count, IsMappedNetlist, IsUncovered, LacksCover}
+use Rattle.lw_map.specs.Mapped.{base_count, IsMappedNetlist, IsUncovered, LacksCover}
 use Rattle.lw_map.proofs.PlainNetlists.{parts_back}
 use Rattle.lw_map.proofs.Mappings.{mapped_is_mapping}
+use Rattle.lw_net.specs.Ports.{output_port, ports_of}
+use Rattle.lw_netlist.specs.Plain.{plain_port, mapped_ports}
 
 -- what stands beside an element
 pub zip_at : {X Y : Type 0} (R : X → Y → Type 0) (xs : List X) (ys : List Y) (k : ℕ) (x : X) → AllZip R xs ys → slice_get xs k ≡ Some x → (y : Y) × R x y

@@ -27,10 +27,9 @@ use Rattle.lw_netlist.specs.declared.gate.Port.{Port}
 use Rattle.lw_netlist.specs.Netlists.{NetlistParts, IsNetlist}
 use Rattle.lw_netlist.specs.Plain as netlist
 use Rattle.lw_extract.specs.declared.ports.Ports.{Ports}
-use Rattle.lw_trade.specs.Traded.{IsTraded, output_nets, port_name, port_net}
+use Rattle.lw_trade.specs.Traded.{IsTraded, output_nets, port_net}
 use Rattle.lw_map.specs.declared.choices.Choices.{Choices}
 use Rattle.lw_map.specs.Options.{plain_options}
-use Rattle.lw_map.specs.Mapped.{output_port, plain_port, ports_of, mapped_ports}
 use Rattle.lw_map.specs.Choices.{AreChoicesOf}
 use Rattle.lw_map.specs.Ports.{ArePortsOf}
 use Rattle.lw_map.specs.Trading.{AreEarliest, IsTradedNetlist, micros, put_off}
@@ -38,6 +37,8 @@ use Rattle.lw_map.proofs.Traded.{class_of_net}
 use Rattle.lw_map.proofs.Deadlines.{s, targets}
 use Rattle.lw_map.proofs.TradedNames.{range_back, range_some, ranges_back, place_of, outputs_count, outputs_named_at, traded_outputs, traded_values, traded_output_names}
 use Rattle.lw_map.proofs.PortNames.{few_outputs, port_list, port_names}
+use Rattle.lw_net.specs.Ports.{output_port, ports_of}
+use Rattle.lw_netlist.specs.Plain.{plain_port, mapped_ports, port_name}
 
 -- what holds of the outputs' names and of n1, n2 and so on holds of the gates' names
 module _ (P : List ℕ → Type 0) (each : (k : ℕ) → k < 2 ^ 64 → P (numbered_name k)) where

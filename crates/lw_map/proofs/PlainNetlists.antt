@@ -7,8 +7,8 @@ use Rattle.lw_laws.specs.Headline.{Port as PlainPort, Ports}
 use Rattle.lw_netlist.specs.declared.gate.Gate.{Gate}
 use Rattle.lw_netlist.specs.declared.gate.Port.{Port}
 use Rattle.lw_netlist.specs.Netlists.{NetlistParts, IsNetlist}
-use Rattle.lw_netlist.specs.Plain.{net_number, plain_gate, plain}
-use Rattle.lw_map.specs.Mapped.{plain_port, mapped_ports}
+use Rattle.lw_netlist.specs.Plain.{plain_gate, plain, plain_port, mapped_ports}
+use Rattle.lw_pool.specs.Numbers.{net_number}
 
 map_injective : {X Y : Type 0} (f : X → Y) → ((x y : X) → f x ≡ f y → x ≡ y) → (xs ys : List X) → map f xs ≡ map f ys → xs ≡ ys
 map_injective f back [] [] e = refl

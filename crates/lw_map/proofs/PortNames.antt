@@ -19,7 +19,7 @@ use Rattle.lw_laws.proofs.Numbers.{slice_get_map_back}
 use Rattle.lw_net.specs.Networks.{NetworkParts, IsNetwork, name_in, input_names, output_names}
 use Rattle.lw_net.specs.Plain as network
 use Rattle.lw_lut.proofs.ReadNames.{different_of}
-use Rattle.lw_map.specs.Mapped.{output_port, ports_of}
+use Rattle.lw_net.specs.Ports.{output_port, ports_of}
 
 -- Names that differ
 

@@ -8,8 +8,8 @@ use Rattle.lw_laws.specs.Graphs.{Graph, class_of}
 use Rattle.lw_laws.specs.NumberedForms.{NumberedForms}
 use Rattle.lw_laws.proofs.Lists.{slice_get_in, slice_get_some}
 use Rattle.lw_form.specs.Kept.{AreForms}
-use Rattle.lw_match.specs.Values.{numbers}
 use Rattle.lw_map.specs.Choices.{root_of}
+use Rattle.lw_pool.specs.Numbers.{numbers}
 
 pub sop_listed_at : (forms : NumberedForms) (s f : ℕ) → AreForms forms → slice_get forms.sops s ≡ Some f → f / 2 < length forms.bases
 sop_listed_at forms s f are e =

@@ -17,7 +17,7 @@ use Rattle.lw_net.specs.Plain as network
 use Rattle.lw_form.specs.Limits.{most_bases}
 use Rattle.lw_lut.specs.Meaning.{ArePortsOf}
 use Rattle.lw_lut.specs.Nets.{PlainTableNet}
-use Rattle.lw_lut.specs.Readable.{AreSayablePorts, IsSayable, IsSignalName}
+use Rattle.lw_lut.specs.Readable.{AreSayablePorts, IsSayable}
 use Rattle.lw_lut.specs.declared.table.Table.{Table}
 use Rattle.lw_lut.proofs.FormDepths.{some_depth}
 use Rattle.lw_lut.proofs.MadeTables.{made_are_sayable}
@@ -25,10 +25,12 @@ use Rattle.lw_lut.proofs.NetsPlaced.{few_nets}
 use Rattle.lw_lut.proofs.PortsFit.{ports_apart, roots_known}
 use Rattle.lw_lut.proofs.TableNets.{outs_below}
 use Rattle.lw_map.specs.Options.{Options, IsWide}
-use Rattle.lw_map.specs.Mapped.{ports_of, IsWithinLimits}
+use Rattle.lw_map.specs.Mapped.{IsWithinLimits}
 use Rattle.lw_map.specs.Tabled.{AreLeaves, HasReadableNames, IsTabled}
 use Rattle.lw_map.proofs.PortNames.{few_outputs, has_ports, port_list}
 use Rattle.lw_map.proofs.Ranges.{pairs_bound, unfolds_low}
+use Rattle.lw_words.specs.Words.{IsSignalName}
+use Rattle.lw_net.specs.Ports.{ports_of}
 
 module _ (options : Options) (most : ℕ) (net : NetworkParts) (n : PlainTableNet) (wide : IsWide options) (within : IsWithinLimits options net) (kept : IsNetwork net) (is : IsTabled options most net n) where
   pub ports_are : ArePortsOf options.width (network.plain net) (ports_of net) is.graph n.ports

@@ -8,7 +8,6 @@ use Rattle.lw_laws.specs.MappedNetlists.{root_classes}
 use Rattle.lw_laws.proofs.InputClasses.{distinct_leaves}
 use Rattle.lw_net.specs.Networks.{NetworkParts, IsNetwork, input_names, output_names}
 use Rattle.lw_net.specs.Plain as network
-use Rattle.lw_match.specs.Values.{numbers}
 use Rattle.lw_extract.specs.declared.ports.Ports.{Ports}
 use Rattle.lw_lut.specs.declared.ports.TablePorts.{TablePorts}
 use Rattle.lw_lut.specs.Depths.{DepthLists, AreLeastDepths}
@@ -19,12 +18,13 @@ use Rattle.lw_lut.proofs.FormDepths.{some_depth}
 use Rattle.lw_lut.proofs.PortsFit as fitting
 use Rattle.lw_map.specs.declared.choices.Choices.{Choices}
 use Rattle.lw_map.specs.Options.{Options, plain_options}
-use Rattle.lw_map.specs.Mapped.{ports_of}
 use Rattle.lw_map.specs.Choices.{AreChoicesOf}
 use Rattle.lw_map.specs.Ports.{ArePortsOf}
 use Rattle.lw_map.specs.Tabled.{IsTabled}
 use Rattle.lw_map.proofs.Composed.{ports_fit}
 use Rattle.lw_map.proofs.PortNames.{has_ports, port_list}
+use Rattle.lw_pool.specs.Numbers.{numbers}
+use Rattle.lw_net.specs.Ports.{ports_of}
 
 -- the same ports, for tables
 abbrev pub table_ports : Ports → TablePorts

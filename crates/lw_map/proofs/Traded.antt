@@ -36,10 +36,11 @@ use Rattle.lw_netlist.specs.Plain as netlist
 use Rattle.lw_trade.specs.Areas.{area_cost}
 use Rattle.lw_map.specs.declared.choices.Choices.{Choices}
 use Rattle.lw_map.specs.Options.{Options, plain_options}
-use Rattle.lw_map.specs.Mapped.{output_port, plain_port}
 use Rattle.lw_map.specs.Choices.{AreChoicesOf}
 use Rattle.lw_map.specs.Trading.{IsInTime, HasLeastArea}
 use Rattle.lw_map.proofs.CellLaws.{delay_patterns, delay_truths}
+use Rattle.lw_net.specs.Ports.{output_port}
+use Rattle.lw_netlist.specs.Plain.{plain_port}
 
 -- what holds at each place holds of both lists
 pub zip_places : {X Y : Type 0} (R : X → Y → Type 0) (xs : List X) (ys : List Y) → length xs ≡ length ys → ((k : ℕ) (x : X) (y : Y) → slice_get xs k ≡ Some x → slice_get ys k ≡ Some y → R x y) → AllZip R xs ys

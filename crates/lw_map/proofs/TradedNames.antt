@@ -29,16 +29,17 @@ use Rattle.lw_netlist.specs.Netlists.{NetlistParts, IsNetlist}
 use Rattle.lw_netlist.specs.Plain as netlist
 use Rattle.lw_extract.specs.declared.ports.Ports.{Ports}
 use Rattle.lw_trade.specs.Areas.{area_cost}
-use Rattle.lw_trade.specs.Traded.{IsTraded, output_nets, port_name, port_net}
+use Rattle.lw_trade.specs.Traded.{IsTraded, output_nets, port_net}
 use Rattle.lw_map.specs.declared.choices.Choices.{Choices}
 use Rattle.lw_map.specs.Options.{plain_options}
-use Rattle.lw_map.specs.Mapped.{output_port, plain_port, ports_of, mapped_ports}
 use Rattle.lw_map.specs.Choices.{AreChoicesOf}
 use Rattle.lw_map.specs.Ports.{ArePortsOf}
 use Rattle.lw_map.specs.Trading.{AreEarliest, HasLeastArea, micros, put_off}
 use Rattle.lw_map.proofs.Traded.{IsBest, best_area, best_values, class_of_net, zip_places}
 use Rattle.lw_map.proofs.Deadlines.{s, targets, output_of, times_count, IsOutputAt}
 use Rattle.lw_map.proofs.PortNames.{few_outputs, port_list, port_names}
+use Rattle.lw_net.specs.Ports.{output_port, ports_of}
+use Rattle.lw_netlist.specs.Plain.{plain_port, mapped_ports, port_name}
 
 -- numbers from one on
 pub range_back : (a m i x : ℕ) → slice_get (range_with_len a m) i ≡ Some x → (x ≡ a + i) × (i < m)

@@ -2,18 +2,18 @@
 use Rattle.std.specs.Prelude.{ℕ, ◌<◌, ◌≤◌, ◌≡◌, length, map, All, slice_index_or}
 use Rattle.lw_pool.specs.declared.id.ClassId.{ClassId}
 use Rattle.lw_pool.specs.declared.id.NetId.{NetId}
-use Rattle.lw_laws.specs.Graphs.{Graph, class_of}
+use Rattle.lw_laws.specs.Graphs.{Graph, class_of, most_classes}
 use Rattle.lw_laws.specs.NumberedForms.{NumberedForms}
 use Rattle.lw_laws.specs.Classes.{IsGraphOf}
 use Rattle.lw_laws.specs.Decompositions.{listing_of}
 use Rattle.lw_laws.specs.MappedNetlists.{root_classes}
 use Rattle.lw_net.specs.Networks.{NetworkParts}
 use Rattle.lw_net.specs.Plain.{plain}
-use Rattle.lw_label.specs.Labels.{most_classes}
-use Rattle.lw_match.specs.Values.{numbers}
 use Rattle.lw_map.specs.declared.choices.Choices.{Choices}
 use Rattle.lw_map.specs.Options.{IsWide, plain_options}
-use Rattle.lw_map.specs.Mapped.{ports_of, base_count, IsWithinLimits}
+use Rattle.lw_map.specs.Mapped.{base_count, IsWithinLimits}
+use Rattle.lw_pool.specs.Numbers.{numbers}
+use Rattle.lw_net.specs.Ports.{ports_of}
 
 -- the class of the sum of products of a net
 abbrev pub root_of : NumberedForms → Graph → NetId → ℕ

@@ -17,24 +17,10 @@ use Rattle.lw_netlist.specs.declared.gate.Port.{Port}
 use Rattle.lw_netlist.specs.Netlists.{NetlistParts, IsNetlist}
 use Rattle.lw_netlist.specs.Plain as netlist
 use Rattle.lw_map.specs.Options.{Options}
+use Rattle.lw_net.specs.Ports.{ports_of}
+use Rattle.lw_netlist.specs.Plain.{mapped_ports}
 
 -- Ports.
-
--- an output of a network: the name of its net, and the net
-abbrev pub output_port : NetworkParts → NetId → PlainPort
-output_port net output = record { name = name_in net output; net = output.0 }
-
--- the names of a network's inputs, and its outputs
-abbrev pub ports_of : NetworkParts → Ports
-ports_of net = record { inputs = input_names net; outputs = map (output_port net) net.outputs }
-
--- an output of a netlist, without names of nets
-abbrev pub plain_port : Port → PlainPort
-plain_port port = record { name = port.name; net = port.net.0 }
-
--- the names of a netlist's inputs, and its outputs
-abbrev pub mapped_ports : NetlistParts → Ports
-mapped_ports n = record { inputs = take n.inputs n.names; outputs = map plain_port n.outputs }
 
 -- The netlist is the one that the network is mapped to: of all covers of all trees that the laws derive for an output, it has one of the
 -- least time from the starts of the inputs on.

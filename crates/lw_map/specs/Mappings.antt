@@ -5,7 +5,6 @@ use Rattle.lw_fixed.specs.declared.micro.Micro.{Micro}
 use Rattle.lw_genlib.specs.Cells.{CellParts}
 use Rattle.lw_net.specs.Networks.{NetworkParts}
 use Rattle.lw_match.specs.declared.mark.Mark.{Mark}
-use Rattle.lw_match.specs.Values.{numbers}
 use Rattle.lw_laws.specs.Rounds.{labels_in}
 use Rattle.lw_pattern.specs.Libraries.{library_patterns}
 use Rattle.lw_label.specs.Labels.{costs_of}
@@ -16,6 +15,7 @@ use Rattle.lw_map.specs.declared.covering.Mapping.{Mapping}
 use Rattle.lw_map.specs.Options.{plain_options}
 use Rattle.lw_map.specs.Labelled.{AreStepsBy}
 use Rattle.lw_map.specs.Mapped.{IsMappedNetlist}
+use Rattle.lw_pool.specs.Numbers.{numbers}
 
 -- the netlist that the network is mapped to, over the graph of the choices, with the classes of its gates, the labels of the classes, and
 -- how often stored matches are read to find them

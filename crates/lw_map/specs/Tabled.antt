@@ -10,13 +10,15 @@ use Rattle.lw_net.specs.declared.draft.Draft.{Draft}
 use Rattle.lw_net.specs.Closing.{IsClosed}
 use Rattle.lw_net.specs.Networks.{NetworkParts, input_names, output_names}
 use Rattle.lw_net.specs.Plain.{plain}
-use Rattle.lw_match.specs.Values.{numbers}
 use Rattle.lw_lut.specs.Depths.{DepthLists, AreLeastDepths}
 use Rattle.lw_lut.specs.Meaning.{IsTableMapping}
 use Rattle.lw_lut.specs.Nets.{PlainTableNet, AreFit, IsTableNet, IsTableNetOf}
-use Rattle.lw_lut.specs.Readable.{IsReadableLatch, IsSignalName, IsTablesRead}
+use Rattle.lw_lut.specs.Readable.{IsTablesRead}
 use Rattle.lw_map.specs.Options.{Options}
-use Rattle.lw_map.specs.Mapped.{ports_of}
+use Rattle.lw_words.specs.Words.{IsSignalName}
+use Rattle.lw_pool.specs.Numbers.{numbers}
+use Rattle.lw_net.specs.Ports.{ports_of}
+use Rattle.lw_frame.specs.Latches.{IsReadableLatch}
 
 -- a table has 2 to 6 fan-ins at most
 pub record AreLeaves (most : ℕ) : Type 0 where

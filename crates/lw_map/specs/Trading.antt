@@ -30,7 +30,9 @@ use Rattle.lw_extract.specs.declared.fault.ExtractFault.{ExtractFault}
 use Rattle.lw_extract.specs.declared.fault.ExtractFault.TheVariants.{NoCover, Memory}
 use Rattle.lw_extract.specs.Covers.{IsFirstUncovered}
 use Rattle.lw_map.specs.Options.{Options}
-use Rattle.lw_map.specs.Mapped.{ports_of, mapped_ports, IsWithinLimits}
+use Rattle.lw_map.specs.Mapped.{IsWithinLimits}
+use Rattle.lw_net.specs.Ports.{ports_of}
+use Rattle.lw_netlist.specs.Plain.{mapped_ports}
 
 -- the cover is one by the library's cells of a tree that the laws derive for the net's sum of products
 pub record IsCoverOf (options : Options) (cells : List CellParts) (net : NetworkParts) (s : ℕ) (k : Cover) : Type 0 where

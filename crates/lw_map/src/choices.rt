@@ -1,10 +1,10 @@
 // The graph of a network's forms.
 ghost use Rattle.std.specs.Prelude.{◌≡◌, ◌<◌, All, IfOk, IfErr, length, map};
 ghost use Rattle.lw_pool.specs.declared.id.ClassId.{ClassId};
-ghost use Rattle.lw_match.specs.Values.{numbers};
 ghost use Rattle.lw_map.specs.Options.{IsWide, plain_options};
 ghost use Rattle.lw_map.specs.Choices.{AreChoicesOf, root_of};
 ghost use Rattle.lw_map.specs.Faults.{IsChoiceFault};
+ghost use Rattle.lw_pool.specs.Numbers.{numbers};
 
 use crate::{MapFault, Options};
 use lw_assoc::build;

@@ -1,7 +1,6 @@
 // The netlist of the chosen matches.
 ghost use Rattle.std.specs.Prelude.{◌≤◌, All, IfOk, IfErr, length};
 ghost use Rattle.lw_genlib.specs.Cells.{IsSmall};
-ghost use Rattle.lw_label.specs.Labels.{most_classes};
 ghost use Rattle.std.specs.List.{IsDistinct};
 ghost use Rattle.std.specs.Str.{bytes_eq};
 ghost use Rattle.lw_net.specs.Networks.{output_names};
@@ -10,6 +9,7 @@ ghost use Rattle.lw_map.specs.Choices.{AreChoicesOf};
 ghost use Rattle.lw_map.specs.Ports.{ArePortsOf};
 ghost use Rattle.lw_map.specs.Mappings.{IsMappingOf};
 ghost use Rattle.lw_map.specs.Faults.{IsCoverFault};
+ghost use Rattle.lw_laws.specs.Graphs.{most_classes};
 
 use crate::labelling::label;
 use crate::naming::{input_names, output_name, output_names};

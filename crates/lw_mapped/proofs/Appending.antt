@@ -5,7 +5,8 @@ use Rattle.std.proofs.Math.Bool.{or-false}
 use Rattle.lw_words.specs.Lines.{LogicalLine}
 use Rattle.lw_genlib.specs.Cells.{CellParts}
 use Rattle.lw_mapped.specs.declared.fault.MappedKind.{MappedKind}
-use Rattle.lw_mapped.specs.LineFaults.{FaultAt, fault_or, line_fault, first_fault, ends, command, goes_on, front, lines_read, has_ended, is_first}
+use Rattle.lw_mapped.specs.LineFaults.{FaultAt, fault_or, line_fault, first_fault, ends, command, goes_on, lines_read, has_ended, is_first}
+use Rattle.lw_words.specs.Words.{front}
 
 -- no fault here, and none behind
 pub fault_or_none : (number : ℕ) (o : Option MappedKind) (r : Option FaultAt) → fault_or number o r ≡ None → (o ≡ None) × (r ≡ None)

@@ -17,10 +17,11 @@ use Rattle.lw_mapped.specs.declared.saying.Saying.TheVariants as saying
 use Rattle.lw_mapped.specs.Commands.{command_of}
 use Rattle.lw_mapped.specs.GateLines.{net_for}
 use Rattle.lw_mapped.specs.Said.{gates_in}
-use Rattle.lw_mapped.specs.Sayings.{said, fault_in, are_names, first_word, second_word, words_say, command_says, gate_says, arrival_says, default_says, certificate_says}
+use Rattle.lw_mapped.specs.Sayings.{said, fault_in, are_names, second_word, words_say, command_says, gate_says, arrival_says, default_says, certificate_says}
 use Rattle.lw_mapped.specs.LineFaults.{line_says, lines_say, what_is_said}
 use Rattle.lw_mapped.proofs.Driving.{each-flat}
 use Rattle.lw_mapped.proofs.SaidLines.{arrival-all, certificate-all, default-all, gate-all, said-all}
+use Rattle.lw_words.specs.Words.{first_word}
 
 abbrev gates_of : Result Saying MappedKind → List DraftGate
 gates_of result = flat_map gates_in (what_is_said result)

@@ -11,7 +11,8 @@ use Rattle.lw_dag.proofs.Names.{alike, differ_back}
 use Rattle.lw_mapped.specs.declared.fault.MappedKind.TheVariants as kind
 use Rattle.lw_mapped.specs.declared.saying.Saying.TheVariants as saying
 use Rattle.lw_mapped.specs.GateLines.{ties_fault, gate_of}
-use Rattle.lw_mapped.specs.Sayings.{first_word, said, gate_says, gate_says_in, gate_says_at}
+use Rattle.lw_mapped.specs.Sayings.{said, gate_says, gate_says_in, gate_says_at}
+use Rattle.lw_words.specs.Words.{first_word}
 
 at_place : (x : List ℕ) (ys : List (List ℕ)) (k : ℕ) (e : List ℕ) → AllByRecursion (λ y. bytes_eq x y ≡ false) ys → k < length ys → bytes_eq x (get_or ys k e) ≡ false
 at_place x [] k e all lt = absurd (omega arith)

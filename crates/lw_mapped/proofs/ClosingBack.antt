@@ -26,17 +26,18 @@ use Rattle.lw_netlist.specs.Closing.IsNetNamed.{at_input, at_gate, at_wire}
 use Rattle.lw_netlist.specs.Closing.Reaches.{by_step, by_path}
 use Rattle.lw_netlist.specs.Netlists.{NetlistParts, IsNetlist, IsGateAt}
 use Rattle.lw_netlist.specs.Numbered.{number_in}
-use Rattle.lw_netlist.specs.Plain.{plain, plain_gate, net_number}
+use Rattle.lw_netlist.specs.Plain.{plain, plain_gate, port_name}
 use Rattle.lw_dag.proofs.Names.{alike, differ_back}
 use Rattle.lw_netlist.proofs.Names.{to_of}
 use Rattle.lw_mapped.specs.Readable.{ports_of}
-use Rattle.lw_mapped.specs.Texts.{net_name, port_name}
+use Rattle.lw_mapped.specs.Texts.{net_name}
 use Rattle.lw_mapped.proofs.Driving as back
 use Rattle.lw_mapped.proofs.Driving.{draft_of, wire_of, wires_of, each-flat, each-map, each-at, at-each}
 use Rattle.lw_mapped.proofs.Items.{named_gate, port_wire}
 use Rattle.lw_mapped.proofs.Places.{get-contains, contains-get}
 use Rattle.lw_mapped.proofs.Ranked.{AreRising, by_depth-rising}
 use Rattle.lw_mapped.proofs.WrittenLines.{each-append, each-weaker}
+use Rattle.lw_pool.specs.Numbers.{net_number}
 
 -- the net of the first output of a name
 abbrev net_of_output : List Port → List ℕ → ℕ

@@ -22,13 +22,13 @@ use Rattle.lw_mapped.specs.declared.contents.Contents.{Contents}
 use Rattle.lw_mapped.specs.declared.saying.Saying.{Saying}
 use Rattle.lw_mapped.specs.Keeping.{Keeps, IsOfFew}
 use Rattle.lw_mapped.specs.Said.{models_in, inputs_in, outputs_in, latches_in, arrivals_in}
-use Rattle.lw_mapped.specs.Sayings.{first_word}
 use Rattle.lw_mapped.specs.Unmapped.{ClosesTo, HasWholeFault, IsSaid, draft_said, frame_said, starts_said}
 use Rattle.lw_mapped.specs.Made.{IsMade, TellsWhole}
 use Rattle.lw_mapped.specs.Texts.{net_name}
 use Rattle.lw_mapped.specs.declared.closing.Mapped.{Mapped}
 use Rattle.lw_mapped.specs.declared.fault.MappedFault.{MappedFault}
 use Rattle.lw_mapped.specs.declared.fault.MappedFault.TheVariants as fault
+use Rattle.lw_words.specs.Words.{first_word}
 
 first-or : (model : Option (List ℕ)) (names : List (List ℕ)) (other : List ℕ) → option_to_list model ≡ take 1 names → unwrap_or model other ≡ first_word (names ++ other ∷ [])
 first-or None [] other e = refl

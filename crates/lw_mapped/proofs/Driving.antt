@@ -19,12 +19,12 @@ use Rattle.lw_netlist.specs.declared.gate.Port.{Port}
 use Rattle.lw_netlist.specs.Closing.{drivers, first_twice, first_undriven, gate_link, wire_link, is_among, links, needs_of, out_of, twice_after, undriven_in}
 use Rattle.lw_netlist.specs.Netlists.{NetlistParts, IsNetlist, IsGateAt}
 use Rattle.lw_netlist.specs.Numbered.{number_in}
-use Rattle.lw_netlist.specs.Plain.{plain}
+use Rattle.lw_netlist.specs.Plain.{plain, plain_port, port_name}
 use Rattle.lw_dag.proofs.Names.{alike, differ_back}
 use Rattle.lw_netlist.proofs.Names.{drivers_are, to_of}
 use Rattle.lw_dag.proofs.Numbering.{number_at}
-use Rattle.lw_mapped.specs.Readable.{ports_of, plain_port}
-use Rattle.lw_mapped.specs.Texts.{net_name, names_of_inputs, names_of_outputs, port_name}
+use Rattle.lw_mapped.specs.Readable.{ports_of}
+use Rattle.lw_mapped.specs.Texts.{net_name, names_of_inputs, names_of_outputs}
 use Rattle.lw_mapped.proofs.Items.{named_gate, port_wire}
 use Rattle.lw_mapped.proofs.Places.{get-left, get-right, get-contains, contains-get}
 use Rattle.lw_mapped.proofs.WrittenLines.{each-of, each-append}

@@ -7,10 +7,11 @@ use Rattle.lw_genlib.specs.Cells.{CellParts}
 use Rattle.lw_mapped.specs.declared.command.Command.{Command}
 use Rattle.lw_mapped.specs.declared.saying.Saying.{Saying}
 use Rattle.lw_mapped.specs.Commands.{command_of, point_command}
-use Rattle.lw_mapped.specs.Sayings.{first_word, words_say}
-use Rattle.lw_mapped.specs.LineFaults.{ends, front, goes_on, lines_read, is_names_command, is_row, wire_without_row, what_is_said, lines_say, told_fault, saying_fault, fault_behind, line_fault, fault_or, first_fault, fault_else, text_fault}
+use Rattle.lw_mapped.specs.Sayings.{words_say}
+use Rattle.lw_mapped.specs.LineFaults.{ends, goes_on, lines_read, is_names_command, is_row, wire_without_row, what_is_said, lines_say, told_fault, saying_fault, fault_behind, line_fault, fault_or, first_fault, fault_else, text_fault}
 use Rattle.lw_mapped.proofs.ReadingLemmas.{say-last, wire-last, row-says, row-wire, none-wire, none-say}
 use Rattle.lw_mapped.proofs.WrittenLines.{numbered}
+use Rattle.lw_words.specs.Words.{first_word, front}
 
 -- A line, what it says, and whether it is a wire, behind which its row comes.
 pub record Item : Type 0 where

@@ -26,11 +26,12 @@ use Rattle.lw_mapped.specs.Fitting.{IsMapped}
 use Rattle.lw_mapped.specs.Keeping.{Keeps, AreLow}
 use Rattle.lw_mapped.specs.Parsed.{IsLabel}
 use Rattle.lw_mapped.specs.Said.{inputs_in, outputs_in, latches_in, arrivals_in, nets_in, class_among}
-use Rattle.lw_mapped.specs.Sayings.{most_classes}
 use Rattle.lw_mapped.specs.Standing.{AreLabels}
-use Rattle.lw_mapped.specs.Texts.{names_of_inputs, names_of_outputs, port_name, net_name}
+use Rattle.lw_mapped.specs.Texts.{names_of_inputs, names_of_outputs, net_name}
 use Rattle.lw_mapped.specs.Unmapped.{IsSaid, ClosesTo, draft_said, frame_said}
 use Rattle.lw_mapped.specs.Made.{IsMade}
+use Rattle.lw_laws.specs.Graphs.{most_classes}
+use Rattle.lw_netlist.specs.Plain.{port_name}
 
 pub port-names : (net : List ℕ → ℕ) (names : List (List ℕ)) → map port_name (map (port_at net) names) ≡ names
 port-names net [] = refl

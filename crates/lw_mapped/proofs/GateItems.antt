@@ -18,15 +18,15 @@ use Rattle.lw_dag.proofs.Names.{alike}
 use Rattle.lw_mapped.specs.declared.fault.MappedKind.{MappedKind}
 use Rattle.lw_mapped.specs.declared.fault.MappedKind.TheVariants as kind
 use Rattle.lw_mapped.specs.declared.saying.Saying.TheVariants as saying
-use Rattle.lw_mapped.specs.Commands.{is_among, command_of, point_command}
-use Rattle.lw_mapped.specs.GateLines.{is_name, is_equals, formal_of, actual_of, is_for, gives, is_formal, tie_fault, first_tie_fault, or_missing, ties_fault, net_for, gate_of}
-use Rattle.lw_mapped.specs.Readable.{IsSignalName}
+use Rattle.lw_mapped.specs.Commands.{command_of, point_command}
+use Rattle.lw_mapped.specs.GateLines.{is_equals, formal_of, actual_of, is_for, gives, is_formal, tie_fault, first_tie_fault, or_missing, ties_fault, net_for, gate_of}
 use Rattle.lw_mapped.specs.Sayings.{said, gate_says, gate_says_in, gate_says_at, words_say}
 use Rattle.lw_mapped.specs.Texts.{net_name, tie, ties, gate_words}
 use Rattle.lw_mapped.proofs.CellLemmas.{found-at}
 use Rattle.lw_mapped.proofs.GoodWords.{equals-none}
 use Rattle.lw_mapped.proofs.Items.{named_gate}
 use Rattle.lw_mapped.proofs.WrittenLines.{each-append, each-weaker}
+use Rattle.lw_words.specs.Words.{is_among, is_name, IsSignalName}
 
 -- A pin or the output, and its net.
 pub record Tie : Type 0 where

@@ -10,10 +10,10 @@ use Rattle.lw_words.specs.Lines.{is_blank}
 use Rattle.lw_genlib.specs.Cells.{IsPinName, is_word_byte, is_punct_byte as is_mark_byte}
 use Rattle.lw_genlib.specs.Cells as genlib
 use Rattle.lw_mapped.specs.GateLines.{is_equals}
-use Rattle.lw_mapped.specs.Readable.{IsSignalName}
 use Rattle.lw_mapped.specs.Sayings.{are_names}
 use Rattle.lw_mapped.specs.Texts.{tie}
 use Rattle.lw_mapped.proofs.WrittenLines.{IsWordOf, EndsWell, LastEndsWell, each-of, each-append, each-weaker}
+use Rattle.lw_words.specs.Words.{IsSignalName}
 
 -- neither a blank nor a line feed, nor `#`, nor `\`
 abbrev pub IsGood : ℕ → Type 0

@@ -28,11 +28,13 @@ use Rattle.lw_mapped.specs.Commands.{command_of}
 use Rattle.lw_mapped.specs.LineFaults.{line_says, lines_say, what_is_said}
 use Rattle.lw_mapped.specs.Parsed.{IsFit, IsLabel}
 use Rattle.lw_mapped.specs.Said.{Labelled, Classed, arrivals_in, labels_in, nets_in, label_among, class_among}
-use Rattle.lw_mapped.specs.Sayings.{said, fault_in, are_names, first_word, second_word, words_say, command_says, certificate_says, most_classes, class_said}
+use Rattle.lw_mapped.specs.Sayings.{said, fault_in, are_names, second_word, words_say, command_says, certificate_says, class_said}
 use Rattle.lw_mapped.proofs.Driving.{each-flat}
 use Rattle.lw_mapped.proofs.Printing.{Digits, own, digits-take}
 use Rattle.lw_mapped.proofs.SaidLines.{arrival-all, certificate-all, default-all, gate-all, said-all}
 use Rattle.lw_mapped.proofs.WrittenLines.{each-of, each-append, each-weaker}
+use Rattle.lw_words.specs.Words.{first_word}
+use Rattle.lw_laws.specs.Graphs.{most_classes}
 
 -- Decimals.
 

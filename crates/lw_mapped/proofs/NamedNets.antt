@@ -19,16 +19,18 @@ use Rattle.lw_netlist.specs.declared.draft.Wire.{Wire}
 use Rattle.lw_netlist.specs.Closing.{IsClosed, IsNetNamed, by_depth, closed_gate, drivers, greatest, netlist_in, out_of, port_at}
 use Rattle.lw_netlist.specs.Closing.IsNetNamed.{at_input, at_gate, at_wire}
 use Rattle.lw_netlist.specs.Netlists.{NetlistParts}
-use Rattle.lw_netlist.specs.Plain.{plain, plain_gate, net_number}
+use Rattle.lw_netlist.specs.Plain.{plain, plain_gate, plain_port}
 use Rattle.lw_netlist.proofs.Names.{to_of}
 use Rattle.lw_netlist.proofs.Starting.{bare_gate}
-use Rattle.lw_mapped.specs.Readable.{IsNamed, IsSignalName, plain_port, ports_of}
+use Rattle.lw_mapped.specs.Readable.{IsNamed, ports_of}
 use Rattle.lw_mapped.proofs.ClosedOnce.{gate-known, keys-distinct, moved, outputs-known, pins-known, start-alone, start-or-wire}
 use Rattle.lw_mapped.proofs.Driving.{each-map}
 use Rattle.lw_mapped.proofs.Fitted.{port-names}
 use Rattle.lw_mapped.proofs.Kept.{many-ends, rising-at, sorted}
 use Rattle.lw_mapped.proofs.Places.{get-contains, get-left, one-place}
 use Rattle.lw_mapped.proofs.WrittenLines.{each-append, each-of}
+use Rattle.lw_words.specs.Words.{IsSignalName}
+use Rattle.lw_pool.specs.Numbers.{net_number}
 
 abbrev pub HasName : DraftGate → Type 0
 HasName gate = IsSignalName gate.out

@@ -16,7 +16,7 @@ use Rattle.lw_netlist.specs.declared.gate.Gate.{Gate}
 use Rattle.lw_netlist.specs.declared.gate.Port.{Port}
 use Rattle.lw_netlist.specs.Closing.{IsClosed}
 use Rattle.lw_netlist.specs.Netlists.{NetlistParts}
-use Rattle.lw_netlist.specs.Plain.{HasCell}
+use Rattle.lw_netlist.specs.Plain.{HasCell, port_name}
 use Rattle.lw_pool.specs.declared.latch.Frame.{Frame}
 use Rattle.lw_pool.specs.declared.latch.Latch.{Latch}
 use Rattle.lw_words.specs.Lines.{LogicalLine, logical_lines}
@@ -30,7 +30,7 @@ use Rattle.lw_mapped.specs.Alike.{AreSameMapped, AreSameOutcomes}
 use Rattle.lw_mapped.specs.LineFaults.{FaultAt, text_fault, lines_read, lines_say}
 use Rattle.lw_mapped.specs.Readable.{IsReadable, HasReadableCertificate, certificate_or_none, read_of}
 use Rattle.lw_mapped.specs.Said.{inputs_in, outputs_in, gates_in, wires_in, latches_in, arrivals_in, labels_in, nets_in, label_among, class_among}
-use Rattle.lw_mapped.specs.Texts.{net_name, port_name, mapped_text, names_of_inputs, names_of_outputs}
+use Rattle.lw_mapped.specs.Texts.{net_name, mapped_text, names_of_inputs, names_of_outputs}
 use Rattle.lw_mapped.specs.Unmapped.{IsSaid, ComesTo, IsUnmapped, draft_said, frame_said, starts_said, classes_said}
 use Rattle.lw_mapped.proofs.ClosingBack.{closed-back}
 use Rattle.lw_mapped.proofs.Driving.{draft_of, wires_of, distinct, outputs-distinct, each-at}

@@ -23,7 +23,6 @@ use Rattle.lw_mapped.specs.LineFaults.{FaultAt, lines_read, lines_say, text_faul
 use Rattle.lw_mapped.specs.Parsed.{IsFit, IsLabel}
 use Rattle.lw_mapped.specs.Readable.{IsReadableCertificate}
 use Rattle.lw_mapped.specs.Said.{inputs_in, latches_in, nets_in, class_among}
-use Rattle.lw_mapped.specs.Sayings.{most_classes}
 use Rattle.lw_mapped.specs.Standing.{word_count}
 use Rattle.lw_mapped.specs.Texts.{net_name}
 use Rattle.lw_mapped.specs.Unmapped.{ComesTo, IsSaid, IsUnmapped, draft_said}
@@ -33,6 +32,7 @@ use Rattle.lw_mapped.proofs.Kept.{closed-netlist, closed-over}
 use Rattle.lw_mapped.proofs.Limits.{class-within, label-within, lines-within, starts-early}
 use Rattle.lw_mapped.proofs.Sizes.{lines-fit, read-fits}
 use Rattle.lw_mapped.proofs.Weights.{few-gates}
+use Rattle.lw_laws.specs.Graphs.{most_classes}
 
 -- what comes to a netlist has no fault
 pub comes-said : (first : Option FaultAt) (said : List Saying) (mapped : Mapped) → ComesTo first said (Ok mapped) → IsSaid said mapped

@@ -15,12 +15,13 @@ use Rattle.lw_mapped.specs.declared.fault.Refusal.TheVariants as refusal
 use Rattle.lw_mapped.specs.declared.parts.Parts.{Parts}
 use Rattle.lw_mapped.specs.declared.saying.Saying.{Saying}
 use Rattle.lw_mapped.specs.Commands.{command_of}
-use Rattle.lw_mapped.specs.Sayings.{first_word, words_say, command_says}
+use Rattle.lw_mapped.specs.Sayings.{words_say, command_says}
 use Rattle.lw_mapped.specs.LineFaults.{command, is_names_command, is_row, wire_without_row, line_says, lines_say, what_is_said, told_fault, saying_fault, fault_behind, line_fault}
 use Rattle.lw_mapped.specs.Keeping.{Keeps, Takes}
 use Rattle.lw_mapped.specs.Parsed.{Says, TellsFault}
 use Rattle.lw_mapped.specs.Standing.{KeepsLines}
 use Rattle.lw_mapped.proofs.KeepingLemmas.{flat-last, keeps-more}
+use Rattle.lw_words.specs.Words.{first_word}
 
 pub fault-long : (cells : List CellParts) (lines : List LogicalLine) (line : LogicalLine) → line.long ≡ true → line_fault cells lines line ≡ Some kind.LongWord
 unfolding line_fault

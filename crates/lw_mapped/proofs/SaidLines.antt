@@ -12,9 +12,10 @@ use Rattle.lw_mapped.specs.declared.fault.MappedKind.{MappedKind}
 use Rattle.lw_mapped.specs.declared.fault.MappedKind.TheVariants as kind
 use Rattle.lw_mapped.specs.declared.saying.Saying.{Saying}
 use Rattle.lw_mapped.specs.declared.saying.Saying.TheVariants as saying
-use Rattle.lw_mapped.specs.GateLines.{gate_of, is_name, ties_fault}
+use Rattle.lw_mapped.specs.GateLines.{gate_of, ties_fault}
 use Rattle.lw_mapped.specs.LineFaults.{what_is_said}
-use Rattle.lw_mapped.specs.Sayings.{arrival_says, certificate_says, class_said, default_arrival, default_says, first_word, gate_says, gate_says_at, gate_says_in, label_of, named_arrival, net_of, said}
+use Rattle.lw_mapped.specs.Sayings.{arrival_says, certificate_says, class_said, default_arrival, default_says, gate_says, gate_says_at, gate_says_in, label_of, named_arrival, net_of, said}
+use Rattle.lw_words.specs.Words.{first_word, is_name}
 
 module _ (P : Saying → Type 0) where
   abbrev AllSaid : Result Saying MappedKind → Type 0

@@ -19,11 +19,11 @@ use Rattle.lw_mapped.specs.declared.fault.MappedKind.{MappedKind}
 use Rattle.lw_mapped.specs.declared.saying.Saying.{Saying}
 use Rattle.lw_mapped.specs.declared.saying.Saying.TheVariants as saying
 use Rattle.lw_mapped.specs.Commands.{command_of}
-use Rattle.lw_mapped.specs.GateLines.{actual_of, is_equals, is_name, net_for, ties_fault}
+use Rattle.lw_mapped.specs.GateLines.{actual_of, is_equals, net_for, ties_fault}
 use Rattle.lw_mapped.specs.LineFaults.{line_says, lines_read, lines_say, text_fault, what_is_said}
-use Rattle.lw_mapped.specs.Readable.{IsNamed, IsReadableLatch, IsSignalName}
+use Rattle.lw_mapped.specs.Readable.{IsNamed}
 use Rattle.lw_mapped.specs.Said.{gates_in, inputs_in, latches_in, models_in, outputs_in}
-use Rattle.lw_mapped.specs.Sayings.{are_names, command_says, fault_in, first_word, said, second_word, words_say}
+use Rattle.lw_mapped.specs.Sayings.{are_names, command_says, fault_in, said, second_word, words_say}
 use Rattle.lw_mapped.specs.Unmapped.{IsUnmapped, draft_said}
 use Rattle.lw_mapped.proofs.Driving.{each-flat, each-map}
 use Rattle.lw_mapped.proofs.GoodWords.{IsRight, right-word}
@@ -33,6 +33,8 @@ use Rattle.lw_mapped.proofs.SaidLines.{arrival-all, certificate-all, default-all
 use Rattle.lw_mapped.proofs.TextWords.{HasRight, read-right}
 use Rattle.lw_mapped.proofs.TieLemmas.{IsTied, gives-output, net-has, ties-tied, whole-first}
 use Rattle.lw_mapped.proofs.WrittenLines.{each-append, each-drop, each-of, each-weaker}
+use Rattle.lw_words.specs.Words.{first_word, is_name, IsSignalName}
+use Rattle.lw_frame.specs.Latches.{IsReadableLatch}
 
 -- Words.
 

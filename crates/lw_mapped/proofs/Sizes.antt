@@ -19,12 +19,13 @@ use Rattle.lw_mapped.specs.declared.fault.MappedKind.TheVariants as kind
 use Rattle.lw_mapped.specs.declared.saying.Saying.{Saying}
 use Rattle.lw_mapped.specs.declared.saying.Saying.TheVariants as saying
 use Rattle.lw_mapped.specs.Commands.{command_of}
-use Rattle.lw_mapped.specs.GateLines.{is_name, ties_fault, gate_of}
+use Rattle.lw_mapped.specs.GateLines.{ties_fault, gate_of}
 use Rattle.lw_mapped.specs.Said.{inputs_in, outputs_in, latches_in, gates_in}
-use Rattle.lw_mapped.specs.Sayings.{said, fault_in, are_names, first_word, second_word, words_say, command_says, gate_says, gate_says_in, gate_says_at, latch_says, arrival_says, default_says, certificate_says, named_arrival, default_arrival, class_said, label_of, net_of}
-use Rattle.lw_mapped.specs.LineFaults.{line_says, lines_say, what_is_said, lines_read, front, goes_on, ends}
+use Rattle.lw_mapped.specs.Sayings.{said, fault_in, are_names, second_word, words_say, command_says, gate_says, gate_says_in, gate_says_at, latch_says, arrival_says, default_says, certificate_says, named_arrival, default_arrival, class_said, label_of, net_of}
+use Rattle.lw_mapped.specs.LineFaults.{line_says, lines_say, what_is_said, lines_read, goes_on, ends}
 use Rattle.lw_mapped.specs.LineFaults as faults
 use Rattle.lw_mapped.specs.Standing.{word_count}
+use Rattle.lw_words.specs.Words.{first_word, front, is_name}
 
 -- how many inputs, outputs, latches and gates are said
 abbrev pub amount : List Saying → ℕ

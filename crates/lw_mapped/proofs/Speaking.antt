@@ -10,22 +10,24 @@ use Rattle.lw_genlib.specs.Cells.{CellParts, IsListed, IsPinName}
 use Rattle.lw_netlist.specs.declared.gate.Gate.{Gate}
 use Rattle.lw_netlist.specs.declared.gate.Port.{Port}
 use Rattle.lw_netlist.specs.Netlists.{NetlistParts}
-use Rattle.lw_netlist.specs.Plain.{HasCell}
+use Rattle.lw_netlist.specs.Plain.{HasCell, port_name}
 use Rattle.lw_pool.specs.declared.id.ClassId.{ClassId}
 use Rattle.lw_pool.specs.declared.id.NetId.{NetId}
 use Rattle.lw_pool.specs.declared.latch.Frame.{Frame}
 use Rattle.lw_pool.specs.declared.latch.Latch.{Latch}
 use Rattle.lw_mapped.specs.declared.certificate.Certificate.{Certificate}
 use Rattle.lw_mapped.specs.Parsed.{IsLabel}
-use Rattle.lw_mapped.specs.Readable.{IsReadable, IsReadableLatch, HasReadableCertificate, IsSignalName}
-use Rattle.lw_mapped.specs.Sayings.{most_classes}
-use Rattle.lw_mapped.specs.Texts.{net_name, port_name}
+use Rattle.lw_mapped.specs.Readable.{IsReadable, HasReadableCertificate}
+use Rattle.lw_mapped.specs.Texts.{net_name}
 use Rattle.lw_mapped.proofs.Driving.{at-each, each-at, each-map, each-flat}
 use Rattle.lw_mapped.proofs.Faultless.{Item, IsItem, GoesOn, all_lines, last_line, row}
 use Rattle.lw_mapped.proofs.GateItems.{IsNamed}
 use Rattle.lw_mapped.proofs.Items.{arrival_item, arrival_if, arrival_items, latch_item, gate_if, gate_items, wire_item, wire_if, wire_items, label_if, label_items, net_if, net_items, labels_of, classes_of, items_of, model_words}
 use Rattle.lw_mapped.proofs.WrittenItems.{IsSpoken, row-written, end-written, row-goes, model-written, inputs-spoken, outputs-spoken, arrival-spoken, latch-spoken, gate-spoken, wire-spoken, label-spoken, net-spoken}
 use Rattle.lw_mapped.proofs.WrittenLines.{IsWritten, each-of, each-append, each-take, each-weaker}
+use Rattle.lw_words.specs.Words.{IsSignalName}
+use Rattle.lw_laws.specs.Graphs.{most_classes}
+use Rattle.lw_frame.specs.Latches.{IsReadableLatch}
 
 ports-each : (P : List ℕ → Type 0) (ports : List Port) → Each P (map port_name ports) → Each (λ (port : Port). P port.name) ports
 ports-each P [] each = tt

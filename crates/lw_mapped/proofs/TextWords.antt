@@ -3,9 +3,10 @@ use Rattle.std.proofs.Common.{ℕ, ◌≡◌, ◌≢◌, ◌+◌, Bool, true, fa
 use Rattle.std.specs.List.{slice_split, onto_first, AllByRecursion as Each}
 use Rattle.lw_words.specs.Gathering.{IsNoHash}
 use Rattle.lw_words.specs.Lines.{LogicalLine, Text, is_blank, is_line_feed, has_some, lines_among, physical_lines, before_hash, has_mark, uncommented, before_trimmed, trimmed, is_continued, with_blank, continued_by, text_of, texts_from, words_of, line_of, has_words, lines_of, logical_lines}
-use Rattle.lw_mapped.specs.LineFaults.{command, ends, front, goes_on, lines_read}
+use Rattle.lw_mapped.specs.LineFaults.{command, ends, goes_on, lines_read}
 use Rattle.lw_mapped.proofs.GoodWords.{IsPlainInk, IsRight, differs, right-of}
 use Rattle.lw_mapped.proofs.WrittenLines.{each-append, each-drop, each-take, each-weaker}
+use Rattle.lw_words.specs.Words.{front}
 
 abbrev IsNoFeed : ℕ → Type 0
 IsNoFeed b = b ≢ 10

@@ -17,17 +17,18 @@ use Rattle.lw_mapped.specs.declared.fault.MappedKind.{MappedKind}
 use Rattle.lw_mapped.specs.declared.fault.MappedKind.TheVariants as kind
 use Rattle.lw_mapped.specs.declared.saying.Saying.{Saying}
 use Rattle.lw_mapped.specs.declared.saying.Saying.TheVariants as saying
-use Rattle.lw_mapped.specs.Commands.{command_of, point_command, port_command, other_command, is_ignored_word, has_point}
+use Rattle.lw_mapped.specs.Commands.{command_of, point_command, port_command, other_command}
 use Rattle.lw_mapped.specs.GateLines.{is_equals, formal_of, actual_of, is_tie, ties_fault, gate_of}
 use Rattle.lw_mapped.specs.Said.{gates_in}
 use Rattle.lw_mapped.specs.Sayings.{said, words_say, gate_says, gate_says_in, gate_says_at}
-use Rattle.lw_mapped.specs.LineFaults.{line_says, lines_say, lines_read, what_is_said, front, goes_on, ends}
+use Rattle.lw_mapped.specs.LineFaults.{line_says, lines_say, lines_read, what_is_said, goes_on, ends}
 use Rattle.lw_mapped.specs.LineFaults as faults
 use Rattle.lw_mapped.specs.Standing.{word_count}
 use Rattle.lw_mapped.specs.Unmapped.{ClosesTo}
 use Rattle.lw_mapped.proofs.CellGates.{gates-alone}
 use Rattle.lw_mapped.proofs.DepthLemmas.{no-more-gates}
 use Rattle.lw_mapped.proofs.TieLemmas.{whole-first, tie-whole}
+use Rattle.lw_words.specs.Words.{is_ignored_word, has_point, front}
 
 -- The word `.gate`.
 

@@ -3,7 +3,7 @@ use Rattle.std.proofs.Common.{ℕ, zero, suc, ◌≡◌, ◌≤◌, ◌<◌, ◌
 use Rattle.std.specs.Prelude.{slice_get}
 use Rattle.std.specs.List.{list_all, slice_range}
 use Rattle.std.proofs.lemmas.List.{take_all}
-use Rattle.lw_mapped.specs.Sayings.{first_word}
+use Rattle.lw_words.specs.Words.{first_word}
 
 pub drop-get : {A : Type 0} (xs : List A) (i : ℕ) (x : A) → slice_get xs i ≡ Some x → drop i xs ≡ x ∷ drop (i + 1) xs
 drop-get [] i x e = cc

@@ -24,8 +24,7 @@ use Rattle.lw_mapped.specs.declared.saying.Saying.TheVariants as saying
 use Rattle.lw_mapped.specs.Commands.{command_of, point_command, port_command}
 use Rattle.lw_mapped.specs.LineFaults.{ends}
 use Rattle.lw_mapped.specs.Parsed.{IsLabel}
-use Rattle.lw_mapped.specs.Readable.{IsSignalName, IsReadableLatch}
-use Rattle.lw_mapped.specs.Sayings.{said, fault_in, words_say, most_classes, class_said, label_of, net_of, named_arrival}
+use Rattle.lw_mapped.specs.Sayings.{said, fault_in, words_say, class_said, label_of, net_of, named_arrival}
 use Rattle.lw_mapped.specs.Texts.{net_name, gate_words, ties, tie}
 use Rattle.lw_mapped.proofs.Faultless.{Item, IsItem, GoesOn, command_in, row}
 use Rattle.lw_mapped.proofs.GateItems.{IsNamed, gate-says}
@@ -33,6 +32,9 @@ use Rattle.lw_mapped.proofs.GoodWords.{is_good, good-bytes, IsRight, right-good,
 use Rattle.lw_mapped.proofs.Items.{inputs_item, outputs_item, arrival_item, latch_item, gate_item, wire_item, label_item, net_item}
 use Rattle.lw_mapped.proofs.Printing.{own, digits-good, printed-read, printed-good, printed-length}
 use Rattle.lw_mapped.proofs.WrittenLines.{IsWordOf, EndsWell, LastEndsWell, IsWritten, each-append, each-weaker}
+use Rattle.lw_words.specs.Words.{IsSignalName}
+use Rattle.lw_laws.specs.Graphs.{most_classes}
+use Rattle.lw_frame.specs.Latches.{IsReadableLatch}
 
 -- What is to be shown of a line and, behind a wire, of its row.
 pub record IsSpoken (cells : List CellParts) (item : Item) : Type 0 where

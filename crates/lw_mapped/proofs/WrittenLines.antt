@@ -8,8 +8,9 @@ use Rattle.std.proofs.lemmas.List.Splits.{slice_split_at, slice_split_none}
 use Rattle.lw_words.specs.Gathering.{IsInk, IsNoHash}
 use Rattle.lw_words.specs.Lines.{LogicalLine, Text, is_blank, is_line_feed, has_some, lines_among, physical_lines, before_hash, is_cut, has_mark, uncommented, trimmed, is_continued, with_blank, continued_by, text_before, text_of, texts_from, is_long, words_of, line_of, has_words, lines_of, logical_lines}
 use Rattle.lw_words.proofs.Trimming.{trimmed-ink, is_continued-last}
-use Rattle.lw_mapped.specs.Texts.{spaced, line}
+use Rattle.lw_mapped.specs.Texts.{spaced}
 use Rattle.lw_mapped.proofs.TextParts.{ended_is}
+use Rattle.lw_words.specs.Texts.{line}
 
 -- What holds of each element, in two forms.
 

@@ -7,11 +7,7 @@ use Rattle.lw_genlib.specs.Cells.{CellParts}
 use Rattle.lw_netlist.specs.declared.draft.DraftGate.{DraftGate}
 use Rattle.lw_mapped.specs.declared.fault.MappedKind.{MappedKind}
 use Rattle.lw_mapped.specs.declared.fault.MappedKind.TheVariants as kind
-use Rattle.lw_mapped.specs.Commands.{is_among}
-
--- at most 2,000 bytes, the last of which is no `\`
-abbrev pub is_name : List ℕ → Bool
-is_name word = nat_le (length word) 2000 && not (ends_with nat_eq word (92 ∷ []))
+use Rattle.lw_words.specs.Words.{is_among, is_name}
 
 -- Words `FORMAL=ACTUAL`.
 

@@ -15,7 +15,7 @@ use Rattle.lw_mapped.specs.declared.contents.Contents.{Contents}
 use Rattle.lw_mapped.specs.declared.saying.Saying.{Saying}
 use Rattle.lw_mapped.specs.Said.{models_in, inputs_in, outputs_in, gates_in, wires_in, latches_in, arrivals_in, labels_in, nets_in, label_among, class_among}
 use Rattle.lw_mapped.specs.Parsed.{IsLabel}
-use Rattle.lw_mapped.specs.Sayings.{most_classes}
+use Rattle.lw_laws.specs.Graphs.{most_classes}
 
 -- a label is below its limit
 abbrev pub AreLow : List (Option Micro) → Type 0

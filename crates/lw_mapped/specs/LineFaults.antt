@@ -11,8 +11,9 @@ use Rattle.lw_mapped.specs.declared.fault.MappedKind.TheVariants as kind
 use Rattle.lw_mapped.specs.declared.saying.Saying.{Saying}
 use Rattle.lw_mapped.specs.declared.saying.Saying.TheVariants as saying
 use Rattle.lw_mapped.specs.Commands.{command_of}
-use Rattle.lw_mapped.specs.Sayings.{first_word, words_say}
+use Rattle.lw_mapped.specs.Sayings.{words_say}
 use Rattle.lw_mapped.specs.Said.{label_among, class_among, labels_in, nets_in}
+use Rattle.lw_words.specs.Words.{first_word, front}
 
 abbrev pub command : LogicalLine → Command
 command line = command_of (first_word line.words)
@@ -24,11 +25,6 @@ abbrev pub ends : Bool → Command → Bool
 ends first End = true
 ends first Model = not first
 ends first other = false
-
--- what stands before the first element that fails
-abbrev pub front : {A : Type 0} → (A → Bool) → List A → List A
-front p [] = []
-front p (x ∷ xs) = if p x then x ∷ front p xs else []
 
 abbrev pub goes_on : LogicalLine → Bool
 goes_on line = not (ends false (command line))

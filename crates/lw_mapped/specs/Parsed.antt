@@ -7,7 +7,7 @@ use Rattle.lw_mapped.specs.declared.fault.Refusal.{Refusal}
 use Rattle.lw_mapped.specs.declared.fault.Refusal.TheVariants as refusal
 use Rattle.lw_mapped.specs.declared.saying.Saying.{Saying}
 use Rattle.lw_mapped.specs.declared.saying.Saying.TheVariants as saying
-use Rattle.lw_mapped.specs.Sayings.{most_classes}
+use Rattle.lw_laws.specs.Graphs.{most_classes}
 
 -- What the line says is told, or the rule that it breaks. Want of memory is free.
 abbrev pub Says : Result Saying Refusal → Result Saying MappedKind → Type 0

@@ -13,26 +13,14 @@ use Rattle.lw_frame.specs.Starts.{StartsFit}
 use Rattle.lw_genlib.specs.Cells.{CellParts, IsLibrary}
 use Rattle.lw_netlist.specs.declared.gate.Port.{Port}
 use Rattle.lw_netlist.specs.Netlists.{NetlistParts, IsNetlist}
-use Rattle.lw_netlist.specs.Plain.{IsOver, plain}
+use Rattle.lw_netlist.specs.Plain.{IsOver, plain, plain_port}
 use Rattle.lw_mapped.specs.declared.certificate.Certificate.{Certificate}
 use Rattle.lw_mapped.specs.declared.closing.Mapped.{Mapped}
-use Rattle.lw_mapped.specs.GateLines.{is_name}
 use Rattle.lw_mapped.specs.Parsed.{IsLabel}
-use Rattle.lw_mapped.specs.Sayings.{most_classes}
 use Rattle.lw_mapped.specs.Texts.{names_of_inputs, names_of_outputs}
-
--- a name of the format: a word without `#`, of at most 2,000 bytes, that does not end in `\`
-pub record IsSignalName (name : List ℕ) : Type 0 where
-  pub word : IsWord name
-  pub no_hash : All IsNoHash name
-  pub ends : is_name name ≡ true
-
--- two names, and up to three further ones
-pub record IsReadableLatch (latch : Latch) : Type 0 where
-  pub input : IsSignalName latch.input
-  pub output : IsSignalName latch.output
-  pub rest : All IsSignalName latch.rest
-  pub few : length latch.rest ≤ 3
+use Rattle.lw_words.specs.Words.{is_name, IsSignalName}
+use Rattle.lw_laws.specs.Graphs.{most_classes}
+use Rattle.lw_frame.specs.Latches.{IsReadableLatch}
 
 -- labels below their limit, at class numbers, and for each gate a class number or none
 pub record IsReadableCertificate (gates : ℕ) (certificate : Certificate) : Type 0 where
@@ -43,10 +31,6 @@ pub record IsReadableCertificate (gates : ℕ) (certificate : Certificate) : Typ
 abbrev pub HasReadableCertificate : ℕ → Option Certificate → Type 0
 HasReadableCertificate gates None = ⊤
 HasReadableCertificate gates (Some certificate) = IsReadableCertificate gates certificate
-
--- the netlist's inputs and outputs by name
-abbrev pub plain_port : Port → PlainPort
-plain_port port = record { name = port.name; net = port.net.0 }
 
 abbrev pub ports_of : NetlistParts → Ports
 ports_of n = record { inputs = names_of_inputs n; outputs = map plain_port n.outputs }

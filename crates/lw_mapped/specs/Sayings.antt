@@ -16,11 +16,9 @@ use Rattle.lw_mapped.specs.declared.fault.MappedKind.TheVariants as kind
 use Rattle.lw_mapped.specs.declared.saying.Saying.{Saying}
 use Rattle.lw_mapped.specs.declared.saying.Saying.TheVariants as saying
 use Rattle.lw_mapped.specs.Commands.{command_of}
-use Rattle.lw_mapped.specs.GateLines.{is_name, ties_fault, gate_of}
-
-abbrev pub first_word : List (List ℕ) → List ℕ
-first_word [] = []
-first_word (word ∷ words) = word
+use Rattle.lw_mapped.specs.GateLines.{ties_fault, gate_of}
+use Rattle.lw_words.specs.Words.{first_word, is_name}
+use Rattle.lw_laws.specs.Graphs.{most_classes}
 
 abbrev pub second_word : List (List ℕ) → List ℕ
 second_word words = first_word (drop 1 words)
@@ -93,10 +91,6 @@ default_says (rise ∷ fall ∷ words) = default_arrival (start_said rise fall)
 default_says words = Err kind.Shape
 
 -- Certificates.
-
--- how many class numbers there are
-abbrev pub most_classes : ℕ
-most_classes = 4194304
 
 -- the class of which the word is the decimal
 unfoldable pub class_said : List ℕ → Option ℕ

@@ -14,7 +14,7 @@ use Rattle.lw_mapped.specs.declared.reader.Stop.TheVariants as stop
 use Rattle.lw_mapped.specs.Keeping.{Keeps}
 use Rattle.lw_mapped.specs.LineFaults.{FaultAt, first_fault, lines_read, lines_say, has_ended, is_first, wire_without_row}
 use Rattle.lw_mapped.specs.Parsed.{IsLabel}
-use Rattle.lw_mapped.specs.Sayings.{most_classes}
+use Rattle.lw_laws.specs.Graphs.{most_classes}
 
 -- What a reader answers.
 

@@ -14,19 +14,13 @@ use Rattle.lw_netlist.specs.declared.gate.Gate.{Gate}
 use Rattle.lw_netlist.specs.declared.gate.Port.{Port}
 use Rattle.lw_netlist.specs.Netlists.{NetlistParts}
 use Rattle.lw_mapped.specs.declared.certificate.Certificate.{Certificate}
+use Rattle.lw_words.specs.Texts.{line}
+use Rattle.lw_netlist.specs.Plain.{port_name}
+use Rattle.lw_frame.specs.Latches.{latch_line}
 
 -- a space before each word
 abbrev pub spaced : List (List ℕ) → List ℕ
 spaced words = flat_map (λ word. 32 ∷ word) words
-
--- a space before each word, and a line end
-abbrev pub ended : List (List ℕ) → List ℕ
-ended [] = 10 ∷ []
-ended (word ∷ words) = 32 ∷ word ++ ended words
-
--- words with one space between, and a line end
-abbrev pub line : List ℕ → List (List ℕ) → List ℕ
-line first others = first ++ ended others
 
 abbrev pub net_name : List (List ℕ) → NetId → List ℕ
 net_name names net = slice_index_or names net.0 []
@@ -60,9 +54,6 @@ wire net output = codes ".names" ++ 32 ∷ net ++ 32 ∷ output ++ codes "\n1 1\
 abbrev pub wire_text : List (List ℕ) → Port → List ℕ
 wire_text names port = if bytes_eq (net_name names port.net) port.name then [] else wire (net_name names port.net) port.name
 
-abbrev pub port_name : Port → List ℕ
-port_name port = port.name
-
 -- The frame.
 
 -- when an input arrives, at its rise and at its fall
@@ -78,10 +69,6 @@ abbrev pub arrival_lines : List (List ℕ) → List Micro → List ℕ
 arrival_lines (name ∷ names) (start ∷ starts) = optional_arrival name start ++ arrival_lines names starts
 arrival_lines [] starts = []
 arrival_lines (name ∷ names) [] = []
-
--- what a latch stores, what it gives, and its further words
-abbrev pub latch_line : Latch → List ℕ
-latch_line latch = line (codes ".latch") (latch.input ∷ latch.output ∷ latch.rest)
 
 -- The certificate.
 

@@ -20,8 +20,8 @@ use Rattle.lw_mapped.specs.declared.fault.MappedFault.TheVariants as fault
 use Rattle.lw_mapped.specs.declared.saying.Saying.{Saying}
 use Rattle.lw_mapped.specs.Said.{models_in, inputs_in, outputs_in, gates_in, wires_in, latches_in, arrivals_in, labels_in, nets_in, label_among, class_among}
 use Rattle.lw_mapped.specs.LineFaults.{FaultAt, text_fault, lines_read, lines_say}
-use Rattle.lw_mapped.specs.Sayings.{first_word}
 use Rattle.lw_mapped.specs.Texts.{net_name}
+use Rattle.lw_words.specs.Words.{first_word}
 
 -- the fault of a netlist as a whole, or want of memory
 abbrev pub whole_fault : NetlistFault → MappedFault

@@ -1,6 +1,7 @@
 // What the first word of a line asks for.
 ghost use Rattle.std.specs.Prelude.{◌≡◌};
-ghost use Rattle.lw_mapped.specs.Commands.{command_of, point_command, port_command, other_command, is_ignored_word};
+ghost use Rattle.lw_mapped.specs.Commands.{command_of, point_command, port_command, other_command};
+ghost use Rattle.lw_words.specs.Words.{is_ignored_word};
 
 /// What the first word of a line asks for.
 #[derive(Clone, Copy)]

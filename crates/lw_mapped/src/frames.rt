@@ -1,8 +1,9 @@
 // What stands around a netlist: the arrivals of its inputs, and latches.
 ghost use Rattle.std.specs.Prelude.{◌≡◌, ◌≤◌, length};
 ghost use Rattle.std.specs.List.{flat_map};
-ghost use Rattle.lw_mapped.specs.Texts.{arrival_line, optional_arrival, arrival_lines, latch_line};
+ghost use Rattle.lw_mapped.specs.Texts.{arrival_line, optional_arrival, arrival_lines};
 ghost use Rattle.lw_io.specs.Waitings.{Puts};
+ghost use Rattle.lw_frame.specs.Latches.{latch_line};
 
 use crate::lines::{put_word, put_words};
 use lw_fixed::{Micro, print};

@@ -13,10 +13,10 @@ ghost use Rattle.lw_mapped.specs.declared.fault.MappedFault.TheVariants.{Memory}
 ghost use Rattle.lw_mapped.specs.Alike.{AreSameMapped, AreSameOutcomes};
 ghost use Rattle.lw_mapped.specs.Fitting.{IsMapped};
 ghost use Rattle.lw_mapped.specs.Readable.{IsNamed, IsReadable, IsReadableCertificate, read_of};
-ghost use Rattle.lw_mapped.specs.Sayings.{most_classes};
 ghost use Rattle.lw_mapped.specs.Standing.{word_count};
 ghost use Rattle.lw_mapped.specs.Texts.{mapped_text};
 ghost use Rattle.lw_mapped.specs.Unmapped.{IsUnmapped};
+ghost use Rattle.lw_laws.specs.Graphs.{most_classes};
 
 /// Lines have one meaning: they come to one netlist with one frame, the same starts and one
 /// certificate, or to one fault. Want of memory aside, two outcomes of the same lines are one.

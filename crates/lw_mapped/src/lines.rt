@@ -1,7 +1,9 @@
 // Lines of words.
 ghost use Rattle.std.specs.Prelude.{◌≡◌, ◌<◌, ◌∷◌, length, map};
-ghost use Rattle.lw_mapped.specs.Texts.{spaced, line, tie, net_name, port_name};
+ghost use Rattle.lw_mapped.specs.Texts.{spaced, tie, net_name};
 ghost use Rattle.lw_io.specs.Waitings.{Puts};
+ghost use Rattle.lw_words.specs.Texts.{line};
+ghost use Rattle.lw_netlist.specs.Plain.{port_name};
 
 use lw_io::{Sink, Waiting, put};
 use lw_netlist::Port;

@@ -2,8 +2,8 @@
 ghost use Rattle.std.specs.Prelude.{◌≡◌, ◌<◌, [], All, ◌≤◌, ◌&&◌, nat_lt, None, length, drop, take, map, ◌++◌, IfOk, OnOk, IsTrue, slice_get, slice_index_or};
 ghost use Rattle.std.specs.List.{before_first, after_first, slice_range, position, position_or_len, list_all};
 ghost use Rattle.lw_genlib.specs.Cells.{CellParts};
-ghost use Rattle.lw_mapped.specs.Commands.{is_among};
 ghost use Rattle.lw_mapped.specs.GateLines.{is_equals, is_for, gives, is_formal, tie_fault, first_tie_fault, gives_all, ties_fault, net_for, gate_of};
+ghost use Rattle.lw_words.specs.Words.{is_among};
 
 use crate::MappedKind;
 use crate::naming::is_name;

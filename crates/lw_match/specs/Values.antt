@@ -5,6 +5,7 @@ use Rattle.lw_laws.specs.Marks.{Mark as PlainMark, Marks}
 use Rattle.lw_laws.specs.Extracts.{Match as PlainMatch}
 use Rattle.lw_match.specs.declared.mark.Mark.{Mark}
 use Rattle.lw_match.specs.declared.mark.Match.{Match}
+use Rattle.lw_pool.specs.Numbers.{numbers}
 
 abbrev pub plain_mark : Mark → PlainMark
 plain_mark k = record { cost = k.cost; height = k.height }
@@ -17,9 +18,6 @@ marks_in ks c = option_map plain_mark (slice_index_or ks c None)
 abbrev pub AreInRange : ℕ → List (Option Mark) → Type 0
 AreInRange cap ks =
     (c : ℕ) (k : PlainMark) → marks_in ks c ≡ Some k → (k.cost ≤ cap) × (k.height < 2 ^ 32 - 1)
-
-abbrev pub numbers : List ClassId → List ℕ
-numbers classes = map (λ (c : ClassId). c.0) classes
 
 abbrev pub plain_match : Match → PlainMatch
 plain_match m = record { pattern = m.pat.0; pins = numbers m.pins }

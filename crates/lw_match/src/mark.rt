@@ -1,6 +1,6 @@
 ghost use Rattle.std.specs.Prelude.{◌<◌, ◌≡◌, ℕ, length, IsTrue, IsFalse};
-ghost use Rattle.lw_match.specs.Values.{numbers};
 ghost use Rattle.lw_laws.specs.Extracts.{IsListAtMost};
+ghost use Rattle.lw_pool.specs.Numbers.{numbers};
 
 use crate::Pins;
 use lw_pool::{ClassId, PatId};

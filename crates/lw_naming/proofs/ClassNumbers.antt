@@ -2,7 +2,7 @@
 use Rattle.std.proofs.Common.{ℕ, ◌<◌, ◌≡◌, List, All, subst, sym, arith}
 use Rattle.std.proofs.lemmas.List.{get_or-map, length-map}
 use Rattle.lw_pool.specs.declared.id.ClassId.{ClassId}
-use Rattle.lw_naming.specs.Naming.{numbers}
+use Rattle.lw_pool.specs.Numbers.{numbers}
 
 -- Classes are below a number where their numbers are.
 pub classes_below : (n : ℕ) (classes : List ClassId) (cs : List ℕ) → numbers classes ≡ cs → All (λ c. c < n) cs → All (λ (class : ClassId). class.0 < n) classes

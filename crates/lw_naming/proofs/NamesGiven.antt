@@ -5,7 +5,8 @@ use Rattle.std.specs.List.{position_from}
 use Rattle.lw_pool.specs.declared.id.ClassId.{ClassId}
 use Rattle.lw_laws.specs.Names.{output_name, gate_names}
 use Rattle.lw_naming.specs.declared.free_names.FreeNames.{FreeNames}
-use Rattle.lw_naming.specs.Naming.{numbers, still_free, AreFirstPlaces, IsGivenOrFree}
+use Rattle.lw_naming.specs.Naming.{still_free, AreFirstPlaces, IsGivenOrFree}
+use Rattle.lw_pool.specs.Numbers.{numbers}
 
 abbrev Name : Type 0
 Name = List ℕ

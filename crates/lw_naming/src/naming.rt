@@ -1,6 +1,7 @@
 ghost use Rattle.std.specs.Prelude.{◌≡◌, ◌+◌, ◌<◌, ◌≤◌, ◌^◌, ◌++◌, ℕ, All, IfOk, OnOk, length};
 ghost use Rattle.lw_laws.specs.Names.{free_names, gate_names, net_names, output_name};
-ghost use Rattle.lw_naming.specs.Naming.{numbers, still_free, HasFree, IsGivenOrFree};
+ghost use Rattle.lw_naming.specs.Naming.{still_free, HasFree, IsGivenOrFree};
+ghost use Rattle.lw_pool.specs.Numbers.{numbers};
 
 use crate::free_names::FreeNames;
 use crate::owners::Owners;

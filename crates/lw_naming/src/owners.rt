@@ -1,7 +1,8 @@
 // The first output of each class.
 ghost use Rattle.std.specs.Prelude.{◌≡◌, ◌<◌, ◌^◌, All, IfOk, MatchOption, Some, None, length};
 ghost use Rattle.lw_laws.specs.Names.{output_name};
-ghost use Rattle.lw_naming.specs.Naming.{numbers, AreFirstPlaces};
+ghost use Rattle.lw_naming.specs.Naming.{AreFirstPlaces};
+ghost use Rattle.lw_pool.specs.Numbers.{numbers};
 
 use lw_pool::{ClassId, Name, Names};
 use std::alloc::{AllocError, Global};

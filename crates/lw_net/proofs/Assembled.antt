@@ -14,7 +14,7 @@ use Rattle.lw_net.specs.declared.draft.DraftNode.{DraftNode}
 use Rattle.lw_net.specs.declared.node.Node.{Node}
 use Rattle.lw_net.specs.Closing.{IsDraft, signals_of, out_of, fanins_of, number_in, net_in, undefined_in, closed_node, network_in, greatest}
 use Rattle.lw_net.specs.Networks.{NetworkParts, IsNetwork, IsNodeAt, most_nets}
-use Rattle.lw_net.specs.Plain.{plain_node, net_number, HasRisingDepths}
+use Rattle.lw_net.specs.Plain.{plain_node, HasRisingDepths}
 use Rattle.lw_laws.specs.Networks as laws
 use Rattle.lw_laws.specs.Networks.{greatest_depth}
 use Rattle.lw_net.specs.Ordering.{AreRight, TellDepths}
@@ -23,6 +23,7 @@ use Rattle.lw_dag.proofs.Sorting.{greatest-above}
 use Rattle.lw_dag.proofs.Numbering.{number_at, number_of, number_below, name_again, none_unknown, none_split, distinct_moved}
 use Rattle.lw_dag.proofs.Named.{fanins_known}
 use Rattle.lw_net.proofs.Paths.{bare}
+use Rattle.lw_pool.specs.Numbers.{net_number}
 
 -- each fan-in of each node is a signal
 abbrev HasSignals : List (List ℕ) → DraftNode → Type 0

@@ -9,8 +9,9 @@ use Rattle.lw_laws.specs.Networks.{row_value, node_value, agrees, AreValues, giv
 use Rattle.lw_pool.specs.declared.id.NetId.{NetId}
 use Rattle.lw_net.specs.declared.node.Node.{Node}
 use Rattle.lw_net.specs.Networks.{IsNodeAt, NetworkParts}
-use Rattle.lw_net.specs.Plain.{plain, plain_node, net_number, values_at}
+use Rattle.lw_net.specs.Plain.{plain, plain_node}
 use Rattle.lw_net.specs.Signs.{asked, met_by}
+use Rattle.lw_pool.specs.Numbers.{net_number, values_at}
 
 -- one column of a row, by the tests of its sign
 column_at : (one off : Bool) (v : Bool) (vs : List Bool) (row : List (Option Bool)) → row_value (v ∷ vs) (cond one (Some true) (cond off (Some false) None) ∷ row) ≡ (cond one v (cond off (not v) true) && row_value vs row)

@@ -4,8 +4,9 @@ use Rattle.std.proofs.lemmas.List.Elements.{All-map, All-contains}
 use Rattle.lw_laws.specs.Networks as laws
 use Rattle.lw_laws.specs.Networks.{IsInOrder, greatest_depth}
 use Rattle.lw_net.specs.Networks.{NetworkParts, IsNetwork}
-use Rattle.lw_net.specs.Plain.{plain, plain_node, net_number}
+use Rattle.lw_net.specs.Plain.{plain, plain_node}
 use Rattle.lw_net.proofs.Filling.{IsImage, image_at}
+use Rattle.lw_pool.specs.Numbers.{net_number}
 
 pub in_order : (net : NetworkParts) → IsNetwork net → IsInOrder (plain net)
 in_order net kept = record { before = λ j s node at among. at_image j s node (image_at plain_node net.nodes j node at) among }

@@ -4,5 +4,6 @@ pub mod Numbered
 pub mod Numbers
 pub mod Ordering
 pub mod Plain
+pub mod Ports
 pub mod Signs
 pub mod Written

@@ -7,9 +7,7 @@ use Rattle.lw_laws.specs.Networks.{AreDepths}
 use Rattle.lw_net.specs.declared.node.Node.{Node}
 use Rattle.lw_net.specs.Networks.{NetworkParts}
 use Rattle.lw_net.specs.Signs.{asked}
-
-abbrev pub net_number : NetId → ℕ
-net_number net = net.0
+use Rattle.lw_pool.specs.Numbers.{net_number}
 
 abbrev pub plain_node : Node → laws.Node
 plain_node node = record { fanins = map net_number node.fanins; rows = map (map asked) node.rows; on = node.on }
@@ -17,10 +15,6 @@ plain_node node = record { fanins = map net_number node.fanins; rows = map (map 
 -- the network without names
 abbrev pub plain : NetworkParts → laws.Network
 plain net = record { inputs = net.inputs; nodes = map plain_node net.nodes }
-
--- the values of some nets, at these values of all nets
-abbrev pub values_at : List Bool → List NetId → List Bool
-values_at values nets = map (λ net. slice_index_or values net false) (map net_number nets)
 
 -- the depths of the nets don't fall
 pub record HasRisingDepths (net : NetworkParts) : Type 0 where

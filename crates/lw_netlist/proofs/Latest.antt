@@ -14,8 +14,9 @@ use Rattle.lw_netlist.proofs.Filling.{IsLocal, image_at}
 use Rattle.lw_pool.specs.declared.id.NetId.{NetId}
 use Rattle.lw_fixed.specs.declared.micro.Micro.{Micro}
 use Rattle.lw_genlib.specs.Tables.{millionths, delays_of_cells, cell_delays, timing_of}
-use Rattle.lw_netlist.specs.Plain.{net_number, plain, plain_gate}
+use Rattle.lw_netlist.specs.Plain.{plain, plain_gate}
 use Rattle.lw_netlist.specs.Filling.{arrivals_at, arrival_at, gate_arrival, one_step}
+use Rattle.lw_pool.specs.Numbers.{net_number}
 
 -- one more pin
 pub latest_suc : (k : ℕ) (ds ts : List ℕ) → k < length ds → k < length ts → latest (take (suc k) ds) ts ≡ max (latest (take k ds) ts) (get_or ts k 0 + get_or ds k 0)

@@ -12,8 +12,9 @@ use Rattle.lw_netlist.specs.declared.gate.Gate.{Gate}
 use Rattle.lw_netlist.specs.Netlists.{NetlistParts}
 use Rattle.lw_genlib.specs.Tables.{truth_of_cells}
 use Rattle.lw_netlist.specs.Plain.{plain, plain_gate}
-use Rattle.lw_netlist.specs.Filling.{values_at, gate_value}
+use Rattle.lw_netlist.specs.Filling.{gate_value}
 use Rattle.lw_netlist.proofs.Filling.{IsLocal, image_at}
+use Rattle.lw_pool.specs.Numbers.{values_at}
 
 -- values of nets before a place don't see a write there
 pub values_at-set : (values : List Bool) (at : ℕ) (v : Bool) (nets : List NetId) → All (λ (net : NetId). net.0 < at) nets → values_at (set values at v) nets ≡ values_at values nets

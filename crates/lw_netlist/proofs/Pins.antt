@@ -2,8 +2,7 @@
 use Rattle.std.proofs.Common.{◌≡◌, ℕ, ◌+◌, ◌<◌, Bool, false, List, [], ◌∷◌, ◌++◌, length, map, take, get_or, set, sym, ap, ap₂, ◌∙◌, arith}
 use Rattle.std.proofs.lemmas.List.{get_or-map, length-map, take_more, take_more_set}
 use Rattle.lw_pool.specs.declared.id.NetId.{NetId}
-use Rattle.lw_netlist.specs.Plain.{net_number}
-use Rattle.lw_netlist.specs.Filling.{values_at}
+use Rattle.lw_pool.specs.Numbers.{net_number, values_at}
 
 -- one more value at the front
 pub values_more : (nets : List Bool) (pins : List NetId) (values : List Bool) (k : ℕ) (v : Bool) → k < length pins → k < length values → v ≡ get_or nets (get_or pins k (record { 0 = 0 })).0 false → take k values ≡ take k (values_at nets pins) → take (k + 1) (set values k v) ≡ take (k + 1) (values_at nets pins)

@@ -6,11 +6,7 @@ use Rattle.lw_laws.specs.Covers.{latest, delays_of}
 use Rattle.lw_genlib.specs.Cells.{CellParts}
 use Rattle.lw_netlist.specs.declared.gate.Gate.{Gate}
 use Rattle.lw_genlib.specs.Tables.{millionths, delays_of_cells, truth_of_cells}
-use Rattle.lw_netlist.specs.Plain.{net_number}
-
--- the values of some nets
-abbrev pub values_at : List Bool → List NetId → List Bool
-values_at values nets = map (λ net. slice_index_or values net false) (map net_number nets)
+use Rattle.lw_pool.specs.Numbers.{net_number, values_at}
 
 -- the value of a gate's net
 abbrev pub gate_value : List CellParts → List Bool → Gate → Bool

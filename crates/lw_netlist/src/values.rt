@@ -3,7 +3,8 @@ ghost use Rattle.std.specs.Prelude.{◌≡◌, ◌+◌, ◌<◌, ◌≤◌, ℕ,
 ghost use Rattle.lw_genlib.specs.Cells.{cell_value, IsListed};
 ghost use Rattle.lw_netlist.specs.Netlists.{IsGateAt};
 ghost use Rattle.lw_netlist.specs.Plain.{HasCell};
-ghost use Rattle.lw_netlist.specs.Filling.{values_at, gate_value};
+ghost use Rattle.lw_netlist.specs.Filling.{gate_value};
+ghost use Rattle.lw_pool.specs.Numbers.{values_at};
 
 use crate::Gate;
 use lw_genlib::{Cell, Library};

@@ -11,7 +11,7 @@ use Rattle.lw_laws.specs.Drafts.{IsReduced}
 use Rattle.lw_laws.proofs.Lists.{in_map}
 use Rattle.lw_laws.specs.Graphs.{Graph as PlainGraph, Pair as PlainPair, AreRising, class_of, pair_count}
 use Rattle.lw_graph.specs.declared.pair.Pair.{Pair}
-use Rattle.lw_graph.specs.Graphs.{IsBelow, IsGraph, numbers, plain_graph, plain_pair, plain_row}
+use Rattle.lw_graph.specs.Graphs.{IsBelow, IsGraph, plain_graph, plain_pair, plain_row}
 use Rattle.lw_reduce.specs.declared.facts.Fact.{Fact}
 use Rattle.lw_reduce.specs.declared.facts.Link.{Link}
 use Rattle.lw_reduce.specs.ClassNumbers.{AreClasses, as_class}
@@ -22,6 +22,7 @@ use Rattle.lw_reduce.specs.Buckets.{of_class, pair_of}
 use Rattle.lw_reduce.proofs.ClassNumbers.{rep_of-double}
 use Rattle.lw_reduce.proofs.Members.{filter_back, map_back}
 use Rattle.lw_reduce.proofs.Reduced.{entry_form, entry_ordered, pairs_of, pairs_once, reduced, rows_below}
+use Rattle.lw_pool.specs.Numbers.{numbers}
 
 numbers_as_classes : (xs : List ℕ) → numbers (map as_class xs) ≡ xs
 numbers_as_classes [] = refl

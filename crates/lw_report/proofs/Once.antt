@@ -20,7 +20,7 @@ use Rattle.lw_netlist.specs.declared.gate.Gate.{Gate}
 use Rattle.lw_netlist.specs.declared.gate.Port.{Port}
 use Rattle.lw_netlist.specs.Closing.{greatest}
 use Rattle.lw_netlist.specs.Netlists.{NetlistParts, IsNetlist}
-use Rattle.lw_netlist.specs.Plain.{plain, plain_gate, net_number}
+use Rattle.lw_netlist.specs.Plain.{plain, plain_gate}
 use Rattle.lw_netlist.proofs.Filling.{IsImage, image_at}
 use Rattle.lw_report.specs.declared.step.Step.{Step}
 use Rattle.lw_report.specs.Simulated.{port_net, value_line, IsNetworkLine, IsNetlistLine, AreLines, IsNetworkSimulation, IsNetlistSimulation}
@@ -28,6 +28,7 @@ use Rattle.lw_report.specs.Simulated.AreLines.{no_lines, next_line}
 use Rattle.lw_report.specs.Timings.{arrival_at, output_arrivals, arrival_by, pin_arrivals, gate_delays, IsCriticalPin, IsPathTo, IsFirstAt, IsCriticalPath, TimingParts, IsTimingOf, timing_text, IsTimingText}
 use Rattle.lw_report.specs.Timings.IsPathTo.{to_input, to_constant, by_pin}
 use Rattle.lw_report.specs.Timings.IsCriticalPath.{without_outputs, to_output}
+use Rattle.lw_pool.specs.Numbers.{net_number}
 
 -- a netlist's pins are nets before their gate's own
 pub ordered : (n : NetlistParts) → IsNetlist n → AreOrdered (plain n)

@@ -12,7 +12,7 @@ use Rattle.lw_netlist.specs.declared.gate.Gate.{Gate}
 use Rattle.lw_netlist.specs.declared.gate.Port.{Port}
 use Rattle.lw_netlist.specs.Closing.{greatest}
 use Rattle.lw_netlist.specs.Netlists.{NetlistParts}
-use Rattle.lw_netlist.specs.Plain.{plain_gate, net_number}
+use Rattle.lw_netlist.specs.Plain.{plain_gate}
 use Rattle.lw_netlist.proofs.Latest.{arrivals_read, delays_at}
 use Rattle.lw_report.specs.declared.step.Step.{Step}
 use Rattle.lw_report.specs.Made.{AreArrivalsFor, IsStepIn}
@@ -20,6 +20,7 @@ use Rattle.lw_report.specs.Pathways.{LeadsTo}
 use Rattle.lw_report.specs.Timings.{arrival_at, port_arrival, arrival_by, pin_arrivals, gate_delays, IsCriticalPin, IsPathTo, IsCriticalPath, step_line, gate_step_line, cell_step_line}
 use Rattle.lw_report.specs.Timings.IsPathTo.{to_input, to_constant, by_pin}
 use Rattle.lw_report.specs.Timings.IsCriticalPath.{without_outputs, to_output}
+use Rattle.lw_pool.specs.Numbers.{net_number}
 
 -- Pins.
 

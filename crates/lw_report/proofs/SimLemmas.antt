@@ -15,7 +15,6 @@ use Rattle.lw_laws.specs.Networks.{row_value, node_value, given}
 use Rattle.lw_laws.specs.Expressions.{Expr, expr_value}
 use Rattle.lw_net.specs.declared.node.Node.{Node}
 use Rattle.lw_net.specs.Networks.{NetworkParts}
-use Rattle.lw_net.specs.Plain.{net_number}
 use Rattle.lw_net.specs.Plain as network
 use Rattle.lw_net.specs.Signs.{asked, met_by}
 use Rattle.lw_net.proofs.Filling.{row_step, filled_values as network_values}
@@ -35,21 +34,23 @@ use Rattle.lw_report.specs.Simulated.{AreLines, IsNetworkLine, IsNetlistLine, va
 use Rattle.lw_report.specs.Simulated.AreLines.{no_lines, next_line}
 use Rattle.lw_report.proofs.Bits.{bit_and_is, bit_or_is, bit_zero}
 use Rattle.lw_report.proofs.BlockLemmas.{bits_read}
+use Rattle.lw_pool.specs.Numbers.{net_number}
+use Rattle.lw_pool.specs.Numbers.{values_at}
 
 -- Rows.
 
 -- one column more
-pub row_more : (k : ℕ) (nets : List ℕ) (fanins : List NetId) (row : List ℕ) (i all met : ℕ) (whole : Bool) → length row ≡ length fanins → i < length row → (get_or fanins i (record { 0 = 0 })).0 < length nets → bit k met ≡ met_by (get_or row i 0) (bit k (get_or nets (get_or fanins i (record { 0 = 0 })).0 0)) → (bit k all && row_value (drop i (network.values_at (bits_at k nets) fanins)) (drop i (map asked row))) ≡ whole → (bit k (bit_and all met) && row_value (drop (i + 1) (network.values_at (bits_at k nets) fanins)) (drop (i + 1) (map asked row))) ≡ whole
+pub row_more : (k : ℕ) (nets : List ℕ) (fanins : List NetId) (row : List ℕ) (i all met : ℕ) (whole : Bool) → length row ≡ length fanins → i < length row → (get_or fanins i (record { 0 = 0 })).0 < length nets → bit k met ≡ met_by (get_or row i 0) (bit k (get_or nets (get_or fanins i (record { 0 = 0 })).0 0)) → (bit k all && row_value (drop i (values_at (bits_at k nets) fanins)) (drop i (map asked row))) ≡ whole → (bit k (bit_and all met) && row_value (drop (i + 1) (values_at (bits_at k nets) fanins)) (drop (i + 1) (map asked row))) ≡ whole
 row_more k nets fanins row i all met whole same below inside is before =
-    let rest = row_value (drop (i + 1) (network.values_at (bits_at k nets) fanins)) (drop (i + 1) (map asked row)) in
+    let rest = row_value (drop (i + 1) (values_at (bits_at k nets) fanins)) (drop (i + 1) (map asked row)) in
     let read = sym (bits_read k nets (get_or fanins i (record { 0 = 0 })).0 inside) in
     let step = row_step (bits_at k nets) fanins row i (bit k met) same below (is ∙ ap (met_by (get_or row i 0)) read) in
     ap (λ b. b && rest) (bit_and_is k all met) ∙ (and_assoc (bit k all) (bit k met) rest ∙ (ap (λ b. bit k all && b) (sym step) ∙ before))
 
 -- no column is left
-pub row_done : (k : ℕ) (nets : List ℕ) (fanins : List NetId) (row : List ℕ) (i all : ℕ) (whole : Bool) → length row ≡ length fanins → length row ≤ i → (bit k all && row_value (drop i (network.values_at (bits_at k nets) fanins)) (drop i (map asked row))) ≡ whole → bit k all ≡ whole
+pub row_done : (k : ℕ) (nets : List ℕ) (fanins : List NetId) (row : List ℕ) (i all : ℕ) (whole : Bool) → length row ≡ length fanins → length row ≤ i → (bit k all && row_value (drop i (values_at (bits_at k nets) fanins)) (drop i (map asked row))) ≡ whole → bit k all ≡ whole
 row_done k nets fanins row i all whole same past before =
-    let values = network.values_at (bits_at k nets) fanins in
+    let values = values_at (bits_at k nets) fanins in
     let one : length values ≡ length fanins = length-map (map net_number fanins) (λ net. get_or (bits_at k nets) net false) ∙ length-map fanins net_number in
     let two : length (map asked row) ≡ length row = length-map row asked in
     let left = drop_all i values (omega arith) in
@@ -77,12 +78,12 @@ rows_done k some test rows i whole past before =
 pub bits_anywhere : (k : ℕ) (words : List ℕ) (i : ℕ) → get_or (bits_at k words) i false ≡ bit k (get_or words i 0)
 bits_anywhere k words i = subst (λ d. get_or (bits_at k words) i d ≡ bit k (get_or words i 0)) (bit_zero k) (anywhere.get_or-map (bit k) words i 0)
 
-pub values_of_words : (k : ℕ) (nets : List ℕ) (pins : List NetId) → netlist.values_at (bits_at k nets) pins ≡ bits_at k (words_of nets pins)
+pub values_of_words : (k : ℕ) (nets : List ℕ) (pins : List NetId) → values_at (bits_at k nets) pins ≡ bits_at k (words_of nets pins)
 values_of_words k nets [] = refl
 values_of_words k nets (pin ∷ pins) = ap₂ (λ (b : Bool) (bs : List Bool). b ∷ bs) (bits_anywhere k nets pin.0) (values_of_words k nets pins)
 
 -- an expression has at bit k the value that it has in vector k
-pub expr_of_words : (k : ℕ) (nets : List ℕ) (pins : List NetId) (e : Expr) → expr_value (pins_at k (words_of nets pins)) e ≡ expr_value (given (netlist.values_at (bits_at k nets) pins)) e
+pub expr_of_words : (k : ℕ) (nets : List ℕ) (pins : List NetId) (e : Expr) → expr_value (pins_at k (words_of nets pins)) e ≡ expr_value (given (values_at (bits_at k nets) pins)) e
 expr_of_words k nets pins e = ap (λ y. expr_value y e) (fun_ext (λ pin. sym (ap (λ (vs : List Bool). get_or vs pin false) (values_of_words k nets pins) ∙ bits_anywhere k (words_of nets pins) pin)))
 
 -- the words of pins

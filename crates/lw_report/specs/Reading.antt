@@ -1,7 +1,7 @@
 -- The words of nets.
 use Rattle.std.specs.Prelude.{ℕ, List, map, slice_index}
 use Rattle.lw_pool.specs.declared.id.NetId.{NetId}
-use Rattle.lw_netlist.specs.Plain.{net_number}
+use Rattle.lw_pool.specs.Numbers.{net_number}
 
 -- the words of some nets
 abbrev pub words_of : List ℕ → List NetId → List ℕ

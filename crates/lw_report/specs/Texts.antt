@@ -5,15 +5,6 @@ use Rattle.std.specs.Io.KnownBytes.{Appends}
 use Rattle.lw_io.specs.declared.failed.Failed.{Failed}
 use Rattle.lw_io.specs.Moves.{AppendsPrefix}
 
--- a space before each word, and a line end
-abbrev pub ended : List (List ℕ) → List ℕ
-ended [] = 10 ∷ []
-ended (word ∷ words) = 32 ∷ word ++ ended words
-
--- words with one space between, and a line end
-abbrev pub line : List ℕ → List (List ℕ) → List ℕ
-line first others = first ++ ended others
-
 -- The sink takes such a text, or a part of it where it fails.
 pub record Writes (IsText : List ℕ → Type 0) (old new : Option (List ℕ)) (result : Result (Unit {0}) Failed) : Type 0 where
   pub text : List ℕ

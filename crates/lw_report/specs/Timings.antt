@@ -12,9 +12,10 @@ use Rattle.lw_netlist.specs.declared.gate.Gate.{Gate}
 use Rattle.lw_netlist.specs.declared.gate.Port.{Port}
 use Rattle.lw_netlist.specs.Closing.{greatest}
 use Rattle.lw_netlist.specs.Netlists.{NetlistParts}
-use Rattle.lw_netlist.specs.Plain.{plain, net_number}
+use Rattle.lw_netlist.specs.Plain.{plain}
 use Rattle.lw_report.specs.declared.step.Step.{Step}
-use Rattle.lw_report.specs.Texts.{line}
+use Rattle.lw_words.specs.Texts.{line}
+use Rattle.lw_pool.specs.Numbers.{net_number}
 
 -- Arrivals and area.
 

@@ -2,11 +2,12 @@
 ghost use Rattle.std.specs.Prelude.{◌≡◌, ◌+◌, ◌<◌, ◌≤◌, ℕ, false, Some, length, take, slice_get, slice_index, slice_index_or, All};
 ghost use Rattle.lw_genlib.specs.Cells.{cell_value};
 ghost use Rattle.lw_genlib.specs.Words.{bit};
-ghost use Rattle.lw_netlist.specs.Filling.{values_at, gate_value};
+ghost use Rattle.lw_netlist.specs.Filling.{gate_value};
 ghost use Rattle.lw_netlist.specs.Netlists.{IsGateAt};
 ghost use Rattle.lw_netlist.specs.Plain.{HasCell};
 ghost use Rattle.lw_report.specs.Blocks.{bits_at};
 ghost use Rattle.lw_report.specs.Reading.{words_of};
+ghost use Rattle.lw_pool.specs.Numbers.{values_at};
 
 use crate::totals::cell_of;
 use lw_genlib::{Cell, Library};

@@ -3,10 +3,11 @@ ghost use Rattle.std.specs.Prelude.{◌≡◌, ◌+◌, ◌<◌, ℕ, false, Som
 ghost use Rattle.std.specs.List.{list_any};
 ghost use Rattle.lw_laws.specs.Networks.{row_value, node_value};
 ghost use Rattle.lw_net.specs.Networks.{IsNodeAt};
-ghost use Rattle.lw_net.specs.Plain.{plain_node, values_at};
+ghost use Rattle.lw_net.specs.Plain.{plain_node};
 ghost use Rattle.lw_net.specs.Signs.{asked, met_by};
 ghost use Rattle.lw_genlib.specs.Words.{bit};
 ghost use Rattle.lw_report.specs.Blocks.{bits_at};
+ghost use Rattle.lw_pool.specs.Numbers.{values_at};
 
 use lw_net::{Cube, Node};
 use lw_pool::NetId;

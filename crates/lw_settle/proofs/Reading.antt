@@ -9,12 +9,12 @@ use Rattle.lw_pool.specs.declared.id.ClassId.{ClassId}
 use Rattle.lw_laws.specs.Costs.{Cost}
 use Rattle.lw_laws.specs.Covers.{HasPins}
 use Rattle.lw_laws.specs.Marks.{Mark as PlainMark, Marks, HaveMarks, costs_in, greatest_height, price}
-use Rattle.lw_match.specs.Values.{numbers}
 use Rattle.lw_settle.specs.declared.row.Row.{Row}
 use Rattle.lw_settle.specs.Stores.{Stored, Placed, placed, pins_of, pin_total, uses_of, uses_from, AreKeptLists, IsHeadOf, IsPriceOf, HasMarkedPins, AreOfStoredCells}
 use Rattle.lw_settle.specs.Kept.{cell_numbers, placed_row, placed_rows, grouped, start_at, IsKeptStore}
 use Rattle.lw_settle.proofs.Grouping.{length-grouped_from, placed_class}
 use Rattle.lw_settle.proofs.Tiling.{IsWithin, tiled_at, tiled_few, tiled_pins, length-row, length-all_pins}
+use Rattle.lw_pool.specs.Numbers.{numbers}
 
 from_map : {X Y : Type 0} (f : X → Y) (o : Option X) (y : Y) → option_map f o ≡ Some y → (x : X) × (o ≡ Some x) × (f x ≡ y)
 from_map f None y e = cc

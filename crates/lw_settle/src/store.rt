@@ -4,9 +4,10 @@ ghost use Rattle.lw_pool.specs.declared.id.ClassId.{ClassId};
 ghost use Rattle.lw_laws.specs.Covers.{HasPins};
 ghost use Rattle.lw_laws.specs.Marks.{Mark as PlainMark, HaveMarks, costs_in, greatest_height, price};
 ghost use Rattle.lw_match.specs.declared.mark.Mark.{Mark};
-ghost use Rattle.lw_match.specs.Values.{AreInRange, marks_in, numbers, plain_mark};
+ghost use Rattle.lw_match.specs.Values.{AreInRange, marks_in, plain_mark};
 ghost use Rattle.lw_settle.specs.Kept.{start_at};
 ghost use Rattle.lw_settle.specs.Stores.{AreKeptLists, AreOfStoredCells, HasMarkedPins, IsHeadOf, IsPriceOf, pin_total, placed, uses_of};
+ghost use Rattle.lw_pool.specs.Numbers.{numbers};
 
 use crate::row::Row;
 use lw_match::{Cost, Mark};

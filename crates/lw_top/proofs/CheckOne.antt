@@ -11,7 +11,6 @@ use Rattle.lw_net.specs.Networks.{NetworkParts}
 use Rattle.lw_net.specs.Plain as network
 use Rattle.lw_genlib.specs.Cells.{CellParts}
 use Rattle.lw_pattern.specs.Libraries.{library_patterns}
-use Rattle.lw_match.specs.Values.{numbers}
 use Rattle.lw_blif.specs.declared.parsed.Parsed.{Parsed}
 use Rattle.lw_mapped.specs.declared.closing.Mapped.{Mapped as MappedParts}
 use Rattle.lw_mapped.specs.Alike.{AreSameMapped}
@@ -21,7 +20,7 @@ use Rattle.lw_check.specs.Mappings.{IsKept}
 use Rattle.lw_check.specs.Verdicts.{IsVerdict, claim}
 use Rattle.lw_check.proofs.Agreeing.{verdicts_agree}
 use Rattle.lw_map.specs.Options.{Options, IsWide}
-use Rattle.lw_map.specs.Mapped.{ports_of, base_count, IsWithinLimits}
+use Rattle.lw_map.specs.Mapped.{base_count, IsWithinLimits}
 use Rattle.lw_top.specs.declared.refusal.Refusal.{Refusal}
 use Rattle.lw_top.specs.declared.refusal.Refusal.TheVariants.{Forms, Splits, No}
 use Rattle.lw_top.specs.Steps.{Files}
@@ -30,6 +29,8 @@ use Rattle.lw_top.specs.Checks.{HasVerdict, Checks}
 use Rattle.lw_top.specs.Answers.{AreAlike}
 use Rattle.lw_top.specs.Tables.{Tabulates}
 use Rattle.lw_top.specs.Counts.{pair_total, counts_text, Counts}
+use Rattle.lw_pool.specs.Numbers.{numbers}
+use Rattle.lw_net.specs.Ports.{ports_of}
 
 numbers_back : (xs ys : List ClassId) → numbers xs ≡ numbers ys → xs ≡ ys
 numbers_back [] [] e = refl

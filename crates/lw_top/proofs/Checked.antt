@@ -20,7 +20,6 @@ use Rattle.lw_check.specs.Mappings.{IsFastestMapping}
 use Rattle.lw_check.specs.Verdicts.{claim}
 use Rattle.lw_check.proofs.Judging.{accepted_is_mapping}
 use Rattle.lw_map.specs.Options.{Options, IsWide}
-use Rattle.lw_map.specs.Mapped.{output_port}
 use Rattle.lw_map.proofs.CellLaws.{delay_patterns, delay_truths}
 use Rattle.lw_top.specs.declared.refusal.Refusal.TheVariants.{Unread}
 use Rattle.lw_top.specs.Steps.{Files}
@@ -34,6 +33,7 @@ use Rattle.lw_top.specs.Mappings.{AsksForCheck, IsCheckedMapping}
 use Rattle.lw_top.proofs.Headline.{asked-ok}
 use Rattle.lw_top.proofs.InRange.{command_in_range}
 use Rattle.lw_top.proofs.Sound.{cells_kept, AreKept, model_kept, mapped_kept, IsReadBy, claim_kept}
+use Rattle.lw_net.specs.Ports.{output_port}
 
 same_roots : (width : ℕ) (net : NetworkParts) (g : Graph) (outputs : List NetId) → map (λ (p : PlainPort). root_class width (plain net) g p.net) (map (output_port net) outputs) ≡ map (λ (output : NetId). root_class width (plain net) g output.0) outputs
 same_roots width net g [] = refl

@@ -7,7 +7,7 @@ use Rattle.lw_net.specs.Networks.{NetworkParts, IsNetwork, name_in}
 use Rattle.lw_genlib.specs.Cells.{CellParts}
 use Rattle.lw_blif.specs.declared.parsed.Parsed.{Parsed}
 use Rattle.lw_blif.specs.BlifNetworks.{IsModel}
-use Rattle.lw_netlist.specs.Plain.{IsOver}
+use Rattle.lw_netlist.specs.Plain.{IsOver, plain_port}
 use Rattle.lw_laws.specs.Graphs.{Graph}
 use Rattle.lw_laws.specs.Rounds.{labels_in}
 use Rattle.lw_label.specs.Labels.{costs_of}
@@ -25,7 +25,7 @@ use Rattle.lw_map.specs.declared.covering.Mapping.{Mapping}
 use Rattle.lw_map.specs.declared.fault.MapFault.{MapFault}
 use Rattle.lw_map.specs.declared.fault.MapFault.TheVariants as map_fault
 use Rattle.lw_map.specs.Options.{Options, plain_options}
-use Rattle.lw_map.specs.Mapped.{output_port, plain_port, IsMappedNetlist, IsWithinLimits, LacksCover}
+use Rattle.lw_map.specs.Mapped.{IsMappedNetlist, IsWithinLimits, LacksCover}
 use Rattle.lw_map.specs.Choices.{AreChoicesOf}
 use Rattle.lw_map.specs.declared.labeller.Labeller.TheVariants.{Rounds, Store}
 use Rattle.lw_map.specs.Mappings.{IsMappingOf}
@@ -43,6 +43,7 @@ use Rattle.lw_lut.specs.Nets.{PlainTableNet}
 use Rattle.lw_map.specs.Tabled.{IsTabled}
 use Rattle.lw_top.specs.Tables.{Tabulates}
 use Rattle.lw_top.specs.Counts.{pair_total, counts_text, sizes_text, IsCountText, Counts, drawing_options, at_once, Draws}
+use Rattle.lw_net.specs.Ports.{output_port}
 
 -- a step that refuses for want of a graph, and one that refuses for want of a mapping
 module _ (step : Step (List ℕ)) (options : Options) (net : NetworkParts) where

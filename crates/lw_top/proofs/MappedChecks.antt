@@ -12,7 +12,7 @@ use Rattle.lw_pool.specs.declared.id.NetId.{NetId}
 use Rattle.lw_laws.specs.Costs.{Cost}
 use Rattle.lw_laws.specs.Covers.{Pattern, Timing, tree_of}
 use Rattle.lw_laws.specs.Delays.{delay_cost}
-use Rattle.lw_laws.specs.Graphs.{Graph}
+use Rattle.lw_laws.specs.Graphs.{Graph, most_classes}
 use Rattle.lw_laws.specs.Headline.{Port as PlainPort}
 use Rattle.lw_laws.specs.Mapped.{root_class}
 use Rattle.lw_laws.specs.MappedNetlists.{root_classes}
@@ -34,20 +34,17 @@ use Rattle.lw_genlib.specs.Cells.{CellParts, IsListed, IsLibrary}
 use Rattle.lw_genlib.specs.Tables.{timing_of, cell_delays, delays_of_cells, millionths}
 use Rattle.lw_graph.specs.Graphs.{IsGraph}
 use Rattle.lw_pattern.specs.Libraries.{library_patterns}
-use Rattle.lw_match.specs.Values.{numbers}
 use Rattle.lw_label.specs.Delays.{most_time}
 use Rattle.lw_label.proofs.CellLaws.{timing_up}
 use Rattle.lw_netlist.specs.declared.gate.Gate.{Gate}
 use Rattle.lw_netlist.specs.declared.gate.Port.{Port}
 use Rattle.lw_netlist.specs.Netlists.{NetlistParts}
 use Rattle.lw_netlist.specs.Plain as netlist
-use Rattle.lw_netlist.specs.Plain.{HasCell, IsOver}
+use Rattle.lw_netlist.specs.Plain.{HasCell, IsOver, plain_port, port_name}
 use Rattle.lw_mapped.specs.declared.certificate.Certificate.{Certificate}
 use Rattle.lw_mapped.specs.Parsed.{IsLabel}
-use Rattle.lw_mapped.specs.Readable.{IsSignalName, IsReadable, IsReadableCertificate, read_of}
-use Rattle.lw_mapped.specs.Sayings.{most_classes}
+use Rattle.lw_mapped.specs.Readable.{IsReadable, IsReadableCertificate, read_of}
 use Rattle.lw_mapped.specs.Standing.{AreLabels}
-use Rattle.lw_mapped.specs.Texts.{port_name}
 use Rattle.lw_mapped.proofs.WrittenLines.{each-of}
 use Rattle.lw_check.specs.declared.verdict.Verdict.TheVariants as verdict
 use Rattle.lw_check.specs.Claims.{Claim}
@@ -55,7 +52,7 @@ use Rattle.lw_check.specs.Mappings.{IsKept, IsMappingOf, IsOverGraph}
 use Rattle.lw_check.specs.Verdicts.{claim}
 use Rattle.lw_check.proofs.Accepting.{mapping_accepted}
 use Rattle.lw_map.specs.Options.{Options, IsWide}
-use Rattle.lw_map.specs.Mapped.{output_port, plain_port, ports_of, IsMappedNetlist, IsWithinLimits}
+use Rattle.lw_map.specs.Mapped.{IsMappedNetlist, IsWithinLimits}
 use Rattle.lw_map.proofs.CellLaws.{delay_patterns}
 use Rattle.lw_map.proofs.Names.{mapped_has_names}
 use Rattle.lw_map.proofs.PortNames.{few_outputs}
@@ -67,6 +64,10 @@ use Rattle.lw_top.proofs.FormGraphs.{form_graph}
 use Rattle.lw_top.proofs.NetNames.{nets-named}
 use Rattle.lw_top.proofs.SignalNames.{IsNamed}
 use Rattle.lw_top.proofs.Sound.{AreKept}
+use Rattle.lw_words.specs.Words.{IsSignalName}
+use Rattle.lw_pool.specs.Numbers.{numbers}
+use Rattle.lw_net.specs.Ports.{output_port, ports_of}
+use Rattle.lw_pool.specs.Numbers.{net_number}
 
 -- Lists beside each other.
 
@@ -175,7 +176,7 @@ module _ (options : Options) (cells : List CellParts) (model : Parsed) (wide : I
           let (cell, cell_at, same) = slice_get_map_back cell_delays cells p.cell delays delays_at in
           let listed : IsListed cell = subst IsListed (get_or_from_slice_get cells p.cell cell cell cell_at) (lib.each p.cell cell (slice_get_within cells p.cell cell cell_at)) in
           let nets_of_match = AllZip-long _ m.pins (netlist.plain_gate gate).pins nets in
-          let nets_of_gate = length-map gate.pins netlist.net_number in
+          let nets_of_gate = length-map gate.pins net_number in
           let delays_of_cell : length cell.delays ≡ length delays = sym (length-map cell.delays millionths) ∙ ap length same in
           record {
             cell = cell;

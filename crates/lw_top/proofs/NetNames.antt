@@ -9,10 +9,10 @@ use Rattle.std.proofs.lemmas.List.Elements.{All-filter, All-from_recursion}
 use Rattle.lw_words.specs.Gathering.{IsInk, IsNoHash}
 use Rattle.lw_laws.specs.Names.{is_name_among, numbered_name, numbered_names, free_names, output_name, gate_names, net_names}
 use Rattle.lw_naming.proofs.FreeNames.{enough_free}
-use Rattle.lw_mapped.specs.Readable.{IsSignalName}
 use Rattle.lw_mapped.proofs.GoodWords.{IsGood, good-bytes, stroke-behind, ends_stroke}
 use Rattle.lw_mapped.proofs.Printing.{own, digits-good}
 use Rattle.lw_mapped.proofs.WrittenLines.{each-of, each-append, each-weaker}
+use Rattle.lw_words.specs.Words.{IsSignalName}
 
 -- Numbered names.
 

@@ -1,9 +1,6 @@
 -- An answer with a text of tables.
 use Rattle.std.proofs.Common.{inl, inr, ℕ, List, Ok, All}
 use Rattle.lw_blif.specs.declared.parsed.Parsed.{Parsed}
-use Rattle.lw_mapped.specs.Readable as mapped
-use Rattle.lw_lut.specs.Readable.{IsSignalName, IsReadableLatch}
-use Rattle.lw_pool.specs.declared.latch.Latch.{Latch}
 use Rattle.lw_map.specs.Options.{Options}
 use Rattle.lw_map.specs.Tabled.{HasReadableNames}
 use Rattle.lw_top.specs.Steps.{Files, Step, followed_by}
@@ -28,21 +25,11 @@ tabulated leaves options network files text answer =
     let (model, read, comes) = first_ok (ReadsModel network) (λ (model : Parsed). Tabulates leaves options model) files text answer in
     record { model = model; read = read; comes = comes }
 
--- the same names, for tables
-signal : (name : List ℕ) → mapped.IsSignalName name → IsSignalName name
-signal name is = record { word = is.word; no_hash = is.no_hash; ends = is.ends }
-
-signals : (names : List (List ℕ)) → All mapped.IsSignalName names → All IsSignalName names
-signals names all k d lt = signal _ (all k d lt)
-
-latch : (l : Latch) → mapped.IsReadableLatch l → IsReadableLatch l
-latch l is = record { input = signal l.input is.input; output = signal l.output is.output; rest = signals l.rest is.rest; few = is.few }
-
 pub readable_names : (model : Parsed) → IsNamed model → AreKept model → HasReadableNames model.network model.frame
 readable_names model named kept = record {
-  model = signal model.network.model named.model;
-  inputs = signals _ named.inputs;
-  outputs = signals _ named.outputs;
-  latches = λ k d lt. latch _ (named.latches k d lt);
+  model = named.model;
+  inputs = named.inputs;
+  outputs = named.outputs;
+  latches = named.latches;
   frame_fits = kept.fits.frame;
 }

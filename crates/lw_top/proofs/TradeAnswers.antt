@@ -18,7 +18,7 @@ use Rattle.lw_map.specs.declared.choices.Choices.{Choices}
 use Rattle.lw_map.specs.declared.fault.MapFault.{MapFault}
 use Rattle.lw_map.specs.declared.fault.MapFault.TheVariants as map_fault
 use Rattle.lw_map.specs.Options.{Options, IsWide, plain_options}
-use Rattle.lw_map.specs.Mapped.{output_port, plain_port, IsWithinLimits, LacksCover}
+use Rattle.lw_map.specs.Mapped.{IsWithinLimits, LacksCover}
 use Rattle.lw_map.specs.Choices.{AreChoicesOf}
 use Rattle.lw_map.specs.Faults.{IsTradeFault}
 use Rattle.lw_map.specs.Trading.{IsTradeable, IsTradedNetlist, HasTooManyPoints, HasFewPoints, AreEarliest}
@@ -33,6 +33,8 @@ use Rattle.lw_top.specs.Answered.{Gives}
 use Rattle.lw_top.specs.Answers.{AreAlike}
 use Rattle.lw_top.specs.Trades.{LacksPoints, LacksTrade, Trades}
 use Rattle.lw_top.proofs.MapAnswers.{by_lack, lack_one, within_lacks}
+use Rattle.lw_net.specs.Ports.{output_port}
+use Rattle.lw_netlist.specs.Plain.{plain_port}
 
 module _ (options : Options) (cells : List CellParts) (net : NetworkParts) (starts : List Micro) (wide : IsWide options) where
   -- where each output has a least time, none lacks a cover

@@ -10,14 +10,15 @@ use Rattle.lw_genlib.specs.Cells.{CellParts}
 use Rattle.lw_blif.specs.declared.parsed.Parsed.{Parsed}
 use Rattle.lw_netlist.specs.declared.gate.Port.{Port}
 use Rattle.lw_netlist.specs.Netlists.{NetlistParts}
-use Rattle.lw_mapped.specs.Readable.{IsSignalName, IsNamed}
-use Rattle.lw_mapped.specs.Texts.{port_name}
+use Rattle.lw_mapped.specs.Readable.{IsNamed}
 use Rattle.lw_map.specs.Options.{Options}
-use Rattle.lw_map.specs.Mapped.{output_port, plain_port}
 use Rattle.lw_map.specs.Trading.{IsTradedNetlist}
 use Rattle.lw_top.proofs.NetNames.{numbered-name}
 use Rattle.lw_top.proofs.SignalNames.{IsNamed as IsNamedModel}
 use Rattle.lw_top.proofs.Sound.{AreKept}
+use Rattle.lw_words.specs.Words.{IsSignalName}
+use Rattle.lw_net.specs.Ports.{output_port}
+use Rattle.lw_netlist.specs.Plain.{plain_port, port_name}
 
 -- a name among names that are all of the format
 among : (names : List (List ℕ)) (name : List ℕ) → All IsSignalName names → Contains names name → IsSignalName name

@@ -8,17 +8,18 @@ use Rattle.lw_laws.specs.MappedNetlists.{root_classes}
 use Rattle.lw_net.specs.Plain.{plain}
 use Rattle.lw_genlib.specs.Cells.{CellParts}
 use Rattle.lw_pattern.specs.Libraries.{library_patterns}
-use Rattle.lw_match.specs.Values.{numbers}
 use Rattle.lw_blif.specs.declared.parsed.Parsed.{Parsed}
 use Rattle.lw_mapped.specs.declared.closing.Mapped.{Mapped}
 use Rattle.lw_check.specs.declared.verdict.Verdict.{Verdict}
 use Rattle.lw_check.specs.declared.verdict.Verdict.TheVariants as verdict
 use Rattle.lw_check.specs.Verdicts.{IsVerdict}
 use Rattle.lw_map.specs.Options.{Options}
-use Rattle.lw_map.specs.Mapped.{ports_of, IsWithinLimits}
+use Rattle.lw_map.specs.Mapped.{IsWithinLimits}
 use Rattle.lw_top.specs.declared.refusal.Refusal.TheVariants.{No}
 use Rattle.lw_top.specs.Steps.{Step}
 use Rattle.lw_top.specs.Maps.{LacksGraph}
+use Rattle.lw_pool.specs.Numbers.{numbers}
+use Rattle.lw_net.specs.Ports.{ports_of}
 
 -- the verdict on the netlist, over the graph of the network's forms and the classes of its outputs
 pub record HasVerdict (options : Options) (cells : List CellParts) (model : Parsed) (mapped : Mapped) (v : Verdict) : Type 0 where

@@ -11,16 +11,17 @@ use Rattle.lw_genlib.specs.Cells.{CellParts}
 use Rattle.lw_genlib.specs.Tables.{timing_of, truth_of_cells}
 use Rattle.lw_pattern.specs.Libraries.{library_patterns}
 use Rattle.lw_netlist.specs.Netlists.{NetlistParts}
-use Rattle.lw_netlist.specs.Plain.{plain as plain_netlist}
+use Rattle.lw_netlist.specs.Plain.{plain as plain_netlist, mapped_ports}
 use Rattle.lw_mapped.specs.declared.certificate.Certificate.{Certificate}
 use Rattle.lw_mapped.specs.declared.closing.Mapped.{Mapped}
 use Rattle.lw_mapped.specs.Texts.{mapped_text}
 use Rattle.lw_map.specs.Options.{Options}
-use Rattle.lw_map.specs.Mapped.{ports_of, mapped_ports, IsMappedNetlist, LacksCover}
+use Rattle.lw_map.specs.Mapped.{IsMappedNetlist, LacksCover}
 use Rattle.lw_top.specs.Steps.{Files}
 use Rattle.lw_top.specs.Maps.{IsAskedFor}
 use Rattle.lw_top.specs.Words.{mapping, checking, tabling, command_of}
 use Rattle.lw_top.specs.Answers.{ReadsLibrary, ReadsModel, ReadsMapped}
+use Rattle.lw_net.specs.Ports.{ports_of}
 
 -- the words ask for the mapping of a network to a library
 pub record AsksForMapping (words : List (List ℕ)) : Type 0 where

@@ -17,7 +17,7 @@ use Rattle.lw_genlib.specs.Cells.{IsLibrary}
 use Rattle.lw_netlist.specs.declared.gate.Gate.{Gate as NetGate}
 use Rattle.lw_netlist.specs.declared.gate.Port.{Port}
 use Rattle.lw_netlist.specs.Netlists.{NetlistParts, IsGateAt}
-use Rattle.lw_netlist.specs.Plain.{plain, plain_gate, net_number, HasCell, IsOver}
+use Rattle.lw_netlist.specs.Plain.{plain, plain_gate, HasCell, IsOver}
 use Rattle.lw_trade.specs.declared.targets.Targets.{Targets}
 use Rattle.lw_trade.specs.Backing.{Held}
 use Rattle.lw_trade.specs.Groups.{CurveLists}
@@ -37,6 +37,7 @@ use Rattle.lw_trade.proofs.Moved.{placed_low, root_at, pin_count, moved_nodes, n
 use Rattle.lw_trade.proofs.Places.{order_length, order_low, stands_there}
 use Rattle.lw_trade.proofs.Standing.{pins_before_gate, placed_input, placed_node}
 use Rattle.lw_trade.proofs.Walked.{roots_low, walk_graph, walk_high}
+use Rattle.lw_pool.specs.Numbers.{net_number}
 
 all_below : (m : ℕ) (places : List ℕ) (b : ℕ) (xs : List ℕ) → ((k d : ℕ) → k < length xs → placed_net m places (slice_index_or xs k d) < b) → AllByRecursion (λ p. p < b) (map (placed_net m places) xs)
 all_below m places b [] h = tt

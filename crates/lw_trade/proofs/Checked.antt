@@ -8,7 +8,6 @@ use Rattle.lw_pool.specs.declared.id.ClassId.{ClassId}
 use Rattle.lw_fixed.specs.declared.micro.Micro.{Micro}
 use Rattle.lw_genlib.specs.Tables.{millionths}
 use Rattle.lw_dag.specs.Graphs.{fanins_at}
-use Rattle.lw_match.specs.Values.{numbers}
 use Rattle.std.specs.Global.{Vec}
 use Rattle.lw_trade.specs.declared.found.Way.{Way}
 use Rattle.lw_trade.specs.declared.point.Point.{Point}
@@ -26,6 +25,7 @@ use Rattle.lw_trade.proofs.Cells.{delays_are}
 use Rattle.lw_trade.proofs.Grouped.{get_map, map_get}
 use Rattle.lw_trade.proofs.Lists.{at_contained, below_or, get_in}
 use Rattle.lw_trade.proofs.Placed.{placed_last}
+use Rattle.lw_pool.specs.Numbers.{numbers}
 
 module _ (s : Task) (curves : CurveLists) (ways : HaveWays s curves) (starts : (i c : ℕ) (row : List Point) (p : Point) → slice_get s.graph.leaves i ≡ Some c → slice_get curves.points c ≡ Some row → Contains row p → p.time.0 ≡ start_of (timing s).starts i) (inputs : List (Option ℕ)) (own : AreInputsTo s.graph (length s.graph.leaves) inputs) (nodes : List Node) where
   abbrev no_point : Held

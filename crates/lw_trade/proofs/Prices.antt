@@ -5,7 +5,6 @@ use Rattle.std.proofs.lemmas.List.{length-map}
 use Rattle.std.proofs.lemmas.List.Elements.{All-from_recursion}
 use Rattle.std.proofs.lemmas.Option.{same_Some, slice_get-map}
 use Rattle.lw_pool.specs.declared.id.ClassId.{ClassId}
-use Rattle.lw_match.specs.Values.{numbers}
 use Rattle.lw_genlib.specs.Tables.{millionths}
 use Rattle.lw_trade.proofs.Lists.{got}
 use Rattle.lw_fixed.specs.declared.micro.Micro.{Micro}
@@ -16,6 +15,7 @@ use Rattle.lw_trade.specs.Choices.Part.{input, gate}
 use Rattle.lw_trade.specs.Fronts.{IsLeastSpot}
 use Rattle.lw_trade.specs.Pricing.{ArePinSpots, IsBestOfPins}
 use Rattle.lw_trade.specs.Settling.{Spot, times, areas, IsBest}
+use Rattle.lw_pool.specs.Numbers.{numbers}
 
 module _ (spots : List Spot) (time : ℕ) where
   pub best_empty : IsBestOfPins spots [] [] time (Some 0)

@@ -5,7 +5,6 @@ use Rattle.std.proofs.lemmas.List.{length-map}
 use Rattle.std.proofs.lemmas.Option.{same_Some}
 use Rattle.lw_fixed.specs.declared.micro.Micro.{Micro}
 use Rattle.lw_pool.specs.declared.id.ClassId.{ClassId}
-use Rattle.lw_match.specs.Values.{numbers}
 use Rattle.lw_laws.specs.Covers.{latest, start_of, delays_of}
 use Rattle.lw_genlib.specs.Tables.{millionths}
 use Rattle.lw_trade.specs.declared.choices.Row.{Row}
@@ -17,6 +16,7 @@ use Rattle.lw_trade.specs.Rows.{plain_row, plain_rows}
 use Rattle.lw_trade.specs.Settling.{Gives, Queued, Waits, AreFirst, IsStarted, IsStillFor}
 use Rattle.lw_trade.specs.Uses.{turns_of}
 use Rattle.lw_trade.proofs.Queueing.{none_waits}
+use Rattle.lw_pool.specs.Numbers.{numbers}
 
 latest_none : (ds : List ℕ) → latest ds [] ≡ 0
 latest_none [] = refl

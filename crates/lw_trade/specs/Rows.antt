@@ -1,12 +1,12 @@
 -- What may stand at classes, as the code lists it.
 use Rattle.std.specs.Prelude.{ℕ, ◌<◌, ◌≡◌, List, length, map, Some, slice_get}
-use Rattle.lw_match.specs.Values.{numbers}
 use Rattle.lw_trade.specs.declared.choices.Row.{Row}
 use Rattle.lw_trade.specs.declared.choices.Stand.{Stand}
 use Rattle.lw_trade.specs.declared.choices.Stand.TheVariants.{Input, Gate}
 use Rattle.lw_trade.specs.Choices.{Part, Choice, MayStand}
 use Rattle.lw_trade.specs.Choices.Part.{input, gate}
 use Rattle.lw_trade.specs.Points.{Task}
+use Rattle.lw_pool.specs.Numbers.{numbers}
 
 abbrev pub plain_part : Stand → Part
 plain_part (Input i) = input i

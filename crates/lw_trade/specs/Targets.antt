@@ -3,9 +3,8 @@ use Rattle.std.specs.Prelude.{ℕ, ◌^◌, ◌<◌, ◌≤◌, ◌≡◌, List,
 use Rattle.std.specs.List.{AllZip}
 use Rattle.lw_pool.specs.declared.id.ClassId.{ClassId}
 use Rattle.lw_fixed.specs.declared.micro.Micro.{Micro}
-use Rattle.lw_laws.specs.Graphs.{Graph}
+use Rattle.lw_laws.specs.Graphs.{Graph, most_classes}
 use Rattle.lw_laws.specs.Covers.{start_of}
-use Rattle.lw_label.specs.Labels.{most_classes}
 use Rattle.lw_trade.specs.declared.point.Point.{Point}
 use Rattle.lw_trade.specs.declared.targets.Targets.{Targets}
 use Rattle.lw_trade.specs.Groups.{CurveLists, HaveWays}

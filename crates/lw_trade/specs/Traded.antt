@@ -8,12 +8,9 @@ use Rattle.lw_laws.specs.Names.{net_names}
 use Rattle.lw_laws.specs.Netlists.{Netlist, IsGate, Gate, StandsFor, AreByDepth}
 use Rattle.lw_netlist.specs.declared.gate.Port.{Port}
 use Rattle.lw_netlist.specs.Netlists.{NetlistParts}
-use Rattle.lw_netlist.specs.Plain.{plain, IsOver}
+use Rattle.lw_netlist.specs.Plain.{plain, IsOver, port_name}
 use Rattle.lw_trade.specs.declared.targets.Targets.{Targets}
 use Rattle.lw_trade.specs.Points.{Task, IsCoverBy, IsLeastAreaBy, area_of, most_points}
-
-abbrev pub port_name : Port → List ℕ
-port_name port = port.name
 
 abbrev pub port_net : Port → ℕ
 port_net port = port.net.0

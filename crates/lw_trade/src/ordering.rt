@@ -4,14 +4,15 @@ ghost use Rattle.std.specs.List.{range_with_len};
 ghost use Rattle.std.specs.List.Sorted.{IsPermutation};
 ghost use Rattle.lw_dag.specs.Graphs.{IsGraph, fanins_at, most_signals};
 ghost use Rattle.lw_genlib.specs.Cells.{IsLibrary};
-ghost use Rattle.lw_naming.specs.Naming.{numbers};
 ghost use Rattle.lw_trade.specs.Backing.{Held};
 ghost use Rattle.lw_trade.specs.Groups.{CurveLists};
 ghost use Rattle.lw_trade.specs.Placed.{ArePlaces, HaveHeights, IsByHeight, placed_gate, placed_net};
 ghost use Rattle.lw_trade.specs.Points.{Task};
 ghost use Rattle.lw_trade.specs.Targets.{AreCurvesFor, AreTargets};
-ghost use Rattle.lw_trade.specs.Traded.{IsTraded, port_name, port_net};
+ghost use Rattle.lw_trade.specs.Traded.{IsTraded, port_net};
 ghost use Rattle.lw_trade.specs.Walks.{IsWalk};
+ghost use Rattle.lw_pool.specs.Numbers.{numbers};
+ghost use Rattle.lw_netlist.specs.Plain.{port_name};
 
 use crate::targets::Targets;
 use crate::walking::Walk;

@@ -1,6 +1,5 @@
 ghost use Rattle.std.specs.Prelude.{◌≡◌, ◌<◌, ◌≤◌, List, All, IfSome, length, map};
 ghost use Rattle.lw_genlib.specs.Tables.{millionths};
-ghost use Rattle.lw_match.specs.Values.{numbers};
 ghost use Rattle.lw_laws.specs.Covers.{start_of};
 ghost use Rattle.lw_laws.specs.Graphs.{Graph as PlainGraph};
 ghost use Rattle.lw_laws.specs.Covers.{Pattern as TreeOfCell};
@@ -9,6 +8,7 @@ ghost use Rattle.lw_trade.specs.Points.{task};
 ghost use Rattle.lw_trade.specs.Pricing.{IsBestOfPins, IsOfLibrary, IsWithin};
 ghost use Rattle.lw_trade.specs.Rows.{plain_part};
 ghost use Rattle.lw_trade.specs.Settling.{IsBest};
+ghost use Rattle.lw_pool.specs.Numbers.{numbers};
 
 use crate::area::joined;
 use crate::choices::Stand;

@@ -3,13 +3,13 @@ ghost use Rattle.lw_genlib.specs.Tables.{millionths};
 ghost use Rattle.lw_laws.specs.Covers.{delays_of, Pattern as TreeOfCell};
 ghost use Rattle.lw_laws.specs.Graphs.{Graph as PlainGraph};
 ghost use Rattle.lw_fixed.specs.declared.micro.Micro.{Micro as MicroOf};
-ghost use Rattle.lw_match.specs.Values.{numbers};
 ghost use Rattle.lw_trade.specs.Choices.{Choice};
 ghost use Rattle.lw_trade.specs.Choices.Part.{gate};
 ghost use Rattle.lw_trade.specs.Points.{Task, task, timing};
 ghost use Rattle.lw_trade.specs.Pricing.{IsOfLibrary, IsWithin};
 ghost use Rattle.lw_trade.specs.Rows.{plain_part, plain_row, plain_rows};
 ghost use Rattle.lw_trade.specs.Uses.{AreGroups, AreUses, AreUsesTo, IsFirstAdded, IsGroup, IsGroupAdded, IsPinAdded};
+ghost use Rattle.lw_pool.specs.Numbers.{numbers};
 
 use crate::choices::{Row, Stand};
 use crate::links::Links;

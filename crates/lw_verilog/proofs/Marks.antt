@@ -12,10 +12,10 @@ use Rattle.std.proofs.lemmas.List.{get_or-set_other, length-set, map-append, tak
 use Rattle.std.proofs.lemmas.List.Folds.{list_any-append}
 use Rattle.lw_netlist.specs.declared.gate.Port.{Port}
 use Rattle.lw_netlist.specs.Closing.{is_among}
-use Rattle.lw_mapped.specs.Texts.{port_name}
 use Rattle.lw_mapped.proofs.Printing.{own}
 use Rattle.lw_verilog.specs.Texts.{instance_name}
 use Rattle.lw_verilog.specs.Windows.{AreTaken, Raises}
+use Rattle.lw_netlist.specs.Plain.{port_name}
 
 pub or-no : (a b : Bool) → b ≡ false → a ≡ (a || b)
 or-no true b e = refl

@@ -11,9 +11,10 @@ use Rattle.lw_verilog.specs.declared.fault.VerilogKind.{VerilogKind}
 use Rattle.lw_verilog.specs.declared.kind.Piece.{Piece}
 use Rattle.lw_verilog.specs.Grammar.{move_at}
 use Rattle.lw_verilog.specs.Keeping.{IsParsed, Keeps, TellsFault, TellsParse, refused_at, weight}
-use Rattle.lw_verilog.specs.Pieces.{first_piece, is_line_feed}
+use Rattle.lw_verilog.specs.Pieces.{first_piece}
 use Rattle.lw_verilog.specs.Readings.{Reading, fault_or, is_done, moved_on, nothing_read, piece_fault, piece_read, read, token_fault}
 use Rattle.lw_verilog.specs.Tokens.{Token, is_end, is_gap, last_line, line_feeds, name_of, token, token_if, tokens, tokens_from}
+use Rattle.lw_words.specs.Lines.{is_line_feed}
 
 -- what is left of a text behind these contents, from this line on
 pub record Stands (cells : List CellParts) (text : List ℕ) (c : Contents) (line : ℕ) (rest : List ℕ) : Type 0 where

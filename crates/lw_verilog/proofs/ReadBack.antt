@@ -10,7 +10,7 @@ use Rattle.lw_netlist.specs.declared.draft.GateDraft.{GateDraft}
 use Rattle.lw_netlist.specs.declared.draft.Wire.{Wire}
 use Rattle.lw_netlist.specs.Closing.{IsClosed}
 use Rattle.lw_netlist.specs.Netlists.{NetlistParts}
-use Rattle.lw_mapped.specs.Texts.{names_of_inputs, names_of_outputs, port_name}
+use Rattle.lw_mapped.specs.Texts.{names_of_inputs, names_of_outputs}
 use Rattle.lw_mapped.proofs.ClosingBack.{closed-back}
 use Rattle.lw_mapped.proofs.Driving as back
 use Rattle.lw_mapped.proofs.Driving.{wires_of}
@@ -33,6 +33,7 @@ use Rattle.lw_verilog.proofs.Stepping.{Leads, Reads, leads-both, reads-both}
 use Rattle.lw_verilog.proofs.Writables.{gates-sayable, ins, ins-good, ins-new, model-good, nets-good, outs, outs-good, outs-new, ports-kept, ports-new, ports-sayable}
 use Rattle.lw_mapped.proofs.WrittenLines.{each-append}
 use Rattle.lw_verilog.proofs.Leading.{IsGood}
+use Rattle.lw_netlist.specs.Plain.{port_name}
 
 regrouped : (a b c d e f g : List ℕ) → (a ++ (b ++ (c ++ (d ++ (e ++ f))))) ++ g ≡ a ++ (b ++ (c ++ (d ++ (e ++ (f ++ g)))))
 regrouped a b c d e f g = simp append_assoc

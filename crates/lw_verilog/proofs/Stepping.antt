@@ -9,11 +9,12 @@ use Rattle.lw_verilog.specs.declared.kind.Kind.TheVariants as kind
 use Rattle.lw_verilog.specs.declared.kind.Piece.{Piece}
 use Rattle.lw_verilog.specs.declared.place.Move.{Move}
 use Rattle.lw_verilog.specs.Grammar.{move_at}
-use Rattle.lw_verilog.specs.Pieces.{begins_name, comment_or_sign, escaped, first_piece, is_line_feed, is_separator, name_bytes, piece, separators, visibles, word}
+use Rattle.lw_verilog.specs.Pieces.{begins_name, comment_or_sign, escaped, first_piece, is_separator, name_bytes, piece, separators, visibles, word}
 use Rattle.lw_verilog.specs.Readings.{Reading, after, fault_or, is_done, move_fault, moved_on, piece_fault, piece_read, read, rule_fault, token_fault}
 use Rattle.lw_verilog.specs.Statements.{ports_of}
 use Rattle.lw_verilog.specs.Tokens.{is_end, is_gap, is_strange, line_feeds, name_of, tokens_from}
 use Rattle.lw_verilog.proofs.Parsing.{read-piece}
+use Rattle.lw_words.specs.Lines.{is_line_feed}
 
 -- what is read of a text behind a reading is what is read of the rest behind the next,
 -- whatever the lines are

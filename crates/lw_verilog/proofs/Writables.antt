@@ -14,10 +14,9 @@ use Rattle.lw_netlist.specs.declared.gate.Gate.{Gate}
 use Rattle.lw_netlist.specs.declared.gate.Port.{Port}
 use Rattle.lw_netlist.specs.Closing.{is_among, out_of, twice_after}
 use Rattle.lw_netlist.specs.Netlists.{NetlistParts}
-use Rattle.lw_netlist.specs.Plain.{HasCell}
+use Rattle.lw_netlist.specs.Plain.{HasCell, port_name}
 use Rattle.lw_dag.proofs.Names.{differ_back}
-use Rattle.lw_mapped.specs.Readable.{IsSignalName}
-use Rattle.lw_mapped.specs.Texts.{net_name, names_of_inputs, names_of_outputs, port_name}
+use Rattle.lw_mapped.specs.Texts.{net_name, names_of_inputs, names_of_outputs}
 use Rattle.lw_mapped.proofs.Driving as back
 use Rattle.lw_mapped.proofs.Driving.{at-each, each-at, each-map}
 use Rattle.lw_mapped.proofs.Items.{named_gate}
@@ -31,6 +30,7 @@ use Rattle.lw_verilog.specs.Writable.{IsWritable}
 use Rattle.lw_verilog.proofs.Leading.{AreNew, IsGood}
 use Rattle.lw_verilog.proofs.LeadingGates.{IsSayable, IsSayablePort, among-self}
 use Rattle.lw_verilog.proofs.Spellings.{IsShown}
+use Rattle.lw_words.specs.Words.{IsSignalName}
 
 -- Tests that do not fail.
 

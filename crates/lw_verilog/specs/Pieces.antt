@@ -5,6 +5,7 @@ use Rattle.std.specs.Str.{bytes_eq}
 use Rattle.lw_verilog.specs.declared.kind.Kind.{Kind}
 use Rattle.lw_verilog.specs.declared.kind.Kind.TheVariants as kind
 use Rattle.lw_verilog.specs.declared.kind.Piece.{Piece}
+use Rattle.lw_words.specs.Lines.{is_line_feed}
 
 -- a byte of the text, and 0 behind its end
 abbrev pub byte_at : List ℕ → ℕ → ℕ
@@ -13,9 +14,6 @@ byte_at bytes i = slice_index_or bytes i 0
 -- space, tab, line feed, form feed or carriage return
 abbrev pub is_separator : ℕ → Bool
 is_separator b = b == 32 || b == 9 || b == 10 || b == 12 || b == 13
-
-abbrev pub is_line_feed : ℕ → Bool
-is_line_feed b = b == 10
 
 -- a byte of an escaped name
 abbrev pub is_visible : ℕ → Bool

@@ -4,7 +4,7 @@ use Rattle.std.specs.List.{list_all, list_any}
 use Rattle.std.specs.Option.{option_or}
 use Rattle.lw_genlib.specs.Cells.{CellParts, names_of}
 use Rattle.lw_netlist.specs.Closing.{is_among, twice_after}
-use Rattle.lw_mapped.specs.GateLines.{is_formal, is_name}
+use Rattle.lw_mapped.specs.GateLines.{is_formal}
 use Rattle.lw_verilog.specs.declared.fault.VerilogKind.{VerilogKind}
 use Rattle.lw_verilog.specs.declared.fault.VerilogKind.TheVariants as kind
 use Rattle.lw_verilog.specs.declared.kind.Kind.{Kind}
@@ -16,6 +16,7 @@ use Rattle.lw_verilog.specs.declared.place.Task.TheVariants as task
 use Rattle.lw_verilog.specs.Grammar.{move_at}
 use Rattle.lw_verilog.specs.Statements.{Statement, Tie, ties_in, number_of, is_for, ports_of}
 use Rattle.lw_verilog.specs.Tokens.{Token, is_gap, is_strange}
+use Rattle.lw_words.specs.Words.{is_name}
 
 -- Where a reading stands: the place in the grammar, the names of the statement that is open, the ports that are declared so far, and the
 -- statements that are ended.

@@ -3,7 +3,8 @@ use Rattle.std.specs.Prelude.{ℕ, zero, suc, ◌+◌, ◌-◌, ◌==◌, Bool, 
 use Rattle.lw_verilog.specs.declared.kind.Kind.{Kind}
 use Rattle.lw_verilog.specs.declared.kind.Kind.TheVariants as kind
 use Rattle.lw_verilog.specs.declared.kind.Piece.{Piece}
-use Rattle.lw_verilog.specs.Pieces.{byte_at, is_line_feed, first_piece}
+use Rattle.lw_verilog.specs.Pieces.{byte_at, first_piece}
+use Rattle.lw_words.specs.Lines.{is_line_feed}
 
 -- what a token is, its name, and the line in which it begins
 pub record Token : Type 0 where

@@ -5,9 +5,10 @@ use Rattle.lw_laws.specs.Netlists.{AreByDepth}
 use Rattle.lw_genlib.specs.Cells.{CellParts, IsLibrary}
 use Rattle.lw_netlist.specs.Netlists.{NetlistParts, IsNetlist}
 use Rattle.lw_netlist.specs.Plain.{IsOver, plain}
-use Rattle.lw_mapped.specs.Readable.{IsSignalName, ports_of}
+use Rattle.lw_mapped.specs.Readable.{ports_of}
 use Rattle.lw_mapped.specs.Texts.{names_of_outputs}
 use Rattle.lw_verilog.specs.Sayable.{netlist_refused}
+use Rattle.lw_words.specs.Words.{IsSignalName}
 
 -- A netlist of the library's cells that no test refuses, whose nets and ports have names of the
 -- format that differ, with its gates by depth, and with no more outputs than memory holds.

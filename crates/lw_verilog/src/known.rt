@@ -2,9 +2,9 @@
 ghost use Rattle.std.specs.Prelude.{◌≡◌, ◌<◌, ◌≤◌, ◌+◌, ℕ, false, drop, take, length, map, slice_index_or};
 ghost use Rattle.std.specs.Str.{bytes_eq};
 ghost use Rattle.lw_netlist.specs.Closing.{is_among};
-ghost use Rattle.lw_mapped.specs.Texts.{port_name};
 ghost use Rattle.lw_verilog.specs.Chains.{AreChains, AreKnown, bucket_of, name_at};
 ghost use Rattle.lw_verilog.specs.Windows.{Raises};
+ghost use Rattle.lw_netlist.specs.Plain.{port_name};
 
 use lw_netlist::Port;
 use lw_pool::Name;

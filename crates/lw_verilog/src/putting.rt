@@ -3,9 +3,10 @@ ghost use Rattle.std.specs.Prelude.{◌≡◌, ◌<◌, ◌≤◌, ◌∷◌, �
 ghost use Rattle.std.specs.List.{flat_map, list_any};
 ghost use Rattle.std.specs.Str.{bytes_eq};
 ghost use Rattle.lw_netlist.specs.Closing.{is_among};
-ghost use Rattle.lw_mapped.specs.Texts.{net_name, port_name};
+ghost use Rattle.lw_mapped.specs.Texts.{net_name};
 ghost use Rattle.lw_io.specs.Waitings.{Puts};
 ghost use Rattle.lw_verilog.specs.Texts.{escaped, further, joined, declaration, wire_text, tie_text, pins_text, assignment, assignment_text};
+ghost use Rattle.lw_netlist.specs.Plain.{port_name};
 
 use crate::known::Known;
 use lw_io::{Sink, Waiting, put};

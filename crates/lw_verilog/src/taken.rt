@@ -5,9 +5,9 @@ ghost use Rattle.std.specs.List.{list_all, list_any};
 ghost use Rattle.std.specs.Str.{bytes_eq};
 ghost use Rattle.std.specs.Str.Parse.{digits_value};
 ghost use Rattle.lw_netlist.specs.Closing.{is_among};
-ghost use Rattle.lw_mapped.specs.Texts.{port_name};
 ghost use Rattle.lw_verilog.specs.Texts.{begins_u, instance_name, passed};
 ghost use Rattle.lw_verilog.specs.Windows.{AreTaken, Raises};
+ghost use Rattle.lw_netlist.specs.Plain.{port_name};
 
 use crate::putting::is_output;
 use itoa::Buffer;

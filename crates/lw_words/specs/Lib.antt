@@ -3,3 +3,5 @@ pub mod Gathering
 pub mod Lines
 pub mod Reading
 pub mod Standing
+pub mod Texts
+pub mod Words

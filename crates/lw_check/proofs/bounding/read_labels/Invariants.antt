@@ -1,8 +1,8 @@
 use Rattle.std.proofs.Common.{◌≡◌, length, take}
 use Rattle.lw_laws.specs.Choices.{HaveLabels}
 use Rattle.lw_laws.specs.Rounds.{labels_in}
-use Rattle.lw_match.specs.Values.{numbers}
 use Rattle.lw_check.proofs.bounding.read_labels.Given as goal
+use Rattle.lw_pool.specs.Numbers.{numbers}
 
 abbrev pub invariant-loop-k : goal.invariant-loop-k
 invariant-loop-k l = record {

@@ -1,13 +1,13 @@
 use Rattle.std.proofs.Common.{Some, get_or, map, ap, sym, ◌∙◌, arith}
 use Rattle.std.proofs.lemmas.Option.{slice_get_within, slice_get-get_or}
 use Rattle.std.proofs.lemmas.Bool.{true_from_ne_false}
-use Rattle.lw_match.specs.Values.{numbers}
 use Rattle.lw_check.specs.Cases.{claim_of}
 use Rattle.lw_check.specs.Claims.{class_of_net}
 use Rattle.lw_check.specs.Gates.{AreClassesOf}
 use Rattle.lw_check.specs.declared.spans.Span.{Span}
 use Rattle.lw_check.proofs.Matching.{match_by, no_match_by}
 use Rattle.lw_check.proofs.gates.is_match.Goals as goal
+use Rattle.lw_pool.specs.Numbers.{numbers}
 
 pub returns : goal.returns
 returns c =

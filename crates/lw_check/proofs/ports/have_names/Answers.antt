@@ -1,12 +1,12 @@
 use Rattle.std.proofs.Common.{◌≡◌, map, slice_get, refl, sym, ◌∙◌, arith}
 use Rattle.std.proofs.lemmas.List.{length-map}
 use Rattle.lw_pool.specs.declared.id.NetId.{NetId}
-use Rattle.lw_mapped.specs.Texts.{port_name}
 use Rattle.lw_net.specs.Networks.{name_in}
 use Rattle.lw_check.proofs.Naming.{agree, differ, names_differ, names_here}
 use Rattle.lw_check.proofs.Places.{same_lists}
 use Rattle.lw_check.proofs.Timely.{below_next}
 use Rattle.lw_check.proofs.ports.have_names.Goals as goal
+use Rattle.lw_netlist.specs.Plain.{port_name}
 
 pub returns-then-ne : goal.returns-then-ne
 returns-then-ne c =

@@ -1,12 +1,12 @@
 use Rattle.std.proofs.Common.{◌∙◌, None, Some, ap, sym, subst, slice_index_or, arith}
 use Rattle.lw_laws.specs.Flip.{flip}
 use Rattle.lw_laws.proofs.Flips.{xor-one}
-use Rattle.lw_match.specs.Values.{numbers}
 use Rattle.lw_pattern.specs.Nodes.{tree_at}
 use Rattle.lw_pattern.specs.declared.node.PatNode.TheVariants.{Pin, One, Zero, Inv, Nand}
 use Rattle.lw_check.specs.Standing.{StandsAlone}
 use Rattle.lw_check.proofs.Standings.{alone_within, one_alone, pin_alone, zero_alone}
 use Rattle.lw_check.proofs.standing.class_of_node.Goals as goal
+use Rattle.lw_pool.specs.Numbers.{numbers}
 
 pub bounds-classes-operand : goal.bounds-classes-operand
 bounds-classes-operand c = let low = c.requires.kept.each c.args.place (Inv c.in-Inv.operand) c.in-Inv.ensures in omega (arith, low.0)

@@ -1,7 +1,7 @@
 use Rattle.std.proofs.Common.{◌-◌, ap, arith}
-use Rattle.lw_match.specs.Values.{numbers}
 use Rattle.lw_check.proofs.Standings.{last_alone}
 use Rattle.lw_check.proofs.standing.class_of_pattern.Goals as goal
+use Rattle.lw_pool.specs.Numbers.{numbers}
 
 pub returns : goal.returns
 returns c =

@@ -1,7 +1,7 @@
 use Rattle.std.proofs.Common.{◌≡◌, length}
-use Rattle.lw_match.specs.Values.{numbers}
 use Rattle.lw_check.specs.Standing.{AreStanding}
 use Rattle.lw_check.proofs.standing.class_of_pattern.Given as goal
+use Rattle.lw_pool.specs.Numbers.{numbers}
 
 abbrev pub invariant-loop-place : goal.invariant-loop-place
 invariant-loop-place l = record {

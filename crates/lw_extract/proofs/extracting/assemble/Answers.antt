@@ -1,13 +1,13 @@
 use Rattle.std.proofs.Common.{◌∙◌, ◌<◌, length, refl, ap, sym, subst, arith}
 use Rattle.std.proofs.lemmas.List.Elements.{All-map}
 use Rattle.lw_laws.specs.Names.{net_names}
-use Rattle.lw_match.specs.Values.{numbers}
 use Rattle.lw_naming.proofs.ClassNumbers.{classes_below}
 use Rattle.lw_netlist.specs.Netlists.{NetlistParts}
 use Rattle.lw_extract.specs.declared.choosing.Chosen.{Chosen}
 use Rattle.lw_extract.specs.Choosing.{chosen_classes}
 use Rattle.lw_extract.proofs.Assembly.{AreParts, classes_within, few_chosen, patterns_within, roots_have_nets, pins_have_nets, is_netlist, is_over, is_cover}
 use Rattle.lw_extract.proofs.extracting.assemble.Goals as goal
+use Rattle.lw_pool.specs.Numbers.{numbers}
 
 pub gates_of-requires-clause-few : goal.gates_of-requires-clause-few
 gates_of-requires-clause-few c =

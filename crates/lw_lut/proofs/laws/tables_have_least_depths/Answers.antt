@@ -11,9 +11,9 @@ use Rattle.lw_laws.specs.Signals.{sop_at, signals_of}
 use Rattle.lw_pool.specs.declared.id.ClassId.{ClassId}
 use Rattle.lw_pool.specs.declared.id.NetId.{NetId}
 use Rattle.lw_lut.specs.Covers.{tree_of, depth_of, IsLeastDepth}
-use Rattle.lw_lut.specs.Cuts.{numbers}
 use Rattle.lw_lut.specs.Meaning.{HasRoot, IsRootAt}
 use Rattle.lw_lut.proofs.laws.tables_have_least_depths.Goals as goal
+use Rattle.lw_pool.specs.Numbers.{numbers}
 
 -- what follows for each output from what holds of the root and the net at its place
 by_place : (width : ℕ) (from : Network) (g : Graph) (Q : ℕ → NetId → Type 0) (R : Port → NetId → Type 0) → ((p : Port) (s : NetId) → p.net < from.inputs + length from.nodes → Q (root_class width from g p.net) s → R p s) → (outer : List Port) (roots : List ClassId) (nets : List NetId) → AllByRecursion (λ (p : Port). p.net < from.inputs + length from.nodes) outer → numbers roots ≡ root_classes width from g outer → length nets ≡ length roots → ((k : ℕ) (root : ClassId) (s : NetId) → slice_get roots k ≡ Some root → slice_get nets k ≡ Some s → Q root.0 s) → AllZip R outer nets

@@ -1,8 +1,8 @@
 use Rattle.std.proofs.Common.{◌≤◌, ◌∙◌, length, ap, arith}
 use Rattle.std.proofs.lemmas.List.{take_all}
-use Rattle.lw_lut.specs.Cuts.{numbers}
 use Rattle.lw_lut.proofs.TableNets.{numbers_more}
 use Rattle.lw_lut.proofs.making.inputs_of.Goals as goal
+use Rattle.lw_pool.specs.Numbers.{numbers}
 
 pub loop-input-preserved : goal.loop-input-preserved
 loop-input-preserved c =

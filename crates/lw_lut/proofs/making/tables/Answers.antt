@@ -3,7 +3,6 @@ use Rattle.std.proofs.lemmas.List.{length-map}
 use Rattle.lw_laws.specs.Names.{free_names, gate_names}
 use Rattle.lw_pool.specs.declared.id.ClassId.{ClassId}
 use Rattle.lw_lut.specs.Choosing.{AreTables}
-use Rattle.lw_lut.specs.Cuts.{numbers}
 use Rattle.lw_lut.specs.Nets.{table_classes}
 use Rattle.lw_lut.specs.Placed.{HasPlaces, IsPlaced}
 use Rattle.lw_lut.specs.Searches.{IsKnown}
@@ -14,6 +13,7 @@ use Rattle.lw_lut.proofs.PlacedNames.{IsOnce}
 use Rattle.lw_lut.proofs.NetsPlaced.{below_numbers, few_nets}
 use Rattle.lw_lut.proofs.TableNets.{outs_below, net_kept}
 use Rattle.lw_lut.proofs.making.tables.Goals as goal
+use Rattle.lw_pool.specs.Numbers.{numbers}
 
 pub names_of-requires-clause-tables : goal.names_of-requires-clause-tables
 names_of-requires-clause-tables c =

@@ -1,10 +1,10 @@
 use Rattle.std.proofs.Common.{◌∙◌, ◌<◌, ap}
 use Rattle.std.proofs.lemmas.List.Elements.{All-map}
 use Rattle.lw_naming.proofs.ClassNumbers.{classes_below}
-use Rattle.lw_lut.specs.Cuts.{numbers}
 use Rattle.lw_lut.specs.Nets.{table_classes}
 use Rattle.lw_lut.specs.declared.table.Table.{Table}
 use Rattle.lw_lut.proofs.naming.names_of.Goals as goal
+use Rattle.lw_pool.specs.Numbers.{numbers}
 
 pub gate_names-requires-clause-gates : goal.gate_names-requires-clause-gates
 gate_names-requires-clause-gates c =

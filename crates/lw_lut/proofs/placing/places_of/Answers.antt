@@ -3,11 +3,11 @@ use Rattle.std.proofs.lemmas.List.{length-set}
 use Rattle.std.proofs.lemmas.List.Elements.{All-get_or}
 use Rattle.std.proofs.lemmas.Option.{slice_get_within}
 use Rattle.lw_pool.specs.declared.id.ClassId.{ClassId}
-use Rattle.lw_lut.specs.Cuts.{numbers}
 use Rattle.lw_lut.specs.Nets.{table_classes}
 use Rattle.lw_lut.specs.declared.table.Table.{Table}
 use Rattle.lw_lut.proofs.PlacedNames.{HasPlacesTo, class_count, input_at, table_at, placed_more}
 use Rattle.lw_lut.proofs.placing.places_of.Goals as goal
+use Rattle.lw_pool.specs.Numbers.{numbers}
 
 pub loop-input-preserved : goal.loop-input-preserved
 loop-input-preserved c =

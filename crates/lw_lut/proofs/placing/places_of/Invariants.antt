@@ -1,8 +1,8 @@
 use Rattle.std.proofs.Common.{◌≡◌, ◌+◌, ◌++◌, length}
-use Rattle.lw_lut.specs.Cuts.{numbers}
 use Rattle.lw_lut.specs.Nets.{table_classes}
 use Rattle.lw_lut.proofs.PlacedNames.{HasPlacesTo}
 use Rattle.lw_lut.proofs.placing.places_of.Given as goal
+use Rattle.lw_pool.specs.Numbers.{numbers}
 
 abbrev pub invariant-loop-input : goal.invariant-loop-input
 invariant-loop-input l = record {

@@ -1,8 +1,9 @@
 use Rattle.std.proofs.Common.{◌<◌, ◌≤◌, ◌≡◌, ◌-◌, ◌^◌, ◌∙◌, length, ap, ap₂, subst, sym, arith}
-use Rattle.lw_lut.specs.Cuts.{numbers, spelled, is_set, turned}
+use Rattle.lw_lut.specs.Cuts.{spelled, is_set, turned}
 use Rattle.lw_lut.specs.Tables.{table_value, given}
 use Rattle.lw_lut.proofs.Bits.{packed_fits, packed_before}
 use Rattle.lw_lut.proofs.table.bits_over.Goals as goal
+use Rattle.lw_pool.specs.Numbers.{numbers}
 
 pub appended-bits-requires : goal.appended-bits-requires
 appended-bits-requires c =

@@ -1,10 +1,11 @@
 use Rattle.std.proofs.Common.{◌∙◌, take, ap, arith}
 use Rattle.lw_pool.specs.declared.id.ClassId.{ClassId}
-use Rattle.lw_lut.specs.Cuts.{numbers, spelled}
+use Rattle.lw_lut.specs.Cuts.{spelled}
 use Rattle.lw_lut.specs.Tables.{given}
 use Rattle.lw_lut.proofs.Fanins.{spelled_more, spelled_fits}
 use Rattle.std.proofs.lemmas.List.{take_all, length-take}
 use Rattle.lw_lut.proofs.table.spelled.Goals as goal
+use Rattle.lw_pool.specs.Numbers.{numbers}
 
 abbrev zero_class : ClassId
 zero_class = record { 0 = 0 }

@@ -2,9 +2,9 @@ use Rattle.std.proofs.Common.{◌∷◌, ◌∙◌, take, ap, subst}
 use Rattle.std.specs.Prelude.{codes}
 use Rattle.lw_io.specs.Waitings.{Puts}
 use Rattle.lw_io.proofs.Putting.{Puts-both}
-use Rattle.lw_lut.specs.Texts.{line}
 use Rattle.lw_lut.specs.declared.ports.TablePorts.{TablePorts}
 use Rattle.lw_lut.proofs.writing.put_header.Goals as goal
+use Rattle.lw_words.specs.Texts.{line}
 
 pub returns : goal.returns
 returns g c =

@@ -6,11 +6,12 @@ use Rattle.lw_io.proofs.Putting.{Puts-both}
 use Rattle.lw_pool.specs.declared.id.ClassId.{ClassId}
 use Rattle.lw_lut.specs.Nets.{net_classes}
 use Rattle.lw_lut.specs.Placed.{HasNets}
-use Rattle.lw_lut.specs.Texts.{latch_line, table_text, wires}
+use Rattle.lw_lut.specs.Texts.{table_text, wires}
 use Rattle.lw_lut.specs.declared.ports.TablePorts.{TablePorts}
 use Rattle.lw_lut.proofs.NetsPlaced.{have_nets, have_roots}
 use Rattle.lw_lut.proofs.Pieces.{header_first}
 use Rattle.lw_lut.proofs.writing.put_text.Goals as goal
+use Rattle.lw_frame.specs.Latches.{latch_line}
 
 pub returns : goal.returns
 returns g c =

@@ -3,10 +3,10 @@ use Rattle.lw_net.specs.Plain as network
 use Rattle.lw_net.proofs.Rise.{in_order}
 use Rattle.lw_lut.specs.Meaning.{IsTableMapping}
 use Rattle.lw_lut.specs.Said.{draft_said}
-use Rattle.lw_map.specs.Mapped.{ports_of}
 use Rattle.lw_map.proofs.PortNames.{has_ports, port_names}
 use Rattle.lw_map.proofs.TableTexts.{names_few, ports_are, tables_sayable}
 use Rattle.lw_map.proofs.laws.tabled_texts_are_mappings.Goals as goal
+use Rattle.lw_net.specs.Ports.{ports_of}
 
 pub returns : goal.returns
 returns c = λ options most net frame n wide leaves within kept differ inputs outputs names is.

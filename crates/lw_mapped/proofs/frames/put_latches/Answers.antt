@@ -1,9 +1,9 @@
 use Rattle.std.proofs.Common.{subst}
 use Rattle.lw_pool.specs.declared.latch.Latch.{Latch}
-use Rattle.lw_mapped.specs.Texts.{latch_line}
 use Rattle.lw_io.specs.Waitings.{Puts}
 use Rattle.lw_io.proofs.Putting.{Puts-more}
 use Rattle.lw_mapped.proofs.frames.put_latches.Goals as goal
+use Rattle.lw_frame.specs.Latches.{latch_line}
 
 pub loop-latch-preserved : goal.loop-latch-preserved
 loop-latch-preserved g c =

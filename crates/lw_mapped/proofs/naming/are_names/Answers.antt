@@ -1,7 +1,7 @@
 use Rattle.std.proofs.Common.{sym, ◌∙◌}
-use Rattle.lw_mapped.specs.GateLines.{is_name}
 use Rattle.lw_mapped.proofs.WordLists.{list_all-get}
 use Rattle.lw_mapped.proofs.naming.are_names.Goals as goal
+use Rattle.lw_words.specs.Words.{is_name}
 
 pub returns-then-not-is_name : goal.returns-then-not-is_name
 returns-then-not-is_name c =

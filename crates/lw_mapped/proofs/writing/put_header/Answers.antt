@@ -1,9 +1,10 @@
 use Rattle.std.proofs.Common.{◌∷◌, ◌∙◌, map, subst}
 use Rattle.std.specs.Prelude.{codes}
-use Rattle.lw_mapped.specs.Texts.{line, port_name}
 use Rattle.lw_io.specs.Waitings.{Puts}
 use Rattle.lw_io.proofs.Putting.{Puts-both}
 use Rattle.lw_mapped.proofs.writing.put_header.Goals as goal
+use Rattle.lw_words.specs.Texts.{line}
+use Rattle.lw_netlist.specs.Plain.{port_name}
 
 pub returns : goal.returns
 returns g c =

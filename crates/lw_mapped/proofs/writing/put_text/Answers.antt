@@ -1,9 +1,10 @@
 use Rattle.std.proofs.Common.{subst}
 use Rattle.std.specs.List.{flat_map}
-use Rattle.lw_mapped.specs.Texts.{arrival_lines, latch_line, gate_text, wire_text}
+use Rattle.lw_mapped.specs.Texts.{arrival_lines, gate_text, wire_text}
 use Rattle.lw_io.specs.Waitings.{Puts}
 use Rattle.lw_io.proofs.Putting.{Puts-both}
 use Rattle.lw_mapped.proofs.writing.put_text.Goals as goal
+use Rattle.lw_frame.specs.Latches.{latch_line}
 
 pub returns : goal.returns
 returns g c =

@@ -1,8 +1,9 @@
 use Rattle.std.proofs.Common.{◌+◌, ◌<◌, ◌≤◌, ◌^◌, ◌++◌, length, length-append, ap, sym, ◌∙◌, subst, arith, ap₂}
 use Rattle.lw_laws.specs.Names.{gate_names}
-use Rattle.lw_naming.specs.Naming.{numbers, still_free}
+use Rattle.lw_naming.specs.Naming.{still_free}
 use Rattle.lw_naming.proofs.FreeNames.{enough_free}
 use Rattle.lw_naming.proofs.naming.push_gate_names.Goals as goal
+use Rattle.lw_pool.specs.Numbers.{numbers}
 
 pub push_each-requires-clause-free : goal.push_each-requires-clause-free
 push_each-requires-clause-free c =

@@ -1,8 +1,8 @@
 use Rattle.std.proofs.Common.{◌≡◌, drop, map}
 use Rattle.lw_laws.specs.Networks.{row_value}
-use Rattle.lw_net.specs.Plain.{values_at}
 use Rattle.lw_net.specs.Signs.{asked}
 use Rattle.lw_net.proofs.eval.row_holds.Given as goal
+use Rattle.lw_pool.specs.Numbers.{values_at}
 
 abbrev pub invariant-loop-i : goal.invariant-loop-i
 invariant-loop-i l =

@@ -1,9 +1,9 @@
 use Rattle.std.proofs.Common.{◌≡◌, drop, map}
 use Rattle.std.specs.List.{list_any}
 use Rattle.lw_laws.specs.Networks.{row_value}
-use Rattle.lw_net.specs.Plain.{values_at}
 use Rattle.lw_net.specs.Signs.{asked}
 use Rattle.lw_net.proofs.eval.some_row_holds.Given as goal
+use Rattle.lw_pool.specs.Numbers.{values_at}
 
 abbrev pub invariant-loop-row : goal.invariant-loop-row
 invariant-loop-row l =

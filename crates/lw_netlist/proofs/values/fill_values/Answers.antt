@@ -3,10 +3,11 @@ use Rattle.std.proofs.lemmas.List.{length-set}
 use Rattle.std.proofs.lemmas.Option.{slice_get_within, slice_get_read}
 use Rattle.lw_genlib.specs.Cells.{cell_value}
 use Rattle.lw_genlib.specs.Tables.{truth_in}
-use Rattle.lw_netlist.specs.Filling.{values_at, gate_value}
+use Rattle.lw_netlist.specs.Filling.{gate_value}
 use Rattle.lw_netlist.proofs.Filling.{IsFilled-more}
 use Rattle.lw_netlist.proofs.NetValues.{values_are_local}
 use Rattle.lw_netlist.proofs.values.fill_values.Goals as goal
+use Rattle.lw_pool.specs.Numbers.{values_at}
 
 pub loop-j-preserved : goal.loop-j-preserved
 loop-j-preserved c = record {

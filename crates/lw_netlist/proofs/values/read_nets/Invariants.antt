@@ -1,6 +1,6 @@
 use Rattle.std.proofs.Common.{◌≡◌, length, take}
-use Rattle.lw_netlist.specs.Filling.{values_at}
 use Rattle.lw_netlist.proofs.values.read_nets.Given as goal
+use Rattle.lw_pool.specs.Numbers.{values_at}
 
 abbrev pub invariant-loop-k : goal.invariant-loop-k
 invariant-loop-k l = record {

@@ -3,11 +3,11 @@ use Rattle.lw_laws.specs.Expressions.{Expr, expr_value}
 use Rattle.lw_laws.specs.Networks.{given}
 use Rattle.lw_genlib.specs.Postfix.{first_expr}
 use Rattle.lw_genlib.specs.Words.{pins_at}
-use Rattle.lw_netlist.specs.Filling.{values_at}
 use Rattle.lw_report.specs.Blocks.{bits_at}
 use Rattle.lw_report.specs.Reading.{words_of}
 use Rattle.lw_report.proofs.SimLemmas.{expr_of_words, first_is}
 use Rattle.lw_report.proofs.gates.cell_word.Goals as goal
+use Rattle.lw_pool.specs.Numbers.{values_at}
 
 pub returns : goal.returns
 returns c = λ k below.

@@ -5,11 +5,12 @@ use Rattle.lw_pool.specs.declared.id.NetId.{NetId}
 use Rattle.lw_genlib.specs.Cells.{cell_value}
 use Rattle.lw_genlib.specs.Tables.{truth_in}
 use Rattle.lw_genlib.specs.Words.{bit}
-use Rattle.lw_netlist.specs.Filling.{values_at, gate_value}
+use Rattle.lw_netlist.specs.Filling.{gate_value}
 use Rattle.lw_netlist.proofs.Filling.{IsFilled, IsFilled-more}
 use Rattle.lw_netlist.proofs.NetValues.{values_are_local}
 use Rattle.lw_report.specs.Blocks.{bits_at}
 use Rattle.lw_report.proofs.gates.fill_gates.Goals as goal
+use Rattle.lw_pool.specs.Numbers.{values_at}
 
 pub loop-j-preserved : goal.loop-j-preserved
 loop-j-preserved c =

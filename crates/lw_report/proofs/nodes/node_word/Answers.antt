@@ -2,12 +2,12 @@ use Rattle.std.proofs.Common.{◌≡◌, ◌<◌, ◌^◌, ℕ, Bool, not, List,
 use Rattle.std.specs.List.{list_any}
 use Rattle.lw_pool.specs.declared.id.NetId.{NetId}
 use Rattle.lw_laws.specs.Networks.{agrees, row_value}
-use Rattle.lw_net.specs.Plain.{values_at}
 use Rattle.lw_net.specs.Signs.{asked}
 use Rattle.lw_genlib.specs.Words.{bit}
 use Rattle.lw_report.specs.Blocks.{bits_at}
 use Rattle.lw_report.proofs.Bits.{bit_not_is}
 use Rattle.lw_report.proofs.nodes.node_word.Goals as goal
+use Rattle.lw_pool.specs.Numbers.{values_at}
 
 pub returns-else-node : goal.returns-else-node
 returns-else-node c = λ k below.

@@ -2,12 +2,12 @@ use Rattle.std.proofs.Common.{◌<◌, ◌&&◌, length, map, ap, arith}
 use Rattle.std.proofs.lemmas.List.Elements.{All-get_or}
 use Rattle.lw_pool.specs.declared.id.NetId.{NetId}
 use Rattle.lw_laws.specs.Networks.{row_value}
-use Rattle.lw_net.specs.Plain.{values_at}
 use Rattle.lw_net.specs.Signs.{asked}
 use Rattle.lw_report.specs.Blocks.{bits_at}
 use Rattle.lw_report.proofs.Bits.{bit_ones}
 use Rattle.lw_report.proofs.SimLemmas.{row_more, row_done}
 use Rattle.lw_report.proofs.nodes.row_word.Goals as goal
+use Rattle.lw_pool.specs.Numbers.{values_at}
 
 pub loop-i-init : goal.loop-i-init
 loop-i-init c = λ k below. ap (λ b. b && row_value (values_at (bits_at k c.args.nets.now) c.args.fanins.now) (map asked c.args.row.now)) (bit_ones k below)

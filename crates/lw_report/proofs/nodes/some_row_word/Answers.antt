@@ -1,11 +1,11 @@
 use Rattle.std.proofs.Common.{◌∙◌, ℕ, List, map, ap}
 use Rattle.std.specs.List.{list_any}
 use Rattle.lw_laws.specs.Networks.{row_value}
-use Rattle.lw_net.specs.Plain.{values_at}
 use Rattle.lw_net.specs.Signs.{asked}
 use Rattle.lw_report.specs.Blocks.{bits_at}
 use Rattle.lw_report.proofs.SimLemmas.{rows_more, rows_done}
 use Rattle.lw_report.proofs.nodes.some_row_word.Goals as goal
+use Rattle.lw_pool.specs.Numbers.{values_at}
 
 pub loop-row-preserved : goal.loop-row-preserved
 loop-row-preserved c = λ k below.

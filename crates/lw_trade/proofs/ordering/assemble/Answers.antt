@@ -3,13 +3,12 @@ use Rattle.std.specs.List.{range_with_len}
 use Rattle.std.specs.List.Sorted.{IsPermutation}
 use Rattle.std.proofs.lemmas.List.FromFn.{length-range_with_len, get_or-range_with_len}
 use Rattle.lw_laws.specs.Names.{net_names}
-use Rattle.lw_naming.specs.Naming.{numbers}
 use Rattle.lw_naming.proofs.NameCount.{name_count}
 use Rattle.lw_netlist.specs.Netlists.{NetlistParts}
 use Rattle.lw_pool.specs.declared.id.CellId.{CellId}
 use Rattle.lw_pool.specs.declared.id.ClassId.{ClassId}
 use Rattle.lw_netlist.specs.declared.gate.Gate.{Gate}
-use Rattle.lw_trade.specs.Traded.{IsTraded, port_name, port_net}
+use Rattle.lw_trade.specs.Traded.{IsTraded, port_net}
 use Rattle.lw_trade.proofs.Assembled.{long, gate_count, least, tied, all_needed, are_by_depth, is_over, gate_kept, nets_placed}
 use Rattle.lw_trade.proofs.Moved.{below_by}
 use Rattle.lw_dag.specs.Graphs.{IsGraph}
@@ -17,6 +16,8 @@ use Rattle.lw_trade.specs.Placed.{ArePlaces, HaveHeights, IsByHeight, placed_gat
 use Rattle.lw_trade.proofs.Places.{order_length, order_low}
 use Rattle.lw_trade.proofs.Walked.{roots_low, walk_graph, walk_high}
 use Rattle.lw_trade.proofs.ordering.assemble.Goals as goal
+use Rattle.lw_pool.specs.Numbers.{numbers}
+use Rattle.lw_netlist.specs.Plain.{port_name}
 
 -- The facts of the calls, of the walk's own lists.
 

@@ -1,9 +1,9 @@
 use Rattle.std.proofs.Common.{◌+◌, ◌++◌, ◌∷◌, [], ap, sym, ◌∙◌}
 use Rattle.std.proofs.lemmas.List.{map-append}
-use Rattle.lw_naming.specs.Naming.{numbers}
 use Rattle.lw_pool.specs.declared.id.ClassId.{ClassId}
 use Rattle.lw_trade.proofs.Places.{range_more}
 use Rattle.lw_trade.proofs.ordering.classes_of_gates.Goals as goal
+use Rattle.lw_pool.specs.Numbers.{numbers}
 
 pub loop-gate-preserved : goal.loop-gate-preserved
 loop-gate-preserved c =

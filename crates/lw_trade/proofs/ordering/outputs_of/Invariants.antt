@@ -1,7 +1,8 @@
 use Rattle.std.proofs.Common.{◌≡◌, map, take}
 use Rattle.lw_trade.specs.Placed.{placed_net}
-use Rattle.lw_trade.specs.Traded.{port_name, port_net}
+use Rattle.lw_trade.specs.Traded.{port_net}
 use Rattle.lw_trade.proofs.ordering.outputs_of.Given as goal
+use Rattle.lw_netlist.specs.Plain.{port_name}
 
 abbrev pub invariant-loop-k : goal.invariant-loop-k
 invariant-loop-k l = record {

@@ -1,8 +1,8 @@
 use Rattle.std.proofs.Common.{◌≤◌, Some, drop, length, map}
 use Rattle.lw_genlib.specs.Tables.{millionths}
-use Rattle.lw_match.specs.Values.{numbers}
 use Rattle.lw_trade.specs.Pricing.{IsBestOfPins}
 use Rattle.lw_trade.proofs.pricing.area_of_pins.Given as goal
+use Rattle.lw_pool.specs.Numbers.{numbers}
 
 abbrev pub invariant-loop-pin : goal.invariant-loop-pin
 invariant-loop-pin l = record {

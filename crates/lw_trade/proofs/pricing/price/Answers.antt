@@ -2,7 +2,6 @@ use Rattle.std.proofs.Common.{◌<◌, ◌∙◌, Some, None, length, map, sym, 
 use Rattle.std.proofs.lemmas.List.{length-map}
 use Rattle.lw_pool.specs.declared.id.ClassId.{ClassId}
 use Rattle.lw_genlib.specs.Tables.{millionths}
-use Rattle.lw_match.specs.Values.{numbers}
 use Rattle.lw_trade.specs.declared.choices.Stand.{Stand}
 use Rattle.lw_trade.specs.Points.{task}
 use Rattle.lw_trade.specs.Pricing.{IsBestOfPins, IsOfLibrary, IsWithin}
@@ -11,6 +10,7 @@ use Rattle.lw_trade.specs.Settling.{IsBest}
 use Rattle.lw_trade.proofs.Cells.{area_is, delays_are, pins_are}
 use Rattle.lw_trade.proofs.Prices.{gate_none, gate_some, within_pins}
 use Rattle.lw_trade.proofs.pricing.price.Goals as goal
+use Rattle.lw_pool.specs.Numbers.{numbers}
 
 pub area_of_pins-requires-clause-one_each : goal.area_of_pins-requires-clause-one_each
 area_of_pins-requires-clause-one_each c =

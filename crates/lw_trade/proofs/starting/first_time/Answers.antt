@@ -1,10 +1,10 @@
 use Rattle.std.proofs.Common.{◌∙◌, [], sym, ap, subst, true≢false}
-use Rattle.lw_match.specs.Values.{numbers}
 use Rattle.lw_trade.specs.declared.choices.Stand.{Stand}
 use Rattle.lw_trade.specs.Rows.{plain_part}
 use Rattle.lw_trade.specs.Settling.{Gives}
 use Rattle.lw_trade.proofs.Starts.{pinless_first, pins_first, numbers_none}
 use Rattle.lw_trade.proofs.starting.first_time.Goals as goal
+use Rattle.lw_pool.specs.Numbers.{numbers}
 
 pub returns-then-is_empty : goal.returns-then-is_empty
 returns-then-is_empty c s t a e gives =

@@ -3,7 +3,6 @@ use Rattle.std.specs.List.{AllByRecursion}
 use Rattle.std.proofs.lemmas.List.{length-map}
 use Rattle.lw_pool.specs.declared.id.ClassId.{ClassId}
 use Rattle.lw_genlib.specs.Tables.{millionths}
-use Rattle.lw_match.specs.Values.{numbers}
 use Rattle.lw_trade.specs.declared.choices.Stand.{Stand}
 use Rattle.lw_trade.specs.Choices.Part.{gate}
 use Rattle.lw_trade.specs.Points.{task}
@@ -13,6 +12,7 @@ use Rattle.lw_trade.proofs.Cells.{delays_are, pins_are}
 use Rattle.lw_trade.proofs.Prices.{within_pins}
 use Rattle.lw_trade.proofs.Using.{choice_used, first_behind, first_used, groups_first, input_used}
 use Rattle.lw_trade.proofs.uses.add_choice.Goals as goal
+use Rattle.lw_pool.specs.Numbers.{numbers}
 
 pub add_pins-requires-clause-are : goal.add_pins-requires-clause-are
 add_pins-requires-clause-are c = groups_first c.args.uses.now c.add_first.new.uses c.in_ok-add_first.ensures.added c.requires.are

@@ -2,11 +2,11 @@ use Rattle.std.proofs.Common.{◌≡◌, ◌∙◌, Some, length, slice_get, sli
 use Rattle.std.proofs.lemmas.Option.{slice_get-map}
 use Rattle.lw_pool.specs.declared.id.ClassId.{ClassId}
 use Rattle.lw_fixed.specs.declared.micro.Micro.{Micro}
-use Rattle.lw_match.specs.Values.{numbers}
 use Rattle.lw_trade.specs.Uses.{IsPinAdded}
 use Rattle.lw_trade.proofs.Lists.{got}
 use Rattle.lw_trade.proofs.Using.{pin_used, delay_read}
 use Rattle.lw_trade.proofs.uses.add_pins.Goals as goal
+use Rattle.lw_pool.specs.Numbers.{numbers}
 
 pub loop-pin-preserved : goal.loop-pin-preserved
 loop-pin-preserved c = record {

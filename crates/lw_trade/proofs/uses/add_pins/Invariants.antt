@@ -1,12 +1,12 @@
 use Rattle.std.proofs.Common.{◌≡◌, ◌+◌, ℕ, List, Some, length, map, slice_get}
 use Rattle.lw_genlib.specs.Tables.{millionths}
 use Rattle.lw_laws.specs.Covers.{delays_of}
-use Rattle.lw_match.specs.Values.{numbers}
 use Rattle.lw_trade.specs.Choices.{Choice}
 use Rattle.lw_trade.specs.Choices.Part.{gate}
 use Rattle.lw_trade.specs.Points.{Task, timing}
 use Rattle.lw_trade.specs.Uses.{AreGroups, AreUsesTo}
 use Rattle.lw_trade.proofs.uses.add_pins.Given as goal
+use Rattle.lw_pool.specs.Numbers.{numbers}
 
 abbrev pub invariant-loop-pin : goal.invariant-loop-pin
 invariant-loop-pin l = record {

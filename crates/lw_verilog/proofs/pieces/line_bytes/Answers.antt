@@ -1,9 +1,9 @@
 use Rattle.std.proofs.Common.{◌≤◌, length, ap, sym, subst, ◌∙◌}
 use Rattle.std.specs.Prelude.{unwrap_or}
 use Rattle.std.proofs.lemmas.List.Sums.{prefix_len-le-length}
-use Rattle.lw_verilog.specs.Pieces.{is_line_feed}
 use Rattle.lw_verilog.proofs.Runs.{position_or_length}
 use Rattle.lw_verilog.proofs.pieces.line_bytes.Goals as goal
+use Rattle.lw_words.specs.Lines.{is_line_feed}
 
 pub returns-clause-count : goal.returns-clause-count
 returns-clause-count c = c.unwrap_or.ensures ∙ (ap (λ o. unwrap_or o (length c.args.bytes.now)) c.line_bytes_end.ensures ∙ position_or_length (is_line_feed) c.args.bytes.now)

@@ -2,9 +2,9 @@ use Rattle.std.proofs.Common.{◌∷◌, ap, ◌∙◌, arith}
 use Rattle.lw_netlist.specs.declared.gate.Port.{Port}
 use Rattle.lw_io.proofs.Putting.{Puts-more}
 use Rattle.lw_verilog.proofs.PutParts.{Puts-is, all-put}
-use Rattle.lw_mapped.specs.Texts.{port_name}
 use Rattle.lw_verilog.specs.Texts.{escaped}
 use Rattle.lw_verilog.proofs.putting.put_further_ports.Goals as goal
+use Rattle.lw_netlist.specs.Plain.{port_name}
 
 pub loop-port-preserved : goal.loop-port-preserved
 loop-port-preserved g c =

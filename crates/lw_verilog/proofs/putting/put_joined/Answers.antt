@@ -1,9 +1,9 @@
 use Rattle.std.proofs.Common.{◌++◌, map, ap, sym, ◌∙◌}
 use Rattle.lw_io.proofs.Putting.{Puts-both}
-use Rattle.lw_mapped.specs.Texts.{port_name}
 use Rattle.lw_verilog.specs.Texts.{joined}
 use Rattle.lw_verilog.proofs.PutParts.{Puts-is, joined-both}
 use Rattle.lw_verilog.proofs.putting.put_joined.Goals as goal
+use Rattle.lw_netlist.specs.Plain.{port_name}
 
 pub returns-in-Some : goal.returns-in-Some
 returns-in-Some g c =

@@ -2,10 +2,10 @@ use Rattle.std.proofs.Common.{[], map, cond, codes, ap, ap₂, sym, ◌∙◌}
 use Rattle.lw_io.proofs.Putting.{Puts-more}
 use Rattle.lw_netlist.specs.Closing.{is_among}
 use Rattle.lw_mapped.proofs.TextParts.{get_or-any}
-use Rattle.lw_mapped.specs.Texts.{port_name}
 use Rattle.lw_verilog.specs.Texts.{declaration, wire_text}
 use Rattle.lw_verilog.proofs.PutParts.{Puts-is}
 use Rattle.lw_verilog.proofs.putting.put_wires.Goals as goal
+use Rattle.lw_netlist.specs.Plain.{port_name}
 
 pub loop-place-preserved : goal.loop-place-preserved
 loop-place-preserved g c =

@@ -1,10 +1,10 @@
 use Rattle.std.proofs.Common.{map, take}
 use Rattle.std.specs.List.{flat_map}
 use Rattle.lw_io.specs.Waitings.{Puts}
-use Rattle.lw_mapped.specs.Texts.{port_name}
 use Rattle.lw_verilog.specs.Chains.{AreKnown}
 use Rattle.lw_verilog.specs.Texts.{wire_text}
 use Rattle.lw_verilog.proofs.putting.put_wires.Given as goal
+use Rattle.lw_netlist.specs.Plain.{port_name}
 
 abbrev pub invariant-loop-place : goal.invariant-loop-place
 invariant-loop-place g l = record {

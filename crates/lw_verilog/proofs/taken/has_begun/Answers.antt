@@ -1,10 +1,10 @@
 use Rattle.std.proofs.Common.{◌||◌, map, ap, sym, ◌∙◌}
 use Rattle.std.specs.List.{list_any}
 use Rattle.std.proofs.lemmas.List.Folds.{list_any-append}
-use Rattle.lw_mapped.specs.Texts.{port_name}
 use Rattle.lw_verilog.specs.Texts.{begins_u}
 use Rattle.lw_verilog.proofs.PutParts.{list_any-map}
 use Rattle.lw_verilog.proofs.taken.has_begun.Goals as goal
+use Rattle.lw_netlist.specs.Plain.{port_name}
 
 pub returns-else-is_begun : goal.returns-else-is_begun
 returns-else-is_begun c =

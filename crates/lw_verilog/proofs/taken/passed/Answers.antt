@@ -1,8 +1,8 @@
 use Rattle.std.proofs.Common.{◌≡◌, ◌+◌, ◌-◌, ◌++◌, map, ap, sym, ◌∙◌, arith}
-use Rattle.lw_mapped.specs.Texts.{port_name}
 use Rattle.lw_verilog.specs.Texts.{passed}
 use Rattle.lw_verilog.proofs.PutParts.{passed-free, passed-over, passed-step}
 use Rattle.lw_verilog.proofs.taken.passed.Goals as goal
+use Rattle.lw_netlist.specs.Plain.{port_name}
 
 pub returns-then-not-is_taken-clause-passed : goal.returns-then-not-is_taken-clause-passed
 returns-then-not-is_taken-clause-passed c =

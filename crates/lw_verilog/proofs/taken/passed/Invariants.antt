@@ -1,8 +1,8 @@
 use Rattle.std.proofs.Common.{◌≡◌, ◌+◌, ◌-◌, ◌++◌, map}
-use Rattle.lw_mapped.specs.Texts.{port_name}
 use Rattle.lw_verilog.specs.Texts.{passed}
 use Rattle.lw_verilog.specs.Windows.{AreTaken}
 use Rattle.lw_verilog.proofs.taken.passed.Given as goal
+use Rattle.lw_netlist.specs.Plain.{port_name}
 
 abbrev pub invariant-loop-count : goal.invariant-loop-count
 invariant-loop-count l = record {

@@ -1,7 +1,7 @@
 use Rattle.std.proofs.Common.{◌++◌, map, sym, ◌∙◌}
-use Rattle.lw_mapped.specs.Texts.{port_name}
 use Rattle.lw_verilog.proofs.PutParts.{none-passed}
 use Rattle.lw_verilog.proofs.taken.skipped.Goals as goal
+use Rattle.lw_netlist.specs.Plain.{port_name}
 
 pub returns-then-not-begun-clause-skipped : goal.returns-then-not-begun-clause-skipped
 returns-then-not-begun-clause-skipped c = sym (none-passed (c.args.names.now ++ map port_name c.args.outputs.now) c.args.most c.args.number (sym c.requires.begun ∙ c.if-not-begun.true))

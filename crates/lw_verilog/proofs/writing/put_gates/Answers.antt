@@ -1,10 +1,10 @@
 use Rattle.std.proofs.Common.{◌≡◌, ◌≤◌, ◌+◌, ◌++◌, [], length, map, ap, sym, ◌∙◌, subst, arith, length-append, append-nil}
 use Rattle.std.proofs.lemmas.List.{length-map}
 use Rattle.lw_io.proofs.Putting.{Puts-none}
-use Rattle.lw_mapped.specs.Texts.{port_name}
 use Rattle.lw_verilog.specs.Texts.{gates_text}
 use Rattle.lw_verilog.proofs.PutParts.{Puts-is, gate-put, gates-end, passed-le}
 use Rattle.lw_verilog.proofs.writing.put_gates.Goals as goal
+use Rattle.lw_netlist.specs.Plain.{port_name}
 
 pub loop-gate-init : goal.loop-gate-init
 loop-gate-init g c =

@@ -1,8 +1,8 @@
 use Rattle.std.proofs.Common.{◌++◌, map}
-use Rattle.lw_mapped.specs.Texts.{port_name}
 use Rattle.lw_verilog.specs.Windows.{AreTaken}
 use Rattle.lw_verilog.proofs.PutParts.{GatesPut}
 use Rattle.lw_verilog.proofs.writing.put_gates.Given as goal
+use Rattle.lw_netlist.specs.Plain.{port_name}
 
 abbrev pub invariant-loop-gate : goal.invariant-loop-gate
 invariant-loop-gate g l = record {

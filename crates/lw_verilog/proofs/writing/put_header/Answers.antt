@@ -1,9 +1,9 @@
 use Rattle.std.proofs.Common.{◌++◌, map, ap, ap₂, ◌∙◌}
 use Rattle.lw_io.proofs.Putting.{Puts-both}
-use Rattle.lw_mapped.specs.Texts.{port_name}
 use Rattle.lw_verilog.specs.Texts.{escaped, joined}
 use Rattle.lw_verilog.proofs.PutParts.{Puts-is}
 use Rattle.lw_verilog.proofs.writing.put_header.Goals as goal
+use Rattle.lw_netlist.specs.Plain.{port_name}
 
 pub returns : goal.returns
 returns g c =

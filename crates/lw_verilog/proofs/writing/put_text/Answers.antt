@@ -1,10 +1,11 @@
 use Rattle.std.proofs.Common.{◌++◌, All, length, map, ap, ap₂, sym, ◌∙◌, subst, codes}
 use Rattle.std.specs.List.{flat_map}
 use Rattle.lw_io.proofs.Putting.{Puts-both}
-use Rattle.lw_mapped.specs.Texts.{port_name, names_of_outputs, HasNames}
+use Rattle.lw_mapped.specs.Texts.{names_of_outputs, HasNames}
 use Rattle.lw_verilog.specs.Texts.{assignment_text, declaration, gates_text, wire_text}
 use Rattle.lw_verilog.proofs.PutParts.{Puts-is, gates-named}
 use Rattle.lw_verilog.proofs.writing.put_text.Goals as goal
+use Rattle.lw_netlist.specs.Plain.{port_name}
 
 pub put_gates-requires-clause-named : goal.put_gates-requires-clause-named
 put_gates-requires-clause-named g c =

@@ -2,10 +2,11 @@ use Rattle.std.proofs.Common.{◌≡◌, ◌++◌, ◌∷◌, [], true, false, n
 use Rattle.lw_words.specs.Lines.{LogicalLine}
 use Rattle.lw_blif.specs.declared.fault.BlifFault.{BlifFault}
 use Rattle.lw_blif.specs.Commands.{command_of}
-use Rattle.lw_blif.specs.LineFaults.{command, first_word, first_fault, lines_read, ends}
+use Rattle.lw_blif.specs.LineFaults.{command, first_fault, lines_read, ends}
 use Rattle.lw_blif.specs.Standing.{Tells}
 use Rattle.lw_blif.proofs.StandingFor.{stands-stopped, tells-stopped, answer-ended, stands-ended, is-open, answer-end, stands-end, answer-read, stands-read, stands-broken, some-more}
 use Rattle.lw_blif.proofs.reader.Reader.line.Goals as goal
+use Rattle.lw_words.specs.Words.{first_word}
 
 pub returns-in-Some-clause-stands : goal.returns-in-Some-clause-stands
 returns-in-Some-clause-stands c = λ lines h. stands-stopped _ _ _ _ c.in-Some.stop lines c.args.line.now c.in-Some.is h

@@ -2,12 +2,12 @@ use Rattle.std.proofs.Common.{◌≡◌, ◌++◌, ◌∷◌, [], true, false, n
 use Rattle.lw_words.specs.Lines.{LogicalLine}
 use Rattle.lw_mapped.specs.declared.fault.MappedFault.{MappedFault}
 use Rattle.lw_mapped.specs.Commands.{command_of}
-use Rattle.lw_mapped.specs.Sayings.{first_word}
 use Rattle.lw_mapped.specs.LineFaults.{command, first_fault, lines_read, ends}
 use Rattle.lw_mapped.specs.Standing.{Tells}
 use Rattle.lw_mapped.proofs.WordLists.{first-get}
 use Rattle.lw_mapped.proofs.StandingFor.{stands-stopped, tells-stopped, answer-ended, stands-ended, is-open, answer-end, stands-end, answer-read, stands-read, stands-refused, answer-refused}
 use Rattle.lw_mapped.proofs.reader.MappedReader.line.Goals as goal
+use Rattle.lw_words.specs.Words.{first_word}
 
 pub returns-in-Some-clause-stands : goal.returns-in-Some-clause-stands
 returns-in-Some-clause-stands c = λ lines h. stands-stopped c.args.lib.now _ _ _ _ c.in-Some.stop lines c.args.line.now c.in-Some.is h

@@ -1,7 +1,7 @@
 use Rattle.std.proofs.Common.{map, ap, ◌∙◌}
 use Rattle.lw_netlist.specs.Closing.{is_among}
-use Rattle.lw_mapped.specs.Texts.{port_name}
 use Rattle.lw_verilog.proofs.known.Known.move_to.Goals as goal
+use Rattle.lw_netlist.specs.Plain.{port_name}
 
 pub returns-clause-stands : goal.returns-clause-stands
 returns-clause-stands c = record {
