@@ -10,7 +10,7 @@ use Rattle.lw_laws.specs.Signals.{Signal, signal_of_node, signals_after, input_s
 use Rattle.lw_laws.specs.Occurring.{occurring_forms, HasInputsFirst}
 use Rattle.lw_laws.specs.Decompositions.{Listing, listing_of, IsListedAt, Occurs, base_form}
 use Rattle.lw_laws.specs.Listings.{IsListing, AreDistinct, AreOperands, sign_of}
-use Rattle.lw_laws.specs.Numbering.{place, number, numbered, numbered_base, sop_number, fac_number, IsNumber}
+use Rattle.lw_laws.specs.Numbering.{place, number, numbered, numbered_base, sop_number, fac_number}
 use Rattle.lw_laws.specs.NumberedForms.{Base, NumberedForms, AreNumberedForms}
 use Rattle.lw_laws.specs.NumberedForms.Base.{base_true, base_input, base_and}
 use Rattle.lw_laws.specs.SignalValues.{number_value, SignalsAgree}
@@ -26,6 +26,7 @@ use Rattle.lw_laws.proofs.NetValues.{sops_are_values}
 use Rattle.lw_laws.proofs.Sublists.{or_false}
 use Rattle.lw_form.specs.Kept.{HaveValues, AreApart, AreAndOperands, AreInOrder, AreNets, AreForms}
 use Rattle.lw_form.specs.Limits.{most_bases, most_operands}
+use Rattle.lw_laws.proofs.Words.{IsNumber}
 
 -- a form is determined by its base form and its sign
 form_decided : (f h : Form) → sign_of (base_form f) ≡ 0 → base_form f ≡ base_form h → (f ≡ h) ⊎ (h ≡ complement f)

@@ -10,7 +10,7 @@ use Rattle.lw_laws.specs.Decompositions.{Listing, IsListedAt, base_form}
 use Rattle.lw_laws.specs.Forms.{Form, FormList, items, and_of}
 use Rattle.lw_laws.specs.Forms.Form.{var_form, true_form, not_form, and_form}
 use Rattle.lw_laws.specs.Listings.{IsListing, IsListedBefore, sign_of}
-use Rattle.lw_laws.specs.Numbering.{number, numbered_base, IsNumber}
+use Rattle.lw_laws.specs.Numbering.{number, numbered_base}
 use Rattle.lw_laws.specs.NumberedForms as laws
 use Rattle.lw_laws.specs.NumberedForms.Base.{base_true, base_input, base_and}
 use Rattle.lw_laws.specs.SignalValues.{form_of}
@@ -27,6 +27,7 @@ use Rattle.lw_form.specs.Renumbered.{renumber, ArePlaced, IsBaseOf, AreOfListing
 use Rattle.lw_form.specs.Tables.{AreBelow, forms_at, spelled, AreMade}
 use Rattle.lw_form.proofs.Tables.{form_sign, form_base}
 use Rattle.lw_form.proofs.KeptForms.{once_kept}
+use Rattle.lw_laws.proofs.Words.{IsNumber}
 
 -- a list of numbers, one after the other
 pub placed_at : (places ids : List ℕ) (i : ℕ) → i < length ids → ArePlaced places ids → place_of places (get_or ids i 0 / 2) < 2 ^ 31

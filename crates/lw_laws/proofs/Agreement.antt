@@ -17,7 +17,7 @@ use Rattle.lw_laws.specs.Signals.{Signal}
 use Rattle.lw_laws.specs.Decompositions.{Listing, Occurs, base_form, AreParts, AreOfOneSignal, HasTree}
 use Rattle.lw_laws.specs.Decompositions.AreParts.{parts_none, parts_left, parts_right}
 use Rattle.lw_laws.specs.Decompositions.HasTree.{input_law, true_law, false_law, inverter_law, split_law, sharing_law, factoring_law, overlap_law, tied_inverter_law}
-use Rattle.lw_laws.specs.Numbering.{number, numbered_base, sop_number, fac_number, numbered, IsNumber, HasSameTrees}
+use Rattle.lw_laws.specs.Numbering.{number, numbered_base, sop_number, fac_number, numbered, HasSameTrees}
 use Rattle.lw_laws.specs.Modes.{Mode}
 use Rattle.lw_laws.specs.Listings.{IsListing, IsListedBefore, sign_of, IsSub}
 use Rattle.lw_laws.specs.Classes.{IsNandForm}
@@ -28,6 +28,7 @@ use Rattle.lw_laws.proofs.Sublists.{parts_subs, parts_turned, overlapping_subs, 
 use Rattle.lw_laws.proofs.Numbers.{slice_get_map, slice_get_map_back, number_of, numbers_differ, occurs_complement, occurs_sign, number_complement, occurs_number, number_occurs, numbers_injective, complement_twice, Some_injective}
 use Rattle.lw_laws.proofs.Lists.{slice_get_some}
 use Rattle.lw_laws.proofs.CutParts.{cut_of_parts, covering_of_overlapping, parts_of_cut, overlap_of_covering}
+use Rattle.lw_laws.proofs.Words.{IsNumber}
 
 base_and_injective : (ns ms : List ℕ) → base_and ns ≡ base_and ms → ns ≡ ms
 base_and_injective ns ms e = cc

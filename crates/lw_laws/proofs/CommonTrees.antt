@@ -2,13 +2,13 @@
 use Rattle.std.proofs.Common.{ℕ, ◌↔◌, inl, inr, subst₂}
 use Rattle.lw_laws.specs.Flip.{flip}
 use Rattle.lw_laws.specs.Trees.{Tree, leaf, const_one, const_zero, inv, nand}
-use Rattle.lw_laws.specs.Families.{Family, IsNand, Derives, Equivalent, HaveCommonTree}
+use Rattle.lw_laws.specs.Families.{Family, IsNand, Derives, Equivalent}
 use Rattle.lw_laws.specs.Families.Derives.{by_input, by_top, by_bottom, by_complement, by_split, by_common, by_link}
 use Rattle.lw_laws.specs.Families.Equivalent.{same, turned, joined, flipped, nanded}
-use Rattle.lw_laws.specs.Encodings.{IsFamily}
 use Rattle.lw_laws.proofs.Flips.{flip-flip}
 use Rattle.lw_laws.proofs.Drafts.{AreLinked_equivalent}
 use Rattle.lw_laws.proofs.Encoding.{equivalent_have_common}
+use Rattle.lw_laws.proofs.Words.{IsFamily, HaveCommonTree}
 
 -- an input is one form up to equivalence, and so is true
 pub record AreSingle (F : Family) : Type 0 where

@@ -5,7 +5,8 @@ use Rattle.lw_laws.specs.Forms.{Form, and_of}
 use Rattle.lw_laws.specs.Forms.Form.{var_form, true_form, not_form}
 use Rattle.lw_laws.specs.Signals.{sop_at, signal_of_input, signals_of, sum_of_products, factored}
 use Rattle.lw_laws.specs.Modes.Mode.{plain, idempotent}
-use Rattle.lw_laws.specs.Occurring.{occurring_forms, splits_at, split_count, and_count}
+use Rattle.lw_laws.specs.Occurring.{occurring_forms, splits_at, split_count}
+use Rattle.lw_laws.proofs.Words.{and_count}
 
 abbrev va : Form
 va = var_form 0

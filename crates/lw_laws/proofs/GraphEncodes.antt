@@ -17,7 +17,7 @@ use Rattle.lw_laws.specs.Families.Equivalent.{same}
 use Rattle.lw_laws.specs.NumberedForms.{family_of, NumberOccurs}
 use Rattle.lw_laws.specs.Encodings.{Encodes}
 use Rattle.lw_laws.specs.Drafts.{Draft, facts_of, IsReduced, HaveSameFacts}
-use Rattle.lw_laws.specs.Numbering.{number, numbered_base, IsNumber}
+use Rattle.lw_laws.specs.Numbering.{number, numbered_base}
 use Rattle.lw_laws.specs.Mapped.{forms_of}
 use Rattle.lw_laws.specs.Classes.{class_in, IsGraphOf}
 use Rattle.lw_laws.proofs.Numbers.{number_of, number_once, number_occurs}
@@ -30,6 +30,7 @@ use Rattle.lw_laws.proofs.Drafts.{Encodes-same, IsReduced-encodes}
 use Rattle.lw_laws.proofs.ClassLaws.{split_of_nand, nand_of_split, true_number, input_number, encoding_is_graph}
 use Rattle.lw_laws.proofs.Listed.{occurring_is_listing, true_and_inputs_first}
 use Rattle.lw_laws.proofs.Lists.{slice_get_in}
+use Rattle.lw_laws.proofs.Words.{IsNumber}
 
 module _ (mode : Mode) (width : ℕ) (net : Network) (g : Graph) (wide : 2 ≤ width) (graph_is : IsGraphOf mode net.inputs (listing_of width net) g) where
   abbrev o : Listing

@@ -10,7 +10,7 @@ use Rattle.lw_laws.specs.Decompositions.{Listing, listing_of, Occurs}
 use Rattle.lw_laws.specs.Numbering.{number, numbered}
 use Rattle.lw_laws.specs.Networks.{Network}
 use Rattle.lw_laws.specs.Modes.{Mode}
-use Rattle.lw_laws.specs.Mapped.{IsCertified, IsOutput, forms_of}
+use Rattle.lw_laws.specs.Mapped.{forms_of}
 use Rattle.lw_laws.specs.Listings.{IsListing}
 use Rattle.lw_laws.specs.Laws.{HasTheTrees, ClassesAreSharedTrees, ClassesHaveValue}
 use Rattle.lw_laws.specs.Headline.{HasLeastTime}
@@ -22,6 +22,7 @@ use Rattle.lw_laws.proofs.NumberValues.{trees_have_value}
 use Rattle.lw_laws.proofs.Listed.{occurring_is_listing}
 use Rattle.lw_laws.proofs.FormTruth.{signals_agree}
 use Rattle.lw_laws.proofs.Agreement.{same_trees, number_in, numbered_are_forms}
+use Rattle.lw_laws.proofs.Words.{IsCertified, IsOutput}
 
 pub has_plain_trees : (mode : Mode) (inputs : ℕ) (o : Listing) (g : Graph) → IsListing o → Encodes (family_of mode (numbered inputs o)) g → HasTheTrees mode o g
 has_plain_trees mode inputs o g is encodes f t occ =

@@ -62,3 +62,4 @@ pub mod Sublists
 pub mod Together
 pub mod Truths
 pub mod Unique
+pub mod Words

@@ -14,7 +14,7 @@ use Rattle.lw_laws.specs.Graphs.{Graph, Unfolds}
 use Rattle.lw_laws.specs.Covers.{Timing, start_of, Pattern, HasPins, ArePatterns, tree_of}
 use Rattle.lw_laws.specs.Rounds.{labels_in}
 use Rattle.lw_laws.specs.Netlists.{Netlist, AreOrdered, CellTruth, HasCellTruth, HaveCellTruths, AreNetlistValues, AreArrivals}
-use Rattle.lw_laws.specs.Mapped.{AreNetValues, AreNetArrivals, IsCertified, IsOutput, forms_of, root_class, IsLabelledOver, IsMappedOver, IsRootedAt, AreRooted, IsMapped, IsCoverAt}
+use Rattle.lw_laws.specs.Mapped.{forms_of, root_class, IsLabelledOver, IsMappedOver, IsRootedAt, AreRooted, IsMapped, IsCoverAt}
 use Rattle.lw_laws.specs.Headline.{HasLeastArrival, HasNoCover, Port, Ports, StandsForCover, IsMapping}
 use Rattle.lw_laws.proofs.Numbers.{slice_get_map, occurs_number}
 use Rattle.lw_laws.proofs.Agreement.{number_in, numbered_are_forms, same_trees}
@@ -28,6 +28,7 @@ use Rattle.lw_laws.proofs.Netlists.{net_covered, StandsFor-value, StandsFor-time
 use Rattle.lw_laws.proofs.Headline.{certified_plain_least, has_plain_trees}
 use Rattle.lw_laws.proofs.Together.{certified_value, unlabelled_has_no_cover}
 use Rattle.lw_laws.proofs.Lists.{slice_get_some}
+use Rattle.lw_laws.proofs.Words.{AreNetValues, AreNetArrivals, IsCertified, IsOutput}
 
 -- values and arrivals in lists, as functions
 pub list_values : (truth : CellTruth) (n : Netlist) (x : ℕ → Bool) (ws : List Bool) → AreNetlistValues truth n x ws → AreNetValues truth n x (λ k. slice_index_or ws k false)

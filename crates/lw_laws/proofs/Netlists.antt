@@ -8,10 +8,11 @@ use Rattle.lw_laws.specs.Covers.{Timing, Pattern, ArePatterns, Cover, Covers, tr
 use Rattle.lw_laws.specs.Covers.Cover.{wire, gate}
 use Rattle.lw_laws.specs.Covers.Covers.{no_covers, cover}
 use Rattle.lw_laws.specs.Netlists.{Gate, Netlist, IsGate, AreOrdered, CellTruth, StandsFor, StandForAll, HasCellTruth}
-use Rattle.lw_laws.specs.Mapped.{IsMapped, AreNetValues, AreNetArrivals}
+use Rattle.lw_laws.specs.Mapped.{IsMapped}
 use Rattle.lw_laws.proofs.Truths.{tree_value-planted}
 use Rattle.lw_laws.proofs.Covering.{UnfoldAt, length-UnfoldAt, planted_unfolds}
 use Rattle.lw_laws.proofs.Lists.{slice_get_some}
+use Rattle.lw_laws.proofs.Words.{AreNetValues, AreNetArrivals}
 
 module _ (n : Netlist) (timing : Timing) (arrivals : ℕ → ℕ) (are : AreNetArrivals timing n arrivals) where
   -- the arrival of a net is the time of the cover that it stands for

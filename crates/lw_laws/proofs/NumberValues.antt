@@ -8,7 +8,7 @@ use Rattle.lw_laws.specs.NumberedValues.{base_value, AreNumberedValues}
 use Rattle.lw_laws.specs.Forms.{Form, items, complement, form_value}
 use Rattle.lw_laws.specs.Forms.Form.{var_form, true_form, not_form, and_form}
 use Rattle.lw_laws.specs.Decompositions.{Listing, Occurs, HasTree, base_form}
-use Rattle.lw_laws.specs.Numbering.{number, numbered_base, numbered, IsNumber}
+use Rattle.lw_laws.specs.Numbering.{number, numbered_base, numbered}
 use Rattle.lw_laws.specs.SignalValues.{form_of, number_value, SignalsAgree}
 use Rattle.lw_laws.specs.Modes.{Mode}
 use Rattle.lw_laws.specs.Listings.{IsListing, sign_of}
@@ -18,6 +18,7 @@ use Rattle.lw_laws.proofs.NumberedValues.{form_values_fit}
 use Rattle.lw_laws.proofs.FormTruth.{complement_value, items_value}
 use Rattle.lw_laws.proofs.Numbers.{slice_get_map_back, occurs_number}
 use Rattle.lw_laws.proofs.Agreement.{signal_back, operands_occur, same_trees}
+use Rattle.lw_laws.proofs.Words.{IsNumber}
 
 index_at : {X : Type 0} (xs : List X) (i : ℕ) (x d : X) → slice_get xs i ≡ Some x → slice_index_or xs i d ≡ x
 index_at [] i x d e = cc

@@ -5,10 +5,11 @@ use Rattle.lw_laws.specs.Flip.{flip}
 use Rattle.lw_laws.specs.Forms.{Form, same_form, complement}
 use Rattle.lw_laws.specs.Forms.Form.{var_form, true_form, not_form, and_form}
 use Rattle.lw_laws.specs.Decompositions.{Listing, IsListedAt, Occurs, base_form}
-use Rattle.lw_laws.specs.Numbering.{place, number, IsNumber}
+use Rattle.lw_laws.specs.Numbering.{place, number}
 use Rattle.lw_laws.specs.Listings.{IsListing, sign_of}
 use Rattle.lw_laws.proofs.Flips.{flip_even, flip_odd}
 use Rattle.lw_laws.proofs.Equality.{same_form_refl, same_form_eq}
+use Rattle.lw_laws.proofs.Words.{IsNumber}
 
 pub slice_get_map : {X Y : Type 0} (h : X → Y) (xs : List X) (i : ℕ) (x : X) → slice_get xs i ≡ Some x → slice_get (map h xs) i ≡ Some (h x)
 slice_get_map h [] i x e = cc

@@ -5,15 +5,15 @@ use Rattle.lw_laws.specs.NumberedForms.{NumberedForms, family_of, AreNumberedFor
 use Rattle.lw_laws.specs.Encodings.{Encodes}
 use Rattle.lw_laws.specs.Truth.{IsValuation}
 use Rattle.lw_laws.specs.Costs.{Cost, IsCost, cost_of}
-use Rattle.lw_laws.specs.Choices.{IsLeastCost, IsAttained, AreChoices}
+use Rattle.lw_laws.specs.Choices.{IsLeastCost, IsAttained}
 use Rattle.lw_laws.specs.Covers.{Timing, Pattern, ArePatterns, tree_of}
 use Rattle.lw_laws.specs.Rounds.{labels_in}
 use Rattle.lw_laws.specs.Delays.{delay_cost}
 use Rattle.lw_laws.specs.Netlists.{Netlist, CellTruth, HasCellTruth}
-use Rattle.lw_laws.specs.Laws.{HasNumberedTrees, HasNumberedTruth, BoundsCovers, HasLeastNumberedTime, HasNoNumberedCover}
+use Rattle.lw_laws.specs.Laws.{HasNumberedTrees, HasNumberedTruth, BoundsCovers}
 use Rattle.lw_laws.specs.Modes.{Mode}
 use Rattle.lw_laws.specs.Matches.{choices_of, IsLeastCover}
-use Rattle.lw_laws.specs.Mapped.{IsCertified, IsOutput, AreNetValues, IsPotentialOf}
+use Rattle.lw_laws.specs.Mapped.{IsPotentialOf}
 use Rattle.lw_laws.proofs.NumberedForms.{forms_are_family}
 use Rattle.lw_laws.proofs.Encoding.{Unfolds-Derives, pairs_in_one_class}
 use Rattle.lw_laws.proofs.Truths.{Derives-value}
@@ -22,6 +22,7 @@ use Rattle.lw_laws.proofs.Potentials.{potential_bounds, labels_are_least, IsLeas
 use Rattle.lw_laws.proofs.Netlists.{net_covered, StandsFor-time, StandsFor-value}
 use Rattle.lw_laws.proofs.Delays.{delay_cost_is, cost_of-time}
 use Rattle.lw_laws.proofs.Lists.{slice_get_in}
+use Rattle.lw_laws.proofs.Words.{AreChoices, HasLeastNumberedTime, HasNoNumberedCover, AreNetValues, IsCertified, IsOutput}
 
 pub has_the_trees : (mode : Mode) (forms : NumberedForms) (g : Graph) → AreNumberedForms forms → Encodes (family_of mode forms) g → HasNumberedTrees mode forms g
 has_the_trees mode forms g are encodes f t o =

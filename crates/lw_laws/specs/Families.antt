@@ -40,10 +40,3 @@ pub data Equivalent (F : Family) : ℕ → ℕ → Type 0 where
   linked : {f h : ℕ} → F.IsLink f h → Equivalent F f h
   flipped : {f h : ℕ} → Equivalent F f h → Equivalent F (flip f) (flip h)
   nanded : {f h x y u v : ℕ} → IsNand F f x y → IsNand F h u v → Equivalent F x u → Equivalent F y v → Equivalent F f h
-
-abbrev pub HasSomeTree : Family → ℕ → Type 0
-HasSomeTree F f = (t : Tree) × Derives F f t
-
--- two forms are of one class
-abbrev pub HaveCommonTree : Family → ℕ → ℕ → Type 0
-HaveCommonTree F f h = (t : Tree) × Derives F f t × Derives F h t

@@ -1,5 +1,5 @@
 -- The statements of the laws.
-use Rattle.std.specs.Prelude.{ℕ, ◌%◌, ◌<◌, ◌≤◌, ◌≡◌, ◌↔◌, ◌^◌, List, length, map, slice_get, Option, Some, Bool}
+use Rattle.std.specs.Prelude.{ℕ, ◌%◌, ◌<◌, ◌≤◌, ◌≡◌, ◌↔◌, ◌^◌, List, length, slice_get, Option, Some, Bool}
 use Rattle.std.specs.List.{AllByRecursion}
 use Rattle.lw_laws.specs.Modes.{Mode}
 use Rattle.lw_laws.specs.Trees.{Tree, tree_value}
@@ -8,7 +8,7 @@ use Rattle.lw_laws.specs.Families.{Derives}
 use Rattle.lw_laws.specs.NumberedForms.{NumberedForms, family_of, NumberOccurs}
 use Rattle.lw_laws.specs.Costs.{Cost, IsCost, cost_of}
 use Rattle.lw_laws.specs.Choices.{HasLabelAtMost, IsAttained, Attains}
-use Rattle.lw_laws.specs.Covers.{Timing, Pattern, ArePatterns, Cover, tree_of, IsCover, time_of}
+use Rattle.lw_laws.specs.Covers.{Timing, Pattern, ArePatterns, Cover, tree_of, IsCover}
 use Rattle.lw_laws.specs.Matches.{choices_of}
 use Rattle.lw_laws.specs.Rounds.{labels_in, IsBoundedAt, AreSound}
 use Rattle.lw_laws.specs.HeightRounds.{IsKnown, AreHeightsUpTo}
@@ -34,15 +34,6 @@ HasNumberedTruth mode forms g x value =
 abbrev pub BoundsCovers : Graph → List Pattern → Cost → List (Option ℕ) → Type 0
 BoundsCovers g pats cost labels =
     (k : Cover) (c : ℕ) → IsCover cost.pin_counts pats k → Unfolds g (tree_of k) c → HasLabelAtMost (labels_in labels) c (cost_of cost k)
-
--- the least time of a cover of a tree that the laws derive for the form
-pub record HasLeastNumberedTime (mode : Mode) (forms : NumberedForms) (pats : List Pattern) (timing : Timing) (f d : ℕ) : Type 0 where
-  pub attained : (k : Cover) × IsCover (map length timing.delays) pats k × Derives (family_of mode forms) f (tree_of k) × (time_of timing k ≡ d)
-  pub least : (k : Cover) → IsCover (map length timing.delays) pats k → Derives (family_of mode forms) f (tree_of k) → d ≤ time_of timing k
-
-abbrev pub HasNoNumberedCover : Mode → NumberedForms → List Pattern → Timing → ℕ → Type 0
-HasNoNumberedCover mode forms pats timing f =
-    (k : Cover) → IsCover (map length timing.delays) pats k → Derives (family_of mode forms) f (tree_of k) → ⊥
 
 -- the trees of each form's class are those that the laws give the form
 abbrev pub HasTheTrees : Mode → Listing → Graph → Type 0

@@ -4,9 +4,9 @@ use Rattle.std.specs.List.{AllZip}
 use Rattle.lw_laws.specs.Modes.{Mode}
 use Rattle.lw_laws.specs.Trees.{tree_value}
 use Rattle.lw_laws.specs.Graphs.{Graph, Unfolds, class_of}
-use Rattle.lw_laws.specs.NumberedForms.{NumberedForms, family_of, AreNumberedForms}
+use Rattle.lw_laws.specs.NumberedForms.{NumberedForms, family_of}
 use Rattle.lw_laws.specs.Encodings.{Encodes}
-use Rattle.lw_laws.specs.Covers.{Timing, start_of, Pattern, ArePatterns, Cover, IsCover, tree_of, time_of, latest, delays_of}
+use Rattle.lw_laws.specs.Covers.{Timing, Pattern, ArePatterns, Cover, IsCover, tree_of, time_of}
 use Rattle.lw_laws.specs.Matches.{IsMatchAt, choices_of}
 use Rattle.lw_laws.specs.Choices.{IsPotential}
 use Rattle.lw_laws.specs.Costs.{Cost}
@@ -28,33 +28,6 @@ pub record IsMapped (g : Graph) (pin_counts : List ℕ) (pats : List Pattern) (n
 -- the labels are a potential of the graph's matches
 abbrev pub IsPotentialOf : Graph → List Pattern → Cost → List (Option ℕ) → Type 0
 IsPotentialOf g pats cost labels = IsPotential (choices_of g cost.pin_counts pats) cost (labels_in labels)
-
--- values of nets as a function, right for the inputs' values x
-pub record AreNetValues (truth : CellTruth) (n : Netlist) (x values : ℕ → Bool) : Type 0 where
-  pub inputs : (i : ℕ) → i < n.inputs → values i ≡ x i
-  pub gates : (j : ℕ) (g : Gate) → IsGate n j g → values (n.inputs + j) ≡ truth g.cell (map values g.pins)
-
--- arrivals of nets as a function
-pub record AreNetArrivals (timing : Timing) (n : Netlist) (arrivals : ℕ → ℕ) : Type 0 where
-  pub inputs : (i : ℕ) → i < n.inputs → arrivals i ≡ start_of timing.starts i
-  pub gates : (j : ℕ) (g : Gate) → IsGate n j g → arrivals (n.inputs + j) ≡ latest (delays_of timing.delays g.cell) (map arrivals g.pins)
-
--- what a mapped netlist with labels and classes is over an encoding
-pub record IsCertified (mode : Mode) (forms : NumberedForms) (g : Graph) (pats : List Pattern) (timing : Timing) (cap : ℕ) (labels : List (Option ℕ)) (n : Netlist) (class arrivals : ℕ → ℕ) : Type 0 where
-  pub forms_are : AreNumberedForms forms
-  pub encodes : Encodes (family_of mode forms) g
-  pub few : length g.leaves < 2 ^ 32
-  pub patterns : ArePatterns (map length timing.delays) pats
-  pub potential : IsPotentialOf g pats (delay_cost timing cap) labels
-  pub ordered : AreOrdered n
-  pub mapped : IsMapped g (map length timing.delays) pats n class
-  pub arrivals_are : AreNetArrivals timing n arrivals
-
--- the net is at the form's class, and its arrival is the class's label
-pub record IsOutput (g : Graph) (labels : List (Option ℕ)) (n : Netlist) (class arrivals : ℕ → ℕ) (net f : ℕ) : Type 0 where
-  pub in_range : net < n.inputs + length n.gates
-  pub at_class : class net ≡ class_of g f
-  pub at_label : labels_in labels (class net) ≡ Some (arrivals net)
 
 -- the numbers of the forms of a network
 abbrev pub forms_of : ℕ → Network → NumberedForms

@@ -1,5 +1,5 @@
 -- The occurring forms as numbers: base form b of the list is form 2b, and its complement form 2b + 1.
-use Rattle.std.specs.Prelude.{ℕ, suc, ◌+◌, ◌*◌, ◌≡◌, ◌↔◌, cond, List, [], ◌∷◌, map}
+use Rattle.std.specs.Prelude.{ℕ, suc, ◌+◌, ◌*◌, ◌↔◌, cond, List, [], ◌∷◌, map}
 use Rattle.lw_laws.specs.Trees.{Tree}
 use Rattle.lw_laws.specs.Families.{Derives}
 use Rattle.lw_laws.specs.NumberedForms.{Base, NumberedForms, family_of}
@@ -7,7 +7,7 @@ use Rattle.lw_laws.specs.NumberedForms.Base.{base_true, base_input, base_and}
 use Rattle.lw_laws.specs.Forms.{Form, items, same_form}
 use Rattle.lw_laws.specs.Forms.Form.{var_form, true_form, not_form, and_form}
 use Rattle.lw_laws.specs.Signals.{Signal}
-use Rattle.lw_laws.specs.Decompositions.{Listing, HasTree, IsListedAt, Occurs, base_form}
+use Rattle.lw_laws.specs.Decompositions.{Listing, HasTree, Occurs, base_form}
 use Rattle.lw_laws.specs.Modes.{Mode}
 use Rattle.lw_laws.specs.Listings.{sign_of}
 
@@ -39,10 +39,6 @@ numbered inputs o = record {
   sops = map (sop_number o.bases) o.signals;
   facs = map (fac_number o.bases) o.signals;
 }
-
--- this is the form's number
-abbrev pub IsNumber : List Form → Form → ℕ → Type 0
-IsNumber bases f n = (b : ℕ) × IsListedAt bases b f × (n ≡ 2 * b + sign_of f)
 
 -- the laws over numbers derive for each occurring form the trees that the laws over plain forms give it
 abbrev pub HasSameTrees : Mode → ℕ → Listing → Type 0

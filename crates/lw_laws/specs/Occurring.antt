@@ -69,11 +69,6 @@ abbrev pub split_count : Mode → List Form → ℕ
 split_count mode [] = 0
 split_count mode (f ∷ fs) = splits_at mode f + split_count mode fs
 
-abbrev pub and_count : List Form → ℕ
-and_count [] = 0
-and_count (and_form fs ∷ rest) = 1 + and_count rest
-and_count (_ ∷ rest) = and_count rest
-
 -- true is listed first, then the inputs in order, and no other input
 pub record HasInputsFirst (count : ℕ) (bases : List Form) : Type 0 where
   pub first : slice_get bases 0 ≡ Some true_form

@@ -7,7 +7,7 @@ use Rattle.std.proofs.lemmas.Option.{same_Some, slice_get_within, get_or_from_sl
 use Rattle.lw_graph.specs.Graphs.{IsGraph}
 use Rattle.lw_laws.specs.Graphs.{Graph}
 use Rattle.lw_laws.specs.Costs.{Cost, IsCost}
-use Rattle.lw_laws.specs.Choices.{Choices, AreChoices, HasCost, HaveCosts, IsLeastCost, Labels, IsPotential, IsAttained, Attains, IsInputClass, IsHeight, AreHeights}
+use Rattle.lw_laws.specs.Choices.{Choices, HasCost, HaveCosts, IsLeastCost, Labels, IsPotential, IsAttained, Attains, IsInputClass, IsHeight, AreHeights}
 use Rattle.lw_laws.specs.Choices.HasCost.{by_wire, by_gate}
 use Rattle.lw_laws.specs.Choices.HaveCosts.{no_pins, pin}
 use Rattle.lw_laws.specs.Marks.{Mark as PlainMark, Marks, HaveMarks, IsMarkAtMost, leaf_mark, price, costs_in, greatest_height, heights_of}
@@ -25,6 +25,7 @@ use Rattle.lw_settle.specs.Settled.{choices_among, AreSettledMarks, HaveLeafCost
 use Rattle.lw_settle.specs.Settling.{HasAtMost, IsReading, IsSettling, AreInputsOffered, Stage, first_stage, untaken, used, zeros, pin_count}
 use Rattle.lw_settle.proofs.Rising.{used_none, zeros_none}
 use Rattle.lw_settle.proofs.Taking.{none_untaken}
+use Rattle.lw_laws.proofs.Words.{AreChoices}
 
 -- no class has a mark
 marks_none_at : (n c : ℕ) → marks_in (replicate n None) c ≡ None
