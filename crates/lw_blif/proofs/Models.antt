@@ -1,7 +1,6 @@
 -- What lines come to is a model: its network's names differ, and its frame and its starts fit.
-use Rattle.std.proofs.Common.{ℕ, ◌≡◌, List, [], ◌∷◌, ◌++◌, length, Option, Some, None, Result, Ok, Err, refl, ap, subst, sym}
-use Rattle.std.specs.Prelude.{All}
-use Rattle.std.specs.List.{AllByRecursion, IsDistinct, flat_map}
+use Rattle.std.proofs.Common.{ℕ, ◌≡◌, List, [], ◌∷◌, length, Option, Some, None, Result, Ok, Err, refl, ap}
+use Rattle.std.specs.List.{IsDistinct, flat_map}
 use Rattle.std.specs.Str.{bytes_eq}
 use Rattle.lw_words.specs.Lines.{LogicalLine}
 use Rattle.lw_fixed.specs.declared.micro.Micro.{Micro}
@@ -9,7 +8,7 @@ use Rattle.lw_fixed.specs.declared.fault.DecimalFault.{DecimalFault}
 use Rattle.lw_net.specs.Closing.{IsDraft}
 use Rattle.lw_net.specs.Networks.{NetworkParts, IsNetwork}
 use Rattle.lw_net.proofs.Closed.{closed_kept, closed_distinct, closed_inputs, closed_outputs}
-use Rattle.lw_frame.specs.Starts.{Arrival, IsEarly, StartsFit}
+use Rattle.lw_frame.specs.Starts.{Arrival, IsEarly}
 use Rattle.lw_frame.specs.Frames as frames
 use Rattle.lw_frame.proofs.Fitting.{frame_fits, starts_fit}
 use Rattle.lw_blif.specs.declared.command.Command.{Command}

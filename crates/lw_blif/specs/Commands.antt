@@ -1,7 +1,6 @@
 -- What the first word of a line asks for.
-use Rattle.std.specs.Prelude.{ℕ, Bool, false, ◌||◌, ◌==◌, List, [], ◌∷◌, if◌then◌else◌, codes}
+use Rattle.std.specs.Prelude.{ℕ, Bool, ◌||◌, List, [], ◌∷◌, if◌then◌else◌, codes}
 use Rattle.std.specs.Str.{bytes_eq}
-use Rattle.std.specs.List.{list_any}
 use Rattle.lw_blif.specs.declared.command.Command.{Command}
 use Rattle.lw_blif.specs.declared.command.Command.TheVariants.{Model, Inputs, Outputs, Names, Latch, Arrival, DefaultArrival, End, Ignored, Unsupported, Unknown, Row}
 use Rattle.lw_words.specs.Words.{is_among, is_ignored_word, has_point}

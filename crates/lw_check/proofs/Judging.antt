@@ -1,6 +1,5 @@
 -- What is accepted is a fastest mapping.
 use Rattle.std.proofs.Common.{ℕ, ◌+◌, ◌<◌, ◌≡◌, List, [], ◌∷◌, length, map, All, Contains, Option, Some, None, unwrap_or, option_map, slice_get, slice_index_or, get_or, refl, ap, sym, ◌∙◌, subst, arith}
-use Rattle.std.specs.List.{AllZip}
 use Rattle.std.proofs.lemmas.List.{length-map, length-take}
 use Rattle.std.proofs.lemmas.Option.{same_Some, slice_get_within, slice_get-get_or, get_or_from_slice_get}
 use Rattle.lw_fixed.specs.declared.micro.Micro.{Micro}

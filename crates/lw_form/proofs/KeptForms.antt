@@ -1,32 +1,31 @@
 -- The forms of a network keep what the list of their numbers keeps.
-use Rattle.std.proofs.Common.{◌≡◌, ◌≢◌, ◌+◌, ◌-◌, ◌*◌, ◌/◌, ◌%◌, ◌<◌, ◌≤◌, ◌⊎◌, inl, inr, ℕ, zero, suc, Bool, true, false, ◌||◌, List, [], ◌∷◌, ◌++◌, length, map, Option, Some, None, slice_get, refl, ap, ap₂, sym, ◌∙◌, subst, arith, append_assoc, append-nil, length-append}
+use Rattle.std.proofs.Common.{◌≡◌, ◌≢◌, ◌+◌, ◌-◌, ◌*◌, ◌/◌, ◌<◌, ◌≤◌, ◌⊎◌, inl, inr, ℕ, zero, suc, Bool, true, false, ◌||◌, List, [], ◌∷◌, ◌++◌, length, map, Option, Some, slice_get, refl, ap, ap₂, sym, ◌∙◌, subst, arith, length-append}
 use Rattle.std.specs.List.{AllByRecursion, list_any}
 use Rattle.std.proofs.lemmas.List.{length-map}
 use Rattle.lw_net.specs.Networks.{most_nets}
 use Rattle.lw_laws.specs.Networks.{Node, Network, IsInOrder, AreValues}
-use Rattle.lw_laws.specs.Forms.{Form, FormList, items, form_list, same_form, is_among, has_clash, complement, form_value}
+use Rattle.lw_laws.specs.Forms.{Form, FormList, items, form_list, same_form, is_among, complement, form_value}
 use Rattle.lw_laws.specs.Forms.Form.{var_form, true_form, not_form, and_form}
 use Rattle.lw_laws.specs.Signals.{Signal, signal_of_node, signals_after, input_signals, signal_of_input, signals_of}
 use Rattle.lw_laws.specs.Occurring.{occurring_forms, HasInputsFirst}
-use Rattle.lw_laws.specs.Decompositions.{Listing, listing_of, IsListedAt, Occurs, base_form}
-use Rattle.lw_laws.specs.Listings.{IsListing, AreDistinct, AreOperands, sign_of}
+use Rattle.lw_laws.specs.Decompositions.{Listing, listing_of, Occurs, base_form}
+use Rattle.lw_laws.specs.Listings.{IsListing, AreDistinct, sign_of}
 use Rattle.lw_laws.specs.Numbering.{place, number, numbered, numbered_base, sop_number, fac_number}
-use Rattle.lw_laws.specs.NumberedForms.{Base, NumberedForms, AreNumberedForms}
-use Rattle.lw_laws.specs.NumberedForms.Base.{base_true, base_input, base_and}
+use Rattle.lw_laws.specs.NumberedForms.{Base}
+use Rattle.lw_laws.specs.NumberedForms.Base.{base_and}
 use Rattle.lw_laws.specs.SignalValues.{number_value, SignalsAgree}
 use Rattle.lw_laws.specs.Mapped.{forms_of}
 use Rattle.lw_laws.proofs.Agreement.{operands_occur, numbered_are_forms}
-use Rattle.lw_laws.proofs.Equality.{same_form_refl, same_form_eq, form_list-items}
+use Rattle.lw_laws.proofs.Equality.{same_form_refl, form_list-items}
 use Rattle.lw_laws.proofs.FormTruth.{signals_agree}
 use Rattle.lw_laws.proofs.Listed.{occurring_is_listing, true_and_inputs_first}
-use Rattle.lw_laws.proofs.Lists.{slice_get_in, slice_get_some}
-use Rattle.lw_laws.proofs.Numbers.{slice_get_map, slice_get_map_back, number_is, number_of, numbers_injective, complement_base}
+use Rattle.lw_laws.proofs.Lists.{slice_get_some}
+use Rattle.lw_laws.proofs.Numbers.{slice_get_map, slice_get_map_back, number_is, number_of, numbers_injective}
 use Rattle.lw_laws.proofs.NumberValues.{numbers_have_values, value_of_number}
 use Rattle.lw_laws.proofs.NetValues.{sops_are_values}
 use Rattle.lw_laws.proofs.Sublists.{or_false}
-use Rattle.lw_form.specs.Kept.{HaveValues, AreApart, AreAndOperands, AreInOrder, AreNets, AreForms}
+use Rattle.lw_form.specs.Kept.{HaveValues, AreApart, AreAndOperands, AreInOrder, AreForms}
 use Rattle.lw_form.specs.Limits.{most_bases, most_operands}
-use Rattle.lw_laws.proofs.Words.{IsNumber}
 
 -- a form is determined by its base form and its sign
 form_decided : (f h : Form) → sign_of (base_form f) ≡ 0 → base_form f ≡ base_form h → (f ≡ h) ⊎ (h ≡ complement f)

@@ -1,33 +1,30 @@
 -- Numbers of forms in the list.
-use Rattle.std.proofs.Common.{◌≡◌, ◌≢◌, ◌+◌, ◌-◌, ◌*◌, ◌/◌, ◌%◌, ◌^◌, ◌<◌, ◌≤◌, ◌⊎◌, inl, inr, ℕ, zero, suc, Bool, true, false, not, ◌||◌, ◌&&◌, cond, List, [], ◌∷◌, ◌++◌, length, map, take, drop, Option, Some, None, slice_get, get_or, refl, ap, ap₂, sym, ◌∙◌, subst, arith, append_assoc, append-nil, eqb-true}
-use Rattle.std.specs.List.{AllByRecursion, list_any, list_all}
-use Rattle.std.specs.Str.{bytes_eq}
+use Rattle.std.proofs.Common.{◌≡◌, ◌+◌, ◌-◌, ◌*◌, ◌/◌, ◌%◌, ◌^◌, ◌<◌, ◌≤◌, ℕ, zero, suc, Bool, true, false, ◌||◌, cond, List, [], ◌∷◌, ◌++◌, length, map, take, Some, slice_get, get_or, refl, ap, ap₂, sym, ◌∙◌, subst, arith, eqb-true}
+use Rattle.std.specs.List.{AllByRecursion, list_any}
 use Rattle.std.proofs.lemmas.List.{length-map, map-append, take_more}
-use Rattle.std.proofs.lemmas.Option.{slice_get-get_or, get_or_from_slice_get, slice_get_read}
+use Rattle.std.proofs.lemmas.Option.{slice_get-get_or, get_or_from_slice_get}
 use Rattle.std.proofs.lemmas.Slice.Eq.{bytes_eq-Decides}
 use Rattle.indexmap.specs.IndexSet.{insert_key}
-use Rattle.lw_laws.specs.Decompositions.{Listing, IsListedAt, base_form}
-use Rattle.lw_laws.specs.Forms.{Form, FormList, items, and_of}
-use Rattle.lw_laws.specs.Forms.Form.{var_form, true_form, not_form, and_form}
+use Rattle.lw_laws.specs.Decompositions.{Listing, base_form}
+use Rattle.lw_laws.specs.Forms.{Form}
+use Rattle.lw_laws.specs.Forms.Form.{var_form, true_form}
 use Rattle.lw_laws.specs.Listings.{IsListing, IsListedBefore, sign_of}
 use Rattle.lw_laws.specs.Numbering.{number, numbered_base}
 use Rattle.lw_laws.specs.NumberedForms as laws
 use Rattle.lw_laws.specs.NumberedForms.Base.{base_true, base_input, base_and}
 use Rattle.lw_laws.specs.SignalValues.{form_of}
 use Rattle.lw_laws.proofs.Equality.{items-form_list}
-use Rattle.lw_laws.proofs.Lists.{slice_get_in, slice_get_some}
+use Rattle.lw_laws.proofs.Lists.{slice_get_in}
 use Rattle.lw_laws.proofs.Numbers.{slice_get_map, slice_get_map_back, number_of}
 use Rattle.lw_form.specs.declared.base.Base.{Base}
 use Rattle.lw_form.specs.declared.base.Base.TheVariants.{True, Input, And}
 use Rattle.lw_form.specs.contracts.base.BasePartialEq.TheImpl.{eq-value}
 use Rattle.lw_form.specs.Bases.{plain_base}
-use Rattle.lw_form.specs.Limits.{most_bases}
-use Rattle.lw_form.specs.Listed.{no_place, base_at, bases_of, place_of, IsListed}
-use Rattle.lw_form.specs.Renumbered.{renumber, ArePlaced, IsBaseOf, AreOfListing, simple_at}
+use Rattle.lw_form.specs.Listed.{base_at, bases_of, place_of, IsListed}
+use Rattle.lw_form.specs.Renumbered.{renumber, ArePlaced, IsBaseOf}
 use Rattle.lw_form.specs.Tables.{AreBelow, forms_at, spelled, AreMade}
 use Rattle.lw_form.proofs.Tables.{form_sign, form_base}
 use Rattle.lw_form.proofs.KeptForms.{once_kept}
-use Rattle.lw_laws.proofs.Words.{IsNumber}
 
 -- a list of numbers, one after the other
 pub placed_at : (places ids : List ℕ) (i : ℕ) → i < length ids → ArePlaced places ids → place_of places (get_or ids i 0 / 2) < 2 ^ 31

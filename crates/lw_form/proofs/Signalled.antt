@@ -1,9 +1,9 @@
 -- The forms of the nets of a network.
-use Rattle.std.proofs.Common.{◌≡◌, ◌≢◌, ◌+◌, ◌-◌, ◌*◌, ◌/◌, ◌<◌, ◌≤◌, ◌⊎◌, inl, inr, ℕ, zero, suc, Bool, true, false, List, [], ◌∷◌, ◌++◌, length, map, take, drop, Some, None, slice_get, get_or, slice_index_or, refl, ap, ap₂, sym, ◌∙◌, subst, arith, append_assoc, append-nil, length-append, All, Option}
+use Rattle.std.proofs.Common.{◌≡◌, ◌+◌, ◌-◌, ◌*◌, ◌/◌, ◌<◌, ◌≤◌, ℕ, zero, suc, Bool, true, false, List, [], ◌∷◌, ◌++◌, length, map, take, drop, Some, slice_get, get_or, refl, ap, ap₂, sym, ◌∙◌, subst, arith, append_assoc, append-nil, length-append, All}
 use Rattle.std.proofs.lemmas.List.{length-map, map-append}
 use Rattle.std.proofs.lemmas.List.Elements.{All-head, All-tail}
 use Rattle.lw_laws.specs.Forms.{Form}
-use Rattle.lw_laws.specs.Forms.Form.{var_form, true_form, not_form, and_form}
+use Rattle.lw_laws.specs.Forms.Form.{var_form, true_form}
 use Rattle.lw_laws.specs.Networks.{Node, Network}
 use Rattle.lw_laws.specs.Occurring.{appended, add_form, add_signals, occurring_forms}
 use Rattle.lw_laws.proofs.Lists.{slice_get_in}
@@ -15,11 +15,10 @@ use Rattle.lw_form.proofs.Tables.{get_left}
 use Rattle.lw_laws.specs.Signals.{Signal, sop_at, signed, signal_of_node, signal_of_input, input_signals, signals_after, signals_of, sum_of_products, factored}
 use Rattle.lw_laws.specs.SignalValues.{form_of}
 use Rattle.lw_form.specs.declared.fault.FormFault.{FormFault}
-use Rattle.lw_form.specs.declared.fault.FormFault.TheVariants.{Limit, Memory}
 use Rattle.lw_form.specs.Listed.{base_at, bases_of, IsListed, IsTooLong}
 use Rattle.lw_form.specs.Nets.{signal_at, signals_at, AreListed, AreNodes}
 use Rattle.lw_form.specs.Tables.{input_forms, AreBelow, forms_at, AreMade, HasMore, Table, made, IsMadeAs}
-use Rattle.lw_form.proofs.Joining.{more_same, more_twice, more_length, form_kept, forms_kept, below_kept_more, below_append, below_other, even_form}
+use Rattle.lw_form.proofs.Joining.{more_twice, more_length, form_kept, forms_kept, below_kept_more, below_append, below_other, even_form}
 use Rattle.lw_form.proofs.ListedForms.{longer_add, longer_fault, listed_kept, bases_kept, operand_fits}
 use Rattle.lw_form.proofs.Rows.{signed_form}
 use Rattle.lw_form.specs.Products.{signed_number, HaveColumns}

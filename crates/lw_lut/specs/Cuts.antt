@@ -1,5 +1,5 @@
 -- Cuts: a tree over pins at some classes that stands at a class, and its values as bits.
-use Rattle.std.specs.Prelude.{ℕ, ◌+◌, ◌^◌, ◌%◌, ◌≡◌, ◌==◌, Bool, true, false, not, List, [], ◌∷◌, length, map, if◌then◌else◌, slice_index_or}
+use Rattle.std.specs.Prelude.{ℕ, ◌+◌, ◌^◌, ◌%◌, ◌≡◌, ◌==◌, Bool, true, false, not, List, [], ◌∷◌, length, if◌then◌else◌, slice_index_or}
 use Rattle.std.specs.Int.{bit_at}
 use Rattle.std.specs.List.{range_with_len}
 use Rattle.lw_pool.specs.declared.id.ClassId.{ClassId}

@@ -1,8 +1,6 @@
 -- How the text of a network of tables is read, and of which networks it is.
 use Rattle.std.specs.Prelude.{ℕ, ◌++◌, ◌∷◌, ◌≡◌, ◌≤◌, true, false, List, length, replicate, slice_get, Some, All}
 use Rattle.lw_pool.specs.declared.latch.Frame.{Frame}
-use Rattle.lw_pool.specs.declared.latch.Latch.{Latch}
-use Rattle.lw_words.specs.Gathering.{IsWord, IsNoHash}
 use Rattle.lw_words.specs.Lines.{LogicalLine, logical_lines}
 use Rattle.lw_net.specs.declared.draft.Draft.{Draft}
 use Rattle.lw_frame.specs.Frames.{Fits}
@@ -14,7 +12,7 @@ use Rattle.lw_laws.specs.Names.{AreDifferent}
 use Rattle.lw_lut.specs.Nets.{PlainTableNet, IsTableNet, net_classes}
 use Rattle.lw_lut.specs.declared.ports.TablePorts.{TablePorts}
 use Rattle.lw_lut.specs.declared.table.Table.{Table}
-use Rattle.lw_words.specs.Words.{is_name, IsSignalName}
+use Rattle.lw_words.specs.Words.{IsSignalName}
 use Rattle.lw_pool.specs.Numbers.{numbers}
 use Rattle.lw_frame.specs.Latches.{IsReadableLatch}
 

@@ -1,15 +1,14 @@
 -- A cover of least area is a netlist of least area without a deadline.
-use Rattle.std.proofs.Common.{ℕ, zero, suc, ◌+◌, ◌^◌, ◌<◌, ◌≤◌, ◌≡◌, Bool, Contains, List, [], ◌∷◌, ◌++◌, map, take, length, Option, Some, None, option_map, slice_get, slice_index_or, length-append, refl, ap, ap₂, sym, ◌∙◌, subst, arith}
-use Rattle.std.specs.List.{AllZip, IsDistinct, AllByRecursion as Each}
+use Rattle.std.proofs.Common.{ℕ, zero, suc, ◌+◌, ◌^◌, ◌<◌, ◌≤◌, ◌≡◌, Contains, List, [], ◌∷◌, ◌++◌, map, take, length, Option, Some, None, option_map, slice_get, slice_index_or, length-append, refl, ap, ap₂, sym, ◌∙◌, subst, arith}
+use Rattle.std.specs.List.{AllZip, IsDistinct}
 use Rattle.std.specs.Str.{bytes_eq}
 use Rattle.std.proofs.lemmas.List.{length-map, length-take-le, take_at}
 use Rattle.std.proofs.lemmas.Option.{get_or_from_slice_get}
 use Rattle.lw_pool.specs.declared.id.NetId.{NetId}
 use Rattle.lw_pool.specs.declared.id.ClassId.{ClassId}
 use Rattle.lw_fixed.specs.declared.micro.Micro.{Micro}
-use Rattle.lw_laws.specs.Networks.{AreValues}
 use Rattle.lw_laws.specs.Costs.{cost_of}
-use Rattle.lw_laws.specs.Covers.{Cover, IsCover, Pattern, tree_of}
+use Rattle.lw_laws.specs.Covers.{Pattern, tree_of}
 use Rattle.lw_laws.specs.Covers.Cover.{wire}
 use Rattle.lw_laws.specs.Graphs.{Unfolds}
 use Rattle.lw_laws.specs.Choices.{IsHeight}
@@ -19,12 +18,12 @@ use Rattle.lw_laws.specs.Matches.{choices_of, IsLeastCover}
 use Rattle.lw_laws.specs.Extracts.{HaveLeafLabels, IsNetOf, class_at, net_classes}
 use Rattle.lw_laws.specs.Mapped.{root_class, IsMapped}
 use Rattle.lw_laws.specs.MappedNetlists.{root_classes, AreNetNames, ArePortNames}
-use Rattle.lw_laws.specs.Names.{AreNameable, AreDifferent, free_names, gate_names, net_names}
-use Rattle.lw_laws.specs.Netlists.{AreOrdered, AreArrivals, AreNetCosts, AreNetlistValues, AreByDepth}
+use Rattle.lw_laws.specs.Names.{AreNameable, free_names, gate_names, net_names}
+use Rattle.lw_laws.specs.Netlists.{AreOrdered, AreByDepth}
 use Rattle.lw_laws.specs.Headline.{Port as PlainPort, HasLeastArrival}
 use Rattle.lw_laws.proofs.ExtractLaws.{ordered_and_mapped, gate_once, extracted_costs}
 use Rattle.lw_laws.proofs.InputClasses.{distinct_leaves}
-use Rattle.lw_laws.proofs.Lists.{slice_get_in, all_contains}
+use Rattle.lw_laws.proofs.Lists.{slice_get_in}
 use Rattle.lw_laws.proofs.MappedDepths.{extracted_by_depth}
 use Rattle.lw_laws.proofs.MappedNames.{input_sop}
 use Rattle.lw_laws.proofs.Netlists.{net_covered}
@@ -33,7 +32,7 @@ use Rattle.lw_laws.proofs.Numbers.{slice_get_map, slice_get_map_back}
 use Rattle.lw_net.specs.Networks.{NetworkParts, IsNetwork, name_in, input_names, output_names}
 use Rattle.lw_net.specs.Plain as network
 use Rattle.lw_genlib.specs.Cells.{CellParts, IsLibrary}
-use Rattle.lw_genlib.specs.Tables.{timing_of, truth_of_cells}
+use Rattle.lw_genlib.specs.Tables.{timing_of}
 use Rattle.lw_pattern.specs.Libraries.{library_patterns}
 use Rattle.lw_match.specs.declared.mark.Mark.{Mark}
 use Rattle.lw_match.specs.Values.{plain_mark}

@@ -1,19 +1,15 @@
 -- What forms and their graph come to are the choices of the network.
-use Rattle.std.proofs.Common.{ℕ, ◌+◌, ◌<◌, ◌≤◌, ◌≡◌, ◌↔◌, List, [], ◌∷◌, map, length, Option, Some, Result, Ok, Err, slice_index_or, refl, ap, ap₂, sym, ◌∙◌, subst, arith}
+use Rattle.std.proofs.Common.{ℕ, ◌<◌, ◌≤◌, ◌≡◌, ◌↔◌, List, [], ◌∷◌, map, length, Result, Ok, Err, slice_index_or, refl, ap, ap₂, sym, ◌∙◌, arith}
 use Rattle.std.specs.List.{AllByRecursion}
-use Rattle.std.specs.Prelude.{All}
 use Rattle.std.proofs.lemmas.List.{length-map}
 use Rattle.std.proofs.lemmas.Option.{get_or_from_slice_get}
 use Rattle.std.proofs.lemmas.List.Elements.{recursion_from_All}
-use Rattle.lw_pool.specs.declared.id.ClassId.{ClassId}
 use Rattle.lw_pool.specs.declared.id.NetId.{NetId}
 use Rattle.lw_laws.specs.Graphs.{Graph, class_of}
 use Rattle.lw_laws.specs.Signals.{signals_of}
 use Rattle.lw_laws.specs.Occurring.{occurring_forms}
-use Rattle.lw_laws.specs.Decompositions.{listing_of}
 use Rattle.lw_laws.specs.Numbering.{number, numbered_base, sop_number}
 use Rattle.lw_laws.specs.NumberedForms.{NumberedForms}
-use Rattle.lw_laws.specs.Classes.{IsGraphOf}
 use Rattle.lw_laws.specs.Mapped.{forms_of, root_class}
 use Rattle.lw_laws.specs.MappedNetlists.{root_classes}
 use Rattle.lw_laws.proofs.Numbers.{slice_get_map}
@@ -25,8 +21,7 @@ use Rattle.lw_form.specs.Kept.{AreForms}
 use Rattle.lw_assoc.specs.Splits.{most_splits}
 use Rattle.lw_assoc.specs.declared.fault.GraphFault.{GraphFault}
 use Rattle.lw_assoc.specs.declared.fault.GraphFault.TheVariants as graph_fault
-use Rattle.lw_map.specs.declared.choices.Choices.{Choices}
-use Rattle.lw_map.specs.Options.{Options, IsWide, plain_options}
+use Rattle.lw_map.specs.Options.{Options}
 use Rattle.lw_map.specs.Mapped.{base_count, splits_count}
 use Rattle.lw_map.specs.Choices.{root_of}
 use Rattle.lw_map.specs.Faults as faults

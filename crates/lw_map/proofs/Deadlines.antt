@@ -1,5 +1,5 @@
 -- The curves of a network's choices serve its outputs by their times.
-use Rattle.std.proofs.Common.{ℕ, zero, suc, ◌+◌, ◌<◌, ◌≤◌, ◌≡◌, ◌⊎◌, inl, inr, List, [], ◌∷◌, ◌++◌, map, max, take, length, get_or, Option, Some, None, Contains, slice_get, slice_index_or, refl, ap, ap₂, sym, ◌∙◌, subst, arith}
+use Rattle.std.proofs.Common.{ℕ, zero, suc, ◌+◌, ◌<◌, ◌≤◌, ◌≡◌, ◌⊎◌, inl, inr, List, [], ◌∷◌, ◌++◌, map, max, length, Some, Contains, slice_get, refl, ap, sym, ◌∙◌, subst, arith}
 use Rattle.std.specs.List.{AllZip, AllByRecursion, IsDistinct}
 use Rattle.std.specs.Prelude.{All}
 use Rattle.std.specs.Str.{bytes_eq}
@@ -15,9 +15,9 @@ use Rattle.lw_laws.specs.Covers.{tree_of, start_of}
 use Rattle.lw_laws.specs.Covers.Cover.{wire}
 use Rattle.lw_laws.specs.Headline.{Port as PlainPort, HasLeastArrival}
 use Rattle.lw_laws.proofs.InputLabels.{start_before, input_leaf}
-use Rattle.lw_laws.proofs.Lists.{slice_get_in, slice_get_some, all_contains}
+use Rattle.lw_laws.proofs.Lists.{slice_get_in, slice_get_some}
 use Rattle.lw_laws.proofs.Numbers.{slice_get_map, slice_get_map_back}
-use Rattle.lw_net.specs.Networks.{NetworkParts, IsNetwork, input_names, output_names}
+use Rattle.lw_net.specs.Networks.{NetworkParts, IsNetwork, output_names}
 use Rattle.lw_net.specs.Plain as network
 use Rattle.lw_genlib.specs.Cells.{CellParts, IsLibrary}
 use Rattle.lw_genlib.specs.Tables.{timing_of}
@@ -25,7 +25,7 @@ use Rattle.lw_pattern.specs.Libraries.{library_patterns}
 use Rattle.lw_extract.specs.declared.ports.Ports.{Ports}
 use Rattle.lw_trade.specs.declared.point.Point.{Point}
 use Rattle.lw_trade.specs.declared.targets.Targets.{Targets}
-use Rattle.lw_trade.specs.Points.{Task, task, timing, IsCoverBy, IsPoint, AreCurves, BoundCovers, point_count, most_points}
+use Rattle.lw_trade.specs.Points.{Task, task, timing, IsPoint, AreCurves, BoundCovers, point_count, most_points}
 use Rattle.lw_trade.specs.Groups.{CurveLists, HaveWays}
 use Rattle.lw_trade.specs.Targets.{AreTargets, AreCurvesFor, HasPointBy}
 use Rattle.lw_map.specs.declared.choices.Choices.{Choices}
@@ -36,8 +36,7 @@ use Rattle.lw_map.specs.Trading.{AreEarliest, latest_of, micros, put_off}
 use Rattle.lw_map.proofs.CellLaws.{delay_patterns}
 use Rattle.lw_map.proofs.Composed.{ports_fit}
 use Rattle.lw_map.proofs.Traded.{zip_places, tree_back, class_of_net}
-use Rattle.lw_pool.specs.Numbers.{numbers}
-use Rattle.lw_net.specs.Ports.{output_port, ports_of}
+use Rattle.lw_net.specs.Ports.{output_port}
 
 -- the greatest of times that are low is low, and none of them is above it
 pub latest_low : (m d : ℕ) (ts : List Micro) → d < m → All (λ (t : Micro). t.0 < m) ts → latest_of d (micros ts) < m

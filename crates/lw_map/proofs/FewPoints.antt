@@ -1,5 +1,5 @@
 -- Where curves have few points, no classes have too many.
-use Rattle.std.proofs.Common.{ℕ, zero, suc, ◌+◌, ◌<◌, ◌≤◌, ◌≡◌, ◌⊎◌, inl, inr, Contains, List, [], ◌∷◌, length, Some, None, slice_get, slice_index_or, refl, ap, sym, ◌∙◌, subst, arith}
+use Rattle.std.proofs.Common.{ℕ, zero, suc, ◌<◌, ◌≤◌, ◌≡◌, ◌⊎◌, inl, inr, List, [], ◌∷◌, length, Some, None, slice_get, refl, ap, subst, arith}
 use Rattle.std.specs.List.{AllZip}
 use native.Mathlib.Decide.{dec_lt}
 use Rattle.lw_pool.specs.declared.id.NetId.{NetId}
@@ -14,8 +14,8 @@ use Rattle.lw_genlib.specs.Cells.{CellParts}
 use Rattle.lw_genlib.specs.Tables.{timing_of}
 use Rattle.lw_pattern.specs.Libraries.{library_patterns}
 use Rattle.lw_trade.specs.declared.point.Point.{Point}
-use Rattle.lw_trade.specs.Points.{Task, task, IsPoint, ArePoints, AreCurves, AreTooMany, BoundCovers, IsCoverBy, timing, point_count, most_points}
-use Rattle.lw_trade.proofs.Lists.{get_in, get_some, contained_at, at_contained}
+use Rattle.lw_trade.specs.Points.{Task, task, ArePoints, AreCurves, AreTooMany, BoundCovers, point_count, most_points}
+use Rattle.lw_trade.proofs.Lists.{contained_at, at_contained}
 use Rattle.lw_map.specs.declared.choices.Choices.{Choices}
 use Rattle.lw_map.specs.Choices.{AreChoicesOf}
 use Rattle.lw_map.specs.Options.{Options, plain_options}

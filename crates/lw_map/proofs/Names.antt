@@ -1,5 +1,5 @@
 -- The names of the nets of a mapped netlist differ, and an output's net owns its name.
-use Rattle.std.proofs.Common.{ℕ, ◌+◌, ◌^◌, ◌<◌, ◌≤◌, ◌≡◌, List, length, map, arith}
+use Rattle.std.proofs.Common.{◌+◌, ◌^◌, ◌<◌, List, length, map, arith}
 use Rattle.std.specs.List.{IsDistinct}
 use Rattle.std.specs.Str.{bytes_eq}
 use Rattle.std.proofs.lemmas.List.{length-map, length-take-le}

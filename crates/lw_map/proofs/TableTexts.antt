@@ -12,7 +12,7 @@ use Rattle.lw_laws.specs.Trees.{leaf}
 use Rattle.lw_laws.specs.MappedNetlists.{ArePortNames}
 use Rattle.lw_laws.proofs.Lists.{slice_get_some}
 use Rattle.lw_laws.proofs.Numbers.{slice_get_map}
-use Rattle.lw_net.specs.Networks.{NetworkParts, IsNetwork, name_in, input_names, output_names}
+use Rattle.lw_net.specs.Networks.{NetworkParts, IsNetwork, name_in, output_names}
 use Rattle.lw_net.specs.Plain as network
 use Rattle.lw_form.specs.Limits.{most_bases}
 use Rattle.lw_lut.specs.Meaning.{ArePortsOf}

@@ -1,13 +1,11 @@
 -- A netlist whose outputs' nets stand for covers of the outputs' classes that are of least area by their times.
-use Rattle.std.proofs.Common.{ℕ, zero, suc, ◌+◌, ◌<◌, ◌≤◌, ◌≡◌, Bool, List, [], ◌∷◌, map, max, length, Option, Some, None, slice_get, slice_index_or, refl, ap, ap₂, sym, ◌∙◌, subst, arith}
+use Rattle.std.proofs.Common.{ℕ, suc, ◌+◌, ◌<◌, ◌≤◌, ◌≡◌, Bool, List, [], ◌∷◌, map, length, Option, Some, slice_get, slice_index_or, refl, ap, ap₂, sym, ◌∙◌, subst, arith}
 use Rattle.std.specs.List.{AllZip}
 use Rattle.std.proofs.lemmas.List.{length-map}
 use Rattle.std.proofs.lemmas.Option.{get_or_from_slice_get, slice_get-get_or}
 use Rattle.lw_fixed.specs.declared.micro.Micro.{Micro}
-use Rattle.lw_pool.specs.declared.id.NetId.{NetId}
-use Rattle.lw_laws.specs.Trees.{Tree, tree_value}
+use Rattle.lw_laws.specs.Trees.{Tree}
 use Rattle.lw_laws.specs.Graphs.{Unfolds}
-use Rattle.lw_laws.specs.Forms.{Form}
 use Rattle.lw_laws.specs.Networks.{AreValues}
 use Rattle.lw_laws.specs.Signals.{sop_at, signals_of}
 use Rattle.lw_laws.specs.Costs.{Cost, cost_of, costs_of}
@@ -17,7 +15,7 @@ use Rattle.lw_laws.specs.Covers.Covers.{no_covers, cover}
 use Rattle.lw_laws.specs.Netlists.{Netlist, AreArrivals, AreNetCosts, AreNetlistValues, StandsFor, StandForAll}
 use Rattle.lw_laws.specs.Mapped.{root_class}
 use Rattle.lw_laws.specs.Decompositions.{listing_of, HasTree}
-use Rattle.lw_laws.specs.Headline.{Port as PlainPort, HasLeastArrival}
+use Rattle.lw_laws.specs.Headline.{HasLeastArrival}
 use Rattle.lw_laws.proofs.Mapping.{list_values, list_arrivals, sop_occurs, sop_value_is}
 use Rattle.lw_laws.proofs.Netlists.{StandsFor-value, StandsFor-time}
 use Rattle.lw_laws.proofs.GraphEncodes.{graph_trees}
@@ -30,7 +28,6 @@ use Rattle.lw_net.proofs.Rise.{in_order}
 use Rattle.lw_genlib.specs.Cells.{CellParts, IsLibrary}
 use Rattle.lw_genlib.specs.Tables.{delays_of_cells, timing_of, truth_of_cells}
 use Rattle.lw_pattern.specs.Libraries.{library_patterns}
-use Rattle.lw_netlist.specs.declared.gate.Port.{Port}
 use Rattle.lw_netlist.specs.Netlists.{NetlistParts}
 use Rattle.lw_netlist.specs.Plain as netlist
 use Rattle.lw_trade.specs.Areas.{area_cost}
@@ -39,8 +36,6 @@ use Rattle.lw_map.specs.Options.{Options, plain_options}
 use Rattle.lw_map.specs.Choices.{AreChoicesOf}
 use Rattle.lw_map.specs.Trading.{IsInTime, HasLeastArea}
 use Rattle.lw_map.proofs.CellLaws.{delay_patterns, delay_truths}
-use Rattle.lw_net.specs.Ports.{output_port}
-use Rattle.lw_netlist.specs.Plain.{plain_port}
 
 -- what holds at each place holds of both lists
 pub zip_places : {X Y : Type 0} (R : X → Y → Type 0) (xs : List X) (ys : List Y) → length xs ≡ length ys → ((k : ℕ) (x : X) (y : Y) → slice_get xs k ≡ Some x → slice_get ys k ≡ Some y → R x y) → AllZip R xs ys

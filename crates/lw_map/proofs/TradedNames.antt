@@ -1,25 +1,17 @@
 -- The netlist of least area by a deadline: covers, values and names.
-use Rattle.std.proofs.Common.{ℕ, zero, suc, ◌+◌, ◌^◌, ◌<◌, ◌≤◌, ◌≡◌, Bool, List, [], ◌∷◌, ◌++◌, map, max, length, Option, Some, None, slice_get, slice_index_or, refl, ap, ap₂, sym, ◌∙◌, subst, arith, length-append}
-use Rattle.std.specs.List.{AllZip, IsDistinct, range_with_len}
-use Rattle.std.specs.Prelude.{All}
-use Rattle.std.specs.Str.{bytes_eq}
-use Rattle.std.proofs.lemmas.List.{length-map, length-take-le}
-use Rattle.std.proofs.lemmas.List.FromFn.{length-range_with_len}
+use Rattle.std.proofs.Common.{ℕ, zero, suc, ◌+◌, ◌<◌, ◌≡◌, Bool, List, ◌++◌, map, length, Some, slice_get, slice_index_or, refl, ap, sym, ◌∙◌, subst, arith}
+use Rattle.std.specs.List.{AllZip, range_with_len}
+use Rattle.std.proofs.lemmas.List.{length-map}
 use Rattle.std.proofs.lemmas.Option.{get_or_from_slice_get}
 use Rattle.lw_pool.specs.declared.id.NetId.{NetId}
 use Rattle.lw_pool.specs.declared.id.ClassId.{ClassId}
 use Rattle.lw_fixed.specs.declared.micro.Micro.{Micro}
 use Rattle.lw_laws.specs.Networks.{AreValues}
-use Rattle.lw_laws.specs.Names.{AreDifferent, AreNameable, net_names}
-use Rattle.lw_laws.specs.MappedNetlists.{AreNetNames, ArePortNames}
 use Rattle.lw_laws.specs.Headline.{Port as PlainPort, HasLeastArrival}
 use Rattle.lw_laws.specs.Netlists.{AreArrivals, AreNetCosts, AreNetlistValues}
-use Rattle.lw_laws.proofs.InputClasses.{distinct_leaves}
-use Rattle.lw_laws.proofs.MappedNames.{input_sop}
-use Rattle.lw_laws.proofs.NameLaws.{names_differ, names_owned}
 use Rattle.lw_laws.proofs.Lists.{slice_get_in, slice_get_some}
 use Rattle.lw_laws.proofs.Numbers.{slice_get_map, slice_get_map_back}
-use Rattle.lw_net.specs.Networks.{NetworkParts, IsNetwork, name_in, input_names, output_names}
+use Rattle.lw_net.specs.Networks.{NetworkParts, IsNetwork, name_in, output_names}
 use Rattle.lw_net.specs.Plain as network
 use Rattle.lw_genlib.specs.Cells.{CellParts, IsLibrary}
 use Rattle.lw_genlib.specs.Tables.{timing_of, truth_of_cells}
@@ -29,15 +21,14 @@ use Rattle.lw_netlist.specs.Netlists.{NetlistParts, IsNetlist}
 use Rattle.lw_netlist.specs.Plain as netlist
 use Rattle.lw_extract.specs.declared.ports.Ports.{Ports}
 use Rattle.lw_trade.specs.Areas.{area_cost}
-use Rattle.lw_trade.specs.Traded.{IsTraded, output_nets, port_net}
+use Rattle.lw_trade.specs.Traded.{IsTraded}
 use Rattle.lw_map.specs.declared.choices.Choices.{Choices}
 use Rattle.lw_map.specs.Options.{plain_options}
 use Rattle.lw_map.specs.Choices.{AreChoicesOf}
 use Rattle.lw_map.specs.Ports.{ArePortsOf}
 use Rattle.lw_map.specs.Trading.{AreEarliest, HasLeastArea, micros, put_off}
 use Rattle.lw_map.proofs.Traded.{IsBest, best_area, best_values, class_of_net, zip_places}
-use Rattle.lw_map.proofs.Deadlines.{s, targets, output_of, times_count, IsOutputAt}
-use Rattle.lw_map.proofs.PortNames.{few_outputs, port_list, port_names}
+use Rattle.lw_map.proofs.Deadlines.{s, targets, output_of, times_count}
 use Rattle.lw_net.specs.Ports.{output_port, ports_of}
 use Rattle.lw_netlist.specs.Plain.{plain_port, mapped_ports, port_name}
 

@@ -1,11 +1,11 @@
 -- The netlist that a network is mapped to by the cells of a library, or why there is none.
-use Rattle.std.specs.Prelude.{ℕ, ◌<◌, ◌≤◌, ◌≡◌, List, length, map, take, Some, slice_get}
+use Rattle.std.specs.Prelude.{ℕ, ◌<◌, ◌≤◌, ◌≡◌, List, length, Some, slice_get}
 use Rattle.lw_pool.specs.declared.id.NetId.{NetId}
 use Rattle.lw_fixed.specs.declared.micro.Micro.{Micro}
 use Rattle.lw_laws.specs.Occurring.{occurring_forms, split_count}
-use Rattle.lw_laws.specs.Headline.{Port as PlainPort, Ports, HasNoCover}
+use Rattle.lw_laws.specs.Headline.{Ports, HasNoCover}
 use Rattle.lw_laws.specs.MappedNetlists.{IsNetlistOf}
-use Rattle.lw_net.specs.Networks.{NetworkParts, name_in, input_names}
+use Rattle.lw_net.specs.Networks.{NetworkParts, name_in}
 use Rattle.lw_net.specs.Plain as network
 use Rattle.lw_genlib.specs.Cells.{CellParts}
 use Rattle.lw_genlib.specs.Tables.{timing_of}
@@ -13,7 +13,6 @@ use Rattle.lw_form.specs.Limits.{most_bases}
 use Rattle.lw_pattern.specs.Libraries.{library_patterns}
 use Rattle.lw_assoc.specs.Splits.{most_splits}
 use Rattle.lw_label.specs.Delays.{most_time}
-use Rattle.lw_netlist.specs.declared.gate.Port.{Port}
 use Rattle.lw_netlist.specs.Netlists.{NetlistParts, IsNetlist}
 use Rattle.lw_netlist.specs.Plain as netlist
 use Rattle.lw_map.specs.Options.{Options}

@@ -32,7 +32,7 @@ use Rattle.lw_netlist.proofs.Names.{to_of}
 use Rattle.lw_mapped.specs.Readable.{ports_of}
 use Rattle.lw_mapped.specs.Texts.{net_name}
 use Rattle.lw_mapped.proofs.Driving as back
-use Rattle.lw_mapped.proofs.Driving.{draft_of, wire_of, wires_of, each-flat, each-map, each-at, at-each}
+use Rattle.lw_mapped.proofs.Driving.{draft_of, wires_of, each-map, each-at, at-each}
 use Rattle.lw_mapped.proofs.Items.{named_gate, port_wire}
 use Rattle.lw_mapped.proofs.Places.{get-contains, contains-get}
 use Rattle.lw_mapped.proofs.Ranked.{AreRising, by_depth-rising}

@@ -1,7 +1,6 @@
 -- What the first word of a line of a mapped text asks for.
-use Rattle.std.specs.Prelude.{ℕ, Bool, false, ◌||◌, ◌==◌, List, [], ◌∷◌, if◌then◌else◌, codes}
+use Rattle.std.specs.Prelude.{ℕ, ◌||◌, List, if◌then◌else◌, codes}
 use Rattle.std.specs.Str.{bytes_eq}
-use Rattle.std.specs.List.{list_any}
 use Rattle.lw_mapped.specs.declared.command.Command.{Command}
 use Rattle.lw_mapped.specs.declared.command.Command.TheVariants.{Model, Inputs, Outputs, Gate, Names, Latch, InputArrival, DefaultArrival, Certificate, End, Ignored, Unknown, Plain}
 use Rattle.lw_words.specs.Words.{is_ignored_word, has_point}

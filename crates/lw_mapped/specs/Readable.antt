@@ -1,24 +1,21 @@
 -- Whose mapped texts read back.
-use Rattle.std.specs.Prelude.{ℕ, ◌≡◌, ◌<◌, ◌≤◌, List, [], length, map, replicate, Option, Some, None, ⊤, true, All, IfSome, Contains, slice_index_or}
+use Rattle.std.specs.Prelude.{ℕ, ◌≡◌, ◌<◌, List, [], length, map, replicate, Option, Some, None, ⊤, All, IfSome, Contains, slice_index_or}
 use Rattle.lw_fixed.specs.declared.micro.Micro.{Micro}
 use Rattle.lw_pool.specs.declared.id.ClassId.{ClassId}
 use Rattle.lw_pool.specs.declared.latch.Frame.{Frame}
-use Rattle.lw_pool.specs.declared.latch.Latch.{Latch}
-use Rattle.lw_words.specs.Gathering.{IsWord, IsNoHash}
-use Rattle.lw_laws.specs.Headline.{Port as PlainPort, Ports}
+use Rattle.lw_laws.specs.Headline.{Ports}
 use Rattle.lw_laws.specs.MappedNetlists.{AreNetNames}
 use Rattle.lw_laws.specs.Netlists.{AreByDepth}
 use Rattle.lw_frame.specs.Frames.{Fits}
 use Rattle.lw_frame.specs.Starts.{StartsFit}
 use Rattle.lw_genlib.specs.Cells.{CellParts, IsLibrary}
-use Rattle.lw_netlist.specs.declared.gate.Port.{Port}
 use Rattle.lw_netlist.specs.Netlists.{NetlistParts, IsNetlist}
 use Rattle.lw_netlist.specs.Plain.{IsOver, plain, plain_port}
 use Rattle.lw_mapped.specs.declared.certificate.Certificate.{Certificate}
 use Rattle.lw_mapped.specs.declared.closing.Mapped.{Mapped}
 use Rattle.lw_mapped.specs.Parsed.{IsLabel}
 use Rattle.lw_mapped.specs.Texts.{names_of_inputs, names_of_outputs}
-use Rattle.lw_words.specs.Words.{is_name, IsSignalName}
+use Rattle.lw_words.specs.Words.{IsSignalName}
 use Rattle.lw_laws.specs.Graphs.{most_classes}
 use Rattle.lw_frame.specs.Latches.{IsReadableLatch}
 

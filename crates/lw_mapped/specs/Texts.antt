@@ -8,7 +8,6 @@ use Rattle.lw_fixed.specs.Printed.{decimal_text}
 use Rattle.lw_pool.specs.declared.id.ClassId.{ClassId}
 use Rattle.lw_pool.specs.declared.id.NetId.{NetId}
 use Rattle.lw_pool.specs.declared.latch.Frame.{Frame}
-use Rattle.lw_pool.specs.declared.latch.Latch.{Latch}
 use Rattle.lw_genlib.specs.Cells.{CellParts}
 use Rattle.lw_netlist.specs.declared.gate.Gate.{Gate}
 use Rattle.lw_netlist.specs.declared.gate.Port.{Port}

@@ -1,6 +1,5 @@
 -- The plain values that marks and matches stand for.
-use Rattle.std.specs.Prelude.{ℕ, ◌-◌, ◌^◌, ◌<◌, ◌≤◌, ◌≡◌, List, map, Option, Some, None, option_map, slice_index_or}
-use Rattle.lw_pool.specs.declared.id.ClassId.{ClassId}
+use Rattle.std.specs.Prelude.{ℕ, ◌-◌, ◌^◌, ◌<◌, ◌≤◌, ◌≡◌, List, Option, Some, None, option_map, slice_index_or}
 use Rattle.lw_laws.specs.Marks.{Mark as PlainMark, Marks}
 use Rattle.lw_laws.specs.Extracts.{Match as PlainMatch}
 use Rattle.lw_match.specs.declared.mark.Mark.{Mark}

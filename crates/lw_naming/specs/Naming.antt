@@ -1,5 +1,5 @@
 -- The numbered names that are still to come, and the first outputs of classes.
-use Rattle.std.specs.Prelude.{ℕ, ◌-◌, ◌^◌, ◌<◌, ◌≤◌, ◌≡◌, ◌==◌, ◌||◌, not, List, ◌∷◌, length, filter, map, Option, None, MatchOption, slice_index_or}
+use Rattle.std.specs.Prelude.{ℕ, ◌-◌, ◌^◌, ◌<◌, ◌≤◌, ◌≡◌, ◌==◌, ◌||◌, not, List, ◌∷◌, length, filter, Option, None, MatchOption, slice_index_or}
 use Rattle.std.specs.List.{position_from}
 use Rattle.lw_pool.specs.declared.id.ClassId.{ClassId}
 use Rattle.lw_laws.specs.Names.{is_name_among, numbered_names}

@@ -2,7 +2,7 @@
 use Rattle.std.proofs.Common.{ℕ, ◌+◌, ◌<◌, map, Contains, sym, subst}
 use Rattle.std.proofs.lemmas.List.Elements.{All-map, All-contains}
 use Rattle.lw_laws.specs.Networks as laws
-use Rattle.lw_laws.specs.Networks.{IsInOrder, greatest_depth}
+use Rattle.lw_laws.specs.Networks.{IsInOrder}
 use Rattle.lw_net.specs.Networks.{NetworkParts, IsNetwork}
 use Rattle.lw_net.specs.Plain.{plain, plain_node}
 use Rattle.lw_net.proofs.Filling.{IsImage, image_at}

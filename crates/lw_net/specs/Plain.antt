@@ -1,6 +1,5 @@
 -- A network as plain data.
-use Rattle.std.specs.Prelude.{ℕ, Bool, false, List, map, slice_index_or}
-use Rattle.lw_pool.specs.declared.id.NetId.{NetId}
+use Rattle.std.specs.Prelude.{ℕ, List, map}
 use Rattle.std.specs.List.Sorted.{IsNonDecreasing}
 use Rattle.lw_laws.specs.Networks as laws
 use Rattle.lw_laws.specs.Networks.{AreDepths}

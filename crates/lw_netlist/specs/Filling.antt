@@ -1,5 +1,5 @@
 -- What a gate gives its net, by what its pins' nets have.
-use Rattle.std.specs.Prelude.{ℕ, ◌*◌, Bool, false, List, map, slice_index_or}
+use Rattle.std.specs.Prelude.{ℕ, ◌*◌, Bool, List, map, slice_index_or}
 use Rattle.lw_pool.specs.declared.id.NetId.{NetId}
 use Rattle.lw_fixed.specs.declared.micro.Micro.{Micro}
 use Rattle.lw_laws.specs.Covers.{latest, delays_of}

@@ -1,6 +1,5 @@
 -- A netlist as plain data, and what the laws ask of a library.
 use Rattle.std.specs.Prelude.{ℕ, ◌≡◌, List, Some, All, length, map, slice_get, take}
-use Rattle.lw_pool.specs.declared.id.NetId.{NetId}
 use Rattle.lw_laws.specs.Netlists as laws
 use Rattle.lw_laws.specs.Headline.{Port as PlainPort, Ports}
 use Rattle.lw_genlib.specs.Cells.{CellParts}

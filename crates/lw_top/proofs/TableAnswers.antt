@@ -1,5 +1,5 @@
 -- An answer with a text of tables.
-use Rattle.std.proofs.Common.{inl, inr, ℕ, List, Ok, All}
+use Rattle.std.proofs.Common.{inl, inr, ℕ, List, Ok}
 use Rattle.lw_blif.specs.declared.parsed.Parsed.{Parsed}
 use Rattle.lw_map.specs.Options.{Options}
 use Rattle.lw_map.specs.Tabled.{HasReadableNames}

@@ -1,4 +1,4 @@
-use Rattle.std.proofs.Common.{subst, sym, arith, ◌≤◌}
+use Rattle.std.proofs.Common.{subst, arith}
 use Rattle.lw_net.specs.Plain as network
 use Rattle.lw_net.proofs.Rise.{in_order}
 use Rattle.lw_lut.specs.Meaning.{IsTableMapping}

@@ -1,10 +1,9 @@
-use Rattle.std.proofs.Common.{◌≡◌, ◌∙◌, ◌<◌, ◌/◌, ◌∷◌, ◌++◌, [], List, ℕ, map, slice_index_or, sym, subst, ap, ap₂, arith, length}
+use Rattle.std.proofs.Common.{◌∙◌, ◌<◌, ◌/◌, ◌∷◌, ◌++◌, [], map, slice_index_or, sym, subst, ap, ap₂, arith, length}
 use Rattle.std.proofs.lemmas.List.{length-map}
-use Rattle.lw_net.specs.Plain.{plain_node}
 use Rattle.lw_net.specs.Signs.{asked}
 use Rattle.lw_laws.specs.Forms.Form.{true_form}
 use Rattle.lw_laws.specs.Occurring.{add_signals}
-use Rattle.lw_laws.specs.Signals.{Signal, signal_of_node, sum_of_products, factored}
+use Rattle.lw_laws.specs.Signals.{sum_of_products, factored}
 use Rattle.lw_form.specs.Listed.{IsTooLong}
 use Rattle.lw_form.specs.Nets.{signal_at, AreListed}
 use Rattle.lw_form.specs.Products.{HaveColumns}
