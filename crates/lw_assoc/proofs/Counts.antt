@@ -3,6 +3,7 @@ use Rattle.std.proofs.Common.{◌≡◌, ◌+◌, ◌-◌, ◌^◌, ◌<◌, ◌
 use Rattle.std.specs.List.{sum_by}
 use Rattle.std.proofs.lemmas.List.Sums.{sum_by-cons, sum_by_more}
 use Rattle.std.proofs.lemmas.Option.{slice_get-get_or}
+use Rattle.lw_facts.proofs.Lists.{length_mapped}
 use Rattle.lw_laws.specs.Modes.{Mode}
 use Rattle.lw_laws.specs.Modes.Mode.{plain, idempotent}
 use Rattle.lw_laws.specs.NumberedForms.{Base}
@@ -16,15 +17,11 @@ use Rattle.lw_laws.specs.Occurring.{occurring_forms}
 use Rattle.lw_laws.specs.Mapped.{forms_of}
 use Rattle.lw_assoc.specs.Splits.{base_splits, numbered_splits}
 
-length_map : {X Y : Type 0} (f : X → Y) (xs : List X) → length (map f xs) ≡ length xs
-length_map f [] = refl
-length_map f (x ∷ xs) = ap suc (length_map f xs)
-
 same_splits : (mode : Mode) (bases : List Form) (f : Form) → base_splits mode (numbered_base bases f) ≡ splits_at mode f
 same_splits mode bases (var_form i) = refl
 same_splits mode bases true_form = refl
 same_splits mode bases (not_form f) = refl
-same_splits mode bases (and_form fs) = ap (splits_of mode) (length_map (number bases) (items fs))
+same_splits mode bases (and_form fs) = ap (splits_of mode) (length_mapped (number bases) (items fs))
 
 same_count : (mode : Mode) (bases fs : List Form) → sum_by (base_splits mode) (map (numbered_base bases) fs) ≡ split_count mode fs
 same_count mode bases [] = refl

@@ -2,13 +2,14 @@
 use Rattle.std.proofs.Common.{◌≡◌, ◌+◌, ◌-◌, ◌*◌, ◌/◌, ◌%◌, ◌^◌, ◌<◌, ◌≤◌, ◌⊎◌, inl, inr, ℕ, zero, suc, Bool, true, false, not, ◌&&◌, List, [], ◌∷◌, ◌++◌, length, Option, Some, Contains, slice_get, slice_index, slice_index_or, replicate, refl, ap, ap₂, sym, ◌∙◌, subst, arith, length-append, if◌then◌else◌, ◌==◌}
 use native.Mathlib.Decide.{dec_lt}
 use Rattle.std.proofs.lemmas.List.Elements.{Contains-append_left, Contains-push, Contains-push_cases}
+use Rattle.std.proofs.lemmas.Option.{slice_get_within}
+use Rattle.lw_facts.proofs.Lists.{falses_at}
 use Rattle.lw_laws.specs.Modes.{Mode}
 use Rattle.lw_laws.specs.Modes.Mode.{plain, idempotent}
 use Rattle.lw_laws.specs.NumberedForms.{Base, NumberedForms, IsPart, IsCutOf, IsSplitOf, NumberOccurs, IsSignal}
 use Rattle.lw_laws.specs.NumberedForms.Base.{base_true, base_input, base_and}
 use Rattle.lw_laws.specs.NumberedValues.{AreNumberedValues}
 use Rattle.lw_laws.specs.Drafts.{Draft, NandFact, FormLink}
-use Rattle.lw_laws.proofs.Lists.{slice_get_in}
 use Rattle.lw_laws.proofs.Flips.{flip_even}
 use Rattle.lw_laws.proofs.NumberedForms.{splits_occur}
 use Rattle.lw_laws.proofs.NumberedValues.{form_values_fit}
@@ -25,11 +26,6 @@ same_base o a b e d = cc
 pub same_operands : (o : Option Base) (fs hs : List ℕ) → o ≡ Some (base_and fs) → o ≡ Some (base_and hs) → fs ≡ hs
 same_operands o fs hs e d = cc
 
-falses : (n j : ℕ) → slice_index_or (replicate n false) j false ≡ false
-falses zero j = refl
-falses (suc n) zero = refl
-falses (suc n) (suc j) = falses n j
-
 index_before : (samples : List Bool) (s : Bool) (b : ℕ) → b < length samples → slice_index_or (samples ++ s ∷ []) b false ≡ slice_index_or samples b false
 index_before [] s b lt = absurd (omega arith)
 index_before (t ∷ samples) s zero lt = refl
@@ -44,8 +40,8 @@ module _ (forms : NumberedForms) (are : AreForms forms) where
   pub inputs_within : forms.inputs + 1 ≤ length forms.bases
   inputs_within = by_count forms.inputs refl where
     by_count : (n : ℕ) → forms.inputs ≡ n → forms.inputs + 1 ≤ length forms.bases
-    by_count zero e = let lt = slice_get_in forms.bases 0 base_true are.in_order.first in omega arith
-    by_count (suc n) e = let lt = slice_get_in forms.bases (n + 1) (base_input n) (are.in_order.inputs n (omega arith)) in omega arith
+    by_count zero e = let lt = slice_get_within forms.bases 0 base_true are.in_order.first in omega arith
+    by_count (suc n) e = let lt = slice_get_within forms.bases (n + 1) (base_input n) (are.in_order.inputs n (omega arith)) in omega arith
 
   pub first_bases : HasBases forms (forms.inputs + 1) (first_draft forms.inputs)
   first_bases = record { inputs = refl; count = count forms.inputs; samples = at } where
@@ -58,7 +54,7 @@ module _ (forms : NumberedForms) (are : AreForms forms) where
     at value values (suc j) lt =
         let c = count forms.inputs in
         let p : slice_get forms.bases (suc j) ≡ Some (base_input j) = subst (λ k. slice_get forms.bases k ≡ Some (base_input j)) (omega arith) (are.in_order.inputs j (omega arith)) in
-        falses forms.inputs j ∙ sym (values.bases (suc j) (base_input j) p)
+        falses_at forms.inputs j ∙ sym (values.bases (suc j) (base_input j) p)
 
   -- one more base form
   pub more_bases : (old new : Draft) (b : ℕ) (s : Bool) → HasBases forms b old → ((value : ℕ → Bool) → AreNumberedValues forms (λ i. false) value → s ≡ value (2 * b)) → new ≡ with_base old s → HasBases forms (b + 1) new

@@ -2,9 +2,9 @@
 use Rattle.std.proofs.Common.{◌≡◌, ◌+◌, ◌-◌, ◌*◌, ◌/◌, ◌%◌, ◌^◌, ◌==◌, ◌<◌, ◌≤◌, ℕ, zero, suc, if◌then◌else◌, List, [], ◌∷◌, length, Some, slice_get, slice_index, slice_set, refl, ap, sym, ◌∙◌, subst, arith, pow-suc, get_or-set_same, get_or-set_other}
 use native.Mathlib.Decide.{ℕ_discrete, dec_lt}
 use Rattle.std.proofs.Math.Pow.{pow-lt, pow_mono}
+use Rattle.std.proofs.lemmas.Option.{slice_get_within}
 use Rattle.lw_laws.specs.NumberedForms.{NumberedForms, IsPart}
 use Rattle.lw_laws.specs.NumberedForms.Base.{base_and}
-use Rattle.lw_laws.proofs.Lists.{slice_get_in}
 use Rattle.lw_form.specs.Bases.{picked}
 use Rattle.lw_form.specs.Kept.{AreForms}
 use Rattle.lw_form.proofs.Parts.{part_is}
@@ -133,13 +133,13 @@ module _ (forms : NumberedForms) (are : AreForms forms) (drops : List ℕ) (has 
   pub more_in : more / 2 < length forms.bases
   more_in =
       let (a, d, f) = part_and forms hs more two more_is in
-      let l = slice_get_in forms.bases a (base_and hs) d in
+      let l = slice_get_within forms.bases a (base_and hs) d in
       omega arith
 
   pub less_is : IsPart forms (picked fs mask) (slice_index drops (8 * (more / 2) + place))
   less_is =
       let (a, d, f) = part_and forms hs more two more_is in
-      let l = slice_get_in forms.bases a (base_and hs) d in
+      let l = slice_get_within forms.bases a (base_and hs) d in
       let h : a ≡ more / 2 = omega arith in
       subst (λ k. IsPart forms (picked fs mask) (slice_index drops (8 * k + place))) h (subst (λ l. IsPart forms l (slice_index drops (8 * a + place))) (sym (picked_less fs mask place u)) (has a hs place l d place_in))
 

@@ -8,11 +8,11 @@ use Rattle.lw_laws.specs.NumberedForms.{Base, NumberedForms, IsPart, IsCutOf, Is
 use Rattle.lw_laws.specs.NumberedForms.Base.{base_true, base_input, base_and}
 use Rattle.lw_laws.specs.Families.{IsNand}
 use Rattle.lw_laws.specs.Drafts.{Draft, NandFact, facts_of, HaveSameFacts}
-use Rattle.lw_laws.proofs.Lists.{slice_get_in}
 use Rattle.lw_form.specs.Bases.{picked}
 use Rattle.lw_form.specs.Kept.{AreForms}
 use Rattle.lw_assoc.specs.Drafting.{other, IsDraftOf}
 use Rattle.std.proofs.lemmas.Nat.{or_comm}
+use Rattle.std.proofs.lemmas.Option.{slice_get_within}
 use Rattle.lw_laws.proofs.Flips.{flip_even, flip_odd, half-flip}
 use Rattle.lw_assoc.proofs.Masks.{picked_other, picked_zero, IsCutBy, cut_mask, covering_masks, half_mask, or_other}
 
@@ -45,7 +45,7 @@ module _ (forms : NumberedForms) (are : AreForms forms) where
         let t : i ≡ j = cc in
         (omega arith, omega arith)
     by_order (no ge) =
-        let (fs, d) = are.in_order.later (suc j) (omega arith) (slice_get_in forms.bases (suc j) (base_input i) e) in
+        let (fs, d) = are.in_order.later (suc j) (omega arith) (slice_get_within forms.bases (suc j) (base_input i) e) in
         cc
 
   true_place : (b : ℕ) → slice_get forms.bases b ≡ Some base_true → b ≡ 0
@@ -56,7 +56,7 @@ module _ (forms : NumberedForms) (are : AreForms forms) where
         let d : slice_get forms.bases (suc j) ≡ Some (base_input j) = subst (λ k. slice_get forms.bases k ≡ Some (base_input j)) (omega arith) (are.in_order.inputs j lt) in
         cc
     by_order (no ge) =
-        let (fs, d) = are.in_order.later (suc j) (omega arith) (slice_get_in forms.bases (suc j) base_true e) in
+        let (fs, d) = are.in_order.later (suc j) (omega arith) (slice_get_within forms.bases (suc j) base_true e) in
         cc
 
   swapped : (d : Draft) (f x y : ℕ) → IsNand (facts_of d) f y x → IsNand (facts_of d) f x y
@@ -71,7 +71,7 @@ module _ (forms : NumberedForms) (are : AreForms forms) where
     -- the fact of the mask, in whichever order its parts stand
     split_found : (b : ℕ) (fs ls rs : List ℕ) (mask x y : ℕ) → slice_get forms.bases b ≡ Some (base_and fs) → 1 ≤ mask → mask < 2 ^ (length fs - 1) → ls ≡ picked fs mask → rs ≡ picked fs (other fs mask) → IsPart forms ls x → IsPart forms rs y → Contains d.nands (record { form = 2 * b + 1; left = x; right = y })
     split_found b fs ls rs mask x y e one lt l r p q =
-        let (n, c, by) = is.splits.all b (slice_get_in forms.bases b (base_and fs) e) fs mask e one lt in
+        let (n, c, by) = is.splits.all b (slice_get_within forms.bases b (base_and fs) e) fs mask e one lt in
         named d.nands n (2 * b + 1) x y by.form
         (part_once (picked fs mask) n.left x by.left (subst (λ hs. IsPart forms hs x) l p))
         (part_once (picked fs (other fs mask)) n.right y by.right (subst (λ hs. IsPart forms hs y) r q)) c
@@ -109,7 +109,7 @@ module _ (forms : NumberedForms) (are : AreForms forms) where
     -- the fact of two masks, in whichever order its parts stand
     pair_found : (b : ℕ) (fs ls rs : List ℕ) (a r x y : ℕ) → slice_get forms.bases b ≡ Some (base_and fs) → a < r → r < 2 ^ length fs → bit_or a r ≡ 2 ^ length fs - 1 → ls ≡ picked fs a → rs ≡ picked fs r → IsPart forms ls x → IsPart forms rs y → Contains d.nands (record { form = 2 * b + 1; left = x; right = y })
     pair_found b fs ls rs a r x y e less within all l t p q =
-        let has = (is.splits.all b (slice_get_in forms.bases b (base_and fs) e)).1 in
+        let has = (is.splits.all b (slice_get_within forms.bases b (base_and fs) e)).1 in
         let (n, c, by) = has fs a r e (record { some = not_zero fs ls a x l p; less = less; within = within; all = all }) in
         named d.nands n (2 * b + 1) x y by.form
         (part_once (picked fs a) n.left x by.left (subst (λ hs. IsPart forms hs x) l p))
@@ -177,6 +177,6 @@ module _ (forms : NumberedForms) (are : AreForms forms) where
         λ s. (0, are.in_order.first, s),
       );
       nands = λ f x y. (nand_there f x y, nand_back f x y);
-      links = λ f h (s, e, g). inl (inl (is.links.all s f h (slice_get_in forms.sops s f e) e g));
+      links = λ f h (s, e, g). inl (inl (is.links.all s f h (slice_get_within forms.sops s f e) e g));
       links_back = λ f h c. inl (inl (is.links.are (record { left = f; right = h }) c));
     }

@@ -7,13 +7,14 @@ use Rattle.std.proofs.lemmas.Cmp.{nat_list_eq_equiv}
 use Rattle.std.proofs.lemmas.List.{map-append, drop-map}
 use Rattle.std.proofs.lemmas.List.Elements.{All-map, All-from_recursion}
 use Rattle.std.proofs.lemmas.Map.Views.{list_any-from_Contains}
+use Rattle.lw_facts.proofs.Lists.{all_append_names, range_join}
 use Rattle.lw_net.specs.declared.draft.Draft.{Draft}
 use Rattle.lw_net.specs.declared.draft.DraftNode.{DraftNode}
 use Rattle.lw_net.specs.declared.fault.NetFault.TheVariants.{Undefined, Cycle}
 use Rattle.lw_net.specs.Closing.{IsDraft, HasFault, HasNoCycle, Reaches, signals_of, fanins_of, out_of, undefined_in, first_undefined}
 use Rattle.lw_big.specs.Generated.{most_nodes, signal_name, signal_names, first_fanin, second_fanin, rows_of, node_kind, drawn_node, drawn_nodes, drawn_draft}
 use Rattle.lw_big.proofs.Lowering.{first_before, second_before, no_cycle}
-use Rattle.lw_big.proofs.Ranges.{range-append, drop-range}
+use Rattle.lw_big.proofs.Ranges.{drop-range}
 use Rattle.lw_big.proofs.SignalNames.{length-signal_names, name_among, names_differ}
 
 -- the names that the nodes drive
@@ -29,7 +30,7 @@ outs_are seed first count = outs first count
 
 names-append : (first m n : ℕ) → signal_names first m ++ signal_names (first + m) n ≡ signal_names first (m + n)
 unfolding signal_names
-names-append first m n = sym (map-append signal_name (range_with_len first m) (range_with_len (first + m) n)) ∙ ap (map signal_name) (range-append first m n)
+names-append first m n = sym (map-append signal_name (range_with_len first m) (range_with_len (first + m) n)) ∙ ap (map signal_name) (range_join first m n)
 
 drop-names : (k first n : ℕ) → drop k (signal_names first n) ≡ signal_names (first + k) (n - k)
 unfolding signal_names
@@ -80,10 +81,6 @@ all_defined signals [] all = refl
 all_defined signals (name ∷ names) all =
     ap (λ b. cond (not b) (Some name) (undefined_in signals names)) (list_any-from_Contains nat_list_eq_equiv name signals all.0) ∙ all_defined signals names all.1
 
-both : (P : List ℕ → Type 0) (xs ys : List (List ℕ)) → AllByRecursion P xs → AllByRecursion P ys → AllByRecursion P (xs ++ ys)
-both P [] ys first second = second
-both P (x ∷ xs) ys first second = (first.0, both P xs ys first.1 second)
-
 fanins_among : (seed m : ℕ) (a n : ℕ) → 16 + (a + n) ≤ m → AllByRecursion (Contains (signal_names 0 m)) (flat_map fanins_of (map (drawn_node seed) (range_with_len a n)))
 unfolding drawn_node
 fanins_among seed m a zero within = tt
@@ -104,7 +101,7 @@ pub drawn_defined : (seed n : ℕ) → first_undefined (drawn_draft seed n) ≡ 
 unfolding drawn_draft drawn_nodes
 drawn_defined seed n =
     let names = flat_map fanins_of (map (drawn_node seed) (range_with_len 0 n)) ++ drop (n - 16) (map out_of (drawn_nodes seed 0 n)) in
-    let all = both (Contains (signal_names 0 (16 + n))) (flat_map fanins_of (map (drawn_node seed) (range_with_len 0 n))) (drop (n - 16) (map out_of (drawn_nodes seed 0 n)))
+    let all = all_append_names (Contains (signal_names 0 (16 + n))) (flat_map fanins_of (map (drawn_node seed) (range_with_len 0 n))) (drop (n - 16) (map out_of (drawn_nodes seed 0 n)))
     (fanins_among seed (16 + n) 0 n (omega arith))
     (subst (AllByRecursion (Contains (signal_names 0 (16 + n)))) (sym (drawn_outputs seed n)) (names_among (16 + n) (16 + (n - 16)) (n - (n - 16)) (omega arith))) in
     ap (λ s. undefined_in s names) (drawn_signals seed n) ∙ all_defined (signal_names 0 (16 + n)) names all

@@ -6,13 +6,6 @@ use Rattle.std.specs.List.{range_with_len}
 same_range : (a b m n : ℕ) → a ≡ b → m ≡ n → range_with_len a m ≡ range_with_len b n
 same_range a b m n start count = ap₂ range_with_len start count
 
-pub range-append : (a m n : ℕ) → range_with_len a m ++ range_with_len (a + m) n ≡ range_with_len a (m + n)
-range-append a zero n = same_range (a + 0) a n (0 + n) (omega arith) (omega arith)
-range-append a (suc m) n =
-    let more : suc (m + n) ≡ suc m + n = omega arith in
-    ap (λ l. a ∷ l) (ap (λ l. range_with_len (a + 1) m ++ l) (same_range (a + suc m) (a + 1 + m) n n (omega arith) refl) ∙ range-append (a + 1) m n)
-    ∙ ap (range_with_len a) more
-
 pub drop-range : (k a n : ℕ) → drop k (range_with_len a n) ≡ range_with_len (a + k) (n - k)
 drop-range zero a n = same_range a (a + 0) n (n - 0) (omega arith) (omega arith)
 drop-range (suc k) a zero = let none : 0 ≡ 0 - suc k = omega arith in ap (range_with_len (a + suc k)) none

@@ -15,9 +15,9 @@ use Rattle.lw_blif.specs.Drafts.{arrival_of, arrivals_for, latch_of, latches_for
 use Rattle.lw_pool.specs.declared.latch.Latch.{Latch}
 use Rattle.lw_blif.specs.declared.command.Command.TheVariants as asks
 use Rattle.std.proofs.lemmas.Bool.{and_parts}
+use Rattle.lw_facts.proofs.Lists.{drop_get}
 use Rattle.lw_blif.specs.Readers.{start_or_kind, start_said_on}
 use Rattle.lw_blif.specs.Keeping.{IsArrivalLine}
-use Rattle.lw_blif.proofs.WordLists.{drop-get}
 use Rattle.lw_words.specs.Words.{first_word, is_name}
 
 pub arrival-left : (c : Command) → IsArrivalLine c → (c ≡ Arrival → ⊥) → c ≡ DefaultArrival
@@ -35,7 +35,7 @@ arrival-left Unknown is other = absurd is
 arrival-left Row is other = absurd is
 
 pub start-words : (words : List (List ℕ)) (from : ℕ) (rise fall : List ℕ) → slice_get words from ≡ Some rise → slice_get words (from + 1) ≡ Some fall → start_in (drop from words) ≡ start_said rise fall
-start-words words from rise fall e f = ap start_in (drop-get words from rise e) ∙ ap (λ ws. start_in (rise ∷ ws)) (drop-get words (from + 1) fall f)
+start-words words from rise fall e f = ap start_in (drop_get words from rise e) ∙ ap (λ ws. start_in (rise ∷ ws)) (drop_get words (from + 1) fall f)
 
 pub said-count : (c : Command) (words : List (List ℕ)) → wants_words c words ≡ false → start_said_on c words ≡ Err kind.WordCount
 unfolding start_said_on
@@ -77,7 +77,7 @@ arrival-sound c words start e = ap broken_in e ∙ sym (broken-said c words)
 -- what a line says
 
 first-get : (words : List (List ℕ)) (name : List ℕ) → slice_get words 1 ≡ Some name → first_word (other_words words) ≡ name
-first-get words name e = ap first_word (drop-get words 1 name e)
+first-get words name e = ap first_word (drop_get words 1 name e)
 
 pub arrivals-own : (c : Command) (words : List (List ℕ)) (start : Micro) (name : List ℕ) → c ≡ Arrival → start_in (times_for c words) ≡ Ok start → slice_get words 1 ≡ Some name → record { named = Some name; start = start } ∷ [] ≡ arrivals_for c words
 arrivals-own c words start name e said at =
@@ -93,11 +93,11 @@ arrivals-every c words start e said =
 -- Latch lines.
 
 pub output_word : (words : List (List ℕ)) (i : ℕ) (word : List ℕ) → slice_get words i ≡ Some word → take 1 (drop i words) ≡ word ∷ []
-output_word words i word e = ap (take 1) (drop-get words i word e)
+output_word words i word e = ap (take 1) (drop_get words i word e)
 
 pub latch-words : (words rest : List (List ℕ)) (input output : List ℕ) → slice_get words 1 ≡ Some input → slice_get words 2 ≡ Some output → rest ≡ drop 3 words → latch_of (drop 1 words) ≡ record { input = input; output = output; rest = rest } ∷ []
 latch-words words rest input output e f r =
-    ap latch_of (drop-get words 1 input e ∙ ap (λ ws. input ∷ ws) (drop-get words 2 output f ∙ ap (λ ws. output ∷ ws) (sym r)))
+    ap latch_of (drop_get words 1 input e ∙ ap (λ ws. input ∷ ws) (drop_get words 2 output f ∙ ap (λ ws. output ∷ ws) (sym r)))
 
 -- Where the times stand.
 

@@ -7,6 +7,7 @@ use Rattle.std.proofs.lemmas.Map.Keys.{IsDistinct-cons, IsDistinct-head, IsDisti
 use Rattle.std.specs.Str.{bytes_eq}
 use Rattle.std.proofs.Math.Logic.{∥∥₁_elim}
 use Rattle.std.proofs.Props.{props}
+use Rattle.lw_facts.proofs.Lists.{distinct_left}
 use Rattle.lw_words.specs.Lines.{LogicalLine}
 use Rattle.lw_net.specs.declared.draft.Draft.{Draft}
 use Rattle.lw_net.specs.declared.fault.NetFault.{NetFault}
@@ -90,16 +91,6 @@ kept-model lines model law is = by_fault (first_fault [] (lines_read lines)) ref
     by_fault (Some first) e h = absurd h
     by_fault None e h = law (draft_of (lines_read lines)) model.network (lines-draft (lines_read lines) e) h.network
 
--- the network of a draft that fits
-prefix-differs : (names others : List (List ℕ)) → IsDistinct bytes_eq (names ++ others) → IsDistinct bytes_eq names
-prefix-differs [] others differ = none-distinct
-prefix-differs (name ∷ names) others differ =
-    IsDistinct-cons bytes_eq name names (all-front names (IsDistinct-head bytes_eq name (names ++ others) differ)) (prefix-differs names others (IsDistinct-tail bytes_eq name (names ++ others) differ))
-  where
-    all-front : (ns : List (List ℕ)) → AllByRecursion (λ other. bytes_eq name other ≡ false) (ns ++ others) → AllByRecursion (λ other. bytes_eq name other ≡ false) ns
-    all-front [] all = tt
-    all-front (n ∷ ns) all = (all.0, all-front ns all.1)
-
 pub model-fits : (said : Said) (model : Parsed) → IsDraft said.draft → SaidFits said → input_names model.network ≡ said.draft.inputs → output_names model.network ≡ said.draft.outputs → model.network.inputs ≡ length said.draft.inputs → model.frame ≡ said.frame → model.starts ≡ said.starts → IsModel model
 model-fits said model draft fits ins outs count frame starts = record {
   frame =
@@ -108,6 +99,6 @@ model-fits said model draft fits ins outs count frame starts = record {
   starts =
       subst (λ (f : Frame). StartsFit f model.network.inputs model.starts) (sym frame)
       (subst (λ (n : ℕ). StartsFit said.frame n model.starts) (sym count) (subst (λ (l : List Micro). StartsFit said.frame (length said.draft.inputs) l) (sym starts) fits.starts));
-  inputs = subst (IsDistinct bytes_eq) (sym ins) (prefix-differs said.draft.inputs (map out_of said.draft.nodes) draft.signals);
+  inputs = subst (IsDistinct bytes_eq) (sym ins) (distinct_left said.draft.inputs (map out_of said.draft.nodes) draft.signals);
   outputs = subst (IsDistinct bytes_eq) (sym outs) draft.outputs;
 }

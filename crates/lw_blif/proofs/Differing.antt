@@ -6,8 +6,8 @@ use Rattle.std.specs.Str.{bytes_eq}
 use Rattle.std.proofs.lemmas.Bool.{and_parts}
 use Rattle.std.proofs.lemmas.List.Sorted.{IsPermutation-refl, IsPermutation-sym, IsPermutation-trans, IsPermutation-to_front, IsPermutation-append_comm, IsPermutation-append_left, IsPermutation-append_right}
 use Rattle.std.proofs.lemmas.Map.Keys.{IsDistinct-IsPermutation, IsDistinct-cons}
+use Rattle.lw_facts.proofs.Lists.{bytes_eq_turned}
 use Rattle.lw_blif.specs.Readers.{are_fresh}
-use Rattle.lw_frame.proofs.Once.{eq-flips}
 use Rattle.lw_words.specs.Words.{is_among}
 
 -- a name that is none of these differs from each
@@ -22,7 +22,7 @@ none-among (other ∷ names) name e = by_first (bytes_eq name other) refl e (non
 -- a name more
 distinct-push : (names : List (List ℕ)) (name : List ℕ) → IsDistinct bytes_eq names → is_among names name ≡ false → IsDistinct bytes_eq (names ++ name ∷ [])
 distinct-push names name distinct none =
-    IsDistinct-IsPermutation bytes_eq eq-flips (name ∷ names) (names ++ name ∷ [])
+    IsDistinct-IsPermutation bytes_eq bytes_eq_turned (name ∷ names) (names ++ name ∷ [])
     (IsPermutation-sym (names ++ name ∷ []) (name ∷ names) (IsPermutation-to_front names name))
     (IsDistinct-cons bytes_eq name names (none-among names name none) distinct)
 

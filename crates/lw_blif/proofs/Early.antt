@@ -8,6 +8,8 @@ use Rattle.std.proofs.lemmas.Bool.{leb-false}
 use Rattle.std.proofs.lemmas.List.{length-take, reverse-append}
 use Rattle.std.proofs.lemmas.List.Elements.{All-from_recursion}
 use Rattle.std.proofs.lemmas.Str.Parse.{IsNumeralModel, numerals_by_value, digits_value_short}
+use Rattle.lw_facts.proofs.Lists.{digits_take}
+use Rattle.lw_facts.proofs.Tests.{second_of_three}
 use Rattle.lw_fixed.specs.declared.micro.Micro.{Micro}
 use Rattle.lw_fixed.specs.declared.fault.DecimalFault.{DecimalFault}
 use Rattle.lw_fixed.specs.declared.fault.DecimalFault.TheVariants.{Shape, Large, Fine, Negative}
@@ -15,26 +17,6 @@ use Rattle.lw_fixed.specs.Decimals.{decimal_of, is_decimal, whole_part, decimals
 use Rattle.lw_frame.specs.Starts.{Arrival, start_at, start_said, is_named, is_for_all, first_start, last_start, at_once, start_of, starts_of, IsEarly}
 
 -- Decimals
-
-second : (a b c : Bool) → (a && b && c) ≡ true → b ≡ true
-second true true c e = refl
-second true false c e = cc
-second false true c e = refl
-second false false c e = cc
-
-both_parts : (a b : Bool) → a ≡ true → b ≡ true → (a && b) ≡ true
-both_parts true true e f = refl
-both_parts true false e f = cc
-both_parts false b e f = cc
-
-taken : (n : ℕ) (ds : List ℕ) → list_all is_ascii_digit ds ≡ true → list_all is_ascii_digit (take n ds) ≡ true
-taken zero ds e = refl
-taken (suc n) [] e = refl
-taken (suc n) (d ∷ ds) e = by_test (is_ascii_digit d) refl e (taken n ds)
-  where
-    by_test : (b : Bool) → is_ascii_digit d ≡ b → (b && list_all is_ascii_digit ds) ≡ true → (list_all is_ascii_digit ds ≡ true → list_all is_ascii_digit (take n ds) ≡ true) → (b && list_all is_ascii_digit (take n ds)) ≡ true
-    by_test true is e rest = rest e
-    by_test false is e rest = cc
 
 padded : (ds : List ℕ) → list_all is_ascii_digit ds ≡ true → list_all is_ascii_digit (ds ++ replicate 6 48) ≡ true
 padded [] e = refl
@@ -51,7 +33,7 @@ part_below : (part : List ℕ) → list_all is_ascii_digit part ≡ true → val
 unfolding value_of_decimals
 part_below part all =
     let long = length-take 6 (part ++ replicate 6 48) in
-    digits_value_short own (take 6 (part ++ replicate 6 48)) 6 (taken 6 (part ++ replicate 6 48) (padded part all)) (omega arith)
+    digits_value_short own (take 6 (part ++ replicate 6 48)) 6 (digits_take 6 (part ++ replicate 6 48) (padded part all)) (omega arith)
 
 pub decimal_below : (text : List ℕ) (units : ℕ) (m : Micro) → decimal_of text units ≡ Ok m → m.0 < units * 1000000
 unfolding decimal_of
@@ -65,7 +47,7 @@ decimal_below text units m e = by_tests (is_decimal text) (nat_le units (units_o
     by_tests true false false false s l e =
         let same : ◌≡◌ {A = Micro} (record { 0 = millionths_of text }) m = cc in
         let whole : units_of text < units = leb-false units (units_of text) l in
-        let part = part_below (decimals text) (second (list_all is_ascii_digit (whole_part text)) (list_all is_ascii_digit (decimals text)) (nat_lt 0 (length (whole_part text) + length (decimals text))) s) in
+        let part = part_below (decimals text) (second_of_three (list_all is_ascii_digit (whole_part text)) (list_all is_ascii_digit (decimals text)) (nat_lt 0 (length (whole_part text) + length (decimals text))) s) in
         subst (λ (k : Micro). k.0 < units * 1000000) same (omega arith)
 
 pub said_early : (rise fall : List ℕ) (m : Micro) → start_said rise fall ≡ Ok m → IsEarly m

@@ -2,14 +2,11 @@
 use Rattle.std.proofs.Common.{ℕ, ◌≡◌, Bool, true, false, not, ◌&&◌, ◌||◌, List, [], ◌∷◌, ◌++◌, refl, ap, sym, ◌∙◌}
 use Rattle.std.specs.List.{list_any}
 use Rattle.std.specs.Str.{bytes_eq}
+use Rattle.std.proofs.Math.Bool.{or-false}
+use Rattle.lw_facts.proofs.Lists.{list_any_append, bytes_eq_turned}
 use Rattle.lw_blif.specs.LineFaults.{has_twice}
 use Rattle.lw_blif.specs.Readers.{are_fresh}
-use Rattle.lw_frame.proofs.Once.{eq-flips}
 use Rattle.lw_words.specs.Words.{is_among}
-
-or-assoc : (a b c : Bool) → ((a || b) || c) ≡ (a || (b || c))
-or-assoc true b c = refl
-or-assoc false b c = refl
 
 or-comm : (a b : Bool) → (a || b) ≡ (b || a)
 or-comm true true = refl
@@ -17,16 +14,8 @@ or-comm true false = refl
 or-comm false true = refl
 or-comm false false = refl
 
-or-false : (a : Bool) → (a || false) ≡ a
-or-false true = refl
-or-false false = refl
-
-list_any-append : (p : List ℕ → Bool) (xs ys : List (List ℕ)) → list_any p (xs ++ ys) ≡ (list_any p xs || list_any p ys)
-list_any-append p [] ys = refl
-list_any-append p (x ∷ xs) ys = ap (λ t. p x || t) (list_any-append p xs ys) ∙ sym (or-assoc (p x) (list_any p xs) (list_any p ys))
-
 among-push : (defined : List (List ℕ)) (name other : List ℕ) → is_among (defined ++ name ∷ []) other ≡ (is_among defined other || bytes_eq other name)
-among-push defined name other = list_any-append (bytes_eq other) defined (name ∷ []) ∙ ap (λ t. is_among defined other || t) (or-false (bytes_eq other name))
+among-push defined name other = list_any_append (bytes_eq other) defined (name ∷ []) ∙ ap (λ t. is_among defined other || t) (or-false (bytes_eq other name))
 
 -- some name is among those before, or is this one
 any-among-push : (defined : List (List ℕ)) (name : List ℕ) (names : List (List ℕ)) → list_any (is_among (defined ++ name ∷ [])) names ≡ (list_any (is_among defined) names || is_among names name)
@@ -34,7 +23,7 @@ any-among-push defined name [] = refl
 any-among-push defined name (other ∷ names) =
     ap (λ t. t || list_any (is_among (defined ++ name ∷ [])) names) (among-push defined name other)
     ∙ (ap (λ t. (is_among defined other || bytes_eq other name) || t) (any-among-push defined name names)
-    ∙ (ap (λ t. (is_among defined other || t) || (list_any (is_among defined) names || is_among names name)) (eq-flips other name)
+    ∙ (ap (λ t. (is_among defined other || t) || (list_any (is_among defined) names || is_among names name)) (bytes_eq_turned other name)
     ∙ by_parts (is_among defined other) (bytes_eq name other) (list_any (is_among defined) names) (is_among names name)))
   where
     by_parts : (a b c d : Bool) → ((a || b) || (c || d)) ≡ ((a || c) || (b || d))

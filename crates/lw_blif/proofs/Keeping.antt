@@ -7,6 +7,8 @@ use Rattle.std.specs.Cmp.Lexicographic.{bytes_decides}
 use Rattle.std.proofs.lemmas.Grind.{flat_map-append}
 use Rattle.std.proofs.lemmas.List.{reverse-append, length-reverse}
 use Rattle.std.proofs.lemmas.Bool.{and_parts, ltb-false}
+use Rattle.std.proofs.Math.Bool.{not-not}
+use Rattle.lw_facts.proofs.Lists.{length_mapped}
 use Rattle.lw_net.specs.declared.draft.DraftNode.{DraftNode}
 use Rattle.lw_net.specs.declared.draft.Draft.{Draft}
 use Rattle.lw_words.specs.Lines.{LogicalLine, has_some}
@@ -26,7 +28,7 @@ use Rattle.lw_blif.specs.Readers.{fault_else, names_fault_of, are_fresh, whole_n
 use Rattle.lw_blif.proofs.NodesBehind.{nodes-parts, rows-ignored, node-ignored, whole-ignored, rows-row, node-row, whole-row, rows-other, node-other, whole-other}
 use Rattle.indexmap.specs.IndexSet.{insert_all}
 use Rattle.lw_blif.proofs.Fresh.{fresh-are}
-use Rattle.lw_blif.proofs.RowsBehind.{length-map, some-length, row_fault-node, row_fault-none}
+use Rattle.lw_blif.proofs.RowsBehind.{some-length, row_fault-node, row_fault-none}
 use Rattle.lw_words.specs.Words.{is_among, first_word, is_name}
 
 -- what one more line adds
@@ -164,10 +166,6 @@ value-off : (on : Bool) → bytes_eq (value_word on) (codes "0") ≡ not on
 value-off true = refl
 value-off false = refl
 
-not-twice : (b : Bool) → not (not b) ≡ b
-not-twice true = refl
-not-twice false = refl
-
 pub map-push : (f : LogicalLine → List ℕ) (xs : List LogicalLine) (x : LogicalLine) → map f (xs ++ x ∷ []) ≡ map f xs ++ f x ∷ []
 map-push f [] x = refl
 map-push f (y ∷ xs) x = ap (λ r. f y ∷ r) (map-push f xs x)
@@ -178,7 +176,7 @@ node-added : (l : LogicalLine) (rows : List LogicalLine) (line : LogicalLine) �
 node-added l rows line h =
     let on = not (bytes_eq (last_word line.words) (codes "0")) in
     let is_on : not (list_any is_off_row (reverse (line ∷ rows))) ≡ on =
-    ap not (any-reverse is_off_row (line ∷ rows) ∙ (any-off (value_word on) line rows h ∙ value-off on)) ∙ not-twice on in
+    ap not (any-reverse is_off_row (line ∷ rows) ∙ (any-off (value_word on) line rows h ∙ value-off on)) ∙ not-not on in
     let turned = reverse-append (line ∷ []) rows in
     ap (λ rs. record { out = last_word l.words; fanins = fanins_on l; rows = rs; on = not (list_any is_off_row (reverse (line ∷ rows))) }) (ap (map row_of) turned ∙ map-push row_of (reverse rows) line)
     ∙ ap (λ b. record { out = last_word l.words; fanins = fanins_on l; rows = map row_of (reverse rows) ++ columns_of line.words ∷ []; on = b }) is_on
@@ -215,7 +213,7 @@ kept-row model inputs outputs defined nodes node lines line e fit k =
     by_node (l ∷ []) is =
         let same : node ≡ node_of l (reverse (rows_before lines)) = cc in
         let count : has_some node.rows ≡ has_some (rows_before lines) =
-        ap (λ (n : DraftNode). has_some n.rows) same ∙ some-length (map row_of (reverse (rows_before lines))) (rows_before lines) (length-map row_of (reverse (rows_before lines)) ∙ length-reverse (rows_before lines)) in
+        ap (λ (n : DraftNode). has_some n.rows) same ∙ some-length (map row_of (reverse (rows_before lines))) (rows_before lines) (length_mapped row_of (reverse (rows_before lines)) ∙ length-reverse (rows_before lines)) in
         let values = new-values node.on (rows_before lines) line k.one_value (ap (λ t. t && not (bytes_eq (value_word node.on) (last_word line.words))) (sym count) ∙ fit.same) (shape-value (length node.fanins) line.words fit.shape) in (
           ap (λ n. row_added line.words n ∷ []) same ∙ ap (λ n. n ∷ []) (sym (node-added l (rows_before lines) line values)),
           (λ none. cc),

@@ -4,15 +4,12 @@ use Rattle.std.specs.Prelude.{nat_le}
 use Rattle.std.specs.List.{flat_map}
 use Rattle.std.specs.Str.{bytes_eq}
 use Rattle.std.proofs.lemmas.List.{length-reverse}
+use Rattle.lw_facts.proofs.Lists.{length_mapped}
 use Rattle.lw_words.specs.Lines.{LogicalLine, has_some}
 use Rattle.lw_blif.specs.declared.fault.BlifKind.TheVariants as kind
 use Rattle.lw_blif.specs.LineFaults.{last_word, fanins_on, has_shape, differs_from, first_broken, row_rules}
 use Rattle.lw_blif.specs.Drafts.{node_of, row_of}
 use Rattle.lw_blif.specs.Readers.{HaveValue, value_word, is_value_of, row_fault_of}
-
-pub length-map : {A B : Type 0} (f : A → B) (xs : List A) → length (map f xs) ≡ length xs
-length-map f [] = refl
-length-map f (x ∷ xs) = ap suc (length-map f xs)
 
 -- where all rows have one value, some row differs where there is one and the value does
 pub differs-value : (words : List (List ℕ)) (value : List ℕ) (rows : List LogicalLine) → HaveValue value rows → differs_from words rows ≡ (has_some rows && not (bytes_eq value (last_word words)))
@@ -42,7 +39,7 @@ pub row_fault-node : (l : LogicalLine) (rows : List LogicalLine) (words : List (
 unfolding row_fault_of is_value_of
 row_fault-node l rows words h =
     let node = node_of l (reverse rows) in
-    let count : length (map row_of (reverse rows)) ≡ length rows = length-map row_of (reverse rows) ∙ length-reverse rows in
+    let count : length (map row_of (reverse rows)) ≡ length rows = length_mapped row_of (reverse rows) ∙ length-reverse rows in
     let fanins : flat_map fanins_on (l ∷ []) ≡ fanins_on l = append-nil (fanins_on l) in
     let differs : differs_from words rows ≡ (has_some node.rows && not (bytes_eq (value_word node.on) (last_word words))) =
     differs-value words (value_word node.on) rows h ∙ ap (λ t. t && not (bytes_eq (value_word node.on) (last_word words))) (sym (some-length (map row_of (reverse rows)) rows count)) in

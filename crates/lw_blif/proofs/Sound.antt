@@ -9,6 +9,7 @@ use Rattle.std.proofs.lemmas.List.{reverse-append}
 use Rattle.std.proofs.lemmas.List.Elements.{All-append, All-nil, All-cons, All-head}
 use Rattle.std.proofs.lemmas.List.Sorted.{length_permutation, IsPermutation-trans, IsPermutation-append_right}
 use Rattle.std.proofs.lemmas.Map.Keys.{IsDistinct-IsPermutation}
+use Rattle.lw_facts.proofs.Lists.{bytes_eq_turned}
 use Rattle.lw_words.specs.Lines.{LogicalLine}
 use Rattle.lw_net.specs.declared.draft.DraftNode.{DraftNode}
 use Rattle.lw_net.specs.Closing.{IsDraft, out_of}
@@ -20,7 +21,7 @@ use Rattle.lw_blif.specs.LineFaults.{command, last_word, other_words, is_row_com
 use Rattle.lw_blif.specs.Drafts.{draft_of, nodes_of, node_of, row_of, columns_of, inputs_for, inputs_on, outputs_on, latch_of, latches_for, latches_on}
 use Rattle.lw_blif.specs.Readers.{whole_nodes, are_fresh, fault_else, names_fault_of}
 use Rattle.lw_blif.proofs.Appending.{fault_or_none}
-use Rattle.lw_frame.proofs.Once.{eq-flips, roots_differ}
+use Rattle.lw_frame.proofs.Once.{roots_differ}
 use Rattle.lw_frame.specs.Frames.{input_names, output_of}
 use Rattle.lw_blif.proofs.Differing.{distinct-fresh, in-two}
 use Rattle.lw_frame.proofs.Once.{none-distinct}
@@ -318,7 +319,7 @@ lines-draft lines none =
     let signals = input_names (flat_map inputs_on lines) (flat_map latches_on lines) ++ map out_of (nodes_of (filter (λ line. not (is_ignored line)) lines)) in
     let nodes = nodes-parts lines h.no_rows in
     record {
-      signals = IsDistinct-IsPermutation bytes_eq eq-flips (defined_by lines) signals (signals-are lines) h.distinct;
+      signals = IsDistinct-IsPermutation bytes_eq bytes_eq_turned (defined_by lines) signals (signals-are lines) h.distinct;
       outputs = roots_differ (flat_map outputs_on lines) (flat_map latches_on lines);
       columns = subst (All HasColumns) (sym nodes) (All-append HasColumns (whole_nodes lines) (begun_nodes lines) h.whole h.begun);
       few = omega (arith, h.few, length_permutation (defined_by lines) signals (signals-are lines));

@@ -2,6 +2,7 @@
 use Rattle.std.proofs.Common.{ℕ, ◌≡◌, Bool, true, false, not, List, [], ◌∷◌, ◌++◌, Option, Some, None, Err, refl, ap, sym, ◌∙◌, subst}
 use Rattle.std.proofs.Math.Logic.{∥∥₁_map}
 use Rattle.std.proofs.lemmas.Grind.{merely}
+use Rattle.std.proofs.Math.Bool.{not-not}
 use Rattle.lw_words.specs.Lines.{LogicalLine}
 use Rattle.lw_blif.specs.declared.reader.Stop.{Stop}
 use Rattle.lw_blif.specs.declared.reader.Stop.TheVariants as stop
@@ -13,10 +14,6 @@ use Rattle.lw_blif.specs.Given.{IsKept, IsKeptOfSome, Stops}
 use Rattle.lw_blif.specs.Standing.{Tells, fault_of}
 use Rattle.lw_blif.proofs.Appending.{lines_read-all, has_ended-more, lines_read-ended, lines_read-end}
 use Rattle.lw_blif.proofs.Given.{first-more, ended-stays, ended-some, stops-stay, read-next}
-
-not-twice : (b : Bool) → not (not b) ≡ b
-not-twice true = refl
-not-twice false = refl
 
 -- Behind a fault.
 
@@ -78,7 +75,7 @@ is-open begun ended o parts lines e is h =
     let still = sym (h.ended e) ∙ is in
     record {
       still = still;
-      first = ap not (h.begun e) ∙ not-twice (is_first lines);
+      first = ap not (h.begun e) ∙ not-not (is_first lines);
       none = no_fault begun ended o parts lines e h;
       kept = subst (λ (ls : List LogicalLine). Keeps parts ls) (lines_read-all lines still) (h.kept e);
     }

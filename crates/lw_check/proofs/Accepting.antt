@@ -4,6 +4,7 @@ use Rattle.std.specs.List.{AllZip, AllByRecursion, filter_map}
 use Rattle.std.proofs.lemmas.List.{length-map}
 use Rattle.std.proofs.lemmas.List.Elements.{recursion_from_All}
 use Rattle.std.proofs.lemmas.Option.{same_Some, slice_get_within, slice_get-get_or, get_or_from_slice_get}
+use Rattle.lw_facts.proofs.Lists.{some_within}
 use Rattle.lw_fixed.specs.declared.micro.Micro.{Micro}
 use Rattle.lw_pool.specs.declared.id.NetId.{NetId}
 use Rattle.lw_laws.specs.Costs.{Cost}
@@ -46,7 +47,7 @@ use Rattle.lw_check.specs.Claims.{AreMatches, Claim, HasPotential, IsAtRoot, IsO
 use Rattle.lw_check.specs.Mappings.{IsKept, IsMappingOf, IsOverGraph}
 use Rattle.lw_check.specs.Verdicts.{IsVerdictOn}
 use Rattle.lw_check.specs.declared.verdict.Verdict.TheVariants.{Yes}
-use Rattle.lw_check.proofs.Places.{zip_at, zip_left, map_at, from_map, read_map, read_some, read_within, somes_append, some_mapped, all_by_place}
+use Rattle.lw_check.proofs.Places.{zip_at, zip_left, map_at, from_map, read_map, read_some, somes_append, some_mapped, all_by_place}
 use Rattle.lw_check.proofs.Unknown.{none_found, labelled_below, nets_below}
 use Rattle.lw_net.specs.Ports.{output_port, ports_of}
 use Rattle.lw_netlist.specs.Plain.{plain_port, mapped_ports, port_name}
@@ -201,7 +202,7 @@ module _ (mode : Mode) (width : ℕ) (k : Claim) (kept : IsKept k) (over : IsOve
     low : (c l : ℕ) → labels_in labels c ≡ Some l → l < most_time
     low c l e =
         let (label, at, same) = some_mapped millionths (label_of_class k c) l (same_labels c ∙ e) in
-        let small : IsLabel label = subst (λ o. IfSome o IsLabel) at (limits.labels c None (read_within k.mapped.cert.labels c label at)) in
+        let small : IsLabel label = subst (λ o. IfSome o IsLabel) at (limits.labels c None (some_within k.mapped.cert.labels c label at)) in
         omega (arith, small, same)
 
     leaf_labels : HaveLeafLabels k.graph cost (labels_in labels)

@@ -1,6 +1,7 @@
 -- Labels that are no bound.
 use Rattle.std.proofs.Common.{ℕ, ◌<◌, ◌≡◌, ◌%◌, ◌⊎◌, ◌↔◌, inl, inr, List, length, Option, Some, None, IsNone, IfSome, option_map, refl, ap, sym, ◌∙◌, subst, arith}
 use Rattle.std.proofs.lemmas.Option.{same_Some}
+use Rattle.lw_facts.proofs.Lists.{all_at}
 use native.Mathlib.Decide.{dec_lt}
 use Rattle.lw_pool.specs.declared.id.ClassId.{ClassId}
 use Rattle.lw_laws.specs.Graphs.{Graph}
@@ -20,7 +21,6 @@ use Rattle.lw_match.proofs.CellMatches.{of_cell, of_pattern}
 use Rattle.lw_label.proofs.Marked.{place_of}
 use Rattle.lw_check.specs.Claims.{class_number}
 use Rattle.lw_check.specs.Failing.{IsMatchCost, Gives, IsAbove, IsFailing, IsFirstFailing}
-use Rattle.lw_check.proofs.Places.{all_place}
 use Rattle.lw_check.specs.Least.{IsLeastOf, IsLate, IsLow, IsByPattern, CostsBy, IsLowMatch, lesser_of}
 use Rattle.lw_check.proofs.Lesser.{lesser_least}
 
@@ -118,7 +118,7 @@ module _ (g : Graph) (cost : Cost) (pats : List Pattern) where
           subst (λ n. c < n) one_each (match_in g pats cost labels classes c m.cell m.pins m.pin_labels m.stands m.have)
 
       late_in : (c : ℕ) → IsLate g cost known c → c < length g.pairs
-      late_in c (d, (i, at, e), above) = all_place (λ b. b < length g.pairs) g.leaves i c is_graph.leaves at
+      late_in c (d, (i, at, e), above) = all_at (λ b. b < length g.pairs) g.leaves i c is_graph.leaves at
 
       pub fails_in : (c : ℕ) → Fails c → c < length g.pairs
       fails_in c (inl late) = late_in c late

@@ -2,6 +2,7 @@
 use Rattle.std.proofs.Common.{ℕ, suc, ◌+◌, ◌<◌, ◌≤◌, ◌≡◌, ◌⊎◌, inl, inr, List, [], ◌∷◌, ◌++◌, length, take, Contains, Option, Some, None, slice_get, slice_set, refl, ap, sym, ◌∙◌, subst, arith}
 use Rattle.std.proofs.lemmas.List.{map-append, take_all, take_more, take_more_set}
 use Rattle.std.proofs.lemmas.Option.{same_Some, none-some, slice_get_within, get_or_from_slice_get}
+use Rattle.lw_facts.proofs.Lists.{contains_cases}
 use Rattle.lw_pool.specs.declared.id.ClassId.{ClassId}
 use Rattle.lw_laws.specs.Choices.{HaveLabels, Labels}
 use Rattle.lw_laws.specs.Costs.{Cost}
@@ -10,7 +11,7 @@ use Rattle.lw_laws.specs.Extracts.{Match}
 use Rattle.lw_laws.specs.Graphs.{Graph}
 use Rattle.lw_match.specs.Coming.{AreMatches, IsPatternMatch}
 use Rattle.lw_match.specs.Least.{AreOfCells}
-use Rattle.lw_dag.proofs.Rising.{contains_cons, contains_none}
+use Rattle.lw_dag.proofs.Rising.{contains_none}
 use Rattle.lw_check.specs.Claims.{class_number}
 use Rattle.lw_check.specs.Least.{CostsBy, IsLow, IsLowMatch}
 use Rattle.lw_check.proofs.Failures.{at_cost}
@@ -92,7 +93,7 @@ module _ (g : Graph) (cost : Cost) (pats : List Pattern) (labels : Labels) (c : 
     each = λ m (k, lt, at). is.each m (subst (λ ms. Contains ms m) (sym e) (suc k, omega arith, at));
     gone = λ m match'. elim (is.gone m match') [
       | inl high ↦ inl high
-      | inr has ↦ by_place m (contains_cons found rest m (subst (λ ms. Contains ms m) e has))
+      | inr has ↦ by_place m (contains_cases found rest m (subst (λ ms. Contains ms m) e has))
     ];
   }
     where

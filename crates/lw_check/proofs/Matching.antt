@@ -2,6 +2,7 @@
 use Rattle.std.proofs.Common.{ℕ, zero, suc, ◌+◌, ◌-◌, ◌<◌, ◌≤◌, ◌≡◌, ◌⊎◌, inl, inr, List, [], ◌∷◌, ◌++◌, length, map, take, Option, Some, None, IfSome, option_map, slice_get, slice_index_or, get_or, length-append, refl, ap, sym, ◌∙◌, subst, arith}
 use Rattle.std.proofs.lemmas.List.{length-map, map-append, take_all, take_more}
 use Rattle.std.proofs.lemmas.Option.{same_Some, none-some, slice_get_within, slice_get-get_or}
+use Rattle.lw_facts.proofs.Lists.{all_at}
 use Rattle.lw_pool.specs.declared.id.CellId.{CellId}
 use Rattle.lw_pool.specs.declared.id.ClassId.{ClassId}
 use Rattle.lw_pool.specs.declared.id.NetId.{NetId}
@@ -19,7 +20,7 @@ use Rattle.lw_check.specs.Gates.{AreClassesOf, IsMatchBy, IsNoMatchAt}
 use Rattle.lw_check.specs.Spans.{AreSpans, IsIn}
 use Rattle.lw_check.specs.Standing.{AreWithin, StandsAlone}
 use Rattle.lw_check.specs.declared.spans.Span.{Span}
-use Rattle.lw_check.proofs.Places.{all_place, from_map, map_at, read_map, some_left, some_right}
+use Rattle.lw_check.proofs.Places.{from_map, map_at, read_map, some_left, some_right}
 use Rattle.lw_check.proofs.Unknown.{net_known}
 use Rattle.lw_pool.specs.Numbers.{numbers}
 
@@ -56,7 +57,7 @@ module _ (k : Claim) where
 
       by_place : (j : ℕ) (d : ClassId) → j < length (classes ++ class ∷ []) → slice_get (classes ++ class ∷ []) j ≡ Some (get_or (classes ++ class ∷ []) j d) → (get_or (classes ++ class ∷ []) j d).0 < length k.graph.pairs
       by_place j d lt at = elim (in_front classes j (get_or (classes ++ class ∷ []) j d) at) [
-        | inl here ↦ all_place (λ (c : ClassId). c.0 < length k.graph.pairs) classes j (get_or (classes ++ class ∷ []) j d) within here
+        | inl here ↦ all_at (λ (c : ClassId). c.0 < length k.graph.pairs) classes j (get_or (classes ++ class ∷ []) j d) within here
         | inr same ↦ subst (λ (c : ClassId). c.0 < length k.graph.pairs) same low
       ]
 
@@ -110,7 +111,7 @@ module _ (k : Claim) where
   gate_pins : (gate : Gate) → IsLibrary k.cells → HasCell k.cells gate → HasPins (cost_in k).pin_counts gate.cell.0 (length gate.pins)
   gate_pins gate lib has =
       let delays = map_at length (delays_of_cells k.cells) gate.cell.0 (cell_delays has.cell) (map_at cell_delays k.cells gate.cell.0 has.cell has.at) in
-      let listed : IsListed has.cell = all_place IsListed k.cells gate.cell.0 has.cell lib.each has.at in
+      let listed : IsListed has.cell = all_at IsListed k.cells gate.cell.0 has.cell lib.each has.at in
       delays ∙ ap Some (length-map has.cell.delays millionths ∙ (listed.kept.delays ∙ sym has.pins))
 
   module _ (gate : Gate) (lib : IsLibrary k.cells) (has : HasCell k.cells gate) (class : ClassId) (pins : List ClassId) (at : class_of_net k gate.out ≡ Some class.0) (are : AreClassesOf k gate.pins (Some pins)) where

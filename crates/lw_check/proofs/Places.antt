@@ -79,18 +79,9 @@ pub some_mapped : {A : Type 0} (f : A → ℕ) (o : Option A) (n : ℕ) → opti
 some_mapped f None n e = absurd (none-some n e)
 some_mapped f (Some x) n e = (x, refl, same_Some (f x) n e)
 
-pub read_within : {A : Type 0} (xs : List (Option A)) (j : ℕ) (x : A) → slice_index_or xs j None ≡ Some x → j < length xs
-read_within [] j x e = absurd (none-some x e)
-read_within (z ∷ xs) zero x e = omega arith
-read_within (z ∷ xs) (suc j) x e = let ih = read_within xs j x e in omega arith
-
 pub all_by_place : {A : Type 0} (P : A → Type 0) (xs : List A) → ((j : ℕ) (x : A) → slice_get xs j ≡ Some x → P x) → AllByRecursion P xs
 all_by_place P [] h = tt
 all_by_place P (x ∷ xs) h = (h zero x refl, all_by_place P xs (λ j. h (suc j)))
-
--- what holds of all entries, at a place
-pub all_place : {A : Type 0} (P : A → Type 0) (xs : List A) (j : ℕ) (x : A) → All P xs → slice_get xs j ≡ Some x → P x
-all_place P xs j x all at = subst P (get_or_from_slice_get xs j x x at) (all j x (slice_get_within xs j x at))
 
 -- lists with the same entries are one
 pub same_lists : {A : Type 0} (xs ys : List A) → length xs ≡ length ys → ((j : ℕ) → j < length xs → slice_get xs j ≡ slice_get ys j) → xs ≡ ys

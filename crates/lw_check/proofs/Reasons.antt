@@ -1,5 +1,6 @@
 -- The first class that fails, and the labels of a certificate.
 use Rattle.std.proofs.Common.{ℕ, zero, suc, ◌<◌, ◌≤◌, ◌≡◌, List, [], ◌∷◌, length, IfSome, Option, Some, None, option_map, slice_index_or, refl, sym, ◌∙◌, subst, arith}
+use Rattle.lw_facts.proofs.Lists.{some_within}
 use native.Mathlib.Decide.{dec_lt}
 use Rattle.lw_fixed.specs.declared.micro.Micro.{Micro}
 use Rattle.lw_laws.specs.Choices.{IsPotential, Labels}
@@ -19,7 +20,7 @@ use Rattle.lw_check.specs.Failing.{Gives, IsFirstFailing}
 use Rattle.lw_check.specs.Least.{FindsUnbounded, IsLeastAt, IsLeastOf}
 use Rattle.lw_check.specs.declared.labels.Unbounded.{Unbounded}
 use Rattle.lw_check.proofs.Failures.{Fails, failing_of, first_fails}
-use Rattle.lw_check.proofs.Places.{read_map, read_within, some_mapped}
+use Rattle.lw_check.proofs.Places.{read_map, some_mapped}
 use Rattle.lw_check.proofs.Unknown.{label_known}
 
 module _ (g : Graph) (cost : Cost) (pats : List Pattern) (labels : List (Option ℕ)) where
@@ -62,9 +63,9 @@ module _ (k : Claim) (known : HasKnownClasses k) (labels : List (Option ℕ)) (o
 
   pub capped : AreLabels k.mapped.cert → (c l : ℕ) → labels_in labels c ≡ Some l → l ≤ 9223372036854775807
   capped are c l e =
-      let inside : c < length k.graph.pairs = let lt = read_within labels c l e in omega arith in
+      let inside : c < length k.graph.pairs = let lt = some_within labels c l e in omega arith in
       let (label, at, same) = some_mapped millionths (label_of_class k c) l (sym (read c inside) ∙ e) in
-      let small : IsLabel label = subst (λ o. IfSome o IsLabel) at (are.labels c None (read_within k.mapped.cert.labels c label at)) in
+      let small : IsLabel label = subst (λ o. IfSome o IsLabel) at (are.labels c None (some_within k.mapped.cert.labels c label at)) in
       omega (arith, small, same)
 
 -- what is found of the labels that a claim gives

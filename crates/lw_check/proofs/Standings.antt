@@ -2,6 +2,7 @@
 use Rattle.std.proofs.Common.{ℕ, ◌+◌, ◌-◌, ◌<◌, ◌≤◌, ◌≡◌, ◌⊎◌, inl, inr, List, length, Option, Some, None, IfSome, IsNone, slice_get, slice_index_or, slice_set, get_or-set_same, get_or-set_other, refl, ap, sym, ◌∙◌, subst, arith}
 use Rattle.std.proofs.lemmas.Bool.{cases_eq}
 use Rattle.std.proofs.lemmas.Option.{same_Some, none-some}
+use Rattle.lw_facts.proofs.Lists.{all_at}
 use Rattle.lw_pool.specs.declared.id.ClassId.{ClassId}
 use Rattle.lw_laws.specs.Flip.{flip}
 use Rattle.lw_laws.specs.Graphs.{Graph, HoldsPair, Stands}
@@ -12,7 +13,7 @@ use Rattle.lw_pattern.specs.declared.node.PatNode.{PatNode}
 use Rattle.lw_pattern.specs.Nodes.{tree_at, tree_of}
 use Rattle.lw_check.specs.Claims.{class_number}
 use Rattle.lw_check.specs.Standing.{AreStanding, AreWithin, StandsAlone}
-use Rattle.lw_check.proofs.Places.{from_map, map_at, all_place}
+use Rattle.lw_check.proofs.Places.{from_map, map_at}
 use Rattle.lw_pool.specs.Numbers.{numbers}
 
 module _ (g : Graph) where
@@ -25,7 +26,7 @@ module _ (g : Graph) where
           let here = map_at class_number pins k pin e in (
             here,
             λ c s. same_Some c pin.0 (sym s ∙ here),
-            all_place (λ (class : ClassId). class.0 < length g.pairs) pins k pin within e,
+            all_at (λ (class : ClassId). class.0 < length g.pairs) pins k pin within e,
           )
 
   pub one_alone : (w : List ℕ) (class : ClassId) → class.0 ≡ g.one → class.0 < length g.pairs → StandsAlone g w const_one (Some class)

@@ -2,6 +2,7 @@
 use Rattle.std.proofs.Common.{ℕ, zero, suc, ◌+◌, ◌-◌, ◌<◌, ◌≤◌, ◌≡◌, ◌⊎◌, inl, inr, List, [], ◌∷◌, length, map, Option, Some, None, option_map, slice_get, get_or, refl, ap, sym, ◌∙◌, subst, arith}
 use Rattle.std.proofs.lemmas.Bool.{cases_eq}
 use Rattle.std.proofs.lemmas.Option.{same_Some, none-some, slice_get_within, slice_get-get_or}
+use Rattle.lw_facts.proofs.Lists.{all_at}
 use native.Mathlib.Decide.{dec_lt}
 use Rattle.lw_fixed.specs.declared.micro.Micro.{Micro}
 use Rattle.lw_pool.specs.declared.id.ClassId.{ClassId}
@@ -18,7 +19,7 @@ use Rattle.lw_check.specs.Claims.{Claim, Arrives, AreAtRoots, AreMatches, AreOnT
 use Rattle.lw_check.specs.Outputs.{AreArrivalsOf, IsOffRootAt, IsOffTimeAt, label_at, label_of_net}
 use Rattle.lw_net.specs.Networks.{IsNetwork}
 use Rattle.lw_check.proofs.Judging.{inputs_beside, netlist_ordered}
-use Rattle.lw_check.proofs.Places.{all_place, map_at, read_map, some_left, some_mapped}
+use Rattle.lw_check.proofs.Places.{map_at, read_map, some_left, some_mapped}
 
 -- what holds at each place below one more
 pub below_next : (P : ℕ → Type 0) (n : ℕ) → ((j : ℕ) → j < n → P j) → P n → (j : ℕ) → j < n + 1 → P j
@@ -31,7 +32,7 @@ below_next P n before here j lt = by_place (cases_eq j n)
 module _ (k : Claim) where
   -- the net of an output
   pub port_inside : IsNetlist k.mapped.netlist → (j : ℕ) (port : Port) → slice_get k.mapped.netlist.outputs j ≡ Some port → port.net.0 < length k.mapped.netlist.names
-  port_inside kept j port at = all_place (λ (p : Port). p.net.0 < length k.mapped.netlist.names) k.mapped.netlist.outputs j port kept.outputs at
+  port_inside kept j port at = all_at (λ (p : Port). p.net.0 < length k.mapped.netlist.names) k.mapped.netlist.outputs j port kept.outputs at
 
   -- roots
   pub at_root : (j : ℕ) (port : Port) (root : ClassId) → slice_get k.mapped.netlist.outputs j ≡ Some port → slice_get k.roots j ≡ Some root → class_of_net k port.net ≡ Some root.0 → IsAtRoot k j
@@ -85,7 +86,7 @@ module _ (k : Claim) where
             let row = kept.gates j gate at in
             let is = matches j gate at in
             let own : net.0 ≡ k.mapped.netlist.inputs + j = ap (λ (m : NetId). m.0) (sym out) ∙ row.drives in
-            let pin : (i : ℕ) (other : NetId) → slice_get gate.pins i ≡ Some other → HasLabel other = λ i other here. (let low = all_place (λ (m : NetId). m.0 < k.mapped.netlist.inputs + j) gate.pins i other row.before here in ih other (omega arith) (omega arith)) in
+            let pin : (i : ℕ) (other : NetId) → slice_get gate.pins i ≡ Some other → HasLabel other = λ i other here. (let low = all_at (λ (m : NetId). m.0 < k.mapped.netlist.inputs + j) gate.pins i other row.before here in ih other (omega arith) (omega arith)) in
             let (ls, have) = pins_labelled gate.pins is.pins is.have_classes pin in
             of_bound net is.class ((cost_in k).value gate.cell.0 ls) (subst (λ m. class_of_net k m ≡ Some is.class) out is.has_class) (potential.matches is.class gate.cell.0 is.pins ls is.stands have)
 

@@ -6,14 +6,12 @@ use Rattle.std.proofs.lemmas.Option.{get_or_from_slice_get}
 use Rattle.std.proofs.lemmas.Bool.{cases_lt}
 use Rattle.std.specs.List.{flat_map, IsDistinct}
 use Rattle.std.specs.Str.{bytes_eq}
+use Rattle.lw_facts.proofs.Lists.{contains_map}
 use Rattle.lw_dag.specs.Graphs.{AreKnown, IsFirst, IsGraph, Leads, fanins_at, height_at}
 use Rattle.lw_dag.specs.Graphs.Leads.{one_step, then_path}
 use Rattle.lw_dag.specs.Names.{number_in, unknown_in}
 use Rattle.lw_dag.proofs.Numbering.{number_at, number_below, name_again, none_unknown, none_split}
 use Rattle.lw_dag.proofs.Searching.{placed_no_cycle, in_graph}
-
-contains_map : {A B : Type 0} (f : A → B) (xs : List A) (x : A) → Contains xs x → Contains (map f xs) (f x)
-contains_map f xs x (k, lt, e) = (k, subst (λ n. k < n) (sym (length-map xs f)) lt, get_or-map f xs k x (f x) lt ∙ ap f e)
 
 -- a node drives a name, and has names as fan-ins
 module _ {X : Type 0} (out : X → List ℕ) (fanins : X → List (List ℕ)) (bare : X) (bare_none : fanins bare ≡ []) where

@@ -4,21 +4,8 @@ use Rattle.std.proofs.lemmas.Slice.Eq.{bytes_eq-Decides}
 use Rattle.std.proofs.lemmas.Bool.{false≢true}
 use Rattle.std.specs.List.{IsDistinct, AllByRecursion}
 use Rattle.std.specs.Str.{bytes_eq}
+use Rattle.lw_facts.proofs.Lists.{bytes_differ_turned}
 use Rattle.lw_dag.specs.Names.{is_among}
-
-pub same_name : (xs ys : List ℕ) → bytes_eq xs ys ≡ true → xs ≡ ys
-same_name xs ys e = (bytes_eq-Decides xs ys).0 e
-
-pub alike : (xs ys : List ℕ) → xs ≡ ys → bytes_eq xs ys ≡ true
-alike xs ys e = (bytes_eq-Decides xs ys).1 e
-
--- the test doesn't mind the order
-pub differ_back : (xs ys : List ℕ) → bytes_eq xs ys ≡ false → bytes_eq ys xs ≡ false
-differ_back xs ys e = by_test (bytes_eq ys xs) refl
-  where
-    by_test : (b : Bool) → bytes_eq ys xs ≡ b → b ≡ false
-    by_test true is = absurd (false≢true (sym e ∙ alike xs ys (sym (same_name ys xs is))))
-    by_test false is = refl
 
 -- a name is none of those before it
 pub none_before : (names : List (List ℕ)) (i : ℕ) (d : List ℕ) → IsDistinct bytes_eq names → i < length names → is_among (take i names) (get_or names i d) ≡ false
@@ -27,7 +14,7 @@ none_before [] i d distinct below = absurd (omega arith)
 none_before (x ∷ xs) zero d distinct below = refl
 none_before (x ∷ xs) (suc i) d distinct below =
     let inside : i < length xs = omega arith in
-    ap₂ (λ a b. a || b) (differ_back x (get_or xs i d) (at_place xs i d distinct.0 inside)) (none_before xs i d distinct.1 inside)
+    ap₂ (λ a b. a || b) (bytes_differ_turned x (get_or xs i d) (at_place xs i d distinct.0 inside)) (none_before xs i d distinct.1 inside)
   where
     at_place : (ys : List (List ℕ)) (k : ℕ) (e : List ℕ) → AllByRecursion (λ y. bytes_eq x y ≡ false) ys → k < length ys → bytes_eq x (get_or ys k e) ≡ false
     at_place [] k e all lt = absurd (omega arith)

@@ -8,28 +8,8 @@ use Rattle.std.proofs.lemmas.Bool.Decides.{nat_tests}
 use Rattle.std.specs.List.{IsDistinct, AllByRecursion, position_or_len, sum_by}
 use Rattle.std.specs.List.Sorted.{IsPermutation}
 use Rattle.std.specs.Str.{bytes_eq}
+use Rattle.lw_facts.proofs.Lists.{first_place, bytes_eq_is, bytes_eq_same}
 use Rattle.lw_dag.specs.Names.{is_among, number_in, unknown_in}
-use Rattle.lw_dag.proofs.Names.{same_name, alike, differ_back}
-
--- a name that is not one before it
-at_place : (x : List ℕ) (ys : List (List ℕ)) (k : ℕ) (e : List ℕ) → AllByRecursion (λ y. bytes_eq x y ≡ false) ys → k < length ys → bytes_eq x (get_or ys k e) ≡ false
-at_place x [] k e all lt = absurd (omega arith)
-at_place x (y ∷ ys) zero e all lt = all.0
-at_place x (y ∷ ys) (suc k) e all lt = at_place x ys k e all.1 (omega arith)
-
-first_here : (x : List ℕ) (xs : List (List ℕ)) → position_or_len (bytes_eq x) (x ∷ xs) ≡ 0
-first_here x xs = grind (arith, alike x x refl)
-
--- the first place of a name is its own
-first_place : (names : List (List ℕ)) (k : ℕ) (d : List ℕ) → IsDistinct bytes_eq names → k < length names → position_or_len (bytes_eq (get_or names k d)) names ≡ k
-unfolding IsDistinct
-first_place [] k d distinct lt = absurd (omega arith)
-first_place (x ∷ xs) zero d distinct lt = first_here x xs
-first_place (x ∷ xs) (suc k) d distinct lt = by_test (bytes_eq (get_or xs k d) x) (differ_back x (get_or xs k d) (at_place x xs k d distinct.0 (omega arith))) (first_place xs k d distinct.1 (omega arith))
-  where
-    by_test : (b : Bool) → b ≡ false → position_or_len (bytes_eq (get_or xs k d)) xs ≡ k → cond (not b) (1 + position_or_len (bytes_eq (get_or xs k d)) xs) 0 ≡ suc k
-    by_test false is rest = omega (arith, rest)
-    by_test true is rest = cc
 
 pub number_at : (names : List (List ℕ)) (k : ℕ) (d : List ℕ) → IsDistinct bytes_eq names → k < length names → number_in names (get_or names k d) ≡ k
 number_at names k d distinct lt =
@@ -54,7 +34,7 @@ among_contains (x ∷ xs) name is = by_test (bytes_eq name x) refl is (among_con
     further (k, lt, e) = (suc k, omega arith, e)
 
     by_test : (b : Bool) → bytes_eq name x ≡ b → (b || is_among xs name) ≡ true → (is_among xs name ≡ true → Contains xs name) → Contains (x ∷ xs) name
-    by_test true e now rest = (zero, omega arith, sym (same_name name x e))
+    by_test true e now rest = (zero, omega arith, sym (bytes_eq_is name x e))
     by_test false e now rest = further (rest now)
 
 -- each name is known
@@ -99,7 +79,7 @@ hits-distinct name [] distinct = omega arith
 hits-distinct name (x ∷ xs) distinct = by_test (bytes_eq name x) refl (hits-cons name x xs) (hits-distinct name xs distinct.1)
   where
     by_test : (b : Bool) → bytes_eq name x ≡ b → hits name (x ∷ xs) ≡ cond b 1 0 + hits name xs → hits name xs ≤ 1 → hits name (x ∷ xs) ≤ 1
-    by_test true e is rest = omega (arith, is, ap (λ n. hits n xs) (same_name name x e), hits-none x xs distinct.0)
+    by_test true e is rest = omega (arith, is, ap (λ n. hits n xs) (bytes_eq_is name x e), hits-none x xs distinct.0)
     by_test false e is rest = omega (arith, is, rest)
 
 none-hits : (x : List ℕ) (xs : List (List ℕ)) → hits x xs ≡ 0 → AllByRecursion (λ y. bytes_eq x y ≡ false) xs
@@ -114,7 +94,7 @@ distinct-hits : (xs : List (List ℕ)) → ((name : List ℕ) → hits name xs �
 unfolding IsDistinct
 distinct-hits [] few = tt
 distinct-hits (x ∷ xs) few = (
-  none-hits x xs (omega (arith, few x, hits-cons x x xs, ap bit (alike x x refl))),
+  none-hits x xs (omega (arith, few x, hits-cons x x xs, ap bit (bytes_eq_same x x refl))),
   distinct-hits xs (λ name. omega (arith, few name, hits-cons name x xs)),
 )
 
@@ -124,7 +104,3 @@ distinct_moved xs ys moved distinct = distinct-hits ys (λ name. subst (λ n. n 
 hits-append : (name : List ℕ) (xs ys : List (List ℕ)) → hits name (xs ++ ys) ≡ hits name xs + hits name ys
 hits-append name [] ys = omega arith
 hits-append name (x ∷ xs) ys = omega (arith, hits-cons name x (xs ++ ys), hits-cons name x xs, hits-append name xs ys)
-
--- the first of names that differ do so
-pub distinct_left : (xs ys : List (List ℕ)) → IsDistinct bytes_eq (xs ++ ys) → IsDistinct bytes_eq xs
-distinct_left xs ys distinct = distinct-hits xs (λ name. omega (arith, hits-append name xs ys, hits-distinct name (xs ++ ys) distinct))

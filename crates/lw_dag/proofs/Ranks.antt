@@ -3,10 +3,11 @@ use Rattle.std.proofs.Common.{◌≡◌, ℕ, zero, suc, ◌+◌, ◌<◌, ◌�
 use Rattle.std.proofs.lemmas.List.{length-replicate}
 use Rattle.std.proofs.lemmas.List.Elements.{Contains-push, Contains-append_left, Contains-push_cases}
 use Rattle.std.proofs.lemmas.Bool.{cases_eq}
+use Rattle.lw_facts.proofs.Lists.{contains_cases}
 use Rattle.lw_dag.specs.Graphs.{fanins_at, Leads}
 use Rattle.lw_dag.specs.Graphs.Leads.{one_step, then_path}
 use Rattle.lw_dag.specs.Ranking.{rank_at, IsNotAbove, AreRanks, IsRanking}
-use Rattle.lw_dag.proofs.Rising.{contains_cons, contains_none, later_cases}
+use Rattle.lw_dag.proofs.Rising.{contains_none, later_cases}
 
 none_ranked : (n x : ℕ) → rank_at (replicate n 0) x ≡ 0
 none_ranked zero x = refl
@@ -42,7 +43,7 @@ pub ranking_starts : (inputs : ℕ) (graph : List (List ℕ)) (rank : ℕ) (rank
 ranking_starts inputs graph rank ranks p within none are above = record {
   one_each = length-set ranks p rank ∙ are.one_each;
   low = low_after ranks p rank in_ranks (λ x. omega (arith, above x));
-  nodes = λ x among. by_node x (contains_cons p [] x among);
+  nodes = λ x among. by_node x (contains_cases p [] x among);
   falls = λ x y some among. by_place x y some among (cases_eq x p);
 }
   where

@@ -5,19 +5,16 @@ use Rattle.std.proofs.lemmas.List.Elements.{Contains-push, Contains-append_left,
 use Rattle.std.proofs.lemmas.List.Sums.{sum_by-set, sum_by-cons}
 use Rattle.std.proofs.lemmas.Bool.{cases_eq, cases_lt}
 use Rattle.std.proofs.lemmas.Bool.Decides.{nat_tests}
+use Rattle.lw_facts.proofs.Lists.{contains_cases}
 use Rattle.lw_dag.specs.Graphs.{fanins_at, height_at, tallest, IsPlaced, IsStuck, AreHeights}
 use Rattle.lw_dag.specs.Rising.{unknown, waiting_at, IsHeld, IsRising}
-
-pub contains_cons : {A : Type 0} (y : A) (ys : List A) (x : A) → Contains (y ∷ ys) x → (y ≡ x) ⊎ Contains ys x
-contains_cons y ys x (zero, lt, e) = inl e
-contains_cons y ys x (suc k, lt, e) = inr (k, omega arith, e)
 
 pub contains_none : {A : Type 0} (x : A) → Contains [] x → ⊥
 contains_none x (k, lt, e) = omega arith
 
 -- what is left, and one place on
 pub later_cases : (list : List ℕ) (at x : ℕ) → at < length list → Contains (drop at list) x → (get_or list at 0 ≡ x) ⊎ Contains (drop (at + 1) list) x
-later_cases list at x below has = contains_cons (get_or list at 0) (drop (at + 1) list) x (subst (λ l. Contains l x) (drop_more list at 0 below) has)
+later_cases list at x below has = contains_cases (get_or list at 0) (drop (at + 1) list) x (subst (λ l. Contains l x) (drop_more list at 0 below) has)
 
 module _ (inputs : ℕ) (graph : List (List ℕ)) (heights : List ℕ) (waiting : List (List ℕ)) (ready list : List ℕ) (at j : ℕ) (below : at < length list) (here : j ≡ get_or list at 0) (node : j < length graph) (rising : IsRising inputs graph heights waiting ready (drop at list)) where
   -- the node waits for a signal

@@ -4,10 +4,11 @@ use Rattle.std.proofs.lemmas.List.{drop_more, length-replicate, get_or_default, 
 use Rattle.std.proofs.lemmas.List.Elements.{Contains-push, Contains-append_left, Contains-push_cases, All-contains}
 use Rattle.std.proofs.lemmas.List.Sums.{sum_by-set}
 use Rattle.std.proofs.lemmas.Bool.{cases_eq, cases_lt, false≢true}
+use Rattle.lw_facts.proofs.Lists.{contains_cases}
 use Rattle.lw_dag.specs.Graphs.{IsGraph, fanins_at, height_at, tallest, AreKnown, Leads}
 use Rattle.lw_dag.specs.Searching.{is_seen, unseen, IsReached, IsSearching}
 use Rattle.lw_dag.specs.Graphs.Leads.{one_step, then_path}
-use Rattle.lw_dag.proofs.Rising.{contains_cons, contains_none, later_cases}
+use Rattle.lw_dag.proofs.Rising.{contains_none, later_cases}
 
 -- a path and one more step
 pub leads_on : (inputs : ℕ) (graph : List (List ℕ)) (j t k s : ℕ) → Leads inputs graph j t → t ≡ inputs + k → Contains (fanins_at graph k) s → Leads inputs graph j s
@@ -204,7 +205,7 @@ pub searching_starts : (inputs : ℕ) (graph : List (List ℕ)) (p : ℕ) → p 
 searching_starts inputs graph p within = record {
   flags = length-replicate (length graph) false;
   reached = λ x is. absurd (nothing_seen (length graph) x is);
-  nodes = λ x among. by_node x (contains_cons p [] x among);
+  nodes = λ x among. by_node x (contains_cases p [] x among);
   fanins = λ s none. absurd (contains_none s none);
   closed = λ x y reached among. by_reached x y reached;
 }

@@ -8,12 +8,9 @@ use Rattle.std.specs.List.{flat_map, range_with_len, zip}
 use Rattle.std.specs.List.Sorted.{IsPermutation, IsNonDecreasingBy, ties}
 use Rattle.std.specs.Ordering.{nat_cmp, is_lt}
 use Rattle.std.specs.declared.cmp.Ordering.TheVariants.{Less, Equal, Greater}
-use Rattle.std.proofs.lemmas.Bool.{cases_lt}
+use Rattle.std.proofs.lemmas.Bool.{cases_lt, eqb-true}
 use Rattle.lw_dag.specs.declared.order.Deep.{Deep}
 use Rattle.lw_dag.specs.Ordering.{AreKeys, by_key, greatest}
-
-equal_from : (a b : ℕ) → (a == b) ≡ true → a ≡ b
-equal_from a b is = grind (arith, nat_tests)
 
 above_from : (a b : ℕ) → (a == b) ≡ false → b ≤ a → b < a
 above_from a b is le = grind (arith, nat_tests)
@@ -64,7 +61,7 @@ module _ {X : Type 0} (key : X → ℕ) where
       later higher rest true is = cc
 
       by_test : (b : Bool) → (key x == low) ≡ b → (low < key x → keys_from (low + 1) m (x ∷ xs) ≡ x ∷ keys_from (low + 1) m xs) → keys_from low (suc m) (x ∷ xs) ≡ x ∷ keys_from low (suc m) xs
-      by_test true is rest = let same : key x ≡ low = equal_from (key x) low is in first same (key x == low) is
+      by_test true is rest = let same : key x ≡ low = eqb-true (key x) low is in first same (key x == low) is
       by_test false is rest = let higher : low < key x = above_from (key x) low is above in later higher (rest higher) (key x == low) is
 
   pub keys_from-sorted : (m low : ℕ) (xs : List X) → All (λ x. low ≤ key x) xs → All (λ x. key x < low + m) xs → IsNonDecreasingBy key xs → keys_from low m xs ≡ xs

@@ -4,6 +4,7 @@ use Rattle.std.specs.List.{AllZip}
 use Rattle.std.proofs.lemmas.List.{length-map}
 use Rattle.std.proofs.lemmas.List.Elements.{All-from_recursion}
 use Rattle.std.proofs.lemmas.Option.{slice_get_within}
+use Rattle.lw_facts.proofs.Lists.{get_left, get_right, all_at, some_within, at_contained}
 use Rattle.lw_pool.specs.declared.id.ClassId.{ClassId}
 use Rattle.lw_pool.specs.declared.id.NetId.{NetId}
 use Rattle.lw_laws.specs.Graphs.{Graph}
@@ -20,7 +21,6 @@ use Rattle.lw_match.specs.Values.{plain_match}
 use Rattle.lw_label.specs.Labels.{cost_in}
 use Rattle.lw_genlib.specs.Cells.{CellParts, IsLibrary, IsListed}
 use Rattle.lw_genlib.specs.Tables.{cell_delays, delays_of_cells, millionths}
-use Rattle.lw_match.proofs.MoreParts.{get_in_more}
 use Rattle.lw_netlist.specs.declared.gate.Gate.{Gate}
 use Rattle.lw_netlist.specs.declared.gate.Port.{Port}
 use Rattle.lw_netlist.specs.Netlists.{NetlistParts, IsNetlist, IsGateAt}
@@ -33,7 +33,7 @@ use Rattle.lw_extract.specs.Choosing.{labels, heights, chosen_classes, AreChosen
 use Rattle.lw_extract.specs.Covers.{AreFit, IsExtractedCover}
 use Rattle.lw_extract.proofs.ClassNets.{some_is, not_none}
 use Rattle.lw_naming.proofs.NameCount.{name_count}
-use Rattle.lw_extract.proofs.Places.{slice_get_right, all_places, all_at, place_beside, some_within, zip_read, zip_maps, zip_right, from_all_map, contains_at, few_distinct}
+use Rattle.lw_extract.proofs.Places.{all_places, place_beside, zip_read, zip_maps, zip_right, from_all_map, few_distinct}
 use Rattle.lw_pool.specs.Numbers.{numbers, net_number}
 
 not_before_itself : (heights : ℕ → ℕ) (c : ℕ) → IsGateBefore heights c c → ⊥
@@ -90,13 +90,13 @@ module _ (g : Graph) (cost : Cost) (pats : List Pattern) (marks : List (Option M
         by_net : (o : Option NetId) → slice_index_or nets c None ≡ o → IsSome (slice_index_or nets c None)
         by_net (Some n) e = some_is (slice_index_or nets c None) n e
         by_net None e =
-            let no_leaf : IsLeafClass g c → ⊥ = λ (i, at). not_none (slice_index_or nets c None) e (have.all c i (get_in_more g.leaves (chosen_classes chosen) i c at)) in
+            let no_leaf : IsLeafClass g c → ⊥ = λ (i, at). not_none (slice_index_or nets c None) e (have.all c i (get_left g.leaves (chosen_classes chosen) i c at)) in
             let (j, here) = are.gate_classes.all c needed no_leaf in
-            absurd (not_none (slice_index_or nets c None) e (have.all c (length g.leaves + j) (slice_get_right g.leaves (chosen_classes chosen) j c here)))
+            absurd (not_none (slice_index_or nets c None) e (have.all c (length g.leaves + j) (get_right g.leaves (chosen_classes chosen) j c here)))
 
     pub roots_have_nets : HaveNets nets roots
     roots_have_nets =
-        all_places (λ (q : ClassId). IsSome (net_in nets q)) roots (λ k q at. needed_net q.0 (by_root (contains_at (numbers roots) k q.0 (slice_get_map (λ (c : ClassId). c.0) roots k q at))))
+        all_places (λ (q : ClassId). IsSome (net_in nets q)) roots (λ k q at. needed_net q.0 (by_root (at_contained (numbers roots) k q.0 (slice_get_map (λ (c : ClassId). c.0) roots k q at))))
 
     pub pins_have_nets : All (λ (x : Chosen). HaveNets nets x.found.pins) chosen
     pins_have_nets = all_places (λ (x : Chosen). HaveNets nets x.found.pins) chosen of_match
@@ -105,7 +105,7 @@ module _ (g : Graph) (cost : Cost) (pats : List Pattern) (marks : List (Option M
         of_match j x at =
             let (p, is) = are.each j x at in
             let (needed, no_leaf) = are.gate_classes.needed j x.class.0 (class_of j x at) in
-            all_places (λ (q : ClassId). IsSome (net_in nets q)) x.found.pins (λ k q here. needed_net q.0 (by_pin needed no_leaf is (contains_at (numbers x.found.pins) k q.0 (slice_get_map (λ (c : ClassId). c.0) x.found.pins k q here))))
+            all_places (λ (q : ClassId). IsSome (net_in nets q)) x.found.pins (λ k q here. needed_net q.0 (by_pin needed no_leaf is (at_contained (numbers x.found.pins) k q.0 (slice_get_map (λ (c : ClassId). c.0) x.found.pins k q here))))
 
     module _ (ports : Ports) (n : NetlistParts) (parts : AreParts g pats ports chosen nets n) where
       pub extracted : IsExtracted g cost pats (labels marks) (heights marks) (chosen_classes chosen) (plain n)

@@ -3,14 +3,13 @@ use Rattle.std.proofs.Common.{ℕ, ◌+◌, ◌<◌, ◌≤◌, ◌≡◌, ◌�
 use Rattle.std.proofs.lemmas.List.{length-set}
 use Rattle.std.proofs.lemmas.Bool.{cases_eq}
 use Rattle.std.proofs.lemmas.Option.{same_Some, slice_get_within}
+use Rattle.lw_facts.proofs.Lists.{get_left, get_right}
 use Rattle.lw_pool.specs.declared.id.NetId.{NetId}
 use Rattle.lw_laws.specs.Graphs.{Graph}
 use Rattle.lw_laws.specs.Extracts.{IsLeafClass, IsNetOf}
 use Rattle.lw_laws.proofs.Lists.{slice_get_some}
 use Rattle.lw_laws.proofs.Extracts.{slice_get_append}
-use Rattle.lw_match.proofs.MoreParts.{get_in_more}
 use Rattle.lw_extract.specs.Nets.{Nets, AreInputNets, AreClassNets}
-use Rattle.lw_extract.proofs.Places.{slice_get_right}
 
 pub some_is : {X : Type 0} (o : Option X) (x : X) → o ≡ Some x → IsSome o
 some_is o x e = ap is_some e
@@ -92,10 +91,10 @@ module _ (old : Nets) (inputs : ℕ) (classes : List ℕ) where
   }
     where
       some_at : (c : ℕ) (n : NetId) → (slice_index_or old c None ≡ Some n) ⊎ ((j : ℕ) × (slice_get classes j ≡ Some c) × (n.0 ≡ inputs + j)) → IsNetOf g classes c n.0
-      some_at c n (inl before) = get_in_more g.leaves classes n.0 c (first.some c n before)
+      some_at c n (inl before) = get_left g.leaves classes n.0 c (first.some c n before)
       some_at c n (inr (j, at, number)) =
           let place : length g.leaves + j ≡ n.0 = omega arith in
-          subst (λ k. slice_get (g.leaves ++ classes) k ≡ Some c) place (slice_get_right g.leaves classes j c at)
+          subst (λ k. slice_get (g.leaves ++ classes) k ≡ Some c) place (get_right g.leaves classes j c at)
 
       old_some : (c : ℕ) (o : Option NetId) → net_at old c ≡ o → IsLeafClass g c → IsSome (net_at old c)
       old_some c None e leaf = absurd (first.none c e leaf)
@@ -104,7 +103,7 @@ module _ (old : Nets) (inputs : ℕ) (classes : List ℕ) where
       all_at : (c n : ℕ) → (n < length g.leaves) ⊎ ((i : ℕ) × (slice_get classes i ≡ Some c) × (n ≡ length g.leaves + i)) → IsNetOf g classes c n → IsSome (net_at nets c)
       all_at c n (inl lt) net =
           let (d, at) = slice_get_some g.leaves n lt in
-          let same : d ≡ c = same_Some d c (sym (get_in_more g.leaves classes n d at) ∙ net) in
+          let same : d ≡ c = same_Some d c (sym (get_left g.leaves classes n d at) ∙ net) in
           are.kept c (old_some c (net_at old c) refl (n, at ∙ ap (λ k. Some k) same))
       all_at c n (inr (i, at, s)) net =
           let inside = slice_get_within classes i c at in

@@ -3,6 +3,7 @@ use Rattle.std.proofs.Common.{ℕ, zero, suc, ◌<◌, ◌≤◌, ◌≡◌, ◌
 use Rattle.std.proofs.lemmas.List.{take_all, take_more, length_push, length-reverse, reverse-append}
 use Rattle.std.proofs.lemmas.List.Elements.{Contains-push, Contains-push_cases, Contains-append_left, All-from_recursion}
 use Rattle.std.proofs.lemmas.Option.{none-some, same_Some, slice_get-map}
+use Rattle.lw_facts.proofs.Lists.{contains_cases, contains_tail, contained_at, contains_reverse, some_within, at_contained}
 use Rattle.lw_pool.specs.declared.id.ClassId.{ClassId}
 use Rattle.lw_pool.specs.declared.id.NetId.{NetId}
 use Rattle.lw_laws.specs.Graphs.{Graph}
@@ -21,8 +22,7 @@ use Rattle.lw_extract.specs.Choosing.{labels, heights, chosen_classes, AreChosen
 use Rattle.lw_extract.specs.Nets.{AreInputNets}
 use Rattle.lw_extract.specs.Orders.{IsPlaceBefore, ArePlaces, AreByHeight}
 use Rattle.lw_extract.proofs.Picking.{height_at, mark_at, pin_label, pins_below, root_mark}
-use Rattle.lw_extract.proofs.Sorting.{at_contains, contains_back, seen_place, back_place, before_seen}
-use Rattle.lw_extract.proofs.Places.{some_within, contains_at}
+use Rattle.lw_extract.proofs.Sorting.{seen_place, back_place, before_seen}
 use Rattle.lw_pool.specs.Numbers.{numbers}
 
 abbrev IsNoted : List Bool → ℕ → Type 0
@@ -31,13 +31,6 @@ IsNoted needed c = slice_index_or needed c false ≡ true
 -- the gate of a place's class
 abbrev pub gate_at : Place → Match → Chosen
 gate_at p found = record { class = p.class; found = found }
-
-contains_later : {X : Type 0} (y : X) (xs : List X) (x : X) → Contains xs x → Contains (y ∷ xs) x
-contains_later y xs x (k, lt, e) = (suc k, omega arith, e)
-
-contains_cases : {X : Type 0} (y : X) (xs : List X) (x : X) → Contains (y ∷ xs) x → (y ≡ x) ⊎ Contains xs x
-contains_cases y xs x (zero, lt, e) = inl e
-contains_cases y xs x (suc k, lt, e) = inr (k, omega arith, e)
 
 module _ (g : Graph) (cost : Cost) (pats : List Pattern) (marks : List (Option Mark)) (roots : List ClassId) where
   abbrev Needed : ℕ → Type 0
@@ -129,7 +122,7 @@ module _ (g : Graph) (cost : Cost) (pats : List Pattern) (marks : List (Option M
 
       all_at : (q : Place) → IsNoted needed q.class.0 ⊎ Contains (numbers found.pins) q.class.0 → Contains seen q ⊎ (p ≡ q) → (y : Chosen) × Contains (gate_at p found ∷ ups) y × (y.class.0 ≡ q.class.0)
       all_at q either (inr s) = (gate_at p found, (0, omega arith, refl), ap (λ (z : Place). z.class.0) s)
-      all_at q (inl e) (inl k) = let (y, at, f) = is.all q k e in (y, contains_later (gate_at p found) ups y at, f)
+      all_at q (inl e) (inl k) = let (y, at, f) = is.all q k e in (y, contains_tail (gate_at p found) ups y at, f)
       all_at q (inr i) (inl k) = absurd (not_pin q (before q k) (high_seen q k) i)
 
       gate_before : (q : Place) → IsPlaceBefore p q → heights marks q.class.0 ≡ q.height → IsGateBefore (heights marks) p.class.0 q.class.0
@@ -140,21 +133,21 @@ module _ (g : Graph) (cost : Cost) (pats : List Pattern) (marks : List (Option M
       sorted i zero y z e f lt = absurd (omega arith)
       sorted (suc i) (suc j) y z e f lt = is.sorted i j y z e f (omega arith)
       sorted zero (suc j) y z e f lt =
-          let (q, k, s) = is.place z (contains_at ups j z f) in
+          let (q, k, s) = is.place z (at_contained ups j z f) in
           subst (λ (w : Chosen). IsGateBefore (heights marks) w.class.0 z.class.0) (same_Some (gate_at p found) y e) (subst (λ n. IsGateBefore (heights marks) p.class.0 n) s (gate_before q (before q k) (high_seen q k)))
 
   -- the flags and the matches when all places have been seen
   pub down_end : (nets : List (Option NetId)) (places seen : List Place) (needed : List Bool) (ups : List Chosen) → AreInputNets g nets → ArePlaces nets marks places → All (λ (root : ClassId). IsSome (slice_index_or marks root.0 None)) roots → ((p : Place) → Contains places p → Contains seen p) → ((p : Place) → Contains seen p → Contains places p) → IsDown seen needed ups → AreChosen g cost pats marks roots ups
   down_end nets places seen needed ups inputs are covered to from is = record {
     gate_classes = record {
-      needed = λ j c e. let (x, at, s) = class_at j c e in needed_at c x (contains_at ups j x at) s;
-      all = λ c n out. let (m, at) = marked c n in let (x, k, s) = gate c (flagged c n) m at out in let (j, f) = at_contains ups x k in (j, slice_get-map (λ (z : Chosen). z.class.0) ups j ∙ (ap (option_map (λ (z : Chosen). z.class.0)) f ∙ ap (λ n. Some n) s));
+      needed = λ j c e. let (x, at, s) = class_at j c e in needed_at c x (at_contained ups j x at) s;
+      all = λ c n out. let (m, at) = marked c n in let (x, k, s) = gate c (flagged c n) m at out in let (j, f) = contained_at ups x k in (j, slice_get-map (λ (z : Chosen). z.class.0) ups j ∙ (ap (option_map (λ (z : Chosen). z.class.0)) f ∙ ap (λ n. Some n) s));
       sorted = λ i j c d e f lt.
           let (x, at, s) = class_at i c e in
           let (y, at', s') = class_at j d f in
           subst (λ n. IsGateBefore (heights marks) n d) s (subst (λ n. IsGateBefore (heights marks) x.class.0 n) s' (is.sorted i j x y at at' lt));
     };
-    each = λ j x e. is.each x (contains_at ups j x e);
+    each = λ j x e. is.each x (at_contained ups j x e);
   }
     where
       class_at : (j c : ℕ) → slice_get (chosen_classes ups) j ≡ Some c → (x : Chosen) × (slice_get ups j ≡ Some x) × (x.class.0 ≡ c)
@@ -266,6 +259,6 @@ module _ (g : Graph) (cost : Cost) (pats : List Pattern) (marks : List (Option M
   pub turns_end : (count : ℕ) (needed : List Bool) (chosen : List Chosen) → count ≡ length (reverse places) → All (λ (root : ClassId). IsSome (slice_index_or marks root.0 None)) roots → DownAt (take count (reverse places)) needed chosen → AreChosen g cost pats marks roots (reverse chosen)
   turns_end count needed chosen all covered is =
       down_end g cost pats marks roots ready.0 places (take count (reverse places)) needed (reverse chosen) ready.1 ready.2.are covered
-      (λ p at. subst (λ (seen : List Place). Contains seen p) (sym (take_all count (reverse places) (omega (arith, all)))) (contains_back places p at))
+      (λ p at. subst (λ (seen : List Place). Contains seen p) (sym (take_all count (reverse places) (omega (arith, all)))) (contains_reverse places p at))
       (λ p at. seen_place places count p at)
       is

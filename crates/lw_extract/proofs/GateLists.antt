@@ -1,6 +1,7 @@
 -- Gates of chosen matches, one after another.
 use Rattle.std.proofs.Common.{ℕ, ◌+◌, ◌<◌, ◌≡◌, ◌⊎◌, inl, inr, List, [], ◌∷◌, ◌++◌, length, Some, slice_get, get_or, take, map, ap, sym, ◌∙◌, subst, arith, length-append}
 use Rattle.std.proofs.lemmas.Option.{same_Some, slice_get_within, get_or_from_slice_get}
+use Rattle.lw_facts.proofs.Lists.{get_push_cases}
 use Rattle.lw_pool.specs.declared.id.ClassId.{ClassId}
 use Rattle.lw_pool.specs.declared.name.Name.{Name}
 use Rattle.lw_laws.specs.Covers.{Pattern}
@@ -9,7 +10,7 @@ use Rattle.lw_netlist.specs.declared.gate.Port.{Port}
 use Rattle.lw_extract.specs.declared.choosing.Chosen.{Chosen}
 use Rattle.lw_extract.specs.Nets.{Nets, net_in}
 use Rattle.lw_extract.specs.Gates.{IsGateOf, AreGatesOf}
-use Rattle.lw_extract.proofs.Places.{push_cases, names_more, readings_more}
+use Rattle.lw_extract.proofs.Places.{names_more, readings_more}
 
 -- the gates of the first matches
 pub record AreFirstGates (pats : List Pattern) (nets : Nets) (inputs : ℕ) (chosen : List Chosen) (count : ℕ) (gates : List Gate) : Type 0 where
@@ -20,7 +21,7 @@ module _ (pats : List Pattern) (nets : Nets) (inputs : ℕ) (chosen : List Chose
   pub gates_one_more : (j : ℕ) (x : Chosen) (gate : Gate) (gates : List Gate) → slice_get chosen j ≡ Some x → IsGateOf pats nets (inputs + j) x gate → AreFirstGates pats nets inputs chosen j gates → AreFirstGates pats nets inputs chosen (j + 1) (gates ++ gate ∷ [])
   gates_one_more j x gate gates at is are = record {
     one_each = let added = length-append gates (gate ∷ []) in let before = are.one_each in omega arith;
-    each = λ k y other here there. by_place k y other here (push_cases gates gate k other there);
+    each = λ k y other here there. by_place k y other here (get_push_cases gates gate k other there);
   }
     where
       by_place : (k : ℕ) (y : Chosen) (other : Gate) → slice_get chosen k ≡ Some y → (slice_get gates k ≡ Some other) ⊎ ((k ≡ length gates) × (gate ≡ other)) → IsGateOf pats nets (inputs + k) y other

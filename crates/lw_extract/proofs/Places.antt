@@ -8,19 +8,9 @@ use Rattle.std.proofs.lemmas.Map.Keys.{IsDistinct-from_apart}
 use Rattle.std.proofs.lemmas.Map.Steps.{length-le_from_distinct_below}
 use Rattle.std.proofs.lemmas.Bool.{ne_eqb}
 
--- a place of a list in a longer one
-pub slice_get_right : {X : Type 0} (xs ys : List X) (k : ℕ) (x : X) → slice_get ys k ≡ Some x → slice_get (xs ++ ys) (length xs + k) ≡ Some x
-slice_get_right [] ys k x e = rw zero-add e
-slice_get_right (z ∷ xs) ys k x e = rw suc-add (slice_get_right xs ys k x e)
-
 -- what holds at each place
 pub all_places : {X : Type 0} (P : X → Type 0) (xs : List X) → ((k : ℕ) (x : X) → slice_get xs k ≡ Some x → P x) → All P xs
 all_places P xs h = λ k d inside. h k (get_or xs k d) (slice_get-get_or xs k d inside)
-
-pub all_at : {X : Type 0} (P : X → Type 0) (xs : List X) (k : ℕ) (x : X) → All P xs → slice_get xs k ≡ Some x → P x
-all_at P xs k x h e =
-    let inside = slice_get_within xs k x e in
-    subst P (same_Some (get_or xs k x) x (sym (slice_get-get_or xs k x inside) ∙ e)) (h k x inside)
 
 -- a list of the same length has something at the place
 pub place_beside : {X Y : Type 0} (xs : List X) (ys : List Y) (k : ℕ) (x : X) → length xs ≡ length ys → slice_get xs k ≡ Some x → (y : Y) × (slice_get ys k ≡ Some y)
@@ -28,12 +18,6 @@ place_beside [] ys k x same e = absurd (none-some x e)
 place_beside (z ∷ xs) [] k x same e = absurd (omega arith)
 place_beside (z ∷ xs) (y ∷ ys) zero x same e = (y, refl)
 place_beside (z ∷ xs) (y ∷ ys) (suc k) x same e = place_beside xs ys k x (omega arith) e
-
--- the first place where there is something is in the list
-pub some_within : {X : Type 0} (xs : List (Option X)) (k : ℕ) (x : X) → slice_index_or xs k None ≡ Some x → k < length xs
-some_within [] k x e = absurd (none-some x e)
-some_within (z ∷ xs) zero x e = omega arith
-some_within (z ∷ xs) (suc k) x e = let ih = some_within xs k x e in omega arith
 
 -- lists of the same readings
 pub zip_read : {X Y Z : Type 0} (R : X → Y → Type 0) (f : X → Z) (h : Y → Z) (xs : List X) (ys : List Y) → map h ys ≡ map f xs → ((x : X) (y : Y) → f x ≡ h y → R x y) → AllZip R xs ys
@@ -60,20 +44,6 @@ zip_right R Q (x ∷ xs) (y ∷ ys) from (r, a) = (from x y r, zip_right R Q xs 
 pub from_all_map : {X Y : Type 0} (P : Y → Type 0) (f : X → Y) (xs : List X) → AllByRecursion P (map f xs) → AllByRecursion (λ x. P (f x)) xs
 from_all_map P f [] a = tt
 from_all_map P f (x ∷ xs) (p, a) = (p, from_all_map P f xs a)
-
-pub contains_at : {X : Type 0} (xs : List X) (k : ℕ) (x : X) → slice_get xs k ≡ Some x → Contains xs x
-contains_at xs k x e = (k, slice_get_within xs k x e, get_or_from_slice_get xs k x x e)
-
--- the last place of a list, and those before it
-pub push_cases : {X : Type 0} (xs : List X) (z : X) (k : ℕ) (x : X) → slice_get (xs ++ z ∷ []) k ≡ Some x → (slice_get xs k ≡ Some x) ⊎ ((k ≡ length xs) × (z ≡ x))
-push_cases [] z zero x e = inr (refl, same_Some z x e)
-push_cases [] z (suc k) x e = absurd (none-some x e)
-push_cases (y ∷ xs) z zero x e = inl e
-push_cases (y ∷ xs) z (suc k) x e = up (push_cases xs z k x e)
-  where
-    up : (slice_get xs k ≡ Some x) ⊎ ((k ≡ length xs) × (z ≡ x)) → (slice_get xs k ≡ Some x) ⊎ ((suc k ≡ length (y ∷ xs)) × (z ≡ x))
-    up (inl f) = inl f
-    up (inr (s, f)) = inr (omega arith, f)
 
 -- readings of the first elements, and one more
 pub readings_more : {X Y Z : Type 0} (f : X → Z) (h : Y → Z) (xs : List X) (k : ℕ) (x : X) (ys : List Y) (y : Y) → k < length xs → x ≡ get_or xs k x → f x ≡ h y → map h ys ≡ map f (take k xs) → map h (ys ++ y ∷ []) ≡ map f (take (k + 1) xs)

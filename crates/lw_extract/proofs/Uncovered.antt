@@ -2,6 +2,8 @@
 use Rattle.std.proofs.Common.{ℕ, ◌+◌, ◌<◌, ◌≤◌, ◌≡◌, ◌⊎◌, inl, inr, false, List, length, All, Option, Some, None, IsSome, is_some, Result, Ok, Err, ◌↔◌, slice_get, slice_index_or, get_or, ap, sym, ◌∙◌, subst, arith}
 use Rattle.std.proofs.lemmas.Bool.{cases_eq}
 use Rattle.std.proofs.lemmas.Option.{same_Some, none-some, slice_get-get_or}
+use Rattle.lw_facts.proofs.Tests.{none_when_not_some}
+use Rattle.lw_facts.proofs.Lists.{all_at}
 use Rattle.lw_pool.specs.declared.id.ClassId.{ClassId}
 use Rattle.lw_match.specs.declared.mark.Mark.{Mark}
 use Rattle.lw_extract.specs.declared.ports.Cover.{Cover}
@@ -9,8 +11,6 @@ use Rattle.lw_extract.specs.declared.fault.ExtractFault.{ExtractFault}
 use Rattle.lw_extract.specs.declared.fault.ExtractFault.TheVariants.{NoCover, Memory}
 use Rattle.lw_extract.specs.Covers.{IsFirstUncovered}
 use Rattle.lw_extract.proofs.ClassNets.{some_is, some_of}
-use Rattle.lw_extract.proofs.Places.{all_at}
-use Rattle.lw_extract.proofs.Sorting.{none_of}
 
 module _ (marks : List (Option Mark)) (roots : List ClassId) where
   -- the first roots have marks
@@ -35,7 +35,7 @@ module _ (marks : List (Option Mark)) (roots : List ClassId) where
   uncovered_here k d inside here before = record {
     root = get_or roots k d;
     at = slice_get-get_or roots k d inside;
-    uncovered = none_of (slice_index_or marks (get_or roots k d).0 None) here;
+    uncovered = none_when_not_some (slice_index_or marks (get_or roots k d).0 None) here;
     first = before;
   }
 

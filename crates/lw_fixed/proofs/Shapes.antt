@@ -4,6 +4,7 @@ use Rattle.std.specs.List.{list_all, position_or_len, before_first, after_first}
 use Rattle.std.specs.Char.{is_ascii_digit}
 use Rattle.std.proofs.lemmas.List.{take_at, take_all, drop_all}
 use Rattle.std.proofs.lemmas.Bool.Decides.{nat_tests}
+use Rattle.lw_facts.proofs.Lists.{drop_point}
 use Rattle.lw_fixed.specs.Decimals.{is_point, is_sign, without_sign, whole_part, decimals, is_negative}
 use Rattle.lw_fixed.specs.Printed.{with_decimals}
 
@@ -33,10 +34,6 @@ no_point (d ∷ ds) all =
 
 signless : (d : ℕ) (rest : List ℕ) → is_ascii_digit d ≡ true → without_sign (d ∷ rest) ≡ d ∷ rest
 signless d rest digit = ap (λ b. cond b rest (d ∷ rest)) (digit_apart d digit).1
-
-drop_point : (whole rest : List ℕ) → drop (suc (length whole)) (whole ++ 46 ∷ rest) ≡ rest
-drop_point [] rest = refl
-drop_point (d ∷ ds) rest = drop_point ds rest
 
 pub behind_point : (whole rest : List ℕ) → drop (length whole + 1) (whole ++ 46 ∷ rest) ≡ rest
 behind_point whole rest = rw add-one (drop_point whole rest)

@@ -10,29 +10,17 @@ use Rattle.std.proofs.lemmas.Str.{digit_value_digit}
 use Rattle.std.proofs.lemmas.Str.Parse.{IsNumeralModel, numerals_by_value, digits_value_short}
 use Rattle.std.proofs.lemmas.Fmt.{length-decimal-le, digits_decimal, digits_value-decimal}
 use Rattle.std.proofs.lemmas.Bool.Decides.{nat_tests}
-use Rattle.lw_fixed.proofs.Values.{digit_at}
+use Rattle.lw_facts.proofs.Lists.{digits_value_split, digit_at}
 use Rattle.lw_fixed.specs.Printed.{six_decimals}
 
 -- digits and their value, in this crate's words
 pub own : IsNumeralModel (λ ds. list_all is_ascii_digit ds ≡ true) (digits_value 10)
 own = numerals_by_value _ (search rules)
 
-spread : (n v p : ℕ) → (n * 10 + v) * p ≡ n * (10 * p) + v * p
-spread n v p = grind arith
-
-after : (n : ℕ) (ds : List ℕ) → digits_value_after 10 n ds ≡ n * 10 ^ length ds + digits_value 10 ds
-after n [] = omega arith
-after n (d ∷ ds) =
-    let here : digits_value_after 10 (n * 10 + digit_value d) ds ≡ (n * 10 + digit_value d) * 10 ^ length ds + digits_value 10 ds = after (n * 10 + digit_value d) ds in
-    let zero_here : digits_value_after 10 (0 * 10 + digit_value d) ds ≡ (0 * 10 + digit_value d) * 10 ^ length ds + digits_value 10 ds = after (0 * 10 + digit_value d) ds in
-    let power : 10 ^ suc (length ds) ≡ 10 * 10 ^ length ds = pow-succ' 10 (length ds) in
-    let apart : (n * 10 + digit_value d) * 10 ^ length ds ≡ n * (10 * 10 ^ length ds) + digit_value d * 10 ^ length ds = spread n (digit_value d) (10 ^ length ds) in
-    rw power (omega arith)
-
 -- the first digit counts by the number of the others
 pub value_first : (d : ℕ) (ds : List ℕ) → IsInRange 48 57 d → digits_value 10 (d ∷ ds) ≡ (d - 48) * 10 ^ length ds + digits_value 10 ds
 value_first d ds digit =
-    let all : digits_value_after 10 (0 * 10 + digit_value d) ds ≡ (0 * 10 + digit_value d) * 10 ^ length ds + digits_value 10 ds = after (0 * 10 + digit_value d) ds in
+    let all : digits_value_after 10 (0 * 10 + digit_value d) ds ≡ (0 * 10 + digit_value d) * 10 ^ length ds + digits_value 10 ds = digits_value_split (0 * 10 + digit_value d) ds in
     let value : digit_value d + 48 ≡ d = digit_value_digit d digit in
     let same : digit_value d ≡ d - 48 = omega arith in
     all ∙ (ap (λ v. (0 * 10 + v) * 10 ^ length ds + digits_value 10 ds) same ∙ omega arith)

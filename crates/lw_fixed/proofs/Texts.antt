@@ -12,6 +12,7 @@ use Rattle.std.proofs.lemmas.List.{take-append-drop, take_at, drop_all, replicat
 use Rattle.std.proofs.lemmas.List.Elements.{All-take}
 use Rattle.std.proofs.lemmas.List.Sums.{AllPass-from_list_all, list_all-from_AllPass, suffix_len-le-length, suffix_len_is}
 use Rattle.std.proofs.lemmas.List.Folds.{list_any_at}
+use Rattle.lw_facts.proofs.Lists.{digits_take}
 use Rattle.lw_fixed.specs.declared.micro.Micro.{Micro}
 use Rattle.lw_fixed.specs.declared.fault.DecimalFault.TheVariants.{Shape, Large, Fine, Negative}
 use Rattle.lw_fixed.specs.Decimals.{decimal_of, is_decimal, has_digits, is_finer, is_negative, value_of_decimals, units_of, decimals, millionths_of}
@@ -24,10 +25,6 @@ use Rattle.lw_fixed.proofs.Verdicts.{is_read}
 
 have_digits : (whole part : List ℕ) → list_all is_ascii_digit whole ≡ true → list_all is_ascii_digit part ≡ true → 0 < length whole → has_digits whole part ≡ true
 have_digits whole part all also some = grind (arith, nat_tests)
-
--- a part of digits has digits alone
-front_digits : (n : ℕ) (ds : List ℕ) → list_all is_ascii_digit ds ≡ true → list_all is_ascii_digit (take n ds) ≡ true
-front_digits n ds all = list_all-from_AllPass is_ascii_digit (take n ds) (All-take (λ d. is_ascii_digit d ≡ true) n ds (AllPass-from_list_all is_ascii_digit ds all))
 
 -- the zeros at the end come back
 padded : (six : List ℕ) → length six ≡ 6 → take 6 (without_zeros six ++ replicate 6 48) ≡ six
@@ -52,7 +49,7 @@ module _ (n : ℕ) (fits : n < 2 ^ 64) where
   long = (six_decimals_are (n % 1000000) (omega arith)).long
 
   part_digits : list_all is_ascii_digit (without_zeros (six_decimals (n % 1000000))) ≡ true
-  part_digits = front_digits _ (six_decimals (n % 1000000)) (six_decimals_are (n % 1000000) (omega arith)).all
+  part_digits = digits_take _ (six_decimals (n % 1000000)) (six_decimals_are (n % 1000000) (omega arith)).all
 
   part_short : length (without_zeros (six_decimals (n % 1000000))) ≤ 6
   part_short = omega (arith, long, length-take (length (six_decimals (n % 1000000)) - suffix_len (λ d. eqb d 48) (six_decimals (n % 1000000))) (six_decimals (n % 1000000)))
@@ -181,7 +178,7 @@ shortest_is_text text m s is =
     let few : length s.part ≤ 6 = few_places s.part fine s.no_last_zero in
     let six : List ℕ = take 6 (s.part ++ replicate 6 48) in
     let long : length (take 6 (s.part ++ replicate 6 48)) ≡ 6 = length-take-le 6 (s.part ++ replicate 6 48) (omega (arith, length-append s.part (replicate 6 48))) in
-    let back = six_back (take 6 (s.part ++ replicate 6 48)) long (front_digits 6 (s.part ++ replicate 6 48) (padded_digits s.part s.part_digits)) in
+    let back = six_back (take 6 (s.part ++ replicate 6 48)) long (digits_take 6 (s.part ++ replicate 6 48) (padded_digits s.part s.part_digits)) in
     let value : m.0 ≡ 1000000 * digits_value 10 s.whole + digits_value 10 (take 6 (s.part ++ replicate 6 48)) =
     read.value ∙ ap₂ (λ w p. 1000000 * digits_value 10 w + digits_value 10 (take 6 (p ++ replicate 6 48))) (sym parts.whole_is) (sym parts.part_is) in
     let divided = quotient m.0 (digits_value 10 s.whole) (digits_value 10 (take 6 (s.part ++ replicate 6 48))) value back.0 in

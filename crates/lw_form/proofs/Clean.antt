@@ -1,6 +1,6 @@
 -- The And of forms that are not true, differ and don't clash.
 use Rattle.std.proofs.Common.{◌≡◌, ◌+◌, ◌-◌, ◌*◌, ◌<◌, ◌≤◌, ◌⊎◌, inl, inr, ℕ, zero, suc, Bool, true, false, ◌||◌, cond, leb, List, [], ◌∷◌, ◌++◌, length, map, take, drop, refl, ap, ap₂, sym, ◌∙◌, subst, arith, append_assoc, length-append, leb-true, leb-false, length-drop, length-take-le}
-use Rattle.std.proofs.lemmas.Bool.{le-leb}
+use Rattle.std.proofs.lemmas.Bool.{le-leb, or_from}
 use Rattle.std.proofs.lemmas.List.{take-map, drop-map, length-map, map-append}
 use Rattle.lw_laws.specs.Forms.{Form, and_of, same_form, is_among, without, kept, has_clash, runs, runs_within, joined, joined_many, conjunction}
 use Rattle.lw_laws.specs.Forms.Form.{true_form, not_form}
@@ -8,7 +8,7 @@ use Rattle.lw_laws.specs.Listings.{AreDistinct, AreOperands, IsSub}
 use Rattle.lw_laws.specs.Listings.IsSub.{sub_none, sub_with, sub_without}
 use Rattle.lw_laws.specs.SignalValues.{form_of}
 use Rattle.lw_laws.proofs.Normal.{conjunction_step}
-use Rattle.lw_laws.proofs.Sublists.{distinct_sub, clash_sub, kept_distinct, or_falses}
+use Rattle.lw_laws.proofs.Sublists.{distinct_sub, clash_sub, kept_distinct}
 use Rattle.lw_form.specs.Conjunctions.{AreClean}
 
 without_sub : (f : Form) (fs : List Form) → IsSub (without f fs) fs
@@ -23,7 +23,7 @@ not_without f [] = refl
 not_without f (h ∷ hs) = by_test (same_form f h) refl (not_without f hs) where
   by_test : (t : Bool) → same_form f h ≡ t → is_among f (without f hs) ≡ false → is_among f (cond t (without f hs) (h ∷ without f hs)) ≡ false
   by_test true s ih = ih
-  by_test false s ih = or_falses (same_form f h) (is_among f (without f hs)) s ih
+  by_test false s ih = or_from (same_form f h) (is_among f (without f hs)) s ih
 
 kept_are_distinct : (fs : List Form) → AreDistinct (kept fs)
 kept_are_distinct [] = tt

@@ -2,6 +2,8 @@
 use Rattle.std.proofs.Common.{◌≡◌, ◌+◌, ◌-◌, ◌*◌, ◌/◌, ◌%◌, ◌^◌, ◌==◌, ◌<◌, ◌≤◌, ◌⊎◌, inl, inr, ℕ, zero, suc, Bool, true, false, not, ◌||◌, ◌&&◌, cond, if◌then◌else◌, leb, List, [], ◌∷◌, ◌++◌, length, map, filter, take, drop, Option, Some, None, slice_get, get_or, refl, ap, ap₂, sym, ◌∙◌, subst, arith, append_assoc, append-nil, length-append, eqb-true, eq-eqb, bit_xor, leb-true, leb-false, length-drop, length-take-le}
 use Rattle.std.specs.List.{list_any, AllByRecursion}
 use Rattle.std.proofs.lemmas.List.{at_drop_more, map-append}
+use Rattle.lw_facts.proofs.Numbers.{eq_turned}
+use Rattle.lw_facts.proofs.Tests.{same_tests}
 use Rattle.indexmap.specs.IndexSet.{insert_key}
 use Rattle.lw_laws.specs.Flip.{flip}
 use Rattle.lw_laws.specs.Forms.{Form, FormList, items, form_list, and_of, same_form, is_among, complement, without, keep, kept, has_clash, runs, runs_within, joined, joined_many, conjunction, disjunction}
@@ -12,18 +14,13 @@ use Rattle.lw_laws.specs.SignalValues.{form_of}
 use Rattle.lw_laws.proofs.Flips.{xor-one, half-flip, flip_even, flip_odd}
 use Rattle.lw_laws.proofs.Equality.{same_form_refl, same_form_eq, same_form_not, items-form_list}
 use Rattle.lw_laws.proofs.Normal.{conjunction_step}
-use Rattle.lw_laws.proofs.Sublists.{IsSub_length, distinct_sub, clash_sub, kept_distinct, conjunction_of_one, conjunction_of_more, or_false, or_falses}
+use Rattle.lw_laws.proofs.Sublists.{IsSub_length, distinct_sub, clash_sub, kept_distinct, conjunction_of_one, conjunction_of_more}
 use Rattle.lw_laws.proofs.Numbers.{complement_twice}
 use Rattle.lw_form.specs.Tables.{AreBelow, forms_at, spelled, AreMade, HasMore, Table, made, IsMadeAs, AreMadeAs}
 use Rattle.lw_form.specs.Conjunctions.{without_number, kept_numbers, numbers_clash}
 use Rattle.lw_form.proofs.Tables.{below_more, form_of_more, forms_at_more, same_number, form_sign, form_base}
 
 -- the steps over numbers are those over forms
-
-same_truth : (a b : Bool) → (a ≡ true → b ≡ true) → (b ≡ true → a ≡ true) → a ≡ b
-same_truth true b f g = sym (f refl)
-same_truth false true f g = g refl
-same_truth false false f g = refl
 
 below_without : (n f : ℕ) (ids : List ℕ) → AreBelow n ids → AreBelow n (without_number f ids)
 below_without n f [] a = tt
@@ -42,7 +39,7 @@ below_kept n (f ∷ ids) (p, a) = by_test (f == 0) (below_kept n ids a) where
 module _ (forms : List Form) (are : AreMade forms) where
   same_numbers_test : (a b : ℕ) → a / 2 < length forms → b / 2 < length forms → same_form (form_of forms a) (form_of forms b) ≡ (a == b)
   same_numbers_test a b la lb =
-      same_truth (same_form (form_of forms a) (form_of forms b)) (a == b) (λ e. eq-eqb a b (same_number forms are a b la lb (same_form_eq (form_of forms a) (form_of forms b) e)))
+      same_tests (same_form (form_of forms a) (form_of forms b)) (a == b) (λ e. eq-eqb a b (same_number forms are a b la lb (same_form_eq (form_of forms a) (form_of forms b) e)))
       (λ e. subst (λ n. same_form (form_of forms a) (form_of forms n) ≡ true) (eqb-true a b e) (same_form_refl (form_of forms a)))
 
   pub zero_below : 0 / 2 < length forms
@@ -153,9 +150,6 @@ any_last f g (h ∷ seen) = ap (λ t. (f == h) || t) (any_last f g seen) ∙ ass
   assoc true b c = refl
   assoc false b c = refl
 
-eqb_turned : (a b : ℕ) → (a == b) ≡ (b == a)
-eqb_turned a b = same_truth (a == b) (b == a) (λ e. eq-eqb b a (sym (eqb-true a b e))) (λ e. eq-eqb a b (sym (eqb-true b a e)))
-
 -- what was seen is not kept again
 fresh_seen : (seen : List ℕ) (f : ℕ) (fs : List ℕ) → list_any (λ h. f == h) seen ≡ true → fresh seen (without_number f fs) ≡ fresh seen fs
 fresh_seen seen f [] s = refl
@@ -166,7 +160,7 @@ fresh_seen seen f (g ∷ fs) s = by_test (f == g) refl (fresh_seen seen f fs s) 
 
 fresh_last : (seen : List ℕ) (f : ℕ) (fs : List ℕ) → fresh (seen ++ f ∷ []) fs ≡ fresh seen (without_number f fs)
 fresh_last seen f [] = refl
-fresh_last seen f (g ∷ fs) = ap (λ t. cond t (fresh (seen ++ f ∷ []) fs) (g ∷ fresh (seen ++ f ∷ []) fs)) (any_last g f seen ∙ ap (λ t. list_any (λ h. g == h) seen || t) (eqb_turned g f)) ∙ by_test (f == g) (list_any (λ h. g == h) seen) refl (fresh_last seen f fs) where
+fresh_last seen f (g ∷ fs) = ap (λ t. cond t (fresh (seen ++ f ∷ []) fs) (g ∷ fresh (seen ++ f ∷ []) fs)) (any_last g f seen ∙ ap (λ t. list_any (λ h. g == h) seen || t) (eq_turned g f)) ∙ by_test (f == g) (list_any (λ h. g == h) seen) refl (fresh_last seen f fs) where
   by_test : (t s : Bool) → list_any (λ h. g == h) seen ≡ s → fresh (seen ++ f ∷ []) fs ≡ fresh seen (without_number f fs) → cond (s || t) (fresh (seen ++ f ∷ []) fs) (g ∷ fresh (seen ++ f ∷ []) fs) ≡ fresh seen (cond t (without_number f fs) (g ∷ without_number f fs))
   by_test true true e ih = ih
   by_test true false e ih = ih

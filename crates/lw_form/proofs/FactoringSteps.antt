@@ -1,7 +1,8 @@
 -- Factoring by tasks.
 use Rattle.std.proofs.Common.{◌≡◌, ◌+◌, ◌-◌, ◌*◌, ◌/◌, ◌<◌, ◌≤◌, ◌⊎◌, ℕ, zero, suc, Bool, true, false, not, cond, ltb, Option, Some, None, List, [], ◌∷◌, ◌++◌, length, map, filter, take, drop, get_or, refl, ap, ap₂, sym, ◌∙◌, subst, arith, append_assoc, append-nil, ltb-true, length-append, bit_xor, Vec, Global}
 use Rattle.std.specs.List.{AllByRecursion}
-use Rattle.std.proofs.lemmas.List.{at_drop_more, length-map, map-append}
+use Rattle.std.proofs.lemmas.List.{at_drop_more, length-map, map-append, drop_all}
+use Rattle.lw_facts.proofs.Lists.{all_front, all_last}
 use Rattle.lw_laws.specs.Forms.{Form, conjunction, disjunction}
 use Rattle.lw_laws.specs.Signals as laws
 use Rattle.lw_laws.specs.Signals.{signed, asks, has_at, has, cleared_at, cleared, count_having, literals_from, most_common, shared_literal, literal_form, factored_by, factored, sum_of_products}
@@ -48,14 +49,8 @@ count_none l rows i old new row lt e h n so =
     let one : ◌≡◌ {A = ℕ} (cond (has l row) 1 0) 0 = ap {B = ℕ} (λ (t : Bool). cond t 1 0) h in
     omega arith
 
-pub drop_end : {X : Type 0} (n : ℕ) (xs : List X) → length xs ≤ n → drop n xs ≡ []
-drop_end zero [] le = refl
-drop_end (suc n) [] le = refl
-drop_end zero (x ∷ xs) le = absurd (omega arith)
-drop_end (suc n) (x ∷ xs) le = drop_end n xs (omega arith)
-
 pub count_all : (l : laws.Literal) (rows : List (List (Option Bool))) (i n : ℕ) → length rows ≤ i → n + count_having l (drop i rows) ≡ count_having l rows → n ≡ count_having l rows
-count_all l rows i n le so = let e : count_having l (drop i rows) ≡ 0 = ap (count_having l) (drop_end i rows le) in omega arith
+count_all l rows i n le so = let e : count_having l (drop i rows) ≡ 0 = ap (count_having l) (drop_all i rows le) in omega arith
 
 -- the choice of a literal
 
@@ -213,14 +208,6 @@ pub tasks_fit : (columns : ℕ) (a b : List Form) (tasks : List Task) → HasMor
 tasks_fit columns a b [] h fit = tt
 tasks_fit columns a b (Factor rows ∷ tasks) h (p, fit) = (p, tasks_fit columns a b tasks h fit)
 tasks_fit columns a b (Join l ∷ tasks) h (p, fit) = (let le = more_length a b h in omega arith, tasks_fit columns a b tasks h fit)
-
-all_front : {X : Type 0} (P : X → Type 0) (xs ys : List X) → AllByRecursion P (xs ++ ys) → AllByRecursion P xs
-all_front P [] ys a = tt
-all_front P (x ∷ xs) ys (p, a) = (p, all_front P xs ys a)
-
-all_last : {X : Type 0} (P : X → Type 0) (xs : List X) (x : X) → AllByRecursion P (xs ++ x ∷ []) → P x
-all_last P [] x (p, a) = p
-all_last P (y ∷ xs) x (p, a) = all_last P xs x a
 
 pub below_front : (n : ℕ) (xs ys : List ℕ) → AreBelow n (xs ++ ys) → AreBelow n xs
 below_front n [] ys a = tt

@@ -1,12 +1,11 @@
 -- What the calls that make Ands owe.
 use Rattle.std.proofs.Common.{◌≡◌, ◌+◌, ◌-◌, ◌*◌, ◌/◌, ◌%◌, ◌<◌, ◌≤◌, ◌⊎◌, inl, inr, ℕ, zero, suc, Bool, true, false, cond, bit_xor, ◌==◌, ◌^◌, if◌then◌else◌, length-drop, List, [], ◌∷◌, ◌++◌, length, map, take, drop, Some, slice_get, get_or, refl, ap, ap₂, sym, ◌∙◌, subst, arith, append_assoc, append-nil, length-append}
-use Rattle.std.proofs.lemmas.List.{take-map, drop-map, length-map, map-append}
-use Rattle.std.proofs.lemmas.Option.{get_or_from_slice_get}
+use Rattle.std.proofs.lemmas.List.{take-map, drop-map, length-map, map-append, take_all}
+use Rattle.std.proofs.lemmas.Option.{get_or_from_slice_get, slice_get_within}
 use Rattle.lw_laws.specs.Forms.{Form, complement, and_of, kept, has_clash, runs, conjunction, disjunction}
 use Rattle.lw_laws.specs.Forms.Form.{true_form, not_form}
 use Rattle.lw_laws.specs.Occurring.{appended}
 use Rattle.lw_laws.specs.SignalValues.{form_of}
-use Rattle.lw_laws.proofs.Lists.{slice_get_in}
 use Rattle.lw_form.specs.Conjunctions.{AreClean, without_number, kept_numbers, numbers_clash}
 use Rattle.lw_form.specs.Tables.{AreBelow, forms_at, spelled, AreMade, HasMore, Table, made, IsMadeAs, AreMadeAs}
 use Rattle.lw_form.proofs.Tables.{below_more, form_of_more, forms_at_more, appended_more, length_one}
@@ -66,12 +65,12 @@ joined_one t (x ∷ y ∷ forms) f one e below clean width wide = absurd (omega 
 pub joined_more : (old new : Table) (forms ids : List ℕ) (place : ℕ) → (length forms ≡ 1 → ⊥) → 1 ≤ length forms → ids ≡ forms → made new ≡ appended (spelled (made old) ids) (made old) → slice_get (made new) place ≡ Some (spelled (made old) ids) → AreClean (forms_at (made old) forms) → (width : ℕ) → 2 ≤ width → length forms ≤ width → IsMadeAs old new (2 * place) (conjunction width (forms_at (made old) forms))
 joined_more old new forms ids place ne some same grown at clean width wide few = record {
   more = let (m, e) = appended_more (spelled (made old) ids) (made old) in (m, grown ∙ e);
-  within = let lt = slice_get_in (made new) place (spelled (made old) ids) at in omega arith;
+  within = let lt = slice_get_within (made new) place (spelled (made old) ids) at in omega arith;
   is = let l = length-map forms (form_of (made old)) in even_form (made new) place (spelled (made old) ids) at ∙ (ap (spelled (made old)) same ∙ sym (clean_few width wide (forms_at (made old) forms) clean (omega arith) (omega arith)));
 }
 
 pub place_fits : (forms : List Form) (place : ℕ) (f : Form) → AreMade forms → slice_get forms place ≡ Some f → place < 2 ^ 31
-place_fits forms place f are at = let lt = slice_get_in forms place f at in let few = are.few in omega arith
+place_fits forms place f are at = let lt = slice_get_within forms place f at in let few = are.few in omega arith
 
 -- the forms of the runs so far, and those of the runs of the rest
 pub record GroupsSoFar (width : ℕ) (old now : Table) (forms rest groups : List ℕ) : Type 0 where
@@ -150,14 +149,8 @@ groups_last width wide old now next forms rest groups groups' g le so new e = su
       ∙ (ap₂ (λ l f. l ++ f ∷ []) (forms_kept (made now) (made next) groups new.more so.within) last
       ∙ (ap (λ l. forms_at (made now) groups ++ map (conjunction width) l) (sym (runs_last width wide fs (omega arith) (omega arith))) ∙ so.same))
 
-take_whole : {X : Type 0} (n : ℕ) (xs : List X) → length xs ≤ n → take n xs ≡ xs
-take_whole zero [] le = refl
-take_whole (suc n) [] le = refl
-take_whole zero (x ∷ xs) le = absurd (omega arith)
-take_whole (suc n) (x ∷ xs) le = ap (λ l. x ∷ l) (take_whole n xs (omega arith))
-
 pub tail_is : (n : ℕ) (xs : List ℕ) → take (length xs - n) (drop n xs) ≡ drop n xs
-tail_is n xs = let l = length-drop n xs in take_whole (length xs - n) (drop n xs) (omega arith)
+tail_is n xs = let l = length-drop n xs in take_all (length xs - n) (drop n xs) (omega arith)
 
 pub take_few : (n : ℕ) (xs : List ℕ) → length (take n xs) ≤ n
 take_few zero xs = omega arith

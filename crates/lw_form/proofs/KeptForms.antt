@@ -2,6 +2,7 @@
 use Rattle.std.proofs.Common.{◌≡◌, ◌≢◌, ◌+◌, ◌-◌, ◌*◌, ◌/◌, ◌<◌, ◌≤◌, ◌⊎◌, inl, inr, ℕ, zero, suc, Bool, true, false, ◌||◌, List, [], ◌∷◌, ◌++◌, length, map, Option, Some, slice_get, refl, ap, ap₂, sym, ◌∙◌, subst, arith, length-append}
 use Rattle.std.specs.List.{AllByRecursion, list_any}
 use Rattle.std.proofs.lemmas.List.{length-map}
+use Rattle.std.proofs.lemmas.Bool.{or_parts}
 use Rattle.lw_net.specs.Networks.{most_nets}
 use Rattle.lw_laws.specs.Networks.{Node, Network, IsInOrder, AreValues}
 use Rattle.lw_laws.specs.Forms.{Form, FormList, items, form_list, same_form, is_among, complement, form_value}
@@ -23,7 +24,6 @@ use Rattle.lw_laws.proofs.Lists.{slice_get_some}
 use Rattle.lw_laws.proofs.Numbers.{slice_get_map, slice_get_map_back, number_is, number_of, numbers_injective}
 use Rattle.lw_laws.proofs.NumberValues.{numbers_have_values, value_of_number}
 use Rattle.lw_laws.proofs.NetValues.{sops_are_values}
-use Rattle.lw_laws.proofs.Sublists.{or_false}
 use Rattle.lw_form.specs.Kept.{HaveValues, AreApart, AreAndOperands, AreInOrder, AreForms}
 use Rattle.lw_form.specs.Limits.{most_bases, most_operands}
 
@@ -82,8 +82,8 @@ module _ (o : Listing) (is : IsListing o) where
   apart_one : (f : Form) (fs : List Form) → Occurs o f → AllByRecursion (Occurs o) fs → is_among f fs ≡ false → is_among (complement f) fs ≡ false → AllByRecursion (λ h. N f / 2 ≢ h / 2) (map N fs)
   apart_one f [] of a nf nc = tt
   apart_one f (h ∷ fs) of (oh, a) nf nc =
-      let p = or_false (same_form f h) (is_among f fs) nf in
-      let q = or_false (same_form (complement f) h) (is_among (complement f) fs) nc in
+      let p = or_parts (same_form f h) (is_among f fs) nf in
+      let q = or_parts (same_form (complement f) h) (is_among (complement f) fs) nc in
       (λ same. absurd (differ p.0 q.0 (form_decided f h (base_sign_of f of) (one_base f h of oh same))), apart_one f fs of a p.1 q.1)
     where
       differ : same_form f h ≡ false → same_form (complement f) h ≡ false → (f ≡ h) ⊎ (h ≡ complement f) → ⊥
@@ -104,18 +104,18 @@ module _ (o : Listing) (is : IsListing o) where
         which (inr s) = not_both (same_form (not_form true_form) f) (subst (λ g. same_form (not_form true_form) g ≡ true) (sym s) refl) nn
 
   clash_later : (f : Form) (all fs : List Form) → list_any (λ g. is_among (complement g) all) (f ∷ fs) ≡ false → is_among (complement f) all ≡ false
-  clash_later f all fs e = (or_false (is_among (complement f) all) (list_any (λ g. is_among (complement g) all) fs) e).0
+  clash_later f all fs e = (or_parts (is_among (complement f) all) (list_any (λ g. is_among (complement g) all) fs) e).0
 
   among_tail : (f h : Form) (fs : List Form) → is_among f (h ∷ fs) ≡ false → is_among f fs ≡ false
-  among_tail f h fs e = (or_false (same_form f h) (is_among f fs) e).1
+  among_tail f h fs e = (or_parts (same_form f h) (is_among f fs) e).1
 
   any_tail : (p : Form → Bool) (h : Form) (fs : List Form) → list_any p (h ∷ fs) ≡ false → list_any p fs ≡ false
-  any_tail p h fs e = (or_false (p h) (list_any p fs) e).1
+  any_tail p h fs e = (or_parts (p h) (list_any p fs) e).1
 
   weaker_any : (h : Form) (all fs : List Form) → list_any (λ g. is_among (complement g) (h ∷ all)) fs ≡ false → list_any (λ g. is_among (complement g) all) fs ≡ false
   weaker_any h all [] e = refl
   weaker_any h all (f ∷ fs) e =
-      let p = or_false (is_among (complement f) (h ∷ all)) (list_any (λ g. is_among (complement g) (h ∷ all)) fs) e in
+      let p = or_parts (is_among (complement f) (h ∷ all)) (list_any (λ g. is_among (complement g) (h ∷ all)) fs) e in
       both (is_among (complement f) all) (list_any (λ g. is_among (complement g) all) fs) (among_tail (complement f) h all p.0) (weaker_any h all fs p.1)
     where
       both : (a b : Bool) → a ≡ false → b ≡ false → (a || b) ≡ false
@@ -125,7 +125,7 @@ module _ (o : Listing) (is : IsListing o) where
   are_apart : (fs : List Form) → AllByRecursion (Occurs o) fs → slice_get o.bases 0 ≡ Some true_form → AreDistinct fs → is_among (not_form true_form) fs ≡ false → list_any (λ f. is_among (complement f) fs) fs ≡ false → AreApart (map N fs)
   are_apart [] a first d n c = tt
   are_apart (f ∷ fs) (of, a) first (nt, nf, d) n c =
-      let p = or_false (same_form (not_form true_form) f) (is_among (not_form true_form) fs) n in
+      let p = or_parts (same_form (not_form true_form) f) (is_among (not_form true_form) fs) n in
       (not_true f of first nt p.0, apart_one f fs of a nf (among_tail (complement f) f fs (clash_later f (f ∷ fs) fs c)), are_apart fs a first d p.1 (weaker_any f fs fs (any_tail (λ g. is_among (complement g) (f ∷ fs)) f fs c)))
 
   record IsAndOf (b : ℕ) (ns : List ℕ) : Type 0 where
@@ -147,7 +147,7 @@ module _ (o : Listing) (is : IsListing o) where
       let a = and_at b ns e in
       let ops = (is.ands b a.fs a.listed).operands_are in
       let l = length-map (items a.fs) N in
-      let clash = or_false (is_among (not_form true_form) (items a.fs)) (list_any (λ f. is_among (complement f) (items a.fs)) (items a.fs)) ops.clashless in
+      let clash = or_parts (is_among (not_form true_form) (items a.fs)) (list_any (λ f. is_among (complement f) (items a.fs)) (items a.fs)) ops.clashless in
       subst AreAndOperands a.numbers (record {
         two = let t = ops.two in omega arith;
         few = let t = ops.few in omega arith;

@@ -3,8 +3,9 @@ use Rattle.std.proofs.Common.{◌≡◌, ◌≢◌, ◌+◌, ◌-◌, ◌*◌, �
 use Rattle.std.specs.List.{AllByRecursion}
 use Rattle.std.specs.Result.{IsErrAnd}
 use Rattle.std.proofs.lemmas.Bool.{le-leb}
-use Rattle.std.proofs.lemmas.List.{length-map, map-append, get_or_append_left, at_drop_more}
-use Rattle.std.proofs.lemmas.Option.{slice_get-get_or, get_or_from_slice_get}
+use Rattle.std.proofs.lemmas.List.{length-map, map-append, get_or_append_left, at_drop_more, drop_all}
+use Rattle.std.proofs.lemmas.Option.{slice_get-get_or, get_or_from_slice_get, slice_get_within}
+use Rattle.lw_facts.proofs.Lists.{drop_get, all_front, all_last, get_left, get_last, get_last_cases}
 use Rattle.lw_laws.specs.Forms.{Form, FormList, items, form_list, and_of, same_form, is_among, complement}
 use Rattle.lw_laws.specs.Forms.Form.{var_form, true_form, not_form, and_form}
 use Rattle.lw_laws.specs.Forms.FormList.{no_forms, more_forms}
@@ -12,9 +13,9 @@ use Rattle.lw_laws.specs.Listings.{sign_of}
 use Rattle.lw_laws.specs.Occurring.{part, with_and_without, sublists, appended, append_part, append_parts, add_form, add_forms}
 use Rattle.lw_laws.specs.SignalValues.{form_of}
 use Rattle.lw_laws.proofs.Equality.{items-form_list, form_list-items}
-use Rattle.lw_laws.proofs.Lists.{slice_get_in, slice_get_some, all_append}
+use Rattle.lw_laws.proofs.Lists.{slice_get_some, all_append}
 use Rattle.lw_laws.proofs.Masks.{sublists_at}
-use Rattle.lw_laws.proofs.Numbers.{slice_get_map, slice_get_map_back, Some_injective}
+use Rattle.lw_laws.proofs.Numbers.{slice_get_map, slice_get_map_back}
 use Rattle.lw_form.specs.declared.fault.FormFault.{FormFault}
 use Rattle.lw_form.specs.declared.fault.FormFault.TheVariants.{Limit, Memory}
 use Rattle.lw_form.specs.declared.listing.Step.{Step}
@@ -25,7 +26,7 @@ use Rattle.lw_form.specs.Limits.{most_bases}
 use Rattle.lw_form.specs.Listed.{no_place, base_at, bases_of, place_of, IsListed, PlainStep, operands_of, plain_step, plain_steps, adds, bases_after, IsTooLong, StepFits, form_size, forms_size, step_size, steps_size, IsAdding}
 use Rattle.lw_form.specs.Listed.PlainStep.{add_of, parts_of}
 use Rattle.lw_form.specs.Tables.{AreBelow, forms_at, spelled, AreMade, HasMore, Table, made, IsSimple}
-use Rattle.lw_form.proofs.Tables.{get_left, get_last, get_back, among_place, place_among, length_one, appended_more}
+use Rattle.lw_form.proofs.Tables.{among_place, place_among, length_one, appended_more}
 use Rattle.lw_form.proofs.Joining.{more_same, more_twice, more_length, form_kept, forms_kept, below_kept_more}
 use Rattle.lw_form.proofs.FactoringSteps.{turned_last}
 
@@ -62,7 +63,7 @@ unplaced_not_among forms listed places b are lt is none = by_test (is_among (bas
       let (x, at, same) = slice_get_map_back (base_at forms) listed k (base_at forms b) d in
       let here : x ≡ b = are.once x b (base_at forms b) (base_read forms x (is.within k x at) ∙ ap Some same) (base_read forms b lt) in
       let place : place_of places b ≡ k = ap (place_of places) (sym here) ∙ is.placed k x at in
-      let in' = slice_get_in listed k x at in
+      let in' = slice_get_within listed k x at in
       let few = is.few in
       absurd (omega arith)
 
@@ -75,12 +76,12 @@ appended_new f bases e = sym (ap (λ t. cond t bases (bases ++ f ∷ [])) e)
 -- one more base form is listed
 module _ (forms : List Form) (listed places new_listed new_places : List ℕ) (b : ℕ) (are : AreMade forms) (lt : b < length forms) (is : IsListed forms listed places) (none : place_of places b ≡ no_place) (few : length listed < most_bases) (grown : new_listed ≡ listed ++ b ∷ []) (here : place_of new_places b ≡ length listed) (others : (x : ℕ) → x ≢ b → place_of new_places x ≡ place_of places x) where
   not_there : (k : ℕ) → slice_get listed k ≡ Some b → ⊥
-  not_there k e = let p = is.placed k b e in let in' = slice_get_in listed k b e in let n = none in omega arith
+  not_there k e = let p = is.placed k b e in let in' = slice_get_within listed k b e in let n = none in omega arith
 
   pub put_listed : IsListed forms new_listed new_places
   put_listed = subst (λ l. IsListed forms l new_places) (sym grown) (record {
-    within = λ k x e. within k x (get_back listed b k x e);
-    placed = λ k x e. placed k x (get_back listed b k x e);
+    within = λ k x e. within k x (get_last_cases listed b k x e);
+    placed = λ k x e. placed k x (get_last_cases listed b k x e);
     back = λ x ne. back x ne (same_or x b);
     few = let l = length_one listed b in omega arith;
   }) where
@@ -261,20 +262,12 @@ base_size (and_form fs) false z = refl
 pub number_size : (forms : List Form) (f : ℕ) → AreMade forms → f / 2 < length forms → form_size (form_of forms f) ≡ form_size (base_at forms (f / 2))
 number_size forms f are lt = base_size (base_at forms (f / 2)) (f % 2 == 0) (are.signs (f / 2) (base_at forms (f / 2)) (base_read forms (f / 2) lt))
 
-steps_front : {X : Type 0} (P : X → Type 0) (xs ys : List X) → AllByRecursion P (xs ++ ys) → AllByRecursion P xs
-steps_front P [] ys a = tt
-steps_front P (x ∷ xs) ys (p, a) = (p, steps_front P xs ys a)
-
-step_last : {X : Type 0} (P : X → Type 0) (xs : List X) (x : X) → AllByRecursion P (xs ++ x ∷ []) → P x
-step_last P [] x (p, a) = p
-step_last P (y ∷ xs) x (p, a) = step_last P xs x a
-
 module _ (now : Table) (are : AreMade (made now)) (listed places : List ℕ) (steps : List Step) (f : ℕ) (goal : List Form) (w : IsAdding now listed places (steps ++ Add f ∷ []) goal) where
   pub adding_below : f / 2 < length (made now)
-  adding_below = step_last (StepFits (length (made now))) steps (Add f) w.fit
+  adding_below = all_last (StepFits (length (made now))) steps (Add f) w.fit
 
   pub rest_fit : AllByRecursion (StepFits (length (made now))) steps
-  rest_fit = steps_front (StepFits (length (made now))) steps (Add f ∷ []) w.fit
+  rest_fit = all_front (StepFits (length (made now))) steps (Add f ∷ []) w.fit
 
   -- the list with the form added
   pub adding_next : bases_after (plain_steps (made now) steps) (add_form (base_at (made now) (f / 2)) (bases_of (made now) listed)) ≡ goal
@@ -329,14 +322,8 @@ size_and forms steps new_steps f ids are lt at e =
 
 -- steps for operands
 
-drop_whole : {X : Type 0} (n : ℕ) (xs : List X) → length xs ≤ n → drop n xs ≡ []
-drop_whole zero [] le = refl
-drop_whole (suc n) [] le = refl
-drop_whole zero (x ∷ xs) le = absurd (omega arith)
-drop_whole (suc n) (x ∷ xs) le = drop_whole n xs (omega arith)
-
 pub operands_first : (forms : List Form) (ids : List ℕ) (steps : List Step) → plain_steps forms steps ≡ map (plain_step forms) (adds (drop (length ids - 0) ids)) ++ plain_steps forms steps
-operands_first forms ids steps = ap (λ l. map (plain_step forms) (adds l) ++ plain_steps forms steps) (sym (drop_whole (length ids - 0) ids (omega arith)))
+operands_first forms ids steps = ap (λ l. map (plain_step forms) (adds l) ++ plain_steps forms steps) (sym (drop_all (length ids - 0) ids (omega arith)))
 
 pub operands_more : (forms : List Form) (ids : List ℕ) (old steps new : List Step) (i : ℕ) → i < length ids → new ≡ steps ++ Add (get_or ids (length ids - 1 - i) 0) ∷ [] → plain_steps forms steps ≡ map (plain_step forms) (adds (drop (length ids - i) ids)) ++ plain_steps forms old → plain_steps forms new ≡ map (plain_step forms) (adds (drop (length ids - (i + 1)) ids)) ++ plain_steps forms old
 operands_more forms ids old steps new i lt e so =
@@ -392,11 +379,6 @@ short_part fs bases lt = sym (ap (λ t. cond t (appended (and_of fs) bases) base
 pub long_part : (fs bases : List Form) → 2 ≤ length fs → appended (and_of fs) bases ≡ append_part fs bases
 long_part fs bases le = sym (ap (λ t. cond t (appended (and_of fs) bases) bases) (le-leb 2 (length fs) le))
 
-drop_at : {X : Type 0} (xs : List X) (k : ℕ) (x : X) → slice_get xs k ≡ Some x → drop k xs ≡ x ∷ drop (k + 1) xs
-drop_at [] k x e = cc
-drop_at (y ∷ xs) zero x e = ap (λ z. z ∷ xs) (Some_injective y x e)
-drop_at (y ∷ xs) (suc k) x e = let next : suc k + 1 ≡ suc (k + 1) = omega arith in drop_at xs k x e ∙ ap (λ n. x ∷ drop n (y ∷ xs)) (sym next)
-
 -- the parts that are listed so far, and the rest
 pub record PartsSoFar (old now : Table) (fs old_bases : List Form) (mask : ℕ) (listed places : List ℕ) : Type 0 where
   pub more : HasMore (made old) (made now)
@@ -416,7 +398,7 @@ parts_more old now next ids old_bases mask listed places new_listed new_places b
       let l = length-map ids (form_of (made old)) in
       let inside : mask < 2 ^ length fs = subst (λ n. mask < 2 ^ n) (sym l) lt in
       ap (append_parts (drop (mask + 1) (sublists fs))) (e ∙ ap (λ k. append_part k (bases_of (made now) listed)) same)
-      ∙ (sym (ap (λ k. append_parts k (bases_of (made now) listed)) (drop_at (sublists fs) mask (part fs mask) (sublists_at fs mask inside))) ∙ so.rest);
+      ∙ (sym (ap (λ k. append_parts k (bases_of (made now) listed)) (drop_get (sublists fs) mask (part fs mask) (sublists_at fs mask inside))) ∙ so.rest);
 }
 
 pub part_fault : (old now : Table) (ids : List ℕ) (old_bases : List Form) (mask : ℕ) (listed places : List ℕ) (fault : FormFault) → AreBelow (length (made old)) ids → mask < 2 ^ length ids → PartsSoFar old now (forms_at (made old) ids) old_bases mask listed places → IsTooLong (append_part (forms_at (made now) (picked ids mask)) (bases_of (made now) listed)) fault → IsTooLong (append_parts (sublists (forms_at (made old) ids)) old_bases) fault
@@ -425,7 +407,7 @@ part_fault old now ids old_bases mask listed places fault below lt so t =
     let same : forms_at (made now) (picked ids mask) ≡ part fs mask = picked_forms (made now) ids mask ∙ ap (λ l. part l mask) (forms_kept (made old) (made now) ids so.more below) in
     let l = length-map ids (form_of (made old)) in
     let inside : mask < 2 ^ length fs = subst (λ n. mask < 2 ^ n) (sym l) lt in
-    subst (λ k. IsTooLong k fault) (sym (ap (λ k. append_parts k (bases_of (made now) listed)) (drop_at (sublists fs) mask (part fs mask) (sublists_at fs mask inside))) ∙ so.rest)
+    subst (λ k. IsTooLong k fault) (sym (ap (λ k. append_parts k (bases_of (made now) listed)) (drop_get (sublists fs) mask (part fs mask) (sublists_at fs mask inside))) ∙ so.rest)
     (longer_fault (append_part (part fs mask) (bases_of (made now) listed)) (append_parts (drop (mask + 1) (sublists fs)) (append_part (part fs mask) (bases_of (made now) listed))) fault (longer_parts (drop (mask + 1) (sublists fs)) (append_part (part fs mask) (bases_of (made now) listed))) (subst (λ k. IsTooLong (append_part k (bases_of (made now) listed)) fault) same t))
 
 pub parts_done : (old now : Table) (ids : List ℕ) (old_bases : List Form) (mask : ℕ) (listed places : List ℕ) → 2 ^ length ids ≤ mask → PartsSoFar old now (forms_at (made old) ids) old_bases mask listed places → bases_of (made now) listed ≡ append_parts (sublists (forms_at (made old) ids)) old_bases
@@ -433,15 +415,15 @@ parts_done old now ids old_bases mask listed places le so =
     let fs = forms_at (made old) ids in
     let c = parts_count fs in
     let l = ap (λ n. 2 ^ n) (length-map ids (form_of (made old))) in
-    ap (λ k. append_parts k (bases_of (made now) listed)) (sym (drop_whole mask (sublists fs) (omega arith))) ∙ so.rest
+    ap (λ k. append_parts k (bases_of (made now) listed)) (sym (drop_all mask (sublists fs) (omega arith))) ∙ so.rest
 
 -- the parts of an And are listed
 module _ (now next : Table) (listed places new_listed new_places : List ℕ) (steps : List Step) (b : ℕ) (goal : List Form) (w : IsAdding now listed places (steps ++ Parts b ∷ []) goal) where
   pub parts_below : b < length (made now)
-  parts_below = step_last (StepFits (length (made now))) steps (Parts b) w.fit
+  parts_below = all_last (StepFits (length (made now))) steps (Parts b) w.fit
 
   parts_fit : AllByRecursion (StepFits (length (made now))) steps
-  parts_fit = steps_front (StepFits (length (made now))) steps (Parts b ∷ []) w.fit
+  parts_fit = all_front (StepFits (length (made now))) steps (Parts b ∷ []) w.fit
 
   parts_next : bases_after (plain_steps (made now) steps) (append_parts (sublists (operands_of (base_at (made now) b))) (bases_of (made now) listed)) ≡ goal
   parts_next = sym (ap (λ s. bases_after s (bases_of (made now) listed)) (steps_last (made now) steps (Parts b))) ∙ w.same
@@ -460,10 +442,6 @@ module _ (now next : Table) (listed places new_listed new_places : List ℕ) (st
   parts_size more = let e = ap (λ s. steps_size (turned s)) (steps_kept (made now) (made next) steps more parts_fit) in omega arith
 
 -- what holds where a call succeeds, and what where it fails
-
-pub on_ok : {T E A B : Type 0} (r : Result T E) → (A → B) → OnOk r A → OnOk r B
-on_ok (Ok x) f a = f a
-on_ok (Err e) f a = a
 
 pub on_both : {T E A B C : Type 0} (r : Result T E) → (A → B → C) → OnOk r A → OnOk r B → OnOk r C
 on_both (Ok x) f a b = f a b

@@ -1,8 +1,8 @@
 -- Numbers of forms in the list.
 use Rattle.std.proofs.Common.{◌≡◌, ◌+◌, ◌-◌, ◌*◌, ◌/◌, ◌%◌, ◌^◌, ◌<◌, ◌≤◌, ℕ, zero, suc, Bool, true, false, ◌||◌, cond, List, [], ◌∷◌, ◌++◌, length, map, take, Some, slice_get, get_or, refl, ap, ap₂, sym, ◌∙◌, subst, arith, eqb-true}
 use Rattle.std.specs.List.{AllByRecursion, list_any}
-use Rattle.std.proofs.lemmas.List.{length-map, map-append, take_more}
-use Rattle.std.proofs.lemmas.Option.{slice_get-get_or, get_or_from_slice_get}
+use Rattle.std.proofs.lemmas.List.{length-map, map-append, take_more, take_all}
+use Rattle.std.proofs.lemmas.Option.{slice_get-get_or, get_or_from_slice_get, slice_get_within}
 use Rattle.std.proofs.lemmas.Slice.Eq.{bytes_eq-Decides}
 use Rattle.indexmap.specs.IndexSet.{insert_key}
 use Rattle.lw_laws.specs.Decompositions.{Listing, base_form}
@@ -14,7 +14,6 @@ use Rattle.lw_laws.specs.NumberedForms as laws
 use Rattle.lw_laws.specs.NumberedForms.Base.{base_true, base_input, base_and}
 use Rattle.lw_laws.specs.SignalValues.{form_of}
 use Rattle.lw_laws.proofs.Equality.{items-form_list}
-use Rattle.lw_laws.proofs.Lists.{slice_get_in}
 use Rattle.lw_laws.proofs.Numbers.{slice_get_map, slice_get_map_back, number_of}
 use Rattle.lw_form.specs.declared.base.Base.{Base}
 use Rattle.lw_form.specs.declared.base.Base.TheVariants.{True, Input, And}
@@ -34,12 +33,6 @@ placed_at places (x ∷ ids) (suc i) lt (p, a) = placed_at places ids i (omega a
 
 pub renumbered_more : (places ids old new : List ℕ) (i n : ℕ) → i < length ids → n ≡ renumber places (get_or ids i 0) → new ≡ old ++ n ∷ [] → old ≡ map (renumber places) (take i ids) → new ≡ map (renumber places) (take (i + 1) ids)
 renumbered_more places ids old new i n lt is grown so = grown ∙ (ap₂ (λ l k. l ++ k ∷ []) so is ∙ (sym (map-append (renumber places) (take i ids) (get_or ids i 0 ∷ [])) ∙ sym (ap (map (renumber places)) (take_more ids i 0 lt))))
-
-take_all : {X : Type 0} (n : ℕ) (xs : List X) → length xs ≤ n → take n xs ≡ xs
-take_all zero [] le = refl
-take_all (suc n) [] le = refl
-take_all zero (x ∷ xs) le = absurd (omega arith)
-take_all (suc n) (x ∷ xs) le = ap (λ l. x ∷ l) (take_all n xs (omega arith))
 
 pub renumbered_done : (places ids done : List ℕ) (i : ℕ) → length ids ≤ i → done ≡ map (renumber places) (take i ids) → done ≡ map (renumber places) ids
 renumbered_done places ids done i le so = so ∙ ap (map (renumber places)) (take_all i ids le)
@@ -64,7 +57,7 @@ module _ (forms : List Form) (are : AreMade forms) (listed places : List ℕ) (i
   pub is_placed : (f k : ℕ) → f / 2 < length forms → slice_get o.bases k ≡ Some (base_form (form_of forms f)) → place_of places (f / 2) < 2 ^ 31
   is_placed f k lt e =
       let p = place_known f k lt e in
-      let in' = slice_get_in o.bases k (base_form (form_of forms f)) e in
+      let in' = slice_get_within o.bases k (base_form (form_of forms f)) e in
       let l = ap length bases in
       let m = length-map listed (base_at forms) in
       let few = is.few in
@@ -134,7 +127,7 @@ module _ (forms : List Form) (are : AreMade forms) (listed places : List ℕ) (i
       let same : plain_base key ≡ numbered_base o.bases (base_at forms b) = base_is i b (plain_base key) e s in
       let here : slice_get (map (numbered_base o.bases) o.bases) i ≡ Some (plain_base key) = slice_get_map (numbered_base o.bases) o.bases i (base_at forms b) (listed_form i b e) ∙ ap Some (sym same) in
       let fresh = none_same key keys (λ j d. let (lt, at) = get_take (map (numbered_base o.bases) o.bases) i j (plain_base key) (ap (λ l. slice_get l j) (sym so) ∙ d) in let twice = once_kept o lists j i (plain_base key) at here in absurd (omega arith)) in
-      let lt = slice_get_in (map (numbered_base o.bases) o.bases) i (plain_base key) here in
+      let lt = slice_get_within (map (numbered_base o.bases) o.bases) i (plain_base key) here in
       ap (map plain_base) (grown ∙ ap (λ t. cond t keys (keys ++ key ∷ [])) fresh)
       ∙ (map-append plain_base keys (key ∷ [])
       ∙ (ap₂ (λ l x. l ++ x ∷ []) so (sym (get_or_from_slice_get (map (numbered_base o.bases) o.bases) i (plain_base key) base_true here)) ∙ sym (take_more (map (numbered_base o.bases) o.bases) i base_true lt)))

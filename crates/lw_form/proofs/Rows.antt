@@ -1,6 +1,6 @@
 -- Rows, and sums of products.
 use Rattle.std.proofs.Common.{◌≡◌, ◌+◌, ◌-◌, ◌*◌, ◌/◌, ◌%◌, ◌<◌, ◌≤◌, ℕ, zero, suc, Bool, true, false, not, Option, Some, None, List, [], ◌∷◌, ◌++◌, length, map, take, drop, get_or, slice_set, bit_xor, refl, ap, ap₂, sym, ◌∙◌, subst, arith, append_assoc, append-nil}
-use Rattle.std.proofs.lemmas.List.{at_drop_more, length-map, map-append}
+use Rattle.std.proofs.lemmas.List.{at_drop_more, length-map, map-append, drop_all}
 use Rattle.std.specs.Bool.{beq}
 use Rattle.lw_laws.specs.Forms.{Form, complement, conjunction, disjunction}
 use Rattle.lw_laws.specs.Signals.{signed, literals, sum_of_products, asks, has_at, cleared_at}
@@ -104,17 +104,11 @@ cubes_more width old now next fanins rows i row cubes cubes' lits n are below lt
       ∙ (ap (λ k. forms_at (made now) cubes ++ k) (ap (λ k. cube width fs k ∷ rest) r ∙ sym (at_drop_more (map (cube width fs)) rows i row lt)) ∙ so.same)));
 })
 
-drop_past : {X : Type 0} (n : ℕ) (xs : List X) → length xs ≤ n → drop n xs ≡ []
-drop_past zero [] le = refl
-drop_past (suc n) [] le = refl
-drop_past zero (x ∷ xs) le = absurd (omega arith)
-drop_past (suc n) (x ∷ xs) le = drop_past n xs (omega arith)
-
 pub cubes_done : (width : ℕ) (old now : Table) (fanins : List ℕ) (rows : List (List (Option Bool))) (i : ℕ) (cubes : List ℕ) → length rows ≤ i → CubesSoFar width old now fanins rows i cubes → AreMadeAs old now cubes (map (cube width (forms_at (made old) fanins)) rows)
 cubes_done width old now fanins rows i cubes le so = record {
   more = so.more;
   within = so.within;
-  are = sym (append-nil (forms_at (made now) cubes)) ∙ (ap (λ l. forms_at (made now) cubes ++ map (cube width (forms_at (made old) fanins)) l) (sym (drop_past i rows le)) ∙ so.same);
+  are = sym (append-nil (forms_at (made now) cubes)) ∙ (ap (λ l. forms_at (made now) cubes ++ map (cube width (forms_at (made old) fanins)) l) (sym (drop_all i rows le)) ∙ so.same);
 }
 
 pub sum_made : (width : ℕ) (old now next : Table) (fanins cubes : List ℕ) (rows : List (List (Option Bool))) (n : ℕ) → AreMadeAs old now cubes (map (cube width (forms_at (made old) fanins)) rows) → IsMadeAs now next n (disjunction width (forms_at (made now) cubes)) → IsMadeAs old next n (sum_of_products width (forms_at (made old) fanins) rows)

@@ -1,8 +1,9 @@
 -- The values of base forms where every input is false.
 use Rattle.std.proofs.Common.{◌≡◌, ◌+◌, ◌*◌, ◌/◌, ◌%◌, ◌==◌, ◌<◌, ◌≤◌, ◌⊎◌, inl, inr, ℕ, zero, suc, Bool, true, false, not, ◌&&◌, if◌then◌else◌, List, [], ◌∷◌, ◌++◌, length, map, drop, Some, slice_get, get_or, refl, ap, ap₂, sym, ◌∙◌, subst, arith, length-append}
 use Rattle.std.specs.List.{list_all, AllByRecursion}
-use Rattle.std.proofs.lemmas.List.{at_drop_more, length-map}
+use Rattle.std.proofs.lemmas.List.{at_drop_more, length-map, drop_all}
 use Rattle.std.proofs.lemmas.Option.{get_or_from_slice_get}
+use Rattle.lw_facts.proofs.Lists.{get_left, get_last}
 use Rattle.lw_laws.specs.Flip.{flip}
 use Rattle.lw_laws.proofs.Flips.{flip_even}
 use Rattle.lw_laws.specs.NumberedForms as laws
@@ -14,7 +15,6 @@ use Rattle.lw_form.specs.Bases.{plain_base}
 use Rattle.lw_form.specs.Kept.{AreSamples}
 use Rattle.lw_form.specs.Sampled.{sample_value, sample_base}
 use Rattle.lw_form.specs.Tables.{AreBelow}
-use Rattle.lw_form.proofs.Tables.{get_left, get_last, get_back}
 
 pub form_fits : (count : ℕ) (ids : List ℕ) (i : ℕ) → i < length ids → AreBelow count ids → get_or ids i 0 / 2 < count
 form_fits count [] i lt a = absurd (omega arith)
@@ -27,14 +27,8 @@ all_step samples fs i value goals lt e t so = sym (at_drop_more (list_all (sampl
 pub all_false : (samples : List Bool) (fs : List ℕ) (i : ℕ) (value goals : Bool) → i < length fs → value ≡ sample_value samples (get_or fs i 0) → value ≡ false → list_all (sample_value samples) (drop i fs) ≡ goals → false ≡ goals
 all_false samples fs i value goals lt e t so = sym (at_drop_more (list_all (sample_value samples)) fs i 0 lt ∙ ap (λ b. b && list_all (sample_value samples) (drop (i + 1) fs)) (sym e ∙ t)) ∙ so
 
-drop_end : {X : Type 0} (n : ℕ) (xs : List X) → length xs ≤ n → drop n xs ≡ []
-drop_end zero [] le = refl
-drop_end (suc n) [] le = refl
-drop_end zero (x ∷ xs) le = absurd (omega arith)
-drop_end (suc n) (x ∷ xs) le = drop_end n xs (omega arith)
-
 pub all_end : (samples : List Bool) (fs : List ℕ) (i : ℕ) (goals : Bool) → length fs ≤ i → list_all (sample_value samples) (drop i fs) ≡ goals → true ≡ goals
-all_end samples fs i goals le so = ap (list_all (sample_value samples)) (sym (drop_end i fs le)) ∙ so
+all_end samples fs i goals le so = ap (list_all (sample_value samples)) (sym (drop_all i fs le)) ∙ so
 
 -- what is known of the samples so far
 abbrev pub SampledSoFar : List laws.Base → ℕ → List Bool → Type 0

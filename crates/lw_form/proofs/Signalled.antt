@@ -6,12 +6,12 @@ use Rattle.lw_laws.specs.Forms.{Form}
 use Rattle.lw_laws.specs.Forms.Form.{var_form, true_form}
 use Rattle.lw_laws.specs.Networks.{Node, Network}
 use Rattle.lw_laws.specs.Occurring.{appended, add_form, add_signals, occurring_forms}
-use Rattle.lw_laws.proofs.Lists.{slice_get_in}
 use Rattle.std.proofs.lemmas.List.{take_more, take-append-drop}
+use Rattle.std.proofs.lemmas.Option.{slice_get_within}
+use Rattle.lw_facts.proofs.Lists.{get_left}
 use Rattle.lw_net.specs.declared.node.Node.{Node as NetNode}
 use Rattle.lw_net.specs.Networks.{NetworkParts, IsNetwork}
 use Rattle.lw_form.proofs.KeptForms.{after_length}
-use Rattle.lw_form.proofs.Tables.{get_left}
 use Rattle.lw_laws.specs.Signals.{Signal, sop_at, signed, signal_of_node, signal_of_input, input_signals, signals_after, signals_of, sum_of_products, factored}
 use Rattle.lw_laws.specs.SignalValues.{form_of}
 use Rattle.lw_form.specs.declared.fault.FormFault.{FormFault}
@@ -212,7 +212,7 @@ module _ (old now : Table) (inputs i : ℕ) (e : old ≡ record { inputs = input
       ap₂ slice_get (grown ∙ ap (λ l. l ++ m) (start_made old inputs e)) next ∙ get_left (true_form ∷ input_forms 0 inputs) m (suc i) (var_form i) (input_at 0 inputs i lt ∙ ap (λ j. Some (var_form j)) z)
 
   pub input_within : 2 * (i + 1) / 2 < length (made now)
-  input_within = let l = slice_get_in (made now) (i + 1) (var_form i) input_place in omega arith
+  input_within = let l = slice_get_within (made now) (i + 1) (var_form i) input_place in omega arith
 
   pub input_signal_is : signal_at (made now) (2 * (i + 1)) (2 * (i + 1)) ≡ signal_of_input i
   input_signal_is = let f = even_form (made now) (i + 1) (var_form i) input_place in ap₂ (λ x y. record { sop = x; fac = y }) f f

@@ -5,6 +5,8 @@ use Rattle.std.specs.Str.{bytes_eq}
 use Rattle.std.proofs.lemmas.List.{get_or_append_left, map-append}
 use Rattle.std.proofs.lemmas.Option.{slice_get-get_or, get_or_from_slice_get, slice_get_within, slice_get_past}
 use Rattle.std.proofs.lemmas.Slice.Eq.{bytes_eq-Decides}
+use Rattle.lw_facts.proofs.Lists.{get_left, get_last, get_last_cases}
+use Rattle.lw_facts.proofs.Tests.{same_tests}
 use Rattle.indexmap.specs.IndexSet.{insert_key}
 use Rattle.lw_laws.specs.Forms.{Form, FormList, items, form_list, and_of, same_form, is_among, complement}
 use Rattle.lw_laws.specs.Forms.Form.{var_form, true_form, not_form, and_form}
@@ -13,29 +15,11 @@ use Rattle.lw_laws.specs.Decompositions.{base_form}
 use Rattle.lw_laws.specs.Occurring.{appended}
 use Rattle.lw_laws.specs.SignalValues.{form_of}
 use Rattle.lw_laws.proofs.Equality.{same_form_refl, same_form_eq, items-form_list}
-use Rattle.lw_laws.proofs.Lists.{slice_get_in, slice_get_some}
+use Rattle.lw_laws.proofs.Lists.{slice_get_some}
 use Rattle.lw_form.specs.Renumbered.{simple_at}
 use Rattle.lw_form.specs.Tables.{AreBelow, input_forms, forms_at, spelled, made_after, forms_made, Table, made, AreMade, IsTable, HasMore, IsSimple}
 
 -- places of lists
-
-pub get_left : {X : Type 0} (xs ys : List X) (b : ℕ) (x : X) → slice_get xs b ≡ Some x → slice_get (xs ++ ys) b ≡ Some x
-get_left [] ys b x e = cc
-get_left (z ∷ xs) ys zero x e = e
-get_left (z ∷ xs) ys (suc b) x e = get_left xs ys b x e
-
-pub get_last : {X : Type 0} (xs : List X) (x : X) → slice_get (xs ++ x ∷ []) (length xs) ≡ Some x
-get_last [] x = refl
-get_last (z ∷ xs) x = get_last xs x
-
-pub get_back : {X : Type 0} (xs : List X) (y : X) (b : ℕ) (x : X) → slice_get (xs ++ y ∷ []) b ≡ Some x → (slice_get xs b ≡ Some x) ⊎ ((b ≡ length xs) × (x ≡ y))
-get_back [] y zero x e = inr (refl, cc)
-get_back [] y (suc b) x e = cc
-get_back (z ∷ xs) y zero x e = inl e
-get_back (z ∷ xs) y (suc b) x e = next (get_back xs y b x e) where
-  next : (slice_get xs b ≡ Some x) ⊎ ((b ≡ length xs) × (x ≡ y)) → (slice_get (z ∷ xs) (suc b) ≡ Some x) ⊎ ((suc b ≡ length (z ∷ xs)) × (x ≡ y))
-  next (inl e) = inl e
-  next (inr (e, k)) = inr (ap suc e, k)
 
 pub length_one : {X : Type 0} (xs : List X) (x : X) → length (xs ++ x ∷ []) ≡ length xs + 1
 length_one xs x = length-append xs (x ∷ [])
@@ -107,7 +91,7 @@ module _ (t : Table) (is : IsTable t) where
   pub key_below : (k : ℕ) (ids : List ℕ) → slice_get t.keys k ≡ Some ids → AreBelow (length (made t)) ids
   key_below k ids e =
       let c = forms_count t.inputs t.keys in
-      let lt = slice_get_in t.keys k ids e in
+      let lt = slice_get_within t.keys k ids e in
       below_more (1 + t.inputs + k) (length (made t)) ids (omega arith) (is.before k ids e)
 
 -- true and the inputs come first
@@ -147,7 +131,7 @@ and_key t b fs e = by_place (le_or_lt (1 + t.inputs) b) where
   by_place : (1 + t.inputs ≤ b) ⊎ (b < 1 + t.inputs) → HasKey t b
   by_place (inl le) =
       let c = forms_count t.inputs t.keys in
-      let lt = slice_get_in (made t) b (and_form fs) e in
+      let lt = slice_get_within (made t) b (and_form fs) e in
       let (ids, k) = slice_get_some t.keys (b - (1 + t.inputs)) (omega arith) in
       record { place = b - (1 + t.inputs); ids = ids; key = k; at = omega arith }
   by_place (inr lt) = let (f, d, simple) = simple_form t b lt in absurd (not_simple fs f (slice_get (made t) b) e d simple)
@@ -257,13 +241,8 @@ made_keyed t ids is below e =
     one : (f h : Form) (o : Option Form) → o ≡ Some f → o ≡ Some h → f ≡ h
     one f h o e d = cc
 
-same_test : (a b : Bool) → (a ≡ true → b ≡ true) → (b ≡ true → a ≡ true) → a ≡ b
-same_test true b f g = sym (f refl)
-same_test false true f g = g refl
-same_test false false f g = refl
-
 keyed : (t : Table) (ids : List ℕ) → IsTable t → AreBelow (length (made t)) ids → list_any (bytes_eq ids) t.keys ≡ is_among (spelled (made t) ids) (made t)
-keyed t ids is below = same_test (list_any (bytes_eq ids) t.keys) (is_among (spelled (made t) ids) (made t)) (keyed_made t ids is below) (made_keyed t ids is below)
+keyed t ids is below = same_tests (list_any (bytes_eq ids) t.keys) (is_among (spelled (made t) ids) (made t)) (keyed_made t ids is below) (made_keyed t ids is below)
 
 -- the table with one more And, where it isn't there
 abbrev pub with_key : Table → List ℕ → Table
@@ -290,8 +269,8 @@ made_with t ids is below = by_test (list_any (bytes_eq ids) t.keys) (is_among (s
 one_made : (forms : List Form) (f : Form) → AreMade forms → length forms < 2 ^ 31 → sign_of f ≡ 0 → is_among f forms ≡ false → AreMade (forms ++ f ∷ [])
 one_made forms f are lt z new = record {
   first = get_left forms (f ∷ []) 0 true_form are.first;
-  signs = λ b g e. sign b g (get_back forms f b g e);
-  once = λ a b g d e. place a b g (get_back forms f a g d) (get_back forms f b g e);
+  signs = λ b g e. sign b g (get_last_cases forms f b g e);
+  once = λ a b g d e. place a b g (get_last_cases forms f a g d) (get_last_cases forms f b g e);
   few = let l = length_one forms f in omega arith;
 } where
   sign : (b : ℕ) (g : Form) → (slice_get forms b ≡ Some g) ⊎ ((b ≡ length forms) × (g ≡ f)) → sign_of g ≡ 0
@@ -323,7 +302,7 @@ table_with t ids is below lt = record {
 
   by_test : (b : Bool) (k : ℕ) (hs : List ℕ) → slice_get (cond b t.keys (t.keys ++ ids ∷ [])) k ≡ Some hs → AreBelow (1 + t.inputs + k) hs
   by_test true k hs e = is.before k hs e
-  by_test false k hs e = last k hs (get_back t.keys ids k hs e)
+  by_test false k hs e = last k hs (get_last_cases t.keys ids k hs e)
 
   by_new : (b : Bool) → is_among (spelled (made t) ids) (made t) ≡ b → AreMade (cond b (made t) (made t ++ spelled (made t) ids ∷ []))
   by_new true e = is.are
@@ -349,7 +328,7 @@ added t keys ids place is below room e (k, at, same) =
       table = grown;
       made_is = made_with t ids is below;
       at = form_with t ids k place is below lt at' same;
-      fits = let c = forms_count t.inputs (insert_key bytes_eq t.keys ids) in let inside = slice_get_in (insert_key bytes_eq t.keys ids) place k at' in let few = grown.are.few in omega arith;
+      fits = let c = forms_count t.inputs (insert_key bytes_eq t.keys ids) in let inside = slice_get_within (insert_key bytes_eq t.keys ids) place k at' in let few = grown.are.few in omega arith;
     })
   where
     lt : length (made t) < 2 ^ 31
@@ -406,7 +385,7 @@ new_table inputs keys e lt =
     sign : (b : ℕ) (f : Form) → slice_get (true_form ∷ input_forms 0 inputs) b ≡ Some f → sign_of f ≡ 0
     sign b f d =
         let c = input_count 0 inputs in
-        let lt = slice_get_in (true_form ∷ input_forms 0 inputs) b f d in
+        let lt = slice_get_within (true_form ∷ input_forms 0 inputs) b f d in
         let (g, e, simple) = simple_first inputs b (omega arith) in
         let same : g ≡ f = cc in
         ap sign_of (sym same) ∙ simple_sign g simple

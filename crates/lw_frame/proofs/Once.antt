@@ -8,14 +8,12 @@ use Rattle.std.specs.Cmp.Lexicographic.{bytes_decides}
 use Rattle.std.proofs.lemmas.Bool.Decides.{same_from_decides}
 use Rattle.std.proofs.lemmas.List.Elements.{filter-append}
 use Rattle.std.proofs.lemmas.Map.Keys.{IsDistinct-cons, IsDistinct-tail, IsDistinct-head}
+use Rattle.lw_facts.proofs.Lists.{bytes_eq_turned}
 use Rattle.indexmap.specs.IndexSet.{insert_key, insert_all}
 use Rattle.lw_frame.specs.Frames.{each_once, read_by, root_names}
 
 abbrev pub is_among : List (List ℕ) → List ℕ → Bool
 is_among names name = list_any (bytes_eq name) names
-
-pub eq-flips : (x y : List ℕ) → bytes_eq x y ≡ bytes_eq y x
-eq-flips x y = same_from_decides (bytes_eq x y) (bytes_eq y x) (bytes_decides x y) (let d = bytes_decides y x in (λ e. sym (d.0 e), λ e. d.1 (sym e)))
 
 among-filter : (q : List ℕ → Bool) (name : List ℕ) (names : List (List ℕ)) → q name ≡ true → ((other : List ℕ) → bytes_eq name other ≡ true → q other ≡ q name) → is_among (filter q names) name ≡ is_among names name
 among-filter q name [] keeps same = refl
@@ -34,7 +32,7 @@ among-once (first ∷ names) name = by_case (bytes_eq name first) refl (among-on
     by_case : (b : Bool) → bytes_eq name first ≡ b → is_among (each_once names) name ≡ is_among names name → (bytes_eq name first || is_among (filter (λ other. not (bytes_eq first other)) (each_once names)) name) ≡ (bytes_eq name first || is_among names name)
     by_case true e others = ap (λ u. u || is_among (filter (λ other. not (bytes_eq first other)) (each_once names)) name) e ∙ sym (ap (λ u. u || is_among names name) e)
     by_case false e others =
-        let differs : not (bytes_eq first name) ≡ true = ap not (eq-flips first name ∙ e) in
+        let differs : not (bytes_eq first name) ≡ true = ap not (bytes_eq_turned first name ∙ e) in
         ap (λ u. bytes_eq name first || u)
         (among-filter (λ other. not (bytes_eq first other)) name (each_once names) differs
         (λ other f. let is : name ≡ other = (bytes_decides name other).0 f in ap (λ n. not (bytes_eq first n)) (sym is))
@@ -55,7 +53,7 @@ once-push (first ∷ names) name =
         first ∷ filter (λ other. not (bytes_eq first other)) (insert_key bytes_eq (each_once names) name)
         ≡ cond (bytes_eq name first || is_among (filter (λ other. not (bytes_eq first other)) (each_once names)) name) (first ∷ filter (λ other. not (bytes_eq first other)) (each_once names)) (first ∷ filter (λ other. not (bytes_eq first other)) (each_once names) ++ name ∷ [])
     by_case b e true f =
-        let gone : not (bytes_eq first name) ≡ false = ap not (eq-flips first name ∙ f) in
+        let gone : not (bytes_eq first name) ≡ false = ap not (bytes_eq_turned first name ∙ f) in
         ap (λ r. first ∷ r) (at_first b gone)
         ∙ sym (ap (λ u. cond (u || is_among (filter (λ other. not (bytes_eq first other)) (each_once names)) name) (first ∷ filter (λ other. not (bytes_eq first other)) (each_once names)) (first ∷ filter (λ other. not (bytes_eq first other)) (each_once names) ++ name ∷ [])) f)
       where
@@ -68,12 +66,12 @@ once-push (first ∷ names) name =
                 filter-append (λ other. not (bytes_eq first other)) (each_once names) (name ∷ [])
                 ∙ (ap (λ u. filter (λ other. not (bytes_eq first other)) (each_once names) ++ cond u (name ∷ []) []) gone ∙ append-nil (filter (λ other. not (bytes_eq first other)) (each_once names)))
     by_case true e false f =
-        let stays : not (bytes_eq first name) ≡ true = ap not (eq-flips first name ∙ f) in
+        let stays : not (bytes_eq first name) ≡ true = ap not (bytes_eq_turned first name ∙ f) in
         let among : is_among (filter (λ other. not (bytes_eq first other)) (each_once names)) name ≡ true = kept-among stays ∙ e in
         ap (λ k. first ∷ filter (λ other. not (bytes_eq first other)) (cond k (each_once names) (each_once names ++ name ∷ []))) e
         ∙ sym (ap (λ u. cond u (first ∷ filter (λ other. not (bytes_eq first other)) (each_once names)) (first ∷ filter (λ other. not (bytes_eq first other)) (each_once names) ++ name ∷ [])) (ap (λ u. u || is_among (filter (λ other. not (bytes_eq first other)) (each_once names)) name) f ∙ among))
     by_case false e false f =
-        let stays : not (bytes_eq first name) ≡ true = ap not (eq-flips first name ∙ f) in
+        let stays : not (bytes_eq first name) ≡ true = ap not (bytes_eq_turned first name ∙ f) in
         let among : is_among (filter (λ other. not (bytes_eq first other)) (each_once names)) name ≡ false = kept-among stays ∙ e in
         ap (λ k. first ∷ filter (λ other. not (bytes_eq first other)) (cond k (each_once names) (each_once names ++ name ∷ []))) e
         ∙ (ap (λ r. first ∷ r) (filter-append (λ other. not (bytes_eq first other)) (each_once names) (name ∷ []) ∙ ap (λ u. filter (λ other. not (bytes_eq first other)) (each_once names) ++ cond u (name ∷ []) []) stays)

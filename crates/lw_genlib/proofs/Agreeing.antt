@@ -5,6 +5,7 @@ use Rattle.std.specs.List.{list_all, zip, IsDistinct}
 use Rattle.std.specs.Str.{bytes_eq}
 use Rattle.std.proofs.lemmas.Bool.{false≢true, and_parts}
 use Rattle.std.proofs.lemmas.List.{length-map}
+use Rattle.lw_facts.proofs.Lists.{bytes_eq_is}
 use Rattle.lw_fixed.specs.declared.micro.Micro.{Micro}
 use Rattle.lw_laws.specs.Expressions.{Expr}
 use Rattle.lw_genlib.specs.declared.token.Token.{Token}
@@ -17,7 +18,6 @@ use Rattle.lw_genlib.specs.Spelled.{expression_of, inner_of}
 use Rattle.lw_genlib.specs.Entries.{Entry, pins_of}
 use Rattle.lw_genlib.specs.Kept.{IsFunction, AreDelays}
 use Rattle.lw_genlib.specs.Merging.{is_same_pin, is_pin_among, have_same_pins, is_alike, agrees, have_same_table, output_of, delays_of, delay_by, form_over}
-use Rattle.lw_genlib.proofs.Names.{same_name}
 use Rattle.lw_genlib.proofs.Faultless.{inner_at}
 use Rattle.lw_genlib.proofs.Grammars.{spelled_postfix}
 use Rattle.lw_genlib.proofs.Spelled.{spelled_is_read}
@@ -32,7 +32,7 @@ pin-in (q ∷ qs) [] p d h = absurd (false≢true h)
 pin-in (q ∷ qs) (e ∷ es) p d h = at (is_same_pin (p, d) (q, e)) refl h (λ g. pin-in qs es p d g)
   where
     at : (b : Bool) → is_same_pin (p, d) (q, e) ≡ b → (b || is_pin_among (zip qs es) (p, d)) ≡ true → (is_pin_among (zip qs es) (p, d) ≡ true → In qs p) → In (q ∷ qs) p
-    at true is g others = inl (sym (same_name p q (and_parts (bytes_eq p q) _ is).0))
+    at true is g others = inl (sym (bytes_eq_is p q (and_parts (bytes_eq p q) _ is).0))
     at false is g others = inr (others g)
 
 pins-in : (ps qs : List (List ℕ)) (ds es : List Micro) (n : List ℕ) → length ds ≡ length ps → list_all (is_pin_among (zip qs es)) (zip ps ds) ≡ true → In ps n → In qs n

@@ -8,21 +8,13 @@ use Rattle.std.proofs.lemmas.Nat.{or_lt}
 use Rattle.std.proofs.lemmas.Nat.Bits.{bit_at_and, bit_at_or, bit_at_not, bit_at_ones, bit_at-zero, bit_at-lt}
 use Rattle.std.proofs.Math.Bool.{and-true, or-false, and_assoc, or_assoc}
 use Rattle.std.proofs.lemmas.Bool.Decides.{nat_tests}
+use Rattle.lw_facts.proofs.Numbers.{min_bit, max_bit, not_bit}
 use Rattle.lw_laws.specs.Expressions.{Expr, Exprs, expr_value, all_true, some_true}
 use Rattle.lw_laws.specs.Expressions.Expr.{expr_const, expr_pin, expr_not, expr_and, expr_or}
 use Rattle.lw_laws.specs.Expressions.Exprs.{no_exprs, more_exprs}
 use Rattle.lw_genlib.specs.Codes.{meaning, meanings}
 use Rattle.lw_genlib.specs.Runs.{word_by}
 use Rattle.lw_genlib.specs.Words.{bit, pins_at}
-
-min_bit : (x y z : ℕ) → z ≡ min x y → x < 2 → y < 2 → eqb z 1 ≡ (eqb x 1 && eqb y 1)
-min_bit x y z e xl yl = grind (arith, nat_tests)
-
-max_bit : (x y z : ℕ) → z ≡ max x y → x < 2 → y < 2 → eqb z 1 ≡ (eqb x 1 || eqb y 1)
-max_bit x y z e xl yl = grind (arith, nat_tests)
-
-not_bit : (x z : ℕ) → z ≡ 1 - x → x < 2 → eqb z 1 ≡ not (eqb x 1)
-not_bit x z e xl = grind (arith, nat_tests)
 
 module _ (k : ℕ) (lt : k < 64) where
   pub bit_and_is : (a b : ℕ) → bit k (bit_and a b) ≡ (bit k a && bit k b)

@@ -4,7 +4,7 @@ use Rattle.std.specs.Prelude.{All, Contains, MatchOption, MatchResult, IfOk}
 use Rattle.std.specs.List.{list_any, position, position_or_len}
 use Rattle.std.proofs.lemmas.List.{length-map}
 use Rattle.std.proofs.lemmas.Bool.Decides.{nat_tests}
-use Rattle.std.proofs.lemmas.Bool.{or_parts}
+use Rattle.std.proofs.lemmas.Bool.{or_parts, le-ltb, ltb-false}
 use Rattle.lw_fixed.specs.declared.micro.Micro.{Micro}
 use Rattle.lw_laws.specs.Expressions.{Expr, expr_value}
 use Rattle.lw_genlib.specs.declared.token.Token.{Token}
@@ -74,12 +74,6 @@ listed-cell entry output pins form h =
 
 -- Places.
 
-less-false : (a b : ℕ) → b ≤ a → nat_lt a b ≡ false
-less-false a b h = grind (arith, nat_tests)
-
-not-less : (a b : ℕ) → nat_lt a b ≡ false → b ≤ a
-not-less a b h = grind (arith, nat_tests)
-
 module _ {X : Type 0} where
   all-before : (p : X → Bool) (xs : List X) → list_any p xs ≡ false → length xs ≤ position_or_len p xs
   all-before p [] h = omega arith
@@ -90,7 +84,7 @@ module _ {X : Type 0} where
       at false e le = omega arith
 
   position-list_any : (p : X → Bool) (xs : List X) → list_any p xs ≡ false → position p xs ≡ None
-  position-list_any p xs h = ap (λ b. cond b (Some (position_or_len p xs)) None) (less-false (position_or_len p xs) (length xs) (all-before p xs h))
+  position-list_any p xs h = ap (λ b. cond b (Some (position_or_len p xs)) None) (le-ltb (position_or_len p xs) (length xs) (all-before p xs h))
 
   none-passes : (p : X → Bool) (xs : List X) → length xs ≤ position_or_len p xs → list_any p xs ≡ false
   none-passes p [] le = refl
@@ -101,7 +95,7 @@ module _ {X : Type 0} where
       at false others h = others (omega arith)
 
   pub no-place : (p : X → Bool) (xs : List X) → position p xs ≡ None → list_any p xs ≡ false
-  no-place p xs is = none-passes p xs (not-less (position_or_len p xs) (length xs) (at (nat_lt (position_or_len p xs) (length xs)) is))
+  no-place p xs is = none-passes p xs (ltb-false (position_or_len p xs) (length xs) (at (nat_lt (position_or_len p xs) (length xs)) is))
     where
       at : (b : Bool) → cond b (Some (position_or_len p xs)) None ≡ None → b ≡ false
       at true h = cc

@@ -10,22 +10,9 @@ use Rattle.std.proofs.lemmas.List.Folds.{list_any_at}
 use Rattle.std.proofs.lemmas.List.Sums.{sum_by-cons, prefix_len_is}
 use Rattle.std.proofs.lemmas.Option.{slice_get-get_or}
 use Rattle.std.proofs.lemmas.Bool.{false≢true, lt-ltb, le-ltb}
+use Rattle.lw_facts.proofs.Lists.{bytes_eq_is, bytes_eq_same, bytes_differ_turned}
 use Rattle.indexmap.specs.IndexSet.{insert_key}
 use Rattle.lw_genlib.specs.Cells.{CellParts, IsLibrary, Key, bytes_of, names_of, form_count}
-
-pub same_name : (xs ys : List ℕ) → bytes_eq xs ys ≡ true → xs ≡ ys
-same_name xs ys e = (bytes_eq-Decides xs ys).0 e
-
-pub alike : (xs ys : List ℕ) → xs ≡ ys → bytes_eq xs ys ≡ true
-alike xs ys e = (bytes_eq-Decides xs ys).1 e
-
--- the test does not mind the order
-pub differ_back : (xs ys : List ℕ) → bytes_eq xs ys ≡ false → bytes_eq ys xs ≡ false
-differ_back xs ys e = by_test (bytes_eq ys xs) refl
-  where
-    by_test : (b : Bool) → bytes_eq ys xs ≡ b → b ≡ false
-    by_test true is = absurd (false≢true (sym e ∙ alike xs ys (sym (same_name ys xs is))))
-    by_test false is = refl
 
 -- a name is none of those before it
 pub none_before : (names : List (List ℕ)) (i : ℕ) (d : List ℕ) → IsDistinct bytes_eq names → i < length names → list_any (bytes_eq (get_or names i d)) (take i names) ≡ false
@@ -34,7 +21,7 @@ none_before [] i d distinct below = absurd (omega arith)
 none_before (x ∷ xs) zero d distinct below = refl
 none_before (x ∷ xs) (suc i) d distinct below =
     let inside : i < length xs = omega arith in
-    ap₂ (λ a b. a || b) (differ_back x (get_or xs i d) (at_place xs i d distinct.0 inside)) (none_before xs i d distinct.1 inside)
+    ap₂ (λ a b. a || b) (bytes_differ_turned x (get_or xs i d) (at_place xs i d distinct.0 inside)) (none_before xs i d distinct.1 inside)
   where
     at_place : (ys : List (List ℕ)) (k : ℕ) (e : List ℕ) → AllByRecursion (λ y. bytes_eq x y ≡ false) ys → k < length ys → bytes_eq x (get_or ys k e) ≡ false
     at_place [] k e all lt = absurd (omega arith)
@@ -61,14 +48,14 @@ found_at q [] names i all is = cc
 found_at q (key ∷ keys) names i all is =
     let at = position-Some (λ (k : Key). bytes_eq q k.items) (key ∷ keys) i key is in
     let there : get_or (map bytes_of (key ∷ keys)) i q ≡ (get_or (key ∷ keys) i key).items = get_or-map bytes_of (key ∷ keys) i key q at.0 in
-    let name : get_or names i q ≡ q = ap (λ ns. get_or ns i q) (sym all) ∙ (there ∙ sym (same_name q _ at.1)) in
+    let name : get_or names i q ≡ q = ap (λ ns. get_or ns i q) (sym all) ∙ (there ∙ sym (bytes_eq_is q _ at.1)) in
     let size : length names ≡ length (key ∷ keys) = ap length (sym all) ∙ length-map (key ∷ keys) bytes_of in
     let within : i < length names = omega arith in
     (at.0, slice_get-get_or names i q within ∙ ap Some name)
 
 pub found_nowhere : (q : List ℕ) (keys : List Key) (names : List (List ℕ)) → map bytes_of keys ≡ names → list_any (λ (key : Key). bytes_eq q key.items) keys ≡ false → Contains names q → ⊥
 found_nowhere q keys names all none (k, lt, here) =
-    let some : list_any (bytes_eq q) names ≡ true = list_any_at (bytes_eq q) names k q lt (alike q (get_or names k q) (sym here)) in
+    let some : list_any (bytes_eq q) names ≡ true = list_any_at (bytes_eq q) names k q lt (bytes_eq_same q (get_or names k q) (sym here)) in
     false≢true (sym none ∙ (any_bytes q keys ∙ (ap (list_any (bytes_eq q)) all ∙ some)))
 
 -- there are no more cells than forms

@@ -5,6 +5,7 @@ use Rattle.std.specs.List.{IsDistinct, AllByRecursion, position}
 use Rattle.std.specs.Str.{bytes_eq}
 use Rattle.std.proofs.lemmas.Bool.{false≢true, or_parts}
 use Rattle.std.proofs.lemmas.List.Quantifiers.{position-Some}
+use Rattle.lw_facts.proofs.Lists.{bytes_eq_is, bytes_eq_same, bytes_differ_turned}
 use Rattle.lw_laws.specs.Expressions.{Expr, MentionsPin, SomeMentionsPin}
 use Rattle.lw_laws.specs.Expressions.Expr.{expr_const, expr_pin}
 use Rattle.lw_genlib.specs.declared.token.Token.{Token}
@@ -12,7 +13,7 @@ use Rattle.lw_genlib.specs.declared.token.Token.TheVariants.{Name, Punct}
 use Rattle.lw_genlib.specs.Postfix.{exprs_of, IsOver}
 use Rattle.lw_genlib.specs.Grammar.{IsSum, first_product, next_product, IsProduct, first_factor, beside_factor, times_factor, IsFactor, plain_factor, bang_factor, IsAtom, name_atom, group_atom, quoted_atom, SpellsSum, literal_of, product_of, sum_of, plus_token, star_token, close_token, quote_token}
 use Rattle.lw_genlib.specs.Functions.{is_constant_name, is_among, with_pin}
-use Rattle.lw_genlib.proofs.Names.{same_name, alike, differ_back, first_place}
+use Rattle.lw_genlib.proofs.Names.{first_place}
 
 -- a name that is no constant stands among the tokens
 abbrev pub Named : List Token → List ℕ → Type 0
@@ -26,7 +27,7 @@ In (x ∷ xs) n = (x ≡ n) ⊎ In xs n
 
 pub in-among : (names : List (List ℕ)) (n : List ℕ) → In names n → is_among n names ≡ true
 in-among [] n h = absurd h
-in-among (x ∷ xs) n (inl e) = ap (λ b. b || is_among n xs) (alike n x (sym e))
+in-among (x ∷ xs) n (inl e) = ap (λ b. b || is_among n xs) (bytes_eq_same n x (sym e))
 in-among (x ∷ xs) n (inr h) = at (bytes_eq n x) (in-among xs n h)
   where
     at : (b : Bool) → is_among n xs ≡ true → (b || is_among n xs) ≡ true
@@ -38,7 +39,7 @@ among-in [] n e = absurd (false≢true e)
 among-in (x ∷ xs) n e = at (bytes_eq n x) refl e (λ g. among-in xs n g)
   where
     at : (b : Bool) → bytes_eq n x ≡ b → (b || is_among n xs) ≡ true → (is_among n xs ≡ true → In xs n) → In (x ∷ xs) n
-    at true is e others = inl (sym (same_name n x is))
+    at true is e others = inl (sym (bytes_eq_is n x is))
     at false is e others = inr (others e)
 
 in-left : (xs ys : List (List ℕ)) (n : List ℕ) → In xs n → In (xs ++ ys) n
@@ -89,7 +90,7 @@ pin-from pins m n h = at (is_constant_name m) (is_among m pins) refl h
 pub distinct-more : (pins : List (List ℕ)) (m : List ℕ) → IsDistinct bytes_eq pins → is_among m pins ≡ false → IsDistinct bytes_eq (pins ++ m ∷ [])
 unfolding IsDistinct
 distinct-more [] m h e = (tt, tt)
-distinct-more (x ∷ xs) m h e = (others xs h.0 (differ_back m x (or_parts (bytes_eq m x) (is_among m xs) e).0), distinct-more xs m h.1 (or_parts (bytes_eq m x) (is_among m xs) e).1)
+distinct-more (x ∷ xs) m h e = (others xs h.0 (bytes_differ_turned m x (or_parts (bytes_eq m x) (is_among m xs) e).0), distinct-more xs m h.1 (or_parts (bytes_eq m x) (is_among m xs) e).1)
   where
     others : (ys : List (List ℕ)) → AllByRecursion (λ y. bytes_eq x y ≡ false) ys → bytes_eq x m ≡ false → AllByRecursion (λ y. bytes_eq x y ≡ false) (ys ++ m ∷ [])
     others [] all e = (e, tt)
@@ -148,7 +149,7 @@ others-before : (pins : List (List ℕ)) (k j : ℕ) → IsDistinct bytes_eq pin
 unfolding IsDistinct
 others-before [] k j distinct below lt = absurd (omega arith)
 others-before (x ∷ xs) zero j distinct below lt = absurd (omega arith)
-others-before (x ∷ xs) (suc k) zero distinct below lt = differ_back x (get_or xs k []) (at_place xs k distinct.0 (omega arith))
+others-before (x ∷ xs) (suc k) zero distinct below lt = bytes_differ_turned x (get_or xs k []) (at_place xs k distinct.0 (omega arith))
   where
     at_place : (ys : List (List ℕ)) (i : ℕ) → AllByRecursion (λ y. bytes_eq x y ≡ false) ys → i < length ys → bytes_eq x (get_or ys i []) ≡ false
     at_place [] i all inside = absurd (omega arith)
@@ -317,7 +318,7 @@ module _ (pins : List (List ℕ)) where
 
   place-at : (k : ℕ) → IsDistinct bytes_eq pins → k < length pins → place (get_or pins k []) ≡ k
   unfolding place
-  place-at k distinct below = first_place (bytes_eq (get_or pins k [])) pins k below (λ j lt. others-before pins k j distinct below lt) (alike (get_or pins k []) (get_or pins k []) refl)
+  place-at k distinct below = first_place (bytes_eq (get_or pins k [])) pins k below (λ j lt. others-before pins k j distinct below lt) (bytes_eq_same (get_or pins k []) (get_or pins k []) refl)
 
   named-mention : (tokens : List Token) (n : List ℕ) (k : ℕ) → place n ≡ k → Named tokens n → Mention tokens k
   named-mention [] n k is h = absurd h

@@ -3,8 +3,8 @@ use Rattle.std.proofs.Common.{ℕ, ◌≡◌, Bool, true, false, not, cond, List
 use Rattle.std.specs.Prelude.{All, IsTrue, ◌↔◌, slice_get}
 use Rattle.std.specs.Str.{bytes_eq}
 use Rattle.std.proofs.lemmas.Bool.{false≢true}
+use Rattle.lw_facts.proofs.Lists.{bytes_eq_is}
 use Rattle.lw_words.specs.Gathering.{IsNoHash, without_mark}
-use Rattle.lw_genlib.proofs.Names.{same_name}
 
 abbrev mark : List ℕ
 mark = 35 ∷ 64 ∷ []
@@ -19,5 +19,5 @@ plain-words (v ∷ vs) w r is h e =
     at (bytes_eq v mark) refl (e ∙ ap (λ (x : List ℕ). not (bytes_eq x mark)) (sym same)) h
   where
     at : (b : Bool) → bytes_eq v mark ≡ b → r ≡ not b → All (All IsNoHash) (cond b vs (v ∷ vs)) → IsTrue r ↔ All (All IsNoHash) (v ∷ vs)
-    at true is_mark fails g = (λ holds. absurd (false≢true (sym fails ∙ holds)), λ all. absurd (subst (λ (x : List ℕ). All IsNoHash x → ⊥) (sym (same_name v mark is_mark)) (λ f. f 0 0 (omega arith) refl) (all 0 [] (omega arith))))
+    at true is_mark fails g = (λ holds. absurd (false≢true (sym fails ∙ holds)), λ all. absurd (subst (λ (x : List ℕ). All IsNoHash x → ⊥) (sym (bytes_eq_is v mark is_mark)) (λ f. f 0 0 (omega arith) refl) (all 0 [] (omega arith))))
     at false is_mark right g = (λ t. g, λ all. right)

@@ -7,6 +7,7 @@ use Rattle.std.specs.Str.Parse.{digits_value}
 use Rattle.std.proofs.lemmas.Str.Parse.{IsNumeralModel, numerals_by_value, digits_value_short}
 use Rattle.std.proofs.lemmas.List.Folds.{list_all-append}
 use Rattle.std.proofs.lemmas.Bool.{leb-false, false≢true, and_parts}
+use Rattle.lw_facts.proofs.Lists.{digits_take}
 use Rattle.lw_fixed.specs.declared.micro.Micro.{Micro}
 use Rattle.lw_fixed.specs.declared.fault.DecimalFault.TheVariants.{Shape, Large, Fine, Negative}
 use Rattle.lw_fixed.specs.Decimals.{decimal_of, value_of_decimals, decimals, units_of, whole_part, is_decimal, is_finer, is_negative, millionths_of}
@@ -20,18 +21,11 @@ use Rattle.lw_genlib.specs.Entries.{number_of, in_library, larger, delay_behind,
 own : IsNumeralModel (λ ds. list_all is_ascii_digit ds ≡ true) (digits_value 10)
 own = numerals_by_value _ (search rules)
 
-all-take : (n : ℕ) (xs : List ℕ) → list_all is_ascii_digit xs ≡ true → list_all is_ascii_digit (take n xs) ≡ true
-all-take zero xs h = refl
-all-take (suc n) [] h = refl
-all-take (suc n) (x ∷ xs) h =
-    let parts = and_parts (is_ascii_digit x) (list_all is_ascii_digit xs) h in
-    ap (λ b. b && list_all is_ascii_digit (take n xs)) parts.0 ∙ all-take n xs parts.1
-
 below_one : (part : List ℕ) → list_all is_ascii_digit part ≡ true → value_of_decimals part < 1000000
 unfolding value_of_decimals
 below_one part all =
     let padded : list_all is_ascii_digit (part ++ replicate 6 48) ≡ true = list_all-append is_ascii_digit part (replicate 6 48) ∙ ap (λ b. b && true) all in
-    digits_value_short own (take 6 (part ++ replicate 6 48)) 6 (all-take 6 (part ++ replicate 6 48) padded) (omega (arith, length-take 6 (part ++ replicate 6 48)))
+    digits_value_short own (take 6 (part ++ replicate 6 48)) 6 (digits_take 6 (part ++ replicate 6 48) padded) (omega (arith, length-take 6 (part ++ replicate 6 48)))
 
 got : Result Micro LibKind → ℕ
 got (Ok m) = m.0

@@ -1,22 +1,19 @@
 -- The expression that tokens spell by the grammar is the one that is read from them.
 use Rattle.std.proofs.Common.{ℕ, ◌≡◌, List, [], ◌∷◌, ◌++◌, refl, ap, ap₂, sym, ◌∙◌, append_assoc}
 use Rattle.std.specs.Prelude.{fold}
+use Rattle.std.proofs.lemmas.List.Sums.{fold-append}
 use Rattle.lw_laws.specs.Expressions.{Expr}
 use Rattle.lw_laws.specs.Expressions.Expr.{expr_not}
 use Rattle.lw_genlib.specs.declared.token.Token.{Token}
 use Rattle.lw_genlib.specs.Grammar.{IsSum, first_product, next_product, IsProduct, first_factor, beside_factor, times_factor, IsFactor, plain_factor, bang_factor, IsAtom, name_atom, group_atom, quoted_atom as quoted, SpellsSum, product_of, sum_of, plus_token, star_token, bang_token, open_token, close_token, quote_token}
 use Rattle.lw_genlib.specs.Spelled.{Group, new_group, complements, factor_ended, product_ended, with_bang, with_atom, with_token, value_of_all, expression_of}
 
-fold_append : {A B : Type 0} (f : B → A → B) (a : B) (xs ys : List A) → fold f a (xs ++ ys) ≡ fold f (fold f a xs) ys
-fold_append f a [] ys = refl
-fold_append f a (x ∷ xs) ys = fold_append f (f a x) xs ys
-
 module _ (pins : List (List ℕ)) where
   abbrev run : List Group → List Token → List Group
   run groups tokens = fold (with_token pins) groups tokens
 
   run_append : (groups : List Group) (xs ys : List Token) → run groups (xs ++ ys) ≡ run (run groups xs) ys
-  run_append groups xs ys = fold_append (with_token pins) groups xs ys
+  run_append groups xs ys = fold-append (with_token pins) groups xs ys
 
   -- behind a factor: the group that has it, when the factor ends
   record FactorRead (g : Group) (groups : List Group) (tokens : List Token) (e : Expr) : Type 0 where

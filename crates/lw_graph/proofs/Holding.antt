@@ -4,7 +4,8 @@ use native.Mathlib.Decide.{dec_lt}
 use Rattle.std.proofs.Math.ListN as plain_lists
 use Rattle.std.specs.Prelude.{Option, IfSome, IsNone, slice_index_or}
 use Rattle.std.proofs.lemmas.Option.{IfSome_then}
-use Rattle.lw_laws.proofs.Lists.{in_map}
+use Rattle.lw_facts.proofs.Lists.{contains_map, contained_in_map}
+use Rattle.lw_facts.proofs.Numbers.{min_max_cases}
 use Rattle.lw_laws.specs.Graphs.{Graph as PlainGraph, Pair as PlainPair, AreRising, HoldsPair}
 use Rattle.lw_pool.specs.declared.id.ClassId.{ClassId}
 use Rattle.lw_graph.specs.declared.pair.Pair.{Pair}
@@ -15,13 +16,7 @@ use Rattle.lw_graph.specs.Index.{IsIndex, entry_of}
 use Rattle.lw_graph.specs.Rows.{rows_from}
 use Rattle.lw_graph.specs.declared.index.Entry.{Entry}
 use Rattle.lw_graph.proofs.Graphs.{class_count}
-use Rattle.lw_graph.proofs.Indexing.{map_back, none_past}
-
-either : (x y : ℕ) → ((min x y ≡ x) × (max x y ≡ y)) ⊎ ((min x y ≡ y) × (max x y ≡ x))
-either x y = by_order (dec_lt x y) where
-  by_order : Dec (x < y) → ((min x y ≡ x) × (max x y ≡ y)) ⊎ ((min x y ≡ y) × (max x y ≡ x))
-  by_order (yes lt) = inl (omega arith, omega arith)
-  by_order (no ge) = inr (omega arith, omega arith)
+use Rattle.lw_graph.proofs.Indexing.{none_past}
 
 rising_ordered : (ps : List PlainPair) (p : PlainPair) → AreRising ps → Contains ps p → p.x ≤ p.y
 rising_ordered [] p r (k, lt, e) = absurd (omega arith)
@@ -33,11 +28,11 @@ module _ (one : ClassId) (leaves forms : List ClassId) (rows : List (List Pair))
   at c = plain_lists.get_or-map plain_row rows c []
 
   pub holds_pair : (c x y : ℕ) → Contains (slice_index_or rows c []) (ordered_pair x y) → HoldsPair (plain_graph one leaves forms rows) c x y
-  holds_pair c x y h = by_order (either x y) where
+  holds_pair c x y h = by_order (min_max_cases x y) where
     there : (a b : ℕ) → min x y ≡ a → max x y ≡ b → Contains (slice_index_or (map plain_row rows) c []) (record { x = a; y = b })
     there a b s t =
         let p : plain_pair (ordered_pair x y) ≡ record { x = a; y = b } = λ i. record { x = s i; y = t i } in
-        subst (λ row. Contains row (record { x = a; y = b })) (sym (at c)) (subst (λ q. Contains (plain_row (slice_index_or rows c [])) q) p (in_map plain_pair (slice_index_or rows c []) (ordered_pair x y) h))
+        subst (λ row. Contains row (record { x = a; y = b })) (sym (at c)) (subst (λ q. Contains (plain_row (slice_index_or rows c [])) q) p (contains_map plain_pair (slice_index_or rows c []) (ordered_pair x y) h))
 
     by_order : ((min x y ≡ x) × (max x y ≡ y)) ⊎ ((min x y ≡ y) × (max x y ≡ x)) → HoldsPair (plain_graph one leaves forms rows) c x y
     by_order (inl (s, t)) = inl (there x y s t)
@@ -48,7 +43,7 @@ module _ (one : ClassId) (leaves forms : List ClassId) (rows : List (List Pair))
     here : (a b : ℕ) → (a ≤ b → (min x y ≡ a) × (max x y ≡ b)) → Contains (slice_index_or (map plain_row rows) c []) (record { x = a; y = b }) → Contains (slice_index_or rows c []) (ordered_pair x y)
     here a b f h =
         let (s, t) = f (rising_ordered (slice_index_or (map plain_row rows) c []) (record { x = a; y = b }) r h) in
-        let (q, k, e) = map_back plain_pair (slice_index_or rows c []) (record { x = a; y = b }) (subst (λ row. Contains row (record { x = a; y = b })) (at c) h) in
+        let (q, k, e) = contained_in_map plain_pair (slice_index_or rows c []) (record { x = a; y = b }) (subst (λ row. Contains row (record { x = a; y = b })) (at c) h) in
         let ex : q.x.0 ≡ a = ap (λ (p : PlainPair). p.x) e in
         let ey : q.y.0 ≡ b = ap (λ (p : PlainPair). p.y) e in
         let same : q ≡ ordered_pair x y = λ i. record { x = record { 0 = (ex ∙ sym s) i }; y = record { 0 = (ey ∙ sym t) i } } in

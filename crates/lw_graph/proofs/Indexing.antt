@@ -8,19 +8,14 @@ use Rattle.std.proofs.lemmas.List.{get_or_past}
 use Rattle.std.proofs.lemmas.List.Elements.{Contains-append_left, Contains-append_right, Contains-append_cases}
 use Rattle.std.proofs.lemmas.List.Sorted.{Contains-permutation, IsPermutation-sym}
 use Rattle.std.proofs.lemmas.Option.{get_or_from_slice_get}
-use Rattle.lw_laws.proofs.Lists.{in_map}
+use Rattle.std.proofs.lemmas.Bool.{ltb-false, lt-ltb}
+use Rattle.lw_facts.proofs.Lists.{contained_in_map, contains_map}
 use Rattle.lw_pool.specs.declared.id.ClassId.{ClassId}
 use Rattle.lw_graph.specs.declared.pair.Pair.{Pair}
 use Rattle.lw_graph.specs.declared.index.Entry.{Entry}
 use Rattle.lw_graph.specs.Index.{IsIndex, entry_key, entry_of, pair_key}
 use Rattle.lw_graph.specs.Rows.{rows_from, start_at}
 use Rattle.lw_graph.proofs.Rows.{row_at, length-rows_from}
-
-pub map_back : {X Y : Type 0} (f : X → Y) (xs : List X) (y : Y) → Contains (map f xs) y → (x : X) × Contains xs x × (f x ≡ y)
-map_back f [] y (k, lt, e) = absurd (omega arith)
-map_back f (x ∷ xs) y (zero, lt, e) = (x, (0, omega arith, refl), e)
-map_back f (x ∷ xs) y (suc k, lt, e) =
-    let (z, (j, l, d), s) = map_back f xs y (k, omega arith, e) in (z, (suc j, omega arith, d), s)
 
 -- the pairs of a class are those that the pool lends for it
 pub row_is : (pairs : List Pair) (ends : List ℕ) (c : ℕ) (row : List Pair) → c < length ends → row ≡ slice_range pairs (start_at 0 ends c) (slice_index ends c) → slice_index_or (rows_from pairs 0 ends) c [] ≡ row
@@ -58,7 +53,7 @@ module _ (rows : List (List Pair)) where
       by_side : Contains old e ⊎ Contains (map (entry_of class) row) e → (e.class.0 < n + 1) × Contains (slice_index_or rows e.class.0 []) e.pair
       by_side (inl o) = let (lt, h) = (below e).0 o in (omega arith, h)
       by_side (inr r) =
-          let (p, h, s) = map_back (entry_of class) row e r in
+          let (p, h, s) = contained_in_map (entry_of class) row e r in
           let k : e.class.0 ≡ n = ap (λ (d : Entry). d.class.0) (sym s) ∙ at in
           (omega arith, subst (λ d. Contains (slice_index_or rows d []) e.pair) (sym k) (subst (λ ps. Contains ps e.pair) (sym is) (subst (λ (d : Entry). Contains row d.pair) s h)))
 
@@ -68,7 +63,7 @@ module _ (rows : List (List Pair)) where
       by_class (yes k) =
           let same : entry_of class e.pair ≡ e = λ i. record { pair = e.pair; class = record { 0 = (at ∙ sym k) i } } in
           let h : Contains row e.pair = subst (λ ps. Contains ps e.pair) is (subst (λ d. Contains (slice_index_or rows d []) e.pair) k c) in
-          Contains-append_right old (map (entry_of class) row) e (subst (λ d. Contains (map (entry_of class) row) d) same (in_map (entry_of class) row e.pair h))
+          Contains-append_right old (map (entry_of class) row) e (subst (λ d. Contains (map (entry_of class) row) d) same (contains_map (entry_of class) row e.pair h))
       by_class (no ne) = Contains-append_left old (map (entry_of class) row) e ((below e).1 (omega arith, c))
 
 pub lists_all : (pairs : List Pair) (ends : List ℕ) (n : ℕ) (entries : List Entry) → length ends ≤ n → ListsBelow (rows_from pairs 0 ends) n entries → (e : Entry) → Contains entries e ↔ Contains (slice_index_or (rows_from pairs 0 ends) e.class.0 []) e.pair
@@ -90,17 +85,11 @@ is_lower wanted e = nat_lt (entry_key e) wanted
 lower : (a b : ℕ) → nat_lt a b ≡ true → a < b
 lower a b e = grind (arith, e)
 
-lower_true : (a b : ℕ) → a < b → nat_lt a b ≡ true
-lower_true a b l = grind (arith, l)
-
-not_lower : (a b : ℕ) → nat_lt a b ≡ false → b ≤ a
-not_lower a b e = grind (arith, e)
-
 pub index_partitioned : (entries : List Entry) (wanted : ℕ) → IsNonDecreasingBy entry_key entries → IsPartitionedBy (is_lower wanted) entries
 index_partitioned entries wanted rises i j d le lt e =
     let l = lower (entry_key (get_or entries j d)) wanted e in
     let r = rises i j d le lt in
-    lower_true (entry_key (get_or entries i d)) wanted (omega arith)
+    lt-ltb (entry_key (get_or entries i d)) wanted (omega arith)
 
 -- equal keys have equal pairs
 pub same_by_key : (p q : Pair) → p.y.0 < 2 ^ 32 → q.y.0 < 2 ^ 32 → pair_key p ≡ pair_key q → p ≡ q
@@ -128,7 +117,7 @@ module _ (entries : List Entry) (wanted place : ℕ) (pair : Pair) (rises : IsNo
       let h = at_or_after c k lt e in
       let r = rises place k (entry_of c pair) h lt in
       let s : entry_key (get_or entries k (entry_of c pair)) ≡ pair_key pair = ap entry_key e in
-      let n = not_lower (entry_key (get_or entries place (entry_of c pair))) wanted (point.1 place (entry_of c pair) (omega arith) in') in
+      let n = ltb-false (entry_key (get_or entries place (entry_of c pair))) wanted (point.1 place (entry_of c pair) (omega arith) in') in
       let m : get_or entries place (entry_of c pair) ≡ get_or entries place d = default_same entries place (entry_of c pair) d in' in
       let q = ap entry_key m in
       ne (omega arith)

@@ -1,6 +1,7 @@
 -- The laws over plain forms and the laws over numbers give each occurring form the same trees.
 use Rattle.std.proofs.Common.{ℕ, zero, suc, ◌+◌, ◌*◌, ◌/◌, ◌<◌, ◌≤◌, ◌≡◌, ◌≢◌, ◌⊎◌, inl, inr, List, [], ◌∷◌, length, map, Some, slice_get, refl, ap, sym, ◌∙◌, subst, subst₂, arith, add-zero, lt_of_not-le}
 use Rattle.std.specs.List.{AllByRecursion}
+use Rattle.std.proofs.lemmas.Option.{same_Some}
 use native.Mathlib.Decide.{dec_le}
 use Rattle.lw_laws.specs.Flip.{flip}
 use Rattle.lw_laws.specs.Trees.{Tree, leaf, const_one, const_zero, nand}
@@ -25,7 +26,7 @@ use Rattle.lw_laws.specs.Classes.IsNandForm.{of_parts, of_overlap, of_complement
 use Rattle.lw_laws.proofs.Flips.{flip-flip, flip_even, flip_odd}
 use Rattle.lw_laws.proofs.Equality.{items-form_list, form_list-items}
 use Rattle.lw_laws.proofs.Sublists.{parts_subs, parts_turned, overlapping_subs, overlapping_turned, IsSub_all, IsSub_whole, conjunction_of_one, conjunction_of_more}
-use Rattle.lw_laws.proofs.Numbers.{slice_get_map, slice_get_map_back, number_of, numbers_differ, occurs_complement, occurs_sign, number_complement, occurs_number, number_occurs, numbers_injective, complement_twice, Some_injective}
+use Rattle.lw_laws.proofs.Numbers.{slice_get_map, slice_get_map_back, number_of, numbers_differ, occurs_complement, occurs_sign, number_complement, occurs_number, number_occurs, numbers_injective, complement_twice}
 use Rattle.lw_laws.proofs.Lists.{slice_get_some}
 use Rattle.lw_laws.proofs.CutParts.{cut_of_parts, covering_of_overlapping, parts_of_cut, overlap_of_covering}
 use Rattle.lw_laws.proofs.Words.{IsNumber}
@@ -338,7 +339,7 @@ module _ (inputs : ℕ) (o : Listing) (is : IsListing o) where
   signal_back n m (s, e, k) =
       let (x, d, p) = slice_get_map_back (sop_number o.bases) o.signals s n e in
       let (y, c, q) = slice_get_map_back (fac_number o.bases) o.signals s m k in
-      let same : x ≡ y = Some_injective x y (sym d ∙ c) in
+      let same : x ≡ y = same_Some x y (sym d ∙ c) in
       record { at = s; signal = x; listed = d; sop_is = p; fac_is = ap (fac_number o.bases) same ∙ q }
 
   record IsLinkedForm (f : Form) (m : ℕ) : Type 0 where

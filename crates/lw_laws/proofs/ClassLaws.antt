@@ -1,6 +1,6 @@
 -- The graph that encodes a network's forms is their graph, and its numbers are one.
 use Rattle.std.proofs.Common.{ℕ, zero, suc, ◌+◌, ◌*◌, ◌/◌, ◌%◌, ◌<◌, ◌≤◌, ◌==◌, ◌≡◌, ◌⊎◌, ◌↔◌, if◌then◌else◌, slice_index, slice_index_or, Contains, inl, inr, List, [], ◌∷◌, length, Some, slice_get, refl, ap, ap₂, sym, ◌∙◌, subst, subst₂, arith, add-zero}
-use Rattle.std.proofs.lemmas.Option.{get_or_from_slice_get}
+use Rattle.std.proofs.lemmas.Option.{get_or_from_slice_get, slice_get_within}
 use Rattle.std.proofs.lemmas.List.{ext_get_or}
 use native.Mathlib.Nat.{eq-or-lt_of_le}
 use Rattle.lw_laws.specs.Flip.{flip}
@@ -26,7 +26,7 @@ use Rattle.lw_laws.proofs.Agreement.{base_self, split_back, form_of_number, nand
 use Rattle.lw_laws.proofs.NumberedForms.{splits_occur}
 use Rattle.lw_laws.proofs.Listed.{occurring_is_listing, true_and_inputs_first}
 use Rattle.lw_laws.proofs.Headline.{classes_shared}
-use Rattle.lw_laws.proofs.Lists.{slice_get_in, slice_get_some, all_contains}
+use Rattle.lw_laws.proofs.Lists.{slice_get_some, all_contains}
 
 -- a NAND of two forms in either order
 turned_nand : (mode : Mode) (o : Listing) {f p q : Form} → IsNandForm mode o f p q → IsNandForm mode o f q p
@@ -332,7 +332,7 @@ graphs_once mode inputs o is g h one other =
   where
     leaf : (i c : ℕ) → slice_get g.leaves i ≡ Some c → slice_get h.leaves i ≡ Some c
     leaf i c e =
-        let lt = slice_get_in g.leaves i c e in
+        let lt = slice_get_within g.leaves i c e in
         let n = one.written.leaf_count in
         let p = one.leaves i (omega arith) in
         let q = other.leaves i (omega arith) in

@@ -1,6 +1,7 @@
 -- Whether gates along attaining matches lead from a class to inputs in so many steps can be decided, and so the least number of steps is there.
 use Rattle.std.proofs.Common.{ℕ, zero, suc, ◌<◌, ◌≤◌, ◌≡◌, ◌⊎◌, inl, inr, List, [], ◌∷◌, ◌++◌, length, map, Option, Some, None, Contains, slice_get, slice_index_or, refl, ap, sym, ◌∙◌, subst, arith}
 use Rattle.std.specs.List.{AllByRecursion}
+use Rattle.lw_facts.proofs.Lists.{contains_map}
 use native.Mathlib.Decide.{ℕ_discrete, dec_lt}
 use native.Mathlib.Nat.{eq-or-lt_of_le}
 use Rattle.lw_laws.specs.Flip.{flip}
@@ -11,7 +12,7 @@ use Rattle.lw_laws.specs.Costs.{Cost}
 use Rattle.lw_laws.specs.Matches.{choices_of}
 use Rattle.lw_laws.specs.Choices.{HaveLabels, Attains, IsInputClass, IsWithin}
 use Rattle.lw_laws.specs.Rounds.{labels_in}
-use Rattle.lw_laws.proofs.Lists.{in_left, in_right, in_map}
+use Rattle.lw_laws.proofs.Lists.{in_left, in_right}
 
 -- decisions
 pub dec_iff : {P Q : Type 0} → (P → Q) → (Q → P) → Dec P → Dec Q
@@ -80,7 +81,7 @@ in_below (suc n) k lt = by_case (eq-or-lt_of_le {n = k} {m = n} (omega arith)) (
 in_prefixed : (ks : List ℕ) (rest : List (List ℕ)) (k : ℕ) (xs : List ℕ) → Contains ks k → Contains rest xs → Contains (prefixed ks rest) (k ∷ xs)
 unfolding prefixed
 in_prefixed [] rest k xs (j, lt, e) c = absurd (omega arith)
-in_prefixed (z ∷ ks) rest k xs (zero, lt, e) c = in_left (map (λ ys. z ∷ ys) rest) (prefixed ks rest) (k ∷ xs) (subst (λ w. Contains (map (λ ys. z ∷ ys) rest) (w ∷ xs)) e (in_map (λ ys. z ∷ ys) rest xs c))
+in_prefixed (z ∷ ks) rest k xs (zero, lt, e) c = in_left (map (λ ys. z ∷ ys) rest) (prefixed ks rest) (k ∷ xs) (subst (λ w. Contains (map (λ ys. z ∷ ys) rest) (w ∷ xs)) e (contains_map (λ ys. z ∷ ys) rest xs c))
 in_prefixed (z ∷ ks) rest k xs (suc j, lt, e) c = in_right (map (λ ys. z ∷ ys) rest) (prefixed ks rest) (k ∷ xs) (in_prefixed ks rest k xs (j, omega arith, e) c)
 
 in_all_lists : (bound : ℕ) (xs : List ℕ) → AllByRecursion (λ x. x < bound) xs → Contains (all_lists bound (length xs)) xs

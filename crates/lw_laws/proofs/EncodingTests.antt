@@ -1,6 +1,7 @@
 -- Tests of a small graph, which hold only where it encodes the listed forms.
 use Rattle.std.proofs.Common.{ℕ, zero, suc, ◌+◌, ◌*◌, ◌<◌, ◌==◌, ◌≡◌, ◌⊎◌, inl, inr, Bool, true, false, ◌&&◌, ◌||◌, if◌then◌else◌, List, [], ◌∷◌, ◌++◌, length, Contains, Option, Some, None, slice_get, slice_index_or, refl, ap, ap₂, sym, ◌∙◌, subst, arith}
 use Rattle.std.specs.List.{AllByRecursion, list_all, list_any}
+use Rattle.std.proofs.lemmas.Bool.{eqb-true, and_parts, or_cases}
 use native.Mathlib.Nat.{eq-or-lt_of_le}
 use Rattle.lw_laws.specs.Flip.{flip}
 use Rattle.lw_laws.specs.Graphs.{Pair, Graph, class_of, HoldsPair, PairsInOneClass}
@@ -13,7 +14,7 @@ use Rattle.lw_laws.specs.NumberedForms.{Base, NumberedForms, family_of, NumberOc
 use Rattle.lw_laws.specs.NumberedForms.Base.{base_true, base_input, base_and}
 use Rattle.lw_laws.proofs.Flips.{class_of-flip}
 use Rattle.lw_laws.proofs.Closure.{Equivalent-name}
-use Rattle.lw_laws.proofs.Facts.{eq_true, eq_same, and_true, or_true, all_true, any_true, nand_facts, fact_listed, fact_is}
+use Rattle.lw_laws.proofs.Facts.{eq_same, all_true, any_true, nand_facts, fact_listed, fact_is}
 use Rattle.lw_laws.proofs.Lists.{in_left, in_right}
 
 -- the pair is that of x and y
@@ -21,19 +22,19 @@ abbrev is_pair : ℕ → ℕ → Pair → Bool
 is_pair x y p = (p.x == x && p.y == y) || (p.x == y && p.y == x)
 
 pair_either : (row : List Pair) (x y : ℕ) (p : Pair) → is_pair x y p ≡ true → Contains row p → Contains row (record { x = x; y = y }) ⊎ Contains row (record { x = y; y = x })
-pair_either row x y p e at = by_side (or_true (p.x == x && p.y == y) (p.x == y && p.y == x) e)
+pair_either row x y p e at = by_side (or_cases (p.x == x && p.y == y) (p.x == y && p.y == x) e)
   where
     by_side : ((p.x == x && p.y == y) ≡ true) ⊎ ((p.x == y && p.y == x) ≡ true) → Contains row (record { x = x; y = y }) ⊎ Contains row (record { x = y; y = x })
     by_side (inl h) =
-        let (a, b) = and_true (p.x == x) (p.y == y) h in
-        let first = eq_true p.x x a in
-        let second = eq_true p.y y b in
+        let (a, b) = and_parts (p.x == x) (p.y == y) h in
+        let first = eqb-true p.x x a in
+        let second = eqb-true p.y y b in
         let s : p ≡ record { x = x; y = y } = ap₂ (λ u v. record { x = u; y = v }) first second in
         inl (subst (Contains row) s at)
     by_side (inr h) =
-        let (a, b) = and_true (p.x == y) (p.y == x) h in
-        let first = eq_true p.x y a in
-        let second = eq_true p.y x b in
+        let (a, b) = and_parts (p.x == y) (p.y == x) h in
+        let first = eqb-true p.x y a in
+        let second = eqb-true p.y x b in
         let s : p ≡ record { x = y; y = x } = ap₂ (λ u v. record { x = u; y = v }) first second in
         inr (subst (Contains row) s at)
 
@@ -69,12 +70,12 @@ module _ (g : Graph) where
   rows_hold : (facts : List NandFact) (first : ℕ) (rows : List (List Pair)) → rows_from facts first rows ≡ true → (c : ℕ) (p : Pair) → Contains (slice_index_or rows c []) p → (F : NandFact) × Contains facts F × (is_from (first + c) p F ≡ true)
   rows_hold facts first [] e c p (k, lt, f) = absurd (omega arith)
   rows_hold facts first (row ∷ rows) e zero p at =
-      let (a, b) = and_true (list_all (λ q. list_any (is_from first q) facts) row) (rows_from facts (suc first) rows) e in
+      let (a, b) = and_parts (list_all (λ q. list_any (is_from first q) facts) row) (rows_from facts (suc first) rows) e in
       let (F, listed, is) = any_true (is_from first p) facts (all_true (λ q. list_any (is_from first q) facts) row p a at) in
       let z : first ≡ first + 0 = omega arith in
       (F, listed, subst (λ k. is_from k p F ≡ true) z is)
   rows_hold facts first (row ∷ rows) e (suc c) p at =
-      let (a, b) = and_true (list_all (λ q. list_any (is_from first q) facts) row) (rows_from facts (suc first) rows) e in
+      let (a, b) = and_parts (list_all (λ q. list_any (is_from first q) facts) row) (rows_from facts (suc first) rows) e in
       let (F, listed, is) = rows_hold facts (suc first) rows b c p at in
       let s : suc first + c ≡ first + suc c = omega arith in
       (F, listed, subst (λ k. is_from k p F ≡ true) s is)
@@ -120,7 +121,7 @@ module _ (g : Graph) where
       let one = all_true (λ k. list_all (agree k) hs) hs (record { at = 0 + c; pair = p }) e a in
       let two = all_true (agree (record { at = 0 + c; pair = p })) hs (record { at = 0 + d; pair = q }) one b in
       let three : ((0 + c) == (0 + d)) ≡ true = by_test (is_pair p.x p.y q) is two in
-      let four = eq_true (0 + c) (0 + d) three in
+      let four = eqb-true (0 + c) (0 + d) three in
       omega arith
     where
       by_test : (t : Bool) → t ≡ true → (if t then (0 + c) == (0 + d) else true) ≡ true → ((0 + c) == (0 + d)) ≡ true
@@ -155,7 +156,7 @@ module _ (g : Graph) where
 
   some_true : (o : Option ℕ) (c : ℕ) → is_some o c ≡ true → o ≡ Some c
   some_true None c e = cc
-  some_true (Some d) c e = ap Some (eq_true d c e)
+  some_true (Some d) c e = ap Some (eqb-true d c e)
 
   abbrev base_right : ℕ → Base → Bool
   base_right b base_true = class (2 * b) == g.one
@@ -171,10 +172,10 @@ module _ (g : Graph) where
   base_is_right first (d ∷ bases) e zero base at =
       let s : d ≡ base = cc in
       let z : first ≡ first + 0 = omega arith in
-      subst (λ k. base_right k base ≡ true) z (subst (λ k. base_right first k ≡ true) s (and_true (base_right first d) (bases_right (suc first) bases) e).0)
+      subst (λ k. base_right k base ≡ true) z (subst (λ k. base_right first k ≡ true) s (and_parts (base_right first d) (bases_right (suc first) bases) e).0)
   base_is_right first (d ∷ bases) e (suc b) base at =
       let s : suc first + b ≡ first + suc b = omega arith in
-      subst (λ k. base_right k base ≡ true) s (base_is_right (suc first) bases (and_true (base_right first d) (bases_right (suc first) bases) e).1 b base at)
+      subst (λ k. base_right k base ≡ true) s (base_is_right (suc first) bases (and_parts (base_right first d) (bases_right (suc first) bases) e).1 b base at)
 
   abbrev is_input_at : ℕ → ℕ → Base → Bool
   is_input_at i b base_true = false
@@ -198,10 +199,10 @@ module _ (g : Graph) where
   leaf_listed first [] bases e i c at = cc
   leaf_listed first (d ∷ cs) bases e zero c at =
       let z : first ≡ first + 0 = omega arith in
-      subst (λ k. input_listed k bases ≡ true) z (and_true (input_listed first bases) (leaves_listed (suc first) cs bases) e).0
+      subst (λ k. input_listed k bases ≡ true) z (and_parts (input_listed first bases) (leaves_listed (suc first) cs bases) e).0
   leaf_listed first (d ∷ cs) bases e (suc i) c at =
       let s : suc first + i ≡ first + suc i = omega arith in
-      subst (λ k. input_listed k bases ≡ true) s (leaf_listed (suc first) cs bases (and_true (input_listed first bases) (leaves_listed (suc first) cs bases) e).1 i c at)
+      subst (λ k. input_listed k bases ≡ true) s (leaf_listed (suc first) cs bases (and_parts (input_listed first bases) (leaves_listed (suc first) cs bases) e).1 i c at)
 
   place_of : (bases : List Base) (base : Base) → Contains bases base → (b : ℕ) × (slice_get bases b ≡ Some base)
   place_of [] base (k, lt, e) = absurd (omega arith)
@@ -210,7 +211,7 @@ module _ (g : Graph) where
 
   input_base : (i : ℕ) (base : Base) → is_input_at i 0 base ≡ true → base ≡ base_input i
   input_base i base_true e = cc
-  input_base i (base_input j) e = ap base_input (eq_true j i e)
+  input_base i (base_input j) e = ap base_input (eqb-true j i e)
   input_base i (base_and fs) e = cc
 
   true_base : (base : Base) → is_true_base base ≡ true → base ≡ base_true
@@ -230,9 +231,9 @@ module _ (g : Graph) where
   link_same (x ∷ sops) (y ∷ facs) e zero f h a b =
       let p : x ≡ f = cc in
       let q : y ≡ h = cc in
-      let r = eq_true (class x) (class y) (and_true (class x == class y) (links_same sops facs) e).0 in
+      let r = eqb-true (class x) (class y) (and_parts (class x == class y) (links_same sops facs) e).0 in
       ap class (sym p) ∙ (r ∙ ap class q)
-  link_same (x ∷ sops) (y ∷ facs) e (suc s) f h a b = link_same sops facs (and_true (class x == class y) (links_same sops facs) e).1 s f h a b
+  link_same (x ∷ sops) (y ∷ facs) e (suc s) f h a b = link_same sops facs (and_parts (class x == class y) (links_same sops facs) e).1 s f h a b
 
   -- forms of one class are one form, or two that are known to be equivalent
   abbrev is_two : ℕ → ℕ → Two → Bool
@@ -251,18 +252,18 @@ module _ (g : Graph) where
 
   apart_at : (merged : List Two) (f n h : ℕ) → apart_below merged f n ≡ true → h < n → apart merged f h ≡ true
   apart_at merged f zero h e lt = absurd (omega arith)
-  apart_at merged f (suc n) h e lt = by_place (eq-or-lt_of_le {n = h} {m = n} (omega arith)) (apart_at merged f n h (and_true (apart merged f n) (apart_below merged f n) e).1)
+  apart_at merged f (suc n) h e lt = by_place (eq-or-lt_of_le {n = h} {m = n} (omega arith)) (apart_at merged f n h (and_parts (apart merged f n) (apart_below merged f n) e).1)
     where
       by_place : (h ≡ n) ⊎ (h < n) → (h < n → apart merged f h ≡ true) → apart merged f h ≡ true
-      by_place (inl s) ih = subst (λ k. apart merged f k ≡ true) (sym s) (and_true (apart merged f n) (apart_below merged f n) e).0
+      by_place (inl s) ih = subst (λ k. apart merged f k ≡ true) (sym s) (and_parts (apart merged f n) (apart_below merged f n) e).0
       by_place (inr l) ih = ih l
 
   all_apart_at : (merged : List Two) (count n f h : ℕ) → all_apart merged count n ≡ true → f < n → h < count → apart merged f h ≡ true
   all_apart_at merged count zero f h e lt m = absurd (omega arith)
-  all_apart_at merged count (suc n) f h e lt m = by_place (eq-or-lt_of_le {n = f} {m = n} (omega arith)) (λ l. all_apart_at merged count n f h (and_true (apart_below merged n count) (all_apart merged count n) e).1 l m)
+  all_apart_at merged count (suc n) f h e lt m = by_place (eq-or-lt_of_le {n = f} {m = n} (omega arith)) (λ l. all_apart_at merged count n f h (and_parts (apart_below merged n count) (all_apart merged count n) e).1 l m)
     where
       by_place : (f ≡ n) ⊎ (f < n) → (f < n → apart merged f h ≡ true) → apart merged f h ≡ true
-      by_place (inl s) ih = subst (λ k. apart merged k h ≡ true) (sym s) (apart_at merged n count h (and_true (apart_below merged n count) (all_apart merged count n) e).0 m)
+      by_place (inl s) ih = subst (λ k. apart merged k h ≡ true) (sym s) (apart_at merged n count h (and_parts (apart_below merged n count) (all_apart merged count n) e).0 m)
       by_place (inr l) ih = ih l
 
 module _ (mode : Mode) (forms : NumberedForms) (g : Graph) (merged : List Two) where
@@ -295,17 +296,17 @@ module _ (mode : Mode) (forms : NumberedForms) (g : Graph) (merged : List Two) w
     from_fact c x y at =
         let p : Pair = record { x = x; y = y } in
         let (k, listed, is) = rows_hold g (nand_facts mode forms) 0 g.pairs passes.rows c p at in
-        let (a, b) = and_true (class g k.form == 0 + c) ((class g k.left == x && class g k.right == y) || (class g k.left == y && class g k.right == x)) is in
+        let (a, b) = and_parts (class g k.form == 0 + c) ((class g k.left == x && class g k.right == y) || (class g k.left == y && class g k.right == x)) is in
         let z : 0 + c ≡ c = omega arith in
-        by_side k (fact_is forms mode k listed) (eq_true (class g k.form) (0 + c) a ∙ z) (or_true (class g k.left == x && class g k.right == y) (class g k.left == y && class g k.right == x) b)
+        by_side k (fact_is forms mode k listed) (eqb-true (class g k.form) (0 + c) a ∙ z) (or_cases (class g k.left == x && class g k.right == y) (class g k.left == y && class g k.right == x) b)
       where
         by_side : (k : NandFact) → F.IsSplit k.form k.left k.right → class g k.form ≡ c → ((class g k.left == x && class g k.right == y) ≡ true) ⊎ ((class g k.left == y && class g k.right == x) ≡ true) → HasNand F g c x y
         by_side k cut here (inl h) =
-            let (a, b) = and_true (class g k.left == x) (class g k.right == y) h in
-            record { form = k.form; left = k.left; right = k.right; is_nand = inl cut; form_at = here; left_at = eq_true (class g k.left) x a; right_at = eq_true (class g k.right) y b }
+            let (a, b) = and_parts (class g k.left == x) (class g k.right == y) h in
+            record { form = k.form; left = k.left; right = k.right; is_nand = inl cut; form_at = here; left_at = eqb-true (class g k.left) x a; right_at = eqb-true (class g k.right) y b }
         by_side k cut here (inr h) =
-            let (a, b) = and_true (class g k.left == y) (class g k.right == x) h in
-            record { form = k.form; left = k.right; right = k.left; is_nand = inr cut; form_at = here; left_at = eq_true (class g k.right) x b; right_at = eq_true (class g k.left) y a }
+            let (a, b) = and_parts (class g k.left == y) (class g k.right == x) h in
+            record { form = k.form; left = k.right; right = k.left; is_nand = inr cut; form_at = here; left_at = eqb-true (class g k.right) x b; right_at = eqb-true (class g k.left) y a }
 
     turned_nand : (c x y : ℕ) → HasNand F g c y x → HasNand F g c x y
     turned_nand c x y h = record { form = h.form; left = h.right; right = h.left; is_nand = other h.is_nand; form_at = h.form_at; left_at = h.right_at; right_at = h.left_at }
@@ -343,19 +344,19 @@ module _ (mode : Mode) (forms : NumberedForms) (g : Graph) (merged : List Two) w
 
         find : (ts : List Two) → AllByRecursion (λ t. Equivalent F t.first t.second) ts → list_any (is_two g f h) ts ≡ true → Equivalent F f h
         find [] a r = cc
-        find (t ∷ ts) (q, a) r = either (or_true (is_two g f h t) (list_any (is_two g f h) ts) r) (find ts a)
+        find (t ∷ ts) (q, a) r = either (or_cases (is_two g f h t) (list_any (is_two g f h) ts) r) (find ts a)
           where
             either : (is_two g f h t ≡ true) ⊎ (list_any (is_two g f h) ts ≡ true) → (list_any (is_two g f h) ts ≡ true → Equivalent F f h) → Equivalent F f h
             either (inl s) ih =
-                let (x, y) = and_true (t.first == f) (t.second == h) s in
-                subst (λ k. Equivalent F f k) (eq_true t.second h y) (subst (λ k. Equivalent F k t.second) (eq_true t.first f x) q)
+                let (x, y) = and_parts (t.first == f) (t.second == h) s in
+                subst (λ k. Equivalent F f k) (eqb-true t.second h y) (subst (λ k. Equivalent F k t.second) (eqb-true t.first f x) q)
             either (inr s) ih = ih s
 
         by_test : apart g merged f h ≡ true → Equivalent F f h
-        by_test r = either (or_true (f == h) (list_any (is_two g f h) merged) (opened (class g f == class g h) equal r))
+        by_test r = either (or_cases (f == h) (list_any (is_two g f h) merged) (opened (class g f == class g h) equal r))
           where
             either : ((f == h) ≡ true) ⊎ (list_any (is_two g f h) merged ≡ true) → Equivalent F f h
-            either (inl s) = subst (λ k. Equivalent F f k) (eq_true f h s) (same o)
+            either (inl s) = subst (λ k. Equivalent F f k) (eqb-true f h s) (same o)
             either (inr s) = find merged passes.merges s
 
     -- a graph that passes the tests encodes the forms
@@ -391,11 +392,11 @@ module _ (mode : Mode) (forms : NumberedForms) (g : Graph) (merged : List Two) w
             let (b, here) = place_of g forms.bases base has in
             let e = here ∙ ap Some (true_base g base is) in
             let y : 0 + b ≡ b = omega arith in
-            let right = eq_true (class g (2 * (0 + b))) g.one (base_is_right g 0 forms.bases passes.bases b base_true e) in
+            let right = eqb-true (class g (2 * (0 + b))) g.one (base_is_right g 0 forms.bases passes.bases b base_true e) in
             (2 * b, (b, e, refl), subst (λ k. class g (2 * k) ≡ g.one) y right ∙ sym s)
 
         one_from : (c : ℕ) → (f : ℕ) × F.IsTop f × (class g f ≡ c) → c ≡ g.one
         one_from c (f, (b, e, s), here) =
             let y : 0 + b ≡ b = omega arith in
-            let right = eq_true (class g (2 * (0 + b))) g.one (base_is_right g 0 forms.bases passes.bases b base_true e) in
+            let right = eqb-true (class g (2 * (0 + b))) g.one (base_is_right g 0 forms.bases passes.bases b base_true e) in
             sym here ∙ (ap (class g) s ∙ subst (λ k. class g (2 * k) ≡ g.one) y right)

@@ -1,6 +1,7 @@
 -- The netlist that the chosen matches make is one, and its nets cost their classes' labels.
 use Rattle.std.proofs.Common.{ℕ, zero, suc, ◌+◌, ◌<◌, ◌≡◌, ◌⊎◌, inl, inr, List, [], ◌∷◌, ◌++◌, length, Some, slice_get, slice_index_or, map, min, refl, ap, ap₂, sym, ◌∙◌, subst, arith}
 use Rattle.std.specs.List.{AllZip}
+use Rattle.std.proofs.lemmas.Option.{slice_get_within}
 use Rattle.lw_laws.specs.Graphs.{Graph}
 use Rattle.lw_laws.specs.Costs.{Cost}
 use Rattle.lw_laws.specs.Choices.{Labels}
@@ -11,7 +12,7 @@ use Rattle.lw_laws.specs.Mapped.{IsMapped}
 use Rattle.lw_laws.specs.Extracts.{Match, IsChosen, IsGateBefore, AreGateClasses, IsNetOf, IsExtracted, class_at, AreDistinctLeaves, HaveLeafLabels}
 use Rattle.lw_laws.proofs.Extracts.{slice_get_append, IsChosen_once, extracted_ordered, extracted_mapped, net_cost}
 use Rattle.lw_laws.proofs.Delays.{latest-cut}
-use Rattle.lw_laws.proofs.Lists.{slice_get_in, slice_get_some}
+use Rattle.lw_laws.proofs.Lists.{slice_get_some}
 
 not_both : (heights : ℕ → ℕ) (c d : ℕ) → IsGateBefore heights c d → IsGateBefore heights d c → ⊥
 not_both heights c d (inl a) (inl b) = omega arith
@@ -147,7 +148,7 @@ extracted_costs g cost pats labels heights roots gates n costs classes is are le
   where
     in_range : net < n.inputs + length n.gates
     in_range =
-        let lt = slice_get_in (g.leaves ++ gates) net c at in
+        let lt = slice_get_within (g.leaves ++ gates) net c at in
         let a = is.inputs in
         let b = is.one_each in
         let l = length_both g.leaves gates in

@@ -1,6 +1,8 @@
 -- The netlist of chosen matches is ordered and mapped.
 use Rattle.std.proofs.Common.{ℕ, zero, suc, ◌+◌, ◌<◌, ◌≤◌, ◌≡◌, ◌⊎◌, inl, inr, List, [], ◌∷◌, length, map, Some, slice_get, Contains, refl, ap, ap₂, sym, ◌∙◌, subst, arith, ◌++◌, zero-add, suc-add}
 use Rattle.std.specs.List.{AllByRecursion, AllZip, slice_index_or}
+use Rattle.std.proofs.lemmas.Option.{slice_get_within}
+use Rattle.lw_facts.proofs.Lists.{index_at}
 use native.Mathlib.Decide.{dec_lt}
 use Rattle.lw_laws.specs.Graphs.{Graph}
 use Rattle.lw_laws.specs.Costs.{Cost}
@@ -9,7 +11,7 @@ use Rattle.lw_laws.specs.Covers.{Pattern}
 use Rattle.lw_laws.specs.Netlists.{Gate, Netlist, IsGate, AreOrdered, AreNetCosts}
 use Rattle.lw_laws.specs.Extracts.{Match, IsListAtMost, IsMatchAtMost, IsChosen, IsGateBefore, net_classes, IsNetOf, IsExtracted, HaveLeafLabels}
 use Rattle.lw_laws.specs.Mapped.{IsMapped}
-use Rattle.lw_laws.proofs.Lists.{slice_get_in, slice_get_some}
+use Rattle.lw_laws.proofs.Lists.{slice_get_some}
 
 pub slice_get_append : (xs ys : List ℕ) (k c : ℕ) → slice_get (xs ++ ys) k ≡ Some c → (k < length xs) ⊎ ((i : ℕ) × (slice_get ys i ≡ Some c) × (k ≡ length xs + i))
 slice_get_append [] ys k c e = inr (k, e, omega arith)
@@ -29,13 +31,8 @@ pub slice_get_right : (xs ys : List ℕ) (j c : ℕ) → slice_get ys j ≡ Some
 slice_get_right [] ys j c e = rw zero-add e
 slice_get_right (x ∷ xs) ys j c e = rw suc-add (slice_get_right xs ys j c e)
 
-slice_get_index : (xs : List ℕ) (k c : ℕ) → slice_get xs k ≡ Some c → slice_index_or xs k 0 ≡ c
-slice_get_index [] k c e = cc
-slice_get_index (x ∷ xs) zero c e = cc
-slice_get_index (x ∷ xs) (suc k) c e = slice_get_index xs k c e
-
 pub listed_at : (ps : List Pattern) (k : ℕ) (p : Pattern) → slice_get ps k ≡ Some p → Contains ps p
-listed_at ps k p e = (k, slice_get_in ps k p e, read ps k e)
+listed_at ps k p e = (k, slice_get_within ps k p e, read ps k e)
   where
     read : (qs : List Pattern) (i : ℕ) → slice_get qs i ≡ Some p → slice_index_or qs i p ≡ p
     read [] i f = cc
@@ -112,19 +109,19 @@ module _ (g : Graph) (cost : Cost) (pats : List Pattern) (labels : Labels) (heig
     pins_of_nets [] (net ∷ nets) z = absurd z
     pins_of_nets (q ∷ qs) [] z = absurd z
     pins_of_nets (q ∷ qs) (net ∷ nets) (e, z) =
-        ap₂ (λ p ps. p ∷ ps) (slice_get_index (net_classes g gates) net q e) (pins_of_nets qs nets z)
+        ap₂ (λ p ps. p ∷ ps) (index_at (net_classes g gates) net q e) (pins_of_nets qs nets z)
 
     -- each gate is a match of its class with the classes of its pins
     pub extracted_mapped : IsMapped g cost.pin_counts pats n class_of_net
     extracted_mapped = record {
       inputs = λ i in'.
           let (c, e) = slice_get_some g.leaves i (subst (λ m. i < m) is.inputs in') in
-          e ∙ ap Some (sym (slice_get_index (net_classes g gates) i c (slice_get_left g.leaves gates i c e)));
+          e ∙ ap Some (sym (index_at (net_classes g gates) i c (slice_get_left g.leaves gates i c e)));
       gates = λ j gt at.
           let (c, m, p, e, chosen, cell, nets) = is.chosen j gt at in
           let t = chosen.supports.matches in
           let s : slice_get (net_classes g gates) (n.inputs + j) ≡ Some c = subst (λ k. slice_get (net_classes g gates) (k + j) ≡ Some c) (sym is.inputs) (slice_get_right g.leaves gates j c e) in
-          let u = slice_get_index (net_classes g gates) (n.inputs + j) c s in
+          let u = index_at (net_classes g gates) (n.inputs + j) c s in
           let v = pins_of_nets m.pins gt.pins nets in
           record {
             pattern = p;
@@ -155,7 +152,7 @@ module _ (g : Graph) (cost : Cost) (pats : List Pattern) (labels : Labels) (heig
       let before = extracted_ordered g cost pats labels heights gates n sorted is j gt at in
       let ls = pin_costs m.pins gt.pins s.pin_labels (n.inputs + j) nets s.have before f in
       let u : d ≡ c = cc in
-      let a : slice_index_or costs (n.inputs + j) 0 ≡ cost.value gt.cell (map (λ p. slice_index_or costs p 0) gt.pins) = slice_get_index costs (n.inputs + j) _ (are.gates j gt at) in
+      let a : slice_index_or costs (n.inputs + j) 0 ≡ cost.value gt.cell (map (λ p. slice_index_or costs p 0) gt.pins) = index_at costs (n.inputs + j) _ (are.gates j gt at) in
       ap labels (sym u) ∙ (s.value ∙ ap Some (ap₂ cost.value (sym cell) ls ∙ sym a))
 
   input_cost : (q net : ℕ) → net < length g.leaves → IsNetOf g gates q net → labels q ≡ Some (slice_index_or costs net 0)
@@ -164,7 +161,7 @@ module _ (g : Graph) (cost : Cost) (pats : List Pattern) (labels : Labels) (heig
       let f = slice_get_left g.leaves gates net c e in
       let k = leaf_labels c net e in
       let lt : net < n.inputs = subst (λ k. net < k) (sym is.inputs) l in
-      let z = slice_get_index costs net (cost.leaf net) (are.inputs net lt) in
+      let z = index_at costs net (cost.leaf net) (are.inputs net lt) in
       let s : c ≡ q = cc in
       ap labels (sym s) ∙ (k ∙ ap Some (sym z))
 

@@ -2,6 +2,8 @@
 use Rattle.std.proofs.Common.{ℕ, zero, suc, ◌+◌, ◌*◌, ◌==◌, ◌<◌, ◌≤◌, ◌≡◌, ◌≢◌, ◌⊎◌, inl, inr, Bool, true, false, ◌&&◌, ◌||◌, if◌then◌else◌, List, [], ◌∷◌, ◌++◌, length, map, Contains, Some, slice_get, refl, ap, sym, ◌∙◌, subst, true≢false, arith}
 use Rattle.std.specs.List.{AllByRecursion, list_all, list_any}
 use Rattle.std.proofs.lemmas.Bool.Decides.{nat_tests}
+use Rattle.std.proofs.lemmas.Bool.{and_parts, or_cases, eqb-true}
+use Rattle.lw_facts.proofs.Lists.{contains_map}
 use native.Mathlib.Nat.{eq-or-lt_of_le}
 use Rattle.lw_laws.specs.Names.{same_name}
 use Rattle.lw_laws.specs.Drafts.{NandFact}
@@ -12,32 +14,19 @@ use Rattle.lw_laws.specs.NumberedForms.IsCovering.{in_none, in_left, in_right, i
 use Rattle.lw_laws.specs.Flip.{flip}
 use Rattle.lw_laws.specs.Modes.{Mode}
 use Rattle.lw_laws.specs.Modes.Mode.{plain, idempotent}
-use Rattle.lw_laws.proofs.Lists.{all_contains, all_append, all_map, in_left as in_first, in_right as in_second, in_map}
-
--- tests
-pub eq_true : (a b : ℕ) → (a == b) ≡ true → a ≡ b
-eq_true a b e = grind (arith, nat_tests)
+use Rattle.lw_laws.proofs.Lists.{all_contains, all_append, all_map, in_left as in_first, in_right as in_second}
 
 pub eq_same : (a : ℕ) → (a == a) ≡ true
 eq_same a = grind (arith, nat_tests)
 
-pub and_true : (a b : Bool) → (a && b) ≡ true → (a ≡ true) × (b ≡ true)
-and_true true true e = (refl, refl)
-and_true true false e = cc
-and_true false b e = cc
-
-pub or_true : (a b : Bool) → (a || b) ≡ true → (a ≡ true) ⊎ (b ≡ true)
-or_true true b e = inl refl
-or_true false b e = inr e
-
 pub all_true : {X : Type 0} (p : X → Bool) (xs : List X) (x : X) → list_all p xs ≡ true → Contains xs x → p x ≡ true
 all_true p [] x e (k, lt, f) = absurd (omega arith)
-all_true p (y ∷ xs) x e (zero, lt, f) = subst (λ z. p z ≡ true) f (and_true (p y) (list_all p xs) e).0
-all_true p (y ∷ xs) x e (suc k, lt, f) = all_true p xs x (and_true (p y) (list_all p xs) e).1 (k, omega arith, f)
+all_true p (y ∷ xs) x e (zero, lt, f) = subst (λ z. p z ≡ true) f (and_parts (p y) (list_all p xs) e).0
+all_true p (y ∷ xs) x e (suc k, lt, f) = all_true p xs x (and_parts (p y) (list_all p xs) e).1 (k, omega arith, f)
 
 pub any_true : {X : Type 0} (p : X → Bool) (xs : List X) → list_any p xs ≡ true → (x : X) × Contains xs x × (p x ≡ true)
 any_true p [] e = cc
-any_true {X} p (y ∷ xs) e = by_side (or_true (p y) (list_any p xs) e) (any_true p xs)
+any_true {X} p (y ∷ xs) e = by_side (or_cases (p y) (list_any p xs) e) (any_true p xs)
   where
     by_side : (p y ≡ true) ⊎ (list_any p xs ≡ true) → (list_any p xs ≡ true → (x : X) × Contains xs x × (p x ≡ true)) → (x : X) × Contains (y ∷ xs) x × (p x ≡ true)
     by_side (inl f) ih = (y, (0, omega arith, refl), f)
@@ -48,8 +37,8 @@ same_name_eq [] [] e = refl
 same_name_eq [] (y ∷ ys) e = cc
 same_name_eq (x ∷ xs) [] e = cc
 same_name_eq (x ∷ xs) (y ∷ ys) e =
-    let (a, b) = and_true (x == y) (same_name xs ys) e in
-    let first = eq_true x y a in
+    let (a, b) = and_parts (x == y) (same_name xs ys) e in
+    let first = eqb-true x y a in
     let rest = same_name_eq xs ys b in
     cc
 
@@ -75,9 +64,9 @@ cuts (f ∷ fs) = map (to_left f) (cuts fs) ++ map (to_right f) (cuts fs)
 cut_listed : {fs ls rs : List ℕ} → IsCut fs ls rs → Contains (cuts fs) (record { left = ls; right = rs })
 cut_listed cut_none = (0, omega arith, refl)
 cut_listed (cut_left {f = f} {fs = fs} {ls = ls} {rs = rs} c) =
-    in_first (map (to_left f) (cuts fs)) (map (to_right f) (cuts fs)) (record { left = f ∷ ls; right = rs }) (in_map (to_left f) (cuts fs) (record { left = ls; right = rs }) (cut_listed c))
+    in_first (map (to_left f) (cuts fs)) (map (to_right f) (cuts fs)) (record { left = f ∷ ls; right = rs }) (contains_map (to_left f) (cuts fs) (record { left = ls; right = rs }) (cut_listed c))
 cut_listed (cut_right {f = f} {fs = fs} {ls = ls} {rs = rs} c) =
-    in_second (map (to_left f) (cuts fs)) (map (to_right f) (cuts fs)) (record { left = ls; right = f ∷ rs }) (in_map (to_right f) (cuts fs) (record { left = ls; right = rs }) (cut_listed c))
+    in_second (map (to_left f) (cuts fs)) (map (to_right f) (cuts fs)) (record { left = ls; right = f ∷ rs }) (contains_map (to_right f) (cuts fs) (record { left = ls; right = rs }) (cut_listed c))
 
 cuts_are : (fs : List ℕ) → AllByRecursion (λ c. IsCut fs c.left c.right) (cuts fs)
 cuts_are [] = (cut_none, tt)
@@ -97,11 +86,11 @@ coverings (f ∷ fs) = map (to_left f) (coverings fs) ++ (map (to_right f) (cove
 covering_listed : {fs ls rs : List ℕ} → IsCovering fs ls rs → Contains (coverings fs) (record { left = ls; right = rs })
 covering_listed in_none = (0, omega arith, refl)
 covering_listed (in_left {f = f} {fs = fs} {ls = ls} {rs = rs} c) =
-    in_first (map (to_left f) (coverings fs)) (map (to_right f) (coverings fs) ++ map (to_both f) (coverings fs)) (record { left = f ∷ ls; right = rs }) (in_map (to_left f) (coverings fs) (record { left = ls; right = rs }) (covering_listed c))
+    in_first (map (to_left f) (coverings fs)) (map (to_right f) (coverings fs) ++ map (to_both f) (coverings fs)) (record { left = f ∷ ls; right = rs }) (contains_map (to_left f) (coverings fs) (record { left = ls; right = rs }) (covering_listed c))
 covering_listed (in_right {f = f} {fs = fs} {ls = ls} {rs = rs} c) =
-    in_second (map (to_left f) (coverings fs)) (map (to_right f) (coverings fs) ++ map (to_both f) (coverings fs)) (record { left = ls; right = f ∷ rs }) (in_first (map (to_right f) (coverings fs)) (map (to_both f) (coverings fs)) (record { left = ls; right = f ∷ rs }) (in_map (to_right f) (coverings fs) (record { left = ls; right = rs }) (covering_listed c)))
+    in_second (map (to_left f) (coverings fs)) (map (to_right f) (coverings fs) ++ map (to_both f) (coverings fs)) (record { left = ls; right = f ∷ rs }) (in_first (map (to_right f) (coverings fs)) (map (to_both f) (coverings fs)) (record { left = ls; right = f ∷ rs }) (contains_map (to_right f) (coverings fs) (record { left = ls; right = rs }) (covering_listed c)))
 covering_listed (in_both {f = f} {fs = fs} {ls = ls} {rs = rs} c) =
-    in_second (map (to_left f) (coverings fs)) (map (to_right f) (coverings fs) ++ map (to_both f) (coverings fs)) (record { left = f ∷ ls; right = f ∷ rs }) (in_second (map (to_right f) (coverings fs)) (map (to_both f) (coverings fs)) (record { left = f ∷ ls; right = f ∷ rs }) (in_map (to_both f) (coverings fs) (record { left = ls; right = rs }) (covering_listed c)))
+    in_second (map (to_left f) (coverings fs)) (map (to_right f) (coverings fs) ++ map (to_both f) (coverings fs)) (record { left = f ∷ ls; right = f ∷ rs }) (in_second (map (to_right f) (coverings fs)) (map (to_both f) (coverings fs)) (record { left = f ∷ ls; right = f ∷ rs }) (contains_map (to_both f) (coverings fs) (record { left = ls; right = rs }) (covering_listed c)))
 
 abbrev AreCoverings : List ℕ → List Cut → Type 0
 AreCoverings fs cs = AllByRecursion (λ c. IsCovering fs c.left c.right) cs

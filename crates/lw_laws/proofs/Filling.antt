@@ -3,10 +3,10 @@ use Rattle.std.proofs.Common.{ℕ, zero, suc, ◌+◌, ◌-◌, ◌<◌, ◌≤�
 use Rattle.std.proofs.Math.ListN.{get_or-append}
 use Rattle.std.proofs.Math.Seq.{get_or-append_seam}
 use Rattle.std.proofs.lemmas.List.{ext_get_or}
-use Rattle.std.proofs.lemmas.Option.{slice_get-get_or, get_or_from_slice_get}
+use Rattle.std.proofs.lemmas.Option.{slice_get-get_or, get_or_from_slice_get, slice_get_within}
 use native.Mathlib.Decide.{dec_lt}
 use native.Mathlib.Nat.{eq-or-lt_of_le}
-use Rattle.lw_laws.proofs.Lists.{slice_get_in, slice_get_some}
+use Rattle.lw_laws.proofs.Lists.{slice_get_some}
 
 module _ {A X : Type 0} (d : A) (step : X → List A → A) where
   -- the entries agree below k
@@ -59,7 +59,7 @@ module _ {A X : Type 0} (d : A) (step : X → List A → A) where
       record {
         one_each = len;
         inputs = λ i lt. slice_get-get_or (filled xs ns) i d (omega arith) ∙ ap Some (filled_keeps xs ns i lt ∙ starts i lt);
-        nodes = λ j node e. let lt = slice_get_in ns j node e in slice_get-get_or (filled xs ns) (length xs + j) d (omega arith) ∙ ap Some (filled_step xs ns local j node e);
+        nodes = λ j node e. let lt = slice_get_within ns j node e in slice_get-get_or (filled xs ns) (length xs + j) d (omega arith) ∙ ap Some (filled_step xs ns local j node e);
       }
 
   module _ (start : ℕ → A) (count : ℕ) (ns : List X) (local : AreLocal count ns) (xs ys : List A) (is : Fills start count ns xs) (also : Fills start count ns ys) where

@@ -1,6 +1,8 @@
 -- The truth values of what the constructors make.
 use Rattle.std.proofs.Common.{ℕ, zero, suc, ◌+◌, ◌<◌, ◌≤◌, ◌≡◌, Bool, true, false, not, ◌&&◌, ◌||◌, cond, leb, ltb, List, [], ◌∷◌, ◌++◌, map, filter, length, take, drop, Option, Some, None, slice_get, slice_index_or, refl, ap, ap₂, sym, ◌∙◌, subst, arith, take-append-drop}
 use Rattle.std.specs.List.{list_all, list_any, AllByRecursion}
+use Rattle.std.proofs.lemmas.Bool.{and_parts, false_from_ne_true}
+use Rattle.std.proofs.Math.Bool.{or-false, not-not, and-true}
 use Rattle.lw_laws.specs.Networks.{Node, Network, agrees, row_value, node_value}
 use Rattle.lw_laws.specs.Forms.{Form, FormList, items, form_list, same_form, is_among, complement, without, kept, has_clash, runs, runs_within, joined, joined_many, conjunction_within, conjunction, disjunction, form_value, forms_value}
 use Rattle.lw_laws.specs.Forms.Form.{var_form, true_form, not_form, and_form}
@@ -9,30 +11,9 @@ use Rattle.lw_laws.specs.Signals.{Literal, Signal, signed, literals, sum_of_prod
 use Rattle.lw_laws.specs.SignalValues.{values_after, input_values, net_values, SignalsAgree}
 use Rattle.lw_laws.proofs.Equality.{same_form_eq}
 
-not_not : (a : Bool) → not (not a) ≡ a
-not_not true = refl
-not_not false = refl
-
-and_true : (a : Bool) → (a && true) ≡ a
-and_true true = refl
-and_true false = refl
-
-or_none : (a : Bool) → (a || false) ≡ a
-or_none true = refl
-or_none false = refl
-
 and_when : (a b c : Bool) → (a ≡ true → b ≡ c) → (a && b) ≡ (a && c)
 and_when true b c h = h refl
 and_when false b c h = refl
-
-and_both : (a b : Bool) → (a && b) ≡ true → (a ≡ true) × (b ≡ true)
-and_both true true e = (refl, refl)
-and_both true false e = cc
-and_both false b e = cc
-
-false_when : (a : Bool) → (a ≡ true → ⊥) → a ≡ false
-false_when true h = absurd (h refl)
-false_when false h = refl
 
 module _ (x : ℕ → Bool) where
   abbrev v : Form → Bool
@@ -44,7 +25,7 @@ module _ (x : ℕ → Bool) where
   pub complement_value : (f : Form) → v (complement f) ≡ not (v f)
   complement_value (var_form i) = refl
   complement_value true_form = refl
-  complement_value (not_form f) = sym (not_not (v f))
+  complement_value (not_form f) = sym (not-not (v f))
   complement_value (and_form fs) = refl
 
   pub items_value : (fs : FormList) → forms_value x fs ≡ all (items fs)
@@ -71,20 +52,20 @@ module _ (x : ℕ → Bool) where
 
   among_value : (f : Form) (fs : List Form) → is_among f fs ≡ true → all fs ≡ true → v f ≡ true
   among_value f [] s e = cc
-  among_value f (h ∷ hs) s e = by_test (same_form f h) refl s (and_both (v h) (all hs) e) (λ r. among_value f hs r) where
+  among_value f (h ∷ hs) s e = by_test (same_form f h) refl s (and_parts (v h) (all hs) e) (λ r. among_value f hs r) where
     by_test : (t : Bool) → same_form f h ≡ t → (t || is_among f hs) ≡ true → (v h ≡ true) × (all hs ≡ true) → (is_among f hs ≡ true → all hs ≡ true → v f ≡ true) → v f ≡ true
     by_test true s r p ih = ap v (same_form_eq f h s) ∙ p.0
     by_test false s r p ih = ih r p.1
 
   no_complements : (fs hs : List Form) → all fs ≡ true → all hs ≡ true → list_any (λ f. is_among (complement f) fs) hs ≡ true → ⊥
   no_complements fs [] e d s = cc
-  no_complements fs (h ∷ hs) e d s = by_test (is_among (complement h) fs) refl s (and_both (v h) (all hs) d) (λ k r. no_complements fs hs e k r) where
+  no_complements fs (h ∷ hs) e d s = by_test (is_among (complement h) fs) refl s (and_parts (v h) (all hs) d) (λ k r. no_complements fs hs e k r) where
     by_test : (t : Bool) → is_among (complement h) fs ≡ t → (t || list_any (λ f. is_among (complement f) fs) hs) ≡ true → (v h ≡ true) × (all hs ≡ true) → (all hs ≡ true → list_any (λ f. is_among (complement f) fs) hs ≡ true → ⊥) → ⊥
     by_test true s r p ih = let k = among_value (complement h) fs s e in let c = complement_value h in let n = ap not p.0 in cc
     by_test false s r p ih = ih p.1 r
 
   clash_value : (fs : List Form) → has_clash fs ≡ true → all fs ≡ false
-  clash_value fs s = false_when (all fs) (by_test (is_among (not_form true_form) fs) refl s) where
+  clash_value fs s = false_from_ne_true (all fs) (by_test (is_among (not_form true_form) fs) refl s) where
     by_test : (t : Bool) → is_among (not_form true_form) fs ≡ t → (t || list_any (λ f. is_among (complement f) fs) fs) ≡ true → all fs ≡ true → ⊥
     by_test true s r e = let k = among_value (not_form true_form) fs s e in cc
     by_test false s r e = no_complements fs fs e e r
@@ -97,10 +78,10 @@ module _ (x : ℕ → Bool) where
     and_assoc false b c = refl
 
   runs_value : (again : List Form → Form) → ((hs : List Form) → v (again hs) ≡ all hs) → (n width : ℕ) (fs : List Form) → all (map again (runs_within n width fs)) ≡ all fs
-  runs_value again ih zero width fs = and_true (v (again fs)) ∙ ih fs
+  runs_value again ih zero width fs = and-true (v (again fs)) ∙ ih fs
   runs_value again ih (suc n) width fs = by_test (leb (length fs) width) (runs_value again ih n width (drop width fs)) where
     by_test : (t : Bool) → all (map again (runs_within n width (drop width fs))) ≡ all (drop width fs) → all (map again (elim t [ true ↦ fs ∷ [] | false ↦ take width fs ∷ runs_within n width (drop width fs) ])) ≡ all fs
-    by_test true r = and_true (v (again fs)) ∙ ih fs
+    by_test true r = and-true (v (again fs)) ∙ ih fs
     by_test false r = ap₂ (λ a b. a && b) (ih (take width fs)) r ∙ (sym (all_append (take width fs) (drop width fs)) ∙ ap all (take-append-drop width fs))
 
   joined_many_value : (again : List Form → Form) → ((hs : List Form) → v (again hs) ≡ all hs) → (width : ℕ) (fs : List Form) (t : Bool) → v (joined_many again width fs t) ≡ all fs
@@ -110,7 +91,7 @@ module _ (x : ℕ → Bool) where
   joined_value : (again : List Form → Form) → ((hs : List Form) → v (again hs) ≡ all hs) → (width : ℕ) (fs : List Form) (t : Bool) → has_clash fs ≡ t → v (joined again width fs t) ≡ all fs
   joined_value again ih width fs true s = sym (clash_value fs s)
   joined_value again ih width [] false s = refl
-  joined_value again ih width (f ∷ []) false s = sym (and_true (v f))
+  joined_value again ih width (f ∷ []) false s = sym (and-true (v f))
   joined_value again ih width (f ∷ h ∷ fs) false s = joined_many_value again ih width (f ∷ h ∷ fs) (leb (length (f ∷ h ∷ fs)) width)
 
   conjunction_within_value : (n width : ℕ) (fs : List Form) → v (conjunction_within n width fs) ≡ all fs
@@ -222,9 +203,9 @@ module _ (x : ℕ → Bool) where
       let r = filter (λ row. not (has l row)) rows in
       let lit : v (literal_form fs l) ≡ agrees l.sign (slice_index_or (map v fs) l.column true) = signed_value l.sign (slice_index_or fs l.column true_form) ∙ ap (agrees l.sign) (sym (index_map v fs l.column true_form)) in
       let first : v (conjunction width (literal_form fs l ∷ again q ∷ [])) ≡ (agrees l.sign (slice_index_or (map v fs) l.column true) && list_any (row_value (map v fs)) q) =
-      conjunction_value width (literal_form fs l ∷ again q ∷ []) ∙ ap₂ (λ a b. a && b) lit (and_true (v (again q)) ∙ ih q) in
+      conjunction_value width (literal_form fs l ∷ again q ∷ []) ∙ ap₂ (λ a b. a && b) lit (and-true (v (again q)) ∙ ih q) in
       disjunction_value width (conjunction width (literal_form fs l ∷ again q ∷ []) ∷ again r ∷ [])
-      ∙ (ap₂ (λ a b. a || b) first (or_none (v (again r)) ∙ ih r)
+      ∙ (ap₂ (λ a b. a || b) first (or-false (v (again r)) ∙ ih r)
       ∙ rows_value (map v fs) l rows (subst (λ n. l.column < n) (sym (length_map v fs)) w))
 
   factored_within_value : (n width : ℕ) (fs : List Form) (rows : List (List (Option Bool))) → v (factored_within n width fs rows) ≡ list_any (row_value (map v fs)) rows

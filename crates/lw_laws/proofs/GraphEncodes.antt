@@ -1,6 +1,7 @@
 -- The graph of a network's forms encodes them.
 use Rattle.std.proofs.Common.{ℕ, Bool, ◌+◌, ◌/◌, ◌*◌, ◌<◌, ◌≤◌, ◌≡◌, ◌↔◌, length, Some, slice_get, refl, ap, sym, ◌∙◌, subst, subst₂, arith, add-zero}
 use Rattle.std.proofs.lemmas.List.{length-map}
+use Rattle.std.proofs.lemmas.Option.{slice_get_within}
 use native.Mathlib.Decide.{dec_lt}
 use Rattle.lw_laws.specs.Modes.{Mode}
 use Rattle.lw_laws.specs.Networks.{Network}
@@ -29,7 +30,6 @@ use Rattle.lw_laws.proofs.CommonTrees.{AreSingle, common_tree_equivalent}
 use Rattle.lw_laws.proofs.Drafts.{Encodes-same, IsReduced-encodes}
 use Rattle.lw_laws.proofs.ClassLaws.{split_of_nand, nand_of_split, true_number, input_number, encoding_is_graph}
 use Rattle.lw_laws.proofs.Listed.{occurring_is_listing, true_and_inputs_first}
-use Rattle.lw_laws.proofs.Lists.{slice_get_in}
 use Rattle.lw_laws.proofs.Words.{IsNumber}
 
 module _ (mode : Mode) (width : ℕ) (net : Network) (g : Graph) (wide : 2 ≤ width) (graph_is : IsGraphOf mode net.inputs (listing_of width net) g) where
@@ -81,7 +81,7 @@ module _ (mode : Mode) (width : ℕ) (net : Network) (g : Graph) (wide : 2 ≤ w
 
   leaf_to : (i c : ℕ) → slice_get g.leaves i ≡ Some c → (f : ℕ) × F.IsInput f i × (class_of g f ≡ c)
   leaf_to i c e =
-      let lt = slice_get_in g.leaves i c e in
+      let lt = slice_get_within g.leaves i c e in
       let count = graph_is.written.leaf_count in
       let in' : i < net.inputs = omega arith in
       let at = graph_is.leaves i in' in

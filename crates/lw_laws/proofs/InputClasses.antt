@@ -1,5 +1,7 @@
 -- In the graph of a network's forms class 0 is true, and the inputs have the classes after it in order.
 use Rattle.std.proofs.Common.{ℕ, zero, suc, ◌+◌, ◌*◌, ◌/◌, ◌==◌, ◌<◌, ◌≤◌, ◌≡◌, ◌≢◌, ◌⊎◌, inl, inr, Bool, true, false, List, [], ◌∷◌, Some, slice_get, refl, ap, sym, ◌∙◌, subst, arith, add-zero}
+use Rattle.std.proofs.lemmas.Bool.{eqb-true}
+use Rattle.std.proofs.lemmas.Option.{slice_get_within}
 use native.Mathlib.Nat.{eq-or-lt_of_le}
 use Rattle.lw_laws.specs.Flip.{flip}
 use Rattle.lw_laws.specs.Modes.{Mode}
@@ -12,14 +14,14 @@ use Rattle.lw_laws.specs.Listings.{IsListing}
 use Rattle.lw_laws.specs.Graphs.{Graph, class_of, AreNumberedFrom}
 use Rattle.lw_laws.specs.Extracts.{AreDistinctLeaves}
 use Rattle.lw_laws.specs.Classes.{class_in, IsGraphOf}
-use Rattle.lw_laws.proofs.Facts.{eq_true, eq_same}
+use Rattle.lw_laws.proofs.Facts.{eq_same}
 use Rattle.lw_laws.proofs.Flips.{flip_even, class_of-flip}
 use Rattle.lw_laws.proofs.Numbers.{number_of}
 use Rattle.lw_laws.proofs.NumberValues.{trees_have_value}
 use Rattle.lw_laws.proofs.FormTruth.{signals_agree}
 use Rattle.lw_laws.proofs.ClassLaws.{base_class}
 use Rattle.lw_laws.proofs.Listed.{occurring_is_listing, true_and_inputs_first}
-use Rattle.lw_laws.proofs.Lists.{slice_get_in, slice_get_some}
+use Rattle.lw_laws.proofs.Lists.{slice_get_some}
 
 module _ (mode : Mode) (width : ℕ) (net : Network) (g : Graph) (wide : 2 ≤ width) (graph_is : IsGraphOf mode net.inputs (listing_of width net) g) where
   abbrev o : Listing
@@ -72,7 +74,7 @@ module _ (mode : Mode) (width : ℕ) (net : Network) (g : Graph) (wide : 2 ≤ w
       let occ : Occurs o (var_form i) = (suc i, input_at i (omega arith)) in (
         λ e.
             let same : (i == i) ≡ (m == i) = one_value (var_form i) (var_form m) occ (suc m, input_at m low) (sym here ∙ (e ∙ var_class m low)) (λ k. k == i) in
-            let equal = eq_true m i (sym same ∙ eq_same i) in
+            let equal = eqb-true m i (sym same ∙ eq_same i) in
             omega arith,
         λ e. let same = one_value (var_form i) (not_form (var_form m)) occ (suc m, input_at m low) (sym here ∙ (e ∙ not_var_class m low)) (λ k. false) in cc,
       )
@@ -122,8 +124,8 @@ module _ (mode : Mode) (width : ℕ) (net : Network) (g : Graph) (wide : 2 ≤ w
       base_class g k c e ∙ (classes_from 0 g.forms graph_is.written.numbered (λ j l. absurd (omega arith)) (λ j b f. let r : 0 + j ≡ j = omega arith in ap (λ i. class_of g (2 * i)) r ∙ base_class g j b f) k c e (omega arith) ∙ ap (λ i. 2 * i) z)
     where
       base_in : (j : ℕ) → j ≤ net.inputs → j < Rattle.std.specs.Prelude.length o.bases
-      base_in zero le = slice_get_in o.bases 0 true_form first.first
-      base_in (suc i) le = slice_get_in o.bases (suc i) (var_form i) (input_at i (omega arith))
+      base_in zero le = slice_get_within o.bases 0 true_form first.first
+      base_in (suc i) le = slice_get_within o.bases (suc i) (var_form i) (input_at i (omega arith))
 
   pub one_first : g.one ≡ 0
   one_first = graph_is.one ∙ (sym true_class ∙ first_classes 0 (omega arith))
@@ -136,8 +138,8 @@ module _ (mode : Mode) (width : ℕ) (net : Network) (g : Graph) (wide : 2 ≤ w
   pub distinct_leaves : AreDistinctLeaves g
   distinct_leaves i j c e f =
       let count = graph_is.written.leaf_count in
-      let a = slice_get_in g.leaves i c e in
-      let b = slice_get_in g.leaves j c f in
+      let a = slice_get_within g.leaves i c e in
+      let b = slice_get_within g.leaves j c f in
       let p = input_class i (omega arith) in
       let q = input_class j (omega arith) in
       let r : 2 + 2 * i ≡ c = cc in

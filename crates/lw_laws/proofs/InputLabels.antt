@@ -1,5 +1,7 @@
 -- In the graph of a network's forms the least time of an input's class is the start of the input.
 use Rattle.std.proofs.Common.{ℕ, zero, suc, ◌==◌, ◌<◌, ◌≤◌, ◌≡◌, inl, inr, Bool, true, false, List, [], ◌∷◌, length, map, min, Option, Some, None, slice_get, slice_index_or, refl, ap, sym, ◌∙◌, subst, arith}
+use Rattle.std.proofs.lemmas.Bool.{eqb-true}
+use Rattle.std.proofs.lemmas.Option.{slice_get_within}
 use Rattle.lw_laws.specs.Modes.{Mode}
 use Rattle.lw_laws.specs.Networks.{Network}
 use Rattle.lw_laws.specs.Trees.{Tree, leaf, const_one, const_zero, inv, nand, tree_value, planted, HasLeaf}
@@ -12,7 +14,7 @@ use Rattle.lw_laws.specs.Covers.Cover.{wire, gate}
 use Rattle.lw_laws.specs.Covers.Covers.{no_covers, cover}
 use Rattle.lw_laws.specs.Delays.{delay_cost}
 use Rattle.lw_laws.specs.Matches.{IsLeastCover}
-use Rattle.lw_laws.proofs.Facts.{eq_true, eq_same}
+use Rattle.lw_laws.proofs.Facts.{eq_same}
 use Rattle.lw_laws.proofs.PatternLaws.{has_leaf, leaf_is}
 use Rattle.lw_laws.proofs.Netlists.{tree_value_same}
 use Rattle.lw_laws.proofs.Delays.{cost_of-time, length-delays_of}
@@ -22,7 +24,6 @@ use Rattle.lw_laws.proofs.NumberValues.{trees_have_value}
 use Rattle.lw_laws.proofs.FormTruth.{signals_agree}
 use Rattle.lw_laws.proofs.Listed.{occurring_is_listing}
 use Rattle.lw_laws.proofs.InputClasses.{input_at}
-use Rattle.lw_laws.proofs.Lists.{slice_get_in}
 
 -- a tree that has the value of one leaf has that leaf
 value_has_leaf : (i : ℕ) (t : Tree) → ((x : ℕ → Bool) → tree_value x t ≡ x i) → HasLeaf t i
@@ -39,7 +40,7 @@ value_has_leaf i t f = by_test (has_leaf i t) refl
         by_place : (k : ℕ) (b : Bool) → (k == i) ≡ b → HasLeaf t k → false ≡ (k == i)
         by_place k false s h = sym s
         by_place k true s h =
-            let there = (leaf_is i t).1 (subst (HasLeaf t) (eq_true k i s) h) in
+            let there = (leaf_is i t).1 (subst (HasLeaf t) (eqb-true k i s) h) in
             cc
 
 -- a leaf of a tree with trees planted is a leaf of the tree at a pin
@@ -84,7 +85,7 @@ module _ (mode : Mode) (width : ℕ) (net : Network) (g : Graph) (wide : 2 ≤ w
       let o = listing_of width net in
       let is = occurring_is_listing width wide net in
       let count = graph_is.written.leaf_count in
-      let within = slice_get_in g.leaves i c at in
+      let within = slice_get_within g.leaves i c at in
       let lt : i < net.inputs = omega arith in
       let leaves = graph_is.leaves i lt in
       let here : c ≡ class_in o g (var_form i) = cc in

@@ -1,6 +1,8 @@
 -- The list of occurring forms is a listing.
 use Rattle.std.proofs.Common.{ℕ, zero, suc, ◌+◌, eq-or-lt_of_le, append_assoc, append-nil, ◌<◌, ◌≤◌, ◌≡◌, ◌⊎◌, inl, inr, Bool, true, false, ◌||◌, cond, leb, List, [], ◌∷◌, ◌++◌, length, Some, slice_get, refl, ap, sym, ◌∙◌, subst, arith, leb-true, leb-false}
 use Rattle.std.specs.List.{AllByRecursion}
+use Rattle.std.proofs.lemmas.Option.{slice_get_within}
+use Rattle.lw_facts.proofs.Lists.{get_left, get_last, get_last_cases}
 use Rattle.lw_laws.specs.Networks.{Node, Network}
 use Rattle.lw_laws.specs.Forms.{Form, FormList, items, form_list, and_of, same_form, is_among}
 use Rattle.lw_laws.specs.Forms.Form.{var_form, true_form, not_form, and_form}
@@ -13,30 +15,6 @@ use Rattle.lw_laws.specs.Listings.{IsListing, IsListedBefore, IsListedAndForm, s
 use Rattle.lw_laws.proofs.Equality.{same_form_refl, same_form_eq, items-form_list, form_list-items}
 use Rattle.lw_laws.proofs.Sublists.{IsSub_all, IsSub_length, IsSub_whole, distinct_sub, clash_sub}
 use Rattle.lw_laws.proofs.Normal.{IsNormal, AreNormal, signals_normal, inputs_normal}
-
--- places of a list with an entry put at its end
-get_left : {X : Type 0} (xs ys : List X) (b : ℕ) (x : X) → slice_get xs b ≡ Some x → slice_get (xs ++ ys) b ≡ Some x
-get_left [] ys b x e = cc
-get_left (z ∷ xs) ys zero x e = e
-get_left (z ∷ xs) ys (suc b) x e = get_left xs ys b x e
-
-get_last : {X : Type 0} (xs : List X) (x : X) → slice_get (xs ++ x ∷ []) (length xs) ≡ Some x
-get_last [] x = refl
-get_last (z ∷ xs) x = get_last xs x
-
-get_back : {X : Type 0} (xs : List X) (y : X) (b : ℕ) (x : X) → slice_get (xs ++ y ∷ []) b ≡ Some x → (slice_get xs b ≡ Some x) ⊎ ((b ≡ length xs) × (x ≡ y))
-get_back [] y zero x e = inr (refl, cc)
-get_back [] y (suc b) x e = cc
-get_back (z ∷ xs) y zero x e = inl e
-get_back (z ∷ xs) y (suc b) x e = next (get_back xs y b x e) where
-  next : (slice_get xs b ≡ Some x) ⊎ ((b ≡ length xs) × (x ≡ y)) → (slice_get (z ∷ xs) (suc b) ≡ Some x) ⊎ ((suc b ≡ length (z ∷ xs)) × (x ≡ y))
-  next (inl e) = inl e
-  next (inr (e, k)) = inr (ap suc e, k)
-
-get_in : {X : Type 0} (xs : List X) (b : ℕ) (x : X) → slice_get xs b ≡ Some x → b < length xs
-get_in [] b x e = cc
-get_in (z ∷ xs) zero x e = omega arith
-get_in (z ∷ xs) (suc b) x e = let ih = get_in xs b x e in omega arith
 
 abbrev Has : List Form → Form → Type 0
 Has bases f = (b : ℕ) × (slice_get bases b ≡ Some f)
@@ -117,10 +95,10 @@ module _ (count width : ℕ) where
 
   put_good : (bases : List Form) (f : Form) → IsGood bases → IsNext bases f → is_among f bases ≡ false → IsGood (bases ++ f ∷ [])
   put_good bases f good next new = record {
-    signs = λ b h e. signs b h (get_back bases f b h e);
-    once = λ a b h d e. once a b h (get_back bases f a h d) (get_back bases f b h e);
-    ands = λ b fs e. ands b fs (get_back bases f b (and_form fs) e);
-    below = λ b i e. below b i (get_back bases f b (var_form i) e);
+    signs = λ b h e. signs b h (get_last_cases bases f b h e);
+    once = λ a b h d e. once a b h (get_last_cases bases f a h d) (get_last_cases bases f b h e);
+    ands = λ b fs e. ands b fs (get_last_cases bases f b (and_form fs) e);
+    below = λ b i e. below b i (get_last_cases bases f b (var_form i) e);
   } where
     x : Extends bases (bases ++ f ∷ [])
     x b h e = get_left bases (f ∷ []) b h e
@@ -238,7 +216,7 @@ module _ (count width : ℕ) where
 
   all_occur_before : (bases fs : List Form) → AllByRecursion (λ f. Has bases (base_form f)) fs → AllByRecursion (IsListedBefore bases (length bases)) fs
   all_occur_before bases [] a = tt
-  all_occur_before bases (f ∷ fs) ((b, e), a) = ((b, e, get_in bases b (base_form f) e), all_occur_before bases fs a)
+  all_occur_before bases (f ∷ fs) ((b, e), a) = ((b, e, slice_get_within bases b (base_form f) e), all_occur_before bases fs a)
 
   part_good : (all fs bases : List Form) → AreOperands width all → IsSub fs all → IsGood bases → AllByRecursion (λ f. Has bases (base_form f)) all → ((hs : List Form) → IsSub hs fs → length hs < length fs → HasAnd bases hs) → HasAddedPart fs bases (append_part fs bases)
   part_good all fs bases are s good occ before = by_test (leb 2 (length fs)) refl where
@@ -246,7 +224,7 @@ module _ (count width : ℕ) where
     next two = subst (IsListedAndForm width bases (length bases)) (sym (items-form_list fs)) (record {
       operands_are = record { two = two; few = let l = IsSub_length s in let few = are.few in omega arith; distinct = distinct_sub s are.distinct; clashless = clash_sub s are.clashless };
       before = all_occur_before bases fs (IsSub_all (λ f. Has bases (base_form f)) s occ);
-      subs = λ hs r h lt. let (b, e) = before hs r lt h in (b, e, get_in bases b (and_of hs) e);
+      subs = λ hs r h lt. let (b, e) = before hs r lt h in (b, e, slice_get_within bases b (and_of hs) e);
     })
 
     by_test : (t : Bool) → leb 2 (length fs) ≡ t → HasAddedPart fs bases (cond t (appended (and_of fs) bases) bases)
@@ -387,7 +365,7 @@ module _ (count width : ℕ) where
       let more = bases ++ var_form i ∷ [] in
       let next : IsGood more = put_good bases (var_form i) good (omega arith) new in
       let longer = length_put bases (var_form i) in
-      let rest = inputs_stand wide (i + 1) n more next (omega arith) (λ b j e. still b j (get_back bases (var_form i) b (var_form j) e)) (omega arith) in
+      let rest = inputs_stand wide (i + 1) n more next (omega arith) (λ b j e. still b j (get_last_cases bases (var_form i) b (var_form j) e)) (omega arith) in
       let grown = add_signals_good (input_signals (i + 1) n) more (inputs_normal count width wide (i + 1) n (omega arith)) next in
       ap (λ bs. slice_get (add_signals (input_signals (i + 1) n) bs) (k + 1)) (input_put i bases new)
       ∙ here_or_later (eq-or-lt_of_le {n = i} {m = k} low) (λ e. grown.grown.extends (k + 1) (var_form k) (at_end e)) (λ later. rest k later (omega arith))

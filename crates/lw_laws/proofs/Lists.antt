@@ -2,12 +2,6 @@
 use Rattle.std.proofs.Common.{ℕ, zero, suc, ◌<◌, ◌≡◌, List, [], ◌∷◌, ◌++◌, length, map, Contains, Some, slice_get, refl, ap, subst, arith}
 use Rattle.std.specs.List.{AllByRecursion}
 
--- a place that holds something is in the list, and each place in the list holds something
-pub slice_get_in : {X : Type 0} (xs : List X) (i : ℕ) (x : X) → slice_get xs i ≡ Some x → i < length xs
-slice_get_in [] i x e = cc
-slice_get_in (y ∷ xs) zero x e = omega arith
-slice_get_in (y ∷ xs) (suc i) x e = let ih = slice_get_in xs i x e in omega arith
-
 pub slice_get_some : {X : Type 0} (xs : List X) (i : ℕ) → i < length xs → (x : X) × (slice_get xs i ≡ Some x)
 slice_get_some [] i lt = absurd (omega arith)
 slice_get_some (y ∷ xs) zero lt = (y, refl)
@@ -40,8 +34,3 @@ in_left (z ∷ xs) ys x (suc k, lt, e) = let (j, l, f) = in_left xs ys x (k, ome
 pub in_right : {X : Type 0} (xs ys : List X) (x : X) → Contains ys x → Contains (xs ++ ys) x
 in_right [] ys x c = c
 in_right (z ∷ xs) ys x c = let (j, l, f) = in_right xs ys x c in (suc j, omega arith, f)
-
-pub in_map : {X Y : Type 0} (h : X → Y) (xs : List X) (x : X) → Contains xs x → Contains (map h xs) (h x)
-in_map h [] x (k, lt, e) = absurd (omega arith)
-in_map h (z ∷ xs) x (zero, lt, e) = (0, omega arith, ap h e)
-in_map h (z ∷ xs) x (suc k, lt, e) = let (j, l, f) = in_map h xs x (k, omega arith, e) in (suc j, omega arith, f)

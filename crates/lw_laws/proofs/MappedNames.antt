@@ -1,7 +1,8 @@
 -- The names of the nets of a mapped netlist tell them apart.
 use Rattle.std.proofs.Common.{ℕ, zero, suc, ◌+◌, ◌<◌, ◌≤◌, ◌^◌, ◌≡◌, Option, Some, None, List, [], ◌∷◌, ◌++◌, length, map, drop, slice_get, slice_index_or, refl, ap, ap₂, sym, ◌∙◌, subst, arith}
 use Rattle.std.specs.List.{AllZip}
-use Rattle.std.proofs.lemmas.Option.{get_or_from_slice_get}
+use Rattle.std.proofs.lemmas.Option.{get_or_from_slice_get, slice_get_within}
+use Rattle.lw_facts.proofs.Lists.{length_mapped}
 use Rattle.lw_laws.specs.Modes.{Mode}
 use Rattle.lw_laws.specs.Networks.{Network}
 use Rattle.lw_laws.specs.Forms.Form.{var_form}
@@ -20,15 +21,10 @@ use Rattle.lw_laws.proofs.ExtractLaws.{gate_once, net_once}
 use Rattle.lw_laws.proofs.NameLaws.{names_differ, names_owned}
 use Rattle.lw_laws.proofs.Numbers.{slice_get_map, slice_get_map_back}
 use Rattle.lw_laws.proofs.Listed.{come_first}
-use Rattle.lw_laws.proofs.Lists.{slice_get_in}
 
 length_both : {X : Type 0} (xs ys : List X) → length (xs ++ ys) ≡ length xs + length ys
 length_both [] ys = omega arith
 length_both (x ∷ xs) ys = let ih = length_both xs ys in omega arith
-
-length_mapped : {X Y : Type 0} (f : X → Y) (xs : List X) → length (map f xs) ≡ length xs
-length_mapped f [] = refl
-length_mapped f (x ∷ xs) = ap suc (length_mapped f xs)
 
 -- the signals of the inputs come first
 input_signal : (i n k : ℕ) (rest : List Signal) → k < n → slice_get (input_signals i n ++ rest) k ≡ Some (signal_of_input (i + k))
@@ -79,7 +75,7 @@ module _ (mode : Mode) (width : ℕ) (net : Network) (ports : Ports) (pats : Lis
   tied : (i k : ℕ) (name : List ℕ) → slice_get ports.inputs i ≡ Some name → slice_get output_names k ≡ Some name → slice_get roots k ≡ slice_get is.graph.leaves i
   tied i k name at e =
       let (p, bt, same) = slice_get_map_back (λ p. p.name) ports.outputs k name e in
-      let lt = slice_get_in ports.inputs i name at in
+      let lt = slice_get_within ports.inputs i name at in
       let count = named.one_each in
       let inside : i < net.inputs = omega arith in
       let place = named.tied i k p bt (at ∙ ap Some (sym same)) in

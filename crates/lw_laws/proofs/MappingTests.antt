@@ -2,6 +2,7 @@
 use Rattle.std.proofs.Common.{ℕ, zero, suc, ◌+◌, ◌<◌, ◌≤◌, ◌^◌, ◌≡◌, Bool, true, ◌&&◌, ltb, List, [], min, ap, inl, inr, ◌/◌, length, map, Option, Some, None, slice_get, sym, subst, arith}
 use Rattle.std.specs.List.{list_all}
 use Rattle.std.proofs.lemmas.Bool.Decides.{nat_tests}
+use Rattle.std.proofs.lemmas.Bool.{and_parts}
 use native.Mathlib.Decide.{ℕ_discrete}
 use Rattle.lw_laws.specs.Modes.{Mode}
 use Rattle.lw_laws.specs.Trees.{Tree, leaf, const_one, const_zero, inv, nand, HasLeaf}
@@ -27,7 +28,7 @@ use Rattle.lw_laws.proofs.LabelLaws.{along_heights}
 use Rattle.lw_laws.proofs.Delays.{delay_cost_is, cost_of-time}
 use Rattle.lw_laws.proofs.Mapping.{sop_occurs}
 use Rattle.lw_laws.proofs.PatternLaws.{has_leaf, leaf_is}
-use Rattle.lw_laws.proofs.Facts.{and_true, all_true}
+use Rattle.lw_laws.proofs.Facts.{all_true}
 use Rattle.lw_laws.proofs.EncodingTests.{Two, PassesTests, tests_encode}
 use Rattle.lw_laws.proofs.PotentialTests.{PassesLabelTests, tests_bound}
 
@@ -51,12 +52,12 @@ below_true n (leaf i) k e h = let lt = by_test i n e in omega arith
 below_true n const_one k e h = absurd h
 below_true n const_zero k e h = absurd h
 below_true n (inv t) k e h = below_true n t k e h
-below_true n (nand t u) k e (inl h) = below_true n t k (and_true (leaves_below n t) (leaves_below n u) e).0 h
-below_true n (nand t u) k e (inr h) = below_true n u k (and_true (leaves_below n t) (leaves_below n u) e).1 h
+below_true n (nand t u) k e (inl h) = below_true n t k (and_parts (leaves_below n t) (leaves_below n u) e).0 h
+below_true n (nand t u) k e (inr h) = below_true n u k (and_parts (leaves_below n t) (leaves_below n u) e).1 h
 
 has_true : (n : ℕ) (t : Tree) (k : ℕ) → has_leaves n t ≡ true → k < n → HasLeaf t k
 has_true zero t k e lt = absurd (omega arith)
-has_true (suc n) t k e lt = by_place (ℕ_discrete k n) (and_true (has_leaf n t) (has_leaves n t) e) (λ r l. has_true n t k r l)
+has_true (suc n) t k e lt = by_place (ℕ_discrete k n) (and_parts (has_leaf n t) (has_leaves n t) e) (λ r l. has_true n t k r l)
   where
     by_place : Dec (k ≡ n) → (has_leaf n t ≡ true) × (has_leaves n t ≡ true) → (has_leaves n t ≡ true → k < n → HasLeaf t k) → HasLeaf t k
     by_place (yes s) p ih = subst (HasLeaf t) (sym s) ((leaf_is n t).0 p.0)
@@ -73,7 +74,7 @@ pub fitting_patterns : (pin_counts : List ℕ) (pats : List Pattern) → pattern
 fitting_patterns pin_counts pats e p listed = record {
   pins = λ n k has.
       let here = subst (λ o. fits_pins p.tree o ≡ true) has (all_true (λ q. fits_pins q.tree (slice_get pin_counts q.cell)) pats p e listed) in
-      let (a, b) = and_true (leaves_below n p.tree) (has_leaves n p.tree) here in
+      let (a, b) = and_parts (leaves_below n p.tree) (has_leaves n p.tree) here in
       (λ h. below_true n p.tree k a h, λ lt. has_true n p.tree k b lt);
 }
 

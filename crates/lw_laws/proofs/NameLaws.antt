@@ -2,8 +2,9 @@
 use Rattle.std.proofs.Common.{ℕ, zero, suc, ◌+◌, ◌<◌, ◌≤◌, ◌==◌, ◌^◌, ◌≡◌, Bool, true, false, not, ◌||◌, if◌then◌else◌, cond, Option, Some, None, List, [], ◌∷◌, ◌++◌, length, filter, slice_get, refl, ap, sym, ◌∙◌, subst, arith}
 use Rattle.std.specs.List.{AllByRecursion, list_any}
 use Rattle.std.proofs.lemmas.Fmt.{decimal_injective}
+use Rattle.std.proofs.lemmas.Bool.{eqb-true}
 use Rattle.lw_laws.specs.Names.{same_name, is_name_among, numbered_name, numbered_names, free_names, output_name, gate_names, net_names, AreDifferent, AreNameable}
-use Rattle.lw_laws.proofs.Facts.{same_name_eq, same_name_refl, eq_true}
+use Rattle.lw_laws.proofs.Facts.{same_name_eq, same_name_refl}
 
 abbrev Name : Type 0
 Name = List ℕ
@@ -197,7 +198,7 @@ named_at (n ∷ outputs) [] c name e = cc
 named_at (n ∷ outputs) (r ∷ roots) c name e = by_test (r == c) refl e (named_at outputs roots c name)
   where
     by_test : (t : Bool) → (r == c) ≡ t → (if t then Some n else output_name outputs roots c) ≡ Some name → (output_name outputs roots c ≡ Some name → (k : ℕ) × (slice_get outputs k ≡ Some name) × (slice_get roots k ≡ Some c)) → (k : ℕ) × (slice_get (n ∷ outputs) k ≡ Some name) × (slice_get (r ∷ roots) k ≡ Some c)
-    by_test true s e ih = (0, e, ap Some (eq_true r c s))
+    by_test true s e ih = (0, e, ap Some (eqb-true r c s))
     by_test false s e ih = let (k, a, b) = ih e in (suc k, a, b)
 
 -- the name differs from those of the outputs at the classes

@@ -1,6 +1,8 @@
 -- The netlist that a network is mapped to is a mapping of it.
 use Rattle.std.proofs.Common.{ℕ, ◌+◌, ◌/◌, ◌<◌, ◌≤◌, ◌^◌, ◌≡◌, ◌↔◌, List, [], ◌∷◌, ◌++◌, length, map, Option, Some, None, slice_get, slice_index_or, refl, ap, ◌∙◌, subst, arith}
 use Rattle.std.specs.List.{AllZip, AllByRecursion}
+use Rattle.std.proofs.lemmas.Option.{slice_get_within}
+use Rattle.lw_facts.proofs.Lists.{index_at}
 use Rattle.lw_laws.specs.Modes.{Mode}
 use Rattle.lw_laws.specs.Networks.{Network, IsInOrder}
 use Rattle.lw_laws.specs.Trees.{Tree}
@@ -37,7 +39,6 @@ use Rattle.lw_laws.proofs.GraphEncodes.{graph_encodes}
 use Rattle.lw_laws.proofs.InputLabels.{input_label}
 use Rattle.lw_laws.proofs.Headline.{has_plain_trees}
 use Rattle.lw_laws.proofs.Delays.{cost_of-time}
-use Rattle.lw_laws.proofs.Lists.{slice_get_in}
 
 -- the least costs over covers are those over matches
 least_match : (g : Graph) (pats : List Pattern) (cost : Cost) → PairsInOneClass g → ArePatterns cost.pin_counts pats → (c : ℕ) (o : Option ℕ) → IsLeastCover g pats cost c o → IsLeastCost (choices_of g cost.pin_counts pats) cost c o
@@ -87,11 +88,6 @@ both P R [] (q ∷ qs) a b = absurd b
 both P R (p ∷ ps) [] a b = absurd b
 both P R (p ∷ ps) (q ∷ qs) (h, a) (r, b) = ((h, r), both P R ps qs a b)
 
-index_at : (xs : List ℕ) (k c : ℕ) → slice_get xs k ≡ Some c → slice_index_or xs k 0 ≡ c
-index_at [] k c e = cc
-index_at (x ∷ xs) ℕ.zero c e = cc
-index_at (x ∷ xs) (ℕ.suc k) c e = index_at xs k c e
-
 length_both : (xs ys : List ℕ) → length (xs ++ ys) ≡ length xs + length ys
 length_both [] ys = omega arith
 length_both (x ∷ xs) ys = let ih = length_both xs ys in omega arith
@@ -131,7 +127,7 @@ netlist_maps mode width net ports pats timing cap truth n names mapped wide orde
         let a = is.extracted.inputs in
         let b = is.extracted.one_each in
         let c = length_both is.graph.leaves is.gates in
-        let d = slice_get_in (net_classes is.graph is.gates) k (root_class width net is.graph s) at in
+        let d = slice_get_within (net_classes is.graph is.gates) k (root_class width net is.graph s) at in
         record {
           of_network = lt;
           of_netlist = omega arith;

@@ -2,6 +2,7 @@
 use Rattle.std.proofs.Common.{ℕ, suc, ◌<◌, ◌≤◌, ◌≡◌, ◌⊎◌, List, [], ◌∷◌, length, map, Option, Some, None, slice_get, refl, ap, ap₂, sym, ◌∙◌, subst, subst₂, arith}
 use mathlib.Core.Path.{fun_ext}
 use Rattle.std.specs.List.{AllZip, AllByRecursion}
+use Rattle.std.proofs.lemmas.Option.{slice_get_within}
 use Rattle.lw_laws.specs.Modes.{Mode}
 use Rattle.lw_laws.specs.Networks.{Network}
 use Rattle.lw_laws.specs.Decompositions.{Listing, listing_of}
@@ -25,7 +26,7 @@ use Rattle.lw_laws.proofs.ClassLaws.{graphs_once}
 use Rattle.lw_laws.proofs.InputClasses.{distinct_leaves}
 use Rattle.lw_laws.proofs.ExtractLaws.{gate_classes_once, extracted_once, net_once}
 use Rattle.lw_laws.proofs.Listed.{occurring_is_listing}
-use Rattle.lw_laws.proofs.Lists.{slice_get_in, slice_get_some}
+use Rattle.lw_laws.proofs.Lists.{slice_get_some}
 
 -- the least time of a form is one
 pub least_time_once : (mode : Mode) (o : Listing) (pats : List Pattern) (timing : Timing) (f : Form) (d e : ℕ) → HasLeastTime mode o pats timing f d → HasLeastTime mode o pats timing f e → d ≡ e
@@ -88,7 +89,7 @@ module _ (g : Graph) (cost : Cost) (pats : List Pattern) (labels : Labels) where
       -- each class with a gate has a label
       gate_label : IsExtracted g cost pats labels heights gates n → (j c : ℕ) → slice_get gates j ≡ Some c → (l : ℕ) × (labels c ≡ Some l)
       gate_label is j c e =
-          let lt = slice_get_in gates j c e in
+          let lt = slice_get_within gates j c e in
           let count = is.one_each in
           let (gt, f) = slice_get_some n.gates j (omega arith) in
           let (d, m, p, at, chosen, cell, nets) = is.chosen j gt f in

@@ -1,6 +1,7 @@
 -- The constructors make normal forms.
 use Rattle.std.proofs.Common.{ℕ, zero, suc, ◌+◌, ◌*◌, ◌<◌, ◌≤◌, ◌≡◌, Bool, true, false, not, cond, leb, List, [], ◌∷◌, ◌++◌, map, filter, length, take, drop, Option, Some, None, slice_index_or, refl, ap, ap₂, sym, ◌∙◌, subst, arith, leb-true, leb-false, length-drop, length-take-le}
 use Rattle.std.specs.List.{AllByRecursion}
+use Rattle.std.proofs.lemmas.Bool.{or_from}
 use Rattle.lw_laws.specs.Networks.{Node, Network}
 use Rattle.lw_laws.specs.Forms.{Form, FormList, items, form_list, same_form, is_among, complement, without, kept, has_clash, runs, runs_within, joined, joined_many, conjunction_within, conjunction, disjunction}
 use Rattle.lw_laws.specs.Forms.Form.{var_form, true_form, not_form, and_form}
@@ -8,7 +9,7 @@ use Rattle.lw_laws.specs.Forms.FormList.{no_forms, more_forms}
 use Rattle.lw_laws.specs.Signals.{Literal, Signal, signed, literals, sum_of_products, has, cleared, shared_literal, literal_form, factored_by, factored_within, factored, literal_count, sop_at, signal_of_node, signals_after, input_signals, signals_of}
 use Rattle.lw_laws.specs.Listings.IsSub.{sub_none, sub_with, sub_without}
 use Rattle.lw_laws.specs.Listings.{IsSub, AreDistinct, AreOperands, sign_of}
-use Rattle.lw_laws.proofs.Sublists.{IsSub_all, IsSub_length, distinct_sub, or_falses}
+use Rattle.lw_laws.proofs.Sublists.{IsSub_all, IsSub_length, distinct_sub}
 use Rattle.lw_laws.proofs.Equality.{items-form_list}
 
 -- a complement is of a base form, an And has operands that it may have, and an input is below a number
@@ -54,7 +55,7 @@ not_among_without f [] = refl
 not_among_without f (h ∷ hs) = by_test (same_form f h) refl (not_among_without f hs) where
   by_test : (t : Bool) → same_form f h ≡ t → is_among f (without f hs) ≡ false → is_among f (cond t (without f hs) (h ∷ without f hs)) ≡ false
   by_test true s ih = ih
-  by_test false s ih = or_falses (same_form f h) (is_among f (without f hs)) s ih
+  by_test false s ih = or_from (same_form f h) (is_among f (without f hs)) s ih
 
 kept_are_distinct : (fs : List Form) → AreDistinct (kept fs)
 kept_are_distinct [] = tt

@@ -1,6 +1,7 @@
 -- The values of forms by their numbers.
 use Rattle.std.proofs.Common.{ℕ, zero, suc, ◌*◌, ◌-◌, ◌/◌, ◌%◌, ◌<◌, ◌≤◌, ◌≡◌, ◌==◌, if◌then◌else◌, Bool, true, false, not, ◌&&◌, List, [], ◌∷◌, map, Some, slice_get, slice_index_or, refl, ap, ap₂, sym, ◌∙◌, arith, add-zero}
 use Rattle.std.specs.List.{list_all, AllByRecursion}
+use Rattle.std.proofs.Math.Bool.{not-not}
 use Rattle.lw_laws.specs.Flip.{flip}
 use Rattle.lw_laws.specs.Trees.{Tree, tree_value}
 use Rattle.lw_laws.specs.NumberedForms.{family_of}
@@ -25,10 +26,6 @@ index_at [] i x d e = cc
 index_at (y ∷ xs) zero x d e = cc
 index_at (y ∷ xs) (suc i) x d e = index_at xs i x d e
 
-not_twice : (a : Bool) → not (not a) ≡ a
-not_twice true = refl
-not_twice false = refl
-
 complement_self : (f : Form) → sign_of f ≡ 0 → complement f ≡ not_form f
 complement_self (var_form i) z = refl
 complement_self true_form z = refl
@@ -40,7 +37,7 @@ by_bit f r = if r == 0 then f else complement f
 
 bit_turned : (x : ℕ → Bool) (f : Form) (r : ℕ) → r < 2 → form_value x (by_bit f (1 - r)) ≡ not (form_value x (by_bit f r))
 bit_turned x f zero lt = complement_value x f
-bit_turned x f (suc zero) lt = sym (not_twice (form_value x f)) ∙ ap not (sym (complement_value x f))
+bit_turned x f (suc zero) lt = sym (not-not (form_value x f)) ∙ ap not (sym (complement_value x f))
 bit_turned x f (suc (suc r)) lt = absurd (omega arith)
 
 module _ (inputs : ℕ) (o : Listing) (is : IsListing o) (x : ℕ → Bool) where

@@ -1,6 +1,7 @@
 -- Listed forms are a family.
 use Rattle.std.proofs.Common.{ℕ, ◌+◌, ◌*◌, ◌/◌, ◌≡◌, ◌⊎◌, inl, inr, List, [], ◌∷◌, Some, slice_get, refl, arith}
 use Rattle.std.specs.List.{AllByRecursion}
+use Rattle.std.proofs.lemmas.Option.{slice_get_within}
 use Rattle.lw_laws.specs.Flip.{flip}
 use Rattle.lw_laws.specs.Families.{Family}
 use Rattle.lw_laws.specs.NumberedForms.{Base, NumberedForms, IsCut, IsCovering, IsPart, NumberOccurs, IsCutOf, IsCoveringOf, IsTwice, IsSplitOf, family_of, IsBefore, AreNumberedForms}
@@ -12,7 +13,7 @@ use Rattle.lw_laws.specs.Encodings.{IsGrounded}
 use Rattle.lw_laws.specs.Encodings.IsGrounded.{input, top, split}
 use Rattle.lw_laws.specs.Modes.{Mode}
 use Rattle.lw_laws.proofs.Flips.{half-flip, flip_even, flip_odd}
-use Rattle.lw_laws.proofs.Lists.{slice_get_some, slice_get_in}
+use Rattle.lw_laws.proofs.Lists.{slice_get_some}
 use Rattle.lw_laws.proofs.Words.{IsFamily}
 
 -- the cuts with all operands on one side
@@ -47,8 +48,8 @@ module _ (mode : Mode) (forms : NumberedForms) (are : AreNumberedForms forms) wh
   -- the And of a part of a listed And occurs
   part_occurs : (fs ls rs : List ℕ) (b x : ℕ) → slice_get forms.bases b ≡ Some (base_and fs) → AllByRecursion (IsBefore b) ls → IsPart forms ls x → NumberOccurs forms x
   part_occurs fs [] rs b x e before p = absurd p
-  part_occurs fs (f ∷ []) rs b x e (before, rest) p = let in' = slice_get_in forms.bases b (base_and fs) e in omega arith
-  part_occurs fs (f ∷ h ∷ ls) rs b x e before (k, g, s) = let in' = slice_get_in forms.bases k (base_and (f ∷ h ∷ ls)) g in omega arith
+  part_occurs fs (f ∷ []) rs b x e (before, rest) p = let in' = slice_get_within forms.bases b (base_and fs) e in omega arith
+  part_occurs fs (f ∷ h ∷ ls) rs b x e before (k, g, s) = let in' = slice_get_within forms.bases k (base_and (f ∷ h ∷ ls)) g in omega arith
 
   Occurs-flip : (f : ℕ) → NumberOccurs forms f → NumberOccurs forms (flip f)
   Occurs-flip f o = let e = half-flip f in omega arith
@@ -56,13 +57,13 @@ module _ (mode : Mode) (forms : NumberedForms) (are : AreNumberedForms forms) wh
   cut_occurs : (f x y : ℕ) → IsCutOf forms f x y → NumberOccurs forms f × NumberOccurs forms x × NumberOccurs forms y
   cut_occurs f x y (b, fs, ls, rs, e, s, c, p, q) =
       let all = IsCut_all (IsBefore b) c (are.ands b fs e).operands in
-      let in' = slice_get_in forms.bases b (base_and fs) e in
+      let in' = slice_get_within forms.bases b (base_and fs) e in
       (omega arith, part_occurs fs ls rs b x e all.0 p, part_occurs fs rs ls b y e all.1 q)
 
   covering_occurs : (f x y : ℕ) → IsCoveringOf forms f x y → NumberOccurs forms f × NumberOccurs forms x × NumberOccurs forms y
   covering_occurs f x y (b, fs, ls, rs, e, s, c, ne, p, q) =
       let all = IsCovering_all (IsBefore b) c (are.ands b fs e).operands in
-      let in' = slice_get_in forms.bases b (base_and fs) e in
+      let in' = slice_get_within forms.bases b (base_and fs) e in
       (omega arith, part_occurs fs ls rs b x e all.0 p, part_occurs fs rs ls b y e all.1 q)
 
   twice_occurs : (f x y : ℕ) → IsTwice forms f x y → NumberOccurs forms f × NumberOccurs forms x × NumberOccurs forms y
@@ -104,8 +105,8 @@ module _ (mode : Mode) (forms : NumberedForms) (are : AreNumberedForms forms) wh
   pub forms_are_family : IsFamily F (λ f. f / 2)
   forms_are_family = record {
     flips = Occurs-flip;
-    inputs = λ f i (b, e, s). let in' = slice_get_in forms.bases b (base_input i) e in omega arith;
-    tops = λ f (b, e, s). let in' = slice_get_in forms.bases b base_true e in omega arith;
+    inputs = λ f i (b, e, s). let in' = slice_get_within forms.bases b (base_input i) e in omega arith;
+    tops = λ f (b, e, s). let in' = slice_get_within forms.bases b base_true e in omega arith;
     splits = λ f x y h. splits_occur mode f x y h;
     links = λ f h l. are.signals f h l;
     rank_flip = half-flip;

@@ -1,6 +1,7 @@
 -- The values of listed forms fit the facts of both modes.
 use Rattle.std.proofs.Common.{ℕ, ◌+◌, ◌*◌, ◌≡◌, inl, inr, Bool, true, false, not, ◌&&◌, List, [], ◌∷◌, Some, slice_get, refl, ap, ap₂, sym, ◌∙◌}
 use Rattle.std.specs.List.{list_all}
+use Rattle.std.proofs.Math.Bool.{and-true}
 use Rattle.lw_laws.specs.Flip.{flip}
 use Rattle.lw_laws.specs.NumberedForms.{NumberedForms, IsCut, IsCovering, IsPart, IsCutOf, IsCoveringOf, IsTwice, IsSplitOf, family_of}
 use Rattle.lw_laws.specs.NumberedForms.Base.{base_true, base_input, base_and}
@@ -27,10 +28,6 @@ and_both : (a b c : Bool) → (a && (b && c)) ≡ ((a && b) && (a && c))
 and_both true b c = refl
 and_both false b c = refl
 
-and_true : (a : Bool) → (a && true) ≡ a
-and_true true = refl
-and_true false = refl
-
 and_self : (a : Bool) → (a && a) ≡ a
 and_self true = refl
 and_self false = refl
@@ -55,7 +52,7 @@ module _ (forms : NumberedForms) (x value : ℕ → Bool) (are : AreNumberedValu
   -- the And of a part has the value of its operands together
   part_value : (ls : List ℕ) (f : ℕ) → IsPart forms ls f → value f ≡ list_all value ls
   part_value [] f p = absurd p
-  part_value (a ∷ []) f p = ap value p ∙ sym (and_true (value a))
+  part_value (a ∷ []) f p = ap value p ∙ sym (and-true (value a))
   part_value (a ∷ h ∷ ls) f (b, e, s) = ap value s ∙ are.bases b (base_and (a ∷ h ∷ ls)) e
 
   -- the complement of a listed And

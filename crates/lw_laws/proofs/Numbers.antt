@@ -1,6 +1,7 @@
 -- Numbers of occurring forms.
 use Rattle.std.proofs.Common.{ℕ, ◌++◌, zero, suc, ◌+◌, ◌*◌, ◌-◌, ◌≤◌, ◌≡◌, Bool, true, false, cond, List, [], ◌∷◌, map, Some, slice_get, refl, ap, ap₂, sym, ◌∙◌, subst, arith}
 use Rattle.std.specs.List.{AllByRecursion}
+use Rattle.std.proofs.lemmas.Option.{same_Some}
 use Rattle.lw_laws.specs.Flip.{flip}
 use Rattle.lw_laws.specs.Forms.{Form, same_form, complement}
 use Rattle.lw_laws.specs.Forms.Form.{var_form, true_form, not_form, and_form}
@@ -41,9 +42,6 @@ place_grown f (h ∷ hs) more b e = by_test (same_form f h) refl b e (λ c k. pl
 
 pub number_grown : (f : Form) (bases more : List Form) (b : ℕ) → IsListedAt bases b f → number (bases ++ more) f ≡ number bases f
 number_grown f bases more b e = ap (λ p. 2 * p + sign_of f) (place_grown (base_form f) bases more b e)
-
-pub Some_injective : {X : Type 0} (x y : X) → Some x ≡ Some y → x ≡ y
-Some_injective x y e = cc
 
 pub number_is : (bases : List Form) (f : Form) (b : ℕ) → IsListedAt bases b f → IsNumber bases f (number bases f)
 number_is bases f b e = (place (base_form f) bases, place_holds (base_form f) bases b e, refl)
@@ -119,7 +117,7 @@ module _ (o : Listing) (is : IsListing o) where
       let sh = sign_two h in
       let same : a ≡ b = omega arith in
       let signs : sign_of f ≡ sign_of h = omega arith in
-      let bases : base_form f ≡ base_form h = Some_injective (base_form f) (base_form h) (sym d ∙ (ap (slice_get o.bases) same ∙ e)) in
+      let bases : base_form f ≡ base_form h = same_Some (base_form f) (base_form h) (sym d ∙ (ap (slice_get o.bases) same ∙ e)) in
       signs_decide f h bases signs (base_sign f a d)
 
   pub occurs_complement : (f : Form) → Occurs o f → Occurs o (complement f)

@@ -2,6 +2,7 @@
 use Rattle.std.proofs.Common.{ℕ, suc, ◌+◌, ◌==◌, ◌≡◌, ◌⊎◌, ◌↔◌, inl, inr, Bool, true, false, not, ◌&&◌, ◌||◌, List, [], ◌∷◌, map, Contains, Some, slice_get, slice_index_or, refl, ap, ap₂, sym, ◌∙◌, arith}
 use Rattle.std.specs.List.{AllByRecursion}
 use Rattle.std.proofs.lemmas.Bool.Decides.{nat_tests}
+use Rattle.std.proofs.Math.Bool.{or_assoc, or-false, not-not, and-true}
 use Rattle.lw_laws.specs.Trees.{Tree, leaf, const_one, const_zero, inv, nand, tree_value, HasLeaf}
 use Rattle.lw_laws.specs.Covers.{Pattern, IsPattern, ArePatterns}
 use Rattle.lw_laws.specs.Netlists.{CellTruth, HasCellTruth, HaveCellTruths}
@@ -14,29 +15,13 @@ use Rattle.lw_laws.specs.Cells.{AreCells}
 use Rattle.lw_laws.proofs.PatternTruth.{over, expr_gives, exprs_give, trees_have}
 use Rattle.lw_laws.proofs.Lists.{all_contains, contains_all, all_append, all_map}
 
-not_twice : (a : Bool) → not (not a) ≡ a
-not_twice true = refl
-not_twice false = refl
-
 or_by_and : (a b : Bool) → not (not a && not b) ≡ (a || b)
 or_by_and true b = refl
-or_by_and false b = not_twice b
+or_by_and false b = not-not b
 
 and_assoc : (a b c : Bool) → ((a && b) && c) ≡ (a && (b && c))
 and_assoc true b c = refl
 and_assoc false b c = refl
-
-or_assoc : (a b c : Bool) → ((a || b) || c) ≡ (a || (b || c))
-or_assoc true b c = refl
-or_assoc false b c = refl
-
-or_false : (a : Bool) → (a || false) ≡ a
-or_false true = refl
-or_false false = refl
-
-and_true : (a : Bool) → (a && true) ≡ a
-and_true true = refl
-and_true false = refl
 
 -- truth values
 abbrev by_value : Operator → Bool → Bool → Bool
@@ -52,11 +37,11 @@ module _ (y : ℕ → Bool) where
   value_turns (leaf k) = refl
   value_turns const_one = refl
   value_turns const_zero = refl
-  value_turns (inv t) = sym (not_twice (tree_value y t))
+  value_turns (inv t) = sym (not-not (tree_value y t))
   value_turns (nand t u) = refl
 
   value_joins : (op : Operator) (t u : Tree) → tree_value y (tree_by op t u) ≡ by_value op (tree_value y t) (tree_value y u)
-  value_joins and_op t u = not_twice (tree_value y t && tree_value y u)
+  value_joins and_op t u = not-not (tree_value y t && tree_value y u)
   value_joins or_op t u = ap₂ (λ a b. not (a && b)) (value_turns t) (value_turns u) ∙ or_by_and (tree_value y t) (tree_value y u)
 
   abbrev gives : Expr → Bool
@@ -80,11 +65,11 @@ module _ (y : ℕ → Bool) where
     gives_value (expr_or (more_exprs e es)) = ors_value (gives e) es ∙ ap (λ b. b || some_true y es) (gives_value e)
 
     ands_value : (v : Bool) (es : Exprs) → fold and_op v (give es) ≡ (v && all_true y es)
-    ands_value v no_exprs = sym (and_true v)
+    ands_value v no_exprs = sym (and-true v)
     ands_value v (more_exprs e es) = ands_value (v && gives e) es ∙ (and_assoc v (gives e) (all_true y es) ∙ ap (λ b. v && (b && all_true y es)) (gives_value e))
 
     ors_value : (v : Bool) (es : Exprs) → fold or_op v (give es) ≡ (v || some_true y es)
-    ors_value v no_exprs = sym (or_false v)
+    ors_value v no_exprs = sym (or-false v)
     ors_value v (more_exprs e es) = ors_value (v || gives e) es ∙ (or_assoc v (gives e) (some_true y es) ∙ ap (λ b. v || (b || some_true y es)) (gives_value e))
 
   -- each tree of an expression has its value

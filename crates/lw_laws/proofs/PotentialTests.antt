@@ -2,6 +2,8 @@
 use Rattle.std.proofs.Common.{ℕ, zero, suc, ◌+◌, ◌*◌, ◌<◌, ◌≤◌, ◌==◌, ◌≡◌, ◌⊎◌, inl, inr, Bool, true, false, ◌&&◌, cond, leb, List, [], ◌∷◌, ◌++◌, length, map, replicate, Contains, Option, Some, None, slice_get, slice_index_or, refl, ap₂, sym, subst, arith}
 use Rattle.std.specs.List.{AllZip, list_all}
 use Rattle.std.proofs.lemmas.Bool.Decides.{nat_tests}
+use Rattle.std.proofs.lemmas.Bool.{and_parts}
+use Rattle.lw_facts.proofs.Lists.{contains_map}
 use native.Mathlib.Decide.{ℕ_discrete, dec_lt}
 use Rattle.lw_laws.specs.Flip.{flip}
 use Rattle.lw_laws.specs.Trees.{Tree, leaf, const_one, const_zero, inv, nand}
@@ -12,8 +14,8 @@ use Rattle.lw_laws.specs.Choices.{HaveLabels, HasLabelAtMost}
 use Rattle.lw_laws.specs.Rounds.{labels_in}
 use Rattle.lw_laws.specs.Mapped.{IsPotentialOf}
 use Rattle.lw_laws.proofs.Flips.{half-flip}
-use Rattle.lw_laws.proofs.Facts.{eq_same, and_true, all_true}
-use Rattle.lw_laws.proofs.Lists.{in_left, in_right, in_map}
+use Rattle.lw_laws.proofs.Facts.{eq_same, all_true}
+use Rattle.lw_laws.proofs.Lists.{in_left, in_right}
 
 -- a binding in part: a class for some of the pins
 abbrev Partial : Type 0
@@ -79,7 +81,7 @@ bound_listed zero c (Some d ∷ w) (p ∷ ps) (inr h, f) e = let same : d ≡ c 
     by_test false s = cc
 bound_listed (suc k) c (o ∷ w) (p ∷ ps) (a, f) e =
     let (v, at, fits) = bound_listed k c w ps f e in
-    (o ∷ v, in_map (λ u. o ∷ u) (bound_at k c w) v at, (a, fits))
+    (o ∷ v, contains_map (λ u. o ∷ u) (bound_at k c w) v at, (a, fits))
 
 listed_if : (t : Bool) (w : Partial) → t ≡ true → Contains (cond t (w ∷ []) []) w
 listed_if true w e = (0, omega arith, refl)
@@ -175,7 +177,7 @@ module _ (labels : List (Option ℕ)) where
 
       class_passes : (n c : ℕ) → classes_pass n ≡ true → c < n → list_all (pattern_passes c) pats ≡ true
       class_passes zero c e lt = absurd (omega arith)
-      class_passes (suc n) c e lt = by_place (ℕ_discrete c n) (and_true (list_all (pattern_passes n) pats) (classes_pass n) e) (λ r l. class_passes n c r l)
+      class_passes (suc n) c e lt = by_place (ℕ_discrete c n) (and_parts (list_all (pattern_passes n) pats) (classes_pass n) e) (λ r l. class_passes n c r l)
         where
           by_place : Dec (c ≡ n) → (list_all (pattern_passes n) pats ≡ true) × (classes_pass n ≡ true) → (classes_pass n ≡ true → c < n → list_all (pattern_passes c) pats ≡ true) → list_all (pattern_passes c) pats ≡ true
           by_place (yes s) p ih = subst (λ k. list_all (pattern_passes k) pats ≡ true) (sym s) p.0
@@ -195,10 +197,10 @@ module _ (labels : List (Option ℕ)) where
     leaf_bounded first (d ∷ cs) e zero c at =
         let s : d ≡ c = cc in
         let z : first ≡ first + 0 = omega arith in
-        subst (λ k. is_at_most (known c) (cost.leaf k) ≡ true) z (subst (λ k. is_at_most (known k) (cost.leaf first) ≡ true) s (and_true (is_at_most (known d) (cost.leaf first)) (leaves_bounded (suc first) cs) e).0)
+        subst (λ k. is_at_most (known c) (cost.leaf k) ≡ true) z (subst (λ k. is_at_most (known k) (cost.leaf first) ≡ true) s (and_parts (is_at_most (known d) (cost.leaf first)) (leaves_bounded (suc first) cs) e).0)
     leaf_bounded first (d ∷ cs) e (suc i) c at =
         let s : suc first + i ≡ first + suc i = omega arith in
-        subst (λ k. is_at_most (known c) (cost.leaf k) ≡ true) s (leaf_bounded (suc first) cs (and_true (is_at_most (known d) (cost.leaf first)) (leaves_bounded (suc first) cs) e).1 i c at)
+        subst (λ k. is_at_most (known c) (cost.leaf k) ≡ true) s (leaf_bounded (suc first) cs (and_parts (is_at_most (known d) (cost.leaf first)) (leaves_bounded (suc first) cs) e).1 i c at)
 
     pub record PassesLabelTests : Type 0 where
       pub even : ℕ

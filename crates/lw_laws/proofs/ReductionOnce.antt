@@ -1,11 +1,11 @@
 -- What the reduction of a draft gives is one graph.
 use Rattle.std.proofs.Common.{ℕ, ◌+◌, ◌*◌, ◌/◌, ◌%◌, ◌<◌, ◌≡◌, ◌==◌, ◌↔◌, if◌then◌else◌, slice_index, slice_index_or, [], length, Some, slice_get, ap, sym, ◌∙◌, subst₂, inl, arith}
+use Rattle.std.proofs.lemmas.Option.{slice_get_within}
 use Rattle.lw_laws.specs.Flip.{flip}
 use Rattle.lw_laws.specs.Graphs.{Graph, class_of, HoldsPair, pair_count}
 use Rattle.lw_laws.specs.Drafts.{Draft, IsReduced}
 use Rattle.lw_laws.proofs.Flips.{half-flip, class_of-flip}
 use Rattle.lw_laws.proofs.ClassLaws.{base_class, numbers_same, rows_once, smaller_first, held_in, lists_once, leaves_once, graph_same}
-use Rattle.lw_laws.proofs.Lists.{slice_get_in}
 
 module _ (d : Draft) (g h : Graph) (one : IsReduced d g) (other : IsReduced d h) where
   same_classes : (f k : ℕ) → f / 2 < length d.samples → k / 2 < length d.samples → (class_of g f ≡ class_of g k) ↔ (class_of h f ≡ class_of h k)
@@ -66,7 +66,7 @@ reduction_once d g h one other =
   where
     leaf : (i c : ℕ) → slice_get g.leaves i ≡ Some c → slice_get h.leaves i ≡ Some c
     leaf i c e =
-        let lt = slice_get_in g.leaves i c e in
+        let lt = slice_get_within g.leaves i c e in
         let n = one.written.leaf_count in
         let p = one.leaves i (omega arith) in
         let q = other.leaves i (omega arith) in

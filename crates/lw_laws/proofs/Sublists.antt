@@ -1,6 +1,7 @@
 -- Parts of lists of forms.
 use Rattle.std.proofs.Common.{ℕ, ◌≤◌, ◌≡◌, Bool, true, false, ◌||◌, List, [], ◌∷◌, length, refl, ap, ◌∙◌, arith, le-leb}
 use Rattle.std.specs.List.{list_any, AllByRecursion}
+use Rattle.std.proofs.lemmas.Bool.{or_parts, or_from}
 use Rattle.lw_laws.specs.Forms.{Form, and_of, same_form, is_among, complement, without, kept, has_clash, joined, conjunction_within, conjunction}
 use Rattle.lw_laws.specs.Forms.Form.{true_form, not_form}
 use Rattle.lw_laws.specs.Decompositions.{AreParts, AreOverlapping}
@@ -46,21 +47,13 @@ IsSub_whole sub_none le = refl
 IsSub_whole (sub_with {f = f} s) le = ap (λ xs. f ∷ xs) (IsSub_whole s (omega arith))
 IsSub_whole (sub_without s) le = let l = IsSub_length s in absurd (omega arith)
 
-pub or_false : (a b : Bool) → (a || b) ≡ false → (a ≡ false) × (b ≡ false)
-or_false true b e = cc
-or_false false b e = (refl, e)
-
-pub or_falses : (a b : Bool) → a ≡ false → b ≡ false → (a || b) ≡ false
-or_falses true b e k = cc
-or_falses false b e k = k
-
 -- what no form of a list has, no form of a sub-list has
 any_sub : (test : Form → Bool) {hs fs : List Form} → IsSub hs fs → list_any test fs ≡ false → list_any test hs ≡ false
 any_sub test sub_none e = refl
 any_sub test (sub_with {f = f} {hs = hs} {fs = fs} s) e =
-    let p = or_false (test f) (list_any test fs) e in or_falses (test f) (list_any test hs) p.0 (any_sub test s p.1)
+    let p = or_parts (test f) (list_any test fs) e in or_from (test f) (list_any test hs) p.0 (any_sub test s p.1)
 any_sub test (sub_without {f = f} {fs = fs} s) e =
-    let p = or_false (test f) (list_any test fs) e in any_sub test s p.1
+    let p = or_parts (test f) (list_any test fs) e in any_sub test s p.1
 
 pub distinct_sub : {hs fs : List Form} → IsSub hs fs → AreDistinct fs → AreDistinct hs
 distinct_sub sub_none d = tt
@@ -71,17 +64,17 @@ distinct_sub (sub_without s) (t, o, d) = distinct_sub s d
 any_weaker : (test other : Form → Bool) → ((f : Form) → test f ≡ false → other f ≡ false) → (fs : List Form) → list_any test fs ≡ false → list_any other fs ≡ false
 any_weaker test other w [] e = refl
 any_weaker test other w (f ∷ fs) e =
-    let p = or_false (test f) (list_any test fs) e in or_falses (other f) (list_any other fs) (w f p.0) (any_weaker test other w fs p.1)
+    let p = or_parts (test f) (list_any test fs) e in or_from (other f) (list_any other fs) (w f p.0) (any_weaker test other w fs p.1)
 
 pub clash_sub : {hs fs : List Form} → IsSub hs fs → has_clash fs ≡ false → has_clash hs ≡ false
 clash_sub {hs = hs} {fs = fs} s e =
-    let p = or_false (is_among (not_form true_form) fs) (list_any (λ f. is_among (complement f) fs) fs) e in
-    or_falses (is_among (not_form true_form) hs) (list_any (λ f. is_among (complement f) hs) hs) (any_sub (same_form (not_form true_form)) s p.0) (any_weaker (λ f. is_among (complement f) fs) (λ f. is_among (complement f) hs) (λ f. any_sub (same_form (complement f)) s) hs (any_sub (λ f. is_among (complement f) fs) s p.1))
+    let p = or_parts (is_among (not_form true_form) fs) (list_any (λ f. is_among (complement f) fs) fs) e in
+    or_from (is_among (not_form true_form) hs) (list_any (λ f. is_among (complement f) hs) hs) (any_sub (same_form (not_form true_form)) s p.0) (any_weaker (λ f. is_among (complement f) fs) (λ f. is_among (complement f) hs) (λ f. any_sub (same_form (complement f)) s) hs (any_sub (λ f. is_among (complement f) fs) s p.1))
 
 without_none : (f : Form) (fs : List Form) → is_among f fs ≡ false → without f fs ≡ fs
 without_none f [] e = refl
 without_none f (h ∷ hs) e =
-    let p = or_false (same_form f h) (is_among f hs) e in
+    let p = or_parts (same_form f h) (is_among f hs) e in
     let r = without_none f hs p.1 in
     rw p.0 (ap (λ xs. h ∷ xs) r)
 

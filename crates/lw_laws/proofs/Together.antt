@@ -1,5 +1,6 @@
 -- The laws, put together.
 use Rattle.std.proofs.Common.{ℕ, map, Contains, ◌/◌, ◌<◌, ◌≡◌, ◌^◌, List, length, Option, Some, None, Bool, sym, ◌∙◌, subst, arith}
+use Rattle.std.proofs.lemmas.Option.{slice_get_within}
 use Rattle.lw_laws.specs.Graphs.{Graph, PairsInOneClass, Unfolds, class_of}
 use Rattle.lw_laws.specs.NumberedForms.{NumberedForms, family_of, AreNumberedForms, NumberOccurs}
 use Rattle.lw_laws.specs.Encodings.{Encodes}
@@ -21,7 +22,6 @@ use Rattle.lw_laws.proofs.Covering.{cover_costs, cost_covered}
 use Rattle.lw_laws.proofs.Potentials.{potential_bounds, labels_are_least, IsLeast_once}
 use Rattle.lw_laws.proofs.Netlists.{net_covered, StandsFor-time, StandsFor-value}
 use Rattle.lw_laws.proofs.Delays.{delay_cost_is, cost_of-time}
-use Rattle.lw_laws.proofs.Lists.{slice_get_in}
 use Rattle.lw_laws.proofs.Words.{AreChoices, HasLeastNumberedTime, HasNoNumberedCover, AreNetValues, IsCertified, IsOutput}
 
 pub has_the_trees : (mode : Mode) (forms : NumberedForms) (g : Graph) → AreNumberedForms forms → Encodes (family_of mode forms) g → HasNumberedTrees mode forms g
@@ -34,7 +34,7 @@ has_truth mode forms g x value are encodes is f t o u =
 
 pub graph_choices : (g : Graph) (pats : List Pattern) (cost : Cost) → length g.leaves < 2 ^ 32 → AreChoices (choices_of g cost.pin_counts pats) cost
 graph_choices g pats cost few = record {
-  inputs = λ c i e. let in' = slice_get_in g.leaves i c e in omega arith;
+  inputs = λ c i e. let in' = slice_get_within g.leaves i c e in omega arith;
   matches = λ c cell ps m. m.pins;
 }
 

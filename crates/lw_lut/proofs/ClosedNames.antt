@@ -10,6 +10,7 @@ use Rattle.std.proofs.lemmas.Bool.{cases_lt}
 use Rattle.lw_dag.proofs.Sorting.{greatest-above}
 use Rattle.std.proofs.lemmas.List.Sorted.{IsPermutation-append_right, IsPermutation-map, IsPermutation-sym, Contains-permutation}
 use Rattle.std.proofs.lemmas.Option.{get_or_from_slice_get, slice_get-get_or, slice_get_within}
+use Rattle.lw_facts.proofs.Lists.{contained_in_map, get_left, contained_at, at_contained}
 use Rattle.lw_dag.specs.Ordering.{greatest}
 use Rattle.lw_dag.proofs.Numbering.{number_at, number_below, name_again, none_unknown, none_split, distinct_moved}
 use Rattle.lw_laws.specs.Networks.{AreValues, IsInOrder, agrees, row_value}
@@ -26,10 +27,8 @@ use Rattle.lw_lut.specs.Meaning.{IsNetworkOfAnySize}
 use Rattle.lw_net.specs.Plain.{plain, plain_node}
 use Rattle.lw_net.specs.Signs.{asked}
 use Rattle.lw_net.proofs.Buckets.{moved, rising, within_greatest}
-use Rattle.lw_graph.proofs.Indexing.{map_back}
 use Rattle.lw_lut.specs.Said.{AreTableDepths, deepest, is_wire}
-use Rattle.lw_lut.proofs.NetNames.{left_entry, right_entry}
-use Rattle.lw_lut.proofs.RisingClasses.{at_contains, contains_at}
+use Rattle.lw_lut.proofs.NetNames.{right_entry}
 use Rattle.lw_lut.proofs.TableValues.{said_value, said_wire}
 use Rattle.lw_pool.specs.Numbers.{net_number}
 
@@ -63,18 +62,18 @@ module _ (draft : Draft) (distinct : IsDistinct bytes_eq (signals_of draft)) (ne
   number_from k name at = ap (number_in names) (sym (get_or_from_slice_get names k name [] at)) ∙ number_at names k [] names_distinct (slice_get_within names k name at)
 
   pub input_net : (i : ℕ) (name : List ℕ) → slice_get draft.inputs i ≡ Some name → net_of name ≡ i
-  input_net i name at = number_from i name (left_entry draft.inputs (map out_of order) i name at)
+  input_net i name at = number_from i name (get_left draft.inputs (map out_of order) i name at)
 
   pub node_net : (j : ℕ) (node : DraftNode) → slice_get order j ≡ Some node → net_of node.out ≡ length draft.inputs + j
   node_net j node at = number_from (length draft.inputs + j) node.out (right_entry draft.inputs (map out_of order) j ∙ slice_get_map out_of order j node at)
 
   pub in_order : (node : DraftNode) → Contains draft.nodes node → (j : ℕ) × (slice_get order j ≡ Some node)
-  in_order node among = at_contains order node (Contains-permutation draft.nodes order node order_moved among)
+  in_order node among = contained_at order node (Contains-permutation draft.nodes order node order_moved among)
 
   -- each node of the network is one of the draft's
   pub node_from : (node : Node) → Contains net.nodes node → (from : DraftNode) × Contains draft.nodes from × (closed_node names from ≡ node)
   node_from node among =
-      let (from, k, e) = map_back (closed_node names) order node (subst (λ (m : NetworkParts). Contains m.nodes node) closed.network among) in
+      let (from, k, e) = contained_in_map (closed_node names) order node (subst (λ (m : NetworkParts). Contains m.nodes node) closed.network among) in
       (from, Contains-permutation order draft.nodes from (IsPermutation-sym draft.nodes order order_moved) k, e)
 
   pub net_below : (name : List ℕ) → Contains (signals_of draft) name → net_of name < length draft.inputs + length order
@@ -107,7 +106,7 @@ module _ (draft : Draft) (distinct : IsDistinct bytes_eq (signals_of draft)) (ne
   fanin_before : (j : ℕ) (node : DraftNode) (name : List ℕ) → slice_get order j ≡ Some node → Contains draft.nodes node → Contains node.fanins name → net_of name < length draft.inputs + j
   fanin_before j node name at among c =
       let known = fanin_known node name among c in
-      let (k, here) = at_contains names name (Contains-permutation (signals_of draft) names name names_moved known) in
+      let (k, here) = contained_at names name (Contains-permutation (signals_of draft) names name names_moved known) in
       let number = number_from k name here in
       let own : closed.depth node.out ≡ 1 + greatest (map closed.depth node.fanins) = All-contains (λ (d : DraftNode). closed.depth d.out ≡ 1 + greatest (map closed.depth d.fanins)) draft.nodes node closed.depths.nodes among in
       let low : closed.depth name ≤ greatest (map closed.depth node.fanins) = All-contains (λ f. closed.depth f ≤ greatest (map closed.depth node.fanins)) node.fanins name (greatest-above closed.depth node.fanins) c in
@@ -138,9 +137,9 @@ module _ (draft : Draft) (distinct : IsDistinct bytes_eq (signals_of draft)) (ne
     before = λ j s node at c.
         let (closed_one, here, is) = slice_get_map_back plain_node (map (closed_node names) order) j node at in
         let (from, there, same) = slice_get_map_back (closed_node names) order j closed_one here in
-        let (net', k, number) = map_back net_number closed_one.fanins s (subst (λ (m : laws.Node). Contains m.fanins s) (sym is) c) in
-        let (name, own, e) = map_back (net_in names) from.fanins net' (subst (λ (m : Node). Contains m.fanins net') (sym same) k) in
-        let among = Contains-permutation order draft.nodes from (IsPermutation-sym draft.nodes order order_moved) (contains_at order j from there) in
+        let (net', k, number) = contained_in_map net_number closed_one.fanins s (subst (λ (m : laws.Node). Contains m.fanins s) (sym is) c) in
+        let (name, own, e) = contained_in_map (net_in names) from.fanins net' (subst (λ (m : Node). Contains m.fanins net') (sym same) k) in
+        let among = Contains-permutation order draft.nodes from (IsPermutation-sym draft.nodes order order_moved) (at_contained order j from there) in
         let lt = fanin_before j from name there among own in
         let value : net_of name ≡ s = ap net_number e ∙ number in
         omega (arith, lt, value);
@@ -163,7 +162,7 @@ module _ (draft : Draft) (distinct : IsDistinct bytes_eq (signals_of draft)) (ne
   named_again (name ∷ outputs) known = ap₂ (λ n ns. n ∷ ns) (name_again names name [] names_distinct (known name (zero, omega arith, refl))) (named_again outputs (λ other (k, lt, e). known other (suc k, omega (arith, lt), e)))
 
   output_among : (name : List ℕ) → Contains draft.outputs name → Contains names name
-  output_among name c = let (k, at) = at_contains draft.outputs name c in Contains-permutation (signals_of draft) names name names_moved (output_known k name at)
+  output_among name c = let (k, at) = contained_at draft.outputs name c in Contains-permutation (signals_of draft) names name names_moved (output_known k name at)
 
   pub closed_outputs : output_names net ≡ draft.outputs
   closed_outputs = ap output_names closed.network ∙ named_again draft.outputs output_among
@@ -184,7 +183,7 @@ module _ (draft : Draft) (distinct : IsDistinct bytes_eq (signals_of draft)) (ne
     where
       node_kept : (j : ℕ) (from : DraftNode) → slice_get order j ≡ Some from → IsNodeAt (length draft.inputs) j (closed_node names from)
       node_kept j from there =
-          let among = Contains-permutation order draft.nodes from (IsPermutation-sym draft.nodes order order_moved) (contains_at order j from there) in
+          let among = Contains-permutation order draft.nodes from (IsPermutation-sym draft.nodes order order_moved) (at_contained order j from there) in
           let own = All-contains (λ (node : DraftNode). All (λ (row : List ℕ). length row ≡ length node.fanins) node.rows) draft.nodes from columns among in
           record {
             drives = node_net j from there;
@@ -267,7 +266,7 @@ module _ (draft : Draft) (distinct : IsDistinct bytes_eq (signals_of draft)) (ne
 
     known_depth : (name : List ℕ) → Contains (signals_of draft) name → slice_index_or listed (net_of name) 0 ≡ depth name
     known_depth name among =
-        let (k, here) = at_contains names name (Contains-permutation (signals_of draft) names name names_moved among) in
+        let (k, here) = contained_at names name (Contains-permutation (signals_of draft) names name names_moved among) in
         ap (λ i. slice_index_or listed i 0) (number_from k name here) ∙ get_or_from_slice_get listed k (depth name) 0 (slice_get_map depth names k name here)
 
     deepest_listed : (fs : List (List ℕ)) → ((f : List ℕ) → Contains fs f → Contains (signals_of draft) f) → deepest listed (map (net_in names) fs) ≡ greatest (map depth fs)
@@ -284,10 +283,10 @@ module _ (draft : Draft) (distinct : IsDistinct bytes_eq (signals_of draft)) (ne
           omega (arith, a, b, c, d);
       inputs = λ i lt.
           let (name, here) = slice_get_some draft.inputs i lt in
-          slice_get_map depth names i name (left_entry draft.inputs (map out_of order) i name here) ∙ ap Some (at_inputs name (contains_at draft.inputs i name here));
+          slice_get_map depth names i name (get_left draft.inputs (map out_of order) i name here) ∙ ap Some (at_inputs name (at_contained draft.inputs i name here));
       nodes = λ j node at.
           let (from, there, same) = slice_get_map_back (closed_node names) order j node at in
-          let among = Contains-permutation order draft.nodes from (IsPermutation-sym draft.nodes order order_moved) (contains_at order j from there) in
+          let among = Contains-permutation order draft.nodes from (IsPermutation-sym draft.nodes order order_moved) (at_contained order j from there) in
           slice_get_map depth names (length draft.inputs + j) from.out (right_entry draft.inputs (map out_of order) j ∙ slice_get_map out_of order j from there)
           ∙ (ap Some (at_nodes from among)
           ∙ (ap Some (sym (ap₂ (λ b d. (if b then 0 else 1) + d) (wire_same from) (deepest_listed from.fanins (λ f c. fanin_known from f among c))))

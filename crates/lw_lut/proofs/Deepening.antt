@@ -1,7 +1,7 @@
 -- Classes of a place that get a depth.
 use Rattle.std.proofs.Common.{◌≡◌, ◌≢◌, ◌+◌, ◌*◌, ◌/◌, ◌<◌, ◌⊎◌, ◌||◌, inl, inr, ℕ, Bool, true, false, not, List, length, Option, Some, None, slice_set, refl, ap, sym, ◌∙◌, arith, true≢false}
 use Rattle.std.specs.Prelude.{slice_index_or, unwrap_or}
-use Rattle.std.proofs.lemmas.Bool.{cases_eq}
+use Rattle.std.proofs.lemmas.Bool.{cases_eq, or_cases, or_parts}
 use Rattle.std.proofs.lemmas.Option.{same_Some, get_or_from_slice_get, slice_get_read}
 use Rattle.std.specs.Option.{is_some}
 use Rattle.std.proofs.lemmas.List.{length-set, get_or-set_same, get_or-set_other}
@@ -62,14 +62,6 @@ known_some (Some f) e = (f, refl)
 of_place : (c p : ℕ) → c / 2 ≡ p → (c ≡ 2 * p) ⊎ (c ≡ 2 * p + 1)
 of_place c p e = elim (cases_eq c (2 * p)) [ inl same ↦ inl same | inr ne ↦ inr (omega (arith, e, ne)) ]
 
-either_true : (a b : Bool) → (a || b) ≡ true → (a ≡ true) ⊎ (b ≡ true)
-either_true true b e = inl refl
-either_true false b e = inr e
-
-neither : (a b : Bool) → (a || b) ≡ false → (a ≡ false) × (b ≡ false)
-neither true b e = absurd (true≢false e)
-neither false b e = (refl, e)
-
 pub deepened : (old : List (Option ℕ)) (p d u w : ℕ) (changed : Bool) → 2 * p + 1 < length old → u ≡ unwrap_or (depth_in old (2 * p)) d → w ≡ unwrap_or (depth_in old (2 * p + 1)) d → changed ≡ (none (depth_in old (2 * p + 1)) || none (depth_in old (2 * p))) → IsDeepened old p d (slice_set (slice_set old (2 * p) (Some u)) (2 * p + 1) (Some w)) changed
 deepened old p d u w changed lt isu isw is = record {
   one_each = length-set mid (2 * p + 1) (Some w) ∙ length-set old (2 * p) (Some u);
@@ -83,12 +75,12 @@ deepened old p d u w changed lt isu isw is = record {
     | inr here ↦ (w, ap (depth_in (slice_set mid (2 * p + 1) (Some w))) here ∙ one_value mid (2 * p + 1) d w lt2 isw2)
   ];
   low = omega (arith, count1, count2);
-  falls = λ e. elim (either_true (none (depth_in old (2 * p + 1))) (none (depth_in old (2 * p))) (sym is ∙ e)) [
+  falls = λ e. elim (or_cases (none (depth_in old (2 * p + 1))) (none (depth_in old (2 * p))) (sym is ∙ e)) [
     | inl n ↦ let one = unknown_none (depth_in old (2 * p + 1)) n in let m = ap is_unknown same in omega (arith, one, m, count1, count2)
     | inr n ↦ let one = unknown_none (depth_in old (2 * p)) n in omega (arith, one, count1, count2)
   ];
   same = λ e c at.
-      let (n, m) = neither (none (depth_in old (2 * p + 1))) (none (depth_in old (2 * p))) (sym is ∙ e) in
+      let (n, m) = or_parts (none (depth_in old (2 * p + 1))) (none (depth_in old (2 * p))) (sym is ∙ e) in
       elim (of_place c p at) [
         | inl here ↦ let (f, q) = known_some (depth_in old (2 * p)) m in (f, ap (depth_in old) here ∙ q)
         | inr here ↦ let (f, q) = known_some (depth_in old (2 * p + 1)) n in (f, ap (depth_in old) here ∙ q)

@@ -3,7 +3,7 @@ use Rattle.std.proofs.Common.{ℕ, zero, suc, drop, ◌^◌, ◌<◌, ◌≤◌,
 use Rattle.std.proofs.lemmas.List.{reverse-append}
 use Rattle.std.proofs.lemmas.List.Elements.{Contains-push, Contains-push_cases, Contains-append_left, All-contains}
 use Rattle.std.proofs.lemmas.Option.{none-some, same_Some, slice_get-get_or, slice_get_within}
-use Rattle.lw_graph.proofs.Indexing.{map_back}
+use Rattle.lw_facts.proofs.Lists.{contains_cases, contains_tail, contained_in_map, at_contained, contained_at, some_within}
 use Rattle.lw_pool.specs.declared.id.ClassId.{ClassId}
 use Rattle.lw_laws.specs.Graphs.{Graph}
 use Rattle.lw_laws.specs.Extracts.{IsLeafClass}
@@ -21,23 +21,14 @@ use Rattle.lw_lut.specs.Cuts.{PlainCut}
 use Rattle.lw_lut.specs.Searches.{depth_in, IsKnown}
 use Rattle.lw_lut.specs.Choosing.{IsNeeded, IsTable, IsTableBefore, AreTables, AreRoots, HasAlso, IsPlaceBefore, ArePlaces, AreByDepth}
 use Rattle.lw_lut.specs.Choosing.IsNeeded.{by_root, by_fanin}
-use Rattle.lw_lut.proofs.RisingClasses.{contains_at, at_contains}
-use Rattle.lw_lut.proofs.Sorting.{within_some}
 use Rattle.lw_pool.specs.Numbers.{numbers}
 
 abbrev IsNoted : List Bool → ℕ → Type 0
 IsNoted needed c = slice_index_or needed c false ≡ true
 
-contains_later : {X : Type 0} (y : X) (xs : List X) (x : X) → Contains xs x → Contains (y ∷ xs) x
-contains_later y xs x (k, lt, e) = (suc k, omega arith, e)
-
-contains_cases : {X : Type 0} (y : X) (xs : List X) (x : X) → Contains (y ∷ xs) x → (y ≡ x) ⊎ Contains xs x
-contains_cases y xs x (zero, lt, e) = inl e
-contains_cases y xs x (suc k, lt, e) = inr (k, omega arith, e)
-
 needed_later : (roots : List ℕ) (t : Table) (ts : List Table) {c : ℕ} → IsNeeded roots ts c → IsNeeded roots (t ∷ ts) c
 needed_later roots t ts (by_root k) = by_root k
-needed_later roots t ts (by_fanin u n k i) = by_fanin u (needed_later roots t ts n) (contains_later t ts u k) i
+needed_later roots t ts (by_fanin u n k i) = by_fanin u (needed_later roots t ts n) (contains_tail t ts u k) i
 
 module _ (g : Graph) (most : ℕ) (depths : List (Option ℕ)) (roots : List ClassId) where
   -- What holds when some of the places have been seen, with the tables so far, the last one first.
@@ -123,7 +114,7 @@ module _ (g : Graph) (most : ℕ) (depths : List (Option ℕ)) (roots : List Cla
 
       not_fanin : (q : Place) → IsPlaceBefore p q → depth_in depths q.class.0 ≡ Some q.depth → Contains (numbers t.fanins) q.class.0 → ⊥
       not_fanin q first deep k =
-          let (x, i, e) = map_back (λ (c : ClassId). c.0) t.fanins q.class.0 k in
+          let (x, i, e) = contained_in_map (λ (c : ClassId). c.0) t.fanins q.class.0 k in
           let (d, at, lt) = made.below x i in
           let s : d ≡ q.depth = same_Some d q.depth (sym at ∙ (ap (depth_in depths) e ∙ deep)) in
           let pd = p_depth in
@@ -131,7 +122,7 @@ module _ (g : Graph) (most : ℕ) (depths : List (Option ℕ)) (roots : List Cla
 
       all_at : (q : Place) → IsNoted needed q.class.0 ⊎ Contains (numbers t.fanins) q.class.0 → Contains seen q ⊎ (p ≡ q) → (y : Table) × Contains (t ∷ ups) y × (y.out.0 ≡ q.class.0)
       all_at q either (inr s) = (t, (0, omega arith, refl), same ∙ ap (λ (z : Place). z.class.0) s)
-      all_at q (inl e) (inl k) = let (y, at, f) = is.all q k e in (y, contains_later t ups y at, f)
+      all_at q (inl e) (inl k) = let (y, at, f) = is.all q k e in (y, contains_tail t ups y at, f)
       all_at q (inr i) (inl k) = absurd (not_fanin q (before q k) (high_seen q k) i)
 
       table_before : (q : Place) (u : Table) → q.class.0 ≡ u.out.0 → IsPlaceBefore p q → depth_in depths q.class.0 ≡ Some q.depth → IsTableBefore depths t u
@@ -144,7 +135,7 @@ module _ (g : Graph) (most : ℕ) (depths : List (Option ℕ)) (roots : List Cla
       sorted i zero y z e f lt = absurd (omega arith)
       sorted (suc i) (suc j) y z e f lt = is.sorted i j y z e f (omega arith)
       sorted zero (suc j) y z e f lt =
-          let (q, k, s) = is.place z (contains_at ups j z f) in
+          let (q, k, s) = is.place z (at_contained ups j z f) in
           subst (λ (w : Table). IsTableBefore depths w z) (same_Some t y e) (table_before q z s (before q k) (high_seen q k))
 
   -- the tables when all places have been seen
@@ -157,9 +148,9 @@ module _ (g : Graph) (most : ℕ) (depths : List (Option ℕ)) (roots : List Cla
   }
     where
       known : (c : ℕ) → IsNeeded (numbers roots) ups c → IsKnown depths c
-      known c (by_root k) = let (x, i, e) = map_back (λ (r : ClassId). r.0) roots c k in subst (IsKnown depths) e (All-contains (λ (r : ClassId). IsKnown depths r.0) roots x covered i)
+      known c (by_root k) = let (x, i, e) = contained_in_map (λ (r : ClassId). r.0) roots c k in subst (IsKnown depths) e (All-contains (λ (r : ClassId). IsKnown depths r.0) roots x covered i)
       known q (by_fanin t n k i) =
-          let (x, j, e) = map_back (λ (r : ClassId). r.0) t.fanins q i in
+          let (x, j, e) = contained_in_map (λ (r : ClassId). r.0) t.fanins q i in
           let (d, at, lt) = (is.each t k).below x j in
           (d, ap (depth_in depths) (sym e) ∙ at)
 
@@ -184,7 +175,7 @@ drop_at (p ∷ ps) (suc k) d lt = drop_at ps k d (omega arith)
 in_drop : (places : List Place) (k : ℕ) (q : Place) → Contains (drop k places) q → (j : ℕ) × (k ≤ j) × (slice_get places j ≡ Some q)
 in_drop [] zero q (i, lt, e) = absurd (omega arith)
 in_drop [] (suc k) q (i, lt, e) = absurd (omega arith)
-in_drop (p ∷ ps) zero q h = let (j, e) = at_contains (p ∷ ps) q h in (j, omega arith, e)
+in_drop (p ∷ ps) zero q h = let (j, e) = contained_at (p ∷ ps) q h in (j, omega arith, e)
 in_drop (p ∷ ps) (suc k) q h = let (j, le, e) = in_drop ps k q h in (suc j, omega (arith, le), e)
 
 module _ (g : Graph) (most : ℕ) (lists : DepthLists) (least : AreLeastDepths g most lists) (roots : List ClassId) (places : List Place) (by : AreByDepth lists.depths places) where
@@ -198,7 +189,7 @@ module _ (g : Graph) (most : ℕ) (lists : DepthLists) (least : AreLeastDepths g
   place_depth q h = let (e, at, s) = by.are.each q h in at ∙ ap Some (sym s)
 
   rest_depth : (k : ℕ) (q : Place) → Contains (drop k places) q → depth_in depths q.class.0 ≡ Some q.depth
-  rest_depth k q h = let (j, le, e) = in_drop places k q h in place_depth q (contains_at places j q e)
+  rest_depth k q h = let (j, le, e) = in_drop places k q h in place_depth q (at_contained places j q e)
 
   before_rest : (k : ℕ) (d q : Place) → k < length places → Contains (drop (suc k) places) q → IsPlaceBefore (get_or places k d) q
   before_rest k d q lt h =
@@ -219,7 +210,7 @@ module _ (g : Graph) (most : ℕ) (lists : DepthLists) (least : AreLeastDepths g
   })
     where
       front : (p : Place) → Contains (drop (suc k) places ++ get_or places k d ∷ []) p → Contains (get_or places k d ∷ drop (suc k) places) p
-      front p h = elim (Contains-push_cases (drop (suc k) places) (get_or places k d) p h) [ inl i ↦ contains_later (get_or places k d) (drop (suc k) places) p i | inr e ↦ (0, omega arith, e) ]
+      front p h = elim (Contains-push_cases (drop (suc k) places) (get_or places k d) p h) [ inl i ↦ contains_tail (get_or places k d) (drop (suc k) places) p i | inr e ↦ (0, omega arith, e) ]
 
       back : (p : Place) → Contains (get_or places k d ∷ drop (suc k) places) p → Contains (drop (suc k) places ++ get_or places k d ∷ []) p
       back p h = elim (contains_cases (get_or places k d) (drop (suc k) places) p h) [
@@ -234,20 +225,20 @@ module _ (g : Graph) (most : ℕ) (lists : DepthLists) (least : AreLeastDepths g
   pub turn_cut : (k : ℕ) (d : Place) → k < length places → (get_or places k d).class.0 / 2 < length lists.cuts
   turn_cut k d lt =
       let p = get_or places k d in
-      let (e, at, s) = by.are.each p (contains_at places k p (slice_get-get_or places k d lt)) in
+      let (e, at, s) = by.are.each p (at_contained places k p (slice_get-get_or places k d lt)) in
       let (cut, here, made) = least.tables p.class.0 e at in
       slice_get_within lists.cuts (p.class.0 / 2) cut here
 
   pub turn_class : (k : ℕ) (d : Place) → k < length places → (get_or places k d).class.0 < length depths
   turn_class k d lt =
       let p = get_or places k d in
-      let (e, at, s) = by.are.each p (contains_at places k p (slice_get-get_or places k d lt)) in
-      within_some depths p.class.0 (suc e) at
+      let (e, at, s) = by.are.each p (at_contained places k p (slice_get-get_or places k d lt)) in
+      some_within depths p.class.0 (suc e) at
 
   table_made : (k : ℕ) (d : Place) → k < length places → (cut : PlainCut) → slice_get lists.cuts ((get_or places k d).class.0 / 2) ≡ Some cut → (t : Table) → t.out ≡ (get_or places k d).class → AreRisingClasses t.fanins → ((c : ClassId) → Contains t.fanins c ↔ Contains cut.pins c) → length t.fanins ≤ length cut.pins → t.bits ≡ packed (table_value cut (get_or places k d).class.0 (numbers t.fanins)) 0 (2 ^ length t.fanins) → IsTable g most depths t
   table_made k d lt cut here t out rising same few bits =
       let p = get_or places k d in
-      let (e, at, s) = by.are.each p (contains_at places k p (slice_get-get_or places k d lt)) in
+      let (e, at, s) = by.are.each p (at_contained places k p (slice_get-get_or places k d lt)) in
       let (cut', here', made') = least.tables p.class.0 e at in
       let made : IsTableCut g most depths p.class.0 (suc e) cut = subst (λ z. IsTableCut g most depths p.class.0 (suc e) z) (same_Some cut' cut (sym here' ∙ here)) made' in
       let stands : IsTableAt g most p.class.0 (numbers t.fanins) t.bits = subst (λ b. IsTableAt g most p.class.0 (numbers t.fanins) b) (sym bits) (cut_table g most p.class.0 cut t.fanins made.is made.few same) in
@@ -257,18 +248,18 @@ module _ (g : Graph) (most : ℕ) (lists : DepthLists) (least : AreLeastDepths g
         rising = rising;
         depth = e;
         depth_is = ap (λ (c : ClassId). depth_in depths c.0) out ∙ at;
-        below = λ q h. let (j, f) = at_contains cut.pins q ((same q).0 h) in made.below j q f;
+        below = λ q h. let (j, f) = contained_at cut.pins q ((same q).0 h) in made.below j q f;
       }
 
   pub turn_fanins : (k : ℕ) (d : Place) → k < length places → (cut : PlainCut) → slice_get lists.cuts ((get_or places k d).class.0 / 2) ≡ Some cut → (fanins : List ClassId) → ((c : ClassId) → Contains fanins c ↔ Contains cut.pins c) → All (λ (c : ClassId). c.0 < length depths) fanins
   turn_fanins k d lt cut here fanins same i z below =
       let p = get_or places k d in
-      let (e, at, s) = by.are.each p (contains_at places k p (slice_get-get_or places k d lt)) in
+      let (e, at, s) = by.are.each p (at_contained places k p (slice_get-get_or places k d lt)) in
       let (cut', here', made') = least.tables p.class.0 e at in
       let x = get_or fanins i z in
-      let (j, f) = at_contains cut.pins x ((same x).0 (contains_at fanins i x (slice_get-get_or fanins i z below))) in
+      let (j, f) = contained_at cut.pins x ((same x).0 (at_contained fanins i x (slice_get-get_or fanins i z below))) in
       let (n, m, less) = made'.below j x (subst (λ (c : PlainCut). slice_get c.pins j ≡ Some x) (sym (same_Some cut' cut (sym here' ∙ here))) f) in
-      within_some depths x.0 n m
+      some_within depths x.0 n m
 
   pub turn_take : (k : ℕ) (d : Place) → k < length places → (needed new : List Bool) (tables more : List Table) (cut : PlainCut) → slice_get lists.cuts ((get_or places k d).class.0 / 2) ≡ Some cut → (t : Table) → t.out ≡ (get_or places k d).class → AreRisingClasses t.fanins → ((c : ClassId) → Contains t.fanins c ↔ Contains cut.pins c) → length t.fanins ≤ length cut.pins → t.bits ≡ packed (table_value cut (get_or places k d).class.0 (numbers t.fanins)) 0 (2 ^ length t.fanins) → slice_index_or needed (get_or places k d).class.0 false ≡ true → HasAlso needed t.fanins new → more ≡ tables ++ t ∷ [] → DownAt (suc k) needed tables → DownAt k new more
   turn_take k d lt needed new tables more cut here t out rising same few bits noted also pushed is =
@@ -276,7 +267,7 @@ module _ (g : Graph) (most : ℕ) (lists : DepthLists) (least : AreLeastDepths g
       let back : reverse more ≡ t ∷ reverse tables = ap reverse pushed ∙ reverse-append tables (t ∷ []) in
       subst (λ (ups : List Table). IsDown g most depths roots (drop k places) new ups) (sym back)
       (seen_again k d new (t ∷ reverse tables) lt
-      (down_take g most depths roots (drop (suc k) places) needed new (reverse tables) p t noted out (table_made k d lt cut here t out rising same few bits) also (place_depth p (contains_at places k p (slice_get-get_or places k d lt))) (λ q h. rest_depth (suc k) q h) (λ q h. before_rest k d q lt h) is))
+      (down_take g most depths roots (drop (suc k) places) needed new (reverse tables) p t noted out (table_made k d lt cut here t out rising same few bits) also (place_depth p (at_contained places k p (slice_get-get_or places k d lt))) (λ q h. rest_depth (suc k) q h) (λ q h. before_rest k d q lt h) is))
 
   shallow : (c : ℕ) → depth_in depths c ≡ Some 0 → IsLeafClass g c
   shallow c at = by_cover (subst (λ o. IsLeastDepth g most c o) at (least.least c)).0

@@ -4,6 +4,7 @@ use Rattle.std.specs.Prelude.{codes, replicate}
 use Rattle.std.specs.List.{flat_map, IsDistinct, AllByRecursion as Each}
 use Rattle.std.specs.Str.{bytes_eq}
 use Rattle.std.proofs.lemmas.List.{length-map, length-take-le, take-append-drop, replicate-append-replicate}
+use Rattle.lw_facts.proofs.Lists.{distinct_left}
 use Rattle.lw_pool.specs.declared.latch.Frame.{Frame}
 use Rattle.lw_pool.specs.declared.latch.Latch.{Latch}
 use Rattle.lw_words.specs.Lines.{LogicalLine}
@@ -18,7 +19,6 @@ use Rattle.lw_blif.specs.Drafts.{model_for, inputs_for, outputs_for, latches_for
 use Rattle.lw_lut.specs.Nets.{PlainTableNet}
 use Rattle.lw_lut.specs.Said.{draft_said, table_node, wire_nodes}
 use Rattle.lw_lut.proofs.LineKinds.{asks_for, asks_model, asks_inputs, asks_outputs, asks_latch, asks_end, IsOfNode, OfNode, lines_of_node, Inner, inner_goes, inner_kept, inner_are}
-use Rattle.lw_lut.proofs.ReadNames.{distinct_left}
 use Rattle.lw_lut.proofs.NodesSaid.{IsKeptLine, nodes_in, nodes_kept, skip_line, nodes_said}
 use Rattle.lw_lut.proofs.TextLines.{Words, latch_words, node_lines, model_words, inputs_words, outputs_words, inner_lines, end_words, lines_said}
 use Rattle.lw_lut.proofs.WordLines.{numbered}

@@ -3,15 +3,14 @@ use Rattle.std.proofs.Common.{◌≡◌, ◌+◌, ◌<◌, ℕ, zero, suc, Bool,
 use Rattle.std.specs.List.{IsDistinct}
 use Rattle.std.specs.Str.{bytes_eq}
 use Rattle.std.proofs.lemmas.Option.{slice_get-get_or}
+use Rattle.lw_facts.proofs.Lists.{bytes_eq_same, bytes_eq_is, contains_map, at_contained}
 use Rattle.lw_dag.specs.Ordering.{greatest}
-use Rattle.lw_dag.proofs.Names.{alike, same_name}
-use Rattle.lw_laws.proofs.Lists.{all_contains, in_map, in_right}
+use Rattle.lw_laws.proofs.Lists.{all_contains, in_right}
 use Rattle.lw_net.specs.declared.draft.Draft.{Draft}
 use Rattle.lw_net.specs.declared.draft.DraftNode.{DraftNode}
 use Rattle.lw_net.specs.Closing.{Reaches, HasNoCycle, IsClosed, signals_of, out_of, first_undefined, by_depth, network_in}
 use Rattle.lw_net.specs.Closing.Reaches.{by_fanin, by_path}
 use Rattle.lw_net.specs.Networks.{NetworkParts}
-use Rattle.lw_lut.proofs.RisingClasses.{contains_at}
 
 abbrev Name : Type 0
 Name = List ℕ
@@ -25,7 +24,7 @@ distinct_parts (x ∷ xs) ys d =
     (rest, λ name a b. first name a b (apart name))
   where
     clash : (y : Name) → bytes_eq x y ≡ false → x ≡ y → ⊥
-    clash y ne e = refuted (bytes_eq x y) (alike x y e) ne
+    clash y ne e = refuted (bytes_eq x y) (bytes_eq_same x y e) ne
       where
         refuted : (b : Bool) → b ≡ true → b ≡ false → ⊥
         refuted b e f = cc
@@ -43,16 +42,16 @@ drives_none [] name other = refl
 drives_none (node ∷ nodes) name other = by_test (bytes_eq node.out name) refl (drives_none nodes name (λ (k, lt, e). other (suc k, omega (arith, lt), e)))
   where
     by_test : (b : Bool) → bytes_eq node.out name ≡ b → node_of nodes name ≡ None → cond b (Some node) (node_of nodes name) ≡ None
-    by_test true e rest = absurd (other (zero, omega arith, same_name node.out name e))
+    by_test true e rest = absurd (other (zero, omega arith, bytes_eq_is node.out name e))
     by_test false e rest = rest
 
 drives_own : (nodes : List DraftNode) (node : DraftNode) → IsDistinct bytes_eq (map out_of nodes) → Contains nodes node → node_of nodes node.out ≡ Some node
 unfolding IsDistinct
 drives_own [] node d (k, lt, e) = absurd (omega (arith, lt))
 drives_own (first ∷ nodes) node d (zero, lt, e) =
-    ap (λ b. cond b (Some first) (node_of nodes node.out)) (alike first.out node.out (ap out_of e)) ∙ ap Some e
+    ap (λ b. cond b (Some first) (node_of nodes node.out)) (bytes_eq_same first.out node.out (ap out_of e)) ∙ ap Some e
 drives_own (first ∷ nodes) node d (suc k, lt, e) =
-    ap (λ b. cond b (Some first) (node_of nodes node.out)) (all_contains (λ y. bytes_eq first.out y ≡ false) (map out_of nodes) node.out d.0 (in_map out_of nodes node (k, omega (arith, lt), e)))
+    ap (λ b. cond b (Some first) (node_of nodes node.out)) (all_contains (λ y. bytes_eq first.out y ≡ false) (map out_of nodes) node.out d.0 (contains_map out_of nodes node (k, omega (arith, lt), e)))
     ∙ drives_own nodes node d.1 (k, omega (arith, lt), e)
 
 drives_one : (nodes : List DraftNode) (name : Name) (node : DraftNode) → node_of nodes name ≡ Some node → Contains nodes node × (node.out ≡ name)
@@ -60,7 +59,7 @@ drives_one [] name node e = cc
 drives_one (first ∷ nodes) name node e = by_test (bytes_eq first.out name) refl e (drives_one nodes name node)
   where
     by_test : (b : Bool) → bytes_eq first.out name ≡ b → cond b (Some first) (node_of nodes name) ≡ Some node → (node_of nodes name ≡ Some node → Contains nodes node × (node.out ≡ name)) → Contains (first ∷ nodes) node × (node.out ≡ name)
-    by_test true f is rest = let s : first ≡ node = cc in ((zero, omega arith, s), ap out_of (sym s) ∙ same_name first.out name f)
+    by_test true f is rest = let s : first ≡ node = cc in ((zero, omega arith, s), ap out_of (sym s) ∙ bytes_eq_is first.out name f)
     by_test false f is rest = let ((k, lt, s), out) = rest is in ((suc k, omega (arith, lt), s), out)
 
 module _ (nodes : List DraftNode) (rank : Name → ℕ) (lower : (node : DraftNode) (name : Name) → Contains nodes node → Contains node.fanins name → rank name < rank node.out) where
@@ -140,8 +139,8 @@ module _ (draft : Draft) (distinct : IsDistinct bytes_eq (signals_of draft)) (ra
       no_cycle = no_cycle draft.nodes rank lower;
       depth = depth_of;
       depths = record {
-        inputs = λ k d lt. weighed_input draft distinct (λ node. 1) rank lower (get_or draft.inputs k d) (contains_at draft.inputs k (get_or draft.inputs k d) (slice_get-get_or draft.inputs k d lt));
-        nodes = λ k d lt. weighed_node draft distinct (λ node. 1) rank lower (get_or draft.nodes k d) (contains_at draft.nodes k (get_or draft.nodes k d) (slice_get-get_or draft.nodes k d lt));
+        inputs = λ k d lt. weighed_input draft distinct (λ node. 1) rank lower (get_or draft.inputs k d) (at_contained draft.inputs k (get_or draft.inputs k d) (slice_get-get_or draft.inputs k d lt));
+        nodes = λ k d lt. weighed_node draft distinct (λ node. 1) rank lower (get_or draft.nodes k d) (at_contained draft.nodes k (get_or draft.nodes k d) (slice_get-get_or draft.nodes k d lt));
       };
       network = refl;
     },

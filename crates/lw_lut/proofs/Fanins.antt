@@ -1,6 +1,6 @@
 -- Fan-ins of tables, and the values that numbers give them.
 use Rattle.std.proofs.Common.{◌≡◌, ◌≢◌, ◌+◌, ◌-◌, ◌*◌, ◌/◌, ◌%◌, ◌^◌, ◌<◌, ◌≤◌, ◌==◌, inl, inr, ℕ, zero, suc, Bool, true, false, List, [], ◌∷◌, ◌++◌, length, drop, take, Contains, get_or, if◌then◌else◌, refl, sym, ap, ap₂, ◌∙◌, arith}
-use Rattle.std.proofs.lemmas.Bool.{cases_eq}
+use Rattle.std.proofs.lemmas.Bool.{cases_eq, eq-eqb, ne_eqb}
 use Rattle.std.proofs.lemmas.List.{take_more, map-append}
 use Rattle.std.proofs.Math.Nat.{pow-le-pow_right}
 use Rattle.lw_pool.specs.declared.id.ClassId.{ClassId}
@@ -10,18 +10,12 @@ use Rattle.lw_lut.proofs.Bits.{spelled_join, spelled_low}
 use Rattle.lw_lut.proofs.Joining.{quotient}
 use Rattle.lw_pool.specs.Numbers.{numbers}
 
-pub same_test : (a b : ℕ) → a ≡ b → (a == b) ≡ true
-same_test a b e = grind (arith, e)
-
-pub other_test : (a b : ℕ) → a ≢ b → (a == b) ≡ false
-other_test a b ne = grind (arith, ne)
-
 -- the class is not the first one
 pub given_skip : (f : ℕ) (fs : List ℕ) (place c : ℕ) → f ≢ c → given (f ∷ fs) place c ≡ given fs place c
-given_skip f fs place c ne = ap (λ b. if b then is_set place (length fs) else given fs place c) (other_test f c ne)
+given_skip f fs place c ne = ap (λ b. if b then is_set place (length fs) else given fs place c) (ne_eqb f c ne)
 
 pub given_first : (f : ℕ) (fs : List ℕ) (place c : ℕ) → f ≡ c → given (f ∷ fs) place c ≡ is_set place (length fs)
-given_first f fs place c e = ap (λ b. if b then is_set place (length fs) else given fs place c) (same_test f c e)
+given_first f fs place c e = ap (λ b. if b then is_set place (length fs) else given fs place c) (eq-eqb f c e)
 
 -- the classes from a place on
 pub given_from : (classes : List ClassId) (k place c : ℕ) (d : ClassId) → k < length classes → (get_or classes k d).0 ≢ c → given (numbers (drop k classes)) place c ≡ given (numbers (drop (k + 1) classes)) place c

@@ -10,6 +10,7 @@ use Rattle.std.proofs.lemmas.Bool.Decides.{nat_tests}
 use Rattle.std.proofs.lemmas.Fmt.{length-decimal-le, digits_decimal}
 use Rattle.std.proofs.lemmas.List.Elements.{All-filter, All-from_recursion, recursion_from_All}
 use Rattle.std.proofs.lemmas.Str.Parse.{IsNumeralModel, numerals_by_value}
+use Rattle.lw_facts.proofs.Tests.{no_stroke_at_end}
 use Rattle.lw_words.specs.Gathering.{IsInk, IsNoHash}
 use Rattle.lw_laws.specs.Names.{is_name_among, numbered_name, numbered_names, free_names, output_name, gate_names}
 use Rattle.lw_laws.proofs.Heights.{all_weaker}
@@ -32,12 +33,9 @@ digits_good : (ds : List ℕ) → Digits ds → list_all is_good ds ≡ true
 digits_good [] e = refl
 digits_good (d ∷ ds) e = let parts = and_parts (is_ascii_digit d) (list_all is_ascii_digit ds) e in ap₂ (λ a b. a && b) (digit_good d parts.0) (digits_good ds parts.1)
 
-no_stroke_last : (b : ℕ) → (b == 92) ≡ false → (nat_eq 92 b && true) ≡ false
-no_stroke_last b e = grind (arith, nat_tests)
-
 no_stroke : (word : List ℕ) → 0 < length word → Each IsGood word → ends_stroke word ≡ false
 no_stroke [] some each = absurd (omega arith)
-no_stroke (b ∷ []) some each = no_stroke_last b each.0.2
+no_stroke (b ∷ []) some each = no_stroke_at_end b each.0.2
 no_stroke (b ∷ c ∷ word) some each = stroke_behind b c word ∙ no_stroke (c ∷ word) (omega arith) each.1
 
 good_name : (word : List ℕ) → 0 < length word → length word ≤ 2000 → Each IsGood word → IsSignalName word

@@ -6,6 +6,7 @@ use Rattle.std.proofs.lemmas.Nat.{pow-add}
 use Rattle.std.proofs.Math.Nat.{mul-le-mul_right}
 use Rattle.std.specs.List.{range_with_len}
 use Rattle.std.proofs.lemmas.Option.{get_or_from_slice_get}
+use Rattle.lw_facts.proofs.Lists.{range_join}
 use Rattle.lw_pool.specs.declared.id.ClassId.{ClassId}
 use Rattle.lw_laws.specs.Flip.{flip}
 use Rattle.lw_laws.specs.Trees.{Tree, leaf, const_one, const_zero, inv, nand, tree_value}
@@ -38,16 +39,6 @@ range_moved n a zero = refl
 range_moved n a (suc b) =
     let e : n + (a + 1) ≡ n + a + 1 = omega arith in
     ap (λ xs. (n + a) ∷ xs) (range_moved n (a + 1) b ∙ ap (λ m. range_with_len m b) e)
-
-range_join : (s a b : ℕ) → range_with_len s a ++ range_with_len (s + a) b ≡ range_with_len s (a + b)
-range_join s zero b =
-    let e : s + 0 ≡ s = omega arith in
-    let f : 0 + b ≡ b = omega arith in
-    rw (e, f) refl
-range_join s (suc a) b =
-    let e : s + suc a ≡ s + 1 + a = omega arith in
-    let f : suc a + b ≡ suc (a + b) = omega arith in
-    rw (e, f) (ap (λ xs. s ∷ xs) (range_join (s + 1) a b))
 
 pub pins_join : (t u : Tree) (a b : ℕ) → leaves_of t ≡ range_with_len 0 a → leaves_of u ≡ range_with_len 0 b → leaves_of (nand t (moved a u)) ≡ range_with_len 0 (a + b)
 pins_join t u a b p q =

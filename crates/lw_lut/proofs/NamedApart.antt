@@ -2,6 +2,7 @@
 use Rattle.std.proofs.Common.{◌≡◌, ◌+◌, ◌^◌, ◌<◌, ◌≤◌, ℕ, suc, List, ◌++◌, length, Some, slice_get, slice_index_or, sym, ap, ap₂, ◌∙◌, subst, arith, length-append}
 use Rattle.std.proofs.lemmas.List.{length-map}
 use Rattle.std.proofs.lemmas.Option.{get_or_from_slice_get, slice_get_within}
+use Rattle.lw_facts.proofs.Lists.{get_left, at_contained, some_within}
 use Rattle.indexmap.proofs.IndexTableLemmas.Probe.{pigeonhole}
 use Rattle.lw_laws.specs.Graphs.{Graph}
 use Rattle.lw_laws.specs.Names.{AreDifferent, AreNameable, free_names, gate_names}
@@ -15,9 +16,7 @@ use Rattle.lw_lut.specs.Nets.{AreFit, PlainTableNet, IsTableNetOf, IsTableNet, n
 use Rattle.lw_lut.specs.declared.ports.TablePorts.{TablePorts}
 use Rattle.lw_lut.specs.declared.table.Table.{Table}
 use Rattle.lw_naming.proofs.NameCount.{name_count}
-use Rattle.lw_lut.proofs.NetNames.{left_entry, right_entry}
-use Rattle.lw_lut.proofs.RisingClasses.{contains_at}
-use Rattle.lw_lut.proofs.Sorting.{within_some}
+use Rattle.lw_lut.proofs.NetNames.{right_entry}
 use Rattle.lw_lut.proofs.TableValues.{long}
 use Rattle.lw_pool.specs.Numbers.{numbers}
 
@@ -36,7 +35,7 @@ module _ (g : Graph) (most : ℕ) (lists : DepthLists) (ports : TablePorts) (n :
   no_leaf : (i j c : ℕ) → slice_get gates i ≡ Some c → slice_get g.leaves j ≡ Some c → ⊥
   no_leaf i j c a b =
       let input : slice_get (numbers n.inputs) j ≡ Some c = subst (λ cs. slice_get cs j ≡ Some c) (sym is.inputs) b in
-      let e = kept.once (length (numbers n.inputs) + i) j c (gate_place i c a) (left_entry (numbers n.inputs) gates j c input) in
+      let e = kept.once (length (numbers n.inputs) + i) j c (gate_place i c a) (get_left (numbers n.inputs) gates j c input) in
       let lt = slice_get_within (numbers n.inputs) j c input in
       omega (arith, e, lt)
 
@@ -48,8 +47,8 @@ module _ (g : Graph) (most : ℕ) (lists : DepthLists) (ports : TablePorts) (n :
       into i lt =
           let (c, at) = slice_get_some gates i lt in
           let (t, here, e) = slice_get_map_back (λ (t : Table). t.out.0) n.tables i c at in
-          let made = is.tables.each t (contains_at n.tables i t here) in
-          let below = within_some lists.depths t.out.0 (suc made.depth) made.depth_is in
+          let made = is.tables.each t (at_contained n.tables i t here) in
+          let below = some_within lists.depths t.out.0 (suc made.depth) made.depth_is in
           let read = get_or_from_slice_get gates i c 0 at in
           let one = least.one_each in
           omega (arith, e, below, read, one)

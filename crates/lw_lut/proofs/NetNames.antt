@@ -1,15 +1,15 @@
 -- The names of the nets of a network of tables.
 use Rattle.std.proofs.Common.{◌≡◌, ◌≢◌, ◌+◌, ◌<◌, inl, inr, ℕ, zero, suc, List, [], ◌∷◌, ◌++◌, length, Some, Contains, slice_get, if◌then◌else◌, sym, ap, ◌∙◌, arith, length-append}
-use Rattle.std.proofs.lemmas.Bool.{cases_eq}
+use Rattle.std.proofs.lemmas.Bool.{cases_eq, eq-eqb, ne_eqb}
 use Rattle.std.proofs.lemmas.List.{length-map}
 use Rattle.std.proofs.lemmas.Option.{slice_get_within, same_Some}
+use Rattle.lw_facts.proofs.Lists.{get_left}
 use Rattle.lw_laws.proofs.Numbers.{slice_get_map}
 use Rattle.lw_pool.specs.declared.id.ClassId.{ClassId}
 use Rattle.lw_lut.specs.Nets.{PlainTableNet, IsTableNet, net_classes, table_classes}
 use Rattle.lw_lut.specs.Meaning.{AreNamedApart, net_names}
 use Rattle.lw_lut.specs.Texts.{name_at, net_name}
 use Rattle.lw_lut.specs.declared.table.Table.{Table}
-use Rattle.lw_lut.proofs.Fanins.{same_test, other_test}
 use Rattle.lw_lut.proofs.TableValues.{long}
 use Rattle.lw_pool.specs.Numbers.{numbers}
 
@@ -18,21 +18,15 @@ pub name_place : (cs : List ℕ) (names : List (List ℕ)) (c : ℕ) → length 
 name_place [] names c e (k, lt, at) = absurd (omega (arith, lt))
 name_place (d ∷ cs) [] c e among = absurd (omega (arith, e))
 name_place (d ∷ cs) (name ∷ names) c e among = elim (cases_eq d c) [
-  | inl same ↦ (zero, ap Some same, ap (λ b. Some (if b then name else name_at cs names c)) (sym (same_test d c same)))
+  | inl same ↦ (zero, ap Some same, ap (λ b. Some (if b then name else name_at cs names c)) (sym (eq-eqb d c same)))
   | inr other ↦
       let (i, at, named) = name_place cs names c (omega (arith, e)) (later among other) in
-      (suc i, at, named ∙ ap (λ b. Some (if b then name else name_at cs names c)) (sym (other_test d c other)))
+      (suc i, at, named ∙ ap (λ b. Some (if b then name else name_at cs names c)) (sym (ne_eqb d c other)))
 ]
   where
     later : Contains (d ∷ cs) c → d ≢ c → Contains cs c
     later (zero, lt, at) ne = absurd (ne at)
     later (suc k, lt, at) ne = (k, omega arith, at)
-
--- an entry of the first list is one of both
-pub left_entry : {X : Type 0} (xs ys : List X) (i : ℕ) (x : X) → slice_get xs i ≡ Some x → slice_get (xs ++ ys) i ≡ Some x
-left_entry [] ys i x e = cc
-left_entry (z ∷ xs) ys zero x e = e
-left_entry (z ∷ xs) ys (suc i) x e = left_entry xs ys i x e
 
 pub left_entry_back : {X : Type 0} (xs ys : List X) (i : ℕ) (x : X) → i < length xs → slice_get (xs ++ ys) i ≡ Some x → slice_get xs i ≡ Some x
 left_entry_back [] ys i x lt e = absurd (omega (arith, lt))
@@ -99,7 +93,7 @@ module _ (n : PlainTableNet) (apart : AreNamedApart n) where
       let lt = slice_get_within (numbers n.inputs) i c at in
       let l = long n.inputs in
       let m = apart.one_input in
-      left_entry_back n.ports.inputs n.names i (net_name n c) (omega (arith, lt, l, m)) (net_named is i c (left_entry (numbers n.inputs) (table_classes n.tables) i c at))
+      left_entry_back n.ports.inputs n.names i (net_name n c) (omega (arith, lt, l, m)) (net_named is i c (get_left (numbers n.inputs) (table_classes n.tables) i c at))
 
   pub table_named : IsTableNet n → (j : ℕ) (t : Table) → slice_get n.tables j ≡ Some t → slice_get n.names j ≡ Some (net_name n t.out.0)
   table_named is j t at =

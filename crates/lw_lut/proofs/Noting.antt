@@ -3,6 +3,7 @@ use Rattle.std.proofs.Common.{ℕ, zero, suc, ◌+◌, ◌<◌, ◌≤◌, ◌�
 use Rattle.std.proofs.lemmas.Bool.{cases_eq}
 use Rattle.std.proofs.lemmas.List.{length-set, length-replicate, get_or-set_same, get_or-set_other, map_push, take_more, take_all}
 use Rattle.std.proofs.lemmas.List.Elements.{Contains-push, Contains-push_cases, Contains-append_left}
+use Rattle.lw_facts.proofs.Lists.{falses_at}
 use Rattle.lw_pool.specs.declared.id.ClassId.{ClassId}
 use Rattle.lw_lut.specs.Choosing.{AreRoots, HasAlso}
 use Rattle.lw_pool.specs.Numbers.{numbers}
@@ -48,11 +49,6 @@ also_more old now cs i d lt below has =
 pub also_all : (old now : List Bool) (cs : List ClassId) (i : ℕ) → length cs ≤ i → HasAlso old (take i cs) now → HasAlso old cs now
 also_all old now cs i le has = subst (λ (xs : List ClassId). HasAlso old xs now) (take_all i cs le) has
 
-none_noted : (n c : ℕ) → slice_index_or (replicate n false) c false ≡ false
-none_noted zero c = refl
-none_noted (suc n) zero = refl
-none_noted (suc n) (suc c) = none_noted n c
-
 -- flags of the roots alone
 pub roots_noted : (roots : List ClassId) (classes : ℕ) (needed : List Bool) → HasAlso (replicate classes false) roots needed → AreRoots roots classes needed
 roots_noted roots classes needed has = record {
@@ -61,5 +57,5 @@ roots_noted roots classes needed has = record {
 }
   where
     by_case : (c : ℕ) → (slice_index_or (replicate classes false) c false ≡ true) ⊎ Contains (numbers roots) c → Contains (numbers roots) c
-    by_case c (inl e) = absurd (true≢false (sym e ∙ none_noted classes c))
+    by_case c (inl e) = absurd (true≢false (sym e ∙ falses_at classes c))
     by_case c (inr k) = k

@@ -5,11 +5,10 @@ use Rattle.std.proofs.lemmas.Bool.{cases_eq}
 use Rattle.std.proofs.lemmas.Option.{same_Some, slice_get_within, get_or_from_slice_get, slice_get-get_or}
 use Rattle.std.specs.Prelude.{slice_index_or}
 use Rattle.std.proofs.lemmas.List.Elements.{All-contains}
-use Rattle.lw_laws.proofs.Lists.{in_map}
+use Rattle.lw_facts.proofs.Lists.{contains_map, contained_in_map}
 use Rattle.lw_laws.specs.Graphs.{Graph, HoldsPair, Pair as PlainPair}
 use Rattle.lw_graph.specs.declared.pair.Pair.{Pair}
 use Rattle.lw_graph.specs.Graphs.{plain_pair, plain_row}
-use Rattle.lw_graph.proofs.Indexing.{map_back}
 use Rattle.lw_lut.specs.Searches.{IsBoundedAt, count_at}
 
 Some_not_None : {p : Pair} → Some p ≡ None → {A : Type 0} → A
@@ -17,14 +16,14 @@ Some_not_None e = absurd (subst (λ o. elim o as (λ q. Type 0) [ Some q ↦ Uni
 
 module _ (g : Graph) (c : ℕ) (row : List Pair) (is : plain_row row ≡ slice_index_or g.pairs c []) where
   pub row_holds : (p : Pair) → Contains row p → HoldsPair g c p.x.0 p.y.0
-  row_holds p h = inl (subst (λ r. Contains r (plain_pair p)) is (in_map plain_pair row p h))
+  row_holds p h = inl (subst (λ r. Contains r (plain_pair p)) is (contains_map plain_pair row p h))
 
   pub row_bounds : (counts : List ℕ) (n : ℕ) → n ≡ count_at counts c → All (λ (p : Pair). n ≤ count_at counts p.x.0 + count_at counts p.y.0) row → IsBoundedAt g counts c
   row_bounds counts n same all x y h = elim h [ inl k ↦ here x y k | inr k ↦ let le = here y x k in omega (arith, le) ]
     where
       here : (a b : ℕ) → Contains (slice_index_or g.pairs c []) (record { x = a; y = b }) → count_at counts c ≤ count_at counts a + count_at counts b
       here a b k =
-          let (q, found, e) = map_back plain_pair row (record { x = a; y = b }) (subst (λ r. Contains r (record { x = a; y = b })) (sym is) k) in
+          let (q, found, e) = contained_in_map plain_pair row (record { x = a; y = b }) (subst (λ r. Contains r (record { x = a; y = b })) (sym is) k) in
           let ex : q.x.0 ≡ a = ap (λ (p : PlainPair). p.x) e in
           let ey : q.y.0 ≡ b = ap (λ (p : PlainPair). p.y) e in
           let le : n ≤ count_at counts q.x.0 + count_at counts q.y.0 = All-contains (λ (p : Pair). n ≤ count_at counts p.x.0 + count_at counts p.y.0) row q all found in

@@ -2,6 +2,7 @@
 use Rattle.std.proofs.Common.{ℕ, zero, suc, ◌+◌, ◌-◌, ◌<◌, ◌≤◌, ◌≡◌, ◌==◌, true, false, List, [], ◌∷◌, ◌++◌, length, get_or, Contains, Some, slice_get, set, refl, ap, sym, ◌∙◌, subst, arith, length-append}
 use Rattle.std.proofs.lemmas.List.{length-map}
 use Rattle.std.proofs.lemmas.Option.{none-some, same_Some, slice_get_within, slice_get-get_or, get_or_from_slice_get}
+use Rattle.lw_facts.proofs.Lists.{get_left, contained_at}
 use native.Mathlib.Decide.{dec_lt}
 use Rattle.indexmap.proofs.IndexTableLemmas.Probe.{pigeonhole}
 use Rattle.lw_laws.proofs.Numbers.{slice_get_map}
@@ -10,7 +11,6 @@ use Rattle.lw_lut.specs.Nets.{PlainTableNet, net_classes, table_classes}
 use Rattle.lw_lut.specs.Placed.{IsPlaced}
 use Rattle.lw_lut.specs.Texts.{name_at, net_name}
 use Rattle.lw_lut.specs.declared.table.Table.{Table}
-use Rattle.lw_lut.proofs.RisingClasses.{at_contains}
 use Rattle.lw_pool.specs.Numbers.{numbers}
 
 abbrev pub IsOnce : List ℕ → Type 0
@@ -32,12 +32,6 @@ name_here (d ∷ classes) (first ∷ names) (suc i) c name once e f =
     let there : (d == c) ≡ false = grind arith in
     rw there (name_here classes names i c name (once_rest d classes once) e f)
 
--- at a place of two lists, one after the other
-pub at_first : {X : Type 0} (xs ys : List X) (i : ℕ) (x : X) → slice_get xs i ≡ Some x → slice_get (xs ++ ys) i ≡ Some x
-at_first [] ys i x e = absurd (none-some x e)
-at_first (y ∷ xs) ys zero x e = e
-at_first (y ∷ xs) ys (suc i) x e = at_first xs ys i x e
-
 pub at_second : {X : Type 0} (xs ys : List X) (i : ℕ) (x : X) → length xs ≤ i → slice_get ys (i - length xs) ≡ Some x → slice_get (xs ++ ys) i ≡ Some x
 at_second [] ys i x le e = let same : i - 0 ≡ i = omega arith in subst (λ k. slice_get ys k ≡ Some x) same e
 at_second (y ∷ xs) ys zero x le e = absurd (omega (arith, le))
@@ -57,7 +51,7 @@ net_count n places is =
 
 module _ (n : PlainTableNet) (places : List ℕ) (is : IsPlaced n places) (c : ℕ) (has : Contains (net_classes n) c) where
   place : (i : ℕ) × (slice_get (net_classes n) i ≡ Some c) × (slice_get places c ≡ Some i)
-  place = let (i, at) = at_contains (net_classes n) c has in (i, at, is.placed i c at)
+  place = let (i, at) = contained_at (net_classes n) c has in (i, at, is.placed i c at)
 
   pub place_within : c < length places
   place_within = let (i, at, e) = place in slice_get_within places c i e
@@ -71,7 +65,7 @@ module _ (n : PlainTableNet) (places : List ℕ) (is : IsPlaced n places) (c : �
 
     pub input_named : (name : List ℕ) → p < length n.ports.inputs → name ≡ get_or n.ports.inputs p name → name ≡ net_name n c
     input_named name lt e =
-        sym (name_here (net_classes n) (n.ports.inputs ++ n.names) p c name is.kept.once class_at (at_first n.ports.inputs n.names p name (slice_get-get_or n.ports.inputs p name lt ∙ ap (λ x. Some x) (sym e))))
+        sym (name_here (net_classes n) (n.ports.inputs ++ n.names) p c name is.kept.once class_at (get_left n.ports.inputs n.names p name (slice_get-get_or n.ports.inputs p name lt ∙ ap (λ x. Some x) (sym e))))
 
     pub table_named : (name : List ℕ) → length n.ports.inputs ≤ p → name ≡ get_or n.names (p - length n.ports.inputs) name → name ≡ net_name n c
     table_named name le e =
@@ -108,7 +102,7 @@ placed_more classes places k c once at lt are i d below here = by_case (dec_lt i
 
 -- the class of an input, and of a table
 pub input_at : (inputs : List ClassId) (tables : List Table) (k : ℕ) (d : ClassId) → k < length inputs → slice_get (numbers inputs ++ table_classes tables) k ≡ Some (get_or inputs k d).0
-input_at inputs tables k d lt = at_first (numbers inputs) (table_classes tables) k (get_or inputs k d).0 (slice_get_map (λ (c : ClassId). c.0) inputs k (get_or inputs k d) (slice_get-get_or inputs k d lt))
+input_at inputs tables k d lt = get_left (numbers inputs) (table_classes tables) k (get_or inputs k d).0 (slice_get_map (λ (c : ClassId). c.0) inputs k (get_or inputs k d) (slice_get-get_or inputs k d lt))
 
 pub table_at : (inputs : List ClassId) (tables : List Table) (k : ℕ) (t : Table) → k < length tables → slice_get (numbers inputs ++ table_classes tables) (length inputs + k) ≡ Some (get_or tables k t).out.0
 table_at inputs tables k t lt =

@@ -3,6 +3,7 @@ use Rattle.std.proofs.Common.{◌≡◌, ◌+◌, ◌^◌, ◌<◌, ◌≤◌, �
 use Rattle.std.proofs.lemmas.List.{length-map}
 use Rattle.std.proofs.lemmas.List.Elements.{All-from_recursion}
 use Rattle.std.proofs.lemmas.Option.{slice_get_within}
+use Rattle.lw_facts.proofs.Lists.{contained_in_map, contains_map}
 use Rattle.lw_laws.proofs.Lists.{all_contains, contains_all}
 use Rattle.lw_laws.proofs.MappedNames.{input_sop}
 use Rattle.lw_laws.proofs.Mapping.{sop_occurs}
@@ -20,8 +21,6 @@ use Rattle.lw_laws.specs.Names.{AreDifferent}
 use Rattle.lw_laws.specs.Networks.{Network}
 use Rattle.lw_laws.specs.Signals.{sop_at, signals_of}
 use Rattle.lw_pool.specs.declared.id.ClassId.{ClassId}
-use Rattle.lw_graph.proofs.Indexing.{map_back}
-use Rattle.lw_laws.proofs.Lists.{in_map}
 use Rattle.lw_lut.specs.Covers.{IsLeastDepth}
 use Rattle.lw_lut.specs.Depths.{DepthLists, AreLeastDepths}
 use Rattle.lw_lut.specs.Meaning.{ArePortsApart, ArePortsOf}
@@ -73,7 +72,7 @@ module _ (mode : Mode) (width : ℕ) (from : Network) (outer : Ports) (g : Graph
 
   pub roots_known : (most : ℕ) (lists : DepthLists) → HasPorts from outer → AreLeastDepths g most lists → ((f : Form) (o : Option ℕ) → Occurs (listing_of width from) f → IsLeastDepth g most (class_in (listing_of width from) g f) o → (d : ℕ) × (o ≡ Some d)) → All (λ (root : ClassId). IsKnown lists.depths root.0) ports.roots
   roots_known most lists has least some = All-from_recursion (λ (root : ClassId). IsKnown lists.depths root.0) ports.roots (contains_all (λ (root : ClassId). IsKnown lists.depths root.0) ports.roots (λ root c.
-      let (p, k, e) = map_back (λ (p : Port). root_class width from g p.net) outer.outputs root.0 (subst (λ cs. Contains cs root.0) of.roots (in_map (λ (r : ClassId). r.0) ports.roots root c)) in
+      let (p, k, e) = contained_in_map (λ (p : Port). root_class width from g p.net) outer.outputs root.0 (subst (λ cs. Contains cs root.0) of.roots (contains_map (λ (r : ClassId). r.0) ports.roots root c)) in
       subst (IsKnown lists.depths) e (of_net p.net (all_contains (λ (p : Port). p.net < from.inputs + length from.nodes) outer.outputs p has k))))
     where
       of_net : (r : ℕ) → r < from.inputs + length from.nodes → IsKnown lists.depths (root_class width from g r)

@@ -3,10 +3,10 @@ use Rattle.std.proofs.Common.{ℕ, Bool, true, false, ◌||◌, Some, true≢fal
 use Rattle.std.proofs.lemmas.List.{take_more}
 use Rattle.std.proofs.lemmas.List.Elements.{Contains-push_cases}
 use Rattle.std.proofs.lemmas.Bool.{cases_eq}
+use Rattle.lw_facts.proofs.Lists.{contained_in_map}
 use Rattle.lw_laws.specs.Graphs.{Graph, HoldsPair, Pair as PlainPair}
 use Rattle.lw_graph.specs.declared.pair.Pair.{Pair}
 use Rattle.lw_graph.specs.Graphs.{plain_pair, plain_row}
-use Rattle.lw_graph.proofs.Indexing.{map_back}
 use Rattle.lw_lut.specs.Reaches.{AreKnownBut, AreReaches, IsIn, IsWithin, FallsAt, span_at}
 use Rattle.lw_lut.specs.Searches.{AreSettled, IsBoundedAt, IsDeepened, IsKnown, depth_in, unknown_count}
 use Rattle.lw_lut.specs.declared.span.Span.{Span}
@@ -24,7 +24,7 @@ row_seen g c row is reach all x y h = elim h [ inl k ↦ here x y k | inr k ↦ 
   where
     here : (a b : ℕ) → Contains (slice_index_or g.pairs c []) (record { x = a; y = b }) → IsSeen reach c a b
     here a b k =
-        let (q, found, e) = map_back plain_pair row (record { x = a; y = b }) (subst (λ r. Contains r (record { x = a; y = b })) (sym is) k) in
+        let (q, found, e) = contained_in_map plain_pair row (record { x = a; y = b }) (subst (λ r. Contains r (record { x = a; y = b })) (sym is) k) in
         let ex : q.x.0 ≡ a = ap (λ (p : PlainPair). p.x) e in
         let ey : q.y.0 ≡ b = ap (λ (p : PlainPair). p.y) e in
         subst₂ (λ s t. IsSeen reach c s t) ex ey (all q found)

@@ -7,14 +7,15 @@ use Rattle.std.proofs.lemmas.Bool.Decides.{nat_tests}
 use Rattle.std.proofs.lemmas.List.{map-append, length-map, length-append}
 use Rattle.std.proofs.lemmas.Option.{slice_get_read}
 use Rattle.std.proofs.lemmas.Slice.Eq.{bytes_eq-Decides}
+use Rattle.std.proofs.lemmas.Bool.{or_parts}
+use Rattle.lw_facts.proofs.Lists.{bytes_differ_turned, at_contained}
 use Rattle.lw_pool.specs.declared.id.ClassId.{ClassId}
-use Rattle.lw_frame.proofs.Once.{is_among, eq-flips}
+use Rattle.lw_frame.proofs.Once.{is_among}
 use Rattle.lw_laws.specs.Names.{AreDifferent}
 use Rattle.lw_laws.proofs.Lists.{all_append, all_contains, contains_all}
 use Rattle.lw_lut.specs.Nets.{PlainTableNet, table_classes, net_classes}
 use Rattle.lw_lut.specs.Texts.{name_at, net_name}
 use Rattle.lw_lut.specs.declared.table.Table.{Table}
-use Rattle.lw_lut.proofs.RisingClasses.{contains_at}
 use Rattle.lw_pool.specs.Numbers.{numbers}
 
 -- Names by class.
@@ -113,9 +114,6 @@ tables_named n once inputs names =
 
 -- Names that differ.
 
-flips : (x y : List ℕ) → bytes_eq x y ≡ false → bytes_eq y x ≡ false
-flips x y e = eq-flips y x ∙ e
-
 pub distinct_of : (names : List (List ℕ)) → AreDifferent names → IsDistinct bytes_eq names
 unfolding IsDistinct
 distinct_of [] differ = tt
@@ -133,7 +131,7 @@ distinct_of (x ∷ names) differ = (contains_all (λ y. bytes_eq x y ≡ false) 
 
 first_once : (x : List ℕ) (names : List (List ℕ)) → Each (λ y. bytes_eq x y ≡ false) names → (j : ℕ) (name : List ℕ) → ◌≡◌ {A = Option (List ℕ)} (Some x) (Some name) → slice_get names j ≡ Some name → ⊥
 first_once x names each j name e f =
-    let other : bytes_eq x name ≡ false = all_contains (λ y. bytes_eq x y ≡ false) names name each (contains_at names j name f) in
+    let other : bytes_eq x name ≡ false = all_contains (λ y. bytes_eq x y ≡ false) names name each (at_contained names j name f) in
     let is : x ≡ name = cc in
     let same : bytes_eq x name ≡ true = (bytes_eq-Decides x name).1 is in
     cc
@@ -147,10 +145,6 @@ different_of (x ∷ names) d zero (suc j) name e f = absurd (first_once x names 
 different_of (x ∷ names) d (suc i) zero name e f = absurd (first_once x names d.0 i name f e)
 different_of (x ∷ names) d (suc i) (suc j) name e f = ap suc (different_of names d.1 i j name e f)
 
-neither : (a b : Bool) → (a || b) ≡ false → (a ≡ false) × (b ≡ false)
-neither true b e = cc
-neither false b e = (refl, e)
-
 pub distinct_append : (xs ys : List (List ℕ)) → IsDistinct bytes_eq xs → IsDistinct bytes_eq ys → Each (λ y. is_among xs y ≡ false) ys → IsDistinct bytes_eq (xs ++ ys)
 unfolding IsDistinct
 distinct_append [] ys dx dy apart = dy
@@ -159,27 +153,18 @@ distinct_append (x ∷ xs) ys dx dy apart =
   where
     first : (zs : List (List ℕ)) → Each (λ y. is_among (x ∷ xs) y ≡ false) zs → Each (λ y. bytes_eq x y ≡ false) zs
     first [] each = tt
-    first (z ∷ zs) each = (flips z x (neither (bytes_eq z x) (is_among xs z) each.0).0, first zs each.1)
+    first (z ∷ zs) each = (bytes_differ_turned z x (or_parts (bytes_eq z x) (is_among xs z) each.0).0, first zs each.1)
 
     others : (zs : List (List ℕ)) → Each (λ y. is_among (x ∷ xs) y ≡ false) zs → Each (λ y. is_among xs y ≡ false) zs
     others [] each = tt
-    others (z ∷ zs) each = ((neither (bytes_eq z x) (is_among xs z) each.0).1, others zs each.1)
+    others (z ∷ zs) each = ((or_parts (bytes_eq z x) (is_among xs z) each.0).1, others zs each.1)
 
 -- a name is none of those before it
 pub none_among : (xs : List (List ℕ)) (x : List ℕ) (rest : List (List ℕ)) → IsDistinct bytes_eq (xs ++ x ∷ rest) → is_among xs x ≡ false
 unfolding IsDistinct
 none_among [] x rest d = refl
-none_among (y ∷ xs) x rest d = ap₂ (λ a b. a || b) (flips y x (middle xs d.0)) (none_among xs x rest d.1)
+none_among (y ∷ xs) x rest d = ap₂ (λ a b. a || b) (bytes_differ_turned y x (middle xs d.0)) (none_among xs x rest d.1)
   where
     middle : (zs : List (List ℕ)) → Each (λ z. bytes_eq y z ≡ false) (zs ++ x ∷ rest) → bytes_eq y x ≡ false
     middle [] each = each.0
     middle (z ∷ zs) each = middle zs each.1
-
-pub distinct_left : (xs ys : List (List ℕ)) → IsDistinct bytes_eq (xs ++ ys) → IsDistinct bytes_eq xs
-unfolding IsDistinct
-distinct_left [] ys d = tt
-distinct_left (x ∷ xs) ys d = (front xs d.0, distinct_left xs ys d.1)
-  where
-    front : (zs : List (List ℕ)) → Each (λ z. bytes_eq x z ≡ false) (zs ++ ys) → Each (λ z. bytes_eq x z ≡ false) zs
-    front [] each = tt
-    front (z ∷ zs) each = (each.0, front zs each.1)

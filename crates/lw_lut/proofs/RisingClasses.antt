@@ -6,21 +6,9 @@ use Rattle.std.proofs.lemmas.List.Elements.{Contains-push, Contains-push_cases, 
 use Rattle.std.proofs.lemmas.List.Sorted.{Contains-permutation, IsPermutation-sym, length_permutation}
 use Rattle.std.proofs.lemmas.Option.{none-some, same_Some, slice_get_within, slice_get-get_or, get_or_from_slice_get}
 use Rattle.std.specs.List.Sorted.{IsPermutation, IsNonDecreasingBy}
+use Rattle.lw_facts.proofs.Lists.{at_contained, get_push_cases}
 use Rattle.lw_pool.specs.declared.id.ClassId.{ClassId}
 use Rattle.lw_lut.specs.Tables.{AreRisingClasses, IsAdded}
-
-pub contains_at : {X : Type 0} (xs : List X) (k : ℕ) (x : X) → slice_get xs k ≡ Some x → Contains xs x
-contains_at xs k x e = (k, slice_get_within xs k x e, get_or_from_slice_get xs k x x e)
-
-pub at_contains : {X : Type 0} (xs : List X) (x : X) → Contains xs x → (k : ℕ) × (slice_get xs k ≡ Some x)
-at_contains xs x (k, lt, e) = (k, slice_get-get_or xs k x lt ∙ ap (λ y. Some y) e)
-
--- an element of a list with one more
-pub at_push : {X : Type 0} (xs : List X) (y : X) (i : ℕ) (x : X) → slice_get (xs ++ y ∷ []) i ≡ Some x → (slice_get xs i ≡ Some x) ⊎ ((i ≡ length xs) × (y ≡ x))
-at_push [] y zero x e = inr (refl, same_Some y x e)
-at_push [] y (suc i) x e = absurd (none-some x e)
-at_push (z ∷ xs) y zero x e = inl e
-at_push (z ∷ xs) y (suc i) x e = elim (at_push xs y i x e) [ inl f ↦ inl f | inr (s, f) ↦ inr (ap suc s, f) ]
 
 pub record AreGathered (seen gathered : List ClassId) : Type 0 where
   pub rising : AreRisingClasses gathered
@@ -47,7 +35,7 @@ gathered_more seen gathered new c below (inl (there, same)) are = subst (λ xs. 
   few = let l = length-append seen (c ∷ []) in let f = are.few in omega (arith, l, f);
 })
 gathered_more seen gathered new c below (inr (not, same)) are = subst (λ xs. AreGathered (seen ++ c ∷ []) xs) (sym same) (record {
-  rising = λ i j x y e f lt. rising i j x y lt (at_push gathered c i x e) (at_push gathered c j y f);
+  rising = λ i j x y e f lt. rising i j x y lt (get_push_cases gathered c i x e) (get_push_cases gathered c j y f);
   from = λ x k. elim (Contains-push_cases gathered c x k) [ inl h ↦ Contains-append_left seen (c ∷ []) x (are.from x h) | inr e ↦ subst (λ (z : ClassId). Contains (seen ++ c ∷ []) z) e (Contains-push seen c) ];
   to = λ x k. elim (Contains-push_cases seen c x k) [ inl h ↦ Contains-append_left gathered (c ∷ []) x (are.to x h) | inr e ↦ subst (λ (z : ClassId). Contains (gathered ++ c ∷ []) z) e (Contains-push gathered c) ];
   few = let l = length-append seen (c ∷ []) in let m = length-append gathered (c ∷ []) in let f = are.few in omega (arith, l, m, f);
@@ -61,7 +49,7 @@ gathered_more seen gathered new c below (inr (not, same)) are = subst (λ xs. Ar
 
     rising : (i j : ℕ) (x y : ClassId) → i < j → (slice_get gathered i ≡ Some x) ⊎ ((i ≡ length gathered) × (c ≡ x)) → (slice_get gathered j ≡ Some y) ⊎ ((j ≡ length gathered) × (c ≡ y)) → x.0 < y.0
     rising i j x y lt (inl e) (inl f) = are.rising i j x y e f lt
-    rising i j x y lt (inl e) (inr (s, f)) = subst (λ (z : ClassId). x.0 < z.0) f (less x (contains_at gathered i x e))
+    rising i j x y lt (inl e) (inr (s, f)) = subst (λ (z : ClassId). x.0 < z.0) f (less x (at_contained gathered i x e))
     rising i j x y lt (inr (s, e)) (inl f) = let w = slice_get_within gathered j y f in absurd (omega (arith, w, s, lt))
     rising i j x y lt (inr (s, e)) (inr (t, f)) = absurd (omega (arith, s, t, lt))
 

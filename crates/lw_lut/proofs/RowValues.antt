@@ -2,7 +2,7 @@
 use Rattle.std.proofs.Common.{◌≡◌, ◌+◌, ◌*◌, ◌%◌, ◌^◌, ◌<◌, ◌≤◌, ◌==◌, inl, inr, ℕ, zero, suc, Bool, true, false, ◌&&◌, ◌||◌, List, [], ◌∷◌, ◌++◌, length, map, Some, if◌then◌else◌, refl, sym, ap, ap₂, ◌∙◌, arith}
 use Rattle.std.specs.Int.{bit_at}
 use Rattle.std.specs.List.{list_any}
-use Rattle.std.proofs.lemmas.Bool.{cases_eq}
+use Rattle.std.proofs.lemmas.Bool.{cases_eq, eq-eqb, ne_eqb}
 use Rattle.std.proofs.lemmas.Nat.{mod-pow-add, pow_pos}
 use Rattle.std.proofs.Math.Bool.{and-false, and-true, or-false}
 use Rattle.std.proofs.Math.Nat.{mod-lt, mod-eq_of_lt}
@@ -14,13 +14,12 @@ use Rattle.lw_lut.specs.Texts.{binary}
 use Rattle.lw_lut.specs.Said.{columns_from}
 use Rattle.lw_lut.specs.declared.table.Table.{Table}
 use Rattle.lw_lut.proofs.Bits.{spelled_low}
-use Rattle.lw_lut.proofs.Fanins.{same_test, other_test}
 
 -- two tests of equal outcome
 pub tests_alike : (a b c d : ℕ) → (a ≡ b → c ≡ d) → (c ≡ d → a ≡ b) → (a == b) ≡ (c == d)
 tests_alike a b c d to from = elim (cases_eq a b) [
-  | inl e ↦ same_test a b e ∙ sym (same_test c d (to e))
-  | inr ne ↦ other_test a b ne ∙ sym (other_test c d (λ e. ne (from e)))
+  | inl e ↦ eq-eqb a b e ∙ sym (eq-eqb c d (to e))
+  | inr ne ↦ ne_eqb a b ne ∙ sym (ne_eqb c d (λ e. ne (from e)))
 ]
 
 -- a bit of a row asks for its value
@@ -31,10 +30,10 @@ bit_asked (suc (suc b)) lt = absurd (omega arith)
 
 -- one more bit in front
 front : (b r s m : ℕ) (value : Bool) → b < 2 → r < m → s < m → (agrees (b == 1) value && (r == s)) ≡ (b * m + r == (if value then m else 0) + s)
-front zero r s m true lt p q = sym (other_test (0 * m + r) (m + s) (λ e. omega (arith, e, p)))
+front zero r s m true lt p q = sym (ne_eqb (0 * m + r) (m + s) (λ e. omega (arith, e, p)))
 front zero r s m false lt p q = tests_alike r s (0 * m + r) (0 + s) (λ e. omega (arith, e)) (λ e. omega (arith, e))
 front (suc zero) r s m true lt p q = tests_alike r s (1 * m + r) (m + s) (λ e. omega (arith, e)) (λ e. omega (arith, e))
-front (suc zero) r s m false lt p q = sym (other_test (1 * m + r) (0 + s) (λ e. omega (arith, e, q)))
+front (suc zero) r s m false lt p q = sym (ne_eqb (1 * m + r) (0 + s) (λ e. omega (arith, e, q)))
 front (suc (suc b)) r s m value lt p q = absurd (omega arith)
 
 low : (n k : ℕ) → n % 2 ^ k < 2 ^ k
@@ -42,7 +41,7 @@ low n k = mod-lt n (pow_pos k)
 
 -- a row holds where its number is spelled
 pub row_holds : (v : ℕ → Bool) (fs : List ℕ) (place : ℕ) → row_value (map v fs) (map asked (binary (length fs) place)) ≡ (place % 2 ^ length fs == spelled v fs)
-row_holds v [] place = sym (same_test (place % 1) 0 (omega arith))
+row_holds v [] place = sym (eq-eqb (place % 1) 0 (omega arith))
 row_holds v (f ∷ fs) place =
     let n = length fs in
     let b = bit_at place n in
@@ -75,7 +74,7 @@ module _ (t : Table) (v : ℕ → Bool) (fs : List ℕ) (long : length t.fanins 
   none_behind place zero lt le = refl
   none_behind place (suc count) lt le =
       let row = binary (length t.fanins) place in
-      let other : row_value (map v fs) (map asked row) ≡ false = one_row place (omega arith) ∙ other_test place s (λ e. omega (arith, e)) in
+      let other : row_value (map v fs) (map asked row) ≡ false = one_row place (omega arith) ∙ ne_eqb place s (λ e. omega (arith, e)) in
       step (is_set t.bits place) row (columns_from t (suc place) count)
       ∙ ap₂ (λ a b. a || b) (ap (λ a. is_set t.bits place && a) other ∙ and-false (is_set t.bits place)) (none_behind (suc place) count (omega arith) (omega arith))
 
@@ -84,11 +83,11 @@ module _ (t : Table) (v : ℕ → Bool) (fs : List ℕ) (long : length t.fanins 
   found place (suc count) ge lt le = elim (cases_eq place s) [
     | inl same ↦
         step (is_set t.bits place) row (columns_from t (suc place) count)
-        ∙ (ap₂ (λ a b. a || b) (ap (λ a. is_set t.bits place && a) (here ∙ same_test place s same) ∙ and-true (is_set t.bits place)) (none_behind (suc place) count (omega arith) (omega arith))
+        ∙ (ap₂ (λ a b. a || b) (ap (λ a. is_set t.bits place && a) (here ∙ eq-eqb place s same) ∙ and-true (is_set t.bits place)) (none_behind (suc place) count (omega arith) (omega arith))
         ∙ (or-false (is_set t.bits place) ∙ ap (is_set t.bits) same))
     | inr other ↦
         step (is_set t.bits place) row (columns_from t (suc place) count)
-        ∙ ap₂ (λ a b. a || b) (ap (λ a. is_set t.bits place && a) (here ∙ other_test place s other) ∙ and-false (is_set t.bits place)) (found (suc place) count (omega (arith, other)) (omega arith) (omega arith))
+        ∙ ap₂ (λ a b. a || b) (ap (λ a. is_set t.bits place && a) (here ∙ ne_eqb place s other) ∙ and-false (is_set t.bits place)) (found (suc place) count (omega (arith, other)) (omega arith) (omega arith))
   ]
     where
       row : List ℕ

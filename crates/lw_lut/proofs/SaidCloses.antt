@@ -5,12 +5,12 @@ use Rattle.std.proofs.lemmas.Bool.Decides.{nat_tests}
 use Rattle.std.proofs.lemmas.List.{length-map}
 use Rattle.std.proofs.lemmas.List.Elements.{All-from_recursion}
 use Rattle.std.proofs.lemmas.Option.{get_or_from_slice_get, slice_get_within}
+use Rattle.lw_facts.proofs.Lists.{contained_in_map, contains_map, at_contained}
 use Rattle.lw_dag.specs.Names.{is_among, number_in}
 use Rattle.lw_dag.specs.Ordering.{greatest}
 use Rattle.lw_dag.proofs.Numbering.{number_at, among_contains}
-use Rattle.lw_graph.proofs.Indexing.{map_back}
 use Rattle.lw_laws.specs.Graphs.{Graph}
-use Rattle.lw_laws.proofs.Lists.{in_map, in_right, contains_all}
+use Rattle.lw_laws.proofs.Lists.{in_right, contains_all}
 use Rattle.lw_pool.specs.declared.id.ClassId.{ClassId}
 use Rattle.lw_net.specs.declared.draft.DraftNode.{DraftNode}
 use Rattle.lw_net.specs.Closing.{IsClosed, out_of}
@@ -27,7 +27,6 @@ use Rattle.lw_lut.proofs.ClosedNames.{some_depths}
 use Rattle.lw_lut.proofs.TableValues.{said_wire}
 use Rattle.lw_lut.proofs.Falling.{closes, weighed, weighed_input, weighed_node}
 use Rattle.lw_lut.proofs.NetNames.{net_place}
-use Rattle.lw_lut.proofs.RisingClasses.{contains_at}
 use Rattle.lw_lut.proofs.SaidNodes.{IsWire, IsTables, node_cases}
 use Rattle.lw_lut.proofs.SaidSignals.{contains_among, distinct_by_place, said_distinct, said_defined, wire_apart}
 use Rattle.lw_lut.proofs.TableCovers.{greatest_above}
@@ -52,7 +51,7 @@ module _ (g : Graph) (most : ℕ) (depths : List (Option ℕ)) (n : PlainTableNe
   net_rank c among =
       let (i, at, named) = net_place n apart c among in
       let number : number_in (net_names n) (net_name n c) ≡ i = ap (number_in (net_names n)) (sym (get_or_from_slice_get (net_names n) i (net_name n c) [] named)) ∙ number_at (net_names n) i [] (distinct_by_place (net_names n) apart.nets) (slice_get_within (net_names n) i (net_name n c) named) in
-      ap (λ b. if b then deep (slice_index_or (net_classes n) (number_in (net_names n) (net_name n c)) 0) else beyond) (contains_among (net_names n) (net_name n c) (contains_at (net_names n) i (net_name n c) named))
+      ap (λ b. if b then deep (slice_index_or (net_classes n) (number_in (net_names n) (net_name n c)) 0) else beyond) (contains_among (net_names n) (net_name n c) (at_contained (net_names n) i (net_name n c) named))
       ∙ ap deep (ap (λ k. slice_index_or (net_classes n) k 0) number ∙ get_or_from_slice_get (net_classes n) i c 0 at)
 
   wire_rank : (node : DraftNode) → IsWire n n.ports.outputs n.ports.roots node → rank node.out ≡ beyond
@@ -68,20 +67,20 @@ module _ (g : Graph) (most : ℕ) (depths : List (Option ℕ)) (n : PlainTableNe
       of_table : IsTables n node → rank name < rank node.out
       of_table t =
           let is = tables_are t.by t.among in
-          let (q, k, e) = map_back (λ (q : ClassId). net_name n q.0) t.by.fanins name (subst (λ (d : DraftNode). Contains d.fanins name) (sym t.is) c) in
+          let (q, k, e) = contained_in_map (λ (q : ClassId). net_name n q.0) t.by.fanins name (subst (λ (d : DraftNode). Contains d.fanins name) (sym t.is) c) in
           let (f, known, less) = is.below q k in
           let own : Contains (net_classes n) t.by.out.0 = out_class t.by t.among in
           let high : rank node.out ≡ suc is.depth = ap rank (sym (ap out_of t.is)) ∙ (net_rank t.by.out.0 own ∙ ap (λ o. unwrap_or o 0) is.depth_is) in
-          let low : rank name ≡ f = ap rank (sym e) ∙ (net_rank q.0 (kept.fanins t.by q.0 t.among (in_map (λ (r : ClassId). r.0) t.by.fanins q k)) ∙ ap (λ o. unwrap_or o 0) known) in
+          let low : rank name ≡ f = ap rank (sym e) ∙ (net_rank q.0 (kept.fanins t.by q.0 t.among (contains_map (λ (r : ClassId). r.0) t.by.fanins q k)) ∙ ap (λ o. unwrap_or o 0) known) in
           omega (arith, high, low, less)
         where
           out_class : (u : Table) → Contains n.tables u → Contains (net_classes n) u.out.0
-          out_class u k = in_right (numbers n.inputs) (table_classes n.tables) u.out.0 (in_map (λ (t : Table). t.out.0) n.tables u k)
+          out_class u k = in_right (numbers n.inputs) (table_classes n.tables) u.out.0 (contains_map (λ (t : Table). t.out.0) n.tables u k)
 
       of_wire : IsWire n n.ports.outputs n.ports.roots node → rank name < rank node.out
       of_wire w =
           let only : Contains (net_name n w.root.0 ∷ []) name = subst (λ (d : DraftNode). Contains d.fanins name) (sym w.is) c in
-          let root : Contains (net_classes n) w.root.0 = kept.roots w.root.0 (in_map (λ (r : ClassId). r.0) n.ports.roots w.root (contains_at n.ports.roots w.place w.root w.root_at)) in
+          let root : Contains (net_classes n) w.root.0 = kept.roots w.root.0 (contains_map (λ (r : ClassId). r.0) n.ports.roots w.root (at_contained n.ports.roots w.place w.root w.root_at)) in
           let low : rank name ≡ deep w.root.0 = ap rank (sym (single (net_name n w.root.0) only)) ∙ net_rank w.root.0 root in
           let high = wire_rank node w in
           let within = greatest_above deep (net_classes n) w.root.0 root in

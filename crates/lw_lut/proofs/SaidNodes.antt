@@ -3,8 +3,8 @@ use Rattle.std.proofs.Common.{◌≡◌, ◌⊎◌, inl, inr, ℕ, zero, suc, Bo
 use Rattle.std.proofs.lemmas.Option.{same_Some}
 use Rattle.std.specs.Str.{bytes_eq}
 use Rattle.std.proofs.lemmas.List.Elements.{Contains-append_cases}
-use Rattle.lw_laws.proofs.Lists.{in_left, in_right, in_map}
-use Rattle.lw_graph.proofs.Indexing.{map_back}
+use Rattle.lw_facts.proofs.Lists.{contains_map, contained_in_map}
+use Rattle.lw_laws.proofs.Lists.{in_left, in_right}
 use Rattle.lw_pool.specs.declared.id.ClassId.{ClassId}
 use Rattle.lw_net.specs.declared.draft.DraftNode.{DraftNode}
 use Rattle.lw_lut.specs.Nets.{PlainTableNet}
@@ -60,12 +60,12 @@ module _ (n : PlainTableNet) where
 
   pub node_cases : (node : DraftNode) → Contains (draft_said n).nodes node → IsTables n node ⊎ IsWire n n.ports.outputs n.ports.roots node
   node_cases node among = elim (Contains-append_cases (map (table_node n) n.tables) (wire_nodes n n.ports.outputs n.ports.roots) node among) [
-    | inl c ↦ let (t, k, e) = map_back (table_node n) n.tables node c in inl (record { by = t; among = k; is = e })
+    | inl c ↦ let (t, k, e) = contained_in_map (table_node n) n.tables node c in inl (record { by = t; among = k; is = e })
     | inr c ↦ inr (wire_of n.ports.outputs n.ports.roots node c)
   ]
 
   pub table_in : (t : Table) → Contains n.tables t → Contains (draft_said n).nodes (table_node n t)
-  table_in t c = in_left (map (table_node n) n.tables) (wire_nodes n n.ports.outputs n.ports.roots) (table_node n t) (in_map (table_node n) n.tables t c)
+  table_in t c = in_left (map (table_node n) n.tables) (wire_nodes n n.ports.outputs n.ports.roots) (table_node n t) (contains_map (table_node n) n.tables t c)
 
   pub wire_in : (k : ℕ) (output : List ℕ) (root : ClassId) → slice_get n.ports.outputs k ≡ Some output → slice_get n.ports.roots k ≡ Some root → bytes_eq (net_name n root.0) output ≡ false → Contains (draft_said n).nodes (wire_node n output root)
   wire_in k output root at rt ne = in_right (map (table_node n) n.tables) (wire_nodes n n.ports.outputs n.ports.roots) (wire_node n output root) (wire_there n.ports.outputs n.ports.roots k output root at rt ne)

@@ -5,12 +5,11 @@ use Rattle.std.specs.Str.{bytes_eq}
 use Rattle.std.proofs.lemmas.List.{length-map, map-append}
 use Rattle.std.proofs.lemmas.List.Elements.{Contains-append_cases}
 use Rattle.std.proofs.lemmas.Option.{slice_get_within, same_Some}
+use Rattle.lw_facts.proofs.Lists.{bytes_eq_is, bytes_eq_same, contains_map, contained_in_map, contained_at, at_contained}
 use Rattle.lw_dag.specs.Names.{is_among, unknown_in}
-use Rattle.lw_dag.proofs.Names.{same_name, alike}
 use Rattle.lw_laws.specs.Names.{AreDifferent}
-use Rattle.lw_laws.proofs.Lists.{all_append, contains_all, in_left, in_right, in_map, slice_get_some}
+use Rattle.lw_laws.proofs.Lists.{all_append, contains_all, in_left, in_right, slice_get_some}
 use Rattle.lw_laws.proofs.Numbers.{slice_get_map, slice_get_map_back}
-use Rattle.lw_graph.proofs.Indexing.{map_back}
 use Rattle.lw_pool.specs.declared.id.ClassId.{ClassId}
 use Rattle.lw_net.specs.declared.draft.DraftNode.{DraftNode}
 use Rattle.lw_net.specs.Closing.{signals_of, out_of, fanins_of, first_undefined}
@@ -19,7 +18,6 @@ use Rattle.lw_lut.specs.Nets.{PlainTableNet, IsTableNet, net_classes}
 use Rattle.lw_lut.specs.Texts.{net_name}
 use Rattle.lw_lut.specs.Said.{draft_said, table_node, wire_nodes}
 use Rattle.lw_lut.proofs.NetNames.{net_place, net_named, table_named}
-use Rattle.lw_lut.proofs.RisingClasses.{at_contains, contains_at}
 use Rattle.lw_lut.proofs.SaidNodes.{IsWire, IsTables, wire_of, wire_in, node_cases, wire_node}
 
 abbrev Name : Type 0
@@ -29,13 +27,13 @@ names_differ : (x y : Name) → (x ≡ y → ⊥) → bytes_eq x y ≡ false
 names_differ x y ne = by_test (bytes_eq x y) refl
   where
     by_test : (b : Bool) → bytes_eq x y ≡ b → b ≡ false
-    by_test true e = absurd (ne (same_name x y e))
+    by_test true e = absurd (ne (bytes_eq_is x y e))
     by_test false e = refl
 
 pub distinct_by_place : (xs : List Name) → AreDifferent xs → IsDistinct bytes_eq xs
 unfolding IsDistinct
 distinct_by_place [] d = tt
-distinct_by_place (x ∷ xs) d = (contains_all (λ y. bytes_eq x y ≡ false) xs (λ y c. names_differ x y (λ e. first y e (at_contains xs y c))), distinct_by_place xs (λ i j name e f. lower i j (d (suc i) (suc j) name e f)))
+distinct_by_place (x ∷ xs) d = (contains_all (λ y. bytes_eq x y ≡ false) xs (λ y c. names_differ x y (λ e. first y e (contained_at xs y c))), distinct_by_place xs (λ i j name e f. lower i j (d (suc i) (suc j) name e f)))
   where
     first : (y : Name) → x ≡ y → (k : ℕ) × (slice_get xs k ≡ Some y) → ⊥
     first y e (k, at) = let s : 0 ≡ suc k = d zero (suc k) y (ap Some e) at in omega (arith, s)
@@ -59,7 +57,7 @@ list_alike (x ∷ xs) (y ∷ ys) e same = ap₂ (λ a b. a ∷ b) (same zero x y
 
 pub contains_among : (names : List Name) (name : Name) → Contains names name → is_among names name ≡ true
 contains_among [] name (k, lt, e) = absurd (omega (arith, lt))
-contains_among (x ∷ xs) name (zero, lt, e) = ap (λ b. b || is_among xs name) (alike name x (sym e))
+contains_among (x ∷ xs) name (zero, lt, e) = ap (λ b. b || is_among xs name) (bytes_eq_same name x (sym e))
 contains_among (x ∷ xs) name (suc k, lt, e) = by_test (bytes_eq name x) (contains_among xs name (k, omega (arith, lt), e))
   where
     by_test : (b : Bool) → is_among xs name ≡ true → (b || is_among xs name) ≡ true
@@ -105,10 +103,10 @@ module _ (n : PlainTableNet) (apart : AreNamedApart n) (kept : IsTableNet n) whe
     where
       later : (y : Name) → Contains (map out_of (wire_nodes n outputs roots)) y → bytes_eq output y ≡ false
       later y c =
-          let (node, k, e) = map_back out_of (wire_nodes n outputs roots) y c in
+          let (node, k, e) = contained_in_map out_of (wire_nodes n outputs roots) y c in
           let w = wire_of n outputs roots node k in
           let same : w.output ≡ y = ap out_of w.is ∙ e in
-          subst (λ z. bytes_eq output z ≡ false) same (of_all outputs w.output d.0 (contains_at outputs w.place w.output w.output_at))
+          subst (λ z. bytes_eq output z ≡ false) same (of_all outputs w.output d.0 (at_contained outputs w.place w.output w.output_at))
         where
           of_all : (xs : List Name) (x : Name) → AllByRecursion (λ z. bytes_eq output z ≡ false) xs → Contains xs x → bytes_eq output x ≡ false
           of_all [] x a (k, lt, e) = absurd (omega (arith, lt))
@@ -122,26 +120,26 @@ module _ (n : PlainTableNet) (apart : AreNamedApart n) (kept : IsTableNet n) whe
   -- no wire drives a net of a table or an input
   pub wire_apart : (node : DraftNode) → IsWire n n.ports.outputs n.ports.roots node → Contains (net_names n) node.out → ⊥
   wire_apart node w c =
-      let (i, at) = at_contains (net_names n) node.out c in
+      let (i, at) = contained_at (net_names n) node.out c in
       let out : w.output ≡ node.out = ap out_of w.is in
       let own = apart.owned i w.place w.output (at ∙ ap Some (sym out)) w.output_at in
       let class : slice_get (net_classes n) i ≡ Some w.root.0 = own ∙ slice_get_map (λ (r : ClassId). r.0) n.ports.roots w.place w.root w.root_at in
       let same : net_name n w.root.0 ≡ w.output = same_Some (net_name n w.root.0) w.output (sym (net_named n apart kept i w.root.0 class) ∙ (at ∙ ap Some (sym out))) in
-      refuted (bytes_eq (net_name n w.root.0) w.output) (alike (net_name n w.root.0) w.output same) w.other
+      refuted (bytes_eq (net_name n w.root.0) w.output) (bytes_eq_same (net_name n w.root.0) w.output same) w.other
     where
       refuted : (b : Bool) → b ≡ true → b ≡ false → ⊥
       refuted b e f = cc
 
   pub said_distinct : IsDistinct bytes_eq (signals_of (draft_said n))
   said_distinct = subst (IsDistinct bytes_eq) (sym signals_are) (distinct_join (net_names n) (map out_of wires) (distinct_by_place (net_names n) apart.nets) (wires_distinct n.ports.outputs n.ports.roots (distinct_by_place n.ports.outputs apart.outputs)) (λ name a b.
-      let (node, k, e) = map_back out_of wires name b in
+      let (node, k, e) = contained_in_map out_of wires name b in
       wire_apart node (wire_of n n.ports.outputs n.ports.roots node k) (subst (Contains (net_names n)) (sym e) a)))
 
   -- the net of a class is a signal
   pub net_known : (c : ℕ) → Contains (net_classes n) c → Contains (signals_of (draft_said n)) (net_name n c)
   net_known c among =
       let (i, at, named) = net_place n apart c among in
-      subst (λ names. Contains names (net_name n c)) (sym signals_are) (in_left (net_names n) (map out_of wires) (net_name n c) (contains_at (net_names n) i (net_name n c) named))
+      subst (λ names. Contains names (net_name n c)) (sym signals_are) (in_left (net_names n) (map out_of wires) (net_name n c) (at_contained (net_names n) i (net_name n c) named))
 
   -- each fan-in is the net of a class
   pub fanin_class : (node : DraftNode) (name : Name) → Contains (draft_said n).nodes node → Contains node.fanins name → (c : ℕ) × Contains (net_classes n) c × (net_name n c ≡ name)
@@ -149,13 +147,13 @@ module _ (n : PlainTableNet) (apart : AreNamedApart n) (kept : IsTableNet n) whe
     where
       of_table : IsTables n node → (c : ℕ) × Contains (net_classes n) c × (net_name n c ≡ name)
       of_table t =
-          let (q, k, e) = map_back (λ (q : ClassId). net_name n q.0) t.by.fanins name (subst (λ (d : DraftNode). Contains d.fanins name) (sym t.is) c) in
-          (q.0, kept.fanins t.by q.0 t.among (in_map (λ (r : ClassId). r.0) t.by.fanins q k), e)
+          let (q, k, e) = contained_in_map (λ (q : ClassId). net_name n q.0) t.by.fanins name (subst (λ (d : DraftNode). Contains d.fanins name) (sym t.is) c) in
+          (q.0, kept.fanins t.by q.0 t.among (contains_map (λ (r : ClassId). r.0) t.by.fanins q k), e)
 
       of_wire : IsWire n n.ports.outputs n.ports.roots node → (c : ℕ) × Contains (net_classes n) c × (net_name n c ≡ name)
       of_wire w =
           let only = subst (λ (d : DraftNode). Contains d.fanins name) (sym w.is) c in
-          (w.root.0, kept.roots w.root.0 (in_map (λ (r : ClassId). r.0) n.ports.roots w.root (contains_at n.ports.roots w.place w.root w.root_at)), single (net_name n w.root.0) only)
+          (w.root.0, kept.roots w.root.0 (contains_map (λ (r : ClassId). r.0) n.ports.roots w.root (at_contained n.ports.roots w.place w.root w.root_at)), single (net_name n w.root.0) only)
         where
           single : (x : Name) → Contains (x ∷ []) name → x ≡ name
           single x (zero, lt, e) = e
@@ -163,15 +161,15 @@ module _ (n : PlainTableNet) (apart : AreNamedApart n) (kept : IsTableNet n) whe
 
   pub output_signal : (output : Name) → Contains n.ports.outputs output → Contains (signals_of (draft_said n)) output
   output_signal output c =
-      let (k, at) = at_contains n.ports.outputs output c in
+      let (k, at) = contained_at n.ports.outputs output c in
       let below = slice_get_within n.ports.outputs k output at in
       let one = apart.one_root in
       let (root, rt) = slice_get_some n.ports.roots k (omega (arith, below, one)) in
       by_test k root at rt (bytes_eq (net_name n root.0) output) refl
     where
       by_test : (k : ℕ) (root : ClassId) → slice_get n.ports.outputs k ≡ Some output → slice_get n.ports.roots k ≡ Some root → (b : Bool) → bytes_eq (net_name n root.0) output ≡ b → Contains (signals_of (draft_said n)) output
-      by_test k root at rt true e = subst (Contains (signals_of (draft_said n))) (same_name (net_name n root.0) output e) (net_known root.0 (kept.roots root.0 (in_map (λ (r : ClassId). r.0) n.ports.roots root (contains_at n.ports.roots k root rt))))
-      by_test k root at rt false e = in_right n.ports.inputs (map out_of (draft_said n).nodes) output (in_map out_of (draft_said n).nodes (wire_node n output root) (wire_in n k output root at rt e))
+      by_test k root at rt true e = subst (Contains (signals_of (draft_said n))) (bytes_eq_is (net_name n root.0) output e) (net_known root.0 (kept.roots root.0 (contains_map (λ (r : ClassId). r.0) n.ports.roots root (at_contained n.ports.roots k root rt))))
+      by_test k root at rt false e = in_right n.ports.inputs (map out_of (draft_said n).nodes) output (contains_map out_of (draft_said n).nodes (wire_node n output root) (wire_in n k output root at rt e))
 
   pub said_defined : first_undefined (draft_said n) ≡ None
   said_defined = all_known (signals_of (draft_said n)) (flat_map fanins_of (draft_said n).nodes ++ n.ports.outputs) (λ name c.

@@ -6,10 +6,11 @@ use Rattle.std.proofs.lemmas.List.{take-append-le}
 use Rattle.std.proofs.lemmas.List.Elements.{All-contains, All-take, recursion_from_All, Contains-append_right}
 use Rattle.std.proofs.lemmas.Option.{slice_get_read}
 use Rattle.std.proofs.lemmas.Slice.Eq.{bytes_eq-Decides}
+use Rattle.lw_facts.proofs.Lists.{contains_map}
 use Rattle.lw_pool.specs.declared.id.ClassId.{ClassId}
 use Rattle.lw_pool.specs.declared.latch.Frame.{Frame}
 use Rattle.lw_frame.proofs.Once.{is_among, roots_differ}
-use Rattle.lw_laws.proofs.Lists.{all_map, contains_all, in_map}
+use Rattle.lw_laws.proofs.Lists.{all_map, contains_all}
 use Rattle.lw_lut.specs.Nets.{PlainTableNet, table_classes, net_classes}
 use Rattle.lw_lut.specs.Readable.{IsSayable, names_of_nets}
 use Rattle.lw_lut.specs.Texts.{fanin_names, net_name}
@@ -91,15 +92,15 @@ module _ (n : PlainTableNet) (frame : Frame) (s : IsSayable n frame) where
   fair t k = record {
     few = All-contains (λ (u : Table). length u.fanins ≤ 6) n.tables t s.few_fanins k;
     fanins = all_map (λ (q : ClassId). IsSignalName (net_name n q.0)) IsSignalName (λ (q : ClassId). net_name n q.0) t.fanins (λ q h. h)
-        (contains_all (λ (q : ClassId). IsSignalName (net_name n q.0)) t.fanins (λ q i. named q.0 (s.net.fanins t q.0 k (in_map (λ (c : ClassId). c.0) t.fanins q i))));
-    out = named t.out.0 (Contains-append_right (numbers n.inputs) (table_classes n.tables) t.out.0 (in_map (λ (u : Table). u.out.0) n.tables t k));
+        (contains_all (λ (q : ClassId). IsSignalName (net_name n q.0)) t.fanins (λ q i. named q.0 (s.net.fanins t q.0 k (contains_map (λ (c : ClassId). c.0) t.fanins q i))));
+    out = named t.out.0 (Contains-append_right (numbers n.inputs) (table_classes n.tables) t.out.0 (contains_map (λ (u : Table). u.out.0) n.tables t k));
   }
 
   pub tables_fair : Each (IsFairTable n) n.tables
   tables_fair = contains_all (IsFairTable n) n.tables fair
 
   pub roots_named : Each (λ (root : ClassId). IsSignalName (net_name n root.0)) n.ports.roots
-  roots_named = contains_all (λ (root : ClassId). IsSignalName (net_name n root.0)) n.ports.roots (λ root k. named root.0 (s.net.roots root.0 (in_map (λ (c : ClassId). c.0) n.ports.roots root k)))
+  roots_named = contains_all (λ (root : ClassId). IsSignalName (net_name n root.0)) n.ports.roots (λ root k. named root.0 (s.net.roots root.0 (contains_map (λ (c : ClassId). c.0) n.ports.roots root k)))
 
   pub own_inputs : Each IsSignalName (take frame.inputs n.ports.inputs)
   own_inputs =

@@ -9,15 +9,9 @@ use Rattle.std.proofs.lemmas.List.Elements.{Contains-push, Contains-push_cases, 
 use Rattle.std.proofs.lemmas.List.Sorted.{Contains-permutation, IsPermutation-sym}
 use Rattle.std.proofs.lemmas.Map.Keys.{IsDistinct-from_apart, IsDistinct-IsPermutation, apart_from_distinct}
 use Rattle.std.proofs.lemmas.Option.{none-some, slice_get_within, slice_get-get_or, get_or_from_slice_get}
-use Rattle.lw_lut.proofs.RisingClasses.{contains_at, at_push}
+use Rattle.lw_facts.proofs.Lists.{some_within, get_reverse, contains_take_reverse, at_contained, get_push_cases}
 use Rattle.lw_lut.specs.declared.choosing.Place.{Place}
 use Rattle.lw_lut.specs.Choosing.{place_key, IsPlaceBefore, AreListed, AreByDepth}
-
--- an element that a list has is within it
-pub within_some : {X : Type 0} (xs : List (Option X)) (c : ℕ) (x : X) → slice_index_or xs c None ≡ Some x → c < length xs
-within_some [] c x e = absurd (none-some x e)
-within_some (o ∷ xs) zero x e = omega arith
-within_some (o ∷ xs) (suc c) x e = let below = within_some xs c x e in omega arith
 
 module _ (depths : List (Option ℕ)) where
   -- the places of the classes below a number
@@ -41,7 +35,7 @@ module _ (depths : List (Option ℕ)) where
     below = λ q k. below_at q (Contains-push_cases places p q k);
     each = λ q k. each_at q (Contains-push_cases places p q k);
     all = λ c n lt e. all_at c n lt e (cases_eq c count);
-    rising = λ i j q r e f lt. rising_at i j q r lt (at_push places p i q e) (at_push places p j r f);
+    rising = λ i j q r e f lt. rising_at i j q r lt (get_push_cases places p i q e) (get_push_cases places p j r f);
   }
     where
       below_at : (q : Place) → Contains places q ⊎ (p ≡ q) → q.class.0 < count + 1
@@ -64,7 +58,7 @@ module _ (depths : List (Option ℕ)) where
       rising_at : (i j : ℕ) (q r : Place) → i < j → (slice_get places i ≡ Some q) ⊎ ((i ≡ length places) × (p ≡ q)) → (slice_get places j ≡ Some r) ⊎ ((j ≡ length places) × (p ≡ r)) → q.class.0 < r.class.0
       rising_at i j q r lt (inl e) (inl f) = are.rising i j q r e f lt
       rising_at i j q r lt (inl e) (inr (s, f)) =
-          let low = are.below q (contains_at places i q e) in
+          let low = are.below q (at_contained places i q e) in
           let t : p.class.0 ≡ r.class.0 = ap (λ (z : Place). z.class.0) f in
           omega (arith, low, t, is)
       rising_at i j q r lt (inr (s, e)) (inl f) = let in' = slice_get_within places j r f in absurd (omega (arith, in', s, lt))
@@ -87,7 +81,7 @@ module _ (depths : List (Option ℕ)) where
   listed_all count places all are = record {
     are = record {
       each = are.each;
-      all = λ c m e. let in' = within_some depths c (suc m) e in are.all c m (omega (arith, in', all)) e;
+      all = λ c m e. let in' = some_within depths c (suc m) e in are.all c m (omega (arith, in', all)) e;
     };
     rising = are.rising;
   }
@@ -125,10 +119,10 @@ module _ (depths : List (Option ℕ)) where
       all = λ c m e. let (p, k, s) = marked.are.all c m e in (p, Contains-permutation places rows p moved k, s);
     };
     sorted = λ i j p q e f lt.
-        let (m, at_p, high_p) = each p (contains_at rows i p e) in
-        let (n, at_q, high_q) = each q (contains_at rows j q f) in
-        let low = within_some depths p.class.0 (suc m) at_p in
-        let low' = within_some depths q.class.0 (suc n) at_q in
+        let (m, at_p, high_p) = each p (at_contained rows i p e) in
+        let (n, at_q, high_q) = each q (at_contained rows j q f) in
+        let low = some_within depths p.class.0 (suc m) at_p in
+        let low' = some_within depths q.class.0 (suc n) at_q in
         let in' = slice_get_within rows j q f in
         let read_p : get_or rows i p ≡ p = get_or_from_slice_get rows i p p e in
         let read_q : get_or rows j p ≡ q = get_or_from_slice_get rows j q p f in
@@ -143,34 +137,16 @@ module _ (depths : List (Option ℕ)) where
       distinct : IsDistinct is_of_one rows
       distinct = IsDistinct-IsPermutation is_of_one one_flips places rows moved (IsDistinct-from_apart is_of_one places (λ i j d lt in'. one_differ (get_or places i d) (get_or places j d) (marked.rising i j (get_or places i d) (get_or places j d) (slice_get-get_or places i d (omega (arith, lt, in'))) (slice_get-get_or places j d in') lt)))
 
--- the places before one from the last down
-pub read_reverse : {X : Type 0} (xs : List X) (k : ℕ) (d : X) → k < length xs → slice_get xs (length xs - 1 - k) ≡ Some (get_or (reverse xs) k d)
-read_reverse xs k d lt = slice_get-get_or xs (length xs - 1 - k) d (omega arith) ∙ ap (λ x. Some x) (sym (get_or-reverse xs k d lt))
-
-pub contains_seen : {X : Type 0} (xs : List X) (k : ℕ) (x : X) → Contains (take k (reverse xs)) x → (i : ℕ) × (i < k) × (i < length xs) × (slice_get xs (length xs - 1 - i) ≡ Some x)
-contains_seen xs k x (i, lt, e) =
-    let size : length (take k (reverse xs)) ≡ min k (length (reverse xs)) = length-take k (reverse xs) in
-    let back : length (reverse xs) ≡ length xs = length-reverse xs in
-    let in' : i < length xs = omega (arith, lt, size, back) in
-    let low : i < k = omega (arith, lt, size) in
-    (i, low, in', read_reverse xs i x in' ∙ ap (λ y. Some y) (sym (get_or-take k (reverse xs) i x low) ∙ e))
-
-pub contains_back : {X : Type 0} (xs : List X) (x : X) → Contains xs x → Contains (reverse xs) x
-contains_back xs x (k, lt, e) =
-    let back : length (reverse xs) ≡ length xs = length-reverse xs in
-    let turned : length xs - 1 - (length xs - 1 - k) ≡ k = omega arith in
-    (length xs - 1 - k, omega (arith, lt, back), get_or-reverse xs (length xs - 1 - k) x (omega arith) ∙ (ap (λ n. get_or xs n x) turned ∙ e))
-
 pub before_seen : (depths : List (Option ℕ)) (places : List Place) → AreByDepth depths places → (k : ℕ) (d q : Place) → k < length places → Contains (take k (reverse places)) q → IsPlaceBefore (get_or (reverse places) k d) q
 before_seen depths places are k d q lt seen =
-    let (i, low, in', at) = contains_seen places k q seen in
-    are.sorted (length places - 1 - k) (length places - 1 - i) (get_or (reverse places) k d) q (read_reverse places k d lt) at (omega arith)
+    let (i, low, in', at) = contains_take_reverse places k q seen in
+    are.sorted (length places - 1 - k) (length places - 1 - i) (get_or (reverse places) k d) q (get_reverse places k d lt) at (omega arith)
 
 pub seen_place : (places : List Place) (k : ℕ) (q : Place) → Contains (take k (reverse places)) q → Contains places q
-seen_place places k q seen = let (i, low, in', at) = contains_seen places k q seen in contains_at places (length places - 1 - i) q at
+seen_place places k q seen = let (i, low, in', at) = contains_take_reverse places k q seen in at_contained places (length places - 1 - i) q at
 
 pub back_place : (places : List Place) (k : ℕ) (d : Place) → k < length places → Contains places (get_or (reverse places) k d)
-back_place places k d lt = contains_at places (length places - 1 - k) (get_or (reverse places) k d) (read_reverse places k d lt)
+back_place places k d lt = at_contained places (length places - 1 - k) (get_or (reverse places) k d) (get_reverse places k d lt)
 
 pub positive : (d : ℕ) → 0 < d → (e : ℕ) × (d ≡ suc e)
 positive zero lt = absurd (omega arith)

@@ -2,8 +2,8 @@
 use Rattle.std.proofs.Common.{◌≡◌, ◌+◌, ◌<◌, ◌≤◌, ◌↔◌, ◌⊎◌, inl, inr, ℕ, zero, suc, max, Bool, not, ◌&&◌, List, [], ◌∷◌, map, Option, Some, Contains, slice_get, slice_index_or, if◌then◌else◌, refl, sym, ap, ap₂, ◌∙◌, subst, subst₂, arith}
 use Rattle.std.proofs.lemmas.List.Elements.{Contains-append_cases}
 use Rattle.std.proofs.lemmas.Option.{get_or_from_slice_get, same_Some}
+use Rattle.lw_facts.proofs.Lists.{contained_in_map, contained_at}
 use Rattle.lw_dag.specs.Ordering.{greatest}
-use Rattle.lw_graph.proofs.Indexing.{map_back}
 use Rattle.lw_laws.specs.Graphs.{Graph, Stands, Unfolds}
 use Rattle.lw_laws.specs.Flip.{flip}
 use Rattle.lw_laws.specs.Trees.{Tree, leaf, const_one, const_zero, inv, nand, tree_value, planted}
@@ -22,7 +22,6 @@ use Rattle.lw_lut.specs.Searches.{depth_in}
 use Rattle.lw_lut.specs.Texts.{net_name}
 use Rattle.lw_lut.specs.declared.table.Table.{Table}
 use Rattle.lw_lut.proofs.NetNames.{input_named}
-use Rattle.lw_lut.proofs.RisingClasses.{at_contains}
 use Rattle.lw_lut.proofs.SaidNodes.{table_in}
 use Rattle.lw_lut.proofs.TableValues.{said_value, said_wire, table_said, table_no_wire}
 use Rattle.lw_pool.specs.Numbers.{numbers}
@@ -161,7 +160,7 @@ module _ (g : Graph) (most : ℕ) (depths : List (Option ℕ)) (n : PlainTableNe
           let is = tables_are t k in
           let deep : suc is.depth ≡ e = same_Some (suc is.depth) e (sym is.depth_is ∙ (ap (depth_in depths) s ∙ at)) in
           subst₂ (λ d f. IsNamedCover g most n (net_name n d) d f) s deep (of_table t is.depth k (λ q among_fanins.
-          let (r, j, same) = map_back (λ (r : ClassId). r.0) t.fanins q among_fanins in
+          let (r, j, same) = contained_in_map (λ (r : ClassId). r.0) t.fanins q among_fanins in
           let (f, known, less) = is.below r j in
           let own : depth_in depths q ≡ Some f = ap (depth_in depths) (sym same) ∙ known in
           let lower : f ≤ is.depth = omega (arith, less) in
@@ -171,5 +170,5 @@ module _ (g : Graph) (most : ℕ) (depths : List (Option ℕ)) (n : PlainTableNe
           raised q f m le k = record { by = k.by; is_cover = k.is_cover; unfolds = k.unfolds; low = let low = k.low in omega (arith, low, le); value = k.value; depth = k.depth }
 
       by_part : Contains (numbers n.inputs) c ⊎ Contains (table_classes n.tables) c → ((d f : ℕ) → Contains (net_classes n) d → depth_in depths d ≡ Some f → f < bound → IsNamedCover g most n (net_name n d) d f) → IsNamedCover g most n (net_name n c) c e
-      by_part (inl input) below = let (i, here) = at_contains (numbers n.inputs) c input in of_input i c e here
-      by_part (inr out) below = let (t, k, s) = map_back (λ (t : Table). t.out.0) n.tables c out in of_class t k s below
+      by_part (inl input) below = let (i, here) = contained_at (numbers n.inputs) c input in of_input i c e here
+      by_part (inr out) below = let (t, k, s) = contained_in_map (λ (t : Table). t.out.0) n.tables c out in of_class t k s below

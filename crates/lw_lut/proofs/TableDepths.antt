@@ -2,8 +2,9 @@
 use Rattle.std.proofs.Common.{◌≡◌, ◌+◌, ◌-◌, ◌<◌, ◌≤◌, ◌⊎◌, inl, inr, ℕ, zero, suc, max, List, [], ◌∷◌, length, Some, Contains, slice_get, slice_index_or, if◌then◌else◌, refl, sym, ap, ap₂, ◌∙◌, arith}
 use Rattle.std.proofs.lemmas.Bool.{cases_lt}
 use Rattle.std.proofs.lemmas.Option.{get_or_from_slice_get, slice_get_within}
+use Rattle.lw_facts.proofs.Lists.{contains_map}
 use Rattle.lw_laws.specs.Networks.{IsInOrder}
-use Rattle.lw_laws.proofs.Lists.{in_map, slice_get_some}
+use Rattle.lw_laws.proofs.Lists.{slice_get_some}
 use Rattle.lw_laws.proofs.Numbers.{slice_get_map}
 use Rattle.lw_pool.specs.declared.id.NetId.{NetId}
 use Rattle.lw_net.specs.declared.node.Node.{Node}
@@ -26,7 +27,7 @@ module _ (net : NetworkParts) (order : IsInOrder (plain net)) (ds es : List ℕ)
       at_node j place node here below =
           let weight : ℕ = if is_wire node then 0 else 1 in
           let same : deepest ds node.fanins ≡ deepest es node.fanins = deepest_alike ds es node.fanins (λ s c.
-          let before = order.before j s.0 (plain_node node) (slice_get_map plain_node net.nodes j node here) (in_map net_number node.fanins s c) in
+          let before = order.before j s.0 (plain_node node) (slice_get_map plain_node net.nodes j node here) (contains_map net_number node.fanins s c) in
           below s.0 (omega (arith, before, place, lt)) (omega (arith, before, place, within))) in
           ap (λ i. slice_index_or ds i 0) place
           ∙ (get_or_from_slice_get ds (net.inputs + j) (weight + deepest ds node.fanins) 0 (a.nodes j node here)

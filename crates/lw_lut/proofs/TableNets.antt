@@ -3,10 +3,9 @@ use Rattle.std.proofs.Common.{ℕ, zero, suc, ◌+◌, ◌<◌, ◌≡◌, ◌�
 use Rattle.std.proofs.lemmas.List.{take_more, map-append}
 use Rattle.std.proofs.lemmas.List.Elements.{All-contains, Contains-append_left, Contains-append_right}
 use Rattle.std.proofs.lemmas.Option.{slice_get-get_or, slice_get_within, get_or_from_slice_get}
+use Rattle.lw_facts.proofs.Lists.{contains_map, contained_in_map, at_contained, some_within}
 use native.Mathlib.Decide.{dec_lt}
-use Rattle.lw_laws.proofs.Lists.{in_map}
 use Rattle.lw_laws.proofs.Numbers.{slice_get_map_back}
-use Rattle.lw_graph.proofs.Indexing.{map_back}
 use Rattle.lw_pool.specs.declared.id.ClassId.{ClassId}
 use Rattle.lw_laws.specs.Graphs.{Graph, Unfolds}
 use Rattle.lw_laws.specs.Extracts.{IsLeafClass}
@@ -19,8 +18,6 @@ use Rattle.lw_lut.specs.Nets.{AreFit, IsTableNet, table_classes}
 use Rattle.lw_lut.specs.Searches.{depth_in, IsKnown}
 use Rattle.lw_lut.specs.declared.ports.TablePorts.{TablePorts}
 use Rattle.lw_lut.specs.declared.table.Table.{Table}
-use Rattle.lw_lut.proofs.RisingClasses.{contains_at}
-use Rattle.lw_lut.proofs.Sorting.{within_some}
 use Rattle.lw_pool.specs.Numbers.{numbers}
 
 pub numbers_more : (xs : List ClassId) (leaves : List ℕ) (i : ℕ) (c : ClassId) → numbers xs ≡ take i leaves → slice_get leaves i ≡ Some c.0 → numbers (xs ++ c ∷ []) ≡ take (i + 1) leaves
@@ -50,36 +47,36 @@ module _ (g : Graph) (most : ℕ) (lists : DepthLists) (least : AreLeastDepths g
     table_at m c e = slice_get_map_back (λ (t : Table). t.out.0) tables m c e
 
     not_leaf : (m c : ℕ) → slice_get (table_classes tables) m ≡ Some c → IsLeafClass g c → ⊥
-    not_leaf m c e input = let (t, at, s) = table_at m c e in (are.needed t (contains_at tables m t at)).1 (subst (IsLeafClass g) (sym s) input)
+    not_leaf m c e input = let (t, at, s) = table_at m c e in (are.needed t (at_contained tables m t at)).1 (subst (IsLeafClass g) (sym s) input)
 
     not_before : (m n c : ℕ) → slice_get (table_classes tables) m ≡ Some c → slice_get (table_classes tables) n ≡ Some c → m < n → ⊥
     not_before m n c e f lt =
         let (t, at, s) = table_at m c e in
         let (u, bt, r) = table_at n c f in
-        let d = are.each t (contains_at tables m t at) in
+        let d = are.each t (at_contained tables m t at) in
         let other : depth_in lists.depths u.out.0 ≡ Some (suc d.depth) = ap (depth_in lists.depths) (r ∙ sym s) ∙ d.depth_is in
         elim (are.sorted m n t u at bt lt (suc d.depth) (suc d.depth) d.depth_is other) [ inl l ↦ omega (arith, l) | inr (same, l) ↦ omega (arith, l, s, r) ]
 
     pub classes_below : (i c : ℕ) → slice_get (table_classes tables) i ≡ Some c → c < length lists.depths
     classes_below i c e =
         let (t, at, s) = table_at i c e in
-        let d = are.each t (contains_at tables i t at) in
-        let below = within_some lists.depths t.out.0 (suc d.depth) d.depth_is in
+        let d = are.each t (at_contained tables i t at) in
+        let below = some_within lists.depths t.out.0 (suc d.depth) d.depth_is in
         omega (arith, below, s)
 
     pub outs_below : All (λ (t : Table). t.out.0 < length lists.depths) tables
     outs_below i z below =
         let t = get_or tables i z in
-        let d = are.each t (contains_at tables i t (slice_get-get_or tables i z below)) in
-        within_some lists.depths t.out.0 (suc d.depth) d.depth_is
+        let d = are.each t (at_contained tables i t (slice_get-get_or tables i z below)) in
+        some_within lists.depths t.out.0 (suc d.depth) d.depth_is
 
     pub outs_apart : (i j c : ℕ) → slice_get (table_classes tables) i ≡ Some c → slice_get (table_classes tables) j ≡ Some c → i < j → ⊥
     outs_apart = not_before
 
     known : (c : ℕ) → IsNeeded (numbers ports.roots) tables c → IsKnown lists.depths c
-    known c (by_root k) = let (x, i, e) = map_back (λ (r : ClassId). r.0) ports.roots c k in subst (IsKnown lists.depths) e (All-contains (λ (r : ClassId). IsKnown lists.depths r.0) ports.roots x covered i)
+    known c (by_root k) = let (x, i, e) = contained_in_map (λ (r : ClassId). r.0) ports.roots c k in subst (IsKnown lists.depths) e (All-contains (λ (r : ClassId). IsKnown lists.depths r.0) ports.roots x covered i)
     known q (by_fanin t n k i) =
-        let (x, j, e) = map_back (λ (r : ClassId). r.0) t.fanins q i in
+        let (x, j, e) = contained_in_map (λ (r : ClassId). r.0) t.fanins q i in
         let (d, at, lt) = (are.each t k).below x j in
         (d, ap (depth_in lists.depths) (sym e) ∙ at)
 
@@ -90,10 +87,10 @@ module _ (g : Graph) (most : ℕ) (lists : DepthLists) (least : AreLeastDepths g
           by_depth : (e : ℕ) → depth_in lists.depths c ≡ Some e → Contains (numbers inputs ++ table_classes tables) c
           by_depth zero at =
               let (i, u) = shallow c at in
-              Contains-append_left (numbers inputs) (table_classes tables) c (subst (λ xs. Contains xs c) (sym leaves) (contains_at g.leaves i c u))
+              Contains-append_left (numbers inputs) (table_classes tables) c (subst (λ xs. Contains xs c) (sym leaves) (at_contained g.leaves i c u))
           by_depth (suc e) at =
               let (t, k, s) = are.all c n (deep c e at) in
-              Contains-append_right (numbers inputs) (table_classes tables) c (subst (λ x. Contains (table_classes tables) x) s (in_map (λ (t : Table). t.out.0) tables t k))
+              Contains-append_right (numbers inputs) (table_classes tables) c (subst (λ x. Contains (table_classes tables) x) s (contains_map (λ (t : Table). t.out.0) tables t k))
 
       once : (i j c : ℕ) → slice_get (numbers inputs ++ table_classes tables) i ≡ Some c → slice_get (numbers inputs ++ table_classes tables) j ≡ Some c → i ≡ j
       once i j c e f = cases (split (numbers inputs) (table_classes tables) i c e) (split (numbers inputs) (table_classes tables) j c f)

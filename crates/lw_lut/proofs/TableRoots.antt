@@ -3,19 +3,18 @@ use Rattle.std.proofs.Common.{◌≡◌, ◌+◌, ◌≤◌, ◌&&◌, ◌||◌,
 use Rattle.std.specs.Str.{bytes_eq}
 use Rattle.std.proofs.lemmas.List.{length-map}
 use Rattle.std.proofs.lemmas.Option.{slice_get_within, same_Some}
-use Rattle.lw_dag.proofs.Names.{same_name}
 use Rattle.lw_laws.specs.Graphs.{Graph}
 use Rattle.lw_laws.specs.Extracts.{IsLeafClass}
 use Rattle.lw_laws.specs.Trees.{leaf}
-use Rattle.lw_laws.proofs.Lists.{in_map, slice_get_some}
+use Rattle.lw_laws.proofs.Lists.{slice_get_some}
 use Rattle.lw_pool.specs.declared.id.ClassId.{ClassId}
 use Rattle.lw_pool.specs.declared.id.NetId.{NetId}
 use Rattle.lw_net.specs.declared.draft.DraftNode.{DraftNode}
 use Rattle.lw_net.specs.declared.node.Node.{Node}
 use Rattle.lw_net.specs.Closing.{IsClosed, net_in}
 use Rattle.lw_net.specs.Networks.{NetworkParts}
-use Rattle.lw_graph.proofs.Indexing.{map_back}
 use Rattle.std.proofs.lemmas.List.Elements.{Contains-append_cases}
+use Rattle.lw_facts.proofs.Lists.{bytes_eq_is, contains_map, contained_in_map, contained_at, at_contained}
 use Rattle.lw_lut.specs.Choosing.{IsTable}
 use Rattle.lw_lut.specs.Covers.{depth_of, IsLeastDepth}
 use Rattle.lw_lut.specs.Covers.TableCover.{wire}
@@ -27,7 +26,6 @@ use Rattle.lw_lut.specs.Searches.{depth_in}
 use Rattle.lw_lut.specs.Texts.{net_name}
 use Rattle.lw_lut.specs.declared.table.Table.{Table}
 use Rattle.lw_lut.proofs.ClosedNames as closing
-use Rattle.lw_lut.proofs.RisingClasses.{at_contains, contains_at}
 use Rattle.lw_lut.proofs.SaidCloses.{said_depths, said_draft}
 use Rattle.lw_lut.proofs.SaidNodes.{IsWire, IsTables, node_cases, wire_node, wire_in}
 use Rattle.lw_lut.proofs.SaidSignals.{said_distinct}
@@ -45,8 +43,8 @@ module _ (g : Graph) (most : ℕ) (lists : DepthLists) (least : AreLeastDepths g
   -- the class of each net has a depth
   pub net_depth : (c : ℕ) → Contains (net_classes n) c → (e : ℕ) × (depth_in lists.depths c ≡ Some e)
   net_depth c among = elim (Contains-append_cases (numbers n.inputs) (table_classes n.tables) c among) [
-    | inl input ↦ let (i, at) = at_contains (numbers n.inputs) c input in (0, leaf_depth c (i, subst (λ cs. slice_get cs i ≡ Some c) leaves at))
-    | inr out ↦ let (t, k, s) = map_back (λ (t : Table). t.out.0) n.tables c out in let is = tables_are t k in (suc is.depth, ap (depth_in lists.depths) (sym s) ∙ is.depth_is)
+    | inl input ↦ let (i, at) = contained_at (numbers n.inputs) c input in (0, leaf_depth c (i, subst (λ cs. slice_get cs i ≡ Some c) leaves at))
+    | inr out ↦ let (t, k, s) = contained_in_map (λ (t : Table). t.out.0) n.tables c out in let is = tables_are t k in (suc is.depth, ap (depth_in lists.depths) (sym s) ∙ is.depth_is)
   ]
 
   -- The name stands for a cover at the class, of its least depth.
@@ -84,10 +82,10 @@ module _ (g : Graph) (most : ℕ) (lists : DepthLists) (least : AreLeastDepths g
       only d = omega arith
 
   output_least : (k : ℕ) (output : List ℕ) (root : ClassId) → slice_get n.ports.outputs k ≡ Some output → slice_get n.ports.roots k ≡ Some root → IsLeastNamed output root.0
-  output_least k output root at rt = by_test (bytes_eq (net_name n root.0) output) refl (net_least root.0 (kept.roots root.0 (in_map (λ (r : ClassId). r.0) n.ports.roots root (contains_at n.ports.roots k root rt))))
+  output_least k output root at rt = by_test (bytes_eq (net_name n root.0) output) refl (net_least root.0 (kept.roots root.0 (contains_map (λ (r : ClassId). r.0) n.ports.roots root (at_contained n.ports.roots k root rt))))
     where
       by_test : (b : Bool) → bytes_eq (net_name n root.0) output ≡ b → IsLeastNamed (net_name n root.0) root.0 → IsLeastNamed output root.0
-      by_test true e h = subst (λ name. IsLeastNamed name root.0) (same_name (net_name n root.0) output e) h
+      by_test true e h = subst (λ name. IsLeastNamed name root.0) (bytes_eq_is (net_name n root.0) output e) h
       by_test false e h = wire_least k output root at rt e h
 
   module _ (net : NetworkParts) (closed : IsClosed (draft_said n) net) where

@@ -2,6 +2,7 @@
 use Rattle.std.proofs.Common.{◌≡◌, ◌+◌, ◌^◌, ◌==◌, ℕ, suc, Bool, true, false, not, ◌&&◌, List, [], ◌∷◌, ◌++◌, length, map, codes, if◌then◌else◌, slice_index_or, refl, sym, ap, ◌∙◌, arith}
 use Rattle.std.specs.List.{list_any}
 use Rattle.std.specs.Str.{bytes_eq}
+use Rattle.std.proofs.lemmas.Bool.{ne_eqb}
 use Rattle.lw_pool.specs.declared.id.ClassId.{ClassId}
 use Rattle.lw_net.specs.declared.draft.DraftNode.{DraftNode}
 use Rattle.lw_net.specs.Signs.{asked}
@@ -12,7 +13,6 @@ use Rattle.lw_lut.specs.Texts.{fanin_names, is_buffer, net_name}
 use Rattle.lw_lut.specs.Said.{columns_from, table_node}
 use Rattle.lw_lut.specs.declared.table.Table.{Table}
 use Rattle.lw_lut.proofs.RowValues.{columns_hold}
-use Rattle.lw_lut.proofs.Fanins.{other_test}
 use Rattle.lw_pool.specs.Numbers.{numbers}
 
 -- the value of a node by the values of names
@@ -36,7 +36,7 @@ module _ (n : PlainTableNet) (value : List ℕ → Bool) where
   values_of (f ∷ fs) = ap (λ vs. class_value f.0 ∷ vs) (values_of fs)
 
   one_test : (k : ℕ) → (suc (suc k) == 1) ≡ false
-  one_test k = other_test (suc (suc k)) 1 (λ e. omega (arith, e))
+  one_test k = ne_eqb (suc (suc k)) 1 (λ e. omega (arith, e))
 
   buffer_value : (fs : List ClassId) (bits : ℕ) → ((length fs == 1) && (not (is_set bits 0) && is_set bits 1)) ≡ true → agrees false (list_any (row_value (map value (map (λ (q : ClassId). net_name n q.0) fs))) (map (map asked) (codes "0" ∷ []))) ≡ is_set bits (spelled class_value (numbers fs))
   buffer_value [] bits e = cc
@@ -86,7 +86,7 @@ module _ (n : PlainTableNet) where
       plain : (out : ClassId) (fs : List ClassId) (bits : ℕ) → ((length fs == 1) && (not (is_set bits 0) && is_set bits 1)) ≡ false → ((length (map (λ (q : ClassId). net_name n q.0) fs) == 1) && rows_wire true (columns_from (record { out = out; fanins = fs; bits = bits }) 0 (2 ^ length fs))) ≡ false
       plain out [] bits e = refl
       plain out (q ∷ []) bits e = by_bits (is_set bits 0) (is_set bits 1) (49 ∷ []) e
-      plain out (q ∷ r ∷ fs) bits e = first_false (length (map (λ (q : ClassId). net_name n q.0) (q ∷ r ∷ fs)) == 1) (rows_wire true (columns_from (record { out = out; fanins = q ∷ r ∷ fs; bits = bits }) 0 (2 ^ length (q ∷ r ∷ fs)))) (other_test (suc (suc (length (map (λ (q : ClassId). net_name n q.0) fs)))) 1 (λ s. omega (arith, s)))
+      plain out (q ∷ r ∷ fs) bits e = first_false (length (map (λ (q : ClassId). net_name n q.0) (q ∷ r ∷ fs)) == 1) (rows_wire true (columns_from (record { out = out; fanins = q ∷ r ∷ fs; bits = bits }) 0 (2 ^ length (q ∷ r ∷ fs)))) (ne_eqb (suc (suc (length (map (λ (q : ClassId). net_name n q.0) fs)))) 1 (λ s. omega (arith, s)))
 
       by_test : (b : Bool) → is_buffer t ≡ b → ((length (fanin_names n t) == 1) && rows_wire (not b) (if b then codes "0" ∷ [] else columns_from t 0 (2 ^ length t.fanins))) ≡ false
       by_test true e = and_false (length (fanin_names n t) == 1)

@@ -3,10 +3,9 @@ use Rattle.std.proofs.Common.{◌≡◌, ◌+◌, ◌^◌, ◌<◌, ◌≤◌, �
 use Rattle.std.specs.List.{range_with_len}
 use Rattle.std.specs.List.Sorted.{IsPermutation}
 use Rattle.std.proofs.lemmas.List.Sorted.{IsPermutation-refl}
-use Rattle.lw_laws.proofs.Lists.{in_map}
+use Rattle.lw_facts.proofs.Lists.{contains_map, contained_in_map}
 use Rattle.lw_pool.specs.declared.id.ClassId.{ClassId}
 use Rattle.lw_laws.specs.Graphs.{Graph}
-use Rattle.lw_graph.proofs.Indexing.{map_back}
 use Rattle.lw_lut.specs.Cuts.{PlainCut, IsCutAt, spelled, is_set, turned, is_odd}
 use Rattle.lw_lut.specs.Packed.{packed}
 use Rattle.lw_lut.specs.Tables.{IsTableAt, table_value}
@@ -34,7 +33,7 @@ cut_table g most c cut fanins is few same = record {
     longs (x ∷ xs) = ap suc (longs xs)
 
     to : (q : ℕ) → Contains (numbers cut.pins) q → Contains (numbers fanins) q
-    to q h = let (x, k, e) = map_back (λ (r : ClassId). r.0) cut.pins q h in subst (λ n. Contains (numbers fanins) n) e (in_map (λ (r : ClassId). r.0) fanins x ((same x).1 k))
+    to q h = let (x, k, e) = contained_in_map (λ (r : ClassId). r.0) cut.pins q h in subst (λ n. Contains (numbers fanins) n) e (contains_map (λ (r : ClassId). r.0) fanins x ((same x).1 k))
 
     from : (q : ℕ) → Contains (numbers fanins) q → Contains (numbers cut.pins) q
-    from q h = let (x, k, e) = map_back (λ (r : ClassId). r.0) fanins q h in subst (λ n. Contains (numbers cut.pins) n) e (in_map (λ (r : ClassId). r.0) cut.pins x ((same x).0 k))
+    from q h = let (x, k, e) = contained_in_map (λ (r : ClassId). r.0) fanins q h in subst (λ n. Contains (numbers cut.pins) n) e (contains_map (λ (r : ClassId). r.0) cut.pins x ((same x).0 k))

@@ -4,10 +4,11 @@ use Rattle.std.specs.Prelude.{nat_le}
 use Rattle.std.specs.Int.{bit_at}
 use Rattle.std.specs.List.{list_all, ends_with, AllByRecursion as Each}
 use Rattle.std.specs.Cmp.Lexicographic.{pointwise}
-use Rattle.std.proofs.lemmas.Bool.{and_parts}
+use Rattle.std.proofs.lemmas.Bool.{and_parts, not-true, eqb-false}
 use Rattle.std.proofs.lemmas.Bool.Decides.{nat_tests}
 use Rattle.std.proofs.lemmas.List.Elements.{recursion_from_All}
 use Rattle.std.proofs.lemmas.Nat.Bits.{bit_at-lt}
+use Rattle.lw_facts.proofs.Tests.{none_of_four, not_a_stroke}
 use Rattle.lw_laws.proofs.Heights.{all_weaker}
 use Rattle.lw_words.specs.Gathering.{IsInk, IsNoHash}
 use Rattle.lw_words.specs.Lines.{is_blank}
@@ -24,20 +25,10 @@ IsGood b = IsInk b × IsNoHash b × ((b == 92) ≡ false)
 abbrev pub is_good : ℕ → Bool
 is_good b = not (is_blank b || (b == 10 || (b == 35 || b == 92)))
 
-four : (p q r s : Bool) → not (p || (q || (r || s))) ≡ true → (p ≡ false) × (q ≡ false) × (r ≡ false) × (s ≡ false)
-four true q r s e = cc
-four false true r s e = cc
-four false false true s e = cc
-four false false false true e = cc
-four false false false false e = (refl, refl, refl, refl)
-
-differs : (a b : ℕ) → (a == b) ≡ false → a ≢ b
-differs a b e = grind (arith, nat_tests)
-
 good_byte : (b : ℕ) → is_good b ≡ true → IsGood b
 good_byte b e =
-    let parts = four (is_blank b) (b == 10) (b == 35) (b == 92) e in
-    ((parts.0, differs b 10 parts.1), differs b 35 parts.2, parts.3)
+    let parts = none_of_four (is_blank b) (b == 10) (b == 35) (b == 92) e in
+    ((parts.0, eqb-false b 10 parts.1), eqb-false b 35 parts.2, parts.3)
 
 pub good_bytes : (word : List ℕ) → list_all is_good word ≡ true → Each IsGood word
 good_bytes [] e = tt
@@ -77,17 +68,10 @@ stroke_behind b c word =
     let short : suc (length word) - 1 ≡ length word = omega arith in
     ap (λ k. pointwise nat_eq (92 ∷ []) (drop k (b ∷ c ∷ word))) long ∙ sym (ap (λ k. pointwise nat_eq (92 ∷ []) (drop k (c ∷ word))) short)
 
-stroke_last : (b : ℕ) → (nat_eq 92 b && true) ≡ false → (b == 92) ≡ false
-stroke_last b e = grind (arith, nat_tests)
-
 ends_name : (word : List ℕ) → 0 < length word → Each IsInk word → ends_stroke word ≡ false → EndsWell word
 ends_name [] some each e = absurd (omega arith)
-ends_name (b ∷ []) some each e = record { front = []; last = b; are = refl; ink = each.0.0; no_stroke = stroke_last b e }
+ends_name (b ∷ []) some each e = record { front = []; last = b; are = refl; ink = each.0.0; no_stroke = not_a_stroke b e }
 ends_name (b ∷ c ∷ word) some each e = ends_behind b (c ∷ word) (ends_name (c ∷ word) (omega arith) each.1 (sym (stroke_behind b c word) ∙ e))
-
-not_true : (b : Bool) → not b ≡ true → b ≡ false
-not_true true e = cc
-not_true false e = refl
 
 pub name_word : (name : List ℕ) → IsSignalName name → IsWritten name
 name_word name is =
@@ -98,7 +82,7 @@ name_word name is =
       few = is.word.few;
       ink = ink;
       plain = recursion_from_All IsNoHash name is.no_hash;
-      ends = ends_name name is.word.some ink (not_true (ends_stroke name) parts.1);
+      ends = ends_name name is.word.some ink (not-true (ends_stroke name) parts.1);
     }
 
 -- Rows.

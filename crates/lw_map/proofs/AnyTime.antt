@@ -3,7 +3,7 @@ use Rattle.std.proofs.Common.{ℕ, zero, suc, ◌+◌, ◌^◌, ◌<◌, ◌≤�
 use Rattle.std.specs.List.{AllZip, IsDistinct}
 use Rattle.std.specs.Str.{bytes_eq}
 use Rattle.std.proofs.lemmas.List.{length-map, length-take-le, take_at}
-use Rattle.std.proofs.lemmas.Option.{get_or_from_slice_get}
+use Rattle.std.proofs.lemmas.Option.{get_or_from_slice_get, slice_get_within}
 use Rattle.lw_pool.specs.declared.id.NetId.{NetId}
 use Rattle.lw_pool.specs.declared.id.ClassId.{ClassId}
 use Rattle.lw_fixed.specs.declared.micro.Micro.{Micro}
@@ -23,7 +23,6 @@ use Rattle.lw_laws.specs.Netlists.{AreOrdered, AreByDepth}
 use Rattle.lw_laws.specs.Headline.{Port as PlainPort, HasLeastArrival}
 use Rattle.lw_laws.proofs.ExtractLaws.{ordered_and_mapped, gate_once, extracted_costs}
 use Rattle.lw_laws.proofs.InputClasses.{distinct_leaves}
-use Rattle.lw_laws.proofs.Lists.{slice_get_in}
 use Rattle.lw_laws.proofs.MappedDepths.{extracted_by_depth}
 use Rattle.lw_laws.proofs.MappedNames.{input_sop}
 use Rattle.lw_laws.proofs.Netlists.{net_covered}
@@ -95,7 +94,7 @@ module _ (net : NetworkParts) (starts : List Micro) (c : Choices) (cells : List 
       ap (λ (cs : List ℕ). slice_get cs k) (sym (ap numbers named.roots ∙ are.roots)) ∙ slice_get_map (λ (d : ClassId). d.0) ports.roots k is.root is.at in
       let (p, e, same) = slice_get_map_back (λ (p : PlainPort). root_class (plain_options c.options).width (network.plain net) c.graph p.net) (map (output_port net) net.outputs) k is.root.0 there in
       let (o, f, port) = slice_get_map_back (output_port net) net.outputs k p e in
-      let low : o.0 < length net.names = subst (λ (q : NetId). q.0 < length net.names) (get_or_from_slice_get net.outputs k o o f) (kept.outputs k o (slice_get_in net.outputs k o f)) in
+      let low : o.0 < length net.names = subst (λ (q : NetId). q.0 < length net.names) (get_or_from_slice_get net.outputs k o o f) (kept.outputs k o (slice_get_within net.outputs k o f)) in
       let (d, first) = zip_at (λ (output : NetId) (d : ℕ). HasLeastArrival (plain_options c.options).mode (plain_options c.options).width (network.plain net) (library_patterns cells) (timing_of cells starts) output.0 d) net.outputs times k o earliest f in
       let (by, by_is, tree, time) = first.attained in
       let class : root_class (plain_options c.options).width (network.plain net) c.graph o.0 ≡ is.root.0 = ap (λ (q : PlainPort). root_class (plain_options c.options).width (network.plain net) c.graph q.net) port ∙ same in
@@ -131,7 +130,7 @@ module _ (net : NetworkParts) (starts : List Micro) (c : Choices) (cells : List 
   paired = zip_outputs (plain_options c.options).width (network.plain net) c.graph gates (map (output_port net) net.outputs) ports.roots cover.netlist.outputs roots_are names_are is.outputs
 
   known : (k : ℕ) (o : NetId) → slice_get net.outputs k ≡ Some o → o.0 < length net.names
-  known k o at = subst (λ (p : NetId). p.0 < length net.names) (get_or_from_slice_get net.outputs k o o at) (kept.outputs k o (slice_get_in net.outputs k o at))
+  known k o at = subst (λ (p : NetId). p.0 < length net.names) (get_or_from_slice_get net.outputs k o o at) (kept.outputs k o (slice_get_within net.outputs k o at))
 
   joined : (outputs : List NetId) (ts : List ℕ) (qs : List PlainPort) → ((k : ℕ) (o : NetId) → slice_get outputs k ≡ Some o → o.0 < length net.names) → AllZip (λ (o : NetId) (d : ℕ). HasLeastArrival (plain_options c.options).mode (plain_options c.options).width (network.plain net) (library_patterns cells) (timing_of cells starts) o.0 d) outputs ts → AllZip (λ p q. (p.name ≡ q.name) × IsNetOf c.graph gates (class_of p.net) q.net) (map (output_port net) outputs) qs → AllZip IsPlaced (map (output_port net) outputs) qs
   joined [] ts [] low a b = tt
@@ -146,7 +145,7 @@ module _ (net : NetworkParts) (starts : List Micro) (c : Choices) (cells : List 
 
   nets_low : (k net_at : ℕ) → IsNetOf c.graph gates k net_at → net_at < (netlist.plain cover.netlist).inputs + length (netlist.plain cover.netlist).gates
   nets_low k net_at at =
-      let lt = slice_get_in (net_classes c.graph gates) net_at k at in
+      let lt = slice_get_within (net_classes c.graph gates) net_at k at in
       let both = length-append c.graph.leaves gates in
       let one = is.extracted.one_each in
       let ins = is.extracted.inputs in
@@ -211,7 +210,7 @@ module _ (net : NetworkParts) (starts : List Micro) (c : Choices) (cells : List 
   tied : ArePortNames (network.plain net) (ports_of net) → (i k : ℕ) (name : List ℕ) → slice_get (input_names net) i ≡ Some name → slice_get (map (λ (p : PlainPort). p.name) (map (output_port net) net.outputs)) k ≡ Some name → slice_get (numbers ports.roots) k ≡ slice_get c.graph.leaves i
   tied apart i k name at e =
       let (p, bt, same) = slice_get_map_back (λ (p : PlainPort). p.name) (map (output_port net) net.outputs) k name e in
-      let inside : i < net.inputs = (let lt = slice_get_in (input_names net) i name at in omega (arith, lt, one_input)) in
+      let inside : i < net.inputs = (let lt = slice_get_within (input_names net) i name at in omega (arith, lt, one_input)) in
       let place = apart.tied i k p bt (at ∙ ap Some (sym same)) in
       ap (λ (rs : List ℕ). slice_get rs k) roots_are
       ∙ (slice_get_map (λ (p : PlainPort). class_of p.net) (map (output_port net) net.outputs) k p bt

@@ -2,6 +2,7 @@
 use Rattle.std.proofs.Common.{ℕ, suc, ◌<◌, ◌≤◌, ◌≡◌, ◌⊎◌, List, [], ◌∷◌, length, map, Option, Some, None, option_map, slice_get, slice_index_or, refl, ap, ap₂, sym, ◌∙◌, subst, subst₂, arith}
 use mathlib.Core.Path.{fun_ext}
 use Rattle.std.specs.List.{AllByRecursion}
+use Rattle.std.proofs.lemmas.Option.{slice_get_within}
 use Rattle.lw_pool.specs.declared.id.ClassId.{ClassId}
 use Rattle.lw_fixed.specs.declared.micro.Micro.{Micro}
 use Rattle.lw_laws.specs.Graphs.{Graph}
@@ -20,7 +21,7 @@ use Rattle.lw_laws.proofs.Unique.{IsHeight_once}
 use Rattle.lw_laws.proofs.ClassLaws.{graphs_once}
 use Rattle.lw_laws.proofs.ExtractLaws.{gate_classes_once}
 use Rattle.lw_laws.proofs.Listed.{occurring_is_listing}
-use Rattle.lw_laws.proofs.Lists.{slice_get_in, slice_get_some}
+use Rattle.lw_laws.proofs.Lists.{slice_get_some}
 use Rattle.lw_laws.proofs.NetlistOnce.{least_cover_once}
 use Rattle.lw_net.specs.Networks.{NetworkParts}
 use Rattle.lw_net.specs.Plain as network
@@ -70,7 +71,7 @@ module _ (g : Graph) (cost : Cost) (pats : List Pattern) (labels : Labels) where
     -- each class with a gate has a label
     gate_label : (j c : ℕ) → slice_get gates j ≡ Some c → (l : ℕ) × (labels c ≡ Some l)
     gate_label j c e =
-        let lt = slice_get_in gates j c e in
+        let lt = slice_get_within gates j c e in
         let count = is.one_each in
         let (gt, f) = slice_get_some n.gates j (omega arith) in
         let (d, m, p, at, chosen, cell, nets) = is.chosen j gt f in

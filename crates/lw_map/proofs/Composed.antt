@@ -4,7 +4,7 @@ use Rattle.std.specs.List.{IsDistinct}
 use Rattle.std.specs.Prelude.{All}
 use Rattle.std.specs.Str.{bytes_eq}
 use Rattle.std.proofs.lemmas.List.{length-map, length-take-le}
-use Rattle.std.proofs.lemmas.Option.{get_or_from_slice_get}
+use Rattle.std.proofs.lemmas.Option.{get_or_from_slice_get, slice_get_within}
 use Rattle.lw_pool.specs.declared.id.ClassId.{ClassId}
 use Rattle.lw_pool.specs.declared.id.NetId.{NetId}
 use Rattle.lw_fixed.specs.declared.micro.Micro.{Micro}
@@ -17,7 +17,6 @@ use Rattle.lw_laws.specs.Mapped.{root_class}
 use Rattle.lw_laws.specs.Marks.{Mark as PlainMark}
 use Rattle.lw_laws.specs.Headline.{Port as PlainPort}
 use Rattle.lw_laws.specs.Extracts.{HaveLeafLabels}
-use Rattle.lw_laws.proofs.Lists.{slice_get_in}
 use Rattle.lw_laws.proofs.Numbers.{slice_get_map, slice_get_map_back}
 use Rattle.lw_laws.proofs.Mapping.{sop_occurs}
 use Rattle.lw_laws.proofs.GraphEncodes.{graph_trees}
@@ -129,7 +128,7 @@ module _ (net : NetworkParts) (starts : List Micro) (c : Choices) (ports : Ports
         omega (arith, n)
 
     in_names : (o : NetId) (k : ℕ) → slice_get net.outputs k ≡ Some o → o.0 < length net.names
-    in_names o k at = subst (λ (p : NetId). p.0 < length net.names) (get_or_from_slice_get net.outputs k o o at) (kept.outputs k o (slice_get_in net.outputs k o at))
+    in_names o k at = subst (λ (p : NetId). p.0 < length net.names) (get_or_from_slice_get net.outputs k o o at) (kept.outputs k o (slice_get_within net.outputs k o at))
 
     in_nets : (o : NetId) → o.0 < length net.names → o.0 < net.inputs + length (map network.plain_node net.nodes)
     in_nets o lt = let n = kept.named in let m = length-map net.nodes network.plain_node in omega arith
@@ -189,7 +188,7 @@ module _ (net : NetworkParts) (starts : List Micro) (c : Choices) (ports : Ports
         )
 
     pub lack_place : (k : ℕ) → IsFirstUncovered marks ports.roots k → k < length net.outputs
-    lack_place k is = let (o, at, lacks) = first_lack k is in slice_get_in net.outputs k o at
+    lack_place k is = let (o, at, lacks) = first_lack k is in slice_get_within net.outputs k o at
 
     -- the refusal of the output at a place
     pub lack_refused : (k : ℕ) (name : List ℕ) → IsFirstUncovered marks ports.roots k → ((o : NetId) → slice_get net.outputs k ≡ Some o → name ≡ name_in net o) → LacksCover options cells net starts name

@@ -5,7 +5,7 @@ use Rattle.std.specs.Prelude.{All}
 use Rattle.std.specs.Str.{bytes_eq}
 use Rattle.std.proofs.lemmas.Bool.{cases_lt}
 use Rattle.std.proofs.lemmas.List.{length-map}
-use Rattle.std.proofs.lemmas.Option.{get_or_from_slice_get}
+use Rattle.std.proofs.lemmas.Option.{get_or_from_slice_get, slice_get_within}
 use Rattle.std.proofs.lemmas.Slice.Zip.{AllZip-long}
 use Rattle.std.proofs.lemmas.List.Elements.{recursion_from_All}
 use Rattle.lw_pool.specs.declared.id.NetId.{NetId}
@@ -15,7 +15,7 @@ use Rattle.lw_laws.specs.Covers.{tree_of, start_of}
 use Rattle.lw_laws.specs.Covers.Cover.{wire}
 use Rattle.lw_laws.specs.Headline.{Port as PlainPort, HasLeastArrival}
 use Rattle.lw_laws.proofs.InputLabels.{start_before, input_leaf}
-use Rattle.lw_laws.proofs.Lists.{slice_get_in, slice_get_some}
+use Rattle.lw_laws.proofs.Lists.{slice_get_some}
 use Rattle.lw_laws.proofs.Numbers.{slice_get_map, slice_get_map_back}
 use Rattle.lw_net.specs.Networks.{NetworkParts, IsNetwork, output_names}
 use Rattle.lw_net.specs.Plain as network
@@ -90,7 +90,7 @@ module _ (net : NetworkParts) (starts : List Micro) (c : Choices) (cells : List 
       record {
         output = o;
         at = f;
-        known = subst (λ (q : NetId). q.0 < length net.names) (get_or_from_slice_get net.outputs k o o f) (kept.outputs k o (slice_get_in net.outputs k o f));
+        known = subst (λ (q : NetId). q.0 < length net.names) (get_or_from_slice_get net.outputs k o o f) (kept.outputs k o (slice_get_within net.outputs k o f));
         class_is = sym same ∙ ap (λ (p : PlainPort). class_of_net net starts c cells kept are p.net) (sym port);
         least = zip_both (λ (output : NetId) (d : ℕ). HasLeastArrival (plain_options c.options).mode (plain_options c.options).width (network.plain net) (library_patterns cells) (timing_of cells starts) output.0 d) net.outputs (micros times) k o time.0 earliest f (slice_get_map (λ (t : Micro). t.0) times k time bt);
       }

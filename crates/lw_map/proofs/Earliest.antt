@@ -4,7 +4,7 @@ use Rattle.std.specs.List.{IsDistinct}
 use Rattle.std.specs.Prelude.{All}
 use Rattle.std.specs.Str.{bytes_eq}
 use Rattle.std.proofs.lemmas.List.{length-map}
-use Rattle.std.proofs.lemmas.Option.{get_or_from_slice_get}
+use Rattle.std.proofs.lemmas.Option.{get_or_from_slice_get, slice_get_within}
 use Rattle.lw_pool.specs.declared.id.NetId.{NetId}
 use Rattle.lw_pool.specs.declared.id.ClassId.{ClassId}
 use Rattle.lw_fixed.specs.declared.micro.Micro.{Micro}
@@ -15,7 +15,7 @@ use Rattle.lw_laws.specs.Headline.{Port as PlainPort, HasLeastArrival}
 use Rattle.lw_laws.specs.Mapped.{root_class}
 use Rattle.lw_laws.proofs.GraphEncodes.{graph_encodes}
 use Rattle.lw_laws.proofs.NetlistOf.{root_least}
-use Rattle.lw_laws.proofs.Lists.{slice_get_in, slice_get_some}
+use Rattle.lw_laws.proofs.Lists.{slice_get_some}
 use Rattle.lw_laws.proofs.Numbers.{slice_get_map, slice_get_map_back}
 use Rattle.lw_net.specs.Networks.{NetworkParts, IsNetwork, input_names, output_names}
 use Rattle.lw_net.specs.Plain as network
@@ -76,7 +76,7 @@ module _ (net : NetworkParts) (starts : List Micro) (c : Choices) (cells : List 
     first_of : (k : ℕ) (o : NetId) (d : ℕ) → slice_get net.outputs k ≡ Some o → slice_get (micros labels) k ≡ Some d → HasLeastArrival (plain_options c.options).mode (plain_options c.options).width (network.plain net) (library_patterns cells) (timing_of cells starts) o.0 d
     first_of k o d at bt =
         let n = roots_count in
-        let lt = slice_get_in net.outputs k o at in
+        let lt = slice_get_within net.outputs k o at in
         let class : ℕ = root_class (plain_options c.options).width (network.plain net) c.graph o.0 in
         let there : slice_get (map (λ (x : ClassId). x.0) c.roots) k ≡ Some class = ap (λ (cs : List ℕ). slice_get cs k) are.roots ∙ slice_get_map (λ (p : PlainPort). root_class (plain_options c.options).width (network.plain net) c.graph p.net) (map (output_port net) net.outputs) k (output_port net o) (slice_get_map (output_port net) net.outputs k o at) in
         let (root, ct, same) = slice_get_map_back (λ (x : ClassId). x.0) c.roots k class there in

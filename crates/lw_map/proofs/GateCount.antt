@@ -12,7 +12,7 @@ use Rattle.lw_laws.specs.Covers.{Pattern}
 use Rattle.lw_laws.specs.Netlists.{Netlist}
 use Rattle.lw_laws.specs.Rounds.{labels_in}
 use Rattle.lw_laws.proofs.Facts.{any_true}
-use Rattle.lw_laws.proofs.Lists.{slice_get_in, slice_get_some}
+use Rattle.lw_laws.proofs.Lists.{slice_get_some}
 
 -- a list holds something only at its places
 labelled_in : (labels : List (Option ℕ)) (c l : ℕ) → labels_in labels c ≡ Some l → c < length labels

@@ -5,6 +5,7 @@ use Rattle.std.specs.Str.{bytes_eq}
 use Rattle.std.proofs.lemmas.List.{length-map, length-take-le, take_at}
 use Rattle.std.proofs.lemmas.List.Elements.{All-filter, All-from_recursion, recursion_from_All}
 use Rattle.std.proofs.lemmas.List.FromFn.{length-range_with_len}
+use Rattle.std.proofs.lemmas.Option.{slice_get_within}
 use Rattle.lw_pool.specs.declared.id.ClassId.{ClassId}
 use Rattle.lw_fixed.specs.declared.micro.Micro.{Micro}
 use Rattle.lw_laws.specs.Names.{AreDifferent, AreNameable, is_name_among, numbered_name, numbered_names, free_names, output_name, gate_names, net_names}
@@ -15,7 +16,7 @@ use Rattle.lw_laws.specs.Headline.{Port as PlainPort}
 use Rattle.lw_laws.proofs.InputClasses.{distinct_leaves}
 use Rattle.lw_laws.proofs.MappedNames.{input_sop}
 use Rattle.lw_laws.proofs.NameLaws.{names_differ, names_owned}
-use Rattle.lw_laws.proofs.Lists.{slice_get_in, slice_get_some, all_contains, all_append, contains_all}
+use Rattle.lw_laws.proofs.Lists.{slice_get_some, all_contains, all_append, contains_all}
 use Rattle.lw_laws.proofs.Numbers.{slice_get_map, slice_get_map_back}
 use Rattle.lw_naming.proofs.FreeNames.{enough_free}
 use Rattle.lw_net.specs.Networks.{NetworkParts, IsNetwork, name_in, input_names, output_names}
@@ -116,12 +117,12 @@ module _ (net : NetworkParts) (starts : List Micro) (c : Choices) (cells : List 
     tied i k name at bt =
         let (o, e, named_is) = slice_get_map_back (name_in net) net.outputs k name bt in
         let p_at = slice_get_map (output_port net) net.outputs k o e in
-        let lt = slice_get_in net.outputs k o e in
+        let lt = slice_get_within net.outputs k o e in
         let count = outputs_count net starts c cells kept are times deadline earliest ports named later later_are n own is in
         let (port, port_at) = slice_get_some n.outputs k (omega arith) in
         let x = place_of net starts c cells kept are times deadline earliest ports named later later_are n own is k (output_port net o) (plain_port port) p_at (slice_get_map plain_port n.outputs k port port_at) in
         let place : o.0 ≡ i = apart.tied i k (output_port net o) p_at (at ∙ ap Some (sym named_is)) in
-        let in' = slice_get_in (input_names net) i name at in
+        let in' = slice_get_within (input_names net) i name at in
         let c1 = inputs_count in
         let inside : i < net.inputs = omega arith in
         let width = (plain_options c.options).width in
@@ -149,7 +150,7 @@ module _ (net : NetworkParts) (starts : List Micro) (c : Choices) (cells : List 
         let (port, port_at, port_is) = slice_get_map_back plain_port n.outputs k p at in
         let net_is : port.net.0 ≡ p.net = ap (λ (r : PlainPort). r.net) port_is in
         let count = outputs_count net starts c cells kept are times deadline earliest ports named later later_are n own is in
-        let lt = slice_get_in n.outputs k port port_at in
+        let lt = slice_get_within n.outputs k port port_at in
         let (o, o_at) = slice_get_some net.outputs k (omega arith) in
         let name_is : name_in net o ≡ p.name = outputs_named_at net starts c cells kept are times deadline earliest ports named later later_are n own is k (output_port net o) p (slice_get_map (output_port net) net.outputs k o o_at) at in
         let a = length-range_with_len 0 n.inputs in

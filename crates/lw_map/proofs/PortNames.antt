@@ -7,13 +7,13 @@ use Rattle.std.specs.Str.{bytes_eq}
 use Rattle.std.proofs.lemmas.List.{length-map, length-take-le}
 use Rattle.std.proofs.lemmas.List.Elements.{recursion_from_All}
 use Rattle.std.proofs.lemmas.Map.Made.{is_member-Decides, length-le_from_is_member}
-use Rattle.std.proofs.lemmas.Option.{get_or_from_slice_get}
+use Rattle.std.proofs.lemmas.Option.{get_or_from_slice_get, slice_get_within}
 use Rattle.std.proofs.lemmas.Slice.Eq.{bytes_eq-Decides}
 use Rattle.lw_pool.specs.declared.id.NetId.{NetId}
 use Rattle.lw_laws.specs.Names.{AreDifferent}
 use Rattle.lw_laws.specs.Headline.{Port as PlainPort}
 use Rattle.lw_laws.specs.MappedNetlists.{HasPorts, ArePortNames}
-use Rattle.lw_laws.proofs.Lists.{slice_get_in, slice_get_some, all_map}
+use Rattle.lw_laws.proofs.Lists.{slice_get_some, all_map}
 use Rattle.lw_laws.proofs.Numbers.{slice_get_map_back}
 use Rattle.lw_net.specs.Networks.{NetworkParts, IsNetwork, name_in, input_names, output_names}
 use Rattle.lw_net.specs.Plain as network
@@ -46,7 +46,7 @@ module _ (net : NetworkParts) (kept : IsNetwork net) where
       e ∙ ap Some (sym (get_or_from_slice_get net.names o.0 x [] e))
 
   in_range : (k : ℕ) (o : NetId) → slice_get net.outputs k ≡ Some o → o.0 < length net.names
-  in_range k o e = subst (λ (p : NetId). p.0 < length net.names) (get_or_from_slice_get net.outputs k o o e) (kept.outputs k o (slice_get_in net.outputs k o e))
+  in_range k o e = subst (λ (p : NetId). p.0 < length net.names) (get_or_from_slice_get net.outputs k o o e) (kept.outputs k o (slice_get_within net.outputs k o e))
 
   -- an output with an input's name is that input
   tied : IsDistinct bytes_eq net.names → (i k : ℕ) (p : PlainPort) → slice_get (map (output_port net) net.outputs) k ≡ Some p → slice_get (input_names net) i ≡ Some p.name → p.net ≡ i

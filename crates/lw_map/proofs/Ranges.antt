@@ -1,5 +1,6 @@
 -- The classes of the graph of a network's forms are in range, and the least times of classes are below what the largest delay allows.
 use Rattle.std.proofs.Common.{ℕ, zero, suc, ◌+◌, ◌*◌, ◌^◌, ◌/◌, ◌%◌, ◌==◌, ◌<◌, ◌≤◌, ◌≡◌, inl, inr, Bool, true, false, if◌then◌else◌, List, [], ◌∷◌, length, map, Option, Some, None, slice_get, slice_index, slice_index_or, refl, sym, ◌∙◌, subst, arith, eq-eqb, eqb-true, mul-le-mul_right}
+use Rattle.std.proofs.lemmas.Option.{slice_get_within}
 use Rattle.lw_laws.specs.Flip.{flip}
 use Rattle.lw_laws.specs.Modes.{Mode}
 use Rattle.lw_laws.specs.Trees.{Tree, leaf, const_one, const_zero, inv, nand}
@@ -16,7 +17,6 @@ use Rattle.lw_laws.specs.Matches.{IsLeastCover}
 use Rattle.lw_laws.specs.Rounds.{labels_in}
 use Rattle.lw_laws.specs.Delays.{delay_cost}
 use Rattle.lw_laws.specs.Laws.{IsCoverProblem, IsTimingUpTo}
-use Rattle.lw_laws.proofs.Lists.{slice_get_in}
 use Rattle.lw_laws.proofs.Listed.{true_and_inputs_first}
 use Rattle.lw_laws.proofs.GraphEncodes.{graph_pairs_once}
 use Rattle.lw_laws.proofs.NetlistOf.{least_costs_bound}
@@ -121,11 +121,11 @@ front_same (suc n) (o ∷ labels) (suc c) low = front_same n labels c (λ l e. l
 
 module _ (mode : Mode) (width : ℕ) (net : Network) (g : Graph) (wide : 2 ≤ width) (is : IsGraphOf mode net.inputs (listing_of width net) g) where
   some_base : 0 < length (occurring_forms width net)
-  some_base = slice_get_in (occurring_forms width net) 0 true_form (true_and_inputs_first width wide net).first
+  some_base = slice_get_within (occurring_forms width net) 0 true_form (true_and_inputs_first width wide net).first
 
   leaf_low : (i c : ℕ) → slice_get g.leaves i ≡ Some c → c / 2 < pair_count 0 g.forms
   leaf_low i c e =
-      let lt = slice_get_in g.leaves i c e in
+      let lt = slice_get_within g.leaves i c e in
       let n = is.written.leaf_count in
       let f = is.leaves i (omega arith) in
       let same : class_in (listing_of width net) g (var_form i) ≡ c = cc in

@@ -2,14 +2,14 @@
 use Rattle.std.proofs.Common.{ℕ, zero, suc, ◌+◌, ◌<◌, ◌≡◌, Bool, List, ◌++◌, map, length, Some, slice_get, slice_index_or, refl, ap, sym, ◌∙◌, subst, arith}
 use Rattle.std.specs.List.{AllZip, range_with_len}
 use Rattle.std.proofs.lemmas.List.{length-map}
-use Rattle.std.proofs.lemmas.Option.{get_or_from_slice_get}
+use Rattle.std.proofs.lemmas.Option.{get_or_from_slice_get, slice_get_within}
 use Rattle.lw_pool.specs.declared.id.NetId.{NetId}
 use Rattle.lw_pool.specs.declared.id.ClassId.{ClassId}
 use Rattle.lw_fixed.specs.declared.micro.Micro.{Micro}
 use Rattle.lw_laws.specs.Networks.{AreValues}
 use Rattle.lw_laws.specs.Headline.{Port as PlainPort, HasLeastArrival}
 use Rattle.lw_laws.specs.Netlists.{AreArrivals, AreNetCosts, AreNetlistValues}
-use Rattle.lw_laws.proofs.Lists.{slice_get_in, slice_get_some}
+use Rattle.lw_laws.proofs.Lists.{slice_get_some}
 use Rattle.lw_laws.proofs.Numbers.{slice_get_map, slice_get_map_back}
 use Rattle.lw_net.specs.Networks.{NetworkParts, IsNetwork, name_in, output_names}
 use Rattle.lw_net.specs.Plain as network
@@ -79,7 +79,7 @@ module _ (net : NetworkParts) (starts : List Micro) (c : Choices) (cells : List 
 
   placed : (k : ℕ) (o : NetId) (port : Port) → slice_get net.outputs k ≡ Some o → slice_get n.outputs k ≡ Some port → IsPlaced k (output_port net o) (plain_port port)
   placed k o port at bt =
-      let lt = slice_get_in net.outputs k o at in
+      let lt = slice_get_within net.outputs k o at in
       let a = roots_count in
       let b = times_count net starts c cells kept are times deadline earliest in
       let (root, ct) = slice_get_some c.roots k (omega arith) in
@@ -91,7 +91,7 @@ module _ (net : NetworkParts) (starts : List Micro) (c : Choices) (cells : List 
       let late : slice_get later k ≡ Some (put_off deadline u) = ap (λ (ts : List Micro). slice_get ts k) later_are ∙ slice_get_map (put_off deadline) times k u dt in
       let by = is.least k root (put_off deadline u) port (ap (λ (rs : List ClassId). slice_get rs k) named.roots ∙ ct) late bt in
       let soon = by.is_cover.in_time in
-      let inside : port.net.0 < length n.names = subst (λ (w : Port). w.net.0 < length n.names) (get_or_from_slice_get n.outputs k port port bt) (own.outputs k port (slice_get_in n.outputs k port bt)) in
+      let inside : port.net.0 < length n.names = subst (λ (w : Port). w.net.0 < length n.names) (get_or_from_slice_get n.outputs k port port bt) (own.outputs k port (slice_get_within n.outputs k port bt)) in
       record {
         root = root;
         root_at = ct;

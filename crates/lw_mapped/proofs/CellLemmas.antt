@@ -6,31 +6,13 @@ use Rattle.std.specs.Str.{bytes_eq}
 use Rattle.std.specs.Cmp.Lexicographic.{bytes_decides}
 use Rattle.std.proofs.lemmas.Bool.Decides.{nat_tests}
 use Rattle.std.proofs.lemmas.List.Sums.{position_or_len_is}
+use Rattle.lw_facts.proofs.Lists.{first_place}
 use Rattle.lw_genlib.specs.Cells.{CellParts, names_of}
-use Rattle.lw_dag.proofs.Names.{alike, differ_back}
 use Rattle.lw_mapped.specs.declared.fault.MappedKind.TheVariants as kind
 use Rattle.lw_mapped.specs.declared.saying.Saying.TheVariants as saying
 use Rattle.lw_mapped.specs.GateLines.{ties_fault, gate_of}
 use Rattle.lw_mapped.specs.Sayings.{said, gate_says, gate_says_in, gate_says_at}
 use Rattle.lw_words.specs.Words.{first_word}
-
-at_place : (x : List ℕ) (ys : List (List ℕ)) (k : ℕ) (e : List ℕ) → AllByRecursion (λ y. bytes_eq x y ≡ false) ys → k < length ys → bytes_eq x (get_or ys k e) ≡ false
-at_place x [] k e all lt = absurd (omega arith)
-at_place x (y ∷ ys) zero e all lt = all.0
-at_place x (y ∷ ys) (suc k) e all lt = at_place x ys k e all.1 (omega arith)
-
-first_here : (x : List ℕ) (xs : List (List ℕ)) → position_or_len (bytes_eq x) (x ∷ xs) ≡ 0
-first_here x xs = grind (arith, alike x x refl)
-
-first_place : (names : List (List ℕ)) (k : ℕ) (d : List ℕ) → IsDistinct bytes_eq names → k < length names → position_or_len (bytes_eq (get_or names k d)) names ≡ k
-unfolding IsDistinct
-first_place [] k d distinct lt = absurd (omega arith)
-first_place (x ∷ xs) zero d distinct lt = first_here x xs
-first_place (x ∷ xs) (suc k) d distinct lt = by_test (bytes_eq (get_or xs k d) x) (differ_back x (get_or xs k d) (at_place x xs k d distinct.0 (omega arith))) (first_place xs k d distinct.1 (omega arith))
-  where
-    by_test : (b : Bool) → b ≡ false → position_or_len (bytes_eq (get_or xs k d)) xs ≡ k → cond (not b) (1 + position_or_len (bytes_eq (get_or xs k d)) xs) 0 ≡ suc k
-    by_test false is rest = omega (arith, rest)
-    by_test true is rest = cc
 
 get-parts : (names : List (List ℕ)) (k : ℕ) (name d : List ℕ) → slice_get names k ≡ Some name → (k < length names) × (get_or names k d ≡ name)
 get-parts [] k name d e = cc

@@ -9,7 +9,7 @@ use Rattle.std.proofs.lemmas.List.{get_or_default}
 use Rattle.std.proofs.lemmas.List.Elements.{All-contains, All-head, All-tail, All-weaker, Contains-append_left, Contains-append_right}
 use Rattle.std.proofs.lemmas.List.Sorted.{IsPermutation-refl, IsPermutation-sym, IsPermutation-trans, IsPermutation-cons, IsPermutation-middle, IsPermutation-append_left, IsPermutation-append_right, IsPermutation-map, Contains-permutation}
 use Rattle.std.proofs.lemmas.Option.{slice_get_within}
-use Rattle.lw_laws.proofs.Lists.{in_map}
+use Rattle.lw_facts.proofs.Lists.{contains_map, get_left, get_right, at_contained, contained_at}
 use Rattle.lw_laws.proofs.Numbers.{slice_get_map_back}
 use Rattle.lw_pool.specs.declared.id.NetId.{NetId}
 use Rattle.lw_netlist.specs.declared.draft.DraftGate.{DraftGate}
@@ -23,7 +23,7 @@ use Rattle.lw_netlist.proofs.Names.{once_distinct, drivers_are, to_of}
 use Rattle.lw_dag.proofs.Numbering.{none_unknown, none_split, distinct_moved}
 use Rattle.lw_netlist.proofs.Paths.{driven_needs}
 use Rattle.lw_netlist.proofs.Starting.{bare_gate, link_of_gate}
-use Rattle.lw_mapped.proofs.Places.{get-left, get-right, one-place, get-contains, contains-get}
+use Rattle.lw_mapped.proofs.Places.{one-place}
 
 -- The order by depth holds each gate.
 
@@ -144,7 +144,7 @@ module _ (draft : GateDraft) (n : NetlistParts) (a : IsClosed draft n) where
   pub out-known : (gate : DraftGate) → Contains draft.gates gate → Contains (drivers draft) gate.out
   out-known gate among =
       subst (λ l. Contains l gate.out) (sym (drivers_are draft))
-      (Contains-append_left (draft.inputs ++ map out_of draft.gates) (map to_of draft.wires) gate.out (Contains-append_right draft.inputs (map out_of draft.gates) gate.out (in_map out_of draft.gates gate among)))
+      (Contains-append_left (draft.inputs ++ map out_of draft.gates) (map to_of draft.wires) gate.out (Contains-append_right draft.inputs (map out_of draft.gates) gate.out (contains_map out_of draft.gates gate among)))
 
 -- The depths of two netlists.
 module _ (draft : GateDraft) (n m : NetlistParts) (a : IsClosed draft n) (b : IsClosed draft m) where
@@ -158,12 +158,12 @@ module _ (draft : GateDraft) (n m : NetlistParts) (a : IsClosed draft n) (b : Is
 
   agree-at : (k : ℕ) → AgreeBelow k → (name : List ℕ) (net : ℕ) → IsNetNamed draft (by_depth a.depth draft.gates) name net → a.depth name ≤ k → a.depth name ≡ b.depth name
   agree-at k agree name net (at_input place e) below =
-      All-contains (λ i. a.depth i ≡ 0) draft.inputs name a.depths.inputs (get-contains draft.inputs place name e)
-      ∙ sym (All-contains (λ i. b.depth i ≡ 0) draft.inputs name b.depths.inputs (get-contains draft.inputs place name e))
+      All-contains (λ i. a.depth i ≡ 0) draft.inputs name a.depths.inputs (at_contained draft.inputs place name e)
+      ∙ sym (All-contains (λ i. b.depth i ≡ 0) draft.inputs name b.depths.inputs (at_contained draft.inputs place name e))
   agree-at k agree name net (at_gate place e) below =
       let at = slice_get_map_back out_of (by_depth a.depth draft.gates) place name e in
       let gate = at.0 in
-      let among = gate-known draft n a gate (get-contains (by_depth a.depth draft.gates) place gate at.1) in
+      let among = gate-known draft n a gate (at_contained (by_depth a.depth draft.gates) place gate at.1) in
       let here = All-contains (λ (g : DraftGate). a.depth g.out ≡ 1 + greatest (map a.depth g.pins)) draft.gates gate a.depths.gates among in
       let there = All-contains (λ (g : DraftGate). b.depth g.out ≡ 1 + greatest (map b.depth g.pins)) draft.gates gate b.depths.gates among in
       let small : a.depth gate.out ≤ k = subst (λ x. a.depth x ≤ k) (sym at.2) below in
@@ -195,14 +195,14 @@ module _ (draft : GateDraft) (n m : NetlistParts) (a : IsClosed draft n) (b : Is
 
   -- the net starts at the name, or a wire drives it
   pub start-or-wire : (name : List ℕ) (net : ℕ) → IsNetNamed draft (by_depth a.depth draft.gates) name net → (slice_get (ends draft n a) net ≡ Some name) ⊎ IsWired name net
-  start-or-wire name net (at_input place e) = inl (get-left draft.inputs (map out_of (by_depth a.depth draft.gates)) place name e)
-  start-or-wire name net (at_gate place e) = inl (get-right draft.inputs (map out_of (by_depth a.depth draft.gates)) place name e)
+  start-or-wire name net (at_input place e) = inl (get_left draft.inputs (map out_of (by_depth a.depth draft.gates)) place name e)
+  start-or-wire name net (at_gate place e) = inl (get_right draft.inputs (map out_of (by_depth a.depth draft.gates)) place name e)
   start-or-wire name net (at_wire wire among to rest) =
-      let at = contains-get draft.wires wire among in
+      let at = contained_at draft.wires wire among in
       inr (record { wire = wire; place = at.0; at = at.1; to = to; rest = rest })
 
   wire-key : (place : ℕ) (wire : Wire) (name : List ℕ) → slice_get draft.wires place ≡ Some wire → wire.to ≡ name → slice_get (keys draft n a) (length (ends draft n a) + place) ≡ Some name
-  wire-key place wire name at to = get-right (ends draft n a) (map to_of draft.wires) place name (key-at draft.wires place at)
+  wire-key place wire name at to = get_right (ends draft n a) (map to_of draft.wires) place name (key-at draft.wires place at)
     where
       key-at : (ws : List Wire) (k : ℕ) → slice_get ws k ≡ Some wire → slice_get (map to_of ws) k ≡ Some name
       key-at [] k e = cc
@@ -210,7 +210,7 @@ module _ (draft : GateDraft) (n m : NetlistParts) (a : IsClosed draft n) (b : Is
       key-at (w ∷ ws) (suc k) e = key-at ws k e
 
   start-key : (net : ℕ) (name : List ℕ) → slice_get (ends draft n a) net ≡ Some name → slice_get (keys draft n a) net ≡ Some name
-  start-key net name e = get-left (ends draft n a) (map to_of draft.wires) net name e
+  start-key net name e = get_left (ends draft n a) (map to_of draft.wires) net name e
 
   pub start-alone : (name : List ℕ) (net other : ℕ) → slice_get (ends draft n a) net ≡ Some name → (slice_get (ends draft n a) other ≡ Some name) ⊎ IsWired name other → net ≡ other
   start-alone name net other e (inl f) = one-place (keys draft n a) net other name (keys-distinct draft n a) (start-key net name e) (start-key other name f)
@@ -226,13 +226,13 @@ module _ (draft : GateDraft) (n m : NetlistParts) (a : IsClosed draft n) (b : Is
       cc
 
   pub nets-once : (name : List ℕ) (net other : ℕ) → IsNetNamed draft (by_depth a.depth draft.gates) name net → IsNetNamed draft (by_depth a.depth draft.gates) name other → net ≡ other
-  nets-once name net other (at_input place e) d = start-alone name net other (get-left draft.inputs (map out_of (by_depth a.depth draft.gates)) place name e) (start-or-wire name other d)
-  nets-once name net other (at_gate place e) d = start-alone name net other (get-right draft.inputs (map out_of (by_depth a.depth draft.gates)) place name e) (start-or-wire name other d)
+  nets-once name net other (at_input place e) d = start-alone name net other (get_left draft.inputs (map out_of (by_depth a.depth draft.gates)) place name e) (start-or-wire name other d)
+  nets-once name net other (at_gate place e) d = start-alone name net other (get_right draft.inputs (map out_of (by_depth a.depth draft.gates)) place name e) (start-or-wire name other d)
   nets-once name net other (at_wire wire among to rest) d =
       by_start (start-or-wire name other d) (λ w. nets-once wire.from net other rest (subst (λ (v : Wire). IsNetNamed draft (by_depth a.depth draft.gates) v.from other) (sym (same w)) w.rest))
     where
       at : (i : ℕ) × (slice_get draft.wires i ≡ Some wire)
-      at = contains-get draft.wires wire among
+      at = contained_at draft.wires wire among
 
       same : (w : IsWired name other) → wire ≡ w.wire
       same w = one-wire at.0 w.place wire w.wire name at.1 to w.at w.to

@@ -9,6 +9,7 @@ use Rattle.std.proofs.lemmas.List.{length-map, length-take-le, length-drop, get_
 use Rattle.std.proofs.lemmas.List.Elements.{Contains-append_cases, All-from_recursion}
 use Rattle.std.proofs.lemmas.Map.Keys.{IsDistinct-head, IsDistinct-tail}
 use Rattle.std.proofs.lemmas.Option.{slice_get-get_or, slice_get_within, get_or_from_slice_get}
+use Rattle.lw_facts.proofs.Lists.{bytes_eq_same, bytes_differ_turned, at_contained, contained_at}
 use Rattle.lw_laws.specs.Netlists as laws
 use Rattle.lw_laws.specs.Netlists.{AreNetDepths, AreByDepth}
 use Rattle.lw_laws.specs.Networks.{greatest_depth}
@@ -27,14 +28,12 @@ use Rattle.lw_netlist.specs.Closing.Reaches.{by_step, by_path}
 use Rattle.lw_netlist.specs.Netlists.{NetlistParts, IsNetlist, IsGateAt}
 use Rattle.lw_netlist.specs.Numbered.{number_in}
 use Rattle.lw_netlist.specs.Plain.{plain, plain_gate, port_name}
-use Rattle.lw_dag.proofs.Names.{alike, differ_back}
 use Rattle.lw_netlist.proofs.Names.{to_of}
 use Rattle.lw_mapped.specs.Readable.{ports_of}
 use Rattle.lw_mapped.specs.Texts.{net_name}
 use Rattle.lw_mapped.proofs.Driving as back
 use Rattle.lw_mapped.proofs.Driving.{draft_of, wires_of, each-map, each-at, at-each}
 use Rattle.lw_mapped.proofs.Items.{named_gate, port_wire}
-use Rattle.lw_mapped.proofs.Places.{get-contains, contains-get}
 use Rattle.lw_mapped.proofs.Ranked.{AreRising, by_depth-rising}
 use Rattle.lw_mapped.proofs.WrittenLines.{each-append, each-weaker}
 use Rattle.lw_pool.specs.Numbers.{net_number}
@@ -116,13 +115,13 @@ module _ (n : NetlistParts) (is : IsNetlist n) (named : AreNetNames (plain n) n.
 
   none-among : (name : List ℕ) (xs : List (List ℕ)) → Each (λ x. bytes_eq x name ≡ false) xs → is_among xs name ≡ false
   none-among name [] each = refl
-  none-among name (x ∷ xs) each = ap₂ (λ a b. a || b) (differ_back x name each.0) (none-among name xs each.1)
+  none-among name (x ∷ xs) each = ap₂ (λ a b. a || b) (bytes_differ_turned x name each.0) (none-among name xs each.1)
 
   output-found : (ports : List Port) (i : ℕ) (port : Port) → IsDistinct bytes_eq (map port_name ports) → slice_get ports i ≡ Some port → net_of_output ports port.name ≡ port.net.0
   output-found [] i port h e = cc
   output-found (p ∷ ports) zero port h e =
       let same : p ≡ port = cc in
-      ap (λ b. cond b p.net.0 (net_of_output ports port.name)) (alike p.name port.name (ap port_name same)) ∙ ap (λ (q : Port). q.net.0) same
+      ap (λ b. cond b p.net.0 (net_of_output ports port.name)) (bytes_eq_same p.name port.name (ap port_name same)) ∙ ap (λ (q : Port). q.net.0) same
   output-found (p ∷ ports) (suc i) port h e =
       let other : bytes_eq p.name port.name ≡ false = at-each (λ (q : Port). bytes_eq p.name q.name ≡ false) ports i port (heads ports (IsDistinct-head bytes_eq p.name (map port_name ports) h)) e in
       ap (λ b. cond b p.net.0 (net_of_output ports port.name)) other ∙ output-found ports i port (IsDistinct-tail bytes_eq p.name (map port_name ports) h) e
@@ -307,8 +306,8 @@ module _ (n : NetlistParts) (is : IsNetlist n) (named : AreNetNames (plain n) n.
 
   hangs-down : (from to : List ℕ) → Hangs (links d) from to → rank to < rank from
   hangs-down from to h =
-      let place = contains-get (links d) h.link h.among in
-      let need = contains-get h.link.needs to h.on in
+      let place = contained_at (links d) h.link h.among in
+      let need = contained_at h.link.needs to h.on in
       subst (λ x. rank to < rank x) h.named (at-each (λ x. rank x < rank h.link.name) h.link.needs need.0 to (at-each GoesDown (links d) place.0 h.link links-down place.1) need.1)
 
   reaches-down : (from to : List ℕ) → Reaches (links d) from to → rank to < rank from
@@ -360,14 +359,14 @@ module _ (n : NetlistParts) (is : IsNetlist n) (named : AreNetNames (plain n) n.
     where
       by_part : Contains names name ⊎ Contains (map to_of d.wires) name → IsNetNamed d d.gates name (net name)
       by_part (inl c) =
-          let place = contains-get names name c in
+          let place = contained_at names name c in
           let lt = slice_get_within names place.0 name place.1 in
           subst (λ x. IsNetNamed d d.gates x (net x)) (get_or_from_slice_get names place.0 name [] place.1) (subst (IsNetNamed d d.gates (at place.0)) (sym (net-at place.0 lt)) (net-is-at place.0 lt))
       by_part (inr c) =
-          let place = contains-get (map to_of d.wires) name c in
+          let place = contained_at (map to_of d.wires) name c in
           let wire = slice_get_map_back to_of d.wires place.0 name place.1 in
           subst (λ x. IsNetNamed d d.gates x (net x)) wire.2
-          (at-each (λ (w : Wire). Contains d.wires w → IsNetNamed d d.gates w.to (net w.to)) d.wires place.0 wire.0 (wire-net n.outputs (λ i port e. (i, e))) wire.1 (get-contains d.wires place.0 wire.0 wire.1))
+          (at-each (λ (w : Wire). Contains d.wires w → IsNetNamed d d.gates w.to (net w.to)) d.wires place.0 wire.0 (wire-net n.outputs (λ i port e. (i, e))) wire.1 (at_contained d.wires place.0 wire.0 wire.1))
 
   -- The netlist again.
 

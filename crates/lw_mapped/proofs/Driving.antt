@@ -9,8 +9,8 @@ use Rattle.std.proofs.Math.Seq.{drop-cons}
 use Rattle.std.proofs.lemmas.List.{take-append-drop, drop_all}
 use Rattle.std.proofs.lemmas.Map.Keys.{IsDistinct-cons, IsDistinct-head, IsDistinct-tail, IsDistinct-from_apart}
 use Rattle.std.proofs.lemmas.Option.{slice_get-get_or, slice_get_within, get_or_from_slice_get}
+use Rattle.lw_facts.proofs.Lists.{contains_map, bytes_eq_same, bytes_differ_turned, get_left, get_right, at_contained, contained_at}
 use Rattle.lw_laws.specs.MappedNetlists.{AreNetNames}
-use Rattle.lw_laws.proofs.Lists.{in_map}
 use Rattle.lw_pool.specs.declared.id.NetId.{NetId}
 use Rattle.lw_netlist.specs.declared.draft.GateDraft.{GateDraft}
 use Rattle.lw_netlist.specs.declared.draft.Wire.{Wire}
@@ -20,13 +20,11 @@ use Rattle.lw_netlist.specs.Closing.{drivers, first_twice, first_undriven, gate_
 use Rattle.lw_netlist.specs.Netlists.{NetlistParts, IsNetlist, IsGateAt}
 use Rattle.lw_netlist.specs.Numbered.{number_in}
 use Rattle.lw_netlist.specs.Plain.{plain, plain_port, port_name}
-use Rattle.lw_dag.proofs.Names.{alike, differ_back}
 use Rattle.lw_netlist.proofs.Names.{drivers_are, to_of}
 use Rattle.lw_dag.proofs.Numbering.{number_at}
 use Rattle.lw_mapped.specs.Readable.{ports_of}
 use Rattle.lw_mapped.specs.Texts.{net_name, names_of_inputs, names_of_outputs}
 use Rattle.lw_mapped.proofs.Items.{named_gate, port_wire}
-use Rattle.lw_mapped.proofs.Places.{get-left, get-right, get-contains, contains-get}
 use Rattle.lw_mapped.proofs.WrittenLines.{each-of, each-append}
 
 -- Names that differ.
@@ -44,7 +42,7 @@ head-differs x name (s ∷ seen) names each = head-differs x name seen names eac
 not-seen : (seen : List (List ℕ)) (name : List ℕ) (names : List (List ℕ)) → IsDistinct bytes_eq (seen ++ name ∷ names) → is_among seen name ≡ false
 not-seen [] name names distinct = refl
 not-seen (s ∷ seen) name names distinct =
-    ap₂ (λ a b. a || b) (differ_back s name (head-differs s name seen names (IsDistinct-head bytes_eq s (seen ++ name ∷ names) distinct)))
+    ap₂ (λ a b. a || b) (bytes_differ_turned s name (head-differs s name seen names (IsDistinct-head bytes_eq s (seen ++ name ∷ names) distinct)))
     (not-seen seen name names (IsDistinct-tail bytes_eq s (seen ++ name ∷ names) distinct))
 
 never-twice : (seen names : List (List ℕ)) → IsDistinct bytes_eq (seen ++ names) → twice_after seen names ≡ None
@@ -55,7 +53,7 @@ never-twice seen (name ∷ names) distinct =
 
 contains-among : (names : List (List ℕ)) (name : List ℕ) → Contains names name → is_among names name ≡ true
 contains-among [] name among = absurd (omega (arith, among.1))
-contains-among (x ∷ xs) name (zero, lt, e) = ap (λ b. b || is_among xs name) (alike name x (sym e))
+contains-among (x ∷ xs) name (zero, lt, e) = ap (λ b. b || is_among xs name) (bytes_eq_same name x (sym e))
 contains-among (x ∷ xs) name (suc k, lt, e) = ap (λ b. bytes_eq name x || b) (contains-among xs name (k, omega arith, e)) ∙ or-true (bytes_eq name x)
 
 none-missing : (driven names : List (List ℕ)) → Each (Contains driven) names → undriven_in driven names ≡ None
@@ -134,7 +132,7 @@ module _ (n : NetlistParts) (is : IsNetlist n) (named : AreNetNames (plain n) n.
   number k lt = number_at names k [] distinct lt
 
   pub among-at : (k : ℕ) → k < length names → is_among names (at k) ≡ true
-  among-at k lt = contains-among names (at k) (get-contains names k (at k) (at-get k lt))
+  among-at k lt = contains-among names (at k) (at_contained names k (at k) (at-get k lt))
 
   pub gate-at : (j : ℕ) (gate : Gate) → slice_get n.gates j ≡ Some gate → IsGateAt m j gate
   gate-at = is.gates
@@ -191,7 +189,7 @@ module _ (n : NetlistParts) (is : IsNetlist n) (named : AreNetNames (plain n) n.
           let same : x ≡ port.name = (bytes_decides x port.name).0 is_same in
           let here : at j ≡ x = get_or_from_slice_get names j x [] f in
           let place : j ≡ port.net.0 = owned j k port e (slice_get_within names j x f) (here ∙ same) in
-          let wrong : bytes_eq (net_name names port.net) port.name ≡ true = alike (net_name names port.net) port.name (ap at (sym place) ∙ (here ∙ same)) in
+          let wrong : bytes_eq (net_name names port.net) port.name ≡ true = bytes_eq_same (net_name names port.net) port.name (ap at (sym place) ∙ (here ∙ same)) in
           let clash : true ≡ false = sym wrong ∙ other in
           cc
       by_test j x f false is_other = is_other
@@ -256,13 +254,13 @@ module _ (n : NetlistParts) (is : IsNetlist n) (named : AreNetNames (plain n) n.
   swapped : (x : List ℕ) (ws : List Wire) → Each IsStrange ws → Contains names x → Each (λ y. bytes_eq x y ≡ false) (map to_of ws)
   swapped x [] each among = tt
   swapped x (w ∷ ws) each among =
-      let place = contains-get names x among in
+      let place = contained_at names x among in
       (at-each (λ y. bytes_eq y w.to ≡ false) names place.0 x each.0 place.1, swapped x ws each.1 among)
 
   all-distinct : IsDistinct bytes_eq (names ++ map to_of d.wires)
   all-distinct =
       distinct-append names (map to_of d.wires) distinct (wires-distinct n.outputs outputs-distinct)
-      (each-at (λ x. Each (λ y. bytes_eq x y ≡ false) (map to_of d.wires)) names (λ j x e. swapped x d.wires strange (get-contains names j x e)))
+      (each-at (λ x. Each (λ y. bytes_eq x y ≡ false) (map to_of d.wires)) names (λ j x e. swapped x d.wires strange (at_contained names j x e)))
 
   pub once : first_twice d ≡ None
   once = ap (twice_after []) driven-are ∙ never-twice [] (names ++ map to_of d.wires) all-distinct
@@ -271,7 +269,7 @@ module _ (n : NetlistParts) (is : IsNetlist n) (named : AreNetNames (plain n) n.
 
   driven-net : (k : ℕ) → k < length names → Contains (drivers d) (at k)
   driven-net k lt =
-      subst (λ l. Contains l (at k)) (sym driven-are) (get-contains (names ++ map to_of d.wires) k (at k) (get-left names (map to_of d.wires) k (at k) (at-get k lt)))
+      subst (λ l. Contains l (at k)) (sym driven-are) (at_contained (names ++ map to_of d.wires) k (at k) (get_left names (map to_of d.wires) k (at k) (at-get k lt)))
 
   pins-driven : (bound : ℕ) (pins : List NetId) → bound ≤ length names → Each (λ (net : NetId). net.0 < bound) pins → Each (Contains (drivers d)) (map (net_name names) pins)
   pins-driven bound [] le each = tt
@@ -302,8 +300,8 @@ module _ (n : NetlistParts) (is : IsNetlist n) (named : AreNetNames (plain n) n.
     where
       behind : (xs : List Wire) → Contains (wires_of names ports) (port_wire names port) → Contains (xs ++ wires_of names ports) (port_wire names port)
       behind xs among =
-          let place = contains-get (wires_of names ports) (port_wire names port) among in
-          get-contains (xs ++ wires_of names ports) (length xs + place.0) (port_wire names port) (get-right xs (wires_of names ports) place.0 (port_wire names port) place.1)
+          let place = contained_at (wires_of names ports) (port_wire names port) among in
+          at_contained (xs ++ wires_of names ports) (length xs + place.0) (port_wire names port) (get_right xs (wires_of names ports) place.0 (port_wire names port) place.1)
 
   output-driven : (k : ℕ) (port : Port) → slice_get n.outputs k ≡ Some port → Contains (drivers d) port.name
   output-driven k port e = by_test (bytes_eq (net_name names port.net) port.name) refl
@@ -311,8 +309,8 @@ module _ (n : NetlistParts) (is : IsNetlist n) (named : AreNetNames (plain n) n.
       by_test : (b : Bool) → bytes_eq (net_name names port.net) port.name ≡ b → Contains (drivers d) port.name
       by_test true f = subst (Contains (drivers d)) ((bytes_decides (net_name names port.net) port.name).0 f) (driven-net port.net.0 (at-each (λ (p : Port). p.net.0 < length names) n.outputs k port port-within e))
       by_test false f =
-          let place = contains-get (map to_of d.wires) port.name (in_map to_of d.wires (port_wire names port) (to-contains n.outputs k port e f)) in
-          subst (λ l. Contains l port.name) (sym driven-are) (get-contains (names ++ map to_of d.wires) (length names + place.0) port.name (get-right names (map to_of d.wires) place.0 port.name place.1))
+          let place = contained_at (map to_of d.wires) port.name (contains_map to_of d.wires (port_wire names port) (to-contains n.outputs k port e f)) in
+          subst (λ l. Contains l port.name) (sym driven-are) (at_contained (names ++ map to_of d.wires) (length names + place.0) port.name (get_right names (map to_of d.wires) place.0 port.name place.1))
 
   pub driven : first_undriven d ≡ None
   driven =

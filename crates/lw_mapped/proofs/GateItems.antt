@@ -10,11 +10,11 @@ use Rattle.std.proofs.lemmas.Bool.Decides.{nat_tests}
 use Rattle.std.proofs.lemmas.List.{map-append, take_at}
 use Rattle.std.proofs.lemmas.Map.Keys.{IsDistinct-head, IsDistinct-tail}
 use Rattle.std.proofs.lemmas.Option.{slice_get-map}
+use Rattle.lw_facts.proofs.Lists.{bytes_eq_same}
 use Rattle.lw_pool.specs.declared.id.NetId.{NetId}
 use Rattle.lw_genlib.specs.Cells.{CellParts, IsListed, IsPinName, IsLibrary, names_of}
 use Rattle.lw_netlist.specs.declared.draft.DraftGate.{DraftGate}
 use Rattle.lw_netlist.specs.declared.gate.Gate.{Gate}
-use Rattle.lw_dag.proofs.Names.{alike}
 use Rattle.lw_mapped.specs.declared.fault.MappedKind.{MappedKind}
 use Rattle.lw_mapped.specs.declared.fault.MappedKind.TheVariants as kind
 use Rattle.lw_mapped.specs.declared.saying.Saying.TheVariants as saying
@@ -101,12 +101,12 @@ module _ (cell : CellParts) where
       ap₂ (λ p q. p || q) (is-for-word b formal are.0 ∙ apart.0) (gives-none before formal are.1 apart.1)
 
   gives-one : (before : List Tie) (t : Tie) (after : List Tie) → IsTieOf cell t → gives (words (before ++ t ∷ after)) t.formal ≡ true
-  gives-one [] t after is = ap (λ b. b || gives (words after) t.formal) (is-for-word t t.formal is ∙ alike t.formal t.formal refl)
+  gives-one [] t after is = ap (λ b. b || gives (words after) t.formal) (is-for-word t t.formal is ∙ bytes_eq_same t.formal t.formal refl)
   gives-one (b ∷ before) t after is = ap (λ p. is_for t.formal (word b) || p) (gives-one before t after is) ∙ or-true (is_for t.formal (word b))
 
   net-found : (before : List Tie) (t : Tie) (after : List Tie) → Are before → IsTieOf cell t → Each (λ (b : Tie). bytes_eq b.formal t.formal ≡ false) before → net_for (words (before ++ t ∷ after)) t.formal ≡ t.net
   net-found [] t after are is apart =
-      ap (λ b. cond b (actual_of (word t)) (net_for (words after) t.formal)) (is-for-word t t.formal is ∙ alike t.formal t.formal refl) ∙ actual-is t.formal t.net is.no_equals
+      ap (λ b. cond b (actual_of (word t)) (net_for (words after) t.formal)) (is-for-word t t.formal is ∙ bytes_eq_same t.formal t.formal refl) ∙ actual-is t.formal t.net is.no_equals
   net-found (b ∷ before) t after are is apart =
       ap (λ p. cond p (actual_of (word b)) (net_for (words (before ++ t ∷ after)) t.formal)) (is-for-word b t.formal are.0 ∙ apart.0) ∙ net-found before t after are.1 is apart.1
 
@@ -188,7 +188,7 @@ nets-are names (pin ∷ pins) (net ∷ nets) same = ap (λ l. net_name names net
 among-self : (xs : List (List ℕ)) → Each (λ x. is_among xs x ≡ true) xs
 among-self [] = tt
 among-self (x ∷ xs) = (
-  ap (λ b. b || is_among xs x) (alike x x refl),
+  ap (λ b. b || is_among xs x) (bytes_eq_same x x refl),
   each-weaker (λ y. is_among xs y ≡ true) (λ y. is_among (x ∷ xs) y ≡ true) (λ y h. ap (λ b. bytes_eq y x || b) h ∙ or-true (bytes_eq y x)) xs (among-self xs),
 )
 
@@ -252,7 +252,7 @@ module _ (cells : List CellParts) (names : List (List ℕ)) (gate : Gate) (cell 
   are = pins-are cell names cell.pins gate.pins pin_names (among-self cell.pins) named.pins
 
   out-is : IsTieOf cell out
-  out-is = tie-is cell cell.output (net_name names gate.out) listed.output named.out (ap (λ b. is_among cell.pins cell.output || b) (alike cell.output cell.output refl) ∙ or-true (is_among cell.pins cell.output))
+  out-is = tie-is cell cell.output (net_name names gate.out) listed.output named.out (ap (λ b. is_among cell.pins cell.output || b) (bytes_eq_same cell.output cell.output refl) ∙ or-true (is_among cell.pins cell.output))
 
   differ : Each (λ pin. bytes_eq pin cell.output ≡ false) cell.pins
   differ = not-out cell.pins cell.output apart

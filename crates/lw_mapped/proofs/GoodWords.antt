@@ -3,8 +3,9 @@ use Rattle.std.proofs.Common.{ℕ, suc, ◌≡◌, ◌≢◌, ◌<◌, ◌≤◌
 use Rattle.std.specs.Prelude.{nat_le}
 use Rattle.std.specs.List.{list_all, list_any, ends_with, AllByRecursion as Each}
 use Rattle.std.specs.Cmp.Lexicographic.{pointwise}
-use Rattle.std.proofs.lemmas.Bool.{and_parts, not-true}
+use Rattle.std.proofs.lemmas.Bool.{and_parts, not-true, eqb-false}
 use Rattle.std.proofs.lemmas.Bool.Decides.{nat_tests}
+use Rattle.lw_facts.proofs.Tests.{none_of_four, not_a_stroke}
 use Rattle.lw_words.specs.Gathering.{IsInk, IsNoHash}
 use Rattle.lw_words.specs.Lines.{is_blank}
 use Rattle.lw_genlib.specs.Cells.{IsPinName, is_word_byte, is_punct_byte as is_mark_byte}
@@ -22,20 +23,10 @@ IsGood b = IsInk b × IsNoHash b × ((b == 92) ≡ false)
 abbrev pub is_good : ℕ → Bool
 is_good b = not (is_blank b || (b == 10 || (b == 35 || b == 92)))
 
-four : (p q r s : Bool) → not (p || (q || (r || s))) ≡ true → (p ≡ false) × (q ≡ false) × (r ≡ false) × (s ≡ false)
-four true q r s e = cc
-four false true r s e = cc
-four false false true s e = cc
-four false false false true e = cc
-four false false false false e = (refl, refl, refl, refl)
-
-pub differs : (a b : ℕ) → (a == b) ≡ false → a ≢ b
-differs a b e = grind (arith, nat_tests)
-
 good-byte : (b : ℕ) → is_good b ≡ true → IsGood b
 good-byte b e =
-    let parts = four (is_blank b) (b == 10) (b == 35) (b == 92) e in
-    ((parts.0, differs b 10 parts.1), differs b 35 parts.2, parts.3)
+    let parts = none_of_four (is_blank b) (b == 10) (b == 35) (b == 92) e in
+    ((parts.0, eqb-false b 10 parts.1), eqb-false b 35 parts.2, parts.3)
 
 pub good-bytes : (word : List ℕ) → list_all is_good word ≡ true → Each IsGood word
 good-bytes [] e = tt
@@ -59,7 +50,7 @@ word-bytes [] e = tt
 word-bytes (b ∷ word) e =
     let parts = and_parts (is_word_byte b) (list_all is_word_byte word) e in
     let own = six (b == 32) (b == 9) (b == 13) (b == 12) (b == 10) (b == 35) parts.0 in
-    (((own.0, differs b 10 own.1), differs b 35 own.2), word-bytes word parts.1)
+    (((own.0, eqb-false b 10 own.1), eqb-false b 35 own.2), word-bytes word parts.1)
 
 -- A word, with no `#` in it.
 abbrev pub IsRight : List ℕ → Type 0
@@ -99,12 +90,9 @@ stroke-behind b c word =
     let short : suc (length word) - 1 ≡ length word = omega arith in
     ap (λ k. pointwise nat_eq (92 ∷ []) (drop k (b ∷ c ∷ word))) long ∙ sym (ap (λ k. pointwise nat_eq (92 ∷ []) (drop k (c ∷ word))) short)
 
-stroke-last : (b : ℕ) → (nat_eq 92 b && true) ≡ false → (b == 92) ≡ false
-stroke-last b e = grind (arith, nat_tests)
-
 ends-name : (word : List ℕ) → 0 < length word → Each IsInk word → ends_stroke word ≡ false → EndsWell word
 ends-name [] some each e = absurd (omega arith)
-ends-name (b ∷ []) some each e = record { front = []; last = b; are = refl; ink = each.0.0; no_stroke = stroke-last b e }
+ends-name (b ∷ []) some each e = record { front = []; last = b; are = refl; ink = each.0.0; no_stroke = not_a_stroke b e }
 ends-name (b ∷ c ∷ word) some each e = ends-behind b (c ∷ word) (ends-name (c ∷ word) (omega arith) each.1 (sym (stroke-behind b c word) ∙ e))
 
 pub right-name : (name : List ℕ) → IsSignalName name → IsRight name

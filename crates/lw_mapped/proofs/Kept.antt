@@ -8,6 +8,7 @@ use Rattle.std.proofs.lemmas.List.{length-map}
 use Rattle.std.proofs.lemmas.List.Elements.{All-contains, All-map, All-weaker, Contains-get_or}
 use Rattle.std.proofs.lemmas.List.Sorted.{IsPermutation-sym, All-permutation, length_permutation}
 use Rattle.std.proofs.lemmas.Option.{slice_get-map, slice_get_within}
+use Rattle.lw_facts.proofs.Lists.{at_contained}
 use Rattle.lw_laws.proofs.Numbers.{slice_get_map_back}
 use Rattle.lw_pool.specs.declared.id.NetId.{NetId}
 use Rattle.lw_genlib.specs.Cells.{CellParts}
@@ -22,7 +23,6 @@ use Rattle.lw_netlist.specs.Netlists.{IsGateAt, IsNetlist, NetlistParts}
 use Rattle.lw_netlist.specs.Plain.{HasCell, IsOver}
 use Rattle.lw_mapped.proofs.ClosedOnce.{at-most, gate-known, moved, nets-once, out-known, outputs-known, pins-known, ranked}
 use Rattle.lw_mapped.proofs.Driving.{at-each}
-use Rattle.lw_mapped.proofs.Places.{get-contains}
 use Rattle.lw_mapped.proofs.Ranked.{AreRising}
 use Rattle.lw_mapped.proofs.WrittenLines.{each-append, each-weaker}
 
@@ -128,7 +128,7 @@ module _ (draft : GateDraft) (n : NetlistParts) (a : IsClosed draft n) where
       by_driver (inr d) = omega (arith, d.is, slice_get_within order d.place d.gate d.at, many-ends)
 
   gate-among : (j : ℕ) (gate : DraftGate) → slice_get order j ≡ Some gate → Contains draft.gates gate
-  gate-among j gate e = gate-known draft n a gate (get-contains order j gate e)
+  gate-among j gate e = gate-known draft n a gate (at_contained order j gate e)
 
   gate-drives : (j : ℕ) (gate : DraftGate) → slice_get order j ≡ Some gate → a.net gate.out ≡ m + j
   gate-drives j gate e =

@@ -11,6 +11,7 @@ use Rattle.std.proofs.lemmas.List.Elements.{All-append, All-filter, All-map, All
 use Rattle.std.proofs.lemmas.List.Folds.{list_all-append}
 use Rattle.std.proofs.lemmas.List.Sorted.{All-permutation, IsPermutation-reverse}
 use Rattle.std.proofs.lemmas.Str.Parse.{digits_value_short}
+use Rattle.lw_facts.proofs.Tests.{second_of_three}
 use Rattle.lw_words.specs.Lines.{LogicalLine}
 use Rattle.lw_fixed.specs.declared.micro.Micro.{Micro}
 use Rattle.lw_fixed.specs.declared.fault.DecimalFault.{DecimalFault}
@@ -38,11 +39,6 @@ use Rattle.lw_laws.specs.Graphs.{most_classes}
 
 -- Decimals.
 
-second-of : (a b c : Bool) → (a && b && c) ≡ true → b ≡ true
-second-of true true c e = refl
-second-of true false c e = cc
-second-of false b c e = cc
-
 part-below : (part : List ℕ) → Digits part → value_of_decimals part < 1000000
 unfolding value_of_decimals
 part-below part all =
@@ -63,7 +59,7 @@ decimal-below text units value e = by_case (is_decimal text) refl (nat_le units 
         let read : Micro = record { 0 = millionths_of text } in
         let same : read ≡ value = cc in
         let small : units_of text < units = grind (arith, nat_tests, few) in
-        let part : value_of_decimals (decimals text) < 1000000 = part-below (decimals text) (second-of (list_all is_ascii_digit (whole_part text)) (list_all is_ascii_digit (decimals text)) (nat_lt 0 (length (whole_part text) + length (decimals text))) is) in
+        let part : value_of_decimals (decimals text) < 1000000 = part-below (decimals text) (second_of_three (list_all is_ascii_digit (whole_part text)) (list_all is_ascii_digit (decimals text)) (nat_lt 0 (length (whole_part text) + length (decimals text))) is) in
         let number : millionths_of text ≡ value.0 = ap (λ (m : Micro). m.0) same in
         omega (arith, number, small, part)
     by_case true is false few false true h = cc

@@ -7,6 +7,7 @@ use Rattle.std.proofs.lemmas.List.{length-map}
 use Rattle.std.proofs.lemmas.List.Elements.{All-contains, All-head, All-tail, All-from_recursion}
 use Rattle.std.proofs.lemmas.List.Sorted.{IsPermutation-sym, All-permutation}
 use Rattle.std.proofs.lemmas.Option.{slice_get-get_or, slice_get-map, slice_get_within, get_or_from_slice_get}
+use Rattle.lw_facts.proofs.Lists.{at_contained, get_left}
 use Rattle.lw_laws.specs.Headline.{Port as PlainPort}
 use Rattle.lw_laws.specs.MappedNetlists.{AreNetNames}
 use Rattle.lw_laws.specs.Netlists.{AreNetDepths}
@@ -27,7 +28,7 @@ use Rattle.lw_mapped.proofs.ClosedOnce.{gate-known, keys-distinct, moved, output
 use Rattle.lw_mapped.proofs.Driving.{each-map}
 use Rattle.lw_mapped.proofs.Fitted.{port-names}
 use Rattle.lw_mapped.proofs.Kept.{many-ends, rising-at, sorted}
-use Rattle.lw_mapped.proofs.Places.{get-contains, get-left, one-place}
+use Rattle.lw_mapped.proofs.Places.{one-place}
 use Rattle.lw_mapped.proofs.WrittenLines.{each-append, each-of}
 use Rattle.lw_words.specs.Words.{IsSignalName}
 use Rattle.lw_pool.specs.Numbers.{net_number}
@@ -70,11 +71,11 @@ module _ (draft : GateDraft) (n : NetlistParts) (a : IsClosed draft n) (depths :
   net-deep : (k : ℕ) → AgreeBelow k → (name : List ℕ) (net : ℕ) → IsNetNamed draft gates name net → a.depth name ≤ k → get_or depths net 0 ≡ a.depth name
   net-deep k agree name net (at_input place e) below =
       get_or_from_slice_get depths place 0 0 (are.inputs place (slice_get_within draft.inputs place name e))
-      ∙ sym (All-contains (λ i. a.depth i ≡ 0) draft.inputs name a.depths.inputs (get-contains draft.inputs place name e))
+      ∙ sym (All-contains (λ i. a.depth i ≡ 0) draft.inputs name a.depths.inputs (at_contained draft.inputs place name e))
   net-deep k agree name net (at_gate place e) below =
       let at = slice_get_map_back out_of gates place name e in
       let gate = at.0 in
-      let among = gate-known draft n a gate (get-contains gates place gate at.1) in
+      let among = gate-known draft n a gate (at_contained gates place gate at.1) in
       let deep = All-contains (λ (g : DraftGate). a.depth g.out ≡ 1 + greatest (map a.depth g.pins)) draft.gates gate a.depths.gates among in
       let small : a.depth gate.out ≤ k = subst (λ x. a.depth x ≤ k) (sym at.2) below in
       let here =
@@ -117,7 +118,7 @@ module _ (draft : GateDraft) (n : NetlistParts) (a : IsClosed draft n) (is : IsN
 
   nets-differ : (i j : ℕ) (name : List ℕ) → slice_get ends i ≡ Some name → slice_get ends j ≡ Some name → i ≡ j
   nets-differ i j name e f =
-      one-place (ends ++ map to_of draft.wires) i j name (keys-distinct draft n a) (get-left ends (map to_of draft.wires) i name e) (get-left ends (map to_of draft.wires) j name f)
+      one-place (ends ++ map to_of draft.wires) i j name (keys-distinct draft n a) (get_left ends (map to_of draft.wires) i name e) (get_left ends (map to_of draft.wires) j name f)
 
   output-names : (names : List (List ℕ)) → map (λ (p : PlainPort). p.name) (map plain_port (map (port_at a.net) names)) ≡ names
   output-names [] = refl
@@ -131,7 +132,7 @@ module _ (draft : GateDraft) (n : NetlistParts) (a : IsClosed draft n) (is : IsN
   owned j k p e =
       let port = slice_get_map_back plain_port (map (port_at a.net) draft.outputs) k p e in
       let name = slice_get_map_back (port_at a.net) draft.outputs k port.0 port.1 in
-      let known = All-contains (Contains (drivers draft)) draft.outputs name.0 (outputs-known draft n a) (get-contains draft.outputs k name.0 name.1) in
+      let known = All-contains (Contains (drivers draft)) draft.outputs name.0 (outputs-known draft n a) (at_contained draft.outputs k name.0 name.1) in
       subst (λ (q : PlainPort). slice_get ends j ≡ Some q.name → j ≡ q.net) (ap plain_port name.2 ∙ port.2)
       (λ f. start-alone draft n n a a name.0 j (a.net name.0) f (start-or-wire draft n n a a name.0 (a.net name.0) (a.nets name.0 known)))
 

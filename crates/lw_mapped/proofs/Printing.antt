@@ -11,6 +11,7 @@ use Rattle.std.proofs.lemmas.Fmt.{length-decimal-le, digits_decimal, digits_valu
 use Rattle.std.proofs.lemmas.List.{get_or-reverse, get_or-drop, get_or-replicate, ext_get_or, length-replicate, replicate-append-replicate, take-append-drop, take_at, take_all, drop_all}
 use Rattle.std.proofs.lemmas.List.Sums.{prefix_len_passes, suffix_len-le-length}
 use Rattle.std.proofs.lemmas.Str.Parse.{IsNumeralModel, numerals_by_value, digits_value_short}
+use Rattle.lw_facts.proofs.Lists.{drop_point, digits_value_split}
 use Rattle.lw_fixed.specs.declared.micro.Micro.{Micro}
 use Rattle.lw_fixed.specs.declared.fault.DecimalFault.{DecimalFault}
 use Rattle.lw_fixed.specs.declared.fault.DecimalFault.TheVariants.{Shape, Large, Fine, Negative}
@@ -47,25 +48,13 @@ digits-good (d ∷ ds) e = let parts = first-digit d ds e in ap₂ (λ a b. a &&
 
 -- The six decimals.
 
-spread : (n v p : ℕ) → (n * 10 + v) * p ≡ n * (10 * p) + v * p
-spread n v p = grind arith
-
-value-after : (n : ℕ) (ds : List ℕ) → digits_value_after 10 n ds ≡ n * 10 ^ length ds + digits_value 10 ds
-value-after n [] = omega arith
-value-after n (d ∷ ds) =
-    let here : digits_value_after 10 (n * 10 + digit_value d) ds ≡ (n * 10 + digit_value d) * 10 ^ length ds + digits_value 10 ds = value-after (n * 10 + digit_value d) ds in
-    let zero_here : digits_value_after 10 (0 * 10 + digit_value d) ds ≡ (0 * 10 + digit_value d) * 10 ^ length ds + digits_value 10 ds = value-after (0 * 10 + digit_value d) ds in
-    let power : 10 ^ suc (length ds) ≡ 10 * 10 ^ length ds = pow-succ' 10 (length ds) in
-    let apart : (n * 10 + digit_value d) * 10 ^ length ds ≡ n * (10 * 10 ^ length ds) + digit_value d * 10 ^ length ds = spread n (digit_value d) (10 ^ length ds) in
-    rw power (omega arith)
-
 -- behind its first digit the number has its six last
 six-behind : (r : ℕ) (ds : List ℕ) → r < 1000000 → length ds ≡ 7 → Digits ds → digits_value 10 ds ≡ 1000000 + r → (length (drop 1 ds) ≡ 6) × (digits_value 10 (drop 1 ds) ≡ r)
 six-behind r [] below long all is = absurd (omega arith)
 six-behind r (d ∷ ds) below long all is =
     let six : length ds ≡ 6 = omega arith in
     let power : 10 ^ length ds ≡ 1000000 = ap (λ n. 10 ^ n) six in
-    let whole : digits_value 10 (d ∷ ds) ≡ (0 * 10 + digit_value d) * 10 ^ length ds + digits_value 10 ds = value-after (0 * 10 + digit_value d) ds in
+    let whole : digits_value 10 (d ∷ ds) ≡ (0 * 10 + digit_value d) * 10 ^ length ds + digits_value 10 ds = digits_value_split (0 * 10 + digit_value d) ds in
     let apart : 1000000 + r ≡ (0 * 10 + digit_value d) * 1000000 + digits_value 10 ds = sym is ∙ (whole ∙ ap (λ p. (0 * 10 + digit_value d) * p + digits_value 10 ds) power) in
     let small : digits_value 10 ds < 10 ^ 6 = digits_value_short own ds 6 (first-digit d ds all).1 (omega arith) in
     (six, omega (arith, apart, small, below))
@@ -147,10 +136,6 @@ no-point (d ∷ ds) all =
     let others : position_or_len is_point ds ≡ length ds = no-point ds parts.1 in
     ap (λ b. cond (not b) (1 + position_or_len is_point ds) 0) (digit-apart d parts.0).0 ∙ omega (arith, others)
 
-drop-point : (whole rest : List ℕ) → drop (suc (length whole)) (whole ++ 46 ∷ rest) ≡ rest
-drop-point [] rest = refl
-drop-point (d ∷ ds) rest = drop-point ds rest
-
 -- the text of a whole part and of decimals
 record HasParts (text whole part : List ℕ) : Type 0 where
   whole_is : whole_part text ≡ whole
@@ -176,7 +161,7 @@ parts-are d ds (e ∷ es) all =
     let rest = ds ++ 46 ∷ e ∷ es in
     record {
       whole_is = ap (before_first is_point) (signless d rest digit) ∙ (ap (λ n. take n (d ∷ rest)) (point-behind (d ∷ ds) (e ∷ es) all) ∙ take_at (d ∷ ds) (46 ∷ e ∷ es) (length (d ∷ ds)) refl);
-      part_is = ap (after_first is_point) (signless d rest digit) ∙ (ap (λ n. drop (n + 1) (d ∷ rest)) (point-behind (d ∷ ds) (e ∷ es) all) ∙ rw add-one (drop-point (d ∷ ds) (e ∷ es)));
+      part_is = ap (after_first is_point) (signless d rest digit) ∙ (ap (λ n. drop (n + 1) (d ∷ rest)) (point-behind (d ∷ ds) (e ∷ es) all) ∙ rw add-one (drop_point (d ∷ ds) (e ∷ es)));
       positive = not-minus d digit;
     }
 

@@ -5,12 +5,12 @@ use Rattle.std.specs.List.{flat_map, IsDistinct, AllByRecursion as Each}
 use Rattle.std.specs.Str.{bytes_eq}
 use Rattle.std.proofs.lemmas.List.{take-append-drop, length-take-le, length-map, take-take, take-map}
 use Rattle.std.proofs.lemmas.Map.Keys.{IsDistinct-head, IsDistinct-tail}
+use Rattle.lw_facts.proofs.Lists.{distinct_take, bytes_differ_turned}
 use Rattle.lw_fixed.specs.declared.micro.Micro.{Micro}
 use Rattle.lw_frame.specs.Frames.{each_once, input_names, root_names}
 use Rattle.lw_frame.specs.Starts.{starts_of, start_of, at_once}
 use Rattle.lw_frame.proofs.Once.{once-distinct}
 use Rattle.lw_genlib.specs.Cells.{CellParts}
-use Rattle.lw_dag.proofs.Names.{differ_back}
 use Rattle.lw_netlist.specs.declared.draft.GateDraft.{GateDraft}
 use Rattle.lw_netlist.specs.declared.gate.Gate.{Gate}
 use Rattle.lw_netlist.specs.declared.gate.Port.{Port}
@@ -43,17 +43,6 @@ use Rattle.lw_mapped.proofs.WrittenItems.{model-says, model-begins}
 use Rattle.lw_mapped.proofs.WrittenLines.{numbered, lines-again, each-of, each-append}
 
 -- Parts of lists.
-
-distinct-take : (k : ℕ) (xs : List (List ℕ)) → IsDistinct bytes_eq xs → IsDistinct bytes_eq (take k xs)
-unfolding IsDistinct
-distinct-take zero xs h = tt
-distinct-take (suc k) [] h = tt
-distinct-take (suc k) (x ∷ xs) h = (each-front k xs h.0, distinct-take k xs h.1)
-  where
-    each-front : (j : ℕ) (ys : List (List ℕ)) → Each (λ y. bytes_eq x y ≡ false) ys → Each (λ y. bytes_eq x y ≡ false) (take j ys)
-    each-front zero ys each = tt
-    each-front (suc j) [] each = tt
-    each-front (suc j) (y ∷ ys) each = (each.0, each-front j ys each.1)
 
 names-differ : (xs : List (List ℕ)) → IsDistinct bytes_eq xs → NamesDiffer xs
 names-differ [] h = tt
@@ -249,7 +238,7 @@ module _ (cells : List CellParts) (n : NetlistParts) (frame : Frame) (starts : L
   outputs-once : each_once own_outputs ≡ own_outputs
   outputs-once =
       once-distinct own_outputs
-      (subst (IsDistinct bytes_eq) (take-map port_name frame.outputs n.outputs) (distinct-take frame.outputs (map port_name n.outputs) (outputs-distinct n r.netlist r.names)))
+      (subst (IsDistinct bytes_eq) (take-map port_name frame.outputs n.outputs) (distinct_take frame.outputs (map port_name n.outputs) (outputs-distinct n r.netlist r.names)))
 
   frame-is : frame_said said ≡ frame
   frame-is =
@@ -268,7 +257,7 @@ module _ (cells : List CellParts) (n : NetlistParts) (frame : Frame) (starts : L
   starts-are =
       ap₂ (λ ls is. starts_of ls is (length (flat_map latches_in said))) arrivals-are inputs-said
       ∙ (ap (λ k. map (start_of (arrivals_of names starts)) own_inputs ++ replicate k at_once) (ap length latches-are)
-      ∙ (ap₂ (λ a b. a ++ b) (starts-again names starts frame.inputs (omega (arith, r.starts_fit.one_each, fewer)) (omega (arith, fewer, within)) differ_back differ) (sym r.starts_fit.latches)
+      ∙ (ap₂ (λ a b. a ++ b) (starts-again names starts frame.inputs (omega (arith, r.starts_fit.one_each, fewer)) (omega (arith, fewer, within)) bytes_differ_turned differ) (sym r.starts_fit.latches)
       ∙ take-append-drop frame.inputs starts))
 
   -- The certificate.
@@ -296,7 +285,7 @@ module _ (cells : List CellParts) (n : NetlistParts) (frame : Frame) (starts : L
       none : (gs : List Gate) → map (λ (gate : Gate). class_among (classed names n.gates []) (net_name names gate.out)) gs ≡ replicate (length gs) None
       none [] = refl
       none (g ∷ gs) = ap₂ (λ c cs. c ∷ cs) (empty n.gates (net_name names g.out)) (none gs)
-  classes-same (Some c) has = classes-at names n.gates c.nets differ_back outs-apart has.one_each
+  classes-same (Some c) has = classes-at names n.gates c.nets bytes_differ_turned outs-apart has.one_each
 
   classes-are : classes_said said n ≡ (certificate_or_none n certificate).nets
   classes-are = ap (λ l. map (λ (gate : Gate). class_among l (net_name names gate.out)) n.gates) nets-are ∙ classes-same certificate r.has_certificate

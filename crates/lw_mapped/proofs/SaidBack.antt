@@ -7,10 +7,10 @@ use Rattle.std.specs.Str.{bytes_eq}
 use Rattle.std.proofs.lemmas.Bool.Decides.{nat_tests}
 use Rattle.std.proofs.lemmas.Grind.{flat_map-append}
 use Rattle.std.proofs.lemmas.List.{map-append}
+use Rattle.lw_facts.proofs.Lists.{bytes_eq_same}
 use Rattle.lw_fixed.specs.declared.micro.Micro.{Micro}
 use Rattle.lw_frame.specs.Starts.{Arrival, is_named, is_for_all, first_start, start_of, at_once}
 use Rattle.lw_genlib.specs.Cells.{CellParts}
-use Rattle.lw_dag.proofs.Names.{alike}
 use Rattle.lw_netlist.specs.declared.draft.DraftGate.{DraftGate}
 use Rattle.lw_netlist.specs.declared.draft.Wire.{Wire}
 use Rattle.lw_netlist.specs.declared.gate.Gate.{Gate}
@@ -222,7 +222,7 @@ classes-at names (gate ∷ gates) (class ∷ classes) flips differ same =
   where
     own : (o : Option ClassId) → class_among (class_one (net_name names gate.out) o) (net_name names gate.out) ≡ o
     own None = refl
-    own (Some c) = ap (λ b. cond b (Some c) None) (alike (net_name names gate.out) (net_name names gate.out) refl)
+    own (Some c) = ap (λ b. cond b (Some c) None) (bytes_eq_same (net_name names gate.out) (net_name names gate.out) refl)
 
     or-none : (o : Option ClassId) → option_or o None ≡ o
     or-none None = refl
@@ -277,7 +277,7 @@ filter-own name names start starts each = own (start.0 == 0)
     own true = rest
     own false =
         let a : Arrival = record { named = Some name; start = start } in
-        ap (λ t. cond t (a ∷ filter (λ (b : Arrival). is_named name b.named) (arrivals_of names starts)) (filter (λ (b : Arrival). is_named name b.named) (arrivals_of names starts))) (alike name name refl)
+        ap (λ t. cond t (a ∷ filter (λ (b : Arrival). is_named name b.named) (arrivals_of names starts)) (filter (λ (b : Arrival). is_named name b.named) (arrivals_of names starts))) (bytes_eq_same name name refl)
         ∙ ap (λ l. a ∷ l) rest
 
 none-for-all : (names : List (List ℕ)) (starts : List Micro) → filter (λ (a : Arrival). is_for_all a.named) (arrivals_of names starts) ≡ []

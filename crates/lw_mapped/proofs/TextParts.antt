@@ -82,9 +82,3 @@ arrivals_more names starts k d in_names in_starts = ap (λ n. arrival_lines name
 pub ports_spaced : (ports : List Port) → flat_map (λ (port : Port). 32 ∷ port.name) ports ≡ spaced (map port_name ports)
 ports_spaced [] = refl
 ports_spaced (port ∷ ports) = ap (λ l. 32 ∷ port.name ++ l) (ports_spaced ports)
-
--- what stands at a place hangs on no default
-pub get_or-any : {A : Type 0} (xs : List A) (i : ℕ) (d e : A) → i < length xs → get_or xs i d ≡ get_or xs i e
-get_or-any (x ∷ xs) zero d e below = refl
-get_or-any (x ∷ xs) (suc i) d e below = get_or-any xs i d e (omega arith)
-get_or-any [] i d e below = absurd (omega arith)

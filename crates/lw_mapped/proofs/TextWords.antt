@@ -1,10 +1,11 @@
 -- The words behind the first of each line of a text are words without `#`.
 use Rattle.std.proofs.Common.{ℕ, ◌≡◌, ◌≢◌, ◌+◌, Bool, true, false, not, ◌==◌, cond, List, [], ◌∷◌, ◌++◌, map, take, drop, filter, refl, arith, length-take}
 use Rattle.std.specs.List.{slice_split, onto_first, AllByRecursion as Each}
+use Rattle.std.proofs.lemmas.Bool.{eqb-false}
 use Rattle.lw_words.specs.Gathering.{IsNoHash}
 use Rattle.lw_words.specs.Lines.{LogicalLine, Text, is_blank, is_line_feed, has_some, lines_among, physical_lines, before_hash, has_mark, uncommented, before_trimmed, trimmed, is_continued, with_blank, continued_by, text_of, texts_from, words_of, line_of, has_words, lines_of, logical_lines}
 use Rattle.lw_mapped.specs.LineFaults.{command, ends, goes_on, lines_read}
-use Rattle.lw_mapped.proofs.GoodWords.{IsPlainInk, IsRight, differs, right-of}
+use Rattle.lw_mapped.proofs.GoodWords.{IsPlainInk, IsRight, right-of}
 use Rattle.lw_mapped.proofs.WrittenLines.{each-append, each-drop, each-take, each-weaker}
 use Rattle.lw_words.specs.Words.{front}
 
@@ -63,7 +64,7 @@ among P (part ∷ next ∷ parts) all = (all.0, among P (next ∷ parts) all.1)
 physical : (bytes : List ℕ) → Each (Each IsNoFeed) (physical_lines true bytes)
 physical bytes =
     among (Each IsNoFeed) (slice_split is_line_feed bytes)
-    (each-weaker (Each (λ b. (is_line_feed b ≡ false) × Unit {0})) (Each IsNoFeed) (λ part. each-weaker (λ b. (is_line_feed b ≡ false) × Unit {0}) IsNoFeed (λ b h. differs b 10 h.0) part) (slice_split is_line_feed bytes)
+    (each-weaker (Each (λ b. (is_line_feed b ≡ false) × Unit {0})) (Each IsNoFeed) (λ part. each-weaker (λ b. (is_line_feed b ≡ false) × Unit {0}) IsNoFeed (λ b h. eqb-false b 10 h.0) part) (slice_split is_line_feed bytes)
     (split-parts is_line_feed (λ b. Unit {0}) bytes (any-bytes bytes)))
 
 -- Texts.
@@ -74,7 +75,7 @@ before-plain (b ∷ bytes) h = by_test (b == 35) refl (before-plain bytes h.1)
   where
     by_test : (t : Bool) → (b == 35) ≡ t → Each IsPlain (before_hash bytes) → Each IsPlain (cond t [] (b ∷ before_hash bytes))
     by_test true is rest = tt
-    by_test false is rest = ((h.0, differs b 35 is), rest)
+    by_test false is rest = ((h.0, eqb-false b 35 is), rest)
 
 uncommented-begins : (begins : Bool) (line : List ℕ) → Each IsNoFeed line → Begins (First begins) (uncommented begins line)
 uncommented-begins false line h = begins-plain false (before_hash line) (before-plain line h)

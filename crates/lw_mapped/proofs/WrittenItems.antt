@@ -7,12 +7,12 @@ use Rattle.std.specs.Str.{bytes_eq}
 use Rattle.std.specs.Str.Parse.{digits_value}
 use Rattle.std.proofs.lemmas.Bool.Decides.{nat_tests}
 use Rattle.std.proofs.lemmas.Fmt.{length-decimal-le, digits_decimal, digits_value-decimal, decimal_nonempty}
+use Rattle.lw_facts.proofs.Lists.{bytes_eq_same}
 use Rattle.lw_fixed.specs.declared.micro.Micro.{Micro}
 use Rattle.lw_fixed.specs.Decimals.{decimal_of}
 use Rattle.lw_fixed.specs.Printed.{decimal_text}
 use Rattle.lw_frame.specs.Starts.{start_said, start_at, IsEarly}
 use Rattle.lw_genlib.specs.Cells.{CellParts, IsListed, IsPinName, IsLibrary}
-use Rattle.lw_dag.proofs.Names.{alike}
 use Rattle.lw_netlist.specs.declared.gate.Gate.{Gate}
 use Rattle.lw_netlist.specs.declared.gate.Port.{Port}
 use Rattle.lw_pool.specs.declared.id.ClassId.{ClassId}
@@ -213,7 +213,7 @@ class-again class few =
     let below : nat_lt class most_classes ≡ true = grind (arith, nat_tests) in
     ap (λ v. cond (list_all is_ascii_digit (decimal class) && nat_lt v most_classes && bytes_eq (decimal v) (decimal class)) (Some v) None) value
     ∙ (ap₂ (λ a b. cond (a && b && bytes_eq (decimal class) (decimal class)) (Some class) None) digits below
-    ∙ ap (λ b. cond b (Some class) None) (alike (decimal class) (decimal class) refl))
+    ∙ ap (λ b. cond b (Some class) None) (bytes_eq_same (decimal class) (decimal class) refl))
 
 marked-line : (words : List (List ℕ)) → Each IsRight words → LastEndsWell (codes "#@" ∷ words) → IsWritten (codes "#@" ∷ words)
 marked-line words each last = record {

@@ -4,6 +4,7 @@ use Rattle.std.specs.List.{list_any}
 use Rattle.std.proofs.lemmas.List.{length-append}
 use Rattle.std.proofs.lemmas.List.Quantifiers.{position-Some}
 use Rattle.std.proofs.lemmas.Option.{slice_get_within, slice_get-get_or}
+use Rattle.lw_facts.proofs.Lists.{get_left, get_last_cases}
 use Rattle.indexmap.specs.IndexSet.{insert_key}
 use Rattle.lw_laws.specs.Trees.{Tree, leaf, const_one, const_zero, inv, nand}
 use Rattle.lw_laws.specs.Covers.{Pattern}
@@ -77,22 +78,6 @@ turned_twice s = by_flag s.flipped
     by_flag true = refl
     by_flag false = refl
 
-pub get_in_more : {A : Type 0} (xs rest : List A) (n : ℕ) (x : A) → slice_get xs n ≡ Some x → slice_get (xs ++ rest) n ≡ Some x
-get_in_more [] rest n x e = cc
-get_in_more (y ∷ xs) rest zero x e = e
-get_in_more (y ∷ xs) rest (suc n) x e = get_in_more xs rest n x e
-
--- an element of a list that got one more is of the list, or is the new one
-pub get_in_both : {A : Type 0} (xs : List A) (y : A) (n : ℕ) (x : A) → slice_get (xs ++ y ∷ []) n ≡ Some x → (slice_get xs n ≡ Some x) ⊎ ((n ≡ length xs) × (x ≡ y))
-get_in_both [] y zero x e = inr (refl, cc)
-get_in_both [] y (suc n) x e = cc
-get_in_both (z ∷ xs) y zero x e = inl e
-get_in_both (z ∷ xs) y (suc n) x e = deeper (get_in_both xs y n x e)
-  where
-    deeper : (slice_get xs n ≡ Some x) ⊎ ((n ≡ length xs) × (x ≡ y)) → (slice_get (z ∷ xs) (suc n) ≡ Some x) ⊎ ((suc n ≡ length (z ∷ xs)) × (x ≡ y))
-    deeper (inl f) = inl f
-    deeper (inr (f, g)) = inr (ap suc f, g)
-
 pub shape_more : (parts rest : List Part) (gaps : List ℕ) (base : ℕ) (t : Tree) (s : Side) → HasShape parts gaps base t s → HasShape (parts ++ rest) gaps base t s
 shape_more parts rest gaps base (leaf k) s h = h
 shape_more parts rest gaps base const_one s h = h
@@ -100,9 +85,9 @@ shape_more parts rest gaps base const_zero s h = h
 shape_more parts rest gaps base (inv t) s h = shape_more parts rest gaps base t (turned s) h
 shape_more parts rest gaps base (nand t u) s (inl e) = inl e
 shape_more parts rest gaps base (nand t u) s (inr (n, d, p, e, at, pin, inl (left, right))) =
-    inr (n, d, p, e, get_in_more parts rest n p at, pin, inl (shape_more parts rest gaps (base + d) t p.left left, shape_more parts rest gaps (base + d) u p.right right))
+    inr (n, d, p, e, get_left parts rest n p at, pin, inl (shape_more parts rest gaps (base + d) t p.left left, shape_more parts rest gaps (base + d) u p.right right))
 shape_more parts rest gaps base (nand t u) s (inr (n, d, p, e, at, pin, inr (right, left))) =
-    inr (n, d, p, e, get_in_more parts rest n p at, pin, inr (shape_more parts rest gaps (base + d) t p.right right, shape_more parts rest gaps (base + d) u p.left left))
+    inr (n, d, p, e, get_left parts rest n p at, pin, inr (shape_more parts rest gaps (base + d) t p.right right, shape_more parts rest gaps (base + d) u p.left left))
 
 fits_plain : (n : ℕ) (s : Side) (kind : Kind) → s.kind ≡ kind → KindFits n kind → SideFits n s
 fits_plain n s kind e h = subst (KindFits n) (sym e) h
@@ -127,7 +112,7 @@ kind_fits_more n m (Joined k d) le h = omega arith
 
 -- one more part whose sides name earlier ones
 pub closed_more : (parts : List Part) (p : Part) → AreClosed parts → SideFits (length parts) p.left → SideFits (length parts) p.right → AreClosed (parts ++ p ∷ [])
-closed_more parts p closed left right n q e = by_place (get_in_both parts p n q e)
+closed_more parts p closed left right n q e = by_place (get_last_cases parts p n q e)
   where
     long : length parts ≤ length (parts ++ p ∷ [])
     long = omega (arith, length-append parts (p ∷ []))
@@ -236,7 +221,7 @@ shaped_more room before keys new gaps nodes sides n s h are more shape = record 
   parts = are;
   more = more_twice before keys new h.more more;
   count = let c = h.count in omega (arith, length-append sides (s ∷ []));
-  shapes = λ place k e. at_place place k (get_in_both sides s place k e);
+  shapes = λ place k e. at_place place k (get_last_cases sides s place k e);
 }
   where
     at_place : (place : ℕ) (k : Side) → (slice_get sides place ≡ Some k) ⊎ ((place ≡ length sides) × (k ≡ s)) → HasShape new gaps 0 (tree_at nodes place) k

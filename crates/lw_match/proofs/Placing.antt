@@ -1,6 +1,7 @@
 -- The rules of parts, in groups.
 use Rattle.std.proofs.Common.{ℕ, ◌⊎◌, ◌+◌, ◌*◌, ◌/◌, ◌%◌, ◌<◌, ◌≤◌, ◌≡◌, Bool, true, false, List, [], ◌∷◌, ◌++◌, length, Some, slice_get, refl, sym, ap, subst, ◌∙◌, inl, inr, arith}
 use Rattle.std.proofs.lemmas.Option.{slice_get_within, same_Some}
+use Rattle.lw_facts.proofs.Lists.{get_last, get_left, get_last_cases}
 use native.Mathlib.Nat.{eq-or-lt_of_le}
 use Rattle.lw_match.specs.declared.parts.Kind.{Kind}
 use Rattle.lw_match.specs.declared.parts.Kind.TheVariants.{Any, Leaf, One, Joined}
@@ -9,7 +10,6 @@ use Rattle.lw_match.specs.declared.parts.Part.{Part}
 use Rattle.lw_match.specs.declared.parts.Rule.{Rule}
 use Rattle.lw_match.specs.declared.parts.Group.{Group}
 use Rattle.lw_match.specs.Places.{list_by, list_of, rule_of, AreRulesOf, HaveRules, IsGroupOf, HasRule, AreGroupsOf, AreGrouped}
-use Rattle.lw_match.proofs.MoreParts.{get_in_more, get_in_both}
 
 pub list_small : (s : Side) → list_of s ≤ 2
 list_small s = by_kind s.kind s.flipped
@@ -21,13 +21,9 @@ list_small s = by_kind s.kind s.flipped
     by_kind (Joined p d) true = omega arith
     by_kind (Joined p d) false = omega arith
 
-get_added : {A : Type 0} (xs : List A) (y : A) → slice_get (xs ++ y ∷ []) (length xs) ≡ Some y
-get_added [] y = refl
-get_added (x ∷ xs) y = get_added xs y
-
 -- one more part, of which the rule is added
 pub rules_more : (parts : List Part) (left right : ℕ) (rules : List Rule) (n : ℕ) (p : Part) → slice_get parts n ≡ Some p → list_of p.left ≡ left → list_of p.right ≡ right → AreRulesOf parts left right rules → AreRulesOf parts left right (rules ++ rule_of n p ∷ [])
-rules_more parts left right rules n p at l r are i q e = by_place (get_in_both rules (rule_of n p) i q e)
+rules_more parts left right rules n p at l r are i q e = by_place (get_last_cases rules (rule_of n p) i q e)
   where
     by_place : (slice_get rules i ≡ Some q) ⊎ ((i ≡ length rules) × (q ≡ rule_of n p)) → (n : ℕ) × (p : Part) × (slice_get parts n ≡ Some p) × (q ≡ rule_of n p) × (list_of p.left ≡ left) × (list_of p.right ≡ right)
     by_place (inl f) = are i q f
@@ -41,10 +37,10 @@ have_more_rules parts left right rules n p at have k q lt here l r = by_place (e
         let there : slice_get parts n ≡ Some q = subst (λ (j : ℕ). slice_get parts j ≡ Some q) same here in
         let part_is : p ≡ q = same_Some p q (sym at ∙ there) in
         let rule_is : rule_of n p ≡ rule_of k q = ap (rule_of n) part_is ∙ ap (λ (j : ℕ). rule_of j q) (sym same) in
-        (length rules, get_added rules (rule_of n p) ∙ ap Some rule_is)
+        (length rules, get_last rules (rule_of n p) ∙ ap Some rule_is)
     by_place (inr before) =
         let (i, e) = have k q before here l r in
-        (i, get_in_more rules (rule_of n p ∷ []) i (rule_of k q) e)
+        (i, get_left rules (rule_of n p ∷ []) i (rule_of k q) e)
 
 -- one more part, which is not in the two lists
 pub have_passed : (parts : List Part) (left right : ℕ) (rules : List Rule) (n : ℕ) (p : Part) → slice_get parts n ≡ Some p → (list_of p.left ≡ left → list_of p.right ≡ right → ⊥) → HaveRules parts left right rules n → HaveRules parts left right rules (n + 1)
@@ -64,7 +60,7 @@ HaveRulesBelow parts groups count =
 
 module _ (parts : List Part) (groups : List Group) (count : ℕ) (group : Group) (few : count < 9) (is : IsGroupOf parts (count / 3) (count % 3) group) where
   pub groups_more : AreGroupsOf parts groups → AreGroupsOf parts (groups ++ group ∷ [])
-  groups_more are i g e = by_place (get_in_both groups group i g e)
+  groups_more are i g e = by_place (get_last_cases groups group i g e)
     where
       left : group.left ≤ 2
       left = let l = is.left_is in omega arith
@@ -95,10 +91,10 @@ module _ (parts : List Part) (groups : List Group) (count : ℕ) (group : Group)
       by_place : (3 * list_of p.left + list_of p.right ≡ count) ⊎ (3 * list_of p.left + list_of p.right < count) → HasRule (groups ++ group ∷ []) n p
       by_place (inl same) =
           let (left, right, (j, e)) = in_group n p at same in
-          (length groups, j, group, get_added groups group, is.left_is ∙ sym left, is.right_is ∙ sym right, e)
+          (length groups, j, group, get_last groups group, is.left_is ∙ sym left, is.right_is ∙ sym right, e)
       by_place (inr before) =
           let (i, j, g, at_i, left, right, e) = have n p at before in
-          (i, j, g, get_in_more groups (group ∷ []) i g at_i, left, right, e)
+          (i, j, g, get_left groups (group ∷ []) i g at_i, left, right, e)
 
   pub have_no_more : length group.rules.items ≡ 0 → HaveRulesBelow parts groups count → HaveRulesBelow parts groups (count + 1)
   have_no_more none have n p at lt = by_place (eq-or-lt_of_le {n = 3 * list_of p.left + list_of p.right} {m = count} (omega arith))

@@ -2,6 +2,7 @@
 use Rattle.std.proofs.Common.{Vec, Global, ℕ, ◌⊎◌, ◌-◌, ◌<◌, ◌≡◌, List, [], ◌∷◌, ◌++◌, map, length, Some, option_map, slice_get, get_or, refl, sym, ap, subst, ◌∙◌, inl, inr, arith}
 use Rattle.std.proofs.lemmas.Option.{slice_get-map, slice_get_read, slice_get-get_or, get_or_from_slice_get}
 use Rattle.std.proofs.lemmas.List.{get_or_past}
+use Rattle.lw_facts.proofs.Lists.{get_last_cases}
 use native.Mathlib.Decide.{dec_lt}
 use Rattle.lw_laws.specs.Trees.{Tree, leaf, const_one, const_zero, inv, nand}
 use Rattle.lw_laws.specs.Covers.{Pattern}
@@ -11,7 +12,7 @@ use Rattle.lw_match.specs.declared.parts.Kind.TheVariants.{Any}
 use Rattle.lw_match.specs.declared.parts.Side.{Side}
 use Rattle.lw_match.specs.declared.parts.Part.{Part}
 use Rattle.lw_match.specs.Shapes.{plain, turned, HasShape, HaveShapes, AllHaveShapes, HaveRootShapes, gaps_of}
-use Rattle.lw_match.proofs.MoreParts.{items_of, get_in_both}
+use Rattle.lw_match.proofs.MoreParts.{items_of}
 
 any_shape : (parts : List Part) (gaps : List ℕ) (t : Tree) (s : Side) → s.kind ≡ Any → HasShape parts gaps 0 t s
 any_shape parts gaps (leaf k) s e = inl e
@@ -36,7 +37,7 @@ root_shape parts gaps t sides have = by_place (dec_lt (length (nodes_of t) - 1) 
         any_shape parts gaps t (get_or sides (length (nodes_of t) - 1) (plain Any)) (ap (λ (s : Side). s.kind) (get_or_past sides (length (nodes_of t) - 1) (plain Any) (omega arith)))
 
 pub roots_more : (parts : List Part) (gaps : List (List ℕ)) (pats : List Pattern) (all : List (Vec Side Global)) (roots : List Side) (n : ℕ) (p : Pattern) (sides : Vec Side Global) (root : Side) → length roots ≡ n → slice_get pats n ≡ Some p → n < length all → sides ≡ get_or all n sides → root ≡ get_or sides.items (length (nodes_of p.tree) - 1) (plain Any) → AllHaveShapes parts gaps pats (map items_of all) → HaveRootShapes parts gaps pats roots → HaveRootShapes parts gaps pats (roots ++ root ∷ [])
-roots_more parts gaps pats all roots n p sides root count listed lt at is have before i q s e f = by_place (get_in_both roots root i s f)
+roots_more parts gaps pats all roots n p sides root count listed lt at is have before i q s e f = by_place (get_last_cases roots root i s f)
   where
     here : get_or (map items_of all) n [] ≡ sides.items
     here =

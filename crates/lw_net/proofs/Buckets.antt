@@ -6,10 +6,8 @@ use Rattle.std.specs.List.Sorted.{IsPermutation, IsNonDecreasingBy}
 use Rattle.std.proofs.lemmas.Bool.{eqb-true}
 use Rattle.std.proofs.lemmas.Bool.Decides.{nat_tests}
 use Rattle.std.proofs.lemmas.List.Sorted.{IsPermutation-refl, IsPermutation-sym, IsPermutation-trans, IsPermutation-cons, IsPermutation-middle, IsPermutation-append_right}
+use Rattle.lw_facts.proofs.Tests.{eq_lower}
 use Rattle.lw_net.specs.Closing.{greatest}
-
-differs : (a b : ℕ) → a < b → (a == b) ≡ false
-differs a b lt = grind (arith, nat_tests)
 
 module _ {A : Type 0} (key : A → ℕ) where
   abbrev bucket : ℕ → List A → List A
@@ -29,7 +27,7 @@ module _ {A : Type 0} (key : A → ℕ) where
   outside : (low many : ℕ) (x : A) (xs : List A) → key x < low → buckets low many (x ∷ xs) ≡ buckets low many xs
   outside low zero x xs lt = refl
   outside low (suc many) x xs lt =
-      ap₂ (λ a b. a ++ b) (ap (λ b. cond b (x ∷ bucket low xs) (bucket low xs)) (differs (key x) low lt)) (outside (low + 1) many x xs (omega arith))
+      ap₂ (λ a b. a ++ b) (ap (λ b. cond b (x ∷ bucket low xs) (bucket low xs)) (eq_lower (key x) low lt)) (outside (low + 1) many x xs (omega arith))
 
   -- an element goes into its bucket
   one_more : (low many : ℕ) (x : A) (xs : List A) → low ≤ key x → key x < low + many → IsPermutation (x ∷ buckets low many xs) (buckets low many (x ∷ xs))

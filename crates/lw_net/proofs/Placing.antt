@@ -8,6 +8,7 @@ use Rattle.std.proofs.lemmas.Bool.{cases_eq, false≢true}
 use Rattle.std.specs.Cmp.Lexicographic.{nat_list_eq_equiv}
 use Rattle.std.specs.List.{IsDistinct}
 use Rattle.std.specs.Str.{bytes_eq}
+use Rattle.lw_facts.proofs.Lists.{bytes_eq_is}
 use Rattle.lw_pool.specs.declared.id.NetId.{NetId}
 use Rattle.lw_net.specs.declared.node.Node.{Node}
 use Rattle.lw_net.specs.declared.written.NumberedNode.{NumberedNode}
@@ -17,7 +18,6 @@ use Rattle.lw_net.specs.Networks.{NetworkParts}
 use Rattle.lw_net.specs.Numbers.{draft_in, signal_numbers, IsWritten, IsTable}
 use Rattle.lw_net.specs.Written.{name_at, names_in, named_node, named_nodes, number_of_out, place_at, ArePlaces, net_placed, placed_node, IsWithin}
 use Rattle.lw_dag.proofs.Numbering.{number_at, among_contains}
-use Rattle.lw_dag.proofs.Names.{same_name}
 use Rattle.lw_net.proofs.Writing.{outs_named}
 
 none_placed : (count n : ℕ) → place_at (replicate count 0) n ≡ 0
@@ -75,7 +75,7 @@ none_among names name none = by_case (position (bytes_eq name) names) refl
     by_case None is = refl
     by_case (Some i) is =
         let p = position-Some (bytes_eq name) names i [] is in
-        let there : Contains names name = subst (Contains names) (sym (same_name name (get_or names i []) p.1)) (Contains-get_or names i [] p.0) in
+        let there : Contains names name = subst (Contains names) (sym (bytes_eq_is name (get_or names i []) p.1)) (Contains-get_or names i [] p.0) in
         absurd (false≢true (sym none ∙ list_any-from_Contains nat_list_eq_equiv name names there))
 
 module _ (names : List (List ℕ)) (signals places : List ℕ) (given : List (List ℕ)) (differ : IsDistinct bytes_eq names) (is : given ≡ names_in names signals) (distinct : IsDistinct bytes_eq given) (within : All (λ n. n < length names) signals) (are : ArePlaces (length names) (length signals) signals places) where

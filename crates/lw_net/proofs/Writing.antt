@@ -5,13 +5,13 @@ use Rattle.std.proofs.lemmas.List.Elements.{All-head, All-tail, All-weaker, All-
 use Rattle.std.proofs.lemmas.Option.{get_or_from_slice_get, slice_get-get_or, slice_get_within}
 use Rattle.std.specs.List.{list_any}
 use Rattle.std.specs.Str.{bytes_eq}
+use Rattle.lw_facts.proofs.Lists.{bytes_eq_is}
 use Rattle.indexmap.specs.IndexSet.{insert_key}
 use Rattle.lw_net.specs.declared.draft.Draft.{Draft}
 use Rattle.lw_net.specs.declared.draft.DraftNode.{DraftNode}
 use Rattle.lw_net.specs.declared.written.NumberedNode.{NumberedNode}
 use Rattle.lw_net.specs.Closing.{out_of}
 use Rattle.lw_net.specs.Written.{name_at, names_in, named_node, named_nodes, IsWithin, IsLonger, number_of_out}
-use Rattle.lw_dag.proofs.Names.{same_name}
 
 pub longer_same : (names new : List (List ℕ)) → new ≡ names → IsLonger names new
 longer_same names new is = subst (IsLonger names) (sym is) (record { more = omega arith; same = λ n lt. refl })
@@ -34,7 +34,7 @@ longer_insert names new name is = by_test (list_any (bytes_eq name) names) is
 
 -- the name that is stored
 pub stored_name : (names : List (List ℕ)) (n : ℕ) (name : List ℕ) → (k : List ℕ) × (slice_get names n ≡ Some k) × (bytes_eq name k ≡ true) → name_at names n ≡ name
-stored_name names n name (k, at, same) = get_or_from_slice_get names n k [] at ∙ sym (same_name name k same)
+stored_name names n name (k, at, same) = get_or_from_slice_get names n k [] at ∙ sym (bytes_eq_is name k same)
 
 pub names_longer : (old new : List (List ℕ)) (ns : List ℕ) → IsLonger old new → All (λ n. n < length old) ns → names_in new ns ≡ names_in old ns
 names_longer old new [] longer all = refl

@@ -8,6 +8,7 @@ use Rattle.std.proofs.lemmas.Bool.{cases_lt}
 use Rattle.std.specs.List.{IsDistinct, flat_map}
 use Rattle.std.specs.List.Sorted.{IsPermutation, IsNonDecreasingBy}
 use Rattle.std.specs.Str.{bytes_eq}
+use Rattle.lw_facts.proofs.Lists.{distinct_left}
 use Rattle.lw_pool.specs.declared.id.NetId.{NetId}
 use Rattle.lw_genlib.specs.Cells.{CellParts}
 use Rattle.lw_netlist.specs.declared.draft.DraftGate.{DraftGate}
@@ -24,7 +25,7 @@ use Rattle.lw_netlist.specs.Ordering.IsStart.{of_driver, of_wire}
 use Rattle.lw_netlist.specs.Plain.{HasCell, IsOver}
 use Rattle.lw_netlist.proofs.Names.{drivers_are, to_of}
 use Rattle.lw_dag.proofs.Sorting.{greatest-above}
-use Rattle.lw_dag.proofs.Numbering.{number_at, number_of, number_below, none_unknown, none_split, distinct_moved, distinct_left}
+use Rattle.lw_dag.proofs.Numbering.{number_at, number_of, number_below, none_unknown, none_split, distinct_moved}
 use Rattle.lw_netlist.proofs.Paths.{driven_needs}
 use Rattle.lw_netlist.proofs.Starting.{bare_gate, link_of_gate}
 

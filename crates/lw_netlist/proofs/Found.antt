@@ -3,19 +3,16 @@ use Rattle.std.proofs.Common.{ℕ, zero, suc, ◌≡◌, ◌≢◌, ◌<◌, ◌
 use Rattle.std.proofs.lemmas.List.{at_drop_more, get_or_default, get_or-take, length-take, length-take-le, take_more}
 use Rattle.std.specs.List.{IsDistinct}
 use Rattle.std.specs.Str.{bytes_eq}
+use Rattle.std.proofs.Math.Bool.{or-true}
+use Rattle.lw_facts.proofs.Lists.{bytes_eq_same}
 use Rattle.lw_dag.specs.Names.{is_among, number_in}
-use Rattle.lw_dag.proofs.Names.{alike}
 use Rattle.lw_dag.proofs.Numbering.{among_contains, number_of}
 use Rattle.lw_netlist.specs.Chains.{name_at}
 use Rattle.lw_netlist.specs.Closing.{twice_after}
 
-or-true : (b : Bool) → (b || true) ≡ true
-or-true true = refl
-or-true false = refl
-
 pub contains-among : (names : List (List ℕ)) (name : List ℕ) → Contains names name → is_among names name ≡ true
 contains-among [] name among = absurd (omega (arith, among.1))
-contains-among (x ∷ xs) name (zero, lt, e) = ap (λ b. b || is_among xs name) (alike name x (sym e))
+contains-among (x ∷ xs) name (zero, lt, e) = ap (λ b. b || is_among xs name) (bytes_eq_same name x (sym e))
 contains-among (x ∷ xs) name (suc k, lt, e) = ap (λ b. bytes_eq name x || b) (contains-among xs name (k, omega arith, e)) ∙ or-true (bytes_eq name x)
 
 pub not-among : (names : List (List ℕ)) (name : List ℕ) → ((k : ℕ) → k < length names → name_at names k ≢ name) → is_among names name ≡ false

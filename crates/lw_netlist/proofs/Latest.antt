@@ -1,6 +1,6 @@
 -- The greatest of pins' arrivals and delays, and when gates' nets arrive.
 use Rattle.std.proofs.Common.{◌≡◌, ◌≢◌, ℕ, zero, suc, ◌+◌, ◌*◌, ◌<◌, ◌≤◌, ◌^◌, ◌⊎◌, inl, inr, max, List, [], ◌∷◌, length, map, take, get_or, set, slice_get, All, Some, refl, sym, ap, ap₂, subst, ◌∙◌, arith, get_or-set_same, get_or-set_other}
-use Rattle.std.proofs.lemmas.List.{get_or-map, get_or-take, length-map, map-set}
+use Rattle.std.proofs.lemmas.List.{get_or-map, get_or-take, length-map, map-set, get_or_default}
 use Rattle.std.proofs.lemmas.List.Elements.{All-head, All-tail, All-get_or}
 use Rattle.std.proofs.lemmas.Bool.{cases_eq}
 use Rattle.lw_laws.specs.Covers.{latest, delays_of}
@@ -151,14 +151,9 @@ filled_arrivals cells starts n arrivals one_start one_each inputs gates = record
         let within : i < length (map millionths arrivals) = omega arith in
         slice_get-get_or (map millionths arrivals) i 0 within ∙ ap (λ t. Some t) (get_or-map millionths arrivals i (record { 0 = 0 }) 0 inside)
 
-get_or_any : {A : Type 0} (xs : List A) (i : ℕ) (d e : A) → i < length xs → get_or xs i d ≡ get_or xs i e
-get_or_any [] i d e below = absurd (omega arith)
-get_or_any (x ∷ xs) zero d e below = refl
-get_or_any (x ∷ xs) (suc i) d e below = get_or_any xs i d e (omega arith)
-
 -- arrivals behind so many gates are low
 pub all_low : (arrivals : List Micro) (gates : ℕ) → gates ≤ 8000000 → ((i : ℕ) → i < length arrivals → arrival_at arrivals i ≤ (gates + 1) * one_step) → All (λ (m : Micro). m.0 < 2 ^ 63) arrivals
 all_low arrivals gates few low = λ i d below. by_default i d below (low i below)
   where
     by_default : (i : ℕ) (d : Micro) → i < length arrivals → arrival_at arrivals i ≤ (gates + 1) * one_step → (get_or arrivals i d).0 < 2 ^ 63
-    by_default i d below le = let same = get_or_any arrivals i d (record { 0 = 0 }) below in subst (λ (m : Micro). m.0 < 2 ^ 63) (sym same) (omega (arith, le))
+    by_default i d below le = let same = get_or_default arrivals i d (record { 0 = 0 }) below in subst (λ (m : Micro). m.0 < 2 ^ 63) (sym same) (omega (arith, le))

@@ -5,7 +5,8 @@ use Rattle.std.proofs.lemmas.Bool.{false≢true}
 use Rattle.std.proofs.lemmas.Option.{slice_get_within, get_or_from_slice_get}
 use Rattle.std.specs.List.{flat_map, IsDistinct, AllByRecursion}
 use Rattle.std.specs.Str.{bytes_eq}
-use Rattle.lw_dag.proofs.Names.{differ_back, find_first, find_later}
+use Rattle.lw_facts.proofs.Lists.{all_append_names, bytes_differ_turned}
+use Rattle.lw_dag.proofs.Names.{find_first, find_later}
 use Rattle.lw_netlist.specs.declared.draft.DraftGate.{DraftGate}
 use Rattle.lw_netlist.specs.declared.draft.GateDraft.{GateDraft}
 use Rattle.lw_netlist.specs.declared.draft.Wire.{Wire}
@@ -80,11 +81,6 @@ undriven_in_head driven link x xs all fault same e =
 pub undriven_behind_head : {X : Type 0} (driven : List (List ℕ)) (link : X → Link) (x : X) (xs : List X) (all : List (List ℕ)) → undriven_in driven (flat_map needs_of (map link (x ∷ xs))) ≡ undriven_in driven all → undriven_in driven (link x).needs ≡ None → undriven_in driven (flat_map needs_of (map link xs)) ≡ undriven_in driven all
 undriven_behind_head driven link x xs all same e = sym (undriven_later driven (link x).needs (flat_map needs_of (map link xs)) e) ∙ same
 
--- where none is there twice, they differ
-AllByRecursion-split : (P : List ℕ → Type 0) (xs ys : List (List ℕ)) → AllByRecursion P xs → AllByRecursion P ys → AllByRecursion P (xs ++ ys)
-AllByRecursion-split P [] ys all rest = rest
-AllByRecursion-split P (x ∷ xs) ys all rest = (all.0, AllByRecursion-split P xs ys all.1 rest)
-
 distinct_push : (xs : List (List ℕ)) (name : List ℕ) → IsDistinct bytes_eq xs → is_among xs name ≡ false → IsDistinct bytes_eq (xs ++ name ∷ [])
 unfolding IsDistinct
 distinct_push [] name distinct is = (tt, tt)
@@ -92,7 +88,7 @@ distinct_push (x ∷ xs) name distinct is = by_test (bytes_eq name x) refl is (d
   where
     by_test : (b : Bool) → bytes_eq name x ≡ b → (b || is_among xs name) ≡ false → (is_among xs name ≡ false → IsDistinct bytes_eq (xs ++ name ∷ [])) → IsDistinct bytes_eq ((x ∷ xs) ++ name ∷ [])
     by_test true e now rest = absurd (false≢true (sym now))
-    by_test false e now rest = (AllByRecursion-split (λ y. bytes_eq x y ≡ false) xs (name ∷ []) distinct.0 (differ_back name x e, tt), rest now)
+    by_test false e now rest = (all_append_names (λ y. bytes_eq x y ≡ false) xs (name ∷ []) distinct.0 (bytes_differ_turned name x e, tt), rest now)
 
 once_after : (seen names : List (List ℕ)) → IsDistinct bytes_eq seen → twice_after seen names ≡ None → IsDistinct bytes_eq (seen ++ names)
 once_after seen [] distinct e = subst (IsDistinct bytes_eq) (sym (append-nil seen)) distinct

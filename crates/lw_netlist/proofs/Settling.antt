@@ -4,6 +4,7 @@ use Rattle.std.proofs.lemmas.List.{length-replicate, get_or_default, get_or-take
 use Rattle.std.proofs.lemmas.List.Elements.{All-contains, All-head, Contains-push_cases}
 use Rattle.std.proofs.lemmas.Bool.{cases_eq}
 use Rattle.std.specs.List.{range_with_len}
+use Rattle.std.proofs.lemmas.List.FromFn.{length-range_with_len}
 use Rattle.lw_dag.specs.Graphs.{AreKnown, IsOrdered, height_at, fanins_at, tallest}
 use Rattle.lw_dag.proofs.Rising.{contains_none, zero_at}
 use Rattle.lw_netlist.specs.Numbered.{AreSettled, IsSettled, deepest, depth_at, first_start, own_start, start_at, step_of}
@@ -144,14 +145,10 @@ place_at low zero k lt = absurd (omega arith)
 place_at low (suc m) zero lt = omega arith
 place_at low (suc m) (suc k) lt = omega (arith, place_at (low + 1) m k (omega arith))
 
-length_places : (low m : ℕ) → length (range_with_len low m) ≡ m
-length_places low zero = refl
-length_places low (suc m) = omega (arith, length_places (low + 1) m)
-
 pub settled_starts : (inputs gates : ℕ) (graph : List (List ℕ)) (heights : List ℕ) → AreSettled inputs gates graph heights [] (replicate (inputs + length graph) 0) (range_with_len 0 (inputs + length graph))
 settled_starts inputs gates graph heights = record {
   depths_each = length-replicate (inputs + length graph) 0;
-  starts_each = length_places 0 (inputs + length graph);
+  starts_each = length-range_with_len 0 (inputs + length graph);
   at_inputs = λ s lt. (zero_at (inputs + length graph) s, omega (arith, place_at 0 (inputs + length graph) s (omega arith)));
   settled = λ j none. absurd (contains_none j none);
   shallow = λ s. omega (arith, zero_at (inputs + length graph) s);

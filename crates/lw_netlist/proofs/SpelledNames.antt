@@ -5,6 +5,7 @@ use Rattle.std.proofs.lemmas.Option.{slice_get_within, get_or_from_slice_get}
 use Rattle.std.specs.List.{slice_range}
 use Rattle.std.proofs.lemmas.List.{take-append-le, drop-append-le, length-drop, take_all, take_more}
 use Rattle.std.proofs.Math.Seq.{drop-append_seam}
+use Rattle.lw_facts.proofs.Lists.{slice_range_append}
 use Rattle.lw_words.specs.Arenas.{words_at, last_end, begin_of}
 use Rattle.lw_words.proofs.WordsAt.{words_at-push}
 use Rattle.lw_netlist.specs.Spelled.{AreSpelled}
@@ -21,16 +22,11 @@ pub spelled-push : (from size more : ℕ) (ends : List ℕ) → AreSpelled from 
 spelled-push from size more [] h lt = (omega (arith, h, lt), refl)
 spelled-push from size more (end ∷ ends) h lt = (h.0, spelled-push end size more ends h.1 lt)
 
-slice_range-append : (bytes more : List ℕ) (from end : ℕ) → from ≤ length bytes → end ≤ length bytes → slice_range (bytes ++ more) from end ≡ slice_range bytes from end
-slice_range-append bytes more from end low high =
-    ap (λ b. take (end - from) b) (drop-append-le from bytes more low)
-    ∙ take-append-le (end - from) (drop from bytes) more (omega (arith, length-drop from bytes))
-
 words-append : (from : ℕ) (bytes more ends : List ℕ) → AreSpelled from (length bytes) ends → words_at from (bytes ++ more) ends ≡ words_at from bytes ends
 words-append from bytes more [] h = refl
 words-append from bytes more (end ∷ ends) h =
     let e = spelled-first end (length bytes) ends h.1 in
-    ap₂ (λ w ws. w ∷ ws) (slice_range-append bytes more from end (omega (arith, h.0, e)) e) (words-append end bytes more ends h.1)
+    ap₂ (λ w ws. w ∷ ws) (slice_range_append bytes more from end (omega (arith, h.0, e)) e) (words-append end bytes more ends h.1)
 
 behind : (bytes more : List ℕ) → slice_range (bytes ++ more) (length bytes) (length bytes + length more) ≡ more
 behind bytes more =

@@ -2,7 +2,7 @@
 use Rattle.std.proofs.Common.{◌≡◌, ℕ, zero, suc, ◌+◌, ◌-◌, ◌<◌, ◌≤◌, ◌⊎◌, inl, inr, max, cond, nat_lt, true, false, List, [], ◌∷◌, ◌++◌, length, map, get_or, None, Contains, All, refl, sym, ap, ap₂, subst, ◌∙◌, arith, length-append}
 use Rattle.std.proofs.lemmas.List.{get_or_default, get_or-map, length-map, get_or-append_right, get_or_append_left}
 use Rattle.std.proofs.lemmas.List.Elements.{Contains-get_or}
-use Rattle.std.proofs.lemmas.Bool.{cases_lt}
+use Rattle.std.proofs.lemmas.Bool.{cases_lt, le-ltb, lt-ltb}
 use Rattle.std.proofs.lemmas.Bool.Decides.{nat_tests}
 use Rattle.std.specs.List.{flat_map, IsDistinct}
 use Rattle.std.specs.Str.{bytes_eq}
@@ -24,12 +24,6 @@ bare_gate = record { cell = record { 0 = 0 }; pins = []; out = [] }
 
 abbrev pub bare_wire : Wire
 bare_wire = record { from = []; to = [] }
-
-tested_lt : (a b : ℕ) → a < b → nat_lt a b ≡ true
-tested_lt a b lt = grind (arith, nat_tests)
-
-tested_ge : (a b : ℕ) → b ≤ a → nat_lt a b ≡ false
-tested_ge a b le = grind (arith, nat_tests)
 
 -- the links of gates, and behind them those of wires
 pub links_many : (draft : GateDraft) → length (links draft) ≡ length draft.gates + length draft.wires
@@ -108,14 +102,14 @@ module _ (draft : GateDraft) (distinct : IsDistinct bytes_eq (drivers draft)) (n
   gate_depth j lt =
       let in_links : j < length ls = omega (arith, links_many draft) in
       let s = settled_at j in_links in
-      let step : step_of g j ≡ 1 = ap (λ b. cond b 1 0) (tested_lt j g lt) in
+      let step : step_of g j ≡ 1 = ap (λ b. cond b 1 0) (lt-ltb j g lt) in
       s.depth ∙ ap₂ (λ a b. a + b) step (ap (deepest depths) (gate_row j lt) ∙ greatest_depth (get_or draft.gates j bare_gate).pins)
 
   wire_depth : (k : ℕ) → k < length draft.wires → depth_at depths (m + (g + k)) ≡ depth (get_or draft.wires k bare_wire).from
   wire_depth k lt =
       let in_links : g + k < length ls = omega (arith, links_many draft) in
       let s = settled_at (g + k) in_links in
-      let step : step_of g (g + k) ≡ 0 = ap (λ b. cond b 1 0) (tested_ge (g + k) g (omega arith)) in
+      let step : step_of g (g + k) ≡ 0 = ap (λ b. cond b 1 0) (le-ltb (g + k) g (omega arith)) in
       let row : deepest depths (fanins_at graph (g + k)) ≡ max (depth (get_or draft.wires k bare_wire).from) 0 = ap (deepest depths) (wire_row k lt) in
       s.depth ∙ omega (arith, step, row)
 
@@ -130,7 +124,7 @@ module _ (draft : GateDraft) (distinct : IsDistinct bytes_eq (drivers draft)) (n
   gate_start : (j : ℕ) → j < g → start_at starts (m + j) ≡ m + j
   gate_start j lt =
       let s = settled_at j (omega (arith, links_many draft)) in
-      s.start ∙ ap (λ b. cond b (m + j) (first_start starts (m + j) (fanins_at graph j))) (tested_lt j g lt)
+      s.start ∙ ap (λ b. cond b (m + j) (first_start starts (m + j) (fanins_at graph j))) (lt-ltb j g lt)
 
   own_start_at : (s : ℕ) → s < m + g → start_at starts s ≡ s
   own_start_at s lt = by_place (cases_lt s m)
@@ -172,7 +166,7 @@ module _ (draft : GateDraft) (distinct : IsDistinct bytes_eq (drivers draft)) (n
   wire_start : (k : ℕ) → k < length draft.wires → start_at starts (m + (g + k)) ≡ start_at starts (number_in driven (get_or draft.wires k bare_wire).from)
   wire_start k lt =
       let s = settled_at (g + k) (omega (arith, links_many draft)) in
-      s.start ∙ (ap (λ b. cond b (m + (g + k)) (first_start starts (m + (g + k)) (fanins_at graph (g + k)))) (tested_ge (g + k) g (omega arith)) ∙ ap (first_start starts (m + (g + k))) (wire_row k lt))
+      s.start ∙ (ap (λ b. cond b (m + (g + k)) (first_start starts (m + (g + k)) (fanins_at graph (g + k)))) (le-ltb (g + k) g (omega arith)) ∙ ap (first_start starts (m + (g + k))) (wire_row k lt))
 
   wire_height : (k : ℕ) → k < length draft.wires → height_at heights (number_in driven (get_or draft.wires k bare_wire).from) < height_at heights (m + (g + k))
   wire_height k lt =

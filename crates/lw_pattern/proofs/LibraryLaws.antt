@@ -1,7 +1,7 @@
 -- The cells of a library, in the words of the laws.
 use Rattle.std.proofs.Common.{ℕ, ◌<◌, ◌≡◌, ◌↔◌, List, [], ◌∷◌, length, map, Some, slice_get, Contains, refl, sym, ap, ◌∙◌, subst, arith}
 use Rattle.std.specs.Prelude.{All}
-use Rattle.std.proofs.lemmas.Option.{get_or_from_slice_get, slice_get_within}
+use Rattle.std.proofs.lemmas.Option.{get_or_from_slice_get, slice_get_within, same_Some}
 use Rattle.lw_laws.specs.Covers.{HasPins, ArePatterns}
 use Rattle.lw_laws.specs.Netlists.{HaveCellTruths}
 use Rattle.lw_laws.specs.Networks.{given}
@@ -26,14 +26,11 @@ record IsAt (cells : List CellParts) (cell : ℕ) (forms : List Expr) (n : ℕ) 
 kept_at : (cells : List CellParts) (cell : ℕ) (own : CellParts) → All IsListed cells → slice_get cells cell ≡ Some own → IsListed own
 kept_at cells cell own all at = subst IsListed (get_or_from_slice_get cells cell own own at) (all cell own (slice_get_within cells cell own at))
 
-some_injective : {A : Type 0} (x y : A) → Some x ≡ Some y → x ≡ y
-some_injective x y e = cc
-
 is_at : (cells : List CellParts) (cell n : ℕ) (forms : List Expr) → IsLibrary cells → slice_get (map forms_of cells) cell ≡ Some forms → HasPins (pin_counts cells) cell n → IsAt cells cell forms n
 is_at cells cell n forms lib e has =
     let (own, at, same) = slice_get_map_back forms_of cells cell forms e in
     let (other, there, pins) = slice_get_map_back pin_count cells cell n has in
-    let one : own ≡ other = some_injective own other (sym at ∙ there) in
+    let one : own ≡ other = same_Some own other (sym at ∙ there) in
     record { own = own; at = at; kept = kept_at cells cell own lib.each at; forms_are = same; pins_are = ap pin_count one ∙ pins }
 
 first_form : (forms : List Expr) → 0 < length forms → Contains forms (first_expr forms)

@@ -6,9 +6,9 @@ use Rattle.std.proofs.Math.ListN as plain_lists
 use Rattle.std.proofs.lemmas.List.{get_or-take, get_or-drop, length-map, length-replicate, length-take-le}
 use Rattle.std.proofs.lemmas.List.Elements.{All-from_get_or, All-map, Contains-get_or}
 use Rattle.std.proofs.lemmas.Option.{slice_get-get_or}
+use Rattle.lw_facts.proofs.Lists.{contains_map, contained_in_map}
 use Rattle.lw_pool.specs.declared.id.ClassId.{ClassId}
 use Rattle.lw_laws.specs.Drafts.{IsReduced}
-use Rattle.lw_laws.proofs.Lists.{in_map}
 use Rattle.lw_laws.specs.Graphs.{Graph as PlainGraph, Pair as PlainPair, AreRising, class_of, pair_count}
 use Rattle.lw_graph.specs.declared.pair.Pair.{Pair}
 use Rattle.lw_graph.specs.Graphs.{IsBelow, IsGraph, plain_graph, plain_pair, plain_row}
@@ -20,7 +20,7 @@ use Rattle.lw_reduce.specs.Rows.{IsOrdered, IsRowOf}
 use Rattle.lw_reduce.specs.Settling.{AreSettled, canonical_fact}
 use Rattle.lw_reduce.specs.Buckets.{of_class, pair_of}
 use Rattle.lw_reduce.proofs.ClassNumbers.{rep_of-double}
-use Rattle.lw_reduce.proofs.Members.{filter_back, map_back}
+use Rattle.lw_reduce.proofs.Members.{filter_back}
 use Rattle.lw_reduce.proofs.Reduced.{entry_form, entry_ordered, pairs_of, pairs_once, reduced, rows_below}
 use Rattle.lw_pool.specs.Numbers.{numbers}
 
@@ -58,13 +58,13 @@ module _ (n : ℕ) (nands : List Fact) (links : List Link) (reps : List ℕ) (is
       where
         to : Contains (slice_index_or (map plain_row lists) c []) p → Contains (pairs_of (own c)) p
         to h =
-            let (q, k, e) = map_back plain_pair (slice_index_or lists c []) p (subst (λ row. Contains row p) (at c) h) in
-            subst₂ (λ row z. Contains row z) (plain_pairs (own c)) e (in_map plain_pair (map pair_of (own c)) q (((lists_are c).listed q).0 k))
+            let (q, k, e) = contained_in_map plain_pair (slice_index_or lists c []) p (subst (λ row. Contains row p) (at c) h) in
+            subst₂ (λ row z. Contains row z) (plain_pairs (own c)) e (contains_map plain_pair (map pair_of (own c)) q (((lists_are c).listed q).0 k))
 
         from : Contains (pairs_of (own c)) p → Contains (slice_index_or (map plain_row lists) c []) p
         from h =
-            let (q, k, e) = map_back plain_pair (map pair_of (own c)) p (subst (λ row. Contains row p) (sym (plain_pairs (own c))) h) in
-            subst₂ (λ row z. Contains row z) (sym (at c)) e (in_map plain_pair (slice_index_or lists c []) q (((lists_are c).listed q).1 k))
+            let (q, k, e) = contained_in_map plain_pair (map pair_of (own c)) p (subst (λ row. Contains row p) (sym (plain_pairs (own c))) h) in
+            subst₂ (λ row z. Contains row z) (sym (at c)) e (contains_map plain_pair (slice_index_or lists c []) q (((lists_are c).listed q).1 k))
 
     rises : (c : ℕ) → AreRising (slice_index_or (map plain_row lists) c [])
     rises c =

@@ -3,12 +3,12 @@ use Rattle.std.proofs.Common.{ℕ, suc, zero, ◌*◌, ◌/◌, ◌%◌, ◌-◌
 use Rattle.std.specs.Prelude.{slice_index_or}
 use Rattle.std.proofs.lemmas.List.{map-append, length-append}
 use Rattle.std.proofs.lemmas.List.Elements.{All-append, All-contains, Contains-get_or}
+use Rattle.lw_facts.proofs.Lists.{contains_map}
 use Rattle.lw_laws.specs.Families.{Equivalent}
 use Rattle.lw_laws.specs.Families.Equivalent.{same}
 use Rattle.lw_laws.specs.Flip.{flip}
 use Rattle.lw_laws.specs.Truth.{IsValuation}
 use Rattle.lw_laws.proofs.Flips.{half-flip, odd-flip}
-use Rattle.lw_laws.proofs.Lists.{in_map}
 use Rattle.lw_laws.proofs.Truths.{flip_not_equivalent}
 use Rattle.lw_reduce.specs.declared.facts.Fact.{Fact}
 use Rattle.lw_reduce.specs.declared.facts.Link.{Link}
@@ -55,11 +55,11 @@ sample_of-flip samples f =
 module _ (inputs : ℕ) (samples : List Bool) (nands : List Fact) (links : List Link) (is : IsDraft (plain_draft inputs samples nands links)) where
   fits_nand : (p : Fact) → Contains nands p → FitsNand samples (plain_fact p)
   fits_nand p c =
-      All-contains (FitsNand samples) (map plain_fact nands) (plain_fact p) is.nands (in_map plain_fact nands p c)
+      All-contains (FitsNand samples) (map plain_fact nands) (plain_fact p) is.nands (contains_map plain_fact nands p c)
 
   fits_link : (l : Link) → Contains links l → FitsLink samples (plain_link l)
   fits_link l c =
-      All-contains (FitsLink samples) (map plain_link links) (plain_link l) is.links (in_map plain_link links l c)
+      All-contains (FitsLink samples) (map plain_link links) (plain_link l) is.links (contains_map plain_link links l c)
 
   valuation : IsValuation (family (length samples) nands links) (λ i. false) (sample_of samples)
   valuation = record {

@@ -1,19 +1,11 @@
 -- Members of lists that are mapped, filtered, or left without repeats.
 use Rattle.std.proofs.Common.{zero, suc, ◌≡◌, ◌≤◌, length, Bool, true, false, cond, List, [], ◌∷◌, map, filter, Contains, refl, ap, sym, ◌∙◌, subst, arith}
 use Rattle.std.specs.List.{AllByRecursion, dedup, dedup_from}
+use Rattle.lw_facts.proofs.Lists.{contains_tail}
 use Rattle.lw_laws.proofs.Lists.{all_contains, contains_all}
 
 pub in_head : {X : Type 0} (x : X) (xs : List X) → Contains (x ∷ xs) x
 in_head x xs = (0, omega arith, refl)
-
-pub in_tail : {X : Type 0} (y : X) (xs : List X) (x : X) → Contains xs x → Contains (y ∷ xs) x
-in_tail y xs x (k, lt, e) = (suc k, omega arith, e)
-
-pub map_back : {X Y : Type 0} (f : X → Y) (xs : List X) (y : Y) → Contains (map f xs) y → (x : X) × Contains xs x × (f x ≡ y)
-map_back f [] y (k, lt, e) = absurd (omega arith)
-map_back f (x ∷ xs) y (zero, lt, e) = (x, in_head x xs, e)
-map_back f (x ∷ xs) y (suc k, lt, e) =
-    let (z, c, s) = map_back f xs y (k, omega arith, e) in (z, in_tail x xs z c, s)
 
 pub filter_in : {X : Type 0} (p : X → Bool) (xs : List X) (x : X) → Contains xs x → p x ≡ true → Contains (filter p xs) x
 filter_in p [] x (k, lt, e) t = absurd (omega arith)
@@ -23,7 +15,7 @@ filter_in p (y ∷ xs) x (zero, lt, e) t =
 filter_in p (y ∷ xs) x (suc k, lt, e) t = by_test (p y) (filter_in p xs x (k, omega arith, e) t)
   where
     by_test : (b : Bool) → Contains (filter p xs) x → Contains (cond b (y ∷ filter p xs) (filter p xs)) x
-    by_test true c = in_tail y (filter p xs) x c
+    by_test true c = contains_tail y (filter p xs) x c
     by_test false c = c
 
 pub filter_back : {X : Type 0} (p : X → Bool) (xs : List X) (x : X) → Contains (filter p xs) x → Contains xs x × (p x ≡ true)
@@ -32,8 +24,8 @@ filter_back p (y ∷ xs) x c = by_test (p y) refl (λ d. filter_back p xs x d) c
   where
     by_test : (b : Bool) → p y ≡ b → (Contains (filter p xs) x → Contains xs x × (p x ≡ true)) → Contains (cond b (y ∷ filter p xs) (filter p xs)) x → Contains (y ∷ xs) x × (p x ≡ true)
     by_test true s ih (zero, lt, e) = ((0, omega arith, e), subst (λ z. p z ≡ true) e s)
-    by_test true s ih (suc k, lt, e) = let (d, t) = ih (k, omega arith, e) in (in_tail y xs x d, t)
-    by_test false s ih c = let (d, t) = ih c in (in_tail y xs x d, t)
+    by_test true s ih (suc k, lt, e) = let (d, t) = ih (k, omega arith, e) in (contains_tail y xs x d, t)
+    by_test false s ih c = let (d, t) = ih c in (contains_tail y xs x d, t)
 
 module _ {X : Type 0} (E : X → X → Bool) where
   pub dedup_all : (P : X → Type 0) (k : X) (xs : List X) → P k → AllByRecursion P xs → AllByRecursion P (dedup_from E k xs)
@@ -59,13 +51,13 @@ module _ {X : Type 0} (E : X → X → Bool) where
       where
         by_test : (b : Bool) → E y k ≡ b → Contains (dedup_from E k xs) k → Contains (dedup_from E y xs) y → Contains (cond b (dedup_from E k xs) (k ∷ dedup_from E y xs)) x
         by_test true s c d = subst (λ z. Contains (dedup_from E k xs) z) (sym (same y k s) ∙ e) c
-        by_test false s c d = in_tail k (dedup_from E y xs) x (subst (λ z. Contains (dedup_from E y xs) z) e d)
+        by_test false s c d = contains_tail k (dedup_from E y xs) x (subst (λ z. Contains (dedup_from E y xs) z) e d)
     dedup_tail k (y ∷ xs) x (suc i, lt, e) =
         by_test (E y k) (dedup_tail k xs x (i, omega arith, e)) (dedup_tail y xs x (i, omega arith, e))
       where
         by_test : (b : Bool) → Contains (dedup_from E k xs) x → Contains (dedup_from E y xs) x → Contains (cond b (dedup_from E k xs) (k ∷ dedup_from E y xs)) x
         by_test true c d = c
-        by_test false c d = in_tail k (dedup_from E y xs) x d
+        by_test false c d = contains_tail k (dedup_from E y xs) x d
 
     pub dedup_in : (xs : List X) (x : X) → Contains xs x → Contains (dedup E xs) x
     dedup_in [] x c = c
@@ -74,7 +66,7 @@ module _ {X : Type 0} (E : X → X → Bool) where
 
   dedup_from_back : (k : X) (xs : List X) (x : X) → Contains (dedup_from E k xs) x → Contains (k ∷ xs) x
   dedup_from_back k xs x c =
-      all_contains (λ y. Contains (k ∷ xs) y) (dedup_from E k xs) x (dedup_all (λ y. Contains (k ∷ xs) y) k xs (in_head k xs) (contains_all (λ y. Contains (k ∷ xs) y) xs (λ y d. in_tail k xs y d))) c
+      all_contains (λ y. Contains (k ∷ xs) y) (dedup_from E k xs) x (dedup_all (λ y. Contains (k ∷ xs) y) k xs (in_head k xs) (contains_all (λ y. Contains (k ∷ xs) y) xs (λ y d. contains_tail k xs y d))) c
 
   pub dedup_back : (xs : List X) (x : X) → Contains (dedup E xs) x → Contains xs x
   dedup_back [] x c = c

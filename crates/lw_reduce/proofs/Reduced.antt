@@ -3,13 +3,15 @@ use Rattle.std.proofs.Common.{ℕ, ◌+◌, ◌*◌, ◌/◌, ◌<◌, ◌≡◌
 use Rattle.std.specs.List.{slice_get}
 use Rattle.std.specs.Prelude.{Some, slice_index_or}
 use Rattle.std.proofs.lemmas.List.Elements.{All-contains, Contains-get_or}
+use Rattle.std.proofs.lemmas.Bool.{eqb-true, eq-eqb}
+use Rattle.lw_facts.proofs.Numbers.{min_max_cases}
+use Rattle.lw_facts.proofs.Lists.{contains_map, contained_in_map}
 use Rattle.lw_laws.specs.Drafts.{Draft as PlainDraft, FormLink, NandFact, IsReduced, facts_of}
 use Rattle.lw_laws.specs.Encodings.{HasNand}
 use Rattle.lw_laws.specs.Families.{IsNand, Equivalent}
 use Rattle.lw_laws.specs.Families.Equivalent.{linked}
 use Rattle.lw_laws.specs.Graphs.{Graph as PlainGraph, Pair as PlainPair, AreRising, HoldsPair, PairsInOneClass, class_of, pair_count}
 use Rattle.lw_laws.proofs.Drafts.{Equivalent-weaker}
-use Rattle.lw_laws.proofs.Lists.{in_map}
 use Rattle.lw_graph.specs.Graphs.{IsBelow}
 use Rattle.lw_reduce.specs.declared.facts.Fact.{Fact}
 use Rattle.lw_reduce.specs.declared.facts.Link.{Link}
@@ -19,15 +21,10 @@ use Rattle.lw_reduce.specs.Representatives.{IsFactIn, family, rep_of}
 use Rattle.lw_reduce.specs.Rows.{IsOrdered}
 use Rattle.lw_reduce.specs.Settling.{AreSettled, canonical_fact}
 use Rattle.lw_reduce.specs.Buckets.{of_class, pair_of}
-use Rattle.lw_reduce.proofs.BucketLemmas.{is_same}
 use Rattle.lw_reduce.proofs.Closed.{agree, min_max_same, min_max_exchanged, same_rep_iff}
-use Rattle.lw_reduce.proofs.Members.{filter_in, filter_back, map_back}
+use Rattle.lw_reduce.proofs.Members.{filter_in, filter_back}
 use Rattle.lw_reduce.proofs.Roots.{IsRoot, class_of_rep, class_once, class_below}
-use Rattle.lw_reduce.proofs.Settling.{min_max}
 use Rattle.lw_reduce.proofs.SettledFacts.{fact_is}
-
-same_is : (a c : ℕ) → (a == c) ≡ true → a ≡ c
-same_is a c e = grind (arith, e)
 
 abbrev pub pairs_of : List Fact → List PlainPair
 pairs_of rows = map (λ (r : Fact). record { x = r.left; y = r.right }) rows
@@ -44,10 +41,10 @@ module _ (n : ℕ) (nands : List Fact) (links : List Link) (reps : List ℕ) (is
 
   -- the entries are the facts over classes
   listed_in : (p : Fact) → Contains nands p → Contains entries (canonical_fact forms p)
-  listed_in p c = in_map (canonical_fact forms) nands p c
+  listed_in p c = contains_map (canonical_fact forms) nands p c
 
   listed_back : (r : Fact) → Contains entries r → (p : Fact) × Contains nands p × (canonical_fact forms p ≡ r)
-  listed_back r c = map_back (canonical_fact forms) nands r c
+  listed_back r c = contained_in_map (canonical_fact forms) nands r c
 
   operands_in : (p : Fact) → Contains nands p → IsFactIn n p
   operands_in p c = All-contains (IsFactIn n) nands p is.valid.nands_in c
@@ -100,7 +97,7 @@ module _ (n : ℕ) (nands : List Fact) (links : List Link) (reps : List ℕ) (is
       let j = operands_in q b in
       let x = class_of_rep reps forms are count' p.form (known p.form i.0) in
       let y = class_of_rep reps forms are count' q.form (known q.form j.0) in
-      sym x ∙ (ap (rep_of forms) (agree n nands links reps is p q a b (by_order (min_max (rep_of forms p.left) (rep_of forms p.right)) (min_max (rep_of forms q.left) (rep_of forms q.right)))) ∙ y)
+      sym x ∙ (ap (rep_of forms) (agree n nands links reps is p q a b (by_order (min_max_cases (rep_of forms p.left) (rep_of forms p.right)) (min_max_cases (rep_of forms q.left) (rep_of forms q.right)))) ∙ y)
     where
       same : rep_of forms p.left ≡ rep_of forms q.left → rep_of forms p.right ≡ rep_of forms q.right → (min (rep_of reps p.left) (rep_of reps p.right) ≡ min (rep_of reps q.left) (rep_of reps q.right)) × (max (rep_of reps p.left) (rep_of reps p.right) ≡ max (rep_of reps q.left) (rep_of reps q.right))
       same c d =
@@ -130,26 +127,26 @@ module _ (n : ℕ) (nands : List Fact) (links : List Link) (reps : List ℕ) (is
     row_back : (c x y : ℕ) → Contains (slice_index_or pairs c []) (record { x = x; y = y }) → (r : Fact) × Contains entries r × (r.form ≡ c) × (r.left ≡ x) × (r.right ≡ y)
     row_back c x y h =
         let m = (members c (record { x = x; y = y })).0 h in
-        let (r, d, e) = map_back (λ (r : Fact). record { x = r.left; y = r.right }) (filter (of_class c) entries) (record { x = x; y = y }) m in
+        let (r, d, e) = contained_in_map (λ (r : Fact). record { x = r.left; y = r.right }) (filter (of_class c) entries) (record { x = x; y = y }) m in
         let (k, t) = filter_back (of_class c) entries r d in
-        (r, k, same_is r.form c t, ap (λ (p : PlainPair). p.x) e, ap (λ (p : PlainPair). p.y) e)
+        (r, k, eqb-true r.form c t, ap (λ (p : PlainPair). p.x) e, ap (λ (p : PlainPair). p.y) e)
 
     row_in : (r : Fact) → Contains entries r → Contains (slice_index_or pairs r.form []) (record { x = r.left; y = r.right })
     row_in r k =
-        let d = filter_in (of_class r.form) entries r k (is_same r.form r.form refl) in
-        (members r.form (record { x = r.left; y = r.right })).1 (in_map (λ (r : Fact). record { x = r.left; y = r.right }) (filter (of_class r.form) entries) r d)
+        let d = filter_in (of_class r.form) entries r k (eq-eqb r.form r.form refl) in
+        (members r.form (record { x = r.left; y = r.right })).1 (contains_map (λ (r : Fact). record { x = r.left; y = r.right }) (filter (of_class r.form) entries) r d)
 
     fact_in_draft : (f x y : ℕ) → Contains nands (record { form = f; left = x; right = y }) → Contains draft.nands (record { form = f; left = x; right = y })
-    fact_in_draft f x y c = in_map plain_fact nands (record { form = f; left = x; right = y }) c
+    fact_in_draft f x y c = contains_map plain_fact nands (record { form = f; left = x; right = y }) c
 
     fact_back : (f x y : ℕ) → Contains draft.nands (record { form = f; left = x; right = y }) → Contains nands (record { form = f; left = x; right = y })
     fact_back f x y c =
-        let (p, d, e) = map_back plain_fact nands (record { form = f; left = x; right = y }) c in
+        let (p, d, e) = contained_in_map plain_fact nands (record { form = f; left = x; right = y }) c in
         subst (λ q. Contains nands q) (fact_is p (record { form = f; left = x; right = y }) (ap (λ (q : NandFact). q.form) e) (ap (λ (q : NandFact). q.left) e) (ap (λ (q : NandFact). q.right) e)) d
 
     link_back : (f h : ℕ) → Contains draft.links (record { left = f; right = h }) → Contains links (record { left = f; right = h })
     link_back f h c =
-        let (l, d, e) = map_back plain_link links (record { left = f; right = h }) c in
+        let (l, d, e) = contained_in_map plain_link links (record { left = f; right = h }) c in
         let s : l ≡ record { left = f; right = h } = λ i. record { left = ap (λ (q : FormLink). q.left) e i; right = ap (λ (q : FormLink). q.right) e i } in
         subst (λ q. Contains links q) s d
 
@@ -163,7 +160,7 @@ module _ (n : ℕ) (nands : List Fact) (links : List Link) (reps : List ℕ) (is
 
     to_draft : {f h : ℕ} → Equivalent (family n nands links) f h → Equivalent (facts_of draft) f h
     to_draft e =
-        Equivalent-weaker (family n nands links) (facts_of draft) (λ f o. subst (λ m. f / 2 < m) (sym known_samples) o) nand_in_draft (λ f h l. linked (in_map plain_link links (record { left = f; right = h }) l)) e
+        Equivalent-weaker (family n nands links) (facts_of draft) (λ f o. subst (λ m. f / 2 < m) (sym known_samples) o) nand_in_draft (λ f h l. linked (contains_map plain_link links (record { left = f; right = h }) l)) e
 
     from_draft : {f h : ℕ} → Equivalent (facts_of draft) f h → Equivalent (family n nands links) f h
     from_draft e =
@@ -197,7 +194,7 @@ module _ (n : ℕ) (nands : List Fact) (links : List Link) (reps : List ℕ) (is
     row_nand c x y h =
         let (r, k, f, l, t) = row_back c x y h in
         let (p, d, e) = listed_back r k in
-        by_order p d (ap (λ (q : Fact). q.form) e ∙ f) (ap (λ (q : Fact). q.left) e ∙ l) (ap (λ (q : Fact). q.right) e ∙ t) (min_max (rep_of forms p.left) (rep_of forms p.right))
+        by_order p d (ap (λ (q : Fact). q.form) e ∙ f) (ap (λ (q : Fact). q.left) e ∙ l) (ap (λ (q : Fact). q.right) e ∙ t) (min_max_cases (rep_of forms p.left) (rep_of forms p.right))
       where
         by_order : (p : Fact) → Contains nands p → rep_of forms p.form ≡ c → min (rep_of forms p.left) (rep_of forms p.right) ≡ x → max (rep_of forms p.left) (rep_of forms p.right) ≡ y → ((min (rep_of forms p.left) (rep_of forms p.right) ≡ rep_of forms p.left) × (max (rep_of forms p.left) (rep_of forms p.right) ≡ rep_of forms p.right)) ⊎ ((min (rep_of forms p.left) (rep_of forms p.right) ≡ rep_of forms p.right) × (max (rep_of forms p.left) (rep_of forms p.right) ≡ rep_of forms p.left)) → HasNand (facts_of draft) graph c x y
         by_order p d f l t (inl (a, b)) = record {
@@ -221,7 +218,7 @@ module _ (n : ℕ) (nands : List Fact) (links : List Link) (reps : List ℕ) (is
 
     fact_row : (f x y : ℕ) → Contains nands (record { form = f; left = x; right = y }) → HoldsPair graph (rep_of forms f) (rep_of forms x) (rep_of forms y)
     fact_row f x y c =
-        by_order (row_in (canonical_fact forms (record { form = f; left = x; right = y })) (listed_in (record { form = f; left = x; right = y }) c)) (min_max (rep_of forms x) (rep_of forms y))
+        by_order (row_in (canonical_fact forms (record { form = f; left = x; right = y })) (listed_in (record { form = f; left = x; right = y }) c)) (min_max_cases (rep_of forms x) (rep_of forms y))
       where
         by_order : Contains (slice_index_or pairs (rep_of forms f) []) (record { x = min (rep_of forms x) (rep_of forms y); y = max (rep_of forms x) (rep_of forms y) }) → ((min (rep_of forms x) (rep_of forms y) ≡ rep_of forms x) × (max (rep_of forms x) (rep_of forms y) ≡ rep_of forms y)) ⊎ ((min (rep_of forms x) (rep_of forms y) ≡ rep_of forms y) × (max (rep_of forms x) (rep_of forms y) ≡ rep_of forms x)) → HoldsPair graph (rep_of forms f) (rep_of forms x) (rep_of forms y)
         by_order m (inl (a, b)) =
@@ -272,7 +269,7 @@ module _ (n : ℕ) (nands : List Fact) (links : List Link) (reps : List ℕ) (is
     pub rows_below : (c : ℕ) → All (IsBelow (length pairs)) (slice_index_or pairs c [])
     rows_below c k d lt =
         let m = (members c (get_or (slice_index_or pairs c []) k d)).0 (Contains-get_or (slice_index_or pairs c []) k d lt) in
-        let (r, q, e) = map_back (λ (r : Fact). record { x = r.left; y = r.right }) (filter (of_class c) entries) (get_or (slice_index_or pairs c []) k d) m in
+        let (r, q, e) = contained_in_map (λ (r : Fact). record { x = r.left; y = r.right }) (filter (of_class c) entries) (get_or (slice_index_or pairs c []) k d) m in
         let (a, b) = entry_operands r (filter_back (of_class c) entries r q).0 in
         subst (IsBelow (length pairs)) e (omega arith, omega arith)
 

@@ -2,12 +2,12 @@
 use Rattle.std.proofs.Common.{ℕ, zero, suc, ◌+◌, ◌-◌, ◌/◌, ◌^◌, ◌<◌, ◌≤◌, ◌≡◌, ◌⊎◌, inl, inr, min, max, List, [], ◌∷◌, length, map, get_or, All, Contains, refl, ap, sym, ◌∙◌, subst, arith}
 use Rattle.std.proofs.lemmas.List.Elements.{All-get_or, All-map, All-contains, Contains-get_or}
 use Rattle.std.proofs.lemmas.List.Sorted.{All-permutation}
+use Rattle.lw_facts.proofs.Numbers.{min_max_cases}
 use Rattle.lw_reduce.specs.declared.facts.Fact.{Fact}
 use Rattle.lw_reduce.specs.declared.facts.Link.{Link}
 use Rattle.lw_reduce.specs.Representatives.{IsFactIn, rep_of}
 use Rattle.lw_reduce.specs.Settling.{IsSettled, fact_key, no_fact, canonical_fact}
 use Rattle.lw_reduce.proofs.Roots.{IsRoot}
-use Rattle.lw_reduce.proofs.Settling.{min_max}
 
 pub fact_is : (p q : Fact) → p.form ≡ q.form → p.left ≡ q.left → p.right ≡ q.right → p ≡ q
 fact_is p q x y z = λ i. record { form = x i; left = y i; right = z i }
@@ -44,8 +44,8 @@ module _ (n : ℕ) (nands : List Fact) (links : List Link) (reps : List ℕ) (ca
       let r = root p.right in'.2 in
       record {
         form = root p.form in'.0;
-        left = by_low l r (min_max (rep_of reps p.left) (rep_of reps p.right));
-        right = by_high l r (min_max (rep_of reps p.left) (rep_of reps p.right));
+        left = by_low l r (min_max_cases (rep_of reps p.left) (rep_of reps p.right));
+        right = by_high l r (min_max_cases (rep_of reps p.left) (rep_of reps p.right));
         order = omega arith;
       }
     where

@@ -8,7 +8,10 @@ use Rattle.std.proofs.lemmas.List.Elements.{Contains-get_or}
 use Rattle.std.proofs.lemmas.List.Kept.{AllPairs-from_increasing}
 use Rattle.std.proofs.lemmas.Map.Keys.{IsDistinct-IsPermutation}
 use Rattle.std.proofs.lemmas.List.Sorted.{Contains-permutation, IsPermutation-sym}
-use Rattle.lw_laws.proofs.Lists.{all_contains, contains_all, in_map}
+use Rattle.lw_facts.proofs.Lists.{contains_map}
+use Rattle.lw_facts.proofs.Tests.{eq_lower}
+use Rattle.lw_facts.proofs.Numbers.{eq_turned}
+use Rattle.lw_laws.proofs.Lists.{all_contains, contains_all}
 use Rattle.lw_reduce.specs.declared.facts.Fact.{Fact}
 use Rattle.lw_reduce.specs.declared.facts.Link.{Link}
 use Rattle.lw_reduce.specs.Representatives.{AreRepresentatives, IsFlat, LinkAgrees, rep_of}
@@ -18,7 +21,7 @@ use Rattle.lw_reduce.proofs.SettledFacts.{default_same, same_rows}
 module _ (n : ℕ) (nands : List Fact) (links : List Link) (reps : List ℕ) (canonical : List Fact) (is : IsSettled n nands links reps canonical) (few : n < 2 ^ 31) where
   pub in_rows : (p : Fact) → Contains nands p → Contains canonical (canonical_fact reps p)
   in_rows p c =
-      Contains-permutation (map (canonical_fact reps) nands) canonical (canonical_fact reps p) is.permutation (in_map (canonical_fact reps) nands p c)
+      Contains-permutation (map (canonical_fact reps) nands) canonical (canonical_fact reps p) is.permutation (contains_map (canonical_fact reps) nands p c)
 
   -- settled facts with the same operands
   same_members : (r s : Fact) → Contains canonical r → Contains canonical s → fact_key r ≡ fact_key s → r ≡ s
@@ -51,14 +54,11 @@ settled_by_own n nands links reps valid flat linked own = record {
 pub settled_from : (m n : ℕ) (nands : List Fact) (links : List Link) (reps : List ℕ) → m ≡ n → AreSettled m nands links reps → AreSettled n nands links reps
 settled_from m n nands links reps e is = subst (λ k. AreSettled k nands links reps) e is
 
-differ : (x y : ℕ) → x < y → (x == y) ≡ false
-differ x y l = grind (arith, l)
-
 distinct_from : (xs : List ℕ) → ((i j d : ℕ) → i < j → j < length xs → get_or xs i d < get_or xs j d) → IsDistinct (λ a b. a == b) xs
 unfolding IsDistinct
 distinct_from [] f = tt
 distinct_from (x ∷ xs) f =
-    (contains_all (λ y. (x == y) ≡ false) xs (λ y (k, lt, e). differ x y (subst (λ z. x < z) e (f 0 (suc k) y (omega arith) (omega arith)))), distinct_from xs (λ i j d l lt. f (suc i) (suc j) d (omega arith) (omega arith)))
+    (contains_all (λ y. (x == y) ≡ false) xs (λ y (k, lt, e). eq_lower x y (subst (λ z. x < z) e (f 0 (suc k) y (omega arith) (omega arith)))), distinct_from xs (λ i j d l lt. f (suc i) (suc j) d (omega arith) (omega arith)))
 
 distinct_at : (xs : List ℕ) → IsDistinct (λ a b. a == b) xs → (i j : ℕ) → i < j → j < length xs → get_or xs i 0 ≡ get_or xs j 0 → ⊥
 unfolding IsDistinct
@@ -70,23 +70,13 @@ distinct_at (x ∷ xs) (a, d) zero (suc j) l lt e =
     absurd (true≢false (sym t ∙ f))
 distinct_at (x ∷ xs) (a, d) (suc i) (suc j) l lt e = distinct_at xs d i j (omega arith) (omega arith) e
 
-flips : (x y : ℕ) → (x == y) ≡ (y == x)
-flips x y = by_case (ℕ_discrete x y)
-  where
-    by_case : Dec (x ≡ y) → (x == y) ≡ (y == x)
-    by_case (yes e) = rw e refl
-    by_case (no n) =
-        let a : (x == y) ≡ false = grind (arith, n) in
-        let b : (y == x) ≡ false = grind (arith, n) in
-        a ∙ sym b
-
 -- keys that rise strictly in some order belong to one fact each
 pub distinct_operands : (reps : List ℕ) (nands : List Fact) (sorted : List ℕ) → IsPermutation (map (operands_key reps) nands) sorted → IsStrictlyIncreasing sorted → HaveDistinctOperands reps nands
 distinct_operands reps nands sorted perm rise p q (i, li, ei) (j, lj, ej) e = by_place (dec_lt i j) (dec_lt j i)
   where
     distinct : IsDistinct (λ a b. a == b) (map (operands_key reps) nands)
     distinct =
-        IsDistinct-IsPermutation (λ a b. a == b) flips sorted (map (operands_key reps) nands) (IsPermutation-sym (map (operands_key reps) nands) sorted perm) (distinct_from sorted (λ i j d l lt. AllPairs-from_increasing sorted rise i j d l lt))
+        IsDistinct-IsPermutation (λ a b. a == b) eq_turned sorted (map (operands_key reps) nands) (IsPermutation-sym (map (operands_key reps) nands) sorted perm) (distinct_from sorted (λ i j d l lt. AllPairs-from_increasing sorted rise i j d l lt))
 
     at : (k : ℕ) (r : Fact) → k < length nands → get_or nands k r ≡ r → get_or (map (operands_key reps) nands) k 0 ≡ operands_key reps r
     at k r lt e = get_or-map (operands_key reps) nands k r 0 lt ∙ ap (operands_key reps) e

@@ -4,19 +4,12 @@ use native.Mathlib.Decide.{ℕ_discrete, dec_le}
 use Rattle.std.specs.List.Sorted.{IsNonDecreasingBy, IsPermutation}
 use Rattle.std.proofs.lemmas.List.Elements.{All-map, All-contains, Contains-get_or}
 use Rattle.std.proofs.lemmas.List.Sorted.{All-permutation}
+use Rattle.lw_facts.proofs.Numbers.{min_max_cases}
 use Rattle.lw_laws.specs.Families.{Equivalent}
 use Rattle.lw_reduce.specs.declared.facts.Fact.{Fact}
 use Rattle.lw_reduce.specs.declared.facts.Link.{Link}
 use Rattle.lw_reduce.specs.Representatives.{AreRepresentatives, HasOperands, IsFlat, LinkAgrees, family, rep_of}
 use Rattle.lw_reduce.specs.Settling.{AgreesAt, IsImplied, IsSettled, fact_key, canonical_fact}
-
--- the lower and the higher of two numbers are these two
-pub min_max : (l r : ℕ) → ((min l r ≡ l) × (max l r ≡ r)) ⊎ ((min l r ≡ r) × (max l r ≡ l))
-min_max l r = by_order (dec_le l r)
-  where
-    by_order : Dec (l ≤ r) → ((min l r ≡ l) × (max l r ≡ r)) ⊎ ((min l r ≡ r) × (max l r ≡ l))
-    by_order (yes le) = inl (omega arith, omega arith)
-    by_order (no gt) = inr (omega arith, omega arith)
 
 module _ (n : ℕ) (nands : List Fact) (links : List Link) where
   pub fact_implied : (reps : List ℕ) (p : Fact) → AreRepresentatives n nands links reps → Contains nands p → IsImplied n nands links (canonical_fact reps p)
@@ -29,7 +22,7 @@ module _ (n : ℕ) (nands : List Fact) (links : List Link) where
         fact = p;
         listed = listed;
         alike = f.1;
-        operands = by_order l.1 r.1 (min_max (rep_of reps p.left) (rep_of reps p.right));
+        operands = by_order l.1 r.1 (min_max_cases (rep_of reps p.left) (rep_of reps p.right));
         within = f.0;
       }
     where

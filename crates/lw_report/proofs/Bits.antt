@@ -5,19 +5,11 @@ use Rattle.std.specs.Int.{bit_at, bit_not, w64}
 use Rattle.std.proofs.lemmas.Nat.{or_lt, pow_below}
 use Rattle.std.proofs.lemmas.Nat.Bits.{bit_at_and, bit_at_or, bit_at_not, bit_at_ones, bit_at_above, bit_at-pow_same, bit_at-pow_other, bit_at-zero, bit_at-lt}
 use Rattle.std.proofs.lemmas.Bool.Decides.{nat_tests}
+use Rattle.lw_facts.proofs.Numbers.{min_bit, max_bit, not_bit}
 use Rattle.lw_genlib.specs.Words.{bit}
 use Rattle.lw_net.specs.Signs.{met_by}
 use Rattle.lw_report.specs.Marking.{marked}
 use Rattle.lw_report.specs.Vectors.{is_one}
-
-min_bit : (x y z : ℕ) → z ≡ min x y → x < 2 → y < 2 → eqb z 1 ≡ (eqb x 1 && eqb y 1)
-min_bit x y z e xl yl = grind (arith, nat_tests)
-
-max_bit : (x y z : ℕ) → z ≡ max x y → x < 2 → y < 2 → eqb z 1 ≡ (eqb x 1 || eqb y 1)
-max_bit x y z e xl yl = grind (arith, nat_tests)
-
-not_bit : (x z : ℕ) → z ≡ 1 - x → x < 2 → eqb z 1 ≡ not (eqb x 1)
-not_bit x z e xl = grind (arith, nat_tests)
 
 -- Bits of what operators give.
 

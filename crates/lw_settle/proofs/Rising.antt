@@ -246,11 +246,6 @@ module _ (cost : Cost) (lists : List (List Stored)) (s : Stage) (class n done : 
         };
       }
 
--- lists of marks
-pub none_is : {A : Type 0} (o : Option A) → is_some o ≡ false → o ≡ None
-none_is None e = refl
-none_is (Some x) e = cc
-
 pub marks_some : (marks : List (Option Mark)) (c : ℕ) (m : Mark) → get_or marks c None ≡ Some m → marks_in marks c ≡ Some (plain_mark m)
 marks_some marks c m e = ap (option_map plain_mark) e
 

@@ -1,6 +1,7 @@
 -- All stores of a graph and patterns have as many matches, and are read as often.
 use Rattle.std.proofs.Common.{ℕ, zero, suc, ◌+◌, ◌≤◌, ◌≡◌, ◌==◌, if◌then◌else◌, List, [], ◌∷◌, ◌++◌, length, map, Option, Some, None, slice_get, refl, ap, sym, ◌∙◌, subst, arith}
 use Rattle.std.proofs.lemmas.Option.{same_Some}
+use Rattle.lw_facts.proofs.Lists.{contained_at, at_contained}
 use Rattle.lw_laws.specs.Graphs.{Graph}
 use Rattle.lw_laws.specs.Covers.{Pattern}
 use Rattle.lw_laws.specs.Choices.{Labels}
@@ -9,7 +10,6 @@ use Rattle.lw_match.specs.Coming.{AreMatches}
 use Rattle.lw_settle.specs.Stores.{Stored, Placed, placed, placed_at, placed_from, pins_of, with_cell, IsStoreOf, AreStoredAt}
 use Rattle.lw_settle.specs.Settled.{labelled, labelled_uses, labelled_matches, settle_steps}
 use Rattle.lw_settle.specs.Steps.{AreSteps}
-use Rattle.lw_settle.proofs.Agreeing.{contained_at, at_contained}
 
 -- Sums over lists that hold the same entries.
 

@@ -4,11 +4,11 @@ use Rattle.std.specs.Prelude.{slice_get, slice_range, option_to_list}
 use Rattle.std.proofs.Math.Seq.{take-add}
 use Rattle.std.proofs.lemmas.Option.{slice_get_within, get_or_from_slice_get}
 use Rattle.std.proofs.lemmas.List.{take_all, take-append-drop, append-nil}
+use Rattle.lw_facts.proofs.Lists.{get_left}
 use Rattle.lw_words.specs.declared.lines.Lines.{Lines}
 use Rattle.lw_words.specs.Lines.{LogicalLine, logical_lines, finished_lines}
 use Rattle.lw_words.specs.Standing.{StandsFor, is_marked, is_finished, lines_so_far}
 use Rattle.lw_words.proofs.Behind.{logical_lines-behind}
-use Rattle.lw_mapped.proofs.Places.{get-left}
 use Rattle.lw_top.specs.Texts.{IsGiven, IsGivenAll, IsGivenSome}
 
 -- the lines so far, by what they depend on
@@ -42,14 +42,14 @@ module _ {R : Type 0} (given : R → List LogicalLine → Type 0) (accepts : Log
   pub line-accepted : (old : Lines) (reader : R) (line : LogicalLine) → IsGivenSome given accepts marked old reader → TakesAt old (Some line) → accepts line
   line-accepted old reader line (all, fed, g) takes =
       let at = takes fed g.taken g.stands in
-      let here : slice_get all g.taken ≡ Some line = ap (λ (ls : List LogicalLine). slice_get ls g.taken) g.whole ∙ get-left (lines_so_far old fed) g.rest g.taken line (sym at) in
+      let here : slice_get all g.taken ≡ Some line = ap (λ (ls : List LogicalLine). slice_get ls g.taken) g.whole ∙ get_left (lines_so_far old fed) g.rest g.taken line (sym at) in
       subst accepts (get_or_from_slice_get all g.taken line line here) (g.accepted g.taken line (slice_get_within all g.taken line here))
 
   -- a line is taken and given
   pub line-given : (old new : Lines) (reader next : R) (line : LogicalLine) (all : List LogicalLine) (fed : List ℕ) → IsGiven given accepts marked old reader all fed → is_marked new ≡ is_marked old → is_finished new ≡ is_finished old → TakesAt old (Some line) → StandsBehind old new 1 → ((lines : List LogicalLine) → given reader lines → given next (lines ++ line ∷ [])) → IsGiven given accepts marked new next all fed
   line-given old new reader next line all fed g same finished takes stands gives =
       let at : slice_get (lines_so_far old fed) g.taken ≡ Some line = sym (takes fed g.taken g.stands) in
-      let here : slice_get all g.taken ≡ Some line = ap (λ (ls : List LogicalLine). slice_get ls g.taken) g.whole ∙ get-left (lines_so_far old fed) g.rest g.taken line at in
+      let here : slice_get all g.taken ≡ Some line = ap (λ (ls : List LogicalLine). slice_get ls g.taken) g.whole ∙ get_left (lines_so_far old fed) g.rest g.taken line at in
       let next_place : g.taken + 1 ≡ suc g.taken = omega arith in
       let more : take (g.taken + 1) all ≡ take g.taken all ++ line ∷ [] = ap (λ k. take k all) next_place ∙ take-next all g.taken line here in
       record {

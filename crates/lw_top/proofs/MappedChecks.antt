@@ -20,7 +20,7 @@ use Rattle.lw_laws.specs.Matches.{IsLeastCover}
 use Rattle.lw_laws.specs.Netlists.{AreByDepth}
 use Rattle.lw_laws.specs.Networks.{Network}
 use Rattle.lw_laws.specs.Rounds.{labels_in}
-use Rattle.lw_laws.proofs.Lists.{slice_get_in, slice_get_some}
+use Rattle.lw_laws.proofs.Lists.{slice_get_some}
 use Rattle.lw_laws.proofs.MappedDepths.{extracted_by_depth}
 use Rattle.lw_laws.proofs.NetlistOf.{netlist_leaf_labels}
 use Rattle.lw_laws.proofs.Numbers.{slice_get_map, slice_get_map_back}
@@ -155,7 +155,7 @@ module _ (options : Options) (cells : List CellParts) (model : Parsed) (wide : I
 
   gate_class : (j c : ℕ) → slice_get is.is.gates j ≡ Some c → c < most_classes
   gate_class j c e =
-      let lt = slice_get_in is.is.gates j c e in
+      let lt = slice_get_within is.is.gates j c e in
       let count = is.is.extracted.one_each in
       let (gt, f) = slice_get_some (netlist.plain n).gates j (omega arith) in
       let (d, m, p, at, chosen, cell, nets) = is.is.extracted.chosen j gt f in

@@ -6,6 +6,7 @@ use Rattle.std.specs.Fmt.{decimal}
 use Rattle.std.proofs.lemmas.Bool.Decides.{nat_tests}
 use Rattle.std.proofs.lemmas.Fmt.{length-decimal-le, digits_decimal}
 use Rattle.std.proofs.lemmas.List.Elements.{All-filter, All-from_recursion}
+use Rattle.lw_facts.proofs.Tests.{no_stroke_at_end}
 use Rattle.lw_words.specs.Gathering.{IsInk, IsNoHash}
 use Rattle.lw_laws.specs.Names.{is_name_among, numbered_name, numbered_names, free_names, output_name, gate_names, net_names}
 use Rattle.lw_naming.proofs.FreeNames.{enough_free}
@@ -16,12 +17,9 @@ use Rattle.lw_words.specs.Words.{IsSignalName}
 
 -- Numbered names.
 
-stroke-last : (b : ℕ) → (b == 92) ≡ false → (nat_eq 92 b && true) ≡ false
-stroke-last b e = grind (arith, nat_tests)
-
 no-stroke : (word : List ℕ) → 0 < length word → Each IsGood word → ends_stroke word ≡ false
 no-stroke [] some each = absurd (omega arith)
-no-stroke (b ∷ []) some each = stroke-last b each.0.2
+no-stroke (b ∷ []) some each = no_stroke_at_end b each.0.2
 no-stroke (b ∷ c ∷ word) some each = stroke-behind b c word ∙ no-stroke (c ∷ word) (omega arith) each.1
 
 good-name : (word : List ℕ) → 0 < length word → length word ≤ 2000 → Each IsGood word → IsSignalName word

@@ -1,8 +1,8 @@
 -- There is no cover for the answer exactly where some root has none.
 use Rattle.std.proofs.Common.{◌≡◌, ◌↔◌, inl, inr, ℕ, Bool, List, Option, Some, Result, Ok, Err, Contains, slice_get, refl, sym, ◌∙◌, subst, arith}
-use Rattle.std.proofs.lemmas.Option.{get_or_from_slice_get}
+use Rattle.std.proofs.lemmas.Option.{get_or_from_slice_get, slice_get_within}
 use Rattle.lw_pool.specs.declared.id.NetId.{NetId}
-use Rattle.lw_laws.proofs.Lists.{slice_get_in, slice_get_some}
+use Rattle.lw_laws.proofs.Lists.{slice_get_some}
 use Rattle.lw_genlib.specs.Cells.{CellParts}
 use Rattle.lw_blif.specs.declared.parsed.Parsed.{Parsed}
 use Rattle.lw_top.specs.declared.refusal.Refusal.{Refusal}
@@ -21,7 +21,7 @@ use Rattle.lw_top.proofs.One.{library_one, model_read_one}
 use Rattle.lw_top.proofs.MapAnswers.{Lack, of_forms, of_splits, of_cover, by_lack}
 
 contained : (outputs : List NetId) (place : ℕ) (root : NetId) → slice_get outputs place ≡ Some root → Contains outputs root
-contained outputs place root at = (place, slice_get_in outputs place root at, get_or_from_slice_get outputs place root root at)
+contained outputs place root at = (place, slice_get_within outputs place root at, get_or_from_slice_get outputs place root root at)
 
 at_place : (outputs : List NetId) (root : NetId) → Contains outputs root → (place : ℕ) × (slice_get outputs place ≡ Some root)
 at_place outputs root (place, lt, is) =

@@ -4,6 +4,7 @@ use native.Mathlib.Decide.{ℕ_discrete}
 use Rattle.std.specs.List.Sorted.{IsPermutation}
 use Rattle.std.proofs.lemmas.List.Sorted.{Contains-permutation, IsPermutation-sym, length_permutation}
 use Rattle.std.proofs.lemmas.Option.{same_Some, slice_get-map}
+use Rattle.std.proofs.lemmas.Bool.{cases_lt}
 use Rattle.lw_trade.specs.declared.choices.Row.{Row}
 use Rattle.lw_trade.specs.Areas.{total}
 use Rattle.lw_trade.specs.Links.{IsLast}
@@ -14,7 +15,7 @@ use Rattle.lw_trade.specs.Rows.{plain_row, plain_rows}
 use Rattle.lw_trade.specs.Uses.{AreUses, turns_of}
 use Rattle.lw_trade.specs.declared.uses.Uses.{Uses}
 use Rattle.lw_trade.specs.Settling.{Queued, Waits, Turns, turns, Comes, AreGroupsAdded, AreInTime, IsLetWait, NoneComes}
-use Rattle.lw_trade.proofs.Lists.{get_in, below_or, read_at}
+use Rattle.lw_trade.proofs.Lists.{get_in, read_at}
 use Rattle.lw_trade.proofs.Stepping.{in_tail, in_cons, waits_back}
 
 -- The groups from a bound on come, and the next one is the last before it.
@@ -75,7 +76,7 @@ module _ (classes delays : List ℕ) (class time : ℕ) (old : Queued) where
       done g e le et bt within (yes f) =
           let same : d ≡ e = same_Some d e (sym at ∙ (ap (slice_get delays) (sym f) ∙ et)) in
           subst₂ (λ x y. Waits q' (time + x) y) same (sym f) (here.here (omega (arith, same, within, is.horizon)))
-      done g e le et bt within (no ne) = by_bound (below_or g is.bound)
+      done g e le et bt within (no ne) = by_bound (cases_lt g is.bound)
         where
           by_bound : (g < is.bound) ⊎ (is.bound ≤ g) → Waits q' (time + e) g
           by_bound (inl lt) = absurd (is.last.2 g (omega arith) lt bt)
@@ -85,7 +86,7 @@ module _ (classes delays : List ℕ) (class time : ℕ) (old : Queued) where
   adding_over q one_each is = record {
     horizon = is.horizon;
     kept = is.kept;
-    added = λ g d at bt le. by_bound g d at bt le (below_or g is.bound);
+    added = λ g d at bt le. by_bound g d at bt le (cases_lt g is.bound);
     only = is.only;
   }
     where

@@ -5,6 +5,7 @@ use Rattle.std.specs.List.Sorted.{IsPermutation}
 use Rattle.std.proofs.lemmas.List.{get_or_past, length-map}
 use Rattle.std.proofs.lemmas.List.Elements.{All-map}
 use Rattle.std.proofs.lemmas.Option.{get_or_from_slice_get, same_Some}
+use Rattle.std.proofs.lemmas.Bool.{cases_lt}
 use Rattle.lw_pool.specs.declared.id.CellId.{CellId}
 use Rattle.lw_pool.specs.declared.id.ClassId.{ClassId}
 use Rattle.lw_pool.specs.declared.id.NetId.{NetId}
@@ -31,7 +32,7 @@ use Rattle.lw_trade.specs.Walks.{IsUsed, IsWalk}
 use Rattle.lw_trade.specs.Walks.IsUsed.{by_root, by_pin as used_pin}
 use Rattle.lw_trade.proofs.Cells.{cell_in, pins_are}
 use Rattle.lw_trade.proofs.Grouped.{get_map, map_get}
-use Rattle.lw_trade.proofs.Lists.{at_contained, below_or, contained_at, get_in, get_some, got}
+use Rattle.lw_trade.proofs.Lists.{at_contained, contained_at, get_in, get_some, got}
 use Rattle.lw_trade.proofs.Lowest.{least_net}
 use Rattle.lw_trade.proofs.Moved.{placed_low, root_at, pin_count, moved_nodes, node_in, net_placed, pins_placed}
 use Rattle.lw_trade.proofs.Places.{order_length, order_low, stands_there}
@@ -180,7 +181,7 @@ module _ (s : Task) (t : Targets) (curves : CurveLists) (c : AreCurvesFor s t cu
     used_needed net (by_root has) =
         let (k, at) = contained_at nets net has in
         by_output (subst (λ l. Contains l (placed_net m places net)) (sym outputs_are) (at_contained (map (placed_net m places) nets) k (placed_net m places net) (get_map (placed_net m places) nets k net at)))
-    used_needed net (used_pin j used has) = by_row (contained_at (fanins_at graph j) net has) (used_needed (m + j) used) (below_or j (length graph))
+    used_needed net (used_pin j used has) = by_row (contained_at (fanins_at graph j) net has) (used_needed (m + j) used) (cases_lt j (length graph))
       where
         by_row : (k : ℕ) × (slice_get (fanins_at graph j) k ≡ Some net) → IsNeeded (output_nets n) (plain n) (placed_net m places (m + j)) → (j < length graph) ⊎ (length graph ≤ j) → IsNeeded (output_nets n) (plain n) (placed_net m places net)
         by_row (k, at) needed (inl lt) =
@@ -209,7 +210,7 @@ module _ (s : Task) (t : Targets) (curves : CurveLists) (c : AreCurvesFor s t cu
           let low : i < length graph = (let f = node_low j i it in omega (arith, f, walk.one_row)) in
           let deep = get_or_from_slice_get depths (n.inputs + j) (1 + greatest_depth depths (made_gate i).pins) 0 (are.gates j (made_gate i) (gate_there j i it)) in
           let own = (by.are.known.placed i low (walk_high s t curves c nodes t.roots t.times cells graph nets walk by.heights by.are i low)).height in
-          let all = tallest_same m places depths by.heights (fanins_at graph i) (λ k d kt. fanin_same (λ p lp ip. same_heights b p lp ip) (slice_index_or (fanins_at graph i) k d) (walk_graph s t curves c nodes t.roots t.times cells graph nets walk i k d kt) (pins_before j i it k d kt) (below_or (slice_index_or (fanins_at graph i) k d) m)) in
+          let all = tallest_same m places depths by.heights (fanins_at graph i) (λ k d kt. fanin_same (λ p lp ip. same_heights b p lp ip) (slice_index_or (fanins_at graph i) k d) (walk_graph s t curves c nodes t.roots t.times cells graph nets walk i k d kt) (pins_before j i it k d kt) (cases_lt (slice_index_or (fanins_at graph i) k d) m)) in
           omega (arith, deep, own, all)
         where
           fanin_same : ((p : ℕ) → p < b → p < length order → 1 + slice_index_or depths (n.inputs + p) 0 ≡ height_at by.heights (m + slice_index_or order p 0)) → (net : ℕ) → net < m + length graph → placed_net m places net < m + j → (net < m) ⊎ (m ≤ net) → 1 + slice_index_or depths (placed_net m places net) 0 ≡ height_at by.heights net

@@ -2,9 +2,10 @@
 use Rattle.std.proofs.Common.{◌≡◌, ℕ, zero, suc, ◌+◌, ◌-◌, ◌<◌, ◌≤◌, ◌⊎◌, inl, inr, Bool, true, false, nat_le, length, List, Some, slice_get, slice_index_or, sym, ◌∙◌, subst, arith}
 use Rattle.std.specs.List.Sorted.{IsPartitionedBy, IsPartitionPoint}
 use Rattle.std.proofs.lemmas.Option.{same_Some}
+use Rattle.std.proofs.lemmas.Bool.{cases_lt}
 use Rattle.lw_trade.specs.declared.point.Point.{Point}
 use Rattle.lw_trade.specs.Lasts.{ArePointsRising, IsLastIn}
-use Rattle.lw_trade.proofs.Lists.{below_or, get_in, got}
+use Rattle.lw_trade.proofs.Lists.{get_in, got}
 
 abbrev pub is_by : ℕ → Point → Bool
 is_by by p = nat_le p.time.0 by
@@ -19,7 +20,7 @@ too_late : (a b : ℕ) → nat_le a b ≡ false → b < a
 too_late a b e = grind (arith, e)
 
 pub rising_partitioned : (ps : List Point) (by : ℕ) → ArePointsRising ps → IsPartitionedBy (is_by by) ps
-rising_partitioned ps by rising i j d le lt e = by_place (below_or i j)
+rising_partitioned ps by rising i j d le lt e = by_place (cases_lt i j)
   where
     here : (k : ℕ) → k < length ps → slice_get ps k ≡ Some (slice_index_or ps k d)
     here k l = got ps k d l
@@ -35,7 +36,7 @@ rising_partitioned ps by rising i j d le lt e = by_place (below_or i j)
 
 module _ (ps : List Point) (delay time by count : ℕ) (split : by + delay ≡ time) (point : IsPartitionPoint (λ p. is_by by p ≡ true) (λ p. is_by by p ≡ false) ps count) where
   below_count : (j : ℕ) (q : Point) → slice_get ps j ≡ Some q → q.time.0 + delay ≤ time → j < count
-  below_count j q at le = by_place (below_or j count)
+  below_count j q at le = by_place (cases_lt j count)
     where
       lt : j < length ps
       lt = get_in ps j q at

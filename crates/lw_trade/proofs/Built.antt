@@ -2,6 +2,7 @@
 use Rattle.std.proofs.Common.{◌≡◌, ℕ, zero, suc, ◌+◌, ◌<◌, ◌≤◌, inl, inr, min, map, length, List, [], ◌∷◌, ◌++◌, Some, slice_get, slice_index_or, refl, ap, sym, ◌∙◌, subst, subst₂, arith}
 use Rattle.std.specs.List.{AllZip}
 use Rattle.std.proofs.lemmas.Option.{same_Some}
+use Rattle.lw_facts.proofs.Lists.{index_at}
 use Rattle.lw_laws.specs.Costs.{cost_of, costs_of}
 use Rattle.lw_laws.specs.Covers.{Cover, Covers, tree_of, latest, start_of, delays_of, time_of, times_of}
 use Rattle.lw_laws.specs.Covers.Cover.{wire, gate}
@@ -38,9 +39,6 @@ index_right [] (z ∷ ys) (suc k) zero y e at = absurd (omega arith)
 index_right [] (z ∷ ys) (suc k) (suc j) y e at = index_right [] ys k j y (omega arith) at
 index_right (x ∷ xs) ys zero j y e at = absurd (omega arith)
 index_right (x ∷ xs) ys (suc k) j y e at = index_right xs ys k j y (omega arith) at
-
-pub got_at : (xs : List ℕ) (i x : ℕ) → slice_get xs i ≡ Some x → slice_index_or xs i 0 ≡ x
-got_at xs i x at = same_Some (slice_index_or xs i 0) x (sym (got xs i 0 (get_in xs i x at)) ∙ at)
 
 module _ (s : Task) (choices : List Choice) (are : AreListedChoices s choices) (held : List Held) (backed : AreBacked s choices held) (nodes : List Held) (n : Netlist) (built : IsBuilt s choices held nodes n) where
   -- what the choice of a point gives
@@ -95,7 +93,7 @@ module _ (s : Task) (choices : List Choice) (are : AreListedChoices s choices) (
   class_is : (h : Held) (net : ℕ) → IsHeld held h → IsNetOfPoint s nodes h net → class_at net ≡ h.spot.class
   unfolding class_at
   class_is h net in' (inl (leaf, start)) =
-      index_left s.graph.leaves (map (λ (h : Held). h.spot.class) nodes) net (get_in s.graph.leaves net h.spot.class leaf) ∙ got_at s.graph.leaves net h.spot.class leaf
+      index_left s.graph.leaves (map (λ (h : Held). h.spot.class) nodes) net (get_in s.graph.leaves net h.spot.class leaf) ∙ index_at s.graph.leaves net h.spot.class leaf
   class_is h net in' (inr (none, j, at, e)) =
       index_right s.graph.leaves (map (λ (h : Held). h.spot.class) nodes) net j h.spot.class e (get_map (λ (h : Held). h.spot.class) nodes j h at)
 

@@ -9,6 +9,7 @@ use Rattle.lw_fixed.specs.declared.micro.Micro.{Micro}
 use Rattle.lw_genlib.specs.Tables.{millionths}
 use Rattle.lw_dag.specs.Graphs.{fanins_at}
 use Rattle.std.specs.Global.{Vec}
+use Rattle.std.proofs.lemmas.Bool.{cases_lt}
 use Rattle.lw_trade.specs.declared.found.Way.{Way}
 use Rattle.lw_trade.specs.declared.point.Point.{Point}
 use Rattle.lw_trade.specs.declared.walking.Node.{Node}
@@ -23,7 +24,7 @@ use Rattle.lw_trade.specs.Walks.{AreInputsTo, HaveRootNets, IsUsed, IsWalk}
 use Rattle.lw_trade.specs.Walks.IsUsed.{by_root, by_pin}
 use Rattle.lw_trade.proofs.Cells.{delays_are}
 use Rattle.lw_trade.proofs.Grouped.{get_map, map_get}
-use Rattle.lw_trade.proofs.Lists.{at_contained, below_or, get_in}
+use Rattle.lw_trade.proofs.Lists.{at_contained, get_in}
 use Rattle.lw_trade.proofs.Placed.{placed_last}
 use Rattle.lw_pool.specs.Numbers.{numbers}
 
@@ -146,7 +147,7 @@ module _ (s : Task) (curves : CurveLists) (ways : HaveWays s curves) (starts : (
 
     -- a point has one place
     place_once : (row : List Held) → ((i j : ℕ) (g h : Held) → i < j → slice_get row i ≡ Some g → slice_get row j ≡ Some h → g.spot.time < h.spot.time) → (h : Held) (i j : ℕ) → slice_get row i ≡ Some h → slice_get row j ≡ Some h → i ≡ j
-    place_once row rising h i j it jt = by_order (below_or i j) (below_or j i)
+    place_once row rising h i j it jt = by_order (cases_lt i j) (cases_lt j i)
       where
         by_order : (i < j) ⊎ (j ≤ i) → (j < i) ⊎ (i ≤ j) → i ≡ j
         by_order (inl lt) y = let t = rising i j h h lt it jt in absurd (omega (arith, t))

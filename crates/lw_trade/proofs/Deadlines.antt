@@ -1,11 +1,12 @@
 -- The last point by a time has the least area of the covers that arrive by then.
 use Rattle.std.proofs.Common.{◌≡◌, ℕ, ◌<◌, ◌≤◌, ◌⊎◌, inl, inr, List, Contains, Some, None, slice_get, sym, ap, ◌∙◌, subst, arith}
 use Rattle.std.proofs.lemmas.Option.{same_Some}
+use Rattle.std.proofs.lemmas.Bool.{cases_lt}
 use Rattle.lw_laws.specs.Covers.{Cover}
 use Rattle.lw_trade.specs.declared.point.Point.{Point}
 use Rattle.lw_trade.specs.Lasts.{ArePointsRising, IsLastIn, IsLastPlace}
 use Rattle.lw_trade.specs.Points.{Task, IsCoverBy, area_of, IsLeastAreaBy, IsPoint, AreCurves, BoundCovers}
-use Rattle.lw_trade.proofs.Lists.{below_or, contained_at, at_contained}
+use Rattle.lw_trade.proofs.Lists.{contained_at, at_contained}
 
 module _ (s : Task) (horizon : ℕ) (curves : List (List Point)) (are : AreCurves s horizon curves) (bound : BoundCovers s horizon curves) (c d : ℕ) (row : List Point) (at : slice_get curves c ≡ Some row) (within : d ≤ horizon) where
   -- a point of the row that is no later than a cover and has no more area
@@ -34,7 +35,7 @@ module _ (s : Task) (horizon : ℕ) (curves : List (List Point)) (are : AreCurve
             let (q, in', le, la) = point_below k by' in
             let (j, qt) = contained_at row q in' in
             let no_later = is.last j q qt (omega (arith, le)) in
-            let a = no_less q j qt point ((are.each c row at).are.each q in').0 (omega (arith, no_later)) (below_or j place) in
+            let a = no_less q j qt point ((are.each c row at).are.each q in').0 (omega (arith, no_later)) (cases_lt j place) in
             omega (arith, a, la),
       )
     where

@@ -2,6 +2,7 @@
 use Rattle.std.proofs.Common.{◌≡◌, ℕ, ◌+◌, ◌<◌, ◌≤◌, ◌⊎◌, inl, inr, min, map, length, List, [], ◌∷◌, Some, slice_get, refl, ap, sym, ◌∙◌, subst, subst₂, arith}
 use Rattle.std.specs.List.{AllZip}
 use Rattle.std.proofs.lemmas.Option.{same_Some}
+use Rattle.std.proofs.lemmas.Bool.{cases_lt}
 use Rattle.lw_laws.specs.Graphs.{PairsInOneClass, Unfolds}
 use Rattle.lw_laws.specs.Costs.{cost_of}
 use Rattle.lw_laws.specs.Choices.{HasCost, HaveCosts}
@@ -19,7 +20,6 @@ use Rattle.lw_trade.specs.Choices.Part.{input, gate}
 use Rattle.lw_trade.specs.Settling.{Spot, spot, Has, HasAtMost, AreApart, IsSpotOf, times, areas, time_in, area_in, joint_cost, IsReached, AreSettled}
 use Rattle.lw_graph.specs.Graphs.{IsGraph}
 use Rattle.lw_trade.proofs.InRange.{cost_in}
-use Rattle.lw_trade.proofs.Lists.{below_or}
 use Rattle.lw_trade.proofs.Joint.{joint_time, joint_area, joint_cover_time, joint_cover_area}
 
 pub spot_same : (l : Spot) (c t a : ℕ) → l.class ≡ c → l.time ≡ t → l.area ≡ a → l ≡ spot c t a
@@ -84,7 +84,7 @@ module _ (s : Task) (is_graph : IsGraph s.graph) (choices : List Choice) (are : 
 
     -- of two points of a class the earlier has no less area, and more where it is another
     falls : (k l : Spot) → Has spots k → Has spots l → k.class ≡ l.class → l.time ≤ k.time → (k ≡ l) ⊎ ((l.time < k.time) × (k.area < l.area))
-    falls k l (i, at) (j, bt) e le = by_place (below_or i j) (below_or j i)
+    falls k l (i, at) (j, bt) e le = by_place (cases_lt i j) (cases_lt j i)
       where
         by_place : (i < j) ⊎ (j ≤ i) → (j < i) ⊎ (i ≤ j) → (k ≡ l) ⊎ ((l.time < k.time) × (k.area < l.area))
         by_place (inl lt) y = let (t, a) = apart i j k l lt at bt e in absurd (omega arith)
@@ -138,7 +138,7 @@ module _ (s : Task) (is_graph : IsGraph s.graph) (choices : List Choice) (are : 
         let o_time = by'.in_time in
         let low = least other (record { is_cover = by'.is_cover; unfolds = subst (λ x. Unfolds s.graph (tree_of other) x) e by'.unfolds; in_time = omega arith }) in
         let same : l.area ≡ p.area = omega arith in
-        by_time l has e same (omega arith) (below_or l.time p.time.0)
+        by_time l has e same (omega arith) (cases_lt l.time p.time.0)
       where
         by_time : (l : Spot) → Has spots l → l.class ≡ c → l.area ≡ p.area → l.time ≤ p.time.0 → (l.time < p.time.0) ⊎ (p.time.0 ≤ l.time) → Has spots (spot c p.time.0 p.area)
         by_time l has e same le (inl lt) =

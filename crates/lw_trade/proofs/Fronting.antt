@@ -2,13 +2,14 @@
 use Rattle.std.proofs.Common.{◌≡◌, ◌≢◌, ℕ, zero, suc, ◌+◌, ◌<◌, ◌≤◌, ◌⊎◌, inl, inr, length, map, List, [], ◌∷◌, ◌++◌, Some, None, slice_get, slice_set, refl, ap, sym, ◌∙◌, subst, subst₂, arith}
 use native.Mathlib.Decide.{ℕ_discrete}
 use Rattle.std.proofs.lemmas.Option.{same_Some}
+use Rattle.std.proofs.lemmas.Bool.{cases_lt}
 use Rattle.lw_trade.specs.declared.found.Found.{Found}
 use Rattle.lw_trade.specs.Areas.{most_area}
 use Rattle.lw_trade.specs.Links.{IsLast}
 use Rattle.lw_trade.specs.Backing.{Held, IsHeld, IsHeldGained, spot_in}
 use Rattle.lw_trade.specs.Fronts.{spots_of, held_at, held_of, IsLastAt, IsLeastOf, IsLeastSpot}
 use Rattle.lw_trade.specs.Settling.{Spot, spot, Has, AreApart, HasAtMost, IsGained}
-use Rattle.lw_trade.proofs.Lists.{get_in, get_last, get_push, push_cases, get_set, get_set_other, set_cases, below_or}
+use Rattle.lw_trade.proofs.Lists.{get_in, get_last, get_push, push_cases, get_set, get_set_other, set_cases}
 
 pub spots_push : (cs : List ℕ) (ps : List Found) (c : ℕ) (p : Found) → length ps ≡ length cs → spots_of (cs ++ c ∷ []) (ps ++ p ∷ []) ≡ spots_of cs ps ++ spot c p.time.0 p.area ∷ []
 spots_push [] [] c p e = refl
@@ -159,7 +160,7 @@ module _ (cs : List ℕ) (ps : List Found) (c time : ℕ) where
     where
       by_place : (k : Spot) (j : ℕ) → next < j → slice_get (spots_of cs ps) j ≡ Some k → k.class ≡ c → k.time ≤ time → Dec (j ≡ place) → ⊥
       by_place k j after here e by (yes same) = not_here place p seeking.at bt lt k (ap (slice_get (spots_of cs ps)) (sym same) ∙ here) by
-      by_place k j after here e by (no ne) = before (below_or j place)
+      by_place k j after here e by (no ne) = before (cases_lt j place)
         where
           before : (j < place) ⊎ (place ≤ j) → ⊥
           before (inl l) = none j (omega arith) l (spot_class cs ps j k here ∙ ap Some e)
@@ -183,7 +184,7 @@ module _ (cs : List ℕ) (ps : List Found) (c time : ℕ) where
     where
       by_place : Dec (j ≡ place) → ⊥
       by_place (yes same) = not_here place p seeking.at bt lt k (ap (slice_get (spots_of cs ps)) (sym same) ∙ here) by
-      by_place (no ne) = before (below_or j place)
+      by_place (no ne) = before (cases_lt j place)
         where
           before : (j < place) ⊎ (place ≤ j) → ⊥
           before (inl l) = none j (omega arith) l (spot_class cs ps j k here ∙ ap Some e)
@@ -200,7 +201,7 @@ module _ (cs : List ℕ) (ps : List Found) (c time : ℕ) where
           let s = same_Some (spot c p.time.0 p.area) k (sym here ∙ (ap (slice_get (spots_of cs ps)) (sym same) ∙ kt)) in
           let a = ap (λ (z : Spot). z.area) s in
           omega arith
-      least k j kt e by (no ne) = before (below_or j place)
+      least k j kt e by (no ne) = before (cases_lt j place)
         where
           before : (j < place) ⊎ (place ≤ j) → p.area ≤ k.area
           before (inl l) = let (t, a) = apart j place k (spot c p.time.0 p.area) l kt here e in omega arith
@@ -243,7 +244,7 @@ last_before cs ps c time place q apart late (lt, at, none) bt ne k (j, kt) e = b
         let s = same_Some (spot c q.time.0 q.area) k (sym here ∙ (ap (slice_get (spots_of cs ps)) (sym same) ∙ kt)) in
         let t = ap (λ (z : Spot). z.time) s in
         omega (arith, t, earlier)
-    by_place (no ne) = before (below_or j place)
+    by_place (no ne) = before (cases_lt j place)
       where
         before : (j < place) ⊎ (place ≤ j) → k.time < time
         before (inl l) = let (t, a) = apart j place k (spot c q.time.0 q.area) l kt here e in omega (arith, t, earlier)

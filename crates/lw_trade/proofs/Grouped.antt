@@ -4,6 +4,7 @@ use Rattle.std.specs.List.{slice_range}
 use Rattle.std.proofs.Math.Seq.{drop-append-add, take-append_seam}
 use Rattle.std.proofs.lemmas.List.{reverse-append, length-append, length-map}
 use Rattle.std.proofs.lemmas.Option.{same_Some}
+use Rattle.std.proofs.lemmas.Bool.{cases_lt}
 use native.Mathlib.Decide.{ℕ_discrete}
 use Rattle.lw_trade.specs.declared.found.Found.{Found}
 use Rattle.lw_trade.specs.declared.found.Way.{Way}
@@ -15,7 +16,7 @@ use Rattle.lw_trade.specs.Links.{IsLast}
 use Rattle.lw_trade.specs.Settling.{Spot, spot, Has, AreApart}
 use Rattle.lw_trade.proofs.Backed.{map_has}
 use Rattle.lw_trade.proofs.Fronting.{held_class, held_get, held_spot}
-use Rattle.lw_trade.proofs.Lists.{get_in, below_or, contained_at, at_contained}
+use Rattle.lw_trade.proofs.Lists.{get_in, contained_at, at_contained}
 
 -- The points of the class at the places from a bound on.
 pub record IsRowFrom (held : List Held) (c bound : ℕ) (row : List Held) : Type 0 where
@@ -72,7 +73,7 @@ module _ (cs : List ℕ) (ps : List Found) (c : ℕ) (points : List Point) (ways
 
       all : (i : ℕ) (h : Held) → place ≤ i → slice_get (held_of cs ps) i ≡ Some h → h.spot.class ≡ c → Dec (i ≡ place) → IsHeld (held_at c found ∷ is.row) h
       all i h le at e (yes f) = (0, sym here ∙ (ap (slice_get (held_of cs ps)) (sym f) ∙ at))
-      all i h le at e (no ne) = by_bound (below_or i is.bound)
+      all i h le at e (no ne) = by_bound (cases_lt i is.bound)
         where
           by_bound : (i < is.bound) ⊎ (is.bound ≤ i) → IsHeld (held_at c found ∷ is.row) h
           by_bound (inl lt) = absurd (is.last.2 i (omega arith) lt (held_class cs ps i h at ∙ ap Some e))
@@ -94,7 +95,7 @@ module _ (cs : List ℕ) (ps : List Found) (c : ℕ) (points : List Point) (ways
     row = is.row;
     is = record {
       each = λ h in'. let (i, le, at, e) = is.is.each h in' in ((i, at), e);
-      all = λ h (i, at) e. by_bound h i at e (below_or i is.bound);
+      all = λ h (i, at) e. by_bound h i at e (cases_lt i is.bound);
       rising = is.is.rising;
     };
     points_are = is.points_are;

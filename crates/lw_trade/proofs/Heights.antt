@@ -1,10 +1,11 @@
 -- No cycle is behind a point: its pins' points come before it.
 use Rattle.std.proofs.Common.{◌≡◌, ℕ, zero, suc, ◌+◌, ◌<◌, ◌≤◌, ◌⊎◌, inl, inr, length, List, [], ◌∷◌, Some, slice_get, ap, sym, ◌∙◌, subst, arith}
+use Rattle.std.proofs.lemmas.Bool.{cases_lt}
 use Rattle.lw_dag.specs.Graphs.{AreHeights, fanins_at, height_at}
 use Rattle.lw_trade.specs.Backing.{Held, IsHeld, IsBefore}
 use Rattle.lw_trade.specs.Points.{Task}
 use Rattle.lw_trade.specs.Trades.{IsLastBy, IsNetOfPoint, HavePinNets, HaveLastPins}
-use Rattle.lw_trade.proofs.Lists.{below_or, contained_at, get_in, get_some}
+use Rattle.lw_trade.proofs.Lists.{contained_at, get_in, get_some}
 
 -- a last point by the same time is no later than another
 last_time : (held : List Held) (c d t : ℕ) (k l : Held) → IsLastBy held c d t k → IsLastBy held c d t l → k.spot.time ≤ l.spot.time
@@ -49,7 +50,7 @@ module _ (s : Task) (held nodes : List Held) (graph : List (List ℕ)) (one_row 
   IsHigh j = 0 < height_at heights (m + j)
 
   step : (h : Held) (j : ℕ) → slice_get nodes j ≡ Some h → ((l : Held) (i : ℕ) → slice_get nodes i ≡ Some l → IsBefore l h → IsHigh i) → IsHigh j
-  step h j at rest = by_height (below_or 0 (height_at heights (m + j)))
+  step h j at rest = by_height (cases_lt 0 (height_at heights (m + j)))
     where
       low : j < length graph
       low = let lt = get_in nodes j h at in omega (arith, lt, one_row)

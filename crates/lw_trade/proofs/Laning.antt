@@ -6,8 +6,8 @@ use Rattle.std.proofs.lemmas.List.Sorted.{IsPermutation-refl, IsPermutation-tran
 use Rattle.std.proofs.lemmas.List.{append_assoc, append-nil, take_more}
 use Rattle.std.proofs.lemmas.List.Elements.{All-append, Contains-append_left, Contains-append_right}
 use Rattle.std.proofs.lemmas.Option.{same_Some}
+use Rattle.std.proofs.lemmas.Bool.{cases_lt}
 use Rattle.lw_trade.specs.Queues.{Item, IsLane, IsMostLeft, HaveLess, flat}
-use Rattle.lw_trade.proofs.Lists.{below_or}
 
 pub lane_rest : (xs ys : List Item) (x : Item) (last : ℕ) → xs ≡ x ∷ ys → IsLane xs last → IsLane ys last
 lane_rest xs ys x last e is = record {
@@ -42,7 +42,7 @@ flat_snoc (l ∷ ls) lane = ap (λ xs. l ++ xs) (flat_snoc ls lane) ∙ sym (app
 
 -- the most that is left of two lists
 pub most_both : (xs ys : List Item) (a b m : ℕ) → m ≡ max a b → IsMostLeft xs (Some a) → IsMostLeft ys (Some b) → IsMostLeft (xs ++ ys) (Some m)
-most_both xs ys a b m e ((x, xt, xe), xall) ((y, yt, ye), yall) = (by_case (below_or a b), All-append (λ (z : Item). z.0 ≤ m) xs ys (λ k d lt. let le = xall k d lt in omega arith) (λ k d lt. let le = yall k d lt in omega arith))
+most_both xs ys a b m e ((x, xt, xe), xall) ((y, yt, ye), yall) = (by_case (cases_lt a b), All-append (λ (z : Item). z.0 ≤ m) xs ys (λ k d lt. let le = xall k d lt in omega arith) (λ k d lt. let le = yall k d lt in omega arith))
   where
     by_case : (a < b) ⊎ (b ≤ a) → (z : Item) × Contains (xs ++ ys) z × (z.0 ≡ m)
     by_case (inl lt) = (y, Contains-append_right xs ys y yt, omega arith)

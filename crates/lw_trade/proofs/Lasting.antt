@@ -2,6 +2,7 @@
 use Rattle.std.proofs.Common.{◌≡◌, ℕ, zero, suc, ◌+◌, ◌<◌, ◌≤◌, ◌⊎◌, inl, inr, min, length, List, [], ◌∷◌, Some, slice_get, refl, ap, sym, ◌∙◌, subst, arith}
 use Rattle.std.specs.List.{AllZip}
 use Rattle.std.proofs.lemmas.Option.{same_Some}
+use Rattle.std.proofs.lemmas.Bool.{cases_lt}
 use native.Mathlib.Decide.{ℕ_discrete}
 use Rattle.lw_laws.specs.Covers.{latest, delays_of}
 use Rattle.lw_laws.proofs.Delays.{length-delays_of}
@@ -14,7 +15,7 @@ use Rattle.lw_trade.specs.Points.{Task, timing, AreCurves}
 use Rattle.lw_trade.specs.Trades.{IsLastBy, HaveLastPins, PinsComeBefore}
 use Rattle.lw_trade.proofs.Built.{held_point, held_falls}
 use Rattle.lw_trade.proofs.Joint.{area_low}
-use Rattle.lw_trade.proofs.Lists.{below_or, get_some}
+use Rattle.lw_trade.proofs.Lists.{get_some}
 
 -- one of them comes by the time, and then a last one does
 module _ (c d t : ℕ) where
@@ -55,7 +56,7 @@ module _ (c d t : ℕ) where
 
   last_or_none : (xs : List Held) → ((l : Held) × IsLastBy xs c d t l) ⊎ None-by xs
   last_or_none [] = inr (λ k (i, at) e le. cc)
-  last_or_none (x ∷ xs) = by_class (ℕ_discrete x.spot.class c) (below_or t (x.spot.time + d)) (last_or_none xs)
+  last_or_none (x ∷ xs) = by_class (ℕ_discrete x.spot.class c) (cases_lt t (x.spot.time + d)) (last_or_none xs)
     where
       by_class : Dec (x.spot.class ≡ c) → (t < x.spot.time + d) ⊎ (x.spot.time + d ≤ t) → ((l : Held) × IsLastBy xs c d t l) ⊎ None-by xs → ((l : Held) × IsLastBy (x ∷ xs) c d t l) ⊎ None-by (x ∷ xs)
       by_class (no ne) late (inl (l, is)) = inl (l, last_other x xs l (λ e le. absurd (ne e)) is)
@@ -63,7 +64,7 @@ module _ (c d t : ℕ) where
       by_class (yes e) (inl late) (inl (l, is)) = inl (l, last_other x xs l (λ f le. absurd (omega (arith, late, le))) is)
       by_class (yes e) (inl late) (inr none) = inr (none_more x xs (λ f le. absurd (omega (arith, late, le))) none)
       by_class (yes e) (inr le) (inr none) = inl (x, last_here x xs e le (λ k in' f by. absurd (none k in' f by)))
-      by_class (yes e) (inr le) (inl (l, is)) = by_time (below_or x.spot.time l.spot.time)
+      by_class (yes e) (inr le) (inl (l, is)) = by_time (cases_lt x.spot.time l.spot.time)
         where
           by_time : (x.spot.time < l.spot.time) ⊎ (l.spot.time ≤ x.spot.time) → ((l : Held) × IsLastBy (x ∷ xs) c d t l) ⊎ None-by (x ∷ xs)
           by_time (inl lt) = inl (l, last_other x xs l (λ f by. omega (arith, lt)) is)
@@ -87,7 +88,7 @@ module _ (s : Task) (horizon : ℕ) (curves : CurveLists) (ways : HaveWays s cur
       let none : ◌≡◌ {A = ℕ} (0 + k.spot.class) k.spot.class = omega arith in
       let (i, kt) = (rows.are.each k.spot.class row at).all k in' (sym none) in
       let (j, lt) = (rows.are.each k.spot.class row at).all l also (sym e ∙ sym none) in
-      by_place row (rows.are.each k.spot.class row at).rising i j kt lt (below_or i j) (below_or j i)
+      by_place row (rows.are.each k.spot.class row at).rising i j kt lt (cases_lt i j) (cases_lt j i)
     where
       by_place : (row : List Held) → ((i j : ℕ) (g h : Held) → i < j → slice_get row i ≡ Some g → slice_get row j ≡ Some h → g.spot.time < h.spot.time) → (i j : ℕ) → slice_get row i ≡ Some k → slice_get row j ≡ Some l → (i < j) ⊎ (j ≤ i) → (j < i) ⊎ (i ≤ j) → k ≡ l
       by_place row rising i j kt lt (inl less) y = let b = rising i j k l less kt lt in absurd (omega (arith, b, t))
@@ -108,7 +109,7 @@ module _ (s : Task) (horizon : ℕ) (curves : CurveLists) (ways : HaveWays s cur
   last_before : (h k l : Held) (p d : ℕ) → IsPinOf ways.held h p k → k.spot.area ≤ h.spot.area → k.spot.time + d ≤ h.spot.time → IsLastBy ways.held p d h.spot.time l → IsBefore l h
   last_before h k l p d (in', e, is) low by last = record {
     no_later = let le = last.in_time in omega (arith, le);
-    less = by_case is.less (below_or k.spot.time l.spot.time) (below_or l.spot.time h.spot.time);
+    less = by_case is.less (cases_lt k.spot.time l.spot.time) (cases_lt l.spot.time h.spot.time);
   }
     where
       class : k.spot.class ≡ l.spot.class

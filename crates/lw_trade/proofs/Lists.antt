@@ -3,15 +3,6 @@ use Rattle.std.proofs.Common.{◌≡◌, ◌≢◌, ℕ, zero, suc, ◌+◌, ◌
 use Rattle.std.proofs.lemmas.Option.{same_Some}
 use Rattle.lw_trade.specs.Areas.{total}
 
-pub below_or : (i j : ℕ) → (i < j) ⊎ (j ≤ i)
-below_or i zero = inr (omega arith)
-below_or zero (suc j) = inl (omega arith)
-below_or (suc i) (suc j) = shift (below_or i j)
-  where
-    shift : (i < j) ⊎ (j ≤ i) → (suc i < suc j) ⊎ (suc j ≤ suc i)
-    shift (inl lt) = inl (omega arith)
-    shift (inr le) = inr (omega arith)
-
 module _ {X : Type 0} where
   pub get_in : (xs : List X) (i : ℕ) (x : X) → slice_get xs i ≡ Some x → i < length xs
   get_in [] i x e = cc

@@ -2,11 +2,12 @@
 use Rattle.std.proofs.Common.{◌≡◌, ℕ, ◌<◌, ◌≤◌, ◌⊎◌, inl, inr, length, List, Some, None, slice_get, refl, ap, sym, ◌∙◌, subst, arith}
 use native.Mathlib.Decide.{ℕ_discrete}
 use Rattle.std.proofs.lemmas.Option.{same_Some}
+use Rattle.std.proofs.lemmas.Bool.{cases_lt}
 use Rattle.lw_trade.specs.Choices.{Choice}
 use Rattle.lw_trade.specs.Links.{IsLast}
 use Rattle.lw_trade.specs.Points.{Task}
 use Rattle.lw_trade.specs.Settling.{Spot, Queued, Waits, GivesNoMoreSeen, IsGroupLookedAt, IsLookedAt}
-use Rattle.lw_trade.proofs.Lists.{get_in, below_or}
+use Rattle.lw_trade.proofs.Lists.{get_in}
 
 -- Those at the places from a bound on were looked at.
 pub record IsLooking (s : Task) (choices : List Choice) (spots : List Spot) (unseen : ℕ → Type 0) (groups owners : List ℕ) (old q : Queued) (time group bound : ℕ) : Type 0 where
@@ -45,7 +46,7 @@ module _ (s : Task) (choices : List Choice) (spots : List Spot) (unseen : ℕ �
       done j n le jt nt (yes e) =
           let same : number ≡ n = same_Some number n (sym at ∙ (ap (slice_get owners) (sym e) ∙ nt)) in
           subst (λ m. Waits q' time m ⊎ GivesNoMoreSeen s choices spots unseen time m) same looked.done
-      done j n le jt nt (no ne) = by_bound (below_or j bound)
+      done j n le jt nt (no ne) = by_bound (cases_lt j bound)
         where
           by_bound : (j < bound) ⊎ (bound ≤ j) → Waits q' time n ⊎ GivesNoMoreSeen s choices spots unseen time n
           by_bound (inl lt) = absurd (last.2 j (omega arith) lt jt)
@@ -56,7 +57,7 @@ module _ (s : Task) (choices : List Choice) (spots : List Spot) (unseen : ℕ �
     horizon = is.horizon;
     kept = is.kept;
     only = is.only;
-    done = λ j n jt nt. by_bound j n jt nt (below_or j bound);
+    done = λ j n jt nt. by_bound j n jt nt (cases_lt j bound);
   }
     where
       by_bound : (j n : ℕ) → slice_get groups j ≡ Some group → slice_get owners j ≡ Some n → (j < bound) ⊎ (bound ≤ j) → Waits q time n ⊎ GivesNoMoreSeen s choices spots unseen time n

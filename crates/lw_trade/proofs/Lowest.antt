@@ -1,5 +1,6 @@
 -- The last point of a class by a time has the least area of the covers that arrive by then.
 use Rattle.std.proofs.Common.{◌≡◌, ℕ, zero, suc, ◌+◌, ◌<◌, ◌≤◌, ◌⊎◌, inl, inr, map, length, List, slice_get, refl, ap, sym, ◌∙◌, subst, arith}
+use Rattle.std.proofs.lemmas.Bool.{cases_lt}
 use Rattle.lw_laws.specs.Covers.{Cover, time_of, tree_of}
 use Rattle.lw_laws.specs.Graphs.{Unfolds}
 use Rattle.lw_laws.specs.Netlists.{Netlist}
@@ -11,7 +12,7 @@ use Rattle.lw_trade.specs.Traded.{HasLeastAreaBy}
 use Rattle.lw_trade.specs.Trades.{IsLastBy, IsNetOfPoint, IsBuilt}
 use Rattle.lw_trade.proofs.Built.{built_nets, held_point}
 use Rattle.lw_trade.proofs.Grouped.{map_get}
-use Rattle.lw_trade.proofs.Lists.{below_or, contained_at, get_some}
+use Rattle.lw_trade.proofs.Lists.{contained_at, get_some}
 
 module _ (s : Task) (horizon : ℕ) (curves : CurveLists) (ways : HaveWays s curves) (are : AreCurves s horizon curves.points) where
   -- a point of a class is among those that are held
@@ -56,9 +57,9 @@ module _ (s : Task) (horizon : ℕ) (curves : CurveLists) (ways : HaveWays s cur
       point small = record {
         least = (
           (k, record { is_cover = by.is_cover; unfolds = by.unfolds; in_time = omega arith }, refl),
-          λ k' by'. least small k' by' (below_or (area_of s k') (area_of s k)),
+          λ k' by'. least small k' by' (cases_lt (area_of s k') (area_of s k)),
         );
-        falls = λ time' area' earlier ((k', by', same), low'). falls small time' area' earlier k' by' same (below_or (area_of s k) area') (below_or (area_of s k') (area_of s k));
+        falls = λ time' area' earlier ((k', by', same), low'). falls small time' area' earlier k' by' same (cases_lt (area_of s k) area') (cases_lt (area_of s k') (area_of s k));
       }
 
       by_area : (area_of s k < l.spot.area) ⊎ (l.spot.area ≤ area_of s k) → l.spot.area ≤ area_of s k
@@ -71,7 +72,7 @@ module _ (s : Task) (horizon : ℕ) (curves : CurveLists) (ways : HaveWays s cur
           by_point.least.1 k (record { is_cover = by.is_cover; unfolds = by.unfolds; in_time = omega (arith, when, no_later) })
 
       not_less : l.spot.area ≤ area_of s k
-      not_less = by_area (below_or (area_of s k) l.spot.area)
+      not_less = by_area (cases_lt (area_of s k) l.spot.area)
 
     none_less : (area : ℕ) → ((k : Cover) → IsCoverBy s c t k → area_of s k < area → l.spot.area ≤ area_of s k) → (time : ℕ) → (k : Cover) → IsCoverBy s c t k → area_of s k ≡ area → time_of (timing s) k < time → l.spot.area ≤ area_of s k
     none_less area less zero k by e lt = absurd (omega arith)
@@ -85,7 +86,7 @@ module _ (s : Task) (horizon : ℕ) (curves : CurveLists) (ways : HaveWays s cur
     none_below : (area : ℕ) (k : Cover) → IsCoverBy s c t k → area_of s k < area → l.spot.area ≤ area_of s k
     none_below zero k by lt = absurd (omega arith)
     none_below (suc area) k by lt =
-        below_next area k (none_below area k by) (λ e. none_less area (none_below area) (suc (time_of (timing s) k)) k by e (omega arith)) lt (below_or (area_of s k) area)
+        below_next area k (none_below area k by) (λ e. none_less area (none_below area) (suc (time_of (timing s) k)) k by e (omega arith)) lt (cases_lt (area_of s k) area)
 
     pub lowest : (k : Cover) → IsCoverBy s c t k → l.spot.area ≤ area_of s k
     lowest k by = none_below (suc (area_of s k)) k by (omega arith)

@@ -4,6 +4,7 @@ use Rattle.std.specs.List.{range_with_len}
 use Rattle.std.specs.List.Sorted.{IsPermutation}
 use Rattle.std.proofs.lemmas.List.{get_or-map, length-map}
 use Rattle.std.proofs.lemmas.Option.{get_or_from_slice_get, same_Some}
+use Rattle.std.proofs.lemmas.Bool.{cases_lt}
 use Rattle.lw_pool.specs.declared.id.ClassId.{ClassId}
 use Rattle.lw_fixed.specs.declared.micro.Micro.{Micro}
 use Rattle.lw_trade.specs.Backing.{Held}
@@ -12,13 +13,13 @@ use Rattle.lw_trade.specs.Points.{Task}
 use Rattle.lw_trade.specs.Trades.{IsLastBy, IsNetOfPoint, HavePinNets}
 use Rattle.lw_trade.specs.Walks.{HaveRootNets}
 use Rattle.lw_trade.proofs.Grouped.{get_map, map_get}
-use Rattle.lw_trade.proofs.Lists.{below_or, get_in, got}
+use Rattle.lw_trade.proofs.Lists.{get_in, got}
 use Rattle.lw_trade.proofs.Places.{order_length, order_low, stands_there}
 use Rattle.lw_trade.proofs.Standing.{placed_input, placed_node}
 
 -- a net stays one
 pub placed_low : (m : ℕ) (order places : List ℕ) → ArePlaces order places → (net : ℕ) → net < m + length order → placed_net m places net < m + length order
-placed_low m order places are net lt = by_input (below_or net m)
+placed_low m order places are net lt = by_input (cases_lt net m)
   where
     by_input : (net < m) ⊎ (m ≤ net) → placed_net m places net < m + length order
     by_input (inl input) = let e = placed_input m places net input in omega (arith, e, input)

@@ -7,6 +7,9 @@ use Rattle.std.proofs.lemmas.List.Sorted.{All-permutation, Contains-permutation,
 use Rattle.std.proofs.lemmas.Map.Keys.{IsDistinct-from_apart, IsDistinct-IsPermutation, apart_from_distinct}
 use Rattle.std.specs.List.{IsDistinct, range_with_len}
 use Rattle.std.specs.List.Sorted.{IsPermutation}
+use Rattle.std.proofs.lemmas.Bool.{eqb-false}
+use Rattle.lw_facts.proofs.Tests.{eq_lower}
+use Rattle.lw_facts.proofs.Numbers.{eq_turned}
 use Rattle.lw_trade.specs.Placed.{ArePlaces}
 
 range_suc : (a n : ℕ) → range_with_len a (suc n) ≡ range_with_len a n ++ (a + n) ∷ []
@@ -21,21 +24,12 @@ pub ok_both : {T E : Type 0} (r : Result T E) {P Q R : T → Type 0} → IfOk r 
 ok_both (Ok x) p q f = f x p q
 ok_both (Err e) p q f = tt
 
-same_no : (a b : ℕ) → a < b → (a == b) ≡ false
-same_no a b lt = grind (arith, nat_tests)
-
-turned : (a b : ℕ) → (a == b) ≡ (b == a)
-turned a b = grind (arith, nat_tests)
-
-not_same : (a b : ℕ) → (a == b) ≡ false → a ≢ b
-not_same a b e f = grind (arith, nat_tests)
-
 pub range_distinct : (n : ℕ) → IsDistinct (λ a b. a == b) (range_with_len 0 n)
 range_distinct n = IsDistinct-from_apart (λ a b. a == b) (range_with_len 0 n) (λ i j d lt in'.
     let long = length-range_with_len 0 n in
     let a = get_or-range_with_len 0 n i d (omega (arith, lt, in', long)) in
     let b = get_or-range_with_len 0 n j d (omega (arith, in', long)) in
-    same_no (get_or (range_with_len 0 n) i d) (get_or (range_with_len 0 n) j d) (omega (arith, a, b, lt)))
+    eq_lower (get_or (range_with_len 0 n) i d) (get_or (range_with_len 0 n) j d) (omega (arith, a, b, lt)))
 
 module _ (n : ℕ) (order : List ℕ) (moved : IsPermutation (range_with_len 0 n) order) where
   pub order_length : length order ≡ n
@@ -61,7 +55,7 @@ module _ (n : ℕ) (order : List ℕ) (moved : IsPermutation (range_with_len 0 n
 
   order_apart : (i j : ℕ) → i < j → j < length order → slice_index_or order i 0 ≢ slice_index_or order j 0
   order_apart i j lt in' =
-      not_same (slice_index_or order i 0) (slice_index_or order j 0) (apart_from_distinct (λ a b. a == b) order i j 0 (IsDistinct-IsPermutation (λ a b. a == b) turned (range_with_len 0 n) order moved (range_distinct n)) lt in')
+      eqb-false (slice_index_or order i 0) (slice_index_or order j 0) (apart_from_distinct (λ a b. a == b) order i j 0 (IsDistinct-IsPermutation (λ a b. a == b) eq_turned (range_with_len 0 n) order moved (range_distinct n)) lt in')
 
   -- one more is placed
   pub place_at : (places : List ℕ) (p : ℕ) → length places ≡ n → p < length order → ((k : ℕ) → k < p → slice_index_or places (slice_index_or order k 0) 0 ≡ k) → (k : ℕ) → k < p + 1 → (k < p) ⊎ (p ≤ k) → slice_index_or (slice_set places (slice_index_or order p 0) p) (slice_index_or order k 0) 0 ≡ k

@@ -20,9 +20,6 @@ use Rattle.lw_trade.specs.Rows.{plain_part, plain_row, plain_rows}
 use Rattle.lw_trade.specs.Uses.{AreUses}
 use Rattle.lw_trade.proofs.Lists.{get_in, got}
 
-all_got : {X : Type 0} (P : X → Type 0) (xs : List X) (k : ℕ) (x : X) → All P xs → slice_get xs k ≡ Some x → P x
-all_got P xs k x all at = let lt = get_in xs k x at in subst P (same_Some (slice_index_or xs k x) x (sym (got xs k x lt) ∙ at)) (all k x lt)
-
 all_by : (n : ℕ) (ps : List ℕ) → ((k p : ℕ) → slice_get ps k ≡ Some p → p < n) → AllByRecursion (λ p. p < n) ps
 all_by n [] each = tt
 all_by n (p ∷ ps) each = (each 0 p refl, all_by n ps (λ k q at. each (suc k) q at))

@@ -4,6 +4,8 @@ use native.Mathlib.Decide.{ℕ_discrete}
 use Rattle.std.specs.List.{AllZip}
 use Rattle.std.proofs.lemmas.List.{length-set}
 use Rattle.std.proofs.lemmas.Option.{same_Some}
+use Rattle.std.proofs.lemmas.Bool.{cases_lt}
+use Rattle.lw_facts.proofs.Lists.{index_at}
 use Rattle.lw_laws.specs.Covers.{delays_of, latest}
 use Rattle.lw_laws.proofs.Delays.{length-delays_of}
 use Rattle.lw_trade.specs.declared.uses.Uses.{Uses}
@@ -17,8 +19,7 @@ use Rattle.lw_trade.specs.Queues.{IsTaken}
 use Rattle.lw_trade.specs.Seen.{HasSeen, AreSeen, HasUnseen, IsSeeing, IsSeenPrice, seen_at, sum_seen}
 use Rattle.lw_trade.specs.Settling.{Spot, spot, Has, HasAtMost, IsSpotOf, times, areas, Gives, Queued, Waits, Comes, IsGained, AreGroupsAdded, AreInTime, GivesNoMoreSeen}
 use Rattle.lw_trade.specs.Uses.{AreUses, HasUse, IsGroup, turns_of}
-use Rattle.lw_trade.proofs.Built.{got_at}
-use Rattle.lw_trade.proofs.Lists.{below_or, get_in, get_set, get_set_other}
+use Rattle.lw_trade.proofs.Lists.{get_in, get_set, get_set_other}
 use Rattle.lw_trade.proofs.Stepping.{at_most, waits_left}
 
 -- A group that comes is taken, and sees.
@@ -71,17 +72,17 @@ module _ (u : Uses) (seen : List ℕ) (spots : List Spot) (now choices n : ℕ) 
 
 module _ (u : Uses) (seen : List ℕ) (spots : List Spot) (now n first : ℕ) (first_at : slice_get u.firsts.items n ≡ Some first) where
   pin_seen : (i d p : ℕ) (k : Spot) → HasUse u n i d p → Has spots k → k.class ≡ p → k.time + d ≤ now → (seen_at u.members.classes seen (first + i) ≤ k.area) ⊎ HasUnseen u seen spots now n
-  pin_seen i d p k its has e le = by_case (below_or k.area (seen_at u.members.classes seen (first + i)))
+  pin_seen i d p k its has e le = by_case (cases_lt k.area (seen_at u.members.classes seen (first + i)))
     where
       same : its.first ≡ first
       same = same_Some its.first first (sym its.first_at ∙ first_at)
 
       group : slice_index_or u.members.classes (first + i) 0 ≡ its.group
-      group = got_at u.members.classes (first + i) its.group (subst (λ j. slice_get u.members.classes j ≡ Some its.group) (its.place_is ∙ ap (λ f. f + i) same) its.member)
+      group = index_at u.members.classes (first + i) its.group (subst (λ j. slice_get u.members.classes j ≡ Some its.group) (its.place_is ∙ ap (λ f. f + i) same) its.member)
 
       unseen : k.area < seen_at u.members.classes seen (first + i) → HasSeen seen its.group k.area → ⊥
       unseen lt (own, at, low) =
-          let own_is : slice_index_or seen its.group 0 ≡ own = got_at seen its.group own at in
+          let own_is : slice_index_or seen its.group 0 ≡ own = index_at seen its.group own at in
           let here : seen_at u.members.classes seen (first + i) ≡ own = ap (λ j. slice_index_or seen j 0) group ∙ own_is in
           absurd (omega (arith, lt, here, low))
 

@@ -1,9 +1,9 @@
 -- Nodes that stand by height: each net stands before the nodes that hang on it.
 use Rattle.std.proofs.Common.{◌≡◌, ℕ, ◌+◌, ◌-◌, ◌<◌, ◌≤◌, ◌⊎◌, inl, inr, cond, nat_lt, true, false, length, List, [], ◌∷◌, zero, suc, slice_index_or, ap, ◌∙◌, arith}
 use Rattle.std.proofs.lemmas.Bool.Decides.{nat_tests}
+use Rattle.std.proofs.lemmas.Bool.{cases_lt}
 use Rattle.lw_dag.specs.Graphs.{IsGraph, fanins_at, height_at, tallest}
 use Rattle.lw_trade.specs.Placed.{ArePlaces, HaveHeights, IsByHeight, placed_net}
-use Rattle.lw_trade.proofs.Lists.{below_or}
 use Rattle.lw_trade.proofs.Places.{order_length, stands_there}
 
 pub placed_input : (m : ℕ) (places : List ℕ) (net : ℕ) → net < m → placed_net m places net ≡ net
@@ -23,7 +23,7 @@ tallest_above heights (s ∷ signals) (suc k) d lt = let ih = tallest_above heig
 module _ (m : ℕ) (graph : List (List ℕ)) (order places : List ℕ) (is_graph : IsGraph m graph) (high : HaveHeights m graph) (by : IsByHeight m graph order) (placed : ArePlaces order places) where
   -- a lower node stands before
   lower_before : (i j : ℕ) → i < length graph → j < length graph → height_at by.heights (m + i) < height_at by.heights (m + j) → slice_index_or places i 0 < slice_index_or places j 0
-  lower_before i j li lj less = by_place (below_or (slice_index_or places i 0) (slice_index_or places j 0))
+  lower_before i j li lj less = by_place (cases_lt (slice_index_or places i 0) (slice_index_or places j 0))
     where
       by_place : (slice_index_or places i 0 < slice_index_or places j 0) ⊎ (slice_index_or places j 0 ≤ slice_index_or places i 0) → slice_index_or places i 0 < slice_index_or places j 0
       by_place (inl lt) = lt
@@ -37,7 +37,7 @@ module _ (m : ℕ) (graph : List (List ℕ)) (order places : List ℕ) (is_graph
           absurd (omega (arith, up, x, y, less))
 
   pub pins_before_gate : (j : ℕ) → j < length graph → (k d : ℕ) → k < length (fanins_at graph j) → placed_net m places (slice_index_or (fanins_at graph j) k d) < m + slice_index_or places j 0
-  pins_before_gate j lj k d lt = by_input (slice_index_or (fanins_at graph j) k d) (is_graph j k d lt) (tallest_above by.heights (fanins_at graph j) k d lt) (below_or (slice_index_or (fanins_at graph j) k d) m)
+  pins_before_gate j lj k d lt = by_input (slice_index_or (fanins_at graph j) k d) (is_graph j k d lt) (tallest_above by.heights (fanins_at graph j) k d lt) (cases_lt (slice_index_or (fanins_at graph j) k d) m)
     where
       by_input : (net : ℕ) → net < m + length graph → height_at by.heights net ≤ tallest by.heights (fanins_at graph j) → (net < m) ⊎ (m ≤ net) → placed_net m places net < m + slice_index_or places j 0
       by_input net low below (inl input) = let e = placed_input m places net input in omega (arith, e, input)

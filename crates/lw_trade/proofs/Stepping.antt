@@ -3,6 +3,7 @@ use Rattle.std.proofs.Common.{◌≡◌, ℕ, zero, suc, ◌+◌, ◌-◌, ◌<�
 use Rattle.std.specs.List.{AllZip}
 use Rattle.std.proofs.lemmas.List.Sorted.{Contains-permutation, IsPermutation-sym}
 use Rattle.std.proofs.lemmas.Option.{same_Some}
+use Rattle.std.proofs.lemmas.Bool.{cases_lt}
 use Rattle.lw_laws.specs.Choices.{HasCost, HaveCosts}
 use Rattle.lw_laws.specs.Choices.HasCost.{by_wire, by_gate}
 use Rattle.lw_laws.specs.Choices.HaveCosts.{no_pins, pin}
@@ -16,7 +17,6 @@ use Rattle.lw_trade.specs.Choices.Part.{input, gate}
 use Rattle.lw_trade.specs.Queues.{Item, IsTaken}
 use Rattle.lw_trade.specs.Settling.{Spot, spot, Has, HasAtMost, IsSpotOf, times, areas, Gives, IsBest, joint, time_in, area_in, joint_cost, IsReached, Queued, Waits, Turns, turns, Comes, IsSettling, IsStill, IsGained, IsGaining, GivesNoMore, GivesNoMoreSeen, IsGroupLookedAt, AreSettled}
 use Rattle.lw_trade.proofs.Joint.{joint_time, joint_area}
-use Rattle.lw_trade.proofs.Lists.{below_or}
 
 -- Queues.
 
@@ -225,7 +225,7 @@ pin_below (d ∷ ds) (l ∷ ks) (suc j) k e at = let ih = pin_below ds ks j k (o
 pin_attains : (ds : List ℕ) (ks : List Spot) (now : ℕ) → now < latest ds (times ks) → (j : ℕ) × (k : Spot) × (slice_get ks j ≡ Some k) × (latest ds (times ks) ≡ k.time + slice_index_or ds j 0)
 pin_attains [] ks now lt = absurd (omega arith)
 pin_attains (d ∷ ds) [] now lt = absurd (omega arith)
-pin_attains (d ∷ ds) (k ∷ ks) now lt = by_case (pin_attains ds ks (d + k.time)) (below_or (d + k.time) (latest ds (times ks)))
+pin_attains (d ∷ ds) (k ∷ ks) now lt = by_case (pin_attains ds ks (d + k.time)) (cases_lt (d + k.time) (latest ds (times ks)))
   where
     by_case : (d + k.time < latest ds (times ks) → (j : ℕ) × (l : Spot) × (slice_get ks j ≡ Some l) × (latest ds (times ks) ≡ l.time + slice_index_or ds j 0)) → (d + k.time < latest ds (times ks)) ⊎ (latest ds (times ks) ≤ d + k.time) → (j : ℕ) × (l : Spot) × (slice_get (k ∷ ks) j ≡ Some l) × (latest (d ∷ ds) (times (k ∷ ks)) ≡ l.time + slice_index_or (d ∷ ds) j 0)
     by_case more_of (inl more) = let (j, l, at, e) = more_of more in (suc j, l, at, omega arith)
@@ -288,7 +288,7 @@ module _ (s : Task) (choices : List Choice) (are : AreListedChoices s choices) (
       from_old : HasAtMost next c t a ⊎ comes t n → HasAtMost next c t a ⊎ comes' t n
       from_old (inl h) = inl h
       from_old (inr w) = inr (more t n w)
-  give n t a c (gate cell ps) at (ks, zip, et, ea) le = by_time (below_or now t)
+  give n t a c (gate cell ps) at (ks, zip, et, ea) le = by_time (cases_lt now t)
     where
       sizes : length (delays_of (timing s).delays cell) ≡ length ks
       sizes = length-delays_of (timing s).delays cell (length ps) (are.each n (record { class = c; part = gate cell ps }) at).pins ∙ zip_length next ps ks zip

@@ -2,6 +2,7 @@
 use Rattle.std.proofs.Common.{◌≡◌, ℕ, zero, suc, ◌+◌, ◌<◌, ◌≤◌, ◌⊎◌, inl, inr, length, List, [], ◌∷◌, Some, slice_get, slice_index_or, refl, ap, sym, ◌∙◌, subst, arith}
 use Rattle.std.proofs.lemmas.List.{get_or_past}
 use Rattle.std.proofs.lemmas.Option.{same_Some}
+use Rattle.std.proofs.lemmas.Bool.{cases_lt}
 use Rattle.lw_laws.specs.Covers.{delays_of}
 use Rattle.lw_pool.specs.declared.id.CellId.{CellId}
 use Rattle.lw_pool.specs.declared.id.ClassId.{ClassId}
@@ -17,7 +18,7 @@ use Rattle.lw_trade.specs.Trades.{IsNetOfPoint, HavePinNets, IsGateOfPoint}
 use Rattle.lw_trade.specs.Walks.{HaveRootNets, IsWalk}
 use Rattle.lw_trade.proofs.Heights.{IsEarlier, pins_earlier, all_high}
 use Rattle.lw_trade.proofs.Lasting.{pins_before}
-use Rattle.lw_trade.proofs.Lists.{below_or, get_in, get_some}
+use Rattle.lw_trade.proofs.Lists.{get_in, get_some}
 
 -- a class has one point of a time
 pub one_held : (s : Task) (curves : CurveLists) (ways : HaveWays s curves) (k l : Held) → IsHeld ways.held k → IsHeld ways.held l → k.spot.class ≡ l.spot.class → k.spot.time ≡ l.spot.time → k ≡ l
@@ -30,7 +31,7 @@ one_held s curves ways k l has other e same =
     let held = rows.are.each k.spot.class row at in
     let (i, it) = held.all k has (sym none) in
     let (j, jt) = held.all l other (sym e ∙ sym none) in
-    by_place row held.rising i j it jt (below_or i j) (below_or j i)
+    by_place row held.rising i j it jt (cases_lt i j) (cases_lt j i)
   where
     by_place : (row : List Held) → ((i j : ℕ) (g h : Held) → i < j → slice_get row i ≡ Some g → slice_get row j ≡ Some h → g.spot.time < h.spot.time) → (i j : ℕ) → slice_get row i ≡ Some k → slice_get row j ≡ Some l → (i < j) ⊎ (j ≤ i) → (j < i) ⊎ (i ≤ j) → k ≡ l
     by_place row rising i j it jt (inl lt) y = let t = rising i j k l lt it jt in absurd (omega (arith, t, same))
@@ -80,7 +81,7 @@ module _ (s : Task) (t : Targets) (curves : CurveLists) (c : AreCurvesFor s t cu
       (cell, walk.gates j h cell at bt)
 
   pub walk_graph : IsGraph m graph
-  walk_graph j k d lt = by_row (below_or j (length graph))
+  walk_graph j k d lt = by_row (cases_lt j (length graph))
     where
       by_row : (j < length graph) ⊎ (length graph ≤ j) → slice_index_or (fanins_at graph j) k d < m + length graph
       by_row (inl in') =

@@ -4,7 +4,7 @@ use Rattle.std.specs.Str.{bytes_eq}
 use Rattle.std.proofs.lemmas.Bool.{cases_lt}
 use Rattle.std.proofs.lemmas.Grind.{get_or-set_at}
 use Rattle.std.proofs.lemmas.List.{drop_more, get_or-set_other, length-set}
-use Rattle.lw_dag.proofs.Names.{same_name}
+use Rattle.lw_facts.proofs.Lists.{bytes_eq_is}
 use Rattle.lw_netlist.proofs.Chains.{same-or-not}
 use Rattle.lw_verilog.specs.Chains.{AreChains, bucket_at, bucket_from, bucket_of, name_at}
 use Rattle.lw_verilog.specs.Windows.{Raises}
@@ -27,7 +27,7 @@ other-bucket : (x name : List ℕ) → (bucket_of x ≡ bucket_of name → ⊥) 
 other-bucket x name apart = by_test (bytes_eq x name) refl
   where
     by_test : (t : Bool) → bytes_eq x name ≡ t → t ≡ false
-    by_test true e = absurd (apart (ap bucket_of (same_name x name e)))
+    by_test true e = absurd (apart (ap bucket_of (bytes_eq_is x name e)))
     by_test false e = refl
 
 pub walked-first : (names : List (List ℕ)) (heads next : List ℕ) (name : List ℕ) (b : ℕ) (flags : List Bool) → AreChains bucket_of 32768 names (length names) heads next → b ≡ bucket_of name → b < 32768 → length flags ≡ length names → IsWalked names name (get_or heads b 0) flags flags

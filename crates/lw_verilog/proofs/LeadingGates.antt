@@ -7,13 +7,13 @@ use Rattle.std.proofs.Math.Bool.{or-true}
 use Rattle.std.proofs.lemmas.List.{map-append}
 use Rattle.std.proofs.lemmas.Map.Keys.{IsDistinct-head, IsDistinct-tail}
 use Rattle.std.proofs.lemmas.Option.{slice_get-map}
+use Rattle.lw_facts.proofs.Lists.{bytes_eq_same}
 use Rattle.lw_pool.specs.declared.id.NetId.{NetId}
 use Rattle.lw_genlib.specs.Cells.{CellParts, IsLibrary, names_of}
 use Rattle.lw_netlist.specs.declared.draft.DraftGate.{DraftGate}
 use Rattle.lw_netlist.specs.declared.gate.Gate.{Gate}
 use Rattle.lw_netlist.specs.declared.gate.Port.{Port}
 use Rattle.lw_netlist.specs.Closing.{is_among}
-use Rattle.lw_dag.proofs.Names.{alike}
 use Rattle.lw_mapped.specs.GateLines.{is_formal}
 use Rattle.lw_mapped.specs.Texts.{net_name}
 use Rattle.lw_mapped.proofs.CellLemmas.{found-at}
@@ -109,7 +109,7 @@ fresh-all ts (t ∷ us) distinct = (
 )
 
 gives-one : (before : List Tie) (t : Tie) (after : List Tie) → list_any (is_for t.formal) (before ++ t ∷ after) ≡ true
-gives-one [] t after = ap (λ b. b || list_any (is_for t.formal) after) (alike t.formal t.formal refl)
+gives-one [] t after = ap (λ b. b || list_any (is_for t.formal) after) (bytes_eq_same t.formal t.formal refl)
 gives-one (s ∷ before) t after = ap (λ b. is_for t.formal s || b) (gives-one before t after) ∙ or-true (is_for t.formal s)
 
 gives-each : (before ts after : List Tie) → list_all (λ pin. list_any (is_for pin) (before ++ (ts ++ after))) (map formal_in ts) ≡ true
@@ -119,7 +119,7 @@ gives-each before (t ∷ ts) after =
     (ap (λ l. list_all (λ pin. list_any (is_for pin) l) (map formal_in ts)) (sym (append_assoc before (t ∷ []) (ts ++ after))) ∙ gives-each (before ++ t ∷ []) ts after)
 
 net-found : (before : List Tie) (t : Tie) (after : List Tie) → list_any (is_for t.formal) before ≡ false → net_for (before ++ t ∷ after) t.formal ≡ t.net
-net-found [] t after none = ap (λ b. cond b t.net (net_for after t.formal)) (alike t.formal t.formal refl)
+net-found [] t after none = ap (λ b. cond b t.net (net_for after t.formal)) (bytes_eq_same t.formal t.formal refl)
 net-found (s ∷ before) t after none = by_test (is_for t.formal s) none (net-found before t after)
   where
     by_test : (b : Bool) → (b || list_any (is_for t.formal) before) ≡ false → (list_any (is_for t.formal) before ≡ false → net_for (before ++ t ∷ after) t.formal ≡ t.net) → cond b s.net (net_for (before ++ t ∷ after) t.formal) ≡ t.net
@@ -220,7 +220,7 @@ among-each all (pin ∷ pins) each extra = (ap (λ b. bytes_eq pin extra || b) e
 
 pub among-self : (xs : List (List ℕ)) → Each (λ x. is_among xs x ≡ true) xs
 among-self [] = tt
-among-self (x ∷ xs) = (ap (λ b. b || is_among xs x) (alike x x refl), among-each xs xs (among-self xs) x)
+among-self (x ∷ xs) = (ap (λ b. b || is_among xs x) (bytes_eq_same x x refl), among-each xs xs (among-self xs) x)
 
 module _ (cells : List CellParts) (lib : IsLibrary cells) (names : List (List ℕ)) where
   ties-are : (cell : CellParts) (pins : List (List ℕ)) (nets : List NetId) → Each IsShown pins → Each (λ pin. is_among cell.pins pin ≡ true) pins → Each (λ (net : NetId). IsGood (net_name names net)) nets → Each (IsTieOf cell) (pin_ties names pins nets)
@@ -245,7 +245,7 @@ module _ (cells : List CellParts) (lib : IsLibrary cells) (names : List (List �
       let formals : map formal_in us ≡ cell.pins = formals-are names cell.pins gate.pins is.one_each in
       let all_formals : map formal_in all ≡ cell.pins ++ cell.output ∷ [] = map-append formal_in us (out ∷ []) ∙ ap (λ l. l ++ cell.output ∷ []) formals in
       let distinct : IsDistinct bytes_eq (map formal_in all) = subst (IsDistinct bytes_eq) (sym all_formals) is.differ in
-      let out_is : IsTieOf cell out = record { formal = is.output; known = ap (λ b. is_among cell.pins cell.output || b) (alike cell.output cell.output refl) ∙ or-true (is_among cell.pins cell.output); net = is.out_net } in
+      let out_is : IsTieOf cell out = record { formal = is.output; known = ap (λ b. is_among cell.pins cell.output || b) (bytes_eq_same cell.output cell.output refl) ∙ or-true (is_among cell.pins cell.output); net = is.out_net } in
       let pins_given : list_all (λ pin. list_any (is_for pin) all) cell.pins ≡ true = ap (list_all (λ pin. list_any (is_for pin) all)) (sym formals) ∙ gives-each [] us (out ∷ []) in
       let gives : gives_all all cell ≡ true = ap₂ (λ a b. a && b) pins_given (gives-one us out []) in
       let nets : map (net_for all) cell.pins ≡ map (net_name names) gate.pins =

@@ -4,7 +4,7 @@ use Rattle.std.specs.Prelude.{decimal}
 use Rattle.std.specs.Str.{bytes_eq}
 use Rattle.std.specs.Cmp.Lexicographic.{bytes_decides}
 use Rattle.std.specs.Str.Parse.{digits_value}
-use Rattle.std.proofs.Math.Bool.{or-true}
+use Rattle.std.proofs.Math.Bool.{or-true, or_assoc}
 use Rattle.std.proofs.lemmas.Bool.{cases_lt}
 use Rattle.std.proofs.lemmas.Fmt.{digits_value-decimal}
 use Rattle.std.proofs.lemmas.Grind.{get_or-set_at}
@@ -20,10 +20,6 @@ use Rattle.lw_netlist.specs.Plain.{port_name}
 pub or-no : (a b : Bool) → b ≡ false → a ≡ (a || b)
 or-no true b e = refl
 or-no false b e = sym e
-
-or-three : (a b c : Bool) → ((a || b) || c) ≡ (a || (b || c))
-or-three true b c = refl
-or-three false b c = refl
 
 pub raise-none : (test : ℕ → Bool) (flags : List Bool) → ((i : ℕ) → i < length flags → test i ≡ false) → Raises test flags flags
 raise-none test flags none = record { many = refl; each = λ i lt. or-no (get_or flags i false) (test i) (none i lt) }
@@ -47,7 +43,7 @@ raises-both {p = p} {q = q} {r = r} {a = a} {b = b} {c = c} x y both = record {
   each = λ i lt.
       let within : i < length b = omega (arith, lt, x.many) in
       y.each i within
-      ∙ (ap (λ t. t || q i) (x.each i lt) ∙ (or-three (get_or a i false) (p i) (q i) ∙ ap (λ t. get_or a i false || t) (both i)));
+      ∙ (ap (λ t. t || q i) (x.each i lt) ∙ (or_assoc (get_or a i false) (p i) (q i) ∙ ap (λ t. get_or a i false || t) (both i)));
 }
 
 -- one name more

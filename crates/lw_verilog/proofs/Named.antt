@@ -5,13 +5,13 @@ use Rattle.std.specs.List.{list_any}
 use Rattle.std.specs.Str.{bytes_eq}
 use Rattle.std.proofs.Math.Bool.{or-true}
 use Rattle.std.proofs.lemmas.List.{drop_more}
+use Rattle.lw_facts.proofs.Lists.{bytes_eq_same, bytes_eq_is}
 use Rattle.lw_netlist.specs.Closing.{is_among}
-use Rattle.lw_dag.proofs.Names.{alike, same_name}
 use Rattle.lw_verilog.specs.Statements.{Tie, is_for, net_for, pairs}
 
 pub among-at : (names : List (List ℕ)) (k : ℕ) (name : List ℕ) → slice_get names k ≡ Some name → is_among names name ≡ true
 among-at [] k name e = cc
-among-at (x ∷ xs) zero name e = let same : x ≡ name = cc in ap (λ b. b || is_among xs name) (alike name x (sym same))
+among-at (x ∷ xs) zero name e = let same : x ≡ name = cc in ap (λ b. b || is_among xs name) (bytes_eq_same name x (sym same))
 among-at (x ∷ xs) (suc k) name e = ap (λ b. bytes_eq name x || b) (among-at xs k name e) ∙ or-true (bytes_eq name x)
 
 pub none-among : (names : List (List ℕ)) (name : List ℕ) → (Contains names name → ⊥) → is_among names name ≡ false
@@ -19,7 +19,7 @@ none-among [] name never = refl
 none-among (x ∷ xs) name never = by_test (bytes_eq name x) refl (none-among xs name (λ has. never (suc has.0, omega (arith, has.1), has.2)))
   where
     by_test : (b : Bool) → bytes_eq name x ≡ b → is_among xs name ≡ false → (b || is_among xs name) ≡ false
-    by_test true e rest = absurd (never (0, omega arith, sym (same_name name x e)))
+    by_test true e rest = absurd (never (0, omega arith, sym (bytes_eq_is name x e)))
     by_test false e rest = rest
 
 -- Connections, two names at a time.

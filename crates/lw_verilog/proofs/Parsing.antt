@@ -2,6 +2,7 @@
 use Rattle.std.proofs.Common.{ℕ, zero, suc, ◌≡◌, ◌≤◌, ◌<◌, ◌+◌, Bool, true, false, cond, List, [], ◌∷◌, ◌++◌, length, take, drop, Option, Some, None, Ok, Err, refl, ap, sym, ◌∙◌, subst, arith, length-drop}
 use Rattle.std.proofs.lemmas.List.{length-take-le}
 use Rattle.std.proofs.lemmas.List.Sums.{count_by-le-length}
+use Rattle.lw_facts.proofs.Numbers.{above_is_suc}
 use Rattle.lw_genlib.specs.Cells.{CellParts}
 use Rattle.lw_verilog.specs.declared.contents.Contents.{Contents}
 use Rattle.lw_verilog.specs.declared.fault.Refusal.{Refusal}
@@ -56,16 +57,12 @@ unfolding read
 read-done cells r [] e = refl
 read-done cells r (t ∷ ts) e = ap (λ b. cond b (Ok r) (fault_or t.line (token_fault cells r t.kind t.name) (read cells (moved_on r t.name (move_at r.place t.kind)) ts))) e
 
-fuel-suc : (f n : ℕ) → n < f → (m : ℕ) × (f ≡ suc m)
-fuel-suc zero n lt = absurd (omega arith)
-fuel-suc (suc m) n lt = (m, refl)
-
 module _ (cells : List CellParts) (text : List ℕ) (old : Contents) (line : ℕ) (rest : List ℕ) (s : Stands cells text old line rest) (p : Piece) (is_piece : p ≡ first_piece rest) (open_there : is_done old.place ≡ false) where
   abbrev name : List ℕ
   name = name_of (take p.size rest)
 
   fuel : (m : ℕ) × (s.fuel ≡ suc m)
-  fuel = fuel-suc s.fuel (length rest) s.more
+  fuel = above_is_suc s.fuel (length rest) s.more
 
   opened : is_done s.reading.place ≡ false
   opened = ap is_done (sym s.keeps.place) ∙ open_there

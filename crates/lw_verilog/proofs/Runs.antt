@@ -7,10 +7,6 @@ use Rattle.std.proofs.lemmas.List.Sums.{prefix_len-le-length}
 use Rattle.std.proofs.lemmas.Grind.{common_steps}
 use Rattle.lw_verilog.specs.Pieces.{byte_at, before_pair}
 
--- where none passes, the position is the length
-pub position_or_length : {X : Type 0} (p : X → Bool) (xs : List X) → unwrap_or (position p xs) (length xs) ≡ position_or_len p xs
-position_or_length p xs = grind (arith, common_steps, prefix_len-le-length)
-
 -- The first pair of bytes.
 
 pub pair-within : (a b : ℕ) (bytes : List ℕ) → before_pair a b bytes ≤ length bytes

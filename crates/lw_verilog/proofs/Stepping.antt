@@ -2,6 +2,7 @@
 use Rattle.std.proofs.Common.{ℕ, zero, suc, ◌≡◌, ◌≤◌, ◌<◌, ◌+◌, ◌==◌, Bool, true, false, not, cond, List, [], ◌∷◌, ◌++◌, length, take, drop, Some, None, refl, ap, sym, ◌∙◌, subst, arith, length-drop, append_assoc}
 use Rattle.std.proofs.lemmas.Bool.Decides.{nat_tests}
 use Rattle.std.proofs.lemmas.List.Sums.{sum_by-cons}
+use Rattle.lw_facts.proofs.Numbers.{above_is_suc}
 use Rattle.lw_genlib.specs.Cells.{CellParts}
 use Rattle.lw_verilog.specs.declared.fault.VerilogKind.TheVariants as broken
 use Rattle.lw_verilog.specs.declared.kind.Kind.{Kind}
@@ -36,14 +37,10 @@ leads-both cells r s t text rest end a b fuel last line lt =
     let two = b one.fuel_left last one.line_next one.more in
     record { fuel_left = two.fuel_left; line_next = two.line_next; more = two.more; is = one.is ∙ two.is }
 
-fuel-suc : (f n : ℕ) → n < f → (m : ℕ) × (f ≡ suc m)
-fuel-suc zero n lt = absurd (omega arith)
-fuel-suc (suc m) n lt = (m, refl)
-
 -- one piece that breaks no rule
 leads-piece : (cells : List CellParts) (r : Reading) (text : List ℕ) (p : Piece) → p ≡ first_piece text → is_done r.place ≡ false → piece_fault cells r p.kind (name_of (take p.size text)) ≡ None → 0 < p.size → p.size ≤ length text → Leads cells r text (piece_read r p.kind (name_of (take p.size text))) (drop p.size text)
 leads-piece cells r text p e open_there none some within fuel last line lt =
-    let m = fuel-suc fuel (length text) lt in
+    let m = above_is_suc fuel (length text) lt in
     record {
       fuel_left = m.0;
       line_next = line + line_feeds (take p.size text);
@@ -94,7 +91,7 @@ pub leads-gap : (cells : List CellParts) (r : Reading) (b : ℕ) (rest : List �
 leads-gap cells r b rest e open_there fuel last line lt = by_rest rest lt
   where
     m : (m : ℕ) × (fuel ≡ suc m)
-    m = fuel-suc fuel (length (b ∷ rest)) lt
+    m = above_is_suc fuel (length (b ∷ rest)) lt
 
     first : (xs : List ℕ) → read cells r (tokens_from fuel last line (b ∷ xs)) ≡ read cells r (tokens_from m.0 last (line + line_feeds (b ∷ take (separators xs) xs)) (drop (separators xs) xs))
     first xs = ap (λ n. read cells r (tokens_from n last line (b ∷ xs))) m.1 ∙ gap-read cells r m.0 last line b xs e open_there

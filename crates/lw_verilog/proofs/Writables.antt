@@ -8,6 +8,8 @@ use Rattle.std.proofs.lemmas.Bool.Decides.{nat_tests}
 use Rattle.std.proofs.lemmas.List.{take-append-drop}
 use Rattle.std.proofs.lemmas.List.Folds.{list_any-append}
 use Rattle.std.proofs.lemmas.Map.Keys.{IsDistinct-cons, IsDistinct-head, IsDistinct-tail}
+use Rattle.std.proofs.lemmas.Bool.{not-false}
+use Rattle.lw_facts.proofs.Lists.{distinct_take, bytes_differ_turned}
 use Rattle.lw_pool.specs.declared.id.NetId.{NetId}
 use Rattle.lw_genlib.specs.Cells.{CellParts, IsListed, IsPinName}
 use Rattle.lw_netlist.specs.declared.gate.Gate.{Gate}
@@ -15,7 +17,6 @@ use Rattle.lw_netlist.specs.declared.gate.Port.{Port}
 use Rattle.lw_netlist.specs.Closing.{is_among, out_of, twice_after}
 use Rattle.lw_netlist.specs.Netlists.{NetlistParts}
 use Rattle.lw_netlist.specs.Plain.{HasCell, port_name}
-use Rattle.lw_dag.proofs.Names.{differ_back}
 use Rattle.lw_mapped.specs.Texts.{net_name, names_of_inputs, names_of_outputs}
 use Rattle.lw_mapped.proofs.Driving as back
 use Rattle.lw_mapped.proofs.Driving.{at-each, each-at, each-map}
@@ -49,10 +50,6 @@ none-found p (x ∷ xs) e = by_test (p x) refl e (none-found p xs)
     by_test : (b : Bool) → p x ≡ b → cond b (Some x) (find p xs) ≡ None → (find p xs ≡ None → Each (λ y. p y ≡ false) xs) → (p x ≡ false) × Each (λ y. p y ≡ false) xs
     by_test true is f rest = cc
     by_test false is f rest = (is, rest f)
-
-not-false : (b : Bool) → not b ≡ false → b ≡ true
-not-false true e = refl
-not-false false e = cc
 
 first-none : (names : List (List ℕ)) → first_or_none names ≡ None → names ≡ []
 first-none [] e = refl
@@ -118,7 +115,7 @@ new-from seen (name ∷ names) distinct each = (
 )
   where
     behind : (x : List ℕ) → is_among seen x ≡ false → bytes_eq name x ≡ false → is_among (seen ++ name ∷ []) x ≡ false
-    behind x a b = list_any-append (bytes_eq x) seen (name ∷ []) ∙ ap₂ (λ p q. p || (q || false)) a (differ_back name x b)
+    behind x a b = list_any-append (bytes_eq x) seen (name ∷ []) ∙ ap₂ (λ p q. p || (q || false)) a (bytes_differ_turned name x b)
 
 new-both : (seen names others : List (List ℕ)) → AreNew seen names → AreNew (seen ++ names) others → AreNew seen (names ++ others)
 new-both seen [] others a b = subst (λ l. AreNew l others) (append-nil seen) b
@@ -144,18 +141,12 @@ distinct-last [] last distinct free = IsDistinct-cons bytes_eq last [] tt distin
 distinct-last (x ∷ xs) last distinct free =
     let parts = neither (bytes_eq last x) (is_among xs last) free in
     IsDistinct-cons bytes_eq x (xs ++ last ∷ [])
-    (each-append (λ y. bytes_eq x y ≡ false) xs (last ∷ []) (IsDistinct-head bytes_eq x xs distinct) (differ_back last x parts.0, tt))
+    (each-append (λ y. bytes_eq x y ≡ false) xs (last ∷ []) (IsDistinct-head bytes_eq x xs distinct) (bytes_differ_turned last x parts.0, tt))
     (distinct-last xs last (IsDistinct-tail bytes_eq x xs distinct) parts.1)
   where
     neither : (a b : Bool) → (a || b) ≡ false → (a ≡ false) × (b ≡ false)
     neither true b e = cc
     neither false b e = (refl, e)
-
-distinct-take : (k : ℕ) (xs : List (List ℕ)) → IsDistinct bytes_eq xs → IsDistinct bytes_eq (take k xs)
-unfolding IsDistinct
-distinct-take zero xs h = tt
-distinct-take (suc k) [] h = tt
-distinct-take (suc k) (x ∷ xs) h = (each-take (λ y. bytes_eq x y ≡ false) k xs h.0, distinct-take k xs h.1)
 
 module _ (cells : List CellParts) (n : NetlistParts) (w : IsWritable cells n) where
   abbrev names : List (List ℕ)
@@ -286,7 +277,7 @@ module _ (cells : List CellParts) (n : NetlistParts) (w : IsWritable cells n) wh
   -- The ports differ.
 
   pub ins-new : AreNew [] ins
-  ins-new = new-from [] ins (distinct-take n.inputs names (back.distinct n w.netlist w.names)) (free ins)
+  ins-new = new-from [] ins (distinct_take n.inputs names (back.distinct n w.netlist w.names)) (free ins)
     where
       free : (xs : List (List ℕ)) → Each (λ x. is_among [] x ≡ false) xs
       free [] = tt

@@ -4,6 +4,8 @@ use Rattle.std.specs.Prelude.{option_to_list}
 use Rattle.std.specs.List.{slice_split, onto_first, list_any}
 use Rattle.std.proofs.lemmas.Bool.{lt-ltb, le-ltb, ltb-true, ltb-false}
 use Rattle.std.proofs.lemmas.List.{take-append-le, take_all, length-take-le, length-take}
+use Rattle.std.proofs.Math.Bool.{or-false, or-true}
+use Rattle.lw_facts.proofs.Lists.{list_any_append}
 use Rattle.lw_words.specs.Lines.{LogicalLine, is_blank, has_some, is_long, words_of, line_of, lines_of, has_words, before_trimmed, trimmed}
 use Rattle.lw_words.specs.Gathering.{Gathered, nothing_gathered, with_byte, ended, line_gathered}
 use Rattle.lw_words.specs.Reading.{over_byte, over_bytes, gathered_from}
@@ -56,25 +58,9 @@ map-append : (f : List ℕ → List ℕ) (xs ys : List (List ℕ)) → map f (xs
 map-append f [] ys = refl
 map-append f (x ∷ xs) ys = ap (λ r. f x ∷ r) (map-append f xs ys)
 
-or-assoc : (a b c : Bool) → ((a || b) || c) ≡ (a || (b || c))
-or-assoc true b c = refl
-or-assoc false b c = refl
-
-or-false : (a : Bool) → (a || false) ≡ a
-or-false true = refl
-or-false false = refl
-
-or-true : (a : Bool) → (a || true) ≡ true
-or-true true = refl
-or-true false = refl
-
-list_any-append : (p : List ℕ → Bool) (xs ys : List (List ℕ)) → list_any p (xs ++ ys) ≡ (list_any p xs || list_any p ys)
-list_any-append p [] ys = refl
-list_any-append p (x ∷ xs) ys = ap (λ t. p x || t) (list_any-append p xs ys) ∙ sym (or-assoc (p x) (list_any p xs) (list_any p ys))
-
 -- an empty word is not long
 long-none : (words : List (List ℕ)) → list_any is_long (words ++ [] ∷ []) ≡ list_any is_long words
-long-none words = list_any-append is_long words ([] ∷ []) ∙ or-false (list_any is_long words)
+long-none words = list_any_append is_long words ([] ∷ []) ∙ or-false (list_any is_long words)
 
 -- the last word ends
 Has-ended : (g : Gathered) (words : List (List ℕ)) (last : List ℕ) → Has g words last → (ended g).words ≡ map (take 4095) (words ++ filter has_some (last ∷ []))
@@ -121,7 +107,7 @@ Has-byte g words last b h = by_length (ltb (length g.last) 4095) refl
     is_full le = omega (arith, le, ap length h.last_is, (length-take 4095 last))
 
     long_more : (t : Bool) → is_long (last ++ b ∷ []) ≡ t → list_any is_long (words ++ (last ++ b ∷ []) ∷ []) ≡ (list_any is_long words || t)
-    long_more t e = list_any-append is_long words ((last ++ b ∷ []) ∷ []) ∙ (ap (λ u. list_any is_long words || (u || false)) e ∙ ap (λ u. list_any is_long words || u) (or-false t))
+    long_more t e = list_any_append is_long words ((last ++ b ∷ []) ∷ []) ∙ (ap (λ u. list_any is_long words || (u || false)) e ∙ ap (λ u. list_any is_long words || u) (or-false t))
 
     by_length : (t : Bool) → ltb (length g.last) 4095 ≡ t → Has (with_byte b g) words (last ++ b ∷ [])
     by_length true e =
@@ -134,7 +120,7 @@ Has-byte g words last b h = by_length (ltb (length g.last) 4095) refl
         record {
           words_are = ap (λ (e : Gathered). e.words) same ∙ h.words_are;
           last_is = ap (λ (e : Gathered). e.last) same ∙ (ap (λ l. l ++ b ∷ []) whole ∙ sym (take_all 4095 (last ++ b ∷ []) (omega arith)));
-          long_is = ap (λ (e : Gathered). e.long) same ∙ (h.long_is ∙ ((list_any-append is_long words (last ∷ []) ∙ ap (λ u. list_any is_long words || (u || false)) was_short) ∙ sym (long_more false short)));
+          long_is = ap (λ (e : Gathered). e.long) same ∙ (h.long_is ∙ ((list_any_append is_long words (last ∷ []) ∙ ap (λ u. list_any is_long words || (u || false)) was_short) ∙ sym (long_more false short)));
         }
     by_length false e =
         let le = is_full (ltb-false _ _ e) in

@@ -1,7 +1,7 @@
 -- Bytes over which the place stays.
 use Rattle.std.proofs.Common.{ℕ, ◌≡◌, ◌≢◌, ◌+◌, ◌==◌, Bool, true, false, cond, List, [], ◌∷◌, ◌++◌, length, drop, refl, ap, sym, ◌∙◌, subst, arith, length-append, append_assoc, append-nil}
 use Rattle.std.specs.Prelude.{All}
-use Rattle.std.proofs.lemmas.Bool.{eqb-true}
+use Rattle.std.proofs.lemmas.Bool.{eqb-true, ne_eqb}
 use Rattle.std.proofs.lemmas.List.Elements.{All-head, All-tail}
 use Rattle.lw_words.specs.declared.place.Place.{Place}
 use Rattle.lw_words.specs.declared.place.Place.TheVariants.{Text, Stroke, Comment, ContinuedComment}
@@ -91,19 +91,12 @@ reads-run old new f run r s = record {
 
 -- Blanks and the bytes of words.
 
-differs : (a b : ℕ) → a ≢ b → (a == b) ≡ false
-differs a b h = by_kind (a == b) refl
-  where
-    by_kind : (t : Bool) → (a == b) ≡ t → (a == b) ≡ false
-    by_kind true e = absurd (h (eqb-true a b e))
-    by_kind false e = e
-
 steady-plain : (b : ℕ) → IsPlainByte b → Steady Text (λ n g. over_byte g n) b
 steady-plain b h =
-    let no_hash : (b == 35) ≡ false = differs b 35 h.1 in
-    let no_stroke : (b == 92) ≡ false = differs b 92 h.2 in
+    let no_hash : (b == 35) ≡ false = ne_eqb b 35 h.1 in
+    let no_stroke : (b == 92) ≡ false = ne_eqb b 92 h.2 in
     record {
-      no_end = differs b 10 h.0;
+      no_end = ne_eqb b 10 h.0;
       stays =
           ap (λ t. cond t Comment (cond (is_blank b) Text (after_ink b))) no_hash
           ∙ (ap (λ t. cond (is_blank b) Text (cond t Stroke Text)) no_stroke ∙ same_either (is_blank b));
@@ -133,8 +126,8 @@ reads-plain old new run r text plain =
 -- The bytes of a comment.
 
 steady-comment : (p : Place) (b : ℕ) → IsComment p → b ≢ 10 → Steady p (λ n g. g) b
-steady-comment Comment b is no_end = record { no_end = differs b 10 no_end; stays = refl; grows = λ g. refl }
-steady-comment ContinuedComment b is no_end = record { no_end = differs b 10 no_end; stays = refl; grows = λ g. refl }
+steady-comment Comment b is no_end = record { no_end = ne_eqb b 10 no_end; stays = refl; grows = λ g. refl }
+steady-comment ContinuedComment b is no_end = record { no_end = ne_eqb b 10 no_end; stays = refl; grows = λ g. refl }
 steady-comment other b is no_end = absurd is
 
 all-comment : (p : Place) (run : List ℕ) → IsComment p → All (λ b. b ≢ 10) run → AreSteady p (λ n g. g) run

@@ -3,6 +3,7 @@ use Rattle.std.proofs.Common.{ℕ, zero, suc, ◌+◌, ◌-◌, ◌<◌, ◌≤�
 use Rattle.std.specs.Prelude.{slice_get}
 use Rattle.std.specs.List.{slice_range}
 use Rattle.std.proofs.lemmas.List.{take-append-le, drop-append-le, length-drop}
+use Rattle.lw_facts.proofs.Lists.{slice_range_append}
 use Rattle.lw_words.specs.Arenas.{words_at, last_end, AreEnds, begin_of}
 
 pub AreEnds-more : (from n m : ℕ) (ends : List ℕ) → n ≤ m → AreEnds from n ends → AreEnds from m ends
@@ -27,16 +28,11 @@ pub words_at-push : (from : ℕ) (bytes ends : List ℕ) (end : ℕ) → words_a
 words_at-push from bytes [] end = refl
 words_at-push from bytes (first ∷ ends) end = ap (λ ws. slice_range bytes from first ∷ ws) (words_at-push first bytes ends end)
 
-slice_range-append : (bytes more : List ℕ) (from end : ℕ) → from ≤ length bytes → end ≤ length bytes → slice_range (bytes ++ more) from end ≡ slice_range bytes from end
-slice_range-append bytes more from end low high =
-    ap (λ b. take (end - from) b) (drop-append-le from bytes more low)
-    ∙ take-append-le (end - from) (drop from bytes) more (omega (arith, length-drop from bytes))
-
 pub words_at-append : (from : ℕ) (bytes more ends : List ℕ) → AreEnds from (length bytes) ends → words_at from (bytes ++ more) ends ≡ words_at from bytes ends
 words_at-append from bytes more [] h = refl
 words_at-append from bytes more (end ∷ ends) h =
     let e = from-last_end end (length bytes) ends h.2 in
-    let first = slice_range-append bytes more from end (omega (arith, h.0, e.0, e.1)) (omega (arith, e.0, e.1)) in
+    let first = slice_range_append bytes more from end (omega (arith, h.0, e.0, e.1)) (omega (arith, e.0, e.1)) in
     let others = words_at-append end bytes more ends h.2 in
     cc
 

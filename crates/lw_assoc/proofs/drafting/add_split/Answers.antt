@@ -1,21 +1,21 @@
 use Rattle.std.proofs.Common.{arith, ◌*◌, ◌+◌}
 use Rattle.std.specs.Prelude.{slice_index}
+use Rattle.std.proofs.lemmas.Option.{slice_get_within}
 use Rattle.lw_laws.specs.NumberedForms.Base.{base_and}
-use Rattle.lw_laws.proofs.Lists.{slice_get_in}
 use Rattle.lw_assoc.proofs.Drafts.{split_known, split_sample, parts_split, split_added}
 use Rattle.lw_assoc.proofs.drafting.add_split.Goals as goal
 
 pub overflow_mul-b : goal.overflow_mul-b
 overflow_mul-b c =
     let (fs, e, one, lt) = c.requires.left in
-    let within = slice_get_in c.args.forms.now.bases c.args.b (base_and fs) e in
+    let within = slice_get_within c.args.forms.now.bases c.args.b (base_and fs) e in
     let few = c.requires.forms.few in
     omega arith
 
 pub overflow_add-b : goal.overflow_add-b
 overflow_add-b c =
     let (fs, e, one, lt) = c.requires.left in
-    let within = slice_get_in c.args.forms.now.bases c.args.b (base_and fs) e in
+    let within = slice_get_within c.args.forms.now.bases c.args.b (base_and fs) e in
     let few = c.requires.forms.few in
     omega arith
 

@@ -1,6 +1,6 @@
 use Rattle.std.proofs.Common.{◌++◌, ◌∷◌, [], ap, sym, ◌∙◌, append_assoc}
 use Rattle.std.specs.List.{slice_range}
-use Rattle.lw_blif.proofs.WordLists.{slice_range-more}
+use Rattle.lw_facts.proofs.Lists.{slice_range_more}
 use Rattle.lw_blif.proofs.defining.append_all.Goals as goal
 
 pub loop-i-preserved : goal.loop-i-preserved
@@ -12,4 +12,4 @@ loop-i-preserved c =
     ∙ (ap (λ n. c.loop-i.names ++ n ∷ []) c.in_ok-from_slice.ensures
     ∙ (ap (λ ns. ns ++ word ∷ []) c.loop-i.invariant
     ∙ (append_assoc c.args.names.now (slice_range words c.args.from i) (word ∷ [])
-    ∙ ap (λ r. c.args.names.now ++ r) (sym (slice_range-more words c.args.from i word c.loop-i.auto.i c.get.ensures.word)))))
+    ∙ ap (λ r. c.args.names.now ++ r) (sym (slice_range_more words c.args.from i word c.loop-i.auto.i c.get.ensures.word)))))

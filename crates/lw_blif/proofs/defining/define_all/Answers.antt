@@ -1,9 +1,10 @@
 use Rattle.std.proofs.Common.{true, false, not, ◌≡◌, ◌++◌, ◌∷◌, [], ap, sym, ◌∙◌, drop, ◌+◌, append_assoc}
 use Rattle.std.specs.List.{list_any, slice_range}
 use Rattle.std.specs.Str.{bytes_eq}
+use Rattle.lw_facts.proofs.Lists.{slice_range_more}
 use Rattle.indexmap.specs.IndexSet.{insert_key}
 use Rattle.lw_blif.specs.Readers.{are_fresh}
-use Rattle.lw_blif.proofs.WordLists.{fresh-get, insert-new, slice_range-more}
+use Rattle.lw_blif.proofs.WordLists.{fresh-get, insert-new}
 use Rattle.lw_blif.proofs.defining.define_all.Goals as goal
 
 pub returns-then-not-branch-clause-fresh : goal.returns-then-not-branch-clause-fresh
@@ -26,7 +27,7 @@ loop-i-preserved c =
     c.in_ok-insert.ensures.keys ∙ (ap (insert_key bytes_eq c.loop-i.defined.keys) c.in_ok-name.ensures ∙ insert-new c.loop-i.defined.keys word new) in (
       keys ∙ (ap (λ ks. ks ++ word ∷ []) c.loop-i.invariant.0
           ∙ (append_assoc c.args.defined.now.keys (slice_range words c.args.from i) (word ∷ [])
-          ∙ ap (λ r. c.args.defined.now.keys ++ r) (sym (slice_range-more words c.args.from i word c.loop-i.auto.i c.get.ensures.word)))),
+          ∙ ap (λ r. c.args.defined.now.keys ++ r) (sym (slice_range_more words c.args.from i word c.loop-i.auto.i c.get.ensures.word)))),
       ap (λ ks. are_fresh ks (drop (i + 1) words)) keys
           ∙ (sym (fresh-get c.loop-i.defined.keys words i word true c.get.ensures.word new) ∙ c.loop-i.invariant.1),
     )

@@ -1,5 +1,5 @@
 use Rattle.std.proofs.Common.{◌++◌, ◌∷◌, [], ap, sym, ◌∙◌}
-use Rattle.lw_blif.proofs.WordLists.{slice_range-more}
+use Rattle.lw_facts.proofs.Lists.{slice_range_more}
 use Rattle.lw_blif.proofs.naming.names_between.Goals as goal
 
 pub loop-i-preserved : goal.loop-i-preserved
@@ -7,4 +7,4 @@ loop-i-preserved c =
     c.in_ok-push.ensures.items
     ∙ (ap (λ n. c.loop-i.names.items ++ n ∷ []) c.in_ok-from_slice.ensures
     ∙ (ap (λ ns. ns ++ c.get.result.now ∷ []) c.loop-i.invariant
-    ∙ sym (slice_range-more c.args.words.now c.args.from c.loop-i.i c.get.result.now c.loop-i.auto.i c.get.ensures.word)))
+    ∙ sym (slice_range_more c.args.words.now c.args.from c.loop-i.i c.get.result.now c.loop-i.auto.i c.get.ensures.word)))

@@ -1,11 +1,11 @@
 use Rattle.std.proofs.Common.{◌<◌, ◌≡◌, ◌+◌, ◌∙◌, length, get_or, IsSome, List, [], ◌∷◌, ◌++◌, Vec, Global, sym, subst, ap}
+use Rattle.lw_facts.proofs.Lists.{all_at, some_within}
 use Rattle.lw_pool.specs.declared.id.ClassId.{ClassId}
 use Rattle.lw_pool.specs.declared.name.Name.{Name}
 use Rattle.lw_netlist.specs.declared.gate.Port.{Port}
 use Rattle.lw_extract.specs.Nets.{net_in}
 use Rattle.lw_extract.proofs.ClassNets.{some_of}
 use Rattle.lw_extract.proofs.GateLists.{AreFirstOutputs, outputs_more}
-use Rattle.lw_extract.proofs.Places.{all_at, some_within}
 use Rattle.lw_extract.proofs.gates.outputs_of.Goals as goal
 use Rattle.lw_extract.proofs.gates.outputs_of.Goals.{in-Some+in_ok-name+in_ok-push, in_default}
 

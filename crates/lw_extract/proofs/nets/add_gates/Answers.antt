@@ -1,11 +1,11 @@
 use Rattle.std.proofs.Common.{◌<◌, ◌≤◌, length, refl, arith}
 use Rattle.std.proofs.lemmas.List.{length-map}
 use Rattle.std.proofs.lemmas.Option.{slice_get_read}
+use Rattle.lw_facts.proofs.Lists.{all_at}
 use Rattle.lw_laws.proofs.Numbers.{slice_get_map}
 use Rattle.lw_extract.specs.declared.choosing.Chosen.{Chosen}
 use Rattle.lw_extract.specs.Choosing.{chosen_classes}
 use Rattle.lw_extract.proofs.ClassNets.{gates_more, gates_end}
-use Rattle.lw_extract.proofs.Places.{all_at}
 use Rattle.lw_extract.proofs.nets.add_gates.Goals as goal
 
 pub loop-j-preserved : goal.loop-j-preserved

@@ -1,5 +1,5 @@
 use Rattle.std.proofs.Common.{arith}
-use Rattle.lw_fixed.proofs.Values.{capped_step}
+use Rattle.lw_facts.proofs.Lists.{capped_step}
 use Rattle.lw_fixed.proofs.digits.capped_value.Goals as goal
 
 pub loop-digit-preserved : goal.loop-digit-preserved

@@ -1,5 +1,5 @@
 use Rattle.std.proofs.Common.{◌++◌, ◌∷◌, [], ap, sym, ◌∙◌}
-use Rattle.lw_mapped.proofs.WordLists.{take-get}
+use Rattle.lw_facts.proofs.Lists.{take_get}
 use Rattle.lw_mapped.proofs.closing.names_of.Goals as goal
 
 pub loop-i-preserved : goal.loop-i-preserved
@@ -7,4 +7,4 @@ loop-i-preserved c =
     c.in_ok-push.ensures.ok
     ∙ (ap (λ n. c.loop-i.names ++ n ∷ []) (c.in_ok-from_slice.ensures ∙ c.as_bytes.ensures.bytes)
     ∙ (ap (λ ns. ns ++ c.name_at-name.result.now ∷ []) c.loop-i.invariant
-    ∙ sym (take-get c.args.set.now.keys c.loop-i.i c.name_at-name.result.now c.name_at-name.ensures)))
+    ∙ sym (take_get c.args.set.now.keys c.loop-i.i c.name_at-name.result.now c.name_at-name.ensures)))

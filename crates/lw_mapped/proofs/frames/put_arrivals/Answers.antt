@@ -1,6 +1,7 @@
 use Rattle.std.proofs.Common.{◌<◌, [], length, sym, ◌∙◌, subst, arith, get_or}
+use Rattle.std.proofs.lemmas.List.{get_or_default}
 use Rattle.lw_mapped.specs.Texts.{optional_arrival}
-use Rattle.lw_mapped.proofs.TextParts.{arrivals_more, arrivals_none, get_or-any}
+use Rattle.lw_mapped.proofs.TextParts.{arrivals_more, arrivals_none}
 use Rattle.lw_io.specs.Waitings.{Puts}
 use Rattle.lw_io.proofs.Putting.{Puts-both, Puts-none}
 use Rattle.lw_mapped.proofs.frames.put_arrivals.Goals as goal
@@ -11,6 +12,6 @@ loop-k-init g c = subst (λ l. Puts (g.S.Sink.taken c.args.sink.now) (g.S.Sink.f
 pub loop-k-preserved : goal.loop-k-preserved
 loop-k-preserved g c =
     let in_names : c.loop-k.k < length c.args.names.now = omega (arith, c.requires, c.loop-k-test.true) in
-    let name = c.as_bytes.ensures.bytes ∙ (c.index-names-k.is ∙ get_or-any c.args.names.now c.loop-k.k c.index-names-k.result [] in_names) in
+    let name = c.as_bytes.ensures.bytes ∙ (c.index-names-k.is ∙ get_or_default c.args.names.now c.loop-k.k c.index-names-k.result [] in_names) in
     let next = subst (λ w. Puts (g.S.Sink.taken c.loop-k.sink) (g.S.Sink.faults c.loop-k.sink) c.loop-k.waiting (g.S.Sink.taken c.put_optional_arrival.new.sink) (g.S.Sink.faults c.put_optional_arrival.new.sink) c.put_optional_arrival.new.waiting (optional_arrival w (get_or c.args.starts.now c.loop-k.k (record { 0 = 0 })))) name c.put_optional_arrival.ensures in
     subst (λ l. Puts (g.S.Sink.taken c.args.sink.now) (g.S.Sink.faults c.args.sink.now) c.args.waiting.now (g.S.Sink.taken c.put_optional_arrival.new.sink) (g.S.Sink.faults c.put_optional_arrival.new.sink) c.put_optional_arrival.new.waiting l) (sym (arrivals_more c.args.names.now c.args.starts.now c.loop-k.k (record { 0 = 0 }) in_names c.loop-k-test.true)) (Puts-both c.loop-k.invariant next)

@@ -3,8 +3,8 @@ use Rattle.std.specs.Prelude.{slice_index_or}
 use Rattle.std.specs.List.{slice_range}
 use Rattle.std.proofs.lemmas.Option.{slice_get-get_or}
 use Rattle.std.proofs.lemmas.List.{drop_all}
+use Rattle.lw_facts.proofs.Lists.{drop_get, slice_range_more}
 use Rattle.lw_mapped.specs.GateLines.{first_tie_fault}
-use Rattle.lw_mapped.proofs.WordLists.{drop-get, slice_range-more}
 use Rattle.lw_mapped.proofs.TieLemmas.{first-is, first-none, first-end, none-is}
 use Rattle.lw_mapped.proofs.ties.first_tie_fault.Goals as goal
 
@@ -15,9 +15,9 @@ loop-place-preserved c =
     let below : place < length words = omega (arith, c.loop-place-test.true, c.len-place-end.ensures) in
     let there = slice_get-get_or words place [] below in
     let none = sym c.tie_fault-fault.ensures ∙ none-is c.tie_fault-fault.result (sym c.is_some.ensures ∙ c.if-is_some.false) in
-    ap (λ b. first_tie_fault c.args.cell.now b (drop (place + 1) words)) (slice_range-more words 2 place (slice_index_or words place []) c.loop-place.auto.place there)
+    ap (λ b. first_tie_fault c.args.cell.now b (drop (place + 1) words)) (slice_range_more words 2 place (slice_index_or words place []) c.loop-place.auto.place there)
     ∙ (sym (first-none c.args.cell.now (slice_range words 2 place) (slice_index_or words place []) (drop (place + 1) words) none)
-    ∙ (sym (ap (first_tie_fault c.args.cell.now (slice_range words 2 place)) (drop-get words place (slice_index_or words place []) there)) ∙ c.loop-place.invariant))
+    ∙ (sym (ap (first_tie_fault c.args.cell.now (slice_range words 2 place)) (drop_get words place (slice_index_or words place []) there)) ∙ c.loop-place.invariant))
 
 pub returns-then-is_some : goal.returns-then-is_some
 returns-then-is_some c =
@@ -26,7 +26,7 @@ returns-then-is_some c =
     let below : place < length words = omega (arith, c.loop-place-test.true, c.len-place-end.ensures) in
     let there = slice_get-get_or words place [] below in
     sym (first-is c.args.cell.now (slice_range words 2 place) (slice_index_or words place []) (drop (place + 1) words) c.tie_fault-fault.result (sym c.tie_fault-fault.ensures) (sym c.is_some.ensures ∙ c.if-is_some.true))
-    ∙ (sym (ap (first_tie_fault c.args.cell.now (slice_range words 2 place)) (drop-get words place (slice_index_or words place []) there)) ∙ c.loop-place.invariant)
+    ∙ (sym (ap (first_tie_fault c.args.cell.now (slice_range words 2 place)) (drop_get words place (slice_index_or words place []) there)) ∙ c.loop-place.invariant)
 
 pub returns : goal.returns
 returns c =

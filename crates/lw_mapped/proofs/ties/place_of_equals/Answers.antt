@@ -1,6 +1,6 @@
 use Rattle.std.proofs.Common.{◌∙◌, ap, length}
 use Rattle.std.specs.Prelude.{unwrap_or}
-use Rattle.lw_mapped.proofs.Digits.{position_or_length}
+use Rattle.lw_facts.proofs.Lists.{position_or_length}
 use Rattle.lw_mapped.specs.GateLines.{is_equals}
 use Rattle.lw_mapped.proofs.ties.place_of_equals.Goals as goal
 

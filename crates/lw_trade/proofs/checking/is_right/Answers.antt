@@ -1,14 +1,15 @@
 use Rattle.std.proofs.Common.{◌≡◌, ◌<◌, ◌≤◌, ◌+◌, ℕ, ◌⊎◌, inl, inr, slice_get, slice_index_or, ap, sym, ◌∙◌, subst, subst₂, arith}
+use Rattle.std.proofs.lemmas.Bool.{cases_lt}
 use Rattle.lw_trade.specs.declared.walking.Node.{Node}
 use Rattle.lw_trade.specs.Checks.{IsGateRight, IsNodeRight, IsOwned, IsUsedEarlier}
-use Rattle.lw_trade.proofs.Lists.{below_or, got, read_at}
+use Rattle.lw_trade.proofs.Lists.{got, read_at}
 use Rattle.lw_trade.proofs.checking.is_right.Goals as goal
 
 abbrev no_node : Node
 no_node = record { class = record { 0 = 0 }; place = 0 }
 
 pub loop-j-preserved : goal.loop-j-preserved
-loop-j-preserved c = λ i lt. by_order i lt (below_or i c.loop-j.j)
+loop-j-preserved c = λ i lt. by_order i lt (cases_lt i c.loop-j.j)
   where
     here : IsGateRight c.args.curves.now c.args.inputs.now c.args.count c.args.lib.now c.args.trail.now.nodes.items c.args.trail.now.owners.items c.args.walk.now.cells.items c.args.walk.now.pins.items c.args.walk.now.nets.items c.loop-j.j
     here =

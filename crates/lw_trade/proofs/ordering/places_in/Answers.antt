@@ -1,6 +1,6 @@
 use Rattle.std.proofs.Common.{length, slice_index_or, ◌∙◌, arith}
 use Rattle.std.proofs.lemmas.List.{get_or_default, length-set}
-use Rattle.lw_trade.proofs.Lists.{below_or}
+use Rattle.std.proofs.lemmas.Bool.{cases_lt}
 use Rattle.lw_trade.proofs.Places.{low_at, place_at, place_low}
 use Rattle.lw_trade.proofs.ordering.places_in.Goals as goal
 
@@ -21,8 +21,8 @@ loop-place-preserved c =
     let low = low_at n order c.requires.moved p c.loop-place-test.true in
     record {
       one_each = length-set places q p ∙ is.one_each;
-      low = λ i lt. place_low n order c.requires.moved places q p is.one_each low c.loop-place-test.true is.low i lt (below_or i q) (below_or q i);
-      at = λ k lt. place_at n order c.requires.moved places p is.one_each c.loop-place-test.true is.at k lt (below_or k p);
+      low = λ i lt. place_low n order c.requires.moved places q p is.one_each low c.loop-place-test.true is.low i lt (cases_lt i q) (cases_lt q i);
+      at = λ k lt. place_at n order c.requires.moved places p is.one_each c.loop-place-test.true is.at k lt (cases_lt k p);
     }
 
 pub returns : goal.returns

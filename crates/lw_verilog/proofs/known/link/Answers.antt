@@ -1,6 +1,5 @@
 use Rattle.std.proofs.Common.{[], ap, ◌∙◌, arith}
-use Rattle.std.proofs.lemmas.List.{length-set}
-use Rattle.lw_mapped.proofs.TextParts.{get_or-any}
+use Rattle.std.proofs.lemmas.List.{length-set, get_or_default}
 use Rattle.lw_verilog.specs.Chains.{bucket_of}
 use Rattle.lw_netlist.proofs.Chains.{chains-more, chains-none}
 use Rattle.lw_verilog.proofs.known.link.Goals as goal
@@ -19,7 +18,7 @@ loop-place-preserved c =
     let heads = c.loop-place.heads in
     let next = c.loop-place.next in
     let bucket = c.bucket_of-bucket.result in
-    let own = c.bucket_of-bucket.ensures.bucket ∙ ap bucket_of (c.as_bytes.ensures.bytes ∙ (c.index-names-place.is ∙ get_or-any names place c.index-names-place.result [] c.loop-place-test.true)) in
+    let own = c.bucket_of-bucket.ensures.bucket ∙ ap bucket_of (c.as_bytes.ensures.bytes ∙ (c.index-names-place.is ∙ get_or_default names place c.index-names-place.result [] c.loop-place-test.true)) in
     record {
       chains = chains-more bucket_of 32768 names place heads next bucket own (omega (arith, c.bucket_of-bucket.ensures.low, c.loop-place.invariant.buckets)) (omega (arith, c.loop-place-test.true, c.requires.few, c.loop-place.invariant.places)) c.loop-place.invariant.buckets c.loop-place.invariant.chains;
       buckets = length-set heads bucket _ ∙ c.loop-place.invariant.buckets;

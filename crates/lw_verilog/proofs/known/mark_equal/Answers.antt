@@ -1,6 +1,6 @@
 use Rattle.std.proofs.Common.{suc, ◌≡◌, ◌<◌, ◌||◌, false, [], length, set, get_or, ap, sym, ◌∙◌, subst, arith}
 use Rattle.std.specs.Str.{bytes_eq}
-use Rattle.lw_mapped.proofs.TextParts.{get_or-any}
+use Rattle.std.proofs.lemmas.List.{get_or_default}
 use Rattle.lw_verilog.specs.Chains.{name_at}
 use Rattle.lw_verilog.proofs.Chains.{IsWalked, walked-all, walked-first, walked-more}
 use Rattle.lw_verilog.proofs.known.mark_equal.Goals as goal
@@ -17,7 +17,7 @@ places-preserved c =
     let is : c.places.left ≡ suc place = omega (arith, c.from-place.ensures, c.places-test.true) in
     let within : place < length names = omega (arith, is, c.places.invariant.low) in
     let same : c.eq-same.result ≡ bytes_eq (name_at names place) name =
-    c.eq-same.ensures ∙ ap (λ l. bytes_eq l name) (c.as_bytes.ensures.bytes ∙ (c.index-names-place.is ∙ get_or-any names place c.index-names-place.result [] within)) in
+    c.eq-same.ensures ∙ ap (λ l. bytes_eq l name) (c.as_bytes.ensures.bytes ∙ (c.index-names-place.is ∙ get_or_default names place c.index-names-place.result [] within)) in
     subst (λ t. IsWalked names name (get_or next place 0) c.args.flags.now (set c.places.flags place (get_or c.places.flags place false || t))) (sym same)
     (walked-more names c.args.heads.now next name c.places.left place c.args.flags.now c.places.flags c.requires.chains is c.requires.one_each c.places.invariant)
 

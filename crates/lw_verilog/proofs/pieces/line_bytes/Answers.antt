@@ -1,7 +1,7 @@
 use Rattle.std.proofs.Common.{◌≤◌, length, ap, sym, subst, ◌∙◌}
 use Rattle.std.specs.Prelude.{unwrap_or}
 use Rattle.std.proofs.lemmas.List.Sums.{prefix_len-le-length}
-use Rattle.lw_verilog.proofs.Runs.{position_or_length}
+use Rattle.lw_facts.proofs.Lists.{position_or_length}
 use Rattle.lw_verilog.proofs.pieces.line_bytes.Goals as goal
 use Rattle.lw_words.specs.Lines.{is_line_feed}
 

@@ -1,8 +1,8 @@
 use Rattle.std.proofs.Common.{◌≤◌, length, ap, sym, subst, not, ◌∙◌}
 use Rattle.std.specs.Prelude.{unwrap_or}
 use Rattle.std.proofs.lemmas.List.Sums.{prefix_len-le-length}
+use Rattle.lw_facts.proofs.Lists.{position_or_length}
 use Rattle.lw_verilog.specs.Pieces.{is_visible}
-use Rattle.lw_verilog.proofs.Runs.{position_or_length}
 use Rattle.lw_verilog.proofs.pieces.visibles.Goals as goal
 
 pub returns-clause-count : goal.returns-clause-count

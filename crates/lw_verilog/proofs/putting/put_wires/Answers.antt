@@ -1,7 +1,7 @@
 use Rattle.std.proofs.Common.{[], map, cond, codes, ap, ap₂, sym, ◌∙◌}
+use Rattle.std.proofs.lemmas.List.{get_or_default}
 use Rattle.lw_io.proofs.Putting.{Puts-more}
 use Rattle.lw_netlist.specs.Closing.{is_among}
-use Rattle.lw_mapped.proofs.TextParts.{get_or-any}
 use Rattle.lw_verilog.specs.Texts.{declaration, wire_text}
 use Rattle.lw_verilog.proofs.PutParts.{Puts-is}
 use Rattle.lw_verilog.proofs.putting.put_wires.Goals as goal
@@ -12,7 +12,7 @@ loop-place-preserved g c =
     let names = c.args.names.now in
     let outputs = map port_name c.args.outputs.now in
     let place = c.loop-place.place in
-    let known = c.is_output-is_output.ensures.known ∙ ap (is_among outputs) (sym (get_or-any names place c.index-names-place.result [] c.loop-place-test.true)) in
+    let known = c.is_output-is_output.ensures.known ∙ ap (is_among outputs) (sym (get_or_default names place c.index-names-place.result [] c.loop-place-test.true)) in
     let name = c.as_bytes.ensures.bytes ∙ c.index-names-place.is in
     record {
       stands = c.is_output-is_output.ensures.stands;

@@ -1,6 +1,6 @@
 use Rattle.std.proofs.Common.{◌+◌, ◌-◌, ◌≡◌, ap, sym, ◌∙◌, arith}
 use Rattle.std.specs.Str.{bytes_eq}
-use Rattle.lw_dag.proofs.Names.{alike}
+use Rattle.lw_facts.proofs.Lists.{bytes_eq_same}
 use Rattle.lw_verilog.specs.Texts.{instance_name}
 use Rattle.lw_verilog.proofs.Marks.{other-instance, raise-none, raise-one}
 use Rattle.lw_verilog.proofs.taken.mark.Goals as goal
@@ -20,5 +20,5 @@ returns c =
     let place = c.in-Some.number - c.args.base in
     let here : c.args.base + place ≡ c.in-Some.number = omega (arith, c.if-number-base.false) in
     raise-one (λ i. bytes_eq (instance_name (c.args.base + i)) c.args.name.now) c.args.flags.now place c.if-place-flags.false
-    (alike (instance_name (c.args.base + place)) c.args.name.now (ap instance_name here ∙ sym c.in-Some.ensures.some))
+    (bytes_eq_same (instance_name (c.args.base + place)) c.args.name.now (ap instance_name here ∙ sym c.in-Some.ensures.some))
     (λ i lt apart. other-instance (c.args.base + i) c.in-Some.number c.args.name.now (omega (arith, lt, c.requires)) c.in-Some.ensures.few c.in-Some.ensures.some (omega (arith, apart, c.if-number-base.false)))

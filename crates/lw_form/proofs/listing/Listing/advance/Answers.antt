@@ -1,11 +1,12 @@
 use Rattle.std.proofs.Common.{◌≡◌, ◌≢◌, ◌∙◌, ◌<◌, ◌+◌, ◌∷◌, ◌++◌, [], List, ℕ, sym, subst, ap, arith, length, OnOk, IfErr}
+use Rattle.std.proofs.lemmas.Result.{on_ok_weaker}
 use Rattle.lw_laws.specs.Forms.{Form}
 use Rattle.lw_form.specs.declared.listing.Step.{Step}
 use Rattle.lw_form.specs.declared.listing.Step.TheVariants.{Add, Parts}
 use Rattle.lw_form.specs.declared.fault.FormFault.{FormFault}
 use Rattle.lw_form.specs.Listed.{bases_of, plain_step, plain_steps, step_size, steps_size, IsTooLong, IsAdding}
 use Rattle.lw_form.specs.Tables.{made, forms_at}
-use Rattle.lw_form.proofs.ListedForms.{parts_below, parts_added, parts_fault, parts_size, on_ok, on_both, if_err}
+use Rattle.lw_form.proofs.ListedForms.{parts_below, parts_added, parts_fault, parts_size, on_both, if_err}
 use Rattle.lw_form.proofs.listing.Listing.advance.Goals as goal
 
 works : (c : goal.After-list_and) (goals : List Form) → IsAdding c.args.table.now c.args.self.now.listed.items c.args.self.now.places.items (c.args.steps.now.items ++ c.args.step ∷ []) goals → IsAdding c.args.table.now c.args.self.now.listed.items c.args.self.now.places.items (c.args.steps.now.items ++ Parts c.in-Parts.b ∷ []) goals
@@ -19,7 +20,7 @@ returns-in-Parts-clause-adding c =
 pub returns-in-Parts-clause-less : goal.returns-in-Parts-clause-less
 returns-in-Parts-clause-less c =
     let (goals, w) = c.requires in
-    on_ok c.list_and.result (λ more. subst (λ s. steps_size (plain_steps (made c.list_and.new.table) c.args.steps.now.items) < step_size (plain_step (made c.args.table.now) s) + steps_size (plain_steps (made c.args.table.now) c.args.steps.now.items)) (sym c.in-Parts.is) (parts_size c.args.table.now c.list_and.new.table c.args.self.now.listed.items c.args.self.now.places.items c.args.self.now.listed.items c.args.self.now.places.items c.args.steps.now.items c.in-Parts.b goals (works c goals w) more)) c.list_and.ensures.more
+    on_ok_weaker c.list_and.result (λ more. subst (λ s. steps_size (plain_steps (made c.list_and.new.table) c.args.steps.now.items) < step_size (plain_step (made c.args.table.now) s) + steps_size (plain_steps (made c.args.table.now) c.args.steps.now.items)) (sym c.in-Parts.is) (parts_size c.args.table.now c.list_and.new.table c.args.self.now.listed.items c.args.self.now.places.items c.args.self.now.listed.items c.args.self.now.places.items c.args.steps.now.items c.in-Parts.b goals (works c goals w) more)) c.list_and.ensures.more
 
 pub returns-in-Parts-clause-fault : goal.returns-in-Parts-clause-fault
 returns-in-Parts-clause-fault c =

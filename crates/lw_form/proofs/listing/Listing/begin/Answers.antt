@@ -1,8 +1,9 @@
 use Rattle.std.proofs.Common.{◌≡◌, ◌≢◌, ◌∙◌, ◌<◌, ◌/◌, ◌∷◌, ◌++◌, [], List, ℕ, sym, subst, ap, arith, length, OnOk, IfErr, Some}
+use Rattle.std.proofs.lemmas.Result.{on_ok_weaker}
 use Rattle.lw_laws.specs.Forms.{Form}
 use Rattle.lw_form.specs.Listed.{bases_of, place_of, no_place, IsTooLong, IsAdding}
 use Rattle.lw_form.specs.Tables.{made, forms_at, spelled, AreBelow}
-use Rattle.lw_form.proofs.ListedForms.{adding_below, adding_listed, adding_simple, simple_fault, adding_and, size_dropped, size_and, on_ok, on_both, if_err, rest_fit}
+use Rattle.lw_form.proofs.ListedForms.{adding_below, adding_listed, adding_simple, simple_fault, adding_and, size_dropped, size_and, on_both, if_err, rest_fit}
 use Rattle.lw_form.proofs.listing.Listing.begin.Goals as goal
 
 pub returns-then-place-clause-adding : goal.returns-then-place-clause-adding
@@ -21,7 +22,7 @@ pub returns-in-None-clause-adding : goal.returns-in-None-clause-adding
 returns-in-None-clause-adding c = let (f, at, simple) = c.in-None.ensures.simple in on_both c.list.result (λ is e goals w. adding_simple c.args.table.now c.len-count.ensures.made c.args.self.now.listed.items c.args.self.now.places.items c.args.steps.now.items c.args.form goals w c.list.new.self.listed.items c.list.new.self.places.items f at simple is e) c.list.ensures.listed c.list.ensures.bases
 
 pub returns-in-None-clause-less : goal.returns-in-None-clause-less
-returns-in-None-clause-less c = on_ok c.list.result (λ h. size_dropped (made c.args.table.now) c.args.steps.now.items c.args.form) c.list.ensures.bases
+returns-in-None-clause-less c = on_ok_weaker c.list.result (λ h. size_dropped (made c.args.table.now) c.args.steps.now.items c.args.form) c.list.ensures.bases
 
 pub returns-in-None-clause-fault : goal.returns-in-None-clause-fault
 returns-in-None-clause-fault c = let (f, at, simple) = c.in-None.ensures.simple in if_err c.list.result (λ e t goals w. simple_fault c.args.table.now c.len-count.ensures.made c.args.self.now.listed.items c.args.self.now.places.items c.args.steps.now.items c.args.form goals w f at simple e t) c.list.ensures.fault

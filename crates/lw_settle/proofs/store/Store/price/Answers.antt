@@ -1,6 +1,7 @@
 use Rattle.std.proofs.Common.{◌+◌, ◌≡◌, ◌<◌, List, length, Some, refl, sym, ap, ◌∙◌, subst, subst₂, arith}
 use Rattle.std.specs.List.{slice_range, All, AllByRecursion}
 use Rattle.std.proofs.lemmas.Option.{slice_get_read}
+use Rattle.lw_facts.proofs.Lists.{all_at}
 use Rattle.lw_pool.specs.declared.id.ClassId.{ClassId}
 use Rattle.lw_laws.specs.Covers.{HasPins}
 use Rattle.lw_laws.specs.Marks.{Mark, HaveMarks, price}
@@ -8,7 +9,6 @@ use Rattle.lw_match.specs.Values.{marks_in, plain_mark}
 use Rattle.lw_settle.specs.declared.row.Row.{Row}
 use Rattle.lw_settle.specs.Kept.{cell_numbers}
 use Rattle.lw_settle.specs.Stores.{StoreState, placed, HasMarkedPins, AreOfStoredCells, IsPriceOf}
-use Rattle.lw_settle.proofs.Grouping.{all_at}
 use Rattle.lw_settle.proofs.Reading.{count, list_count, within, row_classes, part_length, cell_is, cell_pins, marked_row, priced}
 use Rattle.lw_settle.proofs.store.Store.price.Goals as goal
 use Rattle.lw_pool.specs.Numbers.{numbers}
