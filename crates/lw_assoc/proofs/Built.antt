@@ -21,7 +21,7 @@ use Rattle.lw_form.specs.Kept.{AreForms}
 use Rattle.lw_assoc.specs.Drafting.{IsDraftOf}
 use Rattle.lw_assoc.proofs.SameFacts.{same_facts}
 
-pairs_bound : (next : ℕ) (cs : List ℕ) → pair_count next cs ≤ next + length cs
+pub pairs_bound : (next : ℕ) (cs : List ℕ) → pair_count next cs ≤ next + length cs
 pairs_bound next [] = omega arith
 pairs_bound next (c ∷ cs) = by_test (c == 2 * next) (λ k. pairs_bound k cs) where
   by_test : (t : Bool) → ((k : ℕ) → pair_count k cs ≤ k + length cs) → pair_count (if t then suc next else next) cs ≤ next + length (c ∷ cs)

@@ -19,9 +19,7 @@ use Rattle.lw_assoc.specs.Drafting.{other, IsSplitBy, HasSplit, HasSplits, HasTw
 use Rattle.lw_assoc.specs.Parts.{HasParts}
 use Rattle.lw_reduce.specs.Drafting.{sample_of, IsKnown}
 use Rattle.lw_assoc.proofs.Masks.{unpicked, cut_by, picked_other}
-
-pub same_base : (o : Option Base) (a b : Base) → o ≡ Some a → o ≡ Some b → a ≡ b
-same_base o a b e d = cc
+use Rattle.lw_assoc.proofs.SameFacts.{same_place}
 
 pub same_operands : (o : Option Base) (fs hs : List ℕ) → o ≡ Some (base_and fs) → o ≡ Some (base_and hs) → fs ≡ hs
 same_operands o fs hs e d = cc
@@ -199,7 +197,7 @@ module _ (forms : NumberedForms) (are : AreForms forms) where
   -- a base form that is no And has no splits
   pub splits_none : (b : ℕ) (base : Base) (nands : List NandFact) → slice_get forms.bases b ≡ Some base → ((fs : List ℕ) → base ≡ base_and fs → ⊥) → HasSplitsUpTo plain forms b nands → HasSplitsUpTo plain forms (b + 1) nands
   splits_none b base nands e ne so_far =
-      up_to_next plain nands b (λ hs m at one half. absurd (ne hs (same_base (slice_get forms.bases b) base (base_and hs) e at))) so_far
+      up_to_next plain nands b (λ hs m at one half. absurd (ne hs (same_place (slice_get forms.bases b) base (base_and hs) e at))) so_far
 
   abbrev link_of : ℕ → ℕ → FormLink
   link_of f h = record { left = f; right = h }

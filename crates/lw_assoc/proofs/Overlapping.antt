@@ -13,8 +13,9 @@ use Rattle.lw_form.specs.declared.base.Base.{Base as CodeBase}
 use Rattle.lw_form.specs.declared.base.Base.TheVariants.{True, Input, And}
 use Rattle.lw_form.specs.Kept.{AreForms}
 use Rattle.lw_assoc.specs.Drafting.{IsSplitBy, HasSplit, HasTwice, MakeSplit, AreOverlapping, HasSplitsUpTo, IsOverlapping, AddsNands, AddsSplit, AddsInverter, with_nand}
-use Rattle.lw_assoc.proofs.Drafts.{same_base, same_operands, split_more, twice_more, up_to_more, up_to_next}
+use Rattle.lw_assoc.proofs.Drafts.{same_operands, split_more, twice_more, up_to_more, up_to_next}
 use Rattle.lw_assoc.proofs.Masks.{covering_by, picked_once}
+use Rattle.lw_assoc.proofs.SameFacts.{same_place}
 
 module _ (forms : NumberedForms) (are : AreForms forms) where
   pub overlap_makes : (b left right : ℕ) (fs : List ℕ) → slice_get forms.bases b ≡ Some (base_and fs) → left < right → right < 2 ^ length fs → bit_or left right ≡ 2 ^ length fs - 1 → MakeSplit forms b left right
@@ -93,7 +94,7 @@ module _ (forms : NumberedForms) (are : AreForms forms) where
   -- a base form that is no And has no pairs
   pub overlaps_none : (b : ℕ) (base : Base) (nands : List NandFact) → slice_get forms.bases b ≡ Some base → ((fs : List ℕ) → base ≡ base_and fs → ⊥) → IsOverlapping forms b 0 0 nands → HasSplitsUpTo idempotent forms (b + 1) nands
   overlaps_none b base nands e ne so_far =
-      up_to_next forms are idempotent nands b (so_far.twice, λ hs m r at o. absurd (ne hs (same_base (slice_get forms.bases b) base (base_and hs) e at))) so_far.before
+      up_to_next forms are idempotent nands b (so_far.twice, λ hs m r at o. absurd (ne hs (same_place (slice_get forms.bases b) base (base_and hs) e at))) so_far.before
 
   -- a mask of all operands is one of any list that stands there
   pub whole_mask : (b all : ℕ) (fs : List ℕ) → slice_get forms.bases b ≡ Some (base_and fs) → all ≡ 2 ^ length fs - 1 → (hs : List ℕ) → slice_get forms.bases b ≡ Some (base_and hs) → all ≡ 2 ^ length hs - 1

@@ -16,7 +16,7 @@ use Rattle.std.proofs.lemmas.Option.{slice_get_within}
 use Rattle.lw_laws.proofs.Flips.{flip_even, flip_odd, half-flip}
 use Rattle.lw_assoc.proofs.Masks.{picked_other, picked_zero, IsCutBy, cut_mask, covering_masks, half_mask, or_other}
 
-same_place : (o : Option Base) (a b : Base) → o ≡ Some a → o ≡ Some b → a ≡ b
+pub same_place : (o : Option Base) (a b : Base) → o ≡ Some a → o ≡ Some b → a ≡ b
 same_place o a b e d = cc
 
 -- a listed fact with these numbers

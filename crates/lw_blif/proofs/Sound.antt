@@ -190,7 +190,7 @@ sound-names c lines line e not_ignored not_row f h =
 
 -- A line more.
 
-short : (long : Bool) (rest : Option BlifKind) → cond long (Some kind.LongWord) rest ≡ None → rest ≡ None
+pub short : (long : Bool) (rest : Option BlifKind) → cond long (Some kind.LongWord) rest ≡ None → rest ≡ None
 short true rest e = cc
 short false rest e = e
 

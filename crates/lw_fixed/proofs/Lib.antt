@@ -2,7 +2,7 @@ mod Values
 mod Points
 mod Verdicts
 mod Zeros
-mod Shapes
+pub mod Shapes
 mod Six
 mod Written
-mod Texts
+pub mod Texts

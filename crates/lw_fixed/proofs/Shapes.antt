@@ -9,7 +9,7 @@ use Rattle.lw_fixed.specs.Decimals.{is_point, is_sign, without_sign, whole_part,
 use Rattle.lw_fixed.specs.Printed.{with_decimals}
 
 -- a digit is neither a point nor a sign
-digit_apart : (d : ℕ) → is_ascii_digit d ≡ true → (is_point d ≡ false) × (is_sign d ≡ false)
+pub digit_apart : (d : ℕ) → is_ascii_digit d ≡ true → (is_point d ≡ false) × (is_sign d ≡ false)
 digit_apart d digit = (grind (arith, nat_tests), grind (arith, nat_tests))
 
 first_of : (d : ℕ) (ds : List ℕ) → list_all is_ascii_digit (d ∷ ds) ≡ true → (is_ascii_digit d ≡ true) × (list_all is_ascii_digit ds ≡ true)
@@ -32,7 +32,7 @@ no_point (d ∷ ds) all =
     let others : position_or_len is_point ds ≡ length ds = no_point ds parts.1 in
     ap (λ b. cond (not b) (1 + position_or_len is_point ds) 0) apart ∙ omega arith
 
-signless : (d : ℕ) (rest : List ℕ) → is_ascii_digit d ≡ true → without_sign (d ∷ rest) ≡ d ∷ rest
+pub signless : (d : ℕ) (rest : List ℕ) → is_ascii_digit d ≡ true → without_sign (d ∷ rest) ≡ d ∷ rest
 signless d rest digit = ap (λ b. cond b rest (d ∷ rest)) (digit_apart d digit).1
 
 pub behind_point : (whole rest : List ℕ) → drop (length whole + 1) (whole ++ 46 ∷ rest) ≡ rest

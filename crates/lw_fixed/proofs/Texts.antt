@@ -27,7 +27,7 @@ have_digits : (whole part : List ℕ) → list_all is_ascii_digit whole ≡ true
 have_digits whole part all also some = grind (arith, nat_tests)
 
 -- the zeros at the end come back
-padded : (six : List ℕ) → length six ≡ 6 → take 6 (without_zeros six ++ replicate 6 48) ≡ six
+pub padded : (six : List ℕ) → length six ≡ 6 → take 6 (without_zeros six ++ replicate 6 48) ≡ six
 padded six long =
     let s : ℕ = suffix_len (λ d. eqb d 48) six in
     let most : suffix_len (λ d. eqb d 48) six ≤ length six = suffix_len-le-length (λ d. eqb d 48) six in

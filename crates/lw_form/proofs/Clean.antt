@@ -7,49 +7,13 @@ use Rattle.lw_laws.specs.Forms.Form.{true_form, not_form}
 use Rattle.lw_laws.specs.Listings.{AreDistinct, AreOperands, IsSub}
 use Rattle.lw_laws.specs.Listings.IsSub.{sub_none, sub_with, sub_without}
 use Rattle.lw_laws.specs.SignalValues.{form_of}
-use Rattle.lw_laws.proofs.Normal.{conjunction_step}
+use Rattle.lw_laws.proofs.Normal.{conjunction_step, kept_are_distinct, take_sub, drop_sub}
 use Rattle.lw_laws.proofs.Sublists.{distinct_sub, clash_sub, kept_distinct}
 use Rattle.lw_form.specs.Conjunctions.{AreClean}
-
-without_sub : (f : Form) (fs : List Form) → IsSub (without f fs) fs
-without_sub f [] = sub_none
-without_sub f (h ∷ hs) = by_test (same_form f h) (without_sub f hs) where
-  by_test : (t : Bool) → IsSub (without f hs) hs → IsSub (cond t (without f hs) (h ∷ without f hs)) (h ∷ hs)
-  by_test true s = sub_without s
-  by_test false s = sub_with s
-
-not_without : (f : Form) (fs : List Form) → is_among f (without f fs) ≡ false
-not_without f [] = refl
-not_without f (h ∷ hs) = by_test (same_form f h) refl (not_without f hs) where
-  by_test : (t : Bool) → same_form f h ≡ t → is_among f (without f hs) ≡ false → is_among f (cond t (without f hs) (h ∷ without f hs)) ≡ false
-  by_test true s ih = ih
-  by_test false s ih = or_from (same_form f h) (is_among f (without f hs)) s ih
-
-kept_are_distinct : (fs : List Form) → AreDistinct (kept fs)
-kept_are_distinct [] = tt
-kept_are_distinct (f ∷ fs) = by_test (same_form f true_form) refl (kept_are_distinct fs) where
-  by_test : (t : Bool) → same_form f true_form ≡ t → AreDistinct (kept fs) → AreDistinct (cond t (kept fs) (f ∷ without f (kept fs)))
-  by_test true s d = d
-  by_test false s d = (s, not_without f (kept fs), distinct_sub (without_sub f (kept fs)) d)
 
 -- what is left of forms, where they don't clash
 pub kept_clean : (fs : List Form) → has_clash (kept fs) ≡ false → AreClean (kept fs)
 kept_clean fs e = record { distinct = kept_are_distinct fs; clashless = e }
-
-take_sub : (n : ℕ) (fs : List Form) → IsSub (take n fs) fs
-take_sub zero [] = sub_none
-take_sub zero (f ∷ fs) = sub_without (take_sub zero fs)
-take_sub (suc n) [] = sub_none
-take_sub (suc n) (f ∷ fs) = sub_with (take_sub n fs)
-
-whole_sub : (fs : List Form) → IsSub fs fs
-whole_sub [] = sub_none
-whole_sub (f ∷ fs) = sub_with (whole_sub fs)
-
-drop_sub : (n : ℕ) (fs : List Form) → IsSub (drop n fs) fs
-drop_sub zero fs = whole_sub fs
-drop_sub (suc n) [] = sub_none
-drop_sub (suc n) (f ∷ fs) = sub_without (drop_sub n fs)
 
 pub clean_take : (n : ℕ) (fs : List Form) → AreClean fs → AreClean (take n fs)
 clean_take n fs c = record { distinct = distinct_sub (take_sub n fs) c.distinct; clashless = clash_sub (take_sub n fs) c.clashless }

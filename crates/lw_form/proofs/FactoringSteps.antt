@@ -372,12 +372,12 @@ read_map h [] i d lt = absurd (omega arith)
 read_map h (x ∷ ids) zero d lt = refl
 read_map h (x ∷ ids) (suc i) d lt = read_map h ids i d (omega arith)
 
-below_at : (n : ℕ) (ids : List ℕ) (i : ℕ) → i < length ids → AreBelow n ids → get_or ids i 0 / 2 < n
+pub below_at : (n : ℕ) (ids : List ℕ) (i : ℕ) → i < length ids → AreBelow n ids → get_or ids i 0 / 2 < n
 below_at n [] i lt a = absurd (omega arith)
 below_at n (x ∷ ids) zero lt (p, a) = p
 below_at n (x ∷ ids) (suc i) lt (p, a) = below_at n ids i (omega arith) a
 
-signed_below : (n : ℕ) (sign : Bool) (f : ℕ) → f / 2 < n → signed_number sign f / 2 < n
+pub signed_below : (n : ℕ) (sign : Bool) (f : ℕ) → f / 2 < n → signed_number sign f / 2 < n
 signed_below n true f lt = lt
 signed_below n false f lt = below_other n f lt
 

@@ -21,11 +21,12 @@ use Rattle.lw_laws.proofs.Equality.{same_form_refl, form_list-items}
 use Rattle.lw_laws.proofs.FormTruth.{signals_agree}
 use Rattle.lw_laws.proofs.Listed.{occurring_is_listing, true_and_inputs_first}
 use Rattle.lw_laws.proofs.Lists.{slice_get_some}
-use Rattle.lw_laws.proofs.Numbers.{slice_get_map, slice_get_map_back, number_is, number_of, numbers_injective}
+use Rattle.lw_laws.proofs.Numbers.{slice_get_map, slice_get_map_back, number_is, number_of, numbers_injective, sign_two}
 use Rattle.lw_laws.proofs.NumberValues.{numbers_have_values, value_of_number}
 use Rattle.lw_laws.proofs.NetValues.{sops_are_values}
 use Rattle.lw_form.specs.Kept.{HaveValues, AreApart, AreAndOperands, AreInOrder, AreForms}
 use Rattle.lw_form.specs.Limits.{most_bases, most_operands}
+use Rattle.lw_laws.proofs.Mapping.{signals_length}
 
 -- a form is determined by its base form and its sign
 form_decided : (f h : Form) → sign_of (base_form f) ≡ 0 → base_form f ≡ base_form h → (f ≡ h) ⊎ (h ≡ complement f)
@@ -50,26 +51,20 @@ not_both : (t : Bool) → t ≡ true → t ≡ false → ⊥
 not_both true p q = cc
 not_both false p q = cc
 
-sign_small : (f : Form) → sign_of f ≤ 1
-sign_small (var_form i) = omega arith
-sign_small true_form = omega arith
-sign_small (not_form f) = omega arith
-sign_small (and_form fs) = omega arith
-
 module _ (o : Listing) (is : IsListing o) where
   abbrev N : Form → ℕ
   N f = number o.bases f
 
   half_number : (f : Form) → N f / 2 ≡ place (base_form f) o.bases
-  half_number f = let s = sign_small f in omega arith
+  half_number f = let s = sign_two f in omega arith
 
   -- numbers with one base form are of one form, or of complements
   one_base : (f h : Form) → Occurs o f → Occurs o h → N f / 2 ≡ N h / 2 → base_form f ≡ base_form h
   one_base f h (a, d) (b, e) same =
       let (p, at, k) = number_is o.bases f a d in
       let (q, at', k') = number_is o.bases h b e in
-      let sf = sign_small f in
-      let sh = sign_small h in
+      let sf = sign_two f in
+      let sh = sign_two h in
       let here : p ≡ q = omega arith in
       inside (slice_get o.bases q) (base_form f) (base_form h) (ap (slice_get o.bases) (sym here) ∙ at) at'
     where
@@ -197,17 +192,6 @@ module _ (o : Listing) (is : IsListing o) where
     plus_zero n = omega arith
 
 -- the signals of inputs come first
-
-inputs_length : (i n : ℕ) → length (input_signals i n) ≡ n
-inputs_length i zero = refl
-inputs_length i (suc n) = ap suc (inputs_length (i + 1) n)
-
-pub after_length : (width : ℕ) (signals : List Signal) (nodes : List Node) → length (signals_after width signals nodes) ≡ length signals + length nodes
-after_length width signals [] = omega arith
-after_length width signals (node ∷ nodes) = let e = after_length width (signals ++ signal_of_node width signals node ∷ []) nodes in let l = length-append signals (signal_of_node width signals node ∷ []) in omega arith
-
-pub signals_length : (width : ℕ) (net : Network) → length (signals_of width net) ≡ net.inputs + length net.nodes
-signals_length width net = let e = after_length width (input_signals 0 net.inputs) net.nodes in let i = inputs_length 0 net.inputs in omega arith
 
 after_front : (width : ℕ) (signals : List Signal) (nodes : List Node) (k : ℕ) (s : Signal) → slice_get signals k ≡ Some s → slice_get (signals_after width signals nodes) k ≡ Some s
 after_front width signals [] k s e = e

@@ -341,11 +341,6 @@ operands_all forms ids old steps i le so = so ∙ ap (λ k. map (plain_step form
   zero_left : length ids - i ≡ 0
   zero_left = omega arith
 
-pub operand_fits : (count : ℕ) (ids : List ℕ) (i : ℕ) → i < length ids → AreBelow count ids → get_or ids i 0 / 2 < count
-operand_fits count [] i lt a = absurd (omega arith)
-operand_fits count (x ∷ ids) zero lt (p, a) = p
-operand_fits count (x ∷ ids) (suc i) lt (p, a) = operand_fits count ids i (omega arith) a
-
 -- parts of an And
 
 pub picked_forms : (forms : List Form) (ids : List ℕ) (mask : ℕ) → forms_at forms (picked ids mask) ≡ part (forms_at forms ids) mask

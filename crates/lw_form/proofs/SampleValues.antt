@@ -16,11 +16,6 @@ use Rattle.lw_form.specs.Kept.{AreSamples}
 use Rattle.lw_form.specs.Sampled.{sample_value, sample_base}
 use Rattle.lw_form.specs.Tables.{AreBelow}
 
-pub form_fits : (count : ℕ) (ids : List ℕ) (i : ℕ) → i < length ids → AreBelow count ids → get_or ids i 0 / 2 < count
-form_fits count [] i lt a = absurd (omega arith)
-form_fits count (x ∷ ids) zero lt (p, a) = p
-form_fits count (x ∷ ids) (suc i) lt (p, a) = form_fits count ids i (omega arith) a
-
 pub all_step : (samples : List Bool) (fs : List ℕ) (i : ℕ) (value goals : Bool) → i < length fs → value ≡ sample_value samples (get_or fs i 0) → value ≡ true → list_all (sample_value samples) (drop i fs) ≡ goals → list_all (sample_value samples) (drop (i + 1) fs) ≡ goals
 all_step samples fs i value goals lt e t so = sym (at_drop_more (list_all (sample_value samples)) fs i 0 lt ∙ ap (λ b. b && list_all (sample_value samples) (drop (i + 1) fs)) (sym e ∙ t)) ∙ so
 

@@ -11,7 +11,6 @@ use Rattle.std.proofs.lemmas.Option.{slice_get_within}
 use Rattle.lw_facts.proofs.Lists.{get_left}
 use Rattle.lw_net.specs.declared.node.Node.{Node as NetNode}
 use Rattle.lw_net.specs.Networks.{NetworkParts, IsNetwork}
-use Rattle.lw_form.proofs.KeptForms.{after_length}
 use Rattle.lw_laws.specs.Signals.{Signal, sop_at, signed, signal_of_node, signal_of_input, input_signals, signals_after, signals_of, sum_of_products, factored}
 use Rattle.lw_laws.specs.SignalValues.{form_of}
 use Rattle.lw_form.specs.declared.fault.FormFault.{FormFault}
@@ -19,13 +18,17 @@ use Rattle.lw_form.specs.Listed.{base_at, bases_of, IsListed, IsTooLong}
 use Rattle.lw_form.specs.Nets.{signal_at, signals_at, AreListed, AreNodes}
 use Rattle.lw_form.specs.Tables.{input_forms, AreBelow, forms_at, AreMade, HasMore, Table, made, IsMadeAs}
 use Rattle.lw_form.proofs.Joining.{more_twice, more_length, form_kept, forms_kept, below_kept_more, below_append, below_other, even_form}
-use Rattle.lw_form.proofs.ListedForms.{longer_add, longer_fault, listed_kept, bases_kept, operand_fits}
+use Rattle.lw_form.proofs.ListedForms.{longer_add, longer_fault, listed_kept, bases_kept}
 use Rattle.lw_form.proofs.Rows.{signed_form}
 use Rattle.lw_form.specs.Products.{signed_number, HaveColumns}
 use Rattle.lw_pool.specs.declared.id.NetId.{NetId}
 use Rattle.lw_net.specs.Plain.{plain_node}
 use Rattle.lw_net.specs.Signs.{asked}
 use Rattle.lw_pool.specs.Numbers.{net_number}
+use Rattle.lw_laws.proofs.Mapping.{inputs_length, after_length}
+use Rattle.lw_laws.proofs.Listed.{add_signals_append}
+use Rattle.lw_form.proofs.Tables.{input_place as input_at}
+use Rattle.lw_form.proofs.FactoringSteps.{below_at}
 
 pub added_last : (signals : List Signal) (s : Signal) (bases : List Form) → add_signals (signals ++ s ∷ []) bases ≡ add_form s.fac (add_form s.sop (add_signals signals bases))
 added_last [] s bases = refl
@@ -103,7 +106,7 @@ fanin_forms forms sops facs (n ∷ nets) signals e s (p, a) = ap₂ (λ x xs. x 
 
 pub fanins_below : (count : ℕ) (sops nets : List ℕ) → AreBelow count sops → AreNets (length sops) nets → AreBelow count (map (λ net. get_or sops net 0) nets)
 fanins_below count sops [] b a = tt
-fanins_below count sops (n ∷ nets) b (p, a) = (operand_fits count sops n p b, fanins_below count sops nets b a)
+fanins_below count sops (n ∷ nets) b (p, a) = (below_at count sops n p b, fanins_below count sops nets b a)
 
 pub are_nets : (count : ℕ) (nets : List NetId) → All (λ net. net.0 < count) nets → AreNets count (map net_number nets)
 are_nets count [] all = tt
@@ -125,10 +128,6 @@ node_signal width t0 t1 t2 sops facs nets fanins signals rows on sop fac are one
     ap₂ (λ x y. record { sop = x; fac = y })
     (signed_form (made t2) are on sop lt ∙ ap (signed on) (form_kept (made t1) (made t2) sop mf.more ms.within ∙ (ms.is ∙ ap (λ l. sum_of_products width l rows) fs)))
     (signed_form (made t2) are on fac mf.within ∙ ap (signed on) (mf.is ∙ ap (λ l. factored width l rows) (kept ∙ fs)))
-
-pub signed_below : (n : ℕ) (sign : Bool) (f : ℕ) → f / 2 < n → signed_number sign f / 2 < n
-signed_below n true f lt = lt
-signed_below n false f lt = below_other n f lt
 
 -- the start
 
@@ -175,10 +174,6 @@ inputs_front i zero m le = (input_signals i m, refl)
 inputs_front i (suc n) zero le = absurd (omega arith)
 inputs_front i (suc n) (suc m) le = let (rest, e) = inputs_front (i + 1) n m (omega arith) in (rest, ap (λ l. signal_of_input i ∷ l) e)
 
-pub added_apart : (xs ys : List Signal) (bases : List Form) → add_signals (xs ++ ys) bases ≡ add_signals ys (add_signals xs bases)
-added_apart [] ys bases = refl
-added_apart (x ∷ xs) ys bases = added_apart xs ys (add_form x.fac (add_form x.sop bases))
-
 longer_signals : (signals : List Signal) (bases : List Form) → length bases ≤ length (add_signals signals bases)
 longer_signals [] bases = omega arith
 longer_signals (s ∷ signals) bases =
@@ -189,7 +184,7 @@ longer_signals (s ∷ signals) bases =
 
 pub rest_fault : (xs ys all : List Signal) (fault : FormFault) → all ≡ xs ++ ys → IsTooLong (add_signals xs (true_form ∷ [])) fault → IsTooLong (add_signals all (true_form ∷ [])) fault
 rest_fault xs ys all fault e t =
-    subst (λ l. IsTooLong l fault) (sym (ap (λ l. add_signals l (true_form ∷ [])) e ∙ added_apart xs ys (true_form ∷ [])))
+    subst (λ l. IsTooLong l fault) (sym (ap (λ l. add_signals l (true_form ∷ [])) e ∙ add_signals_append xs ys (true_form ∷ [])))
     (longer_fault (add_signals xs (true_form ∷ [])) (add_signals ys (add_signals xs (true_form ∷ []))) fault (longer_signals ys (add_signals xs (true_form ∷ []))) t)
 
 pub inputs_fault : (i inputs : ℕ) (fault : FormFault) → i < inputs → IsTooLong (add_signals (input_signals 0 i ++ signal_of_input i ∷ []) (true_form ∷ [])) fault → IsTooLong (add_signals (input_signals 0 inputs) (true_form ∷ [])) fault
@@ -197,11 +192,6 @@ inputs_fault i inputs fault lt t =
     let (rest, e) = inputs_front 0 (i + 1) inputs (omega arith) in
     let z : 0 + i ≡ i = omega arith in
     rest_fault (input_signals 0 i ++ signal_of_input i ∷ []) rest (input_signals 0 inputs) fault (e ∙ ap (λ l. l ++ rest) (inputs_last 0 i ∙ ap (λ j. input_signals 0 i ++ signal_of_input j ∷ []) z)) t
-
-input_at : (i n k : ℕ) → k < n → slice_get (input_forms i n) k ≡ Some (var_form (i + k))
-input_at i zero k lt = absurd (omega arith)
-input_at i (suc n) zero lt = let z : i ≡ i + 0 = omega arith in ap (λ j. Some (var_form j)) z
-input_at i (suc n) (suc k) lt = let z : i + 1 + k ≡ i + suc k = omega arith in input_at (i + 1) n k (omega arith) ∙ ap (λ j. Some (var_form j)) z
 
 module _ (old now : Table) (inputs i : ℕ) (e : old ≡ record { inputs = inputs; keys = [] }) (more : HasMore (made old) (made now)) (lt : i < inputs) where
   input_place : slice_get (made now) (i + 1) ≡ Some (var_form i)
@@ -273,9 +263,5 @@ network_fault width inputs net fault e t =
     let (rest, s) = after_more width (input_signals 0 net.inputs) net.nodes in
     rest_fault (input_signals 0 net.inputs) rest (signals_of width net) fault s (subst (λ n. IsTooLong (add_signals (input_signals 0 n) (true_form ∷ [])) fault) e t)
 
-input_count : (i n : ℕ) → length (input_signals i n) ≡ n
-input_count i zero = refl
-input_count i (suc n) = ap suc (input_count (i + 1) n)
-
 pub inputs_counted : (now : Table) (listed places sops facs : List ℕ) (inputs : ℕ) → AreListed now listed places sops facs (input_signals 0 inputs) → length sops ≡ inputs
-inputs_counted now listed places sops facs inputs w = net_count now listed places sops facs (input_signals 0 inputs) w ∙ input_count 0 inputs
+inputs_counted now listed places sops facs inputs w = net_count now listed places sops facs (input_signals 0 inputs) w ∙ inputs_length 0 inputs

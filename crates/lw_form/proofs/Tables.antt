@@ -398,7 +398,7 @@ pub no_length : {X : Type 0} (xs : List X) → length xs ≡ 0 → xs ≡ []
 no_length [] e = refl
 no_length (x ∷ xs) e = absurd (omega arith)
 
-input_place : (i n k : ℕ) → k < n → slice_get (input_forms i n) k ≡ Some (var_form (i + k))
+pub input_place : (i n k : ℕ) → k < n → slice_get (input_forms i n) k ≡ Some (var_form (i + k))
 input_place i zero k lt = absurd (omega arith)
 input_place i (suc n) zero lt = let z : i ≡ i + 0 = omega arith in ap (λ j. Some (var_form j)) z
 input_place i (suc n) (suc k) lt = let z : i + 1 + k ≡ i + suc k = omega arith in input_place (i + 1) n k (omega arith) ∙ ap (λ j. Some (var_form j)) z

@@ -1,4 +1,4 @@
-mod Agreeing
+pub mod Agreeing
 mod Assignments
 mod Begun
 mod Bits
@@ -8,7 +8,7 @@ mod Faultless
 mod Fronts
 mod Grammars
 mod NameRuns
-mod MergeLemmas
+pub mod MergeLemmas
 mod LibraryExamples
 mod Lines
 mod Listed

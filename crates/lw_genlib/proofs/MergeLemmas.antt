@@ -18,7 +18,7 @@ use Rattle.lw_genlib.proofs.Pins.{distinct-more}
 
 -- One more form.
 
-first-among : (forms : List Expr) → 0 < length forms → Contains forms (first_expr forms)
+pub first-among : (forms : List Expr) → 0 < length forms → Contains forms (first_expr forms)
 first-among [] some = absurd (omega arith)
 first-among (e ∷ es) some = (0, omega arith, refl)
 

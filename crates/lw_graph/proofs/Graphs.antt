@@ -15,7 +15,7 @@ use Rattle.lw_graph.specs.Rows.{rows_from, start_at}
 use Rattle.lw_graph.proofs.Rows.{length-rows_from, row_at}
 use Rattle.lw_pool.specs.Numbers.{numbers}
 
-flip_below : (n c : ℕ) → n % 2 ≡ 0 → c < n → flip c < n
+pub flip_below : (n c : ℕ) → n % 2 ≡ 0 → c < n → flip c < n
 flip_below n c even lt = let h = half-flip c in omega arith
 
 number_at : (classes : List ClassId) (i : ℕ) (c : ClassId) → slice_get classes i ≡ Some c → slice_index (numbers classes) i ≡ c.0

@@ -30,7 +30,7 @@ use Rattle.lw_label.specs.Rising.{IsWithinSteps, HasHeightAtMost, marked, AreRis
 use Rattle.lw_label.proofs.Marked.{label_at, label_of_mark, mark_of_label, mark_set_same, mark_set_other, priced, standing}
 use Rattle.lw_label.proofs.Falling.{not_below, graph_classes}
 
-none_marked : (n c : ℕ) (m : PlainMark) → marks_in (replicate n None) c ≡ Some m → ⊥
+pub none_marked : (n c : ℕ) (m : PlainMark) → marks_in (replicate n None) c ≡ Some m → ⊥
 none_marked zero c m e = absurd (none-some m e)
 none_marked (suc n) zero m e = absurd (none-some m e)
 none_marked (suc n) (suc c) m e = none_marked n c m e

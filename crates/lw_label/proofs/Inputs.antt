@@ -14,17 +14,13 @@ use Rattle.lw_match.specs.Values.{plain_mark, marks_in}
 use Rattle.lw_label.specs.Labels.{costs_of}
 use Rattle.lw_label.specs.Lowering.{AreLowering, HasCostAtMost, IsLowerOf}
 use Rattle.lw_label.proofs.Marked.{label_of_mark, mark_of_label, mark_set_same, mark_set_other}
+use Rattle.lw_label.proofs.Climbing.{none_marked}
 
 -- The first inputs have given their classes their costs.
 pub record AreInputs (g : Graph) (cost : Cost) (count : ℕ) (marks : List (Option Mark)) : Type 0 where
   pub one_each : length marks ≡ length g.pairs
   pub only : (c : ℕ) (m : PlainMark) → marks_in marks c ≡ Some m → (m.height ≡ 0) × IsLeafCost g cost c m.cost
   pub given : (i c : ℕ) → i < count → slice_get g.leaves i ≡ Some c → (m : PlainMark) × (marks_in marks c ≡ Some m) × (m.cost ≤ cost.leaf i)
-
-none_marked : (n c : ℕ) (m : PlainMark) → marks_in (replicate n None) c ≡ Some m → ⊥
-none_marked zero c m e = absurd (none-some m e)
-none_marked (suc n) zero m e = absurd (none-some m e)
-none_marked (suc n) (suc c) m e = none_marked n c m e
 
 module _ (g : Graph) (cost : Cost) where
   pub inputs_start : (marks : List (Option Mark)) → marks ≡ replicate (length g.pairs) None → AreInputs g cost 0 marks

@@ -244,7 +244,7 @@ module _ (mode : Mode) (inputs : ℕ) (o : Listing) (is : IsListing o) (g h : Gr
   pairs_same c x y p = (other.pairs c x y).1 (splits_same c x y ((one.pairs c x y).0 p))
 
 -- rising rows with the same pairs are one
-not_before : (p : Pair) → IsPairBefore p p → ⊥
+pub not_before : (p : Pair) → IsPairBefore p p → ⊥
 not_before p (inl h) = omega arith
 not_before p (inr (e, h)) = omega arith
 

@@ -39,12 +39,12 @@ delays_up delay [] cell a = tt
 delays_up delay (ds ∷ delays) zero (h, a) = h
 delays_up delay (ds ∷ delays) (suc cell) (h, a) = delays_up delay delays cell a
 
-label_listed : (labels : List (Option ℕ)) (c l : ℕ) → labels_in labels c ≡ Some l → c < length labels
+pub label_listed : (labels : List (Option ℕ)) (c l : ℕ) → labels_in labels c ≡ Some l → c < length labels
 label_listed [] c l e = cc
 label_listed (o ∷ labels) zero l e = omega arith
 label_listed (o ∷ labels) (suc c) l e = let ih = label_listed labels c l e in omega arith
 
-latest_none : (ds : List ℕ) → latest ds [] ≡ 0
+pub latest_none : (ds : List ℕ) → latest ds [] ≡ 0
 latest_none [] = refl
 latest_none (d ∷ ds) = refl
 

@@ -386,7 +386,7 @@ module _ (count width : ℕ) where
   occurring_good : 2 ≤ width → (net : Network) → net.inputs ≤ count → HasAddedSignals (signals_of width net) (true_form ∷ []) (occurring_forms width net)
   occurring_good wide net le = add_signals_good (signals_of width net) (true_form ∷ []) (signals_normal count width wide net le) first_good
 
-add_signals_append : (xs ys : List Signal) (bases : List Form) → add_signals (xs ++ ys) bases ≡ add_signals ys (add_signals xs bases)
+pub add_signals_append : (xs ys : List Signal) (bases : List Form) → add_signals (xs ++ ys) bases ≡ add_signals ys (add_signals xs bases)
 add_signals_append [] ys bases = refl
 add_signals_append (x ∷ xs) ys bases = add_signals_append xs ys (add_form x.fac (add_form x.sop bases))
 

@@ -42,7 +42,7 @@ input_sop width net i lt =
     let at = ap (λ xs. slice_get xs i) s.are ∙ (input_signal 0 net.inputs i s.rest lt ∙ ap (λ m. Some (signal_of_input m)) e) in
     ap (λ (x : Signal). x.sop) (get_or_from_slice_get (signals_of width net) i (signal_of_input i) _ at)
 
-gate_names_each : (outputs : List (List ℕ)) (roots : List ℕ) (free : List (List ℕ)) (gates : List ℕ) → length (gate_names outputs roots free gates) ≡ length gates
+pub gate_names_each : (outputs : List (List ℕ)) (roots : List ℕ) (free : List (List ℕ)) (gates : List ℕ) → length (gate_names outputs roots free gates) ≡ length gates
 gate_names_each outputs roots free [] = refl
 gate_names_each outputs roots free (c ∷ gates) = by_name (output_name outputs roots c) (gate_names_each outputs roots free gates) (gate_names_each outputs roots (drop 1 free) gates)
   where

@@ -44,13 +44,13 @@ list_arrivals timing n ds are = record {
 }
 
 -- there is a signal for each net
-after_length : (width : ℕ) (signals : List Signal) (nodes : List Node) → length (signals_after width signals nodes) ≡ length signals + length nodes
+pub after_length : (width : ℕ) (signals : List Signal) (nodes : List Node) → length (signals_after width signals nodes) ≡ length signals + length nodes
 after_length width signals [] = omega arith
 after_length width signals (node ∷ nodes) =
     let x = signal_of_node width signals node in
     omega (arith, after_length width (signals ++ x ∷ []) nodes, length-append signals (x ∷ []))
 
-inputs_length : (i n : ℕ) → length (input_signals i n) ≡ n
+pub inputs_length : (i n : ℕ) → length (input_signals i n) ≡ n
 inputs_length i ℕ.zero = refl
 inputs_length i (suc n) = ap suc (inputs_length (i + 1) n)
 

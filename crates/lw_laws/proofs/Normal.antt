@@ -30,7 +30,7 @@ complement_normal count width true_form n = (refl, n)
 complement_normal count width (not_form f) n = n.1
 complement_normal count width (and_form fs) n = (refl, n)
 
-without_sub : (f : Form) (fs : List Form) → IsSub (without f fs) fs
+pub without_sub : (f : Form) (fs : List Form) → IsSub (without f fs) fs
 without_sub f [] = sub_none
 without_sub f (h ∷ hs) = by_test (same_form f h) (without_sub f hs) where
   by_test : (t : Bool) → IsSub (without f hs) hs → IsSub (cond t (without f hs) (h ∷ without f hs)) (h ∷ hs)
@@ -50,14 +50,14 @@ kept_sub (f ∷ fs) = by_test (same_form f true_form) (kept_sub fs) where
   by_test true s = sub_without s
   by_test false s = sub_with (joined_subs (without_sub f (kept fs)) s)
 
-not_among_without : (f : Form) (fs : List Form) → is_among f (without f fs) ≡ false
+pub not_among_without : (f : Form) (fs : List Form) → is_among f (without f fs) ≡ false
 not_among_without f [] = refl
 not_among_without f (h ∷ hs) = by_test (same_form f h) refl (not_among_without f hs) where
   by_test : (t : Bool) → same_form f h ≡ t → is_among f (without f hs) ≡ false → is_among f (cond t (without f hs) (h ∷ without f hs)) ≡ false
   by_test true s ih = ih
   by_test false s ih = or_from (same_form f h) (is_among f (without f hs)) s ih
 
-kept_are_distinct : (fs : List Form) → AreDistinct (kept fs)
+pub kept_are_distinct : (fs : List Form) → AreDistinct (kept fs)
 kept_are_distinct [] = tt
 kept_are_distinct (f ∷ fs) = by_test (same_form f true_form) refl (kept_are_distinct fs) where
   by_test : (t : Bool) → same_form f true_form ≡ t → AreDistinct (kept fs) → AreDistinct (cond t (kept fs) (f ∷ without f (kept fs)))
@@ -68,17 +68,17 @@ list_normal : (count width : ℕ) (fs : List Form) → AllByRecursion (IsNormal 
 list_normal count width [] a = tt
 list_normal count width (f ∷ fs) (p, a) = (p, list_normal count width fs a)
 
-take_sub : (n : ℕ) (fs : List Form) → IsSub (take n fs) fs
+pub take_sub : (n : ℕ) (fs : List Form) → IsSub (take n fs) fs
 take_sub zero [] = sub_none
 take_sub zero (f ∷ fs) = sub_without (take_sub zero fs)
 take_sub (suc n) [] = sub_none
 take_sub (suc n) (f ∷ fs) = sub_with (take_sub n fs)
 
-whole_sub : (fs : List Form) → IsSub fs fs
+pub whole_sub : (fs : List Form) → IsSub fs fs
 whole_sub [] = sub_none
 whole_sub (f ∷ fs) = sub_with (whole_sub fs)
 
-drop_sub : (n : ℕ) (fs : List Form) → IsSub (drop n fs) fs
+pub drop_sub : (n : ℕ) (fs : List Form) → IsSub (drop n fs) fs
 drop_sub zero fs = whole_sub fs
 drop_sub (suc n) [] = sub_none
 drop_sub (suc n) (f ∷ fs) = sub_without (drop_sub n fs)

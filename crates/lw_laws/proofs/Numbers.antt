@@ -65,7 +65,7 @@ signs_decide (and_form fs) (var_form j) e s z = e
 signs_decide (and_form fs) true_form e s z = e
 signs_decide (and_form fs) (and_form hs) e s z = e
 
-sign_two : (f : Form) → sign_of f ≤ 1
+pub sign_two : (f : Form) → sign_of f ≤ 1
 sign_two (var_form i) = omega arith
 sign_two true_form = omega arith
 sign_two (not_form f) = omega arith

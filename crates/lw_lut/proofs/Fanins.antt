@@ -9,6 +9,7 @@ use Rattle.lw_lut.specs.Tables.{given}
 use Rattle.lw_lut.proofs.Bits.{spelled_join, spelled_low}
 use Rattle.lw_lut.proofs.Joining.{quotient}
 use Rattle.lw_pool.specs.Numbers.{numbers}
+use Rattle.lw_lut.proofs.TableValues.{long}
 
 -- the class is not the first one
 pub given_skip : (f : ℕ) (fs : List ℕ) (place c : ℕ) → f ≢ c → given (f ∷ fs) place c ≡ given fs place c
@@ -24,10 +25,6 @@ given_from (x ∷ xs) zero place c d lt ne = given_skip x.0 (numbers xs) place c
 given_from (x ∷ xs) (suc k) place c d lt ne =
     let e : suc k + 1 ≡ suc (k + 1) = omega arith in
     rw e (given_from xs k place c d (omega arith) ne)
-
-long : (xs : List ClassId) → length (numbers xs) ≡ length xs
-long [] = refl
-long (x ∷ xs) = ap suc (long xs)
 
 pub given_here : (classes : List ClassId) (k place c : ℕ) (d : ClassId) → k < length classes → (get_or classes k d).0 ≡ c → given (numbers (drop k classes)) place c ≡ is_set place (length classes - 1 - k)
 given_here [] k place c d lt e = absurd (omega arith)

@@ -45,16 +45,16 @@ good_name word some few each = record {
   ends = let short : nat_le (length word) 2000 ≡ true = grind (arith, nat_tests) in ap₂ (λ a b. a && not b) short (no_stroke word some each);
 }
 
-numbered_one : (k : ℕ) → k < 2 ^ 64 → IsSignalName (numbered_name k)
+pub numbered_one : (k : ℕ) → k < 2 ^ 64 → IsSignalName (numbered_name k)
 numbered_one k lt =
     let short : length (decimal k) ≤ 20 = length-decimal-le 20 k (omega arith) (omega arith) lt in
     good_name (numbered_name k) (omega arith) (omega arith) (good_bytes (numbered_name k) (digits_good (decimal k) (digits_decimal model k lt)))
 
-numbered_each : (first count : ℕ) → first + count < 2 ^ 64 → Each IsSignalName (numbered_names first count)
+pub numbered_each : (first count : ℕ) → first + count < 2 ^ 64 → Each IsSignalName (numbered_names first count)
 numbered_each first zero lt = tt
 numbered_each first (suc count) lt = (numbered_one first (omega arith), numbered_each (suc first) count (omega arith))
 
-free_each : (taken : List (List ℕ)) (count : ℕ) → 1 + (count + length taken) < 2 ^ 64 → Each IsSignalName (free_names taken count)
+pub free_each : (taken : List (List ℕ)) (count : ℕ) → 1 + (count + length taken) < 2 ^ 64 → Each IsSignalName (free_names taken count)
 free_each taken count room =
     let names = numbered_names 1 (count + length taken) in
     recursion_from_All IsSignalName (free_names taken count) (All-filter (λ name. not (is_name_among name taken)) IsSignalName names (All-from_recursion IsSignalName names (numbered_each 1 (count + length taken) room)))
@@ -85,13 +85,3 @@ gates_each outputs roots (f ∷ frees) (c ∷ gates) named le each =
 -- the names that so many classes get
 pub given_each : (taken outputs : List (List ℕ)) (roots gates : List ℕ) → 1 + (length gates + length taken) < 2 ^ 64 → Each IsSignalName outputs → Each IsSignalName (gate_names outputs roots (free_names taken (length gates)) gates)
 given_each taken outputs roots gates room named = gates_each outputs roots (free_names taken (length gates)) gates named (enough_free taken (length gates) room) (free_each taken (length gates) room)
-
--- each class gets a name
-pub length_given : (outputs : List (List ℕ)) (roots : List ℕ) (frees : List (List ℕ)) (gates : List ℕ) → length (gate_names outputs roots frees gates) ≡ length gates
-length_given outputs roots frees [] = refl
-length_given outputs roots frees (c ∷ gates) = by_name (output_name outputs roots c) (length_given outputs roots frees gates) (length_given outputs roots (drop 1 frees) gates)
-  where
-    by_name : (n : Option (List ℕ)) → length (gate_names outputs roots frees gates) ≡ length gates → length (gate_names outputs roots (drop 1 frees) gates) ≡ length gates →
-        length (elim n as (λ o. List (List ℕ)) [ Some m ↦ m ∷ gate_names outputs roots frees gates | None ↦ slice_index_or frees 0 [] ∷ gate_names outputs roots (drop 1 frees) gates ]) ≡ suc (length gates)
-    by_name None p q = ap suc q
-    by_name (Some m) p q = ap suc p

@@ -18,6 +18,7 @@ use Rattle.lw_lut.specs.Cuts.{PlainCut, IsCutAt, spelled, is_set, pin_value, tur
 use Rattle.lw_lut.specs.Packed.{joined_value, joined_bits}
 use Rattle.lw_lut.proofs.Bits.{packed_set, spelled_low, spelled_join}
 use Rattle.lw_pool.specs.Numbers.{numbers}
+use Rattle.lw_lut.proofs.TableValues.{long}
 
 -- the tree with its pins that many further on
 abbrev pub moved : ℕ → Tree → Tree
@@ -84,10 +85,6 @@ turned_twice false b = refl
 numbers_append : (xs ys : List ClassId) → numbers (xs ++ ys) ≡ numbers xs ++ numbers ys
 numbers_append xs ys = map-append (λ (c : ClassId). c.0) xs ys
 
-length_numbers : (xs : List ClassId) → length (numbers xs) ≡ length xs
-length_numbers [] = refl
-length_numbers (x ∷ xs) = ap suc (length_numbers xs)
-
 pub quotient : (i j m : ℕ) → j < m → (i * m + j) / m ≡ i
 quotient i j m lt = grind arith
 
@@ -111,9 +108,9 @@ module _ (g : Graph) (c x y : ℕ) (holds : HoldsPair g c x y) (a b : PlainCut) 
       let m = length b.pins in
       let i = spelled v (numbers a.pins) in
       let j = spelled v (numbers b.pins) in
-      let p : i < 2 ^ n = subst (λ k. i < 2 ^ k) (length_numbers a.pins) (spelled_low v (numbers a.pins)) in
-      let q : j < 2 ^ m = subst (λ k. j < 2 ^ k) (length_numbers b.pins) (spelled_low v (numbers b.pins)) in
-      let at : spelled v (numbers (a.pins ++ b.pins)) ≡ i * 2 ^ m + j = ap (spelled v) (numbers_append a.pins b.pins) ∙ (spelled_join v (numbers a.pins) (numbers b.pins) ∙ ap (λ k. i * 2 ^ k + j) (length_numbers b.pins)) in
+      let p : i < 2 ^ n = subst (λ k. i < 2 ^ k) (long a.pins) (spelled_low v (numbers a.pins)) in
+      let q : j < 2 ^ m = subst (λ k. j < 2 ^ k) (long b.pins) (spelled_low v (numbers b.pins)) in
+      let at : spelled v (numbers (a.pins ++ b.pins)) ≡ i * 2 ^ m + j = ap (spelled v) (numbers_append a.pins b.pins) ∙ (spelled_join v (numbers a.pins) (numbers b.pins) ∙ ap (λ k. i * 2 ^ k + j) (long b.pins)) in
       let set = packed_set (joined_value a x b y c) 0 (2 ^ (n + m)) (i * 2 ^ m + j) (within i j n m p q) in
       let zero_in : 0 + (i * 2 ^ m + j) ≡ i * 2 ^ m + j = omega arith in
       let value : joined_value a x b y c (i * 2 ^ m + j) ≡ turned (is_odd c) (not (turned (is_odd x) (is_set a.bits i) && turned (is_odd y) (is_set b.bits j))) = rw (quotient i j (2 ^ m) q, remainder i j (2 ^ m) q) refl in
@@ -121,7 +118,7 @@ module _ (g : Graph) (c x y : ℕ) (holds : HoldsPair g c x y) (a b : PlainCut) 
 
   pub joined_cut : IsCutAt g x (is_odd x) a → IsCutAt g y (is_odd y) b → IsCutAt g c (is_odd c) (record { pins = a.pins ++ b.pins; bits = joined_bits a x b y c })
   joined_cut k l =
-      let n = length_numbers a.pins in
+      let n = long a.pins in
       let xs = numbers a.pins in
       let ys = numbers b.pins in
       let join = numbers_append a.pins b.pins in

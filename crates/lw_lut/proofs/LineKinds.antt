@@ -23,8 +23,8 @@ use Rattle.lw_lut.specs.Nets.{PlainTableNet}
 use Rattle.lw_lut.specs.Texts.{binary, is_buffer, net_name}
 use Rattle.lw_lut.specs.declared.table.Table.{Table}
 use Rattle.lw_lut.proofs.TextLines.{Words, row_words, row_lines_from, off_row, row_lines, table_head, table_lines, wire_head, wire_row, wire_one, wire_lines, latch_words, node_lines, inner_lines}
-use Rattle.lw_lut.proofs.WrittenWords.{length_binary}
 use Rattle.lw_words.specs.Words.{first_word}
+use Rattle.lw_lut.proofs.SaidCloses.{binary_long}
 
 abbrev pub asks_for : Words → Command
 asks_for words = command_of (first_word words)
@@ -91,7 +91,7 @@ row_is (suc bits) place = record {
     some = grind (arith, nat_tests)
 
     long : (length (binary (suc bits) place) == suc bits) ≡ true
-    long = let same = length_binary (suc bits) place in grind (arith, nat_tests, same)
+    long = let same = binary_long (suc bits) place in grind (arith, nat_tests, same)
 
 rows_are : (t : Table) (place count : ℕ) → Each (IsRowOf (length t.fanins) (codes "1")) (row_lines_from t place count)
 rows_are t place zero = tt

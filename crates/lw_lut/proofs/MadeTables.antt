@@ -18,10 +18,11 @@ use Rattle.lw_lut.specs.Nets.{PlainTableNet, AreFit, IsTableNetOf, IsTableNet, n
 use Rattle.lw_lut.specs.Readable.{AreSayablePorts, IsSayable, names_of_nets}
 use Rattle.lw_lut.specs.declared.ports.TablePorts.{TablePorts}
 use Rattle.lw_lut.specs.declared.table.Table.{Table}
-use Rattle.lw_lut.proofs.GivenNames.{given_each, length_given}
+use Rattle.lw_lut.proofs.GivenNames.{given_each}
 use Rattle.lw_lut.proofs.ReadNames.{different_of}
 use Rattle.lw_words.specs.Words.{IsSignalName}
 use Rattle.lw_pool.specs.Numbers.{numbers}
+use Rattle.lw_laws.proofs.MappedNames.{gate_names_each}
 
 -- what is made of the network's own ports
 record IsMade (g : Graph) (most : ℕ) (depths : List (Option ℕ)) (n : PlainTableNet) (frame : Frame) : Type 0 where
@@ -96,7 +97,7 @@ module _ (g : Graph) (most : ℕ) (depths : List (Option ℕ)) (n : PlainTableNe
     net = net;
     few_fanins = All-from_recursion (λ (t : Table). length t.fanins ≤ 6) n.tables (contains_all (λ (t : Table). length t.fanins ≤ 6) n.tables few_fanins);
     one_input = one_input;
-    one_name = ap length names_are ∙ (length_given n.ports.outputs roots (free_names (n.ports.inputs ++ n.ports.outputs) (length gates)) gates ∙ count);
+    one_name = ap length names_are ∙ (gate_names_each n.ports.outputs roots (free_names (n.ports.inputs ++ n.ports.outputs) (length gates)) gates ∙ count);
     one_root = made.fit.one_root;
     model = made.ports.model;
     signals = All-append IsSignalName n.ports.inputs n.names made.ports.inputs tables_named;

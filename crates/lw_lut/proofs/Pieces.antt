@@ -12,6 +12,7 @@ use Rattle.lw_lut.specs.Placed.{header_text}
 use Rattle.lw_lut.specs.Texts.{binary, row, rows_from, wires, wire_text, net_name}
 use Rattle.lw_lut.specs.declared.table.Table.{Table}
 use Rattle.lw_words.specs.Texts.{ended, line}
+use Rattle.lw_lut.proofs.SaidCloses.{binary_long}
 
 -- words and then a line end
 pub ended_is : (words : List (List ℕ)) → ended words ≡ flat_map (λ (word : List ℕ). 32 ∷ word) words ++ 10 ∷ []
@@ -25,10 +26,6 @@ ended_nets n (q ∷ classes) last = ap (λ l. 32 ∷ (net_name n q.0 ++ l)) (end
 
 -- Rows.
 
-binary_length : (bits place : ℕ) → length (binary bits place) ≡ bits
-binary_length zero place = refl
-binary_length (suc bits) place = ap suc (binary_length bits place)
-
 binary_at : (bits place k d : ℕ) → k < bits → get_or (binary bits place) k d ≡ 48 + bit_at place (bits - 1 - k)
 binary_at zero place k d lt = absurd (omega (arith, lt))
 binary_at (suc bits) place zero d lt = let e : suc bits - 1 - 0 ≡ bits = omega arith in ap (λ b. 48 + bit_at place b) (sym e)
@@ -39,12 +36,12 @@ binary_at (suc bits) place (suc k) d lt =
 -- one more digit
 pub binary_more : (bits place k : ℕ) → k < bits → take (k + 1) (binary bits place) ≡ take k (binary bits place) ++ (48 + bit_at place (bits - 1 - k)) ∷ []
 binary_more bits place k lt =
-    let long = binary_length bits place in
+    let long = binary_long bits place in
     take_more (binary bits place) k 0 (omega (arith, long, lt)) ∙ ap (λ x. take k (binary bits place) ++ x ∷ []) (binary_at bits place k 0 lt)
 
 -- all digits
 pub binary_all : (bits place : ℕ) → take bits (binary bits place) ≡ binary bits place
-binary_all bits place = let long = binary_length bits place in take_all bits (binary bits place) (omega (arith, long))
+binary_all bits place = let long = binary_long bits place in take_all bits (binary bits place) (omega (arith, long))
 
 pub row_is : (bits place : ℕ) → (bits ≡ 0 → ⊥) → row bits place ≡ binary bits place ++ codes " 1\n"
 row_is zero place some = absurd (some refl)

@@ -103,7 +103,7 @@ module _ (g : Graph) (most : ℕ) (depths : List (Option ℕ)) (n : PlainTableNe
 
 -- rows have a column for each fan-in
 
-binary_long : (k place : ℕ) → length (binary k place) ≡ k
+pub binary_long : (k place : ℕ) → length (binary k place) ≡ k
 binary_long zero place = refl
 binary_long (suc k) place = ap suc (binary_long k place)
 

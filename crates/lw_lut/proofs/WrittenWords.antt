@@ -15,6 +15,7 @@ use Rattle.lw_words.specs.Lines.{is_blank}
 use Rattle.lw_lut.specs.Texts.{binary}
 use Rattle.lw_lut.proofs.WordLines.{EndsWell, IsWritten}
 use Rattle.lw_words.specs.Words.{IsSignalName}
+use Rattle.lw_lut.proofs.SaidCloses.{binary_long}
 
 -- Bytes.
 
@@ -96,11 +97,7 @@ binary_good : (bits place : ℕ) → Each IsGood (binary bits place)
 binary_good zero place = tt
 binary_good (suc bits) place = (digit_good (bit_at place bits) (bit_at-lt place bits), binary_good bits place)
 
-pub length_binary : (bits place : ℕ) → length (binary bits place) ≡ bits
-length_binary zero place = refl
-length_binary (suc bits) place = ap suc (length_binary bits place)
-
 pub binary_word : (bits place : ℕ) → suc bits ≤ 4095 → IsWritten (binary (suc bits) place)
 binary_word bits place few =
-    let long = length_binary (suc bits) place in
+    let long = binary_long (suc bits) place in
     good_word (binary (suc bits) place) (omega (arith, long)) (omega (arith, long, few)) (binary_good (suc bits) place)

@@ -13,15 +13,7 @@ use Rattle.lw_laws.specs.Netlists.{Netlist}
 use Rattle.lw_laws.specs.Rounds.{labels_in}
 use Rattle.lw_laws.proofs.Facts.{any_true}
 use Rattle.lw_laws.proofs.Lists.{slice_get_some}
-
--- a list holds something only at its places
-labelled_in : (labels : List (Option ℕ)) (c l : ℕ) → labels_in labels c ≡ Some l → c < length labels
-labelled_in labels c l e = by_list labels c e
-  where
-    by_list : (labels : List (Option ℕ)) (c : ℕ) → slice_index_or labels c None ≡ Some l → c < length labels
-    by_list [] c e = cc
-    by_list (o ∷ labels) zero e = omega arith
-    by_list (o ∷ labels) (suc c) e = let ih = by_list labels c e in omega arith
+use Rattle.lw_laws.proofs.LabelLaws.{label_listed}
 
 module _ (g : Graph) (cost : Cost) (pats : List Pattern) (labels : List (Option ℕ)) (heights : ℕ → ℕ) (roots gates : List ℕ) (are : AreGateClasses g cost pats (labels_in labels) heights roots gates) where
   not_before : (c d : ℕ) → c ≡ d → IsGateBefore heights c d → ⊥
@@ -52,7 +44,7 @@ module _ (g : Graph) (cost : Cost) (pats : List Pattern) (labels : List (Option 
       let (gt, gate_at) = slice_get_some n.gates j (omega arith) in
       let (d, m, p, here, chosen, cell, nets) = extracted.chosen j gt gate_at in
       let own : d ≡ x = sym (get_or_from_slice_get gates j d x here) ∙ at in
-      let in_range = labelled_in labels d (cost.value p.cell chosen.supports.pin_labels) chosen.supports.value in
+      let in_range = label_listed labels d (cost.value p.cell chosen.supports.pin_labels) chosen.supports.value in
       omega arith) in
       let one = extracted.one_each in
       omega arith

@@ -22,11 +22,12 @@ use Rattle.lw_netlist.specs.Plain as netlist
 use Rattle.lw_map.specs.Options.{Options, IsWide}
 use Rattle.lw_map.specs.Mapped.{base_count, IsMappedNetlist}
 use Rattle.lw_label.proofs.CellLaws.{timing_up}
-use Rattle.lw_map.proofs.Ranges.{pairs_bound, label_below}
+use Rattle.lw_map.proofs.Ranges.{label_below}
 use Rattle.lw_map.proofs.CellLaws.{delay_patterns, delay_truths}
 use Rattle.lw_map.proofs.PortNames.{has_ports}
 use Rattle.lw_net.specs.Ports.{ports_of}
 use Rattle.lw_netlist.specs.Plain.{mapped_ports}
+use Rattle.lw_assoc.proofs.Built.{pairs_bound}
 
 module _ (options : Options) (cells : List CellParts) (net : NetworkParts) (starts : List Micro) (wide : IsWide options) (kept : IsNetwork net) (early : All IsSmall starts) (lib : IsLibrary cells) where
   few_inputs : net.inputs < 2 ^ 32

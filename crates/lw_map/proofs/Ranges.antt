@@ -31,13 +31,6 @@ pairs_rise next (c ∷ cs) = by_test (c == 2 * next) (λ k. pairs_rise k cs) whe
   by_test true rest = let p = rest (suc next) in omega arith
   by_test false rest = rest next
 
-pub pairs_bound : (next : ℕ) (cs : List ℕ) → pair_count next cs ≤ next + length cs
-pairs_bound next [] = omega arith
-pairs_bound next (c ∷ cs) = by_test (c == 2 * next) (λ k. pairs_bound k cs) where
-  by_test : (t : Bool) → ((k : ℕ) → pair_count k cs ≤ k + length cs) → pair_count (if t then suc next else next) cs ≤ next + length (c ∷ cs)
-  by_test true rest = let p = rest (suc next) in omega arith
-  by_test false rest = let p = rest next in omega arith
-
 -- each class in the list is one of the pairs
 pub numbered_low : (next : ℕ) (cs : List ℕ) (i c : ℕ) → AreNumberedFrom next cs → slice_get cs i ≡ Some c → c / 2 < pair_count next cs
 numbered_low next [] i c are e = cc

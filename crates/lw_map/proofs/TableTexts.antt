@@ -28,9 +28,10 @@ use Rattle.lw_map.specs.Options.{Options, IsWide}
 use Rattle.lw_map.specs.Mapped.{IsWithinLimits}
 use Rattle.lw_map.specs.Tabled.{AreLeaves, HasReadableNames, IsTabled}
 use Rattle.lw_map.proofs.PortNames.{few_outputs, has_ports, port_list}
-use Rattle.lw_map.proofs.Ranges.{pairs_bound, unfolds_low}
+use Rattle.lw_map.proofs.Ranges.{unfolds_low}
 use Rattle.lw_words.specs.Words.{IsSignalName}
 use Rattle.lw_net.specs.Ports.{ports_of}
+use Rattle.lw_assoc.proofs.Built.{pairs_bound}
 
 module _ (options : Options) (most : ℕ) (net : NetworkParts) (n : PlainTableNet) (wide : IsWide options) (within : IsWithinLimits options net) (kept : IsNetwork net) (is : IsTabled options most net n) where
   pub ports_are : ArePortsOf options.width (network.plain net) (ports_of net) is.graph n.ports

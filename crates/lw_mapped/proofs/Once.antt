@@ -17,7 +17,7 @@ use Rattle.lw_mapped.specs.Unmapped.{IsSaid, ClosesTo, ComesTo, TellsLine, HasWh
 use Rattle.lw_mapped.proofs.ClosedOnce.{closed-once}
 
 -- The first on a cycle is one.
-cycle-once : (ls : List Link) (a b : List ℕ) → IsFirstOnCycle ls a → IsFirstOnCycle ls b → a ≡ b
+pub cycle-once : (ls : List Link) (a b : List ℕ) → IsFirstOnCycle ls a → IsFirstOnCycle ls b → a ≡ b
 cycle-once ls a b x y = by_place (cases_lt x.place y.place) (cases_lt y.place x.place)
   where
     by_place : (x.place < y.place) ⊎ (y.place ≤ x.place) → (y.place < x.place) ⊎ (x.place ≤ y.place) → a ≡ b

@@ -19,6 +19,8 @@ use Rattle.lw_fixed.specs.Decimals.{decimal_of, is_point, is_sign, without_sign,
 use Rattle.lw_fixed.specs.Printed.{decimal_text, six_decimals, without_zeros, with_decimals}
 use Rattle.lw_mapped.proofs.GoodWords.{IsGood, is_good, good-bytes}
 use Rattle.lw_mapped.proofs.WrittenLines.{each-append}
+use Rattle.lw_fixed.proofs.Shapes.{digit_apart, signless}
+use Rattle.lw_fixed.proofs.Texts.{padded}
 
 abbrev pub Digits : List ℕ → Type 0
 Digits ds = list_all is_ascii_digit ds ≡ true
@@ -106,44 +108,27 @@ dropped-zeros xs =
     ∙ (eqb-true _ _ (zero-behind xs (length xs - n + i) (omega arith) (omega arith))
     ∙ sym (get_or-replicate n i 48 0 (omega arith))))
 
-padded : (six : List ℕ) → length six ≡ 6 → take 6 (without_zeros six ++ replicate 6 48) ≡ six
-padded six long =
-    let s : ℕ = suffix_len is_zero six in
-    let most : suffix_len is_zero six ≤ length six = suffix_len-le-length is_zero six in
-    let all_six : s + (6 - s) ≡ 6 = omega arith in
-    let zeros : replicate s 48 ++ replicate (6 - s) 48 ≡ replicate 6 48 = replicate-append-replicate s (6 - s) 48 ∙ ap (λ n. replicate n 48) all_six in
-    let whole : take (length six - s) six ++ replicate s 48 ≡ six = ap (λ r. take (length six - s) six ++ r) (sym (dropped-zeros six)) ∙ take-append-drop (length six - s) six in
-    let all : without_zeros six ++ replicate 6 48 ≡ six ++ replicate (6 - s) 48 =
-    ap (λ r. without_zeros six ++ r) (sym zeros) ∙ (sym (append_assoc (without_zeros six) (replicate s 48) (replicate (6 - s) 48)) ∙ ap (λ r. r ++ replicate (6 - s) 48) whole) in
-    ap (take 6) all ∙ take_at six (replicate (6 - s) 48) 6 long
-
 -- Around the point.
-
-digit-apart : (d : ℕ) → is_ascii_digit d ≡ true → (is_point d ≡ false) × (is_sign d ≡ false)
-digit-apart d digit = (grind (arith, nat_tests), grind (arith, nat_tests))
 
 point-behind : (ds rest : List ℕ) → Digits ds → position_or_len is_point (ds ++ 46 ∷ rest) ≡ length ds
 point-behind [] rest all = refl
 point-behind (d ∷ ds) rest all =
     let parts = first-digit d ds all in
     let others : position_or_len is_point (ds ++ 46 ∷ rest) ≡ length ds = point-behind ds rest parts.1 in
-    ap (λ b. cond (not b) (1 + position_or_len is_point (ds ++ 46 ∷ rest)) 0) (digit-apart d parts.0).0 ∙ omega (arith, others)
+    ap (λ b. cond (not b) (1 + position_or_len is_point (ds ++ 46 ∷ rest)) 0) (digit_apart d parts.0).0 ∙ omega (arith, others)
 
 no-point : (ds : List ℕ) → Digits ds → position_or_len is_point ds ≡ length ds
 no-point [] all = refl
 no-point (d ∷ ds) all =
     let parts = first-digit d ds all in
     let others : position_or_len is_point ds ≡ length ds = no-point ds parts.1 in
-    ap (λ b. cond (not b) (1 + position_or_len is_point ds) 0) (digit-apart d parts.0).0 ∙ omega (arith, others)
+    ap (λ b. cond (not b) (1 + position_or_len is_point ds) 0) (digit_apart d parts.0).0 ∙ omega (arith, others)
 
 -- the text of a whole part and of decimals
 record HasParts (text whole part : List ℕ) : Type 0 where
   whole_is : whole_part text ≡ whole
   part_is : decimals text ≡ part
   positive : is_negative text ≡ false
-
-signless : (d : ℕ) (rest : List ℕ) → is_ascii_digit d ≡ true → without_sign (d ∷ rest) ≡ d ∷ rest
-signless d rest digit = ap (λ b. cond b rest (d ∷ rest)) (digit-apart d digit).1
 
 not-minus : (d : ℕ) → is_ascii_digit d ≡ true → (nat_eq 45 d && true) ≡ false
 not-minus d digit = grind (arith, nat_tests)

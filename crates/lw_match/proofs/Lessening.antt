@@ -14,8 +14,8 @@ use Rattle.lw_match.specs.declared.parts.Side.{Side}
 use Rattle.lw_match.specs.declared.parts.Part.{Part}
 use Rattle.lw_match.specs.Numbers.{never, no_row, start_of, AreStarts, number_from, Reading, class_below, side_number, pair_number}
 use Rattle.lw_match.specs.Bounds.{total, reading_of, AreBare, AreSettledBelow}
-use Rattle.lw_match.proofs.Branches.{flip_below}
 use Rattle.lw_match.proofs.Pairs.{pair_at}
+use Rattle.lw_graph.proofs.Graphs.{flip_below}
 
 pub below_within : (n : ℕ) (s : Side) (c : ℕ) → n % 2 ≡ 0 → c < n → class_below s c < n
 below_within n s c even lt = by_flag s.flipped

@@ -2,7 +2,7 @@ mod Bracketings
 mod Counts
 mod Growth
 mod Keeping
-mod LibraryLaws
+pub mod LibraryLaws
 mod Meanings
 mod Placement
 mod Running

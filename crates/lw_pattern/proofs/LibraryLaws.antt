@@ -14,6 +14,7 @@ use Rattle.lw_genlib.specs.Postfix.{first_expr}
 use Rattle.lw_genlib.specs.Cells.{CellParts, IsForm, IsListed, IsLibrary}
 use Rattle.lw_pattern.specs.Libraries.{forms_of, pin_count, pin_counts, library_patterns, library_truth}
 use Rattle.lw_pattern.proofs.Keeping.{by_place}
+use Rattle.lw_genlib.proofs.MergeLemmas.{first-among}
 
 -- the cell at a place, with its forms and its number of pins
 record IsAt (cells : List CellParts) (cell : ℕ) (forms : List Expr) (n : ℕ) : Type 0 where
@@ -23,7 +24,7 @@ record IsAt (cells : List CellParts) (cell : ℕ) (forms : List Expr) (n : ℕ) 
   forms_are : own.forms ≡ forms
   pins_are : pin_count own ≡ n
 
-kept_at : (cells : List CellParts) (cell : ℕ) (own : CellParts) → All IsListed cells → slice_get cells cell ≡ Some own → IsListed own
+pub kept_at : (cells : List CellParts) (cell : ℕ) (own : CellParts) → All IsListed cells → slice_get cells cell ≡ Some own → IsListed own
 kept_at cells cell own all at = subst IsListed (get_or_from_slice_get cells cell own own at) (all cell own (slice_get_within cells cell own at))
 
 is_at : (cells : List CellParts) (cell n : ℕ) (forms : List Expr) → IsLibrary cells → slice_get (map forms_of cells) cell ≡ Some forms → HasPins (pin_counts cells) cell n → IsAt cells cell forms n
@@ -33,11 +34,7 @@ is_at cells cell n forms lib e has =
     let one : own ≡ other = same_Some own other (sym at ∙ there) in
     record { own = own; at = at; kept = kept_at cells cell own lib.each at; forms_are = same; pins_are = ap pin_count one ∙ pins }
 
-first_form : (forms : List Expr) → 0 < length forms → Contains forms (first_expr forms)
-first_form [] some = absurd (omega arith)
-first_form (e ∷ forms) some = (0, omega arith, refl)
-
-are_cells : (cells : List CellParts) → IsLibrary cells → AreCells (pin_counts cells) (library_truth cells) (map forms_of cells)
+pub are_cells : (cells : List CellParts) → IsLibrary cells → AreCells (pin_counts cells) (library_truth cells) (map forms_of cells)
 are_cells cells lib = record {
   pins = λ cell n k forms e listed c has.
       let a = is_at cells cell n forms lib listed has in
@@ -47,7 +44,7 @@ are_cells cells lib = record {
   truths = λ cell forms e ys listed c has.
       let a = is_at cells cell (length ys) forms lib listed has in
       let own : Contains a.own.forms e = subst (λ fs. Contains fs e) (sym a.forms_are) c in
-      a.kept.kept.one_truth e (first_expr a.own.forms) own (first_form a.own.forms a.kept.kept.some_form) (given ys)
+      a.kept.kept.one_truth e (first_expr a.own.forms) own (first-among a.own.forms a.kept.kept.some_form) (given ys)
       ∙ ap (λ o. Rattle.lw_pattern.specs.Libraries.value_of o ys) (sym a.at);
 }
 

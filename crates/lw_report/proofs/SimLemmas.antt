@@ -120,10 +120,6 @@ lines_of IsLine vector line from zero each = no_lines
 lines_of IsLine vector line from (suc n) each =
     next_line (each from (omega arith) (omega arith)) (lines_of IsLine vector line (from + 1) n (λ k low high. each k (omega arith) (omega arith)))
 
-pub first_is : (es : List Expr) (e : Expr) → 0 < length es → e ≡ get_or es 0 e → e ≡ first_expr es
-first_is [] e some is = absurd (omega arith)
-first_is (x ∷ es) e some is = is
-
 -- one number more
 pub line_more : (line : ℕ → List ℕ) (n : ℕ) → flat_map line (range_with_len 0 (n + 1)) ≡ flat_map line (range_with_len 0 n) ++ line n
 line_more line n = ap (flat_map line) (range_more n) ∙ (flat_map-append line (range_with_len 0 n) (n ∷ []) ∙ ap (λ (l : List ℕ). flat_map line (range_with_len 0 n) ++ l) (append-nil (line n)))

@@ -56,7 +56,7 @@ use Rattle.lw_map.specs.Mapped.{IsMappedNetlist, IsWithinLimits}
 use Rattle.lw_map.proofs.CellLaws.{delay_patterns}
 use Rattle.lw_map.proofs.Names.{mapped_has_names}
 use Rattle.lw_map.proofs.PortNames.{few_outputs}
-use Rattle.lw_map.proofs.Ranges.{pairs_bound, unfolds_low, label_below}
+use Rattle.lw_map.proofs.Ranges.{unfolds_low, label_below}
 use Rattle.lw_top.specs.Maps.{HasCertificate}
 use Rattle.lw_top.specs.Checks.{HasVerdict}
 use Rattle.lw_top.specs.Checked.{AreApart}
@@ -68,6 +68,7 @@ use Rattle.lw_words.specs.Words.{IsSignalName}
 use Rattle.lw_pool.specs.Numbers.{numbers}
 use Rattle.lw_net.specs.Ports.{output_port, ports_of}
 use Rattle.lw_pool.specs.Numbers.{net_number}
+use Rattle.lw_assoc.proofs.Built.{pairs_bound}
 
 -- Lists beside each other.
 

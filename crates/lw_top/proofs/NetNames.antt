@@ -14,6 +14,7 @@ use Rattle.lw_mapped.proofs.GoodWords.{IsGood, good-bytes, stroke-behind, ends_s
 use Rattle.lw_mapped.proofs.Printing.{own, digits-good}
 use Rattle.lw_mapped.proofs.WrittenLines.{each-of, each-append, each-weaker}
 use Rattle.lw_words.specs.Words.{IsSignalName}
+use Rattle.lw_lut.proofs.GivenNames.{free_each}
 
 -- Numbered names.
 
@@ -28,21 +29,6 @@ good-name word some few each = record {
   no_hash = All-from_recursion IsNoHash word (each-weaker IsGood IsNoHash (λ b h. h.1) word each);
   ends = let short : nat_le (length word) 2000 ≡ true = grind (arith, nat_tests) in ap₂ (λ a b. a && not b) short (no-stroke word some each);
 }
-
-pub numbered-name : (k : ℕ) → k < 2 ^ 64 → IsSignalName (numbered_name k)
-numbered-name k lt =
-    let short : length (decimal k) ≤ 20 = length-decimal-le 20 k (omega arith) (omega arith) lt in
-    good-name (numbered_name k) (omega arith) (omega arith)
-    ((good-bytes (110 ∷ []) refl).0, good-bytes (decimal k) (digits-good (decimal k) (digits_decimal own k lt)))
-
-numbered-each : (first count : ℕ) → first + count < 2 ^ 64 → Each IsSignalName (numbered_names first count)
-numbered-each first zero lt = tt
-numbered-each first (suc count) lt = (numbered-name first (omega arith), numbered-each (suc first) count (omega arith))
-
-free-each : (taken : List (List ℕ)) (count : ℕ) → 1 + (count + length taken) < 2 ^ 64 → Each IsSignalName (free_names taken count)
-free-each taken count room =
-    each-of IsSignalName (free_names taken count)
-    (All-filter (λ name. not (is_name_among name taken)) IsSignalName (numbered_names 1 (count + length taken)) (All-from_recursion IsSignalName (numbered_names 1 (count + length taken)) (numbered-each 1 (count + length taken) room)))
 
 -- Names of gates.
 
@@ -75,4 +61,4 @@ nets-named inputs outputs roots gates room ins outs =
     let taken = inputs ++ outputs in
     let frees = free_names taken (length gates) in
     All-from_recursion IsSignalName (inputs ++ gate_names outputs roots frees gates)
-    (each-append IsSignalName inputs (gate_names outputs roots frees gates) ins (gates-named outputs roots outs frees gates (enough_free taken (length gates) room) (free-each taken (length gates) room)))
+    (each-append IsSignalName inputs (gate_names outputs roots frees gates) ins (gates-named outputs roots outs frees gates (enough_free taken (length gates) room) (free_each taken (length gates) room)))

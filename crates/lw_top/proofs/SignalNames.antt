@@ -23,7 +23,7 @@ use Rattle.lw_blif.specs.LineFaults.{FaultAt, other_words, command, names_for, w
 use Rattle.lw_blif.specs.Drafts.{model_for, inputs_for, outputs_for, latches_for, latch_of, model_on, inputs_on, outputs_on, latches_on, draft_of, frame_on}
 use Rattle.lw_blif.specs.BlifNetworks.{IsModelOf, IsBlifNetwork, ComesTo}
 use Rattle.lw_blif.proofs.Appending.{fault_or_none}
-use Rattle.lw_blif.proofs.Sound.{lines-draft}
+use Rattle.lw_blif.proofs.Sound.{lines-draft, short}
 use Rattle.lw_mapped.proofs.GoodWords.{right-word}
 use Rattle.lw_mapped.proofs.WrittenLines.{each-of, each-append, each-weaker}
 use Rattle.lw_mapped.proofs.SaidNames.{control-named, model-or-unnamed, once-named}
@@ -73,10 +73,6 @@ fit-arrival : (c : Command) (words : List (List ℕ)) → first_broken (arrival_
 fit-arrival c words e =
     let both = two-tests (wants_words c words) (list_all is_name (names_for c words)) kind.WordCount kind.BadName (first_broken (start_rules (start_in (times_for c words)))) e in
     record { names = both.1; count = both.0 }
-
-short : (long : Bool) (rest : Option BlifKind) → cond long (Some kind.LongWord) rest ≡ None → rest ≡ None
-short true rest e = cc
-short false rest e = e
 
 line-fit : (before : List LogicalLine) (line : LogicalLine) → line_fault before line ≡ None → IsFit (command line) line.words
 unfolding line_fault

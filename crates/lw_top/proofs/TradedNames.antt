@@ -13,12 +13,12 @@ use Rattle.lw_netlist.specs.Netlists.{NetlistParts}
 use Rattle.lw_mapped.specs.Readable.{IsNamed}
 use Rattle.lw_map.specs.Options.{Options}
 use Rattle.lw_map.specs.Trading.{IsTradedNetlist}
-use Rattle.lw_top.proofs.NetNames.{numbered-name}
 use Rattle.lw_top.proofs.SignalNames.{IsNamed as IsNamedModel}
 use Rattle.lw_top.proofs.Sound.{AreKept}
 use Rattle.lw_words.specs.Words.{IsSignalName}
 use Rattle.lw_net.specs.Ports.{output_port}
 use Rattle.lw_netlist.specs.Plain.{plain_port, port_name}
+use Rattle.lw_lut.proofs.GivenNames.{numbered_one}
 
 -- a name among names that are all of the format
 among : (names : List (List ℕ)) (name : List ℕ) → All IsSignalName names → Contains names name → IsSignalName name
@@ -35,7 +35,7 @@ module _ (options : Options) (cells : List CellParts) (model : Parsed) (deadline
   net_named : (name : List ℕ) → Contains (input_names model.network) name ⊎ (Contains (output_names model.network) name ⊎ ((k : ℕ) × (k < 2 ^ 64) × (name ≡ numbered_name k))) → IsSignalName name
   net_named name (inl input) = among (input_names model.network) name named.inputs input
   net_named name (inr (inl output)) = among (output_names model.network) name named.outputs output
-  net_named name (inr (inr (k, lt, e))) = subst IsSignalName (sym e) (numbered-name k lt)
+  net_named name (inr (inr (k, lt, e))) = subst IsSignalName (sym e) (numbered_one k lt)
 
   pub traded_named : IsNamed n
   traded_named = record {

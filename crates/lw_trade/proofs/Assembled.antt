@@ -30,7 +30,7 @@ use Rattle.lw_trade.specs.Traded.IsNeeded.{by_output, by_pin}
 use Rattle.lw_trade.specs.Trades.{IsBuilt, IsGateOfPoint, IsNetOfPoint}
 use Rattle.lw_trade.specs.Walks.{IsUsed, IsWalk}
 use Rattle.lw_trade.specs.Walks.IsUsed.{by_root, by_pin as used_pin}
-use Rattle.lw_trade.proofs.Cells.{cell_in, pins_are}
+use Rattle.lw_trade.proofs.Cells.{cell_in}
 use Rattle.lw_trade.proofs.Grouped.{get_map, map_get}
 use Rattle.lw_trade.proofs.Lists.{at_contained, contained_at, get_in, get_some, got}
 use Rattle.lw_trade.proofs.Lowest.{least_net}
@@ -39,6 +39,7 @@ use Rattle.lw_trade.proofs.Places.{order_length, order_low, stands_there}
 use Rattle.lw_trade.proofs.Standing.{pins_before_gate, placed_input, placed_node}
 use Rattle.lw_trade.proofs.Walked.{roots_low, walk_graph, walk_high}
 use Rattle.lw_pool.specs.Numbers.{net_number}
+use Rattle.lw_label.proofs.Times.{pins_at}
 
 all_below : (m : ℕ) (places : List ℕ) (b : ℕ) (xs : List ℕ) → ((k d : ℕ) → k < length xs → placed_net m places (slice_index_or xs k d) < b) → AllByRecursion (λ p. p < b) (map (placed_net m places) xs)
 all_below m places b [] h = tt
@@ -248,7 +249,7 @@ module _ (s : Task) (t : Targets) (curves : CurveLists) (c : AreCurvesFor s t cu
             let cell = (made_gate i).cell in
             let may = c.ways.choices.each h.choice (record { class = is.class; part = Rattle.lw_trade.specs.Choices.Part.gate cell is.pins }) is.chosen in
             let (parts, bt) = get_some s.cells cell (cell_in s.cells cell (length is.pins) may.pins) in
-            let a = pins_are s.cells cell (length is.pins) parts bt may.pins in
+            let a = pins_at s.cells cell (length is.pins) parts bt may.pins in
             let b = pin_count s held in_order h.spot.time (delays_of (timing s).delays cell) is.pins (made_gate i).pins is.nets in
             let kept = (subst Rattle.lw_genlib.specs.Cells.IsListed (get_or_from_slice_get s.cells cell parts parts bt) (lib.each cell parts (get_in s.cells cell parts bt))).kept.delays in
             let many = length-map (fanins_at graph i) (placed_net m places) in

@@ -19,12 +19,6 @@ delays_are [] place cell at = absurd (none-some cell at)
 delays_are (other ∷ cells) zero cell at = ap cell_delays (same_Some other cell at)
 delays_are (other ∷ cells) (suc place) cell at = delays_are cells place cell at
 
--- how many pins it has
-pub pins_are : (cells : List CellParts) (place n : ℕ) (cell : CellParts) → slice_get cells place ≡ Some cell → HasPins (map length (delays_of_cells cells)) place n → length cell.delays ≡ n
-pins_are [] place n cell at has = absurd (none-some cell at)
-pins_are (other ∷ cells) zero n cell at has = ap (λ (c : CellParts). length c.delays) (sym (same_Some other cell at)) ∙ (sym (length-map other.delays millionths) ∙ same_Some (length (map millionths other.delays)) n has)
-pins_are (other ∷ cells) (suc place) n cell at has = pins_are cells place n cell at has
-
 -- a cell with some number of pins is there
 pub cell_in : (cells : List CellParts) (place n : ℕ) → HasPins (map length (delays_of_cells cells)) place n → place < length cells
 cell_in [] place n has = cc

@@ -12,9 +12,9 @@ use Rattle.lw_laws.specs.Choices.HasCost.{by_wire, by_gate}
 use Rattle.lw_laws.specs.Choices.HaveCosts.{no_pins, pin}
 use Rattle.lw_laws.specs.Matches.{choices_of}
 use Rattle.lw_laws.proofs.Flips.{flip-flip}
-use Rattle.lw_match.proofs.Branches.{flip_below}
 use Rattle.lw_graph.specs.Graphs.{IsGraph}
 use Rattle.lw_trade.proofs.Lists.{get_in, got}
+use Rattle.lw_graph.proofs.Graphs.{flip_below}
 
 held_in : (rows : List (List Pair)) (c : ℕ) (p : Pair) → Contains (slice_index_or rows c []) p → c < length rows
 held_in [] c p (k, lt, e) = absurd (omega arith)

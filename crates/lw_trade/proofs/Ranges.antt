@@ -8,7 +8,6 @@ use Rattle.lw_laws.specs.Flip.{flip}
 use Rattle.lw_laws.specs.Graphs.{Graph, Pair, HoldsPair, Stands}
 use Rattle.lw_laws.specs.Trees.{Tree, leaf, const_one, const_zero, inv, nand, HasLeaf}
 use Rattle.lw_match.specs.Least.{AreOfCells}
-use Rattle.lw_match.proofs.Branches.{flip_below}
 use Rattle.lw_trade.specs.declared.choices.Row.{Row}
 use Rattle.lw_trade.specs.declared.uses.Uses.{Uses}
 use Rattle.lw_trade.specs.Areas.{area_cost}
@@ -19,6 +18,7 @@ use Rattle.lw_trade.specs.Pricing.{IsWithin, IsOfLibrary}
 use Rattle.lw_trade.specs.Rows.{plain_part, plain_row, plain_rows}
 use Rattle.lw_trade.specs.Uses.{AreUses}
 use Rattle.lw_trade.proofs.Lists.{get_in, got}
+use Rattle.lw_graph.proofs.Graphs.{flip_below}
 
 all_by : (n : ℕ) (ps : List ℕ) → ((k p : ℕ) → slice_get ps k ≡ Some p → p < n) → AllByRecursion (λ p. p < n) ps
 all_by n [] each = tt

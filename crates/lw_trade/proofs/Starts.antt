@@ -17,10 +17,7 @@ use Rattle.lw_trade.specs.Settling.{Gives, Queued, Waits, AreFirst, IsStarted, I
 use Rattle.lw_trade.specs.Uses.{turns_of}
 use Rattle.lw_trade.proofs.Queueing.{none_waits}
 use Rattle.lw_pool.specs.Numbers.{numbers}
-
-latest_none : (ds : List ℕ) → latest ds [] ≡ 0
-latest_none [] = refl
-latest_none (d ∷ ds) = refl
+use Rattle.lw_laws.proofs.LabelLaws.{latest_none}
 
 pub input_first : (s : Task) (starts : List Micro) (i t a r : ℕ) → s.starts ≡ starts → r ≡ start_of (map millionths starts) i → Gives s [] (input i) t a → Some r ≡ Some t
 input_first s starts i t a r e f (et, ea) = ap Some (f ∙ (ap (λ ms. start_of (map millionths ms) i) (sym e) ∙ sym et))

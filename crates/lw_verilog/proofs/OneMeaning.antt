@@ -14,18 +14,7 @@ use Rattle.lw_verilog.specs.declared.fault.VerilogFault.TheVariants as fault
 use Rattle.lw_verilog.specs.Readings.{FaultAt, Reading}
 use Rattle.lw_verilog.specs.Statements.{draft_of}
 use Rattle.lw_verilog.specs.Verdicts.{AreSame, ClosesTo, ComesTo, HasWholeFault, Tells}
-
--- The first on a cycle is one.
-cycle-once : (ls : List Link) (a b : List ℕ) → IsFirstOnCycle ls a → IsFirstOnCycle ls b → a ≡ b
-cycle-once ls a b x y = by_place (cases_lt x.place y.place) (cases_lt y.place x.place)
-  where
-    by_place : (x.place < y.place) ⊎ (y.place ≤ x.place) → (y.place < x.place) ⊎ (x.place ≤ y.place) → a ≡ b
-    by_place (inl before) other = absurd (y.first x.place a before x.named x.cycle)
-    by_place (inr after) (inl before) = absurd (x.first y.place b before y.named y.cycle)
-    by_place (inr after) (inr before) =
-        let same : x.place ≡ y.place = omega arith in
-        let both : Some a ≡ Some b = sym x.named ∙ (ap (slice_get (map name_of ls)) same ∙ y.named) in
-        cc
+use Rattle.lw_mapped.proofs.Once.{cycle-once}
 
 faults-once : (draft : GateDraft) (e f : NetlistFault) → HasWholeFault draft e → HasWholeFault draft f → e ≡ f
 faults-once draft (whole.Twice a) (whole.Twice b) p q = let both : Some a ≡ Some b = sym p ∙ q in cc

@@ -1,6 +1,7 @@
 use Rattle.std.proofs.Common.{◌≡◌}
-use Rattle.lw_form.proofs.SampleValues.{form_fits, all_step, all_false, all_end}
+use Rattle.lw_form.proofs.SampleValues.{all_step, all_false, all_end}
 use Rattle.lw_form.proofs.sampling.are_true.Goals as goal
+use Rattle.lw_form.proofs.FactoringSteps.{below_at}
 
 pub value_of-requires : goal.value_of-requires
-value_of-requires c = form_fits _ c.args.forms.now c.loop-place.place c.loop-place-test.true c.requires
+value_of-requires c = below_at _ c.args.forms.now c.loop-place.place c.loop-place-test.true c.requires

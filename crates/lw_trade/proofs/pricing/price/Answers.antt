@@ -7,16 +7,17 @@ use Rattle.lw_trade.specs.Points.{task}
 use Rattle.lw_trade.specs.Pricing.{IsBestOfPins, IsOfLibrary, IsWithin}
 use Rattle.lw_trade.specs.Rows.{plain_part}
 use Rattle.lw_trade.specs.Settling.{IsBest}
-use Rattle.lw_trade.proofs.Cells.{area_is, delays_are, pins_are}
+use Rattle.lw_trade.proofs.Cells.{area_is, delays_are}
 use Rattle.lw_trade.proofs.Prices.{gate_none, gate_some, within_pins}
 use Rattle.lw_trade.proofs.pricing.price.Goals as goal
 use Rattle.lw_pool.specs.Numbers.{numbers}
+use Rattle.lw_label.proofs.Times.{pins_at}
 
 pub area_of_pins-requires-clause-one_each : goal.area_of_pins-requires-clause-one_each
 area_of_pins-requires-clause-one_each c =
     let gate = c.in-Gate.gate in
     let has = subst (λ (st : Stand). IsOfLibrary c.args.lib.now (plain_part st)) c.in-Gate.is c.requires.cell in
-    let n = pins_are c.args.lib.now gate.cell.0 (length (numbers gate.pins)) c.cell-cell.result.now c.cell-cell.ensures has in
+    let n = pins_at c.args.lib.now gate.cell.0 (length (numbers gate.pins)) c.cell-cell.result.now c.cell-cell.ensures has in
     ap length c.delays.ensures.delays ∙ (n ∙ (length-map gate.pins (λ (p : ClassId). p.0) ∙ sym (ap length c.as_slice.ensures.classes)))
 
 pub area_of_pins-requires-clause-within : goal.area_of_pins-requires-clause-within

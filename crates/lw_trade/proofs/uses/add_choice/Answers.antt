@@ -8,11 +8,12 @@ use Rattle.lw_trade.specs.Choices.Part.{gate}
 use Rattle.lw_trade.specs.Points.{task}
 use Rattle.lw_trade.specs.Pricing.{IsOfLibrary, IsWithin}
 use Rattle.lw_trade.specs.Rows.{plain_part}
-use Rattle.lw_trade.proofs.Cells.{delays_are, pins_are}
+use Rattle.lw_trade.proofs.Cells.{delays_are}
 use Rattle.lw_trade.proofs.Prices.{within_pins}
 use Rattle.lw_trade.proofs.Using.{choice_used, first_behind, first_used, groups_first, input_used}
 use Rattle.lw_trade.proofs.uses.add_choice.Goals as goal
 use Rattle.lw_pool.specs.Numbers.{numbers}
+use Rattle.lw_label.proofs.Times.{pins_at}
 
 pub add_pins-requires-clause-are : goal.add_pins-requires-clause-are
 add_pins-requires-clause-are c = groups_first c.args.uses.now c.add_first.new.uses c.in_ok-add_first.ensures.added c.requires.are
@@ -24,7 +25,7 @@ pub add_pins-requires-clause-one_each : goal.add_pins-requires-clause-one_each
 add_pins-requires-clause-one_each c =
     let gate = c.in-Gate.gate in
     let has = subst (λ (st : Stand). IsOfLibrary c.args.lib.now (plain_part st)) c.in-Gate.is c.requires.of_library in
-    let n = pins_are c.args.lib.now gate.cell.0 (length (numbers gate.pins)) c.cell.result.now c.cell.ensures has in
+    let n = pins_at c.args.lib.now gate.cell.0 (length (numbers gate.pins)) c.cell.result.now c.cell.ensures has in
     ap length c.delays-delays.ensures.delays ∙ (n ∙ (length-map gate.pins (λ (p : ClassId). p.0) ∙ sym (ap length c.as_slice.ensures.classes)))
 
 pub add_pins-requires-clause-within : goal.add_pins-requires-clause-within

@@ -11,9 +11,10 @@ use Rattle.lw_form.specs.Products.{HaveColumns}
 use Rattle.lw_form.specs.Tables.{made, AreBelow, forms_at, IsMadeAs}
 use Rattle.lw_form.proofs.Joining.{more_twice, more_length, below_kept_more}
 use Rattle.lw_form.proofs.ListedForms.{if_err}
-use Rattle.lw_form.proofs.Signalled.{are_nets, fanins_below, have_columns, node_signal, listed_more, signed_below}
+use Rattle.lw_form.proofs.Signalled.{are_nets, fanins_below, have_columns, node_signal, listed_more}
 use Rattle.lw_form.proofs.occurring.Occurring.add_node.Goals as goal
 use Rattle.lw_pool.specs.Numbers.{net_number}
+use Rattle.lw_form.proofs.FactoringSteps.{signed_below}
 
 pub sum_of_products-requires-clause-below : goal.sum_of_products-requires-clause-below
 sum_of_products-requires-clause-below c = let (signals, w) = c.requires.listed in subst (AreBelow (length (made c.args.self.now.table))) (sym c.deref-2.ensures.value) (subst (AreBelow (length (made c.args.self.now.table))) (sym (c.in_ok-fanins.ensures ∙ ap₂ (λ s n. map (λ net. slice_index_or s net 0) (map net_number n)) c.deref.ensures.value c.as_slice.ensures)) (fanins_below (length (made c.args.self.now.table)) c.args.self.now.sops.items (map net_number c.args.node.now.fanins) w.sops_below (are_nets (length c.args.self.now.sops.items) c.args.node.now.fanins c.requires.fanins)))
