@@ -5,6 +5,7 @@ use Rattle.lw_words.specs.Lines.{LogicalLine}
 use Rattle.lw_blif.specs.declared.fault.BlifKind.{BlifKind}
 use Rattle.lw_blif.specs.LineFaults.{FaultAt, fault_or, line_fault, first_fault, ends, command, goes_on, lines_read, has_ended, is_first}
 use Rattle.lw_words.specs.Words.{front}
+use Rattle.lw_words.proofs.Shared.{front_none, front_stop, front_end}
 
 -- no fault here, and none behind
 pub fault_or_none : (number : ℕ) (o : Option BlifKind) (r : Option FaultAt) → fault_or number o r ≡ None → (o ≡ None) × (r ≡ None)
@@ -46,29 +47,6 @@ front-more p q same (x ∷ xs) y none fails = at_first (q x) refl none (λ n. fr
     at_first true e n others = let wrong : true ≡ false = sym (ap (λ b. b || list_any q xs) e) ∙ n in cc
     at_first false e n others = ap (λ c. cond c (x ∷ front p (xs ++ y ∷ [])) []) (same x ∙ ap not e) ∙ ap (λ r. x ∷ r) (others (sym (ap (λ b. b || list_any q xs) e) ∙ n))
 
-front-none : {A : Type 0} (p q : A → Bool) → ((x : A) → p x ≡ not (q x)) → (xs : List A) → list_any q xs ≡ false → front p xs ≡ xs
-front-none p q same [] none = refl
-front-none p q same (x ∷ xs) none = at_first (q x) refl none (front-none p q same xs)
-  where
-    at_first : (b : Bool) → q x ≡ b → (q x || list_any q xs) ≡ false → (list_any q xs ≡ false → front p xs ≡ xs) → front p (x ∷ xs) ≡ x ∷ xs
-    at_first true e n others = let wrong : true ≡ false = sym (ap (λ b. b || list_any q xs) e) ∙ n in cc
-    at_first false e n others = ap (λ c. cond c (x ∷ front p xs) []) (same x ∙ ap not e) ∙ ap (λ r. x ∷ r) (others (sym (ap (λ b. b || list_any q xs) e) ∙ n))
-
--- what stands behind an end is not read
-front-stop : {A : Type 0} (p q : A → Bool) → ((x : A) → p x ≡ not (q x)) → (xs ys : List A) → list_any q xs ≡ true → front p (xs ++ ys) ≡ front p xs
-front-stop p q same [] ys some = cc
-front-stop p q same (x ∷ xs) ys some = at_first (q x) refl some (front-stop p q same xs ys)
-  where
-    at_first : (b : Bool) → q x ≡ b → (q x || list_any q xs) ≡ true → (list_any q xs ≡ true → front p (xs ++ ys) ≡ front p xs) → front p (x ∷ xs ++ ys) ≡ front p (x ∷ xs)
-    at_first true e s others =
-        let fails : p x ≡ false = same x ∙ ap not e in
-        ap (λ c. cond c (x ∷ front p (xs ++ ys)) []) fails ∙ sym (ap (λ c. cond c (x ∷ front p xs) []) fails)
-    at_first false e s others = ap (λ r. cond (p x) (x ∷ r) []) (others (sym (ap (λ b. b || list_any q xs) e) ∙ s))
-
-front-end : {A : Type 0} (p q : A → Bool) → ((x : A) → p x ≡ not (q x)) → (xs : List A) (y : A) → q y ≡ true → front p (xs ++ y ∷ []) ≡ front p xs
-front-end p q same [] y holds = ap (λ c. cond c (y ∷ []) []) (same y ∙ ap not holds)
-front-end p q same (x ∷ xs) y holds = ap (λ r. cond (p x) (x ∷ r) []) (front-end p q same xs y holds)
-
 abbrev ends_later : LogicalLine → Bool
 ends_later line = ends false (command line)
 
@@ -82,7 +60,7 @@ lines_read-all (first ∷ lines) still = at_first (ends true (command first)) re
     at_first true e n = let wrong : true ≡ false = sym (ap (λ b. b || list_any ends_later lines) e) ∙ n in cc
     at_first false e n =
         ap (λ b. cond b [] (first ∷ front goes_on lines)) e
-        ∙ ap (λ r. first ∷ r) (front-none goes_on ends_later (λ x. refl) lines (sym (ap (λ b. b || list_any ends_later lines) e) ∙ n))
+        ∙ ap (λ r. first ∷ r) (front_none goes_on ends_later (λ x. refl) lines (sym (ap (λ b. b || list_any ends_later lines) e) ∙ n))
 
 pub has_ended-more : (lines : List LogicalLine) (line : LogicalLine) → has_ended lines ≡ false → has_ended (lines ++ line ∷ []) ≡ ends (is_first lines) (command line)
 unfolding has_ended
@@ -119,12 +97,12 @@ lines_read-ended (first ∷ lines) more ended = at_first (ends true (command fir
     at_first true e s = ap (λ b. cond b [] (first ∷ front goes_on (lines ++ more))) e ∙ sym (ap (λ b. cond b [] (first ∷ front goes_on lines)) e)
     at_first false e s =
         ap (λ r. cond (ends true (command first)) [] (first ∷ r))
-        (front-stop goes_on ends_later (λ x. refl) lines more (sym (ap (λ b. b || list_any ends_later lines) e) ∙ s))
+        (front_stop goes_on ends_later (λ x. refl) lines more (sym (ap (λ b. b || list_any ends_later lines) e) ∙ s))
 
 -- the line that ends the reading is not read
 pub lines_read-end : (lines : List LogicalLine) (line : LogicalLine) → has_ended lines ≡ false → ends (is_first lines) (command line) ≡ true → lines_read (lines ++ line ∷ []) ≡ lines
 unfolding lines_read
 lines_read-end [] line still holds = ap (λ b. cond b [] (line ∷ [])) holds
 lines_read-end (first ∷ lines) line still holds =
-    ap (λ r. cond (ends true (command first)) [] (first ∷ r)) (front-end goes_on ends_later (λ x. refl) lines line holds)
+    ap (λ r. cond (ends true (command first)) [] (first ∷ r)) (front_end goes_on ends_later (λ x. refl) lines line holds)
     ∙ lines_read-all (first ∷ lines) still

@@ -6,3 +6,4 @@ pub mod Ranks
 pub mod Rising
 pub mod Searching
 pub mod Sorting
+pub mod Shared

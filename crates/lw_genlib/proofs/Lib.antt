@@ -30,3 +30,4 @@ mod Tables
 mod Texts
 mod Zips
 pub mod LibraryKept
+pub mod Shared

@@ -3,3 +3,4 @@ pub mod Graphs
 pub mod Holding
 pub mod Indexing
 pub mod Rows
+pub mod Shared

@@ -10,18 +10,7 @@ use Rattle.lw_genlib.specs.Cells.{CellParts, IsSmall}
 use Rattle.lw_fixed.specs.declared.micro.Micro.{Micro}
 use Rattle.lw_genlib.specs.Tables.{millionths, cell_delays, delays_of_cells}
 use Rattle.lw_label.specs.Delays.{most_time, start_at}
-
--- one more pin
-pub latest_suc : (k : ℕ) (ds ts : List ℕ) → k < length ds → k < length ts → latest (take (suc k) ds) ts ≡ max (latest (take k ds) ts) (get_or ts k 0 + get_or ds k 0)
-latest_suc zero (d ∷ ds) (t ∷ ts) in_ds in_ts = let swapped : max (d + t) 0 ≡ max 0 (t + d) = omega arith in swapped
-latest_suc (suc k) (d ∷ ds) (t ∷ ts) in_ds in_ts =
-    let rest : latest (take (suc k) ds) ts ≡ max (latest (take k ds) ts) (get_or ts k 0 + get_or ds k 0) = latest_suc k ds ts (omega arith) (omega arith) in
-    let first : max (d + t) (latest (take (suc k) ds) ts) ≡ max (d + t) (max (latest (take k ds) ts) (get_or ts k 0 + get_or ds k 0)) = ap (max (d + t)) rest in
-    let turned : max (d + t) (max (latest (take k ds) ts) (get_or ts k 0 + get_or ds k 0)) ≡ max (max (d + t) (latest (take k ds) ts)) (get_or ts k 0 + get_or ds k 0) = omega arith in
-    first ∙ turned
-latest_suc k [] ts in_ds in_ts = absurd (omega arith)
-latest_suc zero (d ∷ ds) [] in_ds in_ts = absurd (omega arith)
-latest_suc (suc k) (d ∷ ds) [] in_ds in_ts = absurd (omega arith)
+use Rattle.lw_laws.proofs.Shared.{latest_suc}
 
 -- one more pin, of the code's numbers, where both sides are cut
 pub cut_step : (delays : List Micro) (pins : List ℕ) (k so_far sum next : ℕ) → k < length delays → k < length pins → min so_far most_time ≡ min most_time (latest (take k (map millionths delays)) pins) → min sum most_time ≡ min most_time (get_or pins k 0 + (get_or delays k (record { 0 = 0 })).0) → next ≡ max so_far sum → min next most_time ≡ min most_time (latest (take (k + 1) (map millionths delays)) pins)
@@ -33,12 +22,6 @@ cut_step delays pins k so_far sum next in_delays in_pins before here is =
     let more : latest (take (suc k) (map millionths delays)) pins ≡ max (latest (take k (map millionths delays)) pins) (get_or pins k 0 + get_or (map millionths delays) k 0) = latest_suc k (map millionths delays) pins in_ds in_pins in
     let cut : min next most_time ≡ min most_time (latest (take (suc k) (map millionths delays)) pins) = omega (arith, before, here, is, read, more) in
     cut ∙ ap (λ n. min most_time (latest (take n (map millionths delays)) pins)) (sym one)
-
--- the delays of a cell of the library
-pub delays_at : (cells : List CellParts) (place : ℕ) (cell : CellParts) → slice_get cells place ≡ Some cell → delays_of (delays_of_cells cells) place ≡ cell_delays cell
-delays_at [] place cell at = absurd (none-some cell at)
-delays_at (other ∷ cells) zero cell at = ap cell_delays (same_Some other cell at)
-delays_at (other ∷ cells) (suc place) cell at = delays_at cells place cell at
 
 -- how many pins it has
 pub pins_at : (cells : List CellParts) (place n : ℕ) (cell : CellParts) → slice_get cells place ≡ Some cell → HasPins (map length (delays_of_cells cells)) place n → length cell.delays ≡ n

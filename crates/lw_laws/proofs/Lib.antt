@@ -63,3 +63,4 @@ pub mod Together
 pub mod Truths
 pub mod Unique
 pub mod Words
+pub mod Shared

@@ -28,6 +28,7 @@ use Rattle.lw_lut.specs.Covers.TableCover.{wire, table}
 use Rattle.lw_lut.specs.Covers.TableCovers.{no_covers, cover}
 use Rattle.lw_lut.specs.Searches.{depth_in, IsKnown, AreDepthsUpTo, IsBoundedAt, count_at}
 use Rattle.lw_pool.specs.Numbers.{numbers}
+use Rattle.lw_laws.proofs.Shared.{pair_within}
 
 -- Each tree has a cover by tables of at most two pins.
 
@@ -77,9 +78,6 @@ row_in [] c x (k, lt, e) = absurd (omega arith)
 row_in (r ∷ rows) zero x h = omega arith
 row_in (r ∷ rows) (suc c) x h = let l = row_in rows c x h in omega (arith, l)
 
-pub pair_in : (g : Graph) (c x y : ℕ) → HoldsPair g c x y → c < length g.pairs
-pair_in g c x y h = elim h [ inl k ↦ row_in g.pairs c (record { x = x; y = y }) k | inr k ↦ row_in g.pairs c (record { x = y; y = x }) k ]
-
 get_all : (P : ℕ → Type 0) (xs : List ℕ) (i x : ℕ) → All P xs → slice_get xs i ≡ Some x → P x
 get_all P xs i x all e = subst P (get_or_from_slice_get xs i x x e) (all i x (slice_get_within xs i x e))
 
@@ -88,7 +86,7 @@ unfolds_in g is (leaf i) c u = get_all (λ d. d < length g.pairs) g.leaves i c i
 unfolds_in g is const_one c u = subst (λ d. d < length g.pairs) (sym u) is.one
 unfolds_in g is const_zero c u = subst (λ d. d < length g.pairs) (sym u) (flip_below g.one (length g.pairs) is.even is.one)
 unfolds_in g is (inv t) c u = below_flip c (length g.pairs) is.even (unfolds_in g is t (flip c) u)
-unfolds_in g is (nand t v) c (x, y, h, a, b) = pair_in g c x y h
+unfolds_in g is (nand t v) c (x, y, h, a, b) = pair_within g c x y h
 
 -- Pins.
 
@@ -109,7 +107,7 @@ index_at (t ∷ ts) (suc k) d lt = index_at ts k d (omega arith)
 
 module _ (g : Graph) (most : ℕ) (is : IsGraph g) (counts : List ℕ) (depths : List (Option ℕ)) (one : count_at counts g.one ≡ 0) (bounded : AreBounded g counts) (low : (c : ℕ) → IsKnown depths c → count_at counts c ≤ 1) where
   all_bounded : (c : ℕ) → IsBoundedAt g counts c
-  all_bounded c x y h = bounded c (pair_in g c x y h) x y h
+  all_bounded c x y h = bounded c (pair_within g c x y h) x y h
 
   -- a table whose pins are at known classes has few leaves
   table_count : (p : Tree) (ks : TableCovers) (c : ℕ) → IsTableCover most (table p ks) → ((k : ℕ) (t : Tree) (d : ℕ) → slice_get (trees_of ks) k ≡ Some t → Unfolds g t d → IsKnown depths d) → Unfolds g (planted p (trees_of ks)) c → count_at counts c ≤ most

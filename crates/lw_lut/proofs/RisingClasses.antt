@@ -9,6 +9,7 @@ use Rattle.std.specs.List.Sorted.{IsPermutation, IsNonDecreasingBy}
 use Rattle.lw_facts.proofs.Lists.{at_contained, get_push_cases}
 use Rattle.lw_pool.specs.declared.id.ClassId.{ClassId}
 use Rattle.lw_lut.specs.Tables.{AreRisingClasses, IsAdded}
+use Rattle.lw_graph.proofs.Shared.{same_class}
 
 pub record AreGathered (seen gathered : List ClassId) : Type 0 where
   pub rising : AreRisingClasses gathered
@@ -23,9 +24,6 @@ gathered_none = record {
   to = λ c k. k;
   few = omega arith;
 }
-
-same_class : (x y : ClassId) → x.0 ≡ y.0 → x ≡ y
-same_class x y e = λ i. record { 0 = e i }
 
 pub gathered_more : (seen gathered new : List ClassId) (c : ClassId) → ((x : ClassId) → Contains seen x → x.0 ≤ c.0) → IsAdded gathered c new → AreGathered seen gathered → AreGathered (seen ++ c ∷ []) new
 gathered_more seen gathered new c below (inl (there, same)) are = subst (λ xs. AreGathered (seen ++ c ∷ []) xs) (sym same) (record {

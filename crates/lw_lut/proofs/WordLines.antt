@@ -11,6 +11,7 @@ use Rattle.lw_words.specs.Gathering.{IsInk, IsNoHash}
 use Rattle.lw_words.specs.Lines.{LogicalLine, Text, is_blank, is_line_feed, has_some, lines_among, physical_lines, before_hash, trimmed, is_continued, with_blank, continued_by, text_before, text_of, texts_from, is_long, words_of, line_of, has_words, lines_of, logical_lines}
 use Rattle.lw_words.proofs.Trimming.{trimmed-ink, is_continued-last}
 use Rattle.lw_words.specs.Texts.{ended, line}
+use Rattle.lw_words.proofs.Shared.{no_feed, before_hash_all, word_some, among_more}
 
 -- Words that can be written.
 
@@ -71,9 +72,6 @@ bytes_each : (P : ℕ → Type 0) → P 32 → ((word : List ℕ) → IsWritten 
 bytes_each P blank own [] w = absurd w
 bytes_each P blank own (first ∷ others) w = all_append P first (spaced others) (own first w.0) (spaced_each P blank own others w.1)
 
-no_feed : (b : ℕ) → IsInk b → is_line_feed b ≡ false
-no_feed b ink = let other : b ≢ 10 = ink.1 in grind (arith, nat_tests)
-
 feedless : (words : List (List ℕ)) → IsWrittenLine words → Each (λ b. is_line_feed b ≡ false) (line_bytes words)
 feedless words w = bytes_each (λ b. is_line_feed b ≡ false) refl (λ word h. all_weaker IsInk (λ b. is_line_feed b ≡ false) no_feed word h.ink) words w
 
@@ -100,13 +98,6 @@ line_end (first ∷ others) w = bytes_end first others w.0 w.1
 
 -- There is no comment, and the line is not continued.
 
-before_hash_all : (bytes : List ℕ) → Each IsNoHash bytes → before_hash bytes ≡ bytes
-before_hash_all [] each = refl
-before_hash_all (b ∷ bytes) each = ap (λ t. cond t [] (b ∷ before_hash bytes)) other ∙ ap (λ l. b ∷ l) (before_hash_all bytes each.1)
-  where
-    other : (b == 35) ≡ false
-    other = let differs : b ≢ 35 = each.0 in grind (arith, nat_tests)
-
 text_whole : (words : List (List ℕ)) → IsWrittenLine words → text_of false (line_bytes words) ≡ line_bytes words
 text_whole words w =
     let end = line_end words w in
@@ -118,10 +109,6 @@ not_continued words w =
     ap is_continued end.are ∙ (is_continued-last end.front end.last ∙ end.no_stroke)
 
 -- Words of a line.
-
-word_some : (word : List ℕ) → 0 < length word → has_some word ≡ true
-word_some [] some = absurd (omega arith)
-word_some (b ∷ word) some = refl
 
 inked : (word : List ℕ) → IsWritten word → All (λ b. is_blank b ≡ false) word
 inked word w = All-from_recursion (λ b. is_blank b ≡ false) word (all_weaker IsInk (λ b. is_blank b ≡ false) (λ b h. h.0) word w.ink)
@@ -154,15 +141,6 @@ line_again number first others w each =
     ∙ ap₂ (λ l ws. let read : LogicalLine = record { number = number; long = l; words = ws } in read) (none_long (first ∷ others) (w, each)) (none_cut (first ∷ others) (w, each))
 
 -- Physical lines.
-
-among_more : (line bytes : List ℕ) → lines_among true (line ∷ slice_split is_line_feed bytes) ≡ line ∷ lines_among true (slice_split is_line_feed bytes)
-among_more line [] = refl
-among_more line (b ∷ bytes) = by_kind (is_line_feed b) (slice_split is_line_feed bytes)
-  where
-    by_kind : (t : Bool) (parts : List (List ℕ)) → lines_among true (line ∷ cond t ([] ∷ parts) (onto_first b parts)) ≡ line ∷ lines_among true (cond t ([] ∷ parts) (onto_first b parts))
-    by_kind true parts = refl
-    by_kind false [] = refl
-    by_kind false (part ∷ parts) = refl
 
 line_ended : (words : List (List ℕ)) (rest : List ℕ) → IsWrittenLine words → line_text words ++ rest ≡ line_bytes words ++ 10 ∷ rest
 line_ended [] rest w = absurd w

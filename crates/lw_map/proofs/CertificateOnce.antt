@@ -28,7 +28,6 @@ use Rattle.lw_net.specs.Plain as network
 use Rattle.lw_genlib.specs.Cells.{CellParts}
 use Rattle.lw_genlib.specs.Tables.{timing_of}
 use Rattle.lw_pattern.specs.Libraries.{library_patterns}
-use Rattle.lw_match.proofs.Bounding.{same_class}
 use Rattle.lw_label.specs.Delays.{most_time}
 use Rattle.lw_netlist.specs.Netlists.{NetlistParts}
 use Rattle.lw_netlist.specs.Plain as netlist
@@ -37,6 +36,7 @@ use Rattle.lw_mapped.specs.Certified.{IsCertificateOf}
 use Rattle.lw_map.specs.Options.{Options, IsWide}
 use Rattle.lw_map.specs.Mapped.{IsMappedNetlist}
 use Rattle.lw_net.specs.Ports.{ports_of}
+use Rattle.lw_graph.proofs.Shared.{same_class}
 
 -- heights that agree where there are labels choose the same matches, and so need the same classes
 module _ (g : Graph) (cost : Cost) (pats : List Pattern) (labels : Labels) where

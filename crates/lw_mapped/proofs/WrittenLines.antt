@@ -11,6 +11,7 @@ use Rattle.lw_words.proofs.Trimming.{trimmed-ink, is_continued-last}
 use Rattle.lw_mapped.specs.Texts.{spaced}
 use Rattle.lw_mapped.proofs.TextParts.{ended_is}
 use Rattle.lw_words.specs.Texts.{line}
+use Rattle.lw_words.proofs.Shared.{no_feed, before_hash_all, word_some, among_more}
 
 -- What holds of each element, in two forms.
 
@@ -97,9 +98,6 @@ bytes-each : (P : ℕ → Type 0) → P 32 → (words : List (List ℕ)) → Eac
 bytes-each P blank [] each = tt
 bytes-each P blank (first ∷ others) each = each-append P first (spaced others) each.0 (spaced-each P blank others each.1)
 
-no_feed : (b : ℕ) → IsInk b → is_line_feed b ≡ false
-no_feed b ink = let other : b ≢ 10 = ink.1 in grind (arith, nat_tests)
-
 feedless : (words : List (List ℕ)) → Each IsWordOf words → Each (λ b. is_line_feed b ≡ false) (line_bytes words)
 feedless words each =
     bytes-each (λ b. is_line_feed b ≡ false) refl words
@@ -123,21 +121,17 @@ bytes-end (word ∷ next ∷ words) last =
 no_hash-test : (b : ℕ) → IsNoHash b → (b == 35) ≡ false
 no_hash-test b other = let differs : b ≢ 35 = other in grind (arith, nat_tests)
 
-before_hash-all : (bytes : List ℕ) → Each IsNoHash bytes → before_hash bytes ≡ bytes
-before_hash-all [] each = refl
-before_hash-all (b ∷ bytes) each = ap (λ t. cond t [] (b ∷ before_hash bytes)) (no_hash-test b each.0) ∙ ap (λ l. b ∷ l) (before_hash-all bytes each.1)
-
 no_mark : (bytes : List ℕ) → Each IsNoHash bytes → has_mark bytes ≡ false
 no_mark [] each = refl
 no_mark (b ∷ []) each = refl
 no_mark (b ∷ c ∷ rest) each = ap (λ t. t && (c == 64) && is_cut rest) (no_hash-test b each.0)
 
 uncommented-plain : (bytes : List ℕ) → Each IsNoHash bytes → uncommented true bytes ≡ bytes
-uncommented-plain bytes each = ap (λ t. cond t (35 ∷ before_hash (drop 1 bytes)) (before_hash bytes)) (no_mark bytes each) ∙ before_hash-all bytes each
+uncommented-plain bytes each = ap (λ t. cond t (35 ∷ before_hash (drop 1 bytes)) (before_hash bytes)) (no_mark bytes each) ∙ before_hash_all bytes each
 
 marked-bytes : (others : List (List ℕ)) → ArePlain others → uncommented true (line_bytes ((35 ∷ 64 ∷ []) ∷ others)) ≡ line_bytes ((35 ∷ 64 ∷ []) ∷ others)
 marked-bytes [] each = refl
-marked-bytes (word ∷ others) each = ap (λ l. 35 ∷ l) (before_hash-all (64 ∷ spaced (word ∷ others)) (no64, spaced-each IsNoHash no32 (word ∷ others) each))
+marked-bytes (word ∷ others) each = ap (λ l. 35 ∷ l) (before_hash_all (64 ∷ spaced (word ∷ others)) (no64, spaced-each IsNoHash no32 (word ∷ others) each))
   where
     no64 : IsNoHash 64
     no64 e = absurd (omega arith)
@@ -167,18 +161,14 @@ not-continued words w =
 inkless : (b : ℕ) → IsInk b → is_blank b ≡ false
 inkless b ink = ink.0
 
-word-some : (word : List ℕ) → 0 < length word → has_some word ≡ true
-word-some [] some = absurd (omega arith)
-word-some (b ∷ word) some = refl
-
 split-words : (words : List (List ℕ)) (first : List ℕ) → IsWordOf first → Each IsWordOf words → words_of (first ++ spaced words) ≡ first ∷ words
 split-words [] first is each =
     ap words_of (append-nil first)
     ∙ (ap (filter has_some) (slice_split_none is_blank first (All-from_recursion (λ b. is_blank b ≡ false) first (each-weaker IsInk (λ b. is_blank b ≡ false) inkless first is.2)))
-    ∙ ap (λ t. cond t (first ∷ []) []) (word-some first is.0))
+    ∙ ap (λ t. cond t (first ∷ []) []) (word_some first is.0))
 split-words (word ∷ words) first is each =
     ap (filter has_some) (slice_split_at is_blank first 32 (word ++ spaced words) (All-from_recursion (λ b. is_blank b ≡ false) first (each-weaker IsInk (λ b. is_blank b ≡ false) inkless first is.2)) refl)
-    ∙ (ap (λ t. cond t (first ∷ words_of (word ++ spaced words)) (words_of (word ++ spaced words))) (word-some first is.0)
+    ∙ (ap (λ t. cond t (first ∷ words_of (word ++ spaced words)) (words_of (word ++ spaced words))) (word_some first is.0)
     ∙ ap (λ l. first ∷ l) (split-words words word each.0 each.1))
 
 words-again : (words : List (List ℕ)) → IsWritten words → words_of (line_bytes words) ≡ words
@@ -208,15 +198,6 @@ some-words (word ∷ words) last = refl
 
 -- Physical lines.
 
-among-more : (line bytes : List ℕ) → lines_among true (line ∷ slice_split is_line_feed bytes) ≡ line ∷ lines_among true (slice_split is_line_feed bytes)
-among-more line [] = refl
-among-more line (b ∷ bytes) = by_kind (is_line_feed b) (slice_split is_line_feed bytes)
-  where
-    by_kind : (t : Bool) (parts : List (List ℕ)) → lines_among true (line ∷ cond t ([] ∷ parts) (onto_first b parts)) ≡ line ∷ lines_among true (cond t ([] ∷ parts) (onto_first b parts))
-    by_kind true parts = refl
-    by_kind false [] = refl
-    by_kind false (part ∷ parts) = refl
-
 line-ended : (words : List (List ℕ)) (rest : List ℕ) → LastEndsWell words → line_text words ++ rest ≡ line_bytes words ++ 10 ∷ rest
 line-ended [] rest last = absurd last
 line-ended (first ∷ others) rest last =
@@ -228,7 +209,7 @@ physical [] each = refl
 physical (words ∷ lines) each =
     ap (physical_lines true) (line-ended words (lines_text lines) each.0.last)
     ∙ (ap (lines_among true) (slice_split_at is_line_feed (line_bytes words) 10 (lines_text lines) (All-from_recursion (λ b. is_line_feed b ≡ false) (line_bytes words) (feedless words each.0.are_words)) refl)
-    ∙ (among-more (line_bytes words) (lines_text lines) ∙ ap (λ l. line_bytes words ∷ l) (physical lines each.1)))
+    ∙ (among_more (line_bytes words) (lines_text lines) ∙ ap (λ l. line_bytes words ∷ l) (physical lines each.1)))
 
 -- Logical lines.
 

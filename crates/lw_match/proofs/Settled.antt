@@ -15,6 +15,7 @@ use Rattle.lw_match.specs.Values.{plain_mark, marks_in}
 use Rattle.lw_match.specs.Shapes.{plain, turned, HasPin, IsPinned, HasShape}
 use Rattle.lw_match.specs.Numbers.{never, shifted, mark_number, Reading, kind_number, side_number}
 use Rattle.lw_match.specs.Bounds.{BoundsState, bounds_reading, AreSettledAt, AreMarkedWithin, BoundsTree, AreBounds, SettledBoundsAreBounds, BoundsOfFewer}
+use Rattle.lw_laws.proofs.Shared.{pair_within}
 
 -- what is shown of a side of a tree that stands by pins within the top: its number is finite, and with the base it is not
 -- above the top, or it is 0, as is that of a side without pins
@@ -81,21 +82,6 @@ module _ (g : Graph) (r : Reading) (one : r.one ≡ g.one) (gaps : List ℕ) (ba
         low = subst (λ (n : ℕ). (n ≡ 0) ⊎ (n + base ≤ top)) same below.low;
         pinned = λ pin. subst (λ (n : ℕ). n + base ≤ top) same (below.pinned pin);
       }
-
--- a class that holds a pair is in range
-pair_within : (g : Graph) (c x y : ℕ) → HoldsPair g c x y → c < length g.pairs
-pair_within g c x y h = within (slice_get g.pairs c) refl
-  where
-    none_in : (p : Pair) → Contains [] p → ⊥
-    none_in p (k, lt, e) = absurd (omega arith)
-
-    no_row : slice_index_or g.pairs c [] ≡ [] → HoldsPair g c x y → ⊥
-    no_row e (inl i) = none_in (record { x = x; y = y }) (subst (λ (row : List Pair). Contains row (record { x = x; y = y })) e i)
-    no_row e (inr i) = none_in (record { x = y; y = x }) (subst (λ (row : List Pair). Contains row (record { x = y; y = x })) e i)
-
-    within : (o : Option (List Pair)) → slice_get g.pairs c ≡ o → c < length g.pairs
-    within (Some row) e = slice_get_within g.pairs c row e
-    within None e = absurd (no_row (sym (unwrap_or-slice_get g.pairs c []) ∙ ap (λ (o : Option (List Pair)). unwrap_or o []) e) h)
 
 turned_pair : (g : Graph) (c x y : ℕ) → HoldsPair g c x y → HoldsPair g c y x
 turned_pair g c x y (inl i) = inr i

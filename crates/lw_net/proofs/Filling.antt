@@ -12,6 +12,7 @@ use Rattle.lw_net.specs.Networks.{IsNodeAt, NetworkParts}
 use Rattle.lw_net.specs.Plain.{plain, plain_node}
 use Rattle.lw_net.specs.Signs.{asked, met_by}
 use Rattle.lw_pool.specs.Numbers.{net_number, values_at}
+use Rattle.lw_dag.proofs.Shared.{values_at_set}
 
 -- one column of a row, by the tests of its sign
 column_at : (one off : Bool) (v : Bool) (vs : List Bool) (row : List (Option Bool)) → row_value (v ∷ vs) (cond one (Some true) (cond off (Some false) None) ∷ row) ≡ (cond one v (cond off (not v) true) && row_value vs row)
@@ -40,16 +41,8 @@ row_step nets fanins signs i met same_length below is =
     row_value-drop (values_at nets fanins) signs i in_values below
     ∙ ap (λ b. b && row_value (drop (i + 1) (values_at nets fanins)) (drop (i + 1) (map asked signs))) (ap (met_by (get_or signs i 0)) value ∙ sym is)
 
--- values of nets before a place don't see a write there
-pub values_at-set : (values : List Bool) (at : ℕ) (v : Bool) (nets : List NetId) → All (λ (net : NetId). net.0 < at) nets → values_at (set values at v) nets ≡ values_at values nets
-values_at-set values at v [] all = refl
-values_at-set values at v (net ∷ nets) all =
-    let before : net.0 < at = All-head (λ (n : NetId). n.0 < at) net nets all in
-    let other : net.0 ≢ at = omega arith in
-    ap₂ (λ b bs. b ∷ bs) (get_or-set_other values at net.0 v false other) (values_at-set values at v nets (All-tail (λ (n : NetId). n.0 < at) net nets all))
-
 pub node_value-set : (values : List Bool) (at : ℕ) (v : Bool) (node : Node) → All (λ (net : NetId). net.0 < at) node.fanins → node_value (set values at v) (plain_node node) ≡ node_value values (plain_node node)
-node_value-set values at v node all = ap (λ vs. agrees node.on (list_any (row_value vs) (map (map asked) node.rows))) (values_at-set values at v node.fanins all)
+node_value-set values at v node all = ap (λ vs. agrees node.on (list_any (row_value vs) (map (map asked) node.rows))) (values_at_set values at v node.fanins all)
 
 -- the nets of the first n nodes have their values
 pub record IsFilled (nodes : List Node) (first n : ℕ) (values : List Bool) : Type 0 where

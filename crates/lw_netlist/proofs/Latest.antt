@@ -17,18 +17,7 @@ use Rattle.lw_genlib.specs.Tables.{millionths, delays_of_cells, cell_delays, tim
 use Rattle.lw_netlist.specs.Plain.{plain, plain_gate}
 use Rattle.lw_netlist.specs.Filling.{arrivals_at, arrival_at, gate_arrival, one_step}
 use Rattle.lw_pool.specs.Numbers.{net_number}
-
--- one more pin
-pub latest_suc : (k : ℕ) (ds ts : List ℕ) → k < length ds → k < length ts → latest (take (suc k) ds) ts ≡ max (latest (take k ds) ts) (get_or ts k 0 + get_or ds k 0)
-latest_suc zero (d ∷ ds) (t ∷ ts) in_ds in_ts = let swapped : max (d + t) 0 ≡ max 0 (t + d) = omega arith in swapped
-latest_suc (suc k) (d ∷ ds) (t ∷ ts) in_ds in_ts =
-    let rest : latest (take (suc k) ds) ts ≡ max (latest (take k ds) ts) (get_or ts k 0 + get_or ds k 0) = latest_suc k ds ts (omega arith) (omega arith) in
-    let first : max (d + t) (latest (take (suc k) ds) ts) ≡ max (d + t) (max (latest (take k ds) ts) (get_or ts k 0 + get_or ds k 0)) = ap (max (d + t)) rest in
-    let turned : max (d + t) (max (latest (take k ds) ts) (get_or ts k 0 + get_or ds k 0)) ≡ max (max (d + t) (latest (take k ds) ts)) (get_or ts k 0 + get_or ds k 0) = omega arith in
-    first ∙ turned
-latest_suc k [] ts in_ds in_ts = absurd (omega arith)
-latest_suc zero (d ∷ ds) [] in_ds in_ts = absurd (omega arith)
-latest_suc (suc k) (d ∷ ds) [] in_ds in_ts = absurd (omega arith)
+use Rattle.lw_laws.proofs.Shared.{latest_suc}
 
 pub latest_more : (k : ℕ) (ds ts : List ℕ) → k < length ds → k < length ts → latest (take (k + 1) ds) ts ≡ max (latest (take k ds) ts) (get_or ts k 0 + get_or ds k 0)
 latest_more k ds ts in_ds in_ts = let next : k + 1 ≡ suc k = omega arith in ap (λ n. latest (take n ds) ts) next ∙ latest_suc k ds ts in_ds in_ts
@@ -123,12 +112,6 @@ pub start_low : (starts : List Micro) → All IsSmall starts → (i : ℕ) → i
 start_low starts small i below =
     let less : (get_or starts i (record { 0 = 0 })).0 < 1000000 * 1000000 = All-get_or IsSmall starts i (record { 0 = 0 }) below small in
     omega (arith, less)
-
--- the delays of a cell of the library
-pub delays_at : (cells : List CellParts) (place : ℕ) (cell : CellParts) → slice_get cells place ≡ Some cell → delays_of (delays_of_cells cells) place ≡ cell_delays cell
-delays_at [] place cell at = absurd (none-some cell at)
-delays_at (other ∷ cells) zero cell at = ap cell_delays (same_Some other cell at)
-delays_at (other ∷ cells) (suc place) cell at = delays_at cells place cell at
 
 -- inputs at their starts, and gates that are filled in
 pub filled_arrivals : (cells : List CellParts) (starts : List Micro) (n : NetlistParts) (arrivals : List Micro) → length starts ≡ n.inputs → length arrivals ≡ n.inputs + length n.gates → ((i : ℕ) → i < n.inputs → arrival_at arrivals i ≡ arrival_at starts i) → ((j : ℕ) (gate : Gate) → slice_get n.gates j ≡ Some gate → arrival_at arrivals (n.inputs + j) ≡ gate_arrival cells arrivals gate) → AreArrivals (timing_of cells starts) (plain n) (map millionths arrivals)

@@ -15,17 +15,10 @@ use Rattle.lw_netlist.specs.Plain.{plain, plain_gate}
 use Rattle.lw_netlist.specs.Filling.{gate_value}
 use Rattle.lw_netlist.proofs.Filling.{IsLocal, image_at}
 use Rattle.lw_pool.specs.Numbers.{values_at}
-
--- values of nets before a place don't see a write there
-pub values_at-set : (values : List Bool) (at : ℕ) (v : Bool) (nets : List NetId) → All (λ (net : NetId). net.0 < at) nets → values_at (set values at v) nets ≡ values_at values nets
-values_at-set values at v [] all = refl
-values_at-set values at v (net ∷ nets) all =
-    let before : net.0 < at = All-head (λ (n : NetId). n.0 < at) net nets all in
-    let other : net.0 ≢ at = omega arith in
-    ap₂ (λ b bs. b ∷ bs) (get_or-set_other values at net.0 v false other) (values_at-set values at v nets (All-tail (λ (n : NetId). n.0 < at) net nets all))
+use Rattle.lw_dag.proofs.Shared.{values_at_set}
 
 pub values_are_local : (cells : List CellParts) → IsLocal (gate_value cells)
-values_are_local cells = record { kept = λ values at v gate all. ap (truth_of_cells cells gate.cell.0) (values_at-set values at v gate.pins all) }
+values_are_local cells = record { kept = λ values at v gate all. ap (truth_of_cells cells gate.cell.0) (values_at_set values at v gate.pins all) }
 
 -- inputs that are copied, and gates that are filled in
 pub filled_values : (cells : List CellParts) (n : NetlistParts) (x before values : List Bool) → length x ≡ n.inputs → length values ≡ n.inputs + length n.gates → ((i : ℕ) → i < length x → get_or values i false ≡ get_or before i false) → ((i : ℕ) → i < length x → get_or before i false ≡ get_or x i false) → ((j : ℕ) (gate : Gate) → slice_get n.gates j ≡ Some gate → get_or values (length x + j) false ≡ gate_value cells values gate) → AreNetlistValues (truth_of_cells cells) (plain n) (given x) values

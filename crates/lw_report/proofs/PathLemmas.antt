@@ -13,7 +13,7 @@ use Rattle.lw_netlist.specs.declared.gate.Port.{Port}
 use Rattle.lw_netlist.specs.Closing.{greatest}
 use Rattle.lw_netlist.specs.Netlists.{NetlistParts}
 use Rattle.lw_netlist.specs.Plain.{plain_gate}
-use Rattle.lw_netlist.proofs.Latest.{arrivals_read, delays_at}
+use Rattle.lw_netlist.proofs.Latest.{arrivals_read}
 use Rattle.lw_report.specs.declared.step.Step.{Step}
 use Rattle.lw_report.specs.Made.{AreArrivalsFor, IsStepIn}
 use Rattle.lw_report.specs.Pathways.{LeadsTo}
@@ -21,6 +21,7 @@ use Rattle.lw_report.specs.Timings.{arrival_at, port_arrival, arrival_by, pin_ar
 use Rattle.lw_report.specs.Timings.IsPathTo.{to_input, to_constant, by_pin}
 use Rattle.lw_report.specs.Timings.IsCriticalPath.{without_outputs, to_output}
 use Rattle.lw_pool.specs.Numbers.{net_number}
+use Rattle.lw_genlib.proofs.Shared.{delays_at}
 
 -- Pins.
 

@@ -13,12 +13,6 @@ area_is [] place cell at = absurd (none-some cell at)
 area_is (other ∷ cells) zero cell at = ap area_of_cell (same_Some other cell at)
 area_is (other ∷ cells) (suc place) cell at = area_is cells place cell at
 
--- the delays of its pins
-pub delays_are : (cells : List CellParts) (place : ℕ) (cell : CellParts) → slice_get cells place ≡ Some cell → delays_of (delays_of_cells cells) place ≡ cell_delays cell
-delays_are [] place cell at = absurd (none-some cell at)
-delays_are (other ∷ cells) zero cell at = ap cell_delays (same_Some other cell at)
-delays_are (other ∷ cells) (suc place) cell at = delays_are cells place cell at
-
 -- a cell with some number of pins is there
 pub cell_in : (cells : List CellParts) (place n : ℕ) → HasPins (map length (delays_of_cells cells)) place n → place < length cells
 cell_in [] place n has = cc

@@ -22,11 +22,11 @@ use Rattle.lw_trade.specs.Points.{Task, timing}
 use Rattle.lw_trade.specs.Trades.{IsLastBy, IsNetOfPoint, HavePinNets, IsGateOfPoint}
 use Rattle.lw_trade.specs.Walks.{AreInputsTo, HaveRootNets, IsUsed, IsWalk}
 use Rattle.lw_trade.specs.Walks.IsUsed.{by_root, by_pin}
-use Rattle.lw_trade.proofs.Cells.{delays_are}
 use Rattle.lw_trade.proofs.Grouped.{get_map, map_get}
 use Rattle.lw_trade.proofs.Lists.{at_contained, get_in}
 use Rattle.lw_trade.proofs.Placed.{placed_last}
 use Rattle.lw_pool.specs.Numbers.{numbers}
+use Rattle.lw_genlib.proofs.Shared.{delays_at}
 
 module _ (s : Task) (curves : CurveLists) (ways : HaveWays s curves) (starts : (i c : ℕ) (row : List Point) (p : Point) → slice_get s.graph.leaves i ≡ Some c → slice_get curves.points c ≡ Some row → Contains row p → p.time.0 ≡ start_of (timing s).starts i) (inputs : List (Option ℕ)) (own : AreInputsTo s.graph (length s.graph.leaves) inputs) (nodes : List Node) where
   abbrev no_point : Held
@@ -141,7 +141,7 @@ module _ (s : Task) (curves : CurveLists) (ways : HaveWays s curves) (starts : (
           pins = numbers is.right.gate.pins;
           chosen = chosen;
           nets = subst (λ t. HavePinNets s ways.held helds t (delays_of (timing s).delays cell.0) (numbers is.right.gate.pins) (fanins_at pins j)) time
-              (subst (λ ds. HavePinNets s ways.held helds is.right.point.time.0 ds (numbers is.right.gate.pins) (fanins_at pins j)) (sym (delays_are s.cells cell.0 is.right.own own_at))
+              (subst (λ ds. HavePinNets s ways.held helds is.right.point.time.0 ds (numbers is.right.gate.pins) (fanins_at pins j)) (sym (delays_at s.cells cell.0 is.right.own own_at))
               (subst (λ ns. HavePinNets s ways.held helds is.right.point.time.0 (map millionths is.right.own.delays) (numbers is.right.gate.pins) ns) fan fed));
         }
 

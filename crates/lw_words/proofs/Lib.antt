@@ -9,3 +9,4 @@ pub mod Steady
 pub mod Trimming
 pub mod Weights
 pub mod WordsAt
+pub mod Shared

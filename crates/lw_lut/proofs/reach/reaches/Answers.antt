@@ -2,8 +2,8 @@ use Rattle.std.proofs.Common.{◌*◌, ◌/◌, ◌∙◌, ap, sym, inl, inr, su
 use Rattle.std.proofs.lemmas.Bool.{cases_eq}
 use Rattle.lw_laws.specs.Graphs.{HoldsPair}
 use Rattle.lw_lut.proofs.Reaching.{row_seen, IsSeen}
-use Rattle.lw_lut.proofs.Deep.{pair_in}
 use Rattle.lw_lut.proofs.reach.reaches.Goals as goal
+use Rattle.lw_laws.proofs.Shared.{pair_within}
 
 pub loop-class-preserved : goal.loop-class-preserved
 loop-class-preserved c =
@@ -21,7 +21,7 @@ loop-class-preserved c =
 
 pub returns-clause-reaches : goal.returns-clause-reaches
 returns-clause-reaches c = λ d x y h.
-    let lt = pair_in c.args.graph.now d x y h in
+    let lt = pair_within c.args.graph.now d x y h in
     let end = c.loop-class-test.false in
     let all = c.classes-classes.ensures.classes in
     c.loop-class.invariant.noted d x y (omega (arith, lt, end, all)) h

@@ -6,8 +6,9 @@ use Rattle.lw_fixed.specs.declared.micro.Micro.{Micro}
 use Rattle.lw_genlib.specs.Tables.{cell_delays}
 use Rattle.lw_netlist.specs.Filling.{arrivals_at, one_step}
 use Rattle.lw_netlist.proofs.Filling.{IsFilled-more}
-use Rattle.lw_netlist.proofs.Latest.{gate_time, times_are_local, arrival_within, early_more, delays_at}
+use Rattle.lw_netlist.proofs.Latest.{gate_time, times_are_local, arrival_within, early_more}
 use Rattle.lw_netlist.proofs.arrivals.fill_arrivals.Goals as goal
+use Rattle.lw_genlib.proofs.Shared.{delays_at}
 
 pub loop-j-preserved : goal.loop-j-preserved
 loop-j-preserved c =

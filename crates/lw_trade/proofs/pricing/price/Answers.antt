@@ -7,11 +7,12 @@ use Rattle.lw_trade.specs.Points.{task}
 use Rattle.lw_trade.specs.Pricing.{IsBestOfPins, IsOfLibrary, IsWithin}
 use Rattle.lw_trade.specs.Rows.{plain_part}
 use Rattle.lw_trade.specs.Settling.{IsBest}
-use Rattle.lw_trade.proofs.Cells.{area_is, delays_are}
+use Rattle.lw_trade.proofs.Cells.{area_is}
 use Rattle.lw_trade.proofs.Prices.{gate_none, gate_some, within_pins}
 use Rattle.lw_trade.proofs.pricing.price.Goals as goal
 use Rattle.lw_pool.specs.Numbers.{numbers}
 use Rattle.lw_label.proofs.Times.{pins_at}
+use Rattle.lw_genlib.proofs.Shared.{delays_at}
 
 pub area_of_pins-requires-clause-one_each : goal.area_of_pins-requires-clause-one_each
 area_of_pins-requires-clause-one_each c =
@@ -30,7 +31,7 @@ pub returns-in-Some-clause-best : goal.returns-in-Some-clause-best
 returns-in-Some-clause-best c g pats =
     let s = task g pats c.args.lib.now c.args.starts.now in
     let gate = c.in-Gate.gate in
-    let delays = delays_are c.args.lib.now gate.cell.0 c.cell-cell.result.now c.cell-cell.ensures in
+    let delays = delays_at c.args.lib.now gate.cell.0 c.cell-cell.result.now c.cell-cell.ensures in
     let area = area_is c.args.lib.now gate.cell.0 c.cell-cell.result.now c.cell-cell.ensures in
     let best = subst₂ (λ ds ps. IsBestOfPins c.args.fronts.now.spots (map millionths ds) (numbers ps) c.args.time (Some c.in-Some.pins)) c.delays.ensures.delays c.as_slice.ensures.classes c.in-Some.ensures in
     let best' = subst (λ ds. IsBestOfPins c.args.fronts.now.spots ds (numbers gate.pins) c.args.time (Some c.in-Some.pins)) (sym delays) best in
@@ -41,7 +42,7 @@ pub returns-in-None-clause-best : goal.returns-in-None-clause-best
 returns-in-None-clause-best c g pats =
     let s = task g pats c.args.lib.now c.args.starts.now in
     let gate = c.in-Gate.gate in
-    let delays = delays_are c.args.lib.now gate.cell.0 c.cell-cell.result.now c.cell-cell.ensures in
+    let delays = delays_at c.args.lib.now gate.cell.0 c.cell-cell.result.now c.cell-cell.ensures in
     let best = subst₂ (λ ds ps. IsBestOfPins c.args.fronts.now.spots (map millionths ds) (numbers ps) c.args.time None) c.delays.ensures.delays c.as_slice.ensures.classes c.in-None.ensures in
     let best' = subst (λ ds. IsBestOfPins c.args.fronts.now.spots ds (numbers gate.pins) c.args.time None) (sym delays) best in
     let all = gate_none s c.args.fronts.now.spots c.args.time gate.cell.0 (numbers gate.pins) best' in

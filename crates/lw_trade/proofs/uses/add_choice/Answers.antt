@@ -8,12 +8,12 @@ use Rattle.lw_trade.specs.Choices.Part.{gate}
 use Rattle.lw_trade.specs.Points.{task}
 use Rattle.lw_trade.specs.Pricing.{IsOfLibrary, IsWithin}
 use Rattle.lw_trade.specs.Rows.{plain_part}
-use Rattle.lw_trade.proofs.Cells.{delays_are}
 use Rattle.lw_trade.proofs.Prices.{within_pins}
 use Rattle.lw_trade.proofs.Using.{choice_used, first_behind, first_used, groups_first, input_used}
 use Rattle.lw_trade.proofs.uses.add_choice.Goals as goal
 use Rattle.lw_pool.specs.Numbers.{numbers}
 use Rattle.lw_label.proofs.Times.{pins_at}
+use Rattle.lw_genlib.proofs.Shared.{delays_at}
 
 pub add_pins-requires-clause-are : goal.add_pins-requires-clause-are
 add_pins-requires-clause-are c = groups_first c.args.uses.now c.add_first.new.uses c.in_ok-add_first.ensures.added c.requires.are
@@ -45,6 +45,6 @@ returns-in_ok-add_pins-in-Gate-clause-uses c g pats starts xs at are =
     let gate' = c.in-Gate.gate in
     let here = at ∙ ap (λ (st : Stand). Some (record { class = c.args.row.now.class.0; part = plain_part st })) c.in-Gate.is in
     let here' = subst (λ ps. slice_get xs c.args.choice ≡ Some (record { class = c.args.row.now.class.0; part = gate gate'.cell.0 (numbers ps) })) (sym c.as_slice.ensures.classes) here in
-    let delays = delays_are c.args.lib.now gate'.cell.0 c.cell.result.now c.cell.ensures ∙ ap (map millionths) (sym c.delays-delays.ensures.delays) in
+    let delays = delays_at c.args.lib.now gate'.cell.0 c.cell.result.now c.cell.ensures ∙ ap (map millionths) (sym c.delays-delays.ensures.delays) in
     let all = c.in_ok-add_pins-in-Gate.ensures.uses s xs c.args.row.now.class.0 gate'.cell.0 here' delays (first_used s xs c.args.choice c.args.uses.now c.add_first.new.uses c.in_ok-add_first.ensures.added are) in
     choice_used s xs c.args.choice (length c.as_slice.result.now) gate'.cell.0 c.args.row.now.class.0 (numbers c.as_slice.result.now) c.add_pins.new.uses here' (length-map c.as_slice.result.now (λ (p : ClassId). p.0)) all

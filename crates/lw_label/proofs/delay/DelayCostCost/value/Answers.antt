@@ -2,8 +2,9 @@ use Rattle.std.proofs.Common.{◌≡◌, ◌∙◌, min, map, length, ap, sym, s
 use Rattle.lw_laws.specs.Covers.{latest}
 use Rattle.lw_genlib.specs.Tables.{millionths}
 use Rattle.lw_label.specs.Delays.{most_time}
-use Rattle.lw_label.proofs.Times.{delays_at, pins_at}
+use Rattle.lw_label.proofs.Times.{pins_at}
 use Rattle.lw_label.proofs.delay.DelayCostCost.value.Goals as goal
+use Rattle.lw_genlib.proofs.Shared.{delays_at}
 
 pub latest-requires : goal.latest-requires
 latest-requires c = ap length c.delays-delays.ensures.delays ∙ pins_at c.args.self.now.lib.now c.args.cell.0 (length c.args.pins.now) c.cell.result.now c.cell.ensures c.requires
