@@ -6,11 +6,11 @@ use Rattle.lw_laws.specs.Graphs.{Graph, PairsInOneClass, Unfolds, class_of}
 use Rattle.lw_laws.specs.Families.{Family, IsNand, AreLinked, Derives, Equivalent}
 use Rattle.lw_laws.specs.Families.Derives.{by_input, by_top, by_bottom, by_complement, by_split, by_common, by_link}
 use Rattle.lw_laws.specs.Families.Equivalent.{same, turned, joined, linked, flipped, nanded}
-use Rattle.lw_laws.specs.Encodings.{IsGrounded, Encodes}
-use Rattle.lw_laws.specs.Encodings.IsGrounded.{input, top, split}
+use Rattle.lw_laws.specs.Encodings.{Encodes}
+use Rattle.lw_laws.proofs.Words.IsGrounded.{input, top, split}
 use Rattle.lw_laws.proofs.Flips.{flip-flip, flip_across, class_of-flip}
 use Rattle.lw_laws.proofs.Functional.{Stands_once}
-use Rattle.lw_laws.proofs.Words.{IsFamily, HasSomeTree, HaveCommonTree}
+use Rattle.lw_laws.proofs.Words.{IsFamily, HasSomeTree, HaveCommonTree, IsGrounded}
 
 module _ (F : Family) (rank : ℕ → ℕ) (family : IsFamily F rank) where
   IsNand-occurs : (f x y : ℕ) → IsNand F f x y → F.Occurs f × F.Occurs x × F.Occurs y

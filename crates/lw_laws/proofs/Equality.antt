@@ -1,5 +1,5 @@
 -- `same_form` decides equality.
-use Rattle.std.proofs.Common.{◌≡◌, Bool, true, false, ◌&&◌, List, [], ◌∷◌, refl, ap, ap₂, eqb-true, eq-eqb}
+use Rattle.std.proofs.Common.{◌≡◌, Bool, true, false, List, [], ◌∷◌, refl, ap, ap₂, eqb-true, eq-eqb}
 use Rattle.std.proofs.lemmas.Bool.{and_parts}
 use Rattle.lw_laws.specs.Forms.{Form, FormList, items, form_list, same_form, same_forms}
 use Rattle.lw_laws.specs.Forms.Form.{var_form, true_form, not_form, and_form}

@@ -8,8 +8,9 @@ use Rattle.lw_laws.specs.Forms.{Form, FormList, items, form_list, same_form, is_
 use Rattle.lw_laws.specs.Forms.Form.{var_form, true_form, not_form, and_form}
 use Rattle.lw_laws.specs.Forms.FormList.{no_forms, more_forms}
 use Rattle.lw_laws.specs.Signals.{Literal, Signal, signed, literals, sum_of_products, has_at, has, cleared_at, cleared, count_having, literals_from, most_common, shared_literal, literal_form, factored_by, factored_within, factored, literal_count, sop_at, signal_of_node, signals_after, input_signals, signals_of}
-use Rattle.lw_laws.specs.SignalValues.{values_after, input_values, net_values, SignalsAgree}
+use Rattle.lw_laws.specs.SignalValues.{SignalsAgree}
 use Rattle.lw_laws.proofs.Equality.{same_form_eq}
+use Rattle.lw_laws.proofs.Words.{input_values, values_after, net_values}
 
 and_when : (a b c : Bool) → (a ≡ true → b ≡ c) → (a && b) ≡ (a && c)
 and_when true b c h = h refl

@@ -4,10 +4,10 @@ use Rattle.std.specs.List.{list_any}
 use Rattle.lw_laws.specs.Networks.{Node, Network, agrees, row_value, node_value, AreValues, IsInOrder, greatest_depth, AreDepths}
 use Rattle.lw_laws.specs.Forms.{form_value}
 use Rattle.lw_laws.specs.Signals.{signals_of}
-use Rattle.lw_laws.specs.SignalValues.{values_after, input_values, net_values}
 use Rattle.lw_laws.proofs.Filling.{AreLocal, filled, Fills, filled_fills, fills_once}
 use Rattle.lw_laws.proofs.NetlistValues.{some_fills}
 use Rattle.lw_laws.proofs.FormTruth.{sops_have_values}
+use Rattle.lw_laws.proofs.Words.{input_values, values_after, net_values}
 
 -- lists that agree at each of the places give one list of entries
 pub entries_agree : {A : Type 0} (d : A) (k : ℕ) (xs ys : List A) → ((i : ℕ) → i < k → get_or xs i d ≡ get_or ys i d) → (places : List ℕ) → ((s : ℕ) → Contains places s → s < k) → map (λ s. get_or xs s d) places ≡ map (λ s. get_or ys s d) places

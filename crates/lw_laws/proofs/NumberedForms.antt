@@ -9,12 +9,11 @@ use Rattle.lw_laws.specs.NumberedForms.Base.{base_true, base_input, base_and}
 use Rattle.lw_laws.specs.NumberedForms.IsCut.{cut_none, cut_left, cut_right}
 use Rattle.lw_laws.specs.NumberedForms.IsCovering.{in_none, in_left, in_right, in_both}
 use Rattle.lw_laws.specs.Modes.Mode.{plain, idempotent}
-use Rattle.lw_laws.specs.Encodings.{IsGrounded}
-use Rattle.lw_laws.specs.Encodings.IsGrounded.{input, top, split}
+use Rattle.lw_laws.proofs.Words.IsGrounded.{input, top, split}
 use Rattle.lw_laws.specs.Modes.{Mode}
 use Rattle.lw_laws.proofs.Flips.{half-flip, flip_even, flip_odd}
 use Rattle.lw_laws.proofs.Lists.{slice_get_some}
-use Rattle.lw_laws.proofs.Words.{IsFamily}
+use Rattle.lw_laws.proofs.Words.{IsFamily, IsGrounded}
 
 -- the cuts with all operands on one side
 cut_rest : (fs : List ℕ) → IsCut fs [] fs

@@ -1,7 +1,7 @@
 -- Lemmas that the proofs of several crates above cite.
 use Rattle.lw_laws.specs.Covers.{latest}
 use Rattle.lw_laws.specs.Graphs.{Graph, HoldsPair, Pair}
-use Rattle.std.proofs.Common.{Contains, List, None, Option, Some, [], ap, arith, get_or, inl, inr, length, max, refl, slice_get, slice_index_or, subst, suc, sym, take, unwrap_or, zero, ℕ, ◌+◌, ◌-◌, ◌<◌, ◌∙◌, ◌∷◌, ◌≡◌}
+use Rattle.std.proofs.Common.{Contains, List, None, Option, Some, [], ap, arith, get_or, inl, inr, length, max, refl, slice_get, slice_index_or, subst, suc, sym, take, unwrap_or, zero, ℕ, ◌+◌, ◌<◌, ◌∙◌, ◌∷◌, ◌≡◌}
 use Rattle.std.proofs.lemmas.Option.{slice_get_within, unwrap_or-slice_get}
 
 pub latest_suc : (k : ℕ) (ds ts : List ℕ) → k < length ds → k < length ts → latest (take (suc k) ds) ts ≡ max (latest (take k ds) ts) (get_or ts k 0 + get_or ds k 0)

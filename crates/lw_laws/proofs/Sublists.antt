@@ -1,5 +1,5 @@
 -- Parts of lists of forms.
-use Rattle.std.proofs.Common.{ℕ, ◌≤◌, ◌≡◌, Bool, true, false, ◌||◌, List, [], ◌∷◌, length, refl, ap, ◌∙◌, arith, le-leb}
+use Rattle.std.proofs.Common.{ℕ, ◌≤◌, ◌≡◌, Bool, false, List, [], ◌∷◌, length, refl, ap, ◌∙◌, arith, le-leb}
 use Rattle.std.specs.List.{list_any, AllByRecursion}
 use Rattle.std.proofs.lemmas.Bool.{or_parts, or_from}
 use Rattle.lw_laws.specs.Forms.{Form, and_of, same_form, is_among, complement, without, kept, has_clash, joined, conjunction_within, conjunction}

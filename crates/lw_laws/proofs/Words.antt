@@ -1,10 +1,10 @@
 -- Words of the proofs alone.
-use Rattle.std.specs.Prelude.{ℕ, zero, suc, ◌<◌, ◌≤◌, ◌≡◌, ◌^◌, ◌⊎◌, List, [], ◌∷◌, length, Option, Some, ◌+◌, map, nat_lt, cond, Bool, ◌*◌}
+use Rattle.std.specs.Prelude.{ℕ, zero, suc, ◌<◌, ◌≤◌, ◌≡◌, ◌^◌, ◌⊎◌, List, [], ◌∷◌, length, Option, Some, ◌+◌, map, nat_lt, cond, Bool, ◌*◌, ◌++◌}
 use Rattle.lw_laws.specs.Costs.{Cost, cost_of}
 use Rattle.lw_laws.specs.Covers.{HasPins, Timing, start_of, latest, delays_of, Pattern, ArePatterns, Cover, tree_of, IsCover, time_of}
 use Rattle.lw_laws.specs.Flip.{flip}
 use Rattle.lw_laws.specs.Graphs.{Graph, class_of, Unfolds}
-use Rattle.lw_laws.specs.Families.{Family, Derives}
+use Rattle.lw_laws.specs.Families.{Family, Derives, IsNand}
 use Rattle.lw_laws.specs.Trees.{Tree}
 use Rattle.lw_laws.specs.Modes.{Mode}
 use Rattle.lw_laws.specs.NumberedForms.{NumberedForms, family_of, AreNumberedForms}
@@ -12,12 +12,31 @@ use Rattle.lw_laws.specs.Choices.{Choices}
 use Rattle.lw_laws.specs.Rounds.{labels_in}
 use Rattle.lw_laws.specs.Forms.{Form}
 use Rattle.lw_laws.specs.Decompositions.{IsListedAt}
-use Rattle.lw_laws.specs.Encodings.{Encodes, IsGrounded}
+use Rattle.lw_laws.specs.Encodings.{Encodes}
 use Rattle.lw_laws.specs.Delays.{delay_cost}
 use Rattle.lw_laws.specs.Netlists.{Netlist, Gate, IsGate, AreOrdered, CellTruth}
 use Rattle.lw_laws.specs.Forms.Form.{and_form}
 use Rattle.lw_laws.specs.Listings.{sign_of}
 use Rattle.lw_laws.specs.Mapped.{IsMapped, IsPotentialOf}
+use Rattle.lw_laws.specs.Networks.{Node, Network, node_value}
+
+-- a form is an input or true, or it is the NAND of forms of less rank
+pub data IsGrounded (F : Family) (rank : ℕ → ℕ) (f : ℕ) : Type 0 where
+  input : (i : ℕ) → F.IsInput f i → IsGrounded F rank f
+  top : F.IsTop f → IsGrounded F rank f
+  split : (x y : ℕ) → IsNand F f x y → rank x < rank f → rank y < rank f → IsGrounded F rank f
+
+abbrev pub input_values : (ℕ → Bool) → ℕ → ℕ → List Bool
+input_values x i zero = []
+input_values x i (suc n) = x i ∷ input_values x (i + 1) n
+
+abbrev pub values_after : List Bool → List Node → List Bool
+values_after values [] = values
+values_after values (node ∷ nodes) = values_after (values ++ node_value values node ∷ []) nodes
+
+-- the values of the nets
+abbrev pub net_values : (ℕ → Bool) → Network → List Bool
+net_values x net = values_after (input_values x 0 net.inputs) net.nodes
 
 -- there are fewer than 2 ^ 32 inputs, and a match has one class for each pin of its cell
 pub record AreChoices (M : Choices) (cost : Cost) : Type 0 where

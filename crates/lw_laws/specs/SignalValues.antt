@@ -1,22 +1,9 @@
 -- Truth values of the nets of a network, and of forms by their numbers.
-use Rattle.std.specs.Prelude.{ℕ, zero, suc, ◌+◌, ◌/◌, ◌%◌, ◌==◌, ◌≡◌, Bool, if◌then◌else◌, Some, List, [], ◌∷◌, ◌++◌, slice_get, slice_index_or}
+use Rattle.std.specs.Prelude.{ℕ, ◌/◌, ◌%◌, ◌==◌, ◌≡◌, Bool, if◌then◌else◌, Some, List, slice_get, slice_index_or}
 use Rattle.lw_laws.specs.Forms.{Form, complement, form_value}
 use Rattle.lw_laws.specs.Forms.Form.{true_form}
-use Rattle.lw_laws.specs.Networks.{Node, Network, node_value}
 use Rattle.lw_laws.specs.Signals.{Signal}
 use Rattle.lw_laws.specs.Decompositions.{Listing}
-
-abbrev pub values_after : List Bool → List Node → List Bool
-values_after values [] = values
-values_after values (node ∷ nodes) = values_after (values ++ node_value values node ∷ []) nodes
-
-abbrev pub input_values : (ℕ → Bool) → ℕ → ℕ → List Bool
-input_values x i zero = []
-input_values x i (suc n) = x i ∷ input_values x (i + 1) n
-
--- the values of the nets
-abbrev pub net_values : (ℕ → Bool) → Network → List Bool
-net_values x net = values_after (input_values x 0 net.inputs) net.nodes
 
 -- the form of a number
 abbrev pub form_of : List Form → ℕ → Form
