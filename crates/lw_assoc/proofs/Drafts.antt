@@ -15,7 +15,7 @@ use Rattle.lw_laws.proofs.NumberedForms.{splits_occur}
 use Rattle.lw_laws.proofs.NumberedValues.{form_values_fit}
 use Rattle.lw_form.specs.Bases.{picked}
 use Rattle.lw_form.specs.Kept.{AreForms, HasPart}
-use Rattle.lw_assoc.specs.Drafting.{other, IsSplitBy, HasSplit, HasSplits, HasTwice, AreSplits, MakeSplit, HasSplitsUpTo, IsSplitting, HasLinksUpTo, HasSamples, HasBases, AddsBases, AddsNands, AddsLinks, AddsSplit, first_draft, with_base, with_nand, with_link}
+use Rattle.lw_assoc.specs.Drafting.{other, IsSplitBy, HasSplit, HasSplits, HasTwice, MakeSplit, HasSplitsUpTo, IsSplitting, HasLinksUpTo, HasSamples, HasBases, AddsBases, AddsNands, AddsLinks, AddsSplit, first_draft, with_base, with_nand, with_link}
 use Rattle.lw_assoc.specs.Parts.{HasParts}
 use Rattle.lw_reduce.specs.Drafting.{sample_of, IsKnown}
 use Rattle.lw_assoc.proofs.Masks.{unpicked, cut_by, picked_other}

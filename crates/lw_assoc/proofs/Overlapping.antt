@@ -1,5 +1,5 @@
 -- Pairs of parts of an And that together have each operand, and forms by their complements twice.
-use Rattle.std.proofs.Common.{◌≡◌, ◌+◌, ◌-◌, ◌*◌, ◌/◌, ◌^◌, ◌<◌, ◌≤◌, ◌⊎◌, inl, inr, ℕ, zero, suc, bit_or, List, [], ◌∷◌, ◌++◌, length, Some, Contains, slice_get, refl, ap, sym, ◌∙◌, subst, subst₂, arith}
+use Rattle.std.proofs.Common.{◌≡◌, ◌+◌, ◌-◌, ◌*◌, ◌^◌, ◌<◌, ◌≤◌, ◌⊎◌, inl, inr, ℕ, bit_or, List, [], ◌∷◌, ◌++◌, length, Some, Contains, slice_get, refl, ap, sym, ◌∙◌, subst, subst₂, arith}
 use native.Mathlib.Decide.{dec_lt}
 use Rattle.std.proofs.lemmas.List.Elements.{Contains-append_left, Contains-push}
 use Rattle.lw_laws.specs.Flip.{flip}
@@ -12,7 +12,7 @@ use Rattle.lw_form.specs.Bases.{picked, plain_base}
 use Rattle.lw_form.specs.declared.base.Base.{Base as CodeBase}
 use Rattle.lw_form.specs.declared.base.Base.TheVariants.{True, Input, And}
 use Rattle.lw_form.specs.Kept.{AreForms}
-use Rattle.lw_assoc.specs.Drafting.{IsSplitBy, HasSplit, HasTwice, MakeSplit, AreOverlapping, HasSplitsUpTo, IsOverlapping, AddsNands, AddsSplit, AddsInverter, with_nand}
+use Rattle.lw_assoc.specs.Drafting.{IsSplitBy, HasSplit, MakeSplit, AreOverlapping, HasSplitsUpTo, IsOverlapping, AddsNands, AddsSplit, AddsInverter, with_nand}
 use Rattle.lw_assoc.proofs.Drafts.{same_operands, split_more, twice_more, up_to_more, up_to_next}
 use Rattle.lw_assoc.proofs.Masks.{covering_by, picked_once}
 use Rattle.lw_assoc.proofs.SameFacts.{same_place}

@@ -1,10 +1,9 @@
 -- The facts of the draft are those of the forms.
 use Rattle.std.proofs.Common.{◌≡◌, ◌+◌, ◌-◌, ◌*◌, ◌/◌, ◌%◌, ◌^◌, ◌<◌, ◌≤◌, ◌⊎◌, bit_or, pow-suc, inl, inr, ℕ, zero, suc, List, [], ◌∷◌, length, Option, Some, Contains, slice_get, refl, ap, sym, ◌∙◌, subst, arith}
 use native.Mathlib.Decide.{dec_lt}
-use Rattle.lw_laws.specs.Flip.{flip}
 use Rattle.lw_laws.specs.Modes.{Mode}
 use Rattle.lw_laws.specs.Modes.Mode.{plain, idempotent}
-use Rattle.lw_laws.specs.NumberedForms.{Base, NumberedForms, IsPart, IsCutOf, IsSplitOf, IsTwice, family_of}
+use Rattle.lw_laws.specs.NumberedForms.{Base, NumberedForms, IsPart, IsCutOf, IsSplitOf, family_of}
 use Rattle.lw_laws.specs.NumberedForms.Base.{base_true, base_input, base_and}
 use Rattle.lw_laws.specs.Families.{IsNand}
 use Rattle.lw_laws.specs.Drafts.{Draft, NandFact, facts_of, HaveSameFacts}
@@ -13,7 +12,7 @@ use Rattle.lw_form.specs.Kept.{AreForms}
 use Rattle.lw_assoc.specs.Drafting.{other, IsDraftOf}
 use Rattle.std.proofs.lemmas.Nat.{or_comm}
 use Rattle.std.proofs.lemmas.Option.{slice_get_within}
-use Rattle.lw_laws.proofs.Flips.{flip_even, flip_odd, half-flip}
+use Rattle.lw_laws.proofs.Flips.{flip_even, flip_odd}
 use Rattle.lw_assoc.proofs.Masks.{picked_other, picked_zero, IsCutBy, cut_mask, covering_masks, half_mask, or_other}
 
 pub same_place : (o : Option Base) (a b : Base) → o ≡ Some a → o ≡ Some b → a ≡ b

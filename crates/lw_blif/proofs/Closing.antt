@@ -1,9 +1,8 @@
 -- The parts of lines that break no rule are closed.
-use Rattle.std.proofs.Common.{ℕ, ◌+◌, ◌≡◌, false, List, [], ◌∷◌, ◌++◌, length, map, drop, Option, Some, None, Result, Ok, Err, refl, ap, sym, ◌∙◌, subst}
+use Rattle.std.proofs.Common.{ℕ, ◌+◌, ◌≡◌, List, [], length, map, drop, Option, Some, None, Result, Ok, Err, refl, ap, sym, ◌∙◌, subst}
 use Rattle.std.specs.Prelude.{All, replicate}
 use Rattle.std.specs.Result.{IsErr, IsErrAnd}
-use Rattle.std.specs.List.{flat_map, IsDistinct, AllByRecursion}
-use Rattle.std.proofs.lemmas.Map.Keys.{IsDistinct-cons, IsDistinct-head, IsDistinct-tail}
+use Rattle.std.specs.List.{flat_map, IsDistinct}
 use Rattle.std.specs.Str.{bytes_eq}
 use Rattle.std.proofs.Math.Logic.{∥∥₁_elim}
 use Rattle.std.proofs.Props.{props}
@@ -21,7 +20,7 @@ use Rattle.lw_frame.specs.Frames as frames
 use Rattle.lw_frame.specs.Frames.{Fits, frame_of, each_once, root_names}
 use Rattle.lw_frame.specs.Starts.{IsEarly, StartsFit, starts_of, at_once}
 use Rattle.lw_frame.proofs.Fitting.{frame_fits, counted_fit}
-use Rattle.lw_frame.proofs.Once.{once-distinct, none-distinct}
+use Rattle.lw_frame.proofs.Once.{once-distinct}
 use Rattle.lw_blif.specs.declared.parts.Parts.{Parts}
 use Rattle.lw_blif.specs.declared.parsed.Parsed.{Parsed}
 use Rattle.lw_blif.specs.declared.drafting.Said.{Said}

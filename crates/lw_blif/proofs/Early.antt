@@ -1,5 +1,5 @@
 -- The starts that arrival lines say are below a million units.
-use Rattle.std.proofs.Common.{rules, ℕ, zero, suc, ◌+◌, ◌*◌, ◌<◌, ◌≤◌, ◌≡◌, max, Bool, true, false, not, ◌&&◌, List, [], ◌∷◌, ◌++◌, length, map, take, cond, reverse, Option, Some, None, Result, Ok, Err, if◌then◌else◌, refl, ap, ap₂, sym, ◌∙◌, subst, arith}
+use Rattle.std.proofs.Common.{rules, ℕ, zero, suc, ◌+◌, ◌*◌, ◌<◌, ◌≡◌, max, Bool, true, false, not, ◌&&◌, List, [], ◌∷◌, ◌++◌, length, map, take, cond, reverse, Option, Some, None, Result, Ok, Err, if◌then◌else◌, refl, sym, subst, arith}
 use Rattle.std.specs.Prelude.{All, nat_le, nat_lt, replicate, filter, unwrap_or}
 use Rattle.std.specs.List.{AllByRecursion, list_all}
 use Rattle.std.specs.Char.{is_ascii_digit}

@@ -9,8 +9,7 @@ use Rattle.std.proofs.lemmas.Bool.Decides.{nat_tests}
 use Rattle.std.proofs.lemmas.Str.Parse.{digits_value_short}
 use Rattle.std.proofs.lemmas.Fmt.{digits_decimal, digits_value-decimal, decimal-digits_value, decimal_nonempty, decimal_digit, first_decimal}
 use Rattle.std.proofs.lemmas.List.{take-append-drop, take_at, drop_all, replicate-append-replicate, get_or-take, length-take-le, length-replicate, length-append, get_or-drop, get_or-replicate, get_or-append_right, get_or_append_left}
-use Rattle.std.proofs.lemmas.List.Elements.{All-take}
-use Rattle.std.proofs.lemmas.List.Sums.{AllPass-from_list_all, list_all-from_AllPass, suffix_len-le-length, suffix_len_is}
+use Rattle.std.proofs.lemmas.List.Sums.{suffix_len-le-length, suffix_len_is}
 use Rattle.std.proofs.lemmas.List.Folds.{list_any_at}
 use Rattle.lw_facts.proofs.Lists.{digits_take}
 use Rattle.lw_fixed.specs.declared.micro.Micro.{Micro}

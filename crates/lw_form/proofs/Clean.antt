@@ -1,12 +1,9 @@
 -- The And of forms that are not true, differ and don't clash.
-use Rattle.std.proofs.Common.{◌≡◌, ◌+◌, ◌-◌, ◌*◌, ◌<◌, ◌≤◌, ◌⊎◌, inl, inr, ℕ, zero, suc, Bool, true, false, ◌||◌, cond, leb, List, [], ◌∷◌, ◌++◌, length, map, take, drop, refl, ap, ap₂, sym, ◌∙◌, subst, arith, append_assoc, length-append, leb-true, leb-false, length-drop, length-take-le}
-use Rattle.std.proofs.lemmas.Bool.{le-leb, or_from}
-use Rattle.std.proofs.lemmas.List.{take-map, drop-map, length-map, map-append}
-use Rattle.lw_laws.specs.Forms.{Form, and_of, same_form, is_among, without, kept, has_clash, runs, runs_within, joined, joined_many, conjunction}
+use Rattle.std.proofs.Common.{◌≡◌, ◌+◌, ◌-◌, ◌*◌, ◌<◌, ◌≤◌, ℕ, zero, suc, Bool, true, false, leb, List, [], ◌∷◌, length, map, take, drop, refl, ap, sym, ◌∙◌, arith, leb-true, leb-false, length-drop}
+use Rattle.std.proofs.lemmas.Bool.{le-leb}
+use Rattle.std.proofs.lemmas.List.{length-map}
+use Rattle.lw_laws.specs.Forms.{Form, and_of, kept, has_clash, runs, runs_within, joined, joined_many, conjunction}
 use Rattle.lw_laws.specs.Forms.Form.{true_form, not_form}
-use Rattle.lw_laws.specs.Listings.{AreDistinct, AreOperands, IsSub}
-use Rattle.lw_laws.specs.Listings.IsSub.{sub_none, sub_with, sub_without}
-use Rattle.lw_laws.specs.SignalValues.{form_of}
 use Rattle.lw_laws.proofs.Normal.{conjunction_step, kept_are_distinct, take_sub, drop_sub}
 use Rattle.lw_laws.proofs.Sublists.{distinct_sub, clash_sub, kept_distinct}
 use Rattle.lw_form.specs.Conjunctions.{AreClean}

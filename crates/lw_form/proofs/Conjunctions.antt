@@ -1,24 +1,20 @@
 -- The And of forms by its steps.
-use Rattle.std.proofs.Common.{◌≡◌, ◌+◌, ◌-◌, ◌*◌, ◌/◌, ◌%◌, ◌^◌, ◌==◌, ◌<◌, ◌≤◌, ◌⊎◌, inl, inr, ℕ, zero, suc, Bool, true, false, not, ◌||◌, ◌&&◌, cond, if◌then◌else◌, leb, List, [], ◌∷◌, ◌++◌, length, map, filter, take, drop, Option, Some, None, slice_get, get_or, refl, ap, ap₂, sym, ◌∙◌, subst, arith, append_assoc, append-nil, length-append, eqb-true, eq-eqb, bit_xor, leb-true, leb-false, length-drop, length-take-le}
-use Rattle.std.specs.List.{list_any, AllByRecursion}
-use Rattle.std.proofs.lemmas.List.{at_drop_more, map-append}
+use Rattle.std.proofs.Common.{◌≡◌, ◌+◌, ◌-◌, ◌*◌, ◌/◌, ◌%◌, ◌==◌, ◌<◌, ◌≤◌, ℕ, zero, suc, Bool, true, false, not, ◌||◌, cond, if◌then◌else◌, List, [], ◌∷◌, ◌++◌, length, map, drop, Some, slice_get, get_or, refl, ap, ap₂, sym, ◌∙◌, subst, arith, append_assoc, append-nil, eqb-true, eq-eqb, bit_xor}
+use Rattle.std.specs.List.{list_any}
+use Rattle.std.proofs.lemmas.List.{at_drop_more}
 use Rattle.lw_facts.proofs.Numbers.{eq_turned}
 use Rattle.lw_facts.proofs.Tests.{same_tests}
 use Rattle.indexmap.specs.IndexSet.{insert_key}
 use Rattle.lw_laws.specs.Flip.{flip}
-use Rattle.lw_laws.specs.Forms.{Form, FormList, items, form_list, and_of, same_form, is_among, complement, without, keep, kept, has_clash, runs, runs_within, joined, joined_many, conjunction, disjunction}
+use Rattle.lw_laws.specs.Forms.{Form, same_form, is_among, complement, without, kept, has_clash}
 use Rattle.lw_laws.specs.Forms.Form.{var_form, true_form, not_form, and_form}
-use Rattle.lw_laws.specs.Listings.{sign_of, AreDistinct, IsSub}
-use Rattle.lw_laws.specs.Listings.IsSub.{sub_none, sub_with, sub_without}
+use Rattle.lw_laws.specs.Listings.{sign_of}
 use Rattle.lw_laws.specs.SignalValues.{form_of}
 use Rattle.lw_laws.proofs.Flips.{xor-one, half-flip, flip_even, flip_odd}
-use Rattle.lw_laws.proofs.Equality.{same_form_refl, same_form_eq, same_form_not, items-form_list}
-use Rattle.lw_laws.proofs.Normal.{conjunction_step}
-use Rattle.lw_laws.proofs.Sublists.{IsSub_length, distinct_sub, clash_sub, kept_distinct, conjunction_of_one, conjunction_of_more}
-use Rattle.lw_laws.proofs.Numbers.{complement_twice}
-use Rattle.lw_form.specs.Tables.{AreBelow, forms_at, spelled, AreMade, HasMore, Table, made, IsMadeAs, AreMadeAs}
+use Rattle.lw_laws.proofs.Equality.{same_form_refl, same_form_eq}
+use Rattle.lw_form.specs.Tables.{AreBelow, forms_at, AreMade}
 use Rattle.lw_form.specs.Conjunctions.{without_number, kept_numbers, numbers_clash}
-use Rattle.lw_form.proofs.Tables.{below_more, form_of_more, forms_at_more, same_number, form_sign, form_base}
+use Rattle.lw_form.proofs.Tables.{same_number}
 
 -- the steps over numbers are those over forms
 

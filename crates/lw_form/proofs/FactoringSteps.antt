@@ -1,5 +1,5 @@
 -- Factoring by tasks.
-use Rattle.std.proofs.Common.{◌≡◌, ◌+◌, ◌-◌, ◌*◌, ◌/◌, ◌<◌, ◌≤◌, ◌⊎◌, ℕ, zero, suc, Bool, true, false, not, cond, ltb, Option, Some, None, List, [], ◌∷◌, ◌++◌, length, map, filter, take, drop, get_or, refl, ap, ap₂, sym, ◌∙◌, subst, arith, append_assoc, append-nil, ltb-true, length-append, bit_xor, Vec, Global}
+use Rattle.std.proofs.Common.{◌≡◌, ◌+◌, ◌-◌, ◌/◌, ◌<◌, ◌≤◌, ℕ, zero, suc, Bool, true, false, not, cond, ltb, Option, Some, None, List, [], ◌∷◌, ◌++◌, length, map, filter, drop, get_or, refl, ap, ap₂, sym, ◌∙◌, subst, arith, append_assoc, ltb-true, length-append, Vec, Global}
 use Rattle.std.specs.List.{AllByRecursion}
 use Rattle.std.proofs.lemmas.List.{at_drop_more, length-map, map-append, drop_all}
 use Rattle.lw_facts.proofs.Lists.{all_front, all_last}
@@ -12,11 +12,11 @@ use Rattle.lw_laws.proofs.Lists.{all_append}
 use Rattle.lw_form.specs.declared.factoring.Literal.{Literal}
 use Rattle.lw_form.specs.declared.factoring.Task.{Task}
 use Rattle.lw_form.specs.declared.factoring.Task.TheVariants.{Factor, Join}
-use Rattle.lw_form.specs.Factoring.{plain_literal, plain_choice, PlainTask, plain_task, turned, outcome, TaskFits, IsWorking, sign_count, signs_of_rows, weight, weights}
+use Rattle.lw_form.specs.Factoring.{plain_literal, PlainTask, plain_task, turned, outcome, TaskFits, IsWorking, sign_count, signs_of_rows, weight, weights}
 use Rattle.lw_form.specs.Factoring.PlainTask.{factor_rows, join_under}
 use Rattle.lw_form.specs.Products.{HaveColumns, ReachColumn, signed_number}
-use Rattle.lw_form.specs.Tables.{AreBelow, forms_at, AreMade, HasMore, Table, made, IsMadeAs, AreMadeAs}
-use Rattle.lw_form.proofs.Joining.{more_same, more_twice, more_length, form_kept, forms_kept, below_kept_more, below_append, below_other}
+use Rattle.lw_form.specs.Tables.{AreBelow, forms_at, AreMade, HasMore, Table, made, IsMadeAs}
+use Rattle.lw_form.proofs.Joining.{more_twice, more_length, form_kept, forms_kept, below_kept_more, below_append, below_other}
 use Rattle.lw_form.proofs.Rows.{signed_form}
 use Rattle.lw_laws.specs.Forms.Form.{true_form}
 

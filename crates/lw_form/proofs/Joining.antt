@@ -1,14 +1,14 @@
 -- What the calls that make Ands owe.
-use Rattle.std.proofs.Common.{◌≡◌, ◌+◌, ◌-◌, ◌*◌, ◌/◌, ◌%◌, ◌<◌, ◌≤◌, ◌⊎◌, inl, inr, ℕ, zero, suc, Bool, true, false, cond, bit_xor, ◌==◌, ◌^◌, if◌then◌else◌, length-drop, List, [], ◌∷◌, ◌++◌, length, map, take, drop, Some, slice_get, get_or, refl, ap, ap₂, sym, ◌∙◌, subst, arith, append_assoc, append-nil, length-append}
+use Rattle.std.proofs.Common.{◌≡◌, ◌+◌, ◌-◌, ◌*◌, ◌/◌, ◌%◌, ◌<◌, ◌≤◌, ℕ, zero, suc, Bool, true, false, cond, bit_xor, ◌==◌, ◌^◌, if◌then◌else◌, length-drop, List, [], ◌∷◌, ◌++◌, length, map, take, drop, Some, slice_get, get_or, refl, ap, ap₂, sym, ◌∙◌, subst, arith, append_assoc, append-nil, length-append}
 use Rattle.std.proofs.lemmas.List.{take-map, drop-map, length-map, map-append, take_all}
 use Rattle.std.proofs.lemmas.Option.{get_or_from_slice_get, slice_get_within}
-use Rattle.lw_laws.specs.Forms.{Form, complement, and_of, kept, has_clash, runs, conjunction, disjunction}
-use Rattle.lw_laws.specs.Forms.Form.{true_form, not_form}
+use Rattle.lw_laws.specs.Forms.{Form, complement, kept, has_clash, runs, conjunction, disjunction}
+use Rattle.lw_laws.specs.Forms.Form.{true_form}
 use Rattle.lw_laws.specs.Occurring.{appended}
 use Rattle.lw_laws.specs.SignalValues.{form_of}
 use Rattle.lw_form.specs.Conjunctions.{AreClean, without_number, kept_numbers, numbers_clash}
 use Rattle.lw_form.specs.Tables.{AreBelow, forms_at, spelled, AreMade, HasMore, Table, made, IsMadeAs, AreMadeAs}
-use Rattle.lw_form.proofs.Tables.{below_more, form_of_more, forms_at_more, appended_more, length_one}
+use Rattle.lw_form.proofs.Tables.{below_more, form_of_more, forms_at_more, appended_more}
 use Rattle.lw_form.proofs.Clean.{clean_one, clean_few, of_clash, of_none, of_kept, of_runs, runs_last, runs_more, fewer_runs, clean_take, clean_drop, kept_clean}
 use Rattle.lw_form.proofs.Conjunctions.{below_kept, kept_forms, clash_forms, true_number, false_number, zero_below, complement_of, complements}
 use Rattle.lw_laws.proofs.Flips.{xor-one, half-flip}

@@ -1,19 +1,18 @@
 -- The list of base forms as places in a table.
-use Rattle.std.proofs.Common.{◌≡◌, ◌≢◌, ◌+◌, ◌-◌, ◌*◌, ◌/◌, ◌%◌, ◌^◌, ◌==◌, ◌<◌, ◌≤◌, ◌⊎◌, inl, inr, ℕ, zero, suc, Bool, true, false, cond, leb, leb-true, pow-suc, if◌then◌else◌, List, [], ◌∷◌, ◌++◌, length, map, take, drop, replicate, Some, None, Result, Ok, Err, OnOk, IfErr, slice_get, get_or, slice_set, refl, ap, ap₂, sym, ◌∙◌, subst, arith, append_assoc, append-nil, length-append}
+use Rattle.std.proofs.Common.{◌≡◌, ◌≢◌, ◌+◌, ◌-◌, ◌*◌, ◌/◌, ◌%◌, ◌^◌, ◌==◌, ◌<◌, ◌≤◌, ◌⊎◌, inl, inr, ℕ, zero, suc, Bool, true, false, cond, leb, leb-true, pow-suc, if◌then◌else◌, List, [], ◌∷◌, ◌++◌, length, map, drop, replicate, Some, Result, Ok, Err, OnOk, IfErr, slice_get, get_or, slice_set, refl, ap, ap₂, sym, ◌∙◌, subst, arith}
 use Rattle.std.specs.List.{AllByRecursion}
 use Rattle.std.specs.Result.{IsErrAnd}
 use Rattle.std.proofs.lemmas.Bool.{le-leb}
 use Rattle.std.proofs.lemmas.List.{length-map, map-append, get_or_append_left, at_drop_more, drop_all}
 use Rattle.std.proofs.lemmas.Option.{slice_get-get_or, get_or_from_slice_get, slice_get_within}
 use Rattle.lw_facts.proofs.Lists.{drop_get, all_front, all_last, get_left, get_last, get_last_cases}
-use Rattle.lw_laws.specs.Forms.{Form, FormList, items, form_list, and_of, same_form, is_among, complement}
+use Rattle.lw_laws.specs.Forms.{Form, FormList, items, form_list, and_of, is_among, complement}
 use Rattle.lw_laws.specs.Forms.Form.{var_form, true_form, not_form, and_form}
 use Rattle.lw_laws.specs.Forms.FormList.{no_forms, more_forms}
 use Rattle.lw_laws.specs.Listings.{sign_of}
 use Rattle.lw_laws.specs.Occurring.{part, with_and_without, sublists, appended, append_part, append_parts, add_form, add_forms}
 use Rattle.lw_laws.specs.SignalValues.{form_of}
-use Rattle.lw_laws.proofs.Equality.{items-form_list, form_list-items}
-use Rattle.lw_laws.proofs.Lists.{slice_get_some, all_append}
+use Rattle.lw_laws.proofs.Equality.{items-form_list}
 use Rattle.lw_laws.proofs.Masks.{sublists_at}
 use Rattle.lw_laws.proofs.Numbers.{slice_get_map, slice_get_map_back}
 use Rattle.lw_form.specs.declared.fault.FormFault.{FormFault}
@@ -27,7 +26,7 @@ use Rattle.lw_form.specs.Listed.{no_place, base_at, bases_of, place_of, IsListed
 use Rattle.lw_form.specs.Listed.PlainStep.{add_of, parts_of}
 use Rattle.lw_form.specs.Tables.{AreBelow, forms_at, spelled, AreMade, HasMore, Table, made, IsSimple}
 use Rattle.lw_form.proofs.Tables.{among_place, place_among, length_one, appended_more}
-use Rattle.lw_form.proofs.Joining.{more_same, more_twice, more_length, form_kept, forms_kept, below_kept_more}
+use Rattle.lw_form.proofs.Joining.{more_same, more_twice, more_length, form_kept, forms_kept}
 use Rattle.lw_form.proofs.FactoringSteps.{turned_last}
 
 -- the base form at a place stays where more forms are made

@@ -1,13 +1,13 @@
 -- Rows, and sums of products.
-use Rattle.std.proofs.Common.{◌≡◌, ◌+◌, ◌-◌, ◌*◌, ◌/◌, ◌%◌, ◌<◌, ◌≤◌, ℕ, zero, suc, Bool, true, false, not, Option, Some, None, List, [], ◌∷◌, ◌++◌, length, map, take, drop, get_or, slice_set, bit_xor, refl, ap, ap₂, sym, ◌∙◌, subst, arith, append_assoc, append-nil}
-use Rattle.std.proofs.lemmas.List.{at_drop_more, length-map, map-append, drop_all}
+use Rattle.std.proofs.Common.{◌≡◌, ◌+◌, ◌-◌, ◌/◌, ◌<◌, ◌≤◌, ℕ, zero, suc, Bool, true, false, Option, Some, None, List, [], ◌∷◌, ◌++◌, length, map, drop, get_or, slice_set, refl, ap, ap₂, sym, ◌∙◌, subst, arith, append_assoc, append-nil}
+use Rattle.std.proofs.lemmas.List.{at_drop_more, map-append, drop_all}
 use Rattle.std.specs.Bool.{beq}
-use Rattle.lw_laws.specs.Forms.{Form, complement, conjunction, disjunction}
+use Rattle.lw_laws.specs.Forms.{Form, conjunction, disjunction}
 use Rattle.lw_laws.specs.Signals.{signed, literals, sum_of_products, asks, has_at, cleared_at}
 use Rattle.lw_laws.specs.SignalValues.{form_of}
 use Rattle.lw_form.specs.Products.{signed_number, literal_numbers, HaveColumns}
 use Rattle.lw_form.specs.Tables.{AreBelow, forms_at, AreMade, HasMore, Table, made, IsMadeAs, AreMadeAs}
-use Rattle.lw_form.proofs.Joining.{more_same, more_twice, more_length, form_kept, forms_kept, below_kept_more, below_append, below_other}
+use Rattle.lw_form.proofs.Joining.{more_same, more_twice, forms_kept, below_kept_more, below_append, below_other}
 use Rattle.lw_form.proofs.Conjunctions.{complement_of}
 
 has_read : (k : ℕ) (sign : Bool) (row : List (Option Bool)) (o : Option Bool) → k < length row → o ≡ get_or row k o → has_at k sign row ≡ asks sign o

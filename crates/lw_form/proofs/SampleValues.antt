@@ -4,7 +4,6 @@ use Rattle.std.specs.List.{list_all, AllByRecursion}
 use Rattle.std.proofs.lemmas.List.{at_drop_more, length-map, drop_all}
 use Rattle.std.proofs.lemmas.Option.{get_or_from_slice_get}
 use Rattle.lw_facts.proofs.Lists.{get_left, get_last}
-use Rattle.lw_laws.specs.Flip.{flip}
 use Rattle.lw_laws.proofs.Flips.{flip_even}
 use Rattle.lw_laws.specs.NumberedForms as laws
 use Rattle.lw_laws.specs.NumberedForms.{NumberedForms, IsBefore}

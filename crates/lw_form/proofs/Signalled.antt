@@ -1,5 +1,5 @@
 -- The forms of the nets of a network.
-use Rattle.std.proofs.Common.{◌≡◌, ◌+◌, ◌-◌, ◌*◌, ◌/◌, ◌<◌, ◌≤◌, ℕ, zero, suc, Bool, true, false, List, [], ◌∷◌, ◌++◌, length, map, take, drop, Some, slice_get, get_or, refl, ap, ap₂, sym, ◌∙◌, subst, arith, append_assoc, append-nil, length-append, All}
+use Rattle.std.proofs.Common.{◌≡◌, ◌+◌, ◌-◌, ◌*◌, ◌/◌, ◌<◌, ◌≤◌, ℕ, zero, suc, Bool, List, [], ◌∷◌, ◌++◌, length, map, take, drop, Some, slice_get, get_or, refl, ap, ap₂, sym, ◌∙◌, subst, arith, append_assoc, append-nil, length-append, All}
 use Rattle.std.proofs.lemmas.List.{length-map, map-append}
 use Rattle.std.proofs.lemmas.List.Elements.{All-head, All-tail}
 use Rattle.lw_laws.specs.Forms.{Form}
@@ -17,7 +17,7 @@ use Rattle.lw_form.specs.declared.fault.FormFault.{FormFault}
 use Rattle.lw_form.specs.Listed.{base_at, bases_of, IsListed, IsTooLong}
 use Rattle.lw_form.specs.Nets.{signal_at, signals_at, AreListed, AreNodes}
 use Rattle.lw_form.specs.Tables.{input_forms, AreBelow, forms_at, AreMade, HasMore, Table, made, IsMadeAs}
-use Rattle.lw_form.proofs.Joining.{more_twice, more_length, form_kept, forms_kept, below_kept_more, below_append, below_other, even_form}
+use Rattle.lw_form.proofs.Joining.{more_twice, more_length, form_kept, forms_kept, below_kept_more, below_append, even_form}
 use Rattle.lw_form.proofs.ListedForms.{longer_add, longer_fault, listed_kept, bases_kept}
 use Rattle.lw_form.proofs.Rows.{signed_form}
 use Rattle.lw_form.specs.Products.{signed_number, HaveColumns}

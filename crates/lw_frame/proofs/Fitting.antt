@@ -1,5 +1,5 @@
 -- The frame and the starts of a circuit fit its combinational part.
-use Rattle.std.proofs.Common.{ℕ, zero, suc, ◌+◌, ◌≡◌, List, [], ◌∷◌, ◌++◌, length, map, refl, ap, sym, ◌∙◌, arith, length-append}
+use Rattle.std.proofs.Common.{ℕ, zero, suc, ◌+◌, ◌≡◌, List, ◌++◌, length, map, refl, ap, sym, ◌∙◌, arith, length-append}
 use Rattle.std.specs.Prelude.{All, drop, replicate}
 use Rattle.std.proofs.Math.Seq.{drop-append_seam}
 use Rattle.lw_facts.proofs.Lists.{length_mapped}

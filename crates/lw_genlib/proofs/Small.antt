@@ -1,5 +1,5 @@
 -- Numbers of libraries are below a million.
-use Rattle.std.proofs.Common.{ℕ, zero, suc, ◌+◌, ◌*◌, ◌≡◌, ◌<◌, Bool, true, false, not, ◌&&◌, cond, List, [], ◌∷◌, ◌++◌, length, take, refl, ap, ◌∙◌, subst, arith, Result, Ok, Err, length-take, rules}
+use Rattle.std.proofs.Common.{ℕ, ◌+◌, ◌*◌, ◌≡◌, ◌<◌, Bool, true, false, not, ◌&&◌, cond, List, ◌++◌, length, take, refl, ap, ◌∙◌, subst, arith, Result, Ok, Err, length-take, rules}
 use Rattle.std.specs.Prelude.{replicate, nat_le, nat_lt}
 use Rattle.std.specs.List.{list_all}
 use Rattle.std.specs.Char.{is_ascii_digit}

@@ -5,10 +5,10 @@ use Rattle.std.proofs.lemmas.Option.{same_Some, none-some}
 use Rattle.std.specs.List.{AllByRecursion}
 use Rattle.std.specs.Prelude.{All}
 use Rattle.std.proofs.lemmas.List.Elements.{recursion_from_All}
-use Rattle.lw_laws.specs.Covers.{latest, start_of, delays_of, HasPins}
+use Rattle.lw_laws.specs.Covers.{latest, start_of, HasPins}
 use Rattle.lw_genlib.specs.Cells.{CellParts, IsSmall}
 use Rattle.lw_fixed.specs.declared.micro.Micro.{Micro}
-use Rattle.lw_genlib.specs.Tables.{millionths, cell_delays, delays_of_cells}
+use Rattle.lw_genlib.specs.Tables.{millionths, delays_of_cells}
 use Rattle.lw_label.specs.Delays.{most_time, start_at}
 use Rattle.lw_laws.proofs.Shared.{latest_suc}
 

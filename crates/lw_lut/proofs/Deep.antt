@@ -8,7 +8,7 @@ use Rattle.std.proofs.lemmas.Option.{same_Some}
 use Rattle.lw_pool.specs.declared.id.ClassId.{ClassId}
 use Rattle.lw_laws.specs.Flip.{flip}
 use Rattle.lw_laws.specs.Trees.{Tree, leaf, const_one, const_zero, inv, nand, planted}
-use Rattle.lw_laws.specs.Graphs.{Graph, Unfolds, HoldsPair}
+use Rattle.lw_laws.specs.Graphs.{Graph, Unfolds}
 use Rattle.lw_laws.proofs.Flips.{half-flip}
 use Rattle.lw_laws.proofs.Extracts.{slice_get_left, slice_get_right}
 use Rattle.lw_laws.proofs.Lists.{slice_get_some}

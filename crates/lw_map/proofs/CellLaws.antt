@@ -1,20 +1,14 @@
 -- What the cells of a library say, in the words of the laws.
-use Rattle.std.proofs.Common.{ℕ, ◌<◌, ◌≡◌, ◌↔◌, List, [], ◌∷◌, map, length, Option, Some, slice_get, Contains, refl, ap, sym, ◌∙◌, subst, arith}
-use Rattle.std.specs.Prelude.{All}
-use Rattle.std.proofs.lemmas.Option.{get_or_from_slice_get, slice_get_within, same_Some}
-use Rattle.std.proofs.lemmas.List.Elements.{recursion_from_All}
+use Rattle.std.proofs.Common.{ℕ, ◌≡◌, List, map, length, Some, slice_get, ap, sym, ◌∙◌}
+use Rattle.std.proofs.lemmas.Option.{same_Some}
 use Rattle.lw_laws.specs.Covers.{HasPins, ArePatterns}
-use Rattle.lw_laws.specs.Networks.{given}
-use Rattle.lw_laws.specs.Cells.{AreCells}
-use Rattle.lw_laws.specs.Expressions.{Expr, MentionsPin}
+use Rattle.lw_laws.specs.Expressions.{Expr}
 use Rattle.lw_laws.specs.Netlists.{HaveCellTruths}
 use Rattle.lw_laws.proofs.PatternLaws.{cells_patterns, cells_truths}
-use Rattle.lw_laws.proofs.Lists.{all_contains}
 use Rattle.lw_laws.proofs.Numbers.{slice_get_map_back}
-use Rattle.lw_genlib.specs.Postfix.{first_expr}
-use Rattle.lw_genlib.specs.Cells.{CellParts, IsForm, IsListed, IsLibrary}
+use Rattle.lw_genlib.specs.Cells.{CellParts, IsListed, IsLibrary}
 use Rattle.lw_genlib.specs.Tables.{delays_of_cells, truth_of_cells}
-use Rattle.lw_pattern.specs.Libraries.{forms_of, pin_count, pin_counts, value_of, library_patterns, library_truth}
+use Rattle.lw_pattern.specs.Libraries.{forms_of, pin_count, pin_counts, library_patterns, library_truth}
 use Rattle.lw_label.proofs.CellLaws as label
 use Rattle.lw_pattern.proofs.LibraryLaws.{kept_at, are_cells}
 

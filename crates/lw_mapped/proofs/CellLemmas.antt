@@ -1,7 +1,7 @@
 -- The cell that a name finds, and what a line of a gate says by it.
-use Rattle.std.proofs.Common.{ℕ, zero, suc, ◌≡◌, ◌+◌, ◌<◌, ◌≤◌, Bool, true, false, not, cond, nat_lt, List, [], ◌∷◌, length, drop, get_or, Option, Some, None, Err, Contains, refl, ap, sym, ◌∙◌, arith}
+use Rattle.std.proofs.Common.{ℕ, zero, suc, ◌≡◌, ◌<◌, ◌≤◌, Bool, true, false, cond, nat_lt, List, [], ◌∷◌, length, drop, get_or, Option, Some, None, Err, Contains, refl, ap, sym, ◌∙◌, arith}
 use Rattle.std.specs.Prelude.{position, slice_get}
-use Rattle.std.specs.List.{IsDistinct, AllByRecursion, position_or_len}
+use Rattle.std.specs.List.{IsDistinct, position_or_len}
 use Rattle.std.specs.Str.{bytes_eq}
 use Rattle.std.specs.Cmp.Lexicographic.{bytes_decides}
 use Rattle.std.proofs.lemmas.Bool.Decides.{nat_tests}

@@ -1,21 +1,20 @@
 -- Decimals that are printed: their bytes, and that they are read as the number by any limit above it.
-use Rattle.std.proofs.Common.{ℕ, zero, suc, ◌≡◌, ◌<◌, ◌≤◌, ◌+◌, ◌-◌, ◌*◌, ◌/◌, ◌%◌, ◌^◌, ◌==◌, Bool, true, false, not, ◌&&◌, cond, nat_lt, nat_eq, eqb, List, [], ◌∷◌, ◌++◌, length, take, drop, get_or, replicate, reverse, Result, Ok, Err, refl, ap, ap₂, sym, ◌∙◌, arith, rules, add-one, append_assoc, length-drop, length-take, length-append}
+use Rattle.std.proofs.Common.{ℕ, zero, suc, ◌≡◌, ◌<◌, ◌≤◌, ◌+◌, ◌-◌, ◌*◌, ◌/◌, ◌%◌, ◌^◌, ◌==◌, Bool, true, false, not, ◌&&◌, cond, nat_lt, nat_eq, eqb, List, [], ◌∷◌, ◌++◌, length, take, drop, get_or, replicate, reverse, Result, Ok, Err, refl, ap, ap₂, sym, ◌∙◌, arith, rules, add-one, length-drop, length-take, length-append}
 use Rattle.std.specs.Prelude.{decimal, nat_le}
 use Rattle.std.specs.Char.{is_ascii_digit, digit_value}
 use Rattle.std.specs.List.{list_all, list_any, suffix_len, position_or_len, before_first, after_first, AllByRecursion as Each}
-use Rattle.std.specs.Str.Parse.{digits_value, digits_value_after}
-use Rattle.std.proofs.Math.Nat.{pow-succ'}
+use Rattle.std.specs.Str.Parse.{digits_value}
 use Rattle.std.proofs.lemmas.Bool.{and_parts, eqb-true}
 use Rattle.std.proofs.lemmas.Bool.Decides.{nat_tests}
 use Rattle.std.proofs.lemmas.Fmt.{length-decimal-le, digits_decimal, digits_value-decimal, decimal_nonempty}
-use Rattle.std.proofs.lemmas.List.{get_or-reverse, get_or-drop, get_or-replicate, ext_get_or, length-replicate, replicate-append-replicate, take-append-drop, take_at, take_all, drop_all}
+use Rattle.std.proofs.lemmas.List.{get_or-reverse, get_or-drop, get_or-replicate, ext_get_or, length-replicate, take_at, take_all, drop_all}
 use Rattle.std.proofs.lemmas.List.Sums.{prefix_len_passes, suffix_len-le-length}
 use Rattle.std.proofs.lemmas.Str.Parse.{IsNumeralModel, numerals_by_value, digits_value_short}
 use Rattle.lw_facts.proofs.Lists.{drop_point, digits_value_split}
 use Rattle.lw_fixed.specs.declared.micro.Micro.{Micro}
 use Rattle.lw_fixed.specs.declared.fault.DecimalFault.{DecimalFault}
 use Rattle.lw_fixed.specs.declared.fault.DecimalFault.TheVariants.{Shape, Large, Fine, Negative}
-use Rattle.lw_fixed.specs.Decimals.{decimal_of, is_point, is_sign, without_sign, whole_part, decimals, is_decimal, has_digits, units_of, millionths_of, value_of_decimals, is_finer, is_negative}
+use Rattle.lw_fixed.specs.Decimals.{decimal_of, is_point, whole_part, decimals, is_decimal, has_digits, units_of, millionths_of, value_of_decimals, is_finer, is_negative}
 use Rattle.lw_fixed.specs.Printed.{decimal_text, six_decimals, without_zeros, with_decimals}
 use Rattle.lw_mapped.proofs.GoodWords.{IsGood, is_good, good-bytes}
 use Rattle.lw_mapped.proofs.WrittenLines.{each-append}

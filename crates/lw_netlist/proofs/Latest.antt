@@ -1,19 +1,19 @@
 -- The greatest of pins' arrivals and delays, and when gates' nets arrive.
-use Rattle.std.proofs.Common.{◌≡◌, ◌≢◌, ℕ, zero, suc, ◌+◌, ◌*◌, ◌<◌, ◌≤◌, ◌^◌, ◌⊎◌, inl, inr, max, List, [], ◌∷◌, length, map, take, get_or, set, slice_get, All, Some, refl, sym, ap, ap₂, subst, ◌∙◌, arith, get_or-set_same, get_or-set_other}
+use Rattle.std.proofs.Common.{◌≡◌, ◌≢◌, ℕ, suc, ◌+◌, ◌*◌, ◌<◌, ◌≤◌, ◌^◌, ◌⊎◌, inl, inr, max, List, [], ◌∷◌, length, map, take, get_or, set, slice_get, All, Some, refl, sym, ap, ap₂, subst, ◌∙◌, arith, get_or-set_same, get_or-set_other}
 use Rattle.std.proofs.lemmas.List.{get_or-map, get_or-take, length-map, map-set, get_or_default}
 use Rattle.std.proofs.lemmas.List.Elements.{All-head, All-tail, All-get_or}
 use Rattle.std.proofs.lemmas.Bool.{cases_eq}
 use Rattle.lw_laws.specs.Covers.{latest, delays_of}
 use Rattle.lw_genlib.specs.Cells.{CellParts, IsSmall}
 use Rattle.lw_netlist.specs.declared.gate.Gate.{Gate}
-use Rattle.std.proofs.lemmas.Option.{same_Some, none-some, slice_get_within, slice_get-get_or}
+use Rattle.std.proofs.lemmas.Option.{slice_get_within, slice_get-get_or}
 use Rattle.lw_laws.specs.Netlists as laws
 use Rattle.lw_laws.specs.Netlists.{AreArrivals}
 use Rattle.lw_netlist.specs.Netlists.{NetlistParts}
 use Rattle.lw_netlist.proofs.Filling.{IsLocal, image_at}
 use Rattle.lw_pool.specs.declared.id.NetId.{NetId}
 use Rattle.lw_fixed.specs.declared.micro.Micro.{Micro}
-use Rattle.lw_genlib.specs.Tables.{millionths, delays_of_cells, cell_delays, timing_of}
+use Rattle.lw_genlib.specs.Tables.{millionths, delays_of_cells, timing_of}
 use Rattle.lw_netlist.specs.Plain.{plain, plain_gate}
 use Rattle.lw_netlist.specs.Filling.{arrivals_at, arrival_at, gate_arrival, one_step}
 use Rattle.lw_pool.specs.Numbers.{net_number}

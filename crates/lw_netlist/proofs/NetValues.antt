@@ -1,12 +1,10 @@
 -- Values of nets.
-use Rattle.std.proofs.Common.{◌≡◌, ◌≢◌, ℕ, ◌+◌, ◌<◌, Bool, false, List, [], ◌∷◌, length, map, get_or, set, slice_get, All, Some, refl, sym, ap, ap₂, ◌∙◌, arith, get_or-set_other}
+use Rattle.std.proofs.Common.{◌≡◌, ℕ, ◌+◌, ◌<◌, Bool, false, List, length, map, get_or, slice_get, Some, sym, ap, ◌∙◌, arith}
 use Rattle.std.proofs.lemmas.List.{length-map}
-use Rattle.std.proofs.lemmas.List.Elements.{All-head, All-tail}
 use Rattle.std.proofs.lemmas.Option.{slice_get_within, slice_get-get_or}
 use Rattle.lw_laws.specs.Networks.{given}
 use Rattle.lw_laws.specs.Netlists as laws
 use Rattle.lw_laws.specs.Netlists.{AreNetlistValues}
-use Rattle.lw_pool.specs.declared.id.NetId.{NetId}
 use Rattle.lw_genlib.specs.Cells.{CellParts}
 use Rattle.lw_netlist.specs.declared.gate.Gate.{Gate}
 use Rattle.lw_netlist.specs.Netlists.{NetlistParts}
@@ -14,7 +12,6 @@ use Rattle.lw_genlib.specs.Tables.{truth_of_cells}
 use Rattle.lw_netlist.specs.Plain.{plain, plain_gate}
 use Rattle.lw_netlist.specs.Filling.{gate_value}
 use Rattle.lw_netlist.proofs.Filling.{IsLocal, image_at}
-use Rattle.lw_pool.specs.Numbers.{values_at}
 use Rattle.lw_dag.proofs.Shared.{values_at_set}
 
 pub values_are_local : (cells : List CellParts) → IsLocal (gate_value cells)

@@ -1,9 +1,9 @@
 -- Names one after another in one list of bytes.
-use Rattle.std.proofs.Common.{ℕ, zero, suc, ◌+◌, ◌-◌, ◌<◌, ◌≤◌, ◌≡◌, List, [], ◌∷◌, ◌++◌, length, take, drop, get_or, Some, refl, ap, ap₂, sym, subst, ◌∙◌, arith, length-append, append_assoc}
+use Rattle.std.proofs.Common.{ℕ, zero, suc, ◌+◌, ◌-◌, ◌<◌, ◌≤◌, ◌≡◌, List, [], ◌∷◌, ◌++◌, length, take, get_or, Some, refl, ap, ap₂, sym, subst, ◌∙◌, arith, length-append, append_assoc}
 use Rattle.std.specs.Prelude.{slice_get}
 use Rattle.std.proofs.lemmas.Option.{slice_get_within, get_or_from_slice_get}
 use Rattle.std.specs.List.{slice_range}
-use Rattle.std.proofs.lemmas.List.{take-append-le, drop-append-le, length-drop, take_all, take_more}
+use Rattle.std.proofs.lemmas.List.{take-append-le, take_all, take_more}
 use Rattle.std.proofs.Math.Seq.{drop-append_seam}
 use Rattle.lw_facts.proofs.Lists.{slice_range_append}
 use Rattle.lw_words.specs.Arenas.{words_at, last_end, begin_of}

@@ -1,5 +1,5 @@
 -- Members of lists that are mapped, filtered, or left without repeats.
-use Rattle.std.proofs.Common.{zero, suc, ◌≡◌, ◌≤◌, length, Bool, true, false, cond, List, [], ◌∷◌, map, filter, Contains, refl, ap, sym, ◌∙◌, subst, arith}
+use Rattle.std.proofs.Common.{zero, suc, ◌≡◌, ◌≤◌, length, Bool, true, false, cond, List, [], ◌∷◌, filter, Contains, refl, ap, sym, ◌∙◌, subst, arith}
 use Rattle.std.specs.List.{AllByRecursion, dedup, dedup_from}
 use Rattle.lw_facts.proofs.Lists.{contains_tail}
 use Rattle.lw_laws.proofs.Lists.{all_contains, contains_all}

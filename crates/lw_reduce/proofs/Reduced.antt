@@ -1,5 +1,5 @@
 -- The graph of settled representatives: its classes, its pairs, and what its type keeps.
-use Rattle.std.proofs.Common.{ℕ, ◌+◌, ◌*◌, ◌/◌, ◌<◌, ◌≡◌, ◌^◌, ◌==◌, ◌⊎◌, ◌↔◌, inl, inr, min, max, Bool, true, List, [], length, map, filter, get_or, All, Contains, refl, ap, sym, ◌∙◌, subst, subst₂, arith}
+use Rattle.std.proofs.Common.{ℕ, ◌+◌, ◌*◌, ◌/◌, ◌<◌, ◌≡◌, ◌^◌, ◌⊎◌, ◌↔◌, inl, inr, min, max, Bool, List, [], length, map, filter, get_or, All, Contains, refl, ap, sym, ◌∙◌, subst, subst₂, arith}
 use Rattle.std.specs.List.{slice_get}
 use Rattle.std.specs.Prelude.{Some, slice_index_or}
 use Rattle.std.proofs.lemmas.List.Elements.{All-contains, Contains-get_or}

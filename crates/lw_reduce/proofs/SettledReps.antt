@@ -1,5 +1,5 @@
 -- Representatives are settled where a round unifies nothing, and where all facts have different operands.
-use Rattle.std.proofs.Common.{ℕ, zero, suc, ◌+◌, ◌*◌, ◌<◌, ◌≤◌, ◌≡◌, ◌==◌, ◌^◌, true, false, List, [], ◌∷◌, length, map, get_or, All, Contains, refl, ap, ap₂, sym, ◌∙◌, subst, arith, true≢false}
+use Rattle.std.proofs.Common.{ℕ, zero, suc, ◌+◌, ◌*◌, ◌<◌, ◌≤◌, ◌≡◌, ◌==◌, ◌^◌, true, false, List, [], ◌∷◌, length, map, get_or, All, Contains, ap, ap₂, sym, ◌∙◌, subst, arith, true≢false}
 use native.Mathlib.Decide.{ℕ_discrete, dec_le, dec_lt}
 use Rattle.std.specs.List.{IsDistinct}
 use Rattle.std.specs.List.Sorted.{IsPermutation, IsStrictlyIncreasing}

@@ -1,5 +1,5 @@
 -- Bits of words.
-use Rattle.std.proofs.Common.{ℕ, ◌+◌, ◌-◌, ◌<◌, ◌≡◌, ◌≢◌, ◌^◌, min, max, Bool, true, false, not, ◌&&◌, ◌||◌, cond, eqb, refl, ap, arith}
+use Rattle.std.proofs.Common.{ℕ, ◌+◌, ◌-◌, ◌<◌, ◌≡◌, ◌≢◌, ◌^◌, Bool, true, false, not, ◌&&◌, ◌||◌, cond, eqb, refl, ap, arith}
 use Rattle.std.specs.Prelude.{bit_and, bit_or}
 use Rattle.std.specs.Int.{bit_at, bit_not, w64}
 use Rattle.std.proofs.lemmas.Nat.{or_lt, pow_below}

@@ -24,7 +24,6 @@ use Rattle.lw_netlist.specs.Filling.{gate_value}
 use Rattle.lw_netlist.specs.Netlists.{NetlistParts}
 use Rattle.lw_netlist.proofs.NetValues.{filled_values as netlist_values}
 use Rattle.lw_genlib.specs.Cells.{CellParts}
-use Rattle.lw_genlib.specs.Postfix.{first_expr}
 use Rattle.lw_genlib.specs.Words.{bit, pins_at}
 use Rattle.lw_report.specs.declared.block.Block.{Block}
 use Rattle.lw_report.specs.Blocks.{bits_at, block_vectors, vectors_in}

@@ -1,18 +1,15 @@
 -- The names of the nets of a mapped netlist are names of the format where those of the inputs and of the outputs are.
-use Rattle.std.proofs.Common.{ℕ, zero, suc, ◌+◌, ◌-◌, ◌^◌, ◌<◌, ◌≤◌, ◌≡◌, ◌==◌, Bool, true, false, not, ◌&&◌, nat_eq, if◌then◌else◌, List, [], ◌∷◌, ◌++◌, length, Option, Some, None, All, refl, ap₂, ◌∙◌, subst, arith}
+use Rattle.std.proofs.Common.{ℕ, ◌+◌, ◌-◌, ◌^◌, ◌<◌, ◌≤◌, ◌≡◌, ◌==◌, Bool, true, false, not, ◌&&◌, if◌then◌else◌, List, [], ◌∷◌, ◌++◌, length, Option, Some, None, All, refl, ap₂, ◌∙◌, subst, arith}
 use Rattle.std.specs.Prelude.{nat_le}
 use Rattle.std.specs.List.{AllByRecursion as Each}
-use Rattle.std.specs.Fmt.{decimal}
 use Rattle.std.proofs.lemmas.Bool.Decides.{nat_tests}
-use Rattle.std.proofs.lemmas.Fmt.{length-decimal-le, digits_decimal}
-use Rattle.std.proofs.lemmas.List.Elements.{All-filter, All-from_recursion}
+use Rattle.std.proofs.lemmas.List.Elements.{All-from_recursion}
 use Rattle.lw_facts.proofs.Tests.{no_stroke_at_end}
 use Rattle.lw_words.specs.Gathering.{IsInk, IsNoHash}
-use Rattle.lw_laws.specs.Names.{is_name_among, numbered_name, numbered_names, free_names, output_name, gate_names, net_names}
+use Rattle.lw_laws.specs.Names.{free_names, output_name, gate_names, net_names}
 use Rattle.lw_naming.proofs.FreeNames.{enough_free}
-use Rattle.lw_mapped.proofs.GoodWords.{IsGood, good-bytes, stroke-behind, ends_stroke}
-use Rattle.lw_mapped.proofs.Printing.{own, digits-good}
-use Rattle.lw_mapped.proofs.WrittenLines.{each-of, each-append, each-weaker}
+use Rattle.lw_mapped.proofs.GoodWords.{IsGood, stroke-behind, ends_stroke}
+use Rattle.lw_mapped.proofs.WrittenLines.{each-append, each-weaker}
 use Rattle.lw_words.specs.Words.{IsSignalName}
 use Rattle.lw_lut.proofs.GivenNames.{free_each}
 

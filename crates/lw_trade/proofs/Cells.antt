@@ -1,10 +1,9 @@
 -- What a library says of its cells.
-use Rattle.std.proofs.Common.{◌≡◌, ◌<◌, arith, ℕ, zero, suc, List, [], ◌∷◌, Some, length, map, slice_get, ap, sym, ◌∙◌}
-use Rattle.std.proofs.lemmas.List.{length-map}
+use Rattle.std.proofs.Common.{◌≡◌, ◌<◌, arith, ℕ, zero, suc, List, [], ◌∷◌, Some, length, map, slice_get, ap}
 use Rattle.std.proofs.lemmas.Option.{same_Some, none-some}
-use Rattle.lw_laws.specs.Covers.{HasPins, delays_of}
+use Rattle.lw_laws.specs.Covers.{HasPins}
 use Rattle.lw_genlib.specs.Cells.{CellParts}
-use Rattle.lw_genlib.specs.Tables.{millionths, cell_delays, delays_of_cells}
+use Rattle.lw_genlib.specs.Tables.{delays_of_cells}
 use Rattle.lw_trade.specs.Areas.{area_of_cell, area_at}
 
 -- the area of a cell of the library

@@ -5,7 +5,7 @@ use Rattle.std.proofs.lemmas.List.{length-map}
 use Rattle.std.proofs.lemmas.Option.{same_Some}
 use Rattle.lw_fixed.specs.declared.micro.Micro.{Micro}
 use Rattle.lw_pool.specs.declared.id.ClassId.{ClassId}
-use Rattle.lw_laws.specs.Covers.{latest, start_of, delays_of}
+use Rattle.lw_laws.specs.Covers.{start_of, delays_of}
 use Rattle.lw_genlib.specs.Tables.{millionths}
 use Rattle.lw_trade.specs.declared.choices.Row.{Row}
 use Rattle.lw_trade.specs.declared.uses.Uses.{Uses}

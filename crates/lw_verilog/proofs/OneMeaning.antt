@@ -1,12 +1,10 @@
 -- A text comes to one outcome.
-use Rattle.std.proofs.Common.{ℕ, ◌≡◌, ◌≢◌, ◌<◌, ◌≤◌, ◌⊎◌, inl, inr, List, map, Some, None, Result, Ok, Err, refl, ap, sym, ◌∙◌, arith}
-use Rattle.std.specs.Prelude.{slice_get}
-use Rattle.std.proofs.lemmas.Bool.{cases_lt}
+use Rattle.std.proofs.Common.{◌≡◌, ◌≢◌, List, Some, None, Result, Ok, Err, refl, ap, sym, ◌∙◌}
 use Rattle.lw_genlib.specs.Cells.{CellParts}
 use Rattle.lw_netlist.specs.declared.draft.GateDraft.{GateDraft}
 use Rattle.lw_netlist.specs.declared.fault.NetlistFault.{NetlistFault}
 use Rattle.lw_netlist.specs.declared.fault.NetlistFault.TheVariants as whole
-use Rattle.lw_netlist.specs.Closing.{IsClosed, IsFirstOnCycle, Link, links, name_of}
+use Rattle.lw_netlist.specs.Closing.{IsClosed, links}
 use Rattle.lw_netlist.specs.Netlists.{NetlistParts}
 use Rattle.lw_mapped.proofs.ClosedOnce.{closed-once}
 use Rattle.lw_verilog.specs.declared.fault.VerilogFault.{VerilogFault}

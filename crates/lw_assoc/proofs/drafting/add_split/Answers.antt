@@ -2,7 +2,7 @@ use Rattle.std.proofs.Common.{arith, ◌*◌, ◌+◌}
 use Rattle.std.specs.Prelude.{slice_index}
 use Rattle.std.proofs.lemmas.Option.{slice_get_within}
 use Rattle.lw_laws.specs.NumberedForms.Base.{base_and}
-use Rattle.lw_assoc.proofs.Drafts.{split_known, split_sample, parts_split, split_added}
+use Rattle.lw_assoc.proofs.Drafts.{split_known, split_sample, parts_split}
 use Rattle.lw_assoc.proofs.drafting.add_split.Goals as goal
 
 pub overflow_mul-b : goal.overflow_mul-b

@@ -1,7 +1,6 @@
-use Rattle.std.proofs.Common.{◌≡◌, ◌∙◌, ◌∷◌, ◌++◌, ◌<◌, [], List, ℕ, sym, subst, ap, map}
+use Rattle.std.proofs.Common.{◌∙◌, ◌∷◌, ◌++◌, [], sym, subst, ap, map}
 use Rattle.std.specs.List.{AllByRecursion}
 use Rattle.std.proofs.lemmas.Result.{on_ok_weaker}
-use Rattle.lw_laws.specs.Forms.{Form}
 use Rattle.lw_laws.proofs.Lists.{all_append}
 use Rattle.lw_form.specs.declared.listing.Step.TheVariants.{Parts}
 use Rattle.lw_form.specs.Listed.{StepFits, plain_step, plain_steps, adds}

@@ -1,4 +1,4 @@
-use Rattle.std.proofs.Common.{◌≡◌, ◌-◌, ◌<◌, ◌∷◌, [], sym, subst, length, arith}
+use Rattle.std.proofs.Common.{◌-◌, ◌∷◌, [], sym, subst, length, arith}
 use Rattle.std.specs.List.{AllByRecursion}
 use Rattle.lw_laws.proofs.Lists.{all_append}
 use Rattle.lw_form.specs.Listed.{StepFits}

@@ -1,5 +1,3 @@
-use Rattle.std.proofs.Common.{◌≡◌}
-use Rattle.lw_form.proofs.SampleValues.{all_step, all_false, all_end}
 use Rattle.lw_form.proofs.sampling.are_true.Goals as goal
 use Rattle.lw_form.proofs.FactoringSteps.{below_at}
 

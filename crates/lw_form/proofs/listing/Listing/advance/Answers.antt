@@ -1,12 +1,10 @@
-use Rattle.std.proofs.Common.{◌≡◌, ◌≢◌, ◌∙◌, ◌<◌, ◌+◌, ◌∷◌, ◌++◌, [], List, ℕ, sym, subst, ap, arith, length, OnOk, IfErr}
+use Rattle.std.proofs.Common.{◌<◌, ◌+◌, ◌∷◌, ◌++◌, [], List, sym, subst}
 use Rattle.std.proofs.lemmas.Result.{on_ok_weaker}
 use Rattle.lw_laws.specs.Forms.{Form}
-use Rattle.lw_form.specs.declared.listing.Step.{Step}
-use Rattle.lw_form.specs.declared.listing.Step.TheVariants.{Add, Parts}
-use Rattle.lw_form.specs.declared.fault.FormFault.{FormFault}
-use Rattle.lw_form.specs.Listed.{bases_of, plain_step, plain_steps, step_size, steps_size, IsTooLong, IsAdding}
-use Rattle.lw_form.specs.Tables.{made, forms_at}
-use Rattle.lw_form.proofs.ListedForms.{parts_below, parts_added, parts_fault, parts_size, on_both, if_err}
+use Rattle.lw_form.specs.declared.listing.Step.TheVariants.{Parts}
+use Rattle.lw_form.specs.Listed.{plain_step, plain_steps, step_size, steps_size, IsAdding}
+use Rattle.lw_form.specs.Tables.{made}
+use Rattle.lw_form.proofs.ListedForms.{parts_added, parts_fault, parts_size, on_both, if_err}
 use Rattle.lw_form.proofs.listing.Listing.advance.Goals as goal
 
 works : (c : goal.After-list_and) (goals : List Form) → IsAdding c.args.table.now c.args.self.now.listed.items c.args.self.now.places.items (c.args.steps.now.items ++ c.args.step ∷ []) goals → IsAdding c.args.table.now c.args.self.now.listed.items c.args.self.now.places.items (c.args.steps.now.items ++ Parts c.in-Parts.b ∷ []) goals

@@ -1,8 +1,6 @@
-use Rattle.std.proofs.Common.{◌≡◌, ◌≢◌, ◌∙◌, ◌<◌, ◌/◌, ◌∷◌, ◌++◌, [], List, ℕ, sym, subst, ap, arith, length, OnOk, IfErr, Some}
+use Rattle.std.proofs.Common.{◌∙◌, sym, subst, ap, length, Some}
 use Rattle.std.proofs.lemmas.Result.{on_ok_weaker}
-use Rattle.lw_laws.specs.Forms.{Form}
-use Rattle.lw_form.specs.Listed.{bases_of, place_of, no_place, IsTooLong, IsAdding}
-use Rattle.lw_form.specs.Tables.{made, forms_at, spelled, AreBelow}
+use Rattle.lw_form.specs.Tables.{made, spelled, AreBelow}
 use Rattle.lw_form.proofs.ListedForms.{adding_below, adding_listed, adding_simple, simple_fault, adding_and, size_dropped, size_and, on_both, if_err, rest_fit}
 use Rattle.lw_form.proofs.listing.Listing.begin.Goals as goal
 
