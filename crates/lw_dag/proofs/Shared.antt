@@ -1,7 +1,7 @@
 -- Lemmas that the proofs of several crates above cite.
 use Rattle.lw_pool.specs.Numbers.{values_at}
 use Rattle.lw_pool.specs.declared.id.NetId.{NetId}
-use Rattle.std.proofs.Common.{All, Bool, List, [], arith, false, get_or-set_other, refl, set, ℕ, ◌<◌, ◌∷◌, ◌≡◌, ◌≢◌}
+use Rattle.std.proofs.Common.{ap₂, All, Bool, List, [], arith, false, get_or-set_other, refl, set, ℕ, ◌<◌, ◌∷◌, ◌≡◌, ◌≢◌}
 use Rattle.std.proofs.lemmas.List.Elements.{All-head, All-tail}
 
 pub values_at_set : (values : List Bool) (at : ℕ) (v : Bool) (nets : List NetId) → All (λ (net : NetId). net.0 < at) nets → values_at (set values at v) nets ≡ values_at values nets
