@@ -11,5 +11,5 @@ pub mod Paths
 pub mod Pins
 pub mod Places
 pub mod Settling
-pub mod SpelledNames
+pub mod Spelling
 pub mod Starting

@@ -1,9 +1,8 @@
 -- The graph that is kept of a draft, and the nets of names whose gates stand at given places.
-use Rattle.std.proofs.Common.{◌≡◌, ℕ, ◌+◌, ◌-◌, ◌<◌, ◌≤◌, ◌⊎◌, inl, inr, List, [], ◌∷◌, ◌++◌, length, map, take, get_or, Contains, All, refl, sym, ap, ap₂, subst, ◌∙◌, arith, length-append}
+use Rattle.std.proofs.Common.{◌≡◌, ℕ, ◌+◌, ◌-◌, ◌<◌, ◌≤◌, ◌⊎◌, inl, inr, List, [], ◌∷◌, ◌++◌, length, map, get_or, Contains, All, refl, sym, ap, ap₂, subst, ◌∙◌, arith, length-append}
 use Rattle.std.proofs.lemmas.List.{get_or_default, get_or-map, get_or_append_left, get_or-append_right, length-map}
 use Rattle.std.proofs.lemmas.List.Elements.{All-map, All-weaker, All-head, All-tail}
 use Rattle.std.proofs.lemmas.Bool.{cases_lt}
-use Rattle.std.proofs.Math.Seq.{take-append_seam}
 use Rattle.std.specs.List.{IsDistinct}
 use Rattle.std.specs.Str.{bytes_eq}
 use Rattle.lw_pool.specs.declared.id.CellId.{CellId}
@@ -110,10 +109,10 @@ module _ (draft : GateDraft) (graph : Graph) (made : IsMadeOf draft graph) where
   gate_names (p ∷ ps) within =
       ap₂ (λ n ns. n ∷ ns) (gate_name p (All-head (λ q. q < g) p ps within)) (gate_names ps (All-tail (λ q. q < g) p ps within))
 
-  pub names_are : (inputs : ℕ) (places : List ℕ) → inputs ≡ m → All (λ p. p < g) places → take inputs keys ++ map (signal_at inputs keys) places ≡ names_at draft places
+  pub names_are : (inputs : ℕ) (places : List ℕ) → inputs ≡ m → All (λ p. p < g) places → graph.first ++ map (signal_at inputs keys) places ≡ names_at draft places
   names_are inputs places is within =
-      ap (λ n. take n keys ++ map (signal_at n keys) places) is
-      ∙ ap₂ (λ a b. a ++ b) (ap (take m) made.graph.names ∙ take-append_seam draft.inputs (map name_of (links draft))) (gate_names places within)
+      ap (λ n. graph.first ++ map (signal_at n keys) places) is
+      ∙ ap₂ (λ a b. a ++ b) made.first (gate_names places within)
 
   module _ (starts places : List ℕ) (is : IsPlaced draft graph starts places) where
     abbrev names : List (List ℕ)
@@ -194,7 +193,7 @@ parts_are draft places net model names inputs gates outputs modelled named count
     ∙ ap (λ ps. with_parts draft.model (names_at draft places) (length draft.inputs) (map (closed_gate net) order) ps) ports)))
 
 -- the parts that are made
-pub placed_parts : (draft : GateDraft) (graph : Graph) (starts places : List ℕ) (is : IsPlaced draft graph starts places) (signals names taken : List (List ℕ)) (turned read : List ℕ) (nets gate_nets port_nets : List NetId) (gates : List Gate) (outputs : List Port) → signals ≡ graph.signals → names ≡ take graph.inputs signals ++ map (signal_at graph.inputs signals) places → AreTurned graph.inputs places turned → read ≡ turned → nets ≡ map (λ s. record { 0 = start_at read s }) starts → gate_nets ≡ nets → port_nets ≡ nets → ((d : GateDraft) (net : List ℕ → ℕ) → IsMadeOf d graph → TellNets graph.signals gate_nets net → gates ≡ map (closed_gate net) (gates_at d.gates places)) → ((net : List ℕ → ℕ) → TellNets graph.signals port_nets net → outputs ≡ map (port_at net) taken) → taken ≡ graph.outputs → ◌≡◌ {A = NetlistParts} (record { model = graph.model; names = names; inputs = graph.inputs; gates = gates; outputs = outputs }) (netlist_in draft (gates_at draft.gates places) (net_by graph.signals starts (names_at draft places)))
+pub placed_parts : (draft : GateDraft) (graph : Graph) (starts places : List ℕ) (is : IsPlaced draft graph starts places) (signals names taken : List (List ℕ)) (turned read : List ℕ) (nets gate_nets port_nets : List NetId) (gates : List Gate) (outputs : List Port) → signals ≡ graph.signals → names ≡ graph.first ++ map (signal_at graph.inputs signals) places → AreTurned graph.inputs places turned → read ≡ turned → nets ≡ map (λ s. record { 0 = start_at read s }) starts → gate_nets ≡ nets → port_nets ≡ nets → ((d : GateDraft) (net : List ℕ → ℕ) → IsMadeOf d graph → TellNets graph.signals gate_nets net → gates ≡ map (closed_gate net) (gates_at d.gates places)) → ((net : List ℕ → ℕ) → TellNets graph.signals port_nets net → outputs ≡ map (port_at net) taken) → taken ≡ graph.outputs → ◌≡◌ {A = NetlistParts} (record { model = graph.model; names = names; inputs = graph.inputs; gates = gates; outputs = outputs }) (netlist_in draft (gates_at draft.gates places) (net_by graph.signals starts (names_at draft places)))
 placed_parts draft graph starts places is signals names taken turned read nets gate_nets port_nets gates outputs same named turns as_read are for_gates for_ports closed ports took =
     let made = is.made in
     let keys = graph.signals in
@@ -202,7 +201,7 @@ placed_parts draft graph starts places is signals names taken turned read nets g
     let turns' : AreTurned (length draft.inputs) places turned = subst (λ n. AreTurned n places turned) made.inputs turns in
     let tell : TellNets keys nets net = nets_tell draft graph made starts places is turned turns' nets (are ∙ ap (λ (t : List ℕ). map (λ s. let e : NetId = record { 0 = start_at t s } in e) starts) as_read) in
     parts_are draft places net graph.model names graph.inputs gates outputs made.model
-    (named ∙ (ap (λ (l : List (List ℕ)). take graph.inputs l ++ map (signal_at graph.inputs l) places) same ∙ names_are draft graph made graph.inputs places made.inputs is.within))
+    (named ∙ (ap (λ (l : List (List ℕ)). graph.first ++ map (signal_at graph.inputs l) places) same ∙ names_are draft graph made graph.inputs places made.inputs is.within))
     made.inputs
     (closed draft net made (subst (λ l. TellNets keys l net) (sym for_gates) tell))
     (ports net (subst (λ l. TellNets keys l net) (sym for_ports) tell) ∙ ap (map (port_at net)) (took ∙ made.outputs))

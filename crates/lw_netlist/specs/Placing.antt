@@ -35,6 +35,7 @@ pub record IsMadeOf (draft : GateDraft) (g : Graph) : Type 0 where
   pub graph : IsGraphOf draft g.signals g.rows.items
   pub model : g.model ≡ draft.model
   pub inputs : g.inputs ≡ length draft.inputs
+  pub first : g.first ≡ draft.inputs
   pub outputs : g.outputs ≡ draft.outputs
   pub cells : g.cells.items ≡ map cell_of draft.gates
 

@@ -3,7 +3,7 @@ ghost use Rattle.std.specs.Prelude.{◌≡◌, ◌≢◌, ◌<◌, ◌≤◌, �
 ghost use Rattle.lw_netlist.specs.Chains.{AreChains, bucket_in, hash_from, name_at};
 ghost use Rattle.lw_netlist.specs.Closing.{twice_after};
 
-use lw_pool::Name;
+use crate::SpelledNames;
 
 // A number for the bytes of a name.
 fn hash_of(name: &[u8]) -> u64
@@ -27,7 +27,7 @@ fn bucket_of(name: &[u8], size: usize) -> usize
 
 // The place of a name among the first so many.
 fn place_in(
-    names: &[Name],
+    names: &SpelledNames,
     count: usize,
     heads: &[u32],
     next: &[u32],
@@ -47,7 +47,7 @@ fn place_in(
     let mut left = heads[bucket];
     'places: while left > 0 {
         let place = left as usize - 1;
-        if names[place].as_bytes() == name {
+        if names.get(place) == name {
             return Some(place);
         }
         left = next[place];
@@ -56,7 +56,7 @@ fn place_in(
 }
 
 /// The place of a name.
-pub(crate) fn find(names: &[Name], heads: &[u32], next: &[u32], name: &[u8]) -> Option<usize>
+pub(crate) fn find(names: &SpelledNames, heads: &[u32], next: &[u32], name: &[u8]) -> Option<usize>
     requires chains { AreChains (bucket_in (length heads.now)) (length heads.now) names.now
         (length names.now) heads.now next.now }
     requires places { length names.now ≤ length next.now }
@@ -71,7 +71,7 @@ pub(crate) fn find(names: &[Name], heads: &[u32], next: &[u32], name: &[u8]) -> 
 
 /// Makes chains for names that differ, or tells the place of the first that stands before it. No
 /// chain was made before.
-pub(crate) fn link(names: &[Name], heads: &mut [u32], next: &mut [u32]) -> Option<usize>
+pub(crate) fn link(names: &SpelledNames, heads: &mut [u32], next: &mut [u32]) -> Option<usize>
     requires few { length names.now < 4294967295 }
     requires some { 0 < length heads.old }
     requires places { length next.old ≡ length names.now }
@@ -85,7 +85,7 @@ pub(crate) fn link(names: &[Name], heads: &mut [u32], next: &mut [u32]) -> Optio
     ensures twice { IfSome result (λ k. twice_after [] names.now ≡ Some (name_at names.now k)) }
 {
     for place in 0..names.len() {
-        let name = names[place].as_bytes();
+        let name = names.get(place);
         let bucket = bucket_of(name, heads.len());
         if let Some(_first) = place_in(names, place, heads, next, bucket, name) {
             return Some(place);

@@ -49,6 +49,7 @@ pub(crate) fn graph_of(alloc: Global, draft: GateDraft) -> Result<Graph, Netlist
     Ok(Graph {
         model,
         inputs: inputs.len(),
+        first: inputs,
         outputs,
         cells,
         signals,
@@ -67,8 +68,8 @@ pub(crate) fn starts_of(alloc: Global, graph: &Graph) -> Result<Starts, NetlistF
     let levels = find_levels(alloc, inputs, &graph.rows)?;
     let first = first_on_cycle(alloc, inputs, &graph.rows, &levels.heights)?;
     if let Some(place) = first {
-        let name = &graph.signals.as_slice()[inputs + place];
-        let name = Name::from_slice(alloc, name.as_bytes())?;
+        let name = graph.signals.names().get(inputs + place);
+        let name = Name::from_slice(alloc, name)?;
         return Err(NetlistFault::Cycle(name));
     }
     let found = find_starts(alloc, inputs, graph.cells.len(), &graph.rows, &levels)?;

@@ -7,6 +7,8 @@ use lw_pool::{CellId, Name, Names, Numbers};
 pub(crate) struct Graph {
     pub(crate) model: Name,
     pub(crate) inputs: usize,
+    // The names of the inputs.
+    pub(crate) first: Names,
     pub(crate) outputs: Names,
     pub(crate) cells: Vec<CellId>,
     pub(crate) signals: Signals,

@@ -16,6 +16,7 @@ mod netlist;
 mod placing;
 mod signals;
 mod spelled;
+mod spelled_names;
 mod values;
 
 pub use draft::{DraftGate, DraftGates, GateDraft, Wire, Wires};
@@ -23,3 +24,4 @@ pub use fault::NetlistFault;
 pub use gate::{Gate, Gates, Port, PortList};
 pub use netlist::Netlist;
 pub use spelled::SpelledGate;
+pub use spelled_names::SpelledNames;

@@ -8,7 +8,7 @@ ghost use Rattle.lw_netlist.specs.Numbered.{TellsTwice, TellsUndriven, numbered}
 
 use crate::buckets::link;
 use crate::signals::Signals;
-use crate::{GateDraft, NetlistFault, SpelledGate, Wire};
+use crate::{GateDraft, NetlistFault, SpelledGate, SpelledNames, Wire};
 use lw_pool::{Name, Numbers};
 use std::alloc::{AllocError, Global};
 
@@ -17,26 +17,26 @@ pub(crate) fn names_of(
     alloc: Global,
     inputs: &[Name],
     gates: &[SpelledGate],
-) -> Result<Vec<Name>, AllocError>
-    ensures { IfOk result (λ names. names.items ≡ inputs.now ++ map out_of gates.now) }
+) -> Result<SpelledNames, AllocError>
+    ensures { IfOk result (λ names. names ≡ inputs.now ++ map out_of gates.now) }
 {
-    let mut names = Vec::with_capacity(alloc, inputs.len().saturating_add(gates.len()))?;
+    let mut names = SpelledNames::new(alloc);
     for name in inputs {
-        names.push(Name::from_slice(alloc, name.as_bytes())?)?;
+        names.push(name.as_bytes())?;
     }
     for gate in gates {
-        names.push(Name::from_slice(alloc, gate.out())?)?;
+        names.push(gate.out())?;
     }
     Ok(names)
 }
 
 // Copies the names of inputs, and then those that gates and wires drive.
-pub(crate) fn driven(alloc: Global, draft: &GateDraft) -> Result<Vec<Name>, AllocError>
-    ensures { IfOk result (λ names. names.items ≡ drivers draft.now) }
+pub(crate) fn driven(alloc: Global, draft: &GateDraft) -> Result<SpelledNames, AllocError>
+    ensures { IfOk result (λ names. names ≡ drivers draft.now) }
 {
     let mut names = names_of(alloc, draft.inputs.as_slice(), draft.gates.as_slice())?;
     for wire in draft.wires.as_slice() {
-        names.push(Name::from_slice(alloc, wire.to.as_bytes())?)?;
+        names.push(wire.to.as_bytes())?;
     }
     Ok(names)
 }
@@ -49,11 +49,11 @@ fn zeros(alloc: Global, count: usize) -> Result<Vec<u32>, AllocError>
 
 // Numbers names, or tells the first that is there twice. For more of them than there are numbers
 // there is no memory.
-pub(crate) fn numbers(alloc: Global, names: Vec<Name>) -> Result<Signals, NetlistFault>
-    ensures names { IfOk result (λ set. set ≡ names.items) }
-    ensures once { OnOk result (twice_after [] names.items ≡ None) }
-    ensures few { OnOk result (length names.items ≤ most_signals) }
-    ensures fault { IfErr result (TellsTwice names.items) }
+pub(crate) fn numbers(alloc: Global, names: SpelledNames) -> Result<Signals, NetlistFault>
+    ensures names { IfOk result (λ set. set ≡ names) }
+    ensures once { OnOk result (twice_after [] names ≡ None) }
+    ensures few { OnOk result (length names ≤ most_signals) }
+    ensures fault { IfErr result (TellsTwice names) }
 {
     if names.len() >= u32::MAX as usize {
         return Err(NetlistFault::Memory);
@@ -61,7 +61,7 @@ pub(crate) fn numbers(alloc: Global, names: Vec<Name>) -> Result<Signals, Netlis
     let mut heads = zeros(alloc, 2 * names.len() + 1)?;
     let mut next = zeros(alloc, names.len())?;
     if let Some(place) = link(&names, &mut heads, &mut next) {
-        let name = Name::from_slice(alloc, names[place].as_bytes())?;
+        let name = Name::from_slice(alloc, names.get(place))?;
         return Err(NetlistFault::Twice(name));
     }
     Ok(Signals::new(names, heads, next))

@@ -1,5 +1,5 @@
 // Netlists of graphs, with the gates at given places.
-ghost use Rattle.std.specs.Prelude.{◌≡◌, ◌+◌, ◌≤◌, ◌<◌, ◌++◌, ℕ, [], List, length, map, slice_index_or, take, All, IfOk};
+ghost use Rattle.std.specs.Prelude.{◌≡◌, ◌+◌, ◌≤◌, ◌<◌, ◌++◌, ℕ, [], List, length, map, slice_index_or, All, IfOk};
 ghost use Rattle.std.specs.List.{range_with_len};
 ghost use Rattle.lw_dag.specs.Graphs.{most_signals};
 ghost use Rattle.lw_netlist.specs.declared.draft.GateDraft.{GateDraft};
@@ -10,7 +10,7 @@ ghost use Rattle.lw_netlist.specs.Placing.{AreTurned, IsMadeOf, IsPlaced, gate_a
 
 use crate::closing::ports;
 use crate::graph::Graph;
-use crate::{Gate, Gates, Netlist, PortList};
+use crate::{Gate, Gates, Netlist, PortList, SpelledNames};
 use lw_pool::{Name, Names, NetId, Nets};
 use std::alloc::{AllocError, Global};
 
@@ -26,25 +26,24 @@ pub(crate) fn places_below(alloc: Global, count: usize) -> Result<Vec<u32>, Allo
     Ok(places)
 }
 
-// Copies the names of the inputs, and then those that the gates at these places drive.
+// The names of the inputs, and then copies of those that the gates at these places drive.
 fn names_by(
     alloc: Global,
-    signals: &[Name],
+    first: Vec<Name>,
+    signals: &SpelledNames,
     inputs: usize,
     places: &[u32],
 ) -> Result<Vec<Name>, AllocError>
-    requires first { inputs ≤ length signals.now }
-    requires within { All (λ p. inputs + p < length signals.now) places.now }
+    requires { All (λ p. inputs + p < length signals.now) places.now }
     ensures { IfOk result (λ names. names.items
-        ≡ take inputs signals.now ++ map (signal_at inputs signals.now) places.now) }
+        ≡ first.items ++ map (signal_at inputs signals.now) places.now) }
 {
-    let mut names = Vec::with_capacity(alloc, signals.len())?;
-    for name in &signals[..inputs] {
-        names.push(Name::from_slice(alloc, name.as_bytes())?)?;
-    }
+    let _count = signals.len();
+    let mut names = first;
+    names.reserve(places.len())?;
     for place in places {
-        let name = &signals[inputs + *place as usize];
-        names.push(Name::from_slice(alloc, name.as_bytes())?)?;
+        let name = signals.get(inputs + *place as usize);
+        names.push(Name::from_slice(alloc, name)?)?;
     }
     Ok(names)
 }
@@ -146,17 +145,18 @@ pub(crate) fn placed(
         n ≡ netlist_in draft (gates_at draft.gates places.now)
         (net_by graph.signals starts.now (names_at draft places.now))) }
 {
-    let names = names_by(alloc, graph.signals.as_slice(), graph.inputs, places)?;
     let turned = turned(alloc, graph.inputs, graph.signals.len(), places)?;
     let nets = nets_by(alloc, starts, &turned)?;
     let gates = closed_gates(alloc, &graph, places, &nets)?;
     let Graph {
         model,
         inputs,
+        first,
         outputs,
         signals,
         ..
     } = graph;
+    let names = names_by(alloc, first.into_vec(), signals.names(), inputs, places)?;
     let outputs = ports(alloc, outputs.into_vec(), &signals, &nets)?;
     Ok(Netlist::new(
         model,

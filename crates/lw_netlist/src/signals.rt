@@ -1,14 +1,13 @@
 // Names with numbers.
 ghost use Rattle.lw_netlist.specs.Chains.{AreNumbered};
 
-use crate::buckets;
-use lw_pool::Name;
+use crate::{SpelledNames, buckets};
 use std::marker::Model;
 
 /// Names that differ. The number of each is its place.
 #[derive(Drop)]
 pub(crate) struct Signals {
-    names: Vec<Name>,
+    names: SpelledNames,
     heads: Vec<u32>,
     next: Vec<u32>,
 }
@@ -19,9 +18,9 @@ impl Model for Signals {
 
     ghost Value = { List (List ℕ) };
 
-    ghost view = { λ s. s.names.items };
+    ghost view = { λ s. s.names };
 
-    ghost invariant = { λ s. AreNumbered s.names.items s.heads.items s.next.items };
+    ghost invariant = { λ s. AreNumbered s.names s.heads.items s.next.items };
 }
 
 impl Signals {
@@ -31,9 +30,9 @@ impl Signals {
     ghost use Rattle.lw_dag.specs.Names.{is_among, number_in};
     ghost use Rattle.lw_netlist.specs.Chains.{AreNumbered};
 
-    pub(crate) fn new(names: Vec<Name>, heads: Vec<u32>, next: Vec<u32>) -> Self
-        requires { AreNumbered names.items heads.items next.items }
-        ensures { result ≡ names.items }
+    pub(crate) fn new(names: SpelledNames, heads: Vec<u32>, next: Vec<u32>) -> Self
+        requires { AreNumbered names heads.items next.items }
+        ensures { result ≡ names }
     {
         Signals { names, heads, next }
     }
@@ -44,7 +43,8 @@ impl Signals {
         self.names.len()
     }
 
-    pub(crate) fn as_slice(&self) -> &[Name]
+    /// The names, in the order of their numbers.
+    pub(crate) fn names(&self) -> &SpelledNames
         ensures names { result.now ≡ self.now }
         ensures distinct { IsDistinct bytes_eq self.now }
     {
@@ -61,12 +61,5 @@ impl Signals {
             Some(place) => Some(place),
             None => None,
         }
-    }
-
-    /// The names, in the order of their numbers.
-    pub(crate) fn into_names(self) -> Vec<Name>
-        ensures { result.items ≡ self }
-    {
-        self.names
     }
 }

@@ -5,14 +5,13 @@ ghost use Rattle.lw_verilog.specs.Readings.{cell_in, missing_fault};
 ghost use Rattle.lw_verilog.specs.Statements.{gate_by, is_for, net_for, ties_in};
 
 use crate::rules::{cell_id, net_place};
-use crate::spelled::Spelled;
 use lw_genlib::Library;
-use lw_netlist::SpelledGate;
+use lw_netlist::{SpelledGate, SpelledNames};
 use lw_pool::{CellId, Name};
 use std::alloc::{AllocError, Global};
 
 // The net of a pin or of the output.
-fn net_of<'a>(names: &'a Spelled, formal: &[u8]) -> &'a [u8]
+fn net_of<'a>(names: &'a SpelledNames, formal: &[u8]) -> &'a [u8]
     requires { list_any (is_for formal.now) (ties_in names.now) ≡ true }
     ensures net { result.now ≡ net_for (ties_in names.now) formal.now }
     ensures some { 0 < length result.now }
@@ -22,7 +21,7 @@ fn net_of<'a>(names: &'a Spelled, formal: &[u8]) -> &'a [u8]
 }
 
 // Appends the nets of these pins.
-fn push_pins(gate: &mut SpelledGate, names: &Spelled, pins: &[Name]) -> Result<(), AllocError>
+fn push_pins(gate: &mut SpelledGate, names: &SpelledNames, pins: &[Name]) -> Result<(), AllocError>
     requires { All (λ pin. list_any (is_for pin) (ties_in names.now) ≡ true) pins.now }
     ensures { OnOk result (gate.new ≡ record {
       cell = gate.old.cell;
@@ -41,7 +40,7 @@ pub(crate) fn gate_of(
     alloc: Global,
     lib: &Library,
     hint: CellId,
-    names: &Spelled,
+    names: &SpelledNames,
 ) -> Result<Option<SpelledGate>, AllocError>
     requires { missing_fault (cell_in lib.now names.now) (ties_in names.now) ≡ None }
     ensures { IfOk result (λ gate. option_to_list gate ≡ gate_by lib.now names.now) }

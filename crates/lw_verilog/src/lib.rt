@@ -14,7 +14,6 @@ mod reader;
 mod reason;
 mod refusing;
 mod rules;
-mod spelled;
 mod taken;
 mod writing;
 

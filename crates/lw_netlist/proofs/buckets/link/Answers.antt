@@ -1,5 +1,6 @@
 use Rattle.std.proofs.Common.{◌≡◌, ◌<◌, [], length, ap, sym, ◌∙◌, arith}
-use Rattle.std.proofs.lemmas.List.{get_or_default, length-set}
+use Rattle.std.proofs.lemmas.List.{length-set}
+use Rattle.std.proofs.lemmas.Option.{get_or_from_slice_get}
 use Rattle.lw_netlist.specs.Chains.{bucket_in, name_at}
 use Rattle.lw_netlist.proofs.Chains.{chains-more}
 use Rattle.lw_netlist.proofs.Found.{found-among, none-among, twice-here, twice-more}
@@ -9,8 +10,8 @@ pub returns-in-Some-clause-twice : goal.returns-in-Some-clause-twice
 returns-in-Some-clause-twice c =
     let names = c.args.names.now in
     let place = c.loop-place.place in
-    let inside : place < length names = c.loop-place-test.true in
-    let named : c.as_bytes-name.result.now ≡ name_at names place = c.as_bytes-name.ensures.bytes ∙ (c.index-names-place.is ∙ sym (get_or_default names place [] c.index-names-place.result inside)) in
+    let inside : place < length names = omega (arith, c.loop-place-test.true, c.len-place-end.ensures) in
+    let named : c.get-name.result.now ≡ name_at names place = sym (get_or_from_slice_get names place c.get-name.result.now [] c.get-name.ensures.name) in
     sym c.loop-place.invariant.rest
     ∙ twice-here names place inside (found-among names (name_at names place) place c.in-Some._first c.in-Some.ensures.within (omega (arith, inside)) (c.in-Some.ensures.some ∙ named))
 
@@ -21,10 +22,10 @@ loop-place-preserved c =
     let heads = c.loop-place.heads in
     let next = c.loop-place.next in
     let bucket = c.bucket_of-bucket.result in
-    let inside : place < length names = c.loop-place-test.true in
-    let named : c.as_bytes-name.result.now ≡ name_at names place = c.as_bytes-name.ensures.bytes ∙ (c.index-names-place.is ∙ sym (get_or_default names place [] c.index-names-place.result inside)) in
+    let inside : place < length names = omega (arith, c.loop-place-test.true, c.len-place-end.ensures) in
+    let named : c.get-name.result.now ≡ name_at names place = sym (get_or_from_slice_get names place c.get-name.result.now [] c.get-name.ensures.name) in
     let own : bucket ≡ bucket_in (length c.args.heads.now) (name_at names place) =
-    c.bucket_of-bucket.ensures.bucket ∙ (ap (λ n. bucket_in n c.as_bytes-name.result.now) c.loop-place.invariant.heads ∙ ap (bucket_in (length c.args.heads.now)) named) in
+    c.bucket_of-bucket.ensures.bucket ∙ (ap (λ n. bucket_in n c.get-name.result.now) c.loop-place.invariant.heads ∙ ap (bucket_in (length c.args.heads.now)) named) in
     record {
       heads = length-set heads bucket _ ∙ c.loop-place.invariant.heads;
       next = length-set next place _ ∙ c.loop-place.invariant.next;

@@ -20,10 +20,11 @@ returns-in_err-_outputs-clause-fault c =
 
 pub returns-clause-graph : goal.returns-clause-graph
 returns-clause-graph c = record {
-  graph = graph_made c.args.draft c.in_ok-names.names.items c.in_ok-signals.signals c.in_ok-rows.rows.items c.in_ok-names.ensures c.in_ok-signals.ensures.names c.in_ok-signals.ensures.once c.in_ok-signals.ensures.few
+  graph = graph_made c.args.draft c.in_ok-names.names c.in_ok-signals.signals c.in_ok-rows.rows.items c.in_ok-names.ensures c.in_ok-signals.ensures.names c.in_ok-signals.ensures.once c.in_ok-signals.ensures.few
       (rw (c.as_slice-2.ensures, c.as_slice-3.ensures) at c.in_ok-rows.ensures.ok) (rw (c.as_slice-2.ensures, c.as_slice-3.ensures) at c.in_ok-rows.ensures.known) (rw c.as_slice-4.ensures at c.in_ok-_outputs.ensures.known);
   model = cc;
   inputs = c.len.ensures;
+  first = cc;
   outputs = cc;
   cells = rw c.as_slice.ensures at c.in_ok-cells.ensures;
 }

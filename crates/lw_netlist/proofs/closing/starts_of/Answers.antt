@@ -1,4 +1,5 @@
-use Rattle.std.proofs.Common.{◌≡◌, length, ◌∙◌, ◌+◌, get_or, ap, arith}
+use Rattle.std.proofs.Common.{◌≡◌, length, ◌∙◌, ◌+◌, get_or, ap, sym, arith}
+use Rattle.std.proofs.lemmas.Option.{get_or_from_slice_get}
 use Rattle.lw_netlist.proofs.Moving.{cells_many}
 use Rattle.lw_netlist.proofs.Paths.{graph_is, fault_cycle}
 use Rattle.lw_netlist.proofs.Starting.{right_of}
@@ -25,11 +26,11 @@ find_starts-requires-clause-graph c =
 pub returns-in-Some-clause-fault : goal.returns-in-Some-clause-fault
 returns-in-Some-clause-fault c = λ draft made.
     let graph = c.args.graph.now in
-    let item = c.index-as_slice-inputs.result in
+    let item = c.get-name.result.now in
     fault_cycle draft graph.signals graph.rows.items graph.inputs made.graph made.inputs c.in-Some.place item c.in_ok-name.name
     (rw (c.in-Some.is, c.deref-2.ensures.value) at c.in_ok-first.ensures.some)
-    (c.index-as_slice-inputs.is ∙ ap (λ l. get_or l (graph.inputs + c.in-Some.place) item) c.as_slice.ensures.names)
-    (c.in_ok-name.ensures ∙ c.as_bytes.ensures.bytes)
+    (sym (get_or_from_slice_get c.names.result.now (graph.inputs + c.in-Some.place) item item c.get-name.ensures.name) ∙ ap (λ l. get_or l (graph.inputs + c.in-Some.place) item) c.names.ensures.names)
+    c.in_ok-name.ensures
 
 pub returns-clause-right : goal.returns-clause-right
 returns-clause-right c = λ draft made.

@@ -1,19 +1,18 @@
-use Rattle.std.proofs.Common.{◌≡◌, ◌+◌, ◌*◌, ℕ, [], length, ap, sym, ◌∙◌, arith}
+use Rattle.std.proofs.Common.{◌≡◌, ◌+◌, ◌*◌, ℕ, length, ap, arith}
 use Rattle.std.proofs.lemmas.List.{length-replicate, take_at}
-use Rattle.lw_netlist.specs.Chains.{AreChains, bucket_in}
 use Rattle.lw_netlist.proofs.Names.{once_distinct}
 use Rattle.lw_netlist.proofs.naming.numbers.Goals as goal
 
 pub new-requires : goal.new-requires
 new-requires c =
-    let names = c.args.names.items in
+    let names = c.args.names in
     let heads = c.link.new.heads in
     let next = c.link.new.next in
     let all_heads : length heads ≡ c.in_ok-heads.heads.len = omega (arith, c.in_default.ensures.heads, ap length c.deref_mut.ensures.value, c.in_ok-heads.heads.ok.0) in
     let all_next : length next ≡ c.in_ok-next.next.len = omega (arith, c.in_default.ensures.next, ap length c.deref_mut-2.ensures.value, c.in_ok-next.next.ok.0) in
     rw (take_at heads _ c.in_ok-heads.heads.len all_heads, take_at next _ c.in_ok-next.next.len all_next) (record {
-      distinct = once_distinct names (rw c.deref.ensures.value at c.in_default.ensures.once);
-      chains = rw c.deref.ensures.value at c.in_default.ensures.chains;
-      places = omega (arith, all_next, c.in_ok-next.next.ok.0, ap length c.in_ok-next.ensures, length-replicate {A = ℕ} c.len-3.result 0, c.len-3.ensures, c.args.names.ok.0);
+      distinct = once_distinct names (c.in_default.ensures.once);
+      chains = c.in_default.ensures.chains;
+      places = omega (arith, all_next, c.in_ok-next.next.ok.0, ap length c.in_ok-next.ensures, length-replicate {A = ℕ} c.len-3.result 0, c.len-3.ensures);
       some = omega (arith, all_heads, c.in_ok-heads.heads.ok.0, ap length c.in_ok-heads.ensures, length-replicate {A = ℕ} (2 * c.len-2.result + 1) 0);
     })

@@ -1,6 +1,7 @@
-use Rattle.std.proofs.Common.{◌<◌, ◌+◌, length, All, Contains, sym, subst, ◌∙◌, arith}
+use Rattle.std.proofs.Common.{◌<◌, ◌+◌, ◌++◌, ap, length, map, All, Contains, sym, subst, ◌∙◌, arith}
 use Rattle.std.proofs.lemmas.List.Elements.{All-weaker}
 use Rattle.lw_netlist.specs.Netlists.{IsNetlist}
+use Rattle.lw_netlist.specs.Placing.{signal_at}
 use Rattle.lw_netlist.proofs.Moving.{differ, keys_many, placed_parts}
 use Rattle.lw_netlist.proofs.placing.placed.Goals as goal
 
@@ -22,21 +23,21 @@ turned-requires-clause-differ c = differ c.requires.0 c.args.graph c.requires.1.
 pub ports-requires-clause-known : goal.ports-requires-clause-known
 ports-requires-clause-known c =
     let is = c.requires.1 in
-    subst (All (Contains c.args.graph.signals)) (sym (c.into_vec.ensures ∙ is.made.outputs)) is.outputs
+    subst (All (Contains c.args.graph.signals)) (sym (c.into_vec-2.ensures ∙ is.made.outputs)) is.outputs
 
 pub new-requires : goal.new-requires
 new-requires c =
-    subst IsNetlist (sym (placed_parts c.requires.0 c.args.graph c.args.starts.now c.args.places.now c.requires.1 c.as_slice.result.now c.from_vec.result c.into_vec.result.items c.in_ok-turned.turned.items c.deref.result.now c.in_ok-nets.nets.items c.deref-2.result.now c.deref-3.result.now c.from_vec-2.result c.from_vec-3.result
-    c.as_slice.ensures.names (c.from_vec.ensures ∙ c.in_ok-names.ensures) c.in_ok-turned.ensures.turned c.deref.ensures.value c.in_ok-nets.ensures c.deref-2.ensures.value c.deref-3.ensures.value
+    subst IsNetlist (sym (placed_parts c.requires.0 c.args.graph c.args.starts.now c.args.places.now c.requires.1 c.names.result.now c.from_vec.result c.into_vec-2.result.items c.in_ok-turned.turned.items c.deref.result.now c.in_ok-nets.nets.items c.deref-2.result.now c.deref-3.result.now c.from_vec-2.result c.from_vec-3.result
+    c.names.ensures.names (c.from_vec.ensures ∙ (c.in_ok-names.ensures ∙ ap (λ l. l ++ map (signal_at c.args.graph.inputs c.names.result.now) c.args.places.now) c.into_vec.ensures)) c.in_ok-turned.ensures.turned c.deref.ensures.value c.in_ok-nets.ensures c.deref-2.ensures.value c.deref-3.ensures.value
     (λ d net made tell. c.from_vec-2.ensures ∙ c.in_ok-gates.ensures d net made tell)
     (λ net tell. c.from_vec-3.ensures ∙ c.in_ok-outputs.ensures net tell)
-    c.into_vec.ensures)) c.requires.1.kept
+    c.into_vec-2.ensures)) c.requires.1.kept
 
 pub returns : goal.returns
 returns c = λ draft is.
     c.new.ensures
-    ∙ placed_parts draft c.args.graph c.args.starts.now c.args.places.now is c.as_slice.result.now c.from_vec.result c.into_vec.result.items c.in_ok-turned.turned.items c.deref.result.now c.in_ok-nets.nets.items c.deref-2.result.now c.deref-3.result.now c.from_vec-2.result c.from_vec-3.result
-    c.as_slice.ensures.names (c.from_vec.ensures ∙ c.in_ok-names.ensures) c.in_ok-turned.ensures.turned c.deref.ensures.value c.in_ok-nets.ensures c.deref-2.ensures.value c.deref-3.ensures.value
+    ∙ placed_parts draft c.args.graph c.args.starts.now c.args.places.now is c.names.result.now c.from_vec.result c.into_vec-2.result.items c.in_ok-turned.turned.items c.deref.result.now c.in_ok-nets.nets.items c.deref-2.result.now c.deref-3.result.now c.from_vec-2.result c.from_vec-3.result
+    c.names.ensures.names (c.from_vec.ensures ∙ (c.in_ok-names.ensures ∙ ap (λ l. l ++ map (signal_at c.args.graph.inputs c.names.result.now) c.args.places.now) c.into_vec.ensures)) c.in_ok-turned.ensures.turned c.deref.ensures.value c.in_ok-nets.ensures c.deref-2.ensures.value c.deref-3.ensures.value
     (λ d net made tell. c.from_vec-2.ensures ∙ c.in_ok-gates.ensures d net made tell)
     (λ net tell. c.from_vec-3.ensures ∙ c.in_ok-outputs.ensures net tell)
-    c.into_vec.ensures
+    c.into_vec-2.ensures

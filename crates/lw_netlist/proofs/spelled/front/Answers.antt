@@ -1,6 +1,6 @@
 use Rattle.std.proofs.Common.{length, sym, arith}
 use Rattle.std.proofs.lemmas.List.{length-take-le}
-use Rattle.lw_netlist.proofs.SpelledNames.{spelled-first}
+use Rattle.lw_netlist.proofs.Spelling.{spelled-first}
 use Rattle.lw_netlist.proofs.spelled.front.Goals as goal
 
 pub slice_bounds-result-end : goal.slice_bounds-result-end

@@ -1,6 +1,6 @@
 use Rattle.std.proofs.Common.{arith}
 use Rattle.lw_words.proofs.WordsAt.{slice_get-words_at}
-use Rattle.lw_netlist.proofs.SpelledNames.{name-within}
+use Rattle.lw_netlist.proofs.Spelling.{name-within}
 use Rattle.lw_netlist.proofs.spelled.pin_at.Goals as goal
 
 pub part-requires-clause-order : goal.part-requires-clause-order

@@ -2,7 +2,7 @@ use Rattle.std.proofs.Common.{◌≡◌, ◌+◌, ◌++◌, ◌∷◌, [], List,
 use Rattle.lw_pool.specs.declared.id.CellId.{CellId}
 use Rattle.lw_words.specs.Arenas.{words_at}
 use Rattle.lw_netlist.specs.declared.draft.DraftGate.{DraftGate}
-use Rattle.lw_netlist.proofs.SpelledNames.{pushed-front, pushed-names, pushed-spelled}
+use Rattle.lw_netlist.proofs.Spelling.{pushed-front, pushed-names, pushed-spelled}
 use Rattle.lw_netlist.proofs.spelled.SpelledGate.push.Goals as goal
 
 abbrev gate_by : CellId → List (List ℕ) → List ℕ → DraftGate

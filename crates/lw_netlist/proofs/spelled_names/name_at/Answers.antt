@@ -1,7 +1,7 @@
 use Rattle.std.proofs.Common.{arith}
 use Rattle.lw_words.proofs.WordsAt.{slice_get-words_at}
-use Rattle.lw_netlist.proofs.SpelledNames.{name-within}
-use Rattle.lw_verilog.proofs.spelled.name_at.Goals as goal
+use Rattle.lw_netlist.proofs.Spelling.{name-within}
+use Rattle.lw_netlist.proofs.spelled_names.name_at.Goals as goal
 
 pub part-requires-clause-order : goal.part-requires-clause-order
 part-requires-clause-order c =

@@ -1,7 +1,7 @@
 use Rattle.std.proofs.Common.{arith, sym, ap, ◌∙◌}
 use Rattle.lw_words.specs.Arenas.{begin_of}
 use Rattle.lw_words.proofs.WordsAt.{begin_of-first, begin_of-before}
-use Rattle.lw_verilog.proofs.spelled.begin_at.Goals as goal
+use Rattle.lw_netlist.proofs.spelled_names.begin_at.Goals as goal
 
 pub returns-then-place-eq0 : goal.returns-then-place-eq0
 returns-then-place-eq0 c = sym (ap (λ n. begin_of 0 c.args.ends.now n) c.if-place-eq0.true ∙ begin_of-first 0 c.args.ends.now)

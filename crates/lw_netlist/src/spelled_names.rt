@@ -8,14 +8,14 @@ use std::alloc::{AllocError, Global};
 use std::marker::Model;
 
 /// Names of one byte or more.
-#[derive(Drop)]
-pub struct Spelled {
+#[derive(Debug, Drop)]
+pub struct SpelledNames {
     bytes: Vec<u8>,
     // Where each name ends among the bytes.
     ends: Vec<usize>,
 }
 
-impl Model for Spelled {
+impl Model for SpelledNames {
     ghost use Rattle.std.specs.Prelude.{List, ℕ, length};
     ghost use Rattle.lw_words.specs.Arenas.{words_at};
     ghost use Rattle.lw_netlist.specs.Spelled.{AreSpelled};
@@ -27,27 +27,27 @@ impl Model for Spelled {
     ghost invariant = { λ s. AreSpelled 0 (length s.bytes.items) s.ends.items };
 }
 
-impl Spelled {
+impl SpelledNames {
     ghost use Rattle.std.specs.Prelude.{◌≡◌, ◌<◌, ◌++◌, [], ◌∷◌, ◌↔◌, length, slice_get, IsTrue, OnOk, Some};
 
     /// No names. Growth takes memory from `alloc`.
-    pub(crate) fn new(alloc: Global) -> Self
+    pub fn new(alloc: Global) -> Self
         ensures { result ≡ [] }
     {
-        Spelled {
+        SpelledNames {
             bytes: Vec::new(alloc),
             ends: Vec::new(alloc),
         }
     }
 
-    pub(crate) fn len(&self) -> usize
+    pub fn len(&self) -> usize
         ensures { result ≡ length self.now }
     {
         self.ends.len()
     }
 
     /// The name at a place.
-    pub(crate) fn get(&self, place: usize) -> &[u8]
+    pub fn get(&self, place: usize) -> &[u8]
         requires { place < length self.now }
         ensures name { slice_get self.now place ≡ Some result.now }
         ensures some { 0 < length result.now }
@@ -56,7 +56,7 @@ impl Spelled {
     }
 
     /// Appends a name.
-    pub(crate) fn push(&mut self, name: &[u8]) -> Result<(), AllocError>
+    pub fn push(&mut self, name: &[u8]) -> Result<(), AllocError>
         requires { 0 < length name.now }
         ensures { OnOk result (self.new ≡ self.old ++ name.now ∷ []) }
     {
@@ -68,7 +68,7 @@ impl Spelled {
     }
 
     /// Removes all names, and keeps the memory.
-    pub(crate) fn clear(&mut self)
+    pub fn clear(&mut self)
         ensures { self.new ≡ [] }
     {
         self.bytes.clear();

@@ -1,6 +1,6 @@
 use Rattle.std.proofs.Common.{length, ap, arith}
 use Rattle.lw_words.proofs.WordsAt.{length-words_at}
-use Rattle.lw_verilog.proofs.spelled.Spelled.get.Goals as goal
+use Rattle.lw_netlist.proofs.spelled_names.SpelledNames.get.Goals as goal
 
 pub name_at-requires-clause-place : goal.name_at-requires-clause-place
 name_at-requires-clause-place c =

@@ -1,6 +1,6 @@
 use Rattle.std.proofs.Common.{◌≡◌, ◌+◌, ◌++◌, ◌∷◌, [], length, ap, ◌∙◌, arith}
-use Rattle.lw_netlist.proofs.SpelledNames.{pushed-names, pushed-spelled}
-use Rattle.lw_verilog.proofs.spelled.Spelled.push.Goals as goal
+use Rattle.lw_netlist.proofs.Spelling.{pushed-names, pushed-spelled}
+use Rattle.lw_netlist.proofs.spelled_names.SpelledNames.push.Goals as goal
 
 pub invariant_of-self-2 : goal.invariant_of-self-2
 invariant_of-self-2 c =
