@@ -1,9 +1,8 @@
 -- Only what stands between tokens has line feeds.
 use Rattle.std.proofs.Common.{ℕ, zero, suc, ◌≡◌, ◌≤◌, ◌<◌, ◌+◌, ◌==◌, ◌&&◌, Bool, true, false, not, cond, List, [], ◌∷◌, length, take, drop, get_or, nat_lt, refl, ap, sym, subst, ◌∙◌, arith}
 use Rattle.std.specs.List.{position_or_len}
-use Rattle.std.proofs.lemmas.Bool.{false≢true}
+use Rattle.std.proofs.lemmas.Bool.{false≢true, eqb-true}
 use Rattle.std.proofs.lemmas.List.Sums.{count_by_more_no, prefix_len-le-length, prefix_len_passes}
-use Rattle.lw_laws.proofs.Facts.{eq_true}
 use Rattle.lw_verilog.specs.declared.kind.Kind.{Kind}
 use Rattle.lw_verilog.specs.declared.kind.Kind.TheVariants as kind
 use Rattle.lw_verilog.specs.declared.kind.Piece.{Piece}
@@ -23,7 +22,7 @@ no_feed : (p : ℕ → Bool) → p 10 ≡ false → (x : ℕ) → p x ≡ true �
 no_feed p none x e = by_test (is_line_feed x) refl
   where
     by_test : (b : Bool) → is_line_feed x ≡ b → b ≡ false
-    by_test true is = absurd (false≢true (sym none ∙ (ap p (sym (eq_true x 10 is)) ∙ e)))
+    by_test true is = absurd (false≢true (sym none ∙ (ap p (sym (eqb-true x 10 is)) ∙ e)))
     by_test false is = refl
 
 twice_not : (b : Bool) → not (not b) ≡ true → b ≡ true

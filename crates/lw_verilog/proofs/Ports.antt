@@ -7,12 +7,12 @@ use Rattle.std.proofs.Math.Bool.{or-true}
 use Rattle.std.proofs.lemmas.List.{take_more, drop_more, drop-append-le, length-take-le, take-append-drop, length-replicate, get_or-replicate}
 use Rattle.std.proofs.lemmas.List.Folds.{list_any-append}
 use Rattle.std.proofs.lemmas.Option.{slice_get_within, get_or_from_slice_get}
-use Rattle.lw_dag.proofs.Names.{alike, same_name}
 use Rattle.lw_dag.proofs.Numbering.{number_at}
 use Rattle.lw_dag.specs.Names.{number_in}
 use Rattle.lw_netlist.specs.Closing.{is_among, twice_after}
 use Rattle.lw_netlist.proofs.Chains.{same-or-not}
 use Rattle.lw_verilog.specs.Windows.{AreListed}
+use Rattle.lw_facts.proofs.Lists.{bytes_eq_same, bytes_eq_is}
 
 module _ (header : List (List ℕ)) (place : ℕ) (name : List ℕ) (from : 1 ≤ place) (here : slice_get header place ≡ Some name) where
   abbrev seen : List (List ℕ)
@@ -92,7 +92,7 @@ module _ (header : List (List ℕ)) (place : ℕ) (name : List ℕ) (from : 1 �
 
     differs : IsDistinct bytes_eq keys → (k : ℕ) → k < length keys → k ≢ at → (b : Bool) → bytes_eq (get_or keys k []) name ≡ b → b ≡ false
     differs distinct k lt other true e =
-        let same : get_or keys k [] ≡ get_or keys at [] = same_name (get_or keys k []) name e ∙ sym key-is in
+        let same : get_or keys k [] ≡ get_or keys at [] = bytes_eq_is (get_or keys k []) name e ∙ sym key-is in
         absurd (other (sym (number_at keys k [] distinct lt) ∙ (ap (number_in keys) same ∙ number_at keys at [] distinct in_keys)))
     differs distinct k lt other false e = refl
 
@@ -113,7 +113,7 @@ module _ (header : List (List ℕ)) (place : ℕ) (name : List ℕ) (from : 1 �
             let key : get_or keys k [] ≡ name = ap (λ n. get_or keys n []) same ∙ key-is in
             ap (λ n. get_or (set flags at true) n false) same
             ∙ (get_or-set_same flags at true false inside
-            ∙ sym (more-among (get_or keys k []) ∙ (ap (λ b. is_among seen (get_or keys k []) || (b || false)) (alike (get_or keys k []) name key) ∙ or-true (is_among seen (get_or keys k [])))))
+            ∙ sym (more-among (get_or keys k []) ∙ (ap (λ b. is_among seen (get_or keys k []) || (b || false)) (bytes_eq_same (get_or keys k []) name key) ∙ or-true (is_among seen (get_or keys k [])))))
         by_place k lt (inr other) =
             get_or-set_other flags at k true false other
             ∙ (listed.each k lt
