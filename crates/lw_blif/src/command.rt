@@ -94,7 +94,7 @@ fn is_unsupported(word: &[u8]) -> bool
         || word == b".start_kiss".as_slice()
 }
 
-#[tactic(auto, unfolding(crate::specs::Commands::is_ignored_word))]
+#[tactic(auto, unfolding(lw_words::specs::Words::is_ignored_word))]
 fn is_ignored(word: &[u8]) -> bool
     ensures { result ≡ is_ignored_word word.now }
 {

@@ -90,7 +90,7 @@ fn other_command(word: &[u8]) -> Command
     Command::Unknown
 }
 
-#[tactic(auto, unfolding(crate::specs::Commands::is_ignored_word))]
+#[tactic(auto, unfolding(lw_words::specs::Words::is_ignored_word))]
 fn is_ignored(word: &[u8]) -> bool
     ensures { result ≡ is_ignored_word word.now }
 {
