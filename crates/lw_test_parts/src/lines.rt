@@ -105,48 +105,52 @@ fn try_cuttings(rt: &impl Abort, alloc: Global, marked: bool, case: Case<'_>) ->
     Ok(())
 }
 
+// The lines of a small network.
+const NETWORK: &[(u32, &str)] = &[
+    (1, ".model and3"),
+    (2, ".inputs a b c"),
+    (3, ".outputs f"),
+    (4, ".names a b c f"),
+    (5, "111 1"),
+    (6, ".end"),
+];
+
+// The same, where the second line goes on in the third.
+const CONTINUED: &[(u32, &str)] = &[
+    (1, ".model and3"),
+    (2, ".inputs a b c"),
+    (4, ".outputs f"),
+    (5, ".names a b c f"),
+    (6, "111 1"),
+    (7, ".end"),
+];
+
 #[test]
 fn a_network_is_cut_into_lines(rt: HostRuntime) -> Result<(), Fail> {
-    let plain: &[(u32, &str)] = &[
-        (1, ".model and3"),
-        (2, ".inputs a b c"),
-        (3, ".outputs f"),
-        (4, ".names a b c f"),
-        (5, "111 1"),
-        (6, ".end"),
-    ];
-    let parted: &[(u32, &str)] = &[
-        (1, ".model and3"),
-        (2, ".inputs a b c"),
-        (4, ".outputs f"),
-        (5, ".names a b c f"),
-        (6, "111 1"),
-        (7, ".end"),
-    ];
     let cases: [Case<'_>; 6] = [
         (
             b".model and3\n.inputs a b c\n.outputs f\n.names a b c f\n111 1\n.end\n",
-            plain,
+            NETWORK,
         ),
         (
             b".model and3\r\n.inputs a b c\r\n.outputs f\r\n.names a b c f\r\n111 1\r\n.end\r\n",
-            plain,
+            NETWORK,
         ),
         (
             b".model and3\n.inputs a b c # in \\\n.outputs f\n.names a b c f\n111 1\n.end\n",
-            plain,
+            NETWORK,
         ),
         (
             b".model and3\n.inputs a \\\nb c\n.outputs f\n.names a b c f\n111 1\n.end\n",
-            parted,
+            CONTINUED,
         ),
         (
             b".model and3\n.inputs a b c\n.outputs f\n.names a b c f\n111 1\n.end",
-            plain,
+            NETWORK,
         ),
         (
             b".model and3\n.inputs a b c\n.outputs f\n.names a b c f\n111 1\n",
-            &plain[..5],
+            &NETWORK[..5],
         ),
     ];
     for case in cases {
