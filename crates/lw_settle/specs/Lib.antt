@@ -1,5 +1,7 @@
+pub mod Jobs
 pub mod Kept
 pub mod Listings
+pub mod Plans
 pub mod Queues
 pub mod Settled
 pub mod Settling

@@ -13,6 +13,7 @@
 mod entry;
 mod fault;
 mod goals;
+mod job;
 mod laws;
 mod listing;
 mod pins;
