@@ -3,7 +3,6 @@ pub mod Behind
 pub mod Chains
 pub mod Derived
 pub mod Drafts
-pub mod Feeds
 pub mod Finding
 pub mod HeaderMoves
 pub mod ItemMoves

@@ -1,5 +1,5 @@
 -- Flags for a run of numbers.
-use Rattle.std.specs.Prelude.{ℕ, ◌≡◌, ◌<◌, ◌≤◌, ◌+◌, ◌||◌, ◌^◌, Bool, false, List, [], length, slice_index_or}
+use Rattle.std.specs.Prelude.{ℕ, ◌≡◌, ◌<◌, ◌≤◌, ◌+◌, ◌||◌, ◌^◌, Bool, false, List, length, slice_index_or}
 use Rattle.lw_netlist.specs.Closing.{is_among}
 use Rattle.lw_verilog.specs.Texts.{instance_name}
 
@@ -14,8 +14,3 @@ pub record AreTaken (names : List (List ℕ)) (base : ℕ) (flags : List Bool) :
   pub many : length flags ≡ 65536
   pub few : base + 65536 ≤ 2 ^ 60
   pub each : (i : ℕ) → i < 65536 → slice_index_or flags i false ≡ is_among names (instance_name (base + i))
-
--- Each flag tells whether the port that is declared at its place is one of these.
-pub record AreListed (ports declared : List (List ℕ)) (flags : List Bool) : Type 0 where
-  pub many : length flags ≡ length declared
-  pub each : (k : ℕ) → k < length declared → slice_index_or flags k false ≡ is_among ports (slice_index_or declared k [])

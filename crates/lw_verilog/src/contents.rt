@@ -1,13 +1,15 @@
 // What the tokens that were read say together.
-ghost use Rattle.std.specs.Prelude.{◌≡◌, ◌<◌, ◌++◌, [], ◌∷◌, None, length, IfOk, OnOk};
-ghost use Rattle.lw_verilog.specs.Keeping.{TellsFault};
-ghost use Rattle.lw_verilog.specs.Readings.{cell_in, declared_fault, missing_fault};
+ghost use Rattle.std.specs.Prelude.{◌≡◌, ◌<◌, ◌++◌, [], ◌∷◌, false, None, length, IfOk, OnOk};
+ghost use Rattle.lw_netlist.specs.Closing.{is_among};
+ghost use Rattle.lw_verilog.specs.Readings.{cell_in, missing_fault};
 ghost use Rattle.lw_verilog.specs.Statements.{gate_by, model_of, ties_in, wire_by};
 ghost use Rattle.lw_verilog.specs.Tokens.{name_of};
 
 use crate::gates::gate_of;
 use crate::place::move_at;
-use crate::rules::{find_cell, missing_fault, name_fault, pin_fault, ports_fault};
+use crate::rules::{
+    cell_fault, declared_fault, find_cell, missing_fault, name_fault, pin_fault, ports_fault,
+};
 use crate::{Kind, Place, Refusal, Task, VerilogKind};
 use indexmap::IndexSet;
 use lw_genlib::Library;
@@ -75,19 +77,16 @@ fn append_header(header: &mut SpelledNames, more: &SpelledNames) -> Result<(), A
     Ok(())
 }
 
-// Adds a name, or tells that it is there.
-fn declare(alloc: Global, declared: &mut IndexSet<Name>, name: &[u8]) -> Result<(), Refusal>
-    requires { 0 < length name.now }
-    ensures fault { TellsFault result (declared_fault declared.old.keys name.now) }
-    ensures keys { OnOk result (declared.new.keys ≡ declared.old.keys ++ name.now ∷ []) }
+// Adds a name that is not there.
+fn declare(alloc: Global, declared: &mut IndexSet<Name>, name: &[u8]) -> Result<(), AllocError>
+    requires some { 0 < length name.now }
+    requires new { is_among declared.old.keys name.now ≡ false }
+    ensures { OnOk result (declared.new.keys ≡ declared.old.keys ++ name.now ∷ []) }
 {
     let name = Name::from_slice(alloc, name)?;
-    let Ok(added) = declared.insert(name) else {
-        return Err(Refusal::Memory);
+    let Ok(_) = declared.insert(name) else {
+        return Err(AllocError);
     };
-    if !added {
-        return Err(Refusal::Broken(VerilogKind::Port));
-    }
     Ok(())
 }
 
@@ -101,6 +100,14 @@ fn push_wire(alloc: Global, wires: &mut Wires, names: &SpelledNames) -> Result<(
     let to = Name::from_slice(alloc, names.get(0))?;
     let from = Name::from_slice(alloc, names.get(1))?;
     wires.push(Wire { from, to })
+}
+
+// The number of the cell with a name, or this one.
+fn near(lib: &Library, hint: CellId, name: &[u8]) -> CellId {
+    match find_cell(lib, hint, name) {
+        Some(id) => id,
+        None => hint,
+    }
 }
 
 // Appends the gate of an instance of these names.
@@ -121,15 +128,14 @@ fn push_gate(
 }
 
 impl Contents {
-    ghost use Rattle.std.specs.Prelude.{◌≡◌, ◌≢◌, ◌<◌, ◌≤◌, ◌+◌, ◌++◌, List, None, drop, length, IfOk, OnOk, true, false};
-    ghost use Rattle.std.specs.Option.{option_or};
+    ghost use Rattle.std.specs.Prelude.{◌≡◌, ◌<◌, ◌≤◌, ◌+◌, ◌++◌, List, None, drop, length, IfOk, OnOk, true, false};
     ghost use Rattle.lw_genlib.specs.Cells.{CellParts};
     ghost use Rattle.lw_verilog.specs.Tokens.{is_end, is_name, name_of};
     ghost use Rattle.lw_verilog.specs.declared.place.Task.TheVariants as tasks;
     ghost use Rattle.lw_verilog.specs.Grammar.{move_at};
     ghost use Rattle.lw_verilog.specs.Keeping.{Acts, Adds, Keeps, TellsFault, weight};
     ghost use Rattle.lw_verilog.specs.Statements.{model_of};
-    ghost use Rattle.lw_verilog.specs.Readings.{Reading, cell_fault, declared_fault, is_done, is_word, moved_on, name_fault, nothing_read, rule_fault, piece_fault, piece_read, token_fault};
+    ghost use Rattle.lw_verilog.specs.Readings.{Reading, is_done, is_word, moved_on, nothing_read, rule_fault, piece_fault, piece_read, token_fault};
 
     pub(crate) fn new(alloc: Global) -> Self
         ensures { (cells : List CellParts) → Keeps cells result nothing_read }
@@ -162,14 +168,15 @@ impl Contents {
         name: &[u8],
         lib: &Library,
     ) -> Result<Option<VerilogKind>, AllocError>
-        requires declare { task ≢ tasks.Declare }
-        requires cell { task ≢ tasks.Cell }
+        requires { task ≡ tasks.Declare → 0 < length name.now }
         ensures { IfOk result (λ fault. fault
             ≡ rule_fault lib.now self.now.names
             (drop 1 self.now.header) self.now.declared.keys task name.now) }
     {
         match task {
             Task::Word => Ok(name_fault(name)),
+            Task::Declare => declared_fault(self.alloc, &self.declared, name),
+            Task::Cell => Ok(cell_fault(lib, self.hint, name)),
             Task::Pin => Ok(pin_fault(lib, self.hint, &self.names, name)),
             Task::Instance => Ok(missing_fault(lib, self.hint, &self.names)),
             Task::Finish => ports_fault(self.alloc, &self.header, &self.declared),
@@ -178,7 +185,6 @@ impl Contents {
     }
 
     // Adds the names of the statement to those of the header, without a copy where there are none.
-    // Then there is room to declare each of them.
     fn add_header(&mut self) -> Result<(), AllocError>
         ensures header { OnOk result (self.new.header ≡ self.old.header ++ self.old.names) }
         ensures declared { self.new.declared.keys ≡ self.old.declared.keys }
@@ -190,7 +196,6 @@ impl Contents {
         if self.header.len() > 0 {
             return append_header(&mut self.header, &self.names);
         }
-        self.declared.reserve(self.names.len())?;
         mem::swap(&mut self.header, &mut self.names);
         Ok(())
     }
@@ -228,8 +233,6 @@ impl Contents {
     // Does the task of a token.
     fn act(&mut self, task: Task, name: &[u8], lib: &Library) -> Result<(), AllocError>
         requires some { is_word task ≡ true → 0 < length name.now }
-        requires declare { task ≢ tasks.Declare }
-        requires cell { task ≢ tasks.Cell }
         requires rule { rule_fault lib.now self.old.names
             (drop 1 self.old.header) self.old.declared.keys task name.now ≡ None }
         ensures { OnOk result (Acts lib.now task name.now self.old self.new) }
@@ -237,68 +240,16 @@ impl Contents {
         match task {
             Task::Skip => Ok(()),
             Task::Word | Task::Pin => self.names.push(name),
+            Task::Cell => {
+                self.hint = near(lib, self.hint, name);
+                self.names.push(name)
+            }
+            Task::Declare => {
+                declare(self.alloc, &mut self.declared, name)?;
+                self.names.push(name)
+            }
             _ => self.end(task, lib),
         }
-    }
-
-    // Declares an input or an output of this name, or tells the rule that it breaks.
-    fn read_port(&mut self, name: &[u8]) -> Result<(), Refusal>
-        requires { 0 < length name.now }
-        ensures fault { TellsFault result
-            (option_or (name_fault name.now) (declared_fault self.old.declared.keys name.now)) }
-        ensures acts { (cells : List CellParts) →
-            OnOk result (Acts cells tasks.Declare name.now self.old self.new) }
-    {
-        if let Some(fault) = name_fault(name) {
-            return Err(Refusal::Broken(fault));
-        }
-        declare(self.alloc, &mut self.declared, name)?;
-        self.names.push(name)?;
-        Ok(())
-    }
-
-    // Begins an instance of a cell of this name, or tells the rule that it breaks.
-    fn read_cell(&mut self, name: &[u8], lib: &Library) -> Result<(), Refusal>
-        requires { 0 < length name.now }
-        ensures fault { TellsFault result (cell_fault lib.now name.now) }
-        ensures acts { OnOk result (Acts lib.now tasks.Cell name.now self.old self.new) }
-    {
-        let Some(id) = find_cell(lib, self.hint, name) else {
-            return Err(Refusal::Broken(VerilogKind::NoCell));
-        };
-        self.hint = id;
-        self.names.push(name)?;
-        Ok(())
-    }
-
-    // Does the task of a token that breaks no rule, or tells the first rule that it breaks.
-    fn do_task(&mut self, task: Task, name: &[u8], lib: &Library) -> Result<(), Refusal>
-        requires { is_word task ≡ true → 0 < length name.now }
-        ensures fault { TellsFault result (rule_fault lib.now self.old.names
-            (drop 1 self.old.header) self.old.declared.keys task name.now) }
-        ensures acts { OnOk result (Acts lib.now task name.now self.old self.new) }
-    {
-        match task {
-            Task::Declare => self.read_port(name),
-            Task::Cell => self.read_cell(name, lib),
-            _ => self.read_other(task, name, lib),
-        }
-    }
-
-    // Does another task, or tells the first rule that its token breaks.
-    fn read_other(&mut self, task: Task, name: &[u8], lib: &Library) -> Result<(), Refusal>
-        requires some { is_word task ≡ true → 0 < length name.now }
-        requires declare { task ≢ tasks.Declare }
-        requires cell { task ≢ tasks.Cell }
-        ensures fault { TellsFault result (rule_fault lib.now self.old.names
-            (drop 1 self.old.header) self.old.declared.keys task name.now) }
-        ensures acts { OnOk result (Acts lib.now task name.now self.old self.new) }
-    {
-        if let Some(fault) = self.fault(task, name, lib)? {
-            return Err(Refusal::Broken(fault));
-        }
-        self.act(task, name, lib)?;
-        Ok(())
     }
 
     /// Takes a token of this kind and this name, or tells the first rule that it breaks.
@@ -317,7 +268,10 @@ impl Contents {
         let Some(step) = move_at(self.place, kind) else {
             return Err(Refusal::Broken(VerilogKind::Expected));
         };
-        self.do_task(step.task, name, lib)?;
+        if let Some(fault) = self.fault(step.task, name, lib)? {
+            return Err(Refusal::Broken(fault));
+        }
+        self.act(step.task, name, lib)?;
         self.place = step.next;
         Ok(())
     }

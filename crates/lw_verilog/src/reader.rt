@@ -1,8 +1,8 @@
 // A text, token by token.
-ghost use Rattle.std.specs.Prelude.{false, ◌≡◌, ◌<◌, ◌≤◌, ◌+◌, ◌^◌, length, drop, take, if◌then◌else◌, IfOk, IfErr};
+ghost use Rattle.std.specs.Prelude.{◌≡◌, ◌<◌, ◌≤◌, ◌+◌, ◌^◌, length, drop, take, if◌then◌else◌, IfOk, IfErr};
 ghost use Rattle.lw_netlist.specs.Plain.{IsOver};
 ghost use Rattle.lw_verilog.specs.Keeping.{IsParsed, TellsParse, refused_at};
-ghost use Rattle.lw_verilog.specs.Tokens.{is_end, is_gap, last_line, line_feeds};
+ghost use Rattle.lw_verilog.specs.Tokens.{is_end, last_line, line_feeds};
 ghost use Rattle.lw_verilog.specs.Verdicts.{IsRead};
 
 use crate::contents::Contents;
@@ -25,19 +25,6 @@ fn line_feeds(bytes: &[u8]) -> u32
         }
     }
     count
-}
-
-// The line feeds of a piece. Only what stands between tokens has some.
-fn piece_feeds(kind: Kind, bytes: &[u8]) -> u32
-    requires few { length bytes.now < 2 ^ 32 }
-    requires none { is_gap kind ≡ false → line_feeds bytes.now ≡ 0 }
-    ensures count { result ≡ line_feeds bytes.now }
-    ensures few { result ≤ length bytes.now }
-{
-    match kind {
-        Kind::Gap => line_feeds(bytes),
-        _ => 0,
-    }
 }
 
 // The number of the last line.
@@ -91,7 +78,7 @@ fn parse(alloc: Global, text: &[u8], lib: &Library) -> Result<Contents, VerilogF
         if let Err(refusal) = contents.read(piece.kind, bytes, lib) {
             return Err(refused_at(refusal, line_of(piece.kind, line, text)));
         }
-        line += piece_feeds(piece.kind, bytes);
+        line += line_feeds(bytes);
         rest = behind(rest, piece.size);
     }
     Ok(contents)

@@ -1,13 +1,14 @@
 // The rules that names break.
 ghost use Rattle.std.specs.Prelude.{◌≡◌, ◌<◌, true, false, None, Some, [], length, drop, is_none, option_map, ◌&&◌, Contains, IfOk, IfSome, IfNone, slice_get, slice_index_or};
 ghost use Rattle.std.specs.List.{list_all, list_any};
+ghost use Rattle.std.specs.Option.{option_or};
 ghost use Rattle.std.specs.Str.{bytes_eq};
 ghost use Rattle.lw_genlib.specs.Cells.{names_of};
+ghost use Rattle.indexmap.specs.IndexSet.{index_set_len};
 ghost use Rattle.lw_netlist.specs.Closing.{is_among, twice_after};
 ghost use Rattle.lw_mapped.specs.GateLines.{is_formal};
-ghost use Rattle.lw_verilog.specs.Readings.{has_hash, name_fault, formal_fault, cell_in, gives_all, missing_fault, ports_fault};
+ghost use Rattle.lw_verilog.specs.Readings.{has_hash, name_fault, declared_fault, cell_fault, formal_fault, cell_in, gives_all, missing_fault, ports_fault};
 ghost use Rattle.lw_verilog.specs.Statements.{first_name, is_for, net_for, number_of, ties_in};
-ghost use Rattle.lw_verilog.specs.Windows.{AreListed};
 ghost use Rattle.lw_words.specs.Words.{is_name};
 
 use crate::VerilogKind;
@@ -41,6 +42,27 @@ pub(crate) fn name_fault(name: &[u8]) -> Option<VerilogKind>
     Some(VerilogKind::BadName)
 }
 
+/// The rule that the name of an input or an output breaks where it is declared.
+pub(crate) fn declared_fault(
+    alloc: Global,
+    declared: &IndexSet<Name>,
+    name: &[u8],
+) -> Result<Option<VerilogKind>, AllocError>
+    requires { 0 < length name.now }
+    ensures { IfOk result (λ fault. fault
+        ≡ option_or (name_fault name.now) (declared_fault declared.now.keys name.now)) }
+{
+    let fault = name_fault(name);
+    if fault.is_some() {
+        return Ok(fault);
+    }
+    let name = Name::from_slice(alloc, name)?;
+    if declared.contains(&name) {
+        return Ok(Some(VerilogKind::Port));
+    }
+    Ok(None)
+}
+
 // Whether the cell with this number, if there is one, has the name.
 fn has_cell(lib: &Library, id: CellId, name: &[u8]) -> bool
     ensures { result ≡ true → slice_get (names_of lib.now) id.0 ≡ Some name.now }
@@ -62,6 +84,16 @@ pub(crate) fn find_cell(lib: &Library, hint: CellId, name: &[u8]) -> Option<Cell
     match lib.find(name) {
         Some(id) => Some(id),
         None => None,
+    }
+}
+
+/// The rule that the name of a cell breaks.
+pub(crate) fn cell_fault(lib: &Library, hint: CellId, name: &[u8]) -> Option<VerilogKind>
+    ensures { result ≡ cell_fault lib.now name.now }
+{
+    match find_cell(lib, hint, name) {
+        Some(_) => None,
+        None => Some(VerilogKind::NoCell),
     }
 }
 
@@ -166,11 +198,7 @@ fn gives_all(names: &SpelledNames, cell: &Cell) -> bool
 }
 
 /// The rule that the end of an instance of these names breaks.
-pub(crate) fn missing_fault(
-    lib: &Library,
-    hint: CellId,
-    names: &SpelledNames,
-) -> Option<VerilogKind>
+pub(crate) fn missing_fault(lib: &Library, hint: CellId, names: &SpelledNames) -> Option<VerilogKind>
     ensures { result ≡ missing_fault (cell_in lib.now names.now) (ties_in names.now) }
 {
     match cell_id(lib, hint, names) {
@@ -179,74 +207,59 @@ pub(crate) fn missing_fault(
     }
 }
 
-// Whether this is the name that was declared at a place.
-fn is_declared_at(declared: &IndexSet<Name>, place: usize, name: &[u8]) -> bool
-    ensures { result ≡ true → slice_get declared.now.keys place ≡ Some name.now }
-{
-    match declared.get_index(place) {
-        Some(other) => other.as_bytes() == name,
-        None => false,
-    }
-}
-
-// The place of a name among those that are declared. It is tried first whether it is this one.
-fn find_declared(
-    alloc: Global,
-    declared: &IndexSet<Name>,
-    hint: usize,
-    name: &[u8],
-) -> Result<Option<usize>, AllocError>
-    requires { 0 < length name.now }
-    ensures found { IfOk result (λ place. IfSome place
-        (λ k. slice_get declared.now.keys k ≡ Some name.now)) }
-    ensures none { IfOk result (λ place. IfNone place
-        (is_among declared.now.keys name.now ≡ false)) }
-{
-    if is_declared_at(declared, hint, name) {
-        return Ok(Some(hint));
-    }
-    let name = Name::from_slice(alloc, name)?;
-    match declared.get_index_of(&name) {
-        Some(place) => Ok(Some(place)),
-        None => Ok(None),
-    }
-}
-
-// Raises the flag of each name that is declared and stands behind the first of the header, if these
-// differ and are all declared. Whether they are. Most often they stand as they are declared.
-fn raise_ports(
+// The names behind the first, if they differ and are all declared.
+fn port_set(
     alloc: Global,
     header: &SpelledNames,
     declared: &IndexSet<Name>,
-    listed: &mut [bool],
-) -> Result<bool, AllocError>
-    requires { AreListed [] declared.now.keys listed.old }
-    ensures differ { IfOk result (λ fine. fine
-        ≡ (is_none (twice_after [] (drop 1 header.now))
-        && list_all (is_among declared.now.keys) (drop 1 header.now))) }
-    ensures listed { IfOk result (λ fine. fine ≡ true →
-        AreListed (drop 1 header.now) declared.now.keys listed.new) }
+) -> Result<Option<IndexSet<Name>>, AllocError>
+    ensures keys { IfOk result (λ set. IfSome set (λ s. s.keys ≡ drop 1 header.now)) }
+    ensures once { IfOk result (λ set. IfSome set (λ s. twice_after [] (drop 1 header.now) ≡ None)) }
+    ensures declared { IfOk result (λ set. IfSome set
+        (λ s. list_all (is_among declared.now.keys) (drop 1 header.now) ≡ true)) }
+    ensures none { IfOk result (λ set. IfNone set
+        ((is_none (twice_after [] (drop 1 header.now))
+        && list_all (is_among declared.now.keys) (drop 1 header.now)) ≡ false)) }
 {
-    let _count = declared.len();
-    let mut next = 0;
+    let mut set = IndexSet::with_capacity(alloc, declared.len())?;
     for place in 1..header.len() {
-        let name = header.get(place);
-        let Some(at) = find_declared(alloc, declared, next, name)? else {
-            return Ok(false);
-        };
-        if listed[at] {
-            return Ok(false);
+        let name = Name::from_slice(alloc, header.get(place))?;
+        if !has(declared, &name) {
+            return Ok(None);
         }
-        listed[at] = true;
-        next = at.saturating_add(1);
+        if has(&set, &name) {
+            return Ok(None);
+        }
+        let Ok(_) = set.insert(name) else {
+            return Err(AllocError);
+        };
     }
-    Ok(true)
+    Ok(Some(set))
 }
 
-fn are_all(flags: &[bool]) -> bool
-    ensures { result ≡ list_all (λ flag. flag) flags.now }
+fn name_at(set: &IndexSet<Name>, place: usize) -> &Name
+    requires { place < index_set_len set.now }
+    ensures { slice_get set.now.keys place ≡ Some result.now }
 {
-    flags.iter().all(|flag| *flag)
+    set.get_index(place).unwrap()
+}
+
+fn has(set: &IndexSet<Name>, name: &Name) -> bool
+    ensures { result ≡ is_among set.now.keys name.now }
+{
+    set.contains(name)
+}
+
+// Whether each name of the second set is one of the first.
+fn has_all(set: &IndexSet<Name>, others: &IndexSet<Name>) -> bool
+    ensures { result ≡ list_all (is_among set.now.keys) others.now.keys }
+{
+    for place in 0..others.len() {
+        if !has(set, name_at(others, place)) {
+            return false;
+        }
+    }
+    true
 }
 
 /// The rule that the end of a module breaks, with this header, and with these inputs and outputs.
@@ -257,8 +270,10 @@ pub(crate) fn ports_fault(
 ) -> Result<Option<VerilogKind>, AllocError>
     ensures { IfOk result (λ fault. fault ≡ ports_fault (drop 1 header.now) declared.now.keys) }
 {
-    let mut listed = vec![in alloc; false; declared.len()]?;
-    if raise_ports(alloc, header, declared, &mut listed)? && are_all(&listed) {
+    let Some(set) = port_set(alloc, header, declared)? else {
+        return Ok(Some(VerilogKind::Port));
+    };
+    if has_all(&set, declared) {
         return Ok(None);
     }
     Ok(Some(VerilogKind::Port))

@@ -1,5 +1,4 @@
-use Rattle.std.proofs.Common.{◌+◌, Err, take, refl, ap, sym, ◌∙◌}
-use Rattle.lw_verilog.proofs.Feeds.{token_feeds}
+use Rattle.std.proofs.Common.{◌+◌, Err, take, ap, sym, ◌∙◌}
 use Rattle.lw_verilog.proofs.Parsing.{stands-first, stands-last, parse-told, piece-told, piece-passed}
 use Rattle.lw_verilog.specs.Readings.{FaultAt, piece_fault}
 use Rattle.lw_verilog.specs.Tokens.{name_of}
@@ -21,11 +20,8 @@ loop-rest-preserved c =
     let s = c.loop-rest.invariant in
     let p = c.first_piece-piece.result in
     piece-passed c.args.lib.now c.args.text.now c.loop-rest.contents c.loop-rest.line c.loop-rest.rest.now s p c.first_piece-piece.ensures.piece (sym c.is_done.ensures ∙ c.loop-rest-test.true) c.read.new.self
-    (c.loop-rest.line + c.piece_feeds-line.result) c.behind-rest.result.now (sym (c.in_default.ensures.fault s.reading s.keeps)) (c.in_default.ensures.keeps s.reading s.keeps) c.in_default.ensures.weight
-    (c.first_piece-piece.ensures.some c.in_default.ensures.ended) c.first_piece-piece.ensures.within (ap (λ n. c.loop-rest.line + n) c.piece_feeds-line.ensures.count) c.behind-rest.ensures
-
-pub piece_feeds-line-requires-clause-none : goal.piece_feeds-line-requires-clause-none
-piece_feeds-line-requires-clause-none c = token_feeds c.loop-rest.rest.now _ c.first_piece-piece.result c.first_piece-piece.ensures.piece refl
+    (c.loop-rest.line + c.line_feeds-line.result) c.behind-rest.result.now (sym (c.in_default.ensures.fault s.reading s.keeps)) (c.in_default.ensures.keeps s.reading s.keeps) c.in_default.ensures.weight
+    (c.first_piece-piece.ensures.some c.in_default.ensures.ended) c.first_piece-piece.ensures.within (ap (λ n. c.loop-rest.line + n) c.line_feeds-line.ensures.count) c.behind-rest.ensures
 
 pub returns-clause-parsed : goal.returns-clause-parsed
 returns-clause-parsed c = stands-last c.args.lib.now c.args.text.now c.loop-rest.contents c.loop-rest.line c.loop-rest.rest.now c.loop-rest.invariant (sym c.is_done.ensures ∙ c.loop-rest-test.false)
