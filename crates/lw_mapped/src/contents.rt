@@ -32,7 +32,7 @@ impl Contents {
     ghost use Rattle.lw_mapped.specs.Parsed.{TellsFault, IsFit, IsLabel};
     ghost use Rattle.lw_mapped.specs.LineFaults.{told_fault};
     ghost use Rattle.lw_mapped.specs.Keeping.{Keeps, Takes};
-    ghost use Rattle.lw_mapped.specs.Sayings.{most_classes};
+    ghost use Rattle.lw_laws.specs.Graphs.{most_classes};
     ghost use Rattle.lw_mapped.specs.declared.fault.MappedKind.{MappedKind};
 
     pub fn new(alloc: Global) -> Self
