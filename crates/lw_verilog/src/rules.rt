@@ -198,7 +198,11 @@ fn gives_all(names: &SpelledNames, cell: &Cell) -> bool
 }
 
 /// The rule that the end of an instance of these names breaks.
-pub(crate) fn missing_fault(lib: &Library, hint: CellId, names: &SpelledNames) -> Option<VerilogKind>
+pub(crate) fn missing_fault(
+    lib: &Library,
+    hint: CellId,
+    names: &SpelledNames,
+) -> Option<VerilogKind>
     ensures { result ≡ missing_fault (cell_in lib.now names.now) (ties_in names.now) }
 {
     match cell_id(lib, hint, names) {
