@@ -113,7 +113,7 @@ module _ (s : Task) (choices : List Choice) (u : Uses) (now class : ℕ) (coming
 
   pub groups_added : (n j : ℕ) (x : Choice) → slice_get choices n ≡ Some x → HasPinAt x.part j class → now + delay_at s x.part j ≤ coming.horizon → Comes (turns_of u coming' looked) (now + delay_at s x.part j) n
   groups_added n j x at pn le =
-      let found = are.all n j class x (inl (get_in choices n x at)) at pn in
+      let found = are.pins.all n j class x (inl (get_in choices n x at)) at pn in
       inr (found.place, found.group, found.member, found.owner, added.added found.group (delay_at s x.part j) found.group_is.1 found.group_is.0 le)
 
   pub groups_in_time : AreInTime now (length choices) (turns_of u coming looked) → AreInTime now (length choices) (turns_of u coming' looked)
@@ -125,7 +125,7 @@ module _ (s : Task) (choices : List Choice) (u : Uses) (now class : ℕ) (coming
     where
       by_case : (t g : ℕ) → Waits coming t g ⊎ ((now ≤ t) × (g < length u.delays.items)) → (now ≤ t) × (g < u.members.count)
       by_case t g (inl w) = time.coming t g w
-      by_case t g (inr (le, lt)) = (le, omega (arith, lt, are.are.one_each, are.are.count))
+      by_case t g (inr (le, lt)) = (le, omega (arith, lt, are.pins.are.one_each, are.pins.are.count))
 
 module _ (now choices : ℕ) (w : Turns) (time : AreInTime now choices w) where
   -- a choice is taken

@@ -3,6 +3,7 @@ pub mod Adding
 pub mod Assembled
 pub mod Backed
 pub mod Bisected
+pub mod Briefs
 pub mod Built
 pub mod Cells
 pub mod Counting
@@ -22,6 +23,7 @@ pub mod Listing
 pub mod Lists
 pub mod LookedAt
 pub mod Lowest
+pub mod Members
 pub mod Moved
 pub mod Placed
 pub mod Places

@@ -80,5 +80,5 @@ module _ (s : Task) (is_graph : IsGraph s.graph) (of_cells : AreOfCells (area_co
 -- pins are of choices
 pub owners_low : (s : Task) (rows : List Row) (u : Uses) → AreUses s (plain_rows rows) u → All (λ n. n < length rows) u.owners.items
 owners_low s rows u are j d lt =
-    let low = are.low j (slice_index_or u.owners.items j d) (got u.owners.items j d lt) in
+    let low = are.pins.low j (slice_index_or u.owners.items j d) (got u.owners.items j d lt) in
     omega (arith, low, length-map rows plain_row)

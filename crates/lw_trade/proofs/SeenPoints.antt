@@ -152,7 +152,7 @@ module _ (s : Task) (choices : List Choice) (u : Uses) (are : AreUses s choices 
   uses_of class cell ps at j p pt =
       let x : Choice = record { class = class; part = gate cell ps } in
       let e : j ≡ 0 + j = omega arith in
-      subst (λ m. HasUse u n m (slice_index_or (delays_of (timing s).delays cell) j 0) p) e (are.all n j p x (inl (get_in choices n x at)) at pt)
+      subst (λ m. HasUse u n m (slice_index_or (delays_of (timing s).delays cell) j 0) p) e (are.pins.all n j p x (inl (get_in choices n x at)) at pt)
 
   more_seen : (class best a : ℕ) (part : Part) → slice_get choices n ≡ Some (record { class = class; part = part }) → IsOfLibrary s.cells part → IsSeenPrice s.cells u seen part n (Some best) → HasAtMost spots class now best → Gives s spots part now a → HasAtMost spots class now a ⊎ HasUnseen u seen spots now n
   more_seen class best a (input i) at of price had gives = inl (at_most spots class now best a (omega arith) had)

@@ -5,6 +5,7 @@ use Rattle.std.proofs.lemmas.Option.{same_Some}
 use Rattle.lw_fixed.specs.declared.micro.Micro.{Micro}
 use Rattle.lw_genlib.specs.Tables.{millionths}
 use Rattle.lw_laws.specs.Covers.{delays_of}
+use Rattle.lw_trade.specs.declared.looks.Looks.{Looks}
 use Rattle.lw_trade.specs.declared.uses.Uses.{Uses}
 use Rattle.lw_trade.specs.Choices.{Choice, HasPinAt, delay_at}
 use Rattle.lw_trade.specs.Choices.Part.{input, gate}
@@ -94,6 +95,33 @@ module _ (old mid new : Uses) (c delay group n : ℕ) (are : AreGroups old) (add
       by_case : (j m : ℕ) → (slice_get mid.owners.items j ≡ Some m) ⊎ ((j ≡ length mid.owners.items) × (n ≡ m)) → (slice_get old.owners.items j ≡ Some m) ⊎ (m ≡ n)
       by_case j m (inl there) = inl (subst (λ os. slice_get os j ≡ Some m) added.owners there)
       by_case j m (inr (e, f)) = inr (sym f)
+
+-- what looks need is added
+module _ (u : Uses) (looks : Looks) where
+  abbrev pub with_looks : Uses
+  with_looks = record { links = u.links; delays = u.delays; lanes = u.lanes; steps = u.steps; members = u.members; owners = u.owners; firsts = u.firsts; looks = looks }
+
+  pub uses_looked : (s : Task) (choices : List Choice) (n k : ℕ) → AreUsesTo s choices n k u → AreUsesTo s choices n k with_looks
+  uses_looked s choices n k are = record {
+    are = record {
+      one_each = are.are.one_each;
+      owners_each = are.are.owners_each;
+      count = are.are.count;
+    };
+    low = are.low;
+    all = λ m i c x before at pn.
+        let has = are.all m i c x before at pn in
+        record {
+          group = has.group;
+          place = has.place;
+          first = has.first;
+          first_at = has.first_at;
+          place_is = has.place_is;
+          group_is = has.group_is;
+          member = has.member;
+          owner = has.owner;
+        };
+  }
 
 -- it is noted where the pins of the next choice begin
 module _ (u v : Uses) (added : IsFirstAdded u v) where

@@ -7,6 +7,7 @@ pub mod Fronts
 pub mod Groups
 pub mod Lasts
 pub mod Links
+pub mod Looks
 pub mod Placed
 pub mod Points
 pub mod Pricing

@@ -2,6 +2,7 @@
 use Rattle.std.specs.Prelude.{ℕ, zero, suc, ◌+◌, ◌<◌, ◌≤◌, ◌≡◌, ◌⊎◌, List, length, Option, Some, None, slice_get, slice_index_or}
 use Rattle.lw_pool.specs.declared.id.ClassId.{ClassId}
 use Rattle.lw_genlib.specs.Cells.{CellParts}
+use Rattle.lw_trade.specs.declared.looks.Brief.{Brief}
 use Rattle.lw_trade.specs.declared.uses.Uses.{Uses}
 use Rattle.lw_trade.specs.Areas.{most_area, area_at}
 use Rattle.lw_trade.specs.Choices.{Part}
@@ -66,3 +67,9 @@ IsSeenPrice cells u seen (gate cell ps) n None =
     (first : ℕ) × (slice_get u.firsts.items n ≡ Some first) × IsSeenOfPins u.members.classes seen first (length ps) None
 IsSeenPrice cells u seen (gate cell ps) n (Some area) =
     (area ≡ 0) ⊎ ((first : ℕ) × (slice_get u.firsts.items n ≡ Some first) × (area ≤ most_area) × (area ≤ area_at cells cell + sum_seen u.members.classes seen first (length ps)))
+
+-- no more than what a choice in short gives with points that its groups have seen, and none where one has seen nothing
+abbrev pub IsBriefPrice : List ℕ → List ℕ → Brief → Option ℕ → Type 0
+IsBriefPrice groups seen b None = IsSeenOfPins groups seen b.first b.count None
+IsBriefPrice groups seen b (Some area) =
+    (area ≡ 0) ⊎ ((area ≤ most_area) × (area ≤ b.area + sum_seen groups seen b.first b.count))

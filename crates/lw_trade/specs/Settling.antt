@@ -158,7 +158,7 @@ GivesNoMoreSeen s choices spots unseen time n =
 pub record IsLookedAt (s : Task) (choices : List Choice) (spots : List Spot) (unseen : ℕ → Type 0) (old new : Queued) (time n : ℕ) : Type 0 where
   pub horizon : new.horizon ≡ old.horizon
   pub kept : (t m : ℕ) → Waits old t m → Waits new t m
-  pub only : (t m : ℕ) → Waits new t m → Waits old t m ⊎ ((t ≡ time) × (m ≡ n))
+  pub only : (t m : ℕ) → Waits new t m → Waits old t m ⊎ ((t ≡ time) × (m < length choices))
   pub done : Waits new time n ⊎ GivesNoMoreSeen s choices spots unseen time n
 
 -- so does each choice with a pin in the group

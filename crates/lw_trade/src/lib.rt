@@ -14,6 +14,7 @@ mod lanes;
 mod laws;
 mod links;
 mod looking;
+mod looks;
 mod making;
 mod ordering;
 mod point;

@@ -4,12 +4,13 @@ ghost use Rattle.lw_fixed.specs.declared.micro.Micro.{Micro as MicroOf};
 ghost use Rattle.lw_laws.specs.Graphs.{Graph as PlainGraph};
 ghost use Rattle.lw_laws.specs.Covers.{Pattern as TreeOfCell};
 ghost use Rattle.lw_trade.specs.Areas.{most_area};
+ghost use Rattle.lw_trade.specs.Looks.{AreLooks};
 ghost use Rattle.lw_trade.specs.Points.{task};
 ghost use Rattle.lw_trade.specs.Pricing.{IsOfLibrary};
 ghost use Rattle.lw_trade.specs.Rows.{plain_part, plain_rows};
 ghost use Rattle.lw_trade.specs.Seen.{AreSeen, HasUnseen};
 ghost use Rattle.lw_trade.specs.Settling.{Spot, Has, IsGroupLookedAt, IsLookedAt, IsStillFor, Waits};
-ghost use Rattle.lw_trade.specs.Uses.{AreGroups, AreUses, turns_of};
+ghost use Rattle.lw_trade.specs.Uses.{AreUses, turns_of};
 
 use crate::choices::Row;
 use crate::fronts::Fronts;
@@ -17,7 +18,6 @@ use crate::queue::Queue;
 use crate::seeing::{see, seen_price};
 use crate::uses::Uses;
 use lw_genlib::Library;
-use lw_pool::ClassId;
 use std::alloc::AllocError;
 
 // Lets a choice wait at a time, unless by what its groups have seen it gives no more then than what
@@ -33,8 +33,8 @@ fn look_at(
     time: u64,
 ) -> Result<(), AllocError>
     requires time { time ≤ queue.old.horizon }
-    requires number { number < length rows.now }
     requires one_each { length seen.now ≡ uses.now.members.count }
+    requires looks { AreLooks lib.now (plain_rows rows.now) uses.now }
     requires of_library { All (λ (r : Row). IsOfLibrary lib.now (plain_part r.stand)) rows.now }
     requires classes { All (λ (r : Row). r.class.0 < length fronts.now.least) rows.now }
     requires late { (k : Spot) → Has fronts.now.spots k → k.time ≤ time }
@@ -45,11 +45,15 @@ fn look_at(
         → IsLookedAt (task g pats lib.now starts) (plain_rows rows.now) fronts.now.spots
         (HasUnseen uses.now seen.now fronts.now.spots time) queue.old queue.new time number) }
 {
-    let row = &rows[number as usize];
-    let Some(area) = seen_price(&row.stand, lib, uses, seen, number) else {
+    let (place, count) = (number as usize, uses.looks.briefs.len());
+    if place >= count {
+        return Ok(());
+    }
+    let brief = uses.looks.briefs[place];
+    let Some(area) = seen_price(&uses.members, seen, brief) else {
         return Ok(());
     };
-    let less = fronts.is_less(row.class, time, area);
+    let less = fronts.is_less(brief.class, time, area);
     if less {
         queue.push(0, time, 0, number)?;
         return Ok(());
@@ -71,9 +75,8 @@ fn look_at_group(
 ) -> Result<(), AllocError>
     requires time { time ≤ queue.old.horizon }
     requires group { group < uses.now.members.count }
-    requires are { AreGroups uses.now }
-    requires owners { All (λ n. n < length rows.now) uses.now.owners.items }
     requires one_each { length seen.now ≡ uses.now.members.count }
+    requires looks { AreLooks lib.now (plain_rows rows.now) uses.now }
     requires of_library { All (λ (r : Row). IsOfLibrary lib.now (plain_part r.stand)) rows.now }
     requires classes { All (λ (r : Row). r.class.0 < length fronts.now.least) rows.now }
     requires late { (k : Spot) → Has fronts.now.spots k → k.time ≤ time }
@@ -86,11 +89,11 @@ fn look_at_group(
         uses.now.members.classes uses.now.owners.items queue.old queue.new time group) }
 {
     let _ = uses.members.len();
-    let mut next = uses.members.last(ClassId(group));
-    while let Some(place) = next {
-        let number = uses.owners[place as usize];
+    let first = uses.looks.starts[group as usize];
+    let end = uses.looks.starts[group as usize + 1];
+    for at in first..end {
+        let number = uses.looks.numbers[at];
         look_at(rows, lib, uses, seen, fronts, queue, number, time)?;
-        next = uses.members.before(place);
     }
     Ok(())
 }

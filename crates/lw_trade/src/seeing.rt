@@ -1,17 +1,14 @@
 // What the groups of pins have seen: the least area of the points of their class that came.
 ghost use Rattle.std.specs.Prelude.{◌≡◌, ◌-◌, ◌<◌, ◌≤◌, IfOk, IfSome, length};
 ghost use Rattle.lw_trade.specs.Areas.{most_area};
-ghost use Rattle.lw_trade.specs.Pricing.{IsOfLibrary};
-ghost use Rattle.lw_trade.specs.Rows.{plain_part};
-ghost use Rattle.lw_trade.specs.Seen.{IsSeeing, IsSeenOfPins, IsSeenPrice};
+ghost use Rattle.lw_trade.specs.Seen.{IsBriefPrice, IsSeeing, IsSeenOfPins};
 ghost use Rattle.lw_trade.specs.Uses.{AreGroups};
 
 use crate::area::{MOST_AREA, joined};
-use crate::choices::Stand;
 use crate::fronts::{Fronts, NO_AREA};
 use crate::links::Links;
+use crate::looks::Brief;
 use crate::uses::Uses;
-use lw_genlib::Library;
 use std::alloc::{AllocError, Global};
 
 /// No group has seen a point yet.
@@ -66,34 +63,19 @@ fn seen_of_pins(groups: &Links, seen: &[u64], first: u32, end: u32) -> Option<u6
 
 /// No more than the area that a choice gives with points that its groups have seen, and none where
 /// a group has seen nothing.
-pub(crate) fn seen_price(
-    stand: &Stand,
-    lib: &Library,
-    uses: &Uses,
-    seen: &[u64],
-    number: u32,
-) -> Option<u64>
-    requires one_each { length seen.now ≡ uses.now.members.count }
-    requires cell { IsOfLibrary lib.now (plain_part stand.now) }
+pub(crate) fn seen_price(groups: &Links, seen: &[u64], brief: Brief) -> Option<u64>
+    requires { length seen.now ≡ groups.now.count }
     ensures low { IfSome result (λ area. area ≤ most_area) }
-    ensures seen { IsSeenPrice lib.now uses.now seen.now (plain_part stand.now) number result }
+    ensures seen { IsBriefPrice groups.now.classes seen.now brief result }
 {
-    let Stand::Gate(gate) = stand else {
+    let Some(end) = brief.first.checked_add(brief.count) else {
         return Some(0);
     };
-    let number = number as usize;
-    if number >= uses.firsts.len() {
+    if end > groups.len() {
         return Some(0);
     }
-    let first = uses.firsts[number];
-    let Some(end) = first.checked_add(gate.pins.len() as u32) else {
-        return Some(0);
-    };
-    if end > uses.members.len() {
-        return Some(0);
-    }
-    match seen_of_pins(&uses.members, seen, first, end) {
-        Some(area) => Some(joined(lib.cell(gate.cell).area().0, area)),
+    match seen_of_pins(groups, seen, brief.first, end) {
+        Some(area) => Some(joined(brief.area, area)),
         None => None,
     }
 }

@@ -13,6 +13,7 @@ ghost use Rattle.lw_pool.specs.Numbers.{numbers};
 
 use crate::choices::{Row, Stand};
 use crate::links::Links;
+use crate::looks::{Looks, looks_of, no_looks};
 use lw_fixed::Micro;
 use lw_genlib::Library;
 use lw_pool::ClassId;
@@ -35,6 +36,8 @@ pub(crate) struct Uses {
     pub owners: Vec<u32>,
     // the place of the first pin of each choice, behind which its others stand
     pub firsts: Vec<u32>,
+    // what looks at the choices need
+    pub looks: Looks,
 }
 
 // A group of a class and a delay, if there is one.
@@ -199,6 +202,7 @@ fn no_uses(alloc: Global, classes: usize) -> Result<Uses, AllocError>
         members: Links::new(alloc, 0)?,
         owners: Vec::new(alloc),
         firsts: Vec::new(alloc),
+        looks: no_looks(alloc),
     })
 }
 
@@ -220,5 +224,10 @@ pub(crate) fn uses_of(
     for (choice, row) in rows.iter().enumerate() {
         add_choice(&mut uses, lib, row, choice as u32)?;
     }
+    let groups = uses.links.len();
+    let owners = uses.owners.as_slice();
+    let firsts = uses.firsts.as_slice();
+    let looks = looks_of(alloc, rows, lib, &uses.members, owners, firsts, groups)?;
+    uses.looks = looks;
     Ok(uses)
 }

@@ -7,7 +7,6 @@ use Rattle.lw_trade.specs.Uses.{turns_of}
 use Rattle.lw_trade.proofs.Adding.{group_in_time, taken_less, taken_waits}
 use Rattle.lw_trade.proofs.Backed.{reached_low}
 use Rattle.lw_trade.proofs.SeenPoints.{seen_taken, unseen_comes}
-use Rattle.lw_trade.proofs.Ranges.{owners_low}
 use Rattle.lw_trade.proofs.Stepping.{group_over}
 use Rattle.lw_trade.proofs.looking.look_at_groups.Goals as goal
 
@@ -31,13 +30,8 @@ look_at_group-requires-clause-group c =
     let w = taken_waits c.loop-place.coming c.take_hinted_at.new.self c.args.time c.in-Some.group within c.in-Some.ensures in
     (time.coming c.args.time c.in-Some.group w).1
 
-pub look_at_group-requires-clause-are : goal.look_at_group-requires-clause-are
-look_at_group-requires-clause-are c = let (g, pats, starts, st, us) = c.requires.still in us.are
-
-pub look_at_group-requires-clause-owners : goal.look_at_group-requires-clause-owners
-look_at_group-requires-clause-owners c =
-    let (g, pats, starts, st, us) = c.requires.still in
-    owners_low (task g pats c.args.lib.now starts) c.args.rows.now c.args.uses.now us
+pub look_at_group-requires-clause-looks : goal.look_at_group-requires-clause-looks
+look_at_group-requires-clause-looks c = let (g, pats, starts, st, us) = c.requires.still in us.looks
 
 pub look_at_group-requires-clause-late : goal.look_at_group-requires-clause-late
 look_at_group-requires-clause-late c k has =
@@ -60,7 +54,7 @@ see-requires-clause-group c =
     (time.coming c.args.time c.in-Some.group w).1
 
 pub see-requires-clause-are : goal.see-requires-clause-are
-see-requires-clause-are c = let (g, pats, starts, st, us) = c.requires.still in us.are
+see-requires-clause-are c = let (g, pats, starts, st, us) = c.requires.still in us.pins.are
 
 pub loop-place-smaller : goal.loop-place-smaller
 loop-place-smaller c =

@@ -29,7 +29,7 @@ pub settle_all-requires-clause-one_each : goal.settle_all-requires-clause-one_ea
 settle_all-requires-clause-one_each c =
     let (g, pats, are) = c.requires.choices in
     let uses = c.in_ok-uses.ensures.uses g pats c.args.starts.now in
-    ap length c.deref_mut.ensures.value ∙ (c.in_ok-seen.ensures ∙ (c.len-3.ensures.len ∙ sym uses.are.count))
+    ap length c.deref_mut.ensures.value ∙ (c.in_ok-seen.ensures ∙ (c.len-3.ensures.len ∙ sym uses.pins.are.count))
 
 pub settle_all-requires-clause-seen : goal.settle_all-requires-clause-seen
 settle_all-requires-clause-seen c = subst (λ ks. AreSeen c.in_ok-uses.uses c.deref_mut.result.now ks c.in_ok-coming.coming) (sym c.in_ok-fronts.ensures.spots) (λ k g d (i, at) is le. cc)

@@ -10,7 +10,7 @@ use Rattle.lw_trade.proofs.Stepping.{uses_added}
 use Rattle.lw_trade.proofs.settling.settle_at.Goals as goal
 
 pub push_groups-requires-clause-are : goal.push_groups-requires-clause-are
-push_groups-requires-clause-are c = let (g, pats, st, us) = c.requires.still in us.are
+push_groups-requires-clause-are c = let (g, pats, st, us) = c.requires.still in us.pins.are
 
 pub loop-class-preserved : goal.loop-class-preserved
 loop-class-preserved c = record {

@@ -1,11 +1,12 @@
-use Rattle.std.proofs.Common.{◌≡◌, ◌∙◌, length, option_map, ap, subst, arith}
+use Rattle.std.proofs.Common.{◌≡◌, ◌∙◌, length, option_map, ap, subst, subst₂, arith}
 use Rattle.std.proofs.lemmas.List.{length-map}
 use Rattle.std.proofs.lemmas.Option.{slice_get-map}
+use Rattle.lw_trade.specs.Looks.{AreBriefs, AreMembersListed}
 use Rattle.lw_trade.specs.Points.{task}
 use Rattle.lw_trade.specs.Rows.{plain_row, plain_rows}
 use Rattle.lw_trade.specs.Uses.{AreUsesTo}
 use Rattle.lw_trade.proofs.Lists.{read_at}
-use Rattle.lw_trade.proofs.Using.{none_used}
+use Rattle.lw_trade.proofs.Using.{none_used, uses_looked}
 use Rattle.lw_trade.proofs.uses.uses_of.Goals as goal
 
 pub loop-choice-init : goal.loop-choice-init
@@ -28,7 +29,30 @@ loop-choice-preserved c =
       uses = λ g pats starts. c.in_ok-add_choice.ensures.uses g pats starts (plain_rows c.args.rows.now) at (c.loop-choice.invariant.uses g pats starts);
     }
 
+pub looks_of-requires-clause-groups : goal.looks_of-requires-clause-groups
+looks_of-requires-clause-groups c = omega (arith, c.len-groups.ensures.len, c.loop-choice.invariant.are.count)
+
+pub looks_of-requires-clause-owners : goal.looks_of-requires-clause-owners
+looks_of-requires-clause-owners c = ap length c.as_slice-owners.ensures.value ∙ c.loop-choice.invariant.are.owners_each
+
+pub looks_of-requires-clause-firsts : goal.looks_of-requires-clause-firsts
+looks_of-requires-clause-firsts c =
+    let n : c.loop-choice.choice ≡ length c.args.rows.now = omega (arith, c.loop-choice-test.false, c.loop-choice.auto.choice-end) in
+    ap length c.as_slice-firsts.ensures.value ∙ (c.loop-choice.invariant.next ∙ n)
+
 pub returns-clause-uses : goal.returns-clause-uses
 returns-clause-uses c g pats starts =
-    let n : c.loop-choice.choice ≡ length (plain_rows c.args.rows.now) = omega (arith, c.loop-choice-test.false, c.loop-choice.auto.choice-end, length-map c.args.rows.now plain_row) in
-    subst (λ k. AreUsesTo (task g pats c.args.lib.now starts) (plain_rows c.args.rows.now) k 0 c.loop-choice.uses) n (c.loop-choice.invariant.uses g pats starts)
+    let s = task g pats c.args.lib.now starts in
+    let xs = plain_rows c.args.rows.now in
+    let u = c.loop-choice.uses in
+    let n : c.loop-choice.choice ≡ length xs = omega (arith, c.loop-choice-test.false, c.loop-choice.auto.choice-end, length-map c.args.rows.now plain_row) in
+    let pins = subst (λ k. AreUsesTo s xs k 0 u) n (c.loop-choice.invariant.uses g pats starts) in
+    let looks = c.in_ok-looks.looks in
+    let count : c.len-groups.result ≡ u.members.count = omega (arith, c.len-groups.ensures.len, c.loop-choice.invariant.are.count) in
+    record {
+      pins = uses_looked u looks s xs (length xs) 0 pins;
+      looks = record {
+        briefs = subst (λ fs. AreBriefs c.args.lib.now fs xs looks.briefs.items) c.as_slice-firsts.ensures.value c.in_ok-looks.ensures.briefs;
+        listed = subst₂ (λ os m. AreMembersListed u.members.classes os m looks.starts.items looks.numbers.items) c.as_slice-owners.ensures.value count c.in_ok-looks.ensures.listed;
+      };
+    }
