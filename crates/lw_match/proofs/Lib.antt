@@ -25,6 +25,7 @@ pub mod Passes
 pub mod Placing
 pub mod Ranking
 pub mod Refusals
+pub mod RootLists
 pub mod RootShapes
 pub mod Rooting
 pub mod Settled

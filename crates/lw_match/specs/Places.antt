@@ -6,6 +6,7 @@ use Rattle.lw_match.specs.declared.parts.Side.{Side}
 use Rattle.lw_match.specs.declared.parts.Part.{Part}
 use Rattle.lw_match.specs.declared.parts.Rule.{Rule}
 use Rattle.lw_match.specs.declared.parts.Group.{Group}
+use Rattle.lw_match.specs.declared.parts.Root.{Root}
 use Rattle.lw_match.specs.declared.rows.View.{View}
 use Rattle.lw_match.specs.Shapes.{SideFits}
 use Rattle.lw_laws.specs.Flip.{flip}
@@ -124,7 +125,28 @@ AreNoMore new old = (k : ℕ) → slice_index new k ≤ slice_index old k
 abbrev pub AreNumbers : List ℕ → Type 0
 AreNumbers numbers = (k : ℕ) → slice_index numbers k ≤ never
 
--- the rules and lists as long as the parts
-pub record HasRoom (parts : List Part) (groups : List Group) (least : List ℕ) : Type 0 where
+-- the root of a pattern that is this side
+abbrev pub root_of : ℕ → Side → Root
+root_of n s = record { pattern = n; place = place_of s; shift = shift_of s.kind }
+
+-- of the first roots, those that have their numbers in this list are there
+abbrev pub AreListed : List Side → ℕ → List Root → ℕ → Type 0
+AreListed sides list roots count =
+    (n : ℕ) (s : Side) → n < count → slice_get sides n ≡ Some s → list_of s ≡ list → (i : ℕ) × (slice_get roots i ≡ Some (root_of n s))
+
+-- each root is in one of three lists
+pub record AreRootsListed (sides : List Side) (leaf row other : List Root) : Type 0 where
+  pub in_leaves : AreListed sides 0 leaf (length sides)
+  pub in_row : AreListed sides 1 row (length sides)
+  pub in_other : AreListed sides 2 other (length sides)
+
+-- the number at a place of a list is not below the top
+pub record IsFar (numbers : List ℕ) (place shift top : ℕ) : Type 0 where
+  pub reached : top ≤ shifted (slice_index_or numbers place never) shift
+  pub most : shifted (slice_index_or numbers place never) shift ≤ never
+
+-- the rules, lists as long as the parts, and the roots in lists
+pub record HasRoom (parts : List Part) (groups : List Group) (least : List ℕ) (roots : List Side) (leaf row other : List Root) : Type 0 where
   pub grouped : AreGrouped parts groups
   pub least_room : length least ≡ length parts
+  pub roots_listed : AreRootsListed roots leaf row other

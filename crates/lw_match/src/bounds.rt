@@ -5,8 +5,8 @@ use crate::bare::bare_patterns;
 use crate::cuts::Cuts;
 use crate::gaps::all_guesses;
 use crate::lowering::Plan;
-use crate::parts::{Group, Part, Side};
-use crate::places::groups_of;
+use crate::parts::{Group, Part, Root, Side};
+use crate::places::{groups_of, roots_in};
 use crate::renewing::{Renewal, renew_parts};
 use crate::shapes::{all_sides, root_sides};
 use crate::starts::starts_of;
@@ -39,6 +39,11 @@ pub struct Bounds {
     gaps: Vec<[u64; 16]>,
     sides: Vec<Vec<Side>>,
     roots: Vec<Side>,
+    // the roots in lists by where their numbers stand: with those of pins and constants, in the row
+    // of the class, and in that of its complement
+    leaf_roots: Vec<Root>,
+    row_roots: Vec<Root>,
+    other_roots: Vec<Root>,
     // where the row of each class starts in the numbers
     starts: Vec<u32>,
     numbers: Vec<u64>,
@@ -59,7 +64,7 @@ impl Model for Bounds {
 
     ghost view = { λ b. record { parts = b.parts.keys; gaps = b.gaps.items; sides = map (λ side. side.items) b.sides.items; roots = b.roots.items; starts = b.starts.items; numbers = b.numbers.items } };
 
-    ghost invariant = { λ b. HasRoom b.parts.keys b.groups.items b.least.items };
+    ghost invariant = { λ b. HasRoom b.parts.keys b.groups.items b.least.items b.roots.items b.leaf_roots.items b.row_roots.items b.other_roots.items };
 }
 
 impl Bounds {
@@ -67,6 +72,7 @@ impl Bounds {
     ghost use Rattle.lw_match.specs.Bounds.{BoundsFit, AreRows, AreSettledAt, bounds_weight};
     ghost use Rattle.lw_match.specs.Cutting.{cuts_state};
     ghost use Rattle.lw_match.specs.Least.{AreOfCells};
+    ghost use Rattle.lw_match.specs.Places.{AreRootsListed};
 
     /// A table in which no number has fallen yet. All memory is taken here. Where there would be
     /// too many numbers, only the first parts have some.
@@ -80,10 +86,14 @@ impl Bounds {
         ensures { IfOk result (λ b. BoundsFit b pats.now graph.now) }
     {
         let room = room_for(graph.classes()) as usize;
+        let _ = pats.len();
         let mut parts = IndexSet::new(alloc);
         let gaps = all_guesses(alloc, pats, cost)?;
         let sides = all_sides(alloc, &mut parts, room, &gaps, pats)?;
         let roots = root_sides(alloc, pats, &sides)?;
+        let leaf_roots = roots_in(alloc, &roots, 0)?;
+        let row_roots = roots_in(alloc, &roots, 1)?;
+        let other_roots = roots_in(alloc, &roots, 2)?;
         let rows = starts_of(alloc, graph, parts.len() as u32)?;
         let numbers = vec![in alloc; u64::MAX; rows.size as usize]?;
         let groups = groups_of(alloc, parts.as_slice())?;
@@ -94,6 +104,9 @@ impl Bounds {
             gaps,
             sides,
             roots,
+            leaf_roots,
+            row_roots,
+            other_roots,
             starts: rows.starts,
             numbers,
             groups,
@@ -137,7 +150,7 @@ impl Bounds {
 
     /// What searches are cut by.
     pub(crate) fn cuts(&self) -> Cuts
-        ensures { cuts_state result ≡ record {
+        ensures state { cuts_state result ≡ record {
           sides = self.now.sides;
           roots = self.now.roots;
           width = length self.now.parts;
@@ -145,10 +158,15 @@ impl Bounds {
           numbers = self.now.numbers;
           gaps = self.now.gaps;
         } }
+        ensures roots { AreRootsListed result.roots.now result.leaf_roots.now result.row_roots.now
+            result.other_roots.now }
     {
         Cuts {
             sides: &self.sides,
             roots: &self.roots,
+            leaf_roots: &self.leaf_roots,
+            row_roots: &self.row_roots,
+            other_roots: &self.other_roots,
             width: self.parts.len(),
             starts: &self.starts,
             numbers: &self.numbers,

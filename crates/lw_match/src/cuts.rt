@@ -4,17 +4,20 @@ ghost use Rattle.lw_match.specs.Cutting.{cuts_state, cuts_reading};
 
 use crate::Mark;
 use crate::numbers::Numbers;
-use crate::parts::Side;
+use crate::parts::{Root, Side};
 use lw_graph::Graph;
 use lw_pool::PatId;
 
 /// What searches are cut by: the side that each node of each pattern is and that its root is, the
 /// numbers of the parts by rows, and the gaps of the pins of each pattern. With no sides no search
-/// is cut.
+/// is cut. The roots also stand in lists by where their numbers are.
 #[derive(Clone, Copy)]
 pub struct Cuts<'a> {
     pub sides: &'a [Vec<Side>],
     pub roots: &'a [Side],
+    pub leaf_roots: &'a [Root],
+    pub row_roots: &'a [Root],
+    pub other_roots: &'a [Root],
     pub width: usize,
     pub starts: &'a [u32],
     pub numbers: &'a [u64],

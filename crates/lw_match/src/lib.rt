@@ -31,6 +31,7 @@ mod seeking;
 mod settling;
 mod shapes;
 mod starts;
+mod sweeping;
 mod times;
 mod tops;
 

@@ -1,7 +1,7 @@
 // Numbers of parts that fall to what pairs give.
-ghost use Rattle.std.specs.Prelude.{◌≡◌, ◌+◌, ◌<◌, ◌≤◌, ◌⊎◌, ℕ, length, max, Some, slice_get, slice_index, slice_index_or};
+ghost use Rattle.std.specs.Prelude.{◌≡◌, ◌<◌, ◌≤◌, ℕ, length, max, min, Some, slice_get, slice_index, slice_index_or};
 ghost use Rattle.lw_graph.specs.declared.pair.Pair.{Pair};
-ghost use Rattle.lw_match.specs.Numbers.{reading, pair_number, IsReading};
+ghost use Rattle.lw_match.specs.Numbers.{reading, shifted, pair_number, IsReading};
 ghost use Rattle.lw_match.specs.Shapes.{AreClosed};
 ghost use Rattle.lw_match.specs.declared.parts.Part.{Part};
 ghost use Rattle.lw_match.specs.declared.parts.Rule.{Rule};
@@ -19,6 +19,18 @@ pub struct Plan<'a> {
     pub groups: &'a [Group],
 }
 
+// What a rule gives by the numbers of its two sides, or the bound where one of these is not below
+// it, as that is no less either way.
+fn given_below(bound: u64, rule: Rule, x: u64, y: u64) -> u64
+    ensures { min result bound
+        ≡ min (max (shifted x rule.left_shift) (shifted y rule.right_shift)) bound }
+{
+    if x >= bound || y >= bound {
+        return bound;
+    }
+    shifted(x, rule.left_shift).max(shifted(y, rule.right_shift))
+}
+
 // Lets the number of each rule's part fall to what two lists give.
 fn lower(rules: &[Rule], xs: &[u64], ys: &[u64], least: &mut [u64])
     requires within { AreWithin xs.now ys.now least.old rules.now }
@@ -28,10 +40,10 @@ fn lower(rules: &[Rule], xs: &[u64], ys: &[u64], least: &mut [u64])
 {
     for number in 0..rules.len() {
         let rule = rules[number];
-        let left = shifted(xs[rule.left as usize], rule.left_shift);
-        let right = shifted(ys[rule.right as usize], rule.right_shift);
         let part = rule.part as usize;
-        let given = left.max(right);
+        let x = xs[rule.left as usize];
+        let y = ys[rule.right as usize];
+        let given = given_below(least[part], rule, x, y);
         if given < least[part] {
             least[part] = given;
         }

@@ -36,6 +36,14 @@ pub struct Rule {
     pub right_shift: u64,
 }
 
+/// The root of a pattern: where its number stands in its list of numbers, and its shift.
+#[derive(Clone, Copy, Debug, PartialEq, Eq)]
+pub struct Root {
+    pub pattern: u32,
+    pub place: u32,
+    pub shift: u64,
+}
+
 /// The rules of the parts whose sides have their numbers in the same two lists.
 #[derive(Drop)]
 pub struct Group {

@@ -1,8 +1,8 @@
 // The rules of parts, in groups by the lists in which the numbers of their sides stand.
 ghost use Rattle.std.specs.Prelude.{◌≡◌, ◌<◌, ◌≤◌, length, IfOk, IsTrue, IsFalse};
-ghost use Rattle.lw_match.specs.Places.{list_of, place_of, shift_of, rule_of, AreGrouped, IsGroupOf};
+ghost use Rattle.lw_match.specs.Places.{list_of, place_of, shift_of, rule_of, root_of, AreGrouped, AreListed, IsGroupOf};
 
-use crate::parts::{Group, Kind, Part, Rule, Side};
+use crate::parts::{Group, Kind, Part, Root, Rule, Side};
 use std::alloc::{AllocError, Global};
 
 // The list in which the number of a side stands: that of pins and constants, the row of the class,
@@ -88,4 +88,30 @@ pub(crate) fn groups_of(alloc: Global, parts: &[Part]) -> Result<Vec<Group>, All
         }
     }
     Ok(groups)
+}
+
+// The root of a pattern with this number, whose root is a side.
+fn root_of(number: u32, side: Side) -> Root
+    ensures { result ≡ root_of number side }
+{
+    Root {
+        pattern: number,
+        place: place_of(side),
+        shift: shift_of(side),
+    }
+}
+
+// The roots, given the sides that they are, that have their numbers in a list.
+pub(crate) fn roots_in(alloc: Global, sides: &[Side], list: u8) -> Result<Vec<Root>, AllocError>
+    requires few { length sides.now ≤ 262144 }
+    ensures { IfOk result (λ roots. AreListed sides.now list roots.items (length sides.now)) }
+{
+    let mut roots = Vec::new(alloc);
+    for number in 0..sides.len() {
+        let side = sides[number];
+        if list_of(side) == list {
+            roots.push(root_of(number as u32, side))?;
+        }
+    }
+    Ok(roots)
 }

@@ -16,8 +16,8 @@ pub struct View<'a> {
     pub other: &'a [u64],
 }
 
-// A number of a row with its shift, never where the row is empty.
-fn row_number(row: &[u64], part: u32, shift: u64) -> u64
+/// A number of a row with its shift, never where the row is empty.
+pub(crate) fn row_number(row: &[u64], part: u32, shift: u64) -> u64
     ensures { result ≡ shifted (slice_index_or row.now part never) shift }
 {
     let place = part as usize;

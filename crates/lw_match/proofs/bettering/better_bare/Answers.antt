@@ -11,7 +11,7 @@ better_of-requires g c = record {
     one_each = c.requires.one_each;
     in_range = c.requires.in_range;
     of_cells = c.requires.of_cells;
-    cuts = subst (λ (cuts : CutsState). CutsFit cuts c.args.graph.now) (sym c.cuts-cuts.ensures) (bounds_cut c.args.bounds.now c.args.pats.now c.args.graph.now c.requires.fit);
+    cuts = subst (λ (cuts : CutsState). CutsFit cuts c.args.graph.now) (sym c.cuts-cuts.ensures.state) (bounds_cut c.args.bounds.now c.args.pats.now c.args.graph.now c.requires.fit);
     floor = c.requires.floor;
   };
 }

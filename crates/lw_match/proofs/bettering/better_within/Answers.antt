@@ -10,11 +10,11 @@ better-requires-clause-query g c = record {
   one_each = c.requires.one_each;
   in_range = c.requires.in_range;
   of_cells = c.requires.of_cells;
-  cuts = subst (λ (cuts : CutsState). CutsFit cuts c.args.graph.now) (sym c.cuts-cuts.ensures) (bounds_cut c.args.bounds.now c.args.pats.now c.args.graph.now c.requires.fit);
+  cuts = subst (λ (cuts : CutsState). CutsFit cuts c.args.graph.now) (sym c.cuts-cuts.ensures.state) (bounds_cut c.args.bounds.now c.args.pats.now c.args.graph.now c.requires.fit);
   floor = c.requires.floor;
 }
 
 pub returns-clause-none : goal.returns-clause-none
 returns-clause-none g c =
     λ e bounds.
-    c.better.ensures.none e (subst (λ (cuts : CutsState). AreCutsOf cuts c.args.pats.now c.args.graph.now c.args.marks.now) (sym c.cuts-cuts.ensures) (bounds_cut_well c.args.bounds.now c.args.pats.now c.args.graph.now c.args.marks.now c.requires.fit bounds))
+    c.better.ensures.none e (subst (λ (cuts : CutsState). AreCutsOf cuts c.args.pats.now c.args.graph.now c.args.marks.now) (sym c.cuts-cuts.ensures.state) (bounds_cut_well c.args.bounds.now c.args.pats.now c.args.graph.now c.args.marks.now c.requires.fit bounds))
