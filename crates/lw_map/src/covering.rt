@@ -70,8 +70,7 @@ pub fn cover(
     ensures few { IfOk result (λ m. length m.netlist.gates ≤ most_classes) }
     ensures fault { IfErr result (IsCoverFault lib.now net.now starts.now choices.now) }
 {
-    let _ = lib.len();
-    let _ = net.inputs();
+    let _ = (lib.len(), net.inputs());
     let pats = patterns(alloc, lib)?;
     let cost = DelayCost::new(lib, starts);
     let labelled = label(alloc, &choices.graph, &pats, &cost, labeller)?;

@@ -2,10 +2,10 @@
 ghost use Rattle.std.specs.Prelude.{All, IfErr, IfOk, IfSome, List, None, Some, length, map, ℕ, ◌<◌, ◌^◌, ◌≡◌};
 ghost use Rattle.std.specs.List.{IsDistinct};
 ghost use Rattle.std.specs.Str.{bytes_eq};
-ghost use Rattle.lw_genlib.specs.Cells.{IsSmall};
+ghost use Rattle.lw_genlib.specs.Cells.{IsLibrary, IsSmall};
 ghost use Rattle.lw_pool.specs.declared.id.ClassId.{ClassId as Class};
 ghost use Rattle.lw_fixed.specs.declared.micro.Micro.{Micro as MicroOf};
-ghost use Rattle.lw_net.specs.Networks.{output_names};
+ghost use Rattle.lw_net.specs.Networks.{IsNetwork, output_names};
 ghost use Rattle.lw_pattern.specs.Libraries.{library_patterns};
 ghost use Rattle.lw_match.specs.Least.{AreOfCells};
 ghost use Rattle.lw_trade.specs.Areas.{area_cost};
@@ -55,39 +55,6 @@ fn labels_of(
     Ok(labels)
 }
 
-// The least time of each output.
-fn earliest(
-    alloc: Global,
-    lib: &Library,
-    net: &Network,
-    starts: &Micros,
-    choices: &Choices,
-    pats: &Patterns,
-) -> Result<Vec<Micro>, MapFault>
-    requires choices { AreChoicesOf net.now choices.now }
-    requires outputs { IsDistinct bytes_eq (output_names net.now) }
-    requires early { All IsSmall starts.now }
-    requires patterns { pats.now ≡ library_patterns lib.now }
-    requires of_cells { AreOfCells (area_cost lib.now).pin_counts pats.now }
-    ensures earliest { IfOk result (λ times. AreEarliest (plain_options choices.now.options)
-        lib.now net.now starts.now (micros times.items)) }
-    ensures low { IfOk result (λ times. All (λ (time : MicroOf). time.0 < 9223372036854775808)
-        times.items) }
-    ensures fault { IfErr result (IsCoverFault lib.now net.now starts.now choices.now) }
-{
-    let _ = lib.len();
-    let _ = net.inputs();
-    let cost = DelayCost::new(lib, starts);
-    let labelled = label(alloc, &choices.graph, pats, &cost, Labeller::Rounds)?;
-    match labels_of(alloc, labelled.labels.marks(), choices.roots.as_slice()) {
-        Ok(times) => Ok(times),
-        Err(ExtractFault::NoCover(place)) => Err(MapFault::NoCover(output_name(
-            alloc, net, place,
-        )?)),
-        Err(ExtractFault::Memory) => Err(MapFault::Memory),
-    }
-}
-
 // The latest of some times, and at least the deadline.
 fn latest_of(deadline: Micro, times: &[Micro]) -> Micro
     ensures { result.0 ≡ latest_of deadline.0 (micros times.now) }
@@ -110,86 +77,108 @@ fn put_off(alloc: Global, times: &[Micro], deadline: Micro) -> Result<Vec<Micro>
     Ok(later)
 }
 
-// The netlist of least area by a deadline, where these are the least times of the outputs.
-fn in_time(
-    alloc: Global,
-    lib: &Library,
-    net: &Network,
-    starts: &Micros,
-    choices: &Choices,
-    pats: &Patterns,
-    times: Vec<Micro>,
-    deadline: Micro,
-) -> Result<Netlist, MapFault>
-    requires choices { AreChoicesOf net.now choices.now }
-    requires outputs { IsDistinct bytes_eq (output_names net.now) }
-    requires early { All IsSmall starts.now }
-    requires late { IsSmall deadline }
-    requires patterns { pats.now ≡ library_patterns lib.now }
-    requires of_cells { AreOfCells (area_cost lib.now).pin_counts pats.now }
-    requires earliest { AreEarliest (plain_options choices.now.options) lib.now net.now starts.now
-        (micros times.items) }
-    requires low { All (λ (time : MicroOf). time.0 < 9223372036854775808) times.items }
-    ensures traded { IfOk result (IsTradedNetlist (plain_options choices.now.options) lib.now
-        net.now starts.now (Some deadline)) }
-    ensures few { IfOk result (λ n. HasFewPoints (plain_options choices.now.options) lib.now
-        net.now starts.now (Some deadline)) }
-    ensures fault { IfErr result (IsTradeFault lib.now net.now starts.now choices.now
-        (Some deadline)) }
-{
-    let _ = lib.len();
-    let _ = net.inputs();
-    let graph = &choices.graph;
-    let horizon = latest_of(deadline, times.as_slice());
-    let curves = curves(alloc, graph, pats, lib, starts, horizon)?;
-    let later = put_off(alloc, times.as_slice(), deadline)?;
-    let ports = ports(alloc, net, choices)?;
-    let targets = Targets {
-        model: ports.model,
-        inputs: ports.inputs,
-        outputs: ports.outputs,
-        roots: ports.roots,
-        times: Micros::from_vec(later),
-    };
-    let netlist = trade(alloc, graph, pats, lib, starts, &curves, &targets)?;
-    let _ = netlist.gates();
-    Ok(netlist)
+// The choices of a network, the cells that they are covered by, and when the inputs start.
+#[derive(Drop)]
+struct Problem<'a> {
+    lib: &'a Library,
+    net: &'a Network,
+    starts: &'a Micros,
+    choices: &'a Choices,
+    pats: Patterns,
+    ghost library: { IsLibrary lib.now },
+    ghost network: { IsNetwork net.now },
+    ghost chosen: { AreChoicesOf net.now choices.now },
+    ghost outputs: { IsDistinct bytes_eq (output_names net.now) },
+    ghost early: { All IsSmall starts.now },
+    ghost patterns: { pats ≡ library_patterns lib.now },
+    ghost of_cells: { AreOfCells (area_cost lib.now).pin_counts pats },
 }
 
-// The netlist of least area, where each output has a cover.
-fn at_any_time(
-    alloc: Global,
-    lib: &Library,
-    net: &Network,
-    choices: &Choices,
-    pats: &Patterns,
-) -> Result<Netlist, MapFault>
-    requires choices { AreChoicesOf net.now choices.now }
-    requires outputs { IsDistinct bytes_eq (output_names net.now) }
-    requires patterns { pats.now ≡ library_patterns lib.now }
-    requires of_cells { AreOfCells (area_cost lib.now).pin_counts pats.now }
-    requires covered { (starts : List MicroOf) × (times : List ℕ) ×
-        AreEarliest (plain_options choices.now.options) lib.now net.now starts times }
-    ensures traded { IfOk result (λ n. (starts : List MicroOf) (times : List ℕ) →
-        AreEarliest (plain_options choices.now.options) lib.now net.now starts times →
-        IsTradedNetlist (plain_options choices.now.options) lib.now net.now starts None n) }
-    ensures memory { IfErr result (λ e. e ≡ MapFault.Memory) }
-{
-    let _ = lib.len();
-    let _ = net.inputs();
-    let cost = AreaCost::new(lib);
-    let labelled = label(alloc, &choices.graph, pats, &cost, Labeller::Rounds)?;
-    let labels = labelled.labels;
-    let bounds = labelled.bounds.as_ref();
-    let ports = ports(alloc, net, choices)?;
-    let graph = &choices.graph;
-    match extract_with(alloc, graph, pats, lib, &labels, bounds, &ports, &cost) {
-        Ok(cover) => {
-            let _ = cover.netlist.gates();
-            Ok(cover.netlist)
+impl<'a> Problem<'a> {
+    // The least time of each output.
+    fn earliest(&self, alloc: Global) -> Result<Vec<Micro>, MapFault>
+        ensures earliest { IfOk result (λ times. AreEarliest
+            (plain_options self.now.choices.now.options) self.now.lib.now self.now.net.now
+            self.now.starts.now (micros times.items)) }
+        ensures low { IfOk result (λ times. All (λ (time : MicroOf). time.0 < 9223372036854775808)
+            times.items) }
+        ensures fault { IfErr result (IsCoverFault self.now.lib.now self.now.net.now
+            self.now.starts.now self.now.choices.now) }
+    {
+        let cost = DelayCost::new(self.lib, self.starts);
+        let graph = &self.choices.graph;
+        let labelled = label(alloc, graph, &self.pats, &cost, Labeller::Rounds)?;
+        match labels_of(
+            alloc,
+            labelled.labels.marks(),
+            self.choices.roots.as_slice(),
+        ) {
+            Ok(times) => Ok(times),
+            Err(ExtractFault::NoCover(place)) => Err(MapFault::NoCover(output_name(
+                alloc, self.net, place,
+            )?)),
+            Err(ExtractFault::Memory) => Err(MapFault::Memory),
         }
-        Err(ExtractFault::NoCover(_)) => unreachable!(),
-        Err(ExtractFault::Memory) => Err(MapFault::Memory),
+    }
+
+    // The netlist of least area by a deadline, where these are the least times of the outputs.
+    fn in_time(
+        &self,
+        alloc: Global,
+        times: Vec<Micro>,
+        deadline: Micro,
+    ) -> Result<Netlist, MapFault>
+        requires late { IsSmall deadline }
+        requires earliest { AreEarliest (plain_options self.now.choices.now.options)
+            self.now.lib.now self.now.net.now self.now.starts.now (micros times.items) }
+        requires low { All (λ (time : MicroOf). time.0 < 9223372036854775808) times.items }
+        ensures traded { IfOk result (IsTradedNetlist (plain_options self.now.choices.now.options)
+            self.now.lib.now self.now.net.now self.now.starts.now (Some deadline)) }
+        ensures few { IfOk result (λ n. HasFewPoints (plain_options self.now.choices.now.options)
+            self.now.lib.now self.now.net.now self.now.starts.now (Some deadline)) }
+        ensures fault { IfErr result (IsTradeFault self.now.lib.now self.now.net.now
+            self.now.starts.now self.now.choices.now (Some deadline)) }
+    {
+        let (graph, pats, lib, starts) = (&self.choices.graph, &self.pats, self.lib, self.starts);
+        let horizon = latest_of(deadline, times.as_slice());
+        let curves = curves(alloc, graph, pats, lib, starts, horizon)?;
+        let later = put_off(alloc, times.as_slice(), deadline)?;
+        let ports = ports(alloc, self.net, self.choices)?;
+        let targets = Targets {
+            model: ports.model,
+            inputs: ports.inputs,
+            outputs: ports.outputs,
+            roots: ports.roots,
+            times: Micros::from_vec(later),
+        };
+        let netlist = trade(alloc, graph, pats, lib, starts, &curves, &targets)?;
+        let _ = netlist.gates();
+        Ok(netlist)
+    }
+
+    // The netlist of least area, where each output has a cover.
+    fn at_any_time(&self, alloc: Global) -> Result<Netlist, MapFault>
+        requires { (times : List ℕ) × AreEarliest
+            (plain_options self.now.choices.now.options) self.now.lib.now self.now.net.now
+            self.now.starts.now times }
+        ensures traded { IfOk result (IsTradedNetlist (plain_options self.now.choices.now.options)
+            self.now.lib.now self.now.net.now self.now.starts.now None) }
+        ensures memory { IfErr result (λ e. e ≡ MapFault.Memory) }
+    {
+        let cost = AreaCost::new(self.lib);
+        let (graph, pats, lib) = (&self.choices.graph, &self.pats, self.lib);
+        let labelled = label(alloc, graph, pats, &cost, Labeller::Rounds)?;
+        let labels = labelled.labels;
+        let bounds = labelled.bounds.as_ref();
+        let ports = ports(alloc, self.net, self.choices)?;
+        match extract_with(alloc, graph, pats, lib, &labels, bounds, &ports, &cost) {
+            Ok(cover) => {
+                let _ = cover.netlist.gates();
+                Ok(cover.netlist)
+            }
+            Err(ExtractFault::NoCover(_)) => unreachable!(),
+            Err(ExtractFault::Memory) => Err(MapFault::Memory),
+        }
     }
 }
 
@@ -219,9 +208,16 @@ pub fn exchange(
     let _ = lib.len();
     let _ = net.inputs();
     let pats = patterns(alloc, lib)?;
-    let times = earliest(alloc, lib, net, starts, choices, &pats)?;
+    let problem = Problem {
+        lib,
+        net,
+        starts,
+        choices,
+        pats,
+    };
+    let times = problem.earliest(alloc)?;
     match deadline {
-        Some(deadline) => in_time(alloc, lib, net, starts, choices, &pats, times, deadline),
-        None => at_any_time(alloc, lib, net, choices, &pats),
+        Some(deadline) => problem.in_time(alloc, times, deadline),
+        None => problem.at_any_time(alloc),
     }
 }

@@ -26,7 +26,7 @@ use Rattle.lw_top.specs.Traded.{AsksForTrade, IsTrade, LacksTradedOutput}
 use Rattle.lw_top.proofs.Steps.{IsLast, last-ok, last-err}
 use Rattle.lw_top.proofs.InRange.{command_in_range}
 use Rattle.lw_top.proofs.Sound.{asked_some, cells_kept, model_kept}
-use Rattle.lw_top.proofs.Accepted.{names_read}
+use Rattle.lw_top.proofs.Asked.{names_read}
 use Rattle.lw_top.proofs.TradedNames.{traded_named}
 
 -- no step before the mapping refuses for want of a cover

@@ -18,9 +18,7 @@ pub mod Telling
 pub mod Complete
 pub mod Mappings
 pub mod Texts
-pub mod Checked
 pub mod Tables
 pub mod Trades
 pub mod Traded
 pub mod Tabled
-pub mod Backs

@@ -4,7 +4,7 @@
 mod answer;
 mod counting;
 mod kinds;
-pub mod laws;
+mod laws;
 mod mapping;
 mod outcome;
 mod putting;
@@ -21,5 +21,6 @@ mod trading;
 mod verilog;
 mod words;
 
+pub use laws::answers_are_tables;
 pub use lw_big::generate;
 pub use top::run;

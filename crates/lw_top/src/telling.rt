@@ -89,27 +89,17 @@ fn put_refusal<E: Sink>(
     match refusal {
         Refusal::Words => put(err, waiting, USAGE),
         Refusal::Unread(w) => put_two(err, waiting, b"cannot read ", file_word(command, *w)),
-        Refusal::TooLong(w) => put_three(
-            err,
-            waiting,
-            b"limit: ",
-            file_word(command, *w),
-            TOO_LONG,
-        ),
-        Refusal::Library(line, kind) => put_broken(err, waiting, library, *line, lib_text(kind)),
-        Refusal::Network(line, kind) => put_broken(err, waiting, network, *line, blif_text(kind)),
+        Refusal::TooLong(w) => put_three(err, waiting, LIMIT, file_word(command, *w), TOO_LONG),
+        Refusal::Library(n, kind) => put_broken(err, waiting, library, *n, lib_text(kind)),
+        Refusal::Network(n, kind) => put_broken(err, waiting, network, *n, blif_text(kind)),
         Refusal::Undefined(s) => put_three(err, waiting, network, UNDEFINED, s.as_bytes()),
         Refusal::Cycle(s) => put_three(err, waiting, network, CYCLE, s.as_bytes()),
-        Refusal::Mapped(line, kind) => {
-            put_broken(err, waiting, mapped, *line, mapped_kind_text(kind))
-        }
-        Refusal::Verilog(line, kind) => {
-            put_broken(err, waiting, mapped, *line, verilog_kind_text(kind))
-        }
+        Refusal::Mapped(n, kind) => put_broken(err, waiting, mapped, *n, mapped_kind_text(kind)),
+        Refusal::Verilog(n, kind) => put_broken(err, waiting, mapped, *n, verilog_kind_text(kind)),
         Refusal::Twice(net) => put_four(err, waiting, mapped, NET, net.as_bytes(), TWICE),
         Refusal::Undriven(net) => put_four(err, waiting, mapped, NET, net.as_bytes(), UNDRIVEN),
         Refusal::NetCycle(net) => put_three(err, waiting, mapped, CYCLE, net.as_bytes()),
-        Refusal::Vector(line) => put_broken(err, waiting, vectors, *line, b"bad vector"),
+        Refusal::Vector(n) => put_broken(err, waiting, vectors, *n, b"bad vector"),
         Refusal::Forms => put(err, waiting, b"limit: more than 2097152 forms"),
         Refusal::Splits => put(err, waiting, b"limit: more than 16777216 splits"),
         Refusal::NoCover(s) => put_two(err, waiting, b"no cover for output ", s.as_bytes()),
@@ -135,6 +125,8 @@ fn put_unsaid<E: Sink>(err: &mut E, waiting: &mut Waiting, why: &NoVerilog)
     put(err, waiting, b"no verilog: ");
     put_no_verilog(err, waiting, why);
 }
+
+const LIMIT: &[u8] = b"limit: ";
 
 const TOO_LONG: &[u8] = b" has more than 67108864 bytes";
 

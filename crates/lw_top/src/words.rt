@@ -2,8 +2,9 @@
 ghost use Rattle.std.specs.Prelude.{◌≡◌, None, Some, map, string_bytes, option_map, MatchOption};
 ghost use Rattle.std.specs.List.{list_all};
 ghost use Rattle.std.specs.Char.{is_ascii_digit};
-ghost use Rattle.lw_top.specs.Words.{width_of, is_file_word, two, three, one_file, two_files, three_files, with_mode, with_width, begun_by, is_numeral, number_of, seed_of, count_of, certified_of, mapping_begun, checking_begun, counting_begun, leaves_of, tabling_begun, deadline_of, traded_of, trading_begun, timing_of, simulation_of, drawing_of, to_verilog_of, from_verilog_of, named, command_of, file_word};
-ghost use Rattle.lw_top.specs.Commands.{plain_begun, asked};
+ghost use Rattle.lw_top.specs.Words.{width_of, is_file_word, two, three, one_file, two_files, three_files, with_mode, with_width, begun_by, is_numeral, number_of, seed_of, count_of, certified_of, mapping_begun, checking_begun, counting_begun, leaves_of, tabling_begun, deadline_of, traded_of, trading_begun, timing_of, simulation_of, drawing_of, to_verilog_of, from_verilog_of, named, command_of, file_in, file_word};
+ghost use Rattle.lw_top.specs.declared.refusal.Which.TheVariants as which;
+ghost use Rattle.lw_top.specs.Commands.{plain_begun, plain_command, asked};
 ghost use Rattle.lw_map.specs.Options.{plain_options};
 
 use crate::refusal::Which;
@@ -360,49 +361,74 @@ pub fn command_of(words: &[String]) -> Option<Command<'_>>
     }
 }
 
+// The file of the library, if the command reads one.
+fn library_word<'a>(command: Command<'a>) -> &'a str
+    ensures { result.now ≡ file_in (plain_command command.entry) which.Library }
+{
+    match command {
+        Command::Mapping(_, _, library, _)
+        | Command::Checking(_, library, _, _)
+        | Command::Timing(library, _)
+        | Command::GateSimulation(library, _, _)
+        | Command::Drawing(_, _, library)
+        | Command::ToVerilog(library, _)
+        | Command::FromVerilog(library, _)
+        | Command::Trading(_, _, library, _) => library,
+        _ => "",
+    }
+}
+
+// The file of the network.
+fn network_word<'a>(command: Command<'a>) -> &'a str
+    ensures { result.now ≡ file_in (plain_command command.entry) which.Network }
+{
+    match command {
+        Command::Mapping(_, _, _, network)
+        | Command::Checking(_, _, network, _)
+        | Command::Simulation(network, _)
+        | Command::Counting(_, network)
+        | Command::Tabling(_, _, network)
+        | Command::Trading(_, _, _, network) => network,
+        _ => "",
+    }
+}
+
+// The file of the netlist, mapped or in Verilog.
+fn mapped_word<'a>(command: Command<'a>) -> &'a str
+    ensures { result.now ≡ file_in (plain_command command.entry) which.Mapped }
+{
+    match command {
+        Command::Checking(_, _, _, mapped)
+        | Command::Timing(_, mapped)
+        | Command::GateSimulation(_, mapped, _)
+        | Command::ToVerilog(_, mapped)
+        | Command::FromVerilog(_, mapped) => mapped,
+        _ => "",
+    }
+}
+
+// The file of the vectors.
+fn vectors_word<'a>(command: Command<'a>) -> &'a str
+    ensures { result.now ≡ file_in (plain_command command.entry) which.Vectors }
+{
+    match command {
+        Command::Simulation(_, vectors) | Command::GateSimulation(_, _, vectors) => vectors,
+        _ => "",
+    }
+}
+
 /// The word of a file.
 pub fn file_word<'a>(command: Option<Command<'a>>, which: Which) -> &'a [u8]
     ensures { result.now ≡ file_word (asked command.entry) which }
 {
-    match (command, which) {
-        (
-            Some(
-                Command::Mapping(_, _, library, _)
-                | Command::Checking(_, library, _, _)
-                | Command::Timing(library, _)
-                | Command::GateSimulation(library, _, _)
-                | Command::Drawing(_, _, library)
-                | Command::ToVerilog(library, _)
-                | Command::FromVerilog(library, _)
-                | Command::Trading(_, _, library, _),
-            ),
-            Which::Library,
-        ) => library.as_bytes(),
-        (
-            Some(
-                Command::Mapping(_, _, _, network)
-                | Command::Checking(_, _, network, _)
-                | Command::Simulation(network, _)
-                | Command::Counting(_, network)
-                | Command::Tabling(_, _, network)
-                | Command::Trading(_, _, _, network),
-            ),
-            Which::Network,
-        ) => network.as_bytes(),
-        (
-            Some(
-                Command::Checking(_, _, _, mapped)
-                | Command::Timing(_, mapped)
-                | Command::GateSimulation(_, mapped, _)
-                | Command::ToVerilog(_, mapped)
-                | Command::FromVerilog(_, mapped),
-            ),
-            Which::Mapped,
-        ) => mapped.as_bytes(),
-        (
-            Some(Command::Simulation(_, vectors) | Command::GateSimulation(_, _, vectors)),
-            Which::Vectors,
-        ) => vectors.as_bytes(),
-        _ => b"",
-    }
+    let Some(command) = command else {
+        return b"";
+    };
+    let word = match which {
+        Which::Library => library_word(command),
+        Which::Network => network_word(command),
+        Which::Mapped => mapped_word(command),
+        Which::Vectors => vectors_word(command),
+    };
+    word.as_bytes()
 }

@@ -59,9 +59,9 @@ use Rattle.lw_map.proofs.PortNames.{few_outputs}
 use Rattle.lw_map.proofs.Ranges.{unfolds_low, label_below}
 use Rattle.lw_top.specs.Maps.{HasCertificate}
 use Rattle.lw_top.specs.Checks.{HasVerdict}
-use Rattle.lw_top.specs.Checked.{AreApart}
-use Rattle.lw_top.proofs.FormGraphs.{form_graph}
-use Rattle.lw_top.proofs.NetNames.{nets-named}
+use Rattle.lw_answers.specs.Checked.{AreApart}
+use Rattle.lw_answers.proofs.FormGraphs.{form_graph}
+use Rattle.lw_answers.proofs.NetNames.{nets-named}
 use Rattle.lw_top.proofs.SignalNames.{IsNamed}
 use Rattle.lw_top.proofs.Sound.{AreKept}
 use Rattle.lw_words.specs.Words.{IsSignalName}

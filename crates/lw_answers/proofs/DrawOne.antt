@@ -31,8 +31,8 @@ use Rattle.lw_top.specs.Steps.{Files}
 use Rattle.lw_top.specs.Words.{IsCount}
 use Rattle.lw_top.specs.Maps.{LacksMapping}
 use Rattle.lw_top.specs.Counts.{drawing_options, at_once, sizes_text, IsSizeText, Draws}
-use Rattle.lw_top.proofs.Closed.{network_one}
-use Rattle.lw_top.proofs.CheckOne.{graph_one}
+use Rattle.lw_answers.proofs.Closed.{network_one}
+use Rattle.lw_answers.proofs.CheckOne.{graph_one}
 use Rattle.lw_top.proofs.MapAnswers.{lack_one, not_both}
 
 pub drawing_wide : IsWide drawing_options

@@ -33,15 +33,15 @@ use Rattle.lw_top.specs.Traded.{AsksForTrade}
 use Rattle.lw_top.specs.Words.{Command, mapping, checking, timing, simulation, gate_simulation, counting, tabling, drawing, to_verilog, from_verilog, trading, command_of, IsInRange, IsCount}
 use Rattle.lw_top.specs.Answers.{text_of, marked_lines_in, HasCells, HasModel, HasMapped, HasVerilog, HasVectors, ReadsLibrary, ReadsModel, ReadsMapped, ReadsVerilog, ReadsVectors, IsMappingAnswer, IsCheckAnswer, IsTimingAnswer, IsSimulationAnswer, IsGateSimulationAnswer, IsCountAnswer, IsTablingAnswer, IsDrawingAnswer, IsToVerilogAnswer, IsFromVerilogAnswer, IsTradingAnswer, IsCommandAnswer, asked_for, IsAnswer, AreAlike}
 use Rattle.lw_top.specs.Mappings.{AsksForTables}
-use Rattle.lw_top.proofs.Closed.{has_one_model}
+use Rattle.lw_answers.proofs.Closed.{has_one_model}
 use Rattle.lw_top.proofs.InRange.{command_in_range}
 use Rattle.lw_top.proofs.Sound.{asked_some, cells_kept, AreKept, model_kept, IsReadBy, mapped_kept, claim_kept}
 use Rattle.lw_top.proofs.MapAnswers.{maps_one}
-use Rattle.lw_top.proofs.CheckOne.{checks_one, counts_one, tables_alike}
-use Rattle.lw_top.proofs.DrawOne.{draws_one}
+use Rattle.lw_answers.proofs.CheckOne.{checks_one, counts_one, tables_alike}
+use Rattle.lw_answers.proofs.DrawOne.{draws_one}
 use Rattle.lw_top.proofs.TradeAnswers.{trades_alike}
 use Rattle.lw_top.specs.Verilogs.{SaysVerilog, SaysMapped}
-use Rattle.lw_top.proofs.VerilogOne.{verilog_one, says_one, mapped_said_one}
+use Rattle.lw_answers.proofs.VerilogOne.{verilog_one, says_one, mapped_said_one}
 
 abbrev Any : {A : Type 0} → A → Type 0
 Any x = Unit {0}

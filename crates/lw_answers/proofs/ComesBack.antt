@@ -11,10 +11,11 @@ use Rattle.lw_top.specs.Steps.{Files}
 use Rattle.lw_top.specs.Words.{to_verilog, from_verilog}
 use Rattle.lw_top.specs.Answers.{ReadsLibrary, ReadsMapped, IsToVerilogAnswer, asked_for, IsAnswer}
 use Rattle.lw_top.specs.Verilogs.{SaysVerilog}
-use Rattle.lw_top.specs.Backs.{IsBackOf, ComesBack}
-use Rattle.lw_top.proofs.Accepted.{library_again, text_there, asked_text}
+use Rattle.lw_answers.specs.Backs.{IsBackOf, ComesBack}
+use Rattle.lw_answers.proofs.Accepted.{library_again, text_there}
+use Rattle.lw_top.proofs.Asked.{asked_text}
 use Rattle.lw_top.proofs.Sound.{cells_kept, mapped_kept}
-use Rattle.lw_top.proofs.Writable.{writable}
+use Rattle.lw_answers.proofs.Writable.{writable}
 
 -- the cells, the netlist and the text
 record IsSaid (library mapped : List ℕ) (files : Files) (text : List ℕ) : Type 0 where

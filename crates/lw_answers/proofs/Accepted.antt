@@ -1,5 +1,5 @@
 -- What was written of a mapping with its certificate is accepted by a check over the same library and network.
-use Rattle.std.proofs.Common.{ℕ, ◌≤◌, ◌≡◌, inl, inr, true, cond, List, length, Option, Some, None, Ok, Err, refl, ap, sym, ◌∙◌, subst, arith}
+use Rattle.std.proofs.Common.{ℕ, ◌≤◌, ◌≡◌, inl, inr, true, cond, List, length, Option, Some, None, Ok, Err, refl, ap, ◌∙◌, subst, arith}
 use Rattle.std.specs.Prelude.{nat_le}
 use Rattle.std.proofs.lemmas.Bool.Decides.{nat_tests}
 use Rattle.lw_blif.specs.declared.parsed.Parsed.{Parsed}
@@ -13,17 +13,18 @@ use Rattle.lw_top.specs.declared.refusal.Refusal.TheVariants.{TooLong}
 use Rattle.lw_top.specs.declared.refusal.Which.{Which}
 use Rattle.lw_top.specs.declared.refusal.Which.TheVariants as which
 use Rattle.lw_top.specs.Steps.{Files}
-use Rattle.lw_top.specs.Words.{Command, mapping, checking, command_of}
+use Rattle.lw_top.specs.Words.{mapping, checking}
 use Rattle.lw_top.specs.Maps.{IsAskedFor, IsMappedText, Maps}
 use Rattle.lw_top.specs.Checks.{yes_text}
-use Rattle.lw_top.specs.Answers.{within_limit, text_of, ReadsLibrary, ReadsModel, asked_for, IsCheckAnswer, IsCommandAnswer, IsAnswer}
-use Rattle.lw_top.specs.Checked.{AreApart, IsCheckOf}
+use Rattle.lw_top.specs.Answers.{within_limit, text_of, ReadsLibrary, ReadsModel, asked_for, IsCheckAnswer, IsAnswer}
+use Rattle.lw_answers.specs.Checked.{AreApart, IsCheckOf}
 use Rattle.lw_top.proofs.InRange.{command_in_range}
-use Rattle.lw_top.proofs.SignalNames.{IsNamed, model_named}
-use Rattle.lw_top.proofs.Sound.{AreKept, asked_some, cells_kept, model_kept}
+use Rattle.lw_top.proofs.SignalNames.{IsNamed}
+use Rattle.lw_top.proofs.Asked.{asked_text, names_read}
+use Rattle.lw_top.proofs.Sound.{AreKept, cells_kept, model_kept}
 use Rattle.lw_top.proofs.Steps.{last-ok}
 use Rattle.lw_mapped.specs.Alike.{AreSameMapped}
-use Rattle.lw_top.proofs.MappedChecks.{readable, accepted_text}
+use Rattle.lw_answers.proofs.MappedChecks.{readable, accepted_text}
 
 -- Reading once more.
 
@@ -42,19 +43,6 @@ unfolding text_of
 text_there w name text files there few =
     let short : nat_le (length text) 67108864 ≡ true = grind (arith, nat_tests) in
     ap (within_limit w) there ∙ ap (λ b. cond b (Ok text) (Err (TooLong w))) short
-
-pub names_read : (name : List ℕ) (files : Files) (model : Parsed) → ReadsModel name files (Ok model) → IsNamed model
-names_read name files model (inl (bytes, text, is)) = model_named bytes model is
-names_read name files model (inr (e, refused, is)) = cc
-
--- Commands.
-
-pub asked_text : (words : List (List ℕ)) (files : Files) (c : Command) (text : List ℕ) → command_of words ≡ Some c → IsAnswer words files (Ok text) → IsCommandAnswer c files (Ok text)
-asked_text words files c text form (inl (d, is, comes)) =
-    let both : Some d ≡ Some c = sym (asked_some (command_of words) d is) ∙ form in
-    let same : d ≡ c = cc in
-    subst (λ (x : Command). IsCommandAnswer x files (Ok text)) same comes
-asked_text words files c text form (inr (e, refused, is)) = cc
 
 module _ (options : Options) (cells : List CellParts) (model : Parsed) (wide : IsWide options) (kept : AreKept model) (named : IsNamed model) (lib : IsLibrary cells) (apart : AreApart cells) (text : List ℕ) (is : IsMappedText options true cells model text) where
   check_accepts : (library network mapped : List ℕ) (files : Files) → ReadsLibrary library files (Ok cells) → ReadsModel network files (Ok model) → files mapped ≡ Some text → length text ≤ 67108864 → IsCheckAnswer options library network mapped files (Ok yes_text)

@@ -17,7 +17,7 @@ use Rattle.lw_top.specs.Mappings.{AreRead}
 use Rattle.lw_top.specs.Answers.{asked_for, IsMappingAnswer, IsCommandAnswer, IsAnswer, status_in}
 use Rattle.lw_top.proofs.InRange.{command_in_range}
 use Rattle.lw_top.proofs.Sound.{asked_some, cells_kept, model_kept}
-use Rattle.lw_top.proofs.One.{library_one, model_read_one}
+use Rattle.lw_answers.proofs.One.{library_one, model_read_one}
 use Rattle.lw_top.proofs.MapAnswers.{Lack, of_forms, of_splits, of_cover, by_lack}
 
 contained : (outputs : List NetId) (place : ℕ) (root : NetId) → slice_get outputs place ≡ Some root → Contains outputs root

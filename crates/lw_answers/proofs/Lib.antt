@@ -1,0 +1,12 @@
+pub mod Closed
+pub mod CheckOne
+pub mod DrawOne
+pub mod VerilogOne
+pub mod One
+pub mod Uncovered
+pub mod FormGraphs
+pub mod NetNames
+pub mod MappedChecks
+pub mod Accepted
+pub mod Writable
+pub mod ComesBack

@@ -1,0 +1,67 @@
+//! Laws over definitions: functions with empty bodies, whose clauses are the laws.
+ghost use Rattle.std.specs.Prelude.{◌≡◌, ◌↔◌, ℕ, Bool, List, Result, Ok, Contains};
+ghost use Rattle.lw_pool.specs.declared.id.NetId.{NetId};
+ghost use Rattle.lw_genlib.specs.Cells.{CellParts};
+ghost use Rattle.lw_blif.specs.declared.parsed.Parsed.{Parsed};
+ghost use Rattle.lw_top.specs.Steps.{Files};
+ghost use Rattle.lw_map.specs.Options.{Options};
+ghost use Rattle.lw_map.specs.Mapped.{IsWithinLimits, IsUncovered};
+ghost use Rattle.lw_top.specs.Answers.{AreAlike, IsAnswer, status_in};
+ghost use Rattle.lw_answers.specs.Backs.{IsBackOf, ComesBack};
+ghost use Rattle.lw_top.specs.Checks.{yes_text};
+ghost use Rattle.lw_answers.specs.Checked.{IsCheckOf};
+ghost use Rattle.lw_top.specs.Mappings.{AsksForMapping, AsksForTables, AreRead, IsMappingText};
+ghost use Rattle.lw_top.specs.Traded.{AsksForTrade, IsTrade};
+ghost use Rattle.lw_top.specs.declared.refusal.Refusal.{Refusal};
+
+/// Words over known files come to one answer at most. Only where they ask for lookup tables, or for
+/// the least area by a deadline, may there be several texts, and even there one refusal at most,
+/// and then no text.
+pub fn answers_are_one()
+    ensures one { (words : List (List ℕ)) (files : Files) (a b : Result (List ℕ) Refusal) →
+        (AsksForTables words → ⊥) → (AsksForTrade words → ⊥) →
+        IsAnswer words files a → IsAnswer words files b → a ≡ b }
+    ensures refusal { (words : List (List ℕ)) (files : Files) (a b : Result (List ℕ) Refusal) →
+        IsAnswer words files a → IsAnswer words files b → AreAlike (λ text other. Unit {0}) a b }
+{}
+
+/// Where a mapping is asked for, an answer with a text is the text of a mapping.
+pub fn answers_are_mappings()
+    ensures { (words : List (List ℕ)) (files : Files) (text : List ℕ) → AsksForMapping words →
+        IsAnswer words files (Ok text) → IsMappingText words files text }
+{}
+
+/// Where the least area by a deadline is asked for, an answer with a text is the text of a netlist
+/// that computes the roots of the network that was read, each in time and at its least area.
+pub fn answers_are_trades()
+    ensures { (words : List (List ℕ)) (files : Files) (text : List ℕ) → AsksForTrade words →
+        IsAnswer words files (Ok text) → IsTrade words files text }
+{}
+
+/// Where the words ask for a mapping of a network that is within the limits, the answer is that
+/// there is no cover exactly where some root has none: no tree that the laws derive for it has a
+/// cover by the library's cells.
+pub fn uncovered_roots_are_refused()
+    ensures { (words : List (List ℕ)) (files : Files) (options : Options) (certified : Bool)
+        (cells : List CellParts) (model : Parsed) (a : Result (List ℕ) Refusal)
+        → AreRead words files options certified cells model → IsWithinLimits options model.network →
+        IsAnswer words files a
+        → (status_in a ≡ 6) ↔ ((root : NetId) × Contains model.network.outputs root ×
+        IsUncovered options cells model.network model.starts root) }
+{}
+
+/// What a mapping wrote with its certificate is accepted by a check over the same library and
+/// network, by the same options.
+pub fn written_mappings_are_accepted()
+    ensures { (words checks : List (List ℕ)) (files others : Files) (text : List ℕ)
+        → IsCheckOf words files text checks others → IsAnswer words files (Ok text) →
+        IsAnswer checks others (Ok yes_text) }
+{}
+
+/// What was written in Verilog is read back: where a text in Verilog was written of a mapped
+/// netlist, the mapped text of that netlist is the answer to the text, over the same library.
+pub fn verilog_reads_back()
+    ensures { (words backs : List (List ℕ)) (files others : Files) (text : List ℕ) →
+        IsBackOf words files text backs others → IsAnswer words files (Ok text) →
+        ComesBack words files backs others }
+{}

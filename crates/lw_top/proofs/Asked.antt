@@ -1,0 +1,19 @@
+-- What an answer to words says of the command that they are, and of the network that was read.
+use Rattle.std.proofs.Common.{ℕ, ◌≡◌, inl, inr, List, Some, Ok, sym, ◌∙◌, subst}
+use Rattle.lw_blif.specs.declared.parsed.Parsed.{Parsed}
+use Rattle.lw_top.specs.Steps.{Files}
+use Rattle.lw_top.specs.Words.{Command, command_of}
+use Rattle.lw_top.specs.Answers.{ReadsModel, IsCommandAnswer, IsAnswer}
+use Rattle.lw_top.proofs.SignalNames.{IsNamed, model_named}
+use Rattle.lw_top.proofs.Sound.{asked_some}
+
+pub names_read : (name : List ℕ) (files : Files) (model : Parsed) → ReadsModel name files (Ok model) → IsNamed model
+names_read name files model (inl (bytes, text, is)) = model_named bytes model is
+names_read name files model (inr (e, refused, is)) = cc
+
+pub asked_text : (words : List (List ℕ)) (files : Files) (c : Command) (text : List ℕ) → command_of words ≡ Some c → IsAnswer words files (Ok text) → IsCommandAnswer c files (Ok text)
+asked_text words files c text form (inl (d, is, comes)) =
+    let both : Some d ≡ Some c = sym (asked_some (command_of words) d is) ∙ form in
+    let same : d ≡ c = cc in
+    subst (λ (x : Command). IsCommandAnswer x files (Ok text)) same comes
+asked_text words files c text form (inr (e, refused, is)) = cc

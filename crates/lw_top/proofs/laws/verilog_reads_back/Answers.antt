@@ -1,5 +1,0 @@
-use Rattle.lw_top.proofs.ComesBack.{comes_back}
-use Rattle.lw_top.proofs.laws.verilog_reads_back.Goals as goal
-
-pub returns : goal.returns
-returns c = λ words backs files others text. comes_back words backs files others text
