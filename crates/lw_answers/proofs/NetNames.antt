@@ -1,31 +1,12 @@
 -- The names of the nets of a mapped netlist are names of the format where those of the inputs and of the outputs are.
-use Rattle.std.proofs.Common.{ℕ, ◌+◌, ◌-◌, ◌^◌, ◌<◌, ◌≤◌, ◌≡◌, ◌==◌, Bool, true, false, not, ◌&&◌, if◌then◌else◌, List, [], ◌∷◌, ◌++◌, length, Option, Some, None, All, refl, ap₂, ◌∙◌, subst, arith}
-use Rattle.std.specs.Prelude.{nat_le}
+use Rattle.std.proofs.Common.{ℕ, ◌+◌, ◌^◌, ◌<◌, ◌≤◌, ◌≡◌, ◌==◌, Bool, true, false, if◌then◌else◌, List, [], ◌∷◌, ◌++◌, length, Option, Some, None, All, refl, subst, arith}
 use Rattle.std.specs.List.{AllByRecursion as Each}
-use Rattle.std.proofs.lemmas.Bool.Decides.{nat_tests}
 use Rattle.std.proofs.lemmas.List.Elements.{All-from_recursion}
-use Rattle.lw_facts.proofs.Tests.{no_stroke_at_end}
-use Rattle.lw_words.specs.Gathering.{IsInk, IsNoHash}
 use Rattle.lw_laws.specs.Names.{free_names, output_name, gate_names, net_names}
 use Rattle.lw_naming.proofs.FreeNames.{enough_free}
-use Rattle.lw_mapped.proofs.GoodWords.{IsGood, stroke-behind, ends_stroke}
-use Rattle.lw_mapped.proofs.WrittenLines.{each-append, each-weaker}
+use Rattle.lw_mapped.proofs.WrittenLines.{each-append}
 use Rattle.lw_words.specs.Words.{IsSignalName}
 use Rattle.lw_lut.proofs.GivenNames.{free_each}
-
--- Numbered names.
-
-no-stroke : (word : List ℕ) → 0 < length word → Each IsGood word → ends_stroke word ≡ false
-no-stroke [] some each = absurd (omega arith)
-no-stroke (b ∷ []) some each = no_stroke_at_end b each.0.2
-no-stroke (b ∷ c ∷ word) some each = stroke-behind b c word ∙ no-stroke (c ∷ word) (omega arith) each.1
-
-good-name : (word : List ℕ) → 0 < length word → length word ≤ 2000 → Each IsGood word → IsSignalName word
-good-name word some few each = record {
-  word = record { some = some; few = omega arith; ink = All-from_recursion IsInk word (each-weaker IsGood IsInk (λ b h. h.0) word each) };
-  no_hash = All-from_recursion IsNoHash word (each-weaker IsGood IsNoHash (λ b h. h.1) word each);
-  ends = let short : nat_le (length word) 2000 ≡ true = grind (arith, nat_tests) in ap₂ (λ a b. a && not b) short (no-stroke word some each);
-}
 
 -- Names of gates.
 
