@@ -34,7 +34,8 @@ fn by_rounds<C: Cost>(
     cost: &C,
 ) -> Result<Labelled, MapFault>
     requires { AreOfCells (C.costs cost.now).pin_counts pats.now }
-    ensures least { IfOk result (λ l. AreLeastMarks graph.now (C.costs cost.now) pats.now l.labels) }
+    ensures least { IfOk result (λ l. AreLeastMarks graph.now (C.costs cost.now) pats.now
+        l.labels) }
     ensures fits { IfOk result (λ l. IfSome l.bounds (λ b. BoundsFit b pats.now graph.now)) }
     ensures bounds { IfOk result (λ l. IfSome l.bounds (λ b. AreBounds b graph.now l.labels)) }
     ensures steps { IfOk result (λ l. l.steps ≡ None) }
@@ -58,7 +59,8 @@ fn settled<C: Cost>(
     requires of_cells { AreOfCells (C.costs cost.now).pin_counts pats.now }
     requires leaves { (i c : ℕ) → slice_get graph.now.leaves i ≡ Some c →
         IsLeastCover graph.now pats.now (C.costs cost.now) c (Some ((C.costs cost.now).leaf i)) }
-    ensures least { IfOk result (λ l. AreLeastMarks graph.now (C.costs cost.now) pats.now l.labels) }
+    ensures least { IfOk result (λ l. AreLeastMarks graph.now (C.costs cost.now) pats.now
+        l.labels) }
     ensures fits { IfOk result (λ l. IfSome l.bounds (λ b. BoundsFit b pats.now graph.now)) }
     ensures bounds { IfOk result (λ l. IfSome l.bounds (λ b. AreBounds b graph.now l.labels)) }
     ensures steps { IfOk result (λ l. AreSteps graph.now pats.now
@@ -93,7 +95,8 @@ pub(crate) fn label<C: Cost>(
     requires of_cells { AreOfCells (C.costs cost.now).pin_counts pats.now }
     requires leaves { (i c : ℕ) → slice_get graph.now.leaves i ≡ Some c →
         IsLeastCover graph.now pats.now (C.costs cost.now) c (Some ((C.costs cost.now).leaf i)) }
-    ensures least { IfOk result (λ l. AreLeastMarks graph.now (C.costs cost.now) pats.now l.labels) }
+    ensures least { IfOk result (λ l. AreLeastMarks graph.now (C.costs cost.now) pats.now
+        l.labels) }
     ensures fits { IfOk result (λ l. IfSome l.bounds (λ b. BoundsFit b pats.now graph.now)) }
     ensures bounds { IfOk result (λ l. IfSome l.bounds (λ b. AreBounds b graph.now l.labels)) }
     ensures steps { IfOk result (λ l. AreStepsBy labeller graph.now pats.now

@@ -68,11 +68,11 @@ pub fn run<F: Shelf, O: Sink, E: Sink>(
         AsksForCheck (map string_bytes words.now.items) → result ≡ 0
         → IsCheckedMapping (map string_bytes words.now.items) (bytes_of files) }
 
-    // At 0, over known files and where lookup tables were asked for, that text is BLIF: a network with
-    // the latches of the network's text, whose nodes have no more fan-ins than were asked for. It
-    // gives each root the network's value under every assignment, and each root is as deep, wires
-    // not counted, as the shallowest of all covers by tables of all trees that the command's laws
-    // derive for it.
+    // At 0, over known files and where lookup tables were asked for, that text is BLIF: a network
+    // with the latches of the network's text, whose nodes have no more fan-ins than were asked for.
+    // It gives each root the network's value under every assignment, and each root is as deep,
+    // wires not counted, as the shallowest of all covers by tables of all trees that the command's
+    // laws derive for it.
     ensures tables { (files : List File) → F.files shelf.old ≡ Some files →
         AsksForTables (map string_bytes words.now.items) → result ≡ 0
         → ((text : List ℕ) × AreTables (map string_bytes words.now.items) (bytes_of files) text
