@@ -195,6 +195,36 @@ keeps_first forms seen e = subst (KeepsSoFar forms 0) (sym e) (fresh_none (kept_
 pub keeps_one : (forms seen : List ℕ) (i : ℕ) → i < length forms → (get_or forms i 0 ≡ 0 → ⊥) → KeepsSoFar forms i seen → KeepsSoFar forms (i + 1) (insert_key (λ a b. a == b) seen (get_or forms i 0))
 keeps_one forms seen i lt ne so = fresh_step seen (get_or forms i 0) (drop (i + 1) forms) ne ∙ (sym (at_drop_more (λ l. seen ++ fresh seen (kept_numbers l)) forms i 0 lt) ∙ so)
 
+-- the test of a list for a number, from either side
+pub holds_turned : (x : ℕ) (ks : List ℕ) → list_any (λ y. y == x) ks ≡ list_any (λ h. x == h) ks
+holds_turned x [] = refl
+holds_turned x (k ∷ ks) = ap₂ (λ a b. a || b) (eq_turned k x) (holds_turned x ks)
+
+-- a list holds the complement of its number at a place
+pub clash_found : (ks : List ℕ) (i : ℕ) → i < length ks → list_any (λ y. y == 1) ks ≡ false → list_any (λ y. y == bit_xor (get_or ks i 0) 1) ks ≡ true → list_any (λ f. list_any (λ h. bit_xor f 1 == h) ks) (drop i ks) ≡ list_any (λ f. list_any (λ h. bit_xor f 1 == h) ks) ks → true ≡ numbers_clash ks
+clash_found ks i lt none there so =
+    let here = sym (holds_turned (bit_xor (get_or ks i 0) 1) ks) ∙ there in
+    let on = λ (l : List ℕ). list_any (λ f. list_any (λ h. bit_xor f 1 == h) ks) l in
+    let some = sym so ∙ (at_drop_more on ks i 0 lt ∙ ap (λ b. b || on (drop (i + 1) ks)) here) in
+    sym (ap₂ (λ a b. a || b) (sym (holds_turned 1 ks) ∙ none) some)
+
+-- and not that one
+pub clash_on : (ks : List ℕ) (i : ℕ) → i < length ks → list_any (λ y. y == bit_xor (get_or ks i 0) 1) ks ≡ false → list_any (λ f. list_any (λ h. bit_xor f 1 == h) ks) (drop i ks) ≡ list_any (λ f. list_any (λ h. bit_xor f 1 == h) ks) ks → list_any (λ f. list_any (λ h. bit_xor f 1 == h) ks) (drop (i + 1) ks) ≡ list_any (λ f. list_any (λ h. bit_xor f 1 == h) ks) ks
+clash_on ks i lt absent so =
+    let here = sym (holds_turned (bit_xor (get_or ks i 0) 1) ks) ∙ absent in
+    let on = λ (l : List ℕ). list_any (λ f. list_any (λ h. bit_xor f 1 == h) ks) l in
+    sym (ap (λ b. b || on (drop (i + 1) ks)) here) ∙ (sym (at_drop_more on ks i 0 lt) ∙ so)
+
+pub keeps_new : (forms seen : List ℕ) (i : ℕ) → i < length forms → (get_or forms i 0 ≡ 0 → ⊥) → list_any (λ y. y == get_or forms i 0) seen ≡ false → KeepsSoFar forms i seen → KeepsSoFar forms (i + 1) (seen ++ get_or forms i 0 ∷ [])
+keeps_new forms seen i lt ne new so =
+    let absent = sym (holds_turned (get_or forms i 0) seen) ∙ new in
+    subst (KeepsSoFar forms (i + 1)) (ap (λ b. if b then seen else seen ++ get_or forms i 0 ∷ []) absent) (keeps_one forms seen i lt ne so)
+
+pub keeps_old : (forms seen : List ℕ) (i : ℕ) → i < length forms → (get_or forms i 0 ≡ 0 → ⊥) → list_any (λ y. y == get_or forms i 0) seen ≡ true → KeepsSoFar forms i seen → KeepsSoFar forms (i + 1) seen
+keeps_old forms seen i lt ne old so =
+    let there = sym (holds_turned (get_or forms i 0) seen) ∙ old in
+    subst (KeepsSoFar forms (i + 1)) (ap (λ b. if b then seen else seen ++ get_or forms i 0 ∷ []) there) (keeps_one forms seen i lt ne so)
+
 pub keeps_zero : (forms seen : List ℕ) (i : ℕ) → i < length forms → get_or forms i 0 ≡ 0 → KeepsSoFar forms i seen → KeepsSoFar forms (i + 1) seen
 keeps_zero forms seen i lt z so = fresh_zero seen (get_or forms i 0) (drop (i + 1) forms) z ∙ (sym (at_drop_more (λ l. seen ++ fresh seen (kept_numbers l)) forms i 0 lt) ∙ so)
 

@@ -1,5 +1,5 @@
 // The And of forms, over numbers of a table.
-ghost use Rattle.std.specs.Prelude.{◌≡◌, ◌==◌, ◌/◌, ◌<◌, ◌≤◌, ℕ, map, length, bit_xor, IfOk};
+ghost use Rattle.std.specs.Prelude.{◌≡◌, ◌==◌, ◌/◌, ◌<◌, ◌≤◌, ℕ, map, length, bit_xor, List, IfOk};
 ghost use Rattle.std.specs.List.{list_any};
 ghost use Rattle.lw_laws.specs.Forms.{conjunction as and_of_forms, disjunction as or_of_forms, runs};
 ghost use Rattle.lw_form.specs.Conjunctions.{kept_numbers, numbers_clash, IsStep, AreClean};
@@ -10,12 +10,16 @@ use crate::FormIds;
 use crate::table::FormTable;
 use indexmap::IndexSet;
 use lw_pool::FormId;
+use smallvec::SmallVec;
 use std::alloc::{AllocError, Global};
 
 // The numbers of true and of its complement.
 const TRUE: u32 = 0;
 
 const FALSE: u32 = 1;
+
+// So many forms are looked through one by one.
+const FEW: usize = 8;
 
 // One step of an And.
 #[derive(Drop)]
@@ -32,6 +36,19 @@ fn kept(alloc: Global, forms: &[u32]) -> Result<IndexSet<u32>, AllocError>
     for form in forms {
         if *form != TRUE {
             kept.insert(*form)?;
+        }
+    }
+    Ok(kept)
+}
+
+// The same of few forms, which take no memory.
+fn few_kept(alloc: Global, forms: &[u32]) -> Result<SmallVec<u32, 8>, AllocError>
+    ensures { IfOk result (λ kept. kept.items ≡ kept_numbers forms.now) }
+{
+    let mut kept = SmallVec::new(alloc);
+    for form in forms {
+        if *form != TRUE && !kept.contains(form) {
+            kept.push(*form)?;
         }
     }
     Ok(kept)
@@ -55,6 +72,22 @@ fn clashes(kept: &IndexSet<u32>) -> bool
     ensures { result ≡ numbers_clash kept.now.keys }
 {
     kept.contains(&FALSE) || holds_complements(kept)
+}
+
+// The same of few forms.
+#[tactic(auto, using(crate::proofs::Conjunctions::holds_turned))]
+fn few_clash(kept: &[u32]) -> bool
+    ensures { result ≡ numbers_clash kept.now }
+{
+    if kept.contains(&FALSE) {
+        return true;
+    }
+    for form in kept {
+        if kept.contains(&(*form ^ 1)) {
+            return true;
+        }
+    }
+    false
 }
 
 // The operands of an And.
@@ -112,6 +145,37 @@ fn grouped(
     Ok(groups)
 }
 
+// The And of what is kept of some forms, or fewer forms with the same And.
+fn combined(
+    alloc: Global,
+    table: &mut FormTable,
+    width: usize,
+    kept: &[u32],
+    clash: bool,
+) -> Result<Step, AllocError>
+    requires low { 2 ≤ width }
+    requires high { width ≤ most_operands }
+    requires kept { (forms : List ℕ) × AreBelow (length (made table.old)) forms ×
+        (kept.now ≡ kept_numbers forms) }
+    requires clash { clash ≡ numbers_clash kept.now }
+    ensures { IfOk result (λ step. (forms : List ℕ) → AreBelow (length (made table.old)) forms →
+        kept.now ≡ kept_numbers forms → IsStep width table.old table.new forms step) }
+{
+    let _count = table.len();
+    if clash {
+        return Ok(Step::Done(FALSE));
+    }
+    if kept.is_empty() {
+        return Ok(Step::Done(TRUE));
+    }
+    if kept.len() <= width {
+        let form = joined(alloc, table, kept)?;
+        return Ok(Step::Done(form));
+    }
+    let groups = grouped(alloc, table, width, kept)?;
+    Ok(Step::Again(groups))
+}
+
 // The And of some forms, or fewer forms with the same And.
 fn shortened(
     alloc: Global,
@@ -124,21 +188,14 @@ fn shortened(
     requires below { AreBelow (length (made table.old)) forms.now }
     ensures { IfOk result (λ step. IsStep width table.old table.new forms.now step) }
 {
-    let _count = table.len();
+    if forms.len() <= FEW {
+        let kept = few_kept(alloc, forms)?;
+        let clash = few_clash(&kept);
+        return combined(alloc, table, width, &kept, clash);
+    }
     let kept = kept(alloc, forms)?;
-    if clashes(&kept) {
-        return Ok(Step::Done(FALSE));
-    }
-    let kept = kept.as_slice();
-    if kept.is_empty() {
-        return Ok(Step::Done(TRUE));
-    }
-    if kept.len() <= width {
-        let form = joined(alloc, table, kept)?;
-        return Ok(Step::Done(form));
-    }
-    let groups = grouped(alloc, table, width, kept)?;
-    Ok(Step::Again(groups))
+    let clash = clashes(&kept);
+    combined(alloc, table, width, kept.as_slice(), clash)
 }
 
 // The And of some forms.
