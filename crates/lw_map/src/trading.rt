@@ -2,17 +2,14 @@
 ghost use Rattle.std.specs.Prelude.{All, IfErr, IfOk, IfSome, List, None, Some, length, map, ℕ, ◌<◌, ◌^◌, ◌≡◌};
 ghost use Rattle.std.specs.List.{IsDistinct};
 ghost use Rattle.std.specs.Str.{bytes_eq};
-ghost use Rattle.lw_genlib.specs.Cells.{IsLibrary, IsSmall};
+ghost use Rattle.lw_genlib.specs.Cells.{IsSmall};
 ghost use Rattle.lw_pool.specs.declared.id.ClassId.{ClassId as Class};
 ghost use Rattle.lw_fixed.specs.declared.micro.Micro.{Micro as MicroOf};
-ghost use Rattle.lw_net.specs.Networks.{IsNetwork, output_names};
-ghost use Rattle.lw_pattern.specs.Libraries.{library_patterns};
-ghost use Rattle.lw_match.specs.Least.{AreOfCells};
-ghost use Rattle.lw_trade.specs.Areas.{area_cost};
+ghost use Rattle.lw_net.specs.Networks.{output_names};
 ghost use Rattle.lw_map.specs.Choices.{AreChoicesOf};
 ghost use Rattle.lw_map.specs.Faults.{IsCoverFault, IsTradeFault};
 ghost use Rattle.lw_map.specs.Options.{plain_options};
-ghost use Rattle.lw_map.specs.Trading.{AreEarliest, HasFewPoints, HaveLabelsTo, IsTradeable, IsTradedNetlist, LacksLabel, latest_of, micros, put_off};
+ghost use Rattle.lw_map.specs.Trading.{AreEarliest, HasFewPoints, HaveLabelsTo, IsProblem, IsTradeable, IsTradedNetlist, LacksLabel, latest_of, micros, put_off};
 
 use crate::covering::ports;
 use crate::labelling::label;
@@ -85,18 +82,12 @@ struct Problem<'a> {
     starts: &'a Micros,
     choices: &'a Choices,
     pats: Patterns,
-    ghost library: { IsLibrary lib.now },
-    ghost network: { IsNetwork net.now },
-    ghost chosen: { AreChoicesOf net.now choices.now },
-    ghost outputs: { IsDistinct bytes_eq (output_names net.now) },
-    ghost early: { All IsSmall starts.now },
-    ghost patterns: { pats ≡ library_patterns lib.now },
-    ghost of_cells: { AreOfCells (area_cost lib.now).pin_counts pats },
 }
 
 impl<'a> Problem<'a> {
     // The least time of each output.
     fn earliest(&self, alloc: Global) -> Result<Vec<Micro>, MapFault>
+        requires { IsProblem self.now }
         ensures earliest { IfOk result (λ times. AreEarliest
             (plain_options self.now.choices.now.options) self.now.lib.now self.now.net.now
             self.now.starts.now (micros times.items)) }
@@ -128,6 +119,7 @@ impl<'a> Problem<'a> {
         times: Vec<Micro>,
         deadline: Micro,
     ) -> Result<Netlist, MapFault>
+        requires problem { IsProblem self.now }
         requires late { IsSmall deadline }
         requires earliest { AreEarliest (plain_options self.now.choices.now.options)
             self.now.lib.now self.now.net.now self.now.starts.now (micros times.items) }
@@ -158,7 +150,8 @@ impl<'a> Problem<'a> {
 
     // The netlist of least area, where each output has a cover.
     fn at_any_time(&self, alloc: Global) -> Result<Netlist, MapFault>
-        requires { (times : List ℕ) × AreEarliest
+        requires problem { IsProblem self.now }
+        requires covered { (times : List ℕ) × AreEarliest
             (plain_options self.now.choices.now.options) self.now.lib.now self.now.net.now
             self.now.starts.now times }
         ensures traded { IfOk result (IsTradedNetlist (plain_options self.now.choices.now.options)

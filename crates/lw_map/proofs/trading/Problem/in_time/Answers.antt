@@ -14,22 +14,22 @@ curves-requires-clause-horizon c =
 
 pub trade-requires-clause-targets : goal.trade-requires-clause-targets
 trade-requires-clause-targets c =
-    are_targets c.args.self.now.net.now c.args.self.now.starts.now c.args.self.now.choices.now c.args.self.now.lib.now c.args.self.now.network c.args.self.now.chosen c.args.times.items c.args.deadline c.requires.earliest c.in_ok-ports.ports c.in_ok-ports.ensures c.from_vec.result
-    (c.from_vec.ensures ∙ (c.in_ok-later.ensures ∙ ap (map (put_off c.args.deadline)) c.as_slice-2.ensures.value)) c.args.self.now.outputs
+    are_targets c.args.self.now.net.now c.args.self.now.starts.now c.args.self.now.choices.now c.args.self.now.lib.now c.requires.problem.network c.requires.problem.chosen c.args.times.items c.args.deadline c.requires.earliest c.in_ok-ports.ports c.in_ok-ports.ensures c.from_vec.result
+    (c.from_vec.ensures ∙ (c.in_ok-later.ensures ∙ ap (map (put_off c.args.deadline)) c.as_slice-2.ensures.value)) c.requires.problem.outputs
 
 pub trade-requires-clause-curves : goal.trade-requires-clause-curves
 trade-requires-clause-curves c =
-    rw c.args.self.now.patterns (curves_for c.args.self.now.net.now c.args.self.now.starts.now c.args.self.now.choices.now c.args.self.now.lib.now c.args.self.now.network c.args.self.now.chosen c.args.times.items c.args.deadline c.requires.earliest c.in_ok-ports.ports c.in_ok-ports.ensures c.from_vec.result
+    rw c.requires.problem.patterns (curves_for c.args.self.now.net.now c.args.self.now.starts.now c.args.self.now.choices.now c.args.self.now.lib.now c.requires.problem.network c.requires.problem.chosen c.args.times.items c.args.deadline c.requires.earliest c.in_ok-ports.ports c.in_ok-ports.ensures c.from_vec.result
     (c.from_vec.ensures ∙ (c.in_ok-later.ensures ∙ ap (map (put_off c.args.deadline)) c.as_slice-2.ensures.value))
-    c.args.self.now.library c.latest_of-horizon.result (c.latest_of-horizon.ensures ∙ ap (λ ts. latest_of c.args.deadline.0 (micros ts)) c.as_slice.ensures.value) c.in_ok-curves.curves (rw c.args.self.now.patterns at c.in_ok-curves.ensures.curves) (rw c.args.self.now.patterns at c.in_ok-curves.ensures.bound) (rw c.args.self.now.patterns at c.in_ok-curves.ensures.ways) c.in_ok-curves.ensures.few)
+    c.requires.problem.library c.latest_of-horizon.result (c.latest_of-horizon.ensures ∙ ap (λ ts. latest_of c.args.deadline.0 (micros ts)) c.as_slice.ensures.value) c.in_ok-curves.curves (rw c.requires.problem.patterns at c.in_ok-curves.ensures.curves) (rw c.requires.problem.patterns at c.in_ok-curves.ensures.bound) (rw c.requires.problem.patterns at c.in_ok-curves.ensures.ways) c.in_ok-curves.ensures.few)
 
 pub returns-clause-traded : goal.returns-clause-traded
 returns-clause-traded c =
-    netlist_traded c.args.self.now.net.now c.args.self.now.starts.now c.args.self.now.choices.now c.args.self.now.lib.now c.args.self.now.network c.args.self.now.chosen c.args.times.items c.args.deadline c.requires.earliest c.in_ok-ports.ports c.in_ok-ports.ensures c.from_vec.result
-    (c.from_vec.ensures ∙ (c.in_ok-later.ensures ∙ ap (map (put_off c.args.deadline)) c.as_slice-2.ensures.value)) c.in_ok-netlist.netlist c.gates.ensures.kept (rw c.args.self.now.patterns at c.in_ok-netlist.ensures) c.args.self.now.outputs c.args.self.now.library
+    netlist_traded c.args.self.now.net.now c.args.self.now.starts.now c.args.self.now.choices.now c.args.self.now.lib.now c.requires.problem.network c.requires.problem.chosen c.args.times.items c.args.deadline c.requires.earliest c.in_ok-ports.ports c.in_ok-ports.ensures c.from_vec.result
+    (c.from_vec.ensures ∙ (c.in_ok-later.ensures ∙ ap (map (put_off c.args.deadline)) c.as_slice-2.ensures.value)) c.in_ok-netlist.netlist c.gates.ensures.kept (rw c.requires.problem.patterns at c.in_ok-netlist.ensures) c.requires.problem.outputs c.requires.problem.library
 
 pub returns-clause-few : goal.returns-clause-few
 returns-clause-few c =
     let same = c.latest_of-horizon.ensures ∙ ap (λ ts. latest_of c.args.deadline.0 (micros ts)) c.as_slice.ensures.value in
-    few_points c.args.self.now.net.now c.args.self.now.choices.now c.args.self.now.chosen c.args.self.now.lib.now c.args.self.now.starts.now c.args.deadline (micros c.args.times.items) c.requires.earliest c.in_ok-curves.curves.points
-    (rw (c.args.self.now.patterns, same) at c.in_ok-curves.ensures.curves) (rw (c.args.self.now.patterns, same) at c.in_ok-curves.ensures.bound) c.in_ok-curves.ensures.few
+    few_points c.args.self.now.net.now c.args.self.now.choices.now c.requires.problem.chosen c.args.self.now.lib.now c.args.self.now.starts.now c.args.deadline (micros c.args.times.items) c.requires.earliest c.in_ok-curves.curves.points
+    (rw (c.requires.problem.patterns, same) at c.in_ok-curves.ensures.curves) (rw (c.requires.problem.patterns, same) at c.in_ok-curves.ensures.bound) c.in_ok-curves.ensures.few
