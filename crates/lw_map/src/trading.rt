@@ -160,7 +160,7 @@ impl<'a> Problem<'a> {
     {
         let cost = AreaCost::new(self.lib);
         let (graph, pats, lib) = (&self.choices.graph, &self.pats, self.lib);
-        let labelled = label(alloc, graph, pats, &cost, Labeller::Rounds)?;
+        let labelled = label(alloc, graph, pats, &cost, Labeller::Store)?;
         let labels = labelled.labels;
         let bounds = labelled.bounds.as_ref();
         let ports = ports(alloc, self.net, self.choices)?;
