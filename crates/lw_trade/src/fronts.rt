@@ -87,8 +87,8 @@ fn area_by(links: &Links, points: &[Found], class: ClassId, time: u64) -> Option
 fn area_at(links: &Links, points: &[Found], class: ClassId, time: u64, place: u64) -> Option<u64>
     requires one_each { length points.now ≡ length links.now.classes }
     requires apart { AreApart (spots_of links.now.classes points.now) }
-    ensures { IfSome result (λ area. IsLeastSpot (spots_of links.now.classes points.now) class.0 time
-        (Some area)) }
+    ensures { IfSome result (λ area. IsLeastSpot (spots_of links.now.classes points.now) class.0
+        time (Some area)) }
 {
     if place >= points.len() as u64 {
         return None;
@@ -287,8 +287,8 @@ impl Fronts {
         true
     }
 
-    /// Adds a point of a class that a choice gives, unless the class has one of no greater area, and
-    /// says whether it did. There is no memory for 2^64 gains.
+    /// Adds a point of a class that a choice gives, unless the class has one of no greater area,
+    /// and says whether it did. There is no memory for 2^64 gains.
     pub(crate) fn gain(
         &mut self,
         class: ClassId,

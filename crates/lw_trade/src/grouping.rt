@@ -19,8 +19,8 @@ use std::marker::Model;
 
 /// The points of each class, and the choices that gave them their areas.
 ///
-/// The points stand in one array, one class after the other, and for each class it is noted how many
-/// are left from its first one on.
+/// The points stand in one array, one class after the other, and for each class it is noted how
+/// many are left from its first one on.
 #[derive(Drop)]
 pub struct Curves {
     points: Vec<Point>,
@@ -135,8 +135,8 @@ fn part<T>(points: &[T], first: usize, end: usize) -> &[T]
     &points[first..end]
 }
 
-// Lists the points of the classes, the last one of the last class first, how they came, and how many
-// points are listed before and behind those of each class.
+// Lists the points of the classes, the last one of the last class first, how they came, and how
+// many points are listed before and behind those of each class.
 fn push_rows(
     fronts: &Fronts,
     classes: u32,

@@ -68,7 +68,8 @@ fn take_in(
 ) -> Option<(usize, (u64, u32))>
     requires { end ≤ length lanes.old.items }
     ensures length { length lanes.new.items ≡ length lanes.old.items }
-    ensures taken { IsTakenIn lanes.old.items lanes.new.items first end left (option_map (λ p. p.1) result) }
+    ensures taken { IsTakenIn lanes.old.items lanes.new.items first end left
+        (option_map (λ p. p.1) result) }
 {
     for lane in first..end {
         if let Some(found) = lanes[lane].take(left) {
@@ -81,7 +82,8 @@ fn take_in(
 /// Takes one that has some time left, and says from which lane. The lanes from one on are looked at
 /// before the others.
 pub(crate) fn take_any(lanes: &mut Vec<Lane>, at: usize, left: u64) -> Option<(usize, (u64, u32))>
-    ensures { IsTakenIn lanes.old.items lanes.new.items 0 (length lanes.old.items) left (option_map (λ p. p.1) result) }
+    ensures { IsTakenIn lanes.old.items lanes.new.items 0 (length lanes.old.items) left
+        (option_map (λ p. p.1) result) }
 {
     let count = lanes.len();
     let first = at.min(count);

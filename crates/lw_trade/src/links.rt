@@ -26,7 +26,10 @@ impl Model for Links {
 
     ghost Value = { LinkState };
 
-    ghost view = { λ l. record { classes = classes_of l.links.items; count = length l.heads.items } };
+    ghost view = { λ l. record {
+      classes = classes_of l.links.items;
+      count = length l.heads.items;
+    } };
 
     ghost invariant = { λ l. AreLinks l.links.items l.heads.items };
 }

@@ -41,8 +41,9 @@ fn look_at(
     requires small { (k : Spot) → Has fronts.now.spots k → k.area ≤ most_area }
     ensures horizon { queue.new.horizon ≡ queue.old.horizon }
     ensures looked { OnOk result ((g : PlainGraph) (pats : List TreeOfCell)
-        (starts : List MicroOf) → AreUses (task g pats lib.now starts) (plain_rows rows.now) uses.now
-        → IsLookedAt (task g pats lib.now starts) (plain_rows rows.now) fronts.now.spots
+        (starts : List MicroOf) →
+        AreUses (task g pats lib.now starts) (plain_rows rows.now) uses.now →
+        IsLookedAt (task g pats lib.now starts) (plain_rows rows.now) fronts.now.spots
         (HasUnseen uses.now seen.now fronts.now.spots time) queue.old queue.new time number) }
 {
     let (place, count) = (number as usize, uses.looks.briefs.len());
@@ -83,8 +84,9 @@ fn look_at_group(
     requires small { (k : Spot) → Has fronts.now.spots k → k.area ≤ most_area }
     ensures horizon { queue.new.horizon ≡ queue.old.horizon }
     ensures looked { OnOk result ((g : PlainGraph) (pats : List TreeOfCell)
-        (starts : List MicroOf) → AreUses (task g pats lib.now starts) (plain_rows rows.now) uses.now
-        → IsGroupLookedAt (task g pats lib.now starts) (plain_rows rows.now) fronts.now.spots
+        (starts : List MicroOf) →
+        AreUses (task g pats lib.now starts) (plain_rows rows.now) uses.now →
+        IsGroupLookedAt (task g pats lib.now starts) (plain_rows rows.now) fronts.now.spots
         (HasUnseen uses.now seen.now fronts.now.spots time)
         uses.now.members.classes uses.now.owners.items queue.old queue.new time group) }
 {

@@ -1,5 +1,5 @@
-// What looks at choices need: in short what each choice is, and the choices of each group, one group
-// after another.
+// What looks at choices need: in short what each choice is, and the choices of each group, one
+// group after another.
 ghost use Rattle.std.specs.Prelude.{◌≡◌, ◌<◌, All, IfOk, OnOk, [], length};
 ghost use Rattle.lw_trade.specs.Looks.{AreBriefs, AreMembersListed, IsBriefOf, IsGroupListed};
 ghost use Rattle.lw_trade.specs.Pricing.{IsOfLibrary};
@@ -115,8 +115,8 @@ fn list_groups(
     Ok(())
 }
 
-/// What looks at choices need, by the groups of their pins, the choice of each pin, and the place of
-/// the first pin of each choice.
+/// What looks at choices need, by the groups of their pins, the choice of each pin, and the place
+/// of the first pin of each choice.
 pub(crate) fn looks_of(
     alloc: Global,
     rows: &[Row],

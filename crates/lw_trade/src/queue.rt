@@ -12,8 +12,8 @@ use std::marker::Model;
 
 /// The choices that wait to be looked at, each at a time up to a horizon, the earliest first.
 ///
-/// They stand in lanes, in each by rising time, and where one would come before the last of its lane
-/// in a heap.
+/// They stand in lanes, in each by rising time, and where one would come before the last of its
+/// lane in a heap.
 #[derive(Drop)]
 pub(crate) struct Queue {
     horizon: u64,
