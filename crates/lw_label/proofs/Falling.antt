@@ -24,6 +24,7 @@ use Rattle.lw_match.specs.Least.{Priced, plain_best, IsPricedAt, IsPricedAtMost,
 use Rattle.lw_match.proofs.Settled.{settled_bounds_are_bounds}
 use Rattle.lw_label.specs.Labels.{cost_in, costs_of}
 use Rattle.lw_label.specs.Lowering.{AreLowering, LabelState, state, state_weight, weight, IsBounded, IsLabelled, Lowers, Takes}
+use Rattle.lw_label.specs.Passes.{Passes}
 use Rattle.lw_label.proofs.Passing.{passes_lower}
 use Rattle.lw_label.proofs.Marked.{label_of_mark, labels_of_marks, marks_of_labels, costs_set, mark_set_same, mark_set_other, priced, standing}
 
@@ -101,22 +102,30 @@ module _ (g : Graph) (cost : Cost) (pats : List Pattern) where
       pub weight_falls : weight cost (slice_set marks c (Some new)) < weight cost marks
       weight_falls = subst (λ ls. total_weight cost.cap ls < weight cost marks) (sym labels_set) (total_weight_falls cost.cap (costs_of marks) c (cost.value is.pattern.cell (costs_in is.pin_marks)) labels_fit value_lower)
 
-  -- the numbers of a class are renewed, and then its label
-  pub label_pass : (b next : BoundsState) (marks new : List (Option Mark)) (c : ℕ) (renewed lowered' : Bool) → bounds_weight next ≤ bounds_weight b → (IsTrue renewed → bounds_weight next < bounds_weight b) → (IsFalse renewed → next ≡ b) → (IsFalse renewed → AreSettledAt b g marks c) → (lowered' ≡ true → weight cost new < weight cost marks) → (lowered' ≡ false → new ≡ marks) → (lowered' ≡ false → AreBounds next g marks → IsBounded g cost pats marks c) → Lowers g cost pats (state b marks) (state next new) (λ n. n ≡ c) (lowered' || renewed)
-  label_pass b next marks new c renewed true low fall_number same_number settled fall_label same_label bounded =
-      let less = fall_label refl in
-      passes_lower (state_weight cost) (IsLabelled g cost pats) (state b marks) (state next new) (λ n. n ≡ c) (let w : bounds_weight next + weight cost new < bounds_weight b + weight cost marks = omega (arith, low, less) in w)
-  label_pass b next marks new c true false low fall_number same_number settled fall_label same_label bounded =
-      let less = fall_number refl in
-      let kept : weight cost new ≡ weight cost marks = ap (weight cost) (same_label refl) in
-      passes_lower (state_weight cost) (IsLabelled g cost pats) (state b marks) (state next new) (λ n. n ≡ c) (let w : bounds_weight next + weight cost new < bounds_weight b + weight cost marks = omega (arith, less, kept) in w)
-  label_pass b next marks new c false false low fall_number same_number settled fall_label same_label bounded =
-      let numbers : next ≡ b = same_number refl in
-      record {
-        falls = λ e. absurd (true≢false (sym e));
-        same = λ e. ap₂ state numbers (same_label refl);
-        still = λ e n at. subst (λ a. IsLabelled g cost pats (state b marks) a) (sym at) (settled refl, λ are. bounded refl (subst (λ k. AreBounds k g marks) (sym numbers) are));
-      }
+  abbrev pub IsNumbered : LabelState → ℕ → Type 0
+  IsNumbered s c = AreSettledAt s.bounds g s.marks c
+
+  abbrev pub IsLow : LabelState → ℕ → Type 0
+  IsLow s c = AreBounds s.bounds g s.marks → IsBounded g cost pats s.marks c
+
+  -- the numbers of a class are renewed
+  pub numbers_pass : (b next : BoundsState) (marks : List (Option Mark)) (c : ℕ) (renewed : Bool) → (IsTrue renewed → bounds_weight next < bounds_weight b) → (IsFalse renewed → next ≡ b) → (IsFalse renewed → AreSettledAt b g marks c) → Passes (state_weight cost) IsNumbered (state b marks) (state next marks) (λ n. n ≡ c) renewed
+  numbers_pass b next marks c true fall same settled =
+      let less = fall refl in
+      passes_lower (state_weight cost) IsNumbered (state b marks) (state next marks) (λ n. n ≡ c) (let w : bounds_weight next + weight cost marks < bounds_weight b + weight cost marks = omega (arith, less) in w)
+  numbers_pass b next marks c false fall same settled = record {
+    falls = λ e. absurd (true≢false (sym e));
+    same = λ e. ap (λ k. state k marks) (same refl);
+    still = λ e n at. subst (λ a. AreSettledAt b g marks a) (sym at) (settled refl);
+  }
+
+  -- the label of a class is lowered
+  pub label_pass : (b : BoundsState) (marks new : List (Option Mark)) (c : ℕ) (changed : Bool) → Takes g cost pats marks new changed → (changed ≡ false → AreBounds b g marks → IsBounded g cost pats marks c) → Passes (state_weight cost) IsLow (state b marks) (state b new) (λ n. n ≡ c) changed
+  label_pass b marks new c changed takes bounded = record {
+    falls = λ e. let less = takes.falls e in let w : bounds_weight b + weight cost new < bounds_weight b + weight cost marks = omega (arith, less) in w;
+    same = λ e. ap (state b) (takes.same e);
+    still = λ e n at are. subst (λ a. IsBounded g cost pats marks a) (sym at) (bounded e are);
+  }
 
   -- a label of no class in particular
   pub marks_pass : (b : BoundsState) (marks new : List (Option Mark)) (changed : Bool) → Takes g cost pats marks new changed → Lowers g cost pats (state b marks) (state b new) (λ n. ⊥) changed

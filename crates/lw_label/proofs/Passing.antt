@@ -51,6 +51,22 @@ module _ {S : Type 0} (weight : S → ℕ) (IsStill : S → ℕ → Type 0) wher
     still = λ e c here. elim here [ inl a ↦ before.still refl c a | inr b ↦ subst (λ s. IsStill s c) (before.same refl) (after.still refl c b) ];
   }
 
+-- a pass by which one thing is still, and then one by which another is
+pub passes_two : {S : Type 0} (weight : S → ℕ) (IsOne IsOther : S → ℕ → Type 0) (old mid new : S) (at : ℕ → Type 0) (one other : Bool) → Passes weight IsOne old mid at one → Passes weight IsOther mid new at other → Passes weight (λ s c. IsOne s c × IsOther s c) old new at (other || one)
+passes_two weight IsOne IsOther old mid new at one true a b =
+    let less = b.falls refl in
+    let low = passes_low weight IsOne old mid at one a in
+    passes_lower weight (λ s c. IsOne s c × IsOther s c) old new at (omega (arith, less, low))
+passes_two weight IsOne IsOther old mid new at true false a b =
+    let less = a.falls refl in
+    let same : weight new ≡ weight mid = ap weight (b.same refl) in
+    passes_lower weight (λ s c. IsOne s c × IsOther s c) old new at (omega (arith, less, same))
+passes_two weight IsOne IsOther old mid new at false false a b = record {
+  falls = λ e. absurd (true≢false (sym e));
+  same = λ e. b.same refl ∙ a.same refl;
+  still = λ e c here. (a.still refl c here, subst (λ s. IsOther s c) (a.same refl) (b.still refl c here));
+}
+
 -- the classes of a place
 pub of_place : (p c : ℕ) → c / 2 ≡ p → (c ≡ p * 2 + 1) ⊎ (c ≡ p * 2)
 of_place p c e = cases (cases_eq c (p * 2))
@@ -73,12 +89,15 @@ passed_all g order c even is below =
     (refl, (i, inside, slice_get-get_or order i (c / 2) inside ∙ ap (λ n. Some n) at))
 
 module _ {S : Type 0} (weight : S → ℕ) (IsStill : S → ℕ → Type 0) where
-  -- a pass over each class of a place, and one more
-  pub passes_pair : (old first second new : S) (p : ℕ) (one other again : Bool) → Passes weight IsStill old first (λ c. c ≡ p * 2 + 1) one → Passes weight IsStill first second (λ c. c ≡ p * 2) other → Passes weight IsStill second new (λ c. ⊥) again → Passes weight IsStill old new (λ c. c / 2 ≡ p) (again || (other || one))
-  passes_pair old first second new p one other again a b c =
-      let both = passes_both weight IsStill old first second (λ n. n ≡ p * 2 + 1) (λ n. n ≡ p * 2) one other a b in
-      let all = passes_both weight IsStill old second new (λ n. (n ≡ p * 2 + 1) ⊎ (n ≡ p * 2)) (λ n. ⊥) (other || one) again both c in
-      passes_fewer weight IsStill old new (λ n. ((n ≡ p * 2 + 1) ⊎ (n ≡ p * 2)) ⊎ ⊥) (λ n. n / 2 ≡ p) (again || (other || one)) (λ n e. inl (of_place p n e)) all
+  -- a pass over each class of a place
+  pub passes_place : (old first new : S) (p : ℕ) (one other : Bool) → Passes weight IsStill old first (λ c. c ≡ p * 2 + 1) one → Passes weight IsStill first new (λ c. c ≡ p * 2) other → Passes weight IsStill old new (λ c. c / 2 ≡ p) (other || one)
+  passes_place old first new p one other a b =
+      passes_fewer weight IsStill old new (λ n. (n ≡ p * 2 + 1) ⊎ (n ≡ p * 2)) (λ n. n / 2 ≡ p) (other || one) (of_place p) (passes_both weight IsStill old first new (λ n. n ≡ p * 2 + 1) (λ n. n ≡ p * 2) one other a b)
+
+  -- a pass, and one more
+  pub passes_again : (old mid new : S) (at : ℕ → Type 0) (one again : Bool) → Passes weight IsStill old mid at one → Passes weight IsStill mid new (λ c. ⊥) again → Passes weight IsStill old new at (again || one)
+  passes_again old mid new at one again a b =
+      passes_fewer weight IsStill old new (λ n. at n ⊎ ⊥) at (again || one) (λ n here. inl here) (passes_both weight IsStill old mid new at (λ n. ⊥) one again a b)
 
   -- a pass over the place of a visit
   pub passes_visit : (old new : S) (whole : Bool) (order : List ℕ) (number place : ℕ) (changed : Bool) → slice_get order number ≡ Some place → Passes weight IsStill old new (λ c. c / 2 ≡ place) changed → Passes weight IsStill old new (IsVisited whole order number) changed

@@ -121,33 +121,6 @@ pub(crate) fn either(one: bool, other: bool) -> bool
     one || other
 }
 
-// Lets the numbers and the label of a class fall.
-fn lower<C: Cost>(
-    graph: &Graph,
-    pats: &Patterns,
-    cost: &C,
-    bounds: &mut Bounds,
-    tops: &mut Tops,
-    marks: &mut [Option<Mark>],
-    class: ClassId,
-) -> bool
-    requires class { class.0 < length graph.now.pairs }
-    requires of_cells { AreOfCells (C.costs cost.now).pin_counts pats.now }
-    requires problem { IsCoverProblem graph.now pats.now (C.costs cost.now) }
-    requires fits { BoundsFit bounds.old pats.now graph.now }
-    requires known { AreKnown (C.costs cost.now) pats.now bounds.old.gaps tops.old }
-    requires lowering { AreLowering graph.now (C.costs cost.now) pats.now marks.old }
-    ensures fits { BoundsFit bounds.new pats.now graph.now }
-    ensures known { AreKnown (C.costs cost.now) pats.now bounds.new.gaps tops.new }
-    ensures lowering { AreLowering graph.now (C.costs cost.now) pats.now marks.new }
-    ensures lowers { Lowers graph.now (C.costs cost.now) pats.now (state bounds.old marks.old)
-        (state bounds.new marks.new) (λ c. c ≡ class.0) result }
-{
-    let renewed = bounds.renew(graph, marks, class);
-    let lowered = lower_mark(graph, pats, cost, bounds, tops, marks, class);
-    either(lowered, renewed)
-}
-
 // Whether a mark costs less than another, or has less height, or is there where the other is not.
 pub(crate) fn is_ahead(mark: Option<Mark>, other: Option<Mark>) -> bool {
     match (mark, other) {
@@ -185,7 +158,8 @@ fn lower_again<C: Cost>(
     false
 }
 
-// Lowers the two classes of a place.
+// Lets the numbers and the labels of the two classes of a place fall. All numbers come first, since
+// matches at a class are found by those of its complement too.
 fn lower_pair<C: Cost>(
     graph: &Graph,
     pats: &Patterns,
@@ -208,11 +182,14 @@ fn lower_pair<C: Cost>(
         (state bounds.new marks.new) (λ c. c / 2 ≡ place) result }
 {
     let _ = graph.classes();
-    let class = ClassId(place * 2 + 1);
-    let first = lower(graph, pats, cost, bounds, tops, marks, class);
-    let second = lower(graph, pats, cost, bounds, tops, marks, ClassId(place * 2));
+    let odd = ClassId(place * 2 + 1);
+    let even = ClassId(place * 2);
+    let one = bounds.renew(graph, marks, odd);
+    let other = bounds.renew(graph, marks, even);
+    let first = lower_mark(graph, pats, cost, bounds, tops, marks, odd);
+    let second = lower_mark(graph, pats, cost, bounds, tops, marks, even);
     let third = lower_again(graph, pats, cost, bounds, marks, place, second);
-    either(third, either(second, first))
+    either(third, either(either(second, first), either(other, one)))
 }
 
 // Lowers the two classes of the place of a visit, if that is due.

@@ -1,7 +1,7 @@
-use Rattle.std.proofs.Common.{◌≡◌, ◌/◌, ◌||◌, ◌∙◌, ap, sym, subst}
+use Rattle.std.proofs.Common.{◌≡◌, ◌+◌, ◌*◌, ◌/◌, ◌||◌, ◌∙◌, ap, ap₂, sym, subst}
 use Rattle.lw_label.specs.Lowering.{IsLabelled, Lowers, state, state_weight}
-use Rattle.lw_label.proofs.Falling.{marks_pass}
-use Rattle.lw_label.proofs.Passing.{passes_pair}
+use Rattle.lw_label.proofs.Falling.{IsNumbered, IsLow, numbers_pass, label_pass, marks_pass}
+use Rattle.lw_label.proofs.Passing.{passes_place, passes_two, passes_again}
 use Rattle.lw_label.proofs.lowering.lower_pair.Goals as goal
 
 pub returns-clause-lowers : goal.returns-clause-lowers
@@ -9,11 +9,21 @@ returns-clause-lowers g c =
     let costs = g.C.Cost.costs c.args.cost.now in
     let graph = c.args.graph.now in
     let pats = c.args.pats.now in
-    let first = c.lower-first in
-    let second = c.lower-second in
+    let weight = state_weight costs in
+    let place = c.args.place in
+    let marks = c.args.marks.now in
+    let one = c.renew-one in
+    let other = c.renew-other in
+    let first = c.lower_mark-first in
+    let second = c.lower_mark-second in
     let third = c.lower_again-third in
-    let changed = c.either-2.ensures ∙ ap (λ b. third.result || b) c.either.ensures in
-    let old = state c.args.bounds.now c.args.marks.now in
-    let mid = state second.new.bounds second.new.marks in
-    let new = state second.new.bounds third.new.marks in
-    subst (λ b. Lowers graph costs pats old new (λ n. n / 2 ≡ c.args.place) b) (sym changed) (passes_pair (state_weight costs) (IsLabelled graph costs pats) old (state first.new.bounds first.new.marks) mid new c.args.place first.result second.result third.result first.ensures.lowers second.ensures.lowers (marks_pass graph costs pats second.new.bounds second.new.marks third.new.marks third.result third.ensures))
+    let table = other.new.self in
+    let changed = c.either-4.ensures ∙ ap (λ b. third.result || b) (c.either-3.ensures ∙ ap₂ (λ a b. a || b) c.either.ensures c.either-2.ensures) in
+    let old = state c.args.bounds.now marks in
+    let middle = state table marks in
+    let new = state table second.new.marks in
+    let end = state table third.new.marks in
+    let numbers = passes_place weight (IsNumbered graph costs pats) old (state one.new.self marks) middle place one.result other.result (numbers_pass graph costs pats c.args.bounds.now one.new.self marks (place * 2 + 1) one.result one.ensures.falls one.ensures.same one.ensures.settled) (numbers_pass graph costs pats one.new.self table marks (place * 2) other.result other.ensures.falls other.ensures.same other.ensures.settled) in
+    let labels = passes_place weight (IsLow graph costs pats) middle (state table first.new.marks) new place first.result second.result (label_pass graph costs pats table marks first.new.marks (place * 2 + 1) first.result first.ensures.takes first.ensures.bounded) (label_pass graph costs pats table first.new.marks second.new.marks (place * 2) second.result second.ensures.takes second.ensures.bounded) in
+    let both = passes_two weight (IsNumbered graph costs pats) (IsLow graph costs pats) old middle new (λ n. n / 2 ≡ place) (other.result || one.result) (second.result || first.result) numbers labels in
+    subst (λ b. Lowers graph costs pats old end (λ n. n / 2 ≡ place) b) (sym changed) (passes_again weight (IsLabelled graph costs pats) old new end (λ n. n / 2 ≡ place) ((second.result || first.result) || (other.result || one.result)) third.result both (marks_pass graph costs pats table second.new.marks third.new.marks third.result third.ensures))
