@@ -14,7 +14,7 @@ use Rattle.lw_match.specs.Values.{plain_mark, marks_in}
 use Rattle.lw_label.specs.Labels.{costs_of}
 use Rattle.lw_label.specs.Lowering.{AreLowering, HasCostAtMost, IsLowerOf}
 use Rattle.lw_label.proofs.Marked.{label_of_mark, mark_of_label, mark_set_same, mark_set_other}
-use Rattle.lw_label.proofs.Climbing.{none_marked}
+use Rattle.lw_label.proofs.HeightPasses.{none_marked}
 
 -- The first inputs have given their classes their costs.
 pub record AreInputs (g : Graph) (cost : Cost) (count : ℕ) (marks : List (Option Mark)) : Type 0 where

@@ -1,9 +1,9 @@
 pub mod CellLaws
-pub mod Climbing
 pub mod Falling
+pub mod HeightPasses
 pub mod Inputs
 pub mod Low
 pub mod Marked
 pub mod Passing
-pub mod Walking
 pub mod Times
+pub mod Walking

@@ -1,6 +1,6 @@
 pub mod Delays
+pub mod Heights
 pub mod Labels
 pub mod Lowering
 pub mod Orders
 pub mod Passes
-pub mod Rising

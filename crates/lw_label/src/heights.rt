@@ -8,7 +8,7 @@ ghost use Rattle.lw_match.specs.Least.{AreOfCells};
 ghost use Rattle.lw_label.specs.Labels.{costs_of, AreLeastMarks};
 ghost use Rattle.lw_label.specs.Lowering.{AreLowering};
 ghost use Rattle.lw_label.specs.Orders.{IsVisited, places_of};
-ghost use Rattle.lw_label.specs.Rising.{AreRising, IsReached, Raises, TakesHeight, height_limit, heights_weight};
+ghost use Rattle.lw_label.specs.Heights.{AreHeightMarks, IsReached, LowersHeights, TakesHeight, height_limit, heights_weight};
 ghost use Rattle.lw_laws.specs.Laws.{AreBoundedIn, IsCoverProblem};
 ghost use Rattle.lw_laws.specs.Rounds.{labels_in};
 
@@ -40,7 +40,7 @@ pub(crate) fn start_heights(graph: &Graph, labels: &[Option<Mark>], marks: &mut 
     requires none { marks.old ≡ replicate (length graph.now.pairs) None }
     requires one_each { length labels.now ≡ length graph.now.pairs }
     ensures { (cost : _) (pats : _) → AreLowering graph.now cost pats labels.now →
-        AreRising graph.now cost pats labels.now marks.new }
+        AreHeightMarks graph.now cost pats labels.now marks.new }
 {
     for input in 0..graph.inputs() {
         let class = graph.leaf(input).0 as usize;
@@ -53,7 +53,7 @@ fn put_height(marks: &mut [Option<Mark>], class: ClassId, found: Option<Best>) -
     requires { class.0 < length marks.old }
     ensures takes { (graph : _) (cost : _) (pats : _) (labels : _) (bound : _) →
         AreBoundedIn graph pats cost (costs_of labels) →
-        AreRising graph cost pats labels marks.old → labels_in (costs_of labels) class.0 ≡
+        AreHeightMarks graph cost pats labels marks.old → labels_in (costs_of labels) class.0 ≡
         Some bound.cost → bound.height ≡ height_limit (slice_index_or marks.old class.0 None) →
         IsMatchWithin graph cost pats (marks_in marks.old) class.0 (Some bound) found →
         TakesHeight graph cost pats labels marks.old marks.new result }
@@ -68,7 +68,7 @@ fn put_height(marks: &mut [Option<Mark>], class: ClassId, found: Option<Best>) -
 
 // Gives a class the height of a match that attains its label and whose pins have marks, mostly the
 // least, where that is lower than its own.
-fn raise<C: Cost>(
+fn lower_height<C: Cost>(
     graph: &Graph,
     pats: &Patterns,
     cost: &C,
@@ -87,7 +87,7 @@ fn raise<C: Cost>(
     requires known { AreKnown (C.costs cost.now) pats.now bounds.now.gaps tops.old }
     requires bounds { AreBounds bounds.now graph.now labels.now }
     requires bounded { AreBoundedIn graph.now pats.now (C.costs cost.now) (costs_of labels.now) }
-    requires rising { AreRising graph.now (C.costs cost.now) pats.now labels.now marks.old }
+    requires heights { AreHeightMarks graph.now (C.costs cost.now) pats.now labels.now marks.old }
     ensures known { AreKnown (C.costs cost.now) pats.now bounds.now.gaps tops.new }
     ensures takes { TakesHeight graph.now (C.costs cost.now) pats.now labels.now marks.old
         marks.new result }
@@ -98,23 +98,16 @@ fn raise<C: Cost>(
         return false;
     };
     let bound = height_bound(label, marks[class.0 as usize]);
+    let limit = Some(bound);
     let found = better_within(
-        graph,
-        pats,
-        bounds,
-        marks,
-        class,
-        cost,
-        tops,
-        label.cost,
-        Some(bound),
+        graph, pats, bounds, marks, class, cost, tops, label.cost, limit,
     );
     put_height(marks, class, found)
 }
 
 // Gives a class the height of a match by a pattern without NANDs that attains its label, where that
 // is lower than its own.
-fn raise_bare<C: Cost>(
+fn lower_height_bare<C: Cost>(
     graph: &Graph,
     pats: &Patterns,
     cost: &C,
@@ -130,7 +123,7 @@ fn raise_bare<C: Cost>(
     requires lowering { AreLowering graph.now (C.costs cost.now) pats.now labels.now }
     requires fits { BoundsFit bounds.now pats.now graph.now }
     requires bounded { AreBoundedIn graph.now pats.now (C.costs cost.now) (costs_of labels.now) }
-    requires rising { AreRising graph.now (C.costs cost.now) pats.now labels.now marks.old }
+    requires heights { AreHeightMarks graph.now (C.costs cost.now) pats.now labels.now marks.old }
     ensures { TakesHeight graph.now (C.costs cost.now) pats.now labels.now marks.old marks.new
         result }
 {
@@ -151,9 +144,10 @@ fn raise_bare<C: Cost>(
     put_height(marks, class, found)
 }
 
-// Raises the odd class of a place a second time where its complement, which was raised since, may
-// be the pin of a match of less height. By patterns without NANDs alone can it be one.
-fn raise_again<C: Cost>(
+// Lowers the height of the odd class of a place a second time where its complement, whose height
+// was lowered since, may be the pin of a match of less height. By patterns without NANDs alone can
+// it be one.
+fn lower_height_again<C: Cost>(
     graph: &Graph,
     pats: &Patterns,
     cost: &C,
@@ -161,7 +155,7 @@ fn raise_again<C: Cost>(
     labels: &[Option<Mark>],
     marks: &mut [Option<Mark>],
     place: u32,
-    raised: bool,
+    lowered: bool,
 ) -> bool
     requires place { place < places_of graph.now }
     requires of_cells { AreOfCells (C.costs cost.now).pin_counts pats.now }
@@ -170,20 +164,20 @@ fn raise_again<C: Cost>(
     requires lowering { AreLowering graph.now (C.costs cost.now) pats.now labels.now }
     requires fits { BoundsFit bounds.now pats.now graph.now }
     requires bounded { AreBoundedIn graph.now pats.now (C.costs cost.now) (costs_of labels.now) }
-    requires rising { AreRising graph.now (C.costs cost.now) pats.now labels.now marks.old }
+    requires heights { AreHeightMarks graph.now (C.costs cost.now) pats.now labels.now marks.old }
     ensures { TakesHeight graph.now (C.costs cost.now) pats.now labels.now marks.old marks.new
         result }
 {
     let class = ClassId(place * 2 + 1);
     let other = marks[(place * 2) as usize];
-    if raised && is_ahead(other, marks[class.0 as usize]) {
-        return raise_bare(graph, pats, cost, bounds, labels, marks, class);
+    if lowered && is_ahead(other, marks[class.0 as usize]) {
+        return lower_height_bare(graph, pats, cost, bounds, labels, marks, class);
     }
     false
 }
 
-// Raises the two classes of a place.
-fn raise_pair<C: Cost>(
+// Lowers the heights of the two classes of a place.
+fn lower_height_pair<C: Cost>(
     graph: &Graph,
     pats: &Patterns,
     cost: &C,
@@ -202,30 +196,22 @@ fn raise_pair<C: Cost>(
     requires known { AreKnown (C.costs cost.now) pats.now bounds.now.gaps tops.old }
     requires bounds { AreBounds bounds.now graph.now labels.now }
     requires bounded { AreBoundedIn graph.now pats.now (C.costs cost.now) (costs_of labels.now) }
-    requires rising { AreRising graph.now (C.costs cost.now) pats.now labels.now marks.old }
+    requires heights { AreHeightMarks graph.now (C.costs cost.now) pats.now labels.now marks.old }
     ensures known { AreKnown (C.costs cost.now) pats.now bounds.now.gaps tops.new }
-    ensures rising { AreRising graph.now (C.costs cost.now) pats.now labels.now marks.new }
-    ensures raises { Raises graph.now (C.costs cost.now) pats.now labels.now marks.old marks.new
-        (λ c. c / 2 ≡ place) result }
+    ensures heights { AreHeightMarks graph.now (C.costs cost.now) pats.now labels.now marks.new }
+    ensures lowers { LowersHeights graph.now (C.costs cost.now) pats.now labels.now marks.old
+        marks.new (λ c. c / 2 ≡ place) result }
 {
     let class = ClassId(place * 2 + 1);
-    let first = raise(graph, pats, cost, bounds, tops, labels, marks, class);
-    let second = raise(
-        graph,
-        pats,
-        cost,
-        bounds,
-        tops,
-        labels,
-        marks,
-        ClassId(place * 2),
-    );
-    let third = raise_again(graph, pats, cost, bounds, labels, marks, place, second);
+    let first = lower_height(graph, pats, cost, bounds, tops, labels, marks, class);
+    let even = ClassId(place * 2);
+    let second = lower_height(graph, pats, cost, bounds, tops, labels, marks, even);
+    let third = lower_height_again(graph, pats, cost, bounds, labels, marks, place, second);
     either(third, either(second, first))
 }
 
-// Raises the two classes of the place of a visit, if that is due.
-fn raise_place<C: Cost>(
+// Lowers the heights of the two classes of the place of a visit, if that is due.
+fn lower_height_place<C: Cost>(
     graph: &Graph,
     pats: &Patterns,
     cost: &C,
@@ -247,24 +233,24 @@ fn raise_place<C: Cost>(
     requires known { AreKnown (C.costs cost.now) pats.now bounds.now.gaps tops.old }
     requires bounds { AreBounds bounds.now graph.now labels.now }
     requires bounded { AreBoundedIn graph.now pats.now (C.costs cost.now) (costs_of labels.now) }
-    requires rising { AreRising graph.now (C.costs cost.now) pats.now labels.now marks.old }
+    requires heights { AreHeightMarks graph.now (C.costs cost.now) pats.now labels.now marks.old }
     ensures visits { visits.new ≡ visits.old }
     ensures known { AreKnown (C.costs cost.now) pats.now bounds.now.gaps tops.new }
-    ensures rising { AreRising graph.now (C.costs cost.now) pats.now labels.now marks.new }
-    ensures raises { Raises graph.now (C.costs cost.now) pats.now labels.now marks.old marks.new
-        (IsVisited whole visits.old.order number) result }
+    ensures heights { AreHeightMarks graph.now (C.costs cost.now) pats.now labels.now marks.new }
+    ensures lowers { LowersHeights graph.now (C.costs cost.now) pats.now labels.now marks.old
+        marks.new (IsVisited whole visits.old.order number) result }
 {
     let Some(place) = visits.due(graph, number, whole) else {
         return false;
     };
-    let raised = raise_pair(graph, pats, cost, bounds, tops, labels, marks, place);
-    visits.note(place, raised);
-    raised
+    let lowered = lower_height_pair(graph, pats, cost, bounds, tops, labels, marks, place);
+    visits.note(place, lowered);
+    lowered
 }
 
 // Goes once through the places, and says whether it changed a height. A whole round passes over
 // none.
-fn raise_round<C: Cost>(
+fn lower_height_round<C: Cost>(
     graph: &Graph,
     pats: &Patterns,
     cost: &C,
@@ -284,26 +270,26 @@ fn raise_round<C: Cost>(
     requires known { AreKnown (C.costs cost.now) pats.now bounds.now.gaps tops.old }
     requires bounds { AreBounds bounds.now graph.now labels.now }
     requires bounded { AreBoundedIn graph.now pats.now (C.costs cost.now) (costs_of labels.now) }
-    requires rising { AreRising graph.now (C.costs cost.now) pats.now labels.now marks.old }
+    requires heights { AreHeightMarks graph.now (C.costs cost.now) pats.now labels.now marks.old }
     ensures visits { visits.new ≡ visits.old }
     ensures known { AreKnown (C.costs cost.now) pats.now bounds.now.gaps tops.new }
-    ensures rising { AreRising graph.now (C.costs cost.now) pats.now labels.now marks.new }
-    ensures raises { Raises graph.now (C.costs cost.now) pats.now labels.now marks.old marks.new
-        (λ c. (whole ≡ true) × (c < length graph.now.pairs)) result }
+    ensures heights { AreHeightMarks graph.now (C.costs cost.now) pats.now labels.now marks.new }
+    ensures lowers { LowersHeights graph.now (C.costs cost.now) pats.now labels.now marks.old
+        marks.new (λ c. (whole ≡ true) × (c < length graph.now.pairs)) result }
 {
     let mut changed = false;
     for number in 0..visits.len() {
-        let raised = raise_place(
+        let lowered = lower_height_place(
             graph, pats, cost, bounds, tops, labels, visits, marks, number, whole,
         );
-        changed = either(raised, changed);
+        changed = either(lowered, changed);
     }
     changed
 }
 
 // Goes through the places that are due until that changes no height, and then through all. Says
 // whether the last round changed one.
-fn raise_rounds<C: Cost>(
+fn lower_height_rounds<C: Cost>(
     graph: &Graph,
     pats: &Patterns,
     cost: &C,
@@ -322,22 +308,22 @@ fn raise_rounds<C: Cost>(
     requires known { AreKnown (C.costs cost.now) pats.now bounds.now.gaps tops.old }
     requires bounds { AreBounds bounds.now graph.now labels.now }
     requires bounded { AreBoundedIn graph.now pats.now (C.costs cost.now) (costs_of labels.now) }
-    requires rising { AreRising graph.now (C.costs cost.now) pats.now labels.now marks.old }
+    requires heights { AreHeightMarks graph.now (C.costs cost.now) pats.now labels.now marks.old }
     ensures visits { visits.new ≡ visits.old }
     ensures known { AreKnown (C.costs cost.now) pats.now bounds.now.gaps tops.new }
-    ensures rising { AreRising graph.now (C.costs cost.now) pats.now labels.now marks.new }
+    ensures heights { AreHeightMarks graph.now (C.costs cost.now) pats.now labels.now marks.new }
     ensures falls { result ≡ true → heights_weight marks.new < heights_weight marks.old }
     ensures reached { result ≡ false → (c : ℕ) → c < length graph.now.pairs →
         IsReached graph.now (C.costs cost.now) pats.now labels.now marks.new c }
 {
-    while raise_round(
+    while lower_height_round(
         graph, pats, cost, bounds, tops, labels, visits, marks, false,
     ) {}
-    raise_round(graph, pats, cost, bounds, tops, labels, visits, marks, true)
+    lower_height_round(graph, pats, cost, bounds, tops, labels, visits, marks, true)
 }
 
 // Finds the height of each class that has a label.
-pub(crate) fn raise_all<C: Cost>(
+pub(crate) fn lower_all_heights<C: Cost>(
     graph: &Graph,
     pats: &Patterns,
     cost: &C,
@@ -356,9 +342,9 @@ pub(crate) fn raise_all<C: Cost>(
     requires known { AreKnown (C.costs cost.now) pats.now bounds.now.gaps tops.old }
     requires bounds { AreBounds bounds.now graph.now labels.now }
     requires bounded { AreBoundedIn graph.now pats.now (C.costs cost.now) (costs_of labels.now) }
-    requires rising { AreRising graph.now (C.costs cost.now) pats.now labels.now marks.old }
+    requires heights { AreHeightMarks graph.now (C.costs cost.now) pats.now labels.now marks.old }
     ensures least { AreLeastMarks graph.now (C.costs cost.now) pats.now marks.new }
     ensures bounds { AreBounds bounds.now graph.now marks.new }
 {
-    while raise_rounds(graph, pats, cost, bounds, tops, labels, visits, marks) {}
+    while lower_height_rounds(graph, pats, cost, bounds, tops, labels, visits, marks) {}
 }

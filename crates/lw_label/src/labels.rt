@@ -4,7 +4,7 @@ ghost use Rattle.lw_match.specs.Least.{AreOfCells};
 ghost use Rattle.lw_label.specs.Labels.{AreLeastMarks};
 ghost use Rattle.lw_label.specs.Orders.{places_of};
 
-use crate::heights::{raise_all, start_heights};
+use crate::heights::{lower_all_heights, start_heights};
 use crate::lowering::{label_inputs, lower_all, no_marks};
 use crate::visits::Visits;
 use lw_graph::Graph;
@@ -85,7 +85,8 @@ pub fn relabel_with_bounds<C: Cost>(
     cost: &C,
 ) -> Result<BoundedLabels, AllocError>
     requires { AreOfCells (C.costs cost.now).pin_counts pats.now }
-    ensures least { IfOk result (λ l. AreLeastMarks graph.now (C.costs cost.now) pats.now l.labels) }
+    ensures least { IfOk result (λ l. AreLeastMarks graph.now (C.costs cost.now) pats.now
+        l.labels) }
     ensures fits { IfOk result (λ l. BoundsFit l.bounds pats.now graph.now) }
     ensures bounds { IfOk result (λ l. AreBounds l.bounds graph.now l.labels) }
 {
@@ -131,5 +132,5 @@ fn mark_all<C: Cost>(
     lower_all(graph, pats, cost, visits, bounds, &mut tops, labels);
     start_heights(graph, labels, marks);
     visits.restart();
-    raise_all(graph, pats, cost, bounds, &mut tops, labels, visits, marks);
+    lower_all_heights(graph, pats, cost, bounds, &mut tops, labels, visits, marks);
 }

@@ -29,7 +29,8 @@ impl Model for Visits {
 
     ghost view = { λ v. record { order = v.order.items; places = length v.seen.items } };
 
-    ghost invariant = { λ v. IsOrder (length v.seen.items) v.order.items × (length v.changed.items ≡ length v.seen.items) };
+    ghost invariant = { λ v. IsOrder (length v.seen.items) v.order.items
+        × (length v.changed.items ≡ length v.seen.items) };
 }
 
 // The later of two times.

@@ -1,18 +1,18 @@
 use Rattle.std.proofs.Common.{subst, refl, Some}
 use Rattle.lw_match.specs.Cutting.{IsMatchWithin}
 use Rattle.lw_match.specs.Values.{plain_mark, marks_in}
-use Rattle.lw_label.proofs.Climbing.{attains_under, raised, heights_fall}
+use Rattle.lw_label.proofs.HeightPasses.{attains_under, lowered, heights_fall}
 use Rattle.lw_label.proofs.heights.put_height.Goals as goal
 
 pub returns-clause-takes : goal.returns-clause-takes
-returns-clause-takes c = λ graph costs pats labels bound bounded rising label height found.
+returns-clause-takes c = λ graph costs pats labels bound bounded heights label height found.
     let marks = c.args.marks.now in
     let class = c.args.class.0 in
     let best = c.in-Some.best in
     let within = subst (λ f. IsMatchWithin graph costs pats (marks_in marks) class (Some bound) f) c.in-Some.is found in
-    let (same, shorter) = attains_under graph costs pats labels marks rising class bound.cost (plain_mark bound) label refl height bounded best within.0 within.1 in
+    let (same, shorter) = attains_under graph costs pats labels marks heights class bound.cost (plain_mark bound) label refl height bounded best within.0 within.1 in
     record {
-      rising = raised graph costs pats labels marks rising class best c.requires within.0 same shorter;
+      heights = lowered graph costs pats labels marks heights class best c.requires within.0 same shorter;
       falls = λ e. heights_fall marks class best.mark c.requires shorter;
       same = λ e. cc;
     }

@@ -1,5 +1,5 @@
 use Rattle.std.proofs.Common.{◌<◌, ◌≤◌, length, refl, arith}
-use Rattle.lw_label.proofs.Climbing.{heights_give, heights_started}
+use Rattle.lw_label.proofs.HeightPasses.{heights_give, heights_started}
 use Rattle.lw_label.proofs.heights.start_heights.Goals as goal
 
 pub loop-input-preserved : goal.loop-input-preserved

@@ -1,4 +1,4 @@
-use Rattle.lw_label.proofs.Climbing.{AreStarted}
+use Rattle.lw_label.proofs.HeightPasses.{AreStarted}
 use Rattle.lw_label.proofs.heights.start_heights.Given as goal
 
 abbrev pub invariant-loop-input : goal.invariant-loop-input

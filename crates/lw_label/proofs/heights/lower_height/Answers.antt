@@ -2,20 +2,20 @@ use Rattle.std.proofs.Common.{◌<◌, ◌∙◌, Some, length, refl, ap, sym, s
 use Rattle.lw_match.specs.Values.{plain_mark, AreInRange}
 use Rattle.lw_label.specs.Labels.{cost_in}
 use Rattle.lw_label.proofs.Falling.{label_is_cost}
-use Rattle.lw_label.proofs.Climbing.{rising_in_range, rising_bounds, label_is_floor, reached_unlabelled, reached_under}
-use Rattle.lw_label.proofs.heights.raise.Goals as goal
+use Rattle.lw_label.proofs.HeightPasses.{heights_in_range, heights_bounds, label_is_floor, reached_unlabelled, reached_under}
+use Rattle.lw_label.proofs.heights.lower_height.Goals as goal
 
 pub better_within-found-requires-clause-in_range : goal.better_within-found-requires-clause-in_range
 better_within-found-requires-clause-in_range g c =
     let costs = g.C.Cost.costs c.args.cost.now in
-    subst (λ cap. AreInRange cap c.args.marks.now) (g.met.C.Cost.cap c.args.cost.now) (rising_in_range c.args.graph.now costs c.args.pats.now c.args.labels.now c.args.marks.now c.requires.problem c.requires.graph c.requires.lowering c.requires.rising)
+    subst (λ cap. AreInRange cap c.args.marks.now) (g.met.C.Cost.cap c.args.cost.now) (heights_in_range c.args.graph.now costs c.args.pats.now c.args.labels.now c.args.marks.now c.requires.problem c.requires.graph c.requires.lowering c.requires.heights)
 
 pub better_within-found-requires-clause-floor : goal.better_within-found-requires-clause-floor
 better_within-found-requires-clause-floor g c =
     let costs = g.C.Cost.costs c.args.cost.now in
     let labels = c.args.labels.now in
     let label = label_is_cost c.args.graph.now costs c.args.pats.now labels c.args.class.0 ∙ ap cost_in c.in-Some.is in
-    label_is_floor c.args.graph.now costs c.args.pats.now labels c.args.marks.now c.requires.problem c.requires.lowering c.requires.rising c.requires.bounded c.args.class.0 c.in-Some.label.cost label
+    label_is_floor c.args.graph.now costs c.args.pats.now labels c.args.marks.now c.requires.problem c.requires.lowering c.requires.heights c.requires.bounded c.args.class.0 c.in-Some.label.cost label
 
 pub returns-in_default-clause-reached : goal.returns-in_default-clause-reached
 returns-in_default-clause-reached g c = λ e.
@@ -29,7 +29,7 @@ returns-clause-takes g c =
     let costs = g.C.Cost.costs c.args.cost.now in
     let labels = c.args.labels.now in
     let label = label_is_cost c.args.graph.now costs c.args.pats.now labels c.args.class.0 ∙ ap cost_in c.in-Some.is in
-    c.put_height.ensures.takes c.args.graph.now costs c.args.pats.now labels c.height_bound-bound.result c.requires.bounded c.requires.rising (label ∙ ap Some (sym c.height_bound-bound.ensures.cost)) c.height_bound-bound.ensures.height c.better_within-found.ensures.sound
+    c.put_height.ensures.takes c.args.graph.now costs c.args.pats.now labels c.height_bound-bound.result c.requires.bounded c.requires.heights (label ∙ ap Some (sym c.height_bound-bound.ensures.cost)) c.height_bound-bound.ensures.height c.better_within-found.ensures.sound
 
 pub returns-clause-reached : goal.returns-clause-reached
 returns-clause-reached g c = λ e.
@@ -38,6 +38,6 @@ returns-clause-reached g c = λ e.
     let label = label_is_cost c.args.graph.now costs c.args.pats.now labels c.args.class.0 ∙ ap cost_in c.in-Some.is in
     let marks = c.args.marks.now in
     let class = c.args.class.0 in
-    let below : class < length marks = omega (arith, c.requires.class, c.requires.rising.one_each) in
-    let bounds = rising_bounds c.args.graph.now costs c.args.pats.now labels c.args.bounds.now marks c.requires.bounds c.requires.rising in
-    reached_under c.args.graph.now costs c.args.pats.now labels marks c.requires.rising class c.in-Some.label.cost (plain_mark c.height_bound-bound.result) label c.height_bound-bound.ensures.cost c.height_bound-bound.ensures.height c.requires.graph below (c.better_within-found.ensures.none (c.put_height.ensures.none e) bounds)
+    let below : class < length marks = omega (arith, c.requires.class, c.requires.heights.one_each) in
+    let bounds = heights_bounds c.args.graph.now costs c.args.pats.now labels c.args.bounds.now marks c.requires.bounds c.requires.heights in
+    reached_under c.args.graph.now costs c.args.pats.now labels marks c.requires.heights class c.in-Some.label.cost (plain_mark c.height_bound-bound.result) label c.height_bound-bound.ensures.cost c.height_bound-bound.ensures.height c.requires.graph below (c.better_within-found.ensures.none (c.put_height.ensures.none e) bounds)

@@ -1,13 +1,13 @@
 use Rattle.std.proofs.Common.{◌≡◌}
 use Rattle.lw_match.specs.Cutting.{AreKnown}
-use Rattle.lw_label.specs.Rising.{AreRising, heights_weight}
-use Rattle.lw_label.proofs.heights.raise_all.Given as goal
+use Rattle.lw_label.specs.Heights.{AreHeightMarks, heights_weight}
+use Rattle.lw_label.proofs.heights.lower_all_heights.Given as goal
 
 abbrev pub invariant-loop : goal.invariant-loop
 invariant-loop g l = record {
   visits : l.visits ≡ l.initial.visits;
   known : AreKnown (g.C.Cost.costs l.cost) l.pats l.bounds.gaps l.tops;
-  rising : AreRising l.graph (g.C.Cost.costs l.cost) l.pats l.labels l.marks;
+  heights : AreHeightMarks l.graph (g.C.Cost.costs l.cost) l.pats l.labels l.marks;
 }
 
 abbrev pub decreases-loop : goal.decreases-loop

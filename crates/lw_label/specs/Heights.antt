@@ -27,7 +27,7 @@ marked (None ∷ marks) = marked marks
 marked (Some m ∷ marks) = suc (marked marks)
 
 -- Some classes have a mark: their label, and a number of steps to inputs, which is not above the number of marks.
-pub record AreRising (g : Graph) (cost : Cost) (pats : List Pattern) (labels marks : List (Option Mark)) : Type 0 where
+pub record AreHeightMarks (g : Graph) (cost : Cost) (pats : List Pattern) (labels marks : List (Option Mark)) : Type 0 where
   pub one_each : length marks ≡ length g.pairs
   pub costs : (c : ℕ) (m : PlainMark) → marks_in marks c ≡ Some m → labels_in (costs_of labels) c ≡ Some m.cost
   pub within : (c : ℕ) (m : PlainMark) → marks_in marks c ≡ Some m → IsWithinSteps g cost pats labels c m.height
@@ -54,7 +54,7 @@ heights_weight (m ∷ marks) = height_weight m + heights_weight marks
 
 -- the marks still are labels with numbers of steps, and a height has been found or has fallen, or none has changed
 pub record TakesHeight (g : Graph) (cost : Cost) (pats : List Pattern) (labels old new : List (Option Mark)) (changed : Bool) : Type 0 where
-  pub rising : AreRising g cost pats labels new
+  pub heights : AreHeightMarks g cost pats labels new
   pub falls : changed ≡ true → heights_weight new < heights_weight old
   pub same : changed ≡ false → new ≡ old
 
@@ -64,5 +64,5 @@ IsReached g cost pats labels marks c =
     (cell : ℕ) (ps : List ℕ) (ms : List PlainMark) → IsMatchAt g cost.pin_counts pats c cell ps → HaveMarks (marks_in marks) ps ms → labels_in (costs_of labels) c ≡ Some (cost.value cell (costs_in ms)) → HasHeightAtMost marks c (suc (greatest_height ms))
 
 -- some height has been found or has fallen, or none has and none would at these classes
-abbrev pub Raises : Graph → Cost → List Pattern → List (Option Mark) → List (Option Mark) → List (Option Mark) → (ℕ → Type 0) → Bool → Type 0
-Raises g cost pats labels old new at changed = Passes heights_weight (IsReached g cost pats labels) old new at changed
+abbrev pub LowersHeights : Graph → Cost → List Pattern → List (Option Mark) → List (Option Mark) → List (Option Mark) → (ℕ → Type 0) → Bool → Type 0
+LowersHeights g cost pats labels old new at changed = Passes heights_weight (IsReached g cost pats labels) old new at changed

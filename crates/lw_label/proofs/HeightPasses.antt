@@ -26,7 +26,7 @@ use Rattle.lw_match.specs.Cutting.{IsFloor}
 use Rattle.lw_match.specs.Least.{Priced, plain_best, IsPricedAt, IsMarkBefore, IsLeastBelow}
 use Rattle.lw_label.specs.Labels.{cost_in, costs_of, AreLeastMarks}
 use Rattle.lw_label.specs.Lowering.{AreLowering}
-use Rattle.lw_label.specs.Rising.{IsWithinSteps, HasHeightAtMost, marked, AreRising, height_weight, height_limit, heights_weight, IsReached, Raises, TakesHeight}
+use Rattle.lw_label.specs.Heights.{IsWithinSteps, HasHeightAtMost, marked, AreHeightMarks, height_weight, height_limit, heights_weight, IsReached, LowersHeights, TakesHeight}
 use Rattle.lw_label.proofs.Marked.{label_at, label_of_mark, mark_of_label, mark_set_same, mark_set_other, priced, standing}
 use Rattle.lw_label.proofs.Falling.{not_below, graph_classes}
 
@@ -84,36 +84,36 @@ module _ (g : Graph) (cost : Cost) (pats : List Pattern) (labels : List (Option 
   L = labels_in (costs_of labels)
 
   -- the pins of a match whose pins have marks: they have labels, and are within the greatest height
-  pins_labelled : (marks : List (Option Mark)) → AreRising g cost pats labels marks → (ps : List ℕ) (ms : List PlainMark) → HaveMarks (marks_in marks) ps ms → AllZip (λ p l. L p ≡ Some l) ps (costs_in ms)
+  pins_labelled : (marks : List (Option Mark)) → AreHeightMarks g cost pats labels marks → (ps : List ℕ) (ms : List PlainMark) → HaveMarks (marks_in marks) ps ms → AllZip (λ p l. L p ≡ Some l) ps (costs_in ms)
   pins_labelled marks are [] [] a = tt
   pins_labelled marks are [] (m ∷ ms) a = absurd a
   pins_labelled marks are (p ∷ ps) [] a = absurd a
   pins_labelled marks are (p ∷ ps) (m ∷ ms) (e, a) = (are.costs p m e, pins_labelled marks are ps ms a)
 
-  pins_within : (marks : List (Option Mark)) → AreRising g cost pats labels marks → (h : ℕ) (ps : List ℕ) (ms : List PlainMark) → HaveMarks (marks_in marks) ps ms → greatest_height ms ≤ h → AllByRecursion (λ p. IsWithinSteps g cost pats labels p h) ps
+  pins_within : (marks : List (Option Mark)) → AreHeightMarks g cost pats labels marks → (h : ℕ) (ps : List ℕ) (ms : List PlainMark) → HaveMarks (marks_in marks) ps ms → greatest_height ms ≤ h → AllByRecursion (λ p. IsWithinSteps g cost pats labels p h) ps
   pins_within marks are h [] ms a le = tt
   pins_within marks are h (p ∷ ps) [] a le = absurd a
   pins_within marks are h (p ∷ ps) (m ∷ ms) (e, a) le = (IsWithin_more (choices_of g cost.pin_counts pats) cost L m.height h (omega arith) p (are.within p m e), pins_within marks are h ps ms a (omega arith))
 
-  heights_low : (marks : List (Option Mark)) → AreRising g cost pats labels marks → (ps : List ℕ) (ms : List PlainMark) → HaveMarks (marks_in marks) ps ms → greatest_height ms ≤ marked marks
+  heights_low : (marks : List (Option Mark)) → AreHeightMarks g cost pats labels marks → (ps : List ℕ) (ms : List PlainMark) → HaveMarks (marks_in marks) ps ms → greatest_height ms ≤ marked marks
   heights_low marks are [] [] a = omega arith
   heights_low marks are [] (m ∷ ms) a = absurd a
   heights_low marks are (p ∷ ps) [] a = absurd a
   heights_low marks are (p ∷ ps) (m ∷ ms) (e, a) = let low = are.low p m e in let rest = heights_low marks are ps ms a in omega (arith, low, rest)
 
-  -- marks of rising heights are in range
-  pub rising_in_range : (marks : List (Option Mark)) → IsCoverProblem g pats cost → IsGraph g → AreLowering g cost pats labels → AreRising g cost pats labels marks → AreInRange cost.cap marks
-  rising_in_range marks problem is low are c m e =
+  -- marks of heights heights are in range
+  pub heights_in_range : (marks : List (Option Mark)) → IsCoverProblem g pats cost → IsGraph g → AreLowering g cost pats labels → AreHeightMarks g cost pats labels marks → AreInRange cost.cap marks
+  heights_in_range marks problem is low are c m e =
       let most = marked_most marks in
       let height = are.low c m e in
       (labels_capped g pats cost (costs_of labels) problem low.sound.attained c m.cost (are.costs c m e), omega (arith, height, most, are.one_each, is.few, is.even))
 
   -- a table of bounds for the labels is one for the marks so far
-  pub rising_bounds : (b : BoundsState) (marks : List (Option Mark)) → AreBounds b g labels → AreRising g cost pats labels marks → AreBounds b g marks
-  rising_bounds b marks bounds are = bounds_of_fewer b g labels marks bounds (λ c m e. mark_of_label labels c m.cost (are.costs c m e))
+  pub heights_bounds : (b : BoundsState) (marks : List (Option Mark)) → AreBounds b g labels → AreHeightMarks g cost pats labels marks → AreBounds b g marks
+  heights_bounds b marks bounds are = bounds_of_fewer b g labels marks bounds (λ c m e. mark_of_label labels c m.cost (are.costs c m e))
 
   -- A class gets the height of the best match.
-  module _ (marks : List (Option Mark)) (are : AreRising g cost pats labels marks) (c : ℕ) (best : Best) (below : c < length marks) (priced_at : IsPricedAt g cost pats (marks_in marks) c (plain_best best)) (label : L c ≡ Some best.mark.cost) where
+  module _ (marks : List (Option Mark)) (are : AreHeightMarks g cost pats labels marks) (c : ℕ) (best : Best) (below : c < length marks) (priced_at : IsPricedAt g cost pats (marks_in marks) c (plain_best best)) (label : L c ≡ Some best.mark.cost) where
     value_is : best.mark.cost ≡ cost.value priced_at.pattern.cell (costs_in priced_at.pin_marks)
     value_is = ap (λ (k : PlainMark). k.cost) priced_at.mark
 
@@ -156,8 +156,8 @@ module _ (g : Graph) (cost : Cost) (pats : List Pattern) (labels : List (Option 
           at_class (inl same) = subst (λ n. P n m) (sym same) (subst (λ k. P c k) (same_Some (plain_mark best.mark) m (sym (set_at b same) ∙ e)) here)
           at_class (inr other) = there b m (sym (mark_set_other marks c b (Some best.mark) other) ∙ e)
 
-      pub raised : AreRising g cost pats labels (slice_set marks c (Some best.mark))
-      raised = record {
+      pub lowered : AreHeightMarks g cost pats labels (slice_set marks c (Some best.mark))
+      lowered = record {
         one_each = length-set marks c (Some best.mark) ∙ are.one_each;
         costs = by_class (λ b m. L b ≡ Some m.cost) label are.costs;
         within = by_class (λ b m. IsWithinSteps g cost pats labels b m.height) best_within are.within;
@@ -179,7 +179,7 @@ module _ (g : Graph) (cost : Cost) (pats : List Pattern) (labels : List (Option 
           input_at b (m, e, low) (inr other) = (m, mark_set_other marks c b (Some best.mark) other ∙ e, low)
 
   -- the label of a class is not above the cost of a match
-  pub label_at_most : (marks : List (Option Mark)) → AreRising g cost pats labels marks → AreBoundedIn g pats cost (costs_of labels) → (c l : ℕ) (b : Priced) → L c ≡ Some l → IsPricedAt g cost pats (marks_in marks) c b → l ≤ b.mark.cost
+  pub label_at_most : (marks : List (Option Mark)) → AreHeightMarks g cost pats labels marks → AreBoundedIn g pats cost (costs_of labels) → (c l : ℕ) (b : Priced) → L c ≡ Some l → IsPricedAt g cost pats (marks_in marks) c b → l ≤ b.mark.cost
   label_at_most marks are bounded c l b label is =
       let (k, at, low) = bounded c is.pattern.cell b.found.pins (costs_in is.pin_marks) (standing g cost pats (marks_in marks) c b is) (pins_labelled marks are b.found.pins is.pin_marks is.have) in
       let value : b.mark.cost ≡ cost.value is.pattern.cell (costs_in is.pin_marks) = ap (λ (m : PlainMark). m.cost) is.mark in
@@ -187,7 +187,7 @@ module _ (g : Graph) (cost : Cost) (pats : List Pattern) (labels : List (Option 
       omega (arith, low, value, same)
 
   -- so it is a floor
-  pub label_is_floor : (marks : List (Option Mark)) → IsCoverProblem g pats cost → AreLowering g cost pats labels → AreRising g cost pats labels marks → AreBoundedIn g pats cost (costs_of labels) → (c l : ℕ) → L c ≡ Some l → IsFloor g cost pats (marks_in marks) c l
+  pub label_is_floor : (marks : List (Option Mark)) → IsCoverProblem g pats cost → AreLowering g cost pats labels → AreHeightMarks g cost pats labels marks → AreBoundedIn g pats cost (costs_of labels) → (c l : ℕ) → L c ≡ Some l → IsFloor g cost pats (marks_in marks) c l
   label_is_floor marks problem low are bounded c l label = record {
     capped = labels_capped g pats cost (costs_of labels) problem low.sound.attained c l label;
     below = λ b is. label_at_most marks are bounded c l b label is;
@@ -198,7 +198,7 @@ module _ (g : Graph) (cost : Cost) (pats : List Pattern) (labels : List (Option 
   reached_unlabelled marks c none cell ps ms m have label = absurd (none-some (cost.value cell (costs_in ms)) (sym none ∙ label))
 
   -- the height of a match whose pins have marks, where some class has none
-  low_height : (marks : List (Option Mark)) → AreRising g cost pats labels marks → IsGraph g → (c : ℕ) → c < length marks → slice_index_or marks c None ≡ None → (ps : List ℕ) (ms : List PlainMark) → HaveMarks (marks_in marks) ps ms → suc (greatest_height ms) < 2 ^ 32 - 1
+  low_height : (marks : List (Option Mark)) → AreHeightMarks g cost pats labels marks → IsGraph g → (c : ℕ) → c < length marks → slice_index_or marks c None ≡ None → (ps : List ℕ) (ms : List PlainMark) → HaveMarks (marks_in marks) ps ms → suc (greatest_height ms) < 2 ^ 32 - 1
   low_height marks are is c below none ps ms have =
       let new : Mark = record { cost = 0; height = 0 } in
       let low = heights_low marks are ps ms have in
@@ -207,7 +207,7 @@ module _ (g : Graph) (cost : Cost) (pats : List Pattern) (labels : List (Option 
       let same = length-set marks c (Some new) in
       omega (arith, low, more, most, same, are.one_each, is.few, is.even)
 
-  module _ (marks : List (Option Mark)) (are : AreRising g cost pats labels marks) (c l : ℕ) (bound : PlainMark) (label : L c ≡ Some l) (same_cost : bound.cost ≡ l) (same_height : bound.height ≡ height_limit (slice_index_or marks c None)) where
+  module _ (marks : List (Option Mark)) (are : AreHeightMarks g cost pats labels marks) (c l : ℕ) (bound : PlainMark) (label : L c ≡ Some l) (same_cost : bound.cost ≡ l) (same_height : bound.height ≡ height_limit (slice_index_or marks c None)) where
     pub reached_under : IsGraph g → c < length marks → IsLeastBelow g cost pats (marks_in marks) c bound None → IsReached g cost pats labels marks c
     reached_under is below none cell ps ms m have attained =
         let (b, at, e) = priced g cost pats (marks_in marks) c cell ps ms m have in
@@ -241,19 +241,19 @@ module _ (g : Graph) (cost : Cost) (pats : List Pattern) (labels : List (Option 
             (label ∙ ap (λ n. Some n) same, within_limit (slice_index_or marks c None) (subst (λ h. best.mark.height < h) same_height lt))
 
   -- a class that keeps its height
-  pub raises_at : (marks new : List (Option Mark)) (c : ℕ) (changed : Bool) → TakesHeight g cost pats labels marks new changed → (changed ≡ false → IsReached g cost pats labels marks c) → Raises g cost pats labels marks new (λ b. b ≡ c) changed
-  raises_at marks new c changed takes reached = record {
+  pub heights_at : (marks new : List (Option Mark)) (c : ℕ) (changed : Bool) → TakesHeight g cost pats labels marks new changed → (changed ≡ false → IsReached g cost pats labels marks c) → LowersHeights g cost pats labels marks new (λ b. b ≡ c) changed
+  heights_at marks new c changed takes reached = record {
     falls = takes.falls;
     same = takes.same;
     still = λ e b at. subst (λ a. IsReached g cost pats labels marks a) (sym at) (reached e);
   }
 
-  pub raises_any : (marks new : List (Option Mark)) (changed : Bool) → TakesHeight g cost pats labels marks new changed → Raises g cost pats labels marks new (λ b. ⊥) changed
-  raises_any marks new changed takes =
+  pub heights_any : (marks new : List (Option Mark)) (changed : Bool) → TakesHeight g cost pats labels marks new changed → LowersHeights g cost pats labels marks new (λ b. ⊥) changed
+  heights_any marks new changed takes =
       record { falls = takes.falls; same = takes.same; still = λ e b none. absurd none }
 
   -- Once no height can be lowered, each class with a label has its height.
-  module _ (marks : List (Option Mark)) (problem : IsCoverProblem g pats cost) (graph : IsGraph g) (low : AreLowering g cost pats labels) (bounded : AreBoundedIn g pats cost (costs_of labels)) (are : AreRising g cost pats labels marks) (reached : (c : ℕ) → c < length g.pairs → IsReached g cost pats labels marks c) where
+  module _ (marks : List (Option Mark)) (problem : IsCoverProblem g pats cost) (graph : IsGraph g) (low : AreLowering g cost pats labels) (bounded : AreBoundedIn g pats cost (costs_of labels)) (are : AreHeightMarks g cost pats labels marks) (reached : (c : ℕ) → c < length g.pairs → IsReached g cost pats labels marks c) where
     -- the marks of pins that are within some steps
     marks_within : (h : ℕ) → ((c : ℕ) → IsWithinSteps g cost pats labels c h → HasHeightAtMost marks c h) → (ps ls : List ℕ) → AllZip (λ p l. L p ≡ Some l) ps ls → AllByRecursion (λ p. IsWithinSteps g cost pats labels p h) ps → (ms : List PlainMark) × HaveMarks (marks_in marks) ps ms × (costs_in ms ≡ ls) × (greatest_height ms ≤ h)
     marks_within h ih [] [] a w = ([], tt, refl, omega arith)
@@ -305,7 +305,7 @@ module _ (g : Graph) (cost : Cost) (pats : List Pattern) (labels : List (Option 
         within = are.within c m e;
         least = λ k w. let (j, at, le) = known k c w in let same : j.height ≡ m.height = ap (λ (z : PlainMark). z.height) (same_Some j m (sym at ∙ e)) in omega (arith, le, same);
       });
-      in_range = rising_in_range marks problem graph low are;
+      in_range = heights_in_range marks problem graph low are;
     }
 
 -- The inputs' classes with their labels.
@@ -341,7 +341,7 @@ module _ (g : Graph) (labels : List (Option Mark)) where
       given_at j b lt at (inr other) (inl is) = absurd (other (same_Some b c (sym at ∙ (ap (λ n. slice_get g.leaves n) is ∙ leaf))))
       given_at j b lt at (inr other) (inr before) = mark_set_other marks c b new other ∙ are.given j b (omega arith) at
 
-  pub heights_started : (cost : Cost) (pats : List Pattern) (count : ℕ) (marks : List (Option Mark)) → length g.leaves ≤ count → AreStarted count marks → AreLowering g cost pats labels → AreRising g cost pats labels marks
+  pub heights_started : (cost : Cost) (pats : List Pattern) (count : ℕ) (marks : List (Option Mark)) → length g.leaves ≤ count → AreStarted count marks → AreLowering g cost pats labels → AreHeightMarks g cost pats labels marks
   heights_started cost pats count marks all are low = record {
     one_each = are.one_each;
     costs = λ c m e. label_of_mark labels c m (are.only c m e).0;
