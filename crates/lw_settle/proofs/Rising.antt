@@ -9,8 +9,8 @@ use Rattle.lw_laws.specs.Costs.{Cost, IsCost}
 use Rattle.lw_laws.specs.Marks.{Mark as PlainMark, Marks, HaveMarks, IsMarkAtMost, leaf_mark, price}
 use Rattle.lw_match.specs.declared.mark.Mark.{Mark}
 use Rattle.lw_match.specs.Values.{marks_in, plain_mark}
-use Rattle.lw_label.specs.Rising.{marked}
-use Rattle.lw_label.proofs.Climbing.{marked_more, marked_most}
+use Rattle.lw_label.specs.Heights.{marked}
+use Rattle.lw_label.proofs.HeightPasses.{marked_more, marked_most}
 use Rattle.lw_label.proofs.Marked.{mark_set_same, mark_set_other}
 use Rattle.lw_settle.specs.declared.queue.Taken.{Taken}
 use Rattle.lw_settle.specs.Queues.{IsFirst, IsLowered}

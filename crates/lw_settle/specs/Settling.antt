@@ -5,7 +5,7 @@ use Rattle.lw_laws.specs.Costs.{Cost}
 use Rattle.lw_laws.specs.Marks.{Mark as PlainMark, Marks, HaveMarks, IsMarkAtMost, leaf_mark, price}
 use Rattle.lw_match.specs.declared.mark.Mark.{Mark}
 use Rattle.lw_match.specs.Values.{marks_in}
-use Rattle.lw_label.specs.Rising.{marked}
+use Rattle.lw_label.specs.Heights.{marked}
 use Rattle.lw_settle.specs.Stores.{Stored, Placed, placed, pins_of, times, uses_of}
 
 -- the mark is that of an input at the class, or of a match there by the marks of its pins

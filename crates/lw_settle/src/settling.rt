@@ -3,7 +3,7 @@ ghost use Rattle.lw_graph.specs.Graphs.{IsGraph};
 ghost use Rattle.lw_laws.specs.Graphs.{Graph as PlainGraph};
 ghost use Rattle.lw_laws.specs.Rounds.{labels_in};
 ghost use Rattle.lw_label.specs.Labels.{costs_of};
-ghost use Rattle.lw_label.specs.Rising.{marked};
+ghost use Rattle.lw_label.specs.Heights.{marked};
 ghost use Rattle.lw_match.specs.Values.{marks_in, plain_mark};
 ghost use Rattle.lw_settle.specs.Settled.{AreSettledMarks, HaveLeafCosts, settle_steps};
 ghost use Rattle.lw_settle.specs.Queues.{AreNone};

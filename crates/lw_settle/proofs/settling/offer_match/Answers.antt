@@ -1,10 +1,10 @@
 use Rattle.std.proofs.Common.{◌≤◌, ap, subst, arith}
 use Rattle.lw_laws.specs.Marks.{Mark}
-use Rattle.lw_label.proofs.Climbing.{marked_most}
+use Rattle.lw_label.proofs.HeightPasses.{marked_most}
 use Rattle.lw_match.specs.Values.{marks_in}
 use Rattle.lw_settle.specs.Stores.{pins_of}
 use Rattle.lw_settle.proofs.Taking.{greatest_fits}
-use Rattle.lw_label.specs.Rising.{marked}
+use Rattle.lw_label.specs.Heights.{marked}
 use Rattle.lw_settle.proofs.settling.offer_match.Goals as goal
 
 pub price-mark-requires-clause-in_range : goal.price-mark-requires-clause-in_range
