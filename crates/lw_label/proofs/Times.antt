@@ -1,5 +1,5 @@
 -- Times and starts that are cut at a greatest one.
-use Rattle.std.proofs.Common.{ℕ, zero, suc, ◌+◌, ◌<◌, ◌≡◌, min, max, List, [], ◌∷◌, length, map, take, get_or, slice_get, Some, ap, sym, ◌∙◌, arith}
+use Rattle.std.proofs.Common.{ℕ, zero, suc, ◌+◌, ◌<◌, ◌≤◌, ◌≡◌, min, max, List, [], ◌∷◌, length, map, take, get_or, slice_get, Some, ap, sym, ◌∙◌, arith}
 use Rattle.std.proofs.lemmas.List.{get_or-map, length-map}
 use Rattle.std.proofs.lemmas.Option.{same_Some, none-some}
 use Rattle.std.specs.List.{AllByRecursion}
@@ -22,6 +22,15 @@ cut_step delays pins k so_far sum next in_delays in_pins before here is =
     let more : latest (take (suc k) (map millionths delays)) pins ≡ max (latest (take k (map millionths delays)) pins) (get_or pins k 0 + get_or (map millionths delays) k 0) = latest_suc k (map millionths delays) pins in_ds in_pins in
     let cut : min next most_time ≡ min most_time (latest (take (suc k) (map millionths delays)) pins) = omega (arith, before, here, is, read, more) in
     cut ∙ ap (λ n. min most_time (latest (take n (map millionths delays)) pins)) (sym one)
+
+-- a cell's time is no less than that of a pin with its delay
+pub latest_pin : (delays : List Micro) (ds : List ℕ) (k : ℕ) → length delays ≡ length ds → k < length ds → get_or ds k 0 + (get_or delays k (record { 0 = 0 })).0 ≤ latest (map millionths delays) ds
+latest_pin [] [] k same inside = absurd (omega arith)
+latest_pin [] (d ∷ ds) k same inside = absurd (omega arith)
+latest_pin (m ∷ delays) [] k same inside = absurd (omega arith)
+latest_pin (m ∷ delays) (d ∷ ds) zero same inside = omega arith
+latest_pin (m ∷ delays) (d ∷ ds) (suc k) same inside =
+    let ih = latest_pin delays ds k (omega arith) (omega arith) in omega arith
 
 -- how many pins it has
 pub pins_at : (cells : List CellParts) (place n : ℕ) (cell : CellParts) → slice_get cells place ≡ Some cell → HasPins (map length (delays_of_cells cells)) place n → length cell.delays ≡ n

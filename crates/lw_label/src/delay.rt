@@ -31,7 +31,7 @@ impl<'a> DelayCost<'a> {
 }
 
 impl Cost for DelayCost<'_> {
-    ghost use Rattle.std.specs.Prelude.{refl};
+    ghost use Rattle.std.specs.Prelude.{refl, ℕ, List, ◌≤◌, slice_index};
     ghost use Rattle.lw_label.specs.Delays.{most_time, time_cost};
     ghost use Rattle.lw_laws.specs.Covers.{HasPins};
     ghost use Rattle.lw_laws.proofs.Delays.{delay_cost_is};
@@ -58,6 +58,21 @@ impl Cost for DelayCost<'_> {
     {
         let delays = self.lib.cell(cell).delays();
         earlier(latest(delays, pins), MOST_TIME)
+    }
+
+    fn known_up_to(&self, cell: CellId, pins: usize, pin: usize, gap: u64) -> u64
+        requires has { HasPins (time_cost self.now.lib.now self.now.starts.now).pin_counts cell.0
+            pins }
+        requires pin { pin < pins }
+        ensures { (ds : List ℕ) → length ds ≡ pins → slice_index ds pin + gap ≤ result →
+            slice_index ds pin + gap
+            ≤ (time_cost self.now.lib.now self.now.starts.now).value cell.0 ds }
+    {
+        let delays = self.lib.cell(cell).delays();
+        if delays[pin].0 < gap {
+            return 0;
+        }
+        MOST_TIME
     }
 }
 

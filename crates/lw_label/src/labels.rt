@@ -128,7 +128,7 @@ fn mark_all<C: Cost>(
 {
     let _ = graph.classes();
     label_inputs(graph, cost, labels);
-    let mut tops = Tops::new();
+    let mut tops = Tops::new(pats, cost, bounds);
     lower_all(graph, pats, cost, visits, bounds, &mut tops, labels);
     start_heights(graph, labels, marks);
     visits.restart();

@@ -1,5 +1,5 @@
 // What pins cost less than their cells: guesses, and tests of whether they may be trusted.
-ghost use Rattle.std.specs.Prelude.{◌≡◌, ◌<◌, ◌≤◌, ℕ, IsTrue, length, replicate, slice_index, slice_set};
+ghost use Rattle.std.specs.Prelude.{◌≡◌, ◌<◌, ◌≤◌, ◌-◌, ℕ, IsTrue, length, replicate, slice_index, slice_set};
 ghost use Rattle.lw_laws.specs.Covers.{HasPins};
 ghost use Rattle.lw_pattern.specs.Listed.{IsKept};
 ghost use Rattle.lw_match.specs.Cutting.{IsCertifiedBy};
@@ -45,6 +45,55 @@ fn value_alone<C: Cost>(cost: &C, cell: CellId, pins: usize, pin: usize, amount:
     cost.value(cell, &costs[..pins])
 }
 
+/// Up to which number a pin alone, with the cost that its gap leaves of the number, is known to make
+/// the cell cost so much.
+fn known_at<C: Cost>(cost: &C, cell: CellId, pins: usize, pin: usize, gap: u64) -> u64
+    requires has { HasPins (C.costs cost.now).pin_counts cell.0 pins }
+    requires pin { pin < pins }
+    ensures { (top : ℕ) → top ≤ result → top ≤ (C.costs cost.now).value cell.0
+        (slice_set (replicate pins 0) pin (top - gap)) }
+{
+    let known = cost.known_up_to(cell, pins, pin, gap);
+    if known < gap {
+        return 0;
+    }
+    known
+}
+
+/// Whether a pin alone, with the cost that its gap leaves of the top, makes the cell cost so much.
+fn is_certified_at<C: Cost>(
+    cost: &C,
+    cell: CellId,
+    pins: usize,
+    pin: usize,
+    gap: u64,
+    top: u64,
+) -> bool
+    requires has { HasPins (C.costs cost.now).pin_counts cell.0 pins }
+    requires few { pins ≤ 16 }
+    requires pin { pin < pins }
+    ensures { IsTrue result → top ≤ (C.costs cost.now).value cell.0
+        (slice_set (replicate pins 0) pin (top - gap)) }
+{
+    if top <= known_at(cost, cell, pins, pin, gap) {
+        return true;
+    }
+    top <= value_alone(cost, cell, pins, pin, top.saturating_sub(gap))
+}
+
+/// Up to which number the gaps of a cell's pins are known to be certified.
+fn known_by<C: Cost>(cost: &C, cell: CellId, pins: usize, gaps: &[u64]) -> u64
+    requires has { HasPins (C.costs cost.now).pin_counts cell.0 pins }
+    ensures { (top : ℕ) → top ≤ result →
+        IsGapCertified (C.costs cost.now) cell.0 pins gaps.now top }
+{
+    let mut known = u64::MAX;
+    for pin in 0..pins {
+        known = known.min(known_at(cost, cell, pins, pin, gap_at(gaps, pin)));
+    }
+    known
+}
+
 /// Whether each pin alone, with the cost that its gap leaves of the top, makes the cell cost so
 /// much.
 pub(crate) fn is_certified<C: Cost>(
@@ -59,8 +108,7 @@ pub(crate) fn is_certified<C: Cost>(
     ensures { IsTrue result → IsGapCertified (C.costs cost.now) cell.0 pins gaps.now top }
 {
     for pin in 0..pins {
-        let amount = top.saturating_sub(gap_at(gaps, pin));
-        if value_alone(cost, cell, pins, pin, amount) < top {
+        if !is_certified_at(cost, cell, pins, pin, gap_at(gaps, pin), top) {
             return false;
         }
     }
@@ -83,6 +131,19 @@ pub(crate) fn is_certified_by<C: Cost>(
     let pins = pin_count(pattern.nodes.as_slice());
     let own = gaps_at(gaps, pat);
     is_certified(cost, pattern.cell, pins, own, top)
+}
+
+/// Up to which number the gaps of a pattern's pins are known to be certified.
+pub(crate) fn known_of<C: Cost>(pats: &Patterns, cost: &C, gaps: &[[u64; 16]], pat: PatId) -> u64
+    requires of_cells { AreOfCells (C.costs cost.now).pin_counts pats.now }
+    requires pat { pat.0 < length pats.now }
+    ensures { (top : ℕ) → top ≤ result →
+        IsCertifiedBy (C.costs cost.now) pats.now gaps.now pat.0 top }
+{
+    let pattern = pats.get(pat);
+    let pins = pin_count(pattern.nodes.as_slice());
+    let own = gaps_at(gaps, pat);
+    known_by(cost, pattern.cell, pins, own)
 }
 
 // The gap of each pin of a cell, guessed from what the cell costs by the pin alone. Nothing rests

@@ -1,13 +1,11 @@
 // Numbers at which the gaps of all patterns may be trusted, remembered over many searches.
-ghost use Rattle.std.specs.Prelude.{◌≡◌, ◌<◌, ◌≢◌, IsTrue, List, ℕ, length};
-ghost use Rattle.lw_laws.specs.Costs.{Cost as PlainCost};
-ghost use Rattle.lw_laws.specs.Covers.{Pattern as TreeOfCell};
+ghost use Rattle.std.specs.Prelude.{◌≡◌, ◌<◌, ◌≤◌, ◌≢◌, IsTrue, ℕ, length};
 ghost use Rattle.lw_match.specs.Least.{AreOfCells};
 ghost use Rattle.lw_match.specs.Numbers.{never};
 ghost use Rattle.lw_match.specs.Cutting.{AreCertified, AreKnown, IsLikeLast};
 
-use crate::Cost;
-use crate::gaps::{gaps_at, is_certified_by};
+use crate::gaps::{gaps_at, is_certified_by, known_of};
+use crate::{Bounds, Cost};
 use lw_pattern::Patterns;
 use lw_pool::PatId;
 use std::marker::Model;
@@ -45,6 +43,18 @@ fn are_certified<C: Cost>(pats: &Patterns, cost: &C, gaps: &[[u64; 16]], top: u6
     true
 }
 
+/// Up to which number the gaps of all patterns are known to be certified.
+fn known_up_to<C: Cost>(pats: &Patterns, cost: &C, gaps: &[[u64; 16]]) -> u64
+    requires { AreOfCells (C.costs cost.now).pin_counts pats.now }
+    ensures { (top : ℕ) → top ≤ result → AreCertified (C.costs cost.now) pats.now gaps.now top }
+{
+    let mut known = u64::MAX;
+    for number in 0..pats.len() {
+        known = known.min(known_of(pats, cost, gaps, PatId(number)));
+    }
+    known
+}
+
 /// The place of a number: numbers that lie close together have different ones.
 fn place_of(top: u64) -> usize
     ensures { result < 4096 }
@@ -52,30 +62,33 @@ fn place_of(top: u64) -> usize
     (top.wrapping_mul(0x9e37_79b9_7f4a_7c15) >> 32) as usize % PLACES
 }
 
-/// Numbers at which the gaps of all patterns were certified. Each place has the last of those that
-/// belong there.
+/// Numbers at which the gaps of all patterns were certified: all up to one, and of those above it
+/// some. Each place has the last of those that belong there.
 #[derive(Drop)]
 pub struct Tops {
+    known: u64,
     tops: [u64; 4096],
 }
 
 impl Model for Tops {
-    ghost use Rattle.std.specs.Prelude.{List, ℕ, ◌≡◌, length};
+    ghost use Rattle.std.specs.Prelude.{◌≡◌, length};
+    ghost use Rattle.lw_match.specs.Cutting.{TopsState};
 
-    ghost Value = { List ℕ };
+    ghost Value = { TopsState };
 
-    ghost view = { λ t. t.tops };
+    ghost view = { λ t. record { known = t.known; tops = t.tops } };
 
     ghost invariant = { λ t. length t.tops ≡ 4096 };
 }
 
 impl Tops {
-    /// Nothing is remembered yet.
-    pub fn new() -> Self
-        ensures { (cost : PlainCost) (pats : List TreeOfCell) (gaps : List (List ℕ)) →
-            AreKnown cost pats gaps result }
+    /// What is known of the patterns' gaps by the cost alone.
+    pub fn new<C: Cost>(pats: &Patterns, cost: &C, bounds: &Bounds) -> Self
+        requires { AreOfCells (C.costs cost.now).pin_counts pats.now }
+        ensures { AreKnown (C.costs cost.now) pats.now bounds.now.gaps result }
     {
         Tops {
+            known: known_up_to(pats, cost, bounds.cuts().gaps),
             tops: [u64::MAX; 4096],
         }
     }
@@ -96,6 +109,9 @@ impl Tops {
     {
         if top == u64::MAX {
             return false;
+        }
+        if top <= self.known {
+            return true;
         }
         let place = place_of(top);
         if self.tops[place] == top {

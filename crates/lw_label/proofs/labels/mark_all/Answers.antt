@@ -17,4 +17,4 @@ lower_all_heights-requires-clause-heights g c = c.start_heights.ensures (g.C.Cos
 
 pub lower_all-requires-clause-known : goal.lower_all-requires-clause-known
 lower_all-requires-clause-known g c =
-    c.new-tops.ensures (g.C.Cost.costs c.args.cost.now) c.args.pats.now c.args.bounds.now.gaps
+    c.new-tops.ensures

@@ -1,4 +1,4 @@
-use Rattle.std.proofs.Common.{◌≡◌, ◌∙◌, ap, ◌-◌, subst, arith}
+use Rattle.std.proofs.Common.{◌≡◌, subst, arith}
 use Rattle.lw_match.proofs.Certified.{IsCertifiedBelow, certified_none, certified_more}
 use Rattle.lw_match.proofs.gaps.is_certified.Goals as goal
 
@@ -8,7 +8,7 @@ loop-pin-init g c =
 
 pub loop-pin-preserved : goal.loop-pin-preserved
 loop-pin-preserved g c =
-    certified_more (g.C.Cost.costs c.args.cost.now) c.args.cell.0 c.args.pins c.args.gaps.now c.args.top c.loop-pin.pin c.saturating_sub-amount.result c.value_alone.result c.loop-pin.invariant (c.saturating_sub-amount.ensures ∙ ap (λ n. c.args.top - n) c.gap_at.ensures) c.value_alone.ensures c.if-value_alone-top.false
+    certified_more (g.C.Cost.costs c.args.cost.now) c.args.cell.0 c.args.pins c.args.gaps.now c.args.top c.loop-pin.pin c.gap_at.result c.loop-pin.invariant c.gap_at.ensures (c.is_certified_at.ensures c.if-not-is_certified_at.false)
 
 pub returns : goal.returns
 returns g c = λ t.
