@@ -44,6 +44,7 @@ impl Waiting {
     }
 
     // Keeps a piece that there is room for.
+    #[inline(always)]
     fn keep(&mut self, piece: &[u8])
         requires { length piece.now + length self.old.bytes ≤ 2048 }
         ensures bytes { self.new.bytes ≡ self.old.bytes ++ piece.now }
@@ -70,6 +71,7 @@ pub fn flush<S: Sink>(sink: &mut S, waiting: &mut Waiting)
 }
 
 /// Puts a piece behind what was put before. It takes no memory.
+#[inline(always)]
 pub fn put<S: Sink>(sink: &mut S, waiting: &mut Waiting, piece: &[u8])
     ensures { Puts (S.taken sink.old) (S.faults sink.old) waiting.old (S.taken sink.new)
         (S.faults sink.new) waiting.new piece.now }
@@ -78,6 +80,15 @@ pub fn put<S: Sink>(sink: &mut S, waiting: &mut Waiting, piece: &[u8])
         waiting.keep(piece);
         return;
     }
+    put_over(sink, waiting, piece);
+}
+
+// Puts a piece for which there may be no room, out of the way of those that there is room for.
+#[inline(never)]
+fn put_over<S: Sink>(sink: &mut S, waiting: &mut Waiting, piece: &[u8])
+    ensures { Puts (S.taken sink.old) (S.faults sink.old) waiting.old (S.taken sink.new)
+        (S.faults sink.new) waiting.new piece.now }
+{
     flush(sink, waiting);
     if piece.len() <= ROOM - waiting.used {
         waiting.keep(piece);

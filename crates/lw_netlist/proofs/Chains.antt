@@ -28,6 +28,19 @@ chains-none bucket size names heads next none = record {
   chained = λ j k lt e. absurd (omega (arith, lt));
 }
 
+-- chains of names that stay, whatever stands behind them
+pub chains-same : (bucket : List ℕ → ℕ) (size : ℕ) (names more : List (List ℕ)) (n : ℕ) (heads next longer : List ℕ) → ((k : ℕ) → k < n → name_at more k ≡ name_at names k) → ((j : ℕ) → j < n → get_or longer j 0 ≡ get_or next j 0) → AreChains bucket size names n heads next → AreChains bucket size more n heads longer
+chains-same bucket size names more n heads next longer stays lies c = record {
+  first = λ k lt. omega (arith, ap (λ x. get_or heads (bucket x) 0) (stays k lt), c.first k lt);
+  later = λ j k before lt same. omega (arith, lies j lt, c.later j k before lt (sym (ap bucket (stays k (omega (arith, before, lt)))) ∙ (same ∙ ap bucket (stays j lt))));
+  low = c.low;
+  falling = λ j lt. omega (arith, lies j lt, c.falling j lt);
+  headed = λ b k lt e. ap bucket (stays k (omega (arith, c.low b lt, e))) ∙ c.headed b k lt e;
+  chained = λ j k lt e.
+      let was = sym (lies j lt) ∙ e in
+      ap bucket (stays k (omega (arith, c.falling j lt, was, lt))) ∙ (c.chained j k lt was ∙ sym (ap bucket (stays j lt)));
+}
+
 module _ (bucket : List ℕ → ℕ) (size : ℕ) (names : List (List ℕ)) (n : ℕ) (heads next : List ℕ) (b : ℕ) (own : b ≡ bucket (name_at names n)) (in_heads : b < length heads) (in_next : n < length next) (buckets : length heads ≡ size) (c : AreChains bucket size names n heads next) where
   abbrev bucket_at : ℕ → ℕ
   bucket_at k = bucket (name_at names k)

@@ -3,6 +3,7 @@ pub mod Chains
 pub mod Closed
 pub mod Filling
 pub mod Found
+pub mod Growing
 pub mod Latest
 pub mod Moving
 pub mod Names

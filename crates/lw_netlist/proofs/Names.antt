@@ -81,7 +81,7 @@ undriven_in_head driven link x xs all fault same e =
 pub undriven_behind_head : {X : Type 0} (driven : List (List ℕ)) (link : X → Link) (x : X) (xs : List X) (all : List (List ℕ)) → undriven_in driven (flat_map needs_of (map link (x ∷ xs))) ≡ undriven_in driven all → undriven_in driven (link x).needs ≡ None → undriven_in driven (flat_map needs_of (map link xs)) ≡ undriven_in driven all
 undriven_behind_head driven link x xs all same e = sym (undriven_later driven (link x).needs (flat_map needs_of (map link xs)) e) ∙ same
 
-distinct_push : (xs : List (List ℕ)) (name : List ℕ) → IsDistinct bytes_eq xs → is_among xs name ≡ false → IsDistinct bytes_eq (xs ++ name ∷ [])
+pub distinct_push : (xs : List (List ℕ)) (name : List ℕ) → IsDistinct bytes_eq xs → is_among xs name ≡ false → IsDistinct bytes_eq (xs ++ name ∷ [])
 unfolding IsDistinct
 distinct_push [] name distinct is = (tt, tt)
 distinct_push (x ∷ xs) name distinct is = by_test (bytes_eq name x) refl is (distinct_push xs name distinct.1)

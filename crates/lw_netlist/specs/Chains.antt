@@ -28,5 +28,5 @@ pub record AreChains (bucket : List ℕ → ℕ) (size : ℕ) (names : List (Lis
 pub record AreNumbered (names : List (List ℕ)) (heads next : List ℕ) : Type 0 where
   pub distinct : IsDistinct bytes_eq names
   pub chains : AreChains (bucket_in (length heads)) (length heads) names (length names) heads next
-  pub places : length names ≤ length next
+  pub places : length next ≡ length names
   pub some : 0 < length heads

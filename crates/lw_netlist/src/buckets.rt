@@ -1,9 +1,10 @@
 // Names that are found by chains of the places of those in one bucket.
-ghost use Rattle.std.specs.Prelude.{◌≡◌, ◌≢◌, ◌<◌, ◌≤◌, ℕ, [], None, Some, length, take, IfSome, IfNone, slice_index_or};
+ghost use Rattle.std.specs.Prelude.{◌≡◌, ◌≢◌, ◌<◌, ◌≤◌, ℕ, [], None, Some, length, replicate, take, IfOk, IfSome, IfNone, slice_index_or};
 ghost use Rattle.lw_netlist.specs.Chains.{AreChains, bucket_in, hash_from, name_at};
 ghost use Rattle.lw_netlist.specs.Closing.{twice_after};
 
 use crate::SpelledNames;
+use std::alloc::{AllocError, Global};
 
 // A number for the bytes of a name.
 fn hash_of(name: &[u8]) -> u64
@@ -17,7 +18,7 @@ fn hash_of(name: &[u8]) -> u64
 }
 
 // The bucket of a name, where there are so many.
-fn bucket_of(name: &[u8], size: usize) -> usize
+pub(crate) fn bucket_of(name: &[u8], size: usize) -> usize
     requires { 0 < size }
     ensures bucket { result ≡ bucket_in size name.now }
     ensures low { result < size }
@@ -25,8 +26,8 @@ fn bucket_of(name: &[u8], size: usize) -> usize
     (hash_of(name) % size as u64) as usize
 }
 
-// The place of a name among the first so many.
-fn place_in(
+/// The place of a name among the first so many.
+pub(crate) fn place_in(
     names: &SpelledNames,
     count: usize,
     heads: &[u32],
@@ -55,6 +56,13 @@ fn place_in(
     None
 }
 
+/// No chain yet.
+pub(crate) fn zeros(alloc: Global, count: usize) -> Result<Vec<u32>, AllocError>
+    ensures { IfOk result (λ v. v.items ≡ replicate count 0) }
+{
+    vec![in alloc; 0; count]
+}
+
 /// The place of a name.
 pub(crate) fn find(names: &SpelledNames, heads: &[u32], next: &[u32], name: &[u8]) -> Option<usize>
     requires chains { AreChains (bucket_in (length heads.now)) (length heads.now) names.now
@@ -67,6 +75,24 @@ pub(crate) fn find(names: &SpelledNames, heads: &[u32], next: &[u32], name: &[u8
 {
     let bucket = bucket_of(name, heads.len());
     place_in(names, names.len(), heads, next, bucket, name)
+}
+
+/// Makes chains for names. No chain was made before.
+pub(crate) fn relink(names: &SpelledNames, heads: &mut [u32], next: &mut [u32])
+    requires few { length names.now < 4294967295 }
+    requires some { 0 < length heads.old }
+    requires places { length names.now ≤ length next.old }
+    requires none { (b : ℕ) → b < length heads.old → slice_index_or heads.old b 0 ≡ 0 }
+    ensures heads { length heads.new ≡ length heads.old }
+    ensures next { length next.new ≡ length next.old }
+    ensures chains { AreChains (bucket_in (length heads.new)) (length heads.new) names.now
+        (length names.now) heads.new next.new }
+{
+    for place in 0..names.len() {
+        let bucket = bucket_of(names.get(place), heads.len());
+        next[place] = heads[bucket];
+        heads[bucket] = place as u32 + 1;
+    }
 }
 
 /// Makes chains for names that differ, or tells the place of the first that stands before it. No

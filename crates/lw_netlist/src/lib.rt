@@ -23,5 +23,6 @@ pub use draft::{DraftGate, DraftGates, GateDraft, Wire, Wires};
 pub use fault::NetlistFault;
 pub use gate::{Gate, Gates, Port, PortList};
 pub use netlist::Netlist;
+pub use signals::Signals;
 pub use spelled::SpelledGate;
 pub use spelled_names::SpelledNames;

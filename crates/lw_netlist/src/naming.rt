@@ -6,7 +6,7 @@ ghost use Rattle.lw_dag.specs.Graphs.{most_signals};
 ghost use Rattle.lw_dag.specs.Names.{number_in};
 ghost use Rattle.lw_netlist.specs.Numbered.{TellsTwice, TellsUndriven, numbered};
 
-use crate::buckets::link;
+use crate::buckets::{link, zeros};
 use crate::signals::Signals;
 use crate::{GateDraft, NetlistFault, SpelledGate, SpelledNames, Wire};
 use lw_pool::{Name, Numbers};
@@ -39,12 +39,6 @@ pub(crate) fn driven(alloc: Global, draft: &GateDraft) -> Result<SpelledNames, A
         names.push(wire.to.as_bytes())?;
     }
     Ok(names)
-}
-
-fn zeros(alloc: Global, count: usize) -> Result<Vec<u32>, AllocError>
-    ensures { IfOk result (λ v. v.items ≡ replicate count 0) }
-{
-    vec![in alloc; 0; count]
 }
 
 // Numbers names, or tells the first that is there twice. For more of them than there are numbers

@@ -28,7 +28,7 @@ impl Model for SpelledNames {
 }
 
 impl SpelledNames {
-    ghost use Rattle.std.specs.Prelude.{◌≡◌, ◌<◌, ◌++◌, [], ◌∷◌, ◌↔◌, length, slice_get, IsTrue, OnOk, Some};
+    ghost use Rattle.std.specs.Prelude.{◌≡◌, ◌<◌, ◌++◌, [], ◌∷◌, ◌↔◌, length, slice_get, IsTrue, OnOk, OnErr, Some};
 
     /// No names. Growth takes memory from `alloc`.
     pub fn new(alloc: Global) -> Self
@@ -55,10 +55,11 @@ impl SpelledNames {
         name_at(&self.bytes, &self.ends, place)
     }
 
-    /// Appends a name.
+    /// Appends a name. For want of memory nothing is changed.
     pub fn push(&mut self, name: &[u8]) -> Result<(), AllocError>
         requires { 0 < length name.now }
-        ensures { OnOk result (self.new ≡ self.old ++ name.now ∷ []) }
+        ensures ok { OnOk result (self.new ≡ self.old ++ name.now ∷ []) }
+        ensures err { OnErr result (self.new ≡ self.old) }
     {
         self.ends.reserve(1)?;
         self.bytes.extend_from_slice(name)?;

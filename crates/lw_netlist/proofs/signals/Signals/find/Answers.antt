@@ -1,5 +1,6 @@
 use Rattle.std.proofs.Common.{◌<◌, length, ap, sym, ◌∙◌}
 use Rattle.lw_dag.specs.Names.{is_among, number_in}
+use Rattle.lw_netlist.specs.Chains.{name_at}
 use Rattle.lw_netlist.proofs.Found.{found-number, found-all, not-among}
 use Rattle.lw_netlist.proofs.signals.Signals.find.Goals as goal
 
@@ -24,3 +25,6 @@ returns-in-None-clause-found c =
     let names = c.self.inside.names in
     let name = c.args.name.now in
     sym (not-among names name c.in-None.ensures.none) ∙ ap (λ l. is_among l name) c.self.view_is
+
+pub returns-in-Some-clause-named : goal.returns-in-Some-clause-named
+returns-in-Some-clause-named c = ap (λ l. name_at l c.in-Some.place) (sym c.self.view_is) ∙ c.in-Some.ensures.some
