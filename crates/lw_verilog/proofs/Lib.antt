@@ -14,6 +14,7 @@ pub mod OneMeaning
 pub mod Parsing
 pub mod Ports
 pub mod PutParts
+pub mod Quiet
 pub mod ReadBack
 pub mod ReadRuns
 pub mod Runs

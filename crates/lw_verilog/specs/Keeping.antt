@@ -16,7 +16,7 @@ use Rattle.lw_verilog.specs.Tokens.{tokens}
 pub record Keeps (cells : List CellParts) (c : Contents) (r : Reading) : Type 0 where
   pub place : c.place ≡ r.place
   pub names : c.names ≡ r.names
-  pub declared : c.declared.keys ≡ r.declared
+  pub declared : c.declared ≡ r.declared
   pub header : c.header ≡ all_in header_in r.said
   pub inputs : c.inputs ≡ all_in inputs_in r.said
   pub outputs : c.outputs ≡ all_in outputs_in r.said
@@ -34,7 +34,7 @@ pub record Adds (cells : List CellParts) (what : Task) (names : List (List ℕ))
 -- a token has done its task
 pub record Acts (cells : List CellParts) (what : Task) (name : List ℕ) (old new : Contents) : Type 0 where
   pub names : new.names ≡ names_after what name old.names
-  pub declared : new.declared.keys ≡ declared_after what name old.declared.keys
+  pub declared : new.declared ≡ declared_after what name old.declared
   pub adds : Adds cells what old.names old new
 
 -- how many names and gates there are that an input or a gate may come of

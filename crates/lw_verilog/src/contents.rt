@@ -11,9 +11,8 @@ use crate::rules::{
     cell_fault, declared_fault, find_cell, missing_fault, name_fault, pin_fault, ports_fault,
 };
 use crate::{Kind, Place, Refusal, Task, VerilogKind};
-use indexmap::IndexSet;
 use lw_genlib::Library;
-use lw_netlist::{DraftGates, GateDraft, SpelledNames, Wire, Wires};
+use lw_netlist::{DraftGates, GateDraft, Signals, SpelledNames, Wire, Wires};
 use lw_pool::{CellId, Name, Names};
 use std::alloc::{AllocError, Global};
 use std::mem;
@@ -28,7 +27,7 @@ pub struct Contents {
     // Those of the statement that is open.
     pub(crate) names: SpelledNames,
     // The ports that are declared.
-    pub(crate) declared: IndexSet<Name>,
+    pub(crate) declared: Signals,
     // The model, and then the ports that are listed.
     pub(crate) header: SpelledNames,
     pub(crate) inputs: Names,
@@ -78,15 +77,12 @@ fn append_header(header: &mut SpelledNames, more: &SpelledNames) -> Result<(), A
 }
 
 // Adds a name that is not there.
-fn declare(alloc: Global, declared: &mut IndexSet<Name>, name: &[u8]) -> Result<(), AllocError>
+fn declare(declared: &mut Signals, name: &[u8]) -> Result<(), AllocError>
     requires some { 0 < length name.now }
-    requires new { is_among declared.old.keys name.now ≡ false }
-    ensures { OnOk result (declared.new.keys ≡ declared.old.keys ++ name.now ∷ []) }
+    requires new { is_among declared.old name.now ≡ false }
+    ensures { OnOk result (declared.new ≡ declared.old ++ name.now ∷ []) }
 {
-    let name = Name::from_slice(alloc, name)?;
-    let Ok(_) = declared.insert(name) else {
-        return Err(AllocError);
-    };
+    let _fresh = declared.add(name)?;
     Ok(())
 }
 
@@ -137,21 +133,22 @@ impl Contents {
     ghost use Rattle.lw_verilog.specs.Statements.{model_of};
     ghost use Rattle.lw_verilog.specs.Readings.{Reading, is_done, is_word, moved_on, nothing_read, rule_fault, piece_fault, piece_read, token_fault};
 
-    pub(crate) fn new(alloc: Global) -> Self
-        ensures { (cells : List CellParts) → Keeps cells result nothing_read }
+    pub(crate) fn new(alloc: Global) -> Result<Self, AllocError>
+        ensures { IfOk result (λ contents. (cells : List CellParts) →
+            Keeps cells contents nothing_read) }
     {
-        Contents {
+        Ok(Contents {
             alloc,
             place: Place::Begin,
             hint: CellId(0),
             names: SpelledNames::new(alloc),
-            declared: IndexSet::new(alloc),
+            declared: Signals::none(alloc)?,
             header: SpelledNames::new(alloc),
             inputs: Names::new(alloc),
             outputs: Names::new(alloc),
             gates: DraftGates::new(alloc),
             wires: Wires::new(alloc),
-        }
+        })
     }
 
     pub(crate) fn is_done(&self) -> bool
@@ -171,11 +168,11 @@ impl Contents {
         requires { task ≡ tasks.Declare → 0 < length name.now }
         ensures { IfOk result (λ fault. fault
             ≡ rule_fault lib.now self.now.names
-            (drop 1 self.now.header) self.now.declared.keys task name.now) }
+            (drop 1 self.now.header) self.now.declared task name.now) }
     {
         match task {
             Task::Word => Ok(name_fault(name)),
-            Task::Declare => declared_fault(self.alloc, &self.declared, name),
+            Task::Declare => Ok(declared_fault(&self.declared, name)),
             Task::Cell => Ok(cell_fault(lib, self.hint, name)),
             Task::Pin => Ok(pin_fault(lib, self.hint, &self.names, name)),
             Task::Instance => Ok(missing_fault(lib, self.hint, &self.names)),
@@ -187,7 +184,7 @@ impl Contents {
     // Adds the names of the statement to those of the header, without a copy where there are none.
     fn add_header(&mut self) -> Result<(), AllocError>
         ensures header { OnOk result (self.new.header ≡ self.old.header ++ self.old.names) }
-        ensures declared { self.new.declared.keys ≡ self.old.declared.keys }
+        ensures declared { self.new.declared ≡ self.old.declared }
         ensures inputs { self.new.inputs ≡ self.old.inputs }
         ensures outputs { self.new.outputs ≡ self.old.outputs }
         ensures gates { self.new.gates ≡ self.old.gates }
@@ -205,7 +202,7 @@ impl Contents {
         requires { task ≡ tasks.Instance →
             missing_fault (cell_in lib.now self.old.names) (ties_in self.old.names) ≡ None }
         ensures adds { OnOk result (Adds lib.now task self.old.names self.old self.new) }
-        ensures declared { self.new.declared.keys ≡ self.old.declared.keys }
+        ensures declared { self.new.declared ≡ self.old.declared }
     {
         match task {
             Task::Header => self.add_header(),
@@ -223,7 +220,7 @@ impl Contents {
             missing_fault (cell_in lib.now self.old.names) (ties_in self.old.names) ≡ None }
         ensures adds { OnOk result (Adds lib.now task self.old.names self.old self.new) }
         ensures names { OnOk result (self.new.names ≡ []) }
-        ensures declared { self.new.declared.keys ≡ self.old.declared.keys }
+        ensures declared { self.new.declared ≡ self.old.declared }
     {
         self.add(task, lib)?;
         self.names.clear();
@@ -234,7 +231,7 @@ impl Contents {
     fn act(&mut self, task: Task, name: &[u8], lib: &Library) -> Result<(), AllocError>
         requires some { is_word task ≡ true → 0 < length name.now }
         requires rule { rule_fault lib.now self.old.names
-            (drop 1 self.old.header) self.old.declared.keys task name.now ≡ None }
+            (drop 1 self.old.header) self.old.declared task name.now ≡ None }
         ensures { OnOk result (Acts lib.now task name.now self.old self.new) }
     {
         match task {
@@ -245,7 +242,7 @@ impl Contents {
                 self.names.push(name)
             }
             Task::Declare => {
-                declare(self.alloc, &mut self.declared, name)?;
+                declare(&mut self.declared, name)?;
                 self.names.push(name)
             }
             _ => self.end(task, lib),

@@ -189,8 +189,10 @@ fn escaped(count: usize) -> Piece
     }
 }
 
+// What begins with a slash or an opening bracket.
+#[inline(never)]
 #[tactic(auto, unfolding(crate::specs::Pieces::comment_or_sign))]
-fn comment_or_sign(bytes: &[u8]) -> Piece
+fn slash_or_bracket(bytes: &[u8]) -> Piece
     requires { 0 < length bytes.now }
     ensures piece { result ≡ comment_or_sign bytes.now }
     ensures sign { is_name result.kind ≡ false }
@@ -213,6 +215,24 @@ fn comment_or_sign(bytes: &[u8]) -> Piece
     }
     Piece {
         kind: sign_kind(first),
+        size: 1,
+    }
+}
+
+#[tactic(auto, unfolding(crate::specs::Pieces::comment_or_sign))]
+fn comment_or_sign(bytes: &[u8]) -> Piece
+    requires { 0 < length bytes.now }
+    ensures piece { result ≡ comment_or_sign bytes.now }
+    ensures sign { is_name result.kind ≡ false }
+    ensures some { 0 < result.size }
+    ensures within { result.size ≤ length bytes.now }
+{
+    let second = byte_at(bytes, 1);
+    if second == b'*' || second == b'/' {
+        return slash_or_bracket(bytes);
+    }
+    Piece {
+        kind: sign_kind(bytes[0]),
         size: 1,
     }
 }

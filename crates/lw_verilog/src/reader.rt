@@ -1,8 +1,8 @@
 // A text, token by token.
-ghost use Rattle.std.specs.Prelude.{◌≡◌, ◌<◌, ◌≤◌, ◌+◌, ◌^◌, length, drop, take, if◌then◌else◌, IfOk, IfErr};
+ghost use Rattle.std.specs.Prelude.{◌≡◌, ◌<◌, ◌≤◌, ◌+◌, ◌^◌, false, length, drop, take, if◌then◌else◌, IfOk, IfErr};
 ghost use Rattle.lw_netlist.specs.Plain.{IsOver};
 ghost use Rattle.lw_verilog.specs.Keeping.{IsParsed, TellsParse, refused_at};
-ghost use Rattle.lw_verilog.specs.Tokens.{is_end, last_line, line_feeds};
+ghost use Rattle.lw_verilog.specs.Tokens.{is_end, is_gap, last_line, line_feeds};
 ghost use Rattle.lw_verilog.specs.Verdicts.{IsRead};
 
 use crate::contents::Contents;
@@ -25,6 +25,18 @@ fn line_feeds(bytes: &[u8]) -> u32
         }
     }
     count
+}
+
+// The line behind a piece of this kind that begins in a line. Only gaps have line feeds.
+fn line_behind(kind: Kind, line: u32, bytes: &[u8]) -> u32
+    requires few { line + length bytes.now < 2 ^ 32 }
+    requires one { is_gap kind ≡ false → line_feeds bytes.now ≡ 0 }
+    ensures { result ≡ line + line_feeds bytes.now }
+{
+    match kind {
+        Kind::Gap => line + line_feeds(bytes),
+        _ => line,
+    }
 }
 
 // The number of the last line.
@@ -69,7 +81,7 @@ fn parse(alloc: Global, text: &[u8], lib: &Library) -> Result<Contents, VerilogF
     ensures parsed { IfOk result (IsParsed lib.now text.now) }
     ensures fault { IfErr result (TellsParse lib.now text.now) }
 {
-    let mut contents = Contents::new(alloc);
+    let mut contents = Contents::new(alloc)?;
     let mut rest = text;
     let mut line = 1;
     while !contents.is_done() {
@@ -78,7 +90,7 @@ fn parse(alloc: Global, text: &[u8], lib: &Library) -> Result<Contents, VerilogF
         if let Err(refusal) = contents.read(piece.kind, bytes, lib) {
             return Err(refused_at(refusal, line_of(piece.kind, line, text)));
         }
-        line += line_feeds(bytes);
+        line = line_behind(piece.kind, line, bytes);
         rest = behind(rest, piece.size);
     }
     Ok(contents)

@@ -1,10 +1,9 @@
 // The rules that names break.
-ghost use Rattle.std.specs.Prelude.{◌≡◌, ◌<◌, true, false, None, Some, [], length, drop, is_none, option_map, ◌&&◌, Contains, IfOk, IfSome, IfNone, slice_get, slice_index_or};
+ghost use Rattle.std.specs.Prelude.{◌≡◌, ◌<◌, true, false, None, Some, [], length, replicate, drop, is_none, option_map, ◌&&◌, Contains, IfOk, IfSome, IfNone, slice_get, slice_index_or};
 ghost use Rattle.std.specs.List.{list_all, list_any};
 ghost use Rattle.std.specs.Option.{option_or};
 ghost use Rattle.std.specs.Str.{bytes_eq};
 ghost use Rattle.lw_genlib.specs.Cells.{names_of};
-ghost use Rattle.indexmap.specs.IndexSet.{index_set_len};
 ghost use Rattle.lw_netlist.specs.Closing.{is_among, twice_after};
 ghost use Rattle.lw_mapped.specs.GateLines.{is_formal};
 ghost use Rattle.lw_verilog.specs.Readings.{has_hash, name_fault, declared_fault, cell_fault, formal_fault, cell_in, gives_all, missing_fault, ports_fault};
@@ -12,9 +11,8 @@ ghost use Rattle.lw_verilog.specs.Statements.{first_name, is_for, net_for, numbe
 ghost use Rattle.lw_words.specs.Words.{is_name};
 
 use crate::VerilogKind;
-use indexmap::IndexSet;
 use lw_genlib::{Cell, Library};
-use lw_netlist::SpelledNames;
+use lw_netlist::{Signals, SpelledNames};
 use lw_pool::{CellId, Name};
 use std::alloc::{AllocError, Global};
 
@@ -43,24 +41,17 @@ pub(crate) fn name_fault(name: &[u8]) -> Option<VerilogKind>
 }
 
 /// The rule that the name of an input or an output breaks where it is declared.
-pub(crate) fn declared_fault(
-    alloc: Global,
-    declared: &IndexSet<Name>,
-    name: &[u8],
-) -> Result<Option<VerilogKind>, AllocError>
-    requires { 0 < length name.now }
-    ensures { IfOk result (λ fault. fault
-        ≡ option_or (name_fault name.now) (declared_fault declared.now.keys name.now)) }
+pub(crate) fn declared_fault(declared: &Signals, name: &[u8]) -> Option<VerilogKind>
+    ensures { result ≡ option_or (name_fault name.now) (declared_fault declared.now name.now) }
 {
     let fault = name_fault(name);
     if fault.is_some() {
-        return Ok(fault);
+        return fault;
     }
-    let name = Name::from_slice(alloc, name)?;
-    if declared.contains(&name) {
-        return Ok(Some(VerilogKind::Port));
+    if declared.find(name).is_some() {
+        return Some(VerilogKind::Port);
     }
-    Ok(None)
+    None
 }
 
 // Whether the cell with this number, if there is one, has the name.
@@ -211,73 +202,71 @@ pub(crate) fn missing_fault(
     }
 }
 
-// The names behind the first, if they differ and are all declared.
-fn port_set(
+// Flags of which none is raised.
+fn lowered(alloc: Global, count: usize) -> Result<Vec<bool>, AllocError>
+    ensures { IfOk result (λ flags. flags.items ≡ replicate count false) }
+{
+    vec![in alloc; false; count]
+}
+
+fn is_raised(flags: &[bool], place: usize) -> bool
+    requires { place < length flags.now }
+    ensures { result ≡ slice_index_or flags.now place false }
+{
+    flags[place]
+}
+
+// Whether all flags are raised.
+fn are_raised(flags: &[bool]) -> bool
+    ensures { result ≡ list_all (λ flag. flag) flags.now }
+{
+    flags.iter().all(|flag| *flag)
+}
+
+// Which of the names that are declared stand behind the first of the header, if these differ and
+// are all declared. They are looked for where they were declared, behind one another.
+fn seen_ports(
     alloc: Global,
     header: &SpelledNames,
-    declared: &IndexSet<Name>,
-) -> Result<Option<IndexSet<Name>>, AllocError>
-    ensures keys { IfOk result (λ set. IfSome set (λ s. s.keys ≡ drop 1 header.now)) }
-    ensures once { IfOk result (λ set. IfSome set (λ s. twice_after [] (drop 1 header.now) ≡ None)) }
-    ensures declared { IfOk result (λ set. IfSome set
-        (λ s. list_all (is_among declared.now.keys) (drop 1 header.now) ≡ true)) }
-    ensures none { IfOk result (λ set. IfNone set
+    declared: &Signals,
+) -> Result<Option<Vec<bool>>, AllocError>
+    ensures every { IfOk result (λ seen. IfSome seen (λ s. list_all (λ flag. flag) s.items
+        ≡ list_all (is_among (drop 1 header.now)) declared.now)) }
+    ensures once { IfOk result (λ seen. IfSome seen
+        (λ s. twice_after [] (drop 1 header.now) ≡ None)) }
+    ensures declared { IfOk result (λ seen. IfSome seen
+        (λ s. list_all (is_among declared.now) (drop 1 header.now) ≡ true)) }
+    ensures none { IfOk result (λ seen. IfNone seen
         ((is_none (twice_after [] (drop 1 header.now))
-        && list_all (is_among declared.now.keys) (drop 1 header.now)) ≡ false)) }
+        && list_all (is_among declared.now) (drop 1 header.now)) ≡ false)) }
 {
-    let mut set = IndexSet::with_capacity(alloc, declared.len())?;
+    let mut seen = lowered(alloc, declared.len())?;
+    let mut next = 0;
     for place in 1..header.len() {
-        let name = Name::from_slice(alloc, header.get(place))?;
-        if !has(declared, &name) {
+        let Some(number) = declared.find_from(next, header.get(place)) else {
             return Ok(None);
-        }
-        if has(&set, &name) {
-            return Ok(None);
-        }
-        let Ok(_) = set.insert(name) else {
-            return Err(AllocError);
         };
-    }
-    Ok(Some(set))
-}
-
-fn name_at(set: &IndexSet<Name>, place: usize) -> &Name
-    requires { place < index_set_len set.now }
-    ensures { slice_get set.now.keys place ≡ Some result.now }
-{
-    set.get_index(place).unwrap()
-}
-
-fn has(set: &IndexSet<Name>, name: &Name) -> bool
-    ensures { result ≡ is_among set.now.keys name.now }
-{
-    set.contains(name)
-}
-
-// Whether each name of the second set is one of the first.
-fn has_all(set: &IndexSet<Name>, others: &IndexSet<Name>) -> bool
-    ensures { result ≡ list_all (is_among set.now.keys) others.now.keys }
-{
-    for place in 0..others.len() {
-        if !has(set, name_at(others, place)) {
-            return false;
+        if is_raised(&seen, number) {
+            return Ok(None);
         }
+        seen[number] = true;
+        next = number + 1;
     }
-    true
+    Ok(Some(seen))
 }
 
 /// The rule that the end of a module breaks, with this header, and with these inputs and outputs.
 pub(crate) fn ports_fault(
     alloc: Global,
     header: &SpelledNames,
-    declared: &IndexSet<Name>,
+    declared: &Signals,
 ) -> Result<Option<VerilogKind>, AllocError>
-    ensures { IfOk result (λ fault. fault ≡ ports_fault (drop 1 header.now) declared.now.keys) }
+    ensures { IfOk result (λ fault. fault ≡ ports_fault (drop 1 header.now) declared.now) }
 {
-    let Some(set) = port_set(alloc, header, declared)? else {
+    let Some(seen) = seen_ports(alloc, header, declared)? else {
         return Ok(Some(VerilogKind::Port));
     };
-    if has_all(&set, declared) {
+    if are_raised(&seen) {
         return Ok(None);
     }
     Ok(Some(VerilogKind::Port))

@@ -1,11 +1,18 @@
-use Rattle.std.proofs.Common.{◌+◌, Err, take, ap, sym, ◌∙◌}
+use Rattle.std.proofs.Common.{◌≡◌, ◌+◌, false, Err, take, ap, sym, subst, ◌∙◌}
 use Rattle.lw_verilog.proofs.Parsing.{stands-first, stands-last, parse-told, piece-told, piece-passed}
+use Rattle.lw_verilog.proofs.Quiet.{first-quiet}
+use Rattle.lw_verilog.specs.declared.kind.Piece.{Piece}
 use Rattle.lw_verilog.specs.Readings.{FaultAt, piece_fault}
-use Rattle.lw_verilog.specs.Tokens.{name_of}
+use Rattle.lw_verilog.specs.Tokens.{is_gap, line_feeds, name_of}
 use Rattle.lw_verilog.proofs.reader.parse.Goals as goal
 
 pub loop-rest-init : goal.loop-rest-init
-loop-rest-init c = stands-first c.args.lib.now c.args.text.now c.new-contents.result (c.new-contents.ensures c.args.lib.now)
+loop-rest-init c = stands-first c.args.lib.now c.args.text.now c.in_ok-contents.contents (c.in_ok-contents.ensures c.args.lib.now)
+
+pub line_behind-line-requires-clause-one : goal.line_behind-line-requires-clause-one
+line_behind-line-requires-clause-one c =
+    let bytes = c.loop-rest.rest.now in
+    subst (λ (p : Piece). is_gap p.kind ≡ false → line_feeds (take p.size bytes) ≡ 0) (sym c.first_piece-piece.ensures.piece) (first-quiet bytes)
 
 pub returns-in-Err-clause-fault : goal.returns-in-Err-clause-fault
 returns-in-Err-clause-fault c =
@@ -20,8 +27,8 @@ loop-rest-preserved c =
     let s = c.loop-rest.invariant in
     let p = c.first_piece-piece.result in
     piece-passed c.args.lib.now c.args.text.now c.loop-rest.contents c.loop-rest.line c.loop-rest.rest.now s p c.first_piece-piece.ensures.piece (sym c.is_done.ensures ∙ c.loop-rest-test.true) c.read.new.self
-    (c.loop-rest.line + c.line_feeds-line.result) c.behind-rest.result.now (sym (c.in_default.ensures.fault s.reading s.keeps)) (c.in_default.ensures.keeps s.reading s.keeps) c.in_default.ensures.weight
-    (c.first_piece-piece.ensures.some c.in_default.ensures.ended) c.first_piece-piece.ensures.within (ap (λ n. c.loop-rest.line + n) c.line_feeds-line.ensures.count) c.behind-rest.ensures
+    c.line_behind-line.result c.behind-rest.result.now (sym (c.in_default.ensures.fault s.reading s.keeps)) (c.in_default.ensures.keeps s.reading s.keeps) c.in_default.ensures.weight
+    (c.first_piece-piece.ensures.some c.in_default.ensures.ended) c.first_piece-piece.ensures.within c.line_behind-line.ensures c.behind-rest.ensures
 
 pub returns-clause-parsed : goal.returns-clause-parsed
 returns-clause-parsed c = stands-last c.args.lib.now c.args.text.now c.loop-rest.contents c.loop-rest.line c.loop-rest.rest.now c.loop-rest.invariant (sym c.is_done.ensures ∙ c.loop-rest-test.false)
