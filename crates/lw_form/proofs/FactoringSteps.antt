@@ -1,5 +1,5 @@
 -- Factoring by tasks.
-use Rattle.std.proofs.Common.{◌≡◌, ◌+◌, ◌-◌, ◌/◌, ◌<◌, ◌≤◌, ℕ, zero, suc, Bool, true, false, not, cond, ltb, Option, Some, None, List, [], ◌∷◌, ◌++◌, length, map, filter, drop, get_or, refl, ap, ap₂, sym, ◌∙◌, subst, arith, append_assoc, ltb-true, length-append, Vec, Global}
+use Rattle.std.proofs.Common.{◌≡◌, ◌+◌, ◌-◌, ◌/◌, ◌<◌, ◌≤◌, ℕ, zero, suc, Bool, true, false, not, cond, ltb, Option, Some, None, is_some, List, [], ◌∷◌, ◌++◌, length, map, filter, drop, get_or, refl, ap, ap₂, sym, ◌∙◌, subst, arith, append_assoc, ltb-true, length-append, Vec, Global}
 use Rattle.std.specs.List.{AllByRecursion}
 use Rattle.std.proofs.lemmas.List.{at_drop_more, length-map, map-append, drop_all}
 use Rattle.lw_facts.proofs.Lists.{all_front, all_last}
@@ -349,11 +349,11 @@ weight_cut tasks new rows with_rows without_rows columns n l shared y o e =
     let k = (shared_in rows.items columns l shared).rows_have in
     omega arith
 
-pub join_made : (width : ℕ) (old mid new : Table) (l q r b n : ℕ) (both : List ℕ) → IsMadeAs old mid b (conjunction width (forms_at (made old) both)) → both ≡ l ∷ q ∷ [] → IsMadeAs mid new n (disjunction width (forms_at (made mid) (b ∷ r ∷ []))) → r / 2 < length (made old) → IsMadeAs old new n (disjunction width (conjunction width (form_of (made old) l ∷ form_of (made old) q ∷ []) ∷ form_of (made old) r ∷ []))
-join_made width old mid new l q r b n both m e k lt = record {
+pub join_made : (width : ℕ) (old mid new : Table) (l q r b n : ℕ) → IsMadeAs old mid b (conjunction width (forms_at (made old) (l ∷ q ∷ []))) → IsMadeAs mid new n (disjunction width (forms_at (made mid) (b ∷ r ∷ []))) → r / 2 < length (made old) → IsMadeAs old new n (disjunction width (conjunction width (form_of (made old) l ∷ form_of (made old) q ∷ []) ∷ form_of (made old) r ∷ []))
+join_made width old mid new l q r b n m k lt = record {
   more = more_twice (made old) (made mid) (made new) m.more k.more;
   within = k.within;
-  is = k.is ∙ ap₂ (λ f g. disjunction width (f ∷ g ∷ [])) (m.is ∙ ap (λ ids. conjunction width (forms_at (made old) ids)) e) (form_kept (made old) (made mid) r m.more lt);
+  is = k.is ∙ ap₂ (λ f g. disjunction width (f ∷ g ∷ [])) m.is (form_kept (made old) (made mid) r m.more lt);
 }
 
 -- what `begin` owes
@@ -393,3 +393,33 @@ begun_some width now fanins tasks new done rows with_rows without_rows seen l n 
 
 pub shared_column : (rows seen : List (List (Option Bool))) (columns : ℕ) (l : Literal) → seen ≡ rows → Some (plain_literal l) ≡ shared_literal columns seen → l.column < columns
 shared_column rows seen columns l s e = (shared_in seen columns (plain_literal l) (sym e)).column
+
+-- where no literal is shared, the factored form is the sum of products
+
+pub none_shared : {X : Type 0} (o : Option X) → is_some o ≡ false → o ≡ None
+none_shared None e = refl
+none_shared (Some x) e = absurd (true_not_false e) where
+  true_not_false : true ≡ false → ⊥
+  true_not_false d = cc
+
+pub one_shared : (columns : ℕ) (row : List (Option Bool)) (rows : List (List (Option Bool))) → rows ≡ row ∷ [] → shared_literal columns rows ≡ None
+one_shared columns row rows e = by_test (shared_literal columns rows) refl where
+  by_test : (o : Option laws.Literal) → shared_literal columns rows ≡ o → o ≡ None
+  by_test None s = refl
+  by_test (Some l) s = absurd (too_few (has l row) (subst (λ r. 1 < count_having l r) e (shared_in rows columns l s).rows_have)) where
+    too_few : (t : Bool) → 1 < cond t 1 0 + 0 → ⊥
+    too_few true lt = omega arith
+    too_few false lt = omega arith
+
+pub flat_made : (width : ℕ) (old new : Table) (fanins : List ℕ) (rows : List (List (Option Bool))) (n : ℕ) → shared_literal (length fanins) rows ≡ None → IsMadeAs old new n (sum_of_products width (forms_at (made old) fanins) rows) → IsMadeAs old new n (factored width (forms_at (made old) fanins) rows)
+flat_made width old new fanins rows n none m =
+    let fs : List Form = forms_at (made old) fanins in
+    let columns : length fs ≡ length fanins = length-map fanins (form_of (made old)) in
+    subst (IsMadeAs old new n) (sym (factored_step fs width rows ∙ ap (factored_by (factored width fs) width fs rows) (ap (λ k. shared_literal k rows) columns ∙ none))) m
+
+pub factored_made : (width : ℕ) (old mid new : Table) (fanins : List ℕ) (rows : List (List (Option Bool))) (n : ℕ) → HasMore (made old) (made mid) → AreBelow (length (made old)) fanins → IsMadeAs mid new n (factored width (forms_at (made mid) fanins) rows) → IsMadeAs old new n (factored width (forms_at (made old) fanins) rows)
+factored_made width old mid new fanins rows n more below m = record {
+  more = more_twice (made old) (made mid) (made new) more m.more;
+  within = m.within;
+  is = m.is ∙ ap (λ l. factored width l rows) (forms_kept (made old) (made mid) fanins more below);
+}

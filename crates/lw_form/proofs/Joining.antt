@@ -1,9 +1,11 @@
 -- What the calls that make Ands owe.
-use Rattle.std.proofs.Common.{◌≡◌, ◌+◌, ◌-◌, ◌*◌, ◌/◌, ◌%◌, ◌<◌, ◌≤◌, ℕ, zero, suc, Bool, true, false, cond, bit_xor, ◌==◌, ◌^◌, if◌then◌else◌, length-drop, List, [], ◌∷◌, ◌++◌, length, map, take, drop, Some, slice_get, get_or, refl, ap, ap₂, sym, ◌∙◌, subst, arith, append_assoc, append-nil, length-append}
+use Rattle.std.proofs.Common.{◌≡◌, ◌-◌, ◌*◌, ◌/◌, ◌%◌, ◌<◌, ◌≤◌, ℕ, zero, suc, Bool, true, false, cond, bit_xor, ◌==◌, ◌^◌, if◌then◌else◌, length-drop, List, [], ◌∷◌, ◌++◌, length, map, take, drop, Some, slice_get, get_or, ap, ap₂, sym, ◌∙◌, subst, arith, append_assoc, append-nil, length-append}
 use Rattle.std.proofs.lemmas.List.{take-map, drop-map, length-map, map-append, take_all}
-use Rattle.std.proofs.lemmas.Option.{get_or_from_slice_get, slice_get_within}
+use Rattle.std.proofs.lemmas.Option.{get_or_from_slice_get, slice_get-get_or, slice_get_within}
 use Rattle.lw_laws.specs.Forms.{Form, complement, kept, has_clash, runs, conjunction, disjunction}
-use Rattle.lw_laws.specs.Forms.Form.{true_form}
+use Rattle.lw_laws.specs.Forms.Form.{var_form, true_form, not_form, and_form}
+use Rattle.lw_laws.specs.Listings.{sign_of}
+use Rattle.lw_laws.proofs.Normal.{conjunction_step}
 use Rattle.lw_laws.specs.Occurring.{appended}
 use Rattle.lw_laws.specs.SignalValues.{form_of}
 use Rattle.lw_form.specs.Conjunctions.{AreClean, without_number, kept_numbers, numbers_clash}
@@ -225,8 +227,12 @@ pub record LeftSoFar (width : ℕ) (old now : Table) (forms left : List ℕ) : T
   pub below : AreBelow (length (made now)) left
   pub same : conjunction width (forms_at (made now) left) ≡ conjunction width (forms_at (made old) forms)
 
-pub left_first : (width : ℕ) (t : Table) (forms : List ℕ) → AreBelow (length (made t)) forms → LeftSoFar width t t forms forms
-left_first width t forms below = record { more = more_same (made t); below = below; same = refl }
+pub left_first : (width : ℕ) (old next : Table) (forms groups : List ℕ) → (hs : List Form) × AreMadeAs old next groups hs × (conjunction width hs ≡ conjunction width (forms_at (made old) forms)) × (length groups < length forms) → LeftSoFar width old next forms groups
+left_first width old next forms groups (hs, m, e, lt) = record {
+  more = m.more;
+  below = m.within;
+  same = ap (conjunction width) m.are ∙ e;
+}
 
 pub left_more : (width : ℕ) (old now next : Table) (forms left groups : List ℕ) → LeftSoFar width old now forms left → (hs : List Form) × AreMadeAs now next groups hs × (conjunction width hs ≡ conjunction width (forms_at (made now) left)) × (length groups < length left) → LeftSoFar width old next forms groups
 left_more width old now next forms left groups so (hs, m, e, lt) = record {
@@ -259,4 +265,35 @@ or_made width old new forms none all are are' below e m = record {
   more = m.more;
   within = below_other (length (made new)) all m.within;
   is = complement_of (made new) are' all m.within ∙ ap complement (m.is ∙ ap (conjunction width) (ap (forms_at (made old)) e ∙ complements (made old) are forms below));
+}
+
+-- the Or of one form is the form
+
+or_base : (width : ℕ) → 2 ≤ width → (g : Form) (t : Bool) → sign_of g ≡ 0 → disjunction width ((if t then g else complement g) ∷ []) ≡ (if t then g else complement g)
+or_base width wide (var_form i) true z = ap complement (conjunction_step 0 width wide (not_form (var_form i) ∷ []))
+or_base width wide (var_form i) false z = ap complement (conjunction_step 0 width wide (var_form i ∷ []))
+or_base width wide true_form true z = ap complement (conjunction_step 0 width wide (not_form true_form ∷ []))
+or_base width wide true_form false z = ap complement (conjunction_step 0 width wide (true_form ∷ []))
+or_base width wide (not_form g) t z = absurd (omega arith)
+or_base width wide (and_form fs) true z = ap complement (conjunction_step 0 width wide (not_form (and_form fs) ∷ []))
+or_base width wide (and_form fs) false z = ap complement (conjunction_step 0 width wide (and_form fs ∷ []))
+
+pub or_one : (width : ℕ) → 2 ≤ width → (forms : List Form) → AreMade forms → (f : ℕ) → f / 2 < length forms → disjunction width (form_of forms f ∷ []) ≡ form_of forms f
+or_one width wide forms are f lt = or_base width wide (get_or forms (f / 2) true_form) (f % 2 == 0) (are.signs (f / 2) (get_or forms (f / 2) true_form) (slice_get-get_or forms (f / 2) true_form lt))
+
+pub or_alone : (width : ℕ) → 2 ≤ width → (t : Table) → AreMade (made t) → (forms : List ℕ) (f : ℕ) → length forms ≡ 1 → f ≡ get_or forms 0 0 → AreBelow (length (made t)) forms → IsMadeAs t t f (disjunction width (forms_at (made t) forms))
+or_alone width wide t are [] f one e below = absurd (omega arith)
+or_alone width wide t are (x ∷ []) f one e (lt, below) = record {
+  more = more_same (made t);
+  within = subst (λ n. n / 2 < length (made t)) (sym e) lt;
+  is = ap (form_of (made t)) e ∙ sym (or_one width wide (made t) are x lt);
+}
+or_alone width wide t are (x ∷ y ∷ forms) f one e below = absurd (omega arith)
+
+-- a form that was made stays where more forms are made
+pub made_kept : (old mid new : Table) (n : ℕ) (f : Form) → IsMadeAs old mid n f → HasMore (made mid) (made new) → IsMadeAs old new n f
+made_kept old mid new n f m more = record {
+  more = more_twice (made old) (made mid) (made new) m.more more;
+  within = let lt = m.within in let le = more_length (made mid) (made new) more in omega arith;
+  is = form_kept (made mid) (made new) n more m.within ∙ m.is;
 }

@@ -1,38 +1,53 @@
 -- Rows, and sums of products.
-use Rattle.std.proofs.Common.{◌≡◌, ◌+◌, ◌-◌, ◌/◌, ◌<◌, ◌≤◌, ℕ, zero, suc, Bool, true, false, Option, Some, None, List, [], ◌∷◌, ◌++◌, length, map, drop, get_or, slice_set, refl, ap, ap₂, sym, ◌∙◌, subst, arith, append_assoc, append-nil}
-use Rattle.std.proofs.lemmas.List.{at_drop_more, map-append, drop_all}
+use Rattle.std.proofs.Common.{◌≡◌, ◌+◌, ◌/◌, ◌<◌, ◌≤◌, ℕ, zero, suc, Bool, true, false, Option, Some, None, List, [], ◌∷◌, ◌++◌, length, map, take, drop, get_or, slice_set, refl, ap, ap₂, sym, ◌∙◌, subst, arith, append_assoc, append-nil}
+use Rattle.std.proofs.lemmas.List.{at_drop_more, map-append, drop_all, take_all, length-map, length-set, get_or-map}
 use Rattle.std.specs.Bool.{beq}
+use Rattle.std.specs.List.{refill}
+use Rattle.lw_net.specs.Signs.{asked}
 use Rattle.lw_laws.specs.Forms.{Form, conjunction, disjunction}
 use Rattle.lw_laws.specs.Signals.{signed, literals, sum_of_products, asks, has_at, cleared_at}
 use Rattle.lw_laws.specs.SignalValues.{form_of}
 use Rattle.lw_form.specs.Products.{signed_number, literal_numbers, HaveColumns}
 use Rattle.lw_form.specs.Tables.{AreBelow, forms_at, AreMade, HasMore, Table, made, IsMadeAs, AreMadeAs}
-use Rattle.lw_form.proofs.Joining.{more_same, more_twice, forms_kept, below_kept_more, below_append, below_other}
+use Rattle.lw_form.proofs.Joining.{more_same, more_twice, forms_kept, below_kept_more, below_append, below_other, or_one}
 use Rattle.lw_form.proofs.Conjunctions.{complement_of}
 
-has_read : (k : ℕ) (sign : Bool) (row : List (Option Bool)) (o : Option Bool) → k < length row → o ≡ get_or row k o → has_at k sign row ≡ asks sign o
+has_read : (k : ℕ) (sign : Bool) (signs : List ℕ) (o : Option Bool) → k < length (map asked signs) → o ≡ asked (get_or signs k 0) → has_at k sign (map asked signs) ≡ asks sign o
 has_read k sign [] o lt e = absurd (omega arith)
-has_read zero sign (c ∷ row) o lt e = ap (asks sign) (sym e)
-has_read (suc k) sign (c ∷ row) o lt e = has_read k sign row o (omega arith) e
+has_read zero sign (c ∷ signs) o lt e = ap (asks sign) (sym e)
+has_read (suc k) sign (c ∷ signs) o lt e = has_read k sign signs o (omega arith) e
 
-pub has_some : (k : ℕ) (sign : Bool) (row : List (Option Bool)) (o : Option Bool) (asked : Bool) → k < length row → o ≡ get_or row k o → o ≡ Some asked → beq asked sign ≡ has_at k sign row
-has_some k sign row o asked lt e s = sym (has_read k sign row o lt e ∙ (ap (asks sign) s ∙ same sign asked)) where
-  same : (sign asked : Bool) → asks sign (Some asked) ≡ beq asked sign
+pub has_some : (k : ℕ) (sign : Bool) (signs : List ℕ) (o : Option Bool) (b : Bool) → k < length (map asked signs) → o ≡ asked (get_or signs k 0) → o ≡ Some b → beq b sign ≡ has_at k sign (map asked signs)
+has_some k sign signs o b lt e s = sym (has_read k sign signs o lt e ∙ (ap (asks sign) s ∙ same sign b)) where
+  same : (sign b : Bool) → asks sign (Some b) ≡ beq b sign
   same true true = refl
   same true false = refl
   same false true = refl
   same false false = refl
 
-pub has_none : (k : ℕ) (sign : Bool) (row : List (Option Bool)) (o : Option Bool) → k < length row → o ≡ get_or row k o → o ≡ None → false ≡ has_at k sign row
-has_none k sign row o lt e s = sym (has_read k sign row o lt e ∙ (ap (asks sign) s ∙ none sign)) where
+pub has_none : (k : ℕ) (sign : Bool) (signs : List ℕ) (o : Option Bool) → k < length (map asked signs) → o ≡ asked (get_or signs k 0) → o ≡ None → false ≡ has_at k sign (map asked signs)
+has_none k sign signs o lt e s = sym (has_read k sign signs o lt e ∙ (ap (asks sign) s ∙ none sign)) where
   none : (sign : Bool) → asks sign None ≡ false
   none true = refl
   none false = refl
 
-pub cleared : (k : ℕ) (row : List (Option Bool)) → slice_set row k None ≡ cleared_at k row
+cleared : (k : ℕ) (signs : List ℕ) → map asked (slice_set signs k 45) ≡ cleared_at k (map asked signs)
 cleared k [] = refl
-cleared zero (c ∷ row) = refl
-cleared (suc k) (c ∷ row) = ap (λ l. c ∷ l) (cleared k row)
+cleared zero (c ∷ signs) = refl
+cleared (suc k) (c ∷ signs) = ap (λ l. asked c ∷ l) (cleared k signs)
+
+-- the signs after one is replaced
+pub cleared_now : (k : ℕ) (signs seen : List ℕ) → seen ≡ signs → map asked (refill (length signs) signs (slice_set seen k 45)) ≡ cleared_at k (map asked signs)
+cleared_now k signs seen e =
+    let put : List ℕ = slice_set signs k 45 in
+    let same : length put ≡ length signs = length-set signs k 45 in
+    ap (λ l. map asked (refill (length signs) signs (slice_set l k 45))) e
+    ∙ (ap (map asked) (ap (λ l. take (length signs) (put ++ l)) (drop_all (length put) signs (omega arith)) ∙ (ap (take (length signs)) (append-nil put) ∙ take_all (length signs) put (omega arith)))
+    ∙ cleared k signs)
+
+-- the row of some signs, read at a column
+pub asked_row : (signs fanins : List ℕ) (i : ℕ) → i < length signs → length signs ≡ length fanins → (i < length (map asked signs)) × (length (map asked signs) ≡ length fanins) × (get_or (map asked signs) i None ≡ asked (get_or signs i 0))
+asked_row signs fanins i lt e = let l = length-map signs asked in (omega arith, l ∙ e, get_or-map asked signs i 0 None lt)
 
 pub columns_at : (n : ℕ) (rows : List (List (Option Bool))) (i : ℕ) (row : List (Option Bool)) → HaveColumns n rows → i < length rows → row ≡ get_or rows i row → length row ≡ n
 columns_at n [] i row h lt e = absurd (omega arith)
@@ -78,8 +93,11 @@ module _ (forms : List Form) (are : AreMade forms) where
 
 -- cubes
 
-abbrev cube : ℕ → List Form → List (Option Bool) → Form
+abbrev pub cube : ℕ → List Form → List (Option Bool) → Form
 cube width fs row = conjunction width (literals fs row)
+
+pub cube_made : (width : ℕ) (old new : Table) (fanins lits : List ℕ) (row : List (Option Bool)) (n : ℕ) → AreMade (made old) → AreBelow (length (made old)) fanins → lits ≡ literal_numbers fanins row → IsMadeAs old new n (conjunction width (forms_at (made old) lits)) → IsMadeAs old new n (cube width (forms_at (made old) fanins) row)
+cube_made width old new fanins lits row n are below l m = subst (IsMadeAs old new n) (ap (λ k. conjunction width (forms_at (made old) k)) l ∙ ap (conjunction width) (literal_forms (made old) are fanins row below)) m
 
 pub record CubesSoFar (width : ℕ) (old now : Table) (fanins : List ℕ) (rows : List (List (Option Bool))) (i : ℕ) (cubes : List ℕ) : Type 0 where
   pub more : HasMore (made old) (made now)
@@ -89,15 +107,15 @@ pub record CubesSoFar (width : ℕ) (old now : Table) (fanins : List ℕ) (rows 
 pub cubes_first : (width : ℕ) (t : Table) (fanins : List ℕ) (rows : List (List (Option Bool))) (cubes : List ℕ) → cubes ≡ [] → CubesSoFar width t t fanins rows 0 cubes
 cubes_first width t fanins rows cubes e = subst (CubesSoFar width t t fanins rows 0) (sym e) (record { more = more_same (made t); within = tt; same = refl })
 
-pub cubes_more : (width : ℕ) (old now next : Table) (fanins : List ℕ) (rows : List (List (Option Bool))) (i : ℕ) (row : List (Option Bool)) (cubes cubes' lits : List ℕ) (n : ℕ) → AreMade (made now) → AreBelow (length (made old)) fanins → i < length rows → row ≡ get_or rows i row → lits ≡ literal_numbers fanins row → IsMadeAs now next n (conjunction width (forms_at (made now) lits)) → cubes' ≡ cubes ++ n ∷ [] → CubesSoFar width old now fanins rows i cubes → CubesSoFar width old next fanins rows (i + 1) cubes'
-cubes_more width old now next fanins rows i row cubes cubes' lits n are below lt r l m grown so = subst (CubesSoFar width old next fanins rows (i + 1)) (sym grown) (record {
+pub cubes_more : (width : ℕ) (old now next : Table) (fanins : List ℕ) (rows : List (List (Option Bool))) (i : ℕ) (row : List (Option Bool)) (cubes cubes' : List ℕ) (n : ℕ) → AreBelow (length (made old)) fanins → i < length rows → row ≡ get_or rows i row → IsMadeAs now next n (cube width (forms_at (made now) fanins) row) → cubes' ≡ cubes ++ n ∷ [] → CubesSoFar width old now fanins rows i cubes → CubesSoFar width old next fanins rows (i + 1) cubes'
+cubes_more width old now next fanins rows i row cubes cubes' n below lt r m grown so = subst (CubesSoFar width old next fanins rows (i + 1)) (sym grown) (record {
   more = more_twice (made old) (made now) (made next) so.more m.more;
   within = below_append (length (made next)) cubes (n ∷ []) (below_kept_more (made now) (made next) cubes m.more so.within) (m.within, tt);
   same =
       let fs = forms_at (made old) fanins in
       let rest = map (cube width fs) (drop (i + 1) rows) in
       let kept = forms_kept (made old) (made now) fanins so.more below in
-      let one : form_of (made next) n ≡ cube width fs row = m.is ∙ ap (conjunction width) (ap (forms_at (made now)) l ∙ (literal_forms (made now) are fanins row (below_kept_more (made old) (made now) fanins so.more below) ∙ ap (λ k. literals k row) kept)) in
+      let one : form_of (made next) n ≡ cube width fs row = m.is ∙ ap (λ k. cube width k row) kept in
       ap (λ k. k ++ rest) (map-append (form_of (made next)) cubes (n ∷ []))
       ∙ (append_assoc (forms_at (made next) cubes) (form_of (made next) n ∷ []) rest
       ∙ (ap₂ (λ k f. k ++ f ∷ rest) (forms_kept (made now) (made next) cubes m.more so.within) one
@@ -116,4 +134,12 @@ sum_made width old now next fanins cubes rows n c m = record {
   more = more_twice (made old) (made now) (made next) c.more m.more;
   within = m.within;
   is = m.is ∙ ap (disjunction width) c.are;
+}
+
+-- the sum of one product is the product
+pub sum_one : (width : ℕ) → 2 ≤ width → (old new : Table) → AreMade (made new) → (fanins : List ℕ) (row : List (Option Bool)) (rows : List (List (Option Bool))) (n : ℕ) → rows ≡ row ∷ [] → IsMadeAs old new n (cube width (forms_at (made old) fanins) row) → IsMadeAs old new n (sum_of_products width (forms_at (made old) fanins) rows)
+sum_one width wide old new are fanins row rows n e m = record {
+  more = m.more;
+  within = m.within;
+  is = sym (or_one width wide (made new) are n m.within) ∙ (ap (λ f. disjunction width (f ∷ [])) m.is ∙ ap (sum_of_products width (forms_at (made old) fanins)) (sym e));
 }

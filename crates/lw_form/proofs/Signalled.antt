@@ -1,5 +1,5 @@
 -- The forms of the nets of a network.
-use Rattle.std.proofs.Common.{◌≡◌, ◌+◌, ◌-◌, ◌*◌, ◌/◌, ◌<◌, ◌≤◌, ℕ, zero, suc, Bool, List, [], ◌∷◌, ◌++◌, length, map, take, drop, Some, slice_get, get_or, refl, ap, ap₂, sym, ◌∙◌, subst, arith, append_assoc, append-nil, length-append, All}
+use Rattle.std.proofs.Common.{◌≡◌, ◌+◌, ◌*◌, ◌/◌, ◌<◌, ◌≤◌, ℕ, zero, suc, Bool, List, [], ◌∷◌, ◌++◌, length, map, take, drop, Some, slice_get, get_or, refl, ap, ap₂, sym, ◌∙◌, subst, arith, append_assoc, append-nil, length-append, All}
 use Rattle.std.proofs.lemmas.List.{length-map, map-append}
 use Rattle.std.proofs.lemmas.List.Elements.{All-head, All-tail}
 use Rattle.lw_laws.specs.Forms.{Form}
@@ -17,7 +17,7 @@ use Rattle.lw_form.specs.declared.fault.FormFault.{FormFault}
 use Rattle.lw_form.specs.Listed.{base_at, bases_of, IsListed, IsTooLong}
 use Rattle.lw_form.specs.Nets.{signal_at, signals_at, AreListed, AreNodes}
 use Rattle.lw_form.specs.Tables.{input_forms, AreBelow, forms_at, AreMade, HasMore, Table, made, IsMadeAs}
-use Rattle.lw_form.proofs.Joining.{more_twice, more_length, form_kept, forms_kept, below_kept_more, below_append, even_form}
+use Rattle.lw_form.proofs.Joining.{more_twice, more_length, form_kept, below_kept_more, below_append, even_form}
 use Rattle.lw_form.proofs.ListedForms.{longer_add, longer_fault, listed_kept, bases_kept}
 use Rattle.lw_form.proofs.Rows.{signed_form}
 use Rattle.lw_form.specs.Products.{signed_number, HaveColumns}
@@ -117,17 +117,12 @@ have_columns columns [] all = tt
 have_columns columns (row ∷ rows) all = (length-map row asked ∙ All-head (λ r. length r ≡ columns) row rows all, have_columns columns rows (All-tail (λ r. length r ≡ columns) row rows all))
 
 -- the forms of a node
-pub node_signal : (width : ℕ) (t0 t1 t2 : Table) (sops facs nets fanins : List ℕ) (signals : List Signal) (rows : _) (on : Bool) (sop fac : ℕ) → AreMade (made t2) → length sops ≡ length facs → signals_at (made t0) sops facs ≡ signals → AreNets (length sops) nets → AreBelow (length (made t0)) sops → fanins ≡ map (λ net. get_or sops net 0) nets → IsMadeAs t0 t1 sop (sum_of_products width (forms_at (made t0) fanins) rows) → IsMadeAs t1 t2 fac (factored width (forms_at (made t1) fanins) rows) → signal_at (made t2) (signed_number on sop) (signed_number on fac) ≡ record { sop = signed on (sum_of_products width (map (sop_at signals) nets) rows); fac = signed on (factored width (map (sop_at signals) nets) rows) }
-node_signal width t0 t1 t2 sops facs nets fanins signals rows on sop fac are one s a below e ms mf =
-    let fs : forms_at (made t0) fanins ≡ map (sop_at signals) nets = ap (forms_at (made t0)) e ∙ fanin_forms (made t0) sops facs nets signals one s a in
-    let fb : AreBelow (length (made t0)) fanins = subst (AreBelow (length (made t0))) (sym e) (fanins_below (length (made t0)) sops nets below a) in
-    let kept = forms_kept (made t0) (made t1) fanins ms.more fb in
-    let le = more_length (made t1) (made t2) mf.more in
-    let ws = ms.within in
-    let lt : sop / 2 < length (made t2) = omega arith in
+pub node_signal : (width : ℕ) (old new : Table) (sops facs nets fanins : List ℕ) (signals : List Signal) (rows : _) (on : Bool) (sop fac : ℕ) → AreMade (made new) → length sops ≡ length facs → signals_at (made old) sops facs ≡ signals → AreNets (length sops) nets → fanins ≡ map (λ net. get_or sops net 0) nets → IsMadeAs old new sop (sum_of_products width (forms_at (made old) fanins) rows) → IsMadeAs old new fac (factored width (forms_at (made old) fanins) rows) → signal_at (made new) (signed_number on sop) (signed_number on fac) ≡ record { sop = signed on (sum_of_products width (map (sop_at signals) nets) rows); fac = signed on (factored width (map (sop_at signals) nets) rows) }
+node_signal width old new sops facs nets fanins signals rows on sop fac are one s a e ms mf =
+    let fs : forms_at (made old) fanins ≡ map (sop_at signals) nets = ap (forms_at (made old)) e ∙ fanin_forms (made old) sops facs nets signals one s a in
     ap₂ (λ x y. record { sop = x; fac = y })
-    (signed_form (made t2) are on sop lt ∙ ap (signed on) (form_kept (made t1) (made t2) sop mf.more ms.within ∙ (ms.is ∙ ap (λ l. sum_of_products width l rows) fs)))
-    (signed_form (made t2) are on fac mf.within ∙ ap (signed on) (mf.is ∙ ap (λ l. factored width l rows) (kept ∙ fs)))
+    (signed_form (made new) are on sop ms.within ∙ ap (signed on) (ms.is ∙ ap (λ l. sum_of_products width l rows) fs))
+    (signed_form (made new) are on fac mf.within ∙ ap (signed on) (mf.is ∙ ap (λ l. factored width l rows) fs))
 
 -- the start
 

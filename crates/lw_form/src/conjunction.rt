@@ -203,15 +203,18 @@ pub(crate) fn conjunction(
     alloc: Global,
     table: &mut FormTable,
     width: usize,
-    forms: Vec<u32>,
+    forms: &[u32],
 ) -> Result<u32, AllocError>
     requires low { 2 ≤ width }
     requires high { width ≤ most_operands }
-    requires below { AreBelow (length (made table.old)) forms.items }
+    requires below { AreBelow (length (made table.old)) forms.now }
     ensures { IfOk result (λ form. IsMadeAs table.old table.new form
-        (and_of_forms width (forms_at (made table.old) forms.items))) }
+        (and_of_forms width (forms_at (made table.old) forms.now))) }
 {
-    let mut left = forms;
+    let mut left = match shortened(alloc, table, width, forms)? {
+        Step::Done(form) => return Ok(form),
+        Step::Again(groups) => groups,
+    };
     'steps: loop {
         match shortened(alloc, table, width, &left)? {
             Step::Done(form) => return Ok(form),
@@ -221,7 +224,7 @@ pub(crate) fn conjunction(
 }
 
 // The complements of some forms.
-fn complements(alloc: Global, forms: &[u32]) -> Result<Vec<u32>, AllocError>
+fn complements(alloc: Global, forms: &[u32]) -> Result<SmallVec<u32, 8>, AllocError>
     ensures { IfOk result (λ others. others.items ≡ map (λ f. bit_xor f 1) forms.now) }
 {
     forms.iter().map(|form| *form ^ 1).collect(alloc)
@@ -241,8 +244,11 @@ pub(crate) fn disjunction(
         (or_of_forms width (forms_at (made table.old) forms.now))) }
 {
     let _count = table.len();
+    if forms.len() == 1 {
+        return Ok(forms[0]);
+    }
     let none = complements(alloc, forms)?;
-    let all = conjunction(alloc, table, width, none)?;
+    let all = conjunction(alloc, table, width, &none)?;
     let _more = table.len();
     Ok(all ^ 1)
 }

@@ -1,5 +1,5 @@
 // Factored forms, over numbers of a table.
-ghost use Rattle.std.specs.Prelude.{◌≡◌, ◌+◌, ◌/◌, ◌<◌, ◌≤◌, ◌++◌, [], ◌∷◌, ℕ, List, not, map, filter, length, IfOk, OnOk};
+ghost use Rattle.std.specs.Prelude.{◌≡◌, ◌+◌, ◌/◌, ◌<◌, ◌≤◌, ◌++◌, [], ◌∷◌, ℕ, List, not, map, filter, length, is_some, IfOk, OnOk};
 ghost use Rattle.lw_laws.specs.Forms.{Form, conjunction as and_of_forms, disjunction as or_of_forms};
 ghost use Rattle.lw_laws.specs.Signals.{factored as factored_form, count_having, has, cleared, most_common, shared_literal};
 ghost use Rattle.lw_laws.specs.SignalValues.{form_of};
@@ -96,6 +96,14 @@ fn shared(rows: &[Row], columns: usize) -> Option<Literal>
         );
     }
     choice.literal
+}
+
+// Whether a literal stands in two rows at least.
+pub(crate) fn have_shared(rows: &[Row], columns: usize) -> bool
+    requires { HaveColumns columns rows.now }
+    ensures { result ≡ is_some (shared_literal columns rows.now) }
+{
+    shared(rows, columns).is_some()
 }
 
 // Puts a row on its side of the cut.
@@ -215,8 +223,7 @@ fn join(
 {
     let others = last(&mut work.done);
     let having = last(&mut work.done);
-    let both = vec![in alloc; literal, having]?;
-    let both = conjunction(alloc, table, width, both)?;
+    let both = conjunction(alloc, table, width, &[literal, having])?;
     let form = disjunction(alloc, table, width, &[both, others])?;
     work.done.push(form)?;
     Ok(())

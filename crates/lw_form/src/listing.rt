@@ -21,7 +21,7 @@ const MOST_BASES: usize = 2097152;
 
 // A form to be added, or an And whose parts are to be listed.
 #[derive(Clone, Copy)]
-enum Step {
+pub(crate) enum Step {
     Add(u32),
     Parts(u32),
 }
@@ -167,6 +167,9 @@ impl Listing {
             Some(ids) => operands(alloc, ids.as_slice()),
             None => return Ok(()),
         };
+        if ids.len() == 2 {
+            return self.list(table, b);
+        }
         self.list_parts(table, &ids)
     }
 
@@ -237,11 +240,12 @@ impl Listing {
         }
     }
 
-    // Adds a form, with all forms and parts that occur in it.
+    // Adds a form, with all forms and parts that occur in it. What the steps held before is cleared.
     pub(crate) fn add(
         &mut self,
         alloc: Global,
         table: &mut FormTable,
+        steps: &mut Vec<Step>,
         form: u32,
     ) -> Result<(), FormFault>
         requires listed { IsListed (made table.old) self.old.listed.items self.old.places.items }
@@ -256,9 +260,13 @@ impl Listing {
             (add_form (form_of (made table.old) form)
             (bases_of (made table.old) self.old.listed.items))) }
     {
-        let mut steps = first_step(alloc, form)?;
+        let _count = table.len();
+        if self.place(form / 2) != NO_PLACE {
+            return Ok(());
+        }
+        only_step(steps, form)?;
         'steps: while let Some(step) = steps.pop() {
-            self.advance(alloc, table, step, &mut steps)?;
+            self.advance(alloc, table, step, steps)?;
         }
         Ok(())
     }
@@ -299,11 +307,11 @@ fn push_and(steps: &mut Vec<Step>, b: u32, ids: &[u32]) -> Result<(), AllocError
     push_operands(steps, ids)
 }
 
-// The step that adds a form.
-fn first_step(alloc: Global, form: u32) -> Result<Vec<Step>, AllocError>
-    ensures { IfOk result (λ steps. steps.items ≡ Step.Add form ∷ []) }
+// Has the step that adds a form as the only one.
+fn only_step(steps: &mut Vec<Step>, form: u32) -> Result<(), AllocError>
+    ensures { OnOk result (steps.new.items ≡ Step.Add form ∷ []) }
 {
-    let mut steps = Vec::new(alloc);
+    steps.clear();
     steps.push(Step::Add(form))?;
-    Ok(steps)
+    Ok(())
 }

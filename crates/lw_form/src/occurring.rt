@@ -7,17 +7,17 @@ ghost use Rattle.lw_laws.specs.Forms.{Form};
 ghost use Rattle.lw_laws.specs.Forms.Form.{true_form};
 ghost use Rattle.lw_laws.specs.Mapped.{forms_of};
 ghost use Rattle.lw_laws.specs.Occurring.{add_signals, occurring_forms};
-ghost use Rattle.lw_laws.specs.Signals.{Signal, signal_of_node, signals_after, input_signals, signals_of};
+ghost use Rattle.lw_laws.specs.Signals.{Signal, signal_of_node, signals_after, input_signals, signals_of, sum_of_products as sum_of_forms, factored as factored_form};
 ghost use Rattle.lw_form.specs.Limits.{most_operands};
 ghost use Rattle.lw_form.specs.Listed.{bases_of, IsTooLong};
 ghost use Rattle.lw_form.specs.Nets.{signal_at, AreListed, AreNodes};
 ghost use Rattle.lw_form.specs.Products.{HaveColumns};
-ghost use Rattle.lw_form.specs.Tables.{made, AreBelow, forms_at, HasMore};
+ghost use Rattle.lw_form.specs.Tables.{made, AreBelow, forms_at, HasMore, IsMadeAs};
 ghost use Rattle.lw_pool.specs.Numbers.{net_number};
 
-use crate::factoring::factored;
-use crate::listing::Listing;
-use crate::products::{signed, sum_of_products};
+use crate::factoring::{factored, have_shared};
+use crate::listing::{Listing, Step};
+use crate::products::{product, signed, sum_of_products};
 use crate::renumbering::{numbered_bases, renumbered_all};
 use crate::row::Row;
 use crate::sampling::samples;
@@ -25,6 +25,7 @@ use crate::table::FormTable;
 use crate::{FormFault, Forms};
 use lw_net::{Cube, Network, Node};
 use lw_pool::NetId;
+use smallvec::SmallVec;
 use std::alloc::{AllocError, Global};
 
 // The forms that were made, those that are listed, and the two forms of each net.
@@ -32,6 +33,7 @@ use std::alloc::{AllocError, Global};
 pub(crate) struct Occurring {
     pub(crate) table: FormTable,
     pub(crate) listing: Listing,
+    steps: Vec<Step>,
     pub(crate) sops: Vec<u32>,
     pub(crate) facs: Vec<u32>,
 }
@@ -45,12 +47,12 @@ fn note(forms: &mut Vec<u32>, form: u32) -> Result<(), AllocError>
 }
 
 // The sums of products of some nets.
-fn fanins_of(alloc: Global, sops: &[u32], nets: &[NetId]) -> Result<Vec<u32>, AllocError>
+fn fanins_of(alloc: Global, sops: &[u32], nets: &[NetId]) -> Result<SmallVec<u32, 8>, AllocError>
     requires { All (λ net. net.0 < length sops.now) nets.now }
     ensures { IfOk result (λ fanins. fanins.items
         ≡ map (λ net. slice_index_or sops.now net 0) (map net_number nets.now)) }
 {
-    let mut fanins = Vec::with_capacity(alloc, nets.len())?;
+    let mut fanins = SmallVec::new(alloc);
     for net in nets {
         fanins.push(sops[net.0 as usize])?;
     }
@@ -66,6 +68,37 @@ fn rows_of(alloc: Global, cubes: &[Cube]) -> Result<Vec<Row>, AllocError>
         rows.push(Row::of_signs(alloc, cube.as_slice())?)?;
     }
     Ok(rows)
+}
+
+// The two forms of some rows: the sum of products, and the factored form.
+fn both_forms(
+    alloc: Global,
+    table: &mut FormTable,
+    width: usize,
+    fanins: &[u32],
+    cubes: &[Cube],
+) -> Result<(u32, u32), AllocError>
+    requires low { 2 ≤ width }
+    requires high { width ≤ most_operands }
+    requires below { AreBelow (length (made table.old)) fanins.now }
+    requires columns { HaveColumns (length fanins.now) (map (map asked) cubes.now) }
+    ensures sop { IfOk result (λ forms. IsMadeAs table.old table.new forms.0
+        (sum_of_forms width (forms_at (made table.old) fanins.now) (map (map asked) cubes.now))) }
+    ensures fac { IfOk result (λ forms. IsMadeAs table.old table.new forms.1
+        (factored_form width (forms_at (made table.old) fanins.now) (map (map asked) cubes.now))) }
+{
+    if cubes.len() == 1 {
+        let form = product(alloc, table, width, fanins, cubes[0].as_slice())?;
+        let _count = table.len();
+        return Ok((form, form));
+    }
+    let rows = rows_of(alloc, cubes)?;
+    let sop = sum_of_products(alloc, table, width, fanins, &rows)?;
+    if !have_shared(&rows, fanins.len()) {
+        return Ok((sop, sop));
+    }
+    let fac = factored(alloc, table, width, fanins, rows)?;
+    Ok((sop, fac))
 }
 
 impl Occurring {
@@ -89,8 +122,10 @@ impl Occurring {
             IsTooLong (add_signals (signals ++ signal_at (made self.old.table) sop fac ∷ [])
             (true_form ∷ [])) fault) }
     {
-        self.listing.add(alloc, &mut self.table, sop)?;
-        self.listing.add(alloc, &mut self.table, fac)?;
+        self.listing
+            .add(alloc, &mut self.table, &mut self.steps, sop)?;
+        self.listing
+            .add(alloc, &mut self.table, &mut self.steps, fac)?;
         note(&mut self.sops, sop)?;
         note(&mut self.facs, fac)?;
         Ok(())
@@ -119,9 +154,7 @@ impl Occurring {
             ∷ []) (true_form ∷ [])) fault) }
     {
         let fanins = fanins_of(alloc, &self.sops, node.fanins.as_slice())?;
-        let rows = rows_of(alloc, node.rows.as_slice())?;
-        let sop = sum_of_products(alloc, &mut self.table, width, &fanins, &rows)?;
-        let fac = factored(alloc, &mut self.table, width, &fanins, rows)?;
+        let (sop, fac) = both_forms(alloc, &mut self.table, width, &fanins, node.rows.as_slice())?;
         let _count = self.table.len();
         self.add_net(alloc, signed(sop, node.on), signed(fac, node.on))
     }
@@ -140,6 +173,7 @@ impl Occurring {
         Ok(Occurring {
             table,
             listing,
+            steps: Vec::new(alloc),
             sops: Vec::new(alloc),
             facs: Vec::new(alloc),
         })

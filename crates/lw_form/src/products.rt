@@ -2,13 +2,15 @@
 ghost use Rattle.std.specs.Prelude.{◌≡◌, ◌≤◌, map, length, IfOk};
 ghost use Rattle.lw_laws.specs.Forms.{conjunction as and_of_forms};
 ghost use Rattle.lw_laws.specs.Signals.{sum_of_products as sum_of_forms, literals as literals_of};
+ghost use Rattle.lw_net.specs.Signs.{asked};
 ghost use Rattle.lw_form.specs.Limits.{most_operands};
 ghost use Rattle.lw_form.specs.Products.{signed_number, literal_numbers, HaveColumns};
 ghost use Rattle.lw_form.specs.Tables.{made, forms_at, AreBelow, IsMadeAs, AreMadeAs};
 
 use crate::conjunction::{conjunction, disjunction};
-use crate::row::Row;
+use crate::row::{Row, ask};
 use crate::table::FormTable;
+use smallvec::SmallVec;
 use std::alloc::{AllocError, Global};
 
 // The form, or its complement.
@@ -19,18 +21,40 @@ pub(crate) fn signed(form: u32, sign: bool) -> u32
 }
 
 // The literals of a row in column order.
-fn literals(alloc: Global, fanins: &[u32], row: &[Option<bool>]) -> Result<Vec<u32>, AllocError>
-    requires { length row.now ≡ length fanins.now }
-    ensures { IfOk result (λ literals. literals.items ≡ literal_numbers fanins.now row.now) }
+fn literals(alloc: Global, fanins: &[u32], signs: &[u8]) -> Result<SmallVec<u32, 8>, AllocError>
+    requires { length signs.now ≡ length fanins.now }
+    ensures { IfOk result (λ literals. literals.items
+        ≡ literal_numbers fanins.now (map asked signs.now)) }
 {
-    let mut literals = Vec::new(alloc);
-    for column in 0..row.len() {
-        match row[column] {
+    let mut literals = SmallVec::new(alloc);
+    for column in 0..signs.len() {
+        match ask(signs[column]) {
             Some(sign) => literals.push(signed(fanins[column], sign))?,
             None => {}
         }
     }
     Ok(literals)
+}
+
+// The And of a row's literals.
+pub(crate) fn product(
+    alloc: Global,
+    table: &mut FormTable,
+    width: usize,
+    fanins: &[u32],
+    signs: &[u8],
+) -> Result<u32, AllocError>
+    requires low { 2 ≤ width }
+    requires high { width ≤ most_operands }
+    requires below { AreBelow (length (made table.old)) fanins.now }
+    requires columns { length signs.now ≡ length fanins.now }
+    ensures { IfOk result (λ form. IsMadeAs table.old table.new form
+        (and_of_forms width (literals_of (forms_at (made table.old) fanins.now)
+        (map asked signs.now)))) }
+{
+    let _count = table.len();
+    let literals = literals(alloc, fanins, signs)?;
+    conjunction(alloc, table, width, &literals)
 }
 
 // The Ands of the rows' literals.
@@ -40,7 +64,7 @@ fn cubes(
     width: usize,
     fanins: &[u32],
     rows: &[Row],
-) -> Result<Vec<u32>, AllocError>
+) -> Result<SmallVec<u32, 8>, AllocError>
     requires low { 2 ≤ width }
     requires high { width ≤ most_operands }
     requires below { AreBelow (length (made table.old)) fanins.now }
@@ -49,11 +73,9 @@ fn cubes(
         (map (λ row. and_of_forms width (literals_of (forms_at (made table.old) fanins.now) row))
         rows.now)) }
 {
-    let mut cubes = Vec::new(alloc);
+    let mut cubes = SmallVec::new(alloc);
     for row in rows {
-        let _count = table.len();
-        let literals = literals(alloc, fanins, row.as_slice())?;
-        cubes.push(conjunction(alloc, table, width, literals)?)?;
+        cubes.push(product(alloc, table, width, fanins, row.as_slice())?)?;
     }
     Ok(cubes)
 }

@@ -1,13 +1,14 @@
 ghost use Rattle.std.specs.Prelude.{◌≡◌, ◌<◌, length, map, IfOk, OnErr, OnOk, None};
 ghost use Rattle.lw_net.specs.Signs.{asked, IsSign};
 
+use smallvec::SmallVec;
 use std::alloc::{AllocError, Global};
 use std::marker::Model;
 
 // What a row asks of each fan-in, in columns: a value, or none.
 #[derive(Drop)]
 pub(crate) struct Row {
-    asks: Vec<Option<bool>>,
+    signs: SmallVec<u8, 16>,
 }
 
 impl Model for Row {
@@ -15,11 +16,14 @@ impl Model for Row {
 
     ghost Value = { List (Option Bool) };
 
-    ghost view = { λ r. r.asks.items };
+    ghost use Rattle.std.specs.Prelude.{map};
+    ghost use Rattle.lw_net.specs.Signs.{asked};
+
+    ghost view = { λ r. map asked r.signs.items };
 }
 
 // The value that a sign asks for.
-fn ask(sign: u8) -> Option<bool>
+pub(crate) fn ask(sign: u8) -> Option<bool>
     ensures { result ≡ asked sign }
 {
     match sign {
@@ -36,14 +40,14 @@ impl Row {
     pub(crate) fn of_signs(alloc: Global, signs: &[u8]) -> Result<Self, AllocError>
         ensures { IfOk result (λ row. row ≡ map asked signs.now) }
     {
-        let asks = signs.iter().map(|sign| ask(*sign)).collect(alloc)?;
-        Ok(Row { asks })
+        let signs = SmallVec::from_slice(alloc, signs)?;
+        Ok(Row { signs })
     }
 
-    pub(crate) fn as_slice(&self) -> &[Option<bool>]
-        ensures { result.now ≡ self.now }
+    pub(crate) fn as_slice(&self) -> &[u8]
+        ensures { map asked result.now ≡ self.now }
     {
-        &self.asks
+        self.signs.as_slice()
     }
 
     // Whether the row has the column with this sign.
@@ -51,7 +55,7 @@ impl Row {
         requires { column < length self.now }
         ensures { result ≡ has_at column sign self.now }
     {
-        match self.asks[column] {
+        match ask(self.signs[column]) {
             Some(asked) => asked == sign,
             None => false,
         }
@@ -62,6 +66,6 @@ impl Row {
         requires { column < length self.old }
         ensures { self.new ≡ cleared_at column self.old }
     {
-        self.asks[column] = None;
+        self.signs[column] = b'-';
     }
 }

@@ -3,7 +3,7 @@ use Rattle.lw_form.proofs.Joining.{LeftSoFar}
 use Rattle.lw_form.proofs.conjunction.conjunction.Given as goal
 
 abbrev pub invariant-steps : goal.invariant-steps
-invariant-steps l = LeftSoFar l.width l.initial.table l.table l.initial.left.items l.left.items
+invariant-steps l = LeftSoFar l.width l.fn.table l.table l.fn.forms l.left.items
 
 abbrev pub decreases-steps : goal.decreases-steps
 decreases-steps l = length l.left.items

@@ -1,19 +1,19 @@
-use Rattle.std.proofs.Common.{◌≡◌, ◌≢◌, ◌∙◌, ◌<◌, ◌+◌, ◌∷◌, ◌++◌, [], List, ℕ, refl, sym, subst, ap, arith, length, OnOk, IfErr}
-use Rattle.lw_laws.specs.Forms.{Form}
+use Rattle.std.proofs.Common.{◌∙◌, subst, ap, arith}
 use Rattle.lw_laws.specs.Occurring.{add_form}
 use Rattle.lw_laws.specs.SignalValues.{form_of}
-use Rattle.lw_form.specs.declared.listing.Step.TheVariants.{Add, Parts}
-use Rattle.lw_form.specs.Listed.{bases_of, plain_steps, steps_size, IsTooLong, IsAdding}
-use Rattle.lw_form.specs.Tables.{made, HasMore}
+use Rattle.lw_form.specs.Listed.{bases_of, plain_steps, steps_size, IsAdding}
+use Rattle.lw_form.specs.Tables.{made}
 use Rattle.lw_form.proofs.Joining.{more_same, more_twice}
-use Rattle.lw_form.proofs.ListedForms.{sizes_last, err_is, adding_first}
-use Rattle.lw_form.proofs.Tables.{no_length}
+use Rattle.lw_form.proofs.ListedForms.{sizes_last, adding_first, add_placed}
 use Rattle.lw_form.proofs.listing.Listing.add.Goals as goal
+
+pub returns-then-place-clause-bases : goal.returns-then-place-clause-bases
+returns-then-place-clause-bases c = add_placed (made c.args.table.now) c.args.self.now.listed.items c.args.self.now.places.items c.args.form c.len-count.ensures.made c.requires.within c.requires.listed (λ e. c.if-place.true (c.place.ensures ∙ e))
 
 pub steps-init : goal.steps-init
 steps-init c = record {
   more = more_same (made c.args.table.now);
-  adding = adding_first c.args.table.now c.args.self.now.listed.items c.args.self.now.places.items c.in_ok-steps.steps.items c.args.form c.requires.listed c.requires.within c.in_ok-steps.ensures;
+  adding = adding_first c.args.table.now c.args.self.now.listed.items c.args.self.now.places.items c.only_step.new.steps.items c.args.form c.requires.listed c.requires.within c.in_ok-only_step.ensures;
 }
 
 pub advance-requires : goal.advance-requires

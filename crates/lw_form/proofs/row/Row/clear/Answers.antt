@@ -1,6 +1,5 @@
-use Rattle.std.proofs.Common.{◌≡◌}
-use Rattle.lw_form.proofs.Rows.{cleared}
+use Rattle.lw_form.proofs.Rows.{cleared_now}
 use Rattle.lw_form.proofs.row.Row.clear.Goals as goal
 
 pub returns : goal.returns
-returns c = rw (← c.self.view_is) (cleared c.args.column c.self.inside.asks.items)
+returns c = rw (← c.self.view_is) (cleared_now c.args.column c.self.inside.signs.items c.deref_mut.result.now c.deref_mut.ensures.value)
