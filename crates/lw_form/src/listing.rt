@@ -34,15 +34,15 @@ pub(crate) struct Listing {
 }
 
 impl Listing {
-    // Nothing is listed.
-    pub(crate) fn new(alloc: Global) -> Self
-        ensures listed { result.listed.items ≡ [] }
-        ensures places { result.places.items ≡ [] }
+    // Nothing is listed, with room for so many base forms.
+    pub(crate) fn with_capacity(alloc: Global, bases: usize) -> Result<Self, AllocError>
+        ensures listed { IfOk result (λ listing. listing.listed.items ≡ []) }
+        ensures places { IfOk result (λ listing. listing.places.items ≡ []) }
     {
-        Listing {
-            listed: Vec::new(alloc),
-            places: Vec::new(alloc),
-        }
+        Ok(Listing {
+            listed: Vec::with_capacity(alloc, bases)?,
+            places: Vec::with_capacity(alloc, bases)?,
+        })
     }
 
     // The place of a base form in the list.
@@ -240,7 +240,7 @@ impl Listing {
         }
     }
 
-    // Adds a form, with all forms and parts that occur in it. What the steps held before is cleared.
+    // Adds a form, with all forms and parts that occur in it, by steps that are cleared before.
     pub(crate) fn add(
         &mut self,
         alloc: Global,

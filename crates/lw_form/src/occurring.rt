@@ -159,23 +159,23 @@ impl Occurring {
         self.add_net(alloc, signed(sop, node.on), signed(fac, node.on))
     }
 
-    // Lists true alone.
-    fn start(alloc: Global, inputs: u32) -> Result<Self, FormFault>
+    // Lists true alone, with room for so many nets.
+    fn start(alloc: Global, inputs: u32, nets: usize) -> Result<Self, FormFault>
         requires { inputs ≤ most_nets }
         ensures listed { IfOk result (λ all. AreListed all.table all.listing.listed.items
             all.listing.places.items all.sops.items all.facs.items []) }
         ensures table { IfOk result (λ all. all.table ≡ record { inputs = inputs; keys = [] }) }
         ensures fault { IfErr result (IsTooLong (true_form ∷ [])) }
     {
-        let table = FormTable::new(alloc, inputs);
-        let mut listing = Listing::new(alloc);
+        let table = FormTable::with_capacity(alloc, inputs, nets)?;
+        let mut listing = Listing::with_capacity(alloc, nets)?;
         listing.list(&table, 0)?;
         Ok(Occurring {
             table,
             listing,
             steps: Vec::new(alloc),
-            sops: Vec::new(alloc),
-            facs: Vec::new(alloc),
+            sops: Vec::with_capacity(alloc, nets)?,
+            facs: Vec::with_capacity(alloc, nets)?,
         })
     }
 
@@ -234,7 +234,7 @@ impl Occurring {
         ensures fault { IfErr result (IsTooLong (occurring_forms width (plain net.now))) }
     {
         let inputs = net.inputs();
-        let mut all = Occurring::start(alloc, inputs)?;
+        let mut all = Occurring::start(alloc, inputs, net.nets() as usize)?;
         all.add_inputs(alloc, inputs)?;
         all.add_nodes(alloc, width, net.nodes())?;
         Ok(all)

@@ -33,15 +33,13 @@ impl FormTable {
     ghost use Rattle.lw_form.specs.Renumbered.{simple_at};
     ghost use Rattle.lw_form.specs.Tables.{made, spelled, AreMade, AreBelow, IsSimple};
 
-    // True and the inputs.
-    pub(crate) fn new(alloc: Global, inputs: u32) -> Self
+    // True and the inputs, with room for so many Ands.
+    pub(crate) fn with_capacity(alloc: Global, inputs: u32, ands: usize) -> Result<Self, AllocError>
         requires { inputs ≤ most_nets }
-        ensures { result ≡ record { inputs = inputs; keys = [] } }
+        ensures { IfOk result (λ table. table ≡ record { inputs = inputs; keys = [] }) }
     {
-        FormTable {
-            inputs,
-            ands: IndexSet::new(alloc),
-        }
+        let ands = IndexSet::with_capacity(alloc, ands)?;
+        Ok(FormTable { inputs, ands })
     }
 
     // The number of forms that were made.

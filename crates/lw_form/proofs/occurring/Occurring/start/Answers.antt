@@ -7,7 +7,7 @@ use Rattle.lw_form.proofs.Signalled.{start_listed, start_within, start_bases, st
 use Rattle.lw_form.proofs.occurring.Occurring.start.Goals as goal
 
 pub list-requires-clause-listed : goal.list-requires-clause-listed
-list-requires-clause-listed c = start_listed (made c.new-table.result) c.new-listing.result.listed.items c.new-listing.result.places.items c.new-listing.ensures.listed c.new-listing.ensures.places
+list-requires-clause-listed c = start_listed (made c.in_ok-table.table) c.in_ok-listing.listing.listed.items c.in_ok-listing.listing.places.items c.in_ok-listing.ensures.listed c.in_ok-listing.ensures.places
 
 pub list-requires-clause-within : goal.list-requires-clause-within
-list-requires-clause-within c = start_within c.new-table.result c.args.inputs c.new-table.ensures
+list-requires-clause-within c = start_within c.in_ok-table.table c.args.inputs c.in_ok-table.ensures
