@@ -1,5 +1,5 @@
 -- Factoring by tasks.
-use Rattle.std.proofs.Common.{◌≡◌, ◌+◌, ◌-◌, ◌/◌, ◌<◌, ◌≤◌, ℕ, zero, suc, Bool, true, false, not, cond, ltb, Option, Some, None, is_some, List, [], ◌∷◌, ◌++◌, length, map, filter, drop, get_or, refl, ap, ap₂, sym, ◌∙◌, subst, arith, append_assoc, ltb-true, length-append, Vec, Global}
+use Rattle.std.proofs.Common.{◌≡◌, ◌+◌, ◌-◌, ◌/◌, ◌<◌, ◌≤◌, ℕ, zero, suc, Bool, true, false, not, cond, ltb, Option, Some, None, List, [], ◌∷◌, ◌++◌, length, map, filter, drop, get_or, refl, ap, ap₂, sym, ◌∙◌, subst, arith, append_assoc, ltb-true, length-append, Vec, Global}
 use Rattle.std.specs.List.{AllByRecursion}
 use Rattle.std.proofs.lemmas.List.{at_drop_more, length-map, map-append, drop_all}
 use Rattle.lw_facts.proofs.Lists.{all_front, all_last}
@@ -395,12 +395,6 @@ pub shared_column : (rows seen : List (List (Option Bool))) (columns : ℕ) (l :
 shared_column rows seen columns l s e = (shared_in seen columns (plain_literal l) (sym e)).column
 
 -- where no literal is shared, the factored form is the sum of products
-
-pub none_shared : {X : Type 0} (o : Option X) → is_some o ≡ false → o ≡ None
-none_shared None e = refl
-none_shared (Some x) e = absurd (true_not_false e) where
-  true_not_false : true ≡ false → ⊥
-  true_not_false d = cc
 
 pub one_shared : (columns : ℕ) (row : List (Option Bool)) (rows : List (List (Option Bool))) → rows ≡ row ∷ [] → shared_literal columns rows ≡ None
 one_shared columns row rows e = by_test (shared_literal columns rows) refl where

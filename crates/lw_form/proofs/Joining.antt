@@ -227,13 +227,6 @@ pub record LeftSoFar (width : ℕ) (old now : Table) (forms left : List ℕ) : T
   pub below : AreBelow (length (made now)) left
   pub same : conjunction width (forms_at (made now) left) ≡ conjunction width (forms_at (made old) forms)
 
-pub left_first : (width : ℕ) (old next : Table) (forms groups : List ℕ) → (hs : List Form) × AreMadeAs old next groups hs × (conjunction width hs ≡ conjunction width (forms_at (made old) forms)) × (length groups < length forms) → LeftSoFar width old next forms groups
-left_first width old next forms groups (hs, m, e, lt) = record {
-  more = m.more;
-  below = m.within;
-  same = ap (conjunction width) m.are ∙ e;
-}
-
 pub left_more : (width : ℕ) (old now next : Table) (forms left groups : List ℕ) → LeftSoFar width old now forms left → (hs : List Form) × AreMadeAs now next groups hs × (conjunction width hs ≡ conjunction width (forms_at (made now) left)) × (length groups < length left) → LeftSoFar width old next forms groups
 left_more width old now next forms left groups so (hs, m, e, lt) = record {
   more = more_twice (made old) (made now) (made next) so.more m.more;
@@ -289,11 +282,3 @@ or_alone width wide t are (x ∷ []) f one e (lt, below) = record {
   is = ap (form_of (made t)) e ∙ sym (or_one width wide (made t) are x lt);
 }
 or_alone width wide t are (x ∷ y ∷ forms) f one e below = absurd (omega arith)
-
--- a form that was made stays where more forms are made
-pub made_kept : (old mid new : Table) (n : ℕ) (f : Form) → IsMadeAs old mid n f → HasMore (made mid) (made new) → IsMadeAs old new n f
-made_kept old mid new n f m more = record {
-  more = more_twice (made old) (made mid) (made new) m.more more;
-  within = let lt = m.within in let le = more_length (made mid) (made new) more in omega arith;
-  is = form_kept (made mid) (made new) n more m.within ∙ m.is;
-}

@@ -476,13 +476,6 @@ simple_base forms b (f, e, s) = subst IsSimple (sym (get_or_from_slice_get forms
 pub and_operands : (forms : List Form) (b : ℕ) (ids : List ℕ) → slice_get forms b ≡ Some (spelled forms ids) → operands_of (base_at forms b) ≡ forms_at forms ids
 and_operands forms b ids e = ap operands_of (get_or_from_slice_get forms b (spelled forms ids) true_form e) ∙ items-form_list (forms_at forms ids)
 
--- of two operands the And alone is a part
-pub two_parts : (forms : List Form) (b : ℕ) (ids : List ℕ) (bases : List Form) → slice_get forms b ≡ Some (spelled forms ids) → length ids ≡ 2 → appended (base_at forms b) bases ≡ append_parts (sublists (operands_of (base_at forms b))) bases
-two_parts forms b [] bases at two = absurd (omega arith)
-two_parts forms b (f ∷ []) bases at two = absurd (omega arith)
-two_parts forms b (f ∷ g ∷ []) bases at two = subst (λ h. appended h bases ≡ append_parts (sublists (operands_of h)) bases) (sym (get_or_from_slice_get forms b (spelled forms (f ∷ g ∷ [])) true_form at)) refl
-two_parts forms b (f ∷ g ∷ h ∷ ids) bases at two = absurd (omega arith)
-
 pub adding_first : (t : Table) (listed places : List ℕ) (steps : List Step) (form : ℕ) → IsListed (made t) listed places → form / 2 < length (made t) → steps ≡ Add form ∷ [] → IsAdding t listed places steps (add_form (form_of (made t) form) (bases_of (made t) listed))
 adding_first t listed places steps form is lt e = subst (λ s. IsAdding t listed places s (add_form (form_of (made t) form) (bases_of (made t) listed))) (sym e) (record { listed_is = is; fit = (lt, tt); same = refl })
 
