@@ -1,5 +1,5 @@
 -- Points by class stay apart when one is added.
-use Rattle.std.proofs.Common.{◌≡◌, ◌≢◌, ℕ, zero, suc, ◌+◌, ◌<◌, ◌≤◌, ◌⊎◌, inl, inr, length, map, List, [], ◌∷◌, ◌++◌, Some, None, slice_get, slice_set, refl, ap, sym, ◌∙◌, subst, subst₂, arith}
+use Rattle.std.proofs.Common.{◌≡◌, ◌≢◌, ℕ, zero, suc, ◌+◌, ◌<◌, ◌≤◌, ◌⊎◌, inl, inr, length, map, replicate, List, [], ◌∷◌, ◌++◌, Some, None, slice_get, slice_set, refl, ap, sym, ◌∙◌, subst, subst₂, arith}
 use native.Mathlib.Decide.{ℕ_discrete}
 use Rattle.std.proofs.lemmas.Option.{same_Some}
 use Rattle.std.proofs.lemmas.Bool.{cases_lt}
@@ -10,6 +10,21 @@ use Rattle.lw_trade.specs.Backing.{Held, IsHeld, IsHeldGained, spot_in}
 use Rattle.lw_trade.specs.Fronts.{spots_of, held_at, held_of, IsLastAt, IsLeastOf, IsLeastSpot}
 use Rattle.lw_trade.specs.Settling.{Spot, spot, Has, AreApart, HasAtMost, IsGained}
 use Rattle.lw_trade.proofs.Lists.{get_in, get_last, get_push, push_cases, get_set, get_set_other, set_cases}
+
+all_same : (n x k area : ℕ) → slice_get (replicate n x) k ≡ Some area → area ≡ x
+all_same zero x k area at = cc
+all_same (suc n) x zero area at = sym (same_Some x area at)
+all_same (suc n) x (suc k) area at = all_same n x k area at
+
+-- where there are no points, no class has a least area
+pub least_of_none : (n c area : ℕ) → slice_get (replicate n (most_area + 1)) c ≡ Some area → IsLeastOf [] c area
+least_of_none n c area at = record {
+  low = λ k has e. absurd (none k has.0 has.1);
+  at = inl (all_same n (most_area + 1) c area at);
+}
+  where
+    none : (k : Spot) (i : ℕ) → slice_get [] i ≡ Some k → ⊥
+    none k i e = cc
 
 pub spots_push : (cs : List ℕ) (ps : List Found) (c : ℕ) (p : Found) → length ps ≡ length cs → spots_of (cs ++ c ∷ []) (ps ++ p ∷ []) ≡ spots_of cs ps ++ spot c p.time.0 p.area ∷ []
 spots_push [] [] c p e = refl

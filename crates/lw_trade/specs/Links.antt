@@ -1,14 +1,10 @@
 -- Places of one array that are linked by their classes: each to the last one before it with the same class.
-use Rattle.std.specs.Prelude.{ℕ, ◌+◌, ◌<◌, ◌≡◌, List, length, map, Option, Some, None, slice_get}
-use Rattle.lw_trade.specs.declared.links.Link.{Link}
+use Rattle.std.specs.Prelude.{ℕ, ◌+◌, ◌<◌, ◌≡◌, List, length, Option, Some, None, slice_get}
 
 -- the classes of the places, and how many classes there are
 pub record LinkState : Type 0 where
   pub classes : List ℕ
   pub count : ℕ
-
-abbrev pub classes_of : List Link → List ℕ
-classes_of links = map (λ (l : Link). l.class.0) links
 
 -- none of the places from a place on and before another has the class
 abbrev pub HasNone : List ℕ → ℕ → ℕ → ℕ → Type 0
@@ -19,9 +15,10 @@ abbrev pub IsLast : List ℕ → ℕ → ℕ → Option ℕ → Type 0
 IsLast cs c n None = HasNone cs c 0 n
 IsLast cs c n (Some i) = (i < n) × (slice_get cs i ≡ Some c) × HasNone cs c (i + 1) n
 
--- what the links keep
-pub record AreLinks (links : List Link) (heads : List (Option ℕ)) : Type 0 where
-  pub few : length links < 4294967296
-  pub within : (i c : ℕ) → slice_get (classes_of links) i ≡ Some c → c < length heads
-  pub heads_are : (c : ℕ) (o : Option ℕ) → slice_get heads c ≡ Some o → IsLast (classes_of links) c (length links) o
-  pub before_is : (i : ℕ) (l : Link) → slice_get links i ≡ Some l → IsLast (classes_of links) l.class.0 i l.before
+-- what the links keep: the classes of the places, the place before each, and the last place of each class
+pub record AreLinks (classes : List ℕ) (befores heads : List (Option ℕ)) : Type 0 where
+  pub few : length classes < 4294967296
+  pub one_each : length befores ≡ length classes
+  pub within : (i c : ℕ) → slice_get classes i ≡ Some c → c < length heads
+  pub heads_are : (c : ℕ) (o : Option ℕ) → slice_get heads c ≡ Some o → IsLast classes c (length classes) o
+  pub before_is : (i c : ℕ) (o : Option ℕ) → slice_get classes i ≡ Some c → slice_get befores i ≡ Some o → IsLast classes c i o

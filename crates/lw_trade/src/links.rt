@@ -5,37 +5,32 @@ use lw_pool::ClassId;
 use std::alloc::{AllocError, Global};
 use std::marker::Model;
 
-/// A place with a class, and the last one before it that has the class too.
-#[derive(Clone, Copy, Debug)]
-pub(crate) struct Link {
-    pub class: ClassId,
-    pub before: Option<u32>,
-}
-
 /// The classes of the places of an array, each place linked to the last one before it that has the
-/// same class.
+/// same class. Both stand in arrays of their own, since most look for classes alone.
 #[derive(Drop)]
 pub(crate) struct Links {
-    links: Vec<Link>,
+    classes: Vec<ClassId>,
+    befores: Vec<Option<u32>>,
     heads: Vec<Option<u32>>,
 }
 
 impl Model for Links {
     ghost use Rattle.std.specs.Prelude.{length};
-    ghost use Rattle.lw_trade.specs.Links.{LinkState, AreLinks, classes_of};
+    ghost use Rattle.lw_pool.specs.Numbers.{numbers};
+    ghost use Rattle.lw_trade.specs.Links.{LinkState, AreLinks};
 
     ghost Value = { LinkState };
 
     ghost view = { λ l. record {
-      classes = classes_of l.links.items;
+      classes = numbers l.classes.items;
       count = length l.heads.items;
     } };
 
-    ghost invariant = { λ l. AreLinks l.links.items l.heads.items };
+    ghost invariant = { λ l. AreLinks (numbers l.classes.items) l.befores.items l.heads.items };
 }
 
 impl Links {
-    ghost use Rattle.lw_trade.specs.Links.{classes_of};
+    ghost use Rattle.lw_pool.specs.Numbers.{numbers};
 
     /// No places, for so many classes.
     pub(crate) fn new(alloc: Global, classes: usize) -> Result<Links, AllocError>
@@ -43,7 +38,8 @@ impl Links {
         ensures count { IfOk result (λ links. links.count ≡ classes) }
     {
         Ok(Links {
-            links: Vec::new(alloc),
+            classes: Vec::new(alloc),
+            befores: Vec::new(alloc),
             heads: vec![in alloc; None; classes]?,
         })
     }
@@ -53,7 +49,7 @@ impl Links {
         ensures len { result ≡ length self.now.classes }
         ensures within { (i c : ℕ) → slice_get self.now.classes i ≡ Some c → c < self.now.count }
     {
-        self.links.len() as u32
+        self.classes.len() as u32
     }
 
     /// The class of a place.
@@ -62,7 +58,7 @@ impl Links {
         ensures class { slice_get self.now.classes place ≡ Some result.0 }
         ensures within { result.0 < self.now.count }
     {
-        self.links[place as usize].class
+        self.classes[place as usize]
     }
 
     /// The last place with a class.
@@ -79,7 +75,7 @@ impl Links {
         ensures { (c : ℕ) → slice_get self.now.classes place ≡ Some c →
             IsLast self.now.classes c place result }
     {
-        self.links[place as usize].before
+        self.befores[place as usize]
     }
 
     /// One class more, which no place has.
@@ -99,12 +95,14 @@ impl Links {
         ensures count { self.new.count ≡ self.old.count }
         ensures err { OnErr result (self.new ≡ self.old) }
     {
-        if self.links.len() >= 4_294_967_295 {
+        if self.classes.len() >= 4_294_967_295 {
             return Err(AllocError);
         }
-        let place = self.links.len() as u32;
+        let place = self.classes.len() as u32;
         let before = self.heads[class.0 as usize];
-        self.links.push(Link { class, before })?;
+        self.befores.reserve(1)?;
+        self.classes.push(class)?;
+        self.befores.push(before)?;
         self.heads[class.0 as usize] = Some(place);
         Ok(())
     }
