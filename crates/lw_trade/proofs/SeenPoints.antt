@@ -17,7 +17,7 @@ use Rattle.lw_trade.specs.Points.{Task, timing}
 use Rattle.lw_trade.specs.Pricing.{IsOfLibrary}
 use Rattle.lw_trade.specs.Queues.{IsTaken}
 use Rattle.lw_trade.specs.Seen.{HasSeen, AreSeen, HasUnseen, IsSeeing, IsSeenPrice, seen_at, sum_seen}
-use Rattle.lw_trade.specs.Settling.{Spot, spot, Has, HasAtMost, IsSpotOf, times, areas, Gives, Queued, Waits, Comes, IsGained, AreGroupsAdded, AreInTime, GivesNoMoreSeen}
+use Rattle.lw_trade.specs.Settling.{Spot, spot, Has, HasAtMost, IsSpotOf, times, areas, Gives, Queued, Waits, Comes, IsGained, AreGroupsAdded, AreInTime, GivesNoMore, GivesNoMoreSeen}
 use Rattle.lw_trade.specs.Uses.{AreUses, HasUse, IsGroup, turns_of}
 use Rattle.lw_trade.proofs.Lists.{get_in, get_set, get_set_other}
 use Rattle.lw_trade.proofs.Stepping.{at_most, waits_left}
@@ -67,6 +67,27 @@ module _ (u : Uses) (seen : List ℕ) (spots : List Spot) (now choices n : ℕ) 
           let le = un.in_time in
           let same : un.point.time + un.delay ≡ now = omega (arith, low, le) in
           inr (un.place, un.group, un.member, un.owner, subst (λ t. Waits coming t un.group) same w)
+
+-- Where no group comes up to now, all points are seen.
+
+module _ (u : Uses) (seen : List ℕ) (spots : List Spot) (now n : ℕ) (coming : Queued) (within : now ≤ coming.horizon) (are : AreSeen u seen spots coming) (over : (t g : ℕ) → Waits coming t g → now < t) where
+  none_unseen : HasUnseen u seen spots now n → ⊥
+  none_unseen un = by_case (are un.point un.group un.delay un.has un.group_is (let le = un.in_time in omega (arith, le, within)))
+    where
+      by_case : HasSeen seen un.group un.point.area ⊎ Waits coming (un.point.time + un.delay) un.group → ⊥
+      by_case (inl own) = un.unseen own
+      by_case (inr w) =
+          let late = over (un.point.time + un.delay) un.group w in
+          let le = un.in_time in
+          absurd (omega (arith, late, le))
+
+  -- so that a choice gives no more that gives no more by what is seen
+  pub no_more_seen : (s : Task) (choices : List Choice) → GivesNoMoreSeen s choices spots (HasUnseen u seen spots now) now n → GivesNoMore s choices spots now n
+  no_more_seen s choices more x a at gives = by_case (more x a at gives)
+    where
+      by_case : HasAtMost spots x.class now a ⊎ HasUnseen u seen spots now n → HasAtMost spots x.class now a
+      by_case (inl had) = had
+      by_case (inr un) = absurd (none_unseen un)
 
 -- What a choice gives, and what its groups have seen.
 

@@ -1,5 +1,5 @@
 // The choices with a pin in a group, looked at at the time at which the group comes.
-ghost use Rattle.std.specs.Prelude.{◌≡◌, ◌<◌, ◌≤◌, ℕ, List, All, OnOk, length};
+ghost use Rattle.std.specs.Prelude.{◌≡◌, ◌<◌, ◌≤◌, ℕ, List, All, IsFalse, IsTrue, OnOk, length};
 ghost use Rattle.lw_fixed.specs.declared.micro.Micro.{Micro as MicroOf};
 ghost use Rattle.lw_laws.specs.Graphs.{Graph as PlainGraph};
 ghost use Rattle.lw_laws.specs.Covers.{Pattern as TreeOfCell};
@@ -9,7 +9,7 @@ ghost use Rattle.lw_trade.specs.Points.{task};
 ghost use Rattle.lw_trade.specs.Pricing.{IsOfLibrary};
 ghost use Rattle.lw_trade.specs.Rows.{plain_part, plain_rows};
 ghost use Rattle.lw_trade.specs.Seen.{AreSeen, HasUnseen};
-ghost use Rattle.lw_trade.specs.Settling.{Spot, Has, IsGroupLookedAt, IsLookedAt, IsStillFor, Waits};
+ghost use Rattle.lw_trade.specs.Settling.{Spot, Has, GivesNoMoreSeen, IsGroupLookedAt, IsLookedAt, IsStillFor, Waits};
 ghost use Rattle.lw_trade.specs.Uses.{AreUses, turns_of};
 
 use crate::choices::Row;
@@ -19,6 +19,40 @@ use crate::seeing::{see, seen_price};
 use crate::uses::Uses;
 use lw_genlib::Library;
 use std::alloc::AllocError;
+
+/// Whether by what its groups have seen a choice may give more at a time than what is had.
+pub(crate) fn may_give(
+    rows: &[Row],
+    lib: &Library,
+    uses: &Uses,
+    seen: &[u64],
+    fronts: &Fronts,
+    number: u32,
+    time: u64,
+) -> bool
+    requires one_each { length seen.now ≡ uses.now.members.count }
+    requires looks { AreLooks lib.now (plain_rows rows.now) uses.now }
+    requires of_library { All (λ (r : Row). IsOfLibrary lib.now (plain_part r.stand)) rows.now }
+    requires classes { All (λ (r : Row). r.class.0 < length fronts.now.least) rows.now }
+    requires late { (k : Spot) → Has fronts.now.spots k → k.time ≤ time }
+    requires small { (k : Spot) → Has fronts.now.spots k → k.area ≤ most_area }
+    ensures listed { IsTrue result → number < length rows.now }
+    ensures no_more { IsFalse result → (g : PlainGraph) (pats : List TreeOfCell)
+        (starts : List MicroOf) →
+        AreUses (task g pats lib.now starts) (plain_rows rows.now) uses.now →
+        GivesNoMoreSeen (task g pats lib.now starts) (plain_rows rows.now) fronts.now.spots
+        (HasUnseen uses.now seen.now fronts.now.spots time) time number }
+{
+    let (place, count) = (number as usize, uses.looks.briefs.len());
+    if place >= count {
+        return false;
+    }
+    let brief = uses.looks.briefs[place];
+    let Some(area) = seen_price(&uses.members, seen, brief) else {
+        return false;
+    };
+    fronts.is_less(brief.class, time, area)
+}
 
 // Lets a choice wait at a time, unless by what its groups have seen it gives no more then than what
 // is had.
@@ -46,16 +80,7 @@ fn look_at(
         IsLookedAt (task g pats lib.now starts) (plain_rows rows.now) fronts.now.spots
         (HasUnseen uses.now seen.now fronts.now.spots time) queue.old queue.new time number) }
 {
-    let (place, count) = (number as usize, uses.looks.briefs.len());
-    if place >= count {
-        return Ok(());
-    }
-    let brief = uses.looks.briefs[place];
-    let Some(area) = seen_price(&uses.members, seen, brief) else {
-        return Ok(());
-    };
-    let less = fronts.is_less(brief.class, time, area);
-    if less {
+    if may_give(rows, lib, uses, seen, fronts, number, time) {
         queue.push(0, time, 0, number)?;
         return Ok(());
     }

@@ -14,7 +14,7 @@ ghost use Rattle.lw_trade.specs.Uses.{AreGroups, AreUses, turns_of};
 
 use crate::choices::Row;
 use crate::fronts::Fronts;
-use crate::looking::look_at_groups;
+use crate::looking::{look_at_groups, may_give};
 use crate::point::CurveFault;
 use crate::pricing::price;
 use crate::queue::Queue;
@@ -90,12 +90,15 @@ fn next_gain(
     lib: &Library,
     starts: &[Micro],
     uses: &Uses,
+    seen: &[u64],
     fronts: &mut Fronts,
     coming: &Queue,
     queue: &mut Queue,
     time: u64,
 ) -> Result<Option<ClassId>, AllocError>
     requires time { time ≤ coming.now.horizon }
+    requires one_each { length seen.now ≡ uses.now.members.count }
+    requires seen { AreSeen uses.now seen.now fronts.old.spots coming.now }
     requires within { All (λ (r : Row). IsWithin (length fronts.old.least) (plain_part r.stand))
         rows.now }
     requires of_library { All (λ (r : Row). IsOfLibrary lib.now (plain_part r.stand)) rows.now }
@@ -103,26 +106,31 @@ fn next_gain(
     requires over { (t g : ℕ) → Waits coming.now t g → time < t }
     requires still { (g : PlainGraph) × (pats : List TreeOfCell) ×
         IsStillFor (task g pats lib.now starts.now) (plain_rows rows.now) time fronts.old.spots
-        (turns_of uses.now coming.now queue.old) }
+        (turns_of uses.now coming.now queue.old) ×
+        AreUses (task g pats lib.now starts.now) (plain_rows rows.now) uses.now }
     ensures count { length fronts.new.least ≡ length fronts.old.least }
     ensures gain { IfOk result (λ gain. (g : PlainGraph) (pats : List TreeOfCell) →
         IsStillFor (task g pats lib.now starts.now) (plain_rows rows.now) time fronts.old.spots
         (turns_of uses.now coming.now queue.old) →
+        AreUses (task g pats lib.now starts.now) (plain_rows rows.now) uses.now →
         IsAfter (task g pats lib.now starts.now) (plain_rows rows.now) time fronts.new.spots
         (turns_of uses.now coming.now queue.new) gain) }
-    ensures seen { IfOk result (λ gain. (seen : List ℕ) →
-        AreSeen uses.now seen fronts.old.spots coming.now →
-        AreSeenAfter uses.now seen fronts.new.spots coming.now time gain) }
+    ensures seen { IfOk result
+        (AreSeenAfter uses.now seen.now fronts.new.spots coming.now time) }
     ensures falls { IfOk result (λ gain. IfSome gain
         (λ class. (class.0 < length fronts.old.least) ×
         (total fronts.new.least < total fronts.old.least))) }
     ensures backed { OnOk result ((g : PlainGraph) (pats : List TreeOfCell) →
         IsStillFor (task g pats lib.now starts.now) (plain_rows rows.now) time fronts.old.spots
         (turns_of uses.now coming.now queue.old) →
+        AreUses (task g pats lib.now starts.now) (plain_rows rows.now) uses.now →
         AreBacked (task g pats lib.now starts.now) (plain_rows rows.now) fronts.old.held →
         AreBacked (task g pats lib.now starts.now) (plain_rows rows.now) fronts.new.held) }
 {
     while let Some(number) = queue.take_at(time) {
+        if !may_give(rows, lib, uses, seen, fronts, number, time) {
+            continue;
+        }
         let row = &rows[number as usize];
         let Some(area) = price(&row.stand, lib, starts, fronts, time) else {
             continue;
@@ -180,7 +188,7 @@ fn gain_at(
         AreBacked (task g pats lib.now starts.now) (plain_rows rows.now) fronts.new.held) }
 {
     look_at_groups(rows, lib, uses, seen, fronts, coming, queue, time)?;
-    next_gain(rows, lib, starts, uses, fronts, coming, queue, time)
+    next_gain(rows, lib, starts, uses, seen, fronts, coming, queue, time)
 }
 
 // Gives the classes their points at a time, before which nothing waits or comes.

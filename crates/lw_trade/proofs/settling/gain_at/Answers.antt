@@ -8,4 +8,4 @@ look_at_groups-requires-clause-still c =
 pub next_gain-requires-clause-still : goal.next_gain-requires-clause-still
 next_gain-requires-clause-still c =
     let (g, pats, st, us) = c.requires.still in
-    (g, pats, c.in_ok-look_at_groups.ensures.still g pats c.args.starts.now st us)
+    (g, pats, c.in_ok-look_at_groups.ensures.still g pats c.args.starts.now st us, us)

@@ -7,31 +7,69 @@ use Rattle.lw_trade.specs.Fronts.{FrontState, IsTried}
 use Rattle.lw_trade.specs.Points.{task}
 use Rattle.lw_trade.specs.Pricing.{IsOfLibrary, IsWithin}
 use Rattle.lw_trade.specs.Rows.{plain_part, plain_row, plain_rows}
-use Rattle.lw_trade.specs.Seen.{AreSeen}
-use Rattle.lw_trade.specs.Settling.{spot, Has, HasAtMost, IsBest, IsGained, IsStillFor, Waits}
+use Rattle.lw_trade.specs.Seen.{AreSeen, HasUnseen}
+use Rattle.lw_trade.specs.Settling.{spot, Has, HasAtMost, GivesNoMoreSeen, IsBest, IsGained, IsStillFor, Waits}
 use Rattle.lw_trade.proofs.Backed.{backed_gained, reached_low}
 use Rattle.lw_trade.proofs.Lists.{got}
 use Rattle.lw_trade.specs.Uses.{turns_of}
 use Rattle.lw_trade.proofs.Adding.{looked_in_time, taken_waits, taken_less, total_set, row_at}
+use Rattle.lw_trade.proofs.SeenPoints.{no_more_seen}
 use Rattle.lw_trade.proofs.Stepping.{had_more, none_more, taken_gained, taken_over}
 use Rattle.lw_trade.proofs.settling.next_gain.Goals as goal
 
 pub take_at-requires-clause-within : goal.take_at-requires-clause-within
 take_at-requires-clause-within c =
-    let (g, pats, st) = c.requires.still in
-    let (are, time, still) = c.loop-number.invariant.still g pats st in
+    let (g, pats, st, us) = c.requires.still in
+    let (are, time, still) = c.loop-number.invariant.still g pats st us in
     omega (arith, c.requires.time, time.horizon)
 
 pub take_at-requires-clause-first : goal.take_at-requires-clause-first
 take_at-requires-clause-first c t n w =
-    let (g, pats, st) = c.requires.still in
-    let (are, time, still) = c.loop-number.invariant.still g pats st in
+    let (g, pats, st, us) = c.requires.still in
+    let (are, time, still) = c.loop-number.invariant.still g pats st us in
     (time.looked t n w).0
+
+pub may_give-requires-clause-late : goal.may_give-requires-clause-late
+may_give-requires-clause-late c k has =
+    let (g, pats, st, us) = c.requires.still in
+    let (are, time, still) = c.loop-number.invariant.still g pats st us in
+    still.low k (subst (λ (f : FrontState). Has f.spots k) c.loop-number.invariant.fronts has)
+
+pub may_give-requires-clause-small : goal.may_give-requires-clause-small
+may_give-requires-clause-small c k has =
+    let (g, pats, st, us) = c.requires.still in
+    let (are, time, still) = c.loop-number.invariant.still g pats st us in
+    reached_low (task g pats c.args.lib.now c.args.starts.now) k (still.reached k (subst (λ (f : FrontState). Has f.spots k) c.loop-number.invariant.fronts has))
+
+pub loop-number-smaller-then-not-may_give : goal.loop-number-smaller-then-not-may_give
+loop-number-smaller-then-not-may_give c =
+    let (g, pats, st, us) = c.requires.still in
+    let (are, time, still) = c.loop-number.invariant.still g pats st us in
+    let within : c.args.time ≤ c.loop-number.queue.horizon = omega (arith, c.requires.time, time.horizon) in
+    taken_less c.loop-number.queue c.take_at.new.self c.args.time c.in-Some.number within c.in-Some.ensures
+
+pub loop-number-preserved-then-not-may_give : goal.loop-number-preserved-then-not-may_give
+loop-number-preserved-then-not-may_give c = record {
+  fronts = c.loop-number.invariant.fronts;
+  still = λ g pats st us.
+      let s = task g pats c.args.lib.now c.args.starts.now in
+      let xs = plain_rows c.args.rows.now in
+      let u = c.args.uses.now in
+      let ks = c.args.fronts.now.spots in
+      let coming = c.args.coming.now in
+      let (are, time, still) = c.loop-number.invariant.still g pats st us in
+      let within : c.args.time ≤ c.loop-number.queue.horizon = omega (arith, c.requires.time, time.horizon) in
+      let here = c.may_give.ensures.no_more c.if-not-may_give.true g pats c.args.starts.now us in
+      let here' = subst (λ (f : FrontState). GivesNoMoreSeen s xs f.spots (HasUnseen u c.args.seen.now f.spots c.args.time) c.args.time c.in-Some.number) c.loop-number.invariant.fronts here in
+      let more = no_more_seen u c.args.seen.now ks c.args.time c.in-Some.number coming c.requires.time c.requires.seen c.requires.over s xs here' in
+      let intime = looked_in_time c.args.time (length xs) (turns_of u coming c.loop-number.queue) time c.take_at.new.self c.in-Some.number within c.in-Some.ensures in
+      (are, intime, taken_over s xs c.args.time c.in-Some.number ks (turns_of u coming c.loop-number.queue) c.take_at.new.self within still c.in-Some.ensures more);
+}
 
 pub bounds-rows-number : goal.bounds-rows-number
 bounds-rows-number c =
-    let (g, pats, st) = c.requires.still in
-    let (are, time, still) = c.loop-number.invariant.still g pats st in
+    let (g, pats, st, us) = c.requires.still in
+    let (are, time, still) = c.loop-number.invariant.still g pats st us in
     let within : c.args.time ≤ c.loop-number.queue.horizon = omega (arith, c.requires.time, time.horizon) in
     let w = taken_waits c.loop-number.queue c.take_at.new.self c.args.time c.in-Some.number within c.in-Some.ensures in
     omega (arith, (time.looked c.args.time c.in-Some.number w).1, length-map c.args.rows.now plain_row)
@@ -39,8 +77,8 @@ bounds-rows-number c =
 pub price-requires-clause-within : goal.price-requires-clause-within
 price-requires-clause-within c =
     let r = c.index-rows-number.result in
-    let (g, pats, st) = c.requires.still in
-    let (are, time, still) = c.loop-number.invariant.still g pats st in
+    let (g, pats, st, us) = c.requires.still in
+    let (are, time, still) = c.loop-number.invariant.still g pats st us in
     let within : c.args.time ≤ c.loop-number.queue.horizon = omega (arith, c.requires.time, time.horizon) in
     let w = taken_waits c.loop-number.queue c.take_at.new.self c.args.time c.in-Some.number within c.in-Some.ensures in
     let lt : c.in-Some.number < length c.args.rows.now = omega (arith, (time.looked c.args.time c.in-Some.number w).1, length-map c.args.rows.now plain_row) in
@@ -49,8 +87,8 @@ price-requires-clause-within c =
 pub price-requires-clause-cell : goal.price-requires-clause-cell
 price-requires-clause-cell c =
     let r = c.index-rows-number.result in
-    let (g, pats, st) = c.requires.still in
-    let (are, time, still) = c.loop-number.invariant.still g pats st in
+    let (g, pats, st, us) = c.requires.still in
+    let (are, time, still) = c.loop-number.invariant.still g pats st us in
     let within : c.args.time ≤ c.loop-number.queue.horizon = omega (arith, c.requires.time, time.horizon) in
     let w = taken_waits c.loop-number.queue c.take_at.new.self c.args.time c.in-Some.number within c.in-Some.ensures in
     let lt : c.in-Some.number < length c.args.rows.now = omega (arith, (time.looked c.args.time c.in-Some.number w).1, length-map c.args.rows.now plain_row) in
@@ -58,18 +96,18 @@ price-requires-clause-cell c =
 
 pub loop-number-smaller-in_default-price : goal.loop-number-smaller-in_default-price
 loop-number-smaller-in_default-price c =
-    let (g, pats, st) = c.requires.still in
-    let (are, time, still) = c.loop-number.invariant.still g pats st in
+    let (g, pats, st, us) = c.requires.still in
+    let (are, time, still) = c.loop-number.invariant.still g pats st us in
     let within : c.args.time ≤ c.loop-number.queue.horizon = omega (arith, c.requires.time, time.horizon) in
     taken_less c.loop-number.queue c.take_at.new.self c.args.time c.in-Some.number within c.in-Some.ensures
 
 pub loop-number-preserved-in_default-price : goal.loop-number-preserved-in_default-price
 loop-number-preserved-in_default-price c = record {
   fronts = c.loop-number.invariant.fronts;
-  still = λ g pats st.
+  still = λ g pats st us.
       let s = task g pats c.args.lib.now c.args.starts.now in
       let r = c.index-rows-number.result in
-      let (are, time, still) = c.loop-number.invariant.still g pats st in
+      let (are, time, still) = c.loop-number.invariant.still g pats st us in
       let within : c.args.time ≤ c.loop-number.queue.horizon = omega (arith, c.requires.time, time.horizon) in
       let w = taken_waits c.loop-number.queue c.take_at.new.self c.args.time c.in-Some.number within c.in-Some.ensures in
       let lt : c.in-Some.number < length c.args.rows.now = omega (arith, (time.looked c.args.time c.in-Some.number w).1, length-map c.args.rows.now plain_row) in
@@ -82,8 +120,8 @@ loop-number-preserved-in_default-price c = record {
 pub gain-requires-clause-class : goal.gain-requires-clause-class
 gain-requires-clause-class c =
     let r = c.index-rows-number.result in
-    let (g, pats, st) = c.requires.still in
-    let (are, time, still) = c.loop-number.invariant.still g pats st in
+    let (g, pats, st, us) = c.requires.still in
+    let (are, time, still) = c.loop-number.invariant.still g pats st us in
     let within : c.args.time ≤ c.loop-number.queue.horizon = omega (arith, c.requires.time, time.horizon) in
     let w = taken_waits c.loop-number.queue c.take_at.new.self c.args.time c.in-Some.number within c.in-Some.ensures in
     let lt : c.in-Some.number < length c.args.rows.now = omega (arith, (time.looked c.args.time c.in-Some.number w).1, length-map c.args.rows.now plain_row) in
@@ -94,18 +132,18 @@ gain-requires-clause-area c = c.in-Some-price.ensures.low
 
 pub gain-requires-clause-late : goal.gain-requires-clause-late
 gain-requires-clause-late c k has =
-    let (g, pats, st) = c.requires.still in
-    let (are, time, still) = c.loop-number.invariant.still g pats st in
+    let (g, pats, st, us) = c.requires.still in
+    let (are, time, still) = c.loop-number.invariant.still g pats st us in
     still.low k (subst (λ (f : FrontState). Has f.spots k) c.loop-number.invariant.fronts has)
 
 pub returns-in_err-gain-clause-count : goal.returns-in_err-gain-clause-count
 returns-in_err-gain-clause-count c = c.in_err-gain.ensures.count ∙ ap (λ (f : FrontState). length f.least) c.loop-number.invariant.fronts
 
 pub returns-then-branch-clause-gain : goal.returns-then-branch-clause-gain
-returns-then-branch-clause-gain c g pats st =
+returns-then-branch-clause-gain c g pats st us =
     let s = task g pats c.args.lib.now c.args.starts.now in
     let r = c.index-rows-number.result in
-    let (are, time, still) = c.loop-number.invariant.still g pats st in
+    let (are, time, still) = c.loop-number.invariant.still g pats st us in
     let within : c.args.time ≤ c.loop-number.queue.horizon = omega (arith, c.requires.time, time.horizon) in
     let w = taken_waits c.loop-number.queue c.take_at.new.self c.args.time c.in-Some.number within c.in-Some.ensures in
     let lt : c.in-Some.number < length c.args.rows.now = omega (arith, (time.looked c.args.time c.in-Some.number w).1, length-map c.args.rows.now plain_row) in
@@ -117,20 +155,20 @@ returns-then-branch-clause-gain c g pats st =
     (are, intime, taken_gained s (plain_rows c.args.rows.now) c.args.time c.in-Some.number c.args.fronts.now.spots (turns_of c.args.uses.now c.args.coming.now c.loop-number.queue) c.take_at.new.self within still c.in-Some.ensures (plain_row r) at are c.in-Some-price.area c.gain.new.self.spots best gained)
 
 pub returns-then-branch-clause-seen : goal.returns-then-branch-clause-seen
-returns-then-branch-clause-seen c seen are =
+returns-then-branch-clause-seen c =
     let r = c.index-rows-number.result in
     let tried = subst (IsTried c.loop-number.fronts c.gain.new.self (spot r.class.0 c.args.time c.in-Some-price.area) c.in-Some.number) c.if-branch.true c.in_ok-gain.ensures.tried in
     let gained = subst (λ (f : FrontState). IsGained f.spots c.gain.new.self.spots (spot r.class.0 c.args.time c.in-Some-price.area)) c.loop-number.invariant.fronts tried.0 in
-    (c.args.fronts.now.spots, c.in-Some-price.area, are, gained)
+    (c.args.fronts.now.spots, c.in-Some-price.area, c.requires.seen, gained)
 
 pub returns-clause-seen : goal.returns-clause-seen
-returns-clause-seen c seen are = subst (λ (f : FrontState). AreSeen c.args.uses.now seen f.spots c.args.coming.now) (sym c.loop-number.invariant.fronts) are
+returns-clause-seen c = subst (λ (f : FrontState). AreSeen c.args.uses.now c.args.seen.now f.spots c.args.coming.now) (sym c.loop-number.invariant.fronts) c.requires.seen
 
 pub returns-then-branch-clause-falls : goal.returns-then-branch-clause-falls
 returns-then-branch-clause-falls c =
     let r = c.index-rows-number.result in
-    let (g, pats, st) = c.requires.still in
-    let (are, time, still) = c.loop-number.invariant.still g pats st in
+    let (g, pats, st, us) = c.requires.still in
+    let (are, time, still) = c.loop-number.invariant.still g pats st us in
     let within : c.args.time ≤ c.loop-number.queue.horizon = omega (arith, c.requires.time, time.horizon) in
     let w = taken_waits c.loop-number.queue c.take_at.new.self c.args.time c.in-Some.number within c.in-Some.ensures in
     let lt : c.in-Some.number < length c.args.rows.now = omega (arith, (time.looked c.args.time c.in-Some.number w).1, length-map c.args.rows.now plain_row) in
@@ -143,8 +181,8 @@ returns-then-branch-clause-falls c =
 
 pub loop-number-smaller : goal.loop-number-smaller
 loop-number-smaller c =
-    let (g, pats, st) = c.requires.still in
-    let (are, time, still) = c.loop-number.invariant.still g pats st in
+    let (g, pats, st, us) = c.requires.still in
+    let (are, time, still) = c.loop-number.invariant.still g pats st us in
     let within : c.args.time ≤ c.loop-number.queue.horizon = omega (arith, c.requires.time, time.horizon) in
     taken_less c.loop-number.queue c.take_at.new.self c.args.time c.in-Some.number within c.in-Some.ensures
 
@@ -154,9 +192,9 @@ loop-number-preserved c =
     let tried = subst (IsTried c.loop-number.fronts c.gain.new.self (spot r.class.0 c.args.time c.in-Some-price.area) c.in-Some.number) c.if-branch.false c.in_ok-gain.ensures.tried in
     record {
       fronts = tried.0 ∙ c.loop-number.invariant.fronts;
-      still = λ g pats st.
+      still = λ g pats st us.
           let s = task g pats c.args.lib.now c.args.starts.now in
-          let (are, time, still) = c.loop-number.invariant.still g pats st in
+          let (are, time, still) = c.loop-number.invariant.still g pats st us in
           let within : c.args.time ≤ c.loop-number.queue.horizon = omega (arith, c.requires.time, time.horizon) in
           let w = taken_waits c.loop-number.queue c.take_at.new.self c.args.time c.in-Some.number within c.in-Some.ensures in
           let lt : c.in-Some.number < length c.args.rows.now = omega (arith, (time.looked c.args.time c.in-Some.number w).1, length-map c.args.rows.now plain_row) in
@@ -168,20 +206,20 @@ loop-number-preserved c =
     }
 
 pub returns-clause-gain : goal.returns-clause-gain
-returns-clause-gain c g pats st =
+returns-clause-gain c g pats st us =
     let s = task g pats c.args.lib.now c.args.starts.now in
-    let now = c.loop-number.invariant.still g pats st in
+    let now = c.loop-number.invariant.still g pats st us in
     let (same, over) = c.in_default.ensures in
     let here = subst (λ (f : FrontState). IsStillFor s (plain_rows c.args.rows.now) c.args.time f.spots (turns_of c.args.uses.now c.args.coming.now c.loop-number.queue)) (sym c.loop-number.invariant.fronts) now in
     let here' = subst (λ q. IsStillFor s (plain_rows c.args.rows.now) c.args.time c.loop-number.fronts.spots (turns_of c.args.uses.now c.args.coming.now q)) (sym same) here in
     (here', (subst (λ q. (t n : _) → Waits q t n → c.args.time < t) (sym same) over, c.requires.over))
 
 pub returns-then-branch-clause-backed : goal.returns-then-branch-clause-backed
-returns-then-branch-clause-backed c g pats st backed =
+returns-then-branch-clause-backed c g pats st us backed =
     let s = task g pats c.args.lib.now c.args.starts.now in
     let r = c.index-rows-number.result in
     let old = c.args.fronts.now in
-    let (are, time, still) = c.loop-number.invariant.still g pats st in
+    let (are, time, still) = c.loop-number.invariant.still g pats st us in
     let within : c.args.time ≤ c.loop-number.queue.horizon = omega (arith, c.requires.time, time.horizon) in
     let w = taken_waits c.loop-number.queue c.take_at.new.self c.args.time c.in-Some.number within c.in-Some.ensures in
     let lt : c.in-Some.number < length c.args.rows.now = omega (arith, (time.looked c.args.time c.in-Some.number w).1, length-map c.args.rows.now plain_row) in
@@ -195,5 +233,5 @@ returns-then-branch-clause-backed c g pats st backed =
     backed_gained old.held c.gain.new.self.held h gained s (plain_rows c.args.rows.now) old.spots same (λ k has. reached_low s k (still.reached k has)) (plain_row r) are at refl best backed
 
 pub returns-clause-backed : goal.returns-clause-backed
-returns-clause-backed c g pats st backed =
+returns-clause-backed c g pats st us backed =
     subst (λ (f : FrontState). AreBacked (task g pats c.args.lib.now c.args.starts.now) (plain_rows c.args.rows.now) f.held) (sym c.loop-number.invariant.fronts) backed
