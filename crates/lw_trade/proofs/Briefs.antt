@@ -1,15 +1,14 @@
 -- Choices in short.
-use Rattle.std.proofs.Common.{◌≡◌, ℕ, ◌+◌, ◌<◌, ◌≤◌, ◌⊎◌, inl, inr, All, length, List, [], ◌∷◌, ◌++◌, Option, Some, None, option_map, slice_get, slice_index_or, refl, ap, sym, ◌∙◌, subst, subst₂, arith}
+use Rattle.std.proofs.Common.{◌≡◌, ℕ, ◌+◌, ◌<◌, ◌≤◌, ◌⊎◌, inl, inr, All, length, List, [], ◌∷◌, ◌++◌, Option, Some, None, option_map, slice_get, slice_index_or, ap, sym, ◌∙◌, subst, subst₂, arith}
 use Rattle.std.proofs.lemmas.List.{length-map}
 use Rattle.std.proofs.lemmas.Option.{same_Some, slice_get-map}
 use Rattle.lw_genlib.specs.Cells.{CellParts}
 use Rattle.lw_trade.specs.declared.choices.Row.{Row}
 use Rattle.lw_trade.specs.declared.looks.Brief.{Brief}
 use Rattle.lw_trade.specs.declared.uses.Uses.{Uses}
-use Rattle.lw_trade.specs.Areas.{most_area}
 use Rattle.lw_trade.specs.Choices.{Part, Choice}
 use Rattle.lw_trade.specs.Choices.Part.{input, gate}
-use Rattle.lw_trade.specs.Looks.{AreBriefs, IsBriefOf, pin_count, own_area}
+use Rattle.lw_trade.specs.Looks.{AreBriefs, IsBriefOf}
 use Rattle.lw_trade.specs.Rows.{plain_row, plain_rows}
 use Rattle.lw_trade.specs.Seen.{IsBriefPrice, IsSeenOfPins, IsSeenPrice, sum_seen}
 use Rattle.lw_trade.proofs.Lists.{get_some, got, push_cases}

@@ -1,4 +1,4 @@
-use Rattle.std.proofs.Common.{◌∙◌, ◌≡◌, ◌+◌, ◌<◌, ◌≤◌, Some, length, refl, slice_get, arith}
+use Rattle.std.proofs.Common.{◌∙◌, ◌+◌, ◌<◌, ◌≤◌, length, refl, arith}
 use Rattle.lw_trade.specs.Points.{task}
 use Rattle.lw_trade.specs.Seen.{HasUnseen}
 use Rattle.lw_trade.specs.Rows.{plain_rows}

@@ -1,4 +1,4 @@
-use Rattle.std.proofs.Common.{ℕ, ◌<◌, ◌≡◌, length, Some, slice_get}
+use Rattle.std.proofs.Common.{ℕ, ◌≡◌, length, Some, slice_get}
 use Rattle.lw_trade.specs.declared.looks.Brief.{Brief}
 use Rattle.lw_trade.specs.Choices.{Choice}
 use Rattle.lw_trade.specs.Looks.{IsBriefOf}

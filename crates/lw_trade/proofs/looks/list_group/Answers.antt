@@ -1,8 +1,7 @@
 use Rattle.std.proofs.Common.{◌<◌, length, slice_index_or, sym, subst, arith}
 use Rattle.lw_trade.specs.Links.{IsLast}
-use Rattle.lw_trade.proofs.Linking.{place_measure, place_falls}
 use Rattle.lw_trade.proofs.Lists.{get_in, got}
-use Rattle.lw_trade.proofs.Members.{IsListing, listing_first, listing_next, listing_over}
+use Rattle.lw_trade.proofs.Members.{IsListing, listing_next}
 use Rattle.lw_trade.proofs.looks.list_group.Goals as goal
 
 pub loop-next-preserved : goal.loop-next-preserved

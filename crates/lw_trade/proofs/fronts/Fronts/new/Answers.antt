@@ -1,4 +1,4 @@
-use Rattle.std.proofs.Common.{rules, ◌≡◌, Some, ap, sym, subst, slice_get}
+use Rattle.std.proofs.Common.{rules, ◌≡◌, Some, sym, subst, slice_get}
 use Rattle.lw_trade.specs.Fronts.{IsLeastOf, spots_of}
 use Rattle.lw_trade.proofs.Fronting.{least_of_none}
 use Rattle.lw_trade.proofs.fronts.Fronts.new.Goals as goal
