@@ -35,7 +35,7 @@ mod sweeping;
 mod times;
 mod tops;
 
-pub use bettering::{better_bare, better_within};
+pub use bettering::{Outcome, better_bare, better_within};
 pub use bounds::Bounds;
 pub use cost::Cost;
 pub use cursor::Cursor;

@@ -3,10 +3,10 @@ ghost use Rattle.std.specs.Prelude.{◌≡◌, ◌<◌, ℕ, length, None, Optio
 ghost use Rattle.lw_match.specs.declared.mark.Mark.{Mark};
 ghost use Rattle.lw_match.specs.Cutting.{cuts_state, root_side, IsTopOf};
 ghost use Rattle.lw_match.specs.Places.{list_at, list_of, root_of, AreListed, AreRootsListed, IsFar};
-ghost use Rattle.lw_match.specs.Queries.{IsQuery, HasNoneIfSure};
-ghost use Rattle.lw_match.specs.Hunts.{IsHunt, StaysWithout};
+ghost use Rattle.lw_match.specs.Queries.{IsQuery, IsWhole, HasNoneIfSure};
+ghost use Rattle.lw_match.specs.Hunts.{IsHunt, GoesOn};
 
-use crate::bettering::{Target, better_by, target_of};
+use crate::bettering::{Target, better_by, target_after};
 use crate::binding::Binding;
 use crate::numbers::shifted;
 use crate::parts::Root;
@@ -53,12 +53,13 @@ fn hunt_by<C: Cost>(query: &Query<C>, pat: PatId, hunt: &mut Hunt, binding: &mut
     ensures hunt { (bound : Option Mark) → IsHunt (C.costs query.now.cost.now) query.now bound
         hunt.old → IsHunt (C.costs query.now.cost.now) query.now bound hunt.new }
     ensures top { IsTopOf hunt.new.target.bound hunt.new.target.top }
-    ensures stays { StaysWithout hunt.old hunt.new }
-    ensures none { hunt.new.found ≡ None → HasNoneIfSure (C.costs query.now.cost.now) query.now
-        pat.0 hunt.new.target.bound hunt.new.target.top }
+    ensures goes_on { GoesOn hunt.old hunt.new }
+    ensures none { IsWhole hunt.new.target.by_marks hunt.new.found →
+        HasNoneIfSure (C.costs query.now.cost.now) query.now pat.0 hunt.new.target.bound
+        hunt.new.target.top }
 {
     if let Some(best) = better_by(query, pat, hunt.target, binding) {
-        hunt.target = target_of(Some(best.mark));
+        hunt.target = target_after(hunt.target, best.mark);
         hunt.found = Some(best);
     }
 }
@@ -81,8 +82,9 @@ fn hunt_root<C: Cost>(
     ensures hunt { (bound : Option Mark) → IsHunt (C.costs query.now.cost.now) query.now bound
         hunt.old → IsHunt (C.costs query.now.cost.now) query.now bound hunt.new }
     ensures top { IsTopOf hunt.new.target.bound hunt.new.target.top }
-    ensures stays { StaysWithout hunt.old hunt.new }
-    ensures none { hunt.new.found ≡ None → (i : ℕ) → i < length query.now.pats.now →
+    ensures goes_on { GoesOn hunt.old hunt.new }
+    ensures none { IsWhole hunt.new.target.by_marks hunt.new.found →
+        (i : ℕ) → i < length query.now.pats.now →
         i < length query.now.cuts.roots.now →
         list_of (root_side (cuts_state query.now.cuts) i) ≡ list →
         root ≡ root_of i (root_side (cuts_state query.now.cuts) i) →
@@ -115,8 +117,9 @@ fn hunt_list<C: Cost>(
     ensures hunt { (bound : Option Mark) → IsHunt (C.costs query.now.cost.now) query.now bound
         hunt.old → IsHunt (C.costs query.now.cost.now) query.now bound hunt.new }
     ensures top { IsTopOf hunt.new.target.bound hunt.new.target.top }
-    ensures stays { StaysWithout hunt.old hunt.new }
-    ensures none { hunt.new.found ≡ None → (i : ℕ) → i < length query.now.pats.now →
+    ensures goes_on { GoesOn hunt.old hunt.new }
+    ensures none { IsWhole hunt.new.target.by_marks hunt.new.found →
+        (i : ℕ) → i < length query.now.pats.now →
         i < length query.now.cuts.roots.now →
         list_of (root_side (cuts_state query.now.cuts) i) ≡ list →
         HasNoneIfSure (C.costs query.now.cost.now) query.now i hunt.new.target.bound
@@ -141,7 +144,9 @@ fn hunt_all<C: Cost>(query: &Query<C>, hunt: &mut Hunt, binding: &mut Binding)
     ensures hunt { (bound : Option Mark) → IsHunt (C.costs query.now.cost.now) query.now bound
         hunt.old → IsHunt (C.costs query.now.cost.now) query.now bound hunt.new }
     ensures top { IsTopOf hunt.new.target.bound hunt.new.target.top }
-    ensures none { hunt.new.found ≡ None → (i : ℕ) → i < length query.now.pats.now →
+    ensures goes_on { GoesOn hunt.old hunt.new }
+    ensures none { IsWhole hunt.new.target.by_marks hunt.new.found →
+        (i : ℕ) → i < length query.now.pats.now →
         HasNoneIfSure (C.costs query.now.cost.now) query.now i hunt.new.target.bound
         hunt.new.target.top }
 {
@@ -162,7 +167,9 @@ pub(crate) fn hunt_near<C: Cost>(query: &Query<C>, hunt: &mut Hunt, binding: &mu
     ensures hunt { (bound : Option Mark) → IsHunt (C.costs query.now.cost.now) query.now bound
         hunt.old → IsHunt (C.costs query.now.cost.now) query.now bound hunt.new }
     ensures top { IsTopOf hunt.new.target.bound hunt.new.target.top }
-    ensures none { hunt.new.found ≡ None → (i : ℕ) → i < length query.now.pats.now →
+    ensures goes_on { GoesOn hunt.old hunt.new }
+    ensures none { IsWhole hunt.new.target.by_marks hunt.new.found →
+        (i : ℕ) → i < length query.now.pats.now →
         HasNoneIfSure (C.costs query.now.cost.now) query.now i hunt.new.target.bound
         hunt.new.target.top }
 {

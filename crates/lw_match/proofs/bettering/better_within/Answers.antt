@@ -14,7 +14,7 @@ better-requires-clause-query g c = record {
   floor = c.requires.floor;
 }
 
-pub returns-clause-none : goal.returns-clause-none
-returns-clause-none g c =
-    λ e bounds.
-    c.better.ensures.none e (subst (λ (cuts : CutsState). AreCutsOf cuts c.args.pats.now c.args.graph.now c.args.marks.now) (sym c.cuts-cuts.ensures.state) (bounds_cut_well c.args.bounds.now c.args.pats.now c.args.graph.now c.args.marks.now c.requires.fit bounds))
+pub returns-clause-least : goal.returns-clause-least
+returns-clause-least g c =
+    λ t bounds.
+    c.better.ensures.least t (subst (λ (cuts : CutsState). AreCutsOf cuts c.args.pats.now c.args.graph.now c.args.marks.now) (sym c.cuts-cuts.ensures.state) (bounds_cut_well c.args.bounds.now c.args.pats.now c.args.graph.now c.args.marks.now c.requires.fit bounds))

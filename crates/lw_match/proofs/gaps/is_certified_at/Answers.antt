@@ -1,4 +1,4 @@
-use Rattle.std.proofs.Common.{ℕ, ◌≤◌, ◌∙◌, ap, subst, replicate}
+use Rattle.std.proofs.Common.{◌≤◌, ◌∙◌, ap, subst, replicate}
 use Rattle.std.proofs.lemmas.Bool.{leb-true}
 use Rattle.std.proofs.Math.ListN.{set}
 use Rattle.lw_match.proofs.gaps.is_certified_at.Goals as goal

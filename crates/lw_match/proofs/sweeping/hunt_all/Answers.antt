@@ -1,6 +1,6 @@
 use Rattle.std.proofs.Common.{◌∙◌, refl, ap, arith}
 use Rattle.lw_match.specs.declared.binding.Binding.{Binding}
-use Rattle.lw_match.proofs.RootLists.{none_next}
+use Rattle.lw_match.proofs.RootLists.{stays_on, hunts_on, none_next}
 use Rattle.lw_match.proofs.sweeping.hunt_all.Goals as goal
 
 pub loop-number-init : goal.loop-number-init
@@ -8,6 +8,7 @@ loop-number-init g c = record {
   kept = refl;
   hunt = λ bound h. h;
   top = c.requires.top;
+  goes_on = stays_on (g.C.Cost.costs c.args.query.now.cost.now) c.args.query.now c.args.hunt.now;
   none = λ e i lt. absurd (omega arith);
 }
 
@@ -27,7 +28,8 @@ loop-number-preserved g c =
       kept = c.hunt_by.ensures.kept ∙ l.invariant.kept;
       hunt = λ bound h. c.hunt_by.ensures.hunt bound (l.invariant.hunt bound h);
       top = c.hunt_by.ensures.top;
-      none = none_next (g.C.Cost.costs q.cost.now) q l.number l.hunt c.hunt_by.new.hunt c.hunt_by.ensures.stays c.hunt_by.ensures.none l.invariant.none;
+      goes_on = hunts_on (g.C.Cost.costs q.cost.now) q c.args.hunt.now l.hunt c.hunt_by.new.hunt l.invariant.goes_on c.hunt_by.ensures.goes_on;
+      none = none_next (g.C.Cost.costs q.cost.now) q l.number l.hunt c.hunt_by.new.hunt c.hunt_by.ensures.goes_on c.hunt_by.ensures.none l.invariant.none;
     }
 
 pub returns-clause-none : goal.returns-clause-none

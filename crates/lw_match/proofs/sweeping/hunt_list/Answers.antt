@@ -5,7 +5,7 @@ use Rattle.lw_match.specs.declared.parts.Root.{Root}
 use Rattle.lw_match.specs.Values.{AreInRange}
 use Rattle.lw_match.specs.Cutting.{cuts_state, root_side}
 use Rattle.lw_match.specs.Places.{root_of}
-use Rattle.lw_match.proofs.RootLists.{far, hunts_on, done_start, done_next, done_all}
+use Rattle.lw_match.proofs.RootLists.{far, hunts_on, stays_on, done_start, done_next, done_all}
 use Rattle.lw_match.proofs.sweeping.hunt_list.Goals as goal
 
 pub returns-then-is_bare-clause-none : goal.returns-then-is_bare-clause-none
@@ -21,7 +21,7 @@ loop-number-init g c =
       kept = refl;
       hunt = λ bound h. h;
       top = c.requires.top;
-      stays = record { found = λ e. e; target = λ e. refl };
+      goes_on = stays_on (g.C.Cost.costs q.cost.now) q c.args.hunt.now;
       done = done_start (g.C.Cost.costs q.cost.now) q c.args.list c.args.roots.now c.args.hunt.now;
     }
 
@@ -47,8 +47,8 @@ loop-number-preserved g c =
       kept = c.hunt_root.ensures.kept ∙ l.invariant.kept;
       hunt = λ bound h. c.hunt_root.ensures.hunt bound (l.invariant.hunt bound h);
       top = c.hunt_root.ensures.top;
-      stays = hunts_on costs q c.args.hunt.now l.hunt hunt l.invariant.stays c.hunt_root.ensures.stays;
-      done = done_next costs q c.args.list roots l.number l.hunt hunt root here c.hunt_root.ensures.stays c.hunt_root.ensures.none l.invariant.done;
+      goes_on = hunts_on costs q c.args.hunt.now l.hunt hunt l.invariant.goes_on c.hunt_root.ensures.goes_on;
+      done = done_next costs q c.args.list roots l.number l.hunt hunt root here c.hunt_root.ensures.goes_on c.hunt_root.ensures.none l.invariant.done;
     }
 
 pub returns-clause-none : goal.returns-clause-none
