@@ -1,5 +1,5 @@
 -- Passes that lower labels.
-use Rattle.std.proofs.Common.{ℕ, zero, suc, ◌+◌, ◌<◌, ◌≤◌, ◌≡◌, ◌%◌, ◌⊎◌, ◌||◌, inl, inr, Bool, true, false, IsTrue, IsFalse, List, [], ◌∷◌, length, Option, Some, None, option_map, slice_index_or, slice_set, refl, ap, ap₂, sym, ◌∙◌, subst, arith, true≢false}
+use Rattle.std.proofs.Common.{ℕ, zero, suc, ◌+◌, ◌<◌, ◌≤◌, ◌≡◌, ◌%◌, ◌⊎◌, inl, inr, Bool, true, false, IsTrue, IsFalse, List, [], ◌∷◌, length, Option, Some, None, option_map, slice_index_or, slice_set, refl, ap, sym, ◌∙◌, subst, arith, true≢false}
 use Rattle.std.proofs.lemmas.List.{length-set, length-map}
 use Rattle.std.proofs.lemmas.Bool.{cases_eq}
 use native.Mathlib.Decide.{dec_lt}

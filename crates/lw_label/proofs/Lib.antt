@@ -5,5 +5,6 @@ pub mod Inputs
 pub mod Low
 pub mod Marked
 pub mod Passing
-pub mod Times
+pub mod Still
+mod Times
 pub mod Walking

@@ -1,5 +1,5 @@
 -- Heights that are found along matches that attain labels.
-use Rattle.std.specs.Prelude.{ℕ, suc, ◌<◌, ◌≤◌, ◌≡◌, ◌^◌, Bool, true, false, ◌+◌, ◌-◌, List, [], ◌∷◌, length, Option, Some, None, slice_get}
+use Rattle.std.specs.Prelude.{ℕ, suc, ◌<◌, ◌≤◌, ◌≡◌, ◌^◌, Bool, true, false, ◌+◌, ◌-◌, List, [], ◌∷◌, length, Option, Some, None, slice_get, slice_index_or, slice_set, ◌⊎◌}
 use Rattle.lw_laws.specs.Graphs.{Graph}
 use Rattle.lw_laws.specs.Costs.{Cost}
 use Rattle.lw_laws.specs.Covers.{Pattern}
@@ -7,9 +7,11 @@ use Rattle.lw_laws.specs.Choices.{IsWithin}
 use Rattle.lw_laws.specs.Matches.{IsMatchAt, choices_of}
 use Rattle.lw_laws.specs.Marks.{Mark as PlainMark, HaveMarks, costs_in, greatest_height}
 use Rattle.lw_laws.specs.Rounds.{labels_in}
+use Rattle.lw_match.specs.declared.mark.Best.{Best}
 use Rattle.lw_match.specs.declared.mark.Mark.{Mark}
 use Rattle.lw_match.specs.Values.{marks_in}
 use Rattle.lw_label.specs.Labels.{costs_of}
+use Rattle.lw_label.specs.Orders.{ArePartsStill, IsStillAt}
 use Rattle.lw_label.specs.Passes.{Passes}
 
 -- gates along matches that attain the labels lead from the class to inputs in h steps at most
@@ -62,6 +64,26 @@ pub record TakesHeight (g : Graph) (cost : Cost) (pats : List Pattern) (labels o
 abbrev pub IsReached : Graph → Cost → List Pattern → List (Option Mark) → List (Option Mark) → ℕ → Type 0
 IsReached g cost pats labels marks c =
     (cell : ℕ) (ps : List ℕ) (ms : List PlainMark) → IsMatchAt g cost.pin_counts pats c cell ps → HaveMarks (marks_in marks) ps ms → labels_in (costs_of labels) c ≡ Some (cost.value cell (costs_in ms)) → HasHeightAtMost marks c (suc (greatest_height ms))
+
+-- the marks are the same at all but these classes
+abbrev pub AreSameBut : (ℕ → Type 0) → List (Option Mark) → List (Option Mark) → Type 0
+AreSameBut at old new =
+    (c : ℕ) → (at c → ⊥) → slice_index_or new c None ≡ slice_index_or old c None
+
+-- the marks, where a class gets that of a match that was found
+abbrev pub with_mark : List (Option Mark) → ℕ → Option Best → List (Option Mark)
+with_mark marks c None = marks
+with_mark marks c (Some best) = slice_set marks c (Some best.mark)
+
+-- the first mark costs more than the other, or is no lower, so that no match at the other's class has it at a pin and less height
+abbrev pub IsNoPin : Option Mark → Option Mark → Type 0
+IsNoPin mark other =
+    (m : Mark) → mark ≡ Some m → (o : Mark) × (other ≡ Some o) × ((o.cost < m.cost) ⊎ (o.height ≤ m.height))
+
+-- the places that are still have parts that are still, and no match would lower a height there
+pub record AreStill (g : Graph) (cost : Cost) (pats : List Pattern) (labels marks : List (Option Mark)) (still : List Bool) : Type 0 where
+  pub parts : (c : ℕ) → IsStillAt still c → ArePartsStill g still c
+  pub reached : (c : ℕ) → IsStillAt still c → IsReached g cost pats labels marks c
 
 -- some height has been found or has fallen, or none has and none would at these classes
 abbrev pub LowersHeights : Graph → Cost → List Pattern → List (Option Mark) → List (Option Mark) → List (Option Mark) → (ℕ → Type 0) → Bool → Type 0

@@ -1,7 +1,7 @@
 -- The order in which the classes of a graph are visited, by places: place p is that of the classes 2p and 2p + 1.
-use Rattle.std.specs.Prelude.{ℕ, ◌<◌, ◌/◌, ◌≡◌, ◌-◌, ◌+◌, ◌*◌, ◌^◌, ◌⊎◌, Bool, true, false, List, length, All, Contains, Some, slice_get, slice_index_or}
+use Rattle.std.specs.Prelude.{ℕ, ◌<◌, ◌/◌, ◌≡◌, ◌-◌, ◌+◌, ◌*◌, ◌^◌, ◌⊎◌, Bool, true, false, List, length, All, Contains, Some, slice_get, slice_index_or, slice_set}
 use Rattle.std.specs.List.{sum_by}
-use Rattle.lw_laws.specs.Graphs.{Graph}
+use Rattle.lw_laws.specs.Graphs.{Graph, HoldsPair}
 use Rattle.lw_label.specs.declared.order.Walk.{Walk}
 
 -- each place below n, and no other
@@ -30,10 +30,24 @@ StaysEntered old new =
 abbrev pub steps_left : Walk → ℕ
 steps_left w = 2 * sum_by (λ n. 2 ^ 64 - n) w.next.items + length w.path.items
 
--- the order of visits, and over how many places
+-- the order of visits, over how many places, and which of these are still
 pub record VisitState : Type 0 where
   pub order : List ℕ
   pub places : ℕ
+  pub still : List Bool
+
+-- the place of the class is still
+abbrev pub IsStillAt : List Bool → ℕ → Type 0
+IsStillAt still c = slice_index_or still (c / 2) false ≡ true
+
+-- so are the places of the classes in its pairs
+abbrev pub ArePartsStill : Graph → List Bool → ℕ → Type 0
+ArePartsStill g still c = (x y : ℕ) → HoldsPair g c x y → IsStillAt still x × IsStillAt still y
+
+-- nothing has changed, or the place has become still after all its parts
+abbrev pub IsStillAfter : Graph → ℕ → List Bool → List Bool → Type 0
+IsStillAfter g place old new =
+    (new ≡ old) ⊎ ((place < length old) × (new ≡ slice_set old place true) × ((c : ℕ) → c / 2 ≡ place → ArePartsStill g old c))
 
 -- in a whole round, the classes whose place is among the first ones of an order
 abbrev pub IsPassed : Bool → List ℕ → ℕ → ℕ → Type 0

@@ -1,5 +1,5 @@
 // Heights in rounds.
-ghost use Rattle.std.specs.Prelude.{◌≡◌, ◌<◌, ◌/◌, ℕ, Some, None, true, false, length, replicate, slice_index_or};
+ghost use Rattle.std.specs.Prelude.{◌≡◌, ◌<◌, ◌/◌, ◌⊎◌, ℕ, Some, None, true, false, length, replicate, slice_index_or};
 ghost use Rattle.lw_graph.specs.Graphs.{IsGraph};
 ghost use Rattle.lw_match.specs.Bounds.{AreBounds, BoundsFit};
 ghost use Rattle.lw_match.specs.Cutting.{AreKnown, IsMatchWithin};
@@ -8,16 +8,23 @@ ghost use Rattle.lw_match.specs.Least.{AreOfCells};
 ghost use Rattle.lw_label.specs.Labels.{costs_of, AreLeastMarks};
 ghost use Rattle.lw_label.specs.Lowering.{AreLowering};
 ghost use Rattle.lw_label.specs.Orders.{IsVisited, places_of};
-ghost use Rattle.lw_label.specs.Heights.{AreHeightMarks, IsReached, LowersHeights, TakesHeight, height_limit, heights_weight};
+ghost use Rattle.lw_label.specs.Heights.{AreHeightMarks, AreSameBut, AreStill, IsNoPin, IsReached, LowersHeights, TakesHeight, height_limit, heights_weight, with_mark};
 ghost use Rattle.lw_laws.specs.Laws.{AreBoundedIn, IsCoverProblem};
 ghost use Rattle.lw_laws.specs.Rounds.{labels_in};
 
-use crate::lowering::{either, is_ahead};
+use crate::lowering::{both, either, is_ahead};
 use crate::visits::Visits;
 use lw_graph::Graph;
 use lw_match::{Best, Bounds, Cost, Mark, Tops, better_bare, better_within};
 use lw_pattern::Patterns;
 use lw_pool::ClassId;
+
+// What a visit did: whether it lowered a height, and whether no match would lower one then.
+#[derive(Clone, Copy)]
+pub(crate) struct Visit {
+    pub lowered: bool,
+    pub is_still: bool,
+}
 
 // What the mark of a match has to be before, so that it lowers the height of a class with this
 // label.
@@ -58,6 +65,7 @@ fn put_height(marks: &mut [Option<Mark>], class: ClassId, found: Option<Best>) -
         IsMatchWithin graph cost pats (marks_in marks.old) class.0 (Some bound) found →
         TakesHeight graph cost pats labels marks.old marks.new result }
     ensures none { result ≡ false → found ≡ None }
+    ensures puts { marks.new ≡ with_mark marks.old class.0 found }
 {
     let Some(best) = found else {
         return false;
@@ -77,7 +85,7 @@ fn lower_height<C: Cost>(
     labels: &[Option<Mark>],
     marks: &mut [Option<Mark>],
     class: ClassId,
-) -> bool
+) -> Visit
     requires class { class.0 < length graph.now.pairs }
     requires of_cells { AreOfCells (C.costs cost.now).pin_counts pats.now }
     requires graph { IsGraph graph.now }
@@ -90,19 +98,27 @@ fn lower_height<C: Cost>(
     requires heights { AreHeightMarks graph.now (C.costs cost.now) pats.now labels.now marks.old }
     ensures known { AreKnown (C.costs cost.now) pats.now bounds.now.gaps tops.new }
     ensures takes { TakesHeight graph.now (C.costs cost.now) pats.now labels.now marks.old
-        marks.new result }
-    ensures reached { result ≡ false → IsReached graph.now (C.costs cost.now) pats.now labels.now
-        marks.old class.0 }
+        marks.new result.lowered }
+    ensures reached { result.lowered ≡ false → IsReached graph.now (C.costs cost.now) pats.now
+        labels.now marks.old class.0 }
+    ensures still { result.is_still ≡ true → IsReached graph.now (C.costs cost.now) pats.now
+        labels.now marks.new class.0 }
+    ensures others { AreSameBut (λ c. c ≡ class.0) marks.old marks.new }
 {
     let Some(label) = labels[class.0 as usize] else {
-        return false;
+        return Visit {
+            lowered: false,
+            is_still: true,
+        };
     };
     let bound = height_bound(label, marks[class.0 as usize]);
     let limit = Some(bound);
     let found = better_within(
-        graph, pats, bounds, marks, class, cost, tops, label.cost, limit,
+        graph, pats, bounds, marks, class, cost, tops, label.cost, true, limit,
     );
-    put_height(marks, class, found)
+    let is_still = found.is_least;
+    let lowered = put_height(marks, class, found.best);
+    Visit { lowered, is_still }
 }
 
 // Gives a class the height of a match by a pattern without NANDs that attains its label, where that
@@ -124,8 +140,9 @@ fn lower_height_bare<C: Cost>(
     requires fits { BoundsFit bounds.now pats.now graph.now }
     requires bounded { AreBoundedIn graph.now pats.now (C.costs cost.now) (costs_of labels.now) }
     requires heights { AreHeightMarks graph.now (C.costs cost.now) pats.now labels.now marks.old }
-    ensures { TakesHeight graph.now (C.costs cost.now) pats.now labels.now marks.old marks.new
-        result }
+    ensures takes { TakesHeight graph.now (C.costs cost.now) pats.now labels.now marks.old
+        marks.new result }
+    ensures others { AreSameBut (λ c. c ≡ class.0) marks.old marks.new }
 {
     let Some(label) = labels[class.0 as usize] else {
         return false;
@@ -144,39 +161,39 @@ fn lower_height_bare<C: Cost>(
     put_height(marks, class, found)
 }
 
-// Lowers the height of the odd class of a place a second time where its complement, whose height
-// was lowered since, may be the pin of a match of less height. By patterns without NANDs alone can
-// it be one.
-fn lower_height_again<C: Cost>(
-    graph: &Graph,
-    pats: &Patterns,
-    cost: &C,
-    bounds: &Bounds,
-    labels: &[Option<Mark>],
-    marks: &mut [Option<Mark>],
-    place: u32,
-    lowered: bool,
-) -> bool
+// The class of a place that comes first: the one with the lower label, since no match attains a
+// label that has a pin with a higher one.
+fn first_of(graph: &Graph, labels: &[Option<Mark>], place: u32) -> ClassId
     requires place { place < places_of graph.now }
-    requires of_cells { AreOfCells (C.costs cost.now).pin_counts pats.now }
-    requires graph { IsGraph graph.now }
-    requires problem { IsCoverProblem graph.now pats.now (C.costs cost.now) }
-    requires lowering { AreLowering graph.now (C.costs cost.now) pats.now labels.now }
-    requires fits { BoundsFit bounds.now pats.now graph.now }
-    requires bounded { AreBoundedIn graph.now pats.now (C.costs cost.now) (costs_of labels.now) }
-    requires heights { AreHeightMarks graph.now (C.costs cost.now) pats.now labels.now marks.old }
-    ensures { TakesHeight graph.now (C.costs cost.now) pats.now labels.now marks.old marks.new
-        result }
+    requires one_each { length labels.now ≡ length graph.now.pairs }
+    ensures { result.0 / 2 ≡ place }
 {
-    let class = ClassId(place * 2 + 1);
-    let other = marks[(place * 2) as usize];
-    if lowered && is_ahead(other, marks[class.0 as usize]) {
-        return lower_height_bare(graph, pats, cost, bounds, labels, marks, class);
+    let _ = graph.classes();
+    let odd = ClassId(place * 2 + 1);
+    let even = odd.flip();
+    if is_ahead(labels[even.0 as usize], labels[odd.0 as usize]) {
+        even
+    } else {
+        odd
     }
-    false
 }
 
-// Lowers the heights of the two classes of a place.
+// Whether a class with one mark, if it was lowered, may be the pin of a match that lowers the height
+// of a class with the other.
+fn may_lower(lowered: bool, mark: Option<Mark>, other: Option<Mark>) -> bool
+    ensures { result ≡ false → (lowered ≡ false) ⊎ IsNoPin mark other }
+{
+    if !lowered {
+        return false;
+    }
+    match (mark, other) {
+        (Some(mark), Some(other)) => mark.cost <= other.cost && mark.height < other.height,
+        _ => true,
+    }
+}
+
+// Lowers the heights of the two classes of a place. Where the odd class is looked at a second time,
+// it is not known whether a match would lower it then.
 fn lower_height_pair<C: Cost>(
     graph: &Graph,
     pats: &Patterns,
@@ -186,7 +203,7 @@ fn lower_height_pair<C: Cost>(
     labels: &[Option<Mark>],
     marks: &mut [Option<Mark>],
     place: u32,
-) -> bool
+) -> Visit
     requires place { place < places_of graph.now }
     requires of_cells { AreOfCells (C.costs cost.now).pin_counts pats.now }
     requires graph { IsGraph graph.now }
@@ -200,14 +217,27 @@ fn lower_height_pair<C: Cost>(
     ensures known { AreKnown (C.costs cost.now) pats.now bounds.now.gaps tops.new }
     ensures heights { AreHeightMarks graph.now (C.costs cost.now) pats.now labels.now marks.new }
     ensures lowers { LowersHeights graph.now (C.costs cost.now) pats.now labels.now marks.old
-        marks.new (λ c. c / 2 ≡ place) result }
+        marks.new (λ c. c / 2 ≡ place) result.lowered }
+    ensures still { result.is_still ≡ true → (c : ℕ) → c / 2 ≡ place →
+        IsReached graph.now (C.costs cost.now) pats.now labels.now marks.new c }
+    ensures others { AreSameBut (λ c. c / 2 ≡ place) marks.old marks.new }
 {
-    let class = ClassId(place * 2 + 1);
+    let class = first_of(graph, labels, place);
+    let other = class.flip();
     let first = lower_height(graph, pats, cost, bounds, tops, labels, marks, class);
-    let even = ClassId(place * 2);
-    let second = lower_height(graph, pats, cost, bounds, tops, labels, marks, even);
-    let third = lower_height_again(graph, pats, cost, bounds, labels, marks, place, second);
-    either(third, either(second, first))
+    let second = lower_height(graph, pats, cost, bounds, tops, labels, marks, other);
+    let mark = marks[other.0 as usize];
+    if may_lower(second.lowered, mark, marks[class.0 as usize]) {
+        let third = lower_height_bare(graph, pats, cost, bounds, labels, marks, class);
+        return Visit {
+            lowered: either(third, either(second.lowered, first.lowered)),
+            is_still: false,
+        };
+    }
+    Visit {
+        lowered: either(second.lowered, first.lowered),
+        is_still: both(second.is_still, first.is_still),
+    }
 }
 
 // Lowers the heights of the two classes of the place of a visit, if that is due.
@@ -234,18 +264,26 @@ fn lower_height_place<C: Cost>(
     requires bounds { AreBounds bounds.now graph.now labels.now }
     requires bounded { AreBoundedIn graph.now pats.now (C.costs cost.now) (costs_of labels.now) }
     requires heights { AreHeightMarks graph.now (C.costs cost.now) pats.now labels.now marks.old }
-    ensures visits { visits.new ≡ visits.old }
+    requires still { AreStill graph.now (C.costs cost.now) pats.now labels.now marks.old
+        visits.old.still }
+    ensures order { visits.new.order ≡ visits.old.order }
+    ensures places { visits.new.places ≡ visits.old.places }
     ensures known { AreKnown (C.costs cost.now) pats.now bounds.now.gaps tops.new }
     ensures heights { AreHeightMarks graph.now (C.costs cost.now) pats.now labels.now marks.new }
+    ensures still { AreStill graph.now (C.costs cost.now) pats.now labels.now marks.new
+        visits.new.still }
     ensures lowers { LowersHeights graph.now (C.costs cost.now) pats.now labels.now marks.old
         marks.new (IsVisited whole visits.old.order number) result }
 {
-    let Some(place) = visits.due(graph, number, whole) else {
+    let Some(place) = visits.due_unless_still(graph, number, whole) else {
         return false;
     };
-    let lowered = lower_height_pair(graph, pats, cost, bounds, tops, labels, marks, place);
-    visits.note(place, lowered);
-    lowered
+    let visit = lower_height_pair(graph, pats, cost, bounds, tops, labels, marks, place);
+    visits.note(place, visit.lowered);
+    if visit.is_still {
+        visits.settle(graph, place);
+    }
+    visit.lowered
 }
 
 // Goes once through the places, and says whether it changed a height. A whole round passes over
@@ -271,9 +309,14 @@ fn lower_height_round<C: Cost>(
     requires bounds { AreBounds bounds.now graph.now labels.now }
     requires bounded { AreBoundedIn graph.now pats.now (C.costs cost.now) (costs_of labels.now) }
     requires heights { AreHeightMarks graph.now (C.costs cost.now) pats.now labels.now marks.old }
-    ensures visits { visits.new ≡ visits.old }
+    requires still { AreStill graph.now (C.costs cost.now) pats.now labels.now marks.old
+        visits.old.still }
+    ensures order { visits.new.order ≡ visits.old.order }
+    ensures places { visits.new.places ≡ visits.old.places }
     ensures known { AreKnown (C.costs cost.now) pats.now bounds.now.gaps tops.new }
     ensures heights { AreHeightMarks graph.now (C.costs cost.now) pats.now labels.now marks.new }
+    ensures still { AreStill graph.now (C.costs cost.now) pats.now labels.now marks.new
+        visits.new.still }
     ensures lowers { LowersHeights graph.now (C.costs cost.now) pats.now labels.now marks.old
         marks.new (λ c. (whole ≡ true) × (c < length graph.now.pairs)) result }
 {
@@ -309,9 +352,14 @@ fn lower_height_rounds<C: Cost>(
     requires bounds { AreBounds bounds.now graph.now labels.now }
     requires bounded { AreBoundedIn graph.now pats.now (C.costs cost.now) (costs_of labels.now) }
     requires heights { AreHeightMarks graph.now (C.costs cost.now) pats.now labels.now marks.old }
-    ensures visits { visits.new ≡ visits.old }
+    requires still { AreStill graph.now (C.costs cost.now) pats.now labels.now marks.old
+        visits.old.still }
+    ensures order { visits.new.order ≡ visits.old.order }
+    ensures places { visits.new.places ≡ visits.old.places }
     ensures known { AreKnown (C.costs cost.now) pats.now bounds.now.gaps tops.new }
     ensures heights { AreHeightMarks graph.now (C.costs cost.now) pats.now labels.now marks.new }
+    ensures still { AreStill graph.now (C.costs cost.now) pats.now labels.now marks.new
+        visits.new.still }
     ensures falls { result ≡ true → heights_weight marks.new < heights_weight marks.old }
     ensures reached { result ≡ false → (c : ℕ) → c < length graph.now.pairs →
         IsReached graph.now (C.costs cost.now) pats.now labels.now marks.new c }
@@ -343,6 +391,8 @@ pub(crate) fn lower_all_heights<C: Cost>(
     requires bounds { AreBounds bounds.now graph.now labels.now }
     requires bounded { AreBoundedIn graph.now pats.now (C.costs cost.now) (costs_of labels.now) }
     requires heights { AreHeightMarks graph.now (C.costs cost.now) pats.now labels.now marks.old }
+    requires still { AreStill graph.now (C.costs cost.now) pats.now labels.now marks.old
+        visits.old.still }
     ensures least { AreLeastMarks graph.now (C.costs cost.now) pats.now marks.new }
     ensures bounds { AreBounds bounds.now graph.now marks.new }
 {

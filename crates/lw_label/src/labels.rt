@@ -1,4 +1,4 @@
-ghost use Rattle.std.specs.Prelude.{◌≡◌, ◌<◌, None, IfOk, length, replicate, slice_index_or};
+ghost use Rattle.std.specs.Prelude.{◌≡◌, ◌<◌, None, false, IfOk, length, replicate, slice_index_or};
 ghost use Rattle.lw_match.specs.Bounds.{BoundsFit, AreBounds};
 ghost use Rattle.lw_match.specs.Least.{AreOfCells};
 ghost use Rattle.lw_label.specs.Labels.{AreLeastMarks};
@@ -118,6 +118,7 @@ fn mark_all<C: Cost>(
     marks: &mut [Option<Mark>],
 )
     requires places { visits.old.places ≡ places_of graph.now }
+    requires still { visits.old.still ≡ replicate (places_of graph.now) false }
     requires of_cells { AreOfCells (C.costs cost.now).pin_counts pats.now }
     requires fits { BoundsFit bounds.old pats.now graph.now }
     requires no_labels { labels.old ≡ replicate (length graph.now.pairs) None }

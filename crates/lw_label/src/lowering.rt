@@ -89,8 +89,10 @@ fn lower_mark<C: Cost>(
         IsBounded graph.now (C.costs cost.now) pats.now marks.old class.0 }
 {
     let old = marks[class.0 as usize];
-    let found = better_within(graph, pats, bounds, marks, class, cost, tops, 0, old);
-    put_label(marks, class, found)
+    let found = better_within(
+        graph, pats, bounds, marks, class, cost, tops, 0, false, old,
+    );
+    put_label(marks, class, found.best)
 }
 
 // Gives a class the cost of a match by a pattern without NANDs, where that is lower than its own.
@@ -119,6 +121,13 @@ pub(crate) fn either(one: bool, other: bool) -> bool
     ensures { result ≡ (one || other) }
 {
     one || other
+}
+
+// Whether both are true.
+pub(crate) fn both(one: bool, other: bool) -> bool
+    ensures { result ≡ true → (one ≡ true) × (other ≡ true) }
+{
+    one && other
 }
 
 // Whether a mark costs less than another, or has less height, or is there where the other is not.

@@ -1,6 +1,6 @@
 // Which classes are visited again.
-ghost use Rattle.std.specs.Prelude.{◌≡◌, ◌<◌, ◌*◌, true, false, IfOk, IfSome, Some, None, length, slice_get};
-ghost use Rattle.lw_label.specs.Orders.{IsOrder, places_of};
+ghost use Rattle.std.specs.Prelude.{◌≡◌, ◌<◌, ◌*◌, true, false, IfOk, IfSome, Some, None, length, replicate, slice_get, slice_index_or};
+ghost use Rattle.lw_label.specs.Orders.{ArePartsStill, IsOrder, IsStillAfter, places_of};
 
 use crate::order::order_of;
 use lw_graph::Graph;
@@ -19,6 +19,8 @@ pub(crate) struct Visits {
     seen: Vec<u32>,
     changed: Vec<u32>,
     clock: u32,
+    // whether a place and all its parts are known to stay as they are
+    still: Vec<bool>,
 }
 
 impl Model for Visits {
@@ -27,10 +29,11 @@ impl Model for Visits {
 
     ghost Value = { VisitState };
 
-    ghost view = { λ v. record { order = v.order.items; places = length v.seen.items } };
+    ghost view = { λ v. record { order = v.order.items; places = length v.seen.items; still = v.still.items } };
 
     ghost invariant = { λ v. IsOrder (length v.seen.items) v.order.items
-        × (length v.changed.items ≡ length v.seen.items) };
+        × (length v.changed.items ≡ length v.seen.items)
+        × (length v.still.items ≡ length v.seen.items) };
 }
 
 // The later of two times.
@@ -63,10 +66,30 @@ fn last_change(graph: &Graph, changed: &[u32], place: u32) -> u32
     later(even, odd)
 }
 
+// Whether the places of the classes in the pairs of a class are still.
+fn are_still_in(graph: &Graph, still: &[bool], class: ClassId) -> bool
+    requires class { class.0 < length graph.now.pairs }
+    requires places { length still.now ≡ places_of graph.now }
+    ensures { result ≡ true → ArePartsStill graph.now still.now class.0 }
+{
+    let _ = graph.classes();
+    for pair in graph.nands(class) {
+        if !still[(pair.x.0 / 2) as usize] {
+            return false;
+        }
+        if !still[(pair.y.0 / 2) as usize] {
+            return false;
+        }
+    }
+    true
+}
+
 impl Visits {
-    // No place was visited.
+    // No place was visited, and none is still.
     pub(crate) fn new(alloc: Global, graph: &Graph) -> Result<Visits, AllocError>
-        ensures { IfOk result (λ visits. visits.places ≡ places_of graph.now) }
+        ensures places { IfOk result (λ visits. visits.places ≡ places_of graph.now) }
+        ensures still { IfOk result (λ visits.
+            visits.still ≡ replicate (places_of graph.now) false) }
     {
         let places = (graph.classes() / 2) as usize;
         Ok(Visits {
@@ -74,6 +97,7 @@ impl Visits {
             seen: vec![in alloc; 0; places]?,
             changed: vec![in alloc; 0; places]?,
             clock: 1,
+            still: vec![in alloc; false; places]?,
         })
     }
 
@@ -111,6 +135,47 @@ impl Visits {
             return Some(place);
         }
         None
+    }
+
+    // The same, but never a place that is still.
+    pub(crate) fn due_unless_still(
+        &mut self,
+        graph: &Graph,
+        number: usize,
+        whole: bool,
+    ) -> Option<u32>
+        requires number { number < length self.old.order }
+        requires places { self.old.places ≡ places_of graph.now }
+        ensures kept { self.new ≡ self.old }
+        ensures place { IfSome result (λ place. slice_get self.old.order number ≡ Some place) }
+        ensures within { IfSome result (λ place. place < self.old.places) }
+        ensures moving { IfSome result (λ place.
+            slice_index_or self.old.still place false ≡ false) }
+        ensures whole { whole ≡ true → result ≡ None →
+            IfSome (slice_get self.old.order number) (λ place.
+            slice_index_or self.old.still place false ≡ true) }
+    {
+        if self.still[self.order[number] as usize] {
+            return None;
+        }
+        self.due(graph, number, whole)
+    }
+
+    // Takes note that a place stays as it is as long as its parts do, if they are still.
+    pub(crate) fn settle(&mut self, graph: &Graph, place: u32)
+        requires places { self.old.places ≡ places_of graph.now }
+        requires place { place < self.old.places }
+        ensures order { self.new.order ≡ self.old.order }
+        ensures places { self.new.places ≡ self.old.places }
+        ensures still { IsStillAfter graph.now place self.old.still self.new.still }
+    {
+        let _ = graph.classes();
+        if !are_still_in(graph, &self.still, ClassId(place * 2)) {
+            return;
+        }
+        if are_still_in(graph, &self.still, ClassId(place * 2 + 1)) {
+            self.still[place as usize] = true;
+        }
     }
 
     // Takes note of a visit of a place, and whether it changed something. Such a change is later

@@ -11,9 +11,11 @@ loop-number-preserved g c =
     let order = c.args.visits.now.order in
     let number = c.loop-number.number in
     let visit = c.lower_height_place-lowered in
-    let pass = subst (λ v. LowersHeights c.args.graph.now costs c.args.pats.now c.args.labels.now c.loop-number.marks visit.new.marks (IsVisited whole v.order number) visit.result) c.loop-number.invariant.visits visit.ensures.lowers in
+    let pass = subst (λ o. LowersHeights c.args.graph.now costs c.args.pats.now c.args.labels.now c.loop-number.marks visit.new.marks (IsVisited whole o number) visit.result) c.loop-number.invariant.order visit.ensures.lowers in
     record {
-      visits = visit.ensures.visits ∙ c.loop-number.invariant.visits;
+      order = visit.ensures.order ∙ c.loop-number.invariant.order;
+      places = visit.ensures.places ∙ c.loop-number.invariant.places;
+      still = visit.ensures.still;
       known = visit.ensures.known;
       heights = visit.ensures.heights;
       lowers = subst (λ b. LowersHeights c.args.graph.now costs c.args.pats.now c.args.labels.now c.args.marks.now visit.new.marks (IsPassed whole order (number + 1)) b) (sym c.either-changed.ensures) (passes_next heights_weight (IsReached c.args.graph.now costs c.args.pats.now c.args.labels.now) c.args.marks.now c.loop-number.marks visit.new.marks whole order number c.loop-number.changed visit.result c.loop-number.invariant.lowers pass);

@@ -1,4 +1,4 @@
-use Rattle.std.proofs.Common.{◌<◌, None, length, option_map, slice_index_or, ap, refl, sym, subst}
+use Rattle.std.proofs.Common.{◌<◌, None, option_map, slice_index_or, ap, refl, sym, subst}
 use Rattle.lw_laws.specs.Rounds.{label_weight}
 use Rattle.lw_match.specs.Values.{plain_mark, marks_in}
 use Rattle.lw_match.specs.Cutting.{IsMatchWithin}
