@@ -1,8 +1,10 @@
 -- Numbers that fall to what the pairs of a class give.
-use Rattle.std.proofs.Common.{ℕ, ◌⊎◌, ◌+◌, ◌%◌, ◌<◌, ◌≤◌, ◌≡◌, ◌||◌, Bool, true, false, if◌then◌else◌, List, [], ◌∷◌, length, max, Option, Some, slice_get, get_or, refl, sym, ap, subst, ◌∙◌, inl, inr, arith}
+use Rattle.std.proofs.Common.{ℕ, ◌⊎◌, ◌+◌, ◌-◌, ◌++◌, take, drop, ◌%◌, ◌<◌, ◌≤◌, ◌≡◌, ◌||◌, Bool, true, false, if◌then◌else◌, List, [], ◌∷◌, length, max, Option, Some, slice_get, get_or, refl, sym, ap, subst, ◌∙◌, inl, inr, arith}
 use Rattle.std.proofs.Math.ListN.{set}
-use Rattle.std.proofs.lemmas.List.Sums.{sum_by-set}
-use native.Mathlib.Nat.{eq-or-lt_of_le}
+use Rattle.std.proofs.lemmas.List.Sums.{sum_by-set, sum_by-append, sum_by-take-drop}
+use Rattle.std.proofs.lemmas.List.Edits.{get_or-between}
+use Rattle.std.specs.List.{slice_range}
+use borrow.Rule.Slice.PartMut.{put_mid}
 use Rattle.lw_laws.specs.Flip.{flip}
 use Rattle.lw_laws.specs.Graphs.{Graph, Pair as PlainPair, HoldsPair}
 use Rattle.lw_graph.specs.declared.pair.Pair.{Pair}
@@ -45,33 +47,37 @@ least_settles g r p c row is least below x y (inr h) =
 pub sum_less : (xs : List ℕ) (i v : ℕ) → i < length xs → v < get_or xs i 0 → total (set xs i v) < total xs
 sum_less xs i v lt less = let e = sum_by-set (λ (n : ℕ). n) xs i v 0 lt in omega arith
 
--- the numbers so far: none fell and the first n of those from a place on are not above others, or their sum fell
-pub record AreLowered (start : ℕ) (least old new : List ℕ) (n : ℕ) (fell : Bool) : Type 0 where
+-- the numbers so far: none fell, or their sum fell
+pub record HaveFallen (old new : List ℕ) (fell : Bool) : Type 0 where
   pub falls : fell ≡ true → total new < total old
   pub same : fell ≡ false → new ≡ old
-  pub settled : fell ≡ false → (k : ℕ) → k < n → get_or old (start + k) 0 ≤ get_or least k 0
 
-pub lowered_none : (start : ℕ) (least old : List ℕ) → AreLowered start least old old 0 false
-lowered_none start least old =
-    record { falls = λ e. cc; same = λ e. refl; settled = λ e k lt. absurd (omega arith) }
+pub fallen_none : (old : List ℕ) → HaveFallen old old false
+fallen_none old = record { falls = λ e. cc; same = λ e. refl }
 
-pub lowered_more : (start : ℕ) (least old mid new : List ℕ) (n : ℕ) (one fell : Bool) → AreLowered start least old mid n fell → (one ≡ true → total new < total mid) → (one ≡ false → new ≡ mid) → (one ≡ false → get_or mid (start + n) 0 ≤ get_or least n 0) → AreLowered start least old new (n + 1) (one || fell)
-lowered_more start least old mid new n true true h falls same settled =
-    record { falls = λ e. let a = h.falls refl in let b = falls refl in omega arith; same = λ e. cc; settled = λ e. cc }
-lowered_more start least old mid new n true false h falls same settled =
-    record { falls = λ e. let a = ap total (h.same refl) in let b = falls refl in omega arith; same = λ e. cc; settled = λ e. cc }
-lowered_more start least old mid new n false true h falls same settled =
-    record { falls = λ e. let a = h.falls refl in let b = ap total (same refl) in omega arith; same = λ e. cc; settled = λ e. cc }
-lowered_more start least old mid new n false false h falls same settled = record {
-  falls = λ e. cc;
-  same = λ e. same refl ∙ h.same refl;
-  settled = λ e k lt. place k (eq-or-lt_of_le {n = k} {m = n} (omega arith));
-}
-  where
-    place : (k : ℕ) → (k ≡ n) ⊎ (k < n) → get_or old (start + k) 0 ≤ get_or least k 0
-    place k (inl e) =
-        subst (λ (j : ℕ). get_or old (start + j) 0 ≤ get_or least j 0) (sym e) (subst (λ (ns : List ℕ). get_or ns (start + n) 0 ≤ get_or least n 0) (h.same refl) (settled refl))
-    place k (inr lt) = h.settled refl k lt
+pub fallen_more : (old mid new : List ℕ) (one fell : Bool) → (one ≡ true → total new < total mid) → (one ≡ false → new ≡ mid) → HaveFallen old mid fell → HaveFallen old new (one || fell)
+fallen_more old mid new true true falls same h =
+    record { falls = λ e. let a = h.falls refl in let b = falls refl in omega arith; same = λ e. cc }
+fallen_more old mid new true false falls same h =
+    record { falls = λ e. let a = ap total (h.same refl) in let b = falls refl in omega arith; same = λ e. cc }
+fallen_more old mid new false true falls same h =
+    record { falls = λ e. let a = h.falls refl in let b = ap total (same refl) in omega arith; same = λ e. cc }
+fallen_more old mid new false false falls same h =
+    record { falls = λ e. cc; same = λ e. same refl ∙ h.same refl }
+
+-- a row whose sum is less makes the sum less
+pub row_falls : (numbers row : List ℕ) (start : ℕ) → total row < total (slice_range numbers start (start + length row)) → total (put_mid start (length row) numbers row) < total numbers
+row_falls numbers row start less =
+    let rest = drop start numbers in
+    let width : start + length row - start ≡ length row = omega arith in
+    let below : total row < total (take (length row) rest) = subst (λ (k : ℕ). total row < total (take k rest)) width less in
+    omega (arith, sum_by-append (λ (n : ℕ). n) (take start numbers) (row ++ drop (length row) rest), sum_by-append (λ (n : ℕ). n) row (drop (length row) rest), sum_by-take-drop (λ (n : ℕ). n) numbers start, sum_by-take-drop (λ (n : ℕ). n) rest (length row))
+
+-- what is the same as a row is not below it
+pub row_same : (numbers least : List ℕ) (start width : ℕ) → length least ≡ width → least ≡ slice_range numbers start (start + width) → (k : ℕ) → k < length least → get_or numbers (start + k) 0 ≤ get_or least k 0
+row_same numbers least start width size same k lt =
+    let there : get_or least k 0 ≡ get_or numbers (start + k) 0 = ap (λ (xs : List ℕ). get_or xs k 0) same ∙ get_or-between numbers start (start + width) k 0 (omega arith) in
+    omega arith
 
 pub number_at : (numbers : List ℕ) (n start : ℕ) → (start ≡ no_row → ⊥) → number_from numbers n start ≡ slice_index numbers (start + n)
 number_at numbers n start has = by_test (start == no_row) refl

@@ -1,14 +1,16 @@
 // Numbers of parts that fall to what pairs give.
-ghost use Rattle.std.specs.Prelude.{◌≡◌, ◌<◌, ◌≤◌, ℕ, length, max, min, Some, slice_get, slice_index, slice_index_or};
+ghost use Rattle.std.specs.Prelude.{◌≡◌, ◌<◌, ◌≤◌, ℕ, length, max, min, Some, slice_get, slice_index, slice_index_or, IsTrue, IsFalse};
 ghost use Rattle.lw_graph.specs.declared.pair.Pair.{Pair};
 ghost use Rattle.lw_match.specs.Numbers.{reading, shifted, pair_number, IsReading};
+ghost use Rattle.lw_match.specs.Bounds.{total};
 ghost use Rattle.lw_match.specs.Shapes.{AreClosed};
 ghost use Rattle.lw_match.specs.declared.parts.Part.{Part};
 ghost use Rattle.lw_match.specs.declared.parts.Rule.{Rule};
 ghost use Rattle.lw_match.specs.Places.{list_at, view_number, given, AreRulesOf, AreGrouped, AreNoMore, AreNumbers, AreWithin, IsView};
 
-use crate::numbers::{Numbers, shifted};
+use crate::numbers::Numbers;
 use crate::parts::{Group, Part, Rule};
+use crate::renewing::either;
 use crate::rows::{View, leaves_at, list_at, view_at};
 use lw_graph::Pair;
 
@@ -20,38 +22,58 @@ pub struct Plan<'a> {
 }
 
 // What a rule gives by the numbers of its two sides, or the bound where one of these is not below
-// it, as that is no less either way.
+// it, as that is no less either way. What is below a bound is not never, and shifted so it stays.
 fn given_below(bound: u64, rule: Rule, x: u64, y: u64) -> u64
     ensures { min result bound
         ≡ min (max (shifted x rule.left_shift) (shifted y rule.right_shift)) bound }
 {
-    if x >= bound || y >= bound {
+    if y >= bound || x >= bound {
         return bound;
     }
-    shifted(x, rule.left_shift).max(shifted(y, rule.right_shift))
+    let left = x.saturating_add(rule.left_shift);
+    let right = y.saturating_add(rule.right_shift);
+    left.max(right).min(u64::MAX - 1)
 }
 
-// Lets the number of each rule's part fall to what two lists give.
-fn lower(rules: &[Rule], xs: &[u64], ys: &[u64], least: &mut [u64])
+// Lets a number fall to another, and says whether it fell.
+fn lower_number(numbers: &mut [u64], place: usize, least: u64) -> bool
+    requires { place < length numbers.old }
+    ensures no_more { AreNoMore numbers.new numbers.old }
+    ensures low { slice_index numbers.new place ≤ least }
+    ensures falls { IsTrue result → total numbers.new < total numbers.old }
+    ensures same { IsFalse result → numbers.new ≡ numbers.old }
+{
+    if least < numbers[place] {
+        numbers[place] = least;
+        true
+    } else {
+        false
+    }
+}
+
+// Lets the number of each rule's part fall to what two lists give, and says whether one fell.
+fn lower(rules: &[Rule], xs: &[u64], ys: &[u64], least: &mut [u64]) -> bool
     requires within { AreWithin xs.now ys.now least.old rules.now }
     ensures no_more { AreNoMore least.new least.old }
+    ensures falls { IsTrue result → total least.new < total least.old }
+    ensures same { IsFalse result → least.new ≡ least.old }
     ensures lowered { (i : ℕ) (q : Rule) → slice_get rules.now i ≡ Some q →
         slice_index least.new q.part ≤ given xs.now ys.now q }
 {
+    let mut fell = false;
     for number in 0..rules.len() {
         let rule = rules[number];
         let part = rule.part as usize;
         let x = xs[rule.left as usize];
         let y = ys[rule.right as usize];
         let given = given_below(least[part], rule, x, y);
-        if given < least[part] {
-            least[part] = given;
-        }
+        fell = either(lower_number(least, part, given), fell);
     }
+    fell
 }
 
 // The same, where one of the lists may be an empty row: nothing stands there.
-fn lower_where(plan: Plan, group: &Group, one: View, other: View, least: &mut [u64])
+fn lower_where(plan: Plan, group: &Group, one: View, other: View, least: &mut [u64]) -> bool
     requires closed { AreClosed plan.parts.now }
     requires rules { AreRulesOf plan.parts.now group.now.left group.now.right
         group.now.rules.items }
@@ -62,6 +84,8 @@ fn lower_where(plan: Plan, group: &Group, one: View, other: View, least: &mut [u
     requires one_each { length least.old ≡ length plan.parts.now }
     requires numbers { AreNumbers least.old }
     ensures no_more { AreNoMore least.new least.old }
+    ensures falls { IsTrue result → total least.new < total least.old }
+    ensures same { IsFalse result → least.new ≡ least.old }
     ensures lowered { (i : ℕ) (q : Rule) → slice_get group.now.rules.items i ≡ Some q →
         slice_index least.new q.part ≤ given (list_at one.entry group.now.left)
         (list_at other.entry group.now.right) q }
@@ -69,14 +93,14 @@ fn lower_where(plan: Plan, group: &Group, one: View, other: View, least: &mut [u
     let xs = list_at(one, group.left);
     let ys = list_at(other, group.right);
     if xs.is_empty() || ys.is_empty() {
-        return;
+        return false;
     }
-    lower(&group.rules, xs, ys, least);
+    lower(&group.rules, xs, ys, least)
 }
 
 // Lets the number of each part fall to what it is with its left side in one place and its right
-// side in the other.
-fn lower_all(plan: Plan, one: View, other: View, least: &mut [u64])
+// side in the other, and says whether one fell.
+fn lower_all(plan: Plan, one: View, other: View, least: &mut [u64]) -> bool
     requires closed { AreClosed plan.parts.now }
     requires grouped { AreGrouped plan.parts.now plan.groups.now }
     requires one { IsView (length plan.parts.now) one }
@@ -84,17 +108,22 @@ fn lower_all(plan: Plan, one: View, other: View, least: &mut [u64])
     requires one_each { length least.old ≡ length plan.parts.now }
     requires numbers { AreNumbers least.old }
     ensures no_more { AreNoMore least.new least.old }
+    ensures falls { IsTrue result → total least.new < total least.old }
+    ensures same { IsFalse result → least.new ≡ least.old }
     ensures lowered { (n : ℕ) (p : Part) → slice_get plan.entry.parts.now n ≡ Some p →
         slice_index least.new n
         ≤ max (view_number one.entry p.left) (view_number other.entry p.right) }
 {
+    let mut fell = false;
     for number in 0..plan.groups.len() {
-        lower_where(plan, &plan.groups[number], one, other, least);
+        let one_fell = lower_where(plan, &plan.groups[number], one, other, least);
+        fell = either(one_fell, fell);
     }
+    fell
 }
 
-// Lets the number of each part fall to what a pair gives.
-fn lower_by(at: Numbers, plan: Plan, pair: Pair, least: &mut [u64])
+// Lets the number of each part fall to what a pair gives, and says whether one fell.
+fn lower_by(at: Numbers, plan: Plan, pair: Pair, least: &mut [u64]) -> bool
     requires reading { IsReading (reading at) }
     requires left { pair.x.0 < length at.marks.now }
     requires right { pair.y.0 < length at.marks.now }
@@ -104,6 +133,8 @@ fn lower_by(at: Numbers, plan: Plan, pair: Pair, least: &mut [u64])
     requires one_each { length least.old ≡ length plan.parts.now }
     requires numbers { AreNumbers least.old }
     ensures no_more { AreNoMore least.new least.old }
+    ensures falls { IsTrue result → total least.new < total least.old }
+    ensures same { IsFalse result → least.new ≡ least.old }
     ensures lowered { (n : ℕ) (p : Part) → slice_get plan.entry.parts.now n ≡ Some p →
         slice_index least.new n ≤ pair_number (reading at.entry) p pair.x.0 pair.y.0 }
 {
@@ -111,14 +142,16 @@ fn lower_by(at: Numbers, plan: Plan, pair: Pair, least: &mut [u64])
     let ys = leaves_at(at, pair.y);
     let one = view_at(at, &xs, pair.x);
     let other = view_at(at, &ys, pair.y);
-    lower_all(plan, one, other, least);
-    if pair.x != pair.y {
-        lower_all(plan, other, one, least);
+    let fell = lower_all(plan, one, other, least);
+    if pair.x == pair.y {
+        return fell;
     }
+    let turned = lower_all(plan, other, one, least);
+    either(turned, fell)
 }
 
-/// Lets the number of each part fall to what each of the pairs gives.
-pub(crate) fn lower_by_all(at: Numbers, plan: Plan, pairs: &[Pair], least: &mut [u64])
+/// Lets the number of each part fall to what each of the pairs gives, and says whether one fell.
+pub(crate) fn lower_by_all(at: Numbers, plan: Plan, pairs: &[Pair], least: &mut [u64]) -> bool
     requires reading { IsReading (reading at) }
     requires pairs { (i : ℕ) (q : Pair) → slice_get pairs.now i ≡ Some q →
         (q.x.0 < length at.marks.now) × (q.y.0 < length at.marks.now) }
@@ -127,11 +160,16 @@ pub(crate) fn lower_by_all(at: Numbers, plan: Plan, pairs: &[Pair], least: &mut 
     requires grouped { AreGrouped plan.parts.now plan.groups.now }
     requires one_each { length least.old ≡ length plan.parts.now }
     requires numbers { AreNumbers least.old }
-    ensures { (i : ℕ) (q : Pair) (n : ℕ) (p : Part) → slice_get pairs.now i ≡ Some q →
+    ensures falls { IsTrue result → total least.new < total least.old }
+    ensures same { IsFalse result → least.new ≡ least.old }
+    ensures lowered { (i : ℕ) (q : Pair) (n : ℕ) (p : Part) → slice_get pairs.now i ≡ Some q →
         slice_get plan.entry.parts.now n ≡ Some p →
         slice_index least.new n ≤ pair_number (reading at.entry) p q.x.0 q.y.0 }
 {
+    let mut fell = false;
     for pair in pairs {
-        lower_by(at, plan, *pair, least);
+        let one_fell = lower_by(at, plan, *pair, least);
+        fell = either(one_fell, fell);
     }
+    fell
 }

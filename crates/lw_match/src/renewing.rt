@@ -1,5 +1,6 @@
 // Numbers of the parts at a class, as its pairs give them.
-ghost use Rattle.std.specs.Prelude.{◌≡◌, ◌+◌, ◌<◌, ◌≤◌, ◌||◌, ℕ, length, slice_index, IsTrue, IsFalse};
+ghost use Rattle.std.specs.Prelude.{◌≡◌, ◌+◌, ◌<◌, ◌≤◌, ◌||◌, length, IsTrue, IsFalse};
+ghost use Rattle.std.specs.List.{slice_range};
 ghost use Rattle.lw_graph.specs.Graphs.{IsGraph};
 ghost use Rattle.lw_match.specs.Bounds.{total, reading_of, AreRows, AreSettledBelow};
 ghost use Rattle.lw_match.specs.Places.{AreGrouped};
@@ -19,21 +20,6 @@ pub struct Renewal<'a> {
     pub class: ClassId,
 }
 
-// Lets a number fall to another, and says whether it fell.
-fn lower_number(numbers: &mut [u64], place: usize, least: u64) -> bool
-    requires { place < length numbers.old }
-    ensures falls { IsTrue result → total numbers.new < total numbers.old }
-    ensures same { IsFalse result → numbers.new ≡ numbers.old }
-    ensures settled { IsFalse result → slice_index numbers.old place ≤ least }
-{
-    if least < numbers[place] {
-        numbers[place] = least;
-        true
-    } else {
-        false
-    }
-}
-
 // Whether one of the two is true.
 pub(crate) fn either(one: bool, other: bool) -> bool
     ensures { result ≡ (one || other) }
@@ -41,19 +27,14 @@ pub(crate) fn either(one: bool, other: bool) -> bool
     one || other
 }
 
-// Lets the numbers from a place on fall to others, and says whether one fell.
-fn lower_numbers(numbers: &mut [u64], start: usize, least: &[u64]) -> bool
-    requires { start + length least.now ≤ length numbers.old }
-    ensures falls { IsTrue result → total numbers.new < total numbers.old }
-    ensures same { IsFalse result → numbers.new ≡ numbers.old }
-    ensures settled { IsFalse result → (n : ℕ) → n < length least.now →
-        slice_index numbers.old (start + n) ≤ slice_index least.now n }
+// Puts a row in the place of one whose sum is greater.
+fn put_row(numbers: &mut [u64], start: usize, row: &[u64])
+    requires within { start + length row.now ≤ length numbers.old }
+    requires less { total row.now
+        < total (slice_range numbers.old start (start + length row.now)) }
+    ensures { total numbers.new < total numbers.old }
 {
-    let mut fell = false;
-    for part in 0..least.len() {
-        fell = either(lower_number(numbers, start + part, least[part]), fell);
-    }
-    fell
+    numbers[start..start + row.len()].copy_from_slice(row);
 }
 
 // Lets the numbers of all parts at a class fall to what the pairs give, and says whether one fell.
@@ -89,8 +70,11 @@ pub(crate) fn renew_parts(
         starts: renewal.starts,
         numbers,
     };
-    least.fill(u64::MAX);
-    lower_by_all(at, plan, pairs, least);
-    let start = start_of(renewal.starts, renewal.class);
-    lower_numbers(numbers, start as usize, least)
+    let start = start_of(renewal.starts, renewal.class) as usize;
+    least.copy_from_slice(&at.numbers[start..start + at.width]);
+    let fell = lower_by_all(at, plan, pairs, least);
+    if fell {
+        put_row(numbers, start, least);
+    }
+    fell
 }
