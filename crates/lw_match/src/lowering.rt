@@ -21,13 +21,19 @@ pub struct Plan<'a> {
     pub groups: &'a [Group],
 }
 
-// What a rule gives by the numbers of its two sides, or the bound where one of these is not below
-// it, as that is no less either way. What is below a bound is not never, and shifted so it stays.
-fn given_below(bound: u64, rule: Rule, x: u64, y: u64) -> u64
-    ensures { min result bound
-        ≡ min (max (shifted x rule.left_shift) (shifted y rule.right_shift)) bound }
+// What a rule gives by two lists, or the bound where the number of one side is not below it, as that
+// is no less either way. What is below a bound is not never, and with its shift it stays so.
+fn given_below(bound: u64, rule: Rule, xs: &[u64], ys: &[u64]) -> u64
+    requires left { rule.left < length xs.now }
+    requires right { rule.right < length ys.now }
+    ensures { min result bound ≡ min (given xs.now ys.now rule) bound }
 {
-    if y >= bound || x >= bound {
+    let y = ys[rule.right as usize];
+    if y >= bound {
+        return bound;
+    }
+    let x = xs[rule.left as usize];
+    if x >= bound {
         return bound;
     }
     let left = x.saturating_add(rule.left_shift);
@@ -64,9 +70,7 @@ fn lower(rules: &[Rule], xs: &[u64], ys: &[u64], least: &mut [u64]) -> bool
     for number in 0..rules.len() {
         let rule = rules[number];
         let part = rule.part as usize;
-        let x = xs[rule.left as usize];
-        let y = ys[rule.right as usize];
-        let given = given_below(least[part], rule, x, y);
+        let given = given_below(least[part], rule, xs, ys);
         fell = either(lower_number(least, part, given), fell);
     }
     fell
@@ -91,8 +95,11 @@ fn lower_where(plan: Plan, group: &Group, one: View, other: View, least: &mut [u
         (list_at other.entry group.now.right) q }
 {
     let xs = list_at(one, group.left);
+    if xs.is_empty() {
+        return false;
+    }
     let ys = list_at(other, group.right);
-    if xs.is_empty() || ys.is_empty() {
+    if ys.is_empty() {
         return false;
     }
     lower(&group.rules, xs, ys, least)

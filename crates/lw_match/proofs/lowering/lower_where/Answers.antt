@@ -12,6 +12,6 @@ lower-requires c =
     let xs = list_at c.args.one group.left in
     let ys = list_at c.args.other group.right in
     let some : length xs ≡ 0 → ⊥ = λ e. not_empty c.list_at-xs.result.now c.is_empty.result c.if-is_empty.false c.is_empty.ensures (ap length c.list_at-xs.ensures ∙ e) in
-    let some_other : length ys ≡ 0 → ⊥ = λ e. not_empty c.list_at-ys.result.now c.is_empty-else-is_empty.result c.if-is_empty-2.false c.is_empty-else-is_empty.ensures (ap length c.list_at-ys.ensures ∙ e) in
+    let some_other : length ys ≡ 0 → ⊥ = λ e. not_empty c.list_at-ys.result.now c.is_empty-2.result c.if-is_empty-2.false c.is_empty-2.ensures (ap length c.list_at-ys.ensures ∙ e) in
     let within : AreWithin xs ys c.args.least.now rules = rules_within parts c.args.one c.args.other c.requires.closed c.requires.one c.requires.other group.left group.right rules c.args.least.now c.requires.one_each are some some_other in
     record { within = subst (λ (xs : List _). AreWithin xs c.list_at-ys.result.now c.args.least.now rules) (sym c.list_at-xs.ensures) (subst (λ (ys : List _). AreWithin xs ys c.args.least.now rules) (sym c.list_at-ys.ensures) within) }
