@@ -1,5 +1,5 @@
 -- Numbers that fall to what the pairs of a class give.
-use Rattle.std.proofs.Common.{ℕ, ◌⊎◌, ◌+◌, ◌-◌, ◌++◌, take, drop, ◌%◌, ◌<◌, ◌≤◌, ◌≡◌, ◌||◌, Bool, true, false, if◌then◌else◌, List, [], ◌∷◌, length, max, Option, Some, slice_get, get_or, refl, sym, ap, subst, ◌∙◌, inl, inr, arith}
+use Rattle.std.proofs.Common.{ℕ, ◌+◌, ◌-◌, ◌++◌, take, drop, ◌%◌, ◌<◌, ◌≤◌, ◌≡◌, ◌||◌, Bool, true, false, if◌then◌else◌, List, [], ◌∷◌, length, max, Option, Some, slice_get, get_or, refl, sym, ap, subst, ◌∙◌, inl, inr, arith}
 use Rattle.std.proofs.Math.ListN.{set}
 use Rattle.std.proofs.lemmas.List.Sums.{sum_by-set, sum_by-append, sum_by-take-drop}
 use Rattle.std.proofs.lemmas.List.Edits.{get_or-between}
@@ -14,7 +14,7 @@ use Rattle.std.specs.Prelude.{◌==◌}
 use Rattle.lw_match.specs.declared.mark.Mark.{Mark}
 use Rattle.lw_match.specs.declared.parts.Side.{Side}
 use Rattle.lw_match.specs.declared.parts.Part.{Part}
-use Rattle.lw_match.specs.Numbers.{never, no_row, start_of, AreStarts, number_from, Reading, class_below, side_number, pair_number}
+use Rattle.lw_match.specs.Numbers.{never, no_row, start_of, number_from, Reading, class_below, side_number, pair_number}
 use Rattle.lw_match.specs.Bounds.{total, reading_of, AreBare, AreSettledBelow}
 use Rattle.lw_match.proofs.Pairs.{pair_at}
 use Rattle.lw_graph.proofs.Graphs.{flip_below}
@@ -51,9 +51,6 @@ sum_less xs i v lt less = let e = sum_by-set (λ (n : ℕ). n) xs i v 0 lt in om
 pub record HaveFallen (old new : List ℕ) (fell : Bool) : Type 0 where
   pub falls : fell ≡ true → total new < total old
   pub same : fell ≡ false → new ≡ old
-
-pub fallen_none : (old : List ℕ) → HaveFallen old old false
-fallen_none old = record { falls = λ e. cc; same = λ e. refl }
 
 pub fallen_more : (old mid new : List ℕ) (one fell : Bool) → (one ≡ true → total new < total mid) → (one ≡ false → new ≡ mid) → HaveFallen old mid fell → HaveFallen old new (one || fell)
 fallen_more old mid new true true falls same h =
@@ -97,10 +94,3 @@ lowered_settles g marks parts starts c row old least is has count falls below k 
 pub row_there : (g : Graph) (starts : List ℕ) (c : ℕ) (row : List Pair) → plain_row row ≡ slice_index_or g.pairs c [] → AreBare starts g → (length row ≡ 0 → ⊥) → start_of starts c ≡ no_row → ⊥
 row_there g starts c [] is bare some none = absurd (some refl)
 row_there g starts c (q ∷ row) is bare some none = cc (is ∙ bare c none)
-
-pub whole_row : (width : ℕ) (starts : List ℕ) (size c : ℕ) → (start_of starts c ≡ no_row → ⊥) → AreStarts width starts size → start_of starts c + width ≤ size
-whole_row width starts size c has are = by_row (are c)
-  where
-    by_row : (start_of starts c ≡ no_row) ⊎ (start_of starts c + width ≤ size) → start_of starts c + width ≤ size
-    by_row (inl e) = absurd (has e)
-    by_row (inr le) = le
