@@ -21,8 +21,8 @@ pub struct Plan<'a> {
     pub groups: &'a [Group],
 }
 
-// What a rule gives by two lists, or the bound where the number of one side is not below it, as that
-// is no less either way. What is below a bound is not never, and with its shift it stays so.
+// What a rule gives by two lists, or the bound where the number of one side is not below it, as
+// that is no less either way. What is below a bound is not never, and with its shift it stays so.
 fn given_below(bound: u64, rule: Rule, xs: &[u64], ys: &[u64]) -> u64
     requires left { rule.left < length xs.now }
     requires right { rule.right < length ys.now }
