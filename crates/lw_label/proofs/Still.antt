@@ -1,5 +1,5 @@
 -- Classes at which no match would lower a height, after other heights were lowered.
-use Rattle.std.proofs.Common.{ℕ, zero, suc, ◌+◌, ◌<◌, ◌≤◌, ◌≡◌, ◌/◌, ◌*◌, ◌||◌, ◌⊎◌, inl, inr, Bool, true, false, List, [], ◌∷◌, length, Contains, Option, Some, None, option_map, slice_get, slice_index_or, slice_set, replicate, true≢false, refl, ap, sym, ◌∙◌, subst, arith}
+use Rattle.std.proofs.Common.{ℕ, zero, suc, ◌+◌, ◌<◌, ◌≤◌, ◌≡◌, ◌/◌, ◌*◌, ◌||◌, ◌⊎◌, inl, inr, Bool, true, false, not, List, [], ◌∷◌, length, Contains, Option, Some, None, option_map, slice_get, slice_index_or, slice_set, replicate, true≢false, refl, ap, sym, ◌∙◌, subst, arith}
 use Rattle.std.specs.List.{AllByRecursion}
 use Rattle.std.proofs.lemmas.Bool.{cases_eq}
 use Rattle.std.proofs.lemmas.Option.{same_Some, slice_get_within, slice_get-get_or}
@@ -18,15 +18,16 @@ use Rattle.lw_match.specs.declared.mark.Mark.{Mark}
 use Rattle.lw_match.specs.Least.{AreOfCells, IsLeastBelow, IsMarkBefore}
 use Rattle.lw_match.specs.Cutting.{IsMatchWithin, IsLeastWithin, bound_after}
 use Rattle.lw_match.specs.declared.mark.Best.{Best}
-use Rattle.lw_laws.specs.Laws.{AreBoundedIn}
+use Rattle.lw_laws.specs.Laws.{AreBoundedIn, IsCoverProblem}
 use Rattle.lw_graph.specs.Graphs.{IsGraph, plain_row}
-use Rattle.lw_label.proofs.HeightPasses.{reached_under, attains_under}
+use Rattle.lw_label.proofs.HeightPasses.{heights_in_range, reached_under, attains_under}
+use Rattle.lw_label.specs.Lowering.{AreLowering}
 use Rattle.lw_match.specs.Values.{plain_mark, marks_in, AreInRange}
 use Rattle.lw_match.proofs.Marked.{each_cost, length-costs as length-costs_in, length-marks}
 use Rattle.lw_label.proofs.Falling.{not_below}
 use Rattle.lw_label.proofs.Marked.{mark_set_same, priced}
 use Rattle.lw_label.specs.Labels.{costs_of}
-use Rattle.lw_label.specs.Heights.{AreHeightMarks, AreSameBut, AreStill, HasHeightAtMost, IsNoPin, IsReached, LowersHeights, height_limit, heights_weight, with_mark}
+use Rattle.lw_label.specs.Heights.{AreHeightMarks, AreSameBut, AreStill, HasHeightAtMost, IsNoPin, IsReached, LowersHeights, TakesHeight, height_limit, heights_weight, with_mark}
 use Rattle.lw_label.specs.Orders.{ArePartsStill, IsStillAfter, IsStillAt}
 use Rattle.lw_laws.specs.Rounds.{labels_in}
 
@@ -319,3 +320,14 @@ module _ (g : Graph) (cost : Cost) (pats : List Pattern) (labels : List (Option 
       by_class : (c ≡ a) ⊎ (c ≡ b) → IsReached g cost pats labels marks c
       by_class (inl e) = subst (λ n. IsReached g cost pats labels marks n) (sym e) one
       by_class (inr e) = subst (λ n. IsReached g cost pats labels marks n) (sym e) other
+
+  -- the class keeps its height, since the other one was not lowered, or is at no pin of a match that lowers it
+  pub stays_reached : IsCoverProblem g pats cost → IsGraph g → AreLowering g cost pats labels → (old new : List (Option Mark)) (c d : ℕ) (lowered : Bool) → TakesHeight g cost pats labels old new lowered → AreSameBut (λ b. b ≡ d) old new → (c ≡ d → ⊥) → (lowered ≡ false) ⊎ IsNoPin (slice_index_or new d None) (slice_index_or new c None) → IsReached g cost pats labels old c → IsReached g cost pats labels new c
+  stays_reached problem graph low old new c d lowered takes same apart (inl e) before =
+      subst (λ ms. IsReached g cost pats labels ms c) (sym (takes.same e)) before
+  stays_reached problem graph low old new c d lowered takes same apart (inr no_pin) before =
+      reached_beside g cost pats labels problem.cost_is old new c d (heights_in_range g cost pats labels new problem graph low takes.heights) same apart no_pin (λ o e. takes.heights.costs c (plain_mark o) (ap (option_map plain_mark) e)) before
+
+pub is_false : (b : Bool) → not b ≡ true → b ≡ false
+is_false true e = cc
+is_false false e = refl

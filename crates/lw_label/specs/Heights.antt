@@ -9,8 +9,13 @@ use Rattle.lw_laws.specs.Marks.{Mark as PlainMark, HaveMarks, costs_in, greatest
 use Rattle.lw_laws.specs.Rounds.{labels_in}
 use Rattle.lw_match.specs.declared.mark.Best.{Best}
 use Rattle.lw_match.specs.declared.mark.Mark.{Mark}
+use Rattle.lw_laws.specs.Laws.{AreBoundedIn, IsCoverProblem}
+use Rattle.lw_graph.specs.Graphs.{IsGraph}
+use Rattle.lw_match.specs.Bounds.{BoundsState, BoundsFit, AreBounds}
+use Rattle.lw_match.specs.Least.{AreOfCells}
 use Rattle.lw_match.specs.Values.{marks_in}
 use Rattle.lw_label.specs.Labels.{costs_of}
+use Rattle.lw_label.specs.Lowering.{AreLowering}
 use Rattle.lw_label.specs.Orders.{ArePartsStill, IsStillAt}
 use Rattle.lw_label.specs.Passes.{Passes}
 
@@ -74,6 +79,16 @@ AreSameBut at old new =
 abbrev pub with_mark : List (Option Mark) → ℕ → Option Best → List (Option Mark)
 with_mark marks c None = marks
 with_mark marks c (Some best) = slice_set marks c (Some best.mark)
+
+-- what heights are found from: a graph with the patterns of cells, least labels, and a table of bounds for them
+pub record AreGiven (g : Graph) (cost : Cost) (pats : List Pattern) (b : BoundsState) (labels : List (Option Mark)) : Type 0 where
+  pub of_cells : AreOfCells cost.pin_counts pats
+  pub graph : IsGraph g
+  pub problem : IsCoverProblem g pats cost
+  pub lowering : AreLowering g cost pats labels
+  pub bounded : AreBoundedIn g pats cost (costs_of labels)
+  pub fits : BoundsFit b pats g
+  pub bounds : AreBounds b g labels
 
 -- the first mark costs more than the other, or is no lower, so that no match at the other's class has it at a pin and less height
 abbrev pub IsNoPin : Option Mark → Option Mark → Type 0

@@ -8,14 +8,14 @@ ghost use Rattle.lw_match.specs.Least.{AreOfCells};
 ghost use Rattle.lw_label.specs.Labels.{costs_of, AreLeastMarks};
 ghost use Rattle.lw_label.specs.Lowering.{AreLowering};
 ghost use Rattle.lw_label.specs.Orders.{IsVisited, places_of};
-ghost use Rattle.lw_label.specs.Heights.{AreHeightMarks, AreSameBut, AreStill, IsNoPin, IsReached, LowersHeights, TakesHeight, height_limit, heights_weight, with_mark};
+ghost use Rattle.lw_label.specs.Heights.{AreGiven, AreHeightMarks, AreSameBut, AreStill, IsNoPin, IsReached, LowersHeights, TakesHeight, height_limit, heights_weight, with_mark};
 ghost use Rattle.lw_laws.specs.Laws.{AreBoundedIn, IsCoverProblem};
 ghost use Rattle.lw_laws.specs.Rounds.{labels_in};
 
 use crate::lowering::{both, either, is_ahead};
 use crate::visits::Visits;
 use lw_graph::Graph;
-use lw_match::{Best, Bounds, Cost, Mark, Tops, better_bare, better_within};
+use lw_match::{Best, Bounds, Cost, Mark, Tops, better_within};
 use lw_pattern::Patterns;
 use lw_pool::ClassId;
 
@@ -87,14 +87,8 @@ fn lower_height<C: Cost>(
     class: ClassId,
 ) -> Visit
     requires class { class.0 < length graph.now.pairs }
-    requires of_cells { AreOfCells (C.costs cost.now).pin_counts pats.now }
-    requires graph { IsGraph graph.now }
-    requires problem { IsCoverProblem graph.now pats.now (C.costs cost.now) }
-    requires lowering { AreLowering graph.now (C.costs cost.now) pats.now labels.now }
-    requires fits { BoundsFit bounds.now pats.now graph.now }
+    requires given { AreGiven graph.now (C.costs cost.now) pats.now bounds.now labels.now }
     requires known { AreKnown (C.costs cost.now) pats.now bounds.now.gaps tops.old }
-    requires bounds { AreBounds bounds.now graph.now labels.now }
-    requires bounded { AreBoundedIn graph.now pats.now (C.costs cost.now) (costs_of labels.now) }
     requires heights { AreHeightMarks graph.now (C.costs cost.now) pats.now labels.now marks.old }
     ensures known { AreKnown (C.costs cost.now) pats.now bounds.now.gaps tops.new }
     ensures takes { TakesHeight graph.now (C.costs cost.now) pats.now labels.now marks.old
@@ -119,46 +113,6 @@ fn lower_height<C: Cost>(
     let is_still = found.is_least;
     let lowered = put_height(marks, class, found.best);
     Visit { lowered, is_still }
-}
-
-// Gives a class the height of a match by a pattern without NANDs that attains its label, where that
-// is lower than its own.
-fn lower_height_bare<C: Cost>(
-    graph: &Graph,
-    pats: &Patterns,
-    cost: &C,
-    bounds: &Bounds,
-    labels: &[Option<Mark>],
-    marks: &mut [Option<Mark>],
-    class: ClassId,
-) -> bool
-    requires class { class.0 < length graph.now.pairs }
-    requires of_cells { AreOfCells (C.costs cost.now).pin_counts pats.now }
-    requires graph { IsGraph graph.now }
-    requires problem { IsCoverProblem graph.now pats.now (C.costs cost.now) }
-    requires lowering { AreLowering graph.now (C.costs cost.now) pats.now labels.now }
-    requires fits { BoundsFit bounds.now pats.now graph.now }
-    requires bounded { AreBoundedIn graph.now pats.now (C.costs cost.now) (costs_of labels.now) }
-    requires heights { AreHeightMarks graph.now (C.costs cost.now) pats.now labels.now marks.old }
-    ensures takes { TakesHeight graph.now (C.costs cost.now) pats.now labels.now marks.old
-        marks.new result }
-    ensures others { AreSameBut (λ c. c ≡ class.0) marks.old marks.new }
-{
-    let Some(label) = labels[class.0 as usize] else {
-        return false;
-    };
-    let bound = height_bound(label, marks[class.0 as usize]);
-    let found = better_bare(
-        graph,
-        pats,
-        bounds,
-        marks,
-        class,
-        cost,
-        label.cost,
-        Some(bound),
-    );
-    put_height(marks, class, found)
 }
 
 // The class of a place that comes first: the one with the lower label, since no match attains a
@@ -192,8 +146,8 @@ fn may_lower(lowered: bool, mark: Option<Mark>, other: Option<Mark>) -> bool
     }
 }
 
-// Lowers the heights of the two classes of a place. Where the odd class is looked at a second time,
-// it is not known whether a match would lower it then.
+// Lowers the heights of the two classes of a place. The first is looked at again where the second,
+// which was lowered since, may be the pin of a match that lowers it.
 fn lower_height_pair<C: Cost>(
     graph: &Graph,
     pats: &Patterns,
@@ -205,14 +159,8 @@ fn lower_height_pair<C: Cost>(
     place: u32,
 ) -> Visit
     requires place { place < places_of graph.now }
-    requires of_cells { AreOfCells (C.costs cost.now).pin_counts pats.now }
-    requires graph { IsGraph graph.now }
-    requires problem { IsCoverProblem graph.now pats.now (C.costs cost.now) }
-    requires lowering { AreLowering graph.now (C.costs cost.now) pats.now labels.now }
-    requires fits { BoundsFit bounds.now pats.now graph.now }
+    requires given { AreGiven graph.now (C.costs cost.now) pats.now bounds.now labels.now }
     requires known { AreKnown (C.costs cost.now) pats.now bounds.now.gaps tops.old }
-    requires bounds { AreBounds bounds.now graph.now labels.now }
-    requires bounded { AreBoundedIn graph.now pats.now (C.costs cost.now) (costs_of labels.now) }
     requires heights { AreHeightMarks graph.now (C.costs cost.now) pats.now labels.now marks.old }
     ensures known { AreKnown (C.costs cost.now) pats.now bounds.now.gaps tops.new }
     ensures heights { AreHeightMarks graph.now (C.costs cost.now) pats.now labels.now marks.new }
@@ -227,16 +175,18 @@ fn lower_height_pair<C: Cost>(
     let first = lower_height(graph, pats, cost, bounds, tops, labels, marks, class);
     let second = lower_height(graph, pats, cost, bounds, tops, labels, marks, other);
     let mark = marks[other.0 as usize];
-    if may_lower(second.lowered, mark, marks[class.0 as usize]) {
-        let third = lower_height_bare(graph, pats, cost, bounds, labels, marks, class);
+    if !may_lower(second.lowered, mark, marks[class.0 as usize]) {
         return Visit {
-            lowered: either(third, either(second.lowered, first.lowered)),
-            is_still: false,
+            lowered: either(second.lowered, first.lowered),
+            is_still: both(second.is_still, first.is_still),
         };
     }
+    let third = lower_height(graph, pats, cost, bounds, tops, labels, marks, class);
+    let mark = marks[class.0 as usize];
+    let moves = may_lower(third.lowered, mark, marks[other.0 as usize]);
     Visit {
-        lowered: either(second.lowered, first.lowered),
-        is_still: both(second.is_still, first.is_still),
+        lowered: either(third.lowered, either(second.lowered, first.lowered)),
+        is_still: both(!moves, both(third.is_still, second.is_still)),
     }
 }
 
@@ -255,14 +205,8 @@ fn lower_height_place<C: Cost>(
 ) -> bool
     requires number { number < length visits.old.order }
     requires places { visits.old.places ≡ places_of graph.now }
-    requires of_cells { AreOfCells (C.costs cost.now).pin_counts pats.now }
-    requires graph { IsGraph graph.now }
-    requires problem { IsCoverProblem graph.now pats.now (C.costs cost.now) }
-    requires lowering { AreLowering graph.now (C.costs cost.now) pats.now labels.now }
-    requires fits { BoundsFit bounds.now pats.now graph.now }
+    requires given { AreGiven graph.now (C.costs cost.now) pats.now bounds.now labels.now }
     requires known { AreKnown (C.costs cost.now) pats.now bounds.now.gaps tops.old }
-    requires bounds { AreBounds bounds.now graph.now labels.now }
-    requires bounded { AreBoundedIn graph.now pats.now (C.costs cost.now) (costs_of labels.now) }
     requires heights { AreHeightMarks graph.now (C.costs cost.now) pats.now labels.now marks.old }
     requires still { AreStill graph.now (C.costs cost.now) pats.now labels.now marks.old
         visits.old.still }
@@ -300,14 +244,8 @@ fn lower_height_round<C: Cost>(
     whole: bool,
 ) -> bool
     requires places { visits.old.places ≡ places_of graph.now }
-    requires of_cells { AreOfCells (C.costs cost.now).pin_counts pats.now }
-    requires graph { IsGraph graph.now }
-    requires problem { IsCoverProblem graph.now pats.now (C.costs cost.now) }
-    requires lowering { AreLowering graph.now (C.costs cost.now) pats.now labels.now }
-    requires fits { BoundsFit bounds.now pats.now graph.now }
+    requires given { AreGiven graph.now (C.costs cost.now) pats.now bounds.now labels.now }
     requires known { AreKnown (C.costs cost.now) pats.now bounds.now.gaps tops.old }
-    requires bounds { AreBounds bounds.now graph.now labels.now }
-    requires bounded { AreBoundedIn graph.now pats.now (C.costs cost.now) (costs_of labels.now) }
     requires heights { AreHeightMarks graph.now (C.costs cost.now) pats.now labels.now marks.old }
     requires still { AreStill graph.now (C.costs cost.now) pats.now labels.now marks.old
         visits.old.still }
@@ -343,14 +281,8 @@ fn lower_height_rounds<C: Cost>(
     marks: &mut [Option<Mark>],
 ) -> bool
     requires places { visits.old.places ≡ places_of graph.now }
-    requires of_cells { AreOfCells (C.costs cost.now).pin_counts pats.now }
-    requires graph { IsGraph graph.now }
-    requires problem { IsCoverProblem graph.now pats.now (C.costs cost.now) }
-    requires lowering { AreLowering graph.now (C.costs cost.now) pats.now labels.now }
-    requires fits { BoundsFit bounds.now pats.now graph.now }
+    requires given { AreGiven graph.now (C.costs cost.now) pats.now bounds.now labels.now }
     requires known { AreKnown (C.costs cost.now) pats.now bounds.now.gaps tops.old }
-    requires bounds { AreBounds bounds.now graph.now labels.now }
-    requires bounded { AreBoundedIn graph.now pats.now (C.costs cost.now) (costs_of labels.now) }
     requires heights { AreHeightMarks graph.now (C.costs cost.now) pats.now labels.now marks.old }
     requires still { AreStill graph.now (C.costs cost.now) pats.now labels.now marks.old
         visits.old.still }
@@ -382,14 +314,8 @@ pub(crate) fn lower_all_heights<C: Cost>(
     marks: &mut [Option<Mark>],
 )
     requires places { visits.old.places ≡ places_of graph.now }
-    requires of_cells { AreOfCells (C.costs cost.now).pin_counts pats.now }
-    requires graph { IsGraph graph.now }
-    requires problem { IsCoverProblem graph.now pats.now (C.costs cost.now) }
-    requires lowering { AreLowering graph.now (C.costs cost.now) pats.now labels.now }
-    requires fits { BoundsFit bounds.now pats.now graph.now }
+    requires given { AreGiven graph.now (C.costs cost.now) pats.now bounds.now labels.now }
     requires known { AreKnown (C.costs cost.now) pats.now bounds.now.gaps tops.old }
-    requires bounds { AreBounds bounds.now graph.now labels.now }
-    requires bounded { AreBoundedIn graph.now pats.now (C.costs cost.now) (costs_of labels.now) }
     requires heights { AreHeightMarks graph.now (C.costs cost.now) pats.now labels.now marks.old }
     requires still { AreStill graph.now (C.costs cost.now) pats.now labels.now marks.old
         visits.old.still }

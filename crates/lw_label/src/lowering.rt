@@ -89,9 +89,7 @@ fn lower_mark<C: Cost>(
         IsBounded graph.now (C.costs cost.now) pats.now marks.old class.0 }
 {
     let old = marks[class.0 as usize];
-    let found = better_within(
-        graph, pats, bounds, marks, class, cost, tops, 0, false, old,
-    );
+    let found = better_within(graph, pats, bounds, marks, class, cost, tops, 0, false, old);
     put_label(marks, class, found.best)
 }
 

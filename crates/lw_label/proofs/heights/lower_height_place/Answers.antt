@@ -31,7 +31,7 @@ returns-else-visit-clause-still g c =
     let place = c.in-Some.place in
     let visit = c.lower_height_pair-visit in
     let noted : c.note.new.self.still ≡ c.args.visits.now.still = ap (λ (v : VisitState). v.still) (c.note.ensures ∙ c.due_unless_still.ensures.kept) in
-    let kept = subst (λ still. AreStill graph costs pats labels visit.new.marks still) (sym noted) (still_kept graph costs pats labels c.requires.of_cells c.args.marks.now visit.new.marks c.args.visits.now.still place c.in-Some.ensures.moving visit.ensures.others c.requires.still) in
+    let kept = subst (λ still. AreStill graph costs pats labels visit.new.marks still) (sym noted) (still_kept graph costs pats labels c.requires.given.of_cells c.args.marks.now visit.new.marks c.args.visits.now.still place c.in-Some.ensures.moving visit.ensures.others c.requires.still) in
     kept
 
 pub returns-then-visit-clause-still : goal.returns-then-visit-clause-still
@@ -43,5 +43,5 @@ returns-then-visit-clause-still g c =
     let place = c.in-Some.place in
     let visit = c.lower_height_pair-visit in
     let noted : c.note.new.self.still ≡ c.args.visits.now.still = ap (λ (v : VisitState). v.still) (c.note.ensures ∙ c.due_unless_still.ensures.kept) in
-    let kept = subst (λ still. AreStill graph costs pats labels visit.new.marks still) (sym noted) (still_kept graph costs pats labels c.requires.of_cells c.args.marks.now visit.new.marks c.args.visits.now.still place c.in-Some.ensures.moving visit.ensures.others c.requires.still) in
+    let kept = subst (λ still. AreStill graph costs pats labels visit.new.marks still) (sym noted) (still_kept graph costs pats labels c.requires.given.of_cells c.args.marks.now visit.new.marks c.args.visits.now.still place c.in-Some.ensures.moving visit.ensures.others c.requires.still) in
     still_more graph costs pats labels visit.new.marks place c.note.new.self.still c.settle.new.self.still c.settle.ensures.still (visit.ensures.still c.if-visit.true) kept

@@ -29,4 +29,4 @@ returns-clause-lowers g c =
     let marks = c.loop-number.marks in
     let changed = c.loop-number.changed in
     let all : c.loop-number.number ≡ length order = omega (arith, c.len-number-end.ensures.len, c.loop-number-test.false, c.loop-number.auto.number-end) in
-    passes_round heights_weight (IsReached c.args.graph.now costs c.args.pats.now c.args.labels.now) c.args.graph.now c.args.marks.now marks whole order changed c.requires.graph.even (subst (λ n. IsOrder n order) c.requires.places c.len-number-end.ensures.order) (subst (λ n. LowersHeights c.args.graph.now costs c.args.pats.now c.args.labels.now c.args.marks.now marks (IsPassed whole order n) changed) all c.loop-number.invariant.lowers)
+    passes_round heights_weight (IsReached c.args.graph.now costs c.args.pats.now c.args.labels.now) c.args.graph.now c.args.marks.now marks whole order changed c.requires.given.graph.even (subst (λ n. IsOrder n order) c.requires.places c.len-number-end.ensures.order) (subst (λ n. LowersHeights c.args.graph.now costs c.args.pats.now c.args.labels.now c.args.marks.now marks (IsPassed whole order n) changed) all c.loop-number.invariant.lowers)

@@ -9,9 +9,16 @@ pub lower_all-requires-clause-problem : goal.lower_all-requires-clause-problem
 lower_all-requires-clause-problem g c =
     cover_problem c.args.graph.now (g.C.Cost.costs c.args.cost.now) c.args.pats.now c.classes.ensures.kept (g.met.C.Cost.laws c.args.cost.now) c.requires.of_cells
 
-pub lower_all_heights-requires-clause-problem : goal.lower_all_heights-requires-clause-problem
-lower_all_heights-requires-clause-problem g c =
-    cover_problem c.args.graph.now (g.C.Cost.costs c.args.cost.now) c.args.pats.now c.classes.ensures.kept (g.met.C.Cost.laws c.args.cost.now) c.requires.of_cells
+pub lower_all_heights-requires-clause-given : goal.lower_all_heights-requires-clause-given
+lower_all_heights-requires-clause-given g c = record {
+  of_cells = c.requires.of_cells;
+  graph = c.classes.ensures.kept;
+  problem = cover_problem c.args.graph.now (g.C.Cost.costs c.args.cost.now) c.args.pats.now c.classes.ensures.kept (g.met.C.Cost.laws c.args.cost.now) c.requires.of_cells;
+  lowering = c.lower_all.ensures.lowering;
+  bounded = c.lower_all.ensures.bounded;
+  fits = c.lower_all.ensures.fits;
+  bounds = c.lower_all.ensures.bounds;
+}
 
 pub lower_all-requires-clause-lowering : goal.lower_all-requires-clause-lowering
 lower_all-requires-clause-lowering g c = c.label_inputs.ensures c.args.pats.now
