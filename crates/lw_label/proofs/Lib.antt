@@ -6,5 +6,5 @@ pub mod Low
 pub mod Marked
 pub mod Passing
 pub mod Still
-mod Times
+pub mod Times
 pub mod Walking
