@@ -6,6 +6,7 @@ use Rattle.lw_top.specs.Steps.{Files}
 use Rattle.lw_top.specs.Words.{to_verilog, from_verilog, command_of}
 use Rattle.lw_top.specs.Answers.{ReadsLibrary, ReadsMapped, IsAnswer}
 use Rattle.lw_top.specs.Verilogs.{plain_text}
+use Rattle.lw_words.specs.Limits.{most_bytes}
 
 -- The words `words` ask for a mapped netlist in Verilog, and `backs` for the mapped text of the text in Verilog, over other files that hold
 -- the same library. The text is not too long to be read.
@@ -18,7 +19,7 @@ pub record IsBackOf (words : List (List ℕ)) (files : Files) (text : List ℕ) 
   pub back : command_of backs ≡ Some (from_verilog other_library verilog)
   pub same_library : others other_library ≡ files library
   pub written : others verilog ≡ Some text
-  pub few : length text ≤ 67108864
+  pub few : length text ≤ most_bytes
 
 -- What was read and written comes back: the answer to `backs` is the mapped text of the netlist that was read for `words`.
 pub record ComesBack (words : List (List ℕ)) (files : Files) (backs : List (List ℕ)) (others : Files) : Type 0 where

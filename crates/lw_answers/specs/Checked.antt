@@ -5,6 +5,7 @@ use Rattle.lw_map.specs.Options.{Options}
 use Rattle.lw_top.specs.Steps.{Files}
 use Rattle.lw_top.specs.Words.{mapping, checking, command_of}
 use Rattle.lw_top.specs.Answers.{ReadsLibrary}
+use Rattle.lw_words.specs.Limits.{most_bytes}
 
 -- no cell's output has the name of one of its pins
 abbrev pub AreApart : List CellParts → Type 0
@@ -25,5 +26,5 @@ pub record IsCheckOf (words : List (List ℕ)) (files : Files) (text : List ℕ)
   pub same_library : others other_library ≡ files library
   pub same_network : others other_network ≡ files network
   pub written : others mapped ≡ Some text
-  pub few : length text ≤ 67108864
+  pub few : length text ≤ most_bytes
   pub apart : (cells : List CellParts) → ReadsLibrary library files (Ok cells) → AreApart cells

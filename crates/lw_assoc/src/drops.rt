@@ -35,14 +35,6 @@ fn put_drops(drops: &mut [u32], forms: &Forms, b: u32)
     }
 }
 
-// So many zeros.
-fn zeros(alloc: Global, n: usize) -> Result<Vec<u32>, AllocError>
-    ensures { IfOk result (λ v. length v.items ≡ n) }
-{
-    let zeros = vec![in alloc; 0; n]?;
-    Ok(zeros)
-}
-
 // Puts them for all base forms.
 fn put_all_drops(drops: &mut [u32], forms: &Forms)
     requires { length drops.old ≡ 8 * length forms.now.bases }
@@ -59,7 +51,7 @@ pub(crate) fn drops_of(alloc: Global, forms: &Forms) -> Result<Vec<u32>, AllocEr
     ensures size { IfOk result (λ drops. length drops.items ≡ 8 * length forms.now.bases) }
     ensures drops { IfOk result (λ drops. HasDrops forms.now (length forms.now.bases) drops.items) }
 {
-    let mut drops = zeros(alloc, PLACES * forms.len() as usize)?;
+    let mut drops = vec![in alloc; 0; PLACES * forms.len() as usize]?;
     put_all_drops(&mut drops, forms);
     Ok(drops)
 }

@@ -17,6 +17,7 @@ use Rattle.lw_words.specs.Lines.{LogicalLine}
 use Rattle.lw_net.specs.declared.draft.DraftNode.{DraftNode}
 use Rattle.lw_blif.specs.declared.parts.Parts.{Parts}
 use Rattle.lw_blif.specs.Readers.{Kept, KeptAround, row_added, node_begun, are_fresh, names_fault_of, fault_else}
+use Rattle.lw_pool.specs.Numbers.{most_signals}
 
 pub record Keeps (parts : Parts) (lines : List LogicalLine) : Type 0 where
   pub names : Kept parts.model parts.inputs parts.outputs.keys parts.defined.keys parts.nodes parts.node lines
@@ -98,7 +99,7 @@ pub record ReadsNames (old : Parts) (c : Command) (words : List (List ℕ)) (new
   pub latches : new.latches ≡ old.latches ++ latches_for c (other_words words)
   pub arrivals : new.arrivals ≡ old.arrivals
   pub node : option_to_list new.node ≡ (if is_names_command c then node_begun words ∷ [] else [])
-  pub few : length new.defined.keys ≤ 262144
+  pub few : length new.defined.keys ≤ most_signals
 
 -- the first rule that a line of names breaks
 abbrev pub names_fault : Parts → Command → List (List ℕ) → Option BlifKind

@@ -13,6 +13,7 @@ use Rattle.lw_fixed.specs.declared.fault.DecimalFault.{DecimalFault}
 use Rattle.lw_fixed.specs.declared.fault.DecimalFault.TheVariants.{Shape}
 use Rattle.lw_frame.specs.Starts.{start_said}
 use Rattle.lw_words.specs.Words.{is_among, first_word, front, is_name}
+use Rattle.lw_pool.specs.Numbers.{most_signals}
 
 -- Words.
 
@@ -156,7 +157,7 @@ abbrev pub name_rules : List (List ℕ) → Command → List (List ℕ) → List
 name_rules defined c words =
     record { broken = not (list_all is_name (names_for c words)); kind = kind.BadName }
     ∷ record { broken = is_names_command c && nat_lt 256 (length (words_before_last (other_words words))); kind = kind.LimitFanin }
-    ∷ record { broken = nat_lt 262144 (length defined + length (defined_for c words)); kind = kind.LimitSignals }
+    ∷ record { broken = nat_lt most_signals (length defined + length (defined_for c words)); kind = kind.LimitSignals }
     ∷ record { broken = has_twice (defined_for c words) || list_any (is_among defined) (defined_for c words); kind = kind.Redefined } ∷ []
 
 -- what a command asks of the number of words

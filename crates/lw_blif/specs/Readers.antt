@@ -16,6 +16,7 @@ use Rattle.lw_pool.specs.declared.latch.Latch.{Latch}
 use Rattle.lw_fixed.specs.declared.micro.Micro.{Micro}
 use Rattle.lw_fixed.specs.declared.fault.DecimalFault.{DecimalFault}
 use Rattle.lw_words.specs.Words.{is_among, is_name}
+use Rattle.lw_pool.specs.Numbers.{most_signals}
 
 -- the nodes to which no row can be added
 unfoldable pub whole_nodes : List LogicalLine → List DraftNode
@@ -49,7 +50,7 @@ names_fault_of count c words =
     if not (wants_words c words) then Some kind.WordCount
     else (if not (list_all is_name (names_for c words)) then Some kind.BadName
     else (if is_names_command c && nat_lt 256 (length (words_before_last (other_words words))) then Some kind.LimitFanin
-    else (if nat_lt 262144 (count + length (defined_for c words)) then Some kind.LimitSignals else None)))
+    else (if nat_lt most_signals (count + length (defined_for c words)) then Some kind.LimitSignals else None)))
 
 -- a decimal's fault as a rule that is broken
 abbrev pub start_or_kind : Result Micro DecimalFault → Result Micro BlifKind
@@ -91,7 +92,7 @@ pub record Kept (model : Option (List ℕ)) (inputs outputs defined : List (List
   pub node_is : option_to_list node ≡ map (λ line. node_of line (reverse (rows_before lines))) (node_before lines)
   pub no_rows : node_before lines ≡ [] → rows_before lines ≡ []
   pub one_value : HaveValueOf node (rows_before lines)
-  pub few : length defined ≤ 262144
+  pub few : length defined ≤ most_signals
 
 -- What is kept of latches and of arrival lines.
 pub record KeptAround (latches : List Latch) (arrivals : Arrivals) (lines : List LogicalLine) : Type 0 where

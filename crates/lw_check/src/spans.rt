@@ -2,6 +2,7 @@
 ghost use Rattle.std.specs.Prelude.{◌≡◌, ◌≤◌, ◌<◌, ◌+◌, All, IfOk, length};
 ghost use Rattle.lw_laws.specs.Covers.{Pattern as TreeOfCell};
 ghost use Rattle.lw_check.specs.Spans.{AreSpans, IsWith, HasCellsBelow};
+ghost use Rattle.lw_pool.specs.Numbers.{most_signals};
 
 use lw_pattern::Patterns;
 use lw_pool::PatId;
@@ -18,7 +19,7 @@ impl Span {
     // These places and one more behind them.
     fn with(self, place: u32) -> Span
         requires behind { self.end ≤ place }
-        requires few { place ≤ 262144 }
+        requires few { place ≤ most_signals }
         ensures { IsWith self place result }
     {
         let first = if self.first < self.end {

@@ -39,17 +39,6 @@ fn stuck_fanin(inputs: usize, fanins: &[u32], heights: &[u32]) -> usize
     }
 }
 
-// Nothing is seen yet.
-pub(crate) fn flags(alloc: Global, n: usize) -> Result<Vec<bool>, AllocError>
-    ensures { IfOk result (λ seen. seen.items ≡ replicate n false) }
-{
-    let mut seen = Vec::with_capacity(alloc, n)?;
-    for _made in 0..n {
-        seen.push(false)?;
-    }
-    Ok(seen)
-}
-
 // Goes from a node without a height to such a fan-in, until one comes again: it is on a cycle.
 fn on_cycle(
     alloc: Global,
@@ -65,7 +54,7 @@ fn on_cycle(
     ensures within { IfOk result (λ p. p < length graph.now) }
     ensures cycle { IfOk result (λ p. Leads inputs graph.now p (inputs + p)) }
 {
-    let mut seen = flags(alloc, graph.len())?;
+    let mut seen = vec![in alloc; false; graph.len()]?;
     let mut at = start;
     'walk: while !seen[at] {
         seen[at] = true;
@@ -138,7 +127,7 @@ fn leads_to_itself(
     requires within { p < length graph.now }
     ensures { IfOk result (λ b. IsTrue b ↔ Leads inputs graph.now p (inputs + p)) }
 {
-    let mut seen = flags(alloc, graph.len())?;
+    let mut seen = vec![in alloc; false; graph.len()]?;
     let mut ready = Vec::new(alloc);
     ready.push(p as u32)?;
     'search: while let Some(x) = ready.pop() {

@@ -8,17 +8,6 @@ use crate::turning::turned_order;
 use lw_pool::Numbers;
 use std::alloc::{AllocError, Global};
 
-// No node has a rank yet.
-fn zeros(alloc: Global, n: usize) -> Result<Vec<usize>, AllocError>
-    ensures { IfOk result (λ ranks. ranks.items ≡ replicate n 0) }
-{
-    let mut ranks = Vec::with_capacity(alloc, n)?;
-    for _made in 0..n {
-        ranks.push(0)?;
-    }
-    Ok(ranks)
-}
-
 // Gives the rank to one of the fan-ins, where it is a node that has none.
 fn rank_one(
     ranks: &mut Vec<usize>,
@@ -121,7 +110,7 @@ pub(crate) fn ranks(
     ensures { IfOk result (λ ranks. AreRanks inputs graph.now ranks.items) }
 {
     let order = turned_order(alloc, inputs, graph)?;
-    let mut ranks = zeros(alloc, graph.len())?;
+    let mut ranks = vec![in alloc; 0; graph.len()]?;
     for i in 0..order.len() {
         let p = order[order.len() - 1 - i];
         rank_from(alloc, &mut ranks, inputs, graph, p as usize, i + 1)?;

@@ -4,7 +4,6 @@ ghost use Rattle.std.specs.Prelude.{◌≡◌, ◌+◌, ◌<◌, ◌≤◌, [], 
 ghost use Rattle.lw_dag.specs.Graphs.{most_signals, IsGraph};
 ghost use Rattle.lw_dag.specs.Ranking.{AreWithin, IsWalk};
 
-use crate::cycles::flags;
 use lw_pool::Numbers;
 use std::alloc::{AllocError, Global};
 
@@ -147,7 +146,7 @@ pub(crate) fn turned_order(
 {
     let rows = turned_round(alloc, inputs, graph)?;
     let mut walk = Walk {
-        seen: flags(alloc, graph.len())?,
+        seen: vec![in alloc; false; graph.len()]?,
         way: Vec::new(alloc),
         left: Vec::with_capacity(alloc, graph.len())?,
     };

@@ -1,7 +1,7 @@
 -- The finished list of the forms of a network.
 use Rattle.std.proofs.Common.{◌≡◌, ◌+◌, ◌<◌, ◌≤◌, ℕ, zero, suc, List, [], ◌∷◌, length, map, Some, slice_get, refl, ap, ap₂, sym, ◌∙◌, subst, arith}
 use Rattle.std.proofs.lemmas.List.{length-map}
-use Rattle.lw_net.specs.Networks.{NetworkParts, IsNetwork, most_nets}
+use Rattle.lw_net.specs.Networks.{NetworkParts, IsNetwork}
 use Rattle.lw_net.specs.Plain.{plain, plain_node}
 use Rattle.lw_laws.specs.Networks.{Network}
 use Rattle.lw_laws.specs.Decompositions.{Listing, listing_of, Occurs, base_form}
@@ -24,6 +24,7 @@ use Rattle.lw_form.specs.Tables.{AreBelow, AreMade, Table, made}
 use Rattle.lw_form.proofs.KeptForms.{forms_kept}
 use Rattle.lw_form.proofs.Numbers.{is_placed, renumbers}
 use Rattle.lw_form.proofs.SampleValues.{before_below}
+use Rattle.lw_pool.specs.Numbers.{most_signals}
 
 same_record : (i j : ℕ) (a b : List laws.Base) (s t f g : List ℕ) → i ≡ j → a ≡ b → s ≡ t → f ≡ g → ◌≡◌ {A = NumberedForms} (record { inputs = i; bases = a; sops = s; facs = f }) (record { inputs = j; bases = b; sops = t; facs = g })
 same_record i j a b s t f g ei ea es ef =
@@ -81,10 +82,10 @@ module _ (width : ℕ) (wide : 2 ≤ width) (net : Network) (t : Table) (are : A
       (es ∙ (sops_numbered (made t) are listed places w.listed_is (listing_of width net) lists bases_are sops facs w.sops_below w.one_each occur ∙ ap (map (sop_number (occurring_forms width net))) w.signals_are))
       (ef ∙ (facs_numbered (made t) are listed places w.listed_is (listing_of width net) lists bases_are sops facs w.facs_below w.one_each occur ∙ ap (map (fac_number (occurring_forms width net))) w.signals_are))
 
-  pub network_kept : width ≤ most_operands → net.inputs + length net.nodes ≤ most_nets → AreForms (forms_of width net)
+  pub network_kept : width ≤ most_operands → net.inputs + length net.nodes ≤ most_signals → AreForms (forms_of width net)
   network_kept narrow few = forms_kept width net wide narrow few (let a = ap length w.bases in let b = length-map listed (base_at (made t)) in let c = w.listed_is.few in omega arith)
 
-pub few_nets : (net : NetworkParts) → IsNetwork net → (plain net).inputs + length (plain net).nodes ≤ most_nets
+pub few_nets : (net : NetworkParts) → IsNetwork net → (plain net).inputs + length (plain net).nodes ≤ most_signals
 few_nets net is = let l = length-map net.nodes plain_node in let n = is.named in let f = is.few in omega arith
 
 pub bases_before : (forms : NumberedForms) (bases : List laws.Base) → forms.bases ≡ bases → AreForms forms → (b : ℕ) (fs : List ℕ) → slice_get bases b ≡ Some (base_and fs) → AreBelow b fs

@@ -3,7 +3,7 @@ use Rattle.std.proofs.Common.{◌≡◌, ◌≢◌, ◌+◌, ◌-◌, ◌*◌, �
 use Rattle.std.specs.List.{AllByRecursion, list_any}
 use Rattle.std.proofs.lemmas.List.{length-map}
 use Rattle.std.proofs.lemmas.Bool.{or_parts}
-use Rattle.lw_net.specs.Networks.{most_nets}
+use Rattle.lw_pool.specs.Numbers.{most_signals}
 use Rattle.lw_laws.specs.Networks.{Node, Network, IsInOrder, AreValues}
 use Rattle.lw_laws.specs.Forms.{Form, FormList, items, form_list, same_form, is_among, complement, form_value}
 use Rattle.lw_laws.specs.Forms.Form.{var_form, true_form, not_form, and_form}
@@ -210,7 +210,7 @@ signal_at : (width : ℕ) (net : Network) (i : ℕ) → i < net.inputs → slice
 signal_at width net i lt = let z : 0 + i ≡ i = omega arith in after_front width (input_signals 0 net.inputs) net.nodes i (signal_of_input i) (input_signal 0 net.inputs i lt ∙ ap (λ j. Some (signal_of_input j)) z)
 
 -- the forms of a network keep what the type keeps
-pub forms_kept : (width : ℕ) (net : Network) → 2 ≤ width → width ≤ most_operands → net.inputs + length net.nodes ≤ most_nets → length (occurring_forms width net) ≤ most_bases → AreForms (forms_of width net)
+pub forms_kept : (width : ℕ) (net : Network) → 2 ≤ width → width ≤ most_operands → net.inputs + length net.nodes ≤ most_signals → length (occurring_forms width net) ≤ most_bases → AreForms (forms_of width net)
 forms_kept width net wide narrow few short =
     let o = listing_of width net in
     let is = occurring_is_listing width wide net in

@@ -1,7 +1,7 @@
 -- What a list of occurring forms keeps, over the numbers of forms.
 use Rattle.std.specs.Prelude.{ℕ, ◌+◌, ◌*◌, ◌/◌, ◌^◌, ◌<◌, ◌≤◌, ◌≡◌, ◌≢◌, Bool, false, List, [], ◌∷◌, map, length, Some, slice_get}
 use Rattle.std.specs.List.{AllByRecursion}
-use Rattle.lw_net.specs.Networks.{most_nets}
+use Rattle.lw_pool.specs.Numbers.{most_signals}
 use Rattle.lw_laws.specs.NumberedForms.{Base, NumberedForms, AreNumberedForms}
 use Rattle.lw_laws.specs.NumberedForms.Base.{base_true, base_input, base_and}
 use Rattle.lw_laws.specs.NumberedValues.{AreNumberedValues}
@@ -26,7 +26,7 @@ pub record AreInOrder (forms : NumberedForms) : Type 0 where
 -- The nets come with two forms each, and those of an input are the input.
 pub record AreNets (forms : NumberedForms) : Type 0 where
   pub one_each : length forms.facs ≡ length forms.sops
-  pub few : length forms.sops ≤ most_nets
+  pub few : length forms.sops ≤ most_signals
   pub some : forms.inputs ≤ length forms.sops
   pub input_sops : (i : ℕ) → i < forms.inputs → slice_get forms.sops i ≡ Some (2 * (i + 1))
   pub input_facs : (i : ℕ) → i < forms.inputs → slice_get forms.facs i ≡ Some (2 * (i + 1))

@@ -5,12 +5,12 @@ ghost use Rattle.lw_laws.specs.Networks.{Network, IsInOrder, AreValues};
 ghost use Rattle.lw_laws.specs.Occurring.{occurring_forms};
 ghost use Rattle.lw_form.specs.Kept.{AreForms, HaveValues};
 ghost use Rattle.lw_form.specs.Limits.{most_bases, most_operands};
-ghost use Rattle.lw_net.specs.Networks.{most_nets};
+ghost use Rattle.lw_pool.specs.Numbers.{most_signals};
 
 /// The occurring forms of a network keep, over their numbers, what the type `Forms` keeps.
 pub fn occurring_forms_are_kept()
     ensures { (width : ℕ) (net : Network) → 2 ≤ width → width ≤ most_operands →
-        net.inputs + length net.nodes ≤ most_nets →
+        net.inputs + length net.nodes ≤ most_signals →
         length (occurring_forms width net) ≤ most_bases → AreForms (forms_of width net) }
 {}
 

@@ -1,6 +1,6 @@
 // The forms of the nets of a network, and the list of what occurs in them.
 ghost use Rattle.std.specs.Prelude.{◌≡◌, ◌+◌, ◌/◌, ◌<◌, ◌≤◌, ◌++◌, [], ◌∷◌, ℕ, List, map, length, All, IfOk, IfErr, OnOk, slice_index_or};
-ghost use Rattle.lw_net.specs.Networks.{most_nets};
+ghost use Rattle.lw_pool.specs.Numbers.{most_signals};
 ghost use Rattle.lw_net.specs.Plain.{plain, plain_node};
 ghost use Rattle.lw_net.specs.Signs.{asked};
 ghost use Rattle.lw_laws.specs.Forms.{Form};
@@ -161,7 +161,7 @@ impl Occurring {
 
     // Lists true alone, with room for so many nets.
     fn start(alloc: Global, inputs: u32, nets: usize) -> Result<Self, FormFault>
-        requires { inputs ≤ most_nets }
+        requires { inputs ≤ most_signals }
         ensures listed { IfOk result (λ all. AreListed all.table all.listing.listed.items
             all.listing.places.items all.sops.items all.facs.items []) }
         ensures table { IfOk result (λ all. all.table ≡ record { inputs = inputs; keys = [] }) }
@@ -181,7 +181,7 @@ impl Occurring {
 
     // Adds the inputs.
     fn add_inputs(&mut self, alloc: Global, inputs: u32) -> Result<(), FormFault>
-        requires few { inputs ≤ most_nets }
+        requires few { inputs ≤ most_signals }
         requires table { self.old.table ≡ record { inputs = inputs; keys = [] } }
         requires listed { AreListed self.old.table self.old.listing.listed.items
             self.old.listing.places.items self.old.sops.items self.old.facs.items [] }

@@ -1,5 +1,5 @@
 ghost use Rattle.std.specs.Prelude.{◌≡◌, ◌+◌, ◌<◌, ◌≤◌, [], ◌∷◌, length, Some, slice_get, IfOk, IfNone, IfSome, OnOk};
-ghost use Rattle.lw_net.specs.Networks.{most_nets};
+ghost use Rattle.lw_pool.specs.Numbers.{most_signals};
 
 use crate::FormIds;
 use indexmap::IndexSet;
@@ -35,7 +35,7 @@ impl FormTable {
 
     // True and the inputs, with room for so many Ands.
     pub(crate) fn with_capacity(alloc: Global, inputs: u32, ands: usize) -> Result<Self, AllocError>
-        requires { inputs ≤ most_nets }
+        requires { inputs ≤ most_signals }
         ensures { IfOk result (λ table. table ≡ record { inputs = inputs; keys = [] }) }
     {
         let ands = IndexSet::with_capacity(alloc, ands)?;

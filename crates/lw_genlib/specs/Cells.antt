@@ -7,6 +7,7 @@ use Rattle.lw_fixed.specs.declared.micro.Micro.{Micro}
 use Rattle.lw_laws.specs.Expressions.{Expr, expr_value}
 use Rattle.lw_laws.specs.Networks.{given}
 use Rattle.lw_genlib.specs.Postfix.{literals, IsWide, IsOver, first_expr}
+use Rattle.lw_words.specs.Limits.{longest_word}
 
 pub record CellParts : Type 0 where
   pub name : List ℕ
@@ -50,7 +51,7 @@ IsWord most name = (0 < length name) × (length name ≤ most) × IsTrue (list_a
 
 -- bytes of a word, some or none
 abbrev pub IsPart : List ℕ → Type 0
-IsPart bytes = (length bytes ≤ 4095) × IsTrue (list_all is_word_byte bytes)
+IsPart bytes = (length bytes ≤ longest_word) × IsTrue (list_all is_word_byte bytes)
 
 -- a punctuation byte of functions: one of `( ) ! ' + * = & | ^ " ;`
 abbrev pub is_punct_byte : ℕ → Bool
@@ -79,7 +80,7 @@ form_count cell = length cell.forms
 -- what a library keeps of each cell
 pub record IsListed (cell : CellParts) : Type 0 where
   pub kept : IsCell cell
-  pub name : IsWord 4095 cell.name
+  pub name : IsWord longest_word cell.name
   pub area : IsSmall cell.area
   pub delays : All IsSmall cell.delays
   pub output : IsPinName cell.output

@@ -5,6 +5,7 @@ use Rattle.lw_fixed.specs.declared.micro.Micro.{Micro}
 use Rattle.lw_genlib.specs.declared.state_parts.Expect.{Expect}
 use Rattle.lw_genlib.specs.declared.state_parts.Expect.TheVariants as expect
 use Rattle.lw_genlib.specs.Cells.{CellParts, IsWord, IsSmall, form_count}
+use Rattle.lw_words.specs.Limits.{longest_word}
 
 -- there is room for one more entry
 abbrev pub HasRoom : List CellParts → Type 0
@@ -15,7 +16,7 @@ CanExpect (expect.Piece None) cells = ⊤
 CanExpect (expect.Piece (Some e)) cells = HasRoom cells
 CanExpect expect.Latch cells = ⊤
 CanExpect (expect.Name gate) cells = HasRoom cells
-CanExpect (expect.Area gate name) cells = HasRoom cells × IsWord 4095 name
+CanExpect (expect.Area gate name) cells = HasRoom cells × IsWord longest_word name
 CanExpect (expect.Function header text) cells = HasRoom cells
 CanExpect (expect.Pin e) cells = HasRoom cells
 CanExpect (expect.Field e pins field delay) cells = HasRoom cells × IsSmall delay
@@ -25,7 +26,7 @@ CanExpect (expect.Field e pins field delay) cells = HasRoom cells × IsSmall del
 one_room : (cells : List CellParts) → IsProp (HasRoom cells)
 one_room cells = hlevel props
 
-one_word : (cells : List CellParts) (name : List ℕ) → IsProp (HasRoom cells × IsWord 4095 name)
+one_word : (cells : List CellParts) (name : List ℕ) → IsProp (HasRoom cells × IsWord longest_word name)
 one_word cells name = hlevel props
 
 one_delay : (cells : List CellParts) (delay : Micro) → IsProp (HasRoom cells × IsSmall delay)

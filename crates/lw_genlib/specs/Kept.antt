@@ -10,6 +10,7 @@ use Rattle.lw_genlib.specs.Cells.{CellParts, IsWord, IsPinName, IsSmall, IsForm,
 use Rattle.lw_genlib.specs.Grammar.{is_punct, go_on, names_in}
 use Rattle.lw_genlib.specs.Functions.{pins_in}
 use Rattle.lw_genlib.specs.Spelled.{expression_of}
+use Rattle.lw_words.specs.Limits.{longest_word}
 
 -- a name in a function, of at most so many bytes, maybe one that ends in `\`
 abbrev pub IsRun : ℕ → List ℕ → Type 0
@@ -60,7 +61,7 @@ pub record AreCells (cells : List CellParts) (entries : ℕ) : Type 0 where
 
 -- an entry whose function is whole
 pub record IsEntry (name : List ℕ) (area : Micro) (tokens : List Token) (output : List ℕ) (pins : List (List ℕ)) (form : Expr) (named : List (Option Micro)) (every : Option Micro) : Type 0 where
-  pub word : IsWord 4095 name
+  pub word : IsWord longest_word name
   pub small : IsSmall area
   pub function : IsFunction tokens output pins form
   pub delays : AreDelays named every pins

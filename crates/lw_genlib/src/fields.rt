@@ -7,6 +7,7 @@ ghost use Rattle.lw_genlib.specs.Entries as words;
 ghost use Rattle.lw_genlib.specs.Libraries as library;
 ghost use Rattle.lw_genlib.specs.Streams.{on_line};
 ghost use Rattle.lw_genlib.specs.declared.fault.LibKind.TheVariants.{Expected};
+ghost use Rattle.lw_words.specs.Limits.{longest_word};
 
 use crate::{Field, LibFault, LibKind, Target};
 use lw_fixed::Micro;
@@ -16,10 +17,10 @@ const UNITS: u64 = 1_000_000;
 
 /// A cell's name without its quotes.
 pub(crate) fn cell_name(word: &[u8]) -> Option<&[u8]>
-    requires { IsWord 4095 word.now }
+    requires { IsWord longest_word word.now }
     ensures some { IfSome result (λ name. words.cell_name word.now ≡ Ok name.now) }
     ensures none { IfNone result (words.cell_name word.now ≡ Err Expected) }
-    ensures word { IfSome result (λ name. IsWord 4095 name.now) }
+    ensures word { IfSome result (λ name. IsWord longest_word name.now) }
 {
     match word {
         [b'"'] | [b'"', b'"'] => None,

@@ -9,6 +9,7 @@ ghost use Rattle.lw_genlib.specs.Spelled.{expression_of, inner_of};
 ghost use Rattle.lw_words.specs.Lines.{LogicalLine};
 ghost use Rattle.lw_genlib.specs.Cells.{CellParts, IsLibrary, IsWord};
 ghost use Rattle.lw_genlib.specs.Libraries.{library_of};
+ghost use Rattle.lw_words.specs.Limits.{longest_word};
 
 /// The text of a function in which no token has a fault is the output's name, `=`, tokens and `;`,
 /// and by the grammar those tokens spell the expression that is read from them, over the pins in
@@ -42,6 +43,6 @@ pub fn tokens_spell_one_expression()
 /// The cells that are read from lines of words are a library.
 pub fn read_cells_are_a_library()
     ensures { (lines : List LogicalLine) (cells : List CellParts) →
-        All (λ (line : LogicalLine). All (IsWord 4095) line.words) lines →
+        All (λ (line : LogicalLine). All (IsWord longest_word) line.words) lines →
         library_of lines ≡ Ok cells → IsLibrary cells }
 {}

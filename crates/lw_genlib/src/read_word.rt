@@ -7,6 +7,7 @@ ghost use Rattle.lw_genlib.specs.Libraries as library;
 ghost use Rattle.lw_genlib.specs.Expects.{HasRoom};
 ghost use Rattle.lw_genlib.specs.Standing.{resume, reads_on, BreaksAt, ReadsOn};
 ghost use Rattle.lw_genlib.specs.Fields.{fields_behind};
+ghost use Rattle.lw_words.specs.Limits.{longest_word};
 
 use crate::cells_so_far::end_entry;
 use crate::entry::{begin_entry, with_delay};
@@ -26,7 +27,7 @@ pub(crate) fn read_word(
     line: u32,
     word: &[u8],
 ) -> Result<ReaderState, LibFault>
-    requires word { IsWord 4095 word.now }
+    requires word { IsWord longest_word word.now }
     ensures { (rest : List StreamItem) → MatchResult result
         (λ new. resume state (word_on line word.now ∷ rest) ≡ resume new rest)
         (BreaksAt (resume state (word_on line word.now ∷ rest))) }
@@ -130,7 +131,7 @@ fn read_name(
     word: &[u8],
 ) -> Result<ReaderState, LibFault>
     requires room { HasRoom so_far.cells }
-    requires word { IsWord 4095 word.now }
+    requires word { IsWord longest_word word.now }
     ensures { (rest : List StreamItem) → ReadsOn
         (library.gate_on so_far gate (word_on line word.now ∷ rest)) result rest }
 {
@@ -153,7 +154,7 @@ fn read_area(
     word: &[u8],
 ) -> Result<ReaderState, LibFault>
     requires room { HasRoom so_far.cells }
-    requires name { IsWord 4095 name }
+    requires name { IsWord longest_word name }
     ensures { (rest : List StreamItem) → ReadsOn
         (library.opened_by so_far (words.behind_name gate name (word_on line word.now ∷ rest)))
         result rest }
@@ -180,7 +181,7 @@ fn read_function(
     word: &[u8],
 ) -> Result<ReaderState, LibFault>
     requires room { HasRoom so_far.cells }
-    requires word { IsWord 4095 word.now }
+    requires word { IsWord longest_word word.now }
     ensures { (rest : List StreamItem) → ReadsOn
         (library.opened_by so_far (words.behind_words header.line header.name header.area text
         (word_on line word.now ∷ rest))) result rest }

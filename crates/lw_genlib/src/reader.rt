@@ -6,6 +6,7 @@ ghost use Rattle.lw_genlib.specs.Streams.{StreamItem, word_on, text_end, items_o
 ghost use Rattle.lw_genlib.specs.Libraries.{library_by};
 ghost use Rattle.lw_genlib.specs.Tells.{TellsErr};
 ghost use Rattle.lw_genlib.specs.Standing.{resume, BreaksAt, HasNoHash};
+ghost use Rattle.lw_words.specs.Limits.{longest_word};
 
 use crate::cells_so_far::{end_entry, no_cells};
 use crate::read_word::read_word;
@@ -126,7 +127,7 @@ fn read_words(
     line: u32,
     words: &Words,
 ) -> Result<ReaderState, LibFault>
-    requires { All (IsWord 4095) words.now }
+    requires { All (IsWord longest_word) words.now }
     ensures { (rest : List StreamItem) → MatchResult result
         (λ new. resume begun (map (word_on line) words.now ++ rest) ≡ resume new rest)
         (BreaksAt (resume begun (map (word_on line) words.now ++ rest))) }

@@ -1,5 +1,6 @@
 // The parts of a reader's state.
 ghost use Rattle.lw_genlib.specs.Cells.{IsWord, IsSmall};
+ghost use Rattle.lw_words.specs.Limits.{longest_word};
 
 use crate::function::Function;
 use crate::{Cell, Field, Target, Token};
@@ -32,7 +33,7 @@ pub(crate) struct GateHeader {
     pub(crate) line: u32,
     pub(crate) name: Name,
     pub(crate) area: Micro,
-    ghost word: { IsWord 4095 name },
+    ghost word: { IsWord longest_word name },
     ghost small: { IsSmall area },
 }
 

@@ -8,6 +8,10 @@ use Rattle.lw_match.specs.declared.parts.Side.{Side}
 use Rattle.lw_match.specs.declared.parts.Part.{Part}
 use Rattle.lw_match.specs.declared.numbers.Numbers.{Numbers}
 
+-- how many numbers a table has at most that has a row for each class
+abbrev pub most_numbers : ℕ
+most_numbers = 67108864
+
 -- the number that says that a side stands nowhere: the greatest one
 abbrev pub never : ℕ
 never = 18446744073709551615

@@ -1,5 +1,6 @@
 ghost use Rattle.std.specs.Prelude.{◌≡◌, ◌<◌, ◌≤◌, ◌*◌, List, IfOk, IsTrue, IsFalse, length};
 ghost use Rattle.lw_laws.specs.Covers.{Pattern as TreeOfCell};
+ghost use Rattle.lw_match.specs.Numbers.{most_numbers};
 
 use crate::bare::bare_patterns;
 use crate::cuts::Cuts;
@@ -24,8 +25,8 @@ const MOST_NUMBERS: u32 = 67108864;
 // How many parts have numbers, given how many classes there are.
 fn room_for(classes: u32) -> u32
     requires { 0 < classes }
-    ensures room { result * classes ≤ 67108864 }
-    ensures few { result ≤ 67108864 }
+    ensures room { result * classes ≤ most_numbers }
+    ensures few { result ≤ most_numbers }
 {
     MOST_NUMBERS / classes
 }

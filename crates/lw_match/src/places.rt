@@ -1,6 +1,8 @@
 // The rules of parts, in groups by the lists in which the numbers of their sides stand.
 ghost use Rattle.std.specs.Prelude.{◌≡◌, ◌<◌, ◌≤◌, length, IfOk, IsTrue, IsFalse};
 ghost use Rattle.lw_match.specs.Places.{list_of, place_of, shift_of, rule_of, root_of, AreGrouped, AreListed, IsGroupOf};
+ghost use Rattle.lw_pattern.specs.Listed.{most_patterns};
+ghost use Rattle.lw_match.specs.Numbers.{most_numbers};
 
 use crate::parts::{Group, Kind, Part, Root, Rule, Side};
 use std::alloc::{AllocError, Global};
@@ -62,7 +64,7 @@ fn is_in(part: Part, left: u8, right: u8) -> bool
 
 // The rules of the parts whose sides have their numbers in two lists.
 fn group_of(alloc: Global, parts: &[Part], left: u8, right: u8) -> Result<Group, AllocError>
-    requires few { length parts.now ≤ 67108864 }
+    requires few { length parts.now ≤ most_numbers }
     ensures { IfOk result (λ group. IsGroupOf parts.now left right group) }
 {
     let mut rules = Vec::new(alloc);
@@ -77,7 +79,7 @@ fn group_of(alloc: Global, parts: &[Part], left: u8, right: u8) -> Result<Group,
 
 // The rules of all parts, in groups of which none is empty.
 pub(crate) fn groups_of(alloc: Global, parts: &[Part]) -> Result<Vec<Group>, AllocError>
-    requires few { length parts.now ≤ 67108864 }
+    requires few { length parts.now ≤ most_numbers }
     ensures { IfOk result (λ groups. AreGrouped parts.now groups.items) }
 {
     let mut groups = Vec::new(alloc);
@@ -103,7 +105,7 @@ fn root_of(number: u32, side: Side) -> Root
 
 // The roots, given the sides that they are, that have their numbers in a list.
 pub(crate) fn roots_in(alloc: Global, sides: &[Side], list: u8) -> Result<Vec<Root>, AllocError>
-    requires few { length sides.now ≤ 262144 }
+    requires few { length sides.now ≤ most_patterns }
     ensures { IfOk result (λ roots. AreListed sides.now list roots.items (length sides.now)) }
 {
     let mut roots = Vec::new(alloc);

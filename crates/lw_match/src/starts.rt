@@ -1,6 +1,6 @@
 // Where the row of each class starts in the numbers of a table.
 ghost use Rattle.std.specs.Prelude.{◌≡◌, ◌*◌, ◌≤◌, IfOk, length};
-ghost use Rattle.lw_match.specs.Numbers.{AreStarts};
+ghost use Rattle.lw_match.specs.Numbers.{AreStarts, most_numbers};
 ghost use Rattle.lw_match.specs.Bounds.{AreBare};
 
 use crate::numbers::NO_ROW;
@@ -17,7 +17,7 @@ pub(crate) struct Starts {
 
 /// Rows of a width, one for each class that has pairs.
 pub(crate) fn starts_of(alloc: Global, graph: &Graph, width: u32) -> Result<Starts, AllocError>
-    requires { width * length graph.now.pairs ≤ 67108864 }
+    requires { width * length graph.now.pairs ≤ most_numbers }
     ensures rows { IfOk result (λ s. AreStarts width s.starts.items s.size) }
     ensures bare { IfOk result (λ s. AreBare s.starts.items graph.now) }
 {

@@ -13,7 +13,7 @@ use Rattle.lw_net.specs.declared.draft.Draft.{Draft}
 use Rattle.lw_net.specs.declared.draft.DraftNode.{DraftNode}
 use Rattle.lw_net.specs.declared.node.Node.{Node}
 use Rattle.lw_net.specs.Closing.{IsDraft, signals_of, out_of, fanins_of, number_in, net_in, undefined_in, closed_node, network_in, greatest}
-use Rattle.lw_net.specs.Networks.{NetworkParts, IsNetwork, IsNodeAt, most_nets}
+use Rattle.lw_net.specs.Networks.{NetworkParts, IsNetwork, IsNodeAt}
 use Rattle.lw_net.specs.Plain.{plain_node, HasRisingDepths}
 use Rattle.lw_laws.specs.Networks as laws
 use Rattle.lw_laws.specs.Networks.{greatest_depth}
@@ -23,7 +23,7 @@ use Rattle.lw_dag.proofs.Sorting.{greatest-above}
 use Rattle.lw_dag.proofs.Numbering.{number_at, number_of, number_below, name_again, none_unknown, none_split, distinct_moved}
 use Rattle.lw_dag.proofs.Named.{fanins_known}
 use Rattle.lw_net.proofs.Paths.{bare}
-use Rattle.lw_pool.specs.Numbers.{net_number}
+use Rattle.lw_pool.specs.Numbers.{net_number, most_signals}
 
 -- each fan-in of each node is a signal
 abbrev HasSignals : List (List ℕ) → DraftNode → Type 0
@@ -45,7 +45,7 @@ module _ (draft : Draft) (depths : List ℕ) (order : List DraftNode) (is : IsDr
   pub ordered_distinct : IsDistinct bytes_eq names
   ordered_distinct = distinct_moved (signals_of draft) names names_moved is.signals
 
-  pub ordered_few : length names ≤ most_nets
+  pub ordered_few : length names ≤ most_signals
   ordered_few = omega (arith, length_permutation (signals_of draft) names names_moved, is.few)
 
   many : length names ≡ m + length order
@@ -135,8 +135,8 @@ module _ (draft : Draft) (depths given : List ℕ) (order nodes : List DraftNode
   pub of_order_distinct : IsDistinct bytes_eq (signals_of (with_nodes nodes))
   of_order_distinct = subst (λ ns. IsDistinct bytes_eq (signals_of (with_nodes ns))) (sym same) (ordered_distinct draft depths order is right moved rising)
 
-  pub of_order_few : length (signals_of (with_nodes nodes)) ≤ most_nets
-  of_order_few = subst (λ ns. length (signals_of (with_nodes ns)) ≤ most_nets) (sym same) (ordered_few draft depths order is right moved rising)
+  pub of_order_few : length (signals_of (with_nodes nodes)) ≤ most_signals
+  of_order_few = subst (λ ns. length (signals_of (with_nodes ns)) ≤ most_signals) (sym same) (ordered_few draft depths order is right moved rising)
 
   pub of_order_kept : IsNetwork (network_in (with_nodes nodes) nodes)
   of_order_kept = subst (λ ns. IsNetwork (network_in (with_nodes ns) ns)) (sym same) (ordered_network draft depths order is right moved rising)

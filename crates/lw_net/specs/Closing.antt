@@ -2,6 +2,7 @@
 use Rattle.std.specs.Prelude.{ℕ, ◌+◌, ◌<◌, ◌≤◌, ◌≡◌, ◌==◌, not, Option, Some, None, ⊤, List, ◌++◌, map, length, filter, find, slice_get, Contains, All}
 use Rattle.std.specs.List.{flat_map, range_with_len, IsDistinct}
 use Rattle.std.specs.Str.{bytes_eq}
+use Rattle.lw_pool.specs.Numbers.{most_signals}
 pub use Rattle.lw_dag.specs.Names.{is_among, number_in}
 pub use Rattle.lw_dag.specs.Ordering.{greatest}
 use Rattle.lw_pool.specs.declared.id.NetId.{NetId}
@@ -10,7 +11,7 @@ use Rattle.lw_net.specs.declared.draft.DraftNode.{DraftNode}
 use Rattle.lw_net.specs.declared.fault.NetFault.{NetFault}
 use Rattle.lw_net.specs.declared.fault.NetFault.TheVariants.{Undefined, Cycle, Memory}
 use Rattle.lw_net.specs.declared.node.Node.{Node}
-use Rattle.lw_net.specs.Networks.{NetworkParts, most_nets}
+use Rattle.lw_net.specs.Networks.{NetworkParts}
 
 abbrev pub out_of : DraftNode → List ℕ
 out_of node = node.out
@@ -27,7 +28,7 @@ pub record IsDraft (draft : Draft) : Type 0 where
   pub signals : IsDistinct bytes_eq (signals_of draft)
   pub outputs : IsDistinct bytes_eq draft.outputs
   pub columns : All (λ (node : DraftNode). All (λ (row : List ℕ). length row ≡ length node.fanins) node.rows) draft.nodes
-  pub few : length (signals_of draft) ≤ most_nets
+  pub few : length (signals_of draft) ≤ most_signals
 
 -- the first of some names that is none of the signals
 abbrev pub undefined_in : List (List ℕ) → List (List ℕ) → Option (List ℕ)

@@ -2,6 +2,7 @@
 use Rattle.std.specs.Prelude.{ℕ, ◌+◌, ◌<◌, ◌≤◌, ◌≡◌, List, [], Some, length, map, take, slice_get, slice_index_or, All}
 use Rattle.lw_pool.specs.declared.id.NetId.{NetId}
 use Rattle.lw_net.specs.declared.node.Node.{Node}
+use Rattle.lw_pool.specs.Numbers.{most_signals}
 
 -- Nets below `inputs` are the inputs; the nodes drive the nets after those, in order.
 pub record NetworkParts : Type 0 where
@@ -21,10 +22,6 @@ input_names net = take net.inputs net.names
 abbrev pub output_names : NetworkParts → List (List ℕ)
 output_names net = map (name_in net) net.outputs
 
--- how many nets there are at most
-abbrev pub most_nets : ℕ
-most_nets = 262144
-
 -- what holds of node j
 pub record IsNodeAt (inputs j : ℕ) (node : Node) : Type 0 where
   pub drives : node.out.0 ≡ inputs + j
@@ -34,6 +31,6 @@ pub record IsNodeAt (inputs j : ℕ) (node : Node) : Type 0 where
 -- what each network keeps
 pub record IsNetwork (net : NetworkParts) : Type 0 where
   pub named : length net.names ≡ net.inputs + length net.nodes
-  pub few : length net.names ≤ most_nets
+  pub few : length net.names ≤ most_signals
   pub nodes : (j : ℕ) (node : Node) → slice_get net.nodes j ≡ Some node → IsNodeAt net.inputs j node
   pub outputs : All (λ (net' : NetId). net'.0 < length net.names) net.outputs

@@ -3,7 +3,7 @@ ghost use Rattle.std.specs.Prelude.{◌≡◌, ◌-◌, ◌≤◌, ◌<◌, None
 ghost use Rattle.std.specs.List.{flat_map, IsDistinct};
 ghost use Rattle.std.specs.Str.{bytes_eq};
 ghost use Rattle.lw_net.specs.Closing.{IsDraft, HasFault, signals_of, fanins_of, undefined_in, first_undefined};
-ghost use Rattle.lw_net.specs.Networks.{most_nets};
+ghost use Rattle.lw_pool.specs.Numbers.{most_signals};
 ghost use Rattle.lw_net.specs.Numbered.{numbered};
 ghost use Rattle.lw_net.specs.Numbers.{draft_in, IsWritten, IsTable};
 ghost use Rattle.lw_net.specs.Ordering.{AreRight};
@@ -28,7 +28,7 @@ fn depths_of(alloc: Global, heights: &[u32]) -> Result<Vec<u32>, AllocError>
 pub(crate) fn table(alloc: Global, w: &Written) -> Result<Vec<u32>, AllocError>
     requires kept { IsWritten w.now }
     requires distinct { IsDistinct bytes_eq (signals_of (draft_in w.now)) }
-    requires few { length (signals_of (draft_in w.now)) ≤ most_nets }
+    requires few { length (signals_of (draft_in w.now)) ≤ most_signals }
     ensures { IfOk result (λ places. IsTable w.now places.items) }
 {
     let signals = signal_list(alloc, &w.inputs, &w.nodes)?;

@@ -34,7 +34,7 @@ impl Network {
     ghost use Rattle.std.specs.List.{IsDistinct};
     ghost use Rattle.std.specs.Str.{bytes_eq};
     ghost use Rattle.lw_net.specs.Closing.{IsDraft, IsClosed, HasFault, signals_of, network_in};
-    ghost use Rattle.lw_net.specs.Networks.{most_nets};
+    ghost use Rattle.lw_pool.specs.Numbers.{most_signals};
     ghost use Rattle.lw_net.specs.Numbers.{draft_in, IsWritten};
     ghost use Rattle.lw_laws.specs.Networks.{AreValues, IsInOrder, given};
     ghost use Rattle.lw_net.specs.Networks.{IsNetwork};
@@ -150,7 +150,7 @@ impl Network {
     fn of_ordered(alloc: Global, w: Written) -> Result<Network, AllocError>
         requires names { IsWritten w }
         requires distinct { IsDistinct bytes_eq (signals_of (draft_in w)) }
-        requires few { length (signals_of (draft_in w)) ≤ most_nets }
+        requires few { length (signals_of (draft_in w)) ≤ most_signals }
         requires kept { IsNetwork (network_in (draft_in w) (draft_in w).nodes) }
         ensures { IfOk result (λ net. net ≡ network_in (draft_in w) (draft_in w).nodes) }
     {

@@ -2,7 +2,7 @@
 ghost use Rattle.std.specs.Prelude.{◌≡◌, ◌+◌, ◌<◌, ◌≤◌, None, length, map, replicate, All, IfOk, IfSome, IfNone, IfErr, OnOk};
 ghost use Rattle.std.specs.List.{flat_map};
 ghost use Rattle.lw_net.specs.Closing.{signals_of, fanins_of, number_in, undefined_in};
-ghost use Rattle.lw_net.specs.Networks.{most_nets};
+ghost use Rattle.lw_pool.specs.Numbers.{most_signals};
 ghost use Rattle.lw_net.specs.Numbered.{TellsUndefined, numbered};
 ghost use Rattle.lw_net.specs.Numbers.{draft_in, IsTable};
 ghost use Rattle.lw_net.specs.Written.{name_at, names_in, place_at, ArePlaces};
@@ -27,7 +27,7 @@ fn empty(alloc: Global, count: usize) -> Result<Vec<u32>, AllocError>
 // The places of so many names among the signals.
 pub(crate) fn places(alloc: Global, count: usize, signals: &[u32]) -> Result<Vec<u32>, AllocError>
     requires within { All (λ n. n < count) signals.now }
-    requires few { length signals.now ≤ most_nets }
+    requires few { length signals.now ≤ most_signals }
     ensures { IfOk result (λ places. ArePlaces count (length signals.now) signals.now places.items) }
 {
     let mut places = empty(alloc, count)?;

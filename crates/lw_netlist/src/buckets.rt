@@ -56,13 +56,6 @@ pub(crate) fn place_in(
     None
 }
 
-/// No chain yet.
-pub(crate) fn zeros(alloc: Global, count: usize) -> Result<Vec<u32>, AllocError>
-    ensures { IfOk result (λ v. v.items ≡ replicate count 0) }
-{
-    vec![in alloc; 0; count]
-}
-
 /// The place of a name.
 pub(crate) fn find(names: &SpelledNames, heads: &[u32], next: &[u32], name: &[u8]) -> Option<usize>
     requires chains { AreChains (bucket_in (length heads.now)) (length heads.now) names.now

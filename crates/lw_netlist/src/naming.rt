@@ -6,7 +6,7 @@ ghost use Rattle.lw_dag.specs.Graphs.{most_signals};
 ghost use Rattle.lw_dag.specs.Names.{number_in};
 ghost use Rattle.lw_netlist.specs.Numbered.{TellsTwice, TellsUndriven, numbered};
 
-use crate::buckets::{link, zeros};
+use crate::buckets::link;
 use crate::signals::Signals;
 use crate::{GateDraft, NetlistFault, SpelledGate, SpelledNames, Wire};
 use lw_pool::{Name, Numbers};
@@ -52,8 +52,8 @@ pub(crate) fn numbers(alloc: Global, names: SpelledNames) -> Result<Signals, Net
     if names.len() >= u32::MAX as usize {
         return Err(NetlistFault::Memory);
     }
-    let mut heads = zeros(alloc, 2 * names.len() + 1)?;
-    let mut next = zeros(alloc, names.len())?;
+    let mut heads = vec![in alloc; 0; 2 * names.len() + 1]?;
+    let mut next = vec![in alloc; 0; names.len()]?;
     if let Some(place) = link(&names, &mut heads, &mut next) {
         let name = Name::from_slice(alloc, names.get(place))?;
         return Err(NetlistFault::Twice(name));

@@ -42,7 +42,7 @@ impl Signals {
     pub fn none(alloc: Global) -> Result<Self, AllocError>
         ensures { IfOk result (λ names. names ≡ []) }
     {
-        let heads = buckets::zeros(alloc, BUCKETS)?;
+        let heads = vec![in alloc; 0; BUCKETS]?;
         Ok(Signals::new(SpelledNames::new(alloc), heads, Vec::new(alloc)))
     }
 
@@ -141,7 +141,7 @@ fn make_room(names: &SpelledNames, heads: &mut Vec<u32>, next: &mut [u32]) -> Re
     if count < heads.len() {
         return Ok(());
     }
-    let mut longer = buckets::zeros(*heads.allocator(), 4 * count)?;
+    let mut longer = vec![in *heads.allocator(); 0; 4 * count]?;
     buckets::relink(names, &mut longer, next);
     *heads = longer;
     Ok(())

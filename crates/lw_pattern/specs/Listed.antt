@@ -23,6 +23,10 @@ IsNodeAt nodes place Zero = tree_at nodes place ≡ const_zero
 IsNodeAt nodes place (Inv p) = (p < place) × (tree_at nodes place ≡ inv (tree_at nodes p))
 IsNodeAt nodes place (Nand p q) = (p < place) × (q < place) × (tree_at nodes place ≡ nand (tree_at nodes p) (tree_at nodes q))
 
+-- how many patterns a library has at most
+abbrev pub most_patterns : ℕ
+most_patterns = 262144
+
 -- what is kept of the nodes of each pattern
 pub record IsKept (nodes : List PatNode) : Type 0 where
   pub some : 0 < length nodes
@@ -37,5 +41,5 @@ pub record IsKept (nodes : List PatNode) : Type 0 where
 
 -- what a list of patterns keeps
 pub record AreKept (items : List Pattern) : Type 0 where
-  pub few : length items ≤ 262144
+  pub few : length items ≤ most_patterns
   pub each : All (λ (p : Pattern). IsKept p.nodes) items

@@ -30,7 +30,7 @@ impl Model for Patterns {
 
     ghost coded = { coded_list pattern_code };
 
-    ghost use Rattle.lw_pattern.specs.Listed.{pattern_of, AreKept};
+    ghost use Rattle.lw_pattern.specs.Listed.{pattern_of, AreKept, most_patterns};
 
     ghost view = { λ l. map pattern_of l.items.items };
 
@@ -51,7 +51,7 @@ impl Patterns {
     /// The number of patterns.
     pub fn len(&self) -> u32
         ensures len { result ≡ length self.now }
-        ensures few { result ≤ 262144 }
+        ensures few { result ≤ most_patterns }
     {
         self.items.len() as u32
     }

@@ -6,6 +6,10 @@ use Rattle.lw_pool.specs.declared.id.NetId.{NetId}
 abbrev pub numbers : List ClassId → List ℕ
 numbers classes = map (λ (c : ClassId). c.0) classes
 
+-- how many signals a network has at most
+abbrev pub most_signals : ℕ
+most_signals = 262144
+
 abbrev pub net_number : NetId → ℕ
 net_number net = net.0
 

@@ -3,6 +3,7 @@ use Rattle.std.specs.Prelude.{ℕ, ◌-◌, ◌/◌, ◌%◌, ◌<◌, ◌≤◌
 use Rattle.lw_laws.specs.Drafts.{Draft as PlainDraft, FormLink, NandFact}
 use Rattle.lw_reduce.specs.declared.facts.Fact.{Fact}
 use Rattle.lw_reduce.specs.declared.facts.Link.{Link}
+use Rattle.lw_pool.specs.Numbers.{most_signals}
 
 abbrev pub plain_fact : Fact → NandFact
 plain_fact p = record { form = p.form; left = p.left; right = p.right }
@@ -39,7 +40,7 @@ pub record FitsLink (samples : List Bool) (l : FormLink) : Type 0 where
 -- what each draft keeps
 pub record IsDraft (d : PlainDraft) : Type 0 where
   pub inputs : d.inputs < length d.samples
-  pub few_inputs : d.inputs ≤ 262144
+  pub few_inputs : d.inputs ≤ most_signals
   pub few : length d.samples < 2 ^ 31
   pub few_nands : length d.nands < 2 ^ 32 - 1
   pub nands : All (FitsNand d.samples) d.nands

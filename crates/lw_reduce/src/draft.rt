@@ -1,5 +1,6 @@
 ghost use Rattle.std.specs.Prelude.{◌≡◌, ◌+◌, ◌-◌, ◌*◌, ◌<◌, ◌≤◌, ◌^◌, ◌++◌, [], ◌∷◌, true, false, not, ◌&&◌, length, replicate, ◌↔◌, IsTrue, IfOk, OnOk, OnErr};
 ghost use Rattle.lw_reduce.specs.Drafting.{IsDraft, IsKnown, sample_of};
+ghost use Rattle.lw_pool.specs.Numbers.{most_signals};
 
 use crate::facts::{Fact, Link};
 use lw_pool::FormId;
@@ -45,7 +46,7 @@ impl Draft {
     /// A draft of base form 0, with sample true, and one base form for each input, with sample
     /// false. Growth takes memory from `alloc`.
     pub fn new(alloc: Global, inputs: u32) -> Result<Draft, AllocError>
-        requires { inputs ≤ 262144 }
+        requires { inputs ≤ most_signals }
         ensures { IfOk result (λ d. d ≡
             record {
               inputs = inputs;

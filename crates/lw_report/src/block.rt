@@ -16,17 +16,6 @@ pub struct Block {
 // How many vectors a block has at most.
 const MOST: u32 = 64;
 
-// Words without a bit that is set.
-pub(crate) fn zeros(alloc: Global, n: usize) -> Result<Vec<u64>, AllocError>
-    ensures { IfOk result (λ words. words.items ≡ replicate n 0) }
-{
-    let mut words = Vec::with_capacity(alloc, n)?;
-    for _made in 0..n {
-        words.push(0)?;
-    }
-    Ok(words)
-}
-
 // The word with bit k set where the digit is `1`.
 fn marked(word: u64, digit: u8, k: u32) -> u64
     requires { k < 64 }
@@ -79,7 +68,7 @@ fn make_room(alloc: Global, blocks: &mut Vec<Block>, inputs: usize) -> Result<()
     if has_room(blocks) {
         return Ok(());
     }
-    let words = zeros(alloc, inputs)?;
+    let words = vec![in alloc; 0; inputs]?;
     blocks.push(Block { words, count: 0 })?;
     Ok(())
 }

@@ -12,7 +12,7 @@ ghost use Rattle.lw_report.specs.Texts.{Writes};
 ghost use Rattle.lw_report.specs.Vectors.{vector_of};
 
 use crate::Vectors;
-use crate::block::{Block, zeros};
+use crate::block::Block;
 use crate::gates::fill_gates;
 use crate::nodes::fill_nodes;
 use crate::outputs::{put_net_lines, put_port_lines};
@@ -34,7 +34,7 @@ impl Sim {
     pub fn of_network(alloc: Global, net: &Network) -> Result<Self, AllocError>
         ensures { IfOk result (λ sim. places_of sim ≡ length net.now.names) }
     {
-        let nets = zeros(alloc, net.names().len())?;
+        let nets = vec![in alloc; 0; net.names().len()]?;
         Ok(Sim { nets })
     }
 
@@ -42,7 +42,7 @@ impl Sim {
     pub fn of_netlist(alloc: Global, netlist: &Netlist) -> Result<Self, AllocError>
         ensures { IfOk result (λ sim. places_of sim ≡ length netlist.now.names) }
     {
-        let nets = zeros(alloc, netlist.names().len())?;
+        let nets = vec![in alloc; 0; netlist.names().len()]?;
         Ok(Sim { nets })
     }
 

@@ -41,17 +41,6 @@ impl Model for Timing {
     ghost view = { λ t. record { arrivals = map millionths t.arrivals.items; latest = t.latest.0; area = t.area.0; path = t.path.items } };
 }
 
-// Times of 0.
-fn zeros(alloc: Global, n: usize) -> Result<Vec<Micro>, AllocError>
-    ensures { IfOk result (λ times. vec_len times ≡ n) }
-{
-    let mut times = Vec::with_capacity(alloc, n)?;
-    for _made in 0..n {
-        times.push(Micro(0))?;
-    }
-    Ok(times)
-}
-
 // When the nets of a netlist arrive.
 fn arrivals_of(
     alloc: Global,
@@ -69,7 +58,7 @@ fn arrivals_of(
     ensures low { IfOk result (λ arrivals. All (λ net. net.0 < 2 ^ 63) arrivals.items) }
     ensures len { IfOk result (λ arrivals. vec_len arrivals ≡ length netlist.now.names) }
 {
-    let mut arrivals = zeros(alloc, netlist.names().len())?;
+    let mut arrivals = vec![in alloc; Micro(0); netlist.names().len()]?;
     netlist.arrivals(lib, starts, &mut arrivals);
     Ok(arrivals)
 }

@@ -31,13 +31,14 @@ use Rattle.lw_top.specs.Counts.{Counts, Draws}
 use Rattle.lw_top.specs.Tables.{Tabulates}
 use Rattle.lw_top.specs.Trades.{Trades}
 use Rattle.lw_top.specs.Verilogs.{SaysVerilog, SaysMapped}
+use Rattle.lw_words.specs.Limits.{most_bytes}
 
 -- Files.
 
 -- a file that is there, of at most 67,108,864 bytes
 abbrev pub within_limit : Which → Option (List ℕ) → Result (List ℕ) Refusal
 within_limit w None = Err (Unread w)
-within_limit w (Some bytes) = if nat_le (length bytes) 67108864 then Ok bytes else Err (TooLong w)
+within_limit w (Some bytes) = if nat_le (length bytes) most_bytes then Ok bytes else Err (TooLong w)
 
 -- the file is there, and it is not too long
 unfoldable pub text_of : Which → List ℕ → Files → Result (List ℕ) Refusal

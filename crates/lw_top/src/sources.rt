@@ -8,6 +8,7 @@ ghost use Rattle.lw_top.specs.declared.refusal.Which.TheVariants as which;
 ghost use Rattle.lw_top.specs.Answers.{HasCells, HasModel, HasMapped, HasVerilog, HasVectors, ReadsLibrary, ReadsModel, ReadsMapped, ReadsVerilog, ReadsVectors};
 ghost use Rattle.lw_top.specs.Reading.{Reads, Blames};
 ghost use Rattle.lw_top.specs.Named.{Comes, values_in, IsReadNetlist, AreReadVectors};
+ghost use Rattle.lw_words.specs.Limits.{most_bytes};
 
 use crate::reading::read_file;
 use crate::refusal::{Refusal, Which};
@@ -25,7 +26,7 @@ use std::alloc::Global;
 
 // The library of a text.
 fn library_in(alloc: Global, bytes: &[u8]) -> Result<Library, Refusal>
-    requires { length bytes.now ≤ 67108864 }
+    requires { length bytes.now ≤ most_bytes }
     ensures { Comes (λ cells. cells) (HasCells bytes.now) result }
 {
     let mut reader = LibReader::new(alloc);
@@ -56,7 +57,7 @@ pub(crate) fn read_library<F: Shelf>(
 
 // The model of a text.
 fn model_in(alloc: Global, bytes: &[u8]) -> Result<Parsed, Refusal>
-    requires { length bytes.now ≤ 67108864 }
+    requires { length bytes.now ≤ most_bytes }
     ensures comes { Comes (λ model. model) (HasModel bytes.now) result }
     ensures model { IfOk result IsModel }
 {
@@ -91,7 +92,7 @@ pub(crate) fn read_model<F: Shelf>(
 
 // The mapped netlist of a text.
 fn mapped_in(alloc: Global, library: &Library, bytes: &[u8]) -> Result<Mapped, Refusal>
-    requires { length bytes.now ≤ 67108864 }
+    requires { length bytes.now ≤ most_bytes }
     ensures comes { Comes (λ mapped. mapped) (HasMapped library.now bytes.now) result }
     ensures kept { IfOk result (IsReadNetlist library.now) }
 {
@@ -130,7 +131,7 @@ pub(crate) fn read_mapped<F: Shelf>(
 
 // The netlist of a text in Verilog.
 fn netlist_in(alloc: Global, library: &Library, bytes: Bytes) -> Result<Netlist, Refusal>
-    requires { length bytes ≤ 67108864 }
+    requires { length bytes ≤ most_bytes }
     ensures comes { Comes (λ netlist. netlist) (HasVerilog library.now bytes) result }
     ensures over { IfOk result (IsOver library.now) }
 {
@@ -167,7 +168,7 @@ pub(crate) fn read_netlist<F: Shelf>(
 
 // The vectors of a text.
 fn vectors_in(alloc: Global, inputs: u32, bytes: &[u8]) -> Result<Vectors, Refusal>
-    requires { length bytes.now ≤ 67108864 }
+    requires { length bytes.now ≤ most_bytes }
     ensures comes { Comes values_in (HasVectors inputs bytes.now) result }
     ensures kept { IfOk result (AreReadVectors inputs) }
 {

@@ -4,6 +4,7 @@ ghost use Rattle.lw_words.specs.Lines.{LogicalLine, logical_lines};
 ghost use Rattle.lw_words.specs.Standing.{is_finished, is_marked, fed_count};
 ghost use Rattle.lw_genlib.specs.Standing.{HasNoHash};
 ghost use Rattle.lw_top.specs.Texts.{IsGiven, IsGivenAll, IsGivenSome};
+ghost use Rattle.lw_words.specs.Limits.{most_bytes};
 
 use lw_blif::Reader;
 use lw_genlib::{LibReader, Library};
@@ -100,7 +101,7 @@ pub fn read_lines<C, R: TakesLines<C>>(
     over: &C,
     reader: &mut R,
 ) -> Result<(), AllocError>
-    requires few { length bytes.now ≤ 67108864 }
+    requires few { length bytes.now ≤ most_bytes }
     requires unread { R.given reader.old over.now [] }
     requires accepted { All R.accepts (logical_lines marked bytes.now) }
     ensures { OnOk result (R.given reader.new over.now (logical_lines marked bytes.now)) }

@@ -4,6 +4,7 @@ ghost use Rattle.lw_netlist.specs.Plain.{IsOver};
 ghost use Rattle.lw_verilog.specs.Keeping.{IsParsed, TellsParse, refused_at};
 ghost use Rattle.lw_verilog.specs.Tokens.{is_end, is_gap, last_line, line_feeds};
 ghost use Rattle.lw_verilog.specs.Verdicts.{IsRead};
+ghost use Rattle.lw_words.specs.Limits.{most_bytes};
 
 use crate::contents::Contents;
 use crate::pieces::first_piece;
@@ -41,7 +42,7 @@ fn line_behind(kind: Kind, line: u32, bytes: &[u8]) -> u32
 
 // The number of the last line.
 fn last_line(text: &[u8]) -> u32
-    requires { length text.now ≤ 67108864 }
+    requires { length text.now ≤ most_bytes }
     ensures { result ≡ last_line text.now }
 {
     1 + line_feeds(&text[..text.len().saturating_sub(1)])
@@ -49,7 +50,7 @@ fn last_line(text: &[u8]) -> u32
 
 // The line of a token.
 fn line_of(kind: Kind, line: u32, text: &[u8]) -> u32
-    requires { length text.now ≤ 67108864 }
+    requires { length text.now ≤ most_bytes }
     ensures { result ≡ (if is_end kind then last_line text.now else line) }
 {
     match kind {
@@ -77,7 +78,7 @@ fn behind(bytes: &[u8], count: usize) -> &[u8]
 
 // Reads a text up to the end of its module.
 fn parse(alloc: Global, text: &[u8], lib: &Library) -> Result<Contents, VerilogFault>
-    requires { length text.now ≤ 67108864 }
+    requires { length text.now ≤ most_bytes }
     ensures parsed { IfOk result (IsParsed lib.now text.now) }
     ensures fault { IfErr result (TellsParse lib.now text.now) }
 {
@@ -101,7 +102,7 @@ fn parse(alloc: Global, text: &[u8], lib: &Library) -> Result<Contents, VerilogF
 /// lines are counted from 1. All behind `endmodule` is ignored. The text has at most 67,108,864
 /// bytes.
 pub fn read_verilog(alloc: Global, bytes: &Bytes, lib: &Library) -> Result<Netlist, VerilogFault>
-    requires { length bytes.now ≤ 67108864 }
+    requires { length bytes.now ≤ most_bytes }
     ensures read { IsRead lib.now bytes.now result }
     ensures over { IfOk result (λ netlist. IsOver lib.now netlist) }
 {

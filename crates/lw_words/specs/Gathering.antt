@@ -3,6 +3,7 @@ use Rattle.std.specs.Prelude.{ℕ, ◌+◌, ◌≢◌, ◌≡◌, ◌<◌, ◌�
 use Rattle.std.specs.Str.{bytes_eq}
 use Rattle.lw_words.specs.Lines.{LogicalLine, is_blank, has_some}
 use Rattle.lw_words.specs.Arenas.{words_at, last_end, AreEnds}
+use Rattle.lw_words.specs.Limits.{longest_word}
 
 -- the words so far, and the word that is not ended yet, each cut to 4,095 bytes
 pub record Gathered : Type 0 where
@@ -19,7 +20,7 @@ mark_gathered = record { words = (35 ∷ 64 ∷ []) ∷ []; last = []; long = fa
 -- one more byte of the word
 abbrev pub with_byte : ℕ → Gathered → Gathered
 with_byte b g =
-    if nat_lt (length g.last) 4095 then record { words = g.words; last = g.last ++ b ∷ []; long = g.long }
+    if nat_lt (length g.last) longest_word then record { words = g.words; last = g.last ++ b ∷ []; long = g.long }
     else record { words = g.words; last = g.last; long = true }
 
 -- the word ends, if there is one
@@ -47,7 +48,7 @@ IsPlainByte b = (b ≢ 10) × IsNoHash b × (b ≢ 92)
 -- a word has 1 to 4,095 bytes, and among them no blank and no line feed
 pub record IsWord (word : List ℕ) : Type 0 where
   pub some : 0 < length word
-  pub few : length word ≤ 4095
+  pub few : length word ≤ longest_word
   pub ink : All IsInk word
 
 -- the words without a first word `#@`
@@ -67,7 +68,7 @@ pub record IsLine (words : List (List ℕ)) : Type 0 where
 pub record IsGathered (g : Gathered) : Type 0 where
   pub are_words : All IsWord g.words
   pub no_hash : HasNoHash g.words
-  pub few : length g.last ≤ 4095
+  pub few : length g.last ≤ longest_word
   pub ink : All IsInk g.last
   pub plain : All IsNoHash g.last
   pub cut : g.long ≡ true → 0 < length g.words + length g.last

@@ -1,5 +1,6 @@
 pub mod Arenas
 pub mod Gathering
+pub mod Limits
 pub mod Lines
 pub mod Reading
 pub mod Standing

@@ -1,6 +1,7 @@
 -- The logical lines of a whole text.
 use Rattle.std.specs.Prelude.{ℕ, ◌+◌, Bool, true, false, not, ◌&&◌, ◌||◌, ◌==◌, nat_lt, List, [], ◌∷◌, ◌++◌, length, map, take, drop, if◌then◌else◌, filter}
 use Rattle.std.specs.List.{slice_split, list_any}
+use Rattle.lw_words.specs.Limits.{longest_word}
 
 -- a logical line: its words are cut to 4,095 bytes each
 pub record LogicalLine : Type 0 where
@@ -104,7 +105,7 @@ texts_from ends marked begins number (line ∷ lines) =
     (texts_from ends marked (not (is_continued (text_of (marked && begins) line))) (number + 1) lines)
 
 abbrev pub is_long : List ℕ → Bool
-is_long word = nat_lt 4095 (length word)
+is_long word = nat_lt longest_word (length word)
 
 abbrev pub words_of : List ℕ → List (List ℕ)
 words_of bytes = filter has_some (slice_split is_blank bytes)
@@ -113,7 +114,7 @@ abbrev pub line_of : Text → LogicalLine
 line_of text = record {
   number = text.number;
   long = list_any is_long (words_of text.bytes);
-  words = map (take 4095) (words_of text.bytes);
+  words = map (take longest_word) (words_of text.bytes);
 }
 
 abbrev pub has_words : LogicalLine → Bool

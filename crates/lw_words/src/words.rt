@@ -2,6 +2,7 @@
 ghost use Rattle.std.specs.Prelude.{◌≡◌, ◌+◌, ◌<◌, ◌≤◌, length, slice_get, Some};
 ghost use Rattle.std.specs.List.{slice_range};
 ghost use Rattle.lw_words.specs.Arenas.{words_at, AreEnds, begin_of};
+ghost use Rattle.lw_words.specs.Limits.{longest_word};
 
 use smallvec::SmallVec;
 use std::marker::Model;
@@ -50,7 +51,7 @@ impl Words {
         requires { place < length self.now }
         ensures word { slice_get self.now place ≡ Some result.now }
         ensures some { 0 < length result.now }
-        ensures few { length result.now ≤ 4095 }
+        ensures few { length result.now ≤ longest_word }
     {
         word_at(&self.bytes, &self.ends, place)
     }
@@ -83,7 +84,7 @@ fn word_at<'a>(bytes: &'a [u8], ends: &[usize], place: usize) -> &'a [u8]
     requires place { place < length ends.now }
     ensures word { slice_get (words_at 0 bytes.now ends.now) place ≡ Some result.now }
     ensures some { 0 < length result.now }
-    ensures few { length result.now ≤ 4095 }
+    ensures few { length result.now ≤ longest_word }
 {
     let from = begin_at(ends, place);
     let end = ends[place];
