@@ -30,7 +30,7 @@ impl Model for Patterns {
 
     ghost coded = { coded_list pattern_code };
 
-    ghost use Rattle.lw_pattern.specs.Listed.{pattern_of, AreKept, most_patterns};
+    ghost use Rattle.lw_pattern.specs.Listed.{pattern_of, AreKept};
 
     ghost view = { λ l. map pattern_of l.items.items };
 
@@ -39,7 +39,7 @@ impl Model for Patterns {
 
 impl Patterns {
     ghost use Rattle.std.specs.Prelude.{◌≡◌, ◌<◌, ◌≤◌, Some, length, map, slice_get};
-    ghost use Rattle.lw_pattern.specs.Listed.{pattern_of, IsKept, AreKept};
+    ghost use Rattle.lw_pattern.specs.Listed.{pattern_of, most_patterns, IsKept, AreKept};
 
     pub(crate) fn new(items: Vec<Pattern>) -> Self
         requires { AreKept items.items }
