@@ -1,5 +1,5 @@
 -- The names of a model that was read are names of the format.
-use Rattle.std.proofs.Common.{ℕ, ◌≡◌, Bool, true, false, not, cond, if◌then◌else◌, List, [], ◌∷◌, ◌++◌, length, map, drop, Option, Some, None, Ok, All, refl, ap, sym, subst, arith}
+use Rattle.std.proofs.Common.{ℕ, ◌≡◌, Bool, true, false, not, cond, List, [], ◌∷◌, ◌++◌, length, map, drop, Option, Some, None, Ok, All, refl, ap, sym, subst, arith}
 use Rattle.std.specs.Prelude.{nat_le}
 use Rattle.std.specs.List.{list_all, flat_map, AllByRecursion as Each}
 use Rattle.std.proofs.lemmas.Bool.{and_parts}
@@ -19,7 +19,7 @@ use Rattle.lw_blif.specs.declared.command.Command.TheVariants.{Model, Inputs, Ou
 use Rattle.lw_blif.specs.declared.fault.BlifKind.{BlifKind}
 use Rattle.lw_blif.specs.declared.fault.BlifKind.TheVariants as kind
 use Rattle.lw_blif.specs.declared.parsed.Parsed.{Parsed}
-use Rattle.lw_blif.specs.LineFaults.{ends_on, FaultAt, other_words, command, names_for, wants_words, first_broken, name_rules, arrival_rules, start_rules, start_in, times_for, rules_for, node_before, rows_before, defined_by, line_fault, first_fault, goes_on, ends, lines_read}
+use Rattle.lw_blif.specs.LineFaults.{ends_on, FaultAt, other_words, command, names_for, wants_words, first_broken, name_rules, arrival_rules, start_rules, start_in, times_for, rules_for, node_before, rows_before, defined_by, line_fault, first_fault, ends, lines_read}
 use Rattle.lw_blif.specs.Drafts.{model_for, inputs_for, outputs_for, latches_for, latch_of, model_on, inputs_on, outputs_on, latches_on, draft_of, frame_on}
 use Rattle.lw_blif.specs.BlifNetworks.{IsModelOf, IsBlifNetwork, ComesTo}
 use Rattle.lw_blif.proofs.Appending.{fault_or_none}
@@ -28,7 +28,7 @@ use Rattle.lw_mapped.proofs.GoodWords.{right-word}
 use Rattle.lw_mapped.proofs.SaidNames.{control-named, model-or-unnamed, once-named}
 use Rattle.lw_top.specs.Answers.{lines_in}
 use Rattle.lw_top.proofs.WordLines.{lines_have_words}
-use Rattle.lw_words.specs.Words.{front, is_name, IsSignalName}
+use Rattle.lw_words.specs.Words.{is_name, IsSignalName}
 use Rattle.lw_frame.specs.Latches.{IsReadableLatch}
 use Rattle.lw_frame.proofs.Ending.{until-each}
 use Rattle.lw_frame.proofs.Each.{each-of, each-append, each-weaker}

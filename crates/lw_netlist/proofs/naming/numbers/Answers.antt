@@ -1,5 +1,5 @@
-use Rattle.std.proofs.Common.{◌≡◌, ◌+◌, ◌*◌, ℕ, length, ap, arith}
-use Rattle.std.proofs.lemmas.List.{length-replicate, take_at}
+use Rattle.std.proofs.Common.{◌≡◌, length, ap, arith}
+use Rattle.std.proofs.lemmas.List.{take_at}
 use Rattle.lw_netlist.proofs.Names.{once_distinct}
 use Rattle.lw_netlist.proofs.naming.numbers.Goals as goal
 
