@@ -1,11 +1,9 @@
 -- A draft is closed to one network, or has one fault.
-use Rattle.std.proofs.Common.{◌≡◌, ◌⊎◌, inl, inr, ℕ, zero, suc, ◌+◌, ◌<◌, ◌≤◌, ◌==◌, max, Bool, true, false, not, ◌||◌, cond, List, [], ◌∷◌, ◌++◌, map, filter, get_or, Option, Some, None, Result, Ok, Err, All, Contains, refl, sym, ap, ap₂, ◌∙◌, arith}
+use Rattle.std.proofs.Common.{◌≡◌, ◌⊎◌, inl, inr, ℕ, zero, suc, ◌+◌, ◌<◌, ◌≤◌, ◌==◌, max, Bool, true, false, not, cond, List, [], ◌∷◌, ◌++◌, map, filter, get_or, Option, Some, None, Result, Ok, Err, All, refl, sym, ap, ap₂, ◌∙◌, arith}
 use Rattle.std.specs.Prelude.{slice_get}
 use Rattle.std.specs.List.{AllByRecursion, flat_map, range_with_len}
-use Rattle.std.specs.Str.{bytes_eq}
 use Rattle.std.proofs.lemmas.Bool.{cases_lt}
 use Rattle.std.proofs.lemmas.List.Elements.{All-append, All-map, All-contains, All-from_recursion, recursion_from_All}
-use Rattle.std.proofs.lemmas.Slice.Eq.{bytes_eq-Decides}
 use Rattle.lw_net.specs.declared.draft.Draft.{Draft}
 use Rattle.lw_net.specs.declared.draft.DraftNode.{DraftNode}
 use Rattle.lw_net.specs.Networks.{NetworkParts}
@@ -23,6 +21,7 @@ use Rattle.lw_top.specs.declared.refusal.Refusal.{Refusal}
 use Rattle.lw_top.specs.declared.refusal.Refusal.TheVariants.{Network, Undefined, Cycle}
 use Rattle.lw_top.specs.Steps.{Files}
 use Rattle.lw_top.specs.Answers.{lines_in, HasModel}
+use Rattle.lw_dag.proofs.Numbering.{among_contains}
 
 -- Names that are driven
 
@@ -47,14 +46,6 @@ fanins_among signals (node ∷ nodes) all =
     let parts = all_parts (λ name. is_among signals name ≡ true) node.fanins (flat_map fanins_of nodes) all in
     (parts.0, fanins_among signals nodes parts.1)
 
-pub contains_among : (names : List (List ℕ)) (name : List ℕ) → is_among names name ≡ true → Contains names name
-contains_among [] name e = cc
-contains_among (other ∷ names) name e = by_test (bytes_eq name other) refl e (contains_among names name)
-  where
-    by_test : (b : Bool) → bytes_eq name other ≡ b → (b || is_among names name) ≡ true → (is_among names name ≡ true → Contains names name) → Contains (other ∷ names) name
-    by_test true is e rest = (0, omega arith, sym ((bytes_eq-Decides name other).0 is))
-    by_test false is e rest = let (k, lt, here) = rest e in (suc k, omega arith, here)
-
 -- each fan-in is a signal
 pub driven : (draft : Draft) → first_undefined draft ≡ None → All (λ (node : DraftNode). AreAmong (signals_of draft) node.fanins) draft.nodes
 driven draft defined =
@@ -73,7 +64,7 @@ module _ (draft : Draft) (depth other : List ℕ → ℕ) (depths : AreSignalDep
   same_fanins n [] all among le = refl
   same_fanins n (name ∷ names) all among le =
       ap₂ (λ x xs. x ∷ xs)
-      (All-contains (Agree n) (signals_of draft) name all (contains_among (signals_of draft) name among.0) (omega arith))
+      (All-contains (Agree n) (signals_of draft) name all (among_contains (signals_of draft) name among.0) (omega arith))
       (same_fanins n names all among.1 (omega arith))
 
   signals_agree : (n : ℕ) → All (λ (node : DraftNode). Agree n node.out) draft.nodes → All (Agree n) (signals_of draft)

@@ -45,7 +45,6 @@ use Rattle.lw_mapped.specs.declared.certificate.Certificate.{Certificate}
 use Rattle.lw_mapped.specs.Parsed.{IsLabel}
 use Rattle.lw_mapped.specs.Readable.{IsReadable, IsReadableCertificate, read_of}
 use Rattle.lw_mapped.specs.Standing.{AreLabels}
-use Rattle.lw_mapped.proofs.WrittenLines.{each-of}
 use Rattle.lw_check.specs.declared.verdict.Verdict.TheVariants as verdict
 use Rattle.lw_check.specs.Claims.{Claim}
 use Rattle.lw_check.specs.Mappings.{IsKept, IsMappingOf, IsOverGraph}
@@ -69,6 +68,7 @@ use Rattle.lw_pool.specs.Numbers.{numbers}
 use Rattle.lw_net.specs.Ports.{output_port, ports_of}
 use Rattle.lw_pool.specs.Numbers.{net_number}
 use Rattle.lw_assoc.proofs.Built.{pairs_bound}
+use Rattle.lw_frame.proofs.Each.{each-of}
 
 -- Lists beside each other.
 

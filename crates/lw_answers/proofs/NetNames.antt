@@ -4,9 +4,9 @@ use Rattle.std.specs.List.{AllByRecursion as Each}
 use Rattle.std.proofs.lemmas.List.Elements.{All-from_recursion}
 use Rattle.lw_laws.specs.Names.{free_names, output_name, gate_names, net_names}
 use Rattle.lw_naming.proofs.FreeNames.{enough_free}
-use Rattle.lw_mapped.proofs.WrittenLines.{each-append}
 use Rattle.lw_words.specs.Words.{IsSignalName}
 use Rattle.lw_lut.proofs.GivenNames.{free_each}
+use Rattle.lw_frame.proofs.Each.{each-append}
 
 -- Names of gates.
 

@@ -11,5 +11,4 @@ pub mod RowsBehind
 pub mod Sound
 pub mod StandingFor
 pub mod WordLists
-pub mod Early
 pub mod Models

@@ -8,8 +8,7 @@ use Rattle.lw_fixed.specs.declared.fault.DecimalFault.{DecimalFault}
 use Rattle.lw_net.specs.Closing.{IsDraft}
 use Rattle.lw_net.specs.Networks.{NetworkParts, IsNetwork}
 use Rattle.lw_net.proofs.Closed.{closed_kept, closed_distinct, closed_inputs, closed_outputs}
-use Rattle.lw_frame.specs.Starts.{Arrival, IsEarly}
-use Rattle.lw_frame.specs.Frames as frames
+use Rattle.lw_frame.specs.Starts.{IsEarly}
 use Rattle.lw_frame.proofs.Fitting.{frame_fits, starts_fit}
 use Rattle.lw_blif.specs.declared.command.Command.{Command}
 use Rattle.lw_blif.specs.declared.command.Command.TheVariants as asks
@@ -20,7 +19,7 @@ use Rattle.lw_blif.specs.Drafts.{draft_of, frame_on, starts_on, inputs_on, outpu
 use Rattle.lw_blif.specs.BlifNetworks.{IsModelOf, IsModel, IsBlifNetwork, ComesTo}
 use Rattle.lw_blif.specs.Keeping.{SaidFits}
 use Rattle.lw_blif.proofs.Closing.{model-fits}
-use Rattle.lw_blif.proofs.Early.{AreEarly, joined_early, said_early, starts_early}
+use Rattle.lw_frame.proofs.Early.{AreEarly, joined_early, said_early, starts_early}
 use Rattle.lw_blif.proofs.Sound.{lines-draft}
 use Rattle.lw_words.specs.Words.{first_word}
 

@@ -8,12 +8,13 @@ use Rattle.lw_blif.specs.declared.reader.Stop.{Stop}
 use Rattle.lw_blif.specs.declared.reader.Stop.TheVariants as stop
 use Rattle.lw_blif.specs.declared.parts.Parts.{Parts}
 use Rattle.lw_blif.specs.declared.fault.BlifKind.{BlifKind}
-use Rattle.lw_blif.specs.LineFaults.{FaultAt, fault_or, line_fault, first_fault, lines_read, has_ended, is_first, ends, command}
+use Rattle.lw_blif.specs.LineFaults.{ends_on, FaultAt, fault_or, line_fault, first_fault, lines_read, has_ended, ends, command}
 use Rattle.lw_blif.specs.Keeping.{Keeps, IsOfSome}
 use Rattle.lw_blif.specs.Given.{IsKept, IsKeptOfSome, Stops}
 use Rattle.lw_blif.specs.Standing.{Tells, fault_of}
-use Rattle.lw_blif.proofs.Appending.{lines_read-all, has_ended-more, lines_read-ended, lines_read-end}
-use Rattle.lw_blif.proofs.Given.{first-more, ended-stays, ended-some, stops-stay, read-next}
+use Rattle.lw_blif.proofs.Given.{stops-stay, read-next}
+use Rattle.lw_frame.specs.Ending.{has_end, is_first, lines_until}
+use Rattle.lw_frame.proofs.Ending.{end-more, end-some, end-stays, first-more, until-all, until-end, until-ended}
 
 -- Behind a fault.
 
@@ -50,16 +51,16 @@ none-stops o first e none = subst (λ (p : Option Stop). Stops p first) (sym e) 
 
 pub answer-ended : (begun ended : Bool) (o : Option Stop) (parts : Parts) (lines : List LogicalLine) (line : LogicalLine) → o ≡ None → ended ≡ true → IsKept begun ended o parts lines → first_fault [] (lines_read (lines ++ line ∷ [])) ≡ None
 answer-ended begun ended o parts lines line e is h =
-    ap (first_fault []) (lines_read-ended lines (line ∷ []) (sym (h.ended e) ∙ is)) ∙ no_fault begun ended o parts lines e h
+    ap (first_fault []) (until-ended ends_on lines (line ∷ []) (sym (h.ended e) ∙ is)) ∙ no_fault begun ended o parts lines e h
 
 pub stands-ended : (begun ended : Bool) (o : Option Stop) (parts : Parts) (lines : List LogicalLine) (line : LogicalLine) → o ≡ None → ended ≡ true → IsKept begun ended o parts lines → IsKept begun ended o parts (lines ++ line ∷ [])
 stands-ended begun ended o parts lines line e is h =
     let has = sym (h.ended e) ∙ is in
     record {
       stop = none-stops o _ e (answer-ended begun ended o parts lines line e is h);
-      begun = λ none. h.begun e ∙ (ap not (ended-some lines has) ∙ sym (ap not (first-more lines line)));
-      ended = λ none. is ∙ sym (ended-stays lines line has);
-      kept = λ none. subst (λ (ls : List LogicalLine). Keeps parts ls) (sym (lines_read-ended lines (line ∷ []) has)) (h.kept e);
+      begun = λ none. h.begun e ∙ (ap not (end-some ends_on lines has) ∙ sym (ap not (first-more lines line)));
+      ended = λ none. is ∙ sym (end-stays ends_on lines line has);
+      kept = λ none. subst (λ (ls : List LogicalLine). Keeps parts ls) (sym (until-ended ends_on lines (line ∷ []) has)) (h.kept e);
     }
 
 -- Lines that have not ended.
@@ -77,15 +78,15 @@ is-open begun ended o parts lines e is h =
       still = still;
       first = ap not (h.begun e) ∙ not-not (is_first lines);
       none = no_fault begun ended o parts lines e h;
-      kept = subst (λ (ls : List LogicalLine). Keeps parts ls) (lines_read-all lines still) (h.kept e);
+      kept = subst (λ (ls : List LogicalLine). Keeps parts ls) (until-all ends_on lines still) (h.kept e);
     }
 
 -- The line ends the reading.
 
 pub answer-end : (begun : Bool) (parts : Parts) (lines : List LogicalLine) (line : LogicalLine) → ends (not begun) (command line) ≡ true → IsOpen begun parts lines → first_fault [] (lines_read (lines ++ line ∷ [])) ≡ None
 answer-end begun parts lines line e o =
-    ap (first_fault []) (lines_read-end lines line o.still (ap (λ b. ends b (command line)) (sym o.first) ∙ e))
-    ∙ (ap (first_fault []) (sym (lines_read-all lines o.still)) ∙ o.none)
+    ap (first_fault []) (until-end ends_on lines line o.still (ap (λ b. ends b (command line)) (sym o.first) ∙ e))
+    ∙ (ap (first_fault []) (sym (until-all ends_on lines o.still)) ∙ o.none)
 
 pub stands-end : (begun : Bool) (parts : Parts) (s : Option Stop) (lines : List LogicalLine) (line : LogicalLine) → s ≡ None → ends (not begun) (command line) ≡ true → IsOpen begun parts lines → IsKept true true s parts (lines ++ line ∷ [])
 stands-end begun parts s lines line none e o =
@@ -93,8 +94,8 @@ stands-end begun parts s lines line none e o =
     record {
       stop = none-stops s _ none (answer-end begun parts lines line e o);
       begun = λ n. sym (ap not (first-more lines line));
-      ended = λ n. sym (has_ended-more lines line o.still ∙ goes);
-      kept = λ n. subst (λ (ls : List LogicalLine). Keeps parts ls) (sym (lines_read-end lines line o.still goes)) o.kept;
+      ended = λ n. sym (end-more ends_on lines line o.still ∙ goes);
+      kept = λ n. subst (λ (ls : List LogicalLine). Keeps parts ls) (sym (until-end ends_on lines line o.still goes)) o.kept;
     }
 
 -- The line is read.
@@ -107,8 +108,8 @@ pub stands-read : (begun ended : Bool) (parts new : Parts) (s : Option Stop) (li
     Keeps new (lines ++ line ∷ []) → IsKept true ended s new (lines ++ line ∷ [])
 stands-read begun ended parts new s lines line none is_ended e o is keeps =
     let goes = ap (λ b. ends b (command line)) (sym o.first) ∙ e in
-    let still = has_ended-more lines line o.still ∙ goes in
-    let whole = lines_read-all (lines ++ line ∷ []) still in
+    let still = end-more ends_on lines line o.still ∙ goes in
+    let whole = until-all ends_on (lines ++ line ∷ []) still in
     let answer = answer-read begun parts lines line None e o is in
     record {
       stop = none-stops s _ none answer;
@@ -124,15 +125,15 @@ stands-broken begun ended parts new lines line kind number same e o is =
     (answer-read begun parts lines line (Some kind) e o is ∙ ap (λ n. Some (record { number = n; kind = kind })) (sym same))
 
 none-first : first_fault [] (lines_read []) ≡ None
-unfolding first_fault lines_read
+unfolding first_fault lines_until
 none-first = refl
 
 none-ended : has_ended [] ≡ false
-unfolding has_ended
+unfolding has_end
 none-ended = refl
 
 none-read : lines_read [] ≡ []
-unfolding lines_read
+unfolding lines_until
 none-read = refl
 
 pub stands-new : (parts : Parts) → Keeps parts [] → IsKept false false None parts []

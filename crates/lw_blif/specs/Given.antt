@@ -4,8 +4,9 @@ use Rattle.lw_words.specs.Lines.{LogicalLine}
 use Rattle.lw_blif.specs.declared.reader.Stop.{Stop}
 use Rattle.lw_blif.specs.declared.reader.Stop.TheVariants as why
 use Rattle.lw_blif.specs.declared.parts.Parts.{Parts}
-use Rattle.lw_blif.specs.LineFaults.{FaultAt, first_fault, lines_read, has_ended, is_first}
+use Rattle.lw_blif.specs.LineFaults.{FaultAt, first_fault, lines_read, has_ended}
 use Rattle.lw_blif.specs.Keeping.{Keeps}
+use Rattle.lw_frame.specs.Ending.{is_first}
 
 -- The reader stopped at this first fault. Want of memory is free.
 abbrev pub Stops : Option Stop → Option FaultAt → Type 0

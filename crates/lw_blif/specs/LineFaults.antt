@@ -12,6 +12,7 @@ use Rattle.lw_fixed.specs.declared.micro.Micro.{Micro}
 use Rattle.lw_fixed.specs.declared.fault.DecimalFault.{DecimalFault}
 use Rattle.lw_fixed.specs.declared.fault.DecimalFault.TheVariants.{Shape}
 use Rattle.lw_frame.specs.Starts.{start_said}
+use Rattle.lw_frame.specs.Ending.{lines_until, has_end}
 use Rattle.lw_words.specs.Words.{is_among, first_word, front, is_name}
 use Rattle.lw_pool.specs.Numbers.{most_signals}
 
@@ -70,10 +71,12 @@ ends first other = false
 abbrev pub goes_on : LogicalLine → Bool
 goes_on line = not (ends false (command line))
 
+abbrev pub ends_on : Bool → LogicalLine → Bool
+ends_on first line = ends first (command line)
+
 -- the lines that are read
-unfoldable pub lines_read : List LogicalLine → List LogicalLine
-lines_read [] = []
-lines_read (line ∷ lines) = if ends true (command line) then [] else line ∷ front goes_on lines
+abbrev pub lines_read : List LogicalLine → List LogicalLine
+lines_read lines = lines_until ends_on lines
 
 -- Names and signals.
 
@@ -222,11 +225,5 @@ first_fault before [] = None
 first_fault before (line ∷ lines) = fault_or line.number (line_fault before line) (first_fault (before ++ line ∷ []) lines)
 
 -- a line of these ends the reading
-unfoldable pub has_ended : List LogicalLine → Bool
-has_ended [] = false
-has_ended (line ∷ lines) = ends true (command line) || list_any (λ other. ends false (command other)) lines
-
--- no line was read
-abbrev pub is_first : List LogicalLine → Bool
-is_first [] = true
-is_first (line ∷ lines) = false
+abbrev pub has_ended : List LogicalLine → Bool
+has_ended lines = has_end ends_on lines

@@ -29,6 +29,7 @@ use Rattle.lw_lut.specs.Covers.TableCovers.{no_covers, cover}
 use Rattle.lw_lut.specs.Searches.{depth_in, IsKnown, AreDepthsUpTo, IsBoundedAt, count_at}
 use Rattle.lw_pool.specs.Numbers.{numbers}
 use Rattle.lw_laws.proofs.Shared.{pair_within}
+use Rattle.lw_lut.proofs.TableValues.{long}
 
 -- Each tree has a cover by tables of at most two pins.
 
@@ -153,10 +154,6 @@ cut_cover g most d depths up c b cut is few known =
     let n : length (trees_of ks) ≡ length cut.pins = length-UnfoldAt g (trees_of ks) (numbers cut.pins) us ∙ long cut.pins in
     let once : HasPinsOnce (length (trees_of ks)) is.tree = subst₂ (λ m xs. IsPermutation (range_with_len 0 m) xs) (sym n) (sym is.pins) (IsPermutation-refl (range_with_len 0 (length cut.pins))) in
     (table is.tree ks, (omega (arith, n, few), once, are), planted_unfolds g is.tree (trees_of ks) (numbers cut.pins) c us is.stands, omega (arith, les))
-  where
-    long : (xs : List ClassId) → length (numbers xs) ≡ length xs
-    long [] = refl
-    long (x ∷ xs) = ap suc (long xs)
 
 module _ (g : Graph) (most d : ℕ) (is : IsGraph g) (old new : Search) (lists : AreCounts g most (suc d) old) (bounded : AreBounded g old.counts.items) (up : AreDepthsUpTo g most old.depths.items d) (changed : Bool) (settled : AreSettled most (suc d) old new (length old.counts.items) changed) where
   known_low : (c : ℕ) → IsKnown old.depths.items c → count_at old.counts.items c ≤ 1

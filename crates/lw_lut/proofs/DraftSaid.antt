@@ -21,8 +21,9 @@ use Rattle.lw_lut.specs.Said.{draft_said, table_node, wire_nodes}
 use Rattle.lw_lut.proofs.LineKinds.{asks_for, asks_model, asks_inputs, asks_outputs, asks_latch, asks_end, IsOfNode, OfNode, lines_of_node, Inner, inner_goes, inner_kept, inner_are}
 use Rattle.lw_lut.proofs.NodesSaid.{IsKeptLine, nodes_in, nodes_kept, skip_line, nodes_said}
 use Rattle.lw_lut.proofs.TextLines.{Words, latch_words, node_lines, model_words, inputs_words, outputs_words, inner_lines, end_words, lines_said}
-use Rattle.lw_lut.proofs.WordLines.{numbered}
+use Rattle.lw_frame.proofs.WrittenLines.{numbered}
 use Rattle.lw_words.specs.Words.{first_word, front}
+use Rattle.lw_frame.specs.Ending.{lines_until}
 
 -- Lines that are read.
 
@@ -37,7 +38,7 @@ front_inner number (words ∷ lines) each =
     ∙ ap (λ ls. record { number = number; long = false; words = words } ∷ ls) (front_inner (number + 1) lines each.1)
 
 pub lines_are_read : (n : PlainTableNet) (frame : Frame) → lines_read (numbered 1 (lines_said n frame)) ≡ numbered 1 (body n frame)
-unfolding lines_read
+unfolding lines_until
 lines_are_read n frame =
     let first : LogicalLine = record { number = 1; long = false; words = model_words n } in
     ap (λ c. cond (ends true c) [] (first ∷ front goes_on (numbered 2 (inner_lines n frame ++ end_words ∷ [])))) asks_model

@@ -24,10 +24,7 @@ distinct_parts (x ∷ xs) ys d =
     (rest, λ name a b. first name a b (apart name))
   where
     clash : (y : Name) → bytes_eq x y ≡ false → x ≡ y → ⊥
-    clash y ne e = refuted (bytes_eq x y) (bytes_eq_same x y e) ne
-      where
-        refuted : (b : Bool) → b ≡ true → b ≡ false → ⊥
-        refuted b e f = cc
+    clash y ne e = let both : true ≡ false = sym (bytes_eq_same x y e) ∙ ne in cc
 
     first : (name : Name) → Contains (x ∷ xs) name → Contains ys name → (Contains xs name → Contains ys name → ⊥) → ⊥
     first name (zero, lt, e) b apart = clash name (all_contains (λ y. bytes_eq x y ≡ false) (xs ++ ys) name d.0 (in_right xs ys name b)) e

@@ -26,7 +26,7 @@ use Rattle.lw_lut.proofs.NodesSaid.{last_one, before_last}
 use Rattle.lw_lut.proofs.SayableNames.{IsFairTable, wire_outputs, names_pass, tables_fair, roots_named, own_inputs, own_outputs, outs, all_differ}
 use Rattle.lw_lut.proofs.TextLines.{Words, row_lines, table_head, table_lines, wire_head, wire_row, wire_lines, latch_words, node_lines, model_words, inputs_words, outputs_words, inner_lines}
 use Rattle.lw_lut.proofs.Unlimited.{IsNameLine, AreFine, fine_line, fine_node, fine_none, fine_all}
-use Rattle.lw_lut.proofs.WordLines.{numbered}
+use Rattle.lw_frame.proofs.WrittenLines.{numbered}
 use Rattle.lw_words.specs.Words.{is_among, IsSignalName}
 use Rattle.lw_frame.specs.Latches.{IsReadableLatch}
 

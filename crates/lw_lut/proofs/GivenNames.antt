@@ -1,42 +1,25 @@
 -- The names that tables get are names of the format where those of the inputs and outputs are.
-use Rattle.std.proofs.Common.{ℕ, zero, suc, ◌+◌, ◌^◌, ◌<◌, ◌≤◌, ◌≡◌, ◌==◌, Bool, true, false, not, ◌&&◌, if◌then◌else◌, List, [], ◌∷◌, length, Option, Some, None, refl, ap₂, ◌∙◌, subst, arith, rules}
+use Rattle.std.proofs.Common.{ℕ, zero, suc, ◌+◌, ◌^◌, ◌<◌, ◌≤◌, ◌≡◌, ◌==◌, Bool, true, false, not, ◌&&◌, if◌then◌else◌, List, [], ◌∷◌, length, Option, Some, None, refl, ap₂, ◌∙◌, subst, arith}
 use Rattle.std.specs.Prelude.{nat_le}
-use Rattle.std.specs.Char.{is_ascii_digit}
 use Rattle.std.specs.Fmt.{decimal}
-use Rattle.std.specs.List.{list_all, AllByRecursion as Each}
-use Rattle.std.specs.Str.Parse.{digits_value}
-use Rattle.std.proofs.lemmas.Bool.{and_parts}
+use Rattle.std.specs.List.{AllByRecursion as Each}
 use Rattle.std.proofs.lemmas.Bool.Decides.{nat_tests}
 use Rattle.std.proofs.lemmas.Fmt.{length-decimal-le, digits_decimal}
 use Rattle.std.proofs.lemmas.List.Elements.{All-filter, All-from_recursion, recursion_from_All}
-use Rattle.std.proofs.lemmas.Str.Parse.{IsNumeralModel, numerals_by_value}
 use Rattle.lw_facts.proofs.Tests.{no_stroke_at_end}
 use Rattle.lw_words.specs.Gathering.{IsInk, IsNoHash}
 use Rattle.lw_laws.specs.Names.{is_name_among, numbered_name, numbered_names, free_names, output_name, gate_names}
 use Rattle.lw_laws.proofs.Heights.{all_weaker}
 use Rattle.lw_naming.proofs.FreeNames.{enough_free}
-use Rattle.lw_lut.proofs.WrittenWords.{IsGood, is_good, good_bytes, ends_stroke, stroke_behind}
+use Rattle.lw_frame.proofs.GoodWords.{IsGood, good-bytes, digits-good, numerals, ends_stroke, stroke-behind}
 use Rattle.lw_words.specs.Words.{IsSignalName}
 
 -- Numbered names.
 
-abbrev Digits : List ℕ → Type 0
-Digits ds = list_all is_ascii_digit ds ≡ true
-
-model : IsNumeralModel Digits (digits_value 10)
-model = numerals_by_value _ (search rules)
-
-digit_good : (d : ℕ) → is_ascii_digit d ≡ true → is_good d ≡ true
-digit_good d e = grind (arith, nat_tests)
-
-digits_good : (ds : List ℕ) → Digits ds → list_all is_good ds ≡ true
-digits_good [] e = refl
-digits_good (d ∷ ds) e = let parts = and_parts (is_ascii_digit d) (list_all is_ascii_digit ds) e in ap₂ (λ a b. a && b) (digit_good d parts.0) (digits_good ds parts.1)
-
 no_stroke : (word : List ℕ) → 0 < length word → Each IsGood word → ends_stroke word ≡ false
 no_stroke [] some each = absurd (omega arith)
 no_stroke (b ∷ []) some each = no_stroke_at_end b each.0.2
-no_stroke (b ∷ c ∷ word) some each = stroke_behind b c word ∙ no_stroke (c ∷ word) (omega arith) each.1
+no_stroke (b ∷ c ∷ word) some each = stroke-behind b c word ∙ no_stroke (c ∷ word) (omega arith) each.1
 
 good_name : (word : List ℕ) → 0 < length word → length word ≤ 2000 → Each IsGood word → IsSignalName word
 good_name word some few each = record {
@@ -48,7 +31,7 @@ good_name word some few each = record {
 pub numbered_one : (k : ℕ) → k < 2 ^ 64 → IsSignalName (numbered_name k)
 numbered_one k lt =
     let short : length (decimal k) ≤ 20 = length-decimal-le 20 k (omega arith) (omega arith) lt in
-    good_name (numbered_name k) (omega arith) (omega arith) (good_bytes (numbered_name k) (digits_good (decimal k) (digits_decimal model k lt)))
+    good_name (numbered_name k) (omega arith) (omega arith) (good-bytes (numbered_name k) (digits-good (decimal k) (digits_decimal numerals k lt)))
 
 pub numbered_each : (first count : ℕ) → first + count < 2 ^ 64 → Each IsSignalName (numbered_names first count)
 numbered_each first zero lt = tt

@@ -125,10 +125,8 @@ module _ (n : PlainTableNet) (apart : AreNamedApart n) (kept : IsTableNet n) whe
       let own = apart.owned i w.place w.output (at ∙ ap Some (sym out)) w.output_at in
       let class : slice_get (net_classes n) i ≡ Some w.root.0 = own ∙ slice_get_map (λ (r : ClassId). r.0) n.ports.roots w.place w.root w.root_at in
       let same : net_name n w.root.0 ≡ w.output = same_Some (net_name n w.root.0) w.output (sym (net_named n apart kept i w.root.0 class) ∙ (at ∙ ap Some (sym out))) in
-      refuted (bytes_eq (net_name n w.root.0) w.output) (bytes_eq_same (net_name n w.root.0) w.output same) w.other
-    where
-      refuted : (b : Bool) → b ≡ true → b ≡ false → ⊥
-      refuted b e f = cc
+      let both : true ≡ false = sym (bytes_eq_same (net_name n w.root.0) w.output same) ∙ w.other in
+      cc
 
   pub said_distinct : IsDistinct bytes_eq (signals_of (draft_said n))
   said_distinct = subst (IsDistinct bytes_eq) (sym signals_are) (distinct_join (net_names n) (map out_of wires) (distinct_by_place (net_names n) apart.nets) (wires_distinct n.ports.outputs n.ports.roots (distinct_by_place n.ports.outputs apart.outputs)) (λ name a b.

@@ -1,5 +1,5 @@
 -- The names in the text of a network of tables.
-use Rattle.std.proofs.Common.{ℕ, zero, suc, ◌≡◌, ◌≤◌, Bool, true, false, ◌&&◌, ◌||◌, if◌then◌else◌, List, [], ◌∷◌, ◌++◌, length, map, take, All, Contains, Option, Some, None, slice_get, refl, ap, ap₂, sym, ◌∙◌, subst, arith, append_assoc}
+use Rattle.std.proofs.Common.{ℕ, zero, suc, ◌≡◌, ◌≤◌, Bool, true, false, ◌&&◌, if◌then◌else◌, List, [], ◌∷◌, ◌++◌, length, map, take, All, Contains, Option, Some, None, slice_get, refl, ap, ap₂, sym, ◌∙◌, subst, append_assoc}
 use Rattle.std.specs.List.{list_all, IsDistinct, AllByRecursion as Each}
 use Rattle.std.specs.Str.{bytes_eq}
 use Rattle.std.proofs.lemmas.List.{take-append-le}
@@ -18,6 +18,7 @@ use Rattle.lw_lut.specs.declared.table.Table.{Table}
 use Rattle.lw_lut.proofs.ReadNames.{at_some, name_there, one_each, tables_named, distinct_of, distinct_append}
 use Rattle.lw_words.specs.Words.{is_name, IsSignalName}
 use Rattle.lw_pool.specs.Numbers.{numbers}
+use Rattle.lw_dag.proofs.Numbering.{among_contains}
 
 -- a table of few fan-ins, whose nets have names of the format
 pub record IsFairTable (n : PlainTableNet) (t : Table) : Type 0 where
@@ -34,14 +35,6 @@ wire_outputs n (output ∷ outputs) [] = []
 pub names_pass : (names : List (List ℕ)) → Each IsSignalName names → list_all is_name names ≡ true
 names_pass [] each = refl
 names_pass (name ∷ names) each = ap₂ (λ a b. a && b) each.0.ends (names_pass names each.1)
-
-among_contains : (names : List (List ℕ)) (name : List ℕ) → is_among names name ≡ true → Contains names name
-among_contains [] name e = cc
-among_contains (x ∷ names) name e = by_test (bytes_eq name x) refl e (among_contains names name)
-  where
-    by_test : (b : Bool) → bytes_eq name x ≡ b → (b || is_among names name) ≡ true → (is_among names name ≡ true → Contains names name) → Contains (x ∷ names) name
-    by_test true is f others = (0, omega arith, sym ((bytes_eq-Decides name x).0 is))
-    by_test false is f others = let (k, lt, g) = others f in (suc k, omega arith, g)
 
 -- a name that is an output's with a wire is that of no net
 module _ (n : PlainTableNet) (names : List (List ℕ)) where

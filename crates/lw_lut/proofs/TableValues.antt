@@ -14,6 +14,7 @@ use Rattle.lw_lut.specs.Said.{columns_from, table_node}
 use Rattle.lw_lut.specs.declared.table.Table.{Table}
 use Rattle.lw_lut.proofs.RowValues.{columns_hold}
 use Rattle.lw_pool.specs.Numbers.{numbers}
+use Rattle.std.proofs.Math.Bool.{and-false}
 
 -- the value of a node by the values of names
 abbrev pub said_value : (List ℕ → Bool) → DraftNode → Bool
@@ -69,10 +70,6 @@ module _ (n : PlainTableNet) where
   pub table_no_wire : (t : Table) → said_wire (table_node n t) ≡ false
   table_no_wire t = by_test (is_buffer t) refl
     where
-      and_false : (a : Bool) → (a && false) ≡ false
-      and_false true = refl
-      and_false false = refl
-
       first_false : (a b : Bool) → a ≡ false → (a && b) ≡ false
       first_false true b e = cc
       first_false false b e = refl
@@ -89,5 +86,5 @@ module _ (n : PlainTableNet) where
       plain out (q ∷ r ∷ fs) bits e = first_false (length (map (λ (q : ClassId). net_name n q.0) (q ∷ r ∷ fs)) == 1) (rows_wire true (columns_from (record { out = out; fanins = q ∷ r ∷ fs; bits = bits }) 0 (2 ^ length (q ∷ r ∷ fs)))) (ne_eqb (suc (suc (length (map (λ (q : ClassId). net_name n q.0) fs)))) 1 (λ s. omega (arith, s)))
 
       by_test : (b : Bool) → is_buffer t ≡ b → ((length (fanin_names n t) == 1) && rows_wire (not b) (if b then codes "0" ∷ [] else columns_from t 0 (2 ^ length t.fanins))) ≡ false
-      by_test true e = and_false (length (fanin_names n t) == 1)
+      by_test true e = and-false (length (fanin_names n t) == 1)
       by_test false e = plain t.out t.fanins t.bits e

@@ -10,7 +10,8 @@ use Rattle.lw_lut.specs.Texts.{tables_text}
 use Rattle.lw_lut.proofs.DraftSaid.{body, lines_are_read, draft_is_said, frame_is_said, starts_are_said}
 use Rattle.lw_lut.proofs.FineTables.{lines_fine}
 use Rattle.lw_lut.proofs.TextLines.{lines_said, text_said}
-use Rattle.lw_lut.proofs.WordLines.{numbered, lines_again}
+use Rattle.lw_frame.proofs.WrittenLines.{numbered}
+use Rattle.lw_lut.proofs.WordLines.{lines_again}
 use Rattle.lw_lut.proofs.WrittenTables.{lines_written}
 
 pub tables_are_read : (n : PlainTableNet) (frame : Frame) → IsSayable n frame → IsTablesRead (tables_text n frame) (draft_said n) frame

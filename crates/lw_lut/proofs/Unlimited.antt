@@ -20,8 +20,9 @@ use Rattle.lw_blif.proofs.RowsBehind.{differs-value}
 use Rattle.lw_lut.specs.Readable.{rules_on, IsUnlimited, AreUnlimited}
 use Rattle.lw_lut.proofs.LineKinds.{asks_for, IsRowOf}
 use Rattle.lw_lut.proofs.TextLines.{Words}
-use Rattle.lw_lut.proofs.WordLines.{numbered}
+use Rattle.lw_frame.proofs.WrittenLines.{numbered}
 use Rattle.lw_words.specs.Words.{is_among, is_name}
+use Rattle.std.proofs.Math.Bool.{and-false}
 
 -- Lines, one after another.
 
@@ -99,11 +100,7 @@ name_line before number words c i e is =
 none_differ : (words : Words) (value : List ℕ) (rows : List LogicalLine) → HaveValue value rows → last_word words ≡ value → differs_from words rows ≡ false
 none_differ words value rows have last =
     differs-value words value rows have
-    ∙ (ap (λ b. has_some rows && not b) ((bytes_eq-Decides value (last_word words)).1 (sym last)) ∙ and_false (has_some rows))
-  where
-    and_false : (b : Bool) → (b && false) ≡ false
-    and_false true = refl
-    and_false false = refl
+    ∙ (ap (λ b. has_some rows && not b) ((bytes_eq-Decides value (last_word words)).1 (sym last)) ∙ and-false (has_some rows))
 
 row_rules_kept : (head : LogicalLine) (rows : List LogicalLine) (value : List ℕ) (words : Words) → IsRowOf (length (flat_map fanins_on (head ∷ []))) value words → HaveValue value rows → length rows < 4096 → Each IsKept (row_rules (head ∷ []) rows words)
 row_rules_kept head rows value words is have few = (

@@ -1,13 +1,9 @@
 -- What one more line adds to the lines that are read, and to their faults.
-use Rattle.std.proofs.Common.{ℕ, ◌≡◌, Bool, true, false, ◌||◌, not, cond, List, [], ◌∷◌, ◌++◌, Option, Some, None, refl, ap, sym, ◌∙◌, append-nil, append_assoc}
-use Rattle.std.specs.List.{list_any}
-use Rattle.std.proofs.Math.Bool.{or-false}
+use Rattle.std.proofs.Common.{ℕ, ◌≡◌, List, [], ◌∷◌, ◌++◌, Option, Some, None, refl, ap, sym, ◌∙◌, append-nil, append_assoc}
 use Rattle.lw_words.specs.Lines.{LogicalLine}
 use Rattle.lw_genlib.specs.Cells.{CellParts}
 use Rattle.lw_mapped.specs.declared.fault.MappedKind.{MappedKind}
-use Rattle.lw_mapped.specs.LineFaults.{FaultAt, fault_or, line_fault, first_fault, ends, command, goes_on, lines_read, has_ended, is_first}
-use Rattle.lw_words.specs.Words.{front}
-use Rattle.lw_words.proofs.Shared.{front_none, front_stop, front_end}
+use Rattle.lw_mapped.specs.LineFaults.{FaultAt, fault_or, line_fault, first_fault}
 
 -- no fault here, and none behind
 pub fault_or_none : (number : ℕ) (o : Option MappedKind) (r : Option FaultAt) → fault_or number o r ≡ None → (o ≡ None) × (r ≡ None)
@@ -38,57 +34,3 @@ first_fault-earlier cells before (x ∷ xs) ys f e =
 pub first_fault-next : (cells : List CellParts) (lines : List LogicalLine) (line : LogicalLine) → first_fault cells [] lines ≡ None → first_fault cells [] (lines ++ line ∷ []) ≡ fault_or line.number (line_fault cells lines line) None
 unfolding first_fault
 first_fault-next cells lines line e = first_fault-later cells [] lines (line ∷ []) e
-
--- A line behind lines that have not ended, and that does not end the reading, is read.
-
-abbrev ends_later : LogicalLine → Bool
-ends_later line = ends false (command line)
-
--- lines that have not ended are all read
-pub lines_read-all : (lines : List LogicalLine) → has_ended lines ≡ false → lines_read lines ≡ lines
-unfolding lines_read has_ended
-lines_read-all [] still = refl
-lines_read-all (first ∷ lines) still = at_first (ends true (command first)) refl still
-  where
-    at_first : (b : Bool) → ends true (command first) ≡ b → (ends true (command first) || list_any ends_later lines) ≡ false → cond (ends true (command first)) [] (first ∷ front goes_on lines) ≡ first ∷ lines
-    at_first true e n = let wrong : true ≡ false = sym (ap (λ b. b || list_any ends_later lines) e) ∙ n in cc
-    at_first false e n =
-        ap (λ b. cond b [] (first ∷ front goes_on lines)) e
-        ∙ ap (λ r. first ∷ r) (front_none goes_on ends_later (λ x. refl) lines (sym (ap (λ b. b || list_any ends_later lines) e) ∙ n))
-
-pub has_ended-more : (lines : List LogicalLine) (line : LogicalLine) → has_ended lines ≡ false → has_ended (lines ++ line ∷ []) ≡ ends (is_first lines) (command line)
-unfolding has_ended
-has_ended-more [] line still = or-false (ends true (command line))
-has_ended-more (first ∷ lines) line still = at_first (ends true (command first)) refl still
-  where
-    any-last : (xs : List LogicalLine) → list_any ends_later xs ≡ false → list_any ends_later (xs ++ line ∷ []) ≡ ends_later line
-    any-last [] n = or-false (ends_later line)
-    any-last (x ∷ xs) n = by_case (ends_later x) refl n (any-last xs)
-      where
-        by_case : (b : Bool) → ends_later x ≡ b → (ends_later x || list_any ends_later xs) ≡ false → (list_any ends_later xs ≡ false → list_any ends_later (xs ++ line ∷ []) ≡ ends_later line) → (ends_later x || list_any ends_later (xs ++ line ∷ [])) ≡ ends_later line
-        by_case true e m others = let wrong : true ≡ false = sym (ap (λ b. b || list_any ends_later xs) e) ∙ m in cc
-        by_case false e m others = ap (λ b. b || list_any ends_later (xs ++ line ∷ [])) e ∙ others (sym (ap (λ b. b || list_any ends_later xs) e) ∙ m)
-
-    at_first : (b : Bool) → ends true (command first) ≡ b → (ends true (command first) || list_any ends_later lines) ≡ false → (ends true (command first) || list_any ends_later (lines ++ line ∷ [])) ≡ ends_later line
-    at_first true e n = let wrong : true ≡ false = sym (ap (λ b. b || list_any ends_later lines) e) ∙ n in cc
-    at_first false e n = ap (λ b. b || list_any ends_later (lines ++ line ∷ [])) e ∙ any-last lines (sym (ap (λ b. b || list_any ends_later lines) e) ∙ n)
-
--- what stands behind an end is not read
-pub lines_read-ended : (lines more : List LogicalLine) → has_ended lines ≡ true → lines_read (lines ++ more) ≡ lines_read lines
-unfolding lines_read has_ended
-lines_read-ended [] more ended = cc
-lines_read-ended (first ∷ lines) more ended = at_first (ends true (command first)) refl ended
-  where
-    at_first : (b : Bool) → ends true (command first) ≡ b → (ends true (command first) || list_any ends_later lines) ≡ true → cond (ends true (command first)) [] (first ∷ front goes_on (lines ++ more)) ≡ cond (ends true (command first)) [] (first ∷ front goes_on lines)
-    at_first true e s = ap (λ b. cond b [] (first ∷ front goes_on (lines ++ more))) e ∙ sym (ap (λ b. cond b [] (first ∷ front goes_on lines)) e)
-    at_first false e s =
-        ap (λ r. cond (ends true (command first)) [] (first ∷ r))
-        (front_stop goes_on ends_later (λ x. refl) lines more (sym (ap (λ b. b || list_any ends_later lines) e) ∙ s))
-
--- the line that ends the reading is not read
-pub lines_read-end : (lines : List LogicalLine) (line : LogicalLine) → has_ended lines ≡ false → ends (is_first lines) (command line) ≡ true → lines_read (lines ++ line ∷ []) ≡ lines
-unfolding lines_read
-lines_read-end [] line still holds = ap (λ b. cond b [] (line ∷ [])) holds
-lines_read-end (first ∷ lines) line still holds =
-    ap (λ r. cond (ends true (command first)) [] (first ∷ r)) (front_end goes_on ends_later (λ x. refl) lines line holds)
-    ∙ lines_read-all (first ∷ lines) still

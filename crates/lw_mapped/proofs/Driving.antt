@@ -4,7 +4,6 @@ use Rattle.std.specs.Prelude.{slice_get}
 use Rattle.std.specs.List.{flat_map, IsDistinct, AllByRecursion as Each}
 use Rattle.std.specs.Str.{bytes_eq}
 use Rattle.std.specs.Cmp.Lexicographic.{bytes_decides}
-use Rattle.std.proofs.Math.Bool.{or-true}
 use Rattle.std.proofs.Math.Seq.{drop-cons}
 use Rattle.std.proofs.lemmas.List.{take-append-drop, drop_all}
 use Rattle.std.proofs.lemmas.Map.Keys.{IsDistinct-cons, IsDistinct-head, IsDistinct-tail, IsDistinct-from_apart}
@@ -25,7 +24,8 @@ use Rattle.lw_dag.proofs.Numbering.{number_at}
 use Rattle.lw_mapped.specs.Readable.{ports_of}
 use Rattle.lw_mapped.specs.Texts.{net_name, names_of_inputs, names_of_outputs}
 use Rattle.lw_mapped.proofs.Items.{named_gate, port_wire}
-use Rattle.lw_mapped.proofs.WrittenLines.{each-of, each-append}
+use Rattle.lw_frame.proofs.Each.{each-of, each-append}
+use Rattle.lw_netlist.proofs.Found.{contains-among}
 
 -- Names that differ.
 
@@ -50,11 +50,6 @@ never-twice seen [] distinct = refl
 never-twice seen (name ∷ names) distinct =
     ap (λ b. cond b (Some name) (twice_after (seen ++ name ∷ []) names)) (not-seen seen name names distinct)
     ∙ never-twice (seen ++ name ∷ []) names (subst (IsDistinct bytes_eq) (sym (append_assoc seen (name ∷ []) names)) distinct)
-
-contains-among : (names : List (List ℕ)) (name : List ℕ) → Contains names name → is_among names name ≡ true
-contains-among [] name among = absurd (omega (arith, among.1))
-contains-among (x ∷ xs) name (zero, lt, e) = ap (λ b. b || is_among xs name) (bytes_eq_same name x (sym e))
-contains-among (x ∷ xs) name (suc k, lt, e) = ap (λ b. bytes_eq name x || b) (contains-among xs name (k, omega arith, e)) ∙ or-true (bytes_eq name x)
 
 none-missing : (driven names : List (List ℕ)) → Each (Contains driven) names → undriven_in driven names ≡ None
 none-missing driven [] each = refl

@@ -10,8 +10,9 @@ use Rattle.lw_mapped.specs.Commands.{command_of, point_command}
 use Rattle.lw_mapped.specs.Sayings.{words_say}
 use Rattle.lw_mapped.specs.LineFaults.{ends, goes_on, lines_read, is_names_command, is_row, wire_without_row, what_is_said, lines_say, told_fault, saying_fault, fault_behind, line_fault, fault_or, first_fault, fault_else, text_fault}
 use Rattle.lw_mapped.proofs.ReadingLemmas.{say-last, wire-last, row-says, row-wire, none-wire, none-say}
-use Rattle.lw_mapped.proofs.WrittenLines.{numbered}
 use Rattle.lw_words.specs.Words.{first_word, front}
+use Rattle.lw_frame.specs.Ending.{lines_until}
+use Rattle.lw_frame.proofs.WrittenLines.{numbered}
 
 -- A line, what it says, and whether it is a wire, behind which its row comes.
 pub record Item : Type 0 where
@@ -138,7 +139,7 @@ front-before number (words ∷ lines) each =
     ∙ ap (λ l. at_line number words ∷ l) (front-before (number + 1) lines each.1)
 
 read-lines : (number : ℕ) (words : List (List ℕ)) (lines : List (List (List ℕ))) → ends true (command_in words) ≡ false → Each GoesOn lines → lines_read (numbered number ((words ∷ lines) ++ last_line ∷ [])) ≡ numbered number (words ∷ lines)
-unfolding lines_read
+unfolding lines_until
 read-lines number words lines first each =
     ap (λ b. cond b [] (at_line number words ∷ front goes_on (numbered (number + 1) (lines ++ last_line ∷ [])))) first
     ∙ ap (λ l. at_line number words ∷ l) (front-before (number + 1) lines each)

@@ -25,8 +25,8 @@ use Rattle.lw_mapped.specs.Texts.{net_name, tie, ties, gate_words}
 use Rattle.lw_mapped.proofs.CellLemmas.{found-at}
 use Rattle.lw_mapped.proofs.GoodWords.{equals-none}
 use Rattle.lw_mapped.proofs.Items.{named_gate}
-use Rattle.lw_mapped.proofs.WrittenLines.{each-append, each-weaker}
 use Rattle.lw_words.specs.Words.{is_among, is_name, IsSignalName}
+use Rattle.lw_frame.proofs.Each.{each-append, each-weaker}
 
 -- A pin or the output, and its net.
 pub record Tie : Type 0 where
@@ -185,7 +185,7 @@ nets-are names [] (net ∷ nets) same = absurd (omega arith)
 nets-are names (pin ∷ pins) [] same = absurd (omega arith)
 nets-are names (pin ∷ pins) (net ∷ nets) same = ap (λ l. net_name names net ∷ l) (nets-are names pins nets (omega arith))
 
-among-self : (xs : List (List ℕ)) → Each (λ x. is_among xs x ≡ true) xs
+pub among-self : (xs : List (List ℕ)) → Each (λ x. is_among xs x ≡ true) xs
 among-self [] = tt
 among-self (x ∷ xs) = (
   ap (λ b. b || is_among xs x) (bytes_eq_same x x refl),

@@ -1,36 +1,19 @@
 -- Words that can be written, and how they end.
-use Rattle.std.proofs.Common.{ℕ, suc, ◌≡◌, ◌<◌, ◌≤◌, ◌-◌, ◌==◌, Bool, true, false, not, ◌&&◌, ◌||◌, nat_eq, List, [], ◌∷◌, ◌++◌, length, drop, refl, ap, ap₂, sym, ◌∙◌, arith, length-append}
+use Rattle.std.proofs.Common.{ℕ, ◌≡◌, ◌<◌, ◌≤◌, ◌-◌, ◌==◌, Bool, true, false, not, ◌&&◌, ◌||◌, List, [], ◌∷◌, ◌++◌, length, refl, ap, ap₂, arith, length-append}
 use Rattle.std.specs.Prelude.{nat_le}
-use Rattle.std.specs.List.{list_all, list_any, ends_with, AllByRecursion as Each}
-use Rattle.std.specs.Cmp.Lexicographic.{pointwise}
+use Rattle.std.specs.List.{list_all, list_any, AllByRecursion as Each}
 use Rattle.std.proofs.lemmas.Bool.{and_parts, not-true, eqb-false}
 use Rattle.std.proofs.lemmas.Bool.Decides.{nat_tests}
-use Rattle.lw_facts.proofs.Tests.{none_of_four, not_a_stroke}
 use Rattle.lw_words.specs.Gathering.{IsInk, IsNoHash}
-use Rattle.lw_words.specs.Lines.{is_blank}
 use Rattle.lw_genlib.specs.Cells.{IsPinName, is_word_byte, is_punct_byte as is_mark_byte}
 use Rattle.lw_genlib.specs.Cells as genlib
 use Rattle.lw_mapped.specs.GateLines.{is_equals}
 use Rattle.lw_mapped.specs.Sayings.{are_names}
 use Rattle.lw_mapped.specs.Texts.{tie}
-use Rattle.lw_mapped.proofs.WrittenLines.{IsWordOf, EndsWell, LastEndsWell, each-of, each-append, each-weaker}
 use Rattle.lw_words.specs.Words.{IsSignalName}
-
--- neither a blank nor a line feed, nor `#`, nor `\`
-abbrev pub IsGood : ℕ → Type 0
-IsGood b = IsInk b × IsNoHash b × ((b == 92) ≡ false)
-
-abbrev pub is_good : ℕ → Bool
-is_good b = not (is_blank b || (b == 10 || (b == 35 || b == 92)))
-
-good-byte : (b : ℕ) → is_good b ≡ true → IsGood b
-good-byte b e =
-    let parts = none_of_four (is_blank b) (b == 10) (b == 35) (b == 92) e in
-    ((parts.0, eqb-false b 10 parts.1), eqb-false b 35 parts.2, parts.3)
-
-pub good-bytes : (word : List ℕ) → list_all is_good word ≡ true → Each IsGood word
-good-bytes [] e = tt
-good-bytes (b ∷ word) e = let parts = and_parts (is_good b) (list_all is_good word) e in (good-byte b parts.0, good-bytes word parts.1)
+use Rattle.lw_frame.proofs.Each.{each-of, each-append, each-weaker}
+use Rattle.lw_frame.proofs.GoodWords.{IsGood, EndsWell, ends-behind, ends-name, ends_stroke}
+use Rattle.lw_frame.proofs.WrittenLines.{IsWordOf, LastEndsWell}
 
 -- bytes of words
 abbrev pub IsPlainInk : ℕ → Type 0
@@ -67,33 +50,11 @@ right-word most word few is = right-of word is.0 (omega (arith, few, is.1)) (wor
 
 -- How a word ends.
 
-ends-behind : (b : ℕ) (bytes : List ℕ) → EndsWell bytes → EndsWell (b ∷ bytes)
-ends-behind b bytes e = record { front = b ∷ e.front; last = e.last; are = ap (λ l. b ∷ l) e.are; ink = e.ink; no_stroke = e.no_stroke }
-
 pub ends-append : (front bytes : List ℕ) → EndsWell bytes → EndsWell (front ++ bytes)
 ends-append [] bytes e = e
 ends-append (b ∷ front) bytes e = ends-behind b (front ++ bytes) (ends-append front bytes e)
 
-pub ends-good : (word : List ℕ) → 0 < length word → Each IsGood word → EndsWell word
-ends-good [] some each = absurd (omega arith)
-ends-good (b ∷ []) some each = record { front = []; last = b; are = refl; ink = each.0.0.0; no_stroke = each.0.2 }
-ends-good (b ∷ c ∷ word) some each = ends-behind b (c ∷ word) (ends-good (c ∷ word) (omega arith) each.1)
-
 -- Names.
-
-abbrev pub ends_stroke : List ℕ → Bool
-ends_stroke word = ends_with nat_eq word (92 ∷ [])
-
-pub stroke-behind : (b c : ℕ) (word : List ℕ) → ends_stroke (b ∷ c ∷ word) ≡ ends_stroke (c ∷ word)
-stroke-behind b c word =
-    let long : suc (suc (length word)) - 1 ≡ suc (length word) = omega arith in
-    let short : suc (length word) - 1 ≡ length word = omega arith in
-    ap (λ k. pointwise nat_eq (92 ∷ []) (drop k (b ∷ c ∷ word))) long ∙ sym (ap (λ k. pointwise nat_eq (92 ∷ []) (drop k (c ∷ word))) short)
-
-ends-name : (word : List ℕ) → 0 < length word → Each IsInk word → ends_stroke word ≡ false → EndsWell word
-ends-name [] some each e = absurd (omega arith)
-ends-name (b ∷ []) some each e = record { front = []; last = b; are = refl; ink = each.0.0; no_stroke = not_a_stroke b e }
-ends-name (b ∷ c ∷ word) some each e = ends-behind b (c ∷ word) (ends-name (c ∷ word) (omega arith) each.1 (sym (stroke-behind b c word) ∙ e))
 
 pub right-name : (name : List ℕ) → IsSignalName name → IsRight name
 right-name name is = ((is.word.some, is.word.few, each-of IsInk name is.word.ink), each-of IsNoHash name is.no_hash)

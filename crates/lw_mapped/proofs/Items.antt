@@ -18,11 +18,11 @@ use Rattle.lw_netlist.specs.Netlists.{NetlistParts}
 use Rattle.lw_mapped.specs.declared.certificate.Certificate.{Certificate}
 use Rattle.lw_mapped.specs.declared.saying.Saying.TheVariants as saying
 use Rattle.lw_mapped.specs.Texts.{net_name, gate_words, gate_line, gate_text, wire, wire_text, arrival_line, arrival_lines, label_line, optional_label, label_lines, net_line, optional_net, net_lines, certificate_text, mapped_text}
-use Rattle.lw_mapped.proofs.WrittenLines.{line_text, lines_text}
 use Rattle.lw_mapped.proofs.Faultless.{Item, lines_of, all_lines, last_line}
 use Rattle.lw_words.specs.Texts.{line}
 use Rattle.lw_netlist.specs.Plain.{port_name}
 use Rattle.lw_frame.specs.Latches.{latch_line}
+use Rattle.lw_frame.proofs.WrittenLines.{line_text, lines_text}
 
 -- the gate by names
 abbrev pub named_gate : List (List ℕ) → Gate → DraftGate

@@ -1,23 +1,15 @@
 -- Times, labels and class numbers that lines say are within their limits.
-use Rattle.std.proofs.Common.{ℕ, ◌≡◌, ◌<◌, ◌≤◌, ◌+◌, ◌*◌, ◌^◌, ◌==◌, ◌&&◌, Bool, true, false, not, max, cond, nat_lt, List, [], ◌∷◌, ◌++◌, length, map, take, drop, get_or, filter, reverse, replicate, Option, Some, None, Result, Ok, Err, All, refl, ap, ◌∙◌, subst, arith, length-take}
-use Rattle.std.specs.Prelude.{nat_le, decimal, unwrap_or}
+use Rattle.std.proofs.Common.{ℕ, ◌≡◌, ◌<◌, ◌^◌, ◌==◌, ◌&&◌, Bool, true, false, cond, nat_lt, List, [], ◌∷◌, length, drop, Option, Some, None, Result, All, refl, subst, arith}
+use Rattle.std.specs.Prelude.{nat_le, decimal}
 use Rattle.std.specs.Char.{is_ascii_digit}
 use Rattle.std.specs.List.{flat_map, list_all, AllByRecursion as Each}
 use Rattle.std.specs.Option.{IfSome}
 use Rattle.std.specs.Str.{bytes_eq}
 use Rattle.std.specs.Str.Parse.{digits_value}
 use Rattle.std.proofs.lemmas.Bool.Decides.{nat_tests}
-use Rattle.std.proofs.lemmas.List.Elements.{All-append, All-filter, All-map, All-replicate, All-from_recursion}
-use Rattle.std.proofs.lemmas.List.Folds.{list_all-append}
-use Rattle.std.proofs.lemmas.List.Sorted.{All-permutation, IsPermutation-reverse}
-use Rattle.std.proofs.lemmas.Str.Parse.{digits_value_short}
-use Rattle.lw_facts.proofs.Tests.{second_of_three}
 use Rattle.lw_words.specs.Lines.{LogicalLine}
 use Rattle.lw_fixed.specs.declared.micro.Micro.{Micro}
-use Rattle.lw_fixed.specs.declared.fault.DecimalFault.{DecimalFault}
-use Rattle.lw_fixed.specs.declared.fault.DecimalFault.TheVariants.{Shape, Large, Fine, Negative}
-use Rattle.lw_fixed.specs.Decimals.{decimal_of, decimals, is_decimal, is_finer, is_negative, millionths_of, units_of, value_of_decimals, whole_part}
-use Rattle.lw_frame.specs.Starts.{Arrival, IsEarly, at_once, first_start, is_for_all, is_named, last_start, start_at, start_of, start_said, starts_of}
+use Rattle.lw_frame.specs.Starts.{Arrival, IsEarly, starts_of}
 use Rattle.lw_genlib.specs.Cells.{CellParts}
 use Rattle.lw_pool.specs.declared.id.ClassId.{ClassId}
 use Rattle.lw_mapped.specs.declared.command.Command.{Command}
@@ -31,56 +23,13 @@ use Rattle.lw_mapped.specs.Parsed.{IsFit, IsLabel}
 use Rattle.lw_mapped.specs.Said.{Labelled, Classed, arrivals_in, labels_in, nets_in, label_among, class_among}
 use Rattle.lw_mapped.specs.Sayings.{said, fault_in, are_names, second_word, words_say, command_says, certificate_says, class_said}
 use Rattle.lw_mapped.proofs.Driving.{each-flat}
-use Rattle.lw_mapped.proofs.Printing.{Digits, own, digits-take}
 use Rattle.lw_mapped.proofs.SaidLines.{arrival-all, certificate-all, default-all, gate-all, said-all}
-use Rattle.lw_mapped.proofs.WrittenLines.{each-of, each-append, each-weaker}
 use Rattle.lw_words.specs.Words.{first_word}
 use Rattle.lw_laws.specs.Graphs.{most_classes}
+use Rattle.lw_frame.proofs.Early.{decimal_below, said_early, starts_early}
+use Rattle.lw_frame.proofs.Each.{each-append, each-weaker}
 
--- Decimals.
-
-part-below : (part : List ℕ) → Digits part → value_of_decimals part < 1000000
-unfolding value_of_decimals
-part-below part all =
-    let six = take 6 (part ++ replicate 6 48) in
-    let padded : Digits (part ++ replicate 6 48) = list_all-append is_ascii_digit part (replicate 6 48) ∙ ap (λ b. b && list_all is_ascii_digit (replicate 6 48)) all in
-    let short : length six ≤ 6 = omega (arith, length-take 6 (part ++ replicate 6 48)) in
-    let below : digits_value 10 six < 10 ^ 6 = digits_value_short own six 6 (digits-take 6 (part ++ replicate 6 48) padded) short in
-    omega (arith, below)
-
--- a decimal of fewer than so many units is so many millionths
-decimal-below : (text : List ℕ) (units : ℕ) (value : Micro) → decimal_of text units ≡ Ok value → value.0 < units * 1000000
-unfolding decimal_of
-decimal-below text units value e = by_case (is_decimal text) refl (nat_le units (units_of text)) refl (is_finer (decimals text)) (is_negative text && nat_lt 0 (millionths_of text)) e
-  where
-    by_case : (d : Bool) → is_decimal text ≡ d → (l : Bool) → nat_le units (units_of text) ≡ l → (f n : Bool) →
-        cond (not d) (Err Shape) (cond l (Err Large) (cond f (Err Fine) (cond n (Err Negative) (Ok (record { 0 = millionths_of text }))))) ≡ Ok value → value.0 < units * 1000000
-    by_case true is false few false false h =
-        let read : Micro = record { 0 = millionths_of text } in
-        let same : read ≡ value = cc in
-        let small : units_of text < units = grind (arith, nat_tests, few) in
-        let part : value_of_decimals (decimals text) < 1000000 = part-below (decimals text) (second_of_three (list_all is_ascii_digit (whole_part text)) (list_all is_ascii_digit (decimals text)) (nat_lt 0 (length (whole_part text) + length (decimals text))) is) in
-        let number : millionths_of text ≡ value.0 = ap (λ (m : Micro). m.0) same in
-        omega (arith, number, small, part)
-    by_case true is false few false true h = cc
-    by_case true is false few true n h = cc
-    by_case true is true few f n h = cc
-    by_case false is l few f n h = cc
-
-start-early : (rise fall : List ℕ) (start : Micro) → start_said rise fall ≡ Ok start → IsEarly start
-unfolding start_said
-start-early rise fall start e = by_case (decimal_of rise 1000000) refl (decimal_of fall 1000000) refl e
-  where
-    by_case : (r : Result Micro DecimalFault) → decimal_of rise 1000000 ≡ r → (f : Result Micro DecimalFault) → decimal_of fall 1000000 ≡ f → start_at r f ≡ Ok start → IsEarly start
-    by_case (Ok r) er (Ok f) ef h =
-        let first : r.0 < 1000000 * 1000000 = decimal-below rise 1000000 r er in
-        let second : f.0 < 1000000 * 1000000 = decimal-below fall 1000000 f ef in
-        let later : Micro = record { 0 = max r.0 f.0 } in
-        let same : later ≡ start = cc in
-        let number : max r.0 f.0 ≡ start.0 = ap (λ (m : Micro). m.0) same in
-        omega (arith, first, second, number)
-    by_case (Ok r) er (Err g) ef h = cc
-    by_case (Err g) er f ef h = cc
+-- Classes that are said.
 
 class-below : (word : List ℕ) (class : ℕ) → class_said word ≡ Some class → class < most_classes
 unfolding class_said
@@ -105,7 +54,7 @@ fit-said o s fit = said-all IsFit o s (λ none. fit)
 
 fit-certificate : (words : List (List ℕ)) → AreFit (certificate_says words)
 fit-certificate =
-    certificate-all IsFit (λ first second class label e f. (class-below first class e, decimal-below second (2 ^ 43) label f))
+    certificate-all IsFit (λ first second class label e f. (class-below first class e, decimal_below second (2 ^ 43) label f))
     (λ first second class e. class-below second class e)
 
 fit-command : (cells : List CellParts) (c : Command) (words : List (List ℕ)) → AreFit (command_says cells c words)
@@ -115,8 +64,8 @@ fit-command cells command.Outputs words = fit-said (fault_in true (are_names wor
 fit-command cells command.Gate words = gate-all IsFit cells words (λ number cell at none. tt)
 fit-command cells command.Names words = fit-said (fault_in (length words == 2) (are_names words)) (saying.Wire (record { from = first_word words; to = second_word words })) tt
 fit-command cells command.Latch words = fit-said (fault_in (nat_le 2 (length words) && nat_le (length words) 5) (are_names words)) (saying.Latch (record { input = first_word words; output = second_word words; rest = drop 2 words })) tt
-fit-command cells command.InputArrival words = arrival-all IsFit (λ name rise fall start e. start-early rise fall start e) words
-fit-command cells command.DefaultArrival words = default-all IsFit start-early words
+fit-command cells command.InputArrival words = arrival-all IsFit (λ name rise fall start e. said_early rise fall start e) words
+fit-command cells command.DefaultArrival words = default-all IsFit said_early words
 fit-command cells command.Certificate words = fit-certificate words
 fit-command cells command.Ignored words = (tt, tt)
 fit-command cells command.End words = (tt, tt)
@@ -150,36 +99,10 @@ arrivals-early (saying.Label class label) fit = tt
 arrivals-early (saying.Net name class) fit = tt
 arrivals-early saying.Nothing fit = tt
 
-first-early : (arrivals : List Arrival) → Each IsEarlyArrival arrivals → IfSome (first_start arrivals) IsEarly
-first-early [] each = tt
-first-early (arrival ∷ arrivals) each = each.0
-
-last-early : (is : Option (List ℕ) → Bool) (arrivals : List Arrival) → All IsEarlyArrival arrivals → IfSome (last_start is arrivals) IsEarly
-last-early is arrivals all =
-    let own = filter (λ (arrival : Arrival). is arrival.named) arrivals in
-    first-early (reverse own)
-    (each-of IsEarlyArrival (reverse own)
-    (All-permutation IsEarlyArrival own (reverse own) (IsPermutation-reverse own) (All-filter (λ (arrival : Arrival). is arrival.named) IsEarlyArrival arrivals all)))
-
-else-early : (o : Option Micro) (other : Micro) → IfSome o IsEarly → IsEarly other → IsEarly (unwrap_or o other)
-else-early None other some early = early
-else-early (Some start) other some early = some
-
-once-early : IsEarly at_once
-once-early = omega arith
-
-own-early : (arrivals : List Arrival) (name : List ℕ) → All IsEarlyArrival arrivals → IsEarly (start_of arrivals name)
-own-early arrivals name all =
-    else-early (last_start (is_named name) arrivals) (unwrap_or (last_start is_for_all arrivals) at_once) (last-early (is_named name) arrivals all)
-    (else-early (last_start is_for_all arrivals) at_once (last-early is_for_all arrivals all) once-early)
-
 pub starts-early : (ss : List Saying) (inputs : List (List ℕ)) (latches : ℕ) → Each IsFit ss → All IsEarly (starts_of (flat_map arrivals_in ss) inputs latches)
 starts-early ss inputs latches fit =
-    let arrivals = flat_map arrivals_in ss in
-    let all = All-from_recursion IsEarlyArrival arrivals (each-flat IsEarlyArrival arrivals_in ss (each-weaker IsFit (λ s. Each IsEarlyArrival (arrivals_in s)) arrivals-early ss fit)) in
-    All-append IsEarly (map (start_of arrivals) inputs) (replicate latches at_once)
-    (All-map IsEarly (start_of arrivals) inputs (λ k d lt. own-early arrivals (get_or inputs k d) all))
-    (All-replicate IsEarly latches at_once once-early)
+    starts_early (flat_map arrivals_in ss) inputs latches
+    (each-flat IsEarlyArrival arrivals_in ss (each-weaker IsFit (λ s. Each IsEarlyArrival (arrivals_in s)) arrivals-early ss fit))
 
 -- Labels.
 

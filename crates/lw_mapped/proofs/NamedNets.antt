@@ -29,9 +29,9 @@ use Rattle.lw_mapped.proofs.Driving.{each-map}
 use Rattle.lw_mapped.proofs.Fitted.{port-names}
 use Rattle.lw_mapped.proofs.Kept.{many-ends, rising-at, sorted}
 use Rattle.lw_mapped.proofs.Places.{one-place}
-use Rattle.lw_mapped.proofs.WrittenLines.{each-append, each-of}
 use Rattle.lw_words.specs.Words.{IsSignalName}
 use Rattle.lw_pool.specs.Numbers.{net_number}
+use Rattle.lw_frame.proofs.Each.{each-append, each-of}
 
 abbrev pub HasName : DraftGate → Type 0
 HasName gate = IsSignalName gate.out

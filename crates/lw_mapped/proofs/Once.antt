@@ -17,7 +17,7 @@ use Rattle.lw_mapped.specs.Unmapped.{IsSaid, ClosesTo, ComesTo, TellsLine, HasWh
 use Rattle.lw_mapped.proofs.ClosedOnce.{closed-once}
 
 -- The first on a cycle is one.
-pub cycle-once : (ls : List Link) (a b : List ℕ) → IsFirstOnCycle ls a → IsFirstOnCycle ls b → a ≡ b
+cycle-once : (ls : List Link) (a b : List ℕ) → IsFirstOnCycle ls a → IsFirstOnCycle ls b → a ≡ b
 cycle-once ls a b x y = by_place (cases_lt x.place y.place) (cases_lt y.place x.place)
   where
     by_place : (x.place < y.place) ⊎ (y.place ≤ x.place) → (y.place < x.place) ⊎ (x.place ≤ y.place) → a ≡ b
@@ -28,7 +28,7 @@ cycle-once ls a b x y = by_place (cases_lt x.place y.place) (cases_lt y.place x.
         let both : Some a ≡ Some b = sym x.named ∙ (ap (slice_get (map name_of ls)) same ∙ y.named) in
         cc
 
-faults-once : (draft : GateDraft) (e f : NetlistFault) → HasWholeFault draft e → HasWholeFault draft f → e ≡ f
+pub faults-once : (draft : GateDraft) (e f : NetlistFault) → HasWholeFault draft e → HasWholeFault draft f → e ≡ f
 faults-once draft (whole.Twice a) (whole.Twice b) p q = let both : Some a ≡ Some b = sym p ∙ q in cc
 faults-once draft (whole.Twice a) (whole.Undriven b) p q = let both : Some a ≡ None = sym p ∙ q.0 in cc
 faults-once draft (whole.Twice a) (whole.Cycle b) p q = let both : Some a ≡ None = sym p ∙ q.0 in cc
@@ -44,7 +44,7 @@ faults-once draft (whole.Undriven a) whole.Memory p q = absurd q
 faults-once draft (whole.Cycle a) whole.Memory p q = absurd q
 
 -- A draft with a fault is not closed.
-closed-faultless : (draft : GateDraft) (n : NetlistParts) (f : NetlistFault) → IsClosed draft n → HasWholeFault draft f → ⊥
+pub closed-faultless : (draft : GateDraft) (n : NetlistParts) (f : NetlistFault) → IsClosed draft n → HasWholeFault draft f → ⊥
 closed-faultless draft n (whole.Twice a) c q = let both : None ≡ Some a = sym c.once ∙ q in cc
 closed-faultless draft n (whole.Undriven a) c q = let both : None ≡ Some a = sym c.driven ∙ q.1 in cc
 closed-faultless draft n (whole.Cycle a) c q = c.no_cycle a q.2.cycle

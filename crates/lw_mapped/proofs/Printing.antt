@@ -1,5 +1,5 @@
 -- Decimals that are printed: their bytes, and that they are read as the number by any limit above it.
-use Rattle.std.proofs.Common.{ℕ, zero, suc, ◌≡◌, ◌<◌, ◌≤◌, ◌+◌, ◌-◌, ◌*◌, ◌/◌, ◌%◌, ◌^◌, ◌==◌, Bool, true, false, not, ◌&&◌, cond, nat_lt, nat_eq, eqb, List, [], ◌∷◌, ◌++◌, length, take, drop, get_or, replicate, reverse, Result, Ok, Err, refl, ap, ap₂, sym, ◌∙◌, arith, rules, add-one, length-drop, length-take, length-append}
+use Rattle.std.proofs.Common.{ℕ, zero, suc, ◌≡◌, ◌<◌, ◌≤◌, ◌+◌, ◌-◌, ◌*◌, ◌/◌, ◌%◌, ◌^◌, ◌==◌, Bool, true, false, not, ◌&&◌, cond, nat_lt, nat_eq, eqb, List, [], ◌∷◌, ◌++◌, length, take, drop, get_or, replicate, reverse, Result, Ok, Err, refl, ap, ap₂, sym, ◌∙◌, arith, add-one, length-drop, length-take, length-append}
 use Rattle.std.specs.Prelude.{decimal, nat_le}
 use Rattle.std.specs.Char.{is_ascii_digit, digit_value}
 use Rattle.std.specs.List.{list_all, list_any, suffix_len, position_or_len, before_first, after_first, AllByRecursion as Each}
@@ -9,23 +9,17 @@ use Rattle.std.proofs.lemmas.Bool.Decides.{nat_tests}
 use Rattle.std.proofs.lemmas.Fmt.{length-decimal-le, digits_decimal, digits_value-decimal, decimal_nonempty}
 use Rattle.std.proofs.lemmas.List.{get_or-reverse, get_or-drop, get_or-replicate, ext_get_or, length-replicate, take_at, take_all, drop_all}
 use Rattle.std.proofs.lemmas.List.Sums.{prefix_len_passes, suffix_len-le-length}
-use Rattle.std.proofs.lemmas.Str.Parse.{IsNumeralModel, numerals_by_value, digits_value_short}
-use Rattle.lw_facts.proofs.Lists.{drop_point, digits_value_split}
+use Rattle.std.proofs.lemmas.Str.Parse.{digits_value_short}
+use Rattle.lw_facts.proofs.Lists.{digits_take, drop_point, digits_value_split}
 use Rattle.lw_fixed.specs.declared.micro.Micro.{Micro}
 use Rattle.lw_fixed.specs.declared.fault.DecimalFault.{DecimalFault}
 use Rattle.lw_fixed.specs.declared.fault.DecimalFault.TheVariants.{Shape, Large, Fine, Negative}
 use Rattle.lw_fixed.specs.Decimals.{decimal_of, is_point, whole_part, decimals, is_decimal, has_digits, units_of, millionths_of, value_of_decimals, is_finer, is_negative}
 use Rattle.lw_fixed.specs.Printed.{decimal_text, six_decimals, without_zeros, with_decimals}
-use Rattle.lw_mapped.proofs.GoodWords.{IsGood, is_good, good-bytes}
-use Rattle.lw_mapped.proofs.WrittenLines.{each-append}
 use Rattle.lw_fixed.proofs.Shapes.{digit_apart, signless}
 use Rattle.lw_fixed.proofs.Texts.{padded}
-
-abbrev pub Digits : List ℕ → Type 0
-Digits ds = list_all is_ascii_digit ds ≡ true
-
-pub own : IsNumeralModel Digits (digits_value 10)
-own = numerals_by_value _ (search rules)
+use Rattle.lw_frame.proofs.Each.{each-append}
+use Rattle.lw_frame.proofs.GoodWords.{Digits, numerals, digits-good, IsGood, good-bytes}
 
 first-digit : (d : ℕ) (ds : List ℕ) → Digits (d ∷ ds) → (is_ascii_digit d ≡ true) × Digits ds
 first-digit d ds e = and_parts (is_ascii_digit d) (list_all is_ascii_digit ds) e
@@ -34,18 +28,6 @@ digits-drop : (k : ℕ) (ds : List ℕ) → Digits ds → Digits (drop k ds)
 digits-drop zero ds e = e
 digits-drop (suc k) [] e = refl
 digits-drop (suc k) (d ∷ ds) e = digits-drop k ds (first-digit d ds e).1
-
-pub digits-take : (k : ℕ) (ds : List ℕ) → Digits ds → Digits (take k ds)
-digits-take zero ds e = refl
-digits-take (suc k) [] e = refl
-digits-take (suc k) (d ∷ ds) e = let parts = first-digit d ds e in ap₂ (λ a b. a && b) parts.0 (digits-take k ds parts.1)
-
-digit-good : (d : ℕ) → is_ascii_digit d ≡ true → is_good d ≡ true
-digit-good d e = grind (arith, nat_tests)
-
-pub digits-good : (ds : List ℕ) → Digits ds → list_all is_good ds ≡ true
-digits-good [] e = refl
-digits-good (d ∷ ds) e = let parts = first-digit d ds e in ap₂ (λ a b. a && b) (digit-good d parts.0) (digits-good ds parts.1)
 
 -- The six decimals.
 
@@ -57,21 +39,21 @@ six-behind r (d ∷ ds) below long all is =
     let power : 10 ^ length ds ≡ 1000000 = ap (λ n. 10 ^ n) six in
     let whole : digits_value 10 (d ∷ ds) ≡ (0 * 10 + digit_value d) * 10 ^ length ds + digits_value 10 ds = digits_value_split (0 * 10 + digit_value d) ds in
     let apart : 1000000 + r ≡ (0 * 10 + digit_value d) * 1000000 + digits_value 10 ds = sym is ∙ (whole ∙ ap (λ p. (0 * 10 + digit_value d) * p + digits_value 10 ds) power) in
-    let small : digits_value 10 ds < 10 ^ 6 = digits_value_short own ds 6 (first-digit d ds all).1 (omega arith) in
+    let small : digits_value 10 ds < 10 ^ 6 = digits_value_short numerals ds 6 (first-digit d ds all).1 (omega arith) in
     (six, omega (arith, apart, small, below))
 
 module _ (r : ℕ) (below : r < 1000000) where
   million-digits : Digits (decimal (1000000 + r))
-  million-digits = digits_decimal own (1000000 + r) (omega arith)
+  million-digits = digits_decimal numerals (1000000 + r) (omega arith)
 
   million-value : digits_value 10 (decimal (1000000 + r)) ≡ 1000000 + r
-  million-value = digits_value-decimal own (1000000 + r) (omega arith)
+  million-value = digits_value-decimal numerals (1000000 + r) (omega arith)
 
   seven : length (decimal (1000000 + r)) ≡ 7
   seven =
       let most : length (decimal (1000000 + r)) ≤ 7 = length-decimal-le 7 (1000000 + r) (omega arith) (omega arith) (omega arith) in
       let short : length (decimal (1000000 + r)) ≤ 6 → ⊥ = λ le.
-      let less : digits_value 10 (decimal (1000000 + r)) < 10 ^ 6 = digits_value_short own (decimal (1000000 + r)) 6 million-digits le in
+      let less : digits_value 10 (decimal (1000000 + r)) < 10 ^ 6 = digits_value_short numerals (decimal (1000000 + r)) 6 million-digits le in
       absurd (omega (arith, million-value)) in
       omega arith
 
@@ -166,7 +148,7 @@ module _ (n : ℕ) (fits : n < 2 ^ 64) where
   part = without_zeros (six_decimals (n % 1000000))
 
   whole-digits : Digits whole
-  whole-digits = digits_decimal own (n / 1000000) (omega arith)
+  whole-digits = digits_decimal numerals (n / 1000000) (omega arith)
 
   whole-some : 0 < length whole
   whole-some = decimal_nonempty (n / 1000000) (omega arith)
@@ -175,7 +157,7 @@ module _ (n : ℕ) (fits : n < 2 ^ 64) where
   whole-short = length-decimal-le 20 (n / 1000000) (omega arith) (omega arith) (omega arith)
 
   part-digits : Digits part
-  part-digits = digits-take _ (six_decimals (n % 1000000)) (six-digits (n % 1000000) (omega arith))
+  part-digits = digits_take _ (six_decimals (n % 1000000)) (six-digits (n % 1000000) (omega arith))
 
   part-short : length part ≤ 6
   part-short = omega (arith, six-long (n % 1000000) (omega arith), length-take (length (six_decimals (n % 1000000)) - suffix_len is_zero (six_decimals (n % 1000000))) (six_decimals (n % 1000000)))
@@ -210,7 +192,7 @@ module _ (n : ℕ) (fits : n < 2 ^ 64) where
       ∙ (ap₂ (λ a b. a && b && nat_lt 0 (length whole + length part)) whole-digits part-digits ∙ some-digits (length whole) (length part) whole-some)
 
   units-are : units_of (decimal_text n) ≡ n / 1000000
-  units-are = ap (digits_value 10) parts.whole_is ∙ digits_value-decimal own (n / 1000000) (omega arith)
+  units-are = ap (digits_value 10) parts.whole_is ∙ digits_value-decimal numerals (n / 1000000) (omega arith)
 
   millionths-are : millionths_of (decimal_text n) ≡ n
   millionths-are =

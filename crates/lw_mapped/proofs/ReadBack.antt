@@ -40,7 +40,9 @@ use Rattle.lw_mapped.proofs.Once.{comes-once}
 use Rattle.lw_mapped.proofs.SaidBack.{of_kind, kind-both, no-arrivals, no-latches, no-gates, no-wires, no-labels, no-nets, arrivals_of, arrivals-said, latches-said, gates-said, wires-said, labelled, labels-said, classed, nets-said, label-at, OutsDiffer, classes-at, NamesDiffer, starts-again, IsQuiet, fresh-all}
 use Rattle.lw_mapped.proofs.Speaking.{items-are, lines-go, lines-written}
 use Rattle.lw_mapped.proofs.WrittenItems.{model-says, model-begins}
-use Rattle.lw_mapped.proofs.WrittenLines.{numbered, lines-again, each-of, each-append}
+use Rattle.lw_mapped.proofs.WrittenLines.{lines-again}
+use Rattle.lw_frame.proofs.Each.{each-of, each-append}
+use Rattle.lw_frame.proofs.WrittenLines.{numbered}
 
 -- Parts of lists.
 

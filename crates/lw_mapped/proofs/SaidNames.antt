@@ -32,9 +32,9 @@ use Rattle.lw_mapped.proofs.ReadKept.{comes-said}
 use Rattle.lw_mapped.proofs.SaidLines.{arrival-all, certificate-all, default-all, gate-all}
 use Rattle.lw_mapped.proofs.TextWords.{HasRight, read-right}
 use Rattle.lw_mapped.proofs.TieLemmas.{IsTied, gives-output, net-has, ties-tied, whole-first}
-use Rattle.lw_mapped.proofs.WrittenLines.{each-append, each-drop, each-of, each-weaker}
 use Rattle.lw_words.specs.Words.{first_word, is_name, IsSignalName}
 use Rattle.lw_frame.specs.Latches.{IsReadableLatch}
+use Rattle.lw_frame.proofs.Each.{each-append, each-drop, each-of, each-weaker}
 
 -- Words.
 

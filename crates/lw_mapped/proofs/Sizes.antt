@@ -26,6 +26,7 @@ use Rattle.lw_mapped.specs.LineFaults.{line_says, lines_say, what_is_said, lines
 use Rattle.lw_mapped.specs.LineFaults as faults
 use Rattle.lw_mapped.specs.Standing.{word_count}
 use Rattle.lw_words.specs.Words.{first_word, front, is_name}
+use Rattle.lw_frame.specs.Ending.{lines_until}
 
 -- how many inputs, outputs, latches and gates are said
 abbrev pub amount : List Saying → ℕ
@@ -162,7 +163,7 @@ front-fits (line ∷ lines) = by_case (goes_on line) (front-fits lines)
     by_case false e = omega arith
 
 pub read-fits : (lines : List LogicalLine) → word_count (lines_read lines) ≤ word_count lines
-unfolding lines_read
+unfolding lines_until
 read-fits [] = omega arith
 read-fits (line ∷ lines) = by_case (ends true (faults.command line)) (front-fits lines)
   where

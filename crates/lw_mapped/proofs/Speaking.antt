@@ -24,10 +24,11 @@ use Rattle.lw_mapped.proofs.Faultless.{Item, IsItem, GoesOn, all_lines, last_lin
 use Rattle.lw_mapped.proofs.GateItems.{IsNamed}
 use Rattle.lw_mapped.proofs.Items.{arrival_item, arrival_if, arrival_items, latch_item, gate_if, gate_items, wire_item, wire_if, wire_items, label_if, label_items, net_if, net_items, labels_of, classes_of, items_of, model_words}
 use Rattle.lw_mapped.proofs.WrittenItems.{IsSpoken, row-written, end-written, row-goes, model-written, inputs-spoken, outputs-spoken, arrival-spoken, latch-spoken, gate-spoken, wire-spoken, label-spoken, net-spoken}
-use Rattle.lw_mapped.proofs.WrittenLines.{IsWritten, each-of, each-append, each-take, each-weaker}
+use Rattle.lw_mapped.proofs.WrittenLines.{IsWritten}
 use Rattle.lw_words.specs.Words.{IsSignalName}
 use Rattle.lw_laws.specs.Graphs.{most_classes}
 use Rattle.lw_frame.specs.Latches.{IsReadableLatch}
+use Rattle.lw_frame.proofs.Each.{each-of, each-append, each-take, each-weaker}
 
 ports-each : (P : List ℕ → Type 0) (ports : List Port) → Each P (map port_name ports) → Each (λ (port : Port). P port.name) ports
 ports-each P [] each = tt

@@ -16,10 +16,11 @@ use Rattle.lw_mapped.specs.declared.fault.Refusal.TheVariants as refusal
 use Rattle.lw_mapped.specs.declared.saying.Saying.{Saying}
 use Rattle.lw_mapped.specs.Parsed.{TellsFault}
 use Rattle.lw_mapped.specs.Unmapped.{ComesTo, ClosesTo}
-use Rattle.lw_mapped.specs.LineFaults.{FaultAt, fault_or, fault_else, text_fault, wire_without_row, line_fault, first_fault, lines_read, has_ended, is_first, ends, command}
+use Rattle.lw_mapped.specs.LineFaults.{ends_on, FaultAt, fault_or, fault_else, text_fault, wire_without_row, line_fault, first_fault, lines_read, has_ended, ends, command}
 use Rattle.lw_mapped.specs.Standing.{IsKept, Stops, KeepsLines, Tells, fault_of, stop_at}
-use Rattle.lw_mapped.proofs.Appending.{lines_read-all, has_ended-more, lines_read-ended, lines_read-end}
-use Rattle.lw_mapped.proofs.Given.{first-more, ended-stays, ended-some, stops-stay, read-next}
+use Rattle.lw_mapped.proofs.Given.{stops-stay, read-next}
+use Rattle.lw_frame.specs.Ending.{has_end, is_first, lines_until}
+use Rattle.lw_frame.proofs.Ending.{end-more, end-some, end-stays, first-more, until-all, until-end, until-ended}
 
 -- Behind a fault.
 
@@ -56,16 +57,16 @@ none-stops o first e none = subst (λ (p : Option Stop). Stops p first) (sym e) 
 
 pub answer-ended : (cells : List CellParts) (begun ended : Bool) (o : Option Stop) (parts : Parts) (lines : List LogicalLine) (line : LogicalLine) → o ≡ None → ended ≡ true → IsKept begun ended o parts cells lines → first_fault cells [] (lines_read (lines ++ line ∷ [])) ≡ None
 answer-ended cells begun ended o parts lines line e is h =
-    ap (first_fault cells []) (lines_read-ended lines (line ∷ []) (sym (h.ended e) ∙ is)) ∙ no_fault cells begun ended o parts lines e h
+    ap (first_fault cells []) (until-ended ends_on lines (line ∷ []) (sym (h.ended e) ∙ is)) ∙ no_fault cells begun ended o parts lines e h
 
 pub stands-ended : (cells : List CellParts) (begun ended : Bool) (o : Option Stop) (parts : Parts) (lines : List LogicalLine) (line : LogicalLine) → o ≡ None → ended ≡ true → IsKept begun ended o parts cells lines → IsKept begun ended o parts cells (lines ++ line ∷ [])
 stands-ended cells begun ended o parts lines line e is h =
     let has = sym (h.ended e) ∙ is in
     record {
       stop = none-stops o _ e (answer-ended cells begun ended o parts lines line e is h);
-      begun = λ none. h.begun e ∙ (ap not (ended-some lines has) ∙ sym (ap not (first-more lines line)));
-      ended = λ none. is ∙ sym (ended-stays lines line has);
-      kept = λ none. subst (λ (ls : List LogicalLine). KeepsLines parts cells ls) (sym (lines_read-ended lines (line ∷ []) has)) (h.kept e);
+      begun = λ none. h.begun e ∙ (ap not (end-some ends_on lines has) ∙ sym (ap not (first-more lines line)));
+      ended = λ none. is ∙ sym (end-stays ends_on lines line has);
+      kept = λ none. subst (λ (ls : List LogicalLine). KeepsLines parts cells ls) (sym (until-ended ends_on lines (line ∷ []) has)) (h.kept e);
     }
 
 -- Lines that have not ended.
@@ -83,15 +84,15 @@ is-open cells begun ended o parts lines e is h =
       still = still;
       first = ap not (h.begun e) ∙ not-not (is_first lines);
       none = no_fault cells begun ended o parts lines e h;
-      kept = subst (λ (ls : List LogicalLine). KeepsLines parts cells ls) (lines_read-all lines still) (h.kept e);
+      kept = subst (λ (ls : List LogicalLine). KeepsLines parts cells ls) (until-all ends_on lines still) (h.kept e);
     }
 
 -- The line ends the reading.
 
 pub answer-end : (cells : List CellParts) (begun : Bool) (parts : Parts) (lines : List LogicalLine) (line : LogicalLine) → ends (not begun) (command line) ≡ true → IsOpen begun parts cells lines → first_fault cells [] (lines_read (lines ++ line ∷ [])) ≡ None
 answer-end cells begun parts lines line e o =
-    ap (first_fault cells []) (lines_read-end lines line o.still (ap (λ b. ends b (command line)) (sym o.first) ∙ e))
-    ∙ (ap (first_fault cells []) (sym (lines_read-all lines o.still)) ∙ o.none)
+    ap (first_fault cells []) (until-end ends_on lines line o.still (ap (λ b. ends b (command line)) (sym o.first) ∙ e))
+    ∙ (ap (first_fault cells []) (sym (until-all ends_on lines o.still)) ∙ o.none)
 
 pub stands-end : (cells : List CellParts) (begun : Bool) (parts : Parts) (s : Option Stop) (lines : List LogicalLine) (line : LogicalLine) → s ≡ None → ends (not begun) (command line) ≡ true → IsOpen begun parts cells lines → IsKept true true s parts cells (lines ++ line ∷ [])
 stands-end cells begun parts s lines line none e o =
@@ -99,8 +100,8 @@ stands-end cells begun parts s lines line none e o =
     record {
       stop = none-stops s _ none (answer-end cells begun parts lines line e o);
       begun = λ n. sym (ap not (first-more lines line));
-      ended = λ n. sym (has_ended-more lines line o.still ∙ goes);
-      kept = λ n. subst (λ (ls : List LogicalLine). KeepsLines parts cells ls) (sym (lines_read-end lines line o.still goes)) o.kept;
+      ended = λ n. sym (end-more ends_on lines line o.still ∙ goes);
+      kept = λ n. subst (λ (ls : List LogicalLine). KeepsLines parts cells ls) (sym (until-end ends_on lines line o.still goes)) o.kept;
     }
 
 -- The line is read.
@@ -113,8 +114,8 @@ pub stands-read : (cells : List CellParts) (begun ended : Bool) (parts new : Par
     KeepsLines new cells (lines ++ line ∷ []) → IsKept true ended s new cells (lines ++ line ∷ [])
 stands-read cells begun ended parts new s lines line none is_ended e o is keeps =
     let goes = ap (λ b. ends b (command line)) (sym o.first) ∙ e in
-    let still = has_ended-more lines line o.still ∙ goes in
-    let whole = lines_read-all (lines ++ line ∷ []) still in
+    let still = end-more ends_on lines line o.still ∙ goes in
+    let whole = until-all ends_on (lines ++ line ∷ []) still in
     let answer = answer-read cells begun parts lines line None e o is in
     record {
       stop = none-stops s _ none answer;
@@ -130,15 +131,15 @@ stands-broken cells begun ended parts new lines line kind number same e o is =
     (answer-read cells begun parts lines line (Some kind) e o is ∙ ap (λ n. Some (record { number = n; kind = kind })) (sym same))
 
 none-first : (cells : List CellParts) → first_fault cells [] (lines_read []) ≡ None
-unfolding first_fault lines_read
+unfolding first_fault lines_until
 none-first cells = refl
 
 none-ended : has_ended [] ≡ false
-unfolding has_ended
+unfolding has_end
 none-ended = refl
 
 none-read : lines_read [] ≡ []
-unfolding lines_read
+unfolding lines_until
 none-read = refl
 
 pub stands-new : (cells : List CellParts) (parts : Parts) → KeepsLines parts cells [] → IsKept false false None parts cells []

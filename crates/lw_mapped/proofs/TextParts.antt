@@ -7,14 +7,10 @@ use Rattle.lw_pool.specs.declared.id.ClassId.{ClassId}
 use Rattle.lw_pool.specs.declared.id.NetId.{NetId}
 use Rattle.lw_netlist.specs.declared.gate.Gate.{Gate}
 use Rattle.lw_netlist.specs.declared.gate.Port.{Port}
-use Rattle.lw_mapped.specs.Texts.{spaced, ties, tie, net_name, optional_arrival, arrival_lines, optional_label, label_lines, optional_net, net_lines}
+use Rattle.lw_frame.specs.Texts.{spaced}
+use Rattle.lw_mapped.specs.Texts.{ties, tie, net_name, optional_arrival, arrival_lines, optional_label, label_lines, optional_net, net_lines}
 use Rattle.lw_words.specs.Texts.{ended}
 use Rattle.lw_netlist.specs.Plain.{port_name}
-
--- words and then a line end
-pub ended_is : (words : List (List ℕ)) → ended words ≡ spaced words ++ 10 ∷ []
-ended_is [] = refl
-ended_is (word ∷ words) = ap (λ l. 32 ∷ word ++ l) (ended_is words) ∙ sym (append_assoc (32 ∷ word) (spaced words) (10 ∷ []))
 
 -- words, one more, and then a line end
 pub ended_with : (words : List (List ℕ)) (last : List ℕ) → ended (words ++ last ∷ []) ≡ spaced words ++ (32 ∷ last ++ 10 ∷ [])

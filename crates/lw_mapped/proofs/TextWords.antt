@@ -4,10 +4,10 @@ use Rattle.std.specs.List.{slice_split, onto_first, AllByRecursion as Each}
 use Rattle.std.proofs.lemmas.Bool.{eqb-false}
 use Rattle.lw_words.specs.Gathering.{IsNoHash}
 use Rattle.lw_words.specs.Lines.{LogicalLine, Text, is_blank, is_line_feed, has_some, lines_among, physical_lines, before_hash, has_mark, uncommented, before_trimmed, trimmed, is_continued, with_blank, continued_by, text_of, texts_from, words_of, line_of, has_words, lines_of, logical_lines}
-use Rattle.lw_mapped.specs.LineFaults.{command, ends, goes_on, lines_read}
+use Rattle.lw_mapped.specs.LineFaults.{ends_on, lines_read}
 use Rattle.lw_mapped.proofs.GoodWords.{IsPlainInk, IsRight, right-of}
-use Rattle.lw_mapped.proofs.WrittenLines.{each-append, each-drop, each-take, each-weaker}
-use Rattle.lw_words.specs.Words.{front}
+use Rattle.lw_frame.proofs.Ending.{until-each}
+use Rattle.lw_frame.proofs.Each.{each-append, each-drop, each-take, each-weaker}
 
 abbrev IsNoFeed : ℕ → Type 0
 IsNoFeed b = b ≢ 10
@@ -186,22 +186,5 @@ text-right bytes =
 
 -- The lines that are read.
 
-front-each : (P : LogicalLine → Type 0) (lines : List LogicalLine) → Each P lines → Each P (front goes_on lines)
-front-each P [] each = tt
-front-each P (line ∷ lines) each = by_test (goes_on line) (front-each P lines each.1)
-  where
-    by_test : (t : Bool) → Each P (front goes_on lines) → Each P (cond t (line ∷ front goes_on lines) [])
-    by_test true rest = (each.0, rest)
-    by_test false rest = tt
-
-read-each : (P : LogicalLine → Type 0) (lines : List LogicalLine) → Each P lines → Each P (lines_read lines)
-unfolding lines_read
-read-each P [] each = tt
-read-each P (line ∷ lines) each = by_test (ends true (command line))
-  where
-    by_test : (t : Bool) → Each P (cond t [] (line ∷ front goes_on lines))
-    by_test true = tt
-    by_test false = (each.0, front-each P lines each.1)
-
 pub read-right : (bytes : List ℕ) → Each HasRight (lines_read (logical_lines true bytes))
-read-right bytes = read-each HasRight (logical_lines true bytes) (text-right bytes)
+read-right bytes = until-each ends_on HasRight (logical_lines true bytes) (text-right bytes)

@@ -29,6 +29,7 @@ use Rattle.lw_mapped.proofs.CellGates.{gates-alone}
 use Rattle.lw_mapped.proofs.DepthLemmas.{no-more-gates}
 use Rattle.lw_mapped.proofs.TieLemmas.{whole-first, tie-whole}
 use Rattle.lw_words.specs.Words.{is_ignored_word, has_point, front}
+use Rattle.lw_frame.specs.Ending.{lines_until}
 
 -- The word `.gate`.
 
@@ -156,7 +157,7 @@ front-weighs (line ∷ lines) = by_case (goes_on line) (front-weighs lines)
     by_case false e = omega arith
 
 read-weighs : (lines : List LogicalLine) → lines_weight (lines_read lines) ≤ lines_weight lines
-unfolding lines_read
+unfolding lines_until
 read-weighs [] = omega arith
 read-weighs (line ∷ lines) = by_case (ends true (faults.command line)) (front-weighs lines)
   where

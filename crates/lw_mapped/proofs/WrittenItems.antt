@@ -28,13 +28,16 @@ use Rattle.lw_mapped.specs.Sayings.{said, fault_in, words_say, class_said, label
 use Rattle.lw_mapped.specs.Texts.{net_name, gate_words, ties, tie}
 use Rattle.lw_mapped.proofs.Faultless.{Item, IsItem, GoesOn, command_in, row}
 use Rattle.lw_mapped.proofs.GateItems.{IsNamed, gate-says}
-use Rattle.lw_mapped.proofs.GoodWords.{is_good, good-bytes, IsRight, right-good, right-word, right-name, well-name, ends-good, all-names, right-tie, well-tie, last-behind, last-one}
+use Rattle.lw_mapped.proofs.GoodWords.{IsRight, right-good, right-word, right-name, well-name, all-names, right-tie, well-tie, last-behind, last-one}
 use Rattle.lw_mapped.proofs.Items.{inputs_item, outputs_item, arrival_item, latch_item, gate_item, wire_item, label_item, net_item}
-use Rattle.lw_mapped.proofs.Printing.{own, digits-good, printed-read, printed-good, printed-length}
-use Rattle.lw_mapped.proofs.WrittenLines.{IsWordOf, EndsWell, LastEndsWell, IsWritten, each-append, each-weaker}
+use Rattle.lw_mapped.proofs.Printing.{printed-read, printed-good, printed-length}
+use Rattle.lw_mapped.proofs.WrittenLines.{IsWritten}
 use Rattle.lw_words.specs.Words.{IsSignalName}
 use Rattle.lw_laws.specs.Graphs.{most_classes}
 use Rattle.lw_frame.specs.Latches.{IsReadableLatch}
+use Rattle.lw_frame.proofs.Each.{each-append, each-weaker}
+use Rattle.lw_frame.proofs.GoodWords.{is_good, good-bytes, ends-good, numerals, digits-good, EndsWell}
+use Rattle.lw_frame.proofs.WrittenLines.{IsWordOf, LastEndsWell}
 
 -- What is to be shown of a line and, behind a wire, of its row.
 pub record IsSpoken (cells : List CellParts) (item : Item) : Type 0 where
@@ -199,17 +202,17 @@ wire-spoken cells names port net own =
 
 class-right : (class : ℕ) → class < most_classes → IsRight (decimal class)
 class-right class few =
-    right-key (decimal class) (digits-good (decimal class) (digits_decimal own class (omega arith))) (decimal_nonempty class (omega arith))
+    right-key (decimal class) (digits-good (decimal class) (digits_decimal numerals class (omega arith))) (decimal_nonempty class (omega arith))
     (let short : length (decimal class) ≤ 7 = length-decimal-le 7 class (omega arith) (omega arith) (omega arith) in omega arith)
 
 class-well : (class : ℕ) → class < most_classes → EndsWell (decimal class)
-class-well class few = well-key (decimal class) (digits-good (decimal class) (digits_decimal own class (omega arith))) (decimal_nonempty class (omega arith))
+class-well class few = well-key (decimal class) (digits-good (decimal class) (digits_decimal numerals class (omega arith))) (decimal_nonempty class (omega arith))
 
 class-again : (class : ℕ) → class < most_classes → class_said (decimal class) ≡ Some class
 unfolding class_said
 class-again class few =
-    let digits : list_all is_ascii_digit (decimal class) ≡ true = digits_decimal own class (omega arith) in
-    let value : digits_value 10 (decimal class) ≡ class = digits_value-decimal own class (omega arith) in
+    let digits : list_all is_ascii_digit (decimal class) ≡ true = digits_decimal numerals class (omega arith) in
+    let value : digits_value 10 (decimal class) ≡ class = digits_value-decimal numerals class (omega arith) in
     let below : nat_lt class most_classes ≡ true = grind (arith, nat_tests) in
     ap (λ v. cond (list_all is_ascii_digit (decimal class) && nat_lt v most_classes && bytes_eq (decimal v) (decimal class)) (Some v) None) value
     ∙ (ap₂ (λ a b. cond (a && b && bytes_eq (decimal class) (decimal class)) (Some class) None) digits below

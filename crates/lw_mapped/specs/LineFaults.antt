@@ -1,6 +1,6 @@
 -- The first rule that a line of a mapped text breaks, behind the lines before it.
-use Rattle.std.specs.Prelude.{ℕ, Bool, true, false, not, ◌||◌, List, [], ◌∷◌, ◌++◌, Option, Some, None, Result, Ok, Err, if◌then◌else◌, is_some, codes}
-use Rattle.std.specs.List.{flat_map, list_any}
+use Rattle.std.specs.Prelude.{ℕ, Bool, true, false, not, List, [], ◌∷◌, ◌++◌, Option, Some, None, Result, Ok, Err, if◌then◌else◌, is_some, codes}
+use Rattle.std.specs.List.{flat_map}
 use Rattle.std.specs.Str.{bytes_eq}
 use Rattle.lw_words.specs.Lines.{LogicalLine}
 use Rattle.lw_genlib.specs.Cells.{CellParts}
@@ -13,7 +13,8 @@ use Rattle.lw_mapped.specs.declared.saying.Saying.TheVariants as saying
 use Rattle.lw_mapped.specs.Commands.{command_of}
 use Rattle.lw_mapped.specs.Sayings.{words_say}
 use Rattle.lw_mapped.specs.Said.{label_among, class_among, labels_in, nets_in}
-use Rattle.lw_words.specs.Words.{first_word, front}
+use Rattle.lw_frame.specs.Ending.{lines_until, has_end}
+use Rattle.lw_words.specs.Words.{first_word}
 
 abbrev pub command : LogicalLine → Command
 command line = command_of (first_word line.words)
@@ -29,20 +30,16 @@ ends first other = false
 abbrev pub goes_on : LogicalLine → Bool
 goes_on line = not (ends false (command line))
 
+abbrev pub ends_on : Bool → LogicalLine → Bool
+ends_on first line = ends first (command line)
+
 -- the lines that are read
-unfoldable pub lines_read : List LogicalLine → List LogicalLine
-lines_read [] = []
-lines_read (line ∷ lines) = if ends true (command line) then [] else line ∷ front goes_on lines
+abbrev pub lines_read : List LogicalLine → List LogicalLine
+lines_read lines = lines_until ends_on lines
 
 -- a line of these ends the reading
-unfoldable pub has_ended : List LogicalLine → Bool
-has_ended [] = false
-has_ended (line ∷ lines) = ends true (command line) || list_any (λ other. ends false (command other)) lines
-
--- no line was read
-abbrev pub is_first : List LogicalLine → Bool
-is_first [] = true
-is_first (line ∷ lines) = false
+abbrev pub has_ended : List LogicalLine → Bool
+has_ended lines = has_end ends_on lines
 
 -- Wires and their rows.
 

@@ -12,9 +12,10 @@ use Rattle.lw_mapped.specs.declared.reader.MappedReader.{MappedReader}
 use Rattle.lw_mapped.specs.declared.reader.Stop.{Stop}
 use Rattle.lw_mapped.specs.declared.reader.Stop.TheVariants as stop
 use Rattle.lw_mapped.specs.Keeping.{Keeps}
-use Rattle.lw_mapped.specs.LineFaults.{FaultAt, first_fault, lines_read, lines_say, has_ended, is_first, wire_without_row}
+use Rattle.lw_mapped.specs.LineFaults.{FaultAt, first_fault, lines_read, lines_say, has_ended, wire_without_row}
 use Rattle.lw_mapped.specs.Parsed.{IsLabel}
 use Rattle.lw_laws.specs.Graphs.{most_classes}
+use Rattle.lw_frame.specs.Ending.{is_first}
 
 -- What a reader answers.
 

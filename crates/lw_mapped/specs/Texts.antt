@@ -17,10 +17,6 @@ use Rattle.lw_words.specs.Texts.{line}
 use Rattle.lw_netlist.specs.Plain.{port_name}
 use Rattle.lw_frame.specs.Latches.{latch_line}
 
--- a space before each word
-abbrev pub spaced : List (List ℕ) → List ℕ
-spaced words = flat_map (λ word. 32 ∷ word) words
-
 abbrev pub net_name : List (List ℕ) → NetId → List ℕ
 net_name names net = slice_index_or names net.0 []
 

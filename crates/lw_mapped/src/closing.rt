@@ -206,14 +206,7 @@ impl Contents {
             gates,
             wires,
         )?;
-        closed(
-            alloc,
-            lib,
-            draft,
-            frame,
-            starts,
-            OptMicros::from_vec(labels),
-            &nets,
-        )
+        let labels = OptMicros::from_vec(labels);
+        closed(alloc, lib, draft, frame, starts, labels, &nets)
     }
 }

@@ -1,6 +1,7 @@
 // Lines of words.
 ghost use Rattle.std.specs.Prelude.{◌≡◌, ◌<◌, ◌∷◌, length, map};
-ghost use Rattle.lw_mapped.specs.Texts.{spaced, tie, net_name};
+ghost use Rattle.lw_frame.specs.Texts.{spaced};
+ghost use Rattle.lw_mapped.specs.Texts.{tie, net_name};
 ghost use Rattle.lw_io.specs.Waitings.{Puts};
 ghost use Rattle.lw_words.specs.Texts.{line};
 ghost use Rattle.lw_netlist.specs.Plain.{port_name};

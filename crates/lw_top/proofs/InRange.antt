@@ -7,7 +7,7 @@ use Rattle.std.proofs.lemmas.Bool.{leb-true}
 use Rattle.lw_fixed.specs.Decimals.{decimal_of}
 use Rattle.lw_fixed.specs.declared.fault.DecimalFault.{DecimalFault}
 use Rattle.lw_fixed.specs.declared.micro.Micro.{Micro}
-use Rattle.lw_blif.proofs.Early.{decimal_below}
+use Rattle.lw_frame.proofs.Early.{decimal_below}
 use Rattle.lw_genlib.specs.Cells.{IsSmall}
 use Rattle.lw_laws.specs.Modes.Mode.{plain, idempotent}
 use Rattle.lw_map.specs.Options.{Options, IsWide}

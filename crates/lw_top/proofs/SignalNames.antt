@@ -1,5 +1,5 @@
 -- The names of a model that was read are names of the format.
-use Rattle.std.proofs.Common.{ℕ, ◌≡◌, Bool, true, false, not, cond, if◌then◌else◌, List, [], ◌∷◌, ◌++◌, length, map, drop, Option, Some, None, Ok, All, refl, ap, sym, subst, arith}
+use Rattle.std.proofs.Common.{ℕ, ◌≡◌, Bool, true, false, not, cond, List, [], ◌∷◌, ◌++◌, length, map, drop, Option, Some, None, Ok, All, refl, ap, sym, subst, arith}
 use Rattle.std.specs.Prelude.{nat_le}
 use Rattle.std.specs.List.{list_all, flat_map, AllByRecursion as Each}
 use Rattle.std.proofs.lemmas.Bool.{and_parts}
@@ -19,18 +19,19 @@ use Rattle.lw_blif.specs.declared.command.Command.TheVariants.{Model, Inputs, Ou
 use Rattle.lw_blif.specs.declared.fault.BlifKind.{BlifKind}
 use Rattle.lw_blif.specs.declared.fault.BlifKind.TheVariants as kind
 use Rattle.lw_blif.specs.declared.parsed.Parsed.{Parsed}
-use Rattle.lw_blif.specs.LineFaults.{FaultAt, other_words, command, names_for, wants_words, first_broken, name_rules, arrival_rules, start_rules, start_in, times_for, rules_for, node_before, rows_before, defined_by, line_fault, first_fault, goes_on, ends, lines_read}
+use Rattle.lw_blif.specs.LineFaults.{ends_on, FaultAt, other_words, command, names_for, wants_words, first_broken, name_rules, arrival_rules, start_rules, start_in, times_for, rules_for, node_before, rows_before, defined_by, line_fault, first_fault, ends, lines_read}
 use Rattle.lw_blif.specs.Drafts.{model_for, inputs_for, outputs_for, latches_for, latch_of, model_on, inputs_on, outputs_on, latches_on, draft_of, frame_on}
 use Rattle.lw_blif.specs.BlifNetworks.{IsModelOf, IsBlifNetwork, ComesTo}
 use Rattle.lw_blif.proofs.Appending.{fault_or_none}
 use Rattle.lw_blif.proofs.Sound.{lines-draft, short}
 use Rattle.lw_mapped.proofs.GoodWords.{right-word}
-use Rattle.lw_mapped.proofs.WrittenLines.{each-of, each-append, each-weaker}
 use Rattle.lw_mapped.proofs.SaidNames.{control-named, model-or-unnamed, once-named}
 use Rattle.lw_top.specs.Answers.{lines_in}
 use Rattle.lw_top.proofs.WordLines.{lines_have_words}
-use Rattle.lw_words.specs.Words.{front, is_name, IsSignalName}
+use Rattle.lw_words.specs.Words.{is_name, IsSignalName}
 use Rattle.lw_frame.specs.Latches.{IsReadableLatch}
+use Rattle.lw_frame.proofs.Ending.{until-each}
+use Rattle.lw_frame.proofs.Each.{each-of, each-append, each-weaker}
 
 -- Words.
 
@@ -141,23 +142,6 @@ lines-named before (line ∷ lines) none are =
 
 -- The lines that are read.
 
-front-each : (P : LogicalLine → Type 0) (p : LogicalLine → Bool) (lines : List LogicalLine) → Each P lines → Each P (front p lines)
-front-each P p [] each = tt
-front-each P p (line ∷ lines) each = by_test (p line) (front-each P p lines each.1)
-  where
-    by_test : (t : Bool) → Each P (front p lines) → Each P (if t then line ∷ front p lines else [])
-    by_test true rest = (each.0, rest)
-    by_test false rest = tt
-
-read-each : (P : LogicalLine → Type 0) (lines : List LogicalLine) → Each P lines → Each P (lines_read lines)
-unfolding lines_read
-read-each P [] each = tt
-read-each P (line ∷ lines) each = by_test (ends true (command line))
-  where
-    by_test : (t : Bool) → Each P (if t then [] else line ∷ front goes_on lines)
-    by_test true = tt
-    by_test false = (each.0, front-each P goes_on lines each.1)
-
 words-each : (lines : List LogicalLine) → All (λ (line : LogicalLine). All (IsWord 4095) line.words) lines → Each HasWords lines
 words-each lines all =
     each-weaker (λ (line : LogicalLine). All (IsWord 4095) line.words) HasWords (λ line are. each-of (IsWord 4095) line.words are) lines
@@ -197,4 +181,4 @@ model_named bytes read is = by_fault (first_fault [] (lines_read (lines_in bytes
   where
     by_fault : (first : Option FaultAt) → first_fault [] (lines_read (lines_in bytes)) ≡ first → ComesTo first (lines_read (lines_in bytes)) (Ok read) → IsNamed read
     by_fault (Some first) e h = absurd h
-    by_fault None e h = lines-model (lines_read (lines_in bytes)) read (read-each HasWords (lines_in bytes) (words-each (lines_in bytes) (lines_have_words bytes))) e h
+    by_fault None e h = lines-model (lines_read (lines_in bytes)) read (until-each ends_on HasWords (lines_in bytes) (words-each (lines_in bytes) (lines_have_words bytes))) e h

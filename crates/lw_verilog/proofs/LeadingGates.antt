@@ -33,6 +33,7 @@ use Rattle.lw_verilog.proofs.Named.{among-at}
 use Rattle.lw_verilog.proofs.PutParts.{passed-le}
 use Rattle.lw_verilog.proofs.Spellings.{IsShown, close-piece, instance-named, point-piece, reads-instance, reads-name}
 use Rattle.lw_verilog.proofs.Stepping.{Reads, reads-both}
+use Rattle.lw_mapped.proofs.GateItems.{among-self}
 
 -- The connections of a gate.
 
@@ -213,14 +214,6 @@ pub record IsSayable (cells : List CellParts) (names : List (List ℕ)) (gate : 
   pub differ : IsDistinct bytes_eq (cell.pins ++ cell.output ∷ [])
   pub pin_nets : Each (λ (net : NetId). IsGood (net_name names net)) gate.pins
   pub out_net : IsGood (net_name names gate.out)
-
-among-each : (all pins : List (List ℕ)) → Each (λ pin. is_among all pin ≡ true) pins → (extra : List ℕ) → Each (λ pin. is_among (extra ∷ all) pin ≡ true) pins
-among-each all [] each extra = tt
-among-each all (pin ∷ pins) each extra = (ap (λ b. bytes_eq pin extra || b) each.0 ∙ or-true (bytes_eq pin extra), among-each all pins each.1 extra)
-
-pub among-self : (xs : List (List ℕ)) → Each (λ x. is_among xs x ≡ true) xs
-among-self [] = tt
-among-self (x ∷ xs) = (ap (λ b. b || is_among xs x) (bytes_eq_same x x refl), among-each xs xs (among-self xs) x)
 
 module _ (cells : List CellParts) (lib : IsLibrary cells) (names : List (List ℕ)) where
   ties-are : (cell : CellParts) (pins : List (List ℕ)) (nets : List NetId) → Each IsShown pins → Each (λ pin. is_among cell.pins pin ≡ true) pins → Each (λ (net : NetId). IsGood (net_name names net)) nets → Each (IsTieOf cell) (pin_ties names pins nets)

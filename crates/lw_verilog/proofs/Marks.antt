@@ -12,10 +12,10 @@ use Rattle.std.proofs.lemmas.List.{get_or-set_other, length-set, map-append, tak
 use Rattle.std.proofs.lemmas.List.Folds.{list_any-append}
 use Rattle.lw_netlist.specs.declared.gate.Port.{Port}
 use Rattle.lw_netlist.specs.Closing.{is_among}
-use Rattle.lw_mapped.proofs.Printing.{own}
 use Rattle.lw_verilog.specs.Texts.{instance_name}
-use Rattle.lw_verilog.specs.Windows.{AreTaken, Raises}
+use Rattle.lw_verilog.specs.Windows.{AreTaken, Raises, width}
 use Rattle.lw_netlist.specs.Plain.{port_name}
+use Rattle.lw_frame.proofs.GoodWords.{numerals}
 
 pub or-no : (a b : Bool) → b ≡ false → a ≡ (a || b)
 or-no true b e = refl
@@ -63,7 +63,7 @@ output-more ports k port x lt here =
 -- Numbers of instances.
 
 pub decimal-once : (j k : ℕ) → j ≤ 2 ^ 60 → k ≤ 2 ^ 60 → decimal j ≡ decimal k → j ≡ k
-decimal-once j k a b same = sym (digits_value-decimal own j (omega arith)) ∙ (ap (digits_value 10) same ∙ digits_value-decimal own k (omega arith))
+decimal-once j k a b same = sym (digits_value-decimal numerals j (omega arith)) ∙ (ap (digits_value 10) same ∙ digits_value-decimal numerals k (omega arith))
 
 pub instance-tail : (j k : ℕ) → instance_name j ≡ instance_name k → decimal j ≡ decimal k
 instance-tail j k same = ap (λ l. tail l) same
@@ -84,7 +84,7 @@ told-apart x y never = by_test (bytes_eq x y) refl
 pub other-instance : (j k : ℕ) (name : List ℕ) → j ≤ 2 ^ 60 → k ≤ 2 ^ 60 → name ≡ instance_name k → j ≢ k → bytes_eq (instance_name j) name ≡ false
 other-instance j k name a b is apart = told-apart (instance_name j) name (λ same. apart (decimal-once j k a b (instance-tail j k (sym same ∙ is))))
 
-pub taken-all : (names outputs : List (List ℕ)) (base : ℕ) (none first both : List Bool) → length none ≡ 65536 → base + 65536 ≤ 2 ^ 60 → ((i : ℕ) → i < 65536 → get_or none i false ≡ false) → Raises (λ i. is_among names (instance_name (base + i))) none first → Raises (λ i. is_among outputs (instance_name (base + i))) first both → AreTaken (names ++ outputs) base both
+pub taken-all : (names outputs : List (List ℕ)) (base : ℕ) (none first both : List Bool) → length none ≡ width → base + width ≤ 2 ^ 60 → ((i : ℕ) → i < width → get_or none i false ≡ false) → Raises (λ i. is_among names (instance_name (base + i))) none first → Raises (λ i. is_among outputs (instance_name (base + i))) first both → AreTaken (names ++ outputs) base both
 taken-all names outputs base none first both many few clear x y =
     let all : Raises (λ i. is_among (names ++ outputs) (instance_name (base + i))) none both = raises-both x y (λ i. sym (list_any-append (bytes_eq (instance_name (base + i))) names outputs)) in
     record {

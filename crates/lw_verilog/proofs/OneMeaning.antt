@@ -1,40 +1,15 @@
 -- A text comes to one outcome.
-use Rattle.std.proofs.Common.{◌≡◌, ◌≢◌, List, Some, None, Result, Ok, Err, refl, ap, sym, ◌∙◌}
+use Rattle.std.proofs.Common.{◌≢◌, List, Result, Ok, Err, refl, ap, sym, ◌∙◌}
 use Rattle.lw_genlib.specs.Cells.{CellParts}
 use Rattle.lw_netlist.specs.declared.draft.GateDraft.{GateDraft}
-use Rattle.lw_netlist.specs.declared.fault.NetlistFault.{NetlistFault}
-use Rattle.lw_netlist.specs.declared.fault.NetlistFault.TheVariants as whole
-use Rattle.lw_netlist.specs.Closing.{IsClosed, links}
 use Rattle.lw_netlist.specs.Netlists.{NetlistParts}
 use Rattle.lw_mapped.proofs.ClosedOnce.{closed-once}
 use Rattle.lw_verilog.specs.declared.fault.VerilogFault.{VerilogFault}
 use Rattle.lw_verilog.specs.declared.fault.VerilogFault.TheVariants as fault
 use Rattle.lw_verilog.specs.Readings.{FaultAt, Reading}
 use Rattle.lw_verilog.specs.Statements.{draft_of}
-use Rattle.lw_verilog.specs.Verdicts.{AreSame, ClosesTo, ComesTo, HasWholeFault, Tells}
-use Rattle.lw_mapped.proofs.Once.{cycle-once}
-
-faults-once : (draft : GateDraft) (e f : NetlistFault) → HasWholeFault draft e → HasWholeFault draft f → e ≡ f
-faults-once draft (whole.Twice a) (whole.Twice b) p q = let both : Some a ≡ Some b = sym p ∙ q in cc
-faults-once draft (whole.Twice a) (whole.Undriven b) p q = let both : Some a ≡ None = sym p ∙ q.0 in cc
-faults-once draft (whole.Twice a) (whole.Cycle b) p q = let both : Some a ≡ None = sym p ∙ q.0 in cc
-faults-once draft (whole.Undriven a) (whole.Twice b) p q = let both : Some b ≡ None = sym q ∙ p.0 in cc
-faults-once draft (whole.Undriven a) (whole.Undriven b) p q = let both : Some a ≡ Some b = sym p.1 ∙ q.1 in cc
-faults-once draft (whole.Undriven a) (whole.Cycle b) p q = let both : Some a ≡ None = sym p.1 ∙ q.1 in cc
-faults-once draft (whole.Cycle a) (whole.Twice b) p q = let both : Some b ≡ None = sym q ∙ p.0 in cc
-faults-once draft (whole.Cycle a) (whole.Undriven b) p q = let both : Some b ≡ None = sym q.1 ∙ p.1 in cc
-faults-once draft (whole.Cycle a) (whole.Cycle b) p q = ap whole.Cycle (cycle-once (links draft) a b p.2 q.2)
-faults-once draft whole.Memory f p q = absurd p
-faults-once draft (whole.Twice a) whole.Memory p q = absurd q
-faults-once draft (whole.Undriven a) whole.Memory p q = absurd q
-faults-once draft (whole.Cycle a) whole.Memory p q = absurd q
-
--- A draft with a fault is not closed.
-closed-faultless : (draft : GateDraft) (n : NetlistParts) (f : NetlistFault) → IsClosed draft n → HasWholeFault draft f → ⊥
-closed-faultless draft n (whole.Twice a) c q = let both : None ≡ Some a = sym c.once ∙ q in cc
-closed-faultless draft n (whole.Undriven a) c q = let both : None ≡ Some a = sym c.driven ∙ q.1 in cc
-closed-faultless draft n (whole.Cycle a) c q = c.no_cycle a q.2.cycle
-closed-faultless draft n whole.Memory c q = q
+use Rattle.lw_verilog.specs.Verdicts.{AreSame, ClosesTo, ComesTo, Tells}
+use Rattle.lw_mapped.proofs.Once.{faults-once, closed-faultless}
 
 closes-once : (draft : GateDraft) (a b : Result NetlistParts VerilogFault) → ClosesTo draft a → ClosesTo draft b → a ≢ Err fault.Memory → b ≢ Err fault.Memory → AreSame a b
 closes-once draft (Ok a) (Ok b) p q na nb = closed-once draft a b p q

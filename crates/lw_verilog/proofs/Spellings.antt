@@ -9,7 +9,6 @@ use Rattle.std.proofs.lemmas.Bool.{and_parts}
 use Rattle.std.proofs.lemmas.Fmt.{length-decimal-le, digits_decimal}
 use Rattle.std.proofs.lemmas.List.{take_at}
 use Rattle.lw_genlib.specs.Cells.{CellParts}
-use Rattle.lw_mapped.proofs.Printing.{Digits, own}
 use Rattle.lw_verilog.specs.declared.kind.Kind.{Kind}
 use Rattle.lw_verilog.specs.declared.kind.Kind.TheVariants as kind
 use Rattle.lw_verilog.specs.declared.place.Move.{Move}
@@ -22,6 +21,7 @@ use Rattle.lw_verilog.specs.Statements.{ports_of}
 use Rattle.lw_verilog.specs.Texts.{escaped, instance_name}
 use Rattle.lw_verilog.specs.Tokens.{is_gap, is_strange, name_of}
 use Rattle.lw_verilog.proofs.Stepping.{Leads, Reads, leads-both, leads-gap, leads-token, some-piece}
+use Rattle.lw_frame.proofs.GoodWords.{Digits, numerals}
 
 drop-front : (xs ys : List ℕ) → drop (length xs) (xs ++ ys) ≡ ys
 drop-front [] ys = refl
@@ -170,7 +170,7 @@ name-run (b ∷ word) rest e =
     ap (λ t. cond (not (not t)) (1 + name_bytes (word ++ 32 ∷ rest)) 0) parts.0 ∙ next
 
 instance-bytes : (number : ℕ) → number < 2 ^ 64 → list_all is_name_byte (decimal number) ≡ true
-instance-bytes number lt = digit-bytes (decimal number) (digits_decimal own number lt)
+instance-bytes number lt = digit-bytes (decimal number) (digits_decimal numerals number lt)
 
 instance-piece : (word rest : List ℕ) → list_all is_name_byte word ≡ true → first_piece (117 ∷ word ++ 32 ∷ rest) ≡ piece kind.Name (suc (length word))
 unfolding word_kind

@@ -7,7 +7,7 @@ use Rattle.std.specs.Str.{bytes_eq}
 use Rattle.std.proofs.lemmas.Bool.Decides.{nat_tests}
 use Rattle.std.proofs.lemmas.List.{take-append-drop}
 use Rattle.std.proofs.lemmas.List.Folds.{list_any-append}
-use Rattle.std.proofs.lemmas.Map.Keys.{IsDistinct-cons, IsDistinct-head, IsDistinct-tail}
+use Rattle.std.proofs.lemmas.Map.Keys.{IsDistinct-head, IsDistinct-tail}
 use Rattle.std.proofs.lemmas.Bool.{not-false}
 use Rattle.lw_facts.proofs.Lists.{distinct_take, bytes_differ_turned}
 use Rattle.lw_pool.specs.declared.id.NetId.{NetId}
@@ -21,7 +21,6 @@ use Rattle.lw_mapped.specs.Texts.{net_name, names_of_inputs, names_of_outputs}
 use Rattle.lw_mapped.proofs.Driving as back
 use Rattle.lw_mapped.proofs.Driving.{at-each, each-at, each-map}
 use Rattle.lw_mapped.proofs.Items.{named_gate}
-use Rattle.lw_mapped.proofs.WrittenLines.{each-append, each-drop, each-of, each-take}
 use Rattle.lw_verilog.specs.declared.fault.VerilogKind.TheVariants as broken
 use Rattle.lw_verilog.specs.declared.reason.NoVerilog.TheVariants as reason
 use Rattle.lw_verilog.specs.Pieces.{is_visible}
@@ -29,9 +28,12 @@ use Rattle.lw_verilog.specs.Readings.{are_ports, has_hash, ports_fault}
 use Rattle.lw_verilog.specs.Sayable.{cell_names, cell_of, cell_tied, cells_refused, clash, first_hidden, first_or_none, first_same, first_tied, gate_names, is_hidden, names_said}
 use Rattle.lw_verilog.specs.Writable.{IsWritable}
 use Rattle.lw_verilog.proofs.Leading.{AreNew, IsGood}
-use Rattle.lw_verilog.proofs.LeadingGates.{IsSayable, IsSayablePort, among-self}
+use Rattle.lw_verilog.proofs.LeadingGates.{IsSayable, IsSayablePort}
 use Rattle.lw_verilog.proofs.Spellings.{IsShown}
 use Rattle.lw_words.specs.Words.{IsSignalName}
+use Rattle.lw_frame.proofs.Each.{each-append, each-drop, each-of, each-take}
+use Rattle.lw_netlist.proofs.Names.{distinct_push}
+use Rattle.lw_mapped.proofs.GateItems.{among-self}
 
 -- Tests that do not fail.
 
@@ -135,18 +137,6 @@ ports-kept ports new =
     let declared : list_all (is_among ports) ports ≡ true = all-hold (is_among ports) ports (among-self ports) in
     let ok : are_ports ports ports ≡ true = ap₂ (λ o b. is_none o && b && b) (never-twice [] ports new) declared in
     ap (λ b. cond b None (Some broken.Port)) ok
-
-distinct-last : (xs : List (List ℕ)) (last : List ℕ) → IsDistinct bytes_eq xs → is_among xs last ≡ false → IsDistinct bytes_eq (xs ++ last ∷ [])
-distinct-last [] last distinct free = IsDistinct-cons bytes_eq last [] tt distinct
-distinct-last (x ∷ xs) last distinct free =
-    let parts = neither (bytes_eq last x) (is_among xs last) free in
-    IsDistinct-cons bytes_eq x (xs ++ last ∷ [])
-    (each-append (λ y. bytes_eq x y ≡ false) xs (last ∷ []) (IsDistinct-head bytes_eq x xs distinct) (bytes_differ_turned last x parts.0, tt))
-    (distinct-last xs last (IsDistinct-tail bytes_eq x xs distinct) parts.1)
-  where
-    neither : (a b : Bool) → (a || b) ≡ false → (a ≡ false) × (b ≡ false)
-    neither true b e = cc
-    neither false b e = (refl, e)
 
 module _ (cells : List CellParts) (n : NetlistParts) (w : IsWritable cells n) where
   abbrev names : List (List ℕ)
@@ -255,7 +245,7 @@ module _ (cells : List CellParts) (n : NetlistParts) (w : IsWritable cells n) wh
         cell_name = record { some = listed.name.0; seen = seen.0 };
         pins = each-two IsPinName IsSeen IsShown shown-pin cell.pins (each-of IsPinName cell.pins listed.pins) (each-left IsSeen cell.pins rest seen.1);
         output = record { some = listed.output.word.0; seen = (each-right IsSeen cell.pins rest seen.1).0 };
-        differ = distinct-last cell.pins cell.output listed.pins_differ (untied j gate e cell c.at);
+        differ = distinct_push cell.pins cell.output listed.pins_differ (untied j gate e cell c.at);
         pin_nets = nets-of gate.pins (n.inputs + j) within (back.pin-before n w.netlist w.names j gate e);
         out_net = net-good gate.out (omega (arith, drives, within));
       }

@@ -5,22 +5,18 @@ use Rattle.lw_netlist.specs.declared.draft.GateDraft.{GateDraft}
 use Rattle.lw_netlist.specs.declared.fault.NetlistFault.{NetlistFault}
 use Rattle.lw_netlist.specs.declared.fault.NetlistFault.TheVariants as whole
 use Rattle.lw_netlist.specs.Netlists.{NetlistParts}
-use Rattle.lw_netlist.specs.Closing.{IsClosed, HasFault}
+use Rattle.lw_netlist.specs.Closing.{IsClosed}
 use Rattle.lw_verilog.specs.declared.fault.VerilogFault.{VerilogFault}
 use Rattle.lw_verilog.specs.declared.fault.VerilogFault.TheVariants as fault
 use Rattle.lw_verilog.specs.Readings.{FaultAt, Reading, nothing_read, read}
 use Rattle.lw_verilog.specs.Statements.{draft_of}
 use Rattle.lw_verilog.specs.Tokens.{tokens}
+use Rattle.lw_mapped.specs.Unmapped.{HasWholeFault}
 
 -- the fault of a netlist as a whole, or want of memory
 abbrev pub whole_fault : NetlistFault → VerilogFault
 whole_fault whole.Memory = fault.Memory
 whole_fault other = fault.Whole other
-
--- the fault of the whole, which is never want of memory
-abbrev pub HasWholeFault : GateDraft → NetlistFault → Type 0
-HasWholeFault draft whole.Memory = ⊥
-HasWholeFault draft other = HasFault draft other
 
 -- The draft's netlist, or the fault of the whole. Want of memory is free.
 abbrev pub ClosesTo : GateDraft → Result NetlistParts VerilogFault → Type 0

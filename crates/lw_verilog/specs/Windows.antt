@@ -3,6 +3,10 @@ use Rattle.std.specs.Prelude.{ℕ, ◌≡◌, ◌<◌, ◌≤◌, ◌+◌, ◌||
 use Rattle.lw_netlist.specs.Closing.{is_among}
 use Rattle.lw_verilog.specs.Texts.{instance_name}
 
+-- how many numbers have flags at a time
+abbrev pub width : ℕ
+width = 65536
+
 -- flags after those were raised whose places pass a test
 pub record Raises (test : ℕ → Bool) (old new : List Bool) : Type 0 where
   pub many : length new ≡ length old
@@ -11,6 +15,6 @@ pub record Raises (test : ℕ → Bool) (old new : List Bool) : Type 0 where
 -- Each flag tells whether the instance of its number, counted from the base, has one of these
 -- names.
 pub record AreTaken (names : List (List ℕ)) (base : ℕ) (flags : List Bool) : Type 0 where
-  pub many : length flags ≡ 65536
-  pub few : base + 65536 ≤ 2 ^ 60
-  pub each : (i : ℕ) → i < 65536 → slice_index_or flags i false ≡ is_among names (instance_name (base + i))
+  pub many : length flags ≡ width
+  pub few : base + width ≤ 2 ^ 60
+  pub each : (i : ℕ) → i < width → slice_index_or flags i false ≡ is_among names (instance_name (base + i))

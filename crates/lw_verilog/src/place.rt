@@ -1,5 +1,6 @@
 // Where in the grammar a token stands.
 ghost use Rattle.std.specs.Prelude.{◌≡◌, true, false, IfSome};
+ghost use Rattle.lw_verilog.specs.declared.kind.Kind.TheVariants as kind;
 ghost use Rattle.lw_verilog.specs.Grammar.{move_at, moved};
 ghost use Rattle.lw_verilog.specs.Readings.{is_word};
 ghost use Rattle.lw_verilog.specs.Tokens.{is_end, is_name};
@@ -115,6 +116,90 @@ fn moved(next: Place, task: Task) -> Option<Move>
     Some(Move { next, task })
 }
 
+// What a name does at this place, if one may stand there.
+#[tactic(auto, unfolding(crate::specs::Grammar::move_at))]
+fn move_by_name(place: Place) -> Option<Move>
+    ensures { result ≡ move_at place kind.Name }
+{
+    match place {
+        Place::ModelName => moved(Place::BehindModel, Task::Word),
+        Place::FirstPort => moved(Place::BehindPort, Task::Word),
+        Place::NextPort => moved(Place::BehindPort, Task::Word),
+        Place::Item => moved(Place::InstanceName, Task::Cell),
+        Place::FirstInput => moved(Place::BehindInput, Task::Declare),
+        Place::NextInput => moved(Place::BehindInput, Task::Declare),
+        Place::FirstOutput => moved(Place::BehindOutput, Task::Declare),
+        Place::NextOutput => moved(Place::BehindOutput, Task::Declare),
+        Place::NextWire => moved(Place::BehindWire, Task::Word),
+        Place::Target => moved(Place::BehindTarget, Task::Word),
+        Place::Source => moved(Place::BehindSource, Task::Word),
+        Place::InstanceName => moved(Place::BehindInstance, Task::Word),
+        Place::Pin => moved(Place::BehindPin, Task::Pin),
+        Place::Net => moved(Place::BehindNet, Task::Word),
+        _ => None,
+    }
+}
+
+// What a comma does at this place, if one may stand there.
+#[tactic(auto, unfolding(crate::specs::Grammar::move_at))]
+fn move_by_comma(place: Place) -> Option<Move>
+    ensures { result ≡ move_at place kind.Comma }
+{
+    match place {
+        Place::BehindPort => moved(Place::NextPort, Task::Skip),
+        Place::BehindInput => moved(Place::NextInput, Task::Skip),
+        Place::BehindOutput => moved(Place::NextOutput, Task::Skip),
+        Place::BehindWire => moved(Place::NextWire, Task::Skip),
+        Place::BehindTie => moved(Place::NextTie, Task::Skip),
+        _ => None,
+    }
+}
+
+// What a semicolon does at this place, if one may stand there.
+#[tactic(auto, unfolding(crate::specs::Grammar::move_at))]
+fn move_by_semicolon(place: Place) -> Option<Move>
+    ensures { result ≡ move_at place kind.Semicolon }
+{
+    match place {
+        Place::BehindModel => moved(Place::Item, Task::Header),
+        Place::BehindPorts => moved(Place::Item, Task::Header),
+        Place::BehindInput => moved(Place::Item, Task::Inputs),
+        Place::BehindOutput => moved(Place::Item, Task::Outputs),
+        Place::BehindWire => moved(Place::Item, Task::Forget),
+        Place::BehindSource => moved(Place::Item, Task::Assignment),
+        Place::BehindTies => moved(Place::Item, Task::Instance),
+        _ => None,
+    }
+}
+
+// What `(` does at this place, if one may stand there.
+#[tactic(auto, unfolding(crate::specs::Grammar::move_at))]
+fn move_by_open(place: Place) -> Option<Move>
+    ensures { result ≡ move_at place kind.Open }
+{
+    match place {
+        Place::BehindModel => moved(Place::FirstPort, Task::Skip),
+        Place::BehindInstance => moved(Place::FirstTie, Task::Skip),
+        Place::BehindPin => moved(Place::Net, Task::Skip),
+        _ => None,
+    }
+}
+
+// What `)` does at this place, if one may stand there.
+#[tactic(auto, unfolding(crate::specs::Grammar::move_at))]
+fn move_by_close(place: Place) -> Option<Move>
+    ensures { result ≡ move_at place kind.Close }
+{
+    match place {
+        Place::FirstPort => moved(Place::BehindPorts, Task::Skip),
+        Place::BehindPort => moved(Place::BehindPorts, Task::Skip),
+        Place::FirstTie => moved(Place::BehindTies, Task::Skip),
+        Place::BehindNet => moved(Place::BehindTie, Task::Skip),
+        Place::BehindTie => moved(Place::BehindTies, Task::Skip),
+        _ => None,
+    }
+}
+
 /// What a token of this kind does at this place, if one may stand there.
 #[tactic(auto, unfolding(crate::specs::Grammar::move_at))]
 pub(crate) fn move_at(place: Place, kind: Kind) -> Option<Move>
@@ -123,51 +208,22 @@ pub(crate) fn move_at(place: Place, kind: Kind) -> Option<Move>
     ensures ended { IfSome result (λ step. is_end kind ≡ false) }
 {
     match (place, kind) {
+        (_, Kind::Name) => move_by_name(place),
+        (_, Kind::Open) => move_by_open(place),
+        (_, Kind::Close) => move_by_close(place),
+        (_, Kind::Comma) => move_by_comma(place),
+        (_, Kind::Semicolon) => move_by_semicolon(place),
         (Place::Begin, Kind::Module) => moved(Place::ModelName, Task::Skip),
-        (Place::ModelName, Kind::Name) => moved(Place::BehindModel, Task::Word),
-        (Place::BehindModel, Kind::Open) => moved(Place::FirstPort, Task::Skip),
-        (Place::BehindModel, Kind::Semicolon) => moved(Place::Item, Task::Header),
-        (Place::FirstPort, Kind::Name) => moved(Place::BehindPort, Task::Word),
-        (Place::FirstPort, Kind::Close) => moved(Place::BehindPorts, Task::Skip),
-        (Place::NextPort, Kind::Name) => moved(Place::BehindPort, Task::Word),
-        (Place::BehindPort, Kind::Comma) => moved(Place::NextPort, Task::Skip),
-        (Place::BehindPort, Kind::Close) => moved(Place::BehindPorts, Task::Skip),
-        (Place::BehindPorts, Kind::Semicolon) => moved(Place::Item, Task::Header),
-        (Place::Item, Kind::Name) => moved(Place::InstanceName, Task::Cell),
         (Place::Item, Kind::Input) => moved(Place::FirstInput, Task::Skip),
         (Place::Item, Kind::Output) => moved(Place::FirstOutput, Task::Skip),
         (Place::Item, Kind::Wire) => moved(Place::NextWire, Task::Skip),
         (Place::Item, Kind::Assign) => moved(Place::Target, Task::Skip),
         (Place::Item, Kind::EndModule) => moved(Place::Done, Task::Finish),
-        (Place::FirstInput, Kind::Name) => moved(Place::BehindInput, Task::Declare),
         (Place::FirstInput, Kind::Wire) => moved(Place::NextInput, Task::Skip),
-        (Place::NextInput, Kind::Name) => moved(Place::BehindInput, Task::Declare),
-        (Place::BehindInput, Kind::Comma) => moved(Place::NextInput, Task::Skip),
-        (Place::BehindInput, Kind::Semicolon) => moved(Place::Item, Task::Inputs),
-        (Place::FirstOutput, Kind::Name) => moved(Place::BehindOutput, Task::Declare),
         (Place::FirstOutput, Kind::Wire) => moved(Place::NextOutput, Task::Skip),
-        (Place::NextOutput, Kind::Name) => moved(Place::BehindOutput, Task::Declare),
-        (Place::BehindOutput, Kind::Comma) => moved(Place::NextOutput, Task::Skip),
-        (Place::BehindOutput, Kind::Semicolon) => moved(Place::Item, Task::Outputs),
-        (Place::NextWire, Kind::Name) => moved(Place::BehindWire, Task::Word),
-        (Place::BehindWire, Kind::Comma) => moved(Place::NextWire, Task::Skip),
-        (Place::BehindWire, Kind::Semicolon) => moved(Place::Item, Task::Forget),
-        (Place::Target, Kind::Name) => moved(Place::BehindTarget, Task::Word),
         (Place::BehindTarget, Kind::Equals) => moved(Place::Source, Task::Skip),
-        (Place::Source, Kind::Name) => moved(Place::BehindSource, Task::Word),
-        (Place::BehindSource, Kind::Semicolon) => moved(Place::Item, Task::Assignment),
-        (Place::InstanceName, Kind::Name) => moved(Place::BehindInstance, Task::Word),
-        (Place::BehindInstance, Kind::Open) => moved(Place::FirstTie, Task::Skip),
         (Place::FirstTie, Kind::Point) => moved(Place::Pin, Task::Skip),
-        (Place::FirstTie, Kind::Close) => moved(Place::BehindTies, Task::Skip),
         (Place::NextTie, Kind::Point) => moved(Place::Pin, Task::Skip),
-        (Place::Pin, Kind::Name) => moved(Place::BehindPin, Task::Pin),
-        (Place::BehindPin, Kind::Open) => moved(Place::Net, Task::Skip),
-        (Place::Net, Kind::Name) => moved(Place::BehindNet, Task::Word),
-        (Place::BehindNet, Kind::Close) => moved(Place::BehindTie, Task::Skip),
-        (Place::BehindTie, Kind::Comma) => moved(Place::NextTie, Task::Skip),
-        (Place::BehindTie, Kind::Close) => moved(Place::BehindTies, Task::Skip),
-        (Place::BehindTies, Kind::Semicolon) => moved(Place::Item, Task::Instance),
         _ => None,
     }
 }

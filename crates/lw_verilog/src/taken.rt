@@ -6,7 +6,7 @@ ghost use Rattle.std.specs.Str.{bytes_eq};
 ghost use Rattle.std.specs.Str.Parse.{digits_value};
 ghost use Rattle.lw_netlist.specs.Closing.{is_among};
 ghost use Rattle.lw_verilog.specs.Texts.{begins_u, instance_name, passed};
-ghost use Rattle.lw_verilog.specs.Windows.{AreTaken, Raises};
+ghost use Rattle.lw_verilog.specs.Windows.{AreTaken, Raises, width};
 ghost use Rattle.lw_netlist.specs.Plain.{port_name};
 
 use crate::putting::is_output;
@@ -113,8 +113,8 @@ fn mark_outputs(flags: &mut [bool], base: u64, outputs: &[Port])
 
 // Flags for the numbers from the base on.
 fn mark_taken(flags: &mut [bool], base: u64, names: &[Name], outputs: &[Port])
-    requires many { length flags.old ≡ 65536 }
-    requires few { base + 65536 ≤ 2 ^ 60 }
+    requires many { length flags.old ≡ width }
+    requires few { base + width ≤ 2 ^ 60 }
     ensures { AreTaken (names.now ++ map port_name outputs.now) base flags.new }
 {
     flags.fill(false);
@@ -153,13 +153,13 @@ impl Taken {
 
     // Moves the flags to where they have the number.
     fn reach(&mut self, names: &[Name], outputs: &[Port], number: u64)
-        requires few { number + 65536 ≤ 2 ^ 60 }
+        requires few { number + width ≤ 2 ^ 60 }
         requires stands { AreTaken (names.now ++ map port_name outputs.now) self.old.base
             self.old.flags }
         ensures stands { AreTaken (names.now ++ map port_name outputs.now) self.new.base
             self.new.flags }
         ensures low { self.new.base ≤ number }
-        ensures high { number < self.new.base + 65536 }
+        ensures high { number < self.new.base + width }
     {
         if self.base <= number && number - self.base < WIDTH as u64 {
             return;

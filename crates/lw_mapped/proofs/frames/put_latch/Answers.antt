@@ -1,9 +1,9 @@
 use Rattle.std.proofs.Common.{◌∷◌, sym, subst}
-use Rattle.lw_mapped.specs.Texts.{spaced}
-use Rattle.lw_mapped.proofs.TextParts.{ended_is}
+use Rattle.lw_frame.specs.Texts.{spaced}
 use Rattle.lw_io.specs.Waitings.{Puts}
 use Rattle.lw_io.proofs.Putting.{Puts-both}
 use Rattle.lw_mapped.proofs.frames.put_latch.Goals as goal
+use Rattle.lw_frame.proofs.WrittenLines.{ended_is}
 
 pub returns : goal.returns
 returns g c =

@@ -1,6 +1,7 @@
 use Rattle.std.proofs.Common.{take}
 use Rattle.lw_io.specs.Waitings.{Puts}
-use Rattle.lw_mapped.specs.Texts.{spaced, ties}
+use Rattle.lw_frame.specs.Texts.{spaced}
+use Rattle.lw_mapped.specs.Texts.{ties}
 use Rattle.lw_mapped.proofs.gates.put_ties.Given as goal
 
 abbrev pub invariant-loop-k : goal.invariant-loop-k

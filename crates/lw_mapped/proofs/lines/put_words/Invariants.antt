@@ -1,6 +1,6 @@
 use Rattle.std.proofs.Common.{take}
 use Rattle.lw_io.specs.Waitings.{Puts}
-use Rattle.lw_mapped.specs.Texts.{spaced}
+use Rattle.lw_frame.specs.Texts.{spaced}
 use Rattle.lw_mapped.proofs.lines.put_words.Given as goal
 
 abbrev pub invariant-loop-word : goal.invariant-loop-word

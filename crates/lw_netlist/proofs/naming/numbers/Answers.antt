@@ -1,5 +1,5 @@
-use Rattle.std.proofs.Common.{◌≡◌, ◌+◌, ◌*◌, ℕ, length, ap, arith}
-use Rattle.std.proofs.lemmas.List.{length-replicate, take_at}
+use Rattle.std.proofs.Common.{◌≡◌, length, ap, arith}
+use Rattle.std.proofs.lemmas.List.{take_at}
 use Rattle.lw_netlist.proofs.Names.{once_distinct}
 use Rattle.lw_netlist.proofs.naming.numbers.Goals as goal
 
@@ -13,6 +13,6 @@ new-requires c =
     rw (take_at heads _ c.in_ok-heads.heads.len all_heads, take_at next _ c.in_ok-next.next.len all_next) (record {
       distinct = once_distinct names (c.in_default.ensures.once);
       chains = c.in_default.ensures.chains;
-      places = omega (arith, all_next, c.in_ok-next.next.ok.0, ap length c.in_ok-next.ensures, length-replicate {A = ℕ} c.len-3.result 0, c.len-3.ensures);
-      some = omega (arith, all_heads, c.in_ok-heads.heads.ok.0, ap length c.in_ok-heads.ensures, length-replicate {A = ℕ} (2 * c.len-2.result + 1) 0);
+      places = omega (arith, all_next, c.in_ok-next.next.ok.0, c.in_ok-next.ensures.len, c.len-3.ensures);
+      some = omega (arith, all_heads, c.in_ok-heads.heads.ok.0, c.in_ok-heads.ensures.len);
     })

@@ -9,7 +9,7 @@ closed-requires c =
 
 pub returns-clause-closes : goal.returns-clause-closes
 returns-clause-closes c = λ said k.
-    closes-to c.args.self said c.in_ok-draft.draft _ c.in_ok-starts.starts c.from_vec.result c.closed.result c.from_vec.ensures k
+    closes-to c.args.self said c.in_ok-draft.draft _ c.in_ok-starts.starts c.from_vec-labels.result c.closed.result c.from_vec-labels.ensures k
     (draft-said c.args.self said c.in_ok-draft.draft c.as_slice.result.now c.as_slice-2.result.now c.add_roots.new.names.keys k c.in_ok-draft.ensures c.as_slice-2.ensures c.in_ok-own_outputs.ensures.roots c.as_slice.ensures)
     (frame-is c.args.self said c.len.result c.in_ok-own_outputs.own_outputs k c.len.ensures c.in_ok-own_outputs.ensures.outputs)
     (c.in_ok-starts.ensures.starts said k) c.closed.ensures.made c.closed.ensures.fault
@@ -18,4 +18,4 @@ pub returns-clause-fits : goal.returns-clause-fits
 returns-clause-fits c =
     let said = c.requires.said in
     let k = c.requires.keeps in
-    closed-fits c.args.self said c.in_ok-draft.draft _ c.in_ok-starts.starts c.from_vec.result _ c.closed.result c.from_vec.ensures k (returns-clause-closes c said k) c.in_ok-starts.ensures.early c.closed.ensures.made
+    closed-fits c.args.self said c.in_ok-draft.draft _ c.in_ok-starts.starts c.from_vec-labels.result _ c.closed.result c.from_vec-labels.ensures k (returns-clause-closes c said k) c.in_ok-starts.ensures.early c.closed.ensures.made
