@@ -1,8 +1,8 @@
 -- The least match of a class by the marks of its pins is the chosen one.
-use Rattle.std.proofs.Common.{ℕ, zero, suc, ◌+◌, ◌-◌, ◌^◌, ◌<◌, ◌≡◌, List, [], ◌∷◌, Contains, All, IsSome, Option, Some, None, option_map, unwrap_or, slice_index_or, inr, refl, ap, sym, ◌∙◌, subst, arith}
+use Rattle.std.proofs.Common.{ℕ, zero, suc, ◌+◌, ◌-◌, ◌^◌, ◌<◌, ◌≤◌, ◌≡◌, List, [], ◌∷◌, Contains, All, IsSome, Option, Some, None, option_map, unwrap_or, slice_index_or, inl, inr, refl, ap, sym, ◌∙◌, subst, arith}
 use mathlib.Core.Path.{fun_ext}
 use Rattle.std.proofs.lemmas.List.Elements.{All-map, All-contains}
-use Rattle.std.proofs.lemmas.Option.{none-some}
+use Rattle.std.proofs.lemmas.Option.{none-some, same_Some}
 use Rattle.std.specs.List.{AllByRecursion}
 use Rattle.lw_pool.specs.declared.id.ClassId.{ClassId}
 use Rattle.lw_laws.specs.Graphs.{Graph}
@@ -13,11 +13,12 @@ use Rattle.lw_laws.specs.Matches.{choices_of}
 use Rattle.lw_laws.specs.Choices.{Labels, HaveLabels, IsPotential, IsHeight}
 use Rattle.lw_laws.specs.Priced.{IsPriced, AreMarks}
 use Rattle.lw_laws.specs.Extracts.{IsChosen, IsLeafClass}
-use Rattle.lw_laws.proofs.MarkLaws.{supports_priced, some_supports, least_chosen}
+use Rattle.lw_laws.proofs.MarkLaws.{priced_above, supports_priced, some_supports, least_chosen}
 use Rattle.lw_match.specs.declared.mark.Mark.{Mark}
 use Rattle.lw_match.specs.declared.mark.Best.{Best}
 use Rattle.lw_match.specs.Values.{marks_in, plain_mark, plain_match}
-use Rattle.lw_match.specs.Least.{IsLeastMatch, IsLeastBelow, IsMarkBefore}
+use Rattle.lw_match.specs.Least.{Priced, IsPricedAt, IsLeastMatch, IsLeastBelow, IsMarkBefore}
+use Rattle.lw_match.specs.Picks.{IsLastBefore, AreLastBefore}
 use Rattle.lw_label.specs.Labels.{AreLeastMarks}
 use Rattle.lw_label.proofs.Marked.{label_at, mark_of_label}
 use Rattle.lw_extract.specs.Choosing.{labels, heights, IsChoice}
@@ -92,3 +93,23 @@ module _ (g : Graph) (cost : Cost) (pats : List Pattern) (marks : List (Option M
   -- the height of a mark can rise by one
   pub can_rise : (c : ℕ) (m : Mark) → slice_index_or marks c None ≡ Some m → m.height < 2 ^ 32 - 1
   can_rise c m at = (least.in_range c (plain_mark m) (plain_at marks c m at)).1
+
+  -- the matches of a class are not before the mark that comes next after the class's own, if they are one higher
+  pub last_before : (c : ℕ) (m : Mark) (next : PlainMark) → slice_index_or marks c None ≡ Some m → next.cost ≡ m.cost → next.height ≡ m.height + 1 → AreLastBefore g cost pats (marks_in marks) c next
+  last_before c m next at cost_is height_is = record {
+    capped = let low = (least.in_range c (plain_mark m) (plain_at marks c m at)).0 in omega (arith, low, cost_is);
+    last = last;
+  }
+    where
+      last : (b : Priced) → IsPricedAt g cost pats (marks_in marks) c b → IsLastBefore next b.mark
+      last b is before =
+          let (k, there, above) = priced_above g cost pats (marks_in marks) are_marks c b.found is.pattern b.mark (record { matches = is.matches; pin_marks = is.pin_marks; have = is.have; mark_is = is.mark }) in
+          let own : plain_mark m ≡ k = same_Some (plain_mark m) k (sym (plain_at marks c m at) ∙ there) in
+          let low : m.cost ≤ b.mark.cost = subst (λ (j : PlainMark). j.cost ≤ b.mark.cost) (sym own) above.cost in
+          let high : m.cost ≡ b.mark.cost → m.height ≤ b.mark.height = subst (λ (j : PlainMark). j.cost ≡ b.mark.cost → j.height ≤ b.mark.height) (sym own) above.height in
+          by_mark low high before
+        where
+          by_mark : m.cost ≤ b.mark.cost → (m.cost ≡ b.mark.cost → m.height ≤ b.mark.height) → IsMarkBefore (record { cost = b.mark.cost; height = b.mark.height + 1 }) next → ⊥
+          by_mark low high (inl lt) = omega (arith, low, lt, cost_is)
+          by_mark low high (inr (e, lt)) =
+              let most = high (sym (e ∙ cost_is)) in omega (arith, most, lt, height_is)

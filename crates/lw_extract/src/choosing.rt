@@ -3,6 +3,7 @@ ghost use Rattle.std.specs.Prelude.{◌≡◌, ◌+◌, ◌-◌, ◌^◌, ◌<�
 ghost use Rattle.lw_laws.specs.Extracts.{IsLeafClass};
 ghost use Rattle.lw_match.specs.Least.{AreOfCells};
 ghost use Rattle.lw_match.specs.Bounds.{BoundsFit, AreBounds};
+ghost use Rattle.lw_match.specs.Cutting.{AreKnown};
 ghost use Rattle.lw_label.specs.Labels.{AreLeastMarks};
 ghost use Rattle.lw_extract.specs.Choosing.{AreChosen, AreRoots, HasAlso, IsChoice};
 ghost use Rattle.lw_extract.specs.Orders.{AreByHeight};
@@ -10,7 +11,7 @@ ghost use Rattle.lw_extract.specs.Nets.{AreInputNets};
 
 use crate::ordering::{Place, by_height};
 use lw_graph::Graph;
-use lw_match::{Bounds, Cost, Mark, Match, least_within};
+use lw_match::{Bounds, Cost, Mark, Match, Tops, least_before};
 use lw_pattern::Patterns;
 use lw_pool::{ClassId, NetId};
 use std::alloc::{AllocError, Global};
@@ -67,6 +68,7 @@ fn choice<C: Cost>(
     cost: &C,
     bounds: &Bounds,
     marks: &[Option<Mark>],
+    tops: &mut Tops,
     class: ClassId,
 ) -> Option<Match>
     requires of_cells { AreOfCells (C.costs cost.now).pin_counts pats.now }
@@ -75,13 +77,15 @@ fn choice<C: Cost>(
     requires least { AreLeastMarks graph.now (C.costs cost.now) pats.now marks.now }
     requires class { class.0 < length graph.now.pairs }
     requires no_leaf { IsLeafClass graph.now class.0 → ⊥ }
-    ensures { (mark : _) → slice_index_or marks.now class.0 None ≡ Some mark → (found : _) ×
+    requires known { AreKnown (C.costs cost.now) pats.now bounds.now.gaps tops.old }
+    ensures known { AreKnown (C.costs cost.now) pats.now bounds.now.gaps tops.new }
+    ensures choice { (mark : _) → slice_index_or marks.now class.0 None ≡ Some mark → (found : _) ×
         (result ≡ Some found) × IsChoice graph.now
         (C.costs cost.now) pats.now marks.now class.0 found }
 {
     let mark = marks[class.0 as usize]?;
-    let bound = Some(next_after(mark));
-    let best = least_within(graph, pats, bounds, marks, class, cost, bound)?;
+    let bound = next_after(mark);
+    let best = least_before(graph, pats, bounds, marks, class, cost, tops, bound)?;
     Some(best.found)
 }
 
@@ -109,11 +113,12 @@ fn choose_down<C: Cost>(
         (C.costs cost.now) pats.now marks.now roots.now (reverse chosen.items)) }
 {
     let mut needed = needed_by_outputs(alloc, roots, graph.classes() as usize)?;
+    let mut tops = Tops::new(pats, cost, bounds);
     let mut chosen = Vec::new(alloc);
     for place in places.iter().rev() {
         let class = place.class;
         if needed[class.0 as usize] {
-            if let Some(found) = choice(graph, pats, cost, bounds, marks, class) {
+            if let Some(found) = choice(graph, pats, cost, bounds, marks, &mut tops, class) {
                 need(&mut needed, found.pins.as_slice());
                 chosen.push(Chosen { class, found })?;
             }

@@ -22,6 +22,7 @@ pub mod OfCells
 pub mod Opens
 pub mod Pairs
 pub mod Passes
+pub mod Picks
 pub mod Placing
 pub mod Ranking
 pub mod Refusals

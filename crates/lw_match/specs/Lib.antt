@@ -7,6 +7,7 @@ pub mod Jobs
 pub mod Least
 pub mod Matching
 pub mod Numbers
+pub mod Picks
 pub mod Places
 pub mod Queries
 pub mod Searching

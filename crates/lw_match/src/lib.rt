@@ -6,6 +6,7 @@ mod bettering;
 mod binding;
 mod bisecting;
 mod bounds;
+mod choosing;
 mod cost;
 mod counting;
 mod cursor;
@@ -37,6 +38,7 @@ mod tops;
 
 pub use bettering::{Outcome, better_bare, better_within};
 pub use bounds::Bounds;
+pub use choosing::least_before;
 pub use cost::Cost;
 pub use cursor::Cursor;
 pub use finding::{least, least_below, least_within};

@@ -23,7 +23,7 @@ pub(crate) struct Hunt {
 }
 
 /// Whether the number of a root in a list is below the top.
-fn is_near(numbers: &[u64], root: Root, top: u64) -> bool
+pub(crate) fn is_near(numbers: &[u64], root: Root, top: u64) -> bool
     ensures { IsFalse result → IsFar numbers.now root.place root.shift top }
 {
     let place = root.place as usize;
@@ -35,7 +35,7 @@ fn is_near(numbers: &[u64], root: Root, top: u64) -> bool
 }
 
 /// Whether a list is empty, so that no number in it is below the top.
-fn is_bare(numbers: &[u64], top: u64) -> bool
+pub(crate) fn is_bare(numbers: &[u64], top: u64) -> bool
     ensures { IsTrue result → (place shift : ℕ) → IsFar numbers.now place shift top }
 {
     let _ = top;

@@ -13,6 +13,7 @@ pub loop-place-init : goal.loop-place-init
 loop-place-init g c = record {
   can_next = tt;
   is_finite = tt;
+  known = c.new-tops.ensures;
   down =
       let roots = subst (λ n. AreRoots c.args.roots.now n c.in_ok-needed.needed.items) c.classes.ensures.classes c.in_ok-needed.ensures in
       let start = down_start c.args.graph.now (g.C.Cost.costs c.args.cost.now) c.args.pats.now c.args.marks.now c.args.roots.now c.in_ok-needed.needed.items roots in
@@ -38,7 +39,7 @@ choice-requires-clause-no_leaf g c =
 pub need-requires : goal.need-requires
 need-requires g c =
     let turn : IsTurn c.args.places.now (length c.loop-place.yielded) c.in-Some.place.now = YieldsList-turn (YieldsList-from_rev_slice c.args.places.now cc) c.loop-place.yielded _ c.loop-place.yielded_by _ _ c.in-Some.place c.in-Some.is c.next.ensures.steps in
-    let choice = turn_choice c.args.graph.now (g.C.Cost.costs c.args.cost.now) c.args.pats.now c.args.marks.now c.args.roots.now c.args.places.now c.requires.places (length c.loop-place.yielded) c.in-Some.place.now c.in-Some-choice.found turn c.in-Some-choice.ensures in
+    let choice = turn_choice c.args.graph.now (g.C.Cost.costs c.args.cost.now) c.args.pats.now c.args.marks.now c.args.roots.now c.args.places.now c.requires.places (length c.loop-place.yielded) c.in-Some.place.now c.in-Some-choice.found turn c.in-Some-choice.ensures.choice in
     let pins = turn_pins c.args.graph.now (g.C.Cost.costs c.args.cost.now) c.args.pats.now c.args.marks.now c.args.roots.now c.args.places.now c.requires.places (length c.loop-place.yielded) c.in-Some.place.now c.in-Some-choice.found c.requires.least.one_each turn choice in
     let size : length c.args.graph.now.pairs ≡ length c.deref_mut.result.now = sym c.loop-place.invariant.down.one_each ∙ ap length (sym c.deref_mut.ensures.value) in
     subst (λ n. All (λ (x : ClassId). x.0 < n) c.as_slice.result.now) size (All-same (λ (x : ClassId). x.0 < length c.args.graph.now.pairs) c.as_slice.result.now c.in-Some-choice.found.pins c.as_slice.ensures.classes pins)
@@ -46,7 +47,7 @@ need-requires g c =
 pub loop-place-preserved-in-Continue-branch-2 : goal.loop-place-preserved-in-Continue-branch-2
 loop-place-preserved-in-Continue-branch-2 g c =
     let turn : IsTurn c.args.places.now (length c.loop-place.yielded) c.in-Some.place.now = YieldsList-turn (YieldsList-from_rev_slice c.args.places.now cc) c.loop-place.yielded _ c.loop-place.yielded_by _ _ c.in-Some.place c.in-Some.is c.next.ensures.steps in
-    let choice = turn_choice c.args.graph.now (g.C.Cost.costs c.args.cost.now) c.args.pats.now c.args.marks.now c.args.roots.now c.args.places.now c.requires.places (length c.loop-place.yielded) c.in-Some.place.now c.in-Some-choice.found turn c.in-Some-choice.ensures in
+    let choice = turn_choice c.args.graph.now (g.C.Cost.costs c.args.cost.now) c.args.pats.now c.args.marks.now c.args.roots.now c.args.places.now c.requires.places (length c.loop-place.yielded) c.in-Some.place.now c.in-Some-choice.found turn c.in-Some-choice.ensures.choice in
     let within = turn_within c.args.graph.now (g.C.Cost.costs c.args.cost.now) c.args.pats.now c.args.marks.now c.args.roots.now c.args.places.now c.requires.places (length c.loop-place.yielded) c.in-Some.place.now c.requires.least.one_each turn in
     let below : c.in-Some.place.now.class.0 < length c.loop-place.needed.items = omega (arith, within, c.loop-place.invariant.down.one_each) in
     let flag = sym (get_or_read c.loop-place.needed.items c.in-Some.place.now.class.0 c.index.result.now below c.index.ensures false) ∙ c.if-index.true in
@@ -56,13 +57,14 @@ loop-place-preserved-in-Continue-branch-2 g c =
     record {
       can_next = tt;
       is_finite = tt;
+      known = c.in-Some-choice.ensures.known;
       down = subst (λ (new : List Bool). IsDown c.args.graph.now (g.C.Cost.costs c.args.cost.now) c.args.pats.now c.args.marks.now c.args.roots.now (take (length (c.loop-place.yielded ++ c.in-Some.place ∷ [])) (reverse c.args.places.now)) new (reverse c.push.new.self.items)) (sym kept) down;
     }
 
 pub loop-place-preserved-in_default : goal.loop-place-preserved-in_default
 loop-place-preserved-in_default g c =
     let turn : IsTurn c.args.places.now (length c.loop-place.yielded) c.in-Some.place.now = YieldsList-turn (YieldsList-from_rev_slice c.args.places.now cc) c.loop-place.yielded _ c.loop-place.yielded_by _ _ c.in-Some.place c.in-Some.is c.next.ensures.steps in
-    absurd (turn_some c.args.graph.now (g.C.Cost.costs c.args.cost.now) c.args.pats.now c.args.marks.now c.args.roots.now c.args.places.now c.requires.places (length c.loop-place.yielded) c.in-Some.place.now turn c.in_default.ensures)
+    absurd (turn_some c.args.graph.now (g.C.Cost.costs c.args.cost.now) c.args.pats.now c.args.marks.now c.args.roots.now c.args.places.now c.requires.places (length c.loop-place.yielded) c.in-Some.place.now turn c.in_default.ensures.choice)
 
 pub loop-place-preserved : goal.loop-place-preserved
 loop-place-preserved g c =
@@ -70,9 +72,12 @@ loop-place-preserved g c =
     let within = turn_within c.args.graph.now (g.C.Cost.costs c.args.cost.now) c.args.pats.now c.args.marks.now c.args.roots.now c.args.places.now c.requires.places (length c.loop-place.yielded) c.in-Some.place.now c.requires.least.one_each turn in
     let below : c.in-Some.place.now.class.0 < length c.loop-place.needed.items = omega (arith, within, c.loop-place.invariant.down.one_each) in
     let flag = sym (get_or_read c.loop-place.needed.items c.in-Some.place.now.class.0 c.index.result.now below c.index.ensures false) ∙ c.if-index.false in
-    record { can_next = tt; is_finite = tt; down = turn_skip c.args.graph.now (g.C.Cost.costs c.args.cost.now) c.args.pats.now c.args.marks.now c.args.roots.now c.args.places.now c.requires.places c.loop-place.yielded c.in-Some.place c.in-Some.place.now c.loop-place.needed.items c.loop-place.chosen.items turn flag c.loop-place.invariant.down }
+    record { can_next = tt; is_finite = tt; known = c.loop-place.invariant.known; down = turn_skip c.args.graph.now (g.C.Cost.costs c.args.cost.now) c.args.pats.now c.args.marks.now c.args.roots.now c.args.places.now c.requires.places c.loop-place.yielded c.in-Some.place c.in-Some.place.now c.loop-place.needed.items c.loop-place.chosen.items turn flag c.loop-place.invariant.down }
 
 pub returns : goal.returns
 returns g c =
     let end = YieldsList-end (YieldsList-from_rev_slice c.args.places.now cc) c.loop-place.yielded _ c.loop-place.yielded_by _ _ c.in-None.is c.next.ensures.steps in
     turns_end c.args.graph.now (g.C.Cost.costs c.args.cost.now) c.args.pats.now c.args.marks.now c.args.roots.now c.args.places.now c.requires.places (length c.loop-place.yielded) c.loop-place.needed.items c.loop-place.chosen.items end.1 c.requires.covered c.loop-place.invariant.down
+
+pub choice-requires-clause-known : goal.choice-requires-clause-known
+choice-requires-clause-known g c = c.loop-place.invariant.known

@@ -1,4 +1,5 @@
 use Rattle.std.proofs.Common.{length, reverse, take}
+use Rattle.lw_match.specs.Cutting.{AreKnown}
 use Rattle.lw_extract.proofs.Descent.{IsDown}
 use Rattle.lw_extract.proofs.choosing.choose_down.Given as goal
 
@@ -6,5 +7,6 @@ abbrev pub invariant-loop-place : goal.invariant-loop-place
 invariant-loop-place g l = record {
   can_next : (goal.iterator-loop-place g).can_next l.place-iterator;
   is_finite : (goal.iterator-loop-place g).is_finite l.place-iterator;
+  known : AreKnown (g.C.Cost.costs l.cost) l.pats l.bounds.gaps l.tops;
   down : IsDown l.graph (g.C.Cost.costs l.cost) l.pats l.marks l.roots (take (length l.yielded) (reverse l.places)) l.needed.items (reverse l.chosen.items);
 }
