@@ -3,8 +3,8 @@ use Rattle.lw_match.specs.Values.{plain_mark, AreInRange}
 use Rattle.lw_extract.proofs.Picking.{chosen_by, some_match, can_rise, before_next, last_before}
 use Rattle.lw_extract.proofs.choosing.choice.Goals as goal
 
-pub next_after-requires : goal.next_after-requires
-next_after-requires g c =
+pub next_after-bound-requires : goal.next_after-bound-requires
+next_after-bound-requires g c =
     can_rise c.args.graph.now (g.C.Cost.costs c.args.cost.now) c.args.pats.now c.args.marks.now c.requires.least c.args.class.0 c.in_ok-mark.mark c.in_ok-mark.was
 
 pub returns-in_err-best-clause-choice : goal.returns-in_err-best-clause-choice
