@@ -138,6 +138,10 @@ differs_from words rows = list_any (λ other. not (bytes_eq (last_word other.wor
 
 -- The rules.
 
+-- the most rows of a node
+abbrev pub most_rows : ℕ
+most_rows = 4096
+
 -- a test, and the kind of the rule that is broken where it is true
 pub record Rule : Type 0 where
   pub broken : Bool
@@ -153,7 +157,7 @@ row_rules node rows words =
     record { broken = nat_lt (length node) 1; kind = kind.RowOutside }
     ∷ record { broken = not (has_shape (length (flat_map fanins_on node)) words); kind = kind.RowShape }
     ∷ record { broken = differs_from words rows; kind = kind.RowMix }
-    ∷ record { broken = nat_le 4096 (length rows); kind = kind.LimitRows } ∷ []
+    ∷ record { broken = nat_le most_rows (length rows); kind = kind.LimitRows } ∷ []
 
 -- The rules for names, behind lines that define these signals.
 abbrev pub name_rules : List (List ℕ) → Command → List (List ℕ) → List Rule

@@ -5,7 +5,7 @@ use Rattle.lw_net.specs.declared.draft.DraftNode.{DraftNode}
 use Rattle.lw_words.specs.Lines.{LogicalLine, has_some}
 use Rattle.lw_blif.specs.declared.fault.BlifKind.{BlifKind}
 use Rattle.lw_blif.specs.declared.fault.BlifKind.TheVariants as kind
-use Rattle.lw_blif.specs.LineFaults.{defined_by, last_word, has_shape, nearest, rows_before, node_before, wants_words, names_for, defined_for, is_names_command, words_before_last, other_words, times_for, start_in}
+use Rattle.lw_blif.specs.LineFaults.{most_rows, defined_by, last_word, has_shape, nearest, rows_before, node_before, wants_words, names_for, defined_for, is_names_command, words_before_last, other_words, times_for, start_in}
 use Rattle.lw_blif.specs.declared.command.Command.{Command}
 use Rattle.std.specs.List.{list_all, flat_map}
 use Rattle.lw_blif.specs.Drafts.{nodes_of, node_of, columns_of, model_on, inputs_on, outputs_on, latches_on, arrivals_on}
@@ -37,7 +37,7 @@ row_fault_of None words = Some kind.RowOutside
 row_fault_of (Some node) words =
     if not (has_shape (length node.fanins) words) then Some kind.RowShape
     else (if has_some node.rows && not (is_value_of node.on words) then Some kind.RowMix
-    else (if nat_le 4096 (length node.rows) then Some kind.LimitRows else None))
+    else (if nat_le most_rows (length node.rows) then Some kind.LimitRows else None))
 
 -- the names are new to these and to one another
 abbrev pub are_fresh : List (List ℕ) → List (List ℕ) → Bool

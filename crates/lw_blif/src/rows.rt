@@ -9,6 +9,7 @@ use crate::naming::last_word;
 use lw_net::DraftNode;
 use lw_words::Words;
 
+/// The most rows of a node.
 const ROWS_MAX: usize = 4096;
 
 fn is_value(word: &[u8]) -> bool

@@ -62,9 +62,17 @@ ends_in_stroke [] = false
 ends_in_stroke (b ∷ []) = b == 92
 ends_in_stroke (b ∷ next ∷ bytes) = ends_in_stroke (next ∷ bytes)
 
+-- the most bytes of a function, but for its `;`
+abbrev pub longest_function : ℕ
+longest_function = 2048
+
+-- the most entries of a library
+abbrev pub most_entries : ℕ
+most_entries = 4096
+
 -- a name of a pin or an output: no punctuation byte stands in it, and it does not end in `\`
 pub record IsPinName (name : List ℕ) : Type 0 where
-  pub word : IsWord 2048 name
+  pub word : IsWord longest_function name
   pub no_mark : IsTrue (list_all (λ b. not (is_punct_byte b)) name)
   pub no_stroke : IsTrue (not (ends_in_stroke name))
 
@@ -92,7 +100,7 @@ names_of cells = map (λ (cell : CellParts). cell.name) cells
 
 -- what each library keeps
 pub record IsLibrary (cells : List CellParts) : Type 0 where
-  pub few : sum_by form_count cells ≤ 4096
+  pub few : sum_by form_count cells ≤ most_entries
   pub each : All IsListed cells
   pub names_differ : IsDistinct bytes_eq (names_of cells)
 

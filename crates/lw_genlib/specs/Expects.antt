@@ -4,12 +4,12 @@ use Rattle.std.proofs.Props.{props}
 use Rattle.lw_fixed.specs.declared.micro.Micro.{Micro}
 use Rattle.lw_genlib.specs.declared.state_parts.Expect.{Expect}
 use Rattle.lw_genlib.specs.declared.state_parts.Expect.TheVariants as expect
-use Rattle.lw_genlib.specs.Cells.{CellParts, IsWord, IsSmall, form_count}
+use Rattle.lw_genlib.specs.Cells.{CellParts, IsWord, IsSmall, form_count, most_entries}
 use Rattle.lw_words.specs.Limits.{longest_word}
 
 -- there is room for one more entry
 abbrev pub HasRoom : List CellParts → Type 0
-HasRoom cells = sum_by form_count cells < 4096
+HasRoom cells = sum_by form_count cells < most_entries
 
 abbrev pub CanExpect : Expect → List CellParts → Type 0
 CanExpect (expect.Piece None) cells = ⊤

@@ -6,7 +6,7 @@ use Rattle.lw_fixed.specs.declared.micro.Micro.{Micro}
 use Rattle.lw_laws.specs.Expressions.{Expr}
 use Rattle.lw_genlib.specs.declared.token.Token.{Token}
 use Rattle.lw_genlib.specs.declared.token.Token.TheVariants.{Name, Punct}
-use Rattle.lw_genlib.specs.Cells.{CellParts, IsWord, IsPinName, IsSmall, IsForm, IsLibrary, form_count, is_punct_byte}
+use Rattle.lw_genlib.specs.Cells.{CellParts, IsWord, IsPinName, IsSmall, IsForm, IsLibrary, form_count, is_punct_byte, longest_function}
 use Rattle.lw_genlib.specs.Grammar.{is_punct, go_on, names_in}
 use Rattle.lw_genlib.specs.Functions.{pins_in}
 use Rattle.lw_genlib.specs.Spelled.{expression_of}
@@ -22,7 +22,7 @@ AreRunsWithin most (Name name ∷ tokens) = IsWord most name × IsTrue (list_all
 AreRunsWithin most (Punct b ∷ tokens) = AreRunsWithin most tokens
 
 abbrev pub AreRuns : List Token → Type 0
-AreRuns tokens = AreRunsWithin 2048 tokens
+AreRuns tokens = AreRunsWithin longest_function tokens
 
 -- the tokens of a function before its `;`, the lines of them, and how many bytes there is room for
 pub record IsOpenText (tokens : List Token) (lines : List ℕ) (room : ℕ) : Type 0 where

@@ -5,7 +5,7 @@ use Rattle.lw_words.specs.Lines.{LogicalLine}
 use Rattle.lw_genlib.specs.declared.fault.LibKind.TheVariants.{Expected, LongWord, LimitCells}
 use Rattle.lw_genlib.specs.declared.fault.LibFault.{LibFault}
 use Rattle.lw_genlib.specs.declared.fault.LibFault.TheVariants.{Line}
-use Rattle.lw_genlib.specs.Cells.{CellParts, form_count}
+use Rattle.lw_genlib.specs.Cells.{CellParts, form_count, most_entries}
 use Rattle.lw_genlib.specs.Streams.{StreamItem, word_on, long_line, text_end, stream_of, last_number, Reading, done, broken, cut_short, and_then}
 use Rattle.lw_genlib.specs.Entries.{Entry, behind_gate, behind_pin}
 use Rattle.lw_genlib.specs.Merging.{merged}
@@ -65,7 +65,7 @@ abbrev pub entry_on : ℕ → List ℕ → List StreamItem → CellsSoFar → Re
 entry_on line bytes rest so_far =
     if is_word (codes "LATCH") bytes then done so_far (behind_latch rest)
     else (if is_word (codes "GATE") bytes
-    then (if nat_le 4096 (sum_by form_count so_far.cells) then broken (Line line LimitCells) else gate_on so_far line rest)
+    then (if nat_le most_entries (sum_by form_count so_far.cells) then broken (Line line LimitCells) else gate_on so_far line rest)
     else broken (Line line Expected))
 
 -- The tests at the end of an entry come before those of the word that ends it.

@@ -20,6 +20,9 @@ use lw_fixed::Micro;
 use lw_pool::Name;
 use std::alloc::Global;
 
+/// The most entries of a library.
+const MOST_ENTRIES: u32 = 4096;
+
 /// Reads one more word.
 pub(crate) fn read_word(
     alloc: Global,
@@ -114,7 +117,7 @@ fn read_entry(so_far: CellsSoFar, line: u32, word: &[u8]) -> Result<ReaderState,
     if word != b"GATE".as_slice() {
         return Err(LibFault::Line(line, LibKind::Expected));
     }
-    if so_far.entries >= 4096 {
+    if so_far.entries >= MOST_ENTRIES {
         return Err(LibFault::Line(line, LibKind::LimitCells));
     }
     Ok(ReaderState {

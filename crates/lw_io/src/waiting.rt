@@ -4,6 +4,7 @@ ghost use Rattle.std.specs.Io.KnownBytes.{Appends};
 ghost use Rattle.lw_io.specs.Causes.{HasCause};
 ghost use Rattle.lw_io.specs.Moves.{AppendsPrefix};
 ghost use Rattle.lw_io.specs.Waitings.{Puts, Ends};
+ghost use Rattle.lw_io.specs.declared.waiting.TheConstants.{ROOM};
 
 use crate::{Failed, Sink, write_all};
 use std::marker::Model;
@@ -18,7 +19,7 @@ pub struct Waiting {
     bytes: [u8; ROOM],
     used: usize,
     failed: bool,
-    ghost fits: { used ≤ 2048 },
+    ghost fits: { used ≤ ROOM },
 }
 
 impl Model for Waiting {
@@ -46,7 +47,7 @@ impl Waiting {
     // Keeps a piece that there is room for.
     #[inline(always)]
     fn keep(&mut self, piece: &[u8])
-        requires { length piece.now + length self.old.bytes ≤ 2048 }
+        requires { length piece.now + length self.old.bytes ≤ ROOM }
         ensures bytes { self.new.bytes ≡ self.old.bytes ++ piece.now }
         ensures failed { self.new.failed ≡ self.old.failed }
     {

@@ -111,6 +111,9 @@ impl DraftNodes {
     }
 }
 
+/// The most signals of a network.
+const MOST_SIGNALS: usize = 262_144;
+
 /// A network as it is written, whose signals are known by their names.
 #[derive(Debug, Drop)]
 pub struct Draft {
@@ -125,13 +128,12 @@ impl Draft {
     ghost use Rattle.lw_net.specs.Closing.{IsDraft};
 
     /// Whether it may be closed: inputs and node outputs differ, outputs differ, each row has one
-    /// byte per fan-in, and there are at most
-    /// 262,144 signals.
+    /// byte per fan-in, and there are at most 262,144 signals.
     pub fn may_close(&self, alloc: Global) -> Result<bool, AllocError>
         ensures { IfOk result (λ may. IsTrue may ↔ IsDraft self.now) }
     {
         let names = signals(alloc, self.inputs.as_slice(), &self.nodes)?;
-        if names.len() > 262_144 || !self.nodes.have_columns() {
+        if names.len() > MOST_SIGNALS || !self.nodes.have_columns() {
             return Ok(false);
         }
         if !differ(alloc, &names)? {

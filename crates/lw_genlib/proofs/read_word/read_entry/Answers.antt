@@ -1,7 +1,7 @@
 use Rattle.std.proofs.Common.{◌≡◌, ◌<◌, List, sym, ap, ◌∙◌, subst}
 use Rattle.std.specs.Prelude.{codes, sum_by, not}
 use Rattle.std.specs.Str.{bytes_eq}
-use Rattle.lw_genlib.specs.Cells.{CellParts, form_count}
+use Rattle.lw_genlib.specs.Cells.{CellParts, form_count, most_entries}
 use Rattle.lw_genlib.specs.Streams.{done}
 use Rattle.lw_genlib.specs.Libraries as library
 use Rattle.lw_genlib.specs.Standing.{resume}
@@ -18,7 +18,7 @@ pub returns : goal.returns
 unfolding resume
 returns c = λ rest.
     let cells : c.so_far.inside.cells.items ≡ c.args.so_far.cells = ap (λ (b : library.CellsSoFar). b.cells) c.so_far.view_is in
-    let few : sum_by form_count c.so_far.inside.cells.items < 4096 = subst (λ n. n < 4096) c.so_far.invariant.count c.if-so_far-ge4096.false in
+    let few : sum_by form_count c.so_far.inside.cells.items < most_entries = subst (λ n. n < most_entries) c.so_far.invariant.count c.if-so_far-ge-MOST_ENTRIES.false in
     same-piece (library.entry_on c.args.line c.args.word.now rest c.args.so_far) (library.gate_on c.args.so_far c.args.line rest)
     (gate-begins c.args.so_far c.args.line c.args.word.now rest (sym (c.if-eq.ensures ∙ ap (bytes_eq c.args.word.now) c.as_slice.ensures))
     (not-false (bytes_eq c.args.word.now (codes "GATE")) (c.if-ne.ensures ∙ ap (λ w. not (bytes_eq c.args.word.now w)) c.as_slice-2.ensures))
