@@ -1,5 +1,5 @@
 -- Labels that are found by one visit of each place.
-use Rattle.std.proofs.Common.{ℕ, ◌+◌, ◌<◌, ◌≤◌, ◌≡◌, ◌/◌, ◌*◌, ◌⊎◌, inl, inr, Bool, true, false, List, [], ◌∷◌, length, Contains, Option, Some, None, option_map, slice_get, slice_index_or, slice_set, replicate, true≢false, refl, ap, suc, sym, ◌∙◌, subst, arith}
+use Rattle.std.proofs.Common.{ℕ, ◌+◌, ◌<◌, ◌≤◌, ◌≡◌, ◌/◌, ◌*◌, ◌⊎◌, inl, inr, Bool, true, false, not, List, [], ◌∷◌, length, Contains, Option, Some, None, option_map, slice_get, slice_index_or, slice_set, replicate, true≢false, refl, ap, suc, sym, ◌∙◌, subst, arith}
 use Rattle.std.proofs.lemmas.Bool.{cases_eq}
 use Rattle.std.proofs.lemmas.Option.{same_Some, slice_get_within}
 use Rattle.std.proofs.lemmas.List.{get_or-set_other}
@@ -15,11 +15,11 @@ use Rattle.lw_laws.specs.Laws.{IsCoverProblem}
 use Rattle.lw_graph.specs.Graphs.{IsGraph}
 use Rattle.lw_match.specs.declared.mark.Best.{Best}
 use Rattle.lw_match.specs.declared.mark.Mark.{Mark}
-use Rattle.lw_match.specs.Values.{plain_mark, marks_in, AreInRange}
+use Rattle.lw_match.specs.Values.{plain_mark, marks_in}
 use Rattle.lw_match.specs.Shapes.{AreClosed}
 use Rattle.lw_match.specs.Bounds.{AreBounds, AreRows, AreSettledAt, AreZero, BoundsFit, BoundsState, IsTableBut}
 use Rattle.lw_match.specs.Cutting.{AreKnown, IsLeastWithin, TopsState, bound_after}
-use Rattle.lw_match.specs.Least.{AreOfCells, IsLeastBelow}
+use Rattle.lw_match.specs.Least.{AreOfCells}
 use Rattle.lw_match.proofs.Marked.{each_cost, length-costs as length-costs_in, length-marks}
 use Rattle.lw_match.proofs.Settled.{settled_bounds_are_bounds}
 use Rattle.lw_match.proofs.Tables.{but_same, fits_but, lowered_settled, settled_kept, settled_low, zero_or_bare, zero_settled}
@@ -30,7 +30,7 @@ use Rattle.lw_label.specs.OneVisit.{AreBoundsAround, AreFalling, AreLabelsStill,
 use Rattle.lw_label.specs.Orders.{ArePartsStill, IsStillAfter, IsStillAt}
 use Rattle.lw_label.proofs.Marked.{label_of_mark, labels_of_marks, lowering_in_range, mark_set_same, marks_of_labels, priced}
 use Rattle.lw_label.proofs.Falling.{bounded_under, label_is_cost, not_below}
-use Rattle.lw_label.proofs.Still.{cost_most, flip_place, have_split, of_pair, same_but_more, same_mark, stands_still, still_elsewhere, still_nowhere, still_too}
+use Rattle.lw_label.proofs.Still.{cost_most, flip_place, have_split, of_pair, same_but_more, stands_still, still_elsewhere, still_nowhere, still_too}
 
 labels_same : (old new : List (Option Mark)) (ps ls : List ℕ) → ((k d : ℕ) → slice_get ps k ≡ Some d → labels_in (costs_of new) d ≡ labels_in (costs_of old) d) → HaveLabels (labels_in (costs_of new)) ps ls → HaveLabels (labels_in (costs_of old)) ps ls
 labels_same old new [] [] same h = tt
@@ -75,6 +75,10 @@ even_of place n e = omega (arith, e)
 pub around_after : (b : BoundsState) (g : Graph) (marks mid : List (Option Mark)) (place : ℕ) (at : ℕ → Type 0) → ((c : ℕ) → at c → c / 2 ≡ place) → AreSameBut at marks mid → AreBoundsAround b g marks place → AreBoundsAround b g mid place
 around_after b g marks mid place at to same around other beside =
     around other (same_but_more at (λ c. c / 2 ≡ place) marks mid other to same beside)
+
+pub is_true : (b : Bool) → not b ≡ false → b ≡ true
+is_true true e = refl
+is_true false e = cc
 
 -- a search that leaves something to be found has lowered the label
 pub was_lowered : (lowered still : Bool) → (lowered ≡ false → still ≡ true) → still ≡ false → lowered ≡ true

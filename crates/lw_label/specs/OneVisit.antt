@@ -1,5 +1,5 @@
 -- Labels that are found by one visit of each place.
-use Rattle.std.specs.Prelude.{ℕ, ◌<◌, ◌≤◌, ◌≡◌, ◌⊎◌, ◌/◌, Bool, true, List, length, Option, Some, None, slice_set}
+use Rattle.std.specs.Prelude.{ℕ, ◌<◌, ◌≤◌, ◌≡◌, ◌⊎◌, ◌/◌, Bool, List, length, Option, Some, None, slice_set}
 use Rattle.lw_laws.specs.Graphs.{Graph, HoldsPair}
 use Rattle.lw_laws.specs.Costs.{Cost}
 use Rattle.lw_laws.specs.Covers.{Pattern}

@@ -210,7 +210,10 @@ fn lower_pair<C: Cost>(
     let first = lower_mark(graph, pats, cost, bounds, tops, marks, odd);
     let second = lower_mark(graph, pats, cost, bounds, tops, marks, even);
     let third = lower_again(graph, pats, cost, bounds, marks, place, second.lowered);
-    either(third, either(either(second.lowered, first.lowered), either(other, one)))
+    either(
+        third,
+        either(either(second.lowered, first.lowered), either(other, one)),
+    )
 }
 
 // Lowers the two classes of the place of a visit, if that is due.

@@ -1,4 +1,4 @@
-use Rattle.std.proofs.Common.{◌≡◌, ◌∙◌, ap, sym, subst}
+use Rattle.std.proofs.Common.{◌∙◌, ap, sym, subst}
 use Rattle.lw_label.specs.Lowering.{state}
 use Rattle.lw_label.specs.OneVisit.{AreFalling}
 use Rattle.lw_label.specs.Orders.{VisitState}

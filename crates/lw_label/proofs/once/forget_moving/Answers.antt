@@ -11,10 +11,10 @@ loop-number-preserved c =
     let l = c.loop-number in
     elim c.if-not-is_still.branch [
       | then-not-is_still w ↦
-        subst (IsTableBut (λ n. IsStillAt still n → ⊥) c.args.bounds.now) (sym w.bounds-is) (but_both (λ n. IsStillAt still n → ⊥) (λ n. n ≡ l.number) (λ n. IsStillAt still n → ⊥) c.args.bounds.now l.bounds w.forget.new.self (λ n out. out)
-        (λ n e is. true≢false (sym (subst (λ k. slice_index_or still (k / 2) false ≡ true) e is) ∙ (sym c.is_still.ensures ∙ w.if-not-is_still.true))) l.invariant w.forget.ensures.others)
+          subst (IsTableBut (λ n. IsStillAt still n → ⊥) c.args.bounds.now) (sym w.bounds-is) (but_both (λ n. IsStillAt still n → ⊥) (λ n. n ≡ l.number) (λ n. IsStillAt still n → ⊥) c.args.bounds.now l.bounds w.forget.new.self (λ n out. out)
+          (λ n e is. true≢false (sym (subst (λ k. slice_index_or still (k / 2) false ≡ true) e is) ∙ (sym c.is_still.ensures ∙ w.if-not-is_still.true))) l.invariant w.forget.ensures.others)
       | else-not-is_still w ↦
-        subst (IsTableBut (λ n. IsStillAt still n → ⊥) c.args.bounds.now) (sym w.bounds-is) l.invariant
+          subst (IsTableBut (λ n. IsStillAt still n → ⊥) c.args.bounds.now) (sym w.bounds-is) l.invariant
     ]
 
 pub loop-number-init : goal.loop-number-init

@@ -1,10 +1,10 @@
-use Rattle.std.proofs.Common.{ℕ, ◌≡◌, ◌/◌, ◌∙◌, ap, sym, subst}
+use Rattle.std.proofs.Common.{◌≡◌, ◌/◌, ◌∙◌, ap, sym, subst}
 use Rattle.lw_laws.specs.Flip.{flip}
 use Rattle.lw_laws.proofs.Flips.{xor-one}
 use Rattle.lw_label.specs.Heights.{AreSameBut}
-use Rattle.lw_label.specs.OneVisit.{AreBoundsAround, IsSearch}
+use Rattle.lw_label.specs.OneVisit.{AreBoundsAround}
 use Rattle.lw_label.proofs.OneVisit.{around_after, bounded_pair, bounded_stays}
-use Rattle.lw_label.proofs.Still.{flip_apart, flip_place, is_false, pair_others, same_but_more}
+use Rattle.lw_label.proofs.Still.{flip_apart, flip_place, is_false, pair_others}
 use Rattle.lw_label.proofs.once.label_pair.Goals as goal
 
 pub lower_whole-requires-clause-search : goal.lower_whole-requires-clause-search
@@ -28,8 +28,8 @@ lower_whole-lowered-requires-clause-around g c =
     let two = pair_others place a b c.args.marks.now c.lower_mark.new.marks c.lower_whole.new.marks c.first_of-class.ensures flipped c.lower_mark.ensures.others c.lower_whole.ensures.others in
     subst (AreBoundsAround c.args.bounds.now c.args.graph.now c.lower_whole.new.marks) (sym c.first_of-class.ensures) (around_after c.args.bounds.now c.args.graph.now c.args.marks.now c.lower_whole.new.marks place (λ n. n / 2 ≡ place) (λ n e. e) two c.requires.around)
 
-pub lower_whole-lowered-2-requires-clause-around : goal.lower_whole-lowered-2-requires-clause-around
-lower_whole-lowered-2-requires-clause-around g c =
+pub lower_whole-lowered-requires-2-clause-around : goal.lower_whole-lowered-requires-2-clause-around
+lower_whole-lowered-requires-2-clause-around g c =
     let place = c.args.place in
     let a = c.first_of-class.result.0 in
     let b = c.flip-other.result.0 in

@@ -1,4 +1,3 @@
-use Rattle.lw_label.specs.OneVisit.{AreFalling}
 use Rattle.lw_label.proofs.OneVisit.{found_falling, found_numbers, kept_falling, kept_numbers, parts_elsewhere, set_around, set_search}
 use Rattle.lw_label.proofs.once.label_place.Goals as goal
 

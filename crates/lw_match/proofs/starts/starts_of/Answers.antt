@@ -15,12 +15,12 @@ loop-number-preserved c =
     let few : l.size < no_row = omega (arith, l.invariant.few, scaled, c.requires) in
     elim c.if-is_empty.branch [
       | then-is_empty+in_ok-push w ↦
-        let none = bare_row c.nands.result.now _ c.nands.ensures.pairs (eqb-true (length c.nands.result.now) 0 (sym c.is_empty.ensures ∙ w.if-is_empty.true)) in
-        let items : c.if-is_empty.starts.items ≡ l.starts.items ++ no_row ∷ [] = cc (w.starts-is, w.in_ok-push.ensures.items) in
-        subst₂ (λ (xs : List ℕ) (n : ℕ). AreStartsBelow width xs n graph (l.number + 1)) (sym items) (sym w.size-is)
-        (starts_more width l.starts.items l.size l.size no_row graph l.number (omega arith) (omega arith) (inl refl) (λ e. none) (inl refl) l.invariant)
+          let none = bare_row c.nands.result.now _ c.nands.ensures.pairs (eqb-true (length c.nands.result.now) 0 (sym c.is_empty.ensures ∙ w.if-is_empty.true)) in
+          let items : c.if-is_empty.starts.items ≡ l.starts.items ++ no_row ∷ [] = cc (w.starts-is, w.in_ok-push.ensures.items) in
+          subst₂ (λ (xs : List ℕ) (n : ℕ). AreStartsBelow width xs n graph (l.number + 1)) (sym items) (sym w.size-is)
+          (starts_more width l.starts.items l.size l.size no_row graph l.number (omega arith) (omega arith) (inl refl) (λ e. none) (inl refl) l.invariant)
       | else-is_empty+in_ok-push-2 w ↦
-        let items : c.if-is_empty.starts.items ≡ l.starts.items ++ l.size ∷ [] = cc (w.starts-is, w.in_ok-push-2.ensures.items) in
-        subst₂ (λ (xs : List ℕ) (n : ℕ). AreStartsBelow width xs n graph (l.number + 1)) (sym items) (sym w.size-is)
-        (starts_more width l.starts.items l.size (l.size + width) l.size graph l.number (omega arith) (omega arith) (inr (omega arith)) (λ e. absurd (omega (arith, e, few))) (inr (omega arith)) l.invariant)
+          let items : c.if-is_empty.starts.items ≡ l.starts.items ++ l.size ∷ [] = cc (w.starts-is, w.in_ok-push-2.ensures.items) in
+          subst₂ (λ (xs : List ℕ) (n : ℕ). AreStartsBelow width xs n graph (l.number + 1)) (sym items) (sym w.size-is)
+          (starts_more width l.starts.items l.size (l.size + width) l.size graph l.number (omega arith) (omega arith) (inr (omega arith)) (λ e. absurd (omega (arith, e, few))) (inr (omega arith)) l.invariant)
     ]
