@@ -127,6 +127,11 @@ module _ (g : Graph) (cost : Cost) (pats : List Pattern) where
     still = λ e n at are. subst (λ a. IsBounded g cost pats marks a) (sym at) (bounded e are);
   }
 
+  -- a label that a search does not lower is the least
+  pub label_stays : (b : BoundsState) (marks new : List (Option Mark)) (c : ℕ) (lowered still : Bool) → Takes g cost pats marks new lowered → (lowered ≡ false → still ≡ true) → (still ≡ true → AreBounds b g marks → IsBounded g cost pats new c) → lowered ≡ false → AreBounds b g marks → IsBounded g cost pats marks c
+  label_stays b marks new c lowered still takes none bounded e are =
+      subst (λ ms. IsBounded g cost pats ms c) (takes.same e) (bounded (none e) are)
+
   -- a label of no class in particular
   pub marks_pass : (b : BoundsState) (marks new : List (Option Mark)) (changed : Bool) → Takes g cost pats marks new changed → Lowers g cost pats (state b marks) (state b new) (λ n. ⊥) changed
   marks_pass b marks new changed takes = record {

@@ -4,6 +4,7 @@ pub mod HeightPasses
 pub mod Inputs
 pub mod Low
 pub mod Marked
+pub mod OneVisit
 pub mod Passing
 pub mod Still
 pub mod Times

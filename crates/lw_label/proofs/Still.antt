@@ -38,11 +38,11 @@ flip_place zero = refl
 flip_place (suc zero) = refl
 flip_place (suc (suc n)) = let ih = flip_place n in omega (arith, ih)
 
-same_mark : (old new : List (Option Mark)) (c : ℕ) → slice_index_or new c None ≡ slice_index_or old c None → marks_in new c ≡ marks_in old c
+pub same_mark : (old new : List (Option Mark)) (c : ℕ) → slice_index_or new c None ≡ slice_index_or old c None → marks_in new c ≡ marks_in old c
 same_mark old new c e = ap (option_map plain_mark) e
 
 -- pins that have marks had the same, or one of them is at a class of which it is not known
-have_split : (old new : List (Option Mark)) (d : ℕ) → AreSameBut (λ c. c ≡ d) old new → (ps : List ℕ) (ms : List PlainMark) → HaveMarks (marks_in new) ps ms → HaveMarks (marks_in old) ps ms ⊎ ((k : ℕ) × (m : PlainMark) × (marks_in new d ≡ Some m) × (slice_get ms k ≡ Some m))
+pub have_split : (old new : List (Option Mark)) (d : ℕ) → AreSameBut (λ c. c ≡ d) old new → (ps : List ℕ) (ms : List PlainMark) → HaveMarks (marks_in new) ps ms → HaveMarks (marks_in old) ps ms ⊎ ((k : ℕ) × (m : PlainMark) × (marks_in new d ≡ Some m) × (slice_get ms k ≡ Some m))
 have_split old new d same [] [] h = inl tt
 have_split old new d same [] (m ∷ ms) h = absurd h
 have_split old new d same (p ∷ ps) [] h = absurd h
@@ -63,7 +63,7 @@ height_most (n ∷ ms) zero m e =
     omega (arith, height)
 height_most (n ∷ ms) (suc k) m e = let le = height_most ms k m e in omega (arith, le)
 
-cost_most : (ms : List PlainMark) (v k : ℕ) (m : PlainMark) → AllByRecursion (λ d. d ≤ v) (costs_in ms) → slice_get ms k ≡ Some m → m.cost ≤ v
+pub cost_most : (ms : List PlainMark) (v k : ℕ) (m : PlainMark) → AllByRecursion (λ d. d ≤ v) (costs_in ms) → slice_get ms k ≡ Some m → m.cost ≤ v
 cost_most [] v k m all e = cc
 cost_most (n ∷ ms) v zero m (le, all) e =
     let same : n ≡ m = same_Some n m e in
@@ -99,12 +99,11 @@ parts_still g still c row is n all each x y (inr h) =
     let (one, other) = each k q (omega (arith, within, all)) at in
     (subst (λ n. IsStillAt still n) (ap (λ (p : PlainPair). p.y) same) other, subst (λ n. IsStillAt still n) (ap (λ (p : PlainPair). p.x) same) one)
 
-pub settled_at : (g : Graph) (place : ℕ) (still : List Bool) → place < length still → ArePartsStill g still (place * 2) → ArePartsStill g still (place * 2 + 1) → IsStillAfter g place still (slice_set still place true)
-settled_at g place still below even odd = inr (below, refl, λ c here. by_class c (of_place place c here))
-  where
-    by_class : (c : ℕ) → (c ≡ place * 2 + 1) ⊎ (c ≡ place * 2) → ArePartsStill g still c
-    by_class c (inl e) = subst (λ n. ArePartsStill g still n) (sym e) odd
-    by_class c (inr e) = subst (λ n. ArePartsStill g still n) (sym e) even
+pub parts_of_place : (g : Graph) (place : ℕ) (still : List Bool) → ArePartsStill g still (place * 2) → ArePartsStill g still (place * 2 + 1) → (c : ℕ) → c / 2 ≡ place → ArePartsStill g still c
+parts_of_place g place still even odd c here = elim (of_place place c here) [
+  | inl e ↦ subst (λ n. ArePartsStill g still n) (sym e) odd
+  | inr e ↦ subst (λ n. ArePartsStill g still n) (sym e) even
+]
 
 -- the other class of a place
 pub other_class : (a c : ℕ) → a / 2 ≡ c / 2 → (c ≡ a → ⊥) → c ≡ flip a
@@ -134,7 +133,7 @@ have_same old new (p ∷ ps) (m ∷ ms) same (e, h) =
     (sym (same 0 p refl) ∙ e, have_same old new ps ms (λ k d at. same (suc k) d at) h)
 
 -- the pins of a tree at a class of a still place are at such classes
-stands_still : (g : Graph) (still : List Bool) → ((c : ℕ) → IsStillAt still c → ArePartsStill g still c) → (ps : List ℕ) (t : Tree) (c k d : ℕ) → Stands g ps t c → IsStillAt still c → HasLeaf t k → slice_get ps k ≡ Some d → IsStillAt still d
+pub stands_still : (g : Graph) (still : List Bool) → ((c : ℕ) → IsStillAt still c → ArePartsStill g still c) → (ps : List ℕ) (t : Tree) (c k d : ℕ) → Stands g ps t c → IsStillAt still c → HasLeaf t k → slice_get ps k ≡ Some d → IsStillAt still d
 stands_still g still parts ps (leaf i) c k d stands is has at =
     let there : slice_get ps k ≡ Some c = ap (λ n. slice_get ps n) (sym has) ∙ stands in
     let same : c ≡ d = same_Some c d (sym there ∙ at) in
@@ -148,18 +147,61 @@ stands_still g still parts ps (nand t u) c k d (x, y, holds, left, right) is (in
 stands_still g still parts ps (nand t u) c k d (x, y, holds, left, right) is (inr has) at =
     stands_still g still parts ps u y k d right (parts c is x y holds).1 has at
 
+-- a place that is not still is none of the still ones
+pub still_elsewhere : (still : List Bool) (place : ℕ) → slice_index_or still place false ≡ false → (c : ℕ) → IsStillAt still c → c / 2 ≡ place → ⊥
+still_elsewhere still place moves c is here =
+    true≢false (sym is ∙ subst (λ p. slice_index_or still p false ≡ false) (sym here) moves)
+
+pub still_nowhere : (n c : ℕ) → IsStillAt (replicate n false) c → ⊥
+still_nowhere n c is = true≢false (sym is ∙ none n (c / 2))
+  where
+    none : (n k : ℕ) → slice_index_or (replicate n false) k false ≡ false
+    none zero k = refl
+    none (suc n) zero = refl
+    none (suc n) (suc k) = none n k
+
+-- which places are still, after a place has become so
+pub record AreStillToo (g : Graph) (place : ℕ) (old new : List Bool) : Type 0 where
+  pub stays : (c : ℕ) → IsStillAt old c → IsStillAt new c
+  pub was : (c : ℕ) → IsStillAt new c → (c / 2 ≡ place) ⊎ IsStillAt old c
+  pub parts : (c : ℕ) → IsStillAt new c → ArePartsStill g new c
+
+pub still_too : (g : Graph) (place : ℕ) (old new : List Bool) → IsStillAfter g place old new → ((c : ℕ) → IsStillAt old c → ArePartsStill g old c) → AreStillToo g place old new
+still_too g place old new (inl e) before =
+    subst (λ still. AreStillToo g place old still) (sym e) (record { stays = λ c is. is; was = λ c is. inr is; parts = before })
+still_too g place old new (inr (below, e, parts)) before =
+    subst (λ still. AreStillToo g place old still) (sym e) (record {
+      stays = stays;
+      was = was;
+      parts = λ c is x y holds. let (a, b) = by_parts c (was c is) x y holds in (stays x a, stays y b);
+    })
+  where
+    was : (c : ℕ) → IsStillAt (slice_set old place true) c → (c / 2 ≡ place) ⊎ IsStillAt old c
+    was c is = by_place (cases_eq (c / 2) place)
+      where
+        by_place : (c / 2 ≡ place) ⊎ (c / 2 ≡ place → ⊥) → (c / 2 ≡ place) ⊎ IsStillAt old c
+        by_place (inl same) = inl same
+        by_place (inr other) = inr (sym (get_or-set_other old place (c / 2) true false other) ∙ is)
+
+    stays : (c : ℕ) → IsStillAt old c → IsStillAt (slice_set old place true) c
+    stays c is = by_place (cases_eq (c / 2) place)
+      where
+        by_place : (c / 2 ≡ place) ⊎ (c / 2 ≡ place → ⊥) → IsStillAt (slice_set old place true) c
+        by_place (inl same) = subst (λ p. slice_index_or (slice_set old place true) p false ≡ true) (sym same) (get_or-set_same old place true false below)
+        by_place (inr other) = get_or-set_other old place (c / 2) true false other ∙ is
+
+    by_parts : (c : ℕ) → (c / 2 ≡ place) ⊎ IsStillAt old c → ArePartsStill g old c
+    by_parts c (inl same) = parts c same
+    by_parts c (inr is) = before c is
+
 module _ (g : Graph) (cost : Cost) (pats : List Pattern) (labels : List (Option Mark)) where
   -- other heights were lowered, at a place that is not still
   pub still_kept : AreOfCells cost.pin_counts pats → (old new : List (Option Mark)) (still : List Bool) (place : ℕ) → slice_index_or still place false ≡ false → AreSameBut (λ c. c / 2 ≡ place) old new → AreStill g cost pats labels old still → AreStill g cost pats labels new still
   still_kept of_cells old new still place moves same are =
       record { parts = are.parts; reached = λ c is. reached c is }
     where
-      elsewhere : (c : ℕ) → IsStillAt still c → c / 2 ≡ place → ⊥
-      elsewhere c is here =
-          true≢false (sym is ∙ subst (λ p. slice_index_or still p false ≡ false) (sym here) moves)
-
       as_before : (c : ℕ) → IsStillAt still c → marks_in new c ≡ marks_in old c
-      as_before c is = same_mark old new c (same c (elsewhere c is))
+      as_before c is = same_mark old new c (same c (still_elsewhere still place moves c is))
 
       reached : (c : ℕ) → IsStillAt still c → IsReached g cost pats labels new c
       reached c is cell ps ms m have attained =
@@ -172,48 +214,18 @@ module _ (g : Graph) (cost : Cost) (pats : List Pattern) (labels : List (Option 
 
   -- a place that has become still
   pub still_more : (marks : List (Option Mark)) (place : ℕ) (old new : List Bool) → IsStillAfter g place old new → ((c : ℕ) → c / 2 ≡ place → IsReached g cost pats labels marks c) → AreStill g cost pats labels marks old → AreStill g cost pats labels marks new
-  still_more marks place old new (inl e) here are = subst (λ still. AreStill g cost pats labels marks still) (sym e) are
-  still_more marks place old new (inr (below, e, parts)) here are =
-      subst (λ still. AreStill g cost pats labels marks still) (sym e) (record {
-        parts = λ c is x y holds. let (a, b) = by_parts c (was c is) x y holds in (stays x a, stays y b);
-        reached = λ c is. by_reached c (was c is);
-      })
-    where
-      was : (c : ℕ) → IsStillAt (slice_set old place true) c → (c / 2 ≡ place) ⊎ IsStillAt old c
-      was c is = by_place (cases_eq (c / 2) place)
-        where
-          by_place : (c / 2 ≡ place) ⊎ (c / 2 ≡ place → ⊥) → (c / 2 ≡ place) ⊎ IsStillAt old c
-          by_place (inl same) = inl same
-          by_place (inr other) = inr (sym (get_or-set_other old place (c / 2) true false other) ∙ is)
-
-      by_parts : (c : ℕ) → (c / 2 ≡ place) ⊎ IsStillAt old c → ArePartsStill g old c
-      by_parts c (inl same) = parts c same
-      by_parts c (inr is) = are.parts c is
-
-      by_reached : (c : ℕ) → (c / 2 ≡ place) ⊎ IsStillAt old c → IsReached g cost pats labels marks c
-      by_reached c (inl same) = here c same
-      by_reached c (inr is) = are.reached c is
-
-      stays : (c : ℕ) → IsStillAt old c → IsStillAt (slice_set old place true) c
-      stays c is = by_place (cases_eq (c / 2) place)
-        where
-          by_place : (c / 2 ≡ place) ⊎ (c / 2 ≡ place → ⊥) → IsStillAt (slice_set old place true) c
-          by_place (inl same) = subst (λ p. slice_index_or (slice_set old place true) p false ≡ true) (sym same) (get_or-set_same old place true false below)
-          by_place (inr other) = get_or-set_other old place (c / 2) true false other ∙ is
+  still_more marks place old new after here are =
+      let too = still_too g place old new after are.parts in
+      record {
+        parts = too.parts;
+        reached = λ c is. elim (too.was c is) [ inl same ↦ here c same | inr before ↦ are.reached c before ];
+      }
 
   pub still_none : (marks : List (Option Mark)) (n : ℕ) → AreStill g cost pats labels marks (replicate n false)
   still_none marks n = record {
-    parts = λ c is. absurd (nowhere c is);
-    reached = λ c is. absurd (nowhere c is);
+    parts = λ c is. absurd (still_nowhere n c is);
+    reached = λ c is. absurd (still_nowhere n c is);
   }
-    where
-      none : (n k : ℕ) → slice_index_or (replicate n false) k false ≡ false
-      none zero k = refl
-      none (suc n) zero = refl
-      none (suc n) (suc k) = none n k
-
-      nowhere : (c : ℕ) → IsStillAt (replicate n false) c → ⊥
-      nowhere c is = true≢false (sym is ∙ none n (c / 2))
 
   -- the height of another class was lowered, which is at no pin of a match that lowers this one
   pub reached_beside : IsCost cost → (old new : List (Option Mark)) (c d : ℕ) → AreInRange cost.cap new → AreSameBut (λ b. b ≡ d) old new → (c ≡ d → ⊥) → IsNoPin (slice_index_or new d None) (slice_index_or new c None) → ((o : Mark) → slice_index_or new c None ≡ Some o → labels_in (costs_of labels) c ≡ Some o.cost) → IsReached g cost pats labels old c → IsReached g cost pats labels new c

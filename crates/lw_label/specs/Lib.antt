@@ -2,5 +2,6 @@ pub mod Delays
 pub mod Heights
 pub mod Labels
 pub mod Lowering
+pub mod OneVisit
 pub mod Orders
 pub mod Passes

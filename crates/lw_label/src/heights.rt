@@ -117,7 +117,7 @@ fn lower_height<C: Cost>(
 
 // The class of a place that comes first: the one with the lower label, since no match attains a
 // label that has a pin with a higher one.
-fn first_of(graph: &Graph, labels: &[Option<Mark>], place: u32) -> ClassId
+pub(crate) fn first_of(graph: &Graph, labels: &[Option<Mark>], place: u32) -> ClassId
     requires place { place < places_of graph.now }
     requires one_each { length labels.now ≡ length graph.now.pairs }
     ensures { result.0 / 2 ≡ place }

@@ -1,5 +1,5 @@
 ghost use Rattle.std.specs.Prelude.{◌≡◌, ◌<◌, None, false, IfOk, length, replicate, slice_index_or};
-ghost use Rattle.lw_match.specs.Bounds.{BoundsFit, AreBounds};
+ghost use Rattle.lw_match.specs.Bounds.{BoundsFit, AreBounds, AreZero};
 ghost use Rattle.lw_match.specs.Least.{AreOfCells};
 ghost use Rattle.lw_label.specs.Labels.{AreLeastMarks};
 ghost use Rattle.lw_label.specs.Orders.{places_of};
@@ -121,6 +121,7 @@ fn mark_all<C: Cost>(
     requires still { visits.old.still ≡ replicate (places_of graph.now) false }
     requires of_cells { AreOfCells (C.costs cost.now).pin_counts pats.now }
     requires fits { BoundsFit bounds.old pats.now graph.now }
+    requires zero { AreZero bounds.old.numbers }
     requires no_labels { labels.old ≡ replicate (length graph.now.pairs) None }
     requires no_marks { marks.old ≡ replicate (length graph.now.pairs) None }
     ensures least { AreLeastMarks graph.now (C.costs cost.now) pats.now marks.new }

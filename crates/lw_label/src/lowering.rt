@@ -1,14 +1,18 @@
 // Labels in rounds.
 ghost use Rattle.std.specs.Prelude.{◌≡◌, ◌<◌, ◌≤◌, ◌/◌, ◌||◌, ℕ, Some, None, true, false, IfOk, length, replicate, slice_get, slice_index_or};
 ghost use Rattle.lw_match.specs.Least.{AreOfCells};
-ghost use Rattle.lw_match.specs.Bounds.{AreBounds, BoundsFit};
+ghost use Rattle.lw_match.specs.Bounds.{AreBounds, AreZero, BoundsFit};
 ghost use Rattle.lw_match.specs.Cutting.{AreKnown, IsMatchWithin};
 ghost use Rattle.lw_match.specs.Values.{marks_in};
 ghost use Rattle.lw_label.specs.Labels.{costs_of};
 ghost use Rattle.lw_label.specs.Lowering.{AreLowering, IsBounded, IsLabelled, IsLowerOf, Lowers, Takes, state, state_weight, weight};
+ghost use Rattle.lw_label.specs.OneVisit.{AreFalling, IsSameBut, with_label};
+ghost use Rattle.lw_label.specs.Heights.{AreSameBut};
 ghost use Rattle.lw_label.specs.Orders.{IsPassed, IsVisited, places_of};
 ghost use Rattle.lw_laws.specs.Laws.{AreBoundedIn, IsCoverProblem};
 
+use crate::heights::Visit;
+use crate::once::{forget_moving, label_places};
 use crate::visits::Visits;
 use lw_graph::Graph;
 use lw_match::{Best, Bounds, Cost, Mark, Tops, better_bare, better_within};
@@ -55,6 +59,7 @@ fn put_label(marks: &mut [Option<Mark>], class: ClassId, found: Option<Best>) ->
         class.0 (slice_index_or marks.old class.0 None) found →
         Takes graph cost pats marks.old marks.new result }
     ensures none { result ≡ false → found ≡ None }
+    ensures puts { marks.new ≡ with_label marks.old class.0 found }
 {
     let Some(best) = found else {
         return false;
@@ -68,7 +73,7 @@ fn put_label(marks: &mut [Option<Mark>], class: ClassId, found: Option<Best>) ->
 
 // Gives a class the cost of a match whose pins have marks, mostly the least, where that is lower
 // than its own.
-fn lower_mark<C: Cost>(
+pub(crate) fn lower_mark<C: Cost>(
     graph: &Graph,
     pats: &Patterns,
     cost: &C,
@@ -76,7 +81,7 @@ fn lower_mark<C: Cost>(
     tops: &mut Tops,
     marks: &mut [Option<Mark>],
     class: ClassId,
-) -> bool
+) -> Visit
     requires class { class.0 < length graph.now.pairs }
     requires of_cells { AreOfCells (C.costs cost.now).pin_counts pats.now }
     requires problem { IsCoverProblem graph.now pats.now (C.costs cost.now) }
@@ -84,13 +89,18 @@ fn lower_mark<C: Cost>(
     requires known { AreKnown (C.costs cost.now) pats.now bounds.now.gaps tops.old }
     requires lowering { AreLowering graph.now (C.costs cost.now) pats.now marks.old }
     ensures known { AreKnown (C.costs cost.now) pats.now bounds.now.gaps tops.new }
-    ensures takes { Takes graph.now (C.costs cost.now) pats.now marks.old marks.new result }
-    ensures bounded { result ≡ false → AreBounds bounds.now graph.now marks.old →
-        IsBounded graph.now (C.costs cost.now) pats.now marks.old class.0 }
+    ensures takes { Takes graph.now (C.costs cost.now) pats.now marks.old marks.new
+        result.lowered }
+    ensures none { result.lowered ≡ false → result.is_still ≡ true }
+    ensures bounded { result.is_still ≡ true → AreBounds bounds.now graph.now marks.old →
+        IsBounded graph.now (C.costs cost.now) pats.now marks.new class.0 }
+    ensures others { AreSameBut (λ c. c ≡ class.0) marks.old marks.new }
 {
     let old = marks[class.0 as usize];
     let found = better_within(graph, pats, bounds, marks, class, cost, tops, 0, false, old);
-    put_label(marks, class, found.best)
+    let is_still = found.is_least;
+    let lowered = put_label(marks, class, found.best);
+    Visit { lowered, is_still }
 }
 
 // Gives a class the cost of a match by a pattern without NANDs, where that is lower than its own.
@@ -107,7 +117,8 @@ fn lower_bare<C: Cost>(
     requires problem { IsCoverProblem graph.now pats.now (C.costs cost.now) }
     requires fits { BoundsFit bounds.now pats.now graph.now }
     requires lowering { AreLowering graph.now (C.costs cost.now) pats.now marks.old }
-    ensures { Takes graph.now (C.costs cost.now) pats.now marks.old marks.new result }
+    ensures takes { Takes graph.now (C.costs cost.now) pats.now marks.old marks.new result }
+    ensures others { AreSameBut (λ c. c ≡ class.0) marks.old marks.new }
 {
     let old = marks[class.0 as usize];
     let found = better_bare(graph, pats, bounds, marks, class, cost, 0, old);
@@ -154,7 +165,8 @@ fn lower_again<C: Cost>(
     requires problem { IsCoverProblem graph.now pats.now (C.costs cost.now) }
     requires fits { BoundsFit bounds.now pats.now graph.now }
     requires lowering { AreLowering graph.now (C.costs cost.now) pats.now marks.old }
-    ensures { Takes graph.now (C.costs cost.now) pats.now marks.old marks.new result }
+    ensures takes { Takes graph.now (C.costs cost.now) pats.now marks.old marks.new result }
+    ensures others { AreSameBut (λ c. c / 2 ≡ place) marks.old marks.new }
 {
     let _ = graph.classes();
     let class = ClassId(place * 2 + 1);
@@ -187,6 +199,8 @@ fn lower_pair<C: Cost>(
     ensures lowering { AreLowering graph.now (C.costs cost.now) pats.now marks.new }
     ensures lowers { Lowers graph.now (C.costs cost.now) pats.now (state bounds.old marks.old)
         (state bounds.new marks.new) (λ c. c / 2 ≡ place) result }
+    ensures others { IsSameBut (λ c. c / 2 ≡ place) (state bounds.old marks.old)
+        (state bounds.new marks.new) }
 {
     let _ = graph.classes();
     let odd = ClassId(place * 2 + 1);
@@ -195,8 +209,11 @@ fn lower_pair<C: Cost>(
     let other = bounds.renew(graph, marks, even);
     let first = lower_mark(graph, pats, cost, bounds, tops, marks, odd);
     let second = lower_mark(graph, pats, cost, bounds, tops, marks, even);
-    let third = lower_again(graph, pats, cost, bounds, marks, place, second);
-    either(third, either(either(second, first), either(other, one)))
+    let third = lower_again(graph, pats, cost, bounds, marks, place, second.lowered);
+    either(
+        third,
+        either(either(second.lowered, first.lowered), either(other, one)),
+    )
 }
 
 // Lowers the two classes of the place of a visit, if that is due.
@@ -213,19 +230,15 @@ fn lower_place<C: Cost>(
 ) -> bool
     requires number { number < length visits.old.order }
     requires places { visits.old.places ≡ places_of graph.now }
-    requires of_cells { AreOfCells (C.costs cost.now).pin_counts pats.now }
-    requires problem { IsCoverProblem graph.now pats.now (C.costs cost.now) }
-    requires fits { BoundsFit bounds.old pats.now graph.now }
-    requires known { AreKnown (C.costs cost.now) pats.now bounds.old.gaps tops.old }
-    requires lowering { AreLowering graph.now (C.costs cost.now) pats.now marks.old }
+    requires falling { AreFalling graph.now (C.costs cost.now) pats.now
+        (state bounds.old marks.old) tops.old visits.old.still }
     ensures visits { visits.new ≡ visits.old }
-    ensures fits { BoundsFit bounds.new pats.now graph.now }
-    ensures known { AreKnown (C.costs cost.now) pats.now bounds.new.gaps tops.new }
-    ensures lowering { AreLowering graph.now (C.costs cost.now) pats.now marks.new }
+    ensures falling { AreFalling graph.now (C.costs cost.now) pats.now
+        (state bounds.new marks.new) tops.new visits.old.still }
     ensures lowers { Lowers graph.now (C.costs cost.now) pats.now (state bounds.old marks.old)
         (state bounds.new marks.new) (IsVisited whole visits.old.order number) result }
 {
-    let Some(place) = visits.due(graph, number, whole) else {
+    let Some(place) = visits.due_unless_still(graph, number, whole) else {
         return false;
     };
     let lowered = lower_pair(graph, pats, cost, bounds, tops, marks, place);
@@ -234,7 +247,7 @@ fn lower_place<C: Cost>(
 }
 
 // Goes once through the places, and says whether it changed a number or a mark. A whole round
-// passes over none.
+// passes over none that is not still.
 fn lower_round<C: Cost>(
     graph: &Graph,
     pats: &Patterns,
@@ -246,15 +259,11 @@ fn lower_round<C: Cost>(
     whole: bool,
 ) -> bool
     requires places { visits.old.places ≡ places_of graph.now }
-    requires of_cells { AreOfCells (C.costs cost.now).pin_counts pats.now }
-    requires problem { IsCoverProblem graph.now pats.now (C.costs cost.now) }
-    requires fits { BoundsFit bounds.old pats.now graph.now }
-    requires known { AreKnown (C.costs cost.now) pats.now bounds.old.gaps tops.old }
-    requires lowering { AreLowering graph.now (C.costs cost.now) pats.now marks.old }
+    requires falling { AreFalling graph.now (C.costs cost.now) pats.now
+        (state bounds.old marks.old) tops.old visits.old.still }
     ensures visits { visits.new ≡ visits.old }
-    ensures fits { BoundsFit bounds.new pats.now graph.now }
-    ensures known { AreKnown (C.costs cost.now) pats.now bounds.new.gaps tops.new }
-    ensures lowering { AreLowering graph.now (C.costs cost.now) pats.now marks.new }
+    ensures falling { AreFalling graph.now (C.costs cost.now) pats.now
+        (state bounds.new marks.new) tops.new visits.old.still }
     ensures lowers { Lowers graph.now (C.costs cost.now) pats.now (state bounds.old marks.old)
         (state bounds.new marks.new) (λ c. (whole ≡ true) × (c < length graph.now.pairs)) result }
 {
@@ -281,15 +290,11 @@ fn lower_rounds<C: Cost>(
     marks: &mut [Option<Mark>],
 ) -> bool
     requires places { visits.old.places ≡ places_of graph.now }
-    requires of_cells { AreOfCells (C.costs cost.now).pin_counts pats.now }
-    requires problem { IsCoverProblem graph.now pats.now (C.costs cost.now) }
-    requires fits { BoundsFit bounds.old pats.now graph.now }
-    requires known { AreKnown (C.costs cost.now) pats.now bounds.old.gaps tops.old }
-    requires lowering { AreLowering graph.now (C.costs cost.now) pats.now marks.old }
+    requires falling { AreFalling graph.now (C.costs cost.now) pats.now
+        (state bounds.old marks.old) tops.old visits.old.still }
     ensures visits { visits.new ≡ visits.old }
-    ensures fits { BoundsFit bounds.new pats.now graph.now }
-    ensures known { AreKnown (C.costs cost.now) pats.now bounds.new.gaps tops.new }
-    ensures lowering { AreLowering graph.now (C.costs cost.now) pats.now marks.new }
+    ensures falling { AreFalling graph.now (C.costs cost.now) pats.now
+        (state bounds.new marks.new) tops.new visits.old.still }
     ensures falls { result ≡ true →
         state_weight (C.costs cost.now)
         (state bounds.new marks.new) < state_weight (C.costs cost.now)
@@ -301,7 +306,8 @@ fn lower_rounds<C: Cost>(
     lower_round(graph, pats, cost, visits, bounds, tops, marks, true)
 }
 
-// Lowers labels until no match would lower one.
+// Lowers labels until no match would lower one. Where one visit of each place is not enough, the
+// places that are not still are visited in rounds.
 pub(crate) fn lower_all<C: Cost>(
     graph: &Graph,
     pats: &Patterns,
@@ -312,12 +318,10 @@ pub(crate) fn lower_all<C: Cost>(
     marks: &mut [Option<Mark>],
 )
     requires places { visits.old.places ≡ places_of graph.now }
-    requires of_cells { AreOfCells (C.costs cost.now).pin_counts pats.now }
-    requires problem { IsCoverProblem graph.now pats.now (C.costs cost.now) }
-    requires fits { BoundsFit bounds.old pats.now graph.now }
-    requires known { AreKnown (C.costs cost.now) pats.now bounds.old.gaps tops.old }
-    requires lowering { AreLowering graph.now (C.costs cost.now) pats.now marks.old }
-    ensures visits { visits.new ≡ visits.old }
+    requires falling { AreFalling graph.now (C.costs cost.now) pats.now
+        (state bounds.old marks.old) tops.old visits.old.still }
+    requires zero { AreZero bounds.old.numbers }
+    ensures places { visits.new.places ≡ visits.old.places }
     ensures fits { BoundsFit bounds.new pats.now graph.now }
     ensures known { AreKnown (C.costs cost.now) pats.now bounds.new.gaps tops.new }
     ensures lowering { AreLowering graph.now (C.costs cost.now) pats.now marks.new }
@@ -325,5 +329,7 @@ pub(crate) fn lower_all<C: Cost>(
     ensures bounded { AreBoundedIn graph.now pats.now (C.costs cost.now) (costs_of marks.new) }
 {
     let _ = graph.classes();
+    label_places(graph, pats, cost, visits, bounds, tops, marks);
+    forget_moving(graph, visits, bounds);
     while lower_rounds(graph, pats, cost, visits, bounds, tops, marks) {}
 }

@@ -1,5 +1,5 @@
 // Which classes are visited again.
-ghost use Rattle.std.specs.Prelude.{◌≡◌, ◌<◌, ◌*◌, true, false, IfOk, IfSome, Some, None, length, replicate, slice_get, slice_index_or};
+ghost use Rattle.std.specs.Prelude.{◌≡◌, ◌<◌, ◌*◌, ◌/◌, ℕ, true, false, IfOk, IfSome, Some, None, length, replicate, slice_get, slice_index_or};
 ghost use Rattle.lw_label.specs.Orders.{ArePartsStill, IsOrder, IsStillAfter, places_of};
 
 use crate::order::order_of;
@@ -84,6 +84,19 @@ fn are_still_in(graph: &Graph, still: &[bool], class: ClassId) -> bool
     true
 }
 
+// Whether the parts of a place are still.
+fn are_parts_still(graph: &Graph, still: &[bool], place: u32) -> bool
+    requires place { place < places_of graph.now }
+    requires places { length still.now ≡ places_of graph.now }
+    ensures { result ≡ true → (c : ℕ) → c / 2 ≡ place → ArePartsStill graph.now still.now c }
+{
+    let _ = graph.classes();
+    if !are_still_in(graph, still, ClassId(place * 2)) {
+        return false;
+    }
+    are_still_in(graph, still, ClassId(place * 2 + 1))
+}
+
 impl Visits {
     // No place was visited, and none is still.
     pub(crate) fn new(alloc: Global, graph: &Graph) -> Result<Visits, AllocError>
@@ -109,11 +122,42 @@ impl Visits {
         self.order.len()
     }
 
-    // Forgets that places were visited.
+    // Forgets that places were visited, and which are still.
     pub(crate) fn restart(&mut self)
-        ensures { self.new ≡ self.old }
+        ensures order { self.new.order ≡ self.old.order }
+        ensures places { self.new.places ≡ self.old.places }
+        ensures still { self.new.still ≡ replicate self.old.places false }
     {
         self.seen.fill(0);
+        self.still.fill(false);
+    }
+
+    // Whether the place of a class is still.
+    pub(crate) fn is_still(&self, class: ClassId) -> bool
+        requires { class.0 / 2 < self.now.places }
+        ensures { result ≡ slice_index_or self.now.still (class.0 / 2) false }
+    {
+        self.still[(class.0 / 2) as usize]
+    }
+
+    // The place of a visit, if it is not still, but its parts are.
+    pub(crate) fn ready(&self, graph: &Graph, number: usize) -> Option<u32>
+        requires number { number < length self.now.order }
+        requires places { self.now.places ≡ places_of graph.now }
+        ensures within { IfSome result (λ place. place < self.now.places) }
+        ensures moving { IfSome result (λ place.
+            slice_index_or self.now.still place false ≡ false) }
+        ensures parts { IfSome result (λ place. (c : ℕ) → c / 2 ≡ place →
+            ArePartsStill graph.now self.now.still c) }
+    {
+        let place = self.order[number];
+        if self.still[place as usize] {
+            return None;
+        }
+        if !are_parts_still(graph, &self.still, place) {
+            return None;
+        }
+        Some(place)
     }
 
     // The place of a visit of a round, if it is to be visited: in a whole round, or where it was
@@ -169,13 +213,20 @@ impl Visits {
         ensures places { self.new.places ≡ self.old.places }
         ensures still { IsStillAfter graph.now place self.old.still self.new.still }
     {
-        let _ = graph.classes();
-        if !are_still_in(graph, &self.still, ClassId(place * 2)) {
-            return;
+        if are_parts_still(graph, &self.still, place) {
+            self.keep(graph, place);
         }
-        if are_still_in(graph, &self.still, ClassId(place * 2 + 1)) {
-            self.still[place as usize] = true;
-        }
+    }
+
+    // Takes note that a place stays as it is, since its parts do.
+    pub(crate) fn keep(&mut self, graph: &Graph, place: u32)
+        requires place { place < self.old.places }
+        requires parts { (c : ℕ) → c / 2 ≡ place → ArePartsStill graph.now self.old.still c }
+        ensures order { self.new.order ≡ self.old.order }
+        ensures places { self.new.places ≡ self.old.places }
+        ensures still { IsStillAfter graph.now place self.old.still self.new.still }
+    {
+        self.still[place as usize] = true;
     }
 
     // Takes note of a visit of a place, and whether it changed something. Such a change is later

@@ -56,6 +56,7 @@ fits_with b pats g numbers size fit = record {
     closed = fit.rows.closed;
     rows = subst (AreStarts (length b.parts) b.starts) (sym size) fit.rows.rows;
     bare = fit.rows.bare;
+    apart = fit.rows.apart;
   };
   count = fit.count;
   sides = fit.sides;

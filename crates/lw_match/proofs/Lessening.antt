@@ -9,13 +9,16 @@ use Rattle.lw_laws.specs.Flip.{flip}
 use Rattle.lw_laws.specs.Graphs.{Graph, Pair as PlainPair, HoldsPair}
 use Rattle.lw_graph.specs.declared.pair.Pair.{Pair}
 use Rattle.lw_graph.specs.Graphs.{plain_row}
-use Rattle.std.proofs.Common.{slice_index, slice_index_or, Contains, eqb-true}
+use Rattle.std.proofs.Common.{◌⊎◌, slice_index, slice_index_or, Contains, eqb-true, true≢false}
+use Rattle.std.proofs.lemmas.Bool.{eq-eqb}
+use Rattle.std.proofs.lemmas.List.{length-take-le, get_or-append-add, get_or_append_left, get_or-take, get_or-drop}
+use Rattle.std.proofs.lemmas.Option.{slice_get_within}
 use Rattle.std.specs.Prelude.{◌==◌}
 use Rattle.lw_match.specs.declared.mark.Mark.{Mark}
 use Rattle.lw_match.specs.declared.parts.Side.{Side}
 use Rattle.lw_match.specs.declared.parts.Part.{Part}
 use Rattle.lw_match.specs.Numbers.{never, no_row, start_of, number_from, Reading, class_below, side_number, pair_number}
-use Rattle.lw_match.specs.Bounds.{total, reading_of, AreBare, AreSettledBelow}
+use Rattle.lw_match.specs.Bounds.{total, reading_of, AreApart, AreBare, AreLowered, AreRowsBut, AreSettledBelow}
 use Rattle.lw_match.proofs.Pairs.{pair_at}
 use Rattle.lw_graph.proofs.Graphs.{flip_below}
 
@@ -70,6 +73,30 @@ row_falls numbers row start less =
     let below : total row < total (take (length row) rest) = subst (λ (k : ℕ). total row < total (take k rest)) width less in
     omega (arith, sum_by-append (λ (n : ℕ). n) (take start numbers) (row ++ drop (length row) rest), sum_by-append (λ (n : ℕ). n) row (drop (length row) rest), sum_by-take-drop (λ (n : ℕ). n) numbers start, sum_by-take-drop (λ (n : ℕ). n) rest (length row))
 
+-- the numbers behind a write of a row
+pub put_inside : (numbers row : List ℕ) (start k : ℕ) → start + length row ≤ length numbers → k < length row → slice_index (put_mid start (length row) numbers row) (start + k) ≡ slice_index row k
+put_inside numbers row start k fits below =
+    let rest = drop (length row) (drop start numbers) in
+    let size : length (take start numbers) ≡ start = length-take-le start numbers (omega (arith, fits)) in
+    ap (λ n. slice_index (put_mid start (length row) numbers row) (n + k)) (sym size) ∙ (get_or-append-add (take start numbers) (row ++ rest) k 0 ∙ get_or_append_left row rest 0 k below)
+
+pub put_outside : (numbers row : List ℕ) (start k : ℕ) → start + length row ≤ length numbers → (k < start) ⊎ (start + length row ≤ k) → slice_index (put_mid start (length row) numbers row) k ≡ slice_index numbers k
+put_outside numbers row start k fits (inl lt) =
+    let rest = drop (length row) (drop start numbers) in
+    let size : length (take start numbers) ≡ start = length-take-le start numbers (omega (arith, fits)) in
+    get_or_append_left (take start numbers) (row ++ rest) 0 k (omega (arith, size, lt)) ∙ get_or-take start numbers k 0 lt
+put_outside numbers row start k fits (inr le) =
+    let rest = drop (length row) (drop start numbers) in
+    let size : length (take start numbers) ≡ start = length-take-le start numbers (omega (arith, fits)) in
+    let j = k - (start + length row) in
+    let place : k ≡ length (take start numbers) + (length row + j) = omega (arith, size, le) in
+    let there : start + (length row + j) ≡ k = omega (arith, le) in
+    ap (λ n. slice_index (put_mid start (length row) numbers row) n) place
+    ∙ (get_or-append-add (take start numbers) (row ++ rest) (length row + j) 0
+    ∙ (get_or-append-add row rest j 0
+    ∙ (get_or-drop (length row) (drop start numbers) j 0
+    ∙ (get_or-drop start numbers (length row + j) 0 ∙ ap (λ n. slice_index numbers n) there))))
+
 -- what is the same as a row is not below it
 pub row_same : (numbers least : List ℕ) (start width : ℕ) → length least ≡ width → least ≡ slice_range numbers start (start + width) → (k : ℕ) → k < length least → get_or numbers (start + k) 0 ≤ get_or least k 0
 row_same numbers least start width size same k lt =
@@ -83,12 +110,38 @@ number_at numbers n start has = by_test (start == no_row) refl
     by_test true e = absurd (has (eqb-true start no_row e))
     by_test false e = refl
 
--- numbers that are not above those that the pairs give are settled
-pub lowered_settles : (g : Graph) (marks : List (Option Mark)) (parts : List Part) (starts : List ℕ) (c : ℕ) (row : List Pair) (old least : List ℕ) → plain_row row ≡ slice_index_or g.pairs c [] → (start_of starts c ≡ no_row → ⊥) → length least ≡ length parts → ((k : ℕ) → k < length least → get_or old (start_of starts c + k) 0 ≤ get_or least k 0) → ((i : ℕ) (q : Pair) (k : ℕ) (p : Part) → slice_get row i ≡ Some q → slice_get parts k ≡ Some p → get_or least k 0 ≤ pair_number (reading_of g marks parts starts old) p q.x.0 q.y.0) → AreSettledBelow g (reading_of g marks parts starts old) parts c (length parts)
-lowered_settles g marks parts starts c row old least is has count falls below k lt p x y at h =
-    let le = falls k (omega arith) in
-    let number = number_at old k (start_of starts c) has in
-    least_settles g (reading_of g marks parts starts old) p c row is (number_from old k (start_of starts c)) (λ i q f. let m = below i q k p f at in omega arith) x y h
+-- numbers that are not above those that the pairs give
+pub row_lowered : (g : Graph) (marks : List (Option Mark)) (parts : List Part) (starts : List ℕ) (c : ℕ) (row : List Pair) (old new least : List ℕ) → plain_row row ≡ slice_index_or g.pairs c [] → (start_of starts c ≡ no_row → ⊥) → length least ≡ length parts → ((k : ℕ) → k < length least → get_or new (start_of starts c + k) 0 ≤ get_or least k 0) → ((i : ℕ) (q : Pair) (k : ℕ) (p : Part) → slice_get row i ≡ Some q → slice_get parts k ≡ Some p → get_or least k 0 ≤ pair_number (reading_of g marks parts starts old) p q.x.0 q.y.0) → AreLowered g (reading_of g marks parts starts old) parts new c
+row_lowered g marks parts starts c row old new least is has count falls below k p x y at h =
+    let inside = slice_get_within parts k p at in
+    let le = falls k (omega (arith, inside, count)) in
+    let number = number_at new k (start_of starts c) has in
+    least_settles g (reading_of g marks parts starts old) p c row is (number_from new k (start_of starts c)) (λ i q f. let m = below i q k p f at in omega (arith, m, le, number)) x y h
+
+-- a class without pairs
+pub none_lowered : (g : Graph) (r : Reading) (parts : List Part) (c : ℕ) (row : List Pair) (new : List ℕ) → plain_row row ≡ slice_index_or g.pairs c [] → length row ≡ 0 → AreLowered g r parts new c
+none_lowered g r parts c row new is none n p x y at h =
+    least_settles g r p c row is (number_from new n (start_of r.starts c)) (λ i q f. let inside = slice_get_within row i q f in absurd (omega (arith, inside, none))) x y h
+
+-- other numbers at a row leave those of other rows
+pub rows_but : (width c : ℕ) (starts old new : List ℕ) → AreApart width starts → (start_of starts c ≡ no_row → ⊥) → ((k : ℕ) → (k < start_of starts c) ⊎ (start_of starts c + width ≤ k) → slice_index new k ≡ slice_index old k) → AreRowsBut width starts (λ d. d ≡ c) old new
+rows_but width c starts old new apart has same n d below other = by_test (start_of starts d == no_row) refl
+  where
+    outside : (start_of starts d ≡ no_row → ⊥) → (start_of starts d + n < start_of starts c) ⊎ (start_of starts c + width ≤ start_of starts d + n)
+    outside some = elim (apart d c other some has) [
+      | inl le ↦ inl (omega (arith, le, below))
+      | inr le ↦ inr (omega (arith, le))
+    ]
+
+    by_test : (b : Bool) → (start_of starts d == no_row) ≡ b → (if b then never else slice_index new (start_of starts d + n)) ≡ (if b then never else slice_index old (start_of starts d + n))
+    by_test true e = refl
+    by_test false e =
+        same (start_of starts d + n) (outside (λ f. true≢false (sym (eq-eqb (start_of starts d) no_row f) ∙ e)))
+
+-- numbers that were not above what the pairs give are settled
+pub lowered_settles : (g : Graph) (old : Reading) (parts : List Part) (new : List ℕ) (c n : ℕ) → new ≡ old.numbers → AreLowered g old parts new c → AreSettledBelow g old parts c n
+lowered_settles g old parts new c n same low k lt p x y at h =
+    subst (λ (ns : List ℕ). number_from ns k (start_of old.starts c) ≤ max (side_number old p.left x) (side_number old p.right y)) same (low k p x y at h)
 
 -- a class with a pair has a row
 pub row_there : (g : Graph) (starts : List ℕ) (c : ℕ) (row : List Pair) → plain_row row ≡ slice_index_or g.pairs c [] → AreBare starts g → (length row ≡ 0 → ⊥) → start_of starts c ≡ no_row → ⊥

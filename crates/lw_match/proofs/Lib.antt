@@ -35,6 +35,7 @@ pub mod SideRows
 pub mod Soughts
 pub mod Starting
 pub mod Steps
+pub mod Tables
 pub mod Visiting
 pub mod Visits
 pub mod Wholes

@@ -1,5 +1,5 @@
 -- Bounds on what the pins cost where a part of a pattern stands.
-use Rattle.std.specs.Prelude.{ℕ, ◌+◌, ◌-◌, ◌<◌, ◌≤◌, ◌≡◌, List, [], length, min, max, Option, Some, slice_get, slice_index, slice_index_or}
+use Rattle.std.specs.Prelude.{ℕ, ◌+◌, ◌-◌, ◌<◌, ◌≤◌, ◌≡◌, ◌⊎◌, Bool, true, false, List, [], length, min, max, Option, Some, slice_get, slice_index, slice_index_or}
 use Rattle.std.specs.List.{sum_by}
 use Rattle.lw_laws.specs.Graphs.{Graph, HoldsPair, Stands}
 use Rattle.lw_laws.specs.Trees.{Tree}
@@ -11,7 +11,7 @@ use Rattle.lw_match.specs.declared.parts.Side.{Side}
 use Rattle.lw_match.specs.declared.parts.Part.{Part}
 use Rattle.lw_match.specs.Values.{marks_in}
 use Rattle.lw_match.specs.Shapes.{HasShape, AllHaveShapes, HaveRootShapes, AreClosed}
-use Rattle.lw_match.specs.Numbers.{never, no_row, start_of, AreStarts, Reading, part_number, side_number}
+use Rattle.lw_match.specs.Numbers.{never, no_row, start_of, AreStarts, Reading, number_from, part_number, side_number}
 
 -- the parts, the gaps of the pins of each pattern, the side of each node of each pattern and of its root, where the row of
 -- each class starts, and the numbers of the parts in these rows
@@ -35,11 +35,17 @@ abbrev pub AreBare : List ℕ → Graph → Type 0
 AreBare starts g =
     (c : ℕ) → start_of starts c ≡ no_row → slice_index_or g.pairs c [] ≡ []
 
+-- the rows of two classes have no number in common
+abbrev pub AreApart : ℕ → List ℕ → Type 0
+AreApart width starts =
+    (c d : ℕ) → (c ≡ d → ⊥) → (start_of starts c ≡ no_row → ⊥) → (start_of starts d ≡ no_row → ⊥) → (start_of starts c + width ≤ start_of starts d) ⊎ (start_of starts d + width ≤ start_of starts c)
+
 -- a row for each class that has pairs, with a number for each part
 pub record AreRows (parts : List Part) (starts numbers : List ℕ) (g : Graph) : Type 0 where
   pub closed : AreClosed parts
   pub rows : AreStarts (length parts) starts (length numbers)
   pub bare : AreBare starts g
+  pub apart : AreApart (length parts) starts
 
 -- the table is of these patterns and this graph
 pub record BoundsFit (b : BoundsState) (pats : List Pattern) (g : Graph) : Type 0 where
@@ -61,6 +67,31 @@ AreSettledBelow g r parts c n = (k : ℕ) → k < n → IsSettledAt g r parts c 
 abbrev pub AreSettledAt : BoundsState → Graph → List (Option Mark) → ℕ → Type 0
 AreSettledAt b g marks c = AreSettledBelow g (bounds_reading b g marks) b.parts c (length b.parts)
 
+-- all numbers are 0
+abbrev pub AreZero : List ℕ → Type 0
+AreZero numbers = (k : ℕ) → slice_index numbers k ≡ 0
+
+-- the numbers of all but these classes are those of before
+abbrev pub AreRowsBut : ℕ → List ℕ → (ℕ → Type 0) → List ℕ → List ℕ → Type 0
+AreRowsBut width starts at old new =
+    (n c : ℕ) → n < width → (at c → ⊥) → number_from new n (start_of starts c) ≡ number_from old n (start_of starts c)
+
+-- the numbers of the parts at the class are not above what any pair of it gave before
+abbrev pub AreLowered : Graph → Reading → List Part → List ℕ → ℕ → Type 0
+AreLowered g old parts new c =
+    (n : ℕ) (p : Part) (x y : ℕ) → slice_get parts n ≡ Some p → HoldsPair g c x y → number_from new n (start_of old.starts c) ≤ max (side_number old p.left x) (side_number old p.right y)
+
+-- the table with other numbers
+abbrev pub with_numbers : BoundsState → List ℕ → BoundsState
+with_numbers b numbers =
+    record { parts = b.parts; gaps = b.gaps; sides = b.sides; roots = b.roots; starts = b.starts; numbers = numbers }
+
+-- the table, where only the numbers of these classes are others
+pub record IsTableBut (at : ℕ → Type 0) (old new : BoundsState) : Type 0 where
+  pub table : new ≡ with_numbers old new.numbers
+  pub size : length new.numbers ≡ length old.numbers
+  pub others : AreRowsBut (length old.parts) old.starts at old.numbers new.numbers
+
 -- the classes of the pins have marks, of which none costs more with the gap of its pin
 abbrev pub AreMarkedWithin : List (Option Mark) → List ℕ → List ℕ → ℕ → Type 0
 AreMarkedWithin marks gaps ps top =
@@ -81,6 +112,14 @@ total ns = sum_by (λ n. n) ns
 -- the sum of all numbers
 abbrev pub bounds_weight : BoundsState → ℕ
 bounds_weight b = total b.numbers
+
+-- the numbers of a class fell to what its pairs gave, or they were that and stayed
+pub record IsRowRenewed (g : Graph) (old : Reading) (parts : List Part) (new : List ℕ) (c : ℕ) (fell : Bool) : Type 0 where
+  pub size : length new ≡ length old.numbers
+  pub falls : fell ≡ true → total new < total old.numbers
+  pub same : fell ≡ false → new ≡ old.numbers
+  pub lowered : AreLowered g old parts new c
+  pub others : AreRowsBut (length parts) old.starts (λ d. d ≡ c) old.numbers new
 
 -- a table that is settled at each class is one of bounds
 abbrev pub SettledBoundsAreBounds : Type 0

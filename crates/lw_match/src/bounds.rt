@@ -1,4 +1,4 @@
-ghost use Rattle.std.specs.Prelude.{◌≡◌, ◌<◌, ◌≤◌, ◌*◌, List, IfOk, IsTrue, IsFalse, length};
+ghost use Rattle.std.specs.Prelude.{◌≡◌, ◌<◌, ◌≤◌, ◌*◌, ℕ, List, IfOk, IsTrue, IsFalse, length};
 ghost use Rattle.lw_laws.specs.Covers.{Pattern as TreeOfCell};
 ghost use Rattle.lw_match.specs.Numbers.{most_numbers};
 
@@ -6,9 +6,10 @@ use crate::bare::bare_patterns;
 use crate::cuts::Cuts;
 use crate::gaps::all_guesses;
 use crate::lowering::Plan;
+use crate::numbers::{NO_ROW, start_of};
 use crate::parts::{Group, Part, Root, Side};
 use crate::places::{groups_of, roots_in};
-use crate::renewing::{Renewal, renew_parts};
+use crate::renewing::{Renewal, put_row, renew_parts};
 use crate::shapes::{all_sides, root_sides};
 use crate::starts::starts_of;
 use crate::{Cost, Mark};
@@ -70,13 +71,14 @@ impl Model for Bounds {
 
 impl Bounds {
     ghost use Rattle.lw_graph.specs.Graphs.{IsGraph};
-    ghost use Rattle.lw_match.specs.Bounds.{BoundsFit, AreRows, AreSettledAt, bounds_weight};
+    ghost use Rattle.lw_match.specs.Bounds.{BoundsFit, AreApart, AreLowered, AreRows, AreSettledAt, AreZero, IsTableBut, bounds_reading, bounds_weight, with_numbers};
+    ghost use Rattle.lw_match.specs.Numbers.{AreStarts, never, number_from, start_of};
     ghost use Rattle.lw_match.specs.Cutting.{cuts_state};
     ghost use Rattle.lw_match.specs.Least.{AreOfCells};
     ghost use Rattle.lw_match.specs.Places.{AreRootsListed};
 
-    /// A table in which no number has fallen yet. All memory is taken here. Where there would be
-    /// too many numbers, only the first parts have some.
+    /// A table whose numbers are all 0, so that it is one of bounds. All memory is taken here. Where
+    /// there would be too many numbers, only the first parts have some.
     pub fn new<C: Cost>(
         alloc: Global,
         graph: &Graph,
@@ -84,7 +86,8 @@ impl Bounds {
         cost: &C,
     ) -> Result<Bounds, AllocError>
         requires { AreOfCells (C.costs cost.now).pin_counts pats.now }
-        ensures { IfOk result (λ b. BoundsFit b pats.now graph.now) }
+        ensures fits { IfOk result (λ b. BoundsFit b pats.now graph.now) }
+        ensures zero { IfOk result (λ b. AreZero b.numbers) }
     {
         let room = room_for(graph.classes()) as usize;
         let _ = pats.len();
@@ -96,7 +99,7 @@ impl Bounds {
         let row_roots = roots_in(alloc, &roots, 1)?;
         let other_roots = roots_in(alloc, &roots, 2)?;
         let rows = starts_of(alloc, graph, parts.len() as u32)?;
-        let numbers = vec![in alloc; u64::MAX; rows.size as usize]?;
+        let numbers = vec![in alloc; 0; rows.size as usize]?;
         let groups = groups_of(alloc, parts.as_slice())?;
         let least = vec![in alloc; 0; parts.len()]?;
         let bare = bare_patterns(alloc, pats)?;
@@ -129,6 +132,9 @@ impl Bounds {
         ensures settled { IsFalse result → AreSettledAt self.old graph.now marks.now class.0 }
         ensures never_rises { bounds_weight self.new ≤ bounds_weight self.old }
         ensures gaps { self.new.gaps ≡ self.old.gaps }
+        ensures others { IsTableBut (λ c. c ≡ class.0) self.old self.new }
+        ensures lowered { AreLowered graph.now (bounds_reading self.old graph.now marks.now)
+            self.old.parts self.new.numbers class.0 }
     {
         let _ = graph.classes();
         let renewal = Renewal {
@@ -142,6 +148,30 @@ impl Bounds {
             groups: &self.groups,
         };
         renew_parts(renewal, plan, &mut self.least, &mut self.numbers)
+    }
+
+    /// Puts the numbers of a class back to `u64::MAX`, from where they can fall.
+    pub fn forget(&mut self, class: ClassId)
+        requires rows { AreStarts (length self.old.parts) self.old.starts
+            (length self.old.numbers) }
+        requires apart { AreApart (length self.old.parts) self.old.starts }
+        ensures others { IsTableBut (λ c. c ≡ class.0) self.old self.new }
+        ensures never { (n : ℕ) → n < length self.old.parts →
+            number_from self.new.numbers n (start_of self.old.starts class.0) ≡ never }
+    {
+        let start = start_of(&self.starts, class);
+        if start != NO_ROW {
+            self.least.fill(u64::MAX);
+            put_row(&mut self.numbers, start as usize, &self.least);
+        }
+    }
+
+    /// The same with the numbers of all classes.
+    pub(crate) fn forget_all(&mut self)
+        ensures size { length self.new.numbers ≡ length self.old.numbers }
+        ensures table { self.new ≡ with_numbers self.old self.new.numbers }
+    {
+        self.numbers.fill(u64::MAX);
     }
 
     /// The patterns without NANDs.

@@ -1,8 +1,8 @@
 // Numbers of the parts at a class, as its pairs give them.
-ghost use Rattle.std.specs.Prelude.{◌≡◌, ◌+◌, ◌<◌, ◌≤◌, ◌||◌, length, IsTrue, IsFalse};
+ghost use Rattle.std.specs.Prelude.{◌≡◌, ◌+◌, ◌<◌, ◌≤◌, ◌||◌, ◌⊎◌, ℕ, length, slice_index};
 ghost use Rattle.std.specs.List.{slice_range};
 ghost use Rattle.lw_graph.specs.Graphs.{IsGraph};
-ghost use Rattle.lw_match.specs.Bounds.{total, reading_of, AreRows, AreSettledBelow};
+ghost use Rattle.lw_match.specs.Bounds.{total, reading_of, AreRows, IsRowRenewed};
 ghost use Rattle.lw_match.specs.Places.{AreGrouped};
 
 use crate::Mark;
@@ -27,12 +27,15 @@ pub(crate) fn either(one: bool, other: bool) -> bool
     one || other
 }
 
-// Puts a row in the place of one whose sum is greater.
-fn put_row(numbers: &mut [u64], start: usize, row: &[u64])
+// Puts a row in the place of another.
+pub(crate) fn put_row(numbers: &mut [u64], start: usize, row: &[u64])
     requires within { start + length row.now ≤ length numbers.old }
-    requires less { total row.now
-        < total (slice_range numbers.old start (start + length row.now)) }
-    ensures { total numbers.new < total numbers.old }
+    ensures less { total row.now < total (slice_range numbers.old start (start + length row.now)) →
+        total numbers.new < total numbers.old }
+    ensures row { (k : ℕ) → k < length row.now →
+        slice_index numbers.new (start + k) ≡ slice_index row.now k }
+    ensures others { (k : ℕ) → (k < start) ⊎ (start + length row.now ≤ k) →
+        slice_index numbers.new k ≡ slice_index numbers.old k }
 {
     numbers[start..start + row.len()].copy_from_slice(row);
 }
@@ -51,13 +54,10 @@ pub(crate) fn renew_parts(
     requires rows { AreRows plan.parts.now renewal.starts.now numbers.old renewal.graph.now }
     requires grouped { AreGrouped plan.parts.now plan.groups.now }
     requires least { length least.old ≡ length plan.parts.now }
-    ensures falls { IsTrue result → total numbers.new < total numbers.old }
-    ensures same { IsFalse result → numbers.new ≡ numbers.old }
-    ensures settled { IsFalse result →
-        AreSettledBelow renewal.entry.graph.now
+    ensures { IsRowRenewed renewal.entry.graph.now
         (reading_of renewal.entry.graph.now renewal.entry.marks.now plan.entry.parts.now
-        renewal.entry.starts.now numbers.old) plan.entry.parts.now renewal.entry.class.0
-        (length plan.entry.parts.now) }
+        renewal.entry.starts.now numbers.old) plan.entry.parts.now numbers.new
+        renewal.entry.class.0 result }
 {
     let pairs = renewal.graph.nands(renewal.class);
     if pairs.is_empty() {

@@ -111,6 +111,7 @@ impl Bounds {
         let _ = graph.classes();
         let mut times = Times::new(alloc, graph)?;
         let mut bounds = Bounds::new(alloc, graph, pats, cost)?;
+        bounds.forget_all();
         while renew_rounds(&mut bounds, &mut times, graph, pats, marks) {}
         Ok(bounds)
     }

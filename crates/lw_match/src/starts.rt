@@ -1,7 +1,7 @@
 // Where the row of each class starts in the numbers of a table.
 ghost use Rattle.std.specs.Prelude.{◌≡◌, ◌*◌, ◌≤◌, IfOk, length};
 ghost use Rattle.lw_match.specs.Numbers.{AreStarts, most_numbers};
-ghost use Rattle.lw_match.specs.Bounds.{AreBare};
+ghost use Rattle.lw_match.specs.Bounds.{AreApart, AreBare};
 
 use crate::numbers::NO_ROW;
 use lw_graph::Graph;
@@ -20,6 +20,7 @@ pub(crate) fn starts_of(alloc: Global, graph: &Graph, width: u32) -> Result<Star
     requires { width * length graph.now.pairs ≤ most_numbers }
     ensures rows { IfOk result (λ s. AreStarts width s.starts.items s.size) }
     ensures bare { IfOk result (λ s. AreBare s.starts.items graph.now) }
+    ensures apart { IfOk result (λ s. AreApart width s.starts.items) }
 {
     let mut starts = Vec::new(alloc);
     let mut size = 0;

@@ -1,6 +1,8 @@
-use Rattle.std.proofs.Common.{subst}
+use Rattle.std.proofs.Common.{◌≡◌, sym, subst}
 use Rattle.lw_match.specs.Values.{AreInRange}
+use Rattle.lw_label.specs.Heights.{AreSameBut}
 use Rattle.lw_label.proofs.Marked.{lowering_in_range}
+use Rattle.lw_label.proofs.OneVisit.{label_others_kept}
 use Rattle.lw_label.proofs.lowering.lower_bare.Goals as goal
 
 pub better_bare-found-requires-clause-in_range : goal.better_bare-found-requires-clause-in_range
@@ -8,6 +10,10 @@ better_bare-found-requires-clause-in_range g c =
     let costs = g.C.Cost.costs c.args.cost.now in
     subst (λ cap. AreInRange cap c.args.marks.now) (g.met.C.Cost.cap c.args.cost.now) (lowering_in_range c.args.graph.now costs c.args.pats.now c.args.marks.now c.requires.problem c.requires.lowering)
 
-pub returns : goal.returns
-returns g c =
+pub returns-clause-takes : goal.returns-clause-takes
+returns-clause-takes g c =
     c.put_label.ensures.takes c.args.graph.now (g.C.Cost.costs c.args.cost.now) c.args.pats.now c.requires.problem c.requires.lowering c.better_bare-found.ensures
+
+pub returns-clause-others : goal.returns-clause-others
+returns-clause-others g c =
+    subst (λ ms. AreSameBut (λ b. b ≡ c.args.class.0) c.args.marks.now ms) (sym c.put_label.ensures.puts) (label_others_kept c.args.marks.now c.args.class.0 c.better_bare-found.result)

@@ -1,8 +1,9 @@
-use Rattle.std.proofs.Common.{None, slice_index_or, refl, subst}
-use Rattle.lw_match.specs.Values.{AreInRange, marks_in}
-use Rattle.lw_match.specs.Cutting.{IsLeastWithin, bound_after}
+use Rattle.std.proofs.Common.{◌<◌, ◌≡◌, length, sym, subst, arith}
+use Rattle.lw_match.specs.Values.{AreInRange}
+use Rattle.lw_label.specs.Heights.{AreSameBut}
+use Rattle.lw_label.specs.Lowering.{AreLowering, IsBounded}
 use Rattle.lw_label.proofs.Marked.{lowering_in_range}
-use Rattle.lw_label.proofs.Falling.{bounded_under}
+use Rattle.lw_label.proofs.OneVisit.{bounded_now, label_others_kept}
 use Rattle.lw_label.proofs.lowering.lower_mark.Goals as goal
 
 pub better_within-found-requires-clause-in_range : goal.better_within-found-requires-clause-in_range
@@ -12,13 +13,25 @@ better_within-found-requires-clause-in_range g c =
 
 pub returns-clause-takes : goal.returns-clause-takes
 returns-clause-takes g c =
-    c.put_label.ensures.takes c.args.graph.now (g.C.Cost.costs c.args.cost.now) c.args.pats.now c.requires.problem c.requires.lowering c.better_within-found.ensures.sound
+    c.put_label-lowered.ensures.takes c.args.graph.now (g.C.Cost.costs c.args.cost.now) c.args.pats.now c.requires.problem c.requires.lowering c.better_within-found.ensures.sound
+
+pub returns-clause-none : goal.returns-clause-none
+returns-clause-none g c = λ e. c.better_within-found.ensures.none (c.put_label-lowered.ensures.none e)
 
 pub returns-clause-bounded : goal.returns-clause-bounded
-returns-clause-bounded g c = λ e are.
+returns-clause-bounded g c = λ still are.
+    let graph = c.args.graph.now in
+    let costs = g.C.Cost.costs c.args.cost.now in
+    let pats = c.args.pats.now in
     let marks = c.args.marks.now in
     let class = c.args.class.0 in
-    let costs = g.C.Cost.costs c.args.cost.now in
-    let old = slice_index_or marks class None in
-    let none = c.put_label.ensures.none e in
-    bounded_under c.args.graph.now costs c.args.pats.now marks class old refl (subst (λ found. IsLeastWithin c.args.graph.now costs c.args.pats.now (marks_in marks) class (bound_after found old) None) none (c.better_within-found.ensures.least (c.better_within-found.ensures.none none) are))
+    let found = c.better_within-found in
+    let put = c.put_label-lowered in
+    let takes = put.ensures.takes graph costs pats c.requires.problem c.requires.lowering found.ensures.sound in
+    let low = subst (λ ms. AreLowering graph costs pats ms) put.ensures.puts takes.lowering in
+    let below : class < length marks = omega (arith, c.requires.class, c.requires.lowering.one_each) in
+    subst (λ ms. IsBounded graph costs pats ms class) (sym put.ensures.puts) (bounded_now graph costs pats c.requires.problem marks class found.result.best below low (found.ensures.least still are))
+
+pub returns-clause-others : goal.returns-clause-others
+returns-clause-others g c =
+    subst (λ ms. AreSameBut (λ b. b ≡ c.args.class.0) c.args.marks.now ms) (sym c.put_label-lowered.ensures.puts) (label_others_kept c.args.marks.now c.args.class.0 c.better_within-found.result.best)

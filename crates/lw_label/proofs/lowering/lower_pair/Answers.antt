@@ -1,6 +1,9 @@
 use Rattle.std.proofs.Common.{◌≡◌, ◌+◌, ◌*◌, ◌/◌, ◌||◌, ◌∙◌, ap, ap₂, sym, subst}
 use Rattle.lw_label.specs.Lowering.{IsLabelled, Lowers, state, state_weight}
-use Rattle.lw_label.proofs.Falling.{IsNumbered, IsLow, numbers_pass, label_pass, marks_pass}
+use Rattle.lw_label.proofs.Falling.{IsNumbered, IsLow, numbers_pass, label_pass, label_stays, marks_pass}
+use Rattle.lw_match.proofs.Tables.{but_both}
+use Rattle.lw_label.proofs.OneVisit.{even_of, odd_of}
+use Rattle.lw_label.proofs.Still.{same_but_more}
 use Rattle.lw_label.proofs.Passing.{passes_place, passes_two, passes_again}
 use Rattle.lw_label.proofs.lowering.lower_pair.Goals as goal
 
@@ -24,6 +27,23 @@ returns-clause-lowers g c =
     let new = state table second.new.marks in
     let end = state table third.new.marks in
     let numbers = passes_place weight (IsNumbered graph costs pats) old (state one.new.self marks) middle place one.result other.result (numbers_pass graph costs pats c.args.bounds.now one.new.self marks (place * 2 + 1) one.result one.ensures.falls one.ensures.same one.ensures.settled) (numbers_pass graph costs pats one.new.self table marks (place * 2) other.result other.ensures.falls other.ensures.same other.ensures.settled) in
-    let labels = passes_place weight (IsLow graph costs pats) middle (state table first.new.marks) new place first.result second.result (label_pass graph costs pats table marks first.new.marks (place * 2 + 1) first.result first.ensures.takes first.ensures.bounded) (label_pass graph costs pats table first.new.marks second.new.marks (place * 2) second.result second.ensures.takes second.ensures.bounded) in
-    let both = passes_two weight (IsNumbered graph costs pats) (IsLow graph costs pats) old middle new (λ n. n / 2 ≡ place) (other.result || one.result) (second.result || first.result) numbers labels in
-    subst (λ b. Lowers graph costs pats old end (λ n. n / 2 ≡ place) b) (sym changed) (passes_again weight (IsLabelled graph costs pats) old new end (λ n. n / 2 ≡ place) ((second.result || first.result) || (other.result || one.result)) third.result both (marks_pass graph costs pats table second.new.marks third.new.marks third.result third.ensures))
+    let labels = passes_place weight (IsLow graph costs pats) middle (state table first.new.marks) new place first.result.lowered second.result.lowered (label_pass graph costs pats table marks first.new.marks (place * 2 + 1) first.result.lowered first.ensures.takes (label_stays graph costs pats table marks first.new.marks (place * 2 + 1) first.result.lowered first.result.is_still first.ensures.takes first.ensures.none first.ensures.bounded)) (label_pass graph costs pats table first.new.marks second.new.marks (place * 2) second.result.lowered second.ensures.takes (label_stays graph costs pats table first.new.marks second.new.marks (place * 2) second.result.lowered second.result.is_still second.ensures.takes second.ensures.none second.ensures.bounded)) in
+    let both = passes_two weight (IsNumbered graph costs pats) (IsLow graph costs pats) old middle new (λ n. n / 2 ≡ place) (other.result || one.result) (second.result.lowered || first.result.lowered) numbers labels in
+    subst (λ b. Lowers graph costs pats old end (λ n. n / 2 ≡ place) b) (sym changed) (passes_again weight (IsLabelled graph costs pats) old new end (λ n. n / 2 ≡ place) ((second.result.lowered || first.result.lowered) || (other.result || one.result)) third.result both (marks_pass graph costs pats table second.new.marks third.new.marks third.result third.ensures.takes))
+
+pub returns-clause-others : goal.returns-clause-others
+returns-clause-others g c =
+    let place = c.args.place in
+    let odd = odd_of place in
+    let even = even_of place in
+    let old = c.args.bounds.now in
+    let mid = c.renew-one.new.self in
+    let new = c.renew-other.new.self in
+    let marks = c.args.marks.now in
+    let first = c.lower_mark-first in
+    let second = c.lower_mark-second in
+    let third = c.lower_again-third in
+    record {
+      table = but_both (λ n. n ≡ place * 2 + 1) (λ n. n ≡ place * 2) (λ n. n / 2 ≡ place) old mid new odd even c.renew-one.ensures.others c.renew-other.ensures.others;
+      marks = same_but_more (λ n. n ≡ place * 2 + 1) (λ n. n / 2 ≡ place) marks first.new.marks third.new.marks odd first.ensures.others (same_but_more (λ n. n ≡ place * 2) (λ n. n / 2 ≡ place) first.new.marks second.new.marks third.new.marks even second.ensures.others third.ensures.others);
+    }

@@ -1,5 +1,6 @@
 use Rattle.std.proofs.Common.{◌≡◌, ◌+◌, ◌∙◌, length, sym, subst, arith}
 use Rattle.lw_label.specs.Lowering.{IsLabelled, Lowers, state, state_weight}
+use Rattle.lw_label.specs.OneVisit.{AreFalling}
 use Rattle.lw_label.specs.Orders.{IsOrder, IsPassed, IsVisited}
 use Rattle.lw_label.proofs.Passing.{passes_next, passes_round}
 use Rattle.lw_label.proofs.lowering.lower_round.Goals as goal
@@ -19,9 +20,7 @@ loop-number-preserved g c =
     let pass = subst (λ v. Lowers graph costs pats mid new (IsVisited whole v.order number) visit.result) c.loop-number.invariant.visits visit.ensures.lowers in
     record {
       visits = visit.ensures.visits ∙ c.loop-number.invariant.visits;
-      fits = visit.ensures.fits;
-      known = visit.ensures.known;
-      lowering = visit.ensures.lowering;
+      falling = subst (λ v. AreFalling graph costs pats new visit.new.tops v.still) c.loop-number.invariant.visits visit.ensures.falling;
       lowers = subst (λ b. Lowers graph costs pats old new (IsPassed whole order (number + 1)) b) (sym c.either-changed.ensures) (passes_next (state_weight costs) (IsLabelled graph costs pats) old mid new whole order number c.loop-number.changed visit.result c.loop-number.invariant.lowers pass);
     }
 

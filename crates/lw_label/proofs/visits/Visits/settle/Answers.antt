@@ -1,10 +1,9 @@
-use Rattle.std.proofs.Common.{◌+◌, ◌*◌, true, slice_set, ap, subst, arith}
-use Rattle.lw_label.specs.Orders.{ArePartsStill, IsStillAfter, VisitState}
-use Rattle.lw_label.proofs.Still.{settled_at}
+use Rattle.std.proofs.Common.{ℕ, ◌≡◌, ◌/◌, subst}
+use Rattle.lw_label.specs.Orders.{ArePartsStill, VisitState}
 use Rattle.lw_label.proofs.visits.Visits.settle.Goals as goal
 
-pub returns-then-are_still_in-clause-still : goal.returns-then-are_still_in-clause-still
-returns-then-are_still_in-clause-still c =
-    subst (λ (v : VisitState). IsStillAfter c.args.graph.now c.args.place v.still (slice_set c.self.inside.still.items c.args.place true)) c.self.view_is (settled_at c.args.graph.now c.args.place c.self.inside.still.items (omega (arith, c.requires.place, ap (λ (v : VisitState). v.places) c.self.view_is, c.self.invariant.2))
-    (subst (λ still. ArePartsStill c.args.graph.now still (c.args.place * 2)) c.deref.ensures.value (c.are_still_in.ensures c.if-not-are_still_in.false))
-    (subst (λ still. ArePartsStill c.args.graph.now still (c.args.place * 2 + 1)) c.deref-2.ensures.value (c.are_still_in-2.ensures c.if-are_still_in.true)))
+pub keep-requires-clause-parts : goal.keep-requires-clause-parts
+keep-requires-clause-parts c =
+    let graph = c.args.graph.now in
+    let place = c.args.place in
+    subst (λ (v : VisitState). (n : ℕ) → n / 2 ≡ place → ArePartsStill graph v.still n) c.self.view_is (subst (λ still. (n : ℕ) → n / 2 ≡ place → ArePartsStill graph still n) c.deref.ensures.value (c.are_parts_still.ensures c.if-are_parts_still.true))
