@@ -1,4 +1,4 @@
-use Rattle.std.proofs.Common.{◌∙◌, ap, sym, subst}
+use Rattle.std.proofs.Common.{◌∙◌, ap, refl, sym, subst}
 use Rattle.lw_label.specs.Lowering.{state}
 use Rattle.lw_label.specs.OneVisit.{AreFalling}
 use Rattle.lw_label.specs.Orders.{VisitState}
@@ -8,7 +8,7 @@ use Rattle.lw_label.proofs.lowering.lower_all.Goals as goal
 
 pub loop-init : goal.loop-init
 loop-init g c = record {
-  places = c.label_places.ensures.places;
+  places = refl;
   falling = falling_but c.args.graph.now (g.C.Cost.costs c.args.cost.now) c.args.pats.now c.label_places.new.bounds c.forget_moving.new.bounds c.label_places.new.tops c.label_places.new.marks c.label_places.new.visits.still c.forget_moving.ensures c.label_places.ensures.falling;
 }
 
