@@ -10,7 +10,8 @@ use Rattle.lw_laws.specs.Costs.{Cost}
 use Rattle.lw_laws.specs.Covers.{HasPins}
 use Rattle.lw_laws.specs.Marks.{Mark as PlainMark, Marks, HaveMarks, costs_in, greatest_height, price}
 use Rattle.lw_settle.specs.declared.row.Row.{Row}
-use Rattle.lw_settle.specs.Stores.{Stored, Placed, placed, pins_of, pin_total, uses_of, uses_from, AreKeptLists, IsHeadOf, IsPriceOf, HasMarkedPins, AreOfStoredCells}
+use Rattle.lw_settle.specs.declared.store.Found.{Found}
+use Rattle.lw_settle.specs.Stores.{Stored, Placed, placed, pins_of, pin_total, uses_of, uses_from, AreKeptLists, IsFound, IsHeadOf, IsPriceOf, HasMarkedPins, AreOfStoredCells}
 use Rattle.lw_settle.specs.Kept.{cell_numbers, placed_row, placed_rows, grouped, start_at, IsKeptStore}
 use Rattle.lw_settle.proofs.Grouping.{length-grouped_from, placed_class}
 use Rattle.lw_settle.proofs.Tiling.{IsWithin, tiled_at, tiled_few, tiled_pins, length-row, length-all_pins}
@@ -78,6 +79,15 @@ module _ (n : ℕ) (rows : List Row) (pins : List ClassId) (cells ends uses : Li
     listed = listed i r e;
     class_is = refl;
     pins_are = sym (length-row pins cells r (within i r e).to);
+  }
+
+  pub found_at : (i : ℕ) (r : Row) (found : Found) → slice_get rows i ≡ Some r → found.class.0 ≡ r.class.0 → found.cell.0 ≡ get_or cells r.pat.0 0 → found.pins ≡ slice_range pins r.start (r.start + r.pins) → IsFound lists i found
+  found_at i r found e class cell own = record {
+    at = placed_row pins cells r;
+    listed = listed i r e;
+    class_is = class;
+    cell_is = cell;
+    pins_are = ap numbers own;
   }
 
   pub pins_are : length pins ≡ pin_total (placed lists)

@@ -6,11 +6,11 @@ ghost use Rattle.lw_laws.specs.Marks.{Mark as PlainMark, HaveMarks, costs_in, gr
 ghost use Rattle.lw_match.specs.declared.mark.Mark.{Mark};
 ghost use Rattle.lw_match.specs.Values.{AreInRange, marks_in, plain_mark};
 ghost use Rattle.lw_settle.specs.Kept.{start_at};
-ghost use Rattle.lw_settle.specs.Stores.{AreKeptLists, AreOfStoredCells, HasMarkedPins, IsHeadOf, IsPriceOf, pin_total, placed, uses_of};
+ghost use Rattle.lw_settle.specs.Stores.{AreKeptLists, AreOfStoredCells, HasMarkedPins, IsFound, IsHeadOf, IsPriceOf, pin_total, placed, uses_of};
 ghost use Rattle.lw_pool.specs.Numbers.{numbers};
 
 use crate::row::Row;
-use lw_match::{Cost, Mark};
+use lw_match::{Cost, Mark, Pins};
 use lw_pool::{CellId, ClassId};
 use std::marker::Model;
 
@@ -21,12 +21,20 @@ pub struct Head {
     pub pins: u8,
 }
 
+/// A stored match: the class at which it stands, its cell, and the classes of its pins.
+#[derive(Debug, Drop)]
+pub struct Found {
+    pub class: ClassId,
+    pub cell: CellId,
+    pub pins: Pins,
+}
+
 /// The matches of each class, and how often one was read.
 ///
 /// Stored matches are numbered from 0, by class and then by place in the class's list. A use of a
 /// class is a stored match together with a pin of it that has this class; the uses of a class are
-/// numbered from 0, by match and then by pin. A pin or a cell is told by `use_at` and `price`
-/// alone, which count what they tell. No call takes memory.
+/// numbered from 0, by match and then by pin. A pin or a cell is told by `use_at`, `price` and
+/// `read` alone, which count what they tell. No call takes memory.
 #[derive(Drop)]
 pub struct Store {
     rows: Vec<Row>,
@@ -108,6 +116,18 @@ fn mark_of<C: Cost>(pins: &[ClassId], cell: CellId, cost: &C, marks: &[Option<Ma
         cost: cost.value(cell, &costs[..pins.len()]),
         height: height + 1,
     }
+}
+
+// The pins of a match with these classes.
+fn pins_at(classes: &[ClassId]) -> Pins
+    requires { length classes.now ≤ 16 }
+    ensures { result ≡ classes.now }
+{
+    let mut pins = Pins::new();
+    for class in classes {
+        pins.push(*class);
+    }
+    pins
 }
 
 impl Store {
@@ -211,5 +231,22 @@ impl Store {
         let row = self.rows[place as usize];
         let cell = self.cells[row.pat.0 as usize];
         mark_of(pins_of(&self.pins, row), cell, cost, marks)
+    }
+
+    /// A match with its class, its cell and its pins. It counts as a reading.
+    pub fn read(&mut self, place: u32) -> Found
+        requires place { place < length (placed self.old.lists) }
+        requires fresh { self.old.done < 2 ^ 63 }
+        ensures found { IsFound self.old.lists place result }
+        ensures lists { self.new.lists ≡ self.old.lists }
+        ensures done { self.new.done ≡ self.old.done + 1 }
+    {
+        self.done += 1;
+        let row = self.rows[place as usize];
+        Found {
+            class: row.class,
+            cell: self.cells[row.pat.0 as usize],
+            pins: pins_at(pins_of(&self.pins, row)),
+        }
     }
 }

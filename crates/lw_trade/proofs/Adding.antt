@@ -15,7 +15,7 @@ use Rattle.lw_trade.specs.Rows.{plain_row, plain_rows}
 use Rattle.lw_trade.specs.Uses.{AreUses, turns_of}
 use Rattle.lw_trade.specs.declared.uses.Uses.{Uses}
 use Rattle.lw_trade.specs.Settling.{Queued, Waits, Turns, turns, Comes, AreGroupsAdded, AreInTime, IsLetWait, NoneComes}
-use Rattle.lw_trade.proofs.Lists.{get_in, read_at}
+use Rattle.lw_trade.proofs.Lists.{get_in, get_some, got, read_at}
 use Rattle.lw_trade.proofs.Stepping.{in_tail, in_cons, waits_back}
 
 -- The groups from a bound on come, and the next one is the last before it.
@@ -168,3 +168,10 @@ total_set (x ∷ xs) (suc i) v w at lt = let ih = total_set xs i v w at lt in om
 
 pub row_at : (rows : List Row) (n : ℕ) (r : Row) → n < length rows → r ≡ slice_index_or rows n r → slice_get (plain_rows rows) n ≡ Some (plain_row r)
 row_at rows n r lt e = slice_get-map plain_row rows n ∙ ap (option_map plain_row) (read_at rows n r lt e)
+
+-- a choice with its row
+pub choice_in : (rows : List Row) (n : ℕ) → n < length rows → (r : Row) × (r ≡ slice_index_or rows n r) × (slice_get (plain_rows rows) n ≡ Some (plain_row r))
+choice_in rows n lt =
+    let (r, rt) = get_some rows n lt in
+    let same = same_Some r (slice_index_or rows n r) (sym rt ∙ got rows n r lt) in
+    (r, same, row_at rows n r lt same)

@@ -3,13 +3,13 @@ pub mod Adding
 pub mod Assembled
 pub mod Backed
 pub mod Bisected
-pub mod Briefs
 pub mod Built
 pub mod Cells
 pub mod Counting
 pub mod Curving
 pub mod Deadlines
 pub mod Exact
+pub mod Falling
 pub mod Fronting
 pub mod Grouped
 pub mod Heights
@@ -34,5 +34,6 @@ pub mod Ranges
 pub mod Standing
 pub mod Starts
 pub mod Stepping
+pub mod Storing
 pub mod Using
 pub mod Walked

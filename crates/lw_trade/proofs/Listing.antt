@@ -19,18 +19,18 @@ pub rows_push : (rows : List Row) (r : Row) → plain_rows (rows ++ r ∷ []) �
 rows_push [] r = refl
 rows_push (q ∷ rows) r = ap (λ xs. plain_row q ∷ xs) (rows_push rows r)
 
-among_push : (xs : List Choice) (x : Choice) (c : ℕ) (part : Part) → IsAmong xs c part → IsAmong (xs ++ x ∷ []) c part
+pub among_push : (xs : List Choice) (x : Choice) (c : ℕ) (part : Part) → IsAmong xs c part → IsAmong (xs ++ x ∷ []) c part
 among_push xs x c part (n, at) = (n, get_push xs x n (record { class = c; part = part }) at)
 
 module _ (s : Task) where
-  each_push : (xs : List Choice) (x : Choice) → ((n : ℕ) (y : Choice) → slice_get xs n ≡ Some y → MayStand s y.class y.part) → MayStand s x.class x.part → (n : ℕ) (y : Choice) → slice_get (xs ++ x ∷ []) n ≡ Some y → MayStand s y.class y.part
+  pub each_push : (xs : List Choice) (x : Choice) → ((n : ℕ) (y : Choice) → slice_get xs n ≡ Some y → MayStand s y.class y.part) → MayStand s x.class x.part → (n : ℕ) (y : Choice) → slice_get (xs ++ x ∷ []) n ≡ Some y → MayStand s y.class y.part
   each_push xs x each may n y at = by_case (push_cases xs x n y at)
     where
       by_case : (slice_get xs n ≡ Some y) ⊎ ((n ≡ length xs) × (x ≡ y)) → MayStand s y.class y.part
       by_case (inl e) = each n y e
       by_case (inr (e, f)) = subst (λ (z : Choice). MayStand s z.class z.part) f may
 
-  within_push : (xs : List Choice) (x : Choice) → ((n : ℕ) (y : Choice) → slice_get xs n ≡ Some y → y.class < length s.graph.pairs) → x.class < length s.graph.pairs → (n : ℕ) (y : Choice) → slice_get (xs ++ x ∷ []) n ≡ Some y → y.class < length s.graph.pairs
+  pub within_push : (xs : List Choice) (x : Choice) → ((n : ℕ) (y : Choice) → slice_get xs n ≡ Some y → y.class < length s.graph.pairs) → x.class < length s.graph.pairs → (n : ℕ) (y : Choice) → slice_get (xs ++ x ∷ []) n ≡ Some y → y.class < length s.graph.pairs
   within_push xs x within low n y at = by_case (push_cases xs x n y at)
     where
       by_case : (slice_get xs n ≡ Some y) ⊎ ((n ≡ length xs) × (x ≡ y)) → y.class < length s.graph.pairs

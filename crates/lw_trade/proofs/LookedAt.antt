@@ -3,9 +3,10 @@ use Rattle.std.proofs.Common.{◌≡◌, ℕ, ◌+◌, ◌<◌, ◌≤◌, ◌�
 use native.Mathlib.Nat.{eq-or-lt_of_le}
 use Rattle.std.proofs.lemmas.Option.{same_Some}
 use Rattle.lw_trade.specs.Choices.{Choice}
-use Rattle.lw_trade.specs.Looks.{AreMembersListed}
+use Rattle.lw_trade.specs.Looks.{AreOwnersListed}
 use Rattle.lw_trade.specs.Points.{Task}
 use Rattle.lw_trade.specs.Settling.{Spot, Queued, Waits, GivesNoMoreSeen, IsGroupLookedAt, IsLookedAt}
+use Rattle.lw_trade.proofs.Members.{owner_is}
 
 -- Those at the places from one on and before another were looked at.
 pub record IsLooking (s : Task) (choices : List Choice) (spots : List Spot) (unseen : ℕ → Type 0) (numbers : List ℕ) (first : ℕ) (old q : Queued) (time at : ℕ) : Type 0 where
@@ -47,12 +48,12 @@ module _ (s : Task) (choices : List Choice) (spots : List Spot) (unseen : ℕ �
       done k n low kt (inr lt) = keep n (is.done k n low lt kt)
 
   -- all choices of the group
-  pub looking_over : (groups owners starts : List ℕ) (count group end at : ℕ) (q : Queued) → AreMembersListed groups owners count starts numbers → slice_get starts group ≡ Some first → slice_get starts (group + 1) ≡ Some end → end ≤ at → IsLooking s choices spots unseen numbers first old q time at → IsGroupLookedAt s choices spots unseen groups owners old q time group
-  looking_over groups owners starts count group end at q listed st et over is = record {
+  pub looking_over : (groups owners starts : List ℕ) (count group end at : ℕ) (q : Queued) → AreOwnersListed groups owners count starts numbers → slice_get starts group ≡ Some first → slice_get starts (group + 1) ≡ Some end → end ≤ at → IsLooking s choices spots unseen numbers first old q time at → IsGroupLookedAt s choices spots unseen groups owners old q time group
+  looking_over groups owners starts count group end at q (places, numbers_are, listed) st et over is = record {
     horizon = is.horizon;
     kept = is.kept;
     only = is.only;
     done = λ j n jt nt.
-        let (k, low, high, kt) = listed.all group first end j n st et jt nt in
-        is.done k n low (omega (arith, high, over)) kt;
+        let (k, low, high, kt) = listed.all group first end j st et jt in
+        is.done k n low (omega (arith, high, over)) (owner_is owners numbers places k j n numbers_are kt nt);
   }

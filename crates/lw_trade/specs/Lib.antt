@@ -15,6 +15,7 @@ pub mod Queues
 pub mod Rows
 pub mod Seen
 pub mod Settling
+pub mod Tallies
 pub mod Targets
 pub mod Traded
 pub mod Trades

@@ -1,18 +1,18 @@
 -- What the groups of pins have seen: the least area of the points of their class that came.
-use Rattle.std.specs.Prelude.{ℕ, zero, suc, ◌+◌, ◌<◌, ◌≤◌, ◌≡◌, ◌⊎◌, List, length, Option, Some, None, slice_get, slice_index_or}
+use Rattle.std.specs.Prelude.{ℕ, zero, suc, ◌+◌, ◌^◌, ◌≤◌, ◌≡◌, ◌⊎◌, min, List, length, Option, Some, None, slice_get, slice_index_or}
 use Rattle.lw_pool.specs.declared.id.ClassId.{ClassId}
-use Rattle.lw_genlib.specs.Cells.{CellParts}
-use Rattle.lw_trade.specs.declared.looks.Brief.{Brief}
 use Rattle.lw_trade.specs.declared.uses.Uses.{Uses}
-use Rattle.lw_trade.specs.Areas.{most_area, area_at}
-use Rattle.lw_trade.specs.Choices.{Part}
-use Rattle.lw_trade.specs.Choices.Part.{input, gate}
 use Rattle.lw_trade.specs.Settling.{Spot, spot, Has, IsGained, Queued, Waits}
 use Rattle.lw_trade.specs.Uses.{IsGroup}
 
+-- the greatest area that is kept of what a group has seen
+abbrev pub most_seen : ℕ
+most_seen = 2 ^ 54
+
 -- the group has seen an area of no more than this
 abbrev pub HasSeen : List ℕ → ℕ → ℕ → Type 0
-HasSeen seen g area = (own : ℕ) × (slice_get seen g ≡ Some own) × (own ≤ area)
+HasSeen seen g area =
+    (own : ℕ) × (slice_get seen g ≡ Some own) × (own ≤ min most_seen area)
 
 -- each group has seen the points of its class, but for those that it comes for
 abbrev pub AreSeen : Uses → List ℕ → List Spot → Queued → Type 0
@@ -52,24 +52,3 @@ seen_at groups seen place = slice_index_or seen (slice_index_or groups place 0) 
 abbrev pub sum_seen : List ℕ → List ℕ → ℕ → ℕ → ℕ
 sum_seen groups seen place zero = 0
 sum_seen groups seen place (suc n) = seen_at groups seen place + sum_seen groups seen (place + 1) n
-
--- no more than what the groups of so many pins have seen together, and none where one has seen nothing
-abbrev pub IsSeenOfPins : List ℕ → List ℕ → ℕ → ℕ → Option ℕ → Type 0
-IsSeenOfPins groups seen first n None =
-    (i : ℕ) × (i < n) × (most_area < seen_at groups seen (first + i))
-IsSeenOfPins groups seen first n (Some area) = (area ≤ most_area) × (area ≤ sum_seen groups seen first n)
-
--- no more than what a choice gives with points that its groups have seen, and none where one has seen nothing
-abbrev pub IsSeenPrice : List CellParts → Uses → List ℕ → Part → ℕ → Option ℕ → Type 0
-IsSeenPrice cells u seen (input i) n None = ⊥
-IsSeenPrice cells u seen (input i) n (Some area) = area ≡ 0
-IsSeenPrice cells u seen (gate cell ps) n None =
-    (first : ℕ) × (slice_get u.firsts.items n ≡ Some first) × IsSeenOfPins u.members.classes seen first (length ps) None
-IsSeenPrice cells u seen (gate cell ps) n (Some area) =
-    (area ≡ 0) ⊎ ((first : ℕ) × (slice_get u.firsts.items n ≡ Some first) × (area ≤ most_area) × (area ≤ area_at cells cell + sum_seen u.members.classes seen first (length ps)))
-
--- no more than what a choice in short gives with points that its groups have seen, and none where one has seen nothing
-abbrev pub IsBriefPrice : List ℕ → List ℕ → Brief → Option ℕ → Type 0
-IsBriefPrice groups seen b None = IsSeenOfPins groups seen b.first b.count None
-IsBriefPrice groups seen b (Some area) =
-    (area ≡ 0) ⊎ ((area ≤ most_area) × (area ≤ b.area + sum_seen groups seen b.first b.count))

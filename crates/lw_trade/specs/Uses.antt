@@ -60,10 +60,10 @@ pub record AreUsesTo (s : Task) (choices : List Choice) (n k : ℕ) (u : Uses) :
   pub low : (j m : ℕ) → slice_get u.owners.items j ≡ Some m → m < length choices
   pub all : (m i c : ℕ) (x : Choice) → (m < n) ⊎ ((m ≡ n) × (i < k)) → slice_get choices m ≡ Some x → HasPinAt x.part i c → HasUse u m i (delay_at s x.part i) c
 
--- the pins of all choices, and what looks at these need
+-- the pins of all choices, and the choices of each group
 pub record AreUses (s : Task) (choices : List Choice) (u : Uses) : Type 0 where
   pub pins : AreUsesTo s choices (length choices) 0 u
-  pub looks : AreLooks s.cells choices u
+  pub looks : AreLooks u
 
 -- what waits and comes with these groups
 abbrev pub turns_of : Uses → Queued → Queued → Turns

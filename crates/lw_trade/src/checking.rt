@@ -1,6 +1,6 @@
 // What a walk has found, looked through.
-ghost use Rattle.std.specs.Prelude.{◌≡◌, ◌+◌, IsTrue, length};
-ghost use Rattle.lw_trade.specs.Checks.{ArePinsRight, AreRootsRight, IsNetBy, IsNodeRight, IsOwned, IsRightWalk, IsUsedEarlier};
+ghost use Rattle.std.specs.Prelude.{◌≡◌, ◌+◌, ◌<◌, IsTrue, length};
+ghost use Rattle.lw_trade.specs.Checks.{ArePinsRight, AreRootsRight, IsNetBy, IsGateRight, IsNodeRight, IsOwned, IsRightWalk, IsUsedEarlier};
 
 use crate::choices::Stand;
 use crate::grouping::Curves;
@@ -181,6 +181,37 @@ fn is_owned(owners: &[Vec<u32>], node: Node, number: usize) -> bool
     true
 }
 
+// Whether the gate with a number is right.
+fn is_gate(
+    curves: &Curves,
+    inputs: &[Option<u32>],
+    count: u32,
+    lib: &Library,
+    trail: &Trail,
+    walk: &Walk,
+    number: usize,
+) -> bool
+    requires inputs { length inputs.now ≡ length curves.now.points }
+    requires ways { length curves.now.ways ≡ length curves.now.points }
+    requires node { number < length trail.now.nodes.items }
+    requires user { number < length trail.now.users.items }
+    requires cell { number < length walk.now.cells.items }
+    requires row { number < length walk.now.pins.items }
+    ensures { IsTrue result → IsGateRight curves.now inputs.now count lib.now trail.now.nodes.items
+        trail.now.owners.items walk.now.cells.items walk.now.pins.items walk.now.nets.items
+        number }
+{
+    let (nodes, pins) = (trail.nodes.as_slice(), walk.pins.as_slice());
+    let (node, cell, nets) = (nodes[number], walk.cells[number], pins[number].as_slice());
+    if !is_node(curves, inputs, count, lib, nodes, node, cell, nets)
+        || !is_used(count, pins, &walk.nets, trail.users[number], number)
+        || !is_owned(&trail.owners, node, number)
+    {
+        return false;
+    }
+    true
+}
+
 /// Whether what a walk has found is right: there are no more gates than points, each is that of a
 /// point of its own, has its cell and the nets of its pins, and is used; and so have the roots.
 pub(crate) fn is_right(
@@ -200,30 +231,18 @@ pub(crate) fn is_right(
         walk.now.nets.items }
 {
     let _ = lib.len();
-    let (nodes, pins) = (trail.nodes.as_slice(), walk.pins.as_slice());
+    let nodes = trail.nodes.as_slice();
     let number = nodes.len();
     if number > 8_000_000
         || walk.cells.len() != number
-        || pins.len() != number
+        || walk.pins.len() != number
         || trail.users.len() != number
         || !are_roots(curves, inputs, count, nodes, roots, times, &walk.nets)
     {
         return false;
     }
     for j in 0..number {
-        let nets = pins[j].as_slice();
-        if !is_node(
-            curves,
-            inputs,
-            count,
-            lib,
-            nodes,
-            nodes[j],
-            walk.cells[j],
-            nets,
-        ) || !is_used(count, pins, &walk.nets, trail.users[j], j)
-            || !is_owned(&trail.owners, nodes[j], j)
-        {
+        if !is_gate(curves, inputs, count, lib, trail, walk, j) {
             return false;
         }
     }

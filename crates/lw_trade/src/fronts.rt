@@ -203,7 +203,7 @@ fn push_row(
 }
 
 // More than any area.
-pub(crate) const NO_AREA: u64 = 4_611_686_018_427_387_905;
+const NO_AREA: u64 = 4_611_686_018_427_387_905;
 
 impl Fronts {
     /// No points, for so many classes.

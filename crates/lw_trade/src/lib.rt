@@ -23,6 +23,7 @@ mod queue;
 mod seeing;
 mod settling;
 mod starting;
+mod tallies;
 mod targets;
 mod trading;
 mod uses;

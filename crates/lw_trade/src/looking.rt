@@ -3,19 +3,20 @@ ghost use Rattle.std.specs.Prelude.{◌≡◌, ◌<◌, ◌≤◌, ℕ, List, Al
 ghost use Rattle.lw_fixed.specs.declared.micro.Micro.{Micro as MicroOf};
 ghost use Rattle.lw_laws.specs.Graphs.{Graph as PlainGraph};
 ghost use Rattle.lw_laws.specs.Covers.{Pattern as TreeOfCell};
-ghost use Rattle.lw_trade.specs.Areas.{most_area};
 ghost use Rattle.lw_trade.specs.Looks.{AreLooks};
 ghost use Rattle.lw_trade.specs.Points.{task};
 ghost use Rattle.lw_trade.specs.Pricing.{IsOfLibrary};
 ghost use Rattle.lw_trade.specs.Rows.{plain_part, plain_rows};
 ghost use Rattle.lw_trade.specs.Seen.{AreSeen, HasUnseen};
 ghost use Rattle.lw_trade.specs.Settling.{Spot, Has, GivesNoMoreSeen, IsGroupLookedAt, IsLookedAt, IsStillFor, Waits};
+ghost use Rattle.lw_trade.specs.Tallies.{AreTallied};
 ghost use Rattle.lw_trade.specs.Uses.{AreUses, turns_of};
 
 use crate::choices::Row;
 use crate::fronts::Fronts;
 use crate::queue::Queue;
-use crate::seeing::{see, seen_price};
+use crate::seeing::{Seen, see};
+use crate::tallies::UNSEEN;
 use crate::uses::Uses;
 use lw_genlib::Library;
 use std::alloc::AllocError;
@@ -25,33 +26,31 @@ pub(crate) fn may_give(
     rows: &[Row],
     lib: &Library,
     uses: &Uses,
-    seen: &[u64],
+    seen: &Seen,
     fronts: &Fronts,
     number: u32,
     time: u64,
 ) -> bool
-    requires one_each { length seen.now ≡ uses.now.members.count }
-    requires looks { AreLooks lib.now (plain_rows rows.now) uses.now }
+    requires tallied { AreTallied lib.now (plain_rows rows.now) uses.now seen.now }
     requires of_library { All (λ (r : Row). IsOfLibrary lib.now (plain_part r.stand)) rows.now }
     requires classes { All (λ (r : Row). r.class.0 < length fronts.now.least) rows.now }
     requires late { (k : Spot) → Has fronts.now.spots k → k.time ≤ time }
-    requires small { (k : Spot) → Has fronts.now.spots k → k.area ≤ most_area }
     ensures listed { IsTrue result → number < length rows.now }
     ensures no_more { IsFalse result → (g : PlainGraph) (pats : List TreeOfCell)
         (starts : List MicroOf) →
         AreUses (task g pats lib.now starts) (plain_rows rows.now) uses.now →
         GivesNoMoreSeen (task g pats lib.now starts) (plain_rows rows.now) fronts.now.spots
-        (HasUnseen uses.now seen.now fronts.now.spots time) time number }
+        (HasUnseen uses.now seen.now.areas.items fronts.now.spots time) time number }
 {
-    let (place, count) = (number as usize, uses.looks.briefs.len());
-    if place >= count {
+    let place = number as usize;
+    if place >= seen.tallies.len() {
         return false;
     }
-    let brief = uses.looks.briefs[place];
-    let Some(area) = seen_price(&uses.members, seen, brief) else {
+    let tally = seen.tallies[place];
+    if tally.bound >= UNSEEN {
         return false;
-    };
-    fronts.is_less(brief.class, time, area)
+    }
+    fronts.is_less(tally.class, time, tally.bound)
 }
 
 // Lets a choice wait at a time, unless by what its groups have seen it gives no more then than what
@@ -60,25 +59,24 @@ fn look_at(
     rows: &[Row],
     lib: &Library,
     uses: &Uses,
-    seen: &[u64],
+    seen: &Seen,
     fronts: &Fronts,
     queue: &mut Queue,
     number: u32,
     time: u64,
 ) -> Result<(), AllocError>
     requires time { time ≤ queue.old.horizon }
-    requires one_each { length seen.now ≡ uses.now.members.count }
-    requires looks { AreLooks lib.now (plain_rows rows.now) uses.now }
+    requires tallied { AreTallied lib.now (plain_rows rows.now) uses.now seen.now }
     requires of_library { All (λ (r : Row). IsOfLibrary lib.now (plain_part r.stand)) rows.now }
     requires classes { All (λ (r : Row). r.class.0 < length fronts.now.least) rows.now }
     requires late { (k : Spot) → Has fronts.now.spots k → k.time ≤ time }
-    requires small { (k : Spot) → Has fronts.now.spots k → k.area ≤ most_area }
     ensures horizon { queue.new.horizon ≡ queue.old.horizon }
     ensures looked { OnOk result ((g : PlainGraph) (pats : List TreeOfCell)
         (starts : List MicroOf) →
         AreUses (task g pats lib.now starts) (plain_rows rows.now) uses.now →
         IsLookedAt (task g pats lib.now starts) (plain_rows rows.now) fronts.now.spots
-        (HasUnseen uses.now seen.now fronts.now.spots time) queue.old queue.new time number) }
+        (HasUnseen uses.now seen.now.areas.items fronts.now.spots time)
+        queue.old queue.new time number) }
 {
     if may_give(rows, lib, uses, seen, fronts, number, time) {
         queue.push(0, time, 0, number)?;
@@ -93,7 +91,7 @@ fn look_at_group(
     rows: &[Row],
     lib: &Library,
     uses: &Uses,
-    seen: &[u64],
+    seen: &Seen,
     fronts: &Fronts,
     queue: &mut Queue,
     group: u32,
@@ -101,18 +99,17 @@ fn look_at_group(
 ) -> Result<(), AllocError>
     requires time { time ≤ queue.old.horizon }
     requires group { group < uses.now.members.count }
-    requires one_each { length seen.now ≡ uses.now.members.count }
-    requires looks { AreLooks lib.now (plain_rows rows.now) uses.now }
+    requires looks { AreLooks uses.now }
+    requires tallied { AreTallied lib.now (plain_rows rows.now) uses.now seen.now }
     requires of_library { All (λ (r : Row). IsOfLibrary lib.now (plain_part r.stand)) rows.now }
     requires classes { All (λ (r : Row). r.class.0 < length fronts.now.least) rows.now }
     requires late { (k : Spot) → Has fronts.now.spots k → k.time ≤ time }
-    requires small { (k : Spot) → Has fronts.now.spots k → k.area ≤ most_area }
     ensures horizon { queue.new.horizon ≡ queue.old.horizon }
     ensures looked { OnOk result ((g : PlainGraph) (pats : List TreeOfCell)
         (starts : List MicroOf) →
         AreUses (task g pats lib.now starts) (plain_rows rows.now) uses.now →
         IsGroupLookedAt (task g pats lib.now starts) (plain_rows rows.now) fronts.now.spots
-        (HasUnseen uses.now seen.now fronts.now.spots time)
+        (HasUnseen uses.now seen.now.areas.items fronts.now.spots time)
         uses.now.members.classes uses.now.owners.items queue.old queue.new time group) }
 {
     let _ = uses.members.len();
@@ -130,15 +127,15 @@ pub(crate) fn look_at_groups(
     rows: &[Row],
     lib: &Library,
     uses: &Uses,
-    seen: &mut [u64],
+    seen: &mut Seen,
     fronts: &Fronts,
     coming: &mut Queue,
     queue: &mut Queue,
     time: u64,
 ) -> Result<(), AllocError>
     requires time { time ≤ coming.old.horizon }
-    requires one_each { length seen.old ≡ uses.now.members.count }
-    requires seen { AreSeen uses.now seen.old fronts.now.spots coming.old }
+    requires tallied { AreTallied lib.now (plain_rows rows.now) uses.now seen.old }
+    requires seen { AreSeen uses.now seen.old.areas.items fronts.now.spots coming.old }
     requires of_library { All (λ (r : Row). IsOfLibrary lib.now (plain_part r.stand)) rows.now }
     requires classes { All (λ (r : Row). r.class.0 < length fronts.now.least) rows.now }
     requires count { uses.now.links.count ≡ length fronts.now.least }
@@ -147,8 +144,8 @@ pub(crate) fn look_at_groups(
         (turns_of uses.now coming.old queue.old) ×
         AreUses (task g pats lib.now starts) (plain_rows rows.now) uses.now }
     ensures horizon { coming.new.horizon ≡ coming.old.horizon }
-    ensures one_each { length seen.new ≡ uses.now.members.count }
-    ensures seen { OnOk result (AreSeen uses.now seen.new fronts.now.spots coming.new) }
+    ensures tallied { AreTallied lib.now (plain_rows rows.now) uses.now seen.new }
+    ensures seen { OnOk result (AreSeen uses.now seen.new.areas.items fronts.now.spots coming.new) }
     ensures over { OnOk result ((t g : ℕ) → Waits coming.new t g → time < t) }
     ensures still { OnOk result ((g : PlainGraph) (pats : List TreeOfCell)
         (starts : List MicroOf) →

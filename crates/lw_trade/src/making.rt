@@ -60,7 +60,7 @@ fn settle_rows(
     push_starts(&mut queue, rows, starts)?;
     let mut coming = Queue::new(alloc, horizon, uses.steps.len())?;
     let mut fronts = Fronts::new(alloc, classes as usize)?;
-    let mut seen = none_seen(alloc, uses.links.len())?;
+    let mut seen = none_seen(alloc, rows, lib, uses.links.len())?;
     settle_all(
         rows,
         lib,

@@ -1,30 +1,57 @@
 // What the groups of pins have seen: the least area of the points of their class that came.
-ghost use Rattle.std.specs.Prelude.{◌≡◌, ◌-◌, ◌<◌, ◌≤◌, IfOk, IfSome, length};
-ghost use Rattle.lw_trade.specs.Areas.{most_area};
-ghost use Rattle.lw_trade.specs.Seen.{IsBriefPrice, IsSeeing, IsSeenOfPins};
-ghost use Rattle.lw_trade.specs.Uses.{AreGroups};
+ghost use Rattle.std.specs.Prelude.{◌≡◌, ◌<◌, ℕ, List, All, IfOk, length, replicate};
+ghost use Rattle.lw_trade.specs.Choices.{Choice};
+ghost use Rattle.lw_trade.specs.Looks.{AreLooks};
+ghost use Rattle.lw_trade.specs.Points.{Task};
+ghost use Rattle.lw_trade.specs.Pricing.{IsOfLibrary};
+ghost use Rattle.lw_trade.specs.Rows.{plain_part, plain_rows};
+ghost use Rattle.lw_trade.specs.Seen.{IsSeeing};
+ghost use Rattle.lw_trade.specs.Tallies.{AreFirstTallies, AreTallies, unseen};
+ghost use Rattle.lw_trade.specs.Uses.{AreGroups, AreUses};
 
-use crate::area::{MOST_AREA, joined};
-use crate::fronts::{Fronts, NO_AREA};
-use crate::links::Links;
-use crate::looks::Brief;
+use crate::choices::Row;
+use crate::fronts::Fronts;
+use crate::tallies::{MOST_SEEN, Tally, UNSEEN, first_tallies, lower_tallies};
 use crate::uses::Uses;
+use lw_genlib::Library;
 use std::alloc::{AllocError, Global};
 
+/// What each group has seen, and what that makes of the choices.
+#[derive(Drop)]
+pub(crate) struct Seen {
+    pub areas: Vec<u64>,
+    pub tallies: Vec<Tally>,
+}
+
 /// No group has seen a point yet.
-pub(crate) fn none_seen(alloc: Global, groups: u32) -> Result<Vec<u64>, AllocError>
-    ensures { IfOk result (λ seen. length seen.items ≡ groups) }
+pub(crate) fn none_seen(
+    alloc: Global,
+    rows: &[Row],
+    lib: &Library,
+    groups: u32,
+) -> Result<Seen, AllocError>
+    requires { All (λ (r : Row). IsOfLibrary lib.now (plain_part r.stand)) rows.now }
+    ensures areas { IfOk result (λ seen. seen.areas.items ≡ replicate groups unseen) }
+    ensures tallies { IfOk result (λ seen. AreFirstTallies lib.now (plain_rows rows.now)
+        seen.tallies.items) }
 {
-    vec![in alloc; NO_AREA; groups as usize]
+    let areas = vec![in alloc; UNSEEN; groups as usize]?;
+    let tallies = first_tallies(alloc, rows, lib)?;
+    Ok(Seen { areas, tallies })
 }
 
 /// Lets a group see the last point of its class that comes by a time. It may stand at a place.
-pub(crate) fn see(uses: &Uses, fronts: &Fronts, seen: &mut [u64], group: u32, time: u64, place: u64)
+pub(crate) fn see(uses: &Uses, fronts: &Fronts, seen: &mut Seen, group: u32, time: u64, place: u64)
     requires group { group < uses.now.members.count }
     requires are { AreGroups uses.now }
-    requires one_each { length seen.old ≡ uses.now.members.count }
+    requires looks { AreLooks uses.now }
+    requires one_each { length seen.old.areas.items ≡ uses.now.members.count }
     requires count { uses.now.links.count ≡ length fronts.now.least }
-    ensures { IsSeeing uses.now fronts.now.spots seen.old seen.new group time }
+    ensures seeing { IsSeeing uses.now fronts.now.spots seen.old.areas.items seen.new.areas.items
+        group time }
+    ensures tallies { (s : Task) (xs : List Choice) → AreUses s xs uses.now →
+        AreTallies s.cells xs uses.now seen.old.areas.items seen.old.tallies.items →
+        AreTallies s.cells xs uses.now seen.new.areas.items seen.new.tallies.items }
 {
     let delay = uses.delays[group as usize];
     if delay > time {
@@ -34,48 +61,10 @@ pub(crate) fn see(uses: &Uses, fronts: &Fronts, seen: &mut [u64], group: u32, ti
     let Some(area) = fronts.area_near(class, time - delay, place) else {
         return;
     };
-    if area < seen[group as usize] {
-        seen[group as usize] = area;
+    let (old, new) = (seen.areas[group as usize], area.min(MOST_SEEN));
+    if new >= old {
+        return;
     }
-}
-
-// What the groups of the pins from a place on and before another have seen together, and none where
-// one has seen nothing.
-fn seen_of_pins(groups: &Links, seen: &[u64], first: u32, end: u32) -> Option<u64>
-    requires order { first ≤ end }
-    requires within { end ≤ length groups.now.classes }
-    requires one_each { length seen.now ≡ groups.now.count }
-    ensures { IsSeenOfPins groups.now.classes seen.now first (end - first) result }
-{
-    let mut area = 0;
-    let mut place = end;
-    while place > first {
-        place -= 1;
-        let group = groups.class(place);
-        let own = seen[group.0 as usize];
-        if own > MOST_AREA {
-            return None;
-        }
-        area = joined(own, area);
-    }
-    Some(area)
-}
-
-/// No more than the area that a choice gives with points that its groups have seen, and none where
-/// a group has seen nothing.
-pub(crate) fn seen_price(groups: &Links, seen: &[u64], brief: Brief) -> Option<u64>
-    requires { length seen.now ≡ groups.now.count }
-    ensures low { IfSome result (λ area. area ≤ most_area) }
-    ensures seen { IsBriefPrice groups.now.classes seen.now brief result }
-{
-    let Some(end) = brief.first.checked_add(brief.count) else {
-        return Some(0);
-    };
-    if end > groups.len() {
-        return Some(0);
-    }
-    match seen_of_pins(groups, seen, brief.first, end) {
-        Some(area) => Some(joined(brief.area, area)),
-        None => None,
-    }
+    seen.areas[group as usize] = new;
+    lower_tallies(uses, &mut seen.tallies, group, old - new);
 }

@@ -10,6 +10,7 @@ ghost use Rattle.lw_trade.specs.Queues.{IsFirstOf};
 ghost use Rattle.lw_trade.specs.Rows.{plain_part, plain_rows};
 ghost use Rattle.lw_trade.specs.Seen.{AreSeen, AreSeenAfter};
 ghost use Rattle.lw_trade.specs.Settling.{AreGroupsAdded, AreSettledOr, IsAfter, IsLetWait, IsStillFor, Waits};
+ghost use Rattle.lw_trade.specs.Tallies.{AreTallied};
 ghost use Rattle.lw_trade.specs.Uses.{AreGroups, AreUses, turns_of};
 
 use crate::choices::Row;
@@ -18,6 +19,7 @@ use crate::looking::{look_at_groups, may_give};
 use crate::point::CurveFault;
 use crate::pricing::price;
 use crate::queue::Queue;
+use crate::seeing::Seen;
 use crate::uses::{Uses, lane_of};
 use lw_fixed::Micro;
 use lw_genlib::Library;
@@ -90,15 +92,15 @@ fn next_gain(
     lib: &Library,
     starts: &[Micro],
     uses: &Uses,
-    seen: &[u64],
+    seen: &Seen,
     fronts: &mut Fronts,
     coming: &Queue,
     queue: &mut Queue,
     time: u64,
 ) -> Result<Option<ClassId>, AllocError>
     requires time { time ≤ coming.now.horizon }
-    requires one_each { length seen.now ≡ uses.now.members.count }
-    requires seen { AreSeen uses.now seen.now fronts.old.spots coming.now }
+    requires tallied { AreTallied lib.now (plain_rows rows.now) uses.now seen.now }
+    requires seen { AreSeen uses.now seen.now.areas.items fronts.old.spots coming.now }
     requires within { All (λ (r : Row). IsWithin (length fronts.old.least) (plain_part r.stand))
         rows.now }
     requires of_library { All (λ (r : Row). IsOfLibrary lib.now (plain_part r.stand)) rows.now }
@@ -116,7 +118,7 @@ fn next_gain(
         IsAfter (task g pats lib.now starts.now) (plain_rows rows.now) time fronts.new.spots
         (turns_of uses.now coming.now queue.new) gain) }
     ensures seen { IfOk result
-        (AreSeenAfter uses.now seen.now fronts.new.spots coming.now time) }
+        (AreSeenAfter uses.now seen.now.areas.items fronts.new.spots coming.now time) }
     ensures falls { IfOk result (λ gain. IfSome gain
         (λ class. (class.0 < length fronts.old.least) ×
         (total fronts.new.least < total fronts.old.least))) }
@@ -149,15 +151,15 @@ fn gain_at(
     lib: &Library,
     starts: &[Micro],
     uses: &Uses,
-    seen: &mut [u64],
+    seen: &mut Seen,
     fronts: &mut Fronts,
     coming: &mut Queue,
     queue: &mut Queue,
     time: u64,
 ) -> Result<Option<ClassId>, AllocError>
     requires time { time ≤ coming.old.horizon }
-    requires one_each { length seen.old ≡ uses.now.members.count }
-    requires seen { AreSeen uses.now seen.old fronts.old.spots coming.old }
+    requires tallied { AreTallied lib.now (plain_rows rows.now) uses.now seen.old }
+    requires seen { AreSeen uses.now seen.old.areas.items fronts.old.spots coming.old }
     requires within { All (λ (r : Row). IsWithin (length fronts.old.least) (plain_part r.stand))
         rows.now }
     requires of_library { All (λ (r : Row). IsOfLibrary lib.now (plain_part r.stand)) rows.now }
@@ -169,8 +171,9 @@ fn gain_at(
         AreUses (task g pats lib.now starts.now) (plain_rows rows.now) uses.now }
     ensures horizon { coming.new.horizon ≡ coming.old.horizon }
     ensures count { length fronts.new.least ≡ length fronts.old.least }
-    ensures one_each { length seen.new ≡ uses.now.members.count }
-    ensures seen { IfOk result (AreSeenAfter uses.now seen.new fronts.new.spots coming.new time) }
+    ensures tallied { AreTallied lib.now (plain_rows rows.now) uses.now seen.new }
+    ensures seen { IfOk result
+        (AreSeenAfter uses.now seen.new.areas.items fronts.new.spots coming.new time) }
     ensures gain { IfOk result (λ gain. (g : PlainGraph) (pats : List TreeOfCell) →
         IsStillFor (task g pats lib.now starts.now) (plain_rows rows.now) time fronts.old.spots
         (turns_of uses.now coming.old queue.old) →
@@ -197,15 +200,15 @@ pub(crate) fn settle_at(
     lib: &Library,
     starts: &[Micro],
     uses: &Uses,
-    seen: &mut [u64],
+    seen: &mut Seen,
     fronts: &mut Fronts,
     coming: &mut Queue,
     queue: &mut Queue,
     time: u64,
 ) -> Result<(), AllocError>
     requires time { time ≤ coming.old.horizon }
-    requires one_each { length seen.old ≡ uses.now.members.count }
-    requires seen { AreSeen uses.now seen.old fronts.old.spots coming.old }
+    requires tallied { AreTallied lib.now (plain_rows rows.now) uses.now seen.old }
+    requires seen { AreSeen uses.now seen.old.areas.items fronts.old.spots coming.old }
     requires within { All (λ (r : Row). IsWithin (length fronts.old.least) (plain_part r.stand))
         rows.now }
     requires of_library { All (λ (r : Row). IsOfLibrary lib.now (plain_part r.stand)) rows.now }
@@ -217,8 +220,8 @@ pub(crate) fn settle_at(
         AreUses (task g pats lib.now starts.now) (plain_rows rows.now) uses.now }
     ensures horizon { coming.new.horizon ≡ coming.old.horizon }
     ensures count { length fronts.new.least ≡ length fronts.old.least }
-    ensures one_each { length seen.new ≡ uses.now.members.count }
-    ensures seen { OnOk result (AreSeen uses.now seen.new fronts.new.spots coming.new) }
+    ensures tallied { AreTallied lib.now (plain_rows rows.now) uses.now seen.new }
+    ensures seen { OnOk result (AreSeen uses.now seen.new.areas.items fronts.new.spots coming.new) }
     ensures still { OnOk result ((g : PlainGraph) (pats : List TreeOfCell) →
         IsStillFor (task g pats lib.now starts.now) (plain_rows rows.now) time fronts.old.spots
         (turns_of uses.now coming.old queue.old) →
@@ -265,7 +268,7 @@ pub(crate) fn settle_all(
     lib: &Library,
     starts: &[Micro],
     uses: &Uses,
-    seen: &mut [u64],
+    seen: &mut Seen,
     fronts: &mut Fronts,
     coming: &mut Queue,
     queue: &mut Queue,
@@ -275,8 +278,8 @@ pub(crate) fn settle_all(
     requires of_library { All (λ (r : Row). IsOfLibrary lib.now (plain_part r.stand)) rows.now }
     requires classes { All (λ (r : Row). r.class.0 < length fronts.old.least) rows.now }
     requires count { uses.now.links.count ≡ length fronts.old.least }
-    requires one_each { length seen.old ≡ uses.now.members.count }
-    requires seen { AreSeen uses.now seen.old fronts.old.spots coming.old }
+    requires tallied { AreTallied lib.now (plain_rows rows.now) uses.now seen.old }
+    requires seen { AreSeen uses.now seen.old.areas.items fronts.old.spots coming.old }
     requires few_points { length fronts.old.spots ≤ most_points }
     requires still { (g : PlainGraph) × (pats : List TreeOfCell) ×
         IsStillFor (task g pats lib.now starts.now) (plain_rows rows.now) 0 fronts.old.spots

@@ -36,7 +36,7 @@ pub(crate) struct Uses {
     pub owners: Vec<u32>,
     // the place of the first pin of each choice, behind which its others stand
     pub firsts: Vec<u32>,
-    // what looks at the choices need
+    // the choices of each group
     pub looks: Looks,
 }
 
@@ -225,9 +225,7 @@ pub(crate) fn uses_of(
         add_choice(&mut uses, lib, row, choice as u32)?;
     }
     let groups = uses.links.len();
-    let owners = uses.owners.as_slice();
-    let firsts = uses.firsts.as_slice();
-    let looks = looks_of(alloc, rows, lib, &uses.members, owners, firsts, groups)?;
+    let looks = looks_of(alloc, &uses.members, uses.owners.as_slice(), groups)?;
     uses.looks = looks;
     Ok(uses)
 }

@@ -1,5 +1,5 @@
 // The points that get a gate, as a walk from the roots down finds them.
-ghost use Rattle.std.specs.Prelude.{◌≡◌, IfOk, List, length};
+ghost use Rattle.std.specs.Prelude.{◌≡◌, ◌<◌, IfOk, List, length};
 ghost use Rattle.lw_trade.specs.Backing.{Held};
 ghost use Rattle.lw_trade.specs.Points.{Task};
 ghost use Rattle.lw_trade.specs.Targets.{AreCurvesFor};
@@ -211,6 +211,36 @@ fn gate_of(curves: &Curves, inputs: usize, node: Node) -> Option<(&Gate, u64)>
     }
 }
 
+// The cell of the gate of a node that was found, and the nets of its pins.
+fn go_through(
+    alloc: Global,
+    curves: &Curves,
+    inputs: &[Option<u32>],
+    count: u32,
+    lib: &Library,
+    trail: &mut Trail,
+    at: usize,
+) -> Result<(CellId, Numbers), AllocError>
+    requires inputs { length inputs.now ≡ length curves.now.points }
+    requires ways { length curves.now.ways ≡ length curves.now.points }
+    requires at { at < length trail.old.nodes.items }
+{
+    let Some((gate, time)) = gate_of(curves, inputs.len(), trail.nodes[at]) else {
+        return Err(AllocError);
+    };
+    if gate.cell.0 >= lib.len() {
+        return Err(AllocError);
+    }
+    let Ok(number) = u32::try_from(at) else {
+        return Err(AllocError);
+    };
+    let (delays, pins) = (lib.cell(gate.cell).delays(), gate.pins.as_slice());
+    let row = nets_of_pins(
+        alloc, curves, inputs, count, trail, delays, pins, time, number,
+    )?;
+    Ok((gate.cell, row))
+}
+
 // Goes on to the pins of each gate that was found.
 fn walk_on(
     alloc: Global,
@@ -229,28 +259,8 @@ fn walk_on(
         if at >= trail.nodes.len() {
             break;
         }
-        let Some((gate, time)) = gate_of(curves, inputs.len(), trail.nodes[at]) else {
-            return Err(AllocError);
-        };
-        if gate.cell.0 >= lib.len() {
-            return Err(AllocError);
-        }
-        let Ok(number) = u32::try_from(at) else {
-            return Err(AllocError);
-        };
-        let delays = lib.cell(gate.cell).delays();
-        let row = nets_of_pins(
-            alloc,
-            curves,
-            inputs,
-            count,
-            trail,
-            delays,
-            gate.pins.as_slice(),
-            time,
-            number,
-        )?;
-        cells.push(gate.cell)?;
+        let (cell, row) = go_through(alloc, curves, inputs, count, lib, trail, at)?;
+        cells.push(cell)?;
         pins.push(row)?;
     }
     Ok(Walk { cells, pins, nets })

@@ -12,5 +12,5 @@ use Rattle.lw_trade.proofs.looking.look_at_group.Given as goal
 abbrev pub invariant-loop-at : goal.invariant-loop-at
 invariant-loop-at l = record {
   horizon : l.queue.horizon ≡ l.initial.queue.horizon;
-  looking : (g : Graph) (pats : List Pattern) (starts : List Micro) → AreUses (task g pats l.lib starts) (plain_rows l.rows) l.uses → IsLooking (task g pats l.lib starts) (plain_rows l.rows) l.fronts.spots (HasUnseen l.uses l.seen l.fronts.spots l.time) l.uses.looks.numbers.items l.first l.initial.queue l.queue l.time l.at;
+  looking : (g : Graph) (pats : List Pattern) (starts : List Micro) → AreUses (task g pats l.lib starts) (plain_rows l.rows) l.uses → IsLooking (task g pats l.lib starts) (plain_rows l.rows) l.fronts.spots (HasUnseen l.uses l.seen.areas.items l.fronts.spots l.time) l.uses.looks.numbers.items l.first l.initial.queue l.queue l.time l.at;
 }

@@ -1,14 +1,14 @@
 use Rattle.std.proofs.Common.{◌≡◌, ◌∷◌, ◌++◌, [], Some, length, slice_get, sym, subst, subst₂, arith}
-use Rattle.lw_trade.specs.Looks.{AreMembersListed}
+use Rattle.lw_trade.specs.Looks.{AreOwnersListed}
 use Rattle.lw_trade.proofs.Lists.{get_last}
-use Rattle.lw_trade.proofs.Members.{AreListedTo, listed_more, listed_none, listed_started}
+use Rattle.lw_trade.proofs.Members.{AreOwnersTo, listed_more, listed_none, listed_started}
 use Rattle.lw_trade.proofs.looks.list_groups.Goals as goal
 
 pub loop-group-init : goal.loop-group-init
 loop-group-init c =
     let groups = c.args.members.now.classes in
     let owners = c.args.owners.now in
-    subst₂ (λ ss ns. AreListedTo groups owners 0 ss ns) (sym c.requires.starts) (sym c.requires.numbers) (listed_none groups owners)
+    subst₂ (λ ss ns. AreOwnersTo groups owners 0 ss ns) (sym c.requires.starts) (sym c.requires.numbers) (listed_none groups owners)
 
 pub loop-group-preserved : goal.loop-group-preserved
 loop-group-preserved c =
@@ -19,8 +19,8 @@ loop-group-preserved c =
     let numbers = c.loop-group.numbers.items in
     let begin : c.len.result ≡ length numbers = omega (arith, c.len.ensures) in
     let started = listed_started groups owners k starts numbers c.len.result begin c.loop-group.invariant in
-    let started' = subst (λ ss. AreMembersListed groups owners k ss numbers) (sym c.in_ok-push.ensures.items) started in
-    let last = subst₂ (λ j b. slice_get (starts ++ c.len.result ∷ []) j ≡ Some b) c.loop-group.invariant.one_each begin (get_last starts c.len.result) in
+    let started' = subst (λ ss. AreOwnersListed groups owners k ss numbers) (sym c.in_ok-push.ensures.items) started in
+    let last = subst₂ (λ j b. slice_get (starts ++ c.len.result ∷ []) j ≡ Some b) c.loop-group.invariant.2.one_each begin (get_last starts c.len.result) in
     let here = subst (λ ss. slice_get ss k ≡ Some (length numbers)) (sym c.in_ok-push.ensures.items) last in
     listed_more groups owners k c.push.new.self.items numbers c.list_group.new.numbers.items started' here c.in_ok-list_group.ensures
 
@@ -33,4 +33,4 @@ returns c =
     let same : k ≡ c.args.groups = omega (arith, c.loop-group-test.false, c.loop-group.auto.group-end) in
     let begin : c.len-2.result ≡ length numbers = omega (arith, c.len-2.ensures) in
     let started = listed_started groups owners k c.loop-group.starts.items numbers c.len-2.result begin c.loop-group.invariant in
-    subst₂ (λ n ss. AreMembersListed groups owners n ss numbers) same (sym c.in_ok-push-2.ensures.items) started
+    subst₂ (λ n ss. AreOwnersListed groups owners n ss numbers) same (sym c.in_ok-push-2.ensures.items) started

@@ -1,4 +1,5 @@
-use Rattle.std.proofs.Common.{◌∙◌, List, ap, length, sym, subst}
+use Rattle.std.proofs.Common.{◌∙◌, List, ap, length, replicate, sym, subst}
+use Rattle.std.proofs.lemmas.List.{length-replicate}
 use Rattle.lw_laws.specs.Covers.{Pattern}
 use Rattle.lw_laws.specs.Graphs.{Graph}
 use Rattle.lw_trade.specs.Backing.{AreBacked}
@@ -7,10 +8,12 @@ use Rattle.lw_trade.specs.Points.{task}
 use Rattle.lw_trade.specs.Rows.{plain_rows}
 use Rattle.lw_trade.specs.Seen.{AreSeen}
 use Rattle.lw_trade.specs.Settling.{AreSettled, IsStillFor, IsStop}
+use Rattle.lw_trade.specs.Tallies.{unseen}
 use Rattle.lw_trade.specs.Uses.{turns_of}
 use Rattle.lw_trade.proofs.Backed.{none_backed}
 use Rattle.lw_trade.proofs.Curving.{err_is}
 use Rattle.lw_trade.proofs.Starts.{first_still}
+use Rattle.lw_trade.proofs.Falling.{tallies_first}
 use Rattle.lw_trade.proofs.making.settle_rows.Goals as goal
 
 pub settle_all-requires-clause-still : goal.settle_all-requires-clause-still
@@ -25,14 +28,21 @@ settle_all-requires-clause-still c =
     let still = subst (λ ks. IsStillFor s rows 0 ks (turns_of u c.in_ok-coming.coming c.push_starts.new.queue)) (sym c.in_ok-fronts.ensures.spots) first in
     (g, pats, still, uses)
 
-pub settle_all-requires-clause-one_each : goal.settle_all-requires-clause-one_each
-settle_all-requires-clause-one_each c =
+pub settle_all-requires-clause-tallied : goal.settle_all-requires-clause-tallied
+settle_all-requires-clause-tallied c =
     let (g, pats, are) = c.requires.choices in
+    let s = task g pats c.args.lib.now c.args.starts.now in
+    let u = c.in_ok-uses.uses in
     let uses = c.in_ok-uses.ensures.uses g pats c.args.starts.now in
-    ap length c.deref_mut.ensures.value ∙ (c.in_ok-seen.ensures ∙ (c.len-3.ensures.len ∙ sym uses.pins.are.count))
+    let count = c.len-3.ensures.len ∙ sym uses.pins.are.count in
+    let areas = c.in_ok-seen.ensures.areas ∙ ap (λ n. replicate n unseen) count in
+    record {
+      one_each = ap length areas ∙ length-replicate u.members.count unseen;
+      tallies = tallies_first s (plain_rows c.args.rows.now) u uses c.in_ok-seen.seen.areas.items c.in_ok-seen.seen.tallies.items areas c.in_ok-seen.ensures.tallies;
+    }
 
 pub settle_all-requires-clause-seen : goal.settle_all-requires-clause-seen
-settle_all-requires-clause-seen c = subst (λ ks. AreSeen c.in_ok-uses.uses c.deref_mut.result.now ks c.in_ok-coming.coming) (sym c.in_ok-fronts.ensures.spots) (λ k g d (i, at) is le. cc)
+settle_all-requires-clause-seen c = subst (λ ks. AreSeen c.in_ok-uses.uses c.in_ok-seen.seen.areas.items ks c.in_ok-coming.coming) (sym c.in_ok-fronts.ensures.spots) (λ k g d (i, at) is le. cc)
 
 pub returns-in_err-settle_all-clause-stop : goal.returns-in_err-settle_all-clause-stop
 returns-in_err-settle_all-clause-stop c =

@@ -35,12 +35,6 @@ may_give-requires-clause-late c k has =
     let (are, time, still) = c.loop-number.invariant.still g pats st us in
     still.low k (subst (λ (f : FrontState). Has f.spots k) c.loop-number.invariant.fronts has)
 
-pub may_give-requires-clause-small : goal.may_give-requires-clause-small
-may_give-requires-clause-small c k has =
-    let (g, pats, st, us) = c.requires.still in
-    let (are, time, still) = c.loop-number.invariant.still g pats st us in
-    reached_low (task g pats c.args.lib.now c.args.starts.now) k (still.reached k (subst (λ (f : FrontState). Has f.spots k) c.loop-number.invariant.fronts has))
-
 pub loop-number-smaller-then-not-may_give : goal.loop-number-smaller-then-not-may_give
 loop-number-smaller-then-not-may_give c =
     let (g, pats, st, us) = c.requires.still in
@@ -60,8 +54,8 @@ loop-number-preserved-then-not-may_give c = record {
       let (are, time, still) = c.loop-number.invariant.still g pats st us in
       let within : c.args.time ≤ c.loop-number.queue.horizon = omega (arith, c.requires.time, time.horizon) in
       let here = c.may_give.ensures.no_more c.if-not-may_give.true g pats c.args.starts.now us in
-      let here' = subst (λ (f : FrontState). GivesNoMoreSeen s xs f.spots (HasUnseen u c.args.seen.now f.spots c.args.time) c.args.time c.in-Some.number) c.loop-number.invariant.fronts here in
-      let more = no_more_seen u c.args.seen.now ks c.args.time c.in-Some.number coming c.requires.time c.requires.seen c.requires.over s xs here' in
+      let here' = subst (λ (f : FrontState). GivesNoMoreSeen s xs f.spots (HasUnseen u c.args.seen.now.areas.items f.spots c.args.time) c.args.time c.in-Some.number) c.loop-number.invariant.fronts here in
+      let more = no_more_seen u c.args.seen.now.areas.items ks c.args.time c.in-Some.number coming c.requires.time c.requires.seen c.requires.over s xs here' in
       let intime = looked_in_time c.args.time (length xs) (turns_of u coming c.loop-number.queue) time c.take_at.new.self c.in-Some.number within c.in-Some.ensures in
       (are, intime, taken_over s xs c.args.time c.in-Some.number ks (turns_of u coming c.loop-number.queue) c.take_at.new.self within still c.in-Some.ensures more);
 }
@@ -162,7 +156,7 @@ returns-then-branch-clause-seen c =
     (c.args.fronts.now.spots, c.in-Some-price.area, c.requires.seen, gained)
 
 pub returns-clause-seen : goal.returns-clause-seen
-returns-clause-seen c = subst (λ (f : FrontState). AreSeen c.args.uses.now c.args.seen.now f.spots c.args.coming.now) (sym c.loop-number.invariant.fronts) c.requires.seen
+returns-clause-seen c = subst (λ (f : FrontState). AreSeen c.args.uses.now c.args.seen.now.areas.items f.spots c.args.coming.now) (sym c.loop-number.invariant.fronts) c.requires.seen
 
 pub returns-then-branch-clause-falls : goal.returns-then-branch-clause-falls
 returns-then-branch-clause-falls c =

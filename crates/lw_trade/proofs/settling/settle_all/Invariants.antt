@@ -6,6 +6,7 @@ use Rattle.lw_trade.specs.Points.{most_points, task}
 use Rattle.lw_trade.specs.Rows.{plain_rows}
 use Rattle.lw_trade.specs.Seen.{AreSeen}
 use Rattle.lw_trade.specs.Settling.{IsStillFor}
+use Rattle.lw_trade.specs.Tallies.{AreTallied}
 use Rattle.lw_trade.specs.Uses.{AreUses, turns_of}
 use Rattle.lw_trade.proofs.Queueing.{most_left}
 use Rattle.lw_trade.proofs.settling.settle_all.Given as goal
@@ -15,8 +16,8 @@ invariant-loop-time l = record {
   few_points : length l.fronts.spots ≤ most_points;
   count : length l.fronts.least ≡ length l.initial.fronts.least;
   horizon : l.coming.horizon ≡ l.initial.coming.horizon;
-  one_each : length l.seen ≡ l.uses.members.count;
-  seen : AreSeen l.uses l.seen l.fronts.spots l.coming;
+  tallied : AreTallied l.lib (plain_rows l.rows) l.uses l.seen;
+  seen : AreSeen l.uses l.seen.areas.items l.fronts.spots l.coming;
   still : (g : Graph) (pats : List Pattern) → IsStillFor (task g pats l.lib l.starts) (plain_rows l.rows) 0 l.initial.fronts.spots (turns_of l.uses l.initial.coming l.initial.queue) → AreUses (task g pats l.lib l.starts) (plain_rows l.rows) l.uses → (now : ℕ) × (now ≤ l.initial.coming.horizon) × IsStillFor (task g pats l.lib l.starts) (plain_rows l.rows) now l.fronts.spots (turns_of l.uses l.coming l.queue);
   backed : (g : Graph) (pats : List Pattern) → IsStillFor (task g pats l.lib l.starts) (plain_rows l.rows) 0 l.initial.fronts.spots (turns_of l.uses l.initial.coming l.initial.queue) → AreUses (task g pats l.lib l.starts) (plain_rows l.rows) l.uses → AreBacked (task g pats l.lib l.starts) (plain_rows l.rows) l.initial.fronts.held → AreBacked (task g pats l.lib l.starts) (plain_rows l.rows) l.fronts.held;
 }

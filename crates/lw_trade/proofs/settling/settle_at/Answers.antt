@@ -29,11 +29,11 @@ loop-class-preserved c = record {
       let all = groups_added s xs u c.args.time class next.coming c.push_groups.new.coming next.queue us added in
       let still = uses_added s xs are c.args.time next.coming.horizon class next.fronts.spots (Comes (turns_of u next.coming next.queue)) (Comes (turns_of u c.push_groups.new.coming next.queue)) gaining more all in
       (are, groups_in_time s xs u c.args.time class next.coming c.push_groups.new.coming next.queue us added time, subst (λ h. IsStill s xs c.args.time h next.fronts.spots (Comes (turns_of u c.push_groups.new.coming next.queue))) (sym added.horizon) still);
-  one_each = c.in_ok-class.ensures.one_each;
+  tallied = c.in_ok-class.ensures.tallied;
   seen =
       let next = c.gain_at.new in
-      let (old, area, are, gained) = subst (AreSeenAfter c.args.uses.now next.seen next.fronts.spots next.coming c.args.time) c.in-Some.is c.in_ok-class.ensures.seen in
-      seen_pushed c.args.uses.now next.seen old next.fronts.spots c.in-Some.class.0 c.args.time area next.coming c.push_groups.new.coming are gained c.in_ok-push_groups.ensures.added;
+      let (old, area, are, gained) = subst (AreSeenAfter c.args.uses.now next.seen.areas.items next.fronts.spots next.coming c.args.time) c.in-Some.is c.in_ok-class.ensures.seen in
+      seen_pushed c.args.uses.now next.seen.areas.items old next.fronts.spots c.in-Some.class.0 c.args.time area next.coming c.push_groups.new.coming are gained c.in_ok-push_groups.ensures.added;
   backed = λ g pats st us backed. c.in_ok-class.ensures.backed g pats (c.loop-class.invariant.still g pats st us) us (c.loop-class.invariant.backed g pats st us backed);
 }
 
@@ -50,4 +50,4 @@ returns-clause-backed c g pats st us backed = c.in_ok-class.ensures.backed g pat
 pub returns-clause-seen : goal.returns-clause-seen
 returns-clause-seen c =
     let next = c.gain_at.new in
-    subst (AreSeenAfter c.args.uses.now next.seen next.fronts.spots next.coming c.args.time) c.in_default.is c.in_ok-class.ensures.seen
+    subst (AreSeenAfter c.args.uses.now next.seen.areas.items next.fronts.spots next.coming c.args.time) c.in_default.is c.in_ok-class.ensures.seen

@@ -7,6 +7,7 @@ use Rattle.lw_trade.specs.Points.{task}
 use Rattle.lw_trade.specs.Rows.{plain_rows}
 use Rattle.lw_trade.specs.Seen.{AreSeen}
 use Rattle.lw_trade.specs.Settling.{IsStillFor}
+use Rattle.lw_trade.specs.Tallies.{AreTallied}
 use Rattle.lw_trade.specs.Uses.{AreUses, turns_of}
 use Rattle.lw_trade.proofs.settling.settle_at.Given as goal
 
@@ -14,8 +15,8 @@ abbrev pub invariant-loop-class : goal.invariant-loop-class
 invariant-loop-class l = record {
   count : length l.fronts.least ≡ length l.initial.fronts.least;
   horizon : l.coming.horizon ≡ l.initial.coming.horizon;
-  one_each : length l.seen ≡ l.uses.members.count;
-  seen : AreSeen l.uses l.seen l.fronts.spots l.coming;
+  tallied : AreTallied l.lib (plain_rows l.rows) l.uses l.seen;
+  seen : AreSeen l.uses l.seen.areas.items l.fronts.spots l.coming;
   still : (g : Graph) (pats : List Pattern) → IsStillFor (task g pats l.lib l.starts) (plain_rows l.rows) l.time l.initial.fronts.spots (turns_of l.uses l.initial.coming l.initial.queue) → AreUses (task g pats l.lib l.starts) (plain_rows l.rows) l.uses → IsStillFor (task g pats l.lib l.starts) (plain_rows l.rows) l.time l.fronts.spots (turns_of l.uses l.coming l.queue);
   backed : (g : Graph) (pats : List Pattern) → IsStillFor (task g pats l.lib l.starts) (plain_rows l.rows) l.time l.initial.fronts.spots (turns_of l.uses l.initial.coming l.initial.queue) → AreUses (task g pats l.lib l.starts) (plain_rows l.rows) l.uses → AreBacked (task g pats l.lib l.starts) (plain_rows l.rows) l.initial.fronts.held → AreBacked (task g pats l.lib l.starts) (plain_rows l.rows) l.fronts.held;
 }

@@ -1,7 +1,7 @@
 use Rattle.std.proofs.Common.{◌≡◌, ◌∙◌, length, option_map, ap, subst, subst₂, arith}
 use Rattle.std.proofs.lemmas.List.{length-map}
 use Rattle.std.proofs.lemmas.Option.{slice_get-map}
-use Rattle.lw_trade.specs.Looks.{AreBriefs, AreMembersListed}
+use Rattle.lw_trade.specs.Looks.{AreOwnersListed}
 use Rattle.lw_trade.specs.Points.{task}
 use Rattle.lw_trade.specs.Rows.{plain_row, plain_rows}
 use Rattle.lw_trade.specs.Uses.{AreUsesTo}
@@ -33,12 +33,7 @@ pub looks_of-requires-clause-groups : goal.looks_of-requires-clause-groups
 looks_of-requires-clause-groups c = omega (arith, c.len-groups.ensures.len, c.loop-choice.invariant.are.count)
 
 pub looks_of-requires-clause-owners : goal.looks_of-requires-clause-owners
-looks_of-requires-clause-owners c = ap length c.as_slice-owners.ensures.value ∙ c.loop-choice.invariant.are.owners_each
-
-pub looks_of-requires-clause-firsts : goal.looks_of-requires-clause-firsts
-looks_of-requires-clause-firsts c =
-    let n : c.loop-choice.choice ≡ length c.args.rows.now = omega (arith, c.loop-choice-test.false, c.loop-choice.auto.choice-end) in
-    ap length c.as_slice-firsts.ensures.value ∙ (c.loop-choice.invariant.next ∙ n)
+looks_of-requires-clause-owners c = ap length c.as_slice.ensures.value ∙ c.loop-choice.invariant.are.owners_each
 
 pub returns-clause-uses : goal.returns-clause-uses
 returns-clause-uses c g pats starts =
@@ -51,8 +46,5 @@ returns-clause-uses c g pats starts =
     let count : c.len-groups.result ≡ u.members.count = omega (arith, c.len-groups.ensures.len, c.loop-choice.invariant.are.count) in
     record {
       pins = uses_looked u looks s xs (length xs) 0 pins;
-      looks = record {
-        briefs = subst (λ fs. AreBriefs c.args.lib.now fs xs looks.briefs.items) c.as_slice-firsts.ensures.value c.in_ok-looks.ensures.briefs;
-        listed = subst₂ (λ os m. AreMembersListed u.members.classes os m looks.starts.items looks.numbers.items) c.as_slice-owners.ensures.value count c.in_ok-looks.ensures.listed;
-      };
+      looks = subst₂ (λ os m. AreOwnersListed u.members.classes os m looks.starts.items looks.numbers.items) c.as_slice.ensures.value count c.in_ok-looks.ensures;
     }

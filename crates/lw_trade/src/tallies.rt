@@ -1,0 +1,90 @@
+// What is known of each choice while points are found: its class, and no more than its area by what
+// the groups of its pins have seen.
+ghost use Rattle.std.specs.Prelude.{◌≡◌, ◌+◌, ◌<◌, ◌≤◌, ℕ, List, All, IfOk, length, slice_index};
+ghost use Rattle.lw_trade.specs.Choices.{Choice};
+ghost use Rattle.lw_trade.specs.Looks.{AreLooks};
+ghost use Rattle.lw_trade.specs.Points.{Task};
+ghost use Rattle.lw_trade.specs.Pricing.{IsOfLibrary};
+ghost use Rattle.lw_trade.specs.Rows.{plain_part, plain_row, plain_rows};
+ghost use Rattle.lw_trade.specs.Tallies.{AreFirstTallies, AreTallies, HasFallen, IsFirstTally, IsLowered};
+ghost use Rattle.lw_trade.specs.Uses.{AreUses};
+
+use crate::choices::{Row, Stand};
+use crate::uses::Uses;
+use lw_genlib::Library;
+use lw_pool::ClassId;
+use std::alloc::{AllocError, Global};
+
+/// The class of a choice, and no more than the area of its cell and what the groups of its pins
+/// have seen together.
+#[derive(Clone, Copy, Debug)]
+pub(crate) struct Tally {
+    pub bound: u64,
+    pub class: ClassId,
+}
+
+// The greatest area that is kept of what a group has seen.
+pub(crate) const MOST_SEEN: u64 = 18_014_398_509_481_984;
+
+// What stands for a group that has seen no point: more than a cell and 16 pins have together that
+// have seen some.
+pub(crate) const UNSEEN: u64 = 576_460_752_303_423_488;
+
+// The tally of a choice whose groups have seen nothing.
+fn first_tally(lib: &Library, row: &Row) -> Tally
+    requires { IsOfLibrary lib.now (plain_part row.now.stand) }
+    ensures { IsFirstTally lib.now (plain_row row.now) result }
+{
+    let class = row.class;
+    match &row.stand {
+        Stand::Input(_) => Tally { bound: 0, class },
+        Stand::Gate(gate) => Tally {
+            bound: lib.cell(gate.cell).area().0.min(MOST_SEEN) + gate.pins.len() as u64 * UNSEEN,
+            class,
+        },
+    }
+}
+
+/// The tallies of choices whose groups have seen nothing.
+pub(crate) fn first_tallies(
+    alloc: Global,
+    rows: &[Row],
+    lib: &Library,
+) -> Result<Vec<Tally>, AllocError>
+    requires { All (λ (r : Row). IsOfLibrary lib.now (plain_part r.stand)) rows.now }
+    ensures { IfOk result (λ tallies. AreFirstTallies lib.now (plain_rows rows.now)
+        tallies.items) }
+{
+    let mut tallies = Vec::with_capacity(alloc, rows.len())?;
+    for row in rows {
+        tallies.push(first_tally(lib, row))?;
+    }
+    Ok(tallies)
+}
+
+// Lets the bound of a choice fall.
+fn lower_tally(tallies: &mut [Tally], number: u32, fall: u64)
+    ensures { IsLowered tallies.old tallies.new number fall }
+{
+    let number = number as usize;
+    if number >= tallies.len() {
+        return;
+    }
+    tallies[number].bound = tallies[number].bound.saturating_sub(fall);
+}
+
+/// Lets the bounds of the choices with a pin in a group fall by what the area fell that it has
+/// seen.
+pub(crate) fn lower_tallies(uses: &Uses, tallies: &mut [Tally], group: u32, fall: u64)
+    requires group { group < uses.now.members.count }
+    requires looks { AreLooks uses.now }
+    ensures { (s : Task) (xs : List Choice) (seen fallen : List ℕ) → AreUses s xs uses.now →
+        HasFallen group fall seen fallen → AreTallies s.cells xs uses.now seen tallies.old →
+        AreTallies s.cells xs uses.now fallen tallies.new }
+{
+    let first = uses.looks.starts[group as usize];
+    let end = uses.looks.starts[group as usize + 1];
+    for at in first..end {
+        lower_tally(tallies, uses.looks.numbers[at], fall);
+    }
+}
