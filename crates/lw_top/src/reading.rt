@@ -14,9 +14,6 @@ use std::alloc::{AllocError, Global};
 /// The most bytes of a file.
 const MAX_LEN: usize = 67_108_864;
 
-/// The most bytes that are read at once.
-const PIECE: usize = 4096;
-
 #[derive(Clone, Copy, Debug, PartialEq, Eq)]
 enum ReadError {
     Failed,
@@ -72,9 +69,9 @@ fn read_all<F: Shelf>(alloc: Global, shelf: &mut F) -> Result<Option<Vec<u8>>, R
         Rose (F.faults shelf.old) (F.faults shelf.new)) }
 {
     let mut text = Vec::new(alloc);
-    let mut buf = [0; PIECE];
+    let mut buf = [0; 4096];
     'pieces: while text.len() <= MAX_LEN {
-        let room = (MAX_LEN + 1 - text.len()).min(PIECE);
+        let room = (MAX_LEN + 1 - text.len()).min(4096);
         if read_piece(shelf, &mut text, &mut buf[..room])? == 0 {
             return Ok(Some(text));
         }
