@@ -1,5 +1,5 @@
 -- Bounds of choices fall with what the groups of their pins have seen.
-use Rattle.std.proofs.Common.{◌≡◌, ◌≢◌, ℕ, zero, suc, ◌+◌, ◌-◌, ◌*◌, ◌<◌, ◌≤◌, ◌⊎◌, inl, inr, min, Bool, length, replicate, List, [], ◌∷◌, ◌++◌, Some, slice_get, slice_index_or, slice_set, length-set, get_or-set_same, get_or-set_other, refl, ap, sym, ◌∙◌, subst, subst₂, arith}
+use Rattle.std.proofs.Common.{◌≡◌, ◌≢◌, ℕ, zero, suc, ◌+◌, ◌-◌, ◌*◌, ◌<◌, ◌≤◌, ◌⊎◌, inl, inr, length, replicate, List, [], ◌∷◌, ◌++◌, Some, slice_get, slice_index_or, slice_set, length-set, get_or-set_same, get_or-set_other, refl, ap, sym, ◌∙◌, subst, subst₂, arith}
 use native.Mathlib.Decide.{ℕ_discrete}
 use Rattle.std.proofs.lemmas.List.{get_or-replicate}
 use Rattle.std.proofs.lemmas.Option.{same_Some}
@@ -11,11 +11,11 @@ use Rattle.lw_trade.specs.declared.tallies.Tally.{Tally}
 use Rattle.lw_trade.specs.declared.uses.Uses.{Uses}
 use Rattle.lw_trade.specs.Choices.{Part, Choice}
 use Rattle.lw_trade.specs.Choices.Part.{input, gate}
-use Rattle.lw_trade.specs.Looks.{AreMembersListed, IsBetween, owners_of}
+use Rattle.lw_trade.specs.Looks.{AreMembersListed, IsBetween}
 use Rattle.lw_trade.specs.Points.{Task, timing}
 use Rattle.lw_trade.specs.Rows.{plain_row, plain_rows}
 use Rattle.lw_trade.specs.Seen.{seen_at, sum_seen}
-use Rattle.lw_trade.specs.Tallies.{AreFirstTallies, AreTallies, HasFallen, IsFirstTally, IsLowered, IsTally, first_of, own_area, pin_count, unseen}
+use Rattle.lw_trade.specs.Tallies.{AreFirstTallies, AreTallies, HasFallen, IsFirstTally, IsLowered, first_of, own_area, pin_count, unseen}
 use Rattle.lw_trade.specs.Uses.{AreUses, HasUse}
 use Rattle.lw_trade.proofs.Lists.{get_in, get_some, push_cases, set_cases}
 

@@ -1,4 +1,4 @@
-use Rattle.std.proofs.Common.{◌≡◌, ◌<◌, length, slice_get, slice_index_or, ap, sym, ◌∙◌, subst, subst₂, arith}
+use Rattle.std.proofs.Common.{length, slice_get, slice_index_or, ap, sym, ◌∙◌, subst, subst₂, arith}
 use Rattle.lw_trade.specs.declared.walking.Node.{Node}
 use Rattle.lw_trade.specs.Checks.{IsNodeRight, IsOwned, IsUsedEarlier}
 use Rattle.lw_trade.proofs.Lists.{got, read_at}

@@ -1,6 +1,6 @@
-use Rattle.std.proofs.Common.{◌≡◌, ◌+◌, ◌<◌, ◌∙◌, length, refl, sym, ap, subst, arith}
+use Rattle.std.proofs.Common.{◌≡◌, ◌+◌, ◌∙◌, length, refl, sym, ap, subst, arith}
 use Rattle.lw_pool.specs.Numbers.{numbers}
-use Rattle.lw_settle.specs.Stores.{IsFound, StoreState, placed, pins_of}
+use Rattle.lw_settle.specs.Stores.{IsFound, placed, pins_of}
 use Rattle.lw_trade.specs.Choices.{Choice}
 use Rattle.lw_trade.specs.Choices.Part.{gate}
 use Rattle.lw_trade.specs.Points.{task}

@@ -1,4 +1,4 @@
-use Rattle.std.proofs.Common.{◌≡◌, ◌∷◌, ◌++◌, [], ◌<◌, ◌∙◌, length, ap, slice_index_or, sym, subst, arith}
+use Rattle.std.proofs.Common.{sym, subst}
 use Rattle.lw_trade.specs.Links.{IsLast}
 use Rattle.lw_trade.proofs.Members.{AreAdding, adding_next}
 use Rattle.lw_trade.proofs.looks.list_group.Goals as goal

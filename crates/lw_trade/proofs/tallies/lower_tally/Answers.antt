@@ -1,6 +1,5 @@
-use Rattle.std.proofs.Common.{◌≡◌, ◌<◌, length, arith}
-use Rattle.lw_trade.proofs.Falling.{lowered_none, lowered_set}
-use Rattle.lw_trade.proofs.Lists.{got, read_at}
+use Rattle.std.proofs.Common.{arith}
+use Rattle.lw_trade.proofs.Falling.{lowered_none}
 use Rattle.lw_trade.proofs.tallies.lower_tally.Goals as goal
 
 pub returns-then-number-tallies : goal.returns-then-number-tallies
