@@ -1,5 +1,5 @@
 -- What the chosen matches give: classes in range with nets, and the netlist of the gates.
-use Rattle.std.proofs.Common.{ℕ, ◌+◌, ◌<◌, ◌≤◌, ◌≡◌, inl, inr, List, ◌++◌, length, map, All, Option, Some, None, IsSome, slice_get, slice_index_or, refl, ap, sym, ◌∙◌, subst, arith, length-append}
+use Rattle.std.proofs.Common.{ℕ, ◌+◌, ◌<◌, ◌≤◌, ◌≡◌, List, ◌++◌, length, map, All, Option, Some, None, IsSome, slice_get, slice_index_or, refl, ap, sym, ◌∙◌, subst, arith, length-append}
 use Rattle.std.specs.List.{AllZip}
 use Rattle.std.proofs.lemmas.List.{length-map}
 use Rattle.std.proofs.lemmas.List.Elements.{All-from_recursion}
@@ -12,8 +12,9 @@ use Rattle.lw_laws.specs.Costs.{Cost}
 use Rattle.lw_laws.specs.Covers.{Pattern, HasPins}
 use Rattle.lw_laws.specs.Names.{net_names}
 use Rattle.lw_laws.specs.Netlists as laws
-use Rattle.lw_laws.specs.Extracts.{Match, IsChosen, IsLeafClass, IsNeeded, IsGateBefore, AreGateClasses, IsExtracted, IsNetOf}
+use Rattle.lw_laws.specs.Extracts.{Match, IsChosen, IsLeafClass, IsNeeded, AreGateClasses, IsExtracted, IsNetOf}
 use Rattle.lw_laws.specs.Extracts.IsNeeded.{by_root, by_pin}
+use Rattle.lw_laws.proofs.ExtractLaws.{gate_once}
 use Rattle.lw_laws.proofs.Extracts.{extracted_ordered}
 use Rattle.lw_laws.proofs.Numbers.{slice_get_map, slice_get_map_back}
 use Rattle.lw_match.specs.declared.mark.Mark.{Mark}
@@ -35,10 +36,6 @@ use Rattle.lw_extract.proofs.ClassNets.{some_is, not_none}
 use Rattle.lw_naming.proofs.NameCount.{name_count}
 use Rattle.lw_extract.proofs.Places.{all_places, place_beside, zip_read, zip_maps, zip_right, from_all_map, few_distinct}
 use Rattle.lw_pool.specs.Numbers.{numbers, net_number}
-
-not_before_itself : (heights : ℕ → ℕ) (c : ℕ) → IsGateBefore heights c c → ⊥
-not_before_itself heights c (inl lt) = omega arith
-not_before_itself heights c (inr (same, lt)) = omega arith
 
 -- What the parts of the netlist are: the gates of the matches, and the outputs at the nets of their roots.
 pub record AreParts (g : Graph) (pats : List Pattern) (ports : Ports) (chosen : List Chosen) (nets : Nets) (n : NetlistParts) : Type 0 where
@@ -71,7 +68,9 @@ module _ (g : Graph) (cost : Cost) (pats : List Pattern) (marks : List (Option M
       omega arith
     where
       apart : (i j c : ℕ) → slice_get (chosen_classes chosen) i ≡ Some c → slice_get (chosen_classes chosen) j ≡ Some c → i < j → ⊥
-      apart i j c a b lt = not_before_itself (heights marks) c (are.gate_classes.sorted i j c c a b lt)
+      apart i j c a b lt =
+          let same = gate_once g cost pats (labels marks) (heights marks) (numbers roots) (chosen_classes chosen) are.gate_classes i j c a b in
+          omega (arith, same, lt)
 
       below : (i c : ℕ) → slice_get (chosen_classes chosen) i ≡ Some c → c < length g.pairs
       below i c at =

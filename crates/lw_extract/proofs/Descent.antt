@@ -13,20 +13,20 @@ use Rattle.lw_laws.specs.Extracts.{IsChosen, IsLeafClass, IsNeeded, IsGateBefore
 use Rattle.lw_laws.specs.Extracts.IsNeeded.{by_root, by_pin}
 use Rattle.lw_laws.proofs.Extracts.{IsChosen_once}
 use Rattle.lw_laws.proofs.Lists.{all_contains}
+use Rattle.lw_naming.specs.declared.places.Place.{Place}
+use Rattle.lw_naming.specs.Needed.{IsNoted, AreNoted, AreRoots, HasAlso}
+use Rattle.lw_naming.specs.Places.{IsPlaceBefore}
+use Rattle.lw_naming.proofs.Noting.{still_noted}
 use Rattle.lw_match.specs.declared.mark.Mark.{Mark}
 use Rattle.lw_match.specs.declared.mark.Match.{Match}
 use Rattle.lw_match.specs.Values.{plain_match}
 use Rattle.lw_extract.specs.declared.choosing.Chosen.{Chosen}
-use Rattle.lw_extract.specs.declared.ordering.Place.{Place}
-use Rattle.lw_extract.specs.Choosing.{labels, heights, chosen_classes, AreChosen, AreRoots, HasAlso, IsChoice}
+use Rattle.lw_extract.specs.Choosing.{labels, heights, chosen_classes, AreChosen, IsChoice}
 use Rattle.lw_extract.specs.Nets.{AreInputNets}
-use Rattle.lw_extract.specs.Orders.{IsPlaceBefore, ArePlaces, AreByHeight}
+use Rattle.lw_extract.specs.Orders.{ArePlaces, AreByHeight}
 use Rattle.lw_extract.proofs.Picking.{height_at, mark_at, pin_label, pins_below, root_mark}
 use Rattle.lw_extract.proofs.Sorting.{seen_place, back_place, before_seen}
 use Rattle.lw_pool.specs.Numbers.{numbers}
-
-abbrev IsNoted : List Bool → ℕ → Type 0
-IsNoted needed c = slice_index_or needed c false ≡ true
 
 -- the gate of a place's class
 abbrev pub gate_at : Place → Match → Chosen
@@ -40,8 +40,8 @@ module _ (g : Graph) (cost : Cost) (pats : List Pattern) (marks : List (Option M
   pub record IsDown (seen : List Place) (needed : List Bool) (ups : List Chosen) : Type 0 where
     pub one_each : length needed ≡ length g.pairs
     pub sound : (c : ℕ) → IsNoted needed c → Needed c
-    pub at_roots : (c : ℕ) → Contains (numbers roots) c → IsNoted needed c
-    pub at_pins : (x : Chosen) → Contains ups x → (q : ℕ) → Contains (numbers x.found.pins) q → IsNoted needed q
+    pub at_roots : AreNoted needed (numbers roots)
+    pub at_pins : (x : Chosen) → Contains ups x → AreNoted needed (numbers x.found.pins)
     pub each : (x : Chosen) → Contains ups x → IsChoice g cost pats marks x.class.0 x.found
     pub noted : (x : Chosen) → Contains ups x → IsNoted needed x.class.0
     pub place : (x : Chosen) → Contains ups x → (p : Place) × Contains seen p × (p.class.0 ≡ x.class.0)
@@ -80,11 +80,11 @@ module _ (g : Graph) (cost : Cost) (pats : List Pattern) (marks : List (Option M
       all_at q e (inr s) = absurd (true≢false (sym e ∙ (ap (λ (z : Place). slice_index_or needed z.class.0 false) (sym s) ∙ not)))
 
   -- a place of a needed class
-  pub down_take : (seen : List Place) (needed new : List Bool) (ups : List Chosen) (p : Place) (found : Match) → slice_index_or needed p.class.0 false ≡ true → (IsLeafClass g p.class.0 → ⊥) → IsChoice g cost pats marks p.class.0 found → HasAlso needed found.pins new → heights marks p.class.0 ≡ p.height → ((q : Place) → Contains seen q → heights marks q.class.0 ≡ q.height) → ((q : Place) → Contains seen q → IsPlaceBefore p q) → IsDown seen needed ups → IsDown (seen ++ p ∷ []) new (gate_at p found ∷ ups)
+  pub down_take : (seen : List Place) (needed new : List Bool) (ups : List Chosen) (p : Place) (found : Match) → slice_index_or needed p.class.0 false ≡ true → (IsLeafClass g p.class.0 → ⊥) → IsChoice g cost pats marks p.class.0 found → HasAlso needed found.pins new → heights marks p.class.0 ≡ p.depth → ((q : Place) → Contains seen q → heights marks q.class.0 ≡ q.depth) → ((q : Place) → Contains seen q → IsPlaceBefore p q) → IsDown seen needed ups → IsDown (seen ++ p ∷ []) new (gate_at p found ∷ ups)
   down_take seen needed new ups p found noted out (pattern, chosen) also high high_seen before is = record {
     one_each = also.one_each ∙ is.one_each;
     sound = λ c e. sound c ((also.are c).0 e);
-    at_roots = λ c k. kept c (is.at_roots c k);
+    at_roots = λ c k. still_noted also c (is.at_roots c k);
     at_pins = λ y k. at_pins y (contains_cases (gate_at p found) ups y k);
     each = λ y k. each y (contains_cases (gate_at p found) ups y k);
     noted = λ y k. noted_at y (contains_cases (gate_at p found) ups y k);
@@ -93,30 +93,27 @@ module _ (g : Graph) (cost : Cost) (pats : List Pattern) (marks : List (Option M
     sorted = sorted;
   }
     where
-      kept : (c : ℕ) → IsNoted needed c → IsNoted new c
-      kept c e = (also.are c).1 (inl e)
-
       sound : (c : ℕ) → IsNoted needed c ⊎ Contains (numbers found.pins) c → Needed c
       sound c (inl e) = is.sound c e
       sound c (inr k) = by_pin {c = p.class.0} {q = c} {m = plain_match found} {p = pattern} (is.sound p.class.0 noted) out chosen k
 
-      at_pins : (y : Chosen) → (gate_at p found ≡ y) ⊎ Contains ups y → (q : ℕ) → Contains (numbers y.found.pins) q → IsNoted new q
+      at_pins : (y : Chosen) → (gate_at p found ≡ y) ⊎ Contains ups y → AreNoted new (numbers y.found.pins)
       at_pins y (inl s) q i = (also.are q).1 (inr (subst (λ (z : Chosen). Contains (numbers z.found.pins) q) (sym s) i))
-      at_pins y (inr k) q i = kept q (is.at_pins y k q i)
+      at_pins y (inr k) q i = still_noted also q (is.at_pins y k q i)
 
       each : (y : Chosen) → (gate_at p found ≡ y) ⊎ Contains ups y → IsChoice g cost pats marks y.class.0 y.found
       each y (inl s) = subst (λ (z : Chosen). IsChoice g cost pats marks z.class.0 z.found) s (pattern, chosen)
       each y (inr k) = is.each y k
 
       noted_at : (y : Chosen) → (gate_at p found ≡ y) ⊎ Contains ups y → IsNoted new y.class.0
-      noted_at y (inl s) = subst (λ (z : Chosen). IsNoted new z.class.0) s (kept p.class.0 noted)
-      noted_at y (inr k) = kept y.class.0 (is.noted y k)
+      noted_at y (inl s) = subst (λ (z : Chosen). IsNoted new z.class.0) s (still_noted also p.class.0 noted)
+      noted_at y (inr k) = still_noted also y.class.0 (is.noted y k)
 
       place : (y : Chosen) → (gate_at p found ≡ y) ⊎ Contains ups y → (q : Place) × Contains (seen ++ p ∷ []) q × (q.class.0 ≡ y.class.0)
       place y (inl s) = (p, Contains-push seen p, ap (λ (z : Chosen). z.class.0) s)
       place y (inr k) = let (q, at, e) = is.place y k in (q, Contains-append_left seen (p ∷ []) q at, e)
 
-      not_pin : (q : Place) → IsPlaceBefore p q → heights marks q.class.0 ≡ q.height → Contains (numbers found.pins) q.class.0 → ⊥
+      not_pin : (q : Place) → IsPlaceBefore p q → heights marks q.class.0 ≡ q.depth → Contains (numbers found.pins) q.class.0 → ⊥
       not_pin q (inl lt) same k = let lower = all_contains (λ d. suc (heights marks d) ≤ heights marks p.class.0) (numbers found.pins) q.class.0 chosen.supports.lower k in omega (arith, lower, high, same, lt)
       not_pin q (inr (e, lt)) same k = let lower = all_contains (λ d. suc (heights marks d) ≤ heights marks p.class.0) (numbers found.pins) q.class.0 chosen.supports.lower k in omega (arith, lower, high, same, e)
 
@@ -125,7 +122,7 @@ module _ (g : Graph) (cost : Cost) (pats : List Pattern) (marks : List (Option M
       all_at q (inl e) (inl k) = let (y, at, f) = is.all q k e in (y, contains_tail (gate_at p found) ups y at, f)
       all_at q (inr i) (inl k) = absurd (not_pin q (before q k) (high_seen q k) i)
 
-      gate_before : (q : Place) → IsPlaceBefore p q → heights marks q.class.0 ≡ q.height → IsGateBefore (heights marks) p.class.0 q.class.0
+      gate_before : (q : Place) → IsPlaceBefore p q → heights marks q.class.0 ≡ q.depth → IsGateBefore (heights marks) p.class.0 q.class.0
       gate_before q (inl lt) same = inl (omega (arith, high, same, lt))
       gate_before q (inr (e, lt)) same = inr (high ∙ (e ∙ sym same), lt)
 
@@ -212,7 +209,7 @@ module _ (g : Graph) (cost : Cost) (pats : List Pattern) (marks : List (Option M
   pub turn_mark : (k : ℕ) (p : Place) → IsTurn places k p → (m : Mark) × (slice_index_or marks p.class.0 None ≡ Some m)
   turn_mark k p turn = let (m, at, high, net) = ready.2.are.each p (turn_in k p turn) in (m, at)
 
-  high_in : (p : Place) → Contains places p → heights marks p.class.0 ≡ p.height
+  high_in : (p : Place) → Contains places p → heights marks p.class.0 ≡ p.depth
   high_in p inside = let (m, at, high, net) = ready.2.are.each p inside in height_at marks p.class.0 m at ∙ sym high
 
   pub turn_no_leaf : (k : ℕ) (p : Place) → IsTurn places k p → IsLeafClass g p.class.0 → ⊥
@@ -254,7 +251,7 @@ module _ (g : Graph) (cost : Cost) (pats : List Pattern) (marks : List (Option M
       let k = length ys in
       let size : length (reverse places) ≡ length places = length-reverse places in
       let back : reverse more ≡ gate_at p found ∷ reverse chosen = ap reverse pushed ∙ reverse-append chosen (gate_at p found ∷ []) in
-      subst (λ (seen : List Place). IsDown g cost pats marks roots seen new (reverse more)) (sym (seen_more ys y places p turn)) (subst (λ (ups : List Chosen). IsDown g cost pats marks roots (take k (reverse places) ++ p ∷ []) new ups) (sym back) (down_take g cost pats marks roots (take k (reverse places)) needed new (reverse chosen) p found noted (turn_no_leaf k p turn) choice also (high_in p (turn_in k p turn)) (λ q at. high_in q (seen_place places k q at)) (λ q at. subst (λ (z : Place). IsPlaceBefore z q) (sym turn.1) (before_seen ready.0 marks places ready.2 k p q (omega (arith, turn.0, size)) at)) is))
+      subst (λ (seen : List Place). IsDown g cost pats marks roots seen new (reverse more)) (sym (seen_more ys y places p turn)) (subst (λ (ups : List Chosen). IsDown g cost pats marks roots (take k (reverse places) ++ p ∷ []) new ups) (sym back) (down_take g cost pats marks roots (take k (reverse places)) needed new (reverse chosen) p found noted (turn_no_leaf k p turn) choice also (high_in p (turn_in k p turn)) (λ q at. high_in q (seen_place places k q at)) (λ q at. subst (λ (z : Place). IsPlaceBefore z q) (sym turn.1) (before_seen places ready.2.sorted k p q (omega (arith, turn.0, size)) at)) is))
 
   pub turns_end : (count : ℕ) (needed : List Bool) (chosen : List Chosen) → count ≡ length (reverse places) → All (λ (root : ClassId). IsSome (slice_index_or marks root.0 None)) roots → DownAt (take count (reverse places)) needed chosen → AreChosen g cost pats marks roots (reverse chosen)
   turns_end count needed chosen all covered is =

@@ -1,6 +1,5 @@
 pub mod Arriving
 mod Descent
-mod Noting
 mod Picking
 mod Sorting
 mod Assembly

@@ -1,57 +1,46 @@
 -- The classes with marks that are no input's, in the order of their numbers and then by height.
-use Rattle.std.proofs.Common.{ℕ, ◌+◌, ◌-◌, ◌^◌, ◌<◌, ◌≤◌, ◌≡◌, ◌==◌, ◌⊎◌, inl, inr, Bool, true, false, List, [], ◌∷◌, ◌++◌, length, take, reverse, get_or, Contains, Option, Some, None, is_some, slice_get, slice_index_or, refl, ap, sym, ◌∙◌, subst, arith, true≢false}
-use native.Mathlib.Decide.{dec_lt}
-use Rattle.std.specs.List.{IsDistinct}
-use Rattle.std.specs.List.Sorted.{IsPermutation, IsNonDecreasingBy}
+use Rattle.std.proofs.Common.{ℕ, ◌+◌, ◌-◌, ◌^◌, ◌<◌, ◌≤◌, ◌≡◌, ◌⊎◌, inl, inr, List, [], ◌∷◌, ◌++◌, length, take, reverse, get_or, All, Contains, Option, Some, None, slice_get, slice_index_or, ap, sym, ◌∙◌, subst, arith}
+use Rattle.std.specs.List.Sorted.{IsPermutation}
 use Rattle.std.proofs.lemmas.Bool.{cases_eq}
 use Rattle.std.proofs.lemmas.List.Elements.{Contains-push, Contains-push_cases, Contains-append_left}
 use Rattle.std.proofs.lemmas.List.Sorted.{Contains-permutation, IsPermutation-sym}
-use Rattle.std.proofs.lemmas.Map.Keys.{IsDistinct-from_apart, IsDistinct-IsPermutation, apart_from_distinct}
-use Rattle.std.proofs.lemmas.Option.{none-some, slice_get_within, slice_get-get_or, get_or_from_slice_get}
-use Rattle.lw_facts.proofs.Lists.{get_reverse, contains_take_reverse, some_within, at_contained, get_push_cases}
+use Rattle.std.proofs.lemmas.Option.{slice_get-get_or}
+use Rattle.lw_facts.proofs.Lists.{get_reverse, contains_take_reverse, some_within, at_contained}
 use Rattle.lw_pool.specs.declared.id.NetId.{NetId}
+use Rattle.lw_naming.specs.declared.places.Place.{Place}
+use Rattle.lw_naming.specs.Places.{IsPlaceBefore, AreInDepthOrder}
+use Rattle.lw_naming.proofs.Sorting.{AreInOrderBelow, in_order_none, in_order_push, in_order_skip}
 use Rattle.lw_match.specs.declared.mark.Mark.{Mark}
-use Rattle.lw_extract.specs.declared.ordering.Place.{Place}
-use Rattle.lw_extract.specs.Orders.{place_key, IsPlaceBefore, AreMarked, AreByHeight}
-
-pub some_not_none : {X : Type 0} (o : Option X) → is_some o ≡ true → o ≡ None → ⊥
-some_not_none o e f = true≢false (sym e ∙ ap is_some f)
+use Rattle.lw_extract.specs.Orders.{ArePlaces, AreMarked}
 
 module _ (nets : List (Option NetId)) (marks : List (Option Mark)) where
   -- the places of the classes below a number
   pub record AreMarkedBelow (count : ℕ) (places : List Place) : Type 0 where
-    pub below : (p : Place) → Contains places p → p.class.0 < count
-    pub each : (p : Place) → Contains places p → (m : Mark) × (slice_index_or marks p.class.0 None ≡ Some m) × (p.height ≡ m.height) × (slice_index_or nets p.class.0 None ≡ None)
+    pub order : AreInOrderBelow count places
+    pub each : (p : Place) → Contains places p → (m : Mark) × (slice_index_or marks p.class.0 None ≡ Some m) × (p.depth ≡ m.height) × (slice_index_or nets p.class.0 None ≡ None)
     pub all : (c : ℕ) (m : Mark) → c < count → slice_index_or marks c None ≡ Some m → slice_index_or nets c None ≡ None → (p : Place) × Contains places p × (p.class.0 ≡ c)
-    pub rising : (i j : ℕ) (p q : Place) → slice_get places i ≡ Some p → slice_get places j ≡ Some q → i < j → p.class.0 < q.class.0
 
   pub marked_none : AreMarkedBelow 0 []
   marked_none = record {
-    below = λ p (k, lt, e). absurd (omega arith);
+    order = in_order_none;
     each = λ p (k, lt, e). absurd (omega arith);
     all = λ c m lt e f. absurd (omega arith);
-    rising = λ i j p q e f lt. absurd (none-some p e);
   }
 
   -- the next class has a mark and is no input's
-  pub marked_push : (count : ℕ) (places : List Place) (p : Place) (m : Mark) → p.class.0 ≡ count → slice_index_or marks count None ≡ Some m → p.height ≡ m.height → slice_index_or nets count None ≡ None → AreMarkedBelow count places → AreMarkedBelow (count + 1) (places ++ p ∷ [])
+  pub marked_push : (count : ℕ) (places : List Place) (p : Place) (m : Mark) → p.class.0 ≡ count → slice_index_or marks count None ≡ Some m → p.depth ≡ m.height → slice_index_or nets count None ≡ None → AreMarkedBelow count places → AreMarkedBelow (count + 1) (places ++ p ∷ [])
   marked_push count places p m is mark height net are = record {
-    below = λ q k. below_at q (Contains-push_cases places p q k);
+    order = in_order_push count places p is are.order;
     each = λ q k. each_at q (Contains-push_cases places p q k);
     all = λ c n lt e f. all_at c n lt e f (cases_eq c count);
-    rising = λ i j q r e f lt. rising_at i j q r lt (get_push_cases places p i q e) (get_push_cases places p j r f);
   }
     where
-      below_at : (q : Place) → Contains places q ⊎ (p ≡ q) → q.class.0 < count + 1
-      below_at q (inl k) = let lt = are.below q k in omega arith
-      below_at q (inr e) = let s : p.class.0 ≡ q.class.0 = ap (λ (z : Place). z.class.0) e in omega (arith, s, is)
-
-      here : (n : Mark) × (slice_index_or marks p.class.0 None ≡ Some n) × (p.height ≡ n.height) × (slice_index_or nets p.class.0 None ≡ None)
+      here : (n : Mark) × (slice_index_or marks p.class.0 None ≡ Some n) × (p.depth ≡ n.height) × (slice_index_or nets p.class.0 None ≡ None)
       here = (m, ap (λ n. slice_index_or marks n None) is ∙ mark, height, ap (λ n. slice_index_or nets n None) is ∙ net)
 
-      each_at : (q : Place) → Contains places q ⊎ (p ≡ q) → (n : Mark) × (slice_index_or marks q.class.0 None ≡ Some n) × (q.height ≡ n.height) × (slice_index_or nets q.class.0 None ≡ None)
+      each_at : (q : Place) → Contains places q ⊎ (p ≡ q) → (n : Mark) × (slice_index_or marks q.class.0 None ≡ Some n) × (q.depth ≡ n.height) × (slice_index_or nets q.class.0 None ≡ None)
       each_at q (inl k) = are.each q k
-      each_at q (inr e) = subst (λ (z : Place). (n : Mark) × (slice_index_or marks z.class.0 None ≡ Some n) × (z.height ≡ n.height) × (slice_index_or nets z.class.0 None ≡ None)) e here
+      each_at q (inr e) = subst (λ (z : Place). (n : Mark) × (slice_index_or marks z.class.0 None ≡ Some n) × (z.depth ≡ n.height) × (slice_index_or nets z.class.0 None ≡ None)) e here
 
       all_at : (c : ℕ) (n : Mark) → c < count + 1 → slice_index_or marks c None ≡ Some n → slice_index_or nets c None ≡ None → (c ≡ count) ⊎ (c ≡ count → ⊥) → (q : Place) × Contains (places ++ p ∷ []) q × (q.class.0 ≡ c)
       all_at c n lt e f (inl s) = (p, Contains-push places p, is ∙ sym s)
@@ -59,22 +48,12 @@ module _ (nets : List (Option NetId)) (marks : List (Option Mark)) where
           let (q, k, s) = are.all c n (omega (arith, lt, other)) e f in
           (q, Contains-append_left places (p ∷ []) q k, s)
 
-      rising_at : (i j : ℕ) (q r : Place) → i < j → (slice_get places i ≡ Some q) ⊎ ((i ≡ length places) × (p ≡ q)) → (slice_get places j ≡ Some r) ⊎ ((j ≡ length places) × (p ≡ r)) → q.class.0 < r.class.0
-      rising_at i j q r lt (inl e) (inl f) = are.rising i j q r e f lt
-      rising_at i j q r lt (inl e) (inr (s, f)) =
-          let low = are.below q (at_contained places i q e) in
-          let t : p.class.0 ≡ r.class.0 = ap (λ (z : Place). z.class.0) f in
-          omega (arith, low, t, is)
-      rising_at i j q r lt (inr (s, e)) (inl f) = let in' = slice_get_within places j r f in absurd (omega (arith, in', s, lt))
-      rising_at i j q r lt (inr (s, e)) (inr (t, f)) = absurd (omega (arith, s, t, lt))
-
   -- the next class has no mark or is an input's
   pub marked_skip : (count : ℕ) (places : List Place) → ((m : Mark) → slice_index_or marks count None ≡ Some m → slice_index_or nets count None ≡ None → ⊥) → AreMarkedBelow count places → AreMarkedBelow (count + 1) places
   marked_skip count places none are = record {
-    below = λ q k. let lt = are.below q k in omega (arith, lt);
+    order = in_order_skip count places are.order;
     each = are.each;
     all = λ c m lt e f. all_at c m lt e f (cases_eq c count);
-    rising = are.rising;
   }
     where
       all_at : (c : ℕ) (n : Mark) → c < count + 1 → slice_index_or marks c None ≡ Some n → slice_index_or nets c None ≡ None → (c ≡ count) ⊎ (c ≡ count → ⊥) → (q : Place) × Contains places q × (q.class.0 ≡ c)
@@ -87,64 +66,28 @@ module _ (nets : List (Option NetId)) (marks : List (Option Mark)) where
       each = are.each;
       all = λ c m e f. let in' = some_within marks c m e in are.all c m (omega (arith, in', all)) e f;
     };
-    rising = are.rising;
+    rising = are.order.rising;
   }
 
-  -- the same places by their keys
-  abbrev is_of_one : Place → Place → Bool
-  is_of_one p q = p.class.0 == q.class.0
+  -- the classes have small numbers
+  pub marked_small : (places : List Place) → length marks < 2 ^ 32 → ArePlaces nets marks places → All (λ (p : Place). p.class.0 < 2 ^ 32) places
+  marked_small places few are i d lt =
+      let p = get_or places i d in
+      let (m, at, high, net) = are.each p (at_contained places i p (slice_get-get_or places i d lt)) in
+      let low = some_within marks p.class.0 m at in
+      omega (arith, low, few)
 
-  one_flips : (p q : Place) → is_of_one p q ≡ is_of_one q p
-  one_flips p q = by_tests (p.class.0 == q.class.0) (q.class.0 == p.class.0) refl refl
-    where
-      by_tests : (a b : Bool) → (p.class.0 == q.class.0) ≡ a → (q.class.0 == p.class.0) ≡ b → (p.class.0 == q.class.0) ≡ (q.class.0 == p.class.0)
-      by_tests true true e f = e ∙ sym f
-      by_tests false false e f = e ∙ sym f
-      by_tests true false e f = grind (arith, e, f)
-      by_tests false true e f = grind (arith, e, f)
-
-  differ : (p q : Place) → is_of_one p q ≡ false → p.class.0 ≡ q.class.0 → ⊥
-  differ p q e s = grind (arith, e, s)
-
-  one_differ : (p q : Place) → p.class.0 < q.class.0 → is_of_one p q ≡ false
-  one_differ p q lt = grind (arith, lt)
-
-  key_before : (p q : Place) → p.class.0 < 2 ^ 32 → q.class.0 < 2 ^ 32 → place_key p ≤ place_key q → (p.class.0 ≡ q.class.0 → ⊥) → IsPlaceBefore p q
-  key_before p q a b le other = by_height (dec_lt p.height q.height)
-    where
-      by_height : Dec (p.height < q.height) → IsPlaceBefore p q
-      by_height (yes lt) = inl lt
-      by_height (no not) = inr (omega arith, omega arith)
-
-  pub sorted_places : (places rows : List Place) → length marks < 2 ^ 32 → AreMarked nets marks places → IsPermutation places rows → IsNonDecreasingBy place_key rows → AreByHeight nets marks rows
-  sorted_places places rows few marked moved up = record {
-    are = record {
-      each = each;
-      all = λ c m e f. let (p, k, s) = marked.are.all c m e f in (p, Contains-permutation places rows p moved k, s);
-    };
-    sorted = λ i j p q e f lt.
-        let (m, at_p, high_p, net_p) = each p (at_contained rows i p e) in
-        let (n, at_q, high_q, net_q) = each q (at_contained rows j q f) in
-        let low = some_within marks p.class.0 m at_p in
-        let low' = some_within marks q.class.0 n at_q in
-        let in' = slice_get_within rows j q f in
-        let read_p : get_or rows i p ≡ p = get_or_from_slice_get rows i p p e in
-        let read_q : get_or rows j p ≡ q = get_or_from_slice_get rows j q p f in
-        let key : place_key p ≤ place_key q = subst (λ (z : Place). place_key z ≤ place_key q) read_p (subst (λ (z : Place). place_key (get_or rows i p) ≤ place_key z) read_q (up i j p (omega (arith, lt)) in')) in
-        let apart : is_of_one p q ≡ false = subst (λ (z : Place). is_of_one z q ≡ false) read_p (subst (λ (z : Place). is_of_one (get_or rows i p) z ≡ false) read_q (apart_from_distinct is_of_one rows i j p distinct lt in')) in
-        key_before p q (omega (arith, low, few)) (omega (arith, low', few)) key (differ p q apart);
+  -- the same places in another order
+  pub marked_moved : (places rows : List Place) → IsPermutation places rows → ArePlaces nets marks places → ArePlaces nets marks rows
+  marked_moved places rows moved are = record {
+    each = λ p k. are.each p (Contains-permutation rows places p (IsPermutation-sym places rows moved) k);
+    all = λ c m e f. let (p, k, s) = are.all c m e f in (p, Contains-permutation places rows p moved k, s);
   }
-    where
-      each : (p : Place) → Contains rows p → (m : Mark) × (slice_index_or marks p.class.0 None ≡ Some m) × (p.height ≡ m.height) × (slice_index_or nets p.class.0 None ≡ None)
-      each p k = marked.are.each p (Contains-permutation rows places p (IsPermutation-sym places rows moved) k)
 
-      distinct : IsDistinct is_of_one rows
-      distinct = IsDistinct-IsPermutation is_of_one one_flips places rows moved (IsDistinct-from_apart is_of_one places (λ i j d lt in'. one_differ (get_or places i d) (get_or places j d) (marked.rising i j (get_or places i d) (get_or places j d) (slice_get-get_or places i d (omega (arith, lt, in'))) (slice_get-get_or places j d in') lt)))
-
-pub before_seen : (nets : List (Option NetId)) (marks : List (Option Mark)) (places : List Place) → AreByHeight nets marks places → (k : ℕ) (d q : Place) → k < length places → Contains (take k (reverse places)) q → IsPlaceBefore (get_or (reverse places) k d) q
-before_seen nets marks places are k d q lt seen =
+pub before_seen : (places : List Place) → AreInDepthOrder places → (k : ℕ) (d q : Place) → k < length places → Contains (take k (reverse places)) q → IsPlaceBefore (get_or (reverse places) k d) q
+before_seen places sorted k d q lt seen =
     let (i, low, in', at) = contains_take_reverse places k q seen in
-    are.sorted (length places - 1 - k) (length places - 1 - i) (get_or (reverse places) k d) q (get_reverse places k d lt) at (omega arith)
+    sorted (length places - 1 - k) (length places - 1 - i) (get_or (reverse places) k d) q (get_reverse places k d lt) at (omega arith)
 
 pub seen_place : (places : List Place) (k : ℕ) (q : Place) → Contains (take k (reverse places)) q → Contains places q
 seen_place places k q seen = let (i, low, in', at) = contains_take_reverse places k q seen in at_contained places (length places - 1 - i) q at

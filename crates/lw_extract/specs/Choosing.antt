@@ -1,5 +1,5 @@
 -- The needed classes with their chosen matches, and how they are found from the highest down.
-use Rattle.std.specs.Prelude.{ℕ, ◌≡◌, ◌⊎◌, ◌↔◌, Bool, true, false, List, Contains, length, map, Option, Some, slice_get, slice_index_or}
+use Rattle.std.specs.Prelude.{ℕ, ◌≡◌, List, map, Option, Some, slice_get}
 use Rattle.lw_pool.specs.declared.id.ClassId.{ClassId}
 use Rattle.lw_laws.specs.Graphs.{Graph}
 use Rattle.lw_laws.specs.Costs.{Cost}
@@ -33,13 +33,3 @@ chosen_classes chosen = map (λ (x : Chosen). x.class.0) chosen
 pub record AreChosen (g : Graph) (cost : Cost) (pats : List Pattern) (marks : List (Option Mark)) (roots : List ClassId) (chosen : List Chosen) : Type 0 where
   pub gate_classes : AreGateClasses g cost pats (labels marks) (heights marks) (numbers roots) (chosen_classes chosen)
   pub each : (j : ℕ) (x : Chosen) → slice_get chosen j ≡ Some x → IsChoice g cost pats marks x.class.0 x.found
-
--- the classes of the roots are noted, and no others
-pub record AreRoots (roots : List ClassId) (classes : ℕ) (needed : List Bool) : Type 0 where
-  pub one_each : length needed ≡ classes
-  pub are : (c : ℕ) → slice_index_or needed c false ≡ true ↔ Contains (numbers roots) c
-
--- these classes are noted too
-pub record HasAlso (old : List Bool) (classes : List ClassId) (new : List Bool) : Type 0 where
-  pub one_each : length new ≡ length old
-  pub are : (c : ℕ) → slice_index_or new c false ≡ true ↔ ((slice_index_or old c false ≡ true) ⊎ Contains (numbers classes) c)

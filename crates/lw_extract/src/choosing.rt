@@ -5,13 +5,14 @@ ghost use Rattle.lw_match.specs.Least.{AreOfCells};
 ghost use Rattle.lw_match.specs.Bounds.{BoundsFit, AreBounds};
 ghost use Rattle.lw_match.specs.Cutting.{AreKnown};
 ghost use Rattle.lw_label.specs.Labels.{AreLeastMarks};
-ghost use Rattle.lw_extract.specs.Choosing.{AreChosen, AreRoots, HasAlso, IsChoice};
+ghost use Rattle.lw_extract.specs.Choosing.{AreChosen, IsChoice};
 ghost use Rattle.lw_extract.specs.Orders.{AreByHeight};
 ghost use Rattle.lw_extract.specs.Nets.{AreInputNets};
 
-use crate::ordering::{Place, by_height};
+use crate::ordering::by_height;
 use lw_graph::Graph;
 use lw_match::{Bounds, Cost, Mark, Match, Tops, least_before};
+use lw_naming::{Place, need, needed_by};
 use lw_pattern::Patterns;
 use lw_pool::{ClassId, NetId};
 use std::alloc::{AllocError, Global};
@@ -21,32 +22,6 @@ use std::alloc::{AllocError, Global};
 pub(crate) struct Chosen {
     pub(crate) class: ClassId,
     pub(crate) found: Match,
-}
-
-// Whether each class is an output's.
-fn needed_by_outputs(
-    alloc: Global,
-    roots: &[ClassId],
-    classes: usize,
-) -> Result<Vec<bool>, AllocError>
-    requires { All (λ root. root.0 < classes) roots.now }
-    ensures { IfOk result (λ needed. AreRoots roots.now classes needed.items) }
-{
-    let mut needed = vec![in alloc; false; classes]?;
-    for root in roots {
-        needed[root.0 as usize] = true;
-    }
-    Ok(needed)
-}
-
-// Notes that these classes are needed.
-fn need(needed: &mut [bool], classes: &[ClassId])
-    requires { All (λ class. class.0 < length needed.old) classes.now }
-    ensures { HasAlso needed.old classes.now needed.new }
-{
-    for class in classes {
-        needed[class.0 as usize] = true;
-    }
 }
 
 // The mark that comes next after one: of the same cost, and one higher.
@@ -112,7 +87,7 @@ fn choose_down<C: Cost>(
     ensures { IfOk result (λ chosen. AreChosen graph.now
         (C.costs cost.now) pats.now marks.now roots.now (reverse chosen.items)) }
 {
-    let mut needed = needed_by_outputs(alloc, roots, graph.classes() as usize)?;
+    let mut needed = needed_by(alloc, roots, graph.classes() as usize)?;
     let mut tops = Tops::new(pats, cost, bounds);
     let mut chosen = Vec::new(alloc);
     for place in places.iter().rev() {

@@ -1,18 +1,11 @@
 // The classes that may have a gate, by height.
 ghost use Rattle.std.specs.Prelude.{◌≡◌, ◌<◌, ◌^◌, IfOk, length};
-ghost use Rattle.std.specs.List.Sorted.{IsPermutation, IsNonDecreasingBy};
-ghost use Rattle.lw_extract.specs.Orders.{AreByHeight, AreMarked, place_key};
+ghost use Rattle.lw_extract.specs.Orders.{AreByHeight, AreMarked};
 
 use lw_match::Mark;
+use lw_naming::{Place, sort_places};
 use lw_pool::{ClassId, NetId};
 use std::alloc::{AllocError, Global};
-
-// A class and its height.
-#[derive(Clone, Copy, Drop)]
-pub(crate) struct Place {
-    pub(crate) height: u32,
-    pub(crate) class: ClassId,
-}
 
 // The classes with marks that are no input's, in the order of their numbers.
 fn marked(
@@ -29,21 +22,13 @@ fn marked(
         if let Some(mark) = mark {
             if nets[number].is_none() {
                 places.push(Place {
-                    height: mark.height,
+                    depth: mark.height,
                     class: ClassId(number as u32),
                 })?;
             }
         }
     }
     Ok(places)
-}
-
-// Sorts by height, and then by class.
-fn sort(places: &mut Vec<Place>)
-    ensures permutation { IsPermutation places.old.items places.new.items }
-    ensures sorted { IsNonDecreasingBy place_key places.new.items }
-{
-    places.sort_unstable_by_key(|place| place.height as u64 * 0x1_0000_0000 + place.class.0 as u64);
 }
 
 // The classes with marks that are no input's, by height and then class.
@@ -57,6 +42,6 @@ pub(crate) fn by_height(
     ensures { IfOk result (λ places. AreByHeight nets.now marks.now places.items) }
 {
     let mut places = marked(alloc, nets, marks)?;
-    sort(&mut places);
+    sort_places(&mut places);
     Ok(places)
 }

@@ -1,6 +1,7 @@
 pub mod CellLaws
 pub mod Falling
 pub mod HeightPasses
+pub mod HeightTables
 pub mod Inputs
 pub mod Low
 pub mod Marked

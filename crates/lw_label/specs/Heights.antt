@@ -13,7 +13,9 @@ use Rattle.lw_laws.specs.Laws.{AreBoundedIn, IsCoverProblem}
 use Rattle.lw_graph.specs.Graphs.{IsGraph}
 use Rattle.lw_match.specs.Bounds.{BoundsState, BoundsFit, AreBounds}
 use Rattle.lw_match.specs.Least.{AreOfCells}
+use Rattle.lw_match.specs.Cutting.{AreKnown, TopsState}
 use Rattle.lw_match.specs.Values.{marks_in}
+use Rattle.lw_label.specs.declared.heights.Given.{Given}
 use Rattle.lw_label.specs.Labels.{costs_of}
 use Rattle.lw_label.specs.Lowering.{AreLowering}
 use Rattle.lw_label.specs.Orders.{ArePartsStill, IsStillAt}
@@ -103,3 +105,19 @@ pub record AreStill (g : Graph) (cost : Cost) (pats : List Pattern) (labels mark
 -- some height has been found or has fallen, or none has and none would at these classes
 abbrev pub LowersHeights : Graph → Cost → List Pattern → List (Option Mark) → List (Option Mark) → List (Option Mark) → (ℕ → Type 0) → Bool → Type 0
 LowersHeights g cost pats labels old new at changed = Passes heights_weight (IsReached g cost pats labels) old new at changed
+
+-- What heights are found by: what is given, what is known of gaps, and the marks so far.
+pub record IsHeightSearch {C : _} (cost : Cost) (d : Given C) (tops : TopsState) (marks : List (Option Mark)) : Type 0 where
+  pub given : AreGiven d.graph.now cost d.pats.now d.bounds.now d.labels.now
+  pub known : AreKnown cost d.pats.now d.bounds.now.gaps tops
+  pub heights : AreHeightMarks d.graph.now cost d.pats.now d.labels.now marks
+
+-- no match at the class would lower its height, by what is given
+abbrev pub IsReachedFrom : {C : _} → Cost → Given C → List (Option Mark) → ℕ → Type 0
+IsReachedFrom cost d marks c = IsReached d.graph.now cost d.pats.now d.labels.now marks c
+
+abbrev pub LowersFrom : {C : _} → Cost → Given C → List (Option Mark) → List (Option Mark) → (ℕ → Type 0) → Bool → Type 0
+LowersFrom cost d old new at changed = LowersHeights d.graph.now cost d.pats.now d.labels.now old new at changed
+
+abbrev pub TakesFrom : {C : _} → Cost → Given C → List (Option Mark) → List (Option Mark) → Bool → Type 0
+TakesFrom cost d old new changed = TakesHeight d.graph.now cost d.pats.now d.labels.now old new changed

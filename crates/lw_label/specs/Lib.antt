@@ -1,4 +1,5 @@
 pub mod Delays
+pub mod HeightTables
 pub mod Heights
 pub mod Labels
 pub mod Lowering

@@ -1,23 +1,33 @@
 // Heights in rounds.
-ghost use Rattle.std.specs.Prelude.{◌≡◌, ◌<◌, ◌/◌, ◌⊎◌, ℕ, Some, None, true, false, length, replicate, slice_index_or};
-ghost use Rattle.lw_graph.specs.Graphs.{IsGraph};
-ghost use Rattle.lw_match.specs.Bounds.{AreBounds, BoundsFit};
-ghost use Rattle.lw_match.specs.Cutting.{AreKnown, IsMatchWithin};
+ghost use Rattle.std.specs.Prelude.{◌≡◌, ◌<◌, ◌/◌, ◌⊎◌, ℕ, Some, None, true, false, IfSome, length, replicate, slice_index_or};
+ghost use Rattle.lw_match.specs.Bounds.{AreBounds};
+ghost use Rattle.lw_match.specs.Cutting.{IsMatchWithin};
 ghost use Rattle.lw_match.specs.Values.{marks_in};
-ghost use Rattle.lw_match.specs.Least.{AreOfCells};
 ghost use Rattle.lw_label.specs.Labels.{costs_of, AreLeastMarks};
 ghost use Rattle.lw_label.specs.Lowering.{AreLowering};
 ghost use Rattle.lw_label.specs.Orders.{IsVisited, places_of};
-ghost use Rattle.lw_label.specs.Heights.{AreGiven, AreHeightMarks, AreSameBut, AreStill, IsNoPin, IsReached, LowersHeights, TakesHeight, height_limit, heights_weight, with_mark};
-ghost use Rattle.lw_laws.specs.Laws.{AreBoundedIn, IsCoverProblem};
+ghost use Rattle.lw_label.specs.Heights.{AreHeightMarks, AreSameBut, IsHeightSearch, IsNoPin, IsReachedFrom, LowersFrom, TakesFrom, TakesHeight, height_limit, heights_weight, with_mark};
+ghost use Rattle.lw_label.specs.HeightTables.{AreHeightsFalling, HasHeightsOf, IsTableAround, with_heights};
+ghost use Rattle.lw_laws.specs.Laws.{AreBoundedIn};
 ghost use Rattle.lw_laws.specs.Rounds.{labels_in};
 
 use crate::lowering::{both, either, is_ahead};
+use crate::table::{HeightTable, put_in, seen_in, set_if_still};
 use crate::visits::Visits;
 use lw_graph::Graph;
-use lw_match::{Best, Bounds, Cost, Mark, Tops, better_within};
+use lw_match::{Best, Bounds, Cost, Mark, Tops, lower_within};
 use lw_pattern::Patterns;
 use lw_pool::ClassId;
+
+// What heights are found from: a graph with patterns, labels, and a table of bounds for them.
+#[derive(Drop)]
+pub(crate) struct Given<'a, C> {
+    pub graph: &'a Graph,
+    pub pats: &'a Patterns,
+    pub cost: &'a C,
+    pub bounds: &'a Bounds,
+    pub labels: &'a [Option<Mark>],
+}
 
 // What a visit did: whether it lowered a height, and whether no match would lower one then.
 #[derive(Clone, Copy)]
@@ -43,21 +53,36 @@ fn height_bound(label: Mark, mark: Option<Mark>) -> Mark
 }
 
 // Gives the inputs' classes their labels and the height 0.
-pub(crate) fn start_heights(graph: &Graph, labels: &[Option<Mark>], marks: &mut [Option<Mark>])
+pub(crate) fn start_heights(
+    graph: &Graph,
+    labels: &[Option<Mark>],
+    table: &mut Option<HeightTable>,
+    marks: &mut [Option<Mark>],
+)
     requires none { marks.old ≡ replicate (length graph.now.pairs) None }
     requires one_each { length labels.now ≡ length graph.now.pairs }
-    ensures { (cost : _) (pats : _) → AreLowering graph.now cost pats labels.now →
+    requires table { IfSome table.old (HasHeightsOf marks.old) }
+    ensures heights { (cost : _) (pats : _) → AreLowering graph.now cost pats labels.now →
         AreHeightMarks graph.now cost pats labels.now marks.new }
+    ensures table { table.new ≡ with_heights marks.new table.old }
 {
     for input in 0..graph.inputs() {
-        let class = graph.leaf(input).0 as usize;
-        marks[class] = labels[class];
+        let class = graph.leaf(input);
+        let mark = labels[class.0 as usize];
+        marks[class.0 as usize] = mark;
+        put_in(table, class, mark);
     }
 }
 
 // Gives a class the mark of a match that was found.
-fn put_height(marks: &mut [Option<Mark>], class: ClassId, found: Option<Best>) -> bool
-    requires { class.0 < length marks.old }
+fn put_height(
+    table: &mut Option<HeightTable>,
+    marks: &mut [Option<Mark>],
+    class: ClassId,
+    found: Option<Best>,
+) -> bool
+    requires class { class.0 < length marks.old }
+    requires table { IfSome table.old (HasHeightsOf marks.old) }
     ensures takes { (graph : _) (cost : _) (pats : _) (labels : _) (bound : _) →
         AreBoundedIn graph pats cost (costs_of labels) →
         AreHeightMarks graph cost pats labels marks.old → labels_in (costs_of labels) class.0 ≡
@@ -66,40 +91,41 @@ fn put_height(marks: &mut [Option<Mark>], class: ClassId, found: Option<Best>) -
         TakesHeight graph cost pats labels marks.old marks.new result }
     ensures none { result ≡ false → found ≡ None }
     ensures puts { marks.new ≡ with_mark marks.old class.0 found }
+    ensures table { table.new ≡ with_heights marks.new table.old }
 {
     let Some(best) = found else {
         return false;
     };
-    marks[class.0 as usize] = Some(best.mark);
+    let mark = Some(best.mark);
+    marks[class.0 as usize] = mark;
+    put_in(table, class, mark);
     true
 }
 
 // Gives a class the height of a match that attains its label and whose pins have marks, mostly the
 // least, where that is lower than its own.
 fn lower_height<C: Cost>(
-    graph: &Graph,
-    pats: &Patterns,
-    cost: &C,
-    bounds: &Bounds,
+    given: &Given<C>,
     tops: &mut Tops,
-    labels: &[Option<Mark>],
+    table: &mut Option<HeightTable>,
     marks: &mut [Option<Mark>],
     class: ClassId,
 ) -> Visit
-    requires class { class.0 < length graph.now.pairs }
-    requires given { AreGiven graph.now (C.costs cost.now) pats.now bounds.now labels.now }
-    requires known { AreKnown (C.costs cost.now) pats.now bounds.now.gaps tops.old }
-    requires heights { AreHeightMarks graph.now (C.costs cost.now) pats.now labels.now marks.old }
-    ensures known { AreKnown (C.costs cost.now) pats.now bounds.now.gaps tops.new }
-    ensures takes { TakesHeight graph.now (C.costs cost.now) pats.now labels.now marks.old
-        marks.new result.lowered }
-    ensures reached { result.lowered ≡ false → IsReached graph.now (C.costs cost.now) pats.now
-        labels.now marks.old class.0 }
-    ensures still { result.is_still ≡ true → IsReached graph.now (C.costs cost.now) pats.now
-        labels.now marks.new class.0 }
+    requires class { class.0 < length given.now.graph.now.pairs }
+    requires search { IsHeightSearch (C.costs given.now.cost.now) given.now tops.old marks.old }
+    requires table { IfSome table.old (IsTableAround given.now.graph.now given.now.pats.now
+        marks.old (class.0 / 2)) }
+    ensures search { IsHeightSearch (C.costs given.now.cost.now) given.now tops.new marks.new }
+    ensures takes { TakesFrom (C.costs given.now.cost.now) given.now marks.old marks.new
+        result.lowered }
+    ensures reached { result.lowered ≡ false →
+        IsReachedFrom (C.costs given.now.cost.now) given.now marks.old class.0 }
+    ensures still { result.is_still ≡ true →
+        IsReachedFrom (C.costs given.now.cost.now) given.now marks.new class.0 }
     ensures others { AreSameBut (λ c. c ≡ class.0) marks.old marks.new }
+    ensures table { table.new ≡ with_heights marks.new table.old }
 {
-    let Some(label) = labels[class.0 as usize] else {
+    let Some(label) = given.labels[class.0 as usize] else {
         return Visit {
             lowered: false,
             is_still: true,
@@ -107,11 +133,13 @@ fn lower_height<C: Cost>(
     };
     let bound = height_bound(label, marks[class.0 as usize]);
     let limit = Some(bound);
-    let found = better_within(
-        graph, pats, bounds, marks, class, cost, tops, label.cost, true, limit,
+    let (graph, pats, cost, bounds) = (given.graph, given.pats, given.cost, given.bounds);
+    let seen = seen_in(table);
+    let found = lower_within(
+        graph, pats, bounds, marks, class, cost, tops, label.cost, limit, seen,
     );
     let is_still = found.is_least;
-    let lowered = put_height(marks, class, found.best);
+    let lowered = put_height(table, marks, class, found.best);
     Visit { lowered, is_still }
 }
 
@@ -149,31 +177,28 @@ fn may_lower(lowered: bool, mark: Option<Mark>, other: Option<Mark>) -> bool
 // Lowers the heights of the two classes of a place. The first is looked at again where the second,
 // which was lowered since, may be the pin of a match that lowers it.
 fn lower_height_pair<C: Cost>(
-    graph: &Graph,
-    pats: &Patterns,
-    cost: &C,
-    bounds: &Bounds,
+    given: &Given<C>,
     tops: &mut Tops,
-    labels: &[Option<Mark>],
+    table: &mut Option<HeightTable>,
     marks: &mut [Option<Mark>],
     place: u32,
 ) -> Visit
-    requires place { place < places_of graph.now }
-    requires given { AreGiven graph.now (C.costs cost.now) pats.now bounds.now labels.now }
-    requires known { AreKnown (C.costs cost.now) pats.now bounds.now.gaps tops.old }
-    requires heights { AreHeightMarks graph.now (C.costs cost.now) pats.now labels.now marks.old }
-    ensures known { AreKnown (C.costs cost.now) pats.now bounds.now.gaps tops.new }
-    ensures heights { AreHeightMarks graph.now (C.costs cost.now) pats.now labels.now marks.new }
-    ensures lowers { LowersHeights graph.now (C.costs cost.now) pats.now labels.now marks.old
-        marks.new (λ c. c / 2 ≡ place) result.lowered }
+    requires place { place < places_of given.now.graph.now }
+    requires search { IsHeightSearch (C.costs given.now.cost.now) given.now tops.old marks.old }
+    requires table { IfSome table.old (IsTableAround given.now.graph.now given.now.pats.now
+        marks.old place) }
+    ensures search { IsHeightSearch (C.costs given.now.cost.now) given.now tops.new marks.new }
+    ensures lowers { LowersFrom (C.costs given.now.cost.now) given.now marks.old marks.new
+        (λ c. c / 2 ≡ place) result.lowered }
     ensures still { result.is_still ≡ true → (c : ℕ) → c / 2 ≡ place →
-        IsReached graph.now (C.costs cost.now) pats.now labels.now marks.new c }
+        IsReachedFrom (C.costs given.now.cost.now) given.now marks.new c }
     ensures others { AreSameBut (λ c. c / 2 ≡ place) marks.old marks.new }
+    ensures table { table.new ≡ with_heights marks.new table.old }
 {
-    let class = first_of(graph, labels, place);
+    let class = first_of(given.graph, given.labels, place);
     let other = class.flip();
-    let first = lower_height(graph, pats, cost, bounds, tops, labels, marks, class);
-    let second = lower_height(graph, pats, cost, bounds, tops, labels, marks, other);
+    let first = lower_height(given, tops, table, marks, class);
+    let second = lower_height(given, tops, table, marks, other);
     let mark = marks[other.0 as usize];
     if !may_lower(second.lowered, mark, marks[class.0 as usize]) {
         return Visit {
@@ -181,7 +206,7 @@ fn lower_height_pair<C: Cost>(
             is_still: both(second.is_still, first.is_still),
         };
     }
-    let third = lower_height(graph, pats, cost, bounds, tops, labels, marks, class);
+    let third = lower_height(given, tops, table, marks, class);
     let mark = marks[class.0 as usize];
     let moves = may_lower(third.lowered, mark, marks[other.0 as usize]);
     Visit {
@@ -192,40 +217,33 @@ fn lower_height_pair<C: Cost>(
 
 // Lowers the heights of the two classes of the place of a visit, if that is due.
 fn lower_height_place<C: Cost>(
-    graph: &Graph,
-    pats: &Patterns,
-    cost: &C,
-    bounds: &Bounds,
+    given: &Given<C>,
     tops: &mut Tops,
-    labels: &[Option<Mark>],
+    table: &mut Option<HeightTable>,
     visits: &mut Visits,
     marks: &mut [Option<Mark>],
     number: usize,
     whole: bool,
 ) -> bool
     requires number { number < length visits.old.order }
-    requires places { visits.old.places ≡ places_of graph.now }
-    requires given { AreGiven graph.now (C.costs cost.now) pats.now bounds.now labels.now }
-    requires known { AreKnown (C.costs cost.now) pats.now bounds.now.gaps tops.old }
-    requires heights { AreHeightMarks graph.now (C.costs cost.now) pats.now labels.now marks.old }
-    requires still { AreStill graph.now (C.costs cost.now) pats.now labels.now marks.old
-        visits.old.still }
+    requires places { visits.old.places ≡ places_of given.now.graph.now }
+    requires falling { AreHeightsFalling (C.costs given.now.cost.now) given.now tops.old table.old
+        marks.old visits.old.still }
     ensures order { visits.new.order ≡ visits.old.order }
     ensures places { visits.new.places ≡ visits.old.places }
-    ensures known { AreKnown (C.costs cost.now) pats.now bounds.now.gaps tops.new }
-    ensures heights { AreHeightMarks graph.now (C.costs cost.now) pats.now labels.now marks.new }
-    ensures still { AreStill graph.now (C.costs cost.now) pats.now labels.now marks.new
-        visits.new.still }
-    ensures lowers { LowersHeights graph.now (C.costs cost.now) pats.now labels.now marks.old
-        marks.new (IsVisited whole visits.old.order number) result }
+    ensures falling { AreHeightsFalling (C.costs given.now.cost.now) given.now tops.new table.new
+        marks.new visits.new.still }
+    ensures lowers { LowersFrom (C.costs given.now.cost.now) given.now marks.old marks.new
+        (IsVisited whole visits.old.order number) result }
 {
-    let Some(place) = visits.due_unless_still(graph, number, whole) else {
+    let Some(place) = visits.due_unless_still(given.graph, number, whole) else {
         return false;
     };
-    let visit = lower_height_pair(graph, pats, cost, bounds, tops, labels, marks, place);
+    set_if_still(given, visits, table, place);
+    let visit = lower_height_pair(given, tops, table, marks, place);
     visits.note(place, visit.lowered);
     if visit.is_still {
-        visits.settle(graph, place);
+        visits.settle(given.graph, place);
     }
     visit.lowered
 }
@@ -233,36 +251,26 @@ fn lower_height_place<C: Cost>(
 // Goes once through the places, and says whether it changed a height. A whole round passes over
 // none.
 fn lower_height_round<C: Cost>(
-    graph: &Graph,
-    pats: &Patterns,
-    cost: &C,
-    bounds: &Bounds,
+    given: &Given<C>,
     tops: &mut Tops,
-    labels: &[Option<Mark>],
+    table: &mut Option<HeightTable>,
     visits: &mut Visits,
     marks: &mut [Option<Mark>],
     whole: bool,
 ) -> bool
-    requires places { visits.old.places ≡ places_of graph.now }
-    requires given { AreGiven graph.now (C.costs cost.now) pats.now bounds.now labels.now }
-    requires known { AreKnown (C.costs cost.now) pats.now bounds.now.gaps tops.old }
-    requires heights { AreHeightMarks graph.now (C.costs cost.now) pats.now labels.now marks.old }
-    requires still { AreStill graph.now (C.costs cost.now) pats.now labels.now marks.old
-        visits.old.still }
+    requires places { visits.old.places ≡ places_of given.now.graph.now }
+    requires falling { AreHeightsFalling (C.costs given.now.cost.now) given.now tops.old table.old
+        marks.old visits.old.still }
     ensures order { visits.new.order ≡ visits.old.order }
     ensures places { visits.new.places ≡ visits.old.places }
-    ensures known { AreKnown (C.costs cost.now) pats.now bounds.now.gaps tops.new }
-    ensures heights { AreHeightMarks graph.now (C.costs cost.now) pats.now labels.now marks.new }
-    ensures still { AreStill graph.now (C.costs cost.now) pats.now labels.now marks.new
-        visits.new.still }
-    ensures lowers { LowersHeights graph.now (C.costs cost.now) pats.now labels.now marks.old
-        marks.new (λ c. (whole ≡ true) × (c < length graph.now.pairs)) result }
+    ensures falling { AreHeightsFalling (C.costs given.now.cost.now) given.now tops.new table.new
+        marks.new visits.new.still }
+    ensures lowers { LowersFrom (C.costs given.now.cost.now) given.now marks.old marks.new
+        (λ c. (whole ≡ true) × (c < length given.now.graph.now.pairs)) result }
 {
     let mut changed = false;
     for number in 0..visits.len() {
-        let lowered = lower_height_place(
-            graph, pats, cost, bounds, tops, labels, visits, marks, number, whole,
-        );
+        let lowered = lower_height_place(given, tops, table, visits, marks, number, whole);
         changed = either(lowered, changed);
     }
     changed
@@ -271,56 +279,41 @@ fn lower_height_round<C: Cost>(
 // Goes through the places that are due until that changes no height, and then through all. Says
 // whether the last round changed one.
 fn lower_height_rounds<C: Cost>(
-    graph: &Graph,
-    pats: &Patterns,
-    cost: &C,
-    bounds: &Bounds,
+    given: &Given<C>,
     tops: &mut Tops,
-    labels: &[Option<Mark>],
+    table: &mut Option<HeightTable>,
     visits: &mut Visits,
     marks: &mut [Option<Mark>],
 ) -> bool
-    requires places { visits.old.places ≡ places_of graph.now }
-    requires given { AreGiven graph.now (C.costs cost.now) pats.now bounds.now labels.now }
-    requires known { AreKnown (C.costs cost.now) pats.now bounds.now.gaps tops.old }
-    requires heights { AreHeightMarks graph.now (C.costs cost.now) pats.now labels.now marks.old }
-    requires still { AreStill graph.now (C.costs cost.now) pats.now labels.now marks.old
-        visits.old.still }
+    requires places { visits.old.places ≡ places_of given.now.graph.now }
+    requires falling { AreHeightsFalling (C.costs given.now.cost.now) given.now tops.old table.old
+        marks.old visits.old.still }
     ensures order { visits.new.order ≡ visits.old.order }
     ensures places { visits.new.places ≡ visits.old.places }
-    ensures known { AreKnown (C.costs cost.now) pats.now bounds.now.gaps tops.new }
-    ensures heights { AreHeightMarks graph.now (C.costs cost.now) pats.now labels.now marks.new }
-    ensures still { AreStill graph.now (C.costs cost.now) pats.now labels.now marks.new
-        visits.new.still }
+    ensures falling { AreHeightsFalling (C.costs given.now.cost.now) given.now tops.new table.new
+        marks.new visits.new.still }
     ensures falls { result ≡ true → heights_weight marks.new < heights_weight marks.old }
-    ensures reached { result ≡ false → (c : ℕ) → c < length graph.now.pairs →
-        IsReached graph.now (C.costs cost.now) pats.now labels.now marks.new c }
+    ensures reached { result ≡ false → (c : ℕ) → c < length given.now.graph.now.pairs →
+        IsReachedFrom (C.costs given.now.cost.now) given.now marks.new c }
 {
-    while lower_height_round(
-        graph, pats, cost, bounds, tops, labels, visits, marks, false,
-    ) {}
-    lower_height_round(graph, pats, cost, bounds, tops, labels, visits, marks, true)
+    while lower_height_round(given, tops, table, visits, marks, false) {}
+    lower_height_round(given, tops, table, visits, marks, true)
 }
 
 // Finds the height of each class that has a label.
 pub(crate) fn lower_all_heights<C: Cost>(
-    graph: &Graph,
-    pats: &Patterns,
-    cost: &C,
-    bounds: &Bounds,
+    given: &Given<C>,
     tops: &mut Tops,
-    labels: &[Option<Mark>],
+    table: &mut Option<HeightTable>,
     visits: &mut Visits,
     marks: &mut [Option<Mark>],
 )
-    requires places { visits.old.places ≡ places_of graph.now }
-    requires given { AreGiven graph.now (C.costs cost.now) pats.now bounds.now labels.now }
-    requires known { AreKnown (C.costs cost.now) pats.now bounds.now.gaps tops.old }
-    requires heights { AreHeightMarks graph.now (C.costs cost.now) pats.now labels.now marks.old }
-    requires still { AreStill graph.now (C.costs cost.now) pats.now labels.now marks.old
-        visits.old.still }
-    ensures least { AreLeastMarks graph.now (C.costs cost.now) pats.now marks.new }
-    ensures bounds { AreBounds bounds.now graph.now marks.new }
+    requires places { visits.old.places ≡ places_of given.now.graph.now }
+    requires falling { AreHeightsFalling (C.costs given.now.cost.now) given.now tops.old table.old
+        marks.old visits.old.still }
+    ensures least { AreLeastMarks given.now.graph.now (C.costs given.now.cost.now)
+        given.now.pats.now marks.new }
+    ensures bounds { AreBounds given.now.bounds.now given.now.graph.now marks.new }
 {
-    while lower_height_rounds(graph, pats, cost, bounds, tops, labels, visits, marks) {}
+    while lower_height_rounds(given, tops, table, visits, marks) {}
 }

@@ -1,11 +1,13 @@
-ghost use Rattle.std.specs.Prelude.{◌≡◌, ◌<◌, None, false, IfOk, length, replicate, slice_index_or};
+ghost use Rattle.std.specs.Prelude.{◌≡◌, ◌<◌, None, false, IfOk, IfSome, length, replicate, slice_index_or};
 ghost use Rattle.lw_match.specs.Bounds.{BoundsFit, AreBounds, AreZero};
 ghost use Rattle.lw_match.specs.Least.{AreOfCells};
+ghost use Rattle.lw_label.specs.HeightTables.{IsNewTable};
 ghost use Rattle.lw_label.specs.Labels.{AreLeastMarks};
 ghost use Rattle.lw_label.specs.Orders.{places_of};
 
-use crate::heights::{lower_all_heights, start_heights};
+use crate::heights::{Given, lower_all_heights, start_heights};
 use crate::lowering::{label_inputs, lower_all, no_marks};
+use crate::table::{HeightTable, height_table};
 use crate::visits::Visits;
 use lw_graph::Graph;
 use lw_match::{Bounds, Cost, Mark, Tops};
@@ -92,6 +94,7 @@ pub fn relabel_with_bounds<C: Cost>(
 {
     let mut labels = no_marks(alloc, graph)?;
     let mut marks = no_marks(alloc, graph)?;
+    let mut table = height_table(alloc, graph, pats)?;
     let mut visits = Visits::new(alloc, graph)?;
     let mut bounds = Bounds::new(alloc, graph, pats, cost)?;
     mark_all(
@@ -100,6 +103,7 @@ pub fn relabel_with_bounds<C: Cost>(
         cost,
         &mut visits,
         &mut bounds,
+        &mut table,
         &mut labels,
         &mut marks,
     );
@@ -114,6 +118,7 @@ fn mark_all<C: Cost>(
     cost: &C,
     visits: &mut Visits,
     bounds: &mut Bounds,
+    table: &mut Option<HeightTable>,
     labels: &mut [Option<Mark>],
     marks: &mut [Option<Mark>],
 )
@@ -122,6 +127,7 @@ fn mark_all<C: Cost>(
     requires of_cells { AreOfCells (C.costs cost.now).pin_counts pats.now }
     requires fits { BoundsFit bounds.old pats.now graph.now }
     requires zero { AreZero bounds.old.numbers }
+    requires table { IfSome table.old (IsNewTable graph.now pats.now) }
     requires no_labels { labels.old ≡ replicate (length graph.now.pairs) None }
     requires no_marks { marks.old ≡ replicate (length graph.now.pairs) None }
     ensures least { AreLeastMarks graph.now (C.costs cost.now) pats.now marks.new }
@@ -132,7 +138,14 @@ fn mark_all<C: Cost>(
     label_inputs(graph, cost, labels);
     let mut tops = Tops::new(pats, cost, bounds);
     lower_all(graph, pats, cost, visits, bounds, &mut tops, labels);
-    start_heights(graph, labels, marks);
+    start_heights(graph, labels, table, marks);
     visits.restart();
-    lower_all_heights(graph, pats, cost, bounds, &mut tops, labels, visits, marks);
+    let given = Given {
+        graph,
+        pats,
+        cost,
+        bounds,
+        labels,
+    };
+    lower_all_heights(&given, &mut tops, table, visits, marks);
 }

@@ -7,6 +7,7 @@
 //! changed since it was visited. Once such rounds change nothing, a round follows that passes over
 //! none but the still ones: where it changes nothing either, nothing is left to change. Searches
 //! are cut by a table of bounds, whose numbers come from the pairs of a class, as its labels do.
+//! Where classes have many pairs, searches for heights are cut by a table of bounds on heights too.
 #![tactic(auto)]
 
 mod delay;
@@ -16,6 +17,7 @@ mod laws;
 mod lowering;
 mod once;
 mod order;
+mod table;
 mod visits;
 
 pub use delay::DelayCost;

@@ -97,7 +97,7 @@ pub(crate) fn lower_mark<C: Cost>(
     ensures others { AreSameBut (λ c. c ≡ class.0) marks.old marks.new }
 {
     let old = marks[class.0 as usize];
-    let found = better_within(graph, pats, bounds, marks, class, cost, tops, 0, false, old);
+    let found = better_within(graph, pats, bounds, marks, class, cost, tops, old);
     let is_still = found.is_least;
     let lowered = put_label(marks, class, found.best);
     Visit { lowered, is_still }

@@ -28,7 +28,7 @@ fn set_class(graph: &Graph, bounds: &mut Bounds, marks: &[Option<Mark>], class: 
 }
 
 // Gives the two classes of a place the numbers that their pairs give.
-fn set_pair(graph: &Graph, bounds: &mut Bounds, marks: &[Option<Mark>], place: u32)
+pub(crate) fn set_pair(graph: &Graph, bounds: &mut Bounds, marks: &[Option<Mark>], place: u32)
     requires place { place < places_of graph.now }
     requires one_each { length marks.now ≡ length graph.now.pairs }
     requires rows { AreRows bounds.old.parts bounds.old.starts bounds.old.numbers graph.now }

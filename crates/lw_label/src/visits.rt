@@ -140,6 +140,16 @@ impl Visits {
         self.still[(class.0 / 2) as usize]
     }
 
+    // Whether the parts of a place are still.
+    pub(crate) fn has_still_parts(&self, graph: &Graph, place: u32) -> bool
+        requires place { place < self.now.places }
+        requires places { self.now.places ≡ places_of graph.now }
+        ensures { result ≡ true → (c : ℕ) → c / 2 ≡ place →
+            ArePartsStill graph.now self.now.still c }
+    {
+        are_parts_still(graph, &self.still, place)
+    }
+
     // The place of a visit, if it is not still, but its parts are.
     pub(crate) fn ready(&self, graph: &Graph, number: usize) -> Option<u32>
         requires number { number < length self.now.order }

@@ -226,6 +226,10 @@ module _ (draft : Draft) (distinct : IsDistinct bytes_eq (signals_of draft)) (ne
 
   -- Depths.
 
+  -- the node of a wire is a wire's
+  wire_is : (node : DraftNode) → is_wire (closed_node names node) ≡ said_wire node
+  wire_is node = ap (λ k. (k == 1) && (node.on && (length node.rows == 1) && bytes_eq (slice_index_or node.rows 0 []) (codes "1"))) (length-map node.fanins (net_in names))
+
   module _ (depths : List ℕ) (right : AreTableDepths net depths) where
     abbrev pub depth_at : List ℕ → ℕ
     depth_at name = slice_index_or depths (net_of name) 0
@@ -240,9 +244,6 @@ module _ (draft : Draft) (distinct : IsDistinct bytes_eq (signals_of draft)) (ne
     deepest_is : (fs : List (List ℕ)) → deepest depths (map (net_in names) fs) ≡ greatest (map depth_at fs)
     deepest_is [] = refl
     deepest_is (f ∷ fs) = ap (max (depth_at f)) (deepest_is fs)
-
-    wire_is : (node : DraftNode) → is_wire (closed_node names node) ≡ said_wire node
-    wire_is node = ap (λ k. (k == 1) && (node.on && (length node.rows == 1) && bytes_eq (slice_index_or node.rows 0 []) (codes "1"))) (length-map node.fanins (net_in names))
 
     pub node_depth_is : (node : DraftNode) → Contains draft.nodes node → depth_at node.out ≡ (if said_wire node then 0 else 1) + greatest (map depth_at node.fanins)
     node_depth_is node among =
@@ -289,12 +290,9 @@ module _ (draft : Draft) (distinct : IsDistinct bytes_eq (signals_of draft)) (ne
           let among = Contains-permutation order draft.nodes from (IsPermutation-sym draft.nodes order order_moved) (at_contained order j from there) in
           slice_get_map depth names (length draft.inputs + j) from.out (right_entry draft.inputs (map out_of order) j ∙ slice_get_map out_of order j from there)
           ∙ (ap Some (at_nodes from among)
-          ∙ (ap Some (sym (ap₂ (λ b d. (if b then 0 else 1) + d) (wire_same from) (deepest_listed from.fanins (λ f c. fanin_known from f among c))))
+          ∙ (ap Some (sym (ap₂ (λ b d. (if b then 0 else 1) + d) (wire_is from) (deepest_listed from.fanins (λ f c. fanin_known from f among c))))
           ∙ ap (λ (m : Node). Some ((if is_wire m then 0 else 1) + deepest listed m.fanins)) same));
     }
-      where
-        wire_same : (node : DraftNode) → is_wire (closed_node names node) ≡ said_wire node
-        wire_same node = ap (λ k. (k == 1) && (node.on && (length node.rows == 1) && bytes_eq (slice_index_or node.rows 0 []) (codes "1"))) (length-map node.fanins (net_in names))
 
     pub some_depths : (ds : List ℕ) × AreTableDepths net ds
     some_depths = (listed, subst (λ (m : NetworkParts). AreTableDepths m listed) (sym closed.network) depths_made)

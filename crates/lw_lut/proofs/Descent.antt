@@ -7,7 +7,10 @@ use Rattle.lw_facts.proofs.Lists.{contains_cases, contains_tail, contained_in_ma
 use Rattle.lw_pool.specs.declared.id.ClassId.{ClassId}
 use Rattle.lw_laws.specs.Graphs.{Graph}
 use Rattle.lw_laws.specs.Extracts.{IsLeafClass}
-use Rattle.lw_lut.specs.declared.choosing.Place.{Place}
+use Rattle.lw_naming.specs.declared.places.Place.{Place}
+use Rattle.lw_naming.specs.Needed.{IsNoted, AreNoted, AreRoots, HasAlso}
+use Rattle.lw_naming.specs.Places.{IsPlaceBefore}
+use Rattle.lw_naming.proofs.Noting.{still_noted}
 use Rattle.lw_lut.specs.declared.table.Table.{Table}
 use Rattle.lw_laws.specs.Graphs.{Unfolds}
 use Rattle.lw_laws.specs.Trees.{leaf}
@@ -19,24 +22,45 @@ use Rattle.lw_lut.specs.Tables.{IsTableAt, AreRisingClasses, table_value}
 use Rattle.lw_lut.proofs.TablesAt.{cut_table}
 use Rattle.lw_lut.specs.Cuts.{PlainCut}
 use Rattle.lw_lut.specs.Searches.{depth_in, IsKnown}
-use Rattle.lw_lut.specs.Choosing.{IsNeeded, IsTable, IsTableBefore, AreTables, AreRoots, HasAlso, IsPlaceBefore, ArePlaces, AreByDepth}
+use Rattle.lw_lut.specs.Choosing.{IsNeeded, IsTable, IsTableBefore, AreTables, ArePlaces, AreByDepth}
 use Rattle.lw_lut.specs.Choosing.IsNeeded.{by_root, by_fanin}
 use Rattle.lw_pool.specs.Numbers.{numbers}
-
-abbrev IsNoted : List Bool → ℕ → Type 0
-IsNoted needed c = slice_index_or needed c false ≡ true
 
 needed_later : (roots : List ℕ) (t : Table) (ts : List Table) {c : ℕ} → IsNeeded roots ts c → IsNeeded roots (t ∷ ts) c
 needed_later roots t ts (by_root k) = by_root k
 needed_later roots t ts (by_fanin u n k i) = by_fanin u (needed_later roots t ts n) (contains_tail t ts u k) i
+
+-- needed classes have a depth
+pub needed_known : (g : Graph) (most : ℕ) (depths : List (Option ℕ)) (roots : List ClassId) → All (λ (root : ClassId). IsKnown depths root.0) roots → (tables : List Table) → ((t : Table) → Contains tables t → IsTable g most depths t) → (c : ℕ) → IsNeeded (numbers roots) tables c → IsKnown depths c
+needed_known g most depths roots covered tables each c (by_root k) = let (x, i, e) = contained_in_map (λ (r : ClassId). r.0) roots c k in subst (IsKnown depths) e (All-contains (λ (r : ClassId). IsKnown depths r.0) roots x covered i)
+needed_known g most depths roots covered tables each q (by_fanin t n k i) =
+    let (x, j, e) = contained_in_map (λ (r : ClassId). r.0) t.fanins q i in
+    let (d, at, lt) = (each t k).below x j in
+    (d, ap (depth_in depths) (sym e) ∙ at)
+
+-- the inputs' classes are those of depth 0
+module _ (g : Graph) (most : ℕ) (lists : DepthLists) (least : AreLeastDepths g most lists) where
+  pub leaf_at_zero : (c : ℕ) → depth_in lists.depths c ≡ Some 0 → IsLeafClass g c
+  leaf_at_zero c at = by_cover (subst (λ o. IsLeastDepth g most c o) at (least.least c)).0
+    where
+      by_cover : (k : TableCover) × IsTableCover most k × Unfolds g (tree_of k) c × (depth_of k ≡ 0) → IsLeafClass g c
+      by_cover (wire i, ok, u, e) = (i, u)
+      by_cover (table p ks, ok, u, e) = absurd (omega (arith, e))
+
+  pub leaf_depth : (c : ℕ) → IsLeafClass g c → depth_in lists.depths c ≡ Some 0
+  leaf_depth c (i, u) = by_depth (depth_in lists.depths c) refl (least.least c)
+    where
+      by_depth : (o : Option ℕ) → depth_in lists.depths c ≡ o → IsLeastDepth g most c o → depth_in lists.depths c ≡ Some 0
+      by_depth None at none = absurd (none (leaf i) u)
+      by_depth (Some d) at (attained, low) = let le = low (wire i) tt u in at ∙ ap Some (omega (arith, le))
 
 module _ (g : Graph) (most : ℕ) (depths : List (Option ℕ)) (roots : List ClassId) where
   -- What holds when some of the places have been seen, with the tables so far, the last one first.
   pub record IsDown (seen : List Place) (needed : List Bool) (ups : List Table) : Type 0 where
     pub one_each : length needed ≡ length depths
     pub sound : (c : ℕ) → IsNoted needed c → IsNeeded (numbers roots) ups c
-    pub at_roots : (c : ℕ) → Contains (numbers roots) c → IsNoted needed c
-    pub at_fanins : (t : Table) → Contains ups t → (q : ℕ) → Contains (numbers t.fanins) q → IsNoted needed q
+    pub at_roots : AreNoted needed (numbers roots)
+    pub at_fanins : (t : Table) → Contains ups t → AreNoted needed (numbers t.fanins)
     pub each : (t : Table) → Contains ups t → IsTable g most depths t
     pub noted : (t : Table) → Contains ups t → IsNoted needed t.out.0
     pub place : (t : Table) → Contains ups t → (p : Place) × Contains seen p × (p.class.0 ≡ t.out.0)
@@ -79,10 +103,10 @@ module _ (g : Graph) (most : ℕ) (depths : List (Option ℕ)) (roots : List Cla
   down_take seen needed new ups p t noted out made also high high_seen before is = record {
     one_each = also.one_each ∙ is.one_each;
     sound = λ c e. sound c ((also.are c).0 e);
-    at_roots = λ c k. kept c (is.at_roots c k);
+    at_roots = λ c k. still_noted also c (is.at_roots c k);
     at_fanins = λ y k. at_fanins y (contains_cases t ups y k);
     each = λ y k. elim (contains_cases t ups y k) [ inl s ↦ subst (λ (z : Table). IsTable g most depths z) s made | inr k ↦ is.each y k ];
-    noted = λ y k. elim (contains_cases t ups y k) [ inl s ↦ subst (λ (z : Table). IsNoted new z.out.0) s (kept t.out.0 noted_here) | inr k ↦ kept y.out.0 (is.noted y k) ];
+    noted = λ y k. elim (contains_cases t ups y k) [ inl s ↦ subst (λ (z : Table). IsNoted new z.out.0) s (still_noted also t.out.0 noted_here) | inr k ↦ still_noted also y.out.0 (is.noted y k) ];
     place = λ y k. place y (contains_cases t ups y k);
     all = λ q k e. all_at q ((also.are q.class.0).0 e) (Contains-push_cases seen p q k);
     sorted = sorted;
@@ -94,16 +118,13 @@ module _ (g : Graph) (most : ℕ) (depths : List (Option ℕ)) (roots : List Cla
       noted_here : IsNoted needed t.out.0
       noted_here = ap (λ n. slice_index_or needed n false) same ∙ noted
 
-      kept : (c : ℕ) → IsNoted needed c → IsNoted new c
-      kept c e = (also.are c).1 (inl e)
-
       sound : (c : ℕ) → IsNoted needed c ⊎ Contains (numbers t.fanins) c → IsNeeded (numbers roots) (t ∷ ups) c
       sound c (inl e) = needed_later (numbers roots) t ups (is.sound c e)
       sound c (inr k) = by_fanin t (needed_later (numbers roots) t ups (is.sound t.out.0 noted_here)) (0, omega arith, refl) k
 
-      at_fanins : (y : Table) → (t ≡ y) ⊎ Contains ups y → (q : ℕ) → Contains (numbers y.fanins) q → IsNoted new q
+      at_fanins : (y : Table) → (t ≡ y) ⊎ Contains ups y → AreNoted new (numbers y.fanins)
       at_fanins y (inl s) q i = (also.are q).1 (inr (subst (λ (z : Table). Contains (numbers z.fanins) q) (sym s) i))
-      at_fanins y (inr k) q i = kept q (is.at_fanins y k q i)
+      at_fanins y (inr k) q i = still_noted also q (is.at_fanins y k q i)
 
       place : (y : Table) → (t ≡ y) ⊎ Contains ups y → (q : Place) × Contains (seen ++ p ∷ []) q × (q.class.0 ≡ y.out.0)
       place y (inl s) = (p, Contains-push seen p, sym same ∙ ap (λ (z : Table). z.out.0) s)
@@ -143,17 +164,10 @@ module _ (g : Graph) (most : ℕ) (depths : List (Option ℕ)) (roots : List Cla
   down_end places seen needed ups are shallow leaves covered to is = record {
     each = is.each;
     needed = λ t k. (is.sound t.out.0 (is.noted t k), λ leaf. let made = is.each t k in let e = same_Some (suc made.depth) 0 (sym made.depth_is ∙ leaves t.out.0 leaf) in absurd (omega (arith, e)));
-    all = λ c n out. let (e, at) = known c n in gate c (flagged c n) e at out;
+    all = λ c n out. let (e, at) = needed_known g most depths roots covered ups is.each c n in gate c (flagged c n) e at out;
     sorted = is.sorted;
   }
     where
-      known : (c : ℕ) → IsNeeded (numbers roots) ups c → IsKnown depths c
-      known c (by_root k) = let (x, i, e) = contained_in_map (λ (r : ClassId). r.0) roots c k in subst (IsKnown depths) e (All-contains (λ (r : ClassId). IsKnown depths r.0) roots x covered i)
-      known q (by_fanin t n k i) =
-          let (x, j, e) = contained_in_map (λ (r : ClassId). r.0) t.fanins q i in
-          let (d, at, lt) = (is.each t k).below x j in
-          (d, ap (depth_in depths) (sym e) ∙ at)
-
       flagged : (c : ℕ) → IsNeeded (numbers roots) ups c → IsNoted needed c
       flagged c (by_root k) = is.at_roots c k
       flagged q (by_fanin t n k i) = is.at_fanins t k q i
@@ -269,22 +283,8 @@ module _ (g : Graph) (most : ℕ) (lists : DepthLists) (least : AreLeastDepths g
       (seen_again k d new (t ∷ reverse tables) lt
       (down_take g most depths roots (drop (suc k) places) needed new (reverse tables) p t noted out (table_made k d lt cut here t out rising same few bits) also (place_depth p (at_contained places k p (slice_get-get_or places k d lt))) (λ q h. rest_depth (suc k) q h) (λ q h. before_rest k d q lt h) is))
 
-  shallow : (c : ℕ) → depth_in depths c ≡ Some 0 → IsLeafClass g c
-  shallow c at = by_cover (subst (λ o. IsLeastDepth g most c o) at (least.least c)).0
-    where
-      by_cover : (k : TableCover) × IsTableCover most k × Unfolds g (tree_of k) c × (depth_of k ≡ 0) → IsLeafClass g c
-      by_cover (wire i, ok, u, e) = (i, u)
-      by_cover (table p ks, ok, u, e) = absurd (omega (arith, e))
-
-  leaves : (c : ℕ) → IsLeafClass g c → depth_in depths c ≡ Some 0
-  leaves c (i, u) = by_depth (depth_in depths c) refl (least.least c)
-    where
-      by_depth : (o : Option ℕ) → depth_in depths c ≡ o → IsLeastDepth g most c o → depth_in depths c ≡ Some 0
-      by_depth None at none = absurd (none (leaf i) u)
-      by_depth (Some d) at (attained, low) = let le = low (wire i) tt u in at ∙ ap Some (omega (arith, le))
-
   pub turns_end : (needed : List Bool) (tables : List Table) → All (λ (root : ClassId). IsKnown depths root.0) roots → DownAt 0 needed tables → AreTables g most depths (numbers roots) (reverse tables)
-  turns_end needed tables covered is = down_end g most depths roots places places needed (reverse tables) by.are shallow leaves covered (λ p h. h) (subst (λ seen. IsDown g most depths roots seen needed (reverse tables)) (drop_none places) is)
+  turns_end needed tables covered is = down_end g most depths roots places places needed (reverse tables) by.are (leaf_at_zero g most lists least) (leaf_depth g most lists least) covered (λ p h. h) (subst (λ seen. IsDown g most depths roots seen needed (reverse tables)) (drop_none places) is)
     where
       drop_none : (ps : List Place) → drop 0 ps ≡ ps
       drop_none [] = refl

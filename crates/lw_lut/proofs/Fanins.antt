@@ -1,7 +1,7 @@
 -- Fan-ins of tables, and the values that numbers give them.
 use Rattle.std.proofs.Common.{◌≡◌, ◌≢◌, ◌+◌, ◌-◌, ◌*◌, ◌/◌, ◌%◌, ◌^◌, ◌<◌, ◌≤◌, ◌==◌, inl, inr, ℕ, zero, suc, Bool, true, false, List, [], ◌∷◌, ◌++◌, length, drop, take, Contains, get_or, if◌then◌else◌, refl, sym, ap, ap₂, ◌∙◌, arith}
 use Rattle.std.proofs.lemmas.Bool.{cases_eq, eq-eqb, ne_eqb}
-use Rattle.std.proofs.lemmas.List.{take_more, map-append}
+use Rattle.std.proofs.lemmas.List.{take_more, map_push}
 use Rattle.std.proofs.Math.Nat.{pow-le-pow_right}
 use Rattle.lw_pool.specs.declared.id.ClassId.{ClassId}
 use Rattle.lw_lut.specs.Cuts.{spelled, is_set}
@@ -42,12 +42,9 @@ given_past (x ∷ xs) zero place c le = absurd (omega arith)
 given_past (x ∷ xs) (suc k) place c le = given_past xs k place c (omega arith)
 
 -- one more pin
-numbers_push : (xs : List ClassId) (x : ClassId) → numbers (xs ++ x ∷ []) ≡ numbers xs ++ x.0 ∷ []
-numbers_push xs x = map-append (λ (c : ClassId). c.0) xs (x ∷ [])
-
 pub spelled_more : (v : ℕ → Bool) (pins : List ClassId) (k n : ℕ) (d : ClassId) (b : Bool) → k < length pins → n ≡ spelled v (numbers (take k pins)) → b ≡ v (get_or pins k d).0 → (if b then 1 else 0) + 2 * n ≡ spelled v (numbers (take (k + 1) pins))
 spelled_more v pins k n d b lt is value =
-    let e : numbers (take (k + 1) pins) ≡ numbers (take k pins) ++ (get_or pins k d).0 ∷ [] = ap numbers (take_more pins k d lt) ∙ numbers_push (take k pins) (get_or pins k d) in
+    let e : numbers (take (k + 1) pins) ≡ numbers (take k pins) ++ (get_or pins k d).0 ∷ [] = ap numbers (take_more pins k d lt) ∙ map_push (λ (c : ClassId). c.0) (take k pins) (get_or pins k d) in
     let j = spelled_join v (numbers (take k pins)) ((get_or pins k d).0 ∷ []) in
     rw (e, j, is, value) (one (v (get_or pins k d).0) (spelled v (numbers (take k pins))))
   where

@@ -12,7 +12,6 @@ pub mod Started
 pub mod Fanins
 pub mod RisingClasses
 pub mod TablesAt
-pub mod Noting
 pub mod Sorting
 pub mod Descent
 pub mod TableNets

@@ -4,13 +4,11 @@ use Rattle.std.specs.List.{IsDistinct}
 use Rattle.std.specs.Str.{bytes_eq}
 use Rattle.std.proofs.lemmas.List.{length-map}
 use Rattle.std.proofs.lemmas.List.Elements.{All-append, All-from_recursion, recursion_from_All}
-use Rattle.std.proofs.lemmas.Option.{slice_get_within}
 use Rattle.lw_pool.specs.declared.id.ClassId.{ClassId}
 use Rattle.lw_pool.specs.declared.latch.Frame.{Frame}
 use Rattle.lw_frame.proofs.Once.{roots_differ}
 use Rattle.lw_laws.specs.Graphs.{Graph}
 use Rattle.lw_laws.specs.Names.{AreDifferent, AreNameable, free_names, gate_names, net_names}
-use Rattle.lw_laws.proofs.Extracts.{slice_get_left, slice_get_right}
 use Rattle.lw_laws.proofs.Lists.{contains_all}
 use Rattle.lw_laws.proofs.NameLaws.{names_differ, names_owned}
 use Rattle.lw_lut.specs.Choosing.{AreTables}
@@ -20,6 +18,7 @@ use Rattle.lw_lut.specs.declared.ports.TablePorts.{TablePorts}
 use Rattle.lw_lut.specs.declared.table.Table.{Table}
 use Rattle.lw_lut.proofs.GivenNames.{given_each}
 use Rattle.lw_lut.proofs.ReadNames.{different_of}
+use Rattle.lw_lut.proofs.TableNets.{no_input, outs_once}
 use Rattle.lw_words.specs.Words.{IsSignalName}
 use Rattle.lw_pool.specs.Numbers.{numbers}
 use Rattle.lw_laws.proofs.MappedNames.{gate_names_each}
@@ -46,18 +45,6 @@ module _ (g : Graph) (most : ℕ) (depths : List (Option ℕ)) (n : PlainTableNe
   classes_are : net_classes n ≡ g.leaves ++ gates
   classes_are = ap (λ l. l ++ gates) made.inputs
 
-  once : (i j c : ℕ) → slice_get (g.leaves ++ gates) i ≡ Some c → slice_get (g.leaves ++ gates) j ≡ Some c → i ≡ j
-  once = subst (λ cs. (i j c : ℕ) → slice_get cs i ≡ Some c → slice_get cs j ≡ Some c → i ≡ j) classes_are net.once
-
-  gates_once : (i j c : ℕ) → slice_get gates i ≡ Some c → slice_get gates j ≡ Some c → i ≡ j
-  gates_once i j c e f = let same = once (length g.leaves + i) (length g.leaves + j) c (slice_get_right g.leaves gates i c e) (slice_get_right g.leaves gates j c f) in omega arith
-
-  no_leaf : (i j c : ℕ) → slice_get gates i ≡ Some c → slice_get g.leaves j ≡ Some c → ⊥
-  no_leaf i j c e f =
-      let same = once (length g.leaves + i) j c (slice_get_right g.leaves gates i c e) (slice_get_left g.leaves gates j c f) in
-      let below = slice_get_within g.leaves j c f in
-      absurd (omega (arith, same, below))
-
   outputs_differ : AreDifferent n.ports.outputs
   outputs_differ = different_of n.ports.outputs (subst (IsDistinct bytes_eq) (sym made.ports.frame_fits.roots) (roots_differ (take frame.outputs n.ports.outputs) frame.latches))
 
@@ -70,8 +57,8 @@ module _ (g : Graph) (most : ℕ) (depths : List (Option ℕ)) (n : PlainTableNe
     inputs_differ = made.ports.inputs_differ;
     outputs_differ = outputs_differ;
     tied = made.ports.tied;
-    once = gates_once;
-    no_leaf = no_leaf;
+    once = outs_once n net;
+    no_leaf = no_input n net g.leaves made.inputs;
   }
 
   names_are : n.names ≡ gate_names n.ports.outputs roots (free_names (n.ports.inputs ++ n.ports.outputs) (length gates)) gates

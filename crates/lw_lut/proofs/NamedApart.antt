@@ -1,8 +1,8 @@
 -- The names of a network of tables tell its nets apart.
 use Rattle.std.proofs.Common.{◌≡◌, ◌+◌, ◌^◌, ◌<◌, ◌≤◌, ℕ, suc, List, ◌++◌, length, Some, slice_get, slice_index_or, sym, ap, ap₂, ◌∙◌, subst, arith, length-append}
 use Rattle.std.proofs.lemmas.List.{length-map}
-use Rattle.std.proofs.lemmas.Option.{get_or_from_slice_get, slice_get_within}
-use Rattle.lw_facts.proofs.Lists.{get_left, at_contained, some_within}
+use Rattle.std.proofs.lemmas.Option.{get_or_from_slice_get}
+use Rattle.lw_facts.proofs.Lists.{at_contained, some_within}
 use Rattle.indexmap.proofs.IndexTableLemmas.Probe.{pigeonhole}
 use Rattle.lw_laws.specs.Graphs.{Graph}
 use Rattle.lw_laws.specs.Names.{AreDifferent, AreNameable, free_names, gate_names}
@@ -12,32 +12,17 @@ use Rattle.lw_laws.proofs.NameLaws.{names_differ, names_owned}
 use Rattle.lw_laws.proofs.Numbers.{slice_get_map_back}
 use Rattle.lw_lut.specs.Depths.{DepthLists, AreLeastDepths}
 use Rattle.lw_lut.specs.Meaning.{AreNamedApart, ArePortsApart, net_names}
-use Rattle.lw_lut.specs.Nets.{AreFit, PlainTableNet, IsTableNetOf, IsTableNet, net_classes, table_classes}
+use Rattle.lw_lut.specs.Nets.{AreFit, PlainTableNet, IsTableNetOf, IsTableNet, table_classes}
 use Rattle.lw_lut.specs.declared.ports.TablePorts.{TablePorts}
 use Rattle.lw_lut.specs.declared.table.Table.{Table}
 use Rattle.lw_naming.proofs.NameCount.{name_count}
-use Rattle.lw_lut.proofs.NetNames.{right_entry}
+use Rattle.lw_lut.proofs.TableNets.{no_input, outs_once}
 use Rattle.lw_lut.proofs.TableValues.{long}
 use Rattle.lw_pool.specs.Numbers.{numbers}
 
 module _ (g : Graph) (most : ℕ) (lists : DepthLists) (ports : TablePorts) (n : PlainTableNet) (least : AreLeastDepths g most lists) (fit : AreFit g ports) (apart : ArePortsApart g ports) (is : IsTableNetOf g most lists.depths ports n) (kept : IsTableNet n) (few : 1 + (length g.pairs + (length ports.inputs + length ports.outputs)) < 2 ^ 64) where
   abbrev gates : List ℕ
   gates = table_classes n.tables
-
-  gate_place : (i c : ℕ) → slice_get gates i ≡ Some c → slice_get (net_classes n) (length (numbers n.inputs) + i) ≡ Some c
-  gate_place i c at = right_entry (numbers n.inputs) gates i ∙ at
-
-  gates_once : (i j c : ℕ) → slice_get gates i ≡ Some c → slice_get gates j ≡ Some c → i ≡ j
-  gates_once i j c a b =
-      let e = kept.once (length (numbers n.inputs) + i) (length (numbers n.inputs) + j) c (gate_place i c a) (gate_place j c b) in
-      omega (arith, e)
-
-  no_leaf : (i j c : ℕ) → slice_get gates i ≡ Some c → slice_get g.leaves j ≡ Some c → ⊥
-  no_leaf i j c a b =
-      let input : slice_get (numbers n.inputs) j ≡ Some c = subst (λ cs. slice_get cs j ≡ Some c) (sym is.inputs) b in
-      let e = kept.once (length (numbers n.inputs) + i) j c (gate_place i c a) (get_left (numbers n.inputs) gates j c input) in
-      let lt = slice_get_within (numbers n.inputs) j c input in
-      omega (arith, e, lt)
 
   -- there are no more tables than classes
   few_gates : length gates ≤ length g.pairs
@@ -58,7 +43,7 @@ module _ (g : Graph) (most : ℕ) (lists : DepthLists) (ports : TablePorts) (n :
           let (c, at) = slice_get_some gates i a in
           let (d, bt) = slice_get_some gates j b in
           let same : d ≡ c = sym (get_or_from_slice_get gates j d 0 bt) ∙ (sym e ∙ get_or_from_slice_get gates i c 0 at) in
-          gates_once i j c at (bt ∙ ap Some same)
+          outs_once n kept i j c at (bt ∙ ap Some same)
 
   nameable : AreNameable ports.inputs ports.outputs g.leaves (numbers ports.roots) gates
   nameable = record {
@@ -66,8 +51,8 @@ module _ (g : Graph) (most : ℕ) (lists : DepthLists) (ports : TablePorts) (n :
     inputs_differ = apart.inputs;
     outputs_differ = apart.outputs;
     tied = apart.tied;
-    once = gates_once;
-    no_leaf = no_leaf;
+    once = outs_once n kept;
+    no_leaf = no_input n kept g.leaves is.inputs;
   }
 
   one_gate : length gates ≡ length n.tables

@@ -8,7 +8,7 @@ use Rattle.std.proofs.lemmas.List.{map-append, length-map, length-append}
 use Rattle.std.proofs.lemmas.Option.{slice_get_read}
 use Rattle.std.proofs.lemmas.Slice.Eq.{bytes_eq-Decides}
 use Rattle.std.proofs.lemmas.Bool.{or_parts}
-use Rattle.lw_facts.proofs.Lists.{bytes_differ_turned, at_contained}
+use Rattle.lw_facts.proofs.Lists.{bytes_differ_turned, bytes_eq_is, at_contained, contained_at}
 use Rattle.lw_pool.specs.declared.id.ClassId.{ClassId}
 use Rattle.lw_frame.proofs.Once.{is_among}
 use Rattle.lw_laws.specs.Names.{AreDifferent}
@@ -114,20 +114,23 @@ tables_named n once inputs names =
 
 -- Names that differ.
 
-pub distinct_of : (names : List (List ℕ)) → AreDifferent names → IsDistinct bytes_eq names
-unfolding IsDistinct
-distinct_of [] differ = tt
-distinct_of (x ∷ names) differ = (contains_all (λ y. bytes_eq x y ≡ false) names apart, distinct_of names (λ i j name e f. let same = differ (suc i) (suc j) name e f in omega arith))
+pub names_differ : (x y : List ℕ) → (x ≡ y → ⊥) → bytes_eq x y ≡ false
+names_differ x y ne = by_test (bytes_eq x y) refl
   where
-    apart : (y : List ℕ) → Contains names y → bytes_eq x y ≡ false
-    apart y (k, lt, e) = by_test (bytes_eq x y) refl
-      where
-        by_test : (b : Bool) → bytes_eq x y ≡ b → b ≡ false
-        by_test true is =
-            let same : x ≡ y = (bytes_eq-Decides x y).0 is in
-            let places = differ 0 (suc k) y (ap Some same) (slice_get_read names (length names) k y refl lt (sym e)) in
-            absurd (omega arith)
-        by_test false is = refl
+    by_test : (b : Bool) → bytes_eq x y ≡ b → b ≡ false
+    by_test true e = absurd (ne (bytes_eq_is x y e))
+    by_test false e = refl
+
+pub distinct_of : (xs : List (List ℕ)) → AreDifferent xs → IsDistinct bytes_eq xs
+unfolding IsDistinct
+distinct_of [] d = tt
+distinct_of (x ∷ xs) d = (contains_all (λ y. bytes_eq x y ≡ false) xs (λ y c. names_differ x y (λ e. first y e (contained_at xs y c))), distinct_of xs (λ i j name e f. lower i j (d (suc i) (suc j) name e f)))
+  where
+    first : (y : List ℕ) → x ≡ y → (k : ℕ) × (slice_get xs k ≡ Some y) → ⊥
+    first y e (k, at) = let s : 0 ≡ suc k = d zero (suc k) y (ap Some e) at in omega (arith, s)
+
+    lower : (i j : ℕ) → suc i ≡ suc j → i ≡ j
+    lower i j e = omega (arith, e)
 
 first_once : (x : List ℕ) (names : List (List ℕ)) → Each (λ y. bytes_eq x y ≡ false) names → (j : ℕ) (name : List ℕ) → ◌≡◌ {A = Option (List ℕ)} (Some x) (Some name) → slice_get names j ≡ Some name → ⊥
 first_once x names each j name e f =

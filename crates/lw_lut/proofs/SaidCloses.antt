@@ -1,6 +1,7 @@
 -- The draft that the text of a network of tables says can be closed.
 use Rattle.std.proofs.Common.{◌≡◌, ◌^◌, ◌<◌, ◌==◌, ◌&&◌, inl, inr, ℕ, zero, suc, Bool, true, false, not, unwrap_or, List, [], ◌∷◌, ◌++◌, length, map, codes, Option, Contains, All, slice_index_or, if◌then◌else◌, refl, sym, ap, ◌∙◌, subst, arith}
 use Rattle.std.specs.List.{AllByRecursion}
+use Rattle.std.proofs.lemmas.Bool.{and_parts}
 use Rattle.std.proofs.lemmas.Bool.Decides.{nat_tests}
 use Rattle.std.proofs.lemmas.List.{length-map}
 use Rattle.std.proofs.lemmas.List.Elements.{All-from_recursion}
@@ -28,7 +29,8 @@ use Rattle.lw_lut.proofs.TableValues.{said_wire}
 use Rattle.lw_lut.proofs.Falling.{closes, weighed, weighed_input, weighed_node}
 use Rattle.lw_lut.proofs.NetNames.{net_place}
 use Rattle.lw_lut.proofs.SaidNodes.{IsWire, IsTables, node_cases}
-use Rattle.lw_lut.proofs.SaidSignals.{contains_among, distinct_by_place, said_distinct, said_defined, wire_apart}
+use Rattle.lw_lut.proofs.ReadNames.{distinct_of}
+use Rattle.lw_lut.proofs.SaidSignals.{contains_among, said_distinct, said_defined, single_name, wire_apart}
 use Rattle.lw_lut.proofs.TableCovers.{greatest_above}
 use Rattle.lw_pool.specs.Numbers.{numbers}
 
@@ -50,7 +52,7 @@ module _ (g : Graph) (most : ℕ) (depths : List (Option ℕ)) (n : PlainTableNe
   net_rank : (c : ℕ) → Contains (net_classes n) c → rank (net_name n c) ≡ deep c
   net_rank c among =
       let (i, at, named) = net_place n apart c among in
-      let number : number_in (net_names n) (net_name n c) ≡ i = ap (number_in (net_names n)) (sym (get_or_from_slice_get (net_names n) i (net_name n c) [] named)) ∙ number_at (net_names n) i [] (distinct_by_place (net_names n) apart.nets) (slice_get_within (net_names n) i (net_name n c) named) in
+      let number : number_in (net_names n) (net_name n c) ≡ i = ap (number_in (net_names n)) (sym (get_or_from_slice_get (net_names n) i (net_name n c) [] named)) ∙ number_at (net_names n) i [] (distinct_of (net_names n) apart.nets) (slice_get_within (net_names n) i (net_name n c) named) in
       ap (λ b. if b then deep (slice_index_or (net_classes n) (number_in (net_names n) (net_name n c)) 0) else beyond) (contains_among (net_names n) (net_name n c) (at_contained (net_names n) i (net_name n c) named))
       ∙ ap deep (ap (λ k. slice_index_or (net_classes n) k 0) number ∙ get_or_from_slice_get (net_classes n) i c 0 at)
 
@@ -81,14 +83,10 @@ module _ (g : Graph) (most : ℕ) (depths : List (Option ℕ)) (n : PlainTableNe
       of_wire w =
           let only : Contains (net_name n w.root.0 ∷ []) name = subst (λ (d : DraftNode). Contains d.fanins name) (sym w.is) c in
           let root : Contains (net_classes n) w.root.0 = kept.roots w.root.0 (contains_map (λ (r : ClassId). r.0) n.ports.roots w.root (at_contained n.ports.roots w.place w.root w.root_at)) in
-          let low : rank name ≡ deep w.root.0 = ap rank (sym (single (net_name n w.root.0) only)) ∙ net_rank w.root.0 root in
+          let low : rank name ≡ deep w.root.0 = ap rank (sym (single_name (net_name n w.root.0) name only)) ∙ net_rank w.root.0 root in
           let high = wire_rank node w in
           let within = greatest_above deep (net_classes n) w.root.0 root in
           omega (arith, low, high, within)
-        where
-          single : (x : Name) → Contains (x ∷ []) name → x ≡ name
-          single x (zero, lt, e) = e
-          single x (suc k, lt, e) = absurd (omega (arith, lt))
 
   pub said_closes : (net : NetworkParts) × IsClosed (draft_said n) net
   said_closes = closes (draft_said n) (said_distinct n apart kept) rank lower (said_defined n apart kept)
@@ -125,13 +123,9 @@ module _ (n : PlainTableNet) where
       l : length (fanin_names n t) ≡ length t.fanins
       l = length-map t.fanins (λ (q : ClassId). net_name n q.0)
 
-      one : (a b : Bool) → (a && b) ≡ true → a ≡ true
-      one true b e = refl
-      one false b e = cc
-
       by_test : (b : Bool) → is_buffer t ≡ b → All (λ (row : List ℕ). length row ≡ length (fanin_names n t)) (if b then codes "0" ∷ [] else columns_from t 0 (2 ^ length t.fanins))
       by_test true e =
-          let single : length t.fanins ≡ 1 = let s = one (length t.fanins == 1) (not (is_set t.bits 0) && is_set t.bits 1) e in grind (arith, nat_tests, s) in
+          let single : length t.fanins ≡ 1 = let s = (and_parts (length t.fanins == 1) (not (is_set t.bits 0) && is_set t.bits 1) e).0 in grind (arith, nat_tests, s) in
           All-from_recursion (λ (row : List ℕ). length row ≡ length (fanin_names n t)) (codes "0" ∷ []) (sym (l ∙ single), tt)
       by_test false e = All-from_recursion (λ (row : List ℕ). length row ≡ length (fanin_names n t)) (columns_from t 0 (2 ^ length t.fanins)) (subst (λ m. AllByRecursion (λ (row : List ℕ). length row ≡ m) (columns_from t 0 (2 ^ length t.fanins))) (sym l) (columns_long t 0 (2 ^ length t.fanins)))
 
@@ -144,6 +138,6 @@ module _ (n : PlainTableNet) where
   pub said_draft : AreNamedApart n → IsTableNet n → IsDraftOfAnySize (draft_said n)
   said_draft apart kept = record {
     signals = said_distinct n apart kept;
-    outputs = distinct_by_place n.ports.outputs apart.outputs;
+    outputs = distinct_of n.ports.outputs apart.outputs;
     columns = All-from_recursion HasColumns (draft_said n).nodes (contains_all HasColumns (draft_said n).nodes node_columns);
   }

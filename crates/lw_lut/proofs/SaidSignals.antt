@@ -7,7 +7,6 @@ use Rattle.std.proofs.lemmas.List.Elements.{Contains-append_cases}
 use Rattle.std.proofs.lemmas.Option.{slice_get_within, same_Some}
 use Rattle.lw_facts.proofs.Lists.{bytes_eq_is, bytes_eq_same, contains_map, contained_in_map, contained_at, at_contained}
 use Rattle.lw_dag.specs.Names.{is_among, unknown_in}
-use Rattle.lw_laws.specs.Names.{AreDifferent}
 use Rattle.lw_laws.proofs.Lists.{all_append, contains_all, in_left, in_right, slice_get_some}
 use Rattle.lw_laws.proofs.Numbers.{slice_get_map, slice_get_map_back}
 use Rattle.lw_pool.specs.declared.id.ClassId.{ClassId}
@@ -18,28 +17,16 @@ use Rattle.lw_lut.specs.Nets.{PlainTableNet, IsTableNet, net_classes}
 use Rattle.lw_lut.specs.Texts.{net_name}
 use Rattle.lw_lut.specs.Said.{draft_said, table_node, wire_nodes}
 use Rattle.lw_lut.proofs.NetNames.{net_place, net_named, table_named}
+use Rattle.lw_lut.proofs.ReadNames.{distinct_of, names_differ}
 use Rattle.lw_lut.proofs.SaidNodes.{IsWire, IsTables, wire_of, wire_in, node_cases, wire_node}
 
 abbrev Name : Type 0
 Name = List ℕ
 
-names_differ : (x y : Name) → (x ≡ y → ⊥) → bytes_eq x y ≡ false
-names_differ x y ne = by_test (bytes_eq x y) refl
-  where
-    by_test : (b : Bool) → bytes_eq x y ≡ b → b ≡ false
-    by_test true e = absurd (ne (bytes_eq_is x y e))
-    by_test false e = refl
-
-pub distinct_by_place : (xs : List Name) → AreDifferent xs → IsDistinct bytes_eq xs
-unfolding IsDistinct
-distinct_by_place [] d = tt
-distinct_by_place (x ∷ xs) d = (contains_all (λ y. bytes_eq x y ≡ false) xs (λ y c. names_differ x y (λ e. first y e (contained_at xs y c))), distinct_by_place xs (λ i j name e f. lower i j (d (suc i) (suc j) name e f)))
-  where
-    first : (y : Name) → x ≡ y → (k : ℕ) × (slice_get xs k ≡ Some y) → ⊥
-    first y e (k, at) = let s : 0 ≡ suc k = d zero (suc k) y (ap Some e) at in omega (arith, s)
-
-    lower : (i j : ℕ) → suc i ≡ suc j → i ≡ j
-    lower i j e = omega (arith, e)
+-- the one name of a list
+pub single_name : (x name : Name) → Contains (x ∷ []) name → x ≡ name
+single_name x name (zero, lt, e) = e
+single_name x name (suc k, lt, e) = absurd (omega (arith, lt))
 
 distinct_join : (xs ys : List Name) → IsDistinct bytes_eq xs → IsDistinct bytes_eq ys → ((name : Name) → Contains xs name → Contains ys name → ⊥) → IsDistinct bytes_eq (xs ++ ys)
 unfolding IsDistinct
@@ -129,7 +116,7 @@ module _ (n : PlainTableNet) (apart : AreNamedApart n) (kept : IsTableNet n) whe
       cc
 
   pub said_distinct : IsDistinct bytes_eq (signals_of (draft_said n))
-  said_distinct = subst (IsDistinct bytes_eq) (sym signals_are) (distinct_join (net_names n) (map out_of wires) (distinct_by_place (net_names n) apart.nets) (wires_distinct n.ports.outputs n.ports.roots (distinct_by_place n.ports.outputs apart.outputs)) (λ name a b.
+  said_distinct = subst (IsDistinct bytes_eq) (sym signals_are) (distinct_join (net_names n) (map out_of wires) (distinct_of (net_names n) apart.nets) (wires_distinct n.ports.outputs n.ports.roots (distinct_of n.ports.outputs apart.outputs)) (λ name a b.
       let (node, k, e) = contained_in_map out_of wires name b in
       wire_apart node (wire_of n n.ports.outputs n.ports.roots node k) (subst (Contains (net_names n)) (sym e) a)))
 
@@ -151,11 +138,7 @@ module _ (n : PlainTableNet) (apart : AreNamedApart n) (kept : IsTableNet n) whe
       of_wire : IsWire n n.ports.outputs n.ports.roots node → (c : ℕ) × Contains (net_classes n) c × (net_name n c ≡ name)
       of_wire w =
           let only = subst (λ (d : DraftNode). Contains d.fanins name) (sym w.is) c in
-          (w.root.0, kept.roots w.root.0 (contains_map (λ (r : ClassId). r.0) n.ports.roots w.root (at_contained n.ports.roots w.place w.root w.root_at)), single (net_name n w.root.0) only)
-        where
-          single : (x : Name) → Contains (x ∷ []) name → x ≡ name
-          single x (zero, lt, e) = e
-          single x (suc k, lt, e) = absurd (omega (arith, lt))
+          (w.root.0, kept.roots w.root.0 (contains_map (λ (r : ClassId). r.0) n.ports.roots w.root (at_contained n.ports.roots w.place w.root w.root_at)), single_name (net_name n w.root.0) name only)
 
   pub output_signal : (output : Name) → Contains n.ports.outputs output → Contains (signals_of (draft_said n)) output
   output_signal output c =

@@ -1,5 +1,5 @@
 -- The names in the text of a network of tables.
-use Rattle.std.proofs.Common.{ℕ, zero, suc, ◌≡◌, ◌≤◌, Bool, true, false, ◌&&◌, if◌then◌else◌, List, [], ◌∷◌, ◌++◌, length, map, take, All, Contains, Option, Some, None, slice_get, refl, ap, ap₂, sym, ◌∙◌, subst, append_assoc}
+use Rattle.std.proofs.Common.{ℕ, suc, ◌≡◌, ◌≤◌, Bool, true, false, ◌&&◌, if◌then◌else◌, List, [], ◌∷◌, ◌++◌, length, map, take, All, Contains, Some, slice_get, refl, ap, ap₂, sym, ◌∙◌, subst, append_assoc}
 use Rattle.std.specs.List.{list_all, IsDistinct, AllByRecursion as Each}
 use Rattle.std.specs.Str.{bytes_eq}
 use Rattle.std.proofs.lemmas.List.{take-append-le}
@@ -10,6 +10,7 @@ use Rattle.lw_facts.proofs.Lists.{contains_map}
 use Rattle.lw_pool.specs.declared.id.ClassId.{ClassId}
 use Rattle.lw_pool.specs.declared.latch.Frame.{Frame}
 use Rattle.lw_frame.proofs.Once.{is_among, roots_differ}
+use Rattle.lw_laws.proofs.Numbers.{slice_get_map}
 use Rattle.lw_laws.proofs.Lists.{all_map, contains_all}
 use Rattle.lw_lut.specs.Nets.{PlainTableNet, table_classes, net_classes}
 use Rattle.lw_lut.specs.Readable.{IsSayable, names_of_nets}
@@ -111,19 +112,10 @@ module _ (n : PlainTableNet) (frame : Frame) (s : IsSayable n frame) where
   -- an output that has the name of a net has no wire
   owned : (k : ℕ) (output : List ℕ) (root : ClassId) → slice_get n.ports.outputs k ≡ Some output → slice_get n.ports.roots k ≡ Some root → Contains (names_of_nets n) output → net_name n root.0 ≡ output
   owned k output root at rooted (j, lt, e) =
-      name_there (net_classes n) (names_of_nets n) j root.0 output s.net.once (s.owned j k output there at ∙ number_at n.ports.roots k root rooted) there
+      name_there (net_classes n) (names_of_nets n) j root.0 output s.net.once (s.owned j k output there at ∙ slice_get_map (λ (c : ClassId). c.0) n.ports.roots k root rooted) there
     where
       there : slice_get (names_of_nets n) j ≡ Some output
       there = slice_get_read (names_of_nets n) (length (names_of_nets n)) j output refl lt (sym e)
-
-      number_at : (roots : List ClassId) (i : ℕ) (x : ClassId) → slice_get roots i ≡ Some x → slice_get (numbers roots) i ≡ Some x.0
-      number_at [] i x f = cc
-      number_at (y ∷ roots) zero x f = ap (λ (o : Option ClassId). number_in o) f
-        where
-          number_in : Option ClassId → Option ℕ
-          number_in None = None
-          number_in (Some c) = Some c.0
-      number_at (y ∷ roots) (suc i) x f = number_at roots i x f
 
   abbrev pub outs : List (List ℕ)
   outs = map (λ (t : Table). net_name n t.out.0) n.tables

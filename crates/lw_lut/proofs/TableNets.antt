@@ -1,24 +1,26 @@
 -- What a network of tables keeps.
 use Rattle.std.proofs.Common.{ℕ, zero, suc, ◌+◌, ◌<◌, ◌≡◌, ◌⊎◌, inl, inr, List, [], ◌∷◌, ◌++◌, length, take, get_or, All, Contains, Some, slice_get, ap, ap₂, sym, ◌∙◌, subst, arith}
 use Rattle.std.proofs.lemmas.List.{take_more, map-append}
-use Rattle.std.proofs.lemmas.List.Elements.{All-contains, Contains-append_left, Contains-append_right}
+use Rattle.std.proofs.lemmas.List.Elements.{Contains-append_left, Contains-append_right}
 use Rattle.std.proofs.lemmas.Option.{slice_get-get_or, slice_get_within, get_or_from_slice_get}
-use Rattle.lw_facts.proofs.Lists.{contains_map, contained_in_map, at_contained, some_within}
+use Rattle.lw_facts.proofs.Lists.{contains_map, at_contained, some_within}
 use native.Mathlib.Decide.{dec_lt}
+use Rattle.lw_laws.proofs.Extracts.{slice_get_left, slice_get_right}
 use Rattle.lw_laws.proofs.Numbers.{slice_get_map_back}
 use Rattle.lw_pool.specs.declared.id.ClassId.{ClassId}
-use Rattle.lw_laws.specs.Graphs.{Graph, Unfolds}
+use Rattle.lw_laws.specs.Graphs.{Graph}
 use Rattle.lw_laws.specs.Extracts.{IsLeafClass}
 use Rattle.lw_lut.specs.Choosing.{AreTables, IsNeeded}
 use Rattle.lw_lut.specs.Choosing.IsNeeded.{by_root, by_fanin}
-use Rattle.lw_lut.specs.Covers.{TableCover, IsTableCover, tree_of, depth_of, IsLeastDepth}
-use Rattle.lw_lut.specs.Covers.TableCover.{wire, table}
+use Rattle.lw_lut.specs.Covers.{IsLeastDepth}
+use Rattle.lw_lut.specs.Covers.TableCover.{wire}
 use Rattle.lw_lut.specs.Depths.{DepthLists, AreLeastDepths}
-use Rattle.lw_lut.specs.Nets.{AreFit, IsTableNet, table_classes}
+use Rattle.lw_lut.specs.Nets.{AreFit, IsTableNet, PlainTableNet, table_classes}
 use Rattle.lw_lut.specs.Searches.{depth_in, IsKnown}
 use Rattle.lw_lut.specs.declared.ports.TablePorts.{TablePorts}
 use Rattle.lw_lut.specs.declared.table.Table.{Table}
 use Rattle.lw_pool.specs.Numbers.{numbers}
+use Rattle.lw_lut.proofs.Descent.{leaf_at_zero, needed_known}
 
 pub numbers_more : (xs : List ClassId) (leaves : List ℕ) (i : ℕ) (c : ClassId) → numbers xs ≡ take i leaves → slice_get leaves i ≡ Some c.0 → numbers (xs ++ c ∷ []) ≡ take (i + 1) leaves
 numbers_more xs leaves i c is at =
@@ -32,13 +34,6 @@ split (x ∷ xs) ys zero c e = inl e
 split (x ∷ xs) ys (suc k) c e = elim (split xs ys k c e) [ inl f ↦ inl f | inr (m, f, s) ↦ inr (m, f, omega (arith, s)) ]
 
 module _ (g : Graph) (most : ℕ) (lists : DepthLists) (least : AreLeastDepths g most lists) where
-  shallow : (c : ℕ) → depth_in lists.depths c ≡ Some 0 → IsLeafClass g c
-  shallow c at = by_cover (subst (λ o. IsLeastDepth g most c o) at (least.least c)).0
-    where
-      by_cover : (k : TableCover) × IsTableCover most k × Unfolds g (tree_of k) c × (depth_of k ≡ 0) → IsLeafClass g c
-      by_cover (wire i, ok, u, e) = (i, u)
-      by_cover (table p ks, ok, u, e) = absurd (omega (arith, e))
-
   deep : (c d : ℕ) → depth_in lists.depths c ≡ Some (suc d) → IsLeafClass g c → ⊥
   deep c d at (i, u) = let le = (subst (λ o. IsLeastDepth g most c o) at (least.least c)).1 (wire i) tt u in omega (arith, le)
 
@@ -49,8 +44,8 @@ module _ (g : Graph) (most : ℕ) (lists : DepthLists) (least : AreLeastDepths g
     not_leaf : (m c : ℕ) → slice_get (table_classes tables) m ≡ Some c → IsLeafClass g c → ⊥
     not_leaf m c e input = let (t, at, s) = table_at m c e in (are.needed t (at_contained tables m t at)).1 (subst (IsLeafClass g) (sym s) input)
 
-    not_before : (m n c : ℕ) → slice_get (table_classes tables) m ≡ Some c → slice_get (table_classes tables) n ≡ Some c → m < n → ⊥
-    not_before m n c e f lt =
+    pub outs_apart : (m n c : ℕ) → slice_get (table_classes tables) m ≡ Some c → slice_get (table_classes tables) n ≡ Some c → m < n → ⊥
+    outs_apart m n c e f lt =
         let (t, at, s) = table_at m c e in
         let (u, bt, r) = table_at n c f in
         let d = are.each t (at_contained tables m t at) in
@@ -70,15 +65,8 @@ module _ (g : Graph) (most : ℕ) (lists : DepthLists) (least : AreLeastDepths g
         let d = are.each t (at_contained tables i t (slice_get-get_or tables i z below)) in
         some_within lists.depths t.out.0 (suc d.depth) d.depth_is
 
-    pub outs_apart : (i j c : ℕ) → slice_get (table_classes tables) i ≡ Some c → slice_get (table_classes tables) j ≡ Some c → i < j → ⊥
-    outs_apart = not_before
-
     known : (c : ℕ) → IsNeeded (numbers ports.roots) tables c → IsKnown lists.depths c
-    known c (by_root k) = let (x, i, e) = contained_in_map (λ (r : ClassId). r.0) ports.roots c k in subst (IsKnown lists.depths) e (All-contains (λ (r : ClassId). IsKnown lists.depths r.0) ports.roots x covered i)
-    known q (by_fanin t n k i) =
-        let (x, j, e) = contained_in_map (λ (r : ClassId). r.0) t.fanins q i in
-        let (d, at, lt) = (are.each t k).below x j in
-        (d, ap (depth_in lists.depths) (sym e) ∙ at)
+    known = needed_known g most lists.depths ports.roots covered tables are.each
 
     module _ (inputs : List ClassId) (leaves : numbers inputs ≡ g.leaves) (names : List (List ℕ)) where
       in_net : (c : ℕ) → IsNeeded (numbers ports.roots) tables c → Contains (numbers inputs ++ table_classes tables) c
@@ -86,7 +74,7 @@ module _ (g : Graph) (most : ℕ) (lists : DepthLists) (least : AreLeastDepths g
         where
           by_depth : (e : ℕ) → depth_in lists.depths c ≡ Some e → Contains (numbers inputs ++ table_classes tables) c
           by_depth zero at =
-              let (i, u) = shallow c at in
+              let (i, u) = leaf_at_zero g most lists least c at in
               Contains-append_left (numbers inputs) (table_classes tables) c (subst (λ xs. Contains xs c) (sym leaves) (at_contained g.leaves i c u))
           by_depth (suc e) at =
               let (t, k, s) = are.all c n (deep c e at) in
@@ -105,8 +93,8 @@ module _ (g : Graph) (most : ℕ) (lists : DepthLists) (least : AreLeastDepths g
           cases (inr (m, a, s)) (inr (n, b, r)) = by_order (dec_lt m n) (dec_lt n m)
             where
               by_order : Dec (m < n) → Dec (n < m) → i ≡ j
-              by_order (yes lt) other = absurd (not_before m n c a b lt)
-              by_order (no ge) (yes lt) = absurd (not_before n m c b a lt)
+              by_order (yes lt) other = absurd (outs_apart m n c a b lt)
+              by_order (no ge) (yes lt) = absurd (outs_apart n m c b a lt)
               by_order (no ge) (no le) = omega (arith, ge, le, s, r)
 
       pub net_kept : IsTableNet (record { ports = ports; inputs = inputs; tables = tables; names = names })
@@ -115,3 +103,21 @@ module _ (g : Graph) (most : ℕ) (lists : DepthLists) (least : AreLeastDepths g
         roots = λ c k. in_net c (by_root k);
         fanins = λ t c k i. in_net c (by_fanin t (are.needed t k).0 k i);
       }
+
+-- a class comes out of one table at most, and of none where it is an input's
+module _ (n : PlainTableNet) (kept : IsTableNet n) where
+  pub outs_once : (i j c : ℕ) → slice_get (table_classes n.tables) i ≡ Some c → slice_get (table_classes n.tables) j ≡ Some c → i ≡ j
+  outs_once i j c e f =
+      let xs = numbers n.inputs in
+      let outs = table_classes n.tables in
+      let same = kept.once (length xs + i) (length xs + j) c (slice_get_right xs outs i c e) (slice_get_right xs outs j c f) in
+      omega (arith, same)
+
+  pub no_input : (leaves : List ℕ) → numbers n.inputs ≡ leaves → (i j c : ℕ) → slice_get (table_classes n.tables) i ≡ Some c → slice_get leaves j ≡ Some c → ⊥
+  no_input leaves are i j c e f =
+      let xs = numbers n.inputs in
+      let outs = table_classes n.tables in
+      let input : slice_get xs j ≡ Some c = subst (λ cs. slice_get cs j ≡ Some c) (sym are) f in
+      let same = kept.once (length xs + i) j c (slice_get_right xs outs i c e) (slice_get_left xs outs j c input) in
+      let below = slice_get_within xs j c input in
+      omega (arith, same, below)

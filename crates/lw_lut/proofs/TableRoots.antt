@@ -1,11 +1,9 @@
 -- The outputs of the network that the text of a network of tables says.
-use Rattle.std.proofs.Common.{◌≡◌, ◌+◌, ◌≤◌, ◌&&◌, ◌||◌, inl, inr, ℕ, suc, max, Bool, true, false, List, length, Option, Some, None, Contains, slice_get, refl, sym, ap, ◌∙◌, subst, arith}
+use Rattle.std.proofs.Common.{◌≡◌, ◌+◌, ◌≤◌, ◌&&◌, ◌||◌, inl, inr, ℕ, suc, max, Bool, true, false, List, length, Some, Contains, slice_get, refl, sym, ap, ◌∙◌, subst, arith}
 use Rattle.std.specs.Str.{bytes_eq}
 use Rattle.std.proofs.lemmas.List.{length-map}
 use Rattle.std.proofs.lemmas.Option.{slice_get_within, same_Some}
 use Rattle.lw_laws.specs.Graphs.{Graph}
-use Rattle.lw_laws.specs.Extracts.{IsLeafClass}
-use Rattle.lw_laws.specs.Trees.{leaf}
 use Rattle.lw_laws.proofs.Lists.{slice_get_some}
 use Rattle.lw_pool.specs.declared.id.ClassId.{ClassId}
 use Rattle.lw_pool.specs.declared.id.NetId.{NetId}
@@ -17,7 +15,6 @@ use Rattle.std.proofs.lemmas.List.Elements.{Contains-append_cases}
 use Rattle.lw_facts.proofs.Lists.{bytes_eq_is, contains_map, contained_in_map, contained_at, at_contained}
 use Rattle.lw_lut.specs.Choosing.{IsTable}
 use Rattle.lw_lut.specs.Covers.{depth_of, IsLeastDepth}
-use Rattle.lw_lut.specs.Covers.TableCover.{wire}
 use Rattle.lw_lut.specs.Depths.{DepthLists, AreLeastDepths}
 use Rattle.lw_lut.specs.Meaning.{AreNamedApart, IsRootAt, IsTableNetwork}
 use Rattle.lw_lut.specs.Nets.{PlainTableNet, IsTableNet, net_classes, table_classes}
@@ -26,6 +23,7 @@ use Rattle.lw_lut.specs.Searches.{depth_in}
 use Rattle.lw_lut.specs.Texts.{net_name}
 use Rattle.lw_lut.specs.declared.table.Table.{Table}
 use Rattle.lw_lut.proofs.ClosedNames as closing
+use Rattle.lw_lut.proofs.Descent.{leaf_depth}
 use Rattle.lw_lut.proofs.SaidCloses.{said_depths, said_draft}
 use Rattle.lw_lut.proofs.SaidNodes.{IsWire, IsTables, node_cases, wire_node, wire_in}
 use Rattle.lw_lut.proofs.SaidSignals.{said_distinct}
@@ -33,17 +31,10 @@ use Rattle.lw_lut.proofs.TableCovers.{IsNamedCover, covered}
 use Rattle.lw_pool.specs.Numbers.{numbers}
 
 module _ (g : Graph) (most : ℕ) (lists : DepthLists) (least : AreLeastDepths g most lists) (n : PlainTableNet) (apart : AreNamedApart n) (kept : IsTableNet n) (leaves : numbers n.inputs ≡ g.leaves) (tables_are : (t : Table) → Contains n.tables t → IsTable g most lists.depths t) where
-  leaf_depth : (c : ℕ) → IsLeafClass g c → depth_in lists.depths c ≡ Some 0
-  leaf_depth c (i, u) = by_depth (depth_in lists.depths c) refl (least.least c)
-    where
-      by_depth : (o : Option ℕ) → depth_in lists.depths c ≡ o → IsLeastDepth g most c o → depth_in lists.depths c ≡ Some 0
-      by_depth None at none = absurd (none (leaf i) u)
-      by_depth (Some d) at (attained, low) = let le = low (wire i) tt u in at ∙ ap Some (omega (arith, le))
-
   -- the class of each net has a depth
   pub net_depth : (c : ℕ) → Contains (net_classes n) c → (e : ℕ) × (depth_in lists.depths c ≡ Some e)
   net_depth c among = elim (Contains-append_cases (numbers n.inputs) (table_classes n.tables) c among) [
-    | inl input ↦ let (i, at) = contained_at (numbers n.inputs) c input in (0, leaf_depth c (i, subst (λ cs. slice_get cs i ≡ Some c) leaves at))
+    | inl input ↦ let (i, at) = contained_at (numbers n.inputs) c input in (0, leaf_depth g most lists least c (i, subst (λ cs. slice_get cs i ≡ Some c) leaves at))
     | inr out ↦ let (t, k, s) = contained_in_map (λ (t : Table). t.out.0) n.tables c out in let is = tables_are t k in (suc is.depth, ap (depth_in lists.depths) (sym s) ∙ is.depth_is)
   ]
 

@@ -1,12 +1,13 @@
 -- The needed classes, each with its table, and how they are found from the deepest down.
-use Rattle.std.specs.Prelude.{ℕ, suc, ◌+◌, ◌*◌, ◌^◌, ◌<◌, ◌≡◌, ◌⊎◌, ◌↔◌, Bool, true, false, List, Contains, length, Option, Some, slice_get, slice_index_or}
+use Rattle.std.specs.Prelude.{ℕ, suc, ◌<◌, ◌≡◌, ◌⊎◌, List, Contains, length, Option, Some, slice_get}
 use Rattle.lw_pool.specs.declared.id.ClassId.{ClassId}
 use Rattle.lw_laws.specs.Graphs.{Graph}
 use Rattle.lw_laws.specs.Extracts.{IsLeafClass}
+use Rattle.lw_naming.specs.declared.places.Place.{Place}
+use Rattle.lw_naming.specs.Places.{AreInClassOrder, AreInDepthOrder}
 use Rattle.lw_lut.specs.Searches.{depth_in, IsBelow}
 use Rattle.lw_lut.specs.Tables.{IsTableAt, AreRisingClasses}
 use Rattle.lw_lut.specs.declared.table.Table.{Table}
-use Rattle.lw_lut.specs.declared.choosing.Place.{Place}
 use Rattle.lw_pool.specs.Numbers.{numbers}
 
 -- the least set that has the roots and the fan-ins of the tables of classes in it
@@ -37,12 +38,6 @@ pub record AreTables (g : Graph) (most : ℕ) (depths : List (Option ℕ)) (root
 
 -- Places.
 
-abbrev pub place_key : Place → ℕ
-place_key p = p.depth * 2 ^ 32 + p.class.0
-
-abbrev pub IsPlaceBefore : Place → Place → Type 0
-IsPlaceBefore p q = (p.depth < q.depth) ⊎ ((p.depth ≡ q.depth) × (p.class.0 < q.class.0))
-
 -- the places are those of the classes that have a depth other than 0
 pub record ArePlaces (depths : List (Option ℕ)) (places : List Place) : Type 0 where
   pub each : (p : Place) → Contains places p → (e : ℕ) × (depth_in depths p.class.0 ≡ Some (suc e)) × (p.depth ≡ suc e)
@@ -51,19 +46,9 @@ pub record ArePlaces (depths : List (Option ℕ)) (places : List Place) : Type 0
 -- in the order of the classes' numbers
 pub record AreListed (depths : List (Option ℕ)) (places : List Place) : Type 0 where
   pub are : ArePlaces depths places
-  pub rising : (i j : ℕ) (p q : Place) → slice_get places i ≡ Some p → slice_get places j ≡ Some q → i < j → p.class.0 < q.class.0
+  pub rising : AreInClassOrder places
 
 -- by depth and then class
 pub record AreByDepth (depths : List (Option ℕ)) (places : List Place) : Type 0 where
   pub are : ArePlaces depths places
-  pub sorted : (i j : ℕ) (p q : Place) → slice_get places i ≡ Some p → slice_get places j ≡ Some q → i < j → IsPlaceBefore p q
-
--- the classes of the roots are noted, and no others
-pub record AreRoots (roots : List ClassId) (classes : ℕ) (needed : List Bool) : Type 0 where
-  pub one_each : length needed ≡ classes
-  pub are : (c : ℕ) → slice_index_or needed c false ≡ true ↔ Contains (numbers roots) c
-
--- these classes are noted too
-pub record HasAlso (old : List Bool) (classes : List ClassId) (new : List Bool) : Type 0 where
-  pub one_each : length new ≡ length old
-  pub are : (c : ℕ) → slice_index_or new c false ≡ true ↔ ((slice_index_or old c false ≡ true) ⊎ Contains (numbers classes) c)
+  pub sorted : AreInDepthOrder places

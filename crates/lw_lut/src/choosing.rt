@@ -1,23 +1,16 @@
 // The classes that are needed, each with its table.
 ghost use Rattle.std.specs.Prelude.{◌≡◌, ◌+◌, ◌/◌, ◌<◌, ◌≤◌, ◌^◌, ℕ, suc, All, IfOk, Some, None, length, reverse, slice_get, slice_index_or};
-ghost use Rattle.std.specs.List.Sorted.{IsNonDecreasingBy, IsPermutation};
 ghost use Rattle.lw_laws.specs.Graphs.{Graph as PlainGraph};
-ghost use Rattle.lw_lut.specs.Choosing.{AreByDepth, AreListed, AreRoots, AreTables, HasAlso, IsTable, place_key};
+ghost use Rattle.lw_lut.specs.Choosing.{AreByDepth, AreListed, AreTables};
 ghost use Rattle.lw_lut.specs.Depths.{AreLeastDepths};
 ghost use Rattle.lw_lut.specs.Searches.{depth_in, IsKnown};
 ghost use Rattle.lw_pool.specs.Numbers.{numbers};
 
 use crate::found::Depths;
 use crate::table::Table;
+use lw_naming::{Place, need, needed_by, sort_places};
 use lw_pool::ClassId;
 use std::alloc::{AllocError, Global};
-
-// A class and its depth.
-#[derive(Clone, Copy, Drop)]
-pub(crate) struct Place {
-    depth: u32,
-    class: ClassId,
-}
 
 // The classes that have a depth other than 0, in the order of their numbers.
 fn listed(alloc: Global, depths: &[Option<u32>]) -> Result<Vec<Place>, AllocError>
@@ -38,48 +31,14 @@ fn listed(alloc: Global, depths: &[Option<u32>]) -> Result<Vec<Place>, AllocErro
     Ok(places)
 }
 
-// Sorts by depth, and then by class.
-fn sort(places: &mut Vec<Place>)
-    ensures permutation { IsPermutation places.old.items places.new.items }
-    ensures sorted { IsNonDecreasingBy place_key places.new.items }
-{
-    places.sort_unstable_by_key(|place| place.depth as u64 * 0x1_0000_0000 + place.class.0 as u64);
-}
-
 // The classes that have a depth other than 0, by depth and then class.
 fn by_depth(alloc: Global, depths: &[Option<u32>]) -> Result<Vec<Place>, AllocError>
     requires { length depths.now < 2 ^ 32 }
     ensures { IfOk result (λ places. AreByDepth depths.now places.items) }
 {
     let mut places = listed(alloc, depths)?;
-    sort(&mut places);
+    sort_places(&mut places);
     Ok(places)
-}
-
-// Whether each class is a root's.
-fn needed_by_roots(
-    alloc: Global,
-    roots: &[ClassId],
-    classes: usize,
-) -> Result<Vec<bool>, AllocError>
-    requires { All (λ root. root.0 < classes) roots.now }
-    ensures { IfOk result (λ needed. AreRoots roots.now classes needed.items) }
-{
-    let mut needed = vec![in alloc; false; classes]?;
-    for root in roots {
-        needed[root.0 as usize] = true;
-    }
-    Ok(needed)
-}
-
-// Notes that these classes are needed.
-fn need(needed: &mut Vec<bool>, classes: &[ClassId])
-    requires { All (λ class. class.0 < length needed.old.items) classes.now }
-    ensures { HasAlso needed.old.items classes.now needed.new.items }
-{
-    for class in classes {
-        needed[class.0 as usize] = true;
-    }
 }
 
 // The tables of the needed classes that are no input's, from the deepest down. A class is less
@@ -99,7 +58,7 @@ fn choose_down(
         (reverse tables.items)) }
     ensures few { IfOk result (λ tables. All (λ x. length x.fanins ≤ 6) (reverse tables.items)) }
 {
-    let mut needed = needed_by_roots(alloc, roots, depths.len())?;
+    let mut needed = needed_by(alloc, roots, depths.len())?;
     let mut tables = Vec::new(alloc);
     for k in (0..places.len()).rev() {
         let class = places[k].class;

@@ -10,19 +10,25 @@ use Rattle.lw_pattern.specs.Nodes.{tree_at, nodes_of}
 use Rattle.lw_match.specs.declared.mark.Mark.{Mark}
 use Rattle.lw_match.specs.declared.parts.Side.{Side}
 use Rattle.lw_match.specs.Shapes.{SideFits, gaps_of}
-use Rattle.lw_match.specs.Numbers.{AreStarts}
+use Rattle.lw_match.specs.Numbers.{AreStarts, no_reading}
 use Rattle.lw_match.specs.Bounds.{BoundsState, BoundsFit, AreBounds}
 use Rattle.lw_match.specs.Cutting.{CutsState, CutsFit, AreCutsOf}
 use Rattle.lw_match.proofs.MoreParts.{shape_fits}
 
 abbrev pub cuts_of : BoundsState → CutsState
-cuts_of b = record { sides = b.sides; roots = b.roots; width = length b.parts; starts = b.starts; numbers = b.numbers; gaps = b.gaps }
+cuts_of b = record { sides = b.sides; roots = b.roots; width = length b.parts; starts = b.starts; numbers = b.numbers; gaps = b.gaps; height_sides = []; heights = no_reading }
+
+no_side : (i place : ℕ) (side : Side) → slice_get (slice_index_or [] i []) place ≡ Some side → ⊥
+no_side i place side at =
+    let empty : slice_get [] place ≡ Some side = subst (λ (ss : List Side). slice_get ss place ≡ Some side) (get_or_past [] i [] (omega arith)) at in
+    cc
 
 pub bounds_cut : (b : BoundsState) (pats : List Pattern) (g : Graph) → BoundsFit b pats g → CutsFit (cuts_of b) g
 bounds_cut b pats g fit = record {
   sides = λ i place side at. sides i place side at (dec_lt i (length pats));
   roots = roots;
   rows = fit.rows.rows;
+  heights = λ i place side at. absurd (no_side i place side at);
 }
   where
     roots : (i : ℕ) (side : Side) → slice_get b.roots i ≡ Some side → SideFits (length b.parts) side
@@ -47,6 +53,7 @@ pub bounds_cut_well : (b : BoundsState) (pats : List Pattern) (g : Graph) (marks
 bounds_cut_well b pats g marks fit bounds = record {
   sides = λ i p place side e at. bounds (gaps_of b.gaps i) (tree_at (nodes_of p.tree) place) side (fit.sides i p e place side at);
   roots = λ i p side e at. bounds (gaps_of b.gaps i) p.tree side (fit.roots i p side e at);
+  heights = λ i p place side e at. absurd (no_side i place side at);
 }
 
 -- other numbers, as many

@@ -10,6 +10,7 @@ pub mod Cursors
 pub mod CutsOfBounds
 pub mod Floors
 pub mod Found
+pub mod HeightCuts
 pub mod Improving
 pub mod Intervals
 pub mod Lessening

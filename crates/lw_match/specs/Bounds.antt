@@ -4,14 +4,14 @@ use Rattle.std.specs.List.{sum_by}
 use Rattle.lw_laws.specs.Graphs.{Graph, HoldsPair, Stands}
 use Rattle.lw_laws.specs.Trees.{Tree}
 use Rattle.lw_laws.specs.Covers.{Pattern}
-use Rattle.lw_laws.specs.Marks.{Mark as PlainMark}
+use Rattle.lw_laws.specs.Marks.{Mark as PlainMark, HaveMarks, greatest_height}
 use Rattle.lw_graph.specs.Graphs.{IsGraph}
 use Rattle.lw_match.specs.declared.mark.Mark.{Mark}
 use Rattle.lw_match.specs.declared.parts.Side.{Side}
 use Rattle.lw_match.specs.declared.parts.Part.{Part}
 use Rattle.lw_match.specs.Values.{marks_in}
-use Rattle.lw_match.specs.Shapes.{HasShape, AllHaveShapes, HaveRootShapes, AreClosed}
-use Rattle.lw_match.specs.Numbers.{never, no_row, start_of, AreStarts, Reading, number_from, part_number, side_number}
+use Rattle.lw_match.specs.Shapes.{SideFits, HasShape, AllHaveShapes, HaveRootShapes, AreClosed}
+use Rattle.lw_match.specs.Numbers.{never, no_row, start_of, AreStarts, IsReading, Reading, number_from, part_number, side_number}
 
 -- the parts, the gaps of the pins of each pattern, the side of each node of each pattern and of its root, where the row of
 -- each class starts, and the numbers of the parts in these rows
@@ -101,6 +101,17 @@ AreMarkedWithin marks gaps ps top =
 abbrev pub BoundsTree : Graph → Reading → List ℕ → Tree → Side → Type 0
 BoundsTree g r gaps t s =
     (c : ℕ) (ps : List ℕ) (top : ℕ) → Stands g ps t c → AreMarkedWithin r.marks gaps ps top → side_number r s c ≤ min top (never - 1)
+
+-- the number of the side may be read at each class of the graph
+pub record IsReadable (g : Graph) (r : Reading) (s : Side) : Type 0 where
+  pub fits : SideFits r.width s
+  pub reading : IsReading r
+  pub one_each : length r.marks ≡ length g.pairs
+
+-- where a tree stands whose pins have marks, the number of its side is not above their greatest height
+abbrev pub BoundsHeight : Graph → Reading → List (Option Mark) → Tree → Side → Type 0
+BoundsHeight g r marks t s =
+    (c : ℕ) (ps : List ℕ) (ms : List PlainMark) → Stands g ps t c → HaveMarks (marks_in marks) ps ms → side_number r s c ≤ greatest_height ms
 
 abbrev pub AreBounds : BoundsState → Graph → List (Option Mark) → Type 0
 AreBounds b g marks =

@@ -1,6 +1,7 @@
 pub mod Bounds
 pub mod Coming
 pub mod Cutting
+pub mod HeightBounds
 pub mod Hunts
 pub mod Intervals
 pub mod Jobs

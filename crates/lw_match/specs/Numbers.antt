@@ -1,5 +1,5 @@
 -- The numbers of sides at classes.
-use Rattle.std.specs.Prelude.{ℕ, ◌+◌, ◌-◌, ◌≡◌, ◌≤◌, ◌⊎◌, ◌%◌, ◌==◌, if◌then◌else◌, List, length, min, max, Option, Some, None, slice_index, slice_index_or}
+use Rattle.std.specs.Prelude.{ℕ, ◌+◌, ◌-◌, ◌≡◌, ◌≤◌, ◌⊎◌, ◌%◌, ◌==◌, if◌then◌else◌, List, [], length, min, max, Option, Some, None, slice_index, slice_index_or}
 use Rattle.lw_laws.specs.Flip.{flip}
 use Rattle.lw_match.specs.declared.mark.Mark.{Mark}
 use Rattle.lw_match.specs.declared.parts.Kind.{Kind}
@@ -32,6 +32,10 @@ pub record Reading : Type 0 where
 abbrev pub reading : Numbers → Reading
 reading at =
     record { one = at.one.0; marks = at.marks.now; width = at.width; starts = at.starts.now; numbers = at.numbers.now }
+
+-- no marks and no rows
+abbrev pub no_reading : Reading
+no_reading = record { one = 0; marks = []; width = 0; starts = []; numbers = [] }
 
 -- where the row of a class starts
 abbrev pub start_of : List ℕ → ℕ → ℕ

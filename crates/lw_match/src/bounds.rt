@@ -1,12 +1,12 @@
-ghost use Rattle.std.specs.Prelude.{◌≡◌, ◌<◌, ◌≤◌, ◌*◌, ℕ, List, IfOk, IsTrue, IsFalse, length};
+ghost use Rattle.std.specs.Prelude.{◌≡◌, ◌<◌, ◌≤◌, ◌*◌, ℕ, List, [], IfOk, IsTrue, IsFalse, length, slice_index};
 ghost use Rattle.lw_laws.specs.Covers.{Pattern as TreeOfCell};
 ghost use Rattle.lw_match.specs.Numbers.{most_numbers};
 
 use crate::bare::bare_patterns;
 use crate::cuts::Cuts;
-use crate::gaps::all_guesses;
+use crate::gaps::{all_guesses, no_gaps};
 use crate::lowering::Plan;
-use crate::numbers::{NO_ROW, start_of};
+use crate::numbers::{NO_ROW, Numbers, start_of};
 use crate::parts::{Group, Part, Root, Side};
 use crate::places::{groups_of, roots_in};
 use crate::renewing::{Renewal, put_row, renew_parts};
@@ -72,7 +72,8 @@ impl Model for Bounds {
 impl Bounds {
     ghost use Rattle.lw_graph.specs.Graphs.{IsGraph};
     ghost use Rattle.lw_match.specs.Bounds.{BoundsFit, AreApart, AreLowered, AreRows, AreSettledAt, AreZero, IsTableBut, bounds_reading, bounds_weight, with_numbers};
-    ghost use Rattle.lw_match.specs.Numbers.{AreStarts, never, number_from, start_of};
+    ghost use Rattle.lw_match.specs.HeightBounds.{AreFlat};
+    ghost use Rattle.lw_match.specs.Numbers.{AreStarts, never, no_reading, number_from, start_of};
     ghost use Rattle.lw_match.specs.Cutting.{cuts_state};
     ghost use Rattle.lw_match.specs.Least.{AreOfCells};
     ghost use Rattle.lw_match.specs.Places.{AreRootsListed};
@@ -89,10 +90,35 @@ impl Bounds {
         ensures fits { IfOk result (λ b. BoundsFit b pats.now graph.now) }
         ensures zero { IfOk result (λ b. AreZero b.numbers) }
     {
+        let gaps = all_guesses(alloc, pats, cost)?;
+        Bounds::with_gaps(alloc, graph, pats, gaps)
+    }
+
+    /// The same for heights: what a match has above its pins is one, whichever the pin, so no pin has
+    /// a gap.
+    pub fn of_heights(alloc: Global, graph: &Graph, pats: &Patterns) -> Result<Bounds, AllocError>
+        ensures fits { IfOk result (λ b. BoundsFit b pats.now graph.now) }
+        ensures zero { IfOk result (λ b. AreZero b.numbers) }
+        ensures gaps { IfOk result (λ b. AreFlat b.gaps) }
+    {
+        let gaps = no_gaps(alloc, pats)?;
+        Bounds::with_gaps(alloc, graph, pats, gaps)
+    }
+
+    // A table with these gaps, whose numbers are all 0.
+    fn with_gaps(
+        alloc: Global,
+        graph: &Graph,
+        pats: &Patterns,
+        gaps: Vec<[u64; 16]>,
+    ) -> Result<Bounds, AllocError>
+        ensures fits { IfOk result (λ b. BoundsFit b pats.now graph.now) }
+        ensures zero { IfOk result (λ b. AreZero b.numbers) }
+        ensures gaps { IfOk result (λ b. b.gaps ≡ gaps.items) }
+    {
         let room = room_for(graph.classes()) as usize;
         let _ = pats.len();
         let mut parts = IndexSet::new(alloc);
-        let gaps = all_guesses(alloc, pats, cost)?;
         let sides = all_sides(alloc, &mut parts, room, &gaps, pats)?;
         let roots = root_sides(alloc, pats, &sides)?;
         let leaf_roots = roots_in(alloc, &roots, 0)?;
@@ -170,6 +196,8 @@ impl Bounds {
     pub(crate) fn forget_all(&mut self)
         ensures size { length self.new.numbers ≡ length self.old.numbers }
         ensures table { self.new ≡ with_numbers self.old self.new.numbers }
+        ensures never { (k : ℕ) → k < length self.new.numbers →
+            slice_index self.new.numbers k ≡ never }
     {
         self.numbers.fill(u64::MAX);
     }
@@ -188,6 +216,8 @@ impl Bounds {
           starts = self.now.starts;
           numbers = self.now.numbers;
           gaps = self.now.gaps;
+          height_sides = [];
+          heights = no_reading;
         } }
         ensures roots { AreRootsListed result.roots.now result.leaf_roots.now result.row_roots.now
             result.other_roots.now }
@@ -202,6 +232,8 @@ impl Bounds {
             starts: &self.starts,
             numbers: &self.numbers,
             gaps: &self.gaps,
+            height_sides: &[],
+            heights: Numbers::none(),
         }
     }
 }

@@ -10,7 +10,9 @@ use lw_pool::PatId;
 
 /// What searches are cut by: the side that each node of each pattern is and that its root is, the
 /// numbers of the parts by rows, and the gaps of the pins of each pattern. With no sides no search
-/// is cut. The roots also stand in lists by where their numbers are.
+/// is cut. The roots also stand in lists by where their numbers are. A second table tells the height
+/// that a side's pins have at least: the sides of the nodes by it, and what their numbers are read
+/// from.
 #[derive(Clone, Copy)]
 pub struct Cuts<'a> {
     pub sides: &'a [Vec<Side>],
@@ -22,6 +24,8 @@ pub struct Cuts<'a> {
     pub starts: &'a [u32],
     pub numbers: &'a [u64],
     pub gaps: &'a [[u64; 16]],
+    pub height_sides: &'a [Vec<Side>],
+    pub heights: Numbers<'a>,
 }
 
 /// What the numbers of sides are read from.
@@ -42,11 +46,10 @@ pub(crate) fn numbers_of<'a>(
 }
 
 /// The sides that the nodes of a pattern are, none where it is not known.
-pub(crate) fn sides_at<'a>(cuts: Cuts<'a>, pat: PatId) -> &'a [Side]
-    ensures { result.now ≡ slice_index_or
-        (map (λ sides. sides.items) cuts.entry.sides.now) pat.0 [] }
+pub(crate) fn sides_at<'a>(all: &'a [Vec<Side>], pat: PatId) -> &'a [Side]
+    ensures { result.now ≡ slice_index_or (map (λ sides. sides.items) all.now) pat.0 [] }
 {
-    match cuts.sides.get(pat.0 as usize) {
+    match all.get(pat.0 as usize) {
         Some(sides) => sides.as_slice(),
         None => &[],
     }

@@ -1,8 +1,9 @@
 // What pins cost less than their cells: guesses, and tests of whether they may be trusted.
-ghost use Rattle.std.specs.Prelude.{◌≡◌, ◌<◌, ◌≤◌, ◌-◌, ℕ, IsTrue, length, replicate, slice_index, slice_set};
+ghost use Rattle.std.specs.Prelude.{◌≡◌, ◌<◌, ◌≤◌, ◌-◌, ℕ, IfOk, IsTrue, length, replicate, slice_index, slice_set};
 ghost use Rattle.lw_laws.specs.Covers.{HasPins};
 ghost use Rattle.lw_pattern.specs.Listed.{IsKept};
 ghost use Rattle.lw_match.specs.Cutting.{IsCertifiedBy};
+ghost use Rattle.lw_match.specs.HeightBounds.{AreFlat};
 ghost use Rattle.lw_match.specs.Least.{AreOfCells};
 ghost use Rattle.lw_match.specs.Searching.{IsGapCertified};
 ghost use Rattle.lw_match.specs.Shapes.{gaps_of};
@@ -157,6 +158,14 @@ fn guesses<C: Cost>(cost: &C, cell: CellId, pins: usize) -> [u64; 16]
         gaps[pin] = value_alone(cost, cell, pins, pin, PROBE).saturating_sub(PROBE);
     }
     gaps
+}
+
+/// No gap at any pin of a pattern.
+pub(crate) fn no_gaps(alloc: Global, pats: &Patterns) -> Result<Vec<[u64; 16]>, AllocError>
+    ensures { IfOk result (λ all. AreFlat all.items) }
+{
+    let gaps = vec![in alloc; [0; 16]; pats.len() as usize]?;
+    Ok(gaps)
 }
 
 /// The gaps of the pins of each pattern.

@@ -14,6 +14,7 @@ mod cuts;
 mod finding;
 mod gaps;
 mod goals;
+mod heights;
 mod hunting;
 mod job;
 mod laws;
@@ -36,12 +37,13 @@ mod sweeping;
 mod times;
 mod tops;
 
-pub use bettering::{Outcome, better_bare, better_within};
+pub use bettering::{Outcome, better_bare, better_within, lower_within};
 pub use bounds::Bounds;
 pub use choosing::least_before;
 pub use cost::Cost;
 pub use cursor::Cursor;
 pub use finding::{least, least_below, least_within};
+pub use heights::HeightBounds;
 pub use laws::{
     bounds_of_fewer, library_patterns_are_of_cells, matches_have_cells, settled_bounds_are_bounds,
 };

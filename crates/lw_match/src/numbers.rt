@@ -1,6 +1,6 @@
 ghost use Rattle.std.specs.Prelude.{◌≡◌, ◌<◌, length};
 ghost use Rattle.lw_match.specs.Shapes.{KindFits, SideFits};
-ghost use Rattle.lw_match.specs.Numbers.{reading, start_of, shifted, mark_number, part_number, class_below, kind_number, side_number, IsReading};
+ghost use Rattle.lw_match.specs.Numbers.{reading, no_reading, start_of, shifted, mark_number, part_number, class_below, kind_number, side_number, IsReading};
 ghost use Rattle.lw_match.specs.declared.parts.Kind.TheVariants.{One};
 
 use crate::Mark;
@@ -19,6 +19,21 @@ pub struct Numbers<'a> {
     pub width: usize,
     pub starts: &'a [u32],
     pub numbers: &'a [u64],
+}
+
+impl<'a> Numbers<'a> {
+    /// What nothing is read from.
+    pub(crate) fn none() -> Numbers<'a>
+        ensures { reading result ≡ no_reading }
+    {
+        Numbers {
+            one: ClassId(0),
+            marks: &[],
+            width: 0,
+            starts: &[],
+            numbers: &[],
+        }
+    }
 }
 
 /// Where the row of a class starts.

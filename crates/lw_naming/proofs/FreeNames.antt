@@ -15,13 +15,11 @@ frees taken first count = filter (λ name. not (is_name_among name taken)) (numb
 named_apart : (a b : ℕ) → a < b → b < 2 ^ 64 → same_name (numbered_name b) (numbered_name a) ≡ false
 named_apart a b lt le = by_test (same_name (numbered_name b) (numbered_name a)) refl
   where
-    tail_same : (xs ys : List ℕ) → ◌≡◌ {A = List ℕ} (110 ∷ xs) (110 ∷ ys) → xs ≡ ys
-    tail_same xs ys e = cc
-
     by_test : (t : Bool) → same_name (numbered_name b) (numbered_name a) ≡ t → t ≡ false
     by_test false e = refl
     by_test true e =
-        let same = tail_same (decimal b) (decimal a) (same_name_eq (numbered_name b) (numbered_name a) e) in
+        let names : ◌≡◌ {A = List ℕ} (110 ∷ decimal b) (110 ∷ decimal a) = same_name_eq (numbered_name b) (numbered_name a) e in
+        let same : decimal b ≡ decimal a = cc in
         let number : b ≡ a = decimal_injective b a (omega arith) (omega arith) same in
         absurd (omega arith)
 

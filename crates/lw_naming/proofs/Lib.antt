@@ -3,3 +3,5 @@ pub mod FreeNames
 pub mod NameCount
 mod NamesGiven
 mod NamesHeld
+pub mod Noting
+pub mod Sorting

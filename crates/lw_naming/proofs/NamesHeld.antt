@@ -1,5 +1,6 @@
 -- Names that a set holds by its keys.
 use Rattle.std.proofs.Common.{◌≡◌, ℕ, ◌==◌, Bool, true, false, cond, ◌&&◌, ◌||◌, List, [], ◌∷◌, ◌++◌, map, refl, sym, ap, ◌∙◌}
+use Rattle.std.proofs.Math.Bool.{or_assoc}
 use Rattle.std.proofs.lemmas.List.{map-append}
 use Rattle.std.specs.List.{list_any}
 use Rattle.std.specs.Str.{bytes_eq}
@@ -15,15 +16,11 @@ bytes_same [] (y ∷ ys) = refl
 bytes_same (x ∷ xs) [] = refl
 bytes_same (x ∷ xs) (y ∷ ys) = ap (λ t. (x == y) && t) (bytes_same xs ys)
 
-or_assoc : (a b c : Bool) → (a || (b || c)) ≡ ((a || b) || c)
-or_assoc true b c = refl
-or_assoc false b c = refl
-
 -- the names of two lists
 pub among-append : (name : List ℕ) (xs ys : List (List ℕ)) → is_name_among name (xs ++ ys) ≡ (is_name_among name xs || is_name_among name ys)
 among-append name [] ys = refl
 among-append name (x ∷ xs) ys =
-    ap (λ b. same_name name x || b) (among-append name xs ys) ∙ or_assoc (same_name name x) (is_name_among name xs) (is_name_among name ys)
+    ap (λ b. same_name name x || b) (among-append name xs ys) ∙ sym (or_assoc (same_name name x) (is_name_among name xs) (is_name_among name ys))
 
 -- a name that is there already adds none
 there-already : (names : List (List ℕ)) (added name : List ℕ) → is_name_among added names ≡ true → is_name_among name names ≡ (is_name_among name names || is_name_among name (added ∷ []))

@@ -4,7 +4,6 @@ use Rattle.std.specs.List.{position_from}
 use Rattle.lw_pool.specs.declared.id.ClassId.{ClassId}
 use Rattle.lw_laws.specs.Names.{is_name_among, numbered_names}
 use Rattle.lw_naming.specs.declared.free_names.FreeNames.{FreeNames}
-use Rattle.lw_pool.specs.Numbers.{numbers}
 
 -- the new names are the old ones and these
 abbrev pub HoldsAlso : List (List ℕ) → List (List ℕ) → List (List ℕ) → Type 0

@@ -1,7 +1,8 @@
 use Rattle.std.proofs.Common.{◌+◌, subst, sym, refl, ap, ◌∙◌}
 use Rattle.lw_facts.proofs.Tests.{none_when_not_some}
-use Rattle.lw_extract.specs.declared.ordering.Place.{Place}
-use Rattle.lw_extract.proofs.Sorting.{AreMarkedBelow, marked_push, marked_skip, some_not_none}
+use Rattle.lw_naming.specs.declared.places.Place.{Place}
+use Rattle.lw_extract.proofs.ClassNets.{not_none}
+use Rattle.lw_extract.proofs.Sorting.{AreMarkedBelow, marked_push, marked_skip}
 use Rattle.lw_extract.proofs.ordering.marked.Goals as goal
 use Rattle.lw_extract.proofs.ordering.marked.Goals.{in-Some+then-is_none+in_ok-push, in-Some+else-is_none, in_default}
 
@@ -12,10 +13,10 @@ loop-number-preserved c =
     let l = c.loop-number in
     elim c.match-mark.branch [
       | in-Some+then-is_none+in_ok-push w ↦
-          let place : Place = record { height = w.in-Some.mark.height; class = record { 0 = l.number } } in
+          let place : Place = record { depth = w.in-Some.mark.height; class = record { 0 = l.number } } in
           subst (λ ps. AreMarkedBelow nets marks (l.number + 1) ps) (sym (ap (λ v. v.items) w.places-is ∙ w.in_ok-push.ensures.items)) (marked_push nets marks l.number l.places.items place w.in-Some.mark refl w.in-Some.is refl (none_when_not_some _ w.if-is_none.ensures) l.invariant)
       | in-Some+else-is_none w ↦
-          subst (λ ps. AreMarkedBelow nets marks (l.number + 1) ps) (sym (ap (λ v. v.items) w.places-is)) (marked_skip nets marks l.number l.places.items (λ m e f. some_not_none _ w.if-is_none.ensures f) l.invariant)
+          subst (λ ps. AreMarkedBelow nets marks (l.number + 1) ps) (sym (ap (λ v. v.items) w.places-is)) (marked_skip nets marks l.number l.places.items (λ m e f. not_none _ f w.if-is_none.ensures) l.invariant)
       | in_default w ↦
           subst (λ ps. AreMarkedBelow nets marks (l.number + 1) ps) (sym (ap (λ v. v.items) w.places-is)) (marked_skip nets marks l.number l.places.items (λ m e f. w.in_default.not-Some m e) l.invariant)
     ]

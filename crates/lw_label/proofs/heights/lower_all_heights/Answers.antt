@@ -3,8 +3,8 @@ use Rattle.lw_label.proofs.heights.lower_all_heights.Goals as goal
 
 pub returns-clause-least : goal.returns-clause-least
 returns-clause-least g c =
-    heights_found c.args.graph.now (g.C.Cost.costs c.args.cost.now) c.args.pats.now c.args.labels.now c.lower_height_rounds.new.marks c.requires.given.problem c.requires.given.graph c.requires.given.lowering c.requires.given.bounded c.lower_height_rounds.ensures.heights (c.lower_height_rounds.ensures.reached c.loop-test.false)
+    heights_found c.args.given.now.graph.now (g.C.Cost.costs c.args.given.now.cost.now) c.args.given.now.pats.now c.args.given.now.labels.now c.lower_height_rounds.new.marks c.requires.falling.search.given.problem c.requires.falling.search.given.graph c.requires.falling.search.given.lowering c.requires.falling.search.given.bounded c.lower_height_rounds.ensures.falling.search.heights (c.lower_height_rounds.ensures.reached c.loop-test.false)
 
 pub returns-clause-bounds : goal.returns-clause-bounds
 returns-clause-bounds g c =
-    heights_bounds c.args.graph.now (g.C.Cost.costs c.args.cost.now) c.args.pats.now c.args.labels.now c.args.bounds.now c.lower_height_rounds.new.marks c.requires.given.bounds c.lower_height_rounds.ensures.heights
+    heights_bounds c.args.given.now.graph.now (g.C.Cost.costs c.args.given.now.cost.now) c.args.given.now.pats.now c.args.given.now.labels.now c.args.given.now.bounds.now c.lower_height_rounds.new.marks c.requires.falling.search.given.bounds c.lower_height_rounds.ensures.falling.search.heights

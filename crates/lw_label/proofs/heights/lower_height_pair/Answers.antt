@@ -1,18 +1,20 @@
-use Rattle.std.proofs.Common.{◌≡◌, ◌/◌, ◌||◌, ◌∙◌, ap, sym, subst}
+use Rattle.std.proofs.Common.{◌≡◌, ◌/◌, ◌||◌, ◌∙◌, IfSome, ap, sym, subst}
 use Rattle.lw_laws.proofs.Flips.{xor-one}
 use Rattle.lw_laws.specs.Flip.{flip}
-use Rattle.lw_label.specs.Heights.{IsReached, heights_weight, LowersHeights}
+use Rattle.lw_label.specs.Heights.{AreSameBut, IsReached, heights_weight, LowersHeights}
+use Rattle.lw_label.specs.HeightTables.{IsTableAround}
 use Rattle.lw_label.proofs.HeightPasses.{heights_at, heights_any}
+use Rattle.lw_label.proofs.HeightTables.{around_class, with_next}
 use Rattle.lw_label.proofs.Passing.{passes_again}
-use Rattle.lw_label.proofs.Still.{flip_apart, is_false, pair_lowers, pair_others, pair_still, stays_reached}
+use Rattle.lw_label.proofs.Still.{flip_apart, flip_place, is_false, pair_lowers, pair_others, pair_still, stays_reached}
 use Rattle.lw_label.proofs.heights.lower_height_pair.Goals as goal
 
 pub returns-then-not-may_lower-clause-lowers : goal.returns-then-not-may_lower-clause-lowers
 returns-then-not-may_lower-clause-lowers g c =
-    let costs = g.C.Cost.costs c.args.cost.now in
-    let graph = c.args.graph.now in
-    let pats = c.args.pats.now in
-    let labels = c.args.labels.now in
+    let costs = g.C.Cost.costs c.args.given.now.cost.now in
+    let graph = c.args.given.now.graph.now in
+    let pats = c.args.given.now.pats.now in
+    let labels = c.args.given.now.labels.now in
     let place = c.args.place in
     let a = c.first_of-class.result.0 in
     let b = c.flip-other.result.0 in
@@ -27,10 +29,10 @@ returns-then-not-may_lower-clause-lowers g c =
 
 pub returns-then-not-may_lower-clause-others : goal.returns-then-not-may_lower-clause-others
 returns-then-not-may_lower-clause-others g c =
-    let costs = g.C.Cost.costs c.args.cost.now in
-    let graph = c.args.graph.now in
-    let pats = c.args.pats.now in
-    let labels = c.args.labels.now in
+    let costs = g.C.Cost.costs c.args.given.now.cost.now in
+    let graph = c.args.given.now.graph.now in
+    let pats = c.args.given.now.pats.now in
+    let labels = c.args.given.now.labels.now in
     let place = c.args.place in
     let a = c.first_of-class.result.0 in
     let b = c.flip-other.result.0 in
@@ -44,10 +46,10 @@ returns-then-not-may_lower-clause-others g c =
 
 pub returns-then-not-may_lower-clause-still : goal.returns-then-not-may_lower-clause-still
 returns-then-not-may_lower-clause-still g c = λ t.
-    let costs = g.C.Cost.costs c.args.cost.now in
-    let graph = c.args.graph.now in
-    let pats = c.args.pats.now in
-    let labels = c.args.labels.now in
+    let costs = g.C.Cost.costs c.args.given.now.cost.now in
+    let graph = c.args.given.now.graph.now in
+    let pats = c.args.given.now.pats.now in
+    let labels = c.args.given.now.labels.now in
     let place = c.args.place in
     let a = c.first_of-class.result.0 in
     let b = c.flip-other.result.0 in
@@ -59,15 +61,15 @@ returns-then-not-may_lower-clause-still g c = λ t.
     let flipped : b ≡ flip a = c.flip-other.ensures ∙ xor-one a in
     let apart : a ≡ b → ⊥ = λ e. flip_apart a (e ∙ flipped) in
     let (one, other) = c.both.ensures t in
-    let beside = stays_reached graph costs pats labels c.requires.given.problem c.requires.given.graph c.requires.given.lowering mid new a b second.result.lowered second.ensures.takes second.ensures.others apart (c.may_lower.ensures c.if-not-may_lower.true) (first.ensures.still other) in
+    let beside = stays_reached graph costs pats labels c.requires.search.given.problem c.requires.search.given.graph c.requires.search.given.lowering mid new a b second.result.lowered second.ensures.takes second.ensures.others apart (c.may_lower.ensures c.if-not-may_lower.true) (first.ensures.still other) in
     pair_still graph costs pats labels new place a b c.first_of-class.ensures flipped beside (second.ensures.still one)
 
 pub returns-clause-lowers : goal.returns-clause-lowers
 returns-clause-lowers g c =
-    let costs = g.C.Cost.costs c.args.cost.now in
-    let graph = c.args.graph.now in
-    let pats = c.args.pats.now in
-    let labels = c.args.labels.now in
+    let costs = g.C.Cost.costs c.args.given.now.cost.now in
+    let graph = c.args.given.now.graph.now in
+    let pats = c.args.given.now.pats.now in
+    let labels = c.args.given.now.labels.now in
     let place = c.args.place in
     let a = c.first_of-class.result.0 in
     let b = c.flip-other.result.0 in
@@ -85,10 +87,10 @@ returns-clause-lowers g c =
 
 pub returns-clause-others : goal.returns-clause-others
 returns-clause-others g c =
-    let costs = g.C.Cost.costs c.args.cost.now in
-    let graph = c.args.graph.now in
-    let pats = c.args.pats.now in
-    let labels = c.args.labels.now in
+    let costs = g.C.Cost.costs c.args.given.now.cost.now in
+    let graph = c.args.given.now.graph.now in
+    let pats = c.args.given.now.pats.now in
+    let labels = c.args.given.now.labels.now in
     let place = c.args.place in
     let a = c.first_of-class.result.0 in
     let b = c.flip-other.result.0 in
@@ -104,10 +106,10 @@ returns-clause-others g c =
 
 pub returns-clause-still : goal.returns-clause-still
 returns-clause-still g c = λ t.
-    let costs = g.C.Cost.costs c.args.cost.now in
-    let graph = c.args.graph.now in
-    let pats = c.args.pats.now in
-    let labels = c.args.labels.now in
+    let costs = g.C.Cost.costs c.args.given.now.cost.now in
+    let graph = c.args.given.now.graph.now in
+    let pats = c.args.given.now.pats.now in
+    let labels = c.args.given.now.labels.now in
     let place = c.args.place in
     let a = c.first_of-class.result.0 in
     let b = c.flip-other.result.0 in
@@ -121,5 +123,45 @@ returns-clause-still g c = λ t.
     let third = c.lower_height-third in
     let (stays, rest) = c.both-3.ensures t in
     let (again, other) = c.both-2.ensures rest in
-    let beside = stays_reached graph costs pats labels c.requires.given.problem c.requires.given.graph c.requires.given.lowering new third.new.marks b a third.result.lowered third.ensures.takes third.ensures.others (λ e. apart (sym e)) (c.may_lower-moves.ensures (is_false c.may_lower-moves.result stays)) (second.ensures.still other) in
+    let beside = stays_reached graph costs pats labels c.requires.search.given.problem c.requires.search.given.graph c.requires.search.given.lowering new third.new.marks b a third.result.lowered third.ensures.takes third.ensures.others (λ e. apart (sym e)) (c.may_lower-moves.ensures (is_false c.may_lower-moves.result stays)) (second.ensures.still other) in
     pair_still graph costs pats labels third.new.marks place a b c.first_of-class.ensures flipped (third.ensures.still again) beside
+
+pub lower_height-first-requires-clause-table : goal.lower_height-first-requires-clause-table
+lower_height-first-requires-clause-table g c =
+    subst (λ p. IfSome c.args.table.now (IsTableAround c.args.given.now.graph.now c.args.given.now.pats.now c.args.marks.now p)) (sym c.first_of-class.ensures) c.requires.table
+
+pub lower_height-second-requires-clause-table : goal.lower_height-second-requires-clause-table
+lower_height-second-requires-clause-table g c =
+    let place = c.args.place in
+    let a = c.first_of-class.result.0 in
+    let b = c.flip-other.result.0 in
+    let first = c.lower_height-first in
+    let at : b / 2 ≡ place = ap (λ n. n / 2) (c.flip-other.ensures ∙ xor-one a) ∙ (flip_place a ∙ c.first_of-class.ensures) in
+    let one : AreSameBut (λ n. n / 2 ≡ place) c.args.marks.now first.new.marks = λ n not. first.ensures.others n (λ e. not (ap (λ k. k / 2) e ∙ c.first_of-class.ensures)) in
+    around_class c.args.given.now.graph.now c.args.given.now.pats.now c.args.marks.now first.new.marks place b c.args.table.now first.new.table at one first.ensures.table c.requires.table
+
+pub lower_height-third-requires-clause-table : goal.lower_height-third-requires-clause-table
+lower_height-third-requires-clause-table g c =
+    let place = c.args.place in
+    let a = c.first_of-class.result.0 in
+    let b = c.flip-other.result.0 in
+    let first = c.lower_height-first in
+    let second = c.lower_height-second in
+    let flipped : b ≡ flip a = c.flip-other.ensures ∙ xor-one a in
+    let two = pair_others place a b c.args.marks.now first.new.marks second.new.marks c.first_of-class.ensures flipped first.ensures.others second.ensures.others in
+    let next = with_next first.new.marks second.new.marks c.args.table.now first.new.table second.new.table first.ensures.table second.ensures.table in
+    around_class c.args.given.now.graph.now c.args.given.now.pats.now c.args.marks.now second.new.marks place a c.args.table.now second.new.table c.first_of-class.ensures two next c.requires.table
+
+pub returns-then-not-may_lower-clause-table : goal.returns-then-not-may_lower-clause-table
+returns-then-not-may_lower-clause-table g c =
+    let first = c.lower_height-first in
+    let second = c.lower_height-second in
+    with_next first.new.marks second.new.marks c.args.table.now first.new.table second.new.table first.ensures.table second.ensures.table
+
+pub returns-clause-table : goal.returns-clause-table
+returns-clause-table g c =
+    let first = c.lower_height-first in
+    let second = c.lower_height-second in
+    let third = c.lower_height-third in
+    let next = with_next first.new.marks second.new.marks c.args.table.now first.new.table second.new.table first.ensures.table second.ensures.table in
+    with_next second.new.marks third.new.marks c.args.table.now second.new.table third.new.table next third.ensures.table

@@ -6,27 +6,25 @@ use Rattle.lw_label.proofs.heights.lower_height_round.Goals as goal
 
 pub loop-number-preserved : goal.loop-number-preserved
 loop-number-preserved g c =
-    let costs = g.C.Cost.costs c.args.cost.now in
+    let costs = g.C.Cost.costs c.args.given.now.cost.now in
     let whole = c.args.whole in
     let order = c.args.visits.now.order in
     let number = c.loop-number.number in
     let visit = c.lower_height_place-lowered in
-    let pass = subst (λ o. LowersHeights c.args.graph.now costs c.args.pats.now c.args.labels.now c.loop-number.marks visit.new.marks (IsVisited whole o number) visit.result) c.loop-number.invariant.order visit.ensures.lowers in
+    let pass = subst (λ o. LowersHeights c.args.given.now.graph.now costs c.args.given.now.pats.now c.args.given.now.labels.now c.loop-number.marks visit.new.marks (IsVisited whole o number) visit.result) c.loop-number.invariant.order visit.ensures.lowers in
     record {
       order = visit.ensures.order ∙ c.loop-number.invariant.order;
       places = visit.ensures.places ∙ c.loop-number.invariant.places;
-      still = visit.ensures.still;
-      known = visit.ensures.known;
-      heights = visit.ensures.heights;
-      lowers = subst (λ b. LowersHeights c.args.graph.now costs c.args.pats.now c.args.labels.now c.args.marks.now visit.new.marks (IsPassed whole order (number + 1)) b) (sym c.either-changed.ensures) (passes_next heights_weight (IsReached c.args.graph.now costs c.args.pats.now c.args.labels.now) c.args.marks.now c.loop-number.marks visit.new.marks whole order number c.loop-number.changed visit.result c.loop-number.invariant.lowers pass);
+      falling = visit.ensures.falling;
+      lowers = subst (λ b. LowersHeights c.args.given.now.graph.now costs c.args.given.now.pats.now c.args.given.now.labels.now c.args.marks.now visit.new.marks (IsPassed whole order (number + 1)) b) (sym c.either-changed.ensures) (passes_next heights_weight (IsReached c.args.given.now.graph.now costs c.args.given.now.pats.now c.args.given.now.labels.now) c.args.marks.now c.loop-number.marks visit.new.marks whole order number c.loop-number.changed visit.result c.loop-number.invariant.lowers pass);
     }
 
 pub returns-clause-lowers : goal.returns-clause-lowers
 returns-clause-lowers g c =
-    let costs = g.C.Cost.costs c.args.cost.now in
+    let costs = g.C.Cost.costs c.args.given.now.cost.now in
     let whole = c.args.whole in
     let order = c.args.visits.now.order in
     let marks = c.loop-number.marks in
     let changed = c.loop-number.changed in
     let all : c.loop-number.number ≡ length order = omega (arith, c.len-number-end.ensures.len, c.loop-number-test.false, c.loop-number.auto.number-end) in
-    passes_round heights_weight (IsReached c.args.graph.now costs c.args.pats.now c.args.labels.now) c.args.graph.now c.args.marks.now marks whole order changed c.requires.given.graph.even (subst (λ n. IsOrder n order) c.requires.places c.len-number-end.ensures.order) (subst (λ n. LowersHeights c.args.graph.now costs c.args.pats.now c.args.labels.now c.args.marks.now marks (IsPassed whole order n) changed) all c.loop-number.invariant.lowers)
+    passes_round heights_weight (IsReached c.args.given.now.graph.now costs c.args.given.now.pats.now c.args.given.now.labels.now) c.args.given.now.graph.now c.args.marks.now marks whole order changed c.requires.falling.search.given.graph.even (subst (λ n. IsOrder n order) c.requires.places c.len-number-end.ensures.order) (subst (λ n. LowersHeights c.args.given.now.graph.now costs c.args.given.now.pats.now c.args.given.now.labels.now c.args.marks.now marks (IsPassed whole order n) changed) all c.loop-number.invariant.lowers)

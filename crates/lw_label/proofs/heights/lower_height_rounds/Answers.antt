@@ -4,5 +4,5 @@ use Rattle.lw_label.proofs.heights.lower_height_rounds.Goals as goal
 
 pub returns-clause-reached : goal.returns-clause-reached
 returns-clause-reached g c =
-    let costs = g.C.Cost.costs c.args.cost.now in
-    passes_whole heights_weight (IsReached c.args.graph.now costs c.args.pats.now c.args.labels.now) c.args.graph.now c.lower_height_round.new.marks c.lower_height_round-2.new.marks c.lower_height_round-2.result c.lower_height_round-2.ensures.lowers
+    let costs = g.C.Cost.costs c.args.given.now.cost.now in
+    passes_whole heights_weight (IsReached c.args.given.now.graph.now costs c.args.given.now.pats.now c.args.given.now.labels.now) c.args.given.now.graph.now c.lower_height_round.new.marks c.lower_height_round-2.new.marks c.lower_height_round-2.result c.lower_height_round-2.ensures.lowers

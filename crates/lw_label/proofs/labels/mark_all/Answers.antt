@@ -1,8 +1,10 @@
-use Rattle.std.proofs.Common.{sym, subst}
+use Rattle.std.proofs.Common.{IfSome, sym, subst}
 use Rattle.lw_label.specs.Heights.{AreStill}
+use Rattle.lw_label.specs.HeightTables.{HasHeightsOf, IsHeightTable}
 use Rattle.lw_label.specs.Lowering.{state}
 use Rattle.lw_label.specs.OneVisit.{AreLabelsStill}
 use Rattle.lw_label.specs.Orders.{places_of}
+use Rattle.lw_label.proofs.HeightTables.{new_has, table_started, with_has}
 use Rattle.lw_label.proofs.OneVisit.{labels_still_none}
 use Rattle.lw_label.proofs.Marked.{cover_problem}
 use Rattle.lw_label.proofs.Still.{still_none}
@@ -26,21 +28,35 @@ lower_all-requires-clause-falling g c =
       kept = subst (λ still. AreLabelsStill graph costs pats (state c.args.bounds.now labels) still) (sym c.requires.still) (labels_still_none graph costs pats (state c.args.bounds.now labels) (places_of graph));
     }
 
-pub lower_all_heights-requires-clause-given : goal.lower_all_heights-requires-clause-given
-lower_all_heights-requires-clause-given g c = record {
-  of_cells = c.requires.of_cells;
-  graph = c.classes.ensures.kept;
-  problem = cover_problem c.args.graph.now (g.C.Cost.costs c.args.cost.now) c.args.pats.now c.classes.ensures.kept (g.met.C.Cost.laws c.args.cost.now) c.requires.of_cells;
-  lowering = c.lower_all.ensures.lowering;
-  bounded = c.lower_all.ensures.bounded;
-  fits = c.lower_all.ensures.fits;
-  bounds = c.lower_all.ensures.bounds;
-}
+pub start_heights-requires-clause-table : goal.start_heights-requires-clause-table
+start_heights-requires-clause-table g c =
+    new_has c.args.graph.now c.args.pats.now c.args.marks.now c.args.table.now c.requires.no_marks c.requires.table
 
-pub lower_all_heights-requires-clause-heights : goal.lower_all_heights-requires-clause-heights
-lower_all_heights-requires-clause-heights g c = c.start_heights.ensures (g.C.Cost.costs c.args.cost.now) c.args.pats.now c.lower_all.ensures.lowering
-
-pub lower_all_heights-requires-clause-still : goal.lower_all_heights-requires-clause-still
-lower_all_heights-requires-clause-still g c =
+pub lower_all_heights-requires-clause-falling : goal.lower_all_heights-requires-clause-falling
+lower_all_heights-requires-clause-falling g c =
     let graph = c.args.graph.now in
-    subst (λ still. AreStill graph (g.C.Cost.costs c.args.cost.now) c.args.pats.now c.lower_all.new.marks c.start_heights.new.marks still) (sym c.restart.ensures.still) (still_none graph (g.C.Cost.costs c.args.cost.now) c.args.pats.now c.lower_all.new.marks c.start_heights.new.marks c.lower_all.new.visits.places)
+    let costs = g.C.Cost.costs c.args.cost.now in
+    let pats = c.args.pats.now in
+    let labels = c.lower_all.new.marks in
+    let marks = c.start_heights.new.marks in
+    let table = c.start_heights.new.table in
+    let still = c.restart.new.self.still in
+    let heights = c.start_heights.ensures.heights costs pats c.lower_all.ensures.lowering in
+    record {
+      search = record {
+        given = record {
+          of_cells = c.requires.of_cells;
+          graph = c.classes.ensures.kept;
+          problem = cover_problem graph costs pats c.classes.ensures.kept (g.met.C.Cost.laws c.args.cost.now) c.requires.of_cells;
+          lowering = c.lower_all.ensures.lowering;
+          bounded = c.lower_all.ensures.bounded;
+          fits = c.lower_all.ensures.fits;
+          bounds = c.lower_all.ensures.bounds;
+        };
+        known = c.lower_all.ensures.known;
+        heights = heights;
+      };
+      kept = subst (λ now. AreStill graph costs pats labels marks now) (sym c.restart.ensures.still) (still_none graph costs pats labels marks c.lower_all.new.visits.places);
+      heights = subst (λ t. IfSome t (HasHeightsOf marks)) (sym c.start_heights.ensures.table) (with_has marks c.args.table.now);
+      numbers = subst (λ t. IfSome t (IsHeightTable graph pats still)) (sym c.start_heights.ensures.table) (table_started graph pats marks still c.args.table.now heights.one_each c.requires.table);
+    }

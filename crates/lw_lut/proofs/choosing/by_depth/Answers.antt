@@ -1,6 +1,12 @@
-use Rattle.lw_lut.proofs.Sorting.{sorted_places}
+use Rattle.lw_lut.proofs.Sorting.{listed_small, listed_moved}
 use Rattle.lw_lut.proofs.choosing.by_depth.Goals as goal
 
 pub returns : goal.returns
 returns c =
-    sorted_places c.args.depths.now c.in_ok-places.places.items c.sort.new.places.items c.requires c.in_ok-places.ensures c.sort.ensures.permutation c.sort.ensures.sorted
+    let depths = c.args.depths.now in
+    let places = c.in_ok-places.places.items in
+    let listed = c.in_ok-places.ensures in
+    record {
+      are = listed_moved depths places c.sort_places.new.places.items c.sort_places.ensures.permutation listed.are;
+      sorted = c.sort_places.ensures.sorted (listed_small depths places c.requires listed.are) listed.rising;
+    }

@@ -8,7 +8,7 @@ use Rattle.lw_lut.specs.Placed.{HasPlaces, IsPlaced}
 use Rattle.lw_lut.specs.Searches.{IsKnown}
 use Rattle.lw_lut.specs.declared.ports.TablePorts.{TablePorts}
 use Rattle.lw_lut.specs.declared.table.Table.{Table}
-use Rattle.lw_naming.proofs.NameCount.{gate_name_count}
+use Rattle.lw_laws.proofs.MappedNames.{gate_names_each}
 use Rattle.lw_lut.proofs.PlacedNames.{IsOnce}
 use Rattle.lw_lut.proofs.NetsPlaced.{below_numbers, few_nets}
 use Rattle.lw_lut.proofs.TableNets.{outs_below, net_kept}
@@ -66,7 +66,7 @@ invariant_of-result c =
     let placed : IsPlaced (record { ports = ports; inputs = inputs; tables = chosen; names = names }) places = record {
       kept = net_kept g most lists c.requires.depths ports c.requires.fit c.requires.known chosen are inputs c.in_ok-inputs.ensures names;
       inputs = c.requires.fit.one_name ∙ (sym (ap length c.in_ok-inputs.ensures) ∙ length-map inputs (λ (q : ClassId). q.0));
-      names = ap length c.in_ok-names.ensures ∙ (gate_name_count ports.outputs (numbers ports.roots) frees (table_classes classes) ∙ (length-map classes (λ (t : Table). t.out.0) ∙ ap length c.deref.ensures.value));
+      names = ap length c.in_ok-names.ensures ∙ (gate_names_each ports.outputs (numbers ports.roots) frees (table_classes classes) ∙ (length-map classes (λ (t : Table). t.out.0) ∙ ap length c.deref.ensures.value));
       roots = c.requires.fit.one_root;
       few = c.in_ok-chosen.ensures.few;
       placed = subst₂ (λ is ts. HasPlaces (numbers is ++ table_classes ts) places) c.as_slice-2.ensures c.deref-2.ensures.value c.in_ok-places.ensures;

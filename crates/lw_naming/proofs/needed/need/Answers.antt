@@ -1,8 +1,8 @@
 use Rattle.lw_pool.specs.declared.id.ClassId.{ClassId}
 use Rattle.std.proofs.Common.{◌<◌, length, get_or, arith}
 use Rattle.std.proofs.lemmas.List.Elements.{All-get_or}
-use Rattle.lw_extract.proofs.Noting.{also_more}
-use Rattle.lw_extract.proofs.choosing.need.Goals as goal
+use Rattle.lw_naming.proofs.Noting.{also_more}
+use Rattle.lw_naming.proofs.needed.need.Goals as goal
 
 pub loop-class-preserved : goal.loop-class-preserved
 loop-class-preserved c =

@@ -1,0 +1,174 @@
+// A table of bounds on heights.
+ghost use Rattle.std.specs.Prelude.{◌≡◌, ◌<◌, ◌/◌, ℕ, false, IfOk, IfSome, length, option_map, slice_index_or, slice_set};
+ghost use Rattle.lw_match.specs.Bounds.{AreRows, AreSettledAt, IsTableBut};
+ghost use Rattle.lw_match.specs.HeightBounds.{height_mark};
+ghost use Rattle.lw_label.specs.HeightTables.{HasHeightsOf, IsHeightTable, IsNewTable};
+ghost use Rattle.lw_label.specs.Lowering.{state};
+ghost use Rattle.lw_label.specs.OneVisit.{ArePartsElsewhere};
+ghost use Rattle.lw_label.specs.Orders.{places_of};
+
+use crate::heights::Given;
+use crate::lowering::no_marks;
+use crate::once::set_pair;
+use crate::visits::Visits;
+use lw_graph::Graph;
+use lw_match::{Bounds, Cost, HeightBounds, Mark};
+use lw_pattern::Patterns;
+use lw_pool::ClassId;
+use std::alloc::{AllocError, Global};
+use std::marker::Model;
+
+// How many pairs the classes that have some need to have on average, so that a table of heights
+// saves more time than it takes.
+const PAIRS_FOR_TABLE: usize = 3;
+
+// A table of bounds, and the heights of the classes as costs. The numbers are 0, which is a bound
+// of anything, until the parts of a place are still.
+#[derive(Drop)]
+pub(crate) struct HeightTable {
+    bounds: Bounds,
+    marks: Vec<Option<Mark>>,
+}
+
+impl Model for HeightTable {
+    ghost use Rattle.lw_label.specs.Lowering.{LabelState, state};
+
+    ghost Value = { LabelState };
+
+    ghost view = { λ t. state t.bounds t.marks.items };
+}
+
+// The height of a mark as a cost.
+fn as_cost(mark: Option<Mark>) -> Option<Mark>
+    ensures { result ≡ option_map height_mark mark }
+{
+    match mark {
+        Some(mark) => Some(Mark {
+            cost: mark.height as u64,
+            height: 0,
+        }),
+        None => None,
+    }
+}
+
+impl HeightTable {
+    // A table for a graph whose classes have no marks.
+    fn new(alloc: Global, graph: &Graph, pats: &Patterns) -> Result<HeightTable, AllocError>
+        ensures { IfOk result (IsNewTable graph.now pats.now) }
+    {
+        Ok(HeightTable {
+            bounds: Bounds::of_heights(alloc, graph, pats)?,
+            marks: no_marks(alloc, graph)?,
+        })
+    }
+
+    // Gives the two classes of a place the numbers that their pairs give.
+    fn set_rows(&mut self, graph: &Graph, place: u32)
+        requires place { place < places_of graph.now }
+        requires one_each { length self.old.marks ≡ length graph.now.pairs }
+        requires rows { AreRows self.old.bounds.parts self.old.bounds.starts
+            self.old.bounds.numbers graph.now }
+        requires elsewhere { ArePartsElsewhere graph.now place }
+        ensures marks { self.new.marks ≡ self.old.marks }
+        ensures others { IsTableBut (λ c. c / 2 ≡ place) self.old.bounds self.new.bounds }
+        ensures settled { (c : ℕ) → c / 2 ≡ place →
+            AreSettledAt self.new.bounds graph.now self.new.marks c }
+    {
+        set_pair(graph, &mut self.bounds, &self.marks, place);
+    }
+
+    // Gives a class the height of its mark.
+    fn put(&mut self, class: ClassId, mark: Option<Mark>)
+        requires { class.0 < length self.old.marks }
+        ensures { self.new ≡ state self.old.bounds
+            (slice_set self.old.marks class.0 (option_map height_mark mark)) }
+    {
+        self.marks[class.0 as usize] = as_cost(mark);
+    }
+
+    // What searches are cut by.
+    fn seen(&self) -> HeightBounds
+        ensures bounds { result.bounds.now ≡ self.now.bounds }
+        ensures marks { result.marks.now ≡ self.now.marks }
+    {
+        HeightBounds {
+            bounds: &self.bounds,
+            marks: &self.marks,
+        }
+    }
+}
+
+// Whether the classes of a graph have enough pairs for a table of heights.
+fn has_many_pairs(graph: &Graph) -> bool {
+    let mut pairs: usize = 0;
+    let mut classes: usize = 0;
+    for number in 0..graph.classes() {
+        let count = graph.nands(ClassId(number)).len();
+        if count > 0 {
+            pairs = pairs.saturating_add(count);
+            classes = classes.saturating_add(1);
+        }
+    }
+    pairs > classes.saturating_mul(PAIRS_FOR_TABLE)
+}
+
+// A table for a graph whose classes have no marks, if it saves time.
+pub(crate) fn height_table(
+    alloc: Global,
+    graph: &Graph,
+    pats: &Patterns,
+) -> Result<Option<HeightTable>, AllocError>
+    ensures { IfOk result (λ table. IfSome table (IsNewTable graph.now pats.now)) }
+{
+    if !has_many_pairs(graph) {
+        return Ok(None);
+    }
+    Ok(Some(HeightTable::new(alloc, graph, pats)?))
+}
+
+// Gives the two classes of a place their numbers, if its parts are still.
+pub(crate) fn set_if_still<C: Cost>(
+    given: &Given<C>,
+    visits: &Visits,
+    table: &mut Option<HeightTable>,
+    place: u32,
+)
+    requires place { place < places_of given.now.graph.now }
+    requires places { visits.now.places ≡ places_of given.now.graph.now }
+    requires moving { slice_index_or visits.now.still place false ≡ false }
+    requires table { IfSome table.old
+        (IsHeightTable given.now.graph.now given.now.pats.now visits.now.still) }
+    ensures table { IfSome table.new
+        (IsHeightTable given.now.graph.now given.now.pats.now visits.now.still) }
+    ensures heights { (marks : _) → IfSome table.old (HasHeightsOf marks) →
+        IfSome table.new (HasHeightsOf marks) }
+{
+    let Some(table) = table else {
+        return;
+    };
+    if !visits.has_still_parts(given.graph, place) {
+        return;
+    }
+    table.set_rows(given.graph, place);
+}
+
+// Gives a class the height of its mark.
+pub(crate) fn put_in(table: &mut Option<HeightTable>, class: ClassId, mark: Option<Mark>)
+    requires { IfSome table.old (λ t. class.0 < length t.marks) }
+    ensures { table.new ≡ option_map (λ t. state t.bounds
+        (slice_set t.marks class.0 (option_map height_mark mark))) table.old }
+{
+    if let Some(table) = table {
+        table.put(class, mark);
+    }
+}
+
+// What searches are cut by, where there is a table.
+pub(crate) fn seen_in(table: &Option<HeightTable>) -> Option<HeightBounds>
+    ensures { option_map (λ h. state h.bounds.now h.marks.now) result ≡ table.now }
+{
+    match table {
+        Some(table) => Some(table.seen()),
+        None => None,
+    }
+}
