@@ -9,14 +9,14 @@ use Rattle.lw_facts.proofs.Lists.{index_at}
 use Rattle.lw_laws.specs.Covers.{delays_of, latest}
 use Rattle.lw_laws.proofs.Delays.{length-delays_of}
 use Rattle.lw_trade.specs.declared.uses.Uses.{Uses}
-use Rattle.lw_trade.specs.Areas.{total}
+use Rattle.lw_trade.specs.Areas.{most_area, total}
 use Rattle.lw_trade.specs.Choices.{Part, Choice}
 use Rattle.lw_trade.specs.Choices.Part.{input, gate}
 use Rattle.lw_trade.specs.Fronts.{IsLeastSpot}
 use Rattle.lw_trade.specs.Points.{Task, timing}
 use Rattle.lw_trade.specs.Pricing.{IsOfLibrary}
 use Rattle.lw_trade.specs.Queues.{IsTaken}
-use Rattle.lw_trade.specs.Seen.{HasSeen, AreSeen, HasUnseen, IsSeeing, most_seen, seen_at, sum_seen}
+use Rattle.lw_trade.specs.Seen.{HasSeen, AreSeen, HasUnseen, IsSeeing, seen_at, sum_seen}
 use Rattle.lw_trade.specs.Settling.{Spot, spot, Has, HasAtMost, IsSpotOf, times, areas, Gives, Queued, Waits, Comes, IsGained, AreGroupsAdded, AreInTime, GivesNoMore, GivesNoMoreSeen}
 use Rattle.lw_trade.specs.Tallies.{IsTally, first_of, unseen}
 use Rattle.lw_trade.specs.declared.tallies.Tally.{Tally}
@@ -95,19 +95,19 @@ module _ (u : Uses) (seen : List ℕ) (spots : List Spot) (now n : ℕ) (coming 
 -- What a choice gives, and what its groups have seen.
 
 module _ (u : Uses) (seen : List ℕ) (spots : List Spot) (now n : ℕ) where
-  pin_seen : (i d p : ℕ) (k : Spot) → HasUse u n i d p → Has spots k → k.class ≡ p → k.time + d ≤ now → (seen_at u.members.classes seen (first_of u n + i) ≤ min most_seen k.area) ⊎ HasUnseen u seen spots now n
-  pin_seen i d p k its has e le = by_case (cases_lt (min most_seen k.area) (seen_at u.members.classes seen (first_of u n + i)))
+  pin_seen : (i d p : ℕ) (k : Spot) → HasUse u n i d p → Has spots k → k.class ≡ p → k.time + d ≤ now → (seen_at u.members.classes seen (first_of u n + i) ≤ min most_area k.area) ⊎ HasUnseen u seen spots now n
+  pin_seen i d p k its has e le = by_case (cases_lt (min most_area k.area) (seen_at u.members.classes seen (first_of u n + i)))
     where
       group : slice_index_or u.members.classes (first_of u n + i) 0 ≡ its.group
       group = index_at u.members.classes (first_of u n + i) its.group (subst (λ j. slice_get u.members.classes j ≡ Some its.group) (use_place u n i d p its) its.member)
 
-      unseen : min most_seen k.area < seen_at u.members.classes seen (first_of u n + i) → HasSeen seen its.group k.area → ⊥
+      unseen : min most_area k.area < seen_at u.members.classes seen (first_of u n + i) → HasSeen seen its.group k.area → ⊥
       unseen lt (own, at, low) =
           let own_is : slice_index_or seen its.group 0 ≡ own = index_at seen its.group own at in
           let here : seen_at u.members.classes seen (first_of u n + i) ≡ own = ap (λ j. slice_index_or seen j 0) group ∙ own_is in
           absurd (omega (arith, lt, here, low))
 
-      by_case : (min most_seen k.area < seen_at u.members.classes seen (first_of u n + i)) ⊎ (seen_at u.members.classes seen (first_of u n + i) ≤ min most_seen k.area) → (seen_at u.members.classes seen (first_of u n + i) ≤ min most_seen k.area) ⊎ HasUnseen u seen spots now n
+      by_case : (min most_area k.area < seen_at u.members.classes seen (first_of u n + i)) ⊎ (seen_at u.members.classes seen (first_of u n + i) ≤ min most_area k.area) → (seen_at u.members.classes seen (first_of u n + i) ≤ min most_area k.area) ⊎ HasUnseen u seen spots now n
       by_case (inr low) = inl low
       by_case (inl lt) = inr (record {
         point = k;
@@ -133,7 +133,7 @@ module _ (u : Uses) (seen : List ℕ) (spots : List Spot) (now n : ℕ) where
   -- together they have seen no more than the points of the pins, and few
   abbrev AreAllSeen : ℕ → List ℕ → List Spot → Type 0
   AreAllSeen first ps ks =
-      (sum_seen u.members.classes seen first (length ps) ≤ total (areas ks)) × (sum_seen u.members.classes seen first (length ps) ≤ length ps * most_seen)
+      (sum_seen u.members.classes seen first (length ps) ≤ total (areas ks)) × (sum_seen u.members.classes seen first (length ps) ≤ length ps * most_area)
 
   all_seen : (i : ℕ) (ds ps : List ℕ) (ks : List Spot) → length ds ≡ length ps → HaveUses u n i ds ps → AllZip (IsSpotOf spots) ps ks → latest ds (times ks) ≤ now → AreAllSeen (first_of u n + i) ps ks ⊎ HasUnseen u seen spots now n
   all_seen i ds [] [] size all zip le = inl (omega arith, omega arith)
@@ -143,7 +143,7 @@ module _ (u : Uses) (seen : List ℕ) (spots : List Spot) (now n : ℕ) where
   all_seen i (d ∷ ds) (p ∷ ps) (k ∷ ks) size all ((has, e), zip) le =
       both (pin_seen i d p k (first_use i d p ds ps all) has e (omega arith)) (all_seen (i + 1) ds ps ks (omega arith) (later_uses i d p ds ps all) zip (omega arith))
     where
-      both : (seen_at u.members.classes seen (first_of u n + i) ≤ min most_seen k.area) ⊎ HasUnseen u seen spots now n → AreAllSeen (first_of u n + (i + 1)) ps ks ⊎ HasUnseen u seen spots now n → AreAllSeen (first_of u n + i) (p ∷ ps) (k ∷ ks) ⊎ HasUnseen u seen spots now n
+      both : (seen_at u.members.classes seen (first_of u n + i) ≤ min most_area k.area) ⊎ HasUnseen u seen spots now n → AreAllSeen (first_of u n + (i + 1)) ps ks ⊎ HasUnseen u seen spots now n → AreAllSeen (first_of u n + i) (p ∷ ps) (k ∷ ks) ⊎ HasUnseen u seen spots now n
       both (inr un) rest = inr un
       both (inl low) (inr un) = inr un
       both (inl low) (inl rest) =
@@ -152,10 +152,10 @@ module _ (u : Uses) (seen : List ℕ) (spots : List Spot) (now n : ℕ) where
           inl (omega (arith, low, more), omega (arith, low, few))
 
 module _ (s : Task) (choices : List Choice) (u : Uses) (are : AreUses s choices u) (seen : List ℕ) (spots : List Spot) (now n : ℕ) where
-  tally_more : (class a : ℕ) (part : Part) (t : Tally) → slice_get choices n ≡ Some (record { class = class; part = part }) → IsOfLibrary s.cells part → IsTally s.cells u seen n (record { class = class; part = part }) t → (t.bound < unseen → HasAtMost spots class now t.bound) → Gives s spots part now a → HasAtMost spots class now a ⊎ HasUnseen u seen spots now n
+  tally_more : (class a : ℕ) (part : Part) (t : Tally) → slice_get choices n ≡ Some (record { class = class; part = part }) → IsOfLibrary s.cells part → IsTally s.cells u seen n (record { class = class; part = part }) t → (t.bound < unseen → HasAtMost spots class now (min most_area t.bound)) → Gives s spots part now a → HasAtMost spots class now a ⊎ HasUnseen u seen spots now n
   tally_more class a (input i) t at of is had gives =
       let low = is.low in
-      inl (at_most spots class now t.bound a (omega (arith, low)) (had (omega (arith, low))))
+      inl (at_most spots class now (min most_area t.bound) a (omega (arith, low)) (had (omega (arith, low))))
   tally_more class a (gate cell ps) t at of is had (ks, zip, et, ea) =
       by_case (all_seen u seen spots now n 0 (delays_of (timing s).delays cell) ps ks (length-delays_of (timing s).delays cell (length ps) of) (uses_of s choices u are n class cell ps at) zip (omega (arith, et)))
     where
@@ -167,10 +167,10 @@ module _ (s : Task) (choices : List Choice) (u : Uses) (are : AreUses s choices 
           let low = is.low in
           let pins = is.few in
           let lt : t.bound < unseen = omega (arith, low, few, pins) in
-          inl (at_most spots class now t.bound a (omega (arith, low, more, ea, lt)) (had lt))
+          inl (at_most spots class now (min most_area t.bound) a (omega (arith, low, more, ea)) (had lt))
 
   -- It gives no more than what is had, where its bound is that of a group that has seen nothing, or a point of its class has no more.
-  pub tally_done : (x : Choice) (t : Tally) → slice_get choices n ≡ Some x → IsOfLibrary s.cells x.part → IsTally s.cells u seen n x t → (t.bound < unseen → HasAtMost spots x.class now t.bound) → GivesNoMoreSeen s choices spots (HasUnseen u seen spots now) now n
+  pub tally_done : (x : Choice) (t : Tally) → slice_get choices n ≡ Some x → IsOfLibrary s.cells x.part → IsTally s.cells u seen n x t → (t.bound < unseen → HasAtMost spots x.class now (min most_area t.bound)) → GivesNoMoreSeen s choices spots (HasUnseen u seen spots now) now n
   tally_done x t at of is had y a yt gives =
       let same = same_Some y x (sym yt ∙ at) in
       let here = tally_more x.class a x.part t at of is had (subst (λ (z : Choice). Gives s spots z.part now a) same gives) in
@@ -185,20 +185,20 @@ module _ (u : Uses) (spots : List Spot) (seen : List ℕ) (group time delay clas
       let e : d ≡ delay = same_Some d delay (sym dt ∙ delay_at) in
       least.1 k has c (omega (arith, e, le))
 
-  pub seeing_less : (new : ℕ) → new ≡ min most_seen area → new < own → IsSeeing u spots seen (slice_set seen group new) group time
+  pub seeing_less : (new : ℕ) → new ≡ min most_area area → new < own → IsSeeing u spots seen (slice_set seen group new) group time
   seeing_less new new_is lt = record {
     one_each = length-set seen group new;
     kept = λ g a (o, ot, le). kept g a o ot le (ℕ_discrete g group);
     here = λ k d has is le. (new, get_set seen group new (get_in seen group own at), let m = no_more k d has is le in omega (arith, m, new_is));
   }
     where
-      kept : (g a o : ℕ) → slice_get seen g ≡ Some o → o ≤ min most_seen a → Dec (g ≡ group) → HasSeen (slice_set seen group new) g a
+      kept : (g a o : ℕ) → slice_get seen g ≡ Some o → o ≤ min most_area a → Dec (g ≡ group) → HasSeen (slice_set seen group new) g a
       kept g a o ot le (yes e) =
           let same : own ≡ o = same_Some own o (sym at ∙ (ap (slice_get seen) (sym e) ∙ ot)) in
           subst (λ i. HasSeen (slice_set seen group new) i a) (sym e) (new, get_set seen group new (get_in seen group own at), omega (arith, lt, same, le))
       kept g a o ot le (no ne) = (o, get_set_other seen group g new o ne ot, le)
 
-  pub seeing_same : own ≤ min most_seen area → IsSeeing u spots seen seen group time
+  pub seeing_same : own ≤ min most_area area → IsSeeing u spots seen seen group time
   seeing_same low = record {
     one_each = refl;
     kept = λ g a has. has;

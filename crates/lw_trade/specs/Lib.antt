@@ -5,6 +5,7 @@ pub mod Checks
 pub mod Choices
 pub mod Fronts
 pub mod Groups
+pub mod Jobs
 pub mod Lasts
 pub mod Links
 pub mod Looks

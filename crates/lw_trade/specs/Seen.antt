@@ -1,18 +1,15 @@
 -- What the groups of pins have seen: the least area of the points of their class that came.
-use Rattle.std.specs.Prelude.{ℕ, zero, suc, ◌+◌, ◌^◌, ◌≤◌, ◌≡◌, ◌⊎◌, min, List, length, Option, Some, None, slice_get, slice_index_or}
+use Rattle.std.specs.Prelude.{ℕ, zero, suc, ◌+◌, ◌≤◌, ◌≡◌, ◌⊎◌, min, List, length, Option, Some, None, slice_get, slice_index_or}
 use Rattle.lw_pool.specs.declared.id.ClassId.{ClassId}
 use Rattle.lw_trade.specs.declared.uses.Uses.{Uses}
+use Rattle.lw_trade.specs.Areas.{most_area}
 use Rattle.lw_trade.specs.Settling.{Spot, spot, Has, IsGained, Queued, Waits}
 use Rattle.lw_trade.specs.Uses.{IsGroup}
-
--- the greatest area that is kept of what a group has seen
-abbrev pub most_seen : ℕ
-most_seen = 2 ^ 54
 
 -- the group has seen an area of no more than this
 abbrev pub HasSeen : List ℕ → ℕ → ℕ → Type 0
 HasSeen seen g area =
-    (own : ℕ) × (slice_get seen g ≡ Some own) × (own ≤ min most_seen area)
+    (own : ℕ) × (slice_get seen g ≡ Some own) × (own ≤ min most_area area)
 
 -- each group has seen the points of its class, but for those that it comes for
 abbrev pub AreSeen : Uses → List ℕ → List Spot → Queued → Type 0

@@ -4,23 +4,23 @@ use Rattle.lw_genlib.specs.Cells.{CellParts}
 use Rattle.lw_trade.specs.declared.seeing.Seen.{Seen}
 use Rattle.lw_trade.specs.declared.tallies.Tally.{Tally}
 use Rattle.lw_trade.specs.declared.uses.Uses.{Uses}
-use Rattle.lw_trade.specs.Areas.{area_at}
+use Rattle.lw_trade.specs.Areas.{area_at, most_area}
 use Rattle.lw_trade.specs.Choices.{Part, Choice}
 use Rattle.lw_trade.specs.Choices.Part.{input, gate}
-use Rattle.lw_trade.specs.Seen.{most_seen, sum_seen}
+use Rattle.lw_trade.specs.Seen.{sum_seen}
 
 -- what stands for a group that has seen no point: more than a cell and 16 pins have together that have seen some
 abbrev pub unseen : ℕ
-unseen = 2 ^ 59
+unseen = 2 ^ 67
 
 abbrev pub pin_count : Part → ℕ
 pin_count (input i) = 0
 pin_count (gate cell ps) = length ps
 
--- the area of its cell, as far as it is kept
+-- the area of its cell, as far as it is told
 abbrev pub own_area : List CellParts → Part → ℕ
 own_area cells (input i) = 0
-own_area cells (gate cell ps) = min most_seen (area_at cells cell)
+own_area cells (gate cell ps) = min most_area (area_at cells cell)
 
 -- the tally of a choice whose groups have seen nothing
 pub record IsFirstTally (cells : List CellParts) (x : Choice) (t : Tally) : Type 0 where

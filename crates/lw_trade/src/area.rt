@@ -50,7 +50,7 @@ impl Cost for AreaCost<'_> {
 }
 
 // The greatest area that is told.
-const MOST_AREA: u64 = 4_611_686_018_427_387_904;
+pub(crate) const MOST_AREA: u64 = 4_611_686_018_427_387_904;
 
 // The sum of two areas, or the greatest that is told.
 pub(crate) fn joined(a: u64, b: u64) -> u64

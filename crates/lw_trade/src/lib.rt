@@ -9,6 +9,7 @@ mod choices;
 mod found;
 mod fronts;
 mod grouping;
+mod job;
 mod lane;
 mod lanes;
 mod laws;

@@ -12,6 +12,7 @@ ghost use Rattle.lw_trade.specs.Settling.{Spot, Has, GivesNoMoreSeen, IsGroupLoo
 ghost use Rattle.lw_trade.specs.Tallies.{AreTallied};
 ghost use Rattle.lw_trade.specs.Uses.{AreUses, turns_of};
 
+use crate::area::MOST_AREA;
 use crate::choices::Row;
 use crate::fronts::Fronts;
 use crate::queue::Queue;
@@ -50,7 +51,8 @@ pub(crate) fn may_give(
     if tally.bound >= UNSEEN {
         return false;
     }
-    fronts.is_less(tally.class, time, tally.bound)
+    let area = tally.bound.min(MOST_AREA as u128) as u64;
+    fronts.is_less(tally.class, time, area)
 }
 
 // Lets a choice wait at a time, unless by what its groups have seen it gives no more then than what

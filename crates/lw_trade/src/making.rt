@@ -6,6 +6,7 @@ ghost use Rattle.lw_trade.specs.Areas.{area_cost};
 ghost use Rattle.lw_trade.specs.Backing.{AreBacked};
 ghost use Rattle.lw_trade.specs.Choices.{AreListedChoices};
 ghost use Rattle.lw_trade.specs.Groups.{HaveWays};
+ghost use Rattle.lw_trade.specs.Jobs.{WhereListed};
 ghost use Rattle.lw_trade.specs.Points.{AreCurves, BoundCovers, IsWhy, most_points, point_count, task};
 ghost use Rattle.lw_trade.specs.Pricing.{IsOfLibrary, IsWithin};
 ghost use Rattle.lw_trade.specs.Rows.{plain_part, plain_rows};
@@ -14,6 +15,7 @@ ghost use Rattle.lw_trade.specs.Settling.{AreSettled, IsStop};
 use crate::choices::{Row, list_choices};
 use crate::fronts::Fronts;
 use crate::grouping::{Curves, group};
+use crate::job::Job;
 use crate::point::CurveFault;
 use crate::queue::Queue;
 use crate::seeing::none_seen;
@@ -44,15 +46,12 @@ fn settle_rows(
         AreListedChoices (task g pats lib.now starts.now) (plain_rows rows.now) }
     ensures count { IfOk result (λ fronts. classes ≡ length fronts.least) }
     ensures few { IfOk result (λ fronts. length fronts.spots ≤ most_points) }
-    ensures settled { IfOk result (λ fronts. (g : PlainGraph) (pats : List TreeOfCell) →
-        AreListedChoices (task g pats lib.now starts.now) (plain_rows rows.now) →
-        AreSettled (task g pats lib.now starts.now) horizon (plain_rows rows.now) fronts.spots) }
-    ensures backed { IfOk result (λ fronts. (g : PlainGraph) (pats : List TreeOfCell) →
-        AreListedChoices (task g pats lib.now starts.now) (plain_rows rows.now) →
-        AreBacked (task g pats lib.now starts.now) (plain_rows rows.now) fronts.held) }
-    ensures stop { IfErr result (λ fault. (g : PlainGraph) (pats : List TreeOfCell) →
-        AreListedChoices (task g pats lib.now starts.now) (plain_rows rows.now) →
-        IsStop (task g pats lib.now starts.now) (plain_rows rows.now) horizon fault) }
+    ensures settled { IfOk result (λ fronts. WhereListed lib.now starts.now rows.now
+        (λ s choices. AreSettled s horizon choices fronts.spots)) }
+    ensures backed { IfOk result (λ fronts. WhereListed lib.now starts.now rows.now
+        (λ s choices. AreBacked s choices fronts.held)) }
+    ensures stop { IfErr result (λ fault. WhereListed lib.now starts.now rows.now
+        (λ s choices. IsStop s choices horizon fault)) }
 {
     let _ = lib.len();
     let uses = uses_of(alloc, rows, lib, classes as usize)?;
@@ -61,16 +60,13 @@ fn settle_rows(
     let mut coming = Queue::new(alloc, horizon, uses.steps.len())?;
     let mut fronts = Fronts::new(alloc, classes as usize)?;
     let mut seen = none_seen(alloc, rows, lib, uses.links.len())?;
-    settle_all(
+    let job = Job {
         rows,
         lib,
         starts,
-        &uses,
-        &mut seen,
-        &mut fronts,
-        &mut coming,
-        &mut queue,
-    )?;
+        uses: &uses,
+    };
+    settle_all(&job, &mut seen, &mut fronts, &mut coming, &mut queue)?;
     Ok(fronts)
 }
 

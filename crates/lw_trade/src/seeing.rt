@@ -1,5 +1,5 @@
 // What the groups of pins have seen: the least area of the points of their class that came.
-ghost use Rattle.std.specs.Prelude.{◌≡◌, ◌<◌, ℕ, List, All, IfOk, length, replicate};
+ghost use Rattle.std.specs.Prelude.{◌≡◌, ◌<◌, List, All, IfOk, length, replicate};
 ghost use Rattle.lw_trade.specs.Choices.{Choice};
 ghost use Rattle.lw_trade.specs.Looks.{AreLooks};
 ghost use Rattle.lw_trade.specs.Points.{Task};
@@ -9,9 +9,10 @@ ghost use Rattle.lw_trade.specs.Seen.{IsSeeing};
 ghost use Rattle.lw_trade.specs.Tallies.{AreFirstTallies, AreTallies, unseen};
 ghost use Rattle.lw_trade.specs.Uses.{AreGroups, AreUses};
 
+use crate::area::MOST_AREA;
 use crate::choices::Row;
 use crate::fronts::Fronts;
-use crate::tallies::{MOST_SEEN, Tally, UNSEEN, first_tallies, lower_tallies};
+use crate::tallies::{Tally, UNSEEN, first_tallies, lower_tallies};
 use crate::uses::Uses;
 use lw_genlib::Library;
 use std::alloc::{AllocError, Global};
@@ -19,7 +20,7 @@ use std::alloc::{AllocError, Global};
 /// What each group has seen, and what that makes of the choices.
 #[derive(Drop)]
 pub(crate) struct Seen {
-    pub areas: Vec<u64>,
+    pub areas: Vec<u128>,
     pub tallies: Vec<Tally>,
 }
 
@@ -61,7 +62,7 @@ pub(crate) fn see(uses: &Uses, fronts: &Fronts, seen: &mut Seen, group: u32, tim
     let Some(area) = fronts.area_near(class, time - delay, place) else {
         return;
     };
-    let (old, new) = (seen.areas[group as usize], area.min(MOST_SEEN));
+    let (old, new) = (seen.areas[group as usize], area.min(MOST_AREA) as u128);
     if new >= old {
         return;
     }

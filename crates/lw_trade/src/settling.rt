@@ -1,28 +1,20 @@
-ghost use Rattle.std.specs.Prelude.{◌≡◌, ◌+◌, ◌<◌, ◌≤◌, ℕ, List, All, IfOk, IfSome, None, OnOk, length};
-ghost use Rattle.lw_fixed.specs.declared.micro.Micro.{Micro as MicroOf};
-ghost use Rattle.lw_laws.specs.Graphs.{Graph as PlainGraph};
-ghost use Rattle.lw_laws.specs.Covers.{Pattern as TreeOfCell};
-ghost use Rattle.lw_trade.specs.Areas.{total};
+ghost use Rattle.std.specs.Prelude.{◌≡◌, ◌+◌, ◌<◌, ◌≤◌, ℕ, IfOk, None, OnOk, length};
 ghost use Rattle.lw_trade.specs.Backing.{AreBacked};
-ghost use Rattle.lw_trade.specs.Points.{most_points, task};
-ghost use Rattle.lw_trade.specs.Pricing.{IsOfLibrary, IsWithin};
+ghost use Rattle.lw_trade.specs.Jobs.{AreTalliedIn, HaveFallen, IsJob, IsStillSomewhere, WhereStill, turns_in};
+ghost use Rattle.lw_trade.specs.Points.{most_points};
 ghost use Rattle.lw_trade.specs.Queues.{IsFirstOf};
-ghost use Rattle.lw_trade.specs.Rows.{plain_part, plain_rows};
 ghost use Rattle.lw_trade.specs.Seen.{AreSeen, AreSeenAfter};
-ghost use Rattle.lw_trade.specs.Settling.{AreGroupsAdded, AreSettledOr, IsAfter, IsLetWait, IsStillFor, Waits};
-ghost use Rattle.lw_trade.specs.Tallies.{AreTallied};
-ghost use Rattle.lw_trade.specs.Uses.{AreGroups, AreUses, turns_of};
+ghost use Rattle.lw_trade.specs.Settling.{AreGroupsAdded, AreSettledOr, IsAfter, IsLetWait, Waits};
+ghost use Rattle.lw_trade.specs.Uses.{AreGroups};
 
-use crate::choices::Row;
 use crate::fronts::Fronts;
+use crate::job::Job;
 use crate::looking::{look_at_groups, may_give};
 use crate::point::CurveFault;
 use crate::pricing::price;
 use crate::queue::Queue;
 use crate::seeing::Seen;
 use crate::uses::{Uses, lane_of};
-use lw_fixed::Micro;
-use lw_genlib::Library;
 use lw_pool::ClassId;
 use std::alloc::AllocError;
 
@@ -88,53 +80,37 @@ fn push_groups(
 // Looks at the choices that wait at a time until one gives its class a point, and says which class
 // it is.
 fn next_gain(
-    rows: &[Row],
-    lib: &Library,
-    starts: &[Micro],
-    uses: &Uses,
+    job: &Job,
     seen: &Seen,
     fronts: &mut Fronts,
     coming: &Queue,
     queue: &mut Queue,
     time: u64,
 ) -> Result<Option<ClassId>, AllocError>
+    requires job { IsJob (length fronts.old.least) job.now }
     requires time { time ≤ coming.now.horizon }
-    requires tallied { AreTallied lib.now (plain_rows rows.now) uses.now seen.now }
-    requires seen { AreSeen uses.now seen.now.areas.items fronts.old.spots coming.now }
-    requires within { All (λ (r : Row). IsWithin (length fronts.old.least) (plain_part r.stand))
-        rows.now }
-    requires of_library { All (λ (r : Row). IsOfLibrary lib.now (plain_part r.stand)) rows.now }
-    requires classes { All (λ (r : Row). r.class.0 < length fronts.old.least) rows.now }
+    requires tallied { AreTalliedIn job.now seen.now }
+    requires seen { AreSeen job.now.uses.now seen.now.areas.items fronts.old.spots coming.now }
     requires over { (t g : ℕ) → Waits coming.now t g → time < t }
-    requires still { (g : PlainGraph) × (pats : List TreeOfCell) ×
-        IsStillFor (task g pats lib.now starts.now) (plain_rows rows.now) time fronts.old.spots
-        (turns_of uses.now coming.now queue.old) ×
-        AreUses (task g pats lib.now starts.now) (plain_rows rows.now) uses.now }
+    requires still { IsStillSomewhere job.now time fronts.old.spots
+        (turns_in job.now coming.now queue.old) }
     ensures count { length fronts.new.least ≡ length fronts.old.least }
-    ensures gain { IfOk result (λ gain. (g : PlainGraph) (pats : List TreeOfCell) →
-        IsStillFor (task g pats lib.now starts.now) (plain_rows rows.now) time fronts.old.spots
-        (turns_of uses.now coming.now queue.old) →
-        AreUses (task g pats lib.now starts.now) (plain_rows rows.now) uses.now →
-        IsAfter (task g pats lib.now starts.now) (plain_rows rows.now) time fronts.new.spots
-        (turns_of uses.now coming.now queue.new) gain) }
-    ensures seen { IfOk result
-        (AreSeenAfter uses.now seen.now.areas.items fronts.new.spots coming.now time) }
-    ensures falls { IfOk result (λ gain. IfSome gain
-        (λ class. (class.0 < length fronts.old.least) ×
-        (total fronts.new.least < total fronts.old.least))) }
-    ensures backed { OnOk result ((g : PlainGraph) (pats : List TreeOfCell) →
-        IsStillFor (task g pats lib.now starts.now) (plain_rows rows.now) time fronts.old.spots
-        (turns_of uses.now coming.now queue.old) →
-        AreUses (task g pats lib.now starts.now) (plain_rows rows.now) uses.now →
-        AreBacked (task g pats lib.now starts.now) (plain_rows rows.now) fronts.old.held →
-        AreBacked (task g pats lib.now starts.now) (plain_rows rows.now) fronts.new.held) }
+    ensures gain { IfOk result (λ gain. WhereStill job.now time fronts.old.spots
+        (turns_in job.now coming.now queue.old) (λ s choices. IsAfter s choices time
+        fronts.new.spots (turns_in job.now coming.now queue.new) gain)) }
+    ensures seen { IfOk result (AreSeenAfter job.now.uses.now seen.now.areas.items
+        fronts.new.spots coming.now time) }
+    ensures falls { IfOk result (HaveFallen fronts.old.least fronts.new.least) }
+    ensures backed { OnOk result (WhereStill job.now time fronts.old.spots
+        (turns_in job.now coming.now queue.old) (λ s choices.
+        AreBacked s choices fronts.old.held → AreBacked s choices fronts.new.held)) }
 {
     while let Some(number) = queue.take_at(time) {
-        if !may_give(rows, lib, uses, seen, fronts, number, time) {
+        if !may_give(job.rows, job.lib, job.uses, seen, fronts, number, time) {
             continue;
         }
-        let row = &rows[number as usize];
-        let Some(area) = price(&row.stand, lib, starts, fronts, time) else {
+        let row = &job.rows[number as usize];
+        let Some(area) = price(&row.stand, job.lib, job.starts, fronts, time) else {
             continue;
         };
         if fronts.gain(row.class, time, area, number)? {
@@ -147,97 +123,68 @@ fn next_gain(
 // Looks at the groups that come at a time, and then at the choices that wait until one gives its
 // class a point, and says which class it is.
 fn gain_at(
-    rows: &[Row],
-    lib: &Library,
-    starts: &[Micro],
-    uses: &Uses,
+    job: &Job,
     seen: &mut Seen,
     fronts: &mut Fronts,
     coming: &mut Queue,
     queue: &mut Queue,
     time: u64,
 ) -> Result<Option<ClassId>, AllocError>
+    requires job { IsJob (length fronts.old.least) job.now }
     requires time { time ≤ coming.old.horizon }
-    requires tallied { AreTallied lib.now (plain_rows rows.now) uses.now seen.old }
-    requires seen { AreSeen uses.now seen.old.areas.items fronts.old.spots coming.old }
-    requires within { All (λ (r : Row). IsWithin (length fronts.old.least) (plain_part r.stand))
-        rows.now }
-    requires of_library { All (λ (r : Row). IsOfLibrary lib.now (plain_part r.stand)) rows.now }
-    requires classes { All (λ (r : Row). r.class.0 < length fronts.old.least) rows.now }
-    requires count { uses.now.links.count ≡ length fronts.old.least }
-    requires still { (g : PlainGraph) × (pats : List TreeOfCell) ×
-        IsStillFor (task g pats lib.now starts.now) (plain_rows rows.now) time fronts.old.spots
-        (turns_of uses.now coming.old queue.old) ×
-        AreUses (task g pats lib.now starts.now) (plain_rows rows.now) uses.now }
+    requires tallied { AreTalliedIn job.now seen.old }
+    requires seen { AreSeen job.now.uses.now seen.old.areas.items fronts.old.spots coming.old }
+    requires still { IsStillSomewhere job.now time fronts.old.spots
+        (turns_in job.now coming.old queue.old) }
     ensures horizon { coming.new.horizon ≡ coming.old.horizon }
     ensures count { length fronts.new.least ≡ length fronts.old.least }
-    ensures tallied { AreTallied lib.now (plain_rows rows.now) uses.now seen.new }
-    ensures seen { IfOk result
-        (AreSeenAfter uses.now seen.new.areas.items fronts.new.spots coming.new time) }
-    ensures gain { IfOk result (λ gain. (g : PlainGraph) (pats : List TreeOfCell) →
-        IsStillFor (task g pats lib.now starts.now) (plain_rows rows.now) time fronts.old.spots
-        (turns_of uses.now coming.old queue.old) →
-        AreUses (task g pats lib.now starts.now) (plain_rows rows.now) uses.now →
-        IsAfter (task g pats lib.now starts.now) (plain_rows rows.now) time fronts.new.spots
-        (turns_of uses.now coming.new queue.new) gain) }
-    ensures falls { IfOk result (λ gain. IfSome gain
-        (λ class. (class.0 < length fronts.old.least) ×
-        (total fronts.new.least < total fronts.old.least))) }
-    ensures backed { OnOk result ((g : PlainGraph) (pats : List TreeOfCell) →
-        IsStillFor (task g pats lib.now starts.now) (plain_rows rows.now) time fronts.old.spots
-        (turns_of uses.now coming.old queue.old) →
-        AreUses (task g pats lib.now starts.now) (plain_rows rows.now) uses.now →
-        AreBacked (task g pats lib.now starts.now) (plain_rows rows.now) fronts.old.held →
-        AreBacked (task g pats lib.now starts.now) (plain_rows rows.now) fronts.new.held) }
+    ensures tallied { AreTalliedIn job.now seen.new }
+    ensures seen { IfOk result (AreSeenAfter job.now.uses.now seen.new.areas.items
+        fronts.new.spots coming.new time) }
+    ensures gain { IfOk result (λ gain. WhereStill job.now time fronts.old.spots
+        (turns_in job.now coming.old queue.old) (λ s choices. IsAfter s choices time
+        fronts.new.spots (turns_in job.now coming.new queue.new) gain)) }
+    ensures falls { IfOk result (HaveFallen fronts.old.least fronts.new.least) }
+    ensures backed { OnOk result (WhereStill job.now time fronts.old.spots
+        (turns_in job.now coming.old queue.old) (λ s choices.
+        AreBacked s choices fronts.old.held → AreBacked s choices fronts.new.held)) }
 {
-    look_at_groups(rows, lib, uses, seen, fronts, coming, queue, time)?;
-    next_gain(rows, lib, starts, uses, seen, fronts, coming, queue, time)
+    look_at_groups(
+        job.rows, job.lib, job.uses, seen, fronts, coming, queue, time,
+    )?;
+    next_gain(job, seen, fronts, coming, queue, time)
 }
 
 // Gives the classes their points at a time, before which nothing waits or comes.
 pub(crate) fn settle_at(
-    rows: &[Row],
-    lib: &Library,
-    starts: &[Micro],
-    uses: &Uses,
+    job: &Job,
     seen: &mut Seen,
     fronts: &mut Fronts,
     coming: &mut Queue,
     queue: &mut Queue,
     time: u64,
 ) -> Result<(), AllocError>
+    requires job { IsJob (length fronts.old.least) job.now }
     requires time { time ≤ coming.old.horizon }
-    requires tallied { AreTallied lib.now (plain_rows rows.now) uses.now seen.old }
-    requires seen { AreSeen uses.now seen.old.areas.items fronts.old.spots coming.old }
-    requires within { All (λ (r : Row). IsWithin (length fronts.old.least) (plain_part r.stand))
-        rows.now }
-    requires of_library { All (λ (r : Row). IsOfLibrary lib.now (plain_part r.stand)) rows.now }
-    requires classes { All (λ (r : Row). r.class.0 < length fronts.old.least) rows.now }
-    requires count { uses.now.links.count ≡ length fronts.old.least }
-    requires still { (g : PlainGraph) × (pats : List TreeOfCell) ×
-        IsStillFor (task g pats lib.now starts.now) (plain_rows rows.now) time fronts.old.spots
-        (turns_of uses.now coming.old queue.old) ×
-        AreUses (task g pats lib.now starts.now) (plain_rows rows.now) uses.now }
+    requires tallied { AreTalliedIn job.now seen.old }
+    requires seen { AreSeen job.now.uses.now seen.old.areas.items fronts.old.spots coming.old }
+    requires still { IsStillSomewhere job.now time fronts.old.spots
+        (turns_in job.now coming.old queue.old) }
     ensures horizon { coming.new.horizon ≡ coming.old.horizon }
     ensures count { length fronts.new.least ≡ length fronts.old.least }
-    ensures tallied { AreTallied lib.now (plain_rows rows.now) uses.now seen.new }
-    ensures seen { OnOk result (AreSeen uses.now seen.new.areas.items fronts.new.spots coming.new) }
-    ensures still { OnOk result ((g : PlainGraph) (pats : List TreeOfCell) →
-        IsStillFor (task g pats lib.now starts.now) (plain_rows rows.now) time fronts.old.spots
-        (turns_of uses.now coming.old queue.old) →
-        AreUses (task g pats lib.now starts.now) (plain_rows rows.now) uses.now →
-        IsAfter (task g pats lib.now starts.now) (plain_rows rows.now) time fronts.new.spots
-        (turns_of uses.now coming.new queue.new) None) }
-    ensures backed { OnOk result ((g : PlainGraph) (pats : List TreeOfCell) →
-        IsStillFor (task g pats lib.now starts.now) (plain_rows rows.now) time fronts.old.spots
-        (turns_of uses.now coming.old queue.old) →
-        AreUses (task g pats lib.now starts.now) (plain_rows rows.now) uses.now →
-        AreBacked (task g pats lib.now starts.now) (plain_rows rows.now) fronts.old.held →
-        AreBacked (task g pats lib.now starts.now) (plain_rows rows.now) fronts.new.held) }
+    ensures tallied { AreTalliedIn job.now seen.new }
+    ensures seen { OnOk result (AreSeen job.now.uses.now seen.new.areas.items fronts.new.spots
+        coming.new) }
+    ensures still { OnOk result (WhereStill job.now time fronts.old.spots
+        (turns_in job.now coming.old queue.old) (λ s choices. IsAfter s choices time
+        fronts.new.spots (turns_in job.now coming.new queue.new) None)) }
+    ensures backed { OnOk result (WhereStill job.now time fronts.old.spots
+        (turns_in job.now coming.old queue.old) (λ s choices.
+        AreBacked s choices fronts.old.held → AreBacked s choices fronts.new.held)) }
 {
-    while let Some(class) = gain_at(rows, lib, starts, uses, seen, fronts, coming, queue, time)? {
+    while let Some(class) = gain_at(job, seen, fronts, coming, queue, time)? {
         let place = fronts.last_place(class);
-        push_groups(uses, coming, class, time, place)?;
+        push_groups(job.uses, coming, class, time, place)?;
     }
     Ok(())
 }
@@ -264,44 +211,29 @@ const MOST_POINTS: u32 = 8_000_000;
 /// Gives the classes their points by rising time, up to the horizon of the queues. It stops behind
 /// the first time by which all classes together have more than 8,000,000.
 pub(crate) fn settle_all(
-    rows: &[Row],
-    lib: &Library,
-    starts: &[Micro],
-    uses: &Uses,
+    job: &Job,
     seen: &mut Seen,
     fronts: &mut Fronts,
     coming: &mut Queue,
     queue: &mut Queue,
 ) -> Result<(), CurveFault>
-    requires within { All (λ (r : Row). IsWithin (length fronts.old.least) (plain_part r.stand))
-        rows.now }
-    requires of_library { All (λ (r : Row). IsOfLibrary lib.now (plain_part r.stand)) rows.now }
-    requires classes { All (λ (r : Row). r.class.0 < length fronts.old.least) rows.now }
-    requires count { uses.now.links.count ≡ length fronts.old.least }
-    requires tallied { AreTallied lib.now (plain_rows rows.now) uses.now seen.old }
-    requires seen { AreSeen uses.now seen.old.areas.items fronts.old.spots coming.old }
+    requires job { IsJob (length fronts.old.least) job.now }
+    requires tallied { AreTalliedIn job.now seen.old }
+    requires seen { AreSeen job.now.uses.now seen.old.areas.items fronts.old.spots coming.old }
     requires few_points { length fronts.old.spots ≤ most_points }
-    requires still { (g : PlainGraph) × (pats : List TreeOfCell) ×
-        IsStillFor (task g pats lib.now starts.now) (plain_rows rows.now) 0 fronts.old.spots
-        (turns_of uses.now coming.old queue.old) ×
-        AreUses (task g pats lib.now starts.now) (plain_rows rows.now) uses.now }
+    requires still { IsStillSomewhere job.now 0 fronts.old.spots
+        (turns_in job.now coming.old queue.old) }
     ensures count { length fronts.new.least ≡ length fronts.old.least }
     ensures few_points { OnOk result (length fronts.new.spots ≤ most_points) }
-    ensures settled { (g : PlainGraph) (pats : List TreeOfCell) →
-        IsStillFor (task g pats lib.now starts.now) (plain_rows rows.now) 0 fronts.old.spots
-        (turns_of uses.now coming.old queue.old) →
-        AreUses (task g pats lib.now starts.now) (plain_rows rows.now) uses.now →
-        AreSettledOr (task g pats lib.now starts.now)
-        (plain_rows rows.now) coming.old.horizon fronts.new.spots result }
-    ensures backed { OnOk result ((g : PlainGraph) (pats : List TreeOfCell) →
-        IsStillFor (task g pats lib.now starts.now) (plain_rows rows.now) 0 fronts.old.spots
-        (turns_of uses.now coming.old queue.old) →
-        AreUses (task g pats lib.now starts.now) (plain_rows rows.now) uses.now →
-        AreBacked (task g pats lib.now starts.now) (plain_rows rows.now) fronts.old.held →
-        AreBacked (task g pats lib.now starts.now) (plain_rows rows.now) fronts.new.held) }
+    ensures settled { WhereStill job.now 0 fronts.old.spots
+        (turns_in job.now coming.old queue.old) (λ s choices.
+        AreSettledOr s choices coming.old.horizon fronts.new.spots result) }
+    ensures backed { OnOk result (WhereStill job.now 0 fronts.old.spots
+        (turns_in job.now coming.old queue.old) (λ s choices.
+        AreBacked s choices fronts.old.held → AreBacked s choices fronts.new.held)) }
 {
     while let Some(time) = first_time(coming, queue) {
-        settle_at(rows, lib, starts, uses, seen, fronts, coming, queue, time)?;
+        settle_at(job, seen, fronts, coming, queue, time)?;
         if fronts.len() > MOST_POINTS {
             return Err(CurveFault::Limit);
         }

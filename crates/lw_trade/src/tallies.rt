@@ -1,6 +1,6 @@
 // What is known of each choice while points are found: its class, and no more than its area by what
 // the groups of its pins have seen.
-ghost use Rattle.std.specs.Prelude.{◌≡◌, ◌+◌, ◌<◌, ◌≤◌, ℕ, List, All, IfOk, length, slice_index};
+ghost use Rattle.std.specs.Prelude.{◌+◌, ◌<◌, ℕ, List, All, IfOk};
 ghost use Rattle.lw_trade.specs.Choices.{Choice};
 ghost use Rattle.lw_trade.specs.Looks.{AreLooks};
 ghost use Rattle.lw_trade.specs.Points.{Task};
@@ -9,6 +9,7 @@ ghost use Rattle.lw_trade.specs.Rows.{plain_part, plain_row, plain_rows};
 ghost use Rattle.lw_trade.specs.Tallies.{AreFirstTallies, AreTallies, HasFallen, IsFirstTally, IsLowered};
 ghost use Rattle.lw_trade.specs.Uses.{AreUses};
 
+use crate::area::MOST_AREA;
 use crate::choices::{Row, Stand};
 use crate::uses::Uses;
 use lw_genlib::Library;
@@ -19,16 +20,13 @@ use std::alloc::{AllocError, Global};
 /// have seen together.
 #[derive(Clone, Copy, Debug)]
 pub(crate) struct Tally {
-    pub bound: u64,
+    pub bound: u128,
     pub class: ClassId,
 }
 
-// The greatest area that is kept of what a group has seen.
-pub(crate) const MOST_SEEN: u64 = 18_014_398_509_481_984;
-
 // What stands for a group that has seen no point: more than a cell and 16 pins have together that
 // have seen some.
-pub(crate) const UNSEEN: u64 = 576_460_752_303_423_488;
+pub(crate) const UNSEEN: u128 = 147_573_952_589_676_412_928;
 
 // The tally of a choice whose groups have seen nothing.
 fn first_tally(lib: &Library, row: &Row) -> Tally
@@ -38,10 +36,11 @@ fn first_tally(lib: &Library, row: &Row) -> Tally
     let class = row.class;
     match &row.stand {
         Stand::Input(_) => Tally { bound: 0, class },
-        Stand::Gate(gate) => Tally {
-            bound: lib.cell(gate.cell).area().0.min(MOST_SEEN) + gate.pins.len() as u64 * UNSEEN,
-            class,
-        },
+        Stand::Gate(gate) => {
+            let area = lib.cell(gate.cell).area().0.min(MOST_AREA);
+            let bound = area as u128 + gate.pins.len() as u128 * UNSEEN;
+            Tally { bound, class }
+        }
     }
 }
 
@@ -63,7 +62,7 @@ pub(crate) fn first_tallies(
 }
 
 // Lets the bound of a choice fall.
-fn lower_tally(tallies: &mut [Tally], number: u32, fall: u64)
+fn lower_tally(tallies: &mut [Tally], number: u32, fall: u128)
     ensures { IsLowered tallies.old tallies.new number fall }
 {
     let number = number as usize;
@@ -75,7 +74,7 @@ fn lower_tally(tallies: &mut [Tally], number: u32, fall: u64)
 
 /// Lets the bounds of the choices with a pin in a group fall by what the area fell that it has
 /// seen.
-pub(crate) fn lower_tallies(uses: &Uses, tallies: &mut [Tally], group: u32, fall: u64)
+pub(crate) fn lower_tallies(uses: &Uses, tallies: &mut [Tally], group: u32, fall: u128)
     requires group { group < uses.now.members.count }
     requires looks { AreLooks uses.now }
     ensures { (s : Task) (xs : List Choice) (seen fallen : List ℕ) → AreUses s xs uses.now →

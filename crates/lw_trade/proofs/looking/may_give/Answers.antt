@@ -1,6 +1,7 @@
-use Rattle.std.proofs.Common.{◌<◌, length, sym, subst, arith}
+use Rattle.std.proofs.Common.{◌≡◌, ◌<◌, length, min, sym, subst, subst₂, arith}
 use Rattle.std.proofs.lemmas.List.{length-map}
 use Rattle.lw_trade.specs.declared.choices.Row.{Row}
+use Rattle.lw_trade.specs.Areas.{most_area}
 use Rattle.lw_trade.specs.Fronts.{IsLessOr}
 use Rattle.lw_trade.specs.Points.{task}
 use Rattle.lw_trade.specs.Settling.{HasAtMost}
@@ -50,6 +51,8 @@ returns-clause-no_more c f g pats starts us =
     let (r, same, at) = choice_in c.args.rows.now c.args.number lr in
     let is = c.requires.tallied.tallies.each c.args.number (plain_row r) tally at tt in
     let of = subst (λ (q : Row). IsOfLibrary c.args.lib.now (plain_part q.stand)) (sym same) (c.requires.of_library c.args.number r lr) in
-    let had = subst (IsLessOr c.args.fronts.now.spots tally.class.0 c.args.time tally.bound) f c.is_less.ensures in
-    let had' = subst (λ k. HasAtMost c.args.fronts.now.spots k c.args.time tally.bound) is.class_is had in
+    let area = c.min-area.result in
+    let least : area ≡ min most_area tally.bound = omega (arith, c.min-area.ensures) in
+    let had = subst (IsLessOr c.args.fronts.now.spots tally.class.0 c.args.time area) f c.is_less.ensures in
+    let had' = subst₂ (λ k a. HasAtMost c.args.fronts.now.spots k c.args.time a) is.class_is least had in
     tally_done (task g pats c.args.lib.now starts) (plain_rows c.args.rows.now) c.args.uses.now us c.args.seen.now.areas.items c.args.fronts.now.spots c.args.time c.args.number (plain_row r) tally at of is (λ few. had')

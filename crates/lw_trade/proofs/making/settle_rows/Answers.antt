@@ -1,11 +1,13 @@
-use Rattle.std.proofs.Common.{◌∙◌, List, ap, length, replicate, sym, subst}
+use Rattle.std.proofs.Common.{◌≡◌, ◌<◌, ◌∙◌, All, List, ap, length, replicate, sym, subst}
 use Rattle.std.proofs.lemmas.List.{length-replicate}
 use Rattle.lw_laws.specs.Covers.{Pattern}
 use Rattle.lw_laws.specs.Graphs.{Graph}
 use Rattle.lw_trade.specs.Backing.{AreBacked}
 use Rattle.lw_trade.specs.Choices.{AreListedChoices}
+use Rattle.lw_trade.specs.declared.choices.Row.{Row}
 use Rattle.lw_trade.specs.Points.{task}
-use Rattle.lw_trade.specs.Rows.{plain_rows}
+use Rattle.lw_trade.specs.Pricing.{IsWithin}
+use Rattle.lw_trade.specs.Rows.{plain_part, plain_rows}
 use Rattle.lw_trade.specs.Seen.{AreSeen}
 use Rattle.lw_trade.specs.Settling.{AreSettled, IsStillFor, IsStop}
 use Rattle.lw_trade.specs.Tallies.{unseen}
@@ -15,6 +17,16 @@ use Rattle.lw_trade.proofs.Curving.{err_is}
 use Rattle.lw_trade.proofs.Starts.{first_still}
 use Rattle.lw_trade.proofs.Falling.{tallies_first}
 use Rattle.lw_trade.proofs.making.settle_rows.Goals as goal
+
+pub settle_all-requires-clause-job : goal.settle_all-requires-clause-job
+settle_all-requires-clause-job c =
+    let same : c.args.classes ≡ length c.in_ok-fronts.fronts.least = sym c.in_ok-fronts.ensures.classes in
+    record {
+      within = subst (λ n. All (λ (r : Row). IsWithin n (plain_part r.stand)) c.args.rows.now) same c.requires.within;
+      of_library = c.requires.of_library;
+      class_low = subst (λ n. All (λ (r : Row). r.class.0 < n) c.args.rows.now) same c.requires.classes;
+      count = c.in_ok-uses.ensures.count ∙ same;
+    }
 
 pub settle_all-requires-clause-still : goal.settle_all-requires-clause-still
 settle_all-requires-clause-still c =

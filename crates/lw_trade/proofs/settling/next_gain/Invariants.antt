@@ -10,7 +10,7 @@ use Rattle.lw_trade.proofs.settling.next_gain.Given as goal
 abbrev pub invariant-loop-number : goal.invariant-loop-number
 invariant-loop-number l = record {
   fronts : l.fronts ≡ l.initial.fronts;
-  still : (g : Graph) (pats : List Pattern) → IsStillFor (task g pats l.lib l.starts) (plain_rows l.rows) l.time l.initial.fronts.spots (turns_of l.uses l.coming l.initial.queue) → AreUses (task g pats l.lib l.starts) (plain_rows l.rows) l.uses → IsStillFor (task g pats l.lib l.starts) (plain_rows l.rows) l.time l.initial.fronts.spots (turns_of l.uses l.coming l.queue);
+  still : (g : Graph) (pats : List Pattern) → IsStillFor (task g pats l.job.lib.now l.job.starts.now) (plain_rows l.job.rows.now) l.time l.initial.fronts.spots (turns_of l.job.uses.now l.coming l.initial.queue) → AreUses (task g pats l.job.lib.now l.job.starts.now) (plain_rows l.job.rows.now) l.job.uses.now → IsStillFor (task g pats l.job.lib.now l.job.starts.now) (plain_rows l.job.rows.now) l.time l.initial.fronts.spots (turns_of l.job.uses.now l.coming l.queue);
 }
 
 abbrev pub decreases-loop-number : goal.decreases-loop-number

@@ -1,4 +1,5 @@
-use Rattle.std.proofs.Common.{◌∙◌, ◌≤◌, length, arith}
+use Rattle.std.proofs.Common.{◌∙◌, ◌≤◌, length, subst, sym, arith}
+use Rattle.lw_trade.specs.Jobs.{IsJob}
 use Rattle.lw_trade.specs.Points.{task}
 use Rattle.lw_trade.specs.Rows.{plain_rows}
 use Rattle.lw_trade.specs.Settling.{Comes}
@@ -8,28 +9,31 @@ use Rattle.lw_trade.proofs.Queueing.{first_within, most_falls, none_waits}
 use Rattle.lw_trade.proofs.Stepping.{still_later, settled_to}
 use Rattle.lw_trade.proofs.settling.settle_all.Goals as goal
 
+pub settle_at-requires-clause-job : goal.settle_at-requires-clause-job
+settle_at-requires-clause-job c = subst (λ n. IsJob n c.args.job.now) (sym c.loop-time.invariant.count) c.requires.job
+
 pub settle_at-requires-clause-time : goal.settle_at-requires-clause-time
 settle_at-requires-clause-time c =
     let (g, pats, st, us) = c.requires.still in
     let (now, le, (are, time, still)) = c.loop-time.invariant.still g pats st us in
-    (first_within now (length (plain_rows c.args.rows.now)) c.in-Some.time (turns_of c.args.uses.now c.loop-time.coming c.loop-time.queue) time c.in-Some.ensures).1
+    (first_within now (length (plain_rows c.args.job.now.rows.now)) c.in-Some.time (turns_of c.args.job.now.uses.now c.loop-time.coming c.loop-time.queue) time c.in-Some.ensures).1
 
 pub settle_at-requires-clause-still : goal.settle_at-requires-clause-still
 settle_at-requires-clause-still c =
     let (g, pats, st, us) = c.requires.still in
-    let w = turns_of c.args.uses.now c.loop-time.coming c.loop-time.queue in
-    let n = length (plain_rows c.args.rows.now) in
+    let w = turns_of c.args.job.now.uses.now c.loop-time.coming c.loop-time.queue in
+    let n = length (plain_rows c.args.job.now.rows.now) in
     let (now, le, (are, time, still)) = c.loop-time.invariant.still g pats st us in
     let first = c.in-Some.ensures in
     let within = first_within now n c.in-Some.time w time first in
-    (g, pats, (are, later_in_time now n w time c.in-Some.time first.2 first.1, still_later (task g pats c.args.lib.now c.args.starts.now) (plain_rows c.args.rows.now) now c.loop-time.coming.horizon c.loop-time.fronts.spots (Comes w) still c.in-Some.time within.0), us)
+    (g, pats, (are, later_in_time now n w time c.in-Some.time first.2 first.1, still_later (task g pats c.args.job.now.lib.now c.args.job.now.starts.now) (plain_rows c.args.job.now.rows.now) now c.loop-time.coming.horizon c.loop-time.fronts.spots (Comes w) still c.in-Some.time within.0), us)
 
 pub returns-then-len-gt-MOST_POINTS-clause-settled : goal.returns-then-len-gt-MOST_POINTS-clause-settled
 returns-then-len-gt-MOST_POINTS-clause-settled c g pats st us =
-    let s = task g pats c.args.lib.now c.args.starts.now in
-    let xs = plain_rows c.args.rows.now in
-    let w = turns_of c.args.uses.now c.loop-time.coming c.loop-time.queue in
-    let v = turns_of c.args.uses.now c.settle_at.new.coming c.settle_at.new.queue in
+    let s = task g pats c.args.job.now.lib.now c.args.job.now.starts.now in
+    let xs = plain_rows c.args.job.now.rows.now in
+    let w = turns_of c.args.job.now.uses.now c.loop-time.coming c.loop-time.queue in
+    let v = turns_of c.args.job.now.uses.now c.settle_at.new.coming c.settle_at.new.queue in
     let (now, le, (are, time, still)) = c.loop-time.invariant.still g pats st us in
     let first = c.in-Some.ensures in
     let within = first_within now (length xs) c.in-Some.time w time first in
@@ -47,9 +51,9 @@ returns-then-len-gt-MOST_POINTS-clause-settled c g pats st us =
 pub loop-time-smaller : goal.loop-time-smaller
 loop-time-smaller c =
     let (g, pats, st, us) = c.requires.still in
-    let s = task g pats c.args.lib.now c.args.starts.now in
-    let xs = plain_rows c.args.rows.now in
-    let w = turns_of c.args.uses.now c.loop-time.coming c.loop-time.queue in
+    let s = task g pats c.args.job.now.lib.now c.args.job.now.starts.now in
+    let xs = plain_rows c.args.job.now.rows.now in
+    let w = turns_of c.args.job.now.uses.now c.loop-time.coming c.loop-time.queue in
     let (now, le, (are, time, still)) = c.loop-time.invariant.still g pats st us in
     let first = c.in-Some.ensures in
     let within = first_within now (length xs) c.in-Some.time w time first in
@@ -65,9 +69,9 @@ loop-time-preserved c = record {
   tallied = c.in_ok-settle_at.ensures.tallied;
   seen = c.in_ok-settle_at.ensures.seen;
   still = λ g pats st us.
-      let s = task g pats c.args.lib.now c.args.starts.now in
-      let xs = plain_rows c.args.rows.now in
-      let w = turns_of c.args.uses.now c.loop-time.coming c.loop-time.queue in
+      let s = task g pats c.args.job.now.lib.now c.args.job.now.starts.now in
+      let xs = plain_rows c.args.job.now.rows.now in
+      let w = turns_of c.args.job.now.uses.now c.loop-time.coming c.loop-time.queue in
       let (now, le, (are, time, still)) = c.loop-time.invariant.still g pats st us in
       let first = c.in-Some.ensures in
       let within = first_within now (length xs) c.in-Some.time w time first in
@@ -75,9 +79,9 @@ loop-time-preserved c = record {
       let (still', over) = c.in_ok-settle_at.ensures.still g pats (are, later_in_time now (length xs) w time c.in-Some.time first.2 first.1, later) us in
       (c.in-Some.time, omega (arith, within.1, c.loop-time.invariant.horizon), still');
   backed = λ g pats st us backed.
-      let s = task g pats c.args.lib.now c.args.starts.now in
-      let xs = plain_rows c.args.rows.now in
-      let w = turns_of c.args.uses.now c.loop-time.coming c.loop-time.queue in
+      let s = task g pats c.args.job.now.lib.now c.args.job.now.starts.now in
+      let xs = plain_rows c.args.job.now.rows.now in
+      let w = turns_of c.args.job.now.uses.now c.loop-time.coming c.loop-time.queue in
       let (now, le, (are, time, still)) = c.loop-time.invariant.still g pats st us in
       let first = c.in-Some.ensures in
       let within = first_within now (length xs) c.in-Some.time w time first in
@@ -87,9 +91,9 @@ loop-time-preserved c = record {
 
 pub returns-clause-settled : goal.returns-clause-settled
 returns-clause-settled c g pats st us =
-    let s = task g pats c.args.lib.now c.args.starts.now in
-    let xs = plain_rows c.args.rows.now in
-    let w = turns_of c.args.uses.now c.loop-time.coming c.loop-time.queue in
+    let s = task g pats c.args.job.now.lib.now c.args.job.now.starts.now in
+    let xs = plain_rows c.args.job.now.rows.now in
+    let w = turns_of c.args.job.now.uses.now c.loop-time.coming c.loop-time.queue in
     let (now, le, (are, time, still)) = c.loop-time.invariant.still g pats st us in
     let (none, none') = c.in_default.ensures in
     let within : c.args.coming.now.horizon ≤ c.loop-time.coming.horizon = omega (arith, c.loop-time.invariant.horizon) in

@@ -16,10 +16,10 @@ invariant-loop-time l = record {
   few_points : length l.fronts.spots ≤ most_points;
   count : length l.fronts.least ≡ length l.initial.fronts.least;
   horizon : l.coming.horizon ≡ l.initial.coming.horizon;
-  tallied : AreTallied l.lib (plain_rows l.rows) l.uses l.seen;
-  seen : AreSeen l.uses l.seen.areas.items l.fronts.spots l.coming;
-  still : (g : Graph) (pats : List Pattern) → IsStillFor (task g pats l.lib l.starts) (plain_rows l.rows) 0 l.initial.fronts.spots (turns_of l.uses l.initial.coming l.initial.queue) → AreUses (task g pats l.lib l.starts) (plain_rows l.rows) l.uses → (now : ℕ) × (now ≤ l.initial.coming.horizon) × IsStillFor (task g pats l.lib l.starts) (plain_rows l.rows) now l.fronts.spots (turns_of l.uses l.coming l.queue);
-  backed : (g : Graph) (pats : List Pattern) → IsStillFor (task g pats l.lib l.starts) (plain_rows l.rows) 0 l.initial.fronts.spots (turns_of l.uses l.initial.coming l.initial.queue) → AreUses (task g pats l.lib l.starts) (plain_rows l.rows) l.uses → AreBacked (task g pats l.lib l.starts) (plain_rows l.rows) l.initial.fronts.held → AreBacked (task g pats l.lib l.starts) (plain_rows l.rows) l.fronts.held;
+  tallied : AreTallied l.job.lib.now (plain_rows l.job.rows.now) l.job.uses.now l.seen;
+  seen : AreSeen l.job.uses.now l.seen.areas.items l.fronts.spots l.coming;
+  still : (g : Graph) (pats : List Pattern) → IsStillFor (task g pats l.job.lib.now l.job.starts.now) (plain_rows l.job.rows.now) 0 l.initial.fronts.spots (turns_of l.job.uses.now l.initial.coming l.initial.queue) → AreUses (task g pats l.job.lib.now l.job.starts.now) (plain_rows l.job.rows.now) l.job.uses.now → (now : ℕ) × (now ≤ l.initial.coming.horizon) × IsStillFor (task g pats l.job.lib.now l.job.starts.now) (plain_rows l.job.rows.now) now l.fronts.spots (turns_of l.job.uses.now l.coming l.queue);
+  backed : (g : Graph) (pats : List Pattern) → IsStillFor (task g pats l.job.lib.now l.job.starts.now) (plain_rows l.job.rows.now) 0 l.initial.fronts.spots (turns_of l.job.uses.now l.initial.coming l.initial.queue) → AreUses (task g pats l.job.lib.now l.job.starts.now) (plain_rows l.job.rows.now) l.job.uses.now → AreBacked (task g pats l.job.lib.now l.job.starts.now) (plain_rows l.job.rows.now) l.initial.fronts.held → AreBacked (task g pats l.job.lib.now l.job.starts.now) (plain_rows l.job.rows.now) l.fronts.held;
 }
 
 abbrev pub decreases-loop-time : goal.decreases-loop-time

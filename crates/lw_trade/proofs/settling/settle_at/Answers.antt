@@ -1,4 +1,5 @@
-use Rattle.std.proofs.Common.{◌∙◌, subst, sym}
+use Rattle.std.proofs.Common.{◌∙◌, subst, sym, arith}
+use Rattle.lw_trade.specs.Jobs.{HaveFallen, IsJob}
 use Rattle.lw_trade.specs.Points.{task}
 use Rattle.lw_trade.specs.Rows.{plain_rows}
 use Rattle.lw_trade.specs.Seen.{AreSeenAfter}
@@ -9,6 +10,14 @@ use Rattle.lw_trade.proofs.SeenPoints.{seen_pushed}
 use Rattle.lw_trade.proofs.Stepping.{uses_added}
 use Rattle.lw_trade.proofs.settling.settle_at.Goals as goal
 
+pub gain_at-requires-clause-job : goal.gain_at-requires-clause-job
+gain_at-requires-clause-job c = subst (λ n. IsJob n c.args.job.now) (sym c.loop-class.invariant.count) c.requires.job
+
+pub push_groups-requires-clause-class : goal.push_groups-requires-clause-class
+push_groups-requires-clause-class c =
+    let falls = subst (HaveFallen c.loop-class.fronts.least c.gain_at.new.fronts.least) c.in-Some.is c.in_ok-class.ensures.falls in
+    omega (arith, falls.0, c.requires.job.count, c.loop-class.invariant.count)
+
 pub push_groups-requires-clause-are : goal.push_groups-requires-clause-are
 push_groups-requires-clause-are c = let (g, pats, st, us) = c.requires.still in us.pins.are
 
@@ -17,9 +26,9 @@ loop-class-preserved c = record {
   count = c.in_ok-class.ensures.count ∙ c.loop-class.invariant.count;
   horizon = c.in_ok-push_groups.ensures.horizon ∙ (c.in_ok-class.ensures.horizon ∙ c.loop-class.invariant.horizon);
   still = λ g pats st us.
-      let s = task g pats c.args.lib.now c.args.starts.now in
-      let xs = plain_rows c.args.rows.now in
-      let u = c.args.uses.now in
+      let s = task g pats c.args.job.now.lib.now c.args.job.now.starts.now in
+      let xs = plain_rows c.args.job.now.rows.now in
+      let u = c.args.job.now.uses.now in
       let next = c.gain_at.new in
       let now = c.loop-class.invariant.still g pats st us in
       let (are, time, gaining) = subst (λ o. IsAfter s xs c.args.time next.fronts.spots (turns_of u next.coming next.queue) o) c.in-Some.is (c.in_ok-class.ensures.gain g pats now us) in
@@ -32,8 +41,8 @@ loop-class-preserved c = record {
   tallied = c.in_ok-class.ensures.tallied;
   seen =
       let next = c.gain_at.new in
-      let (old, area, are, gained) = subst (AreSeenAfter c.args.uses.now next.seen.areas.items next.fronts.spots next.coming c.args.time) c.in-Some.is c.in_ok-class.ensures.seen in
-      seen_pushed c.args.uses.now next.seen.areas.items old next.fronts.spots c.in-Some.class.0 c.args.time area next.coming c.push_groups.new.coming are gained c.in_ok-push_groups.ensures.added;
+      let (old, area, are, gained) = subst (AreSeenAfter c.args.job.now.uses.now next.seen.areas.items next.fronts.spots next.coming c.args.time) c.in-Some.is c.in_ok-class.ensures.seen in
+      seen_pushed c.args.job.now.uses.now next.seen.areas.items old next.fronts.spots c.in-Some.class.0 c.args.time area next.coming c.push_groups.new.coming are gained c.in_ok-push_groups.ensures.added;
   backed = λ g pats st us backed. c.in_ok-class.ensures.backed g pats (c.loop-class.invariant.still g pats st us) us (c.loop-class.invariant.backed g pats st us backed);
 }
 
@@ -42,7 +51,7 @@ returns-in_err-push_groups-clause-horizon c = c.in_err-push_groups.ensures.horiz
 
 pub returns-clause-still : goal.returns-clause-still
 returns-clause-still c g pats st us =
-    subst (λ o. IsAfter (task g pats c.args.lib.now c.args.starts.now) (plain_rows c.args.rows.now) c.args.time c.gain_at.new.fronts.spots (turns_of c.args.uses.now c.gain_at.new.coming c.gain_at.new.queue) o) c.in_default.is (c.in_ok-class.ensures.gain g pats (c.loop-class.invariant.still g pats st us) us)
+    subst (λ o. IsAfter (task g pats c.args.job.now.lib.now c.args.job.now.starts.now) (plain_rows c.args.job.now.rows.now) c.args.time c.gain_at.new.fronts.spots (turns_of c.args.job.now.uses.now c.gain_at.new.coming c.gain_at.new.queue) o) c.in_default.is (c.in_ok-class.ensures.gain g pats (c.loop-class.invariant.still g pats st us) us)
 
 pub returns-clause-backed : goal.returns-clause-backed
 returns-clause-backed c g pats st us backed = c.in_ok-class.ensures.backed g pats (c.loop-class.invariant.still g pats st us) us (c.loop-class.invariant.backed g pats st us backed)
@@ -50,4 +59,4 @@ returns-clause-backed c g pats st us backed = c.in_ok-class.ensures.backed g pat
 pub returns-clause-seen : goal.returns-clause-seen
 returns-clause-seen c =
     let next = c.gain_at.new in
-    subst (AreSeenAfter c.args.uses.now next.seen.areas.items next.fronts.spots next.coming c.args.time) c.in_default.is c.in_ok-class.ensures.seen
+    subst (AreSeenAfter c.args.job.now.uses.now next.seen.areas.items next.fronts.spots next.coming c.args.time) c.in_default.is c.in_ok-class.ensures.seen

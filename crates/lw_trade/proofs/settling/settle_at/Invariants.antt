@@ -15,10 +15,10 @@ abbrev pub invariant-loop-class : goal.invariant-loop-class
 invariant-loop-class l = record {
   count : length l.fronts.least ≡ length l.initial.fronts.least;
   horizon : l.coming.horizon ≡ l.initial.coming.horizon;
-  tallied : AreTallied l.lib (plain_rows l.rows) l.uses l.seen;
-  seen : AreSeen l.uses l.seen.areas.items l.fronts.spots l.coming;
-  still : (g : Graph) (pats : List Pattern) → IsStillFor (task g pats l.lib l.starts) (plain_rows l.rows) l.time l.initial.fronts.spots (turns_of l.uses l.initial.coming l.initial.queue) → AreUses (task g pats l.lib l.starts) (plain_rows l.rows) l.uses → IsStillFor (task g pats l.lib l.starts) (plain_rows l.rows) l.time l.fronts.spots (turns_of l.uses l.coming l.queue);
-  backed : (g : Graph) (pats : List Pattern) → IsStillFor (task g pats l.lib l.starts) (plain_rows l.rows) l.time l.initial.fronts.spots (turns_of l.uses l.initial.coming l.initial.queue) → AreUses (task g pats l.lib l.starts) (plain_rows l.rows) l.uses → AreBacked (task g pats l.lib l.starts) (plain_rows l.rows) l.initial.fronts.held → AreBacked (task g pats l.lib l.starts) (plain_rows l.rows) l.fronts.held;
+  tallied : AreTallied l.job.lib.now (plain_rows l.job.rows.now) l.job.uses.now l.seen;
+  seen : AreSeen l.job.uses.now l.seen.areas.items l.fronts.spots l.coming;
+  still : (g : Graph) (pats : List Pattern) → IsStillFor (task g pats l.job.lib.now l.job.starts.now) (plain_rows l.job.rows.now) l.time l.initial.fronts.spots (turns_of l.job.uses.now l.initial.coming l.initial.queue) → AreUses (task g pats l.job.lib.now l.job.starts.now) (plain_rows l.job.rows.now) l.job.uses.now → IsStillFor (task g pats l.job.lib.now l.job.starts.now) (plain_rows l.job.rows.now) l.time l.fronts.spots (turns_of l.job.uses.now l.coming l.queue);
+  backed : (g : Graph) (pats : List Pattern) → IsStillFor (task g pats l.job.lib.now l.job.starts.now) (plain_rows l.job.rows.now) l.time l.initial.fronts.spots (turns_of l.job.uses.now l.initial.coming l.initial.queue) → AreUses (task g pats l.job.lib.now l.job.starts.now) (plain_rows l.job.rows.now) l.job.uses.now → AreBacked (task g pats l.job.lib.now l.job.starts.now) (plain_rows l.job.rows.now) l.initial.fronts.held → AreBacked (task g pats l.job.lib.now l.job.starts.now) (plain_rows l.job.rows.now) l.fronts.held;
 }
 
 abbrev pub decreases-loop-class : goal.decreases-loop-class
