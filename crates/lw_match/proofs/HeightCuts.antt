@@ -7,7 +7,6 @@ use Rattle.lw_laws.specs.Marks.{Mark as PlainMark, HaveMarks, greatest_height}
 use Rattle.lw_pattern.specs.Nodes.{tree_at, nodes_of}
 use Rattle.lw_match.specs.declared.heights.HeightBounds.{HeightBounds}
 use Rattle.lw_match.specs.declared.mark.Mark.{Mark}
-use Rattle.lw_match.specs.declared.parts.Side.{Side}
 use Rattle.lw_match.specs.Values.{plain_mark, marks_in}
 use Rattle.lw_match.specs.Shapes.{gaps_of}
 use Rattle.lw_match.specs.Bounds.{AreMarkedWithin}

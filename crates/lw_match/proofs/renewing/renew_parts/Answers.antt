@@ -1,4 +1,4 @@
-use Rattle.std.proofs.Common.{ℕ, ◌+◌, ◌<◌, ◌≤◌, ◌≡◌, ◌⊎◌, length, max, Some, slice_get, slice_index, refl, sym, subst, ◌∙◌, arith, true≢false, eqb-true}
+use Rattle.std.proofs.Common.{ℕ, ◌+◌, ◌<◌, ◌≤◌, ◌≡◌, ◌⊎◌, length, Some, slice_get, slice_index, refl, sym, subst, ◌∙◌, arith, true≢false, eqb-true}
 use Rattle.std.specs.List.{slice_range}
 use Rattle.lw_graph.specs.declared.pair.Pair.{Pair}
 use Rattle.lw_match.specs.declared.parts.Part.{Part}

@@ -1,4 +1,4 @@
-use Rattle.std.proofs.Common.{ℕ, ◌+◌, ◌*◌, ◌<◌, ◌≤◌, ◌≡◌, ◌++◌, ◌∷◌, [], List, length, inl, inr, refl, sym, subst₂, ◌∙◌, eqb-true, arith}
+use Rattle.std.proofs.Common.{ℕ, ◌+◌, ◌<◌, ◌≡◌, ◌++◌, ◌∷◌, [], List, length, inl, inr, refl, sym, subst₂, ◌∙◌, eqb-true, arith}
 use Rattle.std.proofs.Math.Nat.{mul-le-mul_left}
 use Rattle.lw_match.specs.Numbers.{no_row}
 use Rattle.lw_match.proofs.Rowing.{AreStartsBelow, bare_row, starts_more}
