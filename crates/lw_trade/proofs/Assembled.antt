@@ -1,5 +1,5 @@
 -- The netlist of the gates that a walk has found, by depth.
-use Rattle.std.proofs.Common.{◌≡◌, ℕ, zero, suc, ◌+◌, ◌-◌, ◌<◌, ◌≤◌, ◌⊎◌, inl, inr, All, Contains, length, map, List, [], ◌∷◌, Some, slice_get, slice_index_or, refl, ap, sym, ◌∙◌, subst, arith}
+use Rattle.std.proofs.Common.{◌≡◌, ℕ, zero, suc, ◌+◌, ◌-◌, ◌<◌, ◌≤◌, ◌⊎◌, Bool, inl, inr, All, Contains, length, map, List, [], ◌∷◌, Some, slice_get, slice_index_or, refl, ap, sym, ◌∙◌, subst, arith}
 use Rattle.std.specs.List.{AllByRecursion, range_with_len}
 use Rattle.std.specs.List.Sorted.{IsPermutation}
 use Rattle.std.proofs.lemmas.List.{get_or_past, length-map}
@@ -27,14 +27,14 @@ use Rattle.lw_trade.specs.Points.{Task, timing}
 use Rattle.lw_trade.specs.Targets.{AreCurvesFor, AreTargets}
 use Rattle.lw_trade.specs.Traded.{HasLeastAreaBy, IsNeeded, output_nets, port_net}
 use Rattle.lw_trade.specs.Traded.IsNeeded.{by_output, by_pin}
-use Rattle.lw_trade.specs.Trades.{IsBuilt, IsGateOfPoint, IsNetOfPoint}
-use Rattle.lw_trade.specs.Walks.{IsUsed, IsWalk}
+use Rattle.lw_trade.specs.Trades.{Site, IsBuilt, IsGateOfPoint, IsNetOfPoint}
+use Rattle.lw_trade.specs.Walks.{IsRootNet, IsUsed, IsWalk}
 use Rattle.lw_trade.specs.Walks.IsUsed.{by_root, by_pin as used_pin}
 use Rattle.lw_trade.proofs.Cells.{cell_in}
 use Rattle.lw_trade.proofs.Grouped.{get_map, map_get}
 use Rattle.lw_trade.proofs.Lists.{at_contained, contained_at, get_in, get_some, got}
-use Rattle.lw_trade.proofs.Lowest.{least_net}
-use Rattle.lw_trade.proofs.Moved.{placed_low, root_at, pin_count, moved_nodes, node_in, net_placed, pins_placed}
+use Rattle.lw_trade.proofs.Lowest.{root_net}
+use Rattle.lw_trade.proofs.Moved.{placed_low, root_at, pin_count, no_site, moved_sites, site_in, root_placed, pins_placed}
 use Rattle.lw_trade.proofs.Places.{order_length, order_low, stands_there}
 use Rattle.lw_trade.proofs.Standing.{pins_before_gate, placed_input, placed_node}
 use Rattle.lw_trade.proofs.Walked.{roots_low, walk_graph, walk_high}
@@ -57,18 +57,18 @@ tallest_same m places depths heights (x ∷ xs) h =
     let rest = tallest_same m places depths heights xs (λ k d lt. h (suc k) d (omega (arith, lt))) in
     omega (arith, first, rest)
 
-module _ (s : Task) (t : Targets) (curves : CurveLists) (c : AreCurvesFor s t curves) (nodes : List Held) (cells : List CellId) (graph : List (List ℕ)) (nets : List ℕ) (walk : IsWalk s curves.choices c.ways.held nodes t.roots t.times cells graph nets) (order places : List ℕ) (by : IsByHeight (length s.graph.leaves) graph order) (placed : ArePlaces order places) where
+module _ (s : Task) (t : Targets) (curves : CurveLists) (c : AreCurvesFor s t curves) (sites : List Site) (cells : List CellId) (graph : List (List ℕ)) (nets : List ℕ) (walk : IsWalk s curves.choices c.ways.held sites t.roots t.times cells graph nets) (order places : List ℕ) (by : IsByHeight (length s.graph.leaves) graph order) (placed : ArePlaces order places) where
   abbrev m : ℕ
   m = length s.graph.leaves
 
   abbrev held : List Held
   held = c.ways.held
 
-  pub moved : IsPermutation (range_with_len 0 (length nodes)) order
+  pub moved : IsPermutation (range_with_len 0 (length sites)) order
   moved = subst (λ k. IsPermutation (range_with_len 0 k) order) walk.one_row by.moved
 
-  abbrev in_order : List Held
-  in_order = moved_nodes s nodes order places moved placed
+  abbrev in_order : List Site
+  in_order = moved_sites s sites order places moved placed
 
   -- the gate of a node
   abbrev made_gate : ℕ → Gate
@@ -80,12 +80,12 @@ module _ (s : Task) (t : Targets) (curves : CurveLists) (c : AreCurvesFor s t cu
   same_gate : (i : ℕ) → plain_gate (gate_at i) ≡ made_gate i
   same_gate i = ap (λ (ps : List ℕ). record { cell = (slice_index_or cells i (record { 0 = 0 })).0; pins = ps }) (numbers_are m places (fanins_at graph i))
 
-  pub long : length order ≡ length nodes
-  long = order_length (length nodes) order moved
+  pub long : length order ≡ length sites
+  long = order_length (length sites) order moved
 
-  node_low : (j i : ℕ) → slice_get order j ≡ Some i → i < length nodes
+  node_low : (j i : ℕ) → slice_get order j ≡ Some i → i < length sites
   node_low j i it =
-      let low = order_low (length nodes) order moved j 0 (get_in order j i it) in
+      let low = order_low (length sites) order moved j 0 (get_in order j i it) in
       let same = get_or_from_slice_get order j i 0 it in
       omega (arith, low, same)
 
@@ -93,32 +93,32 @@ module _ (s : Task) (t : Targets) (curves : CurveLists) (c : AreCurvesFor s t cu
   place_is j i it = ap (λ x. slice_index_or places x 0) (sym (get_or_from_slice_get order j i 0 it)) ∙ placed.at j (get_in order j i it)
 
   -- where a node stands
-  there : (i : ℕ) → i < length nodes → slice_get order (slice_index_or places i 0) ≡ Some i
+  there : (i : ℕ) → i < length sites → slice_get order (slice_index_or places i 0) ≡ Some i
   there i lt =
-      let (in', e) = stands_there order places (length nodes) moved placed i lt in
+      let (in', e) = stands_there order places (length sites) moved placed i lt in
       got order (slice_index_or places i 0) 0 (omega (arith, in', long)) ∙ ap Some e
 
-  made_of_point : (i : ℕ) (h : Held) → slice_get nodes i ≡ Some h → IsGateOfPoint s curves.choices held in_order h (made_gate i)
+  made_of_point : (i : ℕ) (h : Site) → slice_get sites i ≡ Some h → IsGateOfPoint s curves.choices held in_order h (made_gate i)
   made_of_point i h at =
-      let lt = get_in nodes i h at in
+      let lt = get_in sites i h at in
       let (cell, bt) = get_some cells i (omega (arith, lt, walk.one_cell)) in
-      let is : IsGateOfPoint s curves.choices held nodes h (record { cell = (slice_index_or cells i (record { 0 = 0 })).0; pins = fanins_at graph i }) = subst (λ (x : CellId). IsGateOfPoint s curves.choices held nodes h (record { cell = x.0; pins = fanins_at graph i })) (sym (get_or_from_slice_get cells i cell (record { 0 = 0 }) bt)) (walk.gates i h cell at bt) in
+      let is : IsGateOfPoint s curves.choices held sites h (record { cell = (slice_index_or cells i (record { 0 = 0 })).0; pins = fanins_at graph i }) = subst (λ (x : CellId). IsGateOfPoint s curves.choices held sites h (record { cell = x.0; pins = fanins_at graph i })) (sym (get_or_from_slice_get cells i cell (record { 0 = 0 }) bt)) (walk.gates i h cell at bt) in
       record {
         class = is.class;
         pins = is.pins;
         chosen = is.chosen;
-        nets = pins_placed s nodes order places moved placed held h.spot.time (delays_of (timing s).delays (slice_index_or cells i (record { 0 = 0 })).0) is.pins (fanins_at graph i) is.nets;
+        nets = pins_placed s sites order places moved placed held h.exact h.point.spot.time (delays_of (timing s).delays (slice_index_or cells i (record { 0 = 0 })).0) is.pins (fanins_at graph i) is.nets;
       }
 
   pins_before : (j i : ℕ) → slice_get order j ≡ Some i → (k d : ℕ) → k < length (fanins_at graph i) → placed_net m places (slice_index_or (fanins_at graph i) k d) < m + j
   pins_before j i it k d lt =
       let low = node_low j i it in
-      let before = pins_before_gate m graph order places (walk_graph s t curves c nodes t.roots t.times cells graph nets walk) (walk_high s t curves c nodes t.roots t.times cells graph nets walk) by placed i (omega (arith, low, walk.one_row)) k d lt in
+      let before = pins_before_gate m graph order places (walk_graph s t curves c sites t.roots t.times cells graph nets walk) (walk_high s t curves c sites t.roots t.times cells graph nets walk) by placed i (omega (arith, low, walk.one_row)) k d lt in
       let here = place_is j i it in
       omega (arith, before, here)
 
   module _ (n : NetlistParts) (inputs_are : n.inputs ≡ m) (gates_are : n.gates ≡ map gate_at order) (outputs_are : map port_net n.outputs ≡ map (placed_net m places) nets) where
-    pub gate_count : length n.gates ≡ length nodes
+    pub gate_count : length n.gates ≡ length sites
     gate_count = ap length gates_are ∙ (length-map order gate_at ∙ long)
 
     gate_in : (j : ℕ) (g : NetGate) → slice_get n.gates j ≡ Some g → (i : ℕ) × (slice_get order j ≡ Some i) × (gate_at i ≡ g)
@@ -133,7 +133,7 @@ module _ (s : Task) (t : Targets) (curves : CurveLists) (c : AreCurvesFor s t cu
     gate_there : (j i : ℕ) → slice_get order j ≡ Some i → IsGate (plain n) j (made_gate i)
     gate_there j i it = ap (λ gs. slice_get (map plain_gate gs) j) gates_are ∙ (get_map plain_gate (map gate_at order) j (gate_at i) (get_map gate_at order j i it) ∙ ap Some (same_gate i))
 
-    gate_of_point : (j : ℕ) (h : Held) (g : Gate) → (i : ℕ) × (slice_get order j ≡ Some i) × (slice_get nodes i ≡ Some h) → (i : ℕ) × (slice_get order j ≡ Some i) × (made_gate i ≡ g) → IsGateOfPoint s curves.choices held in_order h g
+    gate_of_point : (j : ℕ) (h : Site) (g : Gate) → (i : ℕ) × (slice_get order j ≡ Some i) × (slice_get sites i ≡ Some h) → (i : ℕ) × (slice_get order j ≡ Some i) × (made_gate i ≡ g) → IsGateOfPoint s curves.choices held in_order h g
     gate_of_point j h g (i, it, at) (k, kt, e) =
         let same : i ≡ k = same_Some i k (sym it ∙ kt) in
         subst (IsGateOfPoint s curves.choices held in_order h) (ap made_gate same ∙ e) (made_of_point i h at)
@@ -147,9 +147,9 @@ module _ (s : Task) (t : Targets) (curves : CurveLists) (c : AreCurvesFor s t cu
     pub built : IsBuilt s curves.choices held in_order (plain n)
     built = record {
       inputs = inputs_are;
-      one_each = length-map n.gates plain_gate ∙ (gate_count ∙ (sym long ∙ sym (length-map order (λ j. slice_index_or nodes j (record { spot = record { class = 0; time = 0; area = 0 }; choice = 0; order = 0 })))));
-      nodes_are = λ h (j, at). let (i, it, bt) = node_in s nodes order places moved placed j h at in walk.are h (i, bt);
-      gates = λ j h g at gt. gate_of_point j h g (node_in s nodes order places moved placed j h at) (plain_in j g gt);
+      one_each = length-map n.gates plain_gate ∙ (gate_count ∙ (sym long ∙ sym (length-map order (λ j. slice_index_or sites j (no_site s sites order places moved placed)))));
+      sites_are = λ j h at. let (i, it, bt) = site_in s sites order places moved placed j h at in walk.are i h bt;
+      gates = λ j h g at gt. gate_of_point j h g (site_in s sites order places moved placed j h at) (plain_in j g gt);
       ordered = are_ordered;
     }
 
@@ -160,23 +160,23 @@ module _ (s : Task) (t : Targets) (curves : CurveLists) (c : AreCurvesFor s t cu
 
     pub least : AreTargets s.graph t → (k : ℕ) (root : ClassId) (time : Micro) (port : Port) → slice_get t.roots k ≡ Some root → slice_get t.times k ≡ Some time → slice_get n.outputs k ≡ Some port → HasLeastAreaBy s (plain n) root.0 time.0 port.net.0
     least fit k root time port at bt ct =
-        let (own, net, l, dt, et, last, net_of) = root_at s held nodes t.roots t.times nets walk.root_nets k root at in
+        let (own, net, dt, et, is) = root_at s held sites t.roots t.times nets walk.root_nets k root at in
         let same : own ≡ time = same_Some own time (sym dt ∙ bt) in
         let e = net_is k net port et ct in
         let low : root.0 < length s.graph.pairs = subst (λ (x : ClassId). x.0 < length s.graph.pairs) (get_or_from_slice_get t.roots k root root at) (fit.in_range k root (get_in t.roots k root at)) in
         let within : time.0 ≤ c.horizon = subst (λ (x : Micro). x.0 ≤ c.horizon) (get_or_from_slice_get t.times k time time bt) (c.in_time k time (get_in t.times k time bt)) in
-        let is = subst (λ (x : Micro). Rattle.lw_trade.specs.Trades.IsLastBy held root.0 0 x.0 l) same last in
-        subst (HasLeastAreaBy s (plain n) root.0 time.0) (sym e) (least_net s c.horizon curves c.ways c.are in_order (plain n) built root.0 time.0 (placed_net m places net) l low within is (net_placed s nodes order places moved placed l net net_of))
+        let there = subst (λ (x : Micro). IsRootNet s held sites root.0 x.0 net) same is in
+        subst (HasLeastAreaBy s (plain n) root.0 time.0) (sym e) (root_net s c.horizon curves c.ways c.are in_order (plain n) built root.0 time.0 (placed_net m places net) low within (root_placed s sites order places moved placed held root.0 time.0 net there))
 
     pub tied : (k i : ℕ) (root : ClassId) (port : Port) → slice_get t.roots k ≡ Some root → slice_get n.outputs k ≡ Some port → slice_get s.graph.leaves i ≡ Some root.0 → slice_get s.graph.leaves port.net.0 ≡ Some root.0
     tied k i root port at bt leaf =
-        let (own, net, l, dt, et, last, net_of) = root_at s held nodes t.roots t.times nets walk.root_nets k root at in
-        by_net net l (net_is k net port et bt) last.class_is net_of
+        let (own, net, dt, et, is) = root_at s held sites t.roots t.times nets walk.root_nets k root at in
+        by_net net is.is.own is.is.point (net_is k net port et bt) is.is.by.class_is is.is.net_of
       where
-        by_net : (net : ℕ) (l : Held) → port.net.0 ≡ placed_net m places net → l.spot.class ≡ root.0 → IsNetOfPoint s nodes l net → slice_get s.graph.leaves port.net.0 ≡ Some root.0
-        by_net net l e class (inl (lt, start)) =
+        by_net : (net : ℕ) (exact : Bool) (l : Held) → port.net.0 ≡ placed_net m places net → l.spot.class ≡ root.0 → IsNetOfPoint s sites exact l net → slice_get s.graph.leaves port.net.0 ≡ Some root.0
+        by_net net exact l e class (inl (lt, start)) =
             ap (slice_get s.graph.leaves) (e ∙ placed_input m places net (get_in s.graph.leaves net l.spot.class lt)) ∙ (lt ∙ ap Some class)
-        by_net net l e class (inr (none, j, jt, f)) = absurd (none i (leaf ∙ ap Some (sym class)))
+        by_net net exact l e class (inr (none, j, jt, f)) = absurd (none i (leaf ∙ ap Some (sym class)))
 
     used_needed : (net : ℕ) → IsUsed m graph nets net → IsNeeded (output_nets n) (plain n) (placed_net m places net)
     used_needed net (by_root has) =
@@ -210,8 +210,8 @@ module _ (s : Task) (t : Targets) (curves : CurveLists) (c : AreCurvesFor s t cu
           let it : slice_get order j ≡ Some i = got order j 0 in' in
           let low : i < length graph = (let f = node_low j i it in omega (arith, f, walk.one_row)) in
           let deep = get_or_from_slice_get depths (n.inputs + j) (1 + greatest_depth depths (made_gate i).pins) 0 (are.gates j (made_gate i) (gate_there j i it)) in
-          let own = (by.are.known.placed i low (walk_high s t curves c nodes t.roots t.times cells graph nets walk by.heights by.are i low)).height in
-          let all = tallest_same m places depths by.heights (fanins_at graph i) (λ k d kt. fanin_same (λ p lp ip. same_heights b p lp ip) (slice_index_or (fanins_at graph i) k d) (walk_graph s t curves c nodes t.roots t.times cells graph nets walk i k d kt) (pins_before j i it k d kt) (cases_lt (slice_index_or (fanins_at graph i) k d) m)) in
+          let own = (by.are.known.placed i low (walk_high s t curves c sites t.roots t.times cells graph nets walk by.heights by.are i low)).height in
+          let all = tallest_same m places depths by.heights (fanins_at graph i) (λ k d kt. fanin_same (λ p lp ip. same_heights b p lp ip) (slice_index_or (fanins_at graph i) k d) (walk_graph s t curves c sites t.roots t.times cells graph nets walk i k d kt) (pins_before j i it k d kt) (cases_lt (slice_index_or (fanins_at graph i) k d) m)) in
           omega (arith, deep, own, all)
         where
           fanin_same : ((p : ℕ) → p < b → p < length order → 1 + slice_index_or depths (n.inputs + p) 0 ≡ height_at by.heights (m + slice_index_or order p 0)) → (net : ℕ) → net < m + length graph → placed_net m places net < m + j → (net < m) ⊎ (m ≤ net) → 1 + slice_index_or depths (placed_net m places net) 0 ≡ height_at by.heights net
@@ -242,15 +242,15 @@ module _ (s : Task) (t : Targets) (curves : CurveLists) (c : AreCurvesFor s t cu
     pub is_over : IsLibrary s.cells → IsOver s.cells n
     is_over lib k d lt = by_node (gate_in k (slice_index_or n.gates k d) (got n.gates k d lt))
       where
-        of_node : (i : ℕ) → i < length nodes → HasCell s.cells (gate_at i)
+        of_node : (i : ℕ) → i < length sites → HasCell s.cells (gate_at i)
         of_node i low =
-            let (h, at) = get_some nodes i low in
+            let (h, at) = get_some sites i low in
             let is = made_of_point i h at in
             let cell = (made_gate i).cell in
-            let may = c.ways.choices.each h.choice (record { class = is.class; part = Rattle.lw_trade.specs.Choices.Part.gate cell is.pins }) is.chosen in
+            let may = c.ways.choices.each h.point.choice (record { class = is.class; part = Rattle.lw_trade.specs.Choices.Part.gate cell is.pins }) is.chosen in
             let (parts, bt) = get_some s.cells cell (cell_in s.cells cell (length is.pins) may.pins) in
             let a = pins_at s.cells cell (length is.pins) parts bt may.pins in
-            let b = pin_count s held in_order h.spot.time (delays_of (timing s).delays cell) is.pins (made_gate i).pins is.nets in
+            let b = pin_count s held in_order h.exact h.point.spot.time (delays_of (timing s).delays cell) is.pins (made_gate i).pins is.nets in
             let kept = (subst Rattle.lw_genlib.specs.Cells.IsListed (get_or_from_slice_get s.cells cell parts parts bt) (lib.each cell parts (get_in s.cells cell parts bt))).kept.delays in
             let many = length-map (fanins_at graph i) (placed_net m places) in
             let own : length (gate_at i).pins ≡ length (fanins_at graph i) = length-map (fanins_at graph i) (λ (p : ℕ). record { 0 = placed_net m places p }) in
@@ -270,8 +270,8 @@ module _ (s : Task) (t : Targets) (curves : CurveLists) (c : AreCurvesFor s t cu
         })
 
   -- the nets of the roots
-  pub nets_placed : All (λ x. x < m + length nodes) (map (placed_net m places) nets)
-  nets_placed = All-map (λ x. x < m + length nodes) (placed_net m places) nets (λ k d lt.
-      let low = (roots_low s held nodes t.roots t.times nets walk.root_nets).1 k d lt in
+  pub nets_placed : All (λ x. x < m + length sites) (map (placed_net m places) nets)
+  nets_placed = All-map (λ x. x < m + length sites) (placed_net m places) nets (λ k d lt.
+      let low = (roots_low s held sites t.roots t.times nets walk.root_nets).1 k d lt in
       let lower = placed_low m order places placed (slice_index_or nets k d) (omega (arith, low, long)) in
       omega (arith, lower, long))

@@ -1,5 +1,5 @@
 -- What was looked through of a walk makes it a walk.
-use Rattle.std.proofs.Common.{◌≡◌, ℕ, zero, suc, ◌+◌, ◌<◌, ◌≤◌, ◌⊎◌, inl, inr, length, map, List, [], ◌∷◌, Contains, Option, Some, None, slice_get, slice_index_or, refl, ap, sym, ◌∙◌, subst, arith}
+use Rattle.std.proofs.Common.{◌≡◌, ℕ, zero, suc, ◌+◌, ◌<◌, ◌≤◌, ◌⊎◌, Bool, true, false, true≢false, inl, inr, length, map, List, [], ◌∷◌, Contains, Option, Some, None, slice_get, slice_index_or, refl, ap, sym, ◌∙◌, subst, subst₂, arith}
 use Rattle.std.proofs.lemmas.List.{length-map}
 use Rattle.std.proofs.lemmas.Option.{same_Some, get_or_from_slice_get}
 use Rattle.lw_laws.specs.Covers.{delays_of, start_of}
@@ -13,17 +13,18 @@ use Rattle.std.proofs.lemmas.Bool.{cases_lt}
 use Rattle.lw_trade.specs.declared.found.Way.{Way}
 use Rattle.lw_trade.specs.declared.point.Point.{Point}
 use Rattle.lw_trade.specs.declared.walking.Node.{Node}
+use Rattle.lw_trade.specs.Areas.{most_area}
 use Rattle.lw_trade.specs.Backing.{Held, IsHeld}
-use Rattle.lw_trade.specs.Checks.{IsNetBy, IsUsedEarlier, IsGateRight, IsRightWalk}
+use Rattle.lw_trade.specs.Checks.{IsCut, IsNodeBy, IsNetBy, IsRootBy, IsOwned, IsSpare, IsUsedEarlier, IsGateRight, IsRightWalk}
 use Rattle.lw_trade.specs.Choices.Part.{gate as by_gate}
 use Rattle.lw_trade.specs.Groups.{CurveLists, HaveWays, point_in, way_in, IsHeldRow}
 use Rattle.lw_trade.specs.Lasts.{IsLastIn}
 use Rattle.lw_trade.specs.Points.{Task, timing}
-use Rattle.lw_trade.specs.Trades.{IsLastBy, IsNetOfPoint, HavePinNets, IsGateOfPoint}
-use Rattle.lw_trade.specs.Walks.{AreInputsTo, HaveRootNets, IsUsed, IsWalk}
+use Rattle.lw_trade.specs.Trades.{Site, IsPointBy, IsLastBy, IsNetOfPoint, IsPinNet, HavePinNets, IsGateOfPoint}
+use Rattle.lw_trade.specs.Walks.{AreInputsTo, IsRootNet, HaveRootNets, IsUsed, IsWalk}
 use Rattle.lw_trade.specs.Walks.IsUsed.{by_root, by_pin}
 use Rattle.lw_trade.proofs.Grouped.{get_map, map_get}
-use Rattle.lw_trade.proofs.Lists.{at_contained, get_in}
+use Rattle.lw_trade.proofs.Lists.{at_contained, get_in, get_some}
 use Rattle.lw_trade.proofs.Placed.{placed_last}
 use Rattle.lw_pool.specs.Numbers.{numbers}
 use Rattle.lw_genlib.proofs.Shared.{delays_at}
@@ -35,8 +36,11 @@ module _ (s : Task) (curves : CurveLists) (ways : HaveWays s curves) (starts : (
   abbrev held_of : Node → Held
   held_of node = slice_index_or (slice_index_or ways.rows.rows node.class.0 []) node.place no_point
 
-  abbrev pub helds : List Held
-  helds = map held_of nodes
+  abbrev site_of : Node → Site
+  site_of node = record { point = held_of node; exact = node.exact }
+
+  abbrev pub sites_of : List Site
+  sites_of = map site_of nodes
 
   -- the point of a node
   record IsHeldAt (node : Node) (h : Held) : Type 0 where
@@ -60,68 +64,126 @@ module _ (s : Task) (curves : CurveLists) (ways : HaveWays s curves) (starts : (
   points_back : (c : ℕ) (row : List Point) → slice_get curves.points c ≡ Some row → (held : List Held) × (slice_get ways.rows.rows c ≡ Some held) × (map point_in held ≡ row)
   points_back c row at = map_get (map point_in) ways.rows.rows c row (ap (λ ps. slice_get ps c) (sym ways.rows.points_are) ∙ at)
 
-  -- the net of a last point
-  net_is : (c delay time net : ℕ) → IsNetBy curves.points inputs (length s.graph.leaves) nodes c delay time net → (l : Held) × IsLastBy ways.held c delay time l × IsNetOfPoint s helds l net
-  net_is c delay time net is =
+  -- an earlier place of a row has an earlier point
+  earlier : (c delay time : ℕ) (row : List Held) → IsHeldRow ways.held c row → (place : ℕ) (l : Held) → slice_get row place ≡ Some l → l.spot.time + delay ≤ time → (at : ℕ) → at ≤ place → (k : Held) × (slice_get row at ≡ Some k) × IsPointBy ways.held c delay time k
+  earlier c delay time row is place l there in_time at le =
+      let lt = get_in row place l there in
+      let (k, kt) = get_some row at (omega (arith, le, lt)) in
+      let (held, class) = is.each k (at, kt) in
+      (k, kt, record { held_is = held; class_is = class; in_time = by_order k kt (cases_lt at place) })
+    where
+      by_order : (k : Held) → slice_get row at ≡ Some k → (at < place) ⊎ (place ≤ at) → k.spot.time + delay ≤ time
+      by_order k kt (inl lt) = let less = is.rising at place k l lt kt there in omega (arith, less, in_time)
+      by_order k kt (inr ge) =
+          let same : at ≡ place = omega (arith, le, ge) in
+          let e = ap (λ (x : Held). x.spot.time) (same_Some k l (sym kt ∙ (ap (slice_get row) same ∙ there))) in
+          omega (arith, e, in_time)
+
+  -- the net of a point in time
+  net_is : (exact : Bool) (c delay time net : ℕ) → IsNetBy curves.points inputs (length s.graph.leaves) nodes exact c delay time net → IsPinNet s ways.held sites_of exact c delay time net
+  net_is exact c delay time net is =
       let (row, at, e) = points_back c is.row is.at in
       let (l, there, last) = placed_last ways.held c row (row_is c row at) delay time is.place (subst (λ ps. IsLastIn ps delay time is.place) (sym e) is.last) in
-      (l, last, by_case row at e l there last is.right)
+      by_case row at e l there last is.right
     where
-      by_case : (row : List Held) → slice_get ways.rows.rows c ≡ Some row → map point_in row ≡ is.row → (l : Held) → slice_get row is.place ≡ Some l → IsLastBy ways.held c delay time l → (slice_get inputs c ≡ Some (Some net)) ⊎ ((slice_get inputs c ≡ Some None) × (j : ℕ) × (node : Node) × (slice_get nodes j ≡ Some node) × (node.class.0 ≡ c) × (node.place ≡ is.place) × (net ≡ length s.graph.leaves + j)) → IsNetOfPoint s helds l net
+      of_node : (row : List Held) → slice_get ways.rows.rows c ≡ Some row → (l : Held) → slice_get row is.place ≡ Some l → IsLastBy ways.held c delay time l → slice_get inputs c ≡ Some None → (j : ℕ) → net ≡ length s.graph.leaves + j → (node : IsNodeBy nodes exact c is.place j) → (k : Held) × (slice_get row node.node.place ≡ Some k) × IsPointBy ways.held c delay time k → IsPinNet s ways.held sites_of exact c delay time net
+      of_node row at l there last none j net_at node (k, k_there, by) = record {
+        point = k;
+        own = node.node.exact;
+        by = by;
+        net_of = inr (
+          λ i leaf. own.none c i none (get_in s.graph.leaves i k.spot.class leaf) (leaf ∙ ap Some by.class_is),
+          j,
+          get_map site_of nodes j node.node node.at ∙ ap (λ (x : Held). Some (record { point = x; exact = node.node.exact })) (held_is node.node k (record { row = row; row_at = ap (slice_get ways.rows.rows) node.class_is ∙ at; at = k_there })),
+          net_at,
+        );
+        last = λ yes. (
+          node.own yes,
+          subst (IsLastBy ways.held c delay time) (same_Some l k (sym there ∙ (ap (slice_get row) (sym (node.last yes)) ∙ k_there))) last,
+        );
+      }
+
+      by_case : (row : List Held) → slice_get ways.rows.rows c ≡ Some row → map point_in row ≡ is.row → (l : Held) → slice_get row is.place ≡ Some l → IsLastBy ways.held c delay time l → (slice_get inputs c ≡ Some (Some net)) ⊎ ((slice_get inputs c ≡ Some None) × (j : ℕ) × IsNodeBy nodes exact c is.place j × (net ≡ length s.graph.leaves + j)) → IsPinNet s ways.held sites_of exact c delay time net
       by_case row at e l there last (inl has) =
           let leaf = own.some c net has in
           let point = subst (λ ps. Contains ps (point_in l)) e (at_contained (map point_in row) is.place (point_in l) (get_map point_in row is.place l there)) in
           let start = starts net c is.row (point_in l) leaf is.at point in
-          inl (leaf ∙ ap Some (sym last.class_is), omega (arith, start))
-      by_case row at e l there last (inr (none, j, node, node_at, class, place, net_at)) =
-          let same = held_is node l (record { row = row; row_at = ap (slice_get ways.rows.rows) class ∙ at; at = ap (slice_get row) place ∙ there }) in
-          inr (
-            λ i leaf. own.none c i none (get_in s.graph.leaves i l.spot.class leaf) (leaf ∙ ap Some last.class_is),
-            j,
-            get_map held_of nodes j node node_at ∙ ap Some same,
-            net_at,
-          )
+          record {
+            point = l;
+            own = true;
+            by = record { held_is = last.held_is; class_is = last.class_is; in_time = last.in_time };
+            net_of = inl (leaf ∙ ap Some (sym last.class_is), omega (arith, start));
+            last = λ yes. (refl, last);
+          }
+      by_case row at e l there last (inr (none, j, node, net_at)) =
+          of_node row at l there last none j net_at node (earlier c delay time row (row_is c row at) is.place l there last.in_time node.node.place node.no_later)
 
-  pin_nets : (time : ℕ) (ds : List Micro) (ps : List ClassId) (ns : List ℕ) → length ns ≡ length ps → length ds ≡ length ps → ((k : ℕ) (p : ClassId) (d : Micro) (net : ℕ) → slice_get ps k ≡ Some p → slice_get ds k ≡ Some d → slice_get ns k ≡ Some net → IsNetBy curves.points inputs (length s.graph.leaves) nodes p.0 d.0 time net) → HavePinNets s ways.held helds time (map millionths ds) (numbers ps) ns
-  pin_nets time [] [] [] e f each = tt
-  pin_nets time [] [] (n ∷ ns) e f each = absurd (omega (arith, e))
-  pin_nets time [] (p ∷ ps) ns e f each = absurd (omega (arith, f))
-  pin_nets time (d ∷ ds) [] ns e f each = absurd (omega (arith, f))
-  pin_nets time (d ∷ ds) (p ∷ ps) [] e f each = absurd (omega (arith, e))
-  pin_nets time (d ∷ ds) (p ∷ ps) (n ∷ ns) e f each =
-      (net_is p.0 d.0 time n (each 0 p d n refl refl refl), pin_nets time ds ps ns (omega (arith, e)) (omega (arith, f)) (λ k q c m at bt ct. each (suc k) q c m at bt ct))
+  root_cut : (c time net : ℕ) → IsCut curves.points c time → IsNetBy curves.points inputs (length s.graph.leaves) nodes false c 0 time net → IsRootNet s ways.held sites_of c time net
+  root_cut c time net cut is =
+      let (row, at, e) = points_back c cut.row cut.at in
+      let (l, there, last) = placed_last ways.held c row (row_is c row at) 0 time cut.place (subst (λ ps. IsLastIn ps 0 time cut.place) (sym e) cut.last) in
+      let point : cut.last.point ≡ point_in l = same_Some cut.last.point (point_in l) (sym cut.last.at ∙ (ap (λ ps. slice_get ps cut.place) (sym e) ∙ get_map point_in row cut.place l there)) in
+      let area = ap (λ (p : Point). p.area) point in
+      let most = cut.cut in
+      record {
+        exact = false;
+        is = net_is false c 0 time net is;
+        cut = λ f. (l, last, subst (λ n. most_area ≤ n) area most);
+      }
 
-  root_nets : (rs : List ClassId) (ts : List Micro) (ns : List ℕ) → length ns ≡ length rs → length ts ≡ length rs → ((k : ℕ) (r : ClassId) (t : Micro) (net : ℕ) → slice_get rs k ≡ Some r → slice_get ts k ≡ Some t → slice_get ns k ≡ Some net → IsNetBy curves.points inputs (length s.graph.leaves) nodes r.0 0 t.0 net) → HaveRootNets s ways.held helds rs ts ns
+  root_is : (c time net : ℕ) → IsRootBy curves.points inputs (length s.graph.leaves) nodes c time net → IsRootNet s ways.held sites_of c time net
+  root_is c time net root = by_case root.right
+    where
+      by_case : IsNetBy curves.points inputs (length s.graph.leaves) nodes true c 0 time net ⊎ (IsCut curves.points c time × IsNetBy curves.points inputs (length s.graph.leaves) nodes false c 0 time net) → IsRootNet s ways.held sites_of c time net
+      by_case (inl is) = record {
+        exact = true;
+        is = net_is true c 0 time net is;
+        cut = λ e. absurd (true≢false e);
+      }
+      by_case (inr (cut, is)) = root_cut c time net cut is
+
+  pin_nets : (exact : Bool) (time : ℕ) (ds : List Micro) (ps : List ClassId) (ns : List ℕ) → length ns ≡ length ps → length ds ≡ length ps → ((k : ℕ) (p : ClassId) (d : Micro) (net : ℕ) → slice_get ps k ≡ Some p → slice_get ds k ≡ Some d → slice_get ns k ≡ Some net → IsNetBy curves.points inputs (length s.graph.leaves) nodes exact p.0 d.0 time net) → HavePinNets s ways.held sites_of exact time (map millionths ds) (numbers ps) ns
+  pin_nets exact time [] [] [] e f each = tt
+  pin_nets exact time [] [] (n ∷ ns) e f each = absurd (omega (arith, e))
+  pin_nets exact time [] (p ∷ ps) ns e f each = absurd (omega (arith, f))
+  pin_nets exact time (d ∷ ds) [] ns e f each = absurd (omega (arith, f))
+  pin_nets exact time (d ∷ ds) (p ∷ ps) [] e f each = absurd (omega (arith, e))
+  pin_nets exact time (d ∷ ds) (p ∷ ps) (n ∷ ns) e f each =
+      (net_is exact p.0 d.0 time n (each 0 p d n refl refl refl), pin_nets exact time ds ps ns (omega (arith, e)) (omega (arith, f)) (λ k q c m at bt ct. each (suc k) q c m at bt ct))
+
+  root_nets : (rs : List ClassId) (ts : List Micro) (ns : List ℕ) → length ns ≡ length rs → length ts ≡ length rs → ((k : ℕ) (r : ClassId) (t : Micro) (net : ℕ) → slice_get rs k ≡ Some r → slice_get ts k ≡ Some t → slice_get ns k ≡ Some net → IsRootBy curves.points inputs (length s.graph.leaves) nodes r.0 t.0 net) → HaveRootNets s ways.held sites_of rs ts ns
   root_nets [] [] [] e f each = tt
   root_nets [] [] (n ∷ ns) e f each = absurd (omega (arith, e))
   root_nets [] (t ∷ ts) ns e f each = absurd (omega (arith, f))
   root_nets (r ∷ rs) [] ns e f each = absurd (omega (arith, f))
   root_nets (r ∷ rs) (t ∷ ts) [] e f each = absurd (omega (arith, e))
   root_nets (r ∷ rs) (t ∷ ts) (n ∷ ns) e f each =
-      (net_is r.0 0 t.0 n (each 0 r t n refl refl refl), root_nets rs ts ns (omega (arith, e)) (omega (arith, f)) (λ k q c m at bt ct. each (suc k) q c m at bt ct))
+      (root_is r.0 t.0 n (each 0 r t n refl refl refl), root_nets rs ts ns (omega (arith, e)) (omega (arith, f)) (λ k q c m at bt ct. each (suc k) q c m at bt ct))
 
-  module _ (owners : List (Vec ℕ)) (cells : List CellId) (pins : List (List ℕ)) (nets : List ℕ) (roots : List ClassId) (times : List Micro) (right : IsRightWalk curves inputs (length s.graph.leaves) s.cells roots times nodes owners cells pins nets) where
-    in_nodes : (j : ℕ) (h : Held) → slice_get helds j ≡ Some h → j < length nodes
-    in_nodes j h at = let lt = get_in helds j h at in let e = length-map nodes held_of in omega (arith, lt, e)
+  module _ (owners : List (Vec ℕ)) (spares : List ℕ) (cells : List CellId) (pins : List (List ℕ)) (nets : List ℕ) (roots : List ClassId) (times : List Micro) (right : IsRightWalk curves inputs (length s.graph.leaves) s.cells roots times nodes owners spares cells pins nets) where
+    in_nodes : (j : ℕ) (site : Site) → slice_get sites_of j ≡ Some site → j < length nodes
+    in_nodes j site at = let lt = get_in sites_of j site at in let e = length-map nodes site_of in omega (arith, lt, e)
 
     -- the point of the node with a number, and when it comes
-    point_of : (j : ℕ) (is : IsGateRight curves inputs (length s.graph.leaves) s.cells nodes owners cells pins nets j) → (h : Held) × IsHeldAt is.node h × (point_in h ≡ is.right.point)
+    point_of : (j : ℕ) (is : IsGateRight curves inputs (length s.graph.leaves) s.cells nodes owners spares cells pins nets j) → (h : Held) × IsHeldAt is.node h × (point_in h ≡ is.right.point)
     point_of j is =
         let (row, at, e) = points_back is.node.class.0 is.right.row is.right.row_at in
         let (h, there, same) = map_get point_in row is.node.place is.right.point (ap (λ ps. slice_get ps is.node.place) e ∙ is.right.point_at) in
         (h, record { row = row; row_at = at; at = there }, same)
 
-    own_point : (j : ℕ) (h : Held) → slice_get helds j ≡ Some h → (is : IsGateRight curves inputs (length s.graph.leaves) s.cells nodes owners cells pins nets j) → IsHeldAt is.node h × (point_in h ≡ is.right.point)
-    own_point j h at is =
+    own_point : (j : ℕ) (site : Site) → slice_get sites_of j ≡ Some site → (is : IsGateRight curves inputs (length s.graph.leaves) s.cells nodes owners spares cells pins nets j) → IsHeldAt is.node site.point × (point_in site.point ≡ is.right.point) × (is.node.exact ≡ site.exact)
+    own_point j site at is =
         let (k, there, same) = point_of j is in
-        let here : Some (held_of is.node) ≡ Some h = sym (get_map held_of nodes j is.node is.node_at) ∙ at in
-        let e : k ≡ h = sym (held_is is.node k there) ∙ same_Some (held_of is.node) h here in
-        (subst (IsHeldAt is.node) e there, subst (λ (x : Held). point_in x ≡ is.right.point) e same)
+        let here : Some (site_of is.node) ≡ Some site = sym (get_map site_of nodes j is.node is.node_at) ∙ at in
+        let whole : site_of is.node ≡ site = same_Some (site_of is.node) site here in
+        let e : k ≡ site.point = sym (held_is is.node k there) ∙ ap (λ (x : Site). x.point) whole in
+        (subst (IsHeldAt is.node) e there, subst (λ (x : Held). point_in x ≡ is.right.point) e same, ap (λ (x : Site). x.exact) whole)
 
-    gate_is : (j : ℕ) (h : Held) (cell : CellId) → slice_get helds j ≡ Some h → slice_get cells j ≡ Some cell → IsGateOfPoint s curves.choices ways.held helds h (record { cell = cell.0; pins = fanins_at pins j })
-    gate_is j h cell at bt =
-        let is = right.gates j (in_nodes j h at) in
-        let (there, point) = own_point j h at is in
+    gate_is : (j : ℕ) (site : Site) (cell : CellId) → slice_get sites_of j ≡ Some site → slice_get cells j ≡ Some cell → IsGateOfPoint s curves.choices ways.held sites_of site (record { cell = cell.0; pins = fanins_at pins j })
+    gate_is j site cell at bt =
+        let h = site.point in
+        let is = right.gates j (in_nodes j site at) in
+        let (there, point, mode) = own_point j site at is in
         let stands = is.right.stands in
         let (row, row_at, e) = map_get (map way_in) ways.rows.rows is.node.class.0 stands.row (ap (λ ws. slice_get ws is.node.class.0) (sym ways.rows.ways_are) ∙ stands.row_at) in
         let (k, k_at, way) = map_get way_in row is.node.place stands.way (ap (λ ws. slice_get ws is.node.place) e ∙ stands.way_at) in
@@ -134,15 +196,15 @@ module _ (s : Task) (curves : CurveLists) (ways : HaveWays s curves) (starts : (
         let time : is.right.point.time.0 ≡ h.spot.time = ap (λ (p : Point). p.time.0) (sym point) in
         let chosen : slice_get curves.choices h.choice ≡ Some (record { class = stands.choice.class; part = by_gate cell.0 (numbers is.right.gate.pins) }) =
         ap (slice_get curves.choices) (sym choice) ∙ (stands.choice_at ∙ ap (λ part. Some (record { class = stands.choice.class; part = part })) (stands.part_is ∙ ap (λ n. by_gate n (numbers is.right.gate.pins)) cell_is)) in
-        let fed = pin_nets is.right.point.time.0 is.right.own.delays is.right.gate.pins is.row is.right.pins.one_net is.right.pins.one_delay is.right.pins.each in
+        let fed = pin_nets is.node.exact is.right.point.time.0 is.right.own.delays is.right.gate.pins is.row is.right.pins.one_net is.right.pins.one_delay is.right.pins.each in
         let fan : is.row ≡ fanins_at pins j = sym (get_or_from_slice_get pins j is.row [] is.row_at) in
         record {
           class = stands.choice.class;
           pins = numbers is.right.gate.pins;
           chosen = chosen;
-          nets = subst (λ t. HavePinNets s ways.held helds t (delays_of (timing s).delays cell.0) (numbers is.right.gate.pins) (fanins_at pins j)) time
-              (subst (λ ds. HavePinNets s ways.held helds is.right.point.time.0 ds (numbers is.right.gate.pins) (fanins_at pins j)) (sym (delays_at s.cells cell.0 is.right.own own_at))
-              (subst (λ ns. HavePinNets s ways.held helds is.right.point.time.0 (map millionths is.right.own.delays) (numbers is.right.gate.pins) ns) fan fed));
+          nets = subst₂ (λ b t. HavePinNets s ways.held sites_of b t (delays_of (timing s).delays cell.0) (numbers is.right.gate.pins) (fanins_at pins j)) mode time
+              (subst (λ ds. HavePinNets s ways.held sites_of is.node.exact is.right.point.time.0 ds (numbers is.right.gate.pins) (fanins_at pins j)) (sym (delays_at s.cells cell.0 is.right.own own_at))
+              (subst (λ ns. HavePinNets s ways.held sites_of is.node.exact is.right.point.time.0 (map millionths is.right.own.delays) (numbers is.right.gate.pins) ns) fan fed));
         }
 
     -- a point has one place
@@ -154,36 +216,43 @@ module _ (s : Task) (curves : CurveLists) (ways : HaveWays s curves) (starts : (
         by_order (inr x) (inl lt) = let t = rising j i h h lt jt it in absurd (omega (arith, t))
         by_order (inr x) (inr y) = omega (arith, x, y)
 
-    once : (i j : ℕ) (h : Held) → slice_get helds i ≡ Some h → slice_get helds j ≡ Some h → i ≡ j
-    once i j h it jt =
-        let a = right.gates i (in_nodes i h it) in
-        let b = right.gates j (in_nodes j h jt) in
-        let (x, xp) = own_point i h it a in
-        let (y, yp) = own_point j h jt b in
+    once : (i j : ℕ) (site : Site) → slice_get sites_of i ≡ Some site → slice_get sites_of j ≡ Some site → i ≡ j
+    once i j site it jt =
+        let h = site.point in
+        let a = right.gates i (in_nodes i site it) in
+        let b = right.gates j (in_nodes j site jt) in
+        let (x, xp, xe) = own_point i site it a in
+        let (y, yp, ye) = own_point j site jt b in
         let class : a.node.class.0 ≡ b.node.class.0 = sym (held_there a.node h x).1 ∙ (held_there b.node h y).1 in
         let rows : x.row ≡ y.row = same_Some x.row y.row (sym x.row_at ∙ (ap (slice_get ways.rows.rows) class ∙ y.row_at)) in
         let place : a.node.place ≡ b.node.place = place_once y.row (row_is b.node.class.0 y.row y.row_at).rising h a.node.place b.node.place (ap (λ (r : List Held). slice_get r a.node.place) (sym rows) ∙ x.at) y.at in
-        let (r, r_at, i_at) = a.owned in
-        let (t, t_at, j_at) = b.owned in
-        let same : r ≡ t = same_Some r t (sym r_at ∙ (ap (slice_get owners) class ∙ t_at)) in
-        same_Some i j (sym i_at ∙ (ap (λ (v : Vec ℕ). slice_get v.items a.node.place) same ∙ (ap (slice_get t.items) place ∙ j_at)))
+        by_mode a.node b.node class place site.exact xe ye a.owned b.owned a.spare b.spare
+      where
+        by_mode : (a b : Node) → a.class.0 ≡ b.class.0 → a.place ≡ b.place → (mode : Bool) → a.exact ≡ mode → b.exact ≡ mode → (a.exact ≡ true → IsOwned owners a i) → (b.exact ≡ true → IsOwned owners b j) → (a.exact ≡ false → IsSpare spares a i) → (b.exact ≡ false → IsSpare spares b j) → i ≡ j
+        by_mode a b class place true xe ye x y u v =
+            let (r, r_at, i_at) = x xe in
+            let (t, t_at, j_at) = y ye in
+            let same : r ≡ t = same_Some r t (sym r_at ∙ (ap (slice_get owners) class ∙ t_at)) in
+            same_Some i j (sym i_at ∙ (ap (λ (v : Vec ℕ). slice_get v.items a.place) same ∙ (ap (slice_get t.items) place ∙ j_at)))
+        by_mode a b class place false xe ye x y u v =
+            same_Some i j (sym (u xe) ∙ (ap (slice_get spares) class ∙ v ye))
 
     used_below : (m j : ℕ) → j < m → j < length nodes → IsUsed (length s.graph.leaves) pins nets (length s.graph.leaves + j)
     used_below zero j lt in' = absurd (omega (arith, lt))
-    used_below (suc m) j lt in' = by_user (λ g le. used_below m g (omega (arith, lt, le)) (omega (arith, in', le))) (right.gates j in').used
+    used_below (suc m) j lt in' = by_moder (λ g le. used_below m g (omega (arith, lt, le)) (omega (arith, in', le))) (right.gates j in').used
       where
-        by_user : ((g : ℕ) → g < j → IsUsed (length s.graph.leaves) pins nets (length s.graph.leaves + g)) → IsUsedEarlier (length s.graph.leaves) pins nets j → IsUsed (length s.graph.leaves) pins nets (length s.graph.leaves + j)
-        by_user below (inl (k, at)) = by_root (at_contained nets k (length s.graph.leaves + j) at)
-        by_user below (inr (g, row, k, le, row_at, at)) =
+        by_moder : ((g : ℕ) → g < j → IsUsed (length s.graph.leaves) pins nets (length s.graph.leaves + g)) → IsUsedEarlier (length s.graph.leaves) pins nets j → IsUsed (length s.graph.leaves) pins nets (length s.graph.leaves + j)
+        by_moder below (inl (k, at)) = by_root (at_contained nets k (length s.graph.leaves + j) at)
+        by_moder below (inr (g, row, k, le, row_at, at)) =
             let fan : row ≡ fanins_at pins g = sym (get_or_from_slice_get pins g row [] row_at) in
             by_pin g (below g le) (subst (λ ns. Contains ns (length s.graph.leaves + j)) fan (at_contained row k (length s.graph.leaves + j) at))
 
-    pub checked_walk : IsWalk s curves.choices ways.held helds roots times cells pins nets
+    pub checked_walk : IsWalk s curves.choices ways.held sites_of roots times cells pins nets
     checked_walk = record {
-      one_cell = right.one_cell ∙ sym (length-map nodes held_of);
-      one_row = right.one_row ∙ sym (length-map nodes held_of);
-      few = let e = length-map nodes held_of in let n = right.few in omega (arith, e, n);
-      are = λ h (j, at). (let is = right.gates j (in_nodes j h at) in (held_there is.node h (own_point j h at is).0).0);
+      one_cell = right.one_cell ∙ sym (length-map nodes site_of);
+      one_row = right.one_row ∙ sym (length-map nodes site_of);
+      few = let e = length-map nodes site_of in let n = right.few in omega (arith, e, n);
+      are = λ j site at. (let is = right.gates j (in_nodes j site at) in (held_there is.node site.point (own_point j site at is).0).0);
       once = once;
       gates = gate_is;
       root_nets = root_nets roots times nets right.roots_are.one_net right.roots_are.one_time right.roots_are.each;

@@ -1,17 +1,20 @@
 -- The last point of a class by a time has the least area of the covers that arrive by then.
-use Rattle.std.proofs.Common.{◌≡◌, ℕ, zero, suc, ◌+◌, ◌<◌, ◌≤◌, ◌⊎◌, inl, inr, map, length, List, slice_get, refl, ap, sym, ◌∙◌, subst, arith}
+use Rattle.std.proofs.Common.{◌≡◌, ℕ, zero, suc, ◌+◌, ◌<◌, ◌≤◌, ◌⊎◌, Bool, true, false, inl, inr, map, length, List, slice_get, refl, ap, sym, ◌∙◌, subst, arith}
 use Rattle.std.proofs.lemmas.Bool.{cases_lt}
 use Rattle.lw_laws.specs.Covers.{Cover, time_of, tree_of}
 use Rattle.lw_laws.specs.Graphs.{Unfolds}
 use Rattle.lw_laws.specs.Netlists.{Netlist}
 use Rattle.lw_trade.specs.declared.point.Point.{Point}
+use Rattle.lw_trade.specs.Areas.{most_area}
 use Rattle.lw_trade.specs.Backing.{Held, IsHeld}
 use Rattle.lw_trade.specs.Groups.{CurveLists, HaveWays, point_in}
 use Rattle.lw_trade.specs.Points.{Task, timing, IsCoverBy, area_of, IsPoint, AreCurves}
 use Rattle.lw_trade.specs.Traded.{HasLeastAreaBy}
-use Rattle.lw_trade.specs.Trades.{IsLastBy, IsNetOfPoint, IsBuilt}
-use Rattle.lw_trade.proofs.Built.{built_nets, held_point}
+use Rattle.lw_trade.specs.Trades.{Site, IsLastBy, IsPinNet, IsNetOfPoint, IsBuilt}
+use Rattle.lw_trade.specs.Walks.{IsRootNet}
+use Rattle.lw_trade.proofs.Built.{built_nets, held_point, net_cover}
 use Rattle.lw_trade.proofs.Grouped.{map_get}
+use Rattle.lw_trade.proofs.Joint.{area_low}
 use Rattle.lw_trade.proofs.Lists.{contained_at, get_some}
 
 module _ (s : Task) (horizon : ℕ) (curves : CurveLists) (ways : HaveWays s curves) (are : AreCurves s horizon curves.points) where
@@ -91,17 +94,46 @@ module _ (s : Task) (horizon : ℕ) (curves : CurveLists) (ways : HaveWays s cur
     pub lowest : (k : Cover) → IsCoverBy s c t k → l.spot.area ≤ area_of s k
     lowest k by = none_below (suc (area_of s k)) k by (omega arith)
 
--- the net of such a point in a netlist that is built from points
-pub least_net : (s : Task) (horizon : ℕ) (curves : CurveLists) (ways : HaveWays s curves) → AreCurves s horizon curves.points → (nodes : List Held) (n : Netlist) → IsBuilt s curves.choices ways.held nodes n → (c t net : ℕ) (l : Held) → c < length s.graph.pairs → t ≤ horizon → IsLastBy ways.held c 0 t l → IsNetOfPoint s nodes l net → HasLeastAreaBy s n c t net
-least_net s horizon curves ways are nodes n built c t net l low within last net_of =
-    let k = built_nets s horizon curves ways nodes n are built l net last.held_is net_of in
-    let is = k.is_cover in
-    let a = is.in_time in
-    let b = last.in_time in
-    let by : IsCoverBy s c t k.by = record { is_cover = is.is_cover; unfolds = subst (λ d. Unfolds s.graph (tree_of k.by) d) last.class_is is.unfolds; in_time = omega (arith, a, b) } in
-    record {
-      by = k.by;
-      stands = k.stands;
-      is_cover = by;
-      least = ((k.by, by, refl), λ o other. let le = lowest s horizon curves ways are l c t low last within o other in let e = k.area_is in omega (arith, le, e));
-    }
+-- the net of a root in a netlist that is built from points
+module _ (s : Task) (horizon : ℕ) (curves : CurveLists) (ways : HaveWays s curves) (are : AreCurves s horizon curves.points) (sites : List Site) (n : Netlist) (built : IsBuilt s curves.choices ways.held sites n) (c t net : ℕ) (low : c < length s.graph.pairs) (within : t ≤ horizon) where
+  -- a cover of a point of the class in time
+  by_then : (h : Held) → h.spot.class ≡ c → h.spot.time + 0 ≤ t → (k : Cover) → IsCoverBy s h.spot.class h.spot.time k → IsCoverBy s c t k
+  by_then h class le k is =
+      let a = is.in_time in
+      record { is_cover = is.is_cover; unfolds = subst (λ d. Unfolds s.graph (tree_of k) d) class is.unfolds; in_time = omega (arith, a, le) }
+
+  -- that of the last point
+  exact_net : (l : Held) → IsLastBy ways.held c 0 t l → IsNetOfPoint s sites true l net → HasLeastAreaBy s n c t net
+  exact_net l last net_of =
+      let k = built_nets s horizon curves ways sites n are built l net last.held_is net_of in
+      let by = by_then l last.class_is last.in_time k.by k.is_cover in
+      record {
+        by = k.by;
+        stands = k.stands;
+        is_cover = by;
+        least = ((k.by, by, refl), λ o other. let le = lowest s horizon curves ways are l c t low last within o other in let e = k.area_is in omega (arith, le, e));
+      }
+
+  -- that of any in time, where the last one has the greatest area
+  shared_net : (l : Held) → IsLastBy ways.held c 0 t l → most_area ≤ l.spot.area → IsPinNet s ways.held sites false c 0 t net → HasLeastAreaBy s n c t net
+  shared_net l last cut pin =
+      let (k, stands, is) = net_cover s curves.choices ways.choices ways.held ways.backed sites n built pin.own pin.point net pin.net_of in
+      let by = by_then pin.point pin.by.class_is pin.by.in_time k is in
+      let most = area_low s k in
+      record {
+        by = k;
+        stands = stands;
+        is_cover = by;
+        least = ((k, by, refl), λ o other. let le = lowest s horizon curves ways are l c t low last within o other in omega (arith, le, cut, most));
+      }
+
+  pub root_net : IsRootNet s ways.held sites c t net → HasLeastAreaBy s n c t net
+  root_net root = by_mode root.exact root.is root.cut
+    where
+      by_mode : (exact : Bool) → IsPinNet s ways.held sites exact c 0 t net → (exact ≡ false → (l : Held) × IsLastBy ways.held c 0 t l × (most_area ≤ l.spot.area)) → HasLeastAreaBy s n c t net
+      by_mode true pin cut =
+          let (own, last) = pin.last refl in
+          exact_net pin.point last (subst (λ (b : Bool). IsNetOfPoint s sites b pin.point net) own pin.net_of)
+      by_mode false pin cut =
+          let (l, last, most) = cut refl in
+          shared_net l last most pin

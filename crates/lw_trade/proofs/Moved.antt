@@ -1,5 +1,5 @@
--- The nets of points where the nodes stand in another order.
-use Rattle.std.proofs.Common.{◌≡◌, ℕ, zero, suc, ◌+◌, ◌-◌, ◌<◌, ◌≤◌, ◌⊎◌, inl, inr, All, length, map, List, [], ◌∷◌, Some, slice_get, slice_index_or, refl, ap, sym, ◌∙◌, subst, arith}
+-- The nets of points where the sites stand in another order.
+use Rattle.std.proofs.Common.{◌≡◌, ℕ, zero, suc, ◌+◌, ◌-◌, ◌<◌, ◌≤◌, ◌⊎◌, Bool, false, inl, inr, All, length, map, List, [], ◌∷◌, Some, slice_get, slice_index_or, refl, ap, sym, ◌∙◌, subst, arith}
 use Rattle.std.specs.List.{range_with_len}
 use Rattle.std.specs.List.Sorted.{IsPermutation}
 use Rattle.std.proofs.lemmas.List.{get_or-map, length-map}
@@ -10,8 +10,8 @@ use Rattle.lw_fixed.specs.declared.micro.Micro.{Micro}
 use Rattle.lw_trade.specs.Backing.{Held}
 use Rattle.lw_trade.specs.Placed.{ArePlaces, placed_net}
 use Rattle.lw_trade.specs.Points.{Task}
-use Rattle.lw_trade.specs.Trades.{IsLastBy, IsNetOfPoint, HavePinNets}
-use Rattle.lw_trade.specs.Walks.{HaveRootNets}
+use Rattle.lw_trade.specs.Trades.{Site, IsNetOfPoint, IsPinNet, HavePinNets}
+use Rattle.lw_trade.specs.Walks.{IsRootNet, HaveRootNets}
 use Rattle.lw_trade.proofs.Grouped.{get_map, map_get}
 use Rattle.lw_trade.proofs.Lists.{get_in, got}
 use Rattle.lw_trade.proofs.Places.{order_length, order_low, stands_there}
@@ -30,75 +30,91 @@ placed_low m order places are net lt = by_input (cases_lt net m)
         omega (arith, e, low)
 
 -- what has the net of a root
-pub root_at : (s : Task) (held nodes : List Held) (roots : List ClassId) (times : List Micro) (nets : List ℕ) → HaveRootNets s held nodes roots times nets → (k : ℕ) (root : ClassId) → slice_get roots k ≡ Some root → (time : Micro) × (net : ℕ) × (l : Held) × (slice_get times k ≡ Some time) × (slice_get nets k ≡ Some net) × IsLastBy held root.0 0 time.0 l × IsNetOfPoint s nodes l net
-root_at s held nodes [] [] [] have k root at = cc
-root_at s held nodes [] [] (m ∷ ms) have k root at = absurd have
-root_at s held nodes [] (t ∷ ts) [] have k root at = absurd have
-root_at s held nodes [] (t ∷ ts) (m ∷ ms) have k root at = absurd have
-root_at s held nodes (r ∷ rs) [] [] have k root at = absurd have
-root_at s held nodes (r ∷ rs) [] (m ∷ ms) have k root at = absurd have
-root_at s held nodes (r ∷ rs) (t ∷ ts) [] have k root at = absurd have
-root_at s held nodes (r ∷ rs) (t ∷ ts) (m ∷ ms) ((l, is, net_of), have) zero root at =
-    (t, m, l, refl, refl, subst (λ (x : ClassId). IsLastBy held x.0 0 t.0 l) (same_Some r root at) is, net_of)
-root_at s held nodes (r ∷ rs) (t ∷ ts) (m ∷ ms) (first, have) (suc k) root at = root_at s held nodes rs ts ms have k root at
+pub root_at : (s : Task) (held : List Held) (sites : List Site) (roots : List ClassId) (times : List Micro) (nets : List ℕ) → HaveRootNets s held sites roots times nets → (k : ℕ) (root : ClassId) → slice_get roots k ≡ Some root → (time : Micro) × (net : ℕ) × (slice_get times k ≡ Some time) × (slice_get nets k ≡ Some net) × IsRootNet s held sites root.0 time.0 net
+root_at s held sites [] [] [] have k root at = cc
+root_at s held sites [] [] (m ∷ ms) have k root at = absurd have
+root_at s held sites [] (t ∷ ts) [] have k root at = absurd have
+root_at s held sites [] (t ∷ ts) (m ∷ ms) have k root at = absurd have
+root_at s held sites (r ∷ rs) [] [] have k root at = absurd have
+root_at s held sites (r ∷ rs) [] (m ∷ ms) have k root at = absurd have
+root_at s held sites (r ∷ rs) (t ∷ ts) [] have k root at = absurd have
+root_at s held sites (r ∷ rs) (t ∷ ts) (m ∷ ms) (first, have) zero root at =
+    (t, m, refl, refl, subst (λ (x : ClassId). IsRootNet s held sites x.0 t.0 m) (same_Some r root at) first)
+root_at s held sites (r ∷ rs) (t ∷ ts) (m ∷ ms) (first, have) (suc k) root at = root_at s held sites rs ts ms have k root at
 
 -- one net for each pin
-pub pin_count : (s : Task) (held nodes : List Held) (time : ℕ) (ds ps nets : List ℕ) → HavePinNets s held nodes time ds ps nets → length nets ≡ length ps
-pin_count s held nodes time [] [] [] have = refl
-pin_count s held nodes time [] [] (m ∷ ms) have = absurd have
-pin_count s held nodes time [] (p ∷ ps) [] have = absurd have
-pin_count s held nodes time [] (p ∷ ps) (m ∷ ms) have = absurd have
-pin_count s held nodes time (d ∷ ds) [] [] have = absurd have
-pin_count s held nodes time (d ∷ ds) [] (m ∷ ms) have = absurd have
-pin_count s held nodes time (d ∷ ds) (p ∷ ps) [] have = absurd have
-pin_count s held nodes time (d ∷ ds) (p ∷ ps) (m ∷ ms) (first, have) = ap suc (pin_count s held nodes time ds ps ms have)
+pub pin_count : (s : Task) (held : List Held) (sites : List Site) (exact : Bool) (time : ℕ) (ds ps nets : List ℕ) → HavePinNets s held sites exact time ds ps nets → length nets ≡ length ps
+pin_count s held sites exact time [] [] [] have = refl
+pin_count s held sites exact time [] [] (m ∷ ms) have = absurd have
+pin_count s held sites exact time [] (p ∷ ps) [] have = absurd have
+pin_count s held sites exact time [] (p ∷ ps) (m ∷ ms) have = absurd have
+pin_count s held sites exact time (d ∷ ds) [] [] have = absurd have
+pin_count s held sites exact time (d ∷ ds) [] (m ∷ ms) have = absurd have
+pin_count s held sites exact time (d ∷ ds) (p ∷ ps) [] have = absurd have
+pin_count s held sites exact time (d ∷ ds) (p ∷ ps) (m ∷ ms) (first, have) = ap suc (pin_count s held sites exact time ds ps ms have)
 
-module _ (s : Task) (nodes : List Held) (order places : List ℕ) (moved : IsPermutation (range_with_len 0 (length nodes)) order) (placed : ArePlaces order places) where
+module _ (s : Task) (sites : List Site) (order places : List ℕ) (moved : IsPermutation (range_with_len 0 (length sites)) order) (placed : ArePlaces order places) where
   abbrev m : ℕ
   m = length s.graph.leaves
 
-  abbrev none : Held
-  none = record { spot = record { class = 0; time = 0; area = 0 }; choice = 0; order = 0 }
+  abbrev pub no_site : Site
+  no_site = record { point = record { spot = record { class = 0; time = 0; area = 0 }; choice = 0; order = 0 }; exact = false }
 
-  abbrev node_at : ℕ → Held
-  node_at j = slice_index_or nodes j none
+  abbrev site_at : ℕ → Site
+  site_at j = slice_index_or sites j no_site
 
-  -- the nodes in this order
-  abbrev pub moved_nodes : List Held
-  moved_nodes = map node_at order
+  -- the sites in this order
+  abbrev pub moved_sites : List Site
+  moved_sites = map site_at order
 
-  pub node_in : (j : ℕ) (h : Held) → slice_get moved_nodes j ≡ Some h → (i : ℕ) × (slice_get order j ≡ Some i) × (slice_get nodes i ≡ Some h)
-  node_in j h at =
-      let (i, it, e) = map_get node_at order j h at in
-      let low = order_low (length nodes) order moved j 0 (get_in order j i it) in
+  pub site_in : (j : ℕ) (h : Site) → slice_get moved_sites j ≡ Some h → (i : ℕ) × (slice_get order j ≡ Some i) × (slice_get sites i ≡ Some h)
+  site_in j h at =
+      let (i, it, e) = map_get site_at order j h at in
+      let low = order_low (length sites) order moved j 0 (get_in order j i it) in
       let same = get_or_from_slice_get order j i 0 it in
-      (i, it, got nodes i none (omega (arith, low, same)) ∙ ap Some e)
+      (i, it, got sites i no_site (omega (arith, low, same)) ∙ ap Some e)
 
-  pub node_placed : (i : ℕ) (h : Held) → slice_get nodes i ≡ Some h → slice_get moved_nodes (slice_index_or places i 0) ≡ Some h
-  node_placed i h at =
-      let (in', e) = stands_there order places (length nodes) moved placed i (get_in nodes i h at) in
-      let long = order_length (length nodes) order moved in
+  pub site_placed : (i : ℕ) (h : Site) → slice_get sites i ≡ Some h → slice_get moved_sites (slice_index_or places i 0) ≡ Some h
+  site_placed i h at =
+      let (in', e) = stands_there order places (length sites) moved placed i (get_in sites i h at) in
+      let long = order_length (length sites) order moved in
       let p = slice_index_or places i 0 in
       let it : slice_get order p ≡ Some i = got order p 0 (omega (arith, in', long)) ∙ ap Some e in
-      get_map node_at order p i it ∙ ap Some (get_or_from_slice_get nodes i h none at)
+      get_map site_at order p i it ∙ ap Some (get_or_from_slice_get sites i h no_site at)
 
-  pub net_placed : (l : Held) (net : ℕ) → IsNetOfPoint s nodes l net → IsNetOfPoint s moved_nodes l (placed_net m places net)
-  net_placed l net (inl (at, start)) =
+  pub net_placed : (own : Bool) (l : Held) (net : ℕ) → IsNetOfPoint s sites own l net → IsNetOfPoint s moved_sites own l (placed_net m places net)
+  net_placed own l net (inl (at, start)) =
       let e = placed_input m places net (get_in s.graph.leaves net l.spot.class at) in
-      subst (IsNetOfPoint s moved_nodes l) (sym e) (inl (at, start))
-  net_placed l net (inr (other, j, at, e)) =
-      inr (other, slice_index_or places j 0, node_placed j l at, ap (placed_net m places) e ∙ placed_node m places j)
+      subst (IsNetOfPoint s moved_sites own l) (sym e) (inl (at, start))
+  net_placed own l net (inr (other, j, at, e)) =
+      inr (other, slice_index_or places j 0, site_placed j (record { point = l; exact = own }) at, ap (placed_net m places) e ∙ placed_node m places j)
 
-  pub pins_placed : (held : List Held) (time : ℕ) (ds ps nets : List ℕ) → HavePinNets s held nodes time ds ps nets → HavePinNets s held moved_nodes time ds ps (map (placed_net m places) nets)
-  pins_placed held time [] [] [] have = have
-  pins_placed held time [] [] (x ∷ xs) have = absurd have
-  pins_placed held time [] (p ∷ ps) [] have = absurd have
-  pins_placed held time [] (p ∷ ps) (x ∷ xs) have = absurd have
-  pins_placed held time (d ∷ ds) [] [] have = absurd have
-  pins_placed held time (d ∷ ds) [] (x ∷ xs) have = absurd have
-  pins_placed held time (d ∷ ds) (p ∷ ps) [] have = absurd have
-  pins_placed held time (d ∷ ds) (p ∷ ps) (x ∷ xs) ((l, is, net_of), have) =
-      ((l, is, net_placed l x net_of), pins_placed held time ds ps xs have)
+  pin_placed : (held : List Held) (exact : Bool) (c d time net : ℕ) → IsPinNet s held sites exact c d time net → IsPinNet s held moved_sites exact c d time (placed_net m places net)
+  pin_placed held exact c d time net pin = record {
+    point = pin.point;
+    own = pin.own;
+    by = pin.by;
+    net_of = net_placed pin.own pin.point net pin.net_of;
+    last = pin.last;
+  }
+
+  pub root_placed : (held : List Held) (c time net : ℕ) → IsRootNet s held sites c time net → IsRootNet s held moved_sites c time (placed_net m places net)
+  root_placed held c time net root = record {
+    exact = root.exact;
+    is = pin_placed held root.exact c 0 time net root.is;
+    cut = root.cut;
+  }
+
+  pub pins_placed : (held : List Held) (exact : Bool) (time : ℕ) (ds ps nets : List ℕ) → HavePinNets s held sites exact time ds ps nets → HavePinNets s held moved_sites exact time ds ps (map (placed_net m places) nets)
+  pins_placed held exact time [] [] [] have = have
+  pins_placed held exact time [] [] (x ∷ xs) have = absurd have
+  pins_placed held exact time [] (p ∷ ps) [] have = absurd have
+  pins_placed held exact time [] (p ∷ ps) (x ∷ xs) have = absurd have
+  pins_placed held exact time (d ∷ ds) [] [] have = absurd have
+  pins_placed held exact time (d ∷ ds) [] (x ∷ xs) have = absurd have
+  pins_placed held exact time (d ∷ ds) (p ∷ ps) [] have = absurd have
+  pins_placed held exact time (d ∷ ds) (p ∷ ps) (x ∷ xs) (pin, have) =
+      (pin_placed held exact p d time x pin, pins_placed held exact time ds ps xs have)
 
 -- what is below a bound by its number
 pub below_by : {X : Type 0} (f : X → ℕ) (b : ℕ) (xs : List X) → All (λ x. x < b) (map f xs) → All (λ x. f x < b) xs

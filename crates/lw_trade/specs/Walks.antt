@@ -1,18 +1,19 @@
 -- The points that get a gate, as a walk from the roots down finds them, and the nets of their pins.
-use Rattle.std.specs.Prelude.{ℕ, ◌+◌, ◌<◌, ◌≤◌, ◌≡◌, List, [], ◌∷◌, length, Option, Some, None, Contains, slice_get}
+use Rattle.std.specs.Prelude.{ℕ, ◌+◌, ◌<◌, ◌≤◌, ◌≡◌, Bool, false, List, [], ◌∷◌, length, Option, Some, None, Contains, slice_get}
 use Rattle.lw_pool.specs.declared.id.CellId.{CellId}
 use Rattle.lw_pool.specs.declared.id.ClassId.{ClassId}
 use Rattle.lw_fixed.specs.declared.micro.Micro.{Micro}
 use Rattle.lw_laws.specs.Graphs.{Graph}
 use Rattle.lw_genlib.specs.Cells.{CellParts}
 use Rattle.lw_dag.specs.Graphs.{fanins_at}
+use Rattle.lw_trade.specs.Areas.{most_area}
 use Rattle.lw_trade.specs.Backing.{Held, IsHeld}
 use Rattle.lw_trade.specs.Choices.{Choice}
 use Rattle.lw_trade.specs.Points.{Task, most_points}
 use Rattle.lw_trade.specs.declared.targets.Targets.{Targets}
 use Rattle.lw_trade.specs.Groups.{CurveLists}
 use Rattle.lw_trade.specs.Targets.{AreTargets, AreCurvesFor}
-use Rattle.lw_trade.specs.Trades.{IsLastBy, IsNetOfPoint, IsGateOfPoint}
+use Rattle.lw_trade.specs.Trades.{Site, IsLastBy, IsPinNet, IsGateOfPoint}
 
 -- one of the first inputs for each class that one of them has
 pub record AreInputsTo (g : Graph) (n : ℕ) (inputs : List (Option ℕ)) : Type 0 where
@@ -20,27 +21,33 @@ pub record AreInputsTo (g : Graph) (n : ℕ) (inputs : List (Option ℕ)) : Type
   pub some : (c i : ℕ) → slice_get inputs c ≡ Some (Some i) → slice_get g.leaves i ≡ Some c
   pub none : (c i : ℕ) → slice_get inputs c ≡ Some None → i < n → slice_get g.leaves i ≡ Some c → ⊥
 
--- for each root the net of the last point of its class by its time
-abbrev pub HaveRootNets : Task → List Held → List Held → List ClassId → List Micro → List ℕ → Type 0
-HaveRootNets s held nodes [] [] [] = Unit {0}
-HaveRootNets s held nodes (root ∷ roots) (time ∷ times) (net ∷ nets) =
-    ((l : Held) × IsLastBy held root.0 0 time.0 l × IsNetOfPoint s nodes l net) × HaveRootNets s held nodes roots times nets
-HaveRootNets s held nodes _ _ _ = ⊥
+-- The net of the last point of the class by the time, which is exact; or of any in time, where the last one has the greatest area that is told.
+pub record IsRootNet (s : Task) (held : List Held) (sites : List Site) (c time net : ℕ) : Type 0 where
+  pub exact : Bool
+  pub is : IsPinNet s held sites exact c 0 time net
+  pub cut : exact ≡ false → (l : Held) × IsLastBy held c 0 time l × (most_area ≤ l.spot.area)
+
+-- for each root such a net of its class by its time
+abbrev pub HaveRootNets : Task → List Held → List Site → List ClassId → List Micro → List ℕ → Type 0
+HaveRootNets s held sites [] [] [] = Unit {0}
+HaveRootNets s held sites (root ∷ roots) (time ∷ times) (net ∷ nets) =
+    IsRootNet s held sites root.0 time.0 net × HaveRootNets s held sites roots times nets
+HaveRootNets s held sites _ _ _ = ⊥
 
 -- the net is a root's, or a pin's of a node whose net is such a one
 pub data IsUsed (inputs : ℕ) (graph : List (List ℕ)) (roots : List ℕ) : ℕ → Type 0 where
   by_root : {net : ℕ} → Contains roots net → IsUsed inputs graph roots net
   by_pin : (j : ℕ) {net : ℕ} → IsUsed inputs graph roots (inputs + j) → Contains (fanins_at graph j) net → IsUsed inputs graph roots net
 
--- Each node is a point, none twice, with the cell of its choice and the nets of its pins; and it is used.
-pub record IsWalk (s : Task) (choices : List Choice) (held nodes : List Held) (roots : List ClassId) (times : List Micro) (cells : List CellId) (graph : List (List ℕ)) (nets : List ℕ) : Type 0 where
-  pub one_cell : length cells ≡ length nodes
-  pub one_row : length graph ≡ length nodes
-  pub few : length nodes ≤ most_points
-  pub are : (h : Held) → IsHeld nodes h → IsHeld held h
-  pub once : (i j : ℕ) (h : Held) → slice_get nodes i ≡ Some h → slice_get nodes j ≡ Some h → i ≡ j
-  pub gates : (j : ℕ) (h : Held) (cell : CellId) → slice_get nodes j ≡ Some h → slice_get cells j ≡ Some cell → IsGateOfPoint s choices held nodes h (record { cell = cell.0; pins = fanins_at graph j })
-  pub root_nets : HaveRootNets s held nodes roots times nets
+-- Each site is a point, none twice as exact or as shared, with the cell of its choice and the nets of its pins; and it is used.
+pub record IsWalk (s : Task) (choices : List Choice) (held : List Held) (sites : List Site) (roots : List ClassId) (times : List Micro) (cells : List CellId) (graph : List (List ℕ)) (nets : List ℕ) : Type 0 where
+  pub one_cell : length cells ≡ length sites
+  pub one_row : length graph ≡ length sites
+  pub few : length sites ≤ most_points
+  pub are : (j : ℕ) (site : Site) → slice_get sites j ≡ Some site → IsHeld held site.point
+  pub once : (i j : ℕ) (site : Site) → slice_get sites i ≡ Some site → slice_get sites j ≡ Some site → i ≡ j
+  pub gates : (j : ℕ) (site : Site) (cell : CellId) → slice_get sites j ≡ Some site → slice_get cells j ≡ Some cell → IsGateOfPoint s choices held sites site (record { cell = cell.0; pins = fanins_at graph j })
+  pub root_nets : HaveRootNets s held sites roots times nets
   pub used : (j : ℕ) → j < length graph → IsUsed (length s.graph.leaves) graph nets (length s.graph.leaves + j)
 
 -- the curves are those of some task over this graph and these cells, for some targets with these roots and times

@@ -1,7 +1,8 @@
 // What a walk has found, looked through.
-ghost use Rattle.std.specs.Prelude.{◌≡◌, ◌+◌, ◌<◌, IsTrue, length};
-ghost use Rattle.lw_trade.specs.Checks.{ArePinsRight, AreRootsRight, IsNetBy, IsGateRight, IsNodeRight, IsOwned, IsRightWalk, IsUsedEarlier};
+ghost use Rattle.std.specs.Prelude.{◌≡◌, ◌+◌, ◌<◌, ◌≤◌, IsFalse, IsTrue, length};
+ghost use Rattle.lw_trade.specs.Checks.{ArePinsRight, AreRootsRight, IsCut, IsNetBy, IsGateRight, IsNodeRight, IsOwned, IsRightWalk, IsRootBy, IsSpare, IsUsedEarlier};
 
+use crate::bisecting::last_by;
 use crate::choices::Stand;
 use crate::grouping::Curves;
 use crate::walking::{Node, Trail, User, Walk};
@@ -9,12 +10,49 @@ use lw_fixed::Micro;
 use lw_genlib::Library;
 use lw_pool::{CellId, ClassId, Numbers};
 
-// Whether the net is that of the last point of a class by a time, with a delay.
+// The greatest area that is told.
+const MOST_AREA: u64 = 4_611_686_018_427_387_904;
+
+/// Whether the last point of a class by a time has the greatest area that is told.
+pub(crate) fn is_cut(curves: &Curves, classes: usize, class: ClassId, time: u64) -> bool
+    requires { classes ≡ length curves.now.points }
+    ensures { IsTrue result → IsCut curves.now.points class.0 time }
+{
+    if class.0 as usize >= classes {
+        return false;
+    }
+    let points = curves.of(class);
+    let Some(place) = last_by(points, 0, time) else {
+        return false;
+    };
+    if points[place].area < MOST_AREA {
+        return false;
+    }
+    true
+}
+
+// Whether a node is an exact one at a place, or for a shared use any one there or before.
+fn is_at(node: Node, exact: bool, place: usize) -> bool
+    ensures no_later { IsTrue result → node.place ≤ place }
+    ensures own { IsTrue result → IsTrue exact → IsTrue node.exact }
+    ensures last { IsTrue result → IsTrue exact → node.place ≡ place }
+{
+    let own = node.place as usize;
+    if exact {
+        node.exact && own == place
+    } else {
+        own <= place
+    }
+}
+
+// Whether the net is that of a point of a class by a time, with a delay: for an exact use that of
+// the last one.
 fn is_net(
     curves: &Curves,
     inputs: &[Option<u32>],
     count: u32,
     nodes: &[Node],
+    exact: bool,
     class: ClassId,
     delay: u64,
     time: u64,
@@ -22,7 +60,7 @@ fn is_net(
 ) -> bool
     requires { length inputs.now ≡ length curves.now.points }
     ensures { IsTrue result →
-        IsNetBy curves.now.points inputs.now count nodes.now class.0 delay time net }
+        IsNetBy curves.now.points inputs.now count nodes.now exact class.0 delay time net }
 {
     if class.0 as usize >= inputs.len() {
         return false;
@@ -40,13 +78,36 @@ fn is_net(
         return false;
     }
     let node = nodes[(net - count) as usize];
-    if node.class.0 != class.0 || node.place as usize != place {
+    if node.class.0 != class.0 || !is_at(node, exact, place) {
         return false;
     }
     true
 }
 
-// Whether the nets of roots are those of their classes' last points by their times.
+// Whether the net is that of a root's last point by its time, or of any by then where that is cut.
+fn is_root(
+    curves: &Curves,
+    inputs: &[Option<u32>],
+    count: u32,
+    nodes: &[Node],
+    class: ClassId,
+    time: u64,
+    net: u32,
+) -> bool
+    requires { length inputs.now ≡ length curves.now.points }
+    ensures { IsTrue result → IsRootBy curves.now.points inputs.now count nodes.now class.0 time
+        net }
+{
+    if is_net(curves, inputs, count, nodes, true, class, 0, time, net) {
+        return true;
+    }
+    if !is_cut(curves, inputs.len(), class, time) {
+        return false;
+    }
+    is_net(curves, inputs, count, nodes, false, class, 0, time, net)
+}
+
+// Whether the nets of roots are right, each by its time.
 fn are_roots(
     curves: &Curves,
     inputs: &[Option<u32>],
@@ -64,28 +125,27 @@ fn are_roots(
         return false;
     }
     for k in 0..roots.len() {
-        if !is_net(
-            curves, inputs, count, nodes, roots[k], 0, times[k].0, nets[k],
-        ) {
+        if !is_root(curves, inputs, count, nodes, roots[k], times[k].0, nets[k]) {
             return false;
         }
     }
     true
 }
 
-// Whether the nets of pins are those of their classes' last points by a time, with their delays.
+// Whether the nets of pins are right by a time, with their delays, for an exact use or a shared one.
 fn are_pins(
     curves: &Curves,
     inputs: &[Option<u32>],
     count: u32,
     nodes: &[Node],
+    exact: bool,
     pins: &[ClassId],
     delays: &[Micro],
     time: u64,
     nets: &[u32],
 ) -> bool
     requires { length inputs.now ≡ length curves.now.points }
-    ensures { IsTrue result → ArePinsRight curves.now.points inputs.now count nodes.now time
+    ensures { IsTrue result → ArePinsRight curves.now.points inputs.now count nodes.now exact time
         pins.now delays.now nets.now }
 {
     if nets.len() != pins.len() || delays.len() != pins.len() {
@@ -97,6 +157,7 @@ fn are_pins(
             inputs,
             count,
             nodes,
+            exact,
             pins[k],
             delays[k].0,
             time,
@@ -136,7 +197,9 @@ fn is_node(
         Some(Stand::Gate(gate)) if gate.cell.0 == cell.0 => {
             let delays = lib.cell(cell).delays();
             let (pins, time) = (gate.pins.as_slice(), points[place].time.0);
-            are_pins(curves, inputs, count, nodes, pins, delays, time, nets)
+            are_pins(
+                curves, inputs, count, nodes, node.exact, pins, delays, time, nets,
+            )
         }
         _ => false,
     }
@@ -165,7 +228,7 @@ fn is_used(count: u32, pins: &[Numbers], nets: &[u32], user: User, number: usize
     place < row.len() && is_of_gate(count, row[place], number)
 }
 
-// Whether the gate of a point has a number.
+// Whether the exact gate of a point has a number.
 fn is_owned(owners: &[Vec<u32>], node: Node, number: usize) -> bool
     ensures { IsTrue result → IsOwned owners.now node number }
 {
@@ -179,6 +242,30 @@ fn is_owned(owners: &[Vec<u32>], node: Node, number: usize) -> bool
         return false;
     }
     true
+}
+
+// Whether the shared gate of a class has a number.
+fn is_spare(spares: &[u32], node: Node, number: usize) -> bool
+    ensures { IsTrue result → IsSpare spares.now node number }
+{
+    let class = node.class.0 as usize;
+    if class >= spares.len() || spares[class] as usize != number {
+        return false;
+    }
+    true
+}
+
+// Whether no other gate stands at the point of a node for the same use.
+fn is_own(trail: &Trail, node: Node, number: usize) -> bool
+    ensures exact { IsTrue result → IsTrue node.exact → IsOwned trail.now.owners.items node number }
+    ensures shared { IsTrue result → IsFalse node.exact → IsSpare trail.now.spares.items node
+        number }
+{
+    if node.exact {
+        is_owned(&trail.owners, node, number)
+    } else {
+        is_spare(&trail.spares, node, number)
+    }
 }
 
 // Whether the gate with a number is right.
@@ -198,14 +285,14 @@ fn is_gate(
     requires cell { number < length walk.now.cells.items }
     requires row { number < length walk.now.pins.items }
     ensures { IsTrue result → IsGateRight curves.now inputs.now count lib.now trail.now.nodes.items
-        trail.now.owners.items walk.now.cells.items walk.now.pins.items walk.now.nets.items
-        number }
+        trail.now.owners.items trail.now.spares.items walk.now.cells.items walk.now.pins.items
+        walk.now.nets.items number }
 {
     let (nodes, pins) = (trail.nodes.as_slice(), walk.pins.as_slice());
     let (node, cell, nets) = (nodes[number], walk.cells[number], pins[number].as_slice());
     if !is_node(curves, inputs, count, lib, nodes, node, cell, nets)
         || !is_used(count, pins, &walk.nets, trail.users[number], number)
-        || !is_owned(&trail.owners, node, number)
+        || !is_own(trail, node, number)
     {
         return false;
     }
@@ -227,8 +314,8 @@ pub(crate) fn is_right(
     requires inputs { length inputs.now ≡ length curves.now.points }
     requires ways { length curves.now.ways ≡ length curves.now.points }
     ensures { IsTrue result → IsRightWalk curves.now inputs.now count lib.now roots.now times.now
-        trail.now.nodes.items trail.now.owners.items walk.now.cells.items walk.now.pins.items
-        walk.now.nets.items }
+        trail.now.nodes.items trail.now.owners.items trail.now.spares.items walk.now.cells.items
+        walk.now.pins.items walk.now.nets.items }
 {
     let _ = lib.len();
     let nodes = trail.nodes.as_slice();

@@ -23,6 +23,7 @@ mod pricing;
 mod queue;
 mod seeing;
 mod settling;
+mod sharing;
 mod starting;
 mod tallies;
 mod targets;

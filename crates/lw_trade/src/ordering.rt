@@ -4,12 +4,12 @@ ghost use Rattle.std.specs.List.{range_with_len};
 ghost use Rattle.std.specs.List.Sorted.{IsPermutation};
 ghost use Rattle.lw_dag.specs.Graphs.{IsGraph, fanins_at, most_signals};
 ghost use Rattle.lw_genlib.specs.Cells.{IsLibrary};
-ghost use Rattle.lw_trade.specs.Backing.{Held};
 ghost use Rattle.lw_trade.specs.Groups.{CurveLists};
 ghost use Rattle.lw_trade.specs.Placed.{ArePlaces, HaveHeights, IsByHeight, placed_gate, placed_net};
 ghost use Rattle.lw_trade.specs.Points.{Task};
 ghost use Rattle.lw_trade.specs.Targets.{AreCurvesFor, AreTargets};
 ghost use Rattle.lw_trade.specs.Traded.{IsTraded, port_net};
+ghost use Rattle.lw_trade.specs.Trades.{Site};
 ghost use Rattle.lw_trade.specs.Walks.{IsWalk};
 ghost use Rattle.lw_pool.specs.Numbers.{numbers};
 ghost use Rattle.lw_netlist.specs.Plain.{port_name};
@@ -174,13 +174,13 @@ pub(crate) fn assemble(
     targets: &Targets,
 ) -> Result<Netlist, AllocError>
     requires walk { (s : Task) × (curves : CurveLists) × (c : AreCurvesFor s targets.now curves) ×
-        (nodes : List Held) × AreTargets s.graph targets.now × (length s.graph.leaves ≡ inputs) ×
-        IsWalk s curves.choices c.ways.held nodes targets.now.roots targets.now.times
+        (sites : List Site) × AreTargets s.graph targets.now × (length s.graph.leaves ≡ inputs) ×
+        IsWalk s curves.choices c.ways.held sites targets.now.roots targets.now.times
         walk.now.cells.items walk.now.pins.items walk.now.nets.items }
     ensures { IfOk result (λ n. (s : Task) (curves : CurveLists)
-        (c : AreCurvesFor s targets.now curves) (nodes : List Held) →
+        (c : AreCurvesFor s targets.now curves) (sites : List Site) →
         IsLibrary s.cells → AreTargets s.graph targets.now → (length s.graph.leaves ≡ inputs) →
-        IsWalk s curves.choices c.ways.held nodes targets.now.roots targets.now.times
+        IsWalk s curves.choices c.ways.held sites targets.now.roots targets.now.times
         walk.now.cells.items walk.now.pins.items walk.now.nets.items → IsTraded s targets.now n) }
 {
     let order = by_depth(alloc, inputs as usize, &walk.pins)?;

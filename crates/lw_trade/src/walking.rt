@@ -1,14 +1,15 @@
 // The points that get a gate, as a walk from the roots down finds them.
 ghost use Rattle.std.specs.Prelude.{◌≡◌, ◌<◌, IfOk, List, length};
-ghost use Rattle.lw_trade.specs.Backing.{Held};
 ghost use Rattle.lw_trade.specs.Points.{Task};
 ghost use Rattle.lw_trade.specs.Targets.{AreCurvesFor};
+ghost use Rattle.lw_trade.specs.Trades.{Site};
 ghost use Rattle.lw_trade.specs.Walks.{AreInputsTo, IsWalk, IsReady};
 ghost use Rattle.lw_trade.specs.declared.targets.Targets.{Targets as PlainTargets};
 
-use crate::checking::is_right;
+use crate::checking::{is_cut, is_right};
 use crate::choices::{Gate, Stand};
 use crate::grouping::Curves;
+use crate::sharing::shared_places;
 use lw_fixed::Micro;
 use lw_genlib::Library;
 use lw_graph::Graph;
@@ -24,11 +25,13 @@ pub(crate) struct Walk {
     pub nets: Vec<u32>,
 }
 
-/// A point that gets a gate: its class, and its place among the points of the class.
+/// A point that gets a gate: its class, and its place among the points of the class. An exact gate
+/// has the area of the point, a shared one has only to come by its time.
 #[derive(Clone, Copy, Debug)]
 pub(crate) struct Node {
     pub class: ClassId,
     pub place: u32,
+    pub exact: bool,
 }
 
 /// What uses the net of a gate: the pin of a gate at a place, or the root where there is no gate.
@@ -38,17 +41,31 @@ pub(crate) struct User {
     pub place: u32,
 }
 
-/// The points that get a gate, what uses the net of each first, and the gate of each point of each
-/// class.
+/// The points that get a gate, what uses the net of each first, the exact gate of each point of
+/// each class, the shared gate of each class, and the place of the point that shared uses take.
 #[derive(Drop)]
 pub(crate) struct Trail {
     pub nodes: Vec<Node>,
     pub users: Vec<User>,
     pub owners: Vec<Vec<u32>>,
+    pub spares: Vec<u32>,
+    pub places: Vec<u32>,
 }
 
-// The gate of a point that has none.
-const NO_GATE: u32 = u32::MAX;
+// What a pin or a root uses: a class by a time, with a delay, by an exact gate or a shared one.
+#[derive(Clone, Copy, Debug)]
+struct Want {
+    class: ClassId,
+    delay: u64,
+    time: u64,
+    exact: bool,
+}
+
+/// The gate of a point that has none.
+pub(crate) const NO_GATE: u32 = u32::MAX;
+
+// How many gates there are at most.
+const MOST_GATES: usize = 8_000_000;
 
 // The input of each class.
 fn inputs_of(alloc: Global, graph: &Graph) -> Result<Vec<Option<u32>>, AllocError>
@@ -74,16 +91,38 @@ fn no_trail(alloc: Global, curves: &Curves, classes: u32) -> Result<Trail, Alloc
         nodes: Vec::new(alloc),
         users: Vec::new(alloc),
         owners,
+        spares: vec![in alloc; NO_GATE; classes as usize]?,
+        places: vec![in alloc; NO_GATE; classes as usize]?,
     })
+}
+
+// The gate of a point, if it has one: for a shared use its exact gate, or the class's shared one.
+fn gate_of_node(trail: &Trail, node: Node) -> Option<u32> {
+    let row = trail.owners.get(node.class.0 as usize)?;
+    let own = *row.get(node.place as usize)?;
+    if node.exact || own != NO_GATE {
+        return Some(own);
+    }
+    Some(*trail.spares.get(node.class.0 as usize)?)
+}
+
+// Notes the gate of a point.
+fn note_gate(trail: &mut Trail, node: Node, gate: u32) {
+    let (class, place) = (node.class.0 as usize, node.place as usize);
+    if !node.exact {
+        if class < trail.spares.len() {
+            trail.spares[class] = gate;
+        }
+    } else if class < trail.owners.len() && place < trail.owners[class].len() {
+        trail.owners[class][place] = gate;
+    }
 }
 
 // The gate of a point, which a user is the first to use where it has none.
 fn gate_at(trail: &mut Trail, node: Node, user: User) -> Result<u32, AllocError> {
-    let (class, place) = (node.class.0 as usize, node.place as usize);
-    if class >= trail.owners.len() || place >= trail.owners[class].len() {
+    let Some(gate) = gate_of_node(trail, node) else {
         return Err(AllocError);
-    }
-    let gate = trail.owners[class][place];
+    };
     if gate != NO_GATE {
         return Ok(gate);
     }
@@ -92,43 +131,62 @@ fn gate_at(trail: &mut Trail, node: Node, user: User) -> Result<u32, AllocError>
     };
     trail.nodes.push(node)?;
     trail.users.push(user)?;
-    trail.owners[class][place] = gate;
+    note_gate(trail, node, gate);
     Ok(gate)
 }
 
-// The net of a class by a time, with a delay: that of its input, or of its last point.
-fn net_by(
+// The point that is wanted: the last one by the time, or for a shared use that of its class.
+fn node_for(curves: &Curves, trail: &Trail, want: Want) -> Option<Node>
+    requires { want.class.0 < length curves.now.points }
+{
+    let (class, exact) = (want.class, want.exact);
+    if !exact {
+        let place = *trail.places.get(class.0 as usize)?;
+        return Some(Node {
+            class,
+            place,
+            exact,
+        });
+    }
+    let last = curves.last_by(class, want.delay, want.time)?;
+    let Ok(place) = u32::try_from(last) else {
+        return None;
+    };
+    Some(Node {
+        class,
+        place,
+        exact,
+    })
+}
+
+// The net that is wanted: that of the input of the class, or of a point's gate.
+fn net_for(
     curves: &Curves,
     inputs: &[Option<u32>],
     count: u32,
     trail: &mut Trail,
-    class: ClassId,
-    delay: u64,
-    time: u64,
+    want: Want,
     user: User,
 ) -> Result<u32, AllocError>
     requires { length inputs.now ≡ length curves.now.points }
 {
-    if class.0 as usize >= inputs.len() {
+    if want.class.0 as usize >= inputs.len() {
         return Err(AllocError);
     }
-    if let Some(input) = inputs[class.0 as usize] {
+    if let Some(input) = inputs[want.class.0 as usize] {
         return Ok(input);
     }
-    let Some(place) = curves.last_by(class, delay, time) else {
+    let Some(node) = node_for(curves, trail, want) else {
         return Err(AllocError);
     };
-    let Ok(place) = u32::try_from(place) else {
-        return Err(AllocError);
-    };
-    let gate = gate_at(trail, Node { class, place }, user)?;
+    let gate = gate_at(trail, node, user)?;
     match count.checked_add(gate) {
         Some(net) => Ok(net),
         None => Err(AllocError),
     }
 }
 
-// The nets of the roots.
+// The nets of the roots, of which those that are cut may share gates.
 fn nets_of_roots(
     alloc: Global,
     curves: &Curves,
@@ -137,6 +195,7 @@ fn nets_of_roots(
     trail: &mut Trail,
     roots: &[ClassId],
     times: &[Micro],
+    sharing: bool,
 ) -> Result<Vec<u32>, AllocError>
     requires inputs { length inputs.now ≡ length curves.now.points }
     requires times { length times.now ≡ length roots.now }
@@ -147,9 +206,45 @@ fn nets_of_roots(
             return Err(AllocError);
         };
         let user = User { gate: None, place };
-        nets.push(net_by(curves, inputs, count, trail, *root, 0, times[k].0, user)?)?;
+        let want = Want {
+            class: *root,
+            delay: 0,
+            time: times[k].0,
+            exact: !sharing || !is_cut(curves, inputs.len(), *root, times[k].0),
+        };
+        nets.push(net_for(curves, inputs, count, trail, want, user)?)?;
     }
     Ok(nets)
+}
+
+// Finds the exact gates of the roots whose last points by their times are not cut.
+fn start_at_roots(
+    curves: &Curves,
+    inputs: &[Option<u32>],
+    count: u32,
+    trail: &mut Trail,
+    roots: &[ClassId],
+    times: &[Micro],
+) -> Result<(), AllocError>
+    requires inputs { length inputs.now ≡ length curves.now.points }
+    requires times { length times.now ≡ length roots.now }
+{
+    for (k, root) in roots.iter().enumerate() {
+        let Ok(place) = u32::try_from(k) else {
+            return Err(AllocError);
+        };
+        if !is_cut(curves, inputs.len(), *root, times[k].0) {
+            let user = User { gate: None, place };
+            let want = Want {
+                class: *root,
+                delay: 0,
+                time: times[k].0,
+                exact: true,
+            };
+            net_for(curves, inputs, count, trail, want, user)?;
+        }
+    }
+    Ok(())
 }
 
 // The nets of the pins of a gate with a number, whose point has a time.
@@ -162,6 +257,7 @@ fn nets_of_pins(
     delays: &[Micro],
     pins: &[ClassId],
     time: u64,
+    exact: bool,
     number: u32,
 ) -> Result<Numbers, AllocError>
     requires { length inputs.now ≡ length curves.now.points }
@@ -178,22 +274,19 @@ fn nets_of_pins(
             gate: Some(number),
             place,
         };
-        nets.push(net_by(
-            curves,
-            inputs,
-            count,
-            trail,
-            *class,
-            delays[pin].0,
+        let want = Want {
+            class: *class,
+            delay: delays[pin].0,
             time,
-            user,
-        )?)?;
+            exact,
+        };
+        nets.push(net_for(curves, inputs, count, trail, want, user)?)?;
     }
     Ok(Numbers::new(nets))
 }
 
-// The gate of a point, and the time of the point.
-fn gate_of(curves: &Curves, inputs: usize, node: Node) -> Option<(&Gate, u64)>
+/// The gate of a point, and the time of the point.
+pub(crate) fn gate_of(curves: &Curves, inputs: usize, node: Node) -> Option<(&Gate, u64)>
     requires inputs { inputs ≡ length curves.now.points }
     requires ways { length curves.now.ways ≡ length curves.now.points }
 {
@@ -225,7 +318,8 @@ fn go_through(
     requires ways { length curves.now.ways ≡ length curves.now.points }
     requires at { at < length trail.old.nodes.items }
 {
-    let Some((gate, time)) = gate_of(curves, inputs.len(), trail.nodes[at]) else {
+    let node = trail.nodes[at];
+    let Some((gate, time)) = gate_of(curves, inputs.len(), node) else {
         return Err(AllocError);
     };
     if gate.cell.0 >= lib.len() {
@@ -236,12 +330,12 @@ fn go_through(
     };
     let (delays, pins) = (lib.cell(gate.cell).delays(), gate.pins.as_slice());
     let row = nets_of_pins(
-        alloc, curves, inputs, count, trail, delays, pins, time, number,
+        alloc, curves, inputs, count, trail, delays, pins, time, node.exact, number,
     )?;
     Ok((gate.cell, row))
 }
 
-// Goes on to the pins of each gate that was found.
+// Goes on to the pins of each gate that was found and not yet gone through.
 fn walk_on(
     alloc: Global,
     curves: &Curves,
@@ -249,27 +343,101 @@ fn walk_on(
     count: u32,
     lib: &Library,
     trail: &mut Trail,
-    nets: Vec<u32>,
-) -> Result<Walk, AllocError>
+    walk: &mut Walk,
+) -> Result<(), AllocError>
     requires inputs { length inputs.now ≡ length curves.now.points }
     requires ways { length curves.now.ways ≡ length curves.now.points }
 {
-    let (mut cells, mut pins) = (Vec::new(alloc), Vec::new(alloc));
-    for at in 0..curves.points() {
+    for at in walk.cells.len()..MOST_GATES {
         if at >= trail.nodes.len() {
             break;
         }
         let (cell, row) = go_through(alloc, curves, inputs, count, lib, trail, at)?;
-        cells.push(cell)?;
-        pins.push(row)?;
+        walk.cells.push(cell)?;
+        walk.pins.push(row)?;
     }
-    Ok(Walk { cells, pins, nets })
+    Ok(())
+}
+
+// Walks from the roots that are not cut, and then chooses the points that the others share.
+fn walk_first(
+    alloc: Global,
+    curves: &Curves,
+    inputs: &[Option<u32>],
+    count: u32,
+    lib: &Library,
+    trail: &mut Trail,
+    walk: &mut Walk,
+    roots: &[ClassId],
+    times: &[Micro],
+) -> Result<(), AllocError>
+    requires inputs { length inputs.now ≡ length curves.now.points }
+    requires ways { length curves.now.ways ≡ length curves.now.points }
+    requires times { length times.now ≡ length roots.now }
+{
+    start_at_roots(curves, inputs, count, trail, roots, times)?;
+    walk_on(alloc, curves, inputs, count, lib, trail, walk)?;
+    trail.places = shared_places(alloc, curves, inputs, lib, &trail.owners, roots, times)?;
+    Ok(())
+}
+
+// Walks from the roots down, of which those that are cut may share gates. What was found is looked
+// through once more, so that the walk itself need not be known to be right.
+fn walk_by(
+    alloc: Global,
+    graph: &Graph,
+    inputs: &[Option<u32>],
+    lib: &Library,
+    curves: &Curves,
+    roots: &[ClassId],
+    times: &[Micro],
+    sharing: bool,
+) -> Result<Walk, AllocError>
+    requires ready { IsReady graph.now lib.now roots.now times.now curves.now }
+    requires inputs { AreInputsTo graph.now (length graph.now.leaves) inputs.now }
+    ensures { IfOk result (λ w. (s : Task) (t : PlainTargets) (c : AreCurvesFor s t curves.now) →
+        s.graph ≡ graph.now → s.cells ≡ lib.now → t.roots ≡ roots.now → t.times ≡ times.now →
+        (sites : List Site) × IsWalk s curves.now.choices c.ways.held sites roots.now times.now
+        w.cells.items w.pins.items w.nets.items) }
+{
+    let count = graph.inputs();
+    let mut trail = no_trail(alloc, curves, graph.classes())?;
+    let mut walk = Walk {
+        cells: Vec::new(alloc),
+        pins: Vec::new(alloc),
+        nets: Vec::new(alloc),
+    };
+    if sharing {
+        walk_first(
+            alloc, curves, inputs, count, lib, &mut trail, &mut walk, roots, times,
+        )?;
+    }
+    walk.nets = nets_of_roots(
+        alloc, curves, inputs, count, &mut trail, roots, times, sharing,
+    )?;
+    walk_on(alloc, curves, inputs, count, lib, &mut trail, &mut walk)?;
+    if is_right(curves, inputs, count, lib, &trail, &walk, roots, times) {
+        return Ok(walk);
+    }
+    Err(AllocError)
+}
+
+// Whether a root is cut.
+fn has_cut(curves: &Curves, classes: usize, roots: &[ClassId], times: &[Micro]) -> bool
+    requires { classes ≡ length curves.now.points }
+{
+    for (root, time) in roots.iter().zip(times) {
+        if is_cut(curves, classes, *root, time.0) {
+            return true;
+        }
+    }
+    false
 }
 
 /// Walks from the roots down: each root takes the last point of its class by its time, and each
 /// pin of the gate of a point the last point of the pin's class by the point's time, less the
-/// delay of the pin. What was found is looked through once more, so that the walk itself need not
-/// be known to be right.
+/// delay of the pin. But a root whose last point has the greatest area that is told takes any
+/// point in time, and shares gates. Where that fails, no root does.
 pub(crate) fn walk_down(
     alloc: Global,
     graph: &Graph,
@@ -281,16 +449,14 @@ pub(crate) fn walk_down(
     requires ready { IsReady graph.now lib.now roots.now times.now curves.now }
     ensures { IfOk result (λ w. (s : Task) (t : PlainTargets) (c : AreCurvesFor s t curves.now) →
         s.graph ≡ graph.now → s.cells ≡ lib.now → t.roots ≡ roots.now → t.times ≡ times.now →
-        (nodes : List Held) × IsWalk s curves.now.choices c.ways.held nodes roots.now times.now
+        (sites : List Site) × IsWalk s curves.now.choices c.ways.held sites roots.now times.now
         w.cells.items w.pins.items w.nets.items) }
 {
-    let count = graph.inputs();
     let inputs = inputs_of(alloc, graph)?;
-    let mut trail = no_trail(alloc, curves, graph.classes())?;
-    let nets = nets_of_roots(alloc, curves, &inputs, count, &mut trail, roots, times)?;
-    let walk = walk_on(alloc, curves, &inputs, count, lib, &mut trail, nets)?;
-    if is_right(curves, &inputs, count, lib, &trail, &walk, roots, times) {
-        return Ok(walk);
+    if has_cut(curves, inputs.len(), roots, times) {
+        if let Ok(walk) = walk_by(alloc, graph, &inputs, lib, curves, roots, times, true) {
+            return Ok(walk);
+        }
     }
-    Err(AllocError)
+    walk_by(alloc, graph, &inputs, lib, curves, roots, times, false)
 }

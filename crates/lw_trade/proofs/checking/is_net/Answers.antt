@@ -1,7 +1,11 @@
-use Rattle.std.proofs.Common.{◌≡◌, ◌-◌, inl, inr, Some, None, slice_index_or, ap, sym, ◌∙◌, subst, arith}
+use Rattle.std.proofs.Common.{◌≡◌, ◌-◌, false, inl, inr, Some, None, slice_index_or, ap, sym, ◌∙◌, subst, arith}
+use Rattle.lw_trade.specs.declared.walking.Node.{Node}
 use Rattle.lw_trade.specs.Lasts.{IsLastPlace}
 use Rattle.lw_trade.proofs.Lists.{get_some, got}
 use Rattle.lw_trade.proofs.checking.is_net.Goals as goal
+
+abbrev no_node : Node
+no_node = record { class = record { 0 = 0 }; place = 0; exact = false }
 
 pub returns-in-Some-inputs : goal.returns-in-Some-inputs
 returns-in-Some-inputs c = λ yes.
@@ -27,10 +31,14 @@ returns c = λ yes.
       right = inr (
         got c.args.inputs.now c.args.class.0 None (omega (arith, c.if-class-inputs.false)) ∙ ap Some c.in_default-inputs.is,
         gate,
-        slice_index_or c.args.nodes.now gate (record { class = record { 0 = 0 }; place = 0 }),
-        got c.args.nodes.now gate (record { class = record { 0 = 0 }; place = 0 }) (omega (arith, c.if-net-count-2.false)),
-        c.if-node-class.false,
-        c.if-node-place.false,
+        record {
+          node = slice_index_or c.args.nodes.now gate no_node;
+          at = got c.args.nodes.now gate no_node (omega (arith, c.if-net-count-2.false));
+          class_is = c.if-node-class.false;
+          no_later = c.is_at.ensures.no_later c.if-not-is_at.false;
+          own = c.is_at.ensures.own c.if-not-is_at.false;
+          last = c.is_at.ensures.last c.if-not-is_at.false;
+        },
         omega (arith, c.if-net-count.false),
       );
     }
