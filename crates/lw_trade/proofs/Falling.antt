@@ -15,7 +15,7 @@ use Rattle.lw_trade.specs.Looks.{AreMembersListed, IsBetween}
 use Rattle.lw_trade.specs.Points.{Task, timing}
 use Rattle.lw_trade.specs.Rows.{plain_row, plain_rows}
 use Rattle.lw_trade.specs.Seen.{seen_at, sum_seen}
-use Rattle.lw_trade.specs.Tallies.{AreFirstTallies, AreTallies, HasFallen, IsFirstTally, IsLowered, first_of, own_area, pin_count, unseen}
+use Rattle.lw_trade.specs.Tallies.{AreFirstTallies, AreTallies, HasFallen, IsFirstTally, IsLowered, bound_of, first_of, own_area, pin_count, unseen}
 use Rattle.lw_trade.specs.Uses.{AreUses, HasUse}
 use Rattle.lw_trade.proofs.Lists.{get_in, get_some, push_cases, set_cases}
 
@@ -112,7 +112,7 @@ sum_seen_told groups seen first (suc n) = ap (λ m. seen_at groups seen first + 
 pub record IsTold (cells : List CellParts) (u : Uses) (told : ℕ → ℕ) (n : ℕ) (x : Choice) (t : Tally) : Type 0 where
   pub class_is : t.class.0 ≡ x.class
   pub few : pin_count x.part ≤ 16
-  pub low : t.bound ≤ own_area cells x.part + sum_told told (first_of u n) (pin_count x.part)
+  pub low : bound_of t ≤ own_area cells x.part + sum_told told (first_of u n) (pin_count x.part)
 
 -- The bounds of the pins before a place fell: what is told of a pin is what its group has seen, or more by the fall where it still has to fall.
 pub record IsFalling (cells : List CellParts) (choices : List Choice) (u : Uses) (fallen : List ℕ) (fall : ℕ) (places : List ℕ) (at end : ℕ) (tallies : List Tally) : Type 0 where
@@ -127,15 +127,15 @@ lowered_none tallies number fall past = record {
   each = λ n t at. let lt = get_in tallies n t at in inr ((λ e. absurd (omega (arith, e, lt, past))), at);
 }
 
-pub lowered_set : (tallies : List Tally) (number fall : ℕ) (o t : Tally) → slice_get tallies number ≡ Some o → t.class.0 ≡ o.class.0 → t.bound ≤ o.bound - fall → IsLowered tallies (slice_set tallies number t) number fall
+pub lowered_set : (tallies : List Tally) (number fall : ℕ) (o t : Tally) → slice_get tallies number ≡ Some o → t.class.0 ≡ o.class.0 → bound_of t ≤ bound_of o - fall → IsLowered tallies (slice_set tallies number t) number fall
 lowered_set tallies number fall o t at same le = record {
   one_each = length-set tallies number t;
   each = λ n y yt. by_case n y (set_cases tallies number n t y yt);
 }
   where
-    by_case : (n : ℕ) (y : Tally) → ((n ≡ number) × (t ≡ y)) ⊎ ((n ≢ number) × (slice_get tallies n ≡ Some y)) → ((n ≡ number) × (o : Tally) × (slice_get tallies n ≡ Some o) × (y.class.0 ≡ o.class.0) × (y.bound ≤ o.bound - fall)) ⊎ ((n ≢ number) × (slice_get tallies n ≡ Some y))
+    by_case : (n : ℕ) (y : Tally) → ((n ≡ number) × (t ≡ y)) ⊎ ((n ≢ number) × (slice_get tallies n ≡ Some y)) → ((n ≡ number) × (o : Tally) × (slice_get tallies n ≡ Some o) × (y.class.0 ≡ o.class.0) × (bound_of y ≤ bound_of o - fall)) ⊎ ((n ≢ number) × (slice_get tallies n ≡ Some y))
     by_case n y (inl (e, f)) =
-        inl (e, o, ap (slice_get tallies) e ∙ at, subst (λ (z : Tally). z.class.0 ≡ o.class.0) f same, subst (λ (z : Tally). z.bound ≤ o.bound - fall) f le)
+        inl (e, o, ap (slice_get tallies) e ∙ at, subst (λ (z : Tally). z.class.0 ≡ o.class.0) f same, subst (λ (z : Tally). bound_of z ≤ bound_of o - fall) f le)
     by_case n y (inr other) = inr other
 
 module _ (s : Task) (choices : List Choice) (u : Uses) (are : AreUses s choices u) (fallen : List ℕ) (group fall : ℕ) (places : List ℕ) where
@@ -176,7 +176,7 @@ module _ (s : Task) (choices : List Choice) (u : Uses) (are : AreUses s choices 
       told : ℕ → ℕ
       told = told_with is.told place (is.told place - fall)
 
-      by_case : (n : ℕ) (x : Choice) (t : Tally) → slice_get choices n ≡ Some x → ((n ≡ number) × (o : Tally) × (slice_get old n ≡ Some o) × (t.class.0 ≡ o.class.0) × (t.bound ≤ o.bound - fall)) ⊎ ((n ≢ number) × (slice_get old n ≡ Some t)) → IsTold s.cells u told n x t
+      by_case : (n : ℕ) (x : Choice) (t : Tally) → slice_get choices n ≡ Some x → ((n ≡ number) × (o : Tally) × (slice_get old n ≡ Some o) × (t.class.0 ≡ o.class.0) × (bound_of t ≤ bound_of o - fall)) ⊎ ((n ≢ number) × (slice_get old n ≡ Some t)) → IsTold s.cells u told n x t
       by_case n x t xt (inl (e, o, ot, class, bound)) =
           let before = is.each n x o xt ot in
           let sum = sum_fallen is.told place fall (first_of u n) (pin_count x.part) in

@@ -18,7 +18,7 @@ use Rattle.lw_trade.specs.Pricing.{IsOfLibrary}
 use Rattle.lw_trade.specs.Queues.{IsTaken}
 use Rattle.lw_trade.specs.Seen.{HasSeen, AreSeen, HasUnseen, IsSeeing, seen_at, sum_seen}
 use Rattle.lw_trade.specs.Settling.{Spot, spot, Has, HasAtMost, IsSpotOf, times, areas, Gives, Queued, Waits, Comes, IsGained, AreGroupsAdded, AreInTime, GivesNoMore, GivesNoMoreSeen}
-use Rattle.lw_trade.specs.Tallies.{IsTally, first_of, unseen}
+use Rattle.lw_trade.specs.Tallies.{IsTally, bound_of, first_of, unseen}
 use Rattle.lw_trade.specs.declared.tallies.Tally.{Tally}
 use Rattle.lw_trade.specs.Uses.{AreUses, HasUse, IsGroup, turns_of}
 use Rattle.lw_trade.proofs.Falling.{HaveUses, use_place, uses_of}
@@ -152,10 +152,10 @@ module _ (u : Uses) (seen : List ℕ) (spots : List Spot) (now n : ℕ) where
           inl (omega (arith, low, more), omega (arith, low, few))
 
 module _ (s : Task) (choices : List Choice) (u : Uses) (are : AreUses s choices u) (seen : List ℕ) (spots : List Spot) (now n : ℕ) where
-  tally_more : (class a : ℕ) (part : Part) (t : Tally) → slice_get choices n ≡ Some (record { class = class; part = part }) → IsOfLibrary s.cells part → IsTally s.cells u seen n (record { class = class; part = part }) t → (t.bound < unseen → HasAtMost spots class now (min most_area t.bound)) → Gives s spots part now a → HasAtMost spots class now a ⊎ HasUnseen u seen spots now n
+  tally_more : (class a : ℕ) (part : Part) (t : Tally) → slice_get choices n ≡ Some (record { class = class; part = part }) → IsOfLibrary s.cells part → IsTally s.cells u seen n (record { class = class; part = part }) t → (bound_of t < unseen → HasAtMost spots class now (min most_area (bound_of t))) → Gives s spots part now a → HasAtMost spots class now a ⊎ HasUnseen u seen spots now n
   tally_more class a (input i) t at of is had gives =
       let low = is.low in
-      inl (at_most spots class now (min most_area t.bound) a (omega (arith, low)) (had (omega (arith, low))))
+      inl (at_most spots class now (min most_area (bound_of t)) a (omega (arith, low)) (had (omega (arith, low))))
   tally_more class a (gate cell ps) t at of is had (ks, zip, et, ea) =
       by_case (all_seen u seen spots now n 0 (delays_of (timing s).delays cell) ps ks (length-delays_of (timing s).delays cell (length ps) of) (uses_of s choices u are n class cell ps at) zip (omega (arith, et)))
     where
@@ -166,11 +166,11 @@ module _ (s : Task) (choices : List Choice) (u : Uses) (are : AreUses s choices 
           let (more, few) = subst (λ f. AreAllSeen u seen spots now n f ps ks) q sums in
           let low = is.low in
           let pins = is.few in
-          let lt : t.bound < unseen = omega (arith, low, few, pins) in
-          inl (at_most spots class now (min most_area t.bound) a (omega (arith, low, more, ea)) (had lt))
+          let lt : bound_of t < unseen = omega (arith, low, few, pins) in
+          inl (at_most spots class now (min most_area (bound_of t)) a (omega (arith, low, more, ea)) (had lt))
 
   -- It gives no more than what is had, where its bound is that of a group that has seen nothing, or a point of its class has no more.
-  pub tally_done : (x : Choice) (t : Tally) → slice_get choices n ≡ Some x → IsOfLibrary s.cells x.part → IsTally s.cells u seen n x t → (t.bound < unseen → HasAtMost spots x.class now (min most_area t.bound)) → GivesNoMoreSeen s choices spots (HasUnseen u seen spots now) now n
+  pub tally_done : (x : Choice) (t : Tally) → slice_get choices n ≡ Some x → IsOfLibrary s.cells x.part → IsTally s.cells u seen n x t → (bound_of t < unseen → HasAtMost spots x.class now (min most_area (bound_of t))) → GivesNoMoreSeen s choices spots (HasUnseen u seen spots now) now n
   tally_done x t at of is had y a yt gives =
       let same = same_Some y x (sym yt ∙ at) in
       let here = tally_more x.class a x.part t at of is had (subst (λ (z : Choice). Gives s spots z.part now a) same gives) in

@@ -13,6 +13,10 @@ use Rattle.lw_trade.specs.Seen.{sum_seen}
 abbrev pub unseen : ℕ
 unseen = 2 ^ 67
 
+-- the bound that the two parts of a tally make
+abbrev pub bound_of : Tally → ℕ
+bound_of t = t.high * 2 ^ 64 + t.low
+
 abbrev pub pin_count : Part → ℕ
 pin_count (input i) = 0
 pin_count (gate cell ps) = length ps
@@ -26,7 +30,7 @@ own_area cells (gate cell ps) = min most_area (area_at cells cell)
 pub record IsFirstTally (cells : List CellParts) (x : Choice) (t : Tally) : Type 0 where
   pub class_is : t.class.0 ≡ x.class
   pub few : pin_count x.part ≤ 16
-  pub bound_is : t.bound ≡ own_area cells x.part + pin_count x.part * unseen
+  pub bound_is : bound_of t ≡ own_area cells x.part + pin_count x.part * unseen
 
 pub record AreFirstTallies (cells : List CellParts) (choices : List Choice) (tallies : List Tally) : Type 0 where
   pub one_each : length tallies ≡ length choices
@@ -40,7 +44,7 @@ first_of u n = slice_index_or u.firsts.items n 0
 pub record IsTally (cells : List CellParts) (u : Uses) (seen : List ℕ) (n : ℕ) (x : Choice) (t : Tally) : Type 0 where
   pub class_is : t.class.0 ≡ x.class
   pub few : pin_count x.part ≤ 16
-  pub low : t.bound ≤ own_area cells x.part + sum_seen u.members.classes seen (first_of u n) (pin_count x.part)
+  pub low : bound_of t ≤ own_area cells x.part + sum_seen u.members.classes seen (first_of u n) (pin_count x.part)
 
 pub record AreTallies (cells : List CellParts) (choices : List Choice) (u : Uses) (seen : List ℕ) (tallies : List Tally) : Type 0 where
   pub one_each : length tallies ≡ length choices
@@ -49,7 +53,7 @@ pub record AreTallies (cells : List CellParts) (choices : List Choice) (u : Uses
 -- the bound of a choice falls, if it has a tally
 pub record IsLowered (old new : List Tally) (number fall : ℕ) : Type 0 where
   pub one_each : length new ≡ length old
-  pub each : (n : ℕ) (t : Tally) → slice_get new n ≡ Some t → ((n ≡ number) × (o : Tally) × (slice_get old n ≡ Some o) × (t.class.0 ≡ o.class.0) × (t.bound ≤ o.bound - fall)) ⊎ ((n ≢ number) × (slice_get old n ≡ Some t))
+  pub each : (n : ℕ) (t : Tally) → slice_get new n ≡ Some t → ((n ≡ number) × (o : Tally) × (slice_get old n ≡ Some o) × (t.class.0 ≡ o.class.0) × (bound_of t ≤ bound_of o - fall)) ⊎ ((n ≢ number) × (slice_get old n ≡ Some t))
 
 -- what the group has seen falls by this much at most, and what others have does not
 pub record HasFallen (group fall : ℕ) (seen fallen : List ℕ) : Type 0 where

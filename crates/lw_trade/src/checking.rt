@@ -2,6 +2,7 @@
 ghost use Rattle.std.specs.Prelude.{◌≡◌, ◌+◌, ◌<◌, ◌≤◌, IsFalse, IsTrue, length};
 ghost use Rattle.lw_trade.specs.Checks.{ArePinsRight, AreRootsRight, IsCut, IsNetBy, IsGateRight, IsNodeRight, IsOwned, IsRightWalk, IsRootBy, IsSpare, IsUsedEarlier};
 
+use crate::area::MOST_AREA;
 use crate::bisecting::last_by;
 use crate::choices::Stand;
 use crate::grouping::Curves;
@@ -9,9 +10,6 @@ use crate::walking::{Node, Trail, User, Walk};
 use lw_fixed::Micro;
 use lw_genlib::Library;
 use lw_pool::{CellId, ClassId, Numbers};
-
-// The greatest area that is told.
-const MOST_AREA: u64 = 4_611_686_018_427_387_904;
 
 /// Whether the last point of a class by a time has the greatest area that is told.
 pub(crate) fn is_cut(curves: &Curves, classes: usize, class: ClassId, time: u64) -> bool
@@ -132,7 +130,8 @@ fn are_roots(
     true
 }
 
-// Whether the nets of pins are right by a time, with their delays, for an exact use or a shared one.
+// Whether the nets of pins are right by a time, with their delays, for an exact use or a shared
+// one.
 fn are_pins(
     curves: &Curves,
     inputs: &[Option<u32>],

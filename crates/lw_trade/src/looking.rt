@@ -48,10 +48,11 @@ pub(crate) fn may_give(
         return false;
     }
     let tally = seen.tallies[place];
-    if tally.bound >= UNSEEN {
+    let bound = tally.bound();
+    if bound >= UNSEEN {
         return false;
     }
-    let area = tally.bound.min(MOST_AREA as u128) as u64;
+    let area = bound.min(MOST_AREA as u128) as u64;
     fronts.is_less(tally.class, time, area)
 }
 

@@ -1,12 +1,12 @@
 // What is known of each choice while points are found: its class, and no more than its area by what
 // the groups of its pins have seen.
-ghost use Rattle.std.specs.Prelude.{◌+◌, ◌<◌, ℕ, List, All, IfOk};
+ghost use Rattle.std.specs.Prelude.{◌≡◌, ◌+◌, ◌^◌, ◌<◌, ℕ, List, All, IfOk};
 ghost use Rattle.lw_trade.specs.Choices.{Choice};
 ghost use Rattle.lw_trade.specs.Looks.{AreLooks};
 ghost use Rattle.lw_trade.specs.Points.{Task};
 ghost use Rattle.lw_trade.specs.Pricing.{IsOfLibrary};
 ghost use Rattle.lw_trade.specs.Rows.{plain_part, plain_row, plain_rows};
-ghost use Rattle.lw_trade.specs.Tallies.{AreFirstTallies, AreTallies, HasFallen, IsFirstTally, IsLowered};
+ghost use Rattle.lw_trade.specs.Tallies.{AreFirstTallies, AreTallies, HasFallen, IsFirstTally, IsLowered, bound_of};
 ghost use Rattle.lw_trade.specs.Uses.{AreUses};
 
 use crate::area::MOST_AREA;
@@ -17,11 +17,41 @@ use lw_pool::ClassId;
 use std::alloc::{AllocError, Global};
 
 /// The class of a choice, and no more than the area of its cell and what the groups of its pins
-/// have seen together.
+/// have seen together: a bound below 2^96, in two parts, since a `u128` would double the size.
 #[derive(Clone, Copy, Debug)]
 pub(crate) struct Tally {
-    pub bound: u128,
+    low: u64,
+    high: u32,
     pub class: ClassId,
+}
+
+// There is one for each choice, so it is kept small.
+const _: () = prove!(size_of::<Tally>() == 16);
+
+// What the upper part of a bound counts in.
+const HIGH_UNIT: u128 = 1 << 64;
+
+impl Tally {
+    /// The tally of a class with a bound.
+    pub(crate) fn new(bound: u128, class: ClassId) -> Self
+        requires { bound < 2 ^ 96 }
+        ensures bound { bound_of result ≡ bound }
+        ensures class { result.class ≡ class }
+    {
+        Tally {
+            low: (bound % HIGH_UNIT) as u64,
+            high: (bound / HIGH_UNIT) as u32,
+            class,
+        }
+    }
+
+    /// Its bound.
+    pub(crate) fn bound(&self) -> u128
+        ensures value { result ≡ bound_of self.now }
+        ensures small { result < 2 ^ 96 }
+    {
+        self.high as u128 * HIGH_UNIT + self.low as u128
+    }
 }
 
 // What stands for a group that has seen no point: more than a cell and 16 pins have together that
@@ -35,11 +65,11 @@ fn first_tally(lib: &Library, row: &Row) -> Tally
 {
     let class = row.class;
     match &row.stand {
-        Stand::Input(_) => Tally { bound: 0, class },
+        Stand::Input(_) => Tally::new(0, class),
         Stand::Gate(gate) => {
             let area = lib.cell(gate.cell).area().0.min(MOST_AREA);
             let bound = area as u128 + gate.pins.len() as u128 * UNSEEN;
-            Tally { bound, class }
+            Tally::new(bound, class)
         }
     }
 }
@@ -69,7 +99,8 @@ fn lower_tally(tallies: &mut [Tally], number: u32, fall: u128)
     if number >= tallies.len() {
         return;
     }
-    tallies[number].bound = tallies[number].bound.saturating_sub(fall);
+    let tally = tallies[number];
+    tallies[number] = Tally::new(tally.bound().saturating_sub(fall), tally.class);
 }
 
 /// Lets the bounds of the choices with a pin in a group fall by what the area fell that it has

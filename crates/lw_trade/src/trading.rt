@@ -20,8 +20,9 @@ use std::alloc::{AllocError, Global};
 /// class that do. Each use of a shared part counts in this area, but uses of one class by one
 /// point share a gate. Where an output's least area by its time is the greatest that is told, each
 /// cover in time has it, and the output takes gates that are shared by class. Each other output
-/// takes the last point of its class by its time, and so does each pin of its gates. The curves are those of the graph, the patterns, the library and the
-/// starts, up to a horizon that is no less than any of the times.
+/// takes the last point of its class by its time, and so does each pin of its gates. The curves are
+/// those of the graph, the patterns, the library and the starts, up to a horizon that is no less
+/// than any of the times.
 pub fn trade(
     alloc: Global,
     graph: &Graph,

@@ -7,6 +7,7 @@ use Rattle.lw_trade.specs.Points.{task}
 use Rattle.lw_trade.specs.Settling.{HasAtMost}
 use Rattle.lw_trade.specs.Pricing.{IsOfLibrary}
 use Rattle.lw_trade.specs.Rows.{plain_part, plain_row, plain_rows}
+use Rattle.lw_trade.specs.Tallies.{bound_of}
 use Rattle.lw_trade.proofs.Lists.{get_in, read_at}
 use Rattle.lw_trade.proofs.SeenPoints.{tally_done}
 use Rattle.lw_trade.proofs.Adding.{choice_in}
@@ -21,38 +22,38 @@ pub is_less-requires-clause-class : goal.is_less-requires-clause-class
 is_less-requires-clause-class c =
     let tallies = c.args.seen.now.tallies.items in
     let lt : c.args.number < length tallies = omega (arith, c.if-place-len.false, c.len.ensures) in
-    let tally = c.index-tally.result.now in
-    let tt = read_at tallies c.args.number tally lt c.index-tally.ensures in
+    let tally = c.index.result.now in
+    let tt = read_at tallies c.args.number tally lt c.index.ensures in
     let lr : c.args.number < length c.args.rows.now = omega (arith, lt, c.requires.tallied.tallies.one_each, length-map c.args.rows.now plain_row) in
     let (r, same, at) = choice_in c.args.rows.now c.args.number lr in
     let class = (c.requires.tallied.tallies.each c.args.number (plain_row r) tally at tt).class_is in
     let low = subst (λ (q : Row). q.class.0 < length c.args.fronts.now.least) (sym same) (c.requires.classes c.args.number r lr) in
     omega (arith, class, low)
 
-pub returns-then-tally-ge-UNSEEN-clause-no_more : goal.returns-then-tally-ge-UNSEEN-clause-no_more
-returns-then-tally-ge-UNSEEN-clause-no_more c f g pats starts us =
+pub returns-then-bound-ge-UNSEEN-clause-no_more : goal.returns-then-bound-ge-UNSEEN-clause-no_more
+returns-then-bound-ge-UNSEEN-clause-no_more c f g pats starts us =
     let tallies = c.args.seen.now.tallies.items in
     let lt : c.args.number < length tallies = omega (arith, c.if-place-len.false, c.len.ensures) in
-    let tally = c.index-tally.result.now in
-    let tt = read_at tallies c.args.number tally lt c.index-tally.ensures in
+    let tally = c.index.result.now in
+    let tt = read_at tallies c.args.number tally lt c.index.ensures in
     let lr : c.args.number < length c.args.rows.now = omega (arith, lt, c.requires.tallied.tallies.one_each, length-map c.args.rows.now plain_row) in
     let (r, same, at) = choice_in c.args.rows.now c.args.number lr in
     let is = c.requires.tallied.tallies.each c.args.number (plain_row r) tally at tt in
     let of = subst (λ (q : Row). IsOfLibrary c.args.lib.now (plain_part q.stand)) (sym same) (c.requires.of_library c.args.number r lr) in
-    tally_done (task g pats c.args.lib.now starts) (plain_rows c.args.rows.now) c.args.uses.now us c.args.seen.now.areas.items c.args.fronts.now.spots c.args.time c.args.number (plain_row r) tally at of is (λ few. absurd (omega (arith, few, c.if-tally-ge-UNSEEN.true)))
+    tally_done (task g pats c.args.lib.now starts) (plain_rows c.args.rows.now) c.args.uses.now us c.args.seen.now.areas.items c.args.fronts.now.spots c.args.time c.args.number (plain_row r) tally at of is (λ few. absurd (omega (arith, few, c.bound-bound.ensures.value, c.if-bound-ge-UNSEEN.true)))
 
 pub returns-clause-no_more : goal.returns-clause-no_more
 returns-clause-no_more c f g pats starts us =
     let tallies = c.args.seen.now.tallies.items in
     let lt : c.args.number < length tallies = omega (arith, c.if-place-len.false, c.len.ensures) in
-    let tally = c.index-tally.result.now in
-    let tt = read_at tallies c.args.number tally lt c.index-tally.ensures in
+    let tally = c.index.result.now in
+    let tt = read_at tallies c.args.number tally lt c.index.ensures in
     let lr : c.args.number < length c.args.rows.now = omega (arith, lt, c.requires.tallied.tallies.one_each, length-map c.args.rows.now plain_row) in
     let (r, same, at) = choice_in c.args.rows.now c.args.number lr in
     let is = c.requires.tallied.tallies.each c.args.number (plain_row r) tally at tt in
     let of = subst (λ (q : Row). IsOfLibrary c.args.lib.now (plain_part q.stand)) (sym same) (c.requires.of_library c.args.number r lr) in
     let area = c.min-area.result in
-    let least : area ≡ min most_area tally.bound = omega (arith, c.min-area.ensures) in
+    let least : area ≡ min most_area (bound_of tally) = omega (arith, c.min-area.ensures, c.bound-bound.ensures.value) in
     let had = subst (IsLessOr c.args.fronts.now.spots tally.class.0 c.args.time area) f c.is_less.ensures in
     let had' = subst₂ (λ k a. HasAtMost c.args.fronts.now.spots k c.args.time a) is.class_is least had in
     tally_done (task g pats c.args.lib.now starts) (plain_rows c.args.rows.now) c.args.uses.now us c.args.seen.now.areas.items c.args.fronts.now.spots c.args.time c.args.number (plain_row r) tally at of is (λ few. had')
