@@ -18,6 +18,7 @@ pub mod Marked
 pub mod MatchExamples
 pub mod Members
 pub mod MoreParts
+pub mod Needing
 pub mod Nexts
 pub mod OfCells
 pub mod Opens

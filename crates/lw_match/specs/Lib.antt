@@ -7,6 +7,7 @@ pub mod Intervals
 pub mod Jobs
 pub mod Least
 pub mod Matching
+pub mod Needs
 pub mod Numbers
 pub mod Picks
 pub mod Places

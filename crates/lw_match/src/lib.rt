@@ -20,6 +20,7 @@ mod job;
 mod laws;
 mod lowering;
 mod mark;
+mod needs;
 mod numbers;
 mod parts;
 mod pins;
