@@ -83,7 +83,7 @@ module _ (g : Graph) (r : Reading) (one : r.one ≡ g.one) (gaps : List ℕ) (ba
         pinned = λ pin. subst (λ (n : ℕ). n + base ≤ top) same (below.pinned pin);
       }
 
-turned_pair : (g : Graph) (c x y : ℕ) → HoldsPair g c x y → HoldsPair g c y x
+pub turned_pair : (g : Graph) (c x y : ℕ) → HoldsPair g c x y → HoldsPair g c y x
 turned_pair g c x y (inl i) = inr i
 turned_pair g c x y (inr i) = inl i
 

@@ -2,7 +2,7 @@ ghost use Rattle.std.specs.Prelude.{◌≡◌, ◌<◌, ◌≤◌, ◌*◌, ℕ,
 ghost use Rattle.lw_laws.specs.Covers.{Pattern as TreeOfCell};
 ghost use Rattle.lw_match.specs.Numbers.{most_numbers};
 
-use crate::bare::bare_patterns;
+use crate::bare::{bare_patterns, repeating};
 use crate::cuts::Cuts;
 use crate::gaps::{all_guesses, no_gaps};
 use crate::lowering::Plan;
@@ -55,6 +55,8 @@ pub struct Bounds {
     least: Vec<u64>,
     // the patterns without NANDs
     bare: Vec<PatId>,
+    // for each pattern, whether searches by it look ahead
+    repeats: Vec<bool>,
 }
 
 impl Model for Bounds {
@@ -129,6 +131,7 @@ impl Bounds {
         let groups = groups_of(alloc, parts.as_slice())?;
         let least = vec![in alloc; 0; parts.len()]?;
         let bare = bare_patterns(alloc, pats)?;
+        let repeats = repeating(alloc, pats)?;
         Ok(Bounds {
             parts,
             gaps,
@@ -142,6 +145,7 @@ impl Bounds {
             groups,
             least,
             bare,
+            repeats,
         })
     }
 
@@ -234,6 +238,7 @@ impl Bounds {
             gaps: &self.gaps,
             height_sides: &[],
             heights: Numbers::none(),
+            repeats: &self.repeats,
         }
     }
 }
