@@ -1,14 +1,14 @@
 -- What is gathered grows.
-use Rattle.std.proofs.Common.{ℕ, ◌+◌, ◌-◌, ◌<◌, ◌≤◌, ◌≡◌, Bool, true, false, cond, Some, None, ltb, List, [], ◌∷◌, ◌++◌, length, drop, refl, ap, sym, ◌∙◌, arith, length-append}
+use Rattle.std.proofs.Common.{ℕ, ◌+◌, ◌-◌, ◌<◌, ◌≤◌, ◌≡◌, Bool, true, false, cond, Some, None, ltb, List, [], ◌∷◌, ◌++◌, length, take, drop, refl, ap, sym, ◌∙◌, arith, length-append, append_assoc, append-nil}
 use Rattle.std.specs.Prelude.{All}
 use Rattle.std.specs.List.{slice_range}
 use Rattle.std.specs.Str.{bytes_eq}
-use Rattle.std.proofs.lemmas.Bool.{lt-ltb}
-use Rattle.std.proofs.lemmas.List.{drop-append-le, length-drop, take_all, drop_all}
-use Rattle.std.proofs.lemmas.List.Elements.{All-append, All-push, All-nil, All-cons}
+use Rattle.std.proofs.lemmas.Bool.{lt-ltb, le-ltb}
+use Rattle.std.proofs.lemmas.List.{drop-append-le, length-drop, length-take-le, take-append-drop, take_all, drop_all}
+use Rattle.std.proofs.lemmas.List.Elements.{All-append, All-push, All-nil, All-cons, All-take}
 use Rattle.lw_words.specs.Lines.{has_some}
 use Rattle.lw_words.specs.Arenas.{words_at, last_end}
-use Rattle.lw_words.specs.Gathering.{Gathered, with_byte, ended, IsInk, IsNoHash, IsWord, HasNoHash, IsGathered, IsKept, IsLine, line_gathered}
+use Rattle.lw_words.specs.Gathering.{Gathered, with_byte, with_bytes, ended, IsInk, IsNoHash, IsWord, HasNoHash, IsGathered, IsKept, IsLine, line_gathered}
 use Rattle.lw_words.proofs.WordsAt.{AreEnds-more, AreEnds-push, last_end-push, words_at-push, words_at-append, length-words_at}
 
 has_some-length : {A : Type 0} (xs : List A) → 0 < length xs → has_some xs ≡ true
@@ -116,3 +116,73 @@ pub line-gathered : (bytes ends : List ℕ) (start : ℕ) (long : Bool) (number 
 line-gathered bytes ends start long number some =
     let is = has_some-length (words_at 0 bytes ends) (omega (arith, length-words_at 0 bytes ends)) in
     sym (ap (λ t. cond t (Some (record { number = number; long = long; words = words_at 0 bytes ends })) None) is)
+
+-- More bytes at once.
+
+with_bytes-append : (g : Gathered) (xs ys : List ℕ) → with_bytes (xs ++ ys) g ≡ with_bytes ys (with_bytes xs g)
+with_bytes-append g [] ys = refl
+with_bytes-append g (x ∷ xs) ys = with_bytes-append (with_byte x g) xs ys
+
+-- there is room for all of them
+with_bytes-all : (words : List (List ℕ)) (last : List ℕ) (long : Bool) (bytes : List ℕ) → length last + length bytes ≤ 4095 → with_bytes bytes (record { words = words; last = last; long = long }) ≡ record { words = words; last = last ++ bytes; long = long }
+with_bytes-all words last long [] room = ap (λ l. record { words = words; last = l; long = long }) (sym (append-nil last))
+with_bytes-all words last long (b ∷ bytes) room =
+    let short : ltb (length last) 4095 ≡ true = lt-ltb _ _ (omega arith) in
+    ap (λ t. with_bytes bytes (cond t (record { words = words; last = last ++ b ∷ []; long = long }) (record { words = words; last = last; long = true }))) short
+    ∙ (with_bytes-all words (last ++ b ∷ []) long bytes (omega (arith, length-append last (b ∷ [])))
+    ∙ ap (λ l. record { words = words; last = l; long = long }) (append_assoc last (b ∷ []) bytes))
+
+-- there is no room for any
+with_bytes-none : (words : List (List ℕ)) (last : List ℕ) (bytes : List ℕ) → 4095 ≤ length last → with_bytes bytes (record { words = words; last = last; long = true }) ≡ record { words = words; last = last; long = true }
+with_bytes-none words last [] full = refl
+with_bytes-none words last (b ∷ bytes) full =
+    let cut : ltb (length last) 4095 ≡ false = le-ltb _ _ full in
+    ap (λ t. with_bytes bytes (cond t (record { words = words; last = last ++ b ∷ []; long = true }) (record { words = words; last = last; long = true }))) cut
+    ∙ with_bytes-none words last bytes full
+
+-- some of them are cut
+with_bytes-cut : (words : List (List ℕ)) (last : List ℕ) (long : Bool) (bytes : List ℕ) → 4095 ≤ length last → 0 < length bytes → with_bytes bytes (record { words = words; last = last; long = long }) ≡ record { words = words; last = last; long = true }
+with_bytes-cut words last long [] full some = absurd (omega arith)
+with_bytes-cut words last long (b ∷ bytes) full some =
+    let cut : ltb (length last) 4095 ≡ false = le-ltb _ _ full in
+    ap (λ t. with_bytes bytes (cond t (record { words = words; last = last ++ b ∷ []; long = long }) (record { words = words; last = last; long = true }))) cut
+    ∙ with_bytes-none words last bytes full
+
+-- so many of them are kept
+pub gathered-push_all : (bytes ends : List ℕ) (start : ℕ) (long : Bool) (more : List ℕ) → IsKept bytes ends start long → length bytes - start + length more ≤ 4095 → gathered (bytes ++ more) ends start long ≡ with_bytes more (gathered bytes ends start long)
+gathered-push_all bytes ends start long more h few =
+    gathered-append bytes ends start long more h
+    ∙ sym (with_bytes-all (words_at 0 bytes ends) (drop start bytes) long more (omega (arith, length-drop start bytes)))
+
+pub gathered-push_cut : (bytes ends : List ℕ) (start : ℕ) (long : Bool) (more : List ℕ) (n : ℕ) → IsKept bytes ends start long → n < length more → length bytes - start + n ≡ 4095 → gathered (bytes ++ take n more) ends start true ≡ with_bytes more (gathered bytes ends start long)
+gathered-push_cut bytes ends start long more n h cut full =
+    let words = words_at 0 bytes ends in
+    let last = drop start bytes in
+    let len = length-drop start bytes in
+    let kept : length (take n more) ≡ n = length-take-le n more (omega arith) in
+    let longer = length-append last (take n more) in
+    ap (λ (g : Gathered). record { words = g.words; last = g.last; long = true }) (gathered-append bytes ends start long (take n more) h)
+    ∙ sym (
+    ap (λ bs. with_bytes bs (gathered bytes ends start long)) (sym (take-append-drop n more))
+    ∙ (with_bytes-append (gathered bytes ends start long) (take n more) (drop n more)
+    ∙ (ap (with_bytes (drop n more)) (with_bytes-all words last long (take n more) (omega arith))
+    ∙ with_bytes-cut words (last ++ take n more) long (drop n more) (omega arith) (omega (arith, length-drop n more)))))
+
+pub IsKept-cut : (bytes ends : List ℕ) (start : ℕ) (long : Bool) (more : List ℕ) (n : ℕ) → IsKept bytes ends start long → n < length more → length bytes - start + n ≡ 4095 → All IsInk more → All IsNoHash more → IsKept (bytes ++ take n more) ends start true
+IsKept-cut bytes ends start long more n h cut full ink plain =
+    let kept = length-take-le n more (omega arith) in
+    let longer = length-append bytes (take n more) in
+    let k = IsKept-append bytes ends start long (take n more) h (omega arith) (All-take IsInk n more ink) (All-take IsNoHash n more plain) in
+    record {
+      are_ends = k.are_ends;
+      is_start = k.is_start;
+      within = k.within;
+      gathered = record {
+        are_words = k.gathered.are_words;
+        no_hash = k.gathered.no_hash;
+        few = k.gathered.few;
+        ink = k.gathered.ink;
+        plain = k.gathered.plain;
+        cut = λ e. omega (arith, length-drop start (bytes ++ take n more), k.within, h.within);
+      };
+    }

@@ -1,18 +1,26 @@
 -- What is gathered of a text are its words.
 use Rattle.std.proofs.Common.{ℕ, ◌<◌, ◌≤◌, ◌≡◌, Bool, true, false, ◌||◌, cond, ltb, List, [], ◌∷◌, ◌++◌, length, map, take, filter, Some, None, refl, ap, sym, ◌∙◌, subst, arith, length-append, append_assoc, append-nil}
-use Rattle.std.specs.Prelude.{option_to_list}
+use Rattle.std.specs.Prelude.{option_to_list, All}
 use Rattle.std.specs.List.{slice_split, onto_first, list_any}
 use Rattle.std.proofs.lemmas.Bool.{lt-ltb, le-ltb, ltb-true, ltb-false}
 use Rattle.std.proofs.lemmas.List.{take-append-le, take_all, length-take-le, length-take}
+use Rattle.std.proofs.lemmas.List.Elements.{All-head, All-tail}
 use Rattle.std.proofs.Math.Bool.{or-false, or-true}
 use Rattle.lw_facts.proofs.Lists.{list_any_append}
 use Rattle.lw_words.specs.Lines.{LogicalLine, is_blank, has_some, is_long, words_of, line_of, lines_of, has_words, before_trimmed, trimmed}
-use Rattle.lw_words.specs.Gathering.{Gathered, nothing_gathered, with_byte, ended, line_gathered}
+use Rattle.lw_words.specs.Gathering.{Gathered, nothing_gathered, with_byte, with_bytes, ended, line_gathered, IsInk}
 use Rattle.lw_words.specs.Reading.{over_byte, over_bytes, gathered_from}
 
 pub over_bytes-append : (g : Gathered) (xs ys : List ℕ) → over_bytes g (xs ++ ys) ≡ over_bytes (over_bytes g xs) ys
 over_bytes-append g [] ys = refl
 over_bytes-append g (x ∷ xs) ys = over_bytes-append (over_byte g x) xs ys
+
+-- bytes of a word make it longer
+pub over_bytes-ink : (g : Gathered) (bytes : List ℕ) → All IsInk bytes → over_bytes g bytes ≡ with_bytes bytes g
+over_bytes-ink g [] ink = refl
+over_bytes-ink g (b ∷ bytes) ink =
+    ap (λ t. over_bytes (cond t (ended g) (with_byte b g)) bytes) (All-head IsInk b bytes ink).0
+    ∙ over_bytes-ink (with_byte b g) bytes (All-tail IsInk b bytes ink)
 
 -- to end a word twice is to end it once
 pub ended-twice : (g : Gathered) → ended (ended g) ≡ ended g

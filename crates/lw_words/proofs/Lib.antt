@@ -4,6 +4,7 @@ pub mod Fitting
 pub mod GatheredMore
 pub mod GatheredWords
 pub mod LineExamples
+pub mod Runs
 pub mod Stands
 pub mod Steady
 pub mod Trimming

@@ -23,6 +23,11 @@ with_byte b g =
     if nat_lt (length g.last) longest_word then record { words = g.words; last = g.last ++ b ∷ []; long = g.long }
     else record { words = g.words; last = g.last; long = true }
 
+-- more bytes of the word
+abbrev pub with_bytes : List ℕ → Gathered → Gathered
+with_bytes [] g = g
+with_bytes (b ∷ bytes) g = with_bytes bytes (with_byte b g)
+
 -- the word ends, if there is one
 abbrev pub ended : Gathered → Gathered
 ended g =

@@ -36,8 +36,8 @@ impl Model for Gathering {
 }
 
 impl Gathering {
-    ghost use Rattle.std.specs.Prelude.{◌≡◌, [], IfOk, OnOk};
-    ghost use Rattle.lw_words.specs.Gathering.{IsInk, IsNoHash, nothing_gathered, mark_gathered, with_byte, ended, line_gathered};
+    ghost use Rattle.std.specs.Prelude.{◌≡◌, [], All, IfOk, OnOk};
+    ghost use Rattle.lw_words.specs.Gathering.{IsInk, IsNoHash, nothing_gathered, mark_gathered, with_byte, with_bytes, ended, line_gathered};
 
     pub fn new(alloc: Global) -> Self
         ensures { result ≡ nothing_gathered }
@@ -74,6 +74,22 @@ impl Gathering {
         if self.bytes.len() - self.start < WORD_MAX {
             self.bytes.push(b)?;
         } else {
+            self.long = true;
+        }
+        Ok(())
+    }
+
+    /// More bytes of the word.
+    #[inline(always)]
+    pub fn push_all(&mut self, bytes: &[u8]) -> Result<(), AllocError>
+        requires ink { All IsInk bytes.now }
+        requires no_hash { All IsNoHash bytes.now }
+        ensures { OnOk result (self.new ≡ with_bytes bytes.now self.old) }
+    {
+        let room = WORD_MAX - (self.bytes.len() - self.start);
+        let kept = bytes.len().min(room);
+        self.bytes.extend_from_slice(&bytes[..kept])?;
+        if kept < bytes.len() {
             self.long = true;
         }
         Ok(())

@@ -1,8 +1,8 @@
-// The bytes of a physical line, one by one.
+// The bytes of a physical line: those of a word in one go, the others one by one.
 ghost use Rattle.std.specs.Prelude.{◌≡◌, ◌≢◌, ◌≤◌, false, length, take, All, IsTrue, IfOk, OnOk};
 ghost use Rattle.lw_words.specs.Lines.{is_blank};
-ghost use Rattle.lw_words.specs.Gathering.{with_byte, ended, IsPlainByte};
-ghost use Rattle.lw_words.specs.Reading.{after_ink, after_text, after_stroke, place_after, with_ink, over_text, over_stroke, over_byte, over_bytes, gathered_after, gathered_at_end};
+ghost use Rattle.lw_words.specs.Gathering.{with_byte, ended, IsInk, IsPlainByte};
+ghost use Rattle.lw_words.specs.Reading.{after_ink, after_text, after_stroke, place_after, with_ink, over_text, over_stroke, over_bytes, gathered_after, gathered_at_end};
 
 use crate::gathering::Gathering;
 use crate::place::Place;
@@ -16,10 +16,12 @@ fn is_blank(b: u8) -> bool
     b == b' ' || b == b'\t' || b == b'\r' || b == 12
 }
 
-fn is_plain(b: u8) -> bool
-    ensures { IsTrue result → IsPlainByte b }
+// A byte of a word that cannot end a line.
+fn is_ink(b: u8) -> bool
+    ensures ink { IsTrue result → IsInk b }
+    ensures plain { IsTrue result → IsPlainByte b }
 {
-    b != b'\n' && b != b'#' && b != STROKE
+    b != b'\n' && b != b'#' && b != STROKE && !is_blank(b)
 }
 
 /// How many bytes stand before the first line feed.
@@ -35,16 +37,32 @@ pub fn comment_len(bytes: &[u8]) -> usize
     bytes.len()
 }
 
-// Over a blank or a byte of a word.
+// How many bytes of a word stand at the beginning.
 #[inline(always)]
-fn plain(gathering: &mut Gathering, b: u8) -> Result<(), AllocError>
-    requires { IsPlainByte b }
-    ensures { OnOk result (gathering.new ≡ over_byte gathering.old b) }
+fn ink_len(bytes: &[u8]) -> usize
+    ensures within { result ≤ length bytes.now }
+    ensures ink { All IsInk (take result bytes.now) }
+    ensures plain { All IsPlainByte (take result bytes.now) }
 {
-    if is_blank(b) {
-        return gathering.end_word();
+    for (i, b) in bytes.iter().enumerate() {
+        if !is_ink(*b) {
+            return i;
+        }
     }
-    gathering.push(b)
+    bytes.len()
+}
+
+// Over the bytes of a word at the beginning, and how many they are.
+#[inline(always)]
+fn over_ink(gathering: &mut Gathering, bytes: &[u8]) -> Result<usize, AllocError>
+    ensures within { IfOk result (λ n. n ≤ length bytes.now) }
+    ensures plain { IfOk result (λ n. All IsPlainByte (take n bytes.now)) }
+    ensures gathered { IfOk result
+        (λ n. gathering.new ≡ over_bytes gathering.old (take n bytes.now)) }
+{
+    let n = ink_len(bytes);
+    gathering.push_all(&bytes[..n])?;
+    Ok(n)
 }
 
 /// Over blanks and bytes of words, up to the first line feed, `#` or `\`, and how many they are.
@@ -54,13 +72,15 @@ pub fn over_plain(gathering: &mut Gathering, bytes: &[u8]) -> Result<usize, Allo
     ensures gathered { IfOk result
         (λ n. gathering.new ≡ over_bytes gathering.old (take n bytes.now)) }
 {
-    for (i, b) in bytes.iter().enumerate() {
-        if !is_plain(*b) {
-            return Ok(i);
+    let mut at = 0;
+    loop {
+        at += over_ink(gathering, &bytes[at..])?;
+        if at == bytes.len() || !is_blank(bytes[at]) {
+            return Ok(at);
         }
-        plain(gathering, *b)?;
+        gathering.end_word()?;
+        at += 1;
     }
-    Ok(bytes.len())
 }
 
 // Over a byte that is no blank, no line feed and no `#`.

@@ -1,8 +1,9 @@
-use Rattle.std.proofs.Common.{◌≡◌, take}
-use Rattle.std.specs.Prelude.{All}
-use Rattle.lw_words.specs.Gathering.{IsPlainByte}
-use Rattle.lw_words.specs.Reading.{over_bytes}
+use Rattle.std.proofs.Common.{◌-◌, length}
+use Rattle.lw_words.proofs.Runs.{Over}
 use Rattle.lw_words.proofs.reading.over_plain.Given as goal
 
-abbrev pub invariant-loop-i : goal.invariant-loop-i
-invariant-loop-i l = All IsPlainByte (take l.i l.bytes) × (l.gathering ≡ over_bytes l.initial.gathering (take l.i l.bytes))
+abbrev pub invariant-loop-at : goal.invariant-loop-at
+invariant-loop-at l = Over l.initial.gathering l.gathering l.bytes l.at
+
+abbrev pub decreases-loop-at : goal.decreases-loop-at
+decreases-loop-at l = length l.bytes - l.at
