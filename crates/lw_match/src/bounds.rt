@@ -2,9 +2,9 @@ ghost use Rattle.std.specs.Prelude.{◌≡◌, ◌<◌, ◌≤◌, ◌*◌, ℕ,
 ghost use Rattle.lw_laws.specs.Covers.{Pattern as TreeOfCell};
 ghost use Rattle.lw_match.specs.Numbers.{most_numbers};
 
-use crate::bare::{bare_patterns, repeating};
 use crate::cuts::Cuts;
 use crate::gaps::{all_guesses, no_gaps};
+use crate::kinds::{Kinds, kinds_of};
 use crate::lowering::Plan;
 use crate::numbers::{NO_ROW, Numbers, start_of};
 use crate::parts::{Group, Part, Root, Side};
@@ -53,10 +53,7 @@ pub struct Bounds {
     groups: Vec<Group>,
     // room to work in: what the pairs of a class give
     least: Vec<u64>,
-    // the patterns without NANDs
-    bare: Vec<PatId>,
-    // for each pattern, whether searches by it look ahead
-    repeats: Vec<bool>,
+    kinds: Kinds,
 }
 
 impl Model for Bounds {
@@ -130,8 +127,7 @@ impl Bounds {
         let numbers = vec![in alloc; 0; rows.size as usize]?;
         let groups = groups_of(alloc, parts.as_slice())?;
         let least = vec![in alloc; 0; parts.len()]?;
-        let bare = bare_patterns(alloc, pats)?;
-        let repeats = repeating(alloc, pats)?;
+        let kinds = kinds_of(alloc, pats)?;
         Ok(Bounds {
             parts,
             gaps,
@@ -144,8 +140,7 @@ impl Bounds {
             numbers,
             groups,
             least,
-            bare,
-            repeats,
+            kinds,
         })
     }
 
@@ -208,7 +203,7 @@ impl Bounds {
 
     /// The patterns without NANDs.
     pub(crate) fn bare(&self) -> &[PatId] {
-        &self.bare
+        &self.kinds.bare
     }
 
     /// What searches are cut by.
@@ -238,7 +233,7 @@ impl Bounds {
             gaps: &self.gaps,
             height_sides: &[],
             heights: Numbers::none(),
-            repeats: &self.repeats,
+            repeats: &self.kinds.repeats,
         }
     }
 }

@@ -1,7 +1,6 @@
 //! Matches of a library's patterns at the classes of a graph, and the least of them under a cost.
 #![tactic(auto)]
 
-mod bare;
 mod bettering;
 mod binding;
 mod bisecting;
@@ -17,6 +16,7 @@ mod goals;
 mod heights;
 mod hunting;
 mod job;
+mod kinds;
 mod laws;
 mod lowering;
 mod mark;

@@ -6,6 +6,13 @@ use lw_pattern::{PatNode, Patterns};
 use lw_pool::PatId;
 use std::alloc::{AllocError, Global};
 
+/// The patterns without NANDs, and for each pattern whether searches by it look ahead.
+#[derive(Drop)]
+pub struct Kinds {
+    pub bare: Vec<PatId>,
+    pub repeats: Vec<bool>,
+}
+
 // Whether one of the nodes is a NAND.
 fn has_nand(nodes: &[PatNode]) -> bool {
     for node in nodes {
@@ -16,23 +23,16 @@ fn has_nand(nodes: &[PatNode]) -> bool {
     false
 }
 
-/// The patterns without NANDs.
-pub(crate) fn bare_patterns(alloc: Global, pats: &Patterns) -> Result<Vec<PatId>, AllocError> {
+/// The kinds of all patterns.
+pub(crate) fn kinds_of(alloc: Global, pats: &Patterns) -> Result<Kinds, AllocError> {
     let mut bare = Vec::new(alloc);
-    for number in 0..pats.len() {
-        if !has_nand(pats.get(PatId(number)).nodes.as_slice()) {
-            bare.push(PatId(number))?;
-        }
-    }
-    Ok(bare)
-}
-
-/// For each pattern, whether it has its pins so often that searches by it look ahead.
-pub(crate) fn repeating(alloc: Global, pats: &Patterns) -> Result<Vec<bool>, AllocError> {
-    let mut flags = Vec::new(alloc);
+    let mut repeats = Vec::new(alloc);
     for number in 0..pats.len() {
         let nodes = pats.get(PatId(number)).nodes.as_slice();
-        flags.push(has_repeats(nodes))?;
+        if !has_nand(nodes) {
+            bare.push(PatId(number))?;
+        }
+        repeats.push(has_repeats(nodes))?;
     }
-    Ok(flags)
+    Ok(Kinds { bare, repeats })
 }
