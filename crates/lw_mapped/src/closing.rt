@@ -3,7 +3,7 @@ ghost use Rattle.std.specs.Prelude.{◌≡◌, ◌<◌, List, length, map, All, 
 ghost use Rattle.std.specs.Str.{bytes_eq};
 ghost use Rattle.indexmap.specs.IndexMap.{get};
 ghost use Rattle.indexmap.specs.IndexSet.{index_set_len};
-ghost use Rattle.lw_frame.specs.Frames.{input_names};
+ghost use Rattle.lw_frame.specs.Frames.{input_names, root_names};
 ghost use Rattle.lw_netlist.specs.declared.gate.Gate.{Gate as NetGate};
 ghost use Rattle.lw_netlist.specs.Closing.{IsGateDraft};
 ghost use Rattle.lw_netlist.specs.Plain.{IsOver};
@@ -101,6 +101,35 @@ fn draft_of(
     })
 }
 
+// The same, with the names of what latches read behind those of the outputs, each name once.
+fn rooted_draft(
+    alloc: Global,
+    model: Option<Name>,
+    inputs: Names,
+    outputs: IndexSet<Name>,
+    latches: &[Latch],
+    gates: DraftGates,
+    wires: Wires,
+) -> Result<GateDraft, AllocError>
+    ensures { IfOk result (λ draft. draft
+        ≡ record {
+          model = unwrap_or model (codes "unnamed");
+          inputs = input_names inputs latches.now;
+          outputs = root_names outputs.keys latches.now;
+          gates = gates;
+          wires = wires;
+        }) }
+{
+    let mut roots = outputs;
+    let Ok(_own) = add_roots(alloc, &mut roots, latches) else {
+        drop(roots);
+        return Err(AllocError);
+    };
+    let draft = draft_of(alloc, model, inputs, &roots, latches, gates, wires);
+    drop(roots);
+    draft
+}
+
 // The class of a net, where it has one.
 fn class_of(nets: &IndexMap<Name, ClassId>, name: &Name) -> Option<ClassId>
     ensures { result ≡ get bytes_eq nets.now name.now }
@@ -143,7 +172,10 @@ fn closed(
     ensures fault { IfErr result (TellsWhole draft) }
 {
     let netlist = Netlist::close(alloc, draft, lib)?;
-    let nets = classes_of(alloc, netlist.names(), netlist.gates(), nets)?;
+    let Ok(nets) = classes_of(alloc, netlist.names(), netlist.gates(), nets) else {
+        drop(netlist);
+        return Err(MappedFault::Memory);
+    };
     Ok(Mapped {
         netlist,
         frame,
@@ -178,7 +210,22 @@ impl Contents {
         ensures fits { IfOk result IsMapped }
         ensures over { IfOk result (λ mapped. IsOver lib.now mapped.netlist) }
     {
-        let starts = self.starts(alloc)?;
+        let Ok(starts) = self.starts(alloc) else {
+            drop(self);
+            return Err(MappedFault::Memory);
+        };
+        self.close_with(alloc, lib, starts)
+    }
+
+    // The same, with the starts of the inputs.
+    fn close_with(self, alloc: Global, lib: &Library, starts: Micros) -> Result<Mapped, MappedFault>
+        requires few { IsOfFew self lib.now }
+        requires starts { (said : List Saying) → Keeps self said → starts ≡ starts_said said }
+        requires early { All IsEarly starts }
+        ensures closes { (said : List Saying) → Keeps self said → ClosesTo said result }
+        ensures fits { IfOk result IsMapped }
+        ensures over { IfOk result (λ mapped. IsOver lib.now mapped.netlist) }
+    {
         let Contents {
             model,
             inputs,
@@ -186,27 +233,24 @@ impl Contents {
             gates,
             wires,
             latches,
+            arrivals,
             labels,
             nets,
-            ..
         } = self;
-        let mut roots = outputs;
-        let own_outputs = add_roots(alloc, &mut roots, latches.as_slice())?;
+        drop(arrivals);
         let frame = Frame {
             inputs: inputs.len() as u32,
-            outputs: own_outputs as u32,
+            outputs: outputs.len() as u32,
             latches,
         };
-        let draft = draft_of(
-            alloc,
-            model,
-            inputs,
-            &roots,
-            frame.latches.as_slice(),
-            gates,
-            wires,
-        )?;
+        let read = frame.latches.as_slice();
+        let Ok(draft) = rooted_draft(alloc, model, inputs, outputs, read, gates, wires) else {
+            drop(nets);
+            return Err(MappedFault::Memory);
+        };
         let labels = OptMicros::from_vec(labels);
-        closed(alloc, lib, draft, frame, starts, labels, &nets)
+        let answer = closed(alloc, lib, draft, frame, starts, labels, &nets);
+        drop(nets);
+        answer
     }
 }

@@ -132,15 +132,17 @@ impl MappedReader {
             IfOk result (λ mapped. 12 * length mapped.netlist.gates ≤ lines_weight lines) }
     {
         let MappedReader { stop, parts, .. } = self;
-        if let Some(stop) = stop {
-            return Err(stop.fault());
-        }
         let Parts {
             alloc,
             wire,
             contents,
         } = parts;
+        if let Some(stop) = stop {
+            drop(contents);
+            return Err(stop.fault());
+        }
         if let Some(number) = wire {
+            drop(contents);
             return Err(MappedFault::Line(number, MappedKind::Shape));
         }
         let _count = lib.len();

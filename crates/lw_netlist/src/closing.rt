@@ -5,7 +5,7 @@ ghost use Rattle.std.specs.Str.{bytes_eq};
 ghost use Rattle.lw_dag.specs.Names.{number_in};
 ghost use Rattle.lw_netlist.specs.declared.draft.GateDraft.{GateDraft};
 ghost use Rattle.lw_netlist.specs.Closing.{HasFault, port_at};
-ghost use Rattle.lw_netlist.specs.Ordering.{AreRight, TellNets};
+ghost use Rattle.lw_netlist.specs.Ordering.{AreRight, IsGraphOf, TellNets};
 ghost use Rattle.lw_netlist.specs.Placing.{IsMadeOf, cell_of};
 
 use crate::graph::Graph;
@@ -14,7 +14,7 @@ use crate::naming::{driven, numbers, numbers_of, rows};
 use crate::signals::Signals;
 use crate::{GateDraft, NetlistFault, Port, SpelledGate};
 use lw_dag::{find_levels, first_on_cycle};
-use lw_pool::{CellId, Name, NetId};
+use lw_pool::{CellId, Name, NetId, Numbers};
 use std::alloc::{AllocError, Global};
 
 // The cells of gates.
@@ -28,15 +28,46 @@ fn cells_of(alloc: Global, gates: &[SpelledGate]) -> Result<Vec<CellId>, AllocEr
     Ok(cells)
 }
 
+// What is made of the names of a draft: those that are driven, the numbers of what each gate and
+// then each wire hangs on among them, and the cells of the gates.
+#[derive(Drop)]
+struct Links {
+    cells: Vec<CellId>,
+    signals: Signals,
+    rows: Vec<Numbers>,
+}
+
+// The links of a draft, or the first name that is driven twice, or else the first that nothing
+// drives.
+fn links_of(alloc: Global, draft: &GateDraft) -> Result<Links, NetlistFault>
+    ensures graph { IfOk result (λ links. IsGraphOf draft.now links.signals links.rows.items) }
+    ensures cells { IfOk result (λ links. links.cells.items ≡ map cell_of draft.now.gates) }
+    ensures fault { IfErr result (HasFault draft.now) }
+{
+    let names = driven(alloc, draft)?;
+    let signals = numbers(alloc, names)?;
+    let cells = cells_of(alloc, draft.gates.as_slice())?;
+    let rows = rows(
+        alloc,
+        draft.gates.as_slice(),
+        draft.wires.as_slice(),
+        &signals,
+    )?;
+    let _outputs = numbers_of(alloc, draft.outputs.as_slice(), &signals)?;
+    Ok(Links {
+        cells,
+        signals,
+        rows,
+    })
+}
+
 // The graph of a draft, or the first name that is driven twice, or else the first that nothing
 // drives. The names of pins are let go one by one.
 pub(crate) fn graph_of(alloc: Global, draft: GateDraft) -> Result<Graph, NetlistFault>
     ensures graph { IfOk result (IsMadeOf draft) }
     ensures fault { IfErr result (HasFault draft) }
 {
-    let names = driven(alloc, &draft)?;
-    let signals = numbers(alloc, names)?;
-    let cells = cells_of(alloc, draft.gates.as_slice())?;
+    let links = links_of(alloc, &draft)?;
     let GateDraft {
         model,
         inputs,
@@ -44,16 +75,16 @@ pub(crate) fn graph_of(alloc: Global, draft: GateDraft) -> Result<Graph, Netlist
         gates,
         wires,
     } = draft;
-    let rows = rows(alloc, gates.as_slice(), wires.as_slice(), &signals)?;
-    let _outputs = numbers_of(alloc, outputs.as_slice(), &signals)?;
+    drop(gates);
+    drop(wires);
     Ok(Graph {
         model,
         inputs: inputs.len(),
         first: inputs,
         outputs,
-        cells,
-        signals,
-        rows,
+        cells: links.cells,
+        signals: links.signals,
+        rows: links.rows,
     })
 }
 

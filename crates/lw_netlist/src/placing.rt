@@ -133,6 +133,28 @@ fn closed_gates(
     Ok(done)
 }
 
+// The nets of all signals, and the gates at these places with nets in place of names.
+fn gates_by(
+    alloc: Global,
+    graph: &Graph,
+    starts: &[u32],
+    places: &[u32],
+) -> Result<(Vec<NetId>, Vec<Gate>), AllocError>
+    requires { (draft : GateDraft) × IsPlaced draft graph.now starts.now places.now }
+    ensures count { IfOk result (λ made. length made.0.items ≡ length graph.now.signals) }
+    ensures nets { IfOk result (λ made. (turned : List ℕ) ×
+        (AreTurned graph.now.inputs places.now turned ×
+        (made.0.items ≡ map (λ s. record { 0 = start_at turned s }) starts.now))) }
+    ensures gates { IfOk result (λ made. (draft : GateDraft) (net : List ℕ → ℕ) →
+        IsMadeOf draft graph.now → TellNets graph.now.signals made.0.items net →
+        made.1.items ≡ map (closed_gate net) (gates_at draft.gates places.now)) }
+{
+    let turned = turned(alloc, graph.inputs, graph.signals.len(), places)?;
+    let nets = nets_by(alloc, starts, &turned)?;
+    let gates = closed_gates(alloc, graph, places, &nets)?;
+    Ok((nets, gates))
+}
+
 // The netlist of a graph whose gates stand at these places.
 pub(crate) fn placed(
     alloc: Global,
@@ -145,24 +167,28 @@ pub(crate) fn placed(
         n ≡ netlist_in draft (gates_at draft.gates places.now)
         (net_by graph.signals starts.now (names_at draft places.now))) }
 {
-    let turned = turned(alloc, graph.inputs, graph.signals.len(), places)?;
-    let nets = nets_by(alloc, starts, &turned)?;
-    let gates = closed_gates(alloc, &graph, places, &nets)?;
+    let Ok(made) = gates_by(alloc, &graph, starts, places) else {
+        drop(graph);
+        return Err(AllocError);
+    };
     let Graph {
         model,
         inputs,
         first,
         outputs,
+        cells,
         signals,
-        ..
+        rows,
     } = graph;
+    drop(cells);
+    drop(rows);
     let names = names_by(alloc, first.into_vec(), signals.names(), inputs, places)?;
-    let outputs = ports(alloc, outputs.into_vec(), &signals, &nets)?;
+    let outputs = ports(alloc, outputs.into_vec(), &signals, &made.0)?;
     Ok(Netlist::new(
         model,
         Names::from_vec(names),
         inputs as u32,
-        Gates::from_vec(gates),
+        Gates::from_vec(made.1),
         PortList::from_vec(outputs),
     ))
 }

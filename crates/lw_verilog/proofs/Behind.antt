@@ -1,5 +1,5 @@
 -- What is left of a text behind each place, as phrases, and each move.
-use Rattle.std.proofs.Common.{◌≡◌, inl, inr, List, [], ◌∷◌, Some, refl, ap, sym, subst}
+use Rattle.std.proofs.Common.{◌≡◌, inl, inr, List, [], ◌∷◌, Option, None, Some, refl, ap, sym, subst}
 use Rattle.lw_verilog.specs.declared.kind.Kind.{Kind}
 use Rattle.lw_verilog.specs.declared.kind.Kind.TheVariants as kind
 use Rattle.lw_verilog.specs.declared.place.Move.{Move}
@@ -184,3 +184,7 @@ behindtie-close ks rest = (_, stop refl, (ks, refl, rest))
 
 pub behindties-semicolon : (ks : List Kind) → Left place.Item ks → Left place.BehindTies (kind.Semicolon ∷ ks)
 behindties-semicolon ks rest = (ks, refl, rest)
+
+-- there is no such move
+pub no-move : {A : Type 0} (m : Move) → ◌≡◌ {A = Option Move} None (Some m) → A
+no-move m e = cc

@@ -1,5 +1,6 @@
-use Rattle.std.proofs.Common.{◌≡◌, length, ap, arith}
+use Rattle.std.proofs.Common.{◌≡◌, [], Some, length, ap, sym, ◌∙◌, arith}
 use Rattle.std.proofs.lemmas.List.{take_at}
+use Rattle.std.proofs.lemmas.Option.{get_or_from_slice_get}
 use Rattle.lw_netlist.proofs.Names.{once_distinct}
 use Rattle.lw_netlist.proofs.naming.numbers.Goals as goal
 
@@ -16,3 +17,18 @@ new-requires c =
       places = omega (arith, all_next, c.in_ok-next.next.ok.0, c.in_ok-next.ensures.len, c.len-3.ensures);
       some = omega (arith, all_heads, c.in_ok-heads.heads.ok.0, c.in_ok-heads.ensures.len);
     })
+
+pub link-requires-clause-few : goal.link-requires-clause-few
+link-requires-clause-few c = omega (arith, c.len.ensures, c.if-len.false)
+
+pub link-requires-clause-some : goal.link-requires-clause-some
+link-requires-clause-some c = omega (arith, ap length c.deref_mut.ensures.value, c.in_ok-heads.heads.ok.0, c.in_ok-heads.ensures.len)
+
+pub link-requires-clause-places : goal.link-requires-clause-places
+link-requires-clause-places c = omega (arith, ap length c.deref_mut-2.ensures.value, c.in_ok-next.next.ok.0, c.in_ok-next.ensures.len, c.len-3.ensures)
+
+pub get-requires : goal.get-requires
+get-requires c = c.in-Some.ensures.within
+
+pub returns-in-Some-clause-fault : goal.returns-in-Some-clause-fault
+returns-in-Some-clause-fault c = c.in-Some.ensures.twice ∙ ap Some (get_or_from_slice_get c.args.names c.in-Some.place c.get.result.now [] c.get.ensures.name ∙ sym c.in_ok-name.ensures)

@@ -1,0 +1,19 @@
+use Rattle.std.proofs.lemmas.Result.{err_from_is_err_and}
+use Rattle.lw_netlist.specs.declared.draft.GateDraft.{GateDraft}
+use Rattle.lw_netlist.specs.declared.fault.NetlistFault.{NetlistFault}
+use Rattle.lw_netlist.specs.declared.fault.NetlistFault.TheVariants as whole
+use Rattle.lw_netlist.specs.Closing.{HasFault}
+use Rattle.lw_mapped.specs.Made.{TellsWhole}
+use Rattle.lw_mapped.specs.Unmapped.{whole_fault}
+use Rattle.lw_mapped.proofs.closing.closed.Goals as goal
+
+told-whole : (draft : GateDraft) (fault : NetlistFault) → HasFault draft fault → TellsWhole draft (whole_fault fault)
+told-whole draft (whole.Twice name) has = has
+told-whole draft (whole.Undriven name) has = has
+told-whole draft (whole.Cycle name) has = has
+told-whole draft whole.Memory has = tt
+
+pub returns-in_err-netlist-clause-fault : goal.returns-in_err-netlist-clause-fault
+returns-in_err-netlist-clause-fault c =
+    let p = err_from_is_err_and c.from_residual.result c.from_residual.ensures.1 in
+    rw (p.1, p.2) (told-whole c.args.draft c.in_err-netlist.field-0.0 c.in_err-netlist.ensures.fault)
