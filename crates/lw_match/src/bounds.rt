@@ -2,9 +2,9 @@ ghost use Rattle.std.specs.Prelude.{◌≡◌, ◌<◌, ◌≤◌, ◌*◌, ℕ,
 ghost use Rattle.lw_laws.specs.Covers.{Pattern as TreeOfCell};
 ghost use Rattle.lw_match.specs.Numbers.{most_numbers};
 
+use crate::bare::bare_patterns;
 use crate::cuts::Cuts;
 use crate::gaps::{all_guesses, no_gaps};
-use crate::kinds::{Kinds, kinds_of};
 use crate::lowering::Plan;
 use crate::numbers::{NO_ROW, Numbers, start_of};
 use crate::parts::{Group, Part, Root, Side};
@@ -53,7 +53,8 @@ pub struct Bounds {
     groups: Vec<Group>,
     // room to work in: what the pairs of a class give
     least: Vec<u64>,
-    kinds: Kinds,
+    // the patterns without NANDs
+    bare: Vec<PatId>,
 }
 
 impl Model for Bounds {
@@ -127,7 +128,7 @@ impl Bounds {
         let numbers = vec![in alloc; 0; rows.size as usize]?;
         let groups = groups_of(alloc, parts.as_slice())?;
         let least = vec![in alloc; 0; parts.len()]?;
-        let kinds = kinds_of(alloc, pats)?;
+        let bare = bare_patterns(alloc, pats)?;
         Ok(Bounds {
             parts,
             gaps,
@@ -140,7 +141,7 @@ impl Bounds {
             numbers,
             groups,
             least,
-            kinds,
+            bare,
         })
     }
 
@@ -203,7 +204,7 @@ impl Bounds {
 
     /// The patterns without NANDs.
     pub(crate) fn bare(&self) -> &[PatId] {
-        &self.kinds.bare
+        &self.bare
     }
 
     /// What searches are cut by.
@@ -233,7 +234,6 @@ impl Bounds {
             gaps: &self.gaps,
             height_sides: &[],
             heights: Numbers::none(),
-            repeats: &self.kinds.repeats,
         }
     }
 }

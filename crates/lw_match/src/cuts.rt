@@ -26,8 +26,6 @@ pub struct Cuts<'a> {
     pub gaps: &'a [[u64; 16]],
     pub height_sides: &'a [Vec<Side>],
     pub heights: Numbers<'a>,
-    /// For each pattern, whether searches by it look ahead.
-    pub repeats: &'a [bool],
 }
 
 /// What the numbers of sides are read from.
@@ -54,13 +52,5 @@ pub(crate) fn sides_at<'a>(all: &'a [Vec<Side>], pat: PatId) -> &'a [Side]
     match all.get(pat.0 as usize) {
         Some(sides) => sides.as_slice(),
         None => &[],
-    }
-}
-
-/// The flag of a pattern, false where there is none.
-pub(crate) fn flag_at(flags: &[bool], pat: PatId) -> bool {
-    match flags.get(pat.0 as usize) {
-        Some(flag) => *flag,
-        None => false,
     }
 }

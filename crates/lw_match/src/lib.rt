@@ -1,6 +1,7 @@
 //! Matches of a library's patterns at the classes of a graph, and the least of them under a cost.
 #![tactic(auto)]
 
+mod bare;
 mod bettering;
 mod binding;
 mod bisecting;
@@ -16,7 +17,6 @@ mod goals;
 mod heights;
 mod hunting;
 mod job;
-mod kinds;
 mod laws;
 mod lowering;
 mod mark;
