@@ -101,13 +101,13 @@ module _ (forms : List Form) (are : AreMade forms) where
 
     by_rest : (k : ℕ) → f % 2 ≡ k → form_of forms (flip f) ≡ complement (form_of forms f)
     by_rest zero e =
-        let even : f ≡ 2 * (f / 2) = grind arith in
+        let even : f ≡ 2 * (f / 2) = omega arith in
         let other = flip_even f (f / 2) even in
         let rest : flip f % 2 ≡ 1 = omega arith in
         let half : flip f / 2 ≡ f / 2 = half-flip f in
         ap₂ signed rest half ∙ sym (ap complement (ap (λ k. signed k (f / 2)) e))
     by_rest (suc zero) e =
-        let odd : f ≡ 2 * (f / 2) + 1 = grind arith in
+        let odd : f ≡ 2 * (f / 2) + 1 = omega arith in
         let other = flip_odd f (f / 2) odd in
         let rest : flip f % 2 ≡ 0 = omega arith in
         let half : flip f / 2 ≡ f / 2 = half-flip f in

@@ -8,10 +8,10 @@ use Rattle.lw_laws.specs.NumberedValues.{AreNumberedValues}
 use Rattle.lw_form.specs.Kept.{AreSamples}
 
 even_form : (f : ℕ) → f % 2 ≡ 0 → f ≡ 2 * (f / 2)
-even_form f e = grind arith
+even_form f e = omega arith
 
 odd_form : (f : ℕ) → (f % 2 ≡ 0 → ⊥) → f ≡ 2 * (f / 2) + 1
-odd_form f ne = grind arith
+odd_form f ne = omega arith
 
 sample_at : (forms : NumberedForms) (samples : List Bool) (value : ℕ → Bool) (b : ℕ) (read : Bool) → AreSamples forms samples → AreNumberedValues forms (λ i. false) value → b < length forms.bases → read ≡ get_or samples b read → read ≡ value (2 * b)
 sample_at forms samples value b read are values below is = is ∙ get_or_from_slice_get samples b (value (2 * b)) read (are.are value values b below)

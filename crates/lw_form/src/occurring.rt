@@ -6,10 +6,10 @@ ghost use Rattle.lw_net.specs.Signs.{asked};
 ghost use Rattle.lw_laws.specs.Forms.{Form};
 ghost use Rattle.lw_laws.specs.Forms.Form.{true_form};
 ghost use Rattle.lw_laws.specs.Mapped.{forms_of};
-ghost use Rattle.lw_laws.specs.Occurring.{add_signals, occurring_forms};
+ghost use Rattle.lw_laws.specs.Occurring.{add_signals, appended, occurring_forms};
 ghost use Rattle.lw_laws.specs.Signals.{Signal, signal_of_node, signals_after, input_signals, signals_of, sum_of_products as sum_of_forms, factored as factored_form};
 ghost use Rattle.lw_form.specs.Limits.{most_operands};
-ghost use Rattle.lw_form.specs.Listed.{bases_of, IsTooLong};
+ghost use Rattle.lw_form.specs.Listed.{base_at, bases_of, IsListed, IsTooLong};
 ghost use Rattle.lw_form.specs.Nets.{signal_at, AreListed, AreNodes};
 ghost use Rattle.lw_form.specs.Products.{HaveColumns};
 ghost use Rattle.lw_form.specs.Tables.{made, AreBelow, forms_at, HasMore, IsMadeAs};
@@ -101,6 +101,30 @@ fn both_forms(
     Ok((sop, fac))
 }
 
+// The list of true alone, with room for so many base forms.
+fn true_alone(alloc: Global, table: &FormTable, bases: usize) -> Result<Listing, FormFault>
+    requires { 0 < length (made table.now) }
+    ensures listed { IfOk result (λ listing. IsListed
+        (made table.now) listing.listed.items listing.places.items) }
+    ensures bases { IfOk result (λ listing. bases_of (made table.now) listing.listed.items
+        ≡ appended (base_at (made table.now) 0) []) }
+    ensures fault { IfErr result (IsTooLong (appended (base_at (made table.now) 0) [])) }
+{
+    let mut listing = Listing::with_capacity(alloc, bases)?;
+    listing.list(table, 0)?;
+    Ok(listing)
+}
+
+// No forms, twice, with room for those of so many nets.
+fn no_nets(alloc: Global, nets: usize) -> Result<(Vec<u32>, Vec<u32>), AllocError>
+    ensures sops { IfOk result (λ forms. forms.0.items ≡ []) }
+    ensures facs { IfOk result (λ forms. forms.1.items ≡ []) }
+{
+    let sops = Vec::with_capacity(alloc, nets)?;
+    let facs = Vec::with_capacity(alloc, nets)?;
+    Ok((sops, facs))
+}
+
 impl Occurring {
     // Adds a net with its two forms.
     fn add_net(&mut self, alloc: Global, sop: u32, fac: u32) -> Result<(), FormFault>
@@ -168,14 +192,14 @@ impl Occurring {
         ensures fault { IfErr result (IsTooLong (true_form ∷ [])) }
     {
         let table = FormTable::with_capacity(alloc, inputs, nets)?;
-        let mut listing = Listing::with_capacity(alloc, nets)?;
-        listing.list(&table, 0)?;
+        let listing = true_alone(alloc, &table, nets)?;
+        let (sops, facs) = no_nets(alloc, nets)?;
         Ok(Occurring {
             table,
             listing,
             steps: Vec::new(alloc),
-            sops: Vec::with_capacity(alloc, nets)?,
-            facs: Vec::with_capacity(alloc, nets)?,
+            sops,
+            facs,
         })
     }
 

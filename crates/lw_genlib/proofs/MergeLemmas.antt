@@ -1,18 +1,24 @@
 -- Cells and libraries with one more form or cell.
-use Rattle.std.proofs.Common.{ℕ, ◌+◌, ◌≡◌, ◌<◌, false, ◌||◌, List, [], ◌∷◌, ◌++◌, length, get_or, set, refl, ap, sym, ◌∙◌, subst, arith, length-append}
+use Rattle.std.proofs.Common.{ℕ, ◌+◌, ◌≡◌, ◌<◌, Bool, true, false, ◌||◌, if◌then◌else◌, Some, List, [], ◌∷◌, ◌++◌, length, get_or, set, refl, ap, sym, ◌∙◌, subst, arith, length-append}
 use Rattle.std.specs.Prelude.{sum_by, Contains, Result, Ok, Err, OnOk, OnErr}
 use Rattle.std.specs.List.{list_any, IsDistinct}
 use Rattle.std.specs.Str.{bytes_eq}
 use Rattle.std.proofs.lemmas.List.{get_or_append_left, map-append}
 use Rattle.std.proofs.Math.Seq.{get_or-append_seam, map-set_same}
 use Rattle.std.proofs.lemmas.List.Elements.{All-push, All-set}
+use Rattle.std.proofs.lemmas.Option.{slice_get-get_or, get_or_from_slice_get}
 use Rattle.std.proofs.lemmas.List.Sums.{sum_by-append, sum_by-set, sum_by-cons}
 use native.Mathlib.Decide.{dec_lt}
 use Rattle.lw_laws.specs.Expressions.{Expr}
 use Rattle.lw_genlib.specs.Postfix.{first_expr}
 use Rattle.lw_genlib.specs.Cells.{CellParts, IsCell, IsForm, HaveOneTruth, IsListed, form_count, names_of}
-use Rattle.lw_genlib.specs.Merging.{with_form}
+use Rattle.lw_genlib.specs.declared.fault.LibFault.{LibFault}
+use Rattle.lw_genlib.specs.declared.fault.LibFault.TheVariants.{Line, Memory}
+use Rattle.lw_genlib.specs.declared.fault.LibKind.TheVariants.{CellDiffers}
+use Rattle.lw_genlib.specs.Entries.{Entry}
+use Rattle.lw_genlib.specs.Merging.{with_form, form_over, cell_of, agrees, merged_at}
 use Rattle.lw_genlib.specs.Kept.{AreCells}
+use Rattle.lw_genlib.specs.Tells.{TellsErr}
 use Rattle.lw_genlib.specs.Expects.{HasRoom}
 use Rattle.lw_genlib.proofs.Pins.{distinct-more}
 
@@ -115,3 +121,25 @@ no-cells = record {
   library = record { few = omega arith; each = λ k d below. absurd (omega arith); names_differ = tt };
   count = refl;
 }
+
+-- the cells with an entry whose name has this place
+cell-there : (cells : List CellParts) (place : ℕ) (entry : Entry) (cell : CellParts) → place < length cells → cell ≡ get_or cells place cell → get_or cells place (cell_of entry) ≡ cell
+cell-there cells place entry cell lt at = get_or_from_slice_get cells place cell (cell_of entry) (slice_get-get_or cells place cell lt ∙ ap Some (sym at))
+
+abbrev answer-at : List CellParts → ℕ → Entry → CellParts → Bool → Result (List CellParts) LibFault
+answer-at cells place entry cell agree = if agree then Ok (set cells place (with_form cell (form_over cell.pins entry))) else Err (Line entry.line CellDiffers)
+
+merged-by : (cells : List CellParts) (place : ℕ) (entry : Entry) (cell : CellParts) → place < length cells → cell ≡ get_or cells place cell → merged_at cells entry (Some place) ≡ answer-at cells place entry cell (agrees cell entry)
+merged-by cells place entry cell lt at = ap (λ (x : CellParts). answer-at cells place entry x (agrees x entry)) (cell-there cells place entry cell lt at)
+
+pub merged-there : (cells : List CellParts) (place : ℕ) (entry : Entry) (cell : CellParts) → place < length cells → cell ≡ get_or cells place cell → agrees cell entry ≡ true → merged_at cells entry (Some place) ≡ Ok (set cells place (with_form cell (form_over cell.pins entry)))
+merged-there cells place entry cell lt at agree = merged-by cells place entry cell lt at ∙ ap (answer-at cells place entry cell) agree
+
+-- a fault at one cell is one at its place
+fault-at : (cells : List CellParts) (place : ℕ) (entry : Entry) (cell : CellParts) (agree : Bool) (fault : LibFault) → TellsErr (answer-at (cell ∷ []) 0 entry cell agree) fault → TellsErr (answer-at cells place entry cell agree) fault
+fault-at cells place entry cell true (Line line kind) tells = cc
+fault-at cells place entry cell false (Line line kind) tells = tells
+fault-at cells place entry cell agree Memory tells = tt
+
+pub fault-there : (cells : List CellParts) (place : ℕ) (entry : Entry) (cell : CellParts) (fault : LibFault) → place < length cells → cell ≡ get_or cells place cell → TellsErr (merged_at (cell ∷ []) entry (Some 0)) fault → TellsErr (merged_at cells entry (Some place)) fault
+fault-there cells place entry cell fault lt at tells = subst (λ (r : Result (List CellParts) LibFault). TellsErr r fault) (sym (merged-by cells place entry cell lt at)) (fault-at cells place entry cell (agrees cell entry) fault tells)

@@ -1,8 +1,8 @@
 // The cells of the entries that are at their end.
-ghost use Rattle.std.specs.Prelude.{◌≡◌, ◌<◌, MatchResult, Ok, Some, None, IfOk, IfSome, ◌++◌, [], ◌∷◌, length, false};
-ghost use Rattle.std.specs.List.{list_any};
+ghost use Rattle.std.specs.Prelude.{◌≡◌, ◌<◌, MatchResult, Ok, Some, None, IfOk, IfSome, OnOk, ◌++◌, [], ◌∷◌, length, true, false};
+ghost use Rattle.std.specs.List.{list_any, IsDistinct};
 ghost use Rattle.std.specs.Str.{bytes_eq};
-ghost use Rattle.lw_genlib.specs.Cells.{CellParts, IsListed, form_count};
+ghost use Rattle.lw_genlib.specs.Cells.{CellParts, IsCell, IsListed, form_count};
 ghost use Rattle.lw_genlib.specs.Expects.{HasRoom};
 ghost use Rattle.lw_genlib.specs.Merging as merging;
 ghost use Rattle.lw_genlib.specs.Libraries as library;
@@ -133,13 +133,35 @@ fn with_form(
     ensures whole { IfOk result (λ new. new.entry ≡ None) }
 {
     let CellsSoFar { mut cells, entries } = so_far;
-    if !merge(alloc, &mut cells[place], &entry, &delays)? {
+    match merge_into(alloc, &mut cells[place], &entry, &delays) {
+        Ok(()) => Ok(CellsSoFar {
+            cells,
+            entries: entries + 1,
+        }),
+        Err(fault) => Err(fault),
+    }
+}
+
+// Adds the entry's form to the cell of its name.
+fn merge_into(
+    alloc: Global,
+    cell: &mut Cell,
+    entry: &Entry,
+    delays: &Micros,
+) -> Result<(), LibFault>
+    requires delays { delays.now ≡ merging.delays_of entry.now }
+    requires pins_differ { IsDistinct bytes_eq cell.old.pins }
+    ensures agrees { MatchResult result (λ _. merging.agrees cell.old entry.now ≡ true)
+        (TellsErr (merging.merged_at (cell.old ∷ []) entry.now (Some 0))) }
+    ensures form { OnOk result
+        (cell.new ≡ merging.with_form cell.old (merging.form_over cell.old.pins entry.now)) }
+    ensures kept { OnOk result
+        (IsCell (merging.with_form cell.old (merging.form_over cell.old.pins entry.now))) }
+{
+    if !merge(alloc, cell, entry, delays)? {
         return Err(LibFault::Line(entry.line, LibKind::CellDiffers));
     }
-    Ok(CellsSoFar {
-        cells,
-        entries: entries + 1,
-    })
+    Ok(())
 }
 
 // The cell of an entry of a new name.

@@ -70,18 +70,18 @@ impl LibReader {
     {
         match mem::replace(&mut self.status, Status::Stopped(LibFault::Memory)) {
             Status::Stopped(fault) => {
-                self.status = Status::Stopped(fault);
+                put(&mut self.status, Status::Stopped(fault));
                 Err(fault)
             }
             Status::Reading(state) => {
                 self.last = line.number;
                 match read_line(self.alloc, state, line) {
                     Ok(state) => {
-                        self.status = Status::Reading(state);
+                        put(&mut self.status, Status::Reading(state));
                         Ok(())
                     }
                     Err(fault) => {
-                        self.status = Status::Stopped(fault);
+                        put(&mut self.status, Status::Stopped(fault));
                         Err(fault)
                     }
                 }
@@ -106,6 +106,13 @@ impl LibReader {
             Status::Reading(state) => finish(alloc, last, state),
         }
     }
+}
+
+// Goes on with another status.
+fn put(status: &mut Status, next: Status)
+    ensures { status.new ≡ next }
+{
+    *status = next;
 }
 
 // Reads the words of a line.

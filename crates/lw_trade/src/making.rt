@@ -1,4 +1,5 @@
 ghost use Rattle.std.specs.Prelude.{◌≡◌, ◌<◌, ◌≤◌, List, All, IfErr, IfOk, length};
+ghost use Rattle.lw_genlib.specs.Cells.{CellParts};
 ghost use Rattle.lw_laws.specs.Covers.{Pattern as TreeOfCell};
 ghost use Rattle.lw_laws.specs.Graphs.{Graph as PlainGraph};
 ghost use Rattle.lw_match.specs.Least.{AreOfCells};
@@ -6,11 +7,12 @@ ghost use Rattle.lw_trade.specs.Areas.{area_cost};
 ghost use Rattle.lw_trade.specs.Backing.{AreBacked};
 ghost use Rattle.lw_trade.specs.Choices.{AreListedChoices};
 ghost use Rattle.lw_trade.specs.Groups.{HaveWays};
-ghost use Rattle.lw_trade.specs.Jobs.{WhereListed};
+ghost use Rattle.lw_trade.specs.Jobs.{IsJob, WhereListed, choices_of_job, task_of};
 ghost use Rattle.lw_trade.specs.Points.{AreCurves, BoundCovers, IsWhy, most_points, point_count, task};
 ghost use Rattle.lw_trade.specs.Pricing.{IsOfLibrary, IsWithin};
 ghost use Rattle.lw_trade.specs.Rows.{plain_part, plain_rows};
-ghost use Rattle.lw_trade.specs.Settling.{AreSettled, IsStop};
+ghost use Rattle.lw_trade.specs.Settling.{AreFirst, AreSettled, IsStop};
+ghost use Rattle.lw_trade.specs.Uses.{AreUses};
 
 use crate::choices::{Row, list_choices};
 use crate::fronts::Fronts;
@@ -26,7 +28,55 @@ use lw_fixed::{Micro, Micros};
 use lw_genlib::Library;
 use lw_graph::Graph;
 use lw_pattern::Patterns;
-use std::alloc::Global;
+use std::alloc::{AllocError, Global};
+
+// The queue in which the choices wait that need no points of pins.
+fn started(alloc: Global, rows: &[Row], starts: &[Micro], horizon: u64) -> Result<Queue, AllocError>
+    requires { length rows.now < 4294967296 }
+    ensures horizon { IfOk result (λ queue. queue.horizon ≡ horizon) }
+    ensures first { IfOk result (λ queue. (g : PlainGraph) (pats : List TreeOfCell)
+        (cells : List CellParts) → AreListedChoices (task g pats cells starts.now)
+        (plain_rows rows.now) → AreFirst (task g pats cells starts.now) (plain_rows rows.now)
+        queue) }
+{
+    let mut queue = Queue::new(alloc, horizon, 1)?;
+    push_starts(&mut queue, rows, starts)?;
+    Ok(queue)
+}
+
+// Settles the points of all classes up to a horizon, from the choices that wait first.
+fn settle_job(
+    alloc: Global,
+    job: &Job,
+    queue: &mut Queue,
+    classes: u32,
+    horizon: u64,
+) -> Result<Fronts, CurveFault>
+    requires job { IsJob classes job.now }
+    requires horizon { queue.old.horizon ≡ horizon }
+    requires uses { (g : PlainGraph) (pats : List TreeOfCell) →
+        AreUses (task_of job.now g pats) (choices_of_job job.now) job.now.uses.now }
+    requires first { (g : PlainGraph) (pats : List TreeOfCell) →
+        AreListedChoices (task_of job.now g pats) (choices_of_job job.now) →
+        AreFirst (task_of job.now g pats) (choices_of_job job.now) queue.old }
+    requires choices { (g : PlainGraph) × (pats : List TreeOfCell) ×
+        AreListedChoices (task_of job.now g pats) (choices_of_job job.now) }
+    ensures count { IfOk result (λ fronts. classes ≡ length fronts.least) }
+    ensures few { IfOk result (λ fronts. length fronts.spots ≤ most_points) }
+    ensures settled { IfOk result (λ fronts. WhereListed job.now.lib.now job.now.starts.now
+        job.now.rows.now (λ s choices. AreSettled s horizon choices fronts.spots)) }
+    ensures backed { IfOk result (λ fronts. WhereListed job.now.lib.now job.now.starts.now
+        job.now.rows.now (λ s choices. AreBacked s choices fronts.held)) }
+    ensures stop { IfErr result (λ fault. WhereListed job.now.lib.now job.now.starts.now
+        job.now.rows.now (λ s choices. IsStop s choices horizon fault)) }
+{
+    let _ = job.lib.len();
+    let mut coming = Queue::new(alloc, horizon, job.uses.steps.len())?;
+    let mut fronts = Fronts::new(alloc, classes as usize)?;
+    let mut seen = none_seen(alloc, job.rows, job.lib, job.uses.links.len())?;
+    settle_all(job, &mut seen, &mut fronts, &mut coming, queue)?;
+    Ok(fronts)
+}
 
 // Settles the points of all classes up to a horizon, by what may stand at them.
 fn settle_rows(
@@ -53,21 +103,15 @@ fn settle_rows(
     ensures stop { IfErr result (λ fault. WhereListed lib.now starts.now rows.now
         (λ s choices. IsStop s choices horizon fault)) }
 {
-    let _ = lib.len();
     let uses = uses_of(alloc, rows, lib, classes as usize)?;
-    let mut queue = Queue::new(alloc, horizon, 1)?;
-    push_starts(&mut queue, rows, starts)?;
-    let mut coming = Queue::new(alloc, horizon, uses.steps.len())?;
-    let mut fronts = Fronts::new(alloc, classes as usize)?;
-    let mut seen = none_seen(alloc, rows, lib, uses.links.len())?;
+    let mut queue = started(alloc, rows, starts, horizon)?;
     let job = Job {
         rows,
         lib,
         starts,
         uses: &uses,
     };
-    settle_all(&job, &mut seen, &mut fronts, &mut coming, &mut queue)?;
-    Ok(fronts)
+    settle_job(alloc, &job, &mut queue, classes, horizon)
 }
 
 /// The points of each class up to a horizon: the times at which the least area of the covers that

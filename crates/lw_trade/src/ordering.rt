@@ -1,9 +1,10 @@
 // Gates by depth.
-ghost use Rattle.std.specs.Prelude.{◌≡◌, ◌+◌, ◌<◌, ◌≤◌, All, IfOk, List, length, map};
+ghost use Rattle.std.specs.Prelude.{◌≡◌, ◌+◌, ◌^◌, ◌<◌, ◌≤◌, All, IfOk, List, length, map};
 ghost use Rattle.std.specs.List.{range_with_len};
 ghost use Rattle.std.specs.List.Sorted.{IsPermutation};
 ghost use Rattle.lw_dag.specs.Graphs.{IsGraph, fanins_at, most_signals};
 ghost use Rattle.lw_genlib.specs.Cells.{IsLibrary};
+ghost use Rattle.lw_laws.specs.Names.{net_names};
 ghost use Rattle.lw_trade.specs.Groups.{CurveLists};
 ghost use Rattle.lw_trade.specs.Placed.{ArePlaces, HaveHeights, IsByHeight, placed_gate, placed_net};
 ghost use Rattle.lw_trade.specs.Points.{Task};
@@ -19,7 +20,7 @@ use crate::walking::Walk;
 use lw_dag::{find_levels, in_order};
 use lw_naming::net_names;
 use lw_netlist::{Gate, Gates, Netlist, Port, PortList};
-use lw_pool::{ClassId, Name, NetId, Nets, Numbers};
+use lw_pool::{ClassId, Name, Names, NetId, Nets, Numbers};
 use std::alloc::{AllocError, Global};
 
 // The nodes by depth, and at one depth in the order in which they were found.
@@ -166,6 +167,28 @@ fn classes_of_gates(alloc: Global, inputs: u32, gates: usize) -> Result<Vec<Clas
     Ok(classes)
 }
 
+// The names of the inputs, and of the nets that so many gates drive, of which some are outputs.
+fn names_of(
+    alloc: Global,
+    inputs: u32,
+    targets: &Targets,
+    outputs: &[Port],
+    gates: usize,
+) -> Result<Names, AllocError>
+    requires few { inputs + gates ≤ most_signals }
+    requires one_name { length targets.now.inputs ≡ inputs }
+    requires few_outputs { length targets.now.outputs < 2 ^ 32 }
+    requires one_each { length outputs.now ≡ length targets.now.outputs }
+    requires nets { All (λ net. net < inputs + gates) (map port_net outputs.now) }
+    ensures { IfOk result (λ names. names ≡ net_names targets.now.inputs targets.now.outputs
+        (map port_net outputs.now) (range_with_len inputs gates)) }
+{
+    let roots = classes_of_outputs(alloc, outputs)?;
+    let own = classes_of_gates(alloc, inputs, gates)?;
+    let nets = inputs as usize + gates;
+    net_names(alloc, &targets.inputs, &targets.outputs, &roots, nets, &own)
+}
+
 /// The netlist of the gates that a walk has found, by depth.
 pub(crate) fn assemble(
     alloc: Global,
@@ -193,10 +216,7 @@ pub(crate) fn assemble(
         targets.outputs.as_slice(),
         &walk.nets,
     )?;
-    let roots = classes_of_outputs(alloc, &outputs)?;
-    let own = classes_of_gates(alloc, inputs, order.len())?;
-    let nets = inputs as usize + order.len();
-    let names = net_names(alloc, &targets.inputs, &targets.outputs, &roots, nets, &own)?;
+    let names = names_of(alloc, inputs, targets, &outputs, order.len())?;
     let model = Name::from_slice(alloc, targets.model.as_bytes())?;
     let gates = Gates::from_vec(gates);
     let outputs = PortList::from_vec(outputs);

@@ -1,5 +1,6 @@
 // The points that get a gate, as a walk from the roots down finds them.
-ghost use Rattle.std.specs.Prelude.{◌≡◌, ◌<◌, IfOk, List, length};
+ghost use Rattle.std.specs.Prelude.{◌≡◌, ◌<◌, IfOk, IsTrue, List, length};
+ghost use Rattle.lw_trade.specs.Checks.{IsRightWalk};
 ghost use Rattle.lw_trade.specs.Points.{Task};
 ghost use Rattle.lw_trade.specs.Targets.{AreCurvesFor};
 ghost use Rattle.lw_trade.specs.Trades.{Site};
@@ -381,6 +382,35 @@ fn walk_first(
     Ok(())
 }
 
+// Walks from the roots down, of which those that are cut may share gates, and says whether what was
+// found is right.
+fn walk_through(
+    alloc: Global,
+    curves: &Curves,
+    inputs: &[Option<u32>],
+    count: u32,
+    lib: &Library,
+    trail: &mut Trail,
+    walk: &mut Walk,
+    roots: &[ClassId],
+    times: &[Micro],
+    sharing: bool,
+) -> Result<bool, AllocError>
+    requires inputs { length inputs.now ≡ length curves.now.points }
+    requires ways { length curves.now.ways ≡ length curves.now.points }
+    requires times { length times.now ≡ length roots.now }
+    ensures { IfOk result (λ right. IsTrue right → IsRightWalk curves.now inputs.now count lib.now
+        roots.now times.now trail.new.nodes.items trail.new.owners.items trail.new.spares.items
+        walk.new.cells.items walk.new.pins.items walk.new.nets.items) }
+{
+    if sharing {
+        walk_first(alloc, curves, inputs, count, lib, trail, walk, roots, times)?;
+    }
+    walk.nets = nets_of_roots(alloc, curves, inputs, count, trail, roots, times, sharing)?;
+    walk_on(alloc, curves, inputs, count, lib, trail, walk)?;
+    Ok(is_right(curves, inputs, count, lib, trail, walk, roots, times))
+}
+
 // Walks from the roots down, of which those that are cut may share gates. What was found is looked
 // through once more, so that the walk itself need not be known to be right.
 fn walk_by(
@@ -407,16 +437,9 @@ fn walk_by(
         pins: Vec::new(alloc),
         nets: Vec::new(alloc),
     };
-    if sharing {
-        walk_first(
-            alloc, curves, inputs, count, lib, &mut trail, &mut walk, roots, times,
-        )?;
-    }
-    walk.nets = nets_of_roots(
-        alloc, curves, inputs, count, &mut trail, roots, times, sharing,
-    )?;
-    walk_on(alloc, curves, inputs, count, lib, &mut trail, &mut walk)?;
-    if is_right(curves, inputs, count, lib, &trail, &walk, roots, times) {
+    if walk_through(
+        alloc, curves, inputs, count, lib, &mut trail, &mut walk, roots, times, sharing,
+    )? {
         return Ok(walk);
     }
     Err(AllocError)

@@ -165,3 +165,18 @@ returns-clause-table g c =
     let third = c.lower_height-third in
     let next = with_next first.new.marks second.new.marks c.args.table.now first.new.table second.new.table first.ensures.table second.ensures.table in
     with_next second.new.marks third.new.marks c.args.table.now second.new.table third.new.table next third.ensures.table
+
+pub lower_height-first-requires-clause-search : goal.lower_height-first-requires-clause-search
+lower_height-first-requires-clause-search g c = c.requires.search
+
+pub lower_height-second-requires-clause-search : goal.lower_height-second-requires-clause-search
+lower_height-second-requires-clause-search g c = c.lower_height-first.ensures.search
+
+pub lower_height-third-requires-clause-search : goal.lower_height-third-requires-clause-search
+lower_height-third-requires-clause-search g c = c.lower_height-second.ensures.search
+
+pub returns-then-not-may_lower-clause-search : goal.returns-then-not-may_lower-clause-search
+returns-then-not-may_lower-clause-search g c = c.lower_height-second.ensures.search
+
+pub returns-clause-search : goal.returns-clause-search
+returns-clause-search g c = c.lower_height-third.ensures.search

@@ -47,3 +47,39 @@ returns-clause-others g c =
       table = but_both (λ n. n ≡ place * 2 + 1) (λ n. n ≡ place * 2) (λ n. n / 2 ≡ place) old mid new odd even c.renew-one.ensures.others c.renew-other.ensures.others;
       marks = same_but_more (λ n. n ≡ place * 2 + 1) (λ n. n / 2 ≡ place) marks first.new.marks third.new.marks odd first.ensures.others (same_but_more (λ n. n ≡ place * 2) (λ n. n / 2 ≡ place) first.new.marks second.new.marks third.new.marks even second.ensures.others third.ensures.others);
     }
+
+pub lower_mark-first-requires-clause-of_cells : goal.lower_mark-first-requires-clause-of_cells
+lower_mark-first-requires-clause-of_cells g c = c.requires.of_cells
+
+pub lower_mark-first-requires-clause-problem : goal.lower_mark-first-requires-clause-problem
+lower_mark-first-requires-clause-problem g c = c.requires.problem
+
+pub lower_mark-first-requires-clause-lowering : goal.lower_mark-first-requires-clause-lowering
+lower_mark-first-requires-clause-lowering g c = c.requires.lowering
+
+pub lower_mark-second-requires-clause-of_cells : goal.lower_mark-second-requires-clause-of_cells
+lower_mark-second-requires-clause-of_cells g c = c.requires.of_cells
+
+pub lower_mark-second-requires-clause-problem : goal.lower_mark-second-requires-clause-problem
+lower_mark-second-requires-clause-problem g c = c.requires.problem
+
+pub lower_mark-second-requires-clause-known : goal.lower_mark-second-requires-clause-known
+lower_mark-second-requires-clause-known g c = c.lower_mark-first.ensures.known
+
+pub lower_mark-second-requires-clause-lowering : goal.lower_mark-second-requires-clause-lowering
+lower_mark-second-requires-clause-lowering g c = c.lower_mark-first.ensures.takes.lowering
+
+pub lower_again-third-requires-clause-of_cells : goal.lower_again-third-requires-clause-of_cells
+lower_again-third-requires-clause-of_cells g c = c.requires.of_cells
+
+pub lower_again-third-requires-clause-problem : goal.lower_again-third-requires-clause-problem
+lower_again-third-requires-clause-problem g c = c.requires.problem
+
+pub lower_again-third-requires-clause-lowering : goal.lower_again-third-requires-clause-lowering
+lower_again-third-requires-clause-lowering g c = c.lower_mark-second.ensures.takes.lowering
+
+pub returns-clause-known : goal.returns-clause-known
+returns-clause-known g c = c.lower_mark-second.ensures.known
+
+pub returns-clause-lowering : goal.returns-clause-lowering
+returns-clause-lowering g c = c.lower_again-third.ensures.takes.lowering

@@ -83,3 +83,30 @@ returns-clause-bounded g c = λ t.
     let last = c.lower_whole-lowered-2 in
     let beside = bounded_stays graph costs pats c.requires.search.problem own.new.marks last.new.marks a b last.result last.ensures.search.lowering last.ensures.same last.ensures.others (λ e. flip_apart a (e ∙ flipped)) (c.may_lower-2.ensures (is_false c.may_lower-2.result t)) own.ensures.bounded in
     bounded_pair graph costs pats last.new.marks c.args.place a b c.first_of-class.ensures flipped beside last.ensures.bounded
+
+pub lower_mark-requires-clause-of_cells : goal.lower_mark-requires-clause-of_cells
+lower_mark-requires-clause-of_cells g c = c.requires.search.of_cells
+
+pub lower_mark-requires-clause-problem : goal.lower_mark-requires-clause-problem
+lower_mark-requires-clause-problem g c = c.requires.search.problem
+
+pub lower_mark-requires-clause-fits : goal.lower_mark-requires-clause-fits
+lower_mark-requires-clause-fits g c = c.requires.search.fits
+
+pub lower_mark-requires-clause-known : goal.lower_mark-requires-clause-known
+lower_mark-requires-clause-known g c = c.requires.search.known
+
+pub lower_mark-requires-clause-lowering : goal.lower_mark-requires-clause-lowering
+lower_mark-requires-clause-lowering g c = c.requires.search.lowering
+
+pub lower_whole-lowered-requires-clause-search : goal.lower_whole-lowered-requires-clause-search
+lower_whole-lowered-requires-clause-search g c = c.lower_whole.ensures.search
+
+pub lower_whole-lowered-requires-2-clause-search : goal.lower_whole-lowered-requires-2-clause-search
+lower_whole-lowered-requires-2-clause-search g c = c.lower_whole-lowered.ensures.search
+
+pub returns-then-not-may_lower-clause-search : goal.returns-then-not-may_lower-clause-search
+returns-then-not-may_lower-clause-search g c = c.lower_whole-lowered.ensures.search
+
+pub returns-clause-search : goal.returns-clause-search
+returns-clause-search g c = c.lower_whole-lowered-2.ensures.search

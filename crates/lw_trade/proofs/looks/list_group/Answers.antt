@@ -1,6 +1,8 @@
-use Rattle.std.proofs.Common.{sym, subst}
+use Rattle.std.proofs.Common.{◌<◌, length, sym, subst, arith}
 use Rattle.lw_trade.specs.Links.{IsLast}
-use Rattle.lw_trade.proofs.Members.{AreAdding, adding_next}
+use Rattle.lw_trade.proofs.Linking.{place_falls, place_measure}
+use Rattle.lw_trade.proofs.Lists.{get_in}
+use Rattle.lw_trade.proofs.Members.{AreAdding, adding_first, adding_next, adding_over}
 use Rattle.lw_trade.proofs.looks.list_group.Goals as goal
 
 pub loop-next-preserved : goal.loop-next-preserved
@@ -13,3 +15,37 @@ loop-next-preserved c =
     let last' = subst (λ o. IsLast groups group bound o) c.in-Some.is last in
     let next = adding_next groups owners group c.args.numbers.now.items c.loop-next.numbers.items bound place last' are in
     (place, c.before-next.ensures group last'.1, subst (AreAdding groups owners group place c.args.numbers.now.items) (sym c.in_ok-push.ensures.items) next)
+
+pub bounds-owners-place : goal.bounds-owners-place
+bounds-owners-place c =
+    let groups = c.args.members.now.classes in
+    let (bound, last, are) = c.loop-next.invariant in
+    let last' = subst (λ o. IsLast groups c.args.group bound o) c.in-Some.is last in
+    let h = get_in groups c.in-Some.place c.args.group last'.1 in
+    omega (arith, h, c.requires.one_each)
+
+pub before-next-requires : goal.before-next-requires
+before-next-requires c =
+    let groups = c.args.members.now.classes in
+    let (bound, last, are) = c.loop-next.invariant in
+    let last' = subst (λ o. IsLast groups c.args.group bound o) c.in-Some.is last in
+    get_in groups c.in-Some.place c.args.group last'.1
+
+pub loop-next-smaller : goal.loop-next-smaller
+loop-next-smaller c =
+    let groups = c.args.members.now.classes in
+    let (bound, last, are) = c.loop-next.invariant in
+    let last' = subst (λ o. IsLast groups c.args.group bound o) c.in-Some.is last in
+    let falls = place_falls groups c.args.group c.in-Some.place c.before-next.result (c.before-next.ensures c.args.group last'.1) in
+    subst (λ o. place_measure c.before-next.result < place_measure o) (sym c.in-Some.is) falls
+
+pub loop-next-init : goal.loop-next-init
+loop-next-init c =
+    let groups = c.args.members.now.classes in
+    (length groups, c.last-next.ensures, adding_first groups c.args.owners.now c.args.group c.args.numbers.now.items)
+
+pub returns : goal.returns
+returns c =
+    let groups = c.args.members.now.classes in
+    let (bound, last, are) = c.loop-next.invariant in
+    adding_over groups c.args.owners.now c.args.group c.args.numbers.now.items c.loop-next.numbers.items bound (subst (λ o. IsLast groups c.args.group bound o) c.in_default.is last) are

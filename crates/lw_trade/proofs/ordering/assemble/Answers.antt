@@ -1,12 +1,12 @@
 use Rattle.std.proofs.Common.{◌≡◌, ℕ, ◌+◌, ◌<◌, All, List, length, map, get_or, ap, sym, ◌∙◌, subst, arith}
 use Rattle.std.specs.List.{range_with_len}
 use Rattle.std.specs.List.Sorted.{IsPermutation}
-use Rattle.std.proofs.lemmas.List.FromFn.{length-range_with_len, get_or-range_with_len}
+use Rattle.std.proofs.lemmas.List.{length-map}
+use Rattle.std.proofs.lemmas.List.FromFn.{length-range_with_len}
 use Rattle.lw_laws.specs.Names.{net_names}
 use Rattle.lw_naming.proofs.NameCount.{name_count}
 use Rattle.lw_netlist.specs.Netlists.{NetlistParts}
 use Rattle.lw_pool.specs.declared.id.CellId.{CellId}
-use Rattle.lw_pool.specs.declared.id.ClassId.{ClassId}
 use Rattle.lw_netlist.specs.declared.gate.Gate.{Gate}
 use Rattle.lw_trade.specs.Traded.{IsTraded, port_net}
 use Rattle.lw_trade.proofs.Assembled.{long, gate_count, least, tied, all_needed, are_by_depth, is_over, gate_kept, nets_placed}
@@ -16,7 +16,6 @@ use Rattle.lw_trade.specs.Placed.{ArePlaces, HaveHeights, IsByHeight, placed_gat
 use Rattle.lw_trade.proofs.Places.{order_length, order_low}
 use Rattle.lw_trade.proofs.Walked.{roots_low, walk_graph, walk_high}
 use Rattle.lw_trade.proofs.ordering.assemble.Goals as goal
-use Rattle.lw_pool.specs.Numbers.{numbers}
 use Rattle.lw_netlist.specs.Plain.{port_name}
 
 -- The facts of the calls, of the walk's own lists.
@@ -155,18 +154,32 @@ outputs_of-requires-clause-one_each c =
     let many = (roots_low s are.ways.held nodes t.roots t.times c.args.walk.now.nets.items walk.root_nets).0 in
     omega (arith, nets, names, many, fit.one_root)
 
-pub classes_of_gates-requires : goal.classes_of_gates-requires
-classes_of_gates-requires c =
+pub names_of-requires-clause-few : goal.names_of-requires-clause-few
+names_of-requires-clause-few c =
     let (s, curves, are, nodes, fit, e, walk) = c.requires.walk in
     let by = c.in_ok-order.ensures in
     let n = length c.deref.result.now in
     let rows = ap length c.deref.ensures.value in
     let long = order_length n c.in_ok-order.order.items by.moved in
-    let same = ap length c.deref-2.ensures.value in
     omega (arith, c.len.ensures, long, rows, walk.one_row, walk.few, fit.few_inputs, e)
 
-pub net_names-requires-clause-roots : goal.net_names-requires-clause-roots
-net_names-requires-clause-roots c =
+pub names_of-requires-clause-one_name : goal.names_of-requires-clause-one_name
+names_of-requires-clause-one_name c =
+    let (s, curves, are, nodes, fit, e, walk) = c.requires.walk in
+    fit.one_name ∙ e
+
+pub names_of-requires-clause-few_outputs : goal.names_of-requires-clause-few_outputs
+names_of-requires-clause-few_outputs c =
+    let (s, curves, are, nodes, fit, e, walk) = c.requires.walk in
+    fit.few_outputs
+
+pub names_of-requires-clause-one_each : goal.names_of-requires-clause-one_each
+names_of-requires-clause-one_each c =
+    let same : length (map port_name c.deref-7.result.now) ≡ length c.args.targets.now.outputs = ap (λ l. length (map port_name l)) c.deref-7.ensures.value ∙ ap length (c.in_ok-outputs.ensures.names ∙ c.as_slice.ensures) in
+    omega (arith, same, length-map c.deref-7.result.now port_name)
+
+pub names_of-requires-clause-nets : goal.names_of-requires-clause-nets
+names_of-requires-clause-nets c =
     let (s, curves, are, nodes, fit, e, walk) = c.requires.walk in
     let t = c.args.targets.now in
     let w = c.args.walk.now in
@@ -175,18 +188,10 @@ net_names-requires-clause-roots c =
     let by = by_of (length s.graph.leaves) c.args.inputs e order places c.deref.result.now w.pins.items c.deref.ensures.value c.in_ok-order.ensures in
     let placed = subst (λ l. ArePlaces l places) c.deref-2.ensures.value c.in_ok-places.ensures in
     let outs : map port_net c.in_ok-outputs.outputs.items ≡ map (placed_net (length s.graph.leaves) places) w.nets.items = nets_as (length s.graph.leaves) c.args.inputs e order places w.nets.items c.deref-5.result.now c.deref-6.result.now (map port_net c.in_ok-outputs.outputs.items) c.deref-5.ensures.value c.deref-6.ensures.value c.in_ok-outputs.ensures.nets in
-    let same : numbers c.deref-8.result.now ≡ map (placed_net (length s.graph.leaves) places) w.nets.items = ap numbers c.deref-8.ensures.value ∙ (c.in_ok-roots.ensures ∙ (ap (map port_net) c.deref-7.ensures.value ∙ outs)) in
+    let same : map port_net c.deref-7.result.now ≡ map (placed_net (length s.graph.leaves) places) w.nets.items = ap (map port_net) c.deref-7.ensures.value ∙ outs in
     let low = nets_placed s t curves are nodes w.cells.items w.pins.items w.nets.items walk order places by placed in
-    let many : length s.graph.leaves + length nodes ≡ c.args.inputs + c.len-2.result = (let a = long s t curves are nodes w.cells.items w.pins.items w.nets.items walk order places by placed in omega (arith, a, c.len-2.ensures, e)) in
-    below_by (λ (k : ClassId). k.0) (c.args.inputs + c.len-2.result) c.deref-8.result.now (subst (λ b. All (λ x. x < b) (numbers c.deref-8.result.now)) many (subst (All (λ x. x < length s.graph.leaves + length nodes)) (sym same) low))
-
-pub net_names-requires-clause-gates : goal.net_names-requires-clause-gates
-net_names-requires-clause-gates c =
-    let same : numbers c.deref-9.result.now ≡ range_with_len c.args.inputs c.len.result = ap numbers c.deref-9.ensures.value ∙ c.in_ok-own.ensures in
-    below_by (λ (k : ClassId). k.0) (c.args.inputs + c.len-2.result) c.deref-9.result.now (subst (All (λ x. x < c.args.inputs + c.len-2.result)) (sym same) (λ k d lt.
-    let many = length-range_with_len c.args.inputs c.len.result in
-    let f = get_or-range_with_len c.args.inputs c.len.result k d (omega (arith, lt, many)) in
-    omega (arith, f, lt, many, c.len.ensures, c.len-2.ensures)))
+    let many : length s.graph.leaves + length nodes ≡ c.args.inputs + c.len.result = (let a = long s t curves are nodes w.cells.items w.pins.items w.nets.items walk order places by placed in omega (arith, a, c.len.ensures, e)) in
+    subst (λ b. All (λ x. x < b) (map port_net c.deref-7.result.now)) many (subst (All (λ x. x < length s.graph.leaves + length nodes)) (sym same) low)
 
 pub new-requires : goal.new-requires
 new-requires c =
@@ -202,9 +207,9 @@ new-requires c =
     let outs : map port_net n.outputs ≡ map (placed_net (length s.graph.leaves) places) w.nets.items = nets_as (length s.graph.leaves) c.args.inputs e order places w.nets.items c.deref-5.result.now c.deref-6.result.now (map port_net c.from_vec-outputs.result) c.deref-5.ensures.value c.deref-6.ensures.value (ap (map port_net) c.from_vec-outputs.ensures ∙ c.in_ok-outputs.ensures.nets) in
     let many = gate_count s t curves are nodes w.cells.items w.pins.items w.nets.items walk order places by placed n (sym e) gates outs in
     let low = nets_placed s t curves are nodes w.cells.items w.pins.items w.nets.items walk order places by placed in
-    let own : length (numbers c.deref-9.result.now) ≡ c.len.result = ap (λ l. length (numbers l)) c.deref-9.ensures.value ∙ (ap length c.in_ok-own.ensures ∙ length-range_with_len c.args.inputs c.len.result) in
+    let own = length-range_with_len c.args.inputs c.len.result in
     let ordered = long s t curves are nodes w.cells.items w.pins.items w.nets.items walk order places by placed in
-    let names = ap length c.in_ok-names.ensures ∙ name_count t.inputs t.outputs (numbers c.deref-8.result.now) (numbers c.deref-9.result.now) in
+    let names = ap length c.in_ok-names.ensures ∙ name_count t.inputs t.outputs (map port_net c.deref-7.result.now) (range_with_len c.args.inputs c.len.result) in
     let named : length n.names ≡ n.inputs + length n.gates = omega (arith, names, own, many, ordered, c.len.ensures, fit.one_name, e) in
     record {
       named = named;
@@ -226,15 +231,14 @@ returns c s curves are nodes lib fit e walk =
     let outs : map port_net n.outputs ≡ map (placed_net (length s.graph.leaves) places) w.nets.items = nets_as (length s.graph.leaves) c.args.inputs e order places w.nets.items c.deref-5.result.now c.deref-6.result.now (map port_net c.from_vec-outputs.result) c.deref-5.ensures.value c.deref-6.ensures.value (ap (map port_net) c.from_vec-outputs.ensures ∙ c.in_ok-outputs.ensures.nets) in
     let many = gate_count s t curves are nodes w.cells.items w.pins.items w.nets.items walk order places by placed n (sym e) gates outs in
     let ordered = long s t curves are nodes w.cells.items w.pins.items w.nets.items walk order places by placed in
-    let roots : numbers c.deref-8.result.now ≡ map port_net n.outputs = ap numbers c.deref-8.ensures.value ∙ (c.in_ok-roots.ensures ∙ (ap (map port_net) c.deref-7.ensures.value ∙ ap (map port_net) (sym c.from_vec-outputs.ensures))) in
+    let roots : map port_net c.deref-7.result.now ≡ map port_net n.outputs = ap (map port_net) (c.deref-7.ensures.value ∙ sym c.from_vec-outputs.ensures) in
     let size : c.len.result ≡ length n.gates = omega (arith, c.len.ensures, many, ordered) in
-    let own : numbers c.deref-9.result.now ≡ range_with_len n.inputs (length n.gates) = ap numbers c.deref-9.ensures.value ∙ (c.in_ok-own.ensures ∙ ap (range_with_len c.args.inputs) size) in
     subst (IsTraded s t) (sym c.new.ensures) (record {
       over = is_over s t curves are nodes w.cells.items w.pins.items w.nets.items walk order places by placed n (sym e) gates outs lib;
       few = omega (arith, many, walk.few);
       model = c.in_ok-model.ensures ∙ c.as_bytes.ensures.bytes;
       inputs = sym e;
-      names = c.in_ok-names.ensures ∙ (ap (λ l. net_names t.inputs t.outputs l (numbers c.deref-9.result.now)) roots ∙ ap (net_names t.inputs t.outputs (map port_net n.outputs)) own);
+      names = c.in_ok-names.ensures ∙ (ap (λ l. net_names t.inputs t.outputs l (range_with_len c.args.inputs c.len.result)) roots ∙ ap (λ k. net_names t.inputs t.outputs (map port_net n.outputs) (range_with_len c.args.inputs k)) size);
       output_names = ap (map port_name) c.from_vec-outputs.ensures ∙ (c.in_ok-outputs.ensures.names ∙ c.as_slice.ensures);
       least = least s t curves are nodes w.cells.items w.pins.items w.nets.items walk order places by placed n (sym e) gates outs fit;
       tied = tied s t curves are nodes w.cells.items w.pins.items w.nets.items walk order places by placed n (sym e) gates outs;

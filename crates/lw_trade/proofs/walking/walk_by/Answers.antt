@@ -6,15 +6,15 @@ use Rattle.lw_trade.specs.Checks.{IsRightWalk}
 use Rattle.lw_trade.proofs.Checked.{checked_walk, sites_of}
 use Rattle.lw_trade.proofs.walking.walk_by.Goals as goal
 
-pub returns-then-is_right : goal.returns-then-is_right
-returns-then-is_right c = λ s t are g cells roots times.
+pub returns-then-branch : goal.returns-then-branch
+returns-then-branch c = λ s t are g cells roots times.
     let inputs = c.args.inputs.now in
     let own : AreInputsTo s.graph (length s.graph.leaves) inputs = subst (λ (h : Graph). AreInputsTo h (length h.leaves) inputs) (sym g) c.requires.inputs in
-    let nodes = c.walk_on.new.trail.nodes.items in
-    let owners = c.walk_on.new.trail.owners.items in
-    let spares = c.walk_on.new.trail.spares.items in
-    let w = c.walk_on.new.walk in
-    let given : IsRightWalk c.args.curves.now inputs c.inputs-count.result c.args.lib.now c.args.roots.now c.args.times.now nodes owners spares w.cells.items w.pins.items w.nets.items = c.is_right.ensures c.if-is_right.true in
+    let nodes = c.walk_through.new.trail.nodes.items in
+    let owners = c.walk_through.new.trail.owners.items in
+    let spares = c.walk_through.new.trail.spares.items in
+    let w = c.walk_through.new.walk in
+    let given : IsRightWalk c.args.curves.now inputs c.inputs-count.result c.args.lib.now c.args.roots.now c.args.times.now nodes owners spares w.cells.items w.pins.items w.nets.items = c.in_ok-walk_through.ensures c.if-branch.true in
     let count : c.inputs-count.result ≡ length s.graph.leaves = c.inputs-count.ensures.inputs ∙ ap (λ (h : Graph). length h.leaves) (sym g) in
     let right = subst₂ (λ n (ls : List CellParts). IsRightWalk c.args.curves.now inputs n ls c.args.roots.now c.args.times.now nodes owners spares w.cells.items w.pins.items w.nets.items) count (sym cells) given in (
       sites_of s c.args.curves.now are.ways are.starts inputs own nodes,

@@ -7,8 +7,9 @@ use Rattle.lw_genlib.proofs.reader.LibReader.line.Goals as goal
 
 pub returns-in-Stopped-clause-stands : goal.returns-in-Stopped-clause-stands
 returns-in-Stopped-clause-stands c = λ lines h. record {
-  at = stands-stopped c.args.self.now.last c.in-Stopped.fault lines c.args.line.now
-      (subst (λ (s : Status). IsAt s c.args.self.now.last lines) (sym c.in-Stopped.ensures.value) h.at);
+  at = subst (λ (s : Status). IsAt s c.args.self.now.last (lines ++ c.args.line.now ∷ [])) (sym c.put.ensures)
+      (stands-stopped c.args.self.now.last c.in-Stopped.fault lines c.args.line.now
+      (subst (λ (s : Status). IsAt s c.args.self.now.last lines) (sym c.in-Stopped.ensures.value) h.at));
 }
 
 pub returns-in-Stopped-clause-answer : goal.returns-in-Stopped-clause-answer
@@ -19,9 +20,10 @@ returns-in-Stopped-clause-answer c = λ lines h.
 
 pub returns-in-Ok-clause-stands : goal.returns-in-Ok-clause-stands
 returns-in-Ok-clause-stands c = λ lines h. record {
-  at = stands-read c.args.self.now.last c.line.inside.number c.in-Reading.state c.in-Ok.state lines c.args.line.now
+  at = subst (λ (s : Status). IsAt s c.line.inside.number (lines ++ c.args.line.now ∷ [])) (sym c.put-in-Ok.ensures)
+      (stands-read c.args.self.now.last c.line.inside.number c.in-Reading.state c.in-Ok.state lines c.args.line.now
       (subst (λ (s : Status). IsAt s c.args.self.now.last lines) (sym c.in-Reading.ensures.value) h.at)
-      (ap (λ (l : LogicalLine). l.number) c.line.view_is) c.in-Ok.ensures;
+      (ap (λ (l : LogicalLine). l.number) c.line.view_is) c.in-Ok.ensures);
 }
 
 pub returns-in-Ok-clause-answer : goal.returns-in-Ok-clause-answer
@@ -33,9 +35,10 @@ returns-in-Ok-clause-answer c = λ lines h.
 
 pub returns-in-Err-clause-stands : goal.returns-in-Err-clause-stands
 returns-in-Err-clause-stands c = λ lines h. record {
-  at = stands-broken c.args.self.now.last c.line.inside.number c.in-Reading.state c.in-Err.fault lines c.args.line.now
+  at = subst (λ (s : Status). IsAt s c.line.inside.number (lines ++ c.args.line.now ∷ [])) (sym c.put-in-Err.ensures)
+      (stands-broken c.args.self.now.last c.line.inside.number c.in-Reading.state c.in-Err.fault lines c.args.line.now
       (subst (λ (s : Status). IsAt s c.args.self.now.last lines) (sym c.in-Reading.ensures.value) h.at)
-      c.in-Err.ensures;
+      c.in-Err.ensures);
 }
 
 pub returns-in-Err-clause-answer : goal.returns-in-Err-clause-answer

@@ -1,0 +1,34 @@
+use Rattle.std.proofs.Common.{◌≡◌, ◌++◌, ◌∷◌, [], map, get_or, ap, ap₂, sym, ◌∙◌, arith}
+use Rattle.std.proofs.lemmas.List.{map-append, map_more, take_all, take_more}
+use Rattle.lw_netlist.specs.declared.gate.Port.{Port}
+use Rattle.lw_netlist.specs.Plain.{port_name}
+use Rattle.lw_trade.specs.Placed.{placed_net}
+use Rattle.lw_trade.specs.Traded.{port_net}
+use Rattle.lw_trade.proofs.ordering.outputs_of.Goals as goal
+
+pub net_at-net-requires-clause-few : goal.net_at-net-requires-clause-few
+net_at-net-requires-clause-few c = c.requires.few
+
+pub net_at-net-requires-clause-low : goal.net_at-net-requires-clause-low
+net_at-net-requires-clause-low c = c.requires.low
+
+pub net_at-net-requires-clause-net : goal.net_at-net-requires-clause-net
+net_at-net-requires-clause-net c = c.requires.nets c.loop-k.k 0 (omega (arith, c.loop-k-test.true, c.requires.one_each))
+
+pub loop-k-preserved : goal.loop-k-preserved
+loop-k-preserved c =
+    let k = c.loop-k.k in
+    let known = c.loop-k.outputs.items in
+    let port : Port = record { name = c.in_ok-name.name; net = c.net_at-net.result } in
+    let named = c.index-names-k.result in
+    let name_is : port_name port ≡ get_or c.args.names.now k named = c.in_ok-name.ensures ∙ (c.as_bytes.ensures.bytes ∙ c.index-names-k.is) in
+    record {
+      names = ap (map port_name) c.in_ok-push.ensures.items ∙ (map-append port_name known (port ∷ []) ∙ (ap₂ (λ ns n. ns ++ n ∷ []) c.loop-k.invariant.names name_is ∙ sym (take_more c.args.names.now k named c.loop-k-test.true)));
+      nets = ap (map port_net) c.in_ok-push.ensures.items ∙ (map-append port_net known (port ∷ []) ∙ (ap₂ (λ ns n. ns ++ n ∷ []) c.loop-k.invariant.nets c.net_at-net.ensures ∙ sym (map_more (placed_net c.args.inputs c.args.places.now) c.args.nets.now k 0 (omega (arith, c.loop-k-test.true, c.requires.one_each)))));
+    }
+
+pub returns-clause-names : goal.returns-clause-names
+returns-clause-names c = c.loop-k.invariant.names ∙ take_all c.loop-k.k c.args.names.now c.loop-k-test.false
+
+pub returns-clause-nets : goal.returns-clause-nets
+returns-clause-nets c = c.loop-k.invariant.nets ∙ ap (map (placed_net c.args.inputs c.args.places.now)) (take_all c.loop-k.k c.args.nets.now (omega (arith, c.loop-k-test.false, c.requires.one_each)))
