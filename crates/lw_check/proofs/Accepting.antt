@@ -1,5 +1,5 @@
 -- The netlist that a network is mapped to is accepted with its certificate.
-use Rattle.std.proofs.Common.{ℕ, zero, suc, ◌+◌, ◌<◌, ◌≡◌, inl, inr, List, [], ◌∷◌, ◌++◌, length, map, All, Contains, IfSome, Option, Some, None, option_map, slice_get, slice_index_or, get_or, length-append, refl, ap, sym, ◌∙◌, subst, arith}
+use Rattle.std.proofs.Common.{ℕ, ◌+◌, ◌<◌, ◌≡◌, inl, inr, List, [], ◌∷◌, ◌++◌, length, map, All, IfSome, Option, Some, None, option_map, slice_get, slice_index_or, get_or, length-append, refl, ap, sym, ◌∙◌, subst, arith}
 use Rattle.std.specs.List.{AllZip, AllByRecursion, filter_map}
 use Rattle.std.proofs.lemmas.List.{length-map}
 use Rattle.std.proofs.lemmas.List.Elements.{recursion_from_All}
@@ -14,7 +14,7 @@ use Rattle.lw_laws.specs.Delays.{delay_cost}
 use Rattle.lw_laws.specs.Choices.{IsPotential, Labels}
 use Rattle.lw_laws.specs.Extracts.{AreGateClasses, HaveLeafLabels, IsExtracted, IsNetOf, class_at}
 use Rattle.lw_laws.specs.Flip.{flip}
-use Rattle.lw_laws.specs.Graphs.{Graph, Pair, Stands}
+use Rattle.lw_laws.specs.Graphs.{Graph, Stands}
 use Rattle.lw_laws.specs.Headline.{Port as PlainPort}
 use Rattle.lw_laws.specs.Laws.{IsCoverProblem}
 use Rattle.lw_laws.specs.Mapped.{root_class}
@@ -32,7 +32,7 @@ use Rattle.lw_laws.proofs.ExtractLaws.{extracted_arrivals, ordered_and_mapped}
 use Rattle.lw_laws.proofs.Flips.{half-flip}
 use Rattle.lw_laws.proofs.InputLabels.{input_label}
 use Rattle.lw_laws.proofs.Listed.{occurring_is_listing}
-use Rattle.lw_laws.proofs.Lists.{all_append, slice_get_some}
+use Rattle.lw_laws.proofs.Lists.{all_append, slice_get_some, held_in}
 use Rattle.lw_laws.proofs.NetlistOf.{least_costs_bound}
 use Rattle.lw_laws.proofs.NetlistValues.{some_arrivals}
 use Rattle.lw_genlib.specs.Tables.{millionths}
@@ -55,11 +55,6 @@ use Rattle.lw_pool.specs.Numbers.{net_number}
 
 -- a tree that unfolds at a class of a graph does so at one in range
 module _ (g : Graph) (is : IsGraph g) where
-  held_in : (rows : List (List Pair)) (c : ℕ) (p : Pair) → Contains (slice_index_or rows c []) p → c < length rows
-  held_in [] c p (k, lt, e) = absurd (omega arith)
-  held_in (r ∷ rows) zero p at = omega arith
-  held_in (r ∷ rows) (suc c) p at = let ih = held_in rows c p at in omega arith
-
   flip_in : (c : ℕ) → flip c < length g.pairs → c < length g.pairs
   flip_in c lt = let half = half-flip c in let even = is.even in omega arith
 

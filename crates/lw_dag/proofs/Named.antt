@@ -6,6 +6,7 @@ use Rattle.std.proofs.lemmas.Option.{get_or_from_slice_get}
 use Rattle.std.proofs.lemmas.Bool.{cases_lt}
 use Rattle.std.specs.List.{flat_map, IsDistinct}
 use Rattle.std.specs.Str.{bytes_eq}
+use Rattle.std.proofs.Math.Nat.{add-sub_cancel_left}
 use Rattle.lw_facts.proofs.Lists.{contains_map}
 use Rattle.lw_dag.specs.Graphs.{AreKnown, IsFirst, IsGraph, Leads, fanins_at, height_at}
 use Rattle.lw_dag.specs.Graphs.Leads.{one_step, then_path}
@@ -63,10 +64,7 @@ module _ {X : Type 0} (out : X → List ℕ) (fanins : X → List (List ℕ)) (b
         by_place (inr past) = subst (All (λ s. s < m + length graph)) (sym (get_or_past graph j [] (omega (arith, many_nodes)))) (λ k d lt. absurd (omega arith))
 
     pub out_at : (j : ℕ) → j < length nodes → name_at (m + j) ≡ out (node_at j)
-    out_at j lt = get_or-append_right inputs (map out nodes) m (m + j) [] refl (omega arith) ∙ (ap (λ k. get_or (map out nodes) k []) (shift m j) ∙ get_or-map out nodes j bare [] lt)
-      where
-        shift : (a b : ℕ) → a + b - a ≡ b
-        shift a b = omega arith
+    out_at j lt = get_or-append_right inputs (map out nodes) m (m + j) [] refl (omega arith) ∙ (ap (λ k. get_or (map out nodes) k []) (add-sub_cancel_left m j) ∙ get_or-map out nodes j bare [] lt)
 
     pub number_out : (j : ℕ) → j < length nodes → number_in signals (out (node_at j)) ≡ m + j
     number_out j lt = ap (number_in signals) (sym (out_at j lt)) ∙ number_at signals (m + j) [] distinct (omega (arith, many))

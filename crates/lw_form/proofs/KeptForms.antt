@@ -2,7 +2,7 @@
 use Rattle.std.proofs.Common.{◌≡◌, ◌≢◌, ◌+◌, ◌-◌, ◌*◌, ◌/◌, ◌<◌, ◌≤◌, ◌⊎◌, inl, inr, ℕ, zero, suc, Bool, true, false, ◌||◌, List, [], ◌∷◌, ◌++◌, length, map, Option, Some, slice_get, refl, ap, ap₂, sym, ◌∙◌, subst, arith}
 use Rattle.std.specs.List.{AllByRecursion, list_any}
 use Rattle.std.proofs.lemmas.List.{length-map}
-use Rattle.std.proofs.lemmas.Bool.{or_parts}
+use Rattle.std.proofs.lemmas.Bool.{or_parts, or_from}
 use Rattle.lw_pool.specs.Numbers.{most_signals}
 use Rattle.lw_laws.specs.Networks.{Node, Network, IsInOrder, AreValues}
 use Rattle.lw_laws.specs.Forms.{Form, FormList, items, form_list, same_form, is_among, complement, form_value}
@@ -111,11 +111,7 @@ module _ (o : Listing) (is : IsListing o) where
   weaker_any h all [] e = refl
   weaker_any h all (f ∷ fs) e =
       let p = or_parts (is_among (complement f) (h ∷ all)) (list_any (λ g. is_among (complement g) (h ∷ all)) fs) e in
-      both (is_among (complement f) all) (list_any (λ g. is_among (complement g) all) fs) (among_tail (complement f) h all p.0) (weaker_any h all fs p.1)
-    where
-      both : (a b : Bool) → a ≡ false → b ≡ false → (a || b) ≡ false
-      both false b p q = q
-      both true b p q = cc
+      or_from (is_among (complement f) all) (list_any (λ g. is_among (complement g) all) fs) (among_tail (complement f) h all p.0) (weaker_any h all fs p.1)
 
   are_apart : (fs : List Form) → AllByRecursion (Occurs o) fs → slice_get o.bases 0 ≡ Some true_form → AreDistinct fs → is_among (not_form true_form) fs ≡ false → list_any (λ f. is_among (complement f) fs) fs ≡ false → AreApart (map N fs)
   are_apart [] a first d n c = tt

@@ -3,7 +3,7 @@ use Rattle.std.proofs.Common.{◌≡◌, ◌≢◌, ◌+◌, ◌-◌, ◌*◌, �
 use Rattle.std.specs.List.{AllByRecursion}
 use Rattle.std.specs.Result.{IsErrAnd}
 use Rattle.std.proofs.lemmas.Bool.{le-leb}
-use Rattle.std.proofs.lemmas.List.{length-map, map-append, get_or_append_left, at_drop_more, drop_all}
+use Rattle.std.proofs.lemmas.List.{length-map, map-append, get_or_append_left, at_drop_more, drop_all, length_push}
 use Rattle.std.proofs.lemmas.Option.{slice_get-get_or, get_or_from_slice_get, slice_get_within}
 use Rattle.lw_facts.proofs.Lists.{drop_get, all_front, all_last, get_left, get_last, get_last_cases}
 use Rattle.lw_laws.specs.Forms.{Form, FormList, items, form_list, and_of, is_among, complement}
@@ -25,7 +25,7 @@ use Rattle.lw_form.specs.Limits.{most_bases}
 use Rattle.lw_form.specs.Listed.{no_place, base_at, bases_of, place_of, IsListed, PlainStep, operands_of, plain_step, plain_steps, adds, bases_after, IsTooLong, StepFits, form_size, forms_size, step_size, steps_size, IsAdding}
 use Rattle.lw_form.specs.Listed.PlainStep.{add_of, parts_of}
 use Rattle.lw_form.specs.Tables.{AreBelow, forms_at, spelled, AreMade, HasMore, Table, made, IsSimple}
-use Rattle.lw_form.proofs.Tables.{among_place, place_among, length_one, appended_more}
+use Rattle.lw_form.proofs.Tables.{among_place, place_among, appended_more}
 use Rattle.lw_form.proofs.Joining.{more_same, more_twice, more_length, form_kept, forms_kept}
 use Rattle.lw_form.proofs.FactoringSteps.{turned_last}
 
@@ -82,7 +82,7 @@ module _ (forms : List Form) (listed places new_listed new_places : List ℕ) (b
     within = λ k x e. within k x (get_last_cases listed b k x e);
     placed = λ k x e. placed k x (get_last_cases listed b k x e);
     back = λ x ne. back x ne (same_or x b);
-    few = let l = length_one listed b in omega arith;
+    few = let l = length_push listed b in omega arith;
   }) where
     same_or : (x y : ℕ) → (x ≡ y) ⊎ (x ≢ y)
     same_or zero zero = inl refl
@@ -111,7 +111,7 @@ module _ (forms : List Form) (listed places new_listed new_places : List ℕ) (b
 pub too_long : (forms : List Form) (listed places : List ℕ) (b : ℕ) → AreMade forms → b < length forms → IsListed forms listed places → place_of places b ≡ no_place → length listed ≡ most_bases → most_bases < length (appended (base_at forms b) (bases_of forms listed))
 too_long forms listed places b are lt is none full =
     let e = ap length (sym (appended_new (base_at forms b) (bases_of forms listed) (unplaced_not_among forms listed places b are lt is none))) in
-    let l = length_one (bases_of forms listed) (base_at forms b) in
+    let l = length_push (bases_of forms listed) (base_at forms b) in
     let m = length-map listed (base_at forms) in
     omega arith
 
@@ -167,7 +167,7 @@ longer_appended : (f : Form) (bases : List Form) → length bases ≤ length (ap
 longer_appended f bases = by_test (is_among f bases) where
   by_test : (t : Bool) → length bases ≤ length (cond t bases (bases ++ f ∷ []))
   by_test true = omega arith
-  by_test false = let l = length_one bases f in omega arith
+  by_test false = let l = length_push bases f in omega arith
 
 longer_part : (fs bases : List Form) → length bases ≤ length (append_part fs bases)
 longer_part fs bases = by_test (leb 2 (length fs)) where

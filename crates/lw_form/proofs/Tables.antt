@@ -1,10 +1,11 @@
 -- Tables of forms.
-use Rattle.std.proofs.Common.{◌≡◌, ◌+◌, ◌-◌, ◌/◌, ◌%◌, ◌^◌, ◌==◌, ◌<◌, ◌≤◌, ◌⊎◌, inl, inr, ℕ, zero, suc, Bool, true, false, ◌||◌, cond, if◌then◌else◌, List, [], ◌∷◌, ◌++◌, length, Option, Some, slice_get, get_or, refl, ap, ap₂, sym, ◌∙◌, subst, arith, append_assoc, length-append}
+use Rattle.std.proofs.Common.{◌≡◌, ◌+◌, ◌-◌, ◌/◌, ◌%◌, ◌^◌, ◌==◌, ◌<◌, ◌≤◌, ◌⊎◌, inl, inr, ℕ, zero, suc, Bool, true, false, ◌||◌, cond, if◌then◌else◌, List, [], ◌∷◌, ◌++◌, length, Option, Some, slice_get, get_or, refl, ap, ap₂, sym, ◌∙◌, subst, arith, append_assoc, append-nil}
 use Rattle.std.specs.List.{list_any}
 use Rattle.std.specs.Str.{bytes_eq}
-use Rattle.std.proofs.lemmas.List.{get_or_append_left}
+use Rattle.std.proofs.lemmas.List.{get_or_append_left, length_push}
 use Rattle.std.proofs.lemmas.Option.{slice_get-get_or, slice_get_within}
 use Rattle.std.proofs.lemmas.Slice.Eq.{bytes_eq-Decides}
+use Rattle.std.proofs.lemmas.Bool.{or_right}
 use Rattle.lw_facts.proofs.Lists.{get_left, get_last, get_last_cases}
 use Rattle.lw_facts.proofs.Tests.{same_tests}
 use Rattle.indexmap.specs.IndexSet.{insert_key}
@@ -18,11 +19,6 @@ use Rattle.lw_laws.proofs.Equality.{same_form_refl, same_form_eq, items-form_lis
 use Rattle.lw_laws.proofs.Lists.{slice_get_some}
 use Rattle.lw_form.specs.Renumbered.{simple_at}
 use Rattle.lw_form.specs.Tables.{AreBelow, input_forms, forms_at, spelled, made_after, forms_made, Table, made, AreMade, IsTable, HasMore, IsSimple}
-
--- places of lists
-
-pub length_one : {X : Type 0} (xs : List X) (x : X) → length (xs ++ x ∷ []) ≡ length xs + 1
-length_one xs x = length-append xs (x ∷ [])
 
 -- numbers below
 
@@ -46,17 +42,14 @@ made_append forms [] ids = refl
 made_append forms (k ∷ keys) ids = made_append (forms ++ spelled forms k ∷ []) keys ids
 
 pub made_grown : (forms : List Form) (keys : List (List ℕ)) → HasMore forms (made_after forms keys)
-made_grown forms [] = ([], sym (nil forms)) where
-  nil : (xs : List Form) → xs ++ [] ≡ xs
-  nil [] = refl
-  nil (x ∷ xs) = ap (λ l. x ∷ l) (nil xs)
+made_grown forms [] = ([], sym (append-nil forms))
 made_grown forms (k ∷ keys) =
     let (more, e) = made_grown (forms ++ spelled forms k ∷ []) keys in
     (spelled forms k ∷ more, e ∙ append_assoc forms (spelled forms k ∷ []) more)
 
 pub made_length : (forms : List Form) (keys : List (List ℕ)) → length (made_after forms keys) ≡ length forms + length keys
 made_length forms [] = omega arith
-made_length forms (k ∷ keys) = let e = made_length (forms ++ spelled forms k ∷ []) keys in let l = length_one forms (spelled forms k) in omega arith
+made_length forms (k ∷ keys) = let e = made_length (forms ++ spelled forms k ∷ []) keys in let l = length_push forms (spelled forms k) in omega arith
 
 input_count : (i n : ℕ) → length (input_forms i n) ≡ n
 input_count i zero = refl
@@ -77,7 +70,7 @@ made_key forms (hs ∷ keys) zero ids below e =
     let place : length forms + 0 ≡ length forms = omega arith in
     ap (slice_get (made_after forms (hs ∷ keys))) place ∙ (ap (λ l. slice_get l (length forms)) grown' ∙ (get_left (forms ++ spelled forms hs ∷ []) later (length forms) (spelled forms hs) (get_last forms (spelled forms hs)) ∙ ap Some (ap and_of (ap (forms_at forms) first ∙ sym same))))
 made_key forms (hs ∷ keys) (suc k) ids below e =
-    let l = length_one forms (spelled forms hs) in
+    let l = length_push forms (spelled forms hs) in
     let place : length forms + suc k ≡ length (forms ++ spelled forms hs ∷ []) + k = omega arith in
     ap (slice_get (made_after forms (hs ∷ keys))) place ∙ made_key (forms ++ spelled forms hs ∷ []) keys k ids (λ j gs d. below_more (length forms + suc j) (length (forms ++ spelled forms hs ∷ []) + j) gs (omega arith) (below (suc j) gs d)) e
 
@@ -205,10 +198,7 @@ among_place f (h ∷ hs) e = by_test (same_form f h) refl e (among_place f hs) w
 pub place_among : (f : Form) (forms : List Form) (b : ℕ) → slice_get forms b ≡ Some f → is_among f forms ≡ true
 place_among f [] b e = cc
 place_among f (h ∷ hs) zero e = let k : h ≡ f = cc in ap (λ t. t || is_among f hs) (ap (same_form f) k ∙ same_form_refl f)
-place_among f (h ∷ hs) (suc b) e = or_true (same_form f h) (is_among f hs) (place_among f hs b e) where
-  or_true : (a c : Bool) → c ≡ true → (a || c) ≡ true
-  or_true true c e = refl
-  or_true false c e = e
+place_among f (h ∷ hs) (suc b) e = or_right (same_form f h) (is_among f hs) (place_among f hs b e)
 
 key_place : (ids : List ℕ) (keys : List (List ℕ)) → list_any (bytes_eq ids) keys ≡ true → (k : ℕ) × (slice_get keys k ≡ Some ids)
 key_place ids [] e = cc
@@ -220,10 +210,7 @@ key_place ids (h ∷ hs) e = by_test (bytes_eq ids h) refl e (key_place ids hs) 
 place_key : (ids : List ℕ) (keys : List (List ℕ)) (k : ℕ) → slice_get keys k ≡ Some ids → list_any (bytes_eq ids) keys ≡ true
 place_key ids [] k e = cc
 place_key ids (h ∷ hs) zero e = let k : h ≡ ids = cc in ap (λ t. t || list_any (bytes_eq ids) hs) (ap (bytes_eq ids) k ∙ (bytes_eq-Decides ids ids).1 refl)
-place_key ids (h ∷ hs) (suc k) e = or_true (bytes_eq ids h) (list_any (bytes_eq ids) hs) (place_key ids hs k e) where
-  or_true : (a c : Bool) → c ≡ true → (a || c) ≡ true
-  or_true true c e = refl
-  or_true false c e = e
+place_key ids (h ∷ hs) (suc k) e = or_right (bytes_eq ids h) (list_any (bytes_eq ids) hs) (place_key ids hs k e)
 
 -- an And is made exactly where its key is there
 keyed_made : (t : Table) (ids : List ℕ) → IsTable t → AreBelow (length (made t)) ids → list_any (bytes_eq ids) t.keys ≡ true → is_among (spelled (made t) ids) (made t) ≡ true
@@ -250,12 +237,8 @@ with_key t ids = record { inputs = t.inputs; keys = insert_key bytes_eq t.keys i
 
 pub appended_more : (f : Form) (forms : List Form) → HasMore forms (appended f forms)
 appended_more f forms = by_test (is_among f forms) where
-  nil : (xs : List Form) → xs ++ [] ≡ xs
-  nil [] = refl
-  nil (x ∷ xs) = ap (λ l. x ∷ l) (nil xs)
-
   by_test : (t : Bool) → HasMore forms (cond t forms (forms ++ f ∷ []))
-  by_test true = ([], sym (nil forms))
+  by_test true = ([], sym (append-nil forms))
   by_test false = (f ∷ [], refl)
 
 pub made_with : (t : Table) (ids : List ℕ) → IsTable t → AreBelow (length (made t)) ids → made (with_key t ids) ≡ appended (spelled (made t) ids) (made t)
@@ -271,7 +254,7 @@ one_made forms f are lt z new = record {
   first = get_left forms (f ∷ []) 0 true_form are.first;
   signs = λ b g e. sign b g (get_last_cases forms f b g e);
   once = λ a b g d e. place a b g (get_last_cases forms f a g d) (get_last_cases forms f b g e);
-  few = let l = length_one forms f in omega arith;
+  few = let l = length_push forms f in omega arith;
 } where
   sign : (b : ℕ) (g : Form) → (slice_get forms b ≡ Some g) ⊎ ((b ≡ length forms) × (g ≡ f)) → sign_of g ≡ 0
   sign b g (inl e) = are.signs b g e
@@ -393,10 +376,6 @@ new_table inputs keys e lt =
 -- the key at a place past the inputs
 pub and_at : (t : Table) (b : ℕ) (ids : List ℕ) → IsTable t → t.inputs < b → slice_get t.keys (b - t.inputs - 1) ≡ Some ids → slice_get (made t) b ≡ Some (spelled (made t) ids)
 and_at t b ids is lt e = let place : 1 + t.inputs + (b - t.inputs - 1) ≡ b = omega arith in ap (slice_get (made t)) (sym place) ∙ key_form t is (b - t.inputs - 1) ids e
-
-pub no_length : {X : Type 0} (xs : List X) → length xs ≡ 0 → xs ≡ []
-no_length [] e = refl
-no_length (x ∷ xs) e = absurd (omega arith)
 
 pub input_place : (i n k : ℕ) → k < n → slice_get (input_forms i n) k ≡ Some (var_form (i + k))
 input_place i zero k lt = absurd (omega arith)

@@ -5,6 +5,7 @@ use Rattle.std.proofs.lemmas.Bool.Decides.{nat_tests}
 use Rattle.std.proofs.lemmas.List.{take_all}
 use Rattle.std.proofs.lemmas.List.Elements.{All-from_recursion}
 use Rattle.std.proofs.lemmas.List.Splits.{slice_split_at, slice_split_none}
+use Rattle.std.proofs.Math.Bool.{and-true}
 use Rattle.lw_words.specs.Gathering.{IsInk, IsNoHash}
 use Rattle.lw_words.specs.Lines.{LogicalLine, Text, is_blank, is_line_feed, has_some, lines_among, physical_lines, uncommented, trimmed, is_continued, with_blank, continued_by, text_before, text_of, texts_from, is_long, words_of, line_of, has_words, lines_of, logical_lines}
 use Rattle.lw_words.proofs.Trimming.{trimmed-ink, is_continued-last}
@@ -160,16 +161,12 @@ read-from marks number (words ∷ lines) each =
     let bytes = line_bytes words in
     let others : Bool → List Text = λ (c : Bool). texts_from true marks (not c) (number + 1) (map line_bytes lines) in
     let own : Text = record { number = number; bytes = bytes } in
-    ap (λ m. let text = text_of m bytes in lines_of (text_before true number text (others (is_continued text)))) (begun marks)
+    ap (λ m. let text = text_of m bytes in lines_of (text_before true number text (others (is_continued text)))) (and-true marks)
     ∙ (ap (λ t. lines_of (text_before true number t (others (is_continued t)))) (text-whole marks words each.0)
     ∙ (ap (λ c. lines_of (cond c (continued_by true number (with_blank bytes) (others c)) (own ∷ others c))) (not-continued words each.0.last)
     ∙ (ap (λ l. cond (has_words l) (l ∷ lines_of (others false)) (lines_of (others false))) (line-again number words each.0.are_words each.0.last)
     ∙ (ap (λ t. cond t (record { number = number; long = false; words = words } ∷ lines_of (others false)) (lines_of (others false))) (some-words words each.0.last)
     ∙ ap (λ ls. record { number = number; long = false; words = words } ∷ ls) (read-from marks (number + 1) lines each.1)))))
-  where
-    begun : (m : Bool) → (m && true) ≡ m
-    begun true = refl
-    begun false = refl
 
 -- What was written is read.
 pub lines-again : (marks : Bool) (lines : List (List (List ℕ))) → Each (AreWritten marks) lines → logical_lines marks (lines_text lines) ≡ numbered 1 lines

@@ -5,6 +5,7 @@ use Rattle.std.specs.List.{list_any}
 use Rattle.std.specs.Option.{option_or}
 use Rattle.std.proofs.lemmas.List.{length-replicate, map-append, take_more}
 use Rattle.std.proofs.lemmas.List.Folds.{list_any-append}
+use Rattle.std.proofs.lemmas.Bool.{or_right}
 use Rattle.lw_fixed.specs.declared.micro.Micro.{Micro}
 use Rattle.lw_genlib.specs.Entries.{no_delay}
 use Rattle.lw_genlib.specs.Kept.{IsSmallDelay, AreDelays}
@@ -42,10 +43,7 @@ one-more every named i own delay delays new lt at some grown (are, none) =
 any-at : (p : Option Micro → Bool) (xs : List (Option Micro)) (i : ℕ) (d : Option Micro) → i < length xs → p (get_or xs i d) ≡ true → list_any p xs ≡ true
 any-at p [] i d lt h = absurd (omega arith)
 any-at p (x ∷ xs) zero d lt h = ap (λ b. b || list_any p xs) h
-any-at p (x ∷ xs) (suc i) d lt h = or-true (p x) (list_any p xs) (any-at p xs i d (omega arith) h) where
-  or-true : (a b : Bool) → b ≡ true → (a || b) ≡ true
-  or-true true b e = refl
-  or-true false b e = e
+any-at p (x ∷ xs) (suc i) d lt h = or_right (p x) (list_any p xs) (any-at p xs i d (omega arith) h)
 
 pub none-there : (every : Option Micro) (named : List (Option Micro)) (i : ℕ) (own : Option Micro) → i < length named → own ≡ get_or named i None → own_or every own ≡ None → list_any (λ o. is_missing (own_or every o)) named ≡ true
 none-there every named i own lt at none = any-at (lacks every) named i None lt (ap (lacks every) (sym at) ∙ ap is_missing none)

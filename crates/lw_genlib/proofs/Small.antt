@@ -6,7 +6,8 @@ use Rattle.std.specs.Char.{is_ascii_digit}
 use Rattle.std.specs.Str.Parse.{digits_value}
 use Rattle.std.proofs.lemmas.Str.Parse.{IsNumeralModel, numerals_by_value, digits_value_short}
 use Rattle.std.proofs.lemmas.List.Folds.{list_all-append}
-use Rattle.std.proofs.lemmas.Bool.{leb-false, false≢true, and_parts}
+use Rattle.std.proofs.lemmas.Bool.{leb-false}
+use Rattle.lw_facts.proofs.Tests.{second_of_three}
 use Rattle.lw_facts.proofs.Lists.{digits_take}
 use Rattle.lw_fixed.specs.declared.micro.Micro.{Micro}
 use Rattle.lw_fixed.specs.declared.fault.DecimalFault.TheVariants.{Shape, Large, Fine, Negative}
@@ -43,17 +44,13 @@ small_number bytes m e =
         let whole : 1000000 * units_of bytes + value_of_decimals (decimals bytes) ≡ m.0 = is in
         omega arith
 
-    digits : (x y z : Bool) → (x && y && z) ≡ true → y ≡ true
-    digits true y z h = (and_parts y z h).0
-    digits false y z h = absurd (false≢true h)
-
     at : (d l f n : Bool) → is_decimal bytes ≡ d → nat_le 1000000 (units_of bytes) ≡ l
         → in_library (cond (not d) (Err Shape) (cond l (Err Large) (cond f (Err Fine) (cond n (Err Negative) (Ok (record { 0 = millionths_of bytes })))))) ≡ Ok m → IsSmall m
     at false l f n ds ls g = cc
     at true true f n ds ls g = cc
     at true false true n ds ls g = cc
     at true false false true ds ls g = cc
-    at true false false false ds ls g = inside (digits (list_all is_ascii_digit (whole_part bytes)) (list_all is_ascii_digit (decimals bytes)) (nat_lt 0 (length (whole_part bytes) + length (decimals bytes))) ds) ls (ap got g)
+    at true false false false ds ls g = inside (second_of_three (list_all is_ascii_digit (whole_part bytes)) (list_all is_ascii_digit (decimals bytes)) (nat_lt 0 (length (whole_part bytes) + length (decimals bytes))) ds) ls (ap got g)
 
 -- Delays.
 

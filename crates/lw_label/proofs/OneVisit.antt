@@ -3,6 +3,7 @@ use Rattle.std.proofs.Common.{ℕ, ◌+◌, ◌<◌, ◌≤◌, ◌≡◌, ◌/�
 use Rattle.std.proofs.lemmas.Bool.{cases_eq}
 use Rattle.std.proofs.lemmas.Option.{same_Some, slice_get_within}
 use Rattle.std.proofs.lemmas.List.{get_or-set_other}
+use Rattle.lw_laws.proofs.Flips.{half-flip}
 use Rattle.lw_laws.specs.Flip.{flip}
 use Rattle.lw_laws.specs.Graphs.{Graph, HoldsPair}
 use Rattle.lw_laws.specs.Costs.{Cost, IsCall}
@@ -30,7 +31,7 @@ use Rattle.lw_label.specs.OneVisit.{AreBoundsAround, AreFalling, AreLabelsStill,
 use Rattle.lw_label.specs.Orders.{ArePartsStill, IsStillAfter, IsStillAt}
 use Rattle.lw_label.proofs.Marked.{label_of_mark, labels_of_marks, lowering_in_range, mark_set_same, marks_of_labels, priced}
 use Rattle.lw_label.proofs.Falling.{bounded_under, label_is_cost, not_below}
-use Rattle.lw_label.proofs.Still.{cost_most, flip_place, have_split, of_pair, same_but_more, stands_still, still_elsewhere, still_nowhere, still_too}
+use Rattle.lw_label.proofs.Still.{cost_most, have_split, of_pair, same_but_more, stands_still, still_elsewhere, still_nowhere, still_too}
 
 labels_same : (old new : List (Option Mark)) (ps ls : List ℕ) → ((k d : ℕ) → slice_get ps k ≡ Some d → labels_in (costs_of new) d ≡ labels_in (costs_of old) d) → HaveLabels (labels_in (costs_of new)) ps ls → HaveLabels (labels_in (costs_of old)) ps ls
 labels_same old new [] [] same h = tt
@@ -45,7 +46,7 @@ label_others_kept marks c (Some best) b other =
     get_or-set_other marks c b (Some (record { cost = best.mark.cost; height = 0 })) None other
 
 pub still_turned : (still : List Bool) (c : ℕ) → IsStillAt still c → IsStillAt still (flip c)
-still_turned still c is = subst (λ p. slice_index_or still p false ≡ true) (sym (flip_place c)) is
+still_turned still c is = subst (λ p. slice_index_or still p false ≡ true) (sym (half-flip c)) is
 
 -- the parts of a place whose parts are still, and which is not
 pub parts_elsewhere : (g : Graph) (still : List Bool) (place : ℕ) → slice_index_or still place false ≡ false → ((c : ℕ) → c / 2 ≡ place → ArePartsStill g still c) → ArePartsElsewhere g place
@@ -57,7 +58,7 @@ parts_elsewhere g still place moves parts c x y here h =
 pub place_out : (g : Graph) (place c : ℕ) → ArePartsElsewhere g place → c / 2 ≡ place → (x y : ℕ) → HoldsPair g c x y → (x / 2 ≡ place → ⊥) × (flip x / 2 ≡ place → ⊥) × (y / 2 ≡ place → ⊥) × (flip y / 2 ≡ place → ⊥)
 place_out g place c elsewhere here x y h =
     let (a, b) = elsewhere c x y here h in
-    (a, λ e. a (sym (flip_place x) ∙ e), b, λ e. b (sym (flip_place y) ∙ e))
+    (a, λ e. a (sym (half-flip x) ∙ e), b, λ e. b (sym (half-flip y) ∙ e))
 
 -- nor are they one of these
 pub pair_out : (g : Graph) (place c d : ℕ) → ArePartsElsewhere g place → c / 2 ≡ place → d / 2 ≡ place → (x y : ℕ) → HoldsPair g c x y → (x ≡ d → ⊥) × (flip x ≡ d → ⊥) × (y ≡ d → ⊥) × (flip y ≡ d → ⊥)
@@ -75,10 +76,6 @@ even_of place n e = omega (arith, e)
 pub around_after : (b : BoundsState) (g : Graph) (marks mid : List (Option Mark)) (place : ℕ) (at : ℕ → Type 0) → ((c : ℕ) → at c → c / 2 ≡ place) → AreSameBut at marks mid → AreBoundsAround b g marks place → AreBoundsAround b g mid place
 around_after b g marks mid place at to same around other beside =
     around other (same_but_more at (λ c. c / 2 ≡ place) marks mid other to same beside)
-
-pub is_true : (b : Bool) → not b ≡ false → b ≡ true
-is_true true e = refl
-is_true false e = cc
 
 -- a search that leaves something to be found has lowered the label
 pub was_lowered : (lowered still : Bool) → (lowered ≡ false → still ≡ true) → still ≡ false → lowered ≡ true

@@ -4,6 +4,8 @@ use Rattle.std.specs.List.{AllByRecursion}
 use Rattle.std.proofs.lemmas.Bool.{cases_eq}
 use Rattle.std.proofs.lemmas.Option.{same_Some, slice_get_within, slice_get-get_or}
 use Rattle.std.proofs.lemmas.List.{get_or-set_same, get_or-set_other}
+use Rattle.lw_match.proofs.HeightCuts.{no_higher}
+use Rattle.lw_laws.proofs.Flips.{half-flip}
 use Rattle.lw_laws.specs.Flip.{flip}
 use Rattle.lw_laws.specs.Trees.{Tree, leaf, const_one, const_zero, inv, nand, HasLeaf}
 use Rattle.lw_laws.specs.Graphs.{Graph, Pair as PlainPair, Stands}
@@ -32,12 +34,6 @@ use Rattle.lw_label.specs.Orders.{ArePartsStill, IsStillAfter, IsStillAt}
 use Rattle.lw_laws.specs.Rounds.{labels_in}
 
 -- the two classes of a place
-pub flip_place : (c : ℕ) → flip c / 2 ≡ c / 2
-unfolding flip
-flip_place zero = refl
-flip_place (suc zero) = refl
-flip_place (suc (suc n)) = let ih = flip_place n in omega (arith, ih)
-
 pub same_mark : (old new : List (Option Mark)) (c : ℕ) → slice_index_or new c None ≡ slice_index_or old c None → marks_in new c ≡ marks_in old c
 same_mark old new c e = ap (option_map plain_mark) e
 
@@ -54,14 +50,6 @@ have_split old new d same (p ∷ ps) (m ∷ ms) (e, h) = by_class (cases_eq p d)
     by_class (inr other) (inl before) =
         inl (sym (same_mark old new p (same p other)) ∙ e, before)
     by_class (inr other) (inr (k, n, at, listed)) = inr (suc k, n, at, listed)
-
-height_most : (ms : List PlainMark) (k : ℕ) (m : PlainMark) → slice_get ms k ≡ Some m → m.height ≤ greatest_height ms
-height_most [] k m e = cc
-height_most (n ∷ ms) zero m e =
-    let same : n ≡ m = same_Some n m e in
-    let height : n.height ≡ m.height = ap (λ (m : PlainMark). m.height) same in
-    omega (arith, height)
-height_most (n ∷ ms) (suc k) m e = let le = height_most ms k m e in omega (arith, le)
 
 pub cost_most : (ms : List PlainMark) (v k : ℕ) (m : PlainMark) → AllByRecursion (λ d. d ≤ v) (costs_in ms) → slice_get ms k ≡ Some m → m.cost ≤ v
 cost_most [] v k m all e = cc
@@ -141,7 +129,7 @@ stands_still g still parts ps (leaf i) c k d stands is has at =
 stands_still g still parts ps const_one c k d stands is has at = absurd has
 stands_still g still parts ps const_zero c k d stands is has at = absurd has
 stands_still g still parts ps (inv t) c k d stands is has at =
-    stands_still g still parts ps t (flip c) k d stands (subst (λ p. slice_index_or still p false ≡ true) (sym (flip_place c)) is) has at
+    stands_still g still parts ps t (flip c) k d stands (subst (λ p. slice_index_or still p false ≡ true) (sym (half-flip c)) is) has at
 stands_still g still parts ps (nand t u) c k d (x, y, holds, left, right) is (inl has) at =
     stands_still g still parts ps t x k d left (parts c is x y holds).0 has at
 stands_still g still parts ps (nand t u) c k d (x, y, holds, left, right) is (inr has) at =
@@ -256,7 +244,7 @@ module _ (g : Graph) (cost : Cost) (pats : List Pattern) (labels : List (Option 
               let cost_is : mark.cost ≡ n.cost = ap (λ (m : PlainMark). m.cost) mark_is in
               absurd (omega (arith, value, most, cost_is, dear))
           by_reason own is (inr low) =
-              let high = height_most ms k n listed in
+              let high = no_higher ms k n listed in
               let height_is : mark.height ≡ n.height = ap (λ (m : PlainMark). m.height) mark_is in
               (plain_mark own, ap (option_map plain_mark) is, omega (arith, high, height_is, low))
 
@@ -288,7 +276,7 @@ module _ (g : Graph) (cost : Cost) (pats : List Pattern) (labels : List (Option 
       by_pins (inr (k, n, at, listed)) =
           let is : plain_mark best ≡ n = same_Some (plain_mark best) n (sym own ∙ at) in
           let height : best.height ≡ n.height = ap (λ (m : PlainMark). m.height) is in
-          let high = height_most ms k n listed in
+          let high = no_higher ms k n listed in
           (plain_mark best, own, omega (arith, height, high))
 
 -- the marks stay at all but more classes
@@ -319,7 +307,7 @@ of_pair place a b c at flipped here = by_class (cases_eq c a)
 
 pub pair_others : (place a b : ℕ) (old mid new : List (Option Mark)) → a / 2 ≡ place → b ≡ flip a → AreSameBut (λ c. c ≡ a) old mid → AreSameBut (λ c. c ≡ b) mid new → AreSameBut (λ c. c / 2 ≡ place) old new
 pair_others place a b old mid new at flipped one other c not =
-    other c (λ e. not (ap (λ n. n / 2) (e ∙ flipped) ∙ (flip_place a ∙ at))) ∙ one c (λ e. not (ap (λ n. n / 2) e ∙ at))
+    other c (λ e. not (ap (λ n. n / 2) (e ∙ flipped) ∙ (half-flip a ∙ at))) ∙ one c (λ e. not (ap (λ n. n / 2) e ∙ at))
 
 module _ (g : Graph) (cost : Cost) (pats : List Pattern) (labels : List (Option Mark)) where
   pub pair_lowers : (old mid new : List (Option Mark)) (place a b : ℕ) → a / 2 ≡ place → b ≡ flip a → (one other : Bool) → LowersHeights g cost pats labels old mid (λ c. c ≡ a) one → LowersHeights g cost pats labels mid new (λ c. c ≡ b) other → LowersHeights g cost pats labels old new (λ c. c / 2 ≡ place) (other || one)
@@ -339,7 +327,3 @@ module _ (g : Graph) (cost : Cost) (pats : List Pattern) (labels : List (Option 
       subst (λ ms. IsReached g cost pats labels ms c) (sym (takes.same e)) before
   stays_reached problem graph low old new c d lowered takes same apart (inr no_pin) before =
       reached_beside g cost pats labels problem.cost_is old new c d (heights_in_range g cost pats labels new problem graph low takes.heights) same apart no_pin (λ o e. takes.heights.costs c (plain_mark o) (ap (option_map plain_mark) e)) before
-
-pub is_false : (b : Bool) → not b ≡ true → b ≡ false
-is_false true e = cc
-is_false false e = refl

@@ -1,7 +1,8 @@
 -- The laws over plain forms and the laws over numbers give each occurring form the same trees.
-use Rattle.std.proofs.Common.{ℕ, zero, suc, ◌+◌, ◌*◌, ◌/◌, ◌<◌, ◌≤◌, ◌≡◌, ◌≢◌, ◌⊎◌, inl, inr, List, [], ◌∷◌, length, map, Some, slice_get, refl, ap, sym, ◌∙◌, subst, subst₂, arith, add-zero, lt_of_not-le}
+use Rattle.std.proofs.Common.{ℕ, ◌+◌, ◌*◌, ◌/◌, ◌<◌, ◌≤◌, ◌≡◌, ◌≢◌, ◌⊎◌, inl, inr, List, [], ◌∷◌, length, map, Some, slice_get, refl, ap, sym, ◌∙◌, subst, subst₂, arith, add-zero, lt_of_not-le}
 use Rattle.std.specs.List.{AllByRecursion}
-use Rattle.std.proofs.lemmas.Option.{same_Some}
+use Rattle.std.proofs.lemmas.Option.{same_Some, slice_get_within}
+use Rattle.lw_facts.proofs.Lists.{length_mapped}
 use native.Mathlib.Decide.{dec_le}
 use Rattle.lw_laws.specs.Flip.{flip}
 use Rattle.lw_laws.specs.Trees.{Tree, leaf, const_one, const_zero, nand}
@@ -23,10 +24,10 @@ use Rattle.lw_laws.specs.Modes.{Mode}
 use Rattle.lw_laws.specs.Listings.{IsListing, IsListedBefore, sign_of, IsSub}
 use Rattle.lw_laws.specs.Classes.{IsNandForm}
 use Rattle.lw_laws.specs.Classes.IsNandForm.{of_parts, of_overlap, of_complement}
-use Rattle.lw_laws.proofs.Flips.{flip-flip, flip_even, flip_odd}
+use Rattle.lw_laws.proofs.Flips.{flip-flip, flip_even, flip_odd, even_or_odd}
 use Rattle.lw_laws.proofs.Equality.{items-form_list, form_list-items}
 use Rattle.lw_laws.proofs.Sublists.{parts_subs, parts_turned, overlapping_subs, overlapping_turned, IsSub_all, IsSub_whole, conjunction_of_one, conjunction_of_more}
-use Rattle.lw_laws.proofs.Numbers.{slice_get_map, slice_get_map_back, number_of, numbers_differ, occurs_complement, occurs_sign, number_complement, occurs_number, number_occurs, numbers_injective, complement_twice}
+use Rattle.lw_laws.proofs.Numbers.{slice_get_map, slice_get_map_back, number_of, numbers_differ, occurs_complement, occurs_sign, number_complement, occurs_number, number_occurs, numbers_injective, complement_twice, sign_two}
 use Rattle.lw_laws.proofs.Lists.{slice_get_some}
 use Rattle.lw_laws.proofs.CutParts.{cut_of_parts, covering_of_overlapping, parts_of_cut, overlap_of_covering}
 use Rattle.lw_laws.proofs.Words.{IsNumber}
@@ -118,21 +119,10 @@ module _ (inputs : ℕ) (o : Listing) (is : IsListing o) where
       subst (IsPartForm (f ∷ h ∷ hs)) (sym (conjunction_of_more o.width (items fs) (is.ands b fs e).operands_are f h hs s))
       (part_of_more f h hs all (and_sub_listed b fs e (f ∷ h ∷ hs) s two))
 
-  at_in : {X : Type 0} (xs : List X) (i : ℕ) (x : X) → slice_get xs i ≡ Some x → i < length xs
-  at_in [] i x e = cc
-  at_in (y ∷ xs) zero x e = omega arith
-  at_in (y ∷ xs) (suc i) x e = let ih = at_in xs i x e in omega arith
-
-  sign_one : (f : Form) → sign_of f ≤ 1
-  sign_one (var_form i) = omega arith
-  sign_one true_form = omega arith
-  sign_one (not_form f) = omega arith
-  sign_one (and_form fs) = omega arith
-
   pub number_in : (f : Form) (n : ℕ) → IsNumber o.bases f n → Rattle.lw_laws.specs.NumberedForms.NumberOccurs forms n
   number_in f n (b, e, s) =
-      let lt = at_in forms.bases b (numbered_base o.bases (base_form f)) (listed_base b (base_form f) e) in
-      let one = sign_one f in
+      let lt = slice_get_within forms.bases b (numbered_base o.bases (base_form f)) (listed_base b (base_form f) e) in
+      let one = sign_two f in
       omega arith
 
   split_by_cut : (mode : Mode) (n x y : ℕ) → IsCutOf forms n x y → IsSplitOf mode forms n x y
@@ -311,9 +301,6 @@ module _ (inputs : ℕ) (o : Listing) (is : IsListing o) where
   base_self (not_form f) z = absurd (omega arith)
   base_self (and_form fs) z = refl
 
-  even_or_odd : (n b : ℕ) → n / 2 ≡ b → (n ≡ 2 * b) ⊎ (n ≡ 2 * b + 1)
-  even_or_odd n b e = grind arith
-
   abbrev HasForm : ℕ → Type 0
   HasForm n = (f : Form) × IsNumber o.bases f n
 
@@ -418,10 +405,6 @@ module _ (inputs : ℕ) (o : Listing) (is : IsListing o) where
       (λ d. to_numbers mode d (N f) num, λ d. of_numbers mode d f num)
 
   -- the numbered forms are listed forms
-  length_map : {X Y : Type 0} (h : X → Y) (xs : List X) → length (map h xs) ≡ length xs
-  length_map h [] = refl
-  length_map h (y ∷ ys) = ap suc (length_map h ys)
-
   parts_length : {fs ls rs : List Form} → AreParts fs ls rs → length fs ≡ length ls + length rs
   parts_length parts_none = refl
   parts_length (parts_left p) = let ih = parts_length p in omega arith
@@ -431,7 +414,7 @@ module _ (inputs : ℕ) (o : Listing) (is : IsListing o) where
   before_number b f (k, l, lt) =
       let (c, e, s) = occurs_number o is f (k, l) in
       let same : c ≡ k = is.once c k (base_form f) e l in
-      let one = sign_one f in
+      let one = sign_two f in
       omega arith
 
   all_before : (b : ℕ) (fs : List Form) → AllByRecursion (IsListedBefore o.bases b) fs → AllByRecursion (IsBefore b) (map N fs)
@@ -449,7 +432,7 @@ module _ (inputs : ℕ) (o : Listing) (is : IsListing o) where
   listed_and b ns e =
       let a = and_at b ns e in
       let fs = items a.operands in
-      let long = ap length (sym a.numbers) ∙ length_map N fs in
+      let long = ap length (sym a.numbers) ∙ length_mapped N fs in
       let are = is.ands b a.operands a.listed in
       let two = are.operands_are.two in
       record {
@@ -457,8 +440,8 @@ module _ (inputs : ℕ) (o : Listing) (is : IsListing o) where
         operands = subst (AllByRecursion (IsBefore b)) a.numbers (all_before b fs are.before);
         parts = λ ls rs c le re.
             let r = parts_of_cut N c fs a.numbers in
-            let l = ap length (sym r.left_is) ∙ length_map N r.left in
-            let k = ap length (sym r.right_is) ∙ length_map N r.right in
+            let l = ap length (sym r.left_is) ∙ length_mapped N r.left in
+            let k = ap length (sym r.right_is) ∙ length_mapped N r.right in
             let sum = parts_length r.parts in
             let subs = parts_subs r.parts in
             let some : 1 ≤ length r.left = omega arith in

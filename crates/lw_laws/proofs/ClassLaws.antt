@@ -19,7 +19,7 @@ use Rattle.lw_laws.specs.Numbering.{number, numbered_base, numbered}
 use Rattle.lw_laws.specs.Mapped.{forms_of}
 use Rattle.lw_laws.specs.Classes.{class_in, IsNandForm, HasSplitAt, IsGraphOf}
 use Rattle.lw_laws.specs.Classes.IsNandForm.{of_parts, of_overlap, of_complement}
-use Rattle.lw_laws.proofs.Flips.{flip_even, class_of-flip}
+use Rattle.lw_laws.proofs.Flips.{flip_even, class_of-flip, even_or_odd}
 use Rattle.lw_laws.proofs.Sublists.{parts_turned, overlapping_turned}
 use Rattle.lw_laws.proofs.Numbers.{slice_get_map, number_of, number_complement, occurs_complement, occurs_number}
 use Rattle.lw_laws.proofs.Agreement.{base_self, split_back, form_of_number, nand_numbers, numbered_are_forms}
@@ -99,14 +99,6 @@ module _ (X Y : ℕ → ℕ) (total : ℕ) (same : (a b : ℕ) → a < total →
   -- the numbers below the next are those of places before
   abbrev AreFound : ℕ → ℕ → Type 0
   AreFound m next = (j : ℕ) → j < next → (i : ℕ) × (i < m) × (X i ≡ 2 * j) × (Y i ≡ 2 * j)
-
-  even_or_odd : (c j : ℕ) → c / 2 ≡ j → (c ≡ 2 * j) ⊎ (c ≡ 2 * j + 1)
-  even_or_odd c j e = by_bit (c % 2) refl
-    where
-      by_bit : (r : ℕ) → c % 2 ≡ r → (c ≡ 2 * j) ⊎ (c ≡ 2 * j + 1)
-      by_bit zero s = inl (omega arith)
-      by_bit (suc zero) s = inr (omega arith)
-      by_bit (suc (suc r)) s = absurd (omega arith)
 
   -- an old number in one list is the same old number in the other
   old_same : (m next c d : ℕ) → m < total → AreFound m next → X m ≡ c → Y m ≡ d → d / 2 < next → c ≡ d

@@ -1,6 +1,7 @@
 -- Whether gates along attaining matches lead from a class to inputs in so many steps can be decided, and so the least number of steps is there.
 use Rattle.std.proofs.Common.{ℕ, zero, suc, ◌<◌, ◌≤◌, ◌≡◌, ◌⊎◌, inl, inr, List, [], ◌∷◌, ◌++◌, length, map, Option, Some, None, Contains, slice_get, slice_index_or, refl, ap, sym, ◌∙◌, subst, arith}
 use Rattle.std.specs.List.{AllByRecursion}
+use Rattle.std.proofs.Math.Decide.{map_dec}
 use Rattle.lw_facts.proofs.Lists.{contains_map}
 use native.Mathlib.Decide.{ℕ_discrete, dec_lt}
 use native.Mathlib.Nat.{eq-or-lt_of_le}
@@ -15,10 +16,6 @@ use Rattle.lw_laws.specs.Rounds.{labels_in}
 use Rattle.lw_laws.proofs.Lists.{in_left, in_right}
 
 -- decisions
-pub dec_iff : {P Q : Type 0} → (P → Q) → (Q → P) → Dec P → Dec Q
-dec_iff to from (yes p) = yes (to p)
-dec_iff to from (no out) = no (λ q. out (from q))
-
 pub dec_and : {P Q : Type 0} → Dec P → Dec Q → Dec (P × Q)
 dec_and (yes p) (yes q) = yes (p, q)
 dec_and (yes p) (no out) = no (λ r. out r.1)
@@ -35,7 +32,7 @@ dec_or {P} {Q} (no out) (no out') = no (λ r. neither r)
 
 pub dec_any : {X : Type 0} (P : X → Type 0) → ((x : X) → Dec (P x)) → (xs : List X) → Dec ((x : X) × Contains xs x × P x)
 dec_any P d [] = no (λ (x, (k, lt, e), p). absurd (omega arith))
-dec_any {X} P d (x ∷ xs) = dec_iff to from (dec_or (d x) (dec_any P d xs))
+dec_any {X} P d (x ∷ xs) = map_dec to from (dec_or (d x) (dec_any P d xs))
   where
     to : P x ⊎ ((y : X) × Contains xs y × P y) → (y : X) × Contains (x ∷ xs) y × P y
     to (inl p) = (x, (0, omega arith, refl), p)
@@ -53,7 +50,7 @@ pub dec_option : (o p : Option ℕ) → Dec (o ≡ p)
 dec_option None None = yes refl
 dec_option None (Some b) = no (λ e. cc)
 dec_option (Some a) None = no (λ e. cc)
-dec_option (Some a) (Some b) = dec_iff (λ e. ap Some e) (λ e. cc) (ℕ_discrete a b)
+dec_option (Some a) (Some b) = map_dec (λ e. ap Some e) (λ e. cc) (ℕ_discrete a b)
 
 -- the lists of n numbers below a bound
 below : ℕ → List ℕ
@@ -107,7 +104,13 @@ module _ (g : Graph) where
   dec_stands w const_zero c = ℕ_discrete c (flip g.one)
   dec_stands w (inv t) c = dec_stands w t (flip c)
   dec_stands w (nand t u) c =
-      dec_iff (split_to w t u c) (split_from w t u c) (dec_any (λ p. (Stands g w t p.x × Stands g w u p.y) ⊎ (Stands g w t p.y × Stands g w u p.x)) (λ p. dec_or (dec_and (dec_stands w t p.x) (dec_stands w u p.y)) (dec_and (dec_stands w t p.y) (dec_stands w u p.x))) (row c))
+      map_dec (split_to w t u c) (split_from w t u c) (dec_any (λ p. (Stands g w t p.x × Stands g w u p.y) ⊎ (Stands g w t p.y × Stands g w u p.x)) (λ p. dec_or (dec_and (dec_stands w t p.x) (dec_stands w u p.y)) (dec_and (dec_stands w t p.y) (dec_stands w u p.x))) (row c))
+
+-- a class with a label is one of the list
+pub label_listed : (labels : List (Option ℕ)) (c l : ℕ) → labels_in labels c ≡ Some l → c < length labels
+label_listed [] c l e = cc
+label_listed (o ∷ labels) zero l e = omega arith
+label_listed (o ∷ labels) (suc c) l e = let ih = label_listed labels c l e in omega arith
 
 module _ (labels : List (Option ℕ)) where
   abbrev pub known : ℕ → Option ℕ
@@ -117,12 +120,7 @@ module _ (labels : List (Option ℕ)) where
   pins_below : (ps ls : List ℕ) → HaveLabels known ps ls → AllByRecursion (λ p. p < length labels) ps
   pins_below [] ls a = tt
   pins_below (p ∷ ps) [] a = absurd a
-  pins_below (p ∷ ps) (l ∷ ls) (e, a) = (listed labels p l e, pins_below ps ls a)
-    where
-      listed : (os : List (Option ℕ)) (p l : ℕ) → labels_in os p ≡ Some l → p < length os
-      listed [] p l e = cc
-      listed (o ∷ os) zero l e = omega arith
-      listed (o ∷ os) (suc p) l e = let ih = listed os p l e in omega arith
+  pins_below (p ∷ ps) (l ∷ ls) (e, a) = (label_listed labels p l e, pins_below ps ls a)
 
   dec_labels : (ps : List ℕ) → Dec ((ls : List ℕ) × HaveLabels known ps ls)
   dec_labels [] = yes ([], tt)
@@ -159,11 +157,11 @@ module _ (labels : List (Option ℕ)) where
 
     dec_value : (c : ℕ) (p : Pattern) (ps : List ℕ) → Dec ((ls : List ℕ) × HaveLabels known ps ls) → Dec ((ls : List ℕ) × HaveLabels known ps ls × (known c ≡ Some (cost.value p.cell ls)))
     dec_value c p ps (no out) = no (λ (ls, a, e). out (ls, a))
-    dec_value c p ps (yes (ls, a)) = dec_iff (λ e. (ls, a, e)) (λ (ms, b, e). subst (λ ns. known c ≡ Some (cost.value p.cell ns)) (labels_once ps ms ls b a) e) (dec_option (known c) (Some (cost.value p.cell ls)))
+    dec_value c p ps (yes (ls, a)) = map_dec (λ e. (ls, a, e)) (λ (ms, b, e). subst (λ ns. known c ≡ Some (cost.value p.cell ns)) (labels_once ps ms ls b a) e) (dec_option (known c) (Some (cost.value p.cell ls)))
 
     dec_attains : (c : ℕ) (p : Pattern) (ps : List ℕ) → Dec (AttainsBy c p ps)
     dec_attains c p ps =
-        dec_iff (λ (a, (b, e)). (a, b, e)) (λ (a, b, e). (a, (b, e))) (dec_and (dec_option (slice_get cost.pin_counts p.cell) (Some (length ps))) (dec_and (dec_stands g ps p.tree c) (dec_value c p ps (dec_labels ps))))
+        map_dec (λ (a, (b, e)). (a, b, e)) (λ (a, b, e). (a, (b, e))) (dec_and (dec_option (slice_get cost.pin_counts p.cell) (Some (length ps))) (dec_and (dec_stands g ps p.tree c) (dec_value c p ps (dec_labels ps))))
 
     attains_to : (c : ℕ) (p : Pattern) (ps : List ℕ) → Contains pats p → AttainsBy c p ps → Attains M cost known c p.cell ps
     attains_to c p ps listed (pins, stands, (ls, a, e)) = record {
@@ -183,7 +181,7 @@ module _ (labels : List (Option ℕ)) where
       where
         in_list : (xs : List ℕ) → Dec ((i : ℕ) × (slice_get xs i ≡ Some c))
         in_list [] = no (λ (i, e). cc)
-        in_list (x ∷ xs) = dec_iff to from (dec_or (ℕ_discrete x c) (in_list xs))
+        in_list (x ∷ xs) = map_dec to from (dec_or (ℕ_discrete x c) (in_list xs))
           where
             to : (x ≡ c) ⊎ ((i : ℕ) × (slice_get xs i ≡ Some c)) → (i : ℕ) × (slice_get (x ∷ xs) i ≡ Some c)
             to (inl e) = (0, ap Some e)
@@ -211,7 +209,7 @@ module _ (labels : List (Option ℕ)) where
     pub dec_within : (h c : ℕ) → Dec (Within c h)
     dec_within zero c = dec_input c
     dec_within (suc h) c =
-        dec_or (dec_input c) (dec_iff to from (dec_any (λ p. (ps : List ℕ) × Contains (pin_lists p) ps × (AttainsBy c p ps × AllByRecursion (λ q. Within q h) ps)) (λ p. dec_any (λ ps. AttainsBy c p ps × AllByRecursion (λ q. Within q h) ps) (λ ps. dec_and (dec_attains c p ps) (dec_all (λ q. Within q h) (λ q. dec_within h q) ps)) (pin_lists p)) pats))
+        dec_or (dec_input c) (map_dec to from (dec_any (λ p. (ps : List ℕ) × Contains (pin_lists p) ps × (AttainsBy c p ps × AllByRecursion (λ q. Within q h) ps)) (λ p. dec_any (λ ps. AttainsBy c p ps × AllByRecursion (λ q. Within q h) ps) (λ ps. dec_and (dec_attains c p ps) (dec_all (λ q. Within q h) (λ q. dec_within h q) ps)) (pin_lists p)) pats))
       where
         to : (p : Pattern) × Contains pats p × ((ps : List ℕ) × Contains (pin_lists p) ps × (AttainsBy c p ps × AllByRecursion (λ q. Within q h) ps)) → (cell : ℕ) × (ps : List ℕ) × Attains M cost known c cell ps × AllByRecursion (λ q. Within q h) ps
         to (p, listed, (ps, in_pins, (a, w))) = (p.cell, ps, attains_to c p ps listed a, w)

@@ -2,6 +2,8 @@
 use Rattle.std.proofs.Common.{ℕ, zero, suc, ◌+◌, ◌<◌, ◌≡◌, ◌⊎◌, inl, inr, List, [], ◌∷◌, ◌++◌, length, Some, slice_get, slice_index_or, map, min, refl, ap, ap₂, sym, ◌∙◌, subst, arith}
 use Rattle.std.specs.List.{AllZip}
 use Rattle.std.proofs.lemmas.Option.{slice_get_within}
+use Rattle.std.proofs.lemmas.Bool.{cases_order}
+use Rattle.std.proofs.lemmas.List.{length-append}
 use Rattle.lw_laws.specs.Graphs.{Graph}
 use Rattle.lw_laws.specs.Costs.{Cost}
 use Rattle.lw_laws.specs.Choices.{Labels}
@@ -74,19 +76,8 @@ module _ (g : Graph) (cost : Cost) (pats : List Pattern) (labels : Labels) (heig
     ordered_and_mapped n is = (extracted_ordered g cost pats labels heights gates n classes.sorted is, extracted_mapped g cost pats labels heights gates n classes.sorted is)
 
     pub gate_once : (i j c : ℕ) → slice_get gates i ≡ Some c → slice_get gates j ≡ Some c → i ≡ j
-    gate_once i j c e f = by_order (eq_or i j)
+    gate_once i j c e f = by_order (cases_order i j)
       where
-        eq_or : (i j : ℕ) → (i ≡ j) ⊎ ((i < j) ⊎ (j < i))
-        eq_or zero zero = inl refl
-        eq_or zero (suc j) = inr (inl (omega arith))
-        eq_or (suc i) zero = inr (inr (omega arith))
-        eq_or (suc i) (suc j) = up (eq_or i j)
-          where
-            up : (i ≡ j) ⊎ ((i < j) ⊎ (j < i)) → (suc i ≡ suc j) ⊎ ((suc i < suc j) ⊎ (suc j < suc i))
-            up (inl e) = inl (ap suc e)
-            up (inr (inl l)) = inr (inl (omega arith))
-            up (inr (inr l)) = inr (inr (omega arith))
-
         by_order : (i ≡ j) ⊎ ((i < j) ⊎ (j < i)) → i ≡ j
         by_order (inl s) = s
         by_order (inr (inl l)) = absurd (not_itself heights c (classes.sorted i j c c e f l))
@@ -151,12 +142,8 @@ extracted_costs g cost pats labels heights roots gates n costs classes is are le
         let lt = slice_get_within (g.leaves ++ gates) net c at in
         let a = is.inputs in
         let b = is.one_each in
-        let l = length_both g.leaves gates in
+        let l = length-append g.leaves gates in
         omega arith
-      where
-        length_both : (xs ys : List ℕ) → length (xs ++ ys) ≡ length xs + length ys
-        length_both [] ys = omega arith
-        length_both (x ∷ xs) ys = let ih = length_both xs ys in omega arith
 
 index_cut : (cap : ℕ) (xs : List ℕ) (k : ℕ) → slice_index_or (map (min cap) xs) k 0 ≡ min cap (slice_index_or xs k 0)
 index_cut cap [] k = omega arith

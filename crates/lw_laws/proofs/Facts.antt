@@ -3,6 +3,7 @@ use Rattle.std.proofs.Common.{ℕ, zero, suc, ◌+◌, ◌*◌, ◌==◌, ◌<�
 use Rattle.std.specs.List.{AllByRecursion, list_all, list_any}
 use Rattle.std.proofs.lemmas.Bool.Decides.{nat_tests}
 use Rattle.std.proofs.lemmas.Bool.{and_parts, or_cases, eqb-true}
+use Rattle.std.proofs.lemmas.List.Elements.{Contains-append_cases}
 use Rattle.lw_facts.proofs.Lists.{contains_map}
 use native.Mathlib.Nat.{eq-or-lt_of_le}
 use Rattle.lw_laws.specs.Names.{same_name}
@@ -319,15 +320,6 @@ twices_are : (forms : NumberedForms) (n : ℕ) → n ≤ 2 * length forms.bases 
 twices_are forms zero le = tt
 twices_are forms (suc n) le = ((omega arith, refl, refl), twices_are forms n (omega arith))
 
-in_two : {X : Type 0} (xs ys : List X) (x : X) → Contains (xs ++ ys) x → Contains xs x ⊎ Contains ys x
-in_two [] ys x c = inr c
-in_two (z ∷ xs) ys x (zero, lt, e) = inl (0, omega arith, e)
-in_two (z ∷ xs) ys x (suc k, lt, e) = more (in_two xs ys x (k, omega arith, e))
-  where
-    more : Contains xs x ⊎ Contains ys x → Contains (z ∷ xs) x ⊎ Contains ys x
-    more (inl (j, l, h)) = inl (suc j, omega arith, h)
-    more (inr c) = inr c
-
 module _ (forms : NumberedForms) where
   abbrev cut_facts : List NandFact
   cut_facts = of_bases cuts forms 0 forms.bases
@@ -362,7 +354,7 @@ module _ (forms : NumberedForms) where
 
   pub fact_is : (mode : Mode) (F : NandFact) → Contains (nand_facts mode forms) F → IsSplitOf mode forms F.form F.left F.right
   fact_is plain F c = split_is IsCut cuts forms cuts_are F c
-  fact_is idempotent F c = by_list (in_two cut_facts (overlap_facts ++ all_twice) F c)
+  fact_is idempotent F c = by_list (Contains-append_cases cut_facts (overlap_facts ++ all_twice) F c)
     where
       by_rest : Contains overlap_facts F ⊎ Contains all_twice F → IsSplitOf idempotent forms F.form F.left F.right
       by_rest (inl c) =
@@ -372,4 +364,4 @@ module _ (forms : NumberedForms) where
 
       by_list : Contains cut_facts F ⊎ Contains (overlap_facts ++ all_twice) F → IsSplitOf idempotent forms F.form F.left F.right
       by_list (inl c) = inl (split_is IsCut cuts forms cuts_are F c)
-      by_list (inr c) = by_rest (in_two overlap_facts all_twice F c)
+      by_list (inr c) = by_rest (Contains-append_cases overlap_facts all_twice F c)

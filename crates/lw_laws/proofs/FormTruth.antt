@@ -1,8 +1,10 @@
 -- The truth values of what the constructors make.
-use Rattle.std.proofs.Common.{ℕ, zero, suc, ◌+◌, ◌<◌, ◌≤◌, ◌≡◌, Bool, true, false, not, ◌&&◌, ◌||◌, cond, leb, ltb, List, [], ◌∷◌, ◌++◌, map, filter, length, take, drop, Option, Some, None, slice_get, slice_index_or, refl, ap, ap₂, sym, ◌∙◌, subst, arith, take-append-drop}
+use Rattle.std.proofs.Common.{ℕ, zero, suc, ◌+◌, ◌<◌, ◌≤◌, ◌≡◌, Bool, true, false, not, ◌&&◌, ◌||◌, cond, leb, ltb, List, [], ◌∷◌, ◌++◌, map, filter, length, take, drop, Option, Some, None, slice_index_or, refl, ap, ap₂, sym, ◌∙◌, subst, arith, take-append-drop}
 use Rattle.std.specs.List.{list_all, list_any, AllByRecursion}
 use Rattle.std.proofs.lemmas.Bool.{and_parts, false_from_ne_true}
 use Rattle.std.proofs.Math.Bool.{or-false, not-not, and-true}
+use Rattle.lw_facts.proofs.Lists.{length_mapped}
+use Rattle.lw_laws.proofs.Lists.{all_append as append_all, all_at}
 use Rattle.lw_laws.specs.Networks.{Node, Network, agrees, row_value, node_value}
 use Rattle.lw_laws.specs.Forms.{Form, FormList, items, form_list, same_form, is_among, complement, without, kept, has_clash, runs, runs_within, joined, joined_many, conjunction_within, conjunction, disjunction, form_value, forms_value}
 use Rattle.lw_laws.specs.Forms.Form.{var_form, true_form, not_form, and_form}
@@ -188,10 +190,6 @@ module _ (x : ℕ → Bool) where
     by_test true p q = p
     by_test false p q = q
 
-  length_map : {X Y : Type 0} (h : X → Y) (xs : List X) → length (map h xs) ≡ length xs
-  length_map h [] = refl
-  length_map h (y ∷ ys) = ap suc (length_map h ys)
-
   index_map : {X Y : Type 0} (h : X → Y) (xs : List X) (i : ℕ) (d : X) → slice_index_or (map h xs) i (h d) ≡ h (slice_index_or xs i d)
   index_map h [] i d = refl
   index_map h (y ∷ ys) zero d = refl
@@ -207,7 +205,7 @@ module _ (x : ℕ → Bool) where
       conjunction_value width (literal_form fs l ∷ again q ∷ []) ∙ ap₂ (λ a b. a && b) lit (and-true (v (again q)) ∙ ih q) in
       disjunction_value width (conjunction width (literal_form fs l ∷ again q ∷ []) ∷ again r ∷ [])
       ∙ (ap₂ (λ a b. a || b) first (or-false (v (again r)) ∙ ih r)
-      ∙ rows_value (map v fs) l rows (subst (λ n. l.column < n) (sym (length_map v fs)) w))
+      ∙ rows_value (map v fs) l rows (subst (λ n. l.column < n) (sym (length_mapped v fs)) w))
 
   factored_within_value : (n width : ℕ) (fs : List Form) (rows : List (List (Option Bool))) → v (factored_within n width fs rows) ≡ list_any (row_value (map v fs)) rows
   factored_within_value zero width fs rows = sum_value width fs rows
@@ -260,15 +258,6 @@ module _ (x : ℕ → Bool) where
 
   abbrev Agrees : Signal → Type 0
   Agrees s = form_value x s.sop ≡ form_value x s.fac
-
-  append_all : {X : Type 0} (P : X → Type 0) (xs ys : List X) → AllByRecursion P xs → AllByRecursion P ys → AllByRecursion P (xs ++ ys)
-  append_all P [] ys a b = b
-  append_all P (z ∷ xs) ys (p, a) b = (p, append_all P xs ys a b)
-
-  all_at : {X : Type 0} (P : X → Type 0) (xs : List X) → AllByRecursion P xs → (i : ℕ) (z : X) → slice_get xs i ≡ Some z → P z
-  all_at P [] a i z e = cc
-  all_at P (y ∷ xs) (p, a) zero z e = let k : y ≡ z = cc in subst P k p
-  all_at P (y ∷ xs) (p, a) (suc i) z e = all_at P xs a i z e
 
   after_agree : (width : ℕ) (signals : List Signal) (nodes : List Node) → AllByRecursion Agrees signals → AllByRecursion Agrees (signals_after width signals nodes)
   after_agree width signals [] a = a

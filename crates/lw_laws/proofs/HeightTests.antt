@@ -1,7 +1,7 @@
 -- Tests of the heights of a small graph, which hold only where they are 0 at inputs and elsewhere what the attaining matches give.
 use Rattle.std.proofs.Common.{ℕ, zero, suc, ◌+◌, ◌≤◌, ◌≡◌, ◌==◌, ◌⊎◌, max, Bool, true, false, not, ◌||◌, leb, List, [], ◌∷◌, length, Option, Some, None, slice_get, slice_index_or, ap, sym, ◌∙◌, subst, arith}
 use Rattle.std.specs.List.{AllByRecursion}
-use Rattle.std.proofs.lemmas.Bool.Decides.{nat_tests}
+use Rattle.std.proofs.lemmas.Bool.{leb-true}
 use Rattle.lw_laws.specs.Graphs.{Graph}
 use Rattle.lw_laws.specs.Covers.{Pattern, HasPins}
 use Rattle.lw_laws.specs.Costs.{Cost}
@@ -44,10 +44,7 @@ module _ (labels : List (Option ℕ)) (heights : List ℕ) where
     is_low c cell ps ls = not (is_label (known c) (cost.value cell ls)) || leb (height c) (suc (greatest ps))
 
     low_true : (h k : ℕ) (t : Bool) → t ≡ true → (not t || leb h k) ≡ true → h ≤ k
-    low_true h k true s e = leb_le h k e
-      where
-        leb_le : (a b : ℕ) → leb a b ≡ true → a ≤ b
-        leb_le a b e = grind (arith, nat_tests)
+    low_true h k true s e = leb-true h k e
     low_true h k false s e = cc
 
     -- an input's class, or one with an attaining match whose pins are lower

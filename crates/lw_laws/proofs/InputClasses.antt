@@ -15,7 +15,7 @@ use Rattle.lw_laws.specs.Graphs.{Graph, class_of, AreNumberedFrom}
 use Rattle.lw_laws.specs.Extracts.{AreDistinctLeaves}
 use Rattle.lw_laws.specs.Classes.{class_in, IsGraphOf}
 use Rattle.lw_laws.proofs.Facts.{eq_same}
-use Rattle.lw_laws.proofs.Flips.{flip_even, class_of-flip}
+use Rattle.lw_laws.proofs.Flips.{flip_even, class_of-flip, even_or_odd}
 use Rattle.lw_laws.proofs.Numbers.{number_of}
 use Rattle.lw_laws.proofs.NumberValues.{trees_have_value}
 use Rattle.lw_laws.proofs.FormTruth.{signals_agree}
@@ -78,9 +78,6 @@ module _ (mode : Mode) (width : ℕ) (net : Network) (g : Graph) (wide : 2 ≤ w
             omega arith,
         λ e. let same = one_value (var_form i) (not_form (var_form m)) occ (suc m, input_at m low) (sym here ∙ (e ∙ not_var_class m low)) (λ k. false) in cc,
       )
-
-  even_or_odd : (c j : ℕ) → c / 2 ≡ j → (c ≡ 2 * j) ⊎ (c ≡ 2 * j + 1)
-  even_or_odd c j e = grind arith
 
   -- the class of a base form that is apart from those before it is the next
   next_class : (m c : ℕ) (cs : List ℕ) → m ≤ net.inputs → AreNumberedFrom m (c ∷ cs) → ((j : ℕ) → j < m → class_of g (2 * j) ≡ 2 * j) → class_of g (2 * m) ≡ c → (c ≡ 2 * m) × AreNumberedFrom (suc m) cs

@@ -13,7 +13,7 @@ use Rattle.lw_laws.specs.Laws.{IsCoverProblem, IsAttainedIn, AreLeafLabels, AreD
 use Rattle.lw_laws.proofs.Heights.{IsWithin_more, has_height, heights_are, heights_attain}
 use Rattle.lw_laws.proofs.Delays.{label_low}
 use Rattle.lw_laws.proofs.Together.{graph_choices}
-use Rattle.lw_laws.proofs.Deciding.{dec_within, least_number}
+use Rattle.lw_laws.proofs.Deciding.{dec_within, least_number, label_listed}
 
 pub class_height : (g : Graph) (pats : List Pattern) (cost : Cost) (labels : List (Option ℕ)) → IsCoverProblem g pats cost → IsPotentialOf g pats cost labels → IsAttainedIn g pats cost labels → (c l : ℕ) → labels_in labels c ≡ Some l → (h : ℕ) × IsHeight (choices_of g cost.pin_counts pats) cost (labels_in labels) c h
 class_height g pats cost labels is potential attained c l e =
@@ -38,11 +38,6 @@ delays_up : (delay : ℕ) (delays : List (List ℕ)) (cell : ℕ) → AreDelaysU
 delays_up delay [] cell a = tt
 delays_up delay (ds ∷ delays) zero (h, a) = h
 delays_up delay (ds ∷ delays) (suc cell) (h, a) = delays_up delay delays cell a
-
-pub label_listed : (labels : List (Option ℕ)) (c l : ℕ) → labels_in labels c ≡ Some l → c < length labels
-label_listed [] c l e = cc
-label_listed (o ∷ labels) zero l e = omega arith
-label_listed (o ∷ labels) (suc c) l e = let ih = label_listed labels c l e in omega arith
 
 pub latest_none : (ds : List ℕ) → latest ds [] ≡ 0
 latest_none [] = refl

@@ -2,6 +2,8 @@
 use Rattle.std.proofs.Common.{ℕ, zero, suc, ◌+◌, eq-or-lt_of_le, append_assoc, append-nil, ◌<◌, ◌≤◌, ◌≡◌, ◌⊎◌, inl, inr, Bool, true, false, ◌||◌, cond, leb, List, [], ◌∷◌, ◌++◌, length, Some, slice_get, refl, ap, sym, ◌∙◌, subst, arith, leb-true, leb-false}
 use Rattle.std.specs.List.{AllByRecursion}
 use Rattle.std.proofs.lemmas.Option.{slice_get_within}
+use Rattle.std.proofs.lemmas.Bool.{cases_lt}
+use Rattle.lw_laws.proofs.Lists.{all_at}
 use Rattle.lw_facts.proofs.Lists.{get_left, get_last, get_last_cases}
 use Rattle.lw_laws.specs.Networks.{Node, Network}
 use Rattle.lw_laws.specs.Forms.{Form, FormList, items, form_list, and_of, same_form, is_among}
@@ -175,16 +177,10 @@ module _ (count width : ℕ) where
       shorter hs s n (inl lt) = inr (h hs (p hs s lt)).0
       shorter hs s n (inr le) = inl (IsSub_whole s le)
 
-      either : (a b : ℕ) → (a < b) ⊎ (b ≤ a)
-      either a b = by_test (leb b a) refl where
-        by_test : (t : Bool) → leb b a ≡ t → (a < b) ⊎ (b ≤ a)
-        by_test true s = inr (leb-true b a s)
-        by_test false s = inl (leb-false b a s)
-
       longer : (hs : List Form) → IsSub hs (f ∷ fs) → length hs < length (f ∷ fs) → (hs ≡ fs) ⊎ More hs
       longer hs s lt = sub_cases (λ ks. length ks < length (f ∷ fs) → (ks ≡ fs) ⊎ More ks) f fs hs s
           (λ ks r e l. let shrink = ap length e in inr (subst More (sym e) (h ks (p ks r (omega arith))).1))
-          (λ r l. shorter hs r 0 (either (length hs) (length fs))) lt
+          (λ r l. shorter hs r 0 (cases_lt (length hs) (length fs))) lt
 
   sublists_in_order : (fs : List Form) → AreInOrder (λ hs. ⊥) (sublists fs)
   sublists_in_order [] = (λ hs s lt. absurd (omega arith), tt)
@@ -333,11 +329,6 @@ module _ (count width : ℕ) where
     first_and zero fs e = cc
     first_and (suc b) fs e = cc
 
-  all_at : {X : Type 0} (P : X → Type 0) (xs : List X) → AllByRecursion P xs → (i : ℕ) (z : X) → slice_get xs i ≡ Some z → P z
-  all_at P [] a i z e = cc
-  all_at P (y ∷ xs) (p, a) zero z e = let k : y ≡ z = cc in subst P k p
-  all_at P (y ∷ xs) (p, a) (suc i) z e = all_at P xs a i z e
-
   -- each input is listed at its place
   abbrev AreInputsBelow : ℕ → List Form → Type 0
   AreInputsBelow i bases = (b j : ℕ) → slice_get bases b ≡ Some (var_form j) → j < i
@@ -409,7 +400,7 @@ occurring_is_listing width wide net =
       signs = r.grown.good.signs;
       once = r.grown.good.once;
       ands = r.grown.good.ands;
-      signals = λ s x e. all_at net.inputs width (λ s. Has (occurring_forms width net) (base_form s.sop) × Has (occurring_forms width net) (base_form s.fac)) (signals_of width net) r.has s x e;
+      signals = λ s x e. all_at (λ s. Has (occurring_forms width net) (base_form s.sop) × Has (occurring_forms width net) (base_form s.fac)) (signals_of width net) r.has s x e;
     }
 
 all_right : {X : Type 0} (P : X → Type 0) (xs ys : List X) → AllByRecursion P (xs ++ ys) → AllByRecursion P ys

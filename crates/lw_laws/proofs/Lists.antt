@@ -1,5 +1,5 @@
 -- Elements of lists by place.
-use Rattle.std.proofs.Common.{ℕ, zero, suc, ◌<◌, ◌≡◌, List, [], ◌∷◌, ◌++◌, length, map, Contains, Some, slice_get, refl, subst, arith}
+use Rattle.std.proofs.Common.{ℕ, zero, suc, ◌<◌, ◌≡◌, List, [], ◌∷◌, ◌++◌, length, map, Contains, Some, slice_get, slice_index_or, refl, subst, arith}
 use Rattle.std.specs.List.{AllByRecursion}
 
 pub slice_get_some : {X : Type 0} (xs : List X) (i : ℕ) → i < length xs → (x : X) × (slice_get xs i ≡ Some x)
@@ -12,6 +12,11 @@ pub all_contains : {X : Type 0} (P : X → Type 0) (xs : List X) (x : X) → All
 all_contains P [] x a (k, lt, e) = absurd (omega arith)
 all_contains P (y ∷ xs) x (p, a) (zero, lt, e) = subst P e p
 all_contains P (y ∷ xs) x (p, a) (suc k, lt, e) = all_contains P xs x a (k, omega arith, e)
+
+pub all_at : {X : Type 0} (P : X → Type 0) (xs : List X) → AllByRecursion P xs → (i : ℕ) (x : X) → slice_get xs i ≡ Some x → P x
+all_at P [] a i x e = cc
+all_at P (y ∷ xs) (p, a) zero x e = let k : y ≡ x = cc in subst P k p
+all_at P (y ∷ xs) (p, a) (suc i) x e = all_at P xs a i x e
 
 pub contains_all : {X : Type 0} (P : X → Type 0) (xs : List X) → ((x : X) → Contains xs x → P x) → AllByRecursion P xs
 contains_all P [] f = tt
@@ -34,3 +39,8 @@ in_left (z ∷ xs) ys x (suc k, lt, e) = let (j, l, f) = in_left xs ys x (k, ome
 pub in_right : {X : Type 0} (xs ys : List X) (x : X) → Contains ys x → Contains (xs ++ ys) x
 in_right [] ys x c = c
 in_right (z ∷ xs) ys x c = let (j, l, f) = in_right xs ys x c in (suc j, omega arith, f)
+
+pub held_in : {X : Type 0} (rows : List (List X)) (c : ℕ) (x : X) → Contains (slice_index_or rows c []) x → c < length rows
+held_in [] c x (k, lt, e) = absurd (omega arith)
+held_in (r ∷ rows) zero x at = omega arith
+held_in (r ∷ rows) (suc c) x at = let ih = held_in rows c x at in omega arith

@@ -1,8 +1,7 @@
 -- Least arrivals of small networks, by tests of a graph and labels, and a cover.
 use Rattle.std.proofs.Common.{ℕ, zero, suc, ◌+◌, ◌<◌, ◌≤◌, ◌^◌, ◌≡◌, Bool, true, ◌&&◌, ltb, List, [], min, ap, inl, inr, ◌/◌, length, map, Option, Some, None, slice_get, sym, subst, arith}
 use Rattle.std.specs.List.{list_all}
-use Rattle.std.proofs.lemmas.Bool.Decides.{nat_tests}
-use Rattle.std.proofs.lemmas.Bool.{and_parts}
+use Rattle.std.proofs.lemmas.Bool.{and_parts, ltb-true}
 use native.Mathlib.Decide.{ℕ_discrete}
 use Rattle.lw_laws.specs.Modes.{Mode}
 use Rattle.lw_laws.specs.Trees.{Tree, leaf, const_one, const_zero, inv, nand, HasLeaf}
@@ -45,10 +44,7 @@ has_leaves zero t = true
 has_leaves (suc n) t = has_leaf n t && has_leaves n t
 
 below_true : (n : ℕ) (t : Tree) (k : ℕ) → leaves_below n t ≡ true → HasLeaf t k → k < n
-below_true n (leaf i) k e h = let lt = by_test i n e in omega arith
-  where
-    by_test : (a b : ℕ) → ltb a b ≡ true → a < b
-    by_test a b e = grind (arith, nat_tests)
+below_true n (leaf i) k e h = let lt = ltb-true i n e in omega arith
 below_true n const_one k e h = absurd h
 below_true n const_zero k e h = absurd h
 below_true n (inv t) k e h = below_true n t k e h

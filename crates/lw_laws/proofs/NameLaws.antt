@@ -2,7 +2,7 @@
 use Rattle.std.proofs.Common.{ℕ, zero, suc, ◌+◌, ◌<◌, ◌≤◌, ◌==◌, ◌^◌, ◌≡◌, Bool, true, false, not, ◌||◌, if◌then◌else◌, cond, Option, Some, None, List, [], ◌∷◌, ◌++◌, length, filter, slice_get, refl, ap, sym, ◌∙◌, subst, arith}
 use Rattle.std.specs.List.{AllByRecursion, list_any}
 use Rattle.std.proofs.lemmas.Fmt.{decimal_injective}
-use Rattle.std.proofs.lemmas.Bool.{eqb-true}
+use Rattle.std.proofs.lemmas.Bool.{eqb-true, not-true}
 use Rattle.lw_laws.specs.Names.{same_name, is_name_among, numbered_name, numbered_names, free_names, output_name, gate_names, net_names, AreDifferent, AreNameable}
 use Rattle.lw_laws.proofs.Facts.{same_name_eq, same_name_refl}
 
@@ -184,11 +184,7 @@ outside_split name (x ∷ xs) ys e =
     (rw a p, q)
 
 free_outside : (taken : List Name) (name : Name) → free taken name ≡ true → IsOutside name taken
-free_outside taken name e = by_test (is_name_among name taken) e
-  where
-    by_test : (t : Bool) → not t ≡ true → t ≡ false
-    by_test true e = cc
-    by_test false e = refl
+free_outside taken name e = not-true (is_name_among name taken) e
 
 -- the output that names a class
 named_at : (outputs : List Name) (roots : List ℕ) (c : ℕ) (name : Name) → output_name outputs roots c ≡ Some name → (k : ℕ) × (slice_get outputs k ≡ Some name) × (slice_get roots k ≡ Some c)

@@ -2,6 +2,7 @@
 use Rattle.std.proofs.Common.{ℕ, ◌+◌, ◌/◌, ◌<◌, ◌≤◌, ◌^◌, ◌≡◌, ◌↔◌, List, [], ◌∷◌, ◌++◌, length, map, Option, Some, None, refl, ap, ◌∙◌, subst, arith}
 use Rattle.std.specs.List.{AllZip, AllByRecursion}
 use Rattle.std.proofs.lemmas.Option.{slice_get_within}
+use Rattle.std.proofs.lemmas.List.{length-append}
 use Rattle.lw_facts.proofs.Lists.{index_at}
 use Rattle.lw_laws.specs.Modes.{Mode}
 use Rattle.lw_laws.specs.Networks.{Network, IsInOrder}
@@ -88,10 +89,6 @@ both P R [] (q ∷ qs) a b = absurd b
 both P R (p ∷ ps) [] a b = absurd b
 both P R (p ∷ ps) (q ∷ qs) (h, a) (r, b) = ((h, r), both P R ps qs a b)
 
-length_both : (xs ys : List ℕ) → length (xs ++ ys) ≡ length xs + length ys
-length_both [] ys = omega arith
-length_both (x ∷ xs) ys = let ih = length_both xs ys in omega arith
-
 -- each input's class has the input's start as its label
 pub netlist_leaf_labels : (mode : Mode) (width : ℕ) (net : Network) (ports : Ports) (pats : List Pattern) (timing : Timing) (cap : ℕ) (n : Netlist) (names : List (List ℕ)) (mapped : Ports) → 2 ≤ width → ArePatterns (map length timing.delays) pats → (is : IsNetlistOf mode width net ports pats timing cap n names mapped) → HaveLeafLabels is.graph (delay_cost timing cap) (labels_in is.labels)
 netlist_leaf_labels mode width net ports pats timing cap n names mapped wide patterns is c i at = input_label mode width net is.graph wide is.is_graph pats timing cap patterns i c (labels_in is.labels c) at (is.least c)
@@ -126,7 +123,7 @@ netlist_maps mode width net ports pats timing cap truth n names mapped wide orde
         let here = index_at (net_classes is.graph is.gates) k (root_class width net is.graph s) at in
         let a = is.extracted.inputs in
         let b = is.extracted.one_each in
-        let c = length_both is.graph.leaves is.gates in
+        let c = length-append is.graph.leaves is.gates in
         let d = slice_get_within (net_classes is.graph is.gates) k (root_class width net is.graph s) at in
         record {
           of_network = lt;

@@ -2,6 +2,8 @@
 use Rattle.std.proofs.Common.{ℕ, zero, suc, ◌+◌, ◌*◌, ◌<◌, ◌≤◌, ◌≡◌, Bool, true, false, not, cond, leb, List, [], ◌∷◌, ◌++◌, map, filter, length, take, drop, Option, Some, None, slice_index_or, refl, ap, ap₂, sym, ◌∙◌, subst, arith, leb-true, leb-false, length-drop, length-take-le}
 use Rattle.std.specs.List.{AllByRecursion}
 use Rattle.std.proofs.lemmas.Bool.{or_from}
+use Rattle.lw_facts.proofs.Lists.{length_mapped}
+use Rattle.lw_laws.proofs.Lists.{all_append}
 use Rattle.lw_laws.specs.Networks.{Node, Network}
 use Rattle.lw_laws.specs.Forms.{Form, FormList, items, form_list, same_form, is_among, complement, without, kept, has_clash, runs, runs_within, joined, joined_many, conjunction_within, conjunction, disjunction}
 use Rattle.lw_laws.specs.Forms.Form.{var_form, true_form, not_form, and_form}
@@ -127,10 +129,6 @@ module _ (count width : ℕ) (wide : 2 ≤ width) where
   map_all P Q h f [] a = tt
   map_all P Q h f (x ∷ xs) (p, a) = (f x p, map_all P Q h f xs a)
 
-  length_map : {X Y : Type 0} (h : X → Y) (xs : List X) → length (map h xs) ≡ length xs
-  length_map h [] = refl
-  length_map h (y ∷ ys) = ap suc (length_map h ys)
-
   joined_many_normal : (n : ℕ) (again : List Form → Form) → ((hs : List Form) → AllByRecursion Normal hs → length hs < n → Normal (again hs)) → (fs : List Form) (t : Bool) → leb (length fs) width ≡ t → AllByRecursion Normal fs → 2 ≤ length fs → length fs ≤ n → AreDistinct fs → has_clash fs ≡ false → Normal (joined_many again width fs t)
   joined_many_normal n again ih fs true s a two le d c =
       (subst (AreOperands width) (sym (items-form_list fs)) (record { two = two; few = leb-true (length fs) width s; distinct = d; clashless = c }), list_normal count width fs a)
@@ -138,7 +136,7 @@ module _ (count width : ℕ) (wide : 2 ≤ width) where
       let more = leb-false (length fs) width s in
       let count = run_count (length fs) fs in
       let each = are_runs (length fs) fs (omega arith) (omega arith) in
-      let lengths = length_map again (runs width fs) in
+      let lengths = length_mapped again (runs width fs) in
       ih (map again (runs width fs)) (map_all (IsRun fs) Normal again (λ run r. let few = r.few in ih run (IsSub_all Normal r.sub a) (omega arith)) (runs width fs) each) (omega arith)
 
   joined_normal : (n : ℕ) (again : List Form → Form) → ((hs : List Form) → AllByRecursion Normal hs → length hs < n → Normal (again hs)) → (fs : List Form) (t : Bool) → has_clash fs ≡ t → AllByRecursion Normal fs → length fs ≤ n → AreDistinct fs → Normal (joined again width fs t)
@@ -206,17 +204,13 @@ module _ (count width : ℕ) (wide : 2 ≤ width) where
   fanins_normal signals [] a = tt
   fanins_normal signals (net ∷ nets) a = (sop_at_normal signals net a, fanins_normal signals nets a)
 
-  append_all : {X : Type 0} (P : X → Type 0) (xs ys : List X) → AllByRecursion P xs → AllByRecursion P ys → AllByRecursion P (xs ++ ys)
-  append_all P [] ys a b = b
-  append_all P (z ∷ xs) ys (p, a) b = (p, append_all P xs ys a b)
-
   after_normal : (signals : List Signal) (nodes : List Node) → AllByRecursion IsNormalSignal signals → AllByRecursion IsNormalSignal (signals_after width signals nodes)
   after_normal signals [] a = a
   after_normal signals (node ∷ nodes) a =
       let fs = map (sop_at signals) node.fanins in
       let fan = fanins_normal signals node.fanins a in
       after_normal (signals ++ signal_of_node width signals node ∷ []) nodes
-      (append_all IsNormalSignal signals (signal_of_node width signals node ∷ []) a ((signed_normal node.on (sum_of_products width fs node.rows) (sum_normal fs node.rows fan), signed_normal node.on (factored width fs node.rows) (factored_normal (suc (literal_count fs node.rows)) fs node.rows fan)), tt))
+      (all_append IsNormalSignal signals (signal_of_node width signals node ∷ []) a ((signed_normal node.on (sum_of_products width fs node.rows) (sum_normal fs node.rows fan), signed_normal node.on (factored width fs node.rows) (factored_normal (suc (literal_count fs node.rows)) fs node.rows fan)), tt))
 
   pub inputs_normal : (i n : ℕ) → i + n ≤ count → AllByRecursion IsNormalSignal (input_signals i n)
   inputs_normal i zero le = tt
@@ -235,7 +229,7 @@ module _ (count width : ℕ) (wide : 2 ≤ width) where
   joined_many_same a b fs h false s =
       let more = leb-false (length fs) width s in
       let count = run_count (length fs) fs in
-      let lengths = length_map b (runs width fs) in
+      let lengths = length_mapped b (runs width fs) in
       let each = are_runs (length fs) fs (omega arith) (omega arith) in
       let same = map_same a b fs (runs width fs) each (λ hs l. h hs (omega arith)) in
       ap a same ∙ h (map b (runs width fs)) (omega arith)

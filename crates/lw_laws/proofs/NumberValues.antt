@@ -17,7 +17,7 @@ use Rattle.lw_laws.proofs.Flips.{half-flip, odd-flip}
 use Rattle.lw_laws.proofs.Truths.{Derives-value}
 use Rattle.lw_laws.proofs.NumberedValues.{form_values_fit}
 use Rattle.lw_laws.proofs.FormTruth.{complement_value, items_value}
-use Rattle.lw_laws.proofs.Numbers.{slice_get_map_back, occurs_number}
+use Rattle.lw_laws.proofs.Numbers.{slice_get_map_back, occurs_number, sign_two}
 use Rattle.lw_laws.proofs.Agreement.{signal_back, operands_occur, same_trees}
 use Rattle.lw_laws.proofs.Words.{IsNumber}
 
@@ -50,14 +50,8 @@ module _ (inputs : ℕ) (o : Listing) (is : IsListing o) (x : ℕ → Bool) wher
   form_by_sign (not_form f) n b e z h r = rw (h, r) (ap complement (index_at o.bases b f true_form e) ∙ complement_self f z)
   form_by_sign (and_form fs) n b e z h r = rw (h, r) (index_at o.bases b (and_form fs) true_form e)
 
-  sign_one : (f : Form) → sign_of f ≤ 1
-  sign_one (var_form i) = omega arith
-  sign_one true_form = omega arith
-  sign_one (not_form f) = omega arith
-  sign_one (and_form fs) = omega arith
-
   form_of_number : (f : Form) (n : ℕ) → IsNumber o.bases f n → form_of o.bases n ≡ f
-  form_of_number f n (b, e, s) = let one = sign_one f in form_by_sign f n b e (is.signs b (base_form f) e) (omega arith) (omega arith)
+  form_of_number f n (b, e, s) = let one = sign_two f in form_by_sign f n b e (is.signs b (base_form f) e) (omega arith) (omega arith)
 
   pub value_of_number : (f : Form) → Occurs o f → number_value o x (number o.bases f) ≡ form_value x f
   value_of_number f occ = ap (form_value x) (form_of_number f (number o.bases f) (occurs_number o is f occ))

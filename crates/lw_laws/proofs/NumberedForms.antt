@@ -11,7 +11,7 @@ use Rattle.lw_laws.specs.NumberedForms.IsCovering.{in_none, in_left, in_right, i
 use Rattle.lw_laws.specs.Modes.Mode.{plain, idempotent}
 use Rattle.lw_laws.proofs.Words.IsGrounded.{input, top, split}
 use Rattle.lw_laws.specs.Modes.{Mode}
-use Rattle.lw_laws.proofs.Flips.{half-flip, flip_even, flip_odd}
+use Rattle.lw_laws.proofs.Flips.{half-flip, flip_even, flip_odd, even_or_odd}
 use Rattle.lw_laws.proofs.Lists.{slice_get_some}
 use Rattle.lw_laws.proofs.Words.{IsFamily, IsGrounded}
 
@@ -89,9 +89,6 @@ module _ (mode : Mode) (forms : NumberedForms) (are : AreNumberedForms forms) wh
       first_and_rest b a h fs f part.0 e s (l.operands).0 part.1 part.2
 
   -- the last bit of a form, and the base form
-  even_or_odd : (f b : ℕ) → f / 2 ≡ b → (f ≡ 2 * b) ⊎ (f ≡ 2 * b + 1)
-  even_or_odd f b e = grind arith
-
   grounded_at : (f b : ℕ) (base : Base) → slice_get forms.bases b ≡ Some base → (f ≡ 2 * b) ⊎ (f ≡ 2 * b + 1) → IsGrounded F (λ h. h / 2) f ⊎ IsGrounded F (λ h. h / 2) (flip f)
   grounded_at f b base_true e (inl s) = inl (top (b, e, s))
   grounded_at f b base_true e (inr s) = inr (top (b, e, flip_odd f b s))

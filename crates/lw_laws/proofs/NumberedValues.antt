@@ -1,7 +1,7 @@
 -- The values of listed forms fit the facts of both modes.
 use Rattle.std.proofs.Common.{ℕ, ◌+◌, ◌*◌, ◌≡◌, inl, inr, Bool, true, false, not, ◌&&◌, List, [], ◌∷◌, Some, slice_get, refl, ap, ap₂, sym, ◌∙◌}
 use Rattle.std.specs.List.{list_all}
-use Rattle.std.proofs.Math.Bool.{and-true}
+use Rattle.std.proofs.Math.Bool.{and-true, and_self}
 use Rattle.lw_laws.specs.Flip.{flip}
 use Rattle.lw_laws.specs.NumberedForms.{NumberedForms, IsCut, IsCovering, IsPart, IsCutOf, IsCoveringOf, IsTwice, IsSplitOf, family_of}
 use Rattle.lw_laws.specs.NumberedForms.Base.{base_true, base_input, base_and}
@@ -27,10 +27,6 @@ and_right false false c = refl
 and_both : (a b c : Bool) → (a && (b && c)) ≡ ((a && b) && (a && c))
 and_both true b c = refl
 and_both false b c = refl
-
-and_self : (a : Bool) → (a && a) ≡ a
-and_self true = refl
-and_self false = refl
 
 module _ (forms : NumberedForms) (x value : ℕ → Bool) (are : AreNumberedValues forms x value) where
   all_cut : {fs ls rs : List ℕ} → IsCut fs ls rs → list_all value fs ≡ (list_all value ls && list_all value rs)

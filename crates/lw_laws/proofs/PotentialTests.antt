@@ -1,8 +1,8 @@
 -- Tests of the labels of a small graph, which hold only where they are a potential of its matches.
 use Rattle.std.proofs.Common.{ℕ, zero, suc, ◌+◌, ◌*◌, ◌<◌, ◌≤◌, ◌==◌, ◌≡◌, ◌⊎◌, inl, inr, Bool, true, false, ◌&&◌, cond, leb, List, [], ◌∷◌, ◌++◌, length, map, replicate, Contains, Option, Some, None, slice_get, slice_index_or, refl, ap₂, sym, subst, arith}
 use Rattle.std.specs.List.{AllZip, list_all}
-use Rattle.std.proofs.lemmas.Bool.Decides.{nat_tests}
-use Rattle.std.proofs.lemmas.Bool.{and_parts}
+use Rattle.std.proofs.lemmas.Bool.{and_parts, leb-true}
+use Rattle.lw_laws.proofs.Deciding.{label_listed}
 use Rattle.lw_facts.proofs.Lists.{contains_map}
 use native.Mathlib.Decide.{ℕ_discrete, dec_lt}
 use Rattle.lw_laws.specs.Flip.{flip}
@@ -145,10 +145,7 @@ module _ (labels : List (Option ℕ)) where
 
   at_most_true : (c d : ℕ) (o : Option ℕ) → known c ≡ o → is_at_most o d ≡ true → HasLabelAtMost known c d
   at_most_true c d None e t = cc
-  at_most_true c d (Some l) e t = (l, e, leb_le l d t)
-    where
-      leb_le : (a b : ℕ) → leb a b ≡ true → a ≤ b
-      leb_le a b e = grind (arith, nat_tests)
+  at_most_true c d (Some l) e t = (l, e, leb-true l d t)
 
   module _ (g : Graph) (pats : List Pattern) (cost : Cost) where
     -- what each match with labelled pins is asked: its class, its cell, its pins and their labels
@@ -211,11 +208,6 @@ module _ (labels : List (Option ℕ)) where
       pub leaves : leaves_bounded 0 g.leaves ≡ true
 
     module _ (passes : PassesLabelTests) where
-      label_listed : (os : List (Option ℕ)) (p l : ℕ) → labels_in os p ≡ Some l → p < length os
-      label_listed [] p l e = cc
-      label_listed (o ∷ os) zero l e = omega arith
-      label_listed (o ∷ os) (suc p) l e = let ih = label_listed os p l e in omega arith
-
       pin_known : (ps ls : List ℕ) (k c : ℕ) → HaveLabels known ps ls → slice_get ps k ≡ Some c → c < length labels
       pin_known [] ls k c a e = cc
       pin_known (p ∷ ps) [] k c a e = absurd a

@@ -1,8 +1,10 @@
 -- Rounds of labels and of heights over a graph.
-use Rattle.std.proofs.Common.{ℕ, zero, suc, ◌+◌, ◌<◌, ◌≤◌, ◌≡◌, List, [], ◌∷◌, length, Option, Some, slice_get, slice_index_or, slice_set, Contains, inl, inr, sym, subst, arith}
+use Rattle.std.proofs.Common.{ℕ, zero, suc, ◌+◌, ◌<◌, ◌≤◌, ◌≡◌, List, [], ◌∷◌, length, Option, Some, slice_get, slice_set, inl, inr, sym, subst, arith}
+use Rattle.lw_laws.proofs.Deciding.{label_listed}
+use Rattle.lw_laws.proofs.Lists.{held_in}
 use Rattle.lw_laws.specs.Flip.{flip}
 use Rattle.lw_laws.specs.Trees.{Tree, leaf, const_one, const_zero, inv, nand}
-use Rattle.lw_laws.specs.Graphs.{Graph, Pair, Stands}
+use Rattle.lw_laws.specs.Graphs.{Graph, Stands}
 use Rattle.lw_laws.specs.Costs.{Cost}
 use Rattle.lw_laws.specs.Covers.{Pattern}
 use Rattle.lw_laws.specs.Choices.{Choices, HasCost, HaveLabels, HasLabelAtMost, Attains, IsInputClass, IsHeight}
@@ -48,21 +50,11 @@ module _ (g : Graph) (pats : List Pattern) (cost : Cost) where
       (potential, sound.attained, least_covers g pats cost labels is.few is.once is.patterns is.cost_is potential sound.attained)
 
   module _ (labels : List (Option ℕ)) where
-    label_listed : (os : List (Option ℕ)) (p l : ℕ) → labels_in os p ≡ Some l → p < length os
-    label_listed [] p l e = cc
-    label_listed (o ∷ os) zero l e = omega arith
-    label_listed (o ∷ os) (suc p) l e = let ih = label_listed os p l e in omega arith
-
     pin_listed : (ps ls : List ℕ) (k c : ℕ) → HaveLabels (labels_in labels) ps ls → slice_get ps k ≡ Some c → c < length labels
     pin_listed [] ls k c a e = cc
     pin_listed (p ∷ ps) [] k c a e = absurd a
     pin_listed (p ∷ ps) (l ∷ ls) zero c (h, a) e = let s : p ≡ c = cc in label_listed labels c l (subst (λ q. labels_in labels q ≡ Some l) s h)
     pin_listed (p ∷ ps) (l ∷ ls) (suc k) c (h, a) e = pin_listed ps ls k c a e
-
-    held_in : (rows : List (List Pair)) (c : ℕ) (p : Pair) → Contains (slice_index_or rows c []) p → c < length rows
-    held_in [] c p (k, lt, e) = absurd (omega arith)
-    held_in (r ∷ rows) zero p at = omega arith
-    held_in (r ∷ rows) (suc c) p at = let ih = held_in rows c p at in omega arith
 
     module _ (classes : HasClasses g (length labels)) where
       flip_in : (c : ℕ) → flip c < length labels → c < length labels

@@ -6,6 +6,7 @@ use Rattle.std.proofs.lemmas.Option.{same_Some, get_or_from_slice_get, slice_get
 use Rattle.std.specs.Option.{is_some}
 use Rattle.std.proofs.lemmas.List.{length-set, get_or-set_same, get_or-set_other}
 use Rattle.std.proofs.lemmas.List.Sums.{sum_by-set}
+use Rattle.lw_laws.proofs.Flips.{even_or_odd}
 use Rattle.lw_lut.specs.Searches.{depth_in, IsDeepened, unknown_count, is_unknown}
 use Rattle.lw_lut.proofs.Places.{none_some}
 
@@ -59,9 +60,6 @@ unfolding none
 known_some None e = absurd (true≢false e)
 known_some (Some f) e = (f, refl)
 
-of_place : (c p : ℕ) → c / 2 ≡ p → (c ≡ 2 * p) ⊎ (c ≡ 2 * p + 1)
-of_place c p e = elim (cases_eq c (2 * p)) [ inl same ↦ inl same | inr ne ↦ inr (omega (arith, e, ne)) ]
-
 pub deepened : (old : List (Option ℕ)) (p d u w : ℕ) (changed : Bool) → 2 * p + 1 < length old → u ≡ unwrap_or (depth_in old (2 * p)) d → w ≡ unwrap_or (depth_in old (2 * p + 1)) d → changed ≡ (none (depth_in old (2 * p + 1)) || none (depth_in old (2 * p))) → IsDeepened old p d (slice_set (slice_set old (2 * p) (Some u)) (2 * p + 1) (Some w)) changed
 deepened old p d u w changed lt isu isw is = record {
   one_each = length-set mid (2 * p + 1) (Some w) ∙ length-set old (2 * p) (Some u);
@@ -70,7 +68,7 @@ deepened old p d u w changed lt isu isw is = record {
     | inl o ↦ elim (one_added old (2 * p) d u lt1 isu c e o) [ inl q ↦ inl q | inr (f, here, n) ↦ inr (f, omega (arith, here), n) ]
     | inr (f, here, n) ↦ inr (f, omega (arith, here), sym (one_other old (2 * p) d u lt1 isu c (λ s. omega (arith, s, here))) ∙ n)
   ];
-  all = λ c at. elim (of_place c p at) [
+  all = λ c at. elim (even_or_odd c p at) [
     | inl here ↦ (u, one_kept mid (2 * p + 1) d w lt2 isw2 c u (ap (depth_in mid) here ∙ one_value old (2 * p) d u lt1 isu))
     | inr here ↦ (w, ap (depth_in (slice_set mid (2 * p + 1) (Some w))) here ∙ one_value mid (2 * p + 1) d w lt2 isw2)
   ];
@@ -81,7 +79,7 @@ deepened old p d u w changed lt isu isw is = record {
   ];
   same = λ e c at.
       let (n, m) = or_parts (none (depth_in old (2 * p + 1))) (none (depth_in old (2 * p))) (sym is ∙ e) in
-      elim (of_place c p at) [
+      elim (even_or_odd c p at) [
         | inl here ↦ let (f, q) = known_some (depth_in old (2 * p)) m in (f, ap (depth_in old) here ∙ q)
         | inr here ↦ let (f, q) = known_some (depth_in old (2 * p + 1)) n in (f, ap (depth_in old) here ∙ q)
       ];

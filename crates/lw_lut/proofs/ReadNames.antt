@@ -8,6 +8,7 @@ use Rattle.std.proofs.lemmas.List.{map-append, length-map, length-append}
 use Rattle.std.proofs.lemmas.Option.{slice_get_read}
 use Rattle.std.proofs.lemmas.Slice.Eq.{bytes_eq-Decides}
 use Rattle.std.proofs.lemmas.Bool.{or_parts}
+use Rattle.std.proofs.Math.Nat.{suc_inj}
 use Rattle.lw_facts.proofs.Lists.{bytes_differ_turned, bytes_eq_is, at_contained, contained_at}
 use Rattle.lw_pool.specs.declared.id.ClassId.{ClassId}
 use Rattle.lw_frame.proofs.Once.{is_among}
@@ -124,13 +125,10 @@ names_differ x y ne = by_test (bytes_eq x y) refl
 pub distinct_of : (xs : List (List ℕ)) → AreDifferent xs → IsDistinct bytes_eq xs
 unfolding IsDistinct
 distinct_of [] d = tt
-distinct_of (x ∷ xs) d = (contains_all (λ y. bytes_eq x y ≡ false) xs (λ y c. names_differ x y (λ e. first y e (contained_at xs y c))), distinct_of xs (λ i j name e f. lower i j (d (suc i) (suc j) name e f)))
+distinct_of (x ∷ xs) d = (contains_all (λ y. bytes_eq x y ≡ false) xs (λ y c. names_differ x y (λ e. first y e (contained_at xs y c))), distinct_of xs (λ i j name e f. suc_inj (d (suc i) (suc j) name e f)))
   where
     first : (y : List ℕ) → x ≡ y → (k : ℕ) × (slice_get xs k ≡ Some y) → ⊥
     first y e (k, at) = let s : 0 ≡ suc k = d zero (suc k) y (ap Some e) at in omega (arith, s)
-
-    lower : (i j : ℕ) → suc i ≡ suc j → i ≡ j
-    lower i j e = omega (arith, e)
 
 first_once : (x : List ℕ) (names : List (List ℕ)) → Each (λ y. bytes_eq x y ≡ false) names → (j : ℕ) (name : List ℕ) → ◌≡◌ {A = Option (List ℕ)} (Some x) (Some name) → slice_get names j ≡ Some name → ⊥
 first_once x names each j name e f =

@@ -2,6 +2,7 @@
 use Rattle.std.proofs.Common.{◌≡◌, ◌+◌, ◌<◌, ◌≤◌, ◌↔◌, ◌⊎◌, inl, inr, ℕ, zero, suc, max, Bool, not, ◌&&◌, List, [], ◌∷◌, map, Option, Some, Contains, slice_get, slice_index_or, if◌then◌else◌, refl, sym, ap, ap₂, ◌∙◌, subst, subst₂, arith}
 use Rattle.std.proofs.lemmas.List.Elements.{Contains-append_cases}
 use Rattle.std.proofs.lemmas.Option.{get_or_from_slice_get, same_Some}
+use Rattle.std.proofs.Math.Numerals.{one-add}
 use Rattle.lw_facts.proofs.Lists.{contained_in_map, contained_at}
 use Rattle.lw_dag.specs.Ordering.{greatest}
 use Rattle.lw_laws.specs.Graphs.{Graph, Stands, Unfolds}
@@ -132,11 +133,8 @@ module _ (g : Graph) (most : ℕ) (depths : List (Option ℕ)) (n : PlainTableNe
             are.nodes (table_node n t) (table_in n t among)
             ∙ (ap₂ (λ b ds. (if b then 0 else 1) + greatest ds) (table_no_wire n t) (depths_of depth t.fanins)
             ∙ (ap (λ d. 1 + d) (greatest_alike (λ c. depth (net_name n c)) (numbers t.fanins) at.pins (λ q. ((at.at q).1, (at.at q).0)) ∙ ks.depth depth are)
-            ∙ one_more (greatest_depth ks.by)));
+            ∙ one-add (greatest_depth ks.by)));
       }
-    where
-      one_more : (m : ℕ) → 1 + m ≡ suc m
-      one_more m = omega arith
 
   of_input : (i c e : ℕ) → slice_get (numbers n.inputs) i ≡ Some c → IsNamedCover g most n (net_name n c) c e
   of_input i c e at = record {

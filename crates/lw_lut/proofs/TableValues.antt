@@ -2,7 +2,7 @@
 use Rattle.std.proofs.Common.{◌≡◌, ◌+◌, ◌^◌, ◌==◌, ℕ, suc, Bool, true, false, not, ◌&&◌, List, [], ◌∷◌, ◌++◌, length, map, codes, if◌then◌else◌, slice_index_or, refl, sym, ap, ◌∙◌, arith}
 use Rattle.std.specs.List.{list_any}
 use Rattle.std.specs.Str.{bytes_eq}
-use Rattle.std.proofs.lemmas.Bool.{ne_eqb}
+use Rattle.std.proofs.lemmas.Bool.{ne_eqb, and_left}
 use Rattle.lw_pool.specs.declared.id.ClassId.{ClassId}
 use Rattle.lw_net.specs.declared.draft.DraftNode.{DraftNode}
 use Rattle.lw_net.specs.Signs.{asked}
@@ -70,10 +70,6 @@ module _ (n : PlainTableNet) where
   pub table_no_wire : (t : Table) → said_wire (table_node n t) ≡ false
   table_no_wire t = by_test (is_buffer t) refl
     where
-      first_false : (a b : Bool) → a ≡ false → (a && b) ≡ false
-      first_false true b e = cc
-      first_false false b e = refl
-
       by_bits : (zero_set one_set : Bool) (last : List ℕ) → (not zero_set && one_set) ≡ false → rows_wire true ((if zero_set then (48 ∷ []) ∷ [] else []) ++ ((if one_set then last ∷ [] else []) ++ [])) ≡ false
       by_bits true true last e = refl
       by_bits true false last e = refl
@@ -83,7 +79,7 @@ module _ (n : PlainTableNet) where
       plain : (out : ClassId) (fs : List ClassId) (bits : ℕ) → ((length fs == 1) && (not (is_set bits 0) && is_set bits 1)) ≡ false → ((length (map (λ (q : ClassId). net_name n q.0) fs) == 1) && rows_wire true (columns_from (record { out = out; fanins = fs; bits = bits }) 0 (2 ^ length fs))) ≡ false
       plain out [] bits e = refl
       plain out (q ∷ []) bits e = by_bits (is_set bits 0) (is_set bits 1) (49 ∷ []) e
-      plain out (q ∷ r ∷ fs) bits e = first_false (length (map (λ (q : ClassId). net_name n q.0) (q ∷ r ∷ fs)) == 1) (rows_wire true (columns_from (record { out = out; fanins = q ∷ r ∷ fs; bits = bits }) 0 (2 ^ length (q ∷ r ∷ fs)))) (ne_eqb (suc (suc (length (map (λ (q : ClassId). net_name n q.0) fs)))) 1 (λ s. omega (arith, s)))
+      plain out (q ∷ r ∷ fs) bits e = and_left (length (map (λ (q : ClassId). net_name n q.0) (q ∷ r ∷ fs)) == 1) (rows_wire true (columns_from (record { out = out; fanins = q ∷ r ∷ fs; bits = bits }) 0 (2 ^ length (q ∷ r ∷ fs)))) (ne_eqb (suc (suc (length (map (λ (q : ClassId). net_name n q.0) fs)))) 1 (λ s. omega (arith, s)))
 
       by_test : (b : Bool) → is_buffer t ≡ b → ((length (fanin_names n t) == 1) && rows_wire (not b) (if b then codes "0" ∷ [] else columns_from t 0 (2 ^ length t.fanins))) ≡ false
       by_test true e = and-false (length (fanin_names n t) == 1)

@@ -16,7 +16,7 @@ use Rattle.lw_match.proofs.CutsOfBounds.{bounds_cut}
 use Rattle.lw_match.proofs.Marked.{have_at}
 use Rattle.lw_match.proofs.Wholes.{get_or-map}
 
-no_higher : (ms : List PlainMark) (k : ℕ) (m : PlainMark) → slice_get ms k ≡ Some m → m.height ≤ greatest_height ms
+pub no_higher : (ms : List PlainMark) (k : ℕ) (m : PlainMark) → slice_get ms k ≡ Some m → m.height ≤ greatest_height ms
 no_higher [] k m e = cc
 no_higher (n ∷ ms) zero m e =
     let same : n ≡ m = cc in

@@ -4,6 +4,7 @@ use Rattle.std.specs.List.{list_any}
 use Rattle.std.proofs.lemmas.List.{length-append}
 use Rattle.std.proofs.lemmas.List.Quantifiers.{position-Some}
 use Rattle.std.proofs.lemmas.Option.{slice_get_within, slice_get-get_or}
+use Rattle.std.specs.Cmp.{first_so, second_so}
 use Rattle.lw_facts.proofs.Lists.{get_left, get_last_cases}
 use Rattle.indexmap.specs.IndexSet.{insert_key}
 use Rattle.lw_laws.specs.Trees.{Tree, leaf, const_one, const_zero, inv, nand}
@@ -19,14 +20,6 @@ use Rattle.lw_match.specs.contracts.parts.SidePartialEq.TheImpl.{eq-value as sid
 use Rattle.lw_match.specs.contracts.parts.PartPartialEq.TheImpl.{eq-value as part_eq}
 use native.Mathlib.Decide.{ℕ_discrete}
 use Rattle.lw_match.specs.Shapes.{turned, HasPin, IsPinned, kind_base, kind_above, side_above, AreEitherOf, IsJoined, JoinsShapes, HasShape, KindFits, SideFits, AreClosed, AreParts, AreMoreParts, HaveShapes, AllHaveShapes, gaps_of}
-
-and_left : (s t : Bool) → (s && t) ≡ true → s ≡ true
-and_left true t e = refl
-and_left false t e = e
-
-and_right : (s t : Bool) → (s && t) ≡ true → t ≡ true
-and_right true t e = e
-and_right false t e = cc
 
 -- a test of equality
 pub same_kind : (a b : Kind) → kind_eq.it a b ≡ true → a ≡ b
@@ -46,24 +39,24 @@ same_kind (Joined m c) Any e = cc
 same_kind (Joined m c) (Leaf n) e = cc
 same_kind (Joined m c) One e = cc
 same_kind (Joined m c) (Joined n d) e =
-    ap₂ Joined (eqb-true m n (and_left (nat_eq m n) (nat_eq c d) e)) (eqb-true c d (and_right (nat_eq m n) (nat_eq c d) e))
+    ap₂ Joined (eqb-true m n (first_so (nat_eq m n) (nat_eq c d) e)) (eqb-true c d (second_so (nat_eq m n) (nat_eq c d) e))
 
 abbrev side_with : Kind → Bool → Side
 side_with kind flipped = record { kind = kind; flipped = flipped }
 
 side_by : (j k : Kind) (f g : Bool) → side_eq.it (side_with j f) (side_with k g) ≡ true → side_with j f ≡ side_with k g
-side_by j k true true e = ap (λ (k : Kind). side_with k true) (same_kind j k (and_left (kind_eq.it j k) true e))
-side_by j k true false e = let f = and_right (kind_eq.it j k) false e in cc
-side_by j k false true e = let f = and_right (kind_eq.it j k) false e in cc
-side_by j k false false e = ap (λ (k : Kind). side_with k false) (same_kind j k (and_left (kind_eq.it j k) true e))
+side_by j k true true e = ap (λ (k : Kind). side_with k true) (same_kind j k (first_so (kind_eq.it j k) true e))
+side_by j k true false e = let f = second_so (kind_eq.it j k) false e in cc
+side_by j k false true e = let f = second_so (kind_eq.it j k) false e in cc
+side_by j k false false e = ap (λ (k : Kind). side_with k false) (same_kind j k (first_so (kind_eq.it j k) true e))
 
 pub same_side : (a b : Side) → side_eq.it a b ≡ true → a ≡ b
 same_side a b e = side_by a.kind b.kind a.flipped b.flipped e
 
 pub same_part : (a b : Part) → part_eq.it a b ≡ true → a ≡ b
 same_part a b e =
-    let left = same_side a.left b.left (and_left (side_eq.it a.left b.left) (side_eq.it a.right b.right) e) in
-    let right = same_side a.right b.right (and_right (side_eq.it a.left b.left) (side_eq.it a.right b.right) e) in
+    let left = same_side a.left b.left (first_so (side_eq.it a.left b.left) (side_eq.it a.right b.right) e) in
+    let right = same_side a.right b.right (second_so (side_eq.it a.left b.left) (side_eq.it a.right b.right) e) in
     ap₂ (λ (l r : Side). let p : Part = record { left = l; right = r } in p) left right
 
 pub found : (keys : List Part) (p : Part) (n : ℕ) → position (part_eq.it p) keys ≡ Some n → slice_get keys n ≡ Some p

@@ -6,12 +6,10 @@ use crate::bare::bare_patterns;
 use crate::cuts::Cuts;
 use crate::gaps::{all_guesses, no_gaps};
 use crate::lowering::Plan;
+use crate::making::{lists_by, rows_by, sides_by};
 use crate::numbers::{NO_ROW, Numbers, start_of};
 use crate::parts::{Group, Part, Root, Side};
-use crate::places::{groups_of, roots_in};
 use crate::renewing::{Renewal, put_row, renew_parts};
-use crate::shapes::{all_sides, root_sides};
-use crate::starts::starts_of;
 use crate::{Cost, Mark};
 use indexmap::IndexSet;
 use lw_graph::Graph;
@@ -118,29 +116,22 @@ impl Bounds {
     {
         let room = room_for(graph.classes()) as usize;
         let _ = pats.len();
-        let mut parts = IndexSet::new(alloc);
-        let sides = all_sides(alloc, &mut parts, room, &gaps, pats)?;
-        let roots = root_sides(alloc, pats, &sides)?;
-        let leaf_roots = roots_in(alloc, &roots, 0)?;
-        let row_roots = roots_in(alloc, &roots, 1)?;
-        let other_roots = roots_in(alloc, &roots, 2)?;
-        let rows = starts_of(alloc, graph, parts.len() as u32)?;
-        let numbers = vec![in alloc; 0; rows.size as usize]?;
-        let groups = groups_of(alloc, parts.as_slice())?;
-        let least = vec![in alloc; 0; parts.len()]?;
         let bare = bare_patterns(alloc, pats)?;
+        let sides = sides_by(alloc, room, &gaps, pats)?;
+        let lists = lists_by(alloc, &sides.roots)?;
+        let rows = rows_by(alloc, graph, sides.parts.as_slice())?;
         Ok(Bounds {
-            parts,
+            parts: sides.parts,
             gaps,
-            sides,
-            roots,
-            leaf_roots,
-            row_roots,
-            other_roots,
+            sides: sides.all,
+            roots: sides.roots,
+            leaf_roots: lists.leaf,
+            row_roots: lists.row,
+            other_roots: lists.other,
             starts: rows.starts,
-            numbers,
-            groups,
-            least,
+            numbers: rows.numbers,
+            groups: rows.groups,
+            least: rows.least,
             bare,
         })
     }

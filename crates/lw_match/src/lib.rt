@@ -19,6 +19,7 @@ mod hunting;
 mod job;
 mod laws;
 mod lowering;
+mod making;
 mod mark;
 mod needs;
 mod numbers;

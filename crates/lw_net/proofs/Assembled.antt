@@ -8,6 +8,7 @@ use Rattle.std.proofs.lemmas.Bool.{cases_lt}
 use Rattle.std.specs.List.{IsDistinct, flat_map}
 use Rattle.std.specs.List.Sorted.{IsPermutation, IsNonDecreasingBy}
 use Rattle.std.specs.Str.{bytes_eq}
+use Rattle.std.proofs.Math.Nat.{add-sub_cancel_left}
 use Rattle.lw_pool.specs.declared.id.NetId.{NetId}
 use Rattle.lw_net.specs.declared.draft.Draft.{Draft}
 use Rattle.lw_net.specs.declared.draft.DraftNode.{DraftNode}
@@ -72,10 +73,7 @@ module _ (draft : Draft) (depths : List ℕ) (order : List DraftNode) (is : IsDr
   all_columns = All-permutation HasColumns draft.nodes order moved is.columns
 
   out_at : (j : ℕ) → j < length order → get_or names (m + j) [] ≡ (get_or order j bare).out
-  out_at j lt = get_or-append_right draft.inputs (map out_of order) m (m + j) [] refl (omega arith) ∙ (ap (λ k. get_or (map out_of order) k []) (shift m j) ∙ get_or-map out_of order j bare [] lt)
-    where
-      shift : (a b : ℕ) → a + b - a ≡ b
-      shift a b = omega arith
+  out_at j lt = get_or-append_right draft.inputs (map out_of order) m (m + j) [] refl (omega arith) ∙ (ap (λ k. get_or (map out_of order) k []) (add-sub_cancel_left m j) ∙ get_or-map out_of order j bare [] lt)
 
   number_out : (j : ℕ) → j < length order → number_in names (get_or order j bare).out ≡ m + j
   number_out j lt = ap (number_in names) (sym (out_at j lt)) ∙ number_at names (m + j) [] ordered_distinct (omega (arith, many))

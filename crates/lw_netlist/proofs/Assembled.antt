@@ -8,6 +8,7 @@ use Rattle.std.proofs.lemmas.Bool.{cases_lt}
 use Rattle.std.specs.List.{IsDistinct, flat_map}
 use Rattle.std.specs.List.Sorted.{IsPermutation, IsNonDecreasingBy}
 use Rattle.std.specs.Str.{bytes_eq}
+use Rattle.std.proofs.Math.Nat.{add-sub_cancel_left}
 use Rattle.lw_facts.proofs.Lists.{distinct_left}
 use Rattle.lw_pool.specs.declared.id.NetId.{NetId}
 use Rattle.lw_genlib.specs.Cells.{CellParts}
@@ -91,10 +92,7 @@ module _ (draft : GateDraft) (depths starts : List ℕ) (order : List DraftGate)
       ap right.depth (sym named) ∙ (subst (λ (w : Wire). right.depth w.to ≡ right.depth w.from) e (right.right.wires k wire lt) ∙ start_depth wire.from from rest)
 
   out_at : (j : ℕ) → j < length order → get_or names (m + j) [] ≡ (get_or order j bare_gate).out
-  out_at j lt = get_or-append_right draft.inputs (map out_of order) m (m + j) [] refl (omega arith) ∙ (ap (λ k. get_or (map out_of order) k []) (shift m j) ∙ get_or-map out_of order j bare_gate [] lt)
-    where
-      shift : (a b : ℕ) → a + b - a ≡ b
-      shift a b = omega arith
+  out_at j lt = get_or-append_right draft.inputs (map out_of order) m (m + j) [] refl (omega arith) ∙ (ap (λ k. get_or (map out_of order) k []) (add-sub_cancel_left m j) ∙ get_or-map out_of order j bare_gate [] lt)
 
   number_out : (j : ℕ) → j < length order → number_in names (get_or order j bare_gate).out ≡ m + j
   number_out j lt = ap (number_in names) (sym (out_at j lt)) ∙ number_at names (m + j) [] ordered_distinct (omega (arith, many))
@@ -148,11 +146,8 @@ module _ (draft : GateDraft) (depths starts : List ℕ) (order : List DraftGate)
   all_own : All IsOwn order
   all_own = All-permutation IsOwn draft.gates order moved (λ j d lt.
       let inside : m + j < length firsts = omega (arith, lt, length-append draft.inputs (map out_of draft.gates), length-map draft.gates out_of) in
-      let named : get_or firsts (m + j) (get_or draft.gates j d).out ≡ (get_or draft.gates j d).out = get_or-append_right draft.inputs (map out_of draft.gates) m (m + j) (get_or draft.gates j d).out refl (omega arith) ∙ (ap (λ k. get_or (map out_of draft.gates) k (get_or draft.gates j d).out) (shift m j) ∙ get_or-map out_of draft.gates j d (get_or draft.gates j d).out lt) in
+      let named : get_or firsts (m + j) (get_or draft.gates j d).out ≡ (get_or draft.gates j d).out = get_or-append_right draft.inputs (map out_of draft.gates) m (m + j) (get_or draft.gates j d).out refl (omega arith) ∙ (ap (λ k. get_or (map out_of draft.gates) k (get_or draft.gates j d).out) (add-sub_cancel_left m j) ∙ get_or-map out_of draft.gates j d (get_or draft.gates j d).out lt) in
       right.own (get_or draft.gates j d).out (m + j, inside, named))
-    where
-      shift : (a b : ℕ) → a + b - a ≡ b
-      shift a b = omega arith
 
   -- a net stands before the gates that are deeper
   before : (j : ℕ) → j < length order → (f : List ℕ) → Contains names f → right.depth f < right.depth (get_or order j bare_gate).out → number_in names f < m + j

@@ -5,6 +5,7 @@ use Rattle.std.proofs.lemmas.List.Elements.{All-map, All-weaker, All-head, All-t
 use Rattle.std.proofs.lemmas.Bool.{cases_lt}
 use Rattle.std.specs.List.{IsDistinct}
 use Rattle.std.specs.Str.{bytes_eq}
+use Rattle.std.proofs.Math.Nat.{add-sub_cancel_left}
 use Rattle.lw_pool.specs.declared.id.CellId.{CellId}
 use Rattle.lw_pool.specs.declared.id.NetId.{NetId}
 use Rattle.lw_netlist.specs.declared.draft.GateDraft.{GateDraft}
@@ -132,12 +133,9 @@ module _ (draft : GateDraft) (graph : Graph) (made : IsMadeOf draft graph) where
     named_gate : (q : ℕ) → q < length places → get_or names (m + q) [] ≡ (gate_at draft.gates (get_or places q 0)).out
     named_gate q lt =
         get_or-append_right draft.inputs (map out_of (gates_at draft.gates places)) m (m + q) [] refl (omega arith)
-        ∙ (ap (λ k. get_or (map out_of (gates_at draft.gates places)) k []) (shift m q)
+        ∙ (ap (λ k. get_or (map out_of (gates_at draft.gates places)) k []) (add-sub_cancel_left m q)
         ∙ (get_or-map out_of (gates_at draft.gates places) q bare_gate [] (omega (arith, length-map places (gate_at draft.gates)))
         ∙ ap out_of (get_or-map (gate_at draft.gates) places q 0 bare_gate lt)))
-      where
-        shift : (a b : ℕ) → a + b - a ≡ b
-        shift a b = omega arith
 
     -- no gate stands at two places
     pub differ : (j k : ℕ) → j < k → k < length places → get_or places j 0 ≡ get_or places k 0 → ⊥

@@ -5,6 +5,7 @@ use Rattle.std.proofs.lemmas.List.FromFn.{length-range_with_len, get_or-range_wi
 use Rattle.std.proofs.lemmas.List.Sorted.{IsPermutation-map, All-permutation, length_permutation}
 use Rattle.std.specs.List.{flat_map, range_with_len}
 use Rattle.std.specs.List.Sorted.{IsPermutation, IsNonDecreasingBy}
+use Rattle.std.proofs.Math.Numerals.{add-one}
 use Rattle.lw_dag.specs.Ordering.{AreKeys, by_key, greatest}
 use Rattle.lw_netlist.specs.declared.draft.DraftGate.{DraftGate}
 use Rattle.lw_netlist.specs.Closing.{by_depth}
@@ -14,10 +15,7 @@ use Rattle.lw_netlist.proofs.Starting.{bare_gate}
 
 range_shift : {X : Type 0} (f : ℕ → X) (a n : ℕ) → map f (range_with_len (a + 1) n) ≡ map (λ k. f (suc k)) (range_with_len a n)
 range_shift f a zero = refl
-range_shift f a (suc n) = ap₂ (λ x xs. x ∷ xs) (ap f (more a)) (range_shift f (a + 1) n)
-  where
-    more : (k : ℕ) → k + 1 ≡ suc k
-    more k = omega arith
+range_shift f a (suc n) = ap₂ (λ x xs. x ∷ xs) (ap f (add-one a)) (range_shift f (a + 1) n)
 
 -- a list is what stands at its places
 all_read : {X : Type 0} (xs : List X) (d : X) → map (λ k. get_or xs k d) (range_with_len 0 (length xs)) ≡ xs

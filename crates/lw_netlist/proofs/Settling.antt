@@ -155,13 +155,6 @@ settled_starts inputs gates graph heights = record {
   within = λ s lt. omega (arith, place_at 0 (inputs + length graph) s (omega arith));
 }
 
-replicate-suc : {X : Type 0} (k : ℕ) (x : X) → replicate k x ++ x ∷ [] ≡ replicate (suc k) x
-replicate-suc zero x = refl
-replicate-suc (suc k) x = ap (λ l. x ∷ l) (replicate-suc k x)
-
-pub replicate_more : {X : Type 0} (k : ℕ) (x : X) → replicate k x ++ x ∷ [] ≡ replicate (k + 1) x
-replicate_more {X = X} k x = let e : suc k ≡ k + 1 = omega arith in replicate-suc k x ∙ ap (λ n. replicate n x) e
-
 places-suc : (low k : ℕ) → range_with_len low k ++ (low + k) ∷ [] ≡ range_with_len low (suc k)
 places-suc low zero = let e : low + 0 ≡ low = omega arith in ap (λ n. n ∷ []) e
 places-suc low (suc k) =

@@ -5,6 +5,7 @@ use Rattle.std.proofs.lemmas.List.Elements.{Contains-get_or}
 use Rattle.std.proofs.lemmas.Bool.{cases_lt, le-ltb, lt-ltb}
 use Rattle.std.specs.List.{flat_map, IsDistinct}
 use Rattle.std.specs.Str.{bytes_eq}
+use Rattle.std.proofs.Math.Nat.{add-sub_cancel_left}
 use Rattle.lw_netlist.specs.declared.draft.DraftGate.{DraftGate}
 use Rattle.lw_netlist.specs.declared.draft.GateDraft.{GateDraft}
 use Rattle.lw_netlist.specs.declared.draft.Wire.{Wire}
@@ -36,10 +37,7 @@ link_of_gate draft j lt =
 link_of_wire : (draft : GateDraft) (k : ℕ) → k < length draft.wires → get_or (links draft) (length draft.gates + k) bare ≡ wire_link (get_or draft.wires k bare_wire)
 link_of_wire draft k lt =
     get_or-append_right (map gate_link draft.gates) (map wire_link draft.wires) (length draft.gates) (length draft.gates + k) bare (length-map draft.gates gate_link) (omega arith)
-    ∙ (ap (λ n. get_or (map wire_link draft.wires) n bare) (shift (length draft.gates) k) ∙ get_or-map wire_link draft.wires k bare_wire bare lt)
-  where
-    shift : (a b : ℕ) → a + b - a ≡ b
-    shift a b = omega arith
+    ∙ (ap (λ n. get_or (map wire_link draft.wires) n bare) (add-sub_cancel_left (length draft.gates) k) ∙ get_or-map wire_link draft.wires k bare_wire bare lt)
 
 module _ (draft : GateDraft) (distinct : IsDistinct bytes_eq (drivers draft)) (none : undriven_in (drivers draft) (flat_map needs_of (links draft)) ≡ None) (heights order depths starts : List ℕ) (known : AreKnown (length draft.inputs) (numbered (drivers draft) (links draft)) heights) (ordered : IsOrdered (length draft.inputs) (numbered (drivers draft) (links draft)) heights order) (settled : AreSettled (length draft.inputs) (length draft.gates) (numbered (drivers draft) (links draft)) heights order depths starts) (all : (j : ℕ) → length draft.inputs + j < length heights → 0 < height_at heights (length draft.inputs + j)) where
   abbrev driven : List (List ℕ)
@@ -144,12 +142,9 @@ module _ (draft : GateDraft) (distinct : IsDistinct bytes_eq (drivers draft)) (n
       gate_name : (j : ℕ) → j < g → get_or firsts (m + j) [] ≡ name_at (m + j)
       gate_name j inside =
           get_or-append_right draft.inputs (map out_of draft.gates) m (m + j) [] refl (omega arith)
-          ∙ (ap (λ k. get_or (map out_of draft.gates) k []) (shift m j)
+          ∙ (ap (λ k. get_or (map out_of draft.gates) k []) (add-sub_cancel_left m j)
           ∙ (get_or-map out_of draft.gates j bare_gate [] inside
           ∙ (ap name_of (sym (link_of_gate draft j inside)) ∙ sym (link_name_at draft distinct none j (omega (arith, links_many draft))))))
-        where
-          shift : (a b : ℕ) → a + b - a ≡ b
-          shift a b = omega arith
 
       by_place : (s < m) ⊎ (m ≤ s) → get_or firsts s [] ≡ name_at s
       by_place (inl below) = get_or_append_left draft.inputs (map out_of draft.gates) [] s below ∙ sym (get_or_append_left draft.inputs (map name_of ls) [] s below)

@@ -3,6 +3,7 @@ use Rattle.std.proofs.Common.{ℕ, suc, ◌+◌, ◌<◌, ◌≡◌, ◌≢◌, 
 use Rattle.std.proofs.lemmas.List.{get_or-map, length-map, reverse-append}
 use Rattle.std.proofs.lemmas.List.Elements.{All-append, All-push}
 use Rattle.std.proofs.lemmas.Option.{slice_get-map, slice_get-get_or, slice_get_within, slice_get_read, same_Some}
+use Rattle.lw_laws.proofs.LabelLaws.{latest_none}
 use Rattle.lw_fixed.specs.declared.micro.Micro.{Micro}
 use Rattle.lw_pool.specs.declared.id.NetId.{NetId}
 use Rattle.lw_laws.specs.Covers.{latest}
@@ -43,10 +44,6 @@ none_critical (d ∷ delays) (t ∷ times) arrival one is none =
     let least : latest delays [] ≡ 0 = latest_none delays in
     let zero_arrival : arrival ≡ 0 = rest ∙ (ap (latest delays) empty ∙ least) in
     absurd (omega arith)
-  where
-    latest_none : (ds : List ℕ) → latest ds [] ≡ 0
-    latest_none [] = refl
-    latest_none (d ∷ ds) = refl
 
 -- The arrival of a gate.
 

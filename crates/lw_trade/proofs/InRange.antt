@@ -1,10 +1,11 @@
 -- Classes that have covers are classes of the graph.
-use Rattle.std.proofs.Common.{◌≡◌, ℕ, zero, suc, ◌<◌, inl, inr, List, [], ◌∷◌, length, Contains, Some, slice_get, slice_index_or, sym, ◌∙◌, subst, arith}
+use Rattle.std.proofs.Common.{◌≡◌, ℕ, zero, suc, ◌<◌, inl, inr, List, [], ◌∷◌, length, Some, slice_get, slice_index_or, sym, ◌∙◌, subst, arith}
 use Rattle.std.specs.List.{AllByRecursion}
 use Rattle.std.proofs.lemmas.Option.{same_Some}
+use Rattle.lw_laws.proofs.Lists.{held_in}
 use Rattle.lw_laws.specs.Flip.{flip}
 use Rattle.lw_laws.specs.Trees.{Tree, leaf, const_one, const_zero, inv, nand}
-use Rattle.lw_laws.specs.Graphs.{Graph, Pair, Stands}
+use Rattle.lw_laws.specs.Graphs.{Graph, Stands}
 use Rattle.lw_laws.specs.Covers.{Pattern}
 use Rattle.lw_laws.specs.Costs.{Cost}
 use Rattle.lw_laws.specs.Choices.{HasCost, HaveCosts}
@@ -15,11 +16,6 @@ use Rattle.lw_laws.proofs.Flips.{flip-flip}
 use Rattle.lw_graph.specs.Graphs.{IsGraph}
 use Rattle.lw_trade.proofs.Lists.{get_in, got}
 use Rattle.lw_graph.proofs.Graphs.{flip_below}
-
-held_in : (rows : List (List Pair)) (c : ℕ) (p : Pair) → Contains (slice_index_or rows c []) p → c < length rows
-held_in [] c p (k, lt, e) = absurd (omega arith)
-held_in (r ∷ rows) zero p at = omega arith
-held_in (r ∷ rows) (suc c) p at = let ih = held_in rows c p at in omega arith
 
 module _ (g : Graph) (is : IsGraph g) where
   abbrev All-in : List ℕ → Type 0

@@ -4,21 +4,13 @@ use Rattle.std.specs.Prelude.{find, is_some, option_map}
 use Rattle.std.specs.Str.{bytes_eq}
 use Rattle.std.specs.Cmp.Lexicographic.{bytes_decides}
 use Rattle.std.proofs.Math.Bool.{or-true}
-use Rattle.std.proofs.lemmas.List.Folds.{list_any-append}
+use Rattle.std.proofs.lemmas.List.Folds.{list_any-append, find-append}
 use Rattle.indexmap.specs.IndexSet.{insert_key}
 use Rattle.lw_netlist.specs.Closing.{is_among}
 use Rattle.std.specs.List.{flat_map}
 use Rattle.std.specs.Option.{option_or}
 use Rattle.std.proofs.lemmas.List.{drop_more, drop_all}
 use Rattle.lw_verilog.specs.Sayable.{first_or_none}
-
-pub find-append : {A : Type 0} (p : A → Bool) (xs ys : List A) → find p (xs ++ ys) ≡ option_or (find p xs) (find p ys)
-find-append p [] ys = refl
-find-append p (x ∷ xs) ys = by_test (p x) (find-append p xs ys)
-  where
-    by_test : (b : Bool) → find p (xs ++ ys) ≡ option_or (find p xs) (find p ys) → cond b (Some x) (find p (xs ++ ys)) ≡ option_or (cond b (Some x) (find p xs)) (find p ys)
-    by_test true e = refl
-    by_test false e = e
 
 pub find-here : {A B : Type 0} (p : B → Bool) (f : A → B) (xs : List A) (i : ℕ) (d : A) → i < length xs → p (f (get_or xs i d)) ≡ true → find p (map f (drop i xs)) ≡ Some (f (get_or xs i d))
 find-here p f xs i d lt e = ap (λ l. find p (map f l)) (drop_more xs i d lt) ∙ ap (λ b. cond b (Some (f (get_or xs i d))) (find p (map f (drop (i + 1) xs)))) e

@@ -8,6 +8,7 @@ use Rattle.std.specs.List.{IsDistinct}
 use Rattle.std.specs.Str.{bytes_eq}
 use Rattle.std.proofs.Math.Bool.{or-false, or-true}
 use Rattle.std.proofs.lemmas.Grind.{get_or-set_at}
+use Rattle.std.proofs.lemmas.Bool.{and_right}
 use Rattle.lw_facts.proofs.Lists.{bytes_eq_is, bytes_eq_same, list_any_append}
 use Rattle.lw_netlist.specs.Chains.{name_at}
 use Rattle.lw_netlist.specs.Closing.{is_among, twice_after}
@@ -61,16 +62,11 @@ module _ (header : List (List ℕ)) (place : ℕ) (name : List ℕ) (from : 1 �
   pub all-more : (p : List ℕ → Bool) → p name ≡ true → list_all p seen ≡ true → list_all p (drop 1 (take (place + 1) header)) ≡ true
   all-more p hit was = ap (list_all p) seen-more ∙ (all-both p seen (name ∷ []) ∙ (ap (λ b. b && (p name && true)) was ∙ ap (λ b. b && true) hit))
 
-  neither : (a b : Bool) → b ≡ false → (a && b) ≡ false
-  neither true false e = refl
-  neither false false e = refl
-  neither a true e = cc
-
   -- a port that was not declared
   pub none-declared : (p : List ℕ → Bool) → p name ≡ false → (is_none (twice_after [] (drop 1 header)) && list_all p (drop 1 header)) ≡ false
   none-declared p miss =
-      neither (is_none (twice_after [] (drop 1 header))) (list_all p (drop 1 header))
-      (ap (list_all p) ports-are ∙ (all-both p seen (name ∷ rest) ∙ neither (list_all p seen) (list_all p (name ∷ rest)) (ap (λ b. b && list_all p rest) miss)))
+      and_right (is_none (twice_after [] (drop 1 header))) (list_all p (drop 1 header))
+      (ap (list_all p) ports-are ∙ (all-both p seen (name ∷ rest) ∙ and_right (list_all p seen) (list_all p (name ∷ rest)) (ap (λ b. b && list_all p rest) miss)))
 
   -- a port that was listed before
   pub none-once : (p : List ℕ → Bool) → is_among seen name ≡ true → twice_after seen (drop place header) ≡ twice_after [] (drop 1 header) → (is_none (twice_after [] (drop 1 header)) && list_all p (drop 1 header)) ≡ false

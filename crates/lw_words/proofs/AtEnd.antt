@@ -1,6 +1,7 @@
 -- What a place and what is gathered say of a line, at its end.
 use Rattle.std.proofs.Common.{ℕ, ◌≡◌, ◌+◌, ◌==◌, Bool, true, false, ◌&&◌, cond, List, [], ◌∷◌, ◌++◌, refl, ap, sym, ◌∙◌, subst, append-nil}
 use Rattle.std.specs.Prelude.{option_to_list}
+use Rattle.std.proofs.Math.Bool.{and-false}
 use Rattle.lw_words.specs.declared.place.Place.{Place}
 use Rattle.lw_words.specs.declared.place.Place.TheVariants.{Start, Hash, Mark, Text, Stroke, Gap, Comment, ContinuedComment}
 use Rattle.lw_words.specs.Lines.{uncommented, trimmed, text_of, is_continued, with_blank, lines_among, continued_by, texts_from, lines_of, logical_lines, finished_lines}
@@ -63,10 +64,6 @@ ends counts u ContinuedComment g h = ends-continued u.text (uncommented counts u
 -- a line begins that no mark may begin
 begins-plain : (text : List ℕ) (g : Gathered) → gathered_from text ≡ g → HasNoComment false [] × IsPlain text [] g
 begins-plain text g e = (record { more = λ more. refl }, record { ends = refl; bytes = ap gathered_from (append-nil text) ∙ e })
-
-and-false : (a : Bool) → (a && false) ≡ false
-and-false true = refl
-and-false false = refl
 
 pub fits-begin : (marked : Bool) (u : Unfinished) → u.text ≡ [] → u.line ≡ [] → Fits (marked && true) u (first_place marked) nothing_gathered
 fits-begin true u no_text no_line = record { counted = refl; no_text = no_text; only = no_line; nothing = refl }

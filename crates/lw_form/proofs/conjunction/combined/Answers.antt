@@ -1,6 +1,6 @@
 use Rattle.std.proofs.Common.{◌≡◌, ◌∙◌, sym, ap, eqb-true}
+use Rattle.std.proofs.lemmas.List.{nil_from_length}
 use Rattle.lw_form.specs.Conjunctions.{numbers_clash}
-use Rattle.lw_form.proofs.Tables.{no_length}
 use Rattle.lw_form.proofs.Joining.{done_false, done_true, done_few, go_again, kept_below, clean_kept}
 use Rattle.lw_form.proofs.conjunction.combined.Goals as goal
 
@@ -10,7 +10,7 @@ returns-then-clash c = λ forms below is.
 
 pub returns-then-is_empty : goal.returns-then-is_empty
 returns-then-is_empty c = λ forms below is.
-    done_true c.args.width c.requires.low c.args.table.now c.len-count.ensures.made forms c.args.kept.now below is (no_length c.args.kept.now (eqb-true _ _ (sym c.if-is_empty.ensures)))
+    done_true c.args.width c.requires.low c.args.table.now c.len-count.ensures.made forms c.args.kept.now below is (nil_from_length c.args.kept.now (eqb-true _ _ (sym c.if-is_empty.ensures)))
 
 pub joined-requires-clause-below : goal.joined-requires-clause-below
 joined-requires-clause-below c =

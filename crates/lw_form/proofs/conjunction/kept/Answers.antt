@@ -1,11 +1,11 @@
 use Rattle.std.proofs.Common.{◌≡◌, ◌∙◌, sym, subst, ap}
+use Rattle.std.proofs.lemmas.List.{nil_from_length}
 use Rattle.lw_form.proofs.Conjunctions.{KeepsSoFar, keeps_first, keeps_one, keeps_zero, keeps_all}
-use Rattle.lw_form.proofs.Tables.{no_length}
 use Rattle.lw_form.proofs.conjunction.kept.Goals as goal
 use Rattle.lw_form.proofs.conjunction.kept.Goals.{then-form-ne-TRUE+in_ok-insert, else-form-ne-TRUE}
 
 pub loop-form-init : goal.loop-form-init
-loop-form-init c = keeps_first c.args.forms.now c.new-kept.result.keys (no_length c.new-kept.result.keys c.new-kept.ensures.len)
+loop-form-init c = keeps_first c.args.forms.now c.new-kept.result.keys (nil_from_length c.new-kept.result.keys c.new-kept.ensures.len)
 
 pub loop-form-preserved : goal.loop-form-preserved
 loop-form-preserved c =

@@ -1,10 +1,10 @@
 use Rattle.std.proofs.Common.{◌≡◌, ◌∙◌, ◌∷◌, ◌++◌, ◌<◌, ◌+◌, [], sym, subst, ap, length, List, ℕ, arith, OnOk}
+use Rattle.std.proofs.lemmas.List.{nil_from_length}
 use Rattle.lw_laws.specs.Signals.{factored}
 use Rattle.lw_form.specs.declared.factoring.Task.{Task}
 use Rattle.lw_form.specs.declared.factoring.Task.TheVariants.{Factor, Join}
 use Rattle.lw_form.specs.Factoring.{IsWorking, weights}
 use Rattle.lw_form.specs.Tables.{made, forms_at, HasMore}
-use Rattle.lw_form.proofs.Tables.{no_length}
 use Rattle.lw_form.proofs.Joining.{more_same, more_twice}
 use Rattle.lw_form.proofs.FactoringSteps.{work_first, work_last, some_done, weights_last}
 use Rattle.lw_form.proofs.factoring.factored.Goals as goal
@@ -33,7 +33,7 @@ tasks-preserved c = record {
 }
 
 pub last-requires : goal.last-requires
-last-requires c = some_done c.args.width (forms_at (made c.args.table.now) c.args.fanins.now) c.args.fanins.now (factored c.args.width (forms_at (made c.args.table.now) c.args.fanins.now) c.args.rows.items) c.tasks.table c.tasks.work.tasks.items c.tasks.work.done.items c.tasks.invariant.works (no_length c.tasks.work.tasks.items (let o = c.tasks.work.tasks.ok in let l = c.in_default.ensures.cases.0 in omega arith))
+last-requires c = some_done c.args.width (forms_at (made c.args.table.now) c.args.fanins.now) c.args.fanins.now (factored c.args.width (forms_at (made c.args.table.now) c.args.fanins.now) c.args.rows.items) c.tasks.table c.tasks.work.tasks.items c.tasks.work.done.items c.tasks.invariant.works (nil_from_length c.tasks.work.tasks.items (let o = c.tasks.work.tasks.ok in let l = c.in_default.ensures.cases.0 in omega arith))
 
 pub returns : goal.returns
-returns c = work_last c.args.width (forms_at (made c.args.table.now) c.args.fanins.now) c.args.fanins.now (factored c.args.width (forms_at (made c.args.table.now) c.args.fanins.now) c.args.rows.items) c.args.table.now c.tasks.table c.tasks.work.done.items c.last.new.done.items c.last.result c.tasks.work.tasks.items c.tasks.invariant.more c.tasks.invariant.works (no_length c.tasks.work.tasks.items (let o = c.tasks.work.tasks.ok in let l = c.in_default.ensures.cases.0 in omega arith)) c.last.ensures
+returns c = work_last c.args.width (forms_at (made c.args.table.now) c.args.fanins.now) c.args.fanins.now (factored c.args.width (forms_at (made c.args.table.now) c.args.fanins.now) c.args.rows.items) c.args.table.now c.tasks.table c.tasks.work.done.items c.last.new.done.items c.last.result c.tasks.work.tasks.items c.tasks.invariant.more c.tasks.invariant.works (nil_from_length c.tasks.work.tasks.items (let o = c.tasks.work.tasks.ok in let l = c.in_default.ensures.cases.0 in omega arith)) c.last.ensures

@@ -1,12 +1,13 @@
 use Rattle.std.proofs.Common.{◌≡◌, ◌/◌, ◌||◌, ◌∙◌, IfSome, ap, sym, subst}
-use Rattle.lw_laws.proofs.Flips.{xor-one}
+use Rattle.std.proofs.lemmas.Bool.{not-true}
+use Rattle.lw_laws.proofs.Flips.{xor-one, half-flip}
 use Rattle.lw_laws.specs.Flip.{flip}
 use Rattle.lw_label.specs.Heights.{AreSameBut, IsReached, heights_weight, LowersHeights}
 use Rattle.lw_label.specs.HeightTables.{IsTableAround}
 use Rattle.lw_label.proofs.HeightPasses.{heights_at, heights_any}
 use Rattle.lw_label.proofs.HeightTables.{around_class, with_next}
 use Rattle.lw_label.proofs.Passing.{passes_again}
-use Rattle.lw_label.proofs.Still.{flip_apart, flip_place, is_false, pair_lowers, pair_others, pair_still, stays_reached}
+use Rattle.lw_label.proofs.Still.{flip_apart, pair_lowers, pair_others, pair_still, stays_reached}
 use Rattle.lw_label.proofs.heights.lower_height_pair.Goals as goal
 
 pub returns-then-not-may_lower-clause-lowers : goal.returns-then-not-may_lower-clause-lowers
@@ -123,7 +124,7 @@ returns-clause-still g c = λ t.
     let third = c.lower_height-third in
     let (stays, rest) = c.both-3.ensures t in
     let (again, other) = c.both-2.ensures rest in
-    let beside = stays_reached graph costs pats labels c.requires.search.given.problem c.requires.search.given.graph c.requires.search.given.lowering new third.new.marks b a third.result.lowered third.ensures.takes third.ensures.others (λ e. apart (sym e)) (c.may_lower-moves.ensures (is_false c.may_lower-moves.result stays)) (second.ensures.still other) in
+    let beside = stays_reached graph costs pats labels c.requires.search.given.problem c.requires.search.given.graph c.requires.search.given.lowering new third.new.marks b a third.result.lowered third.ensures.takes third.ensures.others (λ e. apart (sym e)) (c.may_lower-moves.ensures (not-true c.may_lower-moves.result stays)) (second.ensures.still other) in
     pair_still graph costs pats labels third.new.marks place a b c.first_of-class.ensures flipped (third.ensures.still again) beside
 
 pub lower_height-first-requires-clause-table : goal.lower_height-first-requires-clause-table
@@ -136,7 +137,7 @@ lower_height-second-requires-clause-table g c =
     let a = c.first_of-class.result.0 in
     let b = c.flip-other.result.0 in
     let first = c.lower_height-first in
-    let at : b / 2 ≡ place = ap (λ n. n / 2) (c.flip-other.ensures ∙ xor-one a) ∙ (flip_place a ∙ c.first_of-class.ensures) in
+    let at : b / 2 ≡ place = ap (λ n. n / 2) (c.flip-other.ensures ∙ xor-one a) ∙ (half-flip a ∙ c.first_of-class.ensures) in
     let one : AreSameBut (λ n. n / 2 ≡ place) c.args.marks.now first.new.marks = λ n not. first.ensures.others n (λ e. not (ap (λ k. k / 2) e ∙ c.first_of-class.ensures)) in
     around_class c.args.given.now.graph.now c.args.given.now.pats.now c.args.marks.now first.new.marks place b c.args.table.now first.new.table at one first.ensures.table c.requires.table
 

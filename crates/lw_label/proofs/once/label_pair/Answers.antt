@@ -1,10 +1,11 @@
 use Rattle.std.proofs.Common.{◌≡◌, ◌/◌, ◌∙◌, ap, sym, subst}
+use Rattle.std.proofs.lemmas.Bool.{not-true}
 use Rattle.lw_laws.specs.Flip.{flip}
-use Rattle.lw_laws.proofs.Flips.{xor-one}
+use Rattle.lw_laws.proofs.Flips.{xor-one, half-flip}
 use Rattle.lw_label.specs.Heights.{AreSameBut}
 use Rattle.lw_label.specs.OneVisit.{AreBoundsAround}
 use Rattle.lw_label.proofs.OneVisit.{around_after, bounded_pair, bounded_stays}
-use Rattle.lw_label.proofs.Still.{flip_apart, flip_place, is_false, pair_others}
+use Rattle.lw_label.proofs.Still.{flip_apart, pair_others}
 use Rattle.lw_label.proofs.once.label_pair.Goals as goal
 
 pub lower_whole-requires-clause-search : goal.lower_whole-requires-clause-search
@@ -16,7 +17,7 @@ pub lower_whole-requires-clause-around : goal.lower_whole-requires-clause-around
 lower_whole-requires-clause-around g c =
     let place = c.args.place in
     let a = c.first_of-class.result.0 in
-    let at : c.flip-other.result.0 / 2 ≡ place = ap (λ n. n / 2) (c.flip-other.ensures ∙ xor-one a) ∙ (flip_place a ∙ c.first_of-class.ensures) in
+    let at : c.flip-other.result.0 / 2 ≡ place = ap (λ n. n / 2) (c.flip-other.ensures ∙ xor-one a) ∙ (half-flip a ∙ c.first_of-class.ensures) in
     subst (AreBoundsAround c.args.bounds.now c.args.graph.now c.lower_mark.new.marks) (sym at) (around_after c.args.bounds.now c.args.graph.now c.args.marks.now c.lower_mark.new.marks place (λ n. n ≡ a) (λ n e. ap (λ k. k / 2) e ∙ c.first_of-class.ensures) c.lower_mark.ensures.others c.requires.around)
 
 pub lower_whole-lowered-requires-clause-around : goal.lower_whole-lowered-requires-clause-around
@@ -36,7 +37,7 @@ lower_whole-lowered-requires-2-clause-around g c =
     let flipped : b ≡ flip a = c.flip-other.ensures ∙ xor-one a in
     let two = pair_others place a b c.args.marks.now c.lower_mark.new.marks c.lower_whole.new.marks c.first_of-class.ensures flipped c.lower_mark.ensures.others c.lower_whole.ensures.others in
     let three : AreSameBut (λ n. n / 2 ≡ place) c.args.marks.now c.lower_whole-lowered.new.marks = λ n not. c.lower_whole-lowered.ensures.others n (λ e. not (ap (λ k. k / 2) e ∙ c.first_of-class.ensures)) ∙ two n not in
-    let at : b / 2 ≡ place = ap (λ n. n / 2) flipped ∙ (flip_place a ∙ c.first_of-class.ensures) in
+    let at : b / 2 ≡ place = ap (λ n. n / 2) flipped ∙ (half-flip a ∙ c.first_of-class.ensures) in
     subst (AreBoundsAround c.args.bounds.now c.args.graph.now c.lower_whole-lowered.new.marks) (sym at) (around_after c.args.bounds.now c.args.graph.now c.args.marks.now c.lower_whole-lowered.new.marks place (λ n. n / 2 ≡ place) (λ n e. e) three c.requires.around)
 
 pub returns-then-not-may_lower-clause-others : goal.returns-then-not-may_lower-clause-others
@@ -55,7 +56,7 @@ returns-clause-others g c =
     let b = c.flip-other.result.0 in
     let flipped : b ≡ flip a = c.flip-other.ensures ∙ xor-one a in
     let two = pair_others place a b c.args.marks.now c.lower_mark.new.marks c.lower_whole.new.marks c.first_of-class.ensures flipped c.lower_mark.ensures.others c.lower_whole.ensures.others in
-    let at : b / 2 ≡ place = ap (λ n. n / 2) flipped ∙ (flip_place a ∙ c.first_of-class.ensures) in
+    let at : b / 2 ≡ place = ap (λ n. n / 2) flipped ∙ (half-flip a ∙ c.first_of-class.ensures) in
     λ n not. c.lower_whole-lowered-2.ensures.others n (λ e. not (ap (λ k. k / 2) e ∙ at)) ∙ (c.lower_whole-lowered.ensures.others n (λ e. not (ap (λ k. k / 2) e ∙ c.first_of-class.ensures)) ∙ two n not)
 
 pub returns-then-not-may_lower-clause-bounded : goal.returns-then-not-may_lower-clause-bounded
@@ -81,7 +82,7 @@ returns-clause-bounded g c = λ t.
     let flipped : b ≡ flip a = c.flip-other.ensures ∙ xor-one a in
     let own = c.lower_whole-lowered in
     let last = c.lower_whole-lowered-2 in
-    let beside = bounded_stays graph costs pats c.requires.search.problem own.new.marks last.new.marks a b last.result last.ensures.search.lowering last.ensures.same last.ensures.others (λ e. flip_apart a (e ∙ flipped)) (c.may_lower-2.ensures (is_false c.may_lower-2.result t)) own.ensures.bounded in
+    let beside = bounded_stays graph costs pats c.requires.search.problem own.new.marks last.new.marks a b last.result last.ensures.search.lowering last.ensures.same last.ensures.others (λ e. flip_apart a (e ∙ flipped)) (c.may_lower-2.ensures (not-true c.may_lower-2.result t)) own.ensures.bounded in
     bounded_pair graph costs pats last.new.marks c.args.place a b c.first_of-class.ensures flipped beside last.ensures.bounded
 
 pub lower_mark-requires-clause-of_cells : goal.lower_mark-requires-clause-of_cells

@@ -1,6 +1,7 @@
 use Rattle.std.proofs.Common.{◌≡◌, ◌/◌, ◌∙◌, ap, refl}
-use Rattle.lw_label.proofs.Still.{is_false, same_but_more}
-use Rattle.lw_label.proofs.OneVisit.{is_true, was_lowered}
+use Rattle.std.proofs.lemmas.Bool.{not-false, not-true}
+use Rattle.lw_label.proofs.Still.{same_but_more}
+use Rattle.lw_label.proofs.OneVisit.{was_lowered}
 use Rattle.lw_label.proofs.once.lower_whole.Goals as goal
 
 pub loop-class-init : goal.loop-class-init
@@ -24,12 +25,12 @@ loop-class-preserved g c =
 pub loop-class-smaller : goal.loop-class-smaller
 loop-class-smaller g c =
     let visit = c.lower_mark in
-    visit.ensures.takes.falls (was_lowered visit.result.lowered visit.result.is_still visit.ensures.none (is_false visit.result.is_still c.loop-class-test.true))
+    visit.ensures.takes.falls (was_lowered visit.result.lowered visit.result.is_still visit.ensures.none (not-true visit.result.is_still c.loop-class-test.true))
 
 pub returns-clause-bounded : goal.returns-clause-bounded
 returns-clause-bounded g c =
     let visit = c.lower_mark in
-    visit.ensures.bounded (is_true visit.result.is_still c.loop-class-test.false) (c.requires.around c.loop-class.marks (λ n out. c.loop-class.invariant.others n (λ e. out (ap (λ k. k / 2) e)) ∙ c.lower_mark-first.ensures.others n (λ e. out (ap (λ k. k / 2) e))))
+    visit.ensures.bounded (not-false visit.result.is_still c.loop-class-test.false) (c.requires.around c.loop-class.marks (λ n out. c.loop-class.invariant.others n (λ e. out (ap (λ k. k / 2) e)) ∙ c.lower_mark-first.ensures.others n (λ e. out (ap (λ k. k / 2) e))))
 
 pub returns-clause-search : goal.returns-clause-search
 returns-clause-search g c =

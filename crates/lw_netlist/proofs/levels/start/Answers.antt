@@ -1,5 +1,6 @@
 use Rattle.std.proofs.Common.{[], ◌∷◌, ◌++◌, ap, ◌∙◌}
-use Rattle.lw_netlist.proofs.Settling.{replicate_more, places_more}
+use Rattle.std.proofs.lemmas.List.{replicate_more}
+use Rattle.lw_netlist.proofs.Settling.{places_more}
 use Rattle.lw_netlist.proofs.levels.start.Goals as goal
 
 pub all-preserved : goal.all-preserved

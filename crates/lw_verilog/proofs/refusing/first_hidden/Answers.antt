@@ -2,9 +2,9 @@ use Rattle.std.proofs.Common.{[], ◌∷◌, ◌++◌, map, ap, ap₂, sym, ◌�
 use Rattle.std.specs.Prelude.{find}
 use Rattle.std.specs.List.{flat_map}
 use Rattle.std.specs.Option.{option_or}
+use Rattle.std.proofs.lemmas.List.Folds.{find-append}
 use Rattle.lw_mapped.specs.Texts.{names_of_inputs, names_of_outputs}
 use Rattle.lw_verilog.specs.Sayable.{gate_names, is_hidden}
-use Rattle.lw_verilog.proofs.Finding.{find-append}
 use Rattle.lw_verilog.proofs.refusing.first_hidden.Goals as goal
 use Rattle.lw_netlist.specs.Plain.{port_name}
 

@@ -1,8 +1,8 @@
 use Rattle.std.proofs.Common.{[], ◌∷◌, ◌++◌, ap, ap₂, sym, ◌∙◌}
 use Rattle.std.specs.Prelude.{find}
 use Rattle.std.specs.Option.{option_or}
+use Rattle.std.proofs.lemmas.List.Folds.{find-append}
 use Rattle.lw_verilog.specs.Sayable.{is_hidden}
-use Rattle.lw_verilog.proofs.Finding.{find-append}
 use Rattle.lw_verilog.proofs.refusing.hidden_of_cell.Goals as goal
 
 pub returns : goal.returns

@@ -1,0 +1,101 @@
+// What a table of bounds is made of.
+ghost use Rattle.std.specs.Prelude.{◌≡◌, ◌<◌, ◌≤◌, ◌*◌, ◌^◌, length, map, IfOk};
+ghost use Rattle.lw_match.specs.Bounds.{AreApart, AreBare, AreZero};
+ghost use Rattle.lw_match.specs.Numbers.{AreStarts, most_numbers};
+ghost use Rattle.lw_match.specs.Places.{AreGrouped, AreRootsListed};
+ghost use Rattle.lw_match.specs.Shapes.{AllHaveShapes, AreParts, HaveRootShapes};
+ghost use Rattle.lw_pattern.specs.Listed.{most_patterns};
+
+use crate::parts::{Group, Part, Root, Side};
+use crate::places::{groups_of, roots_in};
+use crate::shapes::{all_sides, root_sides};
+use crate::starts::starts_of;
+use indexmap::IndexSet;
+use lw_graph::Graph;
+use lw_pattern::Patterns;
+use std::alloc::{AllocError, Global};
+
+/// The parts of patterns, and the sides that all their nodes and their roots are.
+#[derive(Drop)]
+pub(crate) struct Sides {
+    pub parts: IndexSet<Part>,
+    pub all: Vec<Vec<Side>>,
+    pub roots: Vec<Side>,
+}
+
+/// The roots of patterns, in lists by where their numbers stand.
+#[derive(Drop)]
+pub(crate) struct RootLists {
+    pub leaf: Vec<Root>,
+    pub row: Vec<Root>,
+    pub other: Vec<Root>,
+}
+
+/// The rows of classes, what their numbers follow from, and room for one row.
+#[derive(Drop)]
+pub(crate) struct Rows {
+    pub starts: Vec<u32>,
+    pub numbers: Vec<u64>,
+    pub groups: Vec<Group>,
+    pub least: Vec<u64>,
+}
+
+/// The parts of patterns whose pins have these gaps, of which only the first are kept where there is
+/// no room for more, and the sides that nodes and roots are.
+pub(crate) fn sides_by(
+    alloc: Global,
+    room: usize,
+    gaps: &[[u64; 16]],
+    pats: &Patterns,
+) -> Result<Sides, AllocError>
+    requires room { room < 2 ^ 32 }
+    ensures parts { IfOk result (λ s. AreParts room s.parts.keys) }
+    ensures count { IfOk result (λ s. length (map (λ sides. sides.items) s.all.items)
+        ≡ length pats.now) }
+    ensures shapes { IfOk result (λ s. AllHaveShapes s.parts.keys gaps.now pats.now
+        (map (λ sides. sides.items) s.all.items)) }
+    ensures root_count { IfOk result (λ s. length s.roots.items ≡ length pats.now) }
+    ensures roots { IfOk result (λ s. HaveRootShapes s.parts.keys gaps.now pats.now
+        s.roots.items) }
+{
+    let mut parts = IndexSet::new(alloc);
+    let all = all_sides(alloc, &mut parts, room, gaps, pats)?;
+    let roots = root_sides(alloc, pats, &all)?;
+    Ok(Sides { parts, all, roots })
+}
+
+/// Roots in lists, given the sides that they are.
+pub(crate) fn lists_by(alloc: Global, roots: &[Side]) -> Result<RootLists, AllocError>
+    requires few { length roots.now ≤ most_patterns }
+    ensures { IfOk result (λ lists.
+        AreRootsListed roots.now lists.leaf.items lists.row.items lists.other.items) }
+{
+    let leaf = roots_in(alloc, roots, 0)?;
+    let row = roots_in(alloc, roots, 1)?;
+    let other = roots_in(alloc, roots, 2)?;
+    Ok(RootLists { leaf, row, other })
+}
+
+/// A row of zeros for each class that has pairs, with a number for each part.
+pub(crate) fn rows_by(alloc: Global, graph: &Graph, parts: &[Part]) -> Result<Rows, AllocError>
+    requires size { length parts.now * length graph.now.pairs ≤ most_numbers }
+    requires few { length parts.now ≤ most_numbers }
+    ensures starts { IfOk result (λ rows.
+        AreStarts (length parts.now) rows.starts.items (length rows.numbers.items)) }
+    ensures bare { IfOk result (λ rows. AreBare rows.starts.items graph.now) }
+    ensures apart { IfOk result (λ rows. AreApart (length parts.now) rows.starts.items) }
+    ensures zero { IfOk result (λ rows. AreZero rows.numbers.items) }
+    ensures grouped { IfOk result (λ rows. AreGrouped parts.now rows.groups.items) }
+    ensures least { IfOk result (λ rows. length rows.least.items ≡ length parts.now) }
+{
+    let groups = groups_of(alloc, parts)?;
+    let least = vec![in alloc; 0; parts.len()]?;
+    let rows = starts_of(alloc, graph, parts.len() as u32)?;
+    let numbers = vec![in alloc; 0; rows.size as usize]?;
+    Ok(Rows {
+        starts: rows.starts,
+        numbers,
+        groups,
+        least,
+    })
+}
