@@ -3,7 +3,7 @@ use Rattle.std.proofs.Common.{◌≡◌, ◌+◌, ◌-◌, ◌^◌, ◌<◌, ◌
 use Rattle.std.specs.List.{sum_by}
 use Rattle.std.proofs.lemmas.List.Sums.{sum_by-cons, sum_by_more}
 use Rattle.std.proofs.lemmas.Option.{slice_get-get_or}
-use Rattle.lw_facts.proofs.Lists.{length_mapped}
+use Rattle.std.proofs.lemmas.List.{length-map}
 use Rattle.lw_laws.specs.Modes.{Mode}
 use Rattle.lw_laws.specs.NumberedForms.{Base}
 use Rattle.lw_laws.specs.NumberedForms.Base.{base_true}
@@ -20,7 +20,7 @@ same_splits : (mode : Mode) (bases : List Form) (f : Form) → base_splits mode 
 same_splits mode bases (var_form i) = refl
 same_splits mode bases true_form = refl
 same_splits mode bases (not_form f) = refl
-same_splits mode bases (and_form fs) = ap (splits_of mode) (length_mapped (number bases) (items fs))
+same_splits mode bases (and_form fs) = ap (splits_of mode) (length-map (items fs) (number bases))
 
 same_count : (mode : Mode) (bases fs : List Form) → sum_by (base_splits mode) (map (numbered_base bases) fs) ≡ split_count mode fs
 same_count mode bases [] = refl

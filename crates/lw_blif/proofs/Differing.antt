@@ -3,7 +3,7 @@ use Rattle.std.proofs.Common.{ℕ, ◌≡◌, Bool, true, false, not, ◌||◌, 
 use Rattle.std.specs.List.{flat_map, IsDistinct, AllByRecursion}
 use Rattle.std.specs.List.Sorted.{IsPermutation}
 use Rattle.std.specs.Str.{bytes_eq}
-use Rattle.std.proofs.lemmas.Bool.{and_parts}
+use Rattle.std.proofs.lemmas.Bool.{and_parts, not-true}
 use Rattle.std.proofs.lemmas.List.Sorted.{IsPermutation-refl, IsPermutation-sym, IsPermutation-trans, IsPermutation-to_front, IsPermutation-append_comm, IsPermutation-append_left, IsPermutation-append_right}
 use Rattle.std.proofs.lemmas.Map.Keys.{IsDistinct-IsPermutation, IsDistinct-cons}
 use Rattle.lw_facts.proofs.Lists.{bytes_eq_turned}
@@ -33,10 +33,6 @@ distinct-fresh names (name ∷ more) distinct fresh =
     let parts = and_parts (not (is_among names name)) (are_fresh (names ++ name ∷ []) more) fresh in
     subst (IsDistinct bytes_eq) (append_assoc names (name ∷ []) more)
     (distinct-fresh (names ++ name ∷ []) more (distinct-push names name distinct (not-true (is_among names name) parts.0)) parts.1)
-  where
-    not-true : (b : Bool) → not b ≡ true → b ≡ false
-    not-true true e = cc
-    not-true false e = refl
 
 -- Two lists of names an element, one after the other.
 pub in-two : {A : Type 0} (f g : A → List (List ℕ)) (xs : List A) → IsPermutation (flat_map (λ x. f x ++ g x) xs) (flat_map f xs ++ flat_map g xs)

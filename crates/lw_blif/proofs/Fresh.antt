@@ -8,12 +8,6 @@ use Rattle.lw_blif.specs.LineFaults.{has_twice}
 use Rattle.lw_blif.specs.Readers.{are_fresh}
 use Rattle.lw_words.specs.Words.{is_among}
 
-or-comm : (a b : Bool) → (a || b) ≡ (b || a)
-or-comm true true = refl
-or-comm true false = refl
-or-comm false true = refl
-or-comm false false = refl
-
 among-push : (defined : List (List ℕ)) (name other : List ℕ) → is_among (defined ++ name ∷ []) other ≡ (is_among defined other || bytes_eq other name)
 among-push defined name other = list_any_append (bytes_eq other) defined (name ∷ []) ∙ ap (λ t. is_among defined other || t) (or-false (bytes_eq other name))
 

@@ -5,10 +5,9 @@ use Rattle.std.specs.List.{list_any, list_all, flat_map}
 use Rattle.std.specs.Str.{bytes_eq}
 use Rattle.std.specs.Cmp.Lexicographic.{bytes_decides}
 use Rattle.std.proofs.lemmas.Grind.{flat_map-append}
-use Rattle.std.proofs.lemmas.List.{reverse-append, length-reverse}
+use Rattle.std.proofs.lemmas.List.{reverse-append, length-reverse, length-map}
 use Rattle.std.proofs.lemmas.Bool.{and_parts, ltb-false}
-use Rattle.std.proofs.Math.Bool.{not-not}
-use Rattle.lw_facts.proofs.Lists.{length_mapped}
+use Rattle.std.proofs.Math.Bool.{not-not, or-false, or_self}
 use Rattle.lw_net.specs.declared.draft.DraftNode.{DraftNode}
 use Rattle.lw_net.specs.declared.draft.Draft.{Draft}
 use Rattle.lw_words.specs.Lines.{LogicalLine, has_some}
@@ -150,17 +149,9 @@ any-reverse p (x ∷ xs) =
 -- rows of one value are off rows, or none is
 any-off : (value : List ℕ) (row : LogicalLine) (rows : List LogicalLine) → HaveValue value (row ∷ rows) → list_any is_off_row (row ∷ rows) ≡ bytes_eq value (codes "0")
 any-off value row [] h = ap (λ v. bytes_eq v (codes "0") || false) h.0 ∙ or-false (bytes_eq value (codes "0"))
-  where
-    or-false : (b : Bool) → (b || false) ≡ b
-    or-false true = refl
-    or-false false = refl
 any-off value row (next ∷ rows) h =
     ap (λ v. bytes_eq v (codes "0") || list_any is_off_row (next ∷ rows)) h.0
-    ∙ (ap (λ t. bytes_eq value (codes "0") || t) (any-off value next rows h.1) ∙ or-same (bytes_eq value (codes "0")))
-  where
-    or-same : (b : Bool) → (b || b) ≡ b
-    or-same true = refl
-    or-same false = refl
+    ∙ (ap (λ t. bytes_eq value (codes "0") || t) (any-off value next rows h.1) ∙ or_self (bytes_eq value (codes "0")))
 
 value-off : (on : Bool) → bytes_eq (value_word on) (codes "0") ≡ not on
 value-off true = refl
@@ -213,7 +204,7 @@ kept-row model inputs outputs defined nodes node lines line e fit k =
     by_node (l ∷ []) is =
         let same : node ≡ node_of l (reverse (rows_before lines)) = cc in
         let count : has_some node.rows ≡ has_some (rows_before lines) =
-        ap (λ (n : DraftNode). has_some n.rows) same ∙ some-length (map row_of (reverse (rows_before lines))) (rows_before lines) (length_mapped row_of (reverse (rows_before lines)) ∙ length-reverse (rows_before lines)) in
+        ap (λ (n : DraftNode). has_some n.rows) same ∙ some-length (map row_of (reverse (rows_before lines))) (rows_before lines) (length-map (reverse (rows_before lines)) row_of ∙ length-reverse (rows_before lines)) in
         let values = new-values node.on (rows_before lines) line k.one_value (ap (λ t. t && not (bytes_eq (value_word node.on) (last_word line.words))) (sym count) ∙ fit.same) (shape-value (length node.fanins) line.words fit.shape) in (
           ap (λ n. row_added line.words n ∷ []) same ∙ ap (λ n. n ∷ []) (sym (node-added l (rows_before lines) line values)),
           (λ none. cc),

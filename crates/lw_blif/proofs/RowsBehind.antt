@@ -1,10 +1,10 @@
 -- Rows behind a node and its rows.
-use Rattle.std.proofs.Common.{ℕ, ◌≡◌, Bool, true, false, not, ◌&&◌, ◌||◌, cond, List, [], ◌∷◌, length, map, reverse, Some, None, refl, ap, sym, ◌∙◌, append-nil, arith}
+use Rattle.std.proofs.Common.{ℕ, ◌≡◌, false, not, ◌&&◌, ◌||◌, cond, List, [], ◌∷◌, length, map, reverse, Some, None, refl, ap, sym, ◌∙◌, append-nil, arith}
 use Rattle.std.specs.Prelude.{nat_le}
 use Rattle.std.specs.List.{flat_map}
 use Rattle.std.specs.Str.{bytes_eq}
-use Rattle.std.proofs.lemmas.List.{length-reverse}
-use Rattle.lw_facts.proofs.Lists.{length_mapped}
+use Rattle.std.proofs.lemmas.List.{length-reverse, length-map}
+use Rattle.std.proofs.Math.Bool.{or-false, or_self}
 use Rattle.lw_words.specs.Lines.{LogicalLine, has_some}
 use Rattle.lw_blif.specs.declared.fault.BlifKind.TheVariants as kind
 use Rattle.lw_blif.specs.LineFaults.{last_word, fanins_on, has_shape, differs_from, first_broken, row_rules}
@@ -15,17 +15,9 @@ use Rattle.lw_blif.specs.Readers.{HaveValue, value_word, is_value_of, row_fault_
 pub differs-value : (words : List (List ℕ)) (value : List ℕ) (rows : List LogicalLine) → HaveValue value rows → differs_from words rows ≡ (has_some rows && not (bytes_eq value (last_word words)))
 differs-value words value [] h = refl
 differs-value words value (row ∷ []) h = ap (λ v. not (bytes_eq v (last_word words)) || false) h.0 ∙ or-false (not (bytes_eq value (last_word words)))
-  where
-    or-false : (b : Bool) → (b || false) ≡ b
-    or-false true = refl
-    or-false false = refl
 differs-value words value (row ∷ next ∷ rows) h =
     ap (λ v. not (bytes_eq v (last_word words)) || differs_from words (next ∷ rows)) h.0
-    ∙ (ap (λ t. not (bytes_eq value (last_word words)) || t) (differs-value words value (next ∷ rows) h.1) ∙ or-same (not (bytes_eq value (last_word words))))
-  where
-    or-same : (b : Bool) → (b || b) ≡ b
-    or-same true = refl
-    or-same false = refl
+    ∙ (ap (λ t. not (bytes_eq value (last_word words)) || t) (differs-value words value (next ∷ rows) h.1) ∙ or_self (not (bytes_eq value (last_word words))))
 
 pub some-length : {A B : Type 0} (xs : List A) (ys : List B) → length xs ≡ length ys → has_some xs ≡ has_some ys
 some-length [] [] e = refl
@@ -39,7 +31,7 @@ pub row_fault-node : (l : LogicalLine) (rows : List LogicalLine) (words : List (
 unfolding row_fault_of is_value_of
 row_fault-node l rows words h =
     let node = node_of l (reverse rows) in
-    let count : length (map row_of (reverse rows)) ≡ length rows = length_mapped row_of (reverse rows) ∙ length-reverse rows in
+    let count : length (map row_of (reverse rows)) ≡ length rows = length-map (reverse rows) row_of ∙ length-reverse rows in
     let fanins : flat_map fanins_on (l ∷ []) ≡ fanins_on l = append-nil (fanins_on l) in
     let differs : differs_from words rows ≡ (has_some node.rows && not (bytes_eq (value_word node.on) (last_word words))) =
     differs-value words (value_word node.on) rows h ∙ ap (λ t. t && not (bytes_eq (value_word node.on) (last_word words))) (sym (some-length (map row_of (reverse rows)) rows count)) in

@@ -2,6 +2,7 @@
 use Rattle.std.proofs.Common.{◌≡◌, ◌+◌, ◌-◌, ◌/◌, ◌<◌, ◌≤◌, ℕ, zero, suc, Bool, true, false, not, cond, ltb, Option, Some, None, List, [], ◌∷◌, ◌++◌, length, map, filter, drop, get_or, refl, ap, ap₂, sym, ◌∙◌, subst, arith, append_assoc, ltb-true, length-append, Vec, Global}
 use Rattle.std.specs.List.{AllByRecursion}
 use Rattle.std.proofs.lemmas.List.{at_drop_more, length-map, map-append, drop_all}
+use Rattle.std.proofs.lemmas.Bool.{ltb-false}
 use Rattle.lw_facts.proofs.Lists.{all_front, all_last}
 use Rattle.lw_laws.specs.Forms.{Form, conjunction, disjunction}
 use Rattle.lw_laws.specs.Signals as laws
@@ -58,9 +59,7 @@ pub better_more : (rows : List (List (Option Bool))) (l : laws.Literal) (n count
 better_more rows l n count best e lt ls = by_test (ltb n (count_having l rows)) refl where
   by_test : (t : Bool) → ltb n (count_having l rows) ≡ t → most_common rows ls count (Some l) ≡ elim t [ true ↦ most_common rows ls (count_having l rows) (Some l) | false ↦ most_common rows ls n best ]
   by_test true s = ap (λ k. most_common rows ls k (Some l)) e
-  by_test false s = absurd (let k = not_less n (count_having l rows) s in omega arith) where
-    not_less : (a b : ℕ) → ltb a b ≡ false → b ≤ a
-    not_less a b s = grind arith
+  by_test false s = absurd (let k = ltb-false n (count_having l rows) s in omega arith)
 
 pub better_not : (rows : List (List (Option Bool))) (l : laws.Literal) (n count : ℕ) (best : Option laws.Literal) → count ≡ count_having l rows → count ≤ n → (ls : List laws.Literal) → most_common rows ls n best ≡ most_common rows (l ∷ ls) n best
 better_not rows l n count best e le ls = by_test (ltb n (count_having l rows)) refl where

@@ -2,7 +2,7 @@
 use Rattle.std.proofs.Common.{ℕ, zero, suc, ◌+◌, ◌≡◌, List, ◌++◌, length, map, refl, ap, sym, ◌∙◌, arith, length-append}
 use Rattle.std.specs.Prelude.{All, drop, replicate}
 use Rattle.std.proofs.Math.Seq.{drop-append_seam}
-use Rattle.lw_facts.proofs.Lists.{length_mapped}
+use Rattle.std.proofs.lemmas.List.{length-map}
 use Rattle.lw_fixed.specs.declared.micro.Micro.{Micro}
 use Rattle.lw_pool.specs.declared.latch.Latch.{Latch}
 use Rattle.lw_frame.specs.Frames.{frame_of, input_names, output_of, root_names, Fits}
@@ -32,7 +32,7 @@ zeros_behind own starts n many is count = (
 pub counted_fit : (inputs outputs : List (List ℕ)) (latches : List Latch) (starts : List Micro) → length starts ≡ length inputs + length latches → drop (length inputs) starts ≡ replicate (length latches) at_once → All IsEarly starts →
     StartsFit (frame_of inputs outputs latches) (length (input_names inputs latches)) starts
 counted_fit inputs outputs latches starts count zeros early = record {
-  one_each = omega (arith, count, length-append inputs (map output_of latches), length_mapped output_of latches);
+  one_each = omega (arith, count, length-append inputs (map output_of latches), length-map latches output_of);
   early = early;
   latches = zeros;
 }
@@ -40,5 +40,5 @@ counted_fit inputs outputs latches starts count zeros early = record {
 pub starts_fit : (lines : List Arrival) (inputs outputs : List (List ℕ)) (latches : List Latch) (starts : List Micro) → starts ≡ starts_of lines inputs (length latches) → All IsEarly starts →
     StartsFit (frame_of inputs outputs latches) (length (input_names inputs latches)) starts
 starts_fit lines inputs outputs latches starts is early =
-    let parts = zeros_behind (map (start_of lines) inputs) starts (length inputs) (length latches) is (length_mapped (start_of lines) inputs) in
+    let parts = zeros_behind (map (start_of lines) inputs) starts (length inputs) (length latches) is (length-map inputs (start_of lines)) in
     counted_fit inputs outputs latches starts parts.0 parts.1 early

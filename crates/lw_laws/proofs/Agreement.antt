@@ -2,7 +2,7 @@
 use Rattle.std.proofs.Common.{ℕ, ◌+◌, ◌*◌, ◌/◌, ◌<◌, ◌≤◌, ◌≡◌, ◌≢◌, ◌⊎◌, inl, inr, List, [], ◌∷◌, length, map, Some, slice_get, refl, ap, sym, ◌∙◌, subst, subst₂, arith, add-zero, lt_of_not-le}
 use Rattle.std.specs.List.{AllByRecursion}
 use Rattle.std.proofs.lemmas.Option.{same_Some, slice_get_within}
-use Rattle.lw_facts.proofs.Lists.{length_mapped}
+use Rattle.std.proofs.lemmas.List.{length-map}
 use native.Mathlib.Decide.{dec_le}
 use Rattle.lw_laws.specs.Flip.{flip}
 use Rattle.lw_laws.specs.Trees.{Tree, leaf, const_one, const_zero, nand}
@@ -432,7 +432,7 @@ module _ (inputs : ℕ) (o : Listing) (is : IsListing o) where
   listed_and b ns e =
       let a = and_at b ns e in
       let fs = items a.operands in
-      let long = ap length (sym a.numbers) ∙ length_mapped N fs in
+      let long = ap length (sym a.numbers) ∙ length-map fs N in
       let are = is.ands b a.operands a.listed in
       let two = are.operands_are.two in
       record {
@@ -440,8 +440,8 @@ module _ (inputs : ℕ) (o : Listing) (is : IsListing o) where
         operands = subst (AllByRecursion (IsBefore b)) a.numbers (all_before b fs are.before);
         parts = λ ls rs c le re.
             let r = parts_of_cut N c fs a.numbers in
-            let l = ap length (sym r.left_is) ∙ length_mapped N r.left in
-            let k = ap length (sym r.right_is) ∙ length_mapped N r.right in
+            let l = ap length (sym r.left_is) ∙ length-map r.left N in
+            let k = ap length (sym r.right_is) ∙ length-map r.right N in
             let sum = parts_length r.parts in
             let subs = parts_subs r.parts in
             let some : 1 ≤ length r.left = omega arith in

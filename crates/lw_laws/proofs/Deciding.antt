@@ -2,6 +2,7 @@
 use Rattle.std.proofs.Common.{ℕ, zero, suc, ◌<◌, ◌≤◌, ◌≡◌, ◌⊎◌, inl, inr, List, [], ◌∷◌, ◌++◌, length, map, Option, Some, None, Contains, slice_get, slice_index_or, refl, ap, sym, ◌∙◌, subst, arith}
 use Rattle.std.specs.List.{AllByRecursion}
 use Rattle.std.proofs.Math.Decide.{map_dec}
+use Rattle.std.proofs.lemmas.List.Elements.{Contains-append_left, Contains-append_right}
 use Rattle.lw_facts.proofs.Lists.{contains_map}
 use native.Mathlib.Decide.{ℕ_discrete, dec_lt}
 use native.Mathlib.Nat.{eq-or-lt_of_le}
@@ -13,7 +14,6 @@ use Rattle.lw_laws.specs.Costs.{Cost}
 use Rattle.lw_laws.specs.Matches.{choices_of}
 use Rattle.lw_laws.specs.Choices.{HaveLabels, Attains, IsInputClass, IsWithin}
 use Rattle.lw_laws.specs.Rounds.{labels_in}
-use Rattle.lw_laws.proofs.Lists.{in_left, in_right}
 
 -- decisions
 pub dec_and : {P Q : Type 0} → Dec P → Dec Q → Dec (P × Q)
@@ -78,8 +78,8 @@ in_below (suc n) k lt = by_case (eq-or-lt_of_le {n = k} {m = n} (omega arith)) (
 in_prefixed : (ks : List ℕ) (rest : List (List ℕ)) (k : ℕ) (xs : List ℕ) → Contains ks k → Contains rest xs → Contains (prefixed ks rest) (k ∷ xs)
 unfolding prefixed
 in_prefixed [] rest k xs (j, lt, e) c = absurd (omega arith)
-in_prefixed (z ∷ ks) rest k xs (zero, lt, e) c = in_left (map (λ ys. z ∷ ys) rest) (prefixed ks rest) (k ∷ xs) (subst (λ w. Contains (map (λ ys. z ∷ ys) rest) (w ∷ xs)) e (contains_map (λ ys. z ∷ ys) rest xs c))
-in_prefixed (z ∷ ks) rest k xs (suc j, lt, e) c = in_right (map (λ ys. z ∷ ys) rest) (prefixed ks rest) (k ∷ xs) (in_prefixed ks rest k xs (j, omega arith, e) c)
+in_prefixed (z ∷ ks) rest k xs (zero, lt, e) c = Contains-append_left (map (λ ys. z ∷ ys) rest) (prefixed ks rest) (k ∷ xs) (subst (λ w. Contains (map (λ ys. z ∷ ys) rest) (w ∷ xs)) e (contains_map (λ ys. z ∷ ys) rest xs c))
+in_prefixed (z ∷ ks) rest k xs (suc j, lt, e) c = Contains-append_right (map (λ ys. z ∷ ys) rest) (prefixed ks rest) (k ∷ xs) (in_prefixed ks rest k xs (j, omega arith, e) c)
 
 in_all_lists : (bound : ℕ) (xs : List ℕ) → AllByRecursion (λ x. x < bound) xs → Contains (all_lists bound (length xs)) xs
 unfolding all_lists

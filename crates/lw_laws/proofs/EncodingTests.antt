@@ -2,6 +2,7 @@
 use Rattle.std.proofs.Common.{ℕ, zero, suc, ◌+◌, ◌*◌, ◌<◌, ◌==◌, ◌≡◌, ◌⊎◌, inl, inr, Bool, true, false, ◌&&◌, ◌||◌, if◌then◌else◌, List, [], ◌∷◌, ◌++◌, length, Contains, Option, Some, None, slice_get, slice_index_or, refl, ap, ap₂, sym, ◌∙◌, subst, arith}
 use Rattle.std.specs.List.{AllByRecursion, list_all, list_any}
 use Rattle.std.proofs.lemmas.Bool.{eqb-true, and_parts, or_cases}
+use Rattle.std.proofs.lemmas.List.Elements.{Contains-append_left, Contains-append_right}
 use native.Mathlib.Nat.{eq-or-lt_of_le}
 use Rattle.lw_laws.specs.Flip.{flip}
 use Rattle.lw_laws.specs.Graphs.{Pair, Graph, class_of, HoldsPair, PairsInOneClass}
@@ -15,7 +16,6 @@ use Rattle.lw_laws.specs.NumberedForms.Base.{base_true, base_input, base_and}
 use Rattle.lw_laws.proofs.Flips.{class_of-flip}
 use Rattle.lw_laws.proofs.Closure.{Equivalent-name}
 use Rattle.lw_laws.proofs.Facts.{eq_same, all_true, any_true, nand_facts, fact_listed, fact_is}
-use Rattle.lw_laws.proofs.Lists.{in_left, in_right}
 
 -- the pair is that of x and y
 abbrev is_pair : ℕ → ℕ → Pair → Bool
@@ -102,10 +102,10 @@ module _ (g : Graph) where
   held_listed first [] c p (k, lt, e) = absurd (omega arith)
   held_listed first (row ∷ rows) zero p at =
       let z : first ≡ first + 0 = omega arith in
-      subst (λ k. Contains (held_from first (row ∷ rows)) (record { at = k; pair = p })) z (in_left (held_in_row first row) (held_from (suc first) rows) (record { at = first; pair = p }) (row_listed first row p at))
+      subst (λ k. Contains (held_from first (row ∷ rows)) (record { at = k; pair = p })) z (Contains-append_left (held_in_row first row) (held_from (suc first) rows) (record { at = first; pair = p }) (row_listed first row p at))
   held_listed first (row ∷ rows) (suc c) p at =
       let s : suc first + c ≡ first + suc c = omega arith in
-      subst (λ k. Contains (held_from first (row ∷ rows)) (record { at = k; pair = p })) s (in_right (held_in_row first row) (held_from (suc first) rows) (record { at = suc first + c; pair = p }) (held_listed (suc first) rows c p at))
+      subst (λ k. Contains (held_from first (row ∷ rows)) (record { at = k; pair = p })) s (Contains-append_right (held_in_row first row) (held_from (suc first) rows) (record { at = suc first + c; pair = p }) (held_listed (suc first) rows c p at))
 
   abbrev agree : Held → Held → Bool
   agree a b = if is_pair a.pair.x a.pair.y b.pair then a.at == b.at else true

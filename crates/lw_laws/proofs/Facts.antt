@@ -3,7 +3,7 @@ use Rattle.std.proofs.Common.{ℕ, zero, suc, ◌+◌, ◌*◌, ◌==◌, ◌<�
 use Rattle.std.specs.List.{AllByRecursion, list_all, list_any}
 use Rattle.std.proofs.lemmas.Bool.Decides.{nat_tests}
 use Rattle.std.proofs.lemmas.Bool.{and_parts, or_cases, eqb-true}
-use Rattle.std.proofs.lemmas.List.Elements.{Contains-append_cases}
+use Rattle.std.proofs.lemmas.List.Elements.{Contains-append_cases, Contains-append_left, Contains-append_right}
 use Rattle.lw_facts.proofs.Lists.{contains_map}
 use native.Mathlib.Nat.{eq-or-lt_of_le}
 use Rattle.lw_laws.specs.Names.{same_name}
@@ -15,7 +15,7 @@ use Rattle.lw_laws.specs.NumberedForms.IsCovering.{in_none, in_left, in_right, i
 use Rattle.lw_laws.specs.Flip.{flip}
 use Rattle.lw_laws.specs.Modes.{Mode}
 use Rattle.lw_laws.specs.Modes.Mode.{plain, idempotent}
-use Rattle.lw_laws.proofs.Lists.{all_contains, all_append, all_map, in_left as in_first, in_right as in_second}
+use Rattle.lw_laws.proofs.Lists.{all_contains, all_append, all_map}
 
 pub eq_same : (a : ℕ) → (a == a) ≡ true
 eq_same a = grind (arith, nat_tests)
@@ -65,9 +65,9 @@ cuts (f ∷ fs) = map (to_left f) (cuts fs) ++ map (to_right f) (cuts fs)
 cut_listed : {fs ls rs : List ℕ} → IsCut fs ls rs → Contains (cuts fs) (record { left = ls; right = rs })
 cut_listed cut_none = (0, omega arith, refl)
 cut_listed (cut_left {f = f} {fs = fs} {ls = ls} {rs = rs} c) =
-    in_first (map (to_left f) (cuts fs)) (map (to_right f) (cuts fs)) (record { left = f ∷ ls; right = rs }) (contains_map (to_left f) (cuts fs) (record { left = ls; right = rs }) (cut_listed c))
+    Contains-append_left (map (to_left f) (cuts fs)) (map (to_right f) (cuts fs)) (record { left = f ∷ ls; right = rs }) (contains_map (to_left f) (cuts fs) (record { left = ls; right = rs }) (cut_listed c))
 cut_listed (cut_right {f = f} {fs = fs} {ls = ls} {rs = rs} c) =
-    in_second (map (to_left f) (cuts fs)) (map (to_right f) (cuts fs)) (record { left = ls; right = f ∷ rs }) (contains_map (to_right f) (cuts fs) (record { left = ls; right = rs }) (cut_listed c))
+    Contains-append_right (map (to_left f) (cuts fs)) (map (to_right f) (cuts fs)) (record { left = ls; right = f ∷ rs }) (contains_map (to_right f) (cuts fs) (record { left = ls; right = rs }) (cut_listed c))
 
 cuts_are : (fs : List ℕ) → AllByRecursion (λ c. IsCut fs c.left c.right) (cuts fs)
 cuts_are [] = (cut_none, tt)
@@ -87,11 +87,11 @@ coverings (f ∷ fs) = map (to_left f) (coverings fs) ++ (map (to_right f) (cove
 covering_listed : {fs ls rs : List ℕ} → IsCovering fs ls rs → Contains (coverings fs) (record { left = ls; right = rs })
 covering_listed in_none = (0, omega arith, refl)
 covering_listed (in_left {f = f} {fs = fs} {ls = ls} {rs = rs} c) =
-    in_first (map (to_left f) (coverings fs)) (map (to_right f) (coverings fs) ++ map (to_both f) (coverings fs)) (record { left = f ∷ ls; right = rs }) (contains_map (to_left f) (coverings fs) (record { left = ls; right = rs }) (covering_listed c))
+    Contains-append_left (map (to_left f) (coverings fs)) (map (to_right f) (coverings fs) ++ map (to_both f) (coverings fs)) (record { left = f ∷ ls; right = rs }) (contains_map (to_left f) (coverings fs) (record { left = ls; right = rs }) (covering_listed c))
 covering_listed (in_right {f = f} {fs = fs} {ls = ls} {rs = rs} c) =
-    in_second (map (to_left f) (coverings fs)) (map (to_right f) (coverings fs) ++ map (to_both f) (coverings fs)) (record { left = ls; right = f ∷ rs }) (in_first (map (to_right f) (coverings fs)) (map (to_both f) (coverings fs)) (record { left = ls; right = f ∷ rs }) (contains_map (to_right f) (coverings fs) (record { left = ls; right = rs }) (covering_listed c)))
+    Contains-append_right (map (to_left f) (coverings fs)) (map (to_right f) (coverings fs) ++ map (to_both f) (coverings fs)) (record { left = ls; right = f ∷ rs }) (Contains-append_left (map (to_right f) (coverings fs)) (map (to_both f) (coverings fs)) (record { left = ls; right = f ∷ rs }) (contains_map (to_right f) (coverings fs) (record { left = ls; right = rs }) (covering_listed c)))
 covering_listed (in_both {f = f} {fs = fs} {ls = ls} {rs = rs} c) =
-    in_second (map (to_left f) (coverings fs)) (map (to_right f) (coverings fs) ++ map (to_both f) (coverings fs)) (record { left = f ∷ ls; right = f ∷ rs }) (in_second (map (to_right f) (coverings fs)) (map (to_both f) (coverings fs)) (record { left = f ∷ ls; right = f ∷ rs }) (contains_map (to_both f) (coverings fs) (record { left = ls; right = rs }) (covering_listed c)))
+    Contains-append_right (map (to_left f) (coverings fs)) (map (to_right f) (coverings fs) ++ map (to_both f) (coverings fs)) (record { left = f ∷ ls; right = f ∷ rs }) (Contains-append_right (map (to_right f) (coverings fs)) (map (to_both f) (coverings fs)) (record { left = f ∷ ls; right = f ∷ rs }) (contains_map (to_both f) (coverings fs) (record { left = ls; right = rs }) (covering_listed c)))
 
 abbrev AreCoverings : List ℕ → List Cut → Type 0
 AreCoverings fs cs = AllByRecursion (λ c. IsCovering fs c.left c.right) cs
@@ -234,17 +234,17 @@ in_with_left f x (z ∷ ys) y (suc k, lt, e) = let (j, l, h) = in_with_left f x 
 in_with_parts : (f : ℕ) (xs ys : List ℕ) (x y : ℕ) → Contains xs x → Contains ys y → Contains (with_parts f xs ys) (record { form = f; left = x; right = y })
 in_with_parts f [] ys x y (k, lt, e) c = absurd (omega arith)
 in_with_parts f (z ∷ xs) ys x y (zero, lt, e) c =
-    in_first (with_left f z ys) (with_parts f xs ys) (record { form = f; left = x; right = y }) (subst (λ w. Contains (with_left f z ys) (record { form = f; left = w; right = y })) e (in_with_left f z ys y c))
+    Contains-append_left (with_left f z ys) (with_parts f xs ys) (record { form = f; left = x; right = y }) (subst (λ w. Contains (with_left f z ys) (record { form = f; left = w; right = y })) e (in_with_left f z ys y c))
 in_with_parts f (z ∷ xs) ys x y (suc k, lt, e) c =
-    in_second (with_left f z ys) (with_parts f xs ys) (record { form = f; left = x; right = y }) (in_with_parts f xs ys x y (k, omega arith, e) c)
+    Contains-append_right (with_left f z ys) (with_parts f xs ys) (record { form = f; left = x; right = y }) (in_with_parts f xs ys x y (k, omega arith, e) c)
 
 in_of_cuts : (forms : NumberedForms) (f : ℕ) (cs : List Cut) (c : Cut) (x y : ℕ) → Contains cs c → IsPart forms c.left x → IsPart forms c.right y → Contains (of_cuts forms f cs) (record { form = f; left = x; right = y })
 in_of_cuts forms f [] c x y (k, lt, e) p q = absurd (omega arith)
 in_of_cuts forms f (d ∷ cs) c x y (zero, lt, e) p q =
-    in_first (with_parts f (parts_of forms d.left) (parts_of forms d.right)) (of_cuts forms f cs) (record { form = f; left = x; right = y })
+    Contains-append_left (with_parts f (parts_of forms d.left) (parts_of forms d.right)) (of_cuts forms f cs) (record { form = f; left = x; right = y })
     (in_with_parts f (parts_of forms d.left) (parts_of forms d.right) x y (part_listed forms d.left x (subst (λ z. IsPart forms z.left x) (sym e) p)) (part_listed forms d.right y (subst (λ z. IsPart forms z.right y) (sym e) q)))
 in_of_cuts forms f (d ∷ cs) c x y (suc k, lt, e) p q =
-    in_second (with_parts f (parts_of forms d.left) (parts_of forms d.right)) (of_cuts forms f cs) (record { form = f; left = x; right = y }) (in_of_cuts forms f cs c x y (k, omega arith, e) p q)
+    Contains-append_right (with_parts f (parts_of forms d.left) (parts_of forms d.right)) (of_cuts forms f cs) (record { form = f; left = x; right = y }) (in_of_cuts forms f cs c x y (k, omega arith, e) p q)
 
 in_of_bases : (sides : List ℕ → List Cut) (forms : NumberedForms) (first : ℕ) (bases : List Base) (b : ℕ) (fs : List ℕ) (F : NandFact) → slice_get bases b ≡ Some (base_and fs) → Contains (of_cuts forms (2 * (first + b) + 1) (sides fs)) F → Contains (of_bases sides forms first bases) F
 in_of_bases sides forms first [] b fs F e c = cc
@@ -253,12 +253,12 @@ in_of_bases sides forms first (base_input i ∷ bases) zero fs F e c = cc
 in_of_bases sides forms first (base_and hs ∷ bases) zero fs F e c =
     let same : fs ≡ hs = cc in
     let z : first + 0 ≡ first = omega arith in
-    in_first (of_cuts forms (2 * first + 1) (sides hs)) (of_bases sides forms (suc first) bases) F (subst (λ zs. Contains (of_cuts forms (2 * first + 1) (sides zs)) F) same (subst (λ k. Contains (of_cuts forms (2 * k + 1) (sides fs)) F) z c))
+    Contains-append_left (of_cuts forms (2 * first + 1) (sides hs)) (of_bases sides forms (suc first) bases) F (subst (λ zs. Contains (of_cuts forms (2 * first + 1) (sides zs)) F) same (subst (λ k. Contains (of_cuts forms (2 * k + 1) (sides fs)) F) z c))
 in_of_bases sides forms first (base_true ∷ bases) (suc b) fs F e c = let s : first + suc b ≡ suc first + b = omega arith in in_of_bases sides forms (suc first) bases b fs F e (subst (λ k. Contains (of_cuts forms (2 * k + 1) (sides fs)) F) s c)
 in_of_bases sides forms first (base_input i ∷ bases) (suc b) fs F e c = let s : first + suc b ≡ suc first + b = omega arith in in_of_bases sides forms (suc first) bases b fs F e (subst (λ k. Contains (of_cuts forms (2 * k + 1) (sides fs)) F) s c)
 in_of_bases sides forms first (base_and hs ∷ bases) (suc b) fs F e c =
     let s : first + suc b ≡ suc first + b = omega arith in
-    in_second (of_cuts forms (2 * first + 1) (sides hs)) (of_bases sides forms (suc first) bases) F (in_of_bases sides forms (suc first) bases b fs F e (subst (λ k. Contains (of_cuts forms (2 * k + 1) (sides fs)) F) s c))
+    Contains-append_right (of_cuts forms (2 * first + 1) (sides hs)) (of_bases sides forms (suc first) bases) F (in_of_bases sides forms (suc first) bases b fs F e (subst (λ k. Contains (of_cuts forms (2 * k + 1) (sides fs)) F) s c))
 
 with_left_are : (P : NandFact → Type 0) (f x : ℕ) (Q : ℕ → Type 0) (ys : List ℕ) → ((y : ℕ) → Q y → P (record { form = f; left = x; right = y })) → AllByRecursion Q ys → AllByRecursion P (with_left f x ys)
 with_left_are P f x Q [] h a = tt
@@ -348,9 +348,9 @@ module _ (forms : NumberedForms) where
   -- each split of the mode is a fact of the list, and each fact is a split
   pub fact_listed : (mode : Mode) (f x y : ℕ) → IsSplitOf mode forms f x y → Contains (nand_facts mode forms) (fact f x y)
   fact_listed plain f x y c = cut_in f x y c
-  fact_listed idempotent f x y (inl c) = in_first cut_facts (overlap_facts ++ all_twice) (fact f x y) (cut_in f x y c)
-  fact_listed idempotent f x y (inr (inl c)) = in_second cut_facts (overlap_facts ++ all_twice) (fact f x y) (in_first overlap_facts all_twice (fact f x y) (overlap_in f x y c))
-  fact_listed idempotent f x y (inr (inr c)) = in_second cut_facts (overlap_facts ++ all_twice) (fact f x y) (in_second overlap_facts all_twice (fact f x y) (twice_in f x y c))
+  fact_listed idempotent f x y (inl c) = Contains-append_left cut_facts (overlap_facts ++ all_twice) (fact f x y) (cut_in f x y c)
+  fact_listed idempotent f x y (inr (inl c)) = Contains-append_right cut_facts (overlap_facts ++ all_twice) (fact f x y) (Contains-append_left overlap_facts all_twice (fact f x y) (overlap_in f x y c))
+  fact_listed idempotent f x y (inr (inr c)) = Contains-append_right cut_facts (overlap_facts ++ all_twice) (fact f x y) (Contains-append_right overlap_facts all_twice (fact f x y) (twice_in f x y c))
 
   pub fact_is : (mode : Mode) (F : NandFact) → Contains (nand_facts mode forms) F → IsSplitOf mode forms F.form F.left F.right
   fact_is plain F c = split_is IsCut cuts forms cuts_are F c

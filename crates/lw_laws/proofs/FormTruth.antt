@@ -3,7 +3,7 @@ use Rattle.std.proofs.Common.{ℕ, zero, suc, ◌+◌, ◌<◌, ◌≤◌, ◌�
 use Rattle.std.specs.List.{list_all, list_any, AllByRecursion}
 use Rattle.std.proofs.lemmas.Bool.{and_parts, false_from_ne_true}
 use Rattle.std.proofs.Math.Bool.{or-false, not-not, and-true}
-use Rattle.lw_facts.proofs.Lists.{length_mapped}
+use Rattle.std.proofs.lemmas.List.{length-map}
 use Rattle.lw_laws.proofs.Lists.{all_append as append_all, all_at}
 use Rattle.lw_laws.specs.Networks.{Node, Network, agrees, row_value, node_value}
 use Rattle.lw_laws.specs.Forms.{Form, FormList, items, form_list, same_form, is_among, complement, without, kept, has_clash, runs, runs_within, joined, joined_many, conjunction_within, conjunction, disjunction, form_value, forms_value}
@@ -205,7 +205,7 @@ module _ (x : ℕ → Bool) where
       conjunction_value width (literal_form fs l ∷ again q ∷ []) ∙ ap₂ (λ a b. a && b) lit (and-true (v (again q)) ∙ ih q) in
       disjunction_value width (conjunction width (literal_form fs l ∷ again q ∷ []) ∷ again r ∷ [])
       ∙ (ap₂ (λ a b. a || b) first (or-false (v (again r)) ∙ ih r)
-      ∙ rows_value (map v fs) l rows (subst (λ n. l.column < n) (sym (length_mapped v fs)) w))
+      ∙ rows_value (map v fs) l rows (subst (λ n. l.column < n) (sym (length-map fs v)) w))
 
   factored_within_value : (n width : ℕ) (fs : List Form) (rows : List (List (Option Bool))) → v (factored_within n width fs rows) ≡ list_any (row_value (map v fs)) rows
   factored_within_value zero width fs rows = sum_value width fs rows

@@ -31,15 +31,6 @@ all_map Q P f [] h a = tt
 all_map Q P f (x ∷ xs) h (q, a) = (h x q, all_map Q P f xs h a)
 
 -- what a part of a list contains
-pub in_left : {X : Type 0} (xs ys : List X) (x : X) → Contains xs x → Contains (xs ++ ys) x
-in_left [] ys x (k, lt, e) = absurd (omega arith)
-in_left (z ∷ xs) ys x (zero, lt, e) = (0, omega arith, e)
-in_left (z ∷ xs) ys x (suc k, lt, e) = let (j, l, f) = in_left xs ys x (k, omega arith, e) in (suc j, omega arith, f)
-
-pub in_right : {X : Type 0} (xs ys : List X) (x : X) → Contains ys x → Contains (xs ++ ys) x
-in_right [] ys x c = c
-in_right (z ∷ xs) ys x c = let (j, l, f) = in_right xs ys x c in (suc j, omega arith, f)
-
 pub held_in : {X : Type 0} (rows : List (List X)) (c : ℕ) (x : X) → Contains (slice_index_or rows c []) x → c < length rows
 held_in [] c x (k, lt, e) = absurd (omega arith)
 held_in (r ∷ rows) zero x at = omega arith

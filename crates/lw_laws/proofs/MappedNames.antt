@@ -2,7 +2,7 @@
 use Rattle.std.proofs.Common.{ℕ, zero, suc, ◌+◌, ◌<◌, ◌≤◌, ◌^◌, ◌≡◌, Option, Some, None, List, [], ◌∷◌, ◌++◌, length, map, drop, slice_get, slice_index_or, refl, ap, ap₂, sym, ◌∙◌, subst, arith}
 use Rattle.std.specs.List.{AllZip}
 use Rattle.std.proofs.lemmas.Option.{get_or_from_slice_get, slice_get_within}
-use Rattle.lw_facts.proofs.Lists.{length_mapped}
+use Rattle.std.proofs.lemmas.List.{length-map}
 use Rattle.lw_laws.specs.Modes.{Mode}
 use Rattle.lw_laws.specs.Networks.{Network}
 use Rattle.lw_laws.specs.Forms.Form.{var_form}
@@ -88,7 +88,7 @@ module _ (mode : Mode) (width : ℕ) (net : Network) (ports : Ports) (pats : Lis
     few =
         let a = is.extracted.one_each in
         let b = length_both ports.inputs output_names in
-        let c = length_mapped (λ p. p.name) ports.outputs in
+        let c = length-map ports.outputs (λ p. p.name) in
         omega arith;
     inputs_differ = named.inputs_differ;
     outputs_differ = named.outputs_differ;

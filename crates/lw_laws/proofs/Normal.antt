@@ -2,7 +2,7 @@
 use Rattle.std.proofs.Common.{ℕ, zero, suc, ◌+◌, ◌*◌, ◌<◌, ◌≤◌, ◌≡◌, Bool, true, false, not, cond, leb, List, [], ◌∷◌, ◌++◌, map, filter, length, take, drop, Option, Some, None, slice_index_or, refl, ap, ap₂, sym, ◌∙◌, subst, arith, leb-true, leb-false, length-drop, length-take-le}
 use Rattle.std.specs.List.{AllByRecursion}
 use Rattle.std.proofs.lemmas.Bool.{or_from}
-use Rattle.lw_facts.proofs.Lists.{length_mapped}
+use Rattle.std.proofs.lemmas.List.{length-map}
 use Rattle.lw_laws.proofs.Lists.{all_append}
 use Rattle.lw_laws.specs.Networks.{Node, Network}
 use Rattle.lw_laws.specs.Forms.{Form, FormList, items, form_list, same_form, is_among, complement, without, kept, has_clash, runs, runs_within, joined, joined_many, conjunction_within, conjunction, disjunction}
@@ -136,7 +136,7 @@ module _ (count width : ℕ) (wide : 2 ≤ width) where
       let more = leb-false (length fs) width s in
       let count = run_count (length fs) fs in
       let each = are_runs (length fs) fs (omega arith) (omega arith) in
-      let lengths = length_mapped again (runs width fs) in
+      let lengths = length-map (runs width fs) again in
       ih (map again (runs width fs)) (map_all (IsRun fs) Normal again (λ run r. let few = r.few in ih run (IsSub_all Normal r.sub a) (omega arith)) (runs width fs) each) (omega arith)
 
   joined_normal : (n : ℕ) (again : List Form → Form) → ((hs : List Form) → AllByRecursion Normal hs → length hs < n → Normal (again hs)) → (fs : List Form) (t : Bool) → has_clash fs ≡ t → AllByRecursion Normal fs → length fs ≤ n → AreDistinct fs → Normal (joined again width fs t)
@@ -229,7 +229,7 @@ module _ (count width : ℕ) (wide : 2 ≤ width) where
   joined_many_same a b fs h false s =
       let more = leb-false (length fs) width s in
       let count = run_count (length fs) fs in
-      let lengths = length_mapped b (runs width fs) in
+      let lengths = length-map (runs width fs) b in
       let each = are_runs (length fs) fs (omega arith) (omega arith) in
       let same = map_same a b fs (runs width fs) each (λ hs l. h hs (omega arith)) in
       ap a same ∙ h (map b (runs width fs)) (omega arith)

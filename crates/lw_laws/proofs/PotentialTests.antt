@@ -2,6 +2,7 @@
 use Rattle.std.proofs.Common.{ℕ, zero, suc, ◌+◌, ◌*◌, ◌<◌, ◌≤◌, ◌==◌, ◌≡◌, ◌⊎◌, inl, inr, Bool, true, false, ◌&&◌, cond, leb, List, [], ◌∷◌, ◌++◌, length, map, replicate, Contains, Option, Some, None, slice_get, slice_index_or, refl, ap₂, sym, subst, arith}
 use Rattle.std.specs.List.{AllZip, list_all}
 use Rattle.std.proofs.lemmas.Bool.{and_parts, leb-true}
+use Rattle.std.proofs.lemmas.List.Elements.{Contains-append_left, Contains-append_right}
 use Rattle.lw_laws.proofs.Deciding.{label_listed}
 use Rattle.lw_facts.proofs.Lists.{contains_map}
 use native.Mathlib.Decide.{ℕ_discrete, dec_lt}
@@ -15,7 +16,6 @@ use Rattle.lw_laws.specs.Rounds.{labels_in}
 use Rattle.lw_laws.specs.Mapped.{IsPotentialOf}
 use Rattle.lw_laws.proofs.Flips.{half-flip}
 use Rattle.lw_laws.proofs.Facts.{eq_same, all_true}
-use Rattle.lw_laws.proofs.Lists.{in_left, in_right}
 
 -- a binding in part: a class for some of the pins
 abbrev Partial : Type 0
@@ -53,20 +53,20 @@ Fits w ps = AllZip (λ o p. (o ≡ None) ⊎ (o ≡ Some p)) w ps
 
 in_each : (next : Partial → List Partial) (ws : List Partial) (w v : Partial) → Contains ws w → Contains (next w) v → Contains (each_from next ws) v
 in_each next [] w v (k, lt, e) c = absurd (omega arith)
-in_each next (u ∷ ws) w v (zero, lt, e) c = in_left (next u) (each_from next ws) v (subst (λ z. Contains (next z) v) (sym e) c)
-in_each next (u ∷ ws) w v (suc k, lt, e) c = in_right (next u) (each_from next ws) v (in_each next ws w v (k, omega arith, e) c)
+in_each next (u ∷ ws) w v (zero, lt, e) c = Contains-append_left (next u) (each_from next ws) v (subst (λ z. Contains (next z) v) (sym e) c)
+in_each next (u ∷ ws) w v (suc k, lt, e) c = Contains-append_right (next u) (each_from next ws) v (in_each next ws w v (k, omega arith, e) c)
 
 in_pairs : (both : ℕ → ℕ → List Partial) (row : List Pair) (x y : ℕ) (v : Partial) → Contains row (record { x = x; y = y }) ⊎ Contains row (record { x = y; y = x }) → Contains (both x y) v → Contains (pairs_from both row) v
 in_pairs both [] x y v (inl (k, lt, e)) c = absurd (omega arith)
 in_pairs both [] x y v (inr (k, lt, e)) c = absurd (omega arith)
 in_pairs both (p ∷ ps) x y v (inl (zero, lt, e)) c =
-    in_left (both p.x p.y) (both p.y p.x ++ pairs_from both ps) v (subst (λ q. Contains (both q.x q.y) v) (sym e) c)
+    Contains-append_left (both p.x p.y) (both p.y p.x ++ pairs_from both ps) v (subst (λ q. Contains (both q.x q.y) v) (sym e) c)
 in_pairs both (p ∷ ps) x y v (inl (suc k, lt, e)) c =
-    in_right (both p.x p.y) (both p.y p.x ++ pairs_from both ps) v (in_right (both p.y p.x) (pairs_from both ps) v (in_pairs both ps x y v (inl (k, omega arith, e)) c))
+    Contains-append_right (both p.x p.y) (both p.y p.x ++ pairs_from both ps) v (Contains-append_right (both p.y p.x) (pairs_from both ps) v (in_pairs both ps x y v (inl (k, omega arith, e)) c))
 in_pairs both (p ∷ ps) x y v (inr (zero, lt, e)) c =
-    in_right (both p.x p.y) (both p.y p.x ++ pairs_from both ps) v (in_left (both p.y p.x) (pairs_from both ps) v (subst (λ q. Contains (both q.y q.x) v) (sym e) c))
+    Contains-append_right (both p.x p.y) (both p.y p.x ++ pairs_from both ps) v (Contains-append_left (both p.y p.x) (pairs_from both ps) v (subst (λ q. Contains (both q.y q.x) v) (sym e) c))
 in_pairs both (p ∷ ps) x y v (inr (suc k, lt, e)) c =
-    in_right (both p.x p.y) (both p.y p.x ++ pairs_from both ps) v (in_right (both p.y p.x) (pairs_from both ps) v (in_pairs both ps x y v (inr (k, omega arith, e)) c))
+    Contains-append_right (both p.x p.y) (both p.y p.x ++ pairs_from both ps) v (Contains-append_right (both p.y p.x) (pairs_from both ps) v (in_pairs both ps x y v (inr (k, omega arith, e)) c))
 
 bound_listed : (k c : ℕ) (w : Partial) (ps : List ℕ) → Fits w ps → slice_get ps k ≡ Some c → (v : Partial) × Contains (bound_at k c w) v × Fits v ps
 bound_listed k c [] [] f e = cc

@@ -4,7 +4,7 @@ use Rattle.std.specs.List.{IsDistinct, list_any, flat_map}
 use Rattle.std.specs.List.Sorted.{IsPermutation, IsNonDecreasingBy}
 use Rattle.std.specs.Str.{bytes_eq}
 use Rattle.std.proofs.lemmas.List.{length-map}
-use Rattle.std.proofs.lemmas.List.Elements.{recursion_from_All, All-contains, All-from_recursion, All-map}
+use Rattle.std.proofs.lemmas.List.Elements.{recursion_from_All, All-contains, All-from_recursion, All-map, Contains-append_left, Contains-append_right}
 use Rattle.std.proofs.Math.Seq.{take-append_seam}
 use Rattle.std.proofs.lemmas.Bool.{cases_lt}
 use Rattle.lw_dag.proofs.Sorting.{greatest-above}
@@ -15,7 +15,7 @@ use Rattle.lw_dag.specs.Ordering.{greatest}
 use Rattle.lw_dag.proofs.Numbering.{number_at, number_below, name_again, none_unknown, none_split, distinct_moved}
 use Rattle.lw_laws.specs.Networks.{AreValues, IsInOrder, agrees, row_value}
 use Rattle.lw_laws.specs.Networks as laws
-use Rattle.lw_laws.proofs.Lists.{contains_all, in_left, in_right, slice_get_some}
+use Rattle.lw_laws.proofs.Lists.{contains_all, slice_get_some}
 use Rattle.lw_laws.proofs.Numbers.{slice_get_map, slice_get_map_back}
 use Rattle.lw_net.specs.declared.draft.Draft.{Draft}
 use Rattle.lw_net.specs.declared.draft.DraftNode.{DraftNode}
@@ -95,8 +95,8 @@ module _ (draft : Draft) (distinct : IsDistinct bytes_eq (signals_of draft)) (ne
     where
       in_flat : (nodes : List DraftNode) (node : DraftNode) (name : List ℕ) → Contains nodes node → Contains node.fanins name → Contains (flat_map fanins_of nodes) name
       in_flat [] node name (k, lt, e) c = absurd (omega (arith, lt))
-      in_flat (first ∷ nodes) node name (zero, lt, e) c = in_left first.fanins (flat_map fanins_of nodes) name (subst (λ (d : DraftNode). Contains d.fanins name) (sym e) c)
-      in_flat (first ∷ nodes) node name (suc k, lt, e) c = in_right first.fanins (flat_map fanins_of nodes) name (in_flat nodes node name (k, omega (arith, lt), e) c)
+      in_flat (first ∷ nodes) node name (zero, lt, e) c = Contains-append_left first.fanins (flat_map fanins_of nodes) name (subst (λ (d : DraftNode). Contains d.fanins name) (sym e) c)
+      in_flat (first ∷ nodes) node name (suc k, lt, e) c = Contains-append_right first.fanins (flat_map fanins_of nodes) name (in_flat nodes node name (k, omega (arith, lt), e) c)
 
   -- A fan-in stands before its node.
 

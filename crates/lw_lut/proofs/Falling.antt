@@ -3,9 +3,10 @@ use Rattle.std.proofs.Common.{◌≡◌, ◌+◌, ◌<◌, ℕ, zero, suc, Bool,
 use Rattle.std.specs.List.{IsDistinct}
 use Rattle.std.specs.Str.{bytes_eq}
 use Rattle.std.proofs.lemmas.Option.{slice_get-get_or}
+use Rattle.std.proofs.lemmas.List.Elements.{Contains-append_right}
 use Rattle.lw_facts.proofs.Lists.{bytes_eq_same, bytes_eq_is, contains_map, at_contained}
 use Rattle.lw_dag.specs.Ordering.{greatest}
-use Rattle.lw_laws.proofs.Lists.{all_contains, in_right}
+use Rattle.lw_laws.proofs.Lists.{all_contains}
 use Rattle.lw_net.specs.declared.draft.Draft.{Draft}
 use Rattle.lw_net.specs.declared.draft.DraftNode.{DraftNode}
 use Rattle.lw_net.specs.Closing.{Reaches, HasNoCycle, IsClosed, signals_of, out_of, first_undefined, by_depth, network_in}
@@ -27,7 +28,7 @@ distinct_parts (x ∷ xs) ys d =
     clash y ne e = let both : true ≡ false = sym (bytes_eq_same x y e) ∙ ne in cc
 
     first : (name : Name) → Contains (x ∷ xs) name → Contains ys name → (Contains xs name → Contains ys name → ⊥) → ⊥
-    first name (zero, lt, e) b apart = clash name (all_contains (λ y. bytes_eq x y ≡ false) (xs ++ ys) name d.0 (in_right xs ys name b)) e
+    first name (zero, lt, e) b apart = clash name (all_contains (λ y. bytes_eq x y ≡ false) (xs ++ ys) name d.0 (Contains-append_right xs ys name b)) e
     first name (suc k, lt, e) b apart = apart (k, omega (arith, lt), e) b
 
 -- the node that drives a name

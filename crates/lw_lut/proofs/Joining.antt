@@ -2,7 +2,7 @@
 use Rattle.std.proofs.lemmas.Bool.{cases_eq}
 use Rattle.std.proofs.Common.{◌≡◌, ◌≤◌, ◌⊎◌, inl, inr, subst₂, ℕ, zero, suc, ◌+◌, ◌*◌, ◌/◌, ◌%◌, ◌^◌, ◌<◌, Bool, true, false, not, ◌&&◌, List, ◌∷◌, ◌++◌, map, length, refl, sym, ap, ap₂, ◌∙◌, subst, arith, length-append}
 use Rattle.std.proofs.lemmas.List.{map-append}
-use Rattle.std.proofs.lemmas.Nat.{pow-add}
+use Rattle.std.proofs.lemmas.Nat.{pow-add, div-mul-add, mod-mul-add}
 use Rattle.std.proofs.Math.Nat.{mul-le-mul_right}
 use Rattle.std.specs.List.{range_with_len}
 use Rattle.std.proofs.lemmas.Option.{get_or_from_slice_get}
@@ -85,12 +85,6 @@ turned_twice false b = refl
 numbers_append : (xs ys : List ClassId) → numbers (xs ++ ys) ≡ numbers xs ++ numbers ys
 numbers_append xs ys = map-append (λ (c : ClassId). c.0) xs ys
 
-pub quotient : (i j m : ℕ) → j < m → (i * m + j) / m ≡ i
-quotient i j m lt = grind arith
-
-remainder : (i j m : ℕ) → j < m → (i * m + j) % m ≡ j
-remainder i j m lt = grind arith
-
 within : (i j a b : ℕ) → i < 2 ^ a → j < 2 ^ b → i * 2 ^ b + j < 2 ^ (a + b)
 within i j a b p q =
     let room : suc i * 2 ^ b ≤ 2 ^ a * 2 ^ b = mul-le-mul_right (2 ^ b) p in
@@ -113,7 +107,7 @@ module _ (g : Graph) (c x y : ℕ) (holds : HoldsPair g c x y) (a b : PlainCut) 
       let at : spelled v (numbers (a.pins ++ b.pins)) ≡ i * 2 ^ m + j = ap (spelled v) (numbers_append a.pins b.pins) ∙ (spelled_join v (numbers a.pins) (numbers b.pins) ∙ ap (λ k. i * 2 ^ k + j) (long b.pins)) in
       let set = packed_set (joined_value a x b y c) 0 (2 ^ (n + m)) (i * 2 ^ m + j) (within i j n m p q) in
       let zero_in : 0 + (i * 2 ^ m + j) ≡ i * 2 ^ m + j = omega arith in
-      let value : joined_value a x b y c (i * 2 ^ m + j) ≡ turned (is_odd c) (not (turned (is_odd x) (is_set a.bits i) && turned (is_odd y) (is_set b.bits j))) = rw (quotient i j (2 ^ m) q, remainder i j (2 ^ m) q) refl in
+      let value : joined_value a x b y c (i * 2 ^ m + j) ≡ turned (is_odd c) (not (turned (is_odd x) (is_set a.bits i) && turned (is_odd y) (is_set b.bits j))) = rw (div-mul-add i j (2 ^ m) q, mod-mul-add i j (2 ^ m) q) refl in
       ap (is_set (joined_bits a x b y c)) at ∙ (set ∙ (ap (joined_value a x b y c) zero_in ∙ value))
 
   pub joined_cut : IsCutAt g x (is_odd x) a → IsCutAt g y (is_odd y) b → IsCutAt g c (is_odd c) (record { pins = a.pins ++ b.pins; bits = joined_bits a x b y c })

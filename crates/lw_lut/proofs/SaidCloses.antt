@@ -4,14 +4,14 @@ use Rattle.std.specs.List.{AllByRecursion}
 use Rattle.std.proofs.lemmas.Bool.{and_parts}
 use Rattle.std.proofs.lemmas.Bool.Decides.{nat_tests}
 use Rattle.std.proofs.lemmas.List.{length-map}
-use Rattle.std.proofs.lemmas.List.Elements.{All-from_recursion}
+use Rattle.std.proofs.lemmas.List.Elements.{All-from_recursion, Contains-append_right}
 use Rattle.std.proofs.lemmas.Option.{get_or_from_slice_get, slice_get_within}
 use Rattle.lw_facts.proofs.Lists.{contained_in_map, contains_map, at_contained}
 use Rattle.lw_dag.specs.Names.{is_among, number_in}
 use Rattle.lw_dag.specs.Ordering.{greatest}
 use Rattle.lw_dag.proofs.Numbering.{number_at, among_contains}
 use Rattle.lw_laws.specs.Graphs.{Graph}
-use Rattle.lw_laws.proofs.Lists.{in_right, contains_all}
+use Rattle.lw_laws.proofs.Lists.{contains_all}
 use Rattle.lw_pool.specs.declared.id.ClassId.{ClassId}
 use Rattle.lw_net.specs.declared.draft.DraftNode.{DraftNode}
 use Rattle.lw_net.specs.Closing.{IsClosed, out_of}
@@ -77,7 +77,7 @@ module _ (g : Graph) (most : ℕ) (depths : List (Option ℕ)) (n : PlainTableNe
           omega (arith, high, low, less)
         where
           out_class : (u : Table) → Contains n.tables u → Contains (net_classes n) u.out.0
-          out_class u k = in_right (numbers n.inputs) (table_classes n.tables) u.out.0 (contains_map (λ (t : Table). t.out.0) n.tables u k)
+          out_class u k = Contains-append_right (numbers n.inputs) (table_classes n.tables) u.out.0 (contains_map (λ (t : Table). t.out.0) n.tables u k)
 
       of_wire : IsWire n n.ports.outputs n.ports.roots node → rank name < rank node.out
       of_wire w =

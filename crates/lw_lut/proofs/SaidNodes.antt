@@ -2,9 +2,8 @@
 use Rattle.std.proofs.Common.{◌≡◌, ◌⊎◌, inl, inr, ℕ, zero, suc, Bool, true, false, List, [], ◌∷◌, ◌++◌, map, codes, Some, Contains, slice_get, if◌then◌else◌, refl, ap, ◌∙◌, arith}
 use Rattle.std.proofs.lemmas.Option.{same_Some}
 use Rattle.std.specs.Str.{bytes_eq}
-use Rattle.std.proofs.lemmas.List.Elements.{Contains-append_cases}
+use Rattle.std.proofs.lemmas.List.Elements.{Contains-append_cases, Contains-append_left, Contains-append_right}
 use Rattle.lw_facts.proofs.Lists.{contains_map, contained_in_map}
-use Rattle.lw_laws.proofs.Lists.{in_left, in_right}
 use Rattle.lw_pool.specs.declared.id.ClassId.{ClassId}
 use Rattle.lw_net.specs.declared.draft.DraftNode.{DraftNode}
 use Rattle.lw_lut.specs.Nets.{PlainTableNet}
@@ -56,7 +55,7 @@ module _ (n : PlainTableNet) where
       by_test : (b : Bool) → b ≡ false → wire_node n o r ≡ wire_node n output root → Contains ((if b then [] else wire_node n o r ∷ []) ++ wire_nodes n outputs roots) (wire_node n output root)
       by_test true e same = cc
       by_test false e same = (zero, omega arith, same)
-  wire_there (o ∷ outputs) (r ∷ roots) (suc k) output root at rt ne = in_right (if bytes_eq (net_name n r.0) o then [] else wire_node n o r ∷ []) (wire_nodes n outputs roots) (wire_node n output root) (wire_there outputs roots k output root at rt ne)
+  wire_there (o ∷ outputs) (r ∷ roots) (suc k) output root at rt ne = Contains-append_right (if bytes_eq (net_name n r.0) o then [] else wire_node n o r ∷ []) (wire_nodes n outputs roots) (wire_node n output root) (wire_there outputs roots k output root at rt ne)
 
   pub node_cases : (node : DraftNode) → Contains (draft_said n).nodes node → IsTables n node ⊎ IsWire n n.ports.outputs n.ports.roots node
   node_cases node among = elim (Contains-append_cases (map (table_node n) n.tables) (wire_nodes n n.ports.outputs n.ports.roots) node among) [
@@ -65,7 +64,7 @@ module _ (n : PlainTableNet) where
   ]
 
   pub table_in : (t : Table) → Contains n.tables t → Contains (draft_said n).nodes (table_node n t)
-  table_in t c = in_left (map (table_node n) n.tables) (wire_nodes n n.ports.outputs n.ports.roots) (table_node n t) (contains_map (table_node n) n.tables t c)
+  table_in t c = Contains-append_left (map (table_node n) n.tables) (wire_nodes n n.ports.outputs n.ports.roots) (table_node n t) (contains_map (table_node n) n.tables t c)
 
   pub wire_in : (k : ℕ) (output : List ℕ) (root : ClassId) → slice_get n.ports.outputs k ≡ Some output → slice_get n.ports.roots k ≡ Some root → bytes_eq (net_name n root.0) output ≡ false → Contains (draft_said n).nodes (wire_node n output root)
-  wire_in k output root at rt ne = in_right (map (table_node n) n.tables) (wire_nodes n n.ports.outputs n.ports.roots) (wire_node n output root) (wire_there n.ports.outputs n.ports.roots k output root at rt ne)
+  wire_in k output root at rt ne = Contains-append_right (map (table_node n) n.tables) (wire_nodes n n.ports.outputs n.ports.roots) (wire_node n output root) (wire_there n.ports.outputs n.ports.roots k output root at rt ne)

@@ -3,11 +3,11 @@ use Rattle.std.proofs.Common.{◌≡◌, inl, inr, ℕ, zero, suc, Bool, true, f
 use Rattle.std.specs.List.{IsDistinct, AllByRecursion, flat_map}
 use Rattle.std.specs.Str.{bytes_eq}
 use Rattle.std.proofs.lemmas.List.{length-map, map-append}
-use Rattle.std.proofs.lemmas.List.Elements.{Contains-append_cases}
+use Rattle.std.proofs.lemmas.List.Elements.{Contains-append_cases, Contains-append_left, Contains-append_right}
 use Rattle.std.proofs.lemmas.Option.{slice_get_within, same_Some}
 use Rattle.lw_facts.proofs.Lists.{bytes_eq_is, bytes_eq_same, contains_map, contained_in_map, contained_at, at_contained}
 use Rattle.lw_dag.specs.Names.{is_among, unknown_in}
-use Rattle.lw_laws.proofs.Lists.{all_append, contains_all, in_left, in_right, slice_get_some}
+use Rattle.lw_laws.proofs.Lists.{all_append, contains_all, slice_get_some}
 use Rattle.lw_laws.proofs.Numbers.{slice_get_map, slice_get_map_back}
 use Rattle.lw_pool.specs.declared.id.ClassId.{ClassId}
 use Rattle.lw_net.specs.declared.draft.DraftNode.{DraftNode}
@@ -124,7 +124,7 @@ module _ (n : PlainTableNet) (apart : AreNamedApart n) (kept : IsTableNet n) whe
   pub net_known : (c : ℕ) → Contains (net_classes n) c → Contains (signals_of (draft_said n)) (net_name n c)
   net_known c among =
       let (i, at, named) = net_place n apart c among in
-      subst (λ names. Contains names (net_name n c)) (sym signals_are) (in_left (net_names n) (map out_of wires) (net_name n c) (at_contained (net_names n) i (net_name n c) named))
+      subst (λ names. Contains names (net_name n c)) (sym signals_are) (Contains-append_left (net_names n) (map out_of wires) (net_name n c) (at_contained (net_names n) i (net_name n c) named))
 
   -- each fan-in is the net of a class
   pub fanin_class : (node : DraftNode) (name : Name) → Contains (draft_said n).nodes node → Contains node.fanins name → (c : ℕ) × Contains (net_classes n) c × (net_name n c ≡ name)
@@ -150,7 +150,7 @@ module _ (n : PlainTableNet) (apart : AreNamedApart n) (kept : IsTableNet n) whe
     where
       by_test : (k : ℕ) (root : ClassId) → slice_get n.ports.outputs k ≡ Some output → slice_get n.ports.roots k ≡ Some root → (b : Bool) → bytes_eq (net_name n root.0) output ≡ b → Contains (signals_of (draft_said n)) output
       by_test k root at rt true e = subst (Contains (signals_of (draft_said n))) (bytes_eq_is (net_name n root.0) output e) (net_known root.0 (kept.roots root.0 (contains_map (λ (r : ClassId). r.0) n.ports.roots root (at_contained n.ports.roots k root rt))))
-      by_test k root at rt false e = in_right n.ports.inputs (map out_of (draft_said n).nodes) output (contains_map out_of (draft_said n).nodes (wire_node n output root) (wire_in n k output root at rt e))
+      by_test k root at rt false e = Contains-append_right n.ports.inputs (map out_of (draft_said n).nodes) output (contains_map out_of (draft_said n).nodes (wire_node n output root) (wire_in n k output root at rt e))
 
   pub said_defined : first_undefined (draft_said n) ≡ None
   said_defined = all_known (signals_of (draft_said n)) (flat_map fanins_of (draft_said n).nodes ++ n.ports.outputs) (λ name c.

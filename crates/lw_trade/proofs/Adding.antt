@@ -3,7 +3,7 @@ use Rattle.std.proofs.Common.{◌≡◌, ℕ, zero, suc, ◌+◌, ◌-◌, ◌<�
 use native.Mathlib.Decide.{ℕ_discrete}
 use Rattle.std.specs.List.Sorted.{IsPermutation}
 use Rattle.std.proofs.lemmas.List.Sorted.{Contains-permutation, IsPermutation-sym, length_permutation}
-use Rattle.std.proofs.lemmas.Option.{same_Some, slice_get-map}
+use Rattle.std.proofs.lemmas.Option.{same_Some, slice_get-map, slice_get_within}
 use Rattle.std.proofs.lemmas.Bool.{cases_lt}
 use Rattle.lw_trade.specs.declared.choices.Row.{Row}
 use Rattle.lw_trade.specs.Areas.{total}
@@ -15,7 +15,7 @@ use Rattle.lw_trade.specs.Rows.{plain_row, plain_rows}
 use Rattle.lw_trade.specs.Uses.{AreUses, turns_of}
 use Rattle.lw_trade.specs.declared.uses.Uses.{Uses}
 use Rattle.lw_trade.specs.Settling.{Queued, Waits, Turns, turns, Comes, AreGroupsAdded, AreInTime, IsLetWait, NoneComes}
-use Rattle.lw_trade.proofs.Lists.{get_in, get_some, got, read_at}
+use Rattle.lw_trade.proofs.Lists.{get_some, got, read_at}
 use Rattle.lw_trade.proofs.Stepping.{in_tail, in_cons, waits_back}
 
 -- The groups from a bound on come, and the next one is the last before it.
@@ -54,7 +54,7 @@ module _ (classes delays : List ℕ) (class time : ℕ) (old : Queued) where
     only = λ t g w. inl w;
     bound = length classes;
     last = last;
-    done = λ g d le at bt within. let lt = get_in classes g class bt in absurd (omega arith);
+    done = λ g d le at bt within. let lt = slice_get_within classes g class bt in absurd (omega arith);
   }
 
   -- one group more, which comes now, or is over the horizon
@@ -70,7 +70,7 @@ module _ (classes delays : List ℕ) (class time : ℕ) (old : Queued) where
     where
       from : (t g : ℕ) → Waits q t g ⊎ ((t ≡ time + d) × (g ≡ place)) → Waits old t g ⊎ ((time ≤ t) × (g < length delays))
       from t g (inl w) = is.only t g w
-      from t g (inr (e, f)) = let lt = get_in delays place d at in inr (omega arith, omega arith)
+      from t g (inr (e, f)) = let lt = slice_get_within delays place d at in inr (omega arith, omega arith)
 
       done : (g e : ℕ) → place ≤ g → slice_get delays g ≡ Some e → slice_get classes g ≡ Some class → time + e ≤ old.horizon → Dec (g ≡ place) → Waits q' (time + e) g
       done g e le et bt within (yes f) =
@@ -113,7 +113,7 @@ module _ (s : Task) (choices : List Choice) (u : Uses) (now class : ℕ) (coming
 
   pub groups_added : (n j : ℕ) (x : Choice) → slice_get choices n ≡ Some x → HasPinAt x.part j class → now + delay_at s x.part j ≤ coming.horizon → Comes (turns_of u coming' looked) (now + delay_at s x.part j) n
   groups_added n j x at pn le =
-      let found = are.pins.all n j class x (inl (get_in choices n x at)) at pn in
+      let found = are.pins.all n j class x (inl (slice_get_within choices n x at)) at pn in
       inr (found.place, found.group, found.member, found.owner, added.added found.group (delay_at s x.part j) found.group_is.1 found.group_is.0 le)
 
   pub groups_in_time : AreInTime now (length choices) (turns_of u coming looked) → AreInTime now (length choices) (turns_of u coming' looked)

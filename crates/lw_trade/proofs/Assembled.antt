@@ -4,7 +4,7 @@ use Rattle.std.specs.List.{AllByRecursion, range_with_len}
 use Rattle.std.specs.List.Sorted.{IsPermutation}
 use Rattle.std.proofs.lemmas.List.{get_or_past, length-map}
 use Rattle.std.proofs.lemmas.List.Elements.{All-map}
-use Rattle.std.proofs.lemmas.Option.{get_or_from_slice_get, same_Some}
+use Rattle.std.proofs.lemmas.Option.{get_or_from_slice_get, same_Some, slice_get_within}
 use Rattle.std.proofs.lemmas.Bool.{cases_lt}
 use Rattle.lw_pool.specs.declared.id.CellId.{CellId}
 use Rattle.lw_pool.specs.declared.id.ClassId.{ClassId}
@@ -32,7 +32,7 @@ use Rattle.lw_trade.specs.Walks.{IsRootNet, IsUsed, IsWalk}
 use Rattle.lw_trade.specs.Walks.IsUsed.{by_root, by_pin as used_pin}
 use Rattle.lw_trade.proofs.Cells.{cell_in}
 use Rattle.lw_trade.proofs.Grouped.{get_map, map_get}
-use Rattle.lw_trade.proofs.Lists.{at_contained, contained_at, get_in, get_some, got}
+use Rattle.lw_trade.proofs.Lists.{at_contained, contained_at, get_some, got}
 use Rattle.lw_trade.proofs.Lowest.{root_net}
 use Rattle.lw_trade.proofs.Moved.{placed_low, root_at, pin_count, no_site, moved_sites, site_in, root_placed, pins_placed}
 use Rattle.lw_trade.proofs.Places.{order_length, order_low, stands_there}
@@ -85,12 +85,12 @@ module _ (s : Task) (t : Targets) (curves : CurveLists) (c : AreCurvesFor s t cu
 
   node_low : (j i : ℕ) → slice_get order j ≡ Some i → i < length sites
   node_low j i it =
-      let low = order_low (length sites) order moved j 0 (get_in order j i it) in
+      let low = order_low (length sites) order moved j 0 (slice_get_within order j i it) in
       let same = get_or_from_slice_get order j i 0 it in
       omega (arith, low, same)
 
   place_is : (j i : ℕ) → slice_get order j ≡ Some i → slice_index_or places i 0 ≡ j
-  place_is j i it = ap (λ x. slice_index_or places x 0) (sym (get_or_from_slice_get order j i 0 it)) ∙ placed.at j (get_in order j i it)
+  place_is j i it = ap (λ x. slice_index_or places x 0) (sym (get_or_from_slice_get order j i 0 it)) ∙ placed.at j (slice_get_within order j i it)
 
   -- where a node stands
   there : (i : ℕ) → i < length sites → slice_get order (slice_index_or places i 0) ≡ Some i
@@ -100,7 +100,7 @@ module _ (s : Task) (t : Targets) (curves : CurveLists) (c : AreCurvesFor s t cu
 
   made_of_point : (i : ℕ) (h : Site) → slice_get sites i ≡ Some h → IsGateOfPoint s curves.choices held in_order h (made_gate i)
   made_of_point i h at =
-      let lt = get_in sites i h at in
+      let lt = slice_get_within sites i h at in
       let (cell, bt) = get_some cells i (omega (arith, lt, walk.one_cell)) in
       let is : IsGateOfPoint s curves.choices held sites h (record { cell = (slice_index_or cells i (record { 0 = 0 })).0; pins = fanins_at graph i }) = subst (λ (x : CellId). IsGateOfPoint s curves.choices held sites h (record { cell = x.0; pins = fanins_at graph i })) (sym (get_or_from_slice_get cells i cell (record { 0 = 0 }) bt)) (walk.gates i h cell at bt) in
       record {
@@ -163,8 +163,8 @@ module _ (s : Task) (t : Targets) (curves : CurveLists) (c : AreCurvesFor s t cu
         let (own, net, dt, et, is) = root_at s held sites t.roots t.times nets walk.root_nets k root at in
         let same : own ≡ time = same_Some own time (sym dt ∙ bt) in
         let e = net_is k net port et ct in
-        let low : root.0 < length s.graph.pairs = subst (λ (x : ClassId). x.0 < length s.graph.pairs) (get_or_from_slice_get t.roots k root root at) (fit.in_range k root (get_in t.roots k root at)) in
-        let within : time.0 ≤ c.horizon = subst (λ (x : Micro). x.0 ≤ c.horizon) (get_or_from_slice_get t.times k time time bt) (c.in_time k time (get_in t.times k time bt)) in
+        let low : root.0 < length s.graph.pairs = subst (λ (x : ClassId). x.0 < length s.graph.pairs) (get_or_from_slice_get t.roots k root root at) (fit.in_range k root (slice_get_within t.roots k root at)) in
+        let within : time.0 ≤ c.horizon = subst (λ (x : Micro). x.0 ≤ c.horizon) (get_or_from_slice_get t.times k time time bt) (c.in_time k time (slice_get_within t.times k time bt)) in
         let there = subst (λ (x : Micro). IsRootNet s held sites root.0 x.0 net) same is in
         subst (HasLeastAreaBy s (plain n) root.0 time.0) (sym e) (root_net s c.horizon curves c.ways c.are in_order (plain n) built root.0 time.0 (placed_net m places net) low within (root_placed s sites order places moved placed held root.0 time.0 net there))
 
@@ -175,7 +175,7 @@ module _ (s : Task) (t : Targets) (curves : CurveLists) (c : AreCurvesFor s t cu
       where
         by_net : (net : ℕ) (exact : Bool) (l : Held) → port.net.0 ≡ placed_net m places net → l.spot.class ≡ root.0 → IsNetOfPoint s sites exact l net → slice_get s.graph.leaves port.net.0 ≡ Some root.0
         by_net net exact l e class (inl (lt, start)) =
-            ap (slice_get s.graph.leaves) (e ∙ placed_input m places net (get_in s.graph.leaves net l.spot.class lt)) ∙ (lt ∙ ap Some class)
+            ap (slice_get s.graph.leaves) (e ∙ placed_input m places net (slice_get_within s.graph.leaves net l.spot.class lt)) ∙ (lt ∙ ap Some class)
         by_net net exact l e class (inr (none, j, jt, f)) = absurd (none i (leaf ∙ ap Some (sym class)))
 
     used_needed : (net : ℕ) → IsUsed m graph nets net → IsNeeded (output_nets n) (plain n) (placed_net m places net)
@@ -191,7 +191,7 @@ module _ (s : Task) (t : Targets) (curves : CurveLists) (c : AreCurvesFor s t cu
             by_pin p (made_gate j) (subst (IsNeeded (output_nets n) (plain n)) same needed) (gate_there p j (there j (omega (arith, lt, walk.one_row)))) (at_contained (map (placed_net m places) (fanins_at graph j)) k (placed_net m places net) (get_map (placed_net m places) (fanins_at graph j) k net at))
         by_row (k, at) needed (inr past) =
             let e = ap length (get_or_past graph j [] past) in
-            let lt = get_in (fanins_at graph j) k net at in
+            let lt = slice_get_within (fanins_at graph j) k net at in
             absurd (omega (arith, e, lt))
 
     pub all_needed : (j : ℕ) (g : Gate) → IsGate (plain n) j g → IsNeeded (output_nets n) (plain n) (n.inputs + j)
@@ -251,7 +251,7 @@ module _ (s : Task) (t : Targets) (curves : CurveLists) (c : AreCurvesFor s t cu
             let (parts, bt) = get_some s.cells cell (cell_in s.cells cell (length is.pins) may.pins) in
             let a = pins_at s.cells cell (length is.pins) parts bt may.pins in
             let b = pin_count s held in_order h.exact h.point.spot.time (delays_of (timing s).delays cell) is.pins (made_gate i).pins is.nets in
-            let kept = (subst Rattle.lw_genlib.specs.Cells.IsListed (get_or_from_slice_get s.cells cell parts parts bt) (lib.each cell parts (get_in s.cells cell parts bt))).kept.delays in
+            let kept = (subst Rattle.lw_genlib.specs.Cells.IsListed (get_or_from_slice_get s.cells cell parts parts bt) (lib.each cell parts (slice_get_within s.cells cell parts bt))).kept.delays in
             let many = length-map (fanins_at graph i) (placed_net m places) in
             let own : length (gate_at i).pins ≡ length (fanins_at graph i) = length-map (fanins_at graph i) (λ (p : ℕ). record { 0 = placed_net m places p }) in
             record { cell = parts; at = bt; pins = omega (arith, a, b, kept, many, own) }

@@ -1,11 +1,11 @@
 -- The last of points that rise, by the number of those that come by a time.
 use Rattle.std.proofs.Common.{◌≡◌, ℕ, zero, suc, ◌+◌, ◌-◌, ◌<◌, ◌≤◌, ◌⊎◌, inl, inr, Bool, true, false, nat_le, length, List, Some, slice_get, slice_index_or, sym, ◌∙◌, subst, arith}
 use Rattle.std.specs.List.Sorted.{IsPartitionedBy, IsPartitionPoint}
-use Rattle.std.proofs.lemmas.Option.{same_Some}
+use Rattle.std.proofs.lemmas.Option.{same_Some, slice_get_within}
 use Rattle.std.proofs.lemmas.Bool.{cases_lt}
 use Rattle.lw_trade.specs.declared.point.Point.{Point}
 use Rattle.lw_trade.specs.Lasts.{ArePointsRising, IsLastIn}
-use Rattle.lw_trade.proofs.Lists.{get_in, got}
+use Rattle.lw_trade.proofs.Lists.{got}
 
 abbrev pub is_by : ℕ → Point → Bool
 is_by by p = nat_le p.time.0 by
@@ -39,7 +39,7 @@ module _ (ps : List Point) (delay time by count : ℕ) (split : by + delay ≡ t
   below_count j q at le = by_place (cases_lt j count)
     where
       lt : j < length ps
-      lt = get_in ps j q at
+      lt = slice_get_within ps j q at
 
       by_place : (j < count) ⊎ (count ≤ j) → j < count
       by_place (inl l) = l

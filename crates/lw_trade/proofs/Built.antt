@@ -1,7 +1,7 @@
 -- Nets that are built from points stand for covers by the points' times and of their areas.
 use Rattle.std.proofs.Common.{◌≡◌, ℕ, zero, suc, ◌+◌, ◌<◌, ◌≤◌, Bool, true, inl, inr, min, map, length, List, [], ◌∷◌, ◌++◌, Some, slice_get, slice_index_or, refl, ap, sym, ◌∙◌, subst, subst₂, arith}
 use Rattle.std.specs.List.{AllZip}
-use Rattle.std.proofs.lemmas.Option.{same_Some}
+use Rattle.std.proofs.lemmas.Option.{same_Some, slice_get_within}
 use Rattle.lw_facts.proofs.Lists.{index_at}
 use Rattle.lw_laws.specs.Costs.{cost_of, costs_of}
 use Rattle.lw_laws.specs.Covers.{Cover, Covers, tree_of, latest, start_of, delays_of, time_of, times_of}
@@ -20,7 +20,7 @@ use Rattle.lw_trade.specs.Groups.{CurveLists, HaveWays, point_in}
 use Rattle.lw_trade.specs.Points.{Task, timing, IsCoverBy, IsPoint, AreCurves}
 use Rattle.lw_trade.specs.Trades.{Site, IsNetOfPoint, IsGateOfPoint, HavePinNets, IsBuilt, IsCoverOfPoint, BuiltNetsAreCovers}
 use Rattle.lw_trade.proofs.Grouped.{get_map}
-use Rattle.lw_trade.proofs.Lists.{get_in, get_some, got, at_contained}
+use Rattle.lw_trade.proofs.Lists.{get_some, got, at_contained}
 
 abbrev tail : List ℕ → List ℕ
 tail [] = []
@@ -62,7 +62,7 @@ module _ (s : Task) (choices : List Choice) (are : AreListedChoices s choices) (
     cover_soon (wire i) own h net (inr (none, j, at, e)) (f, in_range) =
         absurd (omega (arith, e, f, in_range, built.inputs))
     cover_soon (gate p ks) own h net (inl (leaf, start)) (j, g, gt, f, cell, all) =
-        let lt = get_in s.graph.leaves net h.spot.class leaf in
+        let lt = slice_get_within s.graph.leaves net h.spot.class leaf in
         absurd (omega (arith, f, lt, built.inputs))
     cover_soon (gate p ks) own h net (inr (none, i, at, e)) (j, g, gt, f, cell, all) =
         let b = gate_at own h i j g net at e f gt in
@@ -90,7 +90,7 @@ module _ (s : Task) (choices : List Choice) (are : AreListedChoices s choices) (
       cover_low : (k : Cover) (h : Held) (net : ℕ) → IsHeld held h → IsNetOfPoint s sites true h net → StandsFor n k net → cost_of (area_cost s.cells) k ≤ h.spot.area
       cover_low (wire i) h net in' net_of stand = omega arith
       cover_low (gate p ks) h net in' (inl (leaf, start)) (j, g, gt, f, cell, all) =
-          let lt = get_in s.graph.leaves net h.spot.class leaf in
+          let lt = slice_get_within s.graph.leaves net h.spot.class leaf in
           absurd (omega (arith, f, lt, built.inputs))
       cover_low (gate p ks) h net in' (inr (none, i, at, e)) (j, g, gt, f, cell, all) =
           let b = gate_at true h i j g net at e f gt in
@@ -127,7 +127,7 @@ module _ (s : Task) (choices : List Choice) (are : AreListedChoices s choices) (
   class_is : (own : Bool) (h : Held) (net : ℕ) → IsNetOfPoint s sites own h net → class_at net ≡ h.spot.class
   unfolding class_at
   class_is own h net (inl (leaf, start)) =
-      index_left s.graph.leaves (map class_of sites) net (get_in s.graph.leaves net h.spot.class leaf) ∙ index_at s.graph.leaves net h.spot.class leaf
+      index_left s.graph.leaves (map class_of sites) net (slice_get_within s.graph.leaves net h.spot.class leaf) ∙ index_at s.graph.leaves net h.spot.class leaf
   class_is own h net (inr (none, j, at, e)) =
       index_right s.graph.leaves (map class_of sites) net j h.spot.class e (get_map class_of sites j (record { point = h; exact = own }) at)
 
@@ -157,7 +157,7 @@ module _ (s : Task) (choices : List Choice) (are : AreListedChoices s choices) (
 
   gate_class : (j : ℕ) (g : Gate) → IsGate n j g → IsMatchAt s.graph (area_cost s.cells).pin_counts s.patterns (class_at (n.inputs + j)) g.cell (map class_at g.pins)
   gate_class j g gt =
-      let lt = get_in n.gates j g gt in
+      let lt = slice_get_within n.gates j g gt in
       let (site, at) = get_some sites j (omega (arith, lt, built.one_each)) in
       let b = built.gates j site g at gt in
       let class = (given site.point b.class (by_gate g.cell b.pins) (built.sites_are j site at) b.chosen).1 in
@@ -170,9 +170,9 @@ module _ (s : Task) (choices : List Choice) (are : AreListedChoices s choices) (
 
   in_range : (own : Bool) (h : Held) (net : ℕ) → IsNetOfPoint s sites own h net → net < n.inputs + length n.gates
   in_range own h net (inl (leaf, start)) =
-      let lt = get_in s.graph.leaves net h.spot.class leaf in omega (arith, lt, built.inputs)
+      let lt = slice_get_within s.graph.leaves net h.spot.class leaf in omega (arith, lt, built.inputs)
   in_range own h net (inr (none, j, at, e)) =
-      let lt = get_in sites j (record { point = h; exact = own }) at in omega (arith, e, lt, built.one_each, built.inputs)
+      let lt = slice_get_within sites j (record { point = h; exact = own }) at in omega (arith, e, lt, built.one_each, built.inputs)
 
   -- each net stands for a cover by the time of its point
   pub net_cover : (own : Bool) (h : Held) (net : ℕ) → IsNetOfPoint s sites own h net → (k : Cover) × StandsFor n k net × IsCoverBy s h.spot.class h.spot.time k

@@ -1,7 +1,7 @@
 -- What was looked through of a walk makes it a walk.
 use Rattle.std.proofs.Common.{◌≡◌, ℕ, zero, suc, ◌+◌, ◌<◌, ◌≤◌, ◌⊎◌, Bool, true, false, true≢false, inl, inr, length, map, List, [], ◌∷◌, Contains, Option, Some, None, slice_get, slice_index_or, refl, ap, sym, ◌∙◌, subst, subst₂, arith}
 use Rattle.std.proofs.lemmas.List.{length-map}
-use Rattle.std.proofs.lemmas.Option.{same_Some, get_or_from_slice_get}
+use Rattle.std.proofs.lemmas.Option.{same_Some, get_or_from_slice_get, slice_get_within}
 use Rattle.lw_laws.specs.Covers.{delays_of, start_of}
 use Rattle.lw_pool.specs.declared.id.CellId.{CellId}
 use Rattle.lw_pool.specs.declared.id.ClassId.{ClassId}
@@ -24,7 +24,7 @@ use Rattle.lw_trade.specs.Trades.{Site, IsPointBy, IsLastBy, IsNetOfPoint, IsPin
 use Rattle.lw_trade.specs.Walks.{AreInputsTo, IsRootNet, HaveRootNets, IsUsed, IsWalk}
 use Rattle.lw_trade.specs.Walks.IsUsed.{by_root, by_pin}
 use Rattle.lw_trade.proofs.Grouped.{get_map, map_get}
-use Rattle.lw_trade.proofs.Lists.{at_contained, get_in, get_some}
+use Rattle.lw_trade.proofs.Lists.{at_contained, get_some}
 use Rattle.lw_trade.proofs.Placed.{placed_last}
 use Rattle.lw_pool.specs.Numbers.{numbers}
 use Rattle.lw_genlib.proofs.Shared.{delays_at}
@@ -67,7 +67,7 @@ module _ (s : Task) (curves : CurveLists) (ways : HaveWays s curves) (starts : (
   -- an earlier place of a row has an earlier point
   earlier : (c delay time : ℕ) (row : List Held) → IsHeldRow ways.held c row → (place : ℕ) (l : Held) → slice_get row place ≡ Some l → l.spot.time + delay ≤ time → (at : ℕ) → at ≤ place → (k : Held) × (slice_get row at ≡ Some k) × IsPointBy ways.held c delay time k
   earlier c delay time row is place l there in_time at le =
-      let lt = get_in row place l there in
+      let lt = slice_get_within row place l there in
       let (k, kt) = get_some row at (omega (arith, le, lt)) in
       let (held, class) = is.each k (at, kt) in
       (k, kt, record { held_is = held; class_is = class; in_time = by_order k kt (cases_lt at place) })
@@ -92,7 +92,7 @@ module _ (s : Task) (curves : CurveLists) (ways : HaveWays s curves) (starts : (
         own = node.node.exact;
         by = by;
         net_of = inr (
-          λ i leaf. own.none c i none (get_in s.graph.leaves i k.spot.class leaf) (leaf ∙ ap Some by.class_is),
+          λ i leaf. own.none c i none (slice_get_within s.graph.leaves i k.spot.class leaf) (leaf ∙ ap Some by.class_is),
           j,
           get_map site_of nodes j node.node node.at ∙ ap (λ (x : Held). Some (record { point = x; exact = node.node.exact })) (held_is node.node k (record { row = row; row_at = ap (slice_get ways.rows.rows) node.class_is ∙ at; at = k_there })),
           net_at,
@@ -162,7 +162,7 @@ module _ (s : Task) (curves : CurveLists) (ways : HaveWays s curves) (starts : (
 
   module _ (owners : List (Vec ℕ)) (spares : List ℕ) (cells : List CellId) (pins : List (List ℕ)) (nets : List ℕ) (roots : List ClassId) (times : List Micro) (right : IsRightWalk curves inputs (length s.graph.leaves) s.cells roots times nodes owners spares cells pins nets) where
     in_nodes : (j : ℕ) (site : Site) → slice_get sites_of j ≡ Some site → j < length nodes
-    in_nodes j site at = let lt = get_in sites_of j site at in let e = length-map nodes site_of in omega (arith, lt, e)
+    in_nodes j site at = let lt = slice_get_within sites_of j site at in let e = length-map nodes site_of in omega (arith, lt, e)
 
     -- the point of the node with a number, and when it comes
     point_of : (j : ℕ) (is : IsGateRight curves inputs (length s.graph.leaves) s.cells nodes owners spares cells pins nets j) → (h : Held) × IsHeldAt is.node h × (point_in h ≡ is.right.point)

@@ -2,7 +2,7 @@
 use Rattle.std.proofs.Common.{◌≡◌, ◌≢◌, ℕ, zero, suc, ◌+◌, ◌-◌, ◌*◌, ◌<◌, ◌≤◌, ◌⊎◌, inl, inr, length, replicate, List, [], ◌∷◌, ◌++◌, Some, slice_get, slice_index_or, slice_set, length-set, get_or-set_same, get_or-set_other, refl, ap, sym, ◌∙◌, subst, subst₂, arith}
 use native.Mathlib.Decide.{ℕ_discrete}
 use Rattle.std.proofs.lemmas.List.{get_or-replicate}
-use Rattle.std.proofs.lemmas.Option.{same_Some}
+use Rattle.std.proofs.lemmas.Option.{same_Some, slice_get_within}
 use Rattle.lw_facts.proofs.Lists.{index_at}
 use Rattle.lw_laws.specs.Covers.{delays_of}
 use Rattle.lw_genlib.specs.Cells.{CellParts}
@@ -17,7 +17,7 @@ use Rattle.lw_trade.specs.Rows.{plain_row, plain_rows}
 use Rattle.lw_trade.specs.Seen.{seen_at, sum_seen}
 use Rattle.lw_trade.specs.Tallies.{AreFirstTallies, AreTallies, HasFallen, IsFirstTally, IsLowered, bound_of, first_of, own_area, pin_count, unseen}
 use Rattle.lw_trade.specs.Uses.{AreUses, HasUse}
-use Rattle.lw_trade.proofs.Lists.{get_in, get_some, push_cases, set_cases}
+use Rattle.lw_trade.proofs.Lists.{get_some, push_cases, set_cases}
 
 -- each pin has a use
 abbrev pub HaveUses : Uses → ℕ → ℕ → List ℕ → List ℕ → Type 0
@@ -33,7 +33,7 @@ pub uses_of : (s : Task) (choices : List Choice) (u : Uses) → AreUses s choice
 uses_of s choices u are n class cell ps at j p pt =
     let x : Choice = record { class = class; part = gate cell ps } in
     let e : j ≡ 0 + j = omega arith in
-    subst (λ m. HasUse u n m (slice_index_or (delays_of (timing s).delays cell) j 0) p) e (are.pins.all n j p x (inl (get_in choices n x at)) at pt)
+    subst (λ m. HasUse u n m (slice_index_or (delays_of (timing s).delays cell) j 0) p) e (are.pins.all n j p x (inl (slice_get_within choices n x at)) at pt)
 
 -- the pins of a choice from its first one on are its own, each in a group
 abbrev pub AreOwn : Uses → ℕ → ℕ → Type 0
@@ -47,7 +47,7 @@ pins_own s choices u are n class (gate cell ps) at i lt =
     let its = uses_of s choices u are n class cell ps at i p pt in
     let e : first_of u n + (0 + i) ≡ first_of u n + i = omega arith in
     let here = use_place u n (0 + i) (slice_index_or (delays_of (timing s).delays cell) i 0) p its ∙ e in
-    let low = get_in u.links.classes its.group p its.group_is.0 in
+    let low = slice_get_within u.links.classes its.group p its.group_is.0 in
     (subst (λ j. slice_get u.owners.items j ≡ Some n) here its.owner, its.group, subst (λ j. slice_get u.members.classes j ≡ Some its.group) here its.member, let same = are.pins.are.count in omega (arith, low, same))
 
 -- what is told of the pins from a place on, together
@@ -124,7 +124,7 @@ pub record IsFalling (cells : List CellParts) (choices : List Choice) (u : Uses)
 pub lowered_none : (tallies : List Tally) (number fall : ℕ) → length tallies ≤ number → IsLowered tallies tallies number fall
 lowered_none tallies number fall past = record {
   one_each = refl;
-  each = λ n t at. let lt = get_in tallies n t at in inr ((λ e. absurd (omega (arith, e, lt, past))), at);
+  each = λ n t at. let lt = slice_get_within tallies n t at in inr ((λ e. absurd (omega (arith, e, lt, past))), at);
 }
 
 pub lowered_set : (tallies : List Tally) (number fall : ℕ) (o t : Tally) → slice_get tallies number ≡ Some o → t.class.0 ≡ o.class.0 → bound_of t ≤ bound_of o - fall → IsLowered tallies (slice_set tallies number t) number fall
@@ -268,7 +268,7 @@ tallies_first s choices u are seen tallies none firsts = record {
 pub fallen_set : (seen : List ℕ) (group old new fall : ℕ) → slice_get seen group ≡ Some old → old ≤ new + fall → HasFallen group fall seen (slice_set seen group new)
 fallen_set seen group old new fall at le = record {
   here =
-      let lt = get_in seen group old at in
+      let lt = slice_get_within seen group old at in
       let before : slice_index_or seen group 0 ≡ old = index_at seen group old at in
       let after : slice_index_or (slice_set seen group new) group 0 ≡ new = get_or-set_same seen group new 0 lt in
       omega (arith, before, after, le);

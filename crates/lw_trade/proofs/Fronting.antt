@@ -1,7 +1,7 @@
 -- Points by class stay apart when one is added.
 use Rattle.std.proofs.Common.{◌≡◌, ◌≢◌, ℕ, zero, suc, ◌+◌, ◌<◌, ◌≤◌, ◌⊎◌, inl, inr, length, map, replicate, List, [], ◌∷◌, ◌++◌, Some, None, slice_get, slice_set, refl, ap, sym, ◌∙◌, subst, subst₂, arith}
 use native.Mathlib.Decide.{ℕ_discrete}
-use Rattle.std.proofs.lemmas.Option.{same_Some}
+use Rattle.std.proofs.lemmas.Option.{same_Some, slice_get_within}
 use Rattle.std.proofs.lemmas.Bool.{cases_lt}
 use Rattle.lw_trade.specs.declared.found.Found.{Found}
 use Rattle.lw_trade.specs.Areas.{most_area}
@@ -9,7 +9,7 @@ use Rattle.lw_trade.specs.Links.{IsLast}
 use Rattle.lw_trade.specs.Backing.{Held, IsHeld, IsHeldGained, spot_in}
 use Rattle.lw_trade.specs.Fronts.{spots_of, held_at, held_of, IsLastAt, IsLeastOf, IsLeastSpot}
 use Rattle.lw_trade.specs.Settling.{Spot, spot, Has, AreApart, HasAtMost, IsGained}
-use Rattle.lw_trade.proofs.Lists.{get_in, get_last, get_push, push_cases, get_set, get_set_other, set_cases}
+use Rattle.lw_trade.proofs.Lists.{get_last, get_push, push_cases, get_set, get_set_other, set_cases}
 
 all_same : (n x k area : ℕ) → slice_get (replicate n x) k ≡ Some area → area ≡ x
 all_same zero x k area at = cc
@@ -77,14 +77,14 @@ module _ (xs : List Spot) (s : Spot) where
       by_case : (slice_get xs i ≡ Some k) ⊎ ((i ≡ length xs) × (s ≡ k)) → (slice_get xs j ≡ Some l) ⊎ ((j ≡ length xs) × (s ≡ l)) → (k.time < l.time) × (l.area < k.area)
       by_case (inl f) (inl g) = apart i j k l lt f g e
       by_case (inl f) (inr (g, h)) = subst (λ (z : Spot). (k.time < z.time) × (z.area < k.area)) h (below k (i, f) (e ∙ ap (λ (z : Spot). z.class) (sym h)))
-      by_case (inr (f, h)) (inl g) = let b = get_in xs j l g in absurd (omega arith)
+      by_case (inr (f, h)) (inl g) = let b = slice_get_within xs j l g in absurd (omega arith)
       by_case (inr (f, h)) (inr (g, m)) = absurd (omega arith)
 
 -- a point in place of the last of its class, of the same time and more area
 module _ (xs : List Spot) (s o : Spot) (place : ℕ) (at : slice_get xs place ≡ Some o) (same_class : o.class ≡ s.class) (same_time : o.time ≡ s.time) (less : s.area < o.area) where
   pub gained_set : IsGained xs (slice_set xs place s) s
   gained_set = record {
-    has = (place, get_set xs place s (get_in xs place o at));
+    has = (place, get_set xs place s (slice_get_within xs place o at));
     only = λ l (i, bt). old l i (set_cases xs place i s l bt);
     kept = λ l (i, bt). kept l i bt (ℕ_discrete i place);
   }
@@ -96,7 +96,7 @@ module _ (xs : List Spot) (s o : Spot) (place : ℕ) (at : slice_get xs place �
       kept : (l : Spot) (i : ℕ) → slice_get xs i ≡ Some l → Dec (i ≡ place) → HasAtMost (slice_set xs place s) l.class l.time l.area
       kept l i bt (yes e) =
           let same : o ≡ l = same_Some o l (sym at ∙ (ap (slice_get xs) (sym e) ∙ bt)) in
-          subst (λ (z : Spot). HasAtMost (slice_set xs place s) z.class z.time z.area) same (s, (place, get_set xs place s (get_in xs place o at)), sym same_class, omega arith, omega arith)
+          subst (λ (z : Spot). HasAtMost (slice_set xs place s) z.class z.time z.area) same (s, (place, get_set xs place s (slice_get_within xs place o at)), sym same_class, omega arith, omega arith)
       kept l i bt (no ne) = itself (slice_set xs place s) l (i, get_set_other xs place i s l ne bt)
 
   pub apart_set : AreApart xs → ((k : Spot) (j : ℕ) → place < j → slice_get xs j ≡ Some k → k.class ≡ s.class → ⊥) → ((k : Spot) → Has xs k → k.class ≡ s.class → s.area < k.area) → AreApart (slice_set xs place s)
@@ -155,11 +155,11 @@ module _ (cs : List ℕ) (ps : List Found) (c time : ℕ) where
   pub seek_first : (place : ℕ) → IsLast cs c (length cs) (Some place) → IsSeeking cs ps c time place
   seek_first place (lt, at, none) = record {
     at = at;
-    late = λ k j after here e by. let h = spot_class cs ps j k here in none j (omega arith) (get_in cs j k.class h) (h ∙ ap Some e);
+    late = λ k j after here e by. let h = spot_class cs ps j k here in none j (omega arith) (slice_get_within cs j k.class h) (h ∙ ap Some e);
   }
 
   pub seek_none : IsLast cs c (length cs) None → IsLeastSpot (spots_of cs ps) c time None
-  seek_none none k (j, here) e by = let h = spot_class cs ps j k here in none j (omega arith) (get_in cs j k.class h) (h ∙ ap Some e)
+  seek_none none k (j, here) e by = let h = spot_class cs ps j k here in none j (omega arith) (slice_get_within cs j k.class h) (h ∙ ap Some e)
 
   not_here : (place : ℕ) (p : Found) → slice_get cs place ≡ Some c → slice_get ps place ≡ Some p → time < p.time.0 → (k : Spot) → slice_get (spots_of cs ps) place ≡ Some k → k.time ≤ time → ⊥
   not_here place p at bt lt k here by =
@@ -240,7 +240,7 @@ module _ (cs : List ℕ) (ps : List Found) (c : ℕ) (p : Found) (one_each : len
       let here = spots_at cs ps place c l.point at l.at in
       let e = spots_set cs ps place c p one_each at in
       let low = less o (place, here) refl in (
-        subst AreApart (sym e) (apart_set (spots_of cs ps) s o place here refl l.time_is low apart (λ k j after kt f. let h = spot_class cs ps j k kt in none j (omega arith) (get_in cs j k.class h) (h ∙ ap Some f)) less),
+        subst AreApart (sym e) (apart_set (spots_of cs ps) s o place here refl l.time_is low apart (λ k j after kt f. let h = spot_class cs ps j k kt in none j (omega arith) (slice_get_within cs j k.class h) (h ∙ ap Some f)) less),
         subst (λ xs. IsGained (spots_of cs ps) xs s) (sym e) (gained_set (spots_of cs ps) s o place here refl l.time_is low),
       )
 
@@ -263,10 +263,10 @@ last_before cs ps c time place q apart late (lt, at, none) bt ne k (j, kt) e = b
       where
         before : (j < place) ⊎ (place ≤ j) → k.time < time
         before (inl l) = let (t, a) = apart j place k (spot c q.time.0 q.area) l kt here e in omega (arith, t, earlier)
-        before (inr l) = let h = spot_class cs ps j k kt in absurd (none j (omega arith) (get_in cs j k.class h) (h ∙ ap Some e))
+        before (inr l) = let h = spot_class cs ps j k kt in absurd (none j (omega arith) (slice_get_within cs j k.class h) (h ∙ ap Some e))
 
 pub none_before : (cs : List ℕ) (ps : List Found) (c time : ℕ) → IsLast cs c (length cs) None → (k : Spot) → Has (spots_of cs ps) k → k.class ≡ c → k.time < time
-none_before cs ps c time none k (j, kt) e = let h = spot_class cs ps j k kt in absurd (none j (omega arith) (get_in cs j k.class h) (h ∙ ap Some e))
+none_before cs ps c time none k (j, kt) e = let h = spot_class cs ps j k kt in absurd (none j (omega arith) (slice_get_within cs j k.class h) (h ∙ ap Some e))
 
 pub least_had : (spots : List Spot) (c time area v : ℕ) → IsLeastOf spots c v → v ≤ area → area ≤ most_area → ((k : Spot) → Has spots k → k.time ≤ time) → HasAtMost spots c time area
 least_had spots c time area v is le small late = by_at is.at
@@ -326,7 +326,7 @@ held_gained_push xs h fresh = record {
 
 held_gained_set : (xs : List Held) (h o : Held) (place : ℕ) → slice_get xs place ≡ Some o → o.spot.class ≡ h.spot.class → o.spot.time ≡ h.spot.time → h.spot.area < o.spot.area → ((l : Held) → IsHeld xs l → l.order < h.order) → IsHeldGained xs (slice_set xs place h) h
 held_gained_set xs h o place at class time less fresh = record {
-  has = (place, get_set xs place h (get_in xs place o at));
+  has = (place, get_set xs place h (slice_get_within xs place o at));
   only = λ l (i, bt). old l i (set_cases xs place i h l bt);
   kept = λ l (i, bt). kept l i bt (ℕ_discrete i place);
   fresh = fresh;

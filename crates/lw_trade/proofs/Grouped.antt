@@ -3,7 +3,7 @@ use Rattle.std.proofs.Common.{◌≡◌, ℕ, zero, suc, ◌+◌, ◌-◌, ◌<�
 use Rattle.std.specs.List.{slice_range}
 use Rattle.std.proofs.Math.Seq.{drop-append-add, take-append_seam}
 use Rattle.std.proofs.lemmas.List.{reverse-append, length-append, length-map}
-use Rattle.std.proofs.lemmas.Option.{same_Some}
+use Rattle.std.proofs.lemmas.Option.{same_Some, slice_get_within}
 use Rattle.std.proofs.lemmas.Bool.{cases_lt}
 use native.Mathlib.Decide.{ℕ_discrete}
 use Rattle.lw_trade.specs.declared.found.Found.{Found}
@@ -16,7 +16,7 @@ use Rattle.lw_trade.specs.Links.{IsLast}
 use Rattle.lw_trade.specs.Settling.{Spot, spot, Has, AreApart}
 use Rattle.lw_trade.proofs.Backed.{map_has}
 use Rattle.lw_trade.proofs.Fronting.{held_class, held_get, held_spot}
-use Rattle.lw_trade.proofs.Lists.{get_in, contained_at, at_contained}
+use Rattle.lw_trade.proofs.Lists.{contained_at, at_contained}
 
 -- The points of the class at the places from a bound on.
 pub record IsRowFrom (held : List Held) (c bound : ℕ) (row : List Held) : Type 0 where
@@ -41,7 +41,7 @@ module _ (cs : List ℕ) (ps : List Found) (c : ℕ) (points : List Point) (ways
     row = [];
     is = record {
       each = λ h (i, at). cc;
-      all = λ i h le at e. let lt = get_in cs i h.spot.class (held_class cs ps i h at) in absurd (omega arith);
+      all = λ i h le at e. let lt = slice_get_within cs i h.spot.class (held_class cs ps i h at) in absurd (omega arith);
       rising = λ i j g h lt at bt. cc;
     };
     points_are = refl;

@@ -1,11 +1,12 @@
 -- No cycle is behind a point: its pins' points come before it.
 use Rattle.std.proofs.Common.{◌≡◌, ℕ, zero, suc, ◌+◌, ◌<◌, ◌≤◌, ◌⊎◌, Bool, inl, inr, length, List, [], ◌∷◌, Some, slice_get, ap, sym, ◌∙◌, subst, arith}
 use Rattle.std.proofs.lemmas.Bool.{cases_lt}
+use Rattle.std.proofs.lemmas.Option.{slice_get_within}
 use Rattle.lw_dag.specs.Graphs.{AreHeights, fanins_at, height_at}
 use Rattle.lw_trade.specs.Backing.{Held, IsHeld, IsBefore}
 use Rattle.lw_trade.specs.Points.{Task}
 use Rattle.lw_trade.specs.Trades.{Site, IsPointBy, IsLastBy, IsNetOfPoint, HavePinNets, HaveLastPins}
-use Rattle.lw_trade.proofs.Lists.{contained_at, get_in, get_some}
+use Rattle.lw_trade.proofs.Lists.{contained_at, get_some}
 
 module _ (s : Task) (held : List Held) (sites : List Site) (h : Held) where
   -- a pin's net is an input's, or that of a point that comes before
@@ -30,7 +31,7 @@ module _ (s : Task) (held : List Held) (sites : List Site) (h : Held) where
           subst (λ (x : Held). IsBefore x h) one before
 
   pin_earlier : ((k l : Held) → IsHeld held k → IsHeld held l → k.spot.class ≡ l.spot.class → k.spot.time ≡ l.spot.time → k ≡ l) → (p d : ℕ) (l k : Held) (own : Bool) (net : ℕ) → IsPointBy held p d h.spot.time l → IsNetOfPoint s sites own l net → IsLastBy held p d h.spot.time k → IsBefore k h → IsEarlier net
-  pin_earlier same p d l k own net by (inl (at, start)) last before = inl (get_in s.graph.leaves net l.spot.class at)
+  pin_earlier same p d l k own net by (inl (at, start)) last before = inl (slice_get_within s.graph.leaves net l.spot.class at)
   pin_earlier same p d l k own net by (inr (none, j, at, e)) last before =
       inr (j, record { point = l; exact = own }, at, e, in_time_before same p d l k by last before)
 
@@ -62,7 +63,7 @@ module _ (s : Task) (held : List Held) (sites : List Site) (graph : List (List �
   step h j at rest = by_height (cases_lt 0 (height_at heights (m + j)))
     where
       low : j < length graph
-      low = let lt = get_in sites j h at in omega (arith, lt, one_row)
+      low = let lt = slice_get_within sites j h at in omega (arith, lt, one_row)
 
       stuck : (net : ℕ) → height_at heights net ≡ 0 → IsEarlier s held sites h.point net → ⊥
       stuck net none (inl lt) = let one = are.known.given_ones net lt in absurd (omega (arith, one, none))

@@ -1,7 +1,7 @@
 -- Classes that have covers are classes of the graph.
 use Rattle.std.proofs.Common.{◌≡◌, ℕ, zero, suc, ◌<◌, inl, inr, List, [], ◌∷◌, length, Some, slice_get, slice_index_or, sym, ◌∙◌, subst, arith}
 use Rattle.std.specs.List.{AllByRecursion}
-use Rattle.std.proofs.lemmas.Option.{same_Some}
+use Rattle.std.proofs.lemmas.Option.{same_Some, slice_get_within}
 use Rattle.lw_laws.proofs.Lists.{held_in}
 use Rattle.lw_laws.specs.Flip.{flip}
 use Rattle.lw_laws.specs.Trees.{Tree, leaf, const_one, const_zero, inv, nand}
@@ -14,7 +14,7 @@ use Rattle.lw_laws.specs.Choices.HaveCosts.{no_pins, pin}
 use Rattle.lw_laws.specs.Matches.{choices_of}
 use Rattle.lw_laws.proofs.Flips.{flip-flip}
 use Rattle.lw_graph.specs.Graphs.{IsGraph}
-use Rattle.lw_trade.proofs.Lists.{get_in, got}
+use Rattle.lw_trade.proofs.Lists.{got}
 use Rattle.lw_graph.proofs.Graphs.{flip_below}
 
 module _ (g : Graph) (is : IsGraph g) where
@@ -38,7 +38,7 @@ module _ (g : Graph) (is : IsGraph g) where
     mutual
       pub cost_in : {c d : ℕ} → HasCost (choices_of g pin_counts pats) cost c d → c < length g.pairs
       cost_in (by_wire {c = c} {i = i} h) =
-          let lt = get_in g.leaves i c h in
+          let lt = slice_get_within g.leaves i c h in
           subst (λ q. q < length g.pairs) (same_Some (slice_index_or g.leaves i 0) c (sym (got g.leaves i 0 lt) ∙ h)) (is.leaves i 0 lt)
       cost_in (by_gate {c = c} {ps = ps} m ks) = stands_in ps m.pattern.tree c (costs_in ks) m.stands
 

@@ -1,11 +1,11 @@
 -- Links stay links when a place is appended.
 use Rattle.std.proofs.Common.{◌≡◌, ◌≢◌, ℕ, zero, suc, ◌+◌, ◌<◌, ◌≤◌, ◌⊎◌, inl, inr, length, List, [], ◌∷◌, ◌++◌, Option, Some, None, slice_get, slice_set, refl, ap, sym, subst, subst₂, arith}
 use Rattle.std.proofs.lemmas.List.{length-set}
-use Rattle.std.proofs.lemmas.Option.{same_Some}
+use Rattle.std.proofs.lemmas.Option.{same_Some, slice_get_within}
 use Rattle.lw_pool.specs.declared.id.ClassId.{ClassId}
 use Rattle.lw_pool.specs.Numbers.{numbers}
 use Rattle.lw_trade.specs.Links.{HasNone, IsLast, AreLinks}
-use Rattle.lw_trade.proofs.Lists.{get_in, length_push, get_last, get_push, push_cases, set_cases}
+use Rattle.lw_trade.proofs.Lists.{length_push, get_last, get_push, push_cases, set_cases}
 
 pub numbers_push : (classes : List ClassId) (c : ClassId) → numbers (classes ++ c ∷ []) ≡ numbers classes ++ c.0 ∷ []
 numbers_push [] c = refl
@@ -27,7 +27,7 @@ none_more : (cs : List ℕ) (x c from : ℕ) → x ≢ c → HasNone cs c from (
 none_more cs x c from ne none j f l e = by_case (push_cases cs x j c e)
   where
     by_case : (slice_get cs j ≡ Some c) ⊎ ((j ≡ length cs) × (x ≡ c)) → ⊥
-    by_case (inl at) = none j f (get_in cs j c at) at
+    by_case (inl at) = none j f (slice_get_within cs j c at) at
     by_case (inr (s, g)) = absurd (ne g)
 
 last_append : (cs : List ℕ) (x c n : ℕ) (o : Option ℕ) → n ≤ length cs → IsLast cs c n o → IsLast (cs ++ x ∷ []) c n o
@@ -60,9 +60,9 @@ module _ (cs : List ℕ) (befores heads : List (Option ℕ)) (class : ℕ) (befo
   last_before = last_append cs class class (length cs) before (omega arith) (are.heads_are class before at)
 
   all_before : (i c : ℕ) (o : Option ℕ) → (slice_get cs i ≡ Some c) ⊎ ((i ≡ length cs) × (class ≡ c)) → (slice_get befores i ≡ Some o) ⊎ ((i ≡ length befores) × (◌≡◌ {A = Option ℕ} before o)) → IsLast (cs ++ class ∷ []) c i o
-  all_before i c o (inl f) (inl g) = let h = get_in cs i c f in last_append cs class c i o (omega arith) (are.before_is i c o f g)
-  all_before i c o (inl f) (inr (t, g)) = let h = get_in cs i c f in absurd (omega (arith, h, t, are.one_each))
-  all_before i c o (inr (s, f)) (inl g) = let h = get_in befores i o g in absurd (omega (arith, h, s, are.one_each))
+  all_before i c o (inl f) (inl g) = let h = slice_get_within cs i c f in last_append cs class c i o (omega arith) (are.before_is i c o f g)
+  all_before i c o (inl f) (inr (t, g)) = let h = slice_get_within cs i c f in absurd (omega (arith, h, t, are.one_each))
+  all_before i c o (inr (s, f)) (inl g) = let h = slice_get_within befores i o g in absurd (omega (arith, h, s, are.one_each))
   all_before i c o (inr (s, f)) (inr (t, g)) = subst₂ (λ d p. IsLast (cs ++ class ∷ []) d i p) f g (subst (λ j. IsLast (cs ++ class ∷ []) class j before) (sym s) last_before)
 
   pub links_push : AreLinks (cs ++ class ∷ []) (befores ++ before ∷ []) (slice_set heads class (Some (length cs)))

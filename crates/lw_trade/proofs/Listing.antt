@@ -1,7 +1,7 @@
 -- Listings of what may stand at classes grow by inputs and matches.
 use Rattle.std.proofs.Common.{◌≡◌, ℕ, zero, suc, ◌+◌, ◌<◌, ◌⊎◌, inl, inr, length, List, [], ◌∷◌, ◌++◌, Contains, Some, slice_get, refl, ap, sym, ◌∙◌, subst, arith}
 use native.Mathlib.Nat.{eq-or-lt_of_le}
-use Rattle.std.proofs.lemmas.Option.{same_Some}
+use Rattle.std.proofs.lemmas.Option.{same_Some, slice_get_within}
 use Rattle.lw_laws.specs.Covers.{Pattern}
 use Rattle.lw_laws.specs.Extracts.{Match, IsMatchOf}
 use Rattle.lw_match.specs.Coming.{AreMatches, IsPatternMatch}
@@ -13,7 +13,7 @@ use Rattle.lw_trade.specs.Choices.{Part, Choice, MayStand, AreListedChoices}
 use Rattle.lw_trade.specs.Choices.Part.{input, gate}
 use Rattle.lw_trade.specs.Points.{Task}
 use Rattle.lw_trade.specs.Rows.{plain_row, plain_rows, IsAmong, IsListing}
-use Rattle.lw_trade.proofs.Lists.{get_in, get_last, get_push, push_cases, contained_at, at_contained}
+use Rattle.lw_trade.proofs.Lists.{get_last, get_push, push_cases, contained_at, at_contained}
 
 pub rows_push : (rows : List Row) (r : Row) → plain_rows (rows ++ r ∷ []) ≡ plain_rows rows ++ plain_row r ∷ []
 rows_push [] r = refl
@@ -144,5 +144,5 @@ module _ (s : Task) where
   all_choices xs is = record { each = is.each; within = is.within; all = λ c part lt may. among c part lt may }
     where
       among : (c : ℕ) (part : Part) → c < length s.graph.pairs → MayStand s c part → IsAmong xs c part
-      among c (input i) lt may = is.inputs_are i c (get_in s.graph.leaves i c may) may
+      among c (input i) lt may = is.inputs_are i c (slice_get_within s.graph.leaves i c may) may
       among c (gate cell ps) lt may = is.gates_are c cell ps lt may

@@ -1,14 +1,9 @@
 -- Lists by place, with an element behind them or another in place of one.
 use Rattle.std.proofs.Common.{◌≡◌, ◌≢◌, ℕ, zero, suc, ◌+◌, ◌<◌, ◌⊎◌, inl, inr, length, take, List, [], ◌∷◌, ◌++◌, Contains, Some, slice_get, slice_index_or, slice_set, refl, sym, ap, ◌∙◌, subst, arith}
-use Rattle.std.proofs.lemmas.Option.{same_Some}
+use Rattle.std.proofs.lemmas.Option.{same_Some, slice_get_within}
 use Rattle.lw_trade.specs.Areas.{total}
 
 module _ {X : Type 0} where
-  pub get_in : (xs : List X) (i : ℕ) (x : X) → slice_get xs i ≡ Some x → i < length xs
-  get_in [] i x e = cc
-  get_in (y ∷ xs) zero x e = omega arith
-  get_in (y ∷ xs) (suc i) x e = let ih = get_in xs i x e in omega arith
-
   pub get_some : (xs : List X) (i : ℕ) → i < length xs → (x : X) × (slice_get xs i ≡ Some x)
   get_some [] i lt = absurd (omega arith)
   get_some (y ∷ xs) zero lt = (y, refl)
@@ -74,7 +69,7 @@ module _ {X : Type 0} where
   contained_at xs x (k, lt, e) = (k, got xs k x lt ∙ ap Some e)
 
   pub at_contained : (xs : List X) (n : ℕ) (x : X) → slice_get xs n ≡ Some x → Contains xs x
-  at_contained xs n x at = let lt = get_in xs n x at in (n, lt, same_Some (slice_index_or xs n x) x (sym (got xs n x lt) ∙ at))
+  at_contained xs n x at = let lt = slice_get_within xs n x at in (n, lt, same_Some (slice_index_or xs n x) x (sym (got xs n x lt) ∙ at))
 
 total_suc : (xs : List ℕ) (k : ℕ) → k < length xs → total (take (suc k) xs) ≡ total (take k xs) + slice_index_or xs k 0
 total_suc [] k lt = absurd (omega arith)

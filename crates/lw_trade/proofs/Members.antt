@@ -2,11 +2,11 @@
 use Rattle.std.proofs.Common.{◌≡◌, ℕ, ◌+◌, ◌<◌, ◌≤◌, ◌⊎◌, inl, inr, length, List, [], ◌∷◌, ◌++◌, Some, None, option_map, slice_get, slice_index_or, refl, ap, sym, ◌∙◌, subst, arith}
 use native.Mathlib.Decide.{ℕ_discrete}
 use Rattle.std.proofs.lemmas.Bool.{cases_lt}
-use Rattle.std.proofs.lemmas.Option.{same_Some, slice_get-map}
+use Rattle.std.proofs.lemmas.Option.{same_Some, slice_get-map, slice_get_within}
 use Rattle.lw_facts.proofs.Lists.{index_at}
 use Rattle.lw_trade.specs.Links.{IsLast}
 use Rattle.lw_trade.specs.Looks.{IsBetween, IsGroupListed, AreMembersListed, AreOwnersAdded, AreOwnersListed, owners_of}
-use Rattle.lw_trade.proofs.Lists.{get_in, get_last, get_push, length_push, push_cases}
+use Rattle.lw_trade.proofs.Lists.{get_last, get_push, length_push, push_cases}
 
 pub owners_push : (owners places : List ℕ) (j : ℕ) → owners_of owners (places ++ j ∷ []) ≡ owners_of owners places ++ slice_index_or owners j 0 ∷ []
 owners_push owners [] j = refl
@@ -32,7 +32,7 @@ module _ (groups : List ℕ) (g : ℕ) (old : List ℕ) where
   listing_first = record {
     longer = omega arith;
     kept = λ k j at. at;
-    all = λ j le jt. let lt = get_in groups j g jt in absurd (omega arith);
+    all = λ j le jt. let lt = slice_get_within groups j g jt in absurd (omega arith);
   }
 
   listing_next : (new : List ℕ) (bound place : ℕ) → IsLast groups g bound (Some place) → IsListing groups g bound old new → IsListing groups g place old (new ++ place ∷ [])
@@ -129,7 +129,7 @@ module _ (groups owners : List ℕ) where
       by_end : (g first end j : ℕ) → (slice_get starts g ≡ Some first) ⊎ ((g ≡ length starts) × (begin ≡ first)) → (slice_get starts (g + 1) ≡ Some end) ⊎ ((g + 1 ≡ length starts) × (begin ≡ end)) → slice_get groups j ≡ Some g → IsBetween places first end j
       by_end g first end j (inl at) (inl et) jt = are.all g first end j at et jt
       by_end g first end j (inl at) (inr (e, f)) jt = subst (λ m. IsBetween places first m j) (sym here ∙ f) (are.last g first j (e ∙ are.one_each) at jt)
-      by_end g first end j (inr (e, f)) (inl et) jt = let lt = get_in starts (g + 1) end et in absurd (omega arith)
+      by_end g first end j (inr (e, f)) (inl et) jt = let lt = slice_get_within starts (g + 1) end et in absurd (omega arith)
       by_end g first end j (inr (e, f)) (inr (e', f')) jt = absurd (omega arith)
 
   -- it is noted where the next group begins

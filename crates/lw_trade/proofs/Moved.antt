@@ -3,7 +3,7 @@ use Rattle.std.proofs.Common.{◌≡◌, ℕ, zero, suc, ◌+◌, ◌-◌, ◌<�
 use Rattle.std.specs.List.{range_with_len}
 use Rattle.std.specs.List.Sorted.{IsPermutation}
 use Rattle.std.proofs.lemmas.List.{get_or-map, length-map}
-use Rattle.std.proofs.lemmas.Option.{get_or_from_slice_get, same_Some}
+use Rattle.std.proofs.lemmas.Option.{get_or_from_slice_get, same_Some, slice_get_within}
 use Rattle.std.proofs.lemmas.Bool.{cases_lt}
 use Rattle.lw_pool.specs.declared.id.ClassId.{ClassId}
 use Rattle.lw_fixed.specs.declared.micro.Micro.{Micro}
@@ -13,7 +13,7 @@ use Rattle.lw_trade.specs.Points.{Task}
 use Rattle.lw_trade.specs.Trades.{Site, IsNetOfPoint, IsPinNet, HavePinNets}
 use Rattle.lw_trade.specs.Walks.{IsRootNet, HaveRootNets}
 use Rattle.lw_trade.proofs.Grouped.{get_map, map_get}
-use Rattle.lw_trade.proofs.Lists.{get_in, got}
+use Rattle.lw_trade.proofs.Lists.{got}
 use Rattle.lw_trade.proofs.Places.{order_length, order_low, stands_there}
 use Rattle.lw_trade.proofs.Standing.{placed_input, placed_node}
 
@@ -70,13 +70,13 @@ module _ (s : Task) (sites : List Site) (order places : List ℕ) (moved : IsPer
   pub site_in : (j : ℕ) (h : Site) → slice_get moved_sites j ≡ Some h → (i : ℕ) × (slice_get order j ≡ Some i) × (slice_get sites i ≡ Some h)
   site_in j h at =
       let (i, it, e) = map_get site_at order j h at in
-      let low = order_low (length sites) order moved j 0 (get_in order j i it) in
+      let low = order_low (length sites) order moved j 0 (slice_get_within order j i it) in
       let same = get_or_from_slice_get order j i 0 it in
       (i, it, got sites i no_site (omega (arith, low, same)) ∙ ap Some e)
 
   pub site_placed : (i : ℕ) (h : Site) → slice_get sites i ≡ Some h → slice_get moved_sites (slice_index_or places i 0) ≡ Some h
   site_placed i h at =
-      let (in', e) = stands_there order places (length sites) moved placed i (get_in sites i h at) in
+      let (in', e) = stands_there order places (length sites) moved placed i (slice_get_within sites i h at) in
       let long = order_length (length sites) order moved in
       let p = slice_index_or places i 0 in
       let it : slice_get order p ≡ Some i = got order p 0 (omega (arith, in', long)) ∙ ap Some e in
@@ -84,7 +84,7 @@ module _ (s : Task) (sites : List Site) (order places : List ℕ) (moved : IsPer
 
   pub net_placed : (own : Bool) (l : Held) (net : ℕ) → IsNetOfPoint s sites own l net → IsNetOfPoint s moved_sites own l (placed_net m places net)
   net_placed own l net (inl (at, start)) =
-      let e = placed_input m places net (get_in s.graph.leaves net l.spot.class at) in
+      let e = placed_input m places net (slice_get_within s.graph.leaves net l.spot.class at) in
       subst (IsNetOfPoint s moved_sites own l) (sym e) (inl (at, start))
   net_placed own l net (inr (other, j, at, e)) =
       inr (other, slice_index_or places j 0, site_placed j (record { point = l; exact = own }) at, ap (placed_net m places) e ∙ placed_node m places j)

@@ -2,7 +2,7 @@
 use Rattle.std.proofs.Common.{◌≡◌, ℕ, suc, ◌<◌, ◌⊎◌, inl, inr, All, List, [], ◌∷◌, length, option_map, Contains, Some, slice_get, slice_index_or, refl, sym, ap, ◌∙◌, subst, arith}
 use Rattle.std.specs.List.{AllByRecursion}
 use Rattle.std.proofs.lemmas.List.{length-map}
-use Rattle.std.proofs.lemmas.Option.{same_Some, slice_get-map}
+use Rattle.std.proofs.lemmas.Option.{same_Some, slice_get-map, slice_get_within}
 use Rattle.lw_graph.specs.Graphs.{IsGraph}
 use Rattle.lw_laws.specs.Flip.{flip}
 use Rattle.lw_laws.specs.Graphs.{Graph, Pair, HoldsPair, Stands}
@@ -17,7 +17,7 @@ use Rattle.lw_trade.specs.Points.{Task}
 use Rattle.lw_trade.specs.Pricing.{IsWithin, IsOfLibrary}
 use Rattle.lw_trade.specs.Rows.{plain_part, plain_row, plain_rows}
 use Rattle.lw_trade.specs.Uses.{AreUses}
-use Rattle.lw_trade.proofs.Lists.{get_in, got}
+use Rattle.lw_trade.proofs.Lists.{got}
 use Rattle.lw_graph.proofs.Graphs.{flip_below}
 
 all_by : (n : ℕ) (ps : List ℕ) → ((k p : ℕ) → slice_get ps k ≡ Some p → p < n) → AllByRecursion (λ p. p < n) ps
@@ -55,7 +55,7 @@ module _ (s : Task) (is_graph : IsGraph s.graph) (of_cells : AreOfCells (area_co
       let is = of_cells may.pattern may.listed in
       let n : is.pin_count ≡ length ps = same_Some is.pin_count (length ps) (sym is.has ∙ (ap (slice_get (area_cost s.cells).pin_counts) may.cell_is ∙ may.pins)) in
       all_by (length s.graph.pairs) ps (λ k p at.
-      let l = get_in ps k p at in
+      let l = slice_get_within ps k p at in
       pin_below s.graph is_graph ps may.pattern.tree c k p lt may.stands ((is.pins k).1 (omega (arith, l, n))) at)
 
   part_of_library : (c : ℕ) (part : Part) → MayStand s c part → IsOfLibrary s.cells part

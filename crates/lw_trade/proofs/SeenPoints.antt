@@ -3,7 +3,7 @@ use Rattle.std.proofs.Common.{◌≡◌, ℕ, suc, ◌+◌, ◌-◌, ◌<◌, �
 use native.Mathlib.Decide.{ℕ_discrete}
 use Rattle.std.specs.List.{AllZip}
 use Rattle.std.proofs.lemmas.List.{length-set}
-use Rattle.std.proofs.lemmas.Option.{same_Some}
+use Rattle.std.proofs.lemmas.Option.{same_Some, slice_get_within}
 use Rattle.std.proofs.lemmas.Bool.{cases_lt}
 use Rattle.lw_facts.proofs.Lists.{index_at}
 use Rattle.lw_laws.specs.Covers.{delays_of, latest}
@@ -22,7 +22,7 @@ use Rattle.lw_trade.specs.Tallies.{IsTally, bound_of, first_of, unseen}
 use Rattle.lw_trade.specs.declared.tallies.Tally.{Tally}
 use Rattle.lw_trade.specs.Uses.{AreUses, HasUse, IsGroup, turns_of}
 use Rattle.lw_trade.proofs.Falling.{HaveUses, use_place, uses_of}
-use Rattle.lw_trade.proofs.Lists.{get_in, get_set, get_set_other}
+use Rattle.lw_trade.proofs.Lists.{get_set, get_set_other}
 use Rattle.lw_trade.proofs.Stepping.{at_most, waits_left}
 
 -- A group that comes is taken, and sees.
@@ -189,13 +189,13 @@ module _ (u : Uses) (spots : List Spot) (seen : List ℕ) (group time delay clas
   seeing_less new new_is lt = record {
     one_each = length-set seen group new;
     kept = λ g a (o, ot, le). kept g a o ot le (ℕ_discrete g group);
-    here = λ k d has is le. (new, get_set seen group new (get_in seen group own at), let m = no_more k d has is le in omega (arith, m, new_is));
+    here = λ k d has is le. (new, get_set seen group new (slice_get_within seen group own at), let m = no_more k d has is le in omega (arith, m, new_is));
   }
     where
       kept : (g a o : ℕ) → slice_get seen g ≡ Some o → o ≤ min most_area a → Dec (g ≡ group) → HasSeen (slice_set seen group new) g a
       kept g a o ot le (yes e) =
           let same : own ≡ o = same_Some own o (sym at ∙ (ap (slice_get seen) (sym e) ∙ ot)) in
-          subst (λ i. HasSeen (slice_set seen group new) i a) (sym e) (new, get_set seen group new (get_in seen group own at), omega (arith, lt, same, le))
+          subst (λ i. HasSeen (slice_set seen group new) i a) (sym e) (new, get_set seen group new (slice_get_within seen group own at), omega (arith, lt, same, le))
       kept g a o ot le (no ne) = (o, get_set_other seen group g new o ne ot, le)
 
   pub seeing_same : own ≤ min most_area area → IsSeeing u spots seen seen group time

@@ -2,7 +2,7 @@
 use Rattle.std.proofs.Common.{◌≡◌, ℕ, suc, ◌+◌, ◌<◌, ◌≤◌, ◌⊎◌, inl, inr, length, map, List, [], ◌∷◌, Option, Some, slice_get, refl, ap, sym, ◌∙◌, subst, arith}
 use native.Mathlib.Nat.{eq-or-lt_of_le}
 use Rattle.std.proofs.lemmas.List.{length-map}
-use Rattle.std.proofs.lemmas.Option.{same_Some}
+use Rattle.std.proofs.lemmas.Option.{same_Some, slice_get_within}
 use Rattle.lw_fixed.specs.declared.micro.Micro.{Micro}
 use Rattle.lw_pool.specs.declared.id.ClassId.{ClassId}
 use Rattle.lw_laws.specs.Covers.{start_of, delays_of}
@@ -61,7 +61,7 @@ started_all s rows n q e are choices = record {
 }
   where
     in_rows : (m : ℕ) (x : Choice) → slice_get (plain_rows rows) m ≡ Some x → m < n
-    in_rows m x xt = let l = Rattle.lw_trade.proofs.Lists.get_in (plain_rows rows) m x xt in omega (arith, l, e, length-map rows plain_row)
+    in_rows m x xt = let l = slice_get_within (plain_rows rows) m x xt in omega (arith, l, e, length-map rows plain_row)
 
 -- nothing was found so far, and nothing comes
 pub first_still : (s : Task) (choices : List Choice) (u : Uses) (coming looked : Queued) → AreFirst s choices looked → coming.items ≡ [] → looked.horizon ≡ coming.horizon → IsStillFor s choices 0 [] (turns_of u coming looked)

@@ -1,7 +1,7 @@
 -- Stored matches are listed one by one.
 use Rattle.std.proofs.Common.{◌≡◌, ℕ, ◌+◌, ◌<◌, ◌⊎◌, inl, inr, length, List, [], ◌∷◌, ◌++◌, Some, slice_get, ap, sym, ◌∙◌, subst, arith}
 use native.Mathlib.Nat.{eq-or-lt_of_le}
-use Rattle.std.proofs.lemmas.Option.{same_Some}
+use Rattle.std.proofs.lemmas.Option.{same_Some, slice_get_within}
 use Rattle.lw_match.specs.Least.{AreOfCells}
 use Rattle.lw_settle.specs.Stores.{Placed, Stored, IsStoreOf, AreKeptLists, placed, pins_of}
 use Rattle.lw_settle.proofs.Agreeing.{match_stored, stored_is}
@@ -11,7 +11,7 @@ use Rattle.lw_trade.specs.Choices.Part.{input, gate}
 use Rattle.lw_trade.specs.Points.{Task}
 use Rattle.lw_trade.specs.Rows.{IsAmong, IsListing}
 use Rattle.lw_trade.proofs.Listing.{among_push, each_push, within_push}
-use Rattle.lw_trade.proofs.Lists.{get_in, get_last}
+use Rattle.lw_trade.proofs.Lists.{get_last}
 
 -- the inputs and the first stored matches
 pub record AreStoredTo (s : Task) (ms : List Placed) (k : ℕ) (xs : List Choice) : Type 0 where
@@ -25,7 +25,7 @@ module _ (s : Task) (lists : List (List Stored)) (store : IsStoreOf s.graph s.pa
   stored_first xs is = record {
     each = is.each;
     within = is.within;
-    inputs_are = λ i c at. is.inputs_are i c (get_in s.graph.leaves i c at) at;
+    inputs_are = λ i c at. is.inputs_are i c (slice_get_within s.graph.leaves i c at) at;
     gates_are = λ i m lt at. absurd (omega (arith, lt));
   }
 
@@ -51,7 +51,7 @@ module _ (s : Task) (lists : List (List Stored)) (store : IsStoreOf s.graph s.pa
       among c (input i) lt may = is.inputs_are i c may
       among c (gate cell ps) lt may =
           let (i, m, at, class, cell_is, pins) = match_stored s.graph s.patterns (area_cost s.cells).pin_counts lists of store c cell ps lt may in
-          let here = is.gates_are i m (let low = get_in (placed lists) i m at in omega (arith, low, over)) at in
+          let here = is.gates_are i m (let low = slice_get_within (placed lists) i m at in omega (arith, low, over)) at in
           let here' = subst (λ d. IsAmong xs d (gate m.stored.cell (pins_of m))) class here in
           let here'' = subst (λ d. IsAmong xs c (gate d (pins_of m))) cell_is here' in
           subst (λ qs. IsAmong xs c (gate cell qs)) pins here''

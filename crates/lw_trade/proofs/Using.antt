@@ -1,7 +1,7 @@
 -- Pins are added to groups.
 use Rattle.std.proofs.Common.{◌≡◌, ℕ, zero, suc, ◌+◌, ◌<◌, ◌⊎◌, inl, inr, length, map, List, [], ◌∷◌, ◌++◌, Some, slice_get, slice_index_or, refl, ap, sym, ◌∙◌, subst, subst₂, arith}
 use native.Mathlib.Nat.{eq-or-lt_of_le}
-use Rattle.std.proofs.lemmas.Option.{same_Some}
+use Rattle.std.proofs.lemmas.Option.{same_Some, slice_get_within}
 use Rattle.lw_fixed.specs.declared.micro.Micro.{Micro}
 use Rattle.lw_genlib.specs.Tables.{millionths}
 use Rattle.lw_laws.specs.Covers.{delays_of}
@@ -12,7 +12,7 @@ use Rattle.lw_trade.specs.Choices.Part.{input, gate}
 use Rattle.lw_trade.specs.Points.{Task, timing}
 use Rattle.lw_trade.specs.Links.{LinkState}
 use Rattle.lw_trade.specs.Uses.{IsGroup, HasUse, AreGroups, IsFirstAdded, IsGroupAdded, IsPinAdded, AreUsesTo}
-use Rattle.lw_trade.proofs.Lists.{get_in, get_last, get_push, push_cases, length_push}
+use Rattle.lw_trade.proofs.Lists.{get_last, get_push, push_cases, length_push}
 
 -- a group of its own is added
 module _ (old new : Uses) (c delay group : ℕ) (links : new.links.classes ≡ old.links.classes ++ c ∷ []) (delays : new.delays.items ≡ old.delays.items ++ delay ∷ []) (members : new.members.classes ≡ old.members.classes) (owners : new.owners.items ≡ old.owners.items) (firsts : new.firsts.items ≡ old.firsts.items) (count : new.members.count ≡ old.members.count + 1) (at : group ≡ length old.links.classes) where
@@ -45,7 +45,7 @@ pub group_there : (u : Uses) (c delay group : ℕ) → IsGroup u.links.classes u
 group_there u c delay group is = record {
   are = λ are. are;
   group_is = λ are. is;
-  low = λ are. let lt = get_in u.links.classes group c is.0 in omega (arith, lt, are.count);
+  low = λ are. let lt = slice_get_within u.links.classes group c is.0 in omega (arith, lt, are.count);
   kept = λ g d e there. there;
   members = refl;
   owners = refl;
@@ -165,7 +165,7 @@ module _ (s : Task) (choices : List Choice) where
       nothing : (j m : ℕ) → slice_get u.owners.items j ≡ Some m → ⊥
       nothing j m at =
           let zero' : length u.owners.items ≡ 0 = ap length none in
-          let lt = get_in u.owners.items j m at in
+          let lt = slice_get_within u.owners.items j m at in
           absurd (omega arith)
 
       no_pin : {X : Type 0} (m i : ℕ) → (m < 0) ⊎ ((m ≡ 0) × (i < 0)) → X
@@ -190,7 +190,7 @@ module _ (s : Task) (choices : List Choice) where
     where
       by_owner : (j m : ℕ) → (slice_get u.owners.items j ≡ Some m) ⊎ (m ≡ n) → m < length choices
       by_owner j m (inl there) = are.low j m there
-      by_owner j m (inr e) = let lt = get_in choices n (record { class = class; part = gate cell ps }) at in omega arith
+      by_owner j m (inr e) = let lt = slice_get_within choices n (record { class = class; part = gate cell ps }) at in omega arith
 
       all : (m i d : ℕ) (x : Choice) → (m < n) ⊎ ((m ≡ n) × (i < k + 1)) → slice_get choices m ≡ Some x → HasPinAt x.part i d → HasUse v m i (delay_at s x.part i) d
       all m i d x (inl lt) xt xp = added.kept m i (delay_at s x.part i) d (are.all m i d x (inl lt) xt xp)
@@ -224,7 +224,7 @@ module _ (s : Task) (choices : List Choice) where
           by_place (inl same) =
               let y : x ≡ record { class = class; part = gate cell ps } = same_Some x (record { class = class; part = gate cell ps }) (sym xt ∙ (ap (slice_get choices) same ∙ at)) in
               let xp' : slice_get ps i ≡ Some c = subst (λ (z : Choice). HasPinAt z.part i c) y xp in
-              let low = get_in ps i c xp' in
+              let low = slice_get_within ps i c xp' in
               are.all m i c x (inr (same, omega arith)) xt xp
 
   -- an input has no pins

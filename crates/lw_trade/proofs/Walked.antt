@@ -1,7 +1,7 @@
 -- What a walk has found is a graph of points without a cycle.
 use Rattle.std.proofs.Common.{◌≡◌, ℕ, zero, suc, ◌+◌, ◌<◌, ◌≤◌, ◌⊎◌, Bool, inl, inr, length, List, [], ◌∷◌, Some, slice_get, slice_index_or, refl, ap, sym, ◌∙◌, subst, arith}
 use Rattle.std.proofs.lemmas.List.{get_or_past}
-use Rattle.std.proofs.lemmas.Option.{same_Some}
+use Rattle.std.proofs.lemmas.Option.{same_Some, slice_get_within}
 use Rattle.std.proofs.lemmas.Bool.{cases_lt}
 use Rattle.lw_laws.specs.Covers.{delays_of}
 use Rattle.lw_pool.specs.declared.id.CellId.{CellId}
@@ -18,7 +18,7 @@ use Rattle.lw_trade.specs.Trades.{Site, IsNetOfPoint, HavePinNets, IsGateOfPoint
 use Rattle.lw_trade.specs.Walks.{HaveRootNets, IsWalk}
 use Rattle.lw_trade.proofs.Heights.{IsEarlier, pins_earlier, all_high}
 use Rattle.lw_trade.proofs.Lasting.{pins_before}
-use Rattle.lw_trade.proofs.Lists.{get_in, get_some}
+use Rattle.lw_trade.proofs.Lists.{get_some}
 
 -- a class has one point of a time
 pub one_held : (s : Task) (curves : CurveLists) (ways : HaveWays s curves) (k l : Held) → IsHeld ways.held k → IsHeld ways.held l → k.spot.class ≡ l.spot.class → k.spot.time ≡ l.spot.time → k ≡ l
@@ -39,8 +39,8 @@ one_held s curves ways k l has other e same =
     by_place row rising i j it jt (inr x) (inr y) = let f : i ≡ j = omega (arith, x, y) in same_Some k l (sym it ∙ (ap (slice_get row) f ∙ jt))
 
 net_low : (s : Task) (sites : List Site) (own : Bool) (l : Held) (net : ℕ) → IsNetOfPoint s sites own l net → net < length s.graph.leaves + length sites
-net_low s sites own l net (inl (at, start)) = let lt = get_in s.graph.leaves net l.spot.class at in omega (arith, lt)
-net_low s sites own l net (inr (none, j, at, e)) = let lt = get_in sites j (record { point = l; exact = own }) at in omega (arith, lt, e)
+net_low s sites own l net (inl (at, start)) = let lt = slice_get_within s.graph.leaves net l.spot.class at in omega (arith, lt)
+net_low s sites own l net (inr (none, j, at, e)) = let lt = slice_get_within sites j (record { point = l; exact = own }) at in omega (arith, lt, e)
 
 nets_low : (s : Task) (held : List Held) (sites : List Site) (exact : Bool) (time : ℕ) (ds ps nets : List ℕ) → HavePinNets s held sites exact time ds ps nets → (k d : ℕ) → k < length nets → slice_index_or nets k d < length s.graph.leaves + length sites
 nets_low s held sites exact time [] [] [] have k d lt = absurd (omega arith)
@@ -76,7 +76,7 @@ module _ (s : Task) (t : Targets) (curves : CurveLists) (c : AreCurvesFor s t cu
   -- the gate of a node
   node_gate : (j : ℕ) (h : Site) → slice_get sites j ≡ Some h → (cell : CellId) × IsGateOfPoint s curves.choices c.ways.held sites h (record { cell = cell.0; pins = fanins_at graph j })
   node_gate j h at =
-      let lt = get_in sites j h at in
+      let lt = slice_get_within sites j h at in
       let (cell, bt) = get_some cells j (omega (arith, lt, walk.one_cell)) in
       (cell, walk.gates j h cell at bt)
 

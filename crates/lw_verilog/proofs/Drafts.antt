@@ -2,7 +2,7 @@
 use Rattle.std.proofs.Common.{ℕ, zero, suc, ◌≡◌, ◌≤◌, ◌<◌, List, [], ◌∷◌, length, get_or, Option, Some, None, All, refl, ap, ap₂, sym, ◌∙◌, subst, arith}
 use Rattle.std.specs.Prelude.{slice_get}
 use Rattle.std.proofs.lemmas.List.Elements.{All-append}
-use Rattle.lw_facts.proofs.Lists.{length_mapped}
+use Rattle.std.proofs.lemmas.List.{length-map}
 use Rattle.lw_genlib.specs.Cells.{CellParts}
 use Rattle.lw_netlist.specs.declared.draft.DraftGate.{DraftGate}
 use Rattle.lw_netlist.specs.declared.draft.GateDraft.{GateDraft}
@@ -36,7 +36,7 @@ none cells = λ k d below. absurd (omega arith)
 
 of-at : (cells : List CellParts) (number : ℕ) (ties : List Tie) (o : Option CellParts) → slice_get cells number ≡ o → All (IsOfCell cells) (gate_at number ties o)
 of-at cells number ties None at = none cells
-of-at cells number ties (Some cell) at = λ k d below. subst (IsOfCell cells) (first-alone k d below) (record { cell = cell; at = at; pins = length_mapped (net_for ties) cell.pins })
+of-at cells number ties (Some cell) at = λ k d below. subst (IsOfCell cells) (first-alone k d below) (record { cell = cell; at = at; pins = length-map cell.pins (net_for ties) })
   where
     first-alone : (k : ℕ) (d : DraftGate) → k < 1 → gate_of number cell ties ≡ get_or (gate_of number cell ties ∷ []) k d
     first-alone zero d below = refl

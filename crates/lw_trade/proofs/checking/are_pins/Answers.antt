@@ -1,10 +1,9 @@
 use Rattle.std.proofs.Common.{◌≡◌, ◌<◌, ◌≤◌, ◌+◌, ℕ, ◌⊎◌, inl, inr, Some, slice_get, slice_index_or, ap, sym, ◌∙◌, subst, subst₂, arith}
 use Rattle.std.proofs.lemmas.Bool.{cases_lt}
-use Rattle.std.proofs.lemmas.Option.{get_or_from_slice_get}
+use Rattle.std.proofs.lemmas.Option.{get_or_from_slice_get, slice_get_within}
 use Rattle.lw_pool.specs.declared.id.ClassId.{ClassId}
 use Rattle.lw_fixed.specs.declared.micro.Micro.{Micro}
 use Rattle.lw_trade.specs.Checks.{IsNetBy}
-use Rattle.lw_trade.proofs.Lists.{get_in}
 use Rattle.lw_trade.proofs.checking.are_pins.Goals as goal
 
 pub loop-k-preserved : goal.loop-k-preserved
@@ -29,6 +28,6 @@ returns c = λ yes. record {
   one_net = omega (arith, c.if-nets-pins.false);
   one_delay = omega (arith, c.if-delays-pins.false);
   each = λ k pin delay net pt dt nt.
-      let lt = get_in c.args.pins.now k pin pt in
+      let lt = slice_get_within c.args.pins.now k pin pt in
       c.loop-k.invariant k pin delay net (omega (arith, lt, c.loop-k-test.false)) pt dt nt;
 }

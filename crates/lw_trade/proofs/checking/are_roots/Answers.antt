@@ -1,10 +1,9 @@
 use Rattle.std.proofs.Common.{◌≡◌, ◌<◌, ◌≤◌, ◌+◌, ℕ, ◌⊎◌, inl, inr, Some, slice_get, slice_index_or, ap, sym, ◌∙◌, subst, subst₂, arith}
 use Rattle.std.proofs.lemmas.Bool.{cases_lt}
-use Rattle.std.proofs.lemmas.Option.{get_or_from_slice_get}
+use Rattle.std.proofs.lemmas.Option.{get_or_from_slice_get, slice_get_within}
 use Rattle.lw_pool.specs.declared.id.ClassId.{ClassId}
 use Rattle.lw_fixed.specs.declared.micro.Micro.{Micro}
 use Rattle.lw_trade.specs.Checks.{IsRootBy}
-use Rattle.lw_trade.proofs.Lists.{get_in}
 use Rattle.lw_trade.proofs.checking.are_roots.Goals as goal
 
 pub loop-k-preserved : goal.loop-k-preserved
@@ -29,6 +28,6 @@ returns c = λ yes. record {
   one_net = omega (arith, c.if-nets-roots.false);
   one_time = omega (arith, c.if-times-roots.false);
   each = λ k root time net rt tt nt.
-      let lt = get_in c.args.roots.now k root rt in
+      let lt = slice_get_within c.args.roots.now k root rt in
       c.loop-k.invariant k root time net (omega (arith, lt, c.loop-k-test.false)) rt tt nt;
 }

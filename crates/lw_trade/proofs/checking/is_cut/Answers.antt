@@ -1,7 +1,7 @@
 use Rattle.std.proofs.Common.{◌≡◌, slice_index_or, ap, sym, ◌∙◌, arith}
-use Rattle.std.proofs.lemmas.Option.{same_Some}
+use Rattle.std.proofs.lemmas.Option.{same_Some, slice_get_within}
 use Rattle.lw_trade.specs.declared.point.Point.{Point}
-use Rattle.lw_trade.proofs.Lists.{get_in, got}
+use Rattle.lw_trade.proofs.Lists.{got}
 use Rattle.lw_trade.proofs.checking.is_cut.Goals as goal
 
 pub returns : goal.returns
@@ -10,7 +10,7 @@ returns c = λ yes.
     let row = c.of-points.result.now in
     let place = c.in-Some.place in
     let is = c.in-Some.ensures in
-    let lt = get_in row place is.point is.at in
+    let lt = slice_get_within row place is.point is.at in
     let same : is.point ≡ slice_index_or row place d = same_Some is.point (slice_index_or row place d) (sym is.at ∙ got row place d lt) in
     let area = ap (λ (p : Point). p.area) same in
     record { row = row; at = c.of-points.ensures.points; place = place; last = is; cut = omega (arith, area, c.if-points-place-lt-MOST_AREA.false) }

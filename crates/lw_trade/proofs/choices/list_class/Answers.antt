@@ -1,10 +1,10 @@
 use Rattle.std.proofs.Common.{length, Contains, refl, sym, subst, arith}
+use Rattle.std.proofs.lemmas.Option.{slice_get_within}
 use Rattle.lw_match.specs.Coming.{still_to_come}
 use Rattle.lw_match.specs.Values.{plain_match}
 use Rattle.lw_pattern.specs.Listed.{pattern_of}
 use Rattle.lw_trade.specs.Points.{task}
 use Rattle.lw_trade.specs.Rows.{plain_rows}
-use Rattle.lw_trade.proofs.Lists.{get_in}
 use Rattle.lw_trade.proofs.Stepping.{in_tail}
 use Rattle.lw_trade.proofs.Listing.{IsListingAt, rows_push, listing_start, listing_next, listing_over}
 use Rattle.lw_trade.proofs.choices.list_class.Goals as goal
@@ -24,7 +24,7 @@ get-requires c =
     let m = plain_match c.in-Some.found in
     let in' = subst (λ ms. Contains ms m) (sym first) (0, omega arith, refl) in
     let is = c.loop-found.invariant.coming m in' in
-    get_in c.args.pats.now c.in-Some.found.pat.0 is.pattern is.listed
+    slice_get_within c.args.pats.now c.in-Some.found.pat.0 is.pattern is.listed
 
 pub loop-found-preserved : goal.loop-found-preserved
 loop-found-preserved c =

@@ -1,7 +1,8 @@
 use Rattle.std.proofs.Common.{◌<◌, length, slice_index_or, sym, subst, arith}
+use Rattle.std.proofs.lemmas.Option.{slice_get_within}
 use Rattle.lw_trade.specs.declared.found.Found.{Found}
 use Rattle.lw_trade.specs.Links.{IsLast}
-use Rattle.lw_trade.proofs.Lists.{get_in, got}
+use Rattle.lw_trade.proofs.Lists.{got}
 use Rattle.lw_trade.proofs.Linking.{place_measure, place_falls}
 use Rattle.lw_trade.proofs.Grouped.{IsPutting, putting_first, putting_next, putting_over}
 use Rattle.lw_trade.proofs.fronts.push_row.Goals as goal
@@ -12,13 +13,13 @@ loop-next-init c = putting_first c.args.links.now.classes c.args.points.now c.ar
 pub bounds-points-place : goal.bounds-points-place
 bounds-points-place c =
     let last = subst (λ o. IsLast c.args.links.now.classes c.args.class.0 c.loop-next.invariant.bound o) c.in-Some.is c.loop-next.invariant.last in
-    let lt = get_in c.args.links.now.classes c.in-Some.place c.args.class.0 last.1 in
+    let lt = slice_get_within c.args.links.now.classes c.in-Some.place c.args.class.0 last.1 in
     omega (arith, lt, c.requires.one_each)
 
 pub before-next-requires : goal.before-next-requires
 before-next-requires c =
     let last = subst (λ o. IsLast c.args.links.now.classes c.args.class.0 c.loop-next.invariant.bound o) c.in-Some.is c.loop-next.invariant.last in
-    get_in c.args.links.now.classes c.in-Some.place c.args.class.0 last.1
+    slice_get_within c.args.links.now.classes c.in-Some.place c.args.class.0 last.1
 
 pub loop-next-smaller : goal.loop-next-smaller
 loop-next-smaller c =
@@ -32,7 +33,7 @@ loop-next-preserved c =
     let classes = c.args.links.now.classes in
     let points = c.args.points.now in
     let is = subst (λ o. IsPutting classes points c.args.class.0 c.args.to.now.items c.loop-next.to.items c.args.ways.now.items c.loop-next.ways.items o) c.in-Some.is c.loop-next.invariant in
-    let lt = get_in classes place c.args.class.0 is.last.1 in
+    let lt = slice_get_within classes place c.args.class.0 is.last.1 in
     let in' : place < length points = omega (arith, lt, c.requires.one_each) in
     putting_next classes points c.args.class.0 c.args.to.now.items c.args.ways.now.items c.loop-next.to.items c.push.new.self.items c.loop-next.ways.items c.push-in-Some.new.self.items place (slice_index_or points place d) c.before-next.result c.requires.apart is (got points place d in') (c.before-next.ensures c.args.class.0 is.last.1) c.in_ok-push.ensures.items c.in_ok-push-2.ensures.items
 

@@ -1,5 +1,6 @@
 use Rattle.std.proofs.Common.{◌≡◌, ◌<◌, length, min, sym, subst, subst₂, arith}
 use Rattle.std.proofs.lemmas.List.{length-map}
+use Rattle.std.proofs.lemmas.Option.{slice_get_within}
 use Rattle.lw_trade.specs.declared.choices.Row.{Row}
 use Rattle.lw_trade.specs.Areas.{most_area}
 use Rattle.lw_trade.specs.Fronts.{IsLessOr}
@@ -8,14 +9,14 @@ use Rattle.lw_trade.specs.Settling.{HasAtMost}
 use Rattle.lw_trade.specs.Pricing.{IsOfLibrary}
 use Rattle.lw_trade.specs.Rows.{plain_part, plain_row, plain_rows}
 use Rattle.lw_trade.specs.Tallies.{bound_of}
-use Rattle.lw_trade.proofs.Lists.{get_in, read_at}
+use Rattle.lw_trade.proofs.Lists.{read_at}
 use Rattle.lw_trade.proofs.SeenPoints.{tally_done}
 use Rattle.lw_trade.proofs.Adding.{choice_in}
 use Rattle.lw_trade.proofs.looking.may_give.Goals as goal
 
 pub returns-then-place-len-clause-no_more : goal.returns-then-place-len-clause-no_more
 returns-then-place-len-clause-no_more c f g pats starts us x a at gives =
-    let lt = get_in (plain_rows c.args.rows.now) c.args.number x at in
+    let lt = slice_get_within (plain_rows c.args.rows.now) c.args.number x at in
     absurd (omega (arith, lt, c.if-place-len.true, c.len.ensures, c.requires.tallied.tallies.one_each))
 
 pub is_less-requires-clause-class : goal.is_less-requires-clause-class

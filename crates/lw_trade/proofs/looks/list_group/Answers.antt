@@ -1,7 +1,7 @@
 use Rattle.std.proofs.Common.{◌<◌, length, sym, subst, arith}
+use Rattle.std.proofs.lemmas.Option.{slice_get_within}
 use Rattle.lw_trade.specs.Links.{IsLast}
 use Rattle.lw_trade.proofs.Linking.{place_falls, place_measure}
-use Rattle.lw_trade.proofs.Lists.{get_in}
 use Rattle.lw_trade.proofs.Members.{AreAdding, adding_first, adding_next, adding_over}
 use Rattle.lw_trade.proofs.looks.list_group.Goals as goal
 
@@ -21,7 +21,7 @@ bounds-owners-place c =
     let groups = c.args.members.now.classes in
     let (bound, last, are) = c.loop-next.invariant in
     let last' = subst (λ o. IsLast groups c.args.group bound o) c.in-Some.is last in
-    let h = get_in groups c.in-Some.place c.args.group last'.1 in
+    let h = slice_get_within groups c.in-Some.place c.args.group last'.1 in
     omega (arith, h, c.requires.one_each)
 
 pub before-next-requires : goal.before-next-requires
@@ -29,7 +29,7 @@ before-next-requires c =
     let groups = c.args.members.now.classes in
     let (bound, last, are) = c.loop-next.invariant in
     let last' = subst (λ o. IsLast groups c.args.group bound o) c.in-Some.is last in
-    get_in groups c.in-Some.place c.args.group last'.1
+    slice_get_within groups c.in-Some.place c.args.group last'.1
 
 pub loop-next-smaller : goal.loop-next-smaller
 loop-next-smaller c =

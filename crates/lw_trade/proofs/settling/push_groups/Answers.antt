@@ -1,6 +1,7 @@
 use Rattle.std.proofs.Common.{◌<◌, length, sym, subst, arith}
+use Rattle.std.proofs.lemmas.Option.{slice_get_within}
 use Rattle.lw_trade.specs.Links.{IsLast}
-use Rattle.lw_trade.proofs.Lists.{get_in, read_at}
+use Rattle.lw_trade.proofs.Lists.{read_at}
 use Rattle.lw_trade.proofs.Adding.{IsAdding, adding_first, adding_next, adding_over}
 use Rattle.lw_trade.proofs.Linking.{place_measure, place_falls}
 use Rattle.lw_trade.proofs.settling.push_groups.Goals as goal
@@ -11,13 +12,13 @@ loop-next-init c = adding_first c.args.uses.now.links.classes c.args.uses.now.de
 pub index-delay-requires : goal.index-delay-requires
 index-delay-requires c =
     let last = subst (λ o. IsLast c.args.uses.now.links.classes c.args.class.0 c.loop-next.invariant.bound o) c.in-Some.is c.loop-next.invariant.last in
-    let lt = get_in c.args.uses.now.links.classes c.in-Some.group c.args.class.0 last.1 in
+    let lt = slice_get_within c.args.uses.now.links.classes c.in-Some.group c.args.class.0 last.1 in
     omega (arith, lt, c.requires.are.one_each)
 
 pub before-next-requires : goal.before-next-requires
 before-next-requires c =
     let last = subst (λ o. IsLast c.args.uses.now.links.classes c.args.class.0 c.loop-next.invariant.bound o) c.in-Some.is c.loop-next.invariant.last in
-    get_in c.args.uses.now.links.classes c.in-Some.group c.args.class.0 last.1
+    slice_get_within c.args.uses.now.links.classes c.in-Some.group c.args.class.0 last.1
 
 pub loop-next-smaller : goal.loop-next-smaller
 loop-next-smaller c =
@@ -30,7 +31,7 @@ loop-next-preserved c =
     let classes = c.args.uses.now.links.classes in
     let delays = c.args.uses.now.delays.items in
     let is = subst (λ o. IsAdding classes delays c.args.class.0 c.args.time c.args.coming.now c.loop-next.coming o) c.in-Some.is c.loop-next.invariant in
-    let lt = get_in classes place c.args.class.0 is.last.1 in
+    let lt = slice_get_within classes place c.args.class.0 is.last.1 in
     let in' : place < length delays = omega (arith, lt, c.requires.are.one_each) in
     adding_next classes delays c.args.class.0 c.args.time c.args.coming.now c.loop-next.coming c.push_after.new.queue place c.index-delay.result.now c.before-next.result is (read_at delays place c.index-delay.result.now in' c.index-delay.ensures) (c.before-next.ensures c.args.class.0 is.last.1) c.in_ok-push_after.ensures.due
 

@@ -1,7 +1,8 @@
 use Rattle.std.proofs.Common.{slice_index_or}
+use Rattle.std.proofs.lemmas.Option.{slice_get_within}
 use Rattle.lw_trade.specs.declared.point.Point.{Point}
 use Rattle.lw_trade.proofs.Deadlines.{last_least, none_least}
-use Rattle.lw_trade.proofs.Lists.{get_in, got}
+use Rattle.lw_trade.proofs.Lists.{got}
 use Rattle.lw_trade.proofs.grouping.Curves.area_by.Goals as goal
 
 pub returns-in-Some : goal.returns-in-Some
@@ -10,7 +11,7 @@ returns-in-Some c s horizon are bound within =
     let row = c.of-points.result.now in
     let place = c.in-Some.place in
     let is = c.in-Some.ensures in
-    let lt = get_in row place is.point is.at in
+    let lt = slice_get_within row place is.point is.at in
     last_least s horizon c.args.self.now.points are bound c.args.class.0 c.args.time.0 row c.of-points.ensures.points within place (slice_index_or row place d) is (got row place d lt) c.of-points.ensures.rising
 
 pub returns-in-None : goal.returns-in-None

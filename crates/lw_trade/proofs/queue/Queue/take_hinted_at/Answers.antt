@@ -1,8 +1,8 @@
 use Rattle.std.proofs.Common.{◌-◌, ◌≤◌, ◌<◌, ◌∷◌, ◌++◌, ◌∙◌, ℕ, Some, heap_items, sym, ap, subst, subst₂, arith}
 use Rattle.std.specs.List.Sorted.{IsPermutation}
+use Rattle.std.proofs.lemmas.Option.{slice_get_within}
 use Rattle.lw_trade.specs.Queues.{Item, IsMostLeft, IsQueue, flat}
 use Rattle.lw_trade.specs.Settling.{Queued, Waits}
-use Rattle.lw_trade.proofs.Lists.{get_in}
 use Rattle.lw_trade.proofs.Queueing.{heap_without, none_in, none_taken, queue_taken, taken_heap, taken_lanes, taken_left}
 use Rattle.lw_trade.proofs.queue.Queue.take_hinted_at.Goals as goal
 
@@ -32,7 +32,7 @@ returns-in_default-most_in_heap c =
     let (same, less) = c.in_default.ensures in
     let first = subst (λ (q : Queued). (t n : ℕ) → Waits q t n → c.args.time ≤ t) (sym c.self.view_is) c.requires.first in
     let within : c.args.time ≤ horizon = omega (arith, c.requires.within, ap (λ (q : Queued). q.horizon) c.self.view_is) in
-    let over = none_taken horizon c.args.time heap old c.self.invariant within first (λ i lane at. less i lane (omega arith) (get_in old i lane at) at) (none_in (horizon - c.args.time) heap (c.in_default-most_in_heap.ensures c.self.invariant.is_heap)) in
+    let over = none_taken horizon c.args.time heap old c.self.invariant within first (λ i lane at. less i lane (omega arith) (slice_get_within old i lane at) at) (none_in (horizon - c.args.time) heap (c.in_default-most_in_heap.ensures c.self.invariant.is_heap)) in
     (ap (λ ls. record { horizon = horizon; items = heap ++ flat ls }) same ∙ c.self.view_is, subst (λ (q : Queued). (t n : ℕ) → Waits q t n → c.args.time < t) c.self.view_is over)
 
 pub returns-then-first-left : goal.returns-then-first-left
@@ -43,7 +43,7 @@ returns-then-first-left c =
     let (same, less) = c.in_default.ensures in
     let first = subst (λ (q : Queued). (t n : ℕ) → Waits q t n → c.args.time ≤ t) (sym c.self.view_is) c.requires.first in
     let within : c.args.time ≤ horizon = omega (arith, c.requires.within, ap (λ (q : Queued). q.horizon) c.self.view_is) in
-    let over = none_taken horizon c.args.time heap old c.self.invariant within first (λ i lane at. less i lane (omega arith) (get_in old i lane at) at) (heap_without (horizon - c.args.time) c.in-Some-most_in_heap.first heap (c.in-Some-most_in_heap.ensures c.self.invariant.is_heap) c.if-first-left.true) in
+    let over = none_taken horizon c.args.time heap old c.self.invariant within first (λ i lane at. less i lane (omega arith) (slice_get_within old i lane at) at) (heap_without (horizon - c.args.time) c.in-Some-most_in_heap.first heap (c.in-Some-most_in_heap.ensures c.self.invariant.is_heap) c.if-first-left.true) in
     (ap (λ ls. record { horizon = horizon; items = heap ++ flat ls }) same ∙ c.self.view_is, subst (λ (q : Queued). (t n : ℕ) → Waits q t n → c.args.time < t) c.self.view_is over)
 
 pub invariant_of-self-2 : goal.invariant_of-self-2
