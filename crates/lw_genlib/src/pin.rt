@@ -1,5 +1,5 @@
 /// A word behind a pin's name.
-#[derive(Clone, Copy, Debug, PartialEq, Eq)]
+#[derive(Clone, Copy, PartialEq, Eq)]
 pub enum Field {
     Phase,
     Load,
@@ -11,7 +11,7 @@ pub enum Field {
 }
 
 /// The pins to which a delay belongs.
-#[derive(Clone, Copy, Debug, PartialEq, Eq)]
+#[derive(Clone, Copy, PartialEq, Eq)]
 pub enum Target {
     /// All of them.
     Every,

@@ -1,7 +1,7 @@
 use lw_pool::Name;
 
 /// A token of a function: a name, or one byte of `( ) ! ' + * = & | ^ " ;`.
-#[derive(Debug, Drop)]
+#[derive(Drop)]
 pub(crate) enum Token {
     /// A name.
     Name(Name),

@@ -13,7 +13,7 @@ use lw_pool::{ClassId, PairId, Pool};
 use std::alloc::AllocError;
 
 // A pair, with the class that holds it.
-#[derive(Clone, Copy, Debug)]
+#[derive(Clone, Copy)]
 pub(crate) struct Entry {
     pair: Pair,
     class: ClassId,

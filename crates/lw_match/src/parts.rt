@@ -1,6 +1,6 @@
 /// What a side of a NAND in a pattern is, where pins with the same gap are alike. What is added to
 /// the number below a side is its shift: a part carries what the gaps of its pins have in common.
-#[derive(Clone, Copy, Debug, PartialEq, Eq, PartialOrd, Ord, Hash)]
+#[derive(Clone, Copy, PartialEq, Eq, PartialOrd, Ord, Hash)]
 pub enum Kind {
     /// Any tree.
     Any,
@@ -13,21 +13,21 @@ pub enum Kind {
 }
 
 /// A side of a NAND: what it is, and whether an inverter stands before it.
-#[derive(Clone, Copy, Debug, PartialEq, Eq, PartialOrd, Ord, Hash)]
+#[derive(Clone, Copy, PartialEq, Eq, PartialOrd, Ord, Hash)]
 pub struct Side {
     pub kind: Kind,
     pub flipped: bool,
 }
 
 /// A NAND in a pattern, by its two sides.
-#[derive(Clone, Copy, Debug, PartialEq, Eq, Hash)]
+#[derive(Clone, Copy, PartialEq, Eq, Hash)]
 pub struct Part {
     pub left: Side,
     pub right: Side,
 }
 
 /// A part, where the numbers of its two sides stand in lists of numbers, and their shifts.
-#[derive(Clone, Copy, Debug, PartialEq, Eq)]
+#[derive(Clone, Copy, PartialEq, Eq)]
 pub struct Rule {
     pub part: u32,
     pub left: u32,
@@ -37,7 +37,7 @@ pub struct Rule {
 }
 
 /// The root of a pattern: where its number stands in its list of numbers, and its shift.
-#[derive(Clone, Copy, Debug, PartialEq, Eq)]
+#[derive(Clone, Copy, PartialEq, Eq)]
 pub struct Root {
     pub pattern: u32,
     pub place: u32,

@@ -9,7 +9,7 @@ use std::alloc::{AllocError, Global};
 use std::marker::Model;
 
 /// A tree.
-#[derive(Debug, Drop)]
+#[derive(Drop)]
 pub(crate) struct Shape {
     steps: Vec<Step>,
 }

@@ -9,7 +9,7 @@ use std::alloc::{AllocError, Global};
 use std::marker::Model;
 
 /// Trees in order.
-#[derive(Debug, Drop)]
+#[derive(Drop)]
 pub(crate) struct Shapes {
     items: Vec<Shape>,
 }

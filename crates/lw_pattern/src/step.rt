@@ -1,5 +1,5 @@
 /// A step of a tree in postfix order: the steps of its operands come before its own.
-#[derive(Clone, Copy, Debug, PartialEq, Eq)]
+#[derive(Clone, Copy, PartialEq, Eq)]
 pub(crate) enum Step {
     /// A pin of the cell.
     Leaf(u8),
@@ -14,14 +14,14 @@ pub(crate) enum Step {
 }
 
 /// An operator of expressions.
-#[derive(Clone, Copy, Debug, PartialEq, Eq)]
+#[derive(Clone, Copy, PartialEq, Eq)]
 pub(crate) enum Operator {
     And,
     Or,
 }
 
 /// How operators with three or four operands are bracketed.
-#[derive(Clone, Copy, Debug, PartialEq, Eq)]
+#[derive(Clone, Copy, PartialEq, Eq)]
 pub(crate) enum Bracketing {
     /// In every way.
     Every,

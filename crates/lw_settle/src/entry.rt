@@ -4,7 +4,7 @@ ghost use Rattle.lw_settle.specs.Queues.{is_before, lesser, mark_of, no_cost, no
 use lw_match::Mark;
 
 /// A class with the mark that it waits with. The greatest cost and height stand for no mark.
-#[derive(Clone, Copy, Debug)]
+#[derive(Clone, Copy)]
 pub(crate) struct Entry {
     pub cost: u64,
     pub height: u32,

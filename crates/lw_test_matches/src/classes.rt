@@ -30,9 +30,8 @@ fn check_holders(rt: &impl Abort, graph: &Graph) {
     }
 }
 
-#[test]
-fn forms_share_classes_whose_pairs_are_found(rt: HostRuntime) -> Result<(), Fail> {
-    let mut graph = graph_of(rt.alloc(), SHARED)?;
+// Looks at the classes of the graph of `SHARED`, and for their pairs without an index and with one.
+fn check_shared(rt: &impl Abort, graph: &mut Graph) -> Result<(), Fail> {
     if graph.classes() != 8 {
         return Err(Fail::from("the forms have eight classes"));
     }
@@ -41,8 +40,14 @@ fn forms_share_classes_whose_pairs_are_found(rt: HostRuntime) -> Result<(), Fail
         y: ClassId(4),
     };
     assert!(rt; graph.nands(ClassId(6)) == [pair].as_slice());
-    check_holders(&rt, &graph);
+    check_holders(rt, graph);
     graph.make_index()?;
-    check_holders(&rt, &graph);
+    check_holders(rt, graph);
     Ok(())
+}
+
+#[test]
+fn forms_share_classes_whose_pairs_are_found(rt: HostRuntime) -> Result<(), Fail> {
+    let mut graph = graph_of(rt.alloc(), SHARED)?;
+    check_shared(&rt, &mut graph)
 }

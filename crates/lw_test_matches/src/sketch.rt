@@ -120,6 +120,15 @@ fn add_links(draft: &mut Draft, samples: &[bool], links: &[(u32, u32)]) -> Resul
     Ok(())
 }
 
+// Adds what a sketch says to a draft of its inputs.
+fn fill(draft: &mut Draft, samples: &mut Vec<bool>, sketch: Sketch<'_>) -> Result<(), Fail>
+    requires { draft.old.samples ≡ samples.old.items }
+{
+    add_forms(draft, samples, sketch.samples)?;
+    add_facts(draft, samples, sketch.facts)?;
+    add_links(draft, samples, sketch.links)
+}
+
 /// The graph of a sketch.
 pub(crate) fn graph_of(alloc: Global, sketch: Sketch<'_>) -> Result<Graph, Fail> {
     if sketch.inputs > 1000 {
@@ -127,8 +136,7 @@ pub(crate) fn graph_of(alloc: Global, sketch: Sketch<'_>) -> Result<Graph, Fail>
     }
     let mut draft = Draft::new(alloc, sketch.inputs)?;
     let mut samples = first_samples(alloc, sketch.inputs)?;
-    add_forms(&mut draft, &mut samples, sketch.samples)?;
-    add_facts(&mut draft, &samples, sketch.facts)?;
-    add_links(&mut draft, &samples, sketch.links)?;
+    fill(&mut draft, &mut samples, sketch)?;
+    drop(samples);
     Ok(reduce(alloc, draft)?)
 }

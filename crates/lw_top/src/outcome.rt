@@ -21,7 +21,7 @@ use lw_verilog::write_verilog;
 use std::alloc::Global;
 
 /// What a run comes to.
-#[derive(Debug, Drop)]
+#[derive(Drop)]
 pub enum Outcome {
     Done,
     WriteFault,

@@ -14,7 +14,7 @@ use std::alloc::{AllocError, Global};
 /// The most bytes of a file.
 const MAX_LEN: usize = 67_108_864;
 
-#[derive(Clone, Copy, Debug, PartialEq, Eq)]
+#[derive(Clone, Copy, PartialEq, Eq)]
 enum ReadError {
     Failed,
     Memory,

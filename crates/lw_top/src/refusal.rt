@@ -11,7 +11,7 @@ use lw_verilog::{NoVerilog, VerilogKind};
 use std::alloc::AllocError;
 
 /// Which of the files.
-#[derive(Clone, Copy, Debug, PartialEq, Eq)]
+#[derive(Clone, Copy, PartialEq, Eq)]
 pub enum Which {
     Library,
     Network,
@@ -21,7 +21,7 @@ pub enum Which {
 }
 
 /// Why there is no answer.
-#[derive(Debug, Drop)]
+#[derive(Drop)]
 pub enum Refusal {
     /// The words have none of the written forms.
     Words,

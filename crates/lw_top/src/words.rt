@@ -13,7 +13,7 @@ use lw_fixed::{Micro, read};
 use lw_map::Options;
 
 /// A command, with its options and the words for its files.
-#[derive(Clone, Copy, Debug)]
+#[derive(Clone, Copy)]
 pub enum Command<'a> {
     /// The network mapped to cells of the library, with its certificate or without.
     Mapping(Options, bool, &'a str, &'a str),
@@ -102,7 +102,7 @@ fn leaves_of(word: &str) -> Option<u8>
 }
 
 /// Options, and the words behind them.
-#[derive(Clone, Copy, Debug)]
+#[derive(Clone, Copy)]
 pub struct Begun<'a> {
     options: Options,
     rest: &'a [String],

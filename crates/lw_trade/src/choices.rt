@@ -18,21 +18,21 @@ use lw_settle::{Store, StoreFault, store_matches};
 use std::alloc::{AllocError, Global};
 
 /// A cell with the classes of its pins.
-#[derive(Debug, Drop)]
+#[derive(Drop)]
 pub(crate) struct Gate {
     pub cell: CellId,
     pub pins: Pins,
 }
 
 /// What may stand at a class: an input, or a cell by a match.
-#[derive(Debug, Drop)]
+#[derive(Drop)]
 pub(crate) enum Stand {
     Input(u32),
     Gate(Gate),
 }
 
 /// What may stand at which class.
-#[derive(Debug, Drop)]
+#[derive(Drop)]
 pub(crate) struct Row {
     pub class: ClassId,
     pub stand: Stand,

@@ -4,7 +4,7 @@ use lw_fixed::Micro;
 /// its own, the number of the choice that gave it its area, and how many points of its class are
 /// before it. A place of an earlier one of these lets a search leave out those between; it need not
 /// be right.
-#[derive(Clone, Copy, Debug)]
+#[derive(Clone, Copy)]
 pub(crate) struct Found {
     pub time: Micro,
     pub area: u64,
@@ -15,7 +15,7 @@ pub(crate) struct Found {
 }
 
 /// How many areas were gained before that of a point, and the number of the choice that gave it.
-#[derive(Clone, Copy, Debug)]
+#[derive(Clone, Copy)]
 pub(crate) struct Way {
     pub order: u64,
     pub choice: u32,

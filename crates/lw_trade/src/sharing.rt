@@ -11,7 +11,7 @@ use lw_pool::ClassId;
 use std::alloc::{AllocError, Global};
 
 /// What the first point of a class is. Classes are gone through by it, from the highest down.
-#[derive(Clone, Copy, Debug, PartialEq, Eq, PartialOrd, Ord)]
+#[derive(Clone, Copy, PartialEq, Eq, PartialOrd, Ord)]
 struct Rank {
     time: Micro,
     area: u64,

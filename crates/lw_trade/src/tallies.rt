@@ -18,7 +18,7 @@ use std::alloc::{AllocError, Global};
 
 /// The class of a choice, and no more than the area of its cell and what the groups of its pins
 /// have seen together: a bound below 2^96, in two parts, since a `u128` would double the size.
-#[derive(Clone, Copy, Debug)]
+#[derive(Clone, Copy)]
 pub(crate) struct Tally {
     low: u64,
     high: u32,

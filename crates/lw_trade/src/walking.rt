@@ -28,7 +28,7 @@ pub(crate) struct Walk {
 
 /// A point that gets a gate: its class, and its place among the points of the class. An exact gate
 /// has the area of the point, a shared one has only to come by its time.
-#[derive(Clone, Copy, Debug)]
+#[derive(Clone, Copy)]
 pub(crate) struct Node {
     pub class: ClassId,
     pub place: u32,
@@ -36,7 +36,7 @@ pub(crate) struct Node {
 }
 
 /// What uses the net of a gate: the pin of a gate at a place, or the root where there is no gate.
-#[derive(Clone, Copy, Debug)]
+#[derive(Clone, Copy)]
 pub(crate) struct User {
     pub gate: Option<u32>,
     pub place: u32,

@@ -11,7 +11,7 @@ use std::mem;
 const WORD_MAX: usize = 4095;
 
 /// The words of a line that is being read.
-#[derive(Debug, Drop)]
+#[derive(Drop)]
 pub struct Gathering {
     bytes: Bytes,
     ends: Ends,
