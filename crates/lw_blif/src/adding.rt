@@ -26,13 +26,9 @@ pub fn with_row(alloc: Global, node: DraftNode, words: &Words) -> Result<DraftNo
     requires { has_shape (length node.fanins) words.now ≡ true }
     ensures { IfOk result (λ n. n ≡ row_added words.now node) }
 {
+    let mut node = node;
     let row = columns(alloc, node.fanins.len(), words)?;
-    let mut rows = node.rows;
-    rows.push(row)?;
-    Ok(DraftNode {
-        out: node.out,
-        fanins: node.fanins,
-        rows,
-        on: last_word(words) != b"0".as_slice(),
-    })
+    node.rows.push(row)?;
+    node.on = last_word(words) != b"0".as_slice();
+    Ok(node)
 }

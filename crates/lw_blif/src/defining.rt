@@ -1,5 +1,5 @@
 // Signals that a line defines, and the node that it begins.
-ghost use Rattle.std.specs.Prelude.{◌≡◌, ◌-◌, ◌≤◌, ◌<◌, ◌++◌, [], ◌∷◌, true, false, length, take, drop, option_to_list, IfOk, OnOk};
+ghost use Rattle.std.specs.Prelude.{◌≡◌, ◌-◌, ◌≤◌, ◌<◌, ◌++◌, [], ◌∷◌, true, false, length, take, drop, option_to_list, Some, IfOk, OnOk};
 ghost use Rattle.std.specs.List.{slice_range};
 ghost use Rattle.indexmap.specs.IndexSet.{insert_all};
 ghost use Rattle.std.specs.Str.{bytes_eq};
@@ -10,7 +10,7 @@ ghost use Rattle.lw_blif.specs.Drafts.{latch_of};
 use crate::naming::{last_word, names_between};
 use indexmap::IndexSet;
 use lw_net::{Cubes, DraftNode};
-use lw_pool::{Latch, Name, Names};
+use lw_pool::{Latch, Latches, Name, Names};
 use lw_words::Words;
 use std::alloc::{AllocError, Global};
 
@@ -101,8 +101,8 @@ pub fn add_all(
     Ok(())
 }
 
-/// The node of a line with two words or more, before its rows.
-pub fn new_node(alloc: Global, words: &Words) -> Result<DraftNode, AllocError>
+// The node of a line with two words or more, before its rows.
+fn new_node(alloc: Global, words: &Words) -> Result<DraftNode, AllocError>
     requires { 2 ≤ length words.now }
     ensures { IfOk result (λ node. node ≡ node_begun words.now) }
 {
@@ -116,8 +116,8 @@ pub fn new_node(alloc: Global, words: &Words) -> Result<DraftNode, AllocError>
     })
 }
 
-/// The latch of a line.
-pub fn new_latch(alloc: Global, words: &Words) -> Result<Latch, AllocError>
+// The latch of a line.
+fn new_latch(alloc: Global, words: &Words) -> Result<Latch, AllocError>
     requires { 3 ≤ length words.now }
     ensures { IfOk result (λ latch. latch_of (drop 1 words.now) ≡ latch ∷ []) }
 {
@@ -129,4 +129,27 @@ pub fn new_latch(alloc: Global, words: &Words) -> Result<Latch, AllocError>
         output,
         rest,
     })
+}
+
+/// Puts the node of a line with two words or more in the place of one before.
+pub fn begin_node(
+    alloc: Global,
+    node: &mut Option<DraftNode>,
+    words: &Words,
+) -> Result<(), AllocError>
+    requires { 2 ≤ length words.now }
+    ensures { OnOk result (node.new ≡ Some (node_begun words.now)) }
+{
+    let begun = new_node(alloc, words)?;
+    drop(node.replace(begun));
+    Ok(())
+}
+
+/// Adds the latch of a line.
+pub fn add_latch(alloc: Global, latches: &mut Latches, words: &Words) -> Result<(), AllocError>
+    requires { 3 ≤ length words.now }
+    ensures { OnOk result (latches.new ≡ latches.old ++ latch_of (drop 1 words.now)) }
+{
+    latches.push(new_latch(alloc, words)?)?;
+    Ok(())
 }

@@ -1,5 +1,5 @@
 // The draft of what lines say.
-ghost use Rattle.std.specs.Prelude.{◌≡◌, ◌<◌, ◌+◌, ◌++◌, IfOk, List, All, length, drop, replicate, Some, option_to_list, unwrap_or, codes, slice_get};
+ghost use Rattle.std.specs.Prelude.{◌≡◌, ◌<◌, ◌+◌, ◌++◌, IfOk, OnOk, List, All, length, drop, replicate, Some, option_to_list, unwrap_or, codes, slice_get};
 ghost use Rattle.indexmap.specs.IndexSet.{index_set_len};
 ghost use Rattle.lw_frame.specs.Frames.{input_names, root_names};
 ghost use Rattle.std.specs.List.{IsDistinct};
@@ -51,8 +51,8 @@ fn name_or_unnamed(alloc: Global, name: Option<Name>) -> Result<Name, AllocError
     }
 }
 
-/// The nodes, and one more where there is one.
-pub fn with_last(nodes: DraftNodes, node: Option<DraftNode>) -> Result<DraftNodes, AllocError>
+// The nodes, and one more where there is one.
+fn with_last(nodes: DraftNodes, node: Option<DraftNode>) -> Result<DraftNodes, AllocError>
     ensures { IfOk result (λ all. all ≡ nodes ++ option_to_list node) }
 {
     let mut nodes = nodes;
@@ -83,21 +83,21 @@ fn count(names: usize) -> Result<u32, AllocError>
     }
 }
 
-/// A frame, and the roots of its circuit.
-#[derive(Drop)]
-pub struct Framed {
-    pub frame: Frame,
-    pub roots: IndexSet<Name>,
+/// How many inputs and outputs a circuit has.
+#[derive(Clone, Copy)]
+pub struct Counts {
+    pub inputs: u32,
+    pub outputs: u32,
 }
 
 /// The starts of these inputs and of the outputs of latches behind them.
 pub fn starts_of(
     alloc: Global,
-    arrivals: Arrivals,
+    arrivals: &Arrivals,
     inputs: &Names,
     latches: &Latches,
 ) -> Result<Micros, AllocError>
-    ensures starts { (lines : List Arrival) → StandsFor arrivals lines →
+    ensures starts { (lines : List Arrival) → StandsFor arrivals.now lines →
         IfOk result (λ starts. starts ≡ starts_of lines inputs.now (length latches.now)) }
     ensures count { IfOk result (λ starts. length starts ≡ length inputs.now + length latches.now) }
     ensures latches { IfOk result (λ starts. drop (length inputs.now) starts
@@ -107,47 +107,69 @@ pub fn starts_of(
     arrivals.starts(alloc, inputs.as_slice(), latches.len())
 }
 
-/// The frame of a circuit with these inputs, outputs and latches, and its roots.
-pub fn frame_of(
+/// Makes the names of the outputs those of the roots: behind them come what the latches read. It
+/// counts the inputs, and the outputs that there were.
+pub fn add_and_count(
     alloc: Global,
     inputs: &Names,
-    outputs: IndexSet<Name>,
-    latches: Latches,
-) -> Result<Framed, AllocError>
-    ensures inputs { IfOk result (λ r. r.frame.inputs ≡ length inputs.now) }
-    ensures outputs { IfOk result (λ r. r.frame.outputs ≡ length outputs.keys) }
-    ensures latches { IfOk result (λ r. r.frame.latches ≡ latches) }
-    ensures roots { IfOk result (λ r. r.roots.keys ≡ root_names outputs.keys latches) }
-    ensures differ { IfOk result (λ r. IsDistinct bytes_eq outputs.keys) }
+    names: &mut IndexSet<Name>,
+    latches: &Latches,
+) -> Result<Counts, AllocError>
+    ensures inputs { IfOk result (λ r. r.inputs ≡ length inputs.now) }
+    ensures outputs { IfOk result (λ r. r.outputs ≡ length names.old.keys) }
+    ensures roots { OnOk result (names.new.keys ≡ root_names names.old.keys latches.now) }
+    ensures differ { OnOk result (IsDistinct bytes_eq names.old.keys) }
 {
-    let mut roots = outputs;
-    let own_outputs = add_roots(alloc, &mut roots, latches.as_slice())?;
-    let frame = Frame {
+    let outputs = add_roots(alloc, names, latches.as_slice())?;
+    Ok(Counts {
         inputs: count(inputs.len())?,
-        outputs: count(own_outputs)?,
-        latches,
-    };
-    Ok(Framed { frame, roots })
+        outputs: count(outputs)?,
+    })
 }
 
-/// The draft of a circuit with these inputs, frame and nodes.
-pub fn draft_of(
+/// The names of a draft, those of its nodes aside.
+#[derive(Drop)]
+pub struct Around {
+    pub model: Name,
+    pub inputs: Names,
+    pub outputs: Names,
+}
+
+/// The names of the draft of a circuit with these inputs, latches and roots.
+pub fn names_around(
     alloc: Global,
     model: Option<Name>,
     inputs: Names,
-    around: &Framed,
-    nodes: DraftNodes,
-) -> Result<Draft, AllocError>
-    ensures model { IfOk result (λ draft. draft.model ≡ unwrap_or model (codes "unnamed")) }
-    ensures inputs { IfOk result (λ draft. draft.inputs
-        ≡ input_names inputs around.now.frame.latches) }
-    ensures outputs { IfOk result (λ draft. draft.outputs ≡ around.now.roots.keys) }
-    ensures nodes { IfOk result (λ draft. draft.nodes ≡ nodes) }
+    latches: &Latches,
+    roots: &IndexSet<Name>,
+) -> Result<Around, AllocError>
+    ensures model { IfOk result (λ r. r.model ≡ unwrap_or model (codes "unnamed")) }
+    ensures inputs { IfOk result (λ r. r.inputs ≡ input_names inputs latches.now) }
+    ensures outputs { IfOk result (λ r. r.outputs ≡ roots.now.keys) }
 {
-    Ok(Draft {
+    Ok(Around {
         model: name_or_unnamed(alloc, model)?,
-        inputs: with_outputs(alloc, inputs, around.frame.latches.as_slice())?,
-        outputs: names_of(alloc, &around.roots)?,
+        inputs: with_outputs(alloc, inputs, latches.as_slice())?,
+        outputs: names_of(alloc, roots)?,
+    })
+}
+
+/// The draft with these names and nodes, and one node more where there is one.
+pub fn draft_of(
+    around: Around,
+    nodes: DraftNodes,
+    node: Option<DraftNode>,
+) -> Result<Draft, AllocError>
+    ensures model { IfOk result (λ draft. draft.model ≡ around.model) }
+    ensures inputs { IfOk result (λ draft. draft.inputs ≡ around.inputs) }
+    ensures outputs { IfOk result (λ draft. draft.outputs ≡ around.outputs) }
+    ensures nodes { IfOk result (λ draft. draft.nodes ≡ nodes ++ option_to_list node) }
+{
+    let nodes = with_last(nodes, node)?;
+    Ok(Draft {
+        model: around.model,
+        inputs: around.inputs,
+        outputs: around.outputs,
         nodes,
     })
 }

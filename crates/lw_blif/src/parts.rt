@@ -4,19 +4,20 @@ ghost use Rattle.std.specs.Prelude.{◌≡◌, ◌≢◌, ◌+◌, ◌<◌, ◌�
 use crate::adding::with_row;
 use crate::arrival::{add_start, start_on};
 use crate::defining::{
-    add_all, append_all, define_all, define_one, name_or_second, new_latch, new_node,
+    add_all, add_latch, append_all, begin_node, define_all, define_one, name_or_second,
 };
-use crate::drafting::{Said, draft_of, frame_of, starts_of, with_last};
+use crate::drafting::{Said, add_and_count, draft_of, names_around, starts_of};
 use crate::naming::last_word;
 use crate::rows::row_fault;
 use crate::rules::names_fault;
 use crate::{BlifFault, BlifKind, Command, Parsed};
 use indexmap::IndexSet;
 use lw_frame::Arrivals;
-use lw_net::{DraftNode, DraftNodes, Network, closed_is_network};
-use lw_pool::{Latches, Name, Names};
+use lw_net::{Draft, DraftNode, DraftNodes, Network, closed_is_network};
+use lw_pool::{Frame, Latches, Name, Names};
 use lw_words::{Line, Words};
 use std::alloc::{AllocError, Global};
+use std::mem;
 
 /// What lines say, as far as they were read.
 #[derive(Drop)]
@@ -38,6 +39,8 @@ pub struct Parts {
 impl Parts {
     ghost use Rattle.lw_words.specs.Lines.{LogicalLine};
     ghost use Rattle.lw_blif.specs.BlifNetworks.{ClosesTo, IsModel};
+    ghost use Rattle.std.specs.Prelude.{unwrap_or, codes};
+    ghost use Rattle.lw_frame.specs.Frames.{input_names};
     ghost use Rattle.lw_net.specs.Plain.{HasRisingDepths};
     ghost use Rattle.lw_blif.specs.Keeping.{Keeps, IsSaidBy, SaidFits, IsArrivalLine, ReadsArrival, arrival_fault, IsOfSome, AddsRow, Defines, EndsNode, TakesNames, TakesModel, ReadsNames, names_fault};
     ghost use Rattle.lw_blif.specs.Readers.{row_fault_of, are_fresh};
@@ -65,26 +68,51 @@ impl Parts {
             IfOk result (IsSaidBy lines) }
         ensures fits { IfOk result SaidFits }
     {
-        let Parts {
-            alloc,
-            model,
-            inputs,
-            outputs,
+        let mut parts = self;
+        let said = parts.say();
+        drop(parts);
+        said
+    }
+
+    // What the lines that were read say. Behind this the parts are of no use.
+    fn say(&mut self) -> Result<Said, AllocError>
+        ensures said { (lines : List LogicalLine) → Keeps self.old lines →
+            IfOk result (IsSaidBy lines) }
+        ensures fits { IfOk result SaidFits }
+    {
+        let alloc = self.alloc;
+        let starts = starts_of(alloc, &self.arrivals, &self.inputs, &self.latches)?;
+        let counts = add_and_count(alloc, &self.inputs, &mut self.outputs, &self.latches)?;
+        let draft = self.draft()?;
+        let latches = mem::replace(&mut self.latches, Latches::new(alloc));
+        let frame = Frame {
+            inputs: counts.inputs,
+            outputs: counts.outputs,
             latches,
-            arrivals,
-            nodes,
-            node,
-            ..
-        } = self;
-        let starts = starts_of(alloc, arrivals, &inputs, &latches)?;
-        let nodes = with_last(nodes, node)?;
-        let framed = frame_of(alloc, &inputs, outputs, latches)?;
-        let draft = draft_of(alloc, model, inputs, &framed, nodes)?;
+        };
         Ok(Said {
             draft,
-            frame: framed.frame,
+            frame,
             starts,
         })
+    }
+
+    // The draft, whose outputs are the roots that the outputs have become.
+    fn draft(&mut self) -> Result<Draft, AllocError>
+        ensures model { IfOk result (λ d. d.model ≡ unwrap_or self.old.model (codes "unnamed")) }
+        ensures inputs { IfOk result (λ d. d.inputs
+            ≡ input_names self.old.inputs self.old.latches) }
+        ensures outputs { IfOk result (λ d. d.outputs ≡ self.old.outputs.keys) }
+        ensures nodes { IfOk result (λ d. d.nodes
+            ≡ self.old.nodes ++ option_to_list self.old.node) }
+        ensures latches { self.new.latches ≡ self.old.latches }
+    {
+        let alloc = self.alloc;
+        let model = self.model.take();
+        let inputs = mem::replace(&mut self.inputs, Names::new(alloc));
+        let around = names_around(alloc, model, inputs, &self.latches, &self.outputs)?;
+        let nodes = mem::replace(&mut self.nodes, DraftNodes::new(alloc));
+        draft_of(around, nodes, self.node.take())
     }
 
     /// The model of the lines that were read.
@@ -238,8 +266,8 @@ impl Parts {
         match command {
             Command::Inputs => append_all(self.alloc, &mut self.inputs, words, 1)?,
             Command::Outputs => add_all(self.alloc, &mut self.outputs, words, 1)?,
-            Command::Names => self.node = Some(new_node(self.alloc, words)?),
-            Command::Latch => self.latches.push(new_latch(self.alloc, words)?)?,
+            Command::Names => begin_node(self.alloc, &mut self.node, words)?,
+            Command::Latch => add_latch(self.alloc, &mut self.latches, words)?,
             Command::Model => self.take_model(words)?,
             _ => {}
         }

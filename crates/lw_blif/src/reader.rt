@@ -121,6 +121,7 @@ impl Reader {
     {
         let Reader { stop, parts, .. } = self;
         if let Some(stop) = stop {
+            drop(parts);
             return Err(stop.fault());
         }
         parts.close()

@@ -2,7 +2,9 @@
 ghost use Rattle.std.specs.Prelude.{◌≡◌, ◌-◌, ◌≤◌, ◌<◌, None, length, map, All, IfOk, IfErr, OnOk};
 ghost use Rattle.std.specs.List.{flat_map, IsDistinct};
 ghost use Rattle.std.specs.Str.{bytes_eq};
-ghost use Rattle.lw_net.specs.Closing.{IsDraft, HasFault, signals_of, fanins_of, undefined_in, first_undefined};
+ghost use Rattle.lw_net.specs.Closing.{IsDraft, IsClosed, HasFault, signals_of, fanins_of, undefined_in, first_undefined, network_in};
+ghost use Rattle.lw_net.specs.Networks.{IsNetwork};
+ghost use Rattle.lw_net.specs.Plain.{HasRisingDepths};
 ghost use Rattle.lw_pool.specs.Numbers.{most_signals};
 ghost use Rattle.lw_net.specs.Numbered.{numbered};
 ghost use Rattle.lw_net.specs.Numbers.{draft_in, IsWritten, IsTable};
@@ -11,11 +13,12 @@ ghost use Rattle.lw_net.specs.Written.{names_in, net_placed, placed_node, IsWith
 
 use crate::places::{copy_of, graph, places, row};
 use crate::written::{NumberedNode, Written, signal_list};
-use crate::{NetFault, Node};
+use crate::{NetFault, Node, Nodes};
 use indexmap::IndexSet;
-use lw_dag::{find_levels, first_on_cycle};
-use lw_pool::{Name, NetId, Nets, Numbers};
+use lw_dag::{find_levels, first_on_cycle, in_order};
+use lw_pool::{Name, Names, NetId, Nets, Numbers};
 use std::alloc::{AllocError, Global};
+use std::mem;
 
 // The depths of nodes with these heights.
 fn depths_of(alloc: Global, heights: &[u32]) -> Result<Vec<u32>, AllocError>
@@ -25,7 +28,7 @@ fn depths_of(alloc: Global, heights: &[u32]) -> Result<Vec<u32>, AllocError>
 }
 
 // The places of the names of a draft among its signals.
-pub(crate) fn table(alloc: Global, w: &Written) -> Result<Vec<u32>, AllocError>
+fn table(alloc: Global, w: &Written) -> Result<Vec<u32>, AllocError>
     requires kept { IsWritten w.now }
     requires distinct { IsDistinct bytes_eq (signals_of (draft_in w.now)) }
     requires few { length (signals_of (draft_in w.now)) ≤ most_signals }
@@ -37,7 +40,7 @@ pub(crate) fn table(alloc: Global, w: &Written) -> Result<Vec<u32>, AllocError>
 
 // The numbers of the nodes' fan-ins among the signals of a draft, or the first signal that nothing
 // drives.
-pub(crate) fn graph_of(alloc: Global, w: &Written) -> Result<Vec<Numbers>, NetFault>
+fn graph_of(alloc: Global, w: &Written) -> Result<Vec<Numbers>, NetFault>
     requires kept { IsWritten w.now }
     requires draft { IsDraft (draft_in w.now) }
     ensures graph { IfOk result (λ graph. graph.items
@@ -54,7 +57,7 @@ pub(crate) fn graph_of(alloc: Global, w: &Written) -> Result<Vec<Numbers>, NetFa
 }
 
 // The depths of the nodes, or the first node on a cycle.
-pub(crate) fn depths(alloc: Global, w: &Written, graph: &[Numbers]) -> Result<Vec<u32>, NetFault>
+fn depths(alloc: Global, w: &Written, graph: &[Numbers]) -> Result<Vec<u32>, NetFault>
     requires kept { IsWritten w.now }
     requires draft { IsDraft (draft_in w.now) }
     requires graph { graph.now ≡ numbered (signals_of (draft_in w.now)) (draft_in w.now).nodes }
@@ -76,8 +79,41 @@ pub(crate) fn depths(alloc: Global, w: &Written, graph: &[Numbers]) -> Result<Ve
     Ok(depths)
 }
 
+// The depths of the nodes of a draft, or its fault.
+fn draft_depths(alloc: Global, w: &Written) -> Result<Vec<u32>, NetFault>
+    requires kept { IsWritten w.now }
+    requires draft { IsDraft (draft_in w.now) }
+    ensures right { IfOk result (λ depths. AreRight (draft_in w.now) depths.items) }
+    ensures fault { IfErr result (HasFault (draft_in w.now)) }
+{
+    let graph = graph_of(alloc, w)?;
+    let depths = depths(alloc, w, &graph)?;
+    Ok(depths)
+}
+
+// Puts the nodes of a draft in the order of its network. Behind an error the draft is of no use.
+pub(crate) fn put_in_order(alloc: Global, w: &mut Written) -> Result<(), NetFault>
+    requires kept { IsWritten w.old }
+    requires draft { IsDraft (draft_in w.old) }
+    ensures names { OnOk result (IsWritten w.new) }
+    ensures distinct { OnOk result (IsDistinct bytes_eq (signals_of (draft_in w.new))) }
+    ensures few { OnOk result (length (signals_of (draft_in w.new)) ≤ most_signals) }
+    ensures kept { OnOk result (IsNetwork (network_in (draft_in w.new) (draft_in w.new).nodes)) }
+    ensures closed { OnOk result (IsClosed (draft_in w.old)
+        (network_in (draft_in w.new) (draft_in w.new).nodes)) }
+    ensures depths { OnOk result (HasRisingDepths
+        (network_in (draft_in w.new) (draft_in w.new).nodes)) }
+    ensures fault { IfErr result (HasFault (draft_in w.old)) }
+{
+    let depths = draft_depths(alloc, w)?;
+    let taken = mem::replace(&mut w.nodes, Vec::new(alloc));
+    let nodes = in_order(alloc, taken, &depths)?;
+    w.nodes = nodes;
+    Ok(())
+}
+
 // The nets of names with these numbers.
-pub(crate) fn nets(alloc: Global, places: &[u32], list: &[u32]) -> Result<Nets, AllocError>
+fn nets(alloc: Global, places: &[u32], list: &[u32]) -> Result<Nets, AllocError>
     requires { All (λ n. n < length places.now) list.now }
     ensures { IfOk result (λ nets. nets ≡ map (net_placed places.now) list.now) }
 {
@@ -103,7 +139,7 @@ fn closed(alloc: Global, node: NumberedNode, places: &[u32]) -> Result<Node, All
 }
 
 // The nodes with nets in place of names.
-pub(crate) fn closed_nodes(
+fn closed_nodes(
     alloc: Global,
     nodes: Vec<NumberedNode>,
     places: &[u32],
@@ -120,11 +156,7 @@ pub(crate) fn closed_nodes(
 }
 
 // Copies of the names with these numbers.
-pub(crate) fn copies(
-    alloc: Global,
-    names: &IndexSet<Name>,
-    list: &[u32],
-) -> Result<Vec<Name>, AllocError>
+fn copies(alloc: Global, names: &IndexSet<Name>, list: &[u32]) -> Result<Vec<Name>, AllocError>
     requires { All (λ n. n < length names.now.keys) list.now }
     ensures { IfOk result (λ copies. copies.items ≡ names_in names.now.keys list.now) }
 {
@@ -133,4 +165,41 @@ pub(crate) fn copies(
         copies.push(copy_of(alloc, names, *number)?)?;
     }
     Ok(copies)
+}
+
+// The parts of a network, its model aside.
+#[derive(Drop)]
+pub(crate) struct Parts {
+    pub(crate) names: Names,
+    pub(crate) inputs: u32,
+    pub(crate) nodes: Nodes,
+    pub(crate) outputs: Nets,
+}
+
+// The parts of the network whose nodes stand as in the draft. The draft keeps no nodes.
+pub(crate) fn parts_of(alloc: Global, w: &mut Written) -> Result<Parts, AllocError>
+    requires names { IsWritten w.old }
+    requires distinct { IsDistinct bytes_eq (signals_of (draft_in w.old)) }
+    requires few { length (signals_of (draft_in w.old)) ≤ most_signals }
+    ensures { IfOk result (λ p. record {
+      model = w.new.model;
+      names = p.names;
+      inputs = p.inputs;
+      nodes = p.nodes;
+      outputs = p.outputs;
+    } ≡ network_in (draft_in w.old) (draft_in w.old).nodes) }
+{
+    let places = table(alloc, w)?;
+    let list = signal_list(alloc, &w.inputs, &w.nodes)?;
+    let names = copies(alloc, &w.names, &list)?;
+    let inputs = w.inputs.len();
+    let outputs = nets(alloc, &places, &w.outputs)?;
+    let taken = mem::replace(&mut w.nodes, Vec::new(alloc));
+    let nodes = closed_nodes(alloc, taken, &places)?;
+    Ok(Parts {
+        names: Names::from_vec(names),
+        inputs: inputs as u32,
+        nodes: Nodes::from_vec(nodes),
+        outputs,
+    })
 }

@@ -1,10 +1,9 @@
 ghost use Rattle.std.specs.Prelude.{◌≡◌, ◌≤◌, length};
 
-use crate::close::{closed_nodes, copies, depths, graph_of, nets, table};
+use crate::close::{parts_of, put_in_order};
 use crate::eval::{copy_front, fill};
-use crate::written::{Written, by_numbers, signal_list};
+use crate::written::{Written, by_numbers};
 use crate::{Draft, NetFault, Node, Nodes};
-use lw_dag::in_order;
 use lw_pool::{Name, Names, NetId, Nets};
 use std::alloc::{AllocError, Global};
 use std::marker::Model;
@@ -124,25 +123,9 @@ impl Network {
         ensures depths { IfOk result HasRisingDepths }
         ensures fault { IfErr result (HasFault (draft_in w)) }
     {
-        let graph = graph_of(alloc, &w)?;
-        let depths = depths(alloc, &w, &graph)?;
-        drop(graph);
-        let Written {
-            model,
-            names,
-            inputs,
-            outputs,
-            nodes,
-        } = w;
-        let nodes = in_order(alloc, nodes, &depths)?;
-        let ordered = Written {
-            model,
-            names,
-            inputs,
-            outputs,
-            nodes,
-        };
-        let network = Network::of_ordered(alloc, ordered)?;
+        let mut w = w;
+        put_in_order(alloc, &mut w)?;
+        let network = Network::of_ordered(alloc, w)?;
         Ok(network)
     }
 
@@ -154,18 +137,14 @@ impl Network {
         requires kept { IsNetwork (network_in (draft_in w) (draft_in w).nodes) }
         ensures { IfOk result (λ net. net ≡ network_in (draft_in w) (draft_in w).nodes) }
     {
-        let places = table(alloc, &w)?;
-        let list = signal_list(alloc, &w.inputs, &w.nodes)?;
-        let names = copies(alloc, &w.names, &list)?;
-        let inputs = w.inputs.len();
-        let outputs = nets(alloc, &places, &w.outputs)?;
-        let nodes = closed_nodes(alloc, w.nodes, &places)?;
+        let mut w = w;
+        let parts = parts_of(alloc, &mut w)?;
         Ok(Network {
             model: w.model,
-            names: Names::from_vec(names),
-            inputs: inputs as u32,
-            nodes: Nodes::from_vec(nodes),
-            outputs,
+            names: parts.names,
+            inputs: parts.inputs,
+            nodes: parts.nodes,
+            outputs: parts.outputs,
         })
     }
 }

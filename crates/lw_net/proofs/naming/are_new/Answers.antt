@@ -1,7 +1,7 @@
 use Rattle.std.proofs.Common.{◌∙◌}
 use Rattle.std.proofs.lemmas.Bool.{false≢true}
 use Rattle.lw_net.proofs.Names.{fresh_more, twice}
-use Rattle.lw_net.proofs.naming.differ.Goals as goal
+use Rattle.lw_net.proofs.naming.are_new.Goals as goal
 
 pub loop-name-preserved : goal.loop-name-preserved
 loop-name-preserved c =
