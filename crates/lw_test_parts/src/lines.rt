@@ -1,5 +1,5 @@
 // Logical lines of small texts, in every cutting.
-ghost use Rattle.std.specs.Prelude.{◌≡◌, ◌≤◌, false, length, IfOk, OnOk};
+ghost use Rattle.std.specs.Prelude.{◌≡◌, ◌≤◌, ◌+◌, false, length, IfOk, OnOk};
 ghost use Rattle.lw_words.specs.Standing.{is_finished, fed_count};
 
 use lw_words::{Line, Lines, Words};
@@ -179,21 +179,54 @@ fn marks_are_kept(rt: HostRuntime) -> Result<(), Fail> {
     Ok(())
 }
 
+// Feeds the two pieces of a text.
+fn feed_two(lines: &mut Lines, one: &[u8], other: &[u8]) -> Result<(), AllocError>
+    requires unfinished { is_finished lines.old ≡ false }
+    requires room { fed_count lines.old + length one.now + length other.now ≤ 67108865 }
+{
+    lines.feed(one)?;
+    lines.feed(other)?;
+    lines.finish()
+}
+
+// The first line of a text that begins with a word of so many bytes and goes on with another.
+fn long_word(alloc: Global, len: usize) -> Result<Option<Line>, AllocError> {
+    if len > 10_000 {
+        return Ok(None);
+    }
+    let word = vec![in alloc; b'w'; len]?;
+    let mut lines = Lines::new(alloc, false);
+    let fed = feed_two(&mut lines, &word, b" x");
+    drop(word);
+    let line = lines.take();
+    drop(lines);
+    fed?;
+    Ok(line)
+}
+
+// Looks at the line of a long word, of which so many bytes are kept.
+fn check_long(
+    rt: &impl Abort,
+    alloc: Global,
+    line: &Line,
+    kept: usize,
+    long: bool,
+) -> Result<(), Fail> {
+    assert_eq!(rt; line.long, long);
+    assert_eq!(rt; line.words.len(), 2);
+    let words = joined(alloc, &line.words)?;
+    assert!(rt; words.len() > 2 && words.len() - 2 == kept);
+    Ok(())
+}
+
 #[test]
 fn a_long_word_is_cut(rt: HostRuntime) -> Result<(), Fail> {
     let alloc = rt.alloc();
     for (len, kept, long) in [(4095, 4095, false), (4096, 4095, true), (9000, 4095, true)] {
-        let word = vec![in alloc; b'w'; len]?;
-        let mut lines = Lines::new(alloc, false);
-        lines.feed(&word)?;
-        lines.feed(b" x")?;
-        lines.finish()?;
-        let Some(line) = lines.take() else {
+        let Some(line) = long_word(alloc, len)? else {
             return Err(Fail::from("there is a line"));
         };
-        assert_eq!(&rt; line.long, long);
-        assert_eq!(&rt; line.words.len(), 2);
-        assert_eq!(&rt; joined(alloc, &line.words)?.len(), kept + 2);
+        check_long(&rt, alloc, &line, kept, long)?;
     }
     Ok(())
 }
