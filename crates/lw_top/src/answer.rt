@@ -67,8 +67,13 @@ fn map_files<F: Shelf>(
     ensures files { F.files shelf.new ≡ F.files shelf.old }
 {
     let library = read_library(alloc, shelf, library)?;
-    let model = read_model(alloc, shelf, network)?;
-    map_model(alloc, library, model, options, certified)
+    match read_model(alloc, shelf, network) {
+        Ok(model) => map_model(alloc, library, model, options, certified),
+        Err(refusal) => {
+            drop(library);
+            Err(refusal)
+        }
+    }
 }
 
 fn check_files<F: Shelf>(
@@ -86,9 +91,26 @@ fn check_files<F: Shelf>(
     ensures files { F.files shelf.new ≡ F.files shelf.old }
 {
     let library = read_library(alloc, shelf, library)?;
-    let model = read_model(alloc, shelf, network)?;
-    let mapped = read_mapped(alloc, &library, shelf, mapped)?;
-    check_mapped(alloc, &library, &model, &mapped, options)
+    let model = match read_model(alloc, shelf, network) {
+        Ok(model) => model,
+        Err(refusal) => {
+            drop(library);
+            return Err(refusal);
+        }
+    };
+    let mapped = match read_mapped(alloc, &library, shelf, mapped) {
+        Ok(mapped) => mapped,
+        Err(refusal) => {
+            drop(library);
+            drop(model);
+            return Err(refusal);
+        }
+    };
+    let answer = check_mapped(alloc, &library, &model, &mapped, options);
+    drop(library);
+    drop(model);
+    drop(mapped);
+    answer
 }
 
 fn time_files<F: Shelf>(
@@ -103,8 +125,13 @@ fn time_files<F: Shelf>(
     ensures files { F.files shelf.new ≡ F.files shelf.old }
 {
     let library = read_library(alloc, shelf, library)?;
-    let mapped = read_mapped(alloc, &library, shelf, mapped)?;
-    time_mapped(alloc, library, mapped)
+    match read_mapped(alloc, &library, shelf, mapped) {
+        Ok(mapped) => time_mapped(alloc, library, mapped),
+        Err(refusal) => {
+            drop(library);
+            Err(refusal)
+        }
+    }
 }
 
 fn simulate_files<F: Shelf>(
@@ -119,8 +146,13 @@ fn simulate_files<F: Shelf>(
     ensures files { F.files shelf.new ≡ F.files shelf.old }
 {
     let model = read_model(alloc, shelf, network)?;
-    let vectors = read_vectors(alloc, model.network.inputs(), shelf, vectors)?;
-    simulate(alloc, model, vectors)
+    match read_vectors(alloc, model.network.inputs(), shelf, vectors) {
+        Ok(vectors) => simulate(alloc, model, vectors),
+        Err(refusal) => {
+            drop(model);
+            Err(refusal)
+        }
+    }
 }
 
 fn simulate_gate_files<F: Shelf>(
@@ -136,9 +168,21 @@ fn simulate_gate_files<F: Shelf>(
     ensures files { F.files shelf.new ≡ F.files shelf.old }
 {
     let library = read_library(alloc, shelf, library)?;
-    let mapped = read_mapped(alloc, &library, shelf, mapped)?;
-    let vectors = read_vectors(alloc, mapped.netlist.inputs(), shelf, vectors)?;
-    simulate_gates(alloc, library, mapped, vectors)
+    let mapped = match read_mapped(alloc, &library, shelf, mapped) {
+        Ok(mapped) => mapped,
+        Err(refusal) => {
+            drop(library);
+            return Err(refusal);
+        }
+    };
+    match read_vectors(alloc, mapped.netlist.inputs(), shelf, vectors) {
+        Ok(vectors) => simulate_gates(alloc, library, mapped, vectors),
+        Err(refusal) => {
+            drop(library);
+            drop(mapped);
+            Err(refusal)
+        }
+    }
 }
 
 fn count_files<F: Shelf>(
@@ -154,7 +198,9 @@ fn count_files<F: Shelf>(
     ensures files { F.files shelf.new ≡ F.files shelf.old }
 {
     let model = read_model(alloc, shelf, network)?;
-    count_model(alloc, &model, options)
+    let answer = count_model(alloc, &model, options);
+    drop(model);
+    answer
 }
 
 fn table_files<F: Shelf>(
@@ -189,7 +235,9 @@ fn draw_files<F: Shelf>(
     ensures files { F.files shelf.new ≡ F.files shelf.old }
 {
     let library = read_library(alloc, shelf, library)?;
-    draw(alloc, &library, seed, count)
+    let answer = draw(alloc, &library, seed, count);
+    drop(library);
+    answer
 }
 
 fn to_verilog_files<F: Shelf>(
@@ -204,8 +252,13 @@ fn to_verilog_files<F: Shelf>(
     ensures files { F.files shelf.new ≡ F.files shelf.old }
 {
     let library = read_library(alloc, shelf, library)?;
-    let mapped = read_mapped(alloc, &library, shelf, mapped)?;
-    say_verilog(alloc, library, mapped)
+    match read_mapped(alloc, &library, shelf, mapped) {
+        Ok(mapped) => say_verilog(alloc, library, mapped),
+        Err(refusal) => {
+            drop(library);
+            Err(refusal)
+        }
+    }
 }
 
 fn from_verilog_files<F: Shelf>(
@@ -220,8 +273,13 @@ fn from_verilog_files<F: Shelf>(
     ensures files { F.files shelf.new ≡ F.files shelf.old }
 {
     let library = read_library(alloc, shelf, library)?;
-    let netlist = read_netlist(alloc, &library, shelf, verilog)?;
-    map_verilog(alloc, library, netlist)
+    match read_netlist(alloc, &library, shelf, verilog) {
+        Ok(netlist) => map_verilog(alloc, library, netlist),
+        Err(refusal) => {
+            drop(library);
+            Err(refusal)
+        }
+    }
 }
 
 fn trade_files<F: Shelf>(
@@ -240,8 +298,13 @@ fn trade_files<F: Shelf>(
     ensures files { F.files shelf.new ≡ F.files shelf.old }
 {
     let library = read_library(alloc, shelf, library)?;
-    let model = read_model(alloc, shelf, network)?;
-    trade_model(alloc, library, model, options, deadline)
+    match read_model(alloc, shelf, network) {
+        Ok(model) => trade_model(alloc, library, model, options, deadline),
+        Err(refusal) => {
+            drop(library);
+            Err(refusal)
+        }
+    }
 }
 
 /// What a command comes to, or why there is no answer.

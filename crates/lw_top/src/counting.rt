@@ -68,15 +68,16 @@ fn map_drawn(alloc: Global, library: &Library, net: &Network, count: u32) -> Res
         mode: Mode::Plain,
     };
     let choices = decompose(alloc, net, options)?;
-    let mapping = cover(alloc, library, net, &starts, &choices, Labeller::Store)?;
-    let timing = Timing::new(alloc, &mapping.netlist, library, &starts)?;
-    Ok(Answer::Sizes(
-        count,
-        choices.graph.classes(),
-        mapping.netlist.gates().len() as u32,
-        timing.latest(),
-        mapping.steps,
-    ))
+    let classes = choices.graph.classes();
+    let mapping = cover(alloc, library, net, &starts, &choices, Labeller::Store);
+    drop(choices);
+    let mapping = mapping?;
+    let timing = Timing::new(alloc, &mapping.netlist, library, &starts);
+    let gates = mapping.netlist.gates().len() as u32;
+    let steps = mapping.steps;
+    drop(mapping);
+    let timing = timing?;
+    Ok(Answer::Sizes(count, classes, gates, timing.latest(), steps))
 }
 
 /// The sizes of a network that is drawn from a number and mapped to cells of the library.

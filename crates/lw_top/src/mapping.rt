@@ -1,5 +1,5 @@
 // A network mapped to the cells of a library.
-ghost use Rattle.std.specs.Prelude.{◌≡◌, IfOk};
+ghost use Rattle.std.specs.Prelude.{◌≡◌, IfOk, IfErr, Ok, Err};
 ghost use Rattle.lw_blif.specs.BlifNetworks.{IsModel};
 ghost use Rattle.lw_map.specs.Options.{IsWide, plain_options};
 ghost use Rattle.lw_top.specs.Answered.{Gives};
@@ -12,6 +12,7 @@ use lw_blif::Parsed;
 use lw_genlib::Library;
 use lw_map::{Labeller, Mapping, Options, certificate, cover, decompose};
 use lw_mapped::Certificate;
+use lw_netlist::Netlist;
 use std::alloc::{AllocError, Global};
 
 // The certificate of a mapping, where it is asked for.
@@ -28,6 +29,43 @@ fn certificate_of(
     Ok(Some(certificate(alloc, &mapping.labels, &mapping.classes)?))
 }
 
+// The netlist that a model is mapped to, with its certificate where it is asked for, or why there
+// is none.
+fn map_parts(
+    alloc: Global,
+    library: &Library,
+    model: &Parsed,
+    options: Options,
+    certified: bool,
+) -> Result<(Netlist, Option<Certificate>), Refusal>
+    requires wide { IsWide (plain_options options) }
+    requires model { IsModel model.now }
+    ensures given { IfOk result (λ parts. Gives
+        (Maps (plain_options options) certified library.now model.now)
+        (Ok (Answer.Mapping library.now parts.0 model.now.frame model.now.starts parts.1))) }
+    ensures refused { IfErr result (λ e. Gives
+        (Maps (plain_options options) certified library.now model.now) (Err e)) }
+{
+    let network = &model.network;
+    let _ = network.inputs();
+    let choices = decompose(alloc, network, options)?;
+    let mapping = cover(
+        alloc,
+        library,
+        network,
+        &model.starts,
+        &choices,
+        Labeller::Rounds,
+    );
+    drop(choices);
+    let mapping = mapping?;
+    let Ok(certificate) = certificate_of(alloc, &mapping, certified) else {
+        drop(mapping);
+        return Err(Refusal::Memory);
+    };
+    Ok((mapping.netlist, certificate))
+}
+
 /// What a library and a model come to: the mapped netlist with what stands around it, or why there
 /// is none.
 pub(crate) fn map_model(
@@ -41,22 +79,15 @@ pub(crate) fn map_model(
     requires model { IsModel model }
     ensures { Gives (Maps (plain_options options) certified library model) result }
 {
-    let _ = model.network.inputs();
-    let choices = decompose(alloc, &model.network, options)?;
-    let mapping = cover(
-        alloc,
-        &library,
-        &model.network,
-        &model.starts,
-        &choices,
-        Labeller::Rounds,
-    )?;
-    let certificate = certificate_of(alloc, &mapping, certified)?;
-    Ok(Answer::Mapping(
-        library,
-        mapping.netlist,
-        model.frame,
-        model.starts,
-        certificate,
-    ))
+    match map_parts(alloc, &library, &model, options, certified) {
+        Ok((netlist, certificate)) => {
+            drop(model.network);
+            Ok(Answer::Mapping(library, netlist, model.frame, model.starts, certificate))
+        }
+        Err(refusal) => {
+            drop(library);
+            drop(model);
+            Err(refusal)
+        }
+    }
 }

@@ -60,7 +60,10 @@ fn written<O: Sink>(answer: Answer, out: &mut O) -> Outcome
     ensures writes { Writes O.taken O.is_finished O.faults out.old out.new answer result }
     ensures later { O.faults out.old ≤ O.faults out.new }
 {
-    match write_text(answer, out) {
+    let mut answer = answer;
+    let text = write_text(&mut answer, out);
+    drop(answer);
+    match text {
         Err(_) => Outcome::WriteFault,
         Ok(()) => match out.finish() {
             Err(_) => Outcome::WriteFault,
@@ -70,33 +73,26 @@ fn written<O: Sink>(answer: Answer, out: &mut O) -> Outcome
 }
 
 // Writes the text of an answer.
-fn write_text<O: Sink>(answer: Answer, out: &mut O) -> Result<(), Failed>
-    requires { CanBeWritten answer }
+fn write_text<O: Sink>(answer: &mut Answer, out: &mut O) -> Result<(), Failed>
+    requires { CanBeWritten answer.old }
     ensures { WritesText (O.taken out.old) (O.faults out.old) (O.taken out.new)
-        (O.faults out.new) answer result }
+        (O.faults out.new) answer.old result }
 {
     match answer {
         Answer::Mapping(library, netlist, frame, starts, certificate) => {
-            write(
-                &netlist,
-                &library,
-                &frame,
-                &starts,
-                certificate.as_ref(),
-                out,
-            )
+            write(netlist, library, frame, starts, certificate.as_ref(), out)
         }
-        Answer::Verilog(library, netlist) => write_verilog(&netlist, &library, out),
-        Answer::Tables(net, frame) => write_tables(&net, &frame, out),
+        Answer::Verilog(library, netlist) => write_verilog(netlist, library, out),
+        Answer::Tables(net, frame) => write_tables(net, frame, out),
         Answer::Yes => write_all(out, b"yes\n"),
-        Answer::Times(library, netlist, timing) => timing.write(&netlist, &library, out),
-        Answer::Values(network, vectors, mut sim) => sim.network(&network, &vectors, out),
-        Answer::GateValues(library, netlist, vectors, mut sim) => {
-            sim.netlist(&netlist, &library, &vectors, out)
+        Answer::Times(library, netlist, timing) => timing.write(netlist, library, out),
+        Answer::Values(network, vectors, sim) => sim.network(network, vectors, out),
+        Answer::GateValues(library, netlist, vectors, sim) => {
+            sim.netlist(netlist, library, vectors, out)
         }
-        Answer::Counts(forms, classes, pairs) => write_counts(forms, classes, pairs, out),
+        Answer::Counts(forms, classes, pairs) => write_counts(*forms, *classes, *pairs, out),
         Answer::Sizes(nodes, classes, gates, latest, steps) => {
-            write_sizes(nodes, classes, gates, latest, steps, out)
+            write_sizes(*nodes, *classes, *gates, *latest, *steps, out)
         }
     }
 }

@@ -31,8 +31,14 @@ pub(crate) fn check_mapped(
     ensures { Gives (Checks (plain_options options) library.now model.now mapped.now) result }
 {
     let mut choices = decompose(alloc, &model.network, options)?;
-    choices.graph.make_index()?;
-    let pats = patterns(alloc, library)?;
+    if choices.graph.make_index().is_err() {
+        drop(choices);
+        return Err(Refusal::Memory);
+    }
+    let Ok(pats) = patterns(alloc, library) else {
+        drop(choices);
+        return Err(Refusal::Memory);
+    };
     let _ = library.len();
     let verdict = check(
         alloc,
@@ -44,8 +50,10 @@ pub(crate) fn check_mapped(
         &pats,
         &choices.roots,
         mapped,
-    )?;
-    match verdict {
+    );
+    drop(choices);
+    drop(pats);
+    match verdict? {
         Verdict::Yes => Ok(Answer::Yes),
         Verdict::No(reason) => Err(Refusal::No(reason)),
     }
@@ -60,7 +68,11 @@ pub(crate) fn time_mapped(
     requires { IsReadNetlist library mapped }
     ensures { Gives (Times library mapped) result }
 {
-    let timing = Timing::new(alloc, &mapped.netlist, &library, &mapped.starts)?;
+    let Ok(timing) = Timing::new(alloc, &mapped.netlist, &library, &mapped.starts) else {
+        drop(library);
+        drop(mapped);
+        return Err(Refusal::Memory);
+    };
     Ok(Answer::Times(library, mapped.netlist, timing))
 }
 
@@ -69,7 +81,11 @@ pub(crate) fn simulate(alloc: Global, model: Parsed, vectors: Vectors) -> Result
     requires { AreReadVectors model.network.inputs vectors }
     ensures { Gives (Simulates model (values_in vectors)) result }
 {
-    let sim = Sim::of_network(alloc, &model.network)?;
+    let Ok(sim) = Sim::of_network(alloc, &model.network) else {
+        drop(model);
+        drop(vectors);
+        return Err(Refusal::Memory);
+    };
     Ok(Answer::Values(model.network, vectors, sim))
 }
 
@@ -84,6 +100,11 @@ pub(crate) fn simulate_gates(
     requires vectors { AreReadVectors mapped.netlist.inputs vectors }
     ensures { Gives (SimulatesNetlist library mapped.netlist (values_in vectors)) result }
 {
-    let sim = Sim::of_netlist(alloc, &mapped.netlist)?;
+    let Ok(sim) = Sim::of_netlist(alloc, &mapped.netlist) else {
+        drop(library);
+        drop(mapped);
+        drop(vectors);
+        return Err(Refusal::Memory);
+    };
     Ok(Answer::GateValues(library, mapped.netlist, vectors, sim))
 }

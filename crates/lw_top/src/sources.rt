@@ -30,7 +30,10 @@ fn library_in(alloc: Global, bytes: &[u8]) -> Result<Library, Refusal>
     ensures { Comes (λ cells. cells) (HasCells bytes.now) result }
 {
     let mut reader = LibReader::new(alloc);
-    read_lines(alloc, bytes, false, &(), &mut reader)?;
+    if read_lines(alloc, bytes, false, &(), &mut reader).is_err() {
+        drop(reader);
+        return Err(Refusal::Memory);
+    }
     match reader.end() {
         Ok(library) => Ok(library),
         Err(LibFault::Line(line, kind)) => Err(Refusal::Library(line, kind)),
@@ -62,7 +65,10 @@ fn model_in(alloc: Global, bytes: &[u8]) -> Result<Parsed, Refusal>
     ensures model { IfOk result IsModel }
 {
     let mut reader = Reader::new(alloc);
-    read_lines(alloc, bytes, false, &(), &mut reader)?;
+    if read_lines(alloc, bytes, false, &(), &mut reader).is_err() {
+        drop(reader);
+        return Err(Refusal::Memory);
+    }
     match reader.end() {
         Ok(model) => Ok(model),
         Err(BlifFault::Line(line, kind)) => Err(Refusal::Network(line, kind)),
@@ -97,7 +103,10 @@ fn mapped_in(alloc: Global, library: &Library, bytes: &[u8]) -> Result<Mapped, R
     ensures kept { IfOk result (IsReadNetlist library.now) }
 {
     let mut reader = MappedReader::new(alloc);
-    read_lines(alloc, bytes, true, library, &mut reader)?;
+    if read_lines(alloc, bytes, true, library, &mut reader).is_err() {
+        drop(reader);
+        return Err(Refusal::Memory);
+    }
     match reader.end(library) {
         Ok(mapped) => Ok(mapped),
         Err(MappedFault::Line(line, kind)) => Err(Refusal::Mapped(line, kind)),

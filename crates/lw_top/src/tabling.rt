@@ -1,4 +1,5 @@
 // A network covered by lookup tables.
+ghost use Rattle.std.specs.Prelude.{IfOk, IfErr, Ok, Err};
 ghost use Rattle.lw_blif.specs.BlifNetworks.{IsModel};
 ghost use Rattle.lw_map.specs.Options.{IsWide, plain_options};
 ghost use Rattle.lw_map.specs.Tabled.{AreLeaves};
@@ -8,8 +9,31 @@ ghost use Rattle.lw_top.specs.Tables.{Tabulates};
 use crate::answer::Answer;
 use crate::refusal::Refusal;
 use lw_blif::Parsed;
+use lw_lut::TableNet;
 use lw_map::{Options, decompose, tabulate};
 use std::alloc::Global;
+
+// The lookup tables that a model is covered by, or why there are none.
+fn table_net(
+    alloc: Global,
+    model: &Parsed,
+    options: Options,
+    leaves: u8,
+) -> Result<TableNet, Refusal>
+    requires leaves { AreLeaves leaves }
+    requires wide { IsWide (plain_options options) }
+    requires model { IsModel model.now }
+    ensures given { IfOk result (λ net. Gives (Tabulates leaves (plain_options options) model.now)
+        (Ok (Answer.Tables net model.now.frame))) }
+    ensures refused { IfErr result (λ e. Gives
+        (Tabulates leaves (plain_options options) model.now) (Err e)) }
+{
+    let _ = model.network.inputs();
+    let choices = decompose(alloc, &model.network, options)?;
+    let net = tabulate(alloc, &model.network, &choices, leaves);
+    drop(choices);
+    Ok(net?)
+}
 
 /// What a model comes to in lookup tables of at most `leaves` fan-ins, or why there are none.
 pub(crate) fn table_model(
@@ -23,8 +47,14 @@ pub(crate) fn table_model(
     requires model { IsModel model }
     ensures { Gives (Tabulates leaves (plain_options options) model) result }
 {
-    let _ = model.network.inputs();
-    let choices = decompose(alloc, &model.network, options)?;
-    let net = tabulate(alloc, &model.network, &choices, leaves)?;
-    Ok(Answer::Tables(net, model.frame))
+    match table_net(alloc, &model, options, leaves) {
+        Ok(net) => {
+            drop(model.network);
+            Ok(Answer::Tables(net, model.frame))
+        }
+        Err(refusal) => {
+            drop(model);
+            Err(refusal)
+        }
+    }
 }

@@ -17,28 +17,26 @@ returns-in_err-library-clause-answered g c =
     rw (p.1, p.2) (file_refused _ _ _ (checking options c.args.library.now c.args.network.now c.args.mapped.now) which.Library _ c.in_err-library.ensures.blames c.in_err-library.ensures.not_words (tt, λ files is. tt)
     (refused _ (ReadsLibrary c.args.library.now) (λ cells. followed_by (ReadsModel c.args.network.now) (λ model. followed_by (ReadsMapped c.args.mapped.now cells) (λ m. Checks options cells model m))) _ _ _ c.in_err-library.ensures.reads))
 
-pub returns-in_err-model-clause-answered : goal.returns-in_err-model-clause-answered
-returns-in_err-model-clause-answered g c =
+pub returns-in-Err-clause-answered : goal.returns-in-Err-clause-answered
+returns-in-Err-clause-answered g c =
     let options = plain_options c.args.options in
-    let p = err_from_is_err_and c.from_residual-in_err-model.result c.from_residual-in_err-model.ensures.1 in
-    rw (p.1, p.2) (file_refused _ _ _ (checking options c.args.library.now c.args.network.now c.args.mapped.now) which.Network _ c.in_err-model.ensures.blames c.in_err-model.ensures.not_words (tt, λ files is. (c.in_ok-library.library, c.in_ok-library.ensures.reads files is))
+    file_refused _ _ _ (checking options c.args.library.now c.args.network.now c.args.mapped.now) which.Network _ c.in-Err.ensures.blames c.in-Err.ensures.not_words (tt, λ files is. (c.in_ok-library.library, c.in_ok-library.ensures.reads files is))
     (refused_later _ (ReadsLibrary c.args.library.now) (λ cells. followed_by (ReadsModel c.args.network.now) (λ model. followed_by (ReadsMapped c.args.mapped.now cells) (λ m. Checks options cells model m))) _ _ _ c.in_ok-library.library _ c.read_library.ensures.later c.in_ok-library.ensures.reads
-    (refused _ (ReadsModel c.args.network.now) (λ model. followed_by (ReadsMapped c.args.mapped.now c.in_ok-library.library) (λ m. Checks options c.in_ok-library.library model m)) _ _ _ (rw (c.read_library.ensures.files) at c.in_err-model.ensures.reads))))
+    (refused _ (ReadsModel c.args.network.now) (λ model. followed_by (ReadsMapped c.args.mapped.now c.in_ok-library.library) (λ m. Checks options c.in_ok-library.library model m)) _ _ _ (rw (c.read_library.ensures.files) at c.in-Err.ensures.reads)))
 
-pub returns-in_err-mapped-clause-answered : goal.returns-in_err-mapped-clause-answered
-returns-in_err-mapped-clause-answered g c =
+pub returns-in-Err-read_mapped-clause-answered : goal.returns-in-Err-read_mapped-clause-answered
+returns-in-Err-read_mapped-clause-answered g c =
     let options = plain_options c.args.options in
-    let p = err_from_is_err_and c.from_residual-in_err-mapped.result c.from_residual-in_err-mapped.ensures.1 in
-    rw (p.1, p.2) (file_refused _ _ _ (checking options c.args.library.now c.args.network.now c.args.mapped.now) which.Mapped _ c.in_err-mapped.ensures.blames c.in_err-mapped.ensures.not_words (tt, λ files is. ((c.in_ok-library.library, c.in_ok-library.ensures.reads files is), (c.in_ok-model.model, (rw (c.read_library.ensures.files) at c.in_ok-model.ensures.reads) files is)))
+    file_refused _ _ _ (checking options c.args.library.now c.args.network.now c.args.mapped.now) which.Mapped _ c.in-Err-read_mapped.ensures.blames c.in-Err-read_mapped.ensures.not_words (tt, λ files is. ((c.in_ok-library.library, c.in_ok-library.ensures.reads files is), (c.in-Ok.model, (rw (c.read_library.ensures.files) at c.in-Ok.ensures.reads) files is)))
     (refused_later _ (ReadsLibrary c.args.library.now) (λ cells. followed_by (ReadsModel c.args.network.now) (λ model. followed_by (ReadsMapped c.args.mapped.now cells) (λ m. Checks options cells model m))) _ _ _ c.in_ok-library.library _ c.read_library.ensures.later c.in_ok-library.ensures.reads
-    (refused_later _ (ReadsModel c.args.network.now) (λ model. followed_by (ReadsMapped c.args.mapped.now c.in_ok-library.library) (λ m. Checks options c.in_ok-library.library model m)) _ _ _ c.in_ok-model.model _ c.read_model.ensures.later (rw (c.read_library.ensures.files) at c.in_ok-model.ensures.reads)
-    (refused _ (ReadsMapped c.args.mapped.now c.in_ok-library.library) (λ m. Checks options c.in_ok-library.library c.in_ok-model.model m) _ _ _ (rw (c.read_model.ensures.files ∙ c.read_library.ensures.files) at c.in_err-mapped.ensures.reads)))))
+    (refused_later _ (ReadsModel c.args.network.now) (λ model. followed_by (ReadsMapped c.args.mapped.now c.in_ok-library.library) (λ m. Checks options c.in_ok-library.library model m)) _ _ _ c.in-Ok.model _ c.read_model.ensures.later (rw (c.read_library.ensures.files) at c.in-Ok.ensures.reads)
+    (refused _ (ReadsMapped c.args.mapped.now c.in_ok-library.library) (λ m. Checks options c.in_ok-library.library c.in-Ok.model m) _ _ _ (rw (c.read_model.ensures.files ∙ c.read_library.ensures.files) at c.in-Err-read_mapped.ensures.reads))))
 
 pub returns-clause-answered : goal.returns-clause-answered
 returns-clause-answered g c =
     let options = plain_options c.args.options in
-    ends _ _ _ (checking options c.args.library.now c.args.network.now c.args.mapped.now) (Checks options c.in_ok-library.library c.in_ok-model.model c.in_ok-mapped.mapped) c.check_mapped.result c.check_mapped.ensures
-    (says_later _ (ReadsLibrary c.args.library.now) (λ cells. followed_by (ReadsModel c.args.network.now) (λ model. followed_by (ReadsMapped c.args.mapped.now cells) (λ m. Checks options cells model m))) _ _ _ c.in_ok-library.library c.check_mapped.result c.read_library.ensures.later c.in_ok-library.ensures.reads
-    (says_later _ (ReadsModel c.args.network.now) (λ model. followed_by (ReadsMapped c.args.mapped.now c.in_ok-library.library) (λ m. Checks options c.in_ok-library.library model m)) _ _ _ c.in_ok-model.model c.check_mapped.result c.read_model.ensures.later (rw (c.read_library.ensures.files) at c.in_ok-model.ensures.reads)
-    (says_later _ (ReadsMapped c.args.mapped.now c.in_ok-library.library) (λ m. Checks options c.in_ok-library.library c.in_ok-model.model m) _ _ _ c.in_ok-mapped.mapped c.check_mapped.result c.read_mapped.ensures.later (rw (c.read_model.ensures.files ∙ c.read_library.ensures.files) at c.in_ok-mapped.ensures.reads)
-    (given_says _ (g.F.Shelf.faults c.read_mapped.new.shelf) (g.F.Shelf.faults c.read_mapped.new.shelf) (Checks options c.in_ok-library.library c.in_ok-model.model c.in_ok-mapped.mapped) c.check_mapped.result c.check_mapped.ensures))))
+    ends _ _ _ (checking options c.args.library.now c.args.network.now c.args.mapped.now) (Checks options c.in_ok-library.library c.in-Ok.model c.in-Ok-read_mapped.mapped) c.check_mapped-answer.result c.check_mapped-answer.ensures
+    (says_later _ (ReadsLibrary c.args.library.now) (λ cells. followed_by (ReadsModel c.args.network.now) (λ model. followed_by (ReadsMapped c.args.mapped.now cells) (λ m. Checks options cells model m))) _ _ _ c.in_ok-library.library c.check_mapped-answer.result c.read_library.ensures.later c.in_ok-library.ensures.reads
+    (says_later _ (ReadsModel c.args.network.now) (λ model. followed_by (ReadsMapped c.args.mapped.now c.in_ok-library.library) (λ m. Checks options c.in_ok-library.library model m)) _ _ _ c.in-Ok.model c.check_mapped-answer.result c.read_model.ensures.later (rw (c.read_library.ensures.files) at c.in-Ok.ensures.reads)
+    (says_later _ (ReadsMapped c.args.mapped.now c.in_ok-library.library) (λ m. Checks options c.in_ok-library.library c.in-Ok.model m) _ _ _ c.in-Ok-read_mapped.mapped c.check_mapped-answer.result c.read_mapped.ensures.later (rw (c.read_model.ensures.files ∙ c.read_library.ensures.files) at c.in-Ok-read_mapped.ensures.reads)
+    (given_says _ (g.F.Shelf.faults c.read_mapped.new.shelf) (g.F.Shelf.faults c.read_mapped.new.shelf) (Checks options c.in_ok-library.library c.in-Ok.model c.in-Ok-read_mapped.mapped) c.check_mapped-answer.result c.check_mapped-answer.ensures))))

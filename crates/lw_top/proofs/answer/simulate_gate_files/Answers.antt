@@ -16,25 +16,23 @@ returns-in_err-library-clause-answered g c =
     rw (p.1, p.2) (file_refused _ _ _ (gate_simulation c.args.library.now c.args.mapped.now c.args.vectors.now) which.Library _ c.in_err-library.ensures.blames c.in_err-library.ensures.not_words (tt, λ files is. tt)
     (refused _ (ReadsLibrary c.args.library.now) (λ cells. followed_by (ReadsMapped c.args.mapped.now cells) (λ m. followed_by (ReadsVectors c.args.vectors.now m.netlist.inputs) (λ xs. SimulatesNetlist cells m.netlist xs))) _ _ _ c.in_err-library.ensures.reads))
 
-pub returns-in_err-mapped-clause-answered : goal.returns-in_err-mapped-clause-answered
-returns-in_err-mapped-clause-answered g c =
-    let p = err_from_is_err_and c.from_residual-in_err-mapped.result c.from_residual-in_err-mapped.ensures.1 in
-    rw (p.1, p.2) (file_refused _ _ _ (gate_simulation c.args.library.now c.args.mapped.now c.args.vectors.now) which.Mapped _ c.in_err-mapped.ensures.blames c.in_err-mapped.ensures.not_words (tt, λ files is. (c.in_ok-library.library, c.in_ok-library.ensures.reads files is))
+pub returns-in-Err-clause-answered : goal.returns-in-Err-clause-answered
+returns-in-Err-clause-answered g c =
+    file_refused _ _ _ (gate_simulation c.args.library.now c.args.mapped.now c.args.vectors.now) which.Mapped _ c.in-Err.ensures.blames c.in-Err.ensures.not_words (tt, λ files is. (c.in_ok-library.library, c.in_ok-library.ensures.reads files is))
     (refused_later _ (ReadsLibrary c.args.library.now) (λ cells. followed_by (ReadsMapped c.args.mapped.now cells) (λ m. followed_by (ReadsVectors c.args.vectors.now m.netlist.inputs) (λ xs. SimulatesNetlist cells m.netlist xs))) _ _ _ c.in_ok-library.library _ c.read_library.ensures.later c.in_ok-library.ensures.reads
-    (refused _ (ReadsMapped c.args.mapped.now c.in_ok-library.library) (λ m. followed_by (ReadsVectors c.args.vectors.now m.netlist.inputs) (λ xs. SimulatesNetlist c.in_ok-library.library m.netlist xs)) _ _ _ (rw (c.read_library.ensures.files) at c.in_err-mapped.ensures.reads))))
+    (refused _ (ReadsMapped c.args.mapped.now c.in_ok-library.library) (λ m. followed_by (ReadsVectors c.args.vectors.now m.netlist.inputs) (λ xs. SimulatesNetlist c.in_ok-library.library m.netlist xs)) _ _ _ (rw (c.read_library.ensures.files) at c.in-Err.ensures.reads)))
 
-pub returns-in_err-vectors-clause-answered : goal.returns-in_err-vectors-clause-answered
-returns-in_err-vectors-clause-answered g c =
-    let p = err_from_is_err_and c.from_residual-in_err-vectors.result c.from_residual-in_err-vectors.ensures.1 in
-    rw (p.1, p.2) (file_refused _ _ _ (gate_simulation c.args.library.now c.args.mapped.now c.args.vectors.now) which.Vectors _ c.in_err-vectors.ensures.blames c.in_err-vectors.ensures.not_words (tt, λ files is. (c.in_ok-library.library, c.in_ok-mapped.mapped, c.in_ok-library.ensures.reads files is, (rw (c.read_library.ensures.files) at c.in_ok-mapped.ensures.reads) files is))
+pub returns-in-Err-read_vectors-clause-answered : goal.returns-in-Err-read_vectors-clause-answered
+returns-in-Err-read_vectors-clause-answered g c =
+    file_refused _ _ _ (gate_simulation c.args.library.now c.args.mapped.now c.args.vectors.now) which.Vectors _ c.in-Err-read_vectors.ensures.blames c.in-Err-read_vectors.ensures.not_words (tt, λ files is. (c.in_ok-library.library, c.in-Ok.mapped, c.in_ok-library.ensures.reads files is, (rw (c.read_library.ensures.files) at c.in-Ok.ensures.reads) files is))
     (refused_later _ (ReadsLibrary c.args.library.now) (λ cells. followed_by (ReadsMapped c.args.mapped.now cells) (λ m. followed_by (ReadsVectors c.args.vectors.now m.netlist.inputs) (λ xs. SimulatesNetlist cells m.netlist xs))) _ _ _ c.in_ok-library.library _ c.read_library.ensures.later c.in_ok-library.ensures.reads
-    (refused_later _ (ReadsMapped c.args.mapped.now c.in_ok-library.library) (λ m. followed_by (ReadsVectors c.args.vectors.now m.netlist.inputs) (λ xs. SimulatesNetlist c.in_ok-library.library m.netlist xs)) _ _ _ c.in_ok-mapped.mapped _ c.read_mapped.ensures.later (rw (c.read_library.ensures.files) at c.in_ok-mapped.ensures.reads)
-    (refused _ (ReadsVectors c.args.vectors.now c.in_ok-mapped.mapped.netlist.inputs) (λ xs. SimulatesNetlist c.in_ok-library.library c.in_ok-mapped.mapped.netlist xs) _ _ _ (rw (c.read_mapped.ensures.files ∙ c.read_library.ensures.files, c.inputs.ensures.inputs) at c.in_err-vectors.ensures.reads)))))
+    (refused_later _ (ReadsMapped c.args.mapped.now c.in_ok-library.library) (λ m. followed_by (ReadsVectors c.args.vectors.now m.netlist.inputs) (λ xs. SimulatesNetlist c.in_ok-library.library m.netlist xs)) _ _ _ c.in-Ok.mapped _ c.read_mapped.ensures.later (rw (c.read_library.ensures.files) at c.in-Ok.ensures.reads)
+    (refused _ (ReadsVectors c.args.vectors.now c.in-Ok.mapped.netlist.inputs) (λ xs. SimulatesNetlist c.in_ok-library.library c.in-Ok.mapped.netlist xs) _ _ _ (rw (c.read_mapped.ensures.files ∙ c.read_library.ensures.files, c.inputs.ensures.inputs) at c.in-Err-read_vectors.ensures.reads))))
 
-pub returns-clause-answered : goal.returns-clause-answered
-returns-clause-answered g c =
-    ends _ _ _ (gate_simulation c.args.library.now c.args.mapped.now c.args.vectors.now) (SimulatesNetlist c.in_ok-library.library c.in_ok-mapped.mapped.netlist (values_in c.in_ok-vectors.vectors)) c.simulate_gates.result c.simulate_gates.ensures
+pub returns-in-Ok-read_vectors-clause-answered : goal.returns-in-Ok-read_vectors-clause-answered
+returns-in-Ok-read_vectors-clause-answered g c =
+    ends _ _ _ (gate_simulation c.args.library.now c.args.mapped.now c.args.vectors.now) (SimulatesNetlist c.in_ok-library.library c.in-Ok.mapped.netlist (values_in c.in-Ok-read_vectors.vectors)) c.simulate_gates.result c.simulate_gates.ensures
     (says_later _ (ReadsLibrary c.args.library.now) (λ cells. followed_by (ReadsMapped c.args.mapped.now cells) (λ m. followed_by (ReadsVectors c.args.vectors.now m.netlist.inputs) (λ xs. SimulatesNetlist cells m.netlist xs))) _ _ _ c.in_ok-library.library c.simulate_gates.result c.read_library.ensures.later c.in_ok-library.ensures.reads
-    (says_later _ (ReadsMapped c.args.mapped.now c.in_ok-library.library) (λ m. followed_by (ReadsVectors c.args.vectors.now m.netlist.inputs) (λ xs. SimulatesNetlist c.in_ok-library.library m.netlist xs)) _ _ _ c.in_ok-mapped.mapped c.simulate_gates.result c.read_mapped.ensures.later (rw (c.read_library.ensures.files) at c.in_ok-mapped.ensures.reads)
-    (says_later _ (ReadsVectors c.args.vectors.now c.in_ok-mapped.mapped.netlist.inputs) (λ xs. SimulatesNetlist c.in_ok-library.library c.in_ok-mapped.mapped.netlist xs) _ _ _ (values_in c.in_ok-vectors.vectors) c.simulate_gates.result c.read_vectors.ensures.later (rw (c.read_mapped.ensures.files ∙ c.read_library.ensures.files, c.inputs.ensures.inputs) at c.in_ok-vectors.ensures.reads)
-    (given_says _ (g.F.Shelf.faults c.read_vectors.new.shelf) (g.F.Shelf.faults c.read_vectors.new.shelf) (SimulatesNetlist c.in_ok-library.library c.in_ok-mapped.mapped.netlist (values_in c.in_ok-vectors.vectors)) c.simulate_gates.result c.simulate_gates.ensures))))
+    (says_later _ (ReadsMapped c.args.mapped.now c.in_ok-library.library) (λ m. followed_by (ReadsVectors c.args.vectors.now m.netlist.inputs) (λ xs. SimulatesNetlist c.in_ok-library.library m.netlist xs)) _ _ _ c.in-Ok.mapped c.simulate_gates.result c.read_mapped.ensures.later (rw (c.read_library.ensures.files) at c.in-Ok.ensures.reads)
+    (says_later _ (ReadsVectors c.args.vectors.now c.in-Ok.mapped.netlist.inputs) (λ xs. SimulatesNetlist c.in_ok-library.library c.in-Ok.mapped.netlist xs) _ _ _ (values_in c.in-Ok-read_vectors.vectors) c.simulate_gates.result c.read_vectors.ensures.later (rw (c.read_mapped.ensures.files ∙ c.read_library.ensures.files, c.inputs.ensures.inputs) at c.in-Ok-read_vectors.ensures.reads)
+    (given_says _ (g.F.Shelf.faults c.read_vectors.new.shelf) (g.F.Shelf.faults c.read_vectors.new.shelf) (SimulatesNetlist c.in_ok-library.library c.in-Ok.mapped.netlist (values_in c.in-Ok-read_vectors.vectors)) c.simulate_gates.result c.simulate_gates.ensures))))
