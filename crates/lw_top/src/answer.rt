@@ -67,13 +67,8 @@ fn map_files<F: Shelf>(
     ensures files { F.files shelf.new ≡ F.files shelf.old }
 {
     let library = read_library(alloc, shelf, library)?;
-    match read_model(alloc, shelf, network) {
-        Ok(model) => map_model(alloc, library, model, options, certified),
-        Err(refusal) => {
-            drop(library);
-            Err(refusal)
-        }
-    }
+    let model = read_model(alloc, shelf, network)?;
+    map_model(alloc, library, model, options, certified)
 }
 
 fn check_files<F: Shelf>(
@@ -125,13 +120,8 @@ fn time_files<F: Shelf>(
     ensures files { F.files shelf.new ≡ F.files shelf.old }
 {
     let library = read_library(alloc, shelf, library)?;
-    match read_mapped(alloc, &library, shelf, mapped) {
-        Ok(mapped) => time_mapped(alloc, library, mapped),
-        Err(refusal) => {
-            drop(library);
-            Err(refusal)
-        }
-    }
+    let mapped = read_mapped(alloc, &library, shelf, mapped)?;
+    time_mapped(alloc, library, mapped)
 }
 
 fn simulate_files<F: Shelf>(
@@ -146,13 +136,8 @@ fn simulate_files<F: Shelf>(
     ensures files { F.files shelf.new ≡ F.files shelf.old }
 {
     let model = read_model(alloc, shelf, network)?;
-    match read_vectors(alloc, model.network.inputs(), shelf, vectors) {
-        Ok(vectors) => simulate(alloc, model, vectors),
-        Err(refusal) => {
-            drop(model);
-            Err(refusal)
-        }
-    }
+    let vectors = read_vectors(alloc, model.network.inputs(), shelf, vectors)?;
+    simulate(alloc, model, vectors)
 }
 
 fn simulate_gate_files<F: Shelf>(
@@ -198,9 +183,7 @@ fn count_files<F: Shelf>(
     ensures files { F.files shelf.new ≡ F.files shelf.old }
 {
     let model = read_model(alloc, shelf, network)?;
-    let answer = count_model(alloc, &model, options);
-    drop(model);
-    answer
+    count_model(alloc, &model, options)
 }
 
 fn table_files<F: Shelf>(
@@ -235,9 +218,7 @@ fn draw_files<F: Shelf>(
     ensures files { F.files shelf.new ≡ F.files shelf.old }
 {
     let library = read_library(alloc, shelf, library)?;
-    let answer = draw(alloc, &library, seed, count);
-    drop(library);
-    answer
+    draw(alloc, &library, seed, count)
 }
 
 fn to_verilog_files<F: Shelf>(
@@ -252,13 +233,8 @@ fn to_verilog_files<F: Shelf>(
     ensures files { F.files shelf.new ≡ F.files shelf.old }
 {
     let library = read_library(alloc, shelf, library)?;
-    match read_mapped(alloc, &library, shelf, mapped) {
-        Ok(mapped) => say_verilog(alloc, library, mapped),
-        Err(refusal) => {
-            drop(library);
-            Err(refusal)
-        }
-    }
+    let mapped = read_mapped(alloc, &library, shelf, mapped)?;
+    say_verilog(alloc, library, mapped)
 }
 
 fn from_verilog_files<F: Shelf>(
@@ -273,13 +249,8 @@ fn from_verilog_files<F: Shelf>(
     ensures files { F.files shelf.new ≡ F.files shelf.old }
 {
     let library = read_library(alloc, shelf, library)?;
-    match read_netlist(alloc, &library, shelf, verilog) {
-        Ok(netlist) => map_verilog(alloc, library, netlist),
-        Err(refusal) => {
-            drop(library);
-            Err(refusal)
-        }
-    }
+    let netlist = read_netlist(alloc, &library, shelf, verilog)?;
+    map_verilog(alloc, library, netlist)
 }
 
 fn trade_files<F: Shelf>(
@@ -298,13 +269,8 @@ fn trade_files<F: Shelf>(
     ensures files { F.files shelf.new ≡ F.files shelf.old }
 {
     let library = read_library(alloc, shelf, library)?;
-    match read_model(alloc, shelf, network) {
-        Ok(model) => trade_model(alloc, library, model, options, deadline),
-        Err(refusal) => {
-            drop(library);
-            Err(refusal)
-        }
-    }
+    let model = read_model(alloc, shelf, network)?;
+    trade_model(alloc, library, model, options, deadline)
 }
 
 /// What a command comes to, or why there is no answer.

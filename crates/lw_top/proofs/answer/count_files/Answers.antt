@@ -18,6 +18,6 @@ returns-in_err-model-clause-answered g c =
 pub returns-clause-answered : goal.returns-clause-answered
 returns-clause-answered g c =
     let options = plain_options c.args.options in
-    ends _ _ _ (counting options c.args.network.now) (Counts options c.in_ok-model.model) c.count_model-answer.result c.count_model-answer.ensures
-    (says_later _ (ReadsModel c.args.network.now) (λ model. Counts options model) _ _ _ c.in_ok-model.model c.count_model-answer.result c.read_model.ensures.later c.in_ok-model.ensures.reads
-    (given_says _ (g.F.Shelf.faults c.read_model.new.shelf) (g.F.Shelf.faults c.read_model.new.shelf) (Counts options c.in_ok-model.model) c.count_model-answer.result c.count_model-answer.ensures))
+    ends _ _ _ (counting options c.args.network.now) (Counts options c.in_ok-model.model) c.count_model.result c.count_model.ensures
+    (says_later _ (ReadsModel c.args.network.now) (λ model. Counts options model) _ _ _ c.in_ok-model.model c.count_model.result c.read_model.ensures.later c.in_ok-model.ensures.reads
+    (given_says _ (g.F.Shelf.faults c.read_model.new.shelf) (g.F.Shelf.faults c.read_model.new.shelf) (Counts options c.in_ok-model.model) c.count_model.result c.count_model.ensures))

@@ -15,6 +15,6 @@ returns-in_err-library-clause-answered g c =
 
 pub returns-clause-answered : goal.returns-clause-answered
 returns-clause-answered g c =
-    ends _ _ _ (drawing c.args.seed c.args.count c.args.library.now) (Draws c.args.seed c.args.count c.in_ok-library.library) c.draw-answer.result c.draw-answer.ensures
-    (says_later _ (ReadsLibrary c.args.library.now) (λ cells. Draws c.args.seed c.args.count cells) _ _ _ c.in_ok-library.library c.draw-answer.result c.read_library.ensures.later c.in_ok-library.ensures.reads
-    (given_says _ (g.F.Shelf.faults c.read_library.new.shelf) (g.F.Shelf.faults c.read_library.new.shelf) (Draws c.args.seed c.args.count c.in_ok-library.library) c.draw-answer.result c.draw-answer.ensures))
+    ends _ _ _ (drawing c.args.seed c.args.count c.args.library.now) (Draws c.args.seed c.args.count c.in_ok-library.library) c.draw.result c.draw.ensures
+    (says_later _ (ReadsLibrary c.args.library.now) (λ cells. Draws c.args.seed c.args.count cells) _ _ _ c.in_ok-library.library c.draw.result c.read_library.ensures.later c.in_ok-library.ensures.reads
+    (given_says _ (g.F.Shelf.faults c.read_library.new.shelf) (g.F.Shelf.faults c.read_library.new.shelf) (Draws c.args.seed c.args.count c.in_ok-library.library) c.draw.result c.draw.ensures))

@@ -14,15 +14,16 @@ returns-in_err-library-clause-answered g c =
     rw (p.1, p.2) (file_refused _ _ _ (from_verilog c.args.library.now c.args.verilog.now) which.Library _ c.in_err-library.ensures.blames c.in_err-library.ensures.not_words (tt, λ files is. tt)
     (refused _ (ReadsLibrary c.args.library.now) (λ cells. followed_by (ReadsVerilog c.args.verilog.now cells) (λ n. SaysMapped cells n)) _ _ _ c.in_err-library.ensures.reads))
 
-pub returns-in-Err-clause-answered : goal.returns-in-Err-clause-answered
-returns-in-Err-clause-answered g c =
-    file_refused _ _ _ (from_verilog c.args.library.now c.args.verilog.now) which.Mapped _ c.in-Err.ensures.blames c.in-Err.ensures.not_words (tt, λ files is. (c.in_ok-library.library, c.in_ok-library.ensures.reads files is))
+pub returns-in_err-netlist-clause-answered : goal.returns-in_err-netlist-clause-answered
+returns-in_err-netlist-clause-answered g c =
+    let p = err_from_is_err_and c.from_residual-in_err-netlist.result c.from_residual-in_err-netlist.ensures.1 in
+    rw (p.1, p.2) (file_refused _ _ _ (from_verilog c.args.library.now c.args.verilog.now) which.Mapped _ c.in_err-netlist.ensures.blames c.in_err-netlist.ensures.not_words (tt, λ files is. (c.in_ok-library.library, c.in_ok-library.ensures.reads files is))
     (refused_later _ (ReadsLibrary c.args.library.now) (λ cells. followed_by (ReadsVerilog c.args.verilog.now cells) (λ n. SaysMapped cells n)) _ _ _ c.in_ok-library.library _ c.read_library.ensures.later c.in_ok-library.ensures.reads
-    (refused _ (ReadsVerilog c.args.verilog.now c.in_ok-library.library) (λ n. SaysMapped c.in_ok-library.library n) _ _ _ (rw (c.read_library.ensures.files) at c.in-Err.ensures.reads)))
+    (refused _ (ReadsVerilog c.args.verilog.now c.in_ok-library.library) (λ n. SaysMapped c.in_ok-library.library n) _ _ _ (rw (c.read_library.ensures.files) at c.in_err-netlist.ensures.reads))))
 
-pub returns-in-Ok-clause-answered : goal.returns-in-Ok-clause-answered
-returns-in-Ok-clause-answered g c =
-    ends _ _ _ (from_verilog c.args.library.now c.args.verilog.now) (SaysMapped c.in_ok-library.library c.in-Ok.netlist) c.map_verilog.result c.map_verilog.ensures
+pub returns-clause-answered : goal.returns-clause-answered
+returns-clause-answered g c =
+    ends _ _ _ (from_verilog c.args.library.now c.args.verilog.now) (SaysMapped c.in_ok-library.library c.in_ok-netlist.netlist) c.map_verilog.result c.map_verilog.ensures
     (says_later _ (ReadsLibrary c.args.library.now) (λ cells. followed_by (ReadsVerilog c.args.verilog.now cells) (λ n. SaysMapped cells n)) _ _ _ c.in_ok-library.library c.map_verilog.result c.read_library.ensures.later c.in_ok-library.ensures.reads
-    (says_later _ (ReadsVerilog c.args.verilog.now c.in_ok-library.library) (λ n. SaysMapped c.in_ok-library.library n) _ _ _ c.in-Ok.netlist c.map_verilog.result c.read_netlist.ensures.later (rw (c.read_library.ensures.files) at c.in-Ok.ensures.reads)
-    (given_says _ (g.F.Shelf.faults c.read_netlist.new.shelf) (g.F.Shelf.faults c.read_netlist.new.shelf) (SaysMapped c.in_ok-library.library c.in-Ok.netlist) c.map_verilog.result c.map_verilog.ensures)))
+    (says_later _ (ReadsVerilog c.args.verilog.now c.in_ok-library.library) (λ n. SaysMapped c.in_ok-library.library n) _ _ _ c.in_ok-netlist.netlist c.map_verilog.result c.read_netlist.ensures.later (rw (c.read_library.ensures.files) at c.in_ok-netlist.ensures.reads)
+    (given_says _ (g.F.Shelf.faults c.read_netlist.new.shelf) (g.F.Shelf.faults c.read_netlist.new.shelf) (SaysMapped c.in_ok-library.library c.in_ok-netlist.netlist) c.map_verilog.result c.map_verilog.ensures)))

@@ -16,17 +16,18 @@ returns-in_err-library-clause-answered g c =
     rw (p.1, p.2) (file_refused _ _ _ (mapping options c.args.certified c.args.library.now c.args.network.now) which.Library _ c.in_err-library.ensures.blames c.in_err-library.ensures.not_words (tt, λ files is. tt)
     (refused _ (ReadsLibrary c.args.library.now) (λ cells. followed_by (ReadsModel c.args.network.now) (λ model. Maps options c.args.certified cells model)) _ _ _ c.in_err-library.ensures.reads))
 
-pub returns-in-Err-clause-answered : goal.returns-in-Err-clause-answered
-returns-in-Err-clause-answered g c =
+pub returns-in_err-model-clause-answered : goal.returns-in_err-model-clause-answered
+returns-in_err-model-clause-answered g c =
     let options = plain_options c.args.options in
-    file_refused _ _ _ (mapping options c.args.certified c.args.library.now c.args.network.now) which.Network _ c.in-Err.ensures.blames c.in-Err.ensures.not_words (tt, λ files is. (c.in_ok-library.library, c.in_ok-library.ensures.reads files is))
+    let p = err_from_is_err_and c.from_residual-in_err-model.result c.from_residual-in_err-model.ensures.1 in
+    rw (p.1, p.2) (file_refused _ _ _ (mapping options c.args.certified c.args.library.now c.args.network.now) which.Network _ c.in_err-model.ensures.blames c.in_err-model.ensures.not_words (tt, λ files is. (c.in_ok-library.library, c.in_ok-library.ensures.reads files is))
     (refused_later _ (ReadsLibrary c.args.library.now) (λ cells. followed_by (ReadsModel c.args.network.now) (λ model. Maps options c.args.certified cells model)) _ _ _ c.in_ok-library.library _ c.read_library.ensures.later c.in_ok-library.ensures.reads
-    (refused _ (ReadsModel c.args.network.now) (λ model. Maps options c.args.certified c.in_ok-library.library model) _ _ _ (rw (c.read_library.ensures.files) at c.in-Err.ensures.reads)))
+    (refused _ (ReadsModel c.args.network.now) (λ model. Maps options c.args.certified c.in_ok-library.library model) _ _ _ (rw (c.read_library.ensures.files) at c.in_err-model.ensures.reads))))
 
-pub returns-in-Ok-clause-answered : goal.returns-in-Ok-clause-answered
-returns-in-Ok-clause-answered g c =
+pub returns-clause-answered : goal.returns-clause-answered
+returns-clause-answered g c =
     let options = plain_options c.args.options in
-    ends _ _ _ (mapping options c.args.certified c.args.library.now c.args.network.now) (Maps options c.args.certified c.in_ok-library.library c.in-Ok.model) c.map_model.result c.map_model.ensures
+    ends _ _ _ (mapping options c.args.certified c.args.library.now c.args.network.now) (Maps options c.args.certified c.in_ok-library.library c.in_ok-model.model) c.map_model.result c.map_model.ensures
     (says_later _ (ReadsLibrary c.args.library.now) (λ cells. followed_by (ReadsModel c.args.network.now) (λ model. Maps options c.args.certified cells model)) _ _ _ c.in_ok-library.library c.map_model.result c.read_library.ensures.later c.in_ok-library.ensures.reads
-    (says_later _ (ReadsModel c.args.network.now) (λ model. Maps options c.args.certified c.in_ok-library.library model) _ _ _ c.in-Ok.model c.map_model.result c.read_model.ensures.later (rw (c.read_library.ensures.files) at c.in-Ok.ensures.reads)
-    (given_says _ (g.F.Shelf.faults c.read_model.new.shelf) (g.F.Shelf.faults c.read_model.new.shelf) (Maps options c.args.certified c.in_ok-library.library c.in-Ok.model) c.map_model.result c.map_model.ensures)))
+    (says_later _ (ReadsModel c.args.network.now) (λ model. Maps options c.args.certified c.in_ok-library.library model) _ _ _ c.in_ok-model.model c.map_model.result c.read_model.ensures.later (rw (c.read_library.ensures.files) at c.in_ok-model.ensures.reads)
+    (given_says _ (g.F.Shelf.faults c.read_model.new.shelf) (g.F.Shelf.faults c.read_model.new.shelf) (Maps options c.args.certified c.in_ok-library.library c.in_ok-model.model) c.map_model.result c.map_model.ensures)))

@@ -15,15 +15,16 @@ returns-in_err-model-clause-answered g c =
     rw (p.1, p.2) (file_refused _ _ _ (simulation c.args.network.now c.args.vectors.now) which.Network _ c.in_err-model.ensures.blames c.in_err-model.ensures.not_words (tt, λ files is. tt)
     (refused _ (ReadsModel c.args.network.now) (λ model. followed_by (ReadsVectors c.args.vectors.now model.network.inputs) (λ xs. Simulates model xs)) _ _ _ c.in_err-model.ensures.reads))
 
-pub returns-in-Err-clause-answered : goal.returns-in-Err-clause-answered
-returns-in-Err-clause-answered g c =
-    file_refused _ _ _ (simulation c.args.network.now c.args.vectors.now) which.Vectors _ c.in-Err.ensures.blames c.in-Err.ensures.not_words (tt, λ files is. (c.in_ok-model.model, c.in_ok-model.ensures.reads files is))
+pub returns-in_err-vectors-clause-answered : goal.returns-in_err-vectors-clause-answered
+returns-in_err-vectors-clause-answered g c =
+    let p = err_from_is_err_and c.from_residual-in_err-vectors.result c.from_residual-in_err-vectors.ensures.1 in
+    rw (p.1, p.2) (file_refused _ _ _ (simulation c.args.network.now c.args.vectors.now) which.Vectors _ c.in_err-vectors.ensures.blames c.in_err-vectors.ensures.not_words (tt, λ files is. (c.in_ok-model.model, c.in_ok-model.ensures.reads files is))
     (refused_later _ (ReadsModel c.args.network.now) (λ model. followed_by (ReadsVectors c.args.vectors.now model.network.inputs) (λ xs. Simulates model xs)) _ _ _ c.in_ok-model.model _ c.read_model.ensures.later c.in_ok-model.ensures.reads
-    (refused _ (ReadsVectors c.args.vectors.now c.in_ok-model.model.network.inputs) (λ xs. Simulates c.in_ok-model.model xs) _ _ _ (rw (c.read_model.ensures.files, c.inputs.ensures.inputs) at c.in-Err.ensures.reads)))
+    (refused _ (ReadsVectors c.args.vectors.now c.in_ok-model.model.network.inputs) (λ xs. Simulates c.in_ok-model.model xs) _ _ _ (rw (c.read_model.ensures.files, c.inputs.ensures.inputs) at c.in_err-vectors.ensures.reads))))
 
-pub returns-in-Ok-clause-answered : goal.returns-in-Ok-clause-answered
-returns-in-Ok-clause-answered g c =
-    ends _ _ _ (simulation c.args.network.now c.args.vectors.now) (Simulates c.in_ok-model.model (values_in c.in-Ok.vectors)) c.simulate.result c.simulate.ensures
+pub returns-clause-answered : goal.returns-clause-answered
+returns-clause-answered g c =
+    ends _ _ _ (simulation c.args.network.now c.args.vectors.now) (Simulates c.in_ok-model.model (values_in c.in_ok-vectors.vectors)) c.simulate.result c.simulate.ensures
     (says_later _ (ReadsModel c.args.network.now) (λ model. followed_by (ReadsVectors c.args.vectors.now model.network.inputs) (λ xs. Simulates model xs)) _ _ _ c.in_ok-model.model c.simulate.result c.read_model.ensures.later c.in_ok-model.ensures.reads
-    (says_later _ (ReadsVectors c.args.vectors.now c.in_ok-model.model.network.inputs) (λ xs. Simulates c.in_ok-model.model xs) _ _ _ (values_in c.in-Ok.vectors) c.simulate.result c.read_vectors.ensures.later (rw (c.read_model.ensures.files, c.inputs.ensures.inputs) at c.in-Ok.ensures.reads)
-    (given_says _ (g.F.Shelf.faults c.read_vectors.new.shelf) (g.F.Shelf.faults c.read_vectors.new.shelf) (Simulates c.in_ok-model.model (values_in c.in-Ok.vectors)) c.simulate.result c.simulate.ensures)))
+    (says_later _ (ReadsVectors c.args.vectors.now c.in_ok-model.model.network.inputs) (λ xs. Simulates c.in_ok-model.model xs) _ _ _ (values_in c.in_ok-vectors.vectors) c.simulate.result c.read_vectors.ensures.later (rw (c.read_model.ensures.files, c.inputs.ensures.inputs) at c.in_ok-vectors.ensures.reads)
+    (given_says _ (g.F.Shelf.faults c.read_vectors.new.shelf) (g.F.Shelf.faults c.read_vectors.new.shelf) (Simulates c.in_ok-model.model (values_in c.in_ok-vectors.vectors)) c.simulate.result c.simulate.ensures)))

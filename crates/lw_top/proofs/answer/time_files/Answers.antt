@@ -14,15 +14,16 @@ returns-in_err-library-clause-answered g c =
     rw (p.1, p.2) (file_refused _ _ _ (timing c.args.library.now c.args.mapped.now) which.Library _ c.in_err-library.ensures.blames c.in_err-library.ensures.not_words (tt, λ files is. tt)
     (refused _ (ReadsLibrary c.args.library.now) (λ cells. followed_by (ReadsMapped c.args.mapped.now cells) (λ m. Times cells m)) _ _ _ c.in_err-library.ensures.reads))
 
-pub returns-in-Err-clause-answered : goal.returns-in-Err-clause-answered
-returns-in-Err-clause-answered g c =
-    file_refused _ _ _ (timing c.args.library.now c.args.mapped.now) which.Mapped _ c.in-Err.ensures.blames c.in-Err.ensures.not_words (tt, λ files is. (c.in_ok-library.library, c.in_ok-library.ensures.reads files is))
+pub returns-in_err-mapped-clause-answered : goal.returns-in_err-mapped-clause-answered
+returns-in_err-mapped-clause-answered g c =
+    let p = err_from_is_err_and c.from_residual-in_err-mapped.result c.from_residual-in_err-mapped.ensures.1 in
+    rw (p.1, p.2) (file_refused _ _ _ (timing c.args.library.now c.args.mapped.now) which.Mapped _ c.in_err-mapped.ensures.blames c.in_err-mapped.ensures.not_words (tt, λ files is. (c.in_ok-library.library, c.in_ok-library.ensures.reads files is))
     (refused_later _ (ReadsLibrary c.args.library.now) (λ cells. followed_by (ReadsMapped c.args.mapped.now cells) (λ m. Times cells m)) _ _ _ c.in_ok-library.library _ c.read_library.ensures.later c.in_ok-library.ensures.reads
-    (refused _ (ReadsMapped c.args.mapped.now c.in_ok-library.library) (λ m. Times c.in_ok-library.library m) _ _ _ (rw (c.read_library.ensures.files) at c.in-Err.ensures.reads)))
+    (refused _ (ReadsMapped c.args.mapped.now c.in_ok-library.library) (λ m. Times c.in_ok-library.library m) _ _ _ (rw (c.read_library.ensures.files) at c.in_err-mapped.ensures.reads))))
 
-pub returns-in-Ok-clause-answered : goal.returns-in-Ok-clause-answered
-returns-in-Ok-clause-answered g c =
-    ends _ _ _ (timing c.args.library.now c.args.mapped.now) (Times c.in_ok-library.library c.in-Ok.mapped) c.time_mapped.result c.time_mapped.ensures
+pub returns-clause-answered : goal.returns-clause-answered
+returns-clause-answered g c =
+    ends _ _ _ (timing c.args.library.now c.args.mapped.now) (Times c.in_ok-library.library c.in_ok-mapped.mapped) c.time_mapped.result c.time_mapped.ensures
     (says_later _ (ReadsLibrary c.args.library.now) (λ cells. followed_by (ReadsMapped c.args.mapped.now cells) (λ m. Times cells m)) _ _ _ c.in_ok-library.library c.time_mapped.result c.read_library.ensures.later c.in_ok-library.ensures.reads
-    (says_later _ (ReadsMapped c.args.mapped.now c.in_ok-library.library) (λ m. Times c.in_ok-library.library m) _ _ _ c.in-Ok.mapped c.time_mapped.result c.read_mapped.ensures.later (rw (c.read_library.ensures.files) at c.in-Ok.ensures.reads)
-    (given_says _ (g.F.Shelf.faults c.read_mapped.new.shelf) (g.F.Shelf.faults c.read_mapped.new.shelf) (Times c.in_ok-library.library c.in-Ok.mapped) c.time_mapped.result c.time_mapped.ensures)))
+    (says_later _ (ReadsMapped c.args.mapped.now c.in_ok-library.library) (λ m. Times c.in_ok-library.library m) _ _ _ c.in_ok-mapped.mapped c.time_mapped.result c.read_mapped.ensures.later (rw (c.read_library.ensures.files) at c.in_ok-mapped.ensures.reads)
+    (given_says _ (g.F.Shelf.faults c.read_mapped.new.shelf) (g.F.Shelf.faults c.read_mapped.new.shelf) (Times c.in_ok-library.library c.in_ok-mapped.mapped) c.time_mapped.result c.time_mapped.ensures)))
