@@ -71,11 +71,11 @@ high_bit : (b : Bool) (hi m r : ℕ) → r < m → ((hi * (2 * m) + (if b then m
 high_bit true hi m r lt =
     let e : hi * (2 * m) + m + r ≡ (2 * hi + 1) * m + r = grind arith in
     let s : (2 * hi + 1) % 2 ≡ 1 = omega arith in
-    rw (e, div-mul-add (2 * hi + 1) r m lt, s) refl
+    rw (e, div-mul-add (2 * hi + 1) m r lt, s) refl
 high_bit false hi m r lt =
     let e : hi * (2 * m) + 0 + r ≡ (2 * hi) * m + r = grind arith in
     let s : (2 * hi) % 2 ≡ 0 = omega arith in
-    rw (e, div-mul-add (2 * hi) r m lt, s) refl
+    rw (e, div-mul-add (2 * hi) m r lt, s) refl
 
 given_spelled : (v : ℕ → Bool) (fs : List ℕ) (hi c : ℕ) → Contains fs c → given fs (hi * 2 ^ length fs + spelled v fs) c ≡ v c
 given_spelled v [] hi c (k, lt, e) = absurd (omega arith)

@@ -107,7 +107,7 @@ module _ (g : Graph) (c x y : ℕ) (holds : HoldsPair g c x y) (a b : PlainCut) 
       let at : spelled v (numbers (a.pins ++ b.pins)) ≡ i * 2 ^ m + j = ap (spelled v) (numbers_append a.pins b.pins) ∙ (spelled_join v (numbers a.pins) (numbers b.pins) ∙ ap (λ k. i * 2 ^ k + j) (long b.pins)) in
       let set = packed_set (joined_value a x b y c) 0 (2 ^ (n + m)) (i * 2 ^ m + j) (within i j n m p q) in
       let zero_in : 0 + (i * 2 ^ m + j) ≡ i * 2 ^ m + j = omega arith in
-      let value : joined_value a x b y c (i * 2 ^ m + j) ≡ turned (is_odd c) (not (turned (is_odd x) (is_set a.bits i) && turned (is_odd y) (is_set b.bits j))) = rw (div-mul-add i j (2 ^ m) q, mod-mul-add i j (2 ^ m) q) refl in
+      let value : joined_value a x b y c (i * 2 ^ m + j) ≡ turned (is_odd c) (not (turned (is_odd x) (is_set a.bits i) && turned (is_odd y) (is_set b.bits j))) = rw (div-mul-add i (2 ^ m) j q, mod-mul-add i (2 ^ m) j q) refl in
       ap (is_set (joined_bits a x b y c)) at ∙ (set ∙ (ap (joined_value a x b y c) zero_in ∙ value))
 
   pub joined_cut : IsCutAt g x (is_odd x) a → IsCutAt g y (is_odd y) b → IsCutAt g c (is_odd c) (record { pins = a.pins ++ b.pins; bits = joined_bits a x b y c })
