@@ -1,8 +1,15 @@
 // Labels and heights of classes.
+ghost use Rattle.std.specs.Prelude.{length, map};
+ghost use Rattle.lw_genlib.specs.Tables.{delays_of_cells};
+ghost use Rattle.lw_match.specs.Least.{AreOfCells};
+
 use crate::libraries::{library_of, no_starts, patterns_of};
 use crate::sketch::{Sketch, graph_of};
+use lw_genlib::Library;
+use lw_graph::Graph;
 use lw_label::{DelayCost, relabel};
 use lw_match::Mark;
+use lw_pattern::Patterns;
 use std::alloc::Global;
 use std::process::Abort;
 use std::test::Fail;
@@ -170,18 +177,47 @@ const ROWS: [Row; 6] = [
     },
 ];
 
-fn check(rt: &impl Abort, alloc: Global, row: Row) -> Result<(), Fail> {
-    let lib = library_of(alloc, row.library)?;
-    let pats = patterns_of(alloc, &lib)?;
-    let graph = graph_of(alloc, row.sketch)?;
+// Labels a graph by the patterns of a library, and looks at the classes of a row.
+fn check_labels(
+    rt: &impl Abort,
+    alloc: Global,
+    row: Row,
+    lib: &Library,
+    pats: &Patterns,
+    graph: &Graph,
+) -> Result<(), Fail>
+    requires { AreOfCells (map length (delays_of_cells lib.now)) pats.now }
+{
     let starts = no_starts(alloc);
-    let labels = relabel(alloc, &graph, &pats, &DelayCost::new(&lib, &starts))?;
+    let labels = relabel(alloc, graph, pats, &DelayCost::new(lib, &starts))?;
     for (class, wanted) in row.marks {
         let mark = labels.marks().get(*class).copied().flatten();
         let wanted = wanted.map(|(cost, height)| Mark { cost, height });
         assert_eq!(rt; mark, wanted, "{}: class {class}", row.name);
     }
     Ok(())
+}
+
+// Looks at the classes of a row, given its library.
+fn check_cells(rt: &impl Abort, alloc: Global, row: Row, lib: &Library) -> Result<(), Fail> {
+    let pats = patterns_of(alloc, lib)?;
+    let checked = match graph_of(alloc, row.sketch) {
+        Ok(graph) => {
+            let checked = check_labels(rt, alloc, row, lib, &pats, &graph);
+            drop(graph);
+            checked
+        }
+        Err(fail) => Err(fail),
+    };
+    drop(pats);
+    checked
+}
+
+fn check(rt: &impl Abort, alloc: Global, row: Row) -> Result<(), Fail> {
+    let lib = library_of(alloc, row.library)?;
+    let checked = check_cells(rt, alloc, row, &lib);
+    drop(lib);
+    checked
 }
 
 #[test]

@@ -151,9 +151,16 @@ fn check_graph(
     Ok(())
 }
 
-fn check_library(rt: &impl Abort, alloc: Global, text: &str, dice: &mut Dice) -> Result<(), Fail> {
-    let lib = library_of(alloc, text)?;
-    let pats = patterns_of(alloc, &lib)?;
+// Looks at graphs that are drawn, by the patterns of a library.
+fn check_drawn(
+    rt: &impl Abort,
+    alloc: Global,
+    lib: &Library,
+    pats: &Patterns,
+    dice: &mut Dice,
+) -> Result<(), Fail>
+    requires { AreOfCells (map length (delays_of_cells lib.now)) pats.now }
+{
     for (inputs, forms, facts, links, count) in SIZES {
         let size = Size {
             inputs,
@@ -163,10 +170,24 @@ fn check_library(rt: &impl Abort, alloc: Global, text: &str, dice: &mut Dice) ->
         };
         for _graph in 0..count {
             let graph = drawn_graph(alloc, dice, size)?;
-            check_graph(rt, alloc, &lib, &pats, &graph)?;
+            check_graph(rt, alloc, lib, pats, &graph)?;
         }
     }
     Ok(())
+}
+
+fn check_library(rt: &impl Abort, alloc: Global, text: &str, dice: &mut Dice) -> Result<(), Fail> {
+    let lib = library_of(alloc, text)?;
+    let checked = match patterns_of(alloc, &lib) {
+        Ok(pats) => {
+            let checked = check_drawn(rt, alloc, &lib, &pats, dice);
+            drop(pats);
+            checked
+        }
+        Err(fault) => Err(Fail::from(fault)),
+    };
+    drop(lib);
+    checked
 }
 
 #[test]
