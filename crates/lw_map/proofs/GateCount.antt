@@ -11,7 +11,7 @@ use Rattle.lw_laws.specs.Netlists.{Netlist}
 use Rattle.lw_laws.specs.Rounds.{labels_in}
 use Rattle.lw_laws.proofs.Facts.{any_true}
 use Rattle.lw_laws.proofs.Lists.{slice_get_some}
-use Rattle.lw_laws.proofs.LabelLaws.{label_listed}
+use Rattle.lw_laws.proofs.Deciding.{label_listed}
 
 module _ (g : Graph) (cost : Cost) (pats : List Pattern) (labels : List (Option ℕ)) (heights : ℕ → ℕ) (roots gates : List ℕ) (are : AreGateClasses g cost pats (labels_in labels) heights roots gates) where
   not_before : (c d : ℕ) → c ≡ d → IsGateBefore heights c d → ⊥
