@@ -77,7 +77,12 @@ fn add_cell_or_form(
             let so_far = with_new(alloc, so_far, entry, delays)?;
             Ok(so_far)
         }
-        Some(place) => with_form(alloc, so_far, place, entry, delays),
+        Some(place) => {
+            let more = with_form(alloc, so_far, place, &entry, &delays);
+            drop(entry);
+            drop(delays);
+            more
+        }
     }
 }
 
@@ -121,24 +126,27 @@ fn with_form(
     alloc: Global,
     so_far: CellsSoFar,
     place: usize,
-    entry: Entry,
-    delays: Micros,
+    entry: &Entry,
+    delays: &Micros,
 ) -> Result<CellsSoFar, LibFault>
     requires room { HasRoom so_far.cells }
-    requires delays { delays ≡ merging.delays_of entry }
+    requires delays { delays.now ≡ merging.delays_of entry.now }
     requires place { place < length so_far.cells }
     ensures cells { MatchResult result
-        (λ new. merging.merged_at so_far.cells entry (Some place) ≡ Ok new.cells)
-        (TellsErr (merging.merged_at so_far.cells entry (Some place))) }
+        (λ new. merging.merged_at so_far.cells entry.now (Some place) ≡ Ok new.cells)
+        (TellsErr (merging.merged_at so_far.cells entry.now (Some place))) }
     ensures whole { IfOk result (λ new. new.entry ≡ None) }
 {
     let CellsSoFar { mut cells, entries } = so_far;
-    match merge_into(alloc, &mut cells[place], &entry, &delays) {
+    match merge_into(alloc, &mut cells[place], entry, delays) {
         Ok(()) => Ok(CellsSoFar {
             cells,
             entries: entries + 1,
         }),
-        Err(fault) => Err(fault),
+        Err(fault) => {
+            drop(cells);
+            Err(fault)
+        }
     }
 }
 

@@ -112,7 +112,7 @@ impl LibReader {
 fn put(status: &mut Status, next: Status)
     ensures { status.new ≡ next }
 {
-    *status = next;
+    drop(mem::replace(status, next));
 }
 
 // Reads the words of a line.
@@ -123,6 +123,7 @@ fn read_line(alloc: Global, state: ReaderState, line: &Line) -> Result<ReaderSta
         (BreaksAt (resume state (items_on line.now ++ rest))) }
 {
     if line.long {
+        drop(state);
         return Err(LibFault::Line(line.number, LibKind::LongWord));
     }
     read_words(alloc, state, line.number, &line.words)
@@ -164,7 +165,11 @@ fn finish(alloc: Global, last: u32, state: ReaderState) -> Result<Library, LibFa
             Err(fault) => Err(fault),
         },
         Expect::Latch => library_in(alloc, so_far),
-        _ => Err(LibFault::Line(last, LibKind::Expected)),
+        _ => {
+            drop(expect);
+            drop(so_far);
+            Err(LibFault::Line(last, LibKind::Expected))
+        }
     }
 }
 

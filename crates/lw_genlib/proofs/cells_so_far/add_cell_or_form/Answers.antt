@@ -14,5 +14,5 @@ returns-in-Some-clause-cells c =
     let here : Some c.in-Some.place ≡ merging.place_of c.args.so_far.cells c.args.entry =
     c.in-Some.ensures ∙ ap₂ (λ (n : List ℕ) (cs : List CellParts). position (λ (cell : CellParts). bytes_eq n cell.name) cs)
     (c.as_bytes.ensures.bytes ∙ ap (λ (e : words.Entry). e.name) c.entry.view_is) (c.deref.ensures.value ∙ ap (λ (b : library.CellsSoFar). b.cells) c.so_far.view_is) in
-    subst (λ (o : Option ℕ). MatchResult c.with_form.result (λ (new : library.CellsSoFar). merging.merged_at c.args.so_far.cells c.args.entry o ≡ Ok new.cells) (TellsErr (merging.merged_at c.args.so_far.cells c.args.entry o)))
-    here c.with_form.ensures.cells
+    subst (λ (o : Option ℕ). MatchResult c.with_form-more.result (λ (new : library.CellsSoFar). merging.merged_at c.args.so_far.cells c.args.entry o ≡ Ok new.cells) (TellsErr (merging.merged_at c.args.so_far.cells c.args.entry o)))
+    here c.with_form-more.ensures.cells

@@ -13,20 +13,20 @@ pub invariant_of-result : goal.invariant_of-result
 invariant_of-result c =
     let cells : c.args.so_far.cells ≡ c.so_far.inside.cells.items = sym (ap (λ (b : library.CellsSoFar). b.cells) c.so_far.view_is) in
     subst (λ (cell : CellParts). AreCells (set c.so_far.inside.cells.items c.args.place cell) (c.so_far.inside.entries + 1)) (sym c.in-Ok.ensures.form)
-    (cells-merged c.so_far.inside.cells.items c.so_far.inside.entries c.args.place c.index_mut.result.now (merging.form_over c.index_mut.result.now.pins c.args.entry)
+    (cells-merged c.so_far.inside.cells.items c.so_far.inside.entries c.args.place c.index_mut.result.now (merging.form_over c.index_mut.result.now.pins c.args.entry.now)
     c.so_far.invariant (subst HasRoom cells c.requires.room) (subst (λ (cs : List CellParts). c.args.place < length cs) cells c.requires.place) c.index_mut.ensures.value c.in-Ok.ensures.kept)
 
 pub returns-in-Ok-clause-cells : goal.returns-in-Ok-clause-cells
 returns-in-Ok-clause-cells c =
     let cells : c.args.so_far.cells ≡ c.so_far.inside.cells.items = sym (ap (λ (b : library.CellsSoFar). b.cells) c.so_far.view_is) in
-    merged-there c.args.so_far.cells c.args.place c.args.entry c.index_mut.result.now c.requires.place
+    merged-there c.args.so_far.cells c.args.place c.args.entry.now c.index_mut.result.now c.requires.place
     (c.index_mut.ensures.value ∙ ap (λ (cs : List CellParts). get_or cs c.args.place c.index_mut.result.now) (sym cells)) c.in-Ok.ensures.agrees
     ∙ ap Ok (ap₂ (λ (cs : List CellParts) (x : CellParts). set cs c.args.place x) cells (sym c.in-Ok.ensures.form))
 
-pub returns-clause-cells : goal.returns-clause-cells
-returns-clause-cells c =
+pub returns-in-Err-clause-cells : goal.returns-in-Err-clause-cells
+returns-in-Err-clause-cells c =
     let cells : c.args.so_far.cells ≡ c.so_far.inside.cells.items = sym (ap (λ (b : library.CellsSoFar). b.cells) c.so_far.view_is) in
-    fault-there c.args.so_far.cells c.args.place c.args.entry c.index_mut.result.now c.in-Err.fault c.requires.place
+    fault-there c.args.so_far.cells c.args.place c.args.entry.now c.index_mut.result.now c.in-Err.fault c.requires.place
     (c.index_mut.ensures.value ∙ ap (λ (cs : List CellParts). get_or cs c.args.place c.index_mut.result.now) (sym cells)) c.in-Err.ensures.agrees
 
 pub merge_into-requires-clause-pins_differ : goal.merge_into-requires-clause-pins_differ
