@@ -51,9 +51,19 @@ fn close_entry(alloc: Global, so_far: CellsSoFar, entry: Entry) -> Result<CellsS
         (TellsErr (merging.merged so_far.cells entry)) }
     ensures whole { IfOk result (λ new. new.entry ≡ None) }
 {
-    match delays(alloc, &entry.named, entry.every)? {
+    let Ok(found) = delays(alloc, &entry.named, entry.every) else {
+        drop(entry);
+        drop(so_far);
+        return Err(LibFault::Memory);
+    };
+    match found {
         Some(delays) => add_cell_or_form(alloc, so_far, entry, delays),
-        None => Err(LibFault::Line(entry.line, LibKind::PinMissing)),
+        None => {
+            let line = entry.line;
+            drop(entry);
+            drop(so_far);
+            Err(LibFault::Line(line, LibKind::PinMissing))
+        }
     }
 }
 
