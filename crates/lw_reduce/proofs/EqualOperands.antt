@@ -19,6 +19,12 @@ equal_operands_alike n nands links p q low high a b (inr (c, d)) (inl (e, f)) =
 equal_operands_alike n nands links p q low high a b (inr (c, d)) (inr (e, f)) =
     nanded (inl a) (inl b) (joined c (turned_by e)) (joined d (turned_by f))
 
+-- the place of the fact of an entry of the table
+pub entry_place : (nands : List Fact) (slots : List ℕ) (slot : ℕ) → All (λ e. e ≤ length nands) slots → slot < length slots → slice_index slots slot ≢ 0 → slice_index slots slot - 1 < length nands
+entry_place nands slots slot places lt ne =
+    let in' = All-get_or (λ e. e ≤ length nands) slots slot 0 lt places in
+    omega arith
+
 -- the fact of an entry of the table
 pub entry_fact : (n m : ℕ) (nands : List Fact) (links : List Link) (slots : List ℕ) (slot low high : ℕ) (d : Fact) → m ≡ n → All (λ e. e ≤ length nands) slots → slot < length slots → slice_index slots slot ≢ 0 → HasOperands m nands links (get_or nands (slice_index slots slot - 1) d) low high → HasFact n nands links low high (get_or nands (slice_index slots slot - 1) d).form
 entry_fact n m nands links slots slot low high d s places lt ne operands =

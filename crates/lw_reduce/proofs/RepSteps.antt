@@ -9,7 +9,7 @@ use Rattle.lw_laws.specs.Families.Equivalent.{joined}
 use Rattle.lw_laws.proofs.Flips.{class_of-flip}
 use Rattle.lw_reduce.specs.declared.facts.Fact.{Fact}
 use Rattle.lw_reduce.specs.declared.facts.Link.{Link}
-use Rattle.lw_reduce.specs.Representatives.{family, in_phase, rep_of, IsFlat, IsFlatBelow, AreRepresentatives, StayRepresentatives, Progresses, LinkAgrees}
+use Rattle.lw_reduce.specs.Representatives.{family, in_phase, rep_of, IsFlat, IsFlatBelow, IsFound, AreRepresentatives, StayRepresentatives, Progresses, LinkAgrees, rep_weight}
 use Rattle.lw_reduce.proofs.RepLemmas.{half-in_phase, set_valid, set_weight, elsewhere}
 
 pub rep_of-flip : (reps : List ℕ) (f : ℕ) → rep_of reps (flip f) ≡ flip (rep_of reps f)
@@ -178,3 +178,31 @@ module _ (n : ℕ) (nands : List Fact) (links : List Link) where
 
   pub valid_at : (reps : List ℕ) (m : ℕ) → AreRepresentatives m nands links reps → m ≡ n → AreRepresentatives n nands links reps
   valid_at reps m valid e = subst (λ k. AreRepresentatives k nands links reps) e valid
+
+-- the roots of two forms, found one after the other
+module _ (n : ℕ) (nands : List Fact) (links : List Link) (old mid new : List ℕ) (f g a b : ℕ) (p : IsFound n nands links old mid f a) (q : IsFound (length mid) nands links mid new g b) where
+  found_later : IsFound n nands links mid new g b
+  found_later = subst (λ m. IsFound m nands links mid new g b) p.valid.count q
+
+  pub found_twice : StayRepresentatives n nands links old new
+  found_twice = record { valid = found_later.valid; low = let l = p.low in let m = found_later.low in omega arith }
+
+  pub found_second : Equivalent (family n nands links) g b
+  found_second = found_later.alike
+
+-- a change after others, where something changed before it
+pub falls_then : (n : ℕ) (nands : List Fact) (links : List Link) (old mid new : List ℕ) → Progresses n nands links old mid true → StayRepresentatives (length mid) nands links mid new → rep_weight new < rep_weight old
+falls_then n nands links old mid new p q =
+    let f = p.falls refl in
+    let l = q.low in
+    omega arith
+
+-- the same where the representatives are those of so many base forms
+pub stays_valid : (n m : ℕ) (nands : List Fact) (links : List Link) (mid new : List ℕ) → AreRepresentatives m nands links mid → m ≡ n → StayRepresentatives (length mid) nands links mid new → AreRepresentatives n nands links new
+stays_valid n m nands links mid new valid e q =
+    valid_at n nands links new (length mid) q.valid (valid.count ∙ e)
+
+-- representatives that stay such, and then progress
+pub stay_progress : (n : ℕ) (nands : List Fact) (links : List Link) (old mid new : List ℕ) (b : Bool) → StayRepresentatives n nands links old mid → Progresses (length mid) nands links mid new b → StayRepresentatives n nands links old new
+stay_progress n nands links old mid new b p q =
+    stay_then n nands links old mid new p (record { valid = q.valid; low = q.low })

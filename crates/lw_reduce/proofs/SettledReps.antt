@@ -1,6 +1,6 @@
 -- Representatives are settled where a round unifies nothing, and where all facts have different operands.
 use Rattle.std.proofs.Common.{ℕ, zero, suc, ◌+◌, ◌*◌, ◌<◌, ◌≤◌, ◌≡◌, ◌==◌, ◌^◌, true, false, List, [], ◌∷◌, length, map, get_or, All, Contains, ap, ap₂, sym, ◌∙◌, subst, arith, true≢false}
-use native.Mathlib.Decide.{ℕ_discrete, dec_le, dec_lt}
+use native.Mathlib.Decide.{dec_le, dec_lt}
 use Rattle.std.specs.List.{IsDistinct}
 use Rattle.std.specs.List.Sorted.{IsPermutation, IsStrictlyIncreasing}
 use Rattle.std.proofs.lemmas.List.{get_or-map, length-map}

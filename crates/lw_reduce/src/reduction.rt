@@ -1,5 +1,6 @@
 // The graph of a draft's classes.
 ghost use Rattle.std.specs.Prelude.{◌≡◌, ◌+◌, ◌-◌, ◌*◌, ◌<◌, ◌≤◌, ◌^◌, ℕ, Bool, List, length, map, slice_index, IfOk};
+ghost use Rattle.std.specs.List.{slice_range};
 ghost use Rattle.lw_laws.specs.Drafts.{IsReduced};
 ghost use Rattle.lw_reduce.specs.Drafting.{plain_draft};
 ghost use Rattle.lw_reduce.specs.ClassNumbers.{as_class};
@@ -44,6 +45,18 @@ fn class_list(alloc: Global, numbers: &[u32]) -> Result<Classes, AllocError>
     Ok(Classes::from_vec(as_classes(alloc, numbers)?))
 }
 
+// The classes of the inputs, and those of all base forms.
+fn lists_of(alloc: Global, inputs: u32, forms: &[u32]) -> Result<(Classes, Classes), AllocError>
+    requires { inputs < length forms.now }
+    ensures leaves { IfOk result (λ lists. lists.0
+        ≡ map as_class (slice_range forms.now 1 (inputs + 1))) }
+    ensures forms { IfOk result (λ lists. lists.1 ≡ map as_class forms.now) }
+{
+    let leaves = class_list(alloc, &forms[1..inputs as usize + 1])?;
+    let all = class_list(alloc, forms)?;
+    Ok((leaves, all))
+}
+
 // The graph of settled representatives.
 fn graph_of(
     alloc: Global,
@@ -62,9 +75,13 @@ fn graph_of(
     let numbered = number(alloc, reps)?;
     let facts = class_facts(&numbered.forms, nands);
     let lists = class_pairs(alloc, facts, numbered.pairs as usize * 2)?;
-    let leaves = class_list(alloc, &numbered.forms[1..inputs as usize + 1])?;
-    let forms = class_list(alloc, &numbered.forms)?;
+    let Ok((leaves, forms)) = lists_of(alloc, inputs, &numbered.forms) else {
+        drop(lists);
+        drop(numbered);
+        return Err(AllocError);
+    };
     let one = ClassId(numbered.forms[0]);
+    drop(numbered);
     let graph = Graph::flat(alloc, one, leaves, forms, lists.ends, lists.pairs)?;
     Ok(graph)
 }

@@ -1,7 +1,53 @@
-use Rattle.std.proofs.Common.{length}
-use Rattle.lw_reduce.proofs.EqualOperands.{entry_fact}
+use Rattle.std.proofs.Common.{◌-◌, length, get_or, slice_index, sym, subst}
+use Rattle.std.proofs.lemmas.List.Elements.{All-get_or}
+use Rattle.lw_reduce.specs.declared.facts.Fact.{Fact}
+use Rattle.lw_reduce.specs.Representatives.{IsFactIn}
+use Rattle.lw_reduce.proofs.EqualOperands.{entry_fact, entry_place}
+use Rattle.lw_reduce.proofs.RepSteps.{stay_none, stay_then, valid_at}
 use Rattle.lw_reduce.proofs.propagate.look_up.Goals as goal
+
+pub loop-step-init : goal.loop-step-init
+loop-step-init c = record {
+  kept = stay_none (length c.args.reps.now) c.args.nands.now c.args.links.now c.args.reps.now c.requires.valid;
+  within = c.slot_of-slot.ensures;
+}
+
+pub returns-then-entry-eq0-clause-kept : goal.returns-then-entry-eq0-clause-kept
+returns-then-entry-eq0-clause-kept c = c.loop-step.invariant.kept
+
+pub returns-then-entry-eq0-clause-found : goal.returns-then-entry-eq0-clause-found
+returns-then-entry-eq0-clause-found c = c.loop-step.invariant.within
+
+pub bounds-nands-entry : goal.bounds-nands-entry
+bounds-nands-entry c = entry_place c.args.nands.now c.args.slots.now c.loop-step.slot c.requires.places c.loop-step.invariant.within c.if-entry-eq0.false
+
+pub has_operands-requires-clause-valid : goal.has_operands-requires-clause-valid
+has_operands-requires-clause-valid c =
+    let reps = c.loop-step.reps in
+    let valid = c.loop-step.invariant.kept.valid in
+    valid_at (length reps) c.args.nands.now c.args.links.now reps (length c.args.reps.now) valid (sym valid.count)
+
+pub has_operands-requires-clause-within : goal.has_operands-requires-clause-within
+has_operands-requires-clause-within c =
+    let none : Fact = record { form = 0; left = 0; right = 0 } in
+    let nands = c.args.nands.now in
+    let place = slice_index c.args.slots.now c.loop-step.slot - 1 in
+    let lt = entry_place nands c.args.slots.now c.loop-step.slot c.requires.places c.loop-step.invariant.within c.if-entry-eq0.false in
+    subst (λ n. IsFactIn n (get_or nands place none)) (sym c.loop-step.invariant.kept.valid.count) (All-get_or (IsFactIn (length c.args.reps.now)) nands place none lt c.requires.valid.nands_in)
+
+pub returns-then-has_operands-clause-kept : goal.returns-then-has_operands-clause-kept
+returns-then-has_operands-clause-kept c =
+    stay_then (length c.args.reps.now) c.args.nands.now c.args.links.now c.args.reps.now c.loop-step.reps c.has_operands.new.reps c.loop-step.invariant.kept c.has_operands.ensures.kept
 
 pub returns-then-has_operands-clause-found : goal.returns-then-has_operands-clause-found
 returns-then-has_operands-clause-found c =
     entry_fact (length c.args.reps.now) (length c.loop-step.reps) c.args.nands.now c.args.links.now c.args.slots.now c.loop-step.slot c.args.operands.low c.args.operands.high (record { form = 0; left = 0; right = 0 }) c.loop-step.invariant.kept.valid.count c.requires.places c.loop-step.invariant.within c.if-entry-eq0.false (c.has_operands.ensures.operands c.if-has_operands.true)
+
+pub loop-step-preserved : goal.loop-step-preserved
+loop-step-preserved c = record {
+  kept = stay_then (length c.args.reps.now) c.args.nands.now c.args.links.now c.args.reps.now c.loop-step.reps c.has_operands.new.reps c.loop-step.invariant.kept c.has_operands.ensures.kept;
+  within = c.next_slot-slot.ensures;
+}
+
+pub returns-clause-kept : goal.returns-clause-kept
+returns-clause-kept c = c.loop-step.invariant.kept

@@ -58,10 +58,10 @@ flat-requires-clause-graph c =
     let e = c.class_facts-facts.ensures ∙ ap (λ fs. map (canonical_fact fs) nands) c.deref.ensures.value in
     let one : ClassId = record { 0 = c.index.result.now } in
     let one_is = c.index.ensures ∙ get_or_default_zero forms 0 c.index.result.now (omega arith) in
-    let leaves_are = c.in_ok-leaves.ensures ∙ ap (λ fs. map as_class (slice_range fs 1 (inputs + 1))) c.deref-2.ensures.value in
-    let classes_are = c.in_ok-forms.ensures ∙ ap (map as_class) c.deref-3.ensures.value in
+    let leaves_are = c.in-Ok.ensures.leaves ∙ ap (λ fs. map as_class (slice_range fs 1 (inputs + 1))) c.deref-2.ensures.value in
+    let classes_are = c.in-Ok.ensures.forms ∙ ap (map as_class) c.deref-2.ensures.value in
     let lists_are : (k : ℕ) → IsRowOf (map pair_of (filter (of_class k) (map (canonical_fact forms) nands))) (slice_index_or lists k []) = λ k. subst (λ es. IsRowOf (map pair_of (filter (of_class k) es)) (slice_index_or lists k [])) e (c.in_ok-lists.ensures.lists k) in
-    is_graph n nands c.args.links.now c.args.reps.now is c.requires.few forms c.in_ok-numbered.ensures.classes count inputs c.requires.inputs one c.in_ok-leaves.leaves c.in_ok-forms.forms lists pairs one_is leaves_are classes_are c.in_ok-numbered.ensures.pairs lists_count lists_are
+    is_graph n nands c.args.links.now c.args.reps.now is c.requires.few forms c.in_ok-numbered.ensures.classes count inputs c.requires.inputs one c.in-Ok.leaves c.in-Ok.forms lists pairs one_is leaves_are classes_are c.in_ok-numbered.ensures.pairs lists_count lists_are
 
 pub returns : goal.returns
 returns c =
@@ -79,7 +79,7 @@ returns c =
     let e = c.class_facts-facts.ensures ∙ ap (λ fs. map (canonical_fact fs) nands) c.deref.ensures.value in
     let one : ClassId = record { 0 = c.index.result.now } in
     let one_is = c.index.ensures ∙ get_or_default_zero forms 0 c.index.result.now (omega arith) in
-    let leaves_are = c.in_ok-leaves.ensures ∙ ap (λ fs. map as_class (slice_range fs 1 (inputs + 1))) c.deref-2.ensures.value in
-    let classes_are = c.in_ok-forms.ensures ∙ ap (map as_class) c.deref-3.ensures.value in
+    let leaves_are = c.in-Ok.ensures.leaves ∙ ap (λ fs. map as_class (slice_range fs 1 (inputs + 1))) c.deref-2.ensures.value in
+    let classes_are = c.in-Ok.ensures.forms ∙ ap (map as_class) c.deref-2.ensures.value in
     let lists_are : (k : ℕ) → IsRowOf (map pair_of (filter (of_class k) (map (canonical_fact forms) nands))) (slice_index_or lists k []) = λ k. subst (λ es. IsRowOf (map pair_of (filter (of_class k) es)) (slice_index_or lists k [])) e (c.in_ok-lists.ensures.lists k) in
-    λ samples known. subst (IsReduced (plain_draft inputs samples nands c.args.links.now)) (sym c.in_ok-graph.ensures) (is_reduced n nands c.args.links.now c.args.reps.now is c.requires.few forms c.in_ok-numbered.ensures.classes count inputs c.requires.inputs one c.in_ok-leaves.leaves c.in_ok-forms.forms lists pairs one_is leaves_are classes_are c.in_ok-numbered.ensures.pairs lists_count lists_are samples known)
+    λ samples known. subst (IsReduced (plain_draft inputs samples nands c.args.links.now)) (sym c.in_ok-graph.ensures) (is_reduced n nands c.args.links.now c.args.reps.now is c.requires.few forms c.in_ok-numbered.ensures.classes count inputs c.requires.inputs one c.in-Ok.leaves c.in-Ok.forms lists pairs one_is leaves_are classes_are c.in_ok-numbered.ensures.pairs lists_count lists_are samples known)
