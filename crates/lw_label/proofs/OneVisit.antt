@@ -19,7 +19,7 @@ use Rattle.lw_match.specs.declared.mark.Mark.{Mark}
 use Rattle.lw_match.specs.Values.{plain_mark, marks_in}
 use Rattle.lw_match.specs.Shapes.{AreClosed}
 use Rattle.lw_match.specs.Bounds.{AreBounds, AreRows, AreSettledAt, AreZero, BoundsFit, BoundsState, IsTableBut}
-use Rattle.lw_match.specs.Cutting.{AreKnown, IsLeastWithin, TopsState, bound_after}
+use Rattle.lw_match.specs.Cutting.{AreKnown, IsLeastWithin, TopsState, bound_below}
 use Rattle.lw_match.specs.Least.{AreOfCells}
 use Rattle.lw_match.proofs.Marked.{each_cost, length-costs as length-costs_in, length-marks}
 use Rattle.lw_match.proofs.Settled.{settled_bounds_are_bounds}
@@ -193,7 +193,7 @@ module _ (g : Graph) (cost : Cost) (pats : List Pattern) where
       bounded_beside problem old new c d low others apart dear before
 
   -- the class has got the cost of the least match
-  pub bounded_now : IsCoverProblem g pats cost → (marks : List (Option Mark)) (c : ℕ) (best : Option Best) → c < length marks → AreLowering g cost pats (with_label marks c best) → IsLeastWithin g cost pats (marks_in marks) c (bound_after best (slice_index_or marks c None)) None → IsBounded g cost pats (with_label marks c best) c
+  pub bounded_now : IsCoverProblem g pats cost → (marks : List (Option Mark)) (c : ℕ) (best : Option Best) → c < length marks → AreLowering g cost pats (with_label marks c best) → IsLeastWithin g cost pats (marks_in marks) c (bound_below best (slice_index_or marks c None)) None → IsBounded g cost pats (with_label marks c best) c
   bounded_now problem marks c None below low none =
       bounded_under g cost pats marks c (slice_index_or marks c None) refl none
   bounded_now problem marks c (Some best) below low none =

@@ -104,8 +104,11 @@ fn label_pair<C: Cost>(
 {
     let class = first_of(graph, marks, place);
     let other = class.flip();
-    lower_mark(graph, pats, cost, bounds, tops, marks, class);
-    lower_whole(graph, pats, cost, bounds, tops, marks, other);
+    lower_whole(graph, pats, cost, bounds, tops, marks, class);
+    let lowered = lower_whole(graph, pats, cost, bounds, tops, marks, other);
+    if !may_lower(lowered, marks[other.0 as usize], marks[class.0 as usize]) {
+        return true;
+    }
     let lowered = lower_whole(graph, pats, cost, bounds, tops, marks, class);
     if !may_lower(lowered, marks[class.0 as usize], marks[other.0 as usize]) {
         return true;

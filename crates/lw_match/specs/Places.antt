@@ -145,6 +145,11 @@ pub record IsFar (numbers : List ℕ) (place shift top : ℕ) : Type 0 where
   pub reached : top ≤ shifted (slice_index_or numbers place never) shift
   pub most : shifted (slice_index_or numbers place never) shift ≤ never
 
+-- so it is with the numbers of the roots of these patterns in a list
+abbrev pub AreFar : ℕ → List ℕ → List Root → ℕ → Type 0
+AreFar patterns numbers roots top =
+    (i : ℕ) (root : Root) → slice_get roots i ≡ Some root → root.pattern < patterns → IsFar numbers root.place root.shift top
+
 -- the rules, lists as long as the parts, and the roots in lists
 pub record HasRoom (parts : List Part) (groups : List Group) (least : List ℕ) (roots : List Side) (leaf row other : List Root) : Type 0 where
   pub grouped : AreGrouped parts groups
