@@ -79,7 +79,7 @@ zip_get R (x ∷ xs) (z ∷ ys) (suc k) y (r, a) e = zip_get R xs ys k y a e
 pub leaves_free : (c : Choices) (cells : List CellParts) (pats : List Pattern) (i k : ℕ) → slice_get c.graph.leaves i ≡ Some k → IsLeastCover c.graph pats (area_cost cells) k (Some 0)
 leaves_free c cells pats i k at = ((wire i, tt, at, refl), λ other other_is unfolds. omega arith)
 
-pub leaf_labels : (c : Choices) (cells : List CellParts) (marks : List (Option Mark)) → AreLeastMarks c.graph (area_cost cells) (library_patterns cells) marks → HaveLeafLabels c.graph (area_cost cells) (labels marks)
+leaf_labels : (c : Choices) (cells : List CellParts) (marks : List (Option Mark)) → AreLeastMarks c.graph (area_cost cells) (library_patterns cells) marks → HaveLeafLabels c.graph (area_cost cells) (labels marks)
 leaf_labels c cells marks least k i at = by_label (labels marks k) refl (least.least k)
   where
     by_label : (l : Option ℕ) → labels marks k ≡ l → IsLeastCover c.graph (library_patterns cells) (area_cost cells) k l → labels marks k ≡ Some 0

@@ -16,11 +16,9 @@ use Rattle.lw_laws.specs.Rounds.{labels_in}
 use Rattle.lw_laws.specs.Mapped.{root_class}
 use Rattle.lw_laws.specs.Marks.{Mark as PlainMark}
 use Rattle.lw_laws.specs.Headline.{Port as PlainPort}
-use Rattle.lw_laws.specs.Extracts.{HaveLeafLabels}
 use Rattle.lw_laws.proofs.Numbers.{slice_get_map, slice_get_map_back}
 use Rattle.lw_laws.proofs.Mapping.{sop_occurs}
 use Rattle.lw_laws.proofs.GraphEncodes.{graph_trees}
-use Rattle.lw_laws.proofs.InputLabels.{input_label}
 use Rattle.lw_net.specs.Networks.{NetworkParts, IsNetwork, name_in, input_names, output_names}
 use Rattle.lw_net.specs.Plain as network
 use Rattle.lw_genlib.specs.Cells.{CellParts}
@@ -96,11 +94,6 @@ module _ (net : NetworkParts) (starts : List Micro) (c : Choices) (ports : Ports
     own_least : AreLeastMarks c.graph (time_cost cells starts) (library_patterns cells) marks
     own_least = subst (λ ps. AreLeastMarks c.graph (time_cost cells starts) ps marks) pats_are least
 
-    -- the label of an input's class is its start
-    pub leaf_labels : ArePatterns (map length (delays_of_cells cells)) (library_patterns cells) → HaveLeafLabels c.graph (time_cost cells starts) (labels marks)
-    leaf_labels patterns k i at =
-        input_label options.mode options.width (network.plain net) c.graph are.wide.least are.graph (library_patterns cells) (timing_of cells starts) most_time patterns i k (labels_in (costs_of marks) k) at (own_least.least k)
-
     pub cover_maps : (labeller : Labeller) (steps : Option ℕ) → AreStepsBy labeller c.graph pats (labels_in (costs_of marks)) steps → (cover : NetlistCover) → IsNetlist cover.netlist → IsExtractedCover c.graph (time_cost cells starts) pats marks ports cover → IsMappingOf labeller cells net starts c (record { netlist = cover.netlist; classes = cover.classes; labels = marks; steps = steps })
     unfolding cover_is_netlist
     cover_maps labeller steps read cover own is = record {
@@ -168,7 +161,7 @@ module _ (net : NetworkParts) (starts : List Micro) (c : Choices) (ports : Ports
         lacks by by_is ((graph_trees options.mode options.width (network.plain net) c.graph are.wide.least are.graph (sop_at (signals_of options.width (network.plain net)) o.0) (tree_of by) (sop_occurs options.width are.wide.least (network.plain net) o.0 (in_nets o lt))).0 (subst (Unfolds c.graph (tree_of by)) same u))
 
     -- the first root without a mark is that of the first output without a cover
-    first_lack : (k : ℕ) → IsFirstUncovered marks ports.roots k → (o : NetId) × (slice_get net.outputs k ≡ Some o) × LacksCover options cells net starts (name_in net o)
+    pub first_lack : (k : ℕ) → IsFirstUncovered marks ports.roots k → (o : NetId) × (slice_get net.outputs k ≡ Some o) × LacksCover options cells net starts (name_in net o)
     first_lack k is =
         let (o, at, lt, same) = output_at k is.root is.at in (
           o,
@@ -189,7 +182,3 @@ module _ (net : NetworkParts) (starts : List Micro) (c : Choices) (ports : Ports
 
     pub lack_place : (k : ℕ) → IsFirstUncovered marks ports.roots k → k < length net.outputs
     lack_place k is = let (o, at, lacks) = first_lack k is in slice_get_within net.outputs k o at
-
-    -- the refusal of the output at a place
-    pub lack_refused : (k : ℕ) (name : List ℕ) → IsFirstUncovered marks ports.roots k → ((o : NetId) → slice_get net.outputs k ≡ Some o → name ≡ name_in net o) → LacksCover options cells net starts name
-    lack_refused k name is said = let (o, at, lacks) = first_lack k is in subst (LacksCover options cells net starts) (sym (said o at)) lacks

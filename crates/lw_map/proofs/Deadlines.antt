@@ -38,6 +38,10 @@ use Rattle.lw_map.proofs.Composed.{ports_fit}
 use Rattle.lw_map.proofs.Traded.{zip_places, tree_back, class_of_net}
 use Rattle.lw_net.specs.Ports.{output_port}
 
+-- the ports of targets
+abbrev pub ports_in : Targets → Ports
+ports_in targets = record { model = targets.model; inputs = targets.inputs; outputs = targets.outputs; roots = targets.roots }
+
 -- the greatest of times that are low is low, and none of them is above it
 pub latest_low : (m d : ℕ) (ts : List Micro) → d < m → All (λ (t : Micro). t.0 < m) ts → latest_of d (micros ts) < m
 latest_low m d ts first all = by_list ts (recursion_from_All (λ (t : Micro). t.0 < m) ts all)

@@ -21,5 +21,6 @@ mod Deadlines
 mod TradedNames
 mod OwnNames
 mod Earliest
+mod Refusals
 mod Tables
 mod TableTexts

@@ -4,6 +4,8 @@ ghost use Rattle.lw_pool.specs.declared.id.ClassId.{ClassId};
 ghost use Rattle.lw_map.specs.Options.{IsWide, plain_options};
 ghost use Rattle.lw_map.specs.Choices.{AreChoicesOf, root_of};
 ghost use Rattle.lw_map.specs.Faults.{IsChoiceFault};
+ghost use Rattle.lw_laws.specs.Mapped.{forms_of};
+ghost use Rattle.lw_net.specs.Plain.{plain};
 ghost use Rattle.lw_pool.specs.Numbers.{numbers};
 
 use crate::{MapFault, Options};
@@ -41,6 +43,33 @@ fn roots(alloc: Global, net: &Network, forms: &Forms, graph: &Graph) -> Result<C
     Ok(Classes::from_vec(roots))
 }
 
+// The choices of decomposition of a network, given its forms.
+fn choices_by(
+    alloc: Global,
+    net: &Network,
+    options: Options,
+    forms: &Forms,
+) -> Result<Choices, MapFault>
+    requires wide { IsWide (plain_options options) }
+    requires listed { forms.now ≡ forms_of options.width (plain net.now) }
+    ensures choices { IfOk result (λ c. (c.options ≡ options) × AreChoicesOf net.now c) }
+    ensures fault { IfErr result (IsChoiceFault (plain_options options) net.now) }
+{
+    let _ = net.inputs();
+    let count = forms.len();
+    let graph = build(alloc, forms, options.mode)?;
+    let Ok(roots) = roots(alloc, net, forms, &graph) else {
+        drop(graph);
+        return Err(MapFault::Memory);
+    };
+    Ok(Choices {
+        options,
+        forms: count,
+        graph,
+        roots,
+    })
+}
+
 /// The choices of decomposition of a network. `Forms` and `Splits` come exactly where there are
 /// more than are dealt with.
 pub fn decompose(alloc: Global, net: &Network, options: Options) -> Result<Choices, MapFault>
@@ -48,15 +77,8 @@ pub fn decompose(alloc: Global, net: &Network, options: Options) -> Result<Choic
     ensures choices { IfOk result (λ c. (c.options ≡ options) × AreChoicesOf net.now c) }
     ensures fault { IfErr result (IsChoiceFault (plain_options options) net.now) }
 {
-    let _ = net.inputs();
     let listed = forms(alloc, net, options.width)?;
-    let forms = listed.len();
-    let graph = build(alloc, &listed, options.mode)?;
-    let roots = roots(alloc, net, &listed, &graph)?;
-    Ok(Choices {
-        options,
-        forms,
-        graph,
-        roots,
-    })
+    let choices = choices_by(alloc, net, options, &listed);
+    drop(listed);
+    choices
 }

@@ -1,26 +1,39 @@
 // The netlist of the chosen matches.
-ghost use Rattle.std.specs.Prelude.{◌≤◌, All, IfOk, IfErr, length};
-ghost use Rattle.lw_genlib.specs.Cells.{IsSmall};
+ghost use Rattle.std.specs.Prelude.{◌≡◌, ◌≤◌, ℕ, All, IfOk, IfErr, IfSome, List, Option, Some, Err, length, map, slice_get};
 ghost use Rattle.std.specs.List.{IsDistinct};
 ghost use Rattle.std.specs.Str.{bytes_eq};
+ghost use Rattle.lw_laws.specs.Extracts.{HaveLeafLabels};
+ghost use Rattle.lw_laws.specs.Graphs.{most_classes};
+ghost use Rattle.lw_laws.specs.Matches.{IsLeastCover};
+ghost use Rattle.lw_laws.specs.Rounds.{labels_in};
+ghost use Rattle.lw_genlib.specs.Cells.{IsSmall};
+ghost use Rattle.lw_genlib.specs.Tables.{delays_of_cells};
 ghost use Rattle.lw_net.specs.Networks.{output_names};
+ghost use Rattle.lw_match.specs.declared.mark.Mark.{Mark as MarkOf};
+ghost use Rattle.lw_match.specs.Bounds.{BoundsFit, AreBounds};
+ghost use Rattle.lw_match.specs.Least.{AreOfCells};
+ghost use Rattle.lw_label.specs.Labels.{AreLeastMarks, costs_of};
 ghost use Rattle.lw_netlist.specs.Plain.{IsOver};
+ghost use Rattle.lw_extract.specs.declared.ports.Ports.{Ports as PortsOf};
+ghost use Rattle.lw_extract.specs.Covers.{IsExtractedCover, IsFirstUncovered};
 ghost use Rattle.lw_map.specs.Choices.{AreChoicesOf};
+ghost use Rattle.lw_map.specs.Labelled.{AreStepsBy};
 ghost use Rattle.lw_map.specs.Ports.{ArePortsOf};
 ghost use Rattle.lw_map.specs.Mappings.{IsMappingOf};
 ghost use Rattle.lw_map.specs.Faults.{IsCoverFault};
-ghost use Rattle.lw_laws.specs.Graphs.{most_classes};
+ghost use Rattle.lw_map.specs.Trading.{LacksLabel};
 
-use crate::labelling::label;
-use crate::naming::{input_names, output_name, output_names};
+use crate::labelling::{Labelled, label};
+use crate::naming::{input_names, output_names, refused};
 use crate::{Choices, Labeller, MapFault};
-use lw_extract::{ExtractFault, Ports, extract_with};
+use lw_extract::{Cover, ExtractFault, Ports, extract_with};
 use lw_fixed::Micros;
 use lw_genlib::Library;
 use lw_label::{DelayCost, Labels};
+use lw_match::Cost;
 use lw_net::Network;
 use lw_netlist::Netlist;
-use lw_pattern::patterns;
+use lw_pattern::{Patterns, patterns};
 use lw_pool::{Classes, Name};
 use std::alloc::{AllocError, Global};
 
@@ -51,6 +64,80 @@ pub(crate) fn ports(alloc: Global, net: &Network, choices: &Choices) -> Result<P
     })
 }
 
+// The netlist of the matches that labels choose for the outputs, or the first output that has none.
+fn covered<C: Cost>(
+    alloc: Global,
+    lib: &Library,
+    net: &Network,
+    choices: &Choices,
+    pats: &Patterns,
+    labelled: &Labelled,
+    cost: &C,
+) -> Result<Cover, ExtractFault>
+    requires choices { AreChoicesOf net.now choices.now }
+    requires outputs { IsDistinct bytes_eq (output_names net.now) }
+    requires cells { (C.costs cost.now).pin_counts ≡ map length (delays_of_cells lib.now) }
+    requires of_cells { AreOfCells (C.costs cost.now).pin_counts pats.now }
+    requires least { AreLeastMarks choices.now.graph (C.costs cost.now) pats.now
+        labelled.now.labels }
+    requires leaves { HaveLeafLabels choices.now.graph (C.costs cost.now)
+        (labels_in (costs_of labelled.now.labels)) }
+    requires fits { IfSome labelled.now.bounds (λ b. BoundsFit b pats.now choices.now.graph) }
+    requires bounds { IfSome labelled.now.bounds (λ b. AreBounds b choices.now.graph
+        labelled.now.labels) }
+    ensures cover { IfOk result (λ cover. (ports : PortsOf) × ArePortsOf net.now choices.now ports ×
+        IsExtractedCover choices.now.graph (C.costs cost.now) pats.now labelled.now.labels ports
+        cover) }
+    ensures over { IfOk result (λ cover. IsOver lib.now cover.netlist) }
+    ensures lacks { IfErr result (LacksLabel labelled.now.labels choices.now.roots) }
+{
+    let _ = net.inputs();
+    let ports = ports(alloc, net, choices)?;
+    let (graph, labels) = (&choices.graph, &labelled.labels);
+    let bounds = labelled.bounds.as_ref();
+    let cover = extract_with(alloc, graph, pats, lib, labels, bounds, &ports, cost);
+    drop(ports);
+    cover
+}
+
+// The labels by a cost, and the netlist of the matches that they choose for the outputs, or the
+// first output that has none.
+pub(crate) fn mapped<C: Cost>(
+    alloc: Global,
+    lib: &Library,
+    net: &Network,
+    choices: &Choices,
+    pats: &Patterns,
+    cost: &C,
+    labeller: Labeller,
+) -> Result<(Labelled, Cover), ExtractFault>
+    requires choices { AreChoicesOf net.now choices.now }
+    requires outputs { IsDistinct bytes_eq (output_names net.now) }
+    requires cells { (C.costs cost.now).pin_counts ≡ map length (delays_of_cells lib.now) }
+    requires of_cells { AreOfCells (C.costs cost.now).pin_counts pats.now }
+    requires leaves { (i c : ℕ) → slice_get choices.now.graph.leaves i ≡ Some c → IsLeastCover
+        choices.now.graph pats.now (C.costs cost.now) c (Some ((C.costs cost.now).leaf i)) }
+    ensures least { IfOk result (λ m. AreLeastMarks choices.now.graph (C.costs cost.now) pats.now
+        m.0.labels) }
+    ensures steps { IfOk result (λ m. AreStepsBy labeller choices.now.graph pats.now
+        (labels_in (costs_of m.0.labels)) m.0.steps) }
+    ensures cover { IfOk result (λ m. (ports : PortsOf) × ArePortsOf net.now choices.now ports ×
+        IsExtractedCover choices.now.graph (C.costs cost.now) pats.now m.0.labels ports m.1) }
+    ensures over { IfOk result (λ m. IsOver lib.now m.1.netlist) }
+    ensures lacks { (k : ℕ) → result ≡ Err (ExtractFault.NoCover k) →
+        (marks : List (Option MarkOf)) × AreLeastMarks choices.now.graph (C.costs cost.now)
+        pats.now marks × IsFirstUncovered marks choices.now.roots k }
+{
+    let labelled = label(alloc, &choices.graph, pats, cost, labeller)?;
+    match covered(alloc, lib, net, choices, pats, &labelled, cost) {
+        Ok(cover) => Ok((labelled, cover)),
+        Err(fault) => {
+            drop(labelled);
+            Err(fault)
+        }
+    }
+}
+
 /// Covers the choices of a network by cells of a library: each class gets the least time of its
 /// covers from the starts of the inputs on, and the chosen matches of the needed classes are the
 /// gates. `NoCover` tells the first output that has no cover, and comes exactly where there is one.
@@ -73,24 +160,19 @@ pub fn cover(
     let _ = (lib.len(), net.inputs());
     let pats = patterns(alloc, lib)?;
     let cost = DelayCost::new(lib, starts);
-    let labelled = label(alloc, &choices.graph, &pats, &cost, labeller)?;
-    let labels = labelled.labels;
-    let bounds = labelled.bounds.as_ref();
-    let ports = ports(alloc, net, choices)?;
-    let graph = &choices.graph;
-    match extract_with(alloc, graph, &pats, lib, &labels, bounds, &ports, &cost) {
-        Ok(cover) => {
+    let found = mapped(alloc, lib, net, choices, &pats, &cost, labeller);
+    drop(pats);
+    match found {
+        Ok((labelled, cover)) => {
             let _ = cover.netlist.gates();
+            drop(labelled.bounds);
             Ok(Mapping {
                 netlist: cover.netlist,
                 classes: cover.classes,
-                labels,
+                labels: labelled.labels,
                 steps: labelled.steps,
             })
         }
-        Err(ExtractFault::NoCover(place)) => Err(MapFault::NoCover(output_name(
-            alloc, net, place,
-        )?)),
-        Err(ExtractFault::Memory) => Err(MapFault::Memory),
+        Err(fault) => Err(refused(alloc, net, fault)),
     }
 }

@@ -1,5 +1,5 @@
 // Labels of the classes of a graph.
-ghost use Rattle.std.specs.Prelude.{◌≡◌, ℕ, Some, None, IfOk, IfErr, IfSome, slice_get};
+ghost use Rattle.std.specs.Prelude.{◌≡◌, ℕ, Some, None, IfOk, IfSome, slice_get};
 ghost use Rattle.lw_laws.specs.Matches.{IsLeastCover};
 ghost use Rattle.lw_laws.specs.Rounds.{labels_in};
 ghost use Rattle.lw_match.specs.Bounds.{BoundsFit, AreBounds};
@@ -8,13 +8,13 @@ ghost use Rattle.lw_label.specs.Labels.{AreLeastMarks, costs_of};
 ghost use Rattle.lw_settle.specs.Steps.{AreSteps};
 ghost use Rattle.lw_map.specs.Labelled.{AreStepsBy};
 
-use crate::{Labeller, MapFault};
+use crate::Labeller;
 use lw_graph::Graph;
 use lw_label::{Labels, relabel_with_bounds};
 use lw_match::{Bounds, Cost};
 use lw_pattern::Patterns;
 use lw_settle::{StoreFault, settle, store_matches};
-use std::alloc::Global;
+use std::alloc::{AllocError, Global};
 
 /// The labels of the classes of a graph, the table of bounds for them where they are found in
 /// rounds, and how often a stored match was read to find them: none in rounds, which are taken too
@@ -32,14 +32,13 @@ fn by_rounds<C: Cost>(
     graph: &Graph,
     pats: &Patterns,
     cost: &C,
-) -> Result<Labelled, MapFault>
+) -> Result<Labelled, AllocError>
     requires { AreOfCells (C.costs cost.now).pin_counts pats.now }
     ensures least { IfOk result (λ l. AreLeastMarks graph.now (C.costs cost.now) pats.now
         l.labels) }
     ensures fits { IfOk result (λ l. IfSome l.bounds (λ b. BoundsFit b pats.now graph.now)) }
     ensures bounds { IfOk result (λ l. IfSome l.bounds (λ b. AreBounds b graph.now l.labels)) }
     ensures steps { IfOk result (λ l. l.steps ≡ None) }
-    ensures memory { IfErr result (λ e. e ≡ MapFault.Memory) }
 {
     let found = relabel_with_bounds(alloc, graph, pats, cost)?;
     Ok(Labelled {
@@ -55,7 +54,7 @@ fn settled<C: Cost>(
     graph: &Graph,
     pats: &Patterns,
     cost: &C,
-) -> Result<Labelled, MapFault>
+) -> Result<Labelled, AllocError>
     requires of_cells { AreOfCells (C.costs cost.now).pin_counts pats.now }
     requires leaves { (i c : ℕ) → slice_get graph.now.leaves i ≡ Some c →
         IsLeastCover graph.now pats.now (C.costs cost.now) c (Some ((C.costs cost.now).leaf i)) }
@@ -65,14 +64,15 @@ fn settled<C: Cost>(
     ensures bounds { IfOk result (λ l. IfSome l.bounds (λ b. AreBounds b graph.now l.labels)) }
     ensures steps { IfOk result (λ l. AreSteps graph.now pats.now
         (labels_in (costs_of l.labels)) l.steps) }
-    ensures memory { IfErr result (λ e. e ≡ MapFault.Memory) }
 {
     let _ = graph.classes();
     match store_matches(alloc, graph, pats) {
         Ok(mut store) => {
-            let labels = settle(alloc, &mut store, graph, cost)?;
-            let bounds = None;
+            let labels = settle(alloc, &mut store, graph, cost);
             let steps = Some(store.done());
+            drop(store);
+            let labels = labels?;
+            let bounds = None;
             Ok(Labelled {
                 labels,
                 bounds,
@@ -80,7 +80,7 @@ fn settled<C: Cost>(
             })
         }
         Err(StoreFault::TooMany) => by_rounds(alloc, graph, pats, cost),
-        Err(StoreFault::Memory) => Err(MapFault::Memory),
+        Err(StoreFault::Memory) => Err(AllocError),
     }
 }
 
@@ -91,7 +91,7 @@ pub(crate) fn label<C: Cost>(
     pats: &Patterns,
     cost: &C,
     labeller: Labeller,
-) -> Result<Labelled, MapFault>
+) -> Result<Labelled, AllocError>
     requires of_cells { AreOfCells (C.costs cost.now).pin_counts pats.now }
     requires leaves { (i c : ℕ) → slice_get graph.now.leaves i ≡ Some c →
         IsLeastCover graph.now pats.now (C.costs cost.now) c (Some ((C.costs cost.now).leaf i)) }
@@ -101,7 +101,6 @@ pub(crate) fn label<C: Cost>(
     ensures bounds { IfOk result (λ l. IfSome l.bounds (λ b. AreBounds b graph.now l.labels)) }
     ensures steps { IfOk result (λ l. AreStepsBy labeller graph.now pats.now
         (labels_in (costs_of l.labels)) l.steps) }
-    ensures memory { IfErr result (λ e. e ≡ MapFault.Memory) }
 {
     match labeller {
         Labeller::Rounds => by_rounds(alloc, graph, pats, cost),

@@ -1,8 +1,10 @@
-// The names of a network's ports.
-ghost use Rattle.std.specs.Prelude.{◌≡◌, ◌<◌, IfOk, Some, length, slice_get};
+// The names of a network's ports, and the output that is blamed by name.
+ghost use Rattle.std.specs.Prelude.{◌≡◌, ◌<◌, ◌⊎◌, ℕ, IfOk, Some, length, slice_get};
 ghost use Rattle.lw_pool.specs.declared.id.NetId.{NetId as Net};
 ghost use Rattle.lw_net.specs.Networks.{name_in, input_names, output_names};
 
+use crate::MapFault;
+use lw_extract::ExtractFault;
 use lw_net::Network;
 use lw_pool::{Name, Names, NetId};
 use std::alloc::{AllocError, Global};
@@ -34,13 +36,21 @@ fn name_of(alloc: Global, net: &Network, id: NetId) -> Result<Name, AllocError>
     Name::from_slice(alloc, net.names()[id.0 as usize].as_bytes())
 }
 
-/// The name of the output at a place.
-pub(crate) fn output_name(alloc: Global, net: &Network, place: u32) -> Result<Name, AllocError>
-    requires { place < length net.now.outputs }
-    ensures { IfOk result (λ name. (output : Net) → slice_get net.now.outputs place ≡ Some output →
-        name ≡ name_in net.now output) }
+/// Why a network is not mapped, where an output has no cover or memory ran out.
+pub(crate) fn refused(alloc: Global, net: &Network, fault: ExtractFault) -> MapFault
+    requires { (k : ℕ) → fault ≡ ExtractFault.NoCover k → k < length net.now.outputs }
+    ensures named { (k : ℕ) (output : Net) → fault ≡ ExtractFault.NoCover k →
+        slice_get net.now.outputs k ≡ Some output →
+        (result ≡ MapFault.Memory) ⊎ (result ≡ MapFault.NoCover (name_in net.now output)) }
+    ensures memory { fault ≡ ExtractFault.Memory → result ≡ MapFault.Memory }
 {
-    name_of(alloc, net, net.outputs()[place as usize])
+    match fault {
+        ExtractFault::NoCover(place) => match name_of(alloc, net, net.outputs()[place as usize]) {
+            Ok(name) => MapFault::NoCover(name),
+            Err(_) => MapFault::Memory,
+        },
+        ExtractFault::Memory => MapFault::Memory,
+    }
 }
 
 /// The names of the outputs.

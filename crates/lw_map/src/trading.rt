@@ -9,13 +9,14 @@ ghost use Rattle.lw_net.specs.Networks.{output_names};
 ghost use Rattle.lw_map.specs.Choices.{AreChoicesOf};
 ghost use Rattle.lw_map.specs.Faults.{IsCoverFault, IsTradeFault};
 ghost use Rattle.lw_map.specs.Options.{plain_options};
+ghost use Rattle.lw_map.specs.Ports.{ArePortsOf};
 ghost use Rattle.lw_map.specs.Trading.{AreEarliest, HasFewPoints, HaveLabelsTo, IsProblem, IsTradeable, IsTradedNetlist, LacksLabel, latest_of, micros, put_off};
 
-use crate::covering::ports;
+use crate::covering::{mapped, ports};
 use crate::labelling::label;
-use crate::naming::output_name;
+use crate::naming::refused;
 use crate::{Choices, Labeller, MapFault};
-use lw_extract::{ExtractFault, extract_with};
+use lw_extract::ExtractFault;
 use lw_fixed::{Micro, Micros};
 use lw_genlib::Library;
 use lw_label::DelayCost;
@@ -74,6 +75,37 @@ fn put_off(alloc: Global, times: &[Micro], deadline: Micro) -> Result<Vec<Micro>
     Ok(later)
 }
 
+// What a netlist is built for: the ports of a network, whose outputs arrive by the later of these
+// times and the deadline.
+fn targets(
+    alloc: Global,
+    net: &Network,
+    choices: &Choices,
+    times: &[Micro],
+    deadline: Micro,
+) -> Result<Targets, AllocError>
+    ensures ports { IfOk result (λ t. ArePortsOf net.now choices.now (record {
+      model = t.model;
+      inputs = t.inputs;
+      outputs = t.outputs;
+      roots = t.roots;
+    })) }
+    ensures times { IfOk result (λ t. t.times ≡ map (put_off deadline) times.now) }
+{
+    let later = put_off(alloc, times, deadline)?;
+    let Ok(ports) = ports(alloc, net, choices) else {
+        drop(later);
+        return Err(AllocError);
+    };
+    Ok(Targets {
+        model: ports.model,
+        inputs: ports.inputs,
+        outputs: ports.outputs,
+        roots: ports.roots,
+        times: Micros::from_vec(later),
+    })
+}
+
 // The choices of a network, the cells that they are covered by, and when the inputs start.
 #[derive(Drop)]
 struct Problem<'a> {
@@ -99,31 +131,22 @@ impl<'a> Problem<'a> {
         let cost = DelayCost::new(self.lib, self.starts);
         let graph = &self.choices.graph;
         let labelled = label(alloc, graph, &self.pats, &cost, Labeller::Rounds)?;
-        match labels_of(
-            alloc,
-            labelled.labels.marks(),
-            self.choices.roots.as_slice(),
-        ) {
+        let roots = self.choices.roots.as_slice();
+        let times = labels_of(alloc, labelled.labels.marks(), roots);
+        drop(labelled);
+        match times {
             Ok(times) => Ok(times),
-            Err(ExtractFault::NoCover(place)) => Err(MapFault::NoCover(output_name(
-                alloc, self.net, place,
-            )?)),
-            Err(ExtractFault::Memory) => Err(MapFault::Memory),
+            Err(fault) => Err(refused(alloc, self.net, fault)),
         }
     }
 
     // The netlist of least area by a deadline, where these are the least times of the outputs.
-    fn in_time(
-        &self,
-        alloc: Global,
-        times: Vec<Micro>,
-        deadline: Micro,
-    ) -> Result<Netlist, MapFault>
+    fn in_time(&self, alloc: Global, times: &[Micro], deadline: Micro) -> Result<Netlist, MapFault>
         requires problem { IsProblem self.now }
         requires late { IsSmall deadline }
         requires earliest { AreEarliest (plain_options self.now.choices.now.options)
-            self.now.lib.now self.now.net.now self.now.starts.now (micros times.items) }
-        requires low { All (λ (time : MicroOf). time.0 < 9223372036854775808) times.items }
+            self.now.lib.now self.now.net.now self.now.starts.now (micros times.now) }
+        requires low { All (λ (time : MicroOf). time.0 < 9223372036854775808) times.now }
         ensures traded { IfOk result (IsTradedNetlist (plain_options self.now.choices.now.options)
             self.now.lib.now self.now.net.now self.now.starts.now (Some deadline)) }
         ensures few { IfOk result (λ n. HasFewPoints (plain_options self.now.choices.now.options)
@@ -132,18 +155,16 @@ impl<'a> Problem<'a> {
             self.now.starts.now self.now.choices.now (Some deadline)) }
     {
         let (graph, pats, lib, starts) = (&self.choices.graph, &self.pats, self.lib, self.starts);
-        let horizon = latest_of(deadline, times.as_slice());
+        let horizon = latest_of(deadline, times);
         let curves = curves(alloc, graph, pats, lib, starts, horizon)?;
-        let later = put_off(alloc, times.as_slice(), deadline)?;
-        let ports = ports(alloc, self.net, self.choices)?;
-        let targets = Targets {
-            model: ports.model,
-            inputs: ports.inputs,
-            outputs: ports.outputs,
-            roots: ports.roots,
-            times: Micros::from_vec(later),
+        let Ok(targets) = targets(alloc, self.net, self.choices, times, deadline) else {
+            drop(curves);
+            return Err(MapFault::Memory);
         };
-        let netlist = trade(alloc, graph, pats, lib, starts, &curves, &targets)?;
+        let netlist = trade(alloc, graph, pats, lib, starts, &curves, &targets);
+        drop(curves);
+        drop(targets);
+        let netlist = netlist?;
         let _ = netlist.gates();
         Ok(netlist)
     }
@@ -159,18 +180,35 @@ impl<'a> Problem<'a> {
         ensures memory { IfErr result (λ e. e ≡ MapFault.Memory) }
     {
         let cost = AreaCost::new(self.lib);
-        let (graph, pats, lib) = (&self.choices.graph, &self.pats, self.lib);
-        let labelled = label(alloc, graph, pats, &cost, Labeller::Store)?;
-        let labels = labelled.labels;
-        let bounds = labelled.bounds.as_ref();
-        let ports = ports(alloc, self.net, self.choices)?;
-        match extract_with(alloc, graph, pats, lib, &labels, bounds, &ports, &cost) {
-            Ok(cover) => {
+        let (net, pats, lib) = (self.net, &self.pats, self.lib);
+        match mapped(alloc, lib, net, self.choices, pats, &cost, Labeller::Store) {
+            Ok((labelled, cover)) => {
                 let _ = cover.netlist.gates();
+                drop(labelled);
+                drop(cover.classes);
                 Ok(cover.netlist)
             }
             Err(ExtractFault::NoCover(_)) => unreachable!(),
             Err(ExtractFault::Memory) => Err(MapFault::Memory),
+        }
+    }
+
+    // The netlist of least area by a deadline, or of least area of all where there is none.
+    fn traded(&self, alloc: Global, deadline: Option<Micro>) -> Result<Netlist, MapFault>
+        requires problem { IsProblem self.now }
+        requires late { IfSome deadline IsSmall }
+        ensures traded { IfOk result (IsTradedNetlist (plain_options self.now.choices.now.options)
+            self.now.lib.now self.now.net.now self.now.starts.now deadline) }
+        ensures tradeable { IfOk result (λ n. IsTradeable (plain_options
+            self.now.choices.now.options) self.now.lib.now self.now.net.now self.now.starts.now
+            deadline) }
+        ensures fault { IfErr result (IsTradeFault self.now.lib.now self.now.net.now
+            self.now.starts.now self.now.choices.now deadline) }
+    {
+        let times = self.earliest(alloc)?;
+        match deadline {
+            Some(deadline) => self.in_time(alloc, times.as_slice(), deadline),
+            None => self.at_any_time(alloc),
         }
     }
 }
@@ -208,9 +246,7 @@ pub fn exchange(
         choices,
         pats,
     };
-    let times = problem.earliest(alloc)?;
-    match deadline {
-        Some(deadline) => problem.in_time(alloc, times, deadline),
-        None => problem.at_any_time(alloc),
-    }
+    let netlist = problem.traded(alloc, deadline);
+    drop(problem);
+    netlist
 }
