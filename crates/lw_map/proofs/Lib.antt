@@ -22,5 +22,6 @@ mod TradedNames
 mod OwnNames
 mod Earliest
 mod Refusals
+mod RootLabels
 mod Tables
 mod TableTexts

@@ -28,14 +28,20 @@ pub fn tabulate(
 {
     let _ = net.inputs();
     let depths = depths(alloc, &choices.graph, leaves)?;
-    let ports = ports(alloc, net, choices)?;
+    let Ok(ports) = ports(alloc, net, choices) else {
+        drop(depths);
+        return Err(AllocError);
+    };
     let ports = TablePorts {
         model: ports.model,
         inputs: ports.inputs,
         outputs: ports.outputs,
         roots: ports.roots,
     };
-    let tabled = tables(alloc, &choices.graph, &depths, leaves, &ports)?;
+    let tabled = tables(alloc, &choices.graph, &depths, leaves, &ports);
+    drop(depths);
+    drop(ports);
+    let tabled = tabled?;
     tabled.keeps();
     Ok(tabled)
 }

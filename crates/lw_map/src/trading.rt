@@ -42,13 +42,14 @@ fn labels_of(
 {
     let mut labels = Vec::with_capacity(alloc, roots.len())?;
     for (k, root) in roots.iter().enumerate() {
-        match marks[root.0 as usize] {
-            None => return Err(ExtractFault::NoCover(k as u32)),
-            Some(mark) => match labels.push(Micro(mark.cost)) {
-                Ok(()) => (),
-                Err(_) => return Err(ExtractFault::Memory),
-            },
-        }
+        let Some(mark) = marks[root.0 as usize] else {
+            drop(labels);
+            return Err(ExtractFault::NoCover(k as u32));
+        };
+        let Ok(()) = labels.push(Micro(mark.cost)) else {
+            drop(labels);
+            return Err(ExtractFault::Memory);
+        };
     }
     Ok(labels)
 }
