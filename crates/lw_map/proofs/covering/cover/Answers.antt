@@ -2,7 +2,7 @@ use Rattle.std.proofs.Common.{refl}
 use Rattle.lw_label.proofs.CellLaws.{patterns_of_cells}
 use Rattle.lw_map.proofs.CellLaws.{delay_patterns}
 use Rattle.lw_map.proofs.Composed.{leaves_least, cover_maps, gates_few}
-use Rattle.lw_map.proofs.Refusals.{IsLack, lack_within, cover_refused}
+use Rattle.lw_map.proofs.Refusals.{lack_within, cover_refused}
 use Rattle.lw_map.proofs.covering.cover.Goals as goal
 
 pub mapped-found-requires-clause-of_cells : goal.mapped-found-requires-clause-of_cells
