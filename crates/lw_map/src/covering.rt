@@ -52,10 +52,7 @@ pub struct Mapping {
 pub(crate) fn ports(alloc: Global, net: &Network, choices: &Choices) -> Result<Ports, AllocError>
     ensures { IfOk result (ArePortsOf net.now choices.now) }
 {
-    let mut roots = Vec::with_capacity(alloc, choices.roots.len())?;
-    for root in choices.roots.as_slice() {
-        roots.push(*root)?;
-    }
+    let roots = Vec::from_slice(alloc, choices.roots.as_slice())?;
     Ok(Ports {
         model: Name::from_slice(alloc, net.model().as_bytes())?,
         inputs: input_names(alloc, net)?,
