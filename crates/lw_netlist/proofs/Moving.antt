@@ -1,6 +1,6 @@
 -- The graph that is kept of a draft, and the nets of names whose gates stand at given places.
-use Rattle.std.proofs.Common.{◌≡◌, ℕ, ◌+◌, ◌-◌, ◌<◌, ◌≤◌, ◌⊎◌, inl, inr, List, [], ◌∷◌, ◌++◌, length, map, get_or, Contains, All, refl, sym, ap, ap₂, subst, ◌∙◌, arith, length-append}
-use Rattle.std.proofs.lemmas.List.{get_or_default, get_or-map, get_or_append_left, get_or-append_right, length-map}
+use Rattle.std.proofs.Common.{◌≡◌, ℕ, ◌+◌, ◌-◌, ◌<◌, ◌≤◌, ◌⊎◌, inl, inr, List, [], ◌∷◌, ◌++◌, length, map, take, get_or, Contains, All, refl, sym, ap, ap₂, subst, ◌∙◌, arith, length-append}
+use Rattle.std.proofs.lemmas.List.{get_or_default, get_or-map, get_or_append_left, get_or-append_right, length-map, map_more, map-append}
 use Rattle.std.proofs.lemmas.List.Elements.{All-map, All-weaker, All-head, All-tail}
 use Rattle.std.proofs.lemmas.Bool.{cases_lt}
 use Rattle.std.specs.List.{IsDistinct}
@@ -8,6 +8,7 @@ use Rattle.std.specs.Str.{bytes_eq}
 use Rattle.std.proofs.Math.Nat.{add-sub_cancel_left}
 use Rattle.lw_pool.specs.declared.id.CellId.{CellId}
 use Rattle.lw_pool.specs.declared.id.NetId.{NetId}
+use Rattle.lw_netlist.specs.declared.draft.DraftGate.{DraftGate}
 use Rattle.lw_netlist.specs.declared.draft.GateDraft.{GateDraft}
 use Rattle.lw_netlist.specs.declared.gate.Gate.{Gate}
 use Rattle.lw_netlist.specs.declared.gate.Port.{Port}
@@ -35,6 +36,12 @@ pub nets_all : (driven : List (List ℕ)) (nets : List NetId) (net : List ℕ �
 nets_all driven nets net [] tell among = refl
 nets_all driven nets net (f ∷ pins) tell among =
     ap₂ (λ n ns. n ∷ ns) (tell f (All-head (Contains driven) f pins among)) (nets_all driven nets net pins tell (All-tail (Contains driven) f pins among))
+
+-- the gates at some places, and one more
+pub gates_more : (net : List ℕ → ℕ) (gates : List DraftGate) (places : List ℕ) (i : ℕ) (old new : List Gate) (gate : Gate) → i < length places → gate ≡ closed_gate net (gate_at gates (get_or places i 0)) → old ≡ map (closed_gate net) (gates_at gates (take i places)) → new ≡ old ++ gate ∷ [] → new ≡ map (closed_gate net) (gates_at gates (take (i + 1) places))
+gates_more net gates places i old new gate below is was grown =
+    let more : gates_at gates (take (i + 1) places) ≡ gates_at gates (take i places) ++ gate_at gates (get_or places i 0) ∷ [] = map_more (gate_at gates) places i 0 below in
+    grown ∙ (ap₂ (λ l g. l ++ g ∷ []) was is ∙ sym (ap (map (closed_gate net)) more ∙ map-append (closed_gate net) (gates_at gates (take i places)) (gate_at gates (get_or places i 0) ∷ [])))
 
 -- what is kept of a draft
 module _ (draft : GateDraft) (graph : Graph) (made : IsMadeOf draft graph) where

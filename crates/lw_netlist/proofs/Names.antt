@@ -33,6 +33,13 @@ undriven_first signals xs ys Memory e = e
 pub undriven_later : (signals xs ys : List (List ℕ)) → undriven_in signals xs ≡ None → undriven_in signals (xs ++ ys) ≡ undriven_in signals ys
 undriven_later signals xs ys e = find_later (λ n. not (is_among signals n)) xs ys e
 
+-- where none of the first names is undriven, the first of the others is the first of all
+pub undriven_then : (signals xs ys : List (List ℕ)) (fault : NetlistFault) → undriven_in signals xs ≡ None → TellsUndriven signals ys fault → TellsUndriven signals (xs ++ ys) fault
+undriven_then signals xs ys (Undriven name) none e = undriven_later signals xs ys none ∙ e
+undriven_then signals xs ys (Cycle name) none e = e
+undriven_then signals xs ys (Twice name) none e = e
+undriven_then signals xs ys Memory none e = e
+
 -- of lists with the same first undriven name
 undriven_same : (signals xs ys : List (List ℕ)) (fault : NetlistFault) → undriven_in signals xs ≡ undriven_in signals ys → TellsUndriven signals xs fault → TellsUndriven signals ys fault
 undriven_same signals xs ys (Undriven name) same e = sym same ∙ e

@@ -1,5 +1,5 @@
 -- A draft, and the same by numbers.
-use Rattle.std.proofs.Common.{◌≡◌, ℕ, ◌+◌, ◌<◌, ◌≤◌, List, [], length, map, get_or, Some, None, Contains, All, refl, sym, ap, subst, ◌∙◌, arith}
+use Rattle.std.proofs.Common.{◌≡◌, ℕ, ◌+◌, ◌<◌, ◌≤◌, List, [], length, map, get_or, Some, None, Contains, All, refl, sym, ap, subst, ◌∙◌, arith, ◌++◌}
 use Rattle.std.proofs.lemmas.List.{get_or-map, length-map, get_or_read}
 use Rattle.std.proofs.lemmas.Option.{slice_get-get_or}
 use Rattle.std.specs.List.{flat_map, IsDistinct}
@@ -14,7 +14,7 @@ use Rattle.lw_dag.specs.Names.{number_in}
 use Rattle.lw_netlist.specs.Numbered.{TellsUndriven, numbered}
 use Rattle.lw_dag.specs.Graphs.Leads.{one_step, then_path}
 use Rattle.lw_netlist.specs.Ordering.{IsGraphOf}
-use Rattle.lw_netlist.proofs.Names.{once_distinct, undriven_first, undriven_later}
+use Rattle.lw_netlist.proofs.Names.{once_distinct, undriven_later}
 use Rattle.lw_dag.proofs.Named as dag
 
 abbrev pub bare : Link
@@ -91,22 +91,12 @@ module _ (draft : GateDraft) (distinct : IsDistinct bytes_eq (drivers draft)) (n
   pub no_cycle : (heights : List ℕ) → AreKnown m graph heights → ((j : ℕ) → m + j < length heights → 0 < height_at heights (m + j)) → HasNoCycle ls
   no_cycle heights known all name path = dag.none_led name_of needs_of bare refl draft.inputs ls distinct none heights known all name (reaches_led name name path)
 
--- faults, in the order in which they are looked for
-pub fault_in_needs : (draft : GateDraft) (given : List (List ℕ)) (fault : NetlistFault) → given ≡ drivers draft → first_twice draft ≡ None → TellsUndriven given (flat_map needs_of (links draft)) fault → HasFault draft fault
-fault_in_needs draft given (Twice name) is once e = absurd e
-fault_in_needs draft given (Undriven name) is once e = (once, undriven_first (drivers draft) (flat_map needs_of (links draft)) draft.outputs (Undriven name) (subst (λ l. TellsUndriven l (flat_map needs_of (links draft)) (Undriven name)) is e))
-fault_in_needs draft given (Cycle name) is once e = absurd e
-fault_in_needs draft given Memory is once e = tt
-
-pub fault_in_outputs : (draft : GateDraft) (given : List (List ℕ)) (fault : NetlistFault) → given ≡ drivers draft → first_twice draft ≡ None → undriven_in given (flat_map needs_of (links draft)) ≡ None → TellsUndriven given draft.outputs fault → HasFault draft fault
-fault_in_outputs draft given (Twice name) is once none e = absurd e
-fault_in_outputs draft given (Undriven name) is once none e = (
-  once,
-  undriven_later (drivers draft) (flat_map needs_of (links draft)) draft.outputs (subst (λ l. undriven_in l (flat_map needs_of (links draft)) ≡ None) is none)
-      ∙ subst (λ l. undriven_in l draft.outputs ≡ Some name) is e,
-)
-fault_in_outputs draft given (Cycle name) is once none e = absurd e
-fault_in_outputs draft given Memory is once none e = tt
+-- a fault that is looked for after the first
+pub fault_in_links : (draft : GateDraft) (given : List (List ℕ)) (fault : NetlistFault) → given ≡ drivers draft → first_twice draft ≡ None → TellsUndriven given (flat_map needs_of (links draft) ++ draft.outputs) fault → HasFault draft fault
+fault_in_links draft given (Twice name) is once e = absurd e
+fault_in_links draft given (Undriven name) is once e = (once, subst (λ l. undriven_in l (flat_map needs_of (links draft) ++ draft.outputs) ≡ Some name) is e)
+fault_in_links draft given (Cycle name) is once e = absurd e
+fault_in_links draft given Memory is once e = tt
 
 nothing_undriven : (draft : GateDraft) (given : List (List ℕ)) → given ≡ drivers draft → undriven_in given (flat_map needs_of (links draft)) ≡ None → undriven_in given draft.outputs ≡ None → first_undriven draft ≡ None
 nothing_undriven draft given is none e =

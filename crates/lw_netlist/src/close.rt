@@ -1,8 +1,7 @@
 // Netlists that are closed from drafts.
 use crate::closing::{graph_of, starts_of};
-use crate::placing::{placed, places_below};
+use crate::placing::{placed, places_by};
 use crate::{GateDraft, Netlist, NetlistFault};
-use lw_dag::in_order;
 use lw_genlib::Library;
 use std::alloc::Global;
 
@@ -29,10 +28,19 @@ impl Netlist {
         let graph = graph_of(alloc, draft)?;
         let found = starts_of(alloc, &graph)?;
         let first = graph.inputs;
-        let count = graph.cells.len();
-        let depths = &found.depths[first..first + count];
-        let places = in_order(alloc, places_below(alloc, count)?, depths)?;
-        let netlist = placed(alloc, graph, &found.starts, &places)?;
+        let depths = &found.depths[first..first + graph.cells.len()];
+        let Ok(places) = places_by(alloc, depths) else {
+            drop(found);
+            drop(graph);
+            return Err(NetlistFault::Memory);
+        };
+        let Ok(netlist) = placed(alloc, graph, &found.starts, &places) else {
+            drop(found);
+            drop(places);
+            return Err(NetlistFault::Memory);
+        };
+        drop(found);
+        drop(places);
         Ok(netlist)
     }
 }

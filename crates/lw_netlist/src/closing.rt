@@ -1,10 +1,11 @@
 // Drafts that are closed to netlists.
-ghost use Rattle.std.specs.Prelude.{◌≡◌, ◌<◌, ℕ, List, length, map, All, Contains, IfOk, IfErr};
-ghost use Rattle.std.specs.List.{IsDistinct};
+ghost use Rattle.std.specs.Prelude.{◌≡◌, ◌<◌, ◌++◌, ℕ, None, List, length, map, All, Contains, IfOk, IfErr, OnOk};
+ghost use Rattle.std.specs.List.{IsDistinct, flat_map};
 ghost use Rattle.std.specs.Str.{bytes_eq};
 ghost use Rattle.lw_dag.specs.Names.{number_in};
 ghost use Rattle.lw_netlist.specs.declared.draft.GateDraft.{GateDraft};
-ghost use Rattle.lw_netlist.specs.Closing.{HasFault, port_at};
+ghost use Rattle.lw_netlist.specs.Closing.{HasFault, links, needs_of, port_at, undriven_in};
+ghost use Rattle.lw_netlist.specs.Numbered.{TellsUndriven, numbered};
 ghost use Rattle.lw_netlist.specs.Ordering.{AreRight, IsGraphOf, TellNets};
 ghost use Rattle.lw_netlist.specs.Placing.{IsMadeOf, cell_of};
 
@@ -37,6 +38,26 @@ struct Links {
     rows: Vec<Numbers>,
 }
 
+// The numbers of what each gate and then each wire of a draft hangs on, or the first name that
+// nothing drives, by pins, sources of wires and then outputs.
+fn linked(alloc: Global, draft: &GateDraft, signals: &Signals) -> Result<Vec<Numbers>, NetlistFault>
+    ensures rows { IfOk result (λ rows. rows.items ≡ numbered signals.now (links draft.now)) }
+    ensures known { OnOk result (undriven_in signals.now
+        (flat_map needs_of (links draft.now)) ≡ None) }
+    ensures outputs { OnOk result (undriven_in signals.now draft.now.outputs ≡ None) }
+    ensures fault { IfErr result (TellsUndriven signals.now
+        (flat_map needs_of (links draft.now) ++ draft.now.outputs)) }
+{
+    let rows = rows(
+        alloc,
+        draft.gates.as_slice(),
+        draft.wires.as_slice(),
+        signals,
+    )?;
+    let _outputs = numbers_of(alloc, draft.outputs.as_slice(), signals)?;
+    Ok(rows)
+}
+
 // The links of a draft, or the first name that is driven twice, or else the first that nothing
 // drives.
 fn links_of(alloc: Global, draft: &GateDraft) -> Result<Links, NetlistFault>
@@ -46,19 +67,22 @@ fn links_of(alloc: Global, draft: &GateDraft) -> Result<Links, NetlistFault>
 {
     let names = driven(alloc, draft)?;
     let signals = numbers(alloc, names)?;
-    let cells = cells_of(alloc, draft.gates.as_slice())?;
-    let rows = rows(
-        alloc,
-        draft.gates.as_slice(),
-        draft.wires.as_slice(),
-        &signals,
-    )?;
-    let _outputs = numbers_of(alloc, draft.outputs.as_slice(), &signals)?;
-    Ok(Links {
-        cells,
-        signals,
-        rows,
-    })
+    let Ok(cells) = cells_of(alloc, draft.gates.as_slice()) else {
+        drop(signals);
+        return Err(NetlistFault::Memory);
+    };
+    match linked(alloc, draft, &signals) {
+        Ok(rows) => Ok(Links {
+            cells,
+            signals,
+            rows,
+        }),
+        Err(fault) => {
+            drop(cells);
+            drop(signals);
+            Err(fault)
+        }
+    }
 }
 
 // The graph of a draft, or the first name that is driven twice, or else the first that nothing

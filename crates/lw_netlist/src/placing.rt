@@ -1,9 +1,11 @@
 // Netlists of graphs, with the gates at given places.
-ghost use Rattle.std.specs.Prelude.{◌≡◌, ◌+◌, ◌≤◌, ◌<◌, ◌++◌, ℕ, [], List, length, map, slice_index_or, All, IfOk};
+ghost use Rattle.std.specs.Prelude.{◌≡◌, ◌+◌, ◌≤◌, ◌<◌, ◌++◌, ℕ, [], List, length, map, slice_index_or, All, Contains, IfOk};
 ghost use Rattle.std.specs.List.{range_with_len};
+ghost use Rattle.std.specs.List.Sorted.{IsNonDecreasingBy, IsPermutation};
 ghost use Rattle.lw_dag.specs.Graphs.{most_signals};
+ghost use Rattle.lw_dag.specs.Ordering.{AreKeys, by_key};
 ghost use Rattle.lw_netlist.specs.declared.draft.GateDraft.{GateDraft};
-ghost use Rattle.lw_netlist.specs.Closing.{closed_gate, netlist_in};
+ghost use Rattle.lw_netlist.specs.Closing.{closed_gate, netlist_in, port_at};
 ghost use Rattle.lw_netlist.specs.Numbered.{net_at, start_at};
 ghost use Rattle.lw_netlist.specs.Ordering.{TellNets, net_by};
 ghost use Rattle.lw_netlist.specs.Placing.{AreTurned, IsMadeOf, IsPlaced, gate_at, gates_at, names_at, signal_at};
@@ -11,11 +13,12 @@ ghost use Rattle.lw_netlist.specs.Placing.{AreTurned, IsMadeOf, IsPlaced, gate_a
 use crate::closing::ports;
 use crate::graph::Graph;
 use crate::{Gate, Gates, Netlist, PortList, SpelledNames};
+use lw_dag::in_order;
 use lw_pool::{Name, Names, NetId, Nets};
 use std::alloc::{AllocError, Global};
 
 // All places below a number.
-pub(crate) fn places_below(alloc: Global, count: usize) -> Result<Vec<u32>, AllocError>
+fn places_below(alloc: Global, count: usize) -> Result<Vec<u32>, AllocError>
     requires { count ≤ most_signals }
     ensures { IfOk result (λ places. places.items ≡ range_with_len 0 count) }
 {
@@ -24,6 +27,23 @@ pub(crate) fn places_below(alloc: Global, count: usize) -> Result<Vec<u32>, Allo
         places.push(place as u32)?;
     }
     Ok(places)
+}
+
+// The places of gates with these depths, by depth and, at one depth, in order.
+pub(crate) fn places_by(alloc: Global, depths: &[u32]) -> Result<Vec<u32>, AllocError>
+    requires few { length depths.now ≤ most_signals }
+    requires least { All (λ d. 1 ≤ d) depths.now }
+    ensures permutation { IfOk result (λ places. IsPermutation
+        (range_with_len 0 (length depths.now)) places.items) }
+    ensures rising { IfOk result (λ places. (depth : ℕ → ℕ) →
+        AreKeys depths.now (range_with_len 0 (length depths.now)) depth →
+        IsNonDecreasingBy depth places.items) }
+    ensures order { IfOk result (λ places. (depth : ℕ → ℕ) →
+        AreKeys depths.now (range_with_len 0 (length depths.now)) depth →
+        places.items ≡ by_key depth (range_with_len 0 (length depths.now))) }
+{
+    let all = places_below(alloc, depths.len())?;
+    in_order(alloc, all, depths)
 }
 
 // The names of the inputs, and then copies of those that the gates at these places drive.
@@ -155,6 +175,46 @@ fn gates_by(
     Ok((nets, gates))
 }
 
+// The model of a graph, the names of the nets, and the outputs with their nets.
+fn named(
+    alloc: Global,
+    graph: Graph,
+    places: &[u32],
+    nets: &[NetId],
+) -> Result<(Name, Names, PortList), AllocError>
+    requires places { All (λ p. graph.inputs + p < length graph.signals) places.now }
+    requires count { length nets.now ≡ length graph.signals }
+    requires known { All (Contains graph.signals) graph.outputs }
+    ensures model { IfOk result (λ named. named.0 ≡ graph.model) }
+    ensures names { IfOk result (λ named. named.1
+        ≡ graph.first ++ map (signal_at graph.inputs graph.signals) places.now) }
+    ensures outputs { IfOk result (λ named. (net : List ℕ → ℕ) →
+        TellNets graph.signals nets.now net → named.2 ≡ map (port_at net) graph.outputs) }
+{
+    let (inputs, signals) = (graph.inputs, graph.signals);
+    drop(graph.cells);
+    drop(graph.rows);
+    let first = graph.first.into_vec();
+    let Ok(names) = names_by(alloc, first, signals.names(), inputs, places) else {
+        drop(graph.model);
+        drop(graph.outputs);
+        drop(signals);
+        return Err(AllocError);
+    };
+    let Ok(ports) = ports(alloc, graph.outputs.into_vec(), &signals, nets) else {
+        drop(graph.model);
+        drop(names);
+        drop(signals);
+        return Err(AllocError);
+    };
+    drop(signals);
+    Ok((
+        graph.model,
+        Names::from_vec(names),
+        PortList::from_vec(ports),
+    ))
+}
+
 // The netlist of a graph whose gates stand at these places.
 pub(crate) fn placed(
     alloc: Global,
@@ -167,28 +227,16 @@ pub(crate) fn placed(
         n ≡ netlist_in draft (gates_at draft.gates places.now)
         (net_by graph.signals starts.now (names_at draft places.now))) }
 {
-    let Ok(made) = gates_by(alloc, &graph, starts, places) else {
+    let inputs = graph.inputs as u32;
+    let Ok((nets, gates)) = gates_by(alloc, &graph, starts, places) else {
         drop(graph);
         return Err(AllocError);
     };
-    let Graph {
-        model,
-        inputs,
-        first,
-        outputs,
-        cells,
-        signals,
-        rows,
-    } = graph;
-    drop(cells);
-    drop(rows);
-    let names = names_by(alloc, first.into_vec(), signals.names(), inputs, places)?;
-    let outputs = ports(alloc, outputs.into_vec(), &signals, &made.0)?;
-    Ok(Netlist::new(
-        model,
-        Names::from_vec(names),
-        inputs as u32,
-        Gates::from_vec(made.1),
-        PortList::from_vec(outputs),
-    ))
+    let Ok((model, names, outputs)) = named(alloc, graph, places, &nets) else {
+        drop(nets);
+        drop(gates);
+        return Err(AllocError);
+    };
+    drop(nets);
+    Ok(Netlist::new(model, names, inputs, Gates::from_vec(gates), outputs))
 }

@@ -2,7 +2,7 @@ use Rattle.std.proofs.Common.{◌≡◌, ◌<◌, [], length, ap, sym, subst, �
 use Rattle.std.proofs.lemmas.List.{length-set}
 use Rattle.std.proofs.lemmas.Option.{get_or_from_slice_get}
 use Rattle.lw_netlist.specs.Chains.{AreChains, bucket_in, name_at}
-use Rattle.lw_netlist.proofs.Chains.{chains-more, chains-none}
+use Rattle.lw_netlist.proofs.Chains.{chains-more}
 use Rattle.lw_netlist.proofs.buckets.relink.Goals as goal
 
 pub loop-place-preserved : goal.loop-place-preserved
