@@ -1,5 +1,5 @@
-use Rattle.std.proofs.Common.{ℕ, length, sym, subst, ◌≡◌, ◌≤◌, ◌<◌, ◌∙◌, true≢false}
-use Rattle.lw_reduce.specs.Representatives.{IsFlat}
+use Rattle.std.proofs.Common.{ℕ, All, length, sym, subst, ◌≡◌, ◌≤◌, ◌<◌, ◌∙◌, true≢false}
+use Rattle.lw_reduce.specs.Representatives.{IsFactIn, IsFlat}
 use Rattle.lw_reduce.specs.Settling.{AgreesAt}
 use Rattle.lw_reduce.proofs.RepSteps.{valid_at}
 use Rattle.lw_reduce.proofs.Settling.{all_implied, settled}
@@ -36,3 +36,23 @@ returns-clause-canonical c =
     let links = c.args.links.now in
     let counts = c.unify_linked-linked.ensures.progress.valid.count ∙ c.flatten.ensures.kept.valid.count in
     all_implied n nands links mid c.in_ok-canonical.canonical.items (valid_at n nands links mid (length c.flatten.new.reps) c.unify_linked-linked.ensures.progress.valid c.flatten.ensures.kept.valid.count) c.in_ok-canonical.ensures.permutation
+
+pub flatten-requires : goal.flatten-requires
+flatten-requires c = c.requires
+
+pub unify_linked-linked-requires : goal.unify_linked-linked-requires
+unify_linked-linked-requires c =
+    let flat = c.flatten.new.reps in
+    let valid = c.flatten.ensures.kept.valid in
+    valid_at (length flat) c.args.nands.now c.args.links.now flat (length c.args.reps.now) valid (sym valid.count)
+
+pub sorted_facts-requires : goal.sorted_facts-requires
+sorted_facts-requires c =
+    let valid = c.unify_linked-linked.ensures.progress.valid in
+    subst (λ n. All (IsFactIn n) c.args.nands.now) (sym valid.count) valid.nands_in
+
+pub unify_equal-equal-requires-clause-valid : goal.unify_equal-equal-requires-clause-valid
+unify_equal-equal-requires-clause-valid c =
+    let mid = c.unify_linked-linked.new.reps in
+    let valid = c.unify_linked-linked.ensures.progress.valid in
+    valid_at (length mid) c.args.nands.now c.args.links.now mid (length c.flatten.new.reps) valid (sym valid.count)

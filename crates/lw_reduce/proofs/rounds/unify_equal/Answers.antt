@@ -1,5 +1,6 @@
-use Rattle.std.proofs.Common.{length, sym, ◌∙◌, true≢false}
-use Rattle.lw_reduce.proofs.RepSteps.{step_true, step_false}
+use Rattle.std.proofs.Common.{All, length, sym, subst, ◌∙◌, arith, true≢false}
+use Rattle.lw_reduce.specs.Settling.{IsImplied}
+use Rattle.lw_reduce.proofs.RepSteps.{step_true, step_false, valid_at}
 use Rattle.lw_reduce.proofs.Settling.{agree_next}
 use Rattle.lw_reduce.proofs.rounds.unify_equal.Goals as goal
 use Rattle.lw_reduce.proofs.rounds.unify_equal.Goals.{then-unify_at, else-unify_at}
@@ -22,3 +23,21 @@ loop-place-preserved c =
         same = λ e f. agree_next n nands links c.args.reps.now l.reps c.unify_at.new.reps c.args.canonical.now l.place f (l.invariant.same (sym w.changed-is ∙ e) f) (c.unify_at.ensures.same w.if-unify_at.false);
       }
     ]
+
+pub unify_at-requires-clause-valid : goal.unify_at-requires-clause-valid
+unify_at-requires-clause-valid c =
+    let reps = c.loop-place.reps in
+    let valid = c.loop-place.invariant.progress.valid in
+    valid_at (length reps) c.args.nands.now c.args.links.now reps (length c.args.reps.now) valid (sym valid.count)
+
+pub unify_at-requires-clause-canonical : goal.unify_at-requires-clause-canonical
+unify_at-requires-clause-canonical c =
+    subst (λ n. All (IsImplied n c.args.nands.now c.args.links.now) c.args.canonical.now) (sym c.loop-place.invariant.progress.valid.count) c.requires.canonical
+
+pub returns-clause-progress : goal.returns-clause-progress
+returns-clause-progress c = c.loop-place.invariant.progress
+
+pub returns-clause-same : goal.returns-clause-same
+returns-clause-same c = λ e f.
+    let (same, all) = c.loop-place.invariant.same e f in
+    (same, λ place low lt. all place low (omega (arith, lt, c.loop-place-test.false)))
