@@ -40,3 +40,15 @@ returns-clause-right c = λ draft made.
     (rw c.deref.ensures.value at c.in_ok-levels.ensures.ordered)
     (rw c.deref-4.ensures.value at c.in_ok-found.ensures)
     (rw (c.in_default.is, c.deref-3.ensures.value) at c.in_ok-first.ensures.none)
+
+pub first_on_cycle-requires-clause-heights : goal.first_on_cycle-requires-clause-heights
+first_on_cycle-requires-clause-heights c = rw (c.deref-2.ensures.value, c.deref-3.ensures.value) (rw c.deref.ensures.value at c.in_ok-levels.ensures.heights)
+
+pub find_starts-requires-clause-heights : goal.find_starts-requires-clause-heights
+find_starts-requires-clause-heights c = rw c.deref-4.ensures.value (rw c.deref.ensures.value at c.in_ok-levels.ensures.heights)
+
+pub find_starts-requires-clause-low : goal.find_starts-requires-clause-low
+find_starts-requires-clause-low c = rw c.deref-4.ensures.value (rw c.deref.ensures.value at c.in_ok-levels.ensures.low)
+
+pub find_starts-requires-clause-ordered : goal.find_starts-requires-clause-ordered
+find_starts-requires-clause-ordered c = rw c.deref-4.ensures.value (rw c.deref.ensures.value at c.in_ok-levels.ensures.ordered)

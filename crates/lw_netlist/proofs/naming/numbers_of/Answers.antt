@@ -1,4 +1,7 @@
-use Rattle.std.proofs.Common.{Some, length, refl, ap, sym, ◌∙◌}
+use Rattle.lw_netlist.specs.Closing.{undriven_in}
+use Rattle.lw_dag.specs.Names.{number_in}
+use Rattle.std.proofs.lemmas.List.{take_all, drop_all}
+use Rattle.std.proofs.Common.{Some, length, refl, ap, sym, ◌∙◌, map, arith}
 use Rattle.std.proofs.lemmas.Option.{slice_get_read}
 use Rattle.std.proofs.lemmas.Result.{err_from_is_err_and}
 use Rattle.lw_netlist.proofs.Names.{number_more, undriven_at, undriven_behind}
@@ -17,3 +20,14 @@ loop-name-preserved c =
       so_far = number_more c.args.signals.now c.args.names.now c.loop-name.name-index c.as_bytes.result.now c.in_ok-number.number c.loop-name.numbers.items c.push.new.self.items at c.in_ok-number.ensures.ok c.loop-name.invariant.so_far c.in-Ok.ensures.items;
       rest = undriven_behind c.args.signals.now c.args.names.now c.loop-name.name-index c.as_bytes.result.now at c.loop-name.invariant.rest c.in_ok-number.ensures.known;
     }
+
+pub returns-clause-ok : goal.returns-clause-ok
+returns-clause-ok c = c.new.ensures ∙ (c.loop-name.invariant.so_far ∙ ap (map (number_in c.args.signals.now)) (take_all c.loop-name.name-index c.args.names.now (omega (arith, c.loop-name-test.false))))
+
+pub returns-clause-known : goal.returns-clause-known
+returns-clause-known c = sym c.loop-name.invariant.rest ∙ ap (undriven_in c.args.signals.now) (drop_all c.loop-name.name-index c.args.names.now (omega (arith, c.loop-name-test.false)))
+
+pub returns-in_err-numbers-clause-fault : goal.returns-in_err-numbers-clause-fault
+returns-in_err-numbers-clause-fault c =
+    let p = err_from_is_err_and c.from_residual.result c.from_residual.ensures.1 in
+    rw (p.1, p.2) tt

@@ -1,8 +1,10 @@
-use Rattle.std.proofs.Common.{ℕ, ◌≡◌, ◌<◌, ◌+◌, List, [], ◌∷◌, ◌++◌, length, map, take, get_or, refl, ap, ◌∙◌, append_assoc}
+use Rattle.std.specs.List.{flat_map}
+use Rattle.std.proofs.lemmas.List.{take_all, drop_all}
+use Rattle.std.proofs.Common.{ℕ, ◌≡◌, ◌<◌, ◌+◌, List, [], ◌∷◌, ◌++◌, length, map, take, get_or, refl, ap, ◌∙◌, append_assoc, sym, arith}
 use Rattle.std.proofs.lemmas.Result.{err_from_is_err_and}
 use Rattle.lw_dag.specs.Names.{number_in}
 use Rattle.lw_netlist.specs.declared.draft.Wire.{Wire}
-use Rattle.lw_netlist.specs.Closing.{wire_link}
+use Rattle.lw_netlist.specs.Closing.{wire_link, needs_of, undriven_in}
 use Rattle.lw_netlist.specs.Numbered.{numbered}
 use Rattle.lw_netlist.proofs.Names.{numbered_more, undriven_in_link, undriven_behind_link}
 use Rattle.lw_netlist.proofs.naming.wire_rows.Goals as goal
@@ -26,3 +28,9 @@ loop-wire-preserved c = record {
   so_far = pushed c.args.signals.now c.args.wires.now c.loop-wire.wire-index c.wire-item.result _ c.loop-wire.rows.items c.push.new.self.items c.in_ok-row.row c.loop-wire-test.true c.wire-item.is c.loop-wire.invariant.so_far c.in_ok-row.ensures.ok c.in-Ok.ensures.items;
   rest = undriven_behind_link c.args.signals.now wire_link c.args.wires.now c.loop-wire.wire-index c.wire-item.result c.loop-wire-test.true c.wire-item.is c.loop-wire.invariant.rest c.in_ok-row.ensures.known;
 }
+
+pub returns-clause-ok : goal.returns-clause-ok
+returns-clause-ok c = c.loop-wire.invariant.so_far ∙ ap (λ ws. c.args.rows.now.items ++ numbered c.args.signals.now (map wire_link ws)) (take_all c.loop-wire.wire-index c.args.wires.now (omega (arith, c.loop-wire-test.false)))
+
+pub returns-clause-known : goal.returns-clause-known
+returns-clause-known c = sym c.loop-wire.invariant.rest ∙ ap (λ ws. undriven_in c.args.signals.now (flat_map needs_of (map wire_link ws))) (drop_all c.loop-wire.wire-index c.args.wires.now (omega (arith, c.loop-wire-test.false)))
