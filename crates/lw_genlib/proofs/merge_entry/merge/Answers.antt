@@ -1,4 +1,4 @@
-use Rattle.std.proofs.Common.{◌≡◌, ◌<◌, ℕ, List, sym, ap, ◌∙◌, true, false, subst, refl, length, get_or}
+use Rattle.std.proofs.Common.{◌≡◌, ◌<◌, ℕ, List, sym, ap, ◌∙◌, true, false, subst, refl, length, get_or, ◌≤◌, ◌^◌, arith}
 use Rattle.std.specs.List.{zip}
 use Rattle.std.proofs.lemmas.Bool.{false≢true}
 use Rattle.lw_laws.specs.Expressions.{Expr}
@@ -7,6 +7,9 @@ use Rattle.lw_genlib.specs.Cells.{IsForm, HaveOneTruth}
 use Rattle.lw_genlib.specs.Postfix.{first_expr}
 use Rattle.lw_genlib.specs.Entries as words
 use Rattle.lw_genlib.specs.Merging as merging
+use Rattle.lw_genlib.specs.declared.token.Token.{Token}
+use Rattle.lw_genlib.specs.Grammar.{go_on, names_in}
+use Rattle.lw_genlib.proofs.Faultless.{inner_at}
 use Rattle.lw_genlib.proofs.MergeLemmas.{cell-with_form}
 use Rattle.lw_genlib.proofs.Agreeing.{Mergeable, mergeable, agrees-by, first-form, table-true, table-false}
 use Rattle.lw_genlib.proofs.merge_entry.merge.Goals as goal
@@ -74,3 +77,44 @@ returns-clause-kept c = λ yes.
     cell-with_form c.args.cell.now (merging.form_over c.args.cell.now.pins c.args.entry.now) c.pins.ensures.kept
     (subst (IsForm (length c.args.cell.now.pins)) (sym j.read) j.is_form)
     (subst (HaveOneTruth (first_expr c.args.cell.now.forms)) (sym j.read) (subst (λ (e : Expr). HaveOneTruth e c.in_ok-form.form) first (c.if-not-have_one_truth.ensures.0 refl)))
+
+pub between-requires : goal.between-requires
+between-requires c =
+    let f = c.entry.invariant.function in
+    let at = inner_at c.deref.result.now f.inner c.entry.inside.function.output (c.deref.ensures.value ∙ f.whole) in
+    omega (arith, at.0)
+
+pub expression-requires-clause-fits : goal.expression-requires-clause-fits
+expression-requires-clause-fits c =
+    let f = c.entry.invariant.function in
+    let at = inner_at c.deref.result.now f.inner c.entry.inside.function.output (c.deref.ensures.value ∙ f.whole) in
+    subst (λ (s : List Token). go_on true 0 s ≡ true) (sym (c.between.ensures ∙ at.1)) f.goes_on
+
+pub expression-requires-clause-few : goal.expression-requires-clause-few
+expression-requires-clause-few c =
+    let f = c.entry.invariant.function in
+    let at = inner_at c.deref.result.now f.inner c.entry.inside.function.output (c.deref.ensures.value ∙ f.whole) in
+    subst (λ (s : List Token). names_in s ≤ 64) (sym (c.between.ensures ∙ at.1)) f.names
+
+pub expression-requires-clause-short : goal.expression-requires-clause-short
+expression-requires-clause-short c =
+    let f = c.entry.invariant.function in
+    let at = inner_at c.deref.result.now f.inner c.entry.inside.function.output (c.deref.ensures.value ∙ f.whole) in
+    subst (λ (s : List Token). length s ≤ 2 ^ 32) (sym (c.between.ensures ∙ at.1)) (omega (arith, f.short))
+
+pub returns-then-not-is_alike-clause-form : goal.returns-then-not-is_alike-clause-form
+returns-then-not-is_alike-clause-form c = λ yes. absurd (false≢true yes)
+
+pub returns-then-not-is_alike-clause-kept : goal.returns-then-not-is_alike-clause-kept
+returns-then-not-is_alike-clause-kept c = λ yes. absurd (false≢true yes)
+
+pub returns-then-not-have_one_truth-clause-form : goal.returns-then-not-have_one_truth-clause-form
+returns-then-not-have_one_truth-clause-form c = λ yes. absurd (false≢true yes)
+
+pub returns-then-not-have_one_truth-clause-kept : goal.returns-then-not-have_one_truth-clause-kept
+returns-then-not-have_one_truth-clause-kept c = λ yes. absurd (false≢true yes)
+
+pub add_form-requires-clause-one_truth : goal.add_form-requires-clause-one_truth
+add_form-requires-clause-one_truth c =
+    let first : c.index-forms-0.result ≡ first_expr c.args.cell.now.forms = first-form c.args.cell.now.forms c.index-forms-0.result c.forms.ensures.kept.some_form (c.index-forms-0.is ∙ ap (λ (fs : List Expr). get_or fs 0 c.index-forms-0.result) c.forms.ensures.forms) in
+    subst (λ (e : Expr). HaveOneTruth e c.in_ok-form.form) first (c.if-not-have_one_truth.ensures.0 refl)
