@@ -1,7 +1,7 @@
-use Rattle.std.proofs.Common.{◌≡◌, ◌+◌, ◌<◌, ◌∙◌, [], length, ap, arith}
-use Rattle.std.proofs.lemmas.List.{get_or_read}
+use Rattle.std.proofs.Common.{◌≡◌, ◌+◌, ◌<◌, ◌∙◌, [], length, ap, subst, arith}
+use Rattle.std.proofs.lemmas.List.{get_or_read, take_all}
 use Rattle.lw_dag.specs.Graphs.{fanins_at}
-use Rattle.lw_netlist.specs.Numbered.{deepest, own_start, step_of}
+use Rattle.lw_netlist.specs.Numbered.{AreSettled, deepest, own_start, step_of}
 use Rattle.lw_netlist.proofs.Settling.{deepest_low, placed_low, placed_node, settled_starts, settled_placed}
 use Rattle.lw_netlist.proofs.levels.find_starts.Goals as goal
 
@@ -33,3 +33,9 @@ nodes-preserved c =
     rw (c.place.ensures.depths, c.place.ensures.starts) (settled_placed c.args.inputs c.args.gates graph l.heights.items l.order.items c.nodes.at f.depths.items f.starts.items j
     (step_of c.args.gates j + deepest f.depths.items c.as_slice.result.now) (own_start c.args.gates j f.starts.items (c.args.inputs + j) c.as_slice.result.now)
     c.requires.heights.known c.requires.ordered in_order here (c.requires.graph j) c.nodes.invariant (ap (λ ns. step_of c.args.gates j + deepest f.depths.items ns) needs) (ap (own_start c.args.gates j f.starts.items (c.args.inputs + j)) needs))
+
+pub returns : goal.returns
+returns c =
+    let l = c.args.levels.now in
+    let f = c.nodes.found in
+    subst (λ done. AreSettled c.args.inputs c.args.gates c.args.graph.now l.heights.items done f.depths.items f.starts.items) (take_all c.nodes.at l.order.items (omega (arith, c.nodes-test.false))) c.nodes.invariant
