@@ -264,7 +264,11 @@ fn read_field(
 {
     match delay_behind(field, delay, line, word) {
         Ok(more) => Ok(behind_field(so_far, entry, pins, field, more)),
-        Err(fault) => Err(fault),
+        Err(fault) => {
+            drop(entry);
+            drop(so_far);
+            Err(fault)
+        }
     }
 }
 
