@@ -1,10 +1,10 @@
 -- The curves of a network's choices serve its outputs by their times.
-use Rattle.std.proofs.Common.{ℕ, zero, suc, ◌+◌, ◌<◌, ◌≤◌, ◌≡◌, ◌⊎◌, inl, inr, List, [], ◌∷◌, ◌++◌, map, max, length, Some, Contains, slice_get, refl, ap, sym, ◌∙◌, subst, arith}
+use Rattle.std.proofs.Common.{ℕ, zero, suc, ◌+◌, ◌<◌, ◌≤◌, ◌≡◌, ◌⊎◌, inl, inr, List, [], ◌∷◌, ◌++◌, map, max, take, length, Some, Contains, get_or, slice_get, refl, ap, ap₂, sym, ◌∙◌, subst, arith}
 use Rattle.std.specs.List.{AllZip, AllByRecursion, IsDistinct}
 use Rattle.std.specs.Prelude.{All}
 use Rattle.std.specs.Str.{bytes_eq}
 use Rattle.std.proofs.lemmas.Bool.{cases_lt}
-use Rattle.std.proofs.lemmas.List.{length-map}
+use Rattle.std.proofs.lemmas.List.{length-map, map_more}
 use Rattle.std.proofs.lemmas.Option.{get_or_from_slice_get, slice_get_within}
 use Rattle.std.proofs.lemmas.Slice.Zip.{AllZip-long}
 use Rattle.std.proofs.lemmas.List.Elements.{recursion_from_All}
@@ -62,6 +62,11 @@ first_under d (t ∷ ts) = let ih = first_under d ts in omega arith
 pub latest_more : (d : ℕ) (ts : List Micro) (t : Micro) → latest_of d (micros (ts ++ t ∷ [])) ≡ max (latest_of d (micros ts)) t.0
 latest_more d [] t = omega arith
 latest_more d (s ∷ ts) t = let ih = latest_more d ts t in omega arith
+
+-- one more time put off
+pub put_more : (deadline : Micro) (times later : List Micro) (k time : ℕ) (d : Micro) → k < length times → later ≡ map (put_off deadline) (take k times) → time ≡ max (get_or times k d).0 deadline.0 → later ++ (record { 0 = time }) ∷ [] ≡ map (put_off deadline) (take (k + 1) times)
+put_more deadline times later k time d lt before is =
+    ap₂ (λ (xs : List Micro) (n : ℕ). xs ++ (record { 0 = n }) ∷ []) before is ∙ sym (map_more (put_off deadline) times k d lt)
 
 -- what holds of both at each place
 zip_both : {X Y : Type 0} (R : X → Y → Type 0) (xs : List X) (ys : List Y) (k : ℕ) (x : X) (y : Y) → AllZip R xs ys → slice_get xs k ≡ Some x → slice_get ys k ≡ Some y → R x y
