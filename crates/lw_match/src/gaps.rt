@@ -168,7 +168,8 @@ pub(crate) fn no_gaps(alloc: Global, pats: &Patterns) -> Result<Vec<[u64; 16]>, 
     Ok(gaps)
 }
 
-/// The gaps of the pins of each pattern.
+/// The gaps of the pins of each pattern. They are guessed once for the patterns of a cell, which
+/// stand together.
 pub(crate) fn all_guesses<C: Cost>(
     alloc: Global,
     pats: &Patterns,
@@ -176,11 +177,16 @@ pub(crate) fn all_guesses<C: Cost>(
 ) -> Result<Vec<[u64; 16]>, AllocError>
     requires { AreOfCells (C.costs cost.now).pin_counts pats.now }
 {
-    let mut all = Vec::new(alloc);
+    let mut all = Vec::with_capacity(alloc, pats.len() as usize)?;
+    let mut last = None;
+    let mut gaps = [0; 16];
     for number in 0..pats.len() {
         let pattern = pats.get(PatId(number));
-        let pins = pin_count(pattern.nodes.as_slice());
-        all.push(guesses(cost, pattern.cell, pins))?;
+        if last != Some(pattern.cell) {
+            gaps = guesses(cost, pattern.cell, pin_count(pattern.nodes.as_slice()));
+            last = Some(pattern.cell);
+        }
+        all.push(gaps)?;
     }
     Ok(all)
 }

@@ -50,6 +50,9 @@ fn known_up_to<C: Cost>(pats: &Patterns, cost: &C, gaps: &[[u64; 16]]) -> u64
 {
     let mut known = u64::MAX;
     for number in 0..pats.len() {
+        if is_like_last(pats, gaps, number) {
+            continue;
+        }
         known = known.min(known_of(pats, cost, gaps, PatId(number)));
     }
     known
