@@ -1,7 +1,7 @@
 -- A list that is sorted by a number is what a filter keeps at each number, in turn.
-use Rattle.std.proofs.Common.{◌≡◌, ℕ, zero, suc, ◌+◌, ◌<◌, ◌≤◌, ◌==◌, ◌⊎◌, inl, inr, nat_lt, Bool, true, false, not, ◌&&◌, cond, List, [], ◌∷◌, ◌++◌, length, map, filter, drop, get_or, All, Result, Ok, Err, IfOk, refl, sym, ap, ap₂, subst, ◌∙◌, arith}
+use Rattle.std.proofs.Common.{◌≡◌, ℕ, zero, suc, ◌+◌, ◌<◌, ◌≤◌, ◌==◌, ◌⊎◌, inl, inr, nat_lt, Bool, true, false, not, ◌&&◌, cond, List, [], ◌∷◌, ◌++◌, length, map, filter, drop, get_or, All, Result, Ok, Err, IfOk, refl, sym, ap, ap₂, append_assoc, subst, ◌∙◌, arith}
 use Rattle.std.proofs.lemmas.List.Elements.{All-head, All-tail, All-weaker, All-map, filter_agree}
-use Rattle.std.proofs.lemmas.List.{map-append, get_or-map, length-map, append-nil, drop_all, nil_from_length}
+use Rattle.std.proofs.lemmas.List.{map-append, get_or-map, length-map, append-nil, drop_all, drop_more, nil_from_length}
 use Rattle.std.proofs.lemmas.List.Sorted.{All-permutation, IsPermutation-map, length_permutation}
 use Rattle.std.proofs.lemmas.Bool.Decides.{nat_tests}
 use Rattle.std.specs.List.{flat_map, range_with_len, zip}
@@ -173,6 +173,18 @@ module _ {T : Type 0} where
   pub zip_ends : (deep : List (Deep T)) (left : List T) (depths : List ℕ) (i : ℕ) (whole : List (Deep T)) → length depths ≤ i → deep ++ map deep_from (zip left (drop i depths)) ≡ whole → deep ≡ whole
   zip_ends deep left depths i whole past is =
       sym (append-nil deep) ∙ (ap (λ l. deep ++ map deep_from l) (sym (ap (zip left) (drop_all i depths past) ∙ zip_none left)) ∙ is)
+
+  -- where no entry is left
+  pub zip_ends_early : (deep : List (Deep T)) (left : List T) (depths : List ℕ) (whole : List (Deep T)) → left ≡ [] → deep ++ map deep_from (zip left depths) ≡ whole → deep ≡ whole
+  zip_ends_early deep left depths whole none is =
+      sym (append-nil deep) ∙ (ap (λ l. deep ++ map deep_from (zip l depths)) (sym none) ∙ is)
+
+  -- one entry more has its depth
+  pub zip_more : (deep now : List (Deep T)) (left rest : List T) (item : T) (depths : List ℕ) (i : ℕ) (whole : List (Deep T)) → i < length depths → left ≡ item ∷ rest → now ≡ deep ++ deep_from (item, get_or depths i 0) ∷ [] → deep ++ map deep_from (zip left (drop i depths)) ≡ whole → now ++ map deep_from (zip rest (drop (i + 1) depths)) ≡ whole
+  zip_more deep now left rest item depths i whole below taken grown is =
+      ap (λ l. l ++ map deep_from (zip rest (drop (i + 1) depths))) grown
+      ∙ (append_assoc deep (deep_from (item, get_or depths i 0) ∷ []) (map deep_from (zip rest (drop (i + 1) depths)))
+      ∙ (sym (ap₂ (λ l ds. deep ++ map deep_from (zip l ds)) taken (drop_more depths i 0 below)) ∙ is))
 
 -- what follows of the value in an `Ok`
 pub ok_then : {T E : Type 0} (r : Result T E) {P Q : T → Type 0} → IfOk r P → ((x : T) → P x → Q x) → IfOk r Q

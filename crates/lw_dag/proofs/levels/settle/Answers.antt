@@ -1,10 +1,48 @@
-use Rattle.std.proofs.Common.{◌≡◌, ◌<◌, ◌+◌, ◌++◌, ◌∷◌, [], length, get_or, refl, sym, ap, ◌∙◌, subst, arith, All, Contains}
+use Rattle.std.proofs.Common.{◌≡◌, ◌<◌, ◌+◌, ◌++◌, ◌∷◌, [], ℕ, List, length, get_or, refl, sym, ap, ◌∙◌, subst, arith, All, Contains}
 use Rattle.std.proofs.lemmas.List.{get_or_read}
-use Rattle.std.proofs.lemmas.List.Elements.{All-contains}
-use Rattle.lw_dag.specs.Graphs.{fanins_at, height_at, tallest}
+use Rattle.std.proofs.lemmas.List.Elements.{All-contains, All-same}
+use Rattle.std.proofs.lemmas.Result.{IfOk-from_err}
+use Rattle.lw_dag.specs.Graphs.{IsGraph, fanins_at, height_at, tallest}
 use Rattle.lw_dag.proofs.Rising.{rising_waits, rising_placed, rising_known, tallest_low, unknown-set}
 use Rattle.lw_dag.proofs.Ordered.{ordered_placed}
 use Rattle.lw_dag.proofs.levels.settle.Goals as goal
+
+-- the fan-ins of a node have heights in the list
+in_heights : (inputs : ℕ) (graph : List (List ℕ)) (heights fanins : List ℕ) (j : ℕ) → IsGraph inputs graph → length heights ≡ inputs + length graph → fanins ≡ fanins_at graph j → All (λ s. s < length heights) fanins
+in_heights inputs graph heights fanins j is_graph one_each is =
+    subst (λ n. All (λ s. s < n) fanins) (sym one_each) (All-same (λ s. s < inputs + length graph) _ _ is (is_graph j))
+
+pub index-requires : goal.index-requires
+index-requires c = omega (arith, c.args.levels.now.heights.ok.0, c.requires.rising.known.one_each, c.requires.nodes c.args.at 0 c.requires.place)
+
+pub bounds-graph-j : goal.bounds-graph-j
+bounds-graph-j c = c.requires.nodes c.args.at 0 c.requires.place
+
+pub open_fanin-requires : goal.open_fanin-requires
+open_fanin-requires c =
+    let graph = c.args.graph.now in
+    let j = get_or c.args.list.now c.args.at 0 in
+    let one_each : length c.deref.result.now ≡ c.args.inputs + length graph = ap length c.deref.ensures.value ∙ c.requires.rising.known.one_each in
+    in_heights c.args.inputs graph c.deref.result.now c.as_slice-fanins.result.now j c.requires.graph one_each (c.as_slice-fanins.ensures ∙ get_or_read graph j c.index-graph-j.result (c.requires.nodes c.args.at 0 c.requires.place) c.index-graph-j.is [])
+
+pub index_mut-nodes-requires : goal.index_mut-nodes-requires
+index_mut-nodes-requires c =
+    let graph = c.args.graph.now in
+    let j = get_or c.args.list.now c.args.at 0 in
+    let n = c.args.inputs + length graph in
+    let fanins = c.as_slice-fanins.ensures ∙ get_or_read graph j c.index-graph-j.result (c.requires.nodes c.args.at 0 c.requires.place) c.index-graph-j.is [] in
+    let within : c.in-Some.s < n = All-contains (λ t. t < n) c.as_slice-fanins.result.now c.in-Some.s (All-same (λ t. t < n) _ _ fanins (c.requires.graph j)) c.in-Some.ensures.among in
+    omega (arith, c.args.levels.now.waiting.ok.0, c.requires.rising.lists, within)
+
+pub tallest_of-height-requires : goal.tallest_of-height-requires
+tallest_of-height-requires c =
+    let graph = c.args.graph.now in
+    let j = get_or c.args.list.now c.args.at 0 in
+    let one_each : length c.deref-in-None.result.now ≡ c.args.inputs + length graph = ap length c.deref-in-None.ensures.value ∙ c.requires.rising.known.one_each in
+    in_heights c.args.inputs graph c.deref-in-None.result.now c.as_slice-fanins.result.now j c.requires.graph one_each (c.as_slice-fanins.ensures ∙ get_or_read graph j c.index-graph-j.result (c.requires.nodes c.args.at 0 c.requires.place) c.index-graph-j.is [])
+
+pub index_mut-requires : goal.index_mut-requires
+index_mut-requires c = omega (arith, c.args.levels.now.heights.ok.0, c.requires.rising.known.one_each, c.requires.nodes c.args.at 0 c.requires.place)
 
 pub overflow_add-height : goal.overflow_add-height
 overflow_add-height c =
@@ -68,3 +106,38 @@ returns-in_ok-push-in-None-2-clause-ordered c =
     let none : height_at l.heights.items (c.args.inputs + j) ≡ 0 = sym read ∙ c.if-index-ne0.false in
     let all = subst (All (λ s. 0 < height_at l.heights.items s)) fanins (rw c.deref.ensures.value at c.in-None.ensures.none) in
     rw c.in_ok-push-in-None-2.ensures.items (ordered_placed c.args.inputs graph l.heights.items l.order.items j _ (c.requires.graph j) node within none (omega arith) all c.requires.ordered)
+
+pub returns-in_err-push-in-Some : goal.returns-in_err-push-in-Some
+returns-in_err-push-in-Some c =
+    let failed = c.from_residual.ensures.0 in
+    record { rising = IfOk-from_err _ _ failed; ordered = IfOk-from_err _ _ failed; less = IfOk-from_err _ _ failed }
+
+pub returns-in_err-push-in-None : goal.returns-in_err-push-in-None
+returns-in_err-push-in-None c =
+    let failed = c.from_residual-in_err-push-in-None.ensures.0 in
+    record { rising = IfOk-from_err _ _ failed; ordered = IfOk-from_err _ _ failed; less = IfOk-from_err _ _ failed }
+
+pub returns-in_err-push-in-None-2 : goal.returns-in_err-push-in-None-2
+returns-in_err-push-in-None-2 c =
+    let failed = c.from_residual-in_err-push-in-None-2.ensures.0 in
+    record { rising = IfOk-from_err _ _ failed; ordered = IfOk-from_err _ _ failed; less = IfOk-from_err _ _ failed }
+
+pub returns-then-index-ne0-clause-ordered : goal.returns-then-index-ne0-clause-ordered
+returns-then-index-ne0-clause-ordered c = c.requires.ordered
+
+pub returns-then-index-ne0-clause-less : goal.returns-then-index-ne0-clause-less
+returns-then-index-ne0-clause-less c = omega arith
+
+pub returns-in_ok-push-in-Some-clause-ordered : goal.returns-in_ok-push-in-Some-clause-ordered
+returns-in_ok-push-in-Some-clause-ordered c = c.requires.ordered
+
+pub returns-in_ok-push-in-Some-clause-less : goal.returns-in_ok-push-in-Some-clause-less
+returns-in_ok-push-in-Some-clause-less c = omega arith
+
+pub returns-in_ok-push-in-None-2-clause-less : goal.returns-in_ok-push-in-None-2-clause-less
+returns-in_ok-push-in-None-2-clause-less c =
+    let l = c.args.levels.now in
+    let at = c.args.inputs + get_or c.args.list.now c.args.at 0 in
+    let within : at < length l.heights.items = omega (arith, c.requires.rising.known.one_each, c.requires.nodes c.args.at 0 c.requires.place) in
+    let none : height_at l.heights.items at ≡ 0 = sym (get_or_read l.heights.items at c.index.result.now within c.index.ensures 0) ∙ c.if-index-ne0.false in
+    omega (arith, c.in_ok-push-in-None.ensures.len, unknown-set l.heights.items at (1 + c.tallest_of-height.result) within none (omega arith))

@@ -1,4 +1,4 @@
-use Rattle.std.proofs.Common.{arith}
+use Rattle.std.proofs.Common.{◌≡◌, ◌∙◌, ◌≤◌, arith}
 use Rattle.lw_dag.proofs.Rising.{tallest_least}
 use Rattle.lw_dag.proofs.levels.tallest_of.Goals as goal
 

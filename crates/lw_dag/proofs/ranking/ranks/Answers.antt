@@ -1,0 +1,42 @@
+use Rattle.std.proofs.Common.{◌≡◌, ◌+◌, ◌-◌, ◌<◌, ◌≤◌, ◌∙◌, ℕ, arith, length, replicate, subst, sym}
+use Rattle.std.proofs.lemmas.Result.{IfOk-from_err}
+use Rattle.lw_dag.specs.Ranking.{AreRanks, rank_at}
+use Rattle.lw_dag.proofs.Ranks.{low_none, ranks_none}
+use Rattle.lw_dag.proofs.ranking.ranks.Goals as goal
+
+pub returns-in_err-order : goal.returns-in_err-order
+returns-in_err-order c = IfOk-from_err _ _ c.from_residual.ensures.0
+
+pub returns-in_err-ranks : goal.returns-in_err-ranks
+returns-in_err-ranks c = IfOk-from_err _ _ c.from_residual-in_err-ranks.ensures.0
+
+pub loop-i-init : goal.loop-i-init
+loop-i-init c =
+    let graph = c.args.graph.now in
+    let none = sym (c.in_ok-ranks.ensures.items_if_clones_equal (λ y e. e)) in
+    record {
+      are = subst (AreRanks c.args.inputs graph) none (ranks_none c.args.inputs graph);
+      low = subst (λ ranks. (x : ℕ) → rank_at ranks x ≤ 0) none (low_none (length graph));
+    }
+
+pub rank_from-requires-clause-within : goal.rank_from-requires-clause-within
+rank_from-requires-clause-within c =
+    let order = c.in_ok-order.order in
+    let place : ℕ = c.len.result - 1 - c.loop-i.i in
+    let within : place < length order.items = omega (arith, order.ok.0, c.len.ensures, c.len-i-end.ensures, c.loop-i-test.true) in
+    subst (λ j. j < length c.args.graph.now) (sym c.index-p.ensures) (c.in_ok-order.ensures place c.index-p.result.now within)
+
+pub rank_from-requires-clause-ranks : goal.rank_from-requires-clause-ranks
+rank_from-requires-clause-ranks c = c.loop-i.invariant.are
+
+pub rank_from-requires-clause-above : goal.rank_from-requires-clause-above
+rank_from-requires-clause-above c = λ x. omega (arith, c.loop-i.invariant.low x)
+
+pub returns-in_err-rank_from : goal.returns-in_err-rank_from
+returns-in_err-rank_from c = IfOk-from_err _ _ c.from_residual-in_err-rank_from.ensures.0
+
+pub loop-i-preserved : goal.loop-i-preserved
+loop-i-preserved c = record { are = c.in_ok-rank_from.ensures.ranks; low = c.in_ok-rank_from.ensures.low }
+
+pub returns : goal.returns
+returns c = c.loop-i.invariant.are
