@@ -1,12 +1,12 @@
 -- Heights that are found one after another.
 use Rattle.std.proofs.Common.{◌≡◌, ◌≢◌, ℕ, zero, suc, ◌+◌, ◌<◌, ◌≤◌, ◌==◌, ◌⊎◌, inl, inr, max, cond, List, [], ◌∷◌, ◌++◌, length, drop, replicate, get_or, set, Contains, All, refl, sym, ap, ap₂, subst, ◌∙◌, arith, length-set, get_or-set_same, get_or-set_other, ◌-◌, length-append}
 use Rattle.std.proofs.lemmas.List.{drop_more, get_or-replicate, length-replicate, get_or-append_right, get_or_append_left}
-use Rattle.std.proofs.lemmas.List.Elements.{Contains-push, Contains-append_left, Contains-push_cases, All-push, All-head, All-tail, All-nil, All-weaker, All-contains}
+use Rattle.std.proofs.lemmas.List.Elements.{Contains-push, Contains-append_left, Contains-push_cases, All-push, All-head, All-tail, All-nil, All-weaker, All-contains, All-same}
 use Rattle.std.proofs.lemmas.List.Sums.{sum_by-set, sum_by-cons}
 use Rattle.std.proofs.lemmas.Bool.{cases_eq, cases_lt}
 use Rattle.std.proofs.lemmas.Bool.Decides.{nat_tests}
 use Rattle.lw_facts.proofs.Lists.{contains_cases}
-use Rattle.lw_dag.specs.Graphs.{fanins_at, height_at, tallest, IsPlaced, IsStuck, AreHeights}
+use Rattle.lw_dag.specs.Graphs.{IsGraph, fanins_at, height_at, tallest, IsPlaced, IsStuck, AreHeights}
 use Rattle.lw_dag.specs.Rising.{unknown, waiting_at, IsHeld, IsRising}
 
 pub contains_none : {A : Type 0} (x : A) → Contains [] x → ⊥
@@ -110,6 +110,11 @@ tallest_low heights u n (s ∷ signals) low few = omega (arith, low s, tallest_l
 pub tallest_least : (heights : List ℕ) (signals : List ℕ) → 1 ≤ tallest heights signals
 tallest_least heights [] = omega arith
 tallest_least heights (s ∷ signals) = omega (arith, tallest_least heights signals)
+
+-- the fan-ins of a node have heights in the list
+pub fanins_in_heights : (inputs : ℕ) (graph : List (List ℕ)) (heights fanins : List ℕ) (j : ℕ) → IsGraph inputs graph → length heights ≡ inputs + length graph → fanins ≡ fanins_at graph j → All (λ s. s < length heights) fanins
+fanins_in_heights inputs graph heights fanins j is_graph one_each is =
+    subst (λ n. All (λ s. s < n) fanins) (sym one_each) (All-same (λ s. s < inputs + length graph) _ _ is (is_graph j))
 
 -- the node has a height already
 pub rising_known : (inputs : ℕ) (graph : List (List ℕ)) (heights : List ℕ) (waiting : List (List ℕ)) (ready list : List ℕ) (at j : ℕ) → at < length list → j ≡ get_or list at 0 → (height_at heights (inputs + j) ≡ 0 → ⊥) → IsRising inputs graph heights waiting ready (drop at list) → IsRising inputs graph heights waiting ready (drop (at + 1) list)

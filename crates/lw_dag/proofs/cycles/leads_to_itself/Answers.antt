@@ -1,9 +1,10 @@
-use Rattle.std.proofs.Common.{◌≡◌, ◌<◌, ◌+◌, ◌++◌, ◌∷◌, [], false, length, refl, sym, ◌∙◌, subst, arith, Contains, All, vec_len, inl}
+use Rattle.std.proofs.Common.{◌≡◌, ◌<◌, ◌+◌, ◌++◌, ◌∷◌, [], false, length, refl, ap, sym, ◌∙◌, subst, arith, Contains, All, vec_len, inl}
 use Rattle.std.proofs.lemmas.List.{get_or_read, nil_from_length}
 use Rattle.std.proofs.lemmas.List.Elements.{Contains-push}
+use Rattle.std.proofs.lemmas.Result.{IfOk-from_err}
 use Rattle.lw_dag.specs.Graphs.{fanins_at}
 use Rattle.lw_dag.specs.Searching.{IsSearching}
-use Rattle.lw_dag.proofs.Searching.{searching_taken, searching_ends}
+use Rattle.lw_dag.proofs.Searching.{searching_starts, searching_taken, searching_ends}
 use Rattle.lw_dag.proofs.cycles.leads_to_itself.Goals as goal
 
 pub bounds-graph-x : goal.bounds-graph-x
@@ -41,3 +42,24 @@ returns c =
     let within : p < length seen = omega (arith, c.search.invariant.flags) in
     let read = get_or_read seen p c.index.result.now within c.index.ensures false in
     (λ is. done.reached p (sym read ∙ is), λ path. read ∙ searching_ends c.args.inputs graph p seen done p (c.args.inputs + p) p path (inl refl) refl)
+
+pub returns-in_err-seen : goal.returns-in_err-seen
+returns-in_err-seen c = IfOk-from_err _ _ c.from_residual.ensures.0
+
+pub returns-in_err-push : goal.returns-in_err-push
+returns-in_err-push c = IfOk-from_err _ _ c.from_residual-in_err-push.ensures.0
+
+pub returns-in_err-note_all : goal.returns-in_err-note_all
+returns-in_err-note_all c = IfOk-from_err _ _ c.from_residual-in_err-note_all.ensures.0
+
+pub search-init : goal.search-init
+search-init c =
+    let graph = c.args.graph.now in
+    let p = c.args.p in
+    let none = sym (c.in_ok-seen.ensures.items_if_clones_equal (λ y e. e)) in
+    let only : p ∷ [] ≡ c.push.new.self.items = sym (c.in_ok-push.ensures.items ∙ ap (λ l. l ++ p ∷ []) c.new-ready.ensures.items) in
+    subst (λ ready. IsSearching c.args.inputs graph p c.in_ok-seen.seen.items ready []) only
+    (subst (λ seen. IsSearching c.args.inputs graph p seen (p ∷ []) []) none (searching_starts c.args.inputs graph p c.requires.within))
+
+pub search-smaller : goal.search-smaller
+search-smaller c = omega (arith, c.in_ok-note_all.ensures.less, c.in-Some.ensures.len)

@@ -1,16 +1,11 @@
-use Rattle.std.proofs.Common.{◌≡◌, ◌<◌, ◌+◌, ◌++◌, ◌∷◌, [], ℕ, List, length, get_or, refl, sym, ap, ◌∙◌, subst, arith, All, Contains}
+use Rattle.std.proofs.Common.{◌≡◌, ◌<◌, ◌+◌, ◌++◌, ◌∷◌, [], length, get_or, refl, sym, ap, ◌∙◌, subst, arith, All, Contains}
 use Rattle.std.proofs.lemmas.List.{get_or_read}
 use Rattle.std.proofs.lemmas.List.Elements.{All-contains, All-same}
 use Rattle.std.proofs.lemmas.Result.{IfOk-from_err}
-use Rattle.lw_dag.specs.Graphs.{IsGraph, fanins_at, height_at, tallest}
-use Rattle.lw_dag.proofs.Rising.{rising_waits, rising_placed, rising_known, tallest_low, unknown-set}
+use Rattle.lw_dag.specs.Graphs.{fanins_at, height_at, tallest}
+use Rattle.lw_dag.proofs.Rising.{fanins_in_heights, rising_waits, rising_placed, rising_known, tallest_low, unknown-set}
 use Rattle.lw_dag.proofs.Ordered.{ordered_placed}
 use Rattle.lw_dag.proofs.levels.settle.Goals as goal
-
--- the fan-ins of a node have heights in the list
-in_heights : (inputs : ℕ) (graph : List (List ℕ)) (heights fanins : List ℕ) (j : ℕ) → IsGraph inputs graph → length heights ≡ inputs + length graph → fanins ≡ fanins_at graph j → All (λ s. s < length heights) fanins
-in_heights inputs graph heights fanins j is_graph one_each is =
-    subst (λ n. All (λ s. s < n) fanins) (sym one_each) (All-same (λ s. s < inputs + length graph) _ _ is (is_graph j))
 
 pub index-requires : goal.index-requires
 index-requires c = omega (arith, c.args.levels.now.heights.ok.0, c.requires.rising.known.one_each, c.requires.nodes c.args.at 0 c.requires.place)
@@ -23,7 +18,7 @@ open_fanin-requires c =
     let graph = c.args.graph.now in
     let j = get_or c.args.list.now c.args.at 0 in
     let one_each : length c.deref.result.now ≡ c.args.inputs + length graph = ap length c.deref.ensures.value ∙ c.requires.rising.known.one_each in
-    in_heights c.args.inputs graph c.deref.result.now c.as_slice-fanins.result.now j c.requires.graph one_each (c.as_slice-fanins.ensures ∙ get_or_read graph j c.index-graph-j.result (c.requires.nodes c.args.at 0 c.requires.place) c.index-graph-j.is [])
+    fanins_in_heights c.args.inputs graph c.deref.result.now c.as_slice-fanins.result.now j c.requires.graph one_each (c.as_slice-fanins.ensures ∙ get_or_read graph j c.index-graph-j.result (c.requires.nodes c.args.at 0 c.requires.place) c.index-graph-j.is [])
 
 pub index_mut-nodes-requires : goal.index_mut-nodes-requires
 index_mut-nodes-requires c =
@@ -39,7 +34,7 @@ tallest_of-height-requires c =
     let graph = c.args.graph.now in
     let j = get_or c.args.list.now c.args.at 0 in
     let one_each : length c.deref-in-None.result.now ≡ c.args.inputs + length graph = ap length c.deref-in-None.ensures.value ∙ c.requires.rising.known.one_each in
-    in_heights c.args.inputs graph c.deref-in-None.result.now c.as_slice-fanins.result.now j c.requires.graph one_each (c.as_slice-fanins.ensures ∙ get_or_read graph j c.index-graph-j.result (c.requires.nodes c.args.at 0 c.requires.place) c.index-graph-j.is [])
+    fanins_in_heights c.args.inputs graph c.deref-in-None.result.now c.as_slice-fanins.result.now j c.requires.graph one_each (c.as_slice-fanins.ensures ∙ get_or_read graph j c.index-graph-j.result (c.requires.nodes c.args.at 0 c.requires.place) c.index-graph-j.is [])
 
 pub index_mut-requires : goal.index_mut-requires
 index_mut-requires c = omega (arith, c.args.levels.now.heights.ok.0, c.requires.rising.known.one_each, c.requires.nodes c.args.at 0 c.requires.place)
