@@ -1,5 +1,5 @@
 -- Graphs of numbered nodes: the inputs are the first signals, and each node drives the next one.
-use Rattle.std.specs.Prelude.{ℕ, ◌+◌, ◌-◌, ◌^◌, ◌<◌, ◌≡◌, max, List, [], ◌∷◌, length, take, slice_index_or, Contains, All}
+use Rattle.std.specs.Prelude.{ℕ, ◌+◌, ◌-◌, ◌^◌, ◌<◌, ◌≤◌, ◌≡◌, max, List, [], ◌∷◌, length, take, slice_index_or, Contains, All}
 
 -- how many signals there are at most, so that their numbers and heights fit in 32 bits
 abbrev pub most_signals : ℕ
@@ -12,6 +12,11 @@ fanins_at graph j = slice_index_or graph j []
 -- each fan-in is a signal
 abbrev pub IsGraph : ℕ → List (List ℕ) → Type 0
 IsGraph inputs graph = (j : ℕ) → All (λ s. s < inputs + length graph) (fanins_at graph j)
+
+-- and the numbers and heights of all signals fit in 32 bits
+pub record IsSmallGraph (inputs : ℕ) (nodes : List (List ℕ)) : Type 0 where
+  pub graph : IsGraph inputs nodes
+  pub few : inputs + length nodes ≤ most_signals
 
 -- From node j the signal is reached through fan-ins.
 pub data Leads (inputs : ℕ) (graph : List (List ℕ)) : ℕ → ℕ → Type 0 where

@@ -1,12 +1,19 @@
 -- Ranks of nodes, by which most nodes that are on no cycle are told without a search.
-use Rattle.std.specs.Prelude.{ℕ, ◌+◌, ◌<◌, ◌≤◌, ◌≡◌, ◌⊎◌, List, length, slice_index_or, Contains, All}
+use Rattle.std.specs.Prelude.{ℕ, ◌+◌, ◌*◌, ◌<◌, ◌≤◌, ◌≡◌, ◌⊎◌, List, length, slice_index_or, vec_len, Contains, All}
+use Rattle.std.specs.Global.{Vec}
 use Rattle.lw_dag.specs.declared.turning.Stop.{Stop}
 use Rattle.lw_dag.specs.declared.turning.Walk.{Walk}
 use Rattle.lw_dag.specs.Graphs.{fanins_at}
+use Rattle.lw_dag.specs.Rising.{unknown}
 
 -- each entry is a node
 abbrev pub AreWithin : ℕ → List (List ℕ) → Type 0
 AreWithin n rows = All (All (λ j. j < n)) rows
+
+-- a row for each of n nodes
+pub record AreRows (n : ℕ) (rows : Vec (List ℕ)) : Type 0 where
+  pub len : vec_len rows ≡ n
+  pub within : AreWithin n rows.items
 
 -- A walk over n nodes.
 pub record IsWalk (n : ℕ) (walk : Walk) : Type 0 where
@@ -34,3 +41,14 @@ pub record IsRanking (inputs : ℕ) (graph : List (List ℕ)) (rank : ℕ) (rank
   pub low : (x : ℕ) → rank_at ranks x ≤ rank
   pub nodes : (x : ℕ) → Contains ready x → (x < length graph) × (rank_at ranks x ≡ rank)
   pub falls : (x y : ℕ) → 0 < rank_at ranks x → Contains (fanins_at graph x) (inputs + y) → IsNotAbove ranks x y ⊎ Contains ready x ⊎ ((rank_at ranks x ≡ rank) × Contains later (inputs + y))
+
+-- Fan-ins were ranked: they need not be looked at any more, and there is no more to do than before.
+pub record AreRanked (inputs rank : ℕ) (later still : List ℕ) (ranks new_ranks ready new_ready : Vec ℕ) : Type 0 where
+  pub ranking : (graph : List (List ℕ)) → IsRanking inputs graph rank ranks.items ready.items later → IsRanking inputs graph rank new_ranks.items new_ready.items still
+  pub less : 2 * unknown new_ranks.items + vec_len new_ready ≤ 2 * unknown ranks.items + vec_len ready
+  pub len : vec_len new_ranks ≡ vec_len ranks
+
+-- all ranks are at most that of the last node that got one
+pub record AreRanksTo (inputs : ℕ) (graph : List (List ℕ)) (rank : ℕ) (ranks : List ℕ) : Type 0 where
+  pub are : AreRanks inputs graph ranks
+  pub low : (x : ℕ) → rank_at ranks x ≤ rank

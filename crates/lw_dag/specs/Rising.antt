@@ -1,6 +1,7 @@
 -- While heights are being found.
-use Rattle.std.specs.Prelude.{ℕ, ◌+◌, ◌<◌, ◌≤◌, ◌≡◌, ◌⊎◌, ◌==◌, count_by, List, [], length, slice_index_or, Contains, All}
-use Rattle.lw_dag.specs.Graphs.{fanins_at, height_at, AreKnown}
+use Rattle.std.specs.Prelude.{ℕ, ◌+◌, ◌*◌, ◌<◌, ◌≤◌, ◌≡◌, ◌⊎◌, ◌++◌, ◌==◌, count_by, List, [], length, replicate, slice_index_or, vec_len, Contains, All}
+use Rattle.lw_dag.specs.declared.levels.Search.{Search}
+use Rattle.lw_dag.specs.Graphs.{fanins_at, height_at, AreKnown, IsOrdered}
 
 -- how many heights aren't known
 abbrev pub unknown : List ℕ → ℕ
@@ -27,3 +28,19 @@ pub record IsRising (inputs : ℕ) (graph : List (List ℕ)) (heights : List ℕ
   pub low : (s : ℕ) → height_at heights s + unknown heights ≤ 1 + length graph
   pub signals : All (λ s. s < inputs + length graph) ready
   pub nodes : (s : ℕ) → All (λ j. j < length graph) (waiting_at waiting s)
+
+-- The search, while some nodes are still to be looked at.
+pub record IsLevelling (inputs : ℕ) (graph : List (List ℕ)) (levels : Search) (later : List ℕ) : Type 0 where
+  pub rising : IsRising inputs graph levels.heights.items levels.waiting.items levels.ready.items later
+  pub ordered : IsOrdered inputs graph levels.heights.items levels.order.items
+
+-- what is left to do: a height that isn't known counts twice, and a signal that is still to be told once
+abbrev pub left_in : Search → ℕ
+left_in levels = 2 * unknown levels.heights.items + vec_len levels.ready
+
+-- the search before it begins
+pub record IsUntouched (inputs nodes : ℕ) (levels : Search) : Type 0 where
+  pub heights : levels.heights.items ≡ replicate inputs 1 ++ replicate nodes 0
+  pub order : levels.order.items ≡ []
+  pub waiting : levels.waiting.items ≡ replicate (inputs + nodes) []
+  pub ready : levels.ready.items ≡ []

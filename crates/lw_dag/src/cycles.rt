@@ -1,7 +1,7 @@
 // The first node that leads to itself.
 ghost use Rattle.std.specs.Prelude.{◌≡◌, ◌+◌, ◌*◌, ◌<◌, ◌≤◌, ◌↔◌, [], ℕ, false, length, drop, replicate, vec_len, IsTrue, IfOk, IfSome, IfNone, OnOk, Contains, All};
-ghost use Rattle.lw_dag.specs.Graphs.{most_signals, IsGraph, fanins_at, height_at, AreHeights, IsStuck, Leads, IsFirst};
-ghost use Rattle.lw_dag.specs.Searching.{unseen, IsSearching};
+ghost use Rattle.lw_dag.specs.Graphs.{most_signals, IsGraph, IsSmallGraph, fanins_at, height_at, AreHeights, IsStuck, Leads, IsFirst};
+ghost use Rattle.lw_dag.specs.Searching.{AreNoted};
 ghost use Rattle.lw_dag.specs.Ranking.{AreRanks};
 
 use crate::levels::open_fanin;
@@ -73,13 +73,8 @@ fn note(
 ) -> Result<(), AllocError>
     requires place { at < length fanins.now }
     requires signals { All (λ s. s < inputs + vec_len seen.old) fanins.now }
-    ensures searching { OnOk result
-        ((graph : _) (p : ℕ) → IsSearching inputs graph p seen.old.items ready.old.items
-        (drop at fanins.now) → IsSearching inputs graph p seen.new.items ready.new.items
-        (drop (at + 1) fanins.now)) }
-    ensures less { OnOk result (2 * unseen seen.new.items + vec_len ready.new ≤
-        2 * unseen seen.old.items + vec_len ready.old) }
-    ensures len { vec_len seen.new ≡ vec_len seen.old }
+    ensures { OnOk result (AreNoted inputs (drop at fanins.now) (drop (at + 1) fanins.now)
+        seen.old seen.new ready.old ready.new) }
 {
     let s = fanins[at];
     if (s as usize) < inputs {
@@ -101,13 +96,8 @@ fn note_all(
     inputs: usize,
     fanins: &[u32],
 ) -> Result<(), AllocError>
-    requires signals { All (λ s. s < inputs + vec_len seen.old) fanins.now }
-    ensures searching { OnOk result
-        ((graph : _) (p : ℕ) → IsSearching inputs graph p seen.old.items ready.old.items fanins.now
-        → IsSearching inputs graph p seen.new.items ready.new.items []) }
-    ensures less { OnOk result (2 * unseen seen.new.items + vec_len ready.new ≤
-        2 * unseen seen.old.items + vec_len ready.old) }
-    ensures len { vec_len seen.new ≡ vec_len seen.old }
+    requires { All (λ s. s < inputs + vec_len seen.old) fanins.now }
+    ensures { OnOk result (AreNoted inputs fanins.now [] seen.old seen.new ready.old ready.new) }
 {
     for at in 0..fanins.len() {
         note(seen, ready, inputs, fanins, at)?;
@@ -122,8 +112,7 @@ fn leads_to_itself(
     graph: &[Numbers],
     p: usize,
 ) -> Result<bool, AllocError>
-    requires graph { IsGraph inputs graph.now }
-    requires few { inputs + length graph.now ≤ most_signals }
+    requires graph { IsSmallGraph inputs graph.now }
     requires within { p < length graph.now }
     ensures { IfOk result (λ b. IsTrue b ↔ Leads inputs graph.now p (inputs + p)) }
 {
@@ -146,8 +135,7 @@ fn is_on_cycle(
     ranks: &[usize],
     p: usize,
 ) -> Result<bool, AllocError>
-    requires graph { IsGraph inputs graph.now }
-    requires few { inputs + length graph.now ≤ most_signals }
+    requires graph { IsSmallGraph inputs graph.now }
     requires heights { AreHeights inputs graph.now heights.now }
     requires ranks { AreRanks inputs graph.now ranks.now }
     requires within { p < length graph.now }
@@ -171,8 +159,7 @@ fn first_behind(
     heights: &[u32],
     start: usize,
 ) -> Result<usize, AllocError>
-    requires graph { IsGraph inputs graph.now }
-    requires few { inputs + length graph.now ≤ most_signals }
+    requires graph { IsSmallGraph inputs graph.now }
     requires heights { AreHeights inputs graph.now heights.now }
     requires within { start < length graph.now }
     requires lacks { height_at heights.now (inputs + start) ≡ 0 }

@@ -1,7 +1,7 @@
 // Heights of signals, which are 1 more than their depths, and the nodes behind their fan-ins.
-ghost use Rattle.std.specs.Prelude.{◌≡◌, ◌+◌, ◌*◌, ◌<◌, ◌≤◌, ◌⊎◌, [], ℕ, length, drop, vec_len, IfOk, IfSome, IfNone, OnOk, IsTrue, false, replicate, ◌++◌, Contains, All};
-ghost use Rattle.lw_dag.specs.Graphs.{most_signals, IsGraph, height_at, tallest, AreHeights, IsOrdered};
-ghost use Rattle.lw_dag.specs.Rising.{unknown, IsRising};
+ghost use Rattle.std.specs.Prelude.{◌≡◌, ◌+◌, ◌<◌, ◌≤◌, [], length, drop, IfOk, IfSome, IfNone, OnOk, IsTrue, false, Contains, All};
+ghost use Rattle.lw_dag.specs.Graphs.{most_signals, IsGraph, IsSmallGraph, height_at, tallest, AreHeights, IsOrdered};
+ghost use Rattle.lw_dag.specs.Rising.{left_in, IsLevelling, IsUntouched};
 
 use lw_pool::Numbers;
 use std::alloc::{AllocError, Global};
@@ -60,19 +60,12 @@ fn settle(
     list: &[u32],
     at: usize,
 ) -> Result<(), AllocError>
-    requires graph { IsGraph inputs graph.now }
-    requires few { inputs + length graph.now ≤ most_signals }
+    requires graph { IsSmallGraph inputs graph.now }
     requires place { at < length list.now }
     requires nodes { All (λ j. j < length graph.now) list.now }
-    requires rising { IsRising inputs graph.now levels.old.heights.items levels.old.waiting.items
-        levels.old.ready.items (drop at list.now) }
-    requires ordered { IsOrdered inputs graph.now levels.old.heights.items levels.old.order.items }
-    ensures rising { OnOk result (IsRising inputs graph.now levels.new.heights.items
-        levels.new.waiting.items levels.new.ready.items (drop (at + 1) list.now)) }
-    ensures ordered { OnOk result (IsOrdered inputs graph.now levels.new.heights.items
-        levels.new.order.items) }
-    ensures less { OnOk result (2 * unknown levels.new.heights.items + vec_len levels.new.ready ≤
-        2 * unknown levels.old.heights.items + vec_len levels.old.ready) }
+    requires before { IsLevelling inputs graph.now levels.old (drop at list.now) }
+    ensures after { OnOk result (IsLevelling inputs graph.now levels.new (drop (at + 1) list.now)) }
+    ensures less { OnOk result (left_in levels.new ≤ left_in levels.old) }
 {
     let j = list[at] as usize;
     if levels.heights[inputs + j] != 0 {
@@ -101,18 +94,11 @@ fn settle_all(
     graph: &[Numbers],
     list: &[u32],
 ) -> Result<(), AllocError>
-    requires graph { IsGraph inputs graph.now }
-    requires few { inputs + length graph.now ≤ most_signals }
+    requires graph { IsSmallGraph inputs graph.now }
     requires nodes { All (λ j. j < length graph.now) list.now }
-    requires rising { IsRising inputs graph.now levels.old.heights.items levels.old.waiting.items
-        levels.old.ready.items list.now }
-    requires ordered { IsOrdered inputs graph.now levels.old.heights.items levels.old.order.items }
-    ensures rising { OnOk result (IsRising inputs graph.now levels.new.heights.items
-        levels.new.waiting.items levels.new.ready.items []) }
-    ensures ordered { OnOk result (IsOrdered inputs graph.now levels.new.heights.items
-        levels.new.order.items) }
-    ensures less { OnOk result (2 * unknown levels.new.heights.items + vec_len levels.new.ready ≤
-        2 * unknown levels.old.heights.items + vec_len levels.old.ready) }
+    requires before { IsLevelling inputs graph.now levels.old list.now }
+    ensures after { OnOk result (IsLevelling inputs graph.now levels.new []) }
+    ensures less { OnOk result (left_in levels.new ≤ left_in levels.old) }
 {
     for at in 0..list.len() {
         settle(levels, inputs, graph, list, at)?;
@@ -127,18 +113,10 @@ fn tell(
     inputs: usize,
     graph: &[Numbers],
 ) -> Result<bool, AllocError>
-    requires graph { IsGraph inputs graph.now }
-    requires few { inputs + length graph.now ≤ most_signals }
-    requires rising { IsRising inputs graph.now levels.old.heights.items levels.old.waiting.items
-        levels.old.ready.items [] }
-    requires ordered { IsOrdered inputs graph.now levels.old.heights.items levels.old.order.items }
-    ensures rising { OnOk result (IsRising inputs graph.now levels.new.heights.items
-        levels.new.waiting.items levels.new.ready.items []) }
-    ensures ordered { OnOk result (IsOrdered inputs graph.now levels.new.heights.items
-        levels.new.order.items) }
-    ensures less { IfOk result (λ told. IsTrue told →
-        2 * unknown levels.new.heights.items + vec_len levels.new.ready <
-        2 * unknown levels.old.heights.items + vec_len levels.old.ready) }
+    requires graph { IsSmallGraph inputs graph.now }
+    requires before { IsLevelling inputs graph.now levels.old [] }
+    ensures after { OnOk result (IsLevelling inputs graph.now levels.new []) }
+    ensures less { IfOk result (λ told. IsTrue told → left_in levels.new < left_in levels.old) }
     ensures done { IfOk result (λ told. (told ≡ false) → levels.new.ready.items ≡ []) }
 {
     let Some(s) = levels.ready.pop() else {
@@ -152,10 +130,7 @@ fn tell(
 // Nothing is known but the inputs.
 fn start(alloc: Global, inputs: usize, nodes: usize) -> Result<Search, AllocError>
     requires { inputs + nodes ≤ most_signals }
-    ensures heights { IfOk result (λ l. l.heights.items ≡ replicate inputs 1 ++ replicate nodes 0) }
-    ensures order { IfOk result (λ l. l.order.items ≡ []) }
-    ensures waiting { IfOk result (λ l. l.waiting.items ≡ replicate (inputs + nodes) []) }
-    ensures ready { IfOk result (λ l. l.ready.items ≡ []) }
+    ensures { IfOk result (IsUntouched inputs nodes) }
 {
     let mut heights = Vec::with_capacity(alloc, inputs + nodes)?;
     let mut waiting = Vec::with_capacity(alloc, inputs + nodes)?;

@@ -1,8 +1,7 @@
 // Ranks of nodes, by which most nodes that are on no cycle are told without a search.
-ghost use Rattle.std.specs.Prelude.{◌≡◌, ◌+◌, ◌*◌, ◌<◌, ◌≤◌, [], ℕ, length, drop, replicate, vec_len, IsTrue, IfOk, OnOk, Contains, All};
-ghost use Rattle.lw_dag.specs.Graphs.{most_signals, IsGraph};
-ghost use Rattle.lw_dag.specs.Rising.{unknown};
-ghost use Rattle.lw_dag.specs.Ranking.{rank_at, AreRanks, IsRanking};
+ghost use Rattle.std.specs.Prelude.{◌≡◌, ◌+◌, ◌-◌, ◌<◌, [], ℕ, length, drop, vec_len, IsTrue, IfOk, OnOk, Contains, All};
+ghost use Rattle.lw_dag.specs.Graphs.{IsSmallGraph};
+ghost use Rattle.lw_dag.specs.Ranking.{rank_at, AreRanked, AreRanks, AreRanksTo};
 
 use crate::turning::turned_order;
 use lw_pool::Numbers;
@@ -20,12 +19,8 @@ fn rank_one(
     requires some { 0 < rank }
     requires place { at < length fanins.now }
     requires signals { All (λ s. s < inputs + vec_len ranks.old) fanins.now }
-    ensures ranking { OnOk result ((graph : _) →
-        IsRanking inputs graph rank ranks.old.items ready.old.items (drop at fanins.now) →
-        IsRanking inputs graph rank ranks.new.items ready.new.items (drop (at + 1) fanins.now)) }
-    ensures less { OnOk result (2 * unknown ranks.new.items + vec_len ready.new ≤
-        2 * unknown ranks.old.items + vec_len ready.old) }
-    ensures len { vec_len ranks.new ≡ vec_len ranks.old }
+    ensures { OnOk result (AreRanked inputs rank (drop at fanins.now) (drop (at + 1) fanins.now)
+        ranks.old ranks.new ready.old ready.new) }
 {
     let s = fanins[at];
     if (s as usize) < inputs {
@@ -50,12 +45,8 @@ fn rank_all(
 ) -> Result<(), AllocError>
     requires some { 0 < rank }
     requires signals { All (λ s. s < inputs + vec_len ranks.old) fanins.now }
-    ensures ranking { OnOk result ((graph : _) →
-        IsRanking inputs graph rank ranks.old.items ready.old.items fanins.now →
-        IsRanking inputs graph rank ranks.new.items ready.new.items []) }
-    ensures less { OnOk result (2 * unknown ranks.new.items + vec_len ready.new ≤
-        2 * unknown ranks.old.items + vec_len ready.old) }
-    ensures len { vec_len ranks.new ≡ vec_len ranks.old }
+    ensures { OnOk result (AreRanked inputs rank fanins.now [] ranks.old ranks.new
+        ready.old ready.new) }
 {
     for at in 0..fanins.len() {
         rank_one(ranks, ready, inputs, fanins, at, rank)?;
@@ -72,13 +63,11 @@ fn rank_from(
     p: usize,
     rank: usize,
 ) -> Result<(), AllocError>
-    requires graph { IsGraph inputs graph.now }
-    requires few { inputs + length graph.now ≤ most_signals }
+    requires graph { IsSmallGraph inputs graph.now }
     requires within { p < length graph.now }
-    requires ranks { AreRanks inputs graph.now ranks.old.items }
-    requires above { (x : ℕ) → rank_at ranks.old.items x < rank }
-    ensures ranks { OnOk result (AreRanks inputs graph.now ranks.new.items) }
-    ensures low { OnOk result ((x : ℕ) → rank_at ranks.new.items x ≤ rank) }
+    requires some { 0 < rank }
+    requires before { AreRanksTo inputs graph.now (rank - 1) ranks.old.items }
+    ensures { OnOk result (AreRanksTo inputs graph.now rank ranks.new.items) }
 {
     if ranks[p] != 0 {
         return Ok(());
@@ -105,8 +94,7 @@ pub(crate) fn ranks(
     inputs: usize,
     graph: &[Numbers],
 ) -> Result<Vec<usize>, AllocError>
-    requires graph { IsGraph inputs graph.now }
-    requires few { inputs + length graph.now ≤ most_signals }
+    requires { IsSmallGraph inputs graph.now }
     ensures { IfOk result (λ ranks. AreRanks inputs graph.now ranks.items) }
 {
     let order = turned_order(alloc, inputs, graph)?;

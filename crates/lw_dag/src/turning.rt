@@ -1,8 +1,8 @@
 // An order of the nodes: that in which a walk through the graph turned round, depth first, leaves
 // them.
 ghost use Rattle.std.specs.Prelude.{◌≡◌, ◌+◌, ◌<◌, ◌≤◌, [], length, replicate, vec_len, IfOk, OnOk, All};
-ghost use Rattle.lw_dag.specs.Graphs.{most_signals, IsGraph};
-ghost use Rattle.lw_dag.specs.Ranking.{AreWithin, IsWalk};
+ghost use Rattle.lw_dag.specs.Graphs.{IsSmallGraph};
+ghost use Rattle.lw_dag.specs.Ranking.{AreRows, AreWithin, IsWalk};
 
 use lw_pool::Numbers;
 use std::alloc::{AllocError, Global};
@@ -37,9 +37,8 @@ fn empty_rows(alloc: Global, n: usize) -> Result<Vec<Numbers>, AllocError>
 fn note_user(rows: &mut Vec<Numbers>, inputs: usize, s: u32, user: u32) -> Result<(), AllocError>
     requires signal { s < inputs + vec_len rows.old }
     requires user { user < vec_len rows.old }
-    requires within { AreWithin (vec_len rows.old) rows.old.items }
-    ensures len { vec_len rows.new ≡ vec_len rows.old }
-    ensures within { OnOk result (AreWithin (vec_len rows.new) rows.new.items) }
+    requires rows { AreRows (vec_len rows.old) rows.old }
+    ensures { OnOk result (AreRows (vec_len rows.old) rows.new) }
 {
     if (s as usize) < inputs {
         return Ok(());
@@ -58,9 +57,8 @@ fn note_users(
 ) -> Result<(), AllocError>
     requires signals { All (λ s. s < inputs + vec_len rows.old) fanins.now }
     requires user { user < vec_len rows.old }
-    requires within { AreWithin (vec_len rows.old) rows.old.items }
-    ensures len { vec_len rows.new ≡ vec_len rows.old }
-    ensures within { OnOk result (AreWithin (vec_len rows.new) rows.new.items) }
+    requires rows { AreRows (vec_len rows.old) rows.old }
+    ensures { OnOk result (AreRows (vec_len rows.old) rows.new) }
 {
     for s in fanins {
         note_user(rows, inputs, *s, user)?;
@@ -70,10 +68,8 @@ fn note_users(
 
 // The users of each node.
 fn turned_round(alloc: Global, inputs: usize, graph: &[Numbers]) -> Result<Vec<Numbers>, AllocError>
-    requires graph { IsGraph inputs graph.now }
-    requires few { inputs + length graph.now ≤ most_signals }
-    ensures len { IfOk result (λ rows. vec_len rows ≡ length graph.now) }
-    ensures within { IfOk result (λ rows. AreWithin (length graph.now) rows.items) }
+    requires { IsSmallGraph inputs graph.now }
+    ensures { IfOk result (AreRows (length graph.now)) }
 {
     let mut rows = empty_rows(alloc, graph.len())?;
     for j in 0..graph.len() {
@@ -140,8 +136,7 @@ pub(crate) fn turned_order(
     inputs: usize,
     graph: &[Numbers],
 ) -> Result<Vec<u32>, AllocError>
-    requires graph { IsGraph inputs graph.now }
-    requires few { inputs + length graph.now ≤ most_signals }
+    requires { IsSmallGraph inputs graph.now }
     ensures { IfOk result (λ order. All (λ j. j < length graph.now) order.items) }
 {
     let rows = turned_round(alloc, inputs, graph)?;

@@ -38,3 +38,6 @@ returns c = record {
   cycle = c.in_ok-last.ensures.cycle;
   first = λ j lt. c.loop-p.invariant j (omega (arith, c.loop-p-test.false, lt));
 }
+
+pub on_cycle-requires-clause-graph : goal.on_cycle-requires-clause-graph
+on_cycle-requires-clause-graph c = c.requires.graph.graph

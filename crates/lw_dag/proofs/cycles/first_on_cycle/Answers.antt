@@ -19,3 +19,6 @@ returns-in_err-first c =
 
 pub returns-clause-some : goal.returns-clause-some
 returns-clause-some c = c.in_ok-first.ensures
+
+pub first_behind-requires-clause-graph : goal.first_behind-requires-clause-graph
+first_behind-requires-clause-graph c = record { graph = c.requires.graph; few = c.requires.few }

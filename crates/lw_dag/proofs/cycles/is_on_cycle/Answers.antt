@@ -30,7 +30,7 @@ are_below-requires c =
     let p = c.args.p in
     let ranks : length c.args.ranks.now ≡ length graph = c.requires.ranks.one_each in
     let fanins = c.as_slice.ensures ∙ get_or_read graph p c.index-graph-p.result c.requires.within c.index-graph-p.is [] in
-    subst (λ n. All (λ s. s < c.args.inputs + n) c.as_slice.result.now) (sym ranks) (All-same (λ s. s < c.args.inputs + length graph) _ _ fanins (c.requires.graph p))
+    subst (λ n. All (λ s. s < c.args.inputs + n) c.as_slice.result.now) (sym ranks) (All-same (λ s. s < c.args.inputs + length graph) _ _ fanins (c.requires.graph.graph p))
 
 pub returns : goal.returns
 returns c = c.leads_to_itself.ensures

@@ -19,9 +19,9 @@ note_all-requires c =
     let popped : c.search.ready.items ≡ c.pop.new.self.items ++ x ∷ [] = c.in-Some.ensures.items in
     let within : x < length graph = (c.search.invariant.nodes x (subst (λ l. Contains l x) (sym popped) (Contains-push c.pop.new.self.items x))).0 in
     let fanins : c.as_slice.result.now ≡ fanins_at graph x = c.as_slice.ensures ∙ get_or_read graph x c.index-graph-x.result within c.index-graph-x.is [] in
-    let all : All (λ s. s < c.args.inputs + length graph) (fanins_at graph x) = c.requires.graph x in
+    let all : All (λ s. s < c.args.inputs + length graph) (fanins_at graph x) = c.requires.graph.graph x in
     let flags : length graph ≡ vec_len c.search.seen = omega (arith, c.search.invariant.flags) in
-    record { signals = subst (λ n. All (λ s. s < c.args.inputs + n) c.as_slice.result.now) flags (subst (All (λ s. s < c.args.inputs + length graph)) (sym fanins) all) }
+    subst (λ n. All (λ s. s < c.args.inputs + n) c.as_slice.result.now) flags (subst (All (λ s. s < c.args.inputs + length graph)) (sym fanins) all)
 
 pub search-preserved : goal.search-preserved
 search-preserved c =
@@ -30,7 +30,7 @@ search-preserved c =
     let popped : c.search.ready.items ≡ c.pop.new.self.items ++ x ∷ [] = c.in-Some.ensures.items in
     let within : x < length graph = (c.search.invariant.nodes x (subst (λ l. Contains l x) (sym popped) (Contains-push c.pop.new.self.items x))).0 in
     let fanins : c.as_slice.result.now ≡ fanins_at graph x = c.as_slice.ensures ∙ get_or_read graph x c.index-graph-x.result within c.index-graph-x.is [] in
-    c.in_ok-note_all.ensures.searching graph c.args.p (subst (IsSearching c.args.inputs graph c.args.p c.search.seen.items c.pop.new.self.items) (sym fanins) (searching_taken c.args.inputs graph c.args.p c.search.seen.items c.search.ready.items c.pop.new.self.items x c.requires.graph popped c.search.invariant))
+    c.in_ok-note_all.ensures.searching graph c.args.p (subst (IsSearching c.args.inputs graph c.args.p c.search.seen.items c.pop.new.self.items) (sym fanins) (searching_taken c.args.inputs graph c.args.p c.search.seen.items c.search.ready.items c.pop.new.self.items x c.requires.graph.graph popped c.search.invariant))
 
 pub returns : goal.returns
 returns c =

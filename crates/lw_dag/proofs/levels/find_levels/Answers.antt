@@ -11,25 +11,30 @@ use Rattle.lw_dag.proofs.levels.find_levels.Goals as goal
 numbers_more : (all : List ℕ) (j : ℕ) → length all ≡ j → ((k : ℕ) → k < j → get_or all k 0 ≡ k) → (k : ℕ) → k < j + 1 → get_or (all ++ j ∷ []) k 0 ≡ k
 numbers_more all j many each = below_more _ _ (λ k lt. get_or_append_left all (j ∷ []) 0 k (omega (arith, many, lt)) ∙ each k lt) (get_or_push all j 0 j many)
 
-pub settle_all-requires-clause-rising : goal.settle_all-requires-clause-rising
-settle_all-requires-clause-rising c =
+pub settle_all-requires-clause-graph : goal.settle_all-requires-clause-graph
+settle_all-requires-clause-graph c = record { graph = c.requires.graph; few = c.requires.few }
+
+pub settle_all-requires-clause-before : goal.settle_all-requires-clause-before
+settle_all-requires-clause-before c =
     let all = c.loop-j.all.items in
     let each = λ (j : ℕ) (lt : j < length c.args.graph.now). let has : Contains all j = (j, omega arith, get_or_default all j j 0 (omega arith) ∙ c.loop-j.invariant.each j (omega arith)) in has in
-    rw (c.in_ok-levels.ensures.heights, c.in_ok-levels.ensures.waiting, c.in_ok-levels.ensures.ready, c.deref.ensures.value) (rising_starts c.args.inputs (length c.args.graph.now) c.args.graph.now all refl each)
+    record {
+      rising = rw (c.in_ok-levels.ensures.heights, c.in_ok-levels.ensures.waiting, c.in_ok-levels.ensures.ready, c.deref.ensures.value) (rising_starts c.args.inputs (length c.args.graph.now) c.args.graph.now all refl each);
+      ordered = rw (c.in_ok-levels.ensures.heights, c.in_ok-levels.ensures.order) (ordered_none c.args.inputs c.args.graph.now (replicate c.args.inputs 1 ++ replicate (length c.args.graph.now) 0) (none_at c.args.inputs (length c.args.graph.now)));
+    }
 
-pub settle_all-requires-clause-ordered : goal.settle_all-requires-clause-ordered
-settle_all-requires-clause-ordered c =
-    rw (c.in_ok-levels.ensures.heights, c.in_ok-levels.ensures.order) (ordered_none c.args.inputs c.args.graph.now (replicate c.args.inputs 1 ++ replicate (length c.args.graph.now) 0) (none_at c.args.inputs (length c.args.graph.now)))
+pub tell-requires-clause-graph : goal.tell-requires-clause-graph
+tell-requires-clause-graph c = record { graph = c.requires.graph; few = c.requires.few }
 
 pub returns-clause-heights : goal.returns-clause-heights
 returns-clause-heights c =
     let l = c.tell.new.levels in
-    rising_ends c.args.inputs c.args.graph.now l.heights.items l.waiting.items (subst (λ r. IsRising c.args.inputs c.args.graph.now l.heights.items l.waiting.items r []) (c.in_ok-tell.ensures.done c.if-branch.false) c.in_ok-tell.ensures.rising)
+    rising_ends c.args.inputs c.args.graph.now l.heights.items l.waiting.items (subst (λ r. IsRising c.args.inputs c.args.graph.now l.heights.items l.waiting.items r []) (c.in_ok-tell.ensures.done c.if-branch.false) c.in_ok-tell.ensures.after.rising)
 
 pub returns-clause-low : goal.returns-clause-low
 returns-clause-low c =
     let l = c.tell.new.levels in
-    λ k d lt. subst (λ h. h ≤ 1 + length c.args.graph.now) (get_or_default l.heights.items k 0 d lt) (omega (arith, c.in_ok-tell.ensures.rising.low k))
+    λ k d lt. subst (λ h. h ≤ 1 + length c.args.graph.now) (get_or_default l.heights.items k 0 d lt) (omega (arith, c.in_ok-tell.ensures.after.rising.low k))
 
 pub returns-in_err-levels : goal.returns-in_err-levels
 returns-in_err-levels c =
@@ -75,19 +80,16 @@ settle_all-requires-clause-nodes c =
     All-same (λ j. j < length c.args.graph.now) _ _ c.deref.ensures.value (All-from_get_or (λ j. j < length c.args.graph.now) all.items 0 below)
 
 pub telling-init : goal.telling-init
-telling-init c = record { rising = c.in_ok-settle_all.ensures.rising; ordered = c.in_ok-settle_all.ensures.ordered }
+telling-init c = c.in_ok-settle_all.ensures.after
 
-pub tell-requires-clause-rising : goal.tell-requires-clause-rising
-tell-requires-clause-rising c = c.telling.invariant.rising
-
-pub tell-requires-clause-ordered : goal.tell-requires-clause-ordered
-tell-requires-clause-ordered c = c.telling.invariant.ordered
+pub tell-requires-clause-before : goal.tell-requires-clause-before
+tell-requires-clause-before c = c.telling.invariant
 
 pub telling-smaller : goal.telling-smaller
 telling-smaller c = c.in_ok-tell.ensures.less c.if-branch.true
 
 pub telling-preserved : goal.telling-preserved
-telling-preserved c = record { rising = c.in_ok-tell.ensures.rising; ordered = c.in_ok-tell.ensures.ordered }
+telling-preserved c = c.in_ok-tell.ensures.after
 
 pub returns-clause-ordered : goal.returns-clause-ordered
-returns-clause-ordered c = c.in_ok-tell.ensures.ordered
+returns-clause-ordered c = c.in_ok-tell.ensures.after.ordered

@@ -1,6 +1,5 @@
-use Rattle.std.proofs.Common.{◌≡◌, ◌<◌, ◌+◌, ◌*◌, ℕ, [], vec_len, get_or}
-use Rattle.lw_dag.specs.Graphs.{IsOrdered}
-use Rattle.lw_dag.specs.Rising.{IsRising, unknown}
+use Rattle.std.proofs.Common.{◌≡◌, ◌<◌, ℕ, [], vec_len, get_or}
+use Rattle.lw_dag.specs.Rising.{IsLevelling, left_in}
 use Rattle.lw_dag.proofs.levels.find_levels.Given as goal
 
 abbrev pub invariant-loop-j : goal.invariant-loop-j
@@ -10,10 +9,7 @@ invariant-loop-j l = record {
 }
 
 abbrev pub invariant-telling : goal.invariant-telling
-invariant-telling l = record {
-  rising : IsRising l.inputs l.graph l.levels.heights.items l.levels.waiting.items l.levels.ready.items [];
-  ordered : IsOrdered l.inputs l.graph l.levels.heights.items l.levels.order.items;
-}
+invariant-telling l = IsLevelling l.inputs l.graph l.levels []
 
 abbrev pub decreases-telling : goal.decreases-telling
-decreases-telling l = 2 * unknown l.levels.heights.items + vec_len l.levels.ready
+decreases-telling l = left_in l.levels

@@ -4,34 +4,22 @@ use Rattle.std.proofs.lemmas.Result.{IfOk-from_err}
 use Rattle.lw_dag.proofs.levels.start.Goals as goal
 
 pub returns-in_err-heights : goal.returns-in_err-heights
-returns-in_err-heights c =
-    let failed = c.from_residual.ensures.0 in
-    record { heights = IfOk-from_err _ _ failed; order = IfOk-from_err _ _ failed; waiting = IfOk-from_err _ _ failed; ready = IfOk-from_err _ _ failed }
+returns-in_err-heights c = IfOk-from_err _ _ c.from_residual.ensures.0
 
 pub returns-in_err-waiting : goal.returns-in_err-waiting
-returns-in_err-waiting c =
-    let failed = c.from_residual-in_err-waiting.ensures.0 in
-    record { heights = IfOk-from_err _ _ failed; order = IfOk-from_err _ _ failed; waiting = IfOk-from_err _ _ failed; ready = IfOk-from_err _ _ failed }
+returns-in_err-waiting c = IfOk-from_err _ _ c.from_residual-in_err-waiting.ensures.0
 
 pub returns-in_err-push : goal.returns-in_err-push
-returns-in_err-push c =
-    let failed = c.from_residual-in_err-push.ensures.0 in
-    record { heights = IfOk-from_err _ _ failed; order = IfOk-from_err _ _ failed; waiting = IfOk-from_err _ _ failed; ready = IfOk-from_err _ _ failed }
+returns-in_err-push c = IfOk-from_err _ _ c.from_residual-in_err-push.ensures.0
 
 pub returns-in_err-push-2 : goal.returns-in_err-push-2
-returns-in_err-push-2 c =
-    let failed = c.from_residual-in_err-push-2.ensures.0 in
-    record { heights = IfOk-from_err _ _ failed; order = IfOk-from_err _ _ failed; waiting = IfOk-from_err _ _ failed; ready = IfOk-from_err _ _ failed }
+returns-in_err-push-2 c = IfOk-from_err _ _ c.from_residual-in_err-push-2.ensures.0
 
 pub returns-in_err-push-3 : goal.returns-in_err-push-3
-returns-in_err-push-3 c =
-    let failed = c.from_residual-in_err-push-3.ensures.0 in
-    record { heights = IfOk-from_err _ _ failed; order = IfOk-from_err _ _ failed; waiting = IfOk-from_err _ _ failed; ready = IfOk-from_err _ _ failed }
+returns-in_err-push-3 c = IfOk-from_err _ _ c.from_residual-in_err-push-3.ensures.0
 
 pub returns-in_err-with_capacity : goal.returns-in_err-with_capacity
-returns-in_err-with_capacity c =
-    let failed = c.from_residual-in_err-with_capacity.ensures.0 in
-    record { heights = IfOk-from_err _ _ failed; order = IfOk-from_err _ _ failed; waiting = IfOk-from_err _ _ failed; ready = IfOk-from_err _ _ failed }
+returns-in_err-with_capacity c = IfOk-from_err _ _ c.from_residual-in_err-with_capacity.ensures.0
 
 pub ones-init : goal.ones-init
 ones-init c = c.in_ok-heights.ensures.items

@@ -11,13 +11,13 @@ use Rattle.lw_dag.proofs.levels.tell.Goals as goal
 told_within : (n : ℕ) (ready rest : List ℕ) (s : ℕ) → ready ≡ rest ++ s ∷ [] → All (λ t. t < n) ready → s < n
 told_within n ready rest s popped all = (All-pop (λ t. t < n) ready rest (Some s) popped all).1
 
-pub returns-in_default-clause-rising : goal.returns-in_default-clause-rising
-returns-in_default-clause-rising c =
+pub returns-in_default-clause-after : goal.returns-in_default-clause-after
+returns-in_default-clause-after c =
     let l = c.args.levels.now in
-    subst (λ ready. IsRising c.args.inputs c.args.graph.now l.heights.items l.waiting.items ready []) (c.in_default.ensures.items ∙ append-nil c.pop.new.self.items) c.requires.rising
-
-pub returns-in_default-clause-ordered : goal.returns-in_default-clause-ordered
-returns-in_default-clause-ordered c = c.requires.ordered
+    record {
+      rising = subst (λ ready. IsRising c.args.inputs c.args.graph.now l.heights.items l.waiting.items ready []) (c.in_default.ensures.items ∙ append-nil c.pop.new.self.items) c.requires.before.rising;
+      ordered = c.requires.before.ordered;
+    }
 
 pub returns-in_default-clause-less : goal.returns-in_default-clause-less
 returns-in_default-clause-less c = λ is. absurd (false≢true is)
@@ -31,42 +31,39 @@ pub index_mut-requires : goal.index_mut-requires
 index_mut-requires c =
     let l = c.args.levels.now in
     let n = c.args.inputs + length c.args.graph.now in
-    omega (arith, l.waiting.ok.0, c.requires.rising.lists, told_within n l.ready.items c.pop.new.self.items c.in-Some.s c.in-Some.ensures.items c.requires.rising.signals)
+    omega (arith, l.waiting.ok.0, c.requires.before.rising.lists, told_within n l.ready.items c.pop.new.self.items c.in-Some.s c.in-Some.ensures.items c.requires.before.rising.signals)
 
 pub settle_all-requires-clause-nodes : goal.settle_all-requires-clause-nodes
 settle_all-requires-clause-nodes c =
     let l = c.args.levels.now in
     let s = c.in-Some.s in
     let n = c.args.inputs + length c.args.graph.now in
-    let in_waiting : s < length l.waiting.items = omega (arith, c.requires.rising.lists, told_within n l.ready.items c.pop.new.self.items s c.in-Some.ensures.items c.requires.rising.signals) in
+    let in_waiting : s < length l.waiting.items = omega (arith, c.requires.before.rising.lists, told_within n l.ready.items c.pop.new.self.items s c.in-Some.ensures.items c.requires.before.rising.signals) in
     let old = c.as_slice.ensures ∙ (c.replace-nodes.ensures.value ∙ get_or_read l.waiting.items s c.index_mut.result.now in_waiting c.index_mut.ensures.value []) in
-    All-same (λ j. j < length c.args.graph.now) _ _ old (c.requires.rising.nodes s)
+    All-same (λ j. j < length c.args.graph.now) _ _ old (c.requires.before.rising.nodes s)
 
-pub settle_all-requires-clause-rising : goal.settle_all-requires-clause-rising
-settle_all-requires-clause-rising c =
+pub settle_all-requires-clause-before : goal.settle_all-requires-clause-before
+settle_all-requires-clause-before c =
     let l = c.args.levels.now in
     let s = c.in-Some.s in
     let rest = c.pop.new.self.items in
     let popped : l.ready.items ≡ rest ++ s ∷ [] = c.in-Some.ensures.items in
     let among : Contains l.ready.items s = subst (λ r. Contains r s) (sym popped) (Contains-push rest s) in
-    let within : s < c.args.inputs + length c.args.graph.now = All-contains (λ t. t < c.args.inputs + length c.args.graph.now) l.ready.items s c.requires.rising.signals among in
-    let in_waiting : s < length l.waiting.items = omega (arith, c.requires.rising.lists) in
+    let within : s < c.args.inputs + length c.args.graph.now = All-contains (λ t. t < c.args.inputs + length c.args.graph.now) l.ready.items s c.requires.before.rising.signals among in
+    let in_waiting : s < length l.waiting.items = omega (arith, c.requires.before.rising.lists) in
     let old : c.as_slice.result.now ≡ waiting_at l.waiting.items s = c.as_slice.ensures ∙ (c.replace-nodes.ensures.value ∙ get_or_read l.waiting.items s c.index_mut.result.now in_waiting c.index_mut.ensures.value []) in
-    rw (c.replace-nodes.ensures.after, c.empty.ensures, old) (rising_told c.args.inputs c.args.graph.now l.heights.items l.waiting.items l.ready.items rest s c.requires.rising popped)
-
-pub settle_all-requires-clause-ordered : goal.settle_all-requires-clause-ordered
-settle_all-requires-clause-ordered c = c.requires.ordered
+    record {
+      rising = rw (c.replace-nodes.ensures.after, c.empty.ensures, old) (rising_told c.args.inputs c.args.graph.now l.heights.items l.waiting.items l.ready.items rest s c.requires.before.rising popped);
+      ordered = c.requires.before.ordered;
+    }
 
 pub returns-in_err-settle_all : goal.returns-in_err-settle_all
 returns-in_err-settle_all c =
     let failed = c.from_residual.ensures.0 in
-    record { rising = IfOk-from_err _ _ failed; ordered = IfOk-from_err _ _ failed; less = IfOk-from_err _ _ failed; done = IfOk-from_err _ _ failed }
+    record { after = IfOk-from_err _ _ failed; less = IfOk-from_err _ _ failed; done = IfOk-from_err _ _ failed }
 
-pub returns-clause-rising : goal.returns-clause-rising
-returns-clause-rising c = c.in_ok-settle_all.ensures.rising
-
-pub returns-clause-ordered : goal.returns-clause-ordered
-returns-clause-ordered c = c.in_ok-settle_all.ensures.ordered
+pub returns-clause-after : goal.returns-clause-after
+returns-clause-after c = c.in_ok-settle_all.ensures.after
 
 pub returns-clause-less : goal.returns-clause-less
 returns-clause-less c = λ told. omega (arith, c.in_ok-settle_all.ensures.less, c.in-Some.ensures.len)

@@ -19,9 +19,9 @@ rank_all-requires c =
     let popped : c.search.ready.items ≡ c.pop.new.self.items ++ x ∷ [] = c.in-Some.ensures.items in
     let within : x < length graph = (c.search.invariant.nodes x (subst (λ l. Contains l x) (sym popped) (Contains-push c.pop.new.self.items x))).0 in
     let fanins : c.as_slice.result.now ≡ fanins_at graph x = c.as_slice.ensures ∙ get_or_read graph x c.index-graph-x.result within c.index-graph-x.is [] in
-    let all : All (λ s. s < c.args.inputs + length graph) (fanins_at graph x) = c.requires.graph x in
+    let all : All (λ s. s < c.args.inputs + length graph) (fanins_at graph x) = c.requires.graph.graph x in
     let flags : length graph ≡ vec_len c.search.ranks = omega (arith, c.search.invariant.one_each) in
-    record { some = omega (arith, c.requires.above 0); signals = subst (λ n. All (λ s. s < c.args.inputs + n) c.as_slice.result.now) flags (subst (All (λ s. s < c.args.inputs + length graph)) (sym fanins) all) }
+    record { some = c.requires.some; signals = subst (λ n. All (λ s. s < c.args.inputs + n) c.as_slice.result.now) flags (subst (All (λ s. s < c.args.inputs + length graph)) (sym fanins) all) }
 
 pub search-preserved : goal.search-preserved
 search-preserved c =
@@ -32,40 +32,31 @@ search-preserved c =
     let fanins : c.as_slice.result.now ≡ fanins_at graph x = c.as_slice.ensures ∙ get_or_read graph x c.index-graph-x.result within c.index-graph-x.is [] in
     c.in_ok-rank_all.ensures.ranking graph (subst (IsRanking c.args.inputs graph c.args.rank c.search.ranks.items c.pop.new.self.items) (sym fanins) (ranking_taken c.args.inputs graph c.args.rank c.search.ranks.items c.search.ready.items c.pop.new.self.items x popped c.search.invariant))
 
-pub returns-then-index-ne0-clause-ranks : goal.returns-then-index-ne0-clause-ranks
-returns-then-index-ne0-clause-ranks c = c.requires.ranks
+pub returns-then-index-ne0 : goal.returns-then-index-ne0
+returns-then-index-ne0 c = record { are = c.requires.before.are; low = λ x. omega (arith, c.requires.before.low x) }
 
-pub returns-then-index-ne0-clause-low : goal.returns-then-index-ne0-clause-low
-returns-then-index-ne0-clause-low c = λ x. omega (arith, c.requires.above x)
-
-pub returns-in_err-push-clause-ranks : goal.returns-in_err-push-clause-ranks
-returns-in_err-push-clause-ranks c = IfOk-from_err _ _ c.from_residual.ensures.0
-
-pub returns-in_err-push-clause-low : goal.returns-in_err-push-clause-low
-returns-in_err-push-clause-low c = IfOk-from_err _ _ c.from_residual.ensures.0
+pub returns-in_err-push : goal.returns-in_err-push
+returns-in_err-push c = IfOk-from_err _ _ c.from_residual.ensures.0
 
 pub search-init : goal.search-init
 search-init c =
     let ranks = c.args.ranks.now.items in
-    let within : c.args.p < length ranks = omega (arith, c.requires.ranks.one_each, c.requires.within) in
+    let within : c.args.p < length ranks = omega (arith, c.requires.before.are.one_each, c.requires.within) in
     let none : rank_at ranks c.args.p ≡ 0 = sym (get_or_read ranks c.args.p c.index.result.now within c.index.ensures 0) ∙ c.if-index-ne0.false in
     let only : c.push.new.self.items ≡ c.args.p ∷ [] = c.in_ok-push.ensures.items ∙ ap (λ l. l ++ c.args.p ∷ []) c.new-ready.ensures.items in
     subst (λ ready. IsRanking c.args.inputs c.args.graph.now c.args.rank (set ranks c.args.p c.args.rank) ready []) (sym only)
-    (ranking_starts c.args.inputs c.args.graph.now c.args.rank ranks c.args.p c.requires.within none c.requires.ranks c.requires.above)
+    (ranking_starts c.args.inputs c.args.graph.now c.args.rank ranks c.args.p c.requires.within none c.requires.before.are (λ x. omega (arith, c.requires.some, c.requires.before.low x)))
 
 pub search-smaller : goal.search-smaller
 search-smaller c = omega (arith, c.in_ok-rank_all.ensures.less, c.in-Some.ensures.len)
 
-pub returns-in_err-rank_all-clause-ranks : goal.returns-in_err-rank_all-clause-ranks
-returns-in_err-rank_all-clause-ranks c = IfOk-from_err _ _ c.from_residual-in_err-rank_all.ensures.0
+pub returns-in_err-rank_all : goal.returns-in_err-rank_all
+returns-in_err-rank_all c = IfOk-from_err _ _ c.from_residual-in_err-rank_all.ensures.0
 
-pub returns-in_err-rank_all-clause-low : goal.returns-in_err-rank_all-clause-low
-returns-in_err-rank_all-clause-low c = IfOk-from_err _ _ c.from_residual-in_err-rank_all.ensures.0
-
-pub returns-clause-ranks : goal.returns-clause-ranks
-returns-clause-ranks c =
+pub returns : goal.returns
+returns c =
     let empty : c.search.ready.items ≡ [] = nil_from_length c.search.ready.items (omega (arith, c.in_default.ensures.cases.0)) in
-    ranking_ends c.args.inputs c.args.graph.now c.args.rank c.search.ranks.items (subst (λ ready. IsRanking c.args.inputs c.args.graph.now c.args.rank c.search.ranks.items ready []) empty c.search.invariant)
-
-pub returns-clause-low : goal.returns-clause-low
-returns-clause-low c = c.search.invariant.low
+    record {
+      are = ranking_ends c.args.inputs c.args.graph.now c.args.rank c.search.ranks.items (subst (λ ready. IsRanking c.args.inputs c.args.graph.now c.args.rank c.search.ranks.items ready []) empty c.search.invariant);
+      low = c.search.invariant.low;
+    }

@@ -26,17 +26,17 @@ rank_from-requires-clause-within c =
     let within : place < length order.items = omega (arith, order.ok.0, c.len.ensures, c.len-i-end.ensures, c.loop-i-test.true) in
     subst (λ j. j < length c.args.graph.now) (sym c.index-p.ensures) (c.in_ok-order.ensures place c.index-p.result.now within)
 
-pub rank_from-requires-clause-ranks : goal.rank_from-requires-clause-ranks
-rank_from-requires-clause-ranks c = c.loop-i.invariant.are
+pub rank_from-requires-clause-some : goal.rank_from-requires-clause-some
+rank_from-requires-clause-some c = omega arith
 
-pub rank_from-requires-clause-above : goal.rank_from-requires-clause-above
-rank_from-requires-clause-above c = λ x. omega (arith, c.loop-i.invariant.low x)
+pub rank_from-requires-clause-before : goal.rank_from-requires-clause-before
+rank_from-requires-clause-before c = record { are = c.loop-i.invariant.are; low = λ x. omega (arith, c.loop-i.invariant.low x) }
 
 pub returns-in_err-rank_from : goal.returns-in_err-rank_from
 returns-in_err-rank_from c = IfOk-from_err _ _ c.from_residual-in_err-rank_from.ensures.0
 
 pub loop-i-preserved : goal.loop-i-preserved
-loop-i-preserved c = record { are = c.in_ok-rank_from.ensures.ranks; low = c.in_ok-rank_from.ensures.low }
+loop-i-preserved c = c.in_ok-rank_from.ensures
 
 pub returns : goal.returns
 returns c = c.loop-i.invariant.are

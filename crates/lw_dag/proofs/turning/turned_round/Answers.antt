@@ -1,9 +1,9 @@
-use Rattle.std.proofs.Common.{◌≡◌, ◌+◌, ◌<◌, [], All, length, sym, subst, ap, replicate, vec_len, ◌∙◌, arith}
+use Rattle.std.proofs.Common.{◌≡◌, ◌+◌, ◌<◌, [], All, length, refl, sym, subst, ap, vec_len, ◌∙◌, arith}
 use Rattle.std.proofs.lemmas.List.{get_or_read, length-replicate}
 use Rattle.std.proofs.lemmas.List.Elements.{All-nil, All-replicate, All-same}
 use Rattle.std.proofs.lemmas.Result.{IfOk-from_err}
 use Rattle.lw_dag.specs.Graphs.{fanins_at}
-use Rattle.lw_dag.specs.Ranking.{AreWithin}
+use Rattle.lw_dag.specs.Ranking.{AreRows, AreWithin}
 use Rattle.lw_dag.proofs.turning.turned_round.Goals as goal
 
 pub note_users-requires-clause-signals : goal.note_users-requires-clause-signals
@@ -16,11 +16,8 @@ note_users-requires-clause-signals c =
     subst (λ n. All (λ s. s < c.args.inputs + n) c.as_slice.result.now) rows
     (subst (All (λ s. s < c.args.inputs + length graph)) (sym fanins) (c.requires.graph j))
 
-pub returns-in_err-rows-clause-len : goal.returns-in_err-rows-clause-len
-returns-in_err-rows-clause-len c = IfOk-from_err _ _ c.from_residual.ensures.0
-
-pub returns-in_err-rows-clause-within : goal.returns-in_err-rows-clause-within
-returns-in_err-rows-clause-within c = IfOk-from_err _ _ c.from_residual.ensures.0
+pub returns-in_err-rows : goal.returns-in_err-rows
+returns-in_err-rows c = IfOk-from_err _ _ c.from_residual.ensures.0
 
 pub loop-j-init : goal.loop-j-init
 loop-j-init c =
@@ -34,22 +31,14 @@ loop-j-init c =
 pub note_users-requires-clause-user : goal.note_users-requires-clause-user
 note_users-requires-clause-user c = omega (arith, c.loop-j.invariant.len, c.loop-j-test.true)
 
-pub note_users-requires-clause-within : goal.note_users-requires-clause-within
-note_users-requires-clause-within c = subst (λ n. AreWithin n c.loop-j.rows.items) (sym c.loop-j.invariant.len) c.loop-j.invariant.within
+pub note_users-requires-clause-rows : goal.note_users-requires-clause-rows
+note_users-requires-clause-rows c = record { len = refl; within = subst (λ n. AreWithin n c.loop-j.rows.items) (sym c.loop-j.invariant.len) c.loop-j.invariant.within }
 
-pub returns-in_err-note_users-clause-len : goal.returns-in_err-note_users-clause-len
-returns-in_err-note_users-clause-len c = IfOk-from_err _ _ c.from_residual-in_err-note_users.ensures.0
-
-pub returns-in_err-note_users-clause-within : goal.returns-in_err-note_users-clause-within
-returns-in_err-note_users-clause-within c = IfOk-from_err _ _ c.from_residual-in_err-note_users.ensures.0
+pub returns-in_err-note_users : goal.returns-in_err-note_users
+returns-in_err-note_users c = IfOk-from_err _ _ c.from_residual-in_err-note_users.ensures.0
 
 pub loop-j-preserved : goal.loop-j-preserved
-loop-j-preserved c =
-    let len : vec_len c.note_users.new.rows ≡ length c.args.graph.now = c.note_users.ensures.len ∙ c.loop-j.invariant.len in
-    record { len = len; within = subst (λ n. AreWithin n c.note_users.new.rows.items) len c.in_ok-note_users.ensures.within }
+loop-j-preserved c = subst (λ n. AreRows n c.note_users.new.rows) c.loop-j.invariant.len c.in_ok-note_users.ensures
 
-pub returns-clause-len : goal.returns-clause-len
-returns-clause-len c = c.loop-j.invariant.len
-
-pub returns-clause-within : goal.returns-clause-within
-returns-clause-within c = c.loop-j.invariant.within
+pub returns : goal.returns
+returns c = c.loop-j.invariant
