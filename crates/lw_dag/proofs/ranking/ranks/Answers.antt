@@ -1,4 +1,4 @@
-use Rattle.std.proofs.Common.{◌≡◌, ◌+◌, ◌-◌, ◌<◌, ◌≤◌, ◌∙◌, ℕ, arith, length, replicate, subst, sym}
+use Rattle.std.proofs.Common.{◌-◌, ◌<◌, ◌≤◌, ℕ, arith, length, subst, sym}
 use Rattle.std.proofs.lemmas.Result.{IfOk-from_err}
 use Rattle.lw_dag.specs.Ranking.{AreRanks, rank_at}
 use Rattle.lw_dag.proofs.Ranks.{low_none, ranks_none}

@@ -1,4 +1,4 @@
-use Rattle.std.proofs.Common.{◌≡◌, ◌∙◌, ◌<◌, ℕ, arith, length-set, refl, true, vec_len}
+use Rattle.std.proofs.Common.{◌∙◌, ◌<◌, length-set, refl, true, vec_len}
 use Rattle.std.proofs.lemmas.List.Elements.{All-push, All-same}
 use Rattle.std.proofs.lemmas.Result.{IfOk-from_err}
 use Rattle.lw_dag.specs.declared.turning.Stop.{Stop}
