@@ -15,7 +15,7 @@ use Rattle.lw_laws.proofs.NumberedForms.{splits_occur}
 use Rattle.lw_laws.proofs.NumberedValues.{form_values_fit}
 use Rattle.lw_form.specs.Bases.{picked}
 use Rattle.lw_form.specs.Kept.{AreForms, HasPart}
-use Rattle.lw_assoc.specs.Drafting.{other, IsSplitBy, HasSplit, HasSplits, HasTwice, MakeSplit, HasSplitsUpTo, IsSplitting, HasLinksUpTo, HasSamples, HasBases, AddsBases, AddsNands, AddsLinks, AddsSplit, first_draft, with_base, with_nand, with_link}
+use Rattle.lw_assoc.specs.Drafting.{other, IsSplitBy, HasSplit, HasSplits, HasTwice, MakeSplit, HasSplitsUpTo, IsSplitting, HasLinksUpTo, HasSamples, HasBases, HasFactsUpTo, AddsBases, AddsNands, AddsLinks, AddsSplit, first_draft, with_base, with_nand, with_link}
 use Rattle.lw_assoc.specs.Parts.{HasParts}
 use Rattle.lw_reduce.specs.Drafting.{sample_of, IsKnown}
 use Rattle.lw_assoc.proofs.Masks.{unpicked, cut_by, picked_other}
@@ -115,24 +115,31 @@ module _ (forms : NumberedForms) (are : AreForms forms) where
   mask_cut b mask rest x y fs e lt r p q =
       (b, fs, picked fs mask, unpicked fs mask, e, refl, cut_by fs mask, p, subst (λ hs. IsPart forms hs y) (ap (picked fs) r ∙ picked_other fs mask lt) q)
 
-  pub cuts_make : (b mask rest : ℕ) (fs : List ℕ) → slice_get forms.bases b ≡ Some (base_and fs) → mask < 2 ^ length fs → rest ≡ other fs mask → MakeSplit forms b mask rest
-  cuts_make b mask rest fs e lt r hs x y d p q =
-      let same = same_operands (slice_get forms.bases b) fs hs e d in
-      inl (mask_cut b mask rest x y hs d (subst (λ l. mask < 2 ^ length l) same lt) (subst (λ l. rest ≡ other l mask) same r) p q)
+  pub cuts_make : (b mask rest : ℕ) (fs : List ℕ) → slice_get forms.bases b ≡ Some (base_and fs) → 1 ≤ mask → mask < 2 ^ length fs → 1 ≤ rest → rest ≡ other fs mask → MakeSplit forms b mask rest
+  cuts_make b mask rest fs e one lt some r = record {
+    left = (fs, e, one, lt);
+    right = (fs, e, some, omega arith);
+    is = is;
+  } where
+    is : (hs : List ℕ) (x y : ℕ) → slice_get forms.bases b ≡ Some (base_and hs) → IsPart forms (picked hs mask) x → IsPart forms (picked hs rest) y → IsSplitOf idempotent forms (2 * b + 1) x y
+    is hs x y d p q =
+        let same = same_operands (slice_get forms.bases b) fs hs e d in
+        inl (mask_cut b mask rest x y hs d (subst (λ l. mask < 2 ^ length l) same lt) (subst (λ l. rest ≡ other l mask) same r) p q)
 
   -- the form of each part is where its mask is
   pub part_at : (parts : List ℕ) (b mask : ℕ) (fs : List ℕ) → HasParts forms b 1 parts → slice_get forms.bases b ≡ Some (base_and fs) → HasPart forms b mask → IsPart forms (picked fs mask) (slice_index parts mask)
   part_at parts b mask fs has e (hs, d, one, lt) =
-      has fs mask e one (subst (λ l. mask < 2 ^ length l) (same_operands (slice_get forms.bases b) hs fs d e) lt)
+      has.each fs mask e one (subst (λ l. mask < 2 ^ length l) (same_operands (slice_get forms.bases b) hs fs d e) lt)
 
-  pub parts_split : (parts : List ℕ) (b mask rest : ℕ) → HasParts forms b 1 parts → HasPart forms b mask → HasPart forms b rest → MakeSplit forms b mask rest → IsSplitOf idempotent forms (2 * b + 1) (slice_index parts mask) (slice_index parts rest)
-  parts_split parts b mask rest has (fs, e, one, lt) right make =
-      make fs (slice_index parts mask) (slice_index parts rest) e (has fs mask e one lt) (part_at parts b rest fs has e right)
+  pub parts_split : (parts : List ℕ) (b mask rest : ℕ) → HasParts forms b 1 parts → MakeSplit forms b mask rest → IsSplitOf idempotent forms (2 * b + 1) (slice_index parts mask) (slice_index parts rest)
+  parts_split parts b mask rest has make =
+      let (fs, e, one, lt) = make.left in
+      make.is fs (slice_index parts mask) (slice_index parts rest) e (has.each fs mask e one lt) (part_at parts b rest fs has e make.right)
 
-  pub split_added : (old new : Draft) (parts : List ℕ) (b mask rest : ℕ) → HasParts forms b 1 parts → HasPart forms b mask → HasPart forms b rest → new ≡ with_nand old (record { form = 2 * b + 1; left = slice_index parts mask; right = slice_index parts rest }) → AddsSplit forms b mask rest old new
-  split_added old new parts b mask rest has left right added = record {
+  pub split_added : (old new : Draft) (parts : List ℕ) (b mask rest : ℕ) → HasParts forms b 1 parts → MakeSplit forms b mask rest → new ≡ with_nand old (record { form = 2 * b + 1; left = slice_index parts mask; right = slice_index parts rest }) → AddsSplit forms b mask rest old new
+  split_added old new parts b mask rest has make added = record {
     fact = record { form = 2 * b + 1; left = slice_index parts mask; right = slice_index parts rest };
-    is = λ hs d. record { form = refl; left = part_at parts b mask hs has d left; right = part_at parts b rest hs has d right };
+    is = λ hs d. record { form = refl; left = part_at parts b mask hs has d make.left; right = part_at parts b rest hs has d make.right };
     added = added;
   }
 
@@ -164,18 +171,28 @@ module _ (forms : NumberedForms) (are : AreForms forms) where
     by_place a lt (yes l) = up.all a l
     by_place a lt (no ge) = let same : b ≡ a = omega arith in subst (HasSplits mode forms nands) same has
 
+  -- the same with the base forms
+  pub facts_more : (mode : Mode) (old : Draft) (fact : NandFact) (b : ℕ) → IsSplitOf mode forms fact.form fact.left fact.right → HasFactsUpTo mode forms b old → HasFactsUpTo mode forms b (with_nand old fact)
+  facts_more mode old fact b c has = record {
+    bases = record { inputs = has.bases.inputs; count = has.bases.count; samples = has.bases.samples };
+    splits = up_to_more mode old.nands fact b c has.splits;
+  }
+
+  pub facts_next : (mode : Mode) (d : Draft) (b : ℕ) → HasSplits mode forms d.nands b → HasFactsUpTo mode forms b d → HasFactsUpTo mode forms (b + 1) d
+  facts_next mode d b new has = record { bases = has.bases; splits = up_to_next mode d.nands b new has.splits }
+
   -- the fact of a mask and the other one is a cut
   cut_of_split : (b mask rest : ℕ) (fs : List ℕ) (n : NandFact) → slice_get forms.bases b ≡ Some (base_and fs) → mask < 2 ^ length fs → rest ≡ other fs mask → IsSplitBy forms b fs mask rest n → IsCutOf forms n.form n.left n.right
   cut_of_split b mask rest fs n e lt r is =
       subst (λ f. IsCutOf forms f n.left n.right) (sym is.form) (mask_cut b mask rest n.left n.right fs e lt r is.left is.right)
 
-  pub splits_begin : (b : ℕ) (nands : List NandFact) → HasSplitsUpTo plain forms b nands → IsSplitting forms b 1 nands
-  splits_begin b nands before = record { before = before; begun = λ fs mask e one lt half. absurd (omega arith) }
+  pub splits_begin : (b : ℕ) (d : Draft) → HasFactsUpTo plain forms b d → IsSplitting forms b 1 d
+  splits_begin b d before = record { before = before; begun = λ fs mask e one lt half. absurd (omega arith) }
 
   -- one more split
-  pub splits_next : (old new : Draft) (b mask rest : ℕ) (fs : List ℕ) → slice_get forms.bases b ≡ Some (base_and fs) → mask < 2 ^ length fs → rest ≡ other fs mask → AddsSplit forms b mask rest old new → IsSplitting forms b mask old.nands → IsSplitting forms b (mask + 1) new.nands
-  splits_next old new b mask rest fs e lt r adds so_far = subst (λ (d : Draft). IsSplitting forms b (mask + 1) d.nands) (sym adds.added) (record {
-    before = up_to_more plain old.nands adds.fact b (cut_of_split b mask rest fs adds.fact e lt r (adds.is fs e)) so_far.before;
+  pub splits_next : (old new : Draft) (b mask rest : ℕ) (fs : List ℕ) → slice_get forms.bases b ≡ Some (base_and fs) → mask < 2 ^ length fs → rest ≡ other fs mask → AddsSplit forms b mask rest old new → IsSplitting forms b mask old → IsSplitting forms b (mask + 1) new
+  splits_next old new b mask rest fs e lt r adds so_far = subst (IsSplitting forms b (mask + 1)) (sym adds.added) (record {
+    before = facts_more plain old adds.fact b (cut_of_split b mask rest fs adds.fact e lt r (adds.is fs e)) so_far.before;
     begun = λ hs m at one below half. by_place hs m at one half (dec_lt m mask) below;
   }) where
     by_place : (hs : List ℕ) (m : ℕ) → slice_get forms.bases b ≡ Some (base_and hs) → 1 ≤ m → m < 2 ^ (length hs - 1) → Dec (m < mask) → m < mask + 1 → HasSplit forms (old.nands ++ adds.fact ∷ []) b hs m (other hs m)
@@ -186,18 +203,18 @@ module _ (forms : NumberedForms) (are : AreForms forms) where
         let rest_is : rest ≡ other hs mask = subst (λ l. rest ≡ other l mask) (same_operands (slice_get forms.bases b) fs hs e at) r in
         subst (λ k. HasSplit forms (old.nands ++ adds.fact ∷ []) b hs k (other hs k)) same (adds.fact, Contains-push old.nands adds.fact, subst (λ k. IsSplitBy forms b hs mask k adds.fact) rest_is is)
 
-  pub splits_end : (b bound : ℕ) (fs : List ℕ) (nands : List NandFact) → slice_get forms.bases b ≡ Some (base_and fs) → 2 ^ (length fs - 1) ≤ bound → IsSplitting forms b bound nands → HasSplitsUpTo plain forms (b + 1) nands
-  splits_end b bound fs nands e le so_far = up_to_next plain nands b (λ hs m at one half. there hs m at one half) so_far.before where
-    there : (hs : List ℕ) (m : ℕ) → slice_get forms.bases b ≡ Some (base_and hs) → 1 ≤ m → m < 2 ^ (length hs - 1) → HasSplit forms nands b hs m (other hs m)
+  pub splits_end : (b bound : ℕ) (fs : List ℕ) (d : Draft) → slice_get forms.bases b ≡ Some (base_and fs) → 2 ^ (length fs - 1) ≤ bound → IsSplitting forms b bound d → HasFactsUpTo plain forms (b + 1) d
+  splits_end b bound fs d e le so_far = facts_next plain d b (λ hs m at one half. there hs m at one half) so_far.before where
+    there : (hs : List ℕ) (m : ℕ) → slice_get forms.bases b ≡ Some (base_and hs) → 1 ≤ m → m < 2 ^ (length hs - 1) → HasSplit forms d.nands b hs m (other hs m)
     there hs m at one half =
         let l = ap length (same_operands (slice_get forms.bases b) fs hs e at) in
         let top = subst (λ k. 2 ^ (k - 1) ≤ bound) l le in
         so_far.begun hs m at one (omega arith) half
 
   -- a base form that is no And has no splits
-  pub splits_none : (b : ℕ) (base : Base) (nands : List NandFact) → slice_get forms.bases b ≡ Some base → ((fs : List ℕ) → base ≡ base_and fs → ⊥) → HasSplitsUpTo plain forms b nands → HasSplitsUpTo plain forms (b + 1) nands
-  splits_none b base nands e ne so_far =
-      up_to_next plain nands b (λ hs m at one half. absurd (ne hs (same_place (slice_get forms.bases b) base (base_and hs) e at))) so_far
+  pub splits_none : (b : ℕ) (base : Base) (d : Draft) → slice_get forms.bases b ≡ Some base → ((fs : List ℕ) → base ≡ base_and fs → ⊥) → HasFactsUpTo plain forms b d → HasFactsUpTo plain forms (b + 1) d
+  splits_none b base d e ne so_far =
+      facts_next plain d b (λ hs m at one half. absurd (ne hs (same_place (slice_get forms.bases b) base (base_and hs) e at))) so_far
 
   abbrev link_of : ℕ → ℕ → FormLink
   link_of f h = record { left = f; right = h }
@@ -245,13 +262,16 @@ nands_both old mid new a b = record { inputs = b.inputs ∙ a.inputs; samples = 
 pub links_by_one : (old mid new : Draft) (l : FormLink) → AddsLinks old mid → new ≡ with_link mid l → AddsLinks old new
 links_by_one old mid new l adds e = subst (AddsLinks old) (sym e) (record { inputs = adds.inputs; samples = adds.samples; nands = adds.nands })
 
-pub no_splits_yet : (mode : Mode) (forms : NumberedForms) (nands : List NandFact) → nands ≡ [] → HasSplitsUpTo mode forms 0 nands
+no_splits_yet : (mode : Mode) (forms : NumberedForms) (nands : List NandFact) → nands ≡ [] → HasSplitsUpTo mode forms 0 nands
 no_splits_yet mode forms nands e = subst (HasSplitsUpTo mode forms 0) (sym e) (record {
   are = λ n c. absurd (no_facts n c);
   all = λ a lt. absurd (omega arith);
 }) where
   no_facts : (n : NandFact) → Contains [] n → ⊥
   no_facts n (x, lt, e) = absurd (omega arith)
+
+pub no_facts_yet : (mode : Mode) (forms : NumberedForms) (d : Draft) → HasBases forms (length forms.bases) d → d.nands ≡ [] → HasFactsUpTo mode forms 0 d
+no_facts_yet mode forms d bases e = record { bases = bases; splits = no_splits_yet mode forms d.nands e }
 
 pub no_links_yet : (forms : NumberedForms) (links : List FormLink) → links ≡ [] → HasLinksUpTo forms 0 links
 no_links_yet forms links e = subst (HasLinksUpTo forms 0) (sym e) (record {

@@ -1,5 +1,5 @@
 -- The operands of a mask are those of a mask with one bit more, less one.
-use Rattle.std.proofs.Common.{◌≡◌, ◌+◌, ◌-◌, ◌*◌, ◌/◌, ◌%◌, ◌^◌, ◌==◌, ◌<◌, ◌≤◌, ℕ, zero, suc, if◌then◌else◌, List, [], ◌∷◌, length, Some, slice_get, slice_index, slice_set, refl, ap, sym, ◌∙◌, subst, arith, pow-suc, get_or-set_same, get_or-set_other}
+use Rattle.std.proofs.Common.{◌≡◌, ◌+◌, ◌-◌, ◌*◌, ◌/◌, ◌%◌, ◌^◌, ◌==◌, ◌<◌, ◌≤◌, ℕ, zero, suc, if◌then◌else◌, List, [], ◌∷◌, length, Some, slice_get, slice_index, slice_set, refl, ap, sym, ◌∙◌, subst, arith, length-set, pow-suc, get_or-set_same, get_or-set_other}
 use native.Mathlib.Decide.{ℕ_discrete, dec_lt}
 use Rattle.std.proofs.Math.Pow.{pow-lt, pow_mono}
 use Rattle.std.proofs.lemmas.Option.{slice_get_within}
@@ -117,7 +117,7 @@ module _ (forms : NumberedForms) (are : AreForms forms) (drops : List ℕ) (has 
   more = slice_index parts (mask + 2 ^ place)
 
   more_is : IsPart forms hs more
-  more_is = higher fs (mask + 2 ^ place) e (let s = some_pow place in omega arith) above
+  more_is = higher.each fs (mask + 2 ^ place) e (let s = some_pow place in omega arith) above
 
   place_in : place < length hs
   place_in = place_within fs mask place u above
@@ -141,33 +141,42 @@ module _ (forms : NumberedForms) (are : AreForms forms) (drops : List ℕ) (has 
       let (a, d, f) = part_and forms hs more two more_is in
       let l = slice_get_within forms.bases a (base_and hs) d in
       let h : a ≡ more / 2 = omega arith in
-      subst (λ k. IsPart forms (picked fs mask) (slice_index drops (8 * k + place))) h (subst (λ l. IsPart forms l (slice_index drops (8 * a + place))) (sym (picked_less fs mask place u)) (has a hs place l d place_in))
+      subst (λ k. IsPart forms (picked fs mask) (slice_index drops (8 * k + place))) h (subst (λ l. IsPart forms l (slice_index drops (8 * a + place))) (sym (picked_less fs mask place u)) (has.each a hs place l d place_in))
 
   pub parts_more : (x : ℕ) → x ≡ slice_index drops (8 * (more / 2) + place) → mask < length parts → HasParts forms b mask (slice_set parts mask x)
-  parts_more x is in' gs m d le lm = by_mask (ℕ_discrete m mask)
+  parts_more x is in' = record { within = higher.within; size = length-set parts mask x ∙ higher.size; each = λ gs m d le lm. by_mask gs m d le lm (ℕ_discrete m mask) }
     where
-      by_mask : Dec (m ≡ mask) → IsPart forms (picked gs m) (slice_index (slice_set parts mask x) m)
-      by_mask (yes s) =
+      by_mask : (gs : List ℕ) (m : ℕ) → slice_get forms.bases b ≡ Some (base_and gs) → mask ≤ m → m < 2 ^ length gs → Dec (m ≡ mask) → IsPart forms (picked gs m) (slice_index (slice_set parts mask x) m)
+      by_mask gs m d le lm (yes s) =
           let g : fs ≡ gs = same_operands forms b fs gs e d in
           let at : x ≡ slice_index (slice_set parts mask x) m = sym (ap (slice_index (slice_set parts mask x)) s ∙ get_or-set_same parts mask x 0 in') in
           subst (IsPart forms (picked gs m)) at (subst (λ k. IsPart forms (picked gs k) x) (sym s) (subst (λ l. IsPart forms (picked l mask) x) g (subst (IsPart forms (picked fs mask)) (sym is) less_is)))
-      by_mask (no ne) =
-          subst (IsPart forms (picked gs m)) (sym (get_or-set_other parts mask m x 0 ne)) (higher gs m d (omega arith) lm)
+      by_mask gs m d le lm (no ne) =
+          subst (IsPart forms (picked gs m)) (sym (get_or-set_other parts mask m x 0 ne)) (higher.each gs m d (omega arith) lm)
 
 -- the part of all operands
-pub whole_parts : (forms : NumberedForms) → AreForms forms → (b all : ℕ) (ids parts : List ℕ) → slice_get forms.bases b ≡ Some (base_and ids) → all + 1 ≡ 2 ^ length ids → all < length parts → HasParts forms b all (slice_set parts all (2 * b))
-whole_parts forms are b all ids parts e n in' fs m d le lt =
-    let same = same_operands forms b ids fs e d in
-    let k = ap (λ l. 2 ^ length l) same in
-    let s : m ≡ all = omega arith in
-    let t : all ≡ 2 ^ length fs - 1 = omega arith in
-    let p : IsPart forms (picked fs m) (2 * b) = subst (λ l. IsPart forms l (2 * b)) (sym (ap (picked fs) (s ∙ t) ∙ picked_all fs)) (whole fs (are.operands b fs d).two d) in
-    subst (IsPart forms (picked fs m)) (sym (ap (slice_index (slice_set parts all (2 * b))) s ∙ get_or-set_same parts all (2 * b) 0 in')) p
-  where
-    whole : (hs : List ℕ) → 2 ≤ length hs → slice_get forms.bases b ≡ Some (base_and hs) → IsPart forms hs (2 * b)
-    whole [] two g = absurd (omega arith)
-    whole (f ∷ []) two g = absurd (omega arith)
-    whole (f ∷ h ∷ hs) two g = (b, g, refl)
+pub whole_parts : (forms : NumberedForms) → AreForms forms → (b all : ℕ) (ids parts : List ℕ) → slice_get forms.bases b ≡ Some (base_and ids) → all + 1 ≡ 2 ^ length ids → all < 256 → length parts ≡ 256 → HasParts forms b all (slice_set parts all (2 * b))
+whole_parts forms are b all ids parts e n few size = record {
+  within = slice_get_within forms.bases b (base_and ids) e;
+  size = length-set parts all (2 * b) ∙ size;
+  each = each;
+} where
+  in' : all < length parts
+  in' = omega arith
+
+  each : (fs : List ℕ) (m : ℕ) → slice_get forms.bases b ≡ Some (base_and fs) → all ≤ m → m < 2 ^ length fs → IsPart forms (picked fs m) (slice_index (slice_set parts all (2 * b)) m)
+  each fs m d le lt =
+      let same = same_operands forms b ids fs e d in
+      let k = ap (λ l. 2 ^ length l) same in
+      let s : m ≡ all = omega arith in
+      let t : all ≡ 2 ^ length fs - 1 = omega arith in
+      let p : IsPart forms (picked fs m) (2 * b) = subst (λ l. IsPart forms l (2 * b)) (sym (ap (picked fs) (s ∙ t) ∙ picked_all fs)) (whole fs (are.operands b fs d).two d) in
+      subst (IsPart forms (picked fs m)) (sym (ap (slice_index (slice_set parts all (2 * b))) s ∙ get_or-set_same parts all (2 * b) 0 in')) p
+    where
+      whole : (hs : List ℕ) → 2 ≤ length hs → slice_get forms.bases b ≡ Some (base_and hs) → IsPart forms hs (2 * b)
+      whole [] two g = absurd (omega arith)
+      whole (f ∷ []) two g = absurd (omega arith)
+      whole (f ∷ h ∷ hs) two g = (b, g, refl)
 
 pub twice_half : (k n half : ℕ) → 1 ≤ k → n ≡ k → half ≡ 2 ^ (n - 1) → 2 * half - 1 + 1 ≡ 2 ^ k
 twice_half k n half some e h = by_count k some (subst (λ j. half ≡ 2 ^ (j - 1)) e h)
@@ -188,9 +197,11 @@ twice k n half two e h place lt =
 
 module _ (forms : NumberedForms) (are : AreForms forms) (b : ℕ) (ids : List ℕ) (e : slice_get forms.bases b ≡ Some (base_and ids)) (drops : List ℕ) (place x : ℕ) (lt : place < length ids) (in' : 8 * b + place < length drops) where
   pub drops_before : HasDrops forms b drops → HasDrops forms b (slice_set drops (8 * b + place) x)
-  drops_before has a fs q l d lq =
-      let few = (are.operands a fs d).few in
-      subst (IsPart forms (without fs q)) (sym (get_or-set_other drops (8 * b + place) (8 * a + q) x 0 (λ s. omega arith))) (has a fs q l d lq)
+  drops_before has = record { size = length-set drops (8 * b + place) x ∙ has.size; each = each } where
+    each : (a : ℕ) (fs : List ℕ) (q : ℕ) → a < b → slice_get forms.bases a ≡ Some (base_and fs) → q < length fs → IsPart forms (without fs q) (slice_index (slice_set drops (8 * b + place) x) (8 * a + q))
+    each a fs q l d lq =
+        let few = (are.operands a fs d).few in
+        subst (IsPart forms (without fs q)) (sym (get_or-set_other drops (8 * b + place) (8 * a + q) x 0 (λ s. omega arith))) (has.each a fs q l d lq)
 
   pub drops_more : ((fs : List ℕ) (q : ℕ) → slice_get forms.bases b ≡ Some (base_and fs) → q < place → IsPart forms (without fs q) (slice_index drops (8 * b + q))) → IsPart forms (picked ids (2 ^ length ids - 1 - 2 ^ place)) x → (fs : List ℕ) (q : ℕ) → slice_get forms.bases b ≡ Some (base_and fs) → q < place + 1 → IsPart forms (without fs q) (slice_index (slice_set drops (8 * b + place) x) (8 * b + q))
   drops_more so_far is fs q d lq = by_place (ℕ_discrete q place)

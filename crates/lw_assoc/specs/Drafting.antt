@@ -8,6 +8,7 @@ use Rattle.lw_laws.specs.NumberedForms.Base.{base_and}
 use Rattle.lw_laws.specs.NumberedValues.{AreNumberedValues}
 use Rattle.lw_laws.specs.Drafts.{Draft, NandFact, FormLink}
 use Rattle.lw_form.specs.Bases.{picked}
+use Rattle.lw_form.specs.Kept.{HasPart}
 
 -- the draft of true and the inputs alone
 abbrev pub first_draft : ℕ → Draft
@@ -42,10 +43,11 @@ abbrev pub HasSplit : NumberedForms → List NandFact → ℕ → List ℕ → �
 HasSplit forms nands b fs mask rest =
     (n : NandFact) × Contains nands n × IsSplitBy forms b fs mask rest n
 
--- the parts of two masks make a split in some mode
-abbrev pub MakeSplit : NumberedForms → ℕ → ℕ → ℕ → Type 0
-MakeSplit forms b mask rest =
-    (fs : List ℕ) (x y : ℕ) → slice_get forms.bases b ≡ Some (base_and fs) → IsPart forms (picked fs mask) x → IsPart forms (picked fs rest) y → IsSplitOf idempotent forms (2 * b + 1) x y
+-- two masks are of parts of And b, and these make a split in some mode
+pub record MakeSplit (forms : NumberedForms) (b mask rest : ℕ) : Type 0 where
+  pub left : HasPart forms b mask
+  pub right : HasPart forms b rest
+  pub is : (fs : List ℕ) (x y : ℕ) → slice_get forms.bases b ≡ Some (base_and fs) → IsPart forms (picked fs mask) x → IsPart forms (picked fs rest) y → IsSplitOf idempotent forms (2 * b + 1) x y
 
 -- Unordered splits are made by the masks that leave the last operand out; those below the bound are there.
 abbrev pub HasSplitsBelow : NumberedForms → List NandFact → ℕ → ℕ → Type 0
@@ -86,17 +88,6 @@ pub record HasSplitsUpTo (mode : Mode) (forms : NumberedForms) (b : ℕ) (nands 
   pub are : AreSplits mode forms nands
   pub all : (a : ℕ) → a < b → HasSplits mode forms nands a
 
--- with them those of base form b whose mask is below the bound
-pub record IsSplitting (forms : NumberedForms) (b bound : ℕ) (nands : List NandFact) : Type 0 where
-  pub before : HasSplitsUpTo plain forms b nands
-  pub begun : HasSplitsBelow forms nands b bound
-
--- with them those of base form b whose masks are before the bounds
-pub record IsOverlapping (forms : NumberedForms) (b low high : ℕ) (nands : List NandFact) : Type 0 where
-  pub before : HasSplitsUpTo idempotent forms b nands
-  pub twice : HasTwice nands b
-  pub begun : HasOverlapsBelow forms nands b low high
-
 -- the two forms of the first s signals are linked, and no others
 pub record HasLinksUpTo (forms : NumberedForms) (s : ℕ) (links : List FormLink) : Type 0 where
   pub are : (l : FormLink) → Contains links l → IsSignal forms l.left l.right
@@ -112,6 +103,28 @@ pub record HasBases (forms : NumberedForms) (n : ℕ) (d : Draft) : Type 0 where
   pub inputs : d.inputs ≡ forms.inputs
   pub count : length d.samples ≡ n
   pub samples : HasSamples forms d.samples
+
+-- the draft has all base forms, and the facts of the first b
+pub record HasFactsUpTo (mode : Mode) (forms : NumberedForms) (b : ℕ) (d : Draft) : Type 0 where
+  pub bases : HasBases forms (length forms.bases) d
+  pub splits : HasSplitsUpTo mode forms b d.nands
+
+-- with them those of base form b whose mask is below the bound
+pub record IsSplitting (forms : NumberedForms) (b bound : ℕ) (d : Draft) : Type 0 where
+  pub before : HasFactsUpTo plain forms b d
+  pub begun : HasSplitsBelow forms d.nands b bound
+
+-- with them those of base form b whose masks are before the bounds
+pub record IsOverlapping (forms : NumberedForms) (b low high : ℕ) (d : Draft) : Type 0 where
+  pub before : HasFactsUpTo idempotent forms b d
+  pub twice : HasTwice d.nands b
+  pub begun : HasOverlapsBelow forms d.nands b low high
+
+-- a mask of a part of And b that is below the mask of all its operands
+pub record IsMaskBelow (forms : NumberedForms) (b mask whole : ℕ) : Type 0 where
+  pub has : HasPart forms b mask
+  pub less : mask < whole
+  pub all : (fs : List ℕ) → slice_get forms.bases b ≡ Some (base_and fs) → whole ≡ 2 ^ length fs - 1
 
 -- only base forms were added
 pub record AddsBases (old new : Draft) : Type 0 where

@@ -15,12 +15,13 @@ abbrev pub IsFirstUnset : ℕ → ℕ → Type 0
 IsFirstUnset mask zero = mask % 2 ≡ 0
 IsFirstUnset mask (suc place) = (mask % 2 ≡ 1) × IsFirstUnset (mask / 2) place
 
--- the Ands of all operands but one of the first n base forms
-abbrev pub HasDrops : NumberedForms → ℕ → List ℕ → Type 0
-HasDrops forms n drops =
-    (a : ℕ) (fs : List ℕ) (place : ℕ) → a < n → slice_get forms.bases a ≡ Some (base_and fs) → place < length fs → IsPart forms (without fs place) (slice_index drops (8 * a + place))
+-- a table with eight places for each base form has the Ands of all operands but one of the first n
+pub record HasDrops (forms : NumberedForms) (n : ℕ) (drops : List ℕ) : Type 0 where
+  pub size : length drops ≡ 8 * length forms.bases
+  pub each : (a : ℕ) (fs : List ℕ) (place : ℕ) → a < n → slice_get forms.bases a ≡ Some (base_and fs) → place < length fs → IsPart forms (without fs place) (slice_index drops (8 * a + place))
 
--- the parts of And b by their masks, from a lowest one on
-abbrev pub HasParts : NumberedForms → ℕ → ℕ → List ℕ → Type 0
-HasParts forms b low parts =
-    (fs : List ℕ) (mask : ℕ) → slice_get forms.bases b ≡ Some (base_and fs) → low ≤ mask → mask < 2 ^ length fs → IsPart forms (picked fs mask) (slice_index parts mask)
+-- a table by masks has the parts of base form b, if that is an And, from a lowest mask on
+pub record HasParts (forms : NumberedForms) (b low : ℕ) (parts : List ℕ) : Type 0 where
+  pub within : b < length forms.bases
+  pub size : length parts ≡ 256
+  pub each : (fs : List ℕ) (mask : ℕ) → slice_get forms.bases b ≡ Some (base_and fs) → low ≤ mask → mask < 2 ^ length fs → IsPart forms (picked fs mask) (slice_index parts mask)

@@ -1,8 +1,7 @@
 // The draft of all splits and links of listed forms.
-ghost use Rattle.std.specs.Prelude.{◌≡◌, ◌+◌, ◌*◌, ◌<◌, length, OnOk, IfOk};
+ghost use Rattle.std.specs.Prelude.{◌≡◌, ◌+◌, ◌*◌, length, OnOk, IfOk};
 ghost use Rattle.lw_laws.specs.Modes.Mode.{plain};
-ghost use Rattle.lw_form.specs.Kept.{AreForms, HasPart};
-ghost use Rattle.lw_assoc.specs.Drafting.{AddsBases, AddsLinks, AddsNands, AddsSplit, HasBases, HasLinksUpTo, HasSplitsUpTo, IsDraftOf, MakeSplit};
+ghost use Rattle.lw_assoc.specs.Drafting.{AddsBases, AddsLinks, AddsNands, AddsSplit, HasBases, HasFactsUpTo, HasLinksUpTo, IsDraftOf, MakeSplit};
 ghost use Rattle.lw_assoc.specs.Modes.{law_mode};
 ghost use Rattle.lw_assoc.specs.Parts.{HasDrops, HasParts};
 
@@ -38,15 +37,12 @@ pub(crate) fn add_split(
     mask: u32,
     rest: u32,
 ) -> Result<(), AllocError>
-    requires forms { AreForms forms.now }
     requires bases { HasBases forms.now (length forms.now.bases) draft.old }
-    requires left { HasPart forms.now b mask }
-    requires right { HasPart forms.now b rest }
-    requires size { length parts.now ≡ 256 }
     requires parts { HasParts forms.now b 1 parts.now }
     requires split { MakeSplit forms.now b mask rest }
     ensures { OnOk result (AddsSplit forms.now b mask rest draft.old draft.new) }
 {
+    let _ = forms.inputs();
     if draft.is_full() {
         return Err(AllocError);
     }
@@ -58,12 +54,9 @@ pub(crate) fn add_split(
 // Adds the splits of a base form, of which an And alone has some. The last operand stands in the
 // second part.
 fn add_splits(draft: &mut Draft, forms: &Forms, parts: &[u32], b: u32) -> Result<(), AllocError>
-    requires within { b < length forms.now.bases }
-    requires size { length parts.now ≡ 256 }
     requires parts { HasParts forms.now b 1 parts.now }
-    requires bases { HasBases forms.now (length forms.now.bases) draft.old }
-    requires before { HasSplitsUpTo plain forms.now b draft.old.nands }
-    ensures splits { OnOk result (HasSplitsUpTo plain forms.now (b + 1) draft.new.nands) }
+    requires before { HasFactsUpTo plain forms.now b draft.old }
+    ensures facts { OnOk result (HasFactsUpTo plain forms.now (b + 1) draft.new) }
     ensures kept { OnOk result (AddsNands draft.old draft.new) }
 {
     let Base::And(ids) = forms.base(b) else {
@@ -85,13 +78,9 @@ fn add_base(
     b: u32,
     mode: Mode,
 ) -> Result<(), AllocError>
-    requires within { b < length forms.now.bases }
-    requires size { length parts.now ≡ 256 }
     requires parts { HasParts forms.now b 1 parts.now }
-    requires forms { AreForms forms.now }
-    requires bases { HasBases forms.now (length forms.now.bases) draft.old }
-    requires before { HasSplitsUpTo (law_mode mode) forms.now b draft.old.nands }
-    ensures splits { OnOk result (HasSplitsUpTo (law_mode mode) forms.now (b + 1) draft.new.nands) }
+    requires before { HasFactsUpTo (law_mode mode) forms.now b draft.old }
+    ensures facts { OnOk result (HasFactsUpTo (law_mode mode) forms.now (b + 1) draft.new) }
     ensures kept { OnOk result (AddsNands draft.old draft.new) }
 {
     match mode {
@@ -108,13 +97,11 @@ fn add_all_splits(
     drops: &[u32],
     mode: Mode,
 ) -> Result<(), AllocError>
-    requires bases { HasBases forms.now (length forms.now.bases) draft.old }
     requires size { length parts.old ≡ 256 }
-    requires drops_size { length drops.now ≡ 8 * length forms.now.bases }
     requires drops { HasDrops forms.now (length forms.now.bases) drops.now }
-    requires none { HasSplitsUpTo (law_mode mode) forms.now 0 draft.old.nands }
-    ensures splits { OnOk result (HasSplitsUpTo (law_mode mode) forms.now
-        (length forms.now.bases) draft.new.nands) }
+    requires none { HasFactsUpTo (law_mode mode) forms.now 0 draft.old }
+    ensures facts { OnOk result (HasFactsUpTo (law_mode mode) forms.now
+        (length forms.now.bases) draft.new) }
     ensures kept { OnOk result (AddsNands draft.old draft.new) }
 {
     for b in 0..forms.len() {
@@ -131,10 +118,9 @@ fn find_splits(
     forms: &Forms,
     mode: Mode,
 ) -> Result<(), AllocError>
-    requires bases { HasBases forms.now (length forms.now.bases) draft.old }
-    requires none { HasSplitsUpTo (law_mode mode) forms.now 0 draft.old.nands }
-    ensures splits { OnOk result (HasSplitsUpTo (law_mode mode) forms.now
-        (length forms.now.bases) draft.new.nands) }
+    requires { HasFactsUpTo (law_mode mode) forms.now 0 draft.old }
+    ensures facts { OnOk result (HasFactsUpTo (law_mode mode) forms.now
+        (length forms.now.bases) draft.new) }
     ensures kept { OnOk result (AddsNands draft.old draft.new) }
 {
     let drops = drops_of(alloc, forms)?;

@@ -20,10 +20,8 @@ pub(crate) fn bit(place: usize) -> u32
 // Puts, for each operand of a base form, the And of the others. An And alone has some.
 fn put_drops(drops: &mut [u32], forms: &Forms, b: u32)
     requires within { b < length forms.now.bases }
-    requires size { length drops.old ≡ 8 * length forms.now.bases }
     requires before { HasDrops forms.now b drops.old }
-    ensures size { length drops.new ≡ length drops.old }
-    ensures drops { HasDrops forms.now (b + 1) drops.new }
+    ensures { HasDrops forms.now (b + 1) drops.new }
 {
     let Base::And(ids) = forms.base(b) else {
         return;
@@ -38,8 +36,7 @@ fn put_drops(drops: &mut [u32], forms: &Forms, b: u32)
 // Puts them for all base forms.
 fn put_all_drops(drops: &mut [u32], forms: &Forms)
     requires { length drops.old ≡ 8 * length forms.now.bases }
-    ensures size { length drops.new ≡ length drops.old }
-    ensures drops { HasDrops forms.now (length forms.now.bases) drops.new }
+    ensures { HasDrops forms.now (length forms.now.bases) drops.new }
 {
     for b in 0..forms.len() {
         put_drops(drops, forms, b);
@@ -48,8 +45,7 @@ fn put_all_drops(drops: &mut [u32], forms: &Forms)
 
 // The Ands of all operands but one: at 8b + k that without the operand of And b at place k.
 pub(crate) fn drops_of(alloc: Global, forms: &Forms) -> Result<Vec<u32>, AllocError>
-    ensures size { IfOk result (λ drops. length drops.items ≡ 8 * length forms.now.bases) }
-    ensures drops { IfOk result (λ drops. HasDrops forms.now (length forms.now.bases) drops.items) }
+    ensures { IfOk result (λ drops. HasDrops forms.now (length forms.now.bases) drops.items) }
 {
     let mut drops = vec![in alloc; 0; PLACES * forms.len() as usize]?;
     put_all_drops(&mut drops, forms);

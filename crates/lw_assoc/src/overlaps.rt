@@ -1,10 +1,8 @@
 // The facts of the further mode: pairs of different parts of an And that together have each
 // operand, and each form by its complement twice.
-ghost use Rattle.std.specs.Prelude.{◌≡◌, ◌+◌, ◌-◌, ◌/◌, ◌^◌, ◌<◌, ◌≤◌, ℕ, List, Some, slice_get, length, OnOk};
+ghost use Rattle.std.specs.Prelude.{◌+◌, ◌/◌, ◌<◌, ◌≤◌, length, OnOk};
 ghost use Rattle.lw_laws.specs.Modes.Mode.{idempotent};
-ghost use Rattle.lw_laws.specs.NumberedForms.Base.{base_and};
-ghost use Rattle.lw_form.specs.Kept.{AreForms, HasPart};
-ghost use Rattle.lw_assoc.specs.Drafting.{AddsInverter, AddsNands, HasBases, HasSplitsUpTo, IsOverlapping};
+ghost use Rattle.lw_assoc.specs.Drafting.{AddsInverter, AddsNands, HasBases, HasFactsUpTo, IsMaskBelow, IsOverlapping};
 ghost use Rattle.lw_assoc.specs.Parts.{HasParts};
 
 use crate::drafting::add_split;
@@ -24,19 +22,14 @@ fn add_overlap(
     right: u32,
     all: u32,
 ) -> Result<(), AllocError>
-    requires forms { AreForms forms.now }
-    requires size { length parts.now ≡ 256 }
     requires parts { HasParts forms.now b 1 parts.now }
-    requires bases { HasBases forms.now (length forms.now.bases) draft.old }
-    requires left { HasPart forms.now b left }
-    requires right { HasPart forms.now b right }
-    requires less { left < right }
-    requires all { (fs : List ℕ) → slice_get forms.now.bases b ≡ Some (base_and fs) →
-        all ≡ 2 ^ length fs - 1 }
-    requires before { IsOverlapping forms.now b left right draft.old.nands }
-    ensures splits { OnOk result (IsOverlapping forms.now b left (right + 1) draft.new.nands) }
+    requires left { IsMaskBelow forms.now b left all }
+    requires right { (left < right) × (right ≤ all) }
+    requires before { IsOverlapping forms.now b left right draft.old }
+    ensures so_far { OnOk result (IsOverlapping forms.now b left (right + 1) draft.new) }
     ensures kept { OnOk result (AddsNands draft.old draft.new) }
 {
+    let _ = forms.inputs();
     if left | right != all {
         return Ok(());
     }
@@ -53,17 +46,11 @@ fn add_overlaps_with(
     left: u32,
     all: u32,
 ) -> Result<(), AllocError>
-    requires forms { AreForms forms.now }
-    requires size { length parts.now ≡ 256 }
     requires parts { HasParts forms.now b 1 parts.now }
-    requires bases { HasBases forms.now (length forms.now.bases) draft.old }
-    requires left { HasPart forms.now b left }
-    requires less { left < all }
+    requires left { IsMaskBelow forms.now b left all }
     requires few { all ≤ 255 }
-    requires all { (fs : List ℕ) → slice_get forms.now.bases b ≡ Some (base_and fs) →
-        all ≡ 2 ^ length fs - 1 }
-    requires before { IsOverlapping forms.now b left 0 draft.old.nands }
-    ensures splits { OnOk result (IsOverlapping forms.now b (left + 1) 0 draft.new.nands) }
+    requires before { IsOverlapping forms.now b left 0 draft.old }
+    ensures so_far { OnOk result (IsOverlapping forms.now b (left + 1) 0 draft.new) }
     ensures kept { OnOk result (AddsNands draft.old draft.new) }
 {
     for right in left + 1..all + 1 {
@@ -74,12 +61,9 @@ fn add_overlaps_with(
 
 // Adds the facts of all two parts of a base form, of which an And alone has some.
 fn add_overlaps(draft: &mut Draft, forms: &Forms, parts: &[u32], b: u32) -> Result<(), AllocError>
-    requires within { b < length forms.now.bases }
-    requires size { length parts.now ≡ 256 }
     requires parts { HasParts forms.now b 1 parts.now }
-    requires bases { HasBases forms.now (length forms.now.bases) draft.old }
-    requires before { IsOverlapping forms.now b 0 0 draft.old.nands }
-    ensures splits { OnOk result (HasSplitsUpTo idempotent forms.now (b + 1) draft.new.nands) }
+    requires before { IsOverlapping forms.now b 0 0 draft.old }
+    ensures facts { OnOk result (HasFactsUpTo idempotent forms.now (b + 1) draft.new) }
     ensures kept { OnOk result (AddsNands draft.old draft.new) }
 {
     let Base::And(ids) = forms.base(b) else {
@@ -95,10 +79,10 @@ fn add_overlaps(draft: &mut Draft, forms: &Forms, parts: &[u32], b: u32) -> Resu
 // Adds the fact that a form is the NAND of its complement twice.
 fn add_inverter(draft: &mut Draft, forms: &Forms, form: FormId) -> Result<(), AllocError>
     requires within { form.0 / 2 < length forms.now.bases }
-    requires forms { AreForms forms.now }
     requires bases { HasBases forms.now (length forms.now.bases) draft.old }
     ensures { OnOk result (AddsInverter form.0 draft.old draft.new) }
 {
+    let _ = forms.inputs();
     if draft.is_full() {
         return Err(AllocError);
     }
@@ -109,12 +93,11 @@ fn add_inverter(draft: &mut Draft, forms: &Forms, form: FormId) -> Result<(), Al
 // Adds the facts that a base form and its complement are each the NAND of the other one twice.
 fn add_inverters(draft: &mut Draft, forms: &Forms, b: u32) -> Result<(), AllocError>
     requires within { b < length forms.now.bases }
-    requires forms { AreForms forms.now }
-    requires bases { HasBases forms.now (length forms.now.bases) draft.old }
-    requires before { HasSplitsUpTo idempotent forms.now b draft.old.nands }
-    ensures splits { OnOk result (IsOverlapping forms.now b 0 0 draft.new.nands) }
+    requires before { HasFactsUpTo idempotent forms.now b draft.old }
+    ensures so_far { OnOk result (IsOverlapping forms.now b 0 0 draft.new) }
     ensures kept { OnOk result (AddsNands draft.old draft.new) }
 {
+    let _ = forms.inputs();
     add_inverter(draft, forms, FormId(2 * b))?;
     add_inverter(draft, forms, FormId(2 * b + 1))?;
     Ok(())
@@ -127,13 +110,9 @@ pub(crate) fn add_further(
     parts: &[u32],
     b: u32,
 ) -> Result<(), AllocError>
-    requires within { b < length forms.now.bases }
-    requires size { length parts.now ≡ 256 }
     requires parts { HasParts forms.now b 1 parts.now }
-    requires forms { AreForms forms.now }
-    requires bases { HasBases forms.now (length forms.now.bases) draft.old }
-    requires before { HasSplitsUpTo idempotent forms.now b draft.old.nands }
-    ensures splits { OnOk result (HasSplitsUpTo idempotent forms.now (b + 1) draft.new.nands) }
+    requires before { HasFactsUpTo idempotent forms.now b draft.old }
+    ensures facts { OnOk result (HasFactsUpTo idempotent forms.now (b + 1) draft.new) }
     ensures kept { OnOk result (AddsNands draft.old draft.new) }
 {
     add_inverters(draft, forms, b)?;

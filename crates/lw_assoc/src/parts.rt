@@ -1,7 +1,7 @@
 // The parts of an And by their masks, each found from one with an operand more.
-ghost use Rattle.std.specs.Prelude.{◌≡◌, ◌+◌, ◌*◌, ◌^◌, ◌<◌, ◌≤◌, ℕ, List, Some, slice_get, length};
+ghost use Rattle.std.specs.Prelude.{◌≡◌, ◌+◌, ◌^◌, ◌<◌, ◌≤◌, ℕ, List, Some, slice_get, length};
 ghost use Rattle.lw_laws.specs.NumberedForms.Base.{base_and};
-ghost use Rattle.lw_form.specs.Kept.{AreForms, HasPart};
+ghost use Rattle.lw_form.specs.Kept.{HasPart};
 ghost use Rattle.lw_assoc.specs.Parts.{HasDrops, HasParts, IsFirstUnset};
 
 use crate::drops::{PLACES, bit};
@@ -29,16 +29,13 @@ fn first_unset(mask: u32) -> usize
 // Puts the part of a mask, once those of higher masks are there: the one with the lowest further
 // operand, less that operand.
 fn put_part(parts: &mut [u32], forms: &Forms, drops: &[u32], b: u32, mask: u32)
-    requires forms { AreForms forms.now }
     requires has { HasPart forms.now b (mask + 1) }
     requires some { 1 ≤ mask }
-    requires size { length parts.old ≡ 256 }
-    requires drops_size { length drops.now ≡ 8 * length forms.now.bases }
     requires drops { HasDrops forms.now (length forms.now.bases) drops.now }
     requires higher { HasParts forms.now b (mask + 1) parts.old }
-    ensures size { length parts.new ≡ 256 }
-    ensures parts { HasParts forms.now b mask parts.new }
+    ensures { HasParts forms.now b mask parts.new }
 {
+    let _ = forms.inputs();
     let place = first_unset(mask);
     let more = parts[(mask + bit(place)) as usize];
     parts[mask as usize] = drops[PLACES * (more / 2) as usize + place];
@@ -48,10 +45,8 @@ fn put_part(parts: &mut [u32], forms: &Forms, drops: &[u32], b: u32, mask: u32)
 pub(crate) fn put_parts(parts: &mut [u32], forms: &Forms, drops: &[u32], b: u32)
     requires within { b < length forms.now.bases }
     requires size { length parts.old ≡ 256 }
-    requires drops_size { length drops.now ≡ 8 * length forms.now.bases }
     requires drops { HasDrops forms.now (length forms.now.bases) drops.now }
-    ensures size { length parts.new ≡ 256 }
-    ensures parts { HasParts forms.now b 1 parts.new }
+    ensures { HasParts forms.now b 1 parts.new }
 {
     let Base::And(ids) = forms.base(b) else {
         return;

@@ -14,9 +14,10 @@ add_split-requires-clause-split c =
     let two = (c.base.ensures.kept.operands c.args.b ids e).two in
     let lt = half_within (length ids) c.len.result c.half_of-half.result mask (omega arith) c.len.ensures.len c.half_of-half.ensures.half c.loop-mask-test.true in
     let rest = 2 * c.half_of-half.result - 1 - mask in
+    let below = c.loop-mask-test.true in
     let h = twice_half (length ids) c.len.result c.half_of-half.result (omega arith) c.len.ensures.len c.half_of-half.ensures.half in
     let r : rest ≡ other ids mask = omega arith in
-    cuts_make c.args.forms.now c.base.ensures.kept c.args.b mask rest ids e lt r
+    cuts_make c.args.forms.now c.base.ensures.kept c.args.b mask rest ids e c.loop-mask.near-mask lt (omega arith) r
 
 pub loop-mask-preserved : goal.loop-mask-preserved
 loop-mask-preserved c =
@@ -34,11 +35,11 @@ loop-mask-preserved c =
       kept = nands_by_split forms c.args.b l.mask rest c.args.draft.now l.draft c.add_split.new.draft l.invariant.kept c.in_ok-add_split.ensures;
     }
 
-pub returns-clause-splits : goal.returns-clause-splits
-returns-clause-splits c =
+pub returns-clause-facts : goal.returns-clause-facts
+returns-clause-facts c =
     let ids = c.in-And.ids in
     let l = c.loop-mask in
     let e = c.base.ensures.base ∙ ap (λ b. Some (plain_base b)) c.in-And.is in
     let half = c.half_of-half.ensures.half ∙ ap (λ k. 2 ^ (k - 1)) c.len.ensures.len in
     let past = c.loop-mask-test.false in
-    splits_end c.args.forms.now c.base.ensures.kept c.args.b l.mask ids l.draft.nands e (omega arith) l.invariant.so_far
+    splits_end c.args.forms.now c.base.ensures.kept c.args.b l.mask ids l.draft e (omega arith) l.invariant.so_far

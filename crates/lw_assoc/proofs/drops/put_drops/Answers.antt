@@ -1,4 +1,4 @@
-use Rattle.std.proofs.Common.{◌≡◌, ◌+◌, ◌-◌, ◌*◌, ◌^◌, ◌<◌, ◌∙◌, ap, subst, arith, length, length-set, Some}
+use Rattle.std.proofs.Common.{◌≡◌, ◌+◌, ◌-◌, ◌*◌, ◌^◌, ◌<◌, ◌∙◌, ap, subst, arith, length, Some}
 use Rattle.lw_laws.specs.NumberedForms.{IsPart}
 use Rattle.lw_form.specs.Bases.{picked, plain_base}
 use Rattle.lw_assoc.proofs.Dropping.{drops_before, drops_more, twice, twice_half}
@@ -49,13 +49,11 @@ loop-place-preserved c =
     let all = twice_half (length ids) c.len.result c.half_of.result (omega arith) n c.half_of.ensures.half in
     let b = c.bit.ensures in
     let lt : l.place < length ids = omega arith in
-    let s = l.invariant.size in
-    let k = c.requires.size in
+    let s = l.invariant.before.size in
     let w = c.requires.within in
     let in' : 8 * c.args.b + l.place < length l.drops = omega arith in
     let mask : 2 * c.half_of.result - 1 - c.bit.result ≡ 2 ^ length ids - 1 - 2 ^ l.place = omega arith in
     record {
-      size = length-set l.drops (8 * c.args.b + l.place) x ∙ s;
       before = drops_before forms are c.args.b ids e l.drops l.place x lt in' l.invariant.before;
       so_far = drops_more forms are c.args.b ids e l.drops l.place x lt in' l.invariant.so_far (subst (λ k. IsPart forms (picked ids k) x) mask (c.part-others.ensures ids e));
     }

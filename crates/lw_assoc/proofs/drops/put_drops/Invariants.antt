@@ -6,7 +6,6 @@ use Rattle.lw_assoc.proofs.drops.put_drops.Given as goal
 
 abbrev pub invariant-loop-place : goal.invariant-loop-place
 invariant-loop-place l = record {
-  size : length l.drops ≡ length l.fn.drops;
   before : HasDrops l.forms l.b l.drops;
   so_far : (fs : List ℕ) (place : ℕ) → slice_get l.forms.bases l.b ≡ Some (base_and fs) → place < l.place → IsPart l.forms (without fs place) (slice_index l.drops (8 * l.b + place));
 }
