@@ -1,9 +1,10 @@
 -- The least match of a class by the marks of its pins is the chosen one.
-use Rattle.std.proofs.Common.{ℕ, zero, suc, ◌+◌, ◌-◌, ◌^◌, ◌<◌, ◌≤◌, ◌≡◌, List, [], ◌∷◌, Contains, All, IsSome, Option, Some, None, option_map, unwrap_or, slice_index_or, inl, inr, refl, ap, sym, ◌∙◌, subst, arith}
+use Rattle.std.proofs.Common.{ℕ, zero, suc, ◌+◌, ◌-◌, ◌^◌, ◌<◌, ◌≤◌, ◌≡◌, List, [], ◌∷◌, Contains, All, IsSome, length, Option, Some, None, option_map, unwrap_or, slice_index_or, inl, inr, refl, ap, sym, ◌∙◌, subst, arith}
 use mathlib.Core.Path.{fun_ext}
-use Rattle.std.proofs.lemmas.List.Elements.{All-map, All-contains}
+use Rattle.std.proofs.lemmas.List.Elements.{All-map, All-contains, All-weaker}
 use Rattle.std.proofs.lemmas.Option.{none-some, same_Some}
 use Rattle.std.specs.List.{AllByRecursion}
+use Rattle.lw_facts.proofs.Lists.{some_within}
 use Rattle.lw_pool.specs.declared.id.ClassId.{ClassId}
 use Rattle.lw_laws.specs.Graphs.{Graph}
 use Rattle.lw_laws.specs.Costs.{Cost}
@@ -21,7 +22,7 @@ use Rattle.lw_match.specs.Least.{Priced, IsPricedAt, IsLeastMatch, IsLeastBelow,
 use Rattle.lw_match.specs.Picks.{IsLastBefore, AreLastBefore}
 use Rattle.lw_label.specs.Labels.{AreLeastMarks}
 use Rattle.lw_label.proofs.Marked.{label_at, mark_of_label}
-use Rattle.lw_extract.specs.Choosing.{labels, heights, IsChoice}
+use Rattle.lw_extract.specs.Choosing.{labels, heights, AreMarked, IsChoice}
 use Rattle.lw_extract.proofs.ClassNets.{some_of}
 use Rattle.lw_pool.specs.Numbers.{numbers}
 
@@ -58,9 +59,17 @@ pins_below n known (c ∷ cs) [] below a = absurd a
 pins_below n known (c ∷ cs) (l ∷ ls) below (e, a) = (below c.0 l e, pins_below n known cs ls below a)
 
 -- each of the roots has a mark
-pub root_mark : (marks : List (Option Mark)) (roots : List ClassId) (c : ℕ) → All (λ (root : ClassId). IsSome (slice_index_or marks root.0 None)) roots → Contains (numbers roots) c → (m : Mark) × (slice_index_or marks c None ≡ Some m)
+pub root_mark : (marks : List (Option Mark)) (roots : List ClassId) (c : ℕ) → AreMarked marks roots → Contains (numbers roots) c → (m : Mark) × (slice_index_or marks c None ≡ Some m)
 root_mark marks roots c covered inside = some_of (slice_index_or marks c None)
     (All-contains (λ n. IsSome (slice_index_or marks n None)) (numbers roots) c (All-map (λ n. IsSome (slice_index_or marks n None)) (λ (x : ClassId). x.0) roots covered) inside)
+
+-- so each is a class that marks are kept for
+pub marked_within : (marks : List (Option Mark)) (roots : List ClassId) (n : ℕ) → length marks ≡ n → AreMarked marks roots → All (λ (root : ClassId). root.0 < n) roots
+marked_within marks roots n e = All-weaker (λ (root : ClassId). IsSome (slice_index_or marks root.0 None)) (λ (root : ClassId). root.0 < n)
+    (λ root some.
+    let (m, at) = some_of (slice_index_or marks root.0 None) some in
+    subst (λ k. root.0 < k) e (some_within marks root.0 m at))
+    roots
 
 -- a mark is before one of the same cost that is one higher
 pub before_next : (m next : PlainMark) → next.cost ≡ m.cost → next.height ≡ m.height + 1 → IsMarkBefore m next

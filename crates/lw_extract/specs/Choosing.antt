@@ -1,5 +1,5 @@
 -- The needed classes with their chosen matches, and how they are found from the highest down.
-use Rattle.std.specs.Prelude.{ℕ, ◌≡◌, List, map, Option, Some, slice_get}
+use Rattle.std.specs.Prelude.{ℕ, ◌≡◌, All, IsSome, List, map, None, Option, Some, slice_get, slice_index_or}
 use Rattle.lw_pool.specs.declared.id.ClassId.{ClassId}
 use Rattle.lw_laws.specs.Graphs.{Graph}
 use Rattle.lw_laws.specs.Costs.{Cost}
@@ -11,7 +11,9 @@ use Rattle.lw_laws.specs.Extracts.{IsChosen, AreGateClasses}
 use Rattle.lw_match.specs.declared.mark.Mark.{Mark}
 use Rattle.lw_match.specs.declared.mark.Match.{Match}
 use Rattle.lw_match.specs.Values.{marks_in, plain_match}
-use Rattle.lw_label.specs.Labels.{costs_of}
+use Rattle.lw_match.specs.Bounds.{AreBounds, BoundsFit, BoundsState}
+use Rattle.lw_match.specs.Least.{AreOfCells}
+use Rattle.lw_label.specs.Labels.{AreLeastMarks, costs_of}
 use Rattle.lw_extract.specs.declared.choosing.Chosen.{Chosen}
 use Rattle.lw_pool.specs.Numbers.{numbers}
 
@@ -21,6 +23,17 @@ labels marks = labels_in (costs_of marks)
 
 abbrev pub heights : List (Option Mark) → ℕ → ℕ
 heights marks = heights_of (marks_in marks)
+
+-- what a choice rests on: patterns of cells, a least mark for each class, and bounds for these
+pub record AreSettled (g : Graph) (cost : Cost) (pats : List Pattern) (marks : List (Option Mark)) (table : BoundsState) : Type 0 where
+  pub of_cells : AreOfCells cost.pin_counts pats
+  pub least : AreLeastMarks g cost pats marks
+  pub fits : BoundsFit table pats g
+  pub bounds : AreBounds table g marks
+
+-- each of the classes has a mark
+abbrev pub AreMarked : List (Option Mark) → List ClassId → Type 0
+AreMarked marks roots = All (λ (root : ClassId). IsSome (slice_index_or marks root.0 None)) roots
 
 -- the match is the chosen one of the class
 abbrev pub IsChoice : Graph → Cost → List Pattern → List (Option Mark) → ℕ → Match → Type 0

@@ -8,12 +8,14 @@ use Rattle.lw_laws.specs.Costs.{Cost}
 use Rattle.lw_laws.specs.Covers.{Pattern}
 use Rattle.lw_laws.specs.Names.{net_names}
 use Rattle.lw_laws.specs.Netlists.{AreArrivals, AreNetCosts}
-use Rattle.lw_laws.specs.Extracts.{AreGateClasses, IsExtracted, IsNetOf}
+use Rattle.lw_laws.specs.Extracts.{AreGateClasses, HaveLeafLabels, IsExtracted, IsNetOf}
 use Rattle.lw_genlib.specs.Cells.{CellParts}
-use Rattle.lw_genlib.specs.Tables.{timing_of}
+use Rattle.lw_genlib.specs.Tables.{delays_of_cells, timing_of}
 use Rattle.lw_match.specs.declared.mark.Mark.{Mark}
+use Rattle.lw_match.specs.Least.{AreOfCells}
+use Rattle.lw_label.specs.Labels.{AreLeastMarks}
 use Rattle.lw_netlist.specs.declared.gate.Port.{Port}
-use Rattle.lw_netlist.specs.Plain.{plain}
+use Rattle.lw_netlist.specs.Plain.{IsOver, plain}
 use Rattle.lw_extract.specs.declared.ports.Ports.{Ports}
 use Rattle.lw_extract.specs.declared.ports.Cover.{Cover}
 use Rattle.lw_extract.specs.Choosing.{labels, heights}
@@ -49,6 +51,19 @@ pub record IsExtractedCover (g : Graph) (cost : Cost) (pats : List Pattern) (mar
 abbrev pub CostTheirLabels : Graph → Cost → List (Option Mark) → Cover → Type 0
 CostTheirLabels g cost marks cover =
     (costs : List ℕ) → AreNetCosts cost (plain cover.netlist) costs → (c net : ℕ) → IsNetOf g (numbers cover.classes) c net → labels marks c ≡ Some (slice_index_or costs net 0)
+
+-- the labels are least for patterns of the library's cells, and those of inputs are their starts
+pub record AreLabels (g : Graph) (cost : Cost) (pats : List Pattern) (lib : List CellParts) (marks : List (Option Mark)) : Type 0 where
+  pub cells : cost.pin_counts ≡ map length (delays_of_cells lib)
+  pub of_cells : AreOfCells cost.pin_counts pats
+  pub least : AreLeastMarks g cost pats marks
+  pub leaves : HaveLeafLabels g cost (labels marks)
+
+-- the cover that labels give, over the library's cells
+pub record IsCoverBy (g : Graph) (cost : Cost) (pats : List Pattern) (lib : List CellParts) (marks : List (Option Mark)) (ports : Ports) (made : Cover) : Type 0 where
+  pub cover : IsExtractedCover g cost pats marks ports made
+  pub over : IsOver lib made.netlist
+  pub costs : CostTheirLabels g cost marks made
 
 -- Each net arrives at the label of its class, by the starts of the inputs and the delays of the cells.
 abbrev pub ArriveAtLabels : Graph → List CellParts → List Micro → List (Option Mark) → Cover → Type 0

@@ -1,11 +1,8 @@
 // The classes that are needed, each with its chosen match.
-ghost use Rattle.std.specs.Prelude.{◌≡◌, ◌+◌, ◌-◌, ◌^◌, ◌<◌, All, IfOk, IsSome, length, reverse, Some, None, slice_index_or};
+ghost use Rattle.std.specs.Prelude.{◌≡◌, ◌+◌, ◌-◌, ◌^◌, ◌<◌, IfOk, length, reverse, Some, None, slice_index_or};
 ghost use Rattle.lw_laws.specs.Extracts.{IsLeafClass};
-ghost use Rattle.lw_match.specs.Least.{AreOfCells};
-ghost use Rattle.lw_match.specs.Bounds.{BoundsFit, AreBounds};
 ghost use Rattle.lw_match.specs.Cutting.{AreKnown};
-ghost use Rattle.lw_label.specs.Labels.{AreLeastMarks};
-ghost use Rattle.lw_extract.specs.Choosing.{AreChosen, IsChoice};
+ghost use Rattle.lw_extract.specs.Choosing.{AreChosen, AreMarked, AreSettled, IsChoice};
 ghost use Rattle.lw_extract.specs.Orders.{AreByHeight};
 ghost use Rattle.lw_extract.specs.Nets.{AreInputNets};
 
@@ -46,10 +43,7 @@ fn choice<C: Cost>(
     tops: &mut Tops,
     class: ClassId,
 ) -> Option<Match>
-    requires of_cells { AreOfCells (C.costs cost.now).pin_counts pats.now }
-    requires fits { BoundsFit bounds.now pats.now graph.now }
-    requires bounds { AreBounds bounds.now graph.now marks.now }
-    requires least { AreLeastMarks graph.now (C.costs cost.now) pats.now marks.now }
+    requires settled { AreSettled graph.now (C.costs cost.now) pats.now marks.now bounds.now }
     requires class { class.0 < length graph.now.pairs }
     requires no_leaf { IsLeafClass graph.now class.0 → ⊥ }
     requires known { AreKnown (C.costs cost.now) pats.now bounds.now.gaps tops.old }
@@ -76,12 +70,8 @@ fn choose_down<C: Cost>(
     roots: &[ClassId],
     places: &[Place],
 ) -> Result<Vec<Chosen>, AllocError>
-    requires of_cells { AreOfCells (C.costs cost.now).pin_counts pats.now }
-    requires fits { BoundsFit bounds.now pats.now graph.now }
-    requires bounds { AreBounds bounds.now graph.now marks.now }
-    requires least { AreLeastMarks graph.now (C.costs cost.now) pats.now marks.now }
-    requires roots { All (λ root. root.0 < length graph.now.pairs) roots.now }
-    requires covered { All (λ root. IsSome (slice_index_or marks.now root.0 None)) roots.now }
+    requires settled { AreSettled graph.now (C.costs cost.now) pats.now marks.now bounds.now }
+    requires covered { AreMarked marks.now roots.now }
     requires places { (nets : _) × AreInputNets graph.now nets ×
         AreByHeight nets marks.now places.now }
     ensures { IfOk result (λ chosen. AreChosen graph.now
@@ -113,12 +103,8 @@ pub(crate) fn choose<C: Cost>(
     roots: &[ClassId],
     nets: &[Option<NetId>],
 ) -> Result<Vec<Chosen>, AllocError>
-    requires of_cells { AreOfCells (C.costs cost.now).pin_counts pats.now }
-    requires fits { BoundsFit bounds.now pats.now graph.now }
-    requires bounds { AreBounds bounds.now graph.now marks.now }
-    requires least { AreLeastMarks graph.now (C.costs cost.now) pats.now marks.now }
-    requires roots { All (λ root. root.0 < length graph.now.pairs) roots.now }
-    requires covered { All (λ root. IsSome (slice_index_or marks.now root.0 None)) roots.now }
+    requires settled { AreSettled graph.now (C.costs cost.now) pats.now marks.now bounds.now }
+    requires covered { AreMarked marks.now roots.now }
     requires nets { AreInputNets graph.now nets.now }
     ensures { IfOk result (λ chosen. AreChosen graph.now
         (C.costs cost.now) pats.now marks.now roots.now chosen.items) }

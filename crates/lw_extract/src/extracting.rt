@@ -8,9 +8,9 @@ ghost use Rattle.lw_laws.specs.Names.{net_names};
 ghost use Rattle.lw_genlib.specs.Tables.{delays_of_cells};
 ghost use Rattle.lw_netlist.specs.Plain.{IsOver};
 ghost use Rattle.lw_extract.specs.declared.fault.ExtractFault.TheVariants.{NoCover};
-ghost use Rattle.lw_extract.specs.Choosing.{AreChosen, chosen_classes, labels as labels_of};
+ghost use Rattle.lw_extract.specs.Choosing.{AreChosen, AreMarked, AreSettled, chosen_classes, labels as labels_of};
 ghost use Rattle.lw_extract.specs.Nets.{AreClassNets};
-ghost use Rattle.lw_extract.specs.Covers.{AreFit, IsFirstUncovered, IsExtractedCover, CostTheirLabels};
+ghost use Rattle.lw_extract.specs.Covers.{AreFit, AreLabels, CostTheirLabels, IsCoverBy, IsExtractedCover, IsFirstUncovered};
 ghost use Rattle.lw_pool.specs.Numbers.{numbers};
 
 use crate::choosing::{Chosen, choose};
@@ -116,30 +116,16 @@ fn cover<C: Cost>(
     ports: &Ports,
     cost: &C,
 ) -> Result<Cover, AllocError>
-    requires cells { (C.costs cost.now).pin_counts ≡ map length (delays_of_cells lib.now) }
-    requires of_cells { AreOfCells (C.costs cost.now).pin_counts pats.now }
-    requires fits { BoundsFit bounds.now pats.now graph.now }
-    requires bounds { AreBounds bounds.now graph.now marks.now }
-    requires least { AreLeastMarks graph.now (C.costs cost.now) pats.now marks.now }
-    requires leaves { HaveLeafLabels graph.now (C.costs cost.now) (labels_of marks.now) }
+    requires labels { AreLabels graph.now (C.costs cost.now) pats.now lib.now marks.now }
+    requires settled { AreSettled graph.now (C.costs cost.now) pats.now marks.now bounds.now }
     requires fit { AreFit graph.now ports.now }
-    requires covered { All (λ root. IsSome (slice_index_or marks.now root.0 None)) ports.now.roots }
-    ensures cover { IfOk result (IsExtractedCover graph.now
-        (C.costs cost.now) pats.now marks.now ports.now) }
-    ensures over { IfOk result (λ cover. IsOver lib.now cover.netlist) }
-    ensures costs { IfOk result (CostTheirLabels graph.now (C.costs cost.now) marks.now) }
+    requires covered { AreMarked marks.now ports.now.roots }
+    ensures { IfOk result (IsCoverBy graph.now (C.costs cost.now) pats.now lib.now marks.now
+        ports.now) }
 {
     let mut nets = input_nets(alloc, graph)?;
-    let chosen = choose(
-        alloc,
-        graph,
-        pats,
-        cost,
-        bounds,
-        marks,
-        ports.roots.as_slice(),
-        &nets,
-    )?;
+    let roots = ports.roots.as_slice();
+    let chosen = choose(alloc, graph, pats, cost, bounds, marks, roots, &nets)?;
     add_gates(&mut nets, graph.inputs(), &chosen);
     assemble(alloc, graph, pats, lib, ports, &nets, &chosen)
 }
@@ -155,18 +141,13 @@ fn cover_with<C: Cost>(
     ports: &Ports,
     cost: &C,
 ) -> Result<Cover, AllocError>
-    requires cells { (C.costs cost.now).pin_counts ≡ map length (delays_of_cells lib.now) }
-    requires of_cells { AreOfCells (C.costs cost.now).pin_counts pats.now }
-    requires fits { IfSome bounds (λ b. BoundsFit b.now pats.now graph.now) }
-    requires bounds { IfSome bounds (λ b. AreBounds b.now graph.now marks.now) }
-    requires least { AreLeastMarks graph.now (C.costs cost.now) pats.now marks.now }
-    requires leaves { HaveLeafLabels graph.now (C.costs cost.now) (labels_of marks.now) }
+    requires labels { AreLabels graph.now (C.costs cost.now) pats.now lib.now marks.now }
+    requires settled { IfSome bounds
+        (λ b. AreSettled graph.now (C.costs cost.now) pats.now marks.now b.now) }
     requires fit { AreFit graph.now ports.now }
-    requires covered { All (λ root. IsSome (slice_index_or marks.now root.0 None)) ports.now.roots }
-    ensures cover { IfOk result (IsExtractedCover graph.now
-        (C.costs cost.now) pats.now marks.now ports.now) }
-    ensures over { IfOk result (λ cover. IsOver lib.now cover.netlist) }
-    ensures costs { IfOk result (CostTheirLabels graph.now (C.costs cost.now) marks.now) }
+    requires covered { AreMarked marks.now ports.now.roots }
+    ensures { IfOk result (IsCoverBy graph.now (C.costs cost.now) pats.now lib.now marks.now
+        ports.now) }
 {
     match bounds {
         Some(bounds) => cover(alloc, graph, pats, lib, bounds, marks, ports, cost),

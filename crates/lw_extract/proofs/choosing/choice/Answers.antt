@@ -5,24 +5,24 @@ use Rattle.lw_extract.proofs.choosing.choice.Goals as goal
 
 pub next_after-bound-requires : goal.next_after-bound-requires
 next_after-bound-requires g c =
-    can_rise c.args.graph.now (g.C.Cost.costs c.args.cost.now) c.args.pats.now c.args.marks.now c.requires.least c.args.class.0 c.in_ok-mark.mark c.in_ok-mark.was
+    can_rise c.args.graph.now (g.C.Cost.costs c.args.cost.now) c.args.pats.now c.args.marks.now c.requires.settled.least c.args.class.0 c.in_ok-mark.mark c.in_ok-mark.was
 
 pub returns-in_err-best-clause-choice : goal.returns-in_err-best-clause-choice
 returns-in_err-best-clause-choice g c = λ mark at.
-    absurd (some_match c.args.graph.now (g.C.Cost.costs c.args.cost.now) c.args.pats.now c.args.marks.now c.requires.least c.args.class.0 c.in_ok-mark.mark (plain_mark c.next_after-bound.result) c.requires.no_leaf c.in_ok-mark.was
+    absurd (some_match c.args.graph.now (g.C.Cost.costs c.args.cost.now) c.args.pats.now c.args.marks.now c.requires.settled.least c.args.class.0 c.in_ok-mark.mark (plain_mark c.next_after-bound.result) c.requires.no_leaf c.in_ok-mark.was
     (before_next (plain_mark c.in_ok-mark.mark) (plain_mark c.next_after-bound.result) c.next_after-bound.ensures.cost c.next_after-bound.ensures.height)
     c.in_err-best.ensures.least)
 
 pub least_before-requires-clause-in_range : goal.least_before-requires-clause-in_range
-least_before-requires-clause-in_range g c = subst (λ cap. AreInRange cap c.args.marks.now) (g.met.C.Cost.cap c.args.cost.now) c.requires.least.in_range
+least_before-requires-clause-in_range g c = subst (λ cap. AreInRange cap c.args.marks.now) (g.met.C.Cost.cap c.args.cost.now) c.requires.settled.least.in_range
 
 pub returns-clause-choice : goal.returns-clause-choice
 returns-clause-choice g c = λ mark at. (
   c.in_ok-best.best.found,
   refl,
-  chosen_by c.args.graph.now (g.C.Cost.costs c.args.cost.now) c.args.pats.now c.args.marks.now c.requires.least c.args.class.0 mark c.in_ok-best.best c.requires.no_leaf at c.in_ok-best.ensures.least.0,
+  chosen_by c.args.graph.now (g.C.Cost.costs c.args.cost.now) c.args.pats.now c.args.marks.now c.requires.settled.least c.args.class.0 mark c.in_ok-best.best c.requires.no_leaf at c.in_ok-best.ensures.least.0,
 )
 
 pub least_before-requires-clause-last : goal.least_before-requires-clause-last
 least_before-requires-clause-last g c =
-    last_before c.args.graph.now (g.C.Cost.costs c.args.cost.now) c.args.pats.now c.args.marks.now c.requires.least c.args.class.0 c.in_ok-mark.mark (plain_mark c.next_after-bound.result) c.in_ok-mark.was c.next_after-bound.ensures.cost c.next_after-bound.ensures.height
+    last_before c.args.graph.now (g.C.Cost.costs c.args.cost.now) c.args.pats.now c.args.marks.now c.requires.settled.least c.args.class.0 c.in_ok-mark.mark (plain_mark c.next_after-bound.result) c.in_ok-mark.was c.next_after-bound.ensures.cost c.next_after-bound.ensures.height

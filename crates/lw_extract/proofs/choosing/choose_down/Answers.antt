@@ -7,6 +7,7 @@ use Rattle.lw_pool.specs.declared.id.ClassId.{ClassId}
 use Rattle.lw_extract.specs.declared.choosing.Chosen.{Chosen}
 use Rattle.lw_naming.specs.Needed.{AreRoots, HasAlso}
 use Rattle.lw_extract.proofs.Descent.{IsDown, IsTurn, down_start, turn_no_leaf, turn_within, turn_choice, turn_some, turn_pins, turn_skip, turn_take, turns_end}
+use Rattle.lw_extract.proofs.Picking.{marked_within}
 use Rattle.lw_extract.proofs.choosing.choose_down.Goals as goal
 
 pub loop-place-init : goal.loop-place-init
@@ -20,16 +21,20 @@ loop-place-init g c = record {
       subst (λ (chosen : List Chosen). IsDown c.args.graph.now (g.C.Cost.costs c.args.cost.now) c.args.pats.now c.args.marks.now c.args.roots.now [] c.in_ok-needed.needed.items (reverse chosen)) (sym c.new-chosen.ensures.items) start;
 }
 
+pub needed_by-requires : goal.needed_by-requires
+needed_by-requires g c =
+    marked_within c.args.marks.now c.args.roots.now c.classes.result (c.requires.settled.least.one_each ∙ sym c.classes.ensures.classes) c.requires.covered
+
 pub index-requires : goal.index-requires
 index-requires g c =
     let turn : IsTurn c.args.places.now (length c.loop-place.yielded) c.in-Some.place.now = YieldsList-turn (YieldsList-from_rev_slice c.args.places.now cc) c.loop-place.yielded _ c.loop-place.yielded_by _ _ c.in-Some.place c.in-Some.is c.next.ensures.steps in
-    let below = turn_within c.args.graph.now (g.C.Cost.costs c.args.cost.now) c.args.pats.now c.args.marks.now c.args.roots.now c.args.places.now c.requires.places (length c.loop-place.yielded) c.in-Some.place.now c.requires.least.one_each turn in
+    let below = turn_within c.args.graph.now (g.C.Cost.costs c.args.cost.now) c.args.pats.now c.args.marks.now c.args.roots.now c.args.places.now c.requires.places (length c.loop-place.yielded) c.in-Some.place.now c.requires.settled.least.one_each turn in
     omega (arith, below, c.loop-place.invariant.down.one_each)
 
 pub choice-requires-clause-class : goal.choice-requires-clause-class
 choice-requires-clause-class g c =
     let turn : IsTurn c.args.places.now (length c.loop-place.yielded) c.in-Some.place.now = YieldsList-turn (YieldsList-from_rev_slice c.args.places.now cc) c.loop-place.yielded _ c.loop-place.yielded_by _ _ c.in-Some.place c.in-Some.is c.next.ensures.steps in
-    turn_within c.args.graph.now (g.C.Cost.costs c.args.cost.now) c.args.pats.now c.args.marks.now c.args.roots.now c.args.places.now c.requires.places (length c.loop-place.yielded) c.in-Some.place.now c.requires.least.one_each turn
+    turn_within c.args.graph.now (g.C.Cost.costs c.args.cost.now) c.args.pats.now c.args.marks.now c.args.roots.now c.args.places.now c.requires.places (length c.loop-place.yielded) c.in-Some.place.now c.requires.settled.least.one_each turn
 
 pub choice-requires-clause-no_leaf : goal.choice-requires-clause-no_leaf
 choice-requires-clause-no_leaf g c =
@@ -40,7 +45,7 @@ pub need-requires : goal.need-requires
 need-requires g c =
     let turn : IsTurn c.args.places.now (length c.loop-place.yielded) c.in-Some.place.now = YieldsList-turn (YieldsList-from_rev_slice c.args.places.now cc) c.loop-place.yielded _ c.loop-place.yielded_by _ _ c.in-Some.place c.in-Some.is c.next.ensures.steps in
     let choice = turn_choice c.args.graph.now (g.C.Cost.costs c.args.cost.now) c.args.pats.now c.args.marks.now c.args.roots.now c.args.places.now c.requires.places (length c.loop-place.yielded) c.in-Some.place.now c.in-Some-choice.found turn c.in-Some-choice.ensures.choice in
-    let pins = turn_pins c.args.graph.now (g.C.Cost.costs c.args.cost.now) c.args.pats.now c.args.marks.now c.args.roots.now c.args.places.now c.requires.places (length c.loop-place.yielded) c.in-Some.place.now c.in-Some-choice.found c.requires.least.one_each turn choice in
+    let pins = turn_pins c.args.graph.now (g.C.Cost.costs c.args.cost.now) c.args.pats.now c.args.marks.now c.args.roots.now c.args.places.now c.requires.places (length c.loop-place.yielded) c.in-Some.place.now c.in-Some-choice.found c.requires.settled.least.one_each turn choice in
     let size : length c.args.graph.now.pairs ≡ length c.deref_mut.result.now = sym c.loop-place.invariant.down.one_each ∙ ap length (sym c.deref_mut.ensures.value) in
     subst (λ n. All (λ (x : ClassId). x.0 < n) c.as_slice.result.now) size (All-same (λ (x : ClassId). x.0 < length c.args.graph.now.pairs) c.as_slice.result.now c.in-Some-choice.found.pins c.as_slice.ensures.classes pins)
 
@@ -48,7 +53,7 @@ pub loop-place-preserved-in-Continue-branch-2 : goal.loop-place-preserved-in-Con
 loop-place-preserved-in-Continue-branch-2 g c =
     let turn : IsTurn c.args.places.now (length c.loop-place.yielded) c.in-Some.place.now = YieldsList-turn (YieldsList-from_rev_slice c.args.places.now cc) c.loop-place.yielded _ c.loop-place.yielded_by _ _ c.in-Some.place c.in-Some.is c.next.ensures.steps in
     let choice = turn_choice c.args.graph.now (g.C.Cost.costs c.args.cost.now) c.args.pats.now c.args.marks.now c.args.roots.now c.args.places.now c.requires.places (length c.loop-place.yielded) c.in-Some.place.now c.in-Some-choice.found turn c.in-Some-choice.ensures.choice in
-    let within = turn_within c.args.graph.now (g.C.Cost.costs c.args.cost.now) c.args.pats.now c.args.marks.now c.args.roots.now c.args.places.now c.requires.places (length c.loop-place.yielded) c.in-Some.place.now c.requires.least.one_each turn in
+    let within = turn_within c.args.graph.now (g.C.Cost.costs c.args.cost.now) c.args.pats.now c.args.marks.now c.args.roots.now c.args.places.now c.requires.places (length c.loop-place.yielded) c.in-Some.place.now c.requires.settled.least.one_each turn in
     let below : c.in-Some.place.now.class.0 < length c.loop-place.needed.items = omega (arith, within, c.loop-place.invariant.down.one_each) in
     let flag = sym (get_or_read c.loop-place.needed.items c.in-Some.place.now.class.0 c.index.result.now below c.index.ensures false) ∙ c.if-index.true in
     let also : HasAlso c.loop-place.needed.items c.in-Some-choice.found.pins c.need.new.needed = subst (λ (old : List Bool). HasAlso old c.in-Some-choice.found.pins c.need.new.needed) c.deref_mut.ensures.value (subst (λ (pins : List ClassId). HasAlso c.deref_mut.result.now pins c.need.new.needed) c.as_slice.ensures.classes c.need.ensures) in
@@ -69,7 +74,7 @@ loop-place-preserved-in_default g c =
 pub loop-place-preserved : goal.loop-place-preserved
 loop-place-preserved g c =
     let turn : IsTurn c.args.places.now (length c.loop-place.yielded) c.in-Some.place.now = YieldsList-turn (YieldsList-from_rev_slice c.args.places.now cc) c.loop-place.yielded _ c.loop-place.yielded_by _ _ c.in-Some.place c.in-Some.is c.next.ensures.steps in
-    let within = turn_within c.args.graph.now (g.C.Cost.costs c.args.cost.now) c.args.pats.now c.args.marks.now c.args.roots.now c.args.places.now c.requires.places (length c.loop-place.yielded) c.in-Some.place.now c.requires.least.one_each turn in
+    let within = turn_within c.args.graph.now (g.C.Cost.costs c.args.cost.now) c.args.pats.now c.args.marks.now c.args.roots.now c.args.places.now c.requires.places (length c.loop-place.yielded) c.in-Some.place.now c.requires.settled.least.one_each turn in
     let below : c.in-Some.place.now.class.0 < length c.loop-place.needed.items = omega (arith, within, c.loop-place.invariant.down.one_each) in
     let flag = sym (get_or_read c.loop-place.needed.items c.in-Some.place.now.class.0 c.index.result.now below c.index.ensures false) ∙ c.if-index.false in
     record { can_next = tt; is_finite = tt; known = c.loop-place.invariant.known; down = turn_skip c.args.graph.now (g.C.Cost.costs c.args.cost.now) c.args.pats.now c.args.marks.now c.args.roots.now c.args.places.now c.requires.places c.loop-place.yielded c.in-Some.place c.in-Some.place.now c.loop-place.needed.items c.loop-place.chosen.items turn flag c.loop-place.invariant.down }
