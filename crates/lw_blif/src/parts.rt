@@ -148,26 +148,14 @@ impl Parts {
         }
         let words = &line.words;
         match asked {
-            Command::Row => {
-                let fault = self.read_row(words)?;
-                Ok(fault)
-            }
+            Command::Row => self.read_row(words),
             Command::Unknown => Ok(Some(BlifKind::UnknownCommand)),
             Command::Unsupported => Ok(Some(BlifKind::Unsupported)),
             Command::Ignored => Ok(None),
-            Command::Arrival => {
-                let fault = self.read_arrival(Command::Arrival, words)?;
-                Ok(fault)
-            }
-            Command::DefaultArrival => {
-                let fault = self.read_arrival(Command::DefaultArrival, words)?;
-                Ok(fault)
-            }
+            Command::Arrival => self.read_arrival(Command::Arrival, words),
+            Command::DefaultArrival => self.read_arrival(Command::DefaultArrival, words),
             Command::End => unreachable!(),
-            _ => {
-                let fault = self.read_names(asked, words)?;
-                Ok(fault)
-            }
+            _ => self.read_names(asked, words),
         }
     }
 
@@ -264,14 +252,13 @@ impl Parts {
     {
         self.end_node()?;
         match command {
-            Command::Inputs => append_all(self.alloc, &mut self.inputs, words, 1)?,
-            Command::Outputs => add_all(self.alloc, &mut self.outputs, words, 1)?,
-            Command::Names => begin_node(self.alloc, &mut self.node, words)?,
-            Command::Latch => add_latch(self.alloc, &mut self.latches, words)?,
-            Command::Model => self.take_model(words)?,
-            _ => {}
+            Command::Inputs => append_all(self.alloc, &mut self.inputs, words, 1),
+            Command::Outputs => add_all(self.alloc, &mut self.outputs, words, 1),
+            Command::Names => begin_node(self.alloc, &mut self.node, words),
+            Command::Latch => add_latch(self.alloc, &mut self.latches, words),
+            Command::Model => self.take_model(words),
+            _ => Ok(()),
         }
-        Ok(())
     }
 
     // Takes the name of the first model.

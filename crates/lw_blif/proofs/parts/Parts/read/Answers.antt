@@ -1,4 +1,5 @@
-use Rattle.std.proofs.Common.{List, ℕ, ap, sym, ◌∙◌, subst}
+use Rattle.std.proofs.Common.{List, ℕ, Result, Ok, Err, IfOk, ap, sym, ◌∙◌, subst}
+use Rattle.std.proofs.lemmas.Result.{IfOk-weaker}
 use Rattle.lw_words.specs.Lines.{LogicalLine}
 use Rattle.lw_blif.specs.Readers.{row_fault_of}
 use Rattle.lw_blif.specs.declared.command.Command.TheVariants as asks
@@ -7,23 +8,32 @@ use Rattle.lw_blif.proofs.Keeping.{fault-long}
 use Rattle.lw_blif.proofs.Reading.{row-fault, row-keeps, names-fault, names-keeps, ignored-fault, ignored-keeps, unknown-fault, unsupported-fault, names-left, arrival-fault, arrival-keeps}
 use Rattle.lw_blif.proofs.parts.Parts.read.Goals as goal
 
+-- what follows from two facts where a result is Ok
+if_both : {X E : Type 0} (r : Result X E) (P Q R : X → Type 0) → ((x : X) → P x → Q x → R x) → IfOk r P → IfOk r Q → IfOk r R
+if_both (Ok x) P Q R f p q = f x p q
+if_both (Err e) P Q R f p q = tt
+
 pub returns-then-line-clause-fault : goal.returns-then-line-clause-fault
 returns-then-line-clause-fault c = λ lines k.
     sym (fault-long lines c.args.line.now (sym (ap (λ (l : LogicalLine). l.long) c.line.view_is) ∙ c.if-line.true))
 
-pub returns-in_ok-fault-in-Row-clause-fault : goal.returns-in_ok-fault-in-Row-clause-fault
-returns-in_ok-fault-in-Row-clause-fault c = λ lines k.
+pub returns-in-Row-clause-fault : goal.returns-in-Row-clause-fault
+returns-in-Row-clause-fault c = λ lines k.
     let words = ap (λ (l : LogicalLine). l.words) c.line.view_is in
     let short = sym (ap (λ (l : LogicalLine). l.long) c.line.view_is) ∙ c.if-line.false in
-    row-fault c.args.self.now lines c.args.line.now c.in_ok-fault-in-Row.fault (sym c.in-Row.is ∙ c.requires.asked) short
-    (c.in_ok-fault-in-Row.ensures.fault ∙ ap (row_fault_of c.args.self.now.node) words) k
+    IfOk-weaker c.read_row.result _ _
+    (λ fault is. row-fault c.args.self.now lines c.args.line.now fault (sym c.in-Row.is ∙ c.requires.asked) short (is ∙ ap (row_fault_of c.args.self.now.node) words) k)
+    c.read_row.ensures.fault
 
-pub returns-in_ok-fault-in-Row-clause-keeps : goal.returns-in_ok-fault-in-Row-clause-keeps
-returns-in_ok-fault-in-Row-clause-keeps c = λ lines k none.
+pub returns-in-Row-clause-keeps : goal.returns-in-Row-clause-keeps
+returns-in-Row-clause-keeps c = λ lines k.
     let words = ap (λ (l : LogicalLine). l.words) c.line.view_is in
-    row-keeps c.args.self.now c.read_row.new.self lines c.args.line.now (sym c.in-Row.is ∙ c.requires.asked)
-    (sym none ∙ (c.in_ok-fault-in-Row.ensures.fault ∙ ap (row_fault_of c.args.self.now.node) words))
-    (subst (λ (ws : List (List ℕ)). AddsRow c.args.self.now ws c.read_row.new.self) words (c.in_ok-fault-in-Row.ensures.row none)) k
+    if_both c.read_row.result _ _ _
+    (λ fault is row none.
+      row-keeps c.args.self.now c.read_row.new.self lines c.args.line.now (sym c.in-Row.is ∙ c.requires.asked)
+      (sym none ∙ (is ∙ ap (row_fault_of c.args.self.now.node) words))
+      (subst (λ (ws : List (List ℕ)). AddsRow c.args.self.now ws c.read_row.new.self) words (row none)) k)
+    c.read_row.ensures.fault c.read_row.ensures.row
 
 pub returns-in-Unknown-clause-fault : goal.returns-in-Unknown-clause-fault
 returns-in-Unknown-clause-fault c = λ lines k.
@@ -41,43 +51,55 @@ pub returns-in-Ignored-clause-keeps : goal.returns-in-Ignored-clause-keeps
 returns-in-Ignored-clause-keeps c = λ lines k none.
     ignored-keeps c.args.self.now lines c.args.line.now (sym c.in-Ignored.is ∙ c.requires.asked) k
 
-pub returns-in_ok-fault-in_default-clause-fault : goal.returns-in_ok-fault-in_default-clause-fault
-returns-in_ok-fault-in_default-clause-fault c = λ lines k.
+pub returns-in_default-clause-fault : goal.returns-in_default-clause-fault
+returns-in_default-clause-fault c = λ lines k.
     let words = ap (λ (l : LogicalLine). l.words) c.line.view_is in
     let short = sym (ap (λ (l : LogicalLine). l.long) c.line.view_is) ∙ c.if-line.false in
     let names = names-left c.args.asked c.in_default.not-End c.in_default.not-Ignored c.in_default.not-Unsupported c.in_default.not-Unknown c.in_default.not-Row c.in_default.not-Arrival c.in_default.not-DefaultArrival in
-    names-fault c.args.self.now lines c.args.line.now c.args.asked c.in_ok-fault-in_default.fault names c.requires.asked short
-    (c.in_ok-fault-in_default.ensures.fault ∙ ap (names_fault c.args.self.now c.args.asked) words) k
+    IfOk-weaker c.read_names.result _ _
+    (λ fault is. names-fault c.args.self.now lines c.args.line.now c.args.asked fault names c.requires.asked short (is ∙ ap (names_fault c.args.self.now c.args.asked) words) k)
+    c.read_names.ensures.fault
 
-pub returns-in_ok-fault-in_default-clause-keeps : goal.returns-in_ok-fault-in_default-clause-keeps
-returns-in_ok-fault-in_default-clause-keeps c = λ lines k none.
+pub returns-in_default-clause-keeps : goal.returns-in_default-clause-keeps
+returns-in_default-clause-keeps c = λ lines k.
     let words = ap (λ (l : LogicalLine). l.words) c.line.view_is in
     let names = names-left c.args.asked c.in_default.not-End c.in_default.not-Ignored c.in_default.not-Unsupported c.in_default.not-Unknown c.in_default.not-Row c.in_default.not-Arrival c.in_default.not-DefaultArrival in
-    names-keeps c.args.self.now c.read_names.new.self lines c.args.line.now c.args.asked names c.requires.asked
-    (subst (λ (ws : List (List ℕ)). ReadsNames c.args.self.now c.args.asked ws c.read_names.new.self) words (c.in_ok-fault-in_default.ensures.names none)) k
+    IfOk-weaker c.read_names.result _ _
+    (λ fault reads none.
+      names-keeps c.args.self.now c.read_names.new.self lines c.args.line.now c.args.asked names c.requires.asked
+      (subst (λ (ws : List (List ℕ)). ReadsNames c.args.self.now c.args.asked ws c.read_names.new.self) words (reads none)) k)
+    c.read_names.ensures.names
 
-pub returns-in_ok-fault-in-Arrival-clause-fault : goal.returns-in_ok-fault-in-Arrival-clause-fault
-returns-in_ok-fault-in-Arrival-clause-fault c = λ lines k.
+pub returns-in-Arrival-clause-fault : goal.returns-in-Arrival-clause-fault
+returns-in-Arrival-clause-fault c = λ lines k.
     let words = ap (λ (l : LogicalLine). l.words) c.line.view_is in
     let short = sym (ap (λ (l : LogicalLine). l.long) c.line.view_is) ∙ c.if-line.false in
-    arrival-fault lines c.args.line.now asks.Arrival c.in_ok-fault-in-Arrival.fault tt (sym c.in-Arrival.is ∙ c.requires.asked) short
-    (c.in_ok-fault-in-Arrival.ensures.fault ∙ ap (arrival_fault asks.Arrival) words)
+    IfOk-weaker c.read_arrival.result _ _
+    (λ fault is. arrival-fault lines c.args.line.now asks.Arrival fault tt (sym c.in-Arrival.is ∙ c.requires.asked) short (is ∙ ap (arrival_fault asks.Arrival) words))
+    c.read_arrival.ensures.fault
 
-pub returns-in_ok-fault-in-Arrival-clause-keeps : goal.returns-in_ok-fault-in-Arrival-clause-keeps
-returns-in_ok-fault-in-Arrival-clause-keeps c = λ lines k none.
+pub returns-in-Arrival-clause-keeps : goal.returns-in-Arrival-clause-keeps
+returns-in-Arrival-clause-keeps c = λ lines k.
     let words = ap (λ (l : LogicalLine). l.words) c.line.view_is in
-    arrival-keeps c.args.self.now c.read_arrival.new.self lines c.args.line.now asks.Arrival tt (sym c.in-Arrival.is ∙ c.requires.asked)
-    (subst (λ (ws : List (List ℕ)). ReadsArrival c.args.self.now asks.Arrival ws c.read_arrival.new.self) words (c.in_ok-fault-in-Arrival.ensures.arrival none)) k
+    IfOk-weaker c.read_arrival.result _ _
+    (λ fault reads none.
+      arrival-keeps c.args.self.now c.read_arrival.new.self lines c.args.line.now asks.Arrival tt (sym c.in-Arrival.is ∙ c.requires.asked)
+      (subst (λ (ws : List (List ℕ)). ReadsArrival c.args.self.now asks.Arrival ws c.read_arrival.new.self) words (reads none)) k)
+    c.read_arrival.ensures.arrival
 
-pub returns-in_ok-fault-in-DefaultArrival-clause-fault : goal.returns-in_ok-fault-in-DefaultArrival-clause-fault
-returns-in_ok-fault-in-DefaultArrival-clause-fault c = λ lines k.
+pub returns-in-DefaultArrival-clause-fault : goal.returns-in-DefaultArrival-clause-fault
+returns-in-DefaultArrival-clause-fault c = λ lines k.
     let words = ap (λ (l : LogicalLine). l.words) c.line.view_is in
     let short = sym (ap (λ (l : LogicalLine). l.long) c.line.view_is) ∙ c.if-line.false in
-    arrival-fault lines c.args.line.now asks.DefaultArrival c.in_ok-fault-in-DefaultArrival.fault tt (sym c.in-DefaultArrival.is ∙ c.requires.asked) short
-    (c.in_ok-fault-in-DefaultArrival.ensures.fault ∙ ap (arrival_fault asks.DefaultArrival) words)
+    IfOk-weaker c.read_arrival-in-DefaultArrival.result _ _
+    (λ fault is. arrival-fault lines c.args.line.now asks.DefaultArrival fault tt (sym c.in-DefaultArrival.is ∙ c.requires.asked) short (is ∙ ap (arrival_fault asks.DefaultArrival) words))
+    c.read_arrival-in-DefaultArrival.ensures.fault
 
-pub returns-in_ok-fault-in-DefaultArrival-clause-keeps : goal.returns-in_ok-fault-in-DefaultArrival-clause-keeps
-returns-in_ok-fault-in-DefaultArrival-clause-keeps c = λ lines k none.
+pub returns-in-DefaultArrival-clause-keeps : goal.returns-in-DefaultArrival-clause-keeps
+returns-in-DefaultArrival-clause-keeps c = λ lines k.
     let words = ap (λ (l : LogicalLine). l.words) c.line.view_is in
-    arrival-keeps c.args.self.now c.read_arrival-in-DefaultArrival.new.self lines c.args.line.now asks.DefaultArrival tt (sym c.in-DefaultArrival.is ∙ c.requires.asked)
-    (subst (λ (ws : List (List ℕ)). ReadsArrival c.args.self.now asks.DefaultArrival ws c.read_arrival-in-DefaultArrival.new.self) words (c.in_ok-fault-in-DefaultArrival.ensures.arrival none)) k
+    IfOk-weaker c.read_arrival-in-DefaultArrival.result _ _
+    (λ fault reads none.
+      arrival-keeps c.args.self.now c.read_arrival-in-DefaultArrival.new.self lines c.args.line.now asks.DefaultArrival tt (sym c.in-DefaultArrival.is ∙ c.requires.asked)
+      (subst (λ (ws : List (List ℕ)). ReadsArrival c.args.self.now asks.DefaultArrival ws c.read_arrival-in-DefaultArrival.new.self) words (reads none)) k)
+    c.read_arrival-in-DefaultArrival.ensures.arrival
