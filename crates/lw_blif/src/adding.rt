@@ -1,5 +1,5 @@
 // A row more of a node.
-ghost use Rattle.std.specs.Prelude.{◌≡◌, ◌++◌, [], ◌∷◌, true, not, length, codes, IfOk};
+ghost use Rattle.std.specs.Prelude.{◌≡◌, ◌++◌, [], ◌∷◌, true, not, length, codes, IfOk, OnOk};
 ghost use Rattle.std.specs.Str.{bytes_eq};
 ghost use Rattle.lw_blif.specs.LineFaults.{has_shape, last_word};
 ghost use Rattle.lw_blif.specs.Drafts.{columns_of};
@@ -21,14 +21,13 @@ fn columns(alloc: Global, fanins: usize, words: &Words) -> Result<Cube, AllocErr
     Ok(Cube::new(Vec::new(alloc)))
 }
 
-/// The node with one more row.
-pub fn with_row(alloc: Global, node: DraftNode, words: &Words) -> Result<DraftNode, AllocError>
-    requires { has_shape (length node.fanins) words.now ≡ true }
-    ensures { IfOk result (λ n. n ≡ row_added words.now node) }
+/// Adds a row to the node.
+pub fn add_row(alloc: Global, node: &mut DraftNode, words: &Words) -> Result<(), AllocError>
+    requires { has_shape (length node.old.fanins) words.now ≡ true }
+    ensures { OnOk result (node.new ≡ row_added words.now node.old) }
 {
-    let mut node = node;
     let row = columns(alloc, node.fanins.len(), words)?;
     node.rows.push(row)?;
     node.on = last_word(words) != b"0".as_slice();
-    Ok(node)
+    Ok(())
 }

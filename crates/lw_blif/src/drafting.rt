@@ -51,8 +51,8 @@ fn name_or_unnamed(alloc: Global, name: Option<Name>) -> Result<Name, AllocError
     }
 }
 
-// The nodes, and one more where there is one.
-fn with_last(nodes: DraftNodes, node: Option<DraftNode>) -> Result<DraftNodes, AllocError>
+/// The nodes, and one more where there is one.
+pub fn with_last(nodes: DraftNodes, node: Option<DraftNode>) -> Result<DraftNodes, AllocError>
     ensures { IfOk result (λ all. all ≡ nodes ++ option_to_list node) }
 {
     let mut nodes = nodes;
@@ -151,25 +151,5 @@ pub fn names_around(
         model: name_or_unnamed(alloc, model)?,
         inputs: with_outputs(alloc, inputs, latches.as_slice())?,
         outputs: names_of(alloc, roots)?,
-    })
-}
-
-/// The draft with these names and nodes, and one node more where there is one.
-pub fn draft_of(
-    around: Around,
-    nodes: DraftNodes,
-    node: Option<DraftNode>,
-) -> Result<Draft, AllocError>
-    ensures model { IfOk result (λ draft. draft.model ≡ around.model) }
-    ensures inputs { IfOk result (λ draft. draft.inputs ≡ around.inputs) }
-    ensures outputs { IfOk result (λ draft. draft.outputs ≡ around.outputs) }
-    ensures nodes { IfOk result (λ draft. draft.nodes ≡ nodes ++ option_to_list node) }
-{
-    let nodes = with_last(nodes, node)?;
-    Ok(Draft {
-        model: around.model,
-        inputs: around.inputs,
-        outputs: around.outputs,
-        nodes,
     })
 }

@@ -1,12 +1,12 @@
 // What lines say, as far as they were read.
 ghost use Rattle.std.specs.Prelude.{◌≡◌, ◌≢◌, ◌+◌, ◌<◌, ◌≤◌, ◌++◌, [], ◌∷◌, List, None, length, true, false, IfOk, OnOk, option_to_list};
 
-use crate::adding::with_row;
+use crate::adding::add_row;
 use crate::arrival::{add_start, start_on};
 use crate::defining::{
     add_all, add_latch, append_all, begin_node, define_all, define_one, name_or_second,
 };
-use crate::drafting::{Said, add_and_count, draft_of, names_around, starts_of};
+use crate::drafting::{Said, add_and_count, names_around, starts_of, with_last};
 use crate::naming::last_word;
 use crate::rows::row_fault;
 use crate::rules::names_fault;
@@ -81,8 +81,8 @@ impl Parts {
         ensures fits { IfOk result SaidFits }
     {
         let alloc = self.alloc;
-        let starts = starts_of(alloc, &self.arrivals, &self.inputs, &self.latches)?;
         let counts = add_and_count(alloc, &self.inputs, &mut self.outputs, &self.latches)?;
+        let starts = starts_of(alloc, &self.arrivals, &self.inputs, &self.latches)?;
         let draft = self.draft()?;
         let latches = mem::replace(&mut self.latches, Latches::new(alloc));
         let frame = Frame {
@@ -108,11 +108,17 @@ impl Parts {
         ensures latches { self.new.latches ≡ self.old.latches }
     {
         let alloc = self.alloc;
+        let nodes = mem::replace(&mut self.nodes, DraftNodes::new(alloc));
+        let nodes = with_last(nodes, self.node.take())?;
         let model = self.model.take();
         let inputs = mem::replace(&mut self.inputs, Names::new(alloc));
         let around = names_around(alloc, model, inputs, &self.latches, &self.outputs)?;
-        let nodes = mem::replace(&mut self.nodes, DraftNodes::new(alloc));
-        draft_of(around, nodes, self.node.take())
+        Ok(Draft {
+            model: around.model,
+            inputs: around.inputs,
+            outputs: around.outputs,
+            nodes,
+        })
     }
 
     /// The model of the lines that were read.
@@ -168,8 +174,8 @@ impl Parts {
         if let Some(kind) = row_fault(&self.node, words) {
             return Ok(Some(kind));
         }
-        if let Some(node) = self.node.take() {
-            self.node = Some(with_row(self.alloc, node, words)?);
+        if let Some(node) = &mut self.node {
+            add_row(self.alloc, node, words)?;
         }
         Ok(None)
     }

@@ -30,9 +30,9 @@ returns-in-Row-clause-keeps c = λ lines k.
     let words = ap (λ (l : LogicalLine). l.words) c.line.view_is in
     if_both c.read_row.result _ _ _
     (λ fault is row none.
-      row-keeps c.args.self.now c.read_row.new.self lines c.args.line.now (sym c.in-Row.is ∙ c.requires.asked)
-      (sym none ∙ (is ∙ ap (row_fault_of c.args.self.now.node) words))
-      (subst (λ (ws : List (List ℕ)). AddsRow c.args.self.now ws c.read_row.new.self) words (row none)) k)
+    row-keeps c.args.self.now c.read_row.new.self lines c.args.line.now (sym c.in-Row.is ∙ c.requires.asked)
+    (sym none ∙ (is ∙ ap (row_fault_of c.args.self.now.node) words))
+    (subst (λ (ws : List (List ℕ)). AddsRow c.args.self.now ws c.read_row.new.self) words (row none)) k)
     c.read_row.ensures.fault c.read_row.ensures.row
 
 pub returns-in-Unknown-clause-fault : goal.returns-in-Unknown-clause-fault
@@ -66,8 +66,8 @@ returns-in_default-clause-keeps c = λ lines k.
     let names = names-left c.args.asked c.in_default.not-End c.in_default.not-Ignored c.in_default.not-Unsupported c.in_default.not-Unknown c.in_default.not-Row c.in_default.not-Arrival c.in_default.not-DefaultArrival in
     IfOk-weaker c.read_names.result _ _
     (λ fault reads none.
-      names-keeps c.args.self.now c.read_names.new.self lines c.args.line.now c.args.asked names c.requires.asked
-      (subst (λ (ws : List (List ℕ)). ReadsNames c.args.self.now c.args.asked ws c.read_names.new.self) words (reads none)) k)
+    names-keeps c.args.self.now c.read_names.new.self lines c.args.line.now c.args.asked names c.requires.asked
+    (subst (λ (ws : List (List ℕ)). ReadsNames c.args.self.now c.args.asked ws c.read_names.new.self) words (reads none)) k)
     c.read_names.ensures.names
 
 pub returns-in-Arrival-clause-fault : goal.returns-in-Arrival-clause-fault
@@ -83,8 +83,8 @@ returns-in-Arrival-clause-keeps c = λ lines k.
     let words = ap (λ (l : LogicalLine). l.words) c.line.view_is in
     IfOk-weaker c.read_arrival.result _ _
     (λ fault reads none.
-      arrival-keeps c.args.self.now c.read_arrival.new.self lines c.args.line.now asks.Arrival tt (sym c.in-Arrival.is ∙ c.requires.asked)
-      (subst (λ (ws : List (List ℕ)). ReadsArrival c.args.self.now asks.Arrival ws c.read_arrival.new.self) words (reads none)) k)
+    arrival-keeps c.args.self.now c.read_arrival.new.self lines c.args.line.now asks.Arrival tt (sym c.in-Arrival.is ∙ c.requires.asked)
+    (subst (λ (ws : List (List ℕ)). ReadsArrival c.args.self.now asks.Arrival ws c.read_arrival.new.self) words (reads none)) k)
     c.read_arrival.ensures.arrival
 
 pub returns-in-DefaultArrival-clause-fault : goal.returns-in-DefaultArrival-clause-fault
@@ -100,6 +100,6 @@ returns-in-DefaultArrival-clause-keeps c = λ lines k.
     let words = ap (λ (l : LogicalLine). l.words) c.line.view_is in
     IfOk-weaker c.read_arrival-in-DefaultArrival.result _ _
     (λ fault reads none.
-      arrival-keeps c.args.self.now c.read_arrival-in-DefaultArrival.new.self lines c.args.line.now asks.DefaultArrival tt (sym c.in-DefaultArrival.is ∙ c.requires.asked)
-      (subst (λ (ws : List (List ℕ)). ReadsArrival c.args.self.now asks.DefaultArrival ws c.read_arrival-in-DefaultArrival.new.self) words (reads none)) k)
+    arrival-keeps c.args.self.now c.read_arrival-in-DefaultArrival.new.self lines c.args.line.now asks.DefaultArrival tt (sym c.in-DefaultArrival.is ∙ c.requires.asked)
+    (subst (λ (ws : List (List ℕ)). ReadsArrival c.args.self.now asks.DefaultArrival ws c.read_arrival-in-DefaultArrival.new.self) words (reads none)) k)
     c.read_arrival-in-DefaultArrival.ensures.arrival
