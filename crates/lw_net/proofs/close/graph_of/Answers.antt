@@ -1,7 +1,7 @@
-use Rattle.std.proofs.Common.{refl}
-use Rattle.std.proofs.lemmas.Result.{err_from_is_err_and}
+use Rattle.std.proofs.Common.{◌<◌, All, length, refl, subst, sym}
+use Rattle.std.proofs.lemmas.Result.{IfOk-from_err, err_from_is_err_and}
 use Rattle.lw_net.specs.Closing.{signals_of}
-use Rattle.lw_net.specs.Numbers.{draft_in}
+use Rattle.lw_net.specs.Numbers.{draft_in, IsTable}
 use Rattle.lw_net.proofs.Paths.{fault_in_fanins, fault_in_outputs, nothing_undefined}
 use Rattle.lw_net.proofs.close.graph_of.Goals as goal
 
@@ -21,3 +21,38 @@ pub returns-clause-defined : goal.returns-clause-defined
 returns-clause-defined c =
     let draft = draft_in c.args.w.now in
     nothing_undefined draft (signals_of draft) refl c.in_ok-graph.ensures.defined (rw c.deref-3.ensures.value at c.in_ok-_outputs.ensures.defined)
+
+pub graph-requires : goal.graph-requires
+graph-requires c = subst (IsTable c.args.w.now) (sym c.deref.ensures.value) c.in_ok-places.ensures
+
+pub row-requires-clause-table : goal.row-requires-clause-table
+row-requires-clause-table c = subst (IsTable c.args.w.now) (sym c.deref-2.ensures.value) c.in_ok-places.ensures
+
+pub row-requires-clause-within : goal.row-requires-clause-within
+row-requires-clause-within c =
+    let count = length c.args.w.now.names.keys in
+    subst (All (λ n. n < count)) (sym c.deref-3.ensures.value) c.requires.kept.outputs
+
+pub returns-in_err-graph-clause-graph : goal.returns-in_err-graph-clause-graph
+returns-in_err-graph-clause-graph c = IfOk-from_err _ _ c.from_residual-in_err-graph.ensures.0
+
+pub returns-in_err-graph-clause-fanins : goal.returns-in_err-graph-clause-fanins
+returns-in_err-graph-clause-fanins c = IfOk-from_err _ _ c.from_residual-in_err-graph.ensures.0
+
+pub returns-in_err-graph-clause-defined : goal.returns-in_err-graph-clause-defined
+returns-in_err-graph-clause-defined c = IfOk-from_err _ _ c.from_residual-in_err-graph.ensures.0
+
+pub returns-in_err-_outputs-clause-graph : goal.returns-in_err-_outputs-clause-graph
+returns-in_err-_outputs-clause-graph c = IfOk-from_err _ _ c.from_residual-in_err-_outputs.ensures.0
+
+pub returns-in_err-_outputs-clause-fanins : goal.returns-in_err-_outputs-clause-fanins
+returns-in_err-_outputs-clause-fanins c = IfOk-from_err _ _ c.from_residual-in_err-_outputs.ensures.0
+
+pub returns-in_err-_outputs-clause-defined : goal.returns-in_err-_outputs-clause-defined
+returns-in_err-_outputs-clause-defined c = IfOk-from_err _ _ c.from_residual-in_err-_outputs.ensures.0
+
+pub returns-clause-graph : goal.returns-clause-graph
+returns-clause-graph c = c.in_ok-graph.ensures.ok
+
+pub returns-clause-fanins : goal.returns-clause-fanins
+returns-clause-fanins c = c.in_ok-graph.ensures.defined

@@ -1,4 +1,4 @@
-use Rattle.std.proofs.Common.{◌<◌, Some, get_or, length, map, refl, sym, ap, ◌∙◌, arith}
+use Rattle.std.proofs.Common.{Some, get_or, map, refl, sym, ap, ◌∙◌, arith}
 use Rattle.std.proofs.lemmas.List.{drop_all, take_all}
 use Rattle.std.proofs.lemmas.Result.{IfOk-from_err, err_from_is_err_and}
 use Rattle.lw_net.specs.Closing.{number_in, signals_of, undefined_in}
