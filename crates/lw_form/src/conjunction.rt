@@ -191,11 +191,15 @@ fn shortened(
     if forms.len() <= FEW {
         let kept = few_kept(alloc, forms)?;
         let clash = few_clash(&kept);
-        return combined(alloc, table, width, &kept, clash);
+        let step = combined(alloc, table, width, &kept, clash);
+        drop(kept);
+        return step;
     }
     let kept = kept(alloc, forms)?;
     let clash = clashes(&kept);
-    combined(alloc, table, width, kept.as_slice(), clash)
+    let step = combined(alloc, table, width, kept.as_slice(), clash);
+    drop(kept);
+    step
 }
 
 // The And of some forms.

@@ -192,8 +192,18 @@ impl Occurring {
         ensures fault { IfErr result (IsTooLong (true_form ∷ [])) }
     {
         let table = FormTable::with_capacity(alloc, inputs, nets)?;
-        let listing = true_alone(alloc, &table, nets)?;
-        let (sops, facs) = no_nets(alloc, nets)?;
+        let listing = match true_alone(alloc, &table, nets) {
+            Ok(listing) => listing,
+            Err(fault) => {
+                drop(table);
+                return Err(fault);
+            }
+        };
+        let Ok((sops, facs)) = no_nets(alloc, nets) else {
+            drop(listing);
+            drop(table);
+            return Err(FormFault::Memory);
+        };
         Ok(Occurring {
             table,
             listing,
@@ -259,8 +269,20 @@ impl Occurring {
     {
         let inputs = net.inputs();
         let mut all = Occurring::start(alloc, inputs, net.nets() as usize)?;
-        all.add_inputs(alloc, inputs)?;
-        all.add_nodes(alloc, width, net.nodes())?;
+        match all.add_inputs(alloc, inputs) {
+            Ok(()) => {}
+            Err(fault) => {
+                drop(all);
+                return Err(fault);
+            }
+        }
+        match all.add_nodes(alloc, width, net.nodes()) {
+            Ok(()) => {}
+            Err(fault) => {
+                drop(all);
+                return Err(fault);
+            }
+        }
         Ok(all)
     }
 }
@@ -282,10 +304,13 @@ fn finished(
     let _width = width;
     let _count = all.table.len();
     let inputs = net.inputs();
-    let bases = numbered_bases(alloc, &all.table, &all.listing)?;
-    let samples = samples(alloc, bases.as_slice())?;
     let sops = renumbered_all(alloc, &all.listing, &all.sops)?;
     let facs = renumbered_all(alloc, &all.listing, &all.facs)?;
+    let bases = numbered_bases(alloc, &all.table, &all.listing)?;
+    let Ok(samples) = samples(alloc, bases.as_slice()) else {
+        drop(bases);
+        return Err(AllocError);
+    };
     Ok(Forms::new(inputs, bases, sops, facs, samples))
 }
 
@@ -304,6 +329,7 @@ pub fn forms(alloc: Global, net: &Network, width: u8) -> Result<Forms, FormFault
     ensures fault { IfErr result (IsTooLong (occurring_forms width (plain net.now))) }
 {
     let all = Occurring::of_network(alloc, net, width as usize)?;
-    let forms = finished(alloc, net, width as usize, &all)?;
-    Ok(forms)
+    let forms = finished(alloc, net, width as usize, &all);
+    drop(all);
+    Ok(forms?)
 }

@@ -27,7 +27,7 @@ pub new-requires-clause-kept : goal.new-requires-clause-kept
 new-requires-clause-kept c = subst AreForms (sym (finished c.args.width c.requires.low (plain c.args.net.now) c.args.all.now.table c.len-count.ensures.made c.args.all.now.listing.listed.items c.args.all.now.listing.places.items c.args.all.now.sops.items c.args.all.now.facs.items c.requires.listed c.inputs-inputs.result (map plain_base c.in_ok-bases.bases.keys) c.in_ok-sops.sops.items c.in_ok-facs.facs.items c.inputs-inputs.ensures.inputs c.in_ok-bases.ensures (c.in_ok-sops.ensures ∙ ap (map (renumber c.args.all.now.listing.places.items)) c.deref.ensures.value) (c.in_ok-facs.ensures ∙ ap (map (renumber c.args.all.now.listing.places.items)) c.deref-2.ensures.value))) (network_kept c.args.width c.requires.low (plain c.args.net.now) c.args.all.now.table c.len-count.ensures.made c.args.all.now.listing.listed.items c.args.all.now.listing.places.items c.args.all.now.sops.items c.args.all.now.facs.items c.requires.listed c.requires.high (few_nets c.args.net.now c.inputs-inputs.ensures.kept))
 
 pub new-requires-clause-sampled : goal.new-requires-clause-sampled
-new-requires-clause-sampled c = c.in_ok-samples.ensures _ (ap (map plain_base) (sym c.as_slice.ensures.keys))
+new-requires-clause-sampled c = c.in-Ok.ensures _ (ap (map plain_base) (sym c.as_slice.ensures.keys))
 
 pub returns : goal.returns
 returns c = c.new.ensures ∙ (finished c.args.width c.requires.low (plain c.args.net.now) c.args.all.now.table c.len-count.ensures.made c.args.all.now.listing.listed.items c.args.all.now.listing.places.items c.args.all.now.sops.items c.args.all.now.facs.items c.requires.listed c.inputs-inputs.result (map plain_base c.in_ok-bases.bases.keys) c.in_ok-sops.sops.items c.in_ok-facs.facs.items c.inputs-inputs.ensures.inputs c.in_ok-bases.ensures (c.in_ok-sops.ensures ∙ ap (map (renumber c.args.all.now.listing.places.items)) c.deref.ensures.value) (c.in_ok-facs.ensures ∙ ap (map (renumber c.args.all.now.listing.places.items)) c.deref-2.ensures.value))
