@@ -1,7 +1,8 @@
 -- The list of base forms as places in a table.
 use Rattle.std.proofs.Common.{◌≡◌, ◌≢◌, ◌+◌, ◌-◌, ◌*◌, ◌/◌, ◌%◌, ◌^◌, ◌==◌, ◌<◌, ◌≤◌, ◌⊎◌, inl, inr, ℕ, zero, suc, Bool, true, false, cond, leb, leb-true, pow-suc, if◌then◌else◌, List, [], ◌∷◌, ◌++◌, length, map, drop, replicate, Some, Result, Ok, Err, OnOk, IfErr, slice_get, get_or, slice_set, refl, ap, ap₂, sym, ◌∙◌, subst, arith}
 use Rattle.std.specs.List.{AllByRecursion}
-use Rattle.std.specs.Result.{IsErrAnd}
+use Rattle.std.specs.Prelude.{T}
+use Rattle.std.specs.Result.{IsErr, IsErrAnd}
 use Rattle.std.proofs.lemmas.Bool.{le-leb}
 use Rattle.std.proofs.lemmas.List.{length-map, map-append, get_or_append_left, at_drop_more, drop_all, length_push}
 use Rattle.std.proofs.lemmas.Option.{slice_get-get_or, get_or_from_slice_get, slice_get_within}
@@ -441,6 +442,14 @@ module _ (now next : Table) (listed places new_listed new_places : List ℕ) (st
   parts_size more = let e = ap (λ s. steps_size (turned s)) (steps_kept (made now) (made next) steps more parts_fit) in omega arith
 
 -- what holds where a call succeeds, and what where it fails
+
+pub on_ok : {X E A : Type 0} (r : Result X E) → A → OnOk r A
+on_ok (Ok x) a = a
+on_ok (Err e) a = tt
+
+pub on_failed : {X E : Type 0} (A : Type 0) (r : Result X E) → IsErr r → OnOk r A
+on_failed A (Ok x) f = absurd (subst T (sym f) tt)
+on_failed A (Err e) f = tt
 
 pub on_both : {T E A B C : Type 0} (r : Result T E) → (A → B → C) → OnOk r A → OnOk r B → OnOk r C
 on_both (Ok x) f a b = f a b

@@ -1,8 +1,10 @@
-use Rattle.std.proofs.Common.{◌≡◌, ◌∙◌, ◌∷◌, ◌++◌, ◌<◌, ◌/◌, [], subst, ap, List, ℕ, arith}
-use Rattle.lw_form.specs.Tables.{AreBelow}
-use Rattle.lw_form.proofs.Joining.{more_length}
+use Rattle.std.proofs.Common.{◌≡◌, ◌∙◌, ◌∷◌, ◌++◌, ◌<◌, ◌/◌, [], refl, subst, ap, length, List, ℕ, arith}
+use Rattle.std.proofs.lemmas.List.{length-append}
+use Rattle.lw_form.specs.Tables.{AreBelow, made}
+use Rattle.lw_form.proofs.Joining.{more_length, more_twice}
 use Rattle.lw_form.proofs.FactoringSteps.{below_front, below_last, join_made, work_joined}
 use Rattle.lw_form.proofs.factoring.join.Goals as goal
+use Rattle.lw_form.proofs.ListedForms.{on_failed}
 
 front_below : (n : ℕ) (done front : List ℕ) (x : ℕ) → done ≡ front ++ x ∷ [] → AreBelow n done → AreBelow n front
 front_below n done front x e a = below_front n front (x ∷ []) (subst (AreBelow n) e a)
@@ -23,3 +25,54 @@ returns-clause-working c = λ fanins fs goals w.
     work_joined c.args.width fs fanins goals c.args.table.now c.disjunction.new.table c.args.work.now.tasks.items c.args.work.now.done.items c.push.new.self.items c.last-having.new.done.items c.args.literal c.last-having.result c.last-others.result c.in_ok-form.form w (c.last-others.ensures ∙ ap (λ l. l ++ c.last-others.result ∷ []) c.last-having.ensures)
     (join_made c.args.width c.args.table.now c.conjunction.new.table c.disjunction.new.table c.args.literal c.last-having.result c.last-others.result c.in_ok-both.both c.in_ok-form.form c.in_ok-both.ensures c.in_ok-form.ensures (last_below _ c.args.work.now.done.items c.last-others.new.done.items c.last-others.result c.last-others.ensures c.requires.below))
     c.in_ok-push.ensures.items
+
+pub last-others-requires : goal.last-others-requires
+last-others-requires c = let two = c.requires.two in omega arith
+
+pub last-having-requires : goal.last-having-requires
+last-having-requires c = let e = ap length c.last-others.ensures in let a = length-append c.last-others.new.done.items (c.last-others.result ∷ []) in let two = c.requires.two in omega arith
+
+pub conjunction-requires-clause-low : goal.conjunction-requires-clause-low
+conjunction-requires-clause-low c = c.requires.low
+
+pub conjunction-requires-clause-high : goal.conjunction-requires-clause-high
+conjunction-requires-clause-high c = c.requires.high
+
+pub disjunction-requires-clause-low : goal.disjunction-requires-clause-low
+disjunction-requires-clause-low c = c.requires.low
+
+pub disjunction-requires-clause-high : goal.disjunction-requires-clause-high
+disjunction-requires-clause-high c = c.requires.high
+
+pub returns-in_err-both-clause-working : goal.returns-in_err-both-clause-working
+returns-in_err-both-clause-working c = λ fanins. on_failed _ c.from_residual.result c.from_residual.ensures.0
+
+pub returns-in_err-both-clause-same : goal.returns-in_err-both-clause-same
+returns-in_err-both-clause-same c = on_failed _ c.from_residual.result c.from_residual.ensures.0
+
+pub returns-in_err-both-clause-more : goal.returns-in_err-both-clause-more
+returns-in_err-both-clause-more c = on_failed _ c.from_residual.result c.from_residual.ensures.0
+
+pub returns-in_err-form-clause-working : goal.returns-in_err-form-clause-working
+returns-in_err-form-clause-working c = λ fanins. on_failed _ c.from_residual-in_err-form.result c.from_residual-in_err-form.ensures.0
+
+pub returns-in_err-form-clause-same : goal.returns-in_err-form-clause-same
+returns-in_err-form-clause-same c = on_failed _ c.from_residual-in_err-form.result c.from_residual-in_err-form.ensures.0
+
+pub returns-in_err-form-clause-more : goal.returns-in_err-form-clause-more
+returns-in_err-form-clause-more c = on_failed _ c.from_residual-in_err-form.result c.from_residual-in_err-form.ensures.0
+
+pub returns-in_err-push-clause-working : goal.returns-in_err-push-clause-working
+returns-in_err-push-clause-working c = λ fanins. on_failed _ c.from_residual-in_err-push.result c.from_residual-in_err-push.ensures.0
+
+pub returns-in_err-push-clause-same : goal.returns-in_err-push-clause-same
+returns-in_err-push-clause-same c = on_failed _ c.from_residual-in_err-push.result c.from_residual-in_err-push.ensures.0
+
+pub returns-in_err-push-clause-more : goal.returns-in_err-push-clause-more
+returns-in_err-push-clause-more c = on_failed _ c.from_residual-in_err-push.result c.from_residual-in_err-push.ensures.0
+
+pub returns-clause-same : goal.returns-clause-same
+returns-clause-same c = refl
+
+pub returns-clause-more : goal.returns-clause-more
+returns-clause-more c = more_twice (made c.args.table.now) (made c.conjunction.new.table) (made c.disjunction.new.table) c.in_ok-both.ensures.more c.in_ok-form.ensures.more

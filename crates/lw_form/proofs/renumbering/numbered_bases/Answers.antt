@@ -6,6 +6,11 @@ use Rattle.lw_form.specs.Tables.{made}
 use Rattle.lw_form.proofs.Numbers.{operands_placed, base_added, bases_done}
 use Rattle.lw_form.proofs.renumbering.numbered_bases.Goals as goal
 
+pub base_of-requires-clause-within : goal.base_of-requires-clause-within
+base_of-requires-clause-within c =
+    let lt : c.loop-place.place < length c.args.listing.now.listed.items = let k = c.args.listing.now.listed.ok in let t = c.loop-place-test.true in let l = c.len-place-end.ensures in omega arith in
+    c.requires.listed.within c.loop-place.place c.index.result.now (slice_get_read c.args.listing.now.listed.items (length c.args.listing.now.listed.items) c.loop-place.place c.index.result.now refl lt c.index.ensures)
+
 pub base_of-requires-clause-placed : goal.base_of-requires-clause-placed
 base_of-requires-clause-placed c =
     let (o, lists, e) = c.requires.listing in

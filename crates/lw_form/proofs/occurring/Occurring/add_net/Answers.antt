@@ -7,7 +7,7 @@ use Rattle.lw_form.specs.Nets.{signal_at, AreListed}
 use Rattle.lw_form.specs.Tables.{made}
 use Rattle.lw_form.proofs.Joining.{more_twice, more_length}
 use Rattle.lw_form.proofs.Signalled.{net_listed, second_fault, first_fault}
-use Rattle.lw_form.proofs.ListedForms.{err_is}
+use Rattle.lw_form.proofs.ListedForms.{on_failed, err_is}
 use Rattle.lw_form.proofs.occurring.Occurring.add_net.Goals as goal
 
 pub add-requires-clause-listed : goal.add-requires-clause-listed
@@ -27,3 +27,42 @@ returns-in_err-add-2-clause-fault c =
 
 pub returns-clause-listed : goal.returns-clause-listed
 returns-clause-listed c = λ signals w. net_listed c.args.self.now.table c.add.new.table c.add-2.new.table c.args.self.now.listing.listed.items c.args.self.now.listing.places.items c.add.new.self.listed.items c.add.new.self.places.items c.add-2.new.self.listed.items c.add-2.new.self.places.items c.args.self.now.sops.items c.args.self.now.facs.items c.note.new.forms.items c.note-2.new.forms.items signals c.args.sop c.args.fac w c.requires.sop c.requires.fac c.in_ok-add.ensures.more c.in_ok-add.ensures.bases c.in_ok-add-2.ensures.more c.in_ok-add-2.ensures.listed c.in_ok-add-2.ensures.bases c.in_ok-note.ensures c.in_ok-note-2.ensures
+
+pub add-requires-clause-within : goal.add-requires-clause-within
+add-requires-clause-within c = c.requires.sop
+
+pub add-requires-2-clause-listed : goal.add-requires-2-clause-listed
+add-requires-2-clause-listed c = c.in_ok-add.ensures.listed
+
+pub add-requires-2-clause-within : goal.add-requires-2-clause-within
+add-requires-2-clause-within c = let lt = c.requires.fac in let le = more_length (made c.args.self.now.table) (made c.add.new.table) c.in_ok-add.ensures.more in omega arith
+
+pub returns-in_err-add-clause-more : goal.returns-in_err-add-clause-more
+returns-in_err-add-clause-more c = on_failed _ c.from_residual.result c.from_residual.ensures.0
+
+pub returns-in_err-add-clause-listed : goal.returns-in_err-add-clause-listed
+returns-in_err-add-clause-listed c = on_failed _ c.from_residual.result c.from_residual.ensures.0
+
+pub returns-in_err-add-2-clause-more : goal.returns-in_err-add-2-clause-more
+returns-in_err-add-2-clause-more c = on_failed _ c.from_residual-in_err-add-2.result c.from_residual-in_err-add-2.ensures.0
+
+pub returns-in_err-add-2-clause-listed : goal.returns-in_err-add-2-clause-listed
+returns-in_err-add-2-clause-listed c = on_failed _ c.from_residual-in_err-add-2.result c.from_residual-in_err-add-2.ensures.0
+
+pub returns-in_err-note-clause-more : goal.returns-in_err-note-clause-more
+returns-in_err-note-clause-more c = on_failed _ c.from_residual-in_err-note.result c.from_residual-in_err-note.ensures.0
+
+pub returns-in_err-note-clause-listed : goal.returns-in_err-note-clause-listed
+returns-in_err-note-clause-listed c = on_failed _ c.from_residual-in_err-note.result c.from_residual-in_err-note.ensures.0
+
+pub returns-in_err-note-2-clause-more : goal.returns-in_err-note-2-clause-more
+returns-in_err-note-2-clause-more c = on_failed _ c.from_residual-in_err-note-2.result c.from_residual-in_err-note-2.ensures.0
+
+pub returns-in_err-note-2-clause-listed : goal.returns-in_err-note-2-clause-listed
+returns-in_err-note-2-clause-listed c = on_failed _ c.from_residual-in_err-note-2.result c.from_residual-in_err-note-2.ensures.0
+
+pub returns-clause-more : goal.returns-clause-more
+returns-clause-more c = more_twice (made c.args.self.now.table) (made c.add.new.table) (made c.add-2.new.table) c.in_ok-add.ensures.more c.in_ok-add-2.ensures.more
+
+pub returns-clause-fault : goal.returns-clause-fault
+returns-clause-fault c = tt
