@@ -61,9 +61,6 @@ sum_of_products-requires-clause-columns c = subst (HaveColumns (length c.args.fa
 pub have_shared-requires : goal.have_shared-requires
 have_shared-requires c = subst (HaveColumns (length c.args.fanins.now)) (sym (c.deref-2.ensures.value ∙ c.in_ok-rows.ensures)) c.requires.columns
 
-pub returns-then-not-have_shared-clause-sop : goal.returns-then-not-have_shared-clause-sop
-returns-then-not-have_shared-clause-sop c = subst (λ r. IsMadeAs c.args.table.now c.sum_of_products.new.table c.in_ok-sop.sop (sum_of_products c.args.width (forms_at (made c.args.table.now) c.args.fanins.now) r)) (c.deref.ensures.value ∙ c.in_ok-rows.ensures) c.in_ok-sop.ensures
-
 pub factored-requires-clause-low : goal.factored-requires-clause-low
 factored-requires-clause-low c = c.requires.low
 
