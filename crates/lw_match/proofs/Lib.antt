@@ -28,6 +28,7 @@ pub mod Picks
 pub mod Placing
 pub mod Ranking
 pub mod Refusals
+pub mod Renewed
 pub mod RootLists
 pub mod RootShapes
 pub mod Rooting

@@ -1,0 +1,23 @@
+use Rattle.std.proofs.Common.{◌≡◌, ◌⊎◌, inr, sym, subst, ◌∙◌}
+use Rattle.std.proofs.lemmas.List.{length-set}
+use Rattle.std.proofs.lemmas.List.Elements.{All-set}
+use Rattle.lw_match.specs.Numbers.{never}
+use Rattle.lw_match.specs.Cutting.{TopsState, AreCertified, AreKnown}
+use Rattle.lw_match.proofs.tops.Tops.are_sure_at.Goals as goal
+
+pub returns-clause-known : goal.returns-clause-known
+returns-clause-known g c =
+    let costs = g.C.Cost.costs c.args.cost.now in
+    let pats = c.args.pats.now in
+    let gaps = c.args.gaps.now in
+    let known = subst (AreKnown costs pats gaps) (sym c.self.view_is) c.requires.known in
+    record {
+      up_to = known.up_to;
+      more = All-set (λ top. (top ≡ never) ⊎ AreCertified costs pats gaps top) c.self.inside.tops c.place_of-place.result c.args.top (inr (c.are_certified.ensures c.if-not-are_certified.false)) known.more;
+    }
+
+pub returns-clause-sure : goal.returns-clause-sure
+returns-clause-sure g c = λ t. c.are_certified.ensures c.if-not-are_certified.false
+
+pub invariant_of-self : goal.invariant_of-self
+invariant_of-self g c = length-set c.self.inside.tops c.place_of-place.result c.args.top ∙ c.self.invariant
