@@ -27,8 +27,8 @@ use Rattle.lw_match.proofs.Tables.{but_same, fits_but, lowered_settled, settled_
 use Rattle.lw_label.specs.Labels.{cost_in, costs_of}
 use Rattle.lw_label.specs.Heights.{AreSameBut}
 use Rattle.lw_label.specs.Lowering.{AreLowering, IsBounded, IsLabelled, LabelState, state}
-use Rattle.lw_label.specs.OneVisit.{AreBoundsAround, AreFalling, AreLabelsStill, ArePartsElsewhere, AreZeroOrSettled, IsNoCheaper, IsSameBut, IsSearch, IsZeroAt, with_label}
-use Rattle.lw_label.specs.Orders.{ArePartsStill, IsStillAfter, IsStillAt}
+use Rattle.lw_label.specs.OneVisit.{AreBoundsAround, AreFalling, AreLabelsStill, ArePartsElsewhere, AreSetAt, AreSought, AreZeroOrSettled, IsFirstRound, IsNoCheaper, IsRound, IsRoundAfter, IsSameBut, IsSearch, IsSearchAround, IsZeroAt, with_label}
+use Rattle.lw_label.specs.Orders.{ArePartsStill, AreVisitsAfter, IsReady, IsStillAfter, IsStillAt, VisitState, places_of}
 use Rattle.lw_label.proofs.Marked.{label_of_mark, labels_of_marks, lowering_in_range, mark_set_same, marks_of_labels, priced}
 use Rattle.lw_label.proofs.Falling.{bounded_under, label_is_cost, not_below}
 use Rattle.lw_label.proofs.Still.{cost_most, have_split, of_pair, same_but_more, stands_still, still_elsewhere, still_nowhere, still_too}
@@ -105,22 +105,39 @@ module _ (g : Graph) (cost : Cost) (pats : List Pattern) where
     bounded = λ c is. bounded_kept of_cells old.marks new.marks still are.parts (λ d there. same.marks d (out d there)) c is (are.bounded c is);
   }
 
+  -- other labels, and more is known of gaps
+  pub search_on : (b : BoundsState) (later : TopsState) (old new : List (Option Mark)) → AreSought g cost pats b old → AreKnown cost pats b.gaps later → AreLowering g cost pats new → IsSearch g cost pats b later new
+  search_on b later old new are known low = record {
+    sought = record { of_cells = are.of_cells; problem = are.problem; fits = are.fits; lowering = low };
+    known = known;
+  }
+
   -- other numbers at some classes
   pub search_but : (at : ℕ → Type 0) (old new : BoundsState) (tops : TopsState) (marks : List (Option Mark)) → IsTableBut at old new → IsSearch g cost pats old tops marks → IsSearch g cost pats new tops marks
   search_but at old new tops marks but search = record {
-    of_cells = search.of_cells;
-    graph = search.graph;
-    problem = search.problem;
-    fits = fits_but at old new pats g but search.fits;
+    sought = record { of_cells = search.sought.of_cells; problem = search.sought.problem; fits = fits_but at old new pats g but search.sought.fits; lowering = search.sought.lowering };
     known = subst (λ (b : BoundsState). AreKnown cost pats b.gaps tops) (sym but.table) search.known;
-    lowering = search.lowering;
   }
 
   -- the numbers of classes have changed whose places are not still
   pub falling_but : (old new : BoundsState) (tops : TopsState) (marks : List (Option Mark)) (still : List Bool) → IsTableBut (λ c. IsStillAt still c → ⊥) old new → AreFalling g cost pats (state old marks) tops still → AreFalling g cost pats (state new marks) tops still
   falling_but old new tops marks still but are = record {
+    graph = are.graph;
     search = search_but (λ c. IsStillAt still c → ⊥) old new tops marks but are.search;
-    kept = labels_still_kept are.search.of_cells (λ c. IsStillAt still c → ⊥) (state old marks) (state new marks) still are.search.fits.rows.closed (λ c is not. not is) (record { table = but; marks = λ c out. refl }) are.kept;
+    kept = labels_still_kept are.search.sought.of_cells (λ c. IsStillAt still c → ⊥) (state old marks) (state new marks) still are.search.sought.fits.rows.closed (λ c is not. not is) (record { table = but; marks = λ c out. refl }) are.kept;
+  }
+
+  -- a round goes on with the same visits
+  pub round_again : (old new : VisitState) (s : LabelState) (tops : TopsState) → old.places ≡ places_of g → IsRoundAfter g cost pats old new s tops → IsRound g cost pats new s tops
+  round_again old new s tops places after = record {
+    places = ap (λ (v : VisitState). v.places) after.visits ∙ places;
+    falling = subst (λ (v : VisitState). AreFalling g cost pats s tops v.still) (sym after.visits) after.falling;
+  }
+
+  pub round_after : (old mid new : VisitState) (s : LabelState) (tops : TopsState) → mid ≡ old → IsRoundAfter g cost pats mid new s tops → IsRoundAfter g cost pats old new s tops
+  round_after old mid new s tops same after = record {
+    visits = after.visits ∙ same;
+    falling = subst (λ (v : VisitState). AreFalling g cost pats s tops v.still) same after.falling;
   }
 
   -- a place that has become still
@@ -282,36 +299,48 @@ bounded_pair g cost pats marks place a b at flipped one other c here = elim (of_
 ]
 
 -- a place that is visited once: its numbers are set, and its labels are sought
-module _ (g : Graph) (cost : Cost) (pats : List Pattern) (old new : BoundsState) (marks : List (Option Mark)) (tops : TopsState) (still : List Bool) (place : ℕ) (falling : AreFalling g cost pats (state old marks) tops still) (moves : slice_index_or still place false ≡ false) (parts : (c : ℕ) → c / 2 ≡ place → ArePartsStill g still c) (table : IsTableBut (λ c. c / 2 ≡ place) old new) (settled : (c : ℕ) → c / 2 ≡ place → AreSettledAt new g marks c) (numbers : AreZeroOrSettled g (state old marks) still) where
-  pub set_search : IsSearch g cost pats new tops marks
-  set_search = search_but g cost pats (λ c. c / 2 ≡ place) old new tops marks table falling.search
+module _ (g : Graph) (cost : Cost) (pats : List Pattern) (old new : BoundsState) (marks : List (Option Mark)) (tops : TopsState) (v : VisitState) (place : ℕ) (first : IsFirstRound g cost pats v (state old marks) tops) (ready : IsReady g v place) (set : AreSetAt g marks place old new) where
+  falling : AreFalling g cost pats (state old marks) tops v.still
+  falling = first.round.falling
 
-  set_numbers : AreZeroOrSettled g (state new marks) still
-  set_numbers = numbers_kept g (state old marks) (state new marks) still place falling.search.fits.rows.closed moves (record { table = table; marks = λ c out. refl }) settled parts numbers
+  set_search : IsSearch g cost pats new tops marks
+  set_search = search_but g cost pats (λ c. c / 2 ≡ place) old new tops marks set.others falling.search
 
-  pub set_around : AreBoundsAround new g marks place
-  set_around = bounds_around g new marks still place falling.search.graph pats set_search.fits moves settled parts set_numbers
+  set_numbers : AreZeroOrSettled g (state new marks) v.still
+  set_numbers = numbers_kept g (state old marks) (state new marks) v.still place falling.search.sought.fits.rows.closed ready.moving (record { table = set.others; marks = λ c out. refl }) set.settled ready.parts first.numbers
+
+  pub set_around : IsSearchAround g cost pats new tops marks place
+  set_around = record {
+    search = set_search;
+    around = bounds_around g new marks v.still place falling.graph pats set_search.sought.fits ready.moving set.settled ready.parts set_numbers;
+  }
 
   module _ (others : List (Option Mark)) (later : TopsState) (search : IsSearch g cost pats new later others) (same : AreSameBut (λ c. c / 2 ≡ place) marks others) where
     found_settled : (c : ℕ) → c / 2 ≡ place → AreSettledAt new g others c
-    found_settled = settled_around g new marks others place search.fits.rows.closed (parts_elsewhere g still place moves parts) same settled
+    found_settled = settled_around g new marks others place search.sought.fits.rows.closed (parts_elsewhere g v.still place ready.moving ready.parts) same set.settled
 
-    pub found_falling : AreFalling g cost pats (state new others) later still
-    found_falling = record {
-      search = search;
-      kept = labels_still_kept g cost pats search.of_cells (λ c. c / 2 ≡ place) (state old marks) (state new others) still falling.search.fits.rows.closed (still_elsewhere still place moves) (record { table = table; marks = same }) falling.kept;
+    found_kept : AreLabelsStill g cost pats (state new others) v.still
+    found_kept = labels_still_kept g cost pats search.sought.of_cells (λ c. c / 2 ≡ place) (state old marks) (state new others) v.still falling.search.sought.fits.rows.closed (still_elsewhere v.still place ready.moving) (record { table = set.others; marks = same }) falling.kept
+
+    found_numbers : AreZeroOrSettled g (state new others) v.still
+    found_numbers = numbers_kept g (state new marks) (state new others) v.still place search.sought.fits.rows.closed ready.moving (record { table = but_same (λ c. c / 2 ≡ place) new; marks = same }) found_settled ready.parts set_numbers
+
+    pub found_round : IsFirstRound g cost pats v (state new others) later
+    found_round = record {
+      round = record { places = first.round.places; falling = record { graph = falling.graph; search = search; kept = found_kept } };
+      numbers = found_numbers;
     }
 
-    pub found_numbers : AreZeroOrSettled g (state new others) still
-    found_numbers = numbers_kept g (state new marks) (state new others) still place search.fits.rows.closed moves (record { table = but_same (λ c. c / 2 ≡ place) new; marks = same }) found_settled parts set_numbers
-
     -- the place has become still
-    module _ (more : List Bool) (after : IsStillAfter g place still more) where
-      pub kept_falling : ((c : ℕ) → c / 2 ≡ place → IsBounded g cost pats others c) → AreFalling g cost pats (state new others) later more
-      kept_falling bounded = record {
-        search = search;
-        kept = labels_still_more g cost pats (state new others) place still more after found_settled bounded found_falling.kept;
-      }
-
-      pub kept_numbers : AreZeroOrSettled g (state new others) more
-      kept_numbers = numbers_more g (state new others) place still more after falling.kept.parts found_numbers
+    pub kept_round : (next : VisitState) → AreVisitsAfter g place v next → ((c : ℕ) → c / 2 ≡ place → IsBounded g cost pats others c) → IsFirstRound g cost pats next (state new others) later
+    kept_round next after bounded = record {
+      round = record {
+        places = after.places ∙ first.round.places;
+        falling = record {
+          graph = falling.graph;
+          search = search;
+          kept = labels_still_more g cost pats (state new others) place v.still next.still after.still found_settled bounded found_kept;
+        };
+      };
+      numbers = numbers_more g (state new others) place v.still next.still after.still falling.kept.parts found_numbers;
+    }

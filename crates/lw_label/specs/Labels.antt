@@ -9,6 +9,7 @@ use Rattle.lw_laws.specs.Mapped.{IsPotentialOf}
 use Rattle.lw_laws.specs.Rounds.{labels_in}
 use Rattle.lw_laws.specs.Marks.{Mark as PlainMark}
 use Rattle.lw_match.specs.declared.mark.Mark.{Mark}
+use Rattle.lw_match.specs.Bounds.{AreBounds, BoundsFit, BoundsState}
 use Rattle.lw_match.specs.Values.{marks_in, AreInRange}
 
 abbrev pub cost_in : Option Mark → Option ℕ
@@ -26,3 +27,9 @@ pub record AreLeastMarks (g : Graph) (cost : Cost) (pats : List Pattern) (marks 
   pub heights : (c : ℕ) (m : PlainMark) → marks_in marks c ≡ Some m → IsHeight (choices_of g cost.pin_counts pats) cost (labels_in (costs_of marks)) c m.height
   -- no cost above the cap, and heights that a number of 32 bits holds
   pub in_range : AreInRange cost.cap marks
+
+-- so they are, with a table of bounds for them
+pub record AreBoundedMarks (g : Graph) (cost : Cost) (pats : List Pattern) (b : BoundsState) (marks : List (Option Mark)) : Type 0 where
+  pub least : AreLeastMarks g cost pats marks
+  pub fits : BoundsFit b pats g
+  pub bounds : AreBounds b g marks

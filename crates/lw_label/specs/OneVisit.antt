@@ -1,5 +1,5 @@
 -- Labels that are found by one visit of each place.
-use Rattle.std.specs.Prelude.{ℕ, ◌<◌, ◌≤◌, ◌≡◌, ◌⊎◌, ◌/◌, Bool, List, length, Option, Some, None, slice_set}
+use Rattle.std.specs.Prelude.{ℕ, ◌<◌, ◌≤◌, ◌≡◌, ◌⊎◌, ◌/◌, Bool, true, false, List, length, Option, Some, None, slice_set}
 use Rattle.lw_laws.specs.Graphs.{Graph, HoldsPair}
 use Rattle.lw_laws.specs.Costs.{Cost}
 use Rattle.lw_laws.specs.Covers.{Pattern}
@@ -8,12 +8,13 @@ use Rattle.lw_graph.specs.Graphs.{IsGraph}
 use Rattle.lw_match.specs.declared.mark.Best.{Best}
 use Rattle.lw_match.specs.declared.mark.Mark.{Mark}
 use Rattle.lw_match.specs.Numbers.{number_from, start_of}
-use Rattle.lw_match.specs.Bounds.{BoundsState, AreBounds, AreSettledAt, BoundsFit, IsTableBut}
+use Rattle.lw_match.specs.Bounds.{BoundsState, AreBounds, AreRows, AreSettledAt, BoundsFit, IsTableBut}
 use Rattle.lw_match.specs.Cutting.{AreKnown, TopsState}
 use Rattle.lw_match.specs.Least.{AreOfCells}
+use Rattle.lw_label.specs.declared.heights.Visit.{Visit}
 use Rattle.lw_label.specs.Heights.{AreSameBut}
-use Rattle.lw_label.specs.Lowering.{AreLowering, IsBounded, LabelState}
-use Rattle.lw_label.specs.Orders.{ArePartsStill, IsStillAt}
+use Rattle.lw_label.specs.Lowering.{AreLowering, IsBounded, LabelState, Lowers, Takes}
+use Rattle.lw_label.specs.Orders.{ArePartsStill, IsStillAt, VisitState, places_of}
 
 -- the marks, where a class gets the cost of a match that was found
 abbrev pub with_label : List (Option Mark) → ℕ → Option Best → List (Option Mark)
@@ -32,17 +33,21 @@ pub record AreLabelsStill (g : Graph) (cost : Cost) (pats : List Pattern) (s : L
   pub settled : (c : ℕ) → IsStillAt still c → AreSettledAt s.bounds g s.marks c
   pub bounded : (c : ℕ) → IsStillAt still c → IsBounded g cost pats s.marks c
 
--- what labels are sought by: a graph with the patterns of cells, a table of these, what is known of gaps, and labels so far
-pub record IsSearch (g : Graph) (cost : Cost) (pats : List Pattern) (b : BoundsState) (tops : TopsState) (marks : List (Option Mark)) : Type 0 where
+-- labels are sought: a graph with the patterns of cells, a table of these, and labels so far
+pub record AreSought (g : Graph) (cost : Cost) (pats : List Pattern) (b : BoundsState) (marks : List (Option Mark)) : Type 0 where
   pub of_cells : AreOfCells cost.pin_counts pats
-  pub graph : IsGraph g
   pub problem : IsCoverProblem g pats cost
   pub fits : BoundsFit b pats g
-  pub known : AreKnown cost pats b.gaps tops
   pub lowering : AreLowering g cost pats marks
 
--- so it is, and some places are still
+-- so they are, and something is known of gaps
+pub record IsSearch (g : Graph) (cost : Cost) (pats : List Pattern) (b : BoundsState) (tops : TopsState) (marks : List (Option Mark)) : Type 0 where
+  pub sought : AreSought g cost pats b marks
+  pub known : AreKnown cost pats b.gaps tops
+
+-- so it is in a graph, some of whose places are still
 pub record AreFalling (g : Graph) (cost : Cost) (pats : List Pattern) (s : LabelState) (tops : TopsState) (still : List Bool) : Type 0 where
+  pub graph : IsGraph g
   pub search : IsSearch g cost pats s.bounds tops s.marks
   pub kept : AreLabelsStill g cost pats s still
 
@@ -70,3 +75,61 @@ ArePartsElsewhere g place =
 abbrev pub IsNoCheaper : Option Mark → Option Mark → Type 0
 IsNoCheaper mark other =
     (m : Mark) → mark ≡ Some m → (o : Mark) × (other ≡ Some o) × (o.cost ≤ m.cost)
+
+-- labels are sought at a place, and the table is one of bounds whatever marks its classes have
+pub record IsSearchAround (g : Graph) (cost : Cost) (pats : List Pattern) (b : BoundsState) (tops : TopsState) (marks : List (Option Mark)) (place : ℕ) : Type 0 where
+  pub search : IsSearch g cost pats b tops marks
+  pub around : AreBoundsAround b g marks place
+
+-- what a search at one class does: it lowers the label or not, and no match would lower it then, by a table of bounds, if it is still
+pub record LowersMark (g : Graph) (cost : Cost) (pats : List Pattern) (b : BoundsState) (tops : TopsState) (old new : List (Option Mark)) (class : ℕ) (visit : Visit) : Type 0 where
+  pub known : AreKnown cost pats b.gaps tops
+  pub takes : Takes g cost pats old new visit.lowered
+  pub none : visit.lowered ≡ false → visit.is_still ≡ true
+  pub bounded : visit.is_still ≡ true → AreBounds b g old → IsBounded g cost pats new class
+  pub others : AreSameBut (λ c. c ≡ class) old new
+
+-- what a visit of a place does in rounds: only its numbers and labels are others, and some have fallen, or none would
+pub record LowersPair (g : Graph) (cost : Cost) (pats : List Pattern) (tops : TopsState) (old new : LabelState) (place : ℕ) (changed : Bool) : Type 0 where
+  pub search : IsSearch g cost pats new.bounds tops new.marks
+  pub lowers : Lowers g cost pats old new (λ c. c / 2 ≡ place) changed
+  pub others : IsSameBut (λ c. c / 2 ≡ place) old new
+
+-- the label of the class has been lowered until no match would lower it
+pub record IsFound (g : Graph) (cost : Cost) (pats : List Pattern) (b : BoundsState) (tops : TopsState) (old new : List (Option Mark)) (class : ℕ) (lowered : Bool) : Type 0 where
+  pub search : IsSearch g cost pats b tops new
+  pub same : lowered ≡ false → new ≡ old
+  pub bounded : IsBounded g cost pats new class
+  pub others : AreSameBut (λ c. c ≡ class) old new
+
+-- those of the two classes of the place have been lowered, and no match would lower one if that is told
+pub record ArePairFound (g : Graph) (cost : Cost) (pats : List Pattern) (b : BoundsState) (tops : TopsState) (old new : List (Option Mark)) (place : ℕ) (found : Bool) : Type 0 where
+  pub search : IsSearch g cost pats b tops new
+  pub bounded : found ≡ true → (c : ℕ) → c / 2 ≡ place → IsBounded g cost pats new c
+  pub others : AreSameBut (λ c. c / 2 ≡ place) old new
+
+-- a table with the rows of the graph, and as many marks as classes, where the parts of the place are other places
+pub record AreRowsAround (g : Graph) (b : BoundsState) (marks : List (Option Mark)) (place : ℕ) : Type 0 where
+  pub one_each : length marks ≡ length g.pairs
+  pub rows : AreRows b.parts b.starts b.numbers g
+  pub elsewhere : ArePartsElsewhere g place
+
+-- only the numbers of the classes of the place are others, and none of them would fall
+pub record AreSetAt (g : Graph) (marks : List (Option Mark)) (place : ℕ) (old new : BoundsState) : Type 0 where
+  pub others : IsTableBut (λ c. c / 2 ≡ place) old new
+  pub settled : (c : ℕ) → c / 2 ≡ place → AreSettledAt new g marks c
+
+-- visits of the places of a graph, and labels that fall
+pub record IsRound (g : Graph) (cost : Cost) (pats : List Pattern) (v : VisitState) (s : LabelState) (tops : TopsState) : Type 0 where
+  pub places : v.places ≡ places_of g
+  pub falling : AreFalling g cost pats s tops v.still
+
+-- the visits are the same, and labels fall still
+pub record IsRoundAfter (g : Graph) (cost : Cost) (pats : List Pattern) (old new : VisitState) (s : LabelState) (tops : TopsState) : Type 0 where
+  pub visits : new ≡ old
+  pub falling : AreFalling g cost pats s tops old.still
+
+-- a round in which each class has the numbers 0, or its numbers are settled
+pub record IsFirstRound (g : Graph) (cost : Cost) (pats : List Pattern) (v : VisitState) (s : LabelState) (tops : TopsState) : Type 0 where
+  pub round : IsRound g cost pats v s tops
+  pub numbers : AreZeroOrSettled g s v.still

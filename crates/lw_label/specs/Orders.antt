@@ -49,6 +49,28 @@ abbrev pub IsStillAfter : Graph → ℕ → List Bool → List Bool → Type 0
 IsStillAfter g place old new =
     (new ≡ old) ⊎ ((place < length old) × (new ≡ slice_set old place true) × ((c : ℕ) → c / 2 ≡ place → ArePartsStill g old c))
 
+-- the visits, where perhaps a place has become still
+pub record AreVisitsAfter (g : Graph) (place : ℕ) (old new : VisitState) : Type 0 where
+  pub order : new.order ≡ old.order
+  pub places : new.places ≡ old.places
+  pub still : IsStillAfter g place old.still new.still
+
+-- a visit of a place of the graph
+pub record IsVisitOf (g : Graph) (v : VisitState) (n : ℕ) : Type 0 where
+  pub number : n < length v.order
+  pub places : v.places ≡ places_of g
+
+-- the place of the visit
+pub record IsPlaceAt (v : VisitState) (number p : ℕ) : Type 0 where
+  pub place : slice_get v.order number ≡ Some p
+  pub within : p < v.places
+
+-- a place that is not still, but its parts are
+pub record IsReady (g : Graph) (v : VisitState) (place : ℕ) : Type 0 where
+  pub within : place < v.places
+  pub moving : slice_index_or v.still place false ≡ false
+  pub parts : (c : ℕ) → c / 2 ≡ place → ArePartsStill g v.still c
+
 -- in a whole round, the classes whose place is among the first ones of an order
 abbrev pub IsPassed : Bool → List ℕ → ℕ → ℕ → Type 0
 IsPassed whole order count c = (whole ≡ true) × ((i : ℕ) × (i < count) × (slice_get order i ≡ Some (c / 2)))

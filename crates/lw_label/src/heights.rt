@@ -6,8 +6,8 @@ ghost use Rattle.lw_match.specs.Values.{marks_in};
 ghost use Rattle.lw_label.specs.Labels.{costs_of, AreLeastMarks};
 ghost use Rattle.lw_label.specs.Lowering.{AreLowering};
 ghost use Rattle.lw_label.specs.Orders.{IsVisited, places_of};
-ghost use Rattle.lw_label.specs.Heights.{AreHeightMarks, AreSameBut, IsHeightSearch, IsNoPin, IsReachedFrom, LowersFrom, TakesFrom, TakesHeight, height_limit, heights_weight, with_mark};
-ghost use Rattle.lw_label.specs.HeightTables.{AreHeightsFalling, HasHeightsOf, IsTableAround, with_heights};
+ghost use Rattle.lw_label.specs.Heights.{AreHeightMarks, IsNoPin, IsReachedFrom, LowersFrom, TakesHeight, height_limit, heights_weight, with_mark};
+ghost use Rattle.lw_label.specs.HeightTables.{HasHeightsOf, IsHeightRound, IsHeightRoundAfter, IsHeightSearchAround, LowersHeight, LowersHeightPair, with_heights};
 ghost use Rattle.lw_laws.specs.Laws.{AreBoundedIn};
 ghost use Rattle.lw_laws.specs.Rounds.{labels_in};
 
@@ -112,18 +112,10 @@ fn lower_height<C: Cost>(
     class: ClassId,
 ) -> Visit
     requires class { class.0 < length given.now.graph.now.pairs }
-    requires search { IsHeightSearch (C.costs given.now.cost.now) given.now tops.old marks.old }
-    requires table { IfSome table.old (IsTableAround given.now.graph.now given.now.pats.now
-        marks.old (class.0 / 2)) }
-    ensures search { IsHeightSearch (C.costs given.now.cost.now) given.now tops.new marks.new }
-    ensures takes { TakesFrom (C.costs given.now.cost.now) given.now marks.old marks.new
-        result.lowered }
-    ensures reached { result.lowered ≡ false →
-        IsReachedFrom (C.costs given.now.cost.now) given.now marks.old class.0 }
-    ensures still { result.is_still ≡ true →
-        IsReachedFrom (C.costs given.now.cost.now) given.now marks.new class.0 }
-    ensures others { AreSameBut (λ c. c ≡ class.0) marks.old marks.new }
-    ensures table { table.new ≡ with_heights marks.new table.old }
+    requires at { IsHeightSearchAround (C.costs given.now.cost.now) given.now tops.old table.old
+        marks.old (class.0 / 2) }
+    ensures { LowersHeight (C.costs given.now.cost.now) given.now tops.new table.old table.new
+        marks.old marks.new class.0 result }
 {
     let Some(label) = given.labels[class.0 as usize] else {
         return Visit {
@@ -184,16 +176,10 @@ fn lower_height_pair<C: Cost>(
     place: u32,
 ) -> Visit
     requires place { place < places_of given.now.graph.now }
-    requires search { IsHeightSearch (C.costs given.now.cost.now) given.now tops.old marks.old }
-    requires table { IfSome table.old (IsTableAround given.now.graph.now given.now.pats.now
-        marks.old place) }
-    ensures search { IsHeightSearch (C.costs given.now.cost.now) given.now tops.new marks.new }
-    ensures lowers { LowersFrom (C.costs given.now.cost.now) given.now marks.old marks.new
-        (λ c. c / 2 ≡ place) result.lowered }
-    ensures still { result.is_still ≡ true → (c : ℕ) → c / 2 ≡ place →
-        IsReachedFrom (C.costs given.now.cost.now) given.now marks.new c }
-    ensures others { AreSameBut (λ c. c / 2 ≡ place) marks.old marks.new }
-    ensures table { table.new ≡ with_heights marks.new table.old }
+    requires at { IsHeightSearchAround (C.costs given.now.cost.now) given.now tops.old table.old
+        marks.old place }
+    ensures { LowersHeightPair (C.costs given.now.cost.now) given.now tops.new table.old table.new
+        marks.old marks.new place result }
 {
     let class = first_of(given.graph, given.labels, place);
     let other = class.flip();
@@ -226,13 +212,10 @@ fn lower_height_place<C: Cost>(
     whole: bool,
 ) -> bool
     requires number { number < length visits.old.order }
-    requires places { visits.old.places ≡ places_of given.now.graph.now }
-    requires falling { AreHeightsFalling (C.costs given.now.cost.now) given.now tops.old table.old
-        marks.old visits.old.still }
-    ensures order { visits.new.order ≡ visits.old.order }
-    ensures places { visits.new.places ≡ visits.old.places }
-    ensures falling { AreHeightsFalling (C.costs given.now.cost.now) given.now tops.new table.new
-        marks.new visits.new.still }
+    requires round { IsHeightRound (C.costs given.now.cost.now) given.now visits.old tops.old
+        table.old marks.old }
+    ensures after { IsHeightRoundAfter (C.costs given.now.cost.now) given.now visits.old
+        visits.new tops.new table.new marks.new }
     ensures lowers { LowersFrom (C.costs given.now.cost.now) given.now marks.old marks.new
         (IsVisited whole visits.old.order number) result }
 {
@@ -258,13 +241,10 @@ fn lower_height_round<C: Cost>(
     marks: &mut [Option<Mark>],
     whole: bool,
 ) -> bool
-    requires places { visits.old.places ≡ places_of given.now.graph.now }
-    requires falling { AreHeightsFalling (C.costs given.now.cost.now) given.now tops.old table.old
-        marks.old visits.old.still }
-    ensures order { visits.new.order ≡ visits.old.order }
-    ensures places { visits.new.places ≡ visits.old.places }
-    ensures falling { AreHeightsFalling (C.costs given.now.cost.now) given.now tops.new table.new
-        marks.new visits.new.still }
+    requires { IsHeightRound (C.costs given.now.cost.now) given.now visits.old tops.old
+        table.old marks.old }
+    ensures after { IsHeightRoundAfter (C.costs given.now.cost.now) given.now visits.old
+        visits.new tops.new table.new marks.new }
     ensures lowers { LowersFrom (C.costs given.now.cost.now) given.now marks.old marks.new
         (λ c. (whole ≡ true) × (c < length given.now.graph.now.pairs)) result }
 {
@@ -285,13 +265,10 @@ fn lower_height_rounds<C: Cost>(
     visits: &mut Visits,
     marks: &mut [Option<Mark>],
 ) -> bool
-    requires places { visits.old.places ≡ places_of given.now.graph.now }
-    requires falling { AreHeightsFalling (C.costs given.now.cost.now) given.now tops.old table.old
-        marks.old visits.old.still }
-    ensures order { visits.new.order ≡ visits.old.order }
-    ensures places { visits.new.places ≡ visits.old.places }
-    ensures falling { AreHeightsFalling (C.costs given.now.cost.now) given.now tops.new table.new
-        marks.new visits.new.still }
+    requires { IsHeightRound (C.costs given.now.cost.now) given.now visits.old tops.old
+        table.old marks.old }
+    ensures after { IsHeightRoundAfter (C.costs given.now.cost.now) given.now visits.old
+        visits.new tops.new table.new marks.new }
     ensures falls { result ≡ true → heights_weight marks.new < heights_weight marks.old }
     ensures reached { result ≡ false → (c : ℕ) → c < length given.now.graph.now.pairs →
         IsReachedFrom (C.costs given.now.cost.now) given.now marks.new c }
@@ -308,9 +285,8 @@ pub(crate) fn lower_all_heights<C: Cost>(
     visits: &mut Visits,
     marks: &mut [Option<Mark>],
 )
-    requires places { visits.old.places ≡ places_of given.now.graph.now }
-    requires falling { AreHeightsFalling (C.costs given.now.cost.now) given.now tops.old table.old
-        marks.old visits.old.still }
+    requires { IsHeightRound (C.costs given.now.cost.now) given.now visits.old tops.old
+        table.old marks.old }
     ensures least { AreLeastMarks given.now.graph.now (C.costs given.now.cost.now)
         given.now.pats.now marks.new }
     ensures bounds { AreBounds given.now.bounds.now given.now.graph.now marks.new }

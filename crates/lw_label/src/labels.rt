@@ -1,9 +1,8 @@
-ghost use Rattle.std.specs.Prelude.{◌≡◌, ◌<◌, None, false, IfOk, IfSome, length, replicate, slice_index_or};
-ghost use Rattle.lw_match.specs.Bounds.{BoundsFit, AreBounds, AreZero};
+ghost use Rattle.std.specs.Prelude.{◌≡◌, ◌<◌, None, IfOk, length, slice_index_or};
+ghost use Rattle.lw_match.specs.Bounds.{BoundsFit, AreBounds};
 ghost use Rattle.lw_match.specs.Least.{AreOfCells};
-ghost use Rattle.lw_label.specs.HeightTables.{IsNewTable};
-ghost use Rattle.lw_label.specs.Labels.{AreLeastMarks};
-ghost use Rattle.lw_label.specs.Orders.{places_of};
+ghost use Rattle.lw_label.specs.HeightTables.{AreUnmarked};
+ghost use Rattle.lw_label.specs.Labels.{AreBoundedMarks, AreLeastMarks};
 
 use crate::heights::{Given, lower_all_heights, start_heights};
 use crate::lowering::{label_inputs, lower_all, no_marks};
@@ -122,17 +121,10 @@ fn mark_all<C: Cost>(
     labels: &mut [Option<Mark>],
     marks: &mut [Option<Mark>],
 )
-    requires places { visits.old.places ≡ places_of graph.now }
-    requires still { visits.old.still ≡ replicate (places_of graph.now) false }
     requires of_cells { AreOfCells (C.costs cost.now).pin_counts pats.now }
-    requires fits { BoundsFit bounds.old pats.now graph.now }
-    requires zero { AreZero bounds.old.numbers }
-    requires table { IfSome table.old (IsNewTable graph.now pats.now) }
-    requires no_labels { labels.old ≡ replicate (length graph.now.pairs) None }
-    requires no_marks { marks.old ≡ replicate (length graph.now.pairs) None }
-    ensures least { AreLeastMarks graph.now (C.costs cost.now) pats.now marks.new }
-    ensures fits { BoundsFit bounds.new pats.now graph.now }
-    ensures bounds { AreBounds bounds.new graph.now marks.new }
+    requires unmarked { AreUnmarked graph.now pats.now visits.old bounds.old table.old labels.old
+        marks.old }
+    ensures { AreBoundedMarks graph.now (C.costs cost.now) pats.now bounds.new marks.new }
 {
     let _ = graph.classes();
     label_inputs(graph, cost, labels);

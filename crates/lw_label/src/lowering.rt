@@ -1,15 +1,13 @@
 // Labels in rounds.
 ghost use Rattle.std.specs.Prelude.{◌≡◌, ◌<◌, ◌≤◌, ◌/◌, ◌||◌, ℕ, Some, None, true, false, IfOk, length, replicate, slice_get, slice_index_or};
-ghost use Rattle.lw_match.specs.Least.{AreOfCells};
-ghost use Rattle.lw_match.specs.Bounds.{AreBounds, AreZero, BoundsFit};
+ghost use Rattle.lw_match.specs.Bounds.{AreZero};
 ghost use Rattle.lw_match.specs.Cutting.{AreKnown, IsMatchWithin};
 ghost use Rattle.lw_match.specs.Values.{marks_in};
-ghost use Rattle.lw_label.specs.Labels.{costs_of};
-ghost use Rattle.lw_label.specs.Lowering.{AreLowering, IsBounded, IsLabelled, IsLowerOf, Lowers, Takes, state, state_weight, weight};
-ghost use Rattle.lw_label.specs.OneVisit.{AreFalling, IsSameBut, with_label};
-ghost use Rattle.lw_label.specs.Heights.{AreSameBut};
-ghost use Rattle.lw_label.specs.Orders.{IsPassed, IsVisited, places_of};
-ghost use Rattle.lw_laws.specs.Laws.{AreBoundedIn, IsCoverProblem};
+ghost use Rattle.lw_label.specs.Lowering.{AreLowering, IsLabelled, IsLowerOf, Lowers, Takes, state, state_weight};
+ghost use Rattle.lw_label.specs.OneVisit.{AreSought, IsRound, IsRoundAfter, IsSearch, LowersMark, LowersPair, with_label};
+ghost use Rattle.lw_label.specs.Heights.{AreGiven, AreSameBut};
+ghost use Rattle.lw_label.specs.Orders.{IsVisited, places_of};
+ghost use Rattle.lw_laws.specs.Laws.{IsCoverProblem};
 
 use crate::heights::Visit;
 use crate::once::{forget_moving, label_places};
@@ -83,18 +81,9 @@ pub(crate) fn lower_mark<C: Cost>(
     class: ClassId,
 ) -> Visit
     requires class { class.0 < length graph.now.pairs }
-    requires of_cells { AreOfCells (C.costs cost.now).pin_counts pats.now }
-    requires problem { IsCoverProblem graph.now pats.now (C.costs cost.now) }
-    requires fits { BoundsFit bounds.now pats.now graph.now }
-    requires known { AreKnown (C.costs cost.now) pats.now bounds.now.gaps tops.old }
-    requires lowering { AreLowering graph.now (C.costs cost.now) pats.now marks.old }
-    ensures known { AreKnown (C.costs cost.now) pats.now bounds.now.gaps tops.new }
-    ensures takes { Takes graph.now (C.costs cost.now) pats.now marks.old marks.new
-        result.lowered }
-    ensures none { result.lowered ≡ false → result.is_still ≡ true }
-    ensures bounded { result.is_still ≡ true → AreBounds bounds.now graph.now marks.old →
-        IsBounded graph.now (C.costs cost.now) pats.now marks.new class.0 }
-    ensures others { AreSameBut (λ c. c ≡ class.0) marks.old marks.new }
+    requires search { IsSearch graph.now (C.costs cost.now) pats.now bounds.now tops.old marks.old }
+    ensures { LowersMark graph.now (C.costs cost.now) pats.now bounds.now tops.new marks.old
+        marks.new class.0 result }
 {
     let old = marks[class.0 as usize];
     let found = better_within(graph, pats, bounds, marks, class, cost, tops, old);
@@ -113,10 +102,7 @@ fn lower_bare<C: Cost>(
     class: ClassId,
 ) -> bool
     requires class { class.0 < length graph.now.pairs }
-    requires of_cells { AreOfCells (C.costs cost.now).pin_counts pats.now }
-    requires problem { IsCoverProblem graph.now pats.now (C.costs cost.now) }
-    requires fits { BoundsFit bounds.now pats.now graph.now }
-    requires lowering { AreLowering graph.now (C.costs cost.now) pats.now marks.old }
+    requires sought { AreSought graph.now (C.costs cost.now) pats.now bounds.now marks.old }
     ensures takes { Takes graph.now (C.costs cost.now) pats.now marks.old marks.new result }
     ensures others { AreSameBut (λ c. c ≡ class.0) marks.old marks.new }
 {
@@ -161,10 +147,7 @@ fn lower_again<C: Cost>(
     lowered: bool,
 ) -> bool
     requires place { place < places_of graph.now }
-    requires of_cells { AreOfCells (C.costs cost.now).pin_counts pats.now }
-    requires problem { IsCoverProblem graph.now pats.now (C.costs cost.now) }
-    requires fits { BoundsFit bounds.now pats.now graph.now }
-    requires lowering { AreLowering graph.now (C.costs cost.now) pats.now marks.old }
+    requires sought { AreSought graph.now (C.costs cost.now) pats.now bounds.now marks.old }
     ensures takes { Takes graph.now (C.costs cost.now) pats.now marks.old marks.new result }
     ensures others { AreSameBut (λ c. c / 2 ≡ place) marks.old marks.new }
 {
@@ -189,18 +172,9 @@ fn lower_pair<C: Cost>(
     place: u32,
 ) -> bool
     requires place { place < places_of graph.now }
-    requires of_cells { AreOfCells (C.costs cost.now).pin_counts pats.now }
-    requires problem { IsCoverProblem graph.now pats.now (C.costs cost.now) }
-    requires fits { BoundsFit bounds.old pats.now graph.now }
-    requires known { AreKnown (C.costs cost.now) pats.now bounds.old.gaps tops.old }
-    requires lowering { AreLowering graph.now (C.costs cost.now) pats.now marks.old }
-    ensures fits { BoundsFit bounds.new pats.now graph.now }
-    ensures known { AreKnown (C.costs cost.now) pats.now bounds.new.gaps tops.new }
-    ensures lowering { AreLowering graph.now (C.costs cost.now) pats.now marks.new }
-    ensures lowers { Lowers graph.now (C.costs cost.now) pats.now (state bounds.old marks.old)
-        (state bounds.new marks.new) (λ c. c / 2 ≡ place) result }
-    ensures others { IsSameBut (λ c. c / 2 ≡ place) (state bounds.old marks.old)
-        (state bounds.new marks.new) }
+    requires search { IsSearch graph.now (C.costs cost.now) pats.now bounds.old tops.old marks.old }
+    ensures { LowersPair graph.now (C.costs cost.now) pats.now tops.new
+        (state bounds.old marks.old) (state bounds.new marks.new) place result }
 {
     let _ = graph.classes();
     let odd = ClassId(place * 2 + 1);
@@ -229,12 +203,10 @@ fn lower_place<C: Cost>(
     whole: bool,
 ) -> bool
     requires number { number < length visits.old.order }
-    requires places { visits.old.places ≡ places_of graph.now }
-    requires falling { AreFalling graph.now (C.costs cost.now) pats.now
-        (state bounds.old marks.old) tops.old visits.old.still }
-    ensures visits { visits.new ≡ visits.old }
-    ensures falling { AreFalling graph.now (C.costs cost.now) pats.now
-        (state bounds.new marks.new) tops.new visits.old.still }
+    requires round { IsRound graph.now (C.costs cost.now) pats.now visits.old
+        (state bounds.old marks.old) tops.old }
+    ensures after { IsRoundAfter graph.now (C.costs cost.now) pats.now visits.old visits.new
+        (state bounds.new marks.new) tops.new }
     ensures lowers { Lowers graph.now (C.costs cost.now) pats.now (state bounds.old marks.old)
         (state bounds.new marks.new) (IsVisited whole visits.old.order number) result }
 {
@@ -258,12 +230,10 @@ fn lower_round<C: Cost>(
     marks: &mut [Option<Mark>],
     whole: bool,
 ) -> bool
-    requires places { visits.old.places ≡ places_of graph.now }
-    requires falling { AreFalling graph.now (C.costs cost.now) pats.now
-        (state bounds.old marks.old) tops.old visits.old.still }
-    ensures visits { visits.new ≡ visits.old }
-    ensures falling { AreFalling graph.now (C.costs cost.now) pats.now
-        (state bounds.new marks.new) tops.new visits.old.still }
+    requires { IsRound graph.now (C.costs cost.now) pats.now visits.old
+        (state bounds.old marks.old) tops.old }
+    ensures after { IsRoundAfter graph.now (C.costs cost.now) pats.now visits.old visits.new
+        (state bounds.new marks.new) tops.new }
     ensures lowers { Lowers graph.now (C.costs cost.now) pats.now (state bounds.old marks.old)
         (state bounds.new marks.new) (λ c. (whole ≡ true) × (c < length graph.now.pairs)) result }
 {
@@ -289,12 +259,10 @@ fn lower_rounds<C: Cost>(
     tops: &mut Tops,
     marks: &mut [Option<Mark>],
 ) -> bool
-    requires places { visits.old.places ≡ places_of graph.now }
-    requires falling { AreFalling graph.now (C.costs cost.now) pats.now
-        (state bounds.old marks.old) tops.old visits.old.still }
-    ensures visits { visits.new ≡ visits.old }
-    ensures falling { AreFalling graph.now (C.costs cost.now) pats.now
-        (state bounds.new marks.new) tops.new visits.old.still }
+    requires { IsRound graph.now (C.costs cost.now) pats.now visits.old
+        (state bounds.old marks.old) tops.old }
+    ensures after { IsRoundAfter graph.now (C.costs cost.now) pats.now visits.old visits.new
+        (state bounds.new marks.new) tops.new }
     ensures falls { result ≡ true →
         state_weight (C.costs cost.now)
         (state bounds.new marks.new) < state_weight (C.costs cost.now)
@@ -317,16 +285,12 @@ pub(crate) fn lower_all<C: Cost>(
     tops: &mut Tops,
     marks: &mut [Option<Mark>],
 )
-    requires places { visits.old.places ≡ places_of graph.now }
-    requires falling { AreFalling graph.now (C.costs cost.now) pats.now
-        (state bounds.old marks.old) tops.old visits.old.still }
+    requires round { IsRound graph.now (C.costs cost.now) pats.now visits.old
+        (state bounds.old marks.old) tops.old }
     requires zero { AreZero bounds.old.numbers }
     ensures places { visits.new.places ≡ visits.old.places }
-    ensures fits { BoundsFit bounds.new pats.now graph.now }
     ensures known { AreKnown (C.costs cost.now) pats.now bounds.new.gaps tops.new }
-    ensures lowering { AreLowering graph.now (C.costs cost.now) pats.now marks.new }
-    ensures bounds { AreBounds bounds.new graph.now marks.new }
-    ensures bounded { AreBoundedIn graph.now pats.now (C.costs cost.now) (costs_of marks.new) }
+    ensures given { AreGiven graph.now (C.costs cost.now) pats.now bounds.new marks.new }
 {
     let _ = graph.classes();
     label_places(graph, pats, cost, visits, bounds, tops, marks);

@@ -1,9 +1,8 @@
 // Labels by one visit of each place.
-ghost use Rattle.std.specs.Prelude.{◌≡◌, ◌<◌, ◌/◌, ◌⊎◌, ℕ, true, false, length, slice_index_or};
+ghost use Rattle.std.specs.Prelude.{◌≡◌, ◌<◌, ◌/◌, ◌⊎◌, false, length};
 ghost use Rattle.lw_match.specs.Bounds.{AreRows, AreSettledAt, AreZero, IsTableBut};
-ghost use Rattle.lw_label.specs.Heights.{AreSameBut};
-ghost use Rattle.lw_label.specs.Lowering.{IsBounded, state};
-ghost use Rattle.lw_label.specs.OneVisit.{AreBoundsAround, AreFalling, ArePartsElsewhere, AreZeroOrSettled, IsNoCheaper, IsSearch};
+ghost use Rattle.lw_label.specs.Lowering.{state};
+ghost use Rattle.lw_label.specs.OneVisit.{ArePairFound, AreRowsAround, AreSetAt, IsFirstRound, IsFound, IsNoCheaper, IsRound, IsSearchAround};
 ghost use Rattle.lw_label.specs.Orders.{IsStillAt, places_of};
 
 use crate::heights::first_of;
@@ -17,9 +16,7 @@ use lw_pool::ClassId;
 // Gives a class the numbers that its pairs give.
 fn set_class(graph: &Graph, bounds: &mut Bounds, marks: &[Option<Mark>], class: ClassId)
     requires class { class.0 < length graph.now.pairs }
-    requires one_each { length marks.now ≡ length graph.now.pairs }
-    requires rows { AreRows bounds.old.parts bounds.old.starts bounds.old.numbers graph.now }
-    requires elsewhere { ArePartsElsewhere graph.now (class.0 / 2) }
+    requires around { AreRowsAround graph.now bounds.old marks.now (class.0 / 2) }
     ensures others { IsTableBut (λ c. c ≡ class.0) bounds.old bounds.new }
     ensures settled { AreSettledAt bounds.new graph.now marks.now class.0 }
 {
@@ -30,11 +27,8 @@ fn set_class(graph: &Graph, bounds: &mut Bounds, marks: &[Option<Mark>], class: 
 // Gives the two classes of a place the numbers that their pairs give.
 pub(crate) fn set_pair(graph: &Graph, bounds: &mut Bounds, marks: &[Option<Mark>], place: u32)
     requires place { place < places_of graph.now }
-    requires one_each { length marks.now ≡ length graph.now.pairs }
-    requires rows { AreRows bounds.old.parts bounds.old.starts bounds.old.numbers graph.now }
-    requires elsewhere { ArePartsElsewhere graph.now place }
-    ensures others { IsTableBut (λ c. c / 2 ≡ place) bounds.old bounds.new }
-    ensures settled { (c : ℕ) → c / 2 ≡ place → AreSettledAt bounds.new graph.now marks.now c }
+    requires around { AreRowsAround graph.now bounds.old marks.now place }
+    ensures { AreSetAt graph.now marks.now place bounds.old bounds.new }
 {
     let _ = graph.classes();
     set_class(graph, bounds, marks, ClassId(place * 2 + 1));
@@ -52,12 +46,10 @@ fn lower_whole<C: Cost>(
     class: ClassId,
 ) -> bool
     requires class { class.0 < length graph.now.pairs }
-    requires search { IsSearch graph.now (C.costs cost.now) pats.now bounds.now tops.old marks.old }
-    requires around { AreBoundsAround bounds.now graph.now marks.old (class.0 / 2) }
-    ensures search { IsSearch graph.now (C.costs cost.now) pats.now bounds.now tops.new marks.new }
-    ensures same { result ≡ false → marks.new ≡ marks.old }
-    ensures bounded { IsBounded graph.now (C.costs cost.now) pats.now marks.new class.0 }
-    ensures others { AreSameBut (λ c. c ≡ class.0) marks.old marks.new }
+    requires at { IsSearchAround graph.now (C.costs cost.now) pats.now bounds.now tops.old
+        marks.old (class.0 / 2) }
+    ensures { IsFound graph.now (C.costs cost.now) pats.now bounds.now tops.new marks.old
+        marks.new class.0 result }
 {
     let first = lower_mark(graph, pats, cost, bounds, tops, marks, class);
     if first.is_still {
@@ -95,12 +87,10 @@ fn label_pair<C: Cost>(
     place: u32,
 ) -> bool
     requires place { place < places_of graph.now }
-    requires search { IsSearch graph.now (C.costs cost.now) pats.now bounds.now tops.old marks.old }
-    requires around { AreBoundsAround bounds.now graph.now marks.old place }
-    ensures search { IsSearch graph.now (C.costs cost.now) pats.now bounds.now tops.new marks.new }
-    ensures bounded { result ≡ true → (c : ℕ) → c / 2 ≡ place →
-        IsBounded graph.now (C.costs cost.now) pats.now marks.new c }
-    ensures others { AreSameBut (λ c. c / 2 ≡ place) marks.old marks.new }
+    requires at { IsSearchAround graph.now (C.costs cost.now) pats.now bounds.now tops.old
+        marks.old place }
+    ensures { ArePairFound graph.now (C.costs cost.now) pats.now bounds.now tops.new marks.old
+        marks.new place result }
 {
     let class = first_of(graph, marks, place);
     let other = class.flip();
@@ -129,15 +119,11 @@ fn label_place<C: Cost>(
     number: usize,
 )
     requires number { number < length visits.old.order }
-    requires places { visits.old.places ≡ places_of graph.now }
-    requires falling { AreFalling graph.now (C.costs cost.now) pats.now
-        (state bounds.old marks.old) tops.old visits.old.still }
-    requires numbers { AreZeroOrSettled graph.now (state bounds.old marks.old) visits.old.still }
+    requires first { IsFirstRound graph.now (C.costs cost.now) pats.now visits.old
+        (state bounds.old marks.old) tops.old }
     ensures order { visits.new.order ≡ visits.old.order }
-    ensures places { visits.new.places ≡ visits.old.places }
-    ensures falling { AreFalling graph.now (C.costs cost.now) pats.now
-        (state bounds.new marks.new) tops.new visits.new.still }
-    ensures numbers { AreZeroOrSettled graph.now (state bounds.new marks.new) visits.new.still }
+    ensures first { IsFirstRound graph.now (C.costs cost.now) pats.now visits.new
+        (state bounds.new marks.new) tops.new }
 {
     let Some(place) = visits.ready(graph, number) else {
         return;
@@ -160,13 +146,11 @@ pub(crate) fn label_places<C: Cost>(
     tops: &mut Tops,
     marks: &mut [Option<Mark>],
 )
-    requires places { visits.old.places ≡ places_of graph.now }
-    requires falling { AreFalling graph.now (C.costs cost.now) pats.now
-        (state bounds.old marks.old) tops.old visits.old.still }
+    requires round { IsRound graph.now (C.costs cost.now) pats.now visits.old
+        (state bounds.old marks.old) tops.old }
     requires zero { AreZero bounds.old.numbers }
-    ensures places { visits.new.places ≡ visits.old.places }
-    ensures falling { AreFalling graph.now (C.costs cost.now) pats.now
-        (state bounds.new marks.new) tops.new visits.new.still }
+    ensures { IsRound graph.now (C.costs cost.now) pats.now visits.new
+        (state bounds.new marks.new) tops.new }
 {
     for number in 0..visits.len() {
         label_place(graph, pats, cost, visits, bounds, tops, marks, number);

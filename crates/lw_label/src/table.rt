@@ -1,10 +1,9 @@
 // A table of bounds on heights.
-ghost use Rattle.std.specs.Prelude.{◌≡◌, ◌<◌, ◌/◌, ℕ, false, IfOk, IfSome, length, option_map, slice_index_or, slice_set};
-ghost use Rattle.lw_match.specs.Bounds.{AreRows, AreSettledAt, IsTableBut};
+ghost use Rattle.std.specs.Prelude.{◌≡◌, ◌<◌, false, IfOk, IfSome, length, option_map, slice_index_or, slice_set};
 ghost use Rattle.lw_match.specs.HeightBounds.{height_mark};
 ghost use Rattle.lw_label.specs.HeightTables.{HasHeightsOf, IsHeightTable, IsNewTable};
 ghost use Rattle.lw_label.specs.Lowering.{state};
-ghost use Rattle.lw_label.specs.OneVisit.{ArePartsElsewhere};
+ghost use Rattle.lw_label.specs.OneVisit.{AreRowsAround, AreSetAt};
 ghost use Rattle.lw_label.specs.Orders.{places_of};
 
 use crate::heights::Given;
@@ -65,14 +64,9 @@ impl HeightTable {
     // Gives the two classes of a place the numbers that their pairs give.
     fn set_rows(&mut self, graph: &Graph, place: u32)
         requires place { place < places_of graph.now }
-        requires one_each { length self.old.marks ≡ length graph.now.pairs }
-        requires rows { AreRows self.old.bounds.parts self.old.bounds.starts
-            self.old.bounds.numbers graph.now }
-        requires elsewhere { ArePartsElsewhere graph.now place }
+        requires around { AreRowsAround graph.now self.old.bounds self.old.marks place }
         ensures marks { self.new.marks ≡ self.old.marks }
-        ensures others { IsTableBut (λ c. c / 2 ≡ place) self.old.bounds self.new.bounds }
-        ensures settled { (c : ℕ) → c / 2 ≡ place →
-            AreSettledAt self.new.bounds graph.now self.new.marks c }
+        ensures set { AreSetAt graph.now self.new.marks place self.old.bounds self.new.bounds }
     {
         set_pair(graph, &mut self.bounds, &self.marks, place);
     }

@@ -1,6 +1,6 @@
 // Which classes are visited again.
 ghost use Rattle.std.specs.Prelude.{◌≡◌, ◌<◌, ◌*◌, ◌/◌, ℕ, true, false, IfOk, IfSome, Some, None, length, replicate, slice_get, slice_index_or};
-ghost use Rattle.lw_label.specs.Orders.{ArePartsStill, IsOrder, IsStillAfter, places_of};
+ghost use Rattle.lw_label.specs.Orders.{ArePartsStill, AreVisitsAfter, IsOrder, IsPlaceAt, IsReady, IsVisitOf, places_of};
 
 use crate::order::order_of;
 use lw_graph::Graph;
@@ -152,13 +152,8 @@ impl Visits {
 
     // The place of a visit, if it is not still, but its parts are.
     pub(crate) fn ready(&self, graph: &Graph, number: usize) -> Option<u32>
-        requires number { number < length self.now.order }
-        requires places { self.now.places ≡ places_of graph.now }
-        ensures within { IfSome result (λ place. place < self.now.places) }
-        ensures moving { IfSome result (λ place.
-            slice_index_or self.now.still place false ≡ false) }
-        ensures parts { IfSome result (λ place. (c : ℕ) → c / 2 ≡ place →
-            ArePartsStill graph.now self.now.still c) }
+        requires { IsVisitOf graph.now self.now number }
+        ensures { IfSome result (IsReady graph.now self.now) }
     {
         let place = self.order[number];
         if self.still[place as usize] {
@@ -174,11 +169,9 @@ impl Visits {
     // not yet, or where a part has changed since. A change of a part counts from now on as one of
     // the place, for the places that it is a part of.
     pub(crate) fn due(&mut self, graph: &Graph, number: usize, whole: bool) -> Option<u32>
-        requires number { number < length self.old.order }
-        requires places { self.old.places ≡ places_of graph.now }
+        requires { IsVisitOf graph.now self.old number }
         ensures kept { self.new ≡ self.old }
-        ensures place { IfSome result (λ place. slice_get self.old.order number ≡ Some place) }
-        ensures within { IfSome result (λ place. place < self.old.places) }
+        ensures at { IfSome result (IsPlaceAt self.old number) }
         ensures whole { whole ≡ true → result ≡ None → ⊥ }
     {
         let place = self.order[number];
@@ -198,11 +191,9 @@ impl Visits {
         number: usize,
         whole: bool,
     ) -> Option<u32>
-        requires number { number < length self.old.order }
-        requires places { self.old.places ≡ places_of graph.now }
+        requires { IsVisitOf graph.now self.old number }
         ensures kept { self.new ≡ self.old }
-        ensures place { IfSome result (λ place. slice_get self.old.order number ≡ Some place) }
-        ensures within { IfSome result (λ place. place < self.old.places) }
+        ensures at { IfSome result (IsPlaceAt self.old number) }
         ensures moving { IfSome result (λ place.
             slice_index_or self.old.still place false ≡ false) }
         ensures whole { whole ≡ true → result ≡ None →
@@ -219,9 +210,7 @@ impl Visits {
     pub(crate) fn settle(&mut self, graph: &Graph, place: u32)
         requires places { self.old.places ≡ places_of graph.now }
         requires place { place < self.old.places }
-        ensures order { self.new.order ≡ self.old.order }
-        ensures places { self.new.places ≡ self.old.places }
-        ensures still { IsStillAfter graph.now place self.old.still self.new.still }
+        ensures { AreVisitsAfter graph.now place self.old self.new }
     {
         if are_parts_still(graph, &self.still, place) {
             self.keep(graph, place);
@@ -232,9 +221,7 @@ impl Visits {
     pub(crate) fn keep(&mut self, graph: &Graph, place: u32)
         requires place { place < self.old.places }
         requires parts { (c : ℕ) → c / 2 ≡ place → ArePartsStill graph.now self.old.still c }
-        ensures order { self.new.order ≡ self.old.order }
-        ensures places { self.new.places ≡ self.old.places }
-        ensures still { IsStillAfter graph.now place self.old.still self.new.still }
+        ensures { AreVisitsAfter graph.now place self.old self.new }
     {
         self.still[place as usize] = true;
     }

@@ -4,6 +4,19 @@ use Rattle.lw_label.specs.Orders.{IsOrder, IsPassed, IsVisited}
 use Rattle.lw_label.proofs.Passing.{passes_next, passes_round}
 use Rattle.lw_label.proofs.heights.lower_height_round.Goals as goal
 
+pub lower_height_place-lowered-requires-clause-round : goal.lower_height_place-lowered-requires-clause-round
+lower_height_place-lowered-requires-clause-round g c = record {
+  places = c.loop-number.invariant.places ∙ c.requires.places;
+  falling = c.loop-number.invariant.falling;
+}
+
+pub returns-clause-after : goal.returns-clause-after
+returns-clause-after g c = record {
+  order = c.loop-number.invariant.order;
+  places = c.loop-number.invariant.places;
+  falling = c.loop-number.invariant.falling;
+}
+
 pub loop-number-preserved : goal.loop-number-preserved
 loop-number-preserved g c =
     let costs = g.C.Cost.costs c.args.given.now.cost.now in
@@ -13,9 +26,9 @@ loop-number-preserved g c =
     let visit = c.lower_height_place-lowered in
     let pass = subst (λ o. LowersHeights c.args.given.now.graph.now costs c.args.given.now.pats.now c.args.given.now.labels.now c.loop-number.marks visit.new.marks (IsVisited whole o number) visit.result) c.loop-number.invariant.order visit.ensures.lowers in
     record {
-      order = visit.ensures.order ∙ c.loop-number.invariant.order;
-      places = visit.ensures.places ∙ c.loop-number.invariant.places;
-      falling = visit.ensures.falling;
+      order = visit.ensures.after.order ∙ c.loop-number.invariant.order;
+      places = visit.ensures.after.places ∙ c.loop-number.invariant.places;
+      falling = visit.ensures.after.falling;
       lowers = subst (λ b. LowersHeights c.args.given.now.graph.now costs c.args.given.now.pats.now c.args.given.now.labels.now c.args.marks.now visit.new.marks (IsPassed whole order (number + 1)) b) (sym c.either-changed.ensures) (passes_next heights_weight (IsReached c.args.given.now.graph.now costs c.args.given.now.pats.now c.args.given.now.labels.now) c.args.marks.now c.loop-number.marks visit.new.marks whole order number c.loop-number.changed visit.result c.loop-number.invariant.lowers pass);
     }
 
