@@ -1,4 +1,4 @@
-use Rattle.std.proofs.Common.{◌≡◌, ◌<◌, ◌≤◌, ◌∙◌, ap, arith}
+use Rattle.std.proofs.Common.{◌∙◌, ap, arith}
 use Rattle.lw_label.specs.Heights.{IsReached, heights_weight}
 use Rattle.lw_label.proofs.Passing.{passes_whole}
 use Rattle.lw_label.proofs.heights.lower_height_rounds.Goals as goal

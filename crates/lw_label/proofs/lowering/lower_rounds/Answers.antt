@@ -1,4 +1,4 @@
-use Rattle.std.proofs.Common.{◌≡◌, ◌<◌, ◌≤◌, ◌∙◌, ap, arith}
+use Rattle.std.proofs.Common.{◌∙◌, ap, arith}
 use Rattle.lw_label.specs.Lowering.{IsLabelled, state, state_weight}
 use Rattle.lw_label.proofs.OneVisit.{round_after, round_again}
 use Rattle.lw_label.proofs.Passing.{passes_whole}
