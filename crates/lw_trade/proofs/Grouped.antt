@@ -207,6 +207,18 @@ module _ {X : Type 0} (xs : List X) where
   lefts_in (l ∷ m ∷ ls) zero lt = omega arith
   lefts_in (l ∷ m ∷ ls) (suc c) lt = let ih = lefts_in (m ∷ ls) c (omega arith) in omega arith
 
+  pub lefts_out : (lefts : List ℕ) (c : ℕ) → suc c < length lefts → c < length (rows_of xs lefts)
+  lefts_out [] c lt = absurd (omega arith)
+  lefts_out (l ∷ []) c lt = absurd (omega arith)
+  lefts_out (l ∷ m ∷ ls) zero lt = omega arith
+  lefts_out (l ∷ m ∷ ls) (suc c) lt = let ih = lefts_out (m ∷ ls) c (omega arith) in omega arith
+
+  pub no_row : (lefts : List ℕ) (c : ℕ) → length lefts ≤ suc c → slice_get (rows_of xs lefts) c ≡ None
+  no_row [] c le = refl
+  no_row (l ∷ []) c le = refl
+  no_row (l ∷ m ∷ ls) zero le = absurd (omega arith)
+  no_row (l ∷ m ∷ ls) (suc c) le = no_row (m ∷ ls) c (omega arith)
+
   pub row_is : (lefts : List ℕ) (c l m : ℕ) → slice_get lefts c ≡ Some l → slice_get lefts (suc c) ≡ Some m → slice_get (rows_of xs lefts) c ≡ Some (slice_range xs (length xs - l) (length xs - m))
   row_is [] c l m at bt = cc
   row_is (j ∷ []) zero l m at bt = cc

@@ -1,11 +1,11 @@
 -- The last place of a row is that of the last point of its class.
-use Rattle.std.proofs.Common.{◌≡◌, ℕ, ◌+◌, ◌<◌, ◌≤◌, ◌⊎◌, inl, inr, map, List, Some, None, slice_get, ap, sym, ◌∙◌, arith}
-use Rattle.std.proofs.lemmas.Option.{same_Some}
+use Rattle.std.proofs.Common.{◌≡◌, ℕ, ◌+◌, ◌<◌, ◌≤◌, ◌⊎◌, inl, inr, map, List, Option, Some, None, slice_get, ap, sym, ◌∙◌, subst, arith}
+use Rattle.std.proofs.lemmas.Option.{none-some, same_Some}
 use native.Mathlib.Nat.{eq-or-lt_of_le}
 use Rattle.lw_trade.specs.declared.point.Point.{Point}
 use Rattle.lw_trade.specs.Backing.{Held, IsHeld}
 use Rattle.lw_trade.specs.Groups.{point_in, IsHeldRow}
-use Rattle.lw_trade.specs.Lasts.{IsLastIn, IsLastPlace}
+use Rattle.lw_trade.specs.Lasts.{IsLastIn, IsLastOf, IsLastPlace}
 use Rattle.lw_trade.specs.Trades.{IsLastBy}
 use Rattle.lw_trade.proofs.Grouped.{get_map, map_get}
 
@@ -31,3 +31,11 @@ module _ (held : List Held) (c : ℕ) (row : List Held) (is : IsHeldRow held c r
   pub none_placed : IsLastPlace (map point_in row) delay time None → (k : Held) → IsHeld held k → k.spot.class ≡ c → k.spot.time + delay ≤ time → ⊥
   none_placed none k has e le =
       let (i, at) = is.all k has e in none i (point_in k) (get_map point_in row i k at) le
+
+pub last_of : (rows : List (List Point)) (c : ℕ) (row : List Point) (delay time : ℕ) → slice_get rows c ≡ Some row → (place : Option ℕ) → IsLastPlace row delay time place → IsLastOf rows c delay time place
+last_of rows c row delay time at None none = λ other there.
+    subst (λ ps. IsLastPlace ps delay time None) (same_Some row other (sym at ∙ there)) none
+last_of rows c row delay time at (Some place) last = (row, at, last)
+
+pub no_last : (rows : List (List Point)) (c delay time : ℕ) → slice_get rows c ≡ None → IsLastOf rows c delay time None
+no_last rows c delay time none = λ row at. absurd (none-some row (sym none ∙ at))

@@ -18,3 +18,10 @@ abbrev pub IsLastPlace : List Point → ℕ → ℕ → Option ℕ → Type 0
 IsLastPlace ps delay time None =
     (j : ℕ) (q : Point) → slice_get ps j ≡ Some q → q.time.0 + delay ≤ time → ⊥
 IsLastPlace ps delay time (Some place) = IsLastIn ps delay time place
+
+-- the place of the last one in the row of a class, and none where there is no such class either
+abbrev pub IsLastOf : List (List Point) → ℕ → ℕ → ℕ → Option ℕ → Type 0
+IsLastOf rows c delay time None =
+    (row : List Point) → slice_get rows c ≡ Some row → IsLastPlace row delay time None
+IsLastOf rows c delay time (Some place) =
+    (row : List Point) × (slice_get rows c ≡ Some row) × IsLastIn row delay time place

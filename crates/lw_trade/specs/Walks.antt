@@ -4,15 +4,11 @@ use Rattle.lw_pool.specs.declared.id.CellId.{CellId}
 use Rattle.lw_pool.specs.declared.id.ClassId.{ClassId}
 use Rattle.lw_fixed.specs.declared.micro.Micro.{Micro}
 use Rattle.lw_laws.specs.Graphs.{Graph}
-use Rattle.lw_genlib.specs.Cells.{CellParts}
 use Rattle.lw_dag.specs.Graphs.{fanins_at}
 use Rattle.lw_trade.specs.Areas.{most_area}
 use Rattle.lw_trade.specs.Backing.{Held, IsHeld}
 use Rattle.lw_trade.specs.Choices.{Choice}
 use Rattle.lw_trade.specs.Points.{Task, most_points}
-use Rattle.lw_trade.specs.declared.targets.Targets.{Targets}
-use Rattle.lw_trade.specs.Groups.{CurveLists}
-use Rattle.lw_trade.specs.Targets.{AreTargets, AreCurvesFor}
 use Rattle.lw_trade.specs.Trades.{Site, IsLastBy, IsPinNet, IsGateOfPoint}
 
 -- one of the first inputs for each class that one of them has
@@ -49,14 +45,3 @@ pub record IsWalk (s : Task) (choices : List Choice) (held : List Held) (sites :
   pub gates : (j : ℕ) (site : Site) (cell : CellId) → slice_get sites j ≡ Some site → slice_get cells j ≡ Some cell → IsGateOfPoint s choices held sites site (record { cell = cell.0; pins = fanins_at graph j })
   pub root_nets : HaveRootNets s held sites roots times nets
   pub used : (j : ℕ) → j < length graph → IsUsed (length s.graph.leaves) graph nets (length s.graph.leaves + j)
-
--- the curves are those of some task over this graph and these cells, for some targets with these roots and times
-pub record IsReady (g : Graph) (cells : List CellParts) (roots : List ClassId) (times : List Micro) (curves : CurveLists) : Type 0 where
-  pub task : Task
-  pub targets : Targets
-  pub graph_is : task.graph ≡ g
-  pub cells_are : task.cells ≡ cells
-  pub roots_are : targets.roots ≡ roots
-  pub times_are : targets.times ≡ times
-  pub fit : AreTargets g targets
-  pub curves_are : AreCurvesFor task targets curves

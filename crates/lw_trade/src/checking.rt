@@ -12,14 +12,12 @@ use lw_genlib::Library;
 use lw_pool::{CellId, ClassId, Numbers};
 
 /// Whether the last point of a class by a time has the greatest area that is told.
-pub(crate) fn is_cut(curves: &Curves, classes: usize, class: ClassId, time: u64) -> bool
-    requires { classes ≡ length curves.now.points }
+pub(crate) fn is_cut(curves: &Curves, class: ClassId, time: u64) -> bool
     ensures { IsTrue result → IsCut curves.now.points class.0 time }
 {
-    if class.0 as usize >= classes {
+    let Some(points) = curves.get(class) else {
         return false;
-    }
-    let points = curves.of(class);
+    };
     let Some(place) = last_by(points, 0, time) else {
         return false;
     };
@@ -56,7 +54,6 @@ fn is_net(
     time: u64,
     net: u32,
 ) -> bool
-    requires { length inputs.now ≡ length curves.now.points }
     ensures { IsTrue result →
         IsNetBy curves.now.points inputs.now count nodes.now exact class.0 delay time net }
 {
@@ -92,14 +89,13 @@ fn is_root(
     time: u64,
     net: u32,
 ) -> bool
-    requires { length inputs.now ≡ length curves.now.points }
     ensures { IsTrue result → IsRootBy curves.now.points inputs.now count nodes.now class.0 time
         net }
 {
     if is_net(curves, inputs, count, nodes, true, class, 0, time, net) {
         return true;
     }
-    if !is_cut(curves, inputs.len(), class, time) {
+    if !is_cut(curves, class, time) {
         return false;
     }
     is_net(curves, inputs, count, nodes, false, class, 0, time, net)
@@ -115,7 +111,6 @@ fn are_roots(
     times: &[Micro],
     nets: &[u32],
 ) -> bool
-    requires { length inputs.now ≡ length curves.now.points }
     ensures { IsTrue result → AreRootsRight curves.now.points inputs.now count nodes.now roots.now
         times.now nets.now }
 {
@@ -143,7 +138,6 @@ fn are_pins(
     time: u64,
     nets: &[u32],
 ) -> bool
-    requires { length inputs.now ≡ length curves.now.points }
     ensures { IsTrue result → ArePinsRight curves.now.points inputs.now count nodes.now exact time
         pins.now delays.now nets.now }
 {
@@ -179,15 +173,15 @@ fn is_node(
     cell: CellId,
     nets: &[u32],
 ) -> bool
-    requires inputs { length inputs.now ≡ length curves.now.points }
-    requires ways { length curves.now.ways ≡ length curves.now.points }
     ensures { IsTrue result → IsNodeRight curves.now inputs.now count nodes.now lib.now node cell
         nets.now }
 {
-    if node.class.0 as usize >= inputs.len() || cell.0 >= lib.len() {
+    if cell.0 >= lib.len() {
         return false;
     }
-    let points = curves.of(node.class);
+    let Some(points) = curves.get(node.class) else {
+        return false;
+    };
     let place = node.place as usize;
     if place >= points.len() {
         return false;
@@ -277,8 +271,6 @@ fn is_gate(
     walk: &Walk,
     number: usize,
 ) -> bool
-    requires inputs { length inputs.now ≡ length curves.now.points }
-    requires ways { length curves.now.ways ≡ length curves.now.points }
     requires node { number < length trail.now.nodes.items }
     requires user { number < length trail.now.users.items }
     requires cell { number < length walk.now.cells.items }
@@ -310,8 +302,6 @@ pub(crate) fn is_right(
     roots: &[ClassId],
     times: &[Micro],
 ) -> bool
-    requires inputs { length inputs.now ≡ length curves.now.points }
-    requires ways { length curves.now.ways ≡ length curves.now.points }
     ensures { IsTrue result → IsRightWalk curves.now inputs.now count lib.now roots.now times.now
         trail.now.nodes.items trail.now.owners.items trail.now.spares.items walk.now.cells.items
         walk.now.pins.items walk.now.nets.items }

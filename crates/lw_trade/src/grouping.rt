@@ -1,8 +1,8 @@
-ghost use Rattle.std.specs.Prelude.{IfOk, IfSome, List, OnOk, Some, [], length, map, reverse, slice_get, slice_range, ℕ, ◌<◌, ◌≡◌, ◌≤◌};
+ghost use Rattle.std.specs.Prelude.{IfOk, IfSome, List, OnOk, Some, [], length, map, option_map, reverse, slice_get, slice_range, ℕ, ◌<◌, ◌≡◌, ◌≤◌};
 ghost use Rattle.lw_trade.specs.Backing.{spot_in};
 ghost use Rattle.lw_trade.specs.Checks.{IsStandAt};
 ghost use Rattle.lw_trade.specs.Groups.{AreRowsOf, IsTable};
-ghost use Rattle.lw_trade.specs.Lasts.{ArePointsRising, IsLastPlace};
+ghost use Rattle.lw_trade.specs.Lasts.{ArePointsRising, IsLastOf};
 ghost use Rattle.lw_trade.specs.Points.{AreCurves, BoundCovers, IsLeastAreaBy, Task};
 ghost use Rattle.lw_trade.specs.Rows.{plain_row, plain_rows};
 ghost use Rattle.lw_trade.specs.Settling.{AreApart};
@@ -74,25 +74,39 @@ impl Curves {
         }
     }
 
-    /// The place of the last point of a class that comes by a time, with a delay.
-    pub(crate) fn last_by(&self, class: ClassId, delay: u64, time: u64) -> Option<usize>
-        requires { class.0 < length self.now.points }
-        ensures { (row : List Point) → slice_get self.now.points class.0 ≡ Some row →
-            IsLastPlace row delay time result }
+    /// The same, and nothing past the last class.
+    pub(crate) fn get(&self, class: ClassId) -> Option<&[Point]>
+        ensures points { slice_get self.now.points class.0 ≡ option_map (λ row. row.now) result }
+        ensures rising { IfSome result (λ row. ArePointsRising row.now) }
     {
-        last_by(self.of(class), delay, time)
+        if class.0 as usize + 1 >= self.lefts.len() {
+            return None;
+        }
+        Some(self.of(class))
     }
 
-    /// How the points of a class came, in their order.
-    pub(crate) fn ways_of(&self, class: ClassId) -> &[Way]
-        requires { class.0 < length self.now.ways }
-        ensures { slice_get self.now.ways class.0 ≡ Some result.now }
+    /// The place of the last point of a class that comes by a time, with a delay.
+    pub(crate) fn last_by(&self, class: ClassId, delay: u64, time: u64) -> Option<usize>
+        ensures { IsLastOf self.now.points class.0 delay time result }
+    {
+        let Some(points) = self.get(class) else {
+            return None;
+        };
+        last_by(points, delay, time)
+    }
+
+    /// How the points of a class came, in their order, and nothing past the last class.
+    pub(crate) fn ways_of(&self, class: ClassId) -> Option<&[Way]>
+        ensures { slice_get self.now.ways class.0 ≡ option_map (λ row. row.now) result }
     {
         let class = class.0 as usize;
+        if class + 1 >= self.lefts.len() {
+            return None;
+        }
         let count = self.ways.len();
         let first = count - self.lefts[class];
         let end = count - self.lefts[class + 1];
-        part(self.ways.as_slice(), first, end)
+        Some(part(self.ways.as_slice(), first, end))
     }
 
     /// How many points there are.
@@ -102,10 +116,9 @@ impl Curves {
 
     /// What stands at the point of a class at a place.
     pub(crate) fn stand(&self, class: ClassId, place: u32) -> Option<&Stand>
-        requires { class.0 < length self.now.ways }
         ensures { IfSome result (λ stand. IsStandAt self.now class.0 place stand.now) }
     {
-        let ways = self.ways_of(class);
+        let ways = self.ways_of(class)?;
         let place = place as usize;
         if place >= ways.len() {
             return None;

@@ -1,6 +1,4 @@
 // The points whose gates are shared, where any cover in time will do.
-ghost use Rattle.std.specs.Prelude.{◌≡◌, ◌<◌, length};
-
 use crate::checking::is_cut;
 use crate::choices::Stand;
 use crate::grouping::Curves;
@@ -19,13 +17,10 @@ struct Rank {
     class: ClassId,
 }
 
-// The rank of a class that has a point.
-fn rank_of(curves: &Curves, class: ClassId) -> Option<Rank>
-    requires points { class.0 < length curves.now.points }
-    requires ways { class.0 < length curves.now.ways }
-{
-    let first = curves.of(class).first()?;
-    let way = curves.ways_of(class).first()?;
+// The rank of a class, if it has a point.
+fn rank_of(curves: &Curves, class: ClassId) -> Option<Rank> {
+    let first = curves.get(class)?.first()?;
+    let way = curves.ways_of(class)?.first()?;
     Some(Rank {
         time: first.time,
         area: first.area,
@@ -35,10 +30,11 @@ fn rank_of(curves: &Curves, class: ClassId) -> Option<Rank>
 }
 
 // The ranks of the classes that no input has, the lowest first.
-fn ranks_of(alloc: Global, curves: &Curves, inputs: &[Option<u32>]) -> Result<Vec<Rank>, AllocError>
-    requires inputs { length inputs.now ≡ length curves.now.points }
-    requires ways { length curves.now.ways ≡ length curves.now.points }
-{
+fn ranks_of(
+    alloc: Global,
+    curves: &Curves,
+    inputs: &[Option<u32>],
+) -> Result<Vec<Rank>, AllocError> {
     let mut ranks = Vec::new(alloc);
     for class in 0..inputs.len() {
         let Ok(number) = u32::try_from(class) else {
@@ -55,10 +51,7 @@ fn ranks_of(alloc: Global, curves: &Curves, inputs: &[Option<u32>]) -> Result<Ve
 }
 
 // Whether a class is an input's, or of lower rank than another.
-fn is_lower(curves: &Curves, inputs: &[Option<u32>], class: ClassId, rank: Rank) -> bool
-    requires inputs { length inputs.now ≡ length curves.now.points }
-    requires ways { length curves.now.ways ≡ length curves.now.points }
-{
+fn is_lower(curves: &Curves, inputs: &[Option<u32>], class: ClassId, rank: Rank) -> bool {
     if class.0 as usize >= inputs.len() {
         return false;
     }
@@ -72,11 +65,7 @@ fn is_lower(curves: &Curves, inputs: &[Option<u32>], class: ClassId, rank: Rank)
 }
 
 // Whether each pin of the gate of a point is an input's, or of lower rank than its class.
-fn fits(curves: &Curves, inputs: &[Option<u32>], rank: Rank, place: u32) -> bool
-    requires inputs { length inputs.now ≡ length curves.now.points }
-    requires ways { length curves.now.ways ≡ length curves.now.points }
-    requires class { rank.class.0 < length curves.now.points }
-{
+fn fits(curves: &Curves, inputs: &[Option<u32>], rank: Rank, place: u32) -> bool {
     match curves.stand(rank.class, place) {
         Some(Stand::Gate(gate)) => {
             for pin in gate.pins.as_slice() {
@@ -104,11 +93,7 @@ fn owned_place(gates: &[u32], last: u32) -> Option<u32> {
 }
 
 // The latest place that is no later than a last one, and whose gate has pins of lower rank only.
-fn fitting_place(curves: &Curves, inputs: &[Option<u32>], rank: Rank, last: u32) -> Option<u32>
-    requires inputs { length inputs.now ≡ length curves.now.points }
-    requires ways { length curves.now.ways ≡ length curves.now.points }
-    requires class { rank.class.0 < length curves.now.points }
-{
+fn fitting_place(curves: &Curves, inputs: &[Option<u32>], rank: Rank, last: u32) -> Option<u32> {
     if fits(curves, inputs, rank, last) {
         return Some(last);
     }
@@ -134,15 +119,11 @@ fn need(needs: &mut Vec<Option<u64>>, class: ClassId, time: u64) {
 // Notes what the pins of the gate of a point need.
 fn need_pins(
     curves: &Curves,
-    classes: usize,
     lib: &Library,
     needs: &mut Vec<Option<u64>>,
     node: Node,
-) -> Result<(), AllocError>
-    requires classes { classes ≡ length curves.now.points }
-    requires ways { length curves.now.ways ≡ length curves.now.points }
-{
-    let Some((gate, time)) = gate_of(curves, classes, node) else {
+) -> Result<(), AllocError> {
+    let Some((gate, time)) = gate_of(curves, node) else {
         return Err(AllocError);
     };
     if gate.cell.0 >= lib.len() {
@@ -162,12 +143,10 @@ fn needs_of_roots(
     classes: usize,
     roots: &[ClassId],
     times: &[Micro],
-) -> Result<Vec<Option<u64>>, AllocError>
-    requires { classes ≡ length curves.now.points }
-{
+) -> Result<Vec<Option<u64>>, AllocError> {
     let mut needs = vec![in alloc; None; classes]?;
     for (root, time) in roots.iter().zip(times) {
-        if is_cut(curves, classes, *root, time.0) {
+        if is_cut(curves, *root, time.0) {
             need(&mut needs, *root, time.0);
         }
     }
@@ -184,11 +163,7 @@ fn choose(
     needs: &mut Vec<Option<u64>>,
     rank: Rank,
     time: u64,
-) -> Result<u32, AllocError>
-    requires inputs { length inputs.now ≡ length curves.now.points }
-    requires ways { length curves.now.ways ≡ length curves.now.points }
-    requires class { rank.class.0 < length curves.now.points }
-{
+) -> Result<u32, AllocError> {
     let Some(last) = curves.last_by(rank.class, 0, time) else {
         return Err(AllocError);
     };
@@ -207,7 +182,7 @@ fn choose(
         place,
         exact: false,
     };
-    need_pins(curves, inputs.len(), lib, needs, node)?;
+    need_pins(curves, lib, needs, node)?;
     Ok(place)
 }
 
@@ -221,10 +196,7 @@ pub(crate) fn shared_places(
     owners: &[Vec<u32>],
     roots: &[ClassId],
     times: &[Micro],
-) -> Result<Vec<u32>, AllocError>
-    requires inputs { length inputs.now ≡ length curves.now.points }
-    requires ways { length curves.now.ways ≡ length curves.now.points }
-{
+) -> Result<Vec<u32>, AllocError> {
     let mut needs = needs_of_roots(alloc, curves, inputs.len(), roots, times)?;
     let mut places = vec![in alloc; NO_GATE; inputs.len()]?;
     let ranks = ranks_of(alloc, curves, inputs)?;

@@ -4,7 +4,7 @@ ghost use Rattle.lw_trade.specs.Checks.{IsRightWalk};
 ghost use Rattle.lw_trade.specs.Points.{Task};
 ghost use Rattle.lw_trade.specs.Targets.{AreCurvesFor};
 ghost use Rattle.lw_trade.specs.Trades.{Site};
-ghost use Rattle.lw_trade.specs.Walks.{AreInputsTo, IsWalk, IsReady};
+ghost use Rattle.lw_trade.specs.Walks.{AreInputsTo, IsWalk};
 ghost use Rattle.lw_trade.specs.declared.targets.Targets.{Targets as PlainTargets};
 
 use crate::checking::{is_cut, is_right};
@@ -80,13 +80,13 @@ fn inputs_of(alloc: Global, graph: &Graph) -> Result<Vec<Option<u32>>, AllocErro
 }
 
 // No gates.
-fn no_trail(alloc: Global, curves: &Curves, classes: u32) -> Result<Trail, AllocError>
-    requires { classes ≡ length curves.now.points }
-{
+fn no_trail(alloc: Global, curves: &Curves, classes: u32) -> Result<Trail, AllocError> {
     let mut owners = Vec::with_capacity(alloc, classes as usize)?;
     for class in 0..classes {
-        let row = vec![in alloc; NO_GATE; curves.of(ClassId(class)).len()]?;
-        owners.push(row)?;
+        let Some(points) = curves.get(ClassId(class)) else {
+            return Err(AllocError);
+        };
+        owners.push(vec![in alloc; NO_GATE; points.len()]?)?;
     }
     Ok(Trail {
         nodes: Vec::new(alloc),
@@ -137,9 +137,7 @@ fn gate_at(trail: &mut Trail, node: Node, user: User) -> Result<u32, AllocError>
 }
 
 // The point that is wanted: the last one by the time, or for a shared use that of its class.
-fn node_for(curves: &Curves, trail: &Trail, want: Want) -> Option<Node>
-    requires { want.class.0 < length curves.now.points }
-{
+fn node_for(curves: &Curves, trail: &Trail, want: Want) -> Option<Node> {
     let (class, exact) = (want.class, want.exact);
     if !exact {
         let place = *trail.places.get(class.0 as usize)?;
@@ -168,9 +166,7 @@ fn net_for(
     trail: &mut Trail,
     want: Want,
     user: User,
-) -> Result<u32, AllocError>
-    requires { length inputs.now ≡ length curves.now.points }
-{
+) -> Result<u32, AllocError> {
     if want.class.0 as usize >= inputs.len() {
         return Err(AllocError);
     }
@@ -197,12 +193,9 @@ fn nets_of_roots(
     roots: &[ClassId],
     times: &[Micro],
     sharing: bool,
-) -> Result<Vec<u32>, AllocError>
-    requires inputs { length inputs.now ≡ length curves.now.points }
-    requires times { length times.now ≡ length roots.now }
-{
+) -> Result<Vec<u32>, AllocError> {
     let mut nets = Vec::with_capacity(alloc, roots.len())?;
-    for (k, root) in roots.iter().enumerate() {
+    for (root, time) in roots.iter().zip(times) {
         let Ok(place) = u32::try_from(nets.len()) else {
             return Err(AllocError);
         };
@@ -210,8 +203,8 @@ fn nets_of_roots(
         let want = Want {
             class: *root,
             delay: 0,
-            time: times[k].0,
-            exact: !sharing || !is_cut(curves, inputs.len(), *root, times[k].0),
+            time: time.0,
+            exact: !sharing || !is_cut(curves, *root, time.0),
         };
         nets.push(net_for(curves, inputs, count, trail, want, user)?)?;
     }
@@ -226,20 +219,17 @@ fn start_at_roots(
     trail: &mut Trail,
     roots: &[ClassId],
     times: &[Micro],
-) -> Result<(), AllocError>
-    requires inputs { length inputs.now ≡ length curves.now.points }
-    requires times { length times.now ≡ length roots.now }
-{
-    for (k, root) in roots.iter().enumerate() {
+) -> Result<(), AllocError> {
+    for (k, (root, time)) in roots.iter().zip(times).enumerate() {
         let Ok(place) = u32::try_from(k) else {
             return Err(AllocError);
         };
-        if !is_cut(curves, inputs.len(), *root, times[k].0) {
+        if !is_cut(curves, *root, time.0) {
             let user = User { gate: None, place };
             let want = Want {
                 class: *root,
                 delay: 0,
-                time: times[k].0,
+                time: time.0,
                 exact: true,
             };
             net_for(curves, inputs, count, trail, want, user)?;
@@ -260,9 +250,7 @@ fn nets_of_pins(
     time: u64,
     exact: bool,
     number: u32,
-) -> Result<Numbers, AllocError>
-    requires { length inputs.now ≡ length curves.now.points }
-{
+) -> Result<Numbers, AllocError> {
     let mut nets = Vec::with_capacity(alloc, pins.len())?;
     for (pin, class) in pins.iter().enumerate() {
         if pin >= delays.len() {
@@ -287,14 +275,8 @@ fn nets_of_pins(
 }
 
 /// The gate of a point, and the time of the point.
-pub(crate) fn gate_of(curves: &Curves, inputs: usize, node: Node) -> Option<(&Gate, u64)>
-    requires inputs { inputs ≡ length curves.now.points }
-    requires ways { length curves.now.ways ≡ length curves.now.points }
-{
-    if node.class.0 as usize >= inputs {
-        return None;
-    }
-    let points = curves.of(node.class);
+pub(crate) fn gate_of(curves: &Curves, node: Node) -> Option<(&Gate, u64)> {
+    let points = curves.get(node.class)?;
     let place = node.place as usize;
     if place >= points.len() {
         return None;
@@ -315,12 +297,10 @@ fn go_through(
     trail: &mut Trail,
     at: usize,
 ) -> Result<(CellId, Numbers), AllocError>
-    requires inputs { length inputs.now ≡ length curves.now.points }
-    requires ways { length curves.now.ways ≡ length curves.now.points }
-    requires at { at < length trail.old.nodes.items }
+    requires { at < length trail.old.nodes.items }
 {
     let node = trail.nodes[at];
-    let Some((gate, time)) = gate_of(curves, inputs.len(), node) else {
+    let Some((gate, time)) = gate_of(curves, node) else {
         return Err(AllocError);
     };
     if gate.cell.0 >= lib.len() {
@@ -345,10 +325,7 @@ fn walk_on(
     lib: &Library,
     trail: &mut Trail,
     walk: &mut Walk,
-) -> Result<(), AllocError>
-    requires inputs { length inputs.now ≡ length curves.now.points }
-    requires ways { length curves.now.ways ≡ length curves.now.points }
-{
+) -> Result<(), AllocError> {
     for at in walk.cells.len()..MOST_GATES {
         if at >= trail.nodes.len() {
             break;
@@ -371,11 +348,7 @@ fn walk_first(
     walk: &mut Walk,
     roots: &[ClassId],
     times: &[Micro],
-) -> Result<(), AllocError>
-    requires inputs { length inputs.now ≡ length curves.now.points }
-    requires ways { length curves.now.ways ≡ length curves.now.points }
-    requires times { length times.now ≡ length roots.now }
-{
+) -> Result<(), AllocError> {
     start_at_roots(curves, inputs, count, trail, roots, times)?;
     walk_on(alloc, curves, inputs, count, lib, trail, walk)?;
     trail.places = shared_places(alloc, curves, inputs, lib, &trail.owners, roots, times)?;
@@ -396,9 +369,6 @@ fn walk_through(
     times: &[Micro],
     sharing: bool,
 ) -> Result<bool, AllocError>
-    requires inputs { length inputs.now ≡ length curves.now.points }
-    requires ways { length curves.now.ways ≡ length curves.now.points }
-    requires times { length times.now ≡ length roots.now }
     ensures { IfOk result (λ right. IsTrue right → IsRightWalk curves.now inputs.now count lib.now
         roots.now times.now trail.new.nodes.items trail.new.owners.items trail.new.spares.items
         walk.new.cells.items walk.new.pins.items walk.new.nets.items) }
@@ -423,8 +393,7 @@ fn walk_by(
     times: &[Micro],
     sharing: bool,
 ) -> Result<Walk, AllocError>
-    requires ready { IsReady graph.now lib.now roots.now times.now curves.now }
-    requires inputs { AreInputsTo graph.now (length graph.now.leaves) inputs.now }
+    requires { AreInputsTo graph.now (length graph.now.leaves) inputs.now }
     ensures { IfOk result (λ w. (s : Task) (t : PlainTargets) (c : AreCurvesFor s t curves.now) →
         s.graph ≡ graph.now → s.cells ≡ lib.now → t.roots ≡ roots.now → t.times ≡ times.now →
         (sites : List Site) × IsWalk s curves.now.choices c.ways.held sites roots.now times.now
@@ -446,11 +415,9 @@ fn walk_by(
 }
 
 // Whether a root is cut.
-fn has_cut(curves: &Curves, classes: usize, roots: &[ClassId], times: &[Micro]) -> bool
-    requires { classes ≡ length curves.now.points }
-{
+fn has_cut(curves: &Curves, roots: &[ClassId], times: &[Micro]) -> bool {
     for (root, time) in roots.iter().zip(times) {
-        if is_cut(curves, classes, *root, time.0) {
+        if is_cut(curves, *root, time.0) {
             return true;
         }
     }
@@ -469,14 +436,13 @@ pub(crate) fn walk_down(
     roots: &[ClassId],
     times: &[Micro],
 ) -> Result<Walk, AllocError>
-    requires ready { IsReady graph.now lib.now roots.now times.now curves.now }
     ensures { IfOk result (λ w. (s : Task) (t : PlainTargets) (c : AreCurvesFor s t curves.now) →
         s.graph ≡ graph.now → s.cells ≡ lib.now → t.roots ≡ roots.now → t.times ≡ times.now →
         (sites : List Site) × IsWalk s curves.now.choices c.ways.held sites roots.now times.now
         w.cells.items w.pins.items w.nets.items) }
 {
     let inputs = inputs_of(alloc, graph)?;
-    if has_cut(curves, inputs.len(), roots, times) {
+    if has_cut(curves, roots, times) {
         if let Ok(walk) = walk_by(alloc, graph, &inputs, lib, curves, roots, times, true) {
             return Ok(walk);
         }

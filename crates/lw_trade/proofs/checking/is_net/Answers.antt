@@ -1,7 +1,6 @@
-use Rattle.std.proofs.Common.{◌≡◌, ◌-◌, false, inl, inr, Some, None, slice_index_or, ap, sym, ◌∙◌, subst, arith}
+use Rattle.std.proofs.Common.{◌≡◌, ◌-◌, false, inl, inr, Some, None, slice_index_or, ap, sym, ◌∙◌, arith}
 use Rattle.lw_trade.specs.declared.walking.Node.{Node}
-use Rattle.lw_trade.specs.Lasts.{IsLastPlace}
-use Rattle.lw_trade.proofs.Lists.{get_some, got}
+use Rattle.lw_trade.proofs.Lists.{got}
 use Rattle.lw_trade.proofs.checking.is_net.Goals as goal
 
 abbrev no_node : Node
@@ -9,25 +8,25 @@ no_node = record { class = record { 0 = 0 }; place = 0; exact = false }
 
 pub returns-in-Some-inputs : goal.returns-in-Some-inputs
 returns-in-Some-inputs c = λ yes.
-    let (row, at) = get_some c.args.curves.now.points c.args.class.0 (omega (arith, c.if-class-inputs.false, c.requires)) in
+    let (row, at, last) = c.in-Some.ensures in
     let net : c.args.net ≡ c.in-Some-inputs.input = c.if-net-input.false in
     record {
       row = row;
       at = at;
       place = c.in-Some.place;
-      last = subst (IsLastPlace row c.args.delay c.args.time) c.in-Some.is (c.last_by.ensures row at);
+      last = last;
       right = inl (got c.args.inputs.now c.args.class.0 None (omega (arith, c.if-class-inputs.false)) ∙ ap Some (c.in-Some-inputs.is ∙ ap Some (sym net)));
     }
 
 pub returns : goal.returns
 returns c = λ yes.
-    let (row, at) = get_some c.args.curves.now.points c.args.class.0 (omega (arith, c.if-class-inputs.false, c.requires)) in
+    let (row, at, last) = c.in-Some.ensures in
     let gate = c.args.net - c.args.count in
     record {
       row = row;
       at = at;
       place = c.in-Some.place;
-      last = subst (IsLastPlace row c.args.delay c.args.time) c.in-Some.is (c.last_by.ensures row at);
+      last = last;
       right = inr (
         got c.args.inputs.now c.args.class.0 None (omega (arith, c.if-class-inputs.false)) ∙ ap Some c.in_default-inputs.is,
         gate,

@@ -1,36 +1,33 @@
-use Rattle.std.proofs.Common.{◌≡◌, ◌<◌, ◌+◌, ◌-◌, ◌∙◌, ℕ, List, suc, Some, length, slice_get, slice_range, sym, ap, subst, arith}
+use Rattle.std.proofs.Common.{◌≡◌, ◌<◌, ◌+◌, ◌-◌, ◌∙◌, ℕ, List, suc, None, Some, length, slice_get, slice_range, sym, ap, subst, arith}
 use Rattle.lw_trade.specs.declared.found.Way.{Way}
 use Rattle.lw_trade.specs.Groups.{CurveLists}
 use Rattle.lw_trade.proofs.Lists.{read_at}
-use Rattle.lw_trade.proofs.Grouped.{lefts_in, left_low, left_falls, row_is}
+use Rattle.lw_trade.proofs.Grouped.{left_low, left_falls, no_row, row_is}
 use Rattle.lw_trade.proofs.grouping.Curves.ways_of.Goals as goal
 
+pub returns-then-class-len : goal.returns-then-class-len
+returns-then-class-len c =
+    let none = no_row c.self.inside.ways.items c.self.inside.lefts.items c.args.class.0 (omega (arith, c.if-class-len.true, c.len.ensures)) in
+    subst (λ (curves : CurveLists). slice_get curves.ways c.args.class.0 ≡ None) c.self.view_is none
+
 pub index-requires : goal.index-requires
-index-requires c =
-    let lt = subst (λ (curves : CurveLists). c.args.class.0 < length curves.ways) (sym c.self.view_is) c.requires in
-    let in' = lefts_in c.self.inside.ways.items c.self.inside.lefts.items c.args.class.0 lt in
-    omega (arith, in')
+index-requires c = omega (arith, c.if-class-len.false, c.len.ensures)
 
 pub overflow_sub-first : goal.overflow_sub-first
 overflow_sub-first c =
     let lefts = c.self.inside.lefts.items in
-    let lt = subst (λ (curves : CurveLists). c.args.class.0 < length curves.ways) (sym c.self.view_is) c.requires in
-    let in' = lefts_in c.self.inside.ways.items lefts c.args.class.0 lt in
+    let in' : c.args.class.0 + 1 < length lefts = omega (arith, c.if-class-len.false, c.len.ensures) in
     let at = read_at lefts c.args.class.0 c.index.result.now (omega (arith, in')) c.index.ensures in
     let low = left_low (length c.self.inside.points.items) lefts c.args.class.0 c.index.result.now c.self.invariant.falling at in
     omega (arith, low, c.len-count.ensures)
 
 pub index-requires-2 : goal.index-requires-2
-index-requires-2 c =
-    let lt = subst (λ (curves : CurveLists). c.args.class.0 < length curves.ways) (sym c.self.view_is) c.requires in
-    let in' = lefts_in c.self.inside.ways.items c.self.inside.lefts.items c.args.class.0 lt in
-    omega (arith, in')
+index-requires-2 c = omega (arith, c.if-class-len.false, c.len.ensures)
 
 pub overflow_sub-end : goal.overflow_sub-end
 overflow_sub-end c =
     let lefts = c.self.inside.lefts.items in
-    let lt = subst (λ (curves : CurveLists). c.args.class.0 < length curves.ways) (sym c.self.view_is) c.requires in
-    let in' = lefts_in c.self.inside.ways.items lefts c.args.class.0 lt in
+    let in' : c.args.class.0 + 1 < length lefts = omega (arith, c.if-class-len.false, c.len.ensures) in
     let at = read_at lefts (c.args.class.0 + 1) c.index-2.result.now (omega (arith, in')) c.index-2.ensures in
     let low = left_low (length c.self.inside.points.items) lefts (c.args.class.0 + 1) c.index-2.result.now c.self.invariant.falling at in
     omega (arith, low, c.len-count.ensures)
@@ -38,8 +35,7 @@ overflow_sub-end c =
 pub part-requires-clause-first : goal.part-requires-clause-first
 part-requires-clause-first c =
     let lefts = c.self.inside.lefts.items in
-    let lt = subst (λ (curves : CurveLists). c.args.class.0 < length curves.ways) (sym c.self.view_is) c.requires in
-    let in' = lefts_in c.self.inside.ways.items lefts c.args.class.0 lt in
+    let in' : c.args.class.0 + 1 < length lefts = omega (arith, c.if-class-len.false, c.len.ensures) in
     let one : ◌≡◌ {A = ℕ} (c.args.class.0 + 1) (suc c.args.class.0) = omega arith in
     let at = read_at lefts c.args.class.0 c.index.result.now (omega (arith, in')) c.index.ensures in
     let bt = read_at lefts (c.args.class.0 + 1) c.index-2.result.now (omega (arith, in')) c.index-2.ensures in
@@ -51,8 +47,7 @@ pub returns : goal.returns
 returns c =
     let lefts = c.self.inside.lefts.items in
     let points = c.self.inside.ways.items in
-    let lt = subst (λ (curves : CurveLists). c.args.class.0 < length curves.ways) (sym c.self.view_is) c.requires in
-    let in' = lefts_in points lefts c.args.class.0 lt in
+    let in' : c.args.class.0 + 1 < length lefts = omega (arith, c.if-class-len.false, c.len.ensures) in
     let one : ◌≡◌ {A = ℕ} (c.args.class.0 + 1) (suc c.args.class.0) = omega arith in
     let at = read_at lefts c.args.class.0 c.index.result.now (omega (arith, in')) c.index.ensures in
     let bt = read_at lefts (c.args.class.0 + 1) c.index-2.result.now (omega (arith, in')) c.index-2.ensures in
