@@ -1,5 +1,6 @@
 // What the first word of a line asks for.
 ghost use Rattle.std.specs.Prelude.{◌≡◌};
+ghost use Rattle.std.specs.Str.{bytes_eq};
 ghost use Rattle.lw_mapped.specs.Commands.{command_of, point_command, port_command, other_command};
 ghost use Rattle.lw_words.specs.Words.{is_ignored_word};
 
@@ -36,21 +37,28 @@ pub fn command_of(word: &[u8]) -> Command
     }
 }
 
+/// Whether a word is this one.
+pub fn is(word: &[u8], text: &[u8]) -> bool
+    ensures { result ≡ bytes_eq word.now text.now }
+{
+    word == text
+}
+
 // What a word that begins with `.` asks for.
 #[tactic(auto, unfolding(crate::specs::Commands::point_command))]
 fn point_command(word: &[u8]) -> Command
     ensures { result ≡ point_command word.now }
 {
-    if word == b".gate".as_slice() {
+    if is(word, b".gate") {
         return Command::Gate;
     }
-    if word == b".names".as_slice() {
+    if is(word, b".names") {
         return Command::Names;
     }
-    if word == b".latch".as_slice() {
+    if is(word, b".latch") {
         return Command::Latch;
     }
-    if word == b".end".as_slice() || word == b".exdc".as_slice() {
+    if is(word, b".end") || is(word, b".exdc") {
         return Command::End;
     }
     port_command(word)
@@ -61,19 +69,19 @@ fn point_command(word: &[u8]) -> Command
 fn port_command(word: &[u8]) -> Command
     ensures { result ≡ port_command word.now }
 {
-    if word == b".model".as_slice() {
+    if is(word, b".model") {
         return Command::Model;
     }
-    if word == b".inputs".as_slice() {
+    if is(word, b".inputs") {
         return Command::Inputs;
     }
-    if word == b".outputs".as_slice() {
+    if is(word, b".outputs") {
         return Command::Outputs;
     }
-    if word == b".input_arrival".as_slice() {
+    if is(word, b".input_arrival") {
         return Command::InputArrival;
     }
-    if word == b".default_input_arrival".as_slice() {
+    if is(word, b".default_input_arrival") {
         return Command::DefaultArrival;
     }
     other_command(word)
@@ -94,18 +102,18 @@ fn other_command(word: &[u8]) -> Command
 fn is_ignored(word: &[u8]) -> bool
     ensures { result ≡ is_ignored_word word.now }
 {
-    word == b".area".as_slice()
-        || word == b".delay".as_slice()
-        || word == b".wire_load_slope".as_slice()
-        || word == b".wire".as_slice()
-        || word == b".output_required".as_slice()
-        || word == b".default_output_required".as_slice()
-        || word == b".input_drive".as_slice()
-        || word == b".default_input_drive".as_slice()
-        || word == b".output_load".as_slice()
-        || word == b".default_output_load".as_slice()
-        || word == b".max_input_load".as_slice()
-        || word == b".default_max_input_load".as_slice()
-        || word == b".cycle".as_slice()
-        || word == b".clock_event".as_slice()
+    is(word, b".area")
+        || is(word, b".delay")
+        || is(word, b".wire_load_slope")
+        || is(word, b".wire")
+        || is(word, b".output_required")
+        || is(word, b".default_output_required")
+        || is(word, b".input_drive")
+        || is(word, b".default_input_drive")
+        || is(word, b".output_load")
+        || is(word, b".default_output_load")
+        || is(word, b".max_input_load")
+        || is(word, b".default_max_input_load")
+        || is(word, b".cycle")
+        || is(word, b".clock_event")
 }

@@ -7,7 +7,7 @@ ghost use Rattle.std.specs.Str.Parse.{digits_value};
 ghost use Rattle.lw_mapped.specs.Sayings as says;
 ghost use Rattle.lw_mapped.specs.Parsed.{Says, IsFit};
 
-use crate::command::Command;
+use crate::command::{Command, is};
 use crate::naming::{is_name, name_at, names_fault, names_from};
 use crate::ties::{gate_of, ties_fault};
 use crate::{MappedKind, Refusal, Saying};
@@ -214,10 +214,10 @@ fn certificate(alloc: Global, words: &Words) -> Result<Saying, Refusal>
     if words.len() != 4 {
         return Err(Refusal::Broken(MappedKind::Certificate));
     }
-    if words.get(1) == b"label".as_slice() {
+    if is(words.get(1), b"label") {
         return label(words);
     }
-    if words.get(1) == b"net".as_slice() {
+    if is(words.get(1), b"net") {
         return net(alloc, words);
     }
     Err(Refusal::Broken(MappedKind::Certificate))

@@ -2,7 +2,7 @@
 ghost use Rattle.std.specs.Prelude.{◌≡◌, ◌++◌, [], ◌∷◌, ◌≤◌, List, None, Some, OnOk, if◌then◌else◌};
 ghost use Rattle.lw_mapped.specs.LineFaults.{is_row, is_names_command};
 
-use crate::command::Command;
+use crate::command::{Command, is};
 use crate::contents::Contents;
 use crate::parsing::parse;
 use crate::{MappedKind, Refusal, Saying};
@@ -14,7 +14,7 @@ use std::alloc::Global;
 fn is_row(words: &Words) -> bool
     ensures { result ≡ is_row words.now }
 {
-    words.len() == 2 && words.get(0) == b"1".as_slice() && words.get(1) == b"1".as_slice()
+    words.len() == 2 && is(words.get(0), b"1") && is(words.get(1), b"1")
 }
 
 // The number of a wire's line.

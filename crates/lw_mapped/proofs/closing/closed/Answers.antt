@@ -17,3 +17,21 @@ pub returns-in_err-netlist-clause-fault : goal.returns-in_err-netlist-clause-fau
 returns-in_err-netlist-clause-fault c =
     let p = err_from_is_err_and c.from_residual.result c.from_residual.ensures.1 in
     rw (p.1, p.2) (told-whole c.args.draft c.in_err-netlist.field-0.0 c.in_err-netlist.ensures.fault)
+
+pub returns-in_err-netlist-clause-made : goal.returns-in_err-netlist-clause-made
+returns-in_err-netlist-clause-made c = rw (err_from_is_err_and c.from_residual.result c.from_residual.ensures.1).1 tt
+
+pub returns-in_err-netlist-clause-over : goal.returns-in_err-netlist-clause-over
+returns-in_err-netlist-clause-over c = rw (err_from_is_err_and c.from_residual.result c.from_residual.ensures.1).1 tt
+
+pub returns-in_default-clause-made : goal.returns-in_default-clause-made
+returns-in_default-clause-made c = tt
+
+pub returns-in_default-clause-over : goal.returns-in_default-clause-over
+returns-in_default-clause-over c = tt
+
+pub returns-in_default-clause-fault : goal.returns-in_default-clause-fault
+returns-in_default-clause-fault c = tt
+
+pub returns-clause-fault : goal.returns-clause-fault
+returns-clause-fault c = tt
