@@ -1,5 +1,5 @@
 // Labels in rounds.
-ghost use Rattle.std.specs.Prelude.{◌≡◌, ◌<◌, ◌≤◌, ◌/◌, ◌||◌, ℕ, Some, None, true, false, IfOk, length, replicate, slice_get, slice_index_or};
+ghost use Rattle.std.specs.Prelude.{◌≡◌, ◌<◌, ◌/◌, ◌||◌, ℕ, Some, None, true, false, IfOk, length, replicate, slice_index_or};
 ghost use Rattle.lw_match.specs.Bounds.{AreZero};
 ghost use Rattle.lw_match.specs.Cutting.{AreKnown, IsMatchWithin};
 ghost use Rattle.lw_match.specs.Values.{marks_in};

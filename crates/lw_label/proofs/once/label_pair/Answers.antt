@@ -1,4 +1,4 @@
-use Rattle.std.proofs.Common.{◌≡◌, ◌/◌, ◌∙◌, ap, sym, subst}
+use Rattle.std.proofs.Common.{◌≡◌, ◌<◌, ◌/◌, ◌∙◌, length, ap, sym, subst, arith}
 use Rattle.std.proofs.lemmas.Bool.{not-true}
 use Rattle.lw_laws.specs.Flip.{flip}
 use Rattle.lw_laws.proofs.Flips.{xor-one, half-flip}
@@ -10,6 +10,30 @@ use Rattle.lw_label.proofs.once.label_pair.Goals as goal
 
 pub first_of-class-requires-clause-one_each : goal.first_of-class-requires-clause-one_each
 first_of-class-requires-clause-one_each g c = c.requires.at.search.sought.lowering.one_each
+
+pub lower_whole-requires-clause-class : goal.lower_whole-requires-clause-class
+lower_whole-requires-clause-class g c =
+    let below : c.args.place < length c.args.graph.now.pairs / 2 = c.requires.place in
+    omega (arith, below, c.first_of-class.ensures)
+
+pub lower_whole-lowered-requires-clause-class : goal.lower_whole-lowered-requires-clause-class
+lower_whole-lowered-requires-clause-class g c =
+    let below : c.args.place < length c.args.graph.now.pairs / 2 = c.requires.place in
+    let a = c.first_of-class.result.0 in
+    let at : c.flip-other.result.0 / 2 ≡ c.args.place = ap (λ n. n / 2) (c.flip-other.ensures ∙ xor-one a) ∙ (half-flip a ∙ c.first_of-class.ensures) in
+    omega (arith, below, at)
+
+pub lower_whole-lowered-requires-2-clause-class : goal.lower_whole-lowered-requires-2-clause-class
+lower_whole-lowered-requires-2-clause-class g c =
+    let below : c.args.place < length c.args.graph.now.pairs / 2 = c.requires.place in
+    omega (arith, below, c.first_of-class.ensures)
+
+pub lower_whole-lowered-requires-3-clause-class : goal.lower_whole-lowered-requires-3-clause-class
+lower_whole-lowered-requires-3-clause-class g c =
+    let below : c.args.place < length c.args.graph.now.pairs / 2 = c.requires.place in
+    let a = c.first_of-class.result.0 in
+    let at : c.flip-other.result.0 / 2 ≡ c.args.place = ap (λ n. n / 2) (c.flip-other.ensures ∙ xor-one a) ∙ (half-flip a ∙ c.first_of-class.ensures) in
+    omega (arith, below, at)
 
 pub lower_whole-requires-clause-at : goal.lower_whole-requires-clause-at
 lower_whole-requires-clause-at g c = record {
