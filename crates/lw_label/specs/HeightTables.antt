@@ -83,16 +83,12 @@ pub record IsHeightRoundAfter {C : _} (cost : Cost) (d : Given C) (old new : Vis
   pub places : new.places ≡ old.places
   pub falling : AreHeightsFalling cost d tops table marks new.still
 
--- visits, a table of heights and labels as they are before anything is found
-pub record AreNew (g : Graph) (pats : List Pattern) (v : VisitState) (t : Option LabelState) (labels : List (Option Mark)) : Type 0 where
+-- visits, tables and marks as they are before anything is found
+pub record AreUnmarked (g : Graph) (pats : List Pattern) (v : VisitState) (b : BoundsState) (t : Option LabelState) (labels marks : List (Option Mark)) : Type 0 where
   pub places : v.places ≡ places_of g
   pub still : v.still ≡ replicate (places_of g) false
-  pub table : IfSome t (IsNewTable g pats)
-  pub no_labels : labels ≡ replicate (length g.pairs) None
-
--- so they are, and so are a table of bounds and the marks
-pub record AreUnmarked (g : Graph) (pats : List Pattern) (v : VisitState) (b : BoundsState) (t : Option LabelState) (labels marks : List (Option Mark)) : Type 0 where
-  pub new : AreNew g pats v t labels
   pub fits : BoundsFit b pats g
   pub zero : AreZero b.numbers
+  pub table : IfSome t (IsNewTable g pats)
+  pub no_labels : labels ≡ replicate (length g.pairs) None
   pub no_marks : marks ≡ replicate (length g.pairs) None

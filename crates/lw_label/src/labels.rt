@@ -1,7 +1,7 @@
 ghost use Rattle.std.specs.Prelude.{◌≡◌, ◌<◌, None, IfOk, length, slice_index_or};
 ghost use Rattle.lw_match.specs.Bounds.{BoundsFit, AreBounds};
 ghost use Rattle.lw_match.specs.Least.{AreOfCells};
-ghost use Rattle.lw_label.specs.HeightTables.{AreNew, AreUnmarked};
+ghost use Rattle.lw_label.specs.HeightTables.{AreUnmarked};
 ghost use Rattle.lw_label.specs.Labels.{AreBoundedMarks, AreLeastMarks};
 
 use crate::heights::{Given, lower_all_heights, start_heights};
@@ -77,31 +77,6 @@ pub struct BoundedLabels {
     pub bounds: Bounds,
 }
 
-// What marks are found by and is let go then: the visits of places, a table of heights, if it saves
-// time, and the labels.
-#[derive(Drop)]
-struct Means {
-    visits: Visits,
-    table: Option<HeightTable>,
-    labels: Vec<Option<Mark>>,
-}
-
-impl Means {
-    // No place was visited, and no class has a label.
-    fn new(alloc: Global, graph: &Graph, pats: &Patterns) -> Result<Means, AllocError>
-        ensures { IfOk result (λ m. AreNew graph.now pats.now m.visits m.table m.labels.items) }
-    {
-        let labels = no_marks(alloc, graph)?;
-        let table = height_table(alloc, graph, pats)?;
-        let visits = Visits::new(alloc, graph)?;
-        Ok(Means {
-            visits,
-            table,
-            labels,
-        })
-    }
-}
-
 /// The labels as `relabel` gives them, and the table of bounds for them: what chooses among the
 /// matches needs no other.
 pub fn relabel_with_bounds<C: Cost>(
@@ -116,17 +91,19 @@ pub fn relabel_with_bounds<C: Cost>(
     ensures fits { IfOk result (λ l. BoundsFit l.bounds pats.now graph.now) }
     ensures bounds { IfOk result (λ l. AreBounds l.bounds graph.now l.labels) }
 {
-    let mut means = Means::new(alloc, graph, pats)?;
+    let mut labels = no_marks(alloc, graph)?;
     let mut marks = no_marks(alloc, graph)?;
+    let mut table = height_table(alloc, graph, pats)?;
+    let mut visits = Visits::new(alloc, graph)?;
     let mut bounds = Bounds::new(alloc, graph, pats, cost)?;
     mark_all(
         graph,
         pats,
         cost,
-        &mut means.visits,
+        &mut visits,
         &mut bounds,
-        &mut means.table,
-        &mut means.labels,
+        &mut table,
+        &mut labels,
         &mut marks,
     );
     let labels = Labels { marks };

@@ -11,7 +11,7 @@ use Rattle.lw_label.proofs.Still.{still_none}
 use Rattle.lw_label.proofs.labels.mark_all.Goals as goal
 
 pub label_inputs-requires : goal.label_inputs-requires
-label_inputs-requires g c = c.requires.unmarked.new.no_labels
+label_inputs-requires g c = c.requires.unmarked.no_labels
 
 pub new-tops-requires : goal.new-tops-requires
 new-tops-requires g c = c.requires.of_cells
@@ -23,7 +23,7 @@ lower_all-requires-clause-round g c =
     let pats = c.args.pats.now in
     let labels = c.label_inputs.new.marks in
     record {
-      places = c.requires.unmarked.new.places;
+      places = c.requires.unmarked.places;
       falling = record {
         graph = c.classes.ensures.kept;
         search = record {
@@ -35,7 +35,7 @@ lower_all-requires-clause-round g c =
           };
           known = c.new-tops.ensures;
         };
-        kept = subst (λ still. AreLabelsStill graph costs pats (state c.args.bounds.now labels) still) (sym c.requires.unmarked.new.still) (labels_still_none graph costs pats (state c.args.bounds.now labels) (places_of graph));
+        kept = subst (λ still. AreLabelsStill graph costs pats (state c.args.bounds.now labels) still) (sym c.requires.unmarked.still) (labels_still_none graph costs pats (state c.args.bounds.now labels) (places_of graph));
       };
     }
 
@@ -50,7 +50,7 @@ start_heights-requires-clause-one_each g c = c.lower_all.ensures.given.lowering.
 
 pub start_heights-requires-clause-table : goal.start_heights-requires-clause-table
 start_heights-requires-clause-table g c =
-    new_has c.args.graph.now c.args.pats.now c.args.marks.now c.args.table.now c.requires.unmarked.no_marks c.requires.unmarked.new.table
+    new_has c.args.graph.now c.args.pats.now c.args.marks.now c.args.table.now c.requires.unmarked.no_marks c.requires.unmarked.table
 
 pub lower_all_heights-requires : goal.lower_all_heights-requires
 lower_all_heights-requires g c =
@@ -62,12 +62,12 @@ lower_all_heights-requires g c =
     let still = c.restart.new.self.still in
     let heights = c.start_heights.ensures.heights costs pats c.lower_all.ensures.given.lowering in
     record {
-      places = c.restart.ensures.places ∙ (c.lower_all.ensures.places ∙ c.requires.unmarked.new.places);
+      places = c.restart.ensures.places ∙ (c.lower_all.ensures.places ∙ c.requires.unmarked.places);
       falling = record {
         search = record { given = c.lower_all.ensures.given; known = c.lower_all.ensures.known; heights = heights };
         kept = subst (λ now. AreStill graph costs pats labels marks now) (sym c.restart.ensures.still) (still_none graph costs pats labels marks c.lower_all.new.visits.places);
         heights = subst (λ t. IfSome t (HasHeightsOf marks)) (sym c.start_heights.ensures.table) (with_has marks c.args.table.now);
-        numbers = subst (λ t. IfSome t (IsHeightTable graph pats still)) (sym c.start_heights.ensures.table) (table_started graph pats marks still c.args.table.now heights.one_each c.requires.unmarked.new.table);
+        numbers = subst (λ t. IfSome t (IsHeightTable graph pats still)) (sym c.start_heights.ensures.table) (table_started graph pats marks still c.args.table.now heights.one_each c.requires.unmarked.table);
       };
     }
 
