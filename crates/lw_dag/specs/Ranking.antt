@@ -11,7 +11,7 @@ abbrev pub AreWithin : ℕ → List (List ℕ) → Type 0
 AreWithin n rows = All (All (λ j. j < n)) rows
 
 -- a row for each of n nodes
-pub record AreRows (n : ℕ) (rows : Vec (List ℕ)) : Type 0 where
+pub record AreUserRows (n : ℕ) (rows : Vec (List ℕ)) : Type 0 where
   pub len : vec_len rows ≡ n
   pub within : AreWithin n rows.items
 

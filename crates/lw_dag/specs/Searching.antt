@@ -24,7 +24,7 @@ pub record IsSearching (inputs : ℕ) (graph : List (List ℕ)) (p : ℕ) (seen 
   pub closed : (x y : ℕ) → IsReached p seen x → Contains (fanins_at graph x) (inputs + y) → (is_seen seen y ≡ true) ⊎ Contains ready x ⊎ Contains later (inputs + y)
 
 -- Fan-ins were noted: they need not be looked at any more, and there is no more to do than before.
-pub record AreNoted (inputs : ℕ) (later still : List ℕ) (seen new_seen : Vec Bool) (ready new_ready : Vec ℕ) : Type 0 where
+pub record AreLookedAt (inputs : ℕ) (later still : List ℕ) (seen new_seen : Vec Bool) (ready new_ready : Vec ℕ) : Type 0 where
   pub searching : (graph : List (List ℕ)) (p : ℕ) → IsSearching inputs graph p seen.items ready.items later → IsSearching inputs graph p new_seen.items new_ready.items still
   pub less : 2 * unseen new_seen.items + vec_len new_ready ≤ 2 * unseen seen.items + vec_len ready
   pub len : vec_len new_seen ≡ vec_len seen

@@ -1,7 +1,7 @@
 // The first node that leads to itself.
 ghost use Rattle.std.specs.Prelude.{◌≡◌, ◌+◌, ◌*◌, ◌<◌, ◌≤◌, ◌↔◌, [], ℕ, false, length, drop, replicate, vec_len, IsTrue, IfOk, IfSome, IfNone, OnOk, Contains, All};
 ghost use Rattle.lw_dag.specs.Graphs.{most_signals, IsGraph, IsSmallGraph, fanins_at, height_at, AreHeights, IsStuck, Leads, IsFirst};
-ghost use Rattle.lw_dag.specs.Searching.{AreNoted};
+ghost use Rattle.lw_dag.specs.Searching.{AreLookedAt};
 ghost use Rattle.lw_dag.specs.Ranking.{AreRanks};
 
 use crate::levels::open_fanin;
@@ -73,7 +73,7 @@ fn note(
 ) -> Result<(), AllocError>
     requires place { at < length fanins.now }
     requires signals { All (λ s. s < inputs + vec_len seen.old) fanins.now }
-    ensures { OnOk result (AreNoted inputs (drop at fanins.now) (drop (at + 1) fanins.now)
+    ensures { OnOk result (AreLookedAt inputs (drop at fanins.now) (drop (at + 1) fanins.now)
         seen.old seen.new ready.old ready.new) }
 {
     let s = fanins[at];
@@ -97,7 +97,7 @@ fn note_all(
     fanins: &[u32],
 ) -> Result<(), AllocError>
     requires { All (λ s. s < inputs + vec_len seen.old) fanins.now }
-    ensures { OnOk result (AreNoted inputs fanins.now [] seen.old seen.new ready.old ready.new) }
+    ensures { OnOk result (AreLookedAt inputs fanins.now [] seen.old seen.new ready.old ready.new) }
 {
     for at in 0..fanins.len() {
         note(seen, ready, inputs, fanins, at)?;

@@ -2,7 +2,7 @@
 // them.
 ghost use Rattle.std.specs.Prelude.{◌≡◌, ◌+◌, ◌<◌, ◌≤◌, [], length, replicate, vec_len, IfOk, OnOk, All};
 ghost use Rattle.lw_dag.specs.Graphs.{IsSmallGraph};
-ghost use Rattle.lw_dag.specs.Ranking.{AreRows, AreWithin, IsWalk};
+ghost use Rattle.lw_dag.specs.Ranking.{AreUserRows, AreWithin, IsWalk};
 
 use lw_pool::Numbers;
 use std::alloc::{AllocError, Global};
@@ -37,8 +37,8 @@ fn empty_rows(alloc: Global, n: usize) -> Result<Vec<Numbers>, AllocError>
 fn note_user(rows: &mut Vec<Numbers>, inputs: usize, s: u32, user: u32) -> Result<(), AllocError>
     requires signal { s < inputs + vec_len rows.old }
     requires user { user < vec_len rows.old }
-    requires rows { AreRows (vec_len rows.old) rows.old }
-    ensures { OnOk result (AreRows (vec_len rows.old) rows.new) }
+    requires rows { AreUserRows (vec_len rows.old) rows.old }
+    ensures { OnOk result (AreUserRows (vec_len rows.old) rows.new) }
 {
     if (s as usize) < inputs {
         return Ok(());
@@ -57,8 +57,8 @@ fn note_users(
 ) -> Result<(), AllocError>
     requires signals { All (λ s. s < inputs + vec_len rows.old) fanins.now }
     requires user { user < vec_len rows.old }
-    requires rows { AreRows (vec_len rows.old) rows.old }
-    ensures { OnOk result (AreRows (vec_len rows.old) rows.new) }
+    requires rows { AreUserRows (vec_len rows.old) rows.old }
+    ensures { OnOk result (AreUserRows (vec_len rows.old) rows.new) }
 {
     for s in fanins {
         note_user(rows, inputs, *s, user)?;
@@ -69,7 +69,7 @@ fn note_users(
 // The users of each node.
 fn turned_round(alloc: Global, inputs: usize, graph: &[Numbers]) -> Result<Vec<Numbers>, AllocError>
     requires { IsSmallGraph inputs graph.now }
-    ensures { IfOk result (AreRows (length graph.now)) }
+    ensures { IfOk result (AreUserRows (length graph.now)) }
 {
     let mut rows = empty_rows(alloc, graph.len())?;
     for j in 0..graph.len() {

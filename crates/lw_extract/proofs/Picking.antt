@@ -22,7 +22,7 @@ use Rattle.lw_match.specs.Least.{Priced, IsPricedAt, IsLeastMatch, IsLeastBelow,
 use Rattle.lw_match.specs.Picks.{IsLastBefore, AreLastBefore}
 use Rattle.lw_label.specs.Labels.{AreLeastMarks}
 use Rattle.lw_label.proofs.Marked.{label_at, mark_of_label}
-use Rattle.lw_extract.specs.Choosing.{labels, heights, AreMarked, IsChoice}
+use Rattle.lw_extract.specs.Choosing.{labels, heights, RootsHaveMarks, IsChoice}
 use Rattle.lw_extract.proofs.ClassNets.{some_of}
 use Rattle.lw_pool.specs.Numbers.{numbers}
 
@@ -59,12 +59,12 @@ pins_below n known (c ∷ cs) [] below a = absurd a
 pins_below n known (c ∷ cs) (l ∷ ls) below (e, a) = (below c.0 l e, pins_below n known cs ls below a)
 
 -- each of the roots has a mark
-pub root_mark : (marks : List (Option Mark)) (roots : List ClassId) (c : ℕ) → AreMarked marks roots → Contains (numbers roots) c → (m : Mark) × (slice_index_or marks c None ≡ Some m)
+pub root_mark : (marks : List (Option Mark)) (roots : List ClassId) (c : ℕ) → RootsHaveMarks marks roots → Contains (numbers roots) c → (m : Mark) × (slice_index_or marks c None ≡ Some m)
 root_mark marks roots c covered inside = some_of (slice_index_or marks c None)
     (All-contains (λ n. IsSome (slice_index_or marks n None)) (numbers roots) c (All-map (λ n. IsSome (slice_index_or marks n None)) (λ (x : ClassId). x.0) roots covered) inside)
 
 -- so each is a class that marks are kept for
-pub marked_within : (marks : List (Option Mark)) (roots : List ClassId) (n : ℕ) → length marks ≡ n → AreMarked marks roots → All (λ (root : ClassId). root.0 < n) roots
+pub marked_within : (marks : List (Option Mark)) (roots : List ClassId) (n : ℕ) → length marks ≡ n → RootsHaveMarks marks roots → All (λ (root : ClassId). root.0 < n) roots
 marked_within marks roots n e = All-weaker (λ (root : ClassId). IsSome (slice_index_or marks root.0 None)) (λ (root : ClassId). root.0 < n)
     (λ root some.
     let (m, at) = some_of (slice_index_or marks root.0 None) some in

@@ -25,15 +25,15 @@ abbrev pub heights : List (Option Mark) → ℕ → ℕ
 heights marks = heights_of (marks_in marks)
 
 -- what a choice rests on: patterns of cells, a least mark for each class, and bounds for these
-pub record AreSettled (g : Graph) (cost : Cost) (pats : List Pattern) (marks : List (Option Mark)) (table : BoundsState) : Type 0 where
+pub record CanChoose (g : Graph) (cost : Cost) (pats : List Pattern) (marks : List (Option Mark)) (table : BoundsState) : Type 0 where
   pub of_cells : AreOfCells cost.pin_counts pats
   pub least : AreLeastMarks g cost pats marks
   pub fits : BoundsFit table pats g
   pub bounds : AreBounds table g marks
 
 -- each of the classes has a mark
-abbrev pub AreMarked : List (Option Mark) → List ClassId → Type 0
-AreMarked marks roots = All (λ (root : ClassId). IsSome (slice_index_or marks root.0 None)) roots
+abbrev pub RootsHaveMarks : List (Option Mark) → List ClassId → Type 0
+RootsHaveMarks marks roots = All (λ (root : ClassId). IsSome (slice_index_or marks root.0 None)) roots
 
 -- the match is the chosen one of the class
 abbrev pub IsChoice : Graph → Cost → List Pattern → List (Option Mark) → ℕ → Match → Type 0

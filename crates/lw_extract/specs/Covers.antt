@@ -53,7 +53,7 @@ CostTheirLabels g cost marks cover =
     (costs : List ℕ) → AreNetCosts cost (plain cover.netlist) costs → (c net : ℕ) → IsNetOf g (numbers cover.classes) c net → labels marks c ≡ Some (slice_index_or costs net 0)
 
 -- the labels are least for patterns of the library's cells, and those of inputs are their starts
-pub record AreLabels (g : Graph) (cost : Cost) (pats : List Pattern) (lib : List CellParts) (marks : List (Option Mark)) : Type 0 where
+pub record AreLibraryLabels (g : Graph) (cost : Cost) (pats : List Pattern) (lib : List CellParts) (marks : List (Option Mark)) : Type 0 where
   pub cells : cost.pin_counts ≡ map length (delays_of_cells lib)
   pub of_cells : AreOfCells cost.pin_counts pats
   pub least : AreLeastMarks g cost pats marks

@@ -2,7 +2,7 @@
 ghost use Rattle.std.specs.Prelude.{◌≡◌, ◌+◌, ◌-◌, ◌^◌, ◌<◌, IfOk, length, reverse, Some, None, slice_index_or};
 ghost use Rattle.lw_laws.specs.Extracts.{IsLeafClass};
 ghost use Rattle.lw_match.specs.Cutting.{AreKnown};
-ghost use Rattle.lw_extract.specs.Choosing.{AreChosen, AreMarked, AreSettled, IsChoice};
+ghost use Rattle.lw_extract.specs.Choosing.{AreChosen, RootsHaveMarks, CanChoose, IsChoice};
 ghost use Rattle.lw_extract.specs.Orders.{AreByHeight};
 ghost use Rattle.lw_extract.specs.Nets.{AreInputNets};
 
@@ -43,7 +43,7 @@ fn choice<C: Cost>(
     tops: &mut Tops,
     class: ClassId,
 ) -> Option<Match>
-    requires settled { AreSettled graph.now (C.costs cost.now) pats.now marks.now bounds.now }
+    requires settled { CanChoose graph.now (C.costs cost.now) pats.now marks.now bounds.now }
     requires class { class.0 < length graph.now.pairs }
     requires no_leaf { IsLeafClass graph.now class.0 → ⊥ }
     requires known { AreKnown (C.costs cost.now) pats.now bounds.now.gaps tops.old }
@@ -70,8 +70,8 @@ fn choose_down<C: Cost>(
     roots: &[ClassId],
     places: &[Place],
 ) -> Result<Vec<Chosen>, AllocError>
-    requires settled { AreSettled graph.now (C.costs cost.now) pats.now marks.now bounds.now }
-    requires covered { AreMarked marks.now roots.now }
+    requires settled { CanChoose graph.now (C.costs cost.now) pats.now marks.now bounds.now }
+    requires covered { RootsHaveMarks marks.now roots.now }
     requires places { (nets : _) × AreInputNets graph.now nets ×
         AreByHeight nets marks.now places.now }
     ensures { IfOk result (λ chosen. AreChosen graph.now
@@ -103,8 +103,8 @@ pub(crate) fn choose<C: Cost>(
     roots: &[ClassId],
     nets: &[Option<NetId>],
 ) -> Result<Vec<Chosen>, AllocError>
-    requires settled { AreSettled graph.now (C.costs cost.now) pats.now marks.now bounds.now }
-    requires covered { AreMarked marks.now roots.now }
+    requires settled { CanChoose graph.now (C.costs cost.now) pats.now marks.now bounds.now }
+    requires covered { RootsHaveMarks marks.now roots.now }
     requires nets { AreInputNets graph.now nets.now }
     ensures { IfOk result (λ chosen. AreChosen graph.now
         (C.costs cost.now) pats.now marks.now roots.now chosen.items) }

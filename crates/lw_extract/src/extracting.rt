@@ -8,9 +8,9 @@ ghost use Rattle.lw_laws.specs.Names.{net_names};
 ghost use Rattle.lw_genlib.specs.Tables.{delays_of_cells};
 ghost use Rattle.lw_netlist.specs.Plain.{IsOver};
 ghost use Rattle.lw_extract.specs.declared.fault.ExtractFault.TheVariants.{NoCover};
-ghost use Rattle.lw_extract.specs.Choosing.{AreChosen, AreMarked, AreSettled, chosen_classes, labels as labels_of};
+ghost use Rattle.lw_extract.specs.Choosing.{AreChosen, RootsHaveMarks, CanChoose, chosen_classes, labels as labels_of};
 ghost use Rattle.lw_extract.specs.Nets.{AreClassNets};
-ghost use Rattle.lw_extract.specs.Covers.{AreFit, AreLabels, CostTheirLabels, IsCoverBy, IsExtractedCover, IsFirstUncovered};
+ghost use Rattle.lw_extract.specs.Covers.{AreFit, AreLibraryLabels, CostTheirLabels, IsCoverBy, IsExtractedCover, IsFirstUncovered};
 ghost use Rattle.lw_pool.specs.Numbers.{numbers};
 
 use crate::choosing::{Chosen, choose};
@@ -116,10 +116,10 @@ fn cover<C: Cost>(
     ports: &Ports,
     cost: &C,
 ) -> Result<Cover, AllocError>
-    requires labels { AreLabels graph.now (C.costs cost.now) pats.now lib.now marks.now }
-    requires settled { AreSettled graph.now (C.costs cost.now) pats.now marks.now bounds.now }
+    requires labels { AreLibraryLabels graph.now (C.costs cost.now) pats.now lib.now marks.now }
+    requires settled { CanChoose graph.now (C.costs cost.now) pats.now marks.now bounds.now }
     requires fit { AreFit graph.now ports.now }
-    requires covered { AreMarked marks.now ports.now.roots }
+    requires covered { RootsHaveMarks marks.now ports.now.roots }
     ensures { IfOk result (IsCoverBy graph.now (C.costs cost.now) pats.now lib.now marks.now
         ports.now) }
 {
@@ -141,11 +141,11 @@ fn cover_with<C: Cost>(
     ports: &Ports,
     cost: &C,
 ) -> Result<Cover, AllocError>
-    requires labels { AreLabels graph.now (C.costs cost.now) pats.now lib.now marks.now }
+    requires labels { AreLibraryLabels graph.now (C.costs cost.now) pats.now lib.now marks.now }
     requires settled { IfSome bounds
-        (λ b. AreSettled graph.now (C.costs cost.now) pats.now marks.now b.now) }
+        (λ b. CanChoose graph.now (C.costs cost.now) pats.now marks.now b.now) }
     requires fit { AreFit graph.now ports.now }
-    requires covered { AreMarked marks.now ports.now.roots }
+    requires covered { RootsHaveMarks marks.now ports.now.roots }
     ensures { IfOk result (IsCoverBy graph.now (C.costs cost.now) pats.now lib.now marks.now
         ports.now) }
 {

@@ -1,8 +1,8 @@
 // What the first word of a line asks for.
 ghost use Rattle.std.specs.Prelude.{◌≡◌};
-ghost use Rattle.std.specs.Str.{bytes_eq};
 ghost use Rattle.lw_mapped.specs.Commands.{command_of, point_command, port_command, other_command};
-ghost use Rattle.lw_words.specs.Words.{is_ignored_word};
+
+use lw_words::{is, is_ignored};
 
 /// What the first word of a line asks for.
 #[derive(Clone, Copy)]
@@ -35,13 +35,6 @@ pub fn command_of(word: &[u8]) -> Command
         [b'#', b'@'] => Command::Certificate,
         _ => Command::Plain,
     }
-}
-
-/// Whether a word is this one.
-pub fn is(word: &[u8], text: &[u8]) -> bool
-    ensures { result ≡ bytes_eq word.now text.now }
-{
-    word == text
 }
 
 // What a word that begins with `.` asks for.
@@ -96,24 +89,4 @@ fn other_command(word: &[u8]) -> Command
         return Command::Ignored;
     }
     Command::Unknown
-}
-
-#[tactic(auto, unfolding(lw_words::specs::Words::is_ignored_word))]
-fn is_ignored(word: &[u8]) -> bool
-    ensures { result ≡ is_ignored_word word.now }
-{
-    is(word, b".area")
-        || is(word, b".delay")
-        || is(word, b".wire_load_slope")
-        || is(word, b".wire")
-        || is(word, b".output_required")
-        || is(word, b".default_output_required")
-        || is(word, b".input_drive")
-        || is(word, b".default_input_drive")
-        || is(word, b".output_load")
-        || is(word, b".default_output_load")
-        || is(word, b".max_input_load")
-        || is(word, b".default_max_input_load")
-        || is(word, b".cycle")
-        || is(word, b".clock_event")
 }

@@ -7,7 +7,7 @@ ghost use Rattle.std.specs.Str.Parse.{digits_value};
 ghost use Rattle.lw_mapped.specs.Sayings as says;
 ghost use Rattle.lw_mapped.specs.Parsed.{Says, IsFit};
 
-use crate::command::{Command, is};
+use crate::command::Command;
 use crate::naming::{is_name, name_at, names_fault, names_from};
 use crate::ties::{gate_of, ties_fault};
 use crate::{MappedKind, Refusal, Saying};
@@ -17,7 +17,7 @@ use lw_frame::read_start;
 use lw_genlib::Library;
 use lw_netlist::Wire;
 use lw_pool::{ClassId, Latch};
-use lw_words::Words;
+use lw_words::{Words, is};
 use std::alloc::Global;
 
 // How many class numbers there are.

@@ -6,6 +6,7 @@ ghost use Rattle.lw_verilog.specs.Pieces.{byte_at, is_separator, is_visible, is_
 ghost use Rattle.lw_words.specs.Lines.{is_line_feed};
 
 use crate::{Kind, Piece};
+use lw_words::is;
 
 fn byte_at(bytes: &[u8], place: usize) -> u8
     ensures { result ≡ byte_at bytes.now place }
@@ -114,22 +115,22 @@ fn before_pair(first: u8, second: u8, bytes: &[u8]) -> usize
 fn word_kind(word: &[u8]) -> Kind
     ensures { result ≡ word_kind word.now }
 {
-    if word == b"module".as_slice() {
+    if is(word, b"module") {
         return Kind::Module;
     }
-    if word == b"endmodule".as_slice() {
+    if is(word, b"endmodule") {
         return Kind::EndModule;
     }
-    if word == b"input".as_slice() {
+    if is(word, b"input") {
         return Kind::Input;
     }
-    if word == b"output".as_slice() {
+    if is(word, b"output") {
         return Kind::Output;
     }
-    if word == b"wire".as_slice() {
+    if is(word, b"wire") {
         return Kind::Wire;
     }
-    if word == b"assign".as_slice() {
+    if is(word, b"assign") {
         return Kind::Assign;
     }
     Kind::Name

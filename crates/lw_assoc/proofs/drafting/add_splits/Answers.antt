@@ -17,7 +17,7 @@ add_split-requires-clause-split c =
     let below = c.loop-mask-test.true in
     let h = twice_half (length ids) c.len.result c.half_of-half.result (omega arith) c.len.ensures.len c.half_of-half.ensures.half in
     let r : rest ≡ other ids mask = omega arith in
-    cuts_make c.args.forms.now c.base.ensures.kept c.args.b mask rest ids e c.loop-mask.near-mask lt (omega arith) r
+    cuts_make c.args.forms.now c.base.ensures.kept c.args.b mask rest ids e (omega arith) lt (omega arith) r
 
 pub loop-mask-preserved : goal.loop-mask-preserved
 loop-mask-preserved c =

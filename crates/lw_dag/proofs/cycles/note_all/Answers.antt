@@ -1,7 +1,7 @@
 use Rattle.std.proofs.Common.{◌∙◌, ◌+◌, ◌<◌, All, refl, sym, subst, arith}
 use Rattle.std.proofs.lemmas.List.{drop_all}
 use Rattle.std.proofs.lemmas.Result.{IfOk-from_err}
-use Rattle.lw_dag.specs.Searching.{AreNoted}
+use Rattle.lw_dag.specs.Searching.{AreLookedAt}
 use Rattle.lw_dag.proofs.cycles.note_all.Goals as goal
 
 pub loop-at-init : goal.loop-at-init
@@ -22,4 +22,4 @@ returns-in_err-note c = IfOk-from_err _ _ c.from_residual.ensures.0
 
 pub returns : goal.returns
 returns c =
-    subst (λ later. AreNoted c.args.inputs c.args.fanins.now later c.args.seen.now c.loop-at.seen c.args.ready.now c.loop-at.ready) (drop_all c.loop-at.at c.args.fanins.now (omega (arith, c.loop-at-test.false))) c.loop-at.invariant
+    subst (λ later. AreLookedAt c.args.inputs c.args.fanins.now later c.args.seen.now c.loop-at.seen c.args.ready.now c.loop-at.ready) (drop_all c.loop-at.at c.args.fanins.now (omega (arith, c.loop-at-test.false))) c.loop-at.invariant

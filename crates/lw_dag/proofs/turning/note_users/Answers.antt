@@ -1,7 +1,7 @@
 use Rattle.std.proofs.Common.{◌+◌, ◌<◌, arith, refl, subst, sym, vec_len}
 use Rattle.std.proofs.lemmas.List.Elements.{All-get_or}
 use Rattle.std.proofs.lemmas.Result.{IfOk-from_err}
-use Rattle.lw_dag.specs.Ranking.{AreRows, AreWithin}
+use Rattle.lw_dag.specs.Ranking.{AreUserRows, AreWithin}
 use Rattle.lw_dag.proofs.turning.note_users.Goals as goal
 
 pub loop-s-init : goal.loop-s-init
@@ -20,7 +20,7 @@ pub returns-in_err-note_user : goal.returns-in_err-note_user
 returns-in_err-note_user c = IfOk-from_err _ _ c.from_residual.ensures.0
 
 pub loop-s-preserved : goal.loop-s-preserved
-loop-s-preserved c = subst (λ n. AreRows n c.note_user.new.rows) c.loop-s.invariant.len c.in_ok-note_user.ensures
+loop-s-preserved c = subst (λ n. AreUserRows n c.note_user.new.rows) c.loop-s.invariant.len c.in_ok-note_user.ensures
 
 pub returns : goal.returns
 returns c = c.loop-s.invariant

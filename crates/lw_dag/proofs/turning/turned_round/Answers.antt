@@ -3,7 +3,7 @@ use Rattle.std.proofs.lemmas.List.{get_or_read, length-replicate}
 use Rattle.std.proofs.lemmas.List.Elements.{All-nil, All-replicate, All-same}
 use Rattle.std.proofs.lemmas.Result.{IfOk-from_err}
 use Rattle.lw_dag.specs.Graphs.{fanins_at}
-use Rattle.lw_dag.specs.Ranking.{AreRows, AreWithin}
+use Rattle.lw_dag.specs.Ranking.{AreUserRows, AreWithin}
 use Rattle.lw_dag.proofs.turning.turned_round.Goals as goal
 
 pub note_users-requires-clause-signals : goal.note_users-requires-clause-signals
@@ -38,7 +38,7 @@ pub returns-in_err-note_users : goal.returns-in_err-note_users
 returns-in_err-note_users c = IfOk-from_err _ _ c.from_residual-in_err-note_users.ensures.0
 
 pub loop-j-preserved : goal.loop-j-preserved
-loop-j-preserved c = subst (λ n. AreRows n c.note_users.new.rows) c.loop-j.invariant.len c.in_ok-note_users.ensures
+loop-j-preserved c = subst (λ n. AreUserRows n c.note_users.new.rows) c.loop-j.invariant.len c.in_ok-note_users.ensures
 
 pub returns : goal.returns
 returns c = c.loop-j.invariant

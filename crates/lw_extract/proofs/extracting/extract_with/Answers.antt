@@ -3,7 +3,7 @@ use Rattle.lw_pool.specs.declared.id.ClassId.{ClassId}
 use Rattle.lw_laws.specs.Extracts.{HaveLeafLabels}
 use Rattle.lw_match.specs.declared.mark.Mark.{Mark}
 use Rattle.lw_label.specs.Labels.{AreLeastMarks}
-use Rattle.lw_extract.specs.Choosing.{AreSettled, labels}
+use Rattle.lw_extract.specs.Choosing.{CanChoose, labels}
 use Rattle.lw_extract.proofs.Uncovered.{covered_ok, covered_memory}
 use Rattle.lw_extract.proofs.extracting.extract_with.Goals as goal
 
@@ -25,7 +25,7 @@ cover_with-requires-clause-labels g c =
 pub cover_with-requires-clause-settled : goal.cover_with-requires-clause-settled
 cover_with-requires-clause-settled g c =
     let cost = g.C.Cost.costs c.args.cost.now in
-    subst (λ (ms : List (Option Mark)). IfSome c.args.bounds (λ b. AreSettled c.args.graph.now cost c.args.pats.now ms b.now)) (sym c.marks-marks.ensures)
+    subst (λ (ms : List (Option Mark)). IfSome c.args.bounds (λ b. CanChoose c.args.graph.now cost c.args.pats.now ms b.now)) (sym c.marks-marks.ensures)
     (both_if c.args.bounds (λ b fits bounds. record { of_cells = c.requires.of_cells; least = c.requires.least; fits = fits; bounds = bounds }) c.requires.fits c.requires.bounds)
 
 pub returns-in-Err-clause-no_cover : goal.returns-in-Err-clause-no_cover
