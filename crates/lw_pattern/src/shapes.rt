@@ -113,6 +113,42 @@ impl Shapes {
         }
         Ok(())
     }
+
+    // Appends all bracketings of three operands.
+    fn push_three(
+        &mut self,
+        alloc: Global,
+        operator: Operator,
+        a: &Shapes,
+        b: &Shapes,
+        c: &Shapes,
+    ) -> Result<(), AllocError>
+        ensures { OnOk result (self.new ≡ self.old
+            ++ three (law_operator operator) a.now b.now c.now) }
+    {
+        self.push_pairs(alloc, operator, &pairs(alloc, operator, a, b)?, c)?;
+        self.push_pairs(alloc, operator, a, &pairs(alloc, operator, b, c)?)
+    }
+
+    // Appends all bracketings of four operands.
+    fn push_four(
+        &mut self,
+        alloc: Global,
+        operator: Operator,
+        a: &Shapes,
+        b: &Shapes,
+        c: &Shapes,
+        d: &Shapes,
+    ) -> Result<(), AllocError>
+        ensures { OnOk result (self.new ≡ self.old
+            ++ four (law_operator operator) a.now b.now c.now d.now) }
+    {
+        self.push_pairs(alloc, operator, &three(alloc, operator, a, b, c)?, d)?;
+        let left = pairs(alloc, operator, a, b)?;
+        self.push_pairs(alloc, operator, &left, &pairs(alloc, operator, c, d)?)?;
+        drop(left);
+        self.push_pairs(alloc, operator, a, &three(alloc, operator, b, c, d)?)
+    }
 }
 
 /// Each tree of the left ones joined with each of the right ones.
@@ -140,8 +176,7 @@ pub(crate) fn three(
     ensures { IfOk result (λ trees. trees ≡ three (law_operator operator) a.now b.now c.now) }
 {
     let mut shapes = Shapes::new(alloc);
-    shapes.push_pairs(alloc, operator, &pairs(alloc, operator, a, b)?, c)?;
-    shapes.push_pairs(alloc, operator, a, &pairs(alloc, operator, b, c)?)?;
+    shapes.push_three(alloc, operator, a, b, c)?;
     Ok(shapes)
 }
 
@@ -156,11 +191,8 @@ pub(crate) fn four(
 ) -> Result<Shapes, AllocError>
     ensures { IfOk result (λ trees. trees ≡ four (law_operator operator) a.now b.now c.now d.now) }
 {
-    let mut shapes = pairs(alloc, operator, &three(alloc, operator, a, b, c)?, d)?;
-    let left = pairs(alloc, operator, a, b)?;
-    let right = pairs(alloc, operator, c, d)?;
-    shapes.push_pairs(alloc, operator, &left, &right)?;
-    shapes.push_pairs(alloc, operator, a, &three(alloc, operator, b, c, d)?)?;
+    let mut shapes = Shapes::new(alloc);
+    shapes.push_four(alloc, operator, a, b, c, d)?;
     Ok(shapes)
 }
 

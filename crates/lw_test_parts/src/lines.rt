@@ -24,7 +24,38 @@ fn collect(lines: &mut Lines, all: &mut Vec<Line>) -> Result<(), AllocError>
     Ok(())
 }
 
-// The lines of a text that is fed in three pieces, which end at these places.
+// Feeds a piece, and takes the lines that are finished.
+fn feed(lines: &mut Lines, all: &mut Vec<Line>, piece: &[u8]) -> Result<(), AllocError>
+    requires unfinished { is_finished lines.old ≡ false }
+    requires room { fed_count lines.old + length piece.now ≤ 67108865 }
+    ensures count { OnOk result (fed_count lines.new ≡ fed_count lines.old + length piece.now) }
+    ensures unfinished { OnOk result (is_finished lines.new ≡ false) }
+{
+    lines.feed(piece)?;
+    collect(lines, all)
+}
+
+// Feeds a text in three pieces, which end at these places and at its end.
+fn feed_three(
+    lines: &mut Lines,
+    all: &mut Vec<Line>,
+    text: &[u8],
+    first: usize,
+    second: usize,
+) -> Result<(), AllocError>
+    requires unfinished { is_finished lines.old ≡ false }
+    requires order { first ≤ second }
+    requires within { second ≤ length text.now }
+    requires small { fed_count lines.old + length text.now ≤ 1000 }
+{
+    feed(lines, all, &text[..first])?;
+    feed(lines, all, &text[first..second])?;
+    feed(lines, all, &text[second..])?;
+    lines.finish()?;
+    collect(lines, all)
+}
+
+// The lines of a text that is fed in three pieces, which end at these places and at its end.
 fn in_three(
     alloc: Global,
     marked: bool,
@@ -38,14 +69,27 @@ fn in_three(
 {
     let mut all = Vec::new(alloc);
     let mut lines = Lines::new(alloc, marked);
-    lines.feed(&text[..first])?;
-    collect(&mut lines, &mut all)?;
-    lines.feed(&text[first..second])?;
-    lines.feed(&text[second..])?;
-    collect(&mut lines, &mut all)?;
+    let fed = feed_three(&mut lines, &mut all, text, first, second);
+    drop(lines);
+    match fed {
+        Ok(()) => Ok(all),
+        Err(fault) => {
+            drop(all);
+            Err(fault)
+        }
+    }
+}
+
+// Feeds a text byte by byte.
+fn feed_bytes(lines: &mut Lines, all: &mut Vec<Line>, text: &[u8]) -> Result<(), AllocError>
+    requires unfinished { is_finished lines.old ≡ false }
+    requires small { fed_count lines.old + length text.now ≤ 1000 }
+{
+    for i in 0..text.len() {
+        feed(lines, all, &text[i..i + 1])?;
+    }
     lines.finish()?;
-    collect(&mut lines, &mut all)?;
-    Ok(all)
+    collect(lines, all)
 }
 
 // The lines of a text that is fed byte by byte.
@@ -54,13 +98,15 @@ fn by_bytes(alloc: Global, marked: bool, text: &[u8]) -> Result<Vec<Line>, Alloc
 {
     let mut all = Vec::new(alloc);
     let mut lines = Lines::new(alloc, marked);
-    for i in 0..text.len() {
-        lines.feed(&text[i..i + 1])?;
-        collect(&mut lines, &mut all)?;
+    let fed = feed_bytes(&mut lines, &mut all, text);
+    drop(lines);
+    match fed {
+        Ok(()) => Ok(all),
+        Err(fault) => {
+            drop(all);
+            Err(fault)
+        }
     }
-    lines.finish()?;
-    collect(&mut lines, &mut all)?;
-    Ok(all)
 }
 
 // The words with one blank between them.
