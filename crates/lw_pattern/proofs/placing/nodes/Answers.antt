@@ -1,4 +1,4 @@
-use Rattle.std.proofs.Common.{◌≡◌, ◌≤◌, ◌<◌, ◌+◌, ◌∙◌, ap, length, arith, rules}
+use Rattle.std.proofs.Common.{◌≡◌, ◌≤◌, ◌<◌, ◌+◌, ◌∙◌, ap, length, arith}
 use Rattle.std.specs.Prelude.{vec_capacity}
 use Rattle.std.proofs.lemmas.List.{length_push}
 use Rattle.lw_pattern.specs.Nodes.{node_count}
@@ -19,7 +19,7 @@ pub overflow_cast-place : goal.overflow_cast-place
 overflow_cast-place c =
     let size : length c.steps-steps.result.now ≡ node_count c.args.tree.now = ap length c.steps-steps.ensures ∙ length_steps c.args.tree.now in
     let small : c.loop-place.place < 256 = omega arith in
-    search rules
+    omega arith
 
 pub loop-place-preserved : goal.loop-place-preserved
 loop-place-preserved c = record {
