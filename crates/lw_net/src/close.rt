@@ -1,13 +1,7 @@
 // Drafts that are closed to networks.
-ghost use Rattle.std.specs.Prelude.{◌≡◌, ◌-◌, ◌≤◌, ◌<◌, None, length, map, All, IfOk, IfErr, OnOk};
-ghost use Rattle.std.specs.List.{flat_map, IsDistinct};
-ghost use Rattle.std.specs.Str.{bytes_eq};
-ghost use Rattle.lw_net.specs.Closing.{IsDraft, IsClosed, HasFault, signals_of, fanins_of, undefined_in, first_undefined, network_in};
-ghost use Rattle.lw_net.specs.Networks.{IsNetwork};
-ghost use Rattle.lw_net.specs.Plain.{HasRisingDepths};
-ghost use Rattle.lw_pool.specs.Numbers.{most_signals};
-ghost use Rattle.lw_net.specs.Numbered.{numbered};
-ghost use Rattle.lw_net.specs.Numbers.{draft_in, IsWritten, IsTable};
+ghost use Rattle.std.specs.Prelude.{◌≡◌, ◌-◌, ◌<◌, length, map, All, IfOk, IfErr, OnOk};
+ghost use Rattle.lw_net.specs.Closing.{HasFault, network_in};
+ghost use Rattle.lw_net.specs.Numbers.{draft_in, AreFaninNumbers, CanClose, HasSignals, StandsInOrder, IsTable};
 ghost use Rattle.lw_net.specs.Ordering.{AreRight};
 ghost use Rattle.lw_net.specs.Written.{names_in, net_placed, placed_node, IsWithin};
 
@@ -29,9 +23,7 @@ fn depths_of(alloc: Global, heights: &[u32]) -> Result<Vec<u32>, AllocError>
 
 // The places of the names of a draft among its signals.
 fn table(alloc: Global, w: &Written) -> Result<Vec<u32>, AllocError>
-    requires kept { IsWritten w.now }
-    requires distinct { IsDistinct bytes_eq (signals_of (draft_in w.now)) }
-    requires few { length (signals_of (draft_in w.now)) ≤ most_signals }
+    requires { HasSignals w.now }
     ensures { IfOk result (λ places. IsTable w.now places.items) }
 {
     let signals = signal_list(alloc, &w.inputs, &w.nodes)?;
@@ -41,13 +33,8 @@ fn table(alloc: Global, w: &Written) -> Result<Vec<u32>, AllocError>
 // The numbers of the nodes' fan-ins among the signals of a draft, or the first signal that nothing
 // drives.
 fn graph_of(alloc: Global, w: &Written) -> Result<Vec<Numbers>, NetFault>
-    requires kept { IsWritten w.now }
-    requires draft { IsDraft (draft_in w.now) }
-    ensures graph { IfOk result (λ graph. graph.items
-        ≡ numbered (signals_of (draft_in w.now)) (draft_in w.now).nodes) }
-    ensures fanins { OnOk result (undefined_in (signals_of (draft_in w.now))
-        (flat_map fanins_of (draft_in w.now).nodes) ≡ None) }
-    ensures defined { OnOk result (first_undefined (draft_in w.now) ≡ None) }
+    requires { CanClose w.now }
+    ensures graph { IfOk result (λ graph. AreFaninNumbers w.now graph.items) }
     ensures fault { IfErr result (HasFault (draft_in w.now)) }
 {
     let places = table(alloc, w)?;
@@ -58,12 +45,8 @@ fn graph_of(alloc: Global, w: &Written) -> Result<Vec<Numbers>, NetFault>
 
 // The depths of the nodes, or the first node on a cycle.
 fn depths(alloc: Global, w: &Written, graph: &[Numbers]) -> Result<Vec<u32>, NetFault>
-    requires kept { IsWritten w.now }
-    requires draft { IsDraft (draft_in w.now) }
-    requires graph { graph.now ≡ numbered (signals_of (draft_in w.now)) (draft_in w.now).nodes }
-    requires fanins { undefined_in (signals_of (draft_in w.now))
-        (flat_map fanins_of (draft_in w.now).nodes) ≡ None }
-    requires defined { first_undefined (draft_in w.now) ≡ None }
+    requires draft { CanClose w.now }
+    requires graph { AreFaninNumbers w.now graph.now }
     ensures right { IfOk result (λ depths. AreRight (draft_in w.now) depths.items) }
     ensures fault { IfErr result (HasFault (draft_in w.now)) }
 {
@@ -81,8 +64,7 @@ fn depths(alloc: Global, w: &Written, graph: &[Numbers]) -> Result<Vec<u32>, Net
 
 // The depths of the nodes of a draft, or its fault.
 fn draft_depths(alloc: Global, w: &Written) -> Result<Vec<u32>, NetFault>
-    requires kept { IsWritten w.now }
-    requires draft { IsDraft (draft_in w.now) }
+    requires { CanClose w.now }
     ensures right { IfOk result (λ depths. AreRight (draft_in w.now) depths.items) }
     ensures fault { IfErr result (HasFault (draft_in w.now)) }
 {
@@ -93,16 +75,8 @@ fn draft_depths(alloc: Global, w: &Written) -> Result<Vec<u32>, NetFault>
 
 // Puts the nodes of a draft in the order of its network. Behind an error the draft is of no use.
 pub(crate) fn put_in_order(alloc: Global, w: &mut Written) -> Result<(), NetFault>
-    requires kept { IsWritten w.old }
-    requires draft { IsDraft (draft_in w.old) }
-    ensures names { OnOk result (IsWritten w.new) }
-    ensures distinct { OnOk result (IsDistinct bytes_eq (signals_of (draft_in w.new))) }
-    ensures few { OnOk result (length (signals_of (draft_in w.new)) ≤ most_signals) }
-    ensures kept { OnOk result (IsNetwork (network_in (draft_in w.new) (draft_in w.new).nodes)) }
-    ensures closed { OnOk result (IsClosed (draft_in w.old)
-        (network_in (draft_in w.new) (draft_in w.new).nodes)) }
-    ensures depths { OnOk result (HasRisingDepths
-        (network_in (draft_in w.new) (draft_in w.new).nodes)) }
+    requires { CanClose w.old }
+    ensures order { OnOk result (StandsInOrder (draft_in w.old) w.new) }
     ensures fault { IfErr result (HasFault (draft_in w.old)) }
 {
     let depths = draft_depths(alloc, w)?;
@@ -178,9 +152,7 @@ pub(crate) struct Parts {
 
 // The parts of the network whose nodes stand as in the draft. The draft keeps no nodes.
 pub(crate) fn parts_of(alloc: Global, w: &mut Written) -> Result<Parts, AllocError>
-    requires names { IsWritten w.old }
-    requires distinct { IsDistinct bytes_eq (signals_of (draft_in w.old)) }
-    requires few { length (signals_of (draft_in w.old)) ≤ most_signals }
+    requires { HasSignals w.old }
     ensures { IfOk result (λ p. record {
       model = w.new.model;
       names = p.names;

@@ -30,11 +30,8 @@ impl Model for Network {
 
 impl Network {
     ghost use Rattle.std.specs.Prelude.{IfOk, IfErr};
-    ghost use Rattle.std.specs.List.{IsDistinct};
-    ghost use Rattle.std.specs.Str.{bytes_eq};
-    ghost use Rattle.lw_net.specs.Closing.{IsDraft, IsClosed, HasFault, signals_of, network_in};
-    ghost use Rattle.lw_pool.specs.Numbers.{most_signals};
-    ghost use Rattle.lw_net.specs.Numbers.{draft_in, IsWritten};
+    ghost use Rattle.lw_net.specs.Closing.{IsDraft, IsClosed, HasFault, network_in};
+    ghost use Rattle.lw_net.specs.Numbers.{draft_in, CanClose, HasSignals};
     ghost use Rattle.lw_laws.specs.Networks.{AreValues, IsInOrder, given};
     ghost use Rattle.lw_net.specs.Networks.{IsNetwork};
     ghost use Rattle.lw_net.specs.Plain.{plain, HasRisingDepths};
@@ -117,8 +114,7 @@ impl Network {
 
     // The network of a draft whose names are numbers.
     fn of_written(alloc: Global, w: Written) -> Result<Network, NetFault>
-        requires kept { IsWritten w }
-        requires draft { IsDraft (draft_in w) }
+        requires { CanClose w }
         ensures closed { IfOk result (IsClosed (draft_in w)) }
         ensures depths { IfOk result HasRisingDepths }
         ensures fault { IfErr result (HasFault (draft_in w)) }
@@ -131,9 +127,7 @@ impl Network {
 
     // The network whose nodes stand as in the draft.
     fn of_ordered(alloc: Global, w: Written) -> Result<Network, AllocError>
-        requires names { IsWritten w }
-        requires distinct { IsDistinct bytes_eq (signals_of (draft_in w)) }
-        requires few { length (signals_of (draft_in w)) ≤ most_signals }
+        requires signals { HasSignals w }
         requires kept { IsNetwork (network_in (draft_in w) (draft_in w).nodes) }
         ensures { IfOk result (λ net. net ≡ network_in (draft_in w) (draft_in w).nodes) }
     {

@@ -43,13 +43,15 @@ const SIZES: [(u32, u32, u32, u32, u32); 4] = [
 ];
 
 /// A graph, a library with its patterns, and all matches.
-#[derive(Clone, Copy)]
+#[derive(Drop)]
 struct Case<'a> {
     lib: &'a Library,
     starts: &'a Micros,
     pats: &'a Patterns,
     graph: &'a Graph,
     matches: &'a [Vec<Match>],
+    ghost of_cells: { AreOfCells (map length (delays_of_cells lib.now)) pats.now },
+    ghost small: { All IsSmall starts.now },
 }
 
 // Whether the least match that was found is this one.
@@ -92,9 +94,6 @@ fn check_below(
     requires class { class.0 < length case.now.graph.now.pairs }
     requires one_each { length marks.now ≡ length case.now.graph.now.pairs }
     requires in_range { AreInRange most_time marks.now }
-    requires of_cells { AreOfCells
-        (map length (delays_of_cells case.now.lib.now)) case.now.pats.now }
-    requires small { All IsSmall case.now.starts.now }
 {
     let mark = match wanted {
         Some((mark, _found)) => mark,
@@ -120,9 +119,6 @@ fn check_class(
     requires class { class.0 < length case.now.graph.now.pairs }
     requires one_each { length marks.now ≡ length case.now.graph.now.pairs }
     requires in_range { AreInRange most_time marks.now }
-    requires of_cells { AreOfCells
-        (map length (delays_of_cells case.now.lib.now)) case.now.pats.now }
-    requires small { All IsSmall case.now.starts.now }
 {
     let wanted = least_of(case.lib, case.pats, marks, matches);
     let found = least(
@@ -139,9 +135,6 @@ fn check_class(
 fn check_classes(rt: &impl Abort, case: &Case<'_>, marks: &[Option<Mark>])
     requires one_each { length marks.now ≡ length case.now.graph.now.pairs }
     requires in_range { AreInRange most_time marks.now }
-    requires of_cells { AreOfCells
-        (map length (delays_of_cells case.now.lib.now)) case.now.pats.now }
-    requires small { All IsSmall case.now.starts.now }
 {
     for number in 0..case.graph.classes() {
         if let Some(matches) = case.matches.get(number as usize) {
@@ -157,8 +150,53 @@ fn are_listed(matches: &[Vec<Match>]) -> bool {
         .all(|at| at.len() < MOST_MATCHES && are_once_and_rising(at))
 }
 
-// Checks the matches at each class of a graph, the labels, and the least matches under these and
-// under drawn marks.
+// Checks the labels, and the least matches under these.
+fn check_labels(rt: &impl Abort, alloc: Global, case: &Case<'_>) -> Result<(), AllocError> {
+    let labels = relabel(
+        alloc,
+        case.graph,
+        case.pats,
+        &DelayCost::new(case.lib, case.starts),
+    )?;
+    let wanted = marks_by_rounds(alloc, case.lib, case.pats, case.graph, case.matches);
+    let checked = match wanted {
+        Ok(wanted) => {
+            assert_eq!(rt; labels.marks(), wanted.as_slice());
+            check_classes(rt, case, labels.marks());
+            Ok(())
+        }
+        Err(fault) => Err(fault),
+    };
+    drop(labels);
+    checked
+}
+
+// Checks the least matches under marks that are drawn.
+fn check_drawn(
+    rt: &impl Abort,
+    alloc: Global,
+    case: &Case<'_>,
+    dice: &mut Dice,
+    high: bool,
+) -> Result<(), AllocError> {
+    let marks = drawn_marks(alloc, dice, case.graph, high)?;
+    check_classes(rt, case, &marks);
+    Ok(())
+}
+
+// Checks the labels, and the least matches under these and under drawn marks.
+fn check_case(
+    rt: &impl Abort,
+    alloc: Global,
+    case: &Case<'_>,
+    dice: &mut Dice,
+) -> Result<(), AllocError> {
+    check_labels(rt, alloc, case)?;
+    check_drawn(rt, alloc, case, dice, false)?;
+    check_drawn(rt, alloc, case, dice, true)
+}
+
+// Checks the matches at each class of a graph, and what is found among them.
 fn check_graph(
     rt: &impl Abort,
     alloc: Global,
@@ -173,9 +211,6 @@ fn check_graph(
     assert_eq!(rt; matches.len(), graph.classes() as usize);
     assert!(rt; are_listed(&matches), "each match once, by rising patterns");
     let starts = no_starts(alloc);
-    let labels = relabel(alloc, graph, pats, &DelayCost::new(lib, &starts))?;
-    let wanted = marks_by_rounds(alloc, lib, pats, graph, &matches)?;
-    assert_eq!(rt; labels.marks(), wanted.as_slice());
     let case = Case {
         lib,
         starts: &starts,
@@ -183,10 +218,7 @@ fn check_graph(
         graph,
         matches: &matches,
     };
-    check_classes(rt, &case, labels.marks());
-    check_classes(rt, &case, &drawn_marks(alloc, dice, graph, false)?);
-    check_classes(rt, &case, &drawn_marks(alloc, dice, graph, true)?);
-    Ok(())
+    check_case(rt, alloc, &case, dice)
 }
 
 fn check_graphs(

@@ -17,11 +17,6 @@ returns-in_err-_outputs-clause-fault c =
     let p = err_from_is_err_and c.from_residual-in_err-_outputs.result c.from_residual-in_err-_outputs.ensures.1 in
     rw (p.1, p.2) (fault_in_outputs draft (signals_of draft) c.in_err-_outputs.field-0.0 refl c.in_ok-graph.ensures.defined (rw c.deref-3.ensures.value at c.in_err-_outputs.ensures.fault))
 
-pub returns-clause-defined : goal.returns-clause-defined
-returns-clause-defined c =
-    let draft = draft_in c.args.w.now in
-    nothing_undefined draft (signals_of draft) refl c.in_ok-graph.ensures.defined (rw c.deref-3.ensures.value at c.in_ok-_outputs.ensures.defined)
-
 pub graph-requires : goal.graph-requires
 graph-requires c = subst (IsTable c.args.w.now) (sym c.deref.ensures.value) c.in_ok-places.ensures
 
@@ -36,23 +31,14 @@ row-requires-clause-within c =
 pub returns-in_err-graph-clause-graph : goal.returns-in_err-graph-clause-graph
 returns-in_err-graph-clause-graph c = IfOk-from_err _ _ c.from_residual-in_err-graph.ensures.0
 
-pub returns-in_err-graph-clause-fanins : goal.returns-in_err-graph-clause-fanins
-returns-in_err-graph-clause-fanins c = IfOk-from_err _ _ c.from_residual-in_err-graph.ensures.0
-
-pub returns-in_err-graph-clause-defined : goal.returns-in_err-graph-clause-defined
-returns-in_err-graph-clause-defined c = IfOk-from_err _ _ c.from_residual-in_err-graph.ensures.0
-
 pub returns-in_err-_outputs-clause-graph : goal.returns-in_err-_outputs-clause-graph
 returns-in_err-_outputs-clause-graph c = IfOk-from_err _ _ c.from_residual-in_err-_outputs.ensures.0
 
-pub returns-in_err-_outputs-clause-fanins : goal.returns-in_err-_outputs-clause-fanins
-returns-in_err-_outputs-clause-fanins c = IfOk-from_err _ _ c.from_residual-in_err-_outputs.ensures.0
-
-pub returns-in_err-_outputs-clause-defined : goal.returns-in_err-_outputs-clause-defined
-returns-in_err-_outputs-clause-defined c = IfOk-from_err _ _ c.from_residual-in_err-_outputs.ensures.0
-
 pub returns-clause-graph : goal.returns-clause-graph
-returns-clause-graph c = c.in_ok-graph.ensures.ok
-
-pub returns-clause-fanins : goal.returns-clause-fanins
-returns-clause-fanins c = c.in_ok-graph.ensures.defined
+returns-clause-graph c =
+    let draft = draft_in c.args.w.now in
+    record {
+      numbers = c.in_ok-graph.ensures.ok;
+      fanins = c.in_ok-graph.ensures.defined;
+      defined = nothing_undefined draft (signals_of draft) refl c.in_ok-graph.ensures.defined (rw c.deref-3.ensures.value at c.in_ok-_outputs.ensures.defined);
+    }

@@ -8,7 +8,7 @@ pub copies-requires : goal.copies-requires
 copies-requires c =
     let w = c.args.w.now in
     let list : c.in_ok-list.list.items ≡ signal_numbers w = c.in_ok-list.ensures ∙ ap₂ (λ a b. a ++ map number_of_out b) c.deref.ensures.value c.deref-2.ensures.value in
-    subst (All (λ n. n < length w.names.keys)) (sym (c.deref-3.ensures.value ∙ list)) (signals_within w c.requires.names)
+    subst (All (λ n. n < length w.names.keys)) (sym (c.deref-3.ensures.value ∙ list)) (signals_within w c.requires.kept)
 
 pub returns : goal.returns
 returns c =
