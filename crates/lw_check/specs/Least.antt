@@ -8,6 +8,9 @@ use Rattle.lw_laws.specs.Extracts.{Match}
 use Rattle.lw_laws.specs.Laws.{IsLeafCost}
 use Rattle.lw_laws.specs.Mapped.{IsPotentialOf}
 use Rattle.lw_laws.specs.Rounds.{labels_in}
+use Rattle.lw_match.specs.Bounds.{AreBounds, BoundsFit, BoundsState}
+use Rattle.lw_match.specs.Least.{AreOfCells}
+use Rattle.lw_match.specs.Values.{AreInRange}
 use Rattle.lw_match.specs.declared.mark.Mark.{Mark}
 use Rattle.lw_check.specs.declared.labels.Unbounded.{Unbounded}
 use Rattle.lw_check.specs.Failing.{IsMatchCost, IsAbove, Gives, IsFirstFailing}
@@ -60,6 +63,14 @@ flat_mark (Some l) = Some (record { cost = l; height = 0 })
 
 abbrev pub AreFlat : List (Option Mark) → Type 0
 AreFlat marks = (c : ℕ) (m : Mark) → slice_index_or marks c None ≡ Some m → m.height ≡ 0
+
+-- the table bounds what matches cost under the marks, so that a search may use it
+pub record IsTableFor (g : Graph) (cost : Cost) (pats : List Pattern) (cap : ℕ) (b : BoundsState) (marks : List (Option Mark)) : Type 0 where
+  pub one_each : length marks ≡ length g.pairs
+  pub in_range : AreInRange cap marks
+  pub of_cells : AreOfCells cost.pin_counts pats
+  pub fit : BoundsFit b pats g
+  pub bounds : AreBounds b g marks
 
 -- The labels are a potential, or this is the first class that fails, and the least that it is given.
 abbrev pub FindsUnbounded : Graph → Cost → List Pattern → List (Option ℕ) → Option Unbounded → Type 0

@@ -1,16 +1,14 @@
 // Whether the labels of a certificate are a potential, by searches that a table cuts.
-ghost use Rattle.std.specs.Prelude.{◌≡◌, ◌<◌, ◌≤◌, ◌⊎◌, ℕ, Some, IfOk, IsTrue, IsFalse, None, length, map, option_map, slice_index_or};
+ghost use Rattle.std.specs.Prelude.{◌≡◌, ◌<◌, ◌≤◌, ◌⊎◌, ◌↔◌, ℕ, Some, IfOk, IsTrue, None, length, map, option_map, slice_index_or};
 ghost use Rattle.lw_genlib.specs.Tables.{millionths};
 ghost use Rattle.lw_laws.specs.Laws.{IsLeafCost};
 ghost use Rattle.lw_laws.specs.Rounds.{labels_in};
 ghost use Rattle.lw_label.specs.Labels.{costs_of};
-ghost use Rattle.lw_match.specs.Bounds.{AreBounds, BoundsFit};
 ghost use Rattle.lw_match.specs.Least.{AreOfCells};
-ghost use Rattle.lw_match.specs.Values.{AreInRange};
-ghost use Rattle.lw_check.specs.Cases.{claim_of, IsAskable, Tells};
-ghost use Rattle.lw_check.specs.Claims.{AreMatches, class_number, HasKnownClasses, HasPotential, HasSamePorts};
+ghost use Rattle.lw_check.specs.Cases.{claim_of, PassesGates, Tells};
+ghost use Rattle.lw_check.specs.Claims.{class_number, HasPotential};
 ghost use Rattle.lw_check.specs.Failing.{IsMatchCost};
-ghost use Rattle.lw_check.specs.Least.{AreFlat, FindsUnbounded, flat_mark, IsLate, IsLeastAt, IsLeastOf, IsLow, lesser_of};
+ghost use Rattle.lw_check.specs.Least.{AreFlat, FindsUnbounded, flat_mark, IsLate, IsLeastAt, IsLeastOf, IsLow, IsTableFor, lesser_of};
 
 use crate::Reason;
 use crate::bounding::{earlier, first_late_input};
@@ -92,16 +90,10 @@ fn is_low_at<C: Cost>(
     class: ClassId,
 ) -> bool
     requires class { class.0 < length graph.now.pairs }
-    requires one_each { length marks.now ≡ length graph.now.pairs }
-    requires in_range { AreInRange C.CAP marks.now }
+    requires table { IsTableFor graph.now (C.costs cost.now) pats.now C.CAP bounds.now marks.now }
     requires flat { AreFlat marks.now }
-    requires of_cells { AreOfCells (C.costs cost.now).pin_counts pats.now }
-    requires fit { BoundsFit bounds.now pats.now graph.now }
-    requires bounds { AreBounds bounds.now graph.now marks.now }
-    ensures low { IsTrue result → IsLow graph.now (C.costs cost.now) pats.now
+    ensures { IsTrue result ↔ IsLow graph.now (C.costs cost.now) pats.now
         (labels_in (costs_of marks.now)) class.0 }
-    ensures not { IsFalse result →
-        IsLow graph.now (C.costs cost.now) pats.now (labels_in (costs_of marks.now)) class.0 → ⊥ }
 {
     let mark = marks[class.0 as usize];
     match least_within(graph, pats, bounds, marks, class, cost, mark) {
@@ -118,12 +110,8 @@ fn first_low<C: Cost>(
     bounds: &Bounds,
     marks: &[Option<Mark>],
 ) -> Option<ClassId>
-    requires one_each { length marks.now ≡ length graph.now.pairs }
-    requires in_range { AreInRange C.CAP marks.now }
+    requires table { IsTableFor graph.now (C.costs cost.now) pats.now C.CAP bounds.now marks.now }
     requires flat { AreFlat marks.now }
-    requires of_cells { AreOfCells (C.costs cost.now).pin_counts pats.now }
-    requires fit { BoundsFit bounds.now pats.now graph.now }
-    requires bounds { AreBounds bounds.now graph.now marks.now }
     ensures { IsLeastOf (IsLow graph.now (C.costs cost.now) pats.now
         (labels_in (costs_of marks.now))) (option_map class_number result) }
 {
@@ -169,11 +157,7 @@ fn least_match<C: Cost>(
     class: ClassId,
 ) -> Option<u64>
     requires class { class.0 < length graph.now.pairs }
-    requires one_each { length marks.now ≡ length graph.now.pairs }
-    requires in_range { AreInRange C.CAP marks.now }
-    requires of_cells { AreOfCells (C.costs cost.now).pin_counts pats.now }
-    requires fit { BoundsFit bounds.now pats.now graph.now }
-    requires bounds { AreBounds bounds.now graph.now marks.now }
+    requires table { IsTableFor graph.now (C.costs cost.now) pats.now C.CAP bounds.now marks.now }
     ensures { IsLeastOf (IsMatchCost graph.now (C.costs cost.now) pats.now
         (labels_in (costs_of marks.now)) class.0) result }
 {
@@ -192,13 +176,9 @@ fn first_failing<C: Cost>(
     labels: &[Option<u64>],
     marks: &[Option<Mark>],
 ) -> Option<ClassId>
-    requires one_each { length marks.now ≡ length graph.now.pairs }
+    requires table { IsTableFor graph.now (C.costs cost.now) pats.now C.CAP bounds.now marks.now }
     requires labels { costs_of marks.now ≡ labels.now }
-    requires in_range { AreInRange C.CAP marks.now }
     requires flat { AreFlat marks.now }
-    requires of_cells { AreOfCells (C.costs cost.now).pin_counts pats.now }
-    requires fit { BoundsFit bounds.now pats.now graph.now }
-    requires bounds { AreBounds bounds.now graph.now marks.now }
     ensures least { IsLeastOf (λ c. IsLate graph.now (C.costs cost.now) (labels_in labels.now) c ⊎
         IsLow graph.now (C.costs cost.now) pats.now (labels_in labels.now) c)
         (option_map class_number result) }
@@ -225,11 +205,7 @@ fn with_least<C: Cost>(
     class: ClassId,
 ) -> Option<Unbounded>
     requires class { class.0 < length graph.now.pairs }
-    requires one_each { length marks.now ≡ length graph.now.pairs }
-    requires in_range { AreInRange C.CAP marks.now }
-    requires of_cells { AreOfCells (C.costs cost.now).pin_counts pats.now }
-    requires fit { BoundsFit bounds.now pats.now graph.now }
-    requires bounds { AreBounds bounds.now graph.now marks.now }
+    requires table { IsTableFor graph.now (C.costs cost.now) pats.now C.CAP bounds.now marks.now }
     ensures { IsLeastAt graph.now (C.costs cost.now) pats.now
         (labels_in (costs_of marks.now)) class.0 result }
 {
@@ -249,13 +225,9 @@ fn first_unbounded<C: Cost>(
     labels: &[Option<u64>],
     marks: &[Option<Mark>],
 ) -> Option<Unbounded>
-    requires one_each { length marks.now ≡ length graph.now.pairs }
+    requires table { IsTableFor graph.now (C.costs cost.now) pats.now C.CAP bounds.now marks.now }
     requires labels { costs_of marks.now ≡ labels.now }
-    requires in_range { AreInRange C.CAP marks.now }
     requires flat { AreFlat marks.now }
-    requires of_cells { AreOfCells (C.costs cost.now).pin_counts pats.now }
-    requires fit { BoundsFit bounds.now pats.now graph.now }
-    requires bounds { AreBounds bounds.now graph.now marks.now }
     ensures { FindsUnbounded graph.now (C.costs cost.now) pats.now labels.now result }
 {
     let _ = graph.classes();
@@ -285,10 +257,7 @@ fn sought<C: Cost>(
 
 // The first class whose label is no bound.
 pub(crate) fn label_reason(alloc: Global, case: &Case) -> Result<Option<Reason>, AllocError>
-    requires askable { IsAskable (claim_of case.now) }
-    requires ports { HasSamePorts (claim_of case.now) }
-    requires classes { HasKnownClasses (claim_of case.now) }
-    requires matches { AreMatches (claim_of case.now) }
+    requires { PassesGates (claim_of case.now) }
     ensures { IfOk result (Tells (claim_of case.now) (HasPotential (claim_of case.now))) }
 {
     let given = case.mapped.cert.labels.as_slice();

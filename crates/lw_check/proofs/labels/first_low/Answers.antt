@@ -1,4 +1,5 @@
 use Rattle.std.proofs.Common.{refl, ◌∙◌, arith}
+use Rattle.std.proofs.lemmas.Bool.{iff_false}
 use Rattle.std.proofs.lemmas.List.{length-map}
 use Rattle.lw_laws.specs.Rounds.{labels_in}
 use Rattle.lw_label.specs.Labels.{cost_in, costs_of}
@@ -10,15 +11,15 @@ use Rattle.lw_check.proofs.labels.first_low.Goals as goal
 
 pub returns-then-is_low_at : goal.returns-then-is_low_at
 returns-then-is_low_at g c =
-    first_least (IsLow c.args.graph.now (g.C.Cost.costs c.args.cost.now) c.args.pats.now (labels_in (costs_of c.args.marks.now))) c.loop-number.number (c.if-is_low_at.ensures.low refl) c.loop-number.invariant
+    first_least (IsLow c.args.graph.now (g.C.Cost.costs c.args.cost.now) c.args.pats.now (labels_in (costs_of c.args.marks.now))) c.loop-number.number (c.if-is_low_at.ensures.0 refl) c.loop-number.invariant
 
 pub loop-number-preserved : goal.loop-number-preserved
 loop-number-preserved g c =
-    below_next (λ b. IsLow c.args.graph.now (g.C.Cost.costs c.args.cost.now) c.args.pats.now (labels_in (costs_of c.args.marks.now)) b → ⊥) c.loop-number.number c.loop-number.invariant (c.if-is_low_at.ensures.not refl)
+    below_next (λ b. IsLow c.args.graph.now (g.C.Cost.costs c.args.cost.now) c.args.pats.now (labels_in (costs_of c.args.marks.now)) b → ⊥) c.loop-number.number c.loop-number.invariant (iff_false c.if-is_low_at.ensures refl)
 
 pub returns : goal.returns
 returns g c = λ n low.
-    let inside = low_in c.args.graph.now (g.C.Cost.costs c.args.cost.now) c.args.pats.now (costs_of c.args.marks.now) c.classes-number-end.ensures.kept (length-map c.args.marks.now cost_in ∙ c.requires.one_each) n low in
+    let inside = low_in c.args.graph.now (g.C.Cost.costs c.args.cost.now) c.args.pats.now (costs_of c.args.marks.now) c.classes-number-end.ensures.kept (length-map c.args.marks.now cost_in ∙ c.requires.table.one_each) n low in
     let all = c.loop-number-test.false in
     let count = c.classes-number-end.ensures.classes in
     c.loop-number.invariant n (omega arith) low

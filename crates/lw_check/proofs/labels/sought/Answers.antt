@@ -1,19 +1,25 @@
-use Rattle.std.proofs.Common.{ap, sym, ◌∙◌, subst}
+use Rattle.std.proofs.Common.{ap, length, sym, ◌∙◌, subst}
+use Rattle.std.proofs.lemmas.List.{length-map}
 use Rattle.lw_label.specs.Labels.{costs_of}
 use Rattle.lw_match.specs.Bounds.{AreBounds}
 use Rattle.lw_match.specs.Values.{AreInRange}
-use Rattle.lw_check.specs.Least.{AreFlat}
+use Rattle.lw_check.specs.Least.{AreFlat, flat_mark}
 use Rattle.lw_check.proofs.Table.{flat_costs, flat_in_range, flat_marks}
 use Rattle.lw_check.proofs.labels.sought.Goals as goal
 
 pub first_unbounded-requires-clause-labels : goal.first_unbounded-requires-clause-labels
 first_unbounded-requires-clause-labels g c = ap costs_of (c.deref-2.ensures.value ∙ c.in_ok-marks.ensures) ∙ flat_costs c.args.labels.now
 
-pub first_unbounded-requires-clause-in_range : goal.first_unbounded-requires-clause-in_range
-first_unbounded-requires-clause-in_range g c = subst (λ ms. AreInRange g.C.Cost.CAP ms) (sym (c.deref-2.ensures.value ∙ c.in_ok-marks.ensures)) (flat_in_range g.C.Cost.CAP c.args.labels.now c.requires.capped)
-
 pub first_unbounded-requires-clause-flat : goal.first_unbounded-requires-clause-flat
 first_unbounded-requires-clause-flat g c = subst (λ ms. AreFlat ms) (sym (c.deref-2.ensures.value ∙ c.in_ok-marks.ensures)) (flat_marks c.args.labels.now)
 
-pub first_unbounded-requires-clause-bounds : goal.first_unbounded-requires-clause-bounds
-first_unbounded-requires-clause-bounds g c = subst (λ ms. AreBounds c.in_ok-bounds.bounds c.args.graph.now ms) (c.deref.ensures.value ∙ sym c.deref-2.ensures.value) c.in_ok-bounds.ensures.bounds
+pub first_unbounded-requires-clause-table : goal.first_unbounded-requires-clause-table
+first_unbounded-requires-clause-table g c =
+    let marks = sym (c.deref-2.ensures.value ∙ c.in_ok-marks.ensures) in
+    record {
+      one_each = ap length (c.deref-2.ensures.value ∙ c.in_ok-marks.ensures) ∙ (length-map c.args.labels.now flat_mark ∙ c.requires.one_each);
+      in_range = subst (λ ms. AreInRange g.C.Cost.CAP ms) marks (flat_in_range g.C.Cost.CAP c.args.labels.now c.requires.capped);
+      of_cells = c.requires.of_cells;
+      fit = c.in_ok-bounds.ensures.fits;
+      bounds = subst (λ ms. AreBounds c.in_ok-bounds.bounds c.args.graph.now ms) (c.deref.ensures.value ∙ sym c.deref-2.ensures.value) c.in_ok-bounds.ensures.bounds;
+    }

@@ -22,9 +22,9 @@ returns-in-Some-label_of_net c =
     let label = c.in-Some-label_of_net.label in
     let inside = port_inside k c.outputs.ensures.kept c.in-Some.place port c.output_at-port.ensures in
     let count = c.in_ok-arrivals.ensures.one_each in (
-      c.requires.ports,
-      c.requires.classes,
-      c.requires.matches,
+      c.requires.gates.ports,
+      c.requires.gates.classes,
+      c.requires.gates.matches,
       c.requires.potential,
       c.requires.roots,
       subst (λ name. IsFirstOffTime k name arrival label) (sym (c.in_ok-name.ensures ∙ c.as_bytes.ensures.bytes))
@@ -33,4 +33,4 @@ returns-in-Some-label_of_net c =
 
 pub returns : goal.returns
 returns c =
-    absurd (port_labelled (claim_of c.args.case.now) c.inputs.ensures.kept c.outputs.ensures.kept c.requires.ports c.requires.askable.one_leaf c.requires.matches c.requires.potential c.in-Some.place c.output_at-port.result.now c.output_at-port.ensures c.in-None.ensures)
+    absurd (port_labelled (claim_of c.args.case.now) c.inputs.ensures.kept c.outputs.ensures.kept c.requires.gates.ports c.requires.gates.askable.one_leaf c.requires.gates.matches c.requires.potential c.in-Some.place c.output_at-port.result.now c.output_at-port.ensures c.in-None.ensures)
