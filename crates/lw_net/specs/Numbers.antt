@@ -38,7 +38,7 @@ pub record IsTable (w : Written) (places : List ℕ) : Type 0 where
   pub placed : ArePlaces (length w.names.keys) (length (signal_numbers w)) (signal_numbers w) places
 
 -- Its signals differ, and are not too many.
-pub record HasSignals (w : Written) : Type 0 where
+pub record HasDistinctSignals (w : Written) : Type 0 where
   pub kept : IsWritten w
   pub distinct : IsDistinct bytes_eq (signals_of (draft_in w))
   pub few : length (signals_of (draft_in w)) ≤ most_signals
@@ -56,7 +56,7 @@ pub record AreFaninNumbers (w : Written) (graph : List (List ℕ)) : Type 0 wher
 
 -- Its nodes stand as in the network to which this draft is closed.
 pub record StandsInOrder (draft : Draft) (w : Written) : Type 0 where
-  pub signals : HasSignals w
+  pub signals : HasDistinctSignals w
   pub network : IsNetwork (network_in (draft_in w) (draft_in w).nodes)
   pub closed : IsClosed draft (network_in (draft_in w) (draft_in w).nodes)
   pub depths : HasRisingDepths (network_in (draft_in w) (draft_in w).nodes)

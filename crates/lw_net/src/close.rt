@@ -1,7 +1,7 @@
 // Drafts that are closed to networks.
 ghost use Rattle.std.specs.Prelude.{◌≡◌, ◌-◌, ◌<◌, length, map, All, IfOk, IfErr, OnOk};
 ghost use Rattle.lw_net.specs.Closing.{HasFault, network_in};
-ghost use Rattle.lw_net.specs.Numbers.{draft_in, AreFaninNumbers, CanClose, HasSignals, StandsInOrder, IsTable};
+ghost use Rattle.lw_net.specs.Numbers.{draft_in, AreFaninNumbers, CanClose, HasDistinctSignals, StandsInOrder, IsTable};
 ghost use Rattle.lw_net.specs.Ordering.{AreRight};
 ghost use Rattle.lw_net.specs.Written.{names_in, net_placed, placed_node, IsWithin};
 
@@ -23,7 +23,7 @@ fn depths_of(alloc: Global, heights: &[u32]) -> Result<Vec<u32>, AllocError>
 
 // The places of the names of a draft among its signals.
 fn table(alloc: Global, w: &Written) -> Result<Vec<u32>, AllocError>
-    requires { HasSignals w.now }
+    requires { HasDistinctSignals w.now }
     ensures { IfOk result (λ places. IsTable w.now places.items) }
 {
     let signals = signal_list(alloc, &w.inputs, &w.nodes)?;
@@ -152,7 +152,7 @@ pub(crate) struct Parts {
 
 // The parts of the network whose nodes stand as in the draft. The draft keeps no nodes.
 pub(crate) fn parts_of(alloc: Global, w: &mut Written) -> Result<Parts, AllocError>
-    requires { HasSignals w.old }
+    requires { HasDistinctSignals w.old }
     ensures { IfOk result (λ p. record {
       model = w.new.model;
       names = p.names;

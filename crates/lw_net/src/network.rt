@@ -31,7 +31,7 @@ impl Model for Network {
 impl Network {
     ghost use Rattle.std.specs.Prelude.{IfOk, IfErr};
     ghost use Rattle.lw_net.specs.Closing.{IsDraft, IsClosed, HasFault, network_in};
-    ghost use Rattle.lw_net.specs.Numbers.{draft_in, CanClose, HasSignals};
+    ghost use Rattle.lw_net.specs.Numbers.{draft_in, CanClose, HasDistinctSignals};
     ghost use Rattle.lw_laws.specs.Networks.{AreValues, IsInOrder, given};
     ghost use Rattle.lw_net.specs.Networks.{IsNetwork};
     ghost use Rattle.lw_net.specs.Plain.{plain, HasRisingDepths};
@@ -127,7 +127,7 @@ impl Network {
 
     // The network whose nodes stand as in the draft.
     fn of_ordered(alloc: Global, w: Written) -> Result<Network, AllocError>
-        requires signals { HasSignals w }
+        requires signals { HasDistinctSignals w }
         requires kept { IsNetwork (network_in (draft_in w) (draft_in w).nodes) }
         ensures { IfOk result (λ net. net ≡ network_in (draft_in w) (draft_in w).nodes) }
     {
