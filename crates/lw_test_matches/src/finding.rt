@@ -50,7 +50,6 @@ struct Case<'a> {
     pats: &'a Patterns,
     graph: &'a Graph,
     matches: &'a [Vec<Match>],
-    ghost of_cells: { AreOfCells (map length (delays_of_cells lib.now)) pats.now },
     ghost small: { All IsSmall starts.now },
 }
 
@@ -94,6 +93,8 @@ fn check_below(
     requires class { class.0 < length case.now.graph.now.pairs }
     requires one_each { length marks.now ≡ length case.now.graph.now.pairs }
     requires in_range { AreInRange most_time marks.now }
+    requires of_cells { AreOfCells
+        (map length (delays_of_cells case.now.lib.now)) case.now.pats.now }
 {
     let mark = match wanted {
         Some((mark, _found)) => mark,
@@ -119,6 +120,8 @@ fn check_class(
     requires class { class.0 < length case.now.graph.now.pairs }
     requires one_each { length marks.now ≡ length case.now.graph.now.pairs }
     requires in_range { AreInRange most_time marks.now }
+    requires of_cells { AreOfCells
+        (map length (delays_of_cells case.now.lib.now)) case.now.pats.now }
 {
     let wanted = least_of(case.lib, case.pats, marks, matches);
     let found = least(
@@ -135,6 +138,8 @@ fn check_class(
 fn check_classes(rt: &impl Abort, case: &Case<'_>, marks: &[Option<Mark>])
     requires one_each { length marks.now ≡ length case.now.graph.now.pairs }
     requires in_range { AreInRange most_time marks.now }
+    requires of_cells { AreOfCells
+        (map length (delays_of_cells case.now.lib.now)) case.now.pats.now }
 {
     for number in 0..case.graph.classes() {
         if let Some(matches) = case.matches.get(number as usize) {
@@ -151,7 +156,10 @@ fn are_listed(matches: &[Vec<Match>]) -> bool {
 }
 
 // Checks the labels, and the least matches under these.
-fn check_labels(rt: &impl Abort, alloc: Global, case: &Case<'_>) -> Result<(), AllocError> {
+fn check_labels(rt: &impl Abort, alloc: Global, case: &Case<'_>) -> Result<(), AllocError>
+    requires { AreOfCells
+        (map length (delays_of_cells case.now.lib.now)) case.now.pats.now }
+{
     let labels = relabel(
         alloc,
         case.graph,
@@ -178,7 +186,10 @@ fn check_drawn(
     case: &Case<'_>,
     dice: &mut Dice,
     high: bool,
-) -> Result<(), AllocError> {
+) -> Result<(), AllocError>
+    requires { AreOfCells
+        (map length (delays_of_cells case.now.lib.now)) case.now.pats.now }
+{
     let marks = drawn_marks(alloc, dice, case.graph, high)?;
     check_classes(rt, case, &marks);
     Ok(())
@@ -190,7 +201,10 @@ fn check_case(
     alloc: Global,
     case: &Case<'_>,
     dice: &mut Dice,
-) -> Result<(), AllocError> {
+) -> Result<(), AllocError>
+    requires { AreOfCells
+        (map length (delays_of_cells case.now.lib.now)) case.now.pats.now }
+{
     check_labels(rt, alloc, case)?;
     check_drawn(rt, alloc, case, dice, false)?;
     check_drawn(rt, alloc, case, dice, true)
