@@ -253,9 +253,16 @@ fn check_graphs(
     Ok(())
 }
 
-fn check_library(rt: &impl Abort, alloc: Global, text: &str, dice: &mut Dice) -> Result<(), Fail> {
-    let lib = library_of(alloc, text)?;
-    let pats = patterns_of(alloc, &lib)?;
+// Looks at graphs that are drawn, by the patterns of a library.
+fn check_sizes(
+    rt: &impl Abort,
+    alloc: Global,
+    lib: &Library,
+    pats: &Patterns,
+    dice: &mut Dice,
+) -> Result<(), Fail>
+    requires { AreOfCells (map length (delays_of_cells lib.now)) pats.now }
+{
     for (inputs, forms, facts, links, count) in SIZES {
         let size = Size {
             inputs,
@@ -263,9 +270,15 @@ fn check_library(rt: &impl Abort, alloc: Global, text: &str, dice: &mut Dice) ->
             facts,
             links,
         };
-        check_graphs(rt, alloc, &lib, &pats, size, count, dice)?;
+        check_graphs(rt, alloc, lib, pats, size, count, dice)?;
     }
     Ok(())
+}
+
+fn check_library(rt: &impl Abort, alloc: Global, text: &str, dice: &mut Dice) -> Result<(), Fail> {
+    let lib = library_of(alloc, text)?;
+    let pats = patterns_of(alloc, &lib)?;
+    check_sizes(rt, alloc, &lib, &pats, dice)
 }
 
 #[test]

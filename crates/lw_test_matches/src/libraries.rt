@@ -1,44 +1,59 @@
 // Libraries of small texts, and their patterns.
-ghost use Rattle.std.specs.Prelude.{◌≡◌, [], All, IfOk, length, map};
+ghost use Rattle.std.specs.Prelude.{◌≡◌, ◌+◌, ◌≤◌, false, [], All, IfOk, length, map};
 ghost use Rattle.lw_genlib.specs.Cells.{IsSmall};
 ghost use Rattle.lw_genlib.specs.Tables.{delays_of_cells};
 ghost use Rattle.lw_match.specs.Least.{AreOfCells};
+ghost use Rattle.lw_words.specs.Standing.{is_finished, fed_count};
 
 use lw_fixed::Micros;
 use lw_genlib::{LibFault, LibReader, Library, has_no_hash};
 use lw_pattern::{Patterns, patterns};
-use lw_words::{Line, Lines};
+use lw_words::Lines;
 use std::alloc::{AllocError, Global};
 
-// The logical lines of a text.
-fn lines_of(alloc: Global, text: &str) -> Result<Vec<Line>, AllocError> {
-    let bytes = text.as_bytes();
-    let mut all = Vec::new(alloc);
-    if bytes.len() > 10_000 {
-        return Ok(all);
-    }
-    let mut lines = Lines::new(alloc, false);
+// Feeds a small text, whole.
+fn feed(lines: &mut Lines, bytes: &[u8]) -> Result<(), AllocError>
+    requires unfinished { is_finished lines.old ≡ false }
+    requires small { fed_count lines.old + length bytes.now ≤ 10000 }
+{
     lines.feed(bytes)?;
-    lines.finish()?;
+    lines.finish()
+}
+
+// Reads the lines of a text that are no comments.
+fn read_lines(reader: &mut LibReader, lines: &mut Lines) -> Result<(), LibFault> {
     for _ in 0..10_000 {
-        match lines.take() {
-            Some(line) => all.push(line)?,
-            None => break,
+        let Some(line) = lines.take() else {
+            break;
+        };
+        if has_no_hash(&line) {
+            reader.line(&line)?;
         }
     }
-    Ok(all)
+    Ok(())
+}
+
+// Reads a small text.
+fn read_text(reader: &mut LibReader, alloc: Global, text: &str) -> Result<(), LibFault> {
+    let bytes = text.as_bytes();
+    if bytes.len() > 10_000 {
+        return Ok(());
+    }
+    let mut lines = Lines::new(alloc, false);
+    feed(&mut lines, bytes)?;
+    read_lines(reader, &mut lines)
 }
 
 /// What a small text is as a library.
 pub(crate) fn library_of(alloc: Global, text: &str) -> Result<Library, LibFault> {
-    let lines = lines_of(alloc, text)?;
     let mut reader = LibReader::new(alloc);
-    for line in &lines {
-        if has_no_hash(line) {
-            reader.line(line)?;
+    match read_text(&mut reader, alloc, text) {
+        Ok(()) => reader.end(),
+        Err(fault) => {
+            drop(reader);
+            Err(fault)
         }
     }
-    reader.end()
 }
 
 /// The patterns of a library, which are of its cells.

@@ -100,10 +100,11 @@ fn check_cost<C: Cost>(
     requires of_cells { AreOfCells (C.costs cost.now).pin_counts pats.now }
     requires none { (i : ℕ) → (C.costs cost.now).leaf i ≡ 0 }
 {
+    let labels = relabel(alloc, graph, pats, cost)?;
     let mut store = store_matches(alloc, graph, pats)?;
     let settled = settle(alloc, &mut store, graph, cost)?;
-    let labels = relabel(alloc, graph, pats, cost)?;
     assert_eq!(rt; settled.marks(), labels.marks());
+    drop(settled);
     assert_eq!(rt; store.done(), steps_of(labels.marks(), matches));
     Ok(())
 }
@@ -151,6 +152,25 @@ fn check_graph(
     Ok(())
 }
 
+// Looks at some graphs of one size that are drawn.
+fn check_graphs(
+    rt: &impl Abort,
+    alloc: Global,
+    lib: &Library,
+    pats: &Patterns,
+    size: Size,
+    count: u32,
+    dice: &mut Dice,
+) -> Result<(), Fail>
+    requires { AreOfCells (map length (delays_of_cells lib.now)) pats.now }
+{
+    for _graph in 0..count {
+        let graph = drawn_graph(alloc, dice, size)?;
+        check_graph(rt, alloc, lib, pats, &graph)?;
+    }
+    Ok(())
+}
+
 // Looks at graphs that are drawn, by the patterns of a library.
 fn check_drawn(
     rt: &impl Abort,
@@ -168,10 +188,7 @@ fn check_drawn(
             facts,
             links,
         };
-        for _graph in 0..count {
-            let graph = drawn_graph(alloc, dice, size)?;
-            check_graph(rt, alloc, lib, pats, &graph)?;
-        }
+        check_graphs(rt, alloc, lib, pats, size, count, dice)?;
     }
     Ok(())
 }
