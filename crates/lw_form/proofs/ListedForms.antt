@@ -23,6 +23,7 @@ use Rattle.lw_form.specs.declared.listing.Step.TheVariants.{Add, Parts}
 use Rattle.lw_form.specs.Bases.{picked}
 use Rattle.lw_form.specs.Factoring.{turned}
 use Rattle.lw_form.specs.Limits.{most_bases}
+use Rattle.lw_form.specs.Renumbered.{simple_at}
 use Rattle.lw_form.specs.Listed.{no_place, base_at, bases_of, place_of, IsListed, PlainStep, operands_of, plain_step, plain_steps, adds, bases_after, IsTooLong, StepFits, form_size, forms_size, step_size, steps_size, IsAdding}
 use Rattle.lw_form.specs.Listed.PlainStep.{add_of, parts_of}
 use Rattle.lw_form.specs.Tables.{AreBelow, forms_at, spelled, AreMade, HasMore, Table, made, IsSimple}
@@ -443,17 +444,9 @@ module _ (now next : Table) (listed places new_listed new_places : List ℕ) (st
 
 -- what holds where a call succeeds, and what where it fails
 
-pub on_ok : {X E A : Type 0} (r : Result X E) → A → OnOk r A
-on_ok (Ok x) a = a
-on_ok (Err e) a = tt
-
 pub on_failed : {X E : Type 0} (A : Type 0) (r : Result X E) → IsErr r → OnOk r A
 on_failed A (Ok x) f = absurd (subst T (sym f) tt)
 on_failed A (Err e) f = tt
-
-pub on_both : {T E A B C : Type 0} (r : Result T E) → (A → B → C) → OnOk r A → OnOk r B → OnOk r C
-on_both (Ok x) f a b = f a b
-on_both (Err e) f a b = a
 
 pub if_err : {T : Type 0} {P Q : FormFault → Type 0} (r : Result T FormFault) → ((e : FormFault) → P e → Q e) → IfErr r P → IfErr r Q
 if_err (Ok x) f a = a
@@ -479,11 +472,24 @@ no_parts true_form bases s = refl
 no_parts (not_form g) bases s = absurd s
 no_parts (and_form fs) bases s = absurd s
 
-pub simple_base : (forms : List Form) (b : ℕ) → (f : Form) × (slice_get forms b ≡ Some f) × IsSimple f → IsSimple (base_at forms b)
-simple_base forms b (f, e, s) = subst IsSimple (sym (get_or_from_slice_get forms b f true_form e)) s
+pub simple_here : (b : ℕ) → IsSimple (simple_at b)
+simple_here zero = tt
+simple_here (suc b) = tt
+
+pub simple_base : (forms : List Form) (b : ℕ) → slice_get forms b ≡ Some (simple_at b) → IsSimple (base_at forms b)
+simple_base forms b e = subst IsSimple (sym (get_or_from_slice_get forms b (simple_at b) true_form e)) (simple_here b)
 
 pub and_operands : (forms : List Form) (b : ℕ) (ids : List ℕ) → slice_get forms b ≡ Some (spelled forms ids) → operands_of (base_at forms b) ≡ forms_at forms ids
 and_operands forms b ids e = ap operands_of (get_or_from_slice_get forms b (spelled forms ids) true_form e) ∙ items-form_list (forms_at forms ids)
+
+-- an And of two operands is its only part
+pub two_listed : (forms : List Form) (b : ℕ) (ids : List ℕ) (bases : List Form) → slice_get forms b ≡ Some (spelled forms ids) → length ids ≡ 2 → appended (base_at forms b) bases ≡ append_parts (sublists (operands_of (base_at forms b))) bases
+two_listed forms b ids bases at two = ap (λ g. appended g bases) (get_or_from_slice_get forms b (spelled forms ids) true_form at) ∙ (by_length ids two ∙ sym (ap (λ fs. append_parts (sublists fs) bases) (and_operands forms b ids at))) where
+  by_length : (ns : List ℕ) → length ns ≡ 2 → appended (spelled forms ns) bases ≡ append_parts (sublists (forms_at forms ns)) bases
+  by_length [] e = absurd (omega arith)
+  by_length (x ∷ []) e = absurd (omega arith)
+  by_length (x ∷ y ∷ []) e = refl
+  by_length (x ∷ y ∷ z ∷ ns) e = absurd (omega arith)
 
 pub adding_first : (t : Table) (listed places : List ℕ) (steps : List Step) (form : ℕ) → IsListed (made t) listed places → form / 2 < length (made t) → steps ≡ Add form ∷ [] → IsAdding t listed places steps (add_form (form_of (made t) form) (bases_of (made t) listed))
 adding_first t listed places steps form is lt e = subst (λ s. IsAdding t listed places s (add_form (form_of (made t) form) (bases_of (made t) listed))) (sym e) (record { listed_is = is; fit = (lt, tt); same = refl })

@@ -1,5 +1,5 @@
 -- The tasks of factoring some rows, without recursion.
-use Rattle.std.specs.Prelude.{ℕ, ◌+◌, ◌*◌, ◌/◌, ◌<◌, ◌≡◌, Bool, true, false, Option, Some, None, List, [], ◌∷◌, ◌++◌, map, length}
+use Rattle.std.specs.Prelude.{ℕ, ◌+◌, ◌*◌, ◌/◌, ◌<◌, ◌≤◌, ◌≡◌, Bool, true, false, Option, Some, None, List, [], ◌∷◌, ◌++◌, map, length}
 use Rattle.std.specs.List.{AllByRecursion}
 use Rattle.lw_laws.specs.Forms.{Form, conjunction, disjunction}
 use Rattle.lw_laws.specs.Signals as laws
@@ -8,8 +8,10 @@ use Rattle.lw_laws.specs.SignalValues.{form_of}
 use Rattle.lw_form.specs.declared.factoring.Literal.{Literal}
 use Rattle.lw_form.specs.declared.factoring.Task.{Task}
 use Rattle.lw_form.specs.declared.factoring.Task.TheVariants.{Factor, Join}
+use Rattle.lw_form.specs.declared.factoring.Work.{Work}
+use Rattle.lw_form.specs.Limits.{most_operands}
 use Rattle.lw_form.specs.Products.{HaveColumns}
-use Rattle.lw_form.specs.Tables.{Table, made, AreBelow, forms_at}
+use Rattle.lw_form.specs.Tables.{Table, made, AreBelow, HasMore, forms_at}
 
 abbrev pub plain_literal : Literal → laws.Literal
 plain_literal l = record { column = l.column; sign = l.sign }
@@ -70,3 +72,23 @@ weight (Join l) = 1
 abbrev pub weights : List Task → ℕ
 weights [] = 0
 weights (t ∷ tasks) = weight t + weights tasks
+
+-- the task is done: the tasks lead to the same forms, and less is left to do
+pub record DoesTask (width : ℕ) (fanins : List ℕ) (old new : Table) (before after : Work) (task : Task) : Type 0 where
+  pub working : (fs goal : List Form) → IsWorking width fs fanins old (before.tasks.items ++ task ∷ []) before.done.items goal → IsWorking width fs fanins new after.tasks.items after.done.items goal
+  pub less : weights after.tasks.items < weights before.tasks.items + weight task
+  pub more : HasMore (made old) (made new)
+
+-- two forms are there, which can be joined under a literal
+pub record CanJoin (width : ℕ) (table : Table) (l : ℕ) (done : List ℕ) : Type 0 where
+  pub low : 2 ≤ width
+  pub high : width ≤ most_operands
+  pub two : 2 ≤ length done
+  pub literal : l / 2 < length (made table)
+  pub below : AreBelow (length (made table)) done
+
+-- they are joined, whatever the fan-ins
+pub record Joins (width : ℕ) (old new : Table) (before after : Work) (literal : ℕ) : Type 0 where
+  pub working : (fanins : List ℕ) (fs goal : List Form) → IsWorking width fs fanins old (before.tasks.items ++ Join literal ∷ []) before.done.items goal → IsWorking width fs fanins new after.tasks.items after.done.items goal
+  pub same : weights after.tasks.items ≡ weights before.tasks.items
+  pub more : HasMore (made old) (made new)

@@ -1,5 +1,5 @@
 -- The list of base forms as places in a table, and the steps by which a form is added to it.
-use Rattle.std.specs.Prelude.{ℕ, ◌+◌, ◌/◌, ◌^◌, ◌<◌, ◌≤◌, ◌≡◌, ◌≢◌, List, [], ◌∷◌, map, length, Some, slice_get, slice_index_or}
+use Rattle.std.specs.Prelude.{ℕ, ◌+◌, ◌/◌, ◌^◌, ◌<◌, ◌≤◌, ◌≡◌, ◌≢◌, List, [], ◌∷◌, ◌++◌, map, length, Some, slice_get, slice_index_or}
 use Rattle.lw_laws.specs.Forms.{Form, FormList}
 use Rattle.lw_laws.specs.Forms.Form.{var_form, true_form, not_form, and_form}
 use Rattle.lw_laws.specs.Forms.FormList.{no_forms, more_forms}
@@ -8,12 +8,13 @@ use Rattle.lw_laws.specs.Occurring.{sublists, append_parts, add_form}
 use Rattle.lw_laws.specs.SignalValues.{form_of}
 use Rattle.lw_form.specs.declared.fault.FormFault.{FormFault}
 use Rattle.lw_form.specs.declared.fault.FormFault.TheVariants.{Limit, Memory}
+use Rattle.lw_form.specs.declared.listing.Listing.{Listing}
 use Rattle.lw_form.specs.declared.listing.Step.{Step}
 use Rattle.lw_form.specs.declared.listing.Step.TheVariants.{Add, Parts}
 use Rattle.std.specs.List.{AllByRecursion}
 use Rattle.lw_form.specs.Factoring.{turned}
 use Rattle.lw_form.specs.Limits.{most_bases}
-use Rattle.lw_form.specs.Tables.{Table, made}
+use Rattle.lw_form.specs.Tables.{Table, made, AreBelow, HasMore}
 
 -- in the list of places, where none is
 abbrev pub no_place : ℕ
@@ -100,3 +101,40 @@ pub record IsAdding (now : Table) (listed places : List ℕ) (steps : List Step)
   pub listed_is : IsListed (made now) listed places
   pub fit : AllByRecursion (StepFits (length (made now))) steps
   pub same : bases_after (plain_steps (made now) steps) (bases_of (made now) listed) ≡ goal
+
+-- the step is taken: the steps that are left lead to the same list, and less is left to do
+pub record TakesStep (old new : Table) (before after : Listing) (steps left : List Step) (step : Step) : Type 0 where
+  pub more : HasMore (made old) (made new)
+  pub adding : (goal : List Form) → IsAdding old before.listed.items before.places.items (steps ++ step ∷ []) goal → IsAdding new after.listed.items after.places.items left goal
+  pub less : steps_size (plain_steps (made new) left) < step_size (plain_step (made old) step) + steps_size (plain_steps (made old) steps)
+
+-- a fault of a step is one of the list to which the steps lead
+abbrev pub IsStepFault : Table → Listing → List Step → Step → FormFault → Type 0
+IsStepFault table listing steps step fault = (goal : List Form) → IsAdding table listing.listed.items listing.places.items (steps ++ step ∷ []) goal → IsTooLong goal fault
+
+-- a base form that wasn't listed is listed
+pub record IsNewlyListed (b : ℕ) (before after : Listing) : Type 0 where
+  pub listed : after.listed.items ≡ before.listed.items ++ b ∷ []
+  pub placed : place_of after.places.items b ≡ length before.listed.items
+  pub others : (x : ℕ) → x ≢ b → place_of after.places.items x ≡ place_of before.places.items x
+
+-- these base forms are listed
+pub record HasListed (forms : List Form) (listing : Listing) (goal : List Form) : Type 0 where
+  pub listed : IsListed forms listing.listed.items listing.places.items
+  pub bases : bases_of forms listing.listed.items ≡ goal
+
+-- so they are, while more forms were made
+pub record ListsTo (old new : Table) (listing : Listing) (goal : List Form) : Type 0 where
+  pub more : HasMore (made old) (made new)
+  pub listed : IsListed (made new) listing.listed.items listing.places.items
+  pub bases : bases_of (made new) listing.listed.items ≡ goal
+
+-- the steps for the operands of an And come first
+pub record PutsOperands (ids : List ℕ) (before after : List Step) : Type 0 where
+  pub steps : (forms : List Form) → plain_steps forms after ≡ map (plain_step forms) (adds ids) ++ plain_steps forms before
+  pub fit : (count : ℕ) → AreBelow count ids → AllByRecursion (StepFits count) before → AllByRecursion (StepFits count) after
+
+-- and then that for its parts
+pub record PutsAnd (b : ℕ) (ids : List ℕ) (before after : List Step) : Type 0 where
+  pub steps : (forms : List Form) → plain_steps forms after ≡ map (plain_step forms) (adds ids) ++ plain_step forms (Parts b) ∷ plain_steps forms before
+  pub fit : (count : ℕ) → b < count → AreBelow count ids → AllByRecursion (StepFits count) before → AllByRecursion (StepFits count) after

@@ -1,17 +1,20 @@
 -- The forms of nets by numbers.
-use Rattle.std.specs.Prelude.{ℕ, ◌+◌, ◌<◌, ◌≡◌, All, Some, slice_get, List, [], ◌∷◌, ◌++◌, map, length}
+use Rattle.std.specs.Prelude.{ℕ, ◌+◌, ◌/◌, ◌<◌, ◌≤◌, ◌≡◌, All, Option, Bool, Some, slice_get, List, [], ◌∷◌, ◌++◌, map, length}
+use Rattle.lw_pool.specs.Numbers.{most_signals}
 use Rattle.lw_pool.specs.declared.id.NetId.{NetId}
 use Rattle.lw_net.specs.declared.node.Node.{Node}
 use Rattle.lw_net.specs.Plain.{plain_node}
 use Rattle.lw_laws.specs.Forms.{Form}
 use Rattle.lw_laws.specs.Forms.Form.{true_form}
 use Rattle.lw_laws.specs.Occurring.{add_signals}
-use Rattle.lw_laws.specs.Signals.{Signal, signal_of_node}
+use Rattle.lw_laws.specs.Signals.{Signal, signal_of_node, sum_of_products, factored}
 use Rattle.lw_laws.specs.SignalValues.{form_of}
 use Rattle.lw_form.specs.declared.fault.FormFault.{FormFault}
+use Rattle.lw_form.specs.declared.occurring.Occurring.{Occurring}
+use Rattle.lw_form.specs.Limits.{most_operands}
 use Rattle.lw_form.specs.Listed.{bases_of, IsListed, IsTooLong}
 use Rattle.lw_form.specs.Products.{HaveColumns}
-use Rattle.lw_form.specs.Tables.{Table, made, AreBelow, forms_at}
+use Rattle.lw_form.specs.Tables.{Table, made, AreBelow, HasMore, IsMadeAs, forms_at}
 
 abbrev pub signal_at : List Form → ℕ → ℕ → Signal
 signal_at forms sop fac = record { sop = form_of forms sop; fac = form_of forms fac }
@@ -32,3 +35,48 @@ pub record AreListed (now : Table) (listed places sops facs : List ℕ) (signals
 -- Node j has fan-ins among the nets before its own, where there were so many nets before, and a sign for each.
 abbrev pub AreNodes : ℕ → List Node → Type 0
 AreNodes count nodes = (j : ℕ) (node : Node) → slice_get nodes j ≡ Some node → All (λ (net : NetId). net.0 < count + j) node.fanins × All (λ (row : List ℕ). length row ≡ length node.fanins) node.rows
+
+-- these are the sum of products and the factored form of some rows
+pub record AreBothForms (width : ℕ) (old new : Table) (fanins : List ℕ) (rows : List (List (Option Bool))) (s f : ℕ) : Type 0 where
+  pub sop : IsMadeAs old new s (sum_of_products width (forms_at (made old) fanins) rows)
+  pub fac : IsMadeAs old new f (factored width (forms_at (made old) fanins) rows)
+
+-- these are the signals of the nets so far
+abbrev pub HasSignals : Occurring → List Signal → Type 0
+HasSignals all signals = AreListed all.table all.listing.listed.items all.listing.places.items all.sops.items all.facs.items signals
+
+-- a net can be added with these forms
+pub record CanAddNet (all : Occurring) (s f : ℕ) : Type 0 where
+  pub listed : (signals : List Signal) × HasSignals all signals
+  pub sop : s / 2 < length (made all.table)
+  pub fac : f / 2 < length (made all.table)
+
+-- the net of a node can be added
+pub record CanAddNode (width : ℕ) (all : Occurring) (node : Node) : Type 0 where
+  pub low : 2 ≤ width
+  pub high : width ≤ most_operands
+  pub listed : (signals : List Signal) × HasSignals all signals
+  pub fanins : All (λ (net : NetId). net.0 < length all.sops.items) node.fanins
+  pub columns : All (λ (row : List ℕ). length row ≡ length node.fanins) node.rows
+
+-- and so can those of some nodes
+pub record CanAddNodes (width : ℕ) (all : Occurring) (ns : List Node) : Type 0 where
+  pub low : 2 ≤ width
+  pub high : width ≤ most_operands
+  pub listed : (signals : List Signal) × HasSignals all signals
+  pub nodes : AreNodes (length all.sops.items) ns
+
+-- signals are added, while more forms are made
+pub record AddsSignals (old new : Occurring) (add : List Signal → List Signal) : Type 0 where
+  pub more : HasMore (made old.table) (made new.table)
+  pub listed : (signals : List Signal) → HasSignals old signals → HasSignals new (add signals)
+
+-- a fault where they are added
+abbrev pub IsSignalFault : Occurring → (List Signal → List Signal) → FormFault → Type 0
+IsSignalFault old add fault = (signals : List Signal) → HasSignals old signals → IsTooLong (add_signals (add signals) (true_form ∷ [])) fault
+
+-- no net has been added, and there are so many inputs
+pub record HasNoNets (inputs : ℕ) (all : Occurring) : Type 0 where
+  pub few : inputs ≤ most_signals
+  pub table : all.table ≡ record { inputs = inputs; keys = [] }
+  pub listed : HasSignals all []

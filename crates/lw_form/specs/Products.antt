@@ -1,5 +1,7 @@
 -- Literals over numbers of forms, and what holds of rows.
-use Rattle.std.specs.Prelude.{ℕ, ◌≡◌, ◌<◌, Bool, true, false, Option, Some, None, List, [], ◌∷◌, length, bit_xor}
+use Rattle.std.specs.Prelude.{ℕ, ◌≡◌, ◌<◌, ◌≤◌, Bool, true, false, Option, Some, None, List, [], ◌∷◌, length, bit_xor}
+use Rattle.lw_form.specs.Limits.{most_operands}
+use Rattle.lw_form.specs.Tables.{Table, made, AreBelow}
 
 abbrev pub signed_number : Bool → ℕ → ℕ
 signed_number true f = f
@@ -20,3 +22,10 @@ HaveColumns columns (row ∷ rows) = (length row ≡ columns) × HaveColumns col
 abbrev pub ReachColumn : ℕ → List (List (Option Bool)) → Type 0
 ReachColumn column [] = Unit {0}
 ReachColumn column (row ∷ rows) = (column < length row) × ReachColumn column rows
+
+-- forms can be made of these rows, which have a sign for each fan-in
+pub record AreRowsOver (width : ℕ) (table : Table) (fanins : List ℕ) (rows : List (List (Option Bool))) : Type 0 where
+  pub low : 2 ≤ width
+  pub high : width ≤ most_operands
+  pub below : AreBelow (length (made table)) fanins
+  pub columns : HaveColumns (length fanins) rows

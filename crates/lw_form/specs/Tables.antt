@@ -57,6 +57,11 @@ pub record IsTable (table : Table) : Type 0 where
 abbrev pub HasMore : List Form → List Form → Type 0
 HasMore old new = (more : List Form) × (new ≡ old ++ more)
 
+-- the base form at a place is the And that is spelled by numbers of forms that are made
+pub record IsSpelledAt (forms : List Form) (b : ℕ) (ids : List ℕ) : Type 0 where
+  pub and_is : slice_get forms b ≡ Some (spelled forms ids)
+  pub below : AreBelow (length forms) ids
+
 -- true and the inputs have no operands
 abbrev pub IsSimple : Form → Type 0
 IsSimple true_form = Unit {0}

@@ -1,8 +1,8 @@
 // The And of forms, over numbers of a table.
-ghost use Rattle.std.specs.Prelude.{◌≡◌, ◌==◌, ◌/◌, ◌<◌, ◌≤◌, ℕ, map, length, bit_xor, List, IfOk};
+ghost use Rattle.std.specs.Prelude.{◌≡◌, ◌==◌, ◌≤◌, ℕ, map, length, bit_xor, List, IfOk};
 ghost use Rattle.std.specs.List.{list_any};
 ghost use Rattle.lw_laws.specs.Forms.{conjunction as and_of_forms, disjunction as or_of_forms, runs};
-ghost use Rattle.lw_form.specs.Conjunctions.{kept_numbers, numbers_clash, IsStep, AreClean};
+ghost use Rattle.lw_form.specs.Conjunctions.{kept_numbers, numbers_clash, IsStep, CanBeCombined, CanBeGrouped, CanBeJoined, CanBeOneAnd};
 ghost use Rattle.lw_form.specs.Limits.{most_operands};
 ghost use Rattle.lw_form.specs.Tables.{made, forms_at, AreBelow, IsMadeAs, AreMadeAs};
 
@@ -104,10 +104,7 @@ pub(crate) fn operands(alloc: Global, forms: &[u32]) -> FormIds
 
 // The And of one form or more that differ and don't clash.
 fn joined(alloc: Global, table: &mut FormTable, forms: &[u32]) -> Result<u32, AllocError>
-    requires some { 1 ≤ length forms.now }
-    requires few { length forms.now ≤ most_operands }
-    requires below { AreBelow (length (made table.old)) forms.now }
-    requires clean { AreClean (forms_at (made table.old) forms.now) }
+    requires { CanBeOneAnd table.old forms.now }
     ensures { IfOk result (λ form. (width : ℕ) → 2 ≤ width → length forms.now ≤ width →
         IsMadeAs table.old table.new form
         (and_of_forms width (forms_at (made table.old) forms.now))) }
@@ -127,11 +124,7 @@ fn grouped(
     width: usize,
     forms: &[u32],
 ) -> Result<Vec<u32>, AllocError>
-    requires low { 2 ≤ width }
-    requires high { width ≤ most_operands }
-    requires some { 1 ≤ length forms.now }
-    requires below { AreBelow (length (made table.old)) forms.now }
-    requires clean { AreClean (forms_at (made table.old) forms.now) }
+    requires { CanBeGrouped width table.old forms.now }
     ensures { IfOk result (λ groups. AreMadeAs table.old table.new groups.items
         (map (and_of_forms width) (runs width (forms_at (made table.old) forms.now)))) }
 {
@@ -153,11 +146,7 @@ fn combined(
     kept: &[u32],
     clash: bool,
 ) -> Result<Step, AllocError>
-    requires low { 2 ≤ width }
-    requires high { width ≤ most_operands }
-    requires kept { (forms : List ℕ) × AreBelow (length (made table.old)) forms ×
-        (kept.now ≡ kept_numbers forms) }
-    requires clash { clash ≡ numbers_clash kept.now }
+    requires { CanBeCombined width table.old kept.now clash }
     ensures { IfOk result (λ step. (forms : List ℕ) → AreBelow (length (made table.old)) forms →
         kept.now ≡ kept_numbers forms → IsStep width table.old table.new forms step) }
 {
@@ -183,9 +172,7 @@ fn shortened(
     width: usize,
     forms: &[u32],
 ) -> Result<Step, AllocError>
-    requires low { 2 ≤ width }
-    requires high { width ≤ most_operands }
-    requires below { AreBelow (length (made table.old)) forms.now }
+    requires { CanBeJoined width table.old forms.now }
     ensures { IfOk result (λ step. IsStep width table.old table.new forms.now step) }
 {
     if forms.len() <= FEW {
@@ -209,9 +196,7 @@ pub(crate) fn conjunction(
     width: usize,
     forms: &[u32],
 ) -> Result<u32, AllocError>
-    requires low { 2 ≤ width }
-    requires high { width ≤ most_operands }
-    requires below { AreBelow (length (made table.old)) forms.now }
+    requires { CanBeJoined width table.old forms.now }
     ensures { IfOk result (λ form. IsMadeAs table.old table.new form
         (and_of_forms width (forms_at (made table.old) forms.now))) }
 {
@@ -241,9 +226,7 @@ pub(crate) fn disjunction(
     width: usize,
     forms: &[u32],
 ) -> Result<u32, AllocError>
-    requires low { 2 ≤ width }
-    requires high { width ≤ most_operands }
-    requires below { AreBelow (length (made table.old)) forms.now }
+    requires { CanBeJoined width table.old forms.now }
     ensures { IfOk result (λ form. IsMadeAs table.old table.new form
         (or_of_forms width (forms_at (made table.old) forms.now))) }
 {

@@ -1,12 +1,11 @@
 // Factored forms, over numbers of a table.
-ghost use Rattle.std.specs.Prelude.{◌≡◌, ◌+◌, ◌/◌, ◌<◌, ◌≤◌, ◌++◌, [], ◌∷◌, ℕ, List, not, map, filter, length, is_some, IfOk, OnOk};
-ghost use Rattle.lw_laws.specs.Forms.{Form, conjunction as and_of_forms, disjunction as or_of_forms};
+ghost use Rattle.std.specs.Prelude.{◌≡◌, ◌<◌, ◌≤◌, ◌++◌, [], ◌∷◌, List, not, map, filter, length, is_some, IfOk, OnOk};
+ghost use Rattle.lw_laws.specs.Forms.{Form};
 ghost use Rattle.lw_laws.specs.Signals.{factored as factored_form, count_having, has, cleared, most_common, shared_literal};
-ghost use Rattle.lw_laws.specs.SignalValues.{form_of};
-ghost use Rattle.lw_form.specs.Factoring.{plain_literal, plain_choice, IsWorking, weight, weights};
-ghost use Rattle.lw_form.specs.Limits.{most_operands};
-ghost use Rattle.lw_form.specs.Products.{HaveColumns, ReachColumn};
-ghost use Rattle.lw_form.specs.Tables.{made, forms_at, AreBelow, HasMore, IsMadeAs};
+ghost use Rattle.lw_form.specs.Factoring.{plain_literal, plain_choice, CanJoin, DoesTask, IsWorking, Joins};
+ghost use Rattle.lw_form.specs.Limits.{IsWidth};
+ghost use Rattle.lw_form.specs.Products.{AreRowsOver, HaveColumns, ReachColumn};
+ghost use Rattle.lw_form.specs.Tables.{made, forms_at, IsMadeAs};
 
 use crate::conjunction::{conjunction, disjunction};
 use crate::products::{signed, sum_of_products};
@@ -150,6 +149,17 @@ struct Work {
     done: Vec<u32>,
 }
 
+// Puts what is to be done with a cut: both sides are factored, and then joined.
+fn push_cut(tasks: &mut Vec<Task>, literal: u32, cut: Cut) -> Result<(), AllocError>
+    ensures { OnOk result (tasks.new.items ≡ ((tasks.old.items ++ Task.Join literal ∷ [])
+        ++ Task.Factor cut.others ∷ []) ++ Task.Factor cut.having ∷ []) }
+{
+    tasks.push(Task::Join(literal))?;
+    tasks.push(Task::Factor(cut.others))?;
+    tasks.push(Task::Factor(cut.having))?;
+    Ok(())
+}
+
 // Begins to factor some rows: sums them up where no literal is shared, and else cuts them.
 fn begin(
     alloc: Global,
@@ -159,17 +169,9 @@ fn begin(
     rows: Vec<Row>,
     work: &mut Work,
 ) -> Result<(), AllocError>
-    requires low { 2 ≤ width }
-    requires high { width ≤ most_operands }
-    requires below { AreBelow (length (made table.old)) fanins.now }
-    requires columns { HaveColumns (length fanins.now) rows.items }
-    ensures working { OnOk result ((fs goal : List Form) →
-        IsWorking width fs fanins.now table.old
-        (work.old.tasks.items ++ Task.Factor rows ∷ []) work.old.done.items goal →
-        IsWorking width fs fanins.now table.new work.new.tasks.items work.new.done.items goal) }
-    ensures less { OnOk result (weights work.new.tasks.items < weights work.old.tasks.items + weight
-        (Task.Factor rows)) }
-    ensures more { OnOk result (HasMore (made table.old) (made table.new)) }
+    requires { AreRowsOver width table.old fanins.now rows.items }
+    ensures { OnOk result
+        (DoesTask width fanins.now table.old table.new work.old work.new (Task.Factor rows)) }
 {
     let _count = table.len();
     let literal = match shared(&rows, fanins.len()) {
@@ -182,10 +184,7 @@ fn begin(
     };
     let form = signed(fanins[literal.column], literal.sign);
     let cut = cut_by(alloc, rows, literal)?;
-    work.tasks.push(Task::Join(form))?;
-    work.tasks.push(Task::Factor(cut.others))?;
-    work.tasks.push(Task::Factor(cut.having))?;
-    Ok(())
+    push_cut(&mut work.tasks, form, cut)
 }
 
 // The form made last.
@@ -208,18 +207,8 @@ fn join(
     literal: u32,
     work: &mut Work,
 ) -> Result<(), AllocError>
-    requires low { 2 ≤ width }
-    requires high { width ≤ most_operands }
-    requires two { 2 ≤ length work.old.done.items }
-    requires literal { literal / 2 < length (made table.old) }
-    requires below { AreBelow (length (made table.old)) work.old.done.items }
-    ensures working { (fanins : List ℕ) →
-        OnOk result ((fs goal : List Form) →
-        IsWorking width fs fanins table.old
-        (work.old.tasks.items ++ Task.Join literal ∷ []) work.old.done.items goal →
-        IsWorking width fs fanins table.new work.new.tasks.items work.new.done.items goal) }
-    ensures same { OnOk result (weights work.new.tasks.items ≡ weights work.old.tasks.items) }
-    ensures more { OnOk result (HasMore (made table.old) (made table.new)) }
+    requires { CanJoin width table.old literal work.old.done.items }
+    ensures { OnOk result (Joins width table.old table.new work.old work.new literal) }
 {
     let others = last(&mut work.done);
     let having = last(&mut work.done);
@@ -238,18 +227,12 @@ fn advance(
     task: Task,
     work: &mut Work,
 ) -> Result<(), AllocError>
-    requires low { 2 ≤ width }
-    requires high { width ≤ most_operands }
+    requires width { IsWidth width }
     requires works { (fs : List Form) × (form : Form) ×
         IsWorking width fs fanins.now table.old
         (work.old.tasks.items ++ task ∷ []) work.old.done.items (form ∷ []) }
-    ensures working { OnOk result ((fs goal : List Form) →
-        IsWorking width fs fanins.now table.old
-        (work.old.tasks.items ++ task ∷ []) work.old.done.items goal →
-        IsWorking width fs fanins.now table.new work.new.tasks.items work.new.done.items goal) }
-    ensures less { OnOk result (weights work.new.tasks.items < weights work.old.tasks.items +
-        weight task) }
-    ensures more { OnOk result (HasMore (made table.old) (made table.new)) }
+    ensures { OnOk result
+        (DoesTask width fanins.now table.old table.new work.old work.new task) }
 {
     match task {
         Task::Factor(rows) => begin(alloc, table, width, fanins, rows, work),
@@ -265,10 +248,7 @@ pub(crate) fn factored(
     fanins: &[u32],
     rows: Vec<Row>,
 ) -> Result<u32, AllocError>
-    requires low { 2 ≤ width }
-    requires high { width ≤ most_operands }
-    requires below { AreBelow (length (made table.old)) fanins.now }
-    requires columns { HaveColumns (length fanins.now) rows.items }
+    requires { AreRowsOver width table.old fanins.now rows.items }
     ensures { IfOk result (λ form. IsMadeAs table.old table.new form
         (factored_form width (forms_at (made table.old) fanins.now) rows.items)) }
 {

@@ -1,12 +1,11 @@
 // The list of occurring base forms, as places in a table.
-ghost use Rattle.std.specs.Prelude.{◌≡◌, ◌≢◌, ◌+◌, ◌/◌, ◌^◌, ◌<◌, ◌≤◌, ◌++◌, [], ◌∷◌, ℕ, List, map, length, IfOk, IfErr, OnOk};
-ghost use Rattle.std.specs.List.{AllByRecursion};
+ghost use Rattle.std.specs.Prelude.{◌≡◌, ◌/◌, ◌^◌, ◌<◌, ◌++◌, [], ◌∷◌, ℕ, List, length, IfOk, IfErr, OnOk};
 ghost use Rattle.lw_laws.specs.Forms.{Form};
 ghost use Rattle.lw_laws.specs.Occurring.{appended, append_part, append_parts, sublists, add_form};
 ghost use Rattle.lw_laws.specs.SignalValues.{form_of};
-ghost use Rattle.lw_form.specs.Listed.{no_place, base_at, bases_of, place_of, IsListed, plain_step, plain_steps, adds, IsAdding, bases_after, IsTooLong, StepFits, form_size, step_size, steps_size, operands_of};
+ghost use Rattle.lw_form.specs.Listed.{base_at, bases_of, place_of, operands_of, HasListed, IsAdding, IsListed, IsNewlyListed, IsStepFault, IsTooLong, ListsTo, PutsAnd, PutsOperands, TakesStep};
 ghost use Rattle.lw_form.specs.Limits.{most_bases};
-ghost use Rattle.lw_form.specs.Tables.{made, forms_at, AreBelow, HasMore};
+ghost use Rattle.lw_form.specs.Tables.{made, forms_at, AreBelow};
 
 use crate::conjunction::operands;
 use crate::table::FormTable;
@@ -70,12 +69,8 @@ impl Listing {
 
     // Lists a base form that isn't listed.
     fn put(&mut self, b: u32) -> Result<(), AllocError>
-        requires few { length self.old.listed.items < most_bases }
-        ensures listed { OnOk result (self.new.listed.items ≡ self.old.listed.items ++ b ∷ []) }
-        ensures placed { OnOk result (place_of self.new.places.items b
-            ≡ length self.old.listed.items) }
-        ensures others { OnOk result ((x : ℕ) → x ≢ b →
-            place_of self.new.places.items x ≡ place_of self.old.places.items x) }
+        requires { length self.old.listed.items < most_bases }
+        ensures { OnOk result (IsNewlyListed b self.old self.new) }
     {
         let place = self.listed.len() as u32;
         self.reach(b)?;
@@ -88,11 +83,9 @@ impl Listing {
     pub(crate) fn list(&mut self, table: &FormTable, b: u32) -> Result<(), FormFault>
         requires listed { IsListed (made table.now) self.old.listed.items self.old.places.items }
         requires within { b < length (made table.now) }
-        ensures listed { OnOk result (IsListed
-            (made table.now) self.new.listed.items self.new.places.items) }
-        ensures bases { OnOk result (bases_of (made table.now) self.new.listed.items
-            ≡ appended (base_at (made table.now) b)
-            (bases_of (made table.now) self.old.listed.items)) }
+        ensures listed { OnOk result (HasListed (made table.now) self.new
+            (appended (base_at (made table.now) b)
+            (bases_of (made table.now) self.old.listed.items))) }
         ensures fault { IfErr result (IsTooLong
             (appended (base_at (made table.now) b)
             (bases_of (made table.now) self.old.listed.items))) }
@@ -112,12 +105,9 @@ impl Listing {
     fn list_part(&mut self, table: &mut FormTable, ids: FormIds) -> Result<(), FormFault>
         requires listed { IsListed (made table.old) self.old.listed.items self.old.places.items }
         requires below { AreBelow (length (made table.old)) ids }
-        ensures more { OnOk result (HasMore (made table.old) (made table.new)) }
-        ensures listed { OnOk result (IsListed
-            (made table.new) self.new.listed.items self.new.places.items) }
-        ensures bases { OnOk result (bases_of (made table.new) self.new.listed.items
-            ≡ append_part (forms_at (made table.old) ids)
-            (bases_of (made table.old) self.old.listed.items)) }
+        ensures listed { OnOk result (ListsTo table.old table.new self.new
+            (append_part (forms_at (made table.old) ids)
+            (bases_of (made table.old) self.old.listed.items))) }
         ensures fault { IfErr result (IsTooLong
             (append_part (forms_at (made table.old) ids)
             (bases_of (made table.old) self.old.listed.items))) }
@@ -133,12 +123,9 @@ impl Listing {
     fn list_parts(&mut self, table: &mut FormTable, ids: &FormIds) -> Result<(), FormFault>
         requires listed { IsListed (made table.old) self.old.listed.items self.old.places.items }
         requires below { AreBelow (length (made table.old)) ids.now }
-        ensures more { OnOk result (HasMore (made table.old) (made table.new)) }
-        ensures listed { OnOk result (IsListed
-            (made table.new) self.new.listed.items self.new.places.items) }
-        ensures bases { OnOk result (bases_of (made table.new) self.new.listed.items
-            ≡ append_parts (sublists (forms_at (made table.old) ids.now))
-            (bases_of (made table.old) self.old.listed.items)) }
+        ensures listed { OnOk result (ListsTo table.old table.new self.new
+            (append_parts (sublists (forms_at (made table.old) ids.now))
+            (bases_of (made table.old) self.old.listed.items))) }
         ensures fault { IfErr result (IsTooLong
             (append_parts (sublists (forms_at (made table.old) ids.now))
             (bases_of (made table.old) self.old.listed.items))) }
@@ -153,12 +140,9 @@ impl Listing {
     fn list_and(&mut self, alloc: Global, table: &mut FormTable, b: u32) -> Result<(), FormFault>
         requires listed { IsListed (made table.old) self.old.listed.items self.old.places.items }
         requires within { b < length (made table.old) }
-        ensures more { OnOk result (HasMore (made table.old) (made table.new)) }
-        ensures listed { OnOk result (IsListed
-            (made table.new) self.new.listed.items self.new.places.items) }
-        ensures bases { OnOk result (bases_of (made table.new) self.new.listed.items
-            ≡ append_parts (sublists (operands_of (base_at (made table.old) b)))
-            (bases_of (made table.old) self.old.listed.items)) }
+        ensures listed { OnOk result (ListsTo table.old table.new self.new
+            (append_parts (sublists (operands_of (base_at (made table.old) b)))
+            (bases_of (made table.old) self.old.listed.items))) }
         ensures fault { IfErr result (IsTooLong
             (append_parts (sublists (operands_of (base_at (made table.old) b)))
             (bases_of (made table.old) self.old.listed.items))) }
@@ -184,17 +168,10 @@ impl Listing {
         requires { (goal : List Form) ×
             IsAdding table.now self.old.listed.items self.old.places.items
             (steps.old.items ++ Step.Add form ∷ []) goal }
-        ensures adding { OnOk result ((goal : List Form) →
-            IsAdding table.now self.old.listed.items self.old.places.items
-            (steps.old.items ++ Step.Add form ∷ []) goal →
-            IsAdding table.now self.new.listed.items self.new.places.items steps.new.items goal) }
-        ensures less { OnOk result (steps_size
-            (plain_steps (made table.now) steps.new.items) < form_size
-            (form_of (made table.now) form) + steps_size
-            (plain_steps (made table.now) steps.old.items)) }
-        ensures fault { IfErr result (λ fault. (goal : List Form) →
-            IsAdding table.now self.old.listed.items self.old.places.items
-            (steps.old.items ++ Step.Add form ∷ []) goal → IsTooLong goal fault) }
+        ensures step { OnOk result (TakesStep table.now table.now self.old self.new
+            steps.old.items steps.new.items (Step.Add form)) }
+        ensures fault { IfErr result
+            (IsStepFault table.now self.old steps.old.items (Step.Add form)) }
     {
         let _count = table.len();
         let b = form / 2;
@@ -221,18 +198,9 @@ impl Listing {
         requires { (goal : List Form) ×
             IsAdding table.old self.old.listed.items self.old.places.items
             (steps.old.items ++ step ∷ []) goal }
-        ensures more { OnOk result (HasMore (made table.old) (made table.new)) }
-        ensures adding { OnOk result ((goal : List Form) →
-            IsAdding table.old self.old.listed.items self.old.places.items
-            (steps.old.items ++ step ∷ []) goal →
-            IsAdding table.new self.new.listed.items self.new.places.items steps.new.items goal) }
-        ensures less { OnOk result (steps_size
-            (plain_steps (made table.new) steps.new.items) < step_size
-            (plain_step (made table.old) step) + steps_size
-            (plain_steps (made table.old) steps.old.items)) }
-        ensures fault { IfErr result (λ fault. (goal : List Form) →
-            IsAdding table.old self.old.listed.items self.old.places.items
-            (steps.old.items ++ step ∷ []) goal → IsTooLong goal fault) }
+        ensures step { OnOk result (TakesStep table.old table.new self.old self.new
+            steps.old.items steps.new.items step) }
+        ensures fault { IfErr result (IsStepFault table.old self.old steps.old.items step) }
     {
         match step {
             Step::Add(form) => self.begin(table, form, steps),
@@ -250,12 +218,9 @@ impl Listing {
     ) -> Result<(), FormFault>
         requires listed { IsListed (made table.old) self.old.listed.items self.old.places.items }
         requires within { form / 2 < length (made table.old) }
-        ensures more { OnOk result (HasMore (made table.old) (made table.new)) }
-        ensures listed { OnOk result (IsListed
-            (made table.new) self.new.listed.items self.new.places.items) }
-        ensures bases { OnOk result (bases_of (made table.new) self.new.listed.items
-            ≡ add_form (form_of (made table.old) form)
-            (bases_of (made table.old) self.old.listed.items)) }
+        ensures listed { OnOk result (ListsTo table.old table.new self.new
+            (add_form (form_of (made table.old) form)
+            (bases_of (made table.old) self.old.listed.items))) }
         ensures fault { IfErr result (IsTooLong
             (add_form (form_of (made table.old) form)
             (bases_of (made table.old) self.old.listed.items))) }
@@ -281,12 +246,7 @@ fn mask_end(ids: &FormIds) -> u32
 
 // Puts the steps for the operands of an And, so that the first comes first.
 fn push_operands(steps: &mut Vec<Step>, ids: &[u32]) -> Result<(), AllocError>
-    ensures steps { OnOk result ((forms : List Form) →
-        plain_steps forms steps.new.items ≡ map (plain_step forms) (adds ids.now)
-        ++ plain_steps forms steps.old.items) }
-    ensures fit { OnOk result ((count : ℕ) → AreBelow count ids.now →
-        AllByRecursion (StepFits count) steps.old.items →
-        AllByRecursion (StepFits count) steps.new.items) }
+    ensures { OnOk result (PutsOperands ids.now steps.old.items steps.new.items) }
 {
     for place in 0..ids.len() {
         steps.push(Step::Add(ids[ids.len() - 1 - place]))?;
@@ -296,12 +256,7 @@ fn push_operands(steps: &mut Vec<Step>, ids: &[u32]) -> Result<(), AllocError>
 
 // Puts the steps for an And: first its operands are added, and then its parts.
 fn push_and(steps: &mut Vec<Step>, b: u32, ids: &[u32]) -> Result<(), AllocError>
-    ensures steps { OnOk result ((forms : List Form) →
-        plain_steps forms steps.new.items ≡ map (plain_step forms) (adds ids.now)
-        ++ plain_step forms (Step.Parts b) ∷ plain_steps forms steps.old.items) }
-    ensures fit { OnOk result ((count : ℕ) → b < count → AreBelow count ids.now →
-        AllByRecursion (StepFits count) steps.old.items →
-        AllByRecursion (StepFits count) steps.new.items) }
+    ensures { OnOk result (PutsAnd b ids.now steps.old.items steps.new.items) }
 {
     steps.push(Step::Parts(b))?;
     push_operands(steps, ids)

@@ -1,18 +1,17 @@
 // The forms of the nets of a network, and the list of what occurs in them.
-ghost use Rattle.std.specs.Prelude.{◌≡◌, ◌+◌, ◌/◌, ◌<◌, ◌≤◌, ◌++◌, [], ◌∷◌, ℕ, List, map, length, All, IfOk, IfErr, OnOk, slice_index_or};
+ghost use Rattle.std.specs.Prelude.{◌≡◌, ◌<◌, ◌≤◌, ◌++◌, [], ◌∷◌, List, map, length, All, IfOk, IfErr, OnOk, slice_index_or};
 ghost use Rattle.lw_pool.specs.Numbers.{most_signals};
 ghost use Rattle.lw_net.specs.Plain.{plain, plain_node};
 ghost use Rattle.lw_net.specs.Signs.{asked};
-ghost use Rattle.lw_laws.specs.Forms.{Form};
 ghost use Rattle.lw_laws.specs.Forms.Form.{true_form};
 ghost use Rattle.lw_laws.specs.Mapped.{forms_of};
 ghost use Rattle.lw_laws.specs.Occurring.{add_signals, appended, occurring_forms};
-ghost use Rattle.lw_laws.specs.Signals.{Signal, signal_of_node, signals_after, input_signals, signals_of, sum_of_products as sum_of_forms, factored as factored_form};
-ghost use Rattle.lw_form.specs.Limits.{most_operands};
-ghost use Rattle.lw_form.specs.Listed.{base_at, bases_of, IsListed, IsTooLong};
-ghost use Rattle.lw_form.specs.Nets.{signal_at, AreListed, AreNodes};
-ghost use Rattle.lw_form.specs.Products.{HaveColumns};
-ghost use Rattle.lw_form.specs.Tables.{made, AreBelow, forms_at, HasMore, IsMadeAs};
+ghost use Rattle.lw_laws.specs.Signals.{Signal, signal_of_node, signals_after, input_signals, signals_of};
+ghost use Rattle.lw_form.specs.Limits.{most_operands, IsWidth};
+ghost use Rattle.lw_form.specs.Listed.{base_at, HasListed, IsTooLong};
+ghost use Rattle.lw_form.specs.Nets.{signal_at, AddsSignals, AreBothForms, CanAddNet, CanAddNode, CanAddNodes, HasNoNets, HasSignals, IsSignalFault};
+ghost use Rattle.lw_form.specs.Products.{AreRowsOver};
+ghost use Rattle.lw_form.specs.Tables.{made};
 ghost use Rattle.lw_pool.specs.Numbers.{net_number};
 
 use crate::factoring::{factored, have_shared};
@@ -78,14 +77,9 @@ fn both_forms(
     fanins: &[u32],
     cubes: &[Cube],
 ) -> Result<(u32, u32), AllocError>
-    requires low { 2 ≤ width }
-    requires high { width ≤ most_operands }
-    requires below { AreBelow (length (made table.old)) fanins.now }
-    requires columns { HaveColumns (length fanins.now) (map (map asked) cubes.now) }
-    ensures sop { IfOk result (λ forms. IsMadeAs table.old table.new forms.0
-        (sum_of_forms width (forms_at (made table.old) fanins.now) (map (map asked) cubes.now))) }
-    ensures fac { IfOk result (λ forms. IsMadeAs table.old table.new forms.1
-        (factored_form width (forms_at (made table.old) fanins.now) (map (map asked) cubes.now))) }
+    requires { AreRowsOver width table.old fanins.now (map (map asked) cubes.now) }
+    ensures { IfOk result (λ forms. AreBothForms width table.old table.new fanins.now
+        (map (map asked) cubes.now) forms.0 forms.1) }
 {
     if cubes.len() == 1 {
         let form = product(alloc, table, width, fanins, cubes[0].as_slice())?;
@@ -104,10 +98,8 @@ fn both_forms(
 // The list of true alone, with room for so many base forms.
 fn true_alone(alloc: Global, table: &FormTable, bases: usize) -> Result<Listing, FormFault>
     requires { 0 < length (made table.now) }
-    ensures listed { IfOk result (λ listing. IsListed
-        (made table.now) listing.listed.items listing.places.items) }
-    ensures bases { IfOk result (λ listing. bases_of (made table.now) listing.listed.items
-        ≡ appended (base_at (made table.now) 0) []) }
+    ensures listed { IfOk result (λ listing. HasListed (made table.now) listing
+        (appended (base_at (made table.now) 0) [])) }
     ensures fault { IfErr result (IsTooLong (appended (base_at (made table.now) 0) [])) }
 {
     let mut listing = Listing::with_capacity(alloc, bases)?;
@@ -128,23 +120,11 @@ fn no_nets(alloc: Global, nets: usize) -> Result<(Vec<u32>, Vec<u32>), AllocErro
 impl Occurring {
     // Adds a net with its two forms.
     fn add_net(&mut self, alloc: Global, sop: u32, fac: u32) -> Result<(), FormFault>
-        requires listed { (signals : List Signal) ×
-            AreListed self.old.table self.old.listing.listed.items self.old.listing.places.items
-            self.old.sops.items self.old.facs.items signals }
-        requires sop { sop / 2 < length (made self.old.table) }
-        requires fac { fac / 2 < length (made self.old.table) }
-        ensures more { OnOk result (HasMore (made self.old.table) (made self.new.table)) }
-        ensures listed { OnOk result ((signals : List Signal) →
-            AreListed self.old.table self.old.listing.listed.items self.old.listing.places.items
-            self.old.sops.items self.old.facs.items signals →
-            AreListed self.new.table self.new.listing.listed.items self.new.listing.places.items
-            self.new.sops.items self.new.facs.items
-            (signals ++ signal_at (made self.old.table) sop fac ∷ [])) }
-        ensures fault { IfErr result (λ fault. (signals : List Signal) →
-            AreListed self.old.table self.old.listing.listed.items self.old.listing.places.items
-            self.old.sops.items self.old.facs.items signals →
-            IsTooLong (add_signals (signals ++ signal_at (made self.old.table) sop fac ∷ [])
-            (true_form ∷ [])) fault) }
+        requires { CanAddNet self.old sop fac }
+        ensures adds { OnOk result (AddsSignals self.old self.new
+            (λ signals. signals ++ signal_at (made self.old.table) sop fac ∷ [])) }
+        ensures fault { IfErr result (IsSignalFault self.old
+            (λ signals. signals ++ signal_at (made self.old.table) sop fac ∷ [])) }
     {
         self.listing
             .add(alloc, &mut self.table, &mut self.steps, sop)?;
@@ -157,25 +137,11 @@ impl Occurring {
 
     // Adds a node's net, whose forms are made of those of its fan-ins.
     fn add_node(&mut self, alloc: Global, width: usize, node: &Node) -> Result<(), FormFault>
-        requires low { 2 ≤ width }
-        requires high { width ≤ most_operands }
-        requires listed { (signals : List Signal) ×
-            AreListed self.old.table self.old.listing.listed.items self.old.listing.places.items
-            self.old.sops.items self.old.facs.items signals }
-        requires fanins { All (λ net. net.0 < length self.old.sops.items) node.now.fanins }
-        requires columns { All (λ row. length row ≡ length node.now.fanins) node.now.rows }
-        ensures more { OnOk result (HasMore (made self.old.table) (made self.new.table)) }
-        ensures listed { OnOk result ((signals : List Signal) →
-            AreListed self.old.table self.old.listing.listed.items self.old.listing.places.items
-            self.old.sops.items self.old.facs.items signals →
-            AreListed self.new.table self.new.listing.listed.items self.new.listing.places.items
-            self.new.sops.items self.new.facs.items
-            (signals ++ signal_of_node width signals (plain_node node.now) ∷ [])) }
-        ensures fault { IfErr result (λ fault. (signals : List Signal) →
-            AreListed self.old.table self.old.listing.listed.items self.old.listing.places.items
-            self.old.sops.items self.old.facs.items signals →
-            IsTooLong (add_signals (signals ++ signal_of_node width signals (plain_node node.now)
-            ∷ []) (true_form ∷ [])) fault) }
+        requires { CanAddNode width self.old node.now }
+        ensures adds { OnOk result (AddsSignals self.old self.new
+            (λ signals. signals ++ signal_of_node width signals (plain_node node.now) ∷ [])) }
+        ensures fault { IfErr result (IsSignalFault self.old
+            (λ signals. signals ++ signal_of_node width signals (plain_node node.now) ∷ [])) }
     {
         let fanins = fanins_of(alloc, &self.sops, node.fanins.as_slice())?;
         let (sop, fac) = both_forms(alloc, &mut self.table, width, &fanins, node.rows.as_slice())?;
@@ -186,9 +152,7 @@ impl Occurring {
     // Lists true alone, with room for so many nets.
     fn start(alloc: Global, inputs: u32, nets: usize) -> Result<Self, FormFault>
         requires { inputs ≤ most_signals }
-        ensures listed { IfOk result (λ all. AreListed all.table all.listing.listed.items
-            all.listing.places.items all.sops.items all.facs.items []) }
-        ensures table { IfOk result (λ all. all.table ≡ record { inputs = inputs; keys = [] }) }
+        ensures none { IfOk result (HasNoNets inputs) }
         ensures fault { IfErr result (IsTooLong (true_form ∷ [])) }
     {
         let table = FormTable::with_capacity(alloc, inputs, nets)?;
@@ -215,13 +179,8 @@ impl Occurring {
 
     // Adds the inputs.
     fn add_inputs(&mut self, alloc: Global, inputs: u32) -> Result<(), FormFault>
-        requires few { inputs ≤ most_signals }
-        requires table { self.old.table ≡ record { inputs = inputs; keys = [] } }
-        requires listed { AreListed self.old.table self.old.listing.listed.items
-            self.old.listing.places.items self.old.sops.items self.old.facs.items [] }
-        ensures listed { OnOk result (AreListed self.new.table self.new.listing.listed.items
-            self.new.listing.places.items self.new.sops.items self.new.facs.items
-            (input_signals 0 inputs)) }
+        requires { HasNoNets inputs self.old }
+        ensures listed { OnOk result (HasSignals self.new (input_signals 0 inputs)) }
         ensures fault { IfErr result (IsTooLong
             (add_signals (input_signals 0 inputs) (true_form ∷ []))) }
     {
@@ -234,23 +193,11 @@ impl Occurring {
 
     // Adds the nodes' nets.
     fn add_nodes(&mut self, alloc: Global, width: usize, nodes: &[Node]) -> Result<(), FormFault>
-        requires low { 2 ≤ width }
-        requires high { width ≤ most_operands }
-        requires listed { (signals : List Signal) ×
-            AreListed self.old.table self.old.listing.listed.items self.old.listing.places.items
-            self.old.sops.items self.old.facs.items signals }
-        requires nodes { AreNodes (length self.old.sops.items) nodes.now }
-        ensures listed { OnOk result ((signals : List Signal) →
-            AreListed self.old.table self.old.listing.listed.items self.old.listing.places.items
-            self.old.sops.items self.old.facs.items signals →
-            AreListed self.new.table self.new.listing.listed.items self.new.listing.places.items
-            self.new.sops.items self.new.facs.items
-            (signals_after width signals (map plain_node nodes.now))) }
-        ensures fault { IfErr result (λ fault. (signals : List Signal) →
-            AreListed self.old.table self.old.listing.listed.items self.old.listing.places.items
-            self.old.sops.items self.old.facs.items signals →
-            IsTooLong (add_signals (signals_after width signals (map plain_node nodes.now))
-            (true_form ∷ [])) fault) }
+        requires { CanAddNodes width self.old nodes.now }
+        ensures listed { OnOk result ((signals : List Signal) → HasSignals self.old signals →
+            HasSignals self.new (signals_after width signals (map plain_node nodes.now))) }
+        ensures fault { IfErr result (IsSignalFault self.old
+            (λ signals. signals_after width signals (map plain_node nodes.now))) }
     {
         for node in nodes {
             self.add_node(alloc, width, node)?;
@@ -260,11 +207,8 @@ impl Occurring {
 
     // The forms of the nets of a network, and the list of what occurs in them.
     pub(crate) fn of_network(alloc: Global, net: &Network, width: usize) -> Result<Self, FormFault>
-        requires low { 2 ≤ width }
-        requires high { width ≤ most_operands }
-        ensures listed { IfOk result (λ all. AreListed all.table all.listing.listed.items
-            all.listing.places.items all.sops.items all.facs.items
-            (signals_of width (plain net.now))) }
+        requires { IsWidth width }
+        ensures listed { IfOk result (λ all. HasSignals all (signals_of width (plain net.now))) }
         ensures fault { IfErr result (IsTooLong (occurring_forms width (plain net.now))) }
     {
         let inputs = net.inputs();
@@ -294,11 +238,8 @@ fn finished(
     width: usize,
     all: &Occurring,
 ) -> Result<Forms, AllocError>
-    requires low { 2 ≤ width }
-    requires high { width ≤ most_operands }
-    requires listed { AreListed all.now.table all.now.listing.listed.items
-        all.now.listing.places.items all.now.sops.items all.now.facs.items
-        (signals_of width (plain net.now)) }
+    requires width { IsWidth width }
+    requires listed { HasSignals all.now (signals_of width (plain net.now)) }
     ensures { IfOk result (λ forms. forms ≡ forms_of width (plain net.now)) }
 {
     let _width = width;

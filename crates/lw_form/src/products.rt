@@ -1,11 +1,11 @@
 // Sums of products, over numbers of a table.
-ghost use Rattle.std.specs.Prelude.{◌≡◌, ◌≤◌, map, length, IfOk};
+ghost use Rattle.std.specs.Prelude.{◌≡◌, map, length, IfOk};
 ghost use Rattle.lw_laws.specs.Forms.{conjunction as and_of_forms};
 ghost use Rattle.lw_laws.specs.Signals.{sum_of_products as sum_of_forms, literals as literals_of};
 ghost use Rattle.lw_net.specs.Signs.{asked};
-ghost use Rattle.lw_form.specs.Limits.{most_operands};
-ghost use Rattle.lw_form.specs.Products.{signed_number, literal_numbers, HaveColumns};
-ghost use Rattle.lw_form.specs.Tables.{made, forms_at, AreBelow, IsMadeAs, AreMadeAs};
+ghost use Rattle.lw_form.specs.Conjunctions.{CanBeJoined};
+ghost use Rattle.lw_form.specs.Products.{signed_number, literal_numbers, AreRowsOver};
+ghost use Rattle.lw_form.specs.Tables.{made, forms_at, IsMadeAs, AreMadeAs};
 
 use crate::conjunction::{conjunction, disjunction};
 use crate::row::{Row, ask};
@@ -44,9 +44,7 @@ pub(crate) fn product(
     fanins: &[u32],
     signs: &[u8],
 ) -> Result<u32, AllocError>
-    requires low { 2 ≤ width }
-    requires high { width ≤ most_operands }
-    requires below { AreBelow (length (made table.old)) fanins.now }
+    requires fanins { CanBeJoined width table.old fanins.now }
     requires columns { length signs.now ≡ length fanins.now }
     ensures { IfOk result (λ form. IsMadeAs table.old table.new form
         (and_of_forms width (literals_of (forms_at (made table.old) fanins.now)
@@ -65,10 +63,7 @@ fn cubes(
     fanins: &[u32],
     rows: &[Row],
 ) -> Result<SmallVec<u32, 8>, AllocError>
-    requires low { 2 ≤ width }
-    requires high { width ≤ most_operands }
-    requires below { AreBelow (length (made table.old)) fanins.now }
-    requires columns { HaveColumns (length fanins.now) rows.now }
+    requires { AreRowsOver width table.old fanins.now rows.now }
     ensures { IfOk result (λ cubes. AreMadeAs table.old table.new cubes.items
         (map (λ row. and_of_forms width (literals_of (forms_at (made table.old) fanins.now) row))
         rows.now)) }
@@ -88,10 +83,7 @@ pub(crate) fn sum_of_products(
     fanins: &[u32],
     rows: &[Row],
 ) -> Result<u32, AllocError>
-    requires low { 2 ≤ width }
-    requires high { width ≤ most_operands }
-    requires below { AreBelow (length (made table.old)) fanins.now }
-    requires columns { HaveColumns (length fanins.now) rows.now }
+    requires { AreRowsOver width table.old fanins.now rows.now }
     ensures { IfOk result (λ form. IsMadeAs table.old table.new form
         (sum_of_forms width (forms_at (made table.old) fanins.now) rows.now)) }
 {

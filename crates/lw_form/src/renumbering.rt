@@ -1,11 +1,7 @@
 // The listed forms by their numbers in the list.
 ghost use Rattle.std.specs.Prelude.{◌≡◌, ◌/◌, ◌^◌, ◌<◌, ◌≤◌, ℕ, List, Some, slice_get, map, length, IfOk};
-ghost use Rattle.lw_laws.specs.NumberedForms.{NumberedForms, IsBefore};
-ghost use Rattle.lw_laws.specs.NumberedForms.Base.{base_and};
 ghost use Rattle.lw_laws.specs.Numbering.{numbered_base};
-ghost use Rattle.std.specs.List.{AllByRecursion};
 ghost use Rattle.lw_form.specs.Bases.{plain_base};
-ghost use Rattle.lw_form.specs.Kept.{AreSamples};
 ghost use Rattle.lw_form.specs.Limits.{most_operands};
 ghost use Rattle.lw_form.specs.Listed.{place_of, bases_of, IsListed};
 ghost use Rattle.lw_form.specs.Renumbered.{renumber, ArePlaced, IsBaseOf, AreOfListing};

@@ -1,5 +1,5 @@
-ghost use Rattle.std.specs.Prelude.{◌≡◌, ◌<◌, length, map, IfOk, OnErr, OnOk, None};
-ghost use Rattle.lw_net.specs.Signs.{asked, IsSign};
+ghost use Rattle.std.specs.Prelude.{◌≡◌, ◌<◌, length, map, IfOk};
+ghost use Rattle.lw_net.specs.Signs.{asked};
 
 use smallvec::SmallVec;
 use std::alloc::{AllocError, Global};

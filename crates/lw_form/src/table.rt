@@ -1,4 +1,4 @@
-ghost use Rattle.std.specs.Prelude.{◌≡◌, ◌+◌, ◌<◌, ◌≤◌, [], ◌∷◌, length, Some, slice_get, IfOk, IfNone, IfSome, OnOk};
+ghost use Rattle.std.specs.Prelude.{◌≡◌, ◌<◌, ◌≤◌, [], length, Some, slice_get, IfOk, IfNone, IfSome, OnOk};
 ghost use Rattle.lw_pool.specs.Numbers.{most_signals};
 
 use crate::FormIds;
@@ -28,10 +28,9 @@ impl Model for FormTable {
 }
 
 impl FormTable {
-    ghost use Rattle.lw_laws.specs.Forms.{Form};
     ghost use Rattle.lw_laws.specs.Occurring.{appended};
     ghost use Rattle.lw_form.specs.Renumbered.{simple_at};
-    ghost use Rattle.lw_form.specs.Tables.{made, spelled, AreMade, AreBelow, IsSimple};
+    ghost use Rattle.lw_form.specs.Tables.{made, spelled, AreMade, AreBelow, IsSpelledAt};
 
     // True and the inputs, with room for so many Ands.
     pub(crate) fn with_capacity(alloc: Global, inputs: u32, ands: usize) -> Result<Self, AllocError>
@@ -69,12 +68,8 @@ impl FormTable {
     // The operands of the And at a place, or none at that of true or of an input.
     pub(crate) fn operands(&self, b: u32) -> Option<&FormIds>
         requires { b < length (made self.now) }
-        ensures simple { IfNone result
-            ((f : Form) × (slice_get (made self.now) b ≡ Some f) × IsSimple f) }
-        ensures kind { IfNone result (slice_get (made self.now) b ≡ Some (simple_at b)) }
-        ensures and_is { IfSome result
-            (λ ids. slice_get (made self.now) b ≡ Some (spelled (made self.now) ids.now)) }
-        ensures below { IfSome result (λ ids. AreBelow (length (made self.now)) ids.now) }
+        ensures simple { IfNone result (slice_get (made self.now) b ≡ Some (simple_at b)) }
+        ensures spelled { IfSome result (λ ids. IsSpelledAt (made self.now) b ids.now) }
     {
         if b <= self.inputs {
             return None;

@@ -6,8 +6,12 @@ use Rattle.lw_form.specs.declared.conjunction.Step.TheVariants.{Again}
 use Rattle.lw_form.proofs.Joining.{more_same, left_more, left_done}
 use Rattle.lw_form.proofs.conjunction.conjunction.Goals as goal
 
-pub shortened-requires-clause-below : goal.shortened-requires-clause-below
-shortened-requires-clause-below c = c.requires.below
+pub shortened-requires : goal.shortened-requires
+shortened-requires c = record {
+  low = c.requires.low;
+  high = c.requires.high;
+  below = c.requires.below;
+}
 
 pub returns-in-Done : goal.returns-in-Done
 returns-in-Done c = subst (IsStep c.args.width c.args.table.now c.shortened.new.table c.args.forms.now) c.in-Done.is c.in_ok-form.ensures
@@ -17,8 +21,12 @@ steps-init c =
     left_more c.args.width c.args.table.now c.args.table.now c.shortened.new.table c.args.forms.now c.args.forms.now c.in-Again.groups.items (record { more = more_same (made c.args.table.now); below = c.requires.below; same = refl })
     (subst (IsStep c.args.width c.args.table.now c.shortened.new.table c.args.forms.now) c.in-Again.is c.in_ok-form.ensures)
 
-pub shortened-requires-in-steps-clause-below : goal.shortened-requires-in-steps-clause-below
-shortened-requires-in-steps-clause-below c = subst (AreBelow (length (made c.steps.table))) (sym c.deref.ensures.value) c.steps.invariant.below
+pub shortened-requires-in-steps : goal.shortened-requires-in-steps
+shortened-requires-in-steps c = record {
+  low = c.requires.low;
+  high = c.requires.high;
+  below = subst (AreBelow (length (made c.steps.table))) (sym c.deref.ensures.value) c.steps.invariant.below;
+}
 
 pub returns-in-Done-2 : goal.returns-in-Done-2
 returns-in-Done-2 c =

@@ -6,8 +6,12 @@ use Rattle.lw_form.proofs.conjunction.disjunction.Goals as goal
 pub returns-then-forms-eq1 : goal.returns-then-forms-eq1
 returns-then-forms-eq1 c = or_alone c.args.width c.requires.low c.args.table.now c.len-count.ensures.made c.args.forms.now _ c.if-forms-eq1.true refl c.requires.below
 
-pub conjunction-requires-clause-below : goal.conjunction-requires-clause-below
-conjunction-requires-clause-below c = subst (AreBelow _) (sym (c.deref.ensures ∙ c.in_ok-none.ensures)) (below_others _ c.args.forms.now c.requires.below)
+pub conjunction-requires : goal.conjunction-requires
+conjunction-requires c = record {
+  low = c.requires.low;
+  high = c.requires.high;
+  below = subst (AreBelow _) (sym (c.deref.ensures ∙ c.in_ok-none.ensures)) (below_others _ c.args.forms.now c.requires.below);
+}
 
 pub returns : goal.returns
 returns c = or_made c.args.width c.args.table.now c.conjunction.new.table c.args.forms.now c.deref.result.now c.in_ok-all.all c.len-count.ensures.made c.len-more.ensures.made c.requires.below (c.deref.ensures ∙ c.in_ok-none.ensures) c.in_ok-all.ensures

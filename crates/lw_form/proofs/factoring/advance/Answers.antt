@@ -1,26 +1,38 @@
 use Rattle.std.proofs.Common.{◌≡◌, ◌∙◌, ◌∷◌, ◌++◌, ◌<◌, ◌+◌, [], sym, subst, ap, length, List, ℕ, arith, OnOk}
-use Rattle.lw_laws.specs.Forms.{Form}
+use Rattle.std.proofs.lemmas.Result.{on_ok_weaker}
 use Rattle.lw_form.specs.declared.factoring.Task.{Task}
 use Rattle.lw_form.specs.declared.factoring.Task.TheVariants.{Factor, Join}
-use Rattle.lw_form.specs.Factoring.{IsWorking}
+use Rattle.lw_form.specs.Factoring.{DoesTask, IsWorking}
 use Rattle.lw_form.specs.Tables.{made, AreBelow}
 use Rattle.lw_form.proofs.FactoringSteps.{two_done, join_below, factor_columns}
 use Rattle.lw_form.proofs.factoring.advance.Goals as goal
 
-pub join-requires-clause-two : goal.join-requires-clause-two
-join-requires-clause-two c =
+pub begin-requires : goal.begin-requires
+begin-requires c = 
     let (fs, f, w) = c.requires.works in
-    two_done c.args.width fs c.args.fanins.now f c.args.table.now c.args.work.now.tasks.items c.args.work.now.done.items c.in-Join.literal (subst (λ t. IsWorking c.args.width fs c.args.fanins.now c.args.table.now (c.args.work.now.tasks.items ++ t ∷ []) c.args.work.now.done.items (f ∷ [])) c.in-Join.is w)
+    let v = (subst (λ t. IsWorking c.args.width fs c.args.fanins.now c.args.table.now (c.args.work.now.tasks.items ++ t ∷ []) c.args.work.now.done.items (f ∷ [])) c.in-Factor.is w) in
+    record {
+      low = c.requires.width.low;
+      high = c.requires.width.high;
+      below = v.fanins_below;
+      columns = factor_columns c.args.width fs c.args.fanins.now (f ∷ []) c.args.table.now c.args.work.now.tasks.items c.args.work.now.done.items c.in-Factor.rows v;
+    }
 
-pub join-requires-clause-literal : goal.join-requires-clause-literal
-join-requires-clause-literal c =
+pub join-requires : goal.join-requires
+join-requires c = 
     let (fs, f, w) = c.requires.works in
-    join_below c.args.width fs c.args.fanins.now (f ∷ []) c.args.table.now c.args.work.now.tasks.items c.args.work.now.done.items c.in-Join.literal (subst (λ t. IsWorking c.args.width fs c.args.fanins.now c.args.table.now (c.args.work.now.tasks.items ++ t ∷ []) c.args.work.now.done.items (f ∷ [])) c.in-Join.is w)
+    let v = (subst (λ t. IsWorking c.args.width fs c.args.fanins.now c.args.table.now (c.args.work.now.tasks.items ++ t ∷ []) c.args.work.now.done.items (f ∷ [])) c.in-Join.is w) in
+    record {
+      low = c.requires.width.low;
+      high = c.requires.width.high;
+      two = two_done c.args.width fs c.args.fanins.now f c.args.table.now c.args.work.now.tasks.items c.args.work.now.done.items c.in-Join.literal v;
+      literal = join_below c.args.width fs c.args.fanins.now (f ∷ []) c.args.table.now c.args.work.now.tasks.items c.args.work.now.done.items c.in-Join.literal v;
+      below = v.done_below;
+    }
 
-pub returns-in-Factor-clause-working : goal.returns-in-Factor-clause-working
-returns-in-Factor-clause-working c =
-    subst (λ t. OnOk c.begin.result ((fs goals : List Form) → IsWorking c.args.width fs c.args.fanins.now c.args.table.now (c.args.work.now.tasks.items ++ t ∷ []) c.args.work.now.done.items goals → IsWorking c.args.width fs c.args.fanins.now c.begin.new.table c.begin.new.work.tasks.items c.begin.new.work.done.items goals)) (sym c.in-Factor.is) c.begin.ensures.working
+pub returns-in-Factor : goal.returns-in-Factor
+returns-in-Factor c = subst (λ t. OnOk c.begin.result (DoesTask c.args.width c.args.fanins.now c.args.table.now c.begin.new.table c.args.work.now c.begin.new.work t)) (sym c.in-Factor.is) c.begin.ensures
 
-pub returns-in-Join-clause-working : goal.returns-in-Join-clause-working
-returns-in-Join-clause-working c =
-    subst (λ t. OnOk c.join.result ((fs goals : List Form) → IsWorking c.args.width fs c.args.fanins.now c.args.table.now (c.args.work.now.tasks.items ++ t ∷ []) c.args.work.now.done.items goals → IsWorking c.args.width fs c.args.fanins.now c.join.new.table c.join.new.work.tasks.items c.join.new.work.done.items goals)) (sym c.in-Join.is) (c.join.ensures.working c.args.fanins.now)
+pub returns-in-Join : goal.returns-in-Join
+returns-in-Join c = subst (λ t. OnOk c.join.result (DoesTask c.args.width c.args.fanins.now c.args.table.now c.join.new.table c.args.work.now c.join.new.work t)) (sym c.in-Join.is)
+    (on_ok_weaker c.join.result (λ j. record { working = j.working c.args.fanins.now; less = let e = j.same in omega arith; more = j.more }) c.join.ensures)

@@ -1,15 +1,20 @@
 use Rattle.std.proofs.Common.{◌≡◌, ◌∙◌, ◌∷◌, ◌++◌, ◌<◌, ◌+◌, [], sym, subst, ap, length, List, ℕ, arith}
-use Rattle.lw_laws.specs.Forms.{Form}
+use Rattle.std.proofs.lemmas.Result.{on_ok_weaker}
 use Rattle.lw_laws.specs.Signals.{shared_literal}
 use Rattle.lw_form.specs.declared.factoring.Task.{Task}
 use Rattle.lw_form.specs.declared.factoring.Task.TheVariants.{Factor, Join}
 use Rattle.lw_form.specs.Factoring.{plain_literal}
-use Rattle.lw_form.specs.Products.{ReachColumn}
+use Rattle.lw_form.specs.Tables.{made}
+use Rattle.lw_form.proofs.Joining.{more_same}
 use Rattle.lw_form.proofs.FactoringSteps.{begun_none, begun_some, shared_column, reach, weight_cut}
 use Rattle.lw_form.proofs.factoring.begin.Goals as goal
 
-pub returns-in-None-clause-working : goal.returns-in-None-clause-working
-returns-in-None-clause-working c = begun_none c.args.width c.args.table.now c.sum_of_products.new.table c.args.fanins.now c.args.work.now.tasks.items c.args.work.now.done.items c.push.new.self.items c.args.rows c.deref.result.now c.deref-in-None.result.now c.in_ok-form-in-None.form c.deref.ensures.value c.deref-in-None.ensures.value c.in-None.ensures c.in_ok-form-in-None.ensures c.in_ok-push-in-None.ensures.items
+pub returns-in-None : goal.returns-in-None
+returns-in-None c = record {
+  working = begun_none c.args.width c.args.table.now c.sum_of_products.new.table c.args.fanins.now c.args.work.now.tasks.items c.args.work.now.done.items c.push.new.self.items c.args.rows c.deref.result.now c.deref-in-None.result.now c.in_ok-form-in-None.form c.deref.ensures.value c.deref-in-None.ensures.value c.in-None.ensures c.in_ok-form-in-None.ensures c.in_ok-push-in-None.ensures.items;
+  less = omega arith;
+  more = c.in_ok-form-in-None.ensures.more;
+}
 
 pub bounds-fanins-literal : goal.bounds-fanins-literal
 bounds-fanins-literal c = shared_column c.args.rows.items c.deref.result.now (length c.args.fanins.now) c.in-Some.literal c.deref.ensures.value c.in-Some.ensures
@@ -17,15 +22,12 @@ bounds-fanins-literal c = shared_column c.args.rows.items c.deref.result.now (le
 pub cut_by-requires : goal.cut_by-requires
 cut_by-requires c = reach (length c.args.fanins.now) c.in-Some.literal.column c.args.rows.items (shared_column c.args.rows.items c.deref.result.now (length c.args.fanins.now) c.in-Some.literal c.deref.ensures.value c.in-Some.ensures) c.requires.columns
 
-pub returns-clause-working : goal.returns-clause-working
-returns-clause-working c =
-    begun_some c.args.width c.args.table.now c.args.fanins.now c.args.work.now.tasks.items c.push-4.new.self.items c.args.work.now.done.items c.args.rows c.in_ok-cut.cut.having c.in_ok-cut.cut.others c.deref.result.now c.in-Some.literal c.signed-form.result c.len-count.ensures.made c.requires.below c.deref.ensures.value c.in-Some.ensures c.in_ok-cut.ensures.having c.in_ok-cut.ensures.others c.signed-form.ensures
-    (c.in_ok-push-3.ensures.items ∙ ap (λ l. l ++ Factor c.in_ok-cut.cut.having ∷ []) (c.in_ok-push-2.ensures.items ∙ ap (λ l. l ++ Factor c.in_ok-cut.cut.others ∷ []) c.in_ok-push.ensures.items))
-
-pub returns-clause-less : goal.returns-clause-less
-returns-clause-less c =
-    weight_cut c.args.work.now.tasks.items c.push-4.new.self.items c.args.rows c.in_ok-cut.cut.having c.in_ok-cut.cut.others (length c.args.fanins.now) c.signed-form.result (plain_literal c.in-Some.literal) (ap (shared_literal (length c.args.fanins.now)) (sym c.deref.ensures.value) ∙ sym c.in-Some.ensures) c.in_ok-cut.ensures.having c.in_ok-cut.ensures.others
-    (c.in_ok-push-3.ensures.items ∙ ap (λ l. l ++ Factor c.in_ok-cut.cut.having ∷ []) (c.in_ok-push-2.ensures.items ∙ ap (λ l. l ++ Factor c.in_ok-cut.cut.others ∷ []) c.in_ok-push.ensures.items))
+pub returns : goal.returns
+returns c = on_ok_weaker c.push_cut.result (λ pushed. record {
+  working = begun_some c.args.width c.args.table.now c.args.fanins.now c.args.work.now.tasks.items c.push_cut.new.tasks.items c.args.work.now.done.items c.args.rows c.in_ok-cut.cut.having c.in_ok-cut.cut.others c.deref.result.now c.in-Some.literal c.signed-form.result c.len-count.ensures.made c.requires.below c.deref.ensures.value c.in-Some.ensures c.in_ok-cut.ensures.having c.in_ok-cut.ensures.others c.signed-form.ensures pushed;
+  less = weight_cut c.args.work.now.tasks.items c.push_cut.new.tasks.items c.args.rows c.in_ok-cut.cut.having c.in_ok-cut.cut.others (length c.args.fanins.now) c.signed-form.result (plain_literal c.in-Some.literal) (ap (shared_literal (length c.args.fanins.now)) (sym c.deref.ensures.value) ∙ sym c.in-Some.ensures) c.in_ok-cut.ensures.having c.in_ok-cut.ensures.others pushed;
+  more = more_same (made c.args.table.now);
+}) c.push_cut.ensures
 
 pub offset_bounds-fanins-literal : goal.offset_bounds-fanins-literal
 offset_bounds-fanins-literal c = let lt = shared_column c.args.rows.items c.deref.result.now (length c.args.fanins.now) c.in-Some.literal c.deref.ensures.value c.in-Some.ensures in omega arith

@@ -12,19 +12,29 @@ front_below n done front x e a = below_front n front (x ∷ []) (subst (AreBelow
 last_below : (n : ℕ) (done front : List ℕ) (x : ℕ) → done ≡ front ++ x ∷ [] → AreBelow n done → x / 2 < n
 last_below n done front x e a = below_last n front x (subst (AreBelow n) e a)
 
-pub conjunction-requires-clause-below : goal.conjunction-requires-clause-below
-conjunction-requires-clause-below c =
-    (c.requires.literal, (last_below _ c.last-others.new.done.items c.last-having.new.done.items c.last-having.result c.last-having.ensures (front_below _ c.args.work.now.done.items c.last-others.new.done.items c.last-others.result c.last-others.ensures c.requires.below), tt))
+pub conjunction-requires : goal.conjunction-requires
+conjunction-requires c = record {
+  low = c.requires.low;
+  high = c.requires.high;
+  below = (c.requires.literal, (last_below _ c.last-others.new.done.items c.last-having.new.done.items c.last-having.result c.last-having.ensures (front_below _ c.args.work.now.done.items c.last-others.new.done.items c.last-others.result c.last-others.ensures c.requires.below), tt));
+}
 
-pub disjunction-requires-clause-below : goal.disjunction-requires-clause-below
-disjunction-requires-clause-below c =
-    (c.in_ok-both.ensures.within, (let lt = last_below _ c.args.work.now.done.items c.last-others.new.done.items c.last-others.result c.last-others.ensures c.requires.below in let le = more_length _ _ c.in_ok-both.ensures.more in omega arith, tt))
+pub disjunction-requires : goal.disjunction-requires
+disjunction-requires c = record {
+  low = c.requires.low;
+  high = c.requires.high;
+  below = (c.in_ok-both.ensures.within, (let lt = last_below _ c.args.work.now.done.items c.last-others.new.done.items c.last-others.result c.last-others.ensures c.requires.below in let le = more_length _ _ c.in_ok-both.ensures.more in omega arith, tt));
+}
 
-pub returns-clause-working : goal.returns-clause-working
-returns-clause-working c = λ fanins fs goals w.
+pub returns : goal.returns
+returns c = record {
+  working = λ fanins fs goals w.
     work_joined c.args.width fs fanins goals c.args.table.now c.disjunction.new.table c.args.work.now.tasks.items c.args.work.now.done.items c.push.new.self.items c.last-having.new.done.items c.args.literal c.last-having.result c.last-others.result c.in_ok-form.form w (c.last-others.ensures ∙ ap (λ l. l ++ c.last-others.result ∷ []) c.last-having.ensures)
     (join_made c.args.width c.args.table.now c.conjunction.new.table c.disjunction.new.table c.args.literal c.last-having.result c.last-others.result c.in_ok-both.both c.in_ok-form.form c.in_ok-both.ensures c.in_ok-form.ensures (last_below _ c.args.work.now.done.items c.last-others.new.done.items c.last-others.result c.last-others.ensures c.requires.below))
-    c.in_ok-push.ensures.items
+    c.in_ok-push.ensures.items;
+  same = refl;
+  more = more_twice (made c.args.table.now) (made c.conjunction.new.table) (made c.disjunction.new.table) c.in_ok-both.ensures.more c.in_ok-form.ensures.more;
+}
 
 pub last-others-requires : goal.last-others-requires
 last-others-requires c = let two = c.requires.two in omega arith
@@ -32,47 +42,11 @@ last-others-requires c = let two = c.requires.two in omega arith
 pub last-having-requires : goal.last-having-requires
 last-having-requires c = let e = ap length c.last-others.ensures in let a = length-append c.last-others.new.done.items (c.last-others.result ∷ []) in let two = c.requires.two in omega arith
 
-pub conjunction-requires-clause-low : goal.conjunction-requires-clause-low
-conjunction-requires-clause-low c = c.requires.low
+pub returns-in_err-both : goal.returns-in_err-both
+returns-in_err-both c = on_failed _ c.from_residual.result c.from_residual.ensures.0
 
-pub conjunction-requires-clause-high : goal.conjunction-requires-clause-high
-conjunction-requires-clause-high c = c.requires.high
+pub returns-in_err-form : goal.returns-in_err-form
+returns-in_err-form c = on_failed _ c.from_residual-in_err-form.result c.from_residual-in_err-form.ensures.0
 
-pub disjunction-requires-clause-low : goal.disjunction-requires-clause-low
-disjunction-requires-clause-low c = c.requires.low
-
-pub disjunction-requires-clause-high : goal.disjunction-requires-clause-high
-disjunction-requires-clause-high c = c.requires.high
-
-pub returns-in_err-both-clause-working : goal.returns-in_err-both-clause-working
-returns-in_err-both-clause-working c = λ fanins. on_failed _ c.from_residual.result c.from_residual.ensures.0
-
-pub returns-in_err-both-clause-same : goal.returns-in_err-both-clause-same
-returns-in_err-both-clause-same c = on_failed _ c.from_residual.result c.from_residual.ensures.0
-
-pub returns-in_err-both-clause-more : goal.returns-in_err-both-clause-more
-returns-in_err-both-clause-more c = on_failed _ c.from_residual.result c.from_residual.ensures.0
-
-pub returns-in_err-form-clause-working : goal.returns-in_err-form-clause-working
-returns-in_err-form-clause-working c = λ fanins. on_failed _ c.from_residual-in_err-form.result c.from_residual-in_err-form.ensures.0
-
-pub returns-in_err-form-clause-same : goal.returns-in_err-form-clause-same
-returns-in_err-form-clause-same c = on_failed _ c.from_residual-in_err-form.result c.from_residual-in_err-form.ensures.0
-
-pub returns-in_err-form-clause-more : goal.returns-in_err-form-clause-more
-returns-in_err-form-clause-more c = on_failed _ c.from_residual-in_err-form.result c.from_residual-in_err-form.ensures.0
-
-pub returns-in_err-push-clause-working : goal.returns-in_err-push-clause-working
-returns-in_err-push-clause-working c = λ fanins. on_failed _ c.from_residual-in_err-push.result c.from_residual-in_err-push.ensures.0
-
-pub returns-in_err-push-clause-same : goal.returns-in_err-push-clause-same
-returns-in_err-push-clause-same c = on_failed _ c.from_residual-in_err-push.result c.from_residual-in_err-push.ensures.0
-
-pub returns-in_err-push-clause-more : goal.returns-in_err-push-clause-more
-returns-in_err-push-clause-more c = on_failed _ c.from_residual-in_err-push.result c.from_residual-in_err-push.ensures.0
-
-pub returns-clause-same : goal.returns-clause-same
-returns-clause-same c = refl
-
-pub returns-clause-more : goal.returns-clause-more
-returns-clause-more c = more_twice (made c.args.table.now) (made c.conjunction.new.table) (made c.disjunction.new.table) c.in_ok-both.ensures.more c.in_ok-form.ensures.more
+pub returns-in_err-push : goal.returns-in_err-push
+returns-in_err-push c = on_failed _ c.from_residual-in_err-push.result c.from_residual-in_err-push.ensures.0

@@ -24,60 +24,48 @@ made_still old mid new n f more m = record {
   is = form_kept (made mid) (made new) n more m.within ∙ m.is;
 }
 
-pub product-requires-clause-low : goal.product-requires-clause-low
-product-requires-clause-low c = c.requires.low
-
-pub product-requires-clause-high : goal.product-requires-clause-high
-product-requires-clause-high c = c.requires.high
-
-pub product-requires-clause-below : goal.product-requires-clause-below
-product-requires-clause-below c = c.requires.below
+pub product-requires-clause-fanins : goal.product-requires-clause-fanins
+product-requires-clause-fanins c = record {
+  low = c.requires.low;
+  high = c.requires.high;
+  below = c.requires.below;
+}
 
 pub product-requires-clause-columns : goal.product-requires-clause-columns
 product-requires-clause-columns c =
     sym (length-map c.as_slice.result.now asked) ∙ (subst (HaveColumns (length c.args.fanins.now)) (one_row c.args.cubes.now c.index-cubes-0.result c.as_slice.result.now c.if-cubes-eq1.true c.index-cubes-0.is c.as_slice.ensures.bytes) c.requires.columns).0
 
-pub returns-then-cubes-eq1-clause-sop : goal.returns-then-cubes-eq1-clause-sop
-returns-then-cubes-eq1-clause-sop c = sum_one c.args.width c.requires.low c.args.table.now c.product.new.table c.len-count.ensures.made c.args.fanins.now (map asked c.as_slice.result.now) (map (map asked) c.args.cubes.now) c.in_ok-form.form (one_row c.args.cubes.now c.index-cubes-0.result c.as_slice.result.now c.if-cubes-eq1.true c.index-cubes-0.is c.as_slice.ensures.bytes) c.in_ok-form.ensures
-
-pub returns-then-cubes-eq1-clause-fac : goal.returns-then-cubes-eq1-clause-fac
-returns-then-cubes-eq1-clause-fac c =
-    let row = one_row c.args.cubes.now c.index-cubes-0.result c.as_slice.result.now c.if-cubes-eq1.true c.index-cubes-0.is c.as_slice.ensures.bytes in
+pub returns-then-cubes-eq1 : goal.returns-then-cubes-eq1
+returns-then-cubes-eq1 c = record {
+  sop = sum_one c.args.width c.requires.low c.args.table.now c.product.new.table c.len-count.ensures.made c.args.fanins.now (map asked c.as_slice.result.now) (map (map asked) c.args.cubes.now) c.in_ok-form.form (one_row c.args.cubes.now c.index-cubes-0.result c.as_slice.result.now c.if-cubes-eq1.true c.index-cubes-0.is c.as_slice.ensures.bytes) c.in_ok-form.ensures;
+  fac = let row = one_row c.args.cubes.now c.index-cubes-0.result c.as_slice.result.now c.if-cubes-eq1.true c.index-cubes-0.is c.as_slice.ensures.bytes in
     flat_made c.args.width c.args.table.now c.product.new.table c.args.fanins.now (map (map asked) c.args.cubes.now) c.in_ok-form.form (one_shared (length c.args.fanins.now) (map asked c.as_slice.result.now) (map (map asked) c.args.cubes.now) row)
-    (sum_one c.args.width c.requires.low c.args.table.now c.product.new.table c.len-count.ensures.made c.args.fanins.now (map asked c.as_slice.result.now) (map (map asked) c.args.cubes.now) c.in_ok-form.form row c.in_ok-form.ensures)
+    (sum_one c.args.width c.requires.low c.args.table.now c.product.new.table c.len-count.ensures.made c.args.fanins.now (map asked c.as_slice.result.now) (map (map asked) c.args.cubes.now) c.in_ok-form.form row c.in_ok-form.ensures);
+}
 
-pub sum_of_products-requires-clause-low : goal.sum_of_products-requires-clause-low
-sum_of_products-requires-clause-low c = c.requires.low
-
-pub sum_of_products-requires-clause-high : goal.sum_of_products-requires-clause-high
-sum_of_products-requires-clause-high c = c.requires.high
-
-pub sum_of_products-requires-clause-below : goal.sum_of_products-requires-clause-below
-sum_of_products-requires-clause-below c = c.requires.below
-
-pub sum_of_products-requires-clause-columns : goal.sum_of_products-requires-clause-columns
-sum_of_products-requires-clause-columns c = subst (HaveColumns (length c.args.fanins.now)) (sym (c.deref.ensures.value ∙ c.in_ok-rows.ensures)) c.requires.columns
+pub sum_of_products-requires : goal.sum_of_products-requires
+sum_of_products-requires c = record {
+  low = c.requires.low;
+  high = c.requires.high;
+  below = c.requires.below;
+  columns = subst (HaveColumns (length c.args.fanins.now)) (sym (c.deref.ensures.value ∙ c.in_ok-rows.ensures)) c.requires.columns;
+}
 
 pub have_shared-requires : goal.have_shared-requires
 have_shared-requires c = subst (HaveColumns (length c.args.fanins.now)) (sym (c.deref-2.ensures.value ∙ c.in_ok-rows.ensures)) c.requires.columns
 
-pub factored-requires-clause-low : goal.factored-requires-clause-low
-factored-requires-clause-low c = c.requires.low
+pub factored-requires : goal.factored-requires
+factored-requires c = record {
+  low = c.requires.low;
+  high = c.requires.high;
+  below = below_kept_more (made c.args.table.now) (made c.sum_of_products.new.table) c.args.fanins.now c.in_ok-sop.ensures.more c.requires.below;
+  columns = subst (HaveColumns (length c.args.fanins.now)) (sym c.in_ok-rows.ensures) c.requires.columns;
+}
 
-pub factored-requires-clause-high : goal.factored-requires-clause-high
-factored-requires-clause-high c = c.requires.high
-
-pub factored-requires-clause-columns : goal.factored-requires-clause-columns
-factored-requires-clause-columns c = subst (HaveColumns (length c.args.fanins.now)) (sym c.in_ok-rows.ensures) c.requires.columns
-
-pub factored-requires-clause-below : goal.factored-requires-clause-below
-factored-requires-clause-below c = below_kept_more (made c.args.table.now) (made c.sum_of_products.new.table) c.args.fanins.now c.in_ok-sop.ensures.more c.requires.below
-
-pub returns-clause-sop : goal.returns-clause-sop
-returns-clause-sop c =
-    made_still c.args.table.now c.sum_of_products.new.table c.factored.new.table c.in_ok-sop.sop (sum_of_products c.args.width (forms_at (made c.args.table.now) c.args.fanins.now) (map (map asked) c.args.cubes.now)) c.in_ok-fac.ensures.more
-    (subst (λ r. IsMadeAs c.args.table.now c.sum_of_products.new.table c.in_ok-sop.sop (sum_of_products c.args.width (forms_at (made c.args.table.now) c.args.fanins.now) r)) (c.deref.ensures.value ∙ c.in_ok-rows.ensures) c.in_ok-sop.ensures)
-
-pub returns-clause-fac : goal.returns-clause-fac
-returns-clause-fac c = factored_made c.args.width c.args.table.now c.sum_of_products.new.table c.factored.new.table c.args.fanins.now (map (map asked) c.args.cubes.now) c.in_ok-fac.fac c.in_ok-sop.ensures.more c.requires.below
-    (subst (λ r. IsMadeAs c.sum_of_products.new.table c.factored.new.table c.in_ok-fac.fac (factored c.args.width (forms_at (made c.sum_of_products.new.table) c.args.fanins.now) r)) c.in_ok-rows.ensures c.in_ok-fac.ensures)
+pub returns : goal.returns
+returns c = record {
+  sop = made_still c.args.table.now c.sum_of_products.new.table c.factored.new.table c.in_ok-sop.sop (sum_of_products c.args.width (forms_at (made c.args.table.now) c.args.fanins.now) (map (map asked) c.args.cubes.now)) c.in_ok-fac.ensures.more
+    (subst (λ r. IsMadeAs c.args.table.now c.sum_of_products.new.table c.in_ok-sop.sop (sum_of_products c.args.width (forms_at (made c.args.table.now) c.args.fanins.now) r)) (c.deref.ensures.value ∙ c.in_ok-rows.ensures) c.in_ok-sop.ensures);
+  fac = factored_made c.args.width c.args.table.now c.sum_of_products.new.table c.factored.new.table c.args.fanins.now (map (map asked) c.args.cubes.now) c.in_ok-fac.fac c.in_ok-sop.ensures.more c.requires.below
+    (subst (λ r. IsMadeAs c.sum_of_products.new.table c.factored.new.table c.in_ok-fac.fac (factored c.args.width (forms_at (made c.sum_of_products.new.table) c.args.fanins.now) r)) c.in_ok-rows.ensures c.in_ok-fac.ensures);
+}

@@ -9,8 +9,12 @@ use Rattle.lw_form.proofs.products.cubes.Goals as goal
 pub loop-row-init : goal.loop-row-init
 loop-row-init c = cubes_first _ _ _ _ _ c.new-cubes.ensures.items
 
-pub product-requires-clause-below : goal.product-requires-clause-below
-product-requires-clause-below c = below_kept_more (made c.args.table.now) (made c.loop-row.table) c.args.fanins.now c.loop-row.invariant.more c.requires.below
+pub product-requires-clause-fanins : goal.product-requires-clause-fanins
+product-requires-clause-fanins c = record {
+  low = c.requires.low;
+  high = c.requires.high;
+  below = below_kept_more (made c.args.table.now) (made c.loop-row.table) c.args.fanins.now c.loop-row.invariant.more c.requires.below;
+}
 
 pub product-requires-clause-columns : goal.product-requires-clause-columns
 product-requires-clause-columns c = sym (length-map c.as_slice.result.now asked) ∙ (ap length c.as_slice.ensures ∙ columns_at (length c.args.fanins.now) c.args.rows.now c.loop-row.row-index c.row-item.result c.requires.columns c.loop-row-test.true c.row-item.is)

@@ -5,8 +5,12 @@ use Rattle.lw_form.specs.Tables.{made, forms_at, AreBelow, IsMadeAs}
 use Rattle.lw_form.proofs.Rows.{sum_made}
 use Rattle.lw_form.proofs.products.sum_of_products.Goals as goal
 
-pub disjunction-requires-clause-below : goal.disjunction-requires-clause-below
-disjunction-requires-clause-below c = subst (AreBelow (length (made c.cubes.new.table))) (sym c.deref.ensures) c.in_ok-cubes.ensures.within
+pub disjunction-requires : goal.disjunction-requires
+disjunction-requires c = record {
+  low = c.requires.low;
+  high = c.requires.high;
+  below = subst (AreBelow (length (made c.cubes.new.table))) (sym c.deref.ensures) c.in_ok-cubes.ensures.within;
+}
 
 pub returns : goal.returns
 returns c = IfOk-weaker c.disjunction.result _ _ (λ form m. sum_made c.args.width c.args.table.now c.cubes.new.table c.disjunction.new.table c.args.fanins.now c.in_ok-cubes.cubes.items c.args.rows.now form c.in_ok-cubes.ensures (subst (λ (l : List ℕ). IsMadeAs c.cubes.new.table c.disjunction.new.table form (disjunction c.args.width (forms_at (made c.cubes.new.table) l))) c.deref.ensures m)) c.disjunction.ensures

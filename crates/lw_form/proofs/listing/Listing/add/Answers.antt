@@ -1,14 +1,18 @@
 use Rattle.std.proofs.Common.{◌∙◌, subst, ap, arith}
 use Rattle.lw_laws.specs.Occurring.{add_form}
 use Rattle.lw_laws.specs.SignalValues.{form_of}
-use Rattle.lw_form.specs.Listed.{bases_of, plain_steps, steps_size, IsAdding}
+use Rattle.lw_form.specs.Listed.{bases_of, plain_steps, steps_size, IsAdding, IsTooLong}
 use Rattle.lw_form.specs.Tables.{made}
 use Rattle.lw_form.proofs.Joining.{more_same, more_twice}
-use Rattle.lw_form.proofs.ListedForms.{sizes_last, adding_first, add_placed}
+use Rattle.lw_form.proofs.ListedForms.{sizes_last, adding_first, add_placed, err_is}
 use Rattle.lw_form.proofs.listing.Listing.add.Goals as goal
 
-pub returns-then-place-clause-bases : goal.returns-then-place-clause-bases
-returns-then-place-clause-bases c = add_placed (made c.args.table.now) c.args.self.now.listed.items c.args.self.now.places.items c.args.form c.len-count.ensures.made c.requires.within c.requires.listed (λ e. c.if-place.true (c.place.ensures ∙ e))
+pub returns-then-place-clause-listed : goal.returns-then-place-clause-listed
+returns-then-place-clause-listed c = record {
+  more = more_same (made c.args.table.now);
+  listed = c.requires.listed;
+  bases = add_placed (made c.args.table.now) c.args.self.now.listed.items c.args.self.now.places.items c.args.form c.len-count.ensures.made c.requires.within c.requires.listed (λ e. c.if-place.true (c.place.ensures ∙ e));
+}
 
 pub steps-init : goal.steps-init
 steps-init c = record {
@@ -23,11 +27,16 @@ pub steps-smaller : goal.steps-smaller
 steps-smaller c =
     let a = ap (λ s. steps_size (plain_steps (made c.steps.table) s)) c.in-Some.ensures.items in
     let b = sizes_last (made c.steps.table) c.pop.new.self.items c.in-Some.step in
-    let l = c.in_ok-advance.ensures.less in
+    let l = c.in_ok-advance.ensures.step.less in
     omega arith
 
 pub steps-preserved : goal.steps-preserved
 steps-preserved c = record {
-  more = more_twice (made c.args.table.now) (made c.steps.table) (made c.advance.new.table) c.steps.invariant.more c.in_ok-advance.ensures.more;
-  adding = c.in_ok-advance.ensures.adding _ (subst (λ s. IsAdding c.steps.table c.steps.self.listed.items c.steps.self.places.items s (add_form (form_of (made c.args.table.now) c.args.form) (bases_of (made c.args.table.now) c.args.self.now.listed.items))) c.in-Some.ensures.items c.steps.invariant.adding);
+  more = more_twice (made c.args.table.now) (made c.steps.table) (made c.advance.new.table) c.steps.invariant.more c.in_ok-advance.ensures.step.more;
+  adding = c.in_ok-advance.ensures.step.adding _ (subst (λ s. IsAdding c.steps.table c.steps.self.listed.items c.steps.self.places.items s (add_form (form_of (made c.args.table.now) c.args.form) (bases_of (made c.args.table.now) c.args.self.now.listed.items))) c.in-Some.ensures.items c.steps.invariant.adding);
 }
+
+pub returns-in_err-advance-clause-fault : goal.returns-in_err-advance-clause-fault
+returns-in_err-advance-clause-fault c = 
+    err_is (IsTooLong (add_form (form_of (made c.args.table.now) c.args.form) (bases_of (made c.args.table.now) c.args.self.now.listed.items))) c.from_residual-in_err-advance.result c.in_err-advance.field-0.0 c.from_residual-in_err-advance.ensures.1
+    (c.in_err-advance.ensures.fault _ (subst (λ s. IsAdding c.steps.table c.steps.self.listed.items c.steps.self.places.items s (add_form (form_of (made c.args.table.now) c.args.form) (bases_of (made c.args.table.now) c.args.self.now.listed.items))) c.in-Some.ensures.items c.steps.invariant.adding))

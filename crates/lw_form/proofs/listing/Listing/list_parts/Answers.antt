@@ -13,10 +13,14 @@ pub list_part-requires-clause-below : goal.list_part-requires-clause-below
 list_part-requires-clause-below c = subst (AreBelow _) (sym c.picked.ensures) (below_picked _ c.args.ids.now c.loop-mask.mask (below_kept_more (made c.args.table.now) (made c.loop-mask.table) c.args.ids.now c.loop-mask.invariant.more c.requires.below))
 
 pub loop-mask-preserved : goal.loop-mask-preserved
-loop-mask-preserved c = parts_more c.args.table.now c.loop-mask.table c.list_part.new.table c.args.ids.now (bases_of (made c.args.table.now) c.args.self.now.listed.items) c.loop-mask.mask c.loop-mask.self.listed.items c.loop-mask.self.places.items c.list_part.new.self.listed.items c.list_part.new.self.places.items c.requires.below (let e = c.mask_end-mask-end.ensures in let t = c.loop-mask-test.true in omega arith) c.loop-mask.invariant c.in_ok-list_part.ensures.more c.in_ok-list_part.ensures.listed (subst (λ l. bases_of (made c.list_part.new.table) c.list_part.new.self.listed.items ≡ append_part (forms_at (made c.loop-mask.table) l) (bases_of (made c.loop-mask.table) c.loop-mask.self.listed.items)) c.picked.ensures c.in_ok-list_part.ensures.bases)
+loop-mask-preserved c = parts_more c.args.table.now c.loop-mask.table c.list_part.new.table c.args.ids.now (bases_of (made c.args.table.now) c.args.self.now.listed.items) c.loop-mask.mask c.loop-mask.self.listed.items c.loop-mask.self.places.items c.list_part.new.self.listed.items c.list_part.new.self.places.items c.requires.below (let e = c.mask_end-mask-end.ensures in let t = c.loop-mask-test.true in omega arith) c.loop-mask.invariant c.in_ok-list_part.ensures.listed.more c.in_ok-list_part.ensures.listed.listed (subst (λ l. bases_of (made c.list_part.new.table) c.list_part.new.self.listed.items ≡ append_part (forms_at (made c.loop-mask.table) l) (bases_of (made c.loop-mask.table) c.loop-mask.self.listed.items)) c.picked.ensures c.in_ok-list_part.ensures.listed.bases)
 
-pub returns-clause-bases : goal.returns-clause-bases
-returns-clause-bases c = parts_done c.args.table.now c.loop-mask.table c.args.ids.now (bases_of (made c.args.table.now) c.args.self.now.listed.items) c.loop-mask.mask c.loop-mask.self.listed.items c.loop-mask.self.places.items (let e = c.mask_end-mask-end.ensures in let t = c.loop-mask-test.false in omega arith) c.loop-mask.invariant
+pub returns-clause-listed : goal.returns-clause-listed
+returns-clause-listed c = record {
+  more = c.loop-mask.invariant.more;
+  listed = c.loop-mask.invariant.listed_is;
+  bases = parts_done c.args.table.now c.loop-mask.table c.args.ids.now (bases_of (made c.args.table.now) c.args.self.now.listed.items) c.loop-mask.mask c.loop-mask.self.listed.items c.loop-mask.self.places.items (let e = c.mask_end-mask-end.ensures in let t = c.loop-mask-test.false in omega arith) c.loop-mask.invariant;
+}
 
 pub returns-in_err-list_part-clause-fault : goal.returns-in_err-list_part-clause-fault
 returns-in_err-list_part-clause-fault c =

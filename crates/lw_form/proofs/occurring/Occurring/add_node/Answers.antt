@@ -16,26 +16,26 @@ use Rattle.lw_form.proofs.occurring.Occurring.add_node.Goals as goal
 use Rattle.lw_pool.specs.Numbers.{net_number}
 use Rattle.lw_form.proofs.FactoringSteps.{signed_below}
 
-pub both_forms-requires-clause-below : goal.both_forms-requires-clause-below
-both_forms-requires-clause-below c = let (signals, w) = c.requires.listed in subst (AreBelow (length (made c.args.self.now.table))) (sym (c.deref-2.ensures ∙ (c.in_ok-fanins.ensures ∙ ap₂ (λ s n. map (λ net. slice_index_or s net 0) (map net_number n)) c.deref.ensures.value c.as_slice.ensures))) (fanins_below (length (made c.args.self.now.table)) c.args.self.now.sops.items (map net_number c.args.node.now.fanins) w.sops_below (are_nets (length c.args.self.now.sops.items) c.args.node.now.fanins c.requires.fanins))
+pub both_forms-requires : goal.both_forms-requires
+both_forms-requires c = record {
+  low = c.requires.low;
+  high = c.requires.high;
+  below = let (signals, w) = c.requires.listed in subst (AreBelow (length (made c.args.self.now.table))) (sym (c.deref-2.ensures ∙ (c.in_ok-fanins.ensures ∙ ap₂ (λ s n. map (λ net. slice_index_or s net 0) (map net_number n)) c.deref.ensures.value c.as_slice.ensures))) (fanins_below (length (made c.args.self.now.table)) c.args.self.now.sops.items (map net_number c.args.node.now.fanins) w.sops_below (are_nets (length c.args.self.now.sops.items) c.args.node.now.fanins c.requires.fanins));
+  columns = subst (λ n. HaveColumns n (map (map asked) c.as_slice-2.result.now)) (sym (ap length (c.deref-2.ensures ∙ (c.in_ok-fanins.ensures ∙ ap₂ (λ s n. map (λ net. slice_index_or s net 0) (map net_number n)) c.deref.ensures.value c.as_slice.ensures)) ∙ (length-map (map net_number c.args.node.now.fanins) (λ net. slice_index_or c.args.self.now.sops.items net 0) ∙ length-map c.args.node.now.fanins net_number))) (subst (λ r. HaveColumns (length c.args.node.now.fanins) (map (map asked) r)) (sym c.as_slice-2.ensures) (have_columns (length c.args.node.now.fanins) c.args.node.now.rows c.requires.columns));
+}
 
-pub both_forms-requires-clause-columns : goal.both_forms-requires-clause-columns
-both_forms-requires-clause-columns c = subst (λ n. HaveColumns n (map (map asked) c.as_slice-2.result.now)) (sym (ap length (c.deref-2.ensures ∙ (c.in_ok-fanins.ensures ∙ ap₂ (λ s n. map (λ net. slice_index_or s net 0) (map net_number n)) c.deref.ensures.value c.as_slice.ensures)) ∙ (length-map (map net_number c.args.node.now.fanins) (λ net. slice_index_or c.args.self.now.sops.items net 0) ∙ length-map c.args.node.now.fanins net_number))) (subst (λ r. HaveColumns (length c.args.node.now.fanins) (map (map asked) r)) (sym c.as_slice-2.ensures) (have_columns (length c.args.node.now.fanins) c.args.node.now.rows c.requires.columns))
-
-pub add_net-requires-clause-listed : goal.add_net-requires-clause-listed
-add_net-requires-clause-listed c = let (signals, w) = c.requires.listed in (signals, listed_more c.args.self.now.table c.both_forms.new.table c.args.self.now.listing.listed.items c.args.self.now.listing.places.items c.args.self.now.sops.items c.args.self.now.facs.items signals c.in_ok-sop.ensures.sop.more w)
-
-pub add_net-requires-clause-sop : goal.add_net-requires-clause-sop
-add_net-requires-clause-sop c = subst (λ n. n / 2 < length (made c.both_forms.new.table)) (sym c.signed.ensures) (signed_below (length (made c.both_forms.new.table)) c.args.node.now.on c.in_ok-sop.sop c.in_ok-sop.ensures.sop.within)
-
-pub add_net-requires-clause-fac : goal.add_net-requires-clause-fac
-add_net-requires-clause-fac c = subst (λ n. n / 2 < length (made c.both_forms.new.table)) (sym c.signed-2.ensures) (signed_below (length (made c.both_forms.new.table)) c.args.node.now.on c.in_ok-sop.fac c.in_ok-sop.ensures.fac.within)
-
-pub returns-clause-more : goal.returns-clause-more
-returns-clause-more c = on_ok_weaker c.add_net.result (λ m. more_twice (made c.args.self.now.table) (made c.both_forms.new.table) (made c.add_net.new.self.table) c.in_ok-sop.ensures.sop.more m) c.add_net.ensures.more
-
-pub returns-clause-listed : goal.returns-clause-listed
-returns-clause-listed c = on_ok_weaker c.add_net.result (λ h signals w. subst (λ s. AreListed c.add_net.new.self.table c.add_net.new.self.listing.listed.items c.add_net.new.self.listing.places.items c.add_net.new.self.sops.items c.add_net.new.self.facs.items (signals ++ s ∷ [])) (ap₂ (signal_at (made c.both_forms.new.table)) c.signed.ensures c.signed-2.ensures ∙ node_signal c.args.width c.args.self.now.table c.both_forms.new.table c.args.self.now.sops.items c.args.self.now.facs.items (map net_number c.args.node.now.fanins) c.deref-2.result.now signals (map (map asked) c.args.node.now.rows) c.args.node.now.on c.in_ok-sop.sop c.in_ok-sop.fac c.len-count.ensures.made w.one_each w.signals_are (are_nets (length c.args.self.now.sops.items) c.args.node.now.fanins c.requires.fanins) (c.deref-2.ensures ∙ (c.in_ok-fanins.ensures ∙ ap₂ (λ s n. map (λ net. slice_index_or s net 0) (map net_number n)) c.deref.ensures.value c.as_slice.ensures)) (subst (λ r. IsMadeAs c.args.self.now.table c.both_forms.new.table c.in_ok-sop.sop (sum_of_products c.args.width (forms_at (made c.args.self.now.table) c.deref-2.result.now) (map (map asked) r))) c.as_slice-2.ensures c.in_ok-sop.ensures.sop) (subst (λ r. IsMadeAs c.args.self.now.table c.both_forms.new.table c.in_ok-sop.fac (factored c.args.width (forms_at (made c.args.self.now.table) c.deref-2.result.now) (map (map asked) r))) c.as_slice-2.ensures c.in_ok-sop.ensures.fac)) (h signals (listed_more c.args.self.now.table c.both_forms.new.table c.args.self.now.listing.listed.items c.args.self.now.listing.places.items c.args.self.now.sops.items c.args.self.now.facs.items signals c.in_ok-sop.ensures.sop.more w))) c.add_net.ensures.listed
+pub add_net-requires : goal.add_net-requires
+add_net-requires c = record {
+  listed = let (signals, w) = c.requires.listed in (signals, listed_more c.args.self.now.table c.both_forms.new.table c.args.self.now.listing.listed.items c.args.self.now.listing.places.items c.args.self.now.sops.items c.args.self.now.facs.items signals c.in_ok-sop.ensures.sop.more w);
+  sop = subst (λ n. n / 2 < length (made c.both_forms.new.table)) (sym c.signed.ensures) (signed_below (length (made c.both_forms.new.table)) c.args.node.now.on c.in_ok-sop.sop c.in_ok-sop.ensures.sop.within);
+  fac = subst (λ n. n / 2 < length (made c.both_forms.new.table)) (sym c.signed-2.ensures) (signed_below (length (made c.both_forms.new.table)) c.args.node.now.on c.in_ok-sop.fac c.in_ok-sop.ensures.fac.within);
+}
 
 pub returns-clause-fault : goal.returns-clause-fault
 returns-clause-fault c = if_err c.add_net.result (λ e h signals w. subst (λ s. IsTooLong (add_signals (signals ++ s ∷ []) (true_form ∷ [])) e) (ap₂ (signal_at (made c.both_forms.new.table)) c.signed.ensures c.signed-2.ensures ∙ node_signal c.args.width c.args.self.now.table c.both_forms.new.table c.args.self.now.sops.items c.args.self.now.facs.items (map net_number c.args.node.now.fanins) c.deref-2.result.now signals (map (map asked) c.args.node.now.rows) c.args.node.now.on c.in_ok-sop.sop c.in_ok-sop.fac c.len-count.ensures.made w.one_each w.signals_are (are_nets (length c.args.self.now.sops.items) c.args.node.now.fanins c.requires.fanins) (c.deref-2.ensures ∙ (c.in_ok-fanins.ensures ∙ ap₂ (λ s n. map (λ net. slice_index_or s net 0) (map net_number n)) c.deref.ensures.value c.as_slice.ensures)) (subst (λ r. IsMadeAs c.args.self.now.table c.both_forms.new.table c.in_ok-sop.sop (sum_of_products c.args.width (forms_at (made c.args.self.now.table) c.deref-2.result.now) (map (map asked) r))) c.as_slice-2.ensures c.in_ok-sop.ensures.sop) (subst (λ r. IsMadeAs c.args.self.now.table c.both_forms.new.table c.in_ok-sop.fac (factored c.args.width (forms_at (made c.args.self.now.table) c.deref-2.result.now) (map (map asked) r))) c.as_slice-2.ensures c.in_ok-sop.ensures.fac)) (h signals (listed_more c.args.self.now.table c.both_forms.new.table c.args.self.now.listing.listed.items c.args.self.now.listing.places.items c.args.self.now.sops.items c.args.self.now.facs.items signals c.in_ok-sop.ensures.sop.more w))) c.add_net.ensures.fault
+
+pub returns-clause-adds : goal.returns-clause-adds
+returns-clause-adds c = on_ok_weaker c.add_net.result (λ a. record {
+  more = more_twice (made c.args.self.now.table) (made c.both_forms.new.table) (made c.add_net.new.self.table) c.in_ok-sop.ensures.sop.more a.more;
+  listed = λ signals w. subst (λ s. AreListed c.add_net.new.self.table c.add_net.new.self.listing.listed.items c.add_net.new.self.listing.places.items c.add_net.new.self.sops.items c.add_net.new.self.facs.items (signals ++ s ∷ [])) (ap₂ (signal_at (made c.both_forms.new.table)) c.signed.ensures c.signed-2.ensures ∙ node_signal c.args.width c.args.self.now.table c.both_forms.new.table c.args.self.now.sops.items c.args.self.now.facs.items (map net_number c.args.node.now.fanins) c.deref-2.result.now signals (map (map asked) c.args.node.now.rows) c.args.node.now.on c.in_ok-sop.sop c.in_ok-sop.fac c.len-count.ensures.made w.one_each w.signals_are (are_nets (length c.args.self.now.sops.items) c.args.node.now.fanins c.requires.fanins) (c.deref-2.ensures ∙ (c.in_ok-fanins.ensures ∙ ap₂ (λ s n. map (λ net. slice_index_or s net 0) (map net_number n)) c.deref.ensures.value c.as_slice.ensures)) (subst (λ r. IsMadeAs c.args.self.now.table c.both_forms.new.table c.in_ok-sop.sop (sum_of_products c.args.width (forms_at (made c.args.self.now.table) c.deref-2.result.now) (map (map asked) r))) c.as_slice-2.ensures c.in_ok-sop.ensures.sop) (subst (λ r. IsMadeAs c.args.self.now.table c.both_forms.new.table c.in_ok-sop.fac (factored c.args.width (forms_at (made c.args.self.now.table) c.deref-2.result.now) (map (map asked) r))) c.as_slice-2.ensures c.in_ok-sop.ensures.fac)) (a.listed signals (listed_more c.args.self.now.table c.both_forms.new.table c.args.self.now.listing.listed.items c.args.self.now.listing.places.items c.args.self.now.sops.items c.args.self.now.facs.items signals c.in_ok-sop.ensures.sop.more w));
+}) c.add_net.ensures.adds

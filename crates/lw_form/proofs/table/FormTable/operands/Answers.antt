@@ -1,11 +1,11 @@
 use Rattle.std.proofs.Common.{◌≡◌, ◌-◌, ◌<◌, ◌+◌, List, ℕ, arith, subst, ◌∙◌, sym, ap, Some, slice_get, get_or, refl, length}
 use Rattle.std.proofs.lemmas.Option.{slice_get_read}
-use Rattle.lw_form.specs.Tables.{Table, made, spelled, IsSimple, AreBelow}
-use Rattle.lw_form.proofs.Tables.{simple_form, simple_kind, and_at, key_below, forms_count}
+use Rattle.lw_form.specs.Tables.{Table, made, spelled, AreBelow}
+use Rattle.lw_form.proofs.Tables.{simple_kind, and_at, key_below, forms_count}
 use Rattle.lw_form.proofs.table.FormTable.operands.Goals as goal
 
 pub returns-then-b-self-clause-simple : goal.returns-then-b-self-clause-simple
-returns-then-b-self-clause-simple c = rw (← c.self.view_is) (simple_form (record { inputs = c.self.inside.inputs; keys = c.self.inside.ands.keys }) c.args.b (let l = c.if-b-self.true in omega arith))
+returns-then-b-self-clause-simple c = rw (← c.self.view_is) (simple_kind (record { inputs = c.self.inside.inputs; keys = c.self.inside.ands.keys }) c.args.b (let l = c.if-b-self.true in omega arith))
 
 pub bounds-ands-b : goal.bounds-ands-b
 bounds-ands-b c =
@@ -25,11 +25,8 @@ key c =
     let past = c.if-b-self.false in
     slice_get_read c.self.inside.ands.keys (length c.self.inside.ands.keys) (c.args.b - c.self.inside.inputs - 1) c.index-ands-b.result refl (omega arith) (c.index-ands-b.is ∙ ap (λ l. get_or l (c.args.b - c.self.inside.inputs - 1) c.index-ands-b.result) ands)
 
-pub returns-clause-and_is : goal.returns-clause-and_is
-returns-clause-and_is c = rw (← c.self.view_is) (and_at (record { inputs = c.self.inside.inputs; keys = c.self.inside.ands.keys }) c.args.b c.index-ands-b.result c.self.invariant c.if-b-self.false (key c))
-
-pub returns-clause-below : goal.returns-clause-below
-returns-clause-below c = rw (← c.self.view_is) (key_below (record { inputs = c.self.inside.inputs; keys = c.self.inside.ands.keys }) c.self.invariant (c.args.b - c.self.inside.inputs - 1) c.index-ands-b.result (key c))
-
-pub returns-then-b-self-clause-kind : goal.returns-then-b-self-clause-kind
-returns-then-b-self-clause-kind c = rw (← c.self.view_is) (simple_kind (record { inputs = c.self.inside.inputs; keys = c.self.inside.ands.keys }) c.args.b (let l = c.if-b-self.true in omega arith))
+pub returns-clause-spelled : goal.returns-clause-spelled
+returns-clause-spelled c = rw (← c.self.view_is) (record {
+  and_is = and_at (record { inputs = c.self.inside.inputs; keys = c.self.inside.ands.keys }) c.args.b c.index-ands-b.result c.self.invariant c.if-b-self.false (key c);
+  below = key_below (record { inputs = c.self.inside.inputs; keys = c.self.inside.ands.keys }) c.self.invariant (c.args.b - c.self.inside.inputs - 1) c.index-ands-b.result (key c);
+})
