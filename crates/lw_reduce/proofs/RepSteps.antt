@@ -77,6 +77,17 @@ module _ (n : ℕ) (nands : List Fact) (links : List Link) where
   step_false old mid new b b' r p q s e =
       subst (λ c. Progresses n nands links old new c) (sym e) (progress_false old mid new b p (subst (λ c. Progresses (length mid) nands links mid new c) s q))
 
+  -- a change of some that stayed such, and one more: something changed where it did in either
+  pub either_progress : (old fl mid new : List ℕ) (b e r : Bool) → StayRepresentatives n nands links old fl → Progresses (length fl) nands links fl mid b → Progresses (length mid) nands links mid new e → (r ≡ true → (b ≡ true) ⊎ (e ≡ true)) → Progresses n nands links old new r
+  either_progress old fl mid new b e r p q s either =
+      let t : Progresses n nands links fl mid b = subst (λ m. Progresses m nands links fl mid b) p.valid.count q in
+      let u : Progresses n nands links mid new e = subst (λ m. Progresses m nands links mid new e) t.valid.count s in
+      record { valid = u.valid; low = let k = p.low in let l = t.low in let m = u.low in omega arith; falls = λ c. by_change t u (either c) }
+    where
+      by_change : Progresses n nands links fl mid b → Progresses n nands links mid new e → (b ≡ true) ⊎ (e ≡ true) → rep_weight new < rep_weight old
+      by_change t u (inl c) = let f = t.falls c in let k = p.low in let m = u.low in omega arith
+      by_change t u (inr c) = let f = u.falls c in let k = p.low in let m = t.low in omega arith
+
   pub agree_more : (old mid new : List ℕ) (i : ℕ) (d : Link) → IsFlat old → i < length links → (mid ≡ old) × AllWithin (LinkAgrees old) links 0 i → (IsFlat mid → (new ≡ mid) × LinkAgrees mid (get_or links i d)) → (new ≡ old) × AllWithin (LinkAgrees old) links 0 (i + 1)
   agree_more old mid new i d f lt (m, a) more =
       let (s, l) = more (subst IsFlat (sym m) f) in

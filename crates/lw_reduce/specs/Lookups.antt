@@ -1,10 +1,12 @@
 -- What a look-up in the table of facts gives.
-use Rattle.std.specs.Prelude.{ℕ, ◌<◌, ◌≡◌, ⊤, List, Contains}
+use Rattle.std.specs.Prelude.{ℕ, ◌^◌, ◌<◌, ◌≤◌, ◌≡◌, ⊤, List, All, Contains, length, slice_index_or}
 use Rattle.lw_reduce.specs.declared.propagate.Lookup.{Lookup}
+use Rattle.lw_reduce.specs.declared.propagate.Operands.{Operands}
 use Rattle.lw_reduce.specs.declared.propagate.Lookup.TheVariants.{Form, Free, Full}
 use Rattle.lw_reduce.specs.declared.facts.Fact.{Fact}
 use Rattle.lw_reduce.specs.declared.facts.Link.{Link}
-use Rattle.lw_reduce.specs.Representatives.{HasOperands}
+use Rattle.lw_reduce.specs.Representatives.{AreRepresentatives, HasOperands, StayRepresentatives}
+use Rattle.lw_reduce.specs.Settling.{IsImplied, no_fact}
 
 -- a listed fact with these operands has this form
 abbrev pub HasFact : ℕ → List Fact → List Link → ℕ → ℕ → ℕ → Type 0
@@ -15,3 +17,46 @@ abbrev pub IsLookup : ℕ → List Fact → List Link → ℕ → ℕ → ℕ �
 IsLookup n nands links slots low high (Form form) = HasFact n nands links low high form
 IsLookup n nands links slots low high (Free slot) = slot < slots
 IsLookup n nands links slots low high Full = ⊤
+
+-- representatives with their slots: each slot has 0, or the place after that of a fact
+pub record HaveSlots (nands : List Fact) (links : List Link) (reps slots : List ℕ) : Type 0 where
+  pub valid : AreRepresentatives (length reps) nands links reps
+  pub some : 0 < length slots
+  pub places : All (λ e. e ≤ length nands) slots
+
+-- so they are, and the fact at a place has these operands
+pub record CanInsert (nands : List Fact) (links : List Link) (reps slots : List ℕ) (place : ℕ) (o : Operands) : Type 0 where
+  pub valid : AreRepresentatives (length reps) nands links reps
+  pub some : 0 < length slots
+  pub places : All (λ e. e ≤ length nands) slots
+  pub within : place < length nands
+  pub few : length nands < 2 ^ 32
+  pub operands : HasOperands (length reps) nands links (slice_index_or nands place no_fact) o.low o.high
+
+-- so they are, and facts over representatives follow from the facts
+pub record CanVisitAll (nands : List Fact) (links : List Link) (reps slots : List ℕ) (facts : List Fact) : Type 0 where
+  pub valid : AreRepresentatives (length reps) nands links reps
+  pub canonical : All (IsImplied (length reps) nands links) facts
+  pub some : 0 < length slots
+  pub places : All (λ e. e ≤ length nands) slots
+  pub few : length nands < 2 ^ 32
+
+-- and there is a fact at the place
+pub record CanVisit (nands : List Fact) (links : List Link) (reps slots : List ℕ) (facts : List Fact) (place : ℕ) : Type 0 where
+  pub valid : AreRepresentatives (length reps) nands links reps
+  pub canonical : All (IsImplied (length reps) nands links) facts
+  pub some : 0 < length slots
+  pub places : All (λ e. e ≤ length nands) slots
+  pub within : place < length nands
+  pub few : length nands < 2 ^ 32
+
+-- representatives stay such, and what was looked up is found
+pub record LooksUp (n : ℕ) (nands : List Fact) (links : List Link) (old new slots : List ℕ) (o : Operands) (answer : Lookup) : Type 0 where
+  pub kept : StayRepresentatives n nands links old new
+  pub found : IsLookup n nands links (length slots) o.low o.high answer
+
+-- representatives stay such, and slots are still slots
+pub record KeepSlots (n : ℕ) (nands : List Fact) (links : List Link) (old new slots later : List ℕ) : Type 0 where
+  pub kept : StayRepresentatives n nands links old new
+  pub places : All (λ e. e ≤ length nands) later
+  pub len : length later ≡ length slots

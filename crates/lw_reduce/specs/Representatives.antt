@@ -1,5 +1,5 @@
 -- Representatives of forms, as in union-find, and when they are sound and closed.
-use Rattle.std.specs.Prelude.{ℕ, ◌*◌, ◌/◌, ◌%◌, ◌<◌, ◌≤◌, Bool, true, All, ◌≡◌, ◌==◌, ◌⊎◌, List, length, Contains, slice_index, sum_by, if◌then◌else◌}
+use Rattle.std.specs.Prelude.{ℕ, ◌*◌, ◌/◌, ◌%◌, ◌<◌, ◌≤◌, Bool, true, IsFalse, All, ◌≡◌, ◌==◌, ◌⊎◌, List, length, Contains, slice_index, sum_by, if◌then◌else◌}
 use Rattle.lw_laws.specs.Flip.{flip}
 use Rattle.lw_laws.specs.Families.{Family, IsNand, Equivalent}
 use Rattle.lw_reduce.specs.declared.facts.Fact.{Fact}
@@ -102,3 +102,15 @@ HasOperands n nands links p low high =
 -- a base form's representative is itself or a form of a lower one
 abbrev pub IsLower : List ℕ → Type 0
 IsLower reps = (b : ℕ) → b < length reps → (slice_index reps b ≡ 2 * b) ⊎ (slice_index reps b / 2 < b)
+
+-- these forms can be given one representative: they are equivalent
+pub record CanUnify (nands : List Fact) (links : List Link) (reps : List ℕ) (f h : ℕ) : Type 0 where
+  pub valid : AreRepresentatives (length reps) nands links reps
+  pub left : f / 2 < length reps
+  pub right : h / 2 < length reps
+  pub alike : Equivalent (family (length reps) nands links) f h
+
+-- Forms were unified, or not: then flat representatives are the same, and agree.
+pub record Unifies (n : ℕ) (nands : List Fact) (links : List Link) (old new : List ℕ) (changed : Bool) (agree : Type 0) : Type 0 where
+  pub progress : Progresses n nands links old new changed
+  pub same : IsFalse changed → IsFlat old → (new ≡ old) × agree

@@ -1,10 +1,11 @@
 -- Canonical facts, over representatives, sorted by their operands; and when representatives are settled.
-use Rattle.std.specs.Prelude.{ℕ, ◌+◌, ◌-◌, ◌*◌, ◌/◌, ◌^◌, ◌<◌, ◌≤◌, ◌≡◌, min, max, List, length, map, Contains, All, slice_index_or}
+use Rattle.std.specs.Prelude.{ℕ, ◌+◌, ◌-◌, ◌*◌, ◌/◌, ◌^◌, ◌<◌, ◌≤◌, ◌≡◌, IsFalse, min, max, List, length, map, Contains, All, slice_index_or}
 use Rattle.std.specs.List.Sorted.{IsNonDecreasingBy, IsPermutation}
 use Rattle.lw_laws.specs.Families.{Equivalent}
 use Rattle.lw_reduce.specs.declared.facts.Fact.{Fact}
 use Rattle.lw_reduce.specs.declared.facts.Link.{Link}
-use Rattle.lw_reduce.specs.Representatives.{AreRepresentatives, HasOperands, IsFlat, LinkAgrees, family, rep_of}
+use Rattle.lw_reduce.specs.declared.rounds.RoundOutcome.{RoundOutcome}
+use Rattle.lw_reduce.specs.Representatives.{AreRepresentatives, HasOperands, IsFlat, LinkAgrees, Progresses, family, rep_of}
 
 -- the fact over representatives, the lower operand first
 abbrev pub canonical_fact : List ℕ → Fact → Fact
@@ -59,3 +60,30 @@ operands_key reps p = fact_key (canonical_fact reps p)
 abbrev pub HaveDistinctOperands : List ℕ → List Fact → Type 0
 HaveDistinctOperands reps nands =
     (p q : Fact) → Contains nands p → Contains nands q → operands_key reps p ≡ operands_key reps q → p ≡ q
+
+-- facts over representatives follow from the facts, and two of them stand at a place and before it
+pub record CanUnifyAt (nands : List Fact) (links : List Link) (reps : List ℕ) (facts : List Fact) (place : ℕ) : Type 0 where
+  pub valid : AreRepresentatives (length reps) nands links reps
+  pub canonical : All (IsImplied (length reps) nands links) facts
+  pub start : 1 ≤ place
+  pub within : place < length facts
+
+-- one round: what it gives follows from the facts, and where nothing changed, the representatives are settled
+pub record IsOutcome (n : ℕ) (nands : List Fact) (links : List Link) (old new : List ℕ) (r : RoundOutcome) : Type 0 where
+  pub progress : Progresses n nands links old new r.changed
+  pub canonical : All (IsImplied n nands links) r.canonical.items
+  pub settled : IsFalse r.changed → IsSettled n nands links new r.canonical.items
+
+-- representatives of the base forms of a draft
+pub record AreDraftReps (inputs : ℕ) (nands : List Fact) (links : List Link) (reps : List ℕ) : Type 0 where
+  pub valid : AreRepresentatives (length reps) nands links reps
+  pub few : length reps < 2 ^ 31
+  pub inputs_in : inputs < length reps
+  pub few_nands : length nands < 2 ^ 32 - 1
+
+-- settled ones
+pub record AreSettledReps (inputs : ℕ) (nands : List Fact) (links : List Link) (reps : List ℕ) : Type 0 where
+  pub settled : AreSettled (length reps) nands links reps
+  pub few : length reps < 2 ^ 31
+  pub inputs_in : inputs < length reps
+  pub few_nands : length nands < 2 ^ 32 - 1

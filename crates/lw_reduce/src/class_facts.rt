@@ -1,5 +1,5 @@
 // Facts over classes.
-ghost use Rattle.std.specs.Prelude.{◌≡◌, length, map, vec_len, All};
+ghost use Rattle.std.specs.Prelude.{◌≡◌, length, map, All};
 ghost use Rattle.lw_reduce.specs.Representatives.{IsFactIn};
 ghost use Rattle.lw_reduce.specs.Settling.{canonical_fact};
 

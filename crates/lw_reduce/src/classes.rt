@@ -1,7 +1,6 @@
 // The classes of forms: pairs of classes are numbered by their first base forms.
-ghost use Rattle.std.specs.Prelude.{◌≡◌, ◌*◌, ◌<◌, ◌≤◌, ◌^◌, ℕ, length, map, IfOk};
-ghost use Rattle.lw_laws.specs.Graphs.{pair_count};
-ghost use Rattle.lw_reduce.specs.ClassNumbers.{AreClasses};
+ghost use Rattle.std.specs.Prelude.{◌<◌, ◌^◌, length, IfOk};
+ghost use Rattle.lw_reduce.specs.ClassNumbers.{AreAllClasses};
 ghost use Rattle.lw_reduce.specs.Representatives.{IsLower};
 
 use crate::representatives::rep_of;
@@ -18,9 +17,7 @@ pub(crate) struct Numbered {
 pub(crate) fn number(alloc: Global, reps: &[u32]) -> Result<Numbered, AllocError>
     requires few { length reps.now < 2 ^ 31 }
     requires lower { IsLower reps.now }
-    ensures classes { IfOk result (λ n. AreClasses reps.now n.forms.items) }
-    ensures count { IfOk result (λ n. length n.forms.items ≡ length reps.now) }
-    ensures pairs { IfOk result (λ n. n.pairs ≡ pair_count 0 n.forms.items) }
+    ensures { IfOk result (λ n. AreAllClasses reps.now n.forms.items n.pairs) }
 {
     let mut forms = Vec::with_capacity(alloc, reps.len())?;
     let mut pairs = 0;

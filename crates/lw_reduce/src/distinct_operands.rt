@@ -2,7 +2,7 @@
 ghost use Rattle.std.specs.Prelude.{◌≡◌, length, map, All, IfOk, IsTrue};
 ghost use Rattle.std.specs.List.Sorted.{IsStrictlyIncreasing};
 ghost use Rattle.lw_reduce.specs.Representatives.{IsFactIn};
-ghost use Rattle.lw_reduce.specs.Settling.{HaveDistinctOperands, fact_key, operands_key, canonical_fact};
+ghost use Rattle.lw_reduce.specs.Settling.{HaveDistinctOperands, operands_key};
 
 use crate::facts::Fact;
 use crate::rounds::canonical_fact;

@@ -1,4 +1,4 @@
-ghost use Rattle.std.specs.Prelude.{◌≡◌, ◌+◌, ◌-◌, ◌*◌, ◌<◌, ◌≤◌, ◌^◌, ◌++◌, [], ◌∷◌, true, false, not, ◌&&◌, length, replicate, ◌↔◌, IsTrue, IfOk, OnOk, OnErr};
+ghost use Rattle.std.specs.Prelude.{◌≡◌, ◌-◌, ◌*◌, ◌<◌, ◌≤◌, ◌^◌, ◌++◌, [], ◌∷◌, true, false, not, ◌&&◌, length, replicate, ◌↔◌, IsTrue, IfOk, OnOk, OnErr};
 ghost use Rattle.lw_reduce.specs.Drafting.{IsDraft, IsKnown, sample_of};
 ghost use Rattle.lw_pool.specs.Numbers.{most_signals};
 

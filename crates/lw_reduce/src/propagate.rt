@@ -1,8 +1,8 @@
 // Passes over the facts whose operands have new representatives, with a hash table of facts by the
 // representatives of their operands.
-ghost use Rattle.std.specs.Prelude.{◌≡◌, ◌+◌, ◌/◌, ◌^◌, ◌<◌, ◌≤◌, ℕ, length, vec_len, slice_index_or, All, Contains, IfOk, IfSome, IsTrue};
-ghost use Rattle.lw_reduce.specs.Representatives.{AreRepresentatives, HasOperands, IsFactIn, StayRepresentatives, family};
-ghost use Rattle.lw_reduce.specs.Lookups.{IsLookup};
+ghost use Rattle.std.specs.Prelude.{◌≡◌, ◌<◌, length, vec_len, slice_index_or, All, IfOk, IfSome, IsTrue};
+ghost use Rattle.lw_reduce.specs.Representatives.{AreRepresentatives, HasOperands, IsFactIn, StayRepresentatives};
+ghost use Rattle.lw_reduce.specs.Lookups.{CanInsert, CanVisit, CanVisitAll, HaveSlots, KeepSlots, LooksUp};
 ghost use Rattle.lw_reduce.specs.Settling.{IsImplied, no_fact};
 
 use crate::facts::{Fact, Link};
@@ -95,12 +95,9 @@ fn look_up(
     slots: &[u32],
     operands: Operands,
 ) -> Lookup
-    requires valid { AreRepresentatives (length reps.old) nands.now links.now reps.old }
-    requires some { 0 < length slots.now }
-    requires places { All (λ e. e ≤ length nands.now) slots.now }
-    ensures kept { StayRepresentatives (length reps.old) nands.now links.now reps.old reps.new }
-    ensures found { IsLookup (length reps.old) nands.now links.now
-        (length slots.now) operands.low operands.high result }
+    requires { HaveSlots nands.now links.now reps.old slots.now }
+    ensures { LooksUp (length reps.old) nands.now links.now reps.old reps.new
+        slots.now operands result }
 {
     let mut slot = slot_of(operands, slots.len());
     for _step in 0..slots.len() {
@@ -155,16 +152,9 @@ fn unify_or_insert(
     place: usize,
     operands: Operands,
 )
-    requires valid { AreRepresentatives (length reps.old) nands.now links.now reps.old }
-    requires some { 0 < length slots.old }
-    requires places { All (λ e. e ≤ length nands.now) slots.old }
-    requires within { place < length nands.now }
-    requires few { length nands.now < 2 ^ 32 }
-    requires operands { HasOperands (length reps.old) nands.now links.now
-        (slice_index_or nands.now place no_fact) operands.low operands.high }
-    ensures kept { StayRepresentatives (length reps.old) nands.now links.now reps.old reps.new }
-    ensures places { All (λ e. e ≤ length nands.now) slots.new }
-    ensures len { length slots.new ≡ length slots.old }
+    requires { CanInsert nands.now links.now reps.old slots.old place operands }
+    ensures { KeepSlots (length reps.old) nands.now links.now reps.old reps.new
+        slots.old slots.new }
 {
     let fact = nands[place];
     match look_up(reps, nands, links, slots, operands) {
@@ -186,14 +176,9 @@ fn visit(
     slots: &mut [u32],
     place: usize,
 )
-    requires valid { AreRepresentatives (length reps.old) nands.now links.now reps.old }
-    requires canonical { All (IsImplied (length reps.old) nands.now links.now) canonical.now }
-    requires some { 0 < length slots.old }
-    requires places { All (λ e. e ≤ length nands.now) slots.old }
-    requires within { place < length nands.now }
-    requires few { length nands.now < 2 ^ 32 }
-    ensures kept { StayRepresentatives (length reps.old) nands.now links.now reps.old reps.new }
-    ensures places { All (λ e. e ≤ length nands.now) slots.new }
+    requires { CanVisit nands.now links.now reps.old slots.old canonical.now place }
+    ensures { KeepSlots (length reps.old) nands.now links.now reps.old reps.new
+        slots.old slots.new }
 {
     let fact = nands[place];
     if has_root_operands(reps, fact) {
@@ -215,11 +200,7 @@ fn visit_all(
     canonical: &[Fact],
     slots: &mut [u32],
 )
-    requires valid { AreRepresentatives (length reps.old) nands.now links.now reps.old }
-    requires canonical { All (IsImplied (length reps.old) nands.now links.now) canonical.now }
-    requires some { 0 < length slots.old }
-    requires places { All (λ e. e ≤ length nands.now) slots.old }
-    requires few { length nands.now < 2 ^ 32 }
+    requires { CanVisitAll nands.now links.now reps.old slots.old canonical.now }
     ensures { StayRepresentatives (length reps.old) nands.now links.now reps.old reps.new }
 {
     let count = nands.len();

@@ -1,11 +1,10 @@
 // The graph of a draft's classes.
-ghost use Rattle.std.specs.Prelude.{◌≡◌, ◌+◌, ◌-◌, ◌*◌, ◌<◌, ◌≤◌, ◌^◌, ℕ, Bool, List, length, map, slice_index, IfOk};
+ghost use Rattle.std.specs.Prelude.{◌≡◌, ◌+◌, ◌*◌, ◌<◌, ◌^◌, ℕ, Bool, List, length, map, slice_index, IfOk};
 ghost use Rattle.std.specs.List.{slice_range};
 ghost use Rattle.lw_laws.specs.Drafts.{IsReduced};
 ghost use Rattle.lw_reduce.specs.Drafting.{plain_draft};
 ghost use Rattle.lw_reduce.specs.ClassNumbers.{as_class};
-ghost use Rattle.lw_reduce.specs.Representatives.{AreRepresentatives};
-ghost use Rattle.lw_reduce.specs.Settling.{AreSettled};
+ghost use Rattle.lw_reduce.specs.Settling.{AreDraftReps, AreSettledReps};
 
 use crate::Draft;
 use crate::buckets::class_pairs;
@@ -65,10 +64,7 @@ fn graph_of(
     nands: Vec<Fact>,
     links: &[Link],
 ) -> Result<Graph, AllocError>
-    requires settled { AreSettled (length reps.now) nands.items links.now reps.now }
-    requires few { length reps.now < 2 ^ 31 }
-    requires inputs { inputs < length reps.now }
-    requires few_nands { length nands.items < 2 ^ 32 - 1 }
+    requires { AreSettledReps inputs nands.items links.now reps.now }
     ensures { IfOk result (λ graph. (samples : List Bool) → length samples ≡ length reps.now →
         IsReduced (plain_draft inputs samples nands.items links.now) graph) }
 {
@@ -94,10 +90,7 @@ fn graph_by(
     nands: Vec<Fact>,
     links: &[Link],
 ) -> Result<Graph, AllocError>
-    requires valid { AreRepresentatives (length reps.old) nands.items links.now reps.old }
-    requires few { length reps.old < 2 ^ 31 }
-    requires inputs { inputs < length reps.old }
-    requires few_nands { length nands.items < 2 ^ 32 - 1 }
+    requires { AreDraftReps inputs nands.items links.now reps.old }
     ensures { IfOk result (λ graph. (samples : List Bool) → length samples ≡ length reps.old →
         IsReduced (plain_draft inputs samples nands.items links.now) graph) }
 {

@@ -1,8 +1,7 @@
 // Representatives of forms, as in union-find: for each base form the number of an equivalent form,
 // at most its own.
-ghost use Rattle.std.specs.Prelude.{◌≡◌, ◌/◌, ◌<◌, ℕ, length, slice_set, IsTrue, IsFalse};
-ghost use Rattle.lw_laws.specs.Families.{Equivalent};
-ghost use Rattle.lw_reduce.specs.Representatives.{AreRepresentatives, IsFlat, IsFound, StayRepresentatives, Progresses, family, rep_of, in_phase};
+ghost use Rattle.std.specs.Prelude.{◌≡◌, ◌/◌, ◌<◌, length, slice_set};
+ghost use Rattle.lw_reduce.specs.Representatives.{AreRepresentatives, CanUnify, IsFlat, IsFound, StayRepresentatives, Unifies, rep_of, in_phase};
 
 use crate::facts::{Fact, Link};
 
@@ -48,12 +47,8 @@ pub(crate) fn find(reps: &mut [u32], nands: &[Fact], links: &[Link], form: u32) 
 
 // Gives two equivalent forms one root, and says whether they had two.
 pub(crate) fn unify(reps: &mut [u32], nands: &[Fact], links: &[Link], left: u32, right: u32) -> bool
-    requires valid { AreRepresentatives (length reps.old) nands.now links.now reps.old }
-    requires left { left / 2 < length reps.old }
-    requires right { right / 2 < length reps.old }
-    requires alike { Equivalent (family (length reps.old) nands.now links.now) left right }
-    ensures progress { Progresses (length reps.old) nands.now links.now reps.old reps.new result }
-    ensures same { IsFalse result → IsFlat reps.old → (reps.new ≡ reps.old) ×
+    requires { CanUnify nands.now links.now reps.old left right }
+    ensures { Unifies (length reps.old) nands.now links.now reps.old reps.new result
         (rep_of reps.old left ≡ rep_of reps.old right) }
 {
     let a = find(reps, nands, links, left);

@@ -1,8 +1,8 @@
 // Rounds that unify forms, until one changes nothing.
-ghost use Rattle.std.specs.Prelude.{◌≡◌, ◌+◌, ◌-◌, ◌/◌, ◌^◌, ◌<◌, ◌≤◌, ℕ, length, map, vec_len, All, IfOk, OnOk, IsTrue, IsFalse};
+ghost use Rattle.std.specs.Prelude.{◌≡◌, ◌^◌, ◌<◌, ◌≤◌, ℕ, length, map, All, IfOk, OnOk, IsTrue};
 ghost use Rattle.std.specs.List.Sorted.{IsNonDecreasingBy, IsPermutation};
-ghost use Rattle.lw_reduce.specs.Representatives.{AreRepresentatives, IsFactIn, IsFlat, LinkAgrees, Progresses};
-ghost use Rattle.lw_reduce.specs.Settling.{AgreesAt, AreSettled, IsImplied, IsSettled, fact_key, canonical_fact};
+ghost use Rattle.lw_reduce.specs.Representatives.{AreRepresentatives, IsFactIn, LinkAgrees, Unifies};
+ghost use Rattle.lw_reduce.specs.Settling.{AgreesAt, AreSettled, CanUnifyAt, IsImplied, IsOutcome, fact_key, canonical_fact};
 
 use crate::distinct_operands::have_distinct_operands;
 use crate::facts::{Fact, Link};
@@ -21,9 +21,8 @@ struct RoundOutcome {
 // Unifies linked forms, and says whether some had two representatives.
 fn unify_linked(reps: &mut [u32], nands: &[Fact], links: &[Link]) -> bool
     requires { AreRepresentatives (length reps.old) nands.now links.now reps.old }
-    ensures progress { Progresses (length reps.old) nands.now links.now reps.old reps.new result }
-    ensures same { IsFalse result → IsFlat reps.old → (reps.new ≡ reps.old) ×
-        All (LinkAgrees reps.old) links.now }
+    ensures { Unifies (length reps.old) nands.now links.now reps.old reps.new result
+        (All (LinkAgrees reps.old) links.now) }
 {
     let mut changed = false;
     for link in links {
@@ -89,13 +88,9 @@ fn unify_at(
     canonical: &[Fact],
     place: usize,
 ) -> bool
-    requires valid { AreRepresentatives (length reps.old) nands.now links.now reps.old }
-    requires canonical { All (IsImplied (length reps.old) nands.now links.now) canonical.now }
-    requires start { 1 ≤ place }
-    requires within { place < length canonical.now }
-    ensures progress { Progresses (length reps.old) nands.now links.now reps.old reps.new result }
-    ensures same { IsFalse result → IsFlat reps.old → (reps.new ≡ reps.old) ×
-        AgreesAt reps.old canonical.now place }
+    requires { CanUnifyAt nands.now links.now reps.old canonical.now place }
+    ensures { Unifies (length reps.old) nands.now links.now reps.old reps.new result
+        (AgreesAt reps.old canonical.now place) }
 {
     let first = canonical[place - 1];
     let second = canonical[place];
@@ -109,8 +104,7 @@ fn unify_at(
 fn unify_equal(reps: &mut [u32], nands: &[Fact], links: &[Link], canonical: &[Fact]) -> bool
     requires valid { AreRepresentatives (length reps.old) nands.now links.now reps.old }
     requires canonical { All (IsImplied (length reps.old) nands.now links.now) canonical.now }
-    ensures progress { Progresses (length reps.old) nands.now links.now reps.old reps.new result }
-    ensures same { IsFalse result → IsFlat reps.old → (reps.new ≡ reps.old) ×
+    ensures { Unifies (length reps.old) nands.now links.now reps.old reps.new result
         ((place : ℕ) → 1 ≤ place → place < length canonical.now →
         AgreesAt reps.old canonical.now place) }
 {
@@ -131,12 +125,7 @@ fn run_round(
     links: &[Link],
 ) -> Result<RoundOutcome, AllocError>
     requires { AreRepresentatives (length reps.old) nands.now links.now reps.old }
-    ensures progress { IfOk result
-        (λ r. Progresses (length reps.old) nands.now links.now reps.old reps.new r.changed) }
-    ensures canonical { IfOk result (λ r. All
-        (IsImplied (length reps.old) nands.now links.now) r.canonical.items) }
-    ensures settled { IfOk result (λ r. IsFalse r.changed →
-        IsSettled (length reps.old) nands.now links.now reps.new r.canonical.items) }
+    ensures { IfOk result (IsOutcome (length reps.old) nands.now links.now reps.old reps.new) }
 {
     flatten(reps, nands, links);
     let linked = unify_linked(reps, nands, links);

@@ -1,10 +1,10 @@
 // Sorts the pairs of each class and drops repeats.
-ghost use Rattle.std.specs.Prelude.{◌≡◌, ◌+◌, ◌-◌, ◌^◌, ◌<◌, ◌≤◌, ◌++◌, ◌∷◌, ℕ, [], length, slice_index, slice_index_or, vec_len, IfOk, OnOk};
-ghost use Rattle.std.specs.List.{dedup, slice_range};
+ghost use Rattle.std.specs.Prelude.{◌≡◌, ◌+◌, ◌-◌, ◌^◌, ◌<◌, ◌≤◌, ◌++◌, [], length, slice_index, IfOk, OnOk};
+ghost use Rattle.std.specs.List.{slice_range};
 ghost use Rattle.std.specs.List.Sorted.{IsNonDecreasingBy, IsPermutation};
 ghost use Rattle.lw_graph.specs.Index.{pair_key};
-ghost use Rattle.lw_graph.specs.Rows.{AreEnds, rows_from, start_at};
-ghost use Rattle.lw_reduce.specs.Rows.{IsRowOf, same_pair};
+ghost use Rattle.lw_graph.specs.Rows.{AreEnds, start_at};
+ghost use Rattle.lw_reduce.specs.Rows.{HasRowMore, AreSortedRows, IsRowOf};
 
 use lw_graph::Pair;
 use lw_pool::{Numbers, PairId, Pool};
@@ -18,23 +18,6 @@ fn sort_pairs(row: &mut Vec<Pair>)
     row.sort_unstable_by_key(|pair| pair.x.0 as u64 * 0x1_0000_0000 + pair.y.0 as u64);
 }
 
-// Keeps one of each run of equal pairs.
-fn dedup_pairs(row: &mut Vec<Pair>)
-    ensures row { row.new.items ≡ dedup same_pair row.old.items }
-    ensures few { length row.new.items ≤ length row.old.items }
-{
-    row.dedup();
-}
-
-// Sorts the pairs of a class and drops repeats.
-fn sort_and_dedup(row: &mut Vec<Pair>)
-    ensures row { IsRowOf row.old.items row.new.items }
-    ensures few { length row.new.items ≤ length row.old.items }
-{
-    sort_pairs(row);
-    dedup_pairs(row);
-}
-
 // Fills a row with the pairs of a class, sorted and without repeats.
 fn fill_row(row: &mut Vec<Pair>, pairs: &[Pair]) -> Result<(), AllocError>
     ensures row { OnOk result (IsRowOf pairs.now row.new.items) }
@@ -42,7 +25,8 @@ fn fill_row(row: &mut Vec<Pair>, pairs: &[Pair]) -> Result<(), AllocError>
 {
     row.clear();
     row.extend_from_slice(pairs)?;
-    sort_and_dedup(row);
+    sort_pairs(row);
+    row.dedup();
     Ok(())
 }
 
@@ -93,11 +77,8 @@ fn append(pool: &mut Pool<PairId, Pair>, row: &[Pair]) -> Result<(), AllocError>
 fn add_row(rows: &mut Rows, row: &[Pair]) -> Result<(), AllocError>
     requires ends { AreEnds (length rows.old.pairs.items) 0 rows.old.ends }
     requires few { length rows.old.pairs.items + length row.now < 2 ^ 32 - 1 }
-    ensures ends { OnOk result (AreEnds (length rows.new.pairs.items) 0 rows.new.ends) }
-    ensures rows { OnOk result (rows_from rows.new.pairs.items 0 rows.new.ends
-        ≡ rows_from rows.old.pairs.items 0 rows.old.ends ++ row.now ∷ []) }
-    ensures size { OnOk result (length rows.new.pairs.items
-        ≡ length rows.old.pairs.items + length row.now) }
+    ensures { OnOk result (HasRowMore rows.old.pairs.items rows.old.ends row.now
+        rows.new.pairs.items rows.new.ends) }
 {
     append(&mut rows.pairs, row)?;
     rows.ends.push(rows.pairs.len())?;
@@ -121,11 +102,7 @@ fn no_rows(alloc: Global, pairs: usize) -> Result<Rows, AllocError>
 pub(crate) fn sorted_rows(alloc: Global, pairs: &[Pair], ends: &[u32]) -> Result<Rows, AllocError>
     requires ends { AreEnds (length pairs.now) 0 ends.now }
     requires few { length pairs.now < 2 ^ 32 - 1 }
-    ensures ends { IfOk result (λ r. AreEnds (length r.pairs.items) 0 r.ends) }
-    ensures count { IfOk result (λ r. length r.ends ≡ length ends.now) }
-    ensures rows { IfOk result (λ r. (c : ℕ) →
-        IsRowOf (slice_index_or (rows_from pairs.now 0 ends.now) c [])
-        (slice_index_or (rows_from r.pairs.items 0 r.ends) c [])) }
+    ensures { IfOk result (λ r. AreSortedRows pairs.now ends.now r.pairs.items r.ends) }
 {
     let mut rows = no_rows(alloc, pairs.len())?;
     let mut row = Vec::new(alloc);

@@ -12,11 +12,11 @@ loop-step-init c = record {
   within = c.slot_of-slot.ensures;
 }
 
-pub returns-then-entry-eq0-clause-kept : goal.returns-then-entry-eq0-clause-kept
-returns-then-entry-eq0-clause-kept c = c.loop-step.invariant.kept
-
-pub returns-then-entry-eq0-clause-found : goal.returns-then-entry-eq0-clause-found
-returns-then-entry-eq0-clause-found c = c.loop-step.invariant.within
+pub returns-then-entry-eq0 : goal.returns-then-entry-eq0
+returns-then-entry-eq0 c = record {
+  kept = c.loop-step.invariant.kept;
+  found = c.loop-step.invariant.within;
+}
 
 pub bounds-nands-entry : goal.bounds-nands-entry
 bounds-nands-entry c = entry_place c.args.nands.now c.args.slots.now c.loop-step.slot c.requires.places c.loop-step.invariant.within c.if-entry-eq0.false
@@ -35,13 +35,11 @@ has_operands-requires-clause-within c =
     let lt = entry_place nands c.args.slots.now c.loop-step.slot c.requires.places c.loop-step.invariant.within c.if-entry-eq0.false in
     subst (λ n. IsFactIn n (get_or nands place none)) (sym c.loop-step.invariant.kept.valid.count) (All-get_or (IsFactIn (length c.args.reps.now)) nands place none lt c.requires.valid.nands_in)
 
-pub returns-then-has_operands-clause-kept : goal.returns-then-has_operands-clause-kept
-returns-then-has_operands-clause-kept c =
-    stay_then (length c.args.reps.now) c.args.nands.now c.args.links.now c.args.reps.now c.loop-step.reps c.has_operands.new.reps c.loop-step.invariant.kept c.has_operands.ensures.kept
-
-pub returns-then-has_operands-clause-found : goal.returns-then-has_operands-clause-found
-returns-then-has_operands-clause-found c =
-    entry_fact (length c.args.reps.now) (length c.loop-step.reps) c.args.nands.now c.args.links.now c.args.slots.now c.loop-step.slot c.args.operands.low c.args.operands.high (record { form = 0; left = 0; right = 0 }) c.loop-step.invariant.kept.valid.count c.requires.places c.loop-step.invariant.within c.if-entry-eq0.false (c.has_operands.ensures.operands c.if-has_operands.true)
+pub returns-then-has_operands : goal.returns-then-has_operands
+returns-then-has_operands c = record {
+  kept = stay_then (length c.args.reps.now) c.args.nands.now c.args.links.now c.args.reps.now c.loop-step.reps c.has_operands.new.reps c.loop-step.invariant.kept c.has_operands.ensures.kept;
+  found = entry_fact (length c.args.reps.now) (length c.loop-step.reps) c.args.nands.now c.args.links.now c.args.slots.now c.loop-step.slot c.args.operands.low c.args.operands.high (record { form = 0; left = 0; right = 0 }) c.loop-step.invariant.kept.valid.count c.requires.places c.loop-step.invariant.within c.if-entry-eq0.false (c.has_operands.ensures.operands c.if-has_operands.true);
+}
 
 pub loop-step-preserved : goal.loop-step-preserved
 loop-step-preserved c = record {
@@ -49,5 +47,8 @@ loop-step-preserved c = record {
   within = c.next_slot-slot.ensures;
 }
 
-pub returns-clause-kept : goal.returns-clause-kept
-returns-clause-kept c = c.loop-step.invariant.kept
+pub returns : goal.returns
+returns c = record {
+  kept = c.loop-step.invariant.kept;
+  found = tt;
+}

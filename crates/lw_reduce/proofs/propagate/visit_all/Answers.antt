@@ -1,4 +1,4 @@
-use Rattle.std.proofs.Common.{length, sym, subst, All}
+use Rattle.std.proofs.Common.{◌<◌, length, sym, subst, arith, All}
 use Rattle.lw_reduce.specs.Settling.{IsImplied}
 use Rattle.lw_reduce.proofs.RepSteps.{stay_none, stay_then, valid_at}
 use Rattle.lw_reduce.proofs.propagate.visit_all.Goals as goal
@@ -17,17 +17,17 @@ loop-step-2-init c = record {
   canonical = c.loop-step.invariant.canonical;
 }
 
-pub visit-requires-clause-valid : goal.visit-requires-clause-valid
-visit-requires-clause-valid c =
-    let reps = c.loop-step.reps in
+pub visit-requires : goal.visit-requires
+visit-requires c = record {
+  valid = let reps = c.loop-step.reps in
     let valid = c.loop-step.invariant.kept.valid in
-    valid_at (length reps) c.args.nands.now c.args.links.now reps (length c.args.reps.now) valid (sym valid.count)
-
-pub visit-requires-clause-canonical : goal.visit-requires-clause-canonical
-visit-requires-clause-canonical c = c.loop-step.invariant.canonical
-
-pub visit-requires-clause-places : goal.visit-requires-clause-places
-visit-requires-clause-places c = c.loop-step.invariant.places
+    valid_at (length reps) c.args.nands.now c.args.links.now reps (length c.args.reps.now) valid (sym valid.count);
+  canonical = c.loop-step.invariant.canonical;
+  some = subst (λ n. 0 < n) (sym c.loop-step.auto.slots) c.requires.some;
+  places = c.loop-step.invariant.places;
+  within = c.loop-step-test.true;
+  few = c.requires.few;
+}
 
 pub loop-step-preserved : goal.loop-step-preserved
 loop-step-preserved c = record {
@@ -36,17 +36,17 @@ loop-step-preserved c = record {
   canonical = subst (λ n. All (IsImplied n c.args.nands.now c.args.links.now) c.args.canonical.now) (sym c.visit.ensures.kept.valid.count) c.loop-step.invariant.canonical;
 }
 
-pub visit-requires-in-loop-step-2-clause-valid : goal.visit-requires-in-loop-step-2-clause-valid
-visit-requires-in-loop-step-2-clause-valid c =
-    let reps = c.loop-step-2.reps in
+pub visit-requires-in-loop-step-2 : goal.visit-requires-in-loop-step-2
+visit-requires-in-loop-step-2 c = record {
+  valid = let reps = c.loop-step-2.reps in
     let valid = c.loop-step-2.invariant.kept.valid in
-    valid_at (length reps) c.args.nands.now c.args.links.now reps (length c.args.reps.now) valid (sym valid.count)
-
-pub visit-requires-in-loop-step-2-clause-canonical : goal.visit-requires-in-loop-step-2-clause-canonical
-visit-requires-in-loop-step-2-clause-canonical c = c.loop-step-2.invariant.canonical
-
-pub visit-requires-in-loop-step-2-clause-places : goal.visit-requires-in-loop-step-2-clause-places
-visit-requires-in-loop-step-2-clause-places c = c.loop-step-2.invariant.places
+    valid_at (length reps) c.args.nands.now c.args.links.now reps (length c.args.reps.now) valid (sym valid.count);
+  canonical = c.loop-step-2.invariant.canonical;
+  some = subst (λ n. 0 < n) (sym c.loop-step-2.auto.slots) (subst (λ n. 0 < n) (sym c.loop-step.auto.slots) c.requires.some);
+  places = c.loop-step-2.invariant.places;
+  within = let t = c.loop-step-2-test.true in omega arith;
+  few = c.requires.few;
+}
 
 pub loop-step-2-preserved : goal.loop-step-2-preserved
 loop-step-2-preserved c = record {

@@ -23,24 +23,22 @@ class_facts-facts-requires c =
     let e = ap length c.deref.ensures.value ∙ c.in_ok-numbered.ensures.count in
     subst (λ m. All (IsFactIn m) c.args.nands.items) (sym e) is.valid.nands_in
 
-pub class_pairs-requires-clause-within : goal.class_pairs-requires-clause-within
-class_pairs-requires-clause-within c =
-    let n = length c.args.reps.now in
+pub class_pairs-requires : goal.class_pairs-requires
+class_pairs-requires c = record {
+  within = let n = length c.args.reps.now in
     let nands = c.args.nands.items in
     let is = c.requires.settled in
     let forms = c.in_ok-numbered.numbered.forms.items in
     let pairs = c.in_ok-numbered.numbered.pairs in
     let e = c.class_facts-facts.ensures ∙ ap (λ fs. map (canonical_fact fs) nands) c.deref.ensures.value in
     let p = c.in_ok-numbered.ensures.pairs in
-    subst (λ es. All (λ (r : Fact). r.form < pairs * 2) es) (sym e) (entries_below n nands c.args.links.now c.args.reps.now is c.requires.few forms c.in_ok-numbered.ensures.classes c.in_ok-numbered.ensures.count (pairs * 2) (omega arith))
-
-pub class_pairs-requires-clause-few : goal.class_pairs-requires-clause-few
-class_pairs-requires-clause-few c =
-    let nands = c.args.nands.items in
+    subst (λ es. All (λ (r : Fact). r.form < pairs * 2) es) (sym e) (entries_below n nands c.args.links.now c.args.reps.now is c.requires.few forms c.in_ok-numbered.ensures.classes c.in_ok-numbered.ensures.count (pairs * 2) (omega arith));
+  few = let nands = c.args.nands.items in
     let forms = c.deref.result.now in
     let e = ap length c.class_facts-facts.ensures ∙ length-map nands (canonical_fact forms) in
     let few = c.requires.few_nands in
-    omega arith
+    omega arith;
+}
 
 pub flat-requires-clause-graph : goal.flat-requires-clause-graph
 flat-requires-clause-graph c =
@@ -54,14 +52,14 @@ flat-requires-clause-graph c =
     let lists = rows_from rows.pairs.items 0 rows.ends in
     let lists_count = length-rows_from rows.pairs.items 0 rows.ends ∙ c.in_ok-lists.ensures.count in
     let count = c.in_ok-numbered.ensures.count in
-    let in' = c.requires.inputs in
+    let in' = c.requires.inputs_in in
     let e = c.class_facts-facts.ensures ∙ ap (λ fs. map (canonical_fact fs) nands) c.deref.ensures.value in
     let one : ClassId = record { 0 = c.index.result.now } in
     let one_is = c.index.ensures ∙ get_or_default_zero forms 0 c.index.result.now (omega arith) in
     let leaves_are = c.in-Ok.ensures.leaves ∙ ap (λ fs. map as_class (slice_range fs 1 (inputs + 1))) c.deref-2.ensures.value in
     let classes_are = c.in-Ok.ensures.forms ∙ ap (map as_class) c.deref-2.ensures.value in
     let lists_are : (k : ℕ) → IsRowOf (map pair_of (filter (of_class k) (map (canonical_fact forms) nands))) (slice_index_or lists k []) = λ k. subst (λ es. IsRowOf (map pair_of (filter (of_class k) es)) (slice_index_or lists k [])) e (c.in_ok-lists.ensures.lists k) in
-    is_graph n nands c.args.links.now c.args.reps.now is c.requires.few forms c.in_ok-numbered.ensures.classes count inputs c.requires.inputs one c.in-Ok.leaves c.in-Ok.forms lists pairs one_is leaves_are classes_are c.in_ok-numbered.ensures.pairs lists_count lists_are
+    is_graph n nands c.args.links.now c.args.reps.now is c.requires.few forms c.in_ok-numbered.ensures.classes count inputs c.requires.inputs_in one c.in-Ok.leaves c.in-Ok.forms lists pairs one_is leaves_are classes_are c.in_ok-numbered.ensures.pairs lists_count lists_are
 
 pub returns : goal.returns
 returns c =
@@ -75,11 +73,11 @@ returns c =
     let lists = rows_from rows.pairs.items 0 rows.ends in
     let lists_count = length-rows_from rows.pairs.items 0 rows.ends ∙ c.in_ok-lists.ensures.count in
     let count = c.in_ok-numbered.ensures.count in
-    let in' = c.requires.inputs in
+    let in' = c.requires.inputs_in in
     let e = c.class_facts-facts.ensures ∙ ap (λ fs. map (canonical_fact fs) nands) c.deref.ensures.value in
     let one : ClassId = record { 0 = c.index.result.now } in
     let one_is = c.index.ensures ∙ get_or_default_zero forms 0 c.index.result.now (omega arith) in
     let leaves_are = c.in-Ok.ensures.leaves ∙ ap (λ fs. map as_class (slice_range fs 1 (inputs + 1))) c.deref-2.ensures.value in
     let classes_are = c.in-Ok.ensures.forms ∙ ap (map as_class) c.deref-2.ensures.value in
     let lists_are : (k : ℕ) → IsRowOf (map pair_of (filter (of_class k) (map (canonical_fact forms) nands))) (slice_index_or lists k []) = λ k. subst (λ es. IsRowOf (map pair_of (filter (of_class k) es)) (slice_index_or lists k [])) e (c.in_ok-lists.ensures.lists k) in
-    λ samples known. subst (IsReduced (plain_draft inputs samples nands c.args.links.now)) (sym c.in_ok-graph.ensures) (is_reduced n nands c.args.links.now c.args.reps.now is c.requires.few forms c.in_ok-numbered.ensures.classes count inputs c.requires.inputs one c.in-Ok.leaves c.in-Ok.forms lists pairs one_is leaves_are classes_are c.in_ok-numbered.ensures.pairs lists_count lists_are samples known)
+    λ samples known. subst (IsReduced (plain_draft inputs samples nands c.args.links.now)) (sym c.in_ok-graph.ensures) (is_reduced n nands c.args.links.now c.args.reps.now is c.requires.few forms c.in_ok-numbered.ensures.classes count inputs c.requires.inputs_in one c.in-Ok.leaves c.in-Ok.forms lists pairs one_is leaves_are classes_are c.in_ok-numbered.ensures.pairs lists_count lists_are samples known)

@@ -51,20 +51,19 @@ loop-class-preserved c =
       done = rows_more (rows_from pairs 0 ends) old (rows_from c.add_row.new.rows.pairs.items 0 c.add_row.new.rows.ends) l.class c.pairs_at.result.now row l.invariant.count there c.in_ok-fill_row.ensures.row new l.invariant.done;
     }
 
-pub returns-clause-count : goal.returns-clause-count
-returns-clause-count c =
-    let l = c.loop-class in
+pub returns : goal.returns
+returns c = record {
+  ends = c.loop-class.invariant.cut;
+  count = let l = c.loop-class in
     let k = l.invariant.count in
     let n = length-rows_from l.rows.pairs.items 0 l.rows.ends in
     let t = c.loop-class-test.false in
     let e = l.auto.class-end in
-    omega arith
-
-pub returns-clause-rows : goal.returns-clause-rows
-returns-clause-rows c =
-    let l = c.loop-class in
+    omega arith;
+  rows = let l = c.loop-class in
     let k = l.invariant.count in
     let n = length-rows_from c.args.pairs.now 0 c.args.ends.now in
     let t = c.loop-class-test.false in
     let e = l.auto.class-end in
-    rows_all (rows_from c.args.pairs.now 0 c.args.ends.now) (rows_from l.rows.pairs.items 0 l.rows.ends) l.class (omega arith) (omega arith) l.invariant.done
+    rows_all (rows_from c.args.pairs.now 0 c.args.ends.now) (rows_from l.rows.pairs.items 0 l.rows.ends) l.class (omega arith) (omega arith) l.invariant.done;
+}
