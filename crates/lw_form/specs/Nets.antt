@@ -1,19 +1,17 @@
 -- The forms of nets by numbers.
-use Rattle.std.specs.Prelude.{ℕ, ◌+◌, ◌/◌, ◌<◌, ◌≤◌, ◌≡◌, All, Option, Bool, Some, slice_get, List, [], ◌∷◌, ◌++◌, map, length}
+use Rattle.std.specs.Prelude.{ℕ, ◌+◌, ◌/◌, ◌<◌, ◌≤◌, ◌≡◌, All, Option, Bool, Some, slice_get, List, [], ◌∷◌, length}
 use Rattle.lw_pool.specs.Numbers.{most_signals}
 use Rattle.lw_pool.specs.declared.id.NetId.{NetId}
 use Rattle.lw_net.specs.declared.node.Node.{Node}
-use Rattle.lw_net.specs.Plain.{plain_node}
 use Rattle.lw_laws.specs.Forms.{Form}
 use Rattle.lw_laws.specs.Forms.Form.{true_form}
 use Rattle.lw_laws.specs.Occurring.{add_signals}
-use Rattle.lw_laws.specs.Signals.{Signal, signal_of_node, sum_of_products, factored}
+use Rattle.lw_laws.specs.Signals.{Signal, sum_of_products, factored}
 use Rattle.lw_laws.specs.SignalValues.{form_of}
 use Rattle.lw_form.specs.declared.fault.FormFault.{FormFault}
 use Rattle.lw_form.specs.declared.occurring.Occurring.{Occurring}
 use Rattle.lw_form.specs.Limits.{most_operands}
 use Rattle.lw_form.specs.Listed.{bases_of, IsListed, IsTooLong}
-use Rattle.lw_form.specs.Products.{HaveColumns}
 use Rattle.lw_form.specs.Tables.{Table, made, AreBelow, HasMore, IsMadeAs, forms_at}
 
 abbrev pub signal_at : List Form → ℕ → ℕ → Signal

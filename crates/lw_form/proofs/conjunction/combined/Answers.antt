@@ -1,6 +1,5 @@
-use Rattle.std.proofs.Common.{ℕ, zero, suc, ◌≡◌, ◌≤◌, ◌==◌, ◌∙◌, false, true≢false, sym, ap, arith, eqb-true}
+use Rattle.std.proofs.Common.{ℕ, zero, suc, ◌≡◌, ◌≤◌, ◌==◌, ◌∙◌, false, true≢false, sym, arith, eqb-true}
 use Rattle.std.proofs.lemmas.List.{nil_from_length}
-use Rattle.lw_form.specs.Conjunctions.{numbers_clash}
 use Rattle.lw_form.proofs.Joining.{done_false, done_true, done_few, go_again, kept_below, clean_kept}
 use Rattle.lw_form.proofs.conjunction.combined.Goals as goal
 

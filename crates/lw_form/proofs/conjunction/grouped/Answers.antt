@@ -1,7 +1,6 @@
-use Rattle.std.proofs.Common.{◌≡◌, ◌<◌, ◌∙◌, refl, sym, subst, ap, arith, length, take, drop}
+use Rattle.std.proofs.Common.{sym, subst, arith}
 use Rattle.std.proofs.lemmas.List.{length-take-le}
-use Rattle.lw_form.specs.Tables.{made, forms_at}
-use Rattle.lw_form.proofs.Joining.{GroupsSoFar, groups_first, groups_more, groups_last, clean_now, clean_taken, below_take, below_kept_more, tail_is, take_few}
+use Rattle.lw_form.proofs.Joining.{GroupsSoFar, groups_more, groups_last, clean_now, clean_taken, below_take, below_kept_more, tail_is, take_few}
 use Rattle.lw_form.proofs.conjunction.grouped.Goals as goal
 
 pub joined-requires : goal.joined-requires

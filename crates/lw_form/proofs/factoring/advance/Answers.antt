@@ -1,9 +1,6 @@
-use Rattle.std.proofs.Common.{◌≡◌, ◌∙◌, ◌∷◌, ◌++◌, ◌<◌, ◌+◌, [], sym, subst, ap, length, List, ℕ, arith, OnOk}
+use Rattle.std.proofs.Common.{◌∷◌, ◌++◌, [], sym, subst, arith, OnOk}
 use Rattle.std.proofs.lemmas.Result.{on_ok_weaker}
-use Rattle.lw_form.specs.declared.factoring.Task.{Task}
-use Rattle.lw_form.specs.declared.factoring.Task.TheVariants.{Factor, Join}
 use Rattle.lw_form.specs.Factoring.{DoesTask, IsWorking}
-use Rattle.lw_form.specs.Tables.{made, AreBelow}
 use Rattle.lw_form.proofs.FactoringSteps.{two_done, join_below, factor_columns}
 use Rattle.lw_form.proofs.factoring.advance.Goals as goal
 

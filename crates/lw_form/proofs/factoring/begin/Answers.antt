@@ -1,8 +1,6 @@
-use Rattle.std.proofs.Common.{◌≡◌, ◌∙◌, ◌∷◌, ◌++◌, ◌<◌, ◌+◌, [], sym, subst, ap, length, List, ℕ, arith}
+use Rattle.std.proofs.Common.{◌∙◌, sym, ap, length, arith}
 use Rattle.std.proofs.lemmas.Result.{on_ok_weaker}
 use Rattle.lw_laws.specs.Signals.{shared_literal}
-use Rattle.lw_form.specs.declared.factoring.Task.{Task}
-use Rattle.lw_form.specs.declared.factoring.Task.TheVariants.{Factor, Join}
 use Rattle.lw_form.specs.Factoring.{plain_literal}
 use Rattle.lw_form.specs.Tables.{made}
 use Rattle.lw_form.proofs.Joining.{more_same}

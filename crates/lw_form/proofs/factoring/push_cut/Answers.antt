@@ -1,6 +1,5 @@
 use Rattle.std.proofs.Common.{◌∙◌, ◌∷◌, ◌++◌, [], ap}
 use Rattle.lw_form.specs.declared.factoring.Task.TheVariants.{Factor}
-use Rattle.lw_form.proofs.ListedForms.{on_failed}
 use Rattle.lw_form.proofs.factoring.push_cut.Goals as goal
 
 pub returns : goal.returns

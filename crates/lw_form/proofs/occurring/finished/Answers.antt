@@ -1,11 +1,9 @@
-use Rattle.std.proofs.Common.{◌≡◌, ◌∙◌, sym, subst, ap, map, length}
+use Rattle.std.proofs.Common.{◌∙◌, sym, subst, ap, map}
 use Rattle.lw_net.specs.Plain.{plain}
-use Rattle.lw_laws.specs.NumberedForms.{NumberedForms}
 use Rattle.lw_laws.specs.Mapped.{forms_of}
 use Rattle.lw_laws.specs.Numbering.{numbered_base}
 use Rattle.lw_form.specs.Bases.{plain_base}
-use Rattle.lw_form.specs.Kept.{AreForms, AreSamples}
-use Rattle.lw_form.specs.Listed.{bases_of}
+use Rattle.lw_form.specs.Kept.{AreForms}
 use Rattle.lw_form.specs.Renumbered.{renumber, ArePlaced}
 use Rattle.lw_form.specs.Tables.{made}
 use Rattle.lw_form.proofs.Finished.{of_listing, all_sops_placed, all_facs_placed, finished, network_kept, few_nets, bases_before}

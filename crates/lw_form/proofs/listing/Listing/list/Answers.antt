@@ -1,6 +1,5 @@
-use Rattle.std.proofs.Common.{◌≡◌, ◌≢◌, ◌∙◌, ◌<◌, sym, ap, arith, length}
+use Rattle.std.proofs.Common.{◌∙◌, ◌<◌, sym, arith, length}
 use Rattle.lw_form.specs.Limits.{most_bases}
-use Rattle.lw_form.specs.Listed.{place_of, no_place}
 use Rattle.lw_form.specs.Tables.{made}
 use Rattle.lw_form.proofs.ListedForms.{placed_among, appended_listed, put_listed, put_bases, too_long}
 use Rattle.lw_form.proofs.listing.Listing.list.Goals as goal

@@ -1,4 +1,4 @@
-use Rattle.std.proofs.Common.{◌≡◌, ◌∙◌, sym, subst, ap, length, OnOk, IfErr}
+use Rattle.std.proofs.Common.{◌∙◌, sym, subst, ap, length, OnOk, IfErr}
 use Rattle.std.proofs.lemmas.Result.{on_ok_weaker}
 use Rattle.lw_laws.specs.Occurring.{append_parts, sublists}
 use Rattle.lw_form.specs.Listed.{bases_of, IsTooLong, ListsTo}

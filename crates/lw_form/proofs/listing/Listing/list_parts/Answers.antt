@@ -1,4 +1,4 @@
-use Rattle.std.proofs.Common.{◌≡◌, ◌∙◌, ◌^◌, ◌<◌, ◌≤◌, sym, subst, ap, arith, length, OnOk, IfErr}
+use Rattle.std.proofs.Common.{◌≡◌, sym, subst, arith}
 use Rattle.lw_laws.specs.Occurring.{append_part}
 use Rattle.lw_form.specs.Listed.{bases_of, IsTooLong}
 use Rattle.lw_form.specs.Tables.{made, forms_at, AreBelow}

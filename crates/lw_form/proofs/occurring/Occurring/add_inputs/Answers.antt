@@ -1,4 +1,4 @@
-use Rattle.std.proofs.Common.{◌≡◌, ◌∙◌, ◌∷◌, ◌++◌, ◌+◌, ◌*◌, [], sym, subst, ap}
+use Rattle.std.proofs.Common.{◌∙◌, ◌∷◌, ◌++◌, [], subst, ap}
 use Rattle.lw_laws.specs.Forms.Form.{true_form}
 use Rattle.lw_laws.specs.Occurring.{add_signals}
 use Rattle.lw_laws.specs.Signals.{input_signals}

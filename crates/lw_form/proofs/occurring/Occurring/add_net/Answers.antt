@@ -1,4 +1,4 @@
-use Rattle.std.proofs.Common.{◌≡◌, ◌∙◌, ◌<◌, ◌/◌, ◌∷◌, ◌++◌, [], List, sym, subst, ap, arith, length}
+use Rattle.std.proofs.Common.{◌∷◌, ◌++◌, [], arith}
 use Rattle.lw_form.specs.Nets.{signal_at, IsSignalFault}
 use Rattle.lw_form.specs.Tables.{made}
 use Rattle.lw_form.proofs.Joining.{more_twice, more_length}

@@ -1,4 +1,4 @@
-use Rattle.std.proofs.Common.{◌≡◌, ◌∙◌, ◌∷◌, ◌++◌, ◌+◌, ◌<◌, [], List, All, refl, sym, subst, ap, length, map, arith}
+use Rattle.std.proofs.Common.{◌≡◌, ◌+◌, ◌<◌, All, refl, sym, subst, length, map, arith}
 use Rattle.std.proofs.lemmas.Option.{slice_get_read}
 use Rattle.lw_pool.specs.declared.id.NetId.{NetId}
 use Rattle.lw_net.specs.Plain.{plain_node}

@@ -1,4 +1,4 @@
-use Rattle.std.proofs.Common.{◌≡◌, ◌∙◌, ◌∷◌, [], map, sym, subst, ap, ap₂, length}
+use Rattle.std.proofs.Common.{◌∙◌, ◌∷◌, [], map, sym, subst, ap₂, length}
 use Rattle.lw_net.specs.Plain.{plain, plain_node}
 use Rattle.lw_laws.specs.Forms.Form.{true_form}
 use Rattle.lw_laws.specs.Occurring.{add_signals}

@@ -1,6 +1,5 @@
-use Rattle.std.proofs.Common.{List, [], ◌∷◌, refl, subst}
+use Rattle.std.proofs.Common.{List, [], refl, subst}
 use Rattle.lw_laws.specs.Forms.{Form}
-use Rattle.lw_laws.specs.Forms.Form.{true_form}
 use Rattle.lw_form.specs.Listed.{IsTooLong}
 use Rattle.lw_form.proofs.Signalled.{start_within, start_bases, start_nets}
 use Rattle.lw_form.proofs.occurring.Occurring.start.Goals as goal

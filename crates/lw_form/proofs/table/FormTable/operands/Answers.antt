@@ -1,6 +1,6 @@
-use Rattle.std.proofs.Common.{◌≡◌, ◌-◌, ◌<◌, ◌+◌, List, ℕ, arith, subst, ◌∙◌, sym, ap, Some, slice_get, get_or, refl, length}
+use Rattle.std.proofs.Common.{◌≡◌, ◌-◌, ◌<◌, arith, subst, ◌∙◌, sym, ap, Some, slice_get, get_or, refl, length}
 use Rattle.std.proofs.lemmas.Option.{slice_get_read}
-use Rattle.lw_form.specs.Tables.{Table, made, spelled, AreBelow}
+use Rattle.lw_form.specs.Tables.{Table, made}
 use Rattle.lw_form.proofs.Tables.{simple_kind, and_at, key_below, forms_count}
 use Rattle.lw_form.proofs.table.FormTable.operands.Goals as goal
 
