@@ -1,6 +1,28 @@
-use Rattle.std.proofs.Common.{length, true≢false}
+use Rattle.std.proofs.Common.{◌/◌, ◌<◌, ◌∙◌, length, sym, subst, true≢false}
+use Rattle.lw_reduce.proofs.RepSteps.{valid_at}
 use Rattle.lw_reduce.proofs.RepLemmas.{unify_same, unify_none, unify_right, unify_left}
 use Rattle.lw_reduce.proofs.representatives.unify.Goals as goal
+
+pub find-a-requires-clause-valid : goal.find-a-requires-clause-valid
+find-a-requires-clause-valid c = c.requires.valid
+
+pub find-a-requires-clause-within : goal.find-a-requires-clause-within
+find-a-requires-clause-within c = c.requires.left
+
+pub find-b-requires-clause-valid : goal.find-b-requires-clause-valid
+find-b-requires-clause-valid c = 
+    let mid = c.find-a.new.reps in
+    let valid = c.find-a.ensures.valid in
+    valid_at (length mid) c.args.nands.now c.args.links.now mid (length c.args.reps.now) valid (sym valid.count)
+
+pub find-b-requires-clause-within : goal.find-b-requires-clause-within
+find-b-requires-clause-within c = subst (λ m. c.args.right / 2 < m) (sym c.find-a.ensures.valid.count) c.requires.right
+
+pub set_rep-requires : goal.set_rep-requires
+set_rep-requires c = subst (λ m. c.find-b.result / 2 < m) (sym c.find-b.ensures.valid.count) c.find-b.ensures.within
+
+pub set_rep-requires-else-a-b-2 : goal.set_rep-requires-else-a-b-2
+set_rep-requires-else-a-b-2 c = subst (λ m. c.find-a.result / 2 < m) (sym (c.find-b.ensures.valid.count ∙ c.find-a.ensures.valid.count)) c.find-a.ensures.within
 
 pub returns-then-a-b : goal.returns-then-a-b
 returns-then-a-b c = record {
