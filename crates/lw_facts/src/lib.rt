@@ -1,4 +1,4 @@
-//! Facts about truth values, numbers and lists, which the proofs of several crates cite.
+//! Facts about truth values, numbers, lists and results, which the proofs of several crates cite.
 //!
 //! The crate has no code: its lemmas stand in `proofs`, beside those that the standard library has.
 #![tactic(auto)]

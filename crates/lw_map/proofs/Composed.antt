@@ -34,7 +34,7 @@ use Rattle.lw_netlist.specs.Plain.{plain_gate}
 use Rattle.lw_netlist.specs.Plain.{plain as plain_netlist}
 use Rattle.lw_extract.specs.declared.ports.Ports.{Ports}
 use Rattle.lw_extract.specs.declared.ports.Cover.{Cover as NetlistCover}
-use Rattle.lw_extract.specs.Choosing.{labels, heights}
+use Rattle.lw_extract.specs.Choosing.{heights}
 use Rattle.lw_extract.specs.Covers.{AreFit, IsFirstUncovered, IsExtractedCover}
 use Rattle.lw_map.specs.declared.choices.Choices.{Choices}
 use Rattle.lw_map.specs.Options.{Options, plain_options}

@@ -1,7 +1,6 @@
 -- Where curves have few points, no classes have too many.
 use Rattle.std.proofs.Common.{ℕ, zero, suc, ◌<◌, ◌≤◌, ◌≡◌, ◌⊎◌, inl, inr, List, [], ◌∷◌, length, Some, None, slice_get, refl, ap, subst, arith}
 use Rattle.std.specs.List.{AllZip}
-use native.Mathlib.Decide.{dec_lt}
 use Rattle.lw_pool.specs.declared.id.NetId.{NetId}
 use Rattle.lw_fixed.specs.declared.micro.Micro.{Micro}
 use Rattle.lw_laws.specs.Decompositions.{listing_of}

@@ -3,6 +3,7 @@ pub mod Mapped
 pub mod Choices
 pub mod Ports
 pub mod Labelled
+pub mod Covering
 pub mod Mappings
 pub mod Faults
 pub mod Tabled

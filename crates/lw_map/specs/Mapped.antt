@@ -3,7 +3,7 @@ use Rattle.std.specs.Prelude.{ℕ, ◌<◌, ◌≤◌, ◌≡◌, List, length, 
 use Rattle.lw_pool.specs.declared.id.NetId.{NetId}
 use Rattle.lw_fixed.specs.declared.micro.Micro.{Micro}
 use Rattle.lw_laws.specs.Occurring.{occurring_forms, split_count}
-use Rattle.lw_laws.specs.Headline.{Ports, HasNoCover}
+use Rattle.lw_laws.specs.Headline.{HasNoCover}
 use Rattle.lw_laws.specs.MappedNetlists.{IsNetlistOf}
 use Rattle.lw_net.specs.Networks.{NetworkParts, name_in}
 use Rattle.lw_net.specs.Plain as network

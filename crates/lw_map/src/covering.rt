@@ -1,5 +1,5 @@
 // The netlist of the chosen matches.
-ghost use Rattle.std.specs.Prelude.{◌≡◌, ◌≤◌, ℕ, All, IfOk, IfErr, IfSome, List, Option, Some, Err, length, map, slice_get};
+ghost use Rattle.std.specs.Prelude.{◌≡◌, ◌≤◌, ℕ, All, IfOk, IfErr, List, Option, Some, Err, length, slice_get};
 ghost use Rattle.std.specs.List.{IsDistinct};
 ghost use Rattle.std.specs.Str.{bytes_eq};
 ghost use Rattle.lw_laws.specs.Extracts.{HaveLeafLabels};
@@ -7,17 +7,14 @@ ghost use Rattle.lw_laws.specs.Graphs.{most_classes};
 ghost use Rattle.lw_laws.specs.Matches.{IsLeastCover};
 ghost use Rattle.lw_laws.specs.Rounds.{labels_in};
 ghost use Rattle.lw_genlib.specs.Cells.{IsSmall};
-ghost use Rattle.lw_genlib.specs.Tables.{delays_of_cells};
 ghost use Rattle.lw_net.specs.Networks.{output_names};
 ghost use Rattle.lw_match.specs.declared.mark.Mark.{Mark as MarkOf};
-ghost use Rattle.lw_match.specs.Bounds.{BoundsFit, AreBounds};
-ghost use Rattle.lw_match.specs.Least.{AreOfCells};
 ghost use Rattle.lw_label.specs.Labels.{AreLeastMarks, costs_of};
 ghost use Rattle.lw_netlist.specs.Plain.{IsOver};
-ghost use Rattle.lw_extract.specs.declared.ports.Ports.{Ports as PortsOf};
-ghost use Rattle.lw_extract.specs.Covers.{IsExtractedCover, IsFirstUncovered};
+ghost use Rattle.lw_extract.specs.Covers.{IsFirstUncovered};
 ghost use Rattle.lw_map.specs.Choices.{AreChoicesOf};
-ghost use Rattle.lw_map.specs.Labelled.{AreStepsBy};
+ghost use Rattle.lw_map.specs.Covering.{CanBeCovered, IsCoverAtPorts, IsLabelledCover};
+ghost use Rattle.lw_map.specs.Labelled.{HasLeastLabels};
 ghost use Rattle.lw_map.specs.Ports.{ArePortsOf};
 ghost use Rattle.lw_map.specs.Mappings.{IsMappingOf};
 ghost use Rattle.lw_map.specs.Faults.{IsCoverFault};
@@ -71,21 +68,12 @@ fn covered<C: Cost>(
     labelled: &Labelled,
     cost: &C,
 ) -> Result<Cover, ExtractFault>
-    requires choices { AreChoicesOf net.now choices.now }
-    requires outputs { IsDistinct bytes_eq (output_names net.now) }
-    requires cells { (C.costs cost.now).pin_counts ≡ map length (delays_of_cells lib.now) }
-    requires of_cells { AreOfCells (C.costs cost.now).pin_counts pats.now }
-    requires least { AreLeastMarks choices.now.graph (C.costs cost.now) pats.now
-        labelled.now.labels }
+    requires given { CanBeCovered net.now choices.now lib.now (C.costs cost.now) pats.now }
+    requires labels { HasLeastLabels choices.now.graph (C.costs cost.now) pats.now labelled.now }
     requires leaves { HaveLeafLabels choices.now.graph (C.costs cost.now)
         (labels_in (costs_of labelled.now.labels)) }
-    requires fits { IfSome labelled.now.bounds (λ b. BoundsFit b pats.now choices.now.graph) }
-    requires bounds { IfSome labelled.now.bounds (λ b. AreBounds b choices.now.graph
-        labelled.now.labels) }
-    ensures cover { IfOk result (λ cover. (ports : PortsOf) × ArePortsOf net.now choices.now ports ×
-        IsExtractedCover choices.now.graph (C.costs cost.now) pats.now labelled.now.labels ports
-        cover) }
-    ensures over { IfOk result (λ cover. IsOver lib.now cover.netlist) }
+    ensures cover { IfOk result (IsCoverAtPorts net.now choices.now lib.now (C.costs cost.now)
+        pats.now labelled.now.labels) }
     ensures lacks { IfErr result (LacksLabel labelled.now.labels choices.now.roots) }
 {
     let _ = net.inputs();
@@ -108,19 +96,11 @@ pub(crate) fn mapped<C: Cost>(
     cost: &C,
     labeller: Labeller,
 ) -> Result<(Labelled, Cover), ExtractFault>
-    requires choices { AreChoicesOf net.now choices.now }
-    requires outputs { IsDistinct bytes_eq (output_names net.now) }
-    requires cells { (C.costs cost.now).pin_counts ≡ map length (delays_of_cells lib.now) }
-    requires of_cells { AreOfCells (C.costs cost.now).pin_counts pats.now }
+    requires given { CanBeCovered net.now choices.now lib.now (C.costs cost.now) pats.now }
     requires leaves { (i c : ℕ) → slice_get choices.now.graph.leaves i ≡ Some c → IsLeastCover
         choices.now.graph pats.now (C.costs cost.now) c (Some ((C.costs cost.now).leaf i)) }
-    ensures least { IfOk result (λ m. AreLeastMarks choices.now.graph (C.costs cost.now) pats.now
-        m.0.labels) }
-    ensures steps { IfOk result (λ m. AreStepsBy labeller choices.now.graph pats.now
-        (labels_in (costs_of m.0.labels)) m.0.steps) }
-    ensures cover { IfOk result (λ m. (ports : PortsOf) × ArePortsOf net.now choices.now ports ×
-        IsExtractedCover choices.now.graph (C.costs cost.now) pats.now m.0.labels ports m.1) }
-    ensures over { IfOk result (λ m. IsOver lib.now m.1.netlist) }
+    ensures mapped { IfOk result (λ m. IsLabelledCover labeller net.now choices.now lib.now
+        (C.costs cost.now) pats.now m.0 m.1) }
     ensures lacks { (k : ℕ) → result ≡ Err (ExtractFault.NoCover k) →
         (marks : List (Option MarkOf)) × AreLeastMarks choices.now.graph (C.costs cost.now)
         pats.now marks × IsFirstUncovered marks choices.now.roots k }

@@ -1,12 +1,11 @@
 // Labels of the classes of a graph.
-ghost use Rattle.std.specs.Prelude.{◌≡◌, ℕ, Some, None, IfOk, IfSome, slice_get};
+ghost use Rattle.std.specs.Prelude.{◌≡◌, ℕ, Some, None, IfOk, slice_get};
 ghost use Rattle.lw_laws.specs.Matches.{IsLeastCover};
 ghost use Rattle.lw_laws.specs.Rounds.{labels_in};
-ghost use Rattle.lw_match.specs.Bounds.{BoundsFit, AreBounds};
 ghost use Rattle.lw_match.specs.Least.{AreOfCells};
-ghost use Rattle.lw_label.specs.Labels.{AreLeastMarks, costs_of};
+ghost use Rattle.lw_label.specs.Labels.{costs_of};
 ghost use Rattle.lw_settle.specs.Steps.{AreSteps};
-ghost use Rattle.lw_map.specs.Labelled.{AreStepsBy};
+ghost use Rattle.lw_map.specs.Labelled.{AreStepsBy, HasLeastLabels};
 
 use crate::Labeller;
 use lw_graph::Graph;
@@ -34,10 +33,7 @@ fn by_rounds<C: Cost>(
     cost: &C,
 ) -> Result<Labelled, AllocError>
     requires { AreOfCells (C.costs cost.now).pin_counts pats.now }
-    ensures least { IfOk result (λ l. AreLeastMarks graph.now (C.costs cost.now) pats.now
-        l.labels) }
-    ensures fits { IfOk result (λ l. IfSome l.bounds (λ b. BoundsFit b pats.now graph.now)) }
-    ensures bounds { IfOk result (λ l. IfSome l.bounds (λ b. AreBounds b graph.now l.labels)) }
+    ensures labels { IfOk result (HasLeastLabels graph.now (C.costs cost.now) pats.now) }
     ensures steps { IfOk result (λ l. l.steps ≡ None) }
 {
     let found = relabel_with_bounds(alloc, graph, pats, cost)?;
@@ -58,10 +54,7 @@ fn settled<C: Cost>(
     requires of_cells { AreOfCells (C.costs cost.now).pin_counts pats.now }
     requires leaves { (i c : ℕ) → slice_get graph.now.leaves i ≡ Some c →
         IsLeastCover graph.now pats.now (C.costs cost.now) c (Some ((C.costs cost.now).leaf i)) }
-    ensures least { IfOk result (λ l. AreLeastMarks graph.now (C.costs cost.now) pats.now
-        l.labels) }
-    ensures fits { IfOk result (λ l. IfSome l.bounds (λ b. BoundsFit b pats.now graph.now)) }
-    ensures bounds { IfOk result (λ l. IfSome l.bounds (λ b. AreBounds b graph.now l.labels)) }
+    ensures labels { IfOk result (HasLeastLabels graph.now (C.costs cost.now) pats.now) }
     ensures steps { IfOk result (λ l. AreSteps graph.now pats.now
         (labels_in (costs_of l.labels)) l.steps) }
 {
@@ -95,10 +88,7 @@ pub(crate) fn label<C: Cost>(
     requires of_cells { AreOfCells (C.costs cost.now).pin_counts pats.now }
     requires leaves { (i c : ℕ) → slice_get graph.now.leaves i ≡ Some c →
         IsLeastCover graph.now pats.now (C.costs cost.now) c (Some ((C.costs cost.now).leaf i)) }
-    ensures least { IfOk result (λ l. AreLeastMarks graph.now (C.costs cost.now) pats.now
-        l.labels) }
-    ensures fits { IfOk result (λ l. IfSome l.bounds (λ b. BoundsFit b pats.now graph.now)) }
-    ensures bounds { IfOk result (λ l. IfSome l.bounds (λ b. AreBounds b graph.now l.labels)) }
+    ensures labels { IfOk result (HasLeastLabels graph.now (C.costs cost.now) pats.now) }
     ensures steps { IfOk result (λ l. AreStepsBy labeller graph.now pats.now
         (labels_in (costs_of l.labels)) l.steps) }
 {

@@ -1,4 +1,5 @@
-use Rattle.std.proofs.Common.{All, IsSome, Option, None, Some, List, IfSome, slice_index_or, sym, subst, subst₂}
+use Rattle.std.proofs.Common.{All, IsSome, Option, None, List, IfSome, slice_index_or, sym, subst, subst₂}
+use Rattle.lw_facts.proofs.Results.{some_both}
 use Rattle.lw_pool.specs.declared.id.ClassId.{ClassId}
 use Rattle.lw_laws.specs.Extracts.{HaveLeafLabels}
 use Rattle.lw_match.specs.declared.mark.Mark.{Mark}
@@ -6,11 +7,6 @@ use Rattle.lw_label.specs.Labels.{AreLeastMarks}
 use Rattle.lw_extract.specs.Choosing.{CanChoose, labels}
 use Rattle.lw_extract.proofs.Uncovered.{covered_ok, covered_memory}
 use Rattle.lw_extract.proofs.extracting.extract_with.Goals as goal
-
--- what two clauses say of a value that may be there
-both_if : {X : Type 0} {P Q R : X → Type 0} (o : Option X) → ((x : X) → P x → Q x → R x) → IfSome o P → IfSome o Q → IfSome o R
-both_if None f p q = tt
-both_if (Some x) f p q = f x p q
 
 pub cover_with-requires-clause-labels : goal.cover_with-requires-clause-labels
 cover_with-requires-clause-labels g c =
@@ -26,7 +22,7 @@ pub cover_with-requires-clause-settled : goal.cover_with-requires-clause-settled
 cover_with-requires-clause-settled g c =
     let cost = g.C.Cost.costs c.args.cost.now in
     subst (λ (ms : List (Option Mark)). IfSome c.args.bounds (λ b. CanChoose c.args.graph.now cost c.args.pats.now ms b.now)) (sym c.marks-marks.ensures)
-    (both_if c.args.bounds (λ b fits bounds. record { of_cells = c.requires.of_cells; least = c.requires.least; fits = fits; bounds = bounds }) c.requires.fits c.requires.bounds)
+    (some_both c.args.bounds c.requires.fits c.requires.bounds (λ b fits bounds. record { of_cells = c.requires.of_cells; least = c.requires.least; fits = fits; bounds = bounds }))
 
 pub returns-in-Err-clause-no_cover : goal.returns-in-Err-clause-no_cover
 returns-in-Err-clause-no_cover g c =

@@ -5,11 +5,13 @@ use Rattle.lw_map.proofs.Composed.{leaves_least, cover_maps, gates_few}
 use Rattle.lw_map.proofs.Refusals.{lack_within, cover_refused}
 use Rattle.lw_map.proofs.covering.cover.Goals as goal
 
-pub mapped-found-requires-clause-of_cells : goal.mapped-found-requires-clause-of_cells
-mapped-found-requires-clause-of_cells c = rw c.new-cost.ensures.lib (patterns_of_cells c.args.lib.now c.len.ensures.kept c.in_ok-pats.pats c.in_ok-pats.ensures.list c.in_ok-pats.ensures.pins)
-
-pub mapped-found-requires-clause-cells : goal.mapped-found-requires-clause-cells
-mapped-found-requires-clause-cells c = rw c.new-cost.ensures.lib refl
+pub mapped-found-requires-clause-given : goal.mapped-found-requires-clause-given
+mapped-found-requires-clause-given c = record {
+  chosen = c.requires.choices;
+  outputs = c.requires.outputs;
+  counts = rw c.new-cost.ensures.lib refl;
+  of_cells = rw c.new-cost.ensures.lib (patterns_of_cells c.args.lib.now c.len.ensures.kept c.in_ok-pats.pats c.in_ok-pats.ensures.list c.in_ok-pats.ensures.pins);
+}
 
 pub mapped-found-requires-clause-leaves : goal.mapped-found-requires-clause-leaves
 mapped-found-requires-clause-leaves c =
@@ -18,16 +20,16 @@ mapped-found-requires-clause-leaves c =
 
 pub returns-in-Ok-clause-mapping : goal.returns-in-Ok-clause-mapping
 returns-in-Ok-clause-mapping c =
-    let (ports, named, is) = c.in-Ok.ensures.cover in
+    let (ports, named, is) = c.in-Ok.ensures.mapped.cover.extracted in
     cover_maps c.args.net.now c.args.starts.now c.args.choices.now ports c.inputs.ensures.kept c.requires.choices named
-    c.args.lib.now c.in_ok-pats.pats c.in-Ok.labelled.labels c.in_ok-pats.ensures.list (rw (c.new-cost.ensures.lib, c.new-cost.ensures.starts) at c.in-Ok.ensures.least)
-    c.args.labeller c.in-Ok.labelled.steps c.in-Ok.ensures.steps c.in-Ok.cover c.gates.ensures.kept (rw (c.new-cost.ensures.lib, c.new-cost.ensures.starts) at is)
+    c.args.lib.now c.in_ok-pats.pats c.in-Ok.labelled.labels c.in_ok-pats.ensures.list (rw (c.new-cost.ensures.lib, c.new-cost.ensures.starts) at c.in-Ok.ensures.mapped.least)
+    c.args.labeller c.in-Ok.labelled.steps c.in-Ok.ensures.mapped.steps_are c.in-Ok.cover c.gates.ensures.kept (rw (c.new-cost.ensures.lib, c.new-cost.ensures.starts) at is)
 
 pub returns-in-Ok-clause-few : goal.returns-in-Ok-clause-few
 returns-in-Ok-clause-few c =
-    let (ports, named, is) = c.in-Ok.ensures.cover in
+    let (ports, named, is) = c.in-Ok.ensures.mapped.cover.extracted in
     gates_few c.args.net.now c.args.starts.now c.args.choices.now ports c.inputs.ensures.kept c.requires.choices named
-    c.args.lib.now c.in_ok-pats.pats c.in-Ok.labelled.labels c.in_ok-pats.ensures.list (rw (c.new-cost.ensures.lib, c.new-cost.ensures.starts) at c.in-Ok.ensures.least)
+    c.args.lib.now c.in_ok-pats.pats c.in-Ok.labelled.labels c.in_ok-pats.ensures.list (rw (c.new-cost.ensures.lib, c.new-cost.ensures.starts) at c.in-Ok.ensures.mapped.least)
     c.in-Ok.cover (rw (c.new-cost.ensures.lib, c.new-cost.ensures.starts) at is)
 
 pub refused-requires : goal.refused-requires

@@ -7,5 +7,5 @@ settle-labels-requires-clause-of_cells g c = of_stored_cells c.args.graph.now c.
 pub settle-labels-requires-clause-leaves : goal.settle-labels-requires-clause-leaves
 settle-labels-requires-clause-leaves g c = leaf_costs c.args.graph.now (g.C.Cost.costs c.args.cost.now) c.args.pats.now c.in-Ok.store.lists c.classes.ensures.kept (g.met.C.Cost.laws c.args.cost.now) c.requires.of_cells c.in-Ok.ensures.store c.requires.leaves
 
-pub returns-in_ok-labels-in-Ok-clause-least : goal.returns-in_ok-labels-in-Ok-clause-least
-returns-in_ok-labels-in-Ok-clause-least g c = settled_least c.args.graph.now (g.C.Cost.costs c.args.cost.now) c.args.pats.now c.in-Ok.store.lists c.classes.ensures.kept (g.met.C.Cost.laws c.args.cost.now) c.requires.of_cells c.in-Ok.ensures.store c.in_ok-labels-in-Ok.labels c.in_ok-labels-in-Ok.ensures.marks
+pub returns-in_ok-labels-in-Ok-clause-labels : goal.returns-in_ok-labels-in-Ok-clause-labels
+returns-in_ok-labels-in-Ok-clause-labels g c = record { fits = tt; bounds = tt; least = settled_least c.args.graph.now (g.C.Cost.costs c.args.cost.now) c.args.pats.now c.in-Ok.store.lists c.classes.ensures.kept (g.met.C.Cost.laws c.args.cost.now) c.requires.of_cells c.in-Ok.ensures.store c.in_ok-labels-in-Ok.labels c.in_ok-labels-in-Ok.ensures.marks }

@@ -1,5 +1,6 @@
-use Rattle.std.proofs.Common.{List, ℕ, Result, Ok, Err, IfOk, ap, sym, ◌∙◌, subst}
+use Rattle.std.proofs.Common.{List, ℕ, ap, sym, ◌∙◌, subst}
 use Rattle.std.proofs.lemmas.Result.{IfOk-weaker}
+use Rattle.lw_facts.proofs.Results.{ok_both}
 use Rattle.lw_words.specs.Lines.{LogicalLine}
 use Rattle.lw_blif.specs.Readers.{row_fault_of}
 use Rattle.lw_blif.specs.declared.command.Command.TheVariants as asks
@@ -7,11 +8,6 @@ use Rattle.lw_blif.specs.Keeping.{AddsRow, ReadsNames, ReadsArrival, names_fault
 use Rattle.lw_blif.proofs.Keeping.{fault-long}
 use Rattle.lw_blif.proofs.Reading.{row-fault, row-keeps, names-fault, names-keeps, ignored-fault, ignored-keeps, unknown-fault, unsupported-fault, names-left, arrival-fault, arrival-keeps}
 use Rattle.lw_blif.proofs.parts.Parts.read.Goals as goal
-
--- what follows from two facts where a result is Ok
-if_both : {X E : Type 0} (r : Result X E) (P Q R : X → Type 0) → ((x : X) → P x → Q x → R x) → IfOk r P → IfOk r Q → IfOk r R
-if_both (Ok x) P Q R f p q = f x p q
-if_both (Err e) P Q R f p q = tt
 
 pub returns-then-line-clause-fault : goal.returns-then-line-clause-fault
 returns-then-line-clause-fault c = λ lines k.
@@ -28,12 +24,11 @@ returns-in-Row-clause-fault c = λ lines k.
 pub returns-in-Row-clause-keeps : goal.returns-in-Row-clause-keeps
 returns-in-Row-clause-keeps c = λ lines k.
     let words = ap (λ (l : LogicalLine). l.words) c.line.view_is in
-    if_both c.read_row.result _ _ _
+    ok_both c.read_row.result c.read_row.ensures.fault c.read_row.ensures.row
     (λ fault is row none.
     row-keeps c.args.self.now c.read_row.new.self lines c.args.line.now (sym c.in-Row.is ∙ c.requires.asked)
     (sym none ∙ (is ∙ ap (row_fault_of c.args.self.now.node) words))
     (subst (λ (ws : List (List ℕ)). AddsRow c.args.self.now ws c.read_row.new.self) words (row none)) k)
-    c.read_row.ensures.fault c.read_row.ensures.row
 
 pub returns-in-Unknown-clause-fault : goal.returns-in-Unknown-clause-fault
 returns-in-Unknown-clause-fault c = λ lines k.

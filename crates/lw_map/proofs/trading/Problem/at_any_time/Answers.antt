@@ -3,17 +3,13 @@ use Rattle.lw_map.proofs.AnyTime.{leaves_free, none_lacks, traded_any_time}
 use Rattle.lw_map.proofs.Earliest.{ports_for, are_ports}
 use Rattle.lw_map.proofs.trading.Problem.at_any_time.Goals as goal
 
-pub mapped-requires-clause-choices : goal.mapped-requires-clause-choices
-mapped-requires-clause-choices c = c.requires.problem.chosen
-
-pub mapped-requires-clause-outputs : goal.mapped-requires-clause-outputs
-mapped-requires-clause-outputs c = c.requires.problem.outputs
-
-pub mapped-requires-clause-cells : goal.mapped-requires-clause-cells
-mapped-requires-clause-cells c = rw c.new-cost.ensures refl
-
-pub mapped-requires-clause-of_cells : goal.mapped-requires-clause-of_cells
-mapped-requires-clause-of_cells c = rw c.new-cost.ensures c.requires.problem.of_cells
+pub mapped-requires-clause-given : goal.mapped-requires-clause-given
+mapped-requires-clause-given c = record {
+  chosen = c.requires.problem.chosen;
+  outputs = c.requires.problem.outputs;
+  counts = rw c.new-cost.ensures refl;
+  of_cells = rw c.new-cost.ensures c.requires.problem.of_cells;
+}
 
 pub mapped-requires-clause-leaves : goal.mapped-requires-clause-leaves
 mapped-requires-clause-leaves c = λ i k at. leaves_free c.args.self.now.choices.now c.new-cost.result.lib.now c.args.self.now.pats i k at
@@ -21,11 +17,11 @@ mapped-requires-clause-leaves c = λ i k at. leaves_free c.args.self.now.choices
 pub returns-in-Ok-clause-traded : goal.returns-in-Ok-clause-traded
 returns-in-Ok-clause-traded c =
     let (times, earliest) = c.requires.covered in
-    let (ports, named, is) = c.in-Ok.ensures.cover in
+    let (ports, named, is) = c.in-Ok.ensures.mapped.cover.extracted in
     traded_any_time c.args.self.now.net.now c.args.self.now.starts.now c.args.self.now.choices.now c.args.self.now.lib.now c.requires.problem.network c.requires.problem.chosen c.in-Ok.labelled.labels
-    (rw (c.requires.problem.patterns, c.new-cost.ensures) at c.in-Ok.ensures.least) ports named c.in-Ok.cover
+    (rw (c.requires.problem.patterns, c.new-cost.ensures) at c.in-Ok.ensures.mapped.least) ports named c.in-Ok.cover
     (rw (c.requires.problem.patterns, c.new-cost.ensures) at is) times earliest
-    c.requires.problem.library c.gates.ensures.kept c.in-Ok.ensures.over c.requires.problem.outputs
+    c.requires.problem.library c.gates.ensures.kept c.in-Ok.ensures.mapped.cover.over c.requires.problem.outputs
 
 pub unreachable-requires : goal.unreachable-requires
 unreachable-requires c =

@@ -20,18 +20,18 @@ labels_of-times-requires-clause-few c = rw c.as_slice-roots.ensures (roots_low c
 pub returns-in-Ok-clause-earliest : goal.returns-in-Ok-clause-earliest
 returns-in-Ok-clause-earliest c =
     labels_earliest c.args.self.now.net.now c.args.self.now.starts.now c.args.self.now.choices.now c.args.self.now.lib.now c.requires.network c.requires.chosen c.requires.early c.requires.library c.in_ok-labelled.labelled.labels
-    (rw (c.new-cost.ensures.lib, c.new-cost.ensures.starts, c.requires.patterns) at c.in_ok-labelled.ensures.least) c.in-Ok.times.items (rw (c.marks.ensures, c.as_slice-roots.ensures) at c.in-Ok.ensures.labels)
+    (rw (c.new-cost.ensures.lib, c.new-cost.ensures.starts, c.requires.patterns) at c.in_ok-labelled.ensures.labels.least) c.in-Ok.times.items (rw (c.marks.ensures, c.as_slice-roots.ensures) at c.in-Ok.ensures.labels)
 
 pub returns-in-Ok-clause-low : goal.returns-in-Ok-clause-low
 returns-in-Ok-clause-low c =
     all_low c.args.self.now.net.now c.args.self.now.starts.now c.args.self.now.choices.now c.args.self.now.lib.now c.requires.network c.requires.chosen c.requires.early c.requires.library c.in_ok-labelled.labelled.labels
-    (rw (c.new-cost.ensures.lib, c.new-cost.ensures.starts, c.requires.patterns) at c.in_ok-labelled.ensures.least) c.in-Ok.times.items (rw (c.marks.ensures, c.as_slice-roots.ensures) at c.in-Ok.ensures.labels)
+    (rw (c.new-cost.ensures.lib, c.new-cost.ensures.starts, c.requires.patterns) at c.in_ok-labelled.ensures.labels.least) c.in-Ok.times.items (rw (c.marks.ensures, c.as_slice-roots.ensures) at c.in-Ok.ensures.labels)
 
 pub refused-requires : goal.refused-requires
 refused-requires c = λ k e.
     lack_within c.args.self.now.net.now c.args.self.now.starts.now c.args.self.now.choices.now c.requires.network c.requires.chosen c.args.self.now.lib.now c.args.self.now.pats c.requires.patterns k (
       c.in_ok-labelled.labelled.labels,
-      rw (c.new-cost.ensures.lib, c.new-cost.ensures.starts) at c.in_ok-labelled.ensures.least,
+      rw (c.new-cost.ensures.lib, c.new-cost.ensures.starts) at c.in_ok-labelled.ensures.labels.least,
       subst (LacksLabel c.in_ok-labelled.labelled.labels c.args.self.now.choices.now.roots) e (rw (c.marks.ensures, c.as_slice-roots.ensures) at c.in-Err.ensures.lacks),
     )
 
@@ -40,7 +40,7 @@ returns-in-Err-clause-fault c =
     cover_refused c.args.self.now.net.now c.args.self.now.starts.now c.args.self.now.choices.now c.requires.network c.requires.chosen c.args.self.now.lib.now c.args.self.now.pats c.requires.patterns c.in-Err.fault c.refused.result
     (λ k e. (
       c.in_ok-labelled.labelled.labels,
-      rw (c.new-cost.ensures.lib, c.new-cost.ensures.starts) at c.in_ok-labelled.ensures.least,
+      rw (c.new-cost.ensures.lib, c.new-cost.ensures.starts) at c.in_ok-labelled.ensures.labels.least,
       subst (LacksLabel c.in_ok-labelled.labelled.labels c.args.self.now.choices.now.roots) e (rw (c.marks.ensures, c.as_slice-roots.ensures) at c.in-Err.ensures.lacks),
     ))
     c.refused.ensures.named c.refused.ensures.memory
