@@ -122,7 +122,7 @@ parts_grown room keys new p are few left right e = subst (AreParts room) (sym e)
   where
     by_test : (b : Bool) → AreParts room (if b then keys else keys ++ p ∷ [])
     by_test true = are
-    by_test false = record { few = omega (arith, length-append keys (p ∷ [])); closed = closed_more keys p are.closed left right }
+    by_test false = record { small = are.small; few = omega (arith, length-append keys (p ∷ [])); closed = closed_more keys p are.closed left right }
 
 -- a side with its shift relative to a base
 pub above_fits : (n base : ℕ) (s : Side) → SideFits n s → SideFits n (side_above base s)

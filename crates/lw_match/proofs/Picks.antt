@@ -14,7 +14,7 @@ use Rattle.lw_match.specs.declared.parts.Kind.TheVariants.{Any}
 use Rattle.lw_match.specs.declared.parts.Root.{Root}
 use Rattle.lw_match.specs.declared.parts.Side.{Side}
 use Rattle.lw_match.specs.declared.query.Query.{Query}
-use Rattle.lw_match.specs.declared.bettering.Target.{Target}
+use Rattle.lw_match.specs.declared.target.Target.{Target}
 use Rattle.lw_match.specs.declared.choosing.Pick.{Pick}
 use Rattle.lw_match.specs.Values.{plain_mark, marks_in, AreInRange}
 use Rattle.lw_match.specs.Numbers.{never}
@@ -216,11 +216,12 @@ module _ {C : _} (cost : Cost) (q : Query C) where
         bound = Some (record { cost = p.top; height = 0 });
         top = p.top;
         by_marks = false;
+        is_top = is_top p.top;
       }
 
       nowhere : (list : ℕ) (numbers : List ℕ) (b : Priced) → numbers ≡ list_at q.view list → IsInList q p.top list b → IsPricedIn cost q b → (root : Root) → root ≡ root_of b.found.pattern (root_side (cuts_state q.cuts) b.found.pattern) → IsFar numbers root.place root.shift p.top → ⊥
       nowhere list numbers b numbers_is (low, in_list) at root root_is f =
-          far cost q cap is_cost in_range is list numbers root b.found.pattern target numbers_is (pattern_within b at) (rooted b at) in_list root_is (is_top p.top) f pick.bounds (inr (pick.sure b.found.pattern)) b (at, refl) (inl low)
+          far cost q cap is_cost in_range is list numbers root b.found.pattern target numbers_is (pattern_within b at) (rooted b at) in_list root_is f pick.bounds (inr (pick.sure b.found.pattern)) b (at, refl) (inl low)
 
       -- the number of the root is not below the top
       pub far_root : (list : ℕ) (numbers : List ℕ) (root : Root) (best : Option Best) → numbers ≡ list_at q.view list → IsFar numbers root.place root.shift p.top → Improves (those (IsByRoot q p.top list root)) (IsPricedIn cost q) best best

@@ -132,6 +132,17 @@ pub record IsRowRenewed (g : Graph) (old : Reading) (parts : List Part) (new : L
   pub lowered : AreLowered g old parts new c
   pub others : AreRowsBut (length parts) old.starts (λ d. d ≡ c) old.numbers new
 
+-- a table of these patterns and this graph, with a mark or none for each class, and so many times
+pub record IsTimed (b : BoundsState) (times : ℕ) (pats : List Pattern) (g : Graph) (marks : List (Option Mark)) : Type 0 where
+  pub one_each : length marks ≡ length g.pairs
+  pub times_are : times ≡ length g.pairs
+  pub fit : BoundsFit b pats g
+
+-- a number of the table fell, or it is the same
+pub record IsTableAfter (old new : BoundsState) (fell : Bool) : Type 0 where
+  pub falls : fell ≡ true → bounds_weight new < bounds_weight old
+  pub same : fell ≡ false → new ≡ old
+
 -- a table that is settled at each class is one of bounds
 abbrev pub SettledBoundsAreBounds : Type 0
 SettledBoundsAreBounds =

@@ -6,6 +6,7 @@ pub mod Hunts
 pub mod Intervals
 pub mod Jobs
 pub mod Least
+pub mod Lowering
 pub mod Matching
 pub mod Needs
 pub mod Numbers

@@ -71,10 +71,15 @@ abbrev pub HasRule : List Group → ℕ → Part → Type 0
 HasRule groups n p =
     (i j : ℕ) × (group : Group) × (slice_get groups i ≡ Some group) × (group.left ≡ list_of p.left) × (group.right ≡ list_of p.right) × (slice_get group.rules.items j ≡ Some (rule_of n p))
 
+-- rules of these parts, by two of the three lists
+abbrev pub IsGroupAmong : List Part → Group → Type 0
+IsGroupAmong parts group =
+    (group.left ≤ 2) × (group.right ≤ 2) × AreRulesOf parts group.left group.right group.rules.items
+
 -- groups of rules of these parts
 abbrev pub AreGroupsOf : List Part → List Group → Type 0
 AreGroupsOf parts groups =
-    (i : ℕ) (group : Group) → slice_get groups i ≡ Some group → (group.left ≤ 2) × (group.right ≤ 2) × AreRulesOf parts group.left group.right group.rules.items
+    (i : ℕ) (group : Group) → slice_get groups i ≡ Some group → IsGroupAmong parts group
 
 -- each part has its rule
 pub record AreGrouped (parts : List Part) (groups : List Group) : Type 0 where

@@ -1,5 +1,5 @@
 -- Parts of patterns, and the trees of their shape.
-use Rattle.std.specs.Prelude.{ℕ, ◌+◌, ◌-◌, ◌<◌, ◌≤◌, ◌≡◌, ◌⊎◌, not, false, List, [], ◌++◌, length, Some, slice_get, slice_index, slice_index_or}
+use Rattle.std.specs.Prelude.{ℕ, ◌+◌, ◌-◌, ◌^◌, ◌<◌, ◌≤◌, ◌≡◌, ◌⊎◌, not, false, List, [], ◌++◌, length, Some, slice_get, slice_index, slice_index_or}
 use Rattle.lw_laws.specs.Trees.{Tree, leaf, const_one, const_zero, inv, nand}
 use Rattle.lw_laws.specs.Covers.{Pattern}
 use Rattle.lw_pattern.specs.Nodes.{tree_at, nodes_of}
@@ -84,14 +84,20 @@ abbrev pub AreClosed : List Part → Type 0
 AreClosed parts =
     (n : ℕ) (p : Part) → slice_get parts n ≡ Some p → SideFits (length parts) p.left × SideFits (length parts) p.right
 
--- such parts, no more of them than there is room for
+-- such parts, no more of them than there is room for, which is so little that places are 32 bits long
 pub record AreParts (room : ℕ) (parts : List Part) : Type 0 where
+  pub small : room < 2 ^ 32
   pub few : length parts ≤ room
   pub closed : AreClosed parts
 
 -- these parts, and others behind them
 abbrev pub AreMoreParts : List Part → List Part → Type 0
 AreMoreParts parts more = (rest : List Part) × (more ≡ parts ++ rest)
+
+-- the same parts, and others behind them, with room for all
+pub record HaveGrown (room : ℕ) (before after : List Part) : Type 0 where
+  pub parts : AreParts room after
+  pub more : AreMoreParts before after
 
 -- the side of each of the first nodes has the shape of the node's tree
 abbrev pub HaveShapes : List Part → List ℕ → List PatNode → List Side → Type 0

@@ -36,6 +36,7 @@ mod settling;
 mod shapes;
 mod starts;
 mod sweeping;
+mod target;
 mod times;
 mod tops;
 

@@ -1,12 +1,11 @@
 // Numbers of parts that fall to what pairs give.
-ghost use Rattle.std.specs.Prelude.{◌≡◌, ◌<◌, ◌≤◌, ℕ, length, max, min, Some, slice_get, slice_index, slice_index_or, IsTrue, IsFalse};
+ghost use Rattle.std.specs.Prelude.{◌≡◌, ◌<◌, ◌≤◌, ℕ, length, max, min, Some, slice_get, slice_index};
 ghost use Rattle.lw_graph.specs.declared.pair.Pair.{Pair};
-ghost use Rattle.lw_match.specs.Numbers.{reading, shifted, pair_number, IsReading};
-ghost use Rattle.lw_match.specs.Bounds.{total};
-ghost use Rattle.lw_match.specs.Shapes.{AreClosed};
+ghost use Rattle.lw_match.specs.Numbers.{reading, pair_number};
+ghost use Rattle.lw_match.specs.Lowering.{AreLessened, AreNumbersOf, AreViews, IsPlanned};
 ghost use Rattle.lw_match.specs.declared.parts.Part.{Part};
 ghost use Rattle.lw_match.specs.declared.parts.Rule.{Rule};
-ghost use Rattle.lw_match.specs.Places.{list_at, view_number, given, AreRulesOf, AreGrouped, AreNoMore, AreNumbers, AreWithin, IsView};
+ghost use Rattle.lw_match.specs.Places.{list_at, view_number, given, AreGrouped, AreWithin, IsGroupAmong};
 
 use crate::numbers::Numbers;
 use crate::parts::{Group, Part, Rule};
@@ -44,10 +43,8 @@ fn given_below(bound: u64, rule: Rule, xs: &[u64], ys: &[u64]) -> u64
 // Lets a number fall to another, and says whether it fell.
 fn lower_number(numbers: &mut [u64], place: usize, least: u64) -> bool
     requires { place < length numbers.old }
-    ensures no_more { AreNoMore numbers.new numbers.old }
     ensures low { slice_index numbers.new place ≤ least }
-    ensures falls { IsTrue result → total numbers.new < total numbers.old }
-    ensures same { IsFalse result → numbers.new ≡ numbers.old }
+    ensures lessened { AreLessened numbers.old numbers.new result }
 {
     if least < numbers[place] {
         numbers[place] = least;
@@ -60,9 +57,7 @@ fn lower_number(numbers: &mut [u64], place: usize, least: u64) -> bool
 // Lets the number of each rule's part fall to what two lists give, and says whether one fell.
 fn lower(rules: &[Rule], xs: &[u64], ys: &[u64], least: &mut [u64]) -> bool
     requires within { AreWithin xs.now ys.now least.old rules.now }
-    ensures no_more { AreNoMore least.new least.old }
-    ensures falls { IsTrue result → total least.new < total least.old }
-    ensures same { IsFalse result → least.new ≡ least.old }
+    ensures lessened { AreLessened least.old least.new result }
     ensures lowered { (i : ℕ) (q : Rule) → slice_get rules.now i ≡ Some q →
         slice_index least.new q.part ≤ given xs.now ys.now q }
 {
@@ -78,18 +73,10 @@ fn lower(rules: &[Rule], xs: &[u64], ys: &[u64], least: &mut [u64]) -> bool
 
 // The same, where one of the lists may be an empty row: nothing stands there.
 fn lower_where(plan: Plan, group: &Group, one: View, other: View, least: &mut [u64]) -> bool
-    requires closed { AreClosed plan.parts.now }
-    requires rules { AreRulesOf plan.parts.now group.now.left group.now.right
-        group.now.rules.items }
-    requires left { group.now.left ≤ 2 }
-    requires right { group.now.right ≤ 2 }
-    requires one { IsView (length plan.parts.now) one }
-    requires other { IsView (length plan.parts.now) other }
-    requires one_each { length least.old ≡ length plan.parts.now }
-    requires numbers { AreNumbers least.old }
-    ensures no_more { AreNoMore least.new least.old }
-    ensures falls { IsTrue result → total least.new < total least.old }
-    ensures same { IsFalse result → least.new ≡ least.old }
+    requires group { IsGroupAmong plan.parts.now group.now }
+    requires views { AreViews (length plan.parts.now) one other }
+    requires numbers { AreNumbersOf plan.parts.now least.old }
+    ensures lessened { AreLessened least.old least.new result }
     ensures lowered { (i : ℕ) (q : Rule) → slice_get group.now.rules.items i ≡ Some q →
         slice_index least.new q.part ≤ given (list_at one.entry group.now.left)
         (list_at other.entry group.now.right) q }
@@ -108,15 +95,10 @@ fn lower_where(plan: Plan, group: &Group, one: View, other: View, least: &mut [u
 // Lets the number of each part fall to what it is with its left side in one place and its right
 // side in the other, and says whether one fell.
 fn lower_all(plan: Plan, one: View, other: View, least: &mut [u64]) -> bool
-    requires closed { AreClosed plan.parts.now }
     requires grouped { AreGrouped plan.parts.now plan.groups.now }
-    requires one { IsView (length plan.parts.now) one }
-    requires other { IsView (length plan.parts.now) other }
-    requires one_each { length least.old ≡ length plan.parts.now }
-    requires numbers { AreNumbers least.old }
-    ensures no_more { AreNoMore least.new least.old }
-    ensures falls { IsTrue result → total least.new < total least.old }
-    ensures same { IsFalse result → least.new ≡ least.old }
+    requires views { AreViews (length plan.parts.now) one other }
+    requires numbers { AreNumbersOf plan.parts.now least.old }
+    ensures lessened { AreLessened least.old least.new result }
     ensures lowered { (n : ℕ) (p : Part) → slice_get plan.entry.parts.now n ≡ Some p →
         slice_index least.new n
         ≤ max (view_number one.entry p.left) (view_number other.entry p.right) }
@@ -131,17 +113,9 @@ fn lower_all(plan: Plan, one: View, other: View, least: &mut [u64]) -> bool
 
 // Lets the number of each part fall to what a pair gives, and says whether one fell.
 fn lower_by(at: Numbers, plan: Plan, pair: Pair, least: &mut [u64]) -> bool
-    requires reading { IsReading (reading at) }
-    requires left { pair.x.0 < length at.marks.now }
-    requires right { pair.y.0 < length at.marks.now }
-    requires width { at.width ≡ length plan.parts.now }
-    requires closed { AreClosed plan.parts.now }
-    requires grouped { AreGrouped plan.parts.now plan.groups.now }
-    requires one_each { length least.old ≡ length plan.parts.now }
-    requires numbers { AreNumbers least.old }
-    ensures no_more { AreNoMore least.new least.old }
-    ensures falls { IsTrue result → total least.new < total least.old }
-    ensures same { IsFalse result → least.new ≡ least.old }
+    requires planned { IsPlanned (reading at) plan least.old }
+    requires pair { (pair.x.0 < length at.marks.now) × (pair.y.0 < length at.marks.now) }
+    ensures lessened { AreLessened least.old least.new result }
     ensures lowered { (n : ℕ) (p : Part) → slice_get plan.entry.parts.now n ≡ Some p →
         slice_index least.new n ≤ pair_number (reading at.entry) p pair.x.0 pair.y.0 }
 {
@@ -159,16 +133,10 @@ fn lower_by(at: Numbers, plan: Plan, pair: Pair, least: &mut [u64]) -> bool
 
 /// Lets the number of each part fall to what each of the pairs gives, and says whether one fell.
 pub(crate) fn lower_by_all(at: Numbers, plan: Plan, pairs: &[Pair], least: &mut [u64]) -> bool
-    requires reading { IsReading (reading at) }
+    requires planned { IsPlanned (reading at) plan least.old }
     requires pairs { (i : ℕ) (q : Pair) → slice_get pairs.now i ≡ Some q →
         (q.x.0 < length at.marks.now) × (q.y.0 < length at.marks.now) }
-    requires width { at.width ≡ length plan.parts.now }
-    requires closed { AreClosed plan.parts.now }
-    requires grouped { AreGrouped plan.parts.now plan.groups.now }
-    requires one_each { length least.old ≡ length plan.parts.now }
-    requires numbers { AreNumbers least.old }
-    ensures falls { IsTrue result → total least.new < total least.old }
-    ensures same { IsFalse result → least.new ≡ least.old }
+    ensures lessened { AreLessened least.old least.new result }
     ensures lowered { (i : ℕ) (q : Pair) (n : ℕ) (p : Part) → slice_get pairs.now i ≡ Some q →
         slice_get plan.entry.parts.now n ≡ Some p →
         slice_index least.new n ≤ pair_number (reading at.entry) p q.x.0 q.y.0 }

@@ -1,9 +1,8 @@
 // Numbers of the parts at a class, as its pairs give them.
 ghost use Rattle.std.specs.Prelude.{◌≡◌, ◌+◌, ◌<◌, ◌≤◌, ◌||◌, ◌⊎◌, ℕ, length, slice_index};
 ghost use Rattle.std.specs.List.{slice_range};
-ghost use Rattle.lw_graph.specs.Graphs.{IsGraph};
-ghost use Rattle.lw_match.specs.Bounds.{total, reading_of, AreRows, IsRowRenewed};
-ghost use Rattle.lw_match.specs.Places.{AreGrouped};
+ghost use Rattle.lw_match.specs.Bounds.{total, reading_of, IsRowRenewed};
+ghost use Rattle.lw_match.specs.Lowering.{IsRenewal};
 
 use crate::Mark;
 use crate::lowering::{Plan, lower_by_all};
@@ -48,12 +47,7 @@ pub(crate) fn renew_parts(
     least: &mut [u64],
     numbers: &mut [u64],
 ) -> bool
-    requires graph { IsGraph renewal.graph.now }
-    requires class { renewal.class.0 < length renewal.graph.now.pairs }
-    requires one_each { length renewal.marks.now ≡ length renewal.graph.now.pairs }
-    requires rows { AreRows plan.parts.now renewal.starts.now numbers.old renewal.graph.now }
-    requires grouped { AreGrouped plan.parts.now plan.groups.now }
-    requires least { length least.old ≡ length plan.parts.now }
+    requires { IsRenewal renewal plan least.old numbers.old }
     ensures { IsRowRenewed renewal.entry.graph.now
         (reading_of renewal.entry.graph.now renewal.entry.marks.now plan.entry.parts.now
         renewal.entry.starts.now numbers.old) plan.entry.parts.now numbers.new

@@ -1,6 +1,6 @@
 // Tables of marks that do not change any more.
 ghost use Rattle.std.specs.Prelude.{◌≡◌, ◌<◌, ℕ, IfOk, IsTrue, IsFalse, length};
-ghost use Rattle.lw_match.specs.Bounds.{BoundsFit, AreSettledAt, AreBounds, bounds_weight};
+ghost use Rattle.lw_match.specs.Bounds.{BoundsFit, AreSettledAt, AreBounds, IsTableAfter, IsTimed, bounds_weight};
 ghost use Rattle.lw_match.specs.Least.{AreOfCells};
 
 use crate::renewing::either;
@@ -23,13 +23,9 @@ fn renew_class(
     whole: bool,
 ) -> bool
     requires class { class.0 < length graph.now.pairs }
-    requires one_each { length marks.now ≡ length graph.now.pairs }
-    requires times { times.old ≡ length graph.now.pairs }
-    requires fits { BoundsFit bounds.old pats.now graph.now }
-    ensures times { times.new ≡ times.old }
-    ensures fits { BoundsFit bounds.new pats.now graph.now }
-    ensures falls { IsTrue result → bounds_weight bounds.new < bounds_weight bounds.old }
-    ensures same { IsFalse result → bounds.new ≡ bounds.old }
+    requires timed { IsTimed bounds.old times.old pats.now graph.now marks.now }
+    ensures timed { IsTimed bounds.new times.new pats.now graph.now marks.now }
+    ensures after { IsTableAfter bounds.old bounds.new result }
     ensures settled { IsTrue whole → IsFalse result →
         AreSettledAt bounds.old graph.now marks.now class.0 }
 {
@@ -51,13 +47,9 @@ fn renew_round(
     marks: &[Option<Mark>],
     whole: bool,
 ) -> bool
-    requires one_each { length marks.now ≡ length graph.now.pairs }
-    requires times { times.old ≡ length graph.now.pairs }
-    requires fits { BoundsFit bounds.old pats.now graph.now }
-    ensures times { times.new ≡ times.old }
-    ensures fits { BoundsFit bounds.new pats.now graph.now }
-    ensures falls { IsTrue result → bounds_weight bounds.new < bounds_weight bounds.old }
-    ensures same { IsFalse result → bounds.new ≡ bounds.old }
+    requires timed { IsTimed bounds.old times.old pats.now graph.now marks.now }
+    ensures timed { IsTimed bounds.new times.new pats.now graph.now marks.now }
+    ensures after { IsTableAfter bounds.old bounds.new result }
     ensures settled { IsTrue whole → IsFalse result → (c : ℕ) → c < length graph.now.pairs →
         AreSettledAt bounds.new graph.now marks.now c }
 {
@@ -81,11 +73,8 @@ fn renew_rounds(
     pats: &Patterns,
     marks: &[Option<Mark>],
 ) -> bool
-    requires one_each { length marks.now ≡ length graph.now.pairs }
-    requires times { times.old ≡ length graph.now.pairs }
-    requires fits { BoundsFit bounds.old pats.now graph.now }
-    ensures times { times.new ≡ times.old }
-    ensures fits { BoundsFit bounds.new pats.now graph.now }
+    requires timed { IsTimed bounds.old times.old pats.now graph.now marks.now }
+    ensures timed { IsTimed bounds.new times.new pats.now graph.now marks.now }
     ensures falls { IsTrue result → bounds_weight bounds.new < bounds_weight bounds.old }
     ensures settled { IsFalse result → (c : ℕ) → c < length graph.now.pairs →
         AreSettledAt bounds.new graph.now marks.now c }

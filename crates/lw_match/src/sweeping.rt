@@ -1,17 +1,17 @@
 // Hunts by all patterns at a class: those alone are searched whose roots have numbers low enough.
-ghost use Rattle.std.specs.Prelude.{◌≡◌, ◌<◌, ℕ, length, None, Option, IsTrue, IsFalse, replicate};
-ghost use Rattle.lw_match.specs.declared.mark.Mark.{Mark};
-ghost use Rattle.lw_match.specs.Cutting.{cuts_state, root_side, IsTopOf};
+ghost use Rattle.std.specs.Prelude.{◌≡◌, ◌<◌, ℕ, length, IsTrue, IsFalse};
+ghost use Rattle.lw_match.specs.Cutting.{cuts_state, root_side};
 ghost use Rattle.lw_match.specs.Places.{list_at, list_of, root_of, AreListed, AreRootsListed, IsFar};
-ghost use Rattle.lw_match.specs.Queries.{IsQuery, IsWhole, HasNoneIfSure};
-ghost use Rattle.lw_match.specs.Hunts.{IsHunt, GoesOn};
+ghost use Rattle.lw_match.specs.Queries.{IsQuery};
+ghost use Rattle.lw_match.specs.Hunts.{GoesOn, IsDone, IsWholeHunt};
 
-use crate::bettering::{Target, better_by, target_after};
-use crate::binding::Binding;
+use crate::bettering::{better_by, target_after};
+use crate::binding::Unbound;
 use crate::numbers::shifted;
 use crate::parts::Root;
 use crate::query::Query;
 use crate::rows::list_at;
+use crate::target::Target;
 use crate::{Best, Cost};
 use lw_pool::PatId;
 
@@ -43,22 +43,14 @@ pub(crate) fn is_bare(numbers: &[u64], top: u64) -> bool
 }
 
 /// Goes on with a hunt by one pattern.
-fn hunt_by<C: Cost>(query: &Query<C>, pat: PatId, hunt: &mut Hunt, binding: &mut Binding)
+fn hunt_by<C: Cost>(query: &Query<C>, pat: PatId, hunt: &mut Hunt, unbound: &mut Unbound)
     requires query { IsQuery C.CAP (C.costs query.now.cost.now) query.now }
     requires pat { pat.0 < length query.now.pats.now }
-    requires no_pins { binding.old.pins ≡ replicate 16 None }
-    requires no_costs { binding.old.costs ≡ replicate 16 0 }
-    requires top { IsTopOf hunt.old.target.bound hunt.old.target.top }
-    ensures kept { binding.new ≡ binding.old }
-    ensures hunt { (bound : Option Mark) → IsHunt (C.costs query.now.cost.now) query.now bound
-        hunt.old → IsHunt (C.costs query.now.cost.now) query.now bound hunt.new }
-    ensures top { IsTopOf hunt.new.target.bound hunt.new.target.top }
-    ensures goes_on { GoesOn hunt.old hunt.new }
-    ensures none { IsWhole hunt.new.target.by_marks hunt.new.found →
-        HasNoneIfSure (C.costs query.now.cost.now) query.now pat.0 hunt.new.target.bound
-        hunt.new.target.top }
+    ensures goes_on { GoesOn (C.costs query.now.cost.now) query.now hunt.old hunt.new }
+    ensures none { IsWholeHunt hunt.new →
+        IsDone (C.costs query.now.cost.now) query.now hunt.new pat.0 }
 {
-    if let Some(best) = better_by(query, pat, hunt.target, binding) {
+    if let Some(best) = better_by(query, pat, hunt.target, unbound) {
         hunt.target = target_after(hunt.target, best.mark);
         hunt.found = Some(best);
     }
@@ -71,31 +63,22 @@ fn hunt_root<C: Cost>(
     numbers: &[u64],
     root: Root,
     hunt: &mut Hunt,
-    binding: &mut Binding,
+    unbound: &mut Unbound,
 )
     requires query { IsQuery C.CAP (C.costs query.now.cost.now) query.now }
     requires numbers { numbers.now ≡ list_at query.now.view list }
-    requires no_pins { binding.old.pins ≡ replicate 16 None }
-    requires no_costs { binding.old.costs ≡ replicate 16 0 }
-    requires top { IsTopOf hunt.old.target.bound hunt.old.target.top }
-    ensures kept { binding.new ≡ binding.old }
-    ensures hunt { (bound : Option Mark) → IsHunt (C.costs query.now.cost.now) query.now bound
-        hunt.old → IsHunt (C.costs query.now.cost.now) query.now bound hunt.new }
-    ensures top { IsTopOf hunt.new.target.bound hunt.new.target.top }
-    ensures goes_on { GoesOn hunt.old hunt.new }
-    ensures none { IsWhole hunt.new.target.by_marks hunt.new.found →
-        (i : ℕ) → i < length query.now.pats.now →
+    ensures goes_on { GoesOn (C.costs query.now.cost.now) query.now hunt.old hunt.new }
+    ensures none { IsWholeHunt hunt.new → (i : ℕ) → i < length query.now.pats.now →
         i < length query.now.cuts.roots.now →
         list_of (root_side (cuts_state query.now.cuts) i) ≡ list →
         root ≡ root_of i (root_side (cuts_state query.now.cuts) i) →
-        HasNoneIfSure (C.costs query.now.cost.now) query.now i hunt.new.target.bound
-        hunt.new.target.top }
+        IsDone (C.costs query.now.cost.now) query.now hunt.new i }
 {
     if root.pattern >= query.pats.len() {
         return;
     }
     if is_near(numbers, root, hunt.target.top) {
-        hunt_by(query, PatId(root.pattern), hunt, binding);
+        hunt_by(query, PatId(root.pattern), hunt, unbound);
     }
 }
 
@@ -105,79 +88,52 @@ fn hunt_list<C: Cost>(
     list: u8,
     roots: &[Root],
     hunt: &mut Hunt,
-    binding: &mut Binding,
+    unbound: &mut Unbound,
 )
     requires query { IsQuery C.CAP (C.costs query.now.cost.now) query.now }
-    requires no_pins { binding.old.pins ≡ replicate 16 None }
-    requires no_costs { binding.old.costs ≡ replicate 16 0 }
-    requires top { IsTopOf hunt.old.target.bound hunt.old.target.top }
     requires listed { AreListed query.now.cuts.roots.now list roots.now
         (length query.now.cuts.roots.now) }
-    ensures kept { binding.new ≡ binding.old }
-    ensures hunt { (bound : Option Mark) → IsHunt (C.costs query.now.cost.now) query.now bound
-        hunt.old → IsHunt (C.costs query.now.cost.now) query.now bound hunt.new }
-    ensures top { IsTopOf hunt.new.target.bound hunt.new.target.top }
-    ensures goes_on { GoesOn hunt.old hunt.new }
-    ensures none { IsWhole hunt.new.target.by_marks hunt.new.found →
-        (i : ℕ) → i < length query.now.pats.now →
+    ensures goes_on { GoesOn (C.costs query.now.cost.now) query.now hunt.old hunt.new }
+    ensures none { IsWholeHunt hunt.new → (i : ℕ) → i < length query.now.pats.now →
         i < length query.now.cuts.roots.now →
         list_of (root_side (cuts_state query.now.cuts) i) ≡ list →
-        HasNoneIfSure (C.costs query.now.cost.now) query.now i hunt.new.target.bound
-        hunt.new.target.top }
+        IsDone (C.costs query.now.cost.now) query.now hunt.new i }
 {
     let numbers = list_at(query.view, list);
     if is_bare(numbers, hunt.target.top) {
         return;
     }
     for number in 0..roots.len() {
-        hunt_root(query, list, numbers, roots[number], hunt, binding);
+        hunt_root(query, list, numbers, roots[number], hunt, unbound);
     }
 }
 
 /// Goes on with a hunt by all patterns, one after the other.
-fn hunt_all<C: Cost>(query: &Query<C>, hunt: &mut Hunt, binding: &mut Binding)
+fn hunt_all<C: Cost>(query: &Query<C>, hunt: &mut Hunt, unbound: &mut Unbound)
     requires query { IsQuery C.CAP (C.costs query.now.cost.now) query.now }
-    requires no_pins { binding.old.pins ≡ replicate 16 None }
-    requires no_costs { binding.old.costs ≡ replicate 16 0 }
-    requires top { IsTopOf hunt.old.target.bound hunt.old.target.top }
-    ensures kept { binding.new ≡ binding.old }
-    ensures hunt { (bound : Option Mark) → IsHunt (C.costs query.now.cost.now) query.now bound
-        hunt.old → IsHunt (C.costs query.now.cost.now) query.now bound hunt.new }
-    ensures top { IsTopOf hunt.new.target.bound hunt.new.target.top }
-    ensures goes_on { GoesOn hunt.old hunt.new }
-    ensures none { IsWhole hunt.new.target.by_marks hunt.new.found →
-        (i : ℕ) → i < length query.now.pats.now →
-        HasNoneIfSure (C.costs query.now.cost.now) query.now i hunt.new.target.bound
-        hunt.new.target.top }
+    ensures goes_on { GoesOn (C.costs query.now.cost.now) query.now hunt.old hunt.new }
+    ensures none { IsWholeHunt hunt.new → (i : ℕ) → i < length query.now.pats.now →
+        IsDone (C.costs query.now.cost.now) query.now hunt.new i }
 {
     for number in 0..query.pats.len() {
-        hunt_by(query, PatId(number), hunt, binding);
+        hunt_by(query, PatId(number), hunt, unbound);
     }
 }
 
 /// Goes on with a hunt by all patterns, where it may be known from lists which are near.
-pub(crate) fn hunt_near<C: Cost>(query: &Query<C>, hunt: &mut Hunt, binding: &mut Binding)
+pub(crate) fn hunt_near<C: Cost>(query: &Query<C>, hunt: &mut Hunt, unbound: &mut Unbound)
     requires query { IsQuery C.CAP (C.costs query.now.cost.now) query.now }
     requires listed { AreRootsListed query.now.cuts.roots.now query.now.cuts.leaf_roots.now
         query.now.cuts.row_roots.now query.now.cuts.other_roots.now }
-    requires no_pins { binding.old.pins ≡ replicate 16 None }
-    requires no_costs { binding.old.costs ≡ replicate 16 0 }
-    requires top { IsTopOf hunt.old.target.bound hunt.old.target.top }
-    ensures kept { binding.new ≡ binding.old }
-    ensures hunt { (bound : Option Mark) → IsHunt (C.costs query.now.cost.now) query.now bound
-        hunt.old → IsHunt (C.costs query.now.cost.now) query.now bound hunt.new }
-    ensures top { IsTopOf hunt.new.target.bound hunt.new.target.top }
-    ensures goes_on { GoesOn hunt.old hunt.new }
-    ensures none { IsWhole hunt.new.target.by_marks hunt.new.found →
-        (i : ℕ) → i < length query.now.pats.now →
-        HasNoneIfSure (C.costs query.now.cost.now) query.now i hunt.new.target.bound
-        hunt.new.target.top }
+    ensures goes_on { GoesOn (C.costs query.now.cost.now) query.now hunt.old hunt.new }
+    ensures none { IsWholeHunt hunt.new → (i : ℕ) → i < length query.now.pats.now →
+        IsDone (C.costs query.now.cost.now) query.now hunt.new i }
 {
     if query.cuts.roots.len() < query.pats.len() as usize {
-        hunt_all(query, hunt, binding);
+        hunt_all(query, hunt, unbound);
         return;
     }
-    hunt_list(query, 0, query.cuts.leaf_roots, hunt, binding);
-    hunt_list(query, 1, query.cuts.row_roots, hunt, binding);
-    hunt_list(query, 2, query.cuts.other_roots, hunt, binding);
+    hunt_list(query, 0, query.cuts.leaf_roots, hunt, unbound);
+    hunt_list(query, 1, query.cuts.row_roots, hunt, unbound);
+    hunt_list(query, 2, query.cuts.other_roots, hunt, unbound);
 }

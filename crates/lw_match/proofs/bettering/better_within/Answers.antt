@@ -17,4 +17,4 @@ better_by_cuts-requires-clause-site g c = record {
 pub returns-clause-least : goal.returns-clause-least
 returns-clause-least g c =
     λ t bounds.
-    c.better_by_cuts.ensures.least t (subst (λ (cuts : CutsState). AreCutsOf cuts c.args.pats.now c.args.graph.now c.args.marks.now) (sym c.cuts-cuts.ensures.state) (bounds_cut_well c.args.bounds.now c.args.pats.now c.args.graph.now c.args.marks.now c.requires.fit bounds))
+    c.better_by_cuts.ensures.outcome.least t (subst (λ (cuts : CutsState). AreCutsOf cuts c.args.pats.now c.args.graph.now c.args.marks.now) (sym c.cuts-cuts.ensures.state) (bounds_cut_well c.args.bounds.now c.args.pats.now c.args.graph.now c.args.marks.now c.requires.fit bounds))

@@ -1,5 +1,4 @@
-use Rattle.std.proofs.Common.{refl, ap, ◌∙◌, arith}
-use Rattle.lw_match.specs.declared.binding.Binding.{Binding}
+use Rattle.std.proofs.Common.{arith}
 use Rattle.lw_match.specs.Cutting.{cuts_state}
 use Rattle.lw_match.proofs.Better.{doubts_start, doubts_next, none_if}
 use Rattle.lw_match.proofs.bettering.doubted.Goals as goal
@@ -7,28 +6,14 @@ use Rattle.lw_match.proofs.bettering.doubted.Goals as goal
 pub loop-number-init : goal.loop-number-init
 loop-number-init g c =
     let q = c.args.query.now in
-    record {
-      kept = refl;
-      doubts = doubts_start (cuts_state q.cuts) q.graph.now (g.C.Cost.costs q.cost.now) q.pats.now q.marks.now q.class.0 c.args.target;
-    }
-
-pub doubted_by-best-requires-clause-no_pins : goal.doubted_by-best-requires-clause-no_pins
-doubted_by-best-requires-clause-no_pins g c =
-    ap (λ (b : Binding). b.pins) c.loop-number.invariant.kept ∙ c.requires.no_pins
-
-pub doubted_by-best-requires-clause-no_costs : goal.doubted_by-best-requires-clause-no_costs
-doubted_by-best-requires-clause-no_costs g c =
-    ap (λ (b : Binding). b.costs) c.loop-number.invariant.kept ∙ c.requires.no_costs
+    doubts_start (cuts_state q.cuts) q.graph.now (g.C.Cost.costs q.cost.now) q.pats.now q.marks.now q.class.0 c.args.target
 
 pub loop-number-preserved : goal.loop-number-preserved
 loop-number-preserved g c =
     let q = c.args.query.now in
     let l = c.loop-number in
-    record {
-      kept = c.doubted_by-best.ensures.kept ∙ l.invariant.kept;
-      doubts = doubts_next (cuts_state q.cuts) q.graph.now (g.C.Cost.costs q.cost.now) q.pats.now q.marks.now q.class.0 l.number c.args.target l.invariant.doubts (c.doubted_by-best.ensures.none (none_if c.doubted_by-best.result c.is_some.result c.is_some.ensures c.if-is_some.false));
-    }
+    doubts_next (cuts_state q.cuts) q.graph.now (g.C.Cost.costs q.cost.now) q.pats.now q.marks.now q.class.0 l.number c.args.target l.invariant (c.doubted_by-best.ensures.none (none_if c.doubted_by-best.result c.is_some.result c.is_some.ensures c.if-is_some.false))
 
 pub returns-clause-none : goal.returns-clause-none
 returns-clause-none g c = λ e i lt.
-    c.loop-number.invariant.doubts i (omega (arith, c.loop-number-test.false, c.len-number-end.ensures.len))
+    c.loop-number.invariant i (omega (arith, c.loop-number-test.false, c.len-number-end.ensures.len))

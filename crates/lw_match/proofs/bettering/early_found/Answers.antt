@@ -1,9 +1,13 @@
-use Rattle.std.proofs.Common.{Bool, Some, None, ap, sym, subst}
+use Rattle.std.proofs.Common.{Bool, Some, None, ap, sym, subst, rules}
 use Rattle.lw_match.specs.Cutting.{bound_past}
 use Rattle.lw_match.specs.Queries.{FindsLeast}
 use Rattle.lw_match.proofs.bettering.early_found.Goals as goal
 
-pub returns-clause-least : goal.returns-clause-least
-returns-clause-least g c = λ t bounds.
+pub returns-clause-outcome : goal.returns-clause-outcome
+returns-clause-outcome g c =
     let q = c.args.query.now in
-    subst (λ left. FindsLeast (g.C.Cost.costs q.cost.now) q left None) (sym (ap (λ (m : Bool). bound_past m (Some c.in_ok-best.best) c.args.bound) c.if-by_marks.false)) (c.is_cheapest-is_least.ensures.none t bounds)
+    record {
+      sound = search rules;
+      none = λ e. cc;
+      least = λ t bounds. subst (λ left. FindsLeast (g.C.Cost.costs q.cost.now) q left None) (sym (ap (λ (m : Bool). bound_past m (Some c.in_ok-best.best) c.args.bound) c.if-by_marks.false)) (c.is_cheapest-is_least.ensures.none t bounds);
+    }

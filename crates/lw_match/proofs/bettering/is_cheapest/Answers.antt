@@ -1,6 +1,6 @@
 use Rattle.std.proofs.Common.{◌<◌, false, Some, None, length, refl, sym, subst, inl, arith}
 use Rattle.lw_match.specs.declared.mark.Mark.{Mark}
-use Rattle.lw_match.specs.declared.bettering.Target.{Target}
+use Rattle.lw_match.specs.declared.target.Target.{Target}
 use Rattle.lw_match.specs.Values.{AreInRange}
 use Rattle.lw_match.specs.Cutting.{cuts_state}
 use Rattle.lw_match.proofs.Better.{hunted_none, same_bound, top_flat}
@@ -12,5 +12,5 @@ returns-clause-none g c = λ t bounds.
     let q = c.args.query.now in
     let costs = g.C.Cost.costs q.cost.now in
     let mark : Mark = record { cost = c.args.cost; height = 0 } in
-    let target : Target = record { bound = Some mark; top = c.args.cost; by_marks = false } in
-    hunted_none (cuts_state q.cuts) q.graph.now costs q.pats.now q.marks.now q.class.0 (Some mark) target None (same_bound (Some mark)) (λ i lt. let known : i < length q.cuts.roots.now = omega arith in all_far costs q _ (g.met.C.Cost.laws q.cost.now) (subst (λ n. AreInRange n q.marks.now) (sym (g.met.C.Cost.cap q.cost.now)) c.requires.query.in_range) c.requires.query c.args.number target c.requires.listed c.requires.far (omega arith) (top_flat mark refl) i lt known) (λ i lt cut. inl (c.are_sure.ensures.sure t i)) bounds
+    let target : Target = record { bound = Some mark; top = c.args.cost; by_marks = false; is_top = top_flat mark refl } in
+    hunted_none (cuts_state q.cuts) q.graph.now costs q.pats.now q.marks.now q.class.0 (Some mark) target None (same_bound (Some mark)) (λ i lt. let known : i < length q.cuts.roots.now = omega arith in all_far costs q _ (g.met.C.Cost.laws q.cost.now) (subst (λ n. AreInRange n q.marks.now) (sym (g.met.C.Cost.cap q.cost.now)) c.requires.asked.query.in_range) c.requires.asked.query c.args.number target c.requires.asked.listed c.requires.far (omega arith) i lt known) (λ i lt cut. inl (c.are_sure.ensures.sure t i)) bounds

@@ -21,4 +21,4 @@ pub returns-clause-least : goal.returns-clause-least
 returns-clause-least g c =
     λ t bounds.
     let own = subst (λ (cuts : CutsState). AreCutsOf cuts c.args.pats.now c.args.graph.now c.args.marks.now) (sym c.cuts.ensures.state) (bounds_cut_well c.args.bounds.now c.args.pats.now c.args.graph.now c.args.marks.now c.requires.fit bounds) in
-    c.better_by_cuts.ensures.least t (subst (λ (cuts : CutsState). AreCutsOf cuts c.args.pats.now c.args.graph.now c.args.marks.now) (sym c.with_heights-cuts.ensures.state) (heights_cut _ c.args.pats.now c.args.graph.now c.args.marks.now c.args.heights c.requires.heights own))
+    c.better_by_cuts.ensures.outcome.least t (subst (λ (cuts : CutsState). AreCutsOf cuts c.args.pats.now c.args.graph.now c.args.marks.now) (sym c.with_heights-cuts.ensures.state) (heights_cut _ c.args.pats.now c.args.graph.now c.args.marks.now c.args.heights c.requires.heights own))

@@ -1,31 +1,19 @@
-use Rattle.std.proofs.Common.{◌≡◌, ◌∙◌, Some, slice_get, slice_index_or, refl, sym, ap, subst, arith}
+use Rattle.std.proofs.Common.{◌≡◌, Some, slice_get, slice_index_or, sym, subst, arith}
 use Rattle.std.proofs.lemmas.Option.{slice_get-get_or}
-use Rattle.lw_match.specs.declared.binding.Binding.{Binding}
 use Rattle.lw_match.specs.declared.parts.Root.{Root}
 use Rattle.lw_match.specs.Values.{AreInRange}
 use Rattle.lw_match.proofs.Picks.{far_list, among_start, among_next, among_all}
 use Rattle.lw_match.proofs.choosing.pick_list.Goals as goal
 
-pub returns-then-is_bare-clause-best : goal.returns-then-is_bare-clause-best
-returns-then-is_bare-clause-best g c =
+pub returns-then-is_bare : goal.returns-then-is_bare
+returns-then-is_bare g c =
     let q = c.args.query.now in
-    far_list (g.C.Cost.costs q.cost.now) q c.args.pick c.requires.pick _ (g.met.C.Cost.laws q.cost.now) (subst (λ n. AreInRange n q.marks.now) (sym (g.met.C.Cost.cap q.cost.now)) c.requires.query.in_range) c.requires.query c.args.list c.list_at-numbers.result.now c.args.best.now c.list_at-numbers.ensures (c.is_bare.ensures c.if-is_bare.true)
+    record { best = far_list (g.C.Cost.costs q.cost.now) q c.args.pick c.requires.pick _ (g.met.C.Cost.laws q.cost.now) (subst (λ n. AreInRange n q.marks.now) (sym (g.met.C.Cost.cap q.cost.now)) c.requires.query.in_range) c.requires.query c.args.list c.list_at-numbers.result.now c.args.best.now c.list_at-numbers.ensures (c.is_bare.ensures c.if-is_bare.true) }
 
 pub loop-number-init : goal.loop-number-init
 loop-number-init g c =
     let q = c.args.query.now in
-    record {
-      kept = refl;
-      best = among_start (g.C.Cost.costs q.cost.now) q c.args.pick.top c.args.list c.args.roots.now c.args.best.now;
-    }
-
-pub pick_root-requires-clause-no_pins : goal.pick_root-requires-clause-no_pins
-pick_root-requires-clause-no_pins g c =
-    ap (λ (b : Binding). b.pins) c.loop-number.invariant.kept ∙ c.requires.no_pins
-
-pub pick_root-requires-clause-no_costs : goal.pick_root-requires-clause-no_costs
-pick_root-requires-clause-no_costs g c =
-    ap (λ (b : Binding). b.costs) c.loop-number.invariant.kept ∙ c.requires.no_costs
+    among_start (g.C.Cost.costs q.cost.now) q c.args.pick.top c.args.list c.args.roots.now c.args.best.now
 
 pub loop-number-preserved : goal.loop-number-preserved
 loop-number-preserved g c =
@@ -35,13 +23,10 @@ loop-number-preserved g c =
     let none : Root = record { pattern = 0; place = 0; shift = 0 } in
     let root = slice_index_or roots l.number none in
     let here : slice_get roots l.number ≡ Some root = slice_get-get_or roots l.number none c.loop-number-test.true in
-    record {
-      kept = c.pick_root.ensures.kept ∙ l.invariant.kept;
-      best = among_next (g.C.Cost.costs q.cost.now) q c.args.pick.top c.args.list roots l.number root c.args.best.now l.best c.pick_root.new.best here l.invariant.best c.pick_root.ensures.best;
-    }
+    among_next (g.C.Cost.costs q.cost.now) q c.args.pick.top c.args.list roots l.number root c.args.best.now l.best c.pick_root.new.best here l.invariant c.pick_root.ensures.best
 
-pub returns-clause-best : goal.returns-clause-best
-returns-clause-best g c =
+pub returns : goal.returns
+returns g c =
     let q = c.args.query.now in
     let l = c.loop-number in
-    among_all (g.C.Cost.costs q.cost.now) q c.args.pick c.requires.pick c.args.list c.args.roots.now l.number c.args.best.now l.best c.requires.listed (omega (arith, c.loop-number-test.false)) l.invariant.best
+    record { best = among_all (g.C.Cost.costs q.cost.now) q c.args.pick c.requires.pick c.args.list c.args.roots.now l.number c.args.best.now l.best c.requires.listed (omega (arith, c.loop-number-test.false)) l.invariant }

@@ -1,5 +1,3 @@
-use Rattle.std.proofs.Common.{inl, inr}
-use Rattle.lw_match.specs.Picks.{IsPricedIn, IsBelow, IsInList}
 use Rattle.lw_match.proofs.Picks.{improves_lists}
 use Rattle.lw_match.proofs.choosing.pick_near.Goals as goal
 

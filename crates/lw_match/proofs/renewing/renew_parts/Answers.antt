@@ -34,7 +34,7 @@ returns-else-fell c =
     let below = subst (λ (o : ℕ). (i : ℕ) (q : Pair) (n : ℕ) (p : Part) → slice_get pairs i ≡ Some q → slice_get parts n ≡ Some p → slice_index least n ≤ pair_number (with_one o) p q.x.0 q.y.0) c.one.ensures.class lower.ensures.lowered in
     let has : start_of starts r.class.0 ≡ no_row → ⊥ = row_there r.graph.now starts r.class.0 pairs c.nands-pairs.ensures.pairs c.requires.rows.bare (not_empty pairs c.is_empty.result c.if-is_empty.false c.is_empty.ensures) in
     let size : length least ≡ length parts = lower.auto.least ∙ (c.copy_from_slice.ensures.len ∙ c.requires.least) in
-    let same = row_same numbers least c.start_of-start.result (length parts) size (lower.ensures.same c.if-fell.false ∙ c.copy_from_slice.ensures.after) in
+    let same = row_same numbers least c.start_of-start.result (length parts) size (lower.ensures.lessened.same c.if-fell.false ∙ c.copy_from_slice.ensures.after) in
     record {
       size = refl;
       falls = λ e. absurd (true≢false (sym e ∙ c.if-fell.false));
@@ -61,7 +61,7 @@ returns-then-fell c =
     let there : start ≡ start_of starts r.class.0 = c.start_of-start.ensures in
     let inside : (k : ℕ) → k < length least → slice_index put.new.numbers (start_of starts r.class.0 + k) ≤ slice_index least k = subst (λ (s : ℕ). (k : ℕ) → k < length least → slice_index put.new.numbers (s + k) ≤ slice_index least k) there (λ k lt. let e = put.ensures.row k lt in omega (arith, e)) in
     let outside = subst (λ (w : ℕ). (k : ℕ) → (k < start_of starts r.class.0) ⊎ (start_of starts r.class.0 + w ≤ k) → slice_index put.new.numbers k ≡ slice_index numbers k) size (subst (λ (s : ℕ). (k : ℕ) → (k < s) ⊎ (s + length least ≤ k) → slice_index put.new.numbers k ≡ slice_index numbers k) there put.ensures.others) in
-    let less : total least < total (slice_range numbers start (start + length parts)) = subst (λ (ys : _). total least < total ys) c.copy_from_slice.ensures.after (lower.ensures.falls c.if-fell.true) in
+    let less : total least < total (slice_range numbers start (start + length parts)) = subst (λ (ys : _). total least < total ys) c.copy_from_slice.ensures.after (lower.ensures.lessened.falls c.if-fell.true) in
     record {
       size = put.auto.numbers;
       falls = λ e. put.ensures.less (subst (λ (w : ℕ). total least < total (slice_range numbers start (start + w))) (sym size) less);

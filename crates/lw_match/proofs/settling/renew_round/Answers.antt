@@ -2,6 +2,13 @@ use Rattle.std.proofs.Common.{◌+◌, ◌∙◌, sym, subst}
 use Rattle.lw_match.proofs.Passes.{ArePassed, passed_more}
 use Rattle.lw_match.proofs.settling.renew_round.Goals as goal
 
+pub renew_class-requires-clause-timed : goal.renew_class-requires-clause-timed
+renew_class-requires-clause-timed c = record {
+  one_each = c.requires.timed.one_each;
+  times_are = c.loop-number.invariant.0 ∙ c.requires.timed.times_are;
+  fit = c.loop-number.invariant.1.fits;
+}
+
 pub loop-number-preserved : goal.loop-number-preserved
 loop-number-preserved c =
     let l = c.loop-number in
@@ -11,5 +18,5 @@ loop-number-preserved c =
     let old = c.args.bounds.now in
     let new = c.renew_class.new.bounds in
     let one = c.renew_class.ensures in
-    let more = passed_more pats graph marks c.args.whole old l.bounds new l.number c.renew_class.result l.fell l.invariant.1 (λ _. one.fits) one.falls one.same one.settled in
-    (one.times ∙ l.invariant.0, subst (λ b. ArePassed pats graph marks c.args.whole old new (l.number + 1) b) (sym c.either-fell.ensures) more)
+    let more = passed_more pats graph marks c.args.whole old l.bounds new l.number c.renew_class.result l.fell l.invariant.1 (λ _. one.timed.fit) one.after.falls one.after.same one.settled in
+    (one.timed.times_are ∙ sym c.requires.timed.times_are, subst (λ b. ArePassed pats graph marks c.args.whole old new (l.number + 1) b) (sym c.either-fell.ensures) more)

@@ -1,6 +1,5 @@
-use Rattle.std.proofs.Common.{◌≡◌, ◌∙◌, Some, slice_get, slice_index_or, refl, sym, ap, subst, arith}
+use Rattle.std.proofs.Common.{◌≡◌, Some, slice_get, slice_index_or, refl, sym, subst, arith}
 use Rattle.std.proofs.lemmas.Option.{slice_get-get_or}
-use Rattle.lw_match.specs.declared.binding.Binding.{Binding}
 use Rattle.lw_match.specs.declared.parts.Root.{Root}
 use Rattle.lw_match.specs.Values.{AreInRange}
 use Rattle.lw_match.specs.Cutting.{cuts_state, root_side}
@@ -12,26 +11,15 @@ pub returns-then-is_bare-clause-none : goal.returns-then-is_bare-clause-none
 returns-then-is_bare-clause-none g c = λ e i within known in_list.
     let q = c.args.query.now in
     let root = root_of i (root_side (cuts_state q.cuts) i) in
-    far (g.C.Cost.costs q.cost.now) q _ (g.met.C.Cost.laws q.cost.now) (subst (λ n. AreInRange n q.marks.now) (sym (g.met.C.Cost.cap q.cost.now)) c.requires.query.in_range) c.requires.query c.args.list c.list_at-numbers.result.now root i c.args.hunt.now.target c.list_at-numbers.ensures within known in_list refl c.requires.top (c.is_bare.ensures c.if-is_bare.true root.place root.shift)
+    far (g.C.Cost.costs q.cost.now) q _ (g.met.C.Cost.laws q.cost.now) (subst (λ n. AreInRange n q.marks.now) (sym (g.met.C.Cost.cap q.cost.now)) c.requires.query.in_range) c.requires.query c.args.list c.list_at-numbers.result.now root i c.args.hunt.now.target c.list_at-numbers.ensures within known in_list refl (c.is_bare.ensures c.if-is_bare.true root.place root.shift)
 
 pub loop-number-init : goal.loop-number-init
 loop-number-init g c =
     let q = c.args.query.now in
     record {
-      kept = refl;
-      hunt = λ bound h. h;
-      top = c.requires.top;
       goes_on = stays_on (g.C.Cost.costs q.cost.now) q c.args.hunt.now;
       done = done_start (g.C.Cost.costs q.cost.now) q c.args.list c.args.roots.now c.args.hunt.now;
     }
-
-pub hunt_root-requires-clause-no_pins : goal.hunt_root-requires-clause-no_pins
-hunt_root-requires-clause-no_pins g c =
-    ap (λ (b : Binding). b.pins) c.loop-number.invariant.kept ∙ c.requires.no_pins
-
-pub hunt_root-requires-clause-no_costs : goal.hunt_root-requires-clause-no_costs
-hunt_root-requires-clause-no_costs g c =
-    ap (λ (b : Binding). b.costs) c.loop-number.invariant.kept ∙ c.requires.no_costs
 
 pub loop-number-preserved : goal.loop-number-preserved
 loop-number-preserved g c =
@@ -44,9 +32,6 @@ loop-number-preserved g c =
     let here : slice_get roots l.number ≡ Some root = slice_get-get_or roots l.number none c.loop-number-test.true in
     let hunt = c.hunt_root.new.hunt in
     record {
-      kept = c.hunt_root.ensures.kept ∙ l.invariant.kept;
-      hunt = λ bound h. c.hunt_root.ensures.hunt bound (l.invariant.hunt bound h);
-      top = c.hunt_root.ensures.top;
       goes_on = hunts_on costs q c.args.hunt.now l.hunt hunt l.invariant.goes_on c.hunt_root.ensures.goes_on;
       done = done_next costs q c.args.list roots l.number l.hunt hunt root here c.hunt_root.ensures.goes_on c.hunt_root.ensures.none l.invariant.done;
     }

@@ -13,4 +13,4 @@ returns-then-is_near-clause-none g c = λ e i within known in_list is.
 pub returns-else-is_near-clause-none : goal.returns-else-is_near-clause-none
 returns-else-is_near-clause-none g c = λ e i within known in_list is.
     let q = c.args.query.now in
-    far (g.C.Cost.costs q.cost.now) q _ (g.met.C.Cost.laws q.cost.now) (subst (λ n. AreInRange n q.marks.now) (sym (g.met.C.Cost.cap q.cost.now)) c.requires.query.in_range) c.requires.query c.args.list c.args.numbers.now c.args.root i c.args.hunt.now.target c.requires.numbers within known in_list is c.requires.top (c.is_near.ensures c.if-is_near.false)
+    far (g.C.Cost.costs q.cost.now) q _ (g.met.C.Cost.laws q.cost.now) (subst (λ n. AreInRange n q.marks.now) (sym (g.met.C.Cost.cap q.cost.now)) c.requires.query.in_range) c.requires.query c.args.list c.args.numbers.now c.args.root i c.args.hunt.now.target c.requires.numbers within known in_list is (c.is_near.ensures c.if-is_near.false)

@@ -7,26 +7,19 @@ use Rattle.lw_match.proofs.CutsOfBounds.{fits_with}
 use Rattle.lw_match.proofs.Renewed.{IsRenewed, renewed}
 use Rattle.lw_match.proofs.bounds.Bounds.renew.Goals as goal
 
-pub renew_parts-requires-clause-graph : goal.renew_parts-requires-clause-graph
-renew_parts-requires-clause-graph c = c.classes.ensures.kept
-
-pub renew_parts-requires-clause-class : goal.renew_parts-requires-clause-class
-renew_parts-requires-clause-class c = c.requires.class
-
-pub renew_parts-requires-clause-rows : goal.renew_parts-requires-clause-rows
-renew_parts-requires-clause-rows c =
+pub renew_parts-requires : goal.renew_parts-requires
+renew_parts-requires c =
     let graph = c.args.graph.now in
     let inside = subst (λ (b : BoundsState). AreRows b.parts b.starts b.numbers graph) (sym c.self.view_is) c.requires.rows in
     let numbers = subst₂ (λ starts numbers. AreRows c.self.inside.parts.keys starts numbers graph) (sym c.deref.ensures.value) (sym c.deref_mut-2.ensures.value) inside in
-    subst (λ parts. AreRows parts c.deref.result.now c.deref_mut-2.result.now graph) (sym c.as_slice.ensures.keys) numbers
-
-pub renew_parts-requires-clause-grouped : goal.renew_parts-requires-clause-grouped
-renew_parts-requires-clause-grouped c =
-    subst₂ AreGrouped (sym c.as_slice.ensures.keys) (sym c.deref-2.ensures.value) c.self.invariant.grouped
-
-pub renew_parts-requires-clause-least : goal.renew_parts-requires-clause-least
-renew_parts-requires-clause-least c =
-    ap length c.deref_mut.ensures.value ∙ (c.self.invariant.least_room ∙ ap length (sym c.as_slice.ensures.keys))
+    record {
+      graph = c.classes.ensures.kept;
+      class = c.requires.class;
+      one_each = c.requires.one_each;
+      rows = subst (λ parts. AreRows parts c.deref.result.now c.deref_mut-2.result.now graph) (sym c.as_slice.ensures.keys) numbers;
+      grouped = subst₂ AreGrouped (sym c.as_slice.ensures.keys) (sym c.deref-2.ensures.value) c.self.invariant.grouped;
+      least = ap length c.deref_mut.ensures.value ∙ (c.self.invariant.least_room ∙ ap length (sym c.as_slice.ensures.keys));
+    }
 
 pub invariant_of-self : goal.invariant_of-self
 invariant_of-self c =
