@@ -1,5 +1,5 @@
 -- The choice of the least match at a class where it is known that no mark is before a certain one.
-use Rattle.std.proofs.Common.{ℕ, min, ◌⊎◌, ◌+◌, ◌<◌, ◌≤◌, ◌≡◌, List, length, slice_get, slice_index_or, Bool, false, Option, Some, None, refl, sym, ap, subst, ◌∙◌, inl, inr, arith}
+use Rattle.std.proofs.Common.{ℕ, min, ◌⊎◌, ◌+◌, ◌<◌, ◌≤◌, ◌≡◌, List, length, slice_get, false, Option, Some, refl, sym, ap, subst, ◌∙◌, inl, inr, arith}
 use Rattle.std.proofs.lemmas.Option.{slice_get_within, slice_get-get_or, same_Some}
 use native.Mathlib.Decide.{dec_lt}
 use native.Mathlib.Nat.{eq-or-lt_of_le}
@@ -12,7 +12,6 @@ use Rattle.lw_match.specs.declared.mark.Mark.{Mark}
 use Rattle.lw_match.specs.declared.job.Scope.{Scope}
 use Rattle.lw_match.specs.declared.parts.Kind.TheVariants.{Any}
 use Rattle.lw_match.specs.declared.parts.Root.{Root}
-use Rattle.lw_match.specs.declared.parts.Side.{Side}
 use Rattle.lw_match.specs.declared.query.Query.{Query}
 use Rattle.lw_match.specs.declared.target.Target.{Target}
 use Rattle.lw_match.specs.declared.choosing.Pick.{Pick}
