@@ -3,7 +3,7 @@ ghost use Rattle.std.specs.Prelude.{◌≡◌, ◌<◌, ℕ, length, IsTrue, IsF
 ghost use Rattle.lw_match.specs.Cutting.{cuts_state, root_side};
 ghost use Rattle.lw_match.specs.Places.{list_at, list_of, root_of, AreListed, AreRootsListed, IsFar};
 ghost use Rattle.lw_match.specs.Queries.{IsQuery};
-ghost use Rattle.lw_match.specs.Hunts.{GoesOn, IsDone, IsWholeHunt};
+ghost use Rattle.lw_match.specs.Hunts.{GoesOn, HasNoneLeft, IsWholeHunt};
 
 use crate::bettering::{better_by, target_after};
 use crate::binding::Unbound;
@@ -48,7 +48,7 @@ fn hunt_by<C: Cost>(query: &Query<C>, pat: PatId, hunt: &mut Hunt, unbound: &mut
     requires pat { pat.0 < length query.now.pats.now }
     ensures goes_on { GoesOn (C.costs query.now.cost.now) query.now hunt.old hunt.new }
     ensures none { IsWholeHunt hunt.new →
-        IsDone (C.costs query.now.cost.now) query.now hunt.new pat.0 }
+        HasNoneLeft (C.costs query.now.cost.now) query.now hunt.new pat.0 }
 {
     if let Some(best) = better_by(query, pat, hunt.target, unbound) {
         hunt.target = target_after(hunt.target, best.mark);
@@ -72,7 +72,7 @@ fn hunt_root<C: Cost>(
         i < length query.now.cuts.roots.now →
         list_of (root_side (cuts_state query.now.cuts) i) ≡ list →
         root ≡ root_of i (root_side (cuts_state query.now.cuts) i) →
-        IsDone (C.costs query.now.cost.now) query.now hunt.new i }
+        HasNoneLeft (C.costs query.now.cost.now) query.now hunt.new i }
 {
     if root.pattern >= query.pats.len() {
         return;
@@ -97,7 +97,7 @@ fn hunt_list<C: Cost>(
     ensures none { IsWholeHunt hunt.new → (i : ℕ) → i < length query.now.pats.now →
         i < length query.now.cuts.roots.now →
         list_of (root_side (cuts_state query.now.cuts) i) ≡ list →
-        IsDone (C.costs query.now.cost.now) query.now hunt.new i }
+        HasNoneLeft (C.costs query.now.cost.now) query.now hunt.new i }
 {
     let numbers = list_at(query.view, list);
     if is_bare(numbers, hunt.target.top) {
@@ -113,7 +113,7 @@ fn hunt_all<C: Cost>(query: &Query<C>, hunt: &mut Hunt, unbound: &mut Unbound)
     requires query { IsQuery C.CAP (C.costs query.now.cost.now) query.now }
     ensures goes_on { GoesOn (C.costs query.now.cost.now) query.now hunt.old hunt.new }
     ensures none { IsWholeHunt hunt.new → (i : ℕ) → i < length query.now.pats.now →
-        IsDone (C.costs query.now.cost.now) query.now hunt.new i }
+        HasNoneLeft (C.costs query.now.cost.now) query.now hunt.new i }
 {
     for number in 0..query.pats.len() {
         hunt_by(query, PatId(number), hunt, unbound);
@@ -127,7 +127,7 @@ pub(crate) fn hunt_near<C: Cost>(query: &Query<C>, hunt: &mut Hunt, unbound: &mu
         query.now.cuts.row_roots.now query.now.cuts.other_roots.now }
     ensures goes_on { GoesOn (C.costs query.now.cost.now) query.now hunt.old hunt.new }
     ensures none { IsWholeHunt hunt.new → (i : ℕ) → i < length query.now.pats.now →
-        IsDone (C.costs query.now.cost.now) query.now hunt.new i }
+        HasNoneLeft (C.costs query.now.cost.now) query.now hunt.new i }
 {
     if query.cuts.roots.len() < query.pats.len() as usize {
         hunt_all(query, hunt, unbound);
