@@ -148,13 +148,14 @@ impl Listing {
             (bases_of (made table.old) self.old.listed.items))) }
     {
         let ids = match table.operands(b) {
-            Some(ids) => operands(alloc, ids.as_slice()),
+            Some(ids) => ids,
             None => return Ok(()),
         };
         if ids.len() == 2 {
             return self.list(table, b);
         }
-        self.list_parts(table, &ids)
+        let own = operands(alloc, ids.as_slice());
+        self.list_parts(table, &own)
     }
 
     // Begins to add a form: lists it where it has no operands, and else puts the steps for its

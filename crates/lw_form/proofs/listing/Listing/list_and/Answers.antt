@@ -15,7 +15,7 @@ returns-in-None-clause-listed c = record {
 }
 
 pub returns-clause-fault : goal.returns-clause-fault
-returns-clause-fault c = subst (λ l. IfErr c.list_parts.result (IsTooLong (append_parts (sublists l) (bases_of (made c.args.table.now) c.args.self.now.listed.items)))) (ap (forms_at (made c.args.table.now)) (c.operands-ids.ensures ∙ c.as_slice.ensures.ids) ∙ sym (and_operands (made c.args.table.now) c.args.b c.in-Some.ids.now c.in-Some.ensures.spelled.and_is)) c.list_parts.ensures.fault
+returns-clause-fault c = subst (λ l. IfErr c.list_parts.result (IsTooLong (append_parts (sublists l) (bases_of (made c.args.table.now) c.args.self.now.listed.items)))) (ap (forms_at (made c.args.table.now)) (c.operands-own.ensures ∙ c.as_slice.ensures.ids) ∙ sym (and_operands (made c.args.table.now) c.args.b c.in-Some.ids.now c.in-Some.ensures.spelled.and_is)) c.list_parts.ensures.fault
 
 pub returns-in-None-clause-fault : goal.returns-in-None-clause-fault
 returns-in-None-clause-fault c = tt
@@ -30,13 +30,13 @@ pub list_parts-requires-clause-listed : goal.list_parts-requires-clause-listed
 list_parts-requires-clause-listed c = c.requires.listed
 
 pub list_parts-requires-clause-below : goal.list_parts-requires-clause-below
-list_parts-requires-clause-below c = subst (AreBelow (length (made c.args.table.now))) (sym (c.operands-ids.ensures ∙ c.as_slice.ensures.ids)) c.in-Some.ensures.spelled.below
+list_parts-requires-clause-below c = subst (AreBelow (length (made c.args.table.now))) (sym (c.operands-own.ensures ∙ c.as_slice.ensures.ids)) c.in-Some.ensures.spelled.below
 
 pub returns-clause-listed : goal.returns-clause-listed
-returns-clause-listed c = subst (λ l. OnOk c.list_parts.result (ListsTo c.args.table.now c.list_parts.new.table c.list_parts.new.self (append_parts (sublists l) (bases_of (made c.args.table.now) c.args.self.now.listed.items)))) (ap (forms_at (made c.args.table.now)) (c.operands-ids.ensures ∙ c.as_slice.ensures.ids) ∙ sym (and_operands (made c.args.table.now) c.args.b c.in-Some.ids.now c.in-Some.ensures.spelled.and_is)) c.list_parts.ensures.listed
+returns-clause-listed c = subst (λ l. OnOk c.list_parts.result (ListsTo c.args.table.now c.list_parts.new.table c.list_parts.new.self (append_parts (sublists l) (bases_of (made c.args.table.now) c.args.self.now.listed.items)))) (ap (forms_at (made c.args.table.now)) (c.operands-own.ensures ∙ c.as_slice.ensures.ids) ∙ sym (and_operands (made c.args.table.now) c.args.b c.in-Some.ids.now c.in-Some.ensures.spelled.and_is)) c.list_parts.ensures.listed
 
 pub returns-then-len-eq2-clause-listed : goal.returns-then-len-eq2-clause-listed
-returns-then-len-eq2-clause-listed c = on_ok_weaker c.list.result (λ l. record { more = more_same (made c.args.table.now); listed = l.listed; bases = l.bases ∙ (two_listed (made c.args.table.now) c.args.b c.in-Some.ids.now (bases_of (made c.args.table.now) c.args.self.now.listed.items) c.in-Some.ensures.spelled.and_is (ap length (sym (c.operands-ids.ensures ∙ c.as_slice.ensures.ids)) ∙ (sym c.len.ensures.len ∙ c.if-len-eq2.true))) }) c.list.ensures.listed
+returns-then-len-eq2-clause-listed c = on_ok_weaker c.list.result (λ l. record { more = more_same (made c.args.table.now); listed = l.listed; bases = l.bases ∙ (two_listed (made c.args.table.now) c.args.b c.in-Some.ids.now (bases_of (made c.args.table.now) c.args.self.now.listed.items) c.in-Some.ensures.spelled.and_is (sym c.len.ensures.len ∙ c.if-len-eq2.true)) }) c.list.ensures.listed
 
 pub returns-then-len-eq2-clause-fault : goal.returns-then-len-eq2-clause-fault
-returns-then-len-eq2-clause-fault c = subst (λ l. IfErr c.list.result (IsTooLong l)) (two_listed (made c.args.table.now) c.args.b c.in-Some.ids.now (bases_of (made c.args.table.now) c.args.self.now.listed.items) c.in-Some.ensures.spelled.and_is (ap length (sym (c.operands-ids.ensures ∙ c.as_slice.ensures.ids)) ∙ (sym c.len.ensures.len ∙ c.if-len-eq2.true))) c.list.ensures.fault
+returns-then-len-eq2-clause-fault c = subst (λ l. IfErr c.list.result (IsTooLong l)) (two_listed (made c.args.table.now) c.args.b c.in-Some.ids.now (bases_of (made c.args.table.now) c.args.self.now.listed.items) c.in-Some.ensures.spelled.and_is (sym c.len.ensures.len ∙ c.if-len-eq2.true)) c.list.ensures.fault
