@@ -20,9 +20,9 @@ joined-requires c = record {
   some = some_there _ (sym c.if-is_empty.false ∙ c.is_empty.ensures);
   few = let l = c.if-kept-width.true in let h = c.requires.high in omega arith;
   below = let (forms, below, is) = c.requires.kept in
-    kept_below c.args.width c.requires.low c.args.table.now c.len-count.ensures.made forms c.args.kept.now below is;
+      kept_below c.args.width c.requires.low c.args.table.now c.len-count.ensures.made forms c.args.kept.now below is;
   clean = let (forms, below, is) = c.requires.kept in
-    clean_kept c.args.width c.requires.low c.args.table.now c.len-count.ensures.made forms c.args.kept.now below is (sym c.requires.clash ∙ c.if-clash.false);
+      clean_kept c.args.width c.requires.low c.args.table.now c.len-count.ensures.made forms c.args.kept.now below is (sym c.requires.clash ∙ c.if-clash.false);
 }
 
 pub returns-then-kept-width : goal.returns-then-kept-width
@@ -35,9 +35,9 @@ grouped-requires c = record {
   high = c.requires.high;
   some = some_there _ (sym c.if-is_empty.false ∙ c.is_empty.ensures);
   below = let (forms, below, is) = c.requires.kept in
-    kept_below c.args.width c.requires.low c.args.table.now c.len-count.ensures.made forms c.args.kept.now below is;
+      kept_below c.args.width c.requires.low c.args.table.now c.len-count.ensures.made forms c.args.kept.now below is;
   clean = let (forms, below, is) = c.requires.kept in
-    clean_kept c.args.width c.requires.low c.args.table.now c.len-count.ensures.made forms c.args.kept.now below is (sym c.requires.clash ∙ c.if-clash.false);
+      clean_kept c.args.width c.requires.low c.args.table.now c.len-count.ensures.made forms c.args.kept.now below is (sym c.requires.clash ∙ c.if-clash.false);
 }
 
 pub returns : goal.returns

@@ -5,7 +5,7 @@ use Rattle.lw_form.proofs.FactoringSteps.{two_done, join_below, factor_columns}
 use Rattle.lw_form.proofs.factoring.advance.Goals as goal
 
 pub begin-requires : goal.begin-requires
-begin-requires c = 
+begin-requires c =
     let (fs, f, w) = c.requires.works in
     let v = (subst (λ t. IsWorking c.args.width fs c.args.fanins.now c.args.table.now (c.args.work.now.tasks.items ++ t ∷ []) c.args.work.now.done.items (f ∷ [])) c.in-Factor.is w) in
     record {
@@ -16,7 +16,7 @@ begin-requires c =
     }
 
 pub join-requires : goal.join-requires
-join-requires c = 
+join-requires c =
     let (fs, f, w) = c.requires.works in
     let v = (subst (λ t. IsWorking c.args.width fs c.args.fanins.now c.args.table.now (c.args.work.now.tasks.items ++ t ∷ []) c.args.work.now.done.items (f ∷ [])) c.in-Join.is w) in
     record {

@@ -29,9 +29,9 @@ disjunction-requires c = record {
 pub returns : goal.returns
 returns c = record {
   working = λ fanins fs goals w.
-    work_joined c.args.width fs fanins goals c.args.table.now c.disjunction.new.table c.args.work.now.tasks.items c.args.work.now.done.items c.push.new.self.items c.last-having.new.done.items c.args.literal c.last-having.result c.last-others.result c.in_ok-form.form w (c.last-others.ensures ∙ ap (λ l. l ++ c.last-others.result ∷ []) c.last-having.ensures)
-    (join_made c.args.width c.args.table.now c.conjunction.new.table c.disjunction.new.table c.args.literal c.last-having.result c.last-others.result c.in_ok-both.both c.in_ok-form.form c.in_ok-both.ensures c.in_ok-form.ensures (last_below _ c.args.work.now.done.items c.last-others.new.done.items c.last-others.result c.last-others.ensures c.requires.below))
-    c.in_ok-push.ensures.items;
+      work_joined c.args.width fs fanins goals c.args.table.now c.disjunction.new.table c.args.work.now.tasks.items c.args.work.now.done.items c.push.new.self.items c.last-having.new.done.items c.args.literal c.last-having.result c.last-others.result c.in_ok-form.form w (c.last-others.ensures ∙ ap (λ l. l ++ c.last-others.result ∷ []) c.last-having.ensures)
+      (join_made c.args.width c.args.table.now c.conjunction.new.table c.disjunction.new.table c.args.literal c.last-having.result c.last-others.result c.in_ok-both.both c.in_ok-form.form c.in_ok-both.ensures c.in_ok-form.ensures (last_below _ c.args.work.now.done.items c.last-others.new.done.items c.last-others.result c.last-others.ensures c.requires.below))
+      c.in_ok-push.ensures.items;
   same = refl;
   more = more_twice (made c.args.table.now) (made c.conjunction.new.table) (made c.disjunction.new.table) c.in_ok-both.ensures.more c.in_ok-form.ensures.more;
 }

@@ -39,8 +39,8 @@ pub returns-then-cubes-eq1 : goal.returns-then-cubes-eq1
 returns-then-cubes-eq1 c = record {
   sop = sum_one c.args.width c.requires.low c.args.table.now c.product.new.table c.len-count.ensures.made c.args.fanins.now (map asked c.as_slice.result.now) (map (map asked) c.args.cubes.now) c.in_ok-form.form (one_row c.args.cubes.now c.index-cubes-0.result c.as_slice.result.now c.if-cubes-eq1.true c.index-cubes-0.is c.as_slice.ensures.bytes) c.in_ok-form.ensures;
   fac = let row = one_row c.args.cubes.now c.index-cubes-0.result c.as_slice.result.now c.if-cubes-eq1.true c.index-cubes-0.is c.as_slice.ensures.bytes in
-    flat_made c.args.width c.args.table.now c.product.new.table c.args.fanins.now (map (map asked) c.args.cubes.now) c.in_ok-form.form (one_shared (length c.args.fanins.now) (map asked c.as_slice.result.now) (map (map asked) c.args.cubes.now) row)
-    (sum_one c.args.width c.requires.low c.args.table.now c.product.new.table c.len-count.ensures.made c.args.fanins.now (map asked c.as_slice.result.now) (map (map asked) c.args.cubes.now) c.in_ok-form.form row c.in_ok-form.ensures);
+      flat_made c.args.width c.args.table.now c.product.new.table c.args.fanins.now (map (map asked) c.args.cubes.now) c.in_ok-form.form (one_shared (length c.args.fanins.now) (map asked c.as_slice.result.now) (map (map asked) c.args.cubes.now) row)
+      (sum_one c.args.width c.requires.low c.args.table.now c.product.new.table c.len-count.ensures.made c.args.fanins.now (map asked c.as_slice.result.now) (map (map asked) c.args.cubes.now) c.in_ok-form.form row c.in_ok-form.ensures);
 }
 
 pub sum_of_products-requires : goal.sum_of_products-requires
@@ -65,7 +65,7 @@ factored-requires c = record {
 pub returns : goal.returns
 returns c = record {
   sop = made_still c.args.table.now c.sum_of_products.new.table c.factored.new.table c.in_ok-sop.sop (sum_of_products c.args.width (forms_at (made c.args.table.now) c.args.fanins.now) (map (map asked) c.args.cubes.now)) c.in_ok-fac.ensures.more
-    (subst (λ r. IsMadeAs c.args.table.now c.sum_of_products.new.table c.in_ok-sop.sop (sum_of_products c.args.width (forms_at (made c.args.table.now) c.args.fanins.now) r)) (c.deref.ensures.value ∙ c.in_ok-rows.ensures) c.in_ok-sop.ensures);
+      (subst (λ r. IsMadeAs c.args.table.now c.sum_of_products.new.table c.in_ok-sop.sop (sum_of_products c.args.width (forms_at (made c.args.table.now) c.args.fanins.now) r)) (c.deref.ensures.value ∙ c.in_ok-rows.ensures) c.in_ok-sop.ensures);
   fac = factored_made c.args.width c.args.table.now c.sum_of_products.new.table c.factored.new.table c.args.fanins.now (map (map asked) c.args.cubes.now) c.in_ok-fac.fac c.in_ok-sop.ensures.more c.requires.below
-    (subst (λ r. IsMadeAs c.sum_of_products.new.table c.factored.new.table c.in_ok-fac.fac (factored c.args.width (forms_at (made c.sum_of_products.new.table) c.args.fanins.now) r)) c.in_ok-rows.ensures c.in_ok-fac.ensures);
+      (subst (λ r. IsMadeAs c.sum_of_products.new.table c.factored.new.table c.in_ok-fac.fac (factored c.args.width (forms_at (made c.sum_of_products.new.table) c.args.fanins.now) r)) c.in_ok-rows.ensures c.in_ok-fac.ensures);
 }

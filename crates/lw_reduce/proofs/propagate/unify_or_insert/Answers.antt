@@ -17,17 +17,17 @@ look_up-requires c = record {
 pub unify-changed-requires : goal.unify-changed-requires
 unify-changed-requires c = record {
   valid = let reps = c.look_up.new.reps in
-    let valid = c.in-Form.ensures.kept.valid in
-    valid_at (length reps) c.args.nands.now c.args.links.now reps (length c.args.reps.now) valid (sym valid.count);
+      let valid = c.in-Form.ensures.kept.valid in
+      valid_at (length reps) c.args.nands.now c.args.links.now reps (length c.args.reps.now) valid (sym valid.count);
   left = let none : Fact = record { form = 0; left = 0; right = 0 } in
-    let within = All-get_or (IsFactIn (length c.args.reps.now)) c.args.nands.now c.args.place none c.requires.within c.requires.valid.nands_in in
-    subst (λ n. (get_or c.args.nands.now c.args.place none).form / 2 < n) (sym c.in-Form.ensures.kept.valid.count) within.0;
+      let within = All-get_or (IsFactIn (length c.args.reps.now)) c.args.nands.now c.args.place none c.requires.within c.requires.valid.nands_in in
+      subst (λ n. (get_or c.args.nands.now c.args.place none).form / 2 < n) (sym c.in-Form.ensures.kept.valid.count) within.0;
   right =
-    let (p, listed, operands, is) = c.in-Form.ensures.found in
-    let within = All-contains (IsFactIn (length c.args.reps.now)) c.args.nands.now p c.requires.valid.nands_in listed in
-    subst (λ m. c.in-Form.form / 2 < m) (sym c.in-Form.ensures.kept.valid.count) (subst (λ f. f / 2 < length c.args.reps.now) is within.0);
+      let (p, listed, operands, is) = c.in-Form.ensures.found in
+      let within = All-contains (IsFactIn (length c.args.reps.now)) c.args.nands.now p c.requires.valid.nands_in listed in
+      subst (λ m. c.in-Form.form / 2 < m) (sym c.in-Form.ensures.kept.valid.count) (subst (λ f. f / 2 < length c.args.reps.now) is within.0);
   alike = let n = length c.args.reps.now in
-    lookup_alike n n (length c.look_up.new.reps) c.args.nands.now c.args.links.now c.args.place c.args.operands.low c.args.operands.high c.in-Form.form (record { form = 0; left = 0; right = 0 }) refl c.in-Form.ensures.kept.valid.count c.requires.within c.requires.operands c.in-Form.ensures.found;
+      lookup_alike n n (length c.look_up.new.reps) c.args.nands.now c.args.links.now c.args.place c.args.operands.low c.args.operands.high c.in-Form.form (record { form = 0; left = 0; right = 0 }) refl c.in-Form.ensures.kept.valid.count c.requires.within c.requires.operands c.in-Form.ensures.found;
 }
 
 pub returns-in-Form : goal.returns-in-Form

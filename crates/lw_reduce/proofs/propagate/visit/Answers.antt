@@ -25,12 +25,12 @@ operands_of-operands-requires-clause-within c = All-get_or (IsFactIn (length c.a
 pub unify-changed-requires : goal.unify-changed-requires
 unify-changed-requires c = record {
   valid = let reps = c.operands_of-operands.new.reps in
-    let valid = c.operands_of-operands.ensures.kept.valid in
-    valid_at (length reps) c.args.nands.now c.args.links.now reps (length c.args.reps.now) valid (sym valid.count);
+      let valid = c.operands_of-operands.ensures.kept.valid in
+      valid_at (length reps) c.args.nands.now c.args.links.now reps (length c.args.reps.now) valid (sym valid.count);
   left = let within = All-get_or (IsFactIn (length c.args.reps.now)) c.args.nands.now c.args.place no_fact c.requires.within c.requires.valid.nands_in in
-    subst (λ n. (get_or c.args.nands.now c.args.place no_fact).form / 2 < n) (sym c.operands_of-operands.ensures.kept.valid.count) within.0;
+      subst (λ n. (get_or c.args.nands.now c.args.place no_fact).form / 2 < n) (sym c.operands_of-operands.ensures.kept.valid.count) within.0;
   right = let implied = All-get_or (IsImplied (length c.args.reps.now) c.args.nands.now c.args.links.now) c.args.canonical.now c.in-Some.found no_fact c.in-Some.ensures.within c.requires.canonical in
-    subst (λ n. (get_or c.args.canonical.now c.in-Some.found no_fact).form / 2 < n) (sym c.operands_of-operands.ensures.kept.valid.count) implied.within;
+      subst (λ n. (get_or c.args.canonical.now c.in-Some.found no_fact).form / 2 < n) (sym c.operands_of-operands.ensures.kept.valid.count) implied.within;
   alike = row_alike (length c.args.reps.now) (length c.operands_of-operands.new.reps) c.args.nands.now c.args.links.now c.args.canonical.now c.args.place c.operands_of-operands.result.low c.operands_of-operands.result.high c.in-Some.found c.operands_of-operands.ensures.kept.valid.count c.requires.canonical c.requires.within c.in-Some.ensures.within c.in-Some.ensures.left c.in-Some.ensures.right c.operands_of-operands.ensures.operands;
 }
 
@@ -44,8 +44,8 @@ returns-in-Some c = record {
 pub unify_or_insert-requires : goal.unify_or_insert-requires
 unify_or_insert-requires c = record {
   valid = let reps = c.operands_of-operands.new.reps in
-    let valid = c.operands_of-operands.ensures.kept.valid in
-    valid_at (length reps) c.args.nands.now c.args.links.now reps (length c.args.reps.now) valid (sym valid.count);
+      let valid = c.operands_of-operands.ensures.kept.valid in
+      valid_at (length reps) c.args.nands.now c.args.links.now reps (length c.args.reps.now) valid (sym valid.count);
   some = c.requires.some;
   places = c.requires.places;
   within = c.requires.within;

@@ -20,8 +20,8 @@ loop-step-2-init c = record {
 pub visit-requires : goal.visit-requires
 visit-requires c = record {
   valid = let reps = c.loop-step.reps in
-    let valid = c.loop-step.invariant.kept.valid in
-    valid_at (length reps) c.args.nands.now c.args.links.now reps (length c.args.reps.now) valid (sym valid.count);
+      let valid = c.loop-step.invariant.kept.valid in
+      valid_at (length reps) c.args.nands.now c.args.links.now reps (length c.args.reps.now) valid (sym valid.count);
   canonical = c.loop-step.invariant.canonical;
   some = subst (λ n. 0 < n) (sym c.loop-step.auto.slots) c.requires.some;
   places = c.loop-step.invariant.places;
@@ -39,8 +39,8 @@ loop-step-preserved c = record {
 pub visit-requires-in-loop-step-2 : goal.visit-requires-in-loop-step-2
 visit-requires-in-loop-step-2 c = record {
   valid = let reps = c.loop-step-2.reps in
-    let valid = c.loop-step-2.invariant.kept.valid in
-    valid_at (length reps) c.args.nands.now c.args.links.now reps (length c.args.reps.now) valid (sym valid.count);
+      let valid = c.loop-step-2.invariant.kept.valid in
+      valid_at (length reps) c.args.nands.now c.args.links.now reps (length c.args.reps.now) valid (sym valid.count);
   canonical = c.loop-step-2.invariant.canonical;
   some = subst (λ n. 0 < n) (sym c.loop-step-2.auto.slots) (subst (λ n. 0 < n) (sym c.loop-step.auto.slots) c.requires.some);
   places = c.loop-step-2.invariant.places;

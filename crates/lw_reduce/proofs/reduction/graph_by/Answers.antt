@@ -12,10 +12,10 @@ settle-requires-clause-valid c = rw c.deref.ensures.value c.requires.valid
 pub graph_of-requires : goal.graph_of-requires
 graph_of-requires c = record {
   settled = let nands = c.args.nands.items in
-    let links = c.args.links.now in
-    let reps = c.settle.new.reps in
-    let is = subst (λ fs. AreSettled (length c.args.reps.now) fs links reps) c.deref.ensures.value c.in_ok-settle.ensures in
-    settled_from (length c.args.reps.now) (length reps) nands links reps (sym is.valid.count) is;
+      let links = c.args.links.now in
+      let reps = c.settle.new.reps in
+      let is = subst (λ fs. AreSettled (length c.args.reps.now) fs links reps) c.deref.ensures.value c.in_ok-settle.ensures in
+      settled_from (length c.args.reps.now) (length reps) nands links reps (sym is.valid.count) is;
   few = subst (λ n. n < 2 ^ 31) (sym c.in_ok-settle.ensures.valid.count) c.requires.few;
   inputs_in = subst (λ n. c.args.inputs < n) (sym c.in_ok-settle.ensures.valid.count) c.requires.inputs_in;
   few_nands = c.requires.few_nands;

@@ -26,18 +26,18 @@ class_facts-facts-requires c =
 pub class_pairs-requires : goal.class_pairs-requires
 class_pairs-requires c = record {
   within = let n = length c.args.reps.now in
-    let nands = c.args.nands.items in
-    let is = c.requires.settled in
-    let forms = c.in_ok-numbered.numbered.forms.items in
-    let pairs = c.in_ok-numbered.numbered.pairs in
-    let e = c.class_facts-facts.ensures ∙ ap (λ fs. map (canonical_fact fs) nands) c.deref.ensures.value in
-    let p = c.in_ok-numbered.ensures.pairs in
-    subst (λ es. All (λ (r : Fact). r.form < pairs * 2) es) (sym e) (entries_below n nands c.args.links.now c.args.reps.now is c.requires.few forms c.in_ok-numbered.ensures.classes c.in_ok-numbered.ensures.count (pairs * 2) (omega arith));
+      let nands = c.args.nands.items in
+      let is = c.requires.settled in
+      let forms = c.in_ok-numbered.numbered.forms.items in
+      let pairs = c.in_ok-numbered.numbered.pairs in
+      let e = c.class_facts-facts.ensures ∙ ap (λ fs. map (canonical_fact fs) nands) c.deref.ensures.value in
+      let p = c.in_ok-numbered.ensures.pairs in
+      subst (λ es. All (λ (r : Fact). r.form < pairs * 2) es) (sym e) (entries_below n nands c.args.links.now c.args.reps.now is c.requires.few forms c.in_ok-numbered.ensures.classes c.in_ok-numbered.ensures.count (pairs * 2) (omega arith));
   few = let nands = c.args.nands.items in
-    let forms = c.deref.result.now in
-    let e = ap length c.class_facts-facts.ensures ∙ length-map nands (canonical_fact forms) in
-    let few = c.requires.few_nands in
-    omega arith;
+      let forms = c.deref.result.now in
+      let e = ap length c.class_facts-facts.ensures ∙ length-map nands (canonical_fact forms) in
+      let few = c.requires.few_nands in
+      omega arith;
 }
 
 pub flat-requires-clause-graph : goal.flat-requires-clause-graph

@@ -10,7 +10,7 @@ pub find-a-requires-clause-within : goal.find-a-requires-clause-within
 find-a-requires-clause-within c = c.requires.left
 
 pub find-b-requires-clause-valid : goal.find-b-requires-clause-valid
-find-b-requires-clause-valid c = 
+find-b-requires-clause-valid c =
     let mid = c.find-a.new.reps in
     let valid = c.find-a.ensures.valid in
     valid_at (length mid) c.args.nands.now c.args.links.now mid (length c.args.reps.now) valid (sym valid.count)

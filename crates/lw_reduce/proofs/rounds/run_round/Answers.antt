@@ -15,28 +15,28 @@ unify_equal-equal-requires-clause-canonical c =
 pub returns : goal.returns
 returns c = record {
   progress = elim c.if-linked.branch [
-      | then-linked w ↦ either_progress (length c.args.reps.now) c.args.nands.now c.args.links.now c.args.reps.now c.flatten.new.reps c.unify_linked-linked.new.reps c.unify_equal-equal.new.reps c.unify_linked-linked.result c.unify_equal-equal.result _ c.flatten.ensures.kept c.unify_linked-linked.ensures.progress c.unify_equal-equal.ensures.progress (λ e. inl w.if-linked.true)
-      | else-linked w ↦ either_progress (length c.args.reps.now) c.args.nands.now c.args.links.now c.args.reps.now c.flatten.new.reps c.unify_linked-linked.new.reps c.unify_equal-equal.new.reps c.unify_linked-linked.result c.unify_equal-equal.result _ c.flatten.ensures.kept c.unify_linked-linked.ensures.progress c.unify_equal-equal.ensures.progress (λ e. inr (sym w.result-is ∙ e))
-    ];
+    | then-linked w ↦ either_progress (length c.args.reps.now) c.args.nands.now c.args.links.now c.args.reps.now c.flatten.new.reps c.unify_linked-linked.new.reps c.unify_equal-equal.new.reps c.unify_linked-linked.result c.unify_equal-equal.result _ c.flatten.ensures.kept c.unify_linked-linked.ensures.progress c.unify_equal-equal.ensures.progress (λ e. inl w.if-linked.true)
+    | else-linked w ↦ either_progress (length c.args.reps.now) c.args.nands.now c.args.links.now c.args.reps.now c.flatten.new.reps c.unify_linked-linked.new.reps c.unify_equal-equal.new.reps c.unify_linked-linked.result c.unify_equal-equal.result _ c.flatten.ensures.kept c.unify_linked-linked.ensures.progress c.unify_equal-equal.ensures.progress (λ e. inr (sym w.result-is ∙ e))
+  ];
   canonical = let mid = c.unify_linked-linked.new.reps in
-    let n = length c.args.reps.now in
-    let nands = c.args.nands.now in
-    let links = c.args.links.now in
-    let counts = c.unify_linked-linked.ensures.progress.valid.count ∙ c.flatten.ensures.kept.valid.count in
-    all_implied n nands links mid c.in_ok-canonical.canonical.items (valid_at n nands links mid (length c.flatten.new.reps) c.unify_linked-linked.ensures.progress.valid c.flatten.ensures.kept.valid.count) c.in_ok-canonical.ensures.permutation;
+      let n = length c.args.reps.now in
+      let nands = c.args.nands.now in
+      let links = c.args.links.now in
+      let counts = c.unify_linked-linked.ensures.progress.valid.count ∙ c.flatten.ensures.kept.valid.count in
+      all_implied n nands links mid c.in_ok-canonical.canonical.items (valid_at n nands links mid (length c.flatten.new.reps) c.unify_linked-linked.ensures.progress.valid c.flatten.ensures.kept.valid.count) c.in_ok-canonical.ensures.permutation;
   settled = let n = length c.args.reps.now in
-    let nands = c.args.nands.now in
-    let links = c.args.links.now in
-    let fl = c.flatten.new.reps in
-    let mid = c.unify_linked-linked.new.reps in
-    let new = c.unify_equal-equal.new.reps in
-    let canonical = c.in_ok-canonical.canonical.items in
-    let counts = c.unify_linked-linked.ensures.progress.valid.count ∙ c.flatten.ensures.kept.valid.count in
-    elim c.if-linked.branch [
-      | then-linked w ↦ λ e. absurd (true≢false (sym w.if-linked.true ∙ (sym w.result-is ∙ e)))
-      | else-linked w ↦ λ e.
-          settled n nands links fl mid new canonical (valid_at n nands links new (length mid) c.unify_equal-equal.ensures.progress.valid counts) c.flatten.ensures.flat (c.unify_linked-linked.ensures.same w.if-linked.false c.flatten.ensures.flat) (subst (λ rs. IsFlat mid → (new ≡ mid) × ((place : ℕ) → 1 ≤ place → place < length rs → AgreesAt mid rs place)) c.deref.ensures.value (c.unify_equal-equal.ensures.same (sym w.result-is ∙ e))) c.in_ok-canonical.ensures.permutation c.in_ok-canonical.ensures.sorted
-    ];
+      let nands = c.args.nands.now in
+      let links = c.args.links.now in
+      let fl = c.flatten.new.reps in
+      let mid = c.unify_linked-linked.new.reps in
+      let new = c.unify_equal-equal.new.reps in
+      let canonical = c.in_ok-canonical.canonical.items in
+      let counts = c.unify_linked-linked.ensures.progress.valid.count ∙ c.flatten.ensures.kept.valid.count in
+      elim c.if-linked.branch [
+        | then-linked w ↦ λ e. absurd (true≢false (sym w.if-linked.true ∙ (sym w.result-is ∙ e)))
+        | else-linked w ↦ λ e.
+            settled n nands links fl mid new canonical (valid_at n nands links new (length mid) c.unify_equal-equal.ensures.progress.valid counts) c.flatten.ensures.flat (c.unify_linked-linked.ensures.same w.if-linked.false c.flatten.ensures.flat) (subst (λ rs. IsFlat mid → (new ≡ mid) × ((place : ℕ) → 1 ≤ place → place < length rs → AgreesAt mid rs place)) c.deref.ensures.value (c.unify_equal-equal.ensures.same (sym w.result-is ∙ e))) c.in_ok-canonical.ensures.permutation c.in_ok-canonical.ensures.sorted
+      ];
 }
 
 pub flatten-requires : goal.flatten-requires

@@ -27,8 +27,8 @@ loop-place-preserved c =
 pub unify_at-requires : goal.unify_at-requires
 unify_at-requires c = record {
   valid = let reps = c.loop-place.reps in
-    let valid = c.loop-place.invariant.progress.valid in
-    valid_at (length reps) c.args.nands.now c.args.links.now reps (length c.args.reps.now) valid (sym valid.count);
+      let valid = c.loop-place.invariant.progress.valid in
+      valid_at (length reps) c.args.nands.now c.args.links.now reps (length c.args.reps.now) valid (sym valid.count);
   canonical = subst (λ n. All (IsImplied n c.args.nands.now c.args.links.now) c.args.canonical.now) (sym c.loop-place.invariant.progress.valid.count) c.requires.canonical;
   start = c.loop-place.auto.place;
   within = c.loop-place-test.true;
@@ -38,6 +38,6 @@ pub returns : goal.returns
 returns c = record {
   progress = c.loop-place.invariant.progress;
   same = λ e f.
-    let (same, all) = c.loop-place.invariant.same e f in
-    (same, λ place low lt. all place low (omega (arith, lt, c.loop-place-test.false)));
+      let (same, all) = c.loop-place.invariant.same e f in
+      (same, λ place low lt. all place low (omega (arith, lt, c.loop-place-test.false)));
 }

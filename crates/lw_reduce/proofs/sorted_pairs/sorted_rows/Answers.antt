@@ -55,15 +55,15 @@ pub returns : goal.returns
 returns c = record {
   ends = c.loop-class.invariant.cut;
   count = let l = c.loop-class in
-    let k = l.invariant.count in
-    let n = length-rows_from l.rows.pairs.items 0 l.rows.ends in
-    let t = c.loop-class-test.false in
-    let e = l.auto.class-end in
-    omega arith;
+      let k = l.invariant.count in
+      let n = length-rows_from l.rows.pairs.items 0 l.rows.ends in
+      let t = c.loop-class-test.false in
+      let e = l.auto.class-end in
+      omega arith;
   rows = let l = c.loop-class in
-    let k = l.invariant.count in
-    let n = length-rows_from c.args.pairs.now 0 c.args.ends.now in
-    let t = c.loop-class-test.false in
-    let e = l.auto.class-end in
-    rows_all (rows_from c.args.pairs.now 0 c.args.ends.now) (rows_from l.rows.pairs.items 0 l.rows.ends) l.class (omega arith) (omega arith) l.invariant.done;
+      let k = l.invariant.count in
+      let n = length-rows_from c.args.pairs.now 0 c.args.ends.now in
+      let t = c.loop-class-test.false in
+      let e = l.auto.class-end in
+      rows_all (rows_from c.args.pairs.now 0 c.args.ends.now) (rows_from l.rows.pairs.items 0 l.rows.ends) l.class (omega arith) (omega arith) l.invariant.done;
 }

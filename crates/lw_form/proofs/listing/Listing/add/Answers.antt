@@ -37,6 +37,6 @@ steps-preserved c = record {
 }
 
 pub returns-in_err-advance-clause-fault : goal.returns-in_err-advance-clause-fault
-returns-in_err-advance-clause-fault c = 
+returns-in_err-advance-clause-fault c =
     err_is (IsTooLong (add_form (form_of (made c.args.table.now) c.args.form) (bases_of (made c.args.table.now) c.args.self.now.listed.items))) c.from_residual-in_err-advance.result c.in_err-advance.field-0.0 c.from_residual-in_err-advance.ensures.1
     (c.in_err-advance.ensures.fault _ (subst (λ s. IsAdding c.steps.table c.steps.self.listed.items c.steps.self.places.items s (add_form (form_of (made c.args.table.now) c.args.form) (bases_of (made c.args.table.now) c.args.self.now.listed.items))) c.in-Some.ensures.items c.steps.invariant.adding))

@@ -17,7 +17,7 @@ pub returns-in-Add-clause-fault : goal.returns-in-Add-clause-fault
 returns-in-Add-clause-fault c = subst (λ s. IfErr c.begin.result (IsStepFault c.args.table.now c.args.self.now c.args.steps.now.items s)) (sym c.in-Add.is) c.begin.ensures.fault
 
 pub returns-in-Parts-clause-step : goal.returns-in-Parts-clause-step
-returns-in-Parts-clause-step c = 
+returns-in-Parts-clause-step c =
     let (goals, w) = c.requires in
     on_ok_weaker c.list_and.result (λ l. record {
       more = l.more;

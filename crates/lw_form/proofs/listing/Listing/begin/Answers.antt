@@ -26,15 +26,15 @@ pub returns-in_ok-push_and-in-Some-clause-step : goal.returns-in_ok-push_and-in-
 returns-in_ok-push_and-in-Some-clause-step c = record {
   more = more_same (made c.args.table.now);
   adding = λ goals w.
-    let below = adding_below c.args.table.now c.len-count.ensures.made c.args.self.now.listed.items c.args.self.now.places.items c.args.steps.now.items c.args.form goals w in
-    let ids : AreBelow (length (made c.args.table.now)) c.as_slice.result.now = subst (AreBelow (length (made c.args.table.now))) (sym c.as_slice.ensures.ids) c.in-Some.ensures.spelled.below in
-    adding_and c.args.table.now c.len-count.ensures.made c.args.self.now.listed.items c.args.self.now.places.items c.args.steps.now.items c.args.form goals w c.push_and.new.steps.items c.as_slice.result.now (sym c.place.ensures ∙ c.if-place.false) (c.in-Some.ensures.spelled.and_is ∙ ap (λ l. Some (spelled (made c.args.table.now) l)) (sym c.as_slice.ensures.ids)) ids (c.in_ok-push_and-in-Some.ensures.fit (length (made c.args.table.now)) below ids (rest_fit c.args.table.now c.len-count.ensures.made c.args.self.now.listed.items c.args.self.now.places.items c.args.steps.now.items c.args.form goals w)) (c.in_ok-push_and-in-Some.ensures.steps (made c.args.table.now));
+      let below = adding_below c.args.table.now c.len-count.ensures.made c.args.self.now.listed.items c.args.self.now.places.items c.args.steps.now.items c.args.form goals w in
+      let ids : AreBelow (length (made c.args.table.now)) c.as_slice.result.now = subst (AreBelow (length (made c.args.table.now))) (sym c.as_slice.ensures.ids) c.in-Some.ensures.spelled.below in
+      adding_and c.args.table.now c.len-count.ensures.made c.args.self.now.listed.items c.args.self.now.places.items c.args.steps.now.items c.args.form goals w c.push_and.new.steps.items c.as_slice.result.now (sym c.place.ensures ∙ c.if-place.false) (c.in-Some.ensures.spelled.and_is ∙ ap (λ l. Some (spelled (made c.args.table.now) l)) (sym c.as_slice.ensures.ids)) ids (c.in_ok-push_and-in-Some.ensures.fit (length (made c.args.table.now)) below ids (rest_fit c.args.table.now c.len-count.ensures.made c.args.self.now.listed.items c.args.self.now.places.items c.args.steps.now.items c.args.form goals w)) (c.in_ok-push_and-in-Some.ensures.steps (made c.args.table.now));
   less = let (goals, w) = c.requires in
-    size_and (made c.args.table.now) c.args.steps.now.items c.push_and.new.steps.items c.args.form c.as_slice.result.now c.len-count.ensures.made (adding_below c.args.table.now c.len-count.ensures.made c.args.self.now.listed.items c.args.self.now.places.items c.args.steps.now.items c.args.form goals w) (c.in-Some.ensures.spelled.and_is ∙ ap (λ l. Some (spelled (made c.args.table.now) l)) (sym c.as_slice.ensures.ids)) (c.in_ok-push_and-in-Some.ensures.steps (made c.args.table.now));
+      size_and (made c.args.table.now) c.args.steps.now.items c.push_and.new.steps.items c.args.form c.as_slice.result.now c.len-count.ensures.made (adding_below c.args.table.now c.len-count.ensures.made c.args.self.now.listed.items c.args.self.now.places.items c.args.steps.now.items c.args.form goals w) (c.in-Some.ensures.spelled.and_is ∙ ap (λ l. Some (spelled (made c.args.table.now) l)) (sym c.as_slice.ensures.ids)) (c.in_ok-push_and-in-Some.ensures.steps (made c.args.table.now));
 }
 
 pub returns-in-None-clause-step : goal.returns-in-None-clause-step
-returns-in-None-clause-step c = 
+returns-in-None-clause-step c =
     on_ok_weaker c.list.result (λ l. record {
       more = more_same (made c.args.table.now);
       adding = λ goals w. adding_simple c.args.table.now c.len-count.ensures.made c.args.self.now.listed.items c.args.self.now.places.items c.args.steps.now.items c.args.form goals w c.list.new.self.listed.items c.list.new.self.places.items (simple_at (c.args.form / 2)) c.in-None.ensures.simple (simple_here (c.args.form / 2)) l.listed l.bases;

@@ -31,6 +31,6 @@ pub returns-in_err-b-clause-listed : goal.returns-in_err-b-clause-listed
 returns-in_err-b-clause-listed c = on_failed _ c.from_residual.result c.from_residual.ensures.0
 
 pub returns-clause-listed : goal.returns-clause-listed
-returns-clause-listed c = 
+returns-clause-listed c =
     let more = added_more c.args.table.now c.add.new.self (spelled (made c.args.table.now) c.args.ids) c.in_ok-b.ensures.made in
     on_ok_weaker c.list.result (λ l. record { more = more; listed = l.listed; bases = l.bases ∙ (part_same c.args.table.now c.add.new.self c.args.ids c.args.self.now.listed.items c.args.self.now.places.items c.in_ok-b.b (let l = c.len.ensures.len in let n = c.if-len-lt2.false in omega arith) c.requires.listed (added_more c.args.table.now c.add.new.self (spelled (made c.args.table.now) c.args.ids) c.in_ok-b.ensures.made) c.in_ok-b.ensures.place) }) c.list.ensures.listed

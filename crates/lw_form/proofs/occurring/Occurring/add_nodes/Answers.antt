@@ -14,11 +14,11 @@ add_node-requires c = record {
   high = c.requires.high;
   listed = let (signals, w) = c.requires.listed in (_, c.loop-node.invariant signals w);
   fanins = let (signals, w) = c.requires.listed in
-    let a = net_count c.args.self.now.table c.args.self.now.listing.listed.items c.args.self.now.listing.places.items c.args.self.now.sops.items c.args.self.now.facs.items signals w in
-    let b = net_count c.loop-node.self.table c.loop-node.self.listing.listed.items c.loop-node.self.listing.places.items c.loop-node.self.sops.items c.loop-node.self.facs.items _ (c.loop-node.invariant signals w) in
-    let n = nodes_count c.args.width signals c.args.nodes.now c.loop-node.node-index c.node-item.result c.loop-node-test.true c.node-item.is in
-    let same : length c.args.self.now.sops.items + c.loop-node.node-index ≡ length c.loop-node.self.sops.items = omega arith in
-    subst (λ k. All (λ (net : NetId). net.0 < k) c.node-item.result.fanins) same (c.requires.nodes c.loop-node.node-index c.node-item.result (slice_get_read c.args.nodes.now (length c.args.nodes.now) c.loop-node.node-index c.node-item.result refl c.loop-node-test.true c.node-item.is)).0;
+      let a = net_count c.args.self.now.table c.args.self.now.listing.listed.items c.args.self.now.listing.places.items c.args.self.now.sops.items c.args.self.now.facs.items signals w in
+      let b = net_count c.loop-node.self.table c.loop-node.self.listing.listed.items c.loop-node.self.listing.places.items c.loop-node.self.sops.items c.loop-node.self.facs.items _ (c.loop-node.invariant signals w) in
+      let n = nodes_count c.args.width signals c.args.nodes.now c.loop-node.node-index c.node-item.result c.loop-node-test.true c.node-item.is in
+      let same : length c.args.self.now.sops.items + c.loop-node.node-index ≡ length c.loop-node.self.sops.items = omega arith in
+      subst (λ k. All (λ (net : NetId). net.0 < k) c.node-item.result.fanins) same (c.requires.nodes c.loop-node.node-index c.node-item.result (slice_get_read c.args.nodes.now (length c.args.nodes.now) c.loop-node.node-index c.node-item.result refl c.loop-node-test.true c.node-item.is)).0;
   columns = (c.requires.nodes c.loop-node.node-index c.node-item.result (slice_get_read c.args.nodes.now (length c.args.nodes.now) c.loop-node.node-index c.node-item.result refl c.loop-node-test.true c.node-item.is)).1;
 }
 

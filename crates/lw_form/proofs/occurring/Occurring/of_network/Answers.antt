@@ -20,7 +20,7 @@ add_nodes-requires c = record {
   high = c.requires.high;
   listed = (input_signals 0 c.inputs-inputs.result, c.in-Ok.ensures.listed);
   nodes = subst (AreNodes (length c.add_inputs.new.self.sops.items)) (sym c.nodes.ensures.nodes)
-    (network_nodes c.args.net.now (length c.add_inputs.new.self.sops.items) c.nodes.ensures.kept (inputs_counted c.add_inputs.new.self.table c.add_inputs.new.self.listing.listed.items c.add_inputs.new.self.listing.places.items c.add_inputs.new.self.sops.items c.add_inputs.new.self.facs.items c.inputs-inputs.result c.in-Ok.ensures.listed ∙ c.inputs-inputs.ensures.inputs));
+      (network_nodes c.args.net.now (length c.add_inputs.new.self.sops.items) c.nodes.ensures.kept (inputs_counted c.add_inputs.new.self.table c.add_inputs.new.self.listing.listed.items c.add_inputs.new.self.listing.places.items c.add_inputs.new.self.sops.items c.add_inputs.new.self.facs.items c.inputs-inputs.result c.in-Ok.ensures.listed ∙ c.inputs-inputs.ensures.inputs));
 }
 
 pub returns-in-Err-add_nodes-clause-fault : goal.returns-in-Err-add_nodes-clause-fault
