@@ -11,3 +11,11 @@ unify-requires c = record {
   right = (All-get_or (IsImplied (length c.args.reps.now) c.args.nands.now c.args.links.now) c.args.canonical.now c.args.place no_fact c.requires.within c.requires.canonical).within;
   alike = rows_alike (length c.args.reps.now) c.args.nands.now c.args.links.now c.args.canonical.now c.args.place c.requires.canonical c.requires.within c.if-first-second.false c.if-first-second-2.false;
 }
+
+pub returns : goal.returns
+returns c = record {
+  progress = c.unify.ensures.progress;
+  same = λ e f.
+      let (s, a) = c.unify.ensures.same e f in
+      (s, λ l r. a);
+}
