@@ -1,14 +1,20 @@
 -- The needed classes, each with its table, and how they are found from the deepest down.
-use Rattle.std.specs.Prelude.{ℕ, suc, ◌<◌, ◌≡◌, ◌⊎◌, List, Contains, length, Option, Some, slice_get}
+use Rattle.std.specs.Prelude.{ℕ, suc, ◌<◌, ◌≡◌, ◌⊎◌, List, All, Contains, length, Option, Some, slice_get}
 use Rattle.lw_pool.specs.declared.id.ClassId.{ClassId}
 use Rattle.lw_laws.specs.Graphs.{Graph}
 use Rattle.lw_laws.specs.Extracts.{IsLeafClass}
 use Rattle.lw_naming.specs.declared.places.Place.{Place}
 use Rattle.lw_naming.specs.Places.{AreInClassOrder, AreInDepthOrder}
+use Rattle.lw_lut.specs.Depths.{DepthLists, AreLeastDepths}
 use Rattle.lw_lut.specs.Searches.{depth_in, IsBelow}
 use Rattle.lw_lut.specs.Tables.{IsTableAt, AreRisingClasses}
 use Rattle.lw_lut.specs.declared.table.Table.{Table}
 use Rattle.lw_pool.specs.Numbers.{numbers}
+
+-- roots among the classes of a graph, and the least depths of these
+pub record AreRootsIn (d : DepthLists) (roots : List ClassId) : Type 0 where
+  pub least : (g : Graph) × (most : ℕ) × AreLeastDepths g most d
+  pub within : All (λ (root : ClassId). root.0 < length d.depths) roots
 
 -- the least set that has the roots and the fan-ins of the tables of classes in it
 pub data IsNeeded (roots : List ℕ) (tables : List Table) : ℕ → Type 0 where

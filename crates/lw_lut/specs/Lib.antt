@@ -10,5 +10,6 @@ pub mod Readable
 pub mod Said
 pub mod Reaches
 pub mod Searches
+pub mod Sweeps
 pub mod Tables
 pub mod Texts

@@ -1,14 +1,29 @@
 -- What a network of tables keeps for its text.
-use Rattle.std.specs.Prelude.{ℕ, ◌≤◌, ◌≡◌, List, [], ◌∷◌, ◌++◌, All, Contains, length, take, codes, Some, slice_get}
+use Rattle.std.specs.Prelude.{ℕ, ◌+◌, ◌^◌, ◌<◌, ◌≤◌, ◌≡◌, List, [], ◌∷◌, ◌++◌, All, Contains, length, take, codes, Some, slice_get}
 use Rattle.lw_pool.specs.declared.id.ClassId.{ClassId}
 use Rattle.lw_pool.specs.declared.latch.Frame.{Frame}
-use Rattle.lw_lut.specs.Nets.{PlainTableNet, IsTableNet, net_classes}
+use Rattle.lw_pool.specs.Numbers.{numbers}
+use Rattle.lw_lut.specs.Nets.{PlainTableNet, IsTableNet, net_classes, table_classes}
+use Rattle.lw_lut.specs.declared.ports.TablePorts.{TablePorts}
 use Rattle.lw_lut.specs.declared.table.Table.{Table}
 use Rattle.lw_words.specs.Texts.{line}
 
 -- at each class that stands in the list there is its place in it
 abbrev pub HasPlaces : List ℕ → List ℕ → Type 0
 HasPlaces classes places = (i c : ℕ) → slice_get classes i ≡ Some c → slice_get places c ≡ Some i
+
+-- inputs and tables at different classes, all of them below n
+pub record ArePlaceable (n : ℕ) (inputs : List ClassId) (tables : List Table) : Type 0 where
+  pub few : length inputs + length tables < 2 ^ 32
+  pub inputs_below : All (λ (input : ClassId). input.0 < n) inputs
+  pub tables_below : All (λ (x : Table). x.out.0 < n) tables
+  pub once : (i j c : ℕ) → slice_get (numbers inputs ++ table_classes tables) i ≡ Some c → slice_get (numbers inputs ++ table_classes tables) j ≡ Some c → i ≡ j
+
+-- a root below n for each output
+pub record HaveRootsBelow (n : ℕ) (ports : TablePorts) : Type 0 where
+  pub few_outputs : length ports.outputs < 2 ^ 32
+  pub one_root : length ports.roots ≡ length ports.outputs
+  pub below : All (λ (root : ClassId). root.0 < n) ports.roots
 
 -- A network of tables with a name for each net, an output for each root and no more than six fan-ins, and the places of its
 -- classes.

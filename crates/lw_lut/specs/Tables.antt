@@ -1,10 +1,12 @@
 -- Tables: fan-ins at classes, and bits.
-use Rattle.std.specs.Prelude.{ℕ, ◌<◌, ◌≤◌, ◌≡◌, ◌==◌, ◌↔◌, ◌⊎◌, ◌++◌, Bool, false, List, [], ◌∷◌, length, Contains, Some, if◌then◌else◌, slice_get}
+use Rattle.std.specs.Prelude.{ℕ, ◌^◌, ◌<◌, ◌≤◌, ◌≡◌, ◌==◌, ◌↔◌, ◌⊎◌, ◌++◌, Bool, false, List, [], ◌∷◌, length, Contains, Some, if◌then◌else◌, slice_get}
 use Rattle.lw_pool.specs.declared.id.ClassId.{ClassId}
 use Rattle.lw_laws.specs.Trees.{Tree, tree_value}
 use Rattle.lw_laws.specs.Graphs.{Graph, Stands}
+use Rattle.lw_lut.specs.declared.table.Table.{Table}
 use Rattle.lw_lut.specs.Covers.{HasPinsOnce}
 use Rattle.lw_lut.specs.Cuts.{PlainCut, spelled, is_set, pin_value, turned, is_odd}
+use Rattle.lw_lut.specs.Packed.{packed}
 use Rattle.lw_pool.specs.Numbers.{numbers}
 
 -- The table stands for a table of a cover at the class: some tree over at most so many pins at the fan-ins' classes, each pin
@@ -24,6 +26,12 @@ abbrev pub AreRisingClasses : List ClassId → Type 0
 AreRisingClasses classes =
     (i j : ℕ) (x y : ClassId) → slice_get classes i ≡ Some x → slice_get classes j ≡ Some y → i < j → x.0 < y.0
 
+-- the same classes, each once
+pub record AreRisingOf (classes rising : List ClassId) : Type 0 where
+  pub are_rising : AreRisingClasses rising
+  pub same : (c : ClassId) → Contains rising c ↔ Contains classes c
+  pub few : length rising ≤ length classes
+
 -- the class is at the end of the list, unless it was there
 abbrev pub IsAdded : List ClassId → ClassId → List ClassId → Type 0
 IsAdded old class new =
@@ -38,3 +46,10 @@ given (f ∷ fs) place c = if f == c then is_set place (length fs) else given fs
 abbrev pub table_value : PlainCut → ℕ → List ℕ → ℕ → Bool
 table_value cut c fanins place =
     turned (is_odd c) (is_set cut.bits (spelled (given fanins place) (numbers cut.pins)))
+
+-- the table of a cut at a class, over the cut's pins
+pub record IsTableOf (cut : PlainCut) (class : ClassId) (t : Table) : Type 0 where
+  pub out_is : t.out ≡ class
+  pub rising : AreRisingOf cut.pins t.fanins
+  pub six : length t.fanins ≤ 6
+  pub bits_are : t.bits ≡ packed (table_value cut class.0 (numbers t.fanins)) 0 (2 ^ length t.fanins)

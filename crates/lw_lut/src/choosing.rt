@@ -1,9 +1,9 @@
 // The classes that are needed, each with its table.
-ghost use Rattle.std.specs.Prelude.{◌≡◌, ◌+◌, ◌/◌, ◌<◌, ◌≤◌, ◌^◌, ℕ, suc, All, IfOk, Some, None, length, reverse, slice_get, slice_index_or};
+ghost use Rattle.std.specs.Prelude.{◌<◌, ◌≤◌, ◌^◌, ℕ, All, IfOk, length, reverse};
 ghost use Rattle.lw_laws.specs.Graphs.{Graph as PlainGraph};
-ghost use Rattle.lw_lut.specs.Choosing.{AreByDepth, AreListed, AreTables};
+ghost use Rattle.lw_lut.specs.Choosing.{AreByDepth, AreListed, AreRootsIn, AreTables};
 ghost use Rattle.lw_lut.specs.Depths.{AreLeastDepths};
-ghost use Rattle.lw_lut.specs.Searches.{depth_in, IsKnown};
+ghost use Rattle.lw_lut.specs.Searches.{IsKnown};
 ghost use Rattle.lw_pool.specs.Numbers.{numbers};
 
 use crate::found::Depths;
@@ -49,8 +49,7 @@ fn choose_down(
     roots: &[ClassId],
     places: &[Place],
 ) -> Result<Vec<Table>, AllocError>
-    requires depths { (g : PlainGraph) × (most : ℕ) × AreLeastDepths g most depths.now }
-    requires roots { All (λ root. root.0 < length depths.now.depths) roots.now }
+    requires roots { AreRootsIn depths.now roots.now }
     requires places { AreByDepth depths.now.depths places.now }
     ensures tables { (g : PlainGraph) (most : ℕ) → AreLeastDepths g most depths.now →
         All (λ root. IsKnown depths.now.depths root.0) roots.now →
@@ -78,8 +77,7 @@ pub(crate) fn choose(
     roots: &[ClassId],
 ) -> Result<Vec<Table>, AllocError>
     requires few { length depths.now.depths < 2 ^ 32 }
-    requires depths { (g : PlainGraph) × (most : ℕ) × AreLeastDepths g most depths.now }
-    requires roots { All (λ root. root.0 < length depths.now.depths) roots.now }
+    requires roots { AreRootsIn depths.now roots.now }
     ensures tables { (g : PlainGraph) (most : ℕ) → AreLeastDepths g most depths.now →
         All (λ root. IsKnown depths.now.depths root.0) roots.now →
         IfOk result (λ tables. AreTables g most depths.now.depths (numbers roots.now) tables.items) }

@@ -1,8 +1,6 @@
-ghost use Rattle.std.specs.Prelude.{◌≡◌, ◌≤◌, ◌<◌, ◌+◌, ◌*◌, ◌^◌, ℕ, suc, None, length, slice_index_or, IfOk};
-ghost use Rattle.lw_lut.specs.Covers.{IsLeastDepth};
+ghost use Rattle.std.specs.Prelude.{◌≤◌, IfOk};
 ghost use Rattle.lw_lut.specs.Depths.{AreLeastDepths};
-ghost use Rattle.lw_lut.specs.Reaches.{AreReaches};
-ghost use Rattle.lw_lut.specs.Searches.{AreCounts, AreDepthsUpTo, depth_in, unknown_count};
+ghost use Rattle.lw_lut.specs.Sweeps.{AreReachesOf, IsAtDepth, HasAllDepths};
 
 use crate::found::Depths;
 use crate::reach::reaches;
@@ -14,15 +12,10 @@ use std::alloc::{AllocError, Global};
 impl Search {
     // Finds all depths.
     fn find_all(&mut self, graph: &Graph, leaves: u8, reach: &[Span])
-        requires places { length graph.now.pairs ≡ 2 * length reach.now }
-        requires reaches { AreReaches graph.now reach.now }
+        requires reach { AreReachesOf graph.now reach.now }
         requires some { 2 ≤ leaves }
-        requires few { leaves ≤ 6 }
-        requires counts { AreCounts graph.now leaves 1 self.old }
-        requires depths { AreDepthsUpTo graph.now leaves self.old.depths.items 0 }
-        ensures counts { (d : ℕ) × AreCounts graph.now leaves d self.new }
-        ensures least { (c : ℕ) → IsLeastDepth graph.now leaves c
-            (depth_in self.new.depths.items c) }
+        requires at { IsAtDepth graph.now leaves 1 self.old }
+        ensures { HasAllDepths graph.now leaves self.new }
     {
         let mut span = Span {
             low: 0,

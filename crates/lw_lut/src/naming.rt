@@ -2,6 +2,7 @@
 ghost use Rattle.std.specs.Prelude.{◌≡◌, ◌+◌, ◌<◌, ◌^◌, ◌++◌, All, IfOk, length};
 ghost use Rattle.lw_laws.specs.Names.{free_names, gate_names};
 ghost use Rattle.lw_lut.specs.Nets.{table_classes};
+ghost use Rattle.lw_lut.specs.Placed.{HaveRootsBelow};
 ghost use Rattle.lw_pool.specs.Numbers.{numbers};
 
 use crate::TablePorts;
@@ -30,9 +31,7 @@ pub(crate) fn names_of(
     tables: &[Table],
 ) -> Result<Names, AllocError>
     requires few { length ports.now.inputs + length ports.now.outputs + length tables.now < 2 ^ 63 }
-    requires few_outputs { length ports.now.outputs < 2 ^ 32 }
-    requires one_root { length ports.now.roots ≡ length ports.now.outputs }
-    requires roots { All (λ root. root.0 < classes) ports.now.roots }
+    requires roots { HaveRootsBelow classes ports.now }
     requires tables { All (λ x. x.out.0 < classes) tables.now }
     ensures { IfOk result (λ names. names
         ≡ gate_names ports.now.outputs (numbers ports.now.roots)

@@ -1,7 +1,7 @@
 // Places of nets.
-ghost use Rattle.std.specs.Prelude.{◌≡◌, ◌+◌, ◌<◌, ◌^◌, ◌++◌, ℕ, Some, All, IfOk, length, slice_get};
+ghost use Rattle.std.specs.Prelude.{◌++◌, IfOk};
 ghost use Rattle.lw_lut.specs.Nets.{table_classes};
-ghost use Rattle.lw_lut.specs.Placed.{HasPlaces};
+ghost use Rattle.lw_lut.specs.Placed.{ArePlaceable, HasPlaces};
 ghost use Rattle.lw_pool.specs.Numbers.{numbers};
 
 use crate::table::Table;
@@ -16,12 +16,7 @@ pub(crate) fn places_of(
     inputs: &[ClassId],
     tables: &[Table],
 ) -> Result<Vec<u32>, AllocError>
-    requires few { length inputs.now + length tables.now < 2 ^ 32 }
-    requires inputs { All (λ input. input.0 < classes) inputs.now }
-    requires tables { All (λ x. x.out.0 < classes) tables.now }
-    requires once { (i j c : ℕ) →
-        slice_get (numbers inputs.now ++ table_classes tables.now) i ≡ Some c →
-        slice_get (numbers inputs.now ++ table_classes tables.now) j ≡ Some c → i ≡ j }
+    requires { ArePlaceable classes inputs.now tables.now }
     ensures { IfOk result (λ places.
         HasPlaces (numbers inputs.now ++ table_classes tables.now) places.items) }
 {

@@ -1,7 +1,8 @@
 // Which classes hold pairs with a class.
 ghost use Rattle.std.specs.Prelude.{◌≡◌, ◌-◌, ◌*◌, ◌/◌, ◌<◌, ◌^◌, ℕ, All, Contains, IfOk, length};
 ghost use Rattle.lw_graph.specs.declared.pair.Pair.{Pair};
-ghost use Rattle.lw_lut.specs.Reaches.{AreReaches, IsIn, IsWithin, span_at};
+ghost use Rattle.lw_lut.specs.Reaches.{IsIn, IsWithin, span_at};
+ghost use Rattle.lw_lut.specs.Sweeps.{AreReachesOf};
 ghost use Rattle.lw_lut.specs.declared.span.Span.{Span};
 
 use crate::span::Span;
@@ -40,8 +41,7 @@ fn note_row(reach: &mut Vec<Span>, class: ClassId, row: &[Pair])
 
 // For the place of each class the span of those that hold a pair with one of its classes.
 pub(crate) fn reaches(alloc: Global, graph: &Graph) -> Result<Vec<Span>, AllocError>
-    ensures one_each { IfOk result (λ reach. length graph.now.pairs ≡ 2 * length reach.items) }
-    ensures reaches { IfOk result (λ reach. AreReaches graph.now reach.items) }
+    ensures { IfOk result (λ reach. AreReachesOf graph.now reach.items) }
 {
     let classes = graph.classes();
     let mut reach = vec![in alloc; Span::nothing(); (classes / 2) as usize]?;

@@ -1,11 +1,10 @@
 // The search for depths, leaf count by leaf count.
-ghost use Rattle.std.specs.Prelude.{◌≡◌, ◌+◌, ◌*◌, ◌/◌, ◌<◌, ◌≤◌, ◌⊎◌, ◌^◌, ◌||◌, ℕ, suc, true, false, length, All, Contains, IfOk, IfSome, IsNone, Some, None, slice_get, slice_index, slice_index_or};
+ghost use Rattle.std.specs.Prelude.{◌≡◌, ◌+◌, ◌*◌, ◌/◌, ◌<◌, ◌≤◌, ◌⊎◌, ◌^◌, ◌||◌, ℕ, length, All, IfSome, IsNone, Some, None, slice_get, slice_index};
 ghost use Rattle.lw_laws.specs.Graphs.{HoldsPair};
-ghost use Rattle.lw_lut.specs.Covers.{IsLeastDepth};
 ghost use Rattle.lw_lut.specs.Cuts.{IsCutAt, is_odd};
-ghost use Rattle.lw_lut.specs.Searches.{AreBounded, AreCounts, AreDepthsUpTo, AreSettled, AreSettling, Falls, IsBoundedAt, IsBelow, IsDeepened, count_at, depth_in, total, unknown_count};
-ghost use Rattle.lw_lut.specs.Reaches.{AreBoundedBut, AreKnownBut, AreReaches, IsIn, IsOutside, IsWithin, span_at};
-ghost use Rattle.lw_lut.specs.declared.search.Search.{Search};
+ghost use Rattle.lw_lut.specs.Searches.{AreCounts, IsBoundedAt, IsBelow, IsDeepened, count_at};
+ghost use Rattle.lw_lut.specs.Reaches.{AreBoundedBut, IsWithin, span_at};
+ghost use Rattle.lw_lut.specs.Sweeps.{AreInPlace, AreReachesOf, Deepens, IsAtDepth, IsSweptBut, LowersCount, LowersAll, LowersIn, LowersRound, MayLower, Settles, SettlesAll};
 ghost use Rattle.lw_pool.specs.declared.id.ClassId.{ClassId};
 
 use crate::cut::{Cut, joined};
@@ -128,16 +127,8 @@ impl Search {
     // is one.
     fn lower(&mut self, graph: &Graph, leaves: u8, class: ClassId) -> bool
         requires class { class.0 < length graph.now.pairs }
-        requires leaves { leaves ≤ 6 }
-        requires counts { (d : ℕ) × AreCounts graph.now leaves d self.old }
-        ensures counts { (d : ℕ) → AreCounts graph.now leaves d self.old →
-            AreCounts graph.now leaves d self.new }
-        ensures depths { self.new.depths ≡ self.old.depths }
-        ensures falls { Falls graph.now self.old self.new (λ c. c ≡ class.0) result }
-        ensures fewer { (k : ℕ) →
-            slice_index self.new.counts.items k ≤ slice_index self.old.counts.items k }
-        ensures elsewhere { (k : ℕ) → (k ≡ class.0 / 2 → ⊥) →
-            slice_index self.new.counts.items k ≡ slice_index self.old.counts.items k }
+        requires may { MayLower graph.now leaves self.old }
+        ensures { LowersCount graph.now leaves self.old self.new class.0 result }
     {
         let Some(pair) = better_pair(graph, &self.counts, class) else {
             return false;
@@ -162,19 +153,8 @@ impl Search {
     ) -> Span
         requires class { class.0 < length graph.now.pairs }
         requires places { length graph.now.pairs ≡ 2 * length reach.now }
-        requires leaves { leaves ≤ 6 }
-        requires counts { (d : ℕ) × AreCounts graph.now leaves d self.old }
-        ensures counts { (d : ℕ) → AreCounts graph.now leaves d self.old →
-            AreCounts graph.now leaves d self.new }
-        ensures depths { self.new.depths ≡ self.old.depths }
-        ensures elsewhere { (k : ℕ) → (k ≡ class.0 / 2 → ⊥) →
-            slice_index self.new.counts.items k ≡ slice_index self.old.counts.items k }
-        ensures grown { IsWithin next result }
-        ensures falls { (total self.new.counts.items < total self.old.counts.items) ⊎
-            ((result ≡ next) × (self.new ≡ self.old)) }
-        ensures bounded { AreReaches graph.now reach.now → (c : ℕ) → (IsIn result c → ⊥) →
-            (c ≡ class.0) ⊎ IsBoundedAt graph.now self.old.counts.items c →
-            IsBoundedAt graph.now self.new.counts.items c }
+        requires may { MayLower graph.now leaves self.old }
+        ensures { LowersIn graph.now leaves reach.now self.old self.new class.0 next result }
     {
         let _ = graph.classes();
         if !self.lower(graph, leaves, class) {
@@ -185,20 +165,10 @@ impl Search {
 
     // Goes once through the classes of a span. What is to be looked at again is answered.
     fn lower_round(&mut self, graph: &Graph, leaves: u8, reach: &[Span], span: Span) -> Span
-        requires places { length graph.now.pairs ≡ 2 * length reach.now }
-        requires reaches { AreReaches graph.now reach.now }
-        requires leaves { leaves ≤ 6 }
-        requires counts { (d : ℕ) × AreCounts graph.now leaves d self.old }
+        requires reach { AreReachesOf graph.now reach.now }
+        requires may { MayLower graph.now leaves self.old }
         requires bounded { AreBoundedBut graph.now self.old.counts.items span }
-        ensures counts { (d : ℕ) → AreCounts graph.now leaves d self.old →
-            AreCounts graph.now leaves d self.new }
-        ensures depths { self.new.depths ≡ self.old.depths }
-        ensures bounded { AreBoundedBut graph.now self.new.counts.items result }
-        ensures elsewhere { (k : ℕ) → IsOutside span k →
-            slice_index self.new.counts.items k ≡ slice_index self.old.counts.items k }
-        ensures fewer { total self.new.counts.items ≤ total self.old.counts.items }
-        ensures falls { (c : ℕ) → IsIn result c →
-            total self.new.counts.items < total self.old.counts.items }
+        ensures { LowersRound graph.now leaves self.old self.new span result }
     {
         let mut next = Span::nothing();
         for class in span.low..span.high.min(graph.classes()) {
@@ -210,18 +180,10 @@ impl Search {
     // Lets counts fall until no pair would lower one. Only classes of the span are not bounded. A
     // span with the places where counts have fallen is answered.
     fn lower_all(&mut self, graph: &Graph, leaves: u8, reach: &[Span], span: Span) -> Span
-        requires places { length graph.now.pairs ≡ 2 * length reach.now }
-        requires reaches { AreReaches graph.now reach.now }
-        requires leaves { leaves ≤ 6 }
-        requires counts { (d : ℕ) × AreCounts graph.now leaves d self.old }
+        requires reach { AreReachesOf graph.now reach.now }
+        requires may { MayLower graph.now leaves self.old }
         requires bounded { AreBoundedBut graph.now self.old.counts.items span }
-        ensures counts { (d : ℕ) → AreCounts graph.now leaves d self.old →
-            AreCounts graph.now leaves d self.new }
-        ensures depths { self.new.depths ≡ self.old.depths }
-        ensures bounded { AreBounded graph.now self.new.counts.items }
-        ensures swept { IsWithin span result }
-        ensures elsewhere { (k : ℕ) → IsOutside result k →
-            slice_index self.new.counts.items k ≡ slice_index self.old.counts.items k }
+        ensures { LowersAll graph.now leaves self.old self.new span result }
     {
         let (mut span, mut swept) = (span, span);
         while span.low < span.high {
@@ -235,27 +197,8 @@ impl Search {
     // pin to the place.
     fn settle(&mut self, leaves: u8, place: usize, depth: u32) -> bool
         requires place { place < length self.old.counts.items }
-        requires cuts { length self.old.pins.items ≡ length self.old.counts.items }
-        requires depths { length self.old.depths.items ≡ 2 * length self.old.counts.items }
-        requires few { length self.old.counts.items < 2 ^ 31 }
-        ensures lists { (g : _) → AreSettling g leaves depth self.old →
-            AreSettling g leaves depth self.new }
-        ensures counts { length self.new.counts.items ≡ length self.old.counts.items }
-        ensures pins { length self.new.pins.items ≡ length self.old.pins.items }
-        ensures depths { length self.new.depths.items ≡ length self.old.depths.items }
-        ensures settled { (g : _) (first : Search) (changed : _) →
-            AreSettling g leaves depth self.old →
-            AreSettled leaves depth first self.old place changed →
-            AreSettled leaves depth first self.new (place + 1) (result || changed) }
-        ensures fewer { (k : ℕ) →
-            slice_index self.new.counts.items k ≤ slice_index self.old.counts.items k }
-        ensures elsewhere { (k : ℕ) → (k ≡ place → ⊥) →
-            slice_index self.new.counts.items k ≡ slice_index self.old.counts.items k }
-        ensures same { (slice_index self.old.counts.items place ≤ 1) ⊎
-            (leaves < slice_index self.old.counts.items place) →
-            slice_index self.new.counts.items place ≡ slice_index self.old.counts.items place }
-        ensures few { (k : ℕ) → slice_index self.new.counts.items k ≤ leaves →
-            slice_index self.old.counts.items k ≤ leaves }
+        requires places { AreInPlace self.old }
+        ensures { Settles leaves depth self.old self.new place result }
     {
         if self.counts[place] > leaves {
             return false;
@@ -291,19 +234,9 @@ impl Search {
         swept: Span,
         next: &mut Span,
     ) -> bool
-        requires cuts { length self.old.pins.items ≡ length self.old.counts.items }
-        requires depths { length self.old.depths.items ≡ 2 * length self.old.counts.items }
-        requires few { length self.old.counts.items < 2 ^ 31 }
-        requires places { length reach.now ≡ length self.old.counts.items }
-        ensures lists { (g : _) → AreSettling g leaves depth self.old →
-            AreSettling g leaves depth self.new }
-        ensures settled { (g : _) → AreSettling g leaves depth self.old →
-            AreKnownBut leaves self.old.counts.items self.old.depths.items swept →
-            AreSettled leaves depth self.old self.new (length self.old.counts.items) result }
-        ensures few { (k : ℕ) → slice_index self.new.counts.items k ≤ leaves →
-            slice_index self.old.counts.items k ≤ leaves }
-        ensures bounded { (g : _) → AreReaches g reach.now → AreBounded g self.old.counts.items →
-            AreBoundedBut g self.new.counts.items next.new }
+        requires places { AreInPlace self.old }
+        requires reach { length reach.now ≡ length self.old.counts.items }
+        ensures { SettlesAll leaves depth reach.now self.old self.new swept next.new result }
     {
         let places = self.counts.len();
         let first = ((swept.low / 2) as usize).min(places);
@@ -327,22 +260,10 @@ impl Search {
         reach: &[Span],
         span: &mut Span,
     ) -> bool
-        requires places { length graph.now.pairs ≡ 2 * length reach.now }
-        requires reaches { AreReaches graph.now reach.now }
-        requires bounded { AreBoundedBut graph.now self.old.counts.items span.old }
-        requires known { AreKnownBut leaves self.old.counts.items self.old.depths.items span.old }
-        requires leaves { leaves ≤ 6 }
-        requires counts { AreCounts graph.now leaves depth self.old }
-        requires depths { (d : ℕ) × (depth ≡ suc d) ×
-            AreDepthsUpTo graph.now leaves self.old.depths.items d }
-        ensures counts { AreCounts graph.now leaves (suc depth) self.new }
-        ensures depths { AreDepthsUpTo graph.now leaves self.new.depths.items depth }
-        ensures falls { result ≡ true →
-            unknown_count self.new.depths.items < unknown_count self.old.depths.items }
-        ensures least { result ≡ false → 2 ≤ leaves → (c : ℕ) →
-            IsLeastDepth graph.now leaves c (depth_in self.new.depths.items c) }
-        ensures bounded { AreBoundedBut graph.now self.new.counts.items span.new }
-        ensures known { AreKnownBut leaves self.new.counts.items self.new.depths.items span.new }
+        requires reach { AreReachesOf graph.now reach.now }
+        requires at { IsAtDepth graph.now leaves depth self.old }
+        requires swept { IsSweptBut graph.now leaves self.old span.old }
+        ensures { Deepens graph.now leaves depth self.old self.new span.new result }
     {
         let _ = graph.classes();
         let swept = self.lower_all(graph, leaves, reach, *span);

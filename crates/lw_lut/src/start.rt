@@ -1,6 +1,7 @@
 // The start of a search.
 ghost use Rattle.std.specs.Prelude.{◌≡◌, ◌≤◌, ◌<◌, ◌+◌, [], ℕ, suc, length, replicate, None, IfOk};
 ghost use Rattle.lw_lut.specs.Searches.{AreCounts, AreDepthsUpTo, IsStarted};
+ghost use Rattle.lw_lut.specs.Sweeps.{IsAtDepth};
 
 use crate::cut::Cut;
 use crate::search::Search;
@@ -95,8 +96,7 @@ impl Search {
     pub(crate) fn new(alloc: Global, graph: &Graph, leaves: u8) -> Result<Self, AllocError>
         requires few { 1 ≤ leaves }
         requires low { leaves ≤ 6 }
-        ensures counts { IfOk result (AreCounts graph.now leaves 1) }
-        ensures depths { IfOk result (λ s. AreDepthsUpTo graph.now leaves s.depths.items 0) }
+        ensures { IfOk result (IsAtDepth graph.now leaves 1) }
     {
         let mut search = Search::none(alloc, graph, leaves)?;
         search.give_inputs(graph, leaves);

@@ -1,9 +1,9 @@
-ghost use Rattle.std.specs.Prelude.{◌≡◌, ◌≤◌, ◌<◌, ◌^◌, ◌↔◌, ℕ, length, Contains, IfOk, OnOk, IsTrue, IsFalse};
+ghost use Rattle.std.specs.Prelude.{◌≡◌, ◌≤◌, ◌<◌, ◌^◌, length, Contains, IfOk, OnOk, IsTrue, IsFalse};
 ghost use Rattle.std.specs.List.Sorted.{IsNonDecreasingBy, IsPermutation};
 ghost use Rattle.lw_pool.specs.declared.id.ClassId.{ClassId};
 ghost use Rattle.lw_lut.specs.Cuts.{spelled};
 ghost use Rattle.lw_lut.specs.Packed.{packed};
-ghost use Rattle.lw_lut.specs.Tables.{AreRisingClasses, IsAdded, given, table_value};
+ghost use Rattle.lw_lut.specs.Tables.{AreRisingOf, IsAdded, IsTableOf, given, table_value};
 ghost use Rattle.lw_pool.specs.Numbers.{numbers};
 
 use crate::cut::{Cut, appended, is_odd, is_set, numbers_of, turned};
@@ -53,9 +53,7 @@ fn add(classes: &mut Vec<ClassId>, class: ClassId) -> Result<(), AllocError>
 
 // The classes in rising order, each once.
 fn rising(alloc: Global, classes: &[ClassId]) -> Result<Vec<ClassId>, AllocError>
-    ensures rising { IfOk result (λ r. AreRisingClasses r.items) }
-    ensures same { IfOk result (λ r. (c : ClassId) → Contains r.items c ↔ Contains classes.now c) }
-    ensures few { IfOk result (λ r. length r.items ≤ length classes.now) }
+    ensures { IfOk result (λ r. AreRisingOf classes.now r.items) }
 {
     let mut sorted = Vec::from_slice(alloc, classes)?;
     sort(&mut sorted);
@@ -111,14 +109,7 @@ fn bits_over(cut: &Cut, class: ClassId, fanins: &[ClassId]) -> u64
 impl Table {
     // The table of a cut at a class.
     pub(crate) fn of(alloc: Global, class: ClassId, cut: &Cut) -> Result<Self, AllocError>
-        ensures out { IfOk result (λ t. t.out ≡ class) }
-        ensures rising { IfOk result (λ t. AreRisingClasses t.fanins) }
-        ensures same { IfOk result (λ t. (c : ClassId) → Contains t.fanins c ↔
-            Contains cut.now.pins c) }
-        ensures few { IfOk result (λ t. length t.fanins ≤ length cut.now.pins) }
-        ensures six { IfOk result (λ t. length t.fanins ≤ 6) }
-        ensures bits { IfOk result (λ t. t.bits
-            ≡ packed (table_value cut.now class.0 (numbers t.fanins)) 0 (2 ^ length t.fanins)) }
+        ensures { IfOk result (IsTableOf cut.now class) }
     {
         let fanins = rising(alloc, cut.pins())?;
         let bits = bits_over(cut, class, &fanins);

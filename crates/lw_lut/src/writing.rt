@@ -1,4 +1,4 @@
-ghost use Rattle.std.specs.Prelude.{◌≡◌, ◌≤◌, ◌∷◌, ◌++◌, All, Contains, OnOk, OnErr, length, take};
+ghost use Rattle.std.specs.Prelude.{◌≡◌, ◌∷◌, ◌++◌, All, Contains, OnOk, OnErr, length, take};
 ghost use Rattle.std.specs.Io.KnownBytes.{Appends};
 ghost use Rattle.std.specs.List.{flat_map};
 ghost use Rattle.lw_io.specs.Causes.{HasCause};
@@ -29,9 +29,7 @@ fn put_nets<S: Sink>(sink: &mut S, waiting: &mut Waiting, net: &TableNet, classe
 }
 
 fn put_table<S: Sink>(sink: &mut S, waiting: &mut Waiting, net: &TableNet, table: &Table)
-    requires few { length table.now.fanins ≤ 6 }
-    requires out { Contains (net_classes net.now) table.now.out.0 }
-    requires fanins { All (λ class. Contains (net_classes net.now) class.0) table.now.fanins }
+    requires { HasNets net.now table.now }
     ensures { Puts (S.taken sink.old) (S.faults sink.old) waiting.old (S.taken sink.new)
         (S.faults sink.new) waiting.new (table_text net.now table.now) }
 {

@@ -27,7 +27,7 @@ loop-k-init c =
 
 pub index-requires : goal.index-requires
 index-requires c =
-    let (g, most, least) = c.requires.depths in
+    let (g, most, least) = c.requires.roots.least in
     let k = c.loop-k.k - 1 in
     let lt : k < length c.args.places.now = omega (arith, c.loop-k-test.true, c.loop-k.auto.k) in
     let below = turn_class g most c.args.depths.now least c.args.roots.now c.args.places.now c.requires.places k none lt in
@@ -35,17 +35,17 @@ index-requires c =
 
 pub cut-requires : goal.cut-requires
 cut-requires c =
-    let (g, most, least) = c.requires.depths in
+    let (g, most, least) = c.requires.roots.least in
     let k = c.loop-k.k - 1 in
     let lt : k < length c.args.places.now = omega (arith, c.loop-k-test.true, c.loop-k.auto.k) in
     turn_cut g most c.args.depths.now least c.args.roots.now c.args.places.now c.requires.places k none lt
 
 pub need-requires : goal.need-requires
 need-requires c =
-    let (g, most, least) = c.requires.depths in
+    let (g, most, least) = c.requires.roots.least in
     let k = c.loop-k.k - 1 in
     let lt : k < length c.args.places.now = omega (arith, c.loop-k-test.true, c.loop-k.auto.k) in
-    let all = turn_fanins g most c.args.depths.now least c.args.roots.now c.args.places.now c.requires.places k none lt c.cut.result.now c.cut.ensures c.in_ok-table.table.fanins c.in_ok-table.ensures.same in
+    let all = turn_fanins g most c.args.depths.now least c.args.roots.now c.args.places.now c.requires.places k none lt c.cut.result.now c.cut.ensures c.in_ok-table.table.fanins c.in_ok-table.ensures.rising.same in
     let size : length c.args.depths.now.depths ≡ length c.deref_mut.result.now = sym c.loop-k.invariant.one_each ∙ ap length (sym c.deref_mut.ensures.value) in
     subst₂ (λ n xs. All (λ (x : ClassId). x.0 < n) xs) size (sym c.as_slice.ensures) all
 
@@ -67,7 +67,7 @@ loop-k-preserved-in-Continue-branch-3 c =
           let below = turn_class g most lists least c.args.roots.now places c.requires.places k none lt in
           let flag = sym (get_or_read needed (get_or places k none).class.0 c.index.result.now (omega (arith, below, c.loop-k.invariant.one_each)) c.index.ensures false) ∙ c.if-index.true in
           let old = subst (λ n. IsDown g most lists.depths c.args.roots.now (drop n places) needed (reverse c.loop-k.tables.items)) (sym next) (c.loop-k.invariant.down g most least) in
-          subst (λ flags. IsDown g most lists.depths c.args.roots.now (drop k places) flags (reverse c.push.new.self.items)) (sym kept) (turn_take g most lists least c.args.roots.now places c.requires.places k none lt needed new c.loop-k.tables.items c.push.new.self.items c.cut.result.now c.cut.ensures t c.in_ok-table.ensures.out c.in_ok-table.ensures.rising c.in_ok-table.ensures.same c.in_ok-table.ensures.few c.in_ok-table.ensures.bits flag also c.in_ok-push.ensures.items old);
+          subst (λ flags. IsDown g most lists.depths c.args.roots.now (drop k places) flags (reverse c.push.new.self.items)) (sym kept) (turn_take g most lists least c.args.roots.now places c.requires.places k none lt needed new c.loop-k.tables.items c.push.new.self.items c.cut.result.now c.cut.ensures t c.in_ok-table.ensures.out_is c.in_ok-table.ensures.rising.are_rising c.in_ok-table.ensures.rising.same c.in_ok-table.ensures.rising.few c.in_ok-table.ensures.bits_are flag also c.in_ok-push.ensures.items old);
       few = subst (λ (ts : List Table). All HasFew (reverse ts)) (sym c.in_ok-push.ensures.items) (subst (All HasFew) (sym (reverse-append c.loop-k.tables.items (t ∷ []))) (All-cons HasFew t (reverse c.loop-k.tables.items) c.in_ok-table.ensures.six c.loop-k.invariant.few));
     }
 

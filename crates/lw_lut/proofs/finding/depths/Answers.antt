@@ -1,5 +1,5 @@
 use Rattle.std.proofs.Common.{sym, subst, arith}
-use Rattle.lw_lut.specs.Reaches.{AreReaches}
+use Rattle.lw_lut.specs.Sweeps.{AreReachesOf}
 use Rattle.lw_lut.proofs.Rounds.{found_tables}
 use Rattle.lw_lut.proofs.finding.depths.Goals as goal
 
@@ -13,5 +13,5 @@ returns c =
       tables = found_tables c.args.graph.now c.args.leaves d (let two = c.requires.some in omega (arith, two)) s.counts.items s.cuts.items s.pins.items s.depths.items are;
     }
 
-pub find_all-requires-clause-reaches : goal.find_all-requires-clause-reaches
-find_all-requires-clause-reaches c = subst (AreReaches c.args.graph.now) (sym c.deref.ensures.value) c.in_ok-reach.ensures.reaches
+pub find_all-requires-clause-reach : goal.find_all-requires-clause-reach
+find_all-requires-clause-reach c = subst (AreReachesOf c.args.graph.now) (sym c.deref.ensures.value) c.in_ok-reach.ensures

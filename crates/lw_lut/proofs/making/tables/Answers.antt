@@ -15,6 +15,12 @@ use Rattle.lw_lut.proofs.TableNets.{outs_below, net_kept}
 use Rattle.lw_lut.proofs.making.tables.Goals as goal
 use Rattle.lw_pool.specs.Numbers.{numbers}
 
+pub choose-requires-clause-roots : goal.choose-requires-clause-roots
+choose-requires-clause-roots c = record {
+  least = (c.args.graph.now, c.args.leaves, c.requires.depths);
+  within = subst₂ (λ rs n. All (λ (root : ClassId). root.0 < n) rs) (sym c.as_slice.ensures) (sym c.requires.depths.one_each) c.requires.fit.in_range;
+}
+
 pub names_of-requires-clause-tables : goal.names_of-requires-clause-tables
 names_of-requires-clause-tables c =
     let g = c.args.graph.now in
@@ -24,6 +30,15 @@ names_of-requires-clause-tables c =
     let covered = subst (λ rs. All (λ (root : ClassId). IsKnown lists.depths root.0) rs) (sym c.as_slice.ensures) c.requires.known in
     let are : AreTables g most lists.depths (numbers ports.roots) c.in_ok-chosen.chosen.items = subst (λ rs. AreTables g most lists.depths (numbers rs) c.in_ok-chosen.chosen.items) c.as_slice.ensures (c.in_ok-chosen.ensures.tables g most c.requires.depths covered) in
     subst₂ (λ n ts. All (λ (t : Table). t.out.0 < n) ts) (sym c.len.ensures) (sym c.deref.ensures.value) (outs_below g most lists c.requires.depths ports c.requires.fit c.requires.known c.in_ok-chosen.chosen.items are)
+
+pub names_of-requires-clause-roots : goal.names_of-requires-clause-roots
+names_of-requires-clause-roots c =
+    let fit = c.requires.fit in
+    record {
+      few_outputs = fit.few_outputs;
+      one_root = fit.one_root;
+      below = subst (λ n. All (λ (root : ClassId). root.0 < n) c.args.ports.now.roots) (sym (c.len.ensures ∙ c.requires.depths.one_each)) fit.in_range;
+    }
 
 pub places_of-requires : goal.places_of-requires
 places_of-requires c =
@@ -44,8 +59,8 @@ places_of-requires c =
     let few = c.classes.ensures.kept.few in
     record {
       few = subst₂ (λ (is : List ClassId) (ts : List Table). length is + length ts < 2 ^ 32) (sym c.as_slice-2.ensures) (sym c.deref-2.ensures.value) (omega (arith, count, few, one_each));
-      inputs = subst₂ (λ is m. All (λ (x : ClassId). x.0 < m) is) (sym c.as_slice-2.ensures) (sym c.len-2.ensures) ins;
-      tables = subst₂ (λ ts m. All (λ (x : Table). x.out.0 < m) ts) (sym c.deref-2.ensures.value) (sym c.len-2.ensures) outs;
+      inputs_below = subst₂ (λ is m. All (λ (x : ClassId). x.0 < m) is) (sym c.as_slice-2.ensures) (sym c.len-2.ensures) ins;
+      tables_below = subst₂ (λ ts m. All (λ (x : Table). x.out.0 < m) ts) (sym c.deref-2.ensures.value) (sym c.len-2.ensures) outs;
       once = subst₂ (λ is ts. IsOnce (numbers is ++ table_classes ts)) (sym c.as_slice-2.ensures) (sym c.deref-2.ensures.value) kept.once;
     }
 

@@ -17,7 +17,7 @@ loop-input-preserved c =
     let none : ClassId = record { 0 = 0 } in
     let places = c.loop-input.places.items in
     let one = c.loop-input.invariant.one_each in
-    let below = All-get_or (λ (x : ClassId). x.0 < c.args.classes) inputs k none c.loop-input-test.true c.requires.inputs in
+    let below = All-get_or (λ (x : ClassId). x.0 < c.args.classes) inputs k none c.loop-input-test.true c.requires.inputs_below in
     record {
       one_each = length-set places (get_or inputs k none).0 k ∙ one;
       placed = placed_more (numbers inputs ++ table_classes tables) places k (get_or inputs k none).0 c.requires.once (input_at inputs tables k none c.loop-input-test.true) (omega (arith, below, one)) c.loop-input.invariant.placed;
@@ -33,7 +33,7 @@ loop-k-preserved c =
     let place = length inputs + k in
     let places = c.loop-k.places.items in
     let one = c.loop-k.invariant.one_each in
-    let below = All-get_or (λ (x : Table). x.out.0 < c.args.classes) tables k t c.loop-k-test.true c.requires.tables in
+    let below = All-get_or (λ (x : Table). x.out.0 < c.args.classes) tables k t c.loop-k-test.true c.requires.tables_below in
     let next : place + 1 ≡ length inputs + (k + 1) = omega arith in
     record {
       one_each = length-set places out place ∙ one;

@@ -19,9 +19,12 @@ loop-class-preserved c =
       ];
     }
 
-pub returns-clause-reaches : goal.returns-clause-reaches
-returns-clause-reaches c = λ d x y h.
-    let lt = pair_within c.args.graph.now d x y h in
-    let end = c.loop-class-test.false in
-    let all = c.classes-classes.ensures.classes in
-    c.loop-class.invariant.noted d x y (omega (arith, lt, end, all)) h
+pub returns : goal.returns
+returns c = record {
+  one_each = c.loop-class.invariant.one_each;
+  reaches = λ d x y h.
+      let lt = pair_within c.args.graph.now d x y h in
+      let end = c.loop-class-test.false in
+      let all = c.classes-classes.ensures.classes in
+      c.loop-class.invariant.noted d x y (omega (arith, lt, end, all)) h;
+}

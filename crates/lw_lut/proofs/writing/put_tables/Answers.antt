@@ -12,5 +12,5 @@ loop-table-preserved g c =
     let next = subst (λ (t : Table). Puts (g.S.Sink.taken c.loop-table.sink) (g.S.Sink.faults c.loop-table.sink) c.loop-table.waiting (g.S.Sink.taken c.put_table.new.sink) (g.S.Sink.faults c.put_table.new.sink) c.put_table.new.waiting (table_text c.args.net.now t)) c.table-item.is c.put_table.ensures in
     Puts-more (table_text c.args.net.now) c.args.tables.now c.loop-table.table-index c.table-item.result c.loop-table-test.true c.loop-table.invariant next
 
-pub put_table-requires-clause-fanins : goal.put_table-requires-clause-fanins
-put_table-requires-clause-fanins g c = (subst (HasNets c.args.net.now) (sym c.table-item.is) (All-get_or (HasNets c.args.net.now) c.args.tables.now c.loop-table.table-index c.table-item.result c.loop-table-test.true c.requires)).fanins
+pub put_table-requires : goal.put_table-requires
+put_table-requires g c = subst (HasNets c.args.net.now) (sym c.table-item.is) (All-get_or (HasNets c.args.net.now) c.args.tables.now c.loop-table.table-index c.table-item.result c.loop-table-test.true c.requires)

@@ -1,74 +1,59 @@
 use Rattle.std.proofs.Common.{◌≡◌, ◌<◌, ◌≤◌, ◌+◌, ◌++◌, ◌/◌, ◌∙◌, length, slice_set, slice_index, ap, refl, sym, subst, subst₂, arith, true≢false}
+use Rattle.std.proofs.lemmas.List.{get_or-set_other}
 use Rattle.lw_lut.specs.Cuts.{PlainCut}
 use Rattle.lw_lut.specs.Searches.{AreLists, IsBoundedAt, count_at, total}
 use Rattle.lw_lut.proofs.Lowering.{lowered, lowered_total, lower_count}
 use Rattle.lw_lut.proofs.search.Search.lower.Goals as goal
 
-pub returns-in_default-clause-falls : goal.returns-in_default-clause-falls
-returns-in_default-clause-falls c = record {
-  falls = λ e. absurd (true≢false (sym e));
-  same = λ e. refl;
-  bounded = λ e d at. subst (λ n. IsBoundedAt c.args.graph.now c.args.self.now.counts.items n) (sym at) (subst (λ xs. IsBoundedAt c.args.graph.now xs c.args.class.0) c.deref.ensures.value (c.in_default.ensures.none refl));
+pub returns-in_default : goal.returns-in_default
+returns-in_default c = record {
+  counts = λ d are. are;
+  depths = refl;
+  falls = record {
+    falls = λ e. absurd (true≢false (sym e));
+    same = λ e. refl;
+    bounded = λ e d at. subst (λ n. IsBoundedAt c.args.graph.now c.args.self.now.counts.items n) (sym at) (subst (λ xs. IsBoundedAt c.args.graph.now xs c.args.class.0) c.deref.ensures.value (c.in_default.ensures.none refl));
+  };
+  fewer = λ k. omega arith;
+  elsewhere = λ k other. refl;
 }
 
 pub joined-cut-requires : goal.joined-cut-requires
 joined-cut-requires c =
-    let (d, are) = c.requires.counts in
+    let (d, are) = c.requires.may.counts in
     let s = c.args.self.now in
     let less : count_at s.counts.items c.in-Some.pair.x.0 + count_at s.counts.items c.in-Some.pair.y.0 < count_at s.counts.items c.args.class.0 = subst (λ xs. count_at xs c.in-Some.pair.x.0 + count_at xs c.in-Some.pair.y.0 < count_at xs c.args.class.0) c.deref.ensures.value c.in-Some.ensures.some.1 in
     let top = are.low (c.args.class.0 / 2) in
     let x = c.side-left.ensures c.args.graph.now c.args.leaves d are (omega (arith, less, top)) in
     let y = c.side-right.ensures c.args.graph.now c.args.leaves d are (omega (arith, less, top)) in
     let x1 = x.1 in let y1 = y.1 in
-    omega (arith, less, top, x1, y1, c.requires.leaves)
+    omega (arith, less, top, x1, y1, c.requires.may.low)
 
-pub returns-clause-counts : goal.returns-clause-counts
-returns-clause-counts c = λ d are.
+pub returns : goal.returns
+returns c =
     let s = c.args.self.now in
     let g = c.args.graph.now in
     let most = c.args.leaves in
     let less : count_at s.counts.items c.in-Some.pair.x.0 + count_at s.counts.items c.in-Some.pair.y.0 < count_at s.counts.items c.args.class.0 = subst (λ xs. count_at xs c.in-Some.pair.x.0 + count_at xs c.in-Some.pair.y.0 < count_at xs c.args.class.0) c.deref.ensures.value c.in-Some.ensures.some.1 in
-    let top = are.low (c.args.class.0 / 2) in
-    let x = c.side-left.ensures g most d are (omega (arith, less, top)) in
-    let y = c.side-right.ensures g most d are (omega (arith, less, top)) in
     let a = c.side-left.result in
     let b = c.side-right.result in
     let here = c.args.class.0 / 2 in
     let n : length c.pins.result.now ≡ length (a.pins ++ b.pins) = ap length (c.pins.ensures.pins ∙ ap (λ (k : PlainCut). k.pins) c.joined-cut.ensures) in
-    subst₂ (λ m k. AreLists g most d d (slice_set s.counts.items here m) (slice_set s.cuts.items here k) s.pins.items s.depths.items) (sym n) (sym c.joined-cut.ensures) (lowered g most d s are c.args.class.0 c.in-Some.pair.x.0 c.in-Some.pair.y.0 c.requires.class c.in-Some.ensures.some.0 less a b x y)
-
-pub returns-clause-falls : goal.returns-clause-falls
-returns-clause-falls c =
-    let (d, are) = c.requires.counts in
-    let s = c.args.self.now in
-    let g = c.args.graph.now in
-    let most = c.args.leaves in
-    let less : count_at s.counts.items c.in-Some.pair.x.0 + count_at s.counts.items c.in-Some.pair.y.0 < count_at s.counts.items c.args.class.0 = subst (λ xs. count_at xs c.in-Some.pair.x.0 + count_at xs c.in-Some.pair.y.0 < count_at xs c.args.class.0) c.deref.ensures.value c.in-Some.ensures.some.1 in
-    let top = are.low (c.args.class.0 / 2) in
-    let x = c.side-left.ensures g most d are (omega (arith, less, top)) in
-    let y = c.side-right.ensures g most d are (omega (arith, less, top)) in
-    let a = c.side-left.result in
-    let b = c.side-right.result in
-    let here = c.args.class.0 / 2 in
-    let n : length c.pins.result.now ≡ length (a.pins ++ b.pins) = ap length (c.pins.ensures.pins ∙ ap (λ (k : PlainCut). k.pins) c.joined-cut.ensures) in
+    let (d0, first) = c.requires.may.counts in
+    let top = first.low here in
+    let x0 = c.side-left.ensures g most d0 first (omega (arith, less, top)) in
+    let y0 = c.side-right.ensures g most d0 first (omega (arith, less, top)) in
     record {
-      falls = λ e. subst (λ m. total (slice_set s.counts.items here m) < total s.counts.items) (sym n) (lowered_total g most d s are c.args.class.0 c.in-Some.pair.x.0 c.in-Some.pair.y.0 c.requires.class c.in-Some.ensures.some.0 less a b x y);
-      same = λ e. absurd (true≢false e);
-      bounded = λ e. absurd (true≢false e);
+      counts = λ d are.
+          let x = c.side-left.ensures g most d are (omega (arith, less, top)) in
+          let y = c.side-right.ensures g most d are (omega (arith, less, top)) in
+          subst₂ (λ m k. AreLists g most d d (slice_set s.counts.items here m) (slice_set s.cuts.items here k) s.pins.items s.depths.items) (sym n) (sym c.joined-cut.ensures) (lowered g most d s are c.args.class.0 c.in-Some.pair.x.0 c.in-Some.pair.y.0 c.requires.class c.in-Some.ensures.some.0 less a b x y);
+      depths = refl;
+      falls = record {
+        falls = λ e. subst (λ m. total (slice_set s.counts.items here m) < total s.counts.items) (sym n) (lowered_total g most d0 s first c.args.class.0 c.in-Some.pair.x.0 c.in-Some.pair.y.0 c.requires.class c.in-Some.ensures.some.0 less a b x0 y0);
+        same = λ e. absurd (true≢false e);
+        bounded = λ e. absurd (true≢false e);
+      };
+      fewer = λ k. subst (λ m. slice_index (slice_set s.counts.items here m) k ≤ slice_index s.counts.items k) (sym n) (lower_count g most d0 s first c.args.class.0 c.in-Some.pair.x.0 c.in-Some.pair.y.0 c.requires.class c.in-Some.ensures.some.0 less a b x0 y0 k);
+      elsewhere = λ k other. get_or-set_other s.counts.items here k (length c.pins.result.now) 0 other;
     }
-
-pub returns-clause-fewer : goal.returns-clause-fewer
-returns-clause-fewer c = λ k.
-    let (d, are) = c.requires.counts in
-    let s = c.args.self.now in
-    let g = c.args.graph.now in
-    let most = c.args.leaves in
-    let less : count_at s.counts.items c.in-Some.pair.x.0 + count_at s.counts.items c.in-Some.pair.y.0 < count_at s.counts.items c.args.class.0 = subst (λ xs. count_at xs c.in-Some.pair.x.0 + count_at xs c.in-Some.pair.y.0 < count_at xs c.args.class.0) c.deref.ensures.value c.in-Some.ensures.some.1 in
-    let top = are.low (c.args.class.0 / 2) in
-    let x = c.side-left.ensures g most d are (omega (arith, less, top)) in
-    let y = c.side-right.ensures g most d are (omega (arith, less, top)) in
-    let a = c.side-left.result in
-    let b = c.side-right.result in
-    let here = c.args.class.0 / 2 in
-    let n : length c.pins.result.now ≡ length (a.pins ++ b.pins) = ap length (c.pins.ensures.pins ∙ ap (λ (k : PlainCut). k.pins) c.joined-cut.ensures) in
-    subst (λ m. slice_index (slice_set s.counts.items here m) k ≤ slice_index s.counts.items k) (sym n) (lower_count g most d s are c.args.class.0 c.in-Some.pair.x.0 c.in-Some.pair.y.0 c.requires.class c.in-Some.ensures.some.0 less a b x y k)

@@ -2,8 +2,10 @@ use Rattle.std.proofs.Common.{◌∙◌, arith}
 use native.Mathlib.Decide.{dec_lt}
 use Rattle.lw_lut.proofs.search.Search.lower_all.Goals as goal
 
-pub lower_round-span-requires-clause-counts : goal.lower_round-span-requires-clause-counts
-lower_round-span-requires-clause-counts c = let (d, are) = c.requires.counts in (d, c.loop-span.invariant.counts d are)
+pub lower_round-span-requires-clause-may : goal.lower_round-span-requires-clause-may
+lower_round-span-requires-clause-may c =
+    let (d, are) = c.requires.may.counts in
+    record { low = c.requires.may.low; counts = (d, c.loop-span.invariant.counts d are) }
 
 pub loop-span-preserved : goal.loop-span-preserved
 loop-span-preserved c = record {
@@ -25,5 +27,13 @@ loop-span-smaller c =
       | no ge ↦ omega (arith, few, ge, some)
     ]
 
-pub returns-clause-bounded : goal.returns-clause-bounded
-returns-clause-bounded c = λ d lt. c.loop-span.invariant.bounded d lt (λ i. let f = i.first in let l = i.last in let end = c.loop-span-test.false in omega (arith, f, l, end))
+pub returns : goal.returns
+returns c =
+    let inv = c.loop-span.invariant in
+    record {
+      counts = inv.counts;
+      depths = inv.depths;
+      bounded = λ d lt. inv.bounded d lt (λ i. let f = i.first in let l = i.last in let end = c.loop-span-test.false in omega (arith, f, l, end));
+      within = inv.within;
+      elsewhere = inv.elsewhere;
+    }

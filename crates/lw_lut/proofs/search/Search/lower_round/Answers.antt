@@ -20,8 +20,10 @@ loop-class-init c = record {
   falls = λ d i. absurd (c.nothing-next.ensures d i);
 }
 
-pub lower_at-next-requires-clause-counts : goal.lower_at-next-requires-clause-counts
-lower_at-next-requires-clause-counts c = let (d, are) = c.requires.counts in (d, c.loop-class.invariant.counts d are)
+pub lower_at-next-requires-clause-may : goal.lower_at-next-requires-clause-may
+lower_at-next-requires-clause-may c =
+    let (d, are) = c.requires.may.counts in
+    record { low = c.requires.may.low; counts = (d, c.loop-class.invariant.counts d are) }
 
 pub loop-class-preserved : goal.loop-class-preserved
 loop-class-preserved c =
@@ -31,7 +33,7 @@ loop-class-preserved c =
     record {
       counts = λ d are. step.counts d (inv.counts d are);
       depths = step.depths ∙ inv.depths;
-      bounded = λ d lt out known. step.bounded c.requires.reaches d out (elim (cases_eq d c.loop-class.class) [
+      bounded = λ d lt out known. step.bounded c.requires.reach.reaches d out (elim (cases_eq d c.loop-class.class) [
         | inl e ↦ inl e
         | inr ne ↦ inr (inv.bounded d lt (λ i. out (step.grown d i)) (elim known [ inl b ↦ inl (omega (arith, b, ne)) | inr not ↦ inr not ]))
       ]);
@@ -46,12 +48,21 @@ loop-class-preserved c =
       ];
     }
 
-pub returns-clause-bounded : goal.returns-clause-bounded
-returns-clause-bounded c = λ d lt out.
-    let end = c.loop-class-test.false in
-    let top = c.min-class-end.ensures in
-    let all = c.classes.ensures.classes in
-    c.loop-class.invariant.bounded d lt out (elim (dec_lt d c.loop-class.class) [
-      | yes before ↦ inl before
-      | no after ↦ inr (λ i. let l = i.last in omega (arith, l, after, end, top, all, lt))
-    ])
+pub returns : goal.returns
+returns c =
+    let inv = c.loop-class.invariant in
+    record {
+      counts = inv.counts;
+      depths = inv.depths;
+      bounded = λ d lt out.
+          let end = c.loop-class-test.false in
+          let top = c.min-class-end.ensures in
+          let all = c.classes.ensures.classes in
+          inv.bounded d lt out (elim (dec_lt d c.loop-class.class) [
+            | yes before ↦ inl before
+            | no after ↦ inr (λ i. let l = i.last in omega (arith, l, after, end, top, all, lt))
+          ]);
+      elsewhere = inv.elsewhere;
+      fewer = inv.fewer;
+      falls = inv.falls;
+    }

@@ -49,12 +49,28 @@ loop-place-init c =
       bounded = λ g reaches all d lt out. all d lt;
     }
 
-pub returns-clause-settled : goal.returns-clause-settled
-returns-clause-settled c = λ g s known.
+pub settle-deeper-requires-clause-places : goal.settle-deeper-requires-clause-places
+settle-deeper-requires-clause-places c =
+    let inv = c.loop-place.invariant in
+    let were = c.requires.places in
+    let counts = inv.counts in
+    record {
+      one_pin = omega (arith, inv.pins, counts, were.one_pin);
+      two_depths = omega (arith, inv.depths, counts, were.two_depths);
+      few_places = omega (arith, counts, were.few_places);
+    }
+
+pub returns : goal.returns
+returns c =
     let self = c.args.self.now in
     let l = c.loop-place in
     let top = c.min-last.ensures in
     let all = c.len-places.ensures in
     let long = self.counts.ok.0 in
     let end = c.loop-place-test.false in
-    settled_rest c.args.leaves c.args.depth self l.self c.args.swept l.place l.changed (l.invariant.settled g s known) known l.invariant.within (omega (arith, top, all, long, end))
+    record {
+      lists = l.invariant.lists;
+      settled = λ g s known. settled_rest c.args.leaves c.args.depth self l.self c.args.swept l.place l.changed (l.invariant.settled g s known) known l.invariant.within (omega (arith, top, all, long, end));
+      few = l.invariant.few;
+      bounded = l.invariant.bounded;
+    }
