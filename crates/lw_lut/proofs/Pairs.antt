@@ -1,6 +1,6 @@
 -- Rows of pairs.
-use Rattle.std.proofs.Common.{◌≡◌, ◌≤◌, ◌<◌, ◌+◌, ◌*◌, ◌/◌, ℕ, List, [], length, All, Contains, inl, inr, subst, sym, ap, arith, get_or, Option, Some, None, slice_get, refl, ◌∙◌, subst₂, true≢false}
-use Rattle.std.specs.Prelude.{IfSome, IsNone}
+use Rattle.std.proofs.Common.{◌≡◌, ◌≤◌, ◌<◌, ◌+◌, ◌*◌, ◌/◌, ℕ, List, [], length, All, Contains, inl, inr, subst, sym, ap, arith, get_or, Option, Some, None, slice_get, refl, ◌∙◌, subst₂}
+use Rattle.std.specs.Prelude.{MatchOption}
 use Rattle.std.proofs.lemmas.Bool.{cases_eq}
 use Rattle.std.proofs.lemmas.Option.{same_Some, slice_get_within, get_or_from_slice_get, slice_get-get_or}
 use Rattle.std.specs.Prelude.{slice_index_or}
@@ -63,10 +63,6 @@ module _ (counts : List ℕ) (row : List Pair) (c best : ℕ) (found : Option Pa
 pub best_all : (counts : List ℕ) (row : List Pair) (c best seen : ℕ) (found : Option Pair) → length row ≤ seen → IsBest counts row c best found seen → All (λ (p : Pair). best ≤ leaves_at counts p) row
 best_all counts row c best seen found all is k d lt = is.bounds k (get_or row k d) (omega (arith, lt, all)) (slice_get-get_or row k d lt)
 
-pub best_some : (found : Option Pair) (Q : Pair → Type 0) → ((p : Pair) → found ≡ Some p → Q p) → IfSome found Q
-best_some None Q f = tt
-best_some (Some p) Q f = f p refl
-
-pub when_none : (found : Option Pair) → IsNone found → found ≡ None
-when_none None is = refl
-when_none (Some p) is = absurd (true≢false is)
+pub best_is : (found : Option Pair) (N : Type 0) (Q : Pair → Type 0) → (found ≡ None → N) → ((p : Pair) → found ≡ Some p → Q p) → MatchOption found N Q
+best_is None N Q none some = none refl
+best_is (Some p) N Q none some = some p refl

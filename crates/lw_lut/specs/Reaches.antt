@@ -17,6 +17,11 @@ IsWithin one other = (c : ℕ) → IsIn one c → IsIn other c
 abbrev pub span_at : List Span → ℕ → Span
 span_at reach place = slice_index_or reach place (record { low = 0; high = 0 })
 
+-- no span has lost a class
+pub record AreGrown (old new : List Span) : Type 0 where
+  pub one_each : length new ≡ length old
+  pub spans : (k : ℕ) → IsWithin (span_at old k) (span_at new k)
+
 -- Each class that holds a pair is in the spans of the places of both its classes.
 abbrev pub AreReaches : Graph → List Span → Type 0
 AreReaches g reach = (c x y : ℕ) → HoldsPair g c x y → IsIn (span_at reach (x / 2)) c × IsIn (span_at reach (y / 2)) c

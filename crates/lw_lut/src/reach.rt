@@ -1,7 +1,7 @@
 // Which classes hold pairs with a class.
-ghost use Rattle.std.specs.Prelude.{◌≡◌, ◌-◌, ◌*◌, ◌/◌, ◌<◌, ◌^◌, ℕ, All, Contains, IfOk, length};
+ghost use Rattle.std.specs.Prelude.{◌-◌, ◌/◌, ◌<◌, ◌^◌, All, Contains, IfOk, length};
 ghost use Rattle.lw_graph.specs.declared.pair.Pair.{Pair};
-ghost use Rattle.lw_lut.specs.Reaches.{IsIn, IsWithin, span_at};
+ghost use Rattle.lw_lut.specs.Reaches.{AreGrown, IsIn, span_at};
 ghost use Rattle.lw_lut.specs.Sweeps.{AreReachesOf};
 ghost use Rattle.lw_lut.specs.declared.span.Span.{Span};
 
@@ -14,8 +14,7 @@ use std::alloc::{AllocError, Global};
 fn note(reach: &mut Vec<Span>, end: ClassId, class: ClassId)
     requires end { end.0 / 2 < length reach.old.items }
     requires class { class.0 < 2 ^ 32 - 1 }
-    ensures one_each { length reach.new.items ≡ length reach.old.items }
-    ensures grown { (k : ℕ) → IsWithin (span_at reach.old.items k) (span_at reach.new.items k) }
+    ensures grown { AreGrown reach.old.items reach.new.items }
     ensures noted { IsIn (span_at reach.new.items (end.0 / 2)) class.0 }
 {
     let place = (end.0 / 2) as usize;
@@ -27,8 +26,7 @@ fn note_row(reach: &mut Vec<Span>, class: ClassId, row: &[Pair])
     requires ends { All (λ (p : Pair). (p.x.0 / 2 < length reach.old.items) ×
         (p.y.0 / 2 < length reach.old.items)) row.now }
     requires class { class.0 < 2 ^ 32 - 1 }
-    ensures one_each { length reach.new.items ≡ length reach.old.items }
-    ensures grown { (k : ℕ) → IsWithin (span_at reach.old.items k) (span_at reach.new.items k) }
+    ensures grown { AreGrown reach.old.items reach.new.items }
     ensures noted { (p : Pair) → Contains row.now p →
         IsIn (span_at reach.new.items (p.x.0 / 2)) class.0 ×
         IsIn (span_at reach.new.items (p.y.0 / 2)) class.0 }

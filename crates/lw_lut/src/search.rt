@@ -1,5 +1,5 @@
 // The search for depths, leaf count by leaf count.
-ghost use Rattle.std.specs.Prelude.{◌≡◌, ◌+◌, ◌*◌, ◌/◌, ◌<◌, ◌≤◌, ◌⊎◌, ◌^◌, ◌||◌, ℕ, length, All, IfSome, IsNone, Some, None, slice_get, slice_index};
+ghost use Rattle.std.specs.Prelude.{◌≡◌, ◌+◌, ◌*◌, ◌/◌, ◌<◌, ◌≤◌, ◌⊎◌, ◌^◌, ◌||◌, ℕ, length, All, IfSome, IsNone, MatchOption, Some, None, slice_get, slice_index};
 ghost use Rattle.lw_laws.specs.Graphs.{HoldsPair};
 ghost use Rattle.lw_lut.specs.Cuts.{IsCutAt, is_odd};
 ghost use Rattle.lw_lut.specs.Searches.{AreCounts, IsBoundedAt, IsBelow, IsDeepened, count_at};
@@ -54,10 +54,10 @@ fn better_pair(graph: &Graph, counts: &[u8], class: ClassId) -> Option<Pair>
     requires class { class.0 < length graph.now.pairs }
     requires places { length graph.now.pairs ≡ 2 * length counts.now }
     requires few { All (λ n. n ≤ 7) counts.now }
-    ensures some { IfSome result (λ pair. HoldsPair graph.now class.0 pair.x.0 pair.y.0 ×
+    ensures { MatchOption result (IsBoundedAt graph.now counts.now class.0)
+        (λ pair. HoldsPair graph.now class.0 pair.x.0 pair.y.0 ×
         (count_at counts.now pair.x.0 + count_at counts.now pair.y.0 < count_at counts.now class.0)
         × (pair.x.0 / 2 < length counts.now) × (pair.y.0 / 2 < length counts.now)) }
-    ensures none { IsNone result → IsBoundedAt graph.now counts.now class.0 }
 {
     let mut best = counts[place_of(class)];
     let mut found = None;

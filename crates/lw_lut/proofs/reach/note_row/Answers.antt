@@ -13,9 +13,11 @@ loop-pair-preserved c =
     let one = c.note.ensures in
     let two = c.note-in-loop-pair.ensures in
     record {
-      one_each = two.one_each ∙ (one.one_each ∙ inv.one_each);
-      grown = λ k q i. two.grown k q (one.grown k q (inv.grown k q i));
-      noted = seen_more c.loop-pair.reach.items c.note-in-loop-pair.new.reach.items c.args.class.0 c.args.row.now c.loop-pair.pair-index none c.loop-pair-test.true (λ k q i. two.grown k q (one.grown k q i)) (two.grown _ c.args.class.0 one.noted, two.noted) inv.noted;
+      grown = record {
+        one_each = two.grown.one_each ∙ (one.grown.one_each ∙ inv.grown.one_each);
+        spans = λ k q i. two.grown.spans k q (one.grown.spans k q (inv.grown.spans k q i));
+      };
+      noted = seen_more c.loop-pair.reach.items c.note-in-loop-pair.new.reach.items c.args.class.0 c.args.row.now c.loop-pair.pair-index none c.loop-pair-test.true (λ k q i. two.grown.spans k q (one.grown.spans k q i)) (two.grown.spans _ c.args.class.0 one.noted, two.noted) inv.noted;
     }
 
 pub returns-clause-noted : goal.returns-clause-noted

@@ -12,10 +12,10 @@ loop-class-preserved c =
     let inv = c.loop-class.invariant in
     let new = c.note_row.new.reach.items in
     record {
-      one_each = inv.one_each ∙ ap (λ n. 2 * n) (sym c.note_row.ensures.one_each);
+      one_each = inv.one_each ∙ ap (λ n. 2 * n) (sym c.note_row.ensures.grown.one_each);
       noted = λ d x y lt h. elim (cases_eq d k) [
         | inl here ↦ subst (λ e. IsSeen new e x y) (sym here) (row_seen g k c.nands.result.now c.nands.ensures.pairs new c.note_row.ensures.noted x y (subst (λ e. HoldsPair g e x y) here h))
-        | inr other ↦ let (a, b) = inv.noted d x y (omega (arith, lt, other)) h in (c.note_row.ensures.grown (x / 2) d a, c.note_row.ensures.grown (y / 2) d b)
+        | inr other ↦ let (a, b) = inv.noted d x y (omega (arith, lt, other)) h in (c.note_row.ensures.grown.spans (x / 2) d a, c.note_row.ensures.grown.spans (y / 2) d b)
       ];
     }
 

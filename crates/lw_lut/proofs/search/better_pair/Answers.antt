@@ -4,7 +4,7 @@ use Rattle.std.proofs.lemmas.List.Elements.{All-contains}
 use Rattle.lw_graph.specs.declared.pair.Pair.{Pair}
 use Rattle.lw_laws.specs.Graphs.{HoldsPair}
 use Rattle.lw_lut.specs.Searches.{count_at}
-use Rattle.lw_lut.proofs.Pairs.{IsBest, best_less, best_same, best_all, best_some, when_none, row_holds, row_bounds, half_below}
+use Rattle.lw_lut.proofs.Pairs.{IsBest, best_less, best_same, best_all, best_is, row_holds, row_bounds, half_below}
 use Rattle.lw_lut.proofs.search.better_pair.Goals.{then-leaves-best, else-leaves-best}
 use Rattle.lw_lut.proofs.search.better_pair.Goals as goal
 
@@ -27,19 +27,16 @@ loop-pair-preserved c =
           subst₂ (λ b f. IsBest counts row c.args.class.0 b f (l.pair-index + 1)) (sym w.best-is) (sym w.found-is) (best_same counts row c.args.class.0 l.best l.found l.pair-index l.invariant p at le)
     ]
 
-pub returns-clause-some : goal.returns-clause-some
-returns-clause-some c =
+pub returns : goal.returns
+returns c =
     let counts = c.args.counts.now in
     let row = c.nands-pair-items.result.now in
     let g = c.args.graph.now in
-    best_some c.loop-pair.found (λ pair. HoldsPair g c.args.class.0 pair.x.0 pair.y.0 × (count_at counts pair.x.0 + count_at counts pair.y.0 < count_at counts c.args.class.0) × (pair.x.0 / 2 < length counts) × (pair.y.0 / 2 < length counts)) (λ p e.
-    let (found, less) = c.loop-pair.invariant.some p e in
-    let within = All-contains (λ (q : Pair). (q.x.0 < length g.pairs) × (q.y.0 < length g.pairs)) row p c.nands-pair-items.ensures.within found in
-    (row_holds g c.args.class.0 row c.nands-pair-items.ensures.pairs p found, less, half_below p.x.0 (length g.pairs) (length counts) within.0 c.requires.places, half_below p.y.0 (length g.pairs) (length counts) within.1 c.requires.places))
-
-pub returns-clause-none : goal.returns-clause-none
-returns-clause-none c = λ none.
-    let counts = c.args.counts.now in
-    let row = c.nands-pair-items.result.now in
     let l = c.loop-pair in
-    row_bounds c.args.graph.now c.args.class.0 row c.nands-pair-items.ensures.pairs counts l.best (l.invariant.none (when_none l.found none)) (best_all counts row c.args.class.0 l.best l.pair-index l.found c.loop-pair-test.false l.invariant)
+    let pairs = c.nands-pair-items.ensures.pairs in
+    best_is l.found _ (λ pair. HoldsPair g c.args.class.0 pair.x.0 pair.y.0 × (count_at counts pair.x.0 + count_at counts pair.y.0 < count_at counts c.args.class.0) × (pair.x.0 / 2 < length counts) × (pair.y.0 / 2 < length counts))
+    (λ none. row_bounds g c.args.class.0 row pairs counts l.best (l.invariant.none none) (best_all counts row c.args.class.0 l.best l.pair-index l.found c.loop-pair-test.false l.invariant))
+    (λ p e.
+        let (found, less) = l.invariant.some p e in
+        let within = All-contains (λ (q : Pair). (q.x.0 < length g.pairs) × (q.y.0 < length g.pairs)) row p c.nands-pair-items.ensures.within found in
+        (row_holds g c.args.class.0 row pairs p found, less, half_below p.x.0 (length g.pairs) (length counts) within.0 c.requires.places, half_below p.y.0 (length g.pairs) (length counts) within.1 c.requires.places))
