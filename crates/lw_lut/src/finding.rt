@@ -35,8 +35,8 @@ pub fn depths(alloc: Global, graph: &Graph, leaves: u8) -> Result<Depths, AllocE
     requires few { leaves ≤ 6 }
     ensures { IfOk result (AreLeastDepths graph.now leaves) }
 {
-    let mut search = Search::new(alloc, graph, leaves)?;
     let reach = reaches(alloc, graph)?;
+    let mut search = Search::new(alloc, graph, leaves)?;
     search.find_all(graph, leaves, &reach);
     Ok(Depths {
         depths: search.depths,
