@@ -1,7 +1,9 @@
 pub mod Agreeing
+pub mod Counted
 pub mod Counting
 pub mod Filling
 pub mod Finishing
+pub mod FirstGoals
 pub mod Grouping
 pub mod Listed
 pub mod Queueing

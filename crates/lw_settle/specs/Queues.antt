@@ -39,12 +39,25 @@ IsWonAt tree i = node tree i ≡ lesser (node tree (2 * i)) (node tree (2 * i + 
 abbrev pub AreWonBut : ℕ → List Entry → ℕ → Type 0
 AreWonBut n tree but = (i : ℕ) → 0 < i → i < n → i ≢ but → IsWonAt tree i
 
+-- a tree over so many classes, with room for each node, in which each but one is won
+pub record IsWonBut (n : ℕ) (tree : List Entry) (but : ℕ) : Type 0 where
+  pub long : length tree ≡ 2 * n
+  pub few : n < 2 ^ 32
+  pub won : AreWonBut n tree but
+
 -- the leaf of a class: no cost and height are greater than those that stand for no mark
 pub record IsLeafOf (e : Entry) (c : ℕ) : Type 0 where
   pub class : e.class ≡ c
   pub cost : e.cost ≤ no_cost
   pub height : e.height ≤ no_height
   pub none : e.height ≡ no_height → e.cost ≡ no_cost
+
+-- the leaf of a class that waits with the mark
+pub record IsWaitingLeaf (e : Entry) (c : ℕ) (k : Mark) : Type 0 where
+  pub leaf : IsLeafOf e c
+  pub some : mark_of e ≡ Some k
+  pub cost_is : e.cost ≡ k.cost
+  pub height_is : e.height ≡ k.height
 
 -- such a tree over n classes
 pub record IsTree (n : ℕ) (tree : List Entry) : Type 0 where

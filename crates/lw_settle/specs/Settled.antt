@@ -1,5 +1,5 @@
 -- Marks by the matches of a store alone: the least costs of covers made of stored matches, heights, and how often matches are read.
-use Rattle.std.specs.Prelude.{ℕ, suc, ◌+◌, ◌≡◌, ◌==◌, if◌then◌else◌, is_some, List, [], ◌∷◌, length, Option, Some, slice_get}
+use Rattle.std.specs.Prelude.{ℕ, suc, ◌+◌, ◌^◌, ◌<◌, ◌≡◌, ◌==◌, if◌then◌else◌, is_some, List, [], ◌∷◌, length, replicate, Option, Some, None, slice_get}
 use Rattle.lw_laws.specs.Graphs.{Graph}
 use Rattle.lw_laws.specs.Costs.{Cost}
 use Rattle.lw_laws.specs.Choices.{Choices, Labels, IsLeastCost, IsHeight}
@@ -8,7 +8,7 @@ use Rattle.lw_laws.specs.Rounds.{labels_in}
 use Rattle.lw_match.specs.declared.mark.Mark.{Mark}
 use Rattle.lw_match.specs.Values.{marks_in, AreInRange}
 use Rattle.lw_label.specs.Labels.{costs_of}
-use Rattle.lw_settle.specs.Stores.{Stored, Placed, placed, pins_of}
+use Rattle.lw_settle.specs.Stores.{Stored, StoreState, Placed, placed, pins_of, AreOfStoredCells}
 
 -- a match that is stored at the class, of this cell and with these classes as its pins
 abbrev pub IsStoredMatch : List Placed → ℕ → ℕ → List ℕ → Type 0
@@ -38,6 +38,19 @@ abbrev pub HaveLeafCosts : Graph → Cost → List (List Stored) → Type 0
 HaveLeafCosts g cost lists =
     (i c : ℕ) → slice_get g.leaves i ≡ Some c → IsLeastCost (store_choices g lists) cost c (Some (cost.leaf i))
 
+-- a store of matches of the cost's cells, at the classes of the graph, which was not read too often
+pub record MaySettle (g : Graph) (cost : Cost) (store : StoreState) : Type 0 where
+  pub of_cells : AreOfStoredCells cost.pin_counts store.lists
+  pub one_each : length store.lists ≡ length g.pairs
+  pub leaves : HaveLeafCosts g cost store.lists
+  pub fresh : store.done < 2 ^ 62
+
+-- no class has a mark or waits, and there is a number for each match
+pub record AreUnsettled (g : Graph) (store : StoreState) (marks wait : List (Option Mark)) (left : List ℕ) : Type 0 where
+  pub none_marked : marks ≡ replicate (length g.pairs) None
+  pub none_waits : wait ≡ replicate (length g.pairs) None
+  pub one_number : length left ≡ length (placed store.lists)
+
 -- how many of the classes have a label
 abbrev pub labelled : Labels → List ℕ → ℕ
 labelled labels [] = 0
@@ -57,3 +70,9 @@ labelled_matches labels (m ∷ ms) =
 -- how often settling reads a match: once for each use of a labelled class, and once to price it where its pins all have labels
 abbrev pub settle_steps : Labels → List (List Stored) → ℕ
 settle_steps labels lists = labelled_uses labels (placed lists) + labelled_matches labels (placed lists)
+
+-- the marks by the store's matches, which were read as often as settling does
+pub record IsSettledBy (g : Graph) (cost : Cost) (old new : StoreState) (marks : List (Option Mark)) : Type 0 where
+  pub settled : AreSettledMarks g cost old.lists marks
+  pub lists : new.lists ≡ old.lists
+  pub done : new.done ≡ old.done + settle_steps (labels_in (costs_of marks)) old.lists

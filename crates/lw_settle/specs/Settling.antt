@@ -6,7 +6,8 @@ use Rattle.lw_laws.specs.Marks.{Mark as PlainMark, Marks, HaveMarks, IsMarkAtMos
 use Rattle.lw_match.specs.declared.mark.Mark.{Mark}
 use Rattle.lw_match.specs.Values.{marks_in}
 use Rattle.lw_label.specs.Heights.{marked}
-use Rattle.lw_settle.specs.Stores.{Stored, Placed, placed, pins_of, times, uses_of}
+use Rattle.lw_settle.specs.Queues.{AreNone}
+use Rattle.lw_settle.specs.Stores.{Stored, StoreState, Placed, placed, pins_of, times, uses_of, AreOfStoredCells, HasMarkedPins, IsReadOnce}
 
 -- the mark is that of an input at the class, or of a match there by the marks of its pins
 abbrev pub IsOffered : Graph → Cost → List Placed → Marks → ℕ → PlainMark → Type 0
@@ -104,15 +105,56 @@ abbrev pub AreLow : ℕ → List (Option Mark) → Type 0
 AreLow cap marks =
     (c : ℕ) (k : PlainMark) → marks_in marks c ≡ Some k → (k.cost ≤ cap) × (k.height ≤ marked marks)
 
+-- a mark may be offered to the class
+pub record MayOffer (marks wait : List (Option Mark)) (c : ℕ) (k : Mark) : Type 0 where
+  pub class : c < length marks
+  pub one_each : length wait ≡ length marks
+  pub few : length marks < 2 ^ 32 - 1
+  pub height : k.height ≤ marked marks + 1
+
+-- the match may be priced by the marks of its pins, and offered to its class
+pub record MayPrice (cost : Cost) (store : StoreState) (place : ℕ) (marks wait : List (Option Mark)) : Type 0 where
+  pub listed : place < length (placed store.lists)
+  pub of_cells : AreOfStoredCells cost.pin_counts store.lists
+  pub one_mark : length marks ≡ length store.lists
+  pub one_wait : length wait ≡ length store.lists
+  pub few : length marks < 2 ^ 32 - 1
+  pub low : AreLow cost.cap marks
+  pub pins_marked : HasMarkedPins store.lists (marks_in marks) place
+  pub fresh : store.done < 2 ^ 63
+
+-- the match was read once, and offered to its class at its price
+pub record HasPriced (cost : Cost) (old new : StoreState) (place : ℕ) (marks wait wait' : List (Option Mark)) : Type 0 where
+  pub offered : IsMatchOffered cost (placed old.lists) place (marks_in marks) (marks_in wait) (marks_in wait')
+  pub one_wait : length wait' ≡ length wait
+  pub read : IsReadOnce old new
+
 -- while the uses of a class that was taken last are read, the first n of which have been
 pub record IsReadingOf (cost : Cost) (lists : List (List Stored)) (s : Stage) (class n : ℕ) (done : ℕ) (marks wait : List (Option Mark)) (left : List ℕ) : Type 0 where
   pub taken : marks_in marks class ≡ Some s.top
   pub reading : IsReading cost lists s (drop n (uses_of lists class)) done marks wait left
 
+-- the uses of the class may be read from the n-th on, in some stage
+pub record MayRead (cost : Cost) (store : StoreState) (c n : ℕ) (marks wait : List (Option Mark)) (left : List ℕ) : Type 0 where
+  pub class : c < length store.lists
+  pub of_cells : AreOfStoredCells cost.pin_counts store.lists
+  pub reading : (s : Stage) × IsReadingOf cost store.lists s c n store.done marks wait left
+
+-- the uses of the class have been read from the n-th to the m-th, in whichever stage
+pub record HasRead (cost : Cost) (old new : StoreState) (c n m : ℕ) (marks wait wait' : List (Option Mark)) (left left' : List ℕ) : Type 0 where
+  pub lists : new.lists ≡ old.lists
+  pub reading : (s : Stage) → IsReadingOf cost old.lists s c n old.done marks wait left → IsReadingOf cost old.lists s c m new.done marks wait' left'
+
 -- between two classes, whichever was taken last
 pub record IsReadingSome (cost : Cost) (lists : List (List Stored)) (g : Graph) (start done : ℕ) (marks wait : List (Option Mark)) (left : List ℕ) : Type 0 where
   pub top : PlainMark
   pub reading : IsReading cost lists (record { graph = g; start = start; top = top }) [] done marks wait left
+
+-- the classes that waited have been taken, and those that came to wait, in whichever stage
+pub record AreAllTaken (cost : Cost) (old new : StoreState) (marks marks' wait wait' : List (Option Mark)) (left left' : List ℕ) : Type 0 where
+  pub lists : new.lists ≡ old.lists
+  pub none : AreNone wait'
+  pub reading : (s : Stage) → IsReading cost old.lists s [] old.done marks wait left → IsReadingSome cost old.lists s.graph s.start new.done marks' wait' left'
 
 -- the first inputs have given their classes their marks, and no class waits with another one
 pub record AreInputsOffered (g : Graph) (cost : Cost) (inputs : ℕ) (wait : List (Option Mark)) : Type 0 where

@@ -1,5 +1,5 @@
-ghost use Rattle.std.specs.Prelude.{◌≡◌, ◌<◌, ◌^◌, ◌-◌, Some, None};
-ghost use Rattle.lw_settle.specs.Queues.{is_before, lesser, mark_of, no_cost, no_height, IsLeafOf};
+ghost use Rattle.std.specs.Prelude.{◌≡◌, ◌<◌, ◌^◌, ◌-◌, None};
+ghost use Rattle.lw_settle.specs.Queues.{is_before, lesser, mark_of, IsLeafOf, IsWaitingLeaf};
 
 use lw_match::Mark;
 
@@ -26,10 +26,7 @@ pub(crate) fn no_mark(class: u32) -> Entry
 /// A class that waits with a mark.
 pub(crate) fn with_mark(class: u32, mark: Mark) -> Entry
     requires { mark.height < 2 ^ 32 - 1 }
-    ensures some { mark_of result ≡ Some mark }
-    ensures leaf { IsLeafOf result class }
-    ensures cost { result.cost ≡ mark.cost }
-    ensures height { result.height ≡ mark.height }
+    ensures { IsWaitingLeaf result class mark }
 {
     Entry {
         cost: mark.cost,

@@ -1,5 +1,5 @@
 ghost use Rattle.std.specs.Prelude.{◌≡◌, ◌+◌, ◌*◌, ◌/◌, ◌^◌, ◌-◌, ◌<◌, ◌≤◌, ℕ, None, IfOk, IfNone, IfSome, MatchOption, length, drop, replicate, slice_set};
-ghost use Rattle.lw_settle.specs.Queues.{AreNone, AreWonBut, IsFirst, IsLowered};
+ghost use Rattle.lw_settle.specs.Queues.{AreNone, IsFirst, IsLowered, IsWonBut};
 
 use crate::entry::{Entry, is_before, lesser, no_mark, with_mark};
 use lw_match::Mark;
@@ -39,11 +39,9 @@ impl Model for Queue {
 
 // Finds anew the lesser entries above a place.
 fn renew(tree: &mut [Entry], classes: usize, place: usize)
-    requires long { length tree.old ≡ 2 * classes }
-    requires few { classes < 2 ^ 32 }
     requires place { place < 2 * classes }
-    requires won { AreWonBut classes tree.old (place / 2) }
-    ensures won { AreWonBut classes tree.new 0 }
+    requires tree { IsWonBut classes tree.old (place / 2) }
+    ensures tree { IsWonBut classes tree.new 0 }
     ensures leaves { drop classes tree.new ≡ drop classes tree.old }
 {
     let mut at = place / 2;
@@ -55,11 +53,9 @@ fn renew(tree: &mut [Entry], classes: usize, place: usize)
 
 // Puts an entry at the leaf of a class.
 fn set_leaf(tree: &mut [Entry], classes: usize, class: usize, entry: Entry)
-    requires long { length tree.old ≡ 2 * classes }
-    requires few { classes < 2 ^ 32 }
     requires class { class < classes }
-    requires won { AreWonBut classes tree.old 0 }
-    ensures won { AreWonBut classes tree.new 0 }
+    requires tree { IsWonBut classes tree.old 0 }
+    ensures tree { IsWonBut classes tree.new 0 }
     ensures leaves { drop classes tree.new ≡ slice_set (drop classes tree.old) class entry }
 {
     tree[classes + class] = entry;

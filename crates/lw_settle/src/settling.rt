@@ -1,14 +1,11 @@
-ghost use Rattle.std.specs.Prelude.{◌≡◌, ◌+◌, ◌-◌, ◌^◌, ◌<◌, ◌≤◌, ℕ, [], List, None, IfOk, OnErr, length, drop, map, replicate, slice_get};
-ghost use Rattle.lw_graph.specs.Graphs.{IsGraph};
+ghost use Rattle.std.specs.Prelude.{◌≡◌, ◌+◌, ◌^◌, ◌<◌, ℕ, [], None, IfOk, OnErr, length, map, replicate};
 ghost use Rattle.lw_laws.specs.Graphs.{Graph as PlainGraph};
 ghost use Rattle.lw_laws.specs.Rounds.{labels_in};
 ghost use Rattle.lw_label.specs.Labels.{costs_of};
-ghost use Rattle.lw_label.specs.Heights.{marked};
 ghost use Rattle.lw_match.specs.Values.{marks_in, plain_mark};
-ghost use Rattle.lw_settle.specs.Settled.{AreSettledMarks, HaveLeafCosts, settle_steps};
-ghost use Rattle.lw_settle.specs.Queues.{AreNone};
-ghost use Rattle.lw_settle.specs.Settling.{AreInputsOffered, AreLow, IsMatchOffered, IsOffering, IsReading, IsReadingOf, IsReadingSome, IsSettling, Stage, first_stage, pin_count};
-ghost use Rattle.lw_settle.specs.Stores.{AreOfStoredCells, HasMarkedPins, pins_of, placed, uses_of};
+ghost use Rattle.lw_settle.specs.Settled.{AreSettledMarks, AreUnsettled, HaveLeafCosts, IsSettledBy, MaySettle, settle_steps};
+ghost use Rattle.lw_settle.specs.Settling.{AreAllTaken, AreInputsOffered, HasPriced, HasRead, IsOffering, IsReading, IsSettling, MayOffer, MayPrice, MayRead, Stage, first_stage, pin_count};
+ghost use Rattle.lw_settle.specs.Stores.{AreOfStoredCells, placed, uses_of};
 
 use crate::queue::Queue;
 use crate::store::Store;
@@ -20,10 +17,7 @@ use std::alloc::{AllocError, Global};
 
 // Offers a mark to a class, unless its own is taken.
 fn offer(queue: &mut Queue, marks: &[Option<Mark>], class: ClassId, mark: Mark)
-    requires class { class.0 < length marks.now }
-    requires one_each { length queue.old ≡ length marks.now }
-    requires few { length marks.now < 2 ^ 32 - 1 }
-    requires height { mark.height ≤ marked marks.now + 1 }
+    requires { MayOffer marks.now queue.old class.0 mark }
     ensures offering { IsOffering (marks_in marks.now) (marks_in queue.old)
         (marks_in queue.new) class.0 (plain_mark mark) }
     ensures one_each { length queue.new ≡ length queue.old }
@@ -41,20 +35,9 @@ fn offer_match<C: Cost>(
     queue: &mut Queue,
     place: u32,
 )
-    requires place { place < length (placed store.old.lists) }
-    requires of_cells { AreOfStoredCells (C.costs cost.now).pin_counts store.old.lists }
-    requires one_mark { length marks.now ≡ length store.old.lists }
-    requires one_wait { length queue.old ≡ length store.old.lists }
-    requires few { length marks.now < 2 ^ 32 - 1 }
-    requires low { AreLow (C.costs cost.now).cap marks.now }
-    requires marked { HasMarkedPins store.old.lists (marks_in marks.now) place }
-    requires fresh { store.old.done < 2 ^ 63 }
-    ensures offered { IsMatchOffered (C.costs cost.now)
-        (placed store.old.lists) place (marks_in marks.now) (marks_in queue.old)
-        (marks_in queue.new) }
-    ensures one_wait { length queue.new ≡ length queue.old }
-    ensures lists { store.new.lists ≡ store.old.lists }
-    ensures done { store.new.done ≡ store.old.done + 1 }
+    requires { MayPrice (C.costs cost.now) store.old place marks.now queue.old }
+    ensures { HasPriced (C.costs cost.now) store.old store.new place marks.now
+        queue.old queue.new }
 {
     let _ = store.matches();
     let head = store.head(place);
@@ -125,17 +108,10 @@ fn read_use<C: Cost>(
     class: ClassId,
     n: u32,
 )
-    requires class { class.0 < length store.old.lists }
     requires within { n < length (uses_of store.old.lists class.0) }
-    requires of_cells { AreOfStoredCells (C.costs cost.now).pin_counts store.old.lists }
-    requires reading { (s : Stage) ×
-        IsReadingOf (C.costs cost.now) store.old.lists s class.0 n store.old.done marks.now
-        queue.old left.old }
-    ensures lists { store.new.lists ≡ store.old.lists }
-    ensures reading { (s : Stage) →
-        IsReadingOf (C.costs cost.now) store.old.lists s class.0 n store.old.done marks.now
-        queue.old left.old → IsReadingOf (C.costs cost.now) store.old.lists s class.0
-        (n + 1) store.new.done marks.now queue.new left.new }
+    requires may { MayRead (C.costs cost.now) store.old class.0 n marks.now queue.old left.old }
+    ensures { HasRead (C.costs cost.now) store.old store.new class.0 n (n + 1) marks.now
+        queue.old queue.new left.old left.new }
 {
     let _ = store.matches();
     let place = store.use_at(class, n);
@@ -154,16 +130,9 @@ fn read_uses<C: Cost>(
     left: &mut [u8],
     class: ClassId,
 )
-    requires class { class.0 < length store.old.lists }
-    requires of_cells { AreOfStoredCells (C.costs cost.now).pin_counts store.old.lists }
-    requires reading { (s : Stage) ×
-        IsReadingOf (C.costs cost.now) store.old.lists s class.0 0 store.old.done marks.now
-        queue.old left.old }
-    ensures lists { store.new.lists ≡ store.old.lists }
-    ensures reading { (s : Stage) →
-        IsReadingOf (C.costs cost.now) store.old.lists s class.0 0 store.old.done marks.now
-        queue.old left.old → IsReading
-        (C.costs cost.now) store.old.lists s [] store.new.done marks.now queue.new left.new }
+    requires { MayRead (C.costs cost.now) store.old class.0 0 marks.now queue.old left.old }
+    ensures { HasRead (C.costs cost.now) store.old store.new class.0 0
+        (length (uses_of store.old.lists class.0)) marks.now queue.old queue.new left.old left.new }
 {
     for n in 0..store.uses(class) {
         read_use(store, cost, marks, queue, left, class, n);
@@ -182,12 +151,8 @@ fn settle_classes<C: Cost>(
     requires reading { (s : Stage) ×
         IsReading (C.costs cost.now) store.old.lists s [] store.old.done marks.old queue.old
         left.old }
-    ensures lists { store.new.lists ≡ store.old.lists }
-    ensures none { AreNone queue.new }
-    ensures reading { (s : Stage) →
-        IsReading (C.costs cost.now) store.old.lists s [] store.old.done marks.old queue.old
-        left.old → IsReadingSome (C.costs cost.now) store.old.lists s.graph s.start store.new.done
-        marks.new queue.new left.new }
+    ensures { AreAllTaken (C.costs cost.now) store.old store.new marks.old marks.new
+        queue.old queue.new left.old left.new }
 {
     while let Some(taken) = queue.take() {
         marks[taken.class.0 as usize] = Some(taken.mark);
@@ -204,17 +169,9 @@ fn settle_all<C: Cost>(
     queue: &mut Queue,
     left: &mut [u8],
 )
-    requires of_cells { AreOfStoredCells (C.costs cost.now).pin_counts store.old.lists }
-    requires one_each { length store.old.lists ≡ length graph.now.pairs }
-    requires leaves { HaveLeafCosts graph.now (C.costs cost.now) store.old.lists }
-    requires fresh { store.old.done < 2 ^ 62 }
-    requires marks { marks.old ≡ replicate (length graph.now.pairs) None }
-    requires queue { queue.old ≡ replicate (length graph.now.pairs) None }
-    requires left { length left.old ≡ length (placed store.old.lists) }
-    ensures marks { AreSettledMarks graph.now (C.costs cost.now) store.old.lists marks.new }
-    ensures lists { store.new.lists ≡ store.old.lists }
-    ensures done { store.new.done ≡ store.old.done + settle_steps
-        (labels_in (costs_of marks.new)) store.old.lists }
+    requires may { MaySettle graph.now (C.costs cost.now) store.old }
+    requires none { AreUnsettled graph.now store.old marks.old queue.old left.old }
+    ensures { IsSettledBy graph.now (C.costs cost.now) store.old store.new marks.new }
 {
     let _ = graph.classes();
     let _ = store.matches();

@@ -1,12 +1,10 @@
-ghost use Rattle.std.specs.Prelude.{◌≡◌, ◌+◌, ◌-◌, ◌*◌, ◌^◌, ◌<◌, ◌≤◌, ℕ, List, Option, Some, length, map, take, slice_get, All};
-ghost use Rattle.std.specs.List.{slice_range, AllByRecursion};
-ghost use Rattle.lw_pool.specs.declared.id.ClassId.{ClassId};
+ghost use Rattle.std.specs.Prelude.{◌≡◌, ◌+◌, ◌^◌, ◌<◌, ◌≤◌, List, Some, length, take, slice_get};
+ghost use Rattle.std.specs.List.{slice_range};
 ghost use Rattle.lw_laws.specs.Covers.{HasPins};
 ghost use Rattle.lw_laws.specs.Marks.{Mark as PlainMark, HaveMarks, costs_in, greatest_height, price};
-ghost use Rattle.lw_match.specs.declared.mark.Mark.{Mark};
 ghost use Rattle.lw_match.specs.Values.{AreInRange, marks_in, plain_mark};
 ghost use Rattle.lw_settle.specs.Kept.{start_at};
-ghost use Rattle.lw_settle.specs.Stores.{AreKeptLists, AreOfStoredCells, HasMarkedPins, IsFound, IsHeadOf, IsPriceOf, pin_total, placed, uses_of};
+ghost use Rattle.lw_settle.specs.Stores.{AreKeptLists, AreMarkedPins, IsFound, IsHeadOf, IsPriceable, IsPriceOf, IsReadOnce, pin_total, placed, uses_of};
 ghost use Rattle.lw_pool.specs.Numbers.{numbers};
 
 use crate::row::Row;
@@ -82,10 +80,7 @@ fn pins_of(pins: &[ClassId], row: Row) -> &[ClassId]
 
 // The costs of the marks of some pins, and the greatest height of these marks.
 fn read_marks(pins: &[ClassId], marks: &[Option<Mark>], costs: &mut [u64]) -> u32
-    requires few { length pins.now ≤ length costs.old }
-    requires within { All (λ (c : ClassId). c.0 < length marks.now) pins.now }
-    requires marked { AllByRecursion (λ p. (k : PlainMark) × (marks_in marks.now p ≡ Some k))
-        (numbers pins.now) }
+    requires { AreMarkedPins (length costs.old) marks.now pins.now }
     ensures { (ks : List PlainMark) × HaveMarks (marks_in marks.now) (numbers pins.now) ks ×
         (take (length pins.now) costs.new ≡ costs_in ks) × (result ≡ greatest_height ks) }
 {
@@ -101,12 +96,9 @@ fn read_marks(pins: &[ClassId], marks: &[Option<Mark>], costs: &mut [u64]) -> u3
 
 // The mark that a match of a cell gives its class, by the marks of its pins.
 fn mark_of<C: Cost>(pins: &[ClassId], cell: CellId, cost: &C, marks: &[Option<Mark>]) -> Mark
-    requires few { length pins.now ≤ 16 }
-    requires within { All (λ (c : ClassId). c.0 < length marks.now) pins.now }
+    requires pins { AreMarkedPins 16 marks.now pins.now }
     requires of_cell { HasPins (C.costs cost.now).pin_counts cell.0 (length pins.now) }
     requires in_range { AreInRange C.CAP marks.now }
-    requires marked { AllByRecursion (λ p. (k : PlainMark) × (marks_in marks.now p ≡ Some k))
-        (numbers pins.now) }
     ensures { (ks : List PlainMark) × HaveMarks (marks_in marks.now) (numbers pins.now) ks ×
         (plain_mark result ≡ price (C.costs cost.now) cell.0 ks) }
 {
@@ -205,8 +197,7 @@ impl Store {
         requires within { n < length (uses_of self.old.lists class.0) }
         requires fresh { self.old.done < 2 ^ 63 }
         ensures number { slice_get (uses_of self.old.lists class.0) n ≡ Some result }
-        ensures lists { self.new.lists ≡ self.old.lists }
-        ensures done { self.new.done ≡ self.old.done + 1 }
+        ensures read { IsReadOnce self.old self.new }
     {
         self.done += 1;
         let start = start_of(&self.ends, class.0 as usize);
@@ -216,16 +207,10 @@ impl Store {
     /// What a match costs over the marks of its pins, and 1 more than the greatest of their
     /// heights. It counts as a reading.
     pub fn price<C: Cost>(&mut self, place: u32, cost: &C, marks: &[Option<Mark>]) -> Mark
-        requires place { place < length (placed self.old.lists) }
-        requires of_cells { AreOfStoredCells (C.costs cost.now).pin_counts self.old.lists }
-        requires one_each { length marks.now ≡ length self.old.lists }
-        requires in_range { AreInRange C.CAP marks.now }
-        requires marked { HasMarkedPins self.old.lists (marks_in marks.now) place }
-        requires fresh { self.old.done < 2 ^ 63 }
+        requires { IsPriceable self.old (C.costs cost.now) C.CAP marks.now place }
         ensures price { IsPriceOf self.old.lists (C.costs cost.now)
             (marks_in marks.now) place (plain_mark result) }
-        ensures lists { self.new.lists ≡ self.old.lists }
-        ensures done { self.new.done ≡ self.old.done + 1 }
+        ensures read { IsReadOnce self.old self.new }
     {
         self.done += 1;
         let row = self.rows[place as usize];

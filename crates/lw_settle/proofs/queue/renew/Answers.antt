@@ -7,7 +7,7 @@ pub loop-at-preserved : goal.loop-at-preserved
 loop-at-preserved c =
     let l = c.loop-at in
     let n = c.args.classes in
-    let long : length l.tree ≡ 2 * n = omega (arith, l.auto.tree, c.requires.long) in
+    let long : length l.tree ≡ 2 * n = omega (arith, l.auto.tree, c.requires.tree.long) in
     record {
       below = omega (arith, l.invariant.below);
       won = won_step n l.at l.tree c.lesser.result c.loop-at-test.true l.invariant.below long c.lesser.ensures l.invariant.won;

@@ -5,42 +5,24 @@ use Rattle.lw_settle.proofs.Rising.{done_low, pinless_marked, pinless_offered, p
 use Rattle.lw_settle.proofs.settling.offer_pinless.Goals as goal
 use Rattle.lw_settle.proofs.settling.offer_pinless.Goals.{then-left-place-eq0, else-left-place-eq0}
 
-pub offer_match-requires-clause-place : goal.offer_match-requires-clause-place
-offer_match-requires-clause-place t c =
-    let costs = t.C.Cost.costs c.args.cost.now in
-    let l = c.loop-place in
-    let (g, start, w0) = c.requires.settling in
-    let w = l.invariant.settling g start w0 in
-    let lt : l.place < length (placed l.store.lists) = omega (arith, c.matches-place-end.ensures.matches, ap (λ ls. length (placed ls)) l.invariant.lists) in
-    lt
-
-pub offer_match-requires-clause-one_wait : goal.offer_match-requires-clause-one_wait
-offer_match-requires-clause-one_wait t c =
-    let costs = t.C.Cost.costs c.args.cost.now in
-    let l = c.loop-place in
-    let (g, start, w0) = c.requires.settling in
-    let w = l.invariant.settling g start w0 in
-    let lt : l.place < length (placed l.store.lists) = omega (arith, c.matches-place-end.ensures.matches, ap (λ ls. length (placed ls)) l.invariant.lists) in
-    w.one_wait
-
-pub offer_match-requires-clause-marked : goal.offer_match-requires-clause-marked
-offer_match-requires-clause-marked t c =
-    let costs = t.C.Cost.costs c.args.cost.now in
-    let l = c.loop-place in
-    let (g, start, w0) = c.requires.settling in
-    let w = l.invariant.settling g start w0 in
-    let lt : l.place < length (placed l.store.lists) = omega (arith, c.matches-place-end.ensures.matches, ap (λ ls. length (placed ls)) l.invariant.lists) in
-    pinless_marked costs l.store.lists g start l.place l.store.done c.args.marks.now l.queue c.args.left.now w lt c.if-left-place-eq0.true
-
-pub offer_match-requires-clause-fresh : goal.offer_match-requires-clause-fresh
-offer_match-requires-clause-fresh t c =
+pub offer_match-requires : goal.offer_match-requires
+offer_match-requires t c =
     let costs = t.C.Cost.costs c.args.cost.now in
     let l = c.loop-place in
     let (g, start, w0) = c.requires.settling in
     let w = l.invariant.settling g start w0 in
     let lt : l.place < length (placed l.store.lists) = omega (arith, c.matches-place-end.ensures.matches, ap (λ ls. length (placed ls)) l.invariant.lists) in
     let kept = subst AreKeptLists (sym l.invariant.lists) c.matches-place-end.ensures.kept in
-    omega (arith, done_low l.store.lists l.place start l.store.done c.args.left.now kept w.fresh w.counted)
+    record {
+      listed = lt;
+      of_cells = subst (AreOfStoredCells costs.pin_counts) (sym l.invariant.lists) c.requires.of_cells;
+      one_mark = w.one_mark;
+      one_wait = w.one_wait;
+      few = omega (arith, w.few, w.one_mark);
+      low = w.sound.taken_fits;
+      pins_marked = pinless_marked costs l.store.lists g start l.place l.store.done c.args.marks.now l.queue c.args.left.now w lt c.if-left-place-eq0.true;
+      fresh = omega (arith, done_low l.store.lists l.place start l.store.done c.args.left.now kept w.fresh w.counted);
+    }
 
 pub loop-place-preserved : goal.loop-place-preserved
 loop-place-preserved t c =
@@ -53,11 +35,11 @@ loop-place-preserved t c =
       | then-left-place-eq0 w ↦
           let o = w.offer_match in
           record {
-            lists = ap (λ (st : StoreState). st.lists) w.store-is ∙ (o.ensures.lists ∙ l.invariant.lists);
+            lists = ap (λ (st : StoreState). st.lists) w.store-is ∙ (o.ensures.read.lists ∙ l.invariant.lists);
             settling = λ g start w0.
                 let before = l.invariant.settling g start w0 in
                 let after = pinless_offered costs l.store.lists g start l.place l.store.done c.args.marks.now l.queue c.args.left.now before lt o.new.queue is of w.if-left-place-eq0.true o.ensures.one_wait o.ensures.offered in
-                let new = subst₂ (λ ls d. IsSettling costs ls (first_stage g start) (length g.leaves) (l.place + 1) [] d c.args.marks.now o.new.queue c.args.left.now) (sym o.ensures.lists) (sym o.ensures.done) after in
+                let new = subst₂ (λ ls d. IsSettling costs ls (first_stage g start) (length g.leaves) (l.place + 1) [] d c.args.marks.now o.new.queue c.args.left.now) (sym o.ensures.read.lists) (sym o.ensures.read.done) after in
                 subst₂ (λ (st : StoreState) q. IsSettling costs st.lists (first_stage g start) (length g.leaves) (l.place + 1) [] st.done c.args.marks.now q c.args.left.now) (sym w.store-is) (sym w.queue-is) new;
           }
       | else-left-place-eq0 w ↦ record {

@@ -18,7 +18,7 @@ loop-class-preserved c =
     let P : List Entry → Type 0 = λ t. record { long : length t ≡ 2 * n; won : AreWonBut n t 0; none : (k : ℕ) → k < n → mark_of (node t (n + k)) ≡ None; leaves : (k : ℕ) → k < l.class + 1 → IsLeafOf (node t (n + k)) k } in
     subst P (sym whole) (record {
       long = long;
-      won = c.set_leaf.ensures.won;
+      won = c.set_leaf.ensures.tree.won;
       none = none_after n l.class old new c.no_mark-in-loop-class.result l.invariant.long c.loop-class-test.true leaves c.no_mark-in-loop-class.ensures.none l.invariant.none;
       leaves = leaves_after n l.class old new c.no_mark-in-loop-class.result l.invariant.long c.loop-class-test.true leaves c.no_mark-in-loop-class.ensures.leaf l.invariant.leaves;
     })

@@ -29,7 +29,7 @@ invariant_of-self c =
     let long : length new ≡ length s.tree.items = omega (arith, c.set_leaf.auto.tree, ap length c.deref_mut.ensures.value) in
     let first = get_or_read c.self.inside.tree.items 1 c.index-first.result.now (omega (arith, c.self.invariant.long, c.self.invariant.some)) c.index-first.ensures no_entry in
     let class : c.index-first.result.now.class < c.self.inside.classes = subst (λ (e : Entry). e.class < c.self.inside.classes) (sym first) (root_class c.self.inside.classes c.self.inside.tree.items c.self.invariant).0 in
-    subst (IsTree n) (sym whole) (tree_set n s.tree.items c.self.invariant new c.index-first.result.now.class c.no_mark.result long c.set_leaf.ensures.won leaves c.no_mark.ensures.leaf class)
+    subst (IsTree n) (sym whole) (tree_set n s.tree.items c.self.invariant new c.index-first.result.now.class c.no_mark.result long c.set_leaf.ensures.tree.won leaves c.no_mark.ensures.leaf class)
 
 pub returns-clause-first : goal.returns-clause-first
 returns-clause-first c =

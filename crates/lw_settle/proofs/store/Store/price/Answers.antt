@@ -18,41 +18,36 @@ pins_of-requires g c =
     let s = c.self.inside in
     let kept = c.self.invariant in
     let row = c.index-row.result.now in
-    let place : c.args.place < length s.rows.items = subst (λ n. c.args.place < n) (count (length s.ends.items) s.rows.items s.pins.items (cell_numbers s.cells.items) s.ends.items s.uses.items kept) (subst (λ (v : StoreState). c.args.place < length (placed v.lists)) (sym c.self.view_is) c.requires.place) in
+    let place : c.args.place < length s.rows.items = subst (λ n. c.args.place < n) (count (length s.ends.items) s.rows.items s.pins.items (cell_numbers s.cells.items) s.ends.items s.uses.items kept) (subst (λ (v : StoreState). c.args.place < length (placed v.lists)) (sym c.self.view_is) c.requires.listed) in
     let at = slice_get_read s.rows.items (length s.rows.items) c.args.place row refl place c.index-row.ensures in
     let w = within (length s.ends.items) s.rows.items s.pins.items (cell_numbers s.cells.items) s.ends.items s.uses.items kept c.args.place row at in
     omega (arith, w.to, ap length c.deref.ensures.value)
 
-pub mark_of-requires-clause-few : goal.mark_of-requires-clause-few
-mark_of-requires-clause-few g c =
+pub mark_of-requires-clause-pins : goal.mark_of-requires-clause-pins
+mark_of-requires-clause-pins g c =
     let s = c.self.inside in
     let kept = c.self.invariant in
     let row = c.index-row.result.now in
-    let place : c.args.place < length s.rows.items = subst (λ n. c.args.place < n) (count (length s.ends.items) s.rows.items s.pins.items (cell_numbers s.cells.items) s.ends.items s.uses.items kept) (subst (λ (v : StoreState). c.args.place < length (placed v.lists)) (sym c.self.view_is) c.requires.place) in
-    let at = slice_get_read s.rows.items (length s.rows.items) c.args.place row refl place c.index-row.ensures in
-    let w = within (length s.ends.items) s.rows.items s.pins.items (cell_numbers s.cells.items) s.ends.items s.uses.items kept c.args.place row at in
-    let pins = c.pins_of.ensures ∙ ap (λ ps. slice_range ps row.start (row.start + row.pins)) c.deref.ensures.value in
-    omega (arith, w.few, ap length pins, part_length s.pins.items row w.to)
-
-pub mark_of-requires-clause-within : goal.mark_of-requires-clause-within
-mark_of-requires-clause-within g c =
-    let s = c.self.inside in
-    let kept = c.self.invariant in
-    let row = c.index-row.result.now in
-    let place : c.args.place < length s.rows.items = subst (λ n. c.args.place < n) (count (length s.ends.items) s.rows.items s.pins.items (cell_numbers s.cells.items) s.ends.items s.uses.items kept) (subst (λ (v : StoreState). c.args.place < length (placed v.lists)) (sym c.self.view_is) c.requires.place) in
+    let place : c.args.place < length s.rows.items = subst (λ n. c.args.place < n) (count (length s.ends.items) s.rows.items s.pins.items (cell_numbers s.cells.items) s.ends.items s.uses.items kept) (subst (λ (v : StoreState). c.args.place < length (placed v.lists)) (sym c.self.view_is) c.requires.listed) in
     let at = slice_get_read s.rows.items (length s.rows.items) c.args.place row refl place c.index-row.ensures in
     let w = within (length s.ends.items) s.rows.items s.pins.items (cell_numbers s.cells.items) s.ends.items s.uses.items kept c.args.place row at in
     let pins = c.pins_of.ensures ∙ ap (λ ps. slice_range ps row.start (row.start + row.pins)) c.deref.ensures.value in
     let lists = ap (λ (v : StoreState). length v.lists) c.self.view_is in
     let all : length s.ends.items ≡ length c.args.marks.now = omega (arith, list_count (length s.ends.items) s.rows.items s.pins.items (cell_numbers s.cells.items) s.ends.items s.uses.items kept, c.requires.one_each) in
-    subst₂ (λ n (ps : List ClassId). All (λ (k : ClassId). k.0 < n) ps) all (sym pins) (row_classes (length s.ends.items) s.rows.items s.pins.items (cell_numbers s.cells.items) s.ends.items s.uses.items kept row)
+    let marks = marks_in c.args.marks.now in
+    let marked = subst (λ (v : StoreState). HasMarkedPins v.lists marks c.args.place) (sym c.self.view_is) c.requires.pins_marked in
+    record {
+      few = omega (arith, w.few, ap length pins, part_length s.pins.items row w.to);
+      within = subst₂ (λ n (ps : List ClassId). All (λ (k : ClassId). k.0 < n) ps) all (sym pins) (row_classes (length s.ends.items) s.rows.items s.pins.items (cell_numbers s.cells.items) s.ends.items s.uses.items kept row);
+      marked = subst (λ (ps : List ClassId). AllByRecursion (λ p. (k : Mark) × (marks p ≡ Some k)) (numbers ps)) (sym pins) (marked_row (length s.ends.items) s.rows.items s.pins.items (cell_numbers s.cells.items) s.ends.items s.uses.items kept marks c.args.place row marked at);
+    }
 
 pub mark_of-requires-clause-of_cell : goal.mark_of-requires-clause-of_cell
 mark_of-requires-clause-of_cell g c =
     let s = c.self.inside in
     let kept = c.self.invariant in
     let row = c.index-row.result.now in
-    let place : c.args.place < length s.rows.items = subst (λ n. c.args.place < n) (count (length s.ends.items) s.rows.items s.pins.items (cell_numbers s.cells.items) s.ends.items s.uses.items kept) (subst (λ (v : StoreState). c.args.place < length (placed v.lists)) (sym c.self.view_is) c.requires.place) in
+    let place : c.args.place < length s.rows.items = subst (λ n. c.args.place < n) (count (length s.ends.items) s.rows.items s.pins.items (cell_numbers s.cells.items) s.ends.items s.uses.items kept) (subst (λ (v : StoreState). c.args.place < length (placed v.lists)) (sym c.self.view_is) c.requires.listed) in
     let at = slice_get_read s.rows.items (length s.rows.items) c.args.place row refl place c.index-row.ensures in
     let w = within (length s.ends.items) s.rows.items s.pins.items (cell_numbers s.cells.items) s.ends.items s.uses.items kept c.args.place row at in
     let pins = c.pins_of.ensures ∙ ap (λ ps. slice_range ps row.start (row.start + row.pins)) c.deref.ensures.value in
@@ -62,25 +57,12 @@ mark_of-requires-clause-of_cell g c =
     let long = ap length pins ∙ part_length s.pins.items row w.to in
     subst₂ (λ k n. HasPins counts k n) (sym cell) (sym long) (cell_pins (length s.ends.items) s.rows.items s.pins.items (cell_numbers s.cells.items) s.ends.items s.uses.items kept counts c.args.place row of at)
 
-pub mark_of-requires-clause-marked : goal.mark_of-requires-clause-marked
-mark_of-requires-clause-marked g c =
-    let s = c.self.inside in
-    let kept = c.self.invariant in
-    let row = c.index-row.result.now in
-    let place : c.args.place < length s.rows.items = subst (λ n. c.args.place < n) (count (length s.ends.items) s.rows.items s.pins.items (cell_numbers s.cells.items) s.ends.items s.uses.items kept) (subst (λ (v : StoreState). c.args.place < length (placed v.lists)) (sym c.self.view_is) c.requires.place) in
-    let at = slice_get_read s.rows.items (length s.rows.items) c.args.place row refl place c.index-row.ensures in
-    let w = within (length s.ends.items) s.rows.items s.pins.items (cell_numbers s.cells.items) s.ends.items s.uses.items kept c.args.place row at in
-    let pins = c.pins_of.ensures ∙ ap (λ ps. slice_range ps row.start (row.start + row.pins)) c.deref.ensures.value in
-    let marks = marks_in c.args.marks.now in
-    let marked = subst (λ (v : StoreState). HasMarkedPins v.lists marks c.args.place) (sym c.self.view_is) c.requires.marked in
-    subst (λ (ps : List ClassId). AllByRecursion (λ p. (k : Mark) × (marks p ≡ Some k)) (numbers ps)) (sym pins) (marked_row (length s.ends.items) s.rows.items s.pins.items (cell_numbers s.cells.items) s.ends.items s.uses.items kept marks c.args.place row marked at)
-
 pub returns-clause-price : goal.returns-clause-price
 returns-clause-price g c =
     let s = c.self.inside in
     let kept = c.self.invariant in
     let row = c.index-row.result.now in
-    let place : c.args.place < length s.rows.items = subst (λ n. c.args.place < n) (count (length s.ends.items) s.rows.items s.pins.items (cell_numbers s.cells.items) s.ends.items s.uses.items kept) (subst (λ (v : StoreState). c.args.place < length (placed v.lists)) (sym c.self.view_is) c.requires.place) in
+    let place : c.args.place < length s.rows.items = subst (λ n. c.args.place < n) (count (length s.ends.items) s.rows.items s.pins.items (cell_numbers s.cells.items) s.ends.items s.uses.items kept) (subst (λ (v : StoreState). c.args.place < length (placed v.lists)) (sym c.self.view_is) c.requires.listed) in
     let at = slice_get_read s.rows.items (length s.rows.items) c.args.place row refl place c.index-row.ensures in
     let w = within (length s.ends.items) s.rows.items s.pins.items (cell_numbers s.cells.items) s.ends.items s.uses.items kept c.args.place row at in
     let pins = c.pins_of.ensures ∙ ap (λ ps. slice_range ps row.start (row.start + row.pins)) c.deref.ensures.value in
