@@ -1,4 +1,4 @@
-use Rattle.std.proofs.Common.{◌<◌, ◌≡◌, ◌+◌, length, sym, ap, subst, ◌∙◌, arith}
+use Rattle.std.proofs.Common.{◌<◌, ◌≡◌, ◌+◌, length, sym, subst, ◌∙◌, arith}
 use Rattle.lw_settle.specs.Settling.{HasRead, IsReadingOf}
 use Rattle.lw_settle.specs.Stores.{AreOfStoredCells, uses_of}
 use Rattle.lw_settle.proofs.settling.read_uses.Goals as goal
