@@ -37,6 +37,6 @@ returns c =
     best_is l.found _ (λ pair. HoldsPair g c.args.class.0 pair.x.0 pair.y.0 × (count_at counts pair.x.0 + count_at counts pair.y.0 < count_at counts c.args.class.0) × (pair.x.0 / 2 < length counts) × (pair.y.0 / 2 < length counts))
     (λ none. row_bounds g c.args.class.0 row pairs counts l.best (l.invariant.none none) (best_all counts row c.args.class.0 l.best l.pair-index l.found c.loop-pair-test.false l.invariant))
     (λ p e.
-        let (found, less) = l.invariant.some p e in
-        let within = All-contains (λ (q : Pair). (q.x.0 < length g.pairs) × (q.y.0 < length g.pairs)) row p c.nands-pair-items.ensures.within found in
-        (row_holds g c.args.class.0 row pairs p found, less, half_below p.x.0 (length g.pairs) (length counts) within.0 c.requires.places, half_below p.y.0 (length g.pairs) (length counts) within.1 c.requires.places))
+    let (found, less) = l.invariant.some p e in
+    let within = All-contains (λ (q : Pair). (q.x.0 < length g.pairs) × (q.y.0 < length g.pairs)) row p c.nands-pair-items.ensures.within found in
+    (row_holds g c.args.class.0 row pairs p found, less, half_below p.x.0 (length g.pairs) (length counts) within.0 c.requires.places, half_below p.y.0 (length g.pairs) (length counts) within.1 c.requires.places))

@@ -1,4 +1,4 @@
-use Rattle.std.proofs.Common.{◌^◌, ◌∙◌, length, ap, refl, subst, subst₂, sym, arith}
+use Rattle.std.proofs.Common.{◌^◌, ◌∙◌, length, ap, refl, subst₂, sym, arith}
 use Rattle.lw_lut.specs.Packed.{packed}
 use Rattle.lw_lut.specs.Tables.{AreRisingOf, table_value}
 use Rattle.lw_lut.proofs.table.Table.of.Goals as goal
