@@ -3,7 +3,7 @@ use Rattle.std.proofs.Common.{ℕ, ◌+◌, ◌<◌, ◌≡◌, Bool, true, fals
 use Rattle.std.specs.List.{flat_map}
 use Rattle.std.proofs.lemmas.Grind.{flat_map-append}
 use Rattle.std.proofs.lemmas.List.{map-append, take_more}
-use Rattle.std.specs.Prelude.{OnOk, IfErr}
+use Rattle.std.specs.Prelude.{OnOk, IfErr, IsErrAnd}
 use Rattle.std.specs.Option.{option_or}
 use Rattle.std.specs.Result.{result_err}
 use Rattle.std.proofs.lemmas.Option.{none-some}
@@ -12,7 +12,7 @@ use Rattle.lw_report.specs.declared.fault.VectorFault.{VectorFault}
 use Rattle.lw_report.specs.declared.fault.VectorFault.TheVariants.{Line, Memory}
 use Rattle.lw_report.specs.declared.vectors.Vectors.{Vectors}
 use Rattle.lw_report.specs.Blocks.{vectors_in}
-use Rattle.lw_report.specs.Standing.{Tells, Stops, Refuses, StandsFor}
+use Rattle.lw_report.specs.Standing.{Tells, Stops, Refuses, StandsFor, AddsVector}
 use Rattle.lw_report.specs.Vectors.{is_vector, vector_of, first_fault}
 
 -- the number of a line that is no vector
@@ -52,6 +52,11 @@ pub bad_more : (fault : VectorFault) (inputs : ℕ) (lines : List LogicalLine) (
 bad_more (Line number) inputs lines line good refuses = fault_more inputs lines line ∙ (ap (λ o. option_or o (fault_at (is_vector inputs line) line.number)) good ∙ (ap (λ b. fault_at b line.number) refuses.0 ∙ ap (λ n. Some n) (sym refuses.1)))
 bad_more Memory inputs lines line good refuses = refuses
 
+-- want of memory is no line
+pub memory_refuses : (inputs : ℕ) (line : LogicalLine) (result : Result (Unit {0}) VectorFault) → IsErrAnd result (λ e. e ≡ Memory) → IfErr result (Refuses inputs line)
+memory_refuses inputs line (Ok u) is = tt
+memory_refuses inputs line (Err e) is = subst (Refuses inputs line) (sym is) tt
+
 -- one more vector
 pub vectors_more : (lines : List LogicalLine) (line : LogicalLine) (old new : List (List Bool)) → new ≡ old ++ vector_of line ∷ [] → old ≡ map vector_of lines → new ≡ map vector_of (lines ++ line ∷ [])
 vectors_more lines line old new more is = more ∙ (ap (λ vs. vs ++ vector_of line ∷ []) is ∙ sym (map-append vector_of lines (line ∷ [])))
@@ -77,27 +82,27 @@ stands_still vectors lines line stop is stands = record {
 
 -- A line that is taken, or refused.
 
-stop_by : (result : Result (Unit {0}) VectorFault) (inputs : ℕ) (lines : List LogicalLine) (line : LogicalLine) → first_fault inputs lines ≡ None → OnOk result (is_vector inputs line ≡ true) → IfErr result (Refuses inputs line) → Stops (result_err result) (first_fault inputs (lines ++ line ∷ []))
-stop_by (Ok u) inputs lines line good is refuses = good_more inputs lines line good is
-stop_by (Err fault) inputs lines line good is refuses = bad_more fault inputs lines line good refuses
+stop_by : (old new : Vectors) (result : Result (Unit {0}) VectorFault) (lines : List LogicalLine) (line : LogicalLine) → first_fault old.inputs lines ≡ None → OnOk result (AddsVector old.inputs old.blocks.items new.blocks.items line) → IfErr result (Refuses old.inputs line) → Stops (result_err result) (first_fault old.inputs (lines ++ line ∷ []))
+stop_by old new (Ok u) lines line good adds refuses = good_more old.inputs lines line good adds.vector
+stop_by old new (Err fault) lines line good adds refuses = bad_more fault old.inputs lines line good refuses
 
-pub taken_stands : (old new : Vectors) (lines : List LogicalLine) (line : LogicalLine) (result : Result (Unit {0}) VectorFault) → old.stop ≡ None → new.stop ≡ result_err result → new.inputs ≡ old.inputs → OnOk result (is_vector old.inputs line ≡ true) → OnOk result (vectors_in new.blocks.items ≡ vectors_in old.blocks.items ++ vector_of line ∷ []) → IfErr result (Refuses old.inputs line) → StandsFor old lines → StandsFor new (lines ++ line ∷ [])
-taken_stands old new lines line result open_still stop inputs is more refuses stands =
+pub taken_stands : (old new : Vectors) (lines : List LogicalLine) (line : LogicalLine) (result : Result (Unit {0}) VectorFault) → old.stop ≡ None → new.stop ≡ result_err result → new.inputs ≡ old.inputs → OnOk result (AddsVector old.inputs old.blocks.items new.blocks.items line) → IfErr result (Refuses old.inputs line) → StandsFor old lines → StandsFor new (lines ++ line ∷ [])
+taken_stands old new lines line result open_still stop inputs adds refuses stands =
     let good : first_fault old.inputs lines ≡ None = subst (λ o. Stops o (first_fault old.inputs lines)) open_still stands.stop in
     record {
-      stop = subst (λ o. Stops o (first_fault new.inputs (lines ++ line ∷ []))) (sym stop) (subst (λ n. Stops (result_err result) (first_fault n (lines ++ line ∷ []))) (sym inputs) (stop_by result old.inputs lines line good is refuses));
-      kept = λ none. kept_by result (sym stop ∙ none) more;
+      stop = subst (λ o. Stops o (first_fault new.inputs (lines ++ line ∷ []))) (sym stop) (subst (λ n. Stops (result_err result) (first_fault n (lines ++ line ∷ []))) (sym inputs) (stop_by old new result lines line good adds refuses));
+      kept = λ none. kept_by result (sym stop ∙ none) adds;
     }
   where
-    kept_by : (r : Result (Unit {0}) VectorFault) → result_err r ≡ None → OnOk r (vectors_in new.blocks.items ≡ vectors_in old.blocks.items ++ vector_of line ∷ []) → vectors_in new.blocks.items ≡ map vector_of (lines ++ line ∷ [])
-    kept_by (Ok u) none more = vectors_more lines line (vectors_in old.blocks.items) (vectors_in new.blocks.items) more (stands.kept open_still)
-    kept_by (Err fault) none more = some_none fault (Some fault) refl none
+    kept_by : (r : Result (Unit {0}) VectorFault) → result_err r ≡ None → OnOk r (AddsVector old.inputs old.blocks.items new.blocks.items line) → vectors_in new.blocks.items ≡ map vector_of (lines ++ line ∷ [])
+    kept_by (Ok u) none adds = vectors_more lines line (vectors_in old.blocks.items) (vectors_in new.blocks.items) adds.more (stands.kept open_still)
+    kept_by (Err fault) none adds = some_none fault (Some fault) refl none
 
-pub taken_tells : (old : Vectors) (lines : List LogicalLine) (line : LogicalLine) (result : Result (Unit {0}) VectorFault) → old.stop ≡ None → OnOk result (is_vector old.inputs line ≡ true) → IfErr result (Refuses old.inputs line) → StandsFor old lines → Tells result (first_fault old.inputs (lines ++ line ∷ []))
-taken_tells old lines line result open_still is refuses stands =
+pub taken_tells : (old new : Vectors) (lines : List LogicalLine) (line : LogicalLine) (result : Result (Unit {0}) VectorFault) → old.stop ≡ None → OnOk result (AddsVector old.inputs old.blocks.items new.blocks.items line) → IfErr result (Refuses old.inputs line) → StandsFor old lines → Tells result (first_fault old.inputs (lines ++ line ∷ []))
+taken_tells old new lines line result open_still adds refuses stands =
     let good : first_fault old.inputs lines ≡ None = subst (λ o. Stops o (first_fault old.inputs lines)) open_still stands.stop in
-    by_result result good is refuses
+    by_result result good adds refuses
   where
-    by_result : (r : Result (Unit {0}) VectorFault) → first_fault old.inputs lines ≡ None → OnOk r (is_vector old.inputs line ≡ true) → IfErr r (Refuses old.inputs line) → Tells r (first_fault old.inputs (lines ++ line ∷ []))
-    by_result (Ok u) good is refuses = good_more old.inputs lines line good is
-    by_result (Err fault) good is refuses = tells_stop fault (first_fault old.inputs (lines ++ line ∷ [])) (bad_more fault old.inputs lines line good refuses)
+    by_result : (r : Result (Unit {0}) VectorFault) → first_fault old.inputs lines ≡ None → OnOk r (AddsVector old.inputs old.blocks.items new.blocks.items line) → IfErr r (Refuses old.inputs line) → Tells r (first_fault old.inputs (lines ++ line ∷ []))
+    by_result (Ok u) good adds refuses = good_more old.inputs lines line good adds.vector
+    by_result (Err fault) good adds refuses = tells_stop fault (first_fault old.inputs (lines ++ line ∷ [])) (bad_more fault old.inputs lines line good refuses)

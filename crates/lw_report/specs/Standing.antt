@@ -1,6 +1,7 @@
 -- What a list of vectors stands for: the lines that it was given.
-use Rattle.std.specs.Prelude.{ℕ, ◌≡◌, false, List, map, Option, Some, None, Result, Ok, Err, ⊤}
+use Rattle.std.specs.Prelude.{ℕ, ◌≡◌, ◌++◌, [], ◌∷◌, true, false, List, map, Option, Some, None, IfSome, IsSome, Result, Ok, Err, ⊤}
 use Rattle.lw_words.specs.Lines.{LogicalLine}
+use Rattle.lw_report.specs.declared.block.Block.{Block}
 use Rattle.lw_report.specs.declared.fault.VectorFault.{VectorFault}
 use Rattle.lw_report.specs.declared.fault.VectorFault.TheVariants.{Line, Memory}
 use Rattle.lw_report.specs.declared.vectors.Vectors.{Vectors}
@@ -41,3 +42,14 @@ Refuses inputs line Memory = ⊤
 pub record StandsFor (vectors : Vectors) (lines : List LogicalLine) : Type 0 where
   pub stop : Stops vectors.stop (first_fault vectors.inputs lines)
   pub kept : vectors.stop ≡ None → vectors_in vectors.blocks.items ≡ map vector_of lines
+
+-- One more line was a vector, and is kept.
+pub record AddsVector (inputs : ℕ) (old new : List Block) (line : LogicalLine) : Type 0 where
+  pub vector : is_vector inputs line ≡ true
+  pub more : vectors_in new ≡ vectors_in old ++ vector_of line ∷ []
+
+-- The answer is that of each later line too. Where there was one before it is the same, and nothing changes.
+pub record KeepsStop (old new : Vectors) (result : Result (Unit {0}) VectorFault) : Type 0 where
+  pub stopped : Stopped result (stop_of new)
+  pub again : IfSome (stop_of old) (λ stop. result ≡ Err stop)
+  pub unchanged : IsSome (stop_of old) → new ≡ old

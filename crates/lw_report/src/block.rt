@@ -60,7 +60,7 @@ fn has_room(blocks: &[Block]) -> bool
 
 // Adds a block without vectors, where the last has no room.
 fn make_room(alloc: Global, blocks: &mut Vec<Block>, inputs: usize) -> Result<(), AllocError>
-    requires blocks { All (IsBlock inputs) blocks.old.items }
+    requires { All (IsBlock inputs) blocks.old.items }
     ensures blocks { All (IsBlock inputs) blocks.new.items }
     ensures room { OnOk result (HasRoom blocks.new.items) }
     ensures vectors { OnOk result (vectors_in blocks.new.items ≡ vectors_in blocks.old.items) }
@@ -79,7 +79,7 @@ pub(crate) fn add_vector(
     blocks: &mut Vec<Block>,
     digits: &[u8],
 ) -> Result<(), AllocError>
-    requires blocks { All (IsBlock (length digits.now)) blocks.old.items }
+    requires { All (IsBlock (length digits.now)) blocks.old.items }
     ensures blocks { All (IsBlock (length digits.now)) blocks.new.items }
     ensures vectors { OnOk result (vectors_in blocks.new.items ≡ vectors_in blocks.old.items
         ++ map is_one digits.now ∷ []) }

@@ -1,12 +1,12 @@
 // The values of the nets of a netlist, 64 vectors at a time.
-ghost use Rattle.std.specs.Prelude.{◌≡◌, ◌+◌, ◌<◌, ◌≤◌, ℕ, false, Some, length, take, slice_get, slice_index, slice_index_or, All};
+ghost use Rattle.std.specs.Prelude.{◌≡◌, ◌+◌, ◌<◌, ◌≤◌, ℕ, Some, length, take, slice_get, All};
 ghost use Rattle.lw_genlib.specs.Cells.{cell_value};
 ghost use Rattle.lw_genlib.specs.Words.{bit};
 ghost use Rattle.lw_netlist.specs.Filling.{gate_value};
 ghost use Rattle.lw_netlist.specs.Netlists.{IsGateAt};
 ghost use Rattle.lw_netlist.specs.Plain.{HasCell};
 ghost use Rattle.lw_report.specs.Blocks.{bits_at};
-ghost use Rattle.lw_report.specs.Reading.{words_of};
+ghost use Rattle.lw_report.specs.Reading.{words_of, FillsNets};
 ghost use Rattle.lw_pool.specs.Numbers.{values_at};
 
 use crate::totals::cell_of;
@@ -48,10 +48,7 @@ pub(crate) fn fill_gates(gates: &[Gate], lib: &Library, first: usize, nets: &mut
         IsGateAt first j gate }
     requires over { All (HasCell lib.now) gates.now }
     requires one_each { length nets.old ≡ first + length gates.now }
-    ensures inputs { (i : ℕ) → i < first → slice_index nets.new i ≡ slice_index nets.old i }
-    ensures values { (k : ℕ) → k < 64 → (j : ℕ) (gate : _) → slice_get gates.now j ≡ Some gate →
-        slice_index_or (bits_at k nets.new) (first + j) false
-        ≡ gate_value lib.now (bits_at k nets.new) gate }
+    ensures { FillsNets (gate_value lib.now) gates.now first nets.old nets.new }
 {
     for (j, gate) in gates.iter().enumerate() {
         nets[first + j] = cell_word(cell_of(lib, gate), gate.pins.as_slice(), nets);

@@ -1,5 +1,5 @@
 // The values of the nets of a network, 64 vectors at a time.
-ghost use Rattle.std.specs.Prelude.{◌≡◌, ◌+◌, ◌<◌, ℕ, false, Some, length, map, slice_get, slice_index, slice_index_or, All};
+ghost use Rattle.std.specs.Prelude.{◌≡◌, ◌+◌, ◌<◌, ℕ, Some, length, map, slice_get, All};
 ghost use Rattle.std.specs.List.{list_any};
 ghost use Rattle.lw_laws.specs.Networks.{row_value, node_value};
 ghost use Rattle.lw_net.specs.Networks.{IsNodeAt};
@@ -7,6 +7,7 @@ ghost use Rattle.lw_net.specs.Plain.{plain_node};
 ghost use Rattle.lw_net.specs.Signs.{asked, met_by};
 ghost use Rattle.lw_genlib.specs.Words.{bit};
 ghost use Rattle.lw_report.specs.Blocks.{bits_at};
+ghost use Rattle.lw_report.specs.Reading.{FillsNets};
 ghost use Rattle.lw_pool.specs.Numbers.{values_at};
 
 use lw_net::{Cube, Node};
@@ -68,10 +69,8 @@ pub(crate) fn fill_nodes(nodes: &[Node], first: usize, nets: &mut [u64])
     requires nodes { (j : ℕ) (node : _) → slice_get nodes.now j ≡ Some node →
         IsNodeAt first j node }
     requires one_each { length nets.old ≡ first + length nodes.now }
-    ensures inputs { (i : ℕ) → i < first → slice_index nets.new i ≡ slice_index nets.old i }
-    ensures values { (k : ℕ) → k < 64 → (j : ℕ) (node : _) → slice_get nodes.now j ≡ Some node →
-        slice_index_or (bits_at k nets.new) (first + j) false
-        ≡ node_value (bits_at k nets.new) (plain_node node) }
+    ensures { FillsNets (λ values node. node_value values (plain_node node)) nodes.now first
+        nets.old nets.new }
 {
     for (j, node) in nodes.iter().enumerate() {
         nets[first + j] = node_word(node, nets);

@@ -1,16 +1,13 @@
 // The critical path.
-ghost use Rattle.std.specs.Prelude.{◌≡◌, ◌≢◌, ◌+◌, ◌^◌, ◌<◌, ◌≤◌, [], ℕ, length, map, reverse, slice_get, Some, All, IfOk, IfSome, IfNone};
-ghost use Rattle.lw_laws.specs.Covers.{latest};
-ghost use Rattle.lw_genlib.specs.Cells.{IsListed};
+ghost use Rattle.std.specs.Prelude.{◌≡◌, ◌≢◌, ◌+◌, ◌<◌, [], ℕ, length, map, reverse, slice_get, Some, All, IfOk, IfSome, IfNone};
 ghost use Rattle.lw_genlib.specs.Tables.{millionths, cell_delays};
 ghost use Rattle.lw_netlist.specs.Closing.{greatest};
-ghost use Rattle.lw_netlist.specs.Plain.{IsOver};
-ghost use Rattle.lw_report.specs.Made.{AreArrivalsFor};
-ghost use Rattle.lw_report.specs.Pathways.{IsLinkTo};
+ghost use Rattle.lw_report.specs.Made.{IsTimed};
+ghost use Rattle.lw_report.specs.Pathways.{IsLinkTo, IsTimedCell};
 ghost use Rattle.lw_report.specs.Timings.{pin_arrivals, port_arrival, output_arrivals, IsCriticalPin, IsPathTo, IsFirstAt, IsCriticalPath};
 
 use crate::Step;
-use crate::totals::cell_of;
+use crate::totals::{cell_of, gate_numbered};
 use lw_fixed::Micro;
 use lw_genlib::{Cell, Library};
 use lw_netlist::{Netlist, Port};
@@ -26,12 +23,7 @@ pub(crate) struct Link {
 
 // The first pin by which a cell arrives when it does. There is none where it has no pins.
 fn critical_pin(cell: &Cell, pins: &[NetId], arrivals: &[Micro], arrival: Micro) -> Option<u8>
-    requires listed { IsListed cell.now }
-    requires one_each { length pins.now ≡ length cell.now.pins }
-    requires known { All (λ net. net.0 < length arrivals.now) pins.now }
-    requires low { All (λ net. net.0 < 2 ^ 63) arrivals.now }
-    requires arrives { arrival.0 ≡ latest (cell_delays cell.now)
-        (pin_arrivals (map millionths arrivals.now) pins.now) }
+    requires { IsTimedCell cell.now pins.now arrivals.now arrival.0 }
     ensures some { IfSome result (IsCriticalPin (cell_delays cell.now)
         (pin_arrivals (map millionths arrivals.now) pins.now) arrival.0) }
     ensures none { IfNone result (pins.now ≡ []) }
@@ -46,14 +38,12 @@ fn critical_pin(cell: &Cell, pins: &[NetId], arrivals: &[Micro], arrival: Micro)
 
 // The last step of the critical path to the net that a gate drives, and the net before it.
 fn link_to(netlist: &Netlist, lib: &Library, arrivals: &[Micro], j: u32) -> Link
-    requires over { IsOver lib.now netlist.now }
-    requires arrivals { AreArrivalsFor lib.now netlist.now (map millionths arrivals.now) }
-    requires low { All (λ net. net.0 < 2 ^ 63) arrivals.now }
+    requires timed { IsTimed lib.now netlist.now arrivals.now }
     requires gate { j < length netlist.now.gates }
     ensures { IsLinkTo lib.now netlist.now (map millionths arrivals.now)
         (netlist.now.inputs + j) result }
 {
-    let gate = &netlist.gates()[j as usize];
+    let gate = gate_numbered(netlist, j);
     let pins = gate.pins.as_slice();
     let arrival = arrivals[netlist.inputs() as usize + j as usize];
     match critical_pin(cell_of(lib, gate), pins, arrivals, arrival) {
@@ -79,9 +69,7 @@ fn path_back(
     arrivals: &[Micro],
     end: NetId,
 ) -> Result<Vec<Step>, AllocError>
-    requires over { IsOver lib.now netlist.now }
-    requires arrivals { AreArrivalsFor lib.now netlist.now (map millionths arrivals.now) }
-    requires low { All (λ net. net.0 < 2 ^ 63) arrivals.now }
+    requires timed { IsTimed lib.now netlist.now arrivals.now }
     requires end { end.0 < length netlist.now.names }
     ensures { IfOk result (λ path. IsPathTo lib.now netlist.now (map millionths arrivals.now) end.0
         (reverse path.items)) }
@@ -126,9 +114,7 @@ pub(crate) fn critical_path(
     arrivals: &[Micro],
     latest: Micro,
 ) -> Result<Vec<Step>, AllocError>
-    requires over { IsOver lib.now netlist.now }
-    requires arrivals { AreArrivalsFor lib.now netlist.now (map millionths arrivals.now) }
-    requires low { All (λ net. net.0 < 2 ^ 63) arrivals.now }
+    requires timed { IsTimed lib.now netlist.now arrivals.now }
     requires latest { latest.0 ≡ greatest
         (output_arrivals netlist.now (map millionths arrivals.now)) }
     ensures { IfOk result (λ path. IsCriticalPath lib.now netlist.now

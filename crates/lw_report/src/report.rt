@@ -10,7 +10,7 @@ ghost use Rattle.lw_report.specs.Timings.{arrival_line, summary_text, cell_step_
 
 use crate::Step;
 use crate::lines::{put_last, put_word};
-use crate::totals::cell_of;
+use crate::totals::{cell_of, gate_numbered};
 use lw_fixed::Micro;
 use lw_genlib::{Cell, Library};
 use lw_io::{Sink, Waiting, put};
@@ -107,7 +107,7 @@ fn put_step<S: Sink>(
         (S.faults sink.new) waiting.new
         (step_line lib.now netlist.now (map millionths arrivals.now) step) }
 {
-    let gate = &netlist.gates()[step.gate as usize];
+    let gate = gate_numbered(netlist, step.gate);
     let net = gate.out.0 as usize;
     let name = netlist.names()[net].as_bytes();
     put_cell_step(

@@ -1,15 +1,11 @@
 // Simulation.
-ghost use Rattle.std.specs.Prelude.{◌≡◌, ◌≤◌, None, List, map, length, take, All, IfOk};
-ghost use Rattle.lw_io.specs.Causes.{HasCause};
-ghost use Rattle.lw_words.specs.Lines.{LogicalLine};
+ghost use Rattle.std.specs.Prelude.{◌≡◌, ◌≤◌, length, take, All, IfOk};
 ghost use Rattle.lw_netlist.specs.Plain.{IsOver};
 ghost use Rattle.lw_report.specs.Blocks.{IsBlock, block_vectors, vectors_in};
-ghost use Rattle.lw_report.specs.Made.{places_of};
+ghost use Rattle.lw_report.specs.Made.{CanSimulate, places_of};
 ghost use Rattle.lw_report.specs.Puts.{PutsLines};
 ghost use Rattle.lw_report.specs.Simulated.{IsNetworkLine, IsNetlistLine, IsNetworkSimulation, IsNetlistSimulation};
-ghost use Rattle.lw_report.specs.Standing.{StandsFor, inputs_of, stop_of};
-ghost use Rattle.lw_report.specs.Texts.{Writes};
-ghost use Rattle.lw_report.specs.Vectors.{vector_of};
+ghost use Rattle.lw_report.specs.Texts.{WritesValues};
 
 use crate::Vectors;
 use crate::block::Block;
@@ -53,13 +49,9 @@ impl Sim {
         vectors: &Vectors,
         sink: &mut S,
     ) -> Result<(), Failed>
-        requires made { places_of self.old ≡ length net.now.names }
-        requires inputs { inputs_of vectors.now ≡ net.now.inputs }
-        requires good { stop_of vectors.now ≡ None }
-        ensures text { (lines : List LogicalLine) → StandsFor vectors.now lines →
-            Writes (IsNetworkSimulation net.now (map vector_of lines)) (S.taken sink.old)
-            (S.taken sink.new) result }
-        ensures cause { HasCause (S.faults sink.old) (S.faults sink.new) result }
+        requires { CanSimulate self.old vectors.now (length net.now.names) net.now.inputs }
+        ensures values { WritesValues (IsNetworkSimulation net.now) vectors.now (S.taken sink.old)
+            (S.faults sink.old) (S.taken sink.new) (S.faults sink.new) result }
         ensures made { places_of self.new ≡ places_of self.old }
     {
         let mut waiting = Waiting::new();
@@ -75,14 +67,11 @@ impl Sim {
         vectors: &Vectors,
         sink: &mut S,
     ) -> Result<(), Failed>
-        requires made { places_of self.old ≡ length netlist.now.names }
         requires over { IsOver lib.now netlist.now }
-        requires inputs { inputs_of vectors.now ≡ netlist.now.inputs }
-        requires good { stop_of vectors.now ≡ None }
-        ensures text { (lines : List LogicalLine) → StandsFor vectors.now lines →
-            Writes (IsNetlistSimulation lib.now netlist.now (map vector_of lines))
-            (S.taken sink.old) (S.taken sink.new) result }
-        ensures cause { HasCause (S.faults sink.old) (S.faults sink.new) result }
+        requires fits { CanSimulate self.old vectors.now (length netlist.now.names)
+            netlist.now.inputs }
+        ensures values { WritesValues (IsNetlistSimulation lib.now netlist.now) vectors.now
+            (S.taken sink.old) (S.faults sink.old) (S.taken sink.new) (S.faults sink.new) result }
         ensures made { places_of self.new ≡ places_of self.old }
     {
         let mut waiting = Waiting::new();

@@ -1,14 +1,10 @@
 // The timing of a netlist.
-ghost use Rattle.std.specs.Prelude.{◌≡◌, ◌≤◌, ◌^◌, ◌<◌, length, map, vec_len, All, IfOk, OnOk, OnErr};
-ghost use Rattle.std.specs.Io.KnownBytes.{Appends};
-ghost use Rattle.lw_io.specs.Causes.{HasCause};
-ghost use Rattle.lw_io.specs.Moves.{AppendsPrefix};
-ghost use Rattle.lw_io.specs.Waitings.{Puts};
-ghost use Rattle.lw_laws.specs.Netlists.{AreArrivals};
+ghost use Rattle.std.specs.Prelude.{◌≡◌, ◌≤◌, length, All, IfOk};
+ghost use Rattle.lw_io.specs.Waitings.{Puts, IsTaken};
 ghost use Rattle.lw_genlib.specs.Cells.{IsSmall};
-ghost use Rattle.lw_genlib.specs.Tables.{millionths, timing_of};
 ghost use Rattle.lw_netlist.specs.Netlists.{most_gates};
-ghost use Rattle.lw_netlist.specs.Plain.{plain, IsOver};
+ghost use Rattle.lw_netlist.specs.Plain.{IsOver};
+ghost use Rattle.lw_report.specs.Made.{CanBeTimed, HasTimes};
 
 use crate::Step;
 use crate::path::critical_path;
@@ -48,15 +44,9 @@ fn arrivals_of(
     lib: &Library,
     starts: &Micros,
 ) -> Result<Vec<Micro>, AllocError>
-    requires over { IsOver lib.now netlist.now }
-    requires one_start { length starts.now ≡ netlist.now.inputs }
-    requires small { All IsSmall starts.now }
-    requires few { length netlist.now.gates ≤ most_gates }
-    ensures arrivals { IfOk result
-        (λ arrivals. AreArrivals (timing_of lib.now starts.now) (plain netlist.now)
-        (map millionths arrivals.items)) }
-    ensures low { IfOk result (λ arrivals. All (λ net. net.0 < 2 ^ 63) arrivals.items) }
-    ensures len { IfOk result (λ arrivals. vec_len arrivals ≡ length netlist.now.names) }
+    requires { CanBeTimed lib.now netlist.now starts.now }
+    ensures { IfOk result
+        (λ arrivals. HasTimes lib.now netlist.now starts.now arrivals.items) }
 {
     let mut arrivals = vec![in alloc; Micro(0); netlist.names().len()]?;
     netlist.arrivals(lib, starts, &mut arrivals);
@@ -108,11 +98,8 @@ impl Timing {
     ) -> Result<(), Failed>
         requires over { IsOver lib.now netlist.now }
         requires made { IsTimingFor lib.now netlist.now self.now }
-        ensures ok { OnOk result (Appends (S.taken sink.old) (S.taken sink.new)
-            (timing_text lib.now netlist.now self.now)) }
-        ensures failed { OnErr result (AppendsPrefix (S.taken sink.old) (S.taken sink.new)
-            (timing_text lib.now netlist.now self.now)) }
-        ensures cause { HasCause (S.faults sink.old) (S.faults sink.new) result }
+        ensures { IsTaken (S.taken sink.old) (S.faults sink.old) (S.taken sink.new)
+            (S.faults sink.new) (timing_text lib.now netlist.now self.now) result }
     {
         let mut waiting = Waiting::new();
         self.put_report(sink, &mut waiting, netlist, lib);

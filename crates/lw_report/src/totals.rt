@@ -1,16 +1,25 @@
-// The greatest arrival of an output, and the area of the gates.
+// Gates and their cells, the greatest arrival of an output, and the area of the gates.
 ghost use Rattle.std.specs.Prelude.{◌≡◌, ◌<◌, ◌≤◌, Some, max, map, length, slice_get, All};
 ghost use Rattle.lw_genlib.specs.Cells.{IsListed};
 ghost use Rattle.lw_genlib.specs.Tables.{millionths};
 ghost use Rattle.lw_netlist.specs.Closing.{greatest};
-ghost use Rattle.lw_netlist.specs.Netlists.{most_gates};
+ghost use Rattle.lw_netlist.specs.Netlists.{IsNetlist, most_gates};
 ghost use Rattle.lw_netlist.specs.Plain.{HasCell};
 ghost use Rattle.lw_report.specs.Timings as report;
 ghost use Rattle.lw_report.specs.Timings.{port_arrival};
 
 use lw_fixed::Micro;
 use lw_genlib::{Cell, Library};
-use lw_netlist::{Gate, Port};
+use lw_netlist::{Gate, Netlist, Port};
+
+// The gate with this number.
+pub(crate) fn gate_numbered(netlist: &Netlist, number: u32) -> &Gate
+    requires { number < length netlist.now.gates }
+    ensures at { slice_get netlist.now.gates number ≡ Some result.now }
+    ensures kept { IsNetlist netlist.now }
+{
+    &netlist.gates()[number as usize]
+}
 
 // The cell of a gate.
 pub(crate) fn cell_of<'a>(lib: &'a Library, gate: &Gate) -> &'a Cell

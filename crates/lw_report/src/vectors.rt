@@ -1,8 +1,8 @@
 // Lists of vectors, line by line.
-ghost use Rattle.std.specs.Prelude.{◌≡◌, ◌++◌, [], ◌∷◌, List, true, None, Err, OnOk, IfErr, IfSome, IsSome, All};
+ghost use Rattle.std.specs.Prelude.{◌≡◌, ◌++◌, [], ◌∷◌, List, None, OnOk, IfErr, All};
 ghost use Rattle.std.specs.List.{flat_map, list_all};
-ghost use Rattle.lw_report.specs.Blocks.{IsBlock, vectors_in};
-ghost use Rattle.lw_report.specs.Vectors.{is_digit, is_vector, vector_of};
+ghost use Rattle.lw_report.specs.Blocks.{IsBlock};
+ghost use Rattle.lw_report.specs.Vectors.{is_digit};
 
 use crate::VectorFault;
 use crate::block::{Block, add_vector};
@@ -43,7 +43,7 @@ fn are_digits(bytes: &[u8]) -> bool
 impl Vectors {
     ghost use Rattle.lw_words.specs.Lines.{LogicalLine};
     ghost use Rattle.lw_report.specs.Vectors.{first_fault};
-    ghost use Rattle.lw_report.specs.Standing.{StandsFor, Tells, Stopped, Refuses, inputs_of, stop_of};
+    ghost use Rattle.lw_report.specs.Standing.{StandsFor, Tells, Refuses, AddsVector, KeepsStop, inputs_of, stop_of};
 
     /// No vectors, for so many inputs.
     pub fn new(alloc: Global, inputs: u32) -> Self
@@ -67,9 +67,7 @@ impl Vectors {
             StandsFor self.new (lines ++ line.now ∷ []) }
         ensures answer { (lines : List LogicalLine) → StandsFor self.old lines →
             Tells result (first_fault (inputs_of self.old) (lines ++ line.now ∷ [])) }
-        ensures stopped { Stopped result (stop_of self.new) }
-        ensures again { IfSome (stop_of self.old) (λ stop. result ≡ Err stop) }
-        ensures unchanged { IsSome (stop_of self.old) → self.new ≡ self.old }
+        ensures stop { KeepsStop self.old self.new result }
         ensures inputs { inputs_of self.new ≡ inputs_of self.old }
     {
         if let Some(stop) = self.stop {
@@ -97,9 +95,8 @@ impl Vectors {
 
     // Takes the vector of a line.
     fn take(&mut self, line: &Line) -> Result<(), VectorFault>
-        ensures vector { OnOk result (is_vector self.old.inputs line.now ≡ true) }
-        ensures vectors { OnOk result (vectors_in self.new.blocks.items
-            ≡ vectors_in self.old.blocks.items ++ vector_of line.now ∷ []) }
+        ensures ok { OnOk result (AddsVector self.old.inputs self.old.blocks.items
+            self.new.blocks.items line.now) }
         ensures fault { IfErr result (Refuses self.old.inputs line.now) }
         ensures inputs { self.new.inputs ≡ self.old.inputs }
         ensures stop { self.new.stop ≡ self.old.stop }

@@ -9,6 +9,9 @@ use Rattle.lw_report.proofs.sim.put_network.Goals as goal
 pub loop-block-init : goal.loop-block-init
 loop-block-init g c = record { puts = puts_lines_none; length = refl }
 
+pub put_network_block-requires-clause-made : goal.put_network_block-requires-clause-made
+put_network_block-requires-clause-made g c = c.loop-block.invariant.length ∙ c.requires.made
+
 pub loop-block-preserved : goal.loop-block-preserved
 loop-block-preserved g c =
     let next = subst (λ (b : Block). PutsLines (IsNetworkLine c.args.net.now) (block_vectors b) (g.S.Sink.taken c.loop-block.sink) (g.S.Sink.faults c.loop-block.sink) c.loop-block.waiting (g.S.Sink.taken c.put_network_block.new.sink) (g.S.Sink.faults c.put_network_block.new.sink) c.put_network_block.new.waiting) c.block-item.is c.put_network_block.ensures in

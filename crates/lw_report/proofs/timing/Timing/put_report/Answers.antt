@@ -1,4 +1,4 @@
-use Rattle.std.proofs.Common.{List, All, map, sym, subst}
+use Rattle.std.proofs.Common.{◌<◌, ◌∙◌, List, All, length, map, sym, ap, subst}
 use Rattle.std.specs.List.{flat_map}
 use Rattle.lw_fixed.specs.declared.micro.Micro.{Micro}
 use Rattle.lw_genlib.specs.Tables.{millionths}
@@ -6,10 +6,30 @@ use Rattle.lw_netlist.specs.declared.gate.Port.{Port}
 use Rattle.lw_io.specs.Waitings.{Puts}
 use Rattle.lw_io.proofs.Putting.{Puts-both}
 use Rattle.lw_report.specs.declared.step.Step.{Step}
-use Rattle.lw_report.specs.Made.{IsStepIn}
+use Rattle.lw_report.specs.Made.{AreArrivalsFor, IsStepIn}
 use Rattle.lw_report.specs.Timings.{TimingParts, summary_text, step_line, timing_text}
-use Rattle.lw_report.proofs.PathLemmas.{path_steps_in}
+use Rattle.lw_report.proofs.PathLemmas.{arrivals_count, path_steps_in}
 use Rattle.lw_report.proofs.timing.Timing.put_report.Goals as goal
+
+pub put_summary-requires : goal.put_summary-requires
+put_summary-requires g c =
+    let n = c.args.netlist.now in
+    let made = c.requires.made in
+    let are = subst (λ (t : TimingParts). AreArrivalsFor c.args.lib.now n t.arrivals) (sym c.self.view_is) (made.0, made.1.arrivals) in
+    let kept = c.outputs.ensures.kept in
+    let size = ap (λ (ms : List Micro). length ms) c.deref.ensures.value ∙ (arrivals_count c.args.lib.now n c.self.inside.arrivals.items are ∙ sym kept.named) in
+    let known = subst (λ m. All (λ (p : Port). p.net.0 < m) n.outputs) (sym size) kept.outputs in
+    subst (All (λ (p : Port). p.net.0 < length c.deref.result.now)) (sym c.outputs.ensures.outputs) known
+
+pub put_steps-requires-clause-over : goal.put_steps-requires-clause-over
+put_steps-requires-clause-over g c = c.requires.over
+
+pub put_steps-requires-clause-one_each : goal.put_steps-requires-clause-one_each
+put_steps-requires-clause-one_each g c =
+    let n = c.args.netlist.now in
+    let made = c.requires.made in
+    let are = subst (λ (t : TimingParts). AreArrivalsFor c.args.lib.now n t.arrivals) (sym c.self.view_is) (made.0, made.1.arrivals) in
+    ap (λ (ms : List Micro). length ms) c.deref-2.ensures.value ∙ (arrivals_count c.args.lib.now n c.self.inside.arrivals.items are ∙ sym c.outputs.ensures.kept.named)
 
 pub put_steps-requires-clause-steps : goal.put_steps-requires-clause-steps
 put_steps-requires-clause-steps g c =

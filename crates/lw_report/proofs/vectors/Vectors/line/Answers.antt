@@ -12,9 +12,9 @@ returns-in-Some-clause-answer c = λ lines stands. tells_stop c.in-Some.stop (fi
 pub returns-clause-stands : goal.returns-clause-stands
 returns-clause-stands c = λ lines stands.
     let t = c.take-result.ensures in
-    taken_stands c.args.self.now _ lines c.args.line.now c.take-result.result c.in_default.is (c.err-self.ensures.value) t.inputs t.vector t.vectors t.fault stands
+    taken_stands c.args.self.now _ lines c.args.line.now c.take-result.result c.in_default.is (c.err-self.ensures.value) t.inputs t.ok t.fault stands
 
 pub returns-clause-answer : goal.returns-clause-answer
 returns-clause-answer c = λ lines stands.
     let t = c.take-result.ensures in
-    taken_tells c.args.self.now lines c.args.line.now c.take-result.result c.in_default.is t.vector t.fault stands
+    taken_tells c.args.self.now c.take-result.new.self lines c.args.line.now c.take-result.result c.in_default.is t.ok t.fault stands
