@@ -1,6 +1,5 @@
 use Rattle.std.proofs.Common.{◌*◌, ◌+◌, length, refl}
 use Rattle.lw_form.proofs.ListedForms.{on_failed}
-use Rattle.lw_assoc.specs.Drafting.{AddsNands}
 use Rattle.lw_assoc.proofs.Drafts.{bases_with_nands}
 use Rattle.lw_assoc.proofs.Overlapping.{inverters_added, nands_by_inverter}
 use Rattle.lw_assoc.proofs.overlaps.add_inverters.Goals as goal
