@@ -133,7 +133,7 @@ pub record IsRowRenewed (g : Graph) (old : Reading) (parts : List Part) (new : L
   pub others : AreRowsBut (length parts) old.starts (λ d. d ≡ c) old.numbers new
 
 -- a table of these patterns and this graph, with a mark or none for each class, and so many times
-pub record IsTimed (b : BoundsState) (times : ℕ) (pats : List Pattern) (g : Graph) (marks : List (Option Mark)) : Type 0 where
+pub record IsTableWithTimes (b : BoundsState) (times : ℕ) (pats : List Pattern) (g : Graph) (marks : List (Option Mark)) : Type 0 where
   pub one_each : length marks ≡ length g.pairs
   pub times_are : times ≡ length g.pairs
   pub fit : BoundsFit b pats g

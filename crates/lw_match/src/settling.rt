@@ -1,6 +1,6 @@
 // Tables of marks that do not change any more.
 ghost use Rattle.std.specs.Prelude.{◌≡◌, ◌<◌, ℕ, IfOk, IsTrue, IsFalse, length};
-ghost use Rattle.lw_match.specs.Bounds.{BoundsFit, AreSettledAt, AreBounds, IsTableAfter, IsTimed, bounds_weight};
+ghost use Rattle.lw_match.specs.Bounds.{BoundsFit, AreSettledAt, AreBounds, IsTableAfter, IsTableWithTimes, bounds_weight};
 ghost use Rattle.lw_match.specs.Least.{AreOfCells};
 
 use crate::renewing::either;
@@ -23,8 +23,8 @@ fn renew_class(
     whole: bool,
 ) -> bool
     requires class { class.0 < length graph.now.pairs }
-    requires timed { IsTimed bounds.old times.old pats.now graph.now marks.now }
-    ensures timed { IsTimed bounds.new times.new pats.now graph.now marks.now }
+    requires timed { IsTableWithTimes bounds.old times.old pats.now graph.now marks.now }
+    ensures timed { IsTableWithTimes bounds.new times.new pats.now graph.now marks.now }
     ensures after { IsTableAfter bounds.old bounds.new result }
     ensures settled { IsTrue whole → IsFalse result →
         AreSettledAt bounds.old graph.now marks.now class.0 }
@@ -47,8 +47,8 @@ fn renew_round(
     marks: &[Option<Mark>],
     whole: bool,
 ) -> bool
-    requires timed { IsTimed bounds.old times.old pats.now graph.now marks.now }
-    ensures timed { IsTimed bounds.new times.new pats.now graph.now marks.now }
+    requires timed { IsTableWithTimes bounds.old times.old pats.now graph.now marks.now }
+    ensures timed { IsTableWithTimes bounds.new times.new pats.now graph.now marks.now }
     ensures after { IsTableAfter bounds.old bounds.new result }
     ensures settled { IsTrue whole → IsFalse result → (c : ℕ) → c < length graph.now.pairs →
         AreSettledAt bounds.new graph.now marks.now c }
@@ -73,8 +73,8 @@ fn renew_rounds(
     pats: &Patterns,
     marks: &[Option<Mark>],
 ) -> bool
-    requires timed { IsTimed bounds.old times.old pats.now graph.now marks.now }
-    ensures timed { IsTimed bounds.new times.new pats.now graph.now marks.now }
+    requires timed { IsTableWithTimes bounds.old times.old pats.now graph.now marks.now }
+    ensures timed { IsTableWithTimes bounds.new times.new pats.now graph.now marks.now }
     ensures falls { IsTrue result → bounds_weight bounds.new < bounds_weight bounds.old }
     ensures settled { IsFalse result → (c : ℕ) → c < length graph.now.pairs →
         AreSettledAt bounds.new graph.now marks.now c }

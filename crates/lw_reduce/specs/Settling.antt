@@ -69,7 +69,7 @@ pub record CanUnifyAt (nands : List Fact) (links : List Link) (reps : List ℕ) 
   pub within : place < length facts
 
 -- one round: what it gives follows from the facts, and where nothing changed, the representatives are settled
-pub record IsOutcome (n : ℕ) (nands : List Fact) (links : List Link) (old new : List ℕ) (r : RoundOutcome) : Type 0 where
+pub record IsRoundOutcome (n : ℕ) (nands : List Fact) (links : List Link) (old new : List ℕ) (r : RoundOutcome) : Type 0 where
   pub progress : Progresses n nands links old new r.changed
   pub canonical : All (IsImplied n nands links) r.canonical.items
   pub settled : IsFalse r.changed → IsSettled n nands links new r.canonical.items

@@ -2,7 +2,7 @@
 ghost use Rattle.std.specs.Prelude.{◌≡◌, ◌^◌, ◌<◌, ◌≤◌, ℕ, length, map, All, IfOk, OnOk, IsTrue};
 ghost use Rattle.std.specs.List.Sorted.{IsNonDecreasingBy, IsPermutation};
 ghost use Rattle.lw_reduce.specs.Representatives.{AreRepresentatives, IsFactIn, LinkAgrees, Unifies};
-ghost use Rattle.lw_reduce.specs.Settling.{AgreesAt, AreSettled, CanUnifyAt, IsImplied, IsOutcome, fact_key, canonical_fact};
+ghost use Rattle.lw_reduce.specs.Settling.{AgreesAt, AreSettled, CanUnifyAt, IsImplied, IsRoundOutcome, fact_key, canonical_fact};
 
 use crate::distinct_operands::have_distinct_operands;
 use crate::facts::{Fact, Link};
@@ -125,7 +125,7 @@ fn run_round(
     links: &[Link],
 ) -> Result<RoundOutcome, AllocError>
     requires { AreRepresentatives (length reps.old) nands.now links.now reps.old }
-    ensures { IfOk result (IsOutcome (length reps.old) nands.now links.now reps.old reps.new) }
+    ensures { IfOk result (IsRoundOutcome (length reps.old) nands.now links.now reps.old reps.new) }
 {
     flatten(reps, nands, links);
     let linked = unify_linked(reps, nands, links);
