@@ -106,7 +106,7 @@ module _ (old new : Queued) (time n : ℕ) (within : time ≤ old.horizon) (take
 
 -- What comes with groups.
 
-module _ (s : Task) (choices : List Choice) (u : Uses) (now class : ℕ) (coming coming' looked : Queued) (are : AreUses s choices u) (added : AreGroupsAdded u.links.classes u.delays.items class now coming coming') where
+module _ (s : Task) (choices : List Choice) (u : Uses) (now class : ℕ) (coming coming' looked : Queued) (are : AreUses s.cells choices u) (added : AreGroupsAdded u.links.classes u.delays.items class now coming coming') where
   pub groups_more : (t n : ℕ) → Comes (turns_of u coming looked) t n → Comes (turns_of u coming' looked) t n
   groups_more t n (inl waits) = inl waits
   groups_more t n (inr (j, g, jt, nt, waits)) = inr (j, g, jt, nt, added.kept t g waits)

@@ -1,5 +1,5 @@
 -- Settled points, row by row, are the curves.
-use Rattle.std.proofs.Common.{◌≡◌, ℕ, ◌+◌, ◌<◌, ◌≤◌, length, List, Contains, Some, slice_get, Result, Ok, Err, IfErr, IsErrAnd, refl, sym, ◌∙◌, subst, arith}
+use Rattle.std.proofs.Common.{◌≡◌, ℕ, ◌+◌, ◌<◌, ◌≤◌, length, List, Contains, Some, slice_get, Result, Ok, Err, IfErr, OnOk, IsErrAnd, refl, sym, ◌∙◌, subst, arith}
 use Rattle.lw_graph.specs.Graphs.{IsGraph}
 use Rattle.lw_laws.specs.Covers.{ArePatterns, time_of}
 use Rattle.lw_trade.specs.declared.point.Point.{Point}
@@ -66,3 +66,12 @@ err_is P (Err f) e same p = subst P (sym same) p
 pub why_stopped : (s : Task) → IsGraph s.graph → (choices : List Choice) → AreListedChoices s choices → ArePatterns (area_cost s.cells).pin_counts s.patterns → (horizon : ℕ) (fault : CurveFault) → IsStop s choices horizon fault → IsWhy s horizon fault
 why_stopped s is_graph choices are patterns horizon Limit have = too_many s is_graph choices are patterns horizon have
 why_stopped s is_graph choices are patterns horizon Memory have = tt
+
+-- what a last call answers, by cases
+pub on_ok_by : {E : Type 0} (P : Type 0) (r : Result (Unit {0}) E) → ((u : Unit {0}) → r ≡ Ok u → P) → OnOk r P
+on_ok_by P (Ok u) f = f u refl
+on_ok_by P (Err e) f = tt
+
+pub if_err_by : {T : Type 0} (P : CurveFault → Type 0) (r : Result T CurveFault) → ((e : CurveFault) → r ≡ Err e → P e) → IfErr r P
+if_err_by P (Ok x) f = tt
+if_err_by P (Err e) f = f e refl

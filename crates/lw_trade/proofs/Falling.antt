@@ -6,13 +6,13 @@ use Rattle.std.proofs.lemmas.Option.{same_Some, slice_get_within}
 use Rattle.lw_facts.proofs.Lists.{index_at}
 use Rattle.lw_laws.specs.Covers.{delays_of}
 use Rattle.lw_genlib.specs.Cells.{CellParts}
+use Rattle.lw_genlib.specs.Tables.{delays_of_cells}
 use Rattle.lw_trade.specs.declared.choices.Row.{Row}
 use Rattle.lw_trade.specs.declared.tallies.Tally.{Tally}
 use Rattle.lw_trade.specs.declared.uses.Uses.{Uses}
 use Rattle.lw_trade.specs.Choices.{Part, Choice}
 use Rattle.lw_trade.specs.Choices.Part.{input, gate}
 use Rattle.lw_trade.specs.Looks.{AreMembersListed, IsBetween}
-use Rattle.lw_trade.specs.Points.{Task, timing}
 use Rattle.lw_trade.specs.Rows.{plain_row, plain_rows}
 use Rattle.lw_trade.specs.Seen.{seen_at, sum_seen}
 use Rattle.lw_trade.specs.Tallies.{AreFirstTallies, AreTallies, HasFallen, IsFirstTally, IsLowered, bound_of, first_of, own_area, pin_count, unseen}
@@ -29,24 +29,24 @@ use_place u n i d p its =
     let same : first_of u n ≡ its.first = index_at u.firsts.items n its.first its.first_at in
     its.place_is ∙ ap (λ f. f + i) (sym same)
 
-pub uses_of : (s : Task) (choices : List Choice) (u : Uses) → AreUses s choices u → (n class cell : ℕ) (ps : List ℕ) → slice_get choices n ≡ Some (record { class = class; part = gate cell ps }) → HaveUses u n 0 (delays_of (timing s).delays cell) ps
-uses_of s choices u are n class cell ps at j p pt =
+pub uses_of : (cells : List CellParts) (choices : List Choice) (u : Uses) → AreUses cells choices u → (n class cell : ℕ) (ps : List ℕ) → slice_get choices n ≡ Some (record { class = class; part = gate cell ps }) → HaveUses u n 0 (delays_of (delays_of_cells cells) cell) ps
+uses_of cells choices u are n class cell ps at j p pt =
     let x : Choice = record { class = class; part = gate cell ps } in
     let e : j ≡ 0 + j = omega arith in
-    subst (λ m. HasUse u n m (slice_index_or (delays_of (timing s).delays cell) j 0) p) e (are.pins.all n j p x (inl (slice_get_within choices n x at)) at pt)
+    subst (λ m. HasUse u n m (slice_index_or (delays_of (delays_of_cells cells) cell) j 0) p) e (are.pins.all n j p x (inl (slice_get_within choices n x at)) at pt)
 
 -- the pins of a choice from its first one on are its own, each in a group
 abbrev pub AreOwn : Uses → ℕ → ℕ → Type 0
 AreOwn u n count =
     (i : ℕ) → i < count → (slice_get u.owners.items (first_of u n + i) ≡ Some n) × (group : ℕ) × (slice_get u.members.classes (first_of u n + i) ≡ Some group) × (group < u.members.count)
 
-pub pins_own : (s : Task) (choices : List Choice) (u : Uses) → AreUses s choices u → (n class : ℕ) (part : Part) → slice_get choices n ≡ Some (record { class = class; part = part }) → AreOwn u n (pin_count part)
-pins_own s choices u are n class (input k) at i lt = absurd (omega (arith, lt))
-pins_own s choices u are n class (gate cell ps) at i lt =
+pub pins_own : (cells : List CellParts) (choices : List Choice) (u : Uses) → AreUses cells choices u → (n class : ℕ) (part : Part) → slice_get choices n ≡ Some (record { class = class; part = part }) → AreOwn u n (pin_count part)
+pins_own cells choices u are n class (input k) at i lt = absurd (omega (arith, lt))
+pins_own cells choices u are n class (gate cell ps) at i lt =
     let (p, pt) = get_some ps i lt in
-    let its = uses_of s choices u are n class cell ps at i p pt in
+    let its = uses_of cells choices u are n class cell ps at i p pt in
     let e : first_of u n + (0 + i) ≡ first_of u n + i = omega arith in
-    let here = use_place u n (0 + i) (slice_index_or (delays_of (timing s).delays cell) i 0) p its ∙ e in
+    let here = use_place u n (0 + i) (slice_index_or (delays_of (delays_of_cells cells) cell) i 0) p its ∙ e in
     let low = slice_get_within u.links.classes its.group p its.group_is.0 in
     (subst (λ j. slice_get u.owners.items j ≡ Some n) here its.owner, its.group, subst (λ j. slice_get u.members.classes j ≡ Some its.group) here its.member, let same = are.pins.are.count in omega (arith, low, same))
 
@@ -138,11 +138,11 @@ lowered_set tallies number fall o t at same le = record {
         inl (e, o, ap (slice_get tallies) e ∙ at, subst (λ (z : Tally). z.class.0 ≡ o.class.0) f same, subst (λ (z : Tally). bound_of z ≤ bound_of o - fall) f le)
     by_case n y (inr other) = inr other
 
-module _ (s : Task) (choices : List Choice) (u : Uses) (are : AreUses s choices u) (fallen : List ℕ) (group fall : ℕ) (places : List ℕ) where
+module _ (cells : List CellParts) (choices : List Choice) (u : Uses) (are : AreUses cells choices u) (fallen : List ℕ) (group fall : ℕ) (places : List ℕ) where
   own : (n : ℕ) (x : Choice) → slice_get choices n ≡ Some x → AreOwn u n (pin_count x.part)
-  own n x at = pins_own s choices u are n x.class x.part at
+  own n x at = pins_own cells choices u are n x.class x.part at
 
-  pub falling_first : (seen : List ℕ) (first end : ℕ) (tallies : List Tally) → HasFallen group fall seen fallen → AreMembersListed u.members.classes u.members.count u.looks.starts.items places → slice_get u.looks.starts.items group ≡ Some first → slice_get u.looks.starts.items (group + 1) ≡ Some end → AreTallies s.cells choices u seen tallies → IsFalling s.cells choices u fallen fall places first end tallies
+  pub falling_first : (seen : List ℕ) (first end : ℕ) (tallies : List Tally) → HasFallen group fall seen fallen → AreMembersListed u.members.classes u.members.count u.looks.starts.items places → slice_get u.looks.starts.items group ≡ Some first → slice_get u.looks.starts.items (group + 1) ≡ Some end → AreTallies cells choices u seen tallies → IsFalling cells choices u fallen fall places first end tallies
   falling_first seen first end tallies has listed st et is = record {
     one_each = is.one_each;
     told = seen_at u.members.classes seen;
@@ -165,7 +165,7 @@ module _ (s : Task) (choices : List Choice) (u : Uses) (are : AreUses s choices 
           inl (omega (arith, here, low))
 
   -- the bound of the choice of one more pin falls
-  pub falling_next : (at end place number : ℕ) (old new : List Tally) → slice_get places at ≡ Some place → number ≡ slice_index_or u.owners.items place 0 → IsLowered old new number fall → IsFalling s.cells choices u fallen fall places at end old → IsFalling s.cells choices u fallen fall places (at + 1) end new
+  pub falling_next : (at end place number : ℕ) (old new : List Tally) → slice_get places at ≡ Some place → number ≡ slice_index_or u.owners.items place 0 → IsLowered old new number fall → IsFalling cells choices u fallen fall places at end old → IsFalling cells choices u fallen fall places (at + 1) end new
   falling_next at end place number old new pt number_is lowered is = record {
     one_each = lowered.one_each ∙ is.one_each;
     told = told;
@@ -176,7 +176,7 @@ module _ (s : Task) (choices : List Choice) (u : Uses) (are : AreUses s choices 
       told : ℕ → ℕ
       told = told_with is.told place (is.told place - fall)
 
-      by_case : (n : ℕ) (x : Choice) (t : Tally) → slice_get choices n ≡ Some x → ((n ≡ number) × (o : Tally) × (slice_get old n ≡ Some o) × (t.class.0 ≡ o.class.0) × (bound_of t ≤ bound_of o - fall)) ⊎ ((n ≢ number) × (slice_get old n ≡ Some t)) → IsTold s.cells u told n x t
+      by_case : (n : ℕ) (x : Choice) (t : Tally) → slice_get choices n ≡ Some x → ((n ≡ number) × (o : Tally) × (slice_get old n ≡ Some o) × (t.class.0 ≡ o.class.0) × (bound_of t ≤ bound_of o - fall)) ⊎ ((n ≢ number) × (slice_get old n ≡ Some t)) → IsTold cells u told n x t
       by_case n x t xt (inl (e, o, ot, class, bound)) =
           let before = is.each n x o xt ot in
           let sum = sum_fallen is.told place fall (first_of u n) (pin_count x.part) in
@@ -209,7 +209,7 @@ module _ (s : Task) (choices : List Choice) (u : Uses) (are : AreUses s choices 
           by_place (yes f) = absurd (ne (sym (same_Some place j (sym pt ∙ (ap (slice_get places) (sym f) ∙ kt)))))
           by_place (no other) = (k, omega (arith, from, other), to, kt)
 
-  pub falling_over : (at end : ℕ) (tallies : List Tally) → end ≤ at → IsFalling s.cells choices u fallen fall places at end tallies → AreTallies s.cells choices u fallen tallies
+  pub falling_over : (at end : ℕ) (tallies : List Tally) → end ≤ at → IsFalling cells choices u fallen fall places at end tallies → AreTallies cells choices u fallen tallies
   falling_over at end tallies over is = record {
     one_each = is.one_each;
     each = λ n x t xt tt.
@@ -241,13 +241,13 @@ module _ (s : Task) (choices : List Choice) (u : Uses) (are : AreUses s choices 
           omega (arith, one, rest)
 
 -- where no group has seen anything
-pub tallies_first : (s : Task) (choices : List Choice) (u : Uses) → AreUses s choices u → (seen : List ℕ) (tallies : List Tally) → seen ≡ replicate u.members.count unseen → AreFirstTallies s.cells choices tallies → AreTallies s.cells choices u seen tallies
-tallies_first s choices u are seen tallies none firsts = record {
+pub tallies_first : (cells : List CellParts) (choices : List Choice) (u : Uses) → AreUses cells choices u → (seen : List ℕ) (tallies : List Tally) → seen ≡ replicate u.members.count unseen → AreFirstTallies cells choices tallies → AreTallies cells choices u seen tallies
+tallies_first cells choices u are seen tallies none firsts = record {
   one_each = firsts.one_each;
   each = λ n x t xt tt.
       let first = firsts.each n x t xt tt in
       let bound = first.bound_is in
-      let sum = sums (first_of u n) (pin_count x.part) (λ i lt. let (ot, g, gt, in') = pins_own s choices u are n x.class x.part xt i lt in (g, gt, in')) in
+      let sum = sums (first_of u n) (pin_count x.part) (λ i lt. let (ot, g, gt, in') = pins_own cells choices u are n x.class x.part xt i lt in (g, gt, in')) in
       record { class_is = first.class_is; few = first.few; low = omega (arith, bound, sum) };
 }
   where

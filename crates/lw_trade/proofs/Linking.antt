@@ -82,3 +82,17 @@ place_measure (Some p) = suc p
 pub place_falls : (classes : List ℕ) (c place : ℕ) (o : Option ℕ) → IsLast classes c place o → place_measure o < suc place
 place_falls classes c place None last = omega arith
 place_falls classes c place (Some p) (lt, at, none) = omega arith
+
+-- no place has a class that is added
+pub links_grow : (cs : List ℕ) (befores heads : List (Option ℕ)) → AreLinks cs befores heads → AreLinks cs befores (heads ++ None ∷ [])
+links_grow cs befores heads are = record {
+  few = are.few;
+  one_each = are.one_each;
+  within = λ i c at. let lt = are.within i c at in let longer = length_push heads None in omega (arith, lt, longer);
+  heads_are = λ c o at. by_case c o (push_cases heads None c o at);
+  before_is = are.before_is;
+}
+  where
+    by_case : (c : ℕ) (o : Option ℕ) → (slice_get heads c ≡ Some o) ⊎ ((c ≡ length heads) × (None ≡ o)) → IsLast cs c (length cs) o
+    by_case c o (inl at) = are.heads_are c o at
+    by_case c o (inr (e, f)) = subst (IsLast cs c (length cs)) f (λ j from to jt. let lt = are.within j c jt in absurd (omega (arith, lt, e)))

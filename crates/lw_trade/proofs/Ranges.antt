@@ -1,7 +1,6 @@
 -- What may stand at classes is in range: the classes of pins, the cells and their pins, and the delays.
 use Rattle.std.proofs.Common.{◌≡◌, ℕ, suc, ◌<◌, ◌⊎◌, inl, inr, All, List, [], ◌∷◌, length, option_map, Contains, Some, slice_get, slice_index_or, refl, sym, ap, ◌∙◌, subst, arith}
 use Rattle.std.specs.List.{AllByRecursion}
-use Rattle.std.proofs.lemmas.List.{length-map}
 use Rattle.std.proofs.lemmas.Option.{same_Some, slice_get-map, slice_get_within}
 use Rattle.lw_graph.specs.Graphs.{IsGraph}
 use Rattle.lw_laws.specs.Flip.{flip}
@@ -9,14 +8,12 @@ use Rattle.lw_laws.specs.Graphs.{Graph, Pair, HoldsPair, Stands}
 use Rattle.lw_laws.specs.Trees.{Tree, leaf, const_one, const_zero, inv, nand, HasLeaf}
 use Rattle.lw_match.specs.Least.{AreOfCells}
 use Rattle.lw_trade.specs.declared.choices.Row.{Row}
-use Rattle.lw_trade.specs.declared.uses.Uses.{Uses}
 use Rattle.lw_trade.specs.Areas.{area_cost}
 use Rattle.lw_trade.specs.Choices.{Part, MayStand, AreListedChoices}
 use Rattle.lw_trade.specs.Choices.Part.{input, gate}
 use Rattle.lw_trade.specs.Points.{Task}
 use Rattle.lw_trade.specs.Pricing.{IsWithin, IsOfLibrary}
-use Rattle.lw_trade.specs.Rows.{plain_part, plain_row, plain_rows}
-use Rattle.lw_trade.specs.Uses.{AreUses}
+use Rattle.lw_trade.specs.Rows.{IsRowFor, plain_row, plain_rows}
 use Rattle.lw_trade.proofs.Lists.{got}
 use Rattle.lw_graph.proofs.Graphs.{flip_below}
 
@@ -66,19 +63,14 @@ module _ (s : Task) (is_graph : IsGraph s.graph) (of_cells : AreOfCells (area_co
     listed : (k : ℕ) (d : Row) → k < length rows → slice_get (plain_rows rows) k ≡ Some (plain_row (slice_index_or rows k d))
     listed k d lt = slice_get-map plain_row rows k ∙ ap (option_map plain_row) (got rows k d lt)
 
-    pub rows_within : All (λ (r : Row). IsWithin (length s.graph.pairs) (plain_part r.stand)) rows
-    rows_within k d lt =
+    pub rows_for : All (IsRowFor s.cells (length s.graph.pairs)) rows
+    rows_for k d lt =
         let r = plain_row (slice_index_or rows k d) in
-        part_within r.class r.part (are.within k r (listed k d lt)) (are.each k r (listed k d lt))
-
-    pub rows_of_library : All (λ (r : Row). IsOfLibrary s.cells (plain_part r.stand)) rows
-    rows_of_library k d lt = let r = plain_row (slice_index_or rows k d) in part_of_library r.class r.part (are.each k r (listed k d lt))
-
-    pub rows_classes : All (λ (r : Row). r.class.0 < length s.graph.pairs) rows
-    rows_classes k d lt = are.within k (plain_row (slice_index_or rows k d)) (listed k d lt)
-
--- pins are of choices
-pub owners_low : (s : Task) (rows : List Row) (u : Uses) → AreUses s (plain_rows rows) u → All (λ n. n < length rows) u.owners.items
-owners_low s rows u are j d lt =
-    let low = are.pins.low j (slice_index_or u.owners.items j d) (got u.owners.items j d lt) in
-    omega (arith, low, length-map rows plain_row)
+        let at = listed k d lt in
+        record {
+          part = record {
+            within = part_within r.class r.part (are.within k r at) (are.each k r at);
+            of_library = part_of_library r.class r.part (are.each k r at);
+          };
+          class_low = are.within k r at;
+        }

@@ -1,5 +1,5 @@
 -- What the groups of pins have seen.
-use Rattle.std.proofs.Common.{◌≡◌, ℕ, suc, ◌+◌, ◌-◌, ◌<◌, ◌≤◌, ◌*◌, ◌⊎◌, inl, inr, min, length, List, [], ◌∷◌, Some, slice_get, slice_index_or, slice_set, refl, ap, sym, ◌∙◌, subst, arith}
+use Rattle.std.proofs.Common.{◌≡◌, ℕ, suc, ◌+◌, ◌-◌, ◌<◌, ◌≤◌, ◌*◌, ◌⊎◌, inl, inr, min, length, List, [], ◌∷◌, Some, None, slice_get, slice_index_or, slice_set, refl, ap, sym, ◌∙◌, subst, arith}
 use native.Mathlib.Decide.{ℕ_discrete}
 use Rattle.std.specs.List.{AllZip}
 use Rattle.std.proofs.lemmas.List.{length-set}
@@ -151,13 +151,13 @@ module _ (u : Uses) (seen : List ℕ) (spots : List Spot) (now n : ℕ) where
           let (more, few) = subst (λ f. AreAllSeen f ps ks) q rest in
           inl (omega (arith, low, more), omega (arith, low, few))
 
-module _ (s : Task) (choices : List Choice) (u : Uses) (are : AreUses s choices u) (seen : List ℕ) (spots : List Spot) (now n : ℕ) where
+module _ (s : Task) (choices : List Choice) (u : Uses) (are : AreUses s.cells choices u) (seen : List ℕ) (spots : List Spot) (now n : ℕ) where
   tally_more : (class a : ℕ) (part : Part) (t : Tally) → slice_get choices n ≡ Some (record { class = class; part = part }) → IsOfLibrary s.cells part → IsTally s.cells u seen n (record { class = class; part = part }) t → (bound_of t < unseen → HasAtMost spots class now (min most_area (bound_of t))) → Gives s spots part now a → HasAtMost spots class now a ⊎ HasUnseen u seen spots now n
   tally_more class a (input i) t at of is had gives =
       let low = is.low in
       inl (at_most spots class now (min most_area (bound_of t)) a (omega (arith, low)) (had (omega (arith, low))))
   tally_more class a (gate cell ps) t at of is had (ks, zip, et, ea) =
-      by_case (all_seen u seen spots now n 0 (delays_of (timing s).delays cell) ps ks (length-delays_of (timing s).delays cell (length ps) of) (uses_of s choices u are n class cell ps at) zip (omega (arith, et)))
+      by_case (all_seen u seen spots now n 0 (delays_of (timing s).delays cell) ps ks (length-delays_of (timing s).delays cell (length ps) of) (uses_of s.cells choices u are n class cell ps at) zip (omega (arith, et)))
     where
       by_case : AreAllSeen u seen spots now n (first_of u n + 0) ps ks ⊎ HasUnseen u seen spots now n → HasAtMost spots class now a ⊎ HasUnseen u seen spots now n
       by_case (inr un) = inr un
@@ -175,6 +175,26 @@ module _ (s : Task) (choices : List Choice) (u : Uses) (are : AreUses s choices 
       let same = same_Some y x (sym yt ∙ at) in
       let here = tally_more x.class a x.part t at of is had (subst (λ (z : Choice). Gives s spots z.part now a) same gives) in
       subst (λ (z : Choice). HasAtMost spots z.class now a ⊎ HasUnseen u seen spots now n) (sym same) here
+
+-- A group sees no point.
+
+module _ (u : Uses) (spots : List Spot) (seen : List ℕ) (group time delay : ℕ) (delay_is : slice_get u.delays.items group ≡ Some delay) where
+  pub seeing_early : time < delay → IsSeeing u spots seen seen group time
+  seeing_early lt = record {
+    one_each = refl;
+    kept = λ g a has. has;
+    here = λ k d has (ct, dt) le. let e = same_Some d delay (sym dt ∙ delay_is) in absurd (omega (arith, e, lt, le));
+  }
+
+  pub seeing_none : (class : ℕ) → slice_get u.links.classes group ≡ Some class → delay ≤ time → IsLeastSpot spots class (time - delay) None → IsSeeing u spots seen seen group time
+  seeing_none class class_is within none = record {
+    one_each = refl;
+    kept = λ g a has. has;
+    here = λ k d has (ct, dt) le.
+        let c = same_Some k.class class (sym ct ∙ class_is) in
+        let e = same_Some d delay (sym dt ∙ delay_is) in
+        absurd (none k has c (omega (arith, e, le, within)));
+  }
 
 -- A group sees the last point of its class.
 

@@ -3,13 +3,13 @@ use Rattle.std.proofs.Common.{◌≡◌, ℕ, zero, suc, ◌+◌, ◌<◌, ◌�
 use native.Mathlib.Nat.{eq-or-lt_of_le}
 use Rattle.std.proofs.lemmas.Option.{same_Some, slice_get_within}
 use Rattle.lw_fixed.specs.declared.micro.Micro.{Micro}
-use Rattle.lw_genlib.specs.Tables.{millionths}
+use Rattle.lw_genlib.specs.Cells.{CellParts}
+use Rattle.lw_genlib.specs.Tables.{delays_of_cells, millionths}
 use Rattle.lw_laws.specs.Covers.{delays_of}
 use Rattle.lw_trade.specs.declared.looks.Looks.{Looks}
 use Rattle.lw_trade.specs.declared.uses.Uses.{Uses}
-use Rattle.lw_trade.specs.Choices.{Choice, HasPinAt, delay_at}
+use Rattle.lw_trade.specs.Choices.{Choice, HasPinAt, pin_delay}
 use Rattle.lw_trade.specs.Choices.Part.{input, gate}
-use Rattle.lw_trade.specs.Points.{Task, timing}
 use Rattle.lw_trade.specs.Links.{LinkState}
 use Rattle.lw_trade.specs.Uses.{IsGroup, HasUse, AreGroups, IsFirstAdded, IsGroupAdded, IsPinAdded, AreUsesTo}
 use Rattle.lw_trade.proofs.Lists.{get_last, get_push, push_cases, length_push}
@@ -101,8 +101,8 @@ module _ (u : Uses) (looks : Looks) where
   abbrev pub with_looks : Uses
   with_looks = record { links = u.links; delays = u.delays; lanes = u.lanes; steps = u.steps; members = u.members; owners = u.owners; firsts = u.firsts; looks = looks }
 
-  pub uses_looked : (s : Task) (choices : List Choice) (n k : ℕ) → AreUsesTo s choices n k u → AreUsesTo s choices n k with_looks
-  uses_looked s choices n k are = record {
+  pub uses_looked : (cells : List CellParts) (choices : List Choice) (n k : ℕ) → AreUsesTo cells choices n k u → AreUsesTo cells choices n k with_looks
+  uses_looked cells choices n k are = record {
     are = record {
       one_each = are.are.one_each;
       owners_each = are.are.owners_each;
@@ -154,8 +154,8 @@ module _ (u v : Uses) (added : IsFirstAdded u v) where
   pub firsts_longer : length v.firsts.items ≡ length u.firsts.items + 1
   firsts_longer = ap length added.firsts ∙ length_push u.firsts.items (length u.members.classes)
 
-module _ (s : Task) (choices : List Choice) where
-  pub none_used : (u : Uses) → AreGroups u → u.owners.items ≡ [] → AreUsesTo s choices 0 0 u
+module _ (cells : List CellParts) (choices : List Choice) where
+  pub none_used : (u : Uses) → AreGroups u → u.owners.items ≡ [] → AreUsesTo cells choices 0 0 u
   none_used u are none = record {
     are = are;
     low = λ j m at. absurd (nothing j m at);
@@ -173,15 +173,15 @@ module _ (s : Task) (choices : List Choice) where
       no_pin m i (inr (e, lt)) = absurd (omega arith)
 
   -- where the pins of the next choice begin
-  pub first_used : (n : ℕ) (u v : Uses) → IsFirstAdded u v → AreUsesTo s choices n 0 u → AreUsesTo s choices n 0 v
+  pub first_used : (n : ℕ) (u v : Uses) → IsFirstAdded u v → AreUsesTo cells choices n 0 u → AreUsesTo cells choices n 0 v
   first_used n u v added are = record {
     are = groups_first u v added are.are;
     low = λ j m there. are.low j m (subst (λ os. slice_get os j ≡ Some m) added.owners there);
-    all = λ m i c x before xt xp. first_kept u v added m i (delay_at s x.part i) c (are.all m i c x before xt xp);
+    all = λ m i c x before xt xp. first_kept u v added m i (pin_delay cells x.part i) c (are.all m i c x before xt xp);
   }
 
   -- one more pin
-  pub pin_used : (n k c cell class first : ℕ) (ps : List ℕ) (u v : Uses) → slice_get u.firsts.items n ≡ Some first → length u.members.classes ≡ first + k → slice_get choices n ≡ Some (record { class = class; part = gate cell ps }) → slice_get ps k ≡ Some c → IsPinAdded u v c (slice_index_or (delays_of (timing s).delays cell) k 0) n → AreUsesTo s choices n k u → AreUsesTo s choices n (k + 1) v
+  pub pin_used : (n k c cell class first : ℕ) (ps : List ℕ) (u v : Uses) → slice_get u.firsts.items n ≡ Some first → length u.members.classes ≡ first + k → slice_get choices n ≡ Some (record { class = class; part = gate cell ps }) → slice_get ps k ≡ Some c → IsPinAdded u v c (slice_index_or (delays_of (delays_of_cells cells) cell) k 0) n → AreUsesTo cells choices n k u → AreUsesTo cells choices n (k + 1) v
   pin_used n k c cell class first ps u v first_at here at pn added are = record {
     are = added.are;
     low = λ j m there. by_owner j m (added.only j m there);
@@ -192,34 +192,34 @@ module _ (s : Task) (choices : List Choice) where
       by_owner j m (inl there) = are.low j m there
       by_owner j m (inr e) = let lt = slice_get_within choices n (record { class = class; part = gate cell ps }) at in omega arith
 
-      all : (m i d : ℕ) (x : Choice) → (m < n) ⊎ ((m ≡ n) × (i < k + 1)) → slice_get choices m ≡ Some x → HasPinAt x.part i d → HasUse v m i (delay_at s x.part i) d
-      all m i d x (inl lt) xt xp = added.kept m i (delay_at s x.part i) d (are.all m i d x (inl lt) xt xp)
+      all : (m i d : ℕ) (x : Choice) → (m < n) ⊎ ((m ≡ n) × (i < k + 1)) → slice_get choices m ≡ Some x → HasPinAt x.part i d → HasUse v m i (pin_delay cells x.part i) d
+      all m i d x (inl lt) xt xp = added.kept m i (pin_delay cells x.part i) d (are.all m i d x (inl lt) xt xp)
       all m i d x (inr (g, lt)) xt xp = by_place (eq-or-lt_of_le {n = i} {m = k} (omega arith))
         where
-          by_place : (i ≡ k) ⊎ (i < k) → HasUse v m i (delay_at s x.part i) d
-          by_place (inr less) = added.kept m i (delay_at s x.part i) d (are.all m i d x (inr (g, less)) xt xp)
+          by_place : (i ≡ k) ⊎ (i < k) → HasUse v m i (pin_delay cells x.part i) d
+          by_place (inr less) = added.kept m i (pin_delay cells x.part i) d (are.all m i d x (inr (g, less)) xt xp)
           by_place (inl same) =
               let y : x ≡ record { class = class; part = gate cell ps } = same_Some x (record { class = class; part = gate cell ps }) (sym xt ∙ (ap (slice_get choices) g ∙ at)) in
               let xp' : slice_get ps i ≡ Some d = subst (λ (z : Choice). HasPinAt z.part i d) y xp in
               let cd : c ≡ d = same_Some c d (sym pn ∙ (ap (slice_get ps) (sym same) ∙ xp')) in
-              let dl : delay_at s x.part i ≡ slice_index_or (delays_of (timing s).delays cell) k 0 = ap (λ (z : Choice). delay_at s z.part i) y ∙ ap (λ j. slice_index_or (delays_of (timing s).delays cell) j 0) same in
-              let l = subst (λ b. HasUse v n k (slice_index_or (delays_of (timing s).delays cell) k 0) b) cd (added.has k first first_at here) in
-              let l' = subst (λ j. HasUse v n j (slice_index_or (delays_of (timing s).delays cell) k 0) d) (sym same) l in
+              let dl : pin_delay cells x.part i ≡ slice_index_or (delays_of (delays_of_cells cells) cell) k 0 = ap (λ (z : Choice). pin_delay cells z.part i) y ∙ ap (λ j. slice_index_or (delays_of (delays_of_cells cells) cell) j 0) same in
+              let l = subst (λ b. HasUse v n k (slice_index_or (delays_of (delays_of_cells cells) cell) k 0) b) cd (added.has k first first_at here) in
+              let l' = subst (λ j. HasUse v n j (slice_index_or (delays_of (delays_of_cells cells) cell) k 0) d) (sym same) l in
               subst₂ (λ a b. HasUse v a i b d) (sym g) (sym dl) l'
 
   -- all pins of a choice
-  pub choice_used : (n k cell class : ℕ) (ps : List ℕ) (u : Uses) → slice_get choices n ≡ Some (record { class = class; part = gate cell ps }) → length ps ≡ k → AreUsesTo s choices n k u → AreUsesTo s choices (n + 1) 0 u
+  pub choice_used : (n k cell class : ℕ) (ps : List ℕ) (u : Uses) → slice_get choices n ≡ Some (record { class = class; part = gate cell ps }) → length ps ≡ k → AreUsesTo cells choices n k u → AreUsesTo cells choices (n + 1) 0 u
   choice_used n k cell class ps u at size are = record {
     are = are.are;
     low = are.low;
     all = λ m i c x before xt xp. all m i c x before xt xp;
   }
     where
-      all : (m i c : ℕ) (x : Choice) → (m < n + 1) ⊎ ((m ≡ n + 1) × (i < 0)) → slice_get choices m ≡ Some x → HasPinAt x.part i c → HasUse u m i (delay_at s x.part i) c
+      all : (m i c : ℕ) (x : Choice) → (m < n + 1) ⊎ ((m ≡ n + 1) × (i < 0)) → slice_get choices m ≡ Some x → HasPinAt x.part i c → HasUse u m i (pin_delay cells x.part i) c
       all m i c x (inr (e, lt)) xt xp = absurd (omega arith)
       all m i c x (inl lt) xt xp = by_place (eq-or-lt_of_le {n = m} {m = n} (omega arith))
         where
-          by_place : (m ≡ n) ⊎ (m < n) → HasUse u m i (delay_at s x.part i) c
+          by_place : (m ≡ n) ⊎ (m < n) → HasUse u m i (pin_delay cells x.part i) c
           by_place (inr less) = are.all m i c x (inl less) xt xp
           by_place (inl same) =
               let y : x ≡ record { class = class; part = gate cell ps } = same_Some x (record { class = class; part = gate cell ps }) (sym xt ∙ (ap (slice_get choices) same ∙ at)) in
@@ -228,24 +228,24 @@ module _ (s : Task) (choices : List Choice) where
               are.all m i c x (inr (same, omega arith)) xt xp
 
   -- an input has no pins
-  pub input_used : (n i class : ℕ) (u : Uses) → slice_get choices n ≡ Some (record { class = class; part = input i }) → AreUsesTo s choices n 0 u → AreUsesTo s choices (n + 1) 0 u
+  pub input_used : (n i class : ℕ) (u : Uses) → slice_get choices n ≡ Some (record { class = class; part = input i }) → AreUsesTo cells choices n 0 u → AreUsesTo cells choices (n + 1) 0 u
   input_used n i class u at are = record {
     are = are.are;
     low = are.low;
     all = λ m k c x before xt xp. all m k c x before xt xp;
   }
     where
-      all : (m k c : ℕ) (x : Choice) → (m < n + 1) ⊎ ((m ≡ n + 1) × (k < 0)) → slice_get choices m ≡ Some x → HasPinAt x.part k c → HasUse u m k (delay_at s x.part k) c
+      all : (m k c : ℕ) (x : Choice) → (m < n + 1) ⊎ ((m ≡ n + 1) × (k < 0)) → slice_get choices m ≡ Some x → HasPinAt x.part k c → HasUse u m k (pin_delay cells x.part k) c
       all m k c x (inr (e, lt)) xt xp = absurd (omega arith)
       all m k c x (inl lt) xt xp = by_place (eq-or-lt_of_le {n = m} {m = n} (omega arith))
         where
-          by_place : (m ≡ n) ⊎ (m < n) → HasUse u m k (delay_at s x.part k) c
+          by_place : (m ≡ n) ⊎ (m < n) → HasUse u m k (pin_delay cells x.part k) c
           by_place (inr less) = are.all m k c x (inl less) xt xp
           by_place (inl same) =
               let y : x ≡ record { class = class; part = input i } = same_Some x (record { class = class; part = input i }) (sym xt ∙ (ap (slice_get choices) same ∙ at)) in
               absurd (subst (λ (z : Choice). HasPinAt z.part k c) y xp)
 
-  pub delay_read : (cell : ℕ) (delays : List Micro) (k : ℕ) (z : Micro) → k < length delays → delays_of (timing s).delays cell ≡ map millionths delays → (slice_index_or delays k z).0 ≡ slice_index_or (delays_of (timing s).delays cell) k 0
+  pub delay_read : (cell : ℕ) (delays : List Micro) (k : ℕ) (z : Micro) → k < length delays → delays_of (delays_of_cells cells) cell ≡ map millionths delays → (slice_index_or delays k z).0 ≡ slice_index_or (delays_of (delays_of_cells cells) cell) k 0
   delay_read cell delays k z lt e = read delays k z lt ∙ ap (λ ds. slice_index_or ds k 0) (sym e)
     where
       read : (ds : List Micro) (k : ℕ) (z : Micro) → k < length ds → (slice_index_or ds k z).0 ≡ slice_index_or (map millionths ds) k 0

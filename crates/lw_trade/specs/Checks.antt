@@ -6,6 +6,8 @@ use Rattle.lw_fixed.specs.declared.micro.Micro.{Micro}
 use Rattle.lw_trade.specs.declared.point.Point.{Point}
 use Rattle.lw_trade.specs.declared.found.Way.{Way}
 use Rattle.lw_trade.specs.declared.walking.Node.{Node}
+use Rattle.lw_trade.specs.declared.walking.Trail.{Trail}
+use Rattle.lw_trade.specs.declared.walking.Walk.{Walk}
 use Rattle.lw_trade.specs.declared.choices.Gate.{Gate}
 use Rattle.lw_trade.specs.declared.choices.Stand.{Stand}
 use Rattle.lw_trade.specs.declared.choices.Stand.TheVariants as stand
@@ -94,6 +96,13 @@ IsOwned owners node j = (row : Vec ℕ) × (slice_get owners node.class.0 ≡ So
 -- the class has this shared gate
 abbrev pub IsSpare : List ℕ → Node → ℕ → Type 0
 IsSpare spares node j = slice_get spares node.class.0 ≡ Some j
+
+-- there is a gate with this number: a node with its user, a cell, and the nets of its pins
+pub record HasNumber (trail : Trail) (walk : Walk) (number : ℕ) : Type 0 where
+  pub node : number < length trail.nodes.items
+  pub user : number < length trail.users.items
+  pub cell : number < length walk.cells.items
+  pub row : number < length walk.pins.items
 
 -- what was looked through of the gate with a number
 pub record IsGateRight (curves : CurveLists) (inputs : List (Option ℕ)) (count : ℕ) (cells : List CellParts) (nodes : List Node) (owners : List (Vec ℕ)) (spares : List ℕ) (own : List CellId) (pins : List (List ℕ)) (nets : List ℕ) (j : ℕ) : Type 0 where

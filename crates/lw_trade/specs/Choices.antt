@@ -2,8 +2,10 @@
 use Rattle.std.specs.Prelude.{ℕ, ◌≡◌, ◌<◌, List, length, Some, slice_get, slice_index_or}
 use Rattle.lw_laws.specs.Matches.{IsMatchAt}
 use Rattle.lw_laws.specs.Covers.{delays_of}
+use Rattle.lw_genlib.specs.Cells.{CellParts}
+use Rattle.lw_genlib.specs.Tables.{delays_of_cells}
 use Rattle.lw_trade.specs.Areas.{area_cost}
-use Rattle.lw_trade.specs.Points.{Task, timing}
+use Rattle.lw_trade.specs.Points.{Task}
 
 -- an input, or a cell with the classes of its pins
 pub data Part : Type 0 where
@@ -30,7 +32,10 @@ abbrev pub HasPinAt : Part → ℕ → ℕ → Type 0
 HasPinAt (input i) k p = ⊥
 HasPinAt (gate cell ps) k p = slice_get ps k ≡ Some p
 
--- the delay of a pin
+-- the delay of a pin, by the cells of a library
+abbrev pub pin_delay : List CellParts → Part → ℕ → ℕ
+pin_delay cells (input i) k = 0
+pin_delay cells (gate cell ps) k = slice_index_or (delays_of (delays_of_cells cells) cell) k 0
+
 abbrev pub delay_at : Task → Part → ℕ → ℕ
-delay_at s (input i) k = 0
-delay_at s (gate cell ps) k = slice_index_or (delays_of (timing s).delays cell) k 0
+delay_at s part k = pin_delay s.cells part k

@@ -31,15 +31,46 @@ pub record IsLastAt (classes : List ℕ) (points : List Found) (c time place : �
   pub at : slice_get points place ≡ Some point
   pub time_is : point.time.0 ≡ time
 
+-- no point of the class is of the time or later
+abbrev pub AreBefore : List Spot → ℕ → ℕ → Type 0
+AreBefore spots c time = (k : Spot) → Has spots k → k.class ≡ c → k.time < time
+
+-- the place of such a point, if there is one
+abbrev pub IsPlaceFor : List ℕ → List Found → ℕ → ℕ → Option ℕ → Type 0
+IsPlaceFor classes points c time None = AreBefore (spots_of classes points) c time
+IsPlaceFor classes points c time (Some place) = IsLastAt classes points c time place
+
+-- each place has a point, and of two of a class the later has less area
+pub record AreFoundAt (classes : List ℕ) (points : List Found) : Type 0 where
+  pub one_each : length points ≡ length classes
+  pub apart : AreApart (spots_of classes points)
+
+-- the point is no earlier than any, was gained after all, and has less area than each of its class
+pub record MayPut (links : LinkState) (points : List Found) (c : ℕ) (p : Found) : Type 0 where
+  pub class : c < links.count
+  pub are : AreFoundAt links.classes points
+  pub late : (k : Spot) → Has (spots_of links.classes points) k → k.time ≤ p.time.0
+  pub less : (k : Spot) → Has (spots_of links.classes points) k → k.class ≡ c → p.area < k.area
+  pub fresh : (h : Held) → IsHeld (held_of links.classes points) h → h.order < p.order
+
+-- it was gained
+pub record IsPutTo (classes new_classes : List ℕ) (points new_points : List Found) (c : ℕ) (p : Found) : Type 0 where
+  pub gained : IsGained (spots_of classes points) (spots_of new_classes new_points) (spot c p.time.0 p.area)
+  pub held : IsHeldGained (held_of classes points) (held_of new_classes new_points) (held_at c p)
+
+-- all points are as they were
+pub record ArePointsSame (classes new_classes : List ℕ) (points new_points : List Found) : Type 0 where
+  pub spots : spots_of new_classes new_points ≡ spots_of classes points
+  pub held : held_of new_classes new_points ≡ held_of classes points
+
 -- no point of the class has less area, and one has this area unless it is more than the greatest
 pub record IsLeastOf (spots : List Spot) (c area : ℕ) : Type 0 where
   pub low : (k : Spot) → Has spots k → k.class ≡ c → area ≤ k.area
   pub at : (area ≡ most_area + 1) ⊎ ((k : Spot) × Has spots k × (k.class ≡ c) × (k.area ≡ area))
 
 pub record IsFronts (links : LinkState) (points : List Found) (least : List ℕ) (gains : ℕ) : Type 0 where
-  pub one_each : length points ≡ length links.classes
+  pub are : AreFoundAt links.classes points
   pub count : links.count ≡ length least
-  pub apart : AreApart (spots_of links.classes points)
   pub least_is : (c area : ℕ) → slice_get least c ≡ Some area → IsLeastOf (spots_of links.classes points) c area
   pub orders : (h : Held) → IsHeld (held_of links.classes points) h → h.order < gains
 
@@ -60,3 +91,9 @@ abbrev pub IsTried : FrontState → FrontState → Spot → ℕ → Bool → Typ
 IsTried old new k choice true =
     IsGained old.spots new.spots k × (new.least ≡ slice_set old.least k.class k.area) × ((area : ℕ) → slice_get old.least k.class ≡ Some area → k.area < area) × ((order : ℕ) × IsHeldGained old.held new.held (record { spot = k; choice = choice; order = order }))
 IsTried old new k choice false = (new ≡ old) × HasAtMost old.spots k.class k.time k.area
+
+-- the point is of one of the classes, of no more area than is told, and no earlier than any
+pub record MayTry (fronts : FrontState) (c time area : ℕ) : Type 0 where
+  pub class : c < length fronts.least
+  pub small : area ≤ most_area
+  pub late : (k : Spot) → Has fronts.spots k → k.time ≤ time

@@ -2,11 +2,12 @@
 use Rattle.std.specs.Prelude.{ℕ, ◌+◌, ◌-◌, ◌<◌, ◌≤◌, ◌≡◌, List, [], ◌∷◌, ◌++◌, length, map, reverse, Some, Contains, slice_get, slice_range}
 use Rattle.lw_trade.specs.declared.found.Way.{Way}
 use Rattle.lw_trade.specs.declared.point.Point.{Point}
-use Rattle.lw_trade.specs.Backing.{Held, IsHeld, AreBacked}
+use Rattle.lw_trade.specs.Backing.{Held, IsHeld, AreBacked, spot_in}
 use Rattle.lw_trade.specs.Choices.{Choice, AreListedChoices}
+use Rattle.lw_trade.specs.Fronts.{FrontState}
 use Rattle.lw_trade.specs.Lasts.{ArePointsRising}
 use Rattle.lw_trade.specs.Points.{Task}
-use Rattle.lw_trade.specs.Settling.{Spot, spot, Has}
+use Rattle.lw_trade.specs.Settling.{AreApart, Spot, spot, Has}
 
 abbrev pub point_of : Spot → Point
 point_of k = record { time = record { 0 = k.time }; area = k.area }
@@ -86,6 +87,13 @@ pub record AreRowsOf (held : List Held) (count : ℕ) (curves : CurveLists) : Ty
   pub are : AreHeldRows held count 0 rows
   pub points_are : curves.points ≡ map (map point_in) rows
   pub ways_are : curves.ways ≡ map (map way_in) rows
+
+-- the curves are those of points of so many classes, and of choices
+pub record AreCurvesOf (fronts : FrontState) (count : ℕ) (choices : List Choice) (curves : CurveLists) : Type 0 where
+  pub apart : AreApart fronts.spots
+  pub spots : map spot_in fronts.held ≡ fronts.spots
+  pub rows : AreRowsOf fronts.held count curves
+  pub choices_are : curves.choices ≡ choices
 
 -- Each point has a choice that gives it its area, by points of its pins that come before it.
 pub record HaveWays (s : Task) (curves : CurveLists) : Type 0 where

@@ -1,5 +1,5 @@
 -- What stays the same while points are settled.
-use Rattle.std.specs.Prelude.{ℕ, ◌<◌, ◌≡◌, List, All, Option, IfSome, length}
+use Rattle.std.specs.Prelude.{ℕ, ◌<◌, ◌≤◌, ◌≡◌, List, [], All, Option, None, IfSome, length}
 use Rattle.lw_fixed.specs.declared.micro.Micro.{Micro}
 use Rattle.lw_genlib.specs.Cells.{CellParts}
 use Rattle.lw_laws.specs.Covers.{Pattern}
@@ -9,20 +9,21 @@ use Rattle.lw_trade.specs.declared.choices.Row.{Row}
 use Rattle.lw_trade.specs.declared.job.Job.{Job}
 use Rattle.lw_trade.specs.declared.seeing.Seen.{Seen}
 use Rattle.lw_trade.specs.Areas.{total}
+use Rattle.lw_trade.specs.Backing.{AreBacked}
 use Rattle.lw_trade.specs.Choices.{Choice, AreListedChoices}
-use Rattle.lw_trade.specs.Points.{Task, task}
-use Rattle.lw_trade.specs.Pricing.{IsOfLibrary, IsWithin}
-use Rattle.lw_trade.specs.Rows.{plain_part, plain_rows}
-use Rattle.lw_trade.specs.Settling.{Spot, Queued, Turns, IsStillFor}
+use Rattle.lw_trade.specs.Fronts.{FrontState}
+use Rattle.lw_trade.specs.Points.{Task, most_points, task}
+use Rattle.lw_trade.specs.Rows.{IsRowFor, plain_rows}
+use Rattle.lw_trade.specs.Seen.{AreSeen, AreSeenAfter}
+use Rattle.lw_trade.specs.Settling.{AreFirst, AreSettled, Has, IsAfter, IsStillFor, Queued, Spot, Turns, Waits}
 use Rattle.lw_trade.specs.Tallies.{AreTallied}
 use Rattle.lw_trade.specs.Uses.{AreUses, turns_of}
 
--- the choices stand at so many classes, with cells of the library, and their pins are of these classes, as the groups are
+-- the choices stand at so many classes, with cells of the library, and the groups are those of their pins
 pub record IsJob (classes : ℕ) (job : Job) : Type 0 where
-  pub within : All (λ (r : Row). IsWithin classes (plain_part r.stand)) job.rows.now
-  pub of_library : All (λ (r : Row). IsOfLibrary job.lib.now (plain_part r.stand)) job.rows.now
-  pub class_low : All (λ (r : Row). r.class.0 < classes) job.rows.now
+  pub rows : All (IsRowFor job.lib.now classes) job.rows.now
   pub count : job.uses.now.links.count ≡ classes
+  pub uses : AreUses job.lib.now (plain_rows job.rows.now) job.uses.now
 
 abbrev pub choices_of_job : Job → List Choice
 choices_of_job job = plain_rows job.rows.now
@@ -31,6 +32,10 @@ choices_of_job job = plain_rows job.rows.now
 abbrev pub task_of : Job → Graph → List Pattern → Task
 task_of job g pats = task g pats job.lib.now job.starts.now
 
+-- so it is for each graph and patterns
+abbrev pub ForAnyTask : Job → (Task → List Choice → Type 0) → Type 0
+ForAnyTask job Then = (g : Graph) (pats : List Pattern) → Then (task_of job g pats) (choices_of_job job)
+
 -- an area for each group, and a tally for each choice
 abbrev pub AreTalliedIn : Job → Seen → Type 0
 AreTalliedIn job seen = AreTallied job.lib.now (choices_of_job job) job.uses.now seen
@@ -38,15 +43,15 @@ AreTalliedIn job seen = AreTallied job.lib.now (choices_of_job job) job.uses.now
 abbrev pub turns_in : Job → Queued → Queued → Turns
 turns_in job coming looked = turns_of job.uses.now coming looked
 
--- for some graph and patterns the choices and their pins are those of the task, and all is kept
+-- for some graph and patterns the choices are those of the task, and all is kept
 abbrev pub IsStillSomewhere : Job → ℕ → List Spot → Turns → Type 0
 IsStillSomewhere job now spots w =
-    (g : Graph) × (pats : List Pattern) × IsStillFor (task_of job g pats) (choices_of_job job) now spots w × AreUses (task_of job g pats) (choices_of_job job) job.uses.now
+    (g : Graph) × (pats : List Pattern) × IsStillFor (task_of job g pats) (choices_of_job job) now spots w
 
 -- so it is for each graph and patterns for which that held before
 abbrev pub WhereStill : Job → ℕ → List Spot → Turns → (Task → List Choice → Type 0) → Type 0
 WhereStill job now spots w Then =
-    (g : Graph) (pats : List Pattern) → IsStillFor (task_of job g pats) (choices_of_job job) now spots w → AreUses (task_of job g pats) (choices_of_job job) job.uses.now → Then (task_of job g pats) (choices_of_job job)
+    (g : Graph) (pats : List Pattern) → IsStillFor (task_of job g pats) (choices_of_job job) now spots w → Then (task_of job g pats) (choices_of_job job)
 
 -- the class that gained a point is one of those that have these least areas, and together these fell
 abbrev pub HaveFallen : List ℕ → List ℕ → Option ClassId → Type 0
@@ -56,3 +61,70 @@ HaveFallen old new gain = IfSome gain (λ class. (class.0 < length old) × (tota
 abbrev pub WhereListed : List CellParts → List Micro → List Row → (Task → List Choice → Type 0) → Type 0
 WhereListed cells starts rows Then =
     (g : Graph) (pats : List Pattern) → AreListedChoices (task g pats cells starts) (plain_rows rows) → Then (task g pats cells starts) (plain_rows rows)
+
+-- each choice has its tally, and no point is later than now
+pub record IsReadyFor (j : Job) (now : ℕ) (state : Seen) (fronts : FrontState) : Type 0 where
+  pub job : IsJob (length fronts.least) j
+  pub tallied : AreTalliedIn j state
+  pub late : (k : Spot) → Has fronts.spots k → k.time ≤ now
+
+-- so it is while points are settled, at a time before which nothing waits or comes
+pub record IsUnderWay (j : Job) (now : ℕ) (state : Seen) (fronts : FrontState) (coming looked : Queued) : Type 0 where
+  pub job : IsJob (length fronts.least) j
+  pub time : now ≤ coming.horizon
+  pub tallied : AreTalliedIn j state
+  pub seen : AreSeen j.uses.now state.areas.items fronts.spots coming
+  pub still : IsStillSomewhere j now fronts.spots (turns_in j coming looked)
+
+-- so much is kept in any case
+pub record IsKeptOf (j : Job) (state : Seen) (fronts new_fronts : FrontState) (coming new_coming : Queued) : Type 0 where
+  pub horizon : new_coming.horizon ≡ coming.horizon
+  pub count : length new_fronts.least ≡ length fronts.least
+  pub tallied : AreTalliedIn j state
+
+-- no group comes any more by now, and all have seen what they came for
+pub record AreGroupsOver (j : Job) (now : ℕ) (state : Seen) (spots : List Spot) (coming new_coming looked new_looked : Queued) : Type 0 where
+  pub seen : AreSeen j.uses.now state.areas.items spots new_coming
+  pub over : (t g : ℕ) → Waits new_coming t g → now < t
+  pub still : WhereStill j now spots (turns_in j coming looked) (λ s choices. IsStillFor s choices now spots (turns_in j new_coming new_looked))
+
+-- the points still have choices that give them their areas
+abbrev pub StayBacked : Job → ℕ → FrontState → FrontState → Queued → Queued → Type 0
+StayBacked job now fronts new_fronts coming looked =
+    WhereStill job now fronts.spots (turns_in job coming looked) (λ s choices. AreBacked s choices fronts.held → AreBacked s choices new_fronts.held)
+
+-- a class has gained a point at this time, or none has and none will
+pub record IsGainBy (j : Job) (now : ℕ) (state : Seen) (fronts new_fronts : FrontState) (coming new_coming looked new_looked : Queued) (gain : Option ClassId) : Type 0 where
+  pub after : WhereStill j now fronts.spots (turns_in j coming looked) (λ s choices. IsAfter s choices now new_fronts.spots (turns_in j new_coming new_looked) gain)
+  pub seen : AreSeenAfter j.uses.now state.areas.items new_fronts.spots new_coming now gain
+  pub falls : HaveFallen fronts.least new_fronts.least gain
+  pub backed : StayBacked j now fronts new_fronts coming looked
+
+-- the classes have all their points of this time
+pub record HaveGained (j : Job) (now : ℕ) (state : Seen) (fronts new_fronts : FrontState) (coming new_coming looked new_looked : Queued) : Type 0 where
+  pub seen : AreSeen j.uses.now state.areas.items new_fronts.spots new_coming
+  pub still : WhereStill j now fronts.spots (turns_in j coming looked) (λ s choices. IsAfter s choices now new_fronts.spots (turns_in j new_coming new_looked) None)
+  pub backed : StayBacked j now fronts new_fronts coming looked
+
+-- so have they of all times, and there are not too many, unless there were before
+pub record HaveGainedAll (j : Job) (fronts new_fronts : FrontState) (coming looked : Queued) : Type 0 where
+  pub few_points : length fronts.spots ≤ most_points → length new_fronts.spots ≤ most_points
+  pub backed : StayBacked j 0 fronts new_fronts coming looked
+
+-- the choices are those of some task, and those that need no points wait in a queue of this horizon
+pub record MayBegin (j : Job) (horizon : ℕ) (looked : Queued) : Type 0 where
+  pub horizon_is : looked.horizon ≡ horizon
+  pub listed : (g : Graph) × (pats : List Pattern) × AreListedChoices (task_of j g pats) (choices_of_job j)
+  pub first : WhereListed j.lib.now j.starts.now j.rows.now (λ s choices. AreFirst s choices looked)
+
+-- nothing was found yet
+pub record HasNoPoints (fronts : FrontState) : Type 0 where
+  pub spots_none : fronts.spots ≡ []
+  pub held_none : fronts.held ≡ []
+
+-- the points of so many classes are settled up to the horizon, each with a choice, and they are not too many
+pub record HaveFronts (cells : List CellParts) (starts : List Micro) (rows : List Row) (classes horizon : ℕ) (fronts : FrontState) : Type 0 where
+  pub count : classes ≡ length fronts.least
+  pub few : length fronts.spots ≤ most_points
+  pub settled : WhereListed cells starts rows (λ s choices. AreSettled s horizon choices fronts.spots)
+  pub backed : WhereListed cells starts rows (λ s choices. AreBacked s choices fronts.held)

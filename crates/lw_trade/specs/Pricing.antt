@@ -28,3 +28,8 @@ IsWithin classes (gate cell ps) = AllByRecursion (λ p. p < classes) ps
 abbrev pub IsOfLibrary : List CellParts → Part → Type 0
 IsOfLibrary cells (input i) = Unit {0}
 IsOfLibrary cells (gate cell ps) = HasPins (area_cost cells).pin_counts cell (length ps)
+
+-- so it is of both
+pub record IsPartFor (cells : List CellParts) (classes : ℕ) (part : Part) : Type 0 where
+  pub within : IsWithin classes part
+  pub of_library : IsOfLibrary cells part

@@ -1,11 +1,13 @@
 -- What may stand at classes, as the code lists it.
-use Rattle.std.specs.Prelude.{ℕ, ◌<◌, ◌≡◌, List, length, map, Some, slice_get}
+use Rattle.std.specs.Prelude.{ℕ, ◌<◌, ◌≡◌, All, List, length, map, Some, slice_get}
+use Rattle.lw_genlib.specs.Cells.{CellParts}
 use Rattle.lw_trade.specs.declared.choices.Row.{Row}
 use Rattle.lw_trade.specs.declared.choices.Stand.{Stand}
 use Rattle.lw_trade.specs.declared.choices.Stand.TheVariants.{Input, Gate}
 use Rattle.lw_trade.specs.Choices.{Part, Choice, MayStand}
 use Rattle.lw_trade.specs.Choices.Part.{input, gate}
 use Rattle.lw_trade.specs.Points.{Task}
+use Rattle.lw_trade.specs.Pricing.{IsPartFor}
 use Rattle.lw_pool.specs.Numbers.{numbers}
 
 abbrev pub plain_part : Stand → Part
@@ -17,6 +19,21 @@ plain_row r = record { class = r.class.0; part = plain_part r.stand }
 
 abbrev pub plain_rows : List Row → List Choice
 plain_rows rows = map plain_row rows
+
+-- the choice and its pins are of so many classes, and its cell is of the library
+pub record IsRowFor (cells : List CellParts) (classes : ℕ) (row : Row) : Type 0 where
+  pub part : IsPartFor cells classes (plain_part row.stand)
+  pub class_low : row.class.0 < classes
+
+-- the pins of each choice are of so many classes, its cell is of the library, and they can be numbered
+pub record ArePartsFor (cells : List CellParts) (classes : ℕ) (rows : List Row) : Type 0 where
+  pub few : length rows < 4294967296
+  pub parts : All (λ (r : Row). IsPartFor cells classes (plain_part r.stand)) rows
+
+-- so it is of each with its class, and they can be numbered
+pub record AreRowsFor (cells : List CellParts) (classes : ℕ) (rows : List Row) : Type 0 where
+  pub few : length rows < 4294967296
+  pub each : All (IsRowFor cells classes) rows
 
 abbrev pub IsAmong : List Choice → ℕ → Part → Type 0
 IsAmong choices c part = (n : ℕ) × (slice_get choices n ≡ Some (record { class = c; part = part }))

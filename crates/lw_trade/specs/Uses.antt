@@ -1,9 +1,15 @@
 -- The pins of all choices, in groups: those of one class with one delay.
-use Rattle.std.specs.Prelude.{ℕ, ◌+◌, ◌<◌, ◌≡◌, ◌⊎◌, List, [], ◌∷◌, ◌++◌, length, Some, slice_get}
+use Rattle.std.specs.Prelude.{ℕ, ◌+◌, ◌<◌, ◌≡◌, ◌⊎◌, All, List, [], ◌∷◌, ◌++◌, length, map, Some, slice_get}
+use Rattle.lw_fixed.specs.declared.micro.Micro.{Micro}
+use Rattle.lw_pool.specs.declared.id.ClassId.{ClassId}
+use Rattle.lw_pool.specs.Numbers.{numbers}
+use Rattle.lw_genlib.specs.Tables.{delays_of_cells, millionths}
+use Rattle.lw_laws.specs.Covers.{delays_of}
 use Rattle.lw_trade.specs.declared.uses.Uses.{Uses}
-use Rattle.lw_trade.specs.Choices.{Choice, HasPinAt, delay_at}
+use Rattle.lw_genlib.specs.Cells.{CellParts}
+use Rattle.lw_trade.specs.Choices.{Choice, HasPinAt, pin_delay}
+use Rattle.lw_trade.specs.Choices.Part.{gate}
 use Rattle.lw_trade.specs.Looks.{AreLooks}
-use Rattle.lw_trade.specs.Points.{Task}
 use Rattle.lw_trade.specs.Settling.{Queued, Turns, turns}
 
 -- the group is of this class and this delay
@@ -26,6 +32,26 @@ pub record AreGroups (u : Uses) : Type 0 where
   pub one_each : length u.delays.items ≡ length u.links.classes
   pub owners_each : length u.owners.items ≡ length u.members.classes
   pub count : u.members.count ≡ length u.links.classes
+
+-- so it is, and the pins of so many choices are noted
+pub record AreGroupsTo (n : ℕ) (u : Uses) : Type 0 where
+  pub are : AreGroups u
+  pub next : length u.firsts.items ≡ n
+
+-- so it is, and the pins of the choice begin behind all
+pub record HasFirst (n : ℕ) (u : Uses) : Type 0 where
+  pub are : AreGroups u
+  pub first : slice_get u.firsts.items n ≡ Some (length u.members.classes)
+
+-- each pin has a delay, and is of one of so many classes
+pub record HaveDelays (count : ℕ) (delays : List Micro) (pins : List ClassId) : Type 0 where
+  pub one_each : length delays ≡ length pins
+  pub within : All (λ (c : ClassId). c.0 < count) pins
+
+-- no choice has its pins there yet
+pub record HasNoUses (u : Uses) : Type 0 where
+  pub of : AreGroupsTo 0 u
+  pub none : u.owners.items ≡ []
 
 -- one group more, the last one, of this class and this delay
 pub record IsGroupAdded (old new : Uses) (c delay group : ℕ) : Type 0 where
@@ -55,14 +81,25 @@ pub record IsPinAdded (old new : Uses) (c delay n : ℕ) : Type 0 where
   pub only : (j m : ℕ) → slice_get new.owners.items j ≡ Some m → (slice_get old.owners.items j ≡ Some m) ⊎ (m ≡ n)
 
 -- the pins of the first choices, and the first pins of the next one
-pub record AreUsesTo (s : Task) (choices : List Choice) (n k : ℕ) (u : Uses) : Type 0 where
+pub record AreUsesTo (cells : List CellParts) (choices : List Choice) (n k : ℕ) (u : Uses) : Type 0 where
   pub are : AreGroups u
   pub low : (j m : ℕ) → slice_get u.owners.items j ≡ Some m → m < length choices
-  pub all : (m i c : ℕ) (x : Choice) → (m < n) ⊎ ((m ≡ n) × (i < k)) → slice_get choices m ≡ Some x → HasPinAt x.part i c → HasUse u m i (delay_at s x.part i) c
+  pub all : (m i c : ℕ) (x : Choice) → (m < n) ⊎ ((m ≡ n) × (i < k)) → slice_get choices m ≡ Some x → HasPinAt x.part i c → HasUse u m i (pin_delay cells x.part i) c
+
+-- the pins of a choice were added, with these delays
+pub record ArePinsAdded (delays : List Micro) (pins : List ClassId) (n : ℕ) (old new : Uses) : Type 0 where
+  pub are : AreGroups new
+  pub firsts : new.firsts.items ≡ old.firsts.items
+  pub uses : (cells : List CellParts) (xs : List Choice) (c cell : ℕ) → slice_get xs n ≡ Some (record { class = c; part = gate cell (numbers pins) }) → delays_of (delays_of_cells cells) cell ≡ map millionths delays → AreUsesTo cells xs n 0 old → AreUsesTo cells xs n (length pins) new
+
+-- so were those of a choice with a cell of the library, and those of an input, which has none
+pub record IsChoiceAdded (cells : List CellParts) (x : Choice) (n : ℕ) (old new : Uses) : Type 0 where
+  pub of : AreGroupsTo (n + 1) new
+  pub uses : (xs : List Choice) → slice_get xs n ≡ Some x → AreUsesTo cells xs n 0 old → AreUsesTo cells xs (n + 1) 0 new
 
 -- the pins of all choices, and the choices of each group
-pub record AreUses (s : Task) (choices : List Choice) (u : Uses) : Type 0 where
-  pub pins : AreUsesTo s choices (length choices) 0 u
+pub record AreUses (cells : List CellParts) (choices : List Choice) (u : Uses) : Type 0 where
+  pub pins : AreUsesTo cells choices (length choices) 0 u
   pub looks : AreLooks u
 
 -- what waits and comes with these groups

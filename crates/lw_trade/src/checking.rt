@@ -1,6 +1,6 @@
 // What a walk has found, looked through.
-ghost use Rattle.std.specs.Prelude.{◌≡◌, ◌+◌, ◌<◌, ◌≤◌, IsFalse, IsTrue, length};
-ghost use Rattle.lw_trade.specs.Checks.{ArePinsRight, AreRootsRight, IsCut, IsNetBy, IsGateRight, IsNodeRight, IsOwned, IsRightWalk, IsRootBy, IsSpare, IsUsedEarlier};
+ghost use Rattle.std.specs.Prelude.{◌≡◌, ◌+◌, ◌≤◌, IsFalse, IsTrue};
+ghost use Rattle.lw_trade.specs.Checks.{ArePinsRight, AreRootsRight, HasNumber, IsCut, IsNetBy, IsGateRight, IsNodeRight, IsOwned, IsRightWalk, IsRootBy, IsSpare, IsUsedEarlier};
 
 use crate::area::MOST_AREA;
 use crate::bisecting::last_by;
@@ -271,10 +271,7 @@ fn is_gate(
     walk: &Walk,
     number: usize,
 ) -> bool
-    requires node { number < length trail.now.nodes.items }
-    requires user { number < length trail.now.users.items }
-    requires cell { number < length walk.now.cells.items }
-    requires row { number < length walk.now.pins.items }
+    requires { HasNumber trail.now walk.now number }
     ensures { IsTrue result → IsGateRight curves.now inputs.now count lib.now trail.now.nodes.items
         trail.now.owners.items trail.now.spares.items walk.now.cells.items walk.now.pins.items
         walk.now.nets.items number }

@@ -1,9 +1,8 @@
-ghost use Rattle.std.specs.Prelude.{◌≡◌, ◌<◌, ◌≤◌, [], IfOk, IfNone, IfSome, OnOk, OnErr, length, map};
-ghost use Rattle.lw_trade.specs.Areas.{most_area};
-ghost use Rattle.lw_trade.specs.Backing.{Held, IsHeld, IsHeldGained, spot_in};
-ghost use Rattle.lw_trade.specs.Fronts.{IsLastAt, IsLeastSpot, IsLessOr, IsTried, held_at, held_of, spots_of};
+ghost use Rattle.std.specs.Prelude.{◌≡◌, ◌<◌, ◌≤◌, [], IfOk, IfSome, OnOk, OnErr, Some, length, map};
+ghost use Rattle.lw_trade.specs.Backing.{spot_in};
+ghost use Rattle.lw_trade.specs.Fronts.{AreFoundAt, ArePointsSame, IsLeastSpot, IsLessOr, IsPlaceFor, IsPutTo, IsTried, MayPut, MayTry, held_of, spots_of};
 ghost use Rattle.lw_trade.specs.Groups.{IsRowPushed};
-ghost use Rattle.lw_trade.specs.Settling.{Spot, spot, Has, AreApart, IsGained};
+ghost use Rattle.lw_trade.specs.Settling.{Spot, spot, Has, AreApart};
 
 use crate::found::{Found, Way};
 use crate::links::Links;
@@ -42,13 +41,9 @@ impl Model for Fronts {
 // The last place of a class, where its point is of a time that no point of the class is after.
 fn place_at(links: &Links, points: &[Found], class: ClassId, time: Micro) -> Option<u32>
     requires class { class.0 < links.now.count }
-    requires one_each { length points.now ≡ length links.now.classes }
-    requires apart { AreApart (spots_of links.now.classes points.now) }
+    requires are { AreFoundAt links.now.classes points.now }
     requires late { (k : Spot) → Has (spots_of links.now.classes points.now) k → k.time ≤ time.0 }
-    ensures some { IfSome result (λ place. IsLastAt links.now.classes points.now class.0 time.0
-        place) }
-    ensures none { IfNone result ((k : Spot) → Has (spots_of links.now.classes points.now) k →
-        k.class ≡ class.0 → k.time < time.0) }
+    ensures { IsPlaceFor links.now.classes points.now class.0 time.0 result }
 {
     let Some(place) = links.last(class) else {
         return None;
@@ -62,8 +57,7 @@ fn place_at(links: &Links, points: &[Found], class: ClassId, time: Micro) -> Opt
 // The least area of the points of a class by a time.
 fn area_by(links: &Links, points: &[Found], class: ClassId, time: u64) -> Option<u64>
     requires class { class.0 < links.now.count }
-    requires one_each { length points.now ≡ length links.now.classes }
-    requires apart { AreApart (spots_of links.now.classes points.now) }
+    requires are { AreFoundAt links.now.classes points.now }
     ensures { IsLeastSpot (spots_of links.now.classes points.now) class.0 time result }
 {
     let Some(mut place) = links.last(class) else {
@@ -85,8 +79,7 @@ fn area_by(links: &Links, points: &[Found], class: ClassId, time: u64) -> Option
 
 // The area of the point at a place, if that is one of a class at a time.
 fn area_at(links: &Links, points: &[Found], class: ClassId, time: u64, place: u64) -> Option<u64>
-    requires one_each { length points.now ≡ length links.now.classes }
-    requires apart { AreApart (spots_of links.now.classes points.now) }
+    requires { AreFoundAt links.now.classes points.now }
     ensures { IfSome result (λ area. IsLeastSpot (spots_of links.now.classes points.now) class.0
         time (Some area)) }
 {
@@ -141,26 +134,13 @@ fn put(
     class: ClassId,
     point: Found,
 ) -> Result<(), AllocError>
-    requires class { class.0 < links.old.count }
-    requires one_each { length points.old.items ≡ length links.old.classes }
-    requires apart { AreApart (spots_of links.old.classes points.old.items) }
-    requires late { (k : Spot) → Has (spots_of links.old.classes points.old.items) k →
-        k.time ≤ point.time.0 }
-    requires less { (k : Spot) → Has (spots_of links.old.classes points.old.items) k →
-        k.class ≡ class.0 → point.area < k.area }
-    requires fresh { (h : Held) → IsHeld (held_of links.old.classes points.old.items) h →
-        h.order < point.order }
-    ensures one_each { length points.new.items ≡ length links.new.classes }
+    requires { MayPut links.old points.old.items class.0 point }
     ensures count { links.new.count ≡ links.old.count }
-    ensures apart { AreApart (spots_of links.new.classes points.new.items) }
-    ensures gained { OnOk result (IsGained (spots_of links.old.classes points.old.items)
-        (spots_of links.new.classes points.new.items) (spot class.0 point.time.0 point.area)) }
-    ensures held { OnOk result (IsHeldGained (held_of links.old.classes points.old.items)
-        (held_of links.new.classes points.new.items) (held_at class.0 point)) }
-    ensures err { OnErr result (spots_of links.new.classes points.new.items
-        ≡ spots_of links.old.classes points.old.items) }
-    ensures held_err { OnErr result (held_of links.new.classes points.new.items
-        ≡ held_of links.old.classes points.old.items) }
+    ensures are { AreFoundAt links.new.classes points.new.items }
+    ensures put { OnOk result (IsPutTo links.old.classes links.new.classes points.old.items
+        points.new.items class.0 point) }
+    ensures err { OnErr result (ArePointsSame links.old.classes links.new.classes points.old.items
+        points.new.items) }
 {
     if let Some(place) = place_at(links, points.as_slice(), class, point.time) {
         points[place as usize] = point;
@@ -181,8 +161,7 @@ fn push_row(
     ways: &mut Vec<Way>,
 ) -> Result<(), AllocError>
     requires class { class.0 < links.now.count }
-    requires one_each { length points.now ≡ length links.now.classes }
-    requires apart { AreApart (spots_of links.now.classes points.now) }
+    requires are { AreFoundAt links.now.classes points.now }
     ensures { OnOk result (IsRowPushed (held_of links.now.classes points.now) class.0
         to.old.items to.new.items ways.old.items ways.new.items) }
 {
@@ -275,9 +254,7 @@ impl Fronts {
 
     /// Whether all points of a class have more than an area.
     pub(crate) fn is_less(&self, class: ClassId, time: u64, area: u64) -> bool
-        requires class { class.0 < length self.now.least }
-        requires area { area ≤ most_area }
-        requires late { (k : Spot) → Has self.now.spots k → k.time ≤ time }
+        requires { MayTry self.now class.0 time area }
         ensures { IsLessOr self.now.spots class.0 time area result }
     {
         let least = self.least[class.0 as usize];
@@ -296,9 +273,7 @@ impl Fronts {
         area: u64,
         choice: u32,
     ) -> Result<bool, AllocError>
-        requires class { class.0 < length self.old.least }
-        requires area { area ≤ most_area }
-        requires late { (k : Spot) → Has self.old.spots k → k.time ≤ time }
+        requires { MayTry self.old class.0 time area }
         ensures count { length self.new.least ≡ length self.old.least }
         ensures spots { map spot_in self.old.held ≡ self.old.spots }
         ensures tried { IfOk result (IsTried self.old self.new (spot class.0 time area) choice) }

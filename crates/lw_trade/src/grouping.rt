@@ -1,11 +1,9 @@
 ghost use Rattle.std.specs.Prelude.{IfOk, IfSome, List, OnOk, Some, [], length, map, option_map, reverse, slice_get, slice_range, ℕ, ◌<◌, ◌≡◌, ◌≤◌};
-ghost use Rattle.lw_trade.specs.Backing.{spot_in};
 ghost use Rattle.lw_trade.specs.Checks.{IsStandAt};
-ghost use Rattle.lw_trade.specs.Groups.{AreRowsOf, IsTable};
+ghost use Rattle.lw_trade.specs.Groups.{AreCurvesOf, IsTable};
 ghost use Rattle.lw_trade.specs.Lasts.{ArePointsRising, IsLastOf};
 ghost use Rattle.lw_trade.specs.Points.{AreCurves, BoundCovers, IsLeastAreaBy, Task};
 ghost use Rattle.lw_trade.specs.Rows.{plain_row, plain_rows};
-ghost use Rattle.lw_trade.specs.Settling.{AreApart};
 
 use crate::bisecting::last_by;
 use crate::choices::{Row, Stand};
@@ -182,10 +180,7 @@ pub(crate) fn group(
     rows: Vec<Row>,
 ) -> Result<Curves, AllocError>
     requires { classes ≡ length fronts.now.least }
-    ensures apart { IfOk result (λ curves. AreApart fronts.now.spots) }
-    ensures spots { IfOk result (λ curves. map spot_in fronts.now.held ≡ fronts.now.spots) }
-    ensures rows { IfOk result (AreRowsOf fronts.now.held classes) }
-    ensures choices { IfOk result (λ curves. curves.choices ≡ plain_rows rows.items) }
+    ensures { IfOk result (AreCurvesOf fronts.now classes (plain_rows rows.items)) }
 {
     let count = fronts.len() as usize;
     let mut points = Vec::with_capacity(alloc, count)?;

@@ -1,18 +1,15 @@
-ghost use Rattle.std.specs.Prelude.{◌≡◌, ◌<◌, ◌≤◌, List, All, IfErr, IfOk, length};
+ghost use Rattle.std.specs.Prelude.{◌≡◌, ◌<◌, ◌≤◌, List, IfErr, IfOk, OnOk, length};
 ghost use Rattle.lw_genlib.specs.Cells.{CellParts};
 ghost use Rattle.lw_laws.specs.Covers.{Pattern as TreeOfCell};
 ghost use Rattle.lw_laws.specs.Graphs.{Graph as PlainGraph};
 ghost use Rattle.lw_match.specs.Least.{AreOfCells};
 ghost use Rattle.lw_trade.specs.Areas.{area_cost};
-ghost use Rattle.lw_trade.specs.Backing.{AreBacked};
 ghost use Rattle.lw_trade.specs.Choices.{AreListedChoices};
 ghost use Rattle.lw_trade.specs.Groups.{HaveWays};
-ghost use Rattle.lw_trade.specs.Jobs.{IsJob, WhereListed, choices_of_job, task_of};
+ghost use Rattle.lw_trade.specs.Jobs.{HasNoPoints, HaveFronts, IsJob, MayBegin, WhereListed};
 ghost use Rattle.lw_trade.specs.Points.{AreCurves, BoundCovers, IsWhy, most_points, point_count, task};
-ghost use Rattle.lw_trade.specs.Pricing.{IsOfLibrary, IsWithin};
-ghost use Rattle.lw_trade.specs.Rows.{plain_part, plain_rows};
-ghost use Rattle.lw_trade.specs.Settling.{AreFirst, AreSettled, IsStop};
-ghost use Rattle.lw_trade.specs.Uses.{AreUses};
+ghost use Rattle.lw_trade.specs.Rows.{AreRowsFor, plain_rows};
+ghost use Rattle.lw_trade.specs.Settling.{AreFirst, IsStop};
 
 use crate::choices::{Row, list_choices};
 use crate::fronts::Fronts;
@@ -44,7 +41,29 @@ fn started(alloc: Global, rows: &[Row], starts: &[Micro], horizon: u64) -> Resul
     Ok(queue)
 }
 
-// Settles the points of all classes up to a horizon, from the choices that wait first.
+// Settles the points of all classes up to a horizon, where there are none yet.
+fn settle_fronts(
+    alloc: Global,
+    job: &Job,
+    fronts: &mut Fronts,
+    queue: &mut Queue,
+    horizon: u64,
+) -> Result<(), CurveFault>
+    requires job { IsJob (length fronts.old.least) job.now }
+    requires begun { MayBegin job.now horizon queue.old }
+    requires none { HasNoPoints fronts.old }
+    ensures settled { OnOk result (HaveFronts job.now.lib.now job.now.starts.now job.now.rows.now
+        (length fronts.old.least) horizon fronts.new) }
+    ensures stop { IfErr result (λ fault. WhereListed job.now.lib.now job.now.starts.now
+        job.now.rows.now (λ s choices. IsStop s choices horizon fault)) }
+{
+    let _ = job.lib.len();
+    let mut coming = Queue::new(alloc, horizon, job.uses.steps.len())?;
+    let mut seen = none_seen(alloc, job.rows, job.lib, job.uses.links.len())?;
+    settle_all(job, &mut seen, fronts, &mut coming, queue)
+}
+
+// The same, for so many classes.
 fn settle_job(
     alloc: Global,
     job: &Job,
@@ -53,28 +72,14 @@ fn settle_job(
     horizon: u64,
 ) -> Result<Fronts, CurveFault>
     requires job { IsJob classes job.now }
-    requires horizon { queue.old.horizon ≡ horizon }
-    requires uses { (g : PlainGraph) (pats : List TreeOfCell) →
-        AreUses (task_of job.now g pats) (choices_of_job job.now) job.now.uses.now }
-    requires first { (g : PlainGraph) (pats : List TreeOfCell) →
-        AreListedChoices (task_of job.now g pats) (choices_of_job job.now) →
-        AreFirst (task_of job.now g pats) (choices_of_job job.now) queue.old }
-    requires choices { (g : PlainGraph) × (pats : List TreeOfCell) ×
-        AreListedChoices (task_of job.now g pats) (choices_of_job job.now) }
-    ensures count { IfOk result (λ fronts. classes ≡ length fronts.least) }
-    ensures few { IfOk result (λ fronts. length fronts.spots ≤ most_points) }
-    ensures settled { IfOk result (λ fronts. WhereListed job.now.lib.now job.now.starts.now
-        job.now.rows.now (λ s choices. AreSettled s horizon choices fronts.spots)) }
-    ensures backed { IfOk result (λ fronts. WhereListed job.now.lib.now job.now.starts.now
-        job.now.rows.now (λ s choices. AreBacked s choices fronts.held)) }
+    requires begun { MayBegin job.now horizon queue.old }
+    ensures settled { IfOk result (HaveFronts job.now.lib.now job.now.starts.now job.now.rows.now
+        classes horizon) }
     ensures stop { IfErr result (λ fault. WhereListed job.now.lib.now job.now.starts.now
         job.now.rows.now (λ s choices. IsStop s choices horizon fault)) }
 {
-    let _ = job.lib.len();
-    let mut coming = Queue::new(alloc, horizon, job.uses.steps.len())?;
     let mut fronts = Fronts::new(alloc, classes as usize)?;
-    let mut seen = none_seen(alloc, job.rows, job.lib, job.uses.links.len())?;
-    settle_all(job, &mut seen, &mut fronts, &mut coming, queue)?;
+    settle_fronts(alloc, job, &mut fronts, queue, horizon)?;
     Ok(fronts)
 }
 
@@ -87,19 +92,10 @@ fn settle_rows(
     classes: u32,
     horizon: u64,
 ) -> Result<Fronts, CurveFault>
-    requires few_rows { length rows.now < 4294967296 }
-    requires few { horizon < 9223372036854775808 }
-    requires within { All (λ (r : Row). IsWithin classes (plain_part r.stand)) rows.now }
-    requires of_library { All (λ (r : Row). IsOfLibrary lib.now (plain_part r.stand)) rows.now }
-    requires classes { All (λ (r : Row). r.class.0 < classes) rows.now }
-    requires choices { (g : PlainGraph) × (pats : List TreeOfCell) ×
+    requires rows { AreRowsFor lib.now classes rows.now }
+    requires listed { (g : PlainGraph) × (pats : List TreeOfCell) ×
         AreListedChoices (task g pats lib.now starts.now) (plain_rows rows.now) }
-    ensures count { IfOk result (λ fronts. classes ≡ length fronts.least) }
-    ensures few { IfOk result (λ fronts. length fronts.spots ≤ most_points) }
-    ensures settled { IfOk result (λ fronts. WhereListed lib.now starts.now rows.now
-        (λ s choices. AreSettled s horizon choices fronts.spots)) }
-    ensures backed { IfOk result (λ fronts. WhereListed lib.now starts.now rows.now
-        (λ s choices. AreBacked s choices fronts.held)) }
+    ensures settled { IfOk result (HaveFronts lib.now starts.now rows.now classes horizon) }
     ensures stop { IfErr result (λ fault. WhereListed lib.now starts.now rows.now
         (λ s choices. IsStop s choices horizon fault)) }
 {

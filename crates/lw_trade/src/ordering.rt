@@ -1,19 +1,18 @@
 // Gates by depth.
-ghost use Rattle.std.specs.Prelude.{◌≡◌, ◌+◌, ◌^◌, ◌<◌, ◌≤◌, All, IfOk, List, length, map};
+ghost use Rattle.std.specs.Prelude.{◌≡◌, ◌+◌, ◌<◌, ◌≤◌, All, IfOk, List, length, map};
 ghost use Rattle.std.specs.List.{range_with_len};
 ghost use Rattle.std.specs.List.Sorted.{IsPermutation};
 ghost use Rattle.lw_dag.specs.Graphs.{IsGraph, fanins_at, most_signals};
 ghost use Rattle.lw_genlib.specs.Cells.{IsLibrary};
 ghost use Rattle.lw_laws.specs.Names.{net_names};
 ghost use Rattle.lw_trade.specs.Groups.{CurveLists};
-ghost use Rattle.lw_trade.specs.Placed.{ArePlaces, HaveHeights, IsByHeight, placed_gate, placed_net};
+ghost use Rattle.lw_trade.specs.Placed.{ArePlaces, ArePortsAt, FitPlaces, FitWalk, HaveHeights, IsByHeight, MayBeNamed, placed_gate, placed_net};
 ghost use Rattle.lw_trade.specs.Points.{Task};
 ghost use Rattle.lw_trade.specs.Targets.{AreCurvesFor, AreTargets};
 ghost use Rattle.lw_trade.specs.Traded.{IsTraded, port_net};
 ghost use Rattle.lw_trade.specs.Trades.{Site};
 ghost use Rattle.lw_trade.specs.Walks.{IsWalk};
 ghost use Rattle.lw_pool.specs.Numbers.{numbers};
-ghost use Rattle.lw_netlist.specs.Plain.{port_name};
 
 use crate::targets::Targets;
 use crate::walking::Walk;
@@ -53,8 +52,7 @@ fn places_in(alloc: Global, order: &[u32]) -> Result<Vec<u32>, AllocError>
 
 // A net, where the nodes stand in other places.
 fn net_at(inputs: u32, places: &[u32], net: u32) -> NetId
-    requires few { inputs + length places.now ≤ most_signals }
-    requires low { All (λ p. p < length places.now) places.now }
+    requires fit { FitPlaces inputs places.now }
     requires net { net < inputs + length places.now }
     ensures { result.0 ≡ placed_net inputs places.now net }
 {
@@ -73,11 +71,8 @@ fn gate_of(
     walk: &Walk,
     gate: u32,
 ) -> Result<Gate, AllocError>
-    requires few { inputs + length places.now ≤ most_signals }
-    requires low { All (λ p. p < length places.now) places.now }
+    requires fit { FitWalk inputs places.now walk.now }
     requires gate { gate < length places.now }
-    requires cells { length walk.now.cells.items ≡ length places.now }
-    requires rows { length walk.now.pins.items ≡ length places.now }
     requires pins { All (λ net. net < inputs + length places.now)
         (fanins_at walk.now.pins.items gate) }
     ensures { IfOk result (λ g. g
@@ -103,11 +98,8 @@ fn gates_of(
     walk: &Walk,
     order: &[u32],
 ) -> Result<Vec<Gate>, AllocError>
-    requires few { inputs + length places.now ≤ most_signals }
-    requires low { All (λ p. p < length places.now) places.now }
+    requires fit { FitWalk inputs places.now walk.now }
     requires order { All (λ j. j < length places.now) order.now }
-    requires cells { length walk.now.cells.items ≡ length places.now }
-    requires rows { length walk.now.pins.items ≡ length places.now }
     requires pins { IsGraph inputs walk.now.pins.items }
     ensures { IfOk result (λ gates. gates.items ≡ map
         (placed_gate inputs places.now walk.now.cells.items walk.now.pins.items) order.now) }
@@ -127,13 +119,10 @@ fn outputs_of(
     names: &[Name],
     nets: &[u32],
 ) -> Result<Vec<Port>, AllocError>
-    requires few { inputs + length places.now ≤ most_signals }
-    requires low { All (λ p. p < length places.now) places.now }
+    requires fit { FitPlaces inputs places.now }
     requires nets { All (λ net. net < inputs + length places.now) nets.now }
     requires one_each { length nets.now ≡ length names.now }
-    ensures names { IfOk result (λ ports. map port_name ports.items ≡ names.now) }
-    ensures nets { IfOk result (λ ports. map port_net ports.items
-        ≡ map (placed_net inputs places.now) nets.now) }
+    ensures { IfOk result (λ ports. ArePortsAt inputs places.now names.now nets.now ports.items) }
 {
     let mut outputs = Vec::with_capacity(alloc, names.len())?;
     for k in 0..names.len() {
@@ -175,11 +164,7 @@ fn names_of(
     outputs: &[Port],
     gates: usize,
 ) -> Result<Names, AllocError>
-    requires few { inputs + gates ≤ most_signals }
-    requires one_name { length targets.now.inputs ≡ inputs }
-    requires few_outputs { length targets.now.outputs < 2 ^ 32 }
-    requires one_each { length outputs.now ≡ length targets.now.outputs }
-    requires nets { All (λ net. net < inputs + gates) (map port_net outputs.now) }
+    requires { MayBeNamed targets.now inputs gates outputs.now }
     ensures { IfOk result (λ names. names ≡ net_names targets.now.inputs targets.now.outputs
         (map port_net outputs.now) (range_with_len inputs gates)) }
 {

@@ -5,7 +5,7 @@ ghost use Rattle.lw_laws.specs.Graphs.{Graph as PlainGraph};
 ghost use Rattle.lw_laws.specs.Covers.{Pattern as TreeOfCell};
 ghost use Rattle.lw_trade.specs.Areas.{most_area};
 ghost use Rattle.lw_trade.specs.Points.{task};
-ghost use Rattle.lw_trade.specs.Pricing.{IsBestOfPins, IsOfLibrary, IsWithin};
+ghost use Rattle.lw_trade.specs.Pricing.{IsBestOfPins, IsPartFor};
 ghost use Rattle.lw_trade.specs.Rows.{plain_part};
 ghost use Rattle.lw_trade.specs.Settling.{IsBest};
 ghost use Rattle.lw_pool.specs.Numbers.{numbers};
@@ -59,8 +59,7 @@ pub(crate) fn price(
     fronts: &Fronts,
     time: u64,
 ) -> Option<u64>
-    requires within { IsWithin (length fronts.now.least) (plain_part stand.now) }
-    requires cell { IsOfLibrary lib.now (plain_part stand.now) }
+    requires { IsPartFor lib.now (length fronts.now.least) (plain_part stand.now) }
     ensures low { IfSome result (λ area. area ≤ most_area) }
     ensures best { (g : PlainGraph) (pats : List TreeOfCell) →
         IsBest (task g pats lib.now starts.now) fronts.now.spots

@@ -1,19 +1,16 @@
 // What the groups of pins have seen: the least area of the points of their class that came.
-ghost use Rattle.std.specs.Prelude.{◌≡◌, ◌<◌, List, All, IfOk, length, replicate};
-ghost use Rattle.lw_trade.specs.Choices.{Choice};
-ghost use Rattle.lw_trade.specs.Looks.{AreLooks};
-ghost use Rattle.lw_trade.specs.Points.{Task};
+ghost use Rattle.std.specs.Prelude.{◌≡◌, ◌<◌, All, IfOk, replicate};
+ghost use Rattle.lw_trade.specs.Jobs.{AreTalliedIn, IsReadyFor};
 ghost use Rattle.lw_trade.specs.Pricing.{IsOfLibrary};
 ghost use Rattle.lw_trade.specs.Rows.{plain_part, plain_rows};
 ghost use Rattle.lw_trade.specs.Seen.{IsSeeing};
-ghost use Rattle.lw_trade.specs.Tallies.{AreFirstTallies, AreTallies, unseen};
-ghost use Rattle.lw_trade.specs.Uses.{AreGroups, AreUses};
+ghost use Rattle.lw_trade.specs.Tallies.{AreFirstTallies, unseen};
 
 use crate::area::MOST_AREA;
 use crate::choices::Row;
 use crate::fronts::Fronts;
+use crate::job::Job;
 use crate::tallies::{Tally, UNSEEN, first_tallies, lower_tallies};
-use crate::uses::Uses;
 use lw_genlib::Library;
 use std::alloc::{AllocError, Global};
 
@@ -42,18 +39,14 @@ pub(crate) fn none_seen(
 }
 
 /// Lets a group see the last point of its class that comes by a time. It may stand at a place.
-pub(crate) fn see(uses: &Uses, fronts: &Fronts, seen: &mut Seen, group: u32, time: u64, place: u64)
-    requires group { group < uses.now.members.count }
-    requires are { AreGroups uses.now }
-    requires looks { AreLooks uses.now }
-    requires one_each { length seen.old.areas.items ≡ uses.now.members.count }
-    requires count { uses.now.links.count ≡ length fronts.now.least }
-    ensures seeing { IsSeeing uses.now fronts.now.spots seen.old.areas.items seen.new.areas.items
-        group time }
-    ensures tallies { (s : Task) (xs : List Choice) → AreUses s xs uses.now →
-        AreTallies s.cells xs uses.now seen.old.areas.items seen.old.tallies.items →
-        AreTallies s.cells xs uses.now seen.new.areas.items seen.new.tallies.items }
+pub(crate) fn see(job: &Job, fronts: &Fronts, seen: &mut Seen, group: u32, time: u64, place: u64)
+    requires group { group < job.now.uses.now.members.count }
+    requires ready { IsReadyFor job.now time seen.old fronts.now }
+    ensures seeing { IsSeeing job.now.uses.now fronts.now.spots seen.old.areas.items
+        seen.new.areas.items group time }
+    ensures tallied { AreTalliedIn job.now seen.new }
 {
+    let uses = job.uses;
     let delay = uses.delays[group as usize];
     if delay > time {
         return;

@@ -1,10 +1,7 @@
-ghost use Rattle.std.specs.Prelude.{◌≡◌, ◌+◌, ◌<◌, ◌≤◌, ℕ, IfOk, None, OnOk, length};
-ghost use Rattle.lw_trade.specs.Backing.{AreBacked};
-ghost use Rattle.lw_trade.specs.Jobs.{AreTalliedIn, HaveFallen, IsJob, IsStillSomewhere, WhereStill, turns_in};
-ghost use Rattle.lw_trade.specs.Points.{most_points};
+ghost use Rattle.std.specs.Prelude.{◌≡◌, ◌+◌, ◌<◌, ◌≤◌, ℕ, IfOk, OnOk, length};
+ghost use Rattle.lw_trade.specs.Jobs.{HaveGained, HaveGainedAll, IsGainBy, IsKeptOf, IsUnderWay, WhereStill, turns_in};
 ghost use Rattle.lw_trade.specs.Queues.{IsFirstOf};
-ghost use Rattle.lw_trade.specs.Seen.{AreSeen, AreSeenAfter};
-ghost use Rattle.lw_trade.specs.Settling.{AreGroupsAdded, AreSettledOr, IsAfter, IsLetWait, Waits};
+ghost use Rattle.lw_trade.specs.Settling.{AreGroupsAdded, AreSettledOr, IsLetWait, Waits};
 ghost use Rattle.lw_trade.specs.Uses.{AreGroups};
 
 use crate::fronts::Fronts;
@@ -87,26 +84,14 @@ fn next_gain(
     queue: &mut Queue,
     time: u64,
 ) -> Result<Option<ClassId>, AllocError>
-    requires job { IsJob (length fronts.old.least) job.now }
-    requires time { time ≤ coming.now.horizon }
-    requires tallied { AreTalliedIn job.now seen.now }
-    requires seen { AreSeen job.now.uses.now seen.now.areas.items fronts.old.spots coming.now }
+    requires under_way { IsUnderWay job.now time seen.now fronts.old coming.now queue.old }
     requires over { (t g : ℕ) → Waits coming.now t g → time < t }
-    requires still { IsStillSomewhere job.now time fronts.old.spots
-        (turns_in job.now coming.now queue.old) }
     ensures count { length fronts.new.least ≡ length fronts.old.least }
-    ensures gain { IfOk result (λ gain. WhereStill job.now time fronts.old.spots
-        (turns_in job.now coming.now queue.old) (λ s choices. IsAfter s choices time
-        fronts.new.spots (turns_in job.now coming.now queue.new) gain)) }
-    ensures seen { IfOk result (AreSeenAfter job.now.uses.now seen.now.areas.items
-        fronts.new.spots coming.now time) }
-    ensures falls { IfOk result (HaveFallen fronts.old.least fronts.new.least) }
-    ensures backed { OnOk result (WhereStill job.now time fronts.old.spots
-        (turns_in job.now coming.now queue.old) (λ s choices.
-        AreBacked s choices fronts.old.held → AreBacked s choices fronts.new.held)) }
+    ensures gain { IfOk result (IsGainBy job.now time seen.now fronts.old fronts.new coming.now
+        coming.now queue.old queue.new) }
 {
     while let Some(number) = queue.take_at(time) {
-        if !may_give(job.rows, job.lib, job.uses, seen, fronts, number, time) {
+        if !may_give(job, seen, fronts, number, time) {
             continue;
         }
         let row = &job.rows[number as usize];
@@ -130,28 +115,12 @@ fn gain_at(
     queue: &mut Queue,
     time: u64,
 ) -> Result<Option<ClassId>, AllocError>
-    requires job { IsJob (length fronts.old.least) job.now }
-    requires time { time ≤ coming.old.horizon }
-    requires tallied { AreTalliedIn job.now seen.old }
-    requires seen { AreSeen job.now.uses.now seen.old.areas.items fronts.old.spots coming.old }
-    requires still { IsStillSomewhere job.now time fronts.old.spots
-        (turns_in job.now coming.old queue.old) }
-    ensures horizon { coming.new.horizon ≡ coming.old.horizon }
-    ensures count { length fronts.new.least ≡ length fronts.old.least }
-    ensures tallied { AreTalliedIn job.now seen.new }
-    ensures seen { IfOk result (AreSeenAfter job.now.uses.now seen.new.areas.items
-        fronts.new.spots coming.new time) }
-    ensures gain { IfOk result (λ gain. WhereStill job.now time fronts.old.spots
-        (turns_in job.now coming.old queue.old) (λ s choices. IsAfter s choices time
-        fronts.new.spots (turns_in job.now coming.new queue.new) gain)) }
-    ensures falls { IfOk result (HaveFallen fronts.old.least fronts.new.least) }
-    ensures backed { OnOk result (WhereStill job.now time fronts.old.spots
-        (turns_in job.now coming.old queue.old) (λ s choices.
-        AreBacked s choices fronts.old.held → AreBacked s choices fronts.new.held)) }
+    requires { IsUnderWay job.now time seen.old fronts.old coming.old queue.old }
+    ensures kept { IsKeptOf job.now seen.new fronts.old fronts.new coming.old coming.new }
+    ensures gain { IfOk result (IsGainBy job.now time seen.new fronts.old fronts.new coming.old
+        coming.new queue.old queue.new) }
 {
-    look_at_groups(
-        job.rows, job.lib, job.uses, seen, fronts, coming, queue, time,
-    )?;
+    look_at_groups(job, seen, fronts, coming, queue, time)?;
     next_gain(job, seen, fronts, coming, queue, time)
 }
 
@@ -164,23 +133,10 @@ pub(crate) fn settle_at(
     queue: &mut Queue,
     time: u64,
 ) -> Result<(), AllocError>
-    requires job { IsJob (length fronts.old.least) job.now }
-    requires time { time ≤ coming.old.horizon }
-    requires tallied { AreTalliedIn job.now seen.old }
-    requires seen { AreSeen job.now.uses.now seen.old.areas.items fronts.old.spots coming.old }
-    requires still { IsStillSomewhere job.now time fronts.old.spots
-        (turns_in job.now coming.old queue.old) }
-    ensures horizon { coming.new.horizon ≡ coming.old.horizon }
-    ensures count { length fronts.new.least ≡ length fronts.old.least }
-    ensures tallied { AreTalliedIn job.now seen.new }
-    ensures seen { OnOk result (AreSeen job.now.uses.now seen.new.areas.items fronts.new.spots
-        coming.new) }
-    ensures still { OnOk result (WhereStill job.now time fronts.old.spots
-        (turns_in job.now coming.old queue.old) (λ s choices. IsAfter s choices time
-        fronts.new.spots (turns_in job.now coming.new queue.new) None)) }
-    ensures backed { OnOk result (WhereStill job.now time fronts.old.spots
-        (turns_in job.now coming.old queue.old) (λ s choices.
-        AreBacked s choices fronts.old.held → AreBacked s choices fronts.new.held)) }
+    requires { IsUnderWay job.now time seen.old fronts.old coming.old queue.old }
+    ensures kept { IsKeptOf job.now seen.new fronts.old fronts.new coming.old coming.new }
+    ensures gained { OnOk result (HaveGained job.now time seen.new fronts.old fronts.new coming.old
+        coming.new queue.old queue.new) }
 {
     while let Some(class) = gain_at(job, seen, fronts, coming, queue, time)? {
         let place = fronts.last_place(class);
@@ -217,20 +173,13 @@ pub(crate) fn settle_all(
     coming: &mut Queue,
     queue: &mut Queue,
 ) -> Result<(), CurveFault>
-    requires job { IsJob (length fronts.old.least) job.now }
-    requires tallied { AreTalliedIn job.now seen.old }
-    requires seen { AreSeen job.now.uses.now seen.old.areas.items fronts.old.spots coming.old }
-    requires few_points { length fronts.old.spots ≤ most_points }
-    requires still { IsStillSomewhere job.now 0 fronts.old.spots
-        (turns_in job.now coming.old queue.old) }
+    requires { IsUnderWay job.now 0 seen.old fronts.old coming.old queue.old }
     ensures count { length fronts.new.least ≡ length fronts.old.least }
-    ensures few_points { OnOk result (length fronts.new.spots ≤ most_points) }
     ensures settled { WhereStill job.now 0 fronts.old.spots
         (turns_in job.now coming.old queue.old) (λ s choices.
         AreSettledOr s choices coming.old.horizon fronts.new.spots result) }
-    ensures backed { OnOk result (WhereStill job.now 0 fronts.old.spots
-        (turns_in job.now coming.old queue.old) (λ s choices.
-        AreBacked s choices fronts.old.held → AreBacked s choices fronts.new.held)) }
+    ensures gained { OnOk result (HaveGainedAll job.now fronts.old fronts.new coming.old
+        queue.old) }
 {
     while let Some(time) = first_time(coming, queue) {
         settle_at(job, seen, fronts, coming, queue, time)?;

@@ -186,31 +186,44 @@ fn choose(
     Ok(place)
 }
 
-/// The place of the point of each class that is shared, given the exact gates of each. Each class
-/// is needed by a time by roots, or by the pins of those that are chosen before it.
-pub(crate) fn shared_places(
-    alloc: Global,
+// Chooses the place of the point that is shared of each class that is needed, the highest first.
+fn choose_places(
     curves: &Curves,
     inputs: &[Option<u32>],
     lib: &Library,
     owners: &[Vec<u32>],
-    roots: &[ClassId],
-    times: &[Micro],
-) -> Result<Vec<u32>, AllocError> {
-    let mut needs = needs_of_roots(alloc, curves, inputs.len(), roots, times)?;
-    let mut places = vec![in alloc; NO_GATE; inputs.len()]?;
-    let ranks = ranks_of(alloc, curves, inputs)?;
+    ranks: &[Rank],
+    needs: &mut Vec<Option<u64>>,
+    places: &mut Vec<u32>,
+) -> Result<(), AllocError> {
     for rank in ranks.iter().rev() {
         let class = rank.class.0 as usize;
-        if class >= inputs.len() || class >= owners.len() || class >= needs.len() {
+        if class >= owners.len() || class >= needs.len() {
             return Err(AllocError);
         }
         if let Some(time) = needs[class] {
-            let place = choose(curves, inputs, lib, &owners[class], &mut needs, *rank, time)?;
+            let place = choose(curves, inputs, lib, &owners[class], needs, *rank, time)?;
             if class < places.len() {
                 places[class] = place;
             }
         }
     }
-    Ok(places)
+    Ok(())
+}
+
+/// Chooses the place of the point of each class that is shared, given the exact gates of each. Each
+/// class is needed by a time by roots, or by the pins of those that are chosen before it.
+pub(crate) fn share_places(
+    alloc: Global,
+    curves: &Curves,
+    inputs: &[Option<u32>],
+    lib: &Library,
+    owners: &[Vec<u32>],
+    places: &mut Vec<u32>,
+    roots: &[ClassId],
+    times: &[Micro],
+) -> Result<(), AllocError> {
+    let mut needs = needs_of_roots(alloc, curves, inputs.len(), roots, times)?;
+    let ranks = ranks_of(alloc, curves, inputs)?;
+    choose_places(curves, inputs, lib, owners, &ranks, &mut needs, places)
 }

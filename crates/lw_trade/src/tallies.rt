@@ -1,9 +1,9 @@
 // What is known of each choice while points are found: its class, and no more than its area by what
 // the groups of its pins have seen.
 ghost use Rattle.std.specs.Prelude.{◌≡◌, ◌+◌, ◌^◌, ◌<◌, ℕ, List, All, IfOk};
+ghost use Rattle.lw_genlib.specs.Cells.{CellParts};
 ghost use Rattle.lw_trade.specs.Choices.{Choice};
 ghost use Rattle.lw_trade.specs.Looks.{AreLooks};
-ghost use Rattle.lw_trade.specs.Points.{Task};
 ghost use Rattle.lw_trade.specs.Pricing.{IsOfLibrary};
 ghost use Rattle.lw_trade.specs.Rows.{plain_part, plain_row, plain_rows};
 ghost use Rattle.lw_trade.specs.Tallies.{AreFirstTallies, AreTallies, HasFallen, IsFirstTally, IsLowered, bound_of};
@@ -108,9 +108,10 @@ fn lower_tally(tallies: &mut [Tally], number: u32, fall: u128)
 pub(crate) fn lower_tallies(uses: &Uses, tallies: &mut [Tally], group: u32, fall: u128)
     requires group { group < uses.now.members.count }
     requires looks { AreLooks uses.now }
-    ensures { (s : Task) (xs : List Choice) (seen fallen : List ℕ) → AreUses s xs uses.now →
-        HasFallen group fall seen fallen → AreTallies s.cells xs uses.now seen tallies.old →
-        AreTallies s.cells xs uses.now fallen tallies.new }
+    ensures { (cells : List CellParts) (xs : List Choice) (seen fallen : List ℕ) →
+        AreUses cells xs uses.now → HasFallen group fall seen fallen →
+        AreTallies cells xs uses.now seen tallies.old →
+        AreTallies cells xs uses.now fallen tallies.new }
 {
     let first = uses.looks.starts[group as usize];
     let end = uses.looks.starts[group as usize + 1];

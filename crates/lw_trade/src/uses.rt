@@ -1,15 +1,7 @@
-ghost use Rattle.std.specs.Prelude.{◌≡◌, ◌+◌, ◌<◌, ℕ, [], List, All, IfOk, IfSome, OnOk, length, map, slice_get, Some};
-ghost use Rattle.lw_genlib.specs.Tables.{millionths};
-ghost use Rattle.lw_laws.specs.Covers.{delays_of, Pattern as TreeOfCell};
-ghost use Rattle.lw_laws.specs.Graphs.{Graph as PlainGraph};
-ghost use Rattle.lw_fixed.specs.declared.micro.Micro.{Micro as MicroOf};
-ghost use Rattle.lw_trade.specs.Choices.{Choice};
-ghost use Rattle.lw_trade.specs.Choices.Part.{gate};
-ghost use Rattle.lw_trade.specs.Points.{Task, task, timing};
-ghost use Rattle.lw_trade.specs.Pricing.{IsOfLibrary, IsWithin};
-ghost use Rattle.lw_trade.specs.Rows.{plain_part, plain_row, plain_rows};
-ghost use Rattle.lw_trade.specs.Uses.{AreGroups, AreUses, AreUsesTo, IsFirstAdded, IsGroup, IsGroupAdded, IsPinAdded};
-ghost use Rattle.lw_pool.specs.Numbers.{numbers};
+ghost use Rattle.std.specs.Prelude.{◌≡◌, ◌<◌, IfOk, IfSome, OnOk, length};
+ghost use Rattle.lw_trade.specs.Pricing.{IsPartFor};
+ghost use Rattle.lw_trade.specs.Rows.{ArePartsFor, plain_part, plain_row, plain_rows};
+ghost use Rattle.lw_trade.specs.Uses.{AreGroups, AreGroupsTo, ArePinsAdded, AreUses, HasFirst, HasNoUses, HaveDelays, IsChoiceAdded, IsFirstAdded, IsGroup, IsGroupAdded, IsPinAdded};
 
 use crate::choices::{Row, Stand};
 use crate::links::Links;
@@ -18,6 +10,7 @@ use lw_fixed::Micro;
 use lw_genlib::Library;
 use lw_pool::ClassId;
 use std::alloc::{AllocError, Global};
+use std::mem;
 
 /// The pins of choices, in groups: those of one class with one delay.
 #[derive(Drop)]
@@ -134,18 +127,10 @@ fn add_pins(
     pins: &[ClassId],
     choice: u32,
 ) -> Result<(), AllocError>
-    requires one_each { length delays.now ≡ length pins.now }
-    requires within { All (λ (c : ClassId). c.0 < uses.old.links.count) pins.now }
-    requires are { AreGroups uses.old }
-    requires first { slice_get uses.old.firsts.items choice
-        ≡ Some (length uses.old.members.classes) }
+    requires pins { HaveDelays uses.old.links.count delays.now pins.now }
+    requires first { HasFirst choice uses.old }
     ensures count { uses.new.links.count ≡ uses.old.links.count }
-    ensures are { OnOk result (AreGroups uses.new) }
-    ensures firsts { OnOk result (uses.new.firsts.items ≡ uses.old.firsts.items) }
-    ensures uses { OnOk result ((s : Task) (xs : List Choice) (c cell : ℕ) →
-        slice_get xs choice ≡ Some (record { class = c; part = gate cell (numbers pins.now) }) →
-        delays_of (timing s).delays cell ≡ map millionths delays.now →
-        AreUsesTo s xs choice 0 uses.old → AreUsesTo s xs choice (length pins.now) uses.new) }
+    ensures added { OnOk result (ArePinsAdded delays.now pins.now choice uses.old uses.new) }
 {
     for (pin, class) in pins.iter().enumerate() {
         add_pin(uses, *class, delays[pin].0, choice)?;
@@ -164,17 +149,11 @@ fn add_first(uses: &mut Uses) -> Result<(), AllocError>
 
 // Adds the pins of the next choice, if it has any.
 fn add_choice(uses: &mut Uses, lib: &Library, row: &Row, choice: u32) -> Result<(), AllocError>
-    requires within { IsWithin uses.old.links.count (plain_part row.now.stand) }
-    requires of_library { IsOfLibrary lib.now (plain_part row.now.stand) }
-    requires are { AreGroups uses.old }
-    requires next { length uses.old.firsts.items ≡ choice }
+    requires part { IsPartFor lib.now uses.old.links.count (plain_part row.now.stand) }
+    requires of { AreGroupsTo choice uses.old }
     ensures count { uses.new.links.count ≡ uses.old.links.count }
-    ensures are { OnOk result (AreGroups uses.new) }
-    ensures next { OnOk result (length uses.new.firsts.items ≡ choice + 1) }
-    ensures uses { OnOk result ((g : PlainGraph) (pats : List TreeOfCell) (starts : List MicroOf)
-        (xs : List Choice) → slice_get xs choice ≡ Some (plain_row row.now) →
-        AreUsesTo (task g pats lib.now starts) xs choice 0 uses.old →
-        AreUsesTo (task g pats lib.now starts) xs (choice + 1) 0 uses.new) }
+    ensures added { OnOk result (IsChoiceAdded lib.now (plain_row row.now) choice uses.old
+        uses.new) }
 {
     add_first(uses)?;
     match &row.stand {
@@ -190,20 +169,41 @@ fn add_choice(uses: &mut Uses, lib: &Library, row: &Row, choice: u32) -> Result<
 // No pins, for so many classes.
 fn no_uses(alloc: Global, classes: usize) -> Result<Uses, AllocError>
     ensures count { IfOk result (λ uses. uses.links.count ≡ classes) }
-    ensures are { IfOk result AreGroups }
-    ensures none { IfOk result (λ uses. (uses.owners.items ≡ [])) }
-    ensures firsts { IfOk result (λ uses. (uses.firsts.items ≡ [])) }
+    ensures none { IfOk result HasNoUses }
 {
+    let links = Links::new(alloc, classes)?;
+    let members = Links::new(alloc, 0)?;
     Ok(Uses {
-        links: Links::new(alloc, classes)?,
+        links,
         delays: Vec::new(alloc),
         lanes: Vec::new(alloc),
         steps: Vec::new(alloc),
-        members: Links::new(alloc, 0)?,
+        members,
         owners: Vec::new(alloc),
         firsts: Vec::new(alloc),
         looks: no_looks(alloc),
     })
+}
+
+// Adds the pins of all choices, and then what looks need.
+fn add_choices(
+    alloc: Global,
+    uses: &mut Uses,
+    rows: &[Row],
+    lib: &Library,
+) -> Result<(), AllocError>
+    requires rows { ArePartsFor lib.now uses.old.links.count rows.now }
+    requires none { HasNoUses uses.old }
+    ensures count { uses.new.links.count ≡ uses.old.links.count }
+    ensures uses { OnOk result (AreUses lib.now (plain_rows rows.now) uses.new) }
+{
+    for (choice, row) in rows.iter().enumerate() {
+        add_choice(uses, lib, row, choice as u32)?;
+    }
+    let groups = uses.links.len();
+    let looks = looks_of(alloc, &uses.members, uses.owners.as_slice(), groups)?;
+    drop(mem::replace(&mut uses.looks, looks));
+    Ok(())
 }
 
 /// The pins of all choices in groups, for so many classes.
@@ -213,19 +213,11 @@ pub(crate) fn uses_of(
     lib: &Library,
     classes: usize,
 ) -> Result<Uses, AllocError>
-    requires few { length rows.now < 4294967296 }
-    requires within { All (λ (r : Row). IsWithin classes (plain_part r.stand)) rows.now }
-    requires of_library { All (λ (r : Row). IsOfLibrary lib.now (plain_part r.stand)) rows.now }
+    requires { ArePartsFor lib.now classes rows.now }
     ensures count { IfOk result (λ uses. uses.links.count ≡ classes) }
-    ensures uses { IfOk result (λ uses. (g : PlainGraph) (pats : List TreeOfCell)
-        (starts : List MicroOf) → AreUses (task g pats lib.now starts) (plain_rows rows.now) uses) }
+    ensures uses { IfOk result (AreUses lib.now (plain_rows rows.now)) }
 {
     let mut uses = no_uses(alloc, classes)?;
-    for (choice, row) in rows.iter().enumerate() {
-        add_choice(&mut uses, lib, row, choice as u32)?;
-    }
-    let groups = uses.links.len();
-    let looks = looks_of(alloc, &uses.members, uses.owners.as_slice(), groups)?;
-    uses.looks = looks;
+    add_choices(alloc, &mut uses, rows, lib)?;
     Ok(uses)
 }

@@ -10,7 +10,7 @@ ghost use Rattle.lw_trade.specs.declared.targets.Targets.{Targets as PlainTarget
 use crate::checking::{is_cut, is_right};
 use crate::choices::{Gate, Stand};
 use crate::grouping::Curves;
-use crate::sharing::shared_places;
+use crate::sharing::share_places;
 use lw_fixed::Micro;
 use lw_genlib::Library;
 use lw_graph::Graph;
@@ -183,9 +183,9 @@ fn net_for(
     }
 }
 
-// The nets of the roots, of which those that are cut may share gates.
-fn nets_of_roots(
-    alloc: Global,
+// Appends the nets of the roots, of which those that are cut may share gates.
+fn push_roots(
+    nets: &mut Vec<u32>,
     curves: &Curves,
     inputs: &[Option<u32>],
     count: u32,
@@ -193,10 +193,10 @@ fn nets_of_roots(
     roots: &[ClassId],
     times: &[Micro],
     sharing: bool,
-) -> Result<Vec<u32>, AllocError> {
-    let mut nets = Vec::with_capacity(alloc, roots.len())?;
-    for (root, time) in roots.iter().zip(times) {
-        let Ok(place) = u32::try_from(nets.len()) else {
+) -> Result<(), AllocError> {
+    nets.reserve(roots.len())?;
+    for (k, (root, time)) in roots.iter().zip(times).enumerate() {
+        let Ok(place) = u32::try_from(k) else {
             return Err(AllocError);
         };
         let user = User { gate: None, place };
@@ -208,7 +208,7 @@ fn nets_of_roots(
         };
         nets.push(net_for(curves, inputs, count, trail, want, user)?)?;
     }
-    Ok(nets)
+    Ok(())
 }
 
 // Finds the exact gates of the roots whose last points by their times are not cut.
@@ -238,9 +238,9 @@ fn start_at_roots(
     Ok(())
 }
 
-// The nets of the pins of a gate with a number, whose point has a time.
-fn nets_of_pins(
-    alloc: Global,
+// Appends the nets of the pins of a gate with a number, whose point has a time.
+fn push_pins(
+    nets: &mut Vec<u32>,
     curves: &Curves,
     inputs: &[Option<u32>],
     count: u32,
@@ -250,13 +250,12 @@ fn nets_of_pins(
     time: u64,
     exact: bool,
     number: u32,
-) -> Result<Numbers, AllocError> {
-    let mut nets = Vec::with_capacity(alloc, pins.len())?;
+) -> Result<(), AllocError> {
     for (pin, class) in pins.iter().enumerate() {
         if pin >= delays.len() {
             return Err(AllocError);
         }
-        let Ok(place) = u32::try_from(nets.len()) else {
+        let Ok(place) = u32::try_from(pin) else {
             return Err(AllocError);
         };
         let user = User {
@@ -271,7 +270,7 @@ fn nets_of_pins(
         };
         nets.push(net_for(curves, inputs, count, trail, want, user)?)?;
     }
-    Ok(Numbers::new(nets))
+    Ok(())
 }
 
 /// The gate of a point, and the time of the point.
@@ -310,10 +309,11 @@ fn go_through(
         return Err(AllocError);
     };
     let (delays, pins) = (lib.cell(gate.cell).delays(), gate.pins.as_slice());
-    let row = nets_of_pins(
-        alloc, curves, inputs, count, trail, delays, pins, time, node.exact, number,
+    let mut row = Vec::with_capacity(alloc, pins.len())?;
+    push_pins(
+        &mut row, curves, inputs, count, trail, delays, pins, time, node.exact, number,
     )?;
-    Ok((gate.cell, row))
+    Ok((gate.cell, Numbers::new(row)))
 }
 
 // Goes on to the pins of each gate that was found and not yet gone through.
@@ -351,8 +351,17 @@ fn walk_first(
 ) -> Result<(), AllocError> {
     start_at_roots(curves, inputs, count, trail, roots, times)?;
     walk_on(alloc, curves, inputs, count, lib, trail, walk)?;
-    trail.places = shared_places(alloc, curves, inputs, lib, &trail.owners, roots, times)?;
-    Ok(())
+    let places = &mut trail.places;
+    share_places(
+        alloc,
+        curves,
+        inputs,
+        lib,
+        &trail.owners,
+        places,
+        roots,
+        times,
+    )
 }
 
 // Walks from the roots down, of which those that are cut may share gates, and says whether what was
@@ -376,7 +385,8 @@ fn walk_through(
     if sharing {
         walk_first(alloc, curves, inputs, count, lib, trail, walk, roots, times)?;
     }
-    walk.nets = nets_of_roots(alloc, curves, inputs, count, trail, roots, times, sharing)?;
+    let nets = &mut walk.nets;
+    push_roots(nets, curves, inputs, count, trail, roots, times, sharing)?;
     walk_on(alloc, curves, inputs, count, lib, trail, walk)?;
     Ok(is_right(curves, inputs, count, lib, trail, walk, roots, times))
 }

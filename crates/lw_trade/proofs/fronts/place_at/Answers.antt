@@ -4,21 +4,21 @@ use Rattle.lw_trade.proofs.Lists.{got}
 use Rattle.lw_trade.proofs.Fronting.{none_before, last_before}
 use Rattle.lw_trade.proofs.fronts.place_at.Goals as goal
 
-pub returns-in_default-clause-none : goal.returns-in_default-clause-none
-returns-in_default-clause-none c = none_before c.args.links.now.classes c.args.points.now c.args.class.0 c.args.time.0 c.in_default.ensures
+pub returns-in_default : goal.returns-in_default
+returns-in_default c = none_before c.args.links.now.classes c.args.points.now c.args.class.0 c.args.time.0 c.in_default.ensures
 
-pub returns-then-points-place-clause-some : goal.returns-then-points-place-clause-some
-returns-then-points-place-clause-some c =
+pub returns-then-points-place : goal.returns-then-points-place
+returns-then-points-place c =
     let d : Found = record { time = record { 0 = 0 }; area = 0; order = 0; choice = 0; depth = 0; jump = 0 } in
     let points = c.args.points.now in
     let place = c.in-Some.place in
-    let lt : place < length points = omega (arith, c.in-Some.ensures.0, c.requires.one_each) in
+    let lt : place < length points = omega (arith, c.in-Some.ensures.0, c.requires.are.one_each) in
     record { last = c.in-Some.ensures; point = slice_index_or points place d; at = got points place d lt; time_is = c.if-points-place.true }
 
-pub returns-clause-none : goal.returns-clause-none
-returns-clause-none c =
+pub returns : goal.returns
+returns c =
     let d : Found = record { time = record { 0 = 0 }; area = 0; order = 0; choice = 0; depth = 0; jump = 0 } in
     let points = c.args.points.now in
     let place = c.in-Some.place in
-    let lt : place < length points = omega (arith, c.in-Some.ensures.0, c.requires.one_each) in
-    last_before c.args.links.now.classes points c.args.class.0 c.args.time.0 place (slice_index_or points place d) c.requires.apart c.requires.late c.in-Some.ensures (got points place d lt) c.if-points-place.false
+    let lt : place < length points = omega (arith, c.in-Some.ensures.0, c.requires.are.one_each) in
+    last_before c.args.links.now.classes points c.args.class.0 c.args.time.0 place (slice_index_or points place d) c.requires.are.apart c.requires.late c.in-Some.ensures (got points place d lt) c.if-points-place.false

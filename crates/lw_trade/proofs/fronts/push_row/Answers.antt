@@ -14,7 +14,7 @@ pub bounds-points-place : goal.bounds-points-place
 bounds-points-place c =
     let last = subst (λ o. IsLast c.args.links.now.classes c.args.class.0 c.loop-next.invariant.bound o) c.in-Some.is c.loop-next.invariant.last in
     let lt = slice_get_within c.args.links.now.classes c.in-Some.place c.args.class.0 last.1 in
-    omega (arith, lt, c.requires.one_each)
+    omega (arith, lt, c.requires.are.one_each)
 
 pub before-next-requires : goal.before-next-requires
 before-next-requires c =
@@ -34,8 +34,8 @@ loop-next-preserved c =
     let points = c.args.points.now in
     let is = subst (λ o. IsPutting classes points c.args.class.0 c.args.to.now.items c.loop-next.to.items c.args.ways.now.items c.loop-next.ways.items o) c.in-Some.is c.loop-next.invariant in
     let lt = slice_get_within classes place c.args.class.0 is.last.1 in
-    let in' : place < length points = omega (arith, lt, c.requires.one_each) in
-    putting_next classes points c.args.class.0 c.args.to.now.items c.args.ways.now.items c.loop-next.to.items c.push.new.self.items c.loop-next.ways.items c.push-in-Some.new.self.items place (slice_index_or points place d) c.before-next.result c.requires.apart is (got points place d in') (c.before-next.ensures c.args.class.0 is.last.1) c.in_ok-push.ensures.items c.in_ok-push-2.ensures.items
+    let in' : place < length points = omega (arith, lt, c.requires.are.one_each) in
+    putting_next classes points c.args.class.0 c.args.to.now.items c.args.ways.now.items c.loop-next.to.items c.push.new.self.items c.loop-next.ways.items c.push-in-Some.new.self.items place (slice_index_or points place d) c.before-next.result c.requires.are.apart is (got points place d in') (c.before-next.ensures c.args.class.0 is.last.1) c.in_ok-push.ensures.items c.in_ok-push-2.ensures.items
 
 pub returns : goal.returns
 returns c =

@@ -6,7 +6,7 @@ use Rattle.lw_trade.proofs.Adding.{pushed_kept, pushed_only, pushed_waits}
 use Rattle.lw_trade.proofs.looking.look_at.Goals as goal
 
 pub returns-then-may_give-clause-looked : goal.returns-then-may_give-clause-looked
-returns-then-may_give-clause-looked c g pats starts us =
+returns-then-may_give-clause-looked c g pats =
     let old = c.args.queue.now in
     let new = c.push.new.self in
     let within = c.requires.time in
@@ -19,17 +19,17 @@ returns-then-may_give-clause-looked c g pats starts us =
       done = inl (pushed_waits old new c.args.time 0 c.args.number within same items);
     }
   where
-    low : c.args.number < length (plain_rows c.args.rows.now)
-    low = omega (arith, c.may_give.ensures.listed c.if-may_give.true, length-map c.args.rows.now plain_row)
+    low : c.args.number < length (plain_rows c.args.job.now.rows.now)
+    low = omega (arith, c.may_give.ensures.listed c.if-may_give.true, length-map c.args.job.now.rows.now plain_row)
 
-    from : (t m : ℕ) → Waits c.args.queue.now t m ⊎ ((t ≡ c.args.time) × (m ≡ c.args.number)) → Waits c.args.queue.now t m ⊎ ((t ≡ c.args.time) × (m < length (plain_rows c.args.rows.now)))
+    from : (t m : ℕ) → Waits c.args.queue.now t m ⊎ ((t ≡ c.args.time) × (m ≡ c.args.number)) → Waits c.args.queue.now t m ⊎ ((t ≡ c.args.time) × (m < length (plain_rows c.args.job.now.rows.now)))
     from t m (inl w) = inl w
     from t m (inr (e, f)) = inr (e, omega (arith, f, low))
 
 pub returns-clause-looked : goal.returns-clause-looked
-returns-clause-looked c g pats starts us = record {
+returns-clause-looked c g pats = record {
   horizon = refl;
   kept = λ t m w. w;
   only = λ t m w. inl w;
-  done = inr (c.may_give.ensures.no_more c.if-may_give.false g pats starts us);
+  done = inr (c.may_give.ensures.no_more c.if-may_give.false g pats);
 }

@@ -1,39 +1,30 @@
-use Rattle.std.proofs.Common.{◌<◌, All, sym, subst, subst₂, arith}
-use Rattle.lw_trade.specs.declared.choices.Row.{Row}
+use Rattle.std.proofs.Common.{All, sym, subst, subst₂, arith}
 use Rattle.lw_trade.specs.Areas.{area_cost}
 use Rattle.lw_trade.specs.Backing.{AreBacked}
 use Rattle.lw_trade.specs.Choices.{AreListedChoices}
 use Rattle.lw_trade.specs.Groups.{AreRows, AreRowsOf, HaveWays}
 use Rattle.lw_trade.specs.Points.{AreCurves, BoundCovers, IsWhy, task}
-use Rattle.lw_trade.specs.Pricing.{IsWithin}
-use Rattle.lw_trade.specs.Rows.{plain_part, plain_rows}
+use Rattle.lw_trade.specs.Rows.{AreRowsFor, IsRowFor, plain_rows}
 use Rattle.lw_label.proofs.Marked.{patterns_of_cells}
 use Rattle.lw_trade.proofs.Curving.{err_is, rows_bound, rows_curves, why_stopped}
 use Rattle.lw_trade.proofs.Counting.{rows_few}
 use Rattle.lw_trade.proofs.Grouped.{rows_shown}
-use Rattle.lw_trade.proofs.Ranges.{rows_within, rows_of_library, rows_classes}
+use Rattle.lw_trade.proofs.Ranges.{rows_for}
 use Rattle.lw_trade.proofs.making.curves.Goals as goal
 
-pub settle_rows-requires-clause-within : goal.settle_rows-requires-clause-within
-settle_rows-requires-clause-within c =
+pub settle_rows-requires-clause-rows : goal.settle_rows-requires-clause-rows
+settle_rows-requires-clause-rows c =
     let s = task c.args.graph.now c.args.pats.now c.args.lib.now c.args.starts.now in
-    let are = subst (λ rows. AreListedChoices s (plain_rows rows)) (sym c.deref.ensures.value) (c.in_ok-rows.ensures.choices c.args.lib.now c.args.starts.now c.requires.of_cells) in
-    subst (λ n. All (λ (r : Row). IsWithin n (plain_part r.stand)) c.deref.result.now) (sym c.classes-classes.ensures.classes) (rows_within s c.classes-classes.ensures.kept c.requires.of_cells c.deref.result.now are)
+    let are = c.in_ok-rows.ensures.choices c.args.lib.now c.args.starts.now c.requires.of_cells in
+    let rows = rows_for s c.classes-classes.ensures.kept c.requires.of_cells c.in_ok-rows.rows.items are in
+    let these : AreRowsFor c.args.lib.now c.classes-classes.result c.in_ok-rows.rows.items = record {
+      few = c.in_ok-rows.ensures.few;
+      each = subst (λ n. All (IsRowFor c.args.lib.now n) c.in_ok-rows.rows.items) (sym c.classes-classes.ensures.classes) rows;
+    } in
+    subst (AreRowsFor c.args.lib.now c.classes-classes.result) (sym c.deref.ensures.value) these
 
-pub settle_rows-requires-clause-of_library : goal.settle_rows-requires-clause-of_library
-settle_rows-requires-clause-of_library c =
-    let s = task c.args.graph.now c.args.pats.now c.args.lib.now c.args.starts.now in
-    let are = subst (λ rows. AreListedChoices s (plain_rows rows)) (sym c.deref.ensures.value) (c.in_ok-rows.ensures.choices c.args.lib.now c.args.starts.now c.requires.of_cells) in
-    rows_of_library s c.classes-classes.ensures.kept c.requires.of_cells c.deref.result.now are
-
-pub settle_rows-requires-clause-classes : goal.settle_rows-requires-clause-classes
-settle_rows-requires-clause-classes c =
-    let s = task c.args.graph.now c.args.pats.now c.args.lib.now c.args.starts.now in
-    let are = subst (λ rows. AreListedChoices s (plain_rows rows)) (sym c.deref.ensures.value) (c.in_ok-rows.ensures.choices c.args.lib.now c.args.starts.now c.requires.of_cells) in
-    subst (λ n. All (λ (r : Row). r.class.0 < n) c.deref.result.now) (sym c.classes-classes.ensures.classes) (rows_classes s c.classes-classes.ensures.kept c.requires.of_cells c.deref.result.now are)
-
-pub settle_rows-requires-clause-choices : goal.settle_rows-requires-clause-choices
-settle_rows-requires-clause-choices c =
+pub settle_rows-requires-clause-listed : goal.settle_rows-requires-clause-listed
+settle_rows-requires-clause-listed c =
     (c.args.graph.now, c.args.pats.now, subst (λ rows. AreListedChoices (task c.args.graph.now c.args.pats.now c.args.lib.now c.as_slice-starts.result.now) (plain_rows rows)) (sym c.deref.ensures.value) (c.in_ok-rows.ensures.choices c.args.lib.now c.as_slice-starts.result.now c.requires.of_cells))
 
 pub returns-in_err-fronts-clause-why : goal.returns-in_err-fronts-clause-why
@@ -50,7 +41,7 @@ returns-clause-curves c =
     let s = task c.args.graph.now c.args.pats.now c.args.lib.now c.as_slice-starts.result.now in
     let n = c.classes-classes.result in
     let are = subst (λ rows. AreListedChoices s (plain_rows rows)) (sym c.deref.ensures.value) (c.in_ok-rows.ensures.choices c.args.lib.now c.as_slice-starts.result.now c.requires.of_cells) in
-    let settled = c.in_ok-fronts.ensures.settled c.args.graph.now c.args.pats.now are in
+    let settled = c.in_ok-fronts.ensures.settled.settled c.args.graph.now c.args.pats.now are in
     let rows = c.in_ok-curves.ensures.rows in
     let shown = rows_shown c.in_ok-fronts.fronts.held n 0 rows.rows rows.are in
     let here = subst₂ (λ ks rs. AreRows ks n 0 rs) c.in_ok-curves.ensures.spots (sym rows.points_are) shown in
@@ -62,7 +53,7 @@ returns-clause-bound c =
     let s = task c.args.graph.now c.args.pats.now c.args.lib.now c.as_slice-starts.result.now in
     let n = c.classes-classes.result in
     let are = subst (λ rows. AreListedChoices s (plain_rows rows)) (sym c.deref.ensures.value) (c.in_ok-rows.ensures.choices c.args.lib.now c.as_slice-starts.result.now c.requires.of_cells) in
-    let settled = c.in_ok-fronts.ensures.settled c.args.graph.now c.args.pats.now are in
+    let settled = c.in_ok-fronts.ensures.settled.settled c.args.graph.now c.args.pats.now are in
     let rows = c.in_ok-curves.ensures.rows in
     let shown = rows_shown c.in_ok-fronts.fronts.held n 0 rows.rows rows.are in
     let here = subst₂ (λ ks rs. AreRows ks n 0 rs) c.in_ok-curves.ensures.spots (sym rows.points_are) shown in
@@ -74,13 +65,13 @@ returns-clause-ways c =
     let s = task c.args.graph.now c.args.pats.now c.args.lib.now c.as_slice-starts.result.now in
     let are = c.in_ok-rows.ensures.choices c.args.lib.now c.as_slice-starts.result.now c.requires.of_cells in
     let are' = subst (λ rows. AreListedChoices s (plain_rows rows)) (sym c.deref.ensures.value) are in
-    let backed = c.in_ok-fronts.ensures.backed c.args.graph.now c.args.pats.now are' in
+    let backed = c.in_ok-fronts.ensures.settled.backed c.args.graph.now c.args.pats.now are' in
     let backed' = subst (λ rows. AreBacked s (plain_rows rows) c.in_ok-fronts.fronts.held) c.deref.ensures.value backed in
     let have : HaveWays s c.in_ok-curves.curves = record {
-      choices = subst (AreListedChoices s) (sym c.in_ok-curves.ensures.choices) are;
+      choices = subst (AreListedChoices s) (sym c.in_ok-curves.ensures.choices_are) are;
       held = c.in_ok-fronts.fronts.held;
       rows = subst (λ n. AreRowsOf c.in_ok-fronts.fronts.held n c.in_ok-curves.curves) c.classes-classes.ensures.classes c.in_ok-curves.ensures.rows;
-      backed = subst (λ xs. AreBacked s xs c.in_ok-fronts.fronts.held) (sym c.in_ok-curves.ensures.choices) backed';
+      backed = subst (λ xs. AreBacked s xs c.in_ok-fronts.fronts.held) (sym c.in_ok-curves.ensures.choices_are) backed';
     } in
     subst (λ starts. HaveWays (task c.args.graph.now c.args.pats.now c.args.lib.now starts) c.in_ok-curves.curves) c.as_slice-starts.ensures have
 
@@ -90,4 +81,4 @@ returns-clause-few c =
     let shown = rows_shown c.in_ok-fronts.fronts.held c.classes-classes.result 0 rows.rows rows.are in
     let here = subst₂ (λ ks rs. AreRows ks c.classes-classes.result 0 rs) c.in_ok-curves.ensures.spots (sym rows.points_are) shown in
     let few = rows_few c.classes-classes.result c.in_ok-fronts.fronts.spots c.in_ok-curves.curves.points c.in_ok-curves.ensures.apart here in
-    omega (arith, few, c.in_ok-fronts.ensures.few)
+    omega (arith, few, c.in_ok-fronts.ensures.settled.few)

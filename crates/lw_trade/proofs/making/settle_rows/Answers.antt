@@ -1,36 +1,30 @@
 use Rattle.lw_trade.proofs.making.settle_rows.Goals as goal
 
-pub settle_job-requires-clause-job : goal.settle_job-requires-clause-job
-settle_job-requires-clause-job c = record {
-  within = c.requires.within;
-  of_library = c.requires.of_library;
-  class_low = c.requires.classes;
-  count = c.in_ok-uses.ensures.count;
+pub uses_of-requires : goal.uses_of-requires
+uses_of-requires c = record {
+  few = c.requires.rows.few;
+  parts = λ k d lt. (c.requires.rows.each k d lt).part;
 }
 
-pub settle_job-requires-clause-horizon : goal.settle_job-requires-clause-horizon
-settle_job-requires-clause-horizon c = c.in_ok-queue.ensures.horizon
+pub started-requires : goal.started-requires
+started-requires c = c.requires.rows.few
 
-pub settle_job-requires-clause-uses : goal.settle_job-requires-clause-uses
-settle_job-requires-clause-uses c g pats = c.in_ok-uses.ensures.uses g pats c.args.starts.now
+pub settle_job-requires-clause-job : goal.settle_job-requires-clause-job
+settle_job-requires-clause-job c = record {
+  rows = c.requires.rows.each;
+  count = c.in_ok-uses.ensures.count;
+  uses = c.in_ok-uses.ensures.uses;
+}
 
-pub settle_job-requires-clause-first : goal.settle_job-requires-clause-first
-settle_job-requires-clause-first c g pats are = c.in_ok-queue.ensures.first g pats c.args.lib.now are
-
-pub settle_job-requires-clause-choices : goal.settle_job-requires-clause-choices
-settle_job-requires-clause-choices c = c.requires.choices
-
-pub returns-clause-count : goal.returns-clause-count
-returns-clause-count c = c.settle_job.ensures.count
-
-pub returns-clause-few : goal.returns-clause-few
-returns-clause-few c = c.settle_job.ensures.few
+pub settle_job-requires-clause-begun : goal.settle_job-requires-clause-begun
+settle_job-requires-clause-begun c = record {
+  horizon_is = c.in_ok-queue.ensures.horizon;
+  listed = c.requires.listed;
+  first = λ g pats are. c.in_ok-queue.ensures.first g pats c.args.lib.now are;
+}
 
 pub returns-clause-settled : goal.returns-clause-settled
 returns-clause-settled c = c.settle_job.ensures.settled
-
-pub returns-clause-backed : goal.returns-clause-backed
-returns-clause-backed c = c.settle_job.ensures.backed
 
 pub returns-clause-stop : goal.returns-clause-stop
 returns-clause-stop c = c.settle_job.ensures.stop

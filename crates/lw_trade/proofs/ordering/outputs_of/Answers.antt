@@ -6,11 +6,8 @@ use Rattle.lw_trade.specs.Placed.{placed_net}
 use Rattle.lw_trade.specs.Traded.{port_net}
 use Rattle.lw_trade.proofs.ordering.outputs_of.Goals as goal
 
-pub net_at-net-requires-clause-few : goal.net_at-net-requires-clause-few
-net_at-net-requires-clause-few c = c.requires.few
-
-pub net_at-net-requires-clause-low : goal.net_at-net-requires-clause-low
-net_at-net-requires-clause-low c = c.requires.low
+pub net_at-net-requires-clause-fit : goal.net_at-net-requires-clause-fit
+net_at-net-requires-clause-fit c = c.requires.fit
 
 pub net_at-net-requires-clause-net : goal.net_at-net-requires-clause-net
 net_at-net-requires-clause-net c = c.requires.nets c.loop-k.k 0 (omega (arith, c.loop-k-test.true, c.requires.one_each))
@@ -27,8 +24,8 @@ loop-k-preserved c =
       nets = ap (map port_net) c.in_ok-push.ensures.items ∙ (map-append port_net known (port ∷ []) ∙ (ap₂ (λ ns n. ns ++ n ∷ []) c.loop-k.invariant.nets c.net_at-net.ensures ∙ sym (map_more (placed_net c.args.inputs c.args.places.now) c.args.nets.now k 0 (omega (arith, c.loop-k-test.true, c.requires.one_each)))));
     }
 
-pub returns-clause-names : goal.returns-clause-names
-returns-clause-names c = c.loop-k.invariant.names ∙ take_all c.loop-k.k c.args.names.now c.loop-k-test.false
-
-pub returns-clause-nets : goal.returns-clause-nets
-returns-clause-nets c = c.loop-k.invariant.nets ∙ ap (map (placed_net c.args.inputs c.args.places.now)) (take_all c.loop-k.k c.args.nets.now (omega (arith, c.loop-k-test.false, c.requires.one_each)))
+pub returns : goal.returns
+returns c = record {
+  names_are = c.loop-k.invariant.names ∙ take_all c.loop-k.k c.args.names.now c.loop-k-test.false;
+  nets_are = c.loop-k.invariant.nets ∙ ap (map (placed_net c.args.inputs c.args.places.now)) (take_all c.loop-k.k c.args.nets.now (omega (arith, c.loop-k-test.false, c.requires.one_each)));
+}

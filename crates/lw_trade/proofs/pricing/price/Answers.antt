@@ -17,7 +17,7 @@ use Rattle.lw_genlib.proofs.Shared.{delays_at}
 pub area_of_pins-requires-clause-one_each : goal.area_of_pins-requires-clause-one_each
 area_of_pins-requires-clause-one_each c =
     let gate = c.in-Gate.gate in
-    let has = subst (λ (st : Stand). IsOfLibrary c.args.lib.now (plain_part st)) c.in-Gate.is c.requires.cell in
+    let has = subst (λ (st : Stand). IsOfLibrary c.args.lib.now (plain_part st)) c.in-Gate.is c.requires.of_library in
     let n = pins_at c.args.lib.now gate.cell.0 (length (numbers gate.pins)) c.cell-cell.result.now c.cell-cell.ensures has in
     ap length c.delays.ensures.delays ∙ (n ∙ (length-map gate.pins (λ (p : ClassId). p.0) ∙ sym (ap length c.as_slice.ensures.classes)))
 

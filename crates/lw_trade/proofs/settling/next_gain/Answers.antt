@@ -1,14 +1,15 @@
-use Rattle.std.proofs.Common.{◌≡◌, ◌<◌, ◌≤◌, ◌∙◌, All, Some, None, true, length, map, refl, slice_index_or, sym, ap, subst, subst₂, arith}
+use Rattle.std.proofs.Common.{◌≡◌, ◌<◌, ◌≤◌, ◌∙◌, Some, None, true, length, map, refl, slice_index_or, sym, ap, subst, subst₂, arith}
 use Rattle.std.proofs.lemmas.List.{length-map}
 use Rattle.lw_trade.specs.declared.choices.Row.{Row}
 use Rattle.lw_trade.specs.Areas.{total}
 use Rattle.lw_trade.specs.Backing.{Held, AreBacked, spot_in}
 use Rattle.lw_trade.specs.Fronts.{FrontState, IsTried}
+use Rattle.lw_trade.specs.Jobs.{IsJob}
 use Rattle.lw_trade.specs.Points.{task}
-use Rattle.lw_trade.specs.Pricing.{IsOfLibrary, IsWithin}
+use Rattle.lw_trade.specs.Pricing.{IsPartFor}
 use Rattle.lw_trade.specs.Rows.{plain_part, plain_row, plain_rows}
 use Rattle.lw_trade.specs.Seen.{AreSeen, HasUnseen}
-use Rattle.lw_trade.specs.Settling.{spot, Has, HasAtMost, GivesNoMoreSeen, IsBest, IsGained, IsStillFor, Waits}
+use Rattle.lw_trade.specs.Settling.{spot, Has, HasAtMost, GivesNoMoreSeen, IsBest, IsStillFor, Waits}
 use Rattle.lw_trade.proofs.Backed.{backed_gained, reached_low}
 use Rattle.lw_trade.proofs.Lists.{got}
 use Rattle.lw_trade.specs.Uses.{turns_of}
@@ -19,100 +20,84 @@ use Rattle.lw_trade.proofs.settling.next_gain.Goals as goal
 
 pub take_at-requires-clause-within : goal.take_at-requires-clause-within
 take_at-requires-clause-within c =
-    let (g, pats, st, us) = c.requires.still in
-    let (are, time, still) = c.loop-number.invariant.still g pats st us in
-    omega (arith, c.requires.time, time.horizon)
+    let (g, pats, st) = c.requires.under_way.still in
+    let (are, time, still) = c.loop-number.invariant.still g pats st in
+    omega (arith, c.requires.under_way.time, time.horizon)
 
 pub take_at-requires-clause-first : goal.take_at-requires-clause-first
 take_at-requires-clause-first c t n w =
-    let (g, pats, st, us) = c.requires.still in
-    let (are, time, still) = c.loop-number.invariant.still g pats st us in
+    let (g, pats, st) = c.requires.under_way.still in
+    let (are, time, still) = c.loop-number.invariant.still g pats st in
     (time.looked t n w).0
 
-pub may_give-requires-clause-tallied : goal.may_give-requires-clause-tallied
-may_give-requires-clause-tallied c = c.requires.tallied
-
-pub may_give-requires-clause-of_library : goal.may_give-requires-clause-of_library
-may_give-requires-clause-of_library c = c.requires.job.of_library
-
-pub may_give-requires-clause-classes : goal.may_give-requires-clause-classes
-may_give-requires-clause-classes c =
-    subst (λ (f : FrontState). All (λ (r : Row). r.class.0 < length f.least) c.args.job.now.rows.now) (sym c.loop-number.invariant.fronts) c.requires.job.class_low
-
-pub may_give-requires-clause-late : goal.may_give-requires-clause-late
-may_give-requires-clause-late c k has =
-    let (g, pats, st, us) = c.requires.still in
-    let (are, time, still) = c.loop-number.invariant.still g pats st us in
-    still.low k (subst (λ (f : FrontState). Has f.spots k) c.loop-number.invariant.fronts has)
+pub may_give-requires : goal.may_give-requires
+may_give-requires c =
+    let (g, pats, st) = c.requires.under_way.still in
+    let (are, time, still) = c.loop-number.invariant.still g pats st in
+    record {
+      job = subst (λ (f : FrontState). IsJob (length f.least) c.args.job.now) (sym c.loop-number.invariant.fronts) c.requires.under_way.job;
+      tallied = c.requires.under_way.tallied;
+      late = λ k has. still.low k (subst (λ (f : FrontState). Has f.spots k) c.loop-number.invariant.fronts has);
+    }
 
 pub loop-number-smaller-then-not-may_give : goal.loop-number-smaller-then-not-may_give
 loop-number-smaller-then-not-may_give c =
-    let (g, pats, st, us) = c.requires.still in
-    let (are, time, still) = c.loop-number.invariant.still g pats st us in
-    let within : c.args.time ≤ c.loop-number.queue.horizon = omega (arith, c.requires.time, time.horizon) in
+    let (g, pats, st) = c.requires.under_way.still in
+    let (are, time, still) = c.loop-number.invariant.still g pats st in
+    let within : c.args.time ≤ c.loop-number.queue.horizon = omega (arith, c.requires.under_way.time, time.horizon) in
     taken_less c.loop-number.queue c.take_at.new.self c.args.time c.in-Some.number within c.in-Some.ensures
 
 pub loop-number-preserved-then-not-may_give : goal.loop-number-preserved-then-not-may_give
 loop-number-preserved-then-not-may_give c = record {
   fronts = c.loop-number.invariant.fronts;
-  still = λ g pats st us.
+  still = λ g pats st.
       let s = task g pats c.args.job.now.lib.now c.args.job.now.starts.now in
       let xs = plain_rows c.args.job.now.rows.now in
       let u = c.args.job.now.uses.now in
       let ks = c.args.fronts.now.spots in
       let coming = c.args.coming.now in
-      let (are, time, still) = c.loop-number.invariant.still g pats st us in
-      let within : c.args.time ≤ c.loop-number.queue.horizon = omega (arith, c.requires.time, time.horizon) in
-      let here = c.may_give.ensures.no_more c.if-not-may_give.true g pats c.args.job.now.starts.now us in
+      let (are, time, still) = c.loop-number.invariant.still g pats st in
+      let within : c.args.time ≤ c.loop-number.queue.horizon = omega (arith, c.requires.under_way.time, time.horizon) in
+      let here = c.may_give.ensures.no_more c.if-not-may_give.true g pats in
       let here' = subst (λ (f : FrontState). GivesNoMoreSeen s xs f.spots (HasUnseen u c.args.seen.now.areas.items f.spots c.args.time) c.args.time c.in-Some.number) c.loop-number.invariant.fronts here in
-      let more = no_more_seen u c.args.seen.now.areas.items ks c.args.time c.in-Some.number coming c.requires.time c.requires.seen c.requires.over s xs here' in
+      let more = no_more_seen u c.args.seen.now.areas.items ks c.args.time c.in-Some.number coming c.requires.under_way.time c.requires.under_way.seen c.requires.over s xs here' in
       let intime = looked_in_time c.args.time (length xs) (turns_of u coming c.loop-number.queue) time c.take_at.new.self c.in-Some.number within c.in-Some.ensures in
       (are, intime, taken_over s xs c.args.time c.in-Some.number ks (turns_of u coming c.loop-number.queue) c.take_at.new.self within still c.in-Some.ensures more);
 }
 
 pub bounds-job-number : goal.bounds-job-number
 bounds-job-number c =
-    let (g, pats, st, us) = c.requires.still in
-    let (are, time, still) = c.loop-number.invariant.still g pats st us in
-    let within : c.args.time ≤ c.loop-number.queue.horizon = omega (arith, c.requires.time, time.horizon) in
+    let (g, pats, st) = c.requires.under_way.still in
+    let (are, time, still) = c.loop-number.invariant.still g pats st in
+    let within : c.args.time ≤ c.loop-number.queue.horizon = omega (arith, c.requires.under_way.time, time.horizon) in
     let w = taken_waits c.loop-number.queue c.take_at.new.self c.args.time c.in-Some.number within c.in-Some.ensures in
     omega (arith, (time.looked c.args.time c.in-Some.number w).1, length-map c.args.job.now.rows.now plain_row)
 
-pub price-requires-clause-within : goal.price-requires-clause-within
-price-requires-clause-within c =
+pub price-requires : goal.price-requires
+price-requires c =
     let r = slice_index_or c.args.job.now.rows.now c.in-Some.number c.index-job-number.result in
-    let (g, pats, st, us) = c.requires.still in
-    let (are, time, still) = c.loop-number.invariant.still g pats st us in
-    let within : c.args.time ≤ c.loop-number.queue.horizon = omega (arith, c.requires.time, time.horizon) in
+    let (g, pats, st) = c.requires.under_way.still in
+    let (are, time, still) = c.loop-number.invariant.still g pats st in
+    let within : c.args.time ≤ c.loop-number.queue.horizon = omega (arith, c.requires.under_way.time, time.horizon) in
     let w = taken_waits c.loop-number.queue c.take_at.new.self c.args.time c.in-Some.number within c.in-Some.ensures in
     let lt : c.in-Some.number < length c.args.job.now.rows.now = omega (arith, (time.looked c.args.time c.in-Some.number w).1, length-map c.args.job.now.rows.now plain_row) in
-    subst₂ (λ (f : FrontState) (q : Row). IsWithin (length f.least) (plain_part q.stand)) (sym c.loop-number.invariant.fronts) (sym (ap (slice_index_or c.args.job.now.rows.now c.in-Some.number) c.index-job-number.is)) (c.requires.job.within c.in-Some.number r lt)
-
-pub price-requires-clause-cell : goal.price-requires-clause-cell
-price-requires-clause-cell c =
-    let r = slice_index_or c.args.job.now.rows.now c.in-Some.number c.index-job-number.result in
-    let (g, pats, st, us) = c.requires.still in
-    let (are, time, still) = c.loop-number.invariant.still g pats st us in
-    let within : c.args.time ≤ c.loop-number.queue.horizon = omega (arith, c.requires.time, time.horizon) in
-    let w = taken_waits c.loop-number.queue c.take_at.new.self c.args.time c.in-Some.number within c.in-Some.ensures in
-    let lt : c.in-Some.number < length c.args.job.now.rows.now = omega (arith, (time.looked c.args.time c.in-Some.number w).1, length-map c.args.job.now.rows.now plain_row) in
-    subst (λ (q : Row). IsOfLibrary c.args.job.now.lib.now (plain_part q.stand)) (sym (ap (slice_index_or c.args.job.now.rows.now c.in-Some.number) c.index-job-number.is)) (c.requires.job.of_library c.in-Some.number r lt)
+    subst₂ (λ (f : FrontState) (q : Row). IsPartFor c.args.job.now.lib.now (length f.least) (plain_part q.stand)) (sym c.loop-number.invariant.fronts) (sym (ap (slice_index_or c.args.job.now.rows.now c.in-Some.number) c.index-job-number.is)) (c.requires.under_way.job.rows c.in-Some.number r lt).part
 
 pub loop-number-smaller-in_default-price : goal.loop-number-smaller-in_default-price
 loop-number-smaller-in_default-price c =
-    let (g, pats, st, us) = c.requires.still in
-    let (are, time, still) = c.loop-number.invariant.still g pats st us in
-    let within : c.args.time ≤ c.loop-number.queue.horizon = omega (arith, c.requires.time, time.horizon) in
+    let (g, pats, st) = c.requires.under_way.still in
+    let (are, time, still) = c.loop-number.invariant.still g pats st in
+    let within : c.args.time ≤ c.loop-number.queue.horizon = omega (arith, c.requires.under_way.time, time.horizon) in
     taken_less c.loop-number.queue c.take_at.new.self c.args.time c.in-Some.number within c.in-Some.ensures
 
 pub loop-number-preserved-in_default-price : goal.loop-number-preserved-in_default-price
 loop-number-preserved-in_default-price c = record {
   fronts = c.loop-number.invariant.fronts;
-  still = λ g pats st us.
+  still = λ g pats st.
       let s = task g pats c.args.job.now.lib.now c.args.job.now.starts.now in
       let r = slice_index_or c.args.job.now.rows.now c.in-Some.number c.index-job-number.result in
-      let (are, time, still) = c.loop-number.invariant.still g pats st us in
-      let within : c.args.time ≤ c.loop-number.queue.horizon = omega (arith, c.requires.time, time.horizon) in
+      let (are, time, still) = c.loop-number.invariant.still g pats st in
+      let within : c.args.time ≤ c.loop-number.queue.horizon = omega (arith, c.requires.under_way.time, time.horizon) in
       let w = taken_waits c.loop-number.queue c.take_at.new.self c.args.time c.in-Some.number within c.in-Some.ensures in
       let lt : c.in-Some.number < length c.args.job.now.rows.now = omega (arith, (time.looked c.args.time c.in-Some.number w).1, length-map c.args.job.now.rows.now plain_row) in
       let at = row_at c.args.job.now.rows.now c.in-Some.number r lt (ap (slice_index_or c.args.job.now.rows.now c.in-Some.number) c.index-job-number.is) in
@@ -121,73 +106,64 @@ loop-number-preserved-in_default-price c = record {
       (are, intime, taken_over s (plain_rows c.args.job.now.rows.now) c.args.time c.in-Some.number c.args.fronts.now.spots (turns_of c.args.job.now.uses.now c.args.coming.now c.loop-number.queue) c.take_at.new.self within still c.in-Some.ensures (none_more s (plain_rows c.args.job.now.rows.now) c.args.fronts.now.spots c.args.time c.in-Some.number (plain_row r) at best));
 }
 
-pub gain-requires-clause-class : goal.gain-requires-clause-class
-gain-requires-clause-class c =
+pub gain-requires : goal.gain-requires
+gain-requires c =
     let r = slice_index_or c.args.job.now.rows.now c.in-Some.number c.index-job-number.result in
-    let (g, pats, st, us) = c.requires.still in
-    let (are, time, still) = c.loop-number.invariant.still g pats st us in
-    let within : c.args.time ≤ c.loop-number.queue.horizon = omega (arith, c.requires.time, time.horizon) in
+    let (g, pats, st) = c.requires.under_way.still in
+    let (are, time, still) = c.loop-number.invariant.still g pats st in
+    let within : c.args.time ≤ c.loop-number.queue.horizon = omega (arith, c.requires.under_way.time, time.horizon) in
     let w = taken_waits c.loop-number.queue c.take_at.new.self c.args.time c.in-Some.number within c.in-Some.ensures in
     let lt : c.in-Some.number < length c.args.job.now.rows.now = omega (arith, (time.looked c.args.time c.in-Some.number w).1, length-map c.args.job.now.rows.now plain_row) in
-    subst₂ (λ (f : FrontState) (q : Row). q.class.0 < length f.least) (sym c.loop-number.invariant.fronts) (sym (ap (slice_index_or c.args.job.now.rows.now c.in-Some.number) c.index-job-number.is)) (c.requires.job.class_low c.in-Some.number r lt)
-
-pub gain-requires-clause-area : goal.gain-requires-clause-area
-gain-requires-clause-area c = c.in-Some-price.ensures.low
-
-pub gain-requires-clause-late : goal.gain-requires-clause-late
-gain-requires-clause-late c k has =
-    let (g, pats, st, us) = c.requires.still in
-    let (are, time, still) = c.loop-number.invariant.still g pats st us in
-    still.low k (subst (λ (f : FrontState). Has f.spots k) c.loop-number.invariant.fronts has)
+    record {
+      class = subst₂ (λ (f : FrontState) (q : Row). q.class.0 < length f.least) (sym c.loop-number.invariant.fronts) (sym (ap (slice_index_or c.args.job.now.rows.now c.in-Some.number) c.index-job-number.is)) (c.requires.under_way.job.rows c.in-Some.number r lt).class_low;
+      small = c.in-Some-price.ensures.low;
+      late = λ k has. still.low k (subst (λ (f : FrontState). Has f.spots k) c.loop-number.invariant.fronts has);
+    }
 
 pub returns-in_err-gain-clause-count : goal.returns-in_err-gain-clause-count
 returns-in_err-gain-clause-count c = c.in_err-gain.ensures.count ∙ ap (λ (f : FrontState). length f.least) c.loop-number.invariant.fronts
 
 pub returns-then-branch-clause-gain : goal.returns-then-branch-clause-gain
-returns-then-branch-clause-gain c g pats st us =
-    let s = task g pats c.args.job.now.lib.now c.args.job.now.starts.now in
+returns-then-branch-clause-gain c =
     let r = slice_index_or c.args.job.now.rows.now c.in-Some.number c.index-job-number.result in
-    let (are, time, still) = c.loop-number.invariant.still g pats st us in
-    let within : c.args.time ≤ c.loop-number.queue.horizon = omega (arith, c.requires.time, time.horizon) in
+    let u = c.args.job.now.uses.now in
+    let old = c.args.fronts.now in
+    let (g', pats', st') = c.requires.under_way.still in
+    let (are', time', still') = c.loop-number.invariant.still g' pats' st' in
+    let within : c.args.time ≤ c.loop-number.queue.horizon = omega (arith, c.requires.under_way.time, time'.horizon) in
     let w = taken_waits c.loop-number.queue c.take_at.new.self c.args.time c.in-Some.number within c.in-Some.ensures in
-    let lt : c.in-Some.number < length c.args.job.now.rows.now = omega (arith, (time.looked c.args.time c.in-Some.number w).1, length-map c.args.job.now.rows.now plain_row) in
+    let lt : c.in-Some.number < length c.args.job.now.rows.now = omega (arith, (time'.looked c.args.time c.in-Some.number w).1, length-map c.args.job.now.rows.now plain_row) in
     let at = row_at c.args.job.now.rows.now c.in-Some.number r lt (ap (slice_index_or c.args.job.now.rows.now c.in-Some.number) c.index-job-number.is) in
-    let best = subst (λ (f : FrontState). IsBest s f.spots (plain_part r.stand) c.args.time (Some c.in-Some-price.area)) c.loop-number.invariant.fronts (c.in-Some-price.ensures.best g pats) in
-    let tried = subst (IsTried c.loop-number.fronts c.gain.new.self (spot r.class.0 c.args.time c.in-Some-price.area) c.in-Some.number) c.if-branch.true c.in_ok-gain.ensures.tried in
-    let gained = subst (λ (f : FrontState). IsGained f.spots c.gain.new.self.spots (spot r.class.0 c.args.time c.in-Some-price.area)) c.loop-number.invariant.fronts tried.0 in
-    let intime = looked_in_time c.args.time (length (plain_rows c.args.job.now.rows.now)) (turns_of c.args.job.now.uses.now c.args.coming.now c.loop-number.queue) time c.take_at.new.self c.in-Some.number within c.in-Some.ensures in
-    (are, intime, taken_gained s (plain_rows c.args.job.now.rows.now) c.args.time c.in-Some.number c.args.fronts.now.spots (turns_of c.args.job.now.uses.now c.args.coming.now c.loop-number.queue) c.take_at.new.self within still c.in-Some.ensures (plain_row r) at are c.in-Some-price.area c.gain.new.self.spots best gained)
-
-pub returns-then-branch-clause-seen : goal.returns-then-branch-clause-seen
-returns-then-branch-clause-seen c =
-    let r = slice_index_or c.args.job.now.rows.now c.in-Some.number c.index-job-number.result in
-    let tried = subst (IsTried c.loop-number.fronts c.gain.new.self (spot r.class.0 c.args.time c.in-Some-price.area) c.in-Some.number) c.if-branch.true c.in_ok-gain.ensures.tried in
-    let gained = subst (λ (f : FrontState). IsGained f.spots c.gain.new.self.spots (spot r.class.0 c.args.time c.in-Some-price.area)) c.loop-number.invariant.fronts tried.0 in
-    (c.args.fronts.now.spots, c.in-Some-price.area, c.requires.seen, gained)
-
-pub returns-clause-seen : goal.returns-clause-seen
-returns-clause-seen c = subst (λ (f : FrontState). AreSeen c.args.job.now.uses.now c.args.seen.now.areas.items f.spots c.args.coming.now) (sym c.loop-number.invariant.fronts) c.requires.seen
-
-pub returns-then-branch-clause-falls : goal.returns-then-branch-clause-falls
-returns-then-branch-clause-falls c =
-    let r = slice_index_or c.args.job.now.rows.now c.in-Some.number c.index-job-number.result in
-    let (g, pats, st, us) = c.requires.still in
-    let (are, time, still) = c.loop-number.invariant.still g pats st us in
-    let within : c.args.time ≤ c.loop-number.queue.horizon = omega (arith, c.requires.time, time.horizon) in
-    let w = taken_waits c.loop-number.queue c.take_at.new.self c.args.time c.in-Some.number within c.in-Some.ensures in
-    let lt : c.in-Some.number < length c.args.job.now.rows.now = omega (arith, (time.looked c.args.time c.in-Some.number w).1, length-map c.args.job.now.rows.now plain_row) in
-    let in' = subst (λ (q : Row). q.class.0 < length c.args.fronts.now.least) (sym (ap (slice_index_or c.args.job.now.rows.now c.in-Some.number) c.index-job-number.is)) (c.requires.job.class_low c.in-Some.number r lt) in
     let tried = subst (IsTried c.loop-number.fronts c.gain.new.self (spot r.class.0 c.args.time c.in-Some-price.area) c.in-Some.number) c.if-branch.true c.in_ok-gain.ensures.tried in
     let tried' = subst (λ f. IsTried f c.gain.new.self (spot r.class.0 c.args.time c.in-Some-price.area) c.in-Some.number true) c.loop-number.invariant.fronts tried in
-    let at = got c.args.fronts.now.least r.class.0 0 in' in
-    let falls = total_set c.args.fronts.now.least r.class.0 c.in-Some-price.area (slice_index_or c.args.fronts.now.least r.class.0 0) at (tried'.2 (slice_index_or c.args.fronts.now.least r.class.0 0) at) in
-    (in', subst (λ xs. total xs < total c.args.fronts.now.least) (sym tried'.1) falls)
+    record {
+      after = λ g pats st.
+          let s = task g pats c.args.job.now.lib.now c.args.job.now.starts.now in
+          let (are, time, still) = c.loop-number.invariant.still g pats st in
+          let best = subst (λ (f : FrontState). IsBest s f.spots (plain_part r.stand) c.args.time (Some c.in-Some-price.area)) c.loop-number.invariant.fronts (c.in-Some-price.ensures.best g pats) in
+          let intime = looked_in_time c.args.time (length (plain_rows c.args.job.now.rows.now)) (turns_of u c.args.coming.now c.loop-number.queue) time c.take_at.new.self c.in-Some.number within c.in-Some.ensures in
+          (are, intime, taken_gained s (plain_rows c.args.job.now.rows.now) c.args.time c.in-Some.number old.spots (turns_of u c.args.coming.now c.loop-number.queue) c.take_at.new.self within still c.in-Some.ensures (plain_row r) at are c.in-Some-price.area c.gain.new.self.spots best tried'.0);
+      seen = (old.spots, c.in-Some-price.area, c.requires.under_way.seen, tried'.0);
+      falls =
+          let in' = subst (λ (q : Row). q.class.0 < length old.least) (sym (ap (slice_index_or c.args.job.now.rows.now c.in-Some.number) c.index-job-number.is)) (c.requires.under_way.job.rows c.in-Some.number r lt).class_low in
+          let had = got old.least r.class.0 0 in' in
+          let falls = total_set old.least r.class.0 c.in-Some-price.area (slice_index_or old.least r.class.0 0) had (tried'.2 (slice_index_or old.least r.class.0 0) had) in
+          (in', subst (λ xs. total xs < total old.least) (sym tried'.1) falls);
+      backed = λ g pats st backed.
+          let s = task g pats c.args.job.now.lib.now c.args.job.now.starts.now in
+          let (are, time, still) = c.loop-number.invariant.still g pats st in
+          let best = subst (λ (f : FrontState). IsBest s f.spots (plain_part r.stand) c.args.time (Some c.in-Some-price.area)) c.loop-number.invariant.fronts (c.in-Some-price.ensures.best g pats) in
+          let same = subst (λ (f : FrontState). map spot_in f.held ≡ f.spots) c.loop-number.invariant.fronts c.in_ok-gain.ensures.spots in
+          let (order, gained) = tried'.3 in
+          let h : Held = record { spot = spot r.class.0 c.args.time c.in-Some-price.area; choice = c.in-Some.number; order = order } in
+          backed_gained old.held c.gain.new.self.held h gained s (plain_rows c.args.job.now.rows.now) old.spots same (λ k has. reached_low s k (still.reached k has)) (plain_row r) are at refl best backed;
+    }
 
 pub loop-number-smaller : goal.loop-number-smaller
 loop-number-smaller c =
-    let (g, pats, st, us) = c.requires.still in
-    let (are, time, still) = c.loop-number.invariant.still g pats st us in
-    let within : c.args.time ≤ c.loop-number.queue.horizon = omega (arith, c.requires.time, time.horizon) in
+    let (g, pats, st) = c.requires.under_way.still in
+    let (are, time, still) = c.loop-number.invariant.still g pats st in
+    let within : c.args.time ≤ c.loop-number.queue.horizon = omega (arith, c.requires.under_way.time, time.horizon) in
     taken_less c.loop-number.queue c.take_at.new.self c.args.time c.in-Some.number within c.in-Some.ensures
 
 pub loop-number-preserved : goal.loop-number-preserved
@@ -196,10 +172,10 @@ loop-number-preserved c =
     let tried = subst (IsTried c.loop-number.fronts c.gain.new.self (spot r.class.0 c.args.time c.in-Some-price.area) c.in-Some.number) c.if-branch.false c.in_ok-gain.ensures.tried in
     record {
       fronts = tried.0 ∙ c.loop-number.invariant.fronts;
-      still = λ g pats st us.
+      still = λ g pats st.
           let s = task g pats c.args.job.now.lib.now c.args.job.now.starts.now in
-          let (are, time, still) = c.loop-number.invariant.still g pats st us in
-          let within : c.args.time ≤ c.loop-number.queue.horizon = omega (arith, c.requires.time, time.horizon) in
+          let (are, time, still) = c.loop-number.invariant.still g pats st in
+          let within : c.args.time ≤ c.loop-number.queue.horizon = omega (arith, c.requires.under_way.time, time.horizon) in
           let w = taken_waits c.loop-number.queue c.take_at.new.self c.args.time c.in-Some.number within c.in-Some.ensures in
           let lt : c.in-Some.number < length c.args.job.now.rows.now = omega (arith, (time.looked c.args.time c.in-Some.number w).1, length-map c.args.job.now.rows.now plain_row) in
           let at = row_at c.args.job.now.rows.now c.in-Some.number r lt (ap (slice_index_or c.args.job.now.rows.now c.in-Some.number) c.index-job-number.is) in
@@ -210,32 +186,15 @@ loop-number-preserved c =
     }
 
 pub returns-clause-gain : goal.returns-clause-gain
-returns-clause-gain c g pats st us =
-    let s = task g pats c.args.job.now.lib.now c.args.job.now.starts.now in
-    let now = c.loop-number.invariant.still g pats st us in
+returns-clause-gain c =
     let (same, over) = c.in_default.ensures in
-    let here = subst (λ (f : FrontState). IsStillFor s (plain_rows c.args.job.now.rows.now) c.args.time f.spots (turns_of c.args.job.now.uses.now c.args.coming.now c.loop-number.queue)) (sym c.loop-number.invariant.fronts) now in
-    let here' = subst (λ q. IsStillFor s (plain_rows c.args.job.now.rows.now) c.args.time c.loop-number.fronts.spots (turns_of c.args.job.now.uses.now c.args.coming.now q)) (sym same) here in
-    (here', (subst (λ q. (t n : _) → Waits q t n → c.args.time < t) (sym same) over, c.requires.over))
-
-pub returns-then-branch-clause-backed : goal.returns-then-branch-clause-backed
-returns-then-branch-clause-backed c g pats st us backed =
-    let s = task g pats c.args.job.now.lib.now c.args.job.now.starts.now in
-    let r = slice_index_or c.args.job.now.rows.now c.in-Some.number c.index-job-number.result in
-    let old = c.args.fronts.now in
-    let (are, time, still) = c.loop-number.invariant.still g pats st us in
-    let within : c.args.time ≤ c.loop-number.queue.horizon = omega (arith, c.requires.time, time.horizon) in
-    let w = taken_waits c.loop-number.queue c.take_at.new.self c.args.time c.in-Some.number within c.in-Some.ensures in
-    let lt : c.in-Some.number < length c.args.job.now.rows.now = omega (arith, (time.looked c.args.time c.in-Some.number w).1, length-map c.args.job.now.rows.now plain_row) in
-    let at = row_at c.args.job.now.rows.now c.in-Some.number r lt (ap (slice_index_or c.args.job.now.rows.now c.in-Some.number) c.index-job-number.is) in
-    let best = subst (λ (f : FrontState). IsBest s f.spots (plain_part r.stand) c.args.time (Some c.in-Some-price.area)) c.loop-number.invariant.fronts (c.in-Some-price.ensures.best g pats) in
-    let tried = subst (IsTried c.loop-number.fronts c.gain.new.self (spot r.class.0 c.args.time c.in-Some-price.area) c.in-Some.number) c.if-branch.true c.in_ok-gain.ensures.tried in
-    let tried' = subst (λ f. IsTried f c.gain.new.self (spot r.class.0 c.args.time c.in-Some-price.area) c.in-Some.number true) c.loop-number.invariant.fronts tried in
-    let same = subst (λ (f : FrontState). map spot_in f.held ≡ f.spots) c.loop-number.invariant.fronts c.in_ok-gain.ensures.spots in
-    let (order, gained) = tried'.3 in
-    let h : Held = record { spot = spot r.class.0 c.args.time c.in-Some-price.area; choice = c.in-Some.number; order = order } in
-    backed_gained old.held c.gain.new.self.held h gained s (plain_rows c.args.job.now.rows.now) old.spots same (λ k has. reached_low s k (still.reached k has)) (plain_row r) are at refl best backed
-
-pub returns-clause-backed : goal.returns-clause-backed
-returns-clause-backed c g pats st us backed =
-    subst (λ (f : FrontState). AreBacked (task g pats c.args.job.now.lib.now c.args.job.now.starts.now) (plain_rows c.args.job.now.rows.now) f.held) (sym c.loop-number.invariant.fronts) backed
+    record {
+      after = λ g pats st.
+          let s = task g pats c.args.job.now.lib.now c.args.job.now.starts.now in
+          let here = subst (λ (f : FrontState). IsStillFor s (plain_rows c.args.job.now.rows.now) c.args.time f.spots (turns_of c.args.job.now.uses.now c.args.coming.now c.loop-number.queue)) (sym c.loop-number.invariant.fronts) (c.loop-number.invariant.still g pats st) in
+          let here' = subst (λ q. IsStillFor s (plain_rows c.args.job.now.rows.now) c.args.time c.loop-number.fronts.spots (turns_of c.args.job.now.uses.now c.args.coming.now q)) (sym same) here in
+          (here', (subst (λ q. (t n : _) → Waits q t n → c.args.time < t) (sym same) over, c.requires.over));
+      seen = subst (λ (f : FrontState). AreSeen c.args.job.now.uses.now c.args.seen.now.areas.items f.spots c.args.coming.now) (sym c.loop-number.invariant.fronts) c.requires.under_way.seen;
+      falls = tt;
+      backed = λ g pats st backed. subst (λ (f : FrontState). AreBacked (task g pats c.args.job.now.lib.now c.args.job.now.starts.now) (plain_rows c.args.job.now.rows.now) f.held) (sym c.loop-number.invariant.fronts) backed;
+    }

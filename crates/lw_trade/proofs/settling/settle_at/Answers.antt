@@ -1,4 +1,4 @@
-use Rattle.std.proofs.Common.{◌∙◌, subst, sym, arith}
+use Rattle.std.proofs.Common.{◌∙◌, refl, subst, sym, arith}
 use Rattle.lw_trade.specs.Jobs.{HaveFallen, IsJob}
 use Rattle.lw_trade.specs.Points.{task}
 use Rattle.lw_trade.specs.Rows.{plain_rows}
@@ -10,53 +10,86 @@ use Rattle.lw_trade.proofs.SeenPoints.{seen_pushed}
 use Rattle.lw_trade.proofs.Stepping.{uses_added}
 use Rattle.lw_trade.proofs.settling.settle_at.Goals as goal
 
-pub gain_at-requires-clause-job : goal.gain_at-requires-clause-job
-gain_at-requires-clause-job c = subst (λ n. IsJob n c.args.job.now) (sym c.loop-class.invariant.count) c.requires.job
+pub loop-class-init : goal.loop-class-init
+loop-class-init c = record {
+  count = refl;
+  horizon = refl;
+  tallied = c.requires.tallied;
+  seen = c.requires.seen;
+  still = λ g pats st. st;
+  backed = λ g pats st backed. backed;
+}
+
+pub gain_at-requires : goal.gain_at-requires
+gain_at-requires c = record {
+  job = subst (λ n. IsJob n c.args.job.now) (sym c.loop-class.invariant.count) c.requires.job;
+  time = omega (arith, c.requires.time, c.loop-class.invariant.horizon);
+  tallied = c.loop-class.invariant.tallied;
+  seen = c.loop-class.invariant.seen;
+  still = let (g, pats, st) = c.requires.still in (g, pats, c.loop-class.invariant.still g pats st);
+}
 
 pub push_groups-requires-clause-class : goal.push_groups-requires-clause-class
 push_groups-requires-clause-class c =
-    let falls = subst (HaveFallen c.loop-class.fronts.least c.gain_at.new.fronts.least) c.in-Some.is c.in_ok-class.ensures.falls in
+    let falls = subst (HaveFallen c.loop-class.fronts.least c.gain_at.new.fronts.least) c.in-Some.is c.in_ok-class.ensures.gain.falls in
     omega (arith, falls.0, c.requires.job.count, c.loop-class.invariant.count)
 
 pub push_groups-requires-clause-are : goal.push_groups-requires-clause-are
-push_groups-requires-clause-are c = let (g, pats, st, us) = c.requires.still in us.pins.are
+push_groups-requires-clause-are c = c.requires.job.uses.pins.are
 
 pub loop-class-preserved : goal.loop-class-preserved
 loop-class-preserved c = record {
-  count = c.in_ok-class.ensures.count ∙ c.loop-class.invariant.count;
-  horizon = c.in_ok-push_groups.ensures.horizon ∙ (c.in_ok-class.ensures.horizon ∙ c.loop-class.invariant.horizon);
-  still = λ g pats st us.
+  count = c.in_ok-class.ensures.kept.count ∙ c.loop-class.invariant.count;
+  horizon = c.in_ok-push_groups.ensures.horizon ∙ (c.in_ok-class.ensures.kept.horizon ∙ c.loop-class.invariant.horizon);
+  still = λ g pats st.
       let s = task g pats c.args.job.now.lib.now c.args.job.now.starts.now in
       let xs = plain_rows c.args.job.now.rows.now in
       let u = c.args.job.now.uses.now in
       let next = c.gain_at.new in
-      let now = c.loop-class.invariant.still g pats st us in
-      let (are, time, gaining) = subst (λ o. IsAfter s xs c.args.time next.fronts.spots (turns_of u next.coming next.queue) o) c.in-Some.is (c.in_ok-class.ensures.gain g pats now us) in
+      let now = c.loop-class.invariant.still g pats st in
+      let (are, time, gaining) = subst (λ o. IsAfter s xs c.args.time next.fronts.spots (turns_of u next.coming next.queue) o) c.in-Some.is (c.in_ok-class.ensures.gain.after g pats now) in
+      let us = c.requires.job.uses in
       let added = c.in_ok-push_groups.ensures.added in
       let class = c.in-Some.class.0 in
       let more = groups_more s xs u c.args.time class next.coming c.push_groups.new.coming next.queue us added in
       let all = groups_added s xs u c.args.time class next.coming c.push_groups.new.coming next.queue us added in
       let still = uses_added s xs are c.args.time next.coming.horizon class next.fronts.spots (Comes (turns_of u next.coming next.queue)) (Comes (turns_of u c.push_groups.new.coming next.queue)) gaining more all in
       (are, groups_in_time s xs u c.args.time class next.coming c.push_groups.new.coming next.queue us added time, subst (λ h. IsStill s xs c.args.time h next.fronts.spots (Comes (turns_of u c.push_groups.new.coming next.queue))) (sym added.horizon) still);
-  tallied = c.in_ok-class.ensures.tallied;
+  tallied = c.in_ok-class.ensures.kept.tallied;
   seen =
       let next = c.gain_at.new in
-      let (old, area, are, gained) = subst (AreSeenAfter c.args.job.now.uses.now next.seen.areas.items next.fronts.spots next.coming c.args.time) c.in-Some.is c.in_ok-class.ensures.seen in
+      let (old, area, are, gained) = subst (AreSeenAfter c.args.job.now.uses.now next.seen.areas.items next.fronts.spots next.coming c.args.time) c.in-Some.is c.in_ok-class.ensures.gain.seen in
       seen_pushed c.args.job.now.uses.now next.seen.areas.items old next.fronts.spots c.in-Some.class.0 c.args.time area next.coming c.push_groups.new.coming are gained c.in_ok-push_groups.ensures.added;
-  backed = λ g pats st us backed. c.in_ok-class.ensures.backed g pats (c.loop-class.invariant.still g pats st us) us (c.loop-class.invariant.backed g pats st us backed);
+  backed = λ g pats st backed. c.in_ok-class.ensures.gain.backed g pats (c.loop-class.invariant.still g pats st) (c.loop-class.invariant.backed g pats st backed);
 }
 
-pub returns-in_err-push_groups-clause-horizon : goal.returns-in_err-push_groups-clause-horizon
-returns-in_err-push_groups-clause-horizon c = c.in_err-push_groups.ensures.horizon ∙ (c.in_ok-class.ensures.horizon ∙ c.loop-class.invariant.horizon)
+pub returns-in_err-class-clause-kept : goal.returns-in_err-class-clause-kept
+returns-in_err-class-clause-kept c = record {
+  horizon = c.in_err-class.ensures.kept.horizon ∙ c.loop-class.invariant.horizon;
+  count = c.in_err-class.ensures.kept.count ∙ c.loop-class.invariant.count;
+  tallied = c.in_err-class.ensures.kept.tallied;
+}
 
-pub returns-clause-still : goal.returns-clause-still
-returns-clause-still c g pats st us =
-    subst (λ o. IsAfter (task g pats c.args.job.now.lib.now c.args.job.now.starts.now) (plain_rows c.args.job.now.rows.now) c.args.time c.gain_at.new.fronts.spots (turns_of c.args.job.now.uses.now c.gain_at.new.coming c.gain_at.new.queue) o) c.in_default.is (c.in_ok-class.ensures.gain g pats (c.loop-class.invariant.still g pats st us) us)
+pub returns-in_err-push_groups-clause-kept : goal.returns-in_err-push_groups-clause-kept
+returns-in_err-push_groups-clause-kept c = record {
+  horizon = c.in_err-push_groups.ensures.horizon ∙ (c.in_ok-class.ensures.kept.horizon ∙ c.loop-class.invariant.horizon);
+  count = c.in_ok-class.ensures.kept.count ∙ c.loop-class.invariant.count;
+  tallied = c.in_ok-class.ensures.kept.tallied;
+}
 
-pub returns-clause-backed : goal.returns-clause-backed
-returns-clause-backed c g pats st us backed = c.in_ok-class.ensures.backed g pats (c.loop-class.invariant.still g pats st us) us (c.loop-class.invariant.backed g pats st us backed)
+pub returns-clause-kept : goal.returns-clause-kept
+returns-clause-kept c = record {
+  horizon = c.in_ok-class.ensures.kept.horizon ∙ c.loop-class.invariant.horizon;
+  count = c.in_ok-class.ensures.kept.count ∙ c.loop-class.invariant.count;
+  tallied = c.in_ok-class.ensures.kept.tallied;
+}
 
-pub returns-clause-seen : goal.returns-clause-seen
-returns-clause-seen c =
+pub returns-clause-gained : goal.returns-clause-gained
+returns-clause-gained c =
+    let job = c.args.job.now in
     let next = c.gain_at.new in
-    subst (AreSeenAfter c.args.job.now.uses.now next.seen.areas.items next.fronts.spots next.coming c.args.time) c.in_default.is c.in_ok-class.ensures.seen
+    record {
+      seen = subst (AreSeenAfter job.uses.now next.seen.areas.items next.fronts.spots next.coming c.args.time) c.in_default.is c.in_ok-class.ensures.gain.seen;
+      still = λ g pats st. subst (λ o. IsAfter (task g pats job.lib.now job.starts.now) (plain_rows job.rows.now) c.args.time next.fronts.spots (turns_of job.uses.now next.coming next.queue) o) c.in_default.is (c.in_ok-class.ensures.gain.after g pats (c.loop-class.invariant.still g pats st));
+      backed = λ g pats st backed. c.in_ok-class.ensures.gain.backed g pats (c.loop-class.invariant.still g pats st) (c.loop-class.invariant.backed g pats st backed);
+    }

@@ -1,7 +1,7 @@
 use Rattle.std.proofs.Common.{◌≡◌, ℕ, List}
+use Rattle.lw_genlib.specs.Cells.{CellParts}
 use Rattle.lw_trade.specs.Choices.{Choice}
 use Rattle.lw_trade.specs.Looks.{AreMembersListed, owners_of}
-use Rattle.lw_trade.specs.Points.{Task}
 use Rattle.lw_trade.specs.Tallies.{AreTallies, HasFallen}
 use Rattle.lw_trade.specs.Uses.{AreUses}
 use Rattle.lw_trade.proofs.Falling.{IsFalling}
@@ -9,4 +9,4 @@ use Rattle.lw_trade.proofs.tallies.lower_tallies.Given as goal
 
 abbrev pub invariant-loop-at : goal.invariant-loop-at
 invariant-loop-at l =
-    (s : Task) (xs : List Choice) (seen fallen places : List ℕ) → AreUses s xs l.uses → HasFallen l.group l.fall seen fallen → l.uses.looks.numbers.items ≡ owners_of l.uses.owners.items places → AreMembersListed l.uses.members.classes l.uses.members.count l.uses.looks.starts.items places → AreTallies s.cells xs l.uses seen l.initial.tallies → IsFalling s.cells xs l.uses fallen l.fall places l.at l.end l.tallies
+    (cells : List CellParts) (xs : List Choice) (seen fallen places : List ℕ) → AreUses cells xs l.uses → HasFallen l.group l.fall seen fallen → l.uses.looks.numbers.items ≡ owners_of l.uses.owners.items places → AreMembersListed l.uses.members.classes l.uses.members.count l.uses.looks.starts.items places → AreTallies cells xs l.uses seen l.initial.tallies → IsFalling cells xs l.uses fallen l.fall places l.at l.end l.tallies

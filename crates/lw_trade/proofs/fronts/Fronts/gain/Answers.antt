@@ -15,27 +15,28 @@ returns-then-index-area-clause-tried c =
     let lt = subst (λ (s : FrontState). c.args.class.0 < length s.least) (sym c.self.view_is) c.requires.class in
     let late = subst (λ (s : FrontState). (k : Spot) → Has s.spots k → k.time ≤ c.args.time) (sym c.self.view_is) c.requires.late in
     let is = c.self.invariant.least_is c.args.class.0 c.index.result.now (read_at least c.args.class.0 c.index.result.now lt c.index.ensures) in
-    let had = least_had spots c.args.class.0 c.args.time c.args.area c.index.result.now is c.if-index-area.true c.requires.area late in
+    let had = least_had spots c.args.class.0 c.args.time c.args.area c.index.result.now is c.if-index-area.true c.requires.small late in
     (refl, subst (λ (s : FrontState). HasAtMost s.spots c.args.class.0 c.args.time c.args.area) c.self.view_is had)
 
-pub put-requires-clause-late : goal.put-requires-clause-late
-put-requires-clause-late c = subst (λ (s : FrontState). (k : Spot) → Has s.spots k → k.time ≤ c.args.time) (sym c.self.view_is) c.requires.late
-
-pub put-requires-clause-less : goal.put-requires-clause-less
-put-requires-clause-less c k has e =
+pub put-requires : goal.put-requires
+put-requires c =
     let least = c.self.inside.least.items in
     let lt = subst (λ (s : FrontState). c.args.class.0 < length s.least) (sym c.self.view_is) c.requires.class in
     let is = c.self.invariant.least_is c.args.class.0 c.index.result.now (read_at least c.args.class.0 c.index.result.now lt c.index.ensures) in
-    let low = is.low k has e in
-    omega (arith, low, c.if-index-area.false)
+    record {
+      class = omega (arith, lt, c.self.invariant.count);
+      are = c.self.invariant.are;
+      late = subst (λ (s : FrontState). (k : Spot) → Has s.spots k → k.time ≤ c.args.time) (sym c.self.view_is) c.requires.late;
+      less = λ k has e. let low = is.low k has e in omega (arith, low, c.if-index-area.false);
+      fresh = c.self.invariant.orders;
+    }
 
 pub invariant_of-self : goal.invariant_of-self
 invariant_of-self c = record {
-  one_each = c.in_err-put.ensures.one_each;
+  are = c.in_err-put.ensures.are;
   count = c.in_err-put.ensures.count ∙ c.self.invariant.count;
-  apart = c.in_err-put.ensures.apart;
-  least_is = λ d a e. subst (λ xs. IsLeastOf xs d a) (sym c.in_err-put.ensures.err) (c.self.invariant.least_is d a e);
-  orders = subst (λ hs. (h : Held) → IsHeld hs h → h.order < c.self.inside.gains) (sym c.in_err-put.ensures.held_err) c.self.invariant.orders;
+  least_is = λ d a e. subst (λ xs. IsLeastOf xs d a) (sym c.in_err-put.ensures.err.spots) (c.self.invariant.least_is d a e);
+  orders = subst (λ hs. (h : Held) → IsHeld hs h → h.order < c.self.inside.gains) (sym c.in_err-put.ensures.err.held) c.self.invariant.orders;
 }
 
 pub invariant_of-self-2 : goal.invariant_of-self-2
@@ -47,11 +48,10 @@ invariant_of-self-2 c =
     let is = c.self.invariant.least_is c.args.class.0 c.index.result.now (read_at least c.args.class.0 c.index.result.now lt c.index.ensures) in
     let below : (k : Spot) → Has spots k → k.class ≡ c.args.class.0 → c.args.area < k.area = (λ k has e. let low = is.low k has e in omega (arith, low, c.if-index-area.false)) in
     record {
-      one_each = c.in_ok-put.ensures.one_each;
+      are = c.in_ok-put.ensures.are;
       count = c.in_ok-put.ensures.count ∙ (c.self.invariant.count ∙ sym (length-set least c.args.class.0 c.args.area));
-      apart = c.in_ok-put.ensures.apart;
-      least_is = least_all spots next (spot c.args.class.0 c.args.time c.args.area) c.in_ok-put.ensures.gained least c.requires.area below c.self.invariant.least_is;
-      orders = orders_gained (held_of c.self.inside.links.classes c.self.inside.points.items) (held_of c.put.new.links.classes c.put.new.points.items) _ c.self.inside.gains c.in_ok-put.ensures.held refl c.self.invariant.orders;
+      least_is = least_all spots next (spot c.args.class.0 c.args.time c.args.area) c.in_ok-put.ensures.put.gained least c.requires.small below c.self.invariant.least_is;
+      orders = orders_gained (held_of c.self.inside.links.classes c.self.inside.points.items) (held_of c.put.new.links.classes c.put.new.points.items) _ c.self.inside.gains c.in_ok-put.ensures.put.held refl c.self.invariant.orders;
     }
 
 pub returns-clause-tried : goal.returns-clause-tried
@@ -61,13 +61,13 @@ returns-clause-tried c =
     let next = spots_of c.put.new.links.classes c.put.new.points.items in
     let lt = subst (λ (s : FrontState). c.args.class.0 < length s.least) (sym c.self.view_is) c.requires.class in
     let at = read_at least c.args.class.0 c.index.result.now lt c.index.ensures in (
-      subst (λ (s : FrontState). IsGained s.spots next (spot c.args.class.0 c.args.time c.args.area)) c.self.view_is c.in_ok-put.ensures.gained,
+      subst (λ (s : FrontState). IsGained s.spots next (spot c.args.class.0 c.args.time c.args.area)) c.self.view_is c.in_ok-put.ensures.put.gained,
       ap (λ (s : FrontState). slice_set s.least c.args.class.0 c.args.area) c.self.view_is,
       λ area e.
           let here = subst (λ (s : FrontState). slice_get s.least c.args.class.0 ≡ Some area) (sym c.self.view_is) e in
           let same = same_Some c.index.result.now area (sym at ∙ here) in
           omega (arith, same, c.if-index-area.false),
-      (c.self.inside.gains, subst (λ (s : FrontState). IsHeldGained s.held (held_of c.put.new.links.classes c.put.new.points.items) (record { spot = spot c.args.class.0 c.args.time c.args.area; choice = c.args.choice; order = c.self.inside.gains })) c.self.view_is c.in_ok-put.ensures.held),
+      (c.self.inside.gains, subst (λ (s : FrontState). IsHeldGained s.held (held_of c.put.new.links.classes c.put.new.points.items) (record { spot = spot c.args.class.0 c.args.time c.args.area; choice = c.args.choice; order = c.self.inside.gains })) c.self.view_is c.in_ok-put.ensures.put.held),
     )
 
 pub returns-then-index-area-clause-spots : goal.returns-then-index-area-clause-spots

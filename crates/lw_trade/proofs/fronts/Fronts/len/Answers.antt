@@ -6,7 +6,7 @@ use Rattle.lw_trade.proofs.fronts.Fronts.len.Goals as goal
 
 pub returns-clause-len : goal.returns-clause-len
 returns-clause-len c =
-    let here = c.len.ensures.len ∙ sym (length_spots c.self.inside.links.classes c.self.inside.points.items c.self.invariant.one_each) in
+    let here = c.len.ensures.len ∙ sym (length_spots c.self.inside.links.classes c.self.inside.points.items c.self.invariant.are.one_each) in
     subst (λ (s : FrontState). c.len.result ≡ length s.spots) c.self.view_is here
 
 pub returns-clause-spots : goal.returns-clause-spots

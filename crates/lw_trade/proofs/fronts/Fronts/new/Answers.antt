@@ -5,9 +5,8 @@ use Rattle.lw_trade.proofs.fronts.Fronts.new.Goals as goal
 
 pub invariant_of-result : goal.invariant_of-result
 invariant_of-result c = record {
-  one_each = search rules;
+  are = record { one_each = search rules; apart = search rules };
   count = search rules;
-  apart = search rules;
   least_is = λ class area at.
       let all = c.in_ok-vec.ensures.items_if_clones_equal (λ y e. e) in
       let none = least_of_none c.args.classes class area (subst (λ xs. slice_get xs class ≡ Some area) all at) in
