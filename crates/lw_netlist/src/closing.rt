@@ -1,5 +1,5 @@
 // Drafts that are closed to netlists.
-ghost use Rattle.std.specs.Prelude.{◌≡◌, ◌<◌, ◌++◌, ℕ, None, List, length, map, All, Contains, IfOk, IfErr, OnOk};
+ghost use Rattle.std.specs.Prelude.{◌≡◌, ◌<◌, ◌++◌, ℕ, None, List, length, map, All, Contains, IfOk, IfErr, MatchResult, OnOk};
 ghost use Rattle.std.specs.List.{IsDistinct, flat_map};
 ghost use Rattle.std.specs.Str.{bytes_eq};
 ghost use Rattle.lw_dag.specs.Names.{number_in};
@@ -22,11 +22,7 @@ use std::alloc::{AllocError, Global};
 fn cells_of(alloc: Global, gates: &[SpelledGate]) -> Result<Vec<CellId>, AllocError>
     ensures { IfOk result (λ cells. cells.items ≡ map cell_of gates.now) }
 {
-    let mut cells = Vec::with_capacity(alloc, gates.len())?;
-    for gate in gates {
-        cells.push(gate.cell())?;
-    }
-    Ok(cells)
+    gates.iter().map(|gate| gate.cell()).collect(alloc)
 }
 
 // What is made of the names of a draft: those that are driven, the numbers of what each gate and
@@ -115,9 +111,8 @@ pub(crate) fn graph_of(alloc: Global, draft: GateDraft) -> Result<Graph, Netlist
 // The depths and the starts of names, or the first gate or wire on a cycle.
 pub(crate) fn starts_of(alloc: Global, graph: &Graph) -> Result<Starts, NetlistFault>
     requires { (draft : GateDraft) × IsMadeOf draft graph.now }
-    ensures right { (draft : GateDraft) → IsMadeOf draft graph.now →
-        IfOk result (λ found. AreRight draft found.depths.items found.starts.items) }
-    ensures fault { (draft : GateDraft) → IsMadeOf draft graph.now → IfErr result (HasFault draft) }
+    ensures { (draft : GateDraft) → IsMadeOf draft graph.now → MatchResult result
+        (λ found. AreRight draft found.depths.items found.starts.items) (HasFault draft) }
 {
     let inputs = graph.inputs;
     let levels = find_levels(alloc, inputs, &graph.rows)?;

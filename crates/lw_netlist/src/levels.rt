@@ -79,18 +79,22 @@ fn place(found: &mut Starts, inputs: usize, gates: usize, j: usize, needs: &[u32
     found.starts[own] = start;
 }
 
+// All places below a number.
+pub(crate) fn places_below(alloc: Global, count: usize) -> Result<Vec<u32>, AllocError>
+    requires { count ≤ most_signals }
+    ensures { IfOk result (λ places. places.items ≡ range_with_len 0 count) }
+{
+    (0..count as u32).collect(alloc)
+}
+
 // No depth, and each name at itself.
 fn start(alloc: Global, names: usize) -> Result<Starts, AllocError>
     requires { names ≤ most_signals }
     ensures depths { IfOk result (λ l. l.depths.items ≡ replicate names 0) }
     ensures starts { IfOk result (λ l. l.starts.items ≡ range_with_len 0 names) }
 {
-    let mut depths = Vec::with_capacity(alloc, names)?;
-    let mut starts = Vec::with_capacity(alloc, names)?;
-    'all: for s in 0..names {
-        depths.push(0)?;
-        starts.push(s as u32)?;
-    }
+    let depths = vec![in alloc; 0; names]?;
+    let starts = places_below(alloc, names)?;
     Ok(Starts { depths, starts })
 }
 

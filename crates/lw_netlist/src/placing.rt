@@ -12,22 +12,11 @@ ghost use Rattle.lw_netlist.specs.Placing.{AreTurned, IsMadeOf, IsPlaced, gate_a
 
 use crate::closing::ports;
 use crate::graph::Graph;
+use crate::levels::places_below;
 use crate::{Gate, Gates, Netlist, PortList, SpelledNames};
 use lw_dag::in_order;
 use lw_pool::{Name, Names, NetId, Nets};
 use std::alloc::{AllocError, Global};
-
-// All places below a number.
-fn places_below(alloc: Global, count: usize) -> Result<Vec<u32>, AllocError>
-    requires { count ≤ most_signals }
-    ensures { IfOk result (λ places. places.items ≡ range_with_len 0 count) }
-{
-    let mut places = Vec::with_capacity(alloc, count)?;
-    'all: for place in 0..count {
-        places.push(place as u32)?;
-    }
-    Ok(places)
-}
 
 // The places of gates with these depths, by depth and, at one depth, in order.
 pub(crate) fn places_by(alloc: Global, depths: &[u32]) -> Result<Vec<u32>, AllocError>
@@ -96,23 +85,21 @@ fn nets_by(alloc: Global, starts: &[u32], turned: &[u32]) -> Result<Vec<NetId>, 
     ensures { IfOk result (λ nets. nets.items
         ≡ map (λ s. record { 0 = start_at turned.now s }) starts.now) }
 {
-    let mut nets = Vec::with_capacity(alloc, starts.len())?;
-    for start in starts {
-        nets.push(NetId(turned[*start as usize]))?;
-    }
-    Ok(nets)
+    starts
+        .iter()
+        .map(|start| NetId(turned[*start as usize]))
+        .collect(alloc)
 }
 
 // The nets of numbers.
-fn nets_at(alloc: Global, numbers: &[u32], nets: &[NetId]) -> Result<Nets, AllocError>
+fn nets_at(alloc: Global, numbers: &[u32], nets: &[NetId]) -> Result<Vec<NetId>, AllocError>
     requires { All (λ s. s < length nets.now) numbers.now }
-    ensures { IfOk result (λ found. found ≡ map (net_at nets.now) numbers.now) }
+    ensures { IfOk result (λ found. found.items ≡ map (net_at nets.now) numbers.now) }
 {
-    let mut found = Vec::with_capacity(alloc, numbers.len())?;
-    for number in numbers {
-        found.push(nets[*number as usize])?;
-    }
-    Ok(Nets::from_vec(found))
+    numbers
+        .iter()
+        .map(|number| nets[*number as usize])
+        .collect(alloc)
 }
 
 // The gate at a place with nets in place of names.
@@ -127,7 +114,7 @@ fn closed(alloc: Global, graph: &Graph, place: usize, nets: &[NetId]) -> Result<
     let pins = nets_at(alloc, graph.rows[place].as_slice(), nets)?;
     Ok(Gate {
         cell: graph.cells[place],
-        pins,
+        pins: Nets::from_vec(pins),
         out: nets[graph.inputs + place],
     })
 }

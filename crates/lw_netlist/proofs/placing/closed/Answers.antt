@@ -29,8 +29,8 @@ returns c = λ draft net made tell.
     let below : p < length rows = omega (arith, in_gates, rows_many draft graph made) in
     let row : c.as_slice.result.now ≡ fanins_at rows p = c.as_slice.ensures ∙ get_or_read rows p c.index.result.now below c.index.ensures [] in
     let cell = get_or_read graph.cells.items p c.index-2.result.now c.requires.within c.index-2.ensures (record { 0 = 0 }) ∙ cell_at draft graph made p (record { 0 = 0 }) in_gates in
-    let pins = c.in_ok-pins.ensures ∙ (ap (map (net_at nets)) (row ∙ gate_row draft graph made p in_gates) ∙ nets_all graph.signals nets net gate.pins tell (pins_known draft graph made p in_gates)) in
+    let pins = c.from_vec.ensures ∙ (c.in_ok-pins.ensures ∙ (ap (map (net_at nets)) (row ∙ gate_row draft graph made p in_gates) ∙ nets_all graph.signals nets net gate.pins tell (pins_known draft graph made p in_gates))) in
     let own : graph.inputs + p ≡ length draft.inputs + p = ap (λ n. n + p) made.inputs in
     let out = ap (net_at nets) (own ∙ sym (gate_number draft graph made p in_gates)) ∙ tell gate.out (gate_known draft graph made p in_gates) in
-    ap (λ l. gate_with l c.in_ok-pins.pins (net_at nets (graph.inputs + p))) cell
+    ap (λ l. gate_with l c.from_vec.result (net_at nets (graph.inputs + p))) cell
     ∙ ap₂ (gate_with gate.cell) pins out
