@@ -1,5 +1,5 @@
 -- What is kept of the tokens that were read.
-use Rattle.std.specs.Prelude.{ℕ, ◌+◌, ◌≡◌, ◌≤◌, ◌++◌, List, length, Option, Some, None, Result, Ok, Err, ⊤}
+use Rattle.std.specs.Prelude.{ℕ, ◌+◌, ◌≡◌, ◌≤◌, ◌++◌, false, List, length, Option, Some, None, Result, Ok, Err, ⊤}
 use Rattle.lw_genlib.specs.Cells.{CellParts}
 use Rattle.lw_verilog.specs.declared.contents.Contents.{Contents}
 use Rattle.lw_verilog.specs.declared.fault.Refusal.{Refusal}
@@ -7,10 +7,11 @@ use Rattle.lw_verilog.specs.declared.fault.Refusal.TheVariants as refusal
 use Rattle.lw_verilog.specs.declared.fault.VerilogFault.{VerilogFault}
 use Rattle.lw_verilog.specs.declared.fault.VerilogFault.TheVariants as fault
 use Rattle.lw_verilog.specs.declared.fault.VerilogKind.{VerilogKind}
+use Rattle.lw_verilog.specs.declared.kind.Kind.{Kind}
 use Rattle.lw_verilog.specs.declared.place.Task.{Task}
 use Rattle.lw_verilog.specs.Readings.{Reading, names_after, declared_after, nothing_read, read}
 use Rattle.lw_verilog.specs.Statements.{all_in, header_in, inputs_in, outputs_in, gates_in, wires_in}
-use Rattle.lw_verilog.specs.Tokens.{tokens}
+use Rattle.lw_verilog.specs.Tokens.{is_end, tokens}
 
 -- this is kept of a reading
 pub record Keeps (cells : List CellParts) (c : Contents) (r : Reading) : Type 0 where
@@ -40,6 +41,12 @@ pub record Acts (cells : List CellParts) (what : Task) (name : List ℕ) (old ne
 -- how many names and gates there are that an input or a gate may come of
 abbrev pub weight : Contents → ℕ
 weight c = length c.names + (length c.inputs + length c.gates)
+
+-- A token of this kind was taken, and the readings that are kept go on by it.
+pub record Takes (cells : List CellParts) (what : Kind) (next : Reading → Reading) (old new : Contents) : Type 0 where
+  pub weight : weight new ≤ weight old + 1
+  pub ended : is_end what ≡ false
+  pub keeps : (r : Reading) → Keeps cells old r → Keeps cells new (next r)
 
 -- The rule that is told, or none. Want of memory is free.
 abbrev pub TellsFault : Result (Unit {0}) Refusal → Option VerilogKind → Type 0

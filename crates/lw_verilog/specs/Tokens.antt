@@ -1,5 +1,5 @@
 -- The tokens of a text.
-use Rattle.std.specs.Prelude.{ℕ, zero, suc, ◌+◌, ◌-◌, ◌==◌, Bool, true, false, List, [], ◌∷◌, ◌++◌, length, take, drop, if◌then◌else◌, count_by}
+use Rattle.std.specs.Prelude.{ℕ, zero, suc, ◌+◌, ◌-◌, ◌≡◌, ◌<◌, ◌≤◌, ◌==◌, Bool, true, false, List, [], ◌∷◌, ◌++◌, length, take, drop, if◌then◌else◌, count_by}
 use Rattle.lw_verilog.specs.declared.kind.Kind.{Kind}
 use Rattle.lw_verilog.specs.declared.kind.Kind.TheVariants as kind
 use Rattle.lw_verilog.specs.declared.kind.Piece.{Piece}
@@ -27,6 +27,12 @@ is_name other = false
 abbrev pub is_strange : Kind → Bool
 is_strange kind.Strange = true
 is_strange other = false
+
+-- The piece is no name, and has a byte or more, and no more than so many.
+pub record IsNameless (most : ℕ) (p : Piece) : Type 0 where
+  pub sign : is_name p.kind ≡ false
+  pub some : 0 < p.size
+  pub within : p.size ≤ most
 
 abbrev pub line_feeds : List ℕ → ℕ
 line_feeds bytes = count_by is_line_feed bytes

@@ -8,7 +8,8 @@ ghost use Rattle.lw_verilog.specs.Tokens.{name_of};
 use crate::gates::gate_of;
 use crate::place::move_at;
 use crate::rules::{
-    cell_fault, declared_fault, find_cell, missing_fault, name_fault, pin_fault, ports_fault,
+    cell_fault, cell_id, declared_fault, find_cell, missing_fault, name_fault, pin_fault,
+    ports_fault,
 };
 use crate::{Kind, Place, Refusal, Task, VerilogKind};
 use lw_genlib::Library;
@@ -117,7 +118,8 @@ fn push_gate(
     requires { missing_fault (cell_in lib.now names.now) (ties_in names.now) ≡ None }
     ensures { OnOk result (gates.new ≡ gates.old ++ gate_by lib.now names.now) }
 {
-    if let Some(gate) = gate_of(alloc, lib, hint, names)? {
+    if let Some(id) = cell_id(lib, hint, names) {
+        let gate = gate_of(alloc, lib, id, names)?;
         gates.push_spelled(gate)?;
     }
     Ok(())
@@ -126,10 +128,10 @@ fn push_gate(
 impl Contents {
     ghost use Rattle.std.specs.Prelude.{◌≡◌, ◌<◌, ◌≤◌, ◌+◌, ◌++◌, List, None, drop, length, IfOk, OnOk, true, false};
     ghost use Rattle.lw_genlib.specs.Cells.{CellParts};
-    ghost use Rattle.lw_verilog.specs.Tokens.{is_end, is_name, name_of};
+    ghost use Rattle.lw_verilog.specs.Tokens.{is_name, name_of};
     ghost use Rattle.lw_verilog.specs.declared.place.Task.TheVariants as tasks;
     ghost use Rattle.lw_verilog.specs.Grammar.{move_at};
-    ghost use Rattle.lw_verilog.specs.Keeping.{Acts, Adds, Keeps, TellsFault, weight};
+    ghost use Rattle.lw_verilog.specs.Keeping.{Acts, Adds, Keeps, Takes, TellsFault};
     ghost use Rattle.lw_verilog.specs.Statements.{model_of};
     ghost use Rattle.lw_verilog.specs.Readings.{Reading, is_done, is_word, moved_on, nothing_read, rule_fault, piece_fault, piece_read, token_fault};
 
@@ -254,10 +256,8 @@ impl Contents {
         requires { is_name kind ≡ true → 0 < length name.now }
         ensures fault { (r : Reading) → Keeps lib.now self.old r →
             TellsFault result (token_fault lib.now r kind name.now) }
-        ensures weight { OnOk result (weight self.new ≤ weight self.old + 1) }
-        ensures ended { OnOk result (is_end kind ≡ false) }
-        ensures keeps { OnOk result ((r : Reading) → Keeps lib.now self.old r →
-            Keeps lib.now self.new (moved_on r name.now (move_at r.place kind))) }
+        ensures taken { OnOk result (Takes lib.now kind
+            (λ r. moved_on r name.now (move_at r.place kind)) self.old self.new) }
     {
         if matches!(kind, Kind::Strange) {
             return Err(Refusal::Broken(VerilogKind::BadByte));
@@ -278,10 +278,8 @@ impl Contents {
         requires { is_name kind ≡ true → 0 < length (name_of bytes.now) }
         ensures fault { (r : Reading) → Keeps lib.now self.old r →
             TellsFault result (piece_fault lib.now r kind (name_of bytes.now)) }
-        ensures weight { OnOk result (weight self.new ≤ weight self.old + 1) }
-        ensures ended { OnOk result (is_end kind ≡ false) }
-        ensures keeps { OnOk result ((r : Reading) → Keeps lib.now self.old r →
-            Keeps lib.now self.new (piece_read r kind (name_of bytes.now))) }
+        ensures taken { OnOk result (Takes lib.now kind
+            (λ r. piece_read r kind (name_of bytes.now)) self.old self.new) }
     {
         match kind {
             Kind::Gap => Ok(()),
@@ -289,31 +287,24 @@ impl Contents {
         }
     }
 
-    /// The netlist by names.
-    pub(crate) fn draft(self, alloc: Global) -> Result<GateDraft, AllocError>
+    /// The netlist by names, of which nothing is left here.
+    pub(crate) fn draft(&mut self, alloc: Global) -> Result<GateDraft, AllocError>
         ensures { IfOk result (λ draft. draft
             ≡ record {
-              model = model_of self.header;
-              inputs = self.inputs;
-              outputs = self.outputs;
-              gates = self.gates;
-              wires = self.wires;
+              model = model_of self.old.header;
+              inputs = self.old.inputs;
+              outputs = self.old.outputs;
+              gates = self.old.gates;
+              wires = self.old.wires;
             }) }
     {
         let model = model_of(alloc, &self.header)?;
-        let Contents {
-            inputs,
-            outputs,
-            gates,
-            wires,
-            ..
-        } = self;
         Ok(GateDraft {
             model,
-            inputs,
-            outputs,
-            gates,
-            wires,
+            inputs: mem::replace(&mut self.inputs, Names::new(alloc)),
+            outputs: mem::replace(&mut self.outputs, Names::new(alloc)),
+            gates: mem::replace(&mut self.gates, DraftGates::new(alloc)),
+            wires: mem::replace(&mut self.wires, Wires::new(alloc)),
         })
     }
 }

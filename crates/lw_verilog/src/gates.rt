@@ -1,10 +1,10 @@
 // The gates of instances.
-ghost use Rattle.std.specs.Prelude.{◌≡◌, ◌<◌, ◌++◌, true, None, All, length, map, option_to_list, IfOk, OnOk};
+ghost use Rattle.std.specs.Prelude.{◌≡◌, ◌<◌, ◌++◌, [], ◌∷◌, true, None, Some, All, length, map, IfOk, OnOk};
 ghost use Rattle.std.specs.List.{list_any};
 ghost use Rattle.lw_verilog.specs.Readings.{cell_in, missing_fault};
-ghost use Rattle.lw_verilog.specs.Statements.{gate_by, is_for, net_for, ties_in};
+ghost use Rattle.lw_verilog.specs.Statements.{gate_by, is_for, net_for, number_of, ties_in};
 
-use crate::rules::{cell_id, net_place};
+use crate::rules::net_place;
 use lw_genlib::Library;
 use lw_netlist::{SpelledGate, SpelledNames};
 use lw_pool::{CellId, Name};
@@ -35,22 +35,21 @@ fn push_pins(gate: &mut SpelledGate, names: &SpelledNames, pins: &[Name]) -> Res
     Ok(())
 }
 
-/// The gate of an instance of these names.
+/// The gate of an instance of these names, whose cell has this number.
 pub(crate) fn gate_of(
     alloc: Global,
     lib: &Library,
-    hint: CellId,
+    id: CellId,
     names: &SpelledNames,
-) -> Result<Option<SpelledGate>, AllocError>
-    requires { missing_fault (cell_in lib.now names.now) (ties_in names.now) ≡ None }
-    ensures { IfOk result (λ gate. option_to_list gate ≡ gate_by lib.now names.now) }
+) -> Result<SpelledGate, AllocError>
+    requires given { missing_fault (cell_in lib.now names.now) (ties_in names.now) ≡ None }
+    requires cell { number_of lib.now names.now ≡ Some id.0 }
+    requires within { id.0 < length lib.now }
+    ensures { IfOk result (λ gate. gate ∷ [] ≡ gate_by lib.now names.now) }
 {
-    let Some(id) = cell_id(lib, hint, names) else {
-        return Ok(None);
-    };
     let cell = lib.cell(id);
     let out = net_of(names, cell.output().as_bytes());
     let mut gate = SpelledGate::new(alloc, id, out)?;
     push_pins(&mut gate, names, cell.pins())?;
-    Ok(Some(gate))
+    Ok(gate)
 }

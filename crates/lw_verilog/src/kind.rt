@@ -1,7 +1,7 @@
 // What the pieces of a text are.
 
 /// What a piece of a text is.
-#[derive(Clone, Copy, Debug, PartialEq, Eq)]
+#[derive(Clone, Copy)]
 pub enum Kind {
     /// Bytes between tokens, or a comment.
     Gap,
@@ -34,7 +34,7 @@ pub enum Kind {
 }
 
 /// A piece of a text: what it is, and how many bytes it has.
-#[derive(Clone, Copy, Debug, PartialEq, Eq)]
+#[derive(Clone, Copy)]
 pub struct Piece {
     pub kind: Kind,
     pub size: usize,

@@ -2,7 +2,7 @@
 ghost use Rattle.std.specs.Prelude.{◌≡◌, ◌<◌, ◌≤◌, ◌+◌, ℕ, false, drop, take, length, map, slice_index_or};
 ghost use Rattle.std.specs.Str.{bytes_eq};
 ghost use Rattle.lw_netlist.specs.Closing.{is_among};
-ghost use Rattle.lw_verilog.specs.Chains.{AreChains, AreKnown, bucket_of, name_at};
+ghost use Rattle.lw_verilog.specs.Chains.{AreChained, AreKnown, bucket_of, name_at};
 ghost use Rattle.lw_verilog.specs.Windows.{Raises};
 ghost use Rattle.lw_netlist.specs.Plain.{port_name};
 
@@ -46,9 +46,7 @@ fn link(names: &[Name], heads: &mut [u16], next: &mut [u16])
     requires few { length names.now ≤ 32768 }
     requires buckets { length heads.old ≡ 32768 }
     requires places { length next.old ≡ 32768 }
-    ensures chains { AreChains bucket_of 32768 names.now (length names.now) heads.new next.new }
-    ensures buckets { length heads.new ≡ 32768 }
-    ensures places { length next.new ≡ 32768 }
+    ensures { AreChained names.now heads.new next.new }
 {
     clear(heads);
     for (place, name) in names.iter().enumerate() {
@@ -60,10 +58,7 @@ fn link(names: &[Name], heads: &mut [u16], next: &mut [u16])
 
 // Raises the flag of each name that is this one.
 fn mark_equal(names: &[Name], heads: &[u16], next: &[u16], flags: &mut [bool], name: &[u8])
-    requires chains { AreChains bucket_of 32768 names.now (length names.now) heads.now next.now }
-    requires few { length names.now ≤ 32768 }
-    requires buckets { length heads.now ≡ 32768 }
-    requires places { length next.now ≡ 32768 }
+    requires chained { AreChained names.now heads.now next.now }
     requires one_each { length flags.old ≡ length names.now }
     ensures { Raises (λ i. bytes_eq (name_at names.now i) name.now) flags.old flags.new }
 {
@@ -78,10 +73,7 @@ fn mark_equal(names: &[Name], heads: &[u16], next: &[u16], flags: &mut [bool], n
 
 // Raises the flag of each name that an output has.
 fn mark_known(names: &[Name], heads: &[u16], next: &[u16], flags: &mut [bool], outputs: &[Port])
-    requires chains { AreChains bucket_of 32768 names.now (length names.now) heads.now next.now }
-    requires few { length names.now ≤ 32768 }
-    requires buckets { length heads.now ≡ 32768 }
-    requires places { length next.now ≡ 32768 }
+    requires chained { AreChained names.now heads.now next.now }
     requires one_each { length flags.old ≡ length names.now }
     ensures { Raises (λ i. is_among (map port_name outputs.now) (name_at names.now i)) flags.old
         flags.new }

@@ -1,7 +1,7 @@
 // The pieces of a text.
 ghost use Rattle.std.specs.Prelude.{◌≡◌, ◌≤◌, ◌<◌, ◌+◌, ◌^◌, length, not, take, true, false};
 ghost use Rattle.std.specs.List.{position};
-ghost use Rattle.lw_verilog.specs.Tokens.{is_end, is_name, name_of};
+ghost use Rattle.lw_verilog.specs.Tokens.{IsNameless, is_end, is_name, name_of};
 ghost use Rattle.lw_verilog.specs.Pieces.{byte_at, is_separator, is_visible, is_letter, begins_name, is_name_byte, separators, visibles, name_bytes, line_bytes, before_pair, word_kind, sign_kind, closed, escaped, comment_or_sign, first_piece};
 ghost use Rattle.lw_words.specs.Lines.{is_line_feed};
 
@@ -156,9 +156,7 @@ fn sign_kind(b: u8) -> Kind
 fn closed(first: u8, second: u8, inside: &[u8]) -> Piece
     requires { 0 < second }
     ensures piece { result ≡ closed inside.now (before_pair first second inside.now) }
-    ensures gap { is_name result.kind ≡ false }
-    ensures some { 0 < result.size }
-    ensures within { result.size ≤ length inside.now + 2 }
+    ensures nameless { IsNameless (length inside.now + 2) result }
 {
     let count = before_pair(first, second, inside);
     if count < inside.len() {
@@ -196,9 +194,7 @@ fn escaped(count: usize) -> Piece
 fn slash_or_bracket(bytes: &[u8]) -> Piece
     requires { 0 < length bytes.now }
     ensures piece { result ≡ comment_or_sign bytes.now }
-    ensures sign { is_name result.kind ≡ false }
-    ensures some { 0 < result.size }
-    ensures within { result.size ≤ length bytes.now }
+    ensures nameless { IsNameless (length bytes.now) result }
 {
     let first = bytes[0];
     let second = byte_at(bytes, 1);
@@ -224,9 +220,7 @@ fn slash_or_bracket(bytes: &[u8]) -> Piece
 fn comment_or_sign(bytes: &[u8]) -> Piece
     requires { 0 < length bytes.now }
     ensures piece { result ≡ comment_or_sign bytes.now }
-    ensures sign { is_name result.kind ≡ false }
-    ensures some { 0 < result.size }
-    ensures within { result.size ≤ length bytes.now }
+    ensures nameless { IsNameless (length bytes.now) result }
 {
     let second = byte_at(bytes, 1);
     if second == b'*' || second == b'/' {

@@ -8,7 +8,7 @@ ghost use Rattle.lw_verilog.specs.Tokens.{is_end, is_name};
 use crate::Kind;
 
 /// A place between two tokens.
-#[derive(Clone, Copy, Debug, PartialEq, Eq)]
+#[derive(Clone, Copy)]
 pub enum Place {
     /// Before `module`.
     Begin,
@@ -75,7 +75,7 @@ pub enum Place {
 }
 
 /// What a token does.
-#[derive(Clone, Copy, Debug, PartialEq, Eq)]
+#[derive(Clone, Copy)]
 pub enum Task {
     /// Nothing.
     Skip,
@@ -104,7 +104,7 @@ pub enum Task {
 }
 
 /// The place behind a token, and what the token does.
-#[derive(Clone, Copy, Debug, PartialEq, Eq)]
+#[derive(Clone, Copy)]
 pub struct Move {
     pub next: Place,
     pub task: Task,
@@ -143,7 +143,8 @@ fn move_by_name(place: Place) -> Option<Move>
 // What a comma does at this place, if one may stand there.
 #[tactic(auto, unfolding(crate::specs::Grammar::move_at))]
 fn move_by_comma(place: Place) -> Option<Move>
-    ensures { result ≡ move_at place kind.Comma }
+    ensures step { result ≡ move_at place kind.Comma }
+    ensures named { IfSome result (λ step. is_word step.task ≡ true → is_name kind.Comma ≡ true) }
 {
     match place {
         Place::BehindPort => moved(Place::NextPort, Task::Skip),
@@ -158,7 +159,8 @@ fn move_by_comma(place: Place) -> Option<Move>
 // What a semicolon does at this place, if one may stand there.
 #[tactic(auto, unfolding(crate::specs::Grammar::move_at))]
 fn move_by_semicolon(place: Place) -> Option<Move>
-    ensures { result ≡ move_at place kind.Semicolon }
+    ensures step { result ≡ move_at place kind.Semicolon }
+    ensures named { IfSome result (λ step. is_word step.task ≡ true → is_name kind.Semicolon ≡ true) }
 {
     match place {
         Place::BehindModel => moved(Place::Item, Task::Header),
@@ -175,7 +177,8 @@ fn move_by_semicolon(place: Place) -> Option<Move>
 // What `(` does at this place, if one may stand there.
 #[tactic(auto, unfolding(crate::specs::Grammar::move_at))]
 fn move_by_open(place: Place) -> Option<Move>
-    ensures { result ≡ move_at place kind.Open }
+    ensures step { result ≡ move_at place kind.Open }
+    ensures named { IfSome result (λ step. is_word step.task ≡ true → is_name kind.Open ≡ true) }
 {
     match place {
         Place::BehindModel => moved(Place::FirstPort, Task::Skip),
@@ -188,7 +191,8 @@ fn move_by_open(place: Place) -> Option<Move>
 // What `)` does at this place, if one may stand there.
 #[tactic(auto, unfolding(crate::specs::Grammar::move_at))]
 fn move_by_close(place: Place) -> Option<Move>
-    ensures { result ≡ move_at place kind.Close }
+    ensures step { result ≡ move_at place kind.Close }
+    ensures named { IfSome result (λ step. is_word step.task ≡ true → is_name kind.Close ≡ true) }
 {
     match place {
         Place::FirstPort => moved(Place::BehindPorts, Task::Skip),

@@ -1,7 +1,8 @@
 // A text, token by token.
-ghost use Rattle.std.specs.Prelude.{◌≡◌, ◌<◌, ◌≤◌, ◌+◌, ◌^◌, false, length, drop, take, if◌then◌else◌, IfOk, IfErr};
+ghost use Rattle.std.specs.Prelude.{◌≡◌, ◌<◌, ◌≤◌, ◌+◌, ◌^◌, false, length, drop, take, if◌then◌else◌, IfOk, IfErr, OnOk};
 ghost use Rattle.lw_netlist.specs.Plain.{IsOver};
-ghost use Rattle.lw_verilog.specs.Keeping.{IsParsed, TellsParse, refused_at};
+ghost use Rattle.lw_verilog.specs.Keeping.{IsParsed, Keeps, TellsParse, refused_at};
+ghost use Rattle.lw_verilog.specs.Readings.{nothing_read};
 ghost use Rattle.lw_verilog.specs.Tokens.{is_end, is_gap, last_line, line_feeds};
 ghost use Rattle.lw_verilog.specs.Verdicts.{IsRead};
 ghost use Rattle.lw_words.specs.Limits.{most_bytes};
@@ -76,13 +77,13 @@ fn behind(bytes: &[u8], count: usize) -> &[u8]
     &bytes[count..]
 }
 
-// Reads a text up to the end of its module.
-fn parse(alloc: Global, text: &[u8], lib: &Library) -> Result<Contents, VerilogFault>
-    requires { length text.now ≤ most_bytes }
-    ensures parsed { IfOk result (IsParsed lib.now text.now) }
+// Reads a text up to the end of its module, where nothing was read before.
+fn parse(contents: &mut Contents, text: &[u8], lib: &Library) -> Result<(), VerilogFault>
+    requires none { Keeps lib.now contents.old nothing_read }
+    requires few { length text.now ≤ most_bytes }
+    ensures parsed { OnOk result (IsParsed lib.now text.now contents.new) }
     ensures fault { IfErr result (TellsParse lib.now text.now) }
 {
-    let mut contents = Contents::new(alloc)?;
     let mut rest = text;
     let mut line = 1;
     while !contents.is_done() {
@@ -94,7 +95,7 @@ fn parse(alloc: Global, text: &[u8], lib: &Library) -> Result<Contents, VerilogF
         line = line_behind(piece.kind, line, bytes);
         rest = behind(rest, piece.size);
     }
-    Ok(contents)
+    Ok(())
 }
 
 /// The netlist of a text of structural Verilog over the library's cells, or its first fault in the
@@ -106,7 +107,15 @@ pub fn read_verilog(alloc: Global, bytes: &Bytes, lib: &Library) -> Result<Netli
     ensures read { IsRead lib.now bytes.now result }
     ensures over { IfOk result (λ netlist. IsOver lib.now netlist) }
 {
-    let contents = parse(alloc, bytes.as_slice(), lib)?;
-    let draft = contents.draft(alloc)?;
+    let mut contents = Contents::new(alloc)?;
+    if let Err(fault) = parse(&mut contents, bytes.as_slice(), lib) {
+        drop(contents);
+        return Err(fault);
+    }
+    let Ok(draft) = contents.draft(alloc) else {
+        drop(contents);
+        return Err(VerilogFault::Memory);
+    };
+    drop(contents);
     Ok(Netlist::close(alloc, draft, lib)?)
 }

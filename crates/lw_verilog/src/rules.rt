@@ -223,36 +223,29 @@ fn are_raised(flags: &[bool]) -> bool
     flags.iter().all(|flag| *flag)
 }
 
-// Which of the names that are declared stand behind the first of the header, if these differ and
-// are all declared. They are looked for where they were declared, behind one another.
-fn seen_ports(
-    alloc: Global,
-    header: &SpelledNames,
-    declared: &Signals,
-) -> Result<Option<Vec<bool>>, AllocError>
-    ensures every { IfOk result (λ seen. IfSome seen (λ s. list_all (λ flag. flag) s.items
-        ≡ list_all (is_among (drop 1 header.now)) declared.now)) }
-    ensures once { IfOk result (λ seen. IfSome seen
-        (λ s. twice_after [] (drop 1 header.now) ≡ None)) }
-    ensures declared { IfOk result (λ seen. IfSome seen
-        (λ s. list_all (is_among declared.now) (drop 1 header.now) ≡ true)) }
-    ensures none { IfOk result (λ seen. IfNone seen
-        ((is_none (twice_after [] (drop 1 header.now))
-        && list_all (is_among declared.now) (drop 1 header.now)) ≡ false)) }
+// Whether the names behind the first of the header differ and are all declared. If so, the flags
+// are raised of those that are declared and stand there. They are looked for where they were
+// declared, behind one another.
+fn raise_ports(header: &SpelledNames, declared: &Signals, seen: &mut [bool]) -> bool
+    requires { seen.old ≡ replicate (length declared.now) false }
+    ensures known { result ≡ (is_none (twice_after [] (drop 1 header.now))
+        && list_all (is_among declared.now) (drop 1 header.now)) }
+    ensures every { result ≡ true → list_all (λ flag. flag) seen.new
+        ≡ list_all (is_among (drop 1 header.now)) declared.now }
 {
-    let mut seen = lowered(alloc, declared.len())?;
+    let _count = declared.len();
     let mut next = 0;
     for place in 1..header.len() {
         let Some(number) = declared.find_from(next, header.get(place)) else {
-            return Ok(None);
+            return false;
         };
-        if is_raised(&seen, number) {
-            return Ok(None);
+        if is_raised(seen, number) {
+            return false;
         }
         seen[number] = true;
         next = number + 1;
     }
-    Ok(Some(seen))
+    true
 }
 
 /// The rule that the end of a module breaks, with this header, and with these inputs and outputs.
@@ -263,10 +256,8 @@ pub(crate) fn ports_fault(
 ) -> Result<Option<VerilogKind>, AllocError>
     ensures { IfOk result (λ fault. fault ≡ ports_fault (drop 1 header.now) declared.now) }
 {
-    let Some(seen) = seen_ports(alloc, header, declared)? else {
-        return Ok(Some(VerilogKind::Port));
-    };
-    if are_raised(&seen) {
+    let mut seen = lowered(alloc, declared.len())?;
+    if raise_ports(header, declared, &mut seen) && are_raised(&seen) {
         return Ok(None);
     }
     Ok(Some(VerilogKind::Port))

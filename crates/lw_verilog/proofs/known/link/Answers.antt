@@ -1,6 +1,6 @@
-use Rattle.std.proofs.Common.{[], ap, ◌∙◌, arith}
+use Rattle.std.proofs.Common.{◌≡◌, [], length, ap, ◌∙◌, subst, arith}
 use Rattle.std.proofs.lemmas.List.{length-set, get_or_default}
-use Rattle.lw_verilog.specs.Chains.{bucket_of}
+use Rattle.lw_verilog.specs.Chains.{AreChains, bucket_of}
 use Rattle.lw_netlist.proofs.Chains.{chains-more, chains-none}
 use Rattle.lw_verilog.proofs.known.link.Goals as goal
 
@@ -23,4 +23,14 @@ loop-place-preserved c =
       chains = chains-more bucket_of 32768 names place heads next bucket own (omega (arith, c.bucket_of-bucket.ensures.low, c.loop-place.invariant.buckets)) (omega (arith, c.loop-place-test.true, c.requires.few, c.loop-place.invariant.places)) c.loop-place.invariant.buckets c.loop-place.invariant.chains;
       buckets = length-set heads bucket _ ∙ c.loop-place.invariant.buckets;
       places = length-set next place _ ∙ c.loop-place.invariant.places;
+    }
+
+pub returns : goal.returns
+returns c =
+    let all : c.loop-place.place ≡ length c.args.names.now = omega arith in
+    record {
+      chains = subst (λ n. AreChains bucket_of 32768 c.args.names.now n c.loop-place.heads c.loop-place.next) all c.loop-place.invariant.chains;
+      few = c.requires.few;
+      buckets = c.loop-place.invariant.buckets;
+      places = c.loop-place.invariant.places;
     }

@@ -1,5 +1,6 @@
-use Rattle.std.proofs.Common.{[], map, cond, codes, ap, ap₂, sym, ◌∙◌}
-use Rattle.std.proofs.lemmas.List.{get_or_default}
+use Rattle.std.proofs.Common.{[], map, cond, codes, ap, ap₂, sym, ◌∙◌, arith}
+use Rattle.std.specs.List.{flat_map}
+use Rattle.std.proofs.lemmas.List.{get_or_default, take_all}
 use Rattle.lw_io.proofs.Putting.{Puts-more}
 use Rattle.lw_netlist.specs.Closing.{is_among}
 use Rattle.lw_verilog.specs.Texts.{declaration, wire_text}
@@ -19,3 +20,6 @@ loop-place-preserved g c =
       put = Puts-more (wire_text outputs) names place c.index-names-place.result c.loop-place-test.true c.loop-place.invariant.put
           (Puts-is c.put_wire.ensures (ap₂ (λ b l. cond b [] (declaration (codes "wire ") l)) known name));
     }
+
+pub returns : goal.returns
+returns g c = Puts-is c.loop-place.invariant.put (ap (flat_map (wire_text (map port_name c.args.outputs.now))) (take_all c.loop-place.place c.args.names.now (omega (arith, c.loop-place-test.false))))

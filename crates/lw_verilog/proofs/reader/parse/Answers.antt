@@ -7,7 +7,7 @@ use Rattle.lw_verilog.specs.Tokens.{is_gap, line_feeds, name_of}
 use Rattle.lw_verilog.proofs.reader.parse.Goals as goal
 
 pub loop-rest-init : goal.loop-rest-init
-loop-rest-init c = stands-first c.args.lib.now c.args.text.now c.in_ok-contents.contents (c.in_ok-contents.ensures c.args.lib.now)
+loop-rest-init c = stands-first c.args.lib.now c.args.text.now c.args.contents.now c.requires.none
 
 pub line_behind-line-requires-clause-one : goal.line_behind-line-requires-clause-one
 line_behind-line-requires-clause-one c =
@@ -27,8 +27,8 @@ loop-rest-preserved c =
     let s = c.loop-rest.invariant in
     let p = c.first_piece-piece.result in
     piece-passed c.args.lib.now c.args.text.now c.loop-rest.contents c.loop-rest.line c.loop-rest.rest.now s p c.first_piece-piece.ensures.piece (sym c.is_done.ensures ∙ c.loop-rest-test.true) c.read.new.self
-    c.line_behind-line.result c.behind-rest.result.now (sym (c.in_default.ensures.fault s.reading s.keeps)) (c.in_default.ensures.keeps s.reading s.keeps) c.in_default.ensures.weight
-    (c.first_piece-piece.ensures.some c.in_default.ensures.ended) c.first_piece-piece.ensures.within c.line_behind-line.ensures c.behind-rest.ensures
+    c.line_behind-line.result c.behind-rest.result.now (sym (c.in_default.ensures.fault s.reading s.keeps)) (c.in_default.ensures.taken.keeps s.reading s.keeps) c.in_default.ensures.taken.weight
+    (c.first_piece-piece.ensures.some c.in_default.ensures.taken.ended) c.first_piece-piece.ensures.within c.line_behind-line.ensures c.behind-rest.ensures
 
 pub returns-clause-parsed : goal.returns-clause-parsed
 returns-clause-parsed c = stands-last c.args.lib.now c.args.text.now c.loop-rest.contents c.loop-rest.line c.loop-rest.rest.now c.loop-rest.invariant (sym c.is_done.ensures ∙ c.loop-rest-test.false)

@@ -3,4 +3,4 @@ use Rattle.lw_verilog.proofs.Drafts.{draft-fits}
 use Rattle.lw_verilog.proofs.reader.read_verilog.Goals as goal
 
 pub close-requires : goal.close-requires
-close-requires c = draft-fits c.args.lib.now c.as_slice.result.now c.in_ok-contents.contents c.in_ok-draft.draft c.in_ok-contents.ensures.parsed (subst (λ b. length b ≤ 67108864) (sym c.as_slice.ensures) c.requires) c.in_ok-draft.ensures
+close-requires c = draft-fits c.args.lib.now c.as_slice.result.now c.parse.new.contents c.in-Ok.draft c.in_default.ensures.parsed (subst (λ b. length b ≤ 67108864) (sym c.as_slice.ensures) c.requires) c.in-Ok.ensures
