@@ -126,7 +126,7 @@ fn push_gate(
 }
 
 impl Contents {
-    ghost use Rattle.std.specs.Prelude.{◌≡◌, ◌<◌, ◌≤◌, ◌+◌, ◌++◌, List, None, drop, length, IfOk, OnOk, true, false};
+    ghost use Rattle.std.specs.Prelude.{◌≡◌, ◌<◌, ◌++◌, List, None, drop, length, IfOk, OnOk, true, false};
     ghost use Rattle.lw_genlib.specs.Cells.{CellParts};
     ghost use Rattle.lw_verilog.specs.Tokens.{is_name, name_of};
     ghost use Rattle.lw_verilog.specs.declared.place.Task.TheVariants as tasks;

@@ -1,4 +1,4 @@
-use Rattle.std.proofs.Common.{◌≡◌, ◌+◌, false, Err, take, ap, sym, subst, ◌∙◌}
+use Rattle.std.proofs.Common.{◌≡◌, false, Err, take, ap, sym, subst, ◌∙◌}
 use Rattle.lw_verilog.proofs.Parsing.{stands-first, stands-last, parse-told, piece-told, piece-passed}
 use Rattle.lw_verilog.proofs.Quiet.{first-quiet}
 use Rattle.lw_verilog.specs.declared.kind.Piece.{Piece}
