@@ -1,5 +1,5 @@
 -- Depths and starts that are found along with heights.
-use Rattle.std.proofs.Common.{◌≡◌, ◌≢◌, ℕ, zero, suc, ◌+◌, ◌<◌, ◌≤◌, ◌⊎◌, inl, inr, max, cond, nat_lt, Bool, true, false, List, [], ◌∷◌, ◌++◌, length, replicate, get_or, set, take, All, Contains, refl, sym, ap, ap₂, subst, ◌∙◌, arith, length-set, get_or-set_same, get_or-set_other}
+use Rattle.std.proofs.Common.{◌≡◌, ◌≢◌, ℕ, zero, suc, ◌+◌, ◌<◌, ◌≤◌, ◌⊎◌, inl, inr, max, cond, nat_lt, Bool, true, false, List, [], ◌∷◌, length, replicate, get_or, set, take, All, Contains, refl, sym, ap, ap₂, subst, ◌∙◌, arith, length-set, get_or-set_same, get_or-set_other}
 use Rattle.std.proofs.lemmas.List.{length-replicate, get_or_default, get_or-take, length-take-le, take_more}
 use Rattle.std.proofs.lemmas.List.Elements.{All-contains, All-head, Contains-push_cases}
 use Rattle.std.proofs.lemmas.Bool.{cases_eq}
@@ -154,15 +154,3 @@ settled_starts inputs gates graph heights = record {
   shallow = λ s. omega (arith, zero_at (inputs + length graph) s);
   within = λ s lt. omega (arith, place_at 0 (inputs + length graph) s (omega arith));
 }
-
-places-suc : (low k : ℕ) → range_with_len low k ++ (low + k) ∷ [] ≡ range_with_len low (suc k)
-places-suc low zero = let e : low + 0 ≡ low = omega arith in ap (λ n. n ∷ []) e
-places-suc low (suc k) =
-    let e : low + suc k ≡ low + 1 + k = omega arith in
-    ap (λ l. low ∷ l) (ap (λ n. range_with_len (low + 1) k ++ n ∷ []) e ∙ places-suc (low + 1) k)
-
-pub places_more : (k : ℕ) → range_with_len 0 k ++ k ∷ [] ≡ range_with_len 0 (k + 1)
-places_more k =
-    let e : suc k ≡ k + 1 = omega arith in
-    let f : k ≡ 0 + k = omega arith in
-    ap (λ n. range_with_len 0 k ++ n ∷ []) f ∙ (places-suc 0 k ∙ ap (range_with_len 0) e)
