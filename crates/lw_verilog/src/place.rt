@@ -160,7 +160,8 @@ fn move_by_comma(place: Place) -> Option<Move>
 #[tactic(auto, unfolding(crate::specs::Grammar::move_at))]
 fn move_by_semicolon(place: Place) -> Option<Move>
     ensures step { result ≡ move_at place kind.Semicolon }
-    ensures named { IfSome result (λ step. is_word step.task ≡ true → is_name kind.Semicolon ≡ true) }
+    ensures named { IfSome result
+        (λ step. is_word step.task ≡ true → is_name kind.Semicolon ≡ true) }
 {
     match place {
         Place::BehindModel => moved(Place::Item, Task::Header),
