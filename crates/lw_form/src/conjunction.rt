@@ -56,7 +56,8 @@ fn few_kept(alloc: Global, forms: &[u32]) -> Result<SmallVec<u32, 8>, AllocError
 
 // Whether a form and its complement are there.
 fn holds_complements(kept: &IndexSet<u32>) -> bool
-    ensures { result ≡ list_any (λ f. list_any (λ h. bit_xor f 1 == h) kept.now.keys) kept.now.keys }
+    ensures { result
+        ≡ list_any (λ f. list_any (λ h. bit_xor f 1 == h) kept.now.keys) kept.now.keys }
 {
     let forms = kept.as_slice();
     for form in forms {

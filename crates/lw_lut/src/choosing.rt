@@ -80,7 +80,8 @@ pub(crate) fn choose(
     requires roots { AreRootsIn depths.now roots.now }
     ensures tables { (g : PlainGraph) (most : ℕ) → AreLeastDepths g most depths.now →
         All (λ root. IsKnown depths.now.depths root.0) roots.now →
-        IfOk result (λ tables. AreTables g most depths.now.depths (numbers roots.now) tables.items) }
+        IfOk result (λ tables.
+        AreTables g most depths.now.depths (numbers roots.now) tables.items) }
     ensures few { IfOk result (λ tables. All (λ x. length x.fanins ≤ 6) tables.items) }
 {
     let places = by_depth(alloc, depths.depths())?;

@@ -1,5 +1,5 @@
 -- Nodes by height, and where each stands.
-use Rattle.std.proofs.Common.{◌≡◌, ◌≢◌, ℕ, zero, suc, ◌+◌, ◌-◌, ◌<◌, ◌≤◌, ◌==◌, ◌⊎◌, inl, inr, Result, Ok, Err, IfOk, All, Contains, length, take, drop, get_or, List, [], ◌∷◌, ◌++◌, slice_index_or, slice_set, ap, sym, ◌∙◌, subst, arith}
+use Rattle.std.proofs.Common.{◌≡◌, ◌≢◌, ℕ, zero, suc, ◌+◌, ◌-◌, ◌<◌, ◌≤◌, ◌==◌, ◌⊎◌, inl, inr, All, Contains, length, take, drop, get_or, List, [], ◌∷◌, ◌++◌, slice_index_or, slice_set, ap, sym, ◌∙◌, subst, arith}
 use Rattle.std.proofs.lemmas.List.{get_or_default, get_or-drop, get_or-take, get_or-set_same, get_or-set_other, length-drop, length-take-le}
 use Rattle.std.proofs.lemmas.List.FromFn.{length-range_with_len, get_or-range_with_len}
 use Rattle.std.proofs.lemmas.List.Sorted.{All-permutation, Contains-permutation, length_permutation}
@@ -17,11 +17,6 @@ range_suc a (suc n) = let e : ◌≡◌ {A = ℕ} (a + 1 + n) (a + suc n) = omeg
 
 pub range_more : (a n : ℕ) → range_with_len a (n + 1) ≡ range_with_len a n ++ (a + n) ∷ []
 range_more a n = let e : ◌≡◌ {A = ℕ} (n + 1) (suc n) = omega arith in ap (range_with_len a) e ∙ range_suc a n
-
--- what follows of the value in an `Ok` by two facts
-pub ok_both : {T E : Type 0} (r : Result T E) {P Q R : T → Type 0} → IfOk r P → IfOk r Q → ((x : T) → P x → Q x → R x) → IfOk r R
-ok_both (Ok x) p q f = f x p q
-ok_both (Err e) p q f = tt
 
 pub range_distinct : (n : ℕ) → IsDistinct (λ a b. a == b) (range_with_len 0 n)
 range_distinct n = IsDistinct-from_apart (λ a b. a == b) (range_with_len 0 n) (λ i j d lt in'.

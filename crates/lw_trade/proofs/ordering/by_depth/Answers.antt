@@ -3,7 +3,8 @@ use Rattle.std.proofs.lemmas.List.FromFn.{length-range_with_len, get_or-range_wi
 use Rattle.std.specs.List.{range_with_len}
 use Rattle.std.specs.List.Sorted.{IsPermutation}
 use Rattle.lw_dag.specs.Graphs.{height_at}
-use Rattle.lw_trade.proofs.Places.{ok_both, range_more, slice_length, slice_at}
+use Rattle.lw_facts.proofs.Results.{ok_both}
+use Rattle.lw_trade.proofs.Places.{range_more, slice_length, slice_at}
 use Rattle.lw_trade.proofs.ordering.by_depth.Goals as goal
 
 pub loop-gate-preserved : goal.loop-gate-preserved

@@ -1,7 +1,7 @@
 use Rattle.std.proofs.Common.{refl, sym, subst₂}
 use Rattle.lw_trade.specs.Points.{task}
 use Rattle.lw_trade.specs.Walks.{IsWalk}
-use Rattle.lw_trade.proofs.Places.{ok_both}
+use Rattle.lw_facts.proofs.Results.{ok_both}
 use Rattle.lw_trade.proofs.trading.trade.Goals as goal
 
 pub assemble-requires : goal.assemble-requires
