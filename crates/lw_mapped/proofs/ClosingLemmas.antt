@@ -1,6 +1,6 @@
 -- What lines say is closed.
 use Rattle.std.proofs.Common.{ℕ, ◌≡◌, List, [], ◌∷◌, ◌++◌, length, map, take, Option, Some, None, Result, Ok, Err, refl, ap, ap₂, sym, ◌∙◌, subst, arith, length-append}
-use Rattle.std.specs.Prelude.{unwrap_or, option_to_list, codes, IfOk, IfErr, slice_index_or}
+use Rattle.std.specs.Prelude.{unwrap_or, option_to_list, codes, IfOk, IfErr, slice_index_or, All}
 use Rattle.std.specs.Str.{bytes_eq}
 use Rattle.indexmap.specs.IndexMap.{get}
 use Rattle.std.specs.List.{flat_map}
@@ -9,7 +9,7 @@ use Rattle.lw_fixed.specs.declared.micro.Micro.{Micro}
 use Rattle.lw_pool.specs.declared.latch.Frame.{Frame}
 use Rattle.lw_pool.specs.declared.latch.Latch.{Latch}
 use Rattle.lw_frame.specs.Standing as arrival
-use Rattle.lw_frame.specs.Starts.{Arrival, starts_of}
+use Rattle.lw_frame.specs.Starts.{Arrival, IsEarly, starts_of}
 use Rattle.lw_frame.specs.Frames.{each_once, read_by, root_names, input_names, output_of}
 use Rattle.lw_frame.proofs.Once.{once-twice}
 use Rattle.lw_genlib.specs.Cells.{CellParts}
@@ -23,6 +23,7 @@ use Rattle.lw_mapped.specs.declared.saying.Saying.{Saying}
 use Rattle.lw_mapped.specs.Keeping.{Keeps, IsOfFew}
 use Rattle.lw_mapped.specs.Said.{models_in, inputs_in, outputs_in, latches_in, arrivals_in}
 use Rattle.lw_mapped.specs.Unmapped.{ClosesTo, HasWholeFault, IsSaid, draft_said, frame_said, starts_said}
+use Rattle.lw_mapped.specs.Closings.{AreStartsOf}
 use Rattle.lw_mapped.specs.Made.{IsMade, TellsWhole}
 use Rattle.lw_mapped.specs.Texts.{net_name}
 use Rattle.lw_mapped.specs.declared.closing.Mapped.{Mapped}
@@ -57,11 +58,14 @@ may-close kept cells draft few e = subst (IsGateDraft cells) (sym e) (record {
 
 -- Starts.
 
-pub starts-ok : {E : Type 0} (r : Result (List Micro) E) (kept : Contents) (inputs : List (List ℕ)) (count : ℕ) → inputs ≡ kept.inputs → count ≡ length kept.latches → ((lines : List Arrival) → arrival.StandsFor kept.arrivals lines → IfOk r (λ starts. starts ≡ starts_of lines inputs count)) → IfOk r (λ starts. (said : List Saying) → Keeps kept said → starts ≡ starts_said said)
-starts-ok (Ok starts) kept inputs count ei ec are = λ said k.
-    are (flat_map arrivals_in said) k.arrivals
-    ∙ (ap (λ i. starts_of (flat_map arrivals_in said) i count) (ei ∙ k.inputs) ∙ ap (λ n. starts_of (flat_map arrivals_in said) (flat_map inputs_in said) n) (ec ∙ ap length k.latches))
-starts-ok (Err e) kept inputs count ei ec are = tt
+pub starts-ok : {E : Type 0} (r : Result (List Micro) E) (kept : Contents) (inputs : List (List ℕ)) (count : ℕ) → inputs ≡ kept.inputs → count ≡ length kept.latches → ((lines : List Arrival) → arrival.StandsFor kept.arrivals lines → IfOk r (λ starts. starts ≡ starts_of lines inputs count)) → IfOk r (All IsEarly) → IfOk r (AreStartsOf kept)
+starts-ok (Ok starts) kept inputs count ei ec are low = record {
+  said = λ said k.
+      are (flat_map arrivals_in said) k.arrivals
+      ∙ (ap (λ i. starts_of (flat_map arrivals_in said) i count) (ei ∙ k.inputs) ∙ ap (λ n. starts_of (flat_map arrivals_in said) (flat_map inputs_in said) n) (ec ∙ ap length k.latches));
+  early = low;
+}
+starts-ok (Err e) kept inputs count ei ec are low = tt
 
 -- What is made is what is said.
 

@@ -1,12 +1,13 @@
 -- What is kept, when one more line has said something.
-use Rattle.std.proofs.Common.{ℕ, ◌≡◌, ◌==◌, Bool, true, false, cond, List, [], ◌∷◌, ◌++◌, take, Option, Some, None, Result, refl, ap, sym, ◌∙◌, append-nil, subst}
-use Rattle.std.specs.Prelude.{is_some}
+use Rattle.std.proofs.Common.{ℕ, ◌≡◌, ◌==◌, Bool, true, false, cond, List, [], ◌∷◌, ◌++◌, take, Option, Some, None, Result, Ok, Err, refl, ap, sym, ◌∙◌, append-nil, subst}
+use Rattle.std.specs.Prelude.{OnOk, is_some, option_to_list, slice_index_or}
 use Rattle.std.specs.List.{flat_map}
 use Rattle.std.specs.Option.{option_or}
 use Rattle.std.specs.Str.{bytes_eq}
 use Rattle.std.proofs.lemmas.Grind.{flat_map-append}
 use Rattle.indexmap.specs.IndexMap.{get}
 use Rattle.indexmap.specs.IndexSet.{insert_all}
+use Rattle.lw_fixed.specs.declared.micro.Micro.{Micro}
 use Rattle.lw_pool.specs.declared.id.ClassId.{ClassId}
 use Rattle.lw_frame.specs.Frames.{each_once}
 use Rattle.lw_frame.specs.Standing as arrival
@@ -16,7 +17,7 @@ use Rattle.lw_mapped.specs.declared.saying.Saying.{Saying}
 use Rattle.lw_mapped.specs.declared.saying.Saying.TheVariants as saying
 use Rattle.lw_mapped.specs.Said.{Labelled, Classed, models_in, inputs_in, outputs_in, gates_in, wires_in, latches_in, arrivals_in, labels_in, nets_in, label_among, class_among}
 use Rattle.lw_mapped.specs.Keeping.{Keeps, Takes}
-use Rattle.lw_mapped.specs.LineFaults.{told_fault}
+use Rattle.lw_mapped.specs.LineFaults.{told_fault, MaySayAgain}
 use Rattle.lw_mapped.specs.Parsed.{TellsFault}
 use Rattle.lw_mapped.specs.declared.fault.Refusal.{Refusal}
 use Rattle.lw_mapped.specs.declared.fault.MappedKind.TheVariants as kind
@@ -63,3 +64,44 @@ keeps-more old new said what k t = record {
 
 pub told-net : (kept : Contents) (before : List Saying) (name : List ℕ) (class : ClassId) (result : Result (Unit {0}) Refusal) → Keeps kept before → TellsFault result (cond (is_some (get bytes_eq kept.nets name)) (Some kind.Certificate) None) → TellsFault result (told_fault before (saying.Net name class))
 told-net kept before name class result k told = subst (λ (o : Option ClassId). TellsFault result (cond (is_some o) (Some kind.Certificate) None)) (k.nets name) told
+
+-- What may be said again.
+
+pub again : (what : Saying) → ((class : ClassId) (label : Micro) → what ≡ saying.Label class label → ⊥) → ((name : List ℕ) (class : ClassId) → what ≡ saying.Net name class → ⊥) → MaySayAgain what
+again (saying.Label class label) no_label no_net = no_label class label refl
+again (saying.Net name class) no_label no_net = no_net name class refl
+again other no_label no_net = tt
+
+pub told-again : (before : List Saying) (what : Saying) → MaySayAgain what → told_fault before what ≡ None
+told-again before (saying.Label class label) may = absurd may
+told-again before (saying.Net name class) may = absurd may
+told-again before other may = refl
+
+first-alone : (m : Option (List ℕ)) → option_to_list m ≡ take 1 (option_to_list m ++ [])
+first-alone None = refl
+first-alone (Some name) = refl
+
+or-none : {A : Type 0} (o : Option A) → o ≡ option_or o None
+or-none None = refl
+or-none (Some x) = refl
+
+-- a line that says nothing
+pub takes-nothing : (kept : Contents) → Takes kept saying.Nothing kept
+takes-nothing kept = record {
+  model = first-alone kept.model;
+  inputs = sym (append-nil kept.inputs);
+  outputs = refl;
+  gates = sym (append-nil kept.gates);
+  wires = sym (append-nil kept.wires);
+  latches = sym (append-nil kept.latches);
+  arrivals = λ lines stands. subst (arrival.StandsFor kept.arrivals) (sym (append-nil lines)) stands;
+  labels = λ class. or-none (slice_index_or kept.labels.items class None);
+  classes = λ few. few;
+  low = λ low. low;
+  nets = λ name. or-none (get bytes_eq kept.nets name);
+}
+
+-- what is so after a call that did not fail
+pub ok-then : {X E P Q : Type 0} (r : Result X E) → (P → Q) → OnOk r P → OnOk r Q
+ok-then (Ok x) f p = f p
+ok-then (Err e) f p = tt

@@ -1,5 +1,6 @@
 pub mod Alike
 pub mod Certified
+pub mod Closings
 pub mod Commands
 pub mod Fitting
 pub mod GateLines

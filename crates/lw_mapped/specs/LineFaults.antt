@@ -1,5 +1,5 @@
 -- The first rule that a line of a mapped text breaks, behind the lines before it.
-use Rattle.std.specs.Prelude.{ℕ, Bool, true, false, not, List, [], ◌∷◌, ◌++◌, Option, Some, None, Result, Ok, Err, if◌then◌else◌, is_some, codes}
+use Rattle.std.specs.Prelude.{ℕ, Bool, true, false, not, List, [], ◌∷◌, ◌++◌, Option, Some, None, Result, Ok, Err, ⊤, if◌then◌else◌, is_some, codes}
 use Rattle.std.specs.List.{flat_map}
 use Rattle.std.specs.Str.{bytes_eq}
 use Rattle.lw_words.specs.Lines.{LogicalLine}
@@ -76,6 +76,12 @@ abbrev pub is_told : List Saying → Saying → Bool
 is_told before (saying.Label class label) = is_some (label_among (flat_map labels_in before) class.0)
 is_told before (saying.Net name class) = is_some (class_among (flat_map nets_in before) name)
 is_told before other = false
+
+-- lines may say this again
+abbrev pub MaySayAgain : Saying → Type 0
+MaySayAgain (saying.Label class label) = ⊥
+MaySayAgain (saying.Net name class) = ⊥
+MaySayAgain other = ⊤
 
 abbrev pub told_fault : List Saying → Saying → Option MappedKind
 told_fault before what = if is_told before what then Some kind.Certificate else None

@@ -1,5 +1,5 @@
 -- What a reader stands for: the lines that it was given, over one library.
-use Rattle.std.specs.Prelude.{ℕ, ◌≡◌, ◌<◌, ◌≤◌, ◌-◌, ◌^◌, Bool, not, List, [], Option, Some, None, Result, Ok, Err, ⊤, length, sum_by, All, IfSome}
+use Rattle.std.specs.Prelude.{ℕ, ◌≡◌, ◌<◌, ◌≤◌, ◌-◌, ◌^◌, Bool, not, List, [], Option, Some, None, Result, Ok, Err, ⊤, length, sum_by, All, IfSome, IsSome}
 use Rattle.lw_words.specs.Lines.{LogicalLine}
 use Rattle.lw_genlib.specs.Cells.{CellParts}
 use Rattle.lw_mapped.specs.declared.certificate.Certificate.{Certificate}
@@ -44,6 +44,12 @@ abbrev pub Stopped : Result (Unit {0}) MappedFault → Option Stop → Type 0
 Stopped (Ok u) stopped = stopped ≡ None
 Stopped (Err answer) None = ⊥
 Stopped (Err answer) (Some why) = answer ≡ fault_of why
+
+-- A reader that has stopped answers the same from then on, and stays as it is.
+pub record StaysStopped (old new : MappedReader) (result : Result (Unit {0}) MappedFault) : Type 0 where
+  pub stopped : Stopped result (stop_of new)
+  pub again : IfSome (stop_of old) (λ stop. result ≡ Err (fault_of stop))
+  pub unchanged : IsSome (stop_of old) → new ≡ old
 
 -- What is kept of the lines.
 

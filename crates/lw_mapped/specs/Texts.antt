@@ -14,7 +14,7 @@ use Rattle.lw_netlist.specs.declared.gate.Port.{Port}
 use Rattle.lw_netlist.specs.Netlists.{NetlistParts}
 use Rattle.lw_mapped.specs.declared.certificate.Certificate.{Certificate}
 use Rattle.lw_words.specs.Texts.{line}
-use Rattle.lw_netlist.specs.Plain.{port_name}
+use Rattle.lw_netlist.specs.Plain.{IsOver, port_name}
 use Rattle.lw_frame.specs.Latches.{latch_line}
 
 abbrev pub net_name : List (List ℕ) → NetId → List ℕ
@@ -135,6 +135,12 @@ pub record IsFramed (n : NetlistParts) (frame : Frame) (starts : List Micro) : T
   pub inputs : frame.inputs ≤ n.inputs
   pub outputs : frame.outputs ≤ length n.outputs
   pub one_start : length starts ≡ n.inputs
+
+-- a netlist of these cells has a text: with this frame, these starts and this certificate
+pub record HasMappedText (cells : List CellParts) (n : NetlistParts) (frame : Frame) (starts : List Micro) (certificate : Option Certificate) : Type 0 where
+  pub over : IsOver cells n
+  pub framed : IsFramed n frame starts
+  pub classes : HasGateClasses n certificate
 
 -- Names of nets.
 

@@ -1,5 +1,5 @@
 // The netlist of what lines say, with its frame, its starts and its certificate.
-ghost use Rattle.std.specs.Prelude.{◌≡◌, ◌<◌, List, length, map, All, IfOk, IfErr, unwrap_or, codes, slice_get, Some};
+ghost use Rattle.std.specs.Prelude.{◌≡◌, ◌<◌, length, map, All, IfOk, IfErr, unwrap_or, codes, slice_get, Some};
 ghost use Rattle.std.specs.Str.{bytes_eq};
 ghost use Rattle.indexmap.specs.IndexMap.{get};
 ghost use Rattle.indexmap.specs.IndexSet.{index_set_len};
@@ -185,19 +185,12 @@ fn closed(
 }
 
 impl Contents {
-    ghost use Rattle.std.specs.Prelude.{◌≡◌, List, IfOk, All};
-    ghost use Rattle.lw_mapped.specs.declared.saying.Saying.{Saying};
-    ghost use Rattle.lw_netlist.specs.Plain.{IsOver};
-    ghost use Rattle.lw_frame.specs.Starts.{starts_of, IsEarly};
-    ghost use Rattle.lw_mapped.specs.Fitting.{IsMapped};
-    ghost use Rattle.lw_mapped.specs.Keeping.{Keeps, IsOfFew};
-    ghost use Rattle.lw_mapped.specs.Unmapped.{ClosesTo, starts_said};
+    ghost use Rattle.lw_mapped.specs.Closings.{AreStartsOf, IsClosingOf};
+    ghost use Rattle.lw_mapped.specs.Keeping.{IsOfFew};
 
     // The starts of the inputs.
     fn starts(&self, alloc: Global) -> Result<Micros, AllocError>
-        ensures starts { IfOk result (λ starts. (said : List Saying) → Keeps self.now said →
-            starts ≡ starts_said said) }
-        ensures early { IfOk result (All IsEarly) }
+        ensures { IfOk result (AreStartsOf self.now) }
     {
         self.arrivals
             .starts(alloc, self.inputs.as_slice(), self.latches.len())
@@ -206,9 +199,7 @@ impl Contents {
     /// The netlist of what lines say, or its fault.
     pub(crate) fn close(self, alloc: Global, lib: &Library) -> Result<Mapped, MappedFault>
         requires { IsOfFew self lib.now }
-        ensures closes { (said : List Saying) → Keeps self said → ClosesTo said result }
-        ensures fits { IfOk result IsMapped }
-        ensures over { IfOk result (λ mapped. IsOver lib.now mapped.netlist) }
+        ensures { IsClosingOf self lib.now result }
     {
         let Ok(starts) = self.starts(alloc) else {
             drop(self);
@@ -220,11 +211,8 @@ impl Contents {
     // The same, with the starts of the inputs.
     fn close_with(self, alloc: Global, lib: &Library, starts: Micros) -> Result<Mapped, MappedFault>
         requires few { IsOfFew self lib.now }
-        requires starts { (said : List Saying) → Keeps self said → starts ≡ starts_said said }
-        requires early { All IsEarly starts }
-        ensures closes { (said : List Saying) → Keeps self said → ClosesTo said result }
-        ensures fits { IfOk result IsMapped }
-        ensures over { IfOk result (λ mapped. IsOver lib.now mapped.netlist) }
+        requires starts { AreStartsOf self starts }
+        ensures { IsClosingOf self lib.now result }
     {
         let Contents {
             model,

@@ -1,5 +1,5 @@
 // What lines say together, as far as they were read.
-ghost use Rattle.std.specs.Prelude.{◌≡◌, ◌==◌, ◌<◌, ◌≤◌, ◌++◌, [], ◌∷◌, ℕ, List, None, Some, max, is_some, length, slice_index_or, IfOk, OnOk, if◌then◌else◌, option_to_list, unwrap_or, codes};
+ghost use Rattle.std.specs.Prelude.{◌≡◌, ◌==◌, ◌<◌, ◌≤◌, ◌++◌, [], ℕ, List, None, Some, max, is_some, length, slice_index_or, OnOk, if◌then◌else◌};
 ghost use Rattle.std.specs.Str.{bytes_eq};
 ghost use Rattle.indexmap.specs.IndexMap.{get};
 ghost use Rattle.indexmap.specs.IndexSet.{insert_all};
@@ -30,7 +30,7 @@ pub struct Contents {
 impl Contents {
     ghost use Rattle.lw_mapped.specs.declared.saying.Saying.{Saying};
     ghost use Rattle.lw_mapped.specs.Parsed.{TellsFault, IsFit, IsLabel};
-    ghost use Rattle.lw_mapped.specs.LineFaults.{told_fault};
+    ghost use Rattle.lw_mapped.specs.LineFaults.{told_fault, MaySayAgain};
     ghost use Rattle.lw_mapped.specs.Keeping.{Keeps, Takes};
     ghost use Rattle.lw_laws.specs.Graphs.{most_classes};
     ghost use Rattle.lw_mapped.specs.declared.fault.MappedKind.{MappedKind};
@@ -59,17 +59,27 @@ impl Contents {
         ensures takes { OnOk result (Takes self.old saying self.new) }
     {
         match saying {
-            Saying::Gate(gate) => Ok(self.gates.push_spelled(gate)?),
             Saying::Label(class, label) => self.take_label(class, label),
             Saying::Net(name, class) => self.take_net(name, class),
-            Saying::Wire(wire) => Ok(self.wires.push(wire)?),
-            Saying::Inputs(names) => Ok(append(&mut self.inputs, names)?),
-            Saying::Outputs(names) => Ok(add_all(&mut self.outputs, names)?),
-            Saying::Latch(latch) => Ok(self.latches.push(latch)?),
-            Saying::Arrival(name, start) => Ok(self.arrivals.set(name, start)?),
+            saying => Ok(self.add(saying)?),
+        }
+    }
+
+    // Takes what a line says that may be said again.
+    fn add(&mut self, saying: Saying) -> Result<(), AllocError>
+        requires { IsFit saying }
+        ensures { OnOk result (MaySayAgain saying → Takes self.old saying self.new) }
+    {
+        match saying {
+            Saying::Gate(gate) => self.gates.push_spelled(gate),
+            Saying::Wire(wire) => self.wires.push(wire),
+            Saying::Inputs(names) => append(&mut self.inputs, names),
+            Saying::Outputs(names) => add_all(&mut self.outputs, names),
+            Saying::Latch(latch) => self.latches.push(latch),
+            Saying::Arrival(name, start) => self.arrivals.set(name, start),
             Saying::DefaultArrival(start) => Ok(self.arrivals.set_every(start)),
             Saying::Model(name) => Ok(self.take_model(name)),
-            Saying::Nothing => Ok(()),
+            Saying::Label(..) | Saying::Net(..) | Saying::Nothing => Ok(()),
         }
     }
 

@@ -1,5 +1,5 @@
 // Reads a mapped text line by line.
-ghost use Rattle.std.specs.Prelude.{◌≡◌, ◌++◌, ◌≤◌, ◌*◌, [], ◌∷◌, List, Err, IfOk, OnOk, IfSome, IsSome, Some, length};
+ghost use Rattle.std.specs.Prelude.{◌≡◌, ◌++◌, [], ◌∷◌, List, Err, IfOk, IfSome};
 
 use crate::closing::Mapped;
 use crate::command::{Command, command_of};
@@ -65,13 +65,12 @@ pub struct MappedReader {
 }
 
 impl MappedReader {
-    ghost use Rattle.lw_words.specs.Lines.{LogicalLine, lines_weight};
+    ghost use Rattle.lw_words.specs.Lines.{LogicalLine};
     ghost use Rattle.lw_genlib.specs.Cells.{CellParts};
     ghost use Rattle.lw_mapped.specs.LineFaults.{first_fault, lines_read};
     ghost use Rattle.lw_mapped.specs.Unmapped.{IsUnmapped};
-    ghost use Rattle.lw_mapped.specs.Standing.{StandsFor, IsGivenFew, Tells, Stopped, stop_of, fault_of};
-    ghost use Rattle.lw_netlist.specs.Plain.{IsOver};
-    ghost use Rattle.lw_mapped.specs.Fitting.{IsMapped};
+    ghost use Rattle.lw_mapped.specs.Standing.{StandsFor, IsGivenFew, Tells, StaysStopped, stop_of, fault_of};
+    ghost use Rattle.lw_mapped.specs.Closings.{IsReadFrom};
 
     pub fn new(alloc: Global) -> Self
         ensures { (cells : List CellParts) → StandsFor result cells [] }
@@ -91,9 +90,7 @@ impl MappedReader {
             StandsFor self.new lib.now (lines ++ line.now ∷ []) }
         ensures answer { (lines : List LogicalLine) → StandsFor self.old lib.now lines →
             Tells result (first_fault lib.now [] (lines_read (lines ++ line.now ∷ []))) }
-        ensures stopped { Stopped result (stop_of self.new) }
-        ensures again { IfSome (stop_of self.old) (λ stop. result ≡ Err (fault_of stop)) }
-        ensures unchanged { IsSome (stop_of self.old) → self.new ≡ self.old }
+        ensures stays { StaysStopped self.old self.new result }
     {
         if let Some(stop) = self.stop {
             return Err(stop.fault());
@@ -126,10 +123,8 @@ impl MappedReader {
         ensures answer { (lines : List LogicalLine) → StandsFor self lib.now lines →
             IsUnmapped lib.now lines result }
         ensures again { IfSome (stop_of self) (λ stop. result ≡ Err (fault_of stop)) }
-        ensures over { IfOk result (λ mapped. IsOver lib.now mapped.netlist) }
-        ensures fits { IfOk result IsMapped }
-        ensures gates { (lines : List LogicalLine) → StandsFor self lib.now lines →
-            IfOk result (λ mapped. 12 * length mapped.netlist.gates ≤ lines_weight lines) }
+        ensures kept { (lines : List LogicalLine) → StandsFor self lib.now lines →
+            IfOk result (IsReadFrom lib.now lines) }
     {
         let MappedReader { stop, parts, .. } = self;
         let Parts {

@@ -1,10 +1,6 @@
-ghost use Rattle.std.specs.Prelude.{◌≡◌, ◌≤◌, ◌++◌, OnOk, OnErr, length, take};
-ghost use Rattle.std.specs.Io.KnownBytes.{Appends};
-ghost use Rattle.lw_io.specs.Causes.{HasCause};
-ghost use Rattle.lw_io.specs.Moves.{AppendsPrefix};
-ghost use Rattle.lw_netlist.specs.Plain.{IsOver};
-ghost use Rattle.lw_mapped.specs.Texts.{mapped_text, certificate_text, header_text, now_of, HasGateClasses, IsFramed};
-ghost use Rattle.lw_io.specs.Waitings.{Puts};
+ghost use Rattle.std.specs.Prelude.{◌≡◌, ◌≤◌, length, take};
+ghost use Rattle.lw_mapped.specs.Texts.{mapped_text, certificate_text, header_text, now_of, HasGateClasses, HasMappedText};
+ghost use Rattle.lw_io.specs.Waitings.{Puts, IsTaken};
 
 use crate::Certificate;
 use crate::frames::{put_arrivals, put_latches};
@@ -78,9 +74,7 @@ fn put_text<S: Sink>(
     starts: &Micros,
     cert: Option<&Certificate>,
 )
-    requires over { IsOver lib.now netlist.now }
-    requires framed { IsFramed netlist.now frame.now starts.now }
-    requires classes { HasGateClasses netlist.now (now_of cert) }
+    requires { HasMappedText lib.now netlist.now frame.now starts.now (now_of cert) }
     ensures { Puts (S.taken sink.old) (S.faults sink.old) waiting.old (S.taken sink.new)
         (S.faults sink.new) waiting.new
         (mapped_text lib.now netlist.now frame.now starts.now (now_of cert.entry)) }
@@ -104,14 +98,9 @@ pub fn write<S: Sink>(
     cert: Option<&Certificate>,
     sink: &mut S,
 ) -> Result<(), Failed>
-    requires over { IsOver lib.now netlist.now }
-    requires framed { IsFramed netlist.now frame.now starts.now }
-    requires classes { HasGateClasses netlist.now (now_of cert) }
-    ensures ok { OnOk result (Appends (S.taken sink.old) (S.taken sink.new)
-        (mapped_text lib.now netlist.now frame.now starts.now (now_of cert.entry))) }
-    ensures failed { OnErr result (AppendsPrefix (S.taken sink.old) (S.taken sink.new)
-        (mapped_text lib.now netlist.now frame.now starts.now (now_of cert.entry))) }
-    ensures cause { HasCause (S.faults sink.old) (S.faults sink.new) result }
+    requires { HasMappedText lib.now netlist.now frame.now starts.now (now_of cert) }
+    ensures { IsTaken (S.taken sink.old) (S.faults sink.old) (S.taken sink.new) (S.faults sink.new)
+        (mapped_text lib.now netlist.now frame.now starts.now (now_of cert.entry)) result }
 {
     let mut waiting = Waiting::new();
     put_text(sink, &mut waiting, netlist, lib, frame, starts, cert);

@@ -1,9 +1,14 @@
+use Rattle.std.proofs.Common.{ℕ, List, map, refl, ap₂, ◌∙◌}
+use Rattle.std.specs.Str.{bytes_eq}
+use Rattle.indexmap.specs.IndexMap.{get}
 use Rattle.std.proofs.lemmas.Result.{err_from_is_err_and}
 use Rattle.lw_netlist.specs.declared.draft.GateDraft.{GateDraft}
 use Rattle.lw_netlist.specs.declared.fault.NetlistFault.{NetlistFault}
 use Rattle.lw_netlist.specs.declared.fault.NetlistFault.TheVariants as whole
+use Rattle.lw_netlist.specs.declared.gate.Gate.{Gate}
 use Rattle.lw_netlist.specs.Closing.{HasFault}
 use Rattle.lw_mapped.specs.Made.{TellsWhole}
+use Rattle.lw_mapped.specs.Texts.{net_name}
 use Rattle.lw_mapped.specs.Unmapped.{whole_fault}
 use Rattle.lw_mapped.proofs.closing.closed.Goals as goal
 
@@ -35,3 +40,17 @@ returns-in_default-clause-fault c = tt
 
 pub returns-clause-fault : goal.returns-clause-fault
 returns-clause-fault c = tt
+
+pub returns-clause-made : goal.returns-clause-made
+returns-clause-made c = record {
+  netlist = c.in_ok-netlist.ensures.closed;
+  the_frame = refl;
+  the_starts = refl;
+  the_labels = refl;
+  classes =
+      c.in-Ok.ensures
+      ∙ ap₂ (λ (names : List (List ℕ)) (gates : List Gate). map (λ (gate : Gate). get bytes_eq c.args.nets.now (net_name names gate.out)) gates) c.names.ensures.names c.gates.ensures.gates;
+}
+
+pub returns-clause-over : goal.returns-clause-over
+returns-clause-over c = c.in_ok-netlist.ensures.over

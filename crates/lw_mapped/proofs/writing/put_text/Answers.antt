@@ -1,10 +1,29 @@
-use Rattle.std.proofs.Common.{subst}
+use Rattle.std.proofs.Common.{ℕ, ◌<◌, All, List, length, sym, subst}
+use Rattle.lw_netlist.specs.declared.gate.Port.{Port}
+use Rattle.lw_netlist.specs.Plain.{HasCell}
 use Rattle.std.specs.List.{flat_map}
 use Rattle.lw_mapped.specs.Texts.{arrival_lines, gate_text, wire_text}
 use Rattle.lw_io.specs.Waitings.{Puts}
 use Rattle.lw_io.proofs.Putting.{Puts-both}
 use Rattle.lw_mapped.proofs.writing.put_text.Goals as goal
 use Rattle.lw_frame.specs.Latches.{latch_line}
+
+pub put_header-requires-clause-inputs : goal.put_header-requires-clause-inputs
+put_header-requires-clause-inputs g c = c.requires.framed.inputs
+
+pub put_header-requires-clause-outputs : goal.put_header-requires-clause-outputs
+put_header-requires-clause-outputs g c = c.requires.framed.outputs
+
+pub put_gates-requires-clause-over : goal.put_gates-requires-clause-over
+put_gates-requires-clause-over g c = subst (All (HasCell c.args.lib.now)) (sym c.gates.ensures.gates) c.requires.over
+
+pub put_wires-requires : goal.put_wires-requires
+put_wires-requires g c =
+    subst (λ (ports : List Port). All (λ (port : Port). port.net.0 < length c.names-3.result.now) ports) (sym c.outputs.ensures.outputs)
+    (subst (λ (names : List (List ℕ)). All (λ (port : Port). port.net.0 < length names) c.args.netlist.now.outputs) (sym c.names-3.ensures.names) c.names-3.ensures.kept.outputs)
+
+pub put_certificate-requires : goal.put_certificate-requires
+put_certificate-requires g c = c.requires.classes
 
 pub returns : goal.returns
 returns g c =

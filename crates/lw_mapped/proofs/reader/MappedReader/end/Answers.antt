@@ -3,8 +3,7 @@ use Rattle.lw_mapped.specs.declared.fault.MappedFault.{MappedFault}
 use Rattle.lw_mapped.specs.LineFaults.{lines_read, lines_say}
 use Rattle.lw_mapped.specs.Unmapped.{IsUnmapped}
 use Rattle.lw_mapped.proofs.StandingFor.{no_fault, comes-stopped, comes-wire, comes-closed}
-use Rattle.lw_mapped.proofs.Ending.{few-lines}
-use Rattle.lw_mapped.proofs.Weights.{few-gates}
+use Rattle.lw_mapped.proofs.Ending.{few-lines, read-from}
 use Rattle.lw_mapped.proofs.reader.MappedReader.end.Goals as goal
 
 pub returns-in-Some-clause-answer : goal.returns-in-Some-clause-answer
@@ -27,6 +26,7 @@ returns-clause-answer c = λ lines h.
     (no_fault c.args.lib.now _ _ c.args.self.stop c.args.self.parts lines c.in_default.is h) (sym c.in_default-wire.is ∙ kept.wire)
     (c.close.ensures.closes (lines_say c.args.lib.now (lines_read lines)) kept.said)
 
-pub returns-clause-gates : goal.returns-clause-gates
-returns-clause-gates c = λ lines h.
-    few-gates c.args.lib.now lines c.close.result c.len-count.ensures.kept (c.close.ensures.closes (lines_say c.args.lib.now (lines_read lines)) (h.kept c.in_default.is).said)
+pub returns-clause-kept : goal.returns-clause-kept
+returns-clause-kept c = λ lines h.
+    read-from c.args.lib.now lines c.args.self.parts.contents c.close.result c.len-count.ensures.kept c.close.ensures
+    (c.close.ensures.closes (lines_say c.args.lib.now (lines_read lines)) (h.kept c.in_default.is).said)
