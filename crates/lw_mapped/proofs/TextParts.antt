@@ -1,15 +1,17 @@
 -- The text of lines, part by part.
-use Rattle.std.proofs.Common.{◌≡◌, ◌<◌, ◌+◌, ℕ, zero, suc, List, [], ◌∷◌, ◌++◌, get_or, length, map, take, Option, None, refl, sym, ◌∙◌, ap, arith, append_assoc, append-nil, add-one}
+use Rattle.std.proofs.Common.{◌≡◌, ◌<◌, ◌+◌, ℕ, zero, suc, List, [], ◌∷◌, ◌++◌, get_or, length, map, take, Option, None, refl, sym, ◌∙◌, ap, arith, append_assoc, append-nil, add-one, All}
 use Rattle.std.specs.List.{flat_map}
 use Rattle.std.proofs.lemmas.Grind.{flat_map-append}
+use Rattle.std.proofs.lemmas.Option.{slice_get-get_or}
 use Rattle.lw_fixed.specs.declared.micro.Micro.{Micro}
 use Rattle.lw_pool.specs.declared.id.ClassId.{ClassId}
 use Rattle.lw_pool.specs.declared.id.NetId.{NetId}
 use Rattle.lw_netlist.specs.declared.gate.Gate.{Gate}
 use Rattle.lw_netlist.specs.declared.gate.Port.{Port}
 use Rattle.lw_frame.specs.Texts.{spaced}
-use Rattle.lw_mapped.specs.Texts.{ties, tie, net_name, optional_arrival, arrival_lines, optional_label, label_lines, optional_net, net_lines}
+use Rattle.lw_mapped.specs.Texts.{ties, tie, net_name, optional_arrival, arrival_lines, optional_label, label_lines, optional_net, net_lines, HasNames}
 use Rattle.lw_words.specs.Texts.{ended}
+use Rattle.lw_netlist.specs.Netlists.{NetlistParts, IsNetlist}
 use Rattle.lw_netlist.specs.Plain.{port_name}
 
 -- words, one more, and then a line end
@@ -78,3 +80,12 @@ arrivals_more names starts k d in_names in_starts = ap (λ n. arrival_lines name
 pub ports_spaced : (ports : List Port) → flat_map (λ (port : Port). 32 ∷ port.name) ports ≡ spaced (map port_name ports)
 ports_spaced [] = refl
 ports_spaced (port ∷ ports) = ap (λ l. 32 ∷ port.name ++ l) (ports_spaced ports)
+
+-- the nets of a netlist's gates have names
+pub gates_named : (n : NetlistParts) → IsNetlist n → All (HasNames n.names) n.gates
+gates_named n kept = λ k other below.
+    let at = kept.gates k (get_or n.gates k other) (slice_get-get_or n.gates k other below) in
+    record {
+      out = omega (arith, at.drives, kept.named, below);
+      pins = λ i net within. let b = at.before i net within in omega (arith, b, kept.named, below);
+    }

@@ -1,7 +1,9 @@
-use Rattle.std.proofs.Common.{sym, subst}
-use Rattle.lw_mapped.specs.Texts.{label_lines, net_lines, certificate_text, now_of}
+use Rattle.std.proofs.Common.{ℕ, All, List, sym, subst}
+use Rattle.lw_netlist.specs.declared.gate.Gate.{Gate}
+use Rattle.lw_mapped.specs.Texts.{label_lines, net_lines, certificate_text, now_of, HasNames}
 use Rattle.lw_io.specs.Waitings.{Puts}
 use Rattle.lw_io.proofs.Putting.{Puts-both}
+use Rattle.lw_mapped.proofs.TextParts.{gates_named}
 use Rattle.lw_mapped.proofs.writing.put_certificate.Goals as goal
 
 pub returns-in-Some : goal.returns-in-Some
@@ -11,3 +13,8 @@ returns-in-Some g c =
     let gates = subst (λ gs. Puts (g.S.Sink.taken c.put_labels.new.sink) (g.S.Sink.faults c.put_labels.new.sink) c.put_labels.new.waiting (g.S.Sink.taken c.put_nets.new.sink) (g.S.Sink.faults c.put_nets.new.sink) c.put_nets.new.waiting (net_lines c.args.netlist.now.names gs c.as_slice-in-Some.result.now)) c.gates.ensures.gates names in
     let nets = subst (λ cs. Puts (g.S.Sink.taken c.put_labels.new.sink) (g.S.Sink.faults c.put_labels.new.sink) c.put_labels.new.waiting (g.S.Sink.taken c.put_nets.new.sink) (g.S.Sink.faults c.put_nets.new.sink) c.put_nets.new.waiting (net_lines c.args.netlist.now.names c.args.netlist.now.gates cs)) c.as_slice-in-Some.ensures gates in
     subst (λ o. Puts (g.S.Sink.taken c.args.sink.now) (g.S.Sink.faults c.args.sink.now) c.args.waiting.now (g.S.Sink.taken c.put_nets.new.sink) (g.S.Sink.faults c.put_nets.new.sink) c.put_nets.new.waiting (certificate_text c.args.netlist.now (now_of o))) (sym c.in-Some.is) (Puts-both labels nets)
+
+pub put_nets-requires-clause-named : goal.put_nets-requires-clause-named
+put_nets-requires-clause-named g c =
+    subst (λ (gates : List Gate). All (HasNames c.names.result.now) gates) (sym c.gates.ensures.gates)
+    (subst (λ (names : List (List ℕ)). All (HasNames names) c.args.netlist.now.gates) (sym c.names.ensures.names) (gates_named c.args.netlist.now c.names.ensures.kept))

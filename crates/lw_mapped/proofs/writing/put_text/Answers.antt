@@ -1,10 +1,12 @@
 use Rattle.std.proofs.Common.{ℕ, ◌<◌, All, List, length, sym, subst}
 use Rattle.lw_netlist.specs.declared.gate.Port.{Port}
+use Rattle.lw_netlist.specs.declared.gate.Gate.{Gate}
 use Rattle.lw_netlist.specs.Plain.{HasCell}
 use Rattle.std.specs.List.{flat_map}
-use Rattle.lw_mapped.specs.Texts.{arrival_lines, gate_text, wire_text}
+use Rattle.lw_mapped.specs.Texts.{arrival_lines, gate_text, wire_text, HasNames}
 use Rattle.lw_io.specs.Waitings.{Puts}
 use Rattle.lw_io.proofs.Putting.{Puts-both}
+use Rattle.lw_mapped.proofs.TextParts.{gates_named}
 use Rattle.lw_mapped.proofs.writing.put_text.Goals as goal
 use Rattle.lw_frame.specs.Latches.{latch_line}
 
@@ -37,3 +39,8 @@ returns g c =
     let wires_named = subst (λ ns. Puts (g.S.Sink.taken c.put_gates.new.sink) (g.S.Sink.faults c.put_gates.new.sink) c.put_gates.new.waiting (g.S.Sink.taken c.put_wires.new.sink) (g.S.Sink.faults c.put_wires.new.sink) c.put_wires.new.waiting (flat_map (wire_text ns) c.outputs.result.now)) c.names-3.ensures.names c.put_wires.ensures in
     let wires = subst (λ ps. Puts (g.S.Sink.taken c.put_gates.new.sink) (g.S.Sink.faults c.put_gates.new.sink) c.put_gates.new.waiting (g.S.Sink.taken c.put_wires.new.sink) (g.S.Sink.faults c.put_wires.new.sink) c.put_wires.new.waiting (flat_map (wire_text n.names) ps)) c.outputs.ensures.outputs wires_named in
     Puts-both (Puts-both (Puts-both (Puts-both (Puts-both (Puts-both c.put_header.ensures arrivals) latches) gates) wires) c.put_certificate.ensures) c.put.ensures
+
+pub put_gates-requires-clause-named : goal.put_gates-requires-clause-named
+put_gates-requires-clause-named g c =
+    subst (λ (gates : List Gate). All (HasNames c.names-2.result.now) gates) (sym c.gates.ensures.gates)
+    (subst (λ (names : List (List ℕ)). All (HasNames names) c.args.netlist.now.gates) (sym c.names-2.ensures.names) (gates_named c.args.netlist.now c.gates.ensures.kept))
