@@ -5,7 +5,6 @@ pub mod ClosedOnce
 pub mod ClosingBack
 pub mod ClosingLemmas
 pub mod DepthLemmas
-pub mod Digits
 pub mod Driving
 pub mod Ending
 pub mod Faultless

@@ -1,5 +1,6 @@
 ghost use Rattle.std.specs.Prelude.{◌≡◌, ◌≤◌, length, take};
-ghost use Rattle.lw_mapped.specs.Texts.{mapped_text, certificate_text, header_text, now_of, HasGateClasses, HasMappedText};
+ghost use Rattle.lw_netlist.specs.Plain.{IsOver};
+ghost use Rattle.lw_mapped.specs.Texts.{mapped_text, certificate_text, header_text, now_of, HasGateClasses, HasMappedText, IsFramed};
 ghost use Rattle.lw_io.specs.Waitings.{Puts, IsTaken};
 
 use crate::Certificate;
@@ -98,7 +99,9 @@ pub fn write<S: Sink>(
     cert: Option<&Certificate>,
     sink: &mut S,
 ) -> Result<(), Failed>
-    requires { HasMappedText lib.now netlist.now frame.now starts.now (now_of cert) }
+    requires over { IsOver lib.now netlist.now }
+    requires framed { IsFramed netlist.now frame.now starts.now }
+    requires classes { HasGateClasses netlist.now (now_of cert) }
     ensures { IsTaken (S.taken sink.old) (S.faults sink.old) (S.taken sink.new) (S.faults sink.new)
         (mapped_text lib.now netlist.now frame.now starts.now (now_of cert.entry)) result }
 {
