@@ -10,7 +10,7 @@ use Rattle.lw_top.specs.Steps.{Step, followed_by}
 use Rattle.lw_top.specs.Words.{Command}
 use Rattle.lw_top.specs.Answers.{IsFileOf, IsReached, IsCommandAnswer}
 use Rattle.lw_top.specs.Reading.{Known, HasReason, Blames, Reaches}
-use Rattle.lw_top.specs.Answered.{Says, IsAnswered, Gives}
+use Rattle.lw_top.specs.Answered.{Says, IsAnswered, Responds, Gives}
 use Rattle.lw_top.proofs.Steps.{refused_later, answered}
 
 -- what is known at a file's turn
@@ -58,3 +58,7 @@ module _ {A : Type 0} (told : Option (List File)) (first : Step A) (next : A →
 pub ends : (told : Option (List File)) (before now : ℕ) (command : Command) (step : Step (List ℕ)) (r : Result Answer Refusal) → Gives step r → Says told before now (IsCommandAnswer command) r → IsAnswered told before now command r
 ends told before now command step (Ok a) g says = record { says = says; reached = tt; not_words = tt; written = g.1 }
 ends told before now command step (Err e) g says = record { says = says; reached = given_reaches told before now command step e g; not_words = given_words told before now command step e g; written = tt }
+
+-- a command is answered, and the files stay
+pub responds : {told told' : Option (List File)} {before now : ℕ} {command : Command} {r : Result Answer Refusal} → told' ≡ told → before ≤ now → IsAnswered told before now command r → Responds told told' before now command r
+responds files later answered = record { answered = answered; later = later; files = files }

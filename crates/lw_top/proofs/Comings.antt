@@ -1,12 +1,16 @@
 -- A step that reads no file has a reason where it refuses.
-use Rattle.std.proofs.Common.{ℕ, List, Option, Ok, Err, Result}
+use Rattle.std.proofs.Common.{◌≢◌, ℕ, List, Option, Ok, Err, Result}
+use Rattle.std.specs.Prelude.{IfErr}
 use Rattle.lw_io.specs.declared.file.File.{File}
 use Rattle.lw_io.specs.Files.{bytes_of}
 use Rattle.lw_top.specs.declared.refusal.Refusal.{Refusal}
 use Rattle.lw_top.specs.declared.refusal.Refusal.TheVariants.{Words, Unread, TooLong, Memory}
-use Rattle.lw_top.specs.Steps.{Step}
-use Rattle.lw_top.specs.Reading.{HasReason, Reads}
+use Rattle.lw_top.specs.declared.refusal.Which.{Which}
+use Rattle.lw_top.specs.Steps.{Step, gives, followed_by}
+use Rattle.lw_top.specs.Reading.{Blames, HasReason, Reads, ReadsFile}
 use Rattle.lw_top.specs.Named.{Comes}
+use Rattle.lw_top.specs.Answers.{text_of}
+use Rattle.lw_top.proofs.Steps.{refused, after_reading}
 
 module _ {X A : Type 0} (view : X → A) (told : Option (List File)) (before now : ℕ) (step : Step A) where
   pub reason : (e : Refusal) → Comes view step (Err e) → HasReason told before now step e
@@ -19,3 +23,38 @@ module _ {X A : Type 0} (view : X → A) (told : Option (List File)) (before now
   pub comes : (r : Result X Refusal) → Comes view step r → Reads view told before now step r
   comes (Ok x) c = λ files is. c (bytes_of files)
   comes (Err e) c = reason e c
+
+module _ {X A : Type 0} (view : X → A) (step : Step A) where
+  -- of the words nothing is refused
+  not_words : (r : Result X Refusal) → Comes view step r → IfErr r (λ e. e ≢ Words)
+  not_words (Ok x) c = tt
+  not_words (Err Words) c = absurd c
+  not_words (Err other) c = λ is. cc
+
+  -- no file is to blame
+  blames : (which : Which) (r : Result X Refusal) → Comes view step r → IfErr r (Blames which)
+  blames which (Ok x) c = tt
+  blames which (Err (Unread w)) c = absurd c
+  blames which (Err other) c = tt
+
+-- A file's bytes, and then a step that reads no file.
+module _ {B X A : Type 0} (bytes_of_it : B → List ℕ) (view : X → A) (told told' : Option (List File)) (before now : ℕ) (which : Which) (name : List ℕ) (next : List ℕ → Step A) where
+  -- the file was not read
+  pub bytes_refused : (e : Refusal) → ReadsFile bytes_of_it told told' before now which (gives (text_of which name)) (Err e) → ReadsFile view told told' before now which (followed_by (gives (text_of which name)) next) (Err e)
+  bytes_refused e read = record {
+    files = read.files;
+    later = read.later;
+    not_words = read.not_words;
+    blames = read.blames;
+    reads = refused told (gives (text_of which name)) next before now e read.reads;
+  }
+
+  -- it was read
+  pub bytes_read : (b : B) (r : Result X Refusal) → ReadsFile bytes_of_it told told' before now which (gives (text_of which name)) (Ok b) → Comes view (next (bytes_of_it b)) r → ReadsFile view told told' before now which (followed_by (gives (text_of which name)) next) r
+  bytes_read b r read c = record {
+    files = read.files;
+    later = read.later;
+    not_words = not_words view (next (bytes_of_it b)) r c;
+    blames = blames view (next (bytes_of_it b)) which r c;
+    reads = after_reading view told before now now (gives (text_of which name)) next (bytes_of_it b) r read.later read.reads (comes view told now now (next (bytes_of_it b)) r c);
+  }

@@ -47,3 +47,8 @@ asked_reached told o c r is reached = subst (λ (p : Option Asked). IsReachedBy 
 pub unasked : (told : Option (List File)) (o : Option Asked) → ((c : Asked) → o ≡ Some c → ⊥) → Known told (IsAnswerTo (asked o)) (Err Words)
 unasked told None not files is = inr (Words, refl, refl)
 unasked told (Some c) not files is = absurd (not c refl)
+
+-- words of no form reach no file
+pub words_reached : (told : Option (List File)) (o : Option Asked) → IsReachedBy told (asked o) (Refused Words)
+words_reached told None = tt
+words_reached told (Some c) = tt

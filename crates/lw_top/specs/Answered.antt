@@ -1,5 +1,5 @@
 -- What a command comes to when its files are read.
-use Rattle.std.specs.Prelude.{◌≡◌, ◌≢◌, ℕ, List, length, Option, Result, Ok, Err, IfErr, IfOk}
+use Rattle.std.specs.Prelude.{◌≡◌, ◌≢◌, ◌≤◌, ℕ, List, length, Option, Result, Ok, Err, IfErr, IfOk}
 use Rattle.lw_io.specs.declared.file.File.{File}
 use Rattle.lw_netlist.specs.Plain.{IsOver}
 use Rattle.lw_mapped.specs.Texts.{IsFramed, HasGateClasses}
@@ -37,6 +37,12 @@ pub record IsAnswered (told : Option (List File)) (before now : ℕ) (command : 
   pub not_words : IfErr result (λ e. e ≢ Words)
   pub written : IfOk result CanBeWritten
 
+-- A command was answered, and the files stay.
+pub record Responds (told told' : Option (List File)) (before now : ℕ) (command : Command) (result : Result Answer Refusal) : Type 0 where
+  pub answered : IsAnswered told before now command result
+  pub later : before ≤ now
+  pub files : told' ≡ told
+
 -- What a step that reads no file answers: its texts are what the step says, whatever the files. Running out of memory needs no reason,
 -- and of the words and the files nothing is refused.
 abbrev pub Gives : Step (List ℕ) → Result Answer Refusal → Type 0
@@ -46,3 +52,8 @@ Gives step (Err Words) = ⊥
 Gives step (Err (Unread w)) = ⊥
 Gives step (Err (TooLong w)) = ⊥
 Gives step (Err other) = (files : Files) → step files (Err other)
+
+-- the same of an answer that is made of what was computed
+abbrev pub GivesBy : {X : Type 0} → (X → Answer) → Step (List ℕ) → Result X Refusal → Type 0
+GivesBy wrap step (Ok x) = Gives step (Ok (wrap x))
+GivesBy wrap step (Err e) = Gives step (Err e)

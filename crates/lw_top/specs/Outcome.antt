@@ -1,5 +1,5 @@
 -- What each outcome of a run means.
-use Rattle.std.specs.Prelude.{◌≡◌, ℕ, Bool, true, List, Option, Some, Result, Ok}
+use Rattle.std.specs.Prelude.{◌≡◌, ◌≤◌, ℕ, Bool, true, List, Option, Some, Result, Ok}
 use Rattle.std.specs.Io.KnownBytes.{Appends}
 use Rattle.lw_io.specs.declared.file.File.{File}
 use Rattle.lw_io.specs.declared.failed.Failed.{Failed}
@@ -9,7 +9,7 @@ use Rattle.lw_io.specs.Waitings.{IsTaken}
 use Rattle.lw_top.specs.declared.answer.Answer.{Answer}
 use Rattle.lw_top.specs.Named.{IsTextOf}
 use Rattle.lw_top.specs.Steps.{Step}
-use Rattle.lw_top.specs.Answers.{status_of}
+use Rattle.lw_top.specs.Answers.{status_of, IsAnswerTo}
 use Rattle.lw_top.specs.Words.{Command}
 use Rattle.lw_top.specs.Reading.{Known, HasReason, Reaches}
 use Rattle.lw_top.specs.declared.outcome.Outcome.{Outcome}
@@ -47,6 +47,14 @@ Meets told before now taken is_finished faults old new answer (Refused r) = HasR
 abbrev pub IsReachedBy : Option (List File) → Option Command → Outcome → Type 0
 IsReachedBy told (Some command) (Refused r) = Reaches told command r
 IsReachedBy told command outcome = Unit {0}
+
+-- What a command comes to: its answer is written, or refused; the files stay, and no count of faults falls.
+pub record Serves {O : Type 0} (told told' : Option (List File)) (before now : ℕ) (taken : O → Option (List ℕ)) (is_finished : O → Bool) (faults : O → ℕ) (old new : O) (command : Option Command) (outcome : Outcome) : Type 0 where
+  pub meets : Meets told before now taken is_finished faults old new (IsAnswerTo command) outcome
+  pub reached : IsReachedBy told command outcome
+  pub files : told' ≡ told
+  pub read : before ≤ now
+  pub written : faults old ≤ faults new
 
 -- the exit status
 abbrev pub outcome_status : Outcome → ℕ

@@ -1,13 +1,16 @@
 -- What a call that reads files answers.
-use Rattle.std.specs.Prelude.{◌≡◌, ◌⊎◌, ℕ, ◌<◌, ◌≤◌, List, ◌++◌, length, Option, Some, Result, Ok, Err}
+use Rattle.std.specs.Prelude.{◌≡◌, ◌≢◌, ◌⊎◌, ℕ, ◌<◌, ◌≤◌, List, ◌++◌, length, Option, Some, Result, Ok, Err, IfErr, Bool, IsTrue, IfSome, MatchOption, vec_len}
+use Rattle.std.specs.Global.{Vec}
+use Rattle.std.specs.Option.{ForSome}
 use Rattle.std.specs.Io.KnownBytes.{Consumes, IsAtEnd}
 use Rattle.lw_io.specs.declared.file.File.{File}
 use Rattle.lw_io.specs.Causes.{Rose}
 use Rattle.lw_io.specs.Files.{bytes_of}
 use Rattle.lw_top.specs.declared.refusal.Refusal.{Refusal}
-use Rattle.lw_top.specs.declared.refusal.Refusal.TheVariants.{Unread, Memory}
+use Rattle.lw_top.specs.declared.refusal.Refusal.TheVariants.{Words, Unread, Memory}
 use Rattle.lw_top.specs.declared.refusal.Which.{Which}
 use Rattle.lw_top.specs.Steps.{Step}
+use Rattle.lw_words.specs.Limits.{most_bytes}
 use Rattle.lw_top.specs.Words.{Command}
 use Rattle.lw_top.specs.Answers.{IsFileOf, IsReached}
 
@@ -19,6 +22,17 @@ pub record ReadsPiece (left rest : Option (List ℕ)) (old new : List ℕ) (room
   pub added : new ≡ old ++ piece
   pub read : Consumes left rest piece
   pub end : n ≡ 0 → 0 < room → IsAtEnd rest
+
+-- a file stays open, all files stay, and no count of faults falls
+pub record StaysOpen (told told' : Option (List File)) (before now : ℕ) (open_now : Bool) : Type 0 where
+  pub files : told' ≡ told
+  pub later : before ≤ now
+  pub is_open : IsTrue open_now
+
+-- the text is all that was left of a file, or it is none where that was too long
+pub record IsTextLeft (left : Option (List ℕ)) (text : Option (Vec ℕ)) : Type 0 where
+  pub whole : ForSome left (λ bytes. MatchOption text (most_bytes < length bytes) (λ (v : Vec ℕ). (length bytes ≤ most_bytes) × (v.items ≡ bytes)))
+  pub few : IfSome text (λ (v : Vec ℕ). vec_len v ≤ most_bytes)
 
 -- Over known files the step has this outcome.
 abbrev pub Known : {A : Type 0} → Option (List File) → Step A → Result A Refusal → Type 0
@@ -40,6 +54,14 @@ Reads view told before now step (Err e) = HasReason told before now step e
 abbrev pub Blames : Which → Refusal → Type 0
 Blames which (Unread w) = w ≡ which
 Blames which other = Unit {0}
+
+-- A call that reads one file: what it answers is what the step says, words are not refused, and no other file is blamed. The files stay.
+pub record ReadsFile {X A : Type 0} (view : X → A) (told told' : Option (List File)) (before now : ℕ) (which : Which) (step : Step A) (result : Result X Refusal) : Type 0 where
+  pub files : told' ≡ told
+  pub later : before ≤ now
+  pub not_words : IfErr result (λ e. e ≢ Words)
+  pub blames : IfErr result (Blames which)
+  pub reads : Reads view told before now step result
 
 -- A file that was not read is one of the command's, and its turn had come: over known files each file that the command reads before it is there, and within its limit
 -- and its grammar.

@@ -1,9 +1,9 @@
 // From a command to its answer.
-ghost use Rattle.std.specs.Prelude.{◌≡◌, ◌≤◌, IfSome};
+ghost use Rattle.std.specs.Prelude.{IfSome};
 ghost use Rattle.lw_genlib.specs.Cells.{IsSmall};
 ghost use Rattle.lw_top.specs.Words.{IsInRange, IsCount, mapping, checking, timing, simulation, gate_simulation, counting, tabling, drawing, to_verilog, from_verilog, trading};
 ghost use Rattle.lw_top.specs.Commands.{plain_command};
-ghost use Rattle.lw_top.specs.Answered.{IsAnswered};
+ghost use Rattle.lw_top.specs.Answered.{Responds};
 ghost use Rattle.lw_map.specs.Options.{IsWide, plain_options};
 ghost use Rattle.lw_map.specs.Tabled.{AreLeaves};
 
@@ -61,10 +61,9 @@ fn map_files<F: Shelf>(
     shelf: &mut F,
 ) -> Result<Answer, Refusal>
     requires { IsWide (plain_options options) }
-    ensures answered { IsAnswered (F.files shelf.old) (F.faults shelf.old) (F.faults shelf.new)
+    ensures { Responds (F.files shelf.old) (F.files shelf.new) (F.faults shelf.old)
+        (F.faults shelf.new)
         (mapping (plain_options options) certified library.now network.now) result }
-    ensures later { F.faults shelf.old ≤ F.faults shelf.new }
-    ensures files { F.files shelf.new ≡ F.files shelf.old }
 {
     let library = read_library(alloc, shelf, library)?;
     let model = read_model(alloc, shelf, network)?;
@@ -80,10 +79,9 @@ fn check_files<F: Shelf>(
     shelf: &mut F,
 ) -> Result<Answer, Refusal>
     requires { IsWide (plain_options options) }
-    ensures answered { IsAnswered (F.files shelf.old) (F.faults shelf.old) (F.faults shelf.new)
+    ensures { Responds (F.files shelf.old) (F.files shelf.new) (F.faults shelf.old)
+        (F.faults shelf.new)
         (checking (plain_options options) library.now network.now mapped.now) result }
-    ensures later { F.faults shelf.old ≤ F.faults shelf.new }
-    ensures files { F.files shelf.new ≡ F.files shelf.old }
 {
     let library = read_library(alloc, shelf, library)?;
     let model = match read_model(alloc, shelf, network) {
@@ -114,10 +112,8 @@ fn time_files<F: Shelf>(
     mapped: &str,
     shelf: &mut F,
 ) -> Result<Answer, Refusal>
-    ensures answered { IsAnswered (F.files shelf.old) (F.faults shelf.old) (F.faults shelf.new)
-        (timing library.now mapped.now) result }
-    ensures later { F.faults shelf.old ≤ F.faults shelf.new }
-    ensures files { F.files shelf.new ≡ F.files shelf.old }
+    ensures { Responds (F.files shelf.old) (F.files shelf.new) (F.faults shelf.old)
+        (F.faults shelf.new) (timing library.now mapped.now) result }
 {
     let library = read_library(alloc, shelf, library)?;
     let mapped = read_mapped(alloc, &library, shelf, mapped)?;
@@ -130,10 +126,8 @@ fn simulate_files<F: Shelf>(
     vectors: &str,
     shelf: &mut F,
 ) -> Result<Answer, Refusal>
-    ensures answered { IsAnswered (F.files shelf.old) (F.faults shelf.old) (F.faults shelf.new)
-        (simulation network.now vectors.now) result }
-    ensures later { F.faults shelf.old ≤ F.faults shelf.new }
-    ensures files { F.files shelf.new ≡ F.files shelf.old }
+    ensures { Responds (F.files shelf.old) (F.files shelf.new) (F.faults shelf.old)
+        (F.faults shelf.new) (simulation network.now vectors.now) result }
 {
     let model = read_model(alloc, shelf, network)?;
     let vectors = read_vectors(alloc, model.network.inputs(), shelf, vectors)?;
@@ -147,10 +141,8 @@ fn simulate_gate_files<F: Shelf>(
     vectors: &str,
     shelf: &mut F,
 ) -> Result<Answer, Refusal>
-    ensures answered { IsAnswered (F.files shelf.old) (F.faults shelf.old) (F.faults shelf.new)
-        (gate_simulation library.now mapped.now vectors.now) result }
-    ensures later { F.faults shelf.old ≤ F.faults shelf.new }
-    ensures files { F.files shelf.new ≡ F.files shelf.old }
+    ensures { Responds (F.files shelf.old) (F.files shelf.new) (F.faults shelf.old)
+        (F.faults shelf.new) (gate_simulation library.now mapped.now vectors.now) result }
 {
     let library = read_library(alloc, shelf, library)?;
     let mapped = match read_mapped(alloc, &library, shelf, mapped) {
@@ -177,10 +169,8 @@ fn count_files<F: Shelf>(
     shelf: &mut F,
 ) -> Result<Answer, Refusal>
     requires { IsWide (plain_options options) }
-    ensures answered { IsAnswered (F.files shelf.old) (F.faults shelf.old) (F.faults shelf.new)
-        (counting (plain_options options) network.now) result }
-    ensures later { F.faults shelf.old ≤ F.faults shelf.new }
-    ensures files { F.files shelf.new ≡ F.files shelf.old }
+    ensures { Responds (F.files shelf.old) (F.files shelf.new) (F.faults shelf.old)
+        (F.faults shelf.new) (counting (plain_options options) network.now) result }
 {
     let model = read_model(alloc, shelf, network)?;
     count_model(alloc, &model, options)
@@ -195,10 +185,8 @@ fn table_files<F: Shelf>(
 ) -> Result<Answer, Refusal>
     requires leaves { AreLeaves leaves }
     requires wide { IsWide (plain_options options) }
-    ensures answered { IsAnswered (F.files shelf.old) (F.faults shelf.old) (F.faults shelf.new)
-        (tabling leaves (plain_options options) network.now) result }
-    ensures later { F.faults shelf.old ≤ F.faults shelf.new }
-    ensures files { F.files shelf.new ≡ F.files shelf.old }
+    ensures { Responds (F.files shelf.old) (F.files shelf.new) (F.faults shelf.old)
+        (F.faults shelf.new) (tabling leaves (plain_options options) network.now) result }
 {
     let model = read_model(alloc, shelf, network)?;
     table_model(alloc, model, options, leaves)
@@ -212,10 +200,8 @@ fn draw_files<F: Shelf>(
     shelf: &mut F,
 ) -> Result<Answer, Refusal>
     requires { IsCount count }
-    ensures answered { IsAnswered (F.files shelf.old) (F.faults shelf.old) (F.faults shelf.new)
-        (drawing seed count library.now) result }
-    ensures later { F.faults shelf.old ≤ F.faults shelf.new }
-    ensures files { F.files shelf.new ≡ F.files shelf.old }
+    ensures { Responds (F.files shelf.old) (F.files shelf.new) (F.faults shelf.old)
+        (F.faults shelf.new) (drawing seed count library.now) result }
 {
     let library = read_library(alloc, shelf, library)?;
     draw(alloc, &library, seed, count)
@@ -227,10 +213,8 @@ fn to_verilog_files<F: Shelf>(
     mapped: &str,
     shelf: &mut F,
 ) -> Result<Answer, Refusal>
-    ensures answered { IsAnswered (F.files shelf.old) (F.faults shelf.old) (F.faults shelf.new)
-        (to_verilog library.now mapped.now) result }
-    ensures later { F.faults shelf.old ≤ F.faults shelf.new }
-    ensures files { F.files shelf.new ≡ F.files shelf.old }
+    ensures { Responds (F.files shelf.old) (F.files shelf.new) (F.faults shelf.old)
+        (F.faults shelf.new) (to_verilog library.now mapped.now) result }
 {
     let library = read_library(alloc, shelf, library)?;
     let mapped = read_mapped(alloc, &library, shelf, mapped)?;
@@ -243,10 +227,8 @@ fn from_verilog_files<F: Shelf>(
     verilog: &str,
     shelf: &mut F,
 ) -> Result<Answer, Refusal>
-    ensures answered { IsAnswered (F.files shelf.old) (F.faults shelf.old) (F.faults shelf.new)
-        (from_verilog library.now verilog.now) result }
-    ensures later { F.faults shelf.old ≤ F.faults shelf.new }
-    ensures files { F.files shelf.new ≡ F.files shelf.old }
+    ensures { Responds (F.files shelf.old) (F.files shelf.new) (F.faults shelf.old)
+        (F.faults shelf.new) (from_verilog library.now verilog.now) result }
 {
     let library = read_library(alloc, shelf, library)?;
     let netlist = read_netlist(alloc, &library, shelf, verilog)?;
@@ -263,10 +245,9 @@ fn trade_files<F: Shelf>(
 ) -> Result<Answer, Refusal>
     requires late { IfSome deadline IsSmall }
     requires wide { IsWide (plain_options options) }
-    ensures answered { IsAnswered (F.files shelf.old) (F.faults shelf.old) (F.faults shelf.new)
+    ensures { Responds (F.files shelf.old) (F.files shelf.new) (F.faults shelf.old)
+        (F.faults shelf.new)
         (trading deadline (plain_options options) library.now network.now) result }
-    ensures later { F.faults shelf.old ≤ F.faults shelf.new }
-    ensures files { F.files shelf.new ≡ F.files shelf.old }
 {
     let library = read_library(alloc, shelf, library)?;
     let model = read_model(alloc, shelf, network)?;
@@ -280,10 +261,8 @@ pub fn respond<F: Shelf>(
     shelf: &mut F,
 ) -> Result<Answer, Refusal>
     requires { IsInRange (plain_command command) }
-    ensures answered { IsAnswered (F.files shelf.old) (F.faults shelf.old) (F.faults shelf.new)
-        (plain_command command.entry) result }
-    ensures later { F.faults shelf.old ≤ F.faults shelf.new }
-    ensures files { F.files shelf.new ≡ F.files shelf.old }
+    ensures { Responds (F.files shelf.old) (F.files shelf.new) (F.faults shelf.old)
+        (F.faults shelf.new) (plain_command command.entry) result }
 {
     match command {
         Command::Mapping(options, certified, library, network) => {

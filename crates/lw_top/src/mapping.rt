@@ -1,8 +1,8 @@
 // A network mapped to the cells of a library.
-ghost use Rattle.std.specs.Prelude.{◌≡◌, IfOk, IfErr, Ok, Err};
+ghost use Rattle.std.specs.Prelude.{IfOk};
 ghost use Rattle.lw_blif.specs.BlifNetworks.{IsModel};
 ghost use Rattle.lw_map.specs.Options.{IsWide, plain_options};
-ghost use Rattle.lw_top.specs.Answered.{Gives};
+ghost use Rattle.lw_top.specs.Answered.{Gives, GivesBy};
 ghost use Rattle.lw_top.specs.Maps.{Maps};
 ghost use Rattle.lw_top.specs.Mapped.{IsCertificateFor};
 
@@ -40,11 +40,9 @@ fn map_parts(
 ) -> Result<(Netlist, Option<Certificate>), Refusal>
     requires wide { IsWide (plain_options options) }
     requires model { IsModel model.now }
-    ensures given { IfOk result (λ parts. Gives
-        (Maps (plain_options options) certified library.now model.now)
-        (Ok (Answer.Mapping library.now parts.0 model.now.frame model.now.starts parts.1))) }
-    ensures refused { IfErr result (λ e. Gives
-        (Maps (plain_options options) certified library.now model.now) (Err e)) }
+    ensures { GivesBy
+        (λ parts. Answer.Mapping library.now parts.0 model.now.frame model.now.starts parts.1)
+        (Maps (plain_options options) certified library.now model.now) result }
 {
     let network = &model.network;
     let _ = network.inputs();

@@ -4,10 +4,9 @@ ghost use Rattle.lw_fixed.specs.Printed.{decimal_text};
 ghost use Rattle.lw_io.specs.Waitings.{Puts, IsTaken};
 ghost use Rattle.lw_top.specs.Words.{IsInRange};
 ghost use Rattle.lw_top.specs.Commands.{asked};
-ghost use Rattle.lw_top.specs.Answers.{IsAnswerTo};
 ghost use Rattle.lw_top.specs.Answered.{CanBeWritten};
 ghost use Rattle.lw_top.specs.Counts.{counts_text, sizes_text, steps_text};
-ghost use Rattle.lw_top.specs.Outcome.{Meets, Writes, WritesText, IsReachedBy};
+ghost use Rattle.lw_top.specs.Outcome.{Serves, Writes, WritesText};
 
 use crate::answer::{Answer, respond};
 use crate::putting::{put_count, put_number, put_time};
@@ -37,13 +36,9 @@ pub fn serve<F: Shelf, O: Sink>(
 ) -> Outcome
     requires { IfSome (asked command) IsInRange }
     ensures words { (result ≡ Outcome.Refused Refusal.Words) ↔ (asked command.entry ≡ None) }
-    ensures meets { Meets (F.files shelf.old) (F.faults shelf.old)
-        (F.faults shelf.new) O.taken O.is_finished O.faults out.old out.new
-        (IsAnswerTo (asked command.entry)) result }
-    ensures reached { IsReachedBy (F.files shelf.old) (asked command.entry) result }
-    ensures files { F.files shelf.new ≡ F.files shelf.old }
-    ensures read { F.faults shelf.old ≤ F.faults shelf.new }
-    ensures written { O.faults out.old ≤ O.faults out.new }
+    ensures serves { Serves (F.files shelf.old) (F.files shelf.new) (F.faults shelf.old)
+        (F.faults shelf.new) O.taken O.is_finished O.faults out.old out.new (asked command.entry)
+        result }
 {
     let Some(command) = command else {
         return Outcome::Refused(Refusal::Words);

@@ -1,11 +1,10 @@
 // One file, from its opening to its end.
-ghost use Rattle.std.specs.Prelude.{◌≡◌, ◌≢◌, ◌≤◌, ◌<◌, [], length, IfOk, IfErr, IfSome, IsTrue, vec_len, MatchOption};
-ghost use Rattle.std.specs.Option.{ForSome};
+ghost use Rattle.std.specs.Prelude.{◌≡◌, ◌≤◌, length, IfOk, IfErr, IsTrue, vec_len};
 ghost use Rattle.lw_io.specs.Causes.{Rose};
 ghost use Rattle.lw_top.specs.Steps.{gives};
 ghost use Rattle.lw_top.specs.Answers.{text_of};
 ghost use Rattle.lw_top.specs.declared.reading.ReadError.TheVariants.{Failed as ReadFailed, Memory as OutOfMemory};
-ghost use Rattle.lw_top.specs.Reading.{ReadsPiece, Reads, Blames};
+ghost use Rattle.lw_top.specs.Reading.{ReadsPiece, StaysOpen, IsTextLeft, ReadsFile};
 
 use crate::refusal::{Refusal, Which};
 use lw_io::{Failed, Shelf};
@@ -43,9 +42,8 @@ fn read_piece<F: Shelf>(
     buf: &mut [u8],
 ) -> Result<usize, ReadError>
     requires { IsTrue (F.is_open shelf.old) }
-    ensures files { F.files shelf.new ≡ F.files shelf.old }
-    ensures is_open { IsTrue (F.is_open shelf.new) }
-    ensures later { F.faults shelf.old ≤ F.faults shelf.new }
+    ensures stays { StaysOpen (F.files shelf.old) (F.files shelf.new) (F.faults shelf.old)
+        (F.faults shelf.new) (F.is_open shelf.new) }
     ensures piece { IfOk result (ReadsPiece (F.left shelf.old)
         (F.left shelf.new) text.old.items text.new.items (length buf.old)) }
     ensures failed { IfErr result (λ e. e ≡ ReadError.Failed →
@@ -61,10 +59,7 @@ fn read_all<F: Shelf>(alloc: Global, shelf: &mut F) -> Result<Option<Vec<u8>>, R
     requires { IsTrue (F.is_open shelf.old) }
     ensures files { F.files shelf.new ≡ F.files shelf.old }
     ensures later { F.faults shelf.old ≤ F.faults shelf.new }
-    ensures text { IfOk result (λ text. ForSome (F.left shelf.old) (λ bytes.
-        MatchOption text (MAX_LEN < length bytes)
-        (λ text. (length bytes ≤ MAX_LEN) × (text.items ≡ bytes)))) }
-    ensures few { IfOk result (λ text. IfSome text (λ v. vec_len v ≤ MAX_LEN)) }
+    ensures text { IfOk result (IsTextLeft (F.left shelf.old)) }
     ensures failed { IfErr result (λ e. e ≡ ReadError.Failed →
         Rose (F.faults shelf.old) (F.faults shelf.new)) }
 {
@@ -86,13 +81,9 @@ pub fn read_file<F: Shelf>(
     which: Which,
     name: &str,
 ) -> Result<Vec<u8>, Refusal>
-    ensures files { F.files shelf.new ≡ F.files shelf.old }
-    ensures later { F.faults shelf.old ≤ F.faults shelf.new }
-    ensures not_words { IfErr result (λ e. e ≢ Refusal.Words) }
-    ensures blames { IfErr result (Blames which) }
     ensures few { IfOk result (λ v. vec_len v ≤ MAX_LEN) }
-    ensures reads { Reads (λ v. v.items) (F.files shelf.old) (F.faults shelf.old)
-        (F.faults shelf.new) (gives (text_of which name.now)) result }
+    ensures reads { ReadsFile (λ v. v.items) (F.files shelf.old) (F.files shelf.new)
+        (F.faults shelf.old) (F.faults shelf.new) which (gives (text_of which name.now)) result }
 {
     let Ok(()) = shelf.open(name) else {
         return Err(Refusal::Unread(which));

@@ -1,12 +1,12 @@
 // What the files of a command say.
-ghost use Rattle.std.specs.Prelude.{◌≡◌, ◌≢◌, ◌≤◌, ◌*◌, length, IfOk, IfErr};
+ghost use Rattle.std.specs.Prelude.{◌≤◌, length, IfOk};
 ghost use Rattle.lw_netlist.specs.Plain.{IsOver};
 ghost use Rattle.lw_blif.specs.BlifNetworks.{IsModel};
 ghost use Rattle.lw_mapped.specs.declared.closing.Mapped.{Mapped as MappedParts};
 ghost use Rattle.lw_report.specs.Standing.{inputs_of};
 ghost use Rattle.lw_top.specs.declared.refusal.Which.TheVariants as which;
 ghost use Rattle.lw_top.specs.Answers.{HasCells, HasModel, HasMapped, HasVerilog, HasVectors, ReadsLibrary, ReadsModel, ReadsMapped, ReadsVerilog, ReadsVectors};
-ghost use Rattle.lw_top.specs.Reading.{Reads, Blames};
+ghost use Rattle.lw_top.specs.Reading.{ReadsFile};
 ghost use Rattle.lw_top.specs.Named.{Comes, values_in, IsReadNetlist, AreReadVectors};
 ghost use Rattle.lw_words.specs.Limits.{most_bytes};
 
@@ -47,12 +47,8 @@ pub(crate) fn read_library<F: Shelf>(
     shelf: &mut F,
     name: &str,
 ) -> Result<Library, Refusal>
-    ensures files { F.files shelf.new ≡ F.files shelf.old }
-    ensures later { F.faults shelf.old ≤ F.faults shelf.new }
-    ensures not_words { IfErr result (λ e. e ≢ Refusal.Words) }
-    ensures blames { IfErr result (Blames which.Library) }
-    ensures reads { Reads (λ cells. cells) (F.files shelf.old) (F.faults shelf.old)
-        (F.faults shelf.new) (ReadsLibrary name.now) result }
+    ensures { ReadsFile (λ cells. cells) (F.files shelf.old) (F.files shelf.new)
+        (F.faults shelf.old) (F.faults shelf.new) which.Library (ReadsLibrary name.now) result }
 {
     let bytes = read_file(alloc, shelf, Which::Library, name)?;
     library_in(alloc, &bytes)
@@ -84,12 +80,8 @@ pub(crate) fn read_model<F: Shelf>(
     shelf: &mut F,
     name: &str,
 ) -> Result<Parsed, Refusal>
-    ensures files { F.files shelf.new ≡ F.files shelf.old }
-    ensures later { F.faults shelf.old ≤ F.faults shelf.new }
-    ensures not_words { IfErr result (λ e. e ≢ Refusal.Words) }
-    ensures blames { IfErr result (Blames which.Network) }
-    ensures reads { Reads (λ model. model) (F.files shelf.old) (F.faults shelf.old)
-        (F.faults shelf.new) (ReadsModel name.now) result }
+    ensures reads { ReadsFile (λ model. model) (F.files shelf.old) (F.files shelf.new)
+        (F.faults shelf.old) (F.faults shelf.new) which.Network (ReadsModel name.now) result }
     ensures model { IfOk result IsModel }
 {
     let bytes = read_file(alloc, shelf, Which::Network, name)?;
@@ -126,12 +118,9 @@ pub(crate) fn read_mapped<F: Shelf>(
     shelf: &mut F,
     name: &str,
 ) -> Result<Mapped, Refusal>
-    ensures files { F.files shelf.new ≡ F.files shelf.old }
-    ensures later { F.faults shelf.old ≤ F.faults shelf.new }
-    ensures not_words { IfErr result (λ e. e ≢ Refusal.Words) }
-    ensures blames { IfErr result (Blames which.Mapped) }
-    ensures reads { Reads (λ mapped. mapped) (F.files shelf.old) (F.faults shelf.old)
-        (F.faults shelf.new) (ReadsMapped name.now library.now) result }
+    ensures reads { ReadsFile (λ mapped. mapped) (F.files shelf.old) (F.files shelf.new)
+        (F.faults shelf.old) (F.faults shelf.new) which.Mapped
+        (ReadsMapped name.now library.now) result }
     ensures kept { IfOk result (IsReadNetlist library.now) }
 {
     let bytes = read_file(alloc, shelf, Which::Mapped, name)?;
@@ -163,12 +152,9 @@ pub(crate) fn read_netlist<F: Shelf>(
     shelf: &mut F,
     name: &str,
 ) -> Result<Netlist, Refusal>
-    ensures files { F.files shelf.new ≡ F.files shelf.old }
-    ensures later { F.faults shelf.old ≤ F.faults shelf.new }
-    ensures not_words { IfErr result (λ e. e ≢ Refusal.Words) }
-    ensures blames { IfErr result (Blames which.Mapped) }
-    ensures reads { Reads (λ netlist. netlist) (F.files shelf.old) (F.faults shelf.old)
-        (F.faults shelf.new) (ReadsVerilog name.now library.now) result }
+    ensures reads { ReadsFile (λ netlist. netlist) (F.files shelf.old) (F.files shelf.new)
+        (F.faults shelf.old) (F.faults shelf.new) which.Mapped
+        (ReadsVerilog name.now library.now) result }
     ensures over { IfOk result (IsOver library.now) }
 {
     let bytes = read_file(alloc, shelf, Which::Mapped, name)?;
@@ -197,11 +183,8 @@ pub(crate) fn read_vectors<F: Shelf>(
     shelf: &mut F,
     name: &str,
 ) -> Result<Vectors, Refusal>
-    ensures files { F.files shelf.new ≡ F.files shelf.old }
-    ensures later { F.faults shelf.old ≤ F.faults shelf.new }
-    ensures not_words { IfErr result (λ e. e ≢ Refusal.Words) }
-    ensures blames { IfErr result (Blames which.Vectors) }
-    ensures reads { Reads values_in (F.files shelf.old) (F.faults shelf.old) (F.faults shelf.new)
+    ensures reads { ReadsFile values_in (F.files shelf.old) (F.files shelf.new)
+        (F.faults shelf.old) (F.faults shelf.new) which.Vectors
         (ReadsVectors name.now inputs) result }
     ensures kept { IfOk result (AreReadVectors inputs) }
 {

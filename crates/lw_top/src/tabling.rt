@@ -1,9 +1,8 @@
 // A network covered by lookup tables.
-ghost use Rattle.std.specs.Prelude.{IfOk, IfErr, Ok, Err};
 ghost use Rattle.lw_blif.specs.BlifNetworks.{IsModel};
 ghost use Rattle.lw_map.specs.Options.{IsWide, plain_options};
 ghost use Rattle.lw_map.specs.Tabled.{AreLeaves};
-ghost use Rattle.lw_top.specs.Answered.{Gives};
+ghost use Rattle.lw_top.specs.Answered.{Gives, GivesBy};
 ghost use Rattle.lw_top.specs.Tables.{Tabulates};
 
 use crate::answer::Answer;
@@ -23,10 +22,8 @@ fn table_net(
     requires leaves { AreLeaves leaves }
     requires wide { IsWide (plain_options options) }
     requires model { IsModel model.now }
-    ensures given { IfOk result (λ net. Gives (Tabulates leaves (plain_options options) model.now)
-        (Ok (Answer.Tables net model.now.frame))) }
-    ensures refused { IfErr result (λ e. Gives
-        (Tabulates leaves (plain_options options) model.now) (Err e)) }
+    ensures { GivesBy (λ net. Answer.Tables net model.now.frame)
+        (Tabulates leaves (plain_options options) model.now) result }
 {
     let _ = model.network.inputs();
     let choices = decompose(alloc, &model.network, options)?;

@@ -1,9 +1,9 @@
 // A network mapped to the cells of a library with the least area by a deadline.
-ghost use Rattle.std.specs.Prelude.{IfSome, IfOk, IfErr, None, Ok, Err};
+ghost use Rattle.std.specs.Prelude.{IfSome, None};
 ghost use Rattle.lw_blif.specs.BlifNetworks.{IsModel};
 ghost use Rattle.lw_genlib.specs.Cells.{IsSmall};
 ghost use Rattle.lw_map.specs.Options.{IsWide, plain_options};
-ghost use Rattle.lw_top.specs.Answered.{Gives};
+ghost use Rattle.lw_top.specs.Answered.{Gives, GivesBy};
 ghost use Rattle.lw_top.specs.Trades.{Trades};
 
 use crate::answer::Answer;
@@ -26,11 +26,9 @@ fn trade_netlist(
     requires late { IfSome deadline IsSmall }
     requires wide { IsWide (plain_options options) }
     requires model { IsModel model.now }
-    ensures given { IfOk result (λ netlist. Gives
-        (Trades deadline (plain_options options) library.now model.now)
-        (Ok (Answer.Mapping library.now netlist model.now.frame model.now.starts None))) }
-    ensures refused { IfErr result (λ e. Gives
-        (Trades deadline (plain_options options) library.now model.now) (Err e)) }
+    ensures { GivesBy
+        (λ netlist. Answer.Mapping library.now netlist model.now.frame model.now.starts None)
+        (Trades deadline (plain_options options) library.now model.now) result }
 {
     let network = &model.network;
     let _ = network.inputs();

@@ -1,19 +1,17 @@
 use Rattle.std.proofs.Common.{subst}
 use Rattle.std.proofs.lemmas.Result.{err_from_is_err_and}
 use Rattle.lw_top.specs.declared.refusal.Which.TheVariants as which
-use Rattle.lw_top.specs.Steps.{gives}
-use Rattle.lw_top.specs.Answers.{text_of, HasCells}
+use Rattle.lw_top.specs.Answers.{HasCells}
 use Rattle.lw_top.specs.Named.{Comes}
-use Rattle.lw_top.proofs.Steps.{refused, after_reading}
-use Rattle.lw_top.proofs.Comings.{comes}
+use Rattle.lw_top.proofs.Comings.{bytes_refused, bytes_read}
 use Rattle.lw_top.proofs.sources.read_library.Goals as goal
 
-pub returns-in_err-bytes-clause-reads : goal.returns-in_err-bytes-clause-reads
-returns-in_err-bytes-clause-reads g c =
+pub returns-in_err-bytes : goal.returns-in_err-bytes
+returns-in_err-bytes g c =
     let p = err_from_is_err_and c.from_residual.result c.from_residual.ensures.1 in
-    rw (p.1, p.2) (refused _ (gives (text_of which.Library c.args.name.now)) HasCells _ _ _ c.in_err-bytes.ensures.reads)
+    rw (p.1, p.2) (bytes_refused _ (λ cells. cells) _ _ _ _ which.Library c.args.name.now HasCells _ c.in_err-bytes.ensures.reads)
 
-pub returns-clause-reads : goal.returns-clause-reads
-returns-clause-reads g c =
-    after_reading (λ cells. cells) _ _ _ _ (gives (text_of which.Library c.args.name.now)) HasCells c.in_ok-bytes.bytes.items c.library_in.result c.read_file.ensures.later c.in_ok-bytes.ensures.reads
-    (comes (λ cells. cells) _ _ _ (HasCells c.in_ok-bytes.bytes.items) c.library_in.result (subst (λ b. Comes (λ cells. cells) (HasCells b) c.library_in.result) c.deref.ensures.value c.library_in.ensures))
+pub returns : goal.returns
+returns g c =
+    bytes_read _ (λ cells. cells) _ _ _ _ which.Library c.args.name.now HasCells c.in_ok-bytes.bytes c.library_in.result c.in_ok-bytes.ensures.reads
+    (subst (λ b. Comes (λ cells. cells) (HasCells b) c.library_in.result) c.deref.ensures.value c.library_in.ensures)

@@ -1,19 +1,17 @@
 use Rattle.std.proofs.Common.{subst}
 use Rattle.std.proofs.lemmas.Result.{err_from_is_err_and}
 use Rattle.lw_top.specs.declared.refusal.Which.TheVariants as which
-use Rattle.lw_top.specs.Steps.{gives}
-use Rattle.lw_top.specs.Answers.{text_of, HasMapped}
+use Rattle.lw_top.specs.Answers.{HasMapped}
 use Rattle.lw_top.specs.Named.{Comes}
-use Rattle.lw_top.proofs.Steps.{refused, after_reading}
-use Rattle.lw_top.proofs.Comings.{comes}
+use Rattle.lw_top.proofs.Comings.{bytes_refused, bytes_read}
 use Rattle.lw_top.proofs.sources.read_mapped.Goals as goal
 
 pub returns-in_err-bytes-clause-reads : goal.returns-in_err-bytes-clause-reads
 returns-in_err-bytes-clause-reads g c =
     let p = err_from_is_err_and c.from_residual.result c.from_residual.ensures.1 in
-    rw (p.1, p.2) (refused _ (gives (text_of which.Mapped c.args.name.now)) (HasMapped c.args.library.now) _ _ _ c.in_err-bytes.ensures.reads)
+    rw (p.1, p.2) (bytes_refused _ (λ mapped. mapped) _ _ _ _ which.Mapped c.args.name.now (HasMapped c.args.library.now) _ c.in_err-bytes.ensures.reads)
 
 pub returns-clause-reads : goal.returns-clause-reads
 returns-clause-reads g c =
-    after_reading (λ mapped. mapped) _ _ _ _ (gives (text_of which.Mapped c.args.name.now)) (HasMapped c.args.library.now) c.in_ok-bytes.bytes.items c.mapped_in.result c.read_file.ensures.later c.in_ok-bytes.ensures.reads
-    (comes (λ mapped. mapped) _ _ _ (HasMapped c.args.library.now c.in_ok-bytes.bytes.items) c.mapped_in.result (subst (λ b. Comes (λ mapped. mapped) (HasMapped c.args.library.now b) c.mapped_in.result) c.deref.ensures.value c.mapped_in.ensures.comes))
+    bytes_read _ (λ mapped. mapped) _ _ _ _ which.Mapped c.args.name.now (HasMapped c.args.library.now) c.in_ok-bytes.bytes c.mapped_in.result c.in_ok-bytes.ensures.reads
+    (subst (λ b. Comes (λ mapped. mapped) (HasMapped c.args.library.now b) c.mapped_in.result) c.deref.ensures.value c.mapped_in.ensures.comes)

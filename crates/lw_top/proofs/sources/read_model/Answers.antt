@@ -1,19 +1,17 @@
 use Rattle.std.proofs.Common.{subst}
 use Rattle.std.proofs.lemmas.Result.{err_from_is_err_and}
 use Rattle.lw_top.specs.declared.refusal.Which.TheVariants as which
-use Rattle.lw_top.specs.Steps.{gives}
-use Rattle.lw_top.specs.Answers.{text_of, HasModel}
+use Rattle.lw_top.specs.Answers.{HasModel}
 use Rattle.lw_top.specs.Named.{Comes}
-use Rattle.lw_top.proofs.Steps.{refused, after_reading}
-use Rattle.lw_top.proofs.Comings.{comes}
+use Rattle.lw_top.proofs.Comings.{bytes_refused, bytes_read}
 use Rattle.lw_top.proofs.sources.read_model.Goals as goal
 
 pub returns-in_err-bytes-clause-reads : goal.returns-in_err-bytes-clause-reads
 returns-in_err-bytes-clause-reads g c =
     let p = err_from_is_err_and c.from_residual.result c.from_residual.ensures.1 in
-    rw (p.1, p.2) (refused _ (gives (text_of which.Network c.args.name.now)) HasModel _ _ _ c.in_err-bytes.ensures.reads)
+    rw (p.1, p.2) (bytes_refused _ (λ model. model) _ _ _ _ which.Network c.args.name.now HasModel _ c.in_err-bytes.ensures.reads)
 
 pub returns-clause-reads : goal.returns-clause-reads
 returns-clause-reads g c =
-    after_reading (λ model. model) _ _ _ _ (gives (text_of which.Network c.args.name.now)) HasModel c.in_ok-bytes.bytes.items c.model_in.result c.read_file.ensures.later c.in_ok-bytes.ensures.reads
-    (comes (λ model. model) _ _ _ (HasModel c.in_ok-bytes.bytes.items) c.model_in.result (subst (λ b. Comes (λ model. model) (HasModel b) c.model_in.result) c.deref.ensures.value c.model_in.ensures.comes))
+    bytes_read _ (λ model. model) _ _ _ _ which.Network c.args.name.now HasModel c.in_ok-bytes.bytes c.model_in.result c.in_ok-bytes.ensures.reads
+    (subst (λ b. Comes (λ model. model) (HasModel b) c.model_in.result) c.deref.ensures.value c.model_in.ensures.comes)

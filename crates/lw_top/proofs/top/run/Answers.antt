@@ -16,65 +16,65 @@ serve-outcome-requires g c = asked_in_range _ (map string_bytes c.args.words.now
 pub returns-clause-unread : goal.returns-clause-unread
 returns-clause-unread g c = λ is.
     let asks = rw c.deref.ensures.value at c.command_of-command.ensures in
-    unread (g.F.Shelf.files c.args.shelf.now) (g.F.Shelf.faults c.args.shelf.now) (g.F.Shelf.faults c.serve-outcome.new.shelf) g.O.Sink.taken g.O.Sink.is_finished g.O.Sink.faults c.args.out.now c.serve-outcome.new.out (IsAnswer (map string_bytes c.args.words.now.items)) c.serve-outcome.result (rw asks at c.serve-outcome.ensures.meets) (sym c.status.ensures ∙ is)
+    unread (g.F.Shelf.files c.args.shelf.now) (g.F.Shelf.faults c.args.shelf.now) (g.F.Shelf.faults c.serve-outcome.new.shelf) g.O.Sink.taken g.O.Sink.is_finished g.O.Sink.faults c.args.out.now c.serve-outcome.new.out (IsAnswer (map string_bytes c.args.words.now.items)) c.serve-outcome.result (rw asks at c.serve-outcome.ensures.serves.meets) (sym c.status.ensures ∙ is)
 
 pub returns-clause-done : goal.returns-clause-done
 returns-clause-done g c = λ is.
     let asks = rw c.deref.ensures.value at c.command_of-command.ensures in
-    done (g.F.Shelf.files c.args.shelf.now) (g.F.Shelf.faults c.args.shelf.now) (g.F.Shelf.faults c.serve-outcome.new.shelf) g.O.Sink.taken g.O.Sink.is_finished g.O.Sink.faults c.args.out.now c.serve-outcome.new.out (IsAnswer (map string_bytes c.args.words.now.items)) c.serve-outcome.result (rw asks at c.serve-outcome.ensures.meets) (sym c.status.ensures ∙ is)
+    done (g.F.Shelf.files c.args.shelf.now) (g.F.Shelf.faults c.args.shelf.now) (g.F.Shelf.faults c.serve-outcome.new.shelf) g.O.Sink.taken g.O.Sink.is_finished g.O.Sink.faults c.args.out.now c.serve-outcome.new.out (IsAnswer (map string_bytes c.args.words.now.items)) c.serve-outcome.result (rw asks at c.serve-outcome.ensures.serves.meets) (sym c.status.ensures ∙ is)
 
 pub returns-clause-cut_short : goal.returns-clause-cut_short
 returns-clause-cut_short g c = λ is.
     let asks = rw c.deref.ensures.value at c.command_of-command.ensures in
-    cut (g.F.Shelf.files c.args.shelf.now) (g.F.Shelf.faults c.args.shelf.now) (g.F.Shelf.faults c.serve-outcome.new.shelf) g.O.Sink.taken g.O.Sink.is_finished g.O.Sink.faults c.args.out.now c.serve-outcome.new.out (IsAnswer (map string_bytes c.args.words.now.items)) c.serve-outcome.result (rw asks at c.serve-outcome.ensures.meets) (sym c.status.ensures ∙ is)
+    cut (g.F.Shelf.files c.args.shelf.now) (g.F.Shelf.faults c.args.shelf.now) (g.F.Shelf.faults c.serve-outcome.new.shelf) g.O.Sink.taken g.O.Sink.is_finished g.O.Sink.faults c.args.out.now c.serve-outcome.new.out (IsAnswer (map string_bytes c.args.words.now.items)) c.serve-outcome.result (rw asks at c.serve-outcome.ensures.serves.meets) (sym c.status.ensures ∙ is)
 
 pub returns-clause-complete : goal.returns-clause-complete
 returns-clause-complete g c = λ files is.
     let asks = rw c.deref.ensures.value at c.command_of-command.ensures in
     let said = told _ _ _ _ _ c.tell.result c.tell.ensures in
-    complete (g.F.Shelf.files c.args.shelf.now) (g.F.Shelf.faults c.args.shelf.now) (g.F.Shelf.faults c.serve-outcome.new.shelf) g.O.Sink.taken g.O.Sink.is_finished g.O.Sink.faults c.args.out.now c.serve-outcome.new.out (IsAnswer (map string_bytes c.args.words.now.items)) (command_of (map string_bytes c.args.words.now.items)) (Told g.E.Sink.taken g.E.Sink.faults c.args.err.now c.tell.new.err) c.status.result files c.serve-outcome.result (rw asks at c.serve-outcome.ensures.meets) c.status.ensures is (simp asks at said)
+    complete (g.F.Shelf.files c.args.shelf.now) (g.F.Shelf.faults c.args.shelf.now) (g.F.Shelf.faults c.serve-outcome.new.shelf) g.O.Sink.taken g.O.Sink.is_finished g.O.Sink.faults c.args.out.now c.serve-outcome.new.out (IsAnswer (map string_bytes c.args.words.now.items)) (command_of (map string_bytes c.args.words.now.items)) (Told g.E.Sink.taken g.E.Sink.faults c.args.err.now c.tell.new.err) c.status.result files c.serve-outcome.result (rw asks at c.serve-outcome.ensures.serves.meets) c.status.ensures is (simp asks at said)
 
 pub returns-clause-mapping : goal.returns-clause-mapping
 returns-clause-mapping g c = λ files is asks_for zero.
     let asks = rw c.deref.ensures.value at c.command_of-command.ensures in
-    done-maps (map string_bytes c.args.words.now.items) (g.F.Shelf.files c.args.shelf.now) (g.F.Shelf.faults c.args.shelf.now) (g.F.Shelf.faults c.serve-outcome.new.shelf) g.O.Sink.taken g.O.Sink.is_finished g.O.Sink.faults c.args.out.now c.serve-outcome.new.out (Told g.E.Sink.taken g.E.Sink.faults c.args.err.now c.tell.new.err) asks_for c.serve-outcome.result (rw asks at c.serve-outcome.ensures.meets) files is (sym zero ∙ c.status.ensures)
+    done-maps (map string_bytes c.args.words.now.items) (g.F.Shelf.files c.args.shelf.now) (g.F.Shelf.faults c.args.shelf.now) (g.F.Shelf.faults c.serve-outcome.new.shelf) g.O.Sink.taken g.O.Sink.is_finished g.O.Sink.faults c.args.out.now c.serve-outcome.new.out (Told g.E.Sink.taken g.E.Sink.faults c.args.err.now c.tell.new.err) asks_for c.serve-outcome.result (rw asks at c.serve-outcome.ensures.serves.meets) files is (sym zero ∙ c.status.ensures)
 
 pub returns-clause-tables : goal.returns-clause-tables
 returns-clause-tables g c = λ files is asks_for zero.
     let asks = rw c.deref.ensures.value at c.command_of-command.ensures in
-    done-tables (map string_bytes c.args.words.now.items) (g.F.Shelf.files c.args.shelf.now) (g.F.Shelf.faults c.args.shelf.now) (g.F.Shelf.faults c.serve-outcome.new.shelf) g.O.Sink.taken g.O.Sink.is_finished g.O.Sink.faults c.args.out.now c.serve-outcome.new.out (Told g.E.Sink.taken g.E.Sink.faults c.args.err.now c.tell.new.err) asks_for (c.answers_are_tables.ensures (map string_bytes c.args.words.now.items)) c.serve-outcome.result (rw asks at c.serve-outcome.ensures.meets) files is (sym zero ∙ c.status.ensures)
+    done-tables (map string_bytes c.args.words.now.items) (g.F.Shelf.files c.args.shelf.now) (g.F.Shelf.faults c.args.shelf.now) (g.F.Shelf.faults c.serve-outcome.new.shelf) g.O.Sink.taken g.O.Sink.is_finished g.O.Sink.faults c.args.out.now c.serve-outcome.new.out (Told g.E.Sink.taken g.E.Sink.faults c.args.err.now c.tell.new.err) asks_for (c.answers_are_tables.ensures (map string_bytes c.args.words.now.items)) c.serve-outcome.result (rw asks at c.serve-outcome.ensures.serves.meets) files is (sym zero ∙ c.status.ensures)
 
 pub returns-clause-no_cover : goal.returns-clause-no_cover
 returns-clause-no_cover g c = λ files is asks_for six.
     let asks = rw c.deref.ensures.value at c.command_of-command.ensures in
     let said = told _ _ _ _ _ c.tell.result c.tell.ensures in
-    named-lacks (map string_bytes c.args.words.now.items) (g.F.Shelf.files c.args.shelf.now) (g.F.Shelf.faults c.args.shelf.now) (g.F.Shelf.faults c.serve-outcome.new.shelf) g.O.Sink.taken g.O.Sink.is_finished g.O.Sink.faults c.args.out.now c.serve-outcome.new.out (Told g.E.Sink.taken g.E.Sink.faults c.args.err.now c.tell.new.err) asks_for c.serve-outcome.result (rw asks at c.serve-outcome.ensures.meets) (simp asks at said) files is (sym six ∙ c.status.ensures)
+    named-lacks (map string_bytes c.args.words.now.items) (g.F.Shelf.files c.args.shelf.now) (g.F.Shelf.faults c.args.shelf.now) (g.F.Shelf.faults c.serve-outcome.new.shelf) g.O.Sink.taken g.O.Sink.is_finished g.O.Sink.faults c.args.out.now c.serve-outcome.new.out (Told g.E.Sink.taken g.E.Sink.faults c.args.err.now c.tell.new.err) asks_for c.serve-outcome.result (rw asks at c.serve-outcome.ensures.serves.meets) (simp asks at said) files is (sym six ∙ c.status.ensures)
 
 pub returns-clause-blamed : goal.returns-clause-blamed
 returns-clause-blamed g c = λ two.
     let asks = rw c.deref.ensures.value at c.command_of-command.ensures in
     let said = told _ _ _ _ _ c.tell.result c.tell.ensures in
     let words = rw asks at c.serve-outcome.ensures.words in
-    blamed (g.F.Shelf.files c.args.shelf.now) (Told g.E.Sink.taken g.E.Sink.faults c.args.err.now c.tell.new.err) c.serve-outcome.result (command_of (map string_bytes c.args.words.now.items)) (sym c.status.ensures ∙ two) words.1 (rw asks at c.serve-outcome.ensures.reached) (simp asks at said)
+    blamed (g.F.Shelf.files c.args.shelf.now) (Told g.E.Sink.taken g.E.Sink.faults c.args.err.now c.tell.new.err) c.serve-outcome.result (command_of (map string_bytes c.args.words.now.items)) (sym c.status.ensures ∙ two) words.1 (rw asks at c.serve-outcome.ensures.serves.reached) (simp asks at said)
 
 pub returns-clause-told : goal.returns-clause-told
 returns-clause-told g c =
     let asks = rw c.deref.ensures.value at c.command_of-command.ensures in
     let said = told _ _ _ _ _ c.tell.result c.tell.ensures in
-    (c.serve-outcome.result, c.status.ensures, rw asks at c.serve-outcome.ensures.meets, simp asks at said)
+    (c.serve-outcome.result, c.status.ensures, rw asks at c.serve-outcome.ensures.serves.meets, simp asks at said)
 
 pub returns-clause-checked : goal.returns-clause-checked
 returns-clause-checked g c = λ files is asks_for zero.
     let asks = rw c.deref.ensures.value at c.command_of-command.ensures in
-    done_checked (map string_bytes c.args.words.now.items) (g.F.Shelf.files c.args.shelf.now) (g.F.Shelf.faults c.args.shelf.now) (g.F.Shelf.faults c.serve-outcome.new.shelf) g.O.Sink.taken g.O.Sink.is_finished g.O.Sink.faults c.args.out.now c.serve-outcome.new.out asks_for c.serve-outcome.result (rw asks at c.serve-outcome.ensures.meets) files is (sym zero ∙ c.status.ensures)
+    done_checked (map string_bytes c.args.words.now.items) (g.F.Shelf.files c.args.shelf.now) (g.F.Shelf.faults c.args.shelf.now) (g.F.Shelf.faults c.serve-outcome.new.shelf) g.O.Sink.taken g.O.Sink.is_finished g.O.Sink.faults c.args.out.now c.serve-outcome.new.out asks_for c.serve-outcome.result (rw asks at c.serve-outcome.ensures.serves.meets) files is (sym zero ∙ c.status.ensures)
 
 pub returns-clause-trading : goal.returns-clause-trading
 returns-clause-trading g c = λ files is asks_for zero.
     let asks = rw c.deref.ensures.value at c.command_of-command.ensures in
-    done-trades (map string_bytes c.args.words.now.items) (g.F.Shelf.files c.args.shelf.now) (g.F.Shelf.faults c.args.shelf.now) (g.F.Shelf.faults c.serve-outcome.new.shelf) g.O.Sink.taken g.O.Sink.is_finished g.O.Sink.faults c.args.out.now c.serve-outcome.new.out (Told g.E.Sink.taken g.E.Sink.faults c.args.err.now c.tell.new.err) asks_for c.serve-outcome.result (rw asks at c.serve-outcome.ensures.meets) files is (sym zero ∙ c.status.ensures)
+    done-trades (map string_bytes c.args.words.now.items) (g.F.Shelf.files c.args.shelf.now) (g.F.Shelf.faults c.args.shelf.now) (g.F.Shelf.faults c.serve-outcome.new.shelf) g.O.Sink.taken g.O.Sink.is_finished g.O.Sink.faults c.args.out.now c.serve-outcome.new.out (Told g.E.Sink.taken g.E.Sink.faults c.args.err.now c.tell.new.err) asks_for c.serve-outcome.result (rw asks at c.serve-outcome.ensures.serves.meets) files is (sym zero ∙ c.status.ensures)
 
 pub returns-clause-no_trade : goal.returns-clause-no_trade
 returns-clause-no_trade g c = λ files is asks_for six.
     let asks = rw c.deref.ensures.value at c.command_of-command.ensures in
     let said = told _ _ _ _ _ c.tell.result c.tell.ensures in
-    named-untraded (map string_bytes c.args.words.now.items) (g.F.Shelf.files c.args.shelf.now) (g.F.Shelf.faults c.args.shelf.now) (g.F.Shelf.faults c.serve-outcome.new.shelf) g.O.Sink.taken g.O.Sink.is_finished g.O.Sink.faults c.args.out.now c.serve-outcome.new.out (Told g.E.Sink.taken g.E.Sink.faults c.args.err.now c.tell.new.err) asks_for c.serve-outcome.result (rw asks at c.serve-outcome.ensures.meets) (simp asks at said) files is (sym six ∙ c.status.ensures)
+    named-untraded (map string_bytes c.args.words.now.items) (g.F.Shelf.files c.args.shelf.now) (g.F.Shelf.faults c.args.shelf.now) (g.F.Shelf.faults c.serve-outcome.new.shelf) g.O.Sink.taken g.O.Sink.is_finished g.O.Sink.faults c.args.out.now c.serve-outcome.new.out (Told g.E.Sink.taken g.E.Sink.faults c.args.err.now c.tell.new.err) asks_for c.serve-outcome.result (rw asks at c.serve-outcome.ensures.serves.meets) (simp asks at said) files is (sym six ∙ c.status.ensures)
