@@ -57,8 +57,8 @@ fn read_piece<F: Shelf>(
 // Reads the open file to its end, or finds that it is too long.
 fn read_all<F: Shelf>(alloc: Global, shelf: &mut F) -> Result<Option<Vec<u8>>, ReadError>
     requires { IsTrue (F.is_open shelf.old) }
-    ensures files { F.files shelf.new ≡ F.files shelf.old }
-    ensures later { F.faults shelf.old ≤ F.faults shelf.new }
+    ensures stays { StaysOpen (F.files shelf.old) (F.files shelf.new) (F.faults shelf.old)
+        (F.faults shelf.new) (F.is_open shelf.new) }
     ensures text { IfOk result (IsTextLeft (F.left shelf.old)) }
     ensures failed { IfErr result (λ e. e ≡ ReadError.Failed →
         Rose (F.faults shelf.old) (F.faults shelf.new)) }
