@@ -1,5 +1,5 @@
 // Logical lines of small texts, in every cutting.
-ghost use Rattle.std.specs.Prelude.{◌≡◌, ◌≤◌, ◌+◌, false, length, IfOk, OnOk};
+ghost use Rattle.std.specs.Prelude.{◌≡◌, ◌≤◌, ◌+◌, false, length, OnOk};
 ghost use Rattle.lw_words.specs.Standing.{is_finished, fed_count};
 
 use lw_words::{Line, Lines, Words};

@@ -2,8 +2,6 @@
 ghost use Rattle.std.specs.Prelude.{◌≤◌, length, IfOk};
 ghost use Rattle.lw_netlist.specs.Plain.{IsOver};
 ghost use Rattle.lw_blif.specs.BlifNetworks.{IsModel};
-ghost use Rattle.lw_mapped.specs.declared.closing.Mapped.{Mapped as MappedParts};
-ghost use Rattle.lw_report.specs.Standing.{inputs_of};
 ghost use Rattle.lw_top.specs.declared.refusal.Which.TheVariants as which;
 ghost use Rattle.lw_top.specs.Answers.{HasCells, HasModel, HasMapped, HasVerilog, HasVectors, ReadsLibrary, ReadsModel, ReadsMapped, ReadsVerilog, ReadsVectors};
 ghost use Rattle.lw_top.specs.Reading.{ReadsFile};

@@ -1,4 +1,4 @@
-ghost use Rattle.std.specs.Prelude.{IfOk, IfSome, List, OnOk, Some, [], length, map, option_map, reverse, slice_get, slice_range, ℕ, ◌<◌, ◌≡◌, ◌≤◌};
+ghost use Rattle.std.specs.Prelude.{IfOk, IfSome, OnOk, Some, [], length, option_map, reverse, slice_get, slice_range, ℕ, ◌<◌, ◌≡◌, ◌≤◌};
 ghost use Rattle.lw_trade.specs.Checks.{IsStandAt};
 ghost use Rattle.lw_trade.specs.Groups.{AreCurvesOf, IsTable};
 ghost use Rattle.lw_trade.specs.Lasts.{ArePointsRising, IsLastOf};

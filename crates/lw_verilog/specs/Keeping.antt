@@ -43,7 +43,7 @@ abbrev pub weight : Contents → ℕ
 weight c = length c.names + (length c.inputs + length c.gates)
 
 -- A token of this kind was taken, and the readings that are kept go on by it.
-pub record Takes (cells : List CellParts) (what : Kind) (next : Reading → Reading) (old new : Contents) : Type 0 where
+pub record TakesToken (cells : List CellParts) (what : Kind) (next : Reading → Reading) (old new : Contents) : Type 0 where
   pub weight : weight new ≤ weight old + 1
   pub ended : is_end what ≡ false
   pub keeps : (r : Reading) → Keeps cells old r → Keeps cells new (next r)

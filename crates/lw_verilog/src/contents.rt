@@ -131,7 +131,7 @@ impl Contents {
     ghost use Rattle.lw_verilog.specs.Tokens.{is_name, name_of};
     ghost use Rattle.lw_verilog.specs.declared.place.Task.TheVariants as tasks;
     ghost use Rattle.lw_verilog.specs.Grammar.{move_at};
-    ghost use Rattle.lw_verilog.specs.Keeping.{Acts, Adds, Keeps, Takes, TellsFault};
+    ghost use Rattle.lw_verilog.specs.Keeping.{Acts, Adds, Keeps, TakesToken, TellsFault};
     ghost use Rattle.lw_verilog.specs.Statements.{model_of};
     ghost use Rattle.lw_verilog.specs.Readings.{Reading, is_done, is_word, moved_on, nothing_read, rule_fault, piece_fault, piece_read, token_fault};
 
@@ -251,12 +251,12 @@ impl Contents {
         }
     }
 
-    /// Takes a token of this kind and this name, or tells the first rule that it breaks.
+    /// TakesToken a token of this kind and this name, or tells the first rule that it breaks.
     pub(crate) fn take(&mut self, kind: Kind, name: &[u8], lib: &Library) -> Result<(), Refusal>
         requires { is_name kind ≡ true → 0 < length name.now }
         ensures fault { (r : Reading) → Keeps lib.now self.old r →
             TellsFault result (token_fault lib.now r kind name.now) }
-        ensures taken { OnOk result (Takes lib.now kind
+        ensures taken { OnOk result (TakesToken lib.now kind
             (λ r. moved_on r name.now (move_at r.place kind)) self.old self.new) }
     {
         if matches!(kind, Kind::Strange) {
@@ -273,12 +273,12 @@ impl Contents {
         Ok(())
     }
 
-    /// Takes a piece of this kind and these bytes, or tells the first rule that it breaks.
+    /// TakesToken a piece of this kind and these bytes, or tells the first rule that it breaks.
     pub(crate) fn read(&mut self, kind: Kind, bytes: &[u8], lib: &Library) -> Result<(), Refusal>
         requires { is_name kind ≡ true → 0 < length (name_of bytes.now) }
         ensures fault { (r : Reading) → Keeps lib.now self.old r →
             TellsFault result (piece_fault lib.now r kind (name_of bytes.now)) }
-        ensures taken { OnOk result (Takes lib.now kind
+        ensures taken { OnOk result (TakesToken lib.now kind
             (λ r. piece_read r kind (name_of bytes.now)) self.old self.new) }
     {
         match kind {

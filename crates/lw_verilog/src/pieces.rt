@@ -2,7 +2,7 @@
 ghost use Rattle.std.specs.Prelude.{◌≡◌, ◌≤◌, ◌<◌, ◌+◌, ◌^◌, length, not, take, true, false};
 ghost use Rattle.std.specs.List.{position};
 ghost use Rattle.lw_verilog.specs.Tokens.{IsNameless, is_end, is_name, name_of};
-ghost use Rattle.lw_verilog.specs.Pieces.{byte_at, is_separator, is_visible, is_letter, begins_name, is_name_byte, separators, visibles, name_bytes, line_bytes, before_pair, word_kind, sign_kind, closed, escaped, comment_or_sign, first_piece};
+ghost use Rattle.lw_verilog.specs.Pieces.{byte_at, is_separator, is_visible, begins_name, is_name_byte, separators, visibles, name_bytes, line_bytes, before_pair, word_kind, sign_kind, closed, escaped, comment_or_sign, first_piece};
 ghost use Rattle.lw_words.specs.Lines.{is_line_feed};
 
 use crate::{Kind, Piece};

@@ -5,7 +5,6 @@ ghost use Rattle.std.specs.Option.{option_or};
 ghost use Rattle.std.specs.Str.{bytes_eq};
 ghost use Rattle.lw_genlib.specs.Cells.{names_of};
 ghost use Rattle.lw_netlist.specs.Closing.{is_among, twice_after};
-ghost use Rattle.lw_mapped.specs.GateLines.{is_formal};
 ghost use Rattle.lw_verilog.specs.Readings.{has_hash, name_fault, declared_fault, cell_fault, formal_fault, cell_in, gives_all, missing_fault, ports_fault};
 ghost use Rattle.lw_verilog.specs.Statements.{first_name, is_for, net_for, number_of, ties_in};
 ghost use Rattle.lw_words.specs.Words.{is_name};

@@ -1,4 +1,4 @@
-use Rattle.std.proofs.Common.{◌≡◌, ◌<◌, ◌≤◌, false, length, get_or, subst, sym, ap, ◌∙◌, arith}
+use Rattle.std.proofs.Common.{◌≡◌, ◌<◌, ◌≤◌, false, length, get_or, subst, sym, ◌∙◌, arith}
 use Rattle.lw_genlib.specs.declared.op.ExprOp.TheVariants.{Const}
 use Rattle.lw_genlib.specs.Postfix.{arity, postfix, stepped}
 use Rattle.lw_pattern.specs.Growing.{IsWideStep, trees_by}
