@@ -251,7 +251,7 @@ impl Contents {
         }
     }
 
-    /// TakesToken a token of this kind and this name, or tells the first rule that it breaks.
+    /// Takes a token of this kind and this name, or tells the first rule that it breaks.
     pub(crate) fn take(&mut self, kind: Kind, name: &[u8], lib: &Library) -> Result<(), Refusal>
         requires { is_name kind ≡ true → 0 < length name.now }
         ensures fault { (r : Reading) → Keeps lib.now self.old r →
@@ -273,7 +273,7 @@ impl Contents {
         Ok(())
     }
 
-    /// TakesToken a piece of this kind and these bytes, or tells the first rule that it breaks.
+    /// Takes a piece of this kind and these bytes, or tells the first rule that it breaks.
     pub(crate) fn read(&mut self, kind: Kind, bytes: &[u8], lib: &Library) -> Result<(), Refusal>
         requires { is_name kind ≡ true → 0 < length (name_of bytes.now) }
         ensures fault { (r : Reading) → Keeps lib.now self.old r →
