@@ -1,8 +1,7 @@
 -- The list of base forms as places in a table.
-use Rattle.std.proofs.Common.{◌≡◌, ◌≢◌, ◌+◌, ◌-◌, ◌*◌, ◌/◌, ◌%◌, ◌^◌, ◌==◌, ◌<◌, ◌≤◌, ◌⊎◌, inl, inr, ℕ, zero, suc, Bool, true, false, cond, leb, leb-true, pow-suc, if◌then◌else◌, List, [], ◌∷◌, ◌++◌, length, map, drop, replicate, Some, Result, Ok, Err, OnOk, IfErr, slice_get, get_or, slice_set, refl, ap, ap₂, sym, ◌∙◌, subst, arith}
+use Rattle.std.proofs.Common.{◌≡◌, ◌≢◌, ◌+◌, ◌-◌, ◌*◌, ◌/◌, ◌%◌, ◌^◌, ◌==◌, ◌<◌, ◌≤◌, ◌⊎◌, inl, inr, ℕ, zero, suc, Bool, true, false, cond, leb, leb-true, pow-suc, if◌then◌else◌, List, [], ◌∷◌, ◌++◌, length, map, drop, replicate, Some, Result, Ok, Err, IfErr, slice_get, get_or, slice_set, refl, ap, ap₂, sym, ◌∙◌, subst, arith}
 use Rattle.std.specs.List.{AllByRecursion}
-use Rattle.std.specs.Prelude.{T}
-use Rattle.std.specs.Result.{IsErr, IsErrAnd}
+use Rattle.std.specs.Result.{IsErrAnd}
 use Rattle.std.proofs.lemmas.Bool.{le-leb}
 use Rattle.std.proofs.lemmas.List.{length-map, map-append, get_or_append_left, at_drop_more, drop_all, length_push}
 use Rattle.std.proofs.lemmas.Option.{slice_get-get_or, get_or_from_slice_get, slice_get_within}
@@ -443,10 +442,6 @@ module _ (now next : Table) (listed places new_listed new_places : List ℕ) (st
   parts_size more = let e = ap (λ s. steps_size (turned s)) (steps_kept (made now) (made next) steps more parts_fit) in omega arith
 
 -- what holds where a call succeeds, and what where it fails
-
-pub on_failed : {X E : Type 0} (A : Type 0) (r : Result X E) → IsErr r → OnOk r A
-on_failed A (Ok x) f = absurd (subst T (sym f) tt)
-on_failed A (Err e) f = tt
 
 pub if_err : {T : Type 0} {P Q : FormFault → Type 0} (r : Result T FormFault) → ((e : FormFault) → P e → Q e) → IfErr r P → IfErr r Q
 if_err (Ok x) f a = a

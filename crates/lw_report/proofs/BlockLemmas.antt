@@ -1,8 +1,7 @@
 -- Blocks of vectors.
-use Rattle.std.proofs.Common.{ℕ, ◌+◌, ◌-◌, ◌<◌, ◌≡◌, ◌≢◌, ◌^◌, Bool, false, true≢false, List, [], ◌∷◌, ◌++◌, All, Some, length, map, take, set, get_or, slice_get, refl, sym, ap, ap₂, subst, ◌∙◌, arith, append-nil, append_assoc}
+use Rattle.std.proofs.Common.{ℕ, ◌+◌, ◌-◌, ◌<◌, ◌≡◌, ◌≢◌, ◌^◌, Bool, false, List, [], ◌∷◌, ◌++◌, All, Some, length, map, take, set, get_or, slice_get, refl, sym, ap, ap₂, subst, ◌∙◌, arith, append-nil, append_assoc}
 use Rattle.std.specs.Prelude.{slice_index}
 use Rattle.std.specs.List.{range_with_len}
-use Rattle.std.specs.Prelude.{Result, Ok, Err, OnOk, IsErr}
 use Rattle.std.specs.Vec.{with_items}
 use Rattle.std.proofs.lemmas.Grind.{flat_map-append}
 use Rattle.std.proofs.lemmas.List.{ext_get_or, get_or-map, get_or_default, length-map, length-set, length_push, get_or_push, take_all, take_more, take_more_set, with_items_is}
@@ -15,11 +14,6 @@ use Rattle.lw_report.specs.Blocks.{bits_at, block_vectors, vectors_in, IsBlock, 
 use Rattle.lw_report.specs.Marking.{marked}
 use Rattle.lw_report.specs.Vectors.{is_one}
 use Rattle.lw_report.proofs.Bits.{bit_marked, bit_marked-other, marked_low}
-
--- after an error nothing is said of a good answer
-pub on_failed : {X E : Type 0} (A : Type 0) (r : Result X E) → IsErr r → OnOk r A
-on_failed A (Ok x) failed = absurd (true≢false (sym failed))
-on_failed A (Err e) failed = tt
 
 -- a value of a net in one vector
 pub bits_read : (k : ℕ) (words : List ℕ) (i : ℕ) → i < length words → get_or (bits_at k words) i false ≡ bit k (get_or words i 0)

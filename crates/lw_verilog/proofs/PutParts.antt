@@ -1,20 +1,17 @@
 -- Texts that are put in parts.
-use Rattle.std.proofs.Common.{ℕ, zero, suc, ◌≡◌, ◌≤◌, ◌<◌, ◌+◌, ◌-◌, ◌||◌, Bool, true, false, cond, List, [], ◌∷◌, ◌++◌, length, map, drop, take, get_or, Option, All, refl, ap, ap₂, sym, ◌∙◌, subst, arith, append_assoc, append-nil}
+use Rattle.std.proofs.Common.{ℕ, zero, suc, ◌≡◌, ◌≤◌, ◌<◌, ◌+◌, ◌-◌, ◌||◌, Bool, true, false, cond, List, [], ◌∷◌, ◌++◌, length, map, drop, take, get_or, Option, refl, ap, ap₂, sym, ◌∙◌, subst, arith, append_assoc, append-nil}
 use Rattle.std.specs.List.{flat_map, list_any}
 use Rattle.std.specs.Str.{bytes_eq}
 use Rattle.std.specs.Cmp.Lexicographic.{bytes_decides}
 use Rattle.std.proofs.lemmas.List.{take_all, drop_more, drop_all}
 use Rattle.std.proofs.lemmas.Grind.{flat_map-append}
-use Rattle.std.specs.Prelude.{slice_index_or}
-use Rattle.std.proofs.lemmas.Option.{slice_get-get_or}
 use Rattle.lw_io.specs.Waitings.{Pending, Puts}
 use Rattle.lw_io.proofs.Putting.{Puts-both}
-use Rattle.lw_netlist.specs.Netlists.{NetlistParts, IsNetlist}
 use Rattle.lw_pool.specs.declared.id.NetId.{NetId}
 use Rattle.lw_genlib.specs.Cells.{CellParts}
 use Rattle.lw_netlist.specs.declared.gate.Gate.{Gate}
 use Rattle.lw_netlist.specs.Closing.{is_among}
-use Rattle.lw_mapped.specs.Texts.{net_name, HasNames}
+use Rattle.lw_mapped.specs.Texts.{net_name}
 use Rattle.lw_verilog.specs.Texts.{begins_u, escaped, further, joined, gate_text, gates_text, instance_name, passed, pins_text, tie_text}
 
 -- the same text
@@ -141,13 +138,4 @@ gate-put {cells = cells} {names = names} {taken = taken} {gates = gates} {i = i}
       puts = Puts-both h.puts puts;
       whole = append_assoc h.text (gate_text cells names (number + count) g) (gates_text cells names taken (most - count) (number + (count + 1)) rest) ∙ (ap (λ l. h.text ++ l) own ∙ h.whole);
       few = omega (arith, h.few, passed-le taken most number, is);
-    }
-
--- the nets of gates have names
-pub gates-named : (n : NetlistParts) → IsNetlist n → All (HasNames n.names) n.gates
-gates-named n is = λ k d lt.
-    let at = is.gates k (slice_index_or n.gates k d) (slice_get-get_or n.gates k d lt) in
-    record {
-      out = omega (arith, at.drives, is.named, lt);
-      pins = λ j net below. omega (arith, at.before j net below, is.named, lt);
     }

@@ -1,5 +1,5 @@
 use Rattle.std.proofs.Common.{◌*◌, ◌+◌, length, refl}
-use Rattle.lw_form.proofs.ListedForms.{on_failed}
+use Rattle.std.proofs.lemmas.Result.{IfOk-from_err}
 use Rattle.lw_assoc.proofs.Drafts.{bases_with_nands}
 use Rattle.lw_assoc.proofs.Overlapping.{inverters_added, nands_by_inverter}
 use Rattle.lw_assoc.proofs.overlaps.add_inverters.Goals as goal
@@ -25,7 +25,7 @@ returns-clause-kept c =
     nands_by_inverter (2 * c.args.b + 1) old c.add_inverter.new.draft c.add_inverter-2.new.draft adds c.in_ok-add_inverter-2.ensures
 
 pub returns-in_err-add_inverter-clause-so_far : goal.returns-in_err-add_inverter-clause-so_far
-returns-in_err-add_inverter-clause-so_far c = on_failed _ c.from_residual.result c.from_residual.ensures.0
+returns-in_err-add_inverter-clause-so_far c = IfOk-from_err _ _ c.from_residual.ensures.0
 
 pub returns-in_err-add_inverter-clause-kept : goal.returns-in_err-add_inverter-clause-kept
-returns-in_err-add_inverter-clause-kept c = on_failed _ c.from_residual.result c.from_residual.ensures.0
+returns-in_err-add_inverter-clause-kept c = IfOk-from_err _ _ c.from_residual.ensures.0

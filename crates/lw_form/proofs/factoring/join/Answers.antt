@@ -1,10 +1,10 @@
 use Rattle.std.proofs.Common.{◌≡◌, ◌∙◌, ◌∷◌, ◌++◌, ◌<◌, ◌/◌, [], refl, subst, ap, length, List, ℕ, arith}
 use Rattle.std.proofs.lemmas.List.{length-append}
+use Rattle.std.proofs.lemmas.Result.{IfOk-from_err}
 use Rattle.lw_form.specs.Tables.{AreBelow, made}
 use Rattle.lw_form.proofs.Joining.{more_length, more_twice}
 use Rattle.lw_form.proofs.FactoringSteps.{below_front, below_last, join_made, work_joined}
 use Rattle.lw_form.proofs.factoring.join.Goals as goal
-use Rattle.lw_form.proofs.ListedForms.{on_failed}
 
 front_below : (n : ℕ) (done front : List ℕ) (x : ℕ) → done ≡ front ++ x ∷ [] → AreBelow n done → AreBelow n front
 front_below n done front x e a = below_front n front (x ∷ []) (subst (AreBelow n) e a)
@@ -43,10 +43,10 @@ pub last-having-requires : goal.last-having-requires
 last-having-requires c = let e = ap length c.last-others.ensures in let a = length-append c.last-others.new.done.items (c.last-others.result ∷ []) in let two = c.requires.two in omega arith
 
 pub returns-in_err-both : goal.returns-in_err-both
-returns-in_err-both c = on_failed _ c.from_residual.result c.from_residual.ensures.0
+returns-in_err-both c = IfOk-from_err _ _ c.from_residual.ensures.0
 
 pub returns-in_err-form : goal.returns-in_err-form
-returns-in_err-form c = on_failed _ c.from_residual-in_err-form.result c.from_residual-in_err-form.ensures.0
+returns-in_err-form c = IfOk-from_err _ _ c.from_residual-in_err-form.ensures.0
 
 pub returns-in_err-push : goal.returns-in_err-push
-returns-in_err-push c = on_failed _ c.from_residual-in_err-push.result c.from_residual-in_err-push.ensures.0
+returns-in_err-push c = IfOk-from_err _ _ c.from_residual-in_err-push.ensures.0

@@ -2,17 +2,18 @@ use Rattle.std.proofs.Common.{◌≡◌, ◌<◌, ◌-◌, ◌++◌, [], ◌∷�
 use Rattle.std.specs.Prelude.{slice_get}
 use Rattle.std.proofs.lemmas.List.Elements.{All-set}
 use Rattle.std.proofs.lemmas.Option.{same_Some, slice_get_read}
+use Rattle.std.proofs.lemmas.Result.{IfOk-from_err}
 use Rattle.lw_report.specs.declared.block.Block.{Block}
 use Rattle.lw_report.specs.Blocks.{IsBlock, vectors_in}
 use Rattle.lw_report.specs.Vectors.{is_one}
-use Rattle.lw_report.proofs.BlockLemmas.{last_more, on_failed, room_some}
+use Rattle.lw_report.proofs.BlockLemmas.{last_more, room_some}
 use Rattle.lw_report.proofs.block.add_vector.Goals as goal
 
 pub returns-in_err-make_room-clause-blocks : goal.returns-in_err-make_room-clause-blocks
 returns-in_err-make_room-clause-blocks c = c.make_room.ensures.blocks
 
 pub returns-in_err-make_room-clause-vectors : goal.returns-in_err-make_room-clause-vectors
-returns-in_err-make_room-clause-vectors c = on_failed _ c.from_residual.result c.from_residual.ensures.0
+returns-in_err-make_room-clause-vectors c = IfOk-from_err _ _ c.from_residual.ensures.0
 
 pub overflow_sub-last : goal.overflow_sub-last
 overflow_sub-last c = let some = room_some c.make_room.new.blocks.items c.in_ok-make_room.ensures.room in omega arith

@@ -1,7 +1,8 @@
 use Rattle.std.proofs.Common.{All, ◌∙◌, [], ◌∷◌, ap, append-nil, refl, sym, subst, arith}
 use Rattle.lw_report.specs.Blocks.{IsBlock, HasRoom, block_vectors, vectors_in}
 use Rattle.std.proofs.lemmas.Grind.{flat_map-append}
-use Rattle.lw_report.proofs.BlockLemmas.{on_failed, room_behind}
+use Rattle.std.proofs.lemmas.Result.{IfOk-from_err}
+use Rattle.lw_report.proofs.BlockLemmas.{room_behind}
 use Rattle.lw_report.proofs.block.make_room.Goals as goal
 
 pub returns-then-has_room-clause-room : goal.returns-then-has_room-clause-room
@@ -17,16 +18,16 @@ pub returns-in_err-words-clause-blocks : goal.returns-in_err-words-clause-blocks
 returns-in_err-words-clause-blocks c = c.requires
 
 pub returns-in_err-words-clause-room : goal.returns-in_err-words-clause-room
-returns-in_err-words-clause-room c = on_failed _ c.from_residual.result c.from_residual.ensures.0
+returns-in_err-words-clause-room c = IfOk-from_err _ _ c.from_residual.ensures.0
 
 pub returns-in_err-words-clause-vectors : goal.returns-in_err-words-clause-vectors
-returns-in_err-words-clause-vectors c = on_failed _ c.from_residual.result c.from_residual.ensures.0
+returns-in_err-words-clause-vectors c = IfOk-from_err _ _ c.from_residual.ensures.0
 
 pub returns-in_err-push-clause-room : goal.returns-in_err-push-clause-room
-returns-in_err-push-clause-room c = on_failed _ c.from_residual-in_err-push.result c.from_residual-in_err-push.ensures.0
+returns-in_err-push-clause-room c = IfOk-from_err _ _ c.from_residual-in_err-push.ensures.0
 
 pub returns-in_err-push-clause-vectors : goal.returns-in_err-push-clause-vectors
-returns-in_err-push-clause-vectors c = on_failed _ c.from_residual-in_err-push.result c.from_residual-in_err-push.ensures.0
+returns-in_err-push-clause-vectors c = IfOk-from_err _ _ c.from_residual-in_err-push.ensures.0
 
 pub returns-clause-room : goal.returns-clause-room
 returns-clause-room c = subst HasRoom (sym c.in_ok-push.ensures.items) (room_behind c.args.blocks.now.items (record { words = c.in_ok-words.words; count = 0 }) (omega arith))

@@ -3,14 +3,15 @@ use Rattle.std.specs.List.{flat_map}
 use Rattle.lw_io.proofs.Putting.{Puts-both}
 use Rattle.lw_mapped.specs.Texts.{names_of_outputs, HasNames}
 use Rattle.lw_verilog.specs.Texts.{assignment_text, declaration, gates_text, wire_text}
-use Rattle.lw_verilog.proofs.PutParts.{Puts-is, gates-named}
+use Rattle.lw_mapped.proofs.TextParts.{gates_named}
+use Rattle.lw_verilog.proofs.PutParts.{Puts-is}
 use Rattle.lw_verilog.proofs.writing.put_text.Goals as goal
 use Rattle.lw_netlist.specs.Plain.{port_name}
 
 pub put_gates-requires-clause-named : goal.put_gates-requires-clause-named
 put_gates-requires-clause-named g c =
     subst (λ ns. All (HasNames ns) c.gates.result.now) (sym c.names-names.ensures.names)
-    (subst (All (HasNames c.args.netlist.now.names)) (sym c.gates.ensures.gates) (gates-named c.args.netlist.now c.gates.ensures.kept))
+    (subst (All (HasNames c.args.netlist.now.names)) (sym c.gates.ensures.gates) (gates_named c.args.netlist.now c.gates.ensures.kept))
 
 pub returns : goal.returns
 returns g c =

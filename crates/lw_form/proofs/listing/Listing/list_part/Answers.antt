@@ -1,11 +1,11 @@
 use Rattle.std.proofs.Common.{◌∙◌, subst, arith, IfErr}
 use Rattle.std.proofs.lemmas.List.{length-map}
-use Rattle.std.proofs.lemmas.Result.{on_ok_weaker}
+use Rattle.std.proofs.lemmas.Result.{IfOk-from_err, on_ok_weaker}
 use Rattle.lw_laws.specs.SignalValues.{form_of}
 use Rattle.lw_form.specs.Listed.{bases_of, IsTooLong}
 use Rattle.lw_form.specs.Tables.{made, spelled, forms_at}
 use Rattle.lw_form.proofs.Joining.{more_same}
-use Rattle.lw_form.proofs.ListedForms.{on_failed, part_same, short_part, added_more, listed_kept}
+use Rattle.lw_form.proofs.ListedForms.{part_same, short_part, added_more, listed_kept}
 use Rattle.lw_form.proofs.listing.Listing.list_part.Goals as goal
 
 pub returns-clause-fault : goal.returns-clause-fault
@@ -28,7 +28,7 @@ pub list-requires-clause-listed : goal.list-requires-clause-listed
 list-requires-clause-listed c = listed_kept (made c.args.table.now) (made c.add.new.self) c.args.self.now.listed.items c.args.self.now.places.items (added_more c.args.table.now c.add.new.self (spelled (made c.args.table.now) c.args.ids) c.in_ok-b.ensures.made) c.requires.listed
 
 pub returns-in_err-b-clause-listed : goal.returns-in_err-b-clause-listed
-returns-in_err-b-clause-listed c = on_failed _ c.from_residual.result c.from_residual.ensures.0
+returns-in_err-b-clause-listed c = IfOk-from_err _ _ c.from_residual.ensures.0
 
 pub returns-clause-listed : goal.returns-clause-listed
 returns-clause-listed c =

@@ -1,14 +1,15 @@
 use Rattle.std.proofs.Common.{◌∙◌, ◌∷◌, [], ap, length, arith}
 use Rattle.std.proofs.lemmas.List.{length-append}
+use Rattle.std.proofs.lemmas.Result.{IfOk-from_err}
 use Rattle.lw_form.specs.Listed.{no_place}
-use Rattle.lw_form.proofs.ListedForms.{on_failed, place_pushed}
+use Rattle.lw_form.proofs.ListedForms.{place_pushed}
 use Rattle.lw_form.proofs.listing.Listing.reach.Goals as goal
 
 pub returns-in_err-push-clause-reached : goal.returns-in_err-push-clause-reached
-returns-in_err-push-clause-reached c = on_failed _ c.from_residual.result c.from_residual.ensures.0
+returns-in_err-push-clause-reached c = IfOk-from_err _ _ c.from_residual.ensures.0
 
 pub returns-in_err-push-clause-same : goal.returns-in_err-push-clause-same
-returns-in_err-push-clause-same c = on_failed _ c.from_residual.result c.from_residual.ensures.0
+returns-in_err-push-clause-same c = IfOk-from_err _ _ c.from_residual.ensures.0
 
 pub returns-in_err-push-clause-listed : goal.returns-in_err-push-clause-listed
 returns-in_err-push-clause-listed c = c.loop-place.invariant.listed

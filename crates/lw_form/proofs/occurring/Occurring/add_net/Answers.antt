@@ -1,9 +1,10 @@
 use Rattle.std.proofs.Common.{◌∷◌, ◌++◌, [], arith}
+use Rattle.std.proofs.lemmas.Result.{IfOk-from_err}
 use Rattle.lw_form.specs.Nets.{signal_at, IsSignalFault}
 use Rattle.lw_form.specs.Tables.{made}
 use Rattle.lw_form.proofs.Joining.{more_twice, more_length}
 use Rattle.lw_form.proofs.Signalled.{net_listed, second_fault, first_fault}
-use Rattle.lw_form.proofs.ListedForms.{on_failed, err_is}
+use Rattle.lw_form.proofs.ListedForms.{err_is}
 use Rattle.lw_form.proofs.occurring.Occurring.add_net.Goals as goal
 
 pub add-requires-clause-listed : goal.add-requires-clause-listed
@@ -40,13 +41,13 @@ pub returns-clause-fault : goal.returns-clause-fault
 returns-clause-fault c = tt
 
 pub returns-in_err-add-clause-adds : goal.returns-in_err-add-clause-adds
-returns-in_err-add-clause-adds c = on_failed _ c.from_residual.result c.from_residual.ensures.0
+returns-in_err-add-clause-adds c = IfOk-from_err _ _ c.from_residual.ensures.0
 
 pub returns-in_err-add-2-clause-adds : goal.returns-in_err-add-2-clause-adds
-returns-in_err-add-2-clause-adds c = on_failed _ c.from_residual-in_err-add-2.result c.from_residual-in_err-add-2.ensures.0
+returns-in_err-add-2-clause-adds c = IfOk-from_err _ _ c.from_residual-in_err-add-2.ensures.0
 
 pub returns-in_err-note-clause-adds : goal.returns-in_err-note-clause-adds
-returns-in_err-note-clause-adds c = on_failed _ c.from_residual-in_err-note.result c.from_residual-in_err-note.ensures.0
+returns-in_err-note-clause-adds c = IfOk-from_err _ _ c.from_residual-in_err-note.ensures.0
 
 pub returns-in_err-note-2-clause-adds : goal.returns-in_err-note-2-clause-adds
-returns-in_err-note-2-clause-adds c = on_failed _ c.from_residual-in_err-note-2.result c.from_residual-in_err-note-2.ensures.0
+returns-in_err-note-2-clause-adds c = IfOk-from_err _ _ c.from_residual-in_err-note-2.ensures.0
