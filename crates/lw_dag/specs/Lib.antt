@@ -4,3 +4,4 @@ pub mod Ordering
 pub mod Ranking
 pub mod Rising
 pub mod Searching
+pub mod SmallGraphs

@@ -1,6 +1,7 @@
 -- While heights are being found.
 use Rattle.std.specs.Prelude.{ℕ, ◌+◌, ◌*◌, ◌<◌, ◌≤◌, ◌≡◌, ◌⊎◌, ◌++◌, ◌==◌, count_by, List, [], length, replicate, slice_index_or, vec_len, Contains, All}
 use Rattle.lw_dag.specs.declared.levels.Search.{Search}
+use Rattle.lw_dag.specs.declared.graph.SmallGraph.{SmallGraph}
 use Rattle.lw_dag.specs.Graphs.{fanins_at, height_at, AreKnown, IsOrdered}
 
 -- how many heights aren't known
@@ -33,6 +34,10 @@ pub record IsRising (inputs : ℕ) (graph : List (List ℕ)) (heights : List ℕ
 pub record IsLevelling (inputs : ℕ) (graph : List (List ℕ)) (levels : Search) (later : List ℕ) : Type 0 where
   pub rising : IsRising inputs graph levels.heights.items levels.waiting.items levels.ready.items later
   pub ordered : IsOrdered inputs graph levels.heights.items levels.order.items
+
+-- the same of the search in a graph
+abbrev pub IsLevellingIn : SmallGraph → Search → List ℕ → Type 0
+IsLevellingIn graph levels later = IsLevelling graph.inputs graph.nodes.now levels later
 
 -- what is left to do: a height that isn't known counts twice, and a signal that is still to be told once
 abbrev pub left_in : Search → ℕ

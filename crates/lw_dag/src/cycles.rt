@@ -1,9 +1,11 @@
 // The first node that leads to itself.
-ghost use Rattle.std.specs.Prelude.{◌≡◌, ◌+◌, ◌*◌, ◌<◌, ◌≤◌, ◌↔◌, [], ℕ, false, length, drop, replicate, vec_len, IsTrue, IfOk, IfSome, IfNone, OnOk, Contains, All};
-ghost use Rattle.lw_dag.specs.Graphs.{most_signals, IsGraph, IsSmallGraph, fanins_at, height_at, AreHeights, IsStuck, Leads, IsFirst};
+ghost use Rattle.std.specs.Prelude.{◌≡◌, ◌+◌, ◌*◌, ◌<◌, ◌≤◌, ◌↔◌, [], ℕ, false, length, drop, replicate, vec_len, IsTrue, IfOk, IfSome, IfNone, OnOk, MatchOption, Contains, All};
+ghost use Rattle.lw_dag.specs.Graphs.{most_signals, IsGraph, fanins_at, height_at, AreHeights, IsStuck, IsFirst};
 ghost use Rattle.lw_dag.specs.Searching.{AreLookedAt};
 ghost use Rattle.lw_dag.specs.Ranking.{AreRanks};
+ghost use Rattle.lw_dag.specs.SmallGraphs.{AreHeightsIn, LeadsToItself, AreAllHigh, IsLowAt};
 
+use crate::graph::SmallGraph;
 use crate::levels::open_fanin;
 use crate::ranking::{are_below, ranks};
 use lw_pool::Numbers;
@@ -11,13 +13,9 @@ use std::alloc::{AllocError, Global};
 
 // The first node without a height.
 fn first_stuck(inputs: usize, heights: &[u32]) -> Option<usize>
-    requires { inputs ≤ length heights.now }
-    ensures within { IfSome result (λ j. inputs + j < length heights.now) }
-    ensures lacks { IfSome result (λ j. height_at heights.now (inputs + j) ≡ 0) }
-    ensures none { IfNone result ((j : ℕ) → inputs + j < length heights.now →
-        0 < height_at heights.now (inputs + j)) }
+    ensures { MatchOption result (AreAllHigh inputs heights.now) (IsLowAt inputs heights.now) }
 {
-    for j in 0..heights.len() - inputs {
+    for j in 0..heights.len().saturating_sub(inputs) {
         if heights[inputs + j] == 0 {
             return Some(j);
         }
@@ -42,23 +40,21 @@ fn stuck_fanin(inputs: usize, fanins: &[u32], heights: &[u32]) -> usize
 // Goes from a node without a height to such a fan-in, until one comes again: it is on a cycle.
 fn on_cycle(
     alloc: Global,
-    inputs: usize,
-    graph: &[Numbers],
+    graph: &SmallGraph,
     heights: &[u32],
     start: usize,
 ) -> Result<usize, AllocError>
-    requires graph { IsGraph inputs graph.now }
-    requires heights { AreHeights inputs graph.now heights.now }
-    requires within { start < length graph.now }
-    requires lacks { height_at heights.now (inputs + start) ≡ 0 }
-    ensures within { IfOk result (λ p. p < length graph.now) }
-    ensures cycle { IfOk result (λ p. Leads inputs graph.now p (inputs + p)) }
+    requires heights { AreHeightsIn graph.now heights.now }
+    requires within { start < length graph.now.nodes.now }
+    requires lacks { height_at heights.now (graph.now.inputs + start) ≡ 0 }
+    ensures within { IfOk result (λ p. p < length graph.now.nodes.now) }
+    ensures cycle { IfOk result (LeadsToItself graph.now) }
 {
-    let mut seen = vec![in alloc; false; graph.len()]?;
+    let mut seen = vec![in alloc; false; graph.nodes.len()]?;
     let mut at = start;
     'walk: while !seen[at] {
         seen[at] = true;
-        at = stuck_fanin(inputs, graph[at].as_slice(), heights);
+        at = stuck_fanin(graph.inputs, graph.nodes[at].as_slice(), heights);
     }
     Ok(at)
 }
@@ -106,21 +102,20 @@ fn note_all(
 }
 
 // Whether a node leads to itself.
-fn leads_to_itself(
-    alloc: Global,
-    inputs: usize,
-    graph: &[Numbers],
-    p: usize,
-) -> Result<bool, AllocError>
-    requires graph { IsSmallGraph inputs graph.now }
-    requires within { p < length graph.now }
-    ensures { IfOk result (λ b. IsTrue b ↔ Leads inputs graph.now p (inputs + p)) }
+fn leads_to_itself(alloc: Global, graph: &SmallGraph, p: usize) -> Result<bool, AllocError>
+    requires { p < length graph.now.nodes.now }
+    ensures { IfOk result (λ b. IsTrue b ↔ LeadsToItself graph.now p) }
 {
-    let mut seen = vec![in alloc; false; graph.len()]?;
+    let mut seen = vec![in alloc; false; graph.nodes.len()]?;
     let mut ready = Vec::new(alloc);
     ready.push(p as u32)?;
     'search: while let Some(x) = ready.pop() {
-        note_all(&mut seen, &mut ready, inputs, graph[x as usize].as_slice())?;
+        note_all(
+            &mut seen,
+            &mut ready,
+            graph.inputs,
+            graph.nodes[x as usize].as_slice(),
+        )?;
     }
     Ok(seen[p])
 }
@@ -129,46 +124,42 @@ fn leads_to_itself(
 // below it.
 fn is_on_cycle(
     alloc: Global,
-    inputs: usize,
-    graph: &[Numbers],
+    graph: &SmallGraph,
     heights: &[u32],
     ranks: &[usize],
     p: usize,
 ) -> Result<bool, AllocError>
-    requires graph { IsSmallGraph inputs graph.now }
-    requires heights { AreHeights inputs graph.now heights.now }
-    requires ranks { AreRanks inputs graph.now ranks.now }
-    requires within { p < length graph.now }
-    ensures { IfOk result (λ b. IsTrue b ↔ Leads inputs graph.now p (inputs + p)) }
+    requires heights { AreHeightsIn graph.now heights.now }
+    requires ranks { AreRanks graph.now.inputs graph.now.nodes.now ranks.now }
+    requires within { p < length graph.now.nodes.now }
+    ensures { IfOk result (λ b. IsTrue b ↔ LeadsToItself graph.now p) }
 {
-    if heights[inputs + p] != 0 {
+    if heights[graph.inputs + p] != 0 {
         return Ok(false);
     }
-    if are_below(ranks, inputs, graph[p].as_slice(), ranks[p]) {
+    if are_below(ranks, graph.inputs, graph.nodes[p].as_slice(), ranks[p]) {
         return Ok(false);
     }
-    leads_to_itself(alloc, inputs, graph, p)
+    leads_to_itself(alloc, graph, p)
 }
 
 // The first node that leads to itself, where some node has no height. By the ranks, only a node on
 // a cycle is searched from.
 fn first_behind(
     alloc: Global,
-    inputs: usize,
-    graph: &[Numbers],
+    graph: &SmallGraph,
     heights: &[u32],
     start: usize,
 ) -> Result<usize, AllocError>
-    requires graph { IsSmallGraph inputs graph.now }
-    requires heights { AreHeights inputs graph.now heights.now }
-    requires within { start < length graph.now }
-    requires lacks { height_at heights.now (inputs + start) ≡ 0 }
-    ensures { IfOk result (IsFirst inputs graph.now) }
+    requires heights { AreHeightsIn graph.now heights.now }
+    requires within { start < length graph.now.nodes.now }
+    requires lacks { height_at heights.now (graph.now.inputs + start) ≡ 0 }
+    ensures { IfOk result (IsFirst graph.now.inputs graph.now.nodes.now) }
 {
-    let last = on_cycle(alloc, inputs, graph, heights, start)?;
-    let ranks = ranks(alloc, inputs, graph)?;
+    let last = on_cycle(alloc, graph, heights, start)?;
+    let ranks = ranks(alloc, graph)?;
     for p in 0..last {
-        if is_on_cycle(alloc, inputs, graph, heights, &ranks, p)? {
+        if is_on_cycle(alloc, graph, heights, &ranks, p)? {
             return Ok(p);
         }
     }
@@ -192,6 +183,10 @@ pub fn first_on_cycle(
     let Some(start) = first_stuck(inputs, heights) else {
         return Ok(None);
     };
-    let first = first_behind(alloc, inputs, graph, heights, start)?;
+    let small = SmallGraph {
+        inputs,
+        nodes: graph,
+    };
+    let first = first_behind(alloc, &small, heights, start)?;
     Ok(Some(first))
 }

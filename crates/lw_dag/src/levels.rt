@@ -1,8 +1,9 @@
 // Heights of signals, which are 1 more than their depths, and the nodes behind their fan-ins.
 ghost use Rattle.std.specs.Prelude.{◌≡◌, ◌+◌, ◌<◌, ◌≤◌, [], length, drop, IfOk, IfSome, IfNone, OnOk, IsTrue, false, Contains, All};
-ghost use Rattle.lw_dag.specs.Graphs.{most_signals, IsGraph, IsSmallGraph, height_at, tallest, AreHeights, IsOrdered};
-ghost use Rattle.lw_dag.specs.Rising.{left_in, IsLevelling, IsUntouched};
+ghost use Rattle.lw_dag.specs.Graphs.{most_signals, IsGraph, height_at, tallest, AreHeights, IsOrdered};
+ghost use Rattle.lw_dag.specs.Rising.{left_in, IsLevellingIn, IsUntouched};
 
+use crate::graph::SmallGraph;
 use lw_pool::Numbers;
 use std::alloc::{AllocError, Global};
 use std::mem;
@@ -55,23 +56,21 @@ fn tallest_of(fanins: &[u32], heights: &[u32]) -> u32
 // Looks at a node: it is given its height, or waits for a fan-in that has none.
 fn settle(
     levels: &mut Search,
-    inputs: usize,
-    graph: &[Numbers],
+    graph: &SmallGraph,
     list: &[u32],
     at: usize,
 ) -> Result<(), AllocError>
-    requires graph { IsSmallGraph inputs graph.now }
     requires place { at < length list.now }
-    requires nodes { All (λ j. j < length graph.now) list.now }
-    requires before { IsLevelling inputs graph.now levels.old (drop at list.now) }
-    ensures after { OnOk result (IsLevelling inputs graph.now levels.new (drop (at + 1) list.now)) }
+    requires nodes { All (λ j. j < length graph.now.nodes.now) list.now }
+    requires before { IsLevellingIn graph.now levels.old (drop at list.now) }
+    ensures after { OnOk result (IsLevellingIn graph.now levels.new (drop (at + 1) list.now)) }
     ensures less { OnOk result (left_in levels.new ≤ left_in levels.old) }
 {
     let j = list[at] as usize;
-    if levels.heights[inputs + j] != 0 {
+    if levels.heights[graph.inputs + j] != 0 {
         return Ok(());
     }
-    let fanins = graph[j].as_slice();
+    let fanins = graph.nodes[j].as_slice();
     match open_fanin(fanins, &levels.heights) {
         Some(s) => {
             let nodes = &mut levels.waiting[s as usize];
@@ -79,43 +78,31 @@ fn settle(
         }
         None => {
             let height = 1 + tallest_of(fanins, &levels.heights);
-            levels.ready.push((inputs + j) as u32)?;
+            levels.ready.push((graph.inputs + j) as u32)?;
             levels.order.push(list[at])?;
-            levels.heights[inputs + j] = height;
+            levels.heights[graph.inputs + j] = height;
         }
     }
     Ok(())
 }
 
 // Looks at each of some nodes.
-fn settle_all(
-    levels: &mut Search,
-    inputs: usize,
-    graph: &[Numbers],
-    list: &[u32],
-) -> Result<(), AllocError>
-    requires graph { IsSmallGraph inputs graph.now }
-    requires nodes { All (λ j. j < length graph.now) list.now }
-    requires before { IsLevelling inputs graph.now levels.old list.now }
-    ensures after { OnOk result (IsLevelling inputs graph.now levels.new []) }
+fn settle_all(levels: &mut Search, graph: &SmallGraph, list: &[u32]) -> Result<(), AllocError>
+    requires nodes { All (λ j. j < length graph.now.nodes.now) list.now }
+    requires before { IsLevellingIn graph.now levels.old list.now }
+    ensures after { OnOk result (IsLevellingIn graph.now levels.new []) }
     ensures less { OnOk result (left_in levels.new ≤ left_in levels.old) }
 {
     for at in 0..list.len() {
-        settle(levels, inputs, graph, list, at)?;
+        settle(levels, graph, list, at)?;
     }
     Ok(())
 }
 
 // Tells the nodes that wait for a signal of its height.
-fn tell(
-    alloc: Global,
-    levels: &mut Search,
-    inputs: usize,
-    graph: &[Numbers],
-) -> Result<bool, AllocError>
-    requires graph { IsSmallGraph inputs graph.now }
-    requires before { IsLevelling inputs graph.now levels.old [] }
-    ensures after { OnOk result (IsLevelling inputs graph.now levels.new []) }
+fn tell(alloc: Global, levels: &mut Search, graph: &SmallGraph) -> Result<bool, AllocError>
+    requires { IsLevellingIn graph.now levels.old [] }
+    ensures after { OnOk result (IsLevellingIn graph.now levels.new []) }
     ensures less { IfOk result (λ told. IsTrue told → left_in levels.new < left_in levels.old) }
     ensures done { IfOk result (λ told. (told ≡ false) → levels.new.ready.items ≡ []) }
 {
@@ -123,15 +110,16 @@ fn tell(
         return Ok(false);
     };
     let nodes = mem::replace(&mut levels.waiting[s as usize], Numbers::empty(alloc));
-    settle_all(levels, inputs, graph, nodes.as_slice())?;
+    settle_all(levels, graph, nodes.as_slice())?;
     Ok(true)
 }
 
 // Nothing is known but the inputs.
-fn start(alloc: Global, inputs: usize, nodes: usize) -> Result<Search, AllocError>
-    requires { inputs + nodes ≤ most_signals }
-    ensures { IfOk result (IsUntouched inputs nodes) }
+fn start(alloc: Global, graph: &SmallGraph) -> Result<Search, AllocError>
+    ensures { IfOk result (IsUntouched graph.now.inputs (length graph.now.nodes.now)) }
 {
+    let inputs = graph.inputs;
+    let nodes = graph.nodes.len();
     let mut heights = Vec::with_capacity(alloc, inputs + nodes)?;
     let mut waiting = Vec::with_capacity(alloc, inputs + nodes)?;
     'ones: for _made in 0..inputs {
@@ -159,13 +147,17 @@ pub fn find_levels(alloc: Global, inputs: usize, graph: &[Numbers]) -> Result<Le
     ensures low { IfOk result (λ l. All (λ h. h ≤ 1 + length graph.now) l.heights.items) }
     ensures ordered { IfOk result (λ l. IsOrdered inputs graph.now l.heights.items l.order.items) }
 {
-    let mut levels = start(alloc, inputs, graph.len())?;
+    let small = SmallGraph {
+        inputs,
+        nodes: graph,
+    };
+    let mut levels = start(alloc, &small)?;
     let mut all = Vec::with_capacity(alloc, graph.len())?;
     for j in 0..graph.len() {
         all.push(j as u32)?;
     }
-    settle_all(&mut levels, inputs, graph, &all)?;
-    'telling: while tell(alloc, &mut levels, inputs, graph)? {}
+    settle_all(&mut levels, &small, &all)?;
+    'telling: while tell(alloc, &mut levels, &small)? {}
     let Search {
         heights,
         order,

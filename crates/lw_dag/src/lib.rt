@@ -6,6 +6,7 @@
 #![tactic(auto)]
 
 mod cycles;
+mod graph;
 mod levels;
 mod order;
 mod ranking;

@@ -1,8 +1,8 @@
 // Lists by depth.
-ghost use Rattle.std.specs.Prelude.{◌≡◌, ◌==◌, ◌≤◌, ℕ, map, filter, length, IfOk, OnOk, All};
+ghost use Rattle.std.specs.Prelude.{◌≡◌, ◌≤◌, ℕ, map, length, IfOk, All};
 ghost use Rattle.std.specs.List.{zip};
 ghost use Rattle.std.specs.List.Sorted.{IsPermutation, IsNonDecreasingBy};
-ghost use Rattle.lw_dag.specs.Ordering.{AreKeys, by_key};
+ghost use Rattle.lw_dag.specs.Ordering.{AreKeys, by_key, Sorts};
 
 use std::alloc::{AllocError, Global};
 
@@ -43,10 +43,7 @@ fn without_depths<T: Drop>(alloc: Global, deep: Vec<Deep<T>>) -> Result<Vec<T>, 
 
 // Sorts by depth, and leaves entries of one depth as they stand.
 fn sort<T: Drop>(deep: &mut Vec<Deep<T>>) -> Result<(), AllocError>
-    ensures permutation { IsPermutation deep.old.items deep.new.items }
-    ensures sorted { OnOk result (IsNonDecreasingBy (λ d. d.depth) deep.new.items) }
-    ensures stable { OnOk result ((k : ℕ) →
-        filter (λ d. d.depth == k) deep.new.items ≡ filter (λ d. d.depth == k) deep.old.items) }
+    ensures { Sorts (λ d. d.depth) result deep.old.items deep.new.items }
 {
     deep.sort_by_key(|d| d.depth)?;
     Ok(())

@@ -1,10 +1,9 @@
 // Ranks of nodes, by which most nodes that are on no cycle are told without a search.
 ghost use Rattle.std.specs.Prelude.{◌≡◌, ◌+◌, ◌-◌, ◌<◌, [], ℕ, length, drop, vec_len, IsTrue, IfOk, OnOk, Contains, All};
-ghost use Rattle.lw_dag.specs.Graphs.{IsSmallGraph};
 ghost use Rattle.lw_dag.specs.Ranking.{rank_at, AreRanked, AreRanks, AreRanksTo};
 
+use crate::graph::SmallGraph;
 use crate::turning::turned_order;
-use lw_pool::Numbers;
 use std::alloc::{AllocError, Global};
 
 // Gives the rank to one of the fan-ins, where it is a node that has none.
@@ -58,16 +57,15 @@ fn rank_all(
 fn rank_from(
     alloc: Global,
     ranks: &mut Vec<usize>,
-    inputs: usize,
-    graph: &[Numbers],
+    graph: &SmallGraph,
     p: usize,
     rank: usize,
 ) -> Result<(), AllocError>
-    requires graph { IsSmallGraph inputs graph.now }
-    requires within { p < length graph.now }
+    requires within { p < length graph.now.nodes.now }
     requires some { 0 < rank }
-    requires before { AreRanksTo inputs graph.now (rank - 1) ranks.old.items }
-    ensures { OnOk result (AreRanksTo inputs graph.now rank ranks.new.items) }
+    requires before { AreRanksTo graph.now.inputs graph.now.nodes.now (rank - 1) ranks.old.items }
+    ensures { OnOk result
+        (AreRanksTo graph.now.inputs graph.now.nodes.now rank ranks.new.items) }
 {
     if ranks[p] != 0 {
         return Ok(());
@@ -79,8 +77,8 @@ fn rank_from(
         rank_all(
             ranks,
             &mut ready,
-            inputs,
-            graph[x as usize].as_slice(),
+            graph.inputs,
+            graph.nodes[x as usize].as_slice(),
             rank,
         )?;
     }
@@ -89,19 +87,15 @@ fn rank_from(
 
 // Ranks of the nodes. By the order in which they are given, nodes share a rank only where each
 // leads to the other.
-pub(crate) fn ranks(
-    alloc: Global,
-    inputs: usize,
-    graph: &[Numbers],
-) -> Result<Vec<usize>, AllocError>
-    requires { IsSmallGraph inputs graph.now }
-    ensures { IfOk result (λ ranks. AreRanks inputs graph.now ranks.items) }
+pub(crate) fn ranks(alloc: Global, graph: &SmallGraph) -> Result<Vec<usize>, AllocError>
+    ensures { IfOk result
+        (λ ranks. AreRanks graph.now.inputs graph.now.nodes.now ranks.items) }
 {
-    let order = turned_order(alloc, inputs, graph)?;
-    let mut ranks = vec![in alloc; 0; graph.len()]?;
+    let order = turned_order(alloc, graph)?;
+    let mut ranks = vec![in alloc; 0; graph.nodes.len()]?;
     for i in 0..order.len() {
         let p = order[order.len() - 1 - i];
-        rank_from(alloc, &mut ranks, inputs, graph, p as usize, i + 1)?;
+        rank_from(alloc, &mut ranks, graph, p as usize, i + 1)?;
     }
     Ok(ranks)
 }

@@ -1,9 +1,9 @@
 // An order of the nodes: that in which a walk through the graph turned round, depth first, leaves
 // them.
 ghost use Rattle.std.specs.Prelude.{◌≡◌, ◌+◌, ◌<◌, ◌≤◌, [], length, replicate, vec_len, IfOk, OnOk, All};
-ghost use Rattle.lw_dag.specs.Graphs.{IsSmallGraph};
 ghost use Rattle.lw_dag.specs.Ranking.{AreUserRows, AreWithin, IsWalk};
 
+use crate::graph::SmallGraph;
 use lw_pool::Numbers;
 use std::alloc::{AllocError, Global};
 
@@ -67,13 +67,12 @@ fn note_users(
 }
 
 // The users of each node.
-fn turned_round(alloc: Global, inputs: usize, graph: &[Numbers]) -> Result<Vec<Numbers>, AllocError>
-    requires { IsSmallGraph inputs graph.now }
-    ensures { IfOk result (AreUserRows (length graph.now)) }
+fn turned_round(alloc: Global, graph: &SmallGraph) -> Result<Vec<Numbers>, AllocError>
+    ensures { IfOk result (AreUserRows (length graph.now.nodes.now)) }
 {
-    let mut rows = empty_rows(alloc, graph.len())?;
-    for j in 0..graph.len() {
-        note_users(&mut rows, inputs, graph[j].as_slice(), j as u32)?;
+    let mut rows = empty_rows(alloc, graph.nodes.len())?;
+    for j in 0..graph.nodes.len() {
+        note_users(&mut rows, graph.inputs, graph.nodes[j].as_slice(), j as u32)?;
     }
     Ok(rows)
 }
@@ -131,21 +130,16 @@ fn walk_from(walk: &mut Walk, rows: &[Numbers], start: u32) -> Result<(), AllocE
 }
 
 // The nodes in the order in which the walk leaves them.
-pub(crate) fn turned_order(
-    alloc: Global,
-    inputs: usize,
-    graph: &[Numbers],
-) -> Result<Vec<u32>, AllocError>
-    requires { IsSmallGraph inputs graph.now }
-    ensures { IfOk result (λ order. All (λ j. j < length graph.now) order.items) }
+pub(crate) fn turned_order(alloc: Global, graph: &SmallGraph) -> Result<Vec<u32>, AllocError>
+    ensures { IfOk result (λ order. All (λ j. j < length graph.now.nodes.now) order.items) }
 {
-    let rows = turned_round(alloc, inputs, graph)?;
+    let rows = turned_round(alloc, graph)?;
     let mut walk = Walk {
-        seen: vec![in alloc; false; graph.len()]?,
+        seen: vec![in alloc; false; graph.nodes.len()]?,
         way: Vec::new(alloc),
-        left: Vec::with_capacity(alloc, graph.len())?,
+        left: Vec::with_capacity(alloc, graph.nodes.len())?,
     };
-    for j in 0..graph.len() {
+    for j in 0..graph.nodes.len() {
         walk_from(&mut walk, &rows, j as u32)?;
     }
     Ok(walk.left)

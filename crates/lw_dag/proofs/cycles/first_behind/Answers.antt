@@ -20,7 +20,7 @@ pub loop-p-init : goal.loop-p-init
 loop-p-init c = λ j lt. absurd (omega (arith, lt))
 
 pub is_on_cycle-requires-clause-ranks : goal.is_on_cycle-requires-clause-ranks
-is_on_cycle-requires-clause-ranks c = subst (AreRanks c.args.inputs c.args.graph.now) (sym c.deref.ensures.value) c.in_ok-ranks.ensures
+is_on_cycle-requires-clause-ranks c = subst (AreRanks c.args.graph.now.inputs c.args.graph.now.nodes.now) (sym c.deref.ensures.value) c.in_ok-ranks.ensures
 
 pub is_on_cycle-requires-clause-within : goal.is_on_cycle-requires-clause-within
 is_on_cycle-requires-clause-within c = omega (arith, c.loop-p-test.true, c.in_ok-last.ensures.within)
@@ -38,6 +38,3 @@ returns c = record {
   cycle = c.in_ok-last.ensures.cycle;
   first = λ j lt. c.loop-p.invariant j (omega (arith, c.loop-p-test.false, lt));
 }
-
-pub on_cycle-requires-clause-graph : goal.on_cycle-requires-clause-graph
-on_cycle-requires-clause-graph c = c.requires.graph.graph

@@ -3,4 +3,4 @@ use Rattle.lw_dag.specs.Graphs.{Leads}
 use Rattle.lw_dag.proofs.cycles.first_behind.Given as goal
 
 abbrev pub invariant-loop-p : goal.invariant-loop-p
-invariant-loop-p l = (j : ℕ) → j < l.p → Leads l.inputs l.graph j (l.inputs + j) → ⊥
+invariant-loop-p l = (j : ℕ) → j < l.p → Leads l.graph.inputs l.graph.nodes.now j (l.graph.inputs + j) → ⊥

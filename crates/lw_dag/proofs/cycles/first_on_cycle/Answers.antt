@@ -4,7 +4,7 @@ use Rattle.lw_dag.proofs.Searching.{all_known}
 use Rattle.lw_dag.proofs.cycles.first_on_cycle.Goals as goal
 
 pub returns-in_default-clause-none : goal.returns-in_default-clause-none
-returns-in_default-clause-none c = all_known c.args.inputs c.args.heights.now c.requires.heights.known.given_ones c.in_default.ensures.none
+returns-in_default-clause-none c = all_known c.args.inputs c.args.heights.now c.requires.heights.known.given_ones c.in_default.ensures
 
 pub first_behind-requires-clause-within : goal.first_behind-requires-clause-within
 first_behind-requires-clause-within c = omega (arith, c.requires.heights.known.one_each, c.in-Some.ensures.within)
@@ -20,5 +20,5 @@ returns-in_err-first c =
 pub returns-clause-some : goal.returns-clause-some
 returns-clause-some c = c.in_ok-first.ensures
 
-pub first_behind-requires-clause-graph : goal.first_behind-requires-clause-graph
-first_behind-requires-clause-graph c = record { graph = c.requires.graph; few = c.requires.few }
+pub invariant_of-small : goal.invariant_of-small
+invariant_of-small c = record { small = record { graph = c.requires.graph; few = c.requires.few } }

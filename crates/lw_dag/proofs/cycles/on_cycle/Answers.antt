@@ -1,5 +1,5 @@
 use Rattle.std.proofs.Common.{◌≡◌, ◌<◌, ◌+◌, [], false, length, ap, sym, ◌∙◌, subst, arith, Contains}
-use Rattle.std.proofs.lemmas.List.{get_or_read}
+use Rattle.std.proofs.lemmas.List.{get_or_default, get_or_read}
 use Rattle.std.proofs.lemmas.List.Elements.{All-contains}
 use Rattle.std.proofs.lemmas.Result.{IfOk-from_err}
 use Rattle.lw_dag.specs.Graphs.{IsStuck, fanins_at}
@@ -10,17 +10,17 @@ use Rattle.lw_dag.proofs.cycles.on_cycle.Goals as goal
 
 pub walk-preserved : goal.walk-preserved
 walk-preserved c =
-    let graph = c.args.graph.now in
+    let graph = c.args.graph.now.nodes.now in
     let at = c.walk.at in
     let next = c.stuck_fanin-at.result in
-    let fanins : c.as_slice.result.now ≡ fanins_at graph at = c.as_slice.ensures ∙ get_or_read graph at c.index-graph-at.result c.walk.invariant.within c.index-graph-at.is [] in
-    let among : Contains (fanins_at graph at) (c.args.inputs + next) = subst (λ ns. Contains ns (c.args.inputs + next)) fanins c.stuck_fanin-at.ensures.among in
-    let within : c.args.inputs + next < c.args.inputs + length graph = All-contains (λ s. s < c.args.inputs + length graph) (fanins_at graph at) (c.args.inputs + next) (c.requires.graph at) among in
+    let fanins : c.as_slice.result.now ≡ fanins_at graph at = c.as_slice.ensures ∙ get_or_default graph at c.index-graph-at.result [] c.walk.invariant.within in
+    let among : Contains (fanins_at graph at) (c.args.graph.now.inputs + next) = subst (λ ns. Contains ns (c.args.graph.now.inputs + next)) fanins c.stuck_fanin-at.ensures.among in
+    let within : c.args.graph.now.inputs + next < c.args.graph.now.inputs + length graph = All-contains (λ s. s < c.args.graph.now.inputs + length graph) (fanins_at graph at) (c.args.graph.now.inputs + next) (c.args.graph.now.small.graph at) among in
     record {
       flags = c.walk.invariant.flags;
       within = omega arith;
       lacks = c.stuck_fanin-at.ensures.lacks;
-      led = walk_step c.args.inputs graph c.walk.seen.items at next (omega (arith, c.walk.invariant.flags)) among c.walk.invariant.led;
+      led = walk_step c.args.graph.now.inputs graph c.walk.seen.items at next (omega (arith, c.walk.invariant.flags)) among c.walk.invariant.led;
     }
 
 pub returns-in_err-seen : goal.returns-in_err-seen
@@ -30,7 +30,7 @@ returns-in_err-seen c =
 
 pub walk-init : goal.walk-init
 walk-init c =
-    let graph = c.args.graph.now in
+    let graph = c.args.graph.now.nodes.now in
     let none = c.in_ok-seen.ensures.items_if_clones_equal (λ y e. e) in
     record {
       flags = omega (arith, c.in_ok-seen.ensures.len);
@@ -41,18 +41,18 @@ walk-init c =
 
 pub stuck_fanin-at-requires-clause-signals : goal.stuck_fanin-at-requires-clause-signals
 stuck_fanin-at-requires-clause-signals c =
-    let graph = c.args.graph.now in
+    let graph = c.args.graph.now.nodes.now in
     let at = c.walk.at in
-    fanins_in_heights c.args.inputs graph c.args.heights.now c.as_slice.result.now at c.requires.graph c.requires.heights.known.one_each (c.as_slice.ensures ∙ get_or_read graph at c.index-graph-at.result c.walk.invariant.within c.index-graph-at.is [])
+    fanins_in_heights c.args.graph.now.inputs graph c.args.heights.now c.as_slice.result.now at c.args.graph.now.small.graph c.requires.heights.known.one_each (c.as_slice.ensures ∙ get_or_default graph at c.index-graph-at.result [] c.walk.invariant.within)
 
 pub stuck_fanin-at-requires-clause-given_ones : goal.stuck_fanin-at-requires-clause-given_ones
 stuck_fanin-at-requires-clause-given_ones c = c.requires.heights.known.given_ones
 
 pub stuck_fanin-at-requires-clause-stuck : goal.stuck_fanin-at-requires-clause-stuck
 stuck_fanin-at-requires-clause-stuck c =
-    let graph = c.args.graph.now in
+    let graph = c.args.graph.now.nodes.now in
     let at = c.walk.at in
-    let fanins : c.as_slice.result.now ≡ fanins_at graph at = c.as_slice.ensures ∙ get_or_read graph at c.index-graph-at.result c.walk.invariant.within c.index-graph-at.is [] in
+    let fanins : c.as_slice.result.now ≡ fanins_at graph at = c.as_slice.ensures ∙ get_or_default graph at c.index-graph-at.result [] c.walk.invariant.within in
     subst (IsStuck c.args.heights.now) (sym fanins) (c.requires.heights.stuck at c.walk.invariant.within c.walk.invariant.lacks)
 
 pub walk-smaller : goal.walk-smaller

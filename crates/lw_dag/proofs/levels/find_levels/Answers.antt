@@ -11,8 +11,8 @@ use Rattle.lw_dag.proofs.levels.find_levels.Goals as goal
 numbers_more : (all : List ℕ) (j : ℕ) → length all ≡ j → ((k : ℕ) → k < j → get_or all k 0 ≡ k) → (k : ℕ) → k < j + 1 → get_or (all ++ j ∷ []) k 0 ≡ k
 numbers_more all j many each = below_more _ _ (λ k lt. get_or_append_left all (j ∷ []) 0 k (omega (arith, many, lt)) ∙ each k lt) (get_or_push all j 0 j many)
 
-pub settle_all-requires-clause-graph : goal.settle_all-requires-clause-graph
-settle_all-requires-clause-graph c = record { graph = c.requires.graph; few = c.requires.few }
+pub invariant_of-small : goal.invariant_of-small
+invariant_of-small c = record { small = record { graph = c.requires.graph; few = c.requires.few } }
 
 pub settle_all-requires-clause-before : goal.settle_all-requires-clause-before
 settle_all-requires-clause-before c =
@@ -22,9 +22,6 @@ settle_all-requires-clause-before c =
       rising = rw (c.in_ok-levels.ensures.heights, c.in_ok-levels.ensures.waiting, c.in_ok-levels.ensures.ready, c.deref.ensures.value) (rising_starts c.args.inputs (length c.args.graph.now) c.args.graph.now all refl each);
       ordered = rw (c.in_ok-levels.ensures.heights, c.in_ok-levels.ensures.order) (ordered_none c.args.inputs c.args.graph.now (replicate c.args.inputs 1 ++ replicate (length c.args.graph.now) 0) (none_at c.args.inputs (length c.args.graph.now)));
     }
-
-pub tell-requires-clause-graph : goal.tell-requires-clause-graph
-tell-requires-clause-graph c = record { graph = c.requires.graph; few = c.requires.few }
 
 pub returns-clause-heights : goal.returns-clause-heights
 returns-clause-heights c =
@@ -82,8 +79,8 @@ settle_all-requires-clause-nodes c =
 pub telling-init : goal.telling-init
 telling-init c = c.in_ok-settle_all.ensures.after
 
-pub tell-requires-clause-before : goal.tell-requires-clause-before
-tell-requires-clause-before c = c.telling.invariant
+pub tell-requires : goal.tell-requires
+tell-requires c = c.telling.invariant
 
 pub telling-smaller : goal.telling-smaller
 telling-smaller c = c.in_ok-tell.ensures.less c.if-branch.true

@@ -1,5 +1,5 @@
 use Rattle.std.proofs.Common.{◌≡◌, ◌<◌, ℕ, [], vec_len, get_or}
-use Rattle.lw_dag.specs.Rising.{IsLevelling, left_in}
+use Rattle.lw_dag.specs.Rising.{IsLevellingIn, left_in}
 use Rattle.lw_dag.proofs.levels.find_levels.Given as goal
 
 abbrev pub invariant-loop-j : goal.invariant-loop-j
@@ -9,7 +9,7 @@ invariant-loop-j l = record {
 }
 
 abbrev pub invariant-telling : goal.invariant-telling
-invariant-telling l = IsLevelling l.inputs l.graph l.levels []
+invariant-telling l = IsLevellingIn l.small l.levels []
 
 abbrev pub decreases-telling : goal.decreases-telling
 decreases-telling l = left_in l.levels

@@ -23,7 +23,7 @@ loop-at-preserved c = record {
 
 pub returns-clause-after : goal.returns-clause-after
 returns-clause-after c =
-    subst (IsLevelling c.args.inputs c.args.graph.now c.loop-at.levels) (drop_all c.loop-at.at c.args.list.now (omega (arith, c.loop-at-test.false))) c.loop-at.invariant.so_far
+    subst (IsLevelling c.args.graph.now.inputs c.args.graph.now.nodes.now c.loop-at.levels) (drop_all c.loop-at.at c.args.list.now (omega (arith, c.loop-at-test.false))) c.loop-at.invariant.so_far
 
 pub returns-clause-less : goal.returns-clause-less
 returns-clause-less c = c.loop-at.invariant.less

@@ -4,6 +4,6 @@ use Rattle.lw_dag.proofs.levels.settle_all.Given as goal
 
 abbrev pub invariant-loop-at : goal.invariant-loop-at
 invariant-loop-at l = record {
-  so_far : IsLevelling l.inputs l.graph l.levels (drop l.at l.list);
+  so_far : IsLevelling l.graph.inputs l.graph.nodes.now l.levels (drop l.at l.list);
   less : left_in l.levels ≤ left_in l.initial.levels;
 }

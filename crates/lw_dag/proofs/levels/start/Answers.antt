@@ -1,4 +1,4 @@
-use Rattle.std.proofs.Common.{◌≡◌, ◌+◌, ◌∙◌, ◌++◌, ◌∷◌, [], ℕ, ap, ap₂, sym, replicate, append_assoc, arith}
+use Rattle.std.proofs.Common.{◌≡◌, ◌+◌, ◌∙◌, ◌++◌, ◌∷◌, [], ℕ, length, ap, ap₂, sym, replicate, append_assoc, arith}
 use Rattle.std.proofs.lemmas.List.{append-nil, replicate_more}
 use Rattle.std.proofs.lemmas.Result.{IfOk-from_err}
 use Rattle.lw_dag.proofs.levels.start.Goals as goal
@@ -29,12 +29,12 @@ ones-preserved c = c.in_ok-push.ensures.items ∙ (ap (λ l. l ++ 1 ∷ []) c.on
 
 pub zeros-init : goal.zeros-init
 zeros-init c =
-    let all : c.ones._made ≡ c.args.inputs = omega (arith, c.ones-test.false, c.ones.auto._made-end) in
-    c.ones.invariant ∙ (ap (λ (n : ℕ). replicate n 1) all ∙ sym (append-nil (replicate c.args.inputs 1)))
+    let all : c.ones._made ≡ c.args.graph.now.inputs = omega (arith, c.ones-test.false, c.ones.auto._made-end) in
+    c.ones.invariant ∙ (ap (λ (n : ℕ). replicate n 1) all ∙ sym (append-nil (replicate c.args.graph.now.inputs 1)))
 
 pub zeros-preserved : goal.zeros-preserved
 zeros-preserved c =
-    let ones = replicate c.args.inputs 1 in
+    let ones = replicate c.args.graph.now.inputs 1 in
     c.in_ok-push-2.ensures.items ∙ (ap (λ l. l ++ 0 ∷ []) c.zeros.invariant ∙ (append_assoc ones (replicate c.zeros._made 0) (0 ∷ []) ∙ ap (λ l. ones ++ l) (replicate_more c.zeros._made 0)))
 
 pub lists-init : goal.lists-init
@@ -45,10 +45,10 @@ lists-preserved c = c.in_ok-push-3.ensures.items ∙ (ap₂ (λ l x. l ++ x ∷ 
 
 pub returns : goal.returns
 returns c =
-    let all : c.zeros._made ≡ c.args.nodes = omega (arith, c.zeros-test.false, c.zeros.auto._made-end) in
-    let both : c.lists._made ≡ c.args.inputs + c.args.nodes = omega (arith, c.lists-test.false, c.lists.auto._made-end) in
+    let all : c.zeros._made ≡ (length c.args.graph.now.nodes.now) = omega (arith, c.zeros-test.false, c.zeros.auto._made-end) in
+    let both : c.lists._made ≡ c.args.graph.now.inputs + (length c.args.graph.now.nodes.now) = omega (arith, c.lists-test.false, c.lists.auto._made-end) in
     record {
-      heights = c.zeros.invariant ∙ ap (λ (n : ℕ). replicate c.args.inputs 1 ++ replicate n 0) all;
+      heights = c.zeros.invariant ∙ ap (λ (n : ℕ). replicate c.args.graph.now.inputs 1 ++ replicate n 0) all;
       order = c.in_ok-with_capacity.ensures.items;
       waiting = c.lists.invariant ∙ ap (λ (n : ℕ). replicate n []) both;
       ready = c.new.ensures.items;

@@ -15,8 +15,8 @@ pub returns-in_default-clause-after : goal.returns-in_default-clause-after
 returns-in_default-clause-after c =
     let l = c.args.levels.now in
     record {
-      rising = subst (λ ready. IsRising c.args.inputs c.args.graph.now l.heights.items l.waiting.items ready []) (c.in_default.ensures.items ∙ append-nil c.pop.new.self.items) c.requires.before.rising;
-      ordered = c.requires.before.ordered;
+      rising = subst (λ ready. IsRising c.args.graph.now.inputs c.args.graph.now.nodes.now l.heights.items l.waiting.items ready []) (c.in_default.ensures.items ∙ append-nil c.pop.new.self.items) c.requires.rising;
+      ordered = c.requires.ordered;
     }
 
 pub returns-in_default-clause-less : goal.returns-in_default-clause-less
@@ -30,17 +30,17 @@ returns-in_default-clause-done c = λ is.
 pub index_mut-requires : goal.index_mut-requires
 index_mut-requires c =
     let l = c.args.levels.now in
-    let n = c.args.inputs + length c.args.graph.now in
-    omega (arith, l.waiting.ok.0, c.requires.before.rising.lists, told_within n l.ready.items c.pop.new.self.items c.in-Some.s c.in-Some.ensures.items c.requires.before.rising.signals)
+    let n = c.args.graph.now.inputs + length c.args.graph.now.nodes.now in
+    omega (arith, l.waiting.ok.0, c.requires.rising.lists, told_within n l.ready.items c.pop.new.self.items c.in-Some.s c.in-Some.ensures.items c.requires.rising.signals)
 
 pub settle_all-requires-clause-nodes : goal.settle_all-requires-clause-nodes
 settle_all-requires-clause-nodes c =
     let l = c.args.levels.now in
     let s = c.in-Some.s in
-    let n = c.args.inputs + length c.args.graph.now in
-    let in_waiting : s < length l.waiting.items = omega (arith, c.requires.before.rising.lists, told_within n l.ready.items c.pop.new.self.items s c.in-Some.ensures.items c.requires.before.rising.signals) in
+    let n = c.args.graph.now.inputs + length c.args.graph.now.nodes.now in
+    let in_waiting : s < length l.waiting.items = omega (arith, c.requires.rising.lists, told_within n l.ready.items c.pop.new.self.items s c.in-Some.ensures.items c.requires.rising.signals) in
     let old = c.as_slice.ensures ∙ (c.replace-nodes.ensures.value ∙ get_or_read l.waiting.items s c.index_mut.result.now in_waiting c.index_mut.ensures.value []) in
-    All-same (λ j. j < length c.args.graph.now) _ _ old (c.requires.before.rising.nodes s)
+    All-same (λ j. j < length c.args.graph.now.nodes.now) _ _ old (c.requires.rising.nodes s)
 
 pub settle_all-requires-clause-before : goal.settle_all-requires-clause-before
 settle_all-requires-clause-before c =
@@ -49,12 +49,12 @@ settle_all-requires-clause-before c =
     let rest = c.pop.new.self.items in
     let popped : l.ready.items ≡ rest ++ s ∷ [] = c.in-Some.ensures.items in
     let among : Contains l.ready.items s = subst (λ r. Contains r s) (sym popped) (Contains-push rest s) in
-    let within : s < c.args.inputs + length c.args.graph.now = All-contains (λ t. t < c.args.inputs + length c.args.graph.now) l.ready.items s c.requires.before.rising.signals among in
-    let in_waiting : s < length l.waiting.items = omega (arith, c.requires.before.rising.lists) in
+    let within : s < c.args.graph.now.inputs + length c.args.graph.now.nodes.now = All-contains (λ t. t < c.args.graph.now.inputs + length c.args.graph.now.nodes.now) l.ready.items s c.requires.rising.signals among in
+    let in_waiting : s < length l.waiting.items = omega (arith, c.requires.rising.lists) in
     let old : c.as_slice.result.now ≡ waiting_at l.waiting.items s = c.as_slice.ensures ∙ (c.replace-nodes.ensures.value ∙ get_or_read l.waiting.items s c.index_mut.result.now in_waiting c.index_mut.ensures.value []) in
     record {
-      rising = rw (c.replace-nodes.ensures.after, c.empty.ensures, old) (rising_told c.args.inputs c.args.graph.now l.heights.items l.waiting.items l.ready.items rest s c.requires.before.rising popped);
-      ordered = c.requires.before.ordered;
+      rising = rw (c.replace-nodes.ensures.after, c.empty.ensures, old) (rising_told c.args.graph.now.inputs c.args.graph.now.nodes.now l.heights.items l.waiting.items l.ready.items rest s c.requires.rising popped);
+      ordered = c.requires.ordered;
     }
 
 pub returns-in_err-settle_all : goal.returns-in_err-settle_all

@@ -4,7 +4,7 @@ use Rattle.lw_dag.specs.Ranking.{IsRanking}
 use Rattle.lw_dag.proofs.ranking.rank_from.Given as goal
 
 abbrev pub invariant-search : goal.invariant-search
-invariant-search l = IsRanking l.inputs l.graph l.rank l.ranks.items l.ready.items []
+invariant-search l = IsRanking l.graph.inputs l.graph.nodes.now l.rank l.ranks.items l.ready.items []
 
 abbrev pub decreases-search : goal.decreases-search
 decreases-search l = 2 * unknown l.ranks.items + vec_len l.ready

@@ -12,10 +12,10 @@ returns-in_err-ranks c = IfOk-from_err _ _ c.from_residual-in_err-ranks.ensures.
 
 pub loop-i-init : goal.loop-i-init
 loop-i-init c =
-    let graph = c.args.graph.now in
+    let graph = c.args.graph.now.nodes.now in
     let none = sym (c.in_ok-ranks.ensures.items_if_clones_equal (λ y e. e)) in
     record {
-      are = subst (AreRanks c.args.inputs graph) none (ranks_none c.args.inputs graph);
+      are = subst (AreRanks c.args.graph.now.inputs graph) none (ranks_none c.args.graph.now.inputs graph);
       low = subst (λ ranks. (x : ℕ) → rank_at ranks x ≤ 0) none (low_none (length graph));
     }
 
@@ -24,7 +24,7 @@ rank_from-requires-clause-within c =
     let order = c.in_ok-order.order in
     let place : ℕ = c.len.result - 1 - c.loop-i.i in
     let within : place < length order.items = omega (arith, order.ok.0, c.len.ensures, c.len-i-end.ensures, c.loop-i-test.true) in
-    subst (λ j. j < length c.args.graph.now) (sym c.index-p.ensures) (c.in_ok-order.ensures place c.index-p.result.now within)
+    subst (λ j. j < length c.args.graph.now.nodes.now) (sym c.index-p.ensures) (c.in_ok-order.ensures place c.index-p.result.now within)
 
 pub rank_from-requires-clause-some : goal.rank_from-requires-clause-some
 rank_from-requires-clause-some c = omega arith

@@ -17,7 +17,7 @@ returns-in_err-with_capacity c = IfOk-from_err _ _ c.from_residual-in_err-with_c
 
 pub loop-j-init : goal.loop-j-init
 loop-j-init c =
-    let n = length c.args.graph.now in
+    let n = length c.args.graph.now.nodes.now in
     record {
       flags = ap length (c.in_ok-vec.ensures.items_if_clones_equal (λ y e. e)) ∙ length-replicate n false;
       way = All-same (λ (stop : Stop). stop.node < n) _ _ c.new.ensures.items (All-nil (λ (stop : Stop). stop.node < n));
@@ -26,13 +26,13 @@ loop-j-init c =
 
 pub walk_from-requires-clause-walk : goal.walk_from-requires-clause-walk
 walk_from-requires-clause-walk c =
-    let rows : length c.args.graph.now ≡ length c.deref.result.now = omega (arith, c.deref.ensures.len, c.in_ok-rows.ensures.len) in
+    let rows : length c.args.graph.now.nodes.now ≡ length c.deref.result.now = omega (arith, c.deref.ensures.len, c.in_ok-rows.ensures.len) in
     subst (λ n. IsWalk n c.loop-j.walk) rows c.loop-j.invariant
 
 pub walk_from-requires-clause-rows : goal.walk_from-requires-clause-rows
 walk_from-requires-clause-rows c =
-    let rows : length c.args.graph.now ≡ length c.deref.result.now = omega (arith, c.deref.ensures.len, c.in_ok-rows.ensures.len) in
-    subst (λ n. AreWithin n c.deref.result.now) rows (subst (AreWithin (length c.args.graph.now)) (sym c.deref.ensures.value) c.in_ok-rows.ensures.within)
+    let rows : length c.args.graph.now.nodes.now ≡ length c.deref.result.now = omega (arith, c.deref.ensures.len, c.in_ok-rows.ensures.len) in
+    subst (λ n. AreWithin n c.deref.result.now) rows (subst (AreWithin (length c.args.graph.now.nodes.now)) (sym c.deref.ensures.value) c.in_ok-rows.ensures.within)
 
 pub walk_from-requires-clause-start : goal.walk_from-requires-clause-start
 walk_from-requires-clause-start c = omega (arith, c.deref.ensures.len, c.in_ok-rows.ensures.len, c.loop-j-test.true)
@@ -42,7 +42,7 @@ returns-in_err-walk_from c = IfOk-from_err _ _ c.from_residual-in_err-walk_from.
 
 pub loop-j-preserved : goal.loop-j-preserved
 loop-j-preserved c =
-    let rows : length c.deref.result.now ≡ length c.args.graph.now = omega (arith, c.deref.ensures.len, c.in_ok-rows.ensures.len) in
+    let rows : length c.deref.result.now ≡ length c.args.graph.now.nodes.now = omega (arith, c.deref.ensures.len, c.in_ok-rows.ensures.len) in
     subst (λ n. IsWalk n c.walk_from.new.walk) rows c.in_ok-walk_from.ensures.walk
 
 pub returns : goal.returns
