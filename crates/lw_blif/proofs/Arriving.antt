@@ -1,6 +1,6 @@
 -- Arrival lines.
 use Rattle.std.proofs.Common.{ℕ, ◌≡◌, ◌+◌, ◌<◌, ◌≤◌, arith, Bool, true, false, not, ◌&&◌, cond, List, [], ◌∷◌, ◌++◌, length, take, drop, Option, Some, None, Result, Ok, Err, refl, ap, sym, ◌∙◌}
-use Rattle.std.specs.Prelude.{slice_get, nat_le}
+use Rattle.std.specs.Prelude.{slice_get, nat_le, ◌==◌}
 use Rattle.std.proofs.lemmas.Bool.Decides.{nat_tests}
 use Rattle.std.specs.List.{list_all}
 use Rattle.lw_fixed.specs.declared.micro.Micro.{Micro}
@@ -14,7 +14,7 @@ use Rattle.lw_blif.specs.LineFaults.{first_broken, other_words, wants_words, nam
 use Rattle.lw_blif.specs.Drafts.{arrival_of, arrivals_for, latch_of, latches_for}
 use Rattle.lw_pool.specs.declared.latch.Latch.{Latch}
 use Rattle.lw_blif.specs.declared.command.Command.TheVariants as asks
-use Rattle.std.proofs.lemmas.Bool.{and_parts}
+use Rattle.std.proofs.lemmas.Bool.{and_parts, eqb-true}
 use Rattle.lw_facts.proofs.Lists.{drop_get}
 use Rattle.lw_blif.specs.Readers.{start_or_kind, start_said_on}
 use Rattle.lw_blif.specs.Keeping.{IsArrivalLine}
@@ -119,6 +119,19 @@ latch-long c words e w = at (length words) (ap (λ d. wants_words d words) (sym 
   where
     at : (n : ℕ) → (nat_le 3 n && nat_le n 6) ≡ true → 3 ≤ n
     at n h = let parts = and_parts (nat_le 3 n) (nat_le n 6) h in omega (arith, three n parts.0)
+
+-- a line of a node, and of a model, that has as many words as it may have
+pub names-long : (c : Command) (words : List (List ℕ)) → c ≡ Names → wants_words c words ≡ true → 2 ≤ length words
+names-long c words e w = at (length words) (ap (λ d. wants_words d words) (sym e) ∙ w)
+  where
+    at : (n : ℕ) → nat_le 2 n ≡ true → 2 ≤ n
+    at n h = grind (arith, nat_tests)
+
+pub model-long : (c : Command) (words : List (List ℕ)) → c ≡ Model → wants_words c words ≡ true → 2 ≤ length words
+model-long c words e w = at (length words) (ap (λ d. wants_words d words) (sym e) ∙ w)
+  where
+    at : (n : ℕ) → (n == 2) ≡ true → 2 ≤ n
+    at n h = omega (arith, eqb-true n 2 h)
 
 pub own-long : (c : Command) (words : List (List ℕ)) → c ≡ Arrival → wants_words c words ≡ true → 1 < length words
 own-long c words e w = omega (arith, own-within c words e w)

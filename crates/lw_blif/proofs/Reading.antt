@@ -235,3 +235,18 @@ names-left Ignored e i s k r a d = absurd (i refl)
 names-left Unsupported e i s k r a d = absurd (s refl)
 names-left Unknown e i s k r a d = absurd (k refl)
 names-left Row e i s k r a d = absurd (r refl)
+
+-- a line of any other command defines no signal
+pub defines-none : (c : Command) (words : List (List ℕ)) → (c ≡ Inputs → ⊥) → (c ≡ Names → ⊥) → (c ≡ Latch → ⊥) → defined_for c words ≡ []
+defines-none Model words i n l = refl
+defines-none Inputs words i n l = absurd (i refl)
+defines-none Outputs words i n l = refl
+defines-none Names words i n l = absurd (n refl)
+defines-none Latch words i n l = absurd (l refl)
+defines-none Arrival words i n l = refl
+defines-none DefaultArrival words i n l = refl
+defines-none End words i n l = refl
+defines-none Ignored words i n l = refl
+defines-none Unsupported words i n l = refl
+defines-none Unknown words i n l = refl
+defines-none Row words i n l = refl

@@ -1,5 +1,5 @@
 -- What the parts keep of lines.
-use Rattle.std.specs.Prelude.{⊤, ℕ, ◌≤◌, length, ◌≡◌, ◌++◌, List, [], ◌∷◌, take, Option, Some, None, option_to_list, if◌then◌else◌}
+use Rattle.std.specs.Prelude.{⊤, ℕ, Bool, true, ◌≤◌, length, ◌≡◌, ◌++◌, List, [], ◌∷◌, take, Option, Some, None, option_to_list, if◌then◌else◌}
 use Rattle.std.specs.Str.{bytes_eq}
 use Rattle.indexmap.specs.IndexSet.{insert_all}
 use Rattle.lw_blif.specs.declared.command.Command.{Command}
@@ -16,7 +16,7 @@ use Rattle.lw_frame.specs.Standing.{StandsFor}
 use Rattle.lw_words.specs.Lines.{LogicalLine}
 use Rattle.lw_net.specs.declared.draft.DraftNode.{DraftNode}
 use Rattle.lw_blif.specs.declared.parts.Parts.{Parts}
-use Rattle.lw_blif.specs.Readers.{Kept, KeptAround, row_added, node_begun, are_fresh, names_fault_of, fault_else}
+use Rattle.lw_blif.specs.Readers.{Kept, KeptAround, row_added, node_begun, are_fresh, names_fault_of, row_fault_of, fault_else}
 use Rattle.lw_pool.specs.Numbers.{most_signals}
 
 pub record Keeps (parts : Parts) (lines : List LogicalLine) : Type 0 where
@@ -55,6 +55,16 @@ pub record Defines (old : Parts) (names : List (List ℕ)) (new : Parts) : Type 
   pub latches : new.latches ≡ old.latches
   pub arrivals : new.arrivals ≡ old.arrivals
   pub node : new.node ≡ old.node
+
+-- A row is read, or the first rule that it breaks is told.
+pub record ReadsRow (old : Parts) (words : List (List ℕ)) (new : Parts) (told : Option BlifKind) : Type 0 where
+  pub fault : told ≡ row_fault_of old.node words
+  pub row : told ≡ None → AddsRow old words new
+
+-- These signals are defined up to the first that was known before, and it is told whether all of them are new.
+pub record DefinesNew (old : Parts) (names : List (List ℕ)) (new : Parts) (all_new : Bool) : Type 0 where
+  pub fresh : all_new ≡ are_fresh old.defined.keys names
+  pub defined : all_new ≡ true → Defines old names new
 
 -- the node whose rows might follow is whole
 pub record EndsNode (old new : Parts) : Type 0 where
@@ -105,6 +115,11 @@ pub record ReadsNames (old : Parts) (c : Command) (words : List (List ℕ)) (new
 abbrev pub names_fault : Parts → Command → List (List ℕ) → Option BlifKind
 names_fault parts c words = fault_else (names_fault_of (length parts.defined.keys) c words) (if are_fresh parts.defined.keys (defined_for c words) then None else Some kind.Redefined)
 
+-- A line of names is read, or the first rule that it breaks is told.
+pub record ReadsNamesLine (old : Parts) (c : Command) (words : List (List ℕ)) (new : Parts) (told : Option BlifKind) : Type 0 where
+  pub fault : told ≡ names_fault old c words
+  pub names : told ≡ None → ReadsNames old c words new
+
 -- a command for a line of names
 abbrev pub IsNamesLine : Command → Type 0
 IsNamesLine Model = ⊤
@@ -145,3 +160,8 @@ pub record IsSaidBy (lines : List LogicalLine) (said : Said) : Type 0 where
 pub record SaidFits (said : Said) : Type 0 where
   pub frame : Fits said.frame said.draft.inputs said.draft.outputs
   pub starts : StartsFit said.frame (length said.draft.inputs) said.starts
+
+-- Whatever lines the parts keep, this is what they say, and it fits.
+pub record IsSaidOf (parts : Parts) (made : Said) : Type 0 where
+  pub said : (lines : List LogicalLine) → Keeps parts lines → IsSaidBy lines made
+  pub fits : SaidFits made

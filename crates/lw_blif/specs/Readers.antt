@@ -44,6 +44,11 @@ abbrev pub are_fresh : List (List ℕ) → List (List ℕ) → Bool
 are_fresh defined [] = true
 are_fresh defined (name ∷ names) = not (is_among defined name) && are_fresh (defined ++ name ∷ []) names
 
+-- Names are defined up to the first that was known before, and it is told whether all of them are new.
+pub record AreDefined (old names new : List (List ℕ)) (all_new : Bool) : Type 0 where
+  pub fresh : all_new ≡ are_fresh old names
+  pub defined : all_new ≡ true → new ≡ old ++ names
+
 -- The first rule that a line of names breaks, behind lines that define so many signals, that on definitions aside.
 unfoldable pub names_fault_of : ℕ → Command → List (List ℕ) → Option BlifKind
 names_fault_of count c words =

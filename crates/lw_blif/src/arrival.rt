@@ -42,8 +42,7 @@ fn start_in(words: &Words, from: usize) -> Result<Micro, DecimalFault>
 
 /// The start that an arrival line says, or the first rule that it breaks.
 pub fn start_on(command: Command, words: &Words) -> Result<Micro, BlifKind>
-    requires arrival { IsArrivalLine command }
-    requires some { 0 < length words.now }
+    requires { IsArrivalLine command }
     ensures start { result ≡ start_said_on command words.now }
     ensures wanted { IfOk result (λ start. wants_words command words.now ≡ true) }
     ensures said { IfOk result (λ start. start_in (times_for command words.now) ≡ Ok start) }

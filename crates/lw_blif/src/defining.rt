@@ -1,12 +1,13 @@
 // Signals that a line defines, and the node that it begins.
-ghost use Rattle.std.specs.Prelude.{◌≡◌, ◌-◌, ◌≤◌, ◌<◌, ◌++◌, [], ◌∷◌, true, false, length, take, drop, option_to_list, Some, IfOk, OnOk};
+ghost use Rattle.std.specs.Prelude.{◌≡◌, ◌<◌, ◌++◌, [], ◌∷◌, length, take, drop, option_to_list, Some, IfOk, OnOk};
 ghost use Rattle.std.specs.List.{slice_range};
 ghost use Rattle.indexmap.specs.IndexSet.{insert_all};
 ghost use Rattle.std.specs.Str.{bytes_eq};
-ghost use Rattle.lw_blif.specs.Readers.{are_fresh, node_begun};
+ghost use Rattle.lw_blif.specs.Readers.{AreDefined, node_begun};
 ghost use Rattle.lw_blif.specs.LineFaults.{last_word};
 ghost use Rattle.lw_blif.specs.Drafts.{latch_of};
 
+use crate::lengths::{LatchLine, LongLine};
 use crate::naming::{last_word, names_between};
 use indexmap::IndexSet;
 use lw_net::{Cubes, DraftNode};
@@ -22,10 +23,7 @@ pub fn define_all(
     words: &Words,
     from: usize,
 ) -> Result<bool, AllocError>
-    requires { from ≤ length words.now }
-    ensures fresh { IfOk result (λ b. b ≡ are_fresh defined.old.keys (drop from words.now)) }
-    ensures defined { IfOk result (λ b. b ≡ true →
-        defined.new.keys ≡ defined.old.keys ++ drop from words.now) }
+    ensures { IfOk result (AreDefined defined.old.keys (drop from words.now) defined.new.keys) }
 {
     for i in from..words.len() {
         let name = Name::from_slice(alloc, words.get(i))?;
@@ -43,9 +41,7 @@ pub fn define_one(
     word: &[u8],
 ) -> Result<bool, AllocError>
     requires { 0 < length word.now }
-    ensures fresh { IfOk result (λ b. b ≡ are_fresh defined.old.keys (word.now ∷ [])) }
-    ensures defined { IfOk result (λ b. b ≡ true →
-        defined.new.keys ≡ defined.old.keys ++ word.now ∷ []) }
+    ensures { IfOk result (AreDefined defined.old.keys (word.now ∷ []) defined.new.keys) }
 {
     let name = Name::from_slice(alloc, word)?;
     let is_new = defined.insert(name)?;
@@ -59,7 +55,6 @@ pub fn append_all(
     words: &Words,
     from: usize,
 ) -> Result<(), AllocError>
-    requires { from ≤ length words.now }
     ensures { OnOk result (names.new ≡ names.old ++ drop from words.now) }
 {
     for i in from..words.len() {
@@ -72,14 +67,14 @@ pub fn append_all(
 pub fn name_or_second(
     alloc: Global,
     name: Option<Name>,
-    words: &Words,
+    line: &LongLine,
 ) -> Result<Option<Name>, AllocError>
-    requires { 2 ≤ length words.now }
-    ensures { IfOk result (λ n. option_to_list n ≡ take 1 (option_to_list name ++ drop 1 words.now)) }
+    ensures { IfOk result (λ n. option_to_list n
+        ≡ take 1 (option_to_list name ++ drop 1 line.now.words.now)) }
 {
     match name {
         Some(name) => Ok(Some(name)),
-        None => Ok(Some(Name::from_slice(alloc, words.get(1))?)),
+        None => Ok(Some(Name::from_slice(alloc, line.words.get(1))?)),
     }
 }
 
@@ -90,7 +85,6 @@ pub fn add_all(
     words: &Words,
     from: usize,
 ) -> Result<(), AllocError>
-    requires { from ≤ length words.now }
     ensures { OnOk result (names.new.keys
         ≡ insert_all bytes_eq names.old.keys (drop from words.now)) }
 {
@@ -101,11 +95,11 @@ pub fn add_all(
     Ok(())
 }
 
-// The node of a line with two words or more, before its rows.
-fn new_node(alloc: Global, words: &Words) -> Result<DraftNode, AllocError>
-    requires { 2 ≤ length words.now }
-    ensures { IfOk result (λ node. node ≡ node_begun words.now) }
+// The node of a line, before its rows.
+fn new_node(alloc: Global, line: &LongLine) -> Result<DraftNode, AllocError>
+    ensures { IfOk result (λ node. node ≡ node_begun line.now.words.now) }
 {
+    let words = line.words;
     let out = Name::from_slice(alloc, last_word(words))?;
     let fanins = names_between(alloc, words, 1, words.len() - 1)?;
     Ok(DraftNode {
@@ -117,10 +111,10 @@ fn new_node(alloc: Global, words: &Words) -> Result<DraftNode, AllocError>
 }
 
 // The latch of a line.
-fn new_latch(alloc: Global, words: &Words) -> Result<Latch, AllocError>
-    requires { 3 ≤ length words.now }
-    ensures { IfOk result (λ latch. latch_of (drop 1 words.now) ≡ latch ∷ []) }
+fn new_latch(alloc: Global, line: &LatchLine) -> Result<Latch, AllocError>
+    ensures { IfOk result (λ latch. latch_of (drop 1 line.now.words.now) ≡ latch ∷ []) }
 {
+    let words = line.words;
     let input = Name::from_slice(alloc, words.get(1))?;
     let output = Name::from_slice(alloc, words.get(2))?;
     let rest = names_between(alloc, words, 3, words.len())?;
@@ -131,25 +125,23 @@ fn new_latch(alloc: Global, words: &Words) -> Result<Latch, AllocError>
     })
 }
 
-/// Puts the node of a line with two words or more in the place of one before.
+/// Puts the node of a line in the place of one before.
 pub fn begin_node(
     alloc: Global,
     node: &mut Option<DraftNode>,
-    words: &Words,
+    line: &LongLine,
 ) -> Result<(), AllocError>
-    requires { 2 ≤ length words.now }
-    ensures { OnOk result (node.new ≡ Some (node_begun words.now)) }
+    ensures { OnOk result (node.new ≡ Some (node_begun line.now.words.now)) }
 {
-    let begun = new_node(alloc, words)?;
+    let begun = new_node(alloc, line)?;
     drop(node.replace(begun));
     Ok(())
 }
 
 /// Adds the latch of a line.
-pub fn add_latch(alloc: Global, latches: &mut Latches, words: &Words) -> Result<(), AllocError>
-    requires { 3 ≤ length words.now }
-    ensures { OnOk result (latches.new ≡ latches.old ++ latch_of (drop 1 words.now)) }
+pub fn add_latch(alloc: Global, latches: &mut Latches, line: &LatchLine) -> Result<(), AllocError>
+    ensures { OnOk result (latches.new ≡ latches.old ++ latch_of (drop 1 line.now.words.now)) }
 {
-    latches.push(new_latch(alloc, words)?)?;
+    latches.push(new_latch(alloc, line)?)?;
     Ok(())
 }

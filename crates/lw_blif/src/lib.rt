@@ -8,6 +8,7 @@ mod defining;
 mod drafting;
 mod fault;
 mod laws;
+mod lengths;
 mod naming;
 mod parsed;
 mod parts;

@@ -5,7 +5,7 @@ ghost use Rattle.lw_blif.specs.LineFaults.{last_word};
 ghost use Rattle.lw_words.specs.Words.{first_word, is_name};
 
 use lw_pool::{Name, Names};
-use lw_words::Words;
+use lw_words::{Line, Words};
 use std::alloc::{AllocError, Global};
 
 const NAME_MAX: usize = 2000;
@@ -19,7 +19,6 @@ pub fn is_name(word: &[u8]) -> bool
 
 /// Whether all words from a place on are names.
 pub fn are_names(words: &Words, from: usize) -> bool
-    requires { from ≤ length words.now }
     ensures { result ≡ list_all is_name (drop from words.now) }
 {
     for i in from..words.len() {
@@ -57,10 +56,9 @@ pub fn last_word(words: &Words) -> &[u8]
     words.get(words.len() - 1)
 }
 
-/// The first word.
-pub fn first_word(words: &Words) -> &[u8]
-    requires { 0 < length words.now }
-    ensures { result.now ≡ first_word words.now }
+/// The first word of a line.
+pub fn first_word(line: &Line) -> &[u8]
+    ensures { result.now ≡ first_word line.now.words }
 {
-    words.get(0)
+    line.words.get(0)
 }

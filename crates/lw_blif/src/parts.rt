@@ -1,5 +1,5 @@
 // What lines say, as far as they were read.
-ghost use Rattle.std.specs.Prelude.{◌≡◌, ◌≢◌, ◌+◌, ◌<◌, ◌≤◌, ◌++◌, [], ◌∷◌, List, None, length, true, false, IfOk, OnOk, option_to_list};
+ghost use Rattle.std.specs.Prelude.{◌≡◌, ◌≢◌, ◌++◌, [], ◌∷◌, List, None, IfOk, OnOk, option_to_list};
 
 use crate::adding::add_row;
 use crate::arrival::{add_start, start_on};
@@ -7,6 +7,7 @@ use crate::defining::{
     add_all, add_latch, append_all, begin_node, define_all, define_one, name_or_second,
 };
 use crate::drafting::{Said, add_and_count, names_around, starts_of, with_last};
+use crate::lengths::{LatchLine, LongLine, NamesLine};
 use crate::naming::last_word;
 use crate::rows::row_fault;
 use crate::rules::names_fault;
@@ -42,9 +43,8 @@ impl Parts {
     ghost use Rattle.std.specs.Prelude.{unwrap_or, codes};
     ghost use Rattle.lw_frame.specs.Frames.{input_names};
     ghost use Rattle.lw_net.specs.Plain.{HasRisingDepths};
-    ghost use Rattle.lw_blif.specs.Keeping.{Keeps, IsSaidBy, SaidFits, IsArrivalLine, ReadsArrival, arrival_fault, IsOfSome, AddsRow, Defines, EndsNode, TakesNames, TakesModel, ReadsNames, names_fault};
-    ghost use Rattle.lw_blif.specs.Readers.{row_fault_of, are_fresh};
-    ghost use Rattle.lw_blif.specs.LineFaults.{command, defined_for, line_fault, wants_words};
+    ghost use Rattle.lw_blif.specs.Keeping.{Keeps, IsSaidOf, IsArrivalLine, ReadsArrival, arrival_fault, IsOfSome, ReadsRow, DefinesNew, EndsNode, TakesNames, TakesModel, ReadsNamesLine};
+    ghost use Rattle.lw_blif.specs.LineFaults.{command, defined_for, line_fault};
 
     pub fn new(alloc: Global) -> Self
         ensures { Keeps result [] }
@@ -64,9 +64,7 @@ impl Parts {
 
     /// What the lines that were read say.
     pub fn into_said(self) -> Result<Said, AllocError>
-        ensures said { (lines : List LogicalLine) → Keeps self lines →
-            IfOk result (IsSaidBy lines) }
-        ensures fits { IfOk result SaidFits }
+        ensures { IfOk result (IsSaidOf self) }
     {
         let mut parts = self;
         let said = parts.say();
@@ -76,9 +74,7 @@ impl Parts {
 
     // What the lines that were read say. Behind this the parts are of no use.
     fn say(&mut self) -> Result<Said, AllocError>
-        ensures said { (lines : List LogicalLine) → Keeps self.old lines →
-            IfOk result (IsSaidBy lines) }
-        ensures fits { IfOk result SaidFits }
+        ensures { IfOk result (IsSaidOf self.old) }
     {
         let alloc = self.alloc;
         let counts = add_and_count(alloc, &self.inputs, &mut self.outputs, &self.latches)?;
@@ -167,9 +163,7 @@ impl Parts {
 
     // A row, or the first rule that it breaks.
     fn read_row(&mut self, words: &Words) -> Result<Option<BlifKind>, AllocError>
-        requires { 0 < length words.now }
-        ensures fault { IfOk result (λ fault. fault ≡ row_fault_of self.old.node words.now) }
-        ensures row { IfOk result (λ fault. fault ≡ None → AddsRow self.old words.now self.new) }
+        ensures { IfOk result (ReadsRow self.old words.now self.new) }
     {
         if let Some(kind) = row_fault(&self.node, words) {
             return Ok(Some(kind));
@@ -186,8 +180,7 @@ impl Parts {
         command: Command,
         words: &Words,
     ) -> Result<Option<BlifKind>, AllocError>
-        requires arrival { IsArrivalLine command }
-        requires some { 0 < length words.now }
+        requires { IsArrivalLine command }
         ensures fault { IfOk result (λ fault. fault ≡ arrival_fault command words.now) }
         ensures arrival { IfOk result (λ fault. fault ≡ None →
             ReadsArrival self.old command words.now self.new) }
@@ -213,15 +206,12 @@ impl Parts {
     }
 
     // Defines the signals of a line, up to the first that is defined already. Whether all were new.
-    fn define(&mut self, command: Command, words: &Words) -> Result<bool, AllocError>
-        requires some { 0 < length words.now }
-        requires wanted { wants_words command words.now ≡ true }
-        ensures fresh { IfOk result (λ b. b
-            ≡ are_fresh self.old.defined.keys (defined_for command words.now)) }
-        ensures defined { IfOk result (λ b. b ≡ true →
-            Defines self.old (defined_for command words.now) self.new) }
+    fn define(&mut self, line: &NamesLine) -> Result<bool, AllocError>
+        ensures { IfOk result
+            (DefinesNew self.old (defined_for line.now.command line.now.words.now) self.new) }
     {
-        match command {
+        let words = line.words;
+        match line.command {
             Command::Inputs => define_all(self.alloc, &mut self.defined, words, 1),
             Command::Names => define_one(self.alloc, &mut self.defined, last_word(words)),
             Command::Latch => define_one(self.alloc, &mut self.defined, words.get(2)),
@@ -235,45 +225,50 @@ impl Parts {
         command: Command,
         words: &Words,
     ) -> Result<Option<BlifKind>, AllocError>
-        requires { 0 < length words.now }
-        ensures fault { IfOk result (λ fault. fault ≡ names_fault self.old command words.now) }
-        ensures names { IfOk result (λ fault. fault ≡ None →
-            ReadsNames self.old command words.now self.new) }
+        ensures { IfOk result (ReadsNamesLine self.old command words.now self.new) }
     {
         if let Some(kind) = names_fault(self.defined.len(), command, words) {
             return Ok(Some(kind));
         }
-        if !self.define(command, words)? {
+        let line = NamesLine { command, words };
+        if !self.define(&line)? {
             return Ok(Some(BlifKind::Redefined));
         }
-        self.take_names(command, words)?;
+        self.take_names(&line)?;
         Ok(None)
     }
 
     // Takes the names of a line that breaks no rule, its definitions aside.
-    fn take_names(&mut self, command: Command, words: &Words) -> Result<(), AllocError>
-        requires some { 0 < length words.now }
-        requires wanted { wants_words command words.now ≡ true }
-        ensures { OnOk result (TakesNames self.old command words.now self.new) }
+    fn take_names(&mut self, line: &NamesLine) -> Result<(), AllocError>
+        ensures { OnOk result (TakesNames self.old line.now.command line.now.words.now self.new) }
     {
         self.end_node()?;
-        match command {
+        let words = line.words;
+        match line.command {
             Command::Inputs => append_all(self.alloc, &mut self.inputs, words, 1),
             Command::Outputs => add_all(self.alloc, &mut self.outputs, words, 1),
-            Command::Names => begin_node(self.alloc, &mut self.node, words),
-            Command::Latch => add_latch(self.alloc, &mut self.latches, words),
-            Command::Model => self.take_model(words),
+            Command::Names => {
+                let node = LongLine { words };
+                begin_node(self.alloc, &mut self.node, &node)
+            }
+            Command::Latch => {
+                let latch = LatchLine { words };
+                add_latch(self.alloc, &mut self.latches, &latch)
+            }
+            Command::Model => {
+                let model = LongLine { words };
+                self.take_model(&model)
+            }
             _ => Ok(()),
         }
     }
 
     // Takes the name of the first model.
-    fn take_model(&mut self, words: &Words) -> Result<(), AllocError>
-        requires { 2 ≤ length words.now }
-        ensures { OnOk result (TakesModel self.old words.now self.new) }
+    fn take_model(&mut self, line: &LongLine) -> Result<(), AllocError>
+        ensures { OnOk result (TakesModel self.old line.now.words.now self.new) }
     {
         let model = self.model.take();
-        self.model = name_or_second(self.alloc, model, words)?;
+        self.model = name_or_second(self.alloc, model, line)?;
         Ok(())
     }
 }

@@ -92,7 +92,7 @@ impl Reader {
         }
         let first = !self.begun;
         self.begun = true;
-        let asked = command_of(first_word(&line.words));
+        let asked = command_of(first_word(line));
         if asked.ends(first) {
             self.ended = true;
             return Ok(());

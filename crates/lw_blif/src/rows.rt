@@ -1,7 +1,8 @@
 // Rows of a node.
-ghost use Rattle.std.specs.Prelude.{◌≡◌, ◌<◌, ◌==◌, ◌&&◌, nat_lt, length};
-ghost use Rattle.lw_blif.specs.LineFaults.{is_column, is_value, has_shape, last_word};
-ghost use Rattle.lw_blif.specs.Readers.{row_fault_of, is_value_of};
+ghost use Rattle.std.specs.Prelude.{◌≡◌, ◌==◌, ◌&&◌, nat_lt, length};
+ghost use Rattle.lw_blif.specs.LineFaults.{is_column, is_value, has_shape};
+ghost use Rattle.lw_blif.specs.Readers.{row_fault_of, value_word};
+ghost use Rattle.std.specs.Str.{bytes_eq};
 ghost use Rattle.std.specs.List.{list_all};
 
 use crate::BlifKind;
@@ -41,20 +42,17 @@ fn has_columns(fanins: usize, word: &[u8]) -> bool
     fanins > 0 && word.len() == fanins && are_columns(word)
 }
 
-// Whether the last word is `1`, or `0`.
-#[tactic(auto, unfolding(crate::specs::Readers::is_value_of))]
-fn is_value_of(on: bool, words: &Words) -> bool
-    requires { 0 < length words.now }
-    ensures { result ≡ is_value_of on words.now }
+// Whether the word is `1`, or `0`.
+fn is_value_of(on: bool, word: &[u8]) -> bool
+    ensures { result ≡ bytes_eq (value_word on) word.now }
 {
     let value = if on { b"1".as_slice() } else { b"0".as_slice() };
-    value == last_word(words)
+    value == word
 }
 
 /// The first rule that a row breaks, behind a node with its rows or none.
-#[tactic(auto, unfolding(crate::specs::Readers::row_fault_of))]
+#[tactic(auto, unfolding(crate::specs::Readers::row_fault_of, crate::specs::Readers::is_value_of))]
 pub fn row_fault(node: &Option<DraftNode>, words: &Words) -> Option<BlifKind>
-    requires { 0 < length words.now }
     ensures { result ≡ row_fault_of node.now words.now }
 {
     let Some(node) = node else {
@@ -63,7 +61,7 @@ pub fn row_fault(node: &Option<DraftNode>, words: &Words) -> Option<BlifKind>
     if !has_shape(node.fanins.len(), words) {
         return Some(BlifKind::RowShape);
     }
-    if !node.rows.is_empty() && !is_value_of(node.on, words) {
+    if !node.rows.is_empty() && !is_value_of(node.on, last_word(words)) {
         return Some(BlifKind::RowMix);
     }
     if node.rows.len() >= ROWS_MAX {

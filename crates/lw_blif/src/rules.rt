@@ -1,5 +1,5 @@
 // The rules for lines of names.
-ghost use Rattle.std.specs.Prelude.{◌≡◌, ◌+◌, ◌<◌, ◌≤◌, ◌&&◌, nat_lt, length};
+ghost use Rattle.std.specs.Prelude.{◌≡◌, ◌&&◌, nat_lt, length};
 ghost use Rattle.std.specs.List.{list_all};
 ghost use Rattle.lw_blif.specs.LineFaults.{wants_words, names_for, defined_for, is_names_command, words_before_last, other_words};
 ghost use Rattle.lw_blif.specs.Readers.{names_fault_of};
@@ -30,7 +30,6 @@ pub fn wants_words(command: Command, words: &Words) -> bool
 
 /// Whether the words in places of names are names.
 pub fn has_names(command: Command, words: &Words) -> bool
-    requires { 0 < length words.now }
     ensures { result ≡ list_all is_name (names_for command words.now) }
 {
     match command {
@@ -54,11 +53,10 @@ fn has_many_fanins(command: Command, words: &Words) -> bool
 
 // How many signals a line defines.
 fn defined_count(command: Command, words: &Words) -> usize
-    requires { 0 < length words.now }
     ensures { result ≡ length (defined_for command words.now) }
 {
     match command {
-        Command::Inputs => words.len() - 1,
+        Command::Inputs => words.len().saturating_sub(1),
         Command::Names => 1,
         Command::Latch if words.len() > 2 => 1,
         _ => 0,
@@ -69,7 +67,6 @@ fn defined_count(command: Command, words: &Words) -> usize
 /// definitions aside.
 #[tactic(auto, unfolding(crate::specs::Readers::names_fault_of))]
 pub fn names_fault(defined: usize, command: Command, words: &Words) -> Option<BlifKind>
-    requires { 0 < length words.now }
     ensures { result ≡ names_fault_of defined command words.now }
 {
     if !wants_words(command, words) {

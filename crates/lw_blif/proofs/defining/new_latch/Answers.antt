@@ -7,7 +7,7 @@ use Rattle.lw_blif.proofs.defining.new_latch.Goals as goal
 
 pub returns : goal.returns
 returns c =
-    let words = c.args.words.now in
+    let words = c.args.line.now.words.now in
     latch-words words c.in_ok-rest.rest c.in_ok-input.input c.in_ok-output.output
     (c.get.ensures.word ∙ ap (λ w. Some w) (sym c.in_ok-input.ensures))
     (c.get-2.ensures.word ∙ ap (λ w. Some w) (sym c.in_ok-output.ensures))

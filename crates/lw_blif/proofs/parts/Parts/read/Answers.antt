@@ -1,6 +1,5 @@
 use Rattle.std.proofs.Common.{List, ℕ, ap, sym, ◌∙◌, subst}
 use Rattle.std.proofs.lemmas.Result.{IfOk-weaker}
-use Rattle.lw_facts.proofs.Results.{ok_both}
 use Rattle.lw_words.specs.Lines.{LogicalLine}
 use Rattle.lw_blif.specs.Readers.{row_fault_of}
 use Rattle.lw_blif.specs.declared.command.Command.TheVariants as asks
@@ -18,17 +17,18 @@ returns-in-Row-clause-fault c = λ lines k.
     let words = ap (λ (l : LogicalLine). l.words) c.line.view_is in
     let short = sym (ap (λ (l : LogicalLine). l.long) c.line.view_is) ∙ c.if-line.false in
     IfOk-weaker c.read_row.result _ _
-    (λ fault is. row-fault c.args.self.now lines c.args.line.now fault (sym c.in-Row.is ∙ c.requires.asked) short (is ∙ ap (row_fault_of c.args.self.now.node) words) k)
-    c.read_row.ensures.fault
+    (λ fault is. row-fault c.args.self.now lines c.args.line.now fault (sym c.in-Row.is ∙ c.requires.asked) short (is.fault ∙ ap (row_fault_of c.args.self.now.node) words) k)
+    c.read_row.ensures
 
 pub returns-in-Row-clause-keeps : goal.returns-in-Row-clause-keeps
 returns-in-Row-clause-keeps c = λ lines k.
     let words = ap (λ (l : LogicalLine). l.words) c.line.view_is in
-    ok_both c.read_row.result c.read_row.ensures.fault c.read_row.ensures.row
-    (λ fault is row none.
+    IfOk-weaker c.read_row.result _ _
+    (λ fault is none.
     row-keeps c.args.self.now c.read_row.new.self lines c.args.line.now (sym c.in-Row.is ∙ c.requires.asked)
-    (sym none ∙ (is ∙ ap (row_fault_of c.args.self.now.node) words))
-    (subst (λ (ws : List (List ℕ)). AddsRow c.args.self.now ws c.read_row.new.self) words (row none)) k)
+    (sym none ∙ (is.fault ∙ ap (row_fault_of c.args.self.now.node) words))
+    (subst (λ (ws : List (List ℕ)). AddsRow c.args.self.now ws c.read_row.new.self) words (is.row none)) k)
+    c.read_row.ensures
 
 pub returns-in-Unknown-clause-fault : goal.returns-in-Unknown-clause-fault
 returns-in-Unknown-clause-fault c = λ lines k.
@@ -52,8 +52,8 @@ returns-in_default-clause-fault c = λ lines k.
     let short = sym (ap (λ (l : LogicalLine). l.long) c.line.view_is) ∙ c.if-line.false in
     let names = names-left c.args.asked c.in_default.not-End c.in_default.not-Ignored c.in_default.not-Unsupported c.in_default.not-Unknown c.in_default.not-Row c.in_default.not-Arrival c.in_default.not-DefaultArrival in
     IfOk-weaker c.read_names.result _ _
-    (λ fault is. names-fault c.args.self.now lines c.args.line.now c.args.asked fault names c.requires.asked short (is ∙ ap (names_fault c.args.self.now c.args.asked) words) k)
-    c.read_names.ensures.fault
+    (λ fault is. names-fault c.args.self.now lines c.args.line.now c.args.asked fault names c.requires.asked short (is.fault ∙ ap (names_fault c.args.self.now c.args.asked) words) k)
+    c.read_names.ensures
 
 pub returns-in_default-clause-keeps : goal.returns-in_default-clause-keeps
 returns-in_default-clause-keeps c = λ lines k.
@@ -62,8 +62,8 @@ returns-in_default-clause-keeps c = λ lines k.
     IfOk-weaker c.read_names.result _ _
     (λ fault reads none.
     names-keeps c.args.self.now c.read_names.new.self lines c.args.line.now c.args.asked names c.requires.asked
-    (subst (λ (ws : List (List ℕ)). ReadsNames c.args.self.now c.args.asked ws c.read_names.new.self) words (reads none)) k)
-    c.read_names.ensures.names
+    (subst (λ (ws : List (List ℕ)). ReadsNames c.args.self.now c.args.asked ws c.read_names.new.self) words (reads.names none)) k)
+    c.read_names.ensures
 
 pub returns-in-Arrival-clause-fault : goal.returns-in-Arrival-clause-fault
 returns-in-Arrival-clause-fault c = λ lines k.

@@ -6,23 +6,8 @@ use Rattle.lw_blif.proofs.Keeping.{kept-draft}
 use Rattle.lw_blif.proofs.Closing.{frame-again, starts-again, said-frame, said-starts}
 use Rattle.lw_blif.proofs.parts.Parts.say.Goals as goal
 
-pub returns-clause-said : goal.returns-clause-said
-returns-clause-said c = λ lines k.
-    let parts = c.args.self.now in
-    let counts = c.in_ok-counts.ensures in
-    let draft = c.in_ok-draft.ensures in
-    let frame : Frame = record { inputs = c.in_ok-counts.counts.inputs; outputs = c.in_ok-counts.counts.outputs; latches = c.replace-latches.result } in
-    let latches = c.replace-latches.ensures.value ∙ draft.latches in
-    record {
-      draft =
-          kept-draft parts.model parts.inputs parts.outputs.keys parts.defined.keys parts.nodes parts.node parts.latches parts.arrivals lines c.in_ok-draft.draft
-          draft.model draft.inputs (draft.outputs ∙ counts.roots) draft.nodes k.names k.around;
-      frame = frame-again frame parts.inputs parts.outputs.keys parts.latches lines k.names.inputs_are k.names.outputs_are k.around.latches_are counts.inputs counts.outputs latches;
-      starts = starts-again c.in_ok-starts.starts parts.inputs parts.latches lines k.names.inputs_are k.around.latches_are (c.in_ok-starts.ensures.starts (flat_map arrivals_on lines) k.around.arrivals_are);
-    }
-
-pub returns-clause-fits : goal.returns-clause-fits
-returns-clause-fits c =
+pub returns : goal.returns
+returns c =
     let parts = c.args.self.now in
     let counts = c.in_ok-counts.ensures in
     let starts = c.in_ok-starts.ensures in
@@ -30,8 +15,19 @@ returns-clause-fits c =
     let frame : Frame = record { inputs = c.in_ok-counts.counts.inputs; outputs = c.in_ok-counts.counts.outputs; latches = c.replace-latches.result } in
     let latches = c.replace-latches.ensures.value ∙ draft.latches in
     record {
-      frame =
-          said-frame frame parts.inputs parts.outputs.keys c.in_ok-draft.draft.inputs c.in_ok-draft.draft.outputs parts.latches counts.differ counts.inputs counts.outputs latches
-          draft.inputs (draft.outputs ∙ counts.roots);
-      starts = said-starts frame parts.inputs parts.outputs.keys c.in_ok-draft.draft.inputs parts.latches c.in_ok-starts.starts counts.differ counts.inputs counts.outputs latches draft.inputs starts.count starts.latches starts.early;
+      said = λ lines k.
+          record {
+            draft =
+                kept-draft parts.model parts.inputs parts.outputs.keys parts.defined.keys parts.nodes parts.node parts.latches parts.arrivals lines c.in_ok-draft.draft
+                draft.model draft.inputs (draft.outputs ∙ counts.roots) draft.nodes k.names k.around;
+            frame = frame-again frame parts.inputs parts.outputs.keys parts.latches lines k.names.inputs_are k.names.outputs_are k.around.latches_are counts.inputs counts.outputs latches;
+            starts = starts-again c.in_ok-starts.starts parts.inputs parts.latches lines k.names.inputs_are k.around.latches_are (c.in_ok-starts.ensures.starts (flat_map arrivals_on lines) k.around.arrivals_are);
+          };
+      fits =
+          record {
+            frame =
+                said-frame frame parts.inputs parts.outputs.keys c.in_ok-draft.draft.inputs c.in_ok-draft.draft.outputs parts.latches counts.differ counts.inputs counts.outputs latches
+                draft.inputs (draft.outputs ∙ counts.roots);
+            starts = said-starts frame parts.inputs parts.outputs.keys c.in_ok-draft.draft.inputs parts.latches c.in_ok-starts.starts counts.differ counts.inputs counts.outputs latches draft.inputs starts.count starts.latches starts.early;
+          };
     }
