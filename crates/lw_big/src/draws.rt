@@ -1,6 +1,4 @@
 // Numbers that are drawn from a seed.
-ghost use Rattle.std.specs.Prelude.{◌≡◌, ◌+◌, ℕ};
-
 const MULTIPLIER: u64 = 6_364_136_223_846_793_005;
 
 const INCREMENT: u64 = 1_442_695_040_888_963_407;
@@ -12,8 +10,7 @@ pub(crate) struct Draws {
 }
 
 impl Draws {
-    ghost use Rattle.lw_big.specs.Draws.{draw};
-    ghost use Rattle.lw_big.specs.Drawing.{HasDrawn};
+    ghost use Rattle.lw_big.specs.Drawing.{DrawsNext, HasDrawn};
 
     #[tactic(auto, unfolding(crate::specs::Draws::state_after))]
     pub(crate) fn new(seed: u64) -> Self
@@ -24,9 +21,7 @@ impl Draws {
 
     // The next number: the upper 31 bits of the next state.
     pub(crate) fn draw(&mut self) -> u32
-        ensures value { (seed count : ℕ) → HasDrawn seed count self.old → result ≡ draw seed count }
-        ensures draws { (seed count : ℕ) → HasDrawn seed count self.old →
-            HasDrawn seed (count + 1) self.new }
+        ensures { DrawsNext self.old self.new result }
     {
         self.state = self.state.wrapping_mul(MULTIPLIER).wrapping_add(INCREMENT);
         (self.state >> 33) as u32
