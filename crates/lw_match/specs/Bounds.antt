@@ -71,6 +71,12 @@ AreSettledAt b g marks c = AreSettledBelow g (bounds_reading b g marks) b.parts 
 abbrev pub AreZero : List ℕ → Type 0
 AreZero numbers = (k : ℕ) → slice_index numbers k ≡ 0
 
+-- a table of these patterns and this graph, with these gaps, whose numbers are all 0
+pub record IsFreshTable (pats : List Pattern) (g : Graph) (own : List (List ℕ)) (b : BoundsState) : Type 0 where
+  pub fits : BoundsFit b pats g
+  pub zero : AreZero b.numbers
+  pub gaps : b.gaps ≡ own
+
 -- the numbers of all but these classes are those of before
 abbrev pub AreRowsBut : ℕ → List ℕ → (ℕ → Type 0) → List ℕ → List ℕ → Type 0
 AreRowsBut width starts at old new =

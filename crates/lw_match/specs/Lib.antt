@@ -16,4 +16,5 @@ pub mod Queries
 pub mod Searching
 pub mod Seeking
 pub mod Shapes
+pub mod Times
 pub mod Values

@@ -69,7 +69,7 @@ impl Model for Bounds {
 
 impl Bounds {
     ghost use Rattle.lw_graph.specs.Graphs.{IsGraph};
-    ghost use Rattle.lw_match.specs.Bounds.{BoundsFit, AreApart, AreLowered, AreRows, AreSettledAt, AreZero, IsTableBut, bounds_reading, bounds_weight, with_numbers};
+    ghost use Rattle.lw_match.specs.Bounds.{BoundsFit, AreApart, AreLowered, AreRows, AreSettledAt, AreZero, IsFreshTable, IsTableBut, bounds_reading, bounds_weight, with_numbers};
     ghost use Rattle.lw_match.specs.HeightBounds.{AreFlat};
     ghost use Rattle.lw_match.specs.Numbers.{AreStarts, never, no_reading, number_from, start_of};
     ghost use Rattle.lw_match.specs.Cutting.{cuts_state};
@@ -110,9 +110,7 @@ impl Bounds {
         pats: &Patterns,
         gaps: Vec<[u64; 16]>,
     ) -> Result<Bounds, AllocError>
-        ensures fits { IfOk result (λ b. BoundsFit b pats.now graph.now) }
-        ensures zero { IfOk result (λ b. AreZero b.numbers) }
-        ensures gaps { IfOk result (λ b. b.gaps ≡ gaps.items) }
+        ensures { IfOk result (IsFreshTable pats.now graph.now gaps.items) }
     {
         let room = room_for(graph.classes()) as usize;
         let _ = pats.len();

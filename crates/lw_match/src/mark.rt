@@ -1,4 +1,4 @@
-ghost use Rattle.std.specs.Prelude.{◌<◌, ◌≡◌, ℕ, length, IsTrue, IsFalse};
+ghost use Rattle.std.specs.Prelude.{◌<◌, ◌≡◌, ◌↔◌, ℕ, length, IsTrue, MatchBool};
 ghost use Rattle.lw_laws.specs.Extracts.{IsListAtMost};
 ghost use Rattle.lw_pool.specs.Numbers.{numbers};
 
@@ -18,8 +18,7 @@ impl Mark {
 
     /// Whether this one is before the other: it costs less, or the same with less height.
     pub(crate) fn is_before(self, other: Mark) -> bool
-        ensures before { IsTrue result → IsMarkBefore (plain_mark self) (plain_mark other) }
-        ensures not { IsFalse result → IsMarkBefore (plain_mark self) (plain_mark other) → ⊥ }
+        ensures { IsTrue result ↔ IsMarkBefore (plain_mark self) (plain_mark other) }
     {
         self.cost < other.cost || (self.cost == other.cost && self.height < other.height)
     }
@@ -45,9 +44,8 @@ impl Best {
     /// Whether this one is before the other: by cost, then height, then pattern, then the classes
     /// of the pins.
     pub(crate) fn is_before(&self, other: &Best) -> bool
-        ensures before { IsTrue result →
-            IsPricedAtMost (plain_best self.now) (plain_best other.now) }
-        ensures not { IsFalse result → IsPricedAtMost (plain_best other.now) (plain_best self.now) }
+        ensures { MatchBool result (IsPricedAtMost (plain_best self.now) (plain_best other.now))
+            (IsPricedAtMost (plain_best other.now) (plain_best self.now)) }
     {
         if self.mark.cost != other.mark.cost {
             return self.mark.cost < other.mark.cost;
@@ -64,8 +62,8 @@ impl Best {
 
 /// Whether the first list is before the second in the order of words.
 fn is_list_before(left: &[ClassId], right: &[ClassId]) -> bool
-    ensures before { IsTrue result → IsListAtMost (numbers left.now) (numbers right.now) }
-    ensures not { IsFalse result → IsListAtMost (numbers right.now) (numbers left.now) }
+    ensures { MatchBool result (IsListAtMost (numbers left.now) (numbers right.now))
+        (IsListAtMost (numbers right.now) (numbers left.now)) }
 {
     match (left, right) {
         (_, []) => false,

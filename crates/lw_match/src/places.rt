@@ -1,5 +1,5 @@
 // The rules of parts, in groups by the lists in which the numbers of their sides stand.
-ghost use Rattle.std.specs.Prelude.{◌≡◌, ◌<◌, ◌≤◌, length, IfOk, IsTrue, IsFalse};
+ghost use Rattle.std.specs.Prelude.{◌≡◌, ◌<◌, ◌≤◌, length, IfOk, IsTrue, ◌↔◌};
 ghost use Rattle.lw_match.specs.Places.{list_of, place_of, shift_of, rule_of, root_of, AreGrouped, AreListed, IsGroupOf};
 ghost use Rattle.lw_pattern.specs.Listed.{most_patterns};
 ghost use Rattle.lw_match.specs.Numbers.{most_numbers};
@@ -56,8 +56,7 @@ fn rule_of(number: u32, part: Part) -> Rule
 
 // Whether the sides of a part have their numbers in two lists.
 fn is_in(part: Part, left: u8, right: u8) -> bool
-    ensures yes { IsTrue result → (list_of part.left ≡ left) × (list_of part.right ≡ right) }
-    ensures no { IsFalse result → list_of part.left ≡ left → list_of part.right ≡ right → ⊥ }
+    ensures { IsTrue result ↔ ((list_of part.left ≡ left) × (list_of part.right ≡ right)) }
 {
     list_of(part.left) == left && list_of(part.right) == right
 }

@@ -1,5 +1,6 @@
 // Which classes are renewed again.
-ghost use Rattle.std.specs.Prelude.{◌≡◌, ◌<◌, ◌/◌, ◌+◌, IfOk, length};
+ghost use Rattle.std.specs.Prelude.{◌≡◌, ◌<◌, IfOk, length};
+ghost use Rattle.lw_match.specs.Times.{IsClassOf, IsClassAmongPairs};
 
 use lw_graph::Graph;
 use lw_pool::ClassId;
@@ -29,8 +30,7 @@ impl Model for Times {
 
 // When a class in the pairs of a class, or the complement of one, fell last.
 fn last_fall(graph: &Graph, fell: &[u32], class: ClassId) -> u32
-    requires class { class.0 < length graph.now.pairs }
-    requires places { length fell.now ≡ length graph.now.pairs / 2 + 1 }
+    requires { IsClassAmongPairs graph.now (length fell.now) class.0 }
 {
     let mut last = 0;
     for pair in graph.nands(class) {
@@ -55,8 +55,7 @@ impl Times {
 
     // Whether a class is to be renewed: it was not yet, or a class in its pairs fell since.
     pub(crate) fn is_due(&self, graph: &Graph, class: ClassId) -> bool
-        requires class { class.0 < length graph.now.pairs }
-        requires classes { self.now ≡ length graph.now.pairs }
+        requires { IsClassOf graph.now self.now class.0 }
     {
         let seen = self.seen[class.0 as usize];
         seen == 0 || seen < last_fall(graph, &self.fell, class)

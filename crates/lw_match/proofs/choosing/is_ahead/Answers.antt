@@ -5,4 +5,4 @@ use Rattle.lw_match.proofs.choosing.is_ahead.Goals as goal
 pub returns-then-old-pattern : goal.returns-then-old-pattern
 returns-then-old-pattern c = λ t b last same.
     let old = c.in-Some.old in
-    (old, c.in-Some.is, ahead_of old c.args.bound b (c.is_before.ensures.before t) last (subst (λ n. old.found.pat.0 < n) (sym same) c.if-old-pattern.true))
+    (old, c.in-Some.is, ahead_of old c.args.bound b (c.is_before.ensures.0 t) last (subst (λ n. old.found.pat.0 < n) (sym same) c.if-old-pattern.true))

@@ -17,7 +17,7 @@ loop-number-preserved c =
     let at : slice_get parts l.number ≡ Some part = slice_get-get_or parts l.number none c.loop-number-test.true in
     elim c.if-is_in.branch [
       | then-is_in+in_ok-push w ↦
-          let (first, second) = c.is_in.ensures.yes w.if-is_in.true in
+          let (first, second) = c.is_in.ensures.0 w.if-is_in.true in
           let items : c.if-is_in.rules.items ≡ l.rules.items ++ rule_of l.number part ∷ [] = ap (λ v. v.items) w.rules-is ∙ (w.in_ok-push.ensures.items ∙ ap (λ (q : Rule). l.rules.items ++ q ∷ []) w.rule_of.ensures) in
           record {
             rules = subst (λ (rs : List Rule). AreRulesOf parts c.args.left c.args.right rs) (sym items) (rules_more parts c.args.left c.args.right l.rules.items l.number part at first second l.invariant.rules);
@@ -27,6 +27,6 @@ loop-number-preserved c =
           let items : c.if-is_in.rules.items ≡ l.rules.items = ap (λ v. v.items) w.rules-is in
           record {
             rules = subst (λ (rs : List Rule). AreRulesOf parts c.args.left c.args.right rs) (sym items) l.invariant.rules;
-            whole = subst (λ (rs : List Rule). HaveRules parts c.args.left c.args.right rs (l.number + 1)) (sym items) (have_passed parts c.args.left c.args.right l.rules.items l.number part at (c.is_in.ensures.no w.if-is_in.false) l.invariant.whole);
+            whole = subst (λ (rs : List Rule). HaveRules parts c.args.left c.args.right rs (l.number + 1)) (sym items) (have_passed parts c.args.left c.args.right l.rules.items l.number part at (λ first second. let yes = c.is_in.ensures.1 (first, second) in let no = w.if-is_in.false in cc) l.invariant.whole);
           }
     ]
