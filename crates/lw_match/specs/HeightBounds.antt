@@ -6,7 +6,9 @@ use Rattle.lw_match.specs.declared.heights.HeightBounds.{HeightBounds}
 use Rattle.lw_match.specs.declared.mark.Mark.{Mark}
 use Rattle.lw_match.specs.Shapes.{gaps_of}
 use Rattle.lw_match.specs.Bounds.{BoundsFit, AreBounds, bounds_reading}
-use Rattle.lw_match.specs.Cutting.{CutsState}
+use Rattle.lw_match.specs.declared.cuts.Cuts.{Cuts}
+use Rattle.lw_match.specs.Places.{AreRootsListed}
+use Rattle.lw_match.specs.Cutting.{CutsState, cuts_state}
 
 -- the height of a mark as a cost
 abbrev pub height_mark : Mark → Mark
@@ -31,3 +33,8 @@ abbrev pub cuts_with : CutsState → Graph → Option HeightBounds → CutsState
 cuts_with cuts g None = cuts
 cuts_with cuts g (Some h) =
     record { sides = cuts.sides; roots = cuts.roots; width = cuts.width; starts = cuts.starts; numbers = cuts.numbers; gaps = cuts.gaps; height_sides = h.bounds.now.sides; heights = bounds_reading h.bounds.now g h.marks.now }
+
+-- they are these, and the lists of the roots are as they were
+pub record AreWithHeights (cuts : Cuts) (g : Graph) (heights : Option HeightBounds) (new : Cuts) : Type 0 where
+  pub state : cuts_state new ≡ cuts_with (cuts_state cuts) g heights
+  pub roots : AreRootsListed cuts.roots.now cuts.leaf_roots.now cuts.row_roots.now cuts.other_roots.now → AreRootsListed new.roots.now new.leaf_roots.now new.row_roots.now new.other_roots.now

@@ -1,11 +1,10 @@
 // What pins cost less than their cells: guesses, and tests of whether they may be trusted.
 ghost use Rattle.std.specs.Prelude.{◌≡◌, ◌<◌, ◌≤◌, ◌-◌, ℕ, IfOk, IsTrue, length, replicate, slice_index, slice_set};
 ghost use Rattle.lw_laws.specs.Covers.{HasPins};
-ghost use Rattle.lw_pattern.specs.Listed.{IsKept};
 ghost use Rattle.lw_match.specs.Cutting.{IsCertifiedBy};
 ghost use Rattle.lw_match.specs.HeightBounds.{AreFlat};
 ghost use Rattle.lw_match.specs.Least.{AreOfCells};
-ghost use Rattle.lw_match.specs.Searching.{IsGapCertified};
+ghost use Rattle.lw_match.specs.Searching.{HasFewPins, IsGapCertified};
 ghost use Rattle.lw_match.specs.Shapes.{gaps_of};
 
 use crate::Cost;
@@ -36,8 +35,7 @@ pub(crate) fn gap_at(gaps: &[u64], pin: usize) -> u64
 
 // What a cell costs by one pin alone: the others cost nothing.
 fn value_alone<C: Cost>(cost: &C, cell: CellId, pins: usize, pin: usize, amount: u64) -> u64
-    requires has { HasPins (C.costs cost.now).pin_counts cell.0 pins }
-    requires few { pins ≤ 16 }
+    requires pins { HasFewPins (C.costs cost.now).pin_counts cell.0 pins }
     requires pin { pin < pins }
     ensures { result ≡ (C.costs cost.now).value cell.0 (slice_set (replicate pins 0) pin amount) }
 {
@@ -70,8 +68,7 @@ fn is_certified_at<C: Cost>(
     gap: u64,
     top: u64,
 ) -> bool
-    requires has { HasPins (C.costs cost.now).pin_counts cell.0 pins }
-    requires few { pins ≤ 16 }
+    requires pins { HasFewPins (C.costs cost.now).pin_counts cell.0 pins }
     requires pin { pin < pins }
     ensures { IsTrue result → top ≤ (C.costs cost.now).value cell.0
         (slice_set (replicate pins 0) pin (top - gap)) }
@@ -104,8 +101,7 @@ pub(crate) fn is_certified<C: Cost>(
     gaps: &[u64],
     top: u64,
 ) -> bool
-    requires has { HasPins (C.costs cost.now).pin_counts cell.0 pins }
-    requires few { pins ≤ 16 }
+    requires { HasFewPins (C.costs cost.now).pin_counts cell.0 pins }
     ensures { IsTrue result → IsGapCertified (C.costs cost.now) cell.0 pins gaps.now top }
 {
     for pin in 0..pins {
@@ -150,8 +146,7 @@ pub(crate) fn known_of<C: Cost>(pats: &Patterns, cost: &C, gaps: &[[u64; 16]], p
 // The gap of each pin of a cell, guessed from what the cell costs by the pin alone. Nothing rests
 // on a guess.
 fn guesses<C: Cost>(cost: &C, cell: CellId, pins: usize) -> [u64; 16]
-    requires has { HasPins (C.costs cost.now).pin_counts cell.0 pins }
-    requires few { pins ≤ 16 }
+    requires { HasFewPins (C.costs cost.now).pin_counts cell.0 pins }
 {
     let mut gaps = [0; 16];
     for pin in 0..pins {

@@ -1,8 +1,5 @@
 // A second table to cut by: the least heights with which parts of patterns can stand.
-ghost use Rattle.std.specs.Prelude.{◌≡◌};
-ghost use Rattle.lw_match.specs.Cutting.{cuts_state};
-ghost use Rattle.lw_match.specs.HeightBounds.{cuts_with};
-ghost use Rattle.lw_match.specs.Places.{AreRootsListed};
+ghost use Rattle.lw_match.specs.HeightBounds.{AreWithHeights};
 
 use crate::cuts::{Cuts, numbers_of};
 use crate::{Bounds, Mark};
@@ -21,11 +18,7 @@ pub(crate) fn with_heights<'a>(
     graph: &Graph,
     heights: Option<HeightBounds<'a>>,
 ) -> Cuts<'a>
-    requires roots { AreRootsListed cuts.roots.now cuts.leaf_roots.now cuts.row_roots.now
-        cuts.other_roots.now }
-    ensures state { cuts_state result ≡ cuts_with (cuts_state cuts.entry) graph.now heights.entry }
-    ensures roots { AreRootsListed result.roots.now result.leaf_roots.now result.row_roots.now
-        result.other_roots.now }
+    ensures { AreWithHeights cuts.entry graph.now heights.entry result }
 {
     let Some(heights) = heights else {
         return cuts;

@@ -13,7 +13,7 @@ better_by_cuts-requires-clause-site g c =
       in_range = c.requires.in_range;
       of_cells = c.requires.of_cells;
       cuts_fit = subst (λ (cuts : CutsState). CutsFit cuts c.args.graph.now) (sym c.with_heights-cuts.ensures.state) (heights_fit _ c.args.pats.now c.args.graph.now c.args.marks.now c.args.heights c.requires.one_each c.classes.ensures.kept.even c.requires.heights own);
-      listed = c.with_heights-cuts.ensures.roots;
+      listed = c.with_heights-cuts.ensures.roots c.cuts.ensures.roots;
       floor_is = c.requires.floor;
     }
 
