@@ -55,6 +55,16 @@ pub record AreVisitsAfter (g : Graph) (place : ℕ) (old new : VisitState) : Typ
   pub places : new.places ≡ old.places
   pub still : IsStillAfter g place old.still new.still
 
+-- a class of the graph, which has n places
+pub record IsClassAmong (g : Graph) (n c : ℕ) : Type 0 where
+  pub class : c < length g.pairs
+  pub places : n ≡ places_of g
+
+-- a place of the graph, which has n of them
+pub record IsPlaceAmong (g : Graph) (n p : ℕ) : Type 0 where
+  pub place : p < places_of g
+  pub places : n ≡ places_of g
+
 -- a visit of a place of the graph
 pub record IsVisitOf (g : Graph) (v : VisitState) (n : ℕ) : Type 0 where
   pub number : n < length v.order

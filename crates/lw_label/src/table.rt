@@ -82,8 +82,7 @@ impl HeightTable {
 
     // What searches are cut by.
     fn seen(&self) -> HeightBounds
-        ensures bounds { result.bounds.now ≡ self.now.bounds }
-        ensures marks { result.marks.now ≡ self.now.marks }
+        ensures { state result.bounds.now result.marks.now ≡ self.now }
     {
         HeightBounds {
             bounds: &self.bounds,

@@ -1,6 +1,6 @@
 // Which classes are visited again.
 ghost use Rattle.std.specs.Prelude.{◌≡◌, ◌<◌, ◌*◌, ◌/◌, ℕ, true, false, IfOk, IfSome, Some, None, length, replicate, slice_get, slice_index_or};
-ghost use Rattle.lw_label.specs.Orders.{ArePartsStill, AreVisitsAfter, IsOrder, IsPlaceAt, IsReady, IsVisitOf, places_of};
+ghost use Rattle.lw_label.specs.Orders.{ArePartsStill, AreVisitsAfter, IsClassAmong, IsOrder, IsPlaceAmong, IsPlaceAt, IsReady, IsVisitOf, places_of};
 
 use crate::order::order_of;
 use lw_graph::Graph;
@@ -43,8 +43,7 @@ fn later(a: u32, b: u32) -> u32 {
 
 // When a place of the pairs of a class changed last.
 fn last_change_in(graph: &Graph, changed: &[u32], class: ClassId) -> u32
-    requires class { class.0 < length graph.now.pairs }
-    requires places { length changed.now ≡ places_of graph.now }
+    requires { IsClassAmong graph.now (length changed.now) class.0 }
 {
     let _ = graph.classes();
     let mut last = 0;
@@ -57,8 +56,7 @@ fn last_change_in(graph: &Graph, changed: &[u32], class: ClassId) -> u32
 
 // When a part of a place changed last.
 fn last_change(graph: &Graph, changed: &[u32], place: u32) -> u32
-    requires place { place < places_of graph.now }
-    requires places { length changed.now ≡ places_of graph.now }
+    requires { IsPlaceAmong graph.now (length changed.now) place }
 {
     let _ = graph.classes();
     let even = last_change_in(graph, changed, ClassId(place * 2));
@@ -68,8 +66,7 @@ fn last_change(graph: &Graph, changed: &[u32], place: u32) -> u32
 
 // Whether the places of the classes in the pairs of a class are still.
 fn are_still_in(graph: &Graph, still: &[bool], class: ClassId) -> bool
-    requires class { class.0 < length graph.now.pairs }
-    requires places { length still.now ≡ places_of graph.now }
+    requires { IsClassAmong graph.now (length still.now) class.0 }
     ensures { result ≡ true → ArePartsStill graph.now still.now class.0 }
 {
     let _ = graph.classes();
@@ -86,8 +83,7 @@ fn are_still_in(graph: &Graph, still: &[bool], class: ClassId) -> bool
 
 // Whether the parts of a place are still.
 fn are_parts_still(graph: &Graph, still: &[bool], place: u32) -> bool
-    requires place { place < places_of graph.now }
-    requires places { length still.now ≡ places_of graph.now }
+    requires { IsPlaceAmong graph.now (length still.now) place }
     ensures { result ≡ true → (c : ℕ) → c / 2 ≡ place → ArePartsStill graph.now still.now c }
 {
     let _ = graph.classes();
