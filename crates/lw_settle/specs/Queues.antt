@@ -52,6 +52,11 @@ pub record IsLeafOf (e : Entry) (c : ℕ) : Type 0 where
   pub height : e.height ≤ no_height
   pub none : e.height ≡ no_height → e.cost ≡ no_cost
 
+-- the leaf of a class that does not wait
+pub record IsIdleLeaf (e : Entry) (c : ℕ) : Type 0 where
+  pub leaf : IsLeafOf e c
+  pub none : mark_of e ≡ None
+
 -- the leaf of a class that waits with the mark
 pub record IsWaitingLeaf (e : Entry) (c : ℕ) (k : Mark) : Type 0 where
   pub leaf : IsLeafOf e c
@@ -79,6 +84,11 @@ AreNone wait = (c : ℕ) → slice_index_or wait c None ≡ None
 pub record IsFirst (wait : List (Option Mark)) (t : Taken) : Type 0 where
   pub at : slice_get wait t.class.0 ≡ Some (Some t.mark)
   pub least : (c : ℕ) (k : Mark) → slice_index_or wait c None ≡ Some k → IsMarkAtMost (plain_mark t.mark) (plain_mark k)
+
+-- the first class is taken, and none where none waits
+abbrev pub TakesFirst : List (Option Mark) → List (Option Mark) → Option Taken → Type 0
+TakesFirst old new None = AreNone old × (new ≡ old)
+TakesFirst old new (Some t) = IsFirst old t × (new ≡ slice_set old t.class.0 None)
 
 -- the class waits with the mark, which is not after the one that it had, or it had one that is not after the mark and keeps it
 abbrev pub IsLowered : List (Option Mark) → List (Option Mark) → ℕ → Mark → Type 0

@@ -1,5 +1,5 @@
-ghost use Rattle.std.specs.Prelude.{◌≡◌, ◌<◌, ◌^◌, ◌-◌, None};
-ghost use Rattle.lw_settle.specs.Queues.{is_before, lesser, mark_of, IsLeafOf, IsWaitingLeaf};
+ghost use Rattle.std.specs.Prelude.{◌≡◌, ◌<◌, ◌^◌, ◌-◌};
+ghost use Rattle.lw_settle.specs.Queues.{is_before, lesser, IsIdleLeaf, IsWaitingLeaf};
 
 use lw_match::Mark;
 
@@ -13,8 +13,7 @@ pub(crate) struct Entry {
 
 /// A class that does not wait.
 pub(crate) fn no_mark(class: u32) -> Entry
-    ensures none { mark_of result ≡ None }
-    ensures leaf { IsLeafOf result class }
+    ensures { IsIdleLeaf result class }
 {
     Entry {
         cost: u64::MAX,
@@ -25,8 +24,7 @@ pub(crate) fn no_mark(class: u32) -> Entry
 
 /// A class that waits with a mark.
 pub(crate) fn with_mark(class: u32, mark: Mark) -> Entry
-    requires { mark.height < 2 ^ 32 - 1 }
-    ensures { IsWaitingLeaf result class mark }
+    ensures { mark.height < 2 ^ 32 - 1 → IsWaitingLeaf result class mark }
 {
     Entry {
         cost: mark.cost,

@@ -13,14 +13,17 @@ ghost use Rattle.lw_settle.specs.Steps.{AreSteps};
 ghost use Rattle.lw_settle.specs.Stores.{AreOfStoredCells, IsStoreOf, Stored};
 ghost use Rattle.lw_laws.specs.Choices.{Labels};
 
-/// A law: marks that are settled by a store of a graph and patterns are the least marks of these,
-/// and so the same as any others.
+/// A law: marks that are settled by a store of a graph and patterns are the least marks of these.
 pub fn settled_marks_are_least()
-    ensures least { (g : Graph) (cost : Cost) (pats : List Pattern) (lists : List (List Stored)) →
+    ensures { (g : Graph) (cost : Cost) (pats : List Pattern) (lists : List (List Stored)) →
         IsGraph g → IsCost cost → AreOfCells cost.pin_counts pats → IsStoreOf g pats lists →
         (marks : List (Option Mark)) → AreSettledMarks g cost lists marks →
         AreLeastMarks g cost pats marks }
-    ensures same { (g : Graph) (cost : Cost) (pats : List Pattern)
+{}
+
+/// A law: all least marks of a graph and patterns are the same.
+pub fn least_marks_are_one()
+    ensures { (g : Graph) (cost : Cost) (pats : List Pattern)
         (marks others : List (Option Mark)) → AreLeastMarks g cost pats marks →
         AreLeastMarks g cost pats others → (c : ℕ) → marks_in marks c ≡ marks_in others c }
 {}

@@ -27,7 +27,10 @@ mod uses;
 mod walk;
 
 pub use fault::StoreFault;
-pub use laws::{leaf_costs_are_least, settled_marks_are_least, steps_are_one, stores_are_of_cells};
+pub use laws::{
+    leaf_costs_are_least, least_marks_are_one, settled_marks_are_least, steps_are_one,
+    stores_are_of_cells,
+};
 pub use listing::store_matches;
 pub use settling::settle;
 pub use store::{Found, Head, Store};

@@ -1,5 +1,5 @@
-ghost use Rattle.std.specs.Prelude.{◌≡◌, ◌+◌, ◌*◌, ◌/◌, ◌^◌, ◌-◌, ◌<◌, ◌≤◌, ℕ, None, IfOk, IfNone, IfSome, MatchOption, length, drop, replicate, slice_set};
-ghost use Rattle.lw_settle.specs.Queues.{AreNone, IsFirst, IsLowered, IsWonBut};
+ghost use Rattle.std.specs.Prelude.{◌≡◌, ◌+◌, ◌*◌, ◌/◌, ◌^◌, ◌-◌, ◌<◌, ◌≤◌, ℕ, None, IfOk, length, drop, replicate, slice_set};
+ghost use Rattle.lw_settle.specs.Queues.{IsLowered, IsWonBut, TakesFirst};
 
 use crate::entry::{Entry, is_before, lesser, no_mark, with_mark};
 use lw_match::Mark;
@@ -90,10 +90,7 @@ impl Queue {
 
     /// Takes the first of the classes that wait, and none where none waits.
     pub(crate) fn take(&mut self) -> Option<Taken>
-        ensures none { IfNone result (AreNone self.old) }
-        ensures first { IfSome result (λ t. IsFirst self.old t) }
-        ensures left { MatchOption result (self.new ≡ self.old)
-            (λ t. self.new ≡ slice_set self.old t.class.0 None) }
+        ensures { TakesFirst self.old self.new result }
     {
         let first = self.tree[1];
         if first.height == u32::MAX {

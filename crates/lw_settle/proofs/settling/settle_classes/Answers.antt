@@ -15,7 +15,7 @@ loop-taken-smaller g c =
     let t = c.in-Some.taken in
     let (s, w) = c.requires.reading in
     let r = l.invariant.reading s w in
-    marks_rise costs l.store.lists s.graph s.start l.store.done l.marks l.queue l.left t r c.in-Some.ensures.first
+    marks_rise costs l.store.lists s.graph s.start l.store.done l.marks l.queue l.left t r c.in-Some.ensures.0
 
 pub read_uses-requires : goal.read_uses-requires
 read_uses-requires g c =
@@ -25,8 +25,8 @@ read_uses-requires g c =
     let (s, w) = c.requires.reading in
     let r = l.invariant.reading s w in
     let st : Stage = record { graph = s.graph; start = s.start; top = plain_mark t.mark } in
-    let now = subst (λ q. IsReadingOf costs l.store.lists st t.class.0 0 l.store.done (set l.marks t.class.0 (Some t.mark)) q l.left) (sym c.in-Some.ensures.left) (class_taken costs l.store.lists s.graph s.start l.store.done l.marks l.queue l.left t r c.in-Some.ensures.first) in
-    let waits = slice_get_within l.queue t.class.0 (Some t.mark) c.in-Some.ensures.first.at in
+    let now = subst (λ q. IsReadingOf costs l.store.lists st t.class.0 0 l.store.done (set l.marks t.class.0 (Some t.mark)) q l.left) (sym c.in-Some.ensures.1) (class_taken costs l.store.lists s.graph s.start l.store.done l.marks l.queue l.left t r c.in-Some.ensures.0) in
+    let waits = slice_get_within l.queue t.class.0 (Some t.mark) c.in-Some.ensures.0.at in
     record {
       class = omega (arith, waits, r.reading.one_wait);
       of_cells = subst (AreOfStoredCells costs.pin_counts) (sym l.invariant.lists) c.requires.of_cells;
@@ -42,7 +42,7 @@ loop-taken-preserved g c = record {
       let t = c.in-Some.taken in
       let r = l.invariant.reading s w in
       let st : Stage = record { graph = s.graph; start = s.start; top = plain_mark t.mark } in
-      let now = subst (λ q. IsReadingOf costs l.store.lists st t.class.0 0 l.store.done (set l.marks t.class.0 (Some t.mark)) q l.left) (sym c.in-Some.ensures.left) (class_taken costs l.store.lists s.graph s.start l.store.done l.marks l.queue l.left t r c.in-Some.ensures.first) in
+      let now = subst (λ q. IsReadingOf costs l.store.lists st t.class.0 0 l.store.done (set l.marks t.class.0 (Some t.mark)) q l.left) (sym c.in-Some.ensures.1) (class_taken costs l.store.lists s.graph s.start l.store.done l.marks l.queue l.left t r c.in-Some.ensures.0) in
       let marks = set l.marks t.class.0 (Some t.mark) in
       let new = c.read_uses.new in
       let uses = uses_of l.store.lists t.class.0 in
@@ -58,9 +58,9 @@ pub returns : goal.returns
 returns g c =
     let costs = g.C.Cost.costs c.args.cost.now in
     let l = c.loop-taken in
-    let same = sym c.in_default.ensures.left in
+    let same = sym c.in_default.ensures.1 in
     record {
       lists = l.invariant.lists;
-      none = subst AreNone same c.in_default.ensures.none;
+      none = subst AreNone same c.in_default.ensures.0;
       reading = λ s w. subst₂ (λ ls q. IsReadingSome costs ls s.graph s.start l.store.done l.marks q l.left) l.invariant.lists same (l.invariant.reading s w);
     }
