@@ -1,5 +1,5 @@
 // The classes that are needed, each with its chosen match.
-ghost use Rattle.std.specs.Prelude.{◌≡◌, ◌+◌, ◌-◌, ◌^◌, ◌<◌, IfOk, length, reverse, Some, None, slice_index_or};
+ghost use Rattle.std.specs.Prelude.{◌≡◌, ◌<◌, IfOk, length, reverse, Some, None, slice_index_or};
 ghost use Rattle.lw_laws.specs.Extracts.{IsLeafClass};
 ghost use Rattle.lw_match.specs.Cutting.{AreKnown};
 ghost use Rattle.lw_extract.specs.Choosing.{AreChosen, RootsHaveMarks, CanChoose, IsChoice};
@@ -19,18 +19,6 @@ use std::alloc::{AllocError, Global};
 pub(crate) struct Chosen {
     pub(crate) class: ClassId,
     pub(crate) found: Match,
-}
-
-// The mark that comes next after one: of the same cost, and one higher.
-fn next_after(mark: Mark) -> Mark
-    requires { mark.height < 2 ^ 32 - 1 }
-    ensures cost { result.cost ≡ mark.cost }
-    ensures height { result.height ≡ mark.height + 1 }
-{
-    Mark {
-        cost: mark.cost,
-        height: mark.height + 1,
-    }
 }
 
 // The chosen match of a class: the first of those that attain its label and its height.
@@ -53,7 +41,10 @@ fn choice<C: Cost>(
         (C.costs cost.now) pats.now marks.now class.0 found }
 {
     let mark = marks[class.0 as usize]?;
-    let bound = next_after(mark);
+    let bound = Mark {
+        cost: mark.cost,
+        height: mark.height + 1,
+    };
     let best = least_before(graph, pats, bounds, marks, class, cost, tops, bound)?;
     Some(best.found)
 }

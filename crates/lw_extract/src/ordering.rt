@@ -1,21 +1,21 @@
 // The classes that may have a gate, by height.
 ghost use Rattle.std.specs.Prelude.{◌≡◌, ◌<◌, ◌^◌, IfOk, length};
-ghost use Rattle.lw_extract.specs.Orders.{AreByHeight, AreMarked};
+ghost use Rattle.lw_extract.specs.Orders.{AreByHeight};
 
 use lw_match::Mark;
 use lw_naming::{Place, sort_places};
 use lw_pool::{ClassId, NetId};
 use std::alloc::{AllocError, Global};
 
-// The classes with marks that are no input's, in the order of their numbers.
-fn marked(
+// The classes with marks that are no input's, by height and then class.
+pub(crate) fn by_height(
     alloc: Global,
     nets: &[Option<NetId>],
     marks: &[Option<Mark>],
 ) -> Result<Vec<Place>, AllocError>
     requires same { length nets.now ≡ length marks.now }
     requires few { length marks.now < 2 ^ 32 }
-    ensures { IfOk result (λ places. AreMarked nets.now marks.now places.items) }
+    ensures { IfOk result (λ places. AreByHeight nets.now marks.now places.items) }
 {
     let mut places = Vec::new(alloc);
     for (number, mark) in marks.iter().enumerate() {
@@ -28,20 +28,6 @@ fn marked(
             }
         }
     }
-    Ok(places)
-}
-
-// The classes with marks that are no input's, by height and then class.
-pub(crate) fn by_height(
-    alloc: Global,
-    nets: &[Option<NetId>],
-    marks: &[Option<Mark>],
-) -> Result<Vec<Place>, AllocError>
-    requires same { length nets.now ≡ length marks.now }
-    requires few { length marks.now < 2 ^ 32 }
-    ensures { IfOk result (λ places. AreByHeight nets.now marks.now places.items) }
-{
-    let mut places = marked(alloc, nets, marks)?;
     sort_places(&mut places);
     Ok(places)
 }

@@ -1,16 +1,21 @@
-use Rattle.std.proofs.Common.{refl, subst}
+use Rattle.std.proofs.Common.{◌+◌, refl, subst, arith}
+use Rattle.lw_match.specs.declared.mark.Mark.{Mark}
 use Rattle.lw_match.specs.Values.{plain_mark, AreInRange}
 use Rattle.lw_extract.proofs.Picking.{chosen_by, some_match, can_rise, before_next, last_before}
 use Rattle.lw_extract.proofs.choosing.choice.Goals as goal
 
-pub next_after-bound-requires : goal.next_after-bound-requires
-next_after-bound-requires g c =
-    can_rise c.args.graph.now (g.C.Cost.costs c.args.cost.now) c.args.pats.now c.args.marks.now c.requires.settled.least c.args.class.0 c.in_ok-mark.mark c.in_ok-mark.was
+-- the mark that comes next after one: of the same cost, and one higher
+abbrev after : Mark → Mark
+after mark = record { cost = mark.cost; height = mark.height + 1 }
+
+pub overflow_add-bound : goal.overflow_add-bound
+overflow_add-bound g c =
+    omega (arith, can_rise c.args.graph.now (g.C.Cost.costs c.args.cost.now) c.args.pats.now c.args.marks.now c.requires.settled.least c.args.class.0 c.in_ok-mark.mark c.in_ok-mark.was)
 
 pub returns-in_err-best-clause-choice : goal.returns-in_err-best-clause-choice
 returns-in_err-best-clause-choice g c = λ mark at.
-    absurd (some_match c.args.graph.now (g.C.Cost.costs c.args.cost.now) c.args.pats.now c.args.marks.now c.requires.settled.least c.args.class.0 c.in_ok-mark.mark (plain_mark c.next_after-bound.result) c.requires.no_leaf c.in_ok-mark.was
-    (before_next (plain_mark c.in_ok-mark.mark) (plain_mark c.next_after-bound.result) c.next_after-bound.ensures.cost c.next_after-bound.ensures.height)
+    absurd (some_match c.args.graph.now (g.C.Cost.costs c.args.cost.now) c.args.pats.now c.args.marks.now c.requires.settled.least c.args.class.0 c.in_ok-mark.mark (plain_mark (after c.in_ok-mark.mark)) c.requires.no_leaf c.in_ok-mark.was
+    (before_next (plain_mark c.in_ok-mark.mark) (plain_mark (after c.in_ok-mark.mark)) refl refl)
     c.in_err-best.ensures.least)
 
 pub least_before-requires-clause-in_range : goal.least_before-requires-clause-in_range
@@ -25,4 +30,4 @@ returns-clause-choice g c = λ mark at. (
 
 pub least_before-requires-clause-last : goal.least_before-requires-clause-last
 least_before-requires-clause-last g c =
-    last_before c.args.graph.now (g.C.Cost.costs c.args.cost.now) c.args.pats.now c.args.marks.now c.requires.settled.least c.args.class.0 c.in_ok-mark.mark (plain_mark c.next_after-bound.result) c.in_ok-mark.was c.next_after-bound.ensures.cost c.next_after-bound.ensures.height
+    last_before c.args.graph.now (g.C.Cost.costs c.args.cost.now) c.args.pats.now c.args.marks.now c.requires.settled.least c.args.class.0 c.in_ok-mark.mark (plain_mark (after c.in_ok-mark.mark)) c.in_ok-mark.was refl refl
