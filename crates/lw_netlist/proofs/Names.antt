@@ -1,5 +1,5 @@
 -- Names that differ, and their numbers.
-use Rattle.std.proofs.Common.{◌≡◌, ℕ, ◌+◌, ◌<◌, Bool, true, false, not, ◌||◌, cond, List, [], ◌∷◌, ◌++◌, length, map, take, drop, get_or, slice_get, Some, None, refl, sym, ap, ap₂, subst, ◌∙◌, append_assoc}
+use Rattle.std.proofs.Common.{◌≡◌, ℕ, ◌+◌, ◌<◌, Bool, true, false, not, ◌||◌, cond, List, [], ◌∷◌, ◌++◌, length, map, take, drop, get_or, slice_get, Option, Some, None, refl, sym, ap, ap₂, subst, ◌∙◌, append_assoc}
 use Rattle.std.proofs.lemmas.List.{at_drop_more, map_more, map-append, append-nil}
 use Rattle.std.proofs.lemmas.Bool.{false≢true}
 use Rattle.std.proofs.lemmas.Option.{slice_get_within, get_or_from_slice_get}
@@ -39,6 +39,14 @@ undriven_then signals xs ys (Undriven name) none e = undriven_later signals xs y
 undriven_then signals xs ys (Cycle name) none e = e
 undriven_then signals xs ys (Twice name) none e = e
 undriven_then signals xs ys Memory none e = e
+
+-- none of the first names is undriven where none of all is
+pub undriven_before : (signals xs ys : List (List ℕ)) → undriven_in signals (xs ++ ys) ≡ None → undriven_in signals xs ≡ None
+undriven_before signals xs ys none = by_found (undriven_in signals xs) refl
+  where
+    by_found : (found : Option (List ℕ)) → undriven_in signals xs ≡ found → undriven_in signals xs ≡ None
+    by_found None is = is
+    by_found (Some name) is = let first = find_first (λ n. not (is_among signals n)) xs ys name is in cc
 
 -- of lists with the same first undriven name
 undriven_same : (signals xs ys : List (List ℕ)) (fault : NetlistFault) → undriven_in signals xs ≡ undriven_in signals ys → TellsUndriven signals xs fault → TellsUndriven signals ys fault

@@ -11,10 +11,10 @@ use Rattle.lw_netlist.specs.Closing.{HasFault, HasNoCycle, Hangs, IsFirstOnCycle
 use Rattle.lw_netlist.specs.Closing.Reaches.{by_step, by_path}
 use Rattle.lw_dag.specs.Graphs.{most_signals, AreKnown, IsFirst, IsGraph, Leads, height_at, fanins_at}
 use Rattle.lw_dag.specs.Names.{number_in}
-use Rattle.lw_netlist.specs.Numbered.{TellsUndriven, numbered}
+use Rattle.lw_netlist.specs.Numbered.{TellsTwice, TellsUndriven, numbered}
 use Rattle.lw_dag.specs.Graphs.Leads.{one_step, then_path}
 use Rattle.lw_netlist.specs.Ordering.{IsGraphOf}
-use Rattle.lw_netlist.proofs.Names.{once_distinct, undriven_later}
+use Rattle.lw_netlist.proofs.Names.{once_distinct, undriven_before}
 use Rattle.lw_dag.proofs.Named as dag
 
 abbrev pub bare : Link
@@ -91,6 +91,13 @@ module _ (draft : GateDraft) (distinct : IsDistinct bytes_eq (drivers draft)) (n
   pub no_cycle : (heights : List ℕ) → AreKnown m graph heights → ((j : ℕ) → m + j < length heights → 0 < height_at heights (m + j)) → HasNoCycle ls
   no_cycle heights known all name path = dag.none_led name_of needs_of bare refl draft.inputs ls distinct none heights known all name (reaches_led name name path)
 
+-- the fault that is looked for first
+pub twice_in_links : (draft : GateDraft) (names : List (List ℕ)) (fault : NetlistFault) → names ≡ drivers draft → TellsTwice names fault → HasFault draft fault
+twice_in_links draft names (Twice name) is e = subst (λ l. twice_after [] l ≡ Some name) is e
+twice_in_links draft names (Undriven name) is e = absurd e
+twice_in_links draft names (Cycle name) is e = absurd e
+twice_in_links draft names Memory is e = tt
+
 -- a fault that is looked for after the first
 pub fault_in_links : (draft : GateDraft) (given : List (List ℕ)) (fault : NetlistFault) → given ≡ drivers draft → first_twice draft ≡ None → TellsUndriven given (flat_map needs_of (links draft) ++ draft.outputs) fault → HasFault draft fault
 fault_in_links draft given (Twice name) is once e = absurd e
@@ -98,22 +105,18 @@ fault_in_links draft given (Undriven name) is once e = (once, subst (λ l. undri
 fault_in_links draft given (Cycle name) is once e = absurd e
 fault_in_links draft given Memory is once e = tt
 
-nothing_undriven : (draft : GateDraft) (given : List (List ℕ)) → given ≡ drivers draft → undriven_in given (flat_map needs_of (links draft)) ≡ None → undriven_in given draft.outputs ≡ None → first_undriven draft ≡ None
-nothing_undriven draft given is none e =
-    undriven_later (drivers draft) (flat_map needs_of (links draft)) draft.outputs (subst (λ l. undriven_in l (flat_map needs_of (links draft)) ≡ None) is none)
-    ∙ subst (λ l. undriven_in l draft.outputs ≡ None) is e
-
 -- what was made of a draft with neither of the first two faults
-pub graph_made : (draft : GateDraft) (names given graph' : List (List ℕ)) → names ≡ drivers draft → given ≡ names → twice_after [] names ≡ None → length names ≤ most_signals → graph' ≡ numbered given (links draft) → undriven_in given (flat_map needs_of (links draft)) ≡ None → undriven_in given draft.outputs ≡ None → IsGraphOf draft given graph'
-graph_made draft names given graph' named is once few rows known outputs =
+pub graph_made : (draft : GateDraft) (names given graph' : List (List ℕ)) → names ≡ drivers draft → given ≡ names → twice_after [] names ≡ None → length names ≤ most_signals → graph' ≡ numbered given (links draft) → undriven_in given (flat_map needs_of (links draft) ++ draft.outputs) ≡ None → IsGraphOf draft given graph'
+graph_made draft names given graph' named is once few rows none =
     let keys : given ≡ drivers draft = is ∙ named in
+    let all_driven : first_undriven draft ≡ None = subst (λ l. undriven_in l (flat_map needs_of (links draft) ++ draft.outputs) ≡ None) keys none in
     record {
       names = keys;
       rows = rows ∙ ap (λ l. numbered l (links draft)) keys;
       few = subst (λ l. length l ≤ most_signals) named few;
       once = subst (λ l. twice_after [] l ≡ None) named once;
-      known = subst (λ l. undriven_in l (flat_map needs_of (links draft)) ≡ None) keys known;
-      none = nothing_undriven draft given keys known outputs;
+      known = undriven_before (drivers draft) (flat_map needs_of (links draft)) draft.outputs all_driven;
+      none = all_driven;
     }
 
 -- the graph of a draft

@@ -3,6 +3,7 @@ use Rattle.std.specs.Prelude.{ℕ, ◌+◌, ◌<◌, ◌≤◌, ◌≡◌, ◌++
 use Rattle.std.specs.List.{IsDistinct}
 use Rattle.std.specs.Str.{bytes_eq}
 use Rattle.lw_pool.specs.declared.id.CellId.{CellId}
+use Rattle.lw_netlist.specs.declared.closing.Links.{Links}
 use Rattle.lw_netlist.specs.declared.graph.Graph.{Graph}
 use Rattle.lw_netlist.specs.declared.draft.DraftGate.{DraftGate}
 use Rattle.lw_netlist.specs.declared.draft.GateDraft.{GateDraft}
@@ -29,6 +30,11 @@ names_at draft places = draft.inputs ++ map out_of (gates_at draft.gates places)
 -- the name of the signal that the gate at a place drives
 abbrev pub signal_at : ℕ → List (List ℕ) → ℕ → List ℕ
 signal_at inputs signals place = slice_index_or signals (inputs + place) []
+
+-- The links of a draft that has neither of the first two faults, and the cells of its gates.
+pub record AreLinksOf (draft : GateDraft) (l : Links) : Type 0 where
+  pub graph : IsGraphOf draft l.signals l.rows.items
+  pub cells : l.cells.items ≡ map cell_of draft.gates
 
 -- This is kept of a draft that has neither of the first two faults.
 pub record IsMadeOf (draft : GateDraft) (g : Graph) : Type 0 where

@@ -1,13 +1,13 @@
 // Drafts that are closed to netlists.
-ghost use Rattle.std.specs.Prelude.{◌≡◌, ◌<◌, ◌++◌, ℕ, None, List, length, map, All, Contains, IfOk, IfErr, MatchResult, OnOk};
+ghost use Rattle.std.specs.Prelude.{◌≡◌, ◌<◌, ◌++◌, ℕ, List, length, map, All, Contains, IfOk, MatchResult};
 ghost use Rattle.std.specs.List.{IsDistinct, flat_map};
 ghost use Rattle.std.specs.Str.{bytes_eq};
 ghost use Rattle.lw_dag.specs.Names.{number_in};
 ghost use Rattle.lw_netlist.specs.declared.draft.GateDraft.{GateDraft};
-ghost use Rattle.lw_netlist.specs.Closing.{HasFault, links, needs_of, port_at, undriven_in};
-ghost use Rattle.lw_netlist.specs.Numbered.{TellsUndriven, numbered};
-ghost use Rattle.lw_netlist.specs.Ordering.{AreRight, IsGraphOf, TellNets};
-ghost use Rattle.lw_netlist.specs.Placing.{IsMadeOf, cell_of};
+ghost use Rattle.lw_netlist.specs.Closing.{HasFault, links, needs_of, port_at};
+ghost use Rattle.lw_netlist.specs.Numbered.{FindsDriven, numbered};
+ghost use Rattle.lw_netlist.specs.Ordering.{AreRight, TellNets};
+ghost use Rattle.lw_netlist.specs.Placing.{AreLinksOf, IsMadeOf, cell_of};
 
 use crate::graph::Graph;
 use crate::levels::{Starts, find_starts};
@@ -37,12 +37,9 @@ struct Links {
 // The numbers of what each gate and then each wire of a draft hangs on, or the first name that
 // nothing drives, by pins, sources of wires and then outputs.
 fn linked(alloc: Global, draft: &GateDraft, signals: &Signals) -> Result<Vec<Numbers>, NetlistFault>
-    ensures rows { IfOk result (λ rows. rows.items ≡ numbered signals.now (links draft.now)) }
-    ensures known { OnOk result (undriven_in signals.now
-        (flat_map needs_of (links draft.now)) ≡ None) }
-    ensures outputs { OnOk result (undriven_in signals.now draft.now.outputs ≡ None) }
-    ensures fault { IfErr result (TellsUndriven signals.now
-        (flat_map needs_of (links draft.now) ++ draft.now.outputs)) }
+    ensures { FindsDriven signals.now
+        (flat_map needs_of (links draft.now) ++ draft.now.outputs) result
+        (λ rows. rows.items ≡ numbered signals.now (links draft.now)) }
 {
     let rows = rows(
         alloc,
@@ -57,9 +54,7 @@ fn linked(alloc: Global, draft: &GateDraft, signals: &Signals) -> Result<Vec<Num
 // The links of a draft, or the first name that is driven twice, or else the first that nothing
 // drives.
 fn links_of(alloc: Global, draft: &GateDraft) -> Result<Links, NetlistFault>
-    ensures graph { IfOk result (λ links. IsGraphOf draft.now links.signals links.rows.items) }
-    ensures cells { IfOk result (λ links. links.cells.items ≡ map cell_of draft.now.gates) }
-    ensures fault { IfErr result (HasFault draft.now) }
+    ensures { MatchResult result (AreLinksOf draft.now) (HasFault draft.now) }
 {
     let names = driven(alloc, draft)?;
     let signals = numbers(alloc, names)?;
@@ -84,8 +79,7 @@ fn links_of(alloc: Global, draft: &GateDraft) -> Result<Links, NetlistFault>
 // The graph of a draft, or the first name that is driven twice, or else the first that nothing
 // drives. The names of pins are let go one by one.
 pub(crate) fn graph_of(alloc: Global, draft: GateDraft) -> Result<Graph, NetlistFault>
-    ensures graph { IfOk result (IsMadeOf draft) }
-    ensures fault { IfErr result (HasFault draft) }
+    ensures { MatchResult result (IsMadeOf draft) (HasFault draft) }
 {
     let links = links_of(alloc, &draft)?;
     let GateDraft {

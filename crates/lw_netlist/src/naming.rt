@@ -1,10 +1,9 @@
 // Names in place of which numbers stand.
-ghost use Rattle.std.specs.Prelude.{◌≡◌, ◌<◌, ◌≤◌, ◌++◌, ◌∷◌, [], None, length, map, replicate, IfOk, IfErr, OnOk};
+ghost use Rattle.std.specs.Prelude.{◌≡◌, ◌<◌, ◌++◌, ◌∷◌, [], length, map, replicate, IfOk, MatchResult};
 ghost use Rattle.std.specs.List.{flat_map};
-ghost use Rattle.lw_netlist.specs.Closing.{drivers, gate_link, needs_of, out_of, twice_after, undriven_in, wire_link};
-ghost use Rattle.lw_dag.specs.Graphs.{most_signals};
+ghost use Rattle.lw_netlist.specs.Closing.{drivers, gate_link, needs_of, out_of, wire_link};
 ghost use Rattle.lw_dag.specs.Names.{number_in};
-ghost use Rattle.lw_netlist.specs.Numbered.{TellsTwice, TellsUndriven, numbered};
+ghost use Rattle.lw_netlist.specs.Numbered.{FindsDriven, HaveNumbers, TellsTwice, numbered};
 
 use crate::buckets::link;
 use crate::signals::Signals;
@@ -44,10 +43,7 @@ pub(crate) fn driven(alloc: Global, draft: &GateDraft) -> Result<SpelledNames, A
 // Numbers names, or tells the first that is there twice. For more of them than there are numbers
 // there is no memory.
 pub(crate) fn numbers(alloc: Global, names: SpelledNames) -> Result<Signals, NetlistFault>
-    ensures names { IfOk result (λ set. set ≡ names) }
-    ensures once { OnOk result (twice_after [] names ≡ None) }
-    ensures few { OnOk result (length names ≤ most_signals) }
-    ensures fault { IfErr result (TellsTwice names) }
+    ensures { MatchResult result (λ set. (set ≡ names) × HaveNumbers names) (TellsTwice names) }
 {
     if names.len() >= u32::MAX as usize {
         return Err(NetlistFault::Memory);
@@ -64,9 +60,8 @@ pub(crate) fn numbers(alloc: Global, names: SpelledNames) -> Result<Signals, Net
 // The number of a name, or the fault that it has none.
 fn number_of(alloc: Global, name: &[u8], signals: &Signals) -> Result<u32, NetlistFault>
     requires { 0 < length name.now }
-    ensures ok { IfOk result (λ n. n ≡ number_in signals.now name.now) }
-    ensures known { OnOk result (undriven_in signals.now (name.now ∷ []) ≡ None) }
-    ensures fault { IfErr result (TellsUndriven signals.now (name.now ∷ [])) }
+    ensures { FindsDriven signals.now (name.now ∷ []) result
+        (λ n. n ≡ number_in signals.now name.now) }
 {
     let Some(place) = signals.find(name) else {
         let name = Name::from_slice(alloc, name)?;
@@ -84,9 +79,8 @@ pub(crate) fn numbers_of(
     names: &[Name],
     signals: &Signals,
 ) -> Result<Numbers, NetlistFault>
-    ensures ok { IfOk result (λ ns. ns ≡ map (number_in signals.now) names.now) }
-    ensures known { OnOk result (undriven_in signals.now names.now ≡ None) }
-    ensures fault { IfErr result (TellsUndriven signals.now names.now) }
+    ensures { FindsDriven signals.now names.now result
+        (λ ns. ns ≡ map (number_in signals.now) names.now) }
 {
     let mut numbers = Vec::with_capacity(alloc, names.len())?;
     for name in names {
@@ -104,10 +98,8 @@ fn pin_numbers(
     gate: &SpelledGate,
     signals: &Signals,
 ) -> Result<Numbers, NetlistFault>
-    ensures ok { IfOk result (λ ns. ns
-        ≡ map (number_in signals.now) (gate_link gate.now).needs) }
-    ensures known { OnOk result (undriven_in signals.now (gate_link gate.now).needs ≡ None) }
-    ensures fault { IfErr result (TellsUndriven signals.now (gate_link gate.now).needs) }
+    ensures { FindsDriven signals.now gate.now.pins result
+        (λ ns. ns ≡ map (number_in signals.now) gate.now.pins) }
 {
     let mut numbers = Vec::with_capacity(alloc, gate.len())?;
     for place in 0..gate.len() {
@@ -125,12 +117,8 @@ fn gate_rows(
     gates: &[SpelledGate],
     signals: &Signals,
 ) -> Result<Vec<Numbers>, NetlistFault>
-    ensures ok { IfOk result (λ rows. rows.items
-        ≡ numbered signals.now (map gate_link gates.now)) }
-    ensures known { OnOk result (undriven_in signals.now
-        (flat_map needs_of (map gate_link gates.now)) ≡ None) }
-    ensures fault { IfErr result (TellsUndriven signals.now
-        (flat_map needs_of (map gate_link gates.now))) }
+    ensures { FindsDriven signals.now (flat_map needs_of (map gate_link gates.now)) result
+        (λ rows. rows.items ≡ numbered signals.now (map gate_link gates.now)) }
 {
     let mut rows = Vec::with_capacity(alloc, gates.len())?;
     for gate in gates {
@@ -144,10 +132,8 @@ fn gate_rows(
 
 // The number of the source of a wire, as a row.
 fn wire_row(alloc: Global, wire: &Wire, signals: &Signals) -> Result<Numbers, NetlistFault>
-    ensures ok { IfOk result (λ ns. ns
-        ≡ map (number_in signals.now) (wire_link wire.now).needs) }
-    ensures known { OnOk result (undriven_in signals.now (wire_link wire.now).needs ≡ None) }
-    ensures fault { IfErr result (TellsUndriven signals.now (wire_link wire.now).needs) }
+    ensures { FindsDriven signals.now (wire_link wire.now).needs result
+        (λ ns. ns ≡ map (number_in signals.now) (wire_link wire.now).needs) }
 {
     let number = number_of(alloc, wire.from.as_bytes(), signals)?;
     let mut row = Numbers::empty(alloc);
@@ -164,12 +150,8 @@ fn wire_rows(
     signals: &Signals,
     rows: &mut Vec<Numbers>,
 ) -> Result<(), NetlistFault>
-    ensures ok { OnOk result (rows.new.items ≡ rows.old.items
-        ++ numbered signals.now (map wire_link wires.now)) }
-    ensures known { OnOk result (undriven_in signals.now
-        (flat_map needs_of (map wire_link wires.now)) ≡ None) }
-    ensures fault { IfErr result (TellsUndriven signals.now
-        (flat_map needs_of (map wire_link wires.now))) }
+    ensures { FindsDriven signals.now (flat_map needs_of (map wire_link wires.now)) result
+        (λ done. rows.new.items ≡ rows.old.items ++ numbered signals.now (map wire_link wires.now)) }
 {
     for wire in wires {
         let row = wire_row(alloc, wire, signals)?;
@@ -188,12 +170,10 @@ pub(crate) fn rows(
     wires: &[Wire],
     signals: &Signals,
 ) -> Result<Vec<Numbers>, NetlistFault>
-    ensures ok { IfOk result (λ rows. rows.items
-        ≡ numbered signals.now (map gate_link gates.now ++ map wire_link wires.now)) }
-    ensures known { OnOk result (undriven_in signals.now
-        (flat_map needs_of (map gate_link gates.now ++ map wire_link wires.now)) ≡ None) }
-    ensures fault { IfErr result (TellsUndriven signals.now
-        (flat_map needs_of (map gate_link gates.now ++ map wire_link wires.now))) }
+    ensures { FindsDriven signals.now
+        (flat_map needs_of (map gate_link gates.now ++ map wire_link wires.now)) result
+        (λ rows. rows.items ≡ numbered signals.now
+            (map gate_link gates.now ++ map wire_link wires.now)) }
 {
     let mut rows = gate_rows(alloc, gates, signals)?;
     wire_rows(alloc, wires, signals, &mut rows)?;

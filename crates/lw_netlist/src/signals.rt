@@ -1,6 +1,6 @@
 // Names with numbers.
-ghost use Rattle.std.specs.Prelude.{◌≡◌, ◌<◌, true, length, OnOk};
-ghost use Rattle.lw_netlist.specs.Chains.{AreNumbered, name_at};
+ghost use Rattle.std.specs.Prelude.{◌≡◌, ◌<◌, true, length, OnOk, Some, slice_get};
+ghost use Rattle.lw_netlist.specs.Chains.{AreNumbered};
 
 use crate::{SpelledNames, buckets};
 use std::alloc::{AllocError, Global};
@@ -121,8 +121,7 @@ impl Signals {
 
 // Whether the name at a place is this one.
 fn has_at(names: &SpelledNames, place: usize, name: &[u8]) -> bool
-    ensures within { result ≡ true → place < length names.now }
-    ensures named { result ≡ true → name_at names.now place ≡ name.now }
+    ensures { result ≡ true → slice_get names.now place ≡ Some name.now }
 {
     place < names.len() && names.get(place) == name
 }

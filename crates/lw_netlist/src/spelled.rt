@@ -99,7 +99,7 @@ impl SpelledGate {
         ensures name { slice_get self.now.pins place ≡ Some result.now }
         ensures some { 0 < length result.now }
     {
-        pin_at(&self.bytes, &self.ends, self.out, place)
+        name_at(&self.bytes, &self.ends, self.out, place)
     }
 }
 
@@ -113,13 +113,13 @@ fn front<'a>(bytes: &'a [u8], ends: &[usize], out: usize) -> &'a [u8]
     &bytes[..out]
 }
 
-// Where the pin at a place begins.
-fn begin_at(ends: &[usize], out: usize, place: usize) -> usize
+// Where the name at a place begins, where the first begins at `from`.
+fn begin_at(ends: &[usize], from: usize, place: usize) -> usize
     requires { place < length ends.now }
-    ensures { result ≡ begin_of out ends.now place }
+    ensures { result ≡ begin_of from ends.now place }
 {
     if place == 0 {
-        return out;
+        return from;
     }
     ends[place - 1]
 }
@@ -134,16 +134,17 @@ fn part(bytes: &[u8], from: usize, end: usize) -> &[u8]
     &bytes[from..end]
 }
 
-// The pin at a place, where these are the bytes of all names and where each of the pins ends.
-fn pin_at<'a>(bytes: &'a [u8], ends: &[usize], out: usize, place: usize) -> &'a [u8]
-    requires ends { AreSpelled out (length bytes.now) ends.now }
+/// The name at a place, where these are the bytes of all names, the first begins at `from`, and
+/// where each of them ends.
+pub(crate) fn name_at<'a>(bytes: &'a [u8], ends: &[usize], from: usize, place: usize) -> &'a [u8]
+    requires ends { AreSpelled from (length bytes.now) ends.now }
     requires place { place < length ends.now }
-    ensures name { slice_get (words_at out bytes.now ends.now) place ≡ Some result.now }
+    ensures name { slice_get (words_at from bytes.now ends.now) place ≡ Some result.now }
     ensures some { 0 < length result.now }
 {
-    let from = begin_at(ends, out, place);
+    let begin = begin_at(ends, from, place);
     let end = ends[place];
-    part(bytes, from, end)
+    part(bytes, begin, end)
 }
 
 /// The same gate, spelled.

@@ -1,9 +1,5 @@
 // Names, one after another in one list of bytes.
-ghost use Rattle.std.specs.Prelude.{◌≡◌, ◌+◌, ◌<◌, ◌≤◌, length, slice_get, Some};
-ghost use Rattle.std.specs.List.{slice_range};
-ghost use Rattle.lw_words.specs.Arenas.{words_at, begin_of};
-ghost use Rattle.lw_netlist.specs.Spelled.{AreSpelled};
-
+use crate::spelled::name_at;
 use std::alloc::{AllocError, Global};
 use std::marker::Model;
 
@@ -52,7 +48,7 @@ impl SpelledNames {
         ensures name { slice_get self.now place ≡ Some result.now }
         ensures some { 0 < length result.now }
     {
-        name_at(&self.bytes, &self.ends, place)
+        name_at(&self.bytes, &self.ends, 0, place)
     }
 
     /// Appends a name. For want of memory nothing is changed.
@@ -75,37 +71,4 @@ impl SpelledNames {
         self.bytes.clear();
         self.ends.clear();
     }
-}
-
-// Where the name at a place begins.
-fn begin_at(ends: &[usize], place: usize) -> usize
-    requires { place < length ends.now }
-    ensures { result ≡ begin_of 0 ends.now place }
-{
-    if place == 0 {
-        return 0;
-    }
-    ends[place - 1]
-}
-
-// A part of the bytes.
-fn part(bytes: &[u8], from: usize, end: usize) -> &[u8]
-    requires order { from ≤ end }
-    requires end { end ≤ length bytes.now }
-    ensures part { result.now ≡ slice_range bytes.now from end }
-    ensures len { length result.now + from ≡ end }
-{
-    &bytes[from..end]
-}
-
-// The name at a place, where these are the bytes of all names and where each of them ends.
-fn name_at<'a>(bytes: &'a [u8], ends: &[usize], place: usize) -> &'a [u8]
-    requires ends { AreSpelled 0 (length bytes.now) ends.now }
-    requires place { place < length ends.now }
-    ensures name { slice_get (words_at 0 bytes.now ends.now) place ≡ Some result.now }
-    ensures some { 0 < length result.now }
-{
-    let from = begin_at(ends, place);
-    let end = ends[place];
-    part(bytes, from, end)
 }

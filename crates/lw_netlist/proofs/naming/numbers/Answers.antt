@@ -30,5 +30,5 @@ link-requires-clause-places c = omega (arith, ap length c.deref_mut-2.ensures.va
 pub get-requires : goal.get-requires
 get-requires c = c.in-Some.ensures.within
 
-pub returns-in-Some-clause-fault : goal.returns-in-Some-clause-fault
-returns-in-Some-clause-fault c = c.in-Some.ensures.twice ∙ ap Some (get_or_from_slice_get c.args.names c.in-Some.place c.get.result.now [] c.get.ensures.name ∙ sym c.in_ok-name.ensures)
+pub returns-in-Some : goal.returns-in-Some
+returns-in-Some c = c.in-Some.ensures.twice ∙ ap Some (get_or_from_slice_get c.args.names c.in-Some.place c.get.result.now [] c.get.ensures.name ∙ sym c.in_ok-name.ensures)

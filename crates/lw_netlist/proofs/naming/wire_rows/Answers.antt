@@ -18,19 +18,18 @@ pushed driven wires i wire first old new row below here was is grown =
     ∙ (append_assoc first done (row ∷ [])
     ∙ ap (λ l. first ++ l) (numbered_more driven wire_link wires done (done ++ row ∷ []) i wire row below here refl is refl)))
 
-pub returns-in_err-row-clause-fault : goal.returns-in_err-row-clause-fault
-returns-in_err-row-clause-fault c =
+pub returns-in_err-row : goal.returns-in_err-row
+returns-in_err-row c =
     let p = err_from_is_err_and c.from_residual.result c.from_residual.ensures.1 in
-    rw (p.1, p.2) (undriven_in_link c.args.signals.now wire_link c.args.wires.now c.loop-wire.wire-index c.wire-item.result c.in_err-row.field-0.0 c.loop-wire-test.true c.wire-item.is c.loop-wire.invariant.rest c.in_err-row.ensures.fault)
+    rw (p.1, p.2) (undriven_in_link c.args.signals.now wire_link c.args.wires.now c.loop-wire.wire-index c.wire-item.result c.in_err-row.field-0.0 c.loop-wire-test.true c.wire-item.is c.loop-wire.invariant.rest c.in_err-row.ensures)
 
 pub loop-wire-preserved : goal.loop-wire-preserved
 loop-wire-preserved c = record {
-  so_far = pushed c.args.signals.now c.args.wires.now c.loop-wire.wire-index c.wire-item.result _ c.loop-wire.rows.items c.push.new.self.items c.in_ok-row.row c.loop-wire-test.true c.wire-item.is c.loop-wire.invariant.so_far c.in_ok-row.ensures.ok c.in-Ok.ensures.items;
-  rest = undriven_behind_link c.args.signals.now wire_link c.args.wires.now c.loop-wire.wire-index c.wire-item.result c.loop-wire-test.true c.wire-item.is c.loop-wire.invariant.rest c.in_ok-row.ensures.known;
+  so_far = pushed c.args.signals.now c.args.wires.now c.loop-wire.wire-index c.wire-item.result _ c.loop-wire.rows.items c.push.new.self.items c.in_ok-row.row c.loop-wire-test.true c.wire-item.is c.loop-wire.invariant.so_far c.in_ok-row.ensures.0 c.in-Ok.ensures.items;
+  rest = undriven_behind_link c.args.signals.now wire_link c.args.wires.now c.loop-wire.wire-index c.wire-item.result c.loop-wire-test.true c.wire-item.is c.loop-wire.invariant.rest c.in_ok-row.ensures.1;
 }
 
-pub returns-clause-ok : goal.returns-clause-ok
-returns-clause-ok c = c.loop-wire.invariant.so_far ∙ ap (λ ws. c.args.rows.now.items ++ numbered c.args.signals.now (map wire_link ws)) (take_all c.loop-wire.wire-index c.args.wires.now (omega (arith, c.loop-wire-test.false)))
-
-pub returns-clause-known : goal.returns-clause-known
-returns-clause-known c = sym c.loop-wire.invariant.rest ∙ ap (λ ws. undriven_in c.args.signals.now (flat_map needs_of (map wire_link ws))) (drop_all c.loop-wire.wire-index c.args.wires.now (omega (arith, c.loop-wire-test.false)))
+pub returns : goal.returns
+returns c = (
+  c.loop-wire.invariant.so_far ∙ ap (λ ws. c.args.rows.now.items ++ numbered c.args.signals.now (map wire_link ws)) (take_all c.loop-wire.wire-index c.args.wires.now (omega (arith, c.loop-wire-test.false))),
+  sym c.loop-wire.invariant.rest ∙ ap (λ ws. undriven_in c.args.signals.now (flat_map needs_of (map wire_link ws))) (drop_all c.loop-wire.wire-index c.args.wires.now (omega (arith, c.loop-wire-test.false))))

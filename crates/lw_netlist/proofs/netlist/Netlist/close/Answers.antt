@@ -8,7 +8,7 @@ pub places_by-requires-clause-few : goal.places_by-requires-clause-few
 places_by-requires-clause-few c =
     let draft = c.args.draft in
     let graph = c.in_ok-graph.graph in
-    let made = c.in_ok-graph.ensures.graph in
+    let made = c.in_ok-graph.ensures in
     let depths = c.in_ok-found.found.depths.items in
     let starts = c.in_ok-found.found.starts.items in
     let right = c.in_ok-found.ensures draft made in
@@ -22,7 +22,7 @@ pub places_by-requires-clause-least : goal.places_by-requires-clause-least
 places_by-requires-clause-least c =
     let draft = c.args.draft in
     let graph = c.in_ok-graph.graph in
-    let made = c.in_ok-graph.ensures.graph in
+    let made = c.in_ok-graph.ensures in
     let depths = c.in_ok-found.found.depths.items in
     let starts = c.in_ok-found.found.starts.items in
     let right = c.in_ok-found.ensures draft made in
@@ -36,7 +36,7 @@ pub placed-requires : goal.placed-requires
 placed-requires c =
     let draft = c.args.draft in
     let graph = c.in_ok-graph.graph in
-    let made = c.in_ok-graph.ensures.graph in
+    let made = c.in_ok-graph.ensures in
     let depths = c.in_ok-found.found.depths.items in
     let starts = c.in_ok-found.found.starts.items in
     let right = c.in_ok-found.ensures draft made in
@@ -54,7 +54,7 @@ pub returns-clause-closed : goal.returns-clause-closed
 returns-clause-closed c =
     let draft = c.args.draft in
     let graph = c.in_ok-graph.graph in
-    let made = c.in_ok-graph.ensures.graph in
+    let made = c.in_ok-graph.ensures in
     let depths = c.in_ok-found.found.depths.items in
     let starts = c.in_ok-found.found.starts.items in
     let right = c.in_ok-found.ensures draft made in
@@ -74,7 +74,7 @@ pub returns-clause-over : goal.returns-clause-over
 returns-clause-over c =
     let draft = c.args.draft in
     let graph = c.in_ok-graph.graph in
-    let made = c.in_ok-graph.ensures.graph in
+    let made = c.in_ok-graph.ensures in
     let depths = c.in_ok-found.found.depths.items in
     let starts = c.in_ok-found.found.starts.items in
     let right = c.in_ok-found.ensures draft made in

@@ -3,7 +3,7 @@ use Rattle.lw_words.proofs.WordsAt.{length-words_at}
 use Rattle.lw_netlist.specs.declared.draft.DraftGate.{DraftGate}
 use Rattle.lw_netlist.proofs.spelled.SpelledGate.pin.Goals as goal
 
-pub pin_at-requires-clause-place : goal.pin_at-requires-clause-place
-pin_at-requires-clause-place c =
+pub name_at-requires-clause-place : goal.name_at-requires-clause-place
+name_at-requires-clause-place c =
     let s = c.self.inside in
     omega (arith, c.requires, ap length c.deref-2.ensures, length-words_at s.out s.bytes.items s.ends.items, ap (λ (gate : DraftGate). length gate.pins) c.self.view_is)
