@@ -1,6 +1,6 @@
 -- What the statements of a text say: its model, its ports, its gates and its wires.
-use Rattle.std.specs.Prelude.{ℕ, Bool, position, slice_get, List, [], ◌∷◌, map, drop, Option, Some, None, if◌then◌else◌, codes}
-use Rattle.std.specs.List.{flat_map}
+use Rattle.std.specs.Prelude.{ℕ, ◌≡◌, Bool, true, position, slice_get, List, [], ◌∷◌, map, drop, Option, Some, None, if◌then◌else◌, codes}
+use Rattle.std.specs.List.{flat_map, list_any}
 use Rattle.std.specs.Str.{bytes_eq}
 use Rattle.lw_genlib.specs.Cells.{CellParts, names_of}
 use Rattle.lw_netlist.specs.declared.draft.DraftGate.{DraftGate}
@@ -49,6 +49,11 @@ is_for formal tie = bytes_eq tie.formal formal
 abbrev pub net_for : List Tie → List ℕ → List ℕ
 net_for [] formal = []
 net_for (tie ∷ ties) formal = if is_for formal tie then tie.net else net_for ties formal
+
+-- At this place stands the net of a pin or of the output that an instance of these names gives.
+pub record IsNetPlace (names : List (List ℕ)) (formal : List ℕ) (place : ℕ) : Type 0 where
+  pub given : list_any (is_for formal) (ties_in names) ≡ true
+  pub net : slice_get names place ≡ Some (net_for (ties_in names) formal)
 
 abbrev pub gate_of : ℕ → CellParts → List Tie → DraftGate
 gate_of number cell ties = record { cell = record { 0 = number }; pins = map (net_for ties) cell.pins; out = net_for ties cell.output }

@@ -1,11 +1,15 @@
 -- Flags for a run of numbers.
-use Rattle.std.specs.Prelude.{ℕ, ◌≡◌, ◌<◌, ◌≤◌, ◌+◌, ◌||◌, ◌^◌, Bool, false, List, length, slice_index_or}
+use Rattle.std.specs.Prelude.{ℕ, Option, MatchOption, ◌≡◌, ◌≢◌, ◌<◌, ◌≤◌, ◌+◌, ◌||◌, ◌^◌, Bool, false, List, length, slice_index_or}
 use Rattle.lw_netlist.specs.Closing.{is_among}
 use Rattle.lw_verilog.specs.Texts.{instance_name}
 
 -- how many numbers have flags at a time
 abbrev pub width : ℕ
 width = 65536
+
+-- The number whose text this is, if it is no more than 2 ^ 60, or none where no smaller one has this text.
+abbrev pub IsNumberBy : (ℕ → List ℕ) → List ℕ → Option ℕ → Type 0
+IsNumberBy text_of text o = MatchOption o ((k : ℕ) → k < 2 ^ 60 → text ≢ text_of k) (λ k. (text ≡ text_of k) × (k ≤ 2 ^ 60))
 
 -- flags after those were raised whose places pass a test
 pub record Raises (test : ℕ → Bool) (old new : List Bool) : Type 0 where

@@ -1,5 +1,5 @@
 //! Laws over definitions: functions with empty bodies, whose clauses are the laws.
-ghost use Rattle.std.specs.Prelude.{◌≡◌, ◌≢◌, ℕ, List, Result, Ok, Err, take, true};
+ghost use Rattle.std.specs.Prelude.{◌≡◌, ◌≢◌, ◌↔◌, ℕ, List, Result, Ok, Err, take, true};
 ghost use Rattle.lw_genlib.specs.Cells.{CellParts};
 ghost use Rattle.lw_netlist.specs.Netlists.{NetlistParts};
 ghost use Rattle.lw_verilog.specs.declared.fault.VerilogFault.{VerilogFault};
@@ -30,8 +30,7 @@ pub fn written_texts_read_back()
 /// The table of places and tokens is the grammar: it takes the tokens that the grammar derives, and
 /// no others.
 pub fn table_is_grammar()
-    ensures derived { (tokens : List Kind) → Accepts tokens → Derives file tokens }
-    ensures accepted { (tokens : List Kind) → Derives file tokens → Accepts tokens }
+    ensures { (tokens : List Kind) → (Accepts tokens) ↔ (Derives file tokens) }
 {}
 
 /// What is read without a fault up to the end of its module begins with tokens that the grammar

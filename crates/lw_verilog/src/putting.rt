@@ -1,5 +1,5 @@
 // Names and declarations.
-ghost use Rattle.std.specs.Prelude.{◌≡◌, ◌<◌, ◌≤◌, ◌∷◌, ◌++◌, [], codes, cond, length, map, All, IfSome, IfNone};
+ghost use Rattle.std.specs.Prelude.{◌≡◌, ◌<◌, ◌≤◌, ◌∷◌, ◌++◌, [], codes, cond, length, map, All, MatchOption};
 ghost use Rattle.std.specs.List.{flat_map, list_any};
 ghost use Rattle.std.specs.Str.{bytes_eq};
 ghost use Rattle.lw_netlist.specs.Closing.{is_among};
@@ -59,8 +59,8 @@ fn put_further_ports<S: Sink>(sink: &mut S, waiting: &mut Waiting, ports: &[Port
 
 // The first name, and the others.
 fn split_names(names: &[Name]) -> Option<(&[u8], &[Name])>
-    ensures some { IfSome result (λ parts. names.now ≡ parts.0.now ∷ parts.1.now) }
-    ensures none { IfNone result (names.now ≡ []) }
+    ensures { MatchOption result (names.now ≡ [])
+        (λ parts. names.now ≡ parts.0.now ∷ parts.1.now) }
 {
     match names {
         [first, rest @ ..] => Some((first.as_bytes(), rest)),
@@ -70,9 +70,8 @@ fn split_names(names: &[Name]) -> Option<(&[u8], &[Name])>
 
 // The first port's name, and the other ports.
 fn split_ports(ports: &[Port]) -> Option<(&[u8], &[Port])>
-    ensures some { IfSome result (λ parts. map port_name ports.now ≡ parts.0.now
-        ∷ map port_name parts.1.now) }
-    ensures none { IfNone result (map port_name ports.now ≡ []) }
+    ensures { MatchOption result (map port_name ports.now ≡ [])
+        (λ parts. map port_name ports.now ≡ parts.0.now ∷ map port_name parts.1.now) }
 {
     match ports {
         [first, rest @ ..] => Some((first.name.as_bytes(), rest)),

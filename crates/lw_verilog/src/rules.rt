@@ -1,12 +1,12 @@
 // The rules that names break.
-ghost use Rattle.std.specs.Prelude.{◌≡◌, ◌<◌, true, false, None, Some, [], length, replicate, drop, is_none, option_map, ◌&&◌, Contains, IfOk, IfSome, IfNone, slice_get, slice_index_or};
+ghost use Rattle.std.specs.Prelude.{◌≡◌, ◌<◌, true, false, None, Some, [], length, replicate, drop, is_none, option_map, ◌&&◌, Contains, IfOk, IfSome, MatchOption, slice_get, slice_index_or};
 ghost use Rattle.std.specs.List.{list_all, list_any};
 ghost use Rattle.std.specs.Option.{option_or};
 ghost use Rattle.std.specs.Str.{bytes_eq};
 ghost use Rattle.lw_genlib.specs.Cells.{names_of};
 ghost use Rattle.lw_netlist.specs.Closing.{is_among, twice_after};
 ghost use Rattle.lw_verilog.specs.Readings.{has_hash, name_fault, declared_fault, cell_fault, formal_fault, cell_in, gives_all, missing_fault, ports_fault};
-ghost use Rattle.lw_verilog.specs.Statements.{first_name, is_for, net_for, number_of, ties_in};
+ghost use Rattle.lw_verilog.specs.Statements.{IsNetPlace, first_name, is_for, number_of, ties_in};
 ghost use Rattle.lw_words.specs.Words.{is_name};
 
 use crate::VerilogKind;
@@ -65,8 +65,8 @@ fn has_cell(lib: &Library, id: CellId, name: &[u8]) -> bool
 
 /// The number of the cell with a name. It is tried first whether it is this one.
 pub(crate) fn find_cell(lib: &Library, hint: CellId, name: &[u8]) -> Option<CellId>
-    ensures found { IfSome result (λ id. slice_get (names_of lib.now) id.0 ≡ Some name.now) }
-    ensures none { IfNone result (¬ Contains (names_of lib.now) name.now) }
+    ensures { MatchOption result (¬ Contains (names_of lib.now) name.now)
+        (λ id. slice_get (names_of lib.now) id.0 ≡ Some name.now) }
 {
     if has_cell(lib, hint, name) {
         return Some(hint);
@@ -118,10 +118,8 @@ fn is_at(names: &SpelledNames, place: usize, name: &[u8]) -> bool
 
 /// The place of the net of a pin or of the output, among the names of an instance.
 pub(crate) fn net_place(names: &SpelledNames, formal: &[u8]) -> Option<usize>
-    ensures given { IfSome result (λ place. list_any (is_for formal.now) (ties_in names.now) ≡ true) }
-    ensures net { IfSome result (λ place. slice_get names.now place
-        ≡ Some (net_for (ties_in names.now) formal.now)) }
-    ensures none { IfNone result (list_any (is_for formal.now) (ties_in names.now) ≡ false) }
+    ensures { MatchOption result (list_any (is_for formal.now) (ties_in names.now) ≡ false)
+        (IsNetPlace names.now formal.now) }
 {
     let count = names.len();
     let mut place = 2;

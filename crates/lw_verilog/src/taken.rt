@@ -1,12 +1,12 @@
 // Which numbers make names of instances that are taken.
-ghost use Rattle.std.specs.Prelude.{◌≡◌, ◌≢◌, ◌<◌, ◌≤◌, ◌+◌, ◌++◌, ◌^◌, ℕ, min, length, map, decimal, IsTrue, IfSome, IfNone};
+ghost use Rattle.std.specs.Prelude.{◌≡◌, ◌<◌, ◌≤◌, ◌+◌, ◌++◌, ◌^◌, min, length, map, decimal, IsTrue};
 ghost use Rattle.std.specs.Char.{is_ascii_digit};
 ghost use Rattle.std.specs.List.{list_all, list_any};
 ghost use Rattle.std.specs.Str.{bytes_eq};
 ghost use Rattle.std.specs.Str.Parse.{digits_value};
 ghost use Rattle.lw_netlist.specs.Closing.{is_among};
 ghost use Rattle.lw_verilog.specs.Texts.{begins_u, instance_name, passed};
-ghost use Rattle.lw_verilog.specs.Windows.{AreTaken, Raises, width};
+ghost use Rattle.lw_verilog.specs.Windows.{AreTaken, IsNumberBy, Raises, width};
 ghost use Rattle.lw_netlist.specs.Plain.{port_name};
 
 use crate::putting::is_output;
@@ -47,9 +47,7 @@ fn capped_value(digits: &[u8]) -> u64
 
 // The number of which these are the digits.
 fn number_in(digits: &[u8]) -> Option<u64>
-    ensures some { IfSome result (λ k. digits.now ≡ decimal k) }
-    ensures few { IfSome result (λ k. k ≤ 2 ^ 60) }
-    ensures none { IfNone result ((k : ℕ) → k < 2 ^ 60 → digits.now ≢ decimal k) }
+    ensures { IsNumberBy decimal digits.now result }
 {
     if !are_digits(digits) {
         return None;
@@ -64,9 +62,7 @@ fn number_in(digits: &[u8]) -> Option<u64>
 
 // The number of the instance that has the name.
 fn number_of(name: &[u8]) -> Option<u64>
-    ensures some { IfSome result (λ k. name.now ≡ instance_name k) }
-    ensures few { IfSome result (λ k. k ≤ 2 ^ 60) }
-    ensures none { IfNone result ((k : ℕ) → k < 2 ^ 60 → name.now ≢ instance_name k) }
+    ensures { IsNumberBy instance_name name.now result }
 {
     if name.is_empty() || name[0] != b'u' {
         return None;

@@ -8,7 +8,7 @@ use Rattle.lw_netlist.specs.Plain.{port_name}
 pub returns-in-Some : goal.returns-in-Some
 returns-in-Some g c =
     Puts-is (Puts-both c.put_escaped.ensures (Puts-both c.put_further.ensures c.put_further_ports.ensures))
-    (joined-both _ _ (map port_name c.args.outputs.now) ∙ ap (λ l. joined (l ++ map port_name c.args.outputs.now)) (sym c.in-Some.ensures.some))
+    (joined-both _ _ (map port_name c.args.outputs.now) ∙ ap (λ l. joined (l ++ map port_name c.args.outputs.now)) (sym c.in-Some.ensures))
 
 pub returns-in-None : goal.returns-in-None
-returns-in-None g c = Puts-is c.put_outputs_joined.ensures (ap (λ l. joined (l ++ map port_name c.args.outputs.now)) (sym c.in-None.ensures.none))
+returns-in-None g c = Puts-is c.put_outputs_joined.ensures (ap (λ l. joined (l ++ map port_name c.args.outputs.now)) (sym c.in-None.ensures))

@@ -5,7 +5,7 @@ use Rattle.lw_verilog.proofs.PutParts.{Puts-is}
 use Rattle.lw_verilog.proofs.putting.put_outputs_joined.Goals as goal
 
 pub returns-in-Some : goal.returns-in-Some
-returns-in-Some g c = Puts-is (Puts-both c.put_escaped.ensures c.put_further_ports.ensures) (ap joined (sym c.in-Some.ensures.some))
+returns-in-Some g c = Puts-is (Puts-both c.put_escaped.ensures c.put_further_ports.ensures) (ap joined (sym c.in-Some.ensures))
 
 pub returns-in_default : goal.returns-in_default
-returns-in_default g c = Puts-is Puts-none (ap joined (sym c.in_default.ensures.none))
+returns-in_default g c = Puts-is Puts-none (ap joined (sym c.in_default.ensures))

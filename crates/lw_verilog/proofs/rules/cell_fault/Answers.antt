@@ -5,7 +5,7 @@ use Rattle.lw_verilog.proofs.Named.{among-at, none-among}
 use Rattle.lw_verilog.proofs.rules.cell_fault.Goals as goal
 
 pub returns-in-Some : goal.returns-in-Some
-returns-in-Some c = sym (ap (λ b. cond b None (Some kind.NoCell)) (among-at (names_of c.args.lib.now) _ c.args.name.now c.in-Some.ensures.found))
+returns-in-Some c = sym (ap (λ b. cond b None (Some kind.NoCell)) (among-at (names_of c.args.lib.now) _ c.args.name.now c.in-Some.ensures))
 
 pub returns-in-None : goal.returns-in-None
-returns-in-None c = sym (ap (λ b. cond b None (Some kind.NoCell)) (none-among (names_of c.args.lib.now) c.args.name.now c.in-None.ensures.none))
+returns-in-None c = sym (ap (λ b. cond b None (Some kind.NoCell)) (none-among (names_of c.args.lib.now) c.args.name.now c.in-None.ensures))

@@ -8,12 +8,12 @@ use Rattle.lw_verilog.proofs.rules.cell_id.Goals as goal
 pub returns-in-Some-clause-number : goal.returns-in-Some-clause-number
 returns-in-Some-clause-number c =
     let names = names_of c.args.lib.now in
-    ap (λ n. position (bytes_eq n) names) (sym c.first_name.ensures) ∙ found-at names c.in-Some.id.0 c.first_name.result.now c.len-count.ensures.kept.names_differ c.in-Some.ensures.found
+    ap (λ n. position (bytes_eq n) names) (sym c.first_name.ensures) ∙ found-at names c.in-Some.id.0 c.first_name.result.now c.len-count.ensures.kept.names_differ c.in-Some.ensures
 
 pub returns-in-Some-clause-within : goal.returns-in-Some-clause-within
-returns-in-Some-clause-within c = below-names c.args.lib.now c.in-Some.id.0 c.first_name.result.now c.in-Some.ensures.found
+returns-in-Some-clause-within c = below-names c.args.lib.now c.in-Some.id.0 c.first_name.result.now c.in-Some.ensures
 
 pub returns-in-None-clause-number : goal.returns-in-None-clause-number
 returns-in-None-clause-number c =
     let names = names_of c.args.lib.now in
-    ap (λ n. position (bytes_eq n) names) (sym c.first_name.ensures) ∙ found-none names c.first_name.result.now c.in-None.ensures.none
+    ap (λ n. position (bytes_eq n) names) (sym c.first_name.ensures) ∙ found-none names c.first_name.result.now c.in-None.ensures

@@ -5,20 +5,17 @@ use Rattle.lw_verilog.specs.Statements.{is_for}
 use Rattle.lw_verilog.proofs.Named.{pair-none, given-here, given-later, net-here, net-later}
 use Rattle.lw_verilog.proofs.rules.net_place.Goals as goal
 
-pub returns-then-is_at-clause-given : goal.returns-then-is_at-clause-given
-returns-then-is_at-clause-given c =
+pub returns-then-is_at : goal.returns-then-is_at
+returns-then-is_at c =
     let names = c.args.names.now in
     let place = c.loop-place.place in
     let below : place + 1 < length names = omega (arith, c.if-place-count.true, c.len-count.ensures) in
-    sym c.loop-place.invariant.given ∙ given-here names place [] c.args.formal.now below (sym c.is_at.ensures ∙ c.if-is_at.true)
-
-pub returns-then-is_at-clause-net : goal.returns-then-is_at-clause-net
-returns-then-is_at-clause-net c =
-    let names = c.args.names.now in
-    let place = c.loop-place.place in
-    let below : place + 1 < length names = omega (arith, c.if-place-count.true, c.len-count.ensures) in
-    slice_get-get_or names (place + 1) [] below
-    ∙ ap (λ n. Some n) (sym (net-here names place [] c.args.formal.now below (sym c.is_at.ensures ∙ c.if-is_at.true)) ∙ c.loop-place.invariant.net)
+    let hit = sym c.is_at.ensures ∙ c.if-is_at.true in
+    record {
+      given = sym c.loop-place.invariant.given ∙ given-here names place [] c.args.formal.now below hit;
+      net = slice_get-get_or names (place + 1) [] below
+          ∙ ap (λ n. Some n) (sym (net-here names place [] c.args.formal.now below hit) ∙ c.loop-place.invariant.net);
+    }
 
 pub loop-place-preserved : goal.loop-place-preserved
 loop-place-preserved c =
@@ -32,8 +29,8 @@ loop-place-preserved c =
       net = sym (net-later names place [] c.args.formal.now below miss) ∙ c.loop-place.invariant.net;
     }
 
-pub returns-else-place-count-clause-none : goal.returns-else-place-count-clause-none
-returns-else-place-count-clause-none c =
+pub returns-else-place-count : goal.returns-else-place-count
+returns-else-place-count c =
     let names = c.args.names.now in
     let place = c.loop-place.place in
     let far : length names ≤ place + 1 = omega (arith, c.if-place-count.false, c.len-count.ensures) in
