@@ -151,7 +151,8 @@ fn wire_rows(
     rows: &mut Vec<Numbers>,
 ) -> Result<(), NetlistFault>
     ensures { FindsDriven signals.now (flat_map needs_of (map wire_link wires.now)) result
-        (λ done. rows.new.items ≡ rows.old.items ++ numbered signals.now (map wire_link wires.now)) }
+        (λ done. rows.new.items
+            ≡ rows.old.items ++ numbered signals.now (map wire_link wires.now)) }
 {
     for wire in wires {
         let row = wire_row(alloc, wire, signals)?;
