@@ -10,8 +10,10 @@ pub mod Leading
 pub mod LeadingGates
 pub mod Marks
 pub mod Named
+pub mod NamedMoves
 pub mod OneMeaning
 pub mod Parsing
+pub mod PieceSizes
 pub mod Ports
 pub mod PutParts
 pub mod Quiet

@@ -1,7 +1,6 @@
 // The pieces of a text.
-ghost use Rattle.std.specs.Prelude.{◌≡◌, ◌≤◌, ◌<◌, ◌+◌, ◌^◌, length, not, take, true, false};
+ghost use Rattle.std.specs.Prelude.{◌≡◌, ◌<◌, ◌^◌, length, not};
 ghost use Rattle.std.specs.List.{position};
-ghost use Rattle.lw_verilog.specs.Tokens.{IsNameless, is_end, is_name, name_of};
 ghost use Rattle.lw_verilog.specs.Pieces.{byte_at, is_separator, is_visible, begins_name, is_name_byte, separators, visibles, name_bytes, line_bytes, before_pair, word_kind, sign_kind, closed, escaped, comment_or_sign, first_piece};
 ghost use Rattle.lw_words.specs.Lines.{is_line_feed};
 
@@ -48,8 +47,7 @@ fn separators_end(bytes: &[u8]) -> Option<usize>
 }
 
 fn separators(bytes: &[u8]) -> usize
-    ensures count { result ≡ separators bytes.now }
-    ensures within { result ≤ length bytes.now }
+    ensures { result ≡ separators bytes.now }
 {
     separators_end(bytes).unwrap_or(bytes.len())
 }
@@ -63,8 +61,7 @@ fn visibles_end(bytes: &[u8]) -> Option<usize>
 }
 
 fn visibles(bytes: &[u8]) -> usize
-    ensures count { result ≡ visibles bytes.now }
-    ensures within { result ≤ length bytes.now }
+    ensures { result ≡ visibles bytes.now }
 {
     visibles_end(bytes).unwrap_or(bytes.len())
 }
@@ -77,8 +74,7 @@ fn name_bytes_end(bytes: &[u8]) -> Option<usize>
 }
 
 fn name_bytes(bytes: &[u8]) -> usize
-    ensures count { result ≡ name_bytes bytes.now }
-    ensures within { result ≤ length bytes.now }
+    ensures { result ≡ name_bytes bytes.now }
 {
     name_bytes_end(bytes).unwrap_or(bytes.len())
 }
@@ -90,18 +86,14 @@ fn line_bytes_end(bytes: &[u8]) -> Option<usize>
 }
 
 fn line_bytes(bytes: &[u8]) -> usize
-    ensures count { result ≡ line_bytes bytes.now }
-    ensures within { result ≤ length bytes.now }
+    ensures { result ≡ line_bytes bytes.now }
 {
     line_bytes_end(bytes).unwrap_or(bytes.len())
 }
 
 // How many bytes stand before the first place where these two follow each other, or all.
 fn before_pair(first: u8, second: u8, bytes: &[u8]) -> usize
-    requires { 0 < second }
-    ensures before { result ≡ before_pair first second bytes.now }
-    ensures within { result ≤ length bytes.now }
-    ensures pair { result < length bytes.now → result + 1 < length bytes.now }
+    ensures { result ≡ before_pair first second bytes.now }
 {
     for place in 0..bytes.len() {
         if bytes[place] == first && byte_at(bytes, place + 1) == second {
@@ -138,8 +130,7 @@ fn word_kind(word: &[u8]) -> Kind
 
 #[tactic(auto, unfolding(crate::specs::Pieces::sign_kind))]
 fn sign_kind(b: u8) -> Kind
-    ensures kind { result ≡ sign_kind b }
-    ensures sign { is_name result ≡ false }
+    ensures { result ≡ sign_kind b }
 {
     match b {
         b'(' => Kind::Open,
@@ -154,9 +145,7 @@ fn sign_kind(b: u8) -> Kind
 
 // A comment that ends with these two bytes; its beginning is left out.
 fn closed(first: u8, second: u8, inside: &[u8]) -> Piece
-    requires { 0 < second }
-    ensures piece { result ≡ closed inside.now (before_pair first second inside.now) }
-    ensures nameless { IsNameless (length inside.now + 2) result }
+    ensures { result ≡ closed inside.now (before_pair first second inside.now) }
 {
     let count = before_pair(first, second, inside);
     if count < inside.len() {
@@ -190,11 +179,14 @@ fn escaped(count: usize) -> Piece
 
 // What begins with a slash or an opening bracket.
 #[inline(never)]
-#[tactic(auto, unfolding(crate::specs::Pieces::comment_or_sign))]
+#[tactic(
+    auto,
+    using(crate::proofs::PieceSizes::line_bytes_le),
+    unfolding(crate::specs::Pieces::comment_or_sign)
+)]
 fn slash_or_bracket(bytes: &[u8]) -> Piece
     requires { 0 < length bytes.now }
-    ensures piece { result ≡ comment_or_sign bytes.now }
-    ensures nameless { IsNameless (length bytes.now) result }
+    ensures { result ≡ comment_or_sign bytes.now }
 {
     let first = bytes[0];
     let second = byte_at(bytes, 1);
@@ -219,8 +211,7 @@ fn slash_or_bracket(bytes: &[u8]) -> Piece
 #[tactic(auto, unfolding(crate::specs::Pieces::comment_or_sign))]
 fn comment_or_sign(bytes: &[u8]) -> Piece
     requires { 0 < length bytes.now }
-    ensures piece { result ≡ comment_or_sign bytes.now }
-    ensures nameless { IsNameless (length bytes.now) result }
+    ensures { result ≡ comment_or_sign bytes.now }
 {
     let second = byte_at(bytes, 1);
     if second == b'*' || second == b'/' {
@@ -233,12 +224,17 @@ fn comment_or_sign(bytes: &[u8]) -> Piece
 }
 
 /// The piece with which a text begins.
-#[tactic(auto, unfolding(crate::specs::Pieces::first_piece))]
+#[tactic(
+    auto,
+    using(
+        crate::proofs::PieceSizes::separators_le,
+        crate::proofs::PieceSizes::visibles_le,
+        crate::proofs::PieceSizes::name_bytes_le
+    ),
+    unfolding(crate::specs::Pieces::first_piece)
+)]
 pub(crate) fn first_piece(bytes: &[u8]) -> Piece
-    ensures piece { result ≡ first_piece bytes.now }
-    ensures some { is_end result.kind ≡ false → 0 < result.size }
-    ensures within { result.size ≤ length bytes.now }
-    ensures named { is_name result.kind ≡ true → 0 < length (name_of (take result.size bytes.now)) }
+    ensures { result ≡ first_piece bytes.now }
 {
     if bytes.is_empty() {
         return Piece {

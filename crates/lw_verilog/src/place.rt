@@ -1,9 +1,8 @@
 // Where in the grammar a token stands.
-ghost use Rattle.std.specs.Prelude.{◌≡◌, true, false, IfSome};
+ghost use Rattle.std.specs.Prelude.{◌≡◌, false, IfSome};
 ghost use Rattle.lw_verilog.specs.declared.kind.Kind.TheVariants as kind;
 ghost use Rattle.lw_verilog.specs.Grammar.{move_at, moved};
-ghost use Rattle.lw_verilog.specs.Readings.{is_word};
-ghost use Rattle.lw_verilog.specs.Tokens.{is_end, is_name};
+ghost use Rattle.lw_verilog.specs.Tokens.{is_end};
 
 use crate::Kind;
 
@@ -143,8 +142,7 @@ fn move_by_name(place: Place) -> Option<Move>
 // What a comma does at this place, if one may stand there.
 #[tactic(auto, unfolding(crate::specs::Grammar::move_at))]
 fn move_by_comma(place: Place) -> Option<Move>
-    ensures step { result ≡ move_at place kind.Comma }
-    ensures named { IfSome result (λ step. is_word step.task ≡ true → is_name kind.Comma ≡ true) }
+    ensures { result ≡ move_at place kind.Comma }
 {
     match place {
         Place::BehindPort => moved(Place::NextPort, Task::Skip),
@@ -159,9 +157,7 @@ fn move_by_comma(place: Place) -> Option<Move>
 // What a semicolon does at this place, if one may stand there.
 #[tactic(auto, unfolding(crate::specs::Grammar::move_at))]
 fn move_by_semicolon(place: Place) -> Option<Move>
-    ensures step { result ≡ move_at place kind.Semicolon }
-    ensures named { IfSome result
-        (λ step. is_word step.task ≡ true → is_name kind.Semicolon ≡ true) }
+    ensures { result ≡ move_at place kind.Semicolon }
 {
     match place {
         Place::BehindModel => moved(Place::Item, Task::Header),
@@ -178,8 +174,7 @@ fn move_by_semicolon(place: Place) -> Option<Move>
 // What `(` does at this place, if one may stand there.
 #[tactic(auto, unfolding(crate::specs::Grammar::move_at))]
 fn move_by_open(place: Place) -> Option<Move>
-    ensures step { result ≡ move_at place kind.Open }
-    ensures named { IfSome result (λ step. is_word step.task ≡ true → is_name kind.Open ≡ true) }
+    ensures { result ≡ move_at place kind.Open }
 {
     match place {
         Place::BehindModel => moved(Place::FirstPort, Task::Skip),
@@ -192,8 +187,7 @@ fn move_by_open(place: Place) -> Option<Move>
 // What `)` does at this place, if one may stand there.
 #[tactic(auto, unfolding(crate::specs::Grammar::move_at))]
 fn move_by_close(place: Place) -> Option<Move>
-    ensures step { result ≡ move_at place kind.Close }
-    ensures named { IfSome result (λ step. is_word step.task ≡ true → is_name kind.Close ≡ true) }
+    ensures { result ≡ move_at place kind.Close }
 {
     match place {
         Place::FirstPort => moved(Place::BehindPorts, Task::Skip),
@@ -209,7 +203,6 @@ fn move_by_close(place: Place) -> Option<Move>
 #[tactic(auto, unfolding(crate::specs::Grammar::move_at))]
 pub(crate) fn move_at(place: Place, kind: Kind) -> Option<Move>
     ensures step { result ≡ move_at place kind }
-    ensures named { IfSome result (λ step. is_word step.task ≡ true → is_name kind ≡ true) }
     ensures ended { IfSome result (λ step. is_end kind ≡ false) }
 {
     match (place, kind) {

@@ -1,12 +1,8 @@
-use Rattle.std.proofs.Common.{◌≤◌, length, ap, sym, subst, not, ◌∙◌}
+use Rattle.std.proofs.Common.{length, ap, not, ◌∙◌}
 use Rattle.std.specs.Prelude.{unwrap_or}
-use Rattle.std.proofs.lemmas.List.Sums.{prefix_len-le-length}
 use Rattle.lw_facts.proofs.Lists.{position_or_length}
 use Rattle.lw_verilog.specs.Pieces.{is_separator}
 use Rattle.lw_verilog.proofs.pieces.separators.Goals as goal
 
-pub returns-clause-count : goal.returns-clause-count
-returns-clause-count c = c.unwrap_or.ensures ∙ (ap (λ o. unwrap_or o (length c.args.bytes.now)) c.separators_end.ensures ∙ position_or_length (λ b. not (is_separator b)) c.args.bytes.now)
-
-pub returns-clause-within : goal.returns-clause-within
-returns-clause-within c = subst (λ n. n ≤ length c.args.bytes.now) (sym (returns-clause-count c)) (prefix_len-le-length _ c.args.bytes.now)
+pub returns : goal.returns
+returns c = c.unwrap_or.ensures ∙ (ap (λ o. unwrap_or o (length c.args.bytes.now)) c.separators_end.ensures ∙ position_or_length (λ b. not (is_separator b)) c.args.bytes.now)
