@@ -4,21 +4,18 @@ use Rattle.std.specs.Prelude.{IfOk}
 use Rattle.std.specs.List.{flat_map}
 use Rattle.std.specs.Str.{bytes_eq}
 use Rattle.lw_frame.specs.Frames.{each_once}
-use Rattle.lw_words.specs.Lines.{LogicalLine}
-use Rattle.lw_genlib.specs.Cells.{CellParts, IsLibrary}
+use Rattle.lw_genlib.specs.Cells.{CellParts}
 use Rattle.lw_mapped.specs.declared.closing.Mapped.{Mapped}
 use Rattle.lw_mapped.specs.declared.contents.Contents.{Contents}
 use Rattle.lw_mapped.specs.declared.fault.MappedFault.{MappedFault}
 use Rattle.lw_mapped.specs.declared.reader.MappedReader.{MappedReader}
-use Rattle.lw_mapped.specs.Closings.{IsClosingOf, IsReadFrom}
+use Rattle.lw_mapped.specs.Closings.{IsClosingOf, IsReadOver}
 use Rattle.lw_mapped.specs.Keeping.{IsOfFew}
 use Rattle.lw_mapped.specs.LineFaults.{lines_read, lines_say}
 use Rattle.lw_mapped.specs.Said.{outputs_in}
 use Rattle.lw_mapped.specs.Standing.{IsGivenFew}
-use Rattle.lw_mapped.specs.Unmapped.{ClosesTo}
 use Rattle.lw_mapped.proofs.CellGates.{lines-of-cells}
 use Rattle.lw_mapped.proofs.Sizes.{lines-fit, read-fits}
-use Rattle.lw_mapped.proofs.Weights.{few-gates}
 
 filter-few : {A : Type 0} (p : A → Bool) (xs : List A) → length (filter p xs) ≤ length xs
 filter-few p [] = omega arith
@@ -46,7 +43,7 @@ few-lines reader cells open_one given =
       outputs = omega (arith, fit, within, given.few, once-few (flat_map outputs_in (lines_say cells read)));
     }
 
--- what is read is of these cells, fits, and has few gates
-pub read-from : (cells : List CellParts) (lines : List LogicalLine) (kept : Contents) (r : Result Mapped MappedFault) → IsLibrary cells → IsClosingOf kept cells r → ClosesTo (lines_say cells (lines_read lines)) r → IfOk r (IsReadFrom cells lines)
-read-from cells lines kept (Ok mapped) lib is closes = record { over = is.over; fits = is.fits; few = few-gates cells lines (Ok mapped) lib closes }
-read-from cells lines kept (Err f) lib is closes = tt
+-- what is read is of these cells and fits
+pub read-over : (cells : List CellParts) (kept : Contents) (r : Result Mapped MappedFault) → IsClosingOf kept cells r → IfOk r (IsReadOver cells)
+read-over cells kept (Ok mapped) is = record { over = is.over; fits = is.fits }
+read-over cells kept (Err f) is = tt

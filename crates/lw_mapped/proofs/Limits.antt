@@ -1,9 +1,10 @@
 -- Times, labels and class numbers that lines say are within their limits.
-use Rattle.std.proofs.Common.{ℕ, ◌≡◌, ◌<◌, ◌^◌, ◌==◌, ◌&&◌, Bool, true, false, cond, nat_lt, List, [], ◌∷◌, length, drop, Option, Some, None, Result, All, refl, subst, arith}
+use Rattle.std.proofs.Common.{ℕ, ◌≡◌, ◌<◌, ◌^◌, ◌==◌, ◌&&◌, Bool, true, false, cond, nat_lt, List, [], ◌∷◌, length, drop, Option, Some, None, Result, Ok, Err, All, refl, subst, arith}
 use Rattle.std.specs.Prelude.{nat_le, decimal}
 use Rattle.std.specs.Char.{is_ascii_digit}
 use Rattle.std.specs.List.{flat_map, list_all, AllByRecursion as Each}
 use Rattle.std.specs.Option.{IfSome}
+use Rattle.std.specs.Result.{IfOk}
 use Rattle.std.specs.Str.{bytes_eq}
 use Rattle.std.specs.Str.Parse.{digits_value}
 use Rattle.std.proofs.lemmas.Bool.Decides.{nat_tests}
@@ -15,11 +16,12 @@ use Rattle.lw_pool.specs.declared.id.ClassId.{ClassId}
 use Rattle.lw_mapped.specs.declared.command.Command.{Command}
 use Rattle.lw_mapped.specs.declared.command.Command.TheVariants as command
 use Rattle.lw_mapped.specs.declared.fault.MappedKind.{MappedKind}
+use Rattle.lw_mapped.specs.declared.fault.Refusal.{Refusal}
 use Rattle.lw_mapped.specs.declared.saying.Saying.{Saying}
 use Rattle.lw_mapped.specs.declared.saying.Saying.TheVariants as saying
 use Rattle.lw_mapped.specs.Commands.{command_of}
 use Rattle.lw_mapped.specs.LineFaults.{line_says, lines_say, what_is_said}
-use Rattle.lw_mapped.specs.Parsed.{IsFit, IsLabel}
+use Rattle.lw_mapped.specs.Parsed.{IsFit, IsLabel, Says}
 use Rattle.lw_mapped.specs.Said.{Labelled, Classed, arrivals_in, labels_in, nets_in, label_among, class_among}
 use Rattle.lw_mapped.specs.Sayings.{said, fault_in, are_names, second_word, words_say, command_says, certificate_says, class_said}
 use Rattle.lw_mapped.proofs.Driving.{each-flat}
@@ -75,6 +77,11 @@ fit-command cells command.Plain words = tt
 fit-words : (cells : List CellParts) (words : List (List ℕ)) → AreFit (words_say cells words)
 unfolding words_say
 fit-words cells words = fit-command cells (command_of (first_word words)) (drop 1 words)
+
+-- what a line says fits
+pub fits : (r : Result Saying Refusal) (cells : List CellParts) (c : Command) (words : List (List ℕ)) → Says r (command_says cells c words) → IfOk r IsFit
+fits (Ok what) cells c words says = (subst AreFit says (fit-command cells c words)).0
+fits (Err e) cells c words says = tt
 
 pub lines-within : (cells : List CellParts) (lines : List LogicalLine) → Each IsFit (lines_say cells lines)
 unfolding lines_say

@@ -12,8 +12,8 @@ range-first xs i end x below e =
     let count : end - i ≡ suc (end - (i + 1)) = omega arith in
     ap (λ l. take (end - i) l) (drop_get xs i x e) ∙ ap (λ n. take n (x ∷ drop (i + 1) xs)) count
 
-pub range-none : {A : Type 0} (xs : List A) (i : ℕ) → slice_range xs i i ≡ []
-range-none xs i = let none : i - i ≡ 0 = omega arith in ap (λ n. take n (drop i xs)) none ∙ take-zero (drop i xs)
+pub range-none : {A : Type 0} (xs : List A) (from end : ℕ) → end ≤ from → slice_range xs from end ≡ []
+range-none xs from end past = let none : end - from ≡ 0 = omega arith in ap (λ n. take n (drop from xs)) none ∙ take-zero (drop from xs)
   where
     take-zero : {B : Type 0} (ys : List B) → take 0 ys ≡ []
     take-zero [] = refl

@@ -24,8 +24,11 @@ pub record IsClosingOf (kept : Contents) (cells : List CellParts) (result : Resu
   pub fits : IfOk result IsMapped
   pub over : IfOk result (λ mapped. IsOver cells mapped.netlist)
 
--- a netlist of these cells in which all fits, with few gates for the words of the lines
-pub record IsReadFrom (cells : List CellParts) (lines : List LogicalLine) (mapped : Mapped) : Type 0 where
+-- a netlist of these cells in which all fits
+pub record IsReadOver (cells : List CellParts) (mapped : Mapped) : Type 0 where
   pub over : IsOver cells mapped.netlist
   pub fits : IsMapped mapped
-  pub few : 12 * length mapped.netlist.gates ≤ lines_weight lines
+
+-- at most a gate for each twelve of the weight of the lines
+abbrev pub HasFewGates : List LogicalLine → Mapped → Type 0
+HasFewGates lines mapped = 12 * length mapped.netlist.gates ≤ lines_weight lines

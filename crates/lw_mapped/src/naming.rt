@@ -20,7 +20,6 @@ pub(crate) fn is_name(word: &[u8]) -> bool
 
 // Whether all words but the first are names.
 fn are_names(words: &Words) -> bool
-    requires { 1 ≤ length words.now }
     ensures { result ≡ are_names (drop 1 words.now) }
 {
     for i in 1..words.len() {
@@ -33,7 +32,6 @@ fn are_names(words: &Words) -> bool
 
 /// The first rule that a line of names breaks.
 pub(crate) fn names_fault(has_shape: bool, words: &Words) -> Option<MappedKind>
-    requires { 1 ≤ length words.now }
     ensures { result ≡ fault_in has_shape (are_names (drop 1 words.now)) }
 {
     if !has_shape {
@@ -47,10 +45,9 @@ pub(crate) fn names_fault(has_shape: bool, words: &Words) -> Option<MappedKind>
 
 /// The words from a place on.
 pub(crate) fn names_from(alloc: Global, words: &Words, from: usize) -> Result<Names, AllocError>
-    requires { from ≤ length words.now }
     ensures { IfOk result (λ names. names ≡ drop from words.now) }
 {
-    let mut names = Vec::with_capacity(alloc, words.len() - from)?;
+    let mut names = Vec::with_capacity(alloc, words.len().saturating_sub(from))?;
     for i in from..words.len() {
         names.push(Name::from_slice(alloc, words.get(i))?)?;
     }

@@ -5,7 +5,7 @@ ghost use Rattle.std.specs.Char.{is_ascii_digit};
 ghost use Rattle.lw_fixed.specs.Decimals.{decimal_of};
 ghost use Rattle.std.specs.Str.Parse.{digits_value};
 ghost use Rattle.lw_mapped.specs.Sayings as says;
-ghost use Rattle.lw_mapped.specs.Parsed.{Says, IsFit};
+ghost use Rattle.lw_mapped.specs.Parsed.{Says};
 
 use crate::command::Command;
 use crate::naming::{is_name, name_at, names_fault, names_from};
@@ -27,9 +27,7 @@ const CLASSES: u32 = 4_194_304;
 const LABEL_UNITS: u64 = 1 << 43;
 
 fn model(alloc: Global, words: &Words) -> Result<Saying, Refusal>
-    requires { 1 ≤ length words.now }
-    ensures says { Says result (says.model_says (drop 1 words.now)) }
-    ensures fit { IfOk result IsFit }
+    ensures { Says result (says.model_says (drop 1 words.now)) }
 {
     if let Some(kind) = names_fault(words.len() == 2, words) {
         return Err(Refusal::Broken(kind));
@@ -38,9 +36,7 @@ fn model(alloc: Global, words: &Words) -> Result<Saying, Refusal>
 }
 
 fn inputs(alloc: Global, words: &Words) -> Result<Saying, Refusal>
-    requires { 1 ≤ length words.now }
-    ensures says { Says result (says.inputs_say (drop 1 words.now)) }
-    ensures fit { IfOk result IsFit }
+    ensures { Says result (says.inputs_say (drop 1 words.now)) }
 {
     if let Some(kind) = names_fault(true, words) {
         return Err(Refusal::Broken(kind));
@@ -49,9 +45,7 @@ fn inputs(alloc: Global, words: &Words) -> Result<Saying, Refusal>
 }
 
 fn outputs(alloc: Global, words: &Words) -> Result<Saying, Refusal>
-    requires { 1 ≤ length words.now }
-    ensures says { Says result (says.outputs_say (drop 1 words.now)) }
-    ensures fit { IfOk result IsFit }
+    ensures { Says result (says.outputs_say (drop 1 words.now)) }
 {
     if let Some(kind) = names_fault(true, words) {
         return Err(Refusal::Broken(kind));
@@ -60,9 +54,7 @@ fn outputs(alloc: Global, words: &Words) -> Result<Saying, Refusal>
 }
 
 fn wire(alloc: Global, words: &Words) -> Result<Saying, Refusal>
-    requires { 1 ≤ length words.now }
-    ensures says { Says result (says.wire_says (drop 1 words.now)) }
-    ensures fit { IfOk result IsFit }
+    ensures { Says result (says.wire_says (drop 1 words.now)) }
 {
     if let Some(kind) = names_fault(words.len() == 3, words) {
         return Err(Refusal::Broken(kind));
@@ -73,9 +65,7 @@ fn wire(alloc: Global, words: &Words) -> Result<Saying, Refusal>
 }
 
 fn latch(alloc: Global, words: &Words) -> Result<Saying, Refusal>
-    requires { 1 ≤ length words.now }
-    ensures says { Says result (says.latch_says (drop 1 words.now)) }
-    ensures fit { IfOk result IsFit }
+    ensures { Says result (says.latch_says (drop 1 words.now)) }
 {
     let has_shape = words.len() >= 3 && words.len() <= 6;
     if let Some(kind) = names_fault(has_shape, words) {
@@ -92,9 +82,7 @@ fn latch(alloc: Global, words: &Words) -> Result<Saying, Refusal>
 }
 
 fn gate(alloc: Global, lib: &Library, words: &Words) -> Result<Saying, Refusal>
-    requires { 1 ≤ length words.now }
-    ensures says { Says result (says.gate_says lib.now (drop 1 words.now)) }
-    ensures fit { IfOk result IsFit }
+    ensures { Says result (says.gate_says lib.now (drop 1 words.now)) }
 {
     if words.len() < 3 {
         return Err(Refusal::Broken(MappedKind::Shape));
@@ -111,9 +99,7 @@ fn gate(alloc: Global, lib: &Library, words: &Words) -> Result<Saying, Refusal>
 }
 
 fn input_arrival(alloc: Global, words: &Words) -> Result<Saying, Refusal>
-    requires { 1 ≤ length words.now }
-    ensures says { Says result (says.arrival_says (drop 1 words.now)) }
-    ensures fit { IfOk result IsFit }
+    ensures { Says result (says.arrival_says (drop 1 words.now)) }
 {
     if words.len() < 4 {
         return Err(Refusal::Broken(MappedKind::Shape));
@@ -128,9 +114,7 @@ fn input_arrival(alloc: Global, words: &Words) -> Result<Saying, Refusal>
 }
 
 fn default_arrival(words: &Words) -> Result<Saying, Refusal>
-    requires { 1 ≤ length words.now }
-    ensures says { Says result (says.default_says (drop 1 words.now)) }
-    ensures fit { IfOk result IsFit }
+    ensures { Says result (says.default_says (drop 1 words.now)) }
 {
     if words.len() < 3 {
         return Err(Refusal::Broken(MappedKind::Shape));
@@ -162,8 +146,7 @@ fn capped_value(digits: &[u8]) -> u32
 // The class of which the word is the decimal.
 #[tactic(auto, unfolding(crate::specs::Sayings::class_said))]
 fn class_of(word: &[u8]) -> Option<u32>
-    ensures class { result ≡ says.class_said word.now }
-    ensures few { IfSome result (λ class. class < 4194304) }
+    ensures { result ≡ says.class_said word.now }
 {
     if !are_digits(word) {
         return None;
@@ -181,9 +164,8 @@ fn class_of(word: &[u8]) -> Option<u32>
 
 fn label(words: &Words) -> Result<Saying, Refusal>
     requires { length words.now ≡ 4 }
-    ensures says { Says result (says.label_of (says.class_said (slice_index_or words.now 2 []))
+    ensures { Says result (says.label_of (says.class_said (slice_index_or words.now 2 []))
         (decimal_of (slice_index_or words.now 3 []) (2 ^ 43))) }
-    ensures fit { IfOk result IsFit }
 {
     let Some(class) = class_of(words.get(2)) else {
         return Err(Refusal::Broken(MappedKind::Certificate));
@@ -196,9 +178,8 @@ fn label(words: &Words) -> Result<Saying, Refusal>
 
 fn net(alloc: Global, words: &Words) -> Result<Saying, Refusal>
     requires { length words.now ≡ 4 }
-    ensures says { Says result (says.net_of (slice_index_or words.now 2 [])
+    ensures { Says result (says.net_of (slice_index_or words.now 2 [])
         (says.class_said (slice_index_or words.now 3 []))) }
-    ensures fit { IfOk result IsFit }
 {
     let Some(class) = class_of(words.get(3)) else {
         return Err(Refusal::Broken(MappedKind::Certificate));
@@ -207,9 +188,7 @@ fn net(alloc: Global, words: &Words) -> Result<Saying, Refusal>
 }
 
 fn certificate(alloc: Global, words: &Words) -> Result<Saying, Refusal>
-    requires { 1 ≤ length words.now }
-    ensures says { Says result (says.certificate_says (drop 1 words.now)) }
-    ensures fit { IfOk result IsFit }
+    ensures { Says result (says.certificate_says (drop 1 words.now)) }
 {
     if words.len() != 4 {
         return Err(Refusal::Broken(MappedKind::Certificate));
@@ -230,9 +209,7 @@ pub(crate) fn parse(
     asked: Command,
     words: &Words,
 ) -> Result<Saying, Refusal>
-    requires { 1 ≤ length words.now }
-    ensures says { Says result (says.command_says lib.now asked (drop 1 words.now)) }
-    ensures fit { IfOk result IsFit }
+    ensures { Says result (says.command_says lib.now asked (drop 1 words.now)) }
 {
     match asked {
         Command::Gate => gate(alloc, lib, words),

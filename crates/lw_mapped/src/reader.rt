@@ -70,7 +70,7 @@ impl MappedReader {
     ghost use Rattle.lw_mapped.specs.LineFaults.{first_fault, lines_read};
     ghost use Rattle.lw_mapped.specs.Unmapped.{IsUnmapped};
     ghost use Rattle.lw_mapped.specs.Standing.{StandsFor, IsGivenFew, Tells, StaysStopped, stop_of, fault_of};
-    ghost use Rattle.lw_mapped.specs.Closings.{IsReadFrom};
+    ghost use Rattle.lw_mapped.specs.Closings.{IsReadOver, HasFewGates};
 
     pub fn new(alloc: Global) -> Self
         ensures { (cells : List CellParts) → StandsFor result cells [] }
@@ -123,8 +123,9 @@ impl MappedReader {
         ensures answer { (lines : List LogicalLine) → StandsFor self lib.now lines →
             IsUnmapped lib.now lines result }
         ensures again { IfSome (stop_of self) (λ stop. result ≡ Err (fault_of stop)) }
-        ensures kept { (lines : List LogicalLine) → StandsFor self lib.now lines →
-            IfOk result (IsReadFrom lib.now lines) }
+        ensures kept { IfOk result (IsReadOver lib.now) }
+        ensures few { (lines : List LogicalLine) → StandsFor self lib.now lines →
+            IfOk result (HasFewGates lines) }
     {
         let MappedReader { stop, parts, .. } = self;
         let Parts {

@@ -48,8 +48,7 @@ fn is_for(formal: &[u8], word: &[u8]) -> bool
 
 // Whether one of the words before a place gives this pin or output a net.
 fn gives(words: &Words, end: usize, formal: &[u8]) -> bool
-    requires some { 2 ≤ end }
-    requires within { end ≤ length words.now }
+    requires { end ≤ length words.now }
     ensures { result ≡ gives (slice_range words.now 2 end) formal.now }
 {
     for place in FIRST..end {
@@ -81,8 +80,7 @@ fn is_formal(cell: &Cell, formal: &[u8]) -> bool
 // The first rule that the word at a place breaks.
 #[tactic(auto, unfolding(crate::specs::GateLines::tie_fault))]
 fn tie_fault(cell: &Cell, words: &Words, place: usize) -> Option<MappedKind>
-    requires some { 2 ≤ place }
-    requires within { place < length words.now }
+    requires { place < length words.now }
     ensures { result ≡ tie_fault cell.now (slice_range words.now 2 place)
         (slice_index_or words.now place []) }
 {
@@ -104,7 +102,6 @@ fn tie_fault(cell: &Cell, words: &Words, place: usize) -> Option<MappedKind>
 
 // The first rule that one of the words breaks.
 fn first_tie_fault(cell: &Cell, words: &Words) -> Option<MappedKind>
-    requires { 2 ≤ length words.now }
     ensures { result ≡ first_tie_fault cell.now [] (drop 2 words.now) }
 {
     for place in FIRST..words.len() {
@@ -118,7 +115,6 @@ fn first_tie_fault(cell: &Cell, words: &Words) -> Option<MappedKind>
 
 // Whether each pin and the output has a net.
 fn gives_all(cell: &Cell, words: &Words) -> bool
-    requires { 2 ≤ length words.now }
     ensures { result ≡ gives_all cell.now (drop 2 words.now) }
 {
     for pin in cell.pins() {
@@ -131,7 +127,6 @@ fn gives_all(cell: &Cell, words: &Words) -> bool
 
 /// The first rule that the words of a gate of this cell break.
 pub(crate) fn ties_fault(cell: &Cell, words: &Words) -> Option<MappedKind>
-    requires { 2 ≤ length words.now }
     ensures { result ≡ ties_fault cell.now (drop 2 words.now) }
 {
     let fault = first_tie_fault(cell, words);
@@ -143,7 +138,6 @@ pub(crate) fn ties_fault(cell: &Cell, words: &Words) -> Option<MappedKind>
 
 // The net of a pin or of the output.
 fn net_for<'a>(words: &'a Words, formal: &[u8]) -> &'a [u8]
-    requires { 2 ≤ length words.now }
     ensures { result.now ≡ net_for (drop 2 words.now) formal.now }
 {
     for place in FIRST..words.len() {
@@ -157,8 +151,7 @@ fn net_for<'a>(words: &'a Words, formal: &[u8]) -> &'a [u8]
 
 // Appends the nets of these pins.
 fn push_pins(gate: &mut SpelledGate, words: &Words, pins: &[Name]) -> Result<(), AllocError>
-    requires count { 2 ≤ length words.now }
-    requires given { All (λ pin. 0 < length (net_for (drop 2 words.now) pin)) pins.now }
+    requires { All (λ pin. 0 < length (net_for (drop 2 words.now) pin)) pins.now }
     ensures { OnOk result (gate.new ≡ record {
       cell = gate.old.cell;
       pins = gate.old.pins ++ map (net_for (drop 2 words.now)) pins.now;
@@ -178,8 +171,7 @@ pub(crate) fn gate_of(
     cell: &Cell,
     words: &Words,
 ) -> Result<SpelledGate, AllocError>
-    requires count { 2 ≤ length words.now }
-    requires whole { ties_fault cell.now (drop 2 words.now) ≡ None }
+    requires { ties_fault cell.now (drop 2 words.now) ≡ None }
     ensures { IfOk result (λ gate. gate ≡ gate_of id.0 cell.now (drop 2 words.now)) }
 {
     let out = net_for(words, cell.output().as_bytes());

@@ -16,5 +16,5 @@ loop-place-preserved c =
 
 pub returns : goal.returns
 returns c =
-    let same : c.loop-place.place ≡ c.args.end = omega arith in
-    sym (ap (list_any (is_for c.args.formal.now)) (ap (λ p. slice_range c.args.words.now p c.args.end) same ∙ range-none c.args.words.now c.args.end)) ∙ c.loop-place.invariant
+    let past = c.loop-place-test.false in
+    sym (ap (list_any (is_for c.args.formal.now)) (range-none c.args.words.now c.loop-place.place c.args.end (omega arith))) ∙ c.loop-place.invariant

@@ -3,7 +3,8 @@ use Rattle.lw_mapped.specs.declared.fault.MappedFault.{MappedFault}
 use Rattle.lw_mapped.specs.LineFaults.{lines_read, lines_say}
 use Rattle.lw_mapped.specs.Unmapped.{IsUnmapped}
 use Rattle.lw_mapped.proofs.StandingFor.{no_fault, comes-stopped, comes-wire, comes-closed}
-use Rattle.lw_mapped.proofs.Ending.{few-lines, read-from}
+use Rattle.lw_mapped.proofs.Ending.{few-lines, read-over}
+use Rattle.lw_mapped.proofs.Weights.{few-gates}
 use Rattle.lw_mapped.proofs.reader.MappedReader.end.Goals as goal
 
 pub returns-in-Some-clause-answer : goal.returns-in-Some-clause-answer
@@ -27,6 +28,9 @@ returns-clause-answer c = λ lines h.
     (c.close.ensures.closes (lines_say c.args.lib.now (lines_read lines)) kept.said)
 
 pub returns-clause-kept : goal.returns-clause-kept
-returns-clause-kept c = λ lines h.
-    read-from c.args.lib.now lines c.args.self.parts.contents c.close.result c.len-count.ensures.kept c.close.ensures
+returns-clause-kept c = read-over c.args.lib.now c.args.self.parts.contents c.close.result c.close.ensures
+
+pub returns-clause-few : goal.returns-clause-few
+returns-clause-few c = λ lines h.
+    few-gates c.args.lib.now lines c.close.result c.len-count.ensures.kept
     (c.close.ensures.closes (lines_say c.args.lib.now (lines_read lines)) (h.kept c.in_default.is).said)
