@@ -18,7 +18,7 @@ use Rattle.lw_mapped.specs.Standing.{AreLabels}
 use Rattle.lw_check.specs.Claims.{Claim, HasKnownClasses, HasPotential, IsFirstUnbounded, cost_in, label_of_class, plain_labels}
 use Rattle.lw_check.specs.Failing.{Gives, IsFirstFailing}
 use Rattle.lw_check.specs.Least.{FindsUnbounded, IsLeastAt, IsLeastOf}
-use Rattle.lw_check.specs.declared.labels.Unbounded.{Unbounded}
+use Rattle.lw_check.specs.declared.trial.Unbounded.{Unbounded}
 use Rattle.lw_check.proofs.Failures.{Fails, failing_of, first_fails}
 use Rattle.lw_check.proofs.Places.{read_map, some_mapped}
 use Rattle.lw_check.proofs.Unknown.{label_known}

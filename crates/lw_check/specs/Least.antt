@@ -1,5 +1,7 @@
 -- The least of some numbers, and what is looked for at classes and matches.
-use Rattle.std.specs.Prelude.{ℕ, ◌≤◌, ◌≡◌, nat_lt, if◌then◌else◌, List, length, Option, Some, None, slice_get, slice_index_or}
+use Rattle.std.specs.Prelude.{ℕ, ◌<◌, ◌≤◌, ◌≡◌, nat_lt, if◌then◌else◌, List, length, Option, Some, None, option_map, slice_get, slice_index_or}
+use Rattle.lw_fixed.specs.declared.micro.Micro.{Micro}
+use Rattle.lw_genlib.specs.Tables.{millionths}
 use Rattle.lw_laws.specs.Graphs.{Graph}
 use Rattle.lw_laws.specs.Costs.{Cost}
 use Rattle.lw_laws.specs.Covers.{Pattern, HasPins}
@@ -12,7 +14,7 @@ use Rattle.lw_match.specs.Bounds.{AreBounds, BoundsFit, BoundsState}
 use Rattle.lw_match.specs.Least.{AreOfCells}
 use Rattle.lw_match.specs.Values.{AreInRange}
 use Rattle.lw_match.specs.declared.mark.Mark.{Mark}
-use Rattle.lw_check.specs.declared.labels.Unbounded.{Unbounded}
+use Rattle.lw_check.specs.declared.trial.Unbounded.{Unbounded}
 use Rattle.lw_check.specs.Failing.{IsMatchCost, IsAbove, Gives, IsFirstFailing}
 
 -- the least number with a property, or none where no number has it
@@ -55,6 +57,11 @@ IsCostOf cost pats labels m (Some d) = CostsBy cost pats labels m d
 -- the match has labelled pins and costs less than the label, or there is none
 abbrev pub IsLowMatch : Cost → List Pattern → Labels → Option ℕ → Match → Type 0
 IsLowMatch cost pats labels label m = (d : ℕ) × CostsBy cost pats labels m d × IsAbove label d
+
+-- the labels of so many classes, as numbers
+pub record ArePlainLabels (labels : List (Option Micro)) (classes : ℕ) (plain : List (Option ℕ)) : Type 0 where
+  pub one_each : length plain ≡ classes
+  pub each : (c : ℕ) → c < classes → labels_in plain c ≡ option_map millionths (slice_index_or labels c None)
 
 -- a mark with this cost, and no height
 abbrev pub flat_mark : Option ℕ → Option Mark

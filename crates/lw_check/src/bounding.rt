@@ -29,8 +29,7 @@ fn label_at(labels: &[Option<u64>], class: ClassId) -> Option<u64>
 
 // Whether there is no label, or one above the value.
 fn is_above(label: Option<u64>, value: u64) -> bool
-    ensures above { IsTrue result → IsAbove label value }
-    ensures not { IsFalse result → IsAbove label value → ⊥ }
+    ensures { IsTrue result ↔ IsAbove label value }
 {
     match label {
         Some(label) => value < label,
@@ -117,11 +116,8 @@ fn is_low<C: Cost>(
     label: Option<u64>,
 ) -> bool
     requires { IsByPattern (C.costs cost.now).pin_counts pats.now (plain_match found.now) }
-    ensures low { IsTrue result → IsLowMatch (C.costs cost.now) pats.now
+    ensures { IsTrue result ↔ IsLowMatch (C.costs cost.now) pats.now
         (labels_in labels.now) label (plain_match found.now) }
-    ensures not { IsFalse result →
-        IsLowMatch (C.costs cost.now) pats.now (labels_in labels.now) label (plain_match found.now)
-        → ⊥ }
 {
     match cost_of_match(pats, cost, labels, found) {
         Some(value) => is_above(label, value),
@@ -140,10 +136,8 @@ fn has_low_match<C: Cost>(
 ) -> bool
     requires class { class.0 < length graph.now.pairs }
     requires of_cells { AreOfCells (C.costs cost.now).pin_counts pats.now }
-    ensures low { IsTrue result → IsLow graph.now (C.costs cost.now) pats.now
+    ensures { IsTrue result ↔ IsLow graph.now (C.costs cost.now) pats.now
         (labels_in labels.now) class.0 }
-    ensures not { IsFalse result →
-        IsLow graph.now (C.costs cost.now) pats.now (labels_in labels.now) class.0 → ⊥ }
 {
     let _ = graph.classes();
     let label = label_at(labels, class);

@@ -13,6 +13,7 @@ mod outputs;
 mod ports;
 mod spans;
 mod standing;
+mod trial;
 mod verdict;
 
 pub use bounding::bound;

@@ -1,4 +1,5 @@
 use Rattle.std.proofs.Common.{Some, ◌+◌, option_map, ap, ◌∙◌, arith}
+use Rattle.std.proofs.lemmas.Bool.{iff_false}
 use Rattle.lw_laws.specs.Rounds.{labels_in}
 use Rattle.lw_check.specs.Claims.{class_number}
 use Rattle.lw_check.specs.Least.{lesser_of}
@@ -19,11 +20,11 @@ loop-input-preserved g c =
       | then-is_above w ↦
           least_on (IsLateBefore graph cost labels (input + 1)) new (lesser_of old (Some class)) (ap (option_map class_number) w.first-is ∙ w.earlier-first.ensures)
           (late_more graph cost labels input class old c.leaf-class.ensures.class
-          (above_on c.label_at.result (labels class) c.leaf.result (cost.leaf input) c.label_at.ensures c.leaf.ensures (c.is_above.ensures.above w.if-is_above.true)) c.loop-input.invariant)
+          (above_on c.label_at.result (labels class) c.leaf.result (cost.leaf input) c.label_at.ensures c.leaf.ensures (c.is_above.ensures.0 w.if-is_above.true)) c.loop-input.invariant)
       | else-is_above w ↦
           least_on (IsLateBefore graph cost labels (input + 1)) new old (ap (option_map class_number) w.first-is)
           (late_same graph cost labels input class old c.leaf-class.ensures.class
-          (not_above_on c.label_at.result (labels class) c.leaf.result (cost.leaf input) c.label_at.ensures c.leaf.ensures (c.is_above.ensures.not w.if-is_above.false)) c.loop-input.invariant)
+          (not_above_on c.label_at.result (labels class) c.leaf.result (cost.leaf input) c.label_at.ensures c.leaf.ensures (iff_false c.is_above.ensures w.if-is_above.false)) c.loop-input.invariant)
     ]
 
 pub returns : goal.returns

@@ -1,4 +1,5 @@
 use Rattle.std.proofs.Common.{refl, arith}
+use Rattle.std.proofs.lemmas.Bool.{iff_false}
 use Rattle.lw_laws.specs.Rounds.{labels_in}
 use Rattle.lw_check.specs.Least.{IsLow}
 use Rattle.lw_check.proofs.Failures.{low_in}
@@ -8,11 +9,11 @@ use Rattle.lw_check.proofs.bounding.first_low_class.Goals as goal
 
 pub returns-then-has_low_match : goal.returns-then-has_low_match
 returns-then-has_low_match g c =
-    first_least (IsLow c.args.graph.now (g.C.Cost.costs c.args.cost.now) c.args.pats.now (labels_in c.args.labels.now)) c.loop-number.number (c.if-has_low_match.ensures.low refl) c.loop-number.invariant
+    first_least (IsLow c.args.graph.now (g.C.Cost.costs c.args.cost.now) c.args.pats.now (labels_in c.args.labels.now)) c.loop-number.number (c.if-has_low_match.ensures.0 refl) c.loop-number.invariant
 
 pub loop-number-preserved : goal.loop-number-preserved
 loop-number-preserved g c =
-    below_next (λ b. IsLow c.args.graph.now (g.C.Cost.costs c.args.cost.now) c.args.pats.now (labels_in c.args.labels.now) b → ⊥) c.loop-number.number c.loop-number.invariant (c.if-has_low_match.ensures.not refl)
+    below_next (λ b. IsLow c.args.graph.now (g.C.Cost.costs c.args.cost.now) c.args.pats.now (labels_in c.args.labels.now) b → ⊥) c.loop-number.number c.loop-number.invariant (iff_false c.if-has_low_match.ensures refl)
 
 pub returns : goal.returns
 returns g c = λ n low.

@@ -1,4 +1,5 @@
-use Rattle.std.proofs.Common.{refl}
+use Rattle.std.proofs.Common.{refl, sym, true≢false}
+use Rattle.std.proofs.lemmas.Bool.{iff_false}
 use Rattle.lw_laws.specs.Rounds.{labels_in}
 use Rattle.lw_match.specs.Coming.{still_to_come}
 use Rattle.lw_match.specs.Values.{plain_match}
@@ -20,16 +21,18 @@ is_low-requires g c =
     by_pattern graph cost pats (labels_in c.args.labels.now) c.args.class.0 (plain_match c.in-Some.found) c.requires.of_cells
     (looking_here graph cost pats (labels_in c.args.labels.now) c.args.class.0 (still_to_come c.loop-found.cursor graph pats) (still_to_come c.next.new.self graph pats) (plain_match c.in-Some.found) c.in-Some.ensures.first c.loop-found.invariant.looking)
 
-pub returns-then-is_low-clause-low : goal.returns-then-is_low-clause-low
-returns-then-is_low-clause-low g c = λ t.
+pub returns-then-is_low : goal.returns-then-is_low
+returns-then-is_low g c =
     let graph = c.args.graph.now in
     let cost = g.C.Cost.costs c.args.cost.now in
     let pats = c.args.pats.now in
     let labels = labels_in c.args.labels.now in
-    let found = plain_match c.in-Some.found in
-    low_of graph cost pats labels c.args.class.0 found c.requires.of_cells
-    (looking_here graph cost pats labels c.args.class.0 (still_to_come c.loop-found.cursor graph pats) (still_to_come c.next.new.self graph pats) found c.in-Some.ensures.first c.loop-found.invariant.looking)
-    (low_on cost pats labels found c.label_at-label.result (labels c.args.class.0) c.label_at-label.ensures (c.if-is_low.ensures.low t))
+    let found = plain_match c.in-Some.found in (
+      λ t. low_of graph cost pats labels c.args.class.0 found c.requires.of_cells
+          (looking_here graph cost pats labels c.args.class.0 (still_to_come c.loop-found.cursor graph pats) (still_to_come c.next.new.self graph pats) found c.in-Some.ensures.first c.loop-found.invariant.looking)
+          (low_on cost pats labels found c.label_at-label.result (labels c.args.class.0) c.label_at-label.ensures (c.if-is_low.ensures.0 t)),
+      λ low. refl,
+    )
 
 pub loop-found-preserved : goal.loop-found-preserved
 loop-found-preserved g c =
@@ -40,9 +43,11 @@ loop-found-preserved g c =
     let found = plain_match c.in-Some.found in
     record {
       fits = c.in-Some.ensures.fits;
-      looking = looking_more graph cost pats labels c.args.class.0 (still_to_come c.loop-found.cursor graph pats) (still_to_come c.next.new.self graph pats) found c.in-Some.ensures.first (not_low_on cost pats labels found c.label_at-label.result (labels c.args.class.0) c.label_at-label.ensures (c.if-is_low.ensures.not refl)) c.loop-found.invariant.looking;
+      looking = looking_more graph cost pats labels c.args.class.0 (still_to_come c.loop-found.cursor graph pats) (still_to_come c.next.new.self graph pats) found c.in-Some.ensures.first (not_low_on cost pats labels found c.label_at-label.result (labels c.args.class.0) c.label_at-label.ensures (iff_false c.if-is_low.ensures refl)) c.loop-found.invariant.looking;
     }
 
-pub returns-clause-not : goal.returns-clause-not
-returns-clause-not g c = λ f.
-    looking_over c.args.graph.now (g.C.Cost.costs c.args.cost.now) c.args.pats.now (labels_in c.args.labels.now) c.args.class.0 (still_to_come c.loop-found.cursor c.args.graph.now c.args.pats.now) c.in_default.ensures.first c.requires.of_cells c.loop-found.invariant.looking
+pub returns : goal.returns
+returns g c = (
+  λ t. absurd (true≢false (sym t)),
+  λ low. absurd (looking_over c.args.graph.now (g.C.Cost.costs c.args.cost.now) c.args.pats.now (labels_in c.args.labels.now) c.args.class.0 (still_to_come c.loop-found.cursor c.args.graph.now c.args.pats.now) c.in_default.ensures.first c.requires.of_cells c.loop-found.invariant.looking low),
+)

@@ -7,14 +7,14 @@ use Rattle.lw_check.specs.Least.{AreFlat, flat_mark}
 use Rattle.lw_check.proofs.Table.{flat_costs, flat_in_range, flat_marks}
 use Rattle.lw_check.proofs.labels.sought.Goals as goal
 
-pub first_unbounded-requires-clause-labels : goal.first_unbounded-requires-clause-labels
-first_unbounded-requires-clause-labels g c = ap costs_of (c.deref-2.ensures.value ∙ c.in_ok-marks.ensures) ∙ flat_costs c.args.labels.now
+pub invariant_of-trial-clause-labels_are : goal.invariant_of-trial-clause-labels_are
+invariant_of-trial-clause-labels_are g c = ap costs_of (c.deref-2.ensures.value ∙ c.in_ok-marks.ensures) ∙ flat_costs c.args.labels.now
 
-pub first_unbounded-requires-clause-flat : goal.first_unbounded-requires-clause-flat
-first_unbounded-requires-clause-flat g c = subst (λ ms. AreFlat ms) (sym (c.deref-2.ensures.value ∙ c.in_ok-marks.ensures)) (flat_marks c.args.labels.now)
+pub invariant_of-trial-clause-flat : goal.invariant_of-trial-clause-flat
+invariant_of-trial-clause-flat g c = subst (λ ms. AreFlat ms) (sym (c.deref-2.ensures.value ∙ c.in_ok-marks.ensures)) (flat_marks c.args.labels.now)
 
-pub first_unbounded-requires-clause-table : goal.first_unbounded-requires-clause-table
-first_unbounded-requires-clause-table g c =
+pub first_unbounded-requires : goal.first_unbounded-requires
+first_unbounded-requires g c =
     let marks = sym (c.deref-2.ensures.value ∙ c.in_ok-marks.ensures) in
     record {
       one_each = ap length (c.deref-2.ensures.value ∙ c.in_ok-marks.ensures) ∙ (length-map c.args.labels.now flat_mark ∙ c.requires.one_each);

@@ -1,25 +1,28 @@
-use Rattle.std.proofs.Common.{refl, ◌∙◌, arith}
+use Rattle.std.proofs.Common.{length, refl, ap, sym, ◌∙◌, arith}
 use Rattle.std.proofs.lemmas.Bool.{iff_false}
 use Rattle.std.proofs.lemmas.List.{length-map}
 use Rattle.lw_laws.specs.Rounds.{labels_in}
-use Rattle.lw_label.specs.Labels.{cost_in, costs_of}
+use Rattle.lw_label.specs.Labels.{cost_in}
 use Rattle.lw_check.specs.Least.{IsLow}
 use Rattle.lw_check.proofs.Failures.{low_in}
 use Rattle.lw_check.proofs.Lesser.{first_least}
 use Rattle.lw_check.proofs.Timely.{below_next}
-use Rattle.lw_check.proofs.labels.first_low.Goals as goal
+use Rattle.lw_check.proofs.trial.Trial.first_low.Goals as goal
 
 pub returns-then-is_low_at : goal.returns-then-is_low_at
 returns-then-is_low_at g c =
-    first_least (IsLow c.args.graph.now (g.C.Cost.costs c.args.cost.now) c.args.pats.now (labels_in (costs_of c.args.marks.now))) c.loop-number.number (c.if-is_low_at.ensures.0 refl) c.loop-number.invariant
+    let t = c.args.self.now in
+    first_least (IsLow t.graph.now (g.C.Cost.costs t.cost.now) t.pats.now (labels_in t.labels.now)) c.loop-number.number (c.if-is_low_at.ensures.0 refl) c.loop-number.invariant
 
 pub loop-number-preserved : goal.loop-number-preserved
 loop-number-preserved g c =
-    below_next (λ b. IsLow c.args.graph.now (g.C.Cost.costs c.args.cost.now) c.args.pats.now (labels_in (costs_of c.args.marks.now)) b → ⊥) c.loop-number.number c.loop-number.invariant (iff_false c.if-is_low_at.ensures refl)
+    let t = c.args.self.now in
+    below_next (λ b. IsLow t.graph.now (g.C.Cost.costs t.cost.now) t.pats.now (labels_in t.labels.now) b → ⊥) c.loop-number.number c.loop-number.invariant (iff_false c.if-is_low_at.ensures refl)
 
 pub returns : goal.returns
 returns g c = λ n low.
-    let inside = low_in c.args.graph.now (g.C.Cost.costs c.args.cost.now) c.args.pats.now (costs_of c.args.marks.now) c.classes-number-end.ensures.kept (length-map c.args.marks.now cost_in ∙ c.requires.table.one_each) n low in
+    let t = c.args.self.now in
+    let inside = low_in t.graph.now (g.C.Cost.costs t.cost.now) t.pats.now t.labels.now c.classes-number-end.ensures.kept (sym (ap length t.labels_are) ∙ (length-map t.marks.now cost_in ∙ c.requires.one_each)) n low in
     let all = c.loop-number-test.false in
     let count = c.classes-number-end.ensures.classes in
     c.loop-number.invariant n (omega arith) low
