@@ -1,6 +1,5 @@
 // Words in places of names.
-ghost use Rattle.std.specs.Prelude.{◌≡◌, ◌<◌, ◌≤◌, length, drop, slice_index_or, [], IfOk};
-ghost use Rattle.std.specs.List.{list_all};
+ghost use Rattle.std.specs.Prelude.{◌≡◌, ◌<◌, length, drop, slice_index_or, [], IfOk};
 ghost use Rattle.lw_mapped.specs.Sayings.{fault_in, are_names};
 ghost use Rattle.lw_words.specs.Words.{is_name};
 

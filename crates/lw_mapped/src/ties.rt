@@ -1,7 +1,6 @@
 // The words of a gate: `PIN=NET` for each pin, and `OUTPUT=NET`.
-ghost use Rattle.std.specs.Prelude.{◌≡◌, ◌<◌, [], All, ◌≤◌, ◌&&◌, nat_lt, None, length, drop, take, map, ◌++◌, IfOk, OnOk, IsTrue, slice_get, slice_index_or};
-ghost use Rattle.std.specs.List.{before_first, after_first, slice_range, position, position_or_len, list_all};
-ghost use Rattle.lw_genlib.specs.Cells.{CellParts};
+ghost use Rattle.std.specs.Prelude.{◌≡◌, ◌<◌, [], All, ◌≤◌, None, length, drop, map, ◌++◌, IfOk, OnOk, slice_index_or};
+ghost use Rattle.std.specs.List.{before_first, after_first, slice_range, position, position_or_len};
 ghost use Rattle.lw_mapped.specs.GateLines.{is_equals, is_for, gives, is_formal, tie_fault, first_tie_fault, gives_all, ties_fault, net_for, gate_of};
 ghost use Rattle.lw_words.specs.Words.{is_among};
 
@@ -23,8 +22,7 @@ fn first_equals(word: &[u8]) -> Option<usize>
 }
 
 fn place_of_equals(word: &[u8]) -> usize
-    ensures place { result ≡ position_or_len is_equals word.now }
-    ensures within { result ≤ length word.now }
+    ensures { result ≡ position_or_len is_equals word.now }
 {
     first_equals(word).unwrap_or(word.len())
 }

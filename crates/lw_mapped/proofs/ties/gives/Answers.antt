@@ -1,4 +1,4 @@
-use Rattle.std.proofs.Common.{◌≡◌, ◌||◌, ◌+◌, ap, sym, ◌∙◌, arith}
+use Rattle.std.proofs.Common.{◌||◌, ◌+◌, ap, sym, ◌∙◌, arith}
 use Rattle.std.specs.List.{list_any, slice_range}
 use Rattle.lw_mapped.specs.GateLines.{is_for}
 use Rattle.lw_mapped.proofs.WordLists.{range-first, range-none}
