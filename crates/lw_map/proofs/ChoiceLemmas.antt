@@ -21,12 +21,17 @@ use Rattle.lw_form.specs.Kept.{AreForms}
 use Rattle.lw_assoc.specs.Splits.{most_splits}
 use Rattle.lw_assoc.specs.declared.fault.GraphFault.{GraphFault}
 use Rattle.lw_assoc.specs.declared.fault.GraphFault.TheVariants as graph_fault
-use Rattle.lw_map.specs.Options.{Options}
+use Rattle.lw_map.specs.declared.options.Options as code
+use Rattle.lw_map.specs.Options.{Options, IsWide, plain_options}
 use Rattle.lw_map.specs.Mapped.{base_count, splits_count}
 use Rattle.lw_map.specs.Choices.{root_of}
 use Rattle.lw_map.specs.Faults as faults
 use Rattle.lw_map.specs.Faults.{IsChoiceFault}
 use Rattle.lw_net.specs.Ports.{output_port}
+
+-- the width of options is in range
+pub wide_options : (options : code.Options) → IsWide (plain_options options)
+wide_options options = record { least = options.wide.0; most = options.wide.1 }
 
 -- listed forms are few
 pub few_bases : (options : Options) (net : NetworkParts) (forms : NumberedForms) → AreForms forms → forms ≡ forms_of options.width (network.plain net) → base_count options net ≤ most_bases

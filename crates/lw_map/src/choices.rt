@@ -1,7 +1,7 @@
 // The graph of a network's forms.
 ghost use Rattle.std.specs.Prelude.{◌≡◌, ◌<◌, All, IfOk, IfErr, length, map};
 ghost use Rattle.lw_pool.specs.declared.id.ClassId.{ClassId};
-ghost use Rattle.lw_map.specs.Options.{IsWide, plain_options};
+ghost use Rattle.lw_map.specs.Options.{plain_options};
 ghost use Rattle.lw_map.specs.Choices.{AreChoicesOf, root_of};
 ghost use Rattle.lw_map.specs.Faults.{IsChoiceFault};
 ghost use Rattle.lw_laws.specs.Mapped.{forms_of};
@@ -50,8 +50,7 @@ fn choices_by(
     options: Options,
     forms: &Forms,
 ) -> Result<Choices, MapFault>
-    requires wide { IsWide (plain_options options) }
-    requires listed { forms.now ≡ forms_of options.width (plain net.now) }
+    requires { forms.now ≡ forms_of options.width (plain net.now) }
     ensures choices { IfOk result (λ c. (c.options ≡ options) × AreChoicesOf net.now c) }
     ensures fault { IfErr result (IsChoiceFault (plain_options options) net.now) }
 {
@@ -73,7 +72,6 @@ fn choices_by(
 /// The choices of decomposition of a network. `Forms` and `Splits` come exactly where there are
 /// more than are dealt with.
 pub fn decompose(alloc: Global, net: &Network, options: Options) -> Result<Choices, MapFault>
-    requires { IsWide (plain_options options) }
     ensures choices { IfOk result (λ c. (c.options ≡ options) × AreChoicesOf net.now c) }
     ensures fault { IfErr result (IsChoiceFault (plain_options options) net.now) }
 {

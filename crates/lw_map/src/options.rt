@@ -1,8 +1,11 @@
+ghost use Rattle.std.specs.Prelude.{◌≤◌};
+
 use lw_assoc::Mode;
 
-/// How a network is decomposed: the most operands of an And, and the laws.
+/// How a network is decomposed: the most operands of an And, from 2 to 8, and the laws.
 #[derive(Clone, Copy, Debug)]
 pub struct Options {
     pub width: u8,
     pub mode: Mode,
+    ghost wide: { (2 ≤ width) × (width ≤ 8) },
 }
