@@ -18,6 +18,17 @@ IsLookup n nands links slots low high (Form form) = HasFact n nands links low hi
 IsLookup n nands links slots low high (Free slot) = slot < slots
 IsLookup n nands links slots low high Full = ⊤
 
+-- some slots, which have no fact
+pub record AreFreeSlots (slots : List ℕ) : Type 0 where
+  pub some : 0 < length slots
+  pub free : All (λ e. e ≡ 0) slots
+
+-- the fact at the place has these operands
+pub record StandAt (facts : List Fact) (o : Operands) (place : ℕ) : Type 0 where
+  pub within : place < length facts
+  pub left : (slice_index_or facts place no_fact).left ≡ o.low
+  pub right : (slice_index_or facts place no_fact).right ≡ o.high
+
 -- representatives with their slots: each slot has 0, or the place after that of a fact
 pub record HaveSlots (nands : List Fact) (links : List Link) (reps slots : List ℕ) : Type 0 where
   pub valid : AreRepresentatives (length reps) nands links reps

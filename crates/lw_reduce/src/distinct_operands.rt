@@ -1,10 +1,11 @@
 // Whether all facts have different operands, so that no two facts make their forms equivalent.
-ghost use Rattle.std.specs.Prelude.{◌≡◌, length, map, All, IfOk, IsTrue};
+ghost use Rattle.std.specs.Prelude.{◌≡◌, length, map, IfOk, IsTrue};
 ghost use Rattle.std.specs.List.Sorted.{IsStrictlyIncreasing};
 ghost use Rattle.lw_reduce.specs.Representatives.{IsFactIn};
 ghost use Rattle.lw_reduce.specs.Settling.{HaveDistinctOperands, operands_key};
 
 use crate::facts::Fact;
+use crate::known_facts::KnownFacts;
 use crate::rounds::canonical_fact;
 use std::alloc::{AllocError, Global};
 
@@ -18,13 +19,13 @@ fn key_of(reps: &[u32], fact: Fact) -> u64
 }
 
 // The keys of all facts.
-fn keys_of(alloc: Global, reps: &[u32], nands: &[Fact]) -> Result<Vec<u64>, AllocError>
-    requires { All (IsFactIn (length reps.now)) nands.now }
-    ensures { IfOk result (λ keys. keys.items ≡ map (operands_key reps.now) nands.now) }
+fn keys_of(alloc: Global, facts: &KnownFacts) -> Result<Vec<u64>, AllocError>
+    ensures { IfOk result (λ keys.
+        keys.items ≡ map (operands_key facts.now.reps.now) facts.now.nands.now) }
 {
-    let mut keys = Vec::with_capacity(alloc, nands.len())?;
-    for fact in nands {
-        keys.push(key_of(reps, *fact))?;
+    let mut keys = Vec::with_capacity(alloc, facts.nands.len())?;
+    for fact in facts.nands {
+        keys.push(key_of(facts.reps, *fact))?;
     }
     Ok(keys)
 }
@@ -43,15 +44,11 @@ fn are_increasing(keys: &[u64]) -> bool
 
 // Whether no two facts have operands with the same representatives. It sorts keys, which takes half
 // as long as sorting facts.
-pub(crate) fn have_distinct_operands(
-    alloc: Global,
-    reps: &[u32],
-    nands: &[Fact],
-) -> Result<bool, AllocError>
-    requires { All (IsFactIn (length reps.now)) nands.now }
-    ensures { IfOk result (λ own. IsTrue own → HaveDistinctOperands reps.now nands.now) }
+pub(crate) fn have_distinct_operands(alloc: Global, facts: &KnownFacts) -> Result<bool, AllocError>
+    ensures { IfOk result (λ own. IsTrue own →
+        HaveDistinctOperands facts.now.reps.now facts.now.nands.now) }
 {
-    let mut keys = keys_of(alloc, reps, nands)?;
+    let mut keys = keys_of(alloc, facts)?;
     keys.sort_unstable();
     Ok(are_increasing(&keys))
 }

@@ -1,3 +1,6 @@
+ghost use Rattle.std.specs.Prelude.{◌-◌, ◌<◌, ◌^◌, length, All};
+ghost use Rattle.lw_reduce.specs.declared.facts.Fact.{Fact};
+
 // A form that is the NAND of two operands. The operands stand first, the right one before the left:
 // so they are one number of the processor.
 #[derive(Clone, Copy, Debug, PartialEq, Eq)]
@@ -12,4 +15,13 @@ pub(crate) struct Fact {
 pub(crate) struct Link {
     pub(crate) left: u32,
     pub(crate) right: u32,
+}
+
+// Facts of so many classes, which numbers of 32 bits count.
+#[derive(Drop)]
+pub(crate) struct ClassFacts {
+    pub(crate) facts: Vec<Fact>,
+    pub(crate) classes: usize,
+    ghost within: { All (λ (r : Fact). r.form < classes) facts.items },
+    ghost few: { length facts.items < 2 ^ 32 - 1 },
 }

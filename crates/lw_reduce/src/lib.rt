@@ -16,6 +16,7 @@ mod classes;
 mod distinct_operands;
 mod draft;
 mod facts;
+mod known_facts;
 mod propagate;
 mod reduction;
 mod representatives;

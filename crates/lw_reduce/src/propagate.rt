@@ -1,9 +1,9 @@
 // Passes over the facts whose operands have new representatives, with a hash table of facts by the
 // representatives of their operands.
-ghost use Rattle.std.specs.Prelude.{◌≡◌, ◌<◌, length, vec_len, slice_index_or, All, IfOk, IfSome, IsTrue};
+ghost use Rattle.std.specs.Prelude.{◌<◌, length, All, IfOk, IfSome, IsTrue};
 ghost use Rattle.lw_reduce.specs.Representatives.{AreRepresentatives, HasOperands, IsFactIn, StayRepresentatives};
-ghost use Rattle.lw_reduce.specs.Lookups.{CanInsert, CanVisit, CanVisitAll, HaveSlots, KeepSlots, LooksUp};
-ghost use Rattle.lw_reduce.specs.Settling.{IsImplied, no_fact};
+ghost use Rattle.lw_reduce.specs.Lookups.{AreFreeSlots, CanInsert, CanVisit, CanVisitAll, HaveSlots, KeepSlots, LooksUp, StandAt};
+ghost use Rattle.lw_reduce.specs.Settling.{IsImplied};
 
 use crate::facts::{Fact, Link};
 use crate::representatives::{find, rep_of, unify};
@@ -123,11 +123,7 @@ fn has_root_operands(reps: &[u32], fact: Fact) -> bool
 
 // Where these operands stand among canonical facts that are sorted by their operands.
 fn find_canonical(canonical: &[Fact], operands: Operands) -> Option<usize>
-    ensures within { IfSome result (λ i. i < length canonical.now) }
-    ensures left { IfSome result
-        (λ i. (slice_index_or canonical.now i no_fact).left ≡ operands.low) }
-    ensures right { IfSome result
-        (λ i. (slice_index_or canonical.now i no_fact).right ≡ operands.high) }
+    ensures { IfSome result (StandAt canonical.now operands) }
 {
     let place = canonical.partition_point(|found| {
         found.left < operands.low || (found.left == operands.low && found.right < operands.high)
@@ -227,8 +223,7 @@ fn slot_count(facts: usize) -> usize
 
 // A table without facts.
 fn empty_slots(alloc: Global, facts: usize) -> Result<Vec<u32>, AllocError>
-    ensures some { IfOk result (λ slots. 0 < vec_len slots) }
-    ensures empty { IfOk result (λ slots. All (λ e. e ≡ 0) slots.items) }
+    ensures { IfOk result (λ slots. AreFreeSlots slots.items) }
 {
     let slots = vec![in alloc; 0; slot_count(facts)]?;
     Ok(slots)

@@ -10,7 +10,7 @@ use crate::Draft;
 use crate::buckets::class_pairs;
 use crate::class_facts::class_facts;
 use crate::classes::number;
-use crate::facts::{Fact, Link};
+use crate::facts::{ClassFacts, Fact, Link};
 use crate::rounds::settle;
 use lw_graph::Graph;
 use lw_pool::{ClassId, Classes};
@@ -69,8 +69,11 @@ fn graph_of(
         IsReduced (plain_draft inputs samples nands.items links.now) graph) }
 {
     let numbered = number(alloc, reps)?;
-    let facts = class_facts(&numbered.forms, nands);
-    let lists = class_pairs(alloc, facts, numbered.pairs as usize * 2)?;
+    let facts = ClassFacts {
+        facts: class_facts(&numbered.forms, nands),
+        classes: numbered.pairs as usize * 2,
+    };
+    let lists = class_pairs(alloc, facts)?;
     let Ok((leaves, forms)) = lists_of(alloc, inputs, &numbered.forms) else {
         drop(lists);
         drop(numbered);

@@ -1,11 +1,12 @@
 // Rounds that unify forms, until one changes nothing.
 ghost use Rattle.std.specs.Prelude.{◌≡◌, ◌^◌, ◌<◌, ◌≤◌, ℕ, length, map, All, IfOk, OnOk, IsTrue};
-ghost use Rattle.std.specs.List.Sorted.{IsNonDecreasingBy, IsPermutation};
 ghost use Rattle.lw_reduce.specs.Representatives.{AreRepresentatives, IsFactIn, LinkAgrees, Unifies};
+ghost use Rattle.lw_reduce.specs.Sorting.{AreSortedFrom};
 ghost use Rattle.lw_reduce.specs.Settling.{AgreesAt, AreSettled, CanUnifyAt, IsImplied, IsRoundOutcome, fact_key, canonical_fact};
 
 use crate::distinct_operands::have_distinct_operands;
 use crate::facts::{Fact, Link};
+use crate::known_facts::KnownFacts;
 use crate::propagate::propagate;
 use crate::representatives::{flatten, rep_of, unify};
 use std::alloc::{AllocError, Global};
@@ -48,33 +49,30 @@ pub(crate) fn canonical_fact(reps: &[u32], fact: Fact) -> Fact
 }
 
 // The canonical forms of all facts.
-fn canonical_facts(alloc: Global, reps: &[u32], nands: &[Fact]) -> Result<Vec<Fact>, AllocError>
-    requires { All (IsFactIn (length reps.now)) nands.now }
-    ensures { IfOk result (λ canonical. canonical.items ≡ map (canonical_fact reps.now) nands.now) }
+fn canonical_facts(alloc: Global, facts: &KnownFacts) -> Result<Vec<Fact>, AllocError>
+    ensures { IfOk result (λ canonical.
+        canonical.items ≡ map (canonical_fact facts.now.reps.now) facts.now.nands.now) }
 {
-    let mut canonical = Vec::with_capacity(alloc, nands.len())?;
-    for fact in nands {
-        canonical.push(canonical_fact(reps, *fact))?;
+    let mut canonical = Vec::with_capacity(alloc, facts.nands.len())?;
+    for fact in facts.nands {
+        canonical.push(canonical_fact(facts.reps, *fact))?;
     }
     Ok(canonical)
 }
 
 // Sorts facts by their operands.
 fn sort_by_operands(canonical: &mut Vec<Fact>)
-    ensures permutation { IsPermutation canonical.old.items canonical.new.items }
-    ensures sorted { IsNonDecreasingBy fact_key canonical.new.items }
+    ensures { AreSortedFrom fact_key canonical.old.items canonical.new.items }
 {
     canonical.sort_unstable_by_key(|fact| fact.left as u64 * 0x1_0000_0000 + fact.right as u64);
 }
 
 // The canonical facts, sorted by their operands.
-fn sorted_facts(alloc: Global, reps: &[u32], nands: &[Fact]) -> Result<Vec<Fact>, AllocError>
-    requires { All (IsFactIn (length reps.now)) nands.now }
-    ensures permutation { IfOk result
-        (λ canonical. IsPermutation (map (canonical_fact reps.now) nands.now) canonical.items) }
-    ensures sorted { IfOk result (λ canonical. IsNonDecreasingBy fact_key canonical.items) }
+fn sorted_facts(alloc: Global, facts: &KnownFacts) -> Result<Vec<Fact>, AllocError>
+    ensures { IfOk result (λ canonical. AreSortedFrom fact_key
+        (map (canonical_fact facts.now.reps.now) facts.now.nands.now) canonical.items) }
 {
-    let mut canonical = canonical_facts(alloc, reps, nands)?;
+    let mut canonical = canonical_facts(alloc, facts)?;
     sort_by_operands(&mut canonical);
     Ok(canonical)
 }
@@ -129,7 +127,7 @@ fn run_round(
 {
     flatten(reps, nands, links);
     let linked = unify_linked(reps, nands, links);
-    let canonical = sorted_facts(alloc, reps, nands)?;
+    let canonical = sorted_facts(alloc, &KnownFacts { reps, nands })?;
     let equal = unify_equal(reps, nands, links, &canonical);
     Ok(RoundOutcome {
         canonical,
@@ -155,7 +153,7 @@ fn are_settled(
     if unify_linked(reps, nands, links) {
         return Ok(false);
     }
-    let own = have_distinct_operands(alloc, reps, nands)?;
+    let own = have_distinct_operands(alloc, &KnownFacts { reps, nands })?;
     Ok(own)
 }
 

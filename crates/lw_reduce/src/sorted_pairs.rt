@@ -1,10 +1,10 @@
 // Sorts the pairs of each class and drops repeats.
 ghost use Rattle.std.specs.Prelude.{◌≡◌, ◌+◌, ◌-◌, ◌^◌, ◌<◌, ◌≤◌, ◌++◌, [], length, slice_index, IfOk, OnOk};
 ghost use Rattle.std.specs.List.{slice_range};
-ghost use Rattle.std.specs.List.Sorted.{IsNonDecreasingBy, IsPermutation};
 ghost use Rattle.lw_graph.specs.Index.{pair_key};
 ghost use Rattle.lw_graph.specs.Rows.{AreEnds, start_at};
-ghost use Rattle.lw_reduce.specs.Rows.{HasRowMore, AreSortedRows, IsRowOf};
+ghost use Rattle.lw_reduce.specs.Rows.{HasRowMore, AreSortedRows, IsFilledRow};
+ghost use Rattle.lw_reduce.specs.Sorting.{AreSortedFrom};
 
 use lw_graph::Pair;
 use lw_pool::{Numbers, PairId, Pool};
@@ -12,16 +12,14 @@ use std::alloc::{AllocError, Global};
 
 // Sorts pairs by their classes.
 fn sort_pairs(row: &mut Vec<Pair>)
-    ensures permutation { IsPermutation row.old.items row.new.items }
-    ensures sorted { IsNonDecreasingBy pair_key row.new.items }
+    ensures { AreSortedFrom pair_key row.old.items row.new.items }
 {
     row.sort_unstable_by_key(|pair| pair.x.0 as u64 * 0x1_0000_0000 + pair.y.0 as u64);
 }
 
 // Fills a row with the pairs of a class, sorted and without repeats.
 fn fill_row(row: &mut Vec<Pair>, pairs: &[Pair]) -> Result<(), AllocError>
-    ensures row { OnOk result (IsRowOf pairs.now row.new.items) }
-    ensures few { OnOk result (length row.new.items ≤ length pairs.now) }
+    ensures { OnOk result (IsFilledRow pairs.now row.new.items) }
 {
     row.clear();
     row.extend_from_slice(pairs)?;
@@ -87,8 +85,7 @@ fn add_row(rows: &mut Rows, row: &[Pair]) -> Result<(), AllocError>
 
 // No rows, with room for this many pairs.
 fn no_rows(alloc: Global, pairs: usize) -> Result<Rows, AllocError>
-    ensures pairs { IfOk result (λ r. r.pairs.items ≡ []) }
-    ensures ends { IfOk result (λ r. r.ends ≡ []) }
+    ensures { IfOk result (λ r. (r.pairs.items ≡ []) × (r.ends ≡ [])) }
 {
     let mut pool = Pool::new(alloc);
     pool.reserve(pairs)?;

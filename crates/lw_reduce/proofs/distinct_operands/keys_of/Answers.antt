@@ -4,10 +4,10 @@ use Rattle.lw_reduce.specs.Settling.{operands_key, no_fact}
 use Rattle.lw_reduce.proofs.distinct_operands.keys_of.Goals as goal
 
 pub key_of-requires : goal.key_of-requires
-key_of-requires c = c.requires c.loop-fact.fact-index no_fact c.loop-fact-test.true
+key_of-requires c = c.args.facts.now.known c.loop-fact.fact-index no_fact c.loop-fact-test.true
 
 pub loop-fact-preserved : goal.loop-fact-preserved
 loop-fact-preserved c =
     c.in_ok-push.ensures.items
     ∙ (ap₂ (λ l f. l ++ f ∷ []) c.loop-fact.invariant c.key_of.ensures
-    ∙ sym (map_more (operands_key c.args.reps.now) c.args.nands.now c.loop-fact.fact-index no_fact c.loop-fact-test.true))
+    ∙ sym (map_more (operands_key c.args.facts.now.reps.now) c.args.facts.now.nands.now c.loop-fact.fact-index no_fact c.loop-fact-test.true))

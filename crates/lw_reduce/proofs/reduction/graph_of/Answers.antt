@@ -17,25 +17,25 @@ use Rattle.lw_reduce.specs.Buckets.{of_class, pair_of}
 use Rattle.lw_reduce.proofs.Assembled.{entries_below, is_graph, is_reduced}
 use Rattle.lw_reduce.proofs.reduction.graph_of.Goals as goal
 
-pub class_facts-facts-requires : goal.class_facts-facts-requires
-class_facts-facts-requires c =
+pub class_facts-requires : goal.class_facts-requires
+class_facts-requires c =
     let is = c.requires.settled in
     let e = ap length c.deref.ensures.value ∙ c.in_ok-numbered.ensures.count in
     subst (λ m. All (IsFactIn m) c.args.nands.items) (sym e) is.valid.nands_in
 
-pub class_pairs-requires : goal.class_pairs-requires
-class_pairs-requires c = record {
+pub invariant_of-facts : goal.invariant_of-facts
+invariant_of-facts c = record {
   within = let n = length c.args.reps.now in
       let nands = c.args.nands.items in
       let is = c.requires.settled in
       let forms = c.in_ok-numbered.numbered.forms.items in
       let pairs = c.in_ok-numbered.numbered.pairs in
-      let e = c.class_facts-facts.ensures ∙ ap (λ fs. map (canonical_fact fs) nands) c.deref.ensures.value in
+      let e = c.class_facts.ensures ∙ ap (λ fs. map (canonical_fact fs) nands) c.deref.ensures.value in
       let p = c.in_ok-numbered.ensures.pairs in
       subst (λ es. All (λ (r : Fact). r.form < pairs * 2) es) (sym e) (entries_below n nands c.args.links.now c.args.reps.now is c.requires.few forms c.in_ok-numbered.ensures.classes c.in_ok-numbered.ensures.count (pairs * 2) (omega arith));
   few = let nands = c.args.nands.items in
       let forms = c.deref.result.now in
-      let e = ap length c.class_facts-facts.ensures ∙ length-map nands (canonical_fact forms) in
+      let e = ap length c.class_facts.ensures ∙ length-map nands (canonical_fact forms) in
       let few = c.requires.few_nands in
       omega arith;
 }
@@ -53,7 +53,7 @@ flat-requires-clause-graph c =
     let lists_count = length-rows_from rows.pairs.items 0 rows.ends ∙ c.in_ok-lists.ensures.count in
     let count = c.in_ok-numbered.ensures.count in
     let in' = c.requires.inputs_in in
-    let e = c.class_facts-facts.ensures ∙ ap (λ fs. map (canonical_fact fs) nands) c.deref.ensures.value in
+    let e = c.class_facts.ensures ∙ ap (λ fs. map (canonical_fact fs) nands) c.deref.ensures.value in
     let one : ClassId = record { 0 = c.index.result.now } in
     let one_is = c.index.ensures ∙ get_or_default_zero forms 0 c.index.result.now (omega arith) in
     let leaves_are = c.in-Ok.ensures.leaves ∙ ap (λ fs. map as_class (slice_range fs 1 (inputs + 1))) c.deref-2.ensures.value in
@@ -74,7 +74,7 @@ returns c =
     let lists_count = length-rows_from rows.pairs.items 0 rows.ends ∙ c.in_ok-lists.ensures.count in
     let count = c.in_ok-numbered.ensures.count in
     let in' = c.requires.inputs_in in
-    let e = c.class_facts-facts.ensures ∙ ap (λ fs. map (canonical_fact fs) nands) c.deref.ensures.value in
+    let e = c.class_facts.ensures ∙ ap (λ fs. map (canonical_fact fs) nands) c.deref.ensures.value in
     let one : ClassId = record { 0 = c.index.result.now } in
     let one_is = c.index.ensures ∙ get_or_default_zero forms 0 c.index.result.now (omega arith) in
     let leaves_are = c.in-Ok.ensures.leaves ∙ ap (λ fs. map as_class (slice_range fs 1 (inputs + 1))) c.deref-2.ensures.value in

@@ -27,10 +27,11 @@ pub returns-then-unify_linked-clause-valid : goal.returns-then-unify_linked-clau
 returns-then-unify_linked-clause-valid c =
     valid_at (length c.args.reps.now) c.args.nands.now c.args.links.now c.unify_linked.new.reps (length c.flatten.new.reps) c.unify_linked.ensures.progress.valid c.flatten.ensures.kept.valid.count
 
-pub have_distinct_operands-requires : goal.have_distinct_operands-requires
-have_distinct_operands-requires c =
-    let valid = c.unify_linked.ensures.progress.valid in
-    subst (λ n. All (IsFactIn n) c.args.nands.now) (sym valid.count) valid.nands_in
+pub invariant_of-have_distinct_operands : goal.invariant_of-have_distinct_operands
+invariant_of-have_distinct_operands c = record {
+  known = let valid = c.unify_linked.ensures.progress.valid in
+      subst (λ n. All (IsFactIn n) c.args.nands.now) (sym valid.count) valid.nands_in;
+}
 
 pub returns-clause-valid : goal.returns-clause-valid
 returns-clause-valid c =

@@ -4,10 +4,10 @@ use Rattle.lw_reduce.specs.Settling.{canonical_fact, no_fact}
 use Rattle.lw_reduce.proofs.rounds.canonical_facts.Goals as goal
 
 pub canonical_fact-requires : goal.canonical_fact-requires
-canonical_fact-requires c = c.requires c.loop-fact.fact-index no_fact c.loop-fact-test.true
+canonical_fact-requires c = c.args.facts.now.known c.loop-fact.fact-index no_fact c.loop-fact-test.true
 
 pub loop-fact-preserved : goal.loop-fact-preserved
 loop-fact-preserved c =
     c.in_ok-push.ensures.items
     ∙ (ap₂ (λ l f. l ++ f ∷ []) c.loop-fact.invariant c.canonical_fact.ensures
-    ∙ sym (map_more (canonical_fact c.args.reps.now) c.args.nands.now c.loop-fact.fact-index no_fact c.loop-fact-test.true))
+    ∙ sym (map_more (canonical_fact c.args.facts.now.reps.now) c.args.facts.now.nands.now c.loop-fact.fact-index no_fact c.loop-fact-test.true))

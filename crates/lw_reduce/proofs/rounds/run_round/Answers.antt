@@ -48,10 +48,11 @@ unify_linked-linked-requires c =
     let valid = c.flatten.ensures.kept.valid in
     valid_at (length flat) c.args.nands.now c.args.links.now flat (length c.args.reps.now) valid (sym valid.count)
 
-pub sorted_facts-requires : goal.sorted_facts-requires
-sorted_facts-requires c =
-    let valid = c.unify_linked-linked.ensures.progress.valid in
-    subst (λ n. All (IsFactIn n) c.args.nands.now) (sym valid.count) valid.nands_in
+pub invariant_of-sorted_facts : goal.invariant_of-sorted_facts
+invariant_of-sorted_facts c = record {
+  known = let valid = c.unify_linked-linked.ensures.progress.valid in
+      subst (λ n. All (IsFactIn n) c.args.nands.now) (sym valid.count) valid.nands_in;
+}
 
 pub unify_equal-equal-requires-clause-valid : goal.unify_equal-equal-requires-clause-valid
 unify_equal-equal-requires-clause-valid c =

@@ -11,9 +11,9 @@ pub loop-class-init : goal.loop-class-init
 loop-class-init c =
     let none = c.in_ok-rows.ensures in
     record {
-      cut = subst₂ (λ (ps : List Pair) (es : List ℕ). AreEnds (length ps) 0 es) (sym none.pairs) (sym none.ends) refl;
-      count = subst₂ (λ (ps : List Pair) (es : List ℕ). length (rows_from ps 0 es) ≡ 0) (sym none.pairs) (sym none.ends) refl;
-      size = let e = ap length none.pairs in omega arith;
+      cut = subst₂ (λ (ps : List Pair) (es : List ℕ). AreEnds (length ps) 0 es) (sym none.0) (sym none.1) refl;
+      count = subst₂ (λ (ps : List Pair) (es : List ℕ). length (rows_from ps 0 es) ≡ 0) (sym none.0) (sym none.1) refl;
+      size = let e = ap length none.0 in omega arith;
       done = λ k lt. absurd (omega arith);
     }
 

@@ -1,0 +1,12 @@
+ghost use Rattle.std.specs.Prelude.{length, All};
+ghost use Rattle.lw_reduce.specs.Representatives.{IsFactIn};
+
+use crate::facts::Fact;
+
+// Facts over base forms that have representatives.
+#[derive(Clone, Copy)]
+pub(crate) struct KnownFacts<'a> {
+    pub(crate) reps: &'a [u32],
+    pub(crate) nands: &'a [Fact],
+    ghost known: { All (IsFactIn (length reps.now)) nands.now },
+}
