@@ -1,5 +1,5 @@
 -- Cuts: a tree over pins at some classes that stands at a class, and its values as bits.
-use Rattle.std.specs.Prelude.{ℕ, ◌+◌, ◌^◌, ◌%◌, ◌≡◌, ◌==◌, Bool, true, false, not, List, [], ◌∷◌, length, if◌then◌else◌, slice_index_or}
+use Rattle.std.specs.Prelude.{ℕ, ◌+◌, ◌^◌, ◌%◌, ◌≤◌, ◌≡◌, ◌==◌, Bool, true, false, not, List, [], ◌∷◌, length, if◌then◌else◌, slice_index_or}
 use Rattle.std.specs.Int.{bit_at}
 use Rattle.std.specs.List.{range_with_len}
 use Rattle.lw_pool.specs.declared.id.ClassId.{ClassId}
@@ -33,6 +33,27 @@ is_odd n = n % 2 == 1
 pub record PlainCut : Type 0 where
   pub pins : List ClassId
   pub bits : ℕ
+
+-- how many numbers so many bits spell, where they are six at most
+pub record CountsNumbers (bits n : ℕ) : Type 0 where
+  pub numbers : n ≡ 2 ^ bits
+  pub few : n ≤ 64
+
+-- no pin, and this value
+pub record IsConstantCut (value : Bool) (cut : PlainCut) : Type 0 where
+  pub pins : cut.pins ≡ []
+  pub bits : is_set cut.bits 0 ≡ value
+
+-- one pin at the class, and the value of the first class of its pair
+pub record IsPinCut (class : ClassId) (cut : PlainCut) : Type 0 where
+  pub pins : cut.pins ≡ class ∷ []
+  pub low : is_set cut.bits 0 ≡ is_odd class.0
+  pub high : is_set cut.bits 1 ≡ not (is_odd class.0)
+
+-- the pins of the cut, at most six
+pub record ArePinsOfCut (cut : PlainCut) (classes : List ClassId) : Type 0 where
+  pub pins : classes ≡ cut.pins
+  pub few : length classes ≤ 6
 
 -- A tree over these pins, from left to right, stands at the class, and the bits, or their complements, are its values.
 pub record IsCutAt (g : Graph) (c : ℕ) (complemented : Bool) (cut : PlainCut) : Type 0 where

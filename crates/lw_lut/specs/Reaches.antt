@@ -13,6 +13,11 @@ pub record IsIn (span : Span) (c : ℕ) : Type 0 where
 abbrev pub IsWithin : Span → Span → Type 0
 IsWithin one other = (c : ℕ) → IsIn one c → IsIn other c
 
+-- the classes of both are in the whole
+pub record SpansBoth (a b whole : Span) : Type 0 where
+  pub one : IsWithin a whole
+  pub other : IsWithin b whole
+
 -- the span of a place
 abbrev pub span_at : List Span → ℕ → Span
 span_at reach place = slice_index_or reach place (record { low = 0; high = 0 })

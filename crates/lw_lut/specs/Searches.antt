@@ -1,5 +1,5 @@
 -- The search for depths: leaf counts, cuts and pins of the pairs of a class and its complement, and depths of classes.
-use Rattle.std.specs.Prelude.{ℕ, suc, ◌+◌, ◌*◌, ◌/◌, ◌<◌, ◌≤◌, ◌≡◌, ◌⊎◌, List, [], ◌∷◌, length, Option, Some, None, Bool, true, false, slice_get, slice_index, slice_index_or, sum_by}
+use Rattle.std.specs.Prelude.{ℕ, suc, ◌+◌, ◌*◌, ◌/◌, ◌<◌, ◌≤◌, ◌≡◌, ◌⊎◌, List, [], ◌∷◌, length, Option, Some, None, IfSome, IsNone, Bool, true, false, slice_get, slice_index, slice_index_or, sum_by}
 use Rattle.lw_pool.specs.declared.id.ClassId.{ClassId}
 use Rattle.lw_laws.specs.Graphs.{Graph, Unfolds, HoldsPair}
 use Rattle.lw_lut.specs.Covers.{TableCover, IsTableCover, tree_of, depth_of}
@@ -101,6 +101,11 @@ pub record AreSettled (most d : ℕ) (old new : Search) (places : ℕ) (changed 
   pub falls : changed ≡ true → unknown_count new.depths.items < unknown_count old.depths.items
   pub low : unknown_count new.depths.items ≤ unknown_count old.depths.items
   pub same : changed ≡ false → (c e : ℕ) → depth_in new.depths.items c ≡ Some e → depth_in old.depths.items c ≡ Some e
+
+-- the pin of a place that has so many leaves, where it stands for itself
+pub record IsServing (pin : Option ClassId) (leaves : ℕ) (served : Option ClassId) : Type 0 where
+  pub some : IfSome served (λ q. (pin ≡ Some q) × (leaves ≡ 1))
+  pub none : IsNone served → (pin ≡ None) ⊎ (leaves ≡ 1 → ⊥)
 
 -- The classes of the place have a depth: their own or else d. Says whether one of them had none.
 pub record IsDeepened (old : List (Option ℕ)) (place d : ℕ) (new : List (Option ℕ)) (changed : Bool) : Type 0 where

@@ -12,11 +12,18 @@ use lw_naming::{Place, need, needed_by, sort_places};
 use lw_pool::ClassId;
 use std::alloc::{AllocError, Global};
 
+// The depths of classes, which numbers of 32 bits count.
+#[derive(Clone, Copy)]
+struct ClassDepths<'a> {
+    depths: &'a [Option<u32>],
+    ghost few: { length depths.now < 2 ^ 32 },
+}
+
 // The classes that have a depth other than 0, in the order of their numbers.
-fn listed(alloc: Global, depths: &[Option<u32>]) -> Result<Vec<Place>, AllocError>
-    requires { length depths.now < 2 ^ 32 }
-    ensures { IfOk result (λ places. AreListed depths.now places.items) }
+fn listed(alloc: Global, of: &ClassDepths) -> Result<Vec<Place>, AllocError>
+    ensures { IfOk result (λ places. AreListed of.now.depths.now places.items) }
 {
+    let depths = of.depths;
     let mut places = Vec::new(alloc);
     for (number, depth) in depths.iter().enumerate() {
         if let Some(depth) = depth {
@@ -32,11 +39,10 @@ fn listed(alloc: Global, depths: &[Option<u32>]) -> Result<Vec<Place>, AllocErro
 }
 
 // The classes that have a depth other than 0, by depth and then class.
-fn by_depth(alloc: Global, depths: &[Option<u32>]) -> Result<Vec<Place>, AllocError>
-    requires { length depths.now < 2 ^ 32 }
-    ensures { IfOk result (λ places. AreByDepth depths.now places.items) }
+fn by_depth(alloc: Global, of: &ClassDepths) -> Result<Vec<Place>, AllocError>
+    ensures { IfOk result (λ places. AreByDepth of.now.depths.now places.items) }
 {
-    let mut places = listed(alloc, depths)?;
+    let mut places = listed(alloc, of)?;
     sort_places(&mut places);
     Ok(places)
 }
@@ -84,7 +90,10 @@ pub(crate) fn choose(
         AreTables g most depths.now.depths (numbers roots.now) tables.items) }
     ensures few { IfOk result (λ tables. All (λ x. length x.fanins ≤ 6) tables.items) }
 {
-    let places = by_depth(alloc, depths.depths())?;
+    let all = ClassDepths {
+        depths: depths.depths(),
+    };
+    let places = by_depth(alloc, &all)?;
     let mut tables = choose_down(alloc, depths, roots, &places)?;
     tables.reverse();
     Ok(tables)

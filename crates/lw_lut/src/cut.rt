@@ -1,6 +1,6 @@
 // Cuts with their bits.
 ghost use Rattle.std.specs.Prelude.{◌≡◌, ◌+◌, ◌*◌, ◌^◌, ◌<◌, ◌≤◌, ◌++◌, ◌&&◌, [], ◌∷◌, ℕ, not, length, if◌then◌else◌};
-ghost use Rattle.lw_lut.specs.Cuts.{PlainCut, is_set, turned, is_odd};
+ghost use Rattle.lw_lut.specs.Cuts.{ArePinsOfCut, CountsNumbers, IsConstantCut, IsPinCut, PlainCut, is_set, turned, is_odd};
 ghost use Rattle.lw_lut.specs.Packed.{joined_bits, joined_value};
 
 use lw_pool::ClassId;
@@ -26,13 +26,18 @@ impl Model for Cut {
     ghost invariant = { λ c. c.len ≤ 6 };
 }
 
-// How many numbers so many bits have.
-pub(crate) fn numbers_of(bits: usize) -> u32
-    requires { bits ≤ 6 }
-    ensures numbers { result ≡ 2 ^ bits }
-    ensures few { result ≤ 64 }
+// How many pins there are, each of which is a bit of the numbers that they spell.
+#[derive(Clone, Copy)]
+pub(crate) struct PinCount {
+    pub(crate) count: usize,
+    ghost few: { count ≤ 6 },
+}
+
+// How many numbers so many pins spell.
+pub(crate) fn numbers_of(pins: PinCount) -> u32
+    ensures { CountsNumbers pins.count result }
 {
-    1 << bits
+    1 << pins.count
 }
 
 // Whether a bit is set.
@@ -60,8 +65,7 @@ pub(crate) fn is_odd(class: ClassId) -> bool
 impl Cut {
     // A constant.
     pub(crate) fn constant(value: bool) -> Self
-        ensures pins { result.pins ≡ [] }
-        ensures bits { is_set result.bits 0 ≡ value }
+        ensures { IsConstantCut value result }
     {
         Cut {
             pins: [ClassId(0); 6],
@@ -72,9 +76,7 @@ impl Cut {
 
     // One pin at a class, as the value of the first class of its pair.
     pub(crate) fn pin(class: ClassId) -> Self
-        ensures pins { result.pins ≡ class ∷ [] }
-        ensures low { is_set result.bits 0 ≡ is_odd class.0 }
-        ensures high { is_set result.bits 1 ≡ not (is_odd class.0) }
+        ensures { IsPinCut class result }
     {
         Cut {
             pins: [class; 6],
@@ -84,8 +86,7 @@ impl Cut {
     }
 
     pub(crate) fn pins(&self) -> &[ClassId]
-        ensures pins { result.now ≡ self.now.pins }
-        ensures few { length result.now ≤ 6 }
+        ensures { ArePinsOfCut self.now result.now }
     {
         &self.pins[..self.len]
     }
@@ -142,36 +143,48 @@ fn joined_value(x: &Cut, left: ClassId, y: &Cut, right: ClassId, class: ClassId,
 {
     let low = y.pins().len();
     let first = is_set(x.bits, place >> low);
-    let second = is_set(y.bits, place % numbers_of(low));
+    let second = is_set(y.bits, place % numbers_of(PinCount { count: low }));
     turned(
         is_odd(class),
         nand(turned(is_odd(left), first), turned(is_odd(right), second)),
     )
 }
 
+// Two cuts at classes with no more than six pins, and a class that holds their pair.
+#[derive(Clone, Copy)]
+pub(crate) struct Joint<'a> {
+    pub(crate) x: &'a Cut,
+    pub(crate) left: ClassId,
+    pub(crate) y: &'a Cut,
+    pub(crate) right: ClassId,
+    pub(crate) class: ClassId,
+    ghost few: { length x.now.pins + length y.now.pins ≤ 6 },
+}
+
 // The values of the NAND of two cuts at classes, as bits.
-fn joined_bits(x: &Cut, left: ClassId, y: &Cut, right: ClassId, class: ClassId) -> u64
-    requires { length x.now.pins + length y.now.pins ≤ 6 }
-    ensures { result ≡ joined_bits x.now left.0 y.now right.0 class.0 }
+fn joined_bits(of: &Joint) -> u64
+    ensures { result ≡ joined_bits of.now.x.now of.now.left.0 of.now.y.now of.now.right.0
+        of.now.class.0 }
 {
     let mut bits = 0;
-    for place in (0..numbers_of(x.pins().len() + y.pins().len())).rev() {
-        bits = appended(bits, joined_value(x, left, y, right, class, place));
+    let count = of.x.pins().len() + of.y.pins().len();
+    for place in (0..numbers_of(PinCount { count })).rev() {
+        let value = joined_value(of.x, of.left, of.y, of.right, of.class, place);
+        bits = appended(bits, value);
     }
     bits
 }
 
 // The NAND of two cuts at classes, at the place of the class that holds them.
-pub(crate) fn joined(x: &Cut, left: ClassId, y: &Cut, right: ClassId, class: ClassId) -> Cut
-    requires { length x.now.pins + length y.now.pins ≤ 6 }
+pub(crate) fn joined(of: &Joint) -> Cut
     ensures { result ≡ record {
-      pins = x.now.pins ++ y.now.pins;
-      bits = joined_bits x.now left.0 y.now right.0 class.0;
+      pins = of.now.x.now.pins ++ of.now.y.now.pins;
+      bits = joined_bits of.now.x.now of.now.left.0 of.now.y.now of.now.right.0 of.now.class.0;
     } }
 {
-    let mut cut = x.copy();
-    cut.bits = joined_bits(x, left, y, right, class);
-    for pin in y.pins() {
+    let mut cut = of.x.copy();
+    cut.bits = joined_bits(of);
+    for pin in of.y.pins() {
         cut.push(*pin);
     }
     cut

@@ -5,7 +5,7 @@ ghost use Rattle.lw_io.specs.Waitings.{Puts};
 ghost use Rattle.lw_lut.specs.Cuts.{is_set};
 ghost use Rattle.lw_lut.specs.Texts.{binary, row, rows_from, table_rows, is_buffer};
 
-use crate::cut::{is_set, numbers_of};
+use crate::cut::{PinCount, is_set, numbers_of};
 use crate::table::Table;
 use lw_io::{Sink, Waiting, put};
 
@@ -18,52 +18,61 @@ fn digit(place: u32, bit: usize) -> u8
 }
 
 // A number by so many bits, the highest first.
-fn binary(bits: usize, place: u32) -> [u8; 6]
-    requires { bits ≤ 6 }
-    ensures { take bits result ≡ binary bits place }
+fn binary(bits: PinCount, place: u32) -> [u8; 6]
+    ensures { take bits.count result ≡ binary bits.count place }
 {
     let mut digits = [b'0'; 6];
-    for k in 0..bits {
-        digits[k] = digit(place, bits - 1 - k);
+    for k in 0..bits.count {
+        digits[k] = digit(place, bits.count - 1 - k);
     }
     digits
 }
 
 // The row of a number.
-fn put_row<S: Sink>(sink: &mut S, waiting: &mut Waiting, bits: usize, place: u32)
-    requires { bits ≤ 6 }
+fn put_row<S: Sink>(sink: &mut S, waiting: &mut Waiting, bits: PinCount, place: u32)
     ensures { Puts (S.taken sink.old) (S.faults sink.old) waiting.old (S.taken sink.new)
-        (S.faults sink.new) waiting.new (row bits place) }
+        (S.faults sink.new) waiting.new (row bits.count place) }
 {
-    if bits == 0 {
+    let count = bits.count;
+    if count == 0 {
         put(sink, waiting, b"1\n");
         return;
     }
-    put(sink, waiting, &binary(bits, place)[..bits]);
+    put(sink, waiting, &binary(bits, place)[..count]);
     put(sink, waiting, b" 1\n");
 }
 
+// A table with no more than six fan-ins.
+#[derive(Clone, Copy)]
+pub(crate) struct SmallTable<'a> {
+    pub(crate) table: &'a Table,
+    ghost few: { length table.now.fanins ≤ 6 },
+}
+
 // The row of a number, where its bit is set.
-fn put_row_at<S: Sink>(sink: &mut S, waiting: &mut Waiting, table: &Table, place: u32)
-    requires few { length table.now.fanins ≤ 6 }
-    requires place { place < 64 }
-    ensures { Puts (S.taken sink.old) (S.faults sink.old) waiting.old (S.taken sink.new)
+fn put_row_at<S: Sink>(sink: &mut S, waiting: &mut Waiting, small: &SmallTable, place: u32)
+    requires { place < 64 }
+    ensures { let table = small.now.table.now in
+        Puts (S.taken sink.old) (S.faults sink.old) waiting.old (S.taken sink.new)
         (S.faults sink.new) waiting.new
-        (if is_set table.now.bits place then row (length table.now.fanins) place else []) }
+        (if is_set table.bits place then row (length table.fanins) place else []) }
 {
+    let table = small.table;
     if is_set(table.bits, place) {
-        put_row(sink, waiting, table.fanins.len(), place);
+        let count = table.fanins.len();
+        put_row(sink, waiting, PinCount { count }, place);
     }
 }
 
 // The rows where the table is true.
-fn put_true_rows<S: Sink>(sink: &mut S, waiting: &mut Waiting, table: &Table)
-    requires { length table.now.fanins ≤ 6 }
-    ensures { Puts (S.taken sink.old) (S.faults sink.old) waiting.old (S.taken sink.new)
-        (S.faults sink.new) waiting.new (rows_from table.now 0 (2 ^ length table.now.fanins)) }
+fn put_true_rows<S: Sink>(sink: &mut S, waiting: &mut Waiting, small: &SmallTable)
+    ensures { let table = small.now.table.now in
+        Puts (S.taken sink.old) (S.faults sink.old) waiting.old (S.taken sink.new)
+        (S.faults sink.new) waiting.new (rows_from table 0 (2 ^ length table.fanins)) }
 {
-    for place in 0..numbers_of(table.fanins.len()) {
-        put_row_at(sink, waiting, table, place);
+    let count = small.table.fanins.len();
+    for place in 0..numbers_of(PinCount { count }) {
+        put_row_at(sink, waiting, small, place);
     }
 }
 
@@ -74,14 +83,14 @@ fn is_buffer(table: &Table) -> bool
     table.fanins.len() == 1 && !is_set(table.bits, 0) && is_set(table.bits, 1)
 }
 
-pub(crate) fn put_rows<S: Sink>(sink: &mut S, waiting: &mut Waiting, table: &Table)
-    requires { length table.now.fanins ≤ 6 }
+pub(crate) fn put_rows<S: Sink>(sink: &mut S, waiting: &mut Waiting, small: &SmallTable)
     ensures { Puts (S.taken sink.old) (S.faults sink.old) waiting.old (S.taken sink.new)
-        (S.faults sink.new) waiting.new (table_rows table.now) }
+        (S.faults sink.new) waiting.new (table_rows small.now.table.now) }
 {
+    let table = small.table;
     if is_buffer(table) {
         put(sink, waiting, b"0 0\n");
     } else {
-        put_true_rows(sink, waiting, table);
+        put_true_rows(sink, waiting, small);
     }
 }

@@ -1,13 +1,13 @@
 // The search for depths, leaf count by leaf count.
-ghost use Rattle.std.specs.Prelude.{◌≡◌, ◌+◌, ◌*◌, ◌/◌, ◌<◌, ◌≤◌, ◌⊎◌, ◌^◌, ◌||◌, ℕ, length, All, IfSome, IsNone, MatchOption, Some, None, slice_get, slice_index};
+ghost use Rattle.std.specs.Prelude.{◌≡◌, ◌+◌, ◌*◌, ◌/◌, ◌<◌, ◌≤◌, ◌^◌, ◌||◌, ℕ, length, All, MatchOption, Some, None, slice_get, slice_index};
 ghost use Rattle.lw_laws.specs.Graphs.{HoldsPair};
 ghost use Rattle.lw_lut.specs.Cuts.{IsCutAt, is_odd};
-ghost use Rattle.lw_lut.specs.Searches.{AreCounts, IsBoundedAt, IsBelow, IsDeepened, count_at};
+ghost use Rattle.lw_lut.specs.Searches.{AreCounts, IsBoundedAt, IsBelow, IsDeepened, IsServing, count_at};
 ghost use Rattle.lw_lut.specs.Reaches.{AreBoundedBut, IsWithin, span_at};
 ghost use Rattle.lw_lut.specs.Sweeps.{AreInPlace, AreReachesOf, Deepens, IsAtDepth, IsSweptBut, LowersCount, LowersAll, LowersIn, LowersRound, MayLower, Settles, SettlesAll};
 ghost use Rattle.lw_pool.specs.declared.id.ClassId.{ClassId};
 
-use crate::cut::{Cut, joined};
+use crate::cut::{Cut, Joint, joined};
 use crate::span::Span;
 use lw_graph::{Graph, Pair};
 use lw_pool::ClassId;
@@ -73,8 +73,7 @@ fn better_pair(graph: &Graph, counts: &[u8], class: ClassId) -> Option<Pair>
 
 // The pin of a place that has this many leaves, where it stands for itself.
 fn serving(pin: Option<ClassId>, leaves: u8) -> Option<ClassId>
-    ensures some { IfSome result (λ q. (pin ≡ Some q) × (leaves ≡ 1)) }
-    ensures none { IsNone result → (pin ≡ None) ⊎ (leaves ≡ 1 → ⊥) }
+    ensures { IsServing pin leaves result }
 {
     if leaves == 1 { pin } else { None }
 }
@@ -134,7 +133,14 @@ impl Search {
             return false;
         };
         let (left, right) = (self.side(pair.x), self.side(pair.y));
-        let cut = joined(&left, pair.x, &right, pair.y, class);
+        let joint = Joint {
+            x: &left,
+            left: pair.x,
+            y: &right,
+            right: pair.y,
+            class,
+        };
+        let cut = joined(&joint);
         let place = (class.0 / 2) as usize;
         self.counts[place] = cut.pins().len() as u8;
         self.cuts[place] = cut;

@@ -1,6 +1,6 @@
 // Classes between two numbers.
 ghost use Rattle.std.specs.Prelude.{◌+◌, ◌-◌, ◌<◌, ◌^◌, ℕ};
-ghost use Rattle.lw_lut.specs.Reaches.{IsIn, IsWithin};
+ghost use Rattle.lw_lut.specs.Reaches.{IsIn, IsWithin, SpansBoth};
 ghost use Rattle.lw_lut.specs.declared.span.Span.{Span};
 
 use lw_pool::ClassId;
@@ -25,8 +25,7 @@ impl Span {
 
     // The classes of two spans, and those between them.
     pub(crate) fn join(self, other: Span) -> Self
-        ensures one { IsWithin self result }
-        ensures other { IsWithin other result }
+        ensures { SpansBoth self other result }
     {
         Span {
             low: self.low.min(other.low),

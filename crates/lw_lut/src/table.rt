@@ -1,12 +1,9 @@
-ghost use Rattle.std.specs.Prelude.{◌≡◌, ◌≤◌, ◌<◌, ◌^◌, length, Contains, IfOk, OnOk, IsTrue, IsFalse};
-ghost use Rattle.std.specs.List.Sorted.{IsNonDecreasingBy, IsPermutation};
-ghost use Rattle.lw_pool.specs.declared.id.ClassId.{ClassId};
-ghost use Rattle.lw_lut.specs.Cuts.{spelled};
+ghost use Rattle.std.specs.Prelude.{◌≡◌, ◌≤◌, ◌^◌, length, IfOk, OnOk};
 ghost use Rattle.lw_lut.specs.Packed.{packed};
-ghost use Rattle.lw_lut.specs.Tables.{AreRisingOf, IsAdded, IsTableOf, given, table_value};
+ghost use Rattle.lw_lut.specs.Tables.{AreRisingOf, AreSortedClasses, IsAdded, IsSpelledNumber, IsTableOf, TellsAmong, given, table_value};
 ghost use Rattle.lw_pool.specs.Numbers.{numbers};
 
-use crate::cut::{Cut, appended, is_odd, is_set, numbers_of, turned};
+use crate::cut::{Cut, PinCount, appended, is_odd, is_set, numbers_of, turned};
 use lw_pool::{ClassId, Classes};
 use std::alloc::{AllocError, Global};
 
@@ -21,8 +18,7 @@ pub struct Table {
 
 // Whether a class is among some.
 fn is_among(classes: &[ClassId], class: ClassId) -> bool
-    ensures some { IsTrue result → Contains classes.now class }
-    ensures none { IsFalse result → Contains classes.now class → ⊥ }
+    ensures { TellsAmong classes.now class result }
 {
     for at in classes {
         if at.0 == class.0 {
@@ -34,8 +30,7 @@ fn is_among(classes: &[ClassId], class: ClassId) -> bool
 
 // Sorts classes by their numbers.
 fn sort(classes: &mut Vec<ClassId>)
-    ensures permutation { IsPermutation classes.old.items classes.new.items }
-    ensures sorted { IsNonDecreasingBy (λ (c : ClassId). c.0) classes.new.items }
+    ensures { AreSortedClasses classes.old.items classes.new.items }
 {
     classes.sort_unstable_by_key(|class| class.0);
 }
@@ -64,11 +59,18 @@ fn rising(alloc: Global, classes: &[ClassId]) -> Result<Vec<ClassId>, AllocError
     Ok(rising)
 }
 
+// No more than six classes.
+#[derive(Clone, Copy)]
+struct FewClasses<'a> {
+    classes: &'a [ClassId],
+    ghost few: { length classes.now ≤ 6 },
+}
+
 // The value that a number gives to a class, where classes spell it.
-fn given(classes: &[ClassId], place: u32, class: ClassId) -> bool
-    requires { length classes.now ≤ 6 }
-    ensures { result ≡ given (numbers classes.now) place class.0 }
+fn given(fanins: &FewClasses, place: u32, class: ClassId) -> bool
+    ensures { result ≡ given (numbers fanins.now.classes.now) place class.0 }
 {
+    let classes = fanins.classes;
     for k in 0..classes.len() {
         if classes[k].0 == class.0 {
             return is_set(place as u64, (classes.len() - 1 - k) as u32);
@@ -78,28 +80,29 @@ fn given(classes: &[ClassId], place: u32, class: ClassId) -> bool
 }
 
 // The number that pins spell where fan-ins spell another.
-fn spelled(pins: &[ClassId], fanins: &[ClassId], place: u32) -> u64
-    requires pins { length pins.now ≤ 6 }
-    requires fanins { length fanins.now ≤ 6 }
-    ensures number { result ≡ spelled (given (numbers fanins.now) place) (numbers pins.now) }
-    ensures few { result < 64 }
+fn spelled(pins: &FewClasses, fanins: &FewClasses, place: u32) -> u64
+    ensures { IsSpelledNumber pins.now.classes.now fanins.now.classes.now place result }
 {
     let mut number = 0;
-    for pin in pins {
+    let classes = pins.classes;
+    for pin in classes {
         number = appended(number, given(fanins, place, *pin));
     }
     number
 }
 
 // The bits of a cut at a class over its fan-ins.
-fn bits_over(cut: &Cut, class: ClassId, fanins: &[ClassId]) -> u64
-    requires { length fanins.now ≤ 6 }
-    ensures { result ≡ packed (table_value cut.now class.0 (numbers fanins.now)) 0
-        (2 ^ length fanins.now) }
+fn bits_over(cut: &Cut, class: ClassId, fanins: &FewClasses) -> u64
+    ensures { let classes = fanins.now.classes.now in
+        result ≡ packed (table_value cut.now class.0 (numbers classes)) 0 (2 ^ length classes) }
 {
     let mut bits = 0;
-    for place in (0..numbers_of(fanins.len())).rev() {
-        let number = spelled(cut.pins(), fanins, place);
+    let count = fanins.classes.len();
+    for place in (0..numbers_of(PinCount { count })).rev() {
+        let pins = FewClasses {
+            classes: cut.pins(),
+        };
+        let number = spelled(&pins, fanins, place);
         let value = is_set(cut.bits(), number as u32);
         bits = appended(bits, turned(is_odd(class), value));
     }
@@ -112,7 +115,8 @@ impl Table {
         ensures { IfOk result (IsTableOf cut.now class) }
     {
         let fanins = rising(alloc, cut.pins())?;
-        let bits = bits_over(cut, class, &fanins);
+        let few = FewClasses { classes: &fanins };
+        let bits = bits_over(cut, class, &few);
         Ok(Table {
             out: class,
             fanins: Classes::from_vec(fanins),

@@ -1,4 +1,4 @@
-ghost use Rattle.std.specs.Prelude.{◌≡◌, ◌∷◌, ◌++◌, All, Contains, OnOk, OnErr, length};
+ghost use Rattle.std.specs.Prelude.{◌≤◌, ◌∷◌, All, Contains, OnOk, OnErr, length};
 ghost use Rattle.std.specs.Io.KnownBytes.{Appends};
 ghost use Rattle.std.specs.List.{flat_map};
 ghost use Rattle.lw_io.specs.Causes.{HasCause};
@@ -11,10 +11,10 @@ ghost use Rattle.lw_lut.specs.Texts.{net_name, table_text, tables_text, wire_tex
 
 use crate::lines::{put_latches, put_line, put_word};
 use crate::net::TableNet;
-use crate::rows::put_rows;
+use crate::rows::{SmallTable, put_rows};
 use crate::table::Table;
 use lw_io::{Failed, Sink, Waiting, end, put};
-use lw_pool::{ClassId, Frame, Name};
+use lw_pool::{ClassId, Frame};
 
 // The names of the nets of some classes.
 fn put_nets<S: Sink>(sink: &mut S, waiting: &mut Waiting, net: &TableNet, classes: &[ClassId])
@@ -37,14 +37,15 @@ fn put_table<S: Sink>(sink: &mut S, waiting: &mut Waiting, net: &TableNet, table
     put_nets(sink, waiting, net, table.fanins.as_slice());
     put_word(sink, waiting, net.net_name(table.out));
     put(sink, waiting, b"\n");
-    put_rows(sink, waiting, table);
+    put_rows(sink, waiting, &SmallTable { table });
 }
 
-fn put_tables<S: Sink>(sink: &mut S, waiting: &mut Waiting, net: &TableNet, tables: &[Table])
-    requires { All (HasNets net.now) tables.now }
+fn put_tables<S: Sink>(sink: &mut S, waiting: &mut Waiting, net: &TableNet)
     ensures { Puts (S.taken sink.old) (S.faults sink.old) waiting.old (S.taken sink.new)
-        (S.faults sink.new) waiting.new (flat_map (table_text net.now) tables.now) }
+        (S.faults sink.new) waiting.new (flat_map (table_text net.now) net.now.tables) }
 {
+    net.keeps();
+    let tables = net.tables().as_slice();
     for table in tables {
         put_table(sink, waiting, net, table);
     }
@@ -72,30 +73,36 @@ fn put_wire<S: Sink>(sink: &mut S, waiting: &mut Waiting, net: &[u8], output: &[
     }
 }
 
-fn put_wires<S: Sink>(
-    sink: &mut S,
-    waiting: &mut Waiting,
-    net: &TableNet,
-    outputs: &[Name],
-    roots: &[ClassId],
-)
-    requires one_root { length roots.now ≡ length outputs.now }
-    requires nets { All (λ root. Contains (net_classes net.now) root.0) roots.now }
+fn put_wires<S: Sink>(sink: &mut S, waiting: &mut Waiting, net: &TableNet)
     ensures { Puts (S.taken sink.old) (S.faults sink.old) waiting.old (S.taken sink.new)
-        (S.faults sink.new) waiting.new (wires net.now outputs.now roots.now) }
+        (S.faults sink.new) waiting.new
+        (wires net.now net.now.ports.outputs net.now.ports.roots) }
 {
+    net.keeps();
+    let ports = net.ports();
+    let outputs = ports.outputs.as_slice();
+    let roots = ports.roots.as_slice();
     for (k, output) in outputs.iter().enumerate() {
         put_wire(sink, waiting, net.net_name(roots[k]), output.as_bytes());
     }
 }
 
+// A network of tables with the frame of its file.
+#[derive(Clone, Copy)]
+struct Framed<'a> {
+    net: &'a TableNet,
+    frame: &'a Frame,
+    ghost inputs: { frame.now.inputs ≤ length net.now.ports.inputs },
+    ghost outputs: { frame.now.outputs ≤ length net.now.ports.outputs },
+}
+
 // The model and the file's own inputs and outputs.
-fn put_header<S: Sink>(sink: &mut S, waiting: &mut Waiting, net: &TableNet, frame: &Frame)
-    requires { IsFramed net.now frame.now }
+fn put_header<S: Sink>(sink: &mut S, waiting: &mut Waiting, of: &Framed)
     ensures { Puts (S.taken sink.old) (S.faults sink.old) waiting.old (S.taken sink.new)
-        (S.faults sink.new) waiting.new (header_text net.now frame.now) }
+        (S.faults sink.new) waiting.new (header_text of.now.net.now of.now.frame.now) }
 {
-    let ports = net.ports();
+    let frame = of.frame;
+    let ports = of.net.ports();
     put(sink, waiting, b".model");
     put_word(sink, waiting, ports.model.as_bytes());
     put(sink, waiting, b"\n");
@@ -106,23 +113,14 @@ fn put_header<S: Sink>(sink: &mut S, waiting: &mut Waiting, net: &TableNet, fram
 }
 
 // The whole text.
-fn put_text<S: Sink>(sink: &mut S, waiting: &mut Waiting, net: &TableNet, frame: &Frame)
-    requires { IsFramed net.now frame.now }
+fn put_text<S: Sink>(sink: &mut S, waiting: &mut Waiting, of: &Framed)
     ensures { Puts (S.taken sink.old) (S.faults sink.old) waiting.old (S.taken sink.new)
-        (S.faults sink.new) waiting.new (tables_text net.now frame.now) }
+        (S.faults sink.new) waiting.new (tables_text of.now.net.now of.now.frame.now) }
 {
-    net.keeps();
-    let ports = net.ports();
-    put_header(sink, waiting, net, frame);
-    put_latches(sink, waiting, frame.latches.as_slice());
-    put_tables(sink, waiting, net, net.tables().as_slice());
-    put_wires(
-        sink,
-        waiting,
-        net,
-        ports.outputs.as_slice(),
-        ports.roots.as_slice(),
-    );
+    put_header(sink, waiting, of);
+    put_latches(sink, waiting, of.frame.latches.as_slice());
+    put_tables(sink, waiting, of.net);
+    put_wires(sink, waiting, of.net);
     put(sink, waiting, b".end\n");
 }
 
@@ -137,6 +135,6 @@ pub fn write_tables<S: Sink>(net: &TableNet, frame: &Frame, sink: &mut S) -> Res
     ensures cause { HasCause (S.faults sink.old) (S.faults sink.new) result }
 {
     let mut waiting = Waiting::new();
-    put_text(sink, &mut waiting, net, frame);
+    put_text(sink, &mut waiting, &Framed { net, frame });
     end(sink, waiting)
 }

@@ -7,7 +7,7 @@ use Rattle.lw_lut.proofs.choosing.listed.Goals.{in-Some+then-depth-gt0+in_ok-pus
 
 pub loop-number-preserved : goal.loop-number-preserved
 loop-number-preserved c =
-    let depths = c.args.depths.now in
+    let depths = c.args.of.now.depths.now in
     let l = c.loop-number in
     elim c.match-depth.branch [
       | in-Some+then-depth-gt0+in_ok-push w ↦

@@ -4,6 +4,6 @@ use Rattle.lw_lut.proofs.cut.joined.Given as goal
 
 abbrev pub invariant-loop-pin : goal.invariant-loop-pin
 invariant-loop-pin l = record {
-  pins : l.cut.pins ≡ l.x.pins ++ take l.pin-index l.pin-items;
-  bits : l.cut.bits ≡ joined_bits l.x l.fn.left.0 l.y l.fn.right.0 l.fn.class.0;
+  pins : l.cut.pins ≡ l.fn.of.x.now.pins ++ take l.pin-index l.pin-items;
+  bits : l.cut.bits ≡ joined_bits l.fn.of.x.now l.fn.of.left.0 l.fn.of.y.now l.fn.of.right.0 l.fn.of.class.0;
 }

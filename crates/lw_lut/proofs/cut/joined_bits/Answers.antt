@@ -5,8 +5,8 @@ use Rattle.lw_lut.proofs.cut.joined_bits.Goals as goal
 
 pub appended-bits-requires : goal.appended-bits-requires
 appended-bits-requires c =
-    let f = joined_value c.args.x.now c.args.left.0 c.args.y.now c.args.right.0 c.args.class.0 in
-    let all = 2 ^ (length c.args.x.now.pins + length c.args.y.now.pins) in
+    let f = joined_value c.args.of.now.x.now c.args.of.now.left.0 c.args.of.now.y.now c.args.of.now.right.0 c.args.of.now.class.0 in
+    let all = 2 ^ (length c.args.of.now.x.now.pins + length c.args.of.now.y.now.pins) in
     let place = c.loop-place.place in
     let same : c.numbers_of-place.result ≡ all = c.numbers_of-place.ensures.numbers ∙ ap₂ (λ xs ys. 2 ^ (length xs + length ys)) c.pins.ensures.pins c.pins-2.ensures.pins in
     let few : all ≤ 64 = subst (λ n. n ≤ 64) same c.numbers_of-place.ensures.few in
@@ -14,9 +14,9 @@ appended-bits-requires c =
 
 pub loop-place-preserved : goal.loop-place-preserved
 loop-place-preserved c =
-    let f = joined_value c.args.x.now c.args.left.0 c.args.y.now c.args.right.0 c.args.class.0 in
-    let all = 2 ^ (length c.args.x.now.pins + length c.args.y.now.pins) in
+    let f = joined_value c.args.of.now.x.now c.args.of.now.left.0 c.args.of.now.y.now c.args.of.now.right.0 c.args.of.now.class.0 in
+    let all = 2 ^ (length c.args.of.now.x.now.pins + length c.args.of.now.y.now.pins) in
     let place = c.loop-place.place in
     let same : c.numbers_of-place.result ≡ all = c.numbers_of-place.ensures.numbers ∙ ap₂ (λ xs ys. 2 ^ (length xs + length ys)) c.pins.ensures.pins c.pins-2.ensures.pins in
     let within : place ≤ all = subst (λ n. place ≤ n) same c.loop-place.auto.place in
-    c.appended-bits.ensures ∙ packed_before f place all c.loop-place.bits c.loop-place-test.true within c.loop-place.invariant c.joined_value.result c.joined_value.ensures
+    c.appended-bits.ensures ∙ packed_before f place all c.loop-place.bits c.loop-place-test.true within c.loop-place.invariant c.joined_value-value.result c.joined_value-value.ensures

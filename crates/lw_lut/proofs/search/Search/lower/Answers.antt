@@ -18,16 +18,17 @@ returns-in_default c = record {
   elsewhere = λ k other. refl;
 }
 
-pub joined-cut-requires : goal.joined-cut-requires
-joined-cut-requires c =
-    let (d, are) = c.requires.may.counts in
-    let s = c.args.self.now in
-    let less : count_at s.counts.items c.in-Some.pair.x.0 + count_at s.counts.items c.in-Some.pair.y.0 < count_at s.counts.items c.args.class.0 = subst (λ xs. count_at xs c.in-Some.pair.x.0 + count_at xs c.in-Some.pair.y.0 < count_at xs c.args.class.0) c.deref.ensures.value c.in-Some.ensures.1 in
-    let top = are.low (c.args.class.0 / 2) in
-    let x = c.side-left.ensures c.args.graph.now c.args.leaves d are (omega (arith, less, top)) in
-    let y = c.side-right.ensures c.args.graph.now c.args.leaves d are (omega (arith, less, top)) in
-    let x1 = x.1 in let y1 = y.1 in
-    omega (arith, less, top, x1, y1, c.requires.may.low)
+pub invariant_of-joint : goal.invariant_of-joint
+invariant_of-joint c = record {
+  few = let (d, are) = c.requires.may.counts in
+      let s = c.args.self.now in
+      let less : count_at s.counts.items c.in-Some.pair.x.0 + count_at s.counts.items c.in-Some.pair.y.0 < count_at s.counts.items c.args.class.0 = subst (λ xs. count_at xs c.in-Some.pair.x.0 + count_at xs c.in-Some.pair.y.0 < count_at xs c.args.class.0) c.deref.ensures.value c.in-Some.ensures.1 in
+      let top = are.low (c.args.class.0 / 2) in
+      let x = c.side-left.ensures c.args.graph.now c.args.leaves d are (omega (arith, less, top)) in
+      let y = c.side-right.ensures c.args.graph.now c.args.leaves d are (omega (arith, less, top)) in
+      let x1 = x.1 in let y1 = y.1 in
+      omega (arith, less, top, x1, y1, c.requires.may.low);
+}
 
 pub returns : goal.returns
 returns c =
