@@ -9,7 +9,7 @@ use Rattle.lw_form.specs.declared.factoring.Literal.{Literal}
 use Rattle.lw_form.specs.declared.factoring.Task.{Task}
 use Rattle.lw_form.specs.declared.factoring.Task.TheVariants.{Factor, Join}
 use Rattle.lw_form.specs.declared.factoring.Work.{Work}
-use Rattle.lw_form.specs.Limits.{most_operands}
+use Rattle.lw_form.specs.Limits.{IsWidth}
 use Rattle.lw_form.specs.Products.{HaveColumns}
 use Rattle.lw_form.specs.Tables.{Table, made, AreBelow, HasMore, forms_at}
 
@@ -81,8 +81,7 @@ pub record DoesTask (width : ℕ) (fanins : List ℕ) (old new : Table) (before 
 
 -- two forms are there, which can be joined under a literal
 pub record CanJoin (width : ℕ) (table : Table) (l : ℕ) (done : List ℕ) : Type 0 where
-  pub low : 2 ≤ width
-  pub high : width ≤ most_operands
+  pub is_width : IsWidth width
   pub two : 2 ≤ length done
   pub literal : l / 2 < length (made table)
   pub below : AreBelow (length (made table)) done

@@ -37,6 +37,11 @@ pub record IsListed (forms : List Form) (listed places : List ℕ) : Type 0 wher
   pub back : (b : ℕ) → place_of places b ≢ no_place → slice_get listed (place_of places b) ≡ Some b
   pub few : length listed ≤ most_bases
 
+-- nothing is listed
+pub record IsEmptyListing (listing : Listing) : Type 0 where
+  pub listed : listing.listed.items ≡ []
+  pub places : listing.places.items ≡ []
+
 -- a form to be added, or an And whose parts are to be listed
 pub data PlainStep : Type 0 where
   add_of : Form → PlainStep

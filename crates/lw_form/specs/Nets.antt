@@ -10,7 +10,7 @@ use Rattle.lw_laws.specs.Signals.{Signal, sum_of_products, factored}
 use Rattle.lw_laws.specs.SignalValues.{form_of}
 use Rattle.lw_form.specs.declared.fault.FormFault.{FormFault}
 use Rattle.lw_form.specs.declared.occurring.Occurring.{Occurring}
-use Rattle.lw_form.specs.Limits.{most_operands}
+use Rattle.lw_form.specs.Limits.{IsWidth}
 use Rattle.lw_form.specs.Listed.{bases_of, IsListed, IsTooLong}
 use Rattle.lw_form.specs.Tables.{Table, made, AreBelow, HasMore, IsMadeAs, forms_at}
 
@@ -51,16 +51,14 @@ pub record CanAddNet (all : Occurring) (s f : ℕ) : Type 0 where
 
 -- the net of a node can be added
 pub record CanAddNode (width : ℕ) (all : Occurring) (node : Node) : Type 0 where
-  pub low : 2 ≤ width
-  pub high : width ≤ most_operands
+  pub is_width : IsWidth width
   pub listed : (signals : List Signal) × HasSignals all signals
   pub fanins : All (λ (net : NetId). net.0 < length all.sops.items) node.fanins
   pub columns : All (λ (row : List ℕ). length row ≡ length node.fanins) node.rows
 
 -- and so can those of some nodes
 pub record CanAddNodes (width : ℕ) (all : Occurring) (ns : List Node) : Type 0 where
-  pub low : 2 ≤ width
-  pub high : width ≤ most_operands
+  pub is_width : IsWidth width
   pub listed : (signals : List Signal) × HasSignals all signals
   pub nodes : AreNodes (length all.sops.items) ns
 

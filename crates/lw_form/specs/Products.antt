@@ -1,6 +1,6 @@
 -- Literals over numbers of forms, and what holds of rows.
 use Rattle.std.specs.Prelude.{ℕ, ◌≡◌, ◌<◌, ◌≤◌, Bool, true, false, Option, Some, None, List, [], ◌∷◌, length, bit_xor}
-use Rattle.lw_form.specs.Limits.{most_operands}
+use Rattle.lw_form.specs.Limits.{IsWidth}
 use Rattle.lw_form.specs.Tables.{Table, made, AreBelow}
 
 abbrev pub signed_number : Bool → ℕ → ℕ
@@ -25,7 +25,6 @@ ReachColumn column (row ∷ rows) = (column < length row) × ReachColumn column 
 
 -- forms can be made of these rows, which have a sign for each fan-in
 pub record AreRowsOver (width : ℕ) (table : Table) (fanins : List ℕ) (rows : List (List (Option Bool))) : Type 0 where
-  pub low : 2 ≤ width
-  pub high : width ≤ most_operands
+  pub is_width : IsWidth width
   pub below : AreBelow (length (made table)) fanins
   pub columns : HaveColumns (length fanins) rows

@@ -47,6 +47,11 @@ pub record AreMade (forms : List Form) : Type 0 where
   pub once : (a b : ℕ) (f : Form) → slice_get forms a ≡ Some f → slice_get forms b ≡ Some f → a ≡ b
   pub few : length forms ≤ 2 ^ 31
 
+-- there are so many, and they are such
+pub record CountsMade (forms : List Form) (n : ℕ) : Type 0 where
+  pub len : n ≡ length forms
+  pub made : AreMade forms
+
 -- what each table keeps
 pub record IsTable (table : Table) : Type 0 where
   pub before : (k : ℕ) (ids : List ℕ) → slice_get table.keys k ≡ Some ids → AreBelow (1 + table.inputs + k) ids

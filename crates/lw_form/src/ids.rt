@@ -24,7 +24,7 @@ impl Model for FormIds {
 }
 
 impl FormIds {
-    ghost use Rattle.lw_form.specs.Bases.{picked};
+    ghost use Rattle.lw_form.specs.Bases.{picked, AreFewIds};
 
     /// No forms. Nothing is ever taken from the allocator.
     pub fn new(alloc: Global) -> Self
@@ -75,8 +75,7 @@ impl FormIds {
     }
 
     pub(crate) fn as_slice(&self) -> &[u32]
-        ensures ids { result.now ≡ self.now }
-        ensures few { length self.now ≤ 8 }
+        ensures { AreFewIds self.now result.now }
     {
         self.ids.as_slice()
     }

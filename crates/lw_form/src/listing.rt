@@ -3,7 +3,7 @@ ghost use Rattle.std.specs.Prelude.{◌≡◌, ◌/◌, ◌^◌, ◌<◌, ◌++�
 ghost use Rattle.lw_laws.specs.Forms.{Form};
 ghost use Rattle.lw_laws.specs.Occurring.{appended, append_part, append_parts, sublists, add_form};
 ghost use Rattle.lw_laws.specs.SignalValues.{form_of};
-ghost use Rattle.lw_form.specs.Listed.{base_at, bases_of, place_of, operands_of, HasListed, IsAdding, IsListed, IsNewlyListed, IsStepFault, IsTooLong, ListsTo, PutsAnd, PutsOperands, TakesStep};
+ghost use Rattle.lw_form.specs.Listed.{base_at, bases_of, place_of, operands_of, HasListed, IsAdding, IsEmptyListing, IsListed, IsNewlyListed, IsStepFault, IsTooLong, ListsTo, PutsAnd, PutsOperands, TakesStep};
 ghost use Rattle.lw_form.specs.Limits.{most_bases};
 ghost use Rattle.lw_form.specs.Tables.{made, forms_at, AreBelow};
 
@@ -35,8 +35,7 @@ pub(crate) struct Listing {
 impl Listing {
     // Nothing is listed, with room for so many base forms.
     pub(crate) fn with_capacity(alloc: Global, bases: usize) -> Result<Self, AllocError>
-        ensures listed { IfOk result (λ listing. listing.listed.items ≡ []) }
-        ensures places { IfOk result (λ listing. listing.places.items ≡ []) }
+        ensures { IfOk result IsEmptyListing }
     {
         Ok(Listing {
             listed: Vec::with_capacity(alloc, bases)?,

@@ -109,8 +109,7 @@ fn true_alone(alloc: Global, table: &FormTable, bases: usize) -> Result<Listing,
 
 // No forms, twice, with room for those of so many nets.
 fn no_nets(alloc: Global, nets: usize) -> Result<(Vec<u32>, Vec<u32>), AllocError>
-    ensures sops { IfOk result (λ forms. forms.0.items ≡ []) }
-    ensures facs { IfOk result (λ forms. forms.1.items ≡ []) }
+    ensures { IfOk result (λ forms. (forms.0.items ≡ []) × (forms.1.items ≡ [])) }
 {
     let sops = Vec::with_capacity(alloc, nets)?;
     let facs = Vec::with_capacity(alloc, nets)?;

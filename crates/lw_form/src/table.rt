@@ -30,7 +30,7 @@ impl Model for FormTable {
 impl FormTable {
     ghost use Rattle.lw_laws.specs.Occurring.{appended};
     ghost use Rattle.lw_form.specs.Renumbered.{simple_at};
-    ghost use Rattle.lw_form.specs.Tables.{made, spelled, AreMade, AreBelow, IsSpelledAt};
+    ghost use Rattle.lw_form.specs.Tables.{made, spelled, AreBelow, CountsMade, IsSpelledAt};
 
     // True and the inputs, with room for so many Ands.
     pub(crate) fn with_capacity(alloc: Global, inputs: u32, ands: usize) -> Result<Self, AllocError>
@@ -43,8 +43,7 @@ impl FormTable {
 
     // The number of forms that were made.
     pub(crate) fn len(&self) -> usize
-        ensures len { result ≡ length (made self.now) }
-        ensures made { AreMade (made self.now) }
+        ensures { CountsMade (made self.now) result }
     {
         1 + self.inputs as usize + self.ands.len()
     }

@@ -9,37 +9,36 @@ some_there (suc n) e = omega arith
 
 pub returns-then-clash : goal.returns-then-clash
 returns-then-clash c = λ forms below is.
-    done_false c.args.width c.requires.low c.args.table.now c.len-count.ensures.made forms c.args.kept.now below is (sym c.requires.clash ∙ c.if-clash.true)
+    done_false c.args.width c.requires.is_width.low c.args.table.now c.len-count.ensures.made forms c.args.kept.now below is (sym c.requires.clash ∙ c.if-clash.true)
 
 pub returns-then-is_empty : goal.returns-then-is_empty
 returns-then-is_empty c = λ forms below is.
-    done_true c.args.width c.requires.low c.args.table.now c.len-count.ensures.made forms c.args.kept.now below is (nil_from_length c.args.kept.now (eqb-true _ _ (sym c.if-is_empty.ensures)))
+    done_true c.args.width c.requires.is_width.low c.args.table.now c.len-count.ensures.made forms c.args.kept.now below is (nil_from_length c.args.kept.now (eqb-true _ _ (sym c.if-is_empty.ensures)))
 
 pub joined-requires : goal.joined-requires
 joined-requires c = record {
   some = some_there _ (sym c.if-is_empty.false ∙ c.is_empty.ensures);
-  few = let l = c.if-kept-width.true in let h = c.requires.high in omega arith;
+  few = let l = c.if-kept-width.true in let h = c.requires.is_width.high in omega arith;
   below = let (forms, below, is) = c.requires.kept in
-      kept_below c.args.width c.requires.low c.args.table.now c.len-count.ensures.made forms c.args.kept.now below is;
+      kept_below c.args.width c.requires.is_width.low c.args.table.now c.len-count.ensures.made forms c.args.kept.now below is;
   clean = let (forms, below, is) = c.requires.kept in
-      clean_kept c.args.width c.requires.low c.args.table.now c.len-count.ensures.made forms c.args.kept.now below is (sym c.requires.clash ∙ c.if-clash.false);
+      clean_kept c.args.width c.requires.is_width.low c.args.table.now c.len-count.ensures.made forms c.args.kept.now below is (sym c.requires.clash ∙ c.if-clash.false);
 }
 
 pub returns-then-kept-width : goal.returns-then-kept-width
 returns-then-kept-width c = λ forms below is.
-    done_few c.args.width c.requires.low c.args.table.now c.len-count.ensures.made forms c.args.kept.now below is c.joined.new.table c.in_ok-form.form (c.in_ok-form.ensures c.args.width c.requires.low c.if-kept-width.true)
+    done_few c.args.width c.requires.is_width.low c.args.table.now c.len-count.ensures.made forms c.args.kept.now below is c.joined.new.table c.in_ok-form.form (c.in_ok-form.ensures c.args.width c.requires.is_width.low c.if-kept-width.true)
 
 pub grouped-requires : goal.grouped-requires
 grouped-requires c = record {
-  low = c.requires.low;
-  high = c.requires.high;
+  is_width = c.requires.is_width;
   some = some_there _ (sym c.if-is_empty.false ∙ c.is_empty.ensures);
   below = let (forms, below, is) = c.requires.kept in
-      kept_below c.args.width c.requires.low c.args.table.now c.len-count.ensures.made forms c.args.kept.now below is;
+      kept_below c.args.width c.requires.is_width.low c.args.table.now c.len-count.ensures.made forms c.args.kept.now below is;
   clean = let (forms, below, is) = c.requires.kept in
-      clean_kept c.args.width c.requires.low c.args.table.now c.len-count.ensures.made forms c.args.kept.now below is (sym c.requires.clash ∙ c.if-clash.false);
+      clean_kept c.args.width c.requires.is_width.low c.args.table.now c.len-count.ensures.made forms c.args.kept.now below is (sym c.requires.clash ∙ c.if-clash.false);
 }
 
 pub returns : goal.returns
 returns c = λ forms below is.
-    go_again c.args.width c.requires.low c.args.table.now c.len-count.ensures.made forms c.args.kept.now below is c.grouped.new.table c.in_ok-groups.groups.items (sym c.requires.clash ∙ c.if-clash.false) c.if-kept-width.false c.in_ok-groups.ensures
+    go_again c.args.width c.requires.is_width.low c.args.table.now c.len-count.ensures.made forms c.args.kept.now below is c.grouped.new.table c.in_ok-groups.groups.items (sym c.requires.clash ∙ c.if-clash.false) c.if-kept-width.false c.in_ok-groups.ensures

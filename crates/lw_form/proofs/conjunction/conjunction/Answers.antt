@@ -8,8 +8,7 @@ use Rattle.lw_form.proofs.conjunction.conjunction.Goals as goal
 
 pub shortened-requires : goal.shortened-requires
 shortened-requires c = record {
-  low = c.requires.low;
-  high = c.requires.high;
+  is_width = c.requires.is_width;
   below = c.requires.below;
 }
 
@@ -23,8 +22,7 @@ steps-init c =
 
 pub shortened-requires-in-steps : goal.shortened-requires-in-steps
 shortened-requires-in-steps c = record {
-  low = c.requires.low;
-  high = c.requires.high;
+  is_width = c.requires.is_width;
   below = subst (AreBelow (length (made c.steps.table))) (sym c.deref.ensures.value) c.steps.invariant.below;
 }
 

@@ -4,12 +4,11 @@ use Rattle.lw_form.proofs.Joining.{below_others, or_alone, or_made}
 use Rattle.lw_form.proofs.conjunction.disjunction.Goals as goal
 
 pub returns-then-forms-eq1 : goal.returns-then-forms-eq1
-returns-then-forms-eq1 c = or_alone c.args.width c.requires.low c.args.table.now c.len-count.ensures.made c.args.forms.now _ c.if-forms-eq1.true refl c.requires.below
+returns-then-forms-eq1 c = or_alone c.args.width c.requires.is_width.low c.args.table.now c.len-count.ensures.made c.args.forms.now _ c.if-forms-eq1.true refl c.requires.below
 
 pub conjunction-requires : goal.conjunction-requires
 conjunction-requires c = record {
-  low = c.requires.low;
-  high = c.requires.high;
+  is_width = c.requires.is_width;
   below = subst (AreBelow _) (sym (c.deref.ensures ∙ c.in_ok-none.ensures)) (below_others _ c.args.forms.now c.requires.below);
 }
 

@@ -5,8 +5,8 @@ use Rattle.lw_form.proofs.conjunction.grouped.Goals as goal
 
 pub joined-requires : goal.joined-requires
 joined-requires c = record {
-  some = let t = length-take-le c.args.width c.runs.rest.now (let lt = c.runs-test.true in omega arith) in let l = c.requires.low in omega arith;
-  few = let t = length-take-le c.args.width c.runs.rest.now (let lt = c.runs-test.true in omega arith) in let h = c.requires.high in omega arith;
+  some = let t = length-take-le c.args.width c.runs.rest.now (let lt = c.runs-test.true in omega arith) in let l = c.requires.is_width.low in omega arith;
+  few = let t = length-take-le c.args.width c.runs.rest.now (let lt = c.runs-test.true in omega arith) in let h = c.requires.is_width.high in omega arith;
   below = below_take _ _ _ (below_kept_more _ _ _ c.runs.invariant.more c.runs.invariant.below);
   clean = clean_taken _ _ _ (clean_now c.args.table.now c.runs.table c.runs.rest.now c.runs.invariant.more c.runs.invariant.below c.runs.invariant.clean);
 }
@@ -14,15 +14,15 @@ joined-requires c = record {
 pub runs-preserved : goal.runs-preserved
 runs-preserved c =
     subst (λ l. GroupsSoFar c.args.width c.args.table.now c.joined.new.table c.args.forms.now l c.push.new.self.items) (sym (tail_is c.args.width c.runs.rest.now))
-    (groups_more c.args.width c.requires.low c.args.table.now c.runs.table c.joined.new.table c.args.forms.now c.runs.rest.now c.runs.groups.items c.push.new.self.items c.in_ok-joined.field-0 c.runs-test.true c.runs.invariant (c.in_ok-joined.ensures c.args.width c.requires.low (take_few c.args.width c.runs.rest.now)) c.in_ok-push.ensures.items)
+    (groups_more c.args.width c.requires.is_width.low c.args.table.now c.runs.table c.joined.new.table c.args.forms.now c.runs.rest.now c.runs.groups.items c.push.new.self.items c.in_ok-joined.field-0 c.runs-test.true c.runs.invariant (c.in_ok-joined.ensures c.args.width c.requires.is_width.low (take_few c.args.width c.runs.rest.now)) c.in_ok-push.ensures.items)
 
 pub joined-requires-2 : goal.joined-requires-2
 joined-requires-2 c = record {
   some = c.runs.invariant.some;
-  few = let l = c.runs-test.false in let h = c.requires.high in omega arith;
+  few = let l = c.runs-test.false in let h = c.requires.is_width.high in omega arith;
   below = below_kept_more _ _ _ c.runs.invariant.more c.runs.invariant.below;
   clean = clean_now c.args.table.now c.runs.table c.runs.rest.now c.runs.invariant.more c.runs.invariant.below c.runs.invariant.clean;
 }
 
 pub returns : goal.returns
-returns c = groups_last c.args.width c.requires.low c.args.table.now c.runs.table c.joined-2.new.table c.args.forms.now c.runs.rest.now c.runs.groups.items c.push-2.new.self.items c.in_ok-joined-2.field-0 c.runs-test.false c.runs.invariant (c.in_ok-joined-2.ensures c.args.width c.requires.low c.runs-test.false) c.in_ok-push-2.ensures.items
+returns c = groups_last c.args.width c.requires.is_width.low c.args.table.now c.runs.table c.joined-2.new.table c.args.forms.now c.runs.rest.now c.runs.groups.items c.push-2.new.self.items c.in_ok-joined-2.field-0 c.runs-test.false c.runs.invariant (c.in_ok-joined-2.ensures c.args.width c.requires.is_width.low c.runs-test.false) c.in_ok-push-2.ensures.items

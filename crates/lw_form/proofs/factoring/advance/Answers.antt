@@ -9,8 +9,7 @@ begin-requires c =
     let (fs, f, w) = c.requires.works in
     let v = (subst (λ t. IsWorking c.args.width fs c.args.fanins.now c.args.table.now (c.args.work.now.tasks.items ++ t ∷ []) c.args.work.now.done.items (f ∷ [])) c.in-Factor.is w) in
     record {
-      low = c.requires.width.low;
-      high = c.requires.width.high;
+      is_width = c.requires.width;
       below = v.fanins_below;
       columns = factor_columns c.args.width fs c.args.fanins.now (f ∷ []) c.args.table.now c.args.work.now.tasks.items c.args.work.now.done.items c.in-Factor.rows v;
     }
@@ -20,8 +19,7 @@ join-requires c =
     let (fs, f, w) = c.requires.works in
     let v = (subst (λ t. IsWorking c.args.width fs c.args.fanins.now c.args.table.now (c.args.work.now.tasks.items ++ t ∷ []) c.args.work.now.done.items (f ∷ [])) c.in-Join.is w) in
     record {
-      low = c.requires.width.low;
-      high = c.requires.width.high;
+      is_width = c.requires.width;
       two = two_done c.args.width fs c.args.fanins.now f c.args.table.now c.args.work.now.tasks.items c.args.work.now.done.items c.in-Join.literal v;
       literal = join_below c.args.width fs c.args.fanins.now (f ∷ []) c.args.table.now c.args.work.now.tasks.items c.args.work.now.done.items c.in-Join.literal v;
       below = v.done_below;

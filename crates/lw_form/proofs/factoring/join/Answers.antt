@@ -14,15 +14,13 @@ last_below n done front x e a = below_last n front x (subst (AreBelow n) e a)
 
 pub conjunction-requires : goal.conjunction-requires
 conjunction-requires c = record {
-  low = c.requires.low;
-  high = c.requires.high;
+  is_width = c.requires.is_width;
   below = (c.requires.literal, (last_below _ c.last-others.new.done.items c.last-having.new.done.items c.last-having.result c.last-having.ensures (front_below _ c.args.work.now.done.items c.last-others.new.done.items c.last-others.result c.last-others.ensures c.requires.below), tt));
 }
 
 pub disjunction-requires : goal.disjunction-requires
 disjunction-requires c = record {
-  low = c.requires.low;
-  high = c.requires.high;
+  is_width = c.requires.is_width;
   below = (c.in_ok-both.ensures.within, (let lt = last_below _ c.args.work.now.done.items c.last-others.new.done.items c.last-others.result c.last-others.ensures c.requires.below in let le = more_length _ _ c.in_ok-both.ensures.more in omega arith, tt));
 }
 

@@ -26,8 +26,7 @@ made_still old mid new n f more m = record {
 
 pub product-requires-clause-fanins : goal.product-requires-clause-fanins
 product-requires-clause-fanins c = record {
-  low = c.requires.low;
-  high = c.requires.high;
+  is_width = c.requires.is_width;
   below = c.requires.below;
 }
 
@@ -37,16 +36,15 @@ product-requires-clause-columns c =
 
 pub returns-then-cubes-eq1 : goal.returns-then-cubes-eq1
 returns-then-cubes-eq1 c = record {
-  sop = sum_one c.args.width c.requires.low c.args.table.now c.product.new.table c.len-count.ensures.made c.args.fanins.now (map asked c.as_slice.result.now) (map (map asked) c.args.cubes.now) c.in_ok-form.form (one_row c.args.cubes.now c.index-cubes-0.result c.as_slice.result.now c.if-cubes-eq1.true c.index-cubes-0.is c.as_slice.ensures.bytes) c.in_ok-form.ensures;
+  sop = sum_one c.args.width c.requires.is_width.low c.args.table.now c.product.new.table c.len-count.ensures.made c.args.fanins.now (map asked c.as_slice.result.now) (map (map asked) c.args.cubes.now) c.in_ok-form.form (one_row c.args.cubes.now c.index-cubes-0.result c.as_slice.result.now c.if-cubes-eq1.true c.index-cubes-0.is c.as_slice.ensures.bytes) c.in_ok-form.ensures;
   fac = let row = one_row c.args.cubes.now c.index-cubes-0.result c.as_slice.result.now c.if-cubes-eq1.true c.index-cubes-0.is c.as_slice.ensures.bytes in
       flat_made c.args.width c.args.table.now c.product.new.table c.args.fanins.now (map (map asked) c.args.cubes.now) c.in_ok-form.form (one_shared (length c.args.fanins.now) (map asked c.as_slice.result.now) (map (map asked) c.args.cubes.now) row)
-      (sum_one c.args.width c.requires.low c.args.table.now c.product.new.table c.len-count.ensures.made c.args.fanins.now (map asked c.as_slice.result.now) (map (map asked) c.args.cubes.now) c.in_ok-form.form row c.in_ok-form.ensures);
+      (sum_one c.args.width c.requires.is_width.low c.args.table.now c.product.new.table c.len-count.ensures.made c.args.fanins.now (map asked c.as_slice.result.now) (map (map asked) c.args.cubes.now) c.in_ok-form.form row c.in_ok-form.ensures);
 }
 
 pub sum_of_products-requires : goal.sum_of_products-requires
 sum_of_products-requires c = record {
-  low = c.requires.low;
-  high = c.requires.high;
+  is_width = c.requires.is_width;
   below = c.requires.below;
   columns = subst (HaveColumns (length c.args.fanins.now)) (sym (c.deref.ensures.value ∙ c.in_ok-rows.ensures)) c.requires.columns;
 }
@@ -56,8 +54,7 @@ have_shared-requires c = subst (HaveColumns (length c.args.fanins.now)) (sym (c.
 
 pub factored-requires : goal.factored-requires
 factored-requires c = record {
-  low = c.requires.low;
-  high = c.requires.high;
+  is_width = c.requires.is_width;
   below = below_kept_more (made c.args.table.now) (made c.sum_of_products.new.table) c.args.fanins.now c.in_ok-sop.ensures.more c.requires.below;
   columns = subst (HaveColumns (length c.args.fanins.now)) (sym c.in_ok-rows.ensures) c.requires.columns;
 }

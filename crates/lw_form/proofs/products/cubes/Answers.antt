@@ -11,8 +11,7 @@ loop-row-init c = cubes_first _ _ _ _ _ c.new-cubes.ensures.items
 
 pub product-requires-clause-fanins : goal.product-requires-clause-fanins
 product-requires-clause-fanins c = record {
-  low = c.requires.low;
-  high = c.requires.high;
+  is_width = c.requires.is_width;
   below = below_kept_more (made c.args.table.now) (made c.loop-row.table) c.args.fanins.now c.loop-row.invariant.more c.requires.below;
 }
 

@@ -7,8 +7,7 @@ use Rattle.lw_form.proofs.products.product.Goals as goal
 
 pub conjunction-requires : goal.conjunction-requires
 conjunction-requires c = record {
-  low = c.requires.fanins.low;
-  high = c.requires.fanins.high;
+  is_width = c.requires.fanins.is_width;
   below = subst (AreBelow _) (sym (c.deref.ensures ∙ c.in_ok-literals.ensures)) (below_literals _ c.args.fanins.now (map asked c.args.signs.now) c.requires.fanins.below);
 }
 

@@ -7,8 +7,7 @@ use Rattle.lw_form.proofs.products.sum_of_products.Goals as goal
 
 pub disjunction-requires : goal.disjunction-requires
 disjunction-requires c = record {
-  low = c.requires.low;
-  high = c.requires.high;
+  is_width = c.requires.is_width;
   below = subst (AreBelow (length (made c.cubes.new.table))) (sym c.deref.ensures) c.in_ok-cubes.ensures.within;
 }
 

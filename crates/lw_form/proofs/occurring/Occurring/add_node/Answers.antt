@@ -18,8 +18,7 @@ use Rattle.lw_form.proofs.FactoringSteps.{signed_below}
 
 pub both_forms-requires : goal.both_forms-requires
 both_forms-requires c = record {
-  low = c.requires.low;
-  high = c.requires.high;
+  is_width = c.requires.is_width;
   below = let (signals, w) = c.requires.listed in subst (AreBelow (length (made c.args.self.now.table))) (sym (c.deref-2.ensures ∙ (c.in_ok-fanins.ensures ∙ ap₂ (λ s n. map (λ net. slice_index_or s net 0) (map net_number n)) c.deref.ensures.value c.as_slice.ensures))) (fanins_below (length (made c.args.self.now.table)) c.args.self.now.sops.items (map net_number c.args.node.now.fanins) w.sops_below (are_nets (length c.args.self.now.sops.items) c.args.node.now.fanins c.requires.fanins));
   columns = subst (λ n. HaveColumns n (map (map asked) c.as_slice-2.result.now)) (sym (ap length (c.deref-2.ensures ∙ (c.in_ok-fanins.ensures ∙ ap₂ (λ s n. map (λ net. slice_index_or s net 0) (map net_number n)) c.deref.ensures.value c.as_slice.ensures)) ∙ (length-map (map net_number c.args.node.now.fanins) (λ net. slice_index_or c.args.self.now.sops.items net 0) ∙ length-map c.args.node.now.fanins net_number))) (subst (λ r. HaveColumns (length c.args.node.now.fanins) (map (map asked) r)) (sym c.as_slice-2.ensures) (have_columns (length c.args.node.now.fanins) c.args.node.now.rows c.requires.columns));
 }

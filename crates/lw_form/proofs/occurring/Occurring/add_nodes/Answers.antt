@@ -10,8 +10,7 @@ use Rattle.lw_form.proofs.occurring.Occurring.add_nodes.Goals as goal
 
 pub add_node-requires : goal.add_node-requires
 add_node-requires c = record {
-  low = c.requires.low;
-  high = c.requires.high;
+  is_width = c.requires.is_width;
   listed = let (signals, w) = c.requires.listed in (_, c.loop-node.invariant signals w);
   fanins = let (signals, w) = c.requires.listed in
       let a = net_count c.args.self.now.table c.args.self.now.listing.listed.items c.args.self.now.listing.places.items c.args.self.now.sops.items c.args.self.now.facs.items signals w in

@@ -16,8 +16,7 @@ returns-in-Err-clause-fault c = network_fault c.args.width c.inputs-inputs.resul
 
 pub add_nodes-requires : goal.add_nodes-requires
 add_nodes-requires c = record {
-  low = c.requires.low;
-  high = c.requires.high;
+  is_width = c.requires;
   listed = (input_signals 0 c.inputs-inputs.result, c.in-Ok.ensures.listed);
   nodes = subst (AreNodes (length c.add_inputs.new.self.sops.items)) (sym c.nodes.ensures.nodes)
       (network_nodes c.args.net.now (length c.add_inputs.new.self.sops.items) c.nodes.ensures.kept (inputs_counted c.add_inputs.new.self.table c.add_inputs.new.self.listing.listed.items c.add_inputs.new.self.listing.places.items c.add_inputs.new.self.sops.items c.add_inputs.new.self.facs.items c.inputs-inputs.result c.in-Ok.ensures.listed ∙ c.inputs-inputs.ensures.inputs));

@@ -12,7 +12,7 @@ returns-clause-none c = record {
   few = c.requires;
   table = c.in_ok-table.ensures;
   listed = start_nets c.in_ok-table.table c.args.inputs [] c.in-Ok.listing.listed.items c.in-Ok.listing.places.items c.in-Ok-no_nets.sops.items c.in-Ok-no_nets.facs.items
-      c.in_ok-table.ensures refl c.in-Ok.ensures.listed.listed c.in-Ok.ensures.listed.bases c.in-Ok-no_nets.ensures.sops c.in-Ok-no_nets.ensures.facs;
+      c.in_ok-table.ensures refl c.in-Ok.ensures.listed.listed c.in-Ok.ensures.listed.bases c.in-Ok-no_nets.ensures.0 c.in-Ok-no_nets.ensures.1;
 }
 
 pub returns-in-Err-clause-fault : goal.returns-in-Err-clause-fault
