@@ -57,3 +57,8 @@ pub record AreSamples (forms : NumberedForms) (samples : List Bool) : Type 0 whe
 -- the base form is an And, and the mask names some of its operands
 abbrev pub HasPart : NumberedForms → ℕ → ℕ → Type 0
 HasPart forms b mask = (fs : List ℕ) × (slice_get forms.bases b ≡ Some (base_and fs)) × (1 ≤ mask) × (mask < 2 ^ length fs)
+
+-- how many inputs there are, and what the list keeps
+pub record CountsInputs (forms : NumberedForms) (n : ℕ) : Type 0 where
+  pub inputs : n ≡ forms.inputs
+  pub kept : AreForms forms

@@ -2,7 +2,7 @@ ghost use Rattle.std.specs.Prelude.{◌≡◌, ◌<◌, ℕ, List, Bool, false, 
 ghost use Rattle.lw_laws.specs.NumberedForms.{IsPart, NumberOccurs};
 ghost use Rattle.lw_laws.specs.NumberedForms.Base.{base_and};
 ghost use Rattle.lw_laws.specs.NumberedValues.{AreNumberedValues};
-ghost use Rattle.lw_form.specs.Kept.{AreForms, AreSamples, HasPart};
+ghost use Rattle.lw_form.specs.Kept.{AreForms, AreSamples, CountsInputs, HasPart};
 
 use crate::{Base, FormIds};
 use indexmap::IndexSet;
@@ -86,8 +86,7 @@ impl Forms {
 
     /// The number of inputs.
     pub fn inputs(&self) -> u32
-        ensures inputs { result ≡ self.now.inputs }
-        ensures kept { AreForms self.now }
+        ensures { CountsInputs self.now result }
     {
         self.inputs
     }

@@ -24,7 +24,7 @@ impl Model for FormIds {
 }
 
 impl FormIds {
-    ghost use Rattle.lw_form.specs.Bases.{picked, AreFewIds};
+    ghost use Rattle.lw_form.specs.Bases.{picked, AreFewIds, CountsIds};
 
     /// No forms. Nothing is ever taken from the allocator.
     pub fn new(alloc: Global) -> Self
@@ -37,8 +37,7 @@ impl FormIds {
 
     /// The number of forms.
     pub fn len(&self) -> usize
-        ensures len { result ≡ length self.now }
-        ensures few { result ≤ 8 }
+        ensures { CountsIds self.now result }
     {
         self.ids.len()
     }
