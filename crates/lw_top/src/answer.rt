@@ -4,7 +4,7 @@ ghost use Rattle.lw_genlib.specs.Cells.{IsSmall};
 ghost use Rattle.lw_top.specs.Words.{IsInRange, IsCount, mapping, checking, timing, simulation, gate_simulation, counting, tabling, drawing, to_verilog, from_verilog, trading};
 ghost use Rattle.lw_top.specs.Commands.{plain_command};
 ghost use Rattle.lw_top.specs.Answered.{Responds};
-ghost use Rattle.lw_map.specs.Options.{IsWide, plain_options};
+ghost use Rattle.lw_map.specs.Options.{plain_options};
 ghost use Rattle.lw_map.specs.Tabled.{AreLeaves};
 
 use crate::counting::{count_model, draw};
@@ -60,7 +60,6 @@ fn map_files<F: Shelf>(
     network: &str,
     shelf: &mut F,
 ) -> Result<Answer, Refusal>
-    requires { IsWide (plain_options options) }
     ensures { Responds (F.files shelf.old) (F.files shelf.new) (F.faults shelf.old)
         (F.faults shelf.new)
         (mapping (plain_options options) certified library.now network.now) result }
@@ -78,7 +77,6 @@ fn check_files<F: Shelf>(
     mapped: &str,
     shelf: &mut F,
 ) -> Result<Answer, Refusal>
-    requires { IsWide (plain_options options) }
     ensures { Responds (F.files shelf.old) (F.files shelf.new) (F.faults shelf.old)
         (F.faults shelf.new)
         (checking (plain_options options) library.now network.now mapped.now) result }
@@ -168,7 +166,6 @@ fn count_files<F: Shelf>(
     network: &str,
     shelf: &mut F,
 ) -> Result<Answer, Refusal>
-    requires { IsWide (plain_options options) }
     ensures { Responds (F.files shelf.old) (F.files shelf.new) (F.faults shelf.old)
         (F.faults shelf.new) (counting (plain_options options) network.now) result }
 {
@@ -183,8 +180,7 @@ fn table_files<F: Shelf>(
     network: &str,
     shelf: &mut F,
 ) -> Result<Answer, Refusal>
-    requires leaves { AreLeaves leaves }
-    requires wide { IsWide (plain_options options) }
+    requires { AreLeaves leaves }
     ensures { Responds (F.files shelf.old) (F.files shelf.new) (F.faults shelf.old)
         (F.faults shelf.new) (tabling leaves (plain_options options) network.now) result }
 {
@@ -243,8 +239,7 @@ fn trade_files<F: Shelf>(
     network: &str,
     shelf: &mut F,
 ) -> Result<Answer, Refusal>
-    requires late { IfSome deadline IsSmall }
-    requires wide { IsWide (plain_options options) }
+    requires { IfSome deadline IsSmall }
     ensures { Responds (F.files shelf.old) (F.files shelf.new) (F.faults shelf.old)
         (F.faults shelf.new)
         (trading deadline (plain_options options) library.now network.now) result }

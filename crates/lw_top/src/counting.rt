@@ -4,7 +4,7 @@ ghost use Rattle.std.specs.List.{IsDistinct};
 ghost use Rattle.std.specs.Str.{bytes_eq};
 ghost use Rattle.lw_net.specs.Networks.{output_names};
 ghost use Rattle.lw_big.specs.Generated.{IsGenerated};
-ghost use Rattle.lw_map.specs.Options.{IsWide, plain_options};
+ghost use Rattle.lw_map.specs.Options.{plain_options};
 ghost use Rattle.lw_top.specs.Answered.{Gives};
 ghost use Rattle.lw_top.specs.Counts.{Counts, Draws, pair_total, at_once};
 ghost use Rattle.lw_top.specs.Words.{IsCount};
@@ -40,7 +40,6 @@ pub(crate) fn count_model(
     model: &Parsed,
     options: Options,
 ) -> Result<Answer, Refusal>
-    requires { IsWide (plain_options options) }
     ensures { Gives (Counts (plain_options options) model.now) result }
 {
     let choices = decompose(alloc, &model.network, options)?;

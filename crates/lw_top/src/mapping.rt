@@ -1,7 +1,7 @@
 // A network mapped to the cells of a library.
 ghost use Rattle.std.specs.Prelude.{IfOk};
 ghost use Rattle.lw_blif.specs.BlifNetworks.{IsModel};
-ghost use Rattle.lw_map.specs.Options.{IsWide, plain_options};
+ghost use Rattle.lw_map.specs.Options.{plain_options};
 ghost use Rattle.lw_top.specs.Answered.{Gives, GivesBy};
 ghost use Rattle.lw_top.specs.Maps.{Maps};
 ghost use Rattle.lw_top.specs.Mapped.{IsCertificateFor};
@@ -38,8 +38,7 @@ fn map_parts(
     options: Options,
     certified: bool,
 ) -> Result<(Netlist, Option<Certificate>), Refusal>
-    requires wide { IsWide (plain_options options) }
-    requires model { IsModel model.now }
+    requires { IsModel model.now }
     ensures { GivesBy
         (λ parts. Answer.Mapping library.now parts.0 model.now.frame model.now.starts parts.1)
         (Maps (plain_options options) certified library.now model.now) result }
@@ -73,8 +72,7 @@ pub(crate) fn map_model(
     options: Options,
     certified: bool,
 ) -> Result<Answer, Refusal>
-    requires wide { IsWide (plain_options options) }
-    requires model { IsModel model }
+    requires { IsModel model }
     ensures { Gives (Maps (plain_options options) certified library model) result }
 {
     match map_parts(alloc, &library, &model, options, certified) {

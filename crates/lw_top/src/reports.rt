@@ -1,6 +1,6 @@
 // Checks and reports.
 ghost use Rattle.lw_blif.specs.BlifNetworks.{IsModel};
-ghost use Rattle.lw_map.specs.Options.{IsWide, plain_options};
+ghost use Rattle.lw_map.specs.Options.{plain_options};
 ghost use Rattle.lw_top.specs.Answered.{Gives};
 ghost use Rattle.lw_top.specs.Checks.{Checks};
 ghost use Rattle.lw_top.specs.Named.{IsReadNetlist, AreReadVectors, values_in};
@@ -25,7 +25,6 @@ pub(crate) fn check_mapped(
     mapped: &Mapped,
     options: Options,
 ) -> Result<Answer, Refusal>
-    requires wide { IsWide (plain_options options) }
     requires model { IsModel model.now }
     requires mapped { IsReadNetlist library.now mapped.now }
     ensures { Gives (Checks (plain_options options) library.now model.now mapped.now) result }

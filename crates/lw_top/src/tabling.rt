@@ -1,6 +1,6 @@
 // A network covered by lookup tables.
 ghost use Rattle.lw_blif.specs.BlifNetworks.{IsModel};
-ghost use Rattle.lw_map.specs.Options.{IsWide, plain_options};
+ghost use Rattle.lw_map.specs.Options.{plain_options};
 ghost use Rattle.lw_map.specs.Tabled.{AreLeaves};
 ghost use Rattle.lw_top.specs.Answered.{Gives, GivesBy};
 ghost use Rattle.lw_top.specs.Tables.{Tabulates};
@@ -20,7 +20,6 @@ fn table_net(
     leaves: u8,
 ) -> Result<TableNet, Refusal>
     requires leaves { AreLeaves leaves }
-    requires wide { IsWide (plain_options options) }
     requires model { IsModel model.now }
     ensures { GivesBy (λ net. Answer.Tables net model.now.frame)
         (Tabulates leaves (plain_options options) model.now) result }
@@ -40,7 +39,6 @@ pub(crate) fn table_model(
     leaves: u8,
 ) -> Result<Answer, Refusal>
     requires leaves { AreLeaves leaves }
-    requires wide { IsWide (plain_options options) }
     requires model { IsModel model }
     ensures { Gives (Tabulates leaves (plain_options options) model) result }
 {

@@ -2,7 +2,7 @@
 ghost use Rattle.std.specs.Prelude.{IfSome, None};
 ghost use Rattle.lw_blif.specs.BlifNetworks.{IsModel};
 ghost use Rattle.lw_genlib.specs.Cells.{IsSmall};
-ghost use Rattle.lw_map.specs.Options.{IsWide, plain_options};
+ghost use Rattle.lw_map.specs.Options.{plain_options};
 ghost use Rattle.lw_top.specs.Answered.{Gives, GivesBy};
 ghost use Rattle.lw_top.specs.Trades.{Trades};
 
@@ -24,7 +24,6 @@ fn trade_netlist(
     deadline: Option<Micro>,
 ) -> Result<Netlist, Refusal>
     requires late { IfSome deadline IsSmall }
-    requires wide { IsWide (plain_options options) }
     requires model { IsModel model.now }
     ensures { GivesBy
         (λ netlist. Answer.Mapping library.now netlist model.now.frame model.now.starts None)
@@ -48,7 +47,6 @@ pub(crate) fn trade_model(
     deadline: Option<Micro>,
 ) -> Result<Answer, Refusal>
     requires late { IfSome deadline IsSmall }
-    requires wide { IsWide (plain_options options) }
     requires model { IsModel model }
     ensures { Gives (Trades deadline (plain_options options) library model) result }
 {

@@ -1,5 +1,5 @@
 // The words of a command.
-ghost use Rattle.std.specs.Prelude.{◌≡◌, None, Some, map, string_bytes, option_map, MatchOption};
+ghost use Rattle.std.specs.Prelude.{◌≡◌, ◌≤◌, None, Some, map, string_bytes, option_map, MatchOption};
 ghost use Rattle.std.specs.List.{list_all};
 ghost use Rattle.std.specs.Char.{is_ascii_digit};
 ghost use Rattle.lw_top.specs.Words.{width_of, is_file_word, two, three, one_file, two_files, three_files, with_mode, with_width, begun_by, is_numeral, number_of, seed_of, count_of, certified_of, mapping_begun, checking_begun, counting_begun, leaves_of, tabling_begun, deadline_of, traded_of, trading_begun, timing_of, simulation_of, drawing_of, to_verilog_of, from_verilog_of, named, command_of, file_in, file_word};
@@ -110,6 +110,7 @@ pub struct Begun<'a> {
 
 // `[-i]`, behind the width.
 fn with_mode(width: u8, words: &[String]) -> Begun<'_>
+    requires { (2 ≤ width) × (width ≤ 8) }
     ensures { plain_begun result ≡ with_mode width (map string_bytes words.now) }
 {
     match words {

@@ -24,4 +24,4 @@ pub returns : goal.returns
 returns c =
     subst (λ (o : Options). Gives (Maps o c.args.certified c.args.library.now c.args.model.now) (Ok (answer.Mapping c.args.library.now c.in_ok-mapping.mapping.netlist c.args.model.now.frame c.args.model.now.starts c.in-Ok.certificate)))
     (ap plain_options c.in_ok-choices.ensures.choices.0)
-    (mapping_given c.args.library.now c.args.model.now c.in_ok-choices.choices c.in_ok-mapping.mapping c.inputs.ensures.kept c.requires.model c.in_ok-choices.ensures.choices.1 c.in_ok-mapping.ensures.mapping c.in_ok-mapping.ensures.over c.args.certified c.in-Ok.certificate c.in-Ok.ensures)
+    (mapping_given c.args.library.now c.args.model.now c.in_ok-choices.choices c.in_ok-mapping.mapping c.inputs.ensures.kept c.requires c.in_ok-choices.ensures.choices.1 c.in_ok-mapping.ensures.mapping c.in_ok-mapping.ensures.over c.args.certified c.in-Ok.certificate c.in-Ok.ensures)

@@ -2,7 +2,6 @@ use Rattle.std.proofs.Common.{◌≡◌, ◌∙◌, Result, Ok, Err, true, false
 use Rattle.std.specs.Prelude.{T, OnOk, is_err}
 use Rattle.lw_words.proofs.Weights.{weights_fit}
 use Rattle.lw_mapped.specs.declared.fault.MappedFault.{MappedFault}
-use Rattle.lw_mapped.specs.Closings.{IsReadFrom}
 use Rattle.lw_mapped.specs.Unmapped.{IsUnmapped}
 use Rattle.lw_top.specs.Answers.{marked_lines_in}
 use Rattle.lw_top.proofs.Sound.{few_words}
@@ -33,8 +32,8 @@ returns-in-Ok-clause-comes c = λ files. c.in-Ok.ensures.answer (marked_lines_in
 
 pub returns-in-Ok-clause-kept : goal.returns-in-Ok-clause-kept
 returns-in-Ok-clause-kept c =
-    let kept : IsReadFrom c.args.library.now (marked_lines_in c.args.bytes.now) c.in-Ok.mapped = c.in-Ok.ensures.kept (marked_lines_in c.args.bytes.now) (unless_failed c.read_lines.result (sym c.is_err.ensures.value ∙ c.if-is_err.false) c.read_lines.ensures) in
-    record { over = kept.over; fits = kept.fits; few = omega (arith, kept.few, weights_fit true c.args.bytes.now, c.requires) }
+    let few = c.in-Ok.ensures.few (marked_lines_in c.args.bytes.now) (unless_failed c.read_lines.result (sym c.is_err.ensures.value ∙ c.if-is_err.false) c.read_lines.ensures) in
+    record { over = c.in-Ok.ensures.kept.over; fits = c.in-Ok.ensures.kept.fits; few = omega (arith, few, weights_fit true c.args.bytes.now, c.requires) }
 
 pub returns-in-Err-Line-clause-comes : goal.returns-in-Err-Line-clause-comes
 returns-in-Err-Line-clause-comes c = λ files. subst (λ (e : MappedFault). IsUnmapped c.args.library.now (marked_lines_in c.args.bytes.now) (Err e)) c.in-Err-Line.field-0-is (c.in-Err-Line.ensures.answer (marked_lines_in c.args.bytes.now) (unless_failed c.read_lines.result (sym c.is_err.ensures.value ∙ c.if-is_err.false) c.read_lines.ensures))
