@@ -37,9 +37,6 @@ word_width [] width is = cc
 word_width (digit ∷ []) width is = digit_width (nat_le 50 digit) (nat_le digit 56) digit refl refl width is
 word_width (digit ∷ other ∷ word) width is = cc
 
-pub width_fits : (word : List ℕ) (width : ℕ) → width_of word ≡ Some width → (2 ≤ width) × (width ≤ 8)
-width_fits = word_width
-
 default_width : Each IsWidth (Some 6)
 default_width width is = let same : 6 ≡ width = cc in (omega arith, omega arith)
 
