@@ -152,7 +152,7 @@ fn wire_rows(
 ) -> Result<(), NetlistFault>
     ensures { FindsDriven signals.now (flat_map needs_of (map wire_link wires.now)) result
         (λ done. rows.new.items
-            ≡ rows.old.items ++ numbered signals.now (map wire_link wires.now)) }
+        ≡ rows.old.items ++ numbered signals.now (map wire_link wires.now)) }
 {
     for wire in wires {
         let row = wire_row(alloc, wire, signals)?;
@@ -174,7 +174,7 @@ pub(crate) fn rows(
     ensures { FindsDriven signals.now
         (flat_map needs_of (map gate_link gates.now ++ map wire_link wires.now)) result
         (λ rows. rows.items ≡ numbered signals.now
-            (map gate_link gates.now ++ map wire_link wires.now)) }
+        (map gate_link gates.now ++ map wire_link wires.now)) }
 {
     let mut rows = gate_rows(alloc, gates, signals)?;
     wire_rows(alloc, wires, signals, &mut rows)?;

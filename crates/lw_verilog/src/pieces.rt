@@ -179,11 +179,7 @@ fn escaped(count: usize) -> Piece
 
 // What begins with a slash or an opening bracket.
 #[inline(never)]
-#[tactic(
-    auto,
-    using(crate::proofs::PieceSizes::line_bytes_le),
-    unfolding(crate::specs::Pieces::comment_or_sign)
-)]
+#[tactic(auto, using(crate::proofs::PieceSizes::line_bytes_le), unfolding(crate::specs::Pieces::comment_or_sign))]
 fn slash_or_bracket(bytes: &[u8]) -> Piece
     requires { 0 < length bytes.now }
     ensures { result ≡ comment_or_sign bytes.now }
@@ -224,15 +220,7 @@ fn comment_or_sign(bytes: &[u8]) -> Piece
 }
 
 /// The piece with which a text begins.
-#[tactic(
-    auto,
-    using(
-        crate::proofs::PieceSizes::separators_le,
-        crate::proofs::PieceSizes::visibles_le,
-        crate::proofs::PieceSizes::name_bytes_le
-    ),
-    unfolding(crate::specs::Pieces::first_piece)
-)]
+#[tactic(auto, using(crate::proofs::PieceSizes::separators_le, crate::proofs::PieceSizes::visibles_le, crate::proofs::PieceSizes::name_bytes_le), unfolding(crate::specs::Pieces::first_piece))]
 pub(crate) fn first_piece(bytes: &[u8]) -> Piece
     ensures { result ≡ first_piece bytes.now }
 {

@@ -78,10 +78,7 @@ fn behind(bytes: &[u8], count: usize) -> &[u8]
 }
 
 // Reads a text up to the end of its module, where nothing was read before.
-#[tactic(
-    auto,
-    using(crate::proofs::PieceSizes::piece_within, crate::proofs::PieceSizes::piece_some)
-)]
+#[tactic(auto, using(crate::proofs::PieceSizes::piece_within, crate::proofs::PieceSizes::piece_some))]
 fn parse(contents: &mut Contents, text: &[u8], lib: &Library) -> Result<(), VerilogFault>
     requires none { Keeps lib.now contents.old nothing_read }
     requires few { length text.now ≤ most_bytes }

@@ -19,4 +19,5 @@ pub returns : goal.returns
 returns c = (
   rw (c.as_slice.ensures, c.as_slice-2.ensures) at c.in_ok-rows.ensures.0,
   undriven_later c.args.signals.now (flat_map needs_of (links c.args.draft.now)) c.args.draft.now.outputs (rw (c.as_slice.ensures, c.as_slice-2.ensures) at c.in_ok-rows.ensures.1)
-  ∙ (rw c.as_slice-3.ensures at c.in_ok-_outputs.ensures.1))
+      ∙ (rw c.as_slice-3.ensures at c.in_ok-_outputs.ensures.1),
+)

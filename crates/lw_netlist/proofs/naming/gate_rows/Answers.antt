@@ -21,7 +21,8 @@ loop-gate-preserved c = record {
 pub returns : goal.returns
 returns c = (
   c.loop-gate.invariant.so_far ∙ ap (λ gs. numbered c.args.signals.now (map gate_link gs)) (take_all c.loop-gate.gate-index c.args.gates.now (omega (arith, c.loop-gate-test.false))),
-  sym c.loop-gate.invariant.rest ∙ ap (λ gs. undriven_in c.args.signals.now (flat_map needs_of (map gate_link gs))) (drop_all c.loop-gate.gate-index c.args.gates.now (omega (arith, c.loop-gate-test.false))))
+  sym c.loop-gate.invariant.rest ∙ ap (λ gs. undriven_in c.args.signals.now (flat_map needs_of (map gate_link gs))) (drop_all c.loop-gate.gate-index c.args.gates.now (omega (arith, c.loop-gate-test.false))),
+)
 
 pub returns-in_err-rows : goal.returns-in_err-rows
 returns-in_err-rows c =

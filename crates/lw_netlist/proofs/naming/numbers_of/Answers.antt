@@ -24,7 +24,8 @@ loop-name-preserved c =
 pub returns : goal.returns
 returns c = (
   c.new.ensures ∙ (c.loop-name.invariant.so_far ∙ ap (map (number_in c.args.signals.now)) (take_all c.loop-name.name-index c.args.names.now (omega (arith, c.loop-name-test.false)))),
-  sym c.loop-name.invariant.rest ∙ ap (undriven_in c.args.signals.now) (drop_all c.loop-name.name-index c.args.names.now (omega (arith, c.loop-name-test.false))))
+  sym c.loop-name.invariant.rest ∙ ap (undriven_in c.args.signals.now) (drop_all c.loop-name.name-index c.args.names.now (omega (arith, c.loop-name-test.false))),
+)
 
 pub returns-in_err-numbers : goal.returns-in_err-numbers
 returns-in_err-numbers c =

@@ -20,7 +20,8 @@ loop-place-preserved c = record {
 pub returns : goal.returns
 returns c = (
   c.new.ensures ∙ (c.loop-place.invariant.so_far ∙ ap (map (number_in c.args.signals.now)) (take_all c.loop-place.place c.args.gate.now.pins (omega (arith, c.loop-place-test.false, c.len-place-end.ensures)))),
-  sym c.loop-place.invariant.rest ∙ ap (undriven_in c.args.signals.now) (drop_all c.loop-place.place c.args.gate.now.pins (omega (arith, c.loop-place-test.false, c.len-place-end.ensures))))
+  sym c.loop-place.invariant.rest ∙ ap (undriven_in c.args.signals.now) (drop_all c.loop-place.place c.args.gate.now.pins (omega (arith, c.loop-place-test.false, c.len-place-end.ensures))),
+)
 
 pub returns-in_err-numbers : goal.returns-in_err-numbers
 returns-in_err-numbers c =

@@ -7,7 +7,8 @@ use Rattle.lw_netlist.proofs.naming.rows.Goals as goal
 pub returns : goal.returns
 returns c = (
   rows_joined c.args.signals.now (map gate_link c.args.gates.now) (map wire_link c.args.wires.now) c.in_ok-rows.rows.items c.wire_rows.new.rows.items c.in_ok-rows.ensures.0 c.in_ok-wire_rows.ensures.0,
-  known_joined c.args.signals.now (map gate_link c.args.gates.now) (map wire_link c.args.wires.now) c.in_ok-rows.ensures.1 c.in_ok-wire_rows.ensures.1)
+  known_joined c.args.signals.now (map gate_link c.args.gates.now) (map wire_link c.args.wires.now) c.in_ok-rows.ensures.1 c.in_ok-wire_rows.ensures.1,
+)
 
 pub returns-in_err-rows : goal.returns-in_err-rows
 returns-in_err-rows c =

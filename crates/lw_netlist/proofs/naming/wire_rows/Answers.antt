@@ -32,4 +32,5 @@ loop-wire-preserved c = record {
 pub returns : goal.returns
 returns c = (
   c.loop-wire.invariant.so_far ∙ ap (λ ws. c.args.rows.now.items ++ numbered c.args.signals.now (map wire_link ws)) (take_all c.loop-wire.wire-index c.args.wires.now (omega (arith, c.loop-wire-test.false))),
-  sym c.loop-wire.invariant.rest ∙ ap (λ ws. undriven_in c.args.signals.now (flat_map needs_of (map wire_link ws))) (drop_all c.loop-wire.wire-index c.args.wires.now (omega (arith, c.loop-wire-test.false))))
+  sym c.loop-wire.invariant.rest ∙ ap (λ ws. undriven_in c.args.signals.now (flat_map needs_of (map wire_link ws))) (drop_all c.loop-wire.wire-index c.args.wires.now (omega (arith, c.loop-wire-test.false))),
+)
