@@ -44,15 +44,8 @@ impl<C: Cost> Trial<'_, C> {
             self.now.pats.now (labels_in self.now.labels.now) class.0 }
     {
         let mark = self.marks[class.0 as usize];
-        match least_within(
-            self.graph,
-            self.pats,
-            self.bounds,
-            self.marks,
-            class,
-            self.cost,
-            mark,
-        ) {
+        let (graph, pats, bounds) = (self.graph, self.pats, self.bounds);
+        match least_within(graph, pats, bounds, self.marks, class, self.cost, mark) {
             Some(_) => true,
             None => false,
         }
@@ -95,15 +88,8 @@ impl<C: Cost> Trial<'_, C> {
         ensures { IsLeastOf (IsMatchCost self.now.graph.now (C.costs self.now.cost.now)
             self.now.pats.now (labels_in self.now.labels.now) class.0) result }
     {
-        match least_within(
-            self.graph,
-            self.pats,
-            self.bounds,
-            self.marks,
-            class,
-            self.cost,
-            None,
-        ) {
+        let (graph, pats, bounds) = (self.graph, self.pats, self.bounds);
+        match least_within(graph, pats, bounds, self.marks, class, self.cost, None) {
             Some(best) => Some(best.mark.cost),
             None => None,
         }
