@@ -1,5 +1,5 @@
 -- What is looked through of a walk from the roots down.
-use Rattle.std.specs.Prelude.{ℕ, ◌+◌, ◌<◌, ◌≤◌, ◌≡◌, ◌⊎◌, Bool, true, false, List, length, Option, Some, None, slice_get}
+use Rattle.std.specs.Prelude.{ℕ, ◌+◌, ◌<◌, ◌≤◌, ◌≡◌, ◌⊎◌, Bool, true, false, IsTrue, IsFalse, List, length, Option, Some, None, slice_get}
 use Rattle.lw_pool.specs.declared.id.CellId.{CellId}
 use Rattle.lw_pool.specs.declared.id.ClassId.{ClassId}
 use Rattle.lw_fixed.specs.declared.micro.Micro.{Micro}
@@ -29,6 +29,12 @@ pub record IsStandAt (curves : CurveLists) (c place : ℕ) (it : Stand) : Type 0
   pub way_at : slice_get row place ≡ Some way
   pub choice_at : slice_get curves.choices way.choice ≡ Some choice
   pub part_is : choice.part ≡ plain_part it
+
+-- the node is at the place or before it; for an exact use an exact one at the place
+pub record IsNodeFor (node : Node) (exact : Bool) (place : ℕ) : Type 0 where
+  pub no_later : node.place ≤ place
+  pub own : IsTrue exact → IsTrue node.exact
+  pub last : IsTrue exact → node.place ≡ place
 
 -- a node of the class at the place or before it; for an exact use an exact one at the place
 pub record IsNodeBy (nodes : List Node) (exact : Bool) (c place j : ℕ) : Type 0 where
@@ -96,6 +102,11 @@ IsOwned owners node j = (row : Vec ℕ) × (slice_get owners node.class.0 ≡ So
 -- the class has this shared gate
 abbrev pub IsSpare : List ℕ → Node → ℕ → Type 0
 IsSpare spares node j = slice_get spares node.class.0 ≡ Some j
+
+-- no other gate stands at the point for the same use
+pub record IsOnlyGate (owners : List (Vec ℕ)) (spares : List ℕ) (node : Node) (j : ℕ) : Type 0 where
+  pub exact : IsTrue node.exact → IsOwned owners node j
+  pub shared : IsFalse node.exact → IsSpare spares node j
 
 -- there is a gate with this number: a node with its user, a cell, and the nets of its pins
 pub record HasNumber (trail : Trail) (walk : Walk) (number : ℕ) : Type 0 where

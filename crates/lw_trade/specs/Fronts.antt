@@ -1,8 +1,8 @@
 -- The points that were found, by class.
-use Rattle.std.specs.Prelude.{ℕ, ◌+◌, ◌<◌, ◌≤◌, ◌≡◌, ◌⊎◌, Bool, true, false, List, [], ◌∷◌, length, Option, Some, None, slice_get, slice_set}
+use Rattle.std.specs.Prelude.{ℕ, ◌+◌, ◌<◌, ◌≤◌, ◌≡◌, ◌⊎◌, Bool, true, false, List, [], ◌∷◌, length, map, Option, Some, None, slice_get, slice_set}
 use Rattle.lw_trade.specs.declared.found.Found.{Found}
 use Rattle.lw_trade.specs.Areas.{most_area}
-use Rattle.lw_trade.specs.Backing.{Held, IsHeld, IsHeldGained}
+use Rattle.lw_trade.specs.Backing.{Held, IsHeld, IsHeldGained, spot_in}
 use Rattle.lw_trade.specs.Links.{LinkState, IsLast}
 use Rattle.lw_trade.specs.Settling.{Spot, spot, Has, AreApart, HasAtMost, IsGained}
 
@@ -53,6 +53,11 @@ pub record MayPut (links : LinkState) (points : List Found) (c : ℕ) (p : Found
   pub less : (k : Spot) → Has (spots_of links.classes points) k → k.class ≡ c → p.area < k.area
   pub fresh : (h : Held) → IsHeld (held_of links.classes points) h → h.order < p.order
 
+-- each place has a point, and the class is one of those that are linked
+pub record MayJump (links : LinkState) (points : List Found) (c : ℕ) : Type 0 where
+  pub class : c < links.count
+  pub one_each : length points ≡ length links.classes
+
 -- it was gained
 pub record IsPutTo (classes new_classes : List ℕ) (points new_points : List Found) (c : ℕ) (p : Found) : Type 0 where
   pub gained : IsGained (spots_of classes points) (spots_of new_classes new_points) (spot c p.time.0 p.area)
@@ -73,6 +78,18 @@ pub record IsFronts (links : LinkState) (points : List Found) (least : List ℕ)
   pub count : links.count ≡ length least
   pub least_is : (c area : ℕ) → slice_get least c ≡ Some area → IsLeastOf (spots_of links.classes points) c area
   pub orders : (h : Held) → IsHeld (held_of links.classes points) h → h.order < gains
+
+-- so many classes, none with a point
+pub record HasNoSpots (n : ℕ) (fronts : FrontState) : Type 0 where
+  pub spots : fronts.spots ≡ []
+  pub held : fronts.held ≡ []
+  pub classes : length fronts.least ≡ n
+
+-- the number of points, which are the same with their choices and without, the later ones of a class with less area
+pub record CountsSpots (fronts : FrontState) (n : ℕ) : Type 0 where
+  pub len : n ≡ length fronts.spots
+  pub apart : AreApart fronts.spots
+  pub spots : map spot_in fronts.held ≡ fronts.spots
 
 -- the least area of the points of the class by the time, and none where it has none
 abbrev pub IsLeastSpot : List Spot → ℕ → ℕ → Option ℕ → Type 0

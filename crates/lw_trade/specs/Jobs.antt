@@ -8,16 +8,19 @@ use Rattle.lw_pool.specs.declared.id.ClassId.{ClassId}
 use Rattle.lw_trade.specs.declared.choices.Row.{Row}
 use Rattle.lw_trade.specs.declared.job.Job.{Job}
 use Rattle.lw_trade.specs.declared.seeing.Seen.{Seen}
+use Rattle.lw_trade.specs.declared.uses.Uses.{Uses}
 use Rattle.lw_trade.specs.Areas.{total}
 use Rattle.lw_trade.specs.Backing.{AreBacked}
 use Rattle.lw_trade.specs.Choices.{Choice, AreListedChoices}
 use Rattle.lw_trade.specs.Fronts.{FrontState}
 use Rattle.lw_trade.specs.Points.{Task, most_points, task}
-use Rattle.lw_trade.specs.Rows.{IsRowFor, plain_rows}
+use Rattle.lw_trade.specs.Looks.{AreLooks}
+use Rattle.lw_trade.specs.Pricing.{IsOfLibrary}
+use Rattle.lw_trade.specs.Rows.{IsRowFor, plain_part, plain_rows}
 use Rattle.lw_trade.specs.Seen.{AreSeen, AreSeenAfter}
 use Rattle.lw_trade.specs.Settling.{AreFirst, AreSettled, Has, IsAfter, IsStillFor, Queued, Spot, Turns, Waits}
 use Rattle.lw_trade.specs.Tallies.{AreTallied}
-use Rattle.lw_trade.specs.Uses.{AreUses, turns_of}
+use Rattle.lw_trade.specs.Uses.{AreGroups, AreUses, turns_of}
 
 -- the choices stand at so many classes, with cells of the library, and the groups are those of their pins
 pub record IsJob (classes : ℕ) (job : Job) : Type 0 where
@@ -32,9 +35,10 @@ choices_of_job job = plain_rows job.rows.now
 abbrev pub task_of : Job → Graph → List Pattern → Task
 task_of job g pats = task g pats job.lib.now job.starts.now
 
--- so it is for each graph and patterns
+-- so it is for each graph, patterns and starts, where the groups are those of the choices' pins
 abbrev pub ForAnyTask : Job → (Task → List Choice → Type 0) → Type 0
-ForAnyTask job Then = (g : Graph) (pats : List Pattern) → Then (task_of job g pats) (choices_of_job job)
+ForAnyTask job Then =
+    (g : Graph) (pats : List Pattern) (starts : List Micro) → AreUses job.lib.now (choices_of_job job) job.uses.now → Then (task g pats job.lib.now starts) (choices_of_job job)
 
 -- an area for each group, and a tally for each choice
 abbrev pub AreTalliedIn : Job → Seen → Type 0
@@ -62,11 +66,31 @@ abbrev pub WhereListed : List CellParts → List Micro → List Row → (Task �
 WhereListed cells starts rows Then =
     (g : Graph) (pats : List Pattern) → AreListedChoices (task g pats cells starts) (plain_rows rows) → Then (task g pats cells starts) (plain_rows rows)
 
--- each choice has its tally, and no point is later than now
+-- the choices stand at these classes, with cells of the library, each has its tally, and no point is later than now
 pub record IsReadyFor (j : Job) (now : ℕ) (state : Seen) (fronts : FrontState) : Type 0 where
-  pub job : IsJob (length fronts.least) j
+  pub of_library : All (λ (r : Row). IsOfLibrary j.lib.now (plain_part r.stand)) j.rows.now
+  pub class_low : All (λ (r : Row). r.class.0 < length fronts.least) j.rows.now
   pub tallied : AreTalliedIn j state
   pub late : (k : Spot) → Has fronts.spots k → k.time ≤ now
+
+-- so it is, and this is a group whose choices can be looked at
+pub record IsReadyAt (j : Job) (now : ℕ) (state : Seen) (fronts : FrontState) (group : ℕ) : Type 0 where
+  pub ready : IsReadyFor j now state fronts
+  pub group_low : group < j.uses.now.members.count
+  pub looks : AreLooks j.uses.now
+
+-- this group can see points, and its choices can be looked at
+pub record MaySee (u : Uses) (state : Seen) (fronts : FrontState) (group : ℕ) : Type 0 where
+  pub group_low : group < u.members.count
+  pub are : AreGroups u
+  pub looks : AreLooks u
+  pub one_each : length state.areas.items ≡ u.members.count
+  pub count : u.links.count ≡ length fronts.least
+
+-- the tallies of any choices with these groups are still theirs
+abbrev pub StayTallied : Uses → Seen → Seen → Type 0
+StayTallied u old new =
+    (cells : List CellParts) (xs : List Choice) → AreUses cells xs u → AreTallied cells xs u old → AreTallied cells xs u new
 
 -- so it is while points are settled, at a time before which nothing waits or comes
 pub record IsUnderWay (j : Job) (now : ℕ) (state : Seen) (fronts : FrontState) (coming looked : Queued) : Type 0 where
@@ -110,6 +134,11 @@ pub record HaveGained (j : Job) (now : ℕ) (state : Seen) (fronts new_fronts : 
 pub record HaveGainedAll (j : Job) (fronts new_fronts : FrontState) (coming looked : Queued) : Type 0 where
   pub few_points : length fronts.spots ≤ most_points → length new_fronts.spots ≤ most_points
   pub backed : StayBacked j 0 fronts new_fronts coming looked
+
+-- those choices wait up to this horizon that need no points of pins, whatever library they are of
+pub record IsBegun (starts : List Micro) (rows : List Row) (horizon : ℕ) (q : Queued) : Type 0 where
+  pub horizon_is : q.horizon ≡ horizon
+  pub first : (g : Graph) (pats : List Pattern) (cells : List CellParts) → AreListedChoices (task g pats cells starts) (plain_rows rows) → AreFirst (task g pats cells starts) (plain_rows rows) q
 
 -- the choices are those of some task, and those that need no points wait in a queue of this horizon
 pub record MayBegin (j : Job) (horizon : ℕ) (looked : Queued) : Type 0 where

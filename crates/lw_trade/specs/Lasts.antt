@@ -6,6 +6,11 @@ abbrev pub ArePointsRising : List Point → Type 0
 ArePointsRising ps =
     (i j : ℕ) (p q : Point) → i < j → slice_get ps i ≡ Some p → slice_get ps j ≡ Some q → p.time.0 < q.time.0
 
+-- the row of a class, by rising time
+pub record IsRowAt (rows : List (List Point)) (c : ℕ) (row : List Point) : Type 0 where
+  pub points : slice_get rows c ≡ Some row
+  pub rising : ArePointsRising row
+
 -- the point at the place comes by the time, with the delay, and none behind it does
 pub record IsLastIn (ps : List Point) (delay time place : ℕ) : Type 0 where
   pub point : Point

@@ -1,10 +1,25 @@
 -- Places of one array that are linked by their classes: each to the last one before it with the same class.
-use Rattle.std.specs.Prelude.{ℕ, ◌+◌, ◌<◌, ◌≡◌, List, length, Option, Some, None, slice_get}
+use Rattle.std.specs.Prelude.{ℕ, ◌+◌, ◌<◌, ◌≡◌, List, [], length, Option, Some, None, slice_get}
 
 -- the classes of the places, and how many classes there are
 pub record LinkState : Type 0 where
   pub classes : List ℕ
   pub count : ℕ
+
+-- no places, for so many classes
+pub record HasNoPlaces (n : ℕ) (links : LinkState) : Type 0 where
+  pub classes : links.classes ≡ []
+  pub count : links.count ≡ n
+
+-- the number of places, each with one of the classes
+pub record CountsPlaces (links : LinkState) (n : ℕ) : Type 0 where
+  pub len : n ≡ length links.classes
+  pub within : (i c : ℕ) → slice_get links.classes i ≡ Some c → c < links.count
+
+-- the same places, and one class more
+pub record HasOneClassMore (old new : LinkState) : Type 0 where
+  pub classes : new.classes ≡ old.classes
+  pub count : new.count ≡ old.count + 1
 
 -- none of the places from a place on and before another has the class
 abbrev pub HasNone : List ℕ → ℕ → ℕ → ℕ → Type 0

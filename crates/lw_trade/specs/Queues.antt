@@ -53,6 +53,16 @@ pub record IsQueue (horizon : ℕ) (heap lanes : List Item) : Type 0 where
   pub is_heap : IsHeap item_cmp heap
   pub within : All (λ (x : Item). x.0 ≤ horizon) (heap ++ lanes)
 
+-- nothing waits, up to this horizon
+pub record IsIdle (end : ℕ) (q : Queued) : Type 0 where
+  pub horizon : q.horizon ≡ end
+  pub items : q.items ≡ []
+
+-- the last time at which something may wait
+pub record IsHorizonOf (q : Queued) (time : ℕ) : Type 0 where
+  pub horizon : time ≡ q.horizon
+  pub within : All (λ (x : Item). x.0 ≤ q.horizon) q.items
+
 -- the first time at which something waits, and none where nothing does
 abbrev pub IsFirstTime : Queued → Option ℕ → Type 0
 IsFirstTime q None = q.items ≡ []

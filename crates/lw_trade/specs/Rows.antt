@@ -1,12 +1,17 @@
 -- What may stand at classes, as the code lists it.
 use Rattle.std.specs.Prelude.{ℕ, ◌<◌, ◌≡◌, All, List, length, map, Some, slice_get}
+use Rattle.lw_fixed.specs.declared.micro.Micro.{Micro}
 use Rattle.lw_genlib.specs.Cells.{CellParts}
+use Rattle.lw_laws.specs.Covers.{Pattern}
+use Rattle.lw_laws.specs.Graphs.{Graph}
+use Rattle.lw_match.specs.Least.{AreOfCells}
+use Rattle.lw_trade.specs.Areas.{area_cost}
 use Rattle.lw_trade.specs.declared.choices.Row.{Row}
 use Rattle.lw_trade.specs.declared.choices.Stand.{Stand}
 use Rattle.lw_trade.specs.declared.choices.Stand.TheVariants.{Input, Gate}
-use Rattle.lw_trade.specs.Choices.{Part, Choice, MayStand}
+use Rattle.lw_trade.specs.Choices.{Part, Choice, AreListedChoices, MayStand}
 use Rattle.lw_trade.specs.Choices.Part.{input, gate}
-use Rattle.lw_trade.specs.Points.{Task}
+use Rattle.lw_trade.specs.Points.{Task, task}
 use Rattle.lw_trade.specs.Pricing.{IsPartFor}
 use Rattle.lw_pool.specs.Numbers.{numbers}
 
@@ -44,3 +49,8 @@ pub record IsListing (s : Task) (inputs classes : ℕ) (choices : List Choice) :
   pub within : (n : ℕ) (x : Choice) → slice_get choices n ≡ Some x → x.class < length s.graph.pairs
   pub inputs_are : (i c : ℕ) → i < inputs → slice_get s.graph.leaves i ≡ Some c → IsAmong choices c (input i)
   pub gates_are : (c cell : ℕ) (ps : List ℕ) → c < classes → MayStand s c (gate cell ps) → IsAmong choices c (gate cell ps)
+
+-- all that may stand at the classes, by cells of any library that the patterns are of, and they can be numbered
+pub record AreAllChoices (g : Graph) (pats : List Pattern) (rows : List Row) : Type 0 where
+  pub few : length rows < 4294967296
+  pub choices : (cells : List CellParts) (starts : List Micro) → AreOfCells (area_cost cells).pin_counts pats → AreListedChoices (task g pats cells starts) (plain_rows rows)

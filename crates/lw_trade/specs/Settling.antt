@@ -205,6 +205,7 @@ pub record IsLetWait (old new : Queued) (time n : ℕ) : Type 0 where
 
 -- a choice waits at the time at which it gives a point without points of pins
 pub record IsStarted (starts : List Micro) (part : Part) (old new : Queued) (n : ℕ) : Type 0 where
+  pub horizon : new.horizon ≡ old.horizon
   pub kept : (t m : ℕ) → Waits old t m → Waits new t m
   pub only : (t m : ℕ) → Waits new t m → Waits old t m ⊎ (m ≡ n)
   pub here : (s : Task) (t a : ℕ) → s.starts ≡ starts → Gives s [] part t a → t ≤ old.horizon → Waits new t n

@@ -1,5 +1,5 @@
 -- What is known of each choice while points are found: no more than its area by what the groups of its pins have seen.
-use Rattle.std.specs.Prelude.{ℕ, ◌+◌, ◌-◌, ◌*◌, ◌^◌, ◌≤◌, ◌≡◌, ◌≢◌, ◌⊎◌, min, List, length, Some, slice_get, slice_index_or}
+use Rattle.std.specs.Prelude.{ℕ, ◌+◌, ◌-◌, ◌*◌, ◌^◌, ◌<◌, ◌≤◌, ◌≡◌, ◌≢◌, ◌⊎◌, min, List, length, Some, slice_get, slice_index_or}
 use Rattle.lw_genlib.specs.Cells.{CellParts}
 use Rattle.lw_trade.specs.declared.seeing.Seen.{Seen}
 use Rattle.lw_trade.specs.declared.tallies.Tally.{Tally}
@@ -16,6 +16,11 @@ unseen = 2 ^ 67
 -- the bound that the two parts of a tally make
 abbrev pub bound_of : Tally → ℕ
 bound_of t = t.high * 2 ^ 64 + t.low
+
+-- that bound, which is below 2^96
+pub record IsBoundOf (t : Tally) (n : ℕ) : Type 0 where
+  pub value : n ≡ bound_of t
+  pub small : n < 2 ^ 96
 
 abbrev pub pin_count : Part → ℕ
 pin_count (input i) = 0

@@ -53,6 +53,11 @@ pub record HasNoUses (u : Uses) : Type 0 where
   pub of : AreGroupsTo 0 u
   pub none : u.owners.items ≡ []
 
+-- so it is, for so many classes
+pub record HasNoUsesFor (n : ℕ) (u : Uses) : Type 0 where
+  pub count : u.links.count ≡ n
+  pub none : HasNoUses u
+
 -- one group more, the last one, of this class and this delay
 pub record IsGroupAdded (old new : Uses) (c delay group : ℕ) : Type 0 where
   pub are : AreGroups old → AreGroups new

@@ -1,13 +1,11 @@
 // The last point by a time.
-ghost use Rattle.std.specs.Prelude.{◌≡◌};
 ghost use Rattle.lw_trade.specs.Lasts.{ArePointsRising, IsLastPlace};
 
 use crate::point::Point;
 
 /// The place of the last of some points that comes by a time, with a delay.
 pub(crate) fn last_by(points: &[Point], delay: u64, time: u64) -> Option<usize>
-    requires { ArePointsRising points.now }
-    ensures { IsLastPlace points.now delay time result }
+    ensures { ArePointsRising points.now → IsLastPlace points.now delay time result }
 {
     let Some(by) = time.checked_sub(delay) else {
         return None;

@@ -1,6 +1,6 @@
 // What a walk has found, looked through.
-ghost use Rattle.std.specs.Prelude.{◌≡◌, ◌+◌, ◌≤◌, IsFalse, IsTrue};
-ghost use Rattle.lw_trade.specs.Checks.{ArePinsRight, AreRootsRight, HasNumber, IsCut, IsNetBy, IsGateRight, IsNodeRight, IsOwned, IsRightWalk, IsRootBy, IsSpare, IsUsedEarlier};
+ghost use Rattle.std.specs.Prelude.{◌≡◌, ◌+◌, IsTrue};
+ghost use Rattle.lw_trade.specs.Checks.{ArePinsRight, AreRootsRight, HasNumber, IsNodeFor, IsCut, IsNetBy, IsGateRight, IsNodeRight, IsOnlyGate, IsOwned, IsRightWalk, IsRootBy, IsSpare, IsUsedEarlier};
 
 use crate::area::MOST_AREA;
 use crate::bisecting::last_by;
@@ -29,9 +29,7 @@ pub(crate) fn is_cut(curves: &Curves, class: ClassId, time: u64) -> bool
 
 // Whether a node is an exact one at a place, or for a shared use any one there or before.
 fn is_at(node: Node, exact: bool, place: usize) -> bool
-    ensures no_later { IsTrue result → node.place ≤ place }
-    ensures own { IsTrue result → IsTrue exact → IsTrue node.exact }
-    ensures last { IsTrue result → IsTrue exact → node.place ≡ place }
+    ensures { IsTrue result → IsNodeFor node exact place }
 {
     let own = node.place as usize;
     if exact {
@@ -250,9 +248,8 @@ fn is_spare(spares: &[u32], node: Node, number: usize) -> bool
 
 // Whether no other gate stands at the point of a node for the same use.
 fn is_own(trail: &Trail, node: Node, number: usize) -> bool
-    ensures exact { IsTrue result → IsTrue node.exact → IsOwned trail.now.owners.items node number }
-    ensures shared { IsTrue result → IsFalse node.exact → IsSpare trail.now.spares.items node
-        number }
+    ensures { IsTrue result →
+        IsOnlyGate trail.now.owners.items trail.now.spares.items node number }
 {
     if node.exact {
         is_owned(&trail.owners, node, number)

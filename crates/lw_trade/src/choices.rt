@@ -1,4 +1,4 @@
-ghost use Rattle.std.specs.Prelude.{◌≡◌, ◌+◌, ◌<◌, ◌≤◌, ℕ, [], List, IfOk, OnOk, Some, length, slice_get};
+ghost use Rattle.std.specs.Prelude.{◌≡◌, ◌+◌, ◌<◌, ◌≤◌, ℕ, List, IfOk, OnOk, Some, length, slice_get};
 ghost use Rattle.lw_laws.specs.Covers.{Pattern as TreeOfCell};
 ghost use Rattle.lw_laws.specs.Graphs.{Graph as PlainGraph};
 ghost use Rattle.lw_match.specs.Least.{AreOfCells};
@@ -8,7 +8,7 @@ ghost use Rattle.lw_fixed.specs.declared.micro.Micro.{Micro as MicroOf};
 ghost use Rattle.lw_trade.specs.Areas.{area_cost};
 ghost use Rattle.lw_trade.specs.Choices.{AreListedChoices};
 ghost use Rattle.lw_trade.specs.Points.{task};
-ghost use Rattle.lw_trade.specs.Rows.{IsListing, plain_rows};
+ghost use Rattle.lw_trade.specs.Rows.{AreAllChoices, IsListing, plain_rows};
 
 use lw_graph::Graph;
 use lw_match::{Cursor, Pins};
@@ -38,13 +38,13 @@ pub(crate) struct Row {
     pub stand: Stand,
 }
 
-// Appends the inputs.
-fn list_inputs(graph: &Graph, rows: &mut Vec<Row>) -> Result<(), AllocError>
-    requires { rows.old.items ≡ [] }
-    ensures { OnOk result ((pats : _) (cells : List CellParts) (starts : List MicroOf) →
+// The inputs.
+fn list_inputs(alloc: Global, graph: &Graph) -> Result<Vec<Row>, AllocError>
+    ensures { IfOk result (λ rows. (pats : _) (cells : List CellParts) (starts : List MicroOf) →
         IsListing (task graph.now pats cells starts)
-        (length graph.now.leaves) 0 (plain_rows rows.new.items)) }
+        (length graph.now.leaves) 0 (plain_rows rows.items)) }
 {
+    let mut rows = Vec::new(alloc);
     let _ = graph.classes();
     for input in 0..graph.inputs() {
         rows.push(Row {
@@ -52,7 +52,7 @@ fn list_inputs(graph: &Graph, rows: &mut Vec<Row>) -> Result<(), AllocError>
             stand: Stand::Input(input),
         })?;
     }
-    Ok(())
+    Ok(rows)
 }
 
 // Appends the matches at a class.
@@ -150,13 +150,9 @@ pub(crate) fn list_choices(
     graph: &Graph,
     pats: &Patterns,
 ) -> Result<Vec<Row>, AllocError>
-    ensures few { IfOk result (λ rows. length rows.items < 4294967296) }
-    ensures choices { IfOk result (λ rows. (cells : List CellParts) (starts : List MicroOf) →
-        AreOfCells (area_cost cells).pin_counts pats.now →
-        AreListedChoices (task graph.now pats.now cells starts) (plain_rows rows.items)) }
+    ensures { IfOk result (λ rows. AreAllChoices graph.now pats.now rows.items) }
 {
-    let mut rows = Vec::new(alloc);
-    list_inputs(graph, &mut rows)?;
+    let mut rows = list_inputs(alloc, graph)?;
     list_matches(alloc, graph, pats, &mut rows)?;
     if rows.len() >= 4_294_967_296 {
         return Err(AllocError);

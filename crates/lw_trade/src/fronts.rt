@@ -1,8 +1,8 @@
-ghost use Rattle.std.specs.Prelude.{◌≡◌, ◌<◌, ◌≤◌, [], IfOk, IfSome, OnOk, OnErr, Some, length, map};
+ghost use Rattle.std.specs.Prelude.{◌≡◌, ◌<◌, ◌≤◌, IfOk, IfSome, OnOk, OnErr, Some, length, map};
 ghost use Rattle.lw_trade.specs.Backing.{spot_in};
-ghost use Rattle.lw_trade.specs.Fronts.{AreFoundAt, ArePointsSame, IsLeastSpot, IsLessOr, IsPlaceFor, IsPutTo, IsTried, MayPut, MayTry, held_of, spots_of};
+ghost use Rattle.lw_trade.specs.Fronts.{AreFoundAt, ArePointsSame, CountsSpots, HasNoSpots, IsLeastSpot, IsLessOr, IsPlaceFor, IsPutTo, IsTried, MayJump, MayPut, MayTry, held_of, spots_of};
 ghost use Rattle.lw_trade.specs.Groups.{IsRowPushed};
-ghost use Rattle.lw_trade.specs.Settling.{Spot, spot, Has, AreApart};
+ghost use Rattle.lw_trade.specs.Settling.{Spot, spot, Has};
 
 use crate::found::{Found, Way};
 use crate::links::Links;
@@ -97,8 +97,7 @@ fn area_at(links: &Links, points: &[Found], class: ClassId, time: u64, place: u6
 // How many points of a class are before a new one, and the place of one of them: from one to the
 // next a search leaves out about half of those that are left.
 fn jump_for(links: &Links, points: &[Found], class: ClassId, time: u64) -> (u32, u32)
-    requires class { class.0 < links.now.count }
-    requires one_each { length points.now ≡ length links.now.classes }
+    requires { MayJump links.now points.now class.0 }
 {
     let Some(last) = links.last(class) else {
         return (0, u32::MAX);
@@ -187,9 +186,7 @@ const NO_AREA: u64 = 4_611_686_018_427_387_905;
 impl Fronts {
     /// No points, for so many classes.
     pub(crate) fn new(alloc: Global, classes: usize) -> Result<Fronts, AllocError>
-        ensures spots { IfOk result (λ fronts. fronts.spots ≡ []) }
-        ensures held { IfOk result (λ fronts. fronts.held ≡ []) }
-        ensures classes { IfOk result (λ fronts. length fronts.least ≡ classes) }
+        ensures { IfOk result (HasNoSpots classes) }
     {
         Ok(Fronts {
             links: Links::new(alloc, classes)?,
@@ -201,9 +198,7 @@ impl Fronts {
 
     /// How many points there are.
     pub(crate) fn len(&self) -> u32
-        ensures len { result ≡ length self.now.spots }
-        ensures apart { AreApart self.now.spots }
-        ensures spots { map spot_in self.now.held ≡ self.now.spots }
+        ensures { CountsSpots self.now result }
     {
         self.links.len()
     }

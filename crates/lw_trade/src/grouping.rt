@@ -1,7 +1,7 @@
-ghost use Rattle.std.specs.Prelude.{IfOk, IfSome, OnOk, Some, [], length, option_map, reverse, slice_get, slice_range, ℕ, ◌<◌, ◌≡◌, ◌≤◌};
+ghost use Rattle.std.specs.Prelude.{IfOk, IfSome, MatchOption, None, OnOk, Some, [], length, option_map, reverse, slice_get, slice_range, ℕ, ◌<◌, ◌≡◌, ◌≤◌};
 ghost use Rattle.lw_trade.specs.Checks.{IsStandAt};
 ghost use Rattle.lw_trade.specs.Groups.{AreCurvesOf, IsTable};
-ghost use Rattle.lw_trade.specs.Lasts.{ArePointsRising, IsLastOf};
+ghost use Rattle.lw_trade.specs.Lasts.{ArePointsRising, IsLastOf, IsRowAt};
 ghost use Rattle.lw_trade.specs.Points.{AreCurves, BoundCovers, IsLeastAreaBy, Task};
 ghost use Rattle.lw_trade.specs.Rows.{plain_row, plain_rows};
 
@@ -31,7 +31,7 @@ pub struct Curves {
 
 impl Model for Curves {
     ghost use Rattle.lw_trade.specs.Groups.{AreCurveArrays, CurveLists, rows_of};
-    ghost use Rattle.lw_trade.specs.Rows.{plain_rows};
+    ghost use Rattle.lw_trade.specs.Rows.{plain_row, plain_rows};
 
     ghost Value = { CurveLists };
 
@@ -74,8 +74,8 @@ impl Curves {
 
     /// The same, and nothing past the last class.
     pub(crate) fn get(&self, class: ClassId) -> Option<&[Point]>
-        ensures points { slice_get self.now.points class.0 ≡ option_map (λ row. row.now) result }
-        ensures rising { IfSome result (λ row. ArePointsRising row.now) }
+        ensures { MatchOption result (slice_get self.now.points class.0 ≡ None)
+            (λ row. IsRowAt self.now.points class.0 row.now) }
     {
         if class.0 as usize + 1 >= self.lefts.len() {
             return None;

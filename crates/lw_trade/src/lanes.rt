@@ -1,5 +1,5 @@
 // Some lanes together.
-ghost use Rattle.std.specs.Prelude.{◌≡◌, ◌++◌, ◌≤◌, ℕ, List, IfOk, OnErr, [], length, option_map};
+ghost use Rattle.std.specs.Prelude.{◌≡◌, ◌++◌, ◌≤◌, ℕ, List, IfOk, MatchResult, [], length, option_map};
 ghost use Rattle.lw_trade.specs.Queues.{Item, IsMostLeft, IsPushedBehind, IsTakenIn, flat};
 
 use crate::lane::Lane;
@@ -23,8 +23,8 @@ pub(crate) fn push_behind(
     lane: u32,
     item: (u64, (u64, u32)),
 ) -> Result<bool, AllocError>
-    ensures pushed { IfOk result (IsPushedBehind lanes.old.items lanes.new.items item) }
-    ensures err { OnErr result (lanes.new.items ≡ lanes.old.items) }
+    ensures { MatchResult result (IsPushedBehind lanes.old.items lanes.new.items item)
+        (λ _. lanes.new.items ≡ lanes.old.items) }
 {
     let lane = lane as usize;
     if lane >= lanes.len() || !lanes[lane].fits(item.0) {

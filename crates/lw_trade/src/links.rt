@@ -1,5 +1,5 @@
-ghost use Rattle.std.specs.Prelude.{◌≡◌, ◌+◌, ◌<◌, ◌++◌, [], ◌∷◌, ℕ, IfOk, OnOk, OnErr, length, Some, slice_get};
-ghost use Rattle.lw_trade.specs.Links.{IsLast};
+ghost use Rattle.std.specs.Prelude.{◌≡◌, ◌<◌, ◌++◌, [], ◌∷◌, ℕ, IfOk, MatchResult, OnOk, OnErr, length, Some, slice_get};
+ghost use Rattle.lw_trade.specs.Links.{CountsPlaces, HasNoPlaces, HasOneClassMore, IsLast};
 
 use lw_pool::ClassId;
 use std::alloc::{AllocError, Global};
@@ -34,8 +34,7 @@ impl Links {
 
     /// No places, for so many classes.
     pub(crate) fn new(alloc: Global, classes: usize) -> Result<Links, AllocError>
-        ensures classes { IfOk result (λ links. links.classes ≡ []) }
-        ensures count { IfOk result (λ links. links.count ≡ classes) }
+        ensures { IfOk result (HasNoPlaces classes) }
     {
         Ok(Links {
             classes: Vec::new(alloc),
@@ -46,8 +45,7 @@ impl Links {
 
     /// The number of places.
     pub(crate) fn len(&self) -> u32
-        ensures len { result ≡ length self.now.classes }
-        ensures within { (i c : ℕ) → slice_get self.now.classes i ≡ Some c → c < self.now.count }
+        ensures { CountsPlaces self.now result }
     {
         self.classes.len() as u32
     }
@@ -80,9 +78,8 @@ impl Links {
 
     /// One class more, which no place has.
     pub(crate) fn grow(&mut self) -> Result<(), AllocError>
-        ensures classes { self.new.classes ≡ self.old.classes }
-        ensures count { OnOk result (self.new.count ≡ self.old.count + 1) }
-        ensures err { OnErr result (self.new ≡ self.old) }
+        ensures { MatchResult result (λ _. HasOneClassMore self.old self.new)
+            (λ _. self.new ≡ self.old) }
     {
         self.heads.push(None)?;
         Ok(())

@@ -1,6 +1,6 @@
 // The choices with a pin in a group, looked at at the time at which the group comes.
 ghost use Rattle.std.specs.Prelude.{◌≡◌, ◌<◌, ◌≤◌, IsFalse, IsTrue, OnOk, length};
-ghost use Rattle.lw_trade.specs.Jobs.{AreGroupsOver, AreTalliedIn, ForAnyTask, IsReadyFor, IsUnderWay};
+ghost use Rattle.lw_trade.specs.Jobs.{AreGroupsOver, AreTalliedIn, ForAnyTask, IsReadyAt, IsReadyFor, IsUnderWay};
 ghost use Rattle.lw_trade.specs.Seen.{HasUnseen};
 ghost use Rattle.lw_trade.specs.Settling.{GivesNoMoreSeen, IsGroupLookedAt, IsLookedAt};
 
@@ -69,8 +69,7 @@ fn look_at_group(
     time: u64,
 ) -> Result<(), AllocError>
     requires time { time ≤ queue.old.horizon }
-    requires group { group < job.now.uses.now.members.count }
-    requires ready { IsReadyFor job.now time seen.now fronts.now }
+    requires ready { IsReadyAt job.now time seen.now fronts.now group }
     ensures horizon { queue.new.horizon ≡ queue.old.horizon }
     ensures looked { OnOk result (ForAnyTask job.now (λ s choices.
         IsGroupLookedAt s choices fronts.now.spots
@@ -105,7 +104,7 @@ pub(crate) fn look_at_groups(
         coming.new queue.old queue.new) }
 {
     while let Some((place, group)) = coming.take_hinted_at(time) {
-        see(job, fronts, seen, group, time, place);
+        see(job.uses, fronts, seen, group, time, place);
         look_at_group(job, seen, fronts, queue, group, time)?;
     }
     Ok(())

@@ -1,5 +1,5 @@
 // The choices of each group, one group after another.
-ghost use Rattle.std.specs.Prelude.{◌≡◌, ◌<◌, IfOk, OnOk, [], length};
+ghost use Rattle.std.specs.Prelude.{◌≡◌, ◌<◌, IfOk, OnOk, length};
 ghost use Rattle.lw_trade.specs.Looks.{AreOwnersAdded, AreOwnersListed};
 
 use crate::links::Links;
@@ -35,29 +35,6 @@ fn list_group(
     Ok(())
 }
 
-// Lists the choices of so many groups.
-fn list_groups(
-    members: &Links,
-    owners: &[u32],
-    groups: u32,
-    starts: &mut Vec<usize>,
-    numbers: &mut Vec<u32>,
-) -> Result<(), AllocError>
-    requires groups { groups ≡ members.now.count }
-    requires one_each { length owners.now ≡ length members.now.classes }
-    requires starts { starts.old.items ≡ [] }
-    requires numbers { numbers.old.items ≡ [] }
-    ensures { OnOk result (AreOwnersListed members.now.classes owners.now groups
-        starts.new.items numbers.new.items) }
-{
-    for group in 0..groups {
-        starts.push(numbers.len())?;
-        list_group(members, owners, group, numbers)?;
-    }
-    starts.push(numbers.len())?;
-    Ok(())
-}
-
 /// The choices of so many groups, by the groups of the pins and the choice of each pin.
 pub(crate) fn looks_of(
     alloc: Global,
@@ -71,7 +48,11 @@ pub(crate) fn looks_of(
         looks.starts.items looks.numbers.items) }
 {
     let (mut starts, mut numbers) = (Vec::new(alloc), Vec::new(alloc));
-    list_groups(members, owners, groups, &mut starts, &mut numbers)?;
+    for group in 0..groups {
+        starts.push(numbers.len())?;
+        list_group(members, owners, group, &mut numbers)?;
+    }
+    starts.push(numbers.len())?;
     Ok(Looks { starts, numbers })
 }
 

@@ -1,5 +1,4 @@
-ghost use Rattle.std.specs.Prelude.{◌≡◌, ◌<◌, ◌≤◌, List, IfErr, IfOk, OnOk, length};
-ghost use Rattle.lw_genlib.specs.Cells.{CellParts};
+ghost use Rattle.std.specs.Prelude.{◌<◌, ◌≤◌, List, IfErr, IfOk, OnOk, length};
 ghost use Rattle.lw_laws.specs.Covers.{Pattern as TreeOfCell};
 ghost use Rattle.lw_laws.specs.Graphs.{Graph as PlainGraph};
 ghost use Rattle.lw_match.specs.Least.{AreOfCells};
@@ -9,7 +8,7 @@ ghost use Rattle.lw_trade.specs.Groups.{HaveWays};
 ghost use Rattle.lw_trade.specs.Jobs.{HasNoPoints, HaveFronts, IsJob, MayBegin, WhereListed};
 ghost use Rattle.lw_trade.specs.Points.{AreCurves, BoundCovers, IsWhy, most_points, point_count, task};
 ghost use Rattle.lw_trade.specs.Rows.{AreRowsFor, plain_rows};
-ghost use Rattle.lw_trade.specs.Settling.{AreFirst, IsStop};
+ghost use Rattle.lw_trade.specs.Settling.{IsStop};
 
 use crate::choices::{Row, list_choices};
 use crate::fronts::Fronts;
@@ -19,27 +18,13 @@ use crate::point::CurveFault;
 use crate::queue::Queue;
 use crate::seeing::none_seen;
 use crate::settling::settle_all;
-use crate::starting::push_starts;
+use crate::starting::started;
 use crate::uses::uses_of;
 use lw_fixed::{Micro, Micros};
 use lw_genlib::Library;
 use lw_graph::Graph;
 use lw_pattern::Patterns;
-use std::alloc::{AllocError, Global};
-
-// The queue in which the choices wait that need no points of pins.
-fn started(alloc: Global, rows: &[Row], starts: &[Micro], horizon: u64) -> Result<Queue, AllocError>
-    requires { length rows.now < 4294967296 }
-    ensures horizon { IfOk result (λ queue. queue.horizon ≡ horizon) }
-    ensures first { IfOk result (λ queue. (g : PlainGraph) (pats : List TreeOfCell)
-        (cells : List CellParts) → AreListedChoices (task g pats cells starts.now)
-        (plain_rows rows.now) → AreFirst (task g pats cells starts.now) (plain_rows rows.now)
-        queue) }
-{
-    let mut queue = Queue::new(alloc, horizon, 1)?;
-    push_starts(&mut queue, rows, starts)?;
-    Ok(queue)
-}
+use std::alloc::Global;
 
 // Settles the points of all classes up to a horizon, where there are none yet.
 fn settle_fronts(

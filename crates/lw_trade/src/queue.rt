@@ -1,7 +1,7 @@
-ghost use Rattle.std.specs.Prelude.{◌≡◌, ◌-◌, ◌<◌, ◌≤◌, ◌∷◌, [], ℕ, All, IfOk, OnOk, option_map};
+ghost use Rattle.std.specs.Prelude.{◌≡◌, ◌-◌, ◌<◌, ◌≤◌, ◌∷◌, ℕ, IfOk, OnOk, option_map};
 ghost use Rattle.std.specs.List.Sorted.{IsPermutation};
 ghost use Rattle.std.specs.BinaryHeap.{IsHeap, heap_items};
-ghost use Rattle.lw_trade.specs.Queues.{IsFirstTime, IsMostLeft, IsTaken, item_cmp};
+ghost use Rattle.lw_trade.specs.Queues.{IsFirstTime, IsHorizonOf, IsIdle, IsMostLeft, IsTaken, item_cmp};
 ghost use Rattle.lw_trade.specs.Settling.{Waits};
 
 use crate::lane::Lane;
@@ -52,8 +52,7 @@ fn most_in_heap(heap: &BinaryHeap<(u64, (u64, u32))>) -> Option<u64>
 impl Queue {
     /// Nothing waits, in so many lanes.
     pub(crate) fn new(alloc: Global, horizon: u64, lanes: usize) -> Result<Queue, AllocError>
-        ensures horizon { IfOk result (λ queue. queue.horizon ≡ horizon) }
-        ensures items { IfOk result (λ queue. queue.items ≡ []) }
+        ensures { IfOk result (IsIdle horizon) }
     {
         Ok(Queue {
             horizon,
@@ -65,8 +64,7 @@ impl Queue {
 
     /// The last time at which a choice may wait.
     pub(crate) fn horizon(&self) -> u64
-        ensures horizon { result ≡ self.now.horizon }
-        ensures within { All (λ x. x.0 ≤ self.now.horizon) self.now.items }
+        ensures { IsHorizonOf self.now result }
     {
         self.horizon
     }

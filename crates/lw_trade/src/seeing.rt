@@ -1,6 +1,6 @@
 // What the groups of pins have seen: the least area of the points of their class that came.
-ghost use Rattle.std.specs.Prelude.{◌≡◌, ◌<◌, All, IfOk, replicate};
-ghost use Rattle.lw_trade.specs.Jobs.{AreTalliedIn, IsReadyFor};
+ghost use Rattle.std.specs.Prelude.{◌≡◌, All, IfOk, replicate};
+ghost use Rattle.lw_trade.specs.Jobs.{MaySee, StayTallied};
 ghost use Rattle.lw_trade.specs.Pricing.{IsOfLibrary};
 ghost use Rattle.lw_trade.specs.Rows.{plain_part, plain_rows};
 ghost use Rattle.lw_trade.specs.Seen.{IsSeeing};
@@ -9,8 +9,8 @@ ghost use Rattle.lw_trade.specs.Tallies.{AreFirstTallies, unseen};
 use crate::area::MOST_AREA;
 use crate::choices::Row;
 use crate::fronts::Fronts;
-use crate::job::Job;
 use crate::tallies::{Tally, UNSEEN, first_tallies, lower_tallies};
+use crate::uses::Uses;
 use lw_genlib::Library;
 use std::alloc::{AllocError, Global};
 
@@ -39,14 +39,12 @@ pub(crate) fn none_seen(
 }
 
 /// Lets a group see the last point of its class that comes by a time. It may stand at a place.
-pub(crate) fn see(job: &Job, fronts: &Fronts, seen: &mut Seen, group: u32, time: u64, place: u64)
-    requires group { group < job.now.uses.now.members.count }
-    requires ready { IsReadyFor job.now time seen.old fronts.now }
-    ensures seeing { IsSeeing job.now.uses.now fronts.now.spots seen.old.areas.items
+pub(crate) fn see(uses: &Uses, fronts: &Fronts, seen: &mut Seen, group: u32, time: u64, place: u64)
+    requires { MaySee uses.now seen.old fronts.now group }
+    ensures seeing { IsSeeing uses.now fronts.now.spots seen.old.areas.items
         seen.new.areas.items group time }
-    ensures tallied { AreTalliedIn job.now seen.new }
+    ensures tallied { StayTallied uses.now seen.old seen.new }
 {
-    let uses = job.uses;
     let delay = uses.delays[group as usize];
     if delay > time {
         return;

@@ -1,4 +1,4 @@
-ghost use Rattle.std.specs.Prelude.{◌≡◌, ◌+◌, ◌<◌, ◌≤◌, ℕ, IfOk, OnOk, length};
+ghost use Rattle.std.specs.Prelude.{◌≡◌, ◌+◌, ◌<◌, ◌≤◌, ℕ, IfOk, MatchResult, OnOk, length};
 ghost use Rattle.lw_trade.specs.Jobs.{HaveGained, HaveGainedAll, IsGainBy, IsKeptOf, IsUnderWay, WhereStill, turns_in};
 ghost use Rattle.lw_trade.specs.Queues.{IsFirstOf};
 ghost use Rattle.lw_trade.specs.Settling.{AreGroupsAdded, AreSettledOr, IsLetWait, Waits};
@@ -17,8 +17,8 @@ use std::alloc::AllocError;
 
 // Lets a choice wait at a time, unless that is past the horizon.
 pub(crate) fn push_due(queue: &mut Queue, time: u64, number: u32) -> Result<(), AllocError>
-    ensures horizon { queue.new.horizon ≡ queue.old.horizon }
-    ensures due { OnOk result (IsLetWait queue.old queue.new time number) }
+    ensures { MatchResult result (λ _. IsLetWait queue.old queue.new time number)
+        (λ _. queue.new.horizon ≡ queue.old.horizon) }
 {
     if time > queue.horizon() {
         return Ok(());

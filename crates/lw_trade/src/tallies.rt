@@ -6,7 +6,7 @@ ghost use Rattle.lw_trade.specs.Choices.{Choice};
 ghost use Rattle.lw_trade.specs.Looks.{AreLooks};
 ghost use Rattle.lw_trade.specs.Pricing.{IsOfLibrary};
 ghost use Rattle.lw_trade.specs.Rows.{plain_part, plain_row, plain_rows};
-ghost use Rattle.lw_trade.specs.Tallies.{AreFirstTallies, AreTallies, HasFallen, IsFirstTally, IsLowered, bound_of};
+ghost use Rattle.lw_trade.specs.Tallies.{AreFirstTallies, AreTallies, HasFallen, IsBoundOf, IsFirstTally, IsLowered, bound_of};
 ghost use Rattle.lw_trade.specs.Uses.{AreUses};
 
 use crate::area::MOST_AREA;
@@ -47,8 +47,7 @@ impl Tally {
 
     /// Its bound.
     pub(crate) fn bound(&self) -> u128
-        ensures value { result ≡ bound_of self.now }
-        ensures small { result < 2 ^ 96 }
+        ensures { IsBoundOf self.now result }
     {
         self.high as u128 * HIGH_UNIT + self.low as u128
     }

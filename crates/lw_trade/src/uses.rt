@@ -1,7 +1,7 @@
-ghost use Rattle.std.specs.Prelude.{◌≡◌, ◌<◌, IfOk, IfSome, OnOk, length};
+ghost use Rattle.std.specs.Prelude.{◌≡◌, ◌<◌, IfOk, IfSome, MatchResult, OnOk, length};
 ghost use Rattle.lw_trade.specs.Pricing.{IsPartFor};
 ghost use Rattle.lw_trade.specs.Rows.{ArePartsFor, plain_part, plain_row, plain_rows};
-ghost use Rattle.lw_trade.specs.Uses.{AreGroups, AreGroupsTo, ArePinsAdded, AreUses, HasFirst, HasNoUses, HaveDelays, IsChoiceAdded, IsFirstAdded, IsGroup, IsGroupAdded, IsPinAdded};
+ghost use Rattle.lw_trade.specs.Uses.{AreGroups, AreGroupsTo, ArePinsAdded, AreUses, HasFirst, HasNoUses, HasNoUsesFor, HaveDelays, IsChoiceAdded, IsFirstAdded, IsGroup, IsGroupAdded, IsPinAdded};
 
 use crate::choices::{Row, Stand};
 use crate::links::Links;
@@ -140,8 +140,8 @@ fn add_pins(
 
 // Notes where the pins of the next choice begin.
 fn add_first(uses: &mut Uses) -> Result<(), AllocError>
-    ensures added { OnOk result (IsFirstAdded uses.old uses.new) }
-    ensures count { uses.new.links.count ≡ uses.old.links.count }
+    ensures { MatchResult result (λ _. IsFirstAdded uses.old uses.new)
+        (λ _. uses.new.links.count ≡ uses.old.links.count) }
 {
     uses.firsts.push(uses.members.len())?;
     Ok(())
@@ -168,8 +168,7 @@ fn add_choice(uses: &mut Uses, lib: &Library, row: &Row, choice: u32) -> Result<
 
 // No pins, for so many classes.
 fn no_uses(alloc: Global, classes: usize) -> Result<Uses, AllocError>
-    ensures count { IfOk result (λ uses. uses.links.count ≡ classes) }
-    ensures none { IfOk result HasNoUses }
+    ensures { IfOk result (HasNoUsesFor classes) }
 {
     let links = Links::new(alloc, classes)?;
     let members = Links::new(alloc, 0)?;

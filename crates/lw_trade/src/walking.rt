@@ -403,8 +403,8 @@ fn walk_by(
     times: &[Micro],
     sharing: bool,
 ) -> Result<Walk, AllocError>
-    requires { AreInputsTo graph.now (length graph.now.leaves) inputs.now }
-    ensures { IfOk result (λ w. (s : Task) (t : PlainTargets) (c : AreCurvesFor s t curves.now) →
+    ensures { IfOk result (λ w. AreInputsTo graph.now (length graph.now.leaves) inputs.now →
+        (s : Task) (t : PlainTargets) (c : AreCurvesFor s t curves.now) →
         s.graph ≡ graph.now → s.cells ≡ lib.now → t.roots ≡ roots.now → t.times ≡ times.now →
         (sites : List Site) × IsWalk s curves.now.choices c.ways.held sites roots.now times.now
         w.cells.items w.pins.items w.nets.items) }

@@ -4,15 +4,12 @@ use Rattle.lw_trade.specs.declared.point.Point.{Point}
 use Rattle.lw_trade.proofs.Lists.{got}
 use Rattle.lw_trade.proofs.checking.is_cut.Goals as goal
 
-pub last_by-requires : goal.last_by-requires
-last_by-requires c = c.in-Some.ensures.rising
-
 pub returns : goal.returns
 returns c = λ yes.
     let d : Point = record { time = record { 0 = 0 }; area = 0 } in
     let row = c.in-Some.points.now in
     let place = c.in-Some-last_by.place in
-    let is = c.in-Some-last_by.ensures in
+    let is = c.in-Some-last_by.ensures c.in-Some.ensures.rising in
     let lt = slice_get_within row place is.point is.at in
     let same : is.point ≡ slice_index_or row place d = same_Some is.point (slice_index_or row place d) (sym is.at ∙ got row place d lt) in
     let area = ap (λ (p : Point). p.area) same in

@@ -24,6 +24,6 @@ returns c f =
       row_at = ap (λ ns. slice_get ns n) (sym c.as_slice-pins.ensures.value) ∙ read_at c.as_slice-pins.result.now n c.as_slice-nets.result.now (omega (arith, c.requires.row, ap length c.as_slice-pins.ensures.value)) (cc);
       right = subst (λ ns. IsNodeRight c.args.curves.now c.args.inputs.now c.args.count ns c.args.lib.now node c.index.result.now c.as_slice-nets.result.now) c.as_slice-nodes.ensures.value right;
       used = subst₂ (λ ps ns. IsUsedEarlier c.args.count ps ns n) c.as_slice-pins.ensures.value c.deref.ensures.value used;
-      owned = c.is_own.ensures.exact yes;
-      spare = c.is_own.ensures.shared yes;
+      owned = (c.is_own.ensures yes).exact;
+      spare = (c.is_own.ensures yes).shared;
     }

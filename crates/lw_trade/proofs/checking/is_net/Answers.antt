@@ -34,9 +34,9 @@ returns c = λ yes.
           node = slice_index_or c.args.nodes.now gate no_node;
           at = got c.args.nodes.now gate no_node (omega (arith, c.if-net-count-2.false));
           class_is = c.if-node-class.false;
-          no_later = c.is_at.ensures.no_later c.if-not-is_at.false;
-          own = c.is_at.ensures.own c.if-not-is_at.false;
-          last = c.is_at.ensures.last c.if-not-is_at.false;
+          no_later = (c.is_at.ensures c.if-not-is_at.false).no_later;
+          own = (c.is_at.ensures c.if-not-is_at.false).own;
+          last = (c.is_at.ensures c.if-not-is_at.false).last;
         },
         omega (arith, c.if-net-count.false),
       );

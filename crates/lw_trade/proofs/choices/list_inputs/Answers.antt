@@ -6,7 +6,7 @@ use Rattle.lw_trade.proofs.choices.list_inputs.Goals as goal
 
 pub loop-input-init : goal.loop-input-init
 loop-input-init c pats cells starts =
-    subst (λ rows. IsListing (task c.args.graph.now pats cells starts) 0 0 (plain_rows rows)) (sym c.requires) (none_listed (task c.args.graph.now pats cells starts))
+    subst (λ rows. IsListing (task c.args.graph.now pats cells starts) 0 0 (plain_rows rows)) (sym c.new-rows.ensures.items) (none_listed (task c.args.graph.now pats cells starts))
 
 pub loop-input-preserved : goal.loop-input-preserved
 loop-input-preserved c pats cells starts =

@@ -5,8 +5,8 @@ use Rattle.lw_trade.proofs.Laning.{flat_pushed}
 use Rattle.lw_trade.proofs.Lists.{read_at}
 use Rattle.lw_trade.proofs.lanes.push_behind.Goals as goal
 
-pub returns-clause-pushed : goal.returns-clause-pushed
-returns-clause-pushed c =
+pub returns : goal.returns
+returns c =
     let lanes = c.args.lanes.now.items in
     let i = c.args.lane in
     let lane = c.index_mut.result.now in

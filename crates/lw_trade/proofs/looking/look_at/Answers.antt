@@ -6,7 +6,7 @@ use Rattle.lw_trade.proofs.Adding.{pushed_kept, pushed_only, pushed_waits}
 use Rattle.lw_trade.proofs.looking.look_at.Goals as goal
 
 pub returns-then-may_give-clause-looked : goal.returns-then-may_give-clause-looked
-returns-then-may_give-clause-looked c g pats =
+returns-then-may_give-clause-looked c g pats starts us =
     let old = c.args.queue.now in
     let new = c.push.new.self in
     let within = c.requires.time in
@@ -27,9 +27,9 @@ returns-then-may_give-clause-looked c g pats =
     from t m (inr (e, f)) = inr (e, omega (arith, f, low))
 
 pub returns-clause-looked : goal.returns-clause-looked
-returns-clause-looked c g pats = record {
+returns-clause-looked c g pats starts us = record {
   horizon = refl;
   kept = λ t m w. w;
   only = λ t m w. inl w;
-  done = inr (c.may_give.ensures.no_more c.if-may_give.false g pats);
+  done = inr (c.may_give.ensures.no_more c.if-may_give.false g pats starts us);
 }

@@ -26,22 +26,18 @@ take_hinted_at-requires-clause-first c t n w =
     let (are, time, still) = c.loop-place.invariant.still g pats st in
     (time.coming t n w).0
 
-pub see-requires-clause-group : goal.see-requires-clause-group
-see-requires-clause-group c =
+pub see-requires : goal.see-requires
+see-requires c =
     let (g, pats, st) = c.requires.still in
     let (are, time, still) = c.loop-place.invariant.still g pats st in
     let within : c.args.time ≤ c.loop-place.coming.horizon = omega (arith, c.requires.time, c.loop-place.invariant.horizon) in
     let w = taken_waits c.loop-place.coming c.take_hinted_at.new.self c.args.time c.in-Some.group within c.in-Some.ensures in
-    (time.coming c.args.time c.in-Some.group w).1
-
-pub see-requires-clause-ready : goal.see-requires-clause-ready
-see-requires-clause-ready c =
-    let (g, pats, st) = c.requires.still in
-    let (are, time, still) = c.loop-place.invariant.still g pats st in
     record {
-      job = c.requires.job;
-      tallied = c.loop-place.invariant.tallied;
-      late = still.low;
+      group_low = (time.coming c.args.time c.in-Some.group w).1;
+      are = c.requires.job.uses.pins.are;
+      looks = c.requires.job.uses.looks;
+      one_each = c.loop-place.invariant.tallied.one_each;
+      count = c.requires.job.count;
     }
 
 pub look_at_group-requires-clause-time : goal.look_at_group-requires-clause-time
@@ -50,22 +46,21 @@ look_at_group-requires-clause-time c =
     let (are, time, still) = c.loop-place.invariant.still g pats st in
     omega (arith, c.requires.time, c.loop-place.invariant.horizon, time.horizon)
 
-pub look_at_group-requires-clause-group : goal.look_at_group-requires-clause-group
-look_at_group-requires-clause-group c =
-    let (g, pats, st) = c.requires.still in
-    let (are, time, still) = c.loop-place.invariant.still g pats st in
-    let within : c.args.time ≤ c.loop-place.coming.horizon = omega (arith, c.requires.time, c.loop-place.invariant.horizon) in
-    let w = taken_waits c.loop-place.coming c.take_hinted_at.new.self c.args.time c.in-Some.group within c.in-Some.ensures in
-    (time.coming c.args.time c.in-Some.group w).1
-
 pub look_at_group-requires-clause-ready : goal.look_at_group-requires-clause-ready
 look_at_group-requires-clause-ready c =
     let (g, pats, st) = c.requires.still in
     let (are, time, still) = c.loop-place.invariant.still g pats st in
+    let within : c.args.time ≤ c.loop-place.coming.horizon = omega (arith, c.requires.time, c.loop-place.invariant.horizon) in
+    let w = taken_waits c.loop-place.coming c.take_hinted_at.new.self c.args.time c.in-Some.group within c.in-Some.ensures in
     record {
-      job = c.requires.job;
-      tallied = c.see.ensures.tallied;
-      late = still.low;
+      ready = record {
+        of_library = λ k d lt. (c.requires.job.rows k d lt).part.of_library;
+        class_low = λ k d lt. (c.requires.job.rows k d lt).class_low;
+        tallied = c.see.ensures.tallied c.args.job.now.lib.now (plain_rows c.args.job.now.rows.now) c.requires.job.uses c.loop-place.invariant.tallied;
+        late = still.low;
+      };
+      group_low = (time.coming c.args.time c.in-Some.group w).1;
+      looks = c.requires.job.uses.looks;
     }
 
 pub loop-place-smaller : goal.loop-place-smaller
@@ -80,7 +75,7 @@ loop-place-preserved c =
     let all = seen_taken u c.loop-place.seen.areas.items c.see.new.seen.areas.items c.args.fronts.now.spots c.loop-place.coming c.take_hinted_at.new.self c.args.time c.in-Some.group within c.in-Some.ensures c.see.ensures.seeing c.loop-place.invariant.seen in
     record {
       horizon = c.in-Some.ensures.0 ∙ c.loop-place.invariant.horizon;
-      tallied = c.see.ensures.tallied;
+      tallied = c.see.ensures.tallied c.args.job.now.lib.now (plain_rows c.args.job.now.rows.now) c.requires.job.uses c.loop-place.invariant.tallied;
       seen = all;
       still = λ g pats st.
           let s = task g pats c.args.job.now.lib.now c.args.job.now.starts.now in
@@ -91,7 +86,7 @@ loop-place-preserved c =
           let unseen : ℕ → Type 0 = HasUnseen u c.see.new.seen.areas.items ks c.args.time in
           let w = turns_of u c.loop-place.coming c.loop-place.queue in
           let (are, time, still) = c.loop-place.invariant.still g pats st in
-          let looked = c.in_ok-look_at_group.ensures.looked g pats in
+          let looked = c.in_ok-look_at_group.ensures.looked g pats c.args.job.now.starts.now c.requires.job.uses in
           let time' = group_in_time c.args.time (length xs) w time coming queue c.in-Some.group within c.in-Some.ensures looked.horizon looked.only in
           let within' : c.args.time ≤ coming.horizon = omega (arith, within, c.in-Some.ensures.0) in
           let later : (m : ℕ) → HasUnseen u c.see.new.seen.areas.items ks c.args.time m → Comes (turns_of u coming queue) c.args.time m = λ m un. unseen_comes u c.see.new.seen.areas.items ks c.args.time (length xs) m coming queue within' all time' un in
@@ -104,7 +99,7 @@ pub returns-in_err-look_at_group-clause-horizon : goal.returns-in_err-look_at_gr
 returns-in_err-look_at_group-clause-horizon c = c.in-Some.ensures.0 ∙ c.loop-place.invariant.horizon
 
 pub returns-in_err-look_at_group-clause-tallied : goal.returns-in_err-look_at_group-clause-tallied
-returns-in_err-look_at_group-clause-tallied c = c.see.ensures.tallied
+returns-in_err-look_at_group-clause-tallied c = c.see.ensures.tallied c.args.job.now.lib.now (plain_rows c.args.job.now.rows.now) c.requires.job.uses c.loop-place.invariant.tallied
 
 pub returns-clause-over : goal.returns-clause-over
 returns-clause-over c = record {

@@ -18,7 +18,7 @@ settle_job-requires-clause-job c = record {
 
 pub settle_job-requires-clause-begun : goal.settle_job-requires-clause-begun
 settle_job-requires-clause-begun c = record {
-  horizon_is = c.in_ok-queue.ensures.horizon;
+  horizon_is = c.in_ok-queue.ensures.horizon_is;
   listed = c.requires.listed;
   first = λ g pats are. c.in_ok-queue.ensures.first g pats c.args.lib.now are;
 }

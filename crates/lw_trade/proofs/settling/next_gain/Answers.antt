@@ -1,10 +1,9 @@
-use Rattle.std.proofs.Common.{◌≡◌, ◌<◌, ◌≤◌, ◌∙◌, Some, None, true, length, map, refl, slice_index_or, sym, ap, subst, subst₂, arith}
+use Rattle.std.proofs.Common.{◌≡◌, ◌<◌, ◌≤◌, ◌∙◌, All, Some, None, true, length, map, refl, slice_index_or, sym, ap, subst, subst₂, arith}
 use Rattle.std.proofs.lemmas.List.{length-map}
 use Rattle.lw_trade.specs.declared.choices.Row.{Row}
 use Rattle.lw_trade.specs.Areas.{total}
 use Rattle.lw_trade.specs.Backing.{Held, AreBacked, spot_in}
 use Rattle.lw_trade.specs.Fronts.{FrontState, IsTried}
-use Rattle.lw_trade.specs.Jobs.{IsJob}
 use Rattle.lw_trade.specs.Points.{task}
 use Rattle.lw_trade.specs.Pricing.{IsPartFor}
 use Rattle.lw_trade.specs.Rows.{plain_part, plain_row, plain_rows}
@@ -35,7 +34,8 @@ may_give-requires c =
     let (g, pats, st) = c.requires.under_way.still in
     let (are, time, still) = c.loop-number.invariant.still g pats st in
     record {
-      job = subst (λ (f : FrontState). IsJob (length f.least) c.args.job.now) (sym c.loop-number.invariant.fronts) c.requires.under_way.job;
+      of_library = λ k d lt. (c.requires.under_way.job.rows k d lt).part.of_library;
+      class_low = subst (λ (f : FrontState). All (λ (r : Row). r.class.0 < length f.least) c.args.job.now.rows.now) (sym c.loop-number.invariant.fronts) (λ k d lt. (c.requires.under_way.job.rows k d lt).class_low);
       tallied = c.requires.under_way.tallied;
       late = λ k has. still.low k (subst (λ (f : FrontState). Has f.spots k) c.loop-number.invariant.fronts has);
     }
@@ -58,7 +58,7 @@ loop-number-preserved-then-not-may_give c = record {
       let coming = c.args.coming.now in
       let (are, time, still) = c.loop-number.invariant.still g pats st in
       let within : c.args.time ≤ c.loop-number.queue.horizon = omega (arith, c.requires.under_way.time, time.horizon) in
-      let here = c.may_give.ensures.no_more c.if-not-may_give.true g pats in
+      let here = c.may_give.ensures.no_more c.if-not-may_give.true g pats c.args.job.now.starts.now c.requires.under_way.job.uses in
       let here' = subst (λ (f : FrontState). GivesNoMoreSeen s xs f.spots (HasUnseen u c.args.seen.now.areas.items f.spots c.args.time) c.args.time c.in-Some.number) c.loop-number.invariant.fronts here in
       let more = no_more_seen u c.args.seen.now.areas.items ks c.args.time c.in-Some.number coming c.requires.under_way.time c.requires.under_way.seen c.requires.over s xs here' in
       let intime = looked_in_time c.args.time (length xs) (turns_of u coming c.loop-number.queue) time c.take_at.new.self c.in-Some.number within c.in-Some.ensures in

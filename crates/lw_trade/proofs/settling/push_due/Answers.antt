@@ -2,16 +2,16 @@ use Rattle.std.proofs.Common.{◌≤◌, inl, refl, arith}
 use Rattle.lw_trade.proofs.Adding.{pushed_waits, pushed_kept, pushed_only}
 use Rattle.lw_trade.proofs.settling.push_due.Goals as goal
 
-pub returns-then-time-horizon-clause-due : goal.returns-then-time-horizon-clause-due
-returns-then-time-horizon-clause-due c = record {
+pub returns-then-time-horizon : goal.returns-then-time-horizon
+returns-then-time-horizon c = record {
   horizon = refl;
   kept = λ t m w. w;
   only = λ t m w. inl w;
   here = λ le. absurd (omega (arith, le, c.if-time-horizon.true, c.horizon.ensures.horizon));
 }
 
-pub returns-clause-due : goal.returns-clause-due
-returns-clause-due c =
+pub returns : goal.returns
+returns c =
     let old = c.args.queue.now in
     let new = c.push.new.self in
     let within : c.args.time ≤ old.horizon = omega (arith, c.if-time-horizon.false, c.horizon.ensures.horizon) in

@@ -4,10 +4,11 @@ use Rattle.lw_trade.specs.Settling.{Waits}
 use Rattle.lw_trade.proofs.Starts.{only_number}
 use Rattle.lw_trade.proofs.starting.push_start.Goals as goal
 
-pub returns-clause-starts : goal.returns-clause-starts
-returns-clause-starts c =
-    let due = c.in_ok-push_due.ensures.due in
+pub returns : goal.returns
+returns c =
+    let due = c.in_ok-push_due.ensures in
     record {
+      horizon = due.horizon;
       kept = due.kept;
       only = λ t m w. only_number c.args.queue.now c.in-Some.time c.args.number t m (due.only t m w);
       here = λ s t a e gives le.

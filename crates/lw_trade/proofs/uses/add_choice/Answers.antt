@@ -5,6 +5,7 @@ use Rattle.lw_pool.specs.declared.id.ClassId.{ClassId}
 use Rattle.lw_genlib.specs.Tables.{millionths}
 use Rattle.lw_trade.specs.declared.choices.Stand.{Stand}
 use Rattle.lw_trade.specs.Choices.Part.{gate}
+use Rattle.lw_trade.specs.Links.{LinkState}
 use Rattle.lw_trade.specs.Pricing.{IsPartFor}
 use Rattle.lw_trade.specs.Rows.{plain_part}
 use Rattle.lw_trade.proofs.Prices.{within_pins}
@@ -16,8 +17,8 @@ use Rattle.lw_genlib.proofs.Shared.{delays_at}
 
 pub add_pins-requires-clause-first : goal.add_pins-requires-clause-first
 add_pins-requires-clause-first c = record {
-  are = groups_first c.args.uses.now c.add_first.new.uses c.in_ok-add_first.ensures.added c.requires.of.are;
-  first = first_behind c.args.uses.now c.add_first.new.uses c.in_ok-add_first.ensures.added c.args.choice c.requires.of.next;
+  are = groups_first c.args.uses.now c.add_first.new.uses c.in_ok-add_first.ensures c.requires.of.are;
+  first = first_behind c.args.uses.now c.add_first.new.uses c.in_ok-add_first.ensures c.args.choice c.requires.of.next;
 }
 
 pub add_pins-requires-clause-pins : goal.add_pins-requires-clause-pins
@@ -29,12 +30,12 @@ add_pins-requires-clause-pins c =
     let all = within_pins count c.as_slice.result.now (subst (λ ps. AllByRecursion (λ p. p < count) (numbers ps)) (sym c.as_slice.ensures.classes) part.within) in
     record {
       one_each = ap length c.delays-delays.ensures.delays ∙ (n ∙ (length-map gate.pins (λ (p : ClassId). p.0) ∙ sym (ap length c.as_slice.ensures.classes)));
-      within = subst (λ n. All (λ (p : ClassId). p.0 < n) c.as_slice.result.now) (sym c.in_ok-add_first.ensures.count) all;
+      within = subst (λ n. All (λ (p : ClassId). p.0 < n) c.as_slice.result.now) (sym (ap (λ (l : LinkState). l.count) c.in_ok-add_first.ensures.links)) all;
     }
 
 pub returns-in-Input-clause-added : goal.returns-in-Input-clause-added
 returns-in-Input-clause-added c =
-    let added = c.in_ok-add_first.ensures.added in
+    let added = c.in_ok-add_first.ensures in
     let old = c.args.uses.now in
     let new = c.add_first.new.uses in
     record {
@@ -50,7 +51,7 @@ returns-in-Input-clause-added c =
 pub returns-in_ok-add_pins-in-Gate-clause-added : goal.returns-in_ok-add_pins-in-Gate-clause-added
 returns-in_ok-add_pins-in-Gate-clause-added c =
     let cells = c.args.lib.now in
-    let first = c.in_ok-add_first.ensures.added in
+    let first = c.in_ok-add_first.ensures in
     let old = c.args.uses.now in
     let mid = c.add_first.new.uses in
     let added = c.in_ok-add_pins-in-Gate.ensures.added in

@@ -7,9 +7,9 @@ use Rattle.lw_trade.proofs.Checked.{checked_walk, sites_of}
 use Rattle.lw_trade.proofs.walking.walk_by.Goals as goal
 
 pub returns-then-branch : goal.returns-then-branch
-returns-then-branch c = λ s t are g cells roots times.
+returns-then-branch c = λ ins s t are g cells roots times.
     let inputs = c.args.inputs.now in
-    let own : AreInputsTo s.graph (length s.graph.leaves) inputs = subst (λ (h : Graph). AreInputsTo h (length h.leaves) inputs) (sym g) c.requires in
+    let own : AreInputsTo s.graph (length s.graph.leaves) inputs = subst (λ (h : Graph). AreInputsTo h (length h.leaves) inputs) (sym g) ins in
     let nodes = c.walk_through.new.trail.nodes.items in
     let owners = c.walk_through.new.trail.owners.items in
     let spares = c.walk_through.new.trail.spares.items in

@@ -10,10 +10,10 @@ returns-in-Some c s horizon are bound within =
     let d : Point = record { time = record { 0 = 0 }; area = 0 } in
     let row = c.of-points.result.now in
     let place = c.in-Some.place in
-    let is = c.in-Some.ensures in
+    let is = c.in-Some.ensures c.of-points.ensures.rising in
     let lt = slice_get_within row place is.point is.at in
     last_least s horizon c.args.self.now.points are bound c.args.class.0 c.args.time.0 row c.of-points.ensures.points within place (slice_index_or row place d) is (got row place d lt) c.of-points.ensures.rising
 
 pub returns-in-None : goal.returns-in-None
 returns-in-None c s horizon are bound within =
-    none_least s horizon c.args.self.now.points are bound c.args.class.0 c.args.time.0 c.of-points.result.now c.of-points.ensures.points within c.in-None.ensures
+    none_least s horizon c.args.self.now.points are bound c.args.class.0 c.args.time.0 c.of-points.result.now c.of-points.ensures.points within (c.in-None.ensures c.of-points.ensures.rising)

@@ -2,13 +2,13 @@ use Rattle.std.proofs.Common.{◌≡◌, ◌∷◌, ◌++◌, [], Some, length, 
 use Rattle.lw_trade.specs.Looks.{AreOwnersListed}
 use Rattle.lw_trade.proofs.Lists.{get_last}
 use Rattle.lw_trade.proofs.Members.{AreOwnersTo, listed_more, listed_none, listed_started}
-use Rattle.lw_trade.proofs.looks.list_groups.Goals as goal
+use Rattle.lw_trade.proofs.looks.looks_of.Goals as goal
 
 pub loop-group-init : goal.loop-group-init
 loop-group-init c =
     let groups = c.args.members.now.classes in
     let owners = c.args.owners.now in
-    subst₂ (λ ss ns. AreOwnersTo groups owners 0 ss ns) (sym c.requires.starts) (sym c.requires.numbers) (listed_none groups owners)
+    subst₂ (λ ss ns. AreOwnersTo groups owners 0 ss ns) (sym c.new-starts.ensures.items) (sym c.new-numbers.ensures.items) (listed_none groups owners)
 
 pub loop-group-preserved : goal.loop-group-preserved
 loop-group-preserved c =
