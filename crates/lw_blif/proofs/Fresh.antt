@@ -3,13 +3,14 @@ use Rattle.std.proofs.Common.{ℕ, ◌≡◌, Bool, true, false, not, ◌&&◌, 
 use Rattle.std.specs.List.{list_any}
 use Rattle.std.specs.Str.{bytes_eq}
 use Rattle.std.proofs.Math.Bool.{or-false}
-use Rattle.lw_facts.proofs.Lists.{list_any_append, bytes_eq_turned}
+use Rattle.std.proofs.lemmas.List.Folds.{list_any-append}
+use Rattle.lw_facts.proofs.Lists.{bytes_eq_turned}
 use Rattle.lw_blif.specs.LineFaults.{has_twice}
 use Rattle.lw_blif.specs.Readers.{are_fresh}
 use Rattle.lw_words.specs.Words.{is_among}
 
 among-push : (defined : List (List ℕ)) (name other : List ℕ) → is_among (defined ++ name ∷ []) other ≡ (is_among defined other || bytes_eq other name)
-among-push defined name other = list_any_append (bytes_eq other) defined (name ∷ []) ∙ ap (λ t. is_among defined other || t) (or-false (bytes_eq other name))
+among-push defined name other = list_any-append (bytes_eq other) defined (name ∷ []) ∙ ap (λ t. is_among defined other || t) (or-false (bytes_eq other name))
 
 -- some name is among those before, or is this one
 any-among-push : (defined : List (List ℕ)) (name : List ℕ) (names : List (List ℕ)) → list_any (is_among (defined ++ name ∷ [])) names ≡ (list_any (is_among defined) names || is_among names name)

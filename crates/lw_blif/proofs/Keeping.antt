@@ -5,6 +5,7 @@ use Rattle.std.specs.List.{list_any, list_all, flat_map}
 use Rattle.std.specs.Str.{bytes_eq}
 use Rattle.std.specs.Cmp.Lexicographic.{bytes_decides}
 use Rattle.std.proofs.lemmas.Grind.{flat_map-append}
+use Rattle.std.proofs.lemmas.List.Folds.{list_any-append}
 use Rattle.std.proofs.lemmas.List.{reverse-append, length-reverse, length-map}
 use Rattle.std.proofs.lemmas.Bool.{and_parts, ltb-false}
 use Rattle.std.proofs.Math.Bool.{not-not, or-false, or_self}
@@ -127,18 +128,10 @@ new-values on (row ∷ rows) line h same value =
     by_case true e s = (bytes_decides (value_word on) (last_word line.words)).0 e
     by_case false e s = let wrong : true ≡ false = sym (ap not e) ∙ s in cc
 
-any-append : (p : LogicalLine → Bool) (xs ys : List LogicalLine) → list_any p (xs ++ ys) ≡ (list_any p xs || list_any p ys)
-any-append p [] ys = refl
-any-append p (x ∷ xs) ys = ap (λ t. p x || t) (any-append p xs ys) ∙ or-assoc (p x) (list_any p xs) (list_any p ys)
-  where
-    or-assoc : (a b c : Bool) → (a || (b || c)) ≡ ((a || b) || c)
-    or-assoc true b c = refl
-    or-assoc false b c = refl
-
 any-reverse : (p : LogicalLine → Bool) (xs : List LogicalLine) → list_any p (reverse xs) ≡ list_any p xs
 any-reverse p [] = refl
 any-reverse p (x ∷ xs) =
-    ap (list_any p) (reverse-append (x ∷ []) xs) ∙ (any-append p (reverse xs) (x ∷ []) ∙ (ap (λ t. t || (p x || false)) (any-reverse p xs) ∙ or-turn (list_any p xs) (p x)))
+    ap (list_any p) (reverse-append (x ∷ []) xs) ∙ (list_any-append p (reverse xs) (x ∷ []) ∙ (ap (λ t. t || (p x || false)) (any-reverse p xs) ∙ or-turn (list_any p xs) (p x)))
   where
     or-turn : (a b : Bool) → (a || (b || false)) ≡ (b || a)
     or-turn true true = refl

@@ -5,7 +5,7 @@ use Rattle.std.specs.List.{list_all, flat_map, IsDistinct}
 use Rattle.std.specs.List.Sorted.{IsPermutation}
 use Rattle.std.specs.Str.{bytes_eq}
 use Rattle.std.proofs.lemmas.Bool.{and_parts, eqb-true}
-use Rattle.std.proofs.lemmas.List.{reverse-append}
+use Rattle.std.proofs.lemmas.List.{map-append, reverse-append}
 use Rattle.std.proofs.lemmas.List.Elements.{All-append, All-nil, All-cons, All-head}
 use Rattle.std.proofs.lemmas.List.Sorted.{length_permutation, IsPermutation-trans, IsPermutation-append_right}
 use Rattle.std.proofs.lemmas.Map.Keys.{IsDistinct-IsPermutation}
@@ -254,14 +254,10 @@ defined-parts Unsupported words = refl
 defined-parts Unknown words = refl
 defined-parts Row words = refl
 
-map-both : {A B : Type 0} (f : A → B) (xs ys : List A) → map f (xs ++ ys) ≡ map f xs ++ map f ys
-map-both f [] ys = refl
-map-both f (x ∷ xs) ys = ap (λ r. f x ∷ r) (map-both f xs ys)
-
 -- what latches give
 latched-are : (lines : List LogicalLine) → map output_of (flat_map latches_on lines) ≡ flat_map latched_on lines
 latched-are [] = refl
-latched-are (line ∷ lines) = map-both output_of (latches_on line) (flat_map latches_on lines) ∙ ap (λ r. latched_on line ++ r) (latched-are lines)
+latched-are (line ∷ lines) = map-append output_of (latches_on line) (flat_map latches_on lines) ∙ ap (λ r. latched_on line ++ r) (latched-are lines)
 
 flat-alike : (f g : LogicalLine → List (List ℕ)) → ((x : LogicalLine) → f x ≡ g x) → (xs : List LogicalLine) → flat_map f xs ≡ flat_map g xs
 flat-alike f g same [] = refl

@@ -7,7 +7,6 @@ use Rattle.std.specs.Str.{bytes_eq}
 use Rattle.lw_facts.proofs.Lists.{drop_get}
 use Rattle.indexmap.specs.IndexSet.{insert_key, insert_all}
 use Rattle.lw_blif.specs.LineFaults.{last_word, has_shape}
-use Rattle.lw_words.specs.Words.{first_word}
 use Rattle.lw_blif.specs.Readers.{are_fresh}
 
 pub last_word-get : (words : List (List ℕ)) (word : List ℕ) → slice_get words (length words - 1) ≡ Some word → word ≡ last_word words
@@ -17,10 +16,6 @@ last_word-get (w ∷ v ∷ words) word e =
     let before : length (w ∷ v ∷ words) - 1 ≡ suc (length words) = omega arith in
     let place : length (v ∷ words) - 1 ≡ length words = omega arith in
     last_word-get (v ∷ words) word (ap (slice_get (v ∷ words)) place ∙ (sym (ap (slice_get (w ∷ v ∷ words)) before) ∙ e))
-
-pub first_word-get : (words : List (List ℕ)) (word : List ℕ) → slice_get words 0 ≡ Some word → word ≡ first_word words
-first_word-get [] word e = cc
-first_word-get (w ∷ words) word e = let same : Some w ≡ Some word = e in cc
 
 -- the third word alone
 pub third_word-get : (words : List (List ℕ)) (word : List ℕ) → slice_get words 2 ≡ Some word → word ∷ [] ≡ take 1 (drop 2 words)

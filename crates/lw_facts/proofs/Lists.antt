@@ -1,7 +1,6 @@
 -- Facts about lists.
 use Rattle.lw_facts.proofs.Numbers.{capped_more, times_ten_spread}
-use Rattle.std.proofs.Common.{All, Bool, Contains, IsTrue, List, None, Option, Some, [], ap, arith, cond, drop, false, get_or, inl, inr, length, map, min, not, refl, replicate, reverse, slice_get, slice_index_or, subst, suc, suc-add, sym, take, true, zero, zero-add, ℕ, ◌&&◌, ◌*◌, ◌++◌, ◌+◌, ◌-◌, ◌<◌, ◌^◌, ◌||◌, ◌∙◌, ◌∷◌, ◌≡◌, ◌≤◌, ◌⊎◌}
-use Rattle.std.proofs.Math.Bool.{or_assoc}
+use Rattle.std.proofs.Common.{All, Bool, Contains, IsTrue, List, None, Option, Some, [], ap, arith, cond, drop, false, get_or, inl, inr, length, map, min, not, refl, replicate, reverse, slice_get, slice_index_or, subst, suc, suc-add, sym, take, true, zero, zero-add, ℕ, ◌&&◌, ◌*◌, ◌++◌, ◌+◌, ◌-◌, ◌<◌, ◌^◌, ◌∙◌, ◌∷◌, ◌≡◌, ◌≤◌, ◌⊎◌}
 use Rattle.std.proofs.Math.Nat.{pow-succ'}
 use Rattle.std.proofs.lemmas.Bool.Decides.{same_from_decides}
 use Rattle.std.proofs.lemmas.Grind.{common_steps}
@@ -15,7 +14,7 @@ use Rattle.std.proofs.lemmas.Str.{digit_value_digit}
 use Rattle.std.specs.Char.{digit_value, is_ascii_digit}
 use Rattle.std.specs.Cmp.Lexicographic.{bytes_decides}
 use Rattle.std.specs.Int.{IsInRange}
-use Rattle.std.specs.List.{AllByRecursion, AllByRecursion as Each, IsDistinct, list_all, list_any, position, position_or_len, range_with_len, slice_range}
+use Rattle.std.specs.List.{AllByRecursion, AllByRecursion as Each, IsDistinct, list_all, position, position_or_len, range_with_len, slice_range}
 use Rattle.std.specs.Prelude.{unwrap_or}
 use Rattle.std.specs.Str.{bytes_eq}
 use Rattle.std.specs.Str.Parse.{digits_value, digits_value_after}
@@ -51,10 +50,6 @@ distinct_left (x ∷ xs) ys d = (front xs d.0, distinct_left xs ys d.1)
 -- a part of digits has digits alone
 pub digits_take : (n : ℕ) (ds : List ℕ) → list_all is_ascii_digit ds ≡ true → list_all is_ascii_digit (take n ds) ≡ true
 digits_take n ds all = list_all-from_AllPass is_ascii_digit (take n ds) (All-take (λ d. is_ascii_digit d ≡ true) n ds (AllPass-from_list_all is_ascii_digit ds all))
-
-pub list_any_append : (p : List ℕ → Bool) (xs ys : List (List ℕ)) → list_any p (xs ++ ys) ≡ (list_any p xs || list_any p ys)
-list_any_append p [] ys = refl
-list_any_append p (x ∷ xs) ys = ap (λ t. p x || t) (list_any_append p xs ys) ∙ sym (or_assoc (p x) (list_any p xs) (list_any p ys))
 
 pub drop_get : {A : Type 0} (xs : List A) (i : ℕ) (x : A) → slice_get xs i ≡ Some x → drop i xs ≡ x ∷ drop (i + 1) xs
 drop_get [] i x e = cc

@@ -32,3 +32,9 @@ not_a_stroke b e = grind (arith, nat_tests)
 
 pub eq_lower : (x y : ℕ) → x < y → (x == y) ≡ false
 eq_lower x y l = grind (arith, l)
+
+pub and_swap : (a b c : Bool) → (a && (b && c)) ≡ (b && (a && c))
+and_swap true true c = refl
+and_swap true false c = refl
+and_swap false true c = refl
+and_swap false false c = refl

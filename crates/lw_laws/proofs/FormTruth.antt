@@ -2,8 +2,9 @@
 use Rattle.std.proofs.Common.{ℕ, zero, suc, ◌+◌, ◌<◌, ◌≤◌, ◌≡◌, Bool, true, false, not, ◌&&◌, ◌||◌, cond, leb, ltb, List, [], ◌∷◌, ◌++◌, map, filter, length, take, drop, Option, Some, None, slice_index_or, refl, ap, ap₂, sym, ◌∙◌, subst, arith, take-append-drop}
 use Rattle.std.specs.List.{list_all, list_any, AllByRecursion}
 use Rattle.std.proofs.lemmas.Bool.{and_parts, false_from_ne_true}
-use Rattle.std.proofs.Math.Bool.{or-false, not-not, and-true}
-use Rattle.std.proofs.lemmas.List.{length-map}
+use Rattle.std.proofs.Math.Bool.{or-false, not-not, and-true, and_assoc}
+use Rattle.std.proofs.lemmas.List.{length-map, map-append}
+use Rattle.lw_facts.proofs.Tests.{and_swap}
 use Rattle.lw_laws.proofs.Lists.{all_append as append_all, all_at}
 use Rattle.lw_laws.specs.Networks.{Node, Network, agrees, row_value, node_value}
 use Rattle.lw_laws.specs.Forms.{Form, FormList, items, form_list, same_form, is_among, complement, without, kept, has_clash, runs, runs_within, joined, joined_many, conjunction_within, conjunction, disjunction, form_value, forms_value}
@@ -75,10 +76,7 @@ module _ (x : ℕ → Bool) where
 
   all_append : (fs hs : List Form) → all (fs ++ hs) ≡ (all fs && all hs)
   all_append [] hs = refl
-  all_append (f ∷ fs) hs = ap (λ b. v f && b) (all_append fs hs) ∙ and_assoc (v f) (all fs) (all hs) where
-    and_assoc : (a b c : Bool) → (a && (b && c)) ≡ ((a && b) && c)
-    and_assoc true b c = refl
-    and_assoc false b c = refl
+  all_append (f ∷ fs) hs = ap (λ b. v f && b) (all_append fs hs) ∙ sym (and_assoc (v f) (all fs) (all hs))
 
   runs_value : (again : List Form → Form) → ((hs : List Form) → v (again hs) ≡ all hs) → (n width : ℕ) (fs : List Form) → all (map again (runs_within n width fs)) ≡ all fs
   runs_value again ih zero width fs = and-true (v (again fs)) ∙ ih fs
@@ -143,12 +141,6 @@ module _ (x : ℕ → Bool) where
   cleared_value (w ∷ vs) (suc k) sign (None ∷ row) lt s = cleared_value vs k sign row (omega arith) s
   cleared_value (w ∷ vs) (suc k) sign (Some b ∷ row) lt s =
       ap (λ c. agrees b w && c) (cleared_value vs k sign row (omega arith) s) ∙ and_swap (agrees b w) (agrees sign (slice_index_or vs k true)) (row_value vs (cleared_at k row))
-    where
-      and_swap : (a b c : Bool) → (a && (b && c)) ≡ (b && (a && c))
-      and_swap true true c = refl
-      and_swap true false c = refl
-      and_swap false true c = refl
-      and_swap false false c = refl
 
   -- rows are those that have a literal, and the others
   rows_value : (vs : List Bool) (l : Literal) (rows : List (List (Option Bool))) → l.column < length vs → ((agrees l.sign (slice_index_or vs l.column true) && list_any (row_value vs) (map (cleared l) (filter (has l) rows))) || list_any (row_value vs) (filter (λ row. not (has l row)) rows)) ≡ list_any (row_value vs) rows
@@ -237,15 +229,11 @@ module _ (x : ℕ → Bool) where
       ∙ (ap (agrees node.on) (sum_value width fs node.rows ∙ sym (factored_value width fs node.rows))
       ∙ sym (signed_value node.on (factored width fs node.rows)))
 
-  map_append : {X Y : Type 0} (h : X → Y) (xs ys : List X) → map h (xs ++ ys) ≡ map h xs ++ map h ys
-  map_append h [] ys = refl
-  map_append h (y ∷ xs) ys = ap (λ zs. h y ∷ zs) (map_append h xs ys)
-
   after_values : (width : ℕ) (signals : List Signal) (nodes : List Node) → map sop_value (signals_after width signals nodes) ≡ values_after (map sop_value signals) nodes
   after_values width signals [] = refl
   after_values width signals (node ∷ nodes) =
       after_values width (signals ++ signal_of_node width signals node ∷ []) nodes
-      ∙ ap (λ vs. values_after vs nodes) (map_append sop_value signals (signal_of_node width signals node ∷ []) ∙ ap (λ b. map sop_value signals ++ b ∷ []) (node_sop width signals node))
+      ∙ ap (λ vs. values_after vs nodes) (map-append sop_value signals (signal_of_node width signals node ∷ []) ∙ ap (λ b. map sop_value signals ++ b ∷ []) (node_sop width signals node))
 
   inputs_values : (i n : ℕ) → map sop_value (input_signals i n) ≡ input_values x i n
   inputs_values i zero = refl

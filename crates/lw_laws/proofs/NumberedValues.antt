@@ -1,7 +1,8 @@
 -- The values of listed forms fit the facts of both modes.
 use Rattle.std.proofs.Common.{ℕ, ◌+◌, ◌*◌, ◌≡◌, inl, inr, Bool, true, false, not, ◌&&◌, List, [], ◌∷◌, Some, slice_get, refl, ap, ap₂, sym, ◌∙◌}
 use Rattle.std.specs.List.{list_all}
-use Rattle.std.proofs.Math.Bool.{and-true, and_self}
+use Rattle.std.proofs.Math.Bool.{and-true, and_assoc, and_self}
+use Rattle.lw_facts.proofs.Tests.{and_swap}
 use Rattle.lw_laws.specs.Flip.{flip}
 use Rattle.lw_laws.specs.NumberedForms.{NumberedForms, IsCut, IsCovering, IsPart, IsCutOf, IsCoveringOf, IsTwice, IsSplitOf, family_of}
 use Rattle.lw_laws.specs.NumberedForms.Base.{base_true, base_input, base_and}
@@ -13,17 +14,6 @@ use Rattle.lw_laws.specs.NumberedValues.{AreNumberedValues}
 use Rattle.lw_laws.specs.Modes.{Mode}
 use Rattle.lw_laws.proofs.Flips.{flip-flip, flip_even}
 
--- `&&` with an operand on either side, and on both
-and_left : (a b c : Bool) → (a && (b && c)) ≡ ((a && b) && c)
-and_left true b c = refl
-and_left false b c = refl
-
-and_right : (a b c : Bool) → (a && (b && c)) ≡ (b && (a && c))
-and_right true true c = refl
-and_right true false c = refl
-and_right false true c = refl
-and_right false false c = refl
-
 and_both : (a b c : Bool) → (a && (b && c)) ≡ ((a && b) && (a && c))
 and_both true b c = refl
 and_both false b c = refl
@@ -32,16 +22,16 @@ module _ (forms : NumberedForms) (x value : ℕ → Bool) (are : AreNumberedValu
   all_cut : {fs ls rs : List ℕ} → IsCut fs ls rs → list_all value fs ≡ (list_all value ls && list_all value rs)
   all_cut cut_none = refl
   all_cut (cut_left {f = f} {ls = ls} {rs = rs} c) =
-      ap (λ b. value f && b) (all_cut c) ∙ and_left (value f) (list_all value ls) (list_all value rs)
+      ap (λ b. value f && b) (all_cut c) ∙ sym (and_assoc (value f) (list_all value ls) (list_all value rs))
   all_cut (cut_right {f = f} {ls = ls} {rs = rs} c) =
-      ap (λ b. value f && b) (all_cut c) ∙ and_right (value f) (list_all value ls) (list_all value rs)
+      ap (λ b. value f && b) (all_cut c) ∙ and_swap (value f) (list_all value ls) (list_all value rs)
 
   all_covering : {fs ls rs : List ℕ} → IsCovering fs ls rs → list_all value fs ≡ (list_all value ls && list_all value rs)
   all_covering in_none = refl
   all_covering (in_left {f = f} {ls = ls} {rs = rs} c) =
-      ap (λ b. value f && b) (all_covering c) ∙ and_left (value f) (list_all value ls) (list_all value rs)
+      ap (λ b. value f && b) (all_covering c) ∙ sym (and_assoc (value f) (list_all value ls) (list_all value rs))
   all_covering (in_right {f = f} {ls = ls} {rs = rs} c) =
-      ap (λ b. value f && b) (all_covering c) ∙ and_right (value f) (list_all value ls) (list_all value rs)
+      ap (λ b. value f && b) (all_covering c) ∙ and_swap (value f) (list_all value ls) (list_all value rs)
   all_covering (in_both {f = f} {ls = ls} {rs = rs} c) =
       ap (λ b. value f && b) (all_covering c) ∙ and_both (value f) (list_all value ls) (list_all value rs)
 

@@ -4,7 +4,6 @@ use Rattle.std.specs.Prelude.{slice_get}
 use Rattle.std.specs.List.{slice_range}
 use Rattle.std.proofs.lemmas.List.{take_all}
 use Rattle.lw_facts.proofs.Lists.{drop_get}
-use Rattle.lw_words.specs.Words.{first_word}
 
 -- the first word of a part
 pub range-first : {A : Type 0} (xs : List A) (i end : ℕ) (x : A) → i < end → slice_get xs i ≡ Some x → slice_range xs i end ≡ x ∷ slice_range xs (i + 1) end
@@ -22,7 +21,3 @@ range-none xs from end past = let none : end - from ≡ 0 = omega arith in ap (�
 -- all words from a place on
 pub range-all : {A : Type 0} (xs : List A) (from end : ℕ) → from ≤ end → length xs ≤ end → slice_range xs from end ≡ drop from xs
 range-all xs from end within far = take_all (end - from) (drop from xs) (omega (arith, length-drop from xs))
-
-pub first-get : (words : List (List ℕ)) (word : List ℕ) → slice_get words 0 ≡ Some word → word ≡ first_word words
-first-get [] word e = cc
-first-get (w ∷ words) word e = cc

@@ -1,5 +1,5 @@
 -- Chains of the places of names.
-use Rattle.std.proofs.Common.{ℕ, suc, ◌≡◌, ◌≢◌, ◌<◌, ◌≤◌, ◌+◌, ◌*◌, ◌%◌, ◌⊎◌, inl, inr, Bool, true, false, ◌||◌, List, length, drop, set, get_or, refl, ap, sym, ◌∙◌, arith}
+use Rattle.std.proofs.Common.{ℕ, suc, ◌≡◌, ◌≢◌, ◌<◌, ◌≤◌, ◌+◌, ◌*◌, ◌%◌, ◌⊎◌, inl, inr, Bool, true, false, ◌||◌, List, [], ◌∷◌, length, drop, set, get_or, refl, ap, sym, ◌∙◌, arith}
 use Rattle.std.specs.Str.{bytes_eq}
 use Rattle.std.proofs.lemmas.Bool.{cases_lt}
 use Rattle.std.proofs.lemmas.Grind.{get_or-set_at}
@@ -13,6 +13,14 @@ use Rattle.lw_verilog.proofs.Marks.{or-no}
 -- one byte more
 pub bucket-more : (hash : ℕ) (name : List ℕ) (i : ℕ) → i < length name → bucket_from hash (drop i name) ≡ bucket_from ((hash * 31 + get_or name i 0) % 32768) (drop (i + 1) name)
 bucket-more hash name i lt = ap (bucket_from hash) (drop_more name i 0 lt)
+
+from-low : (hash : ℕ) (name : List ℕ) → hash < 32768 → bucket_from hash name < 32768
+from-low hash [] low = low
+from-low hash (b ∷ name) low = from-low ((hash * 31 + b) % 32768) name (omega arith)
+
+-- there are so many buckets
+pub bucket_low : (name : List ℕ) → bucket_of name < 32768
+bucket_low name = from-low 0 name (omega arith)
 
 -- The chain of a name's bucket is walked down to a place.
 pub record IsWalked (names : List (List ℕ)) (name : List ℕ) (left : ℕ) (old new : List Bool) : Type 0 where

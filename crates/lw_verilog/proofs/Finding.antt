@@ -1,5 +1,5 @@
 -- The first that passes a test.
-use Rattle.std.proofs.Common.{ℕ, ◌≡◌, ◌≤◌, ◌<◌, ◌+◌, Bool, true, false, ◌||◌, cond, List, [], ◌∷◌, ◌++◌, length, map, drop, get_or, Option, Some, None, refl, ap, ap₂, sym, ◌∙◌}
+use Rattle.std.proofs.Common.{ℕ, ◌≡◌, ◌≤◌, ◌<◌, ◌+◌, Bool, true, false, ◌||◌, cond, List, [], ◌∷◌, ◌++◌, length, map, drop, get_or, Option, Some, None, refl, ap, ap₂, sym, ◌∙◌, subst}
 use Rattle.std.specs.Prelude.{find, is_some, option_map}
 use Rattle.std.specs.Str.{bytes_eq}
 use Rattle.std.specs.Cmp.Lexicographic.{bytes_decides}
@@ -10,7 +10,11 @@ use Rattle.lw_netlist.specs.Closing.{is_among}
 use Rattle.std.specs.List.{flat_map}
 use Rattle.std.specs.Option.{option_or}
 use Rattle.std.proofs.lemmas.List.{drop_more, drop_all}
+use Rattle.std.proofs.lemmas.List.{length-map}
+use Rattle.std.proofs.lemmas.List.Quantifiers.{position-Some}
+use Rattle.lw_genlib.specs.Cells.{CellParts, names_of}
 use Rattle.lw_verilog.specs.Sayable.{first_or_none}
+use Rattle.lw_verilog.specs.Statements.{first_name, number_of}
 
 pub find-here : {A B : Type 0} (p : B → Bool) (f : A → B) (xs : List A) (i : ℕ) (d : A) → i < length xs → p (f (get_or xs i d)) ≡ true → find p (map f (drop i xs)) ≡ Some (f (get_or xs i d))
 find-here p f xs i d lt e = ap (λ l. find p (map f l)) (drop_more xs i d lt) ∙ ap (λ b. cond b (Some (f (get_or xs i d))) (find p (map f (drop (i + 1) xs)))) e
@@ -72,3 +76,8 @@ among-insert keys names name x same own = by_test (is_among keys name) refl
 pub find-same : (keys names xs : List (List ℕ)) → ((x : List ℕ) → is_among keys x ≡ is_among names x) → find (is_among keys) xs ≡ find (is_among names) xs
 find-same keys names [] same = refl
 find-same keys names (x ∷ xs) same = ap₂ (λ b o. cond b (Some x) o) (same x) (find-same keys names xs same)
+
+-- the cell of an instance is one of the library
+pub cell_within : (cells : List CellParts) (names : List (List ℕ)) (number : ℕ) → number_of cells names ≡ Some number → number < length cells
+cell_within cells names number is =
+    subst (λ n. number < n) (length-map cells (λ (cell : CellParts). cell.name)) (position-Some (bytes_eq (first_name names)) (names_of cells) number [] is).0

@@ -9,7 +9,8 @@ use Rattle.std.specs.Str.{bytes_eq}
 use Rattle.std.proofs.Math.Bool.{or-false, or-true}
 use Rattle.std.proofs.lemmas.Grind.{get_or-set_at}
 use Rattle.std.proofs.lemmas.Bool.{and_right}
-use Rattle.lw_facts.proofs.Lists.{bytes_eq_is, bytes_eq_same, list_any_append}
+use Rattle.lw_facts.proofs.Lists.{bytes_eq_is, bytes_eq_same}
+use Rattle.std.proofs.lemmas.List.Folds.{list_any-append}
 use Rattle.lw_netlist.specs.Chains.{name_at}
 use Rattle.lw_netlist.specs.Closing.{is_among, twice_after}
 use Rattle.lw_netlist.proofs.Chains.{same-or-not}
@@ -75,7 +76,7 @@ module _ (header : List (List ℕ)) (place : ℕ) (name : List ℕ) (from : 1 �
 -- Flags of the names that were seen, and one more name.
 module _ (declared seen : List (List ℕ)) (flags : List Bool) (k : ℕ) (name : List ℕ) (distinct : IsDistinct bytes_eq declared) (within_flags : k < length flags) (named : name_at declared k ≡ name) (inside : k < length declared) (were : (i : ℕ) → i < length declared → get_or flags i false ≡ is_among seen (name_at declared i)) where
   behind-seen : (other : List ℕ) → is_among (seen ++ name ∷ []) other ≡ (is_among seen other || (bytes_eq other name || false))
-  behind-seen other = list_any_append (bytes_eq other) seen (name ∷ [])
+  behind-seen other = list_any-append (bytes_eq other) seen (name ∷ [])
 
   at-place : (i : ℕ) → i ≡ k → get_or (set flags k true) i false ≡ is_among (seen ++ name ∷ []) (name_at declared i)
   at-place i same =

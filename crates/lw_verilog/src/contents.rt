@@ -108,6 +108,7 @@ fn near(lib: &Library, hint: CellId, name: &[u8]) -> CellId {
 }
 
 // Appends the gate of an instance of these names.
+#[tactic(auto, using(crate::proofs::Finding::cell_within))]
 fn push_gate(
     alloc: Global,
     lib: &Library,
@@ -252,6 +253,7 @@ impl Contents {
     }
 
     /// Takes a token of this kind and this name, or tells the first rule that it breaks.
+    #[tactic(auto, using(crate::proofs::NamedMoves::not_end))]
     pub(crate) fn take(&mut self, kind: Kind, name: &[u8], lib: &Library) -> Result<(), Refusal>
         requires { is_name kind ≡ true → 0 < length name.now }
         ensures fault { (r : Reading) → Keeps lib.now self.old r →

@@ -23,8 +23,7 @@ pub(crate) struct Known {
 }
 
 fn bucket_of(name: &[u8]) -> usize
-    ensures bucket { result ≡ bucket_of name.now }
-    ensures low { result < 32768 }
+    ensures { result ≡ bucket_of name.now }
 {
     let mut hash = 0;
     for byte in name {
@@ -33,22 +32,15 @@ fn bucket_of(name: &[u8]) -> usize
     hash
 }
 
-// Ends all chains.
-fn clear(heads: &mut [u16])
-    ensures many { length heads.new ≡ length heads.old }
-    ensures none { (b : ℕ) → b < length heads.old → slice_index_or heads.new b 0 ≡ 0 }
-{
-    heads.fill(0);
-}
-
 // Chains for these names.
+#[tactic(auto, using(crate::proofs::Chains::bucket_low))]
 fn link(names: &[Name], heads: &mut [u16], next: &mut [u16])
     requires few { length names.now ≤ 32768 }
     requires buckets { length heads.old ≡ 32768 }
     requires places { length next.old ≡ 32768 }
     ensures { AreChained names.now heads.new next.new }
 {
-    clear(heads);
+    heads.fill(0);
     for (place, name) in names.iter().enumerate() {
         let bucket = bucket_of(name.as_bytes());
         next[place] = heads[bucket];
@@ -57,6 +49,7 @@ fn link(names: &[Name], heads: &mut [u16], next: &mut [u16])
 }
 
 // Raises the flag of each name that is this one.
+#[tactic(auto, using(crate::proofs::Chains::bucket_low))]
 fn mark_equal(names: &[Name], heads: &[u16], next: &[u16], flags: &mut [bool], name: &[u8])
     requires chained { AreChained names.now heads.now next.now }
     requires one_each { length flags.old ≡ length names.now }
@@ -83,14 +76,6 @@ fn mark_known(names: &[Name], heads: &[u16], next: &[u16], flags: &mut [bool], o
     }
 }
 
-// Lowers all flags.
-fn lower(flags: &mut [bool])
-    ensures many { length flags.new ≡ length flags.old }
-    ensures none { (i : ℕ) → i < length flags.old → slice_index_or flags.new i false ≡ false }
-{
-    flags.fill(false);
-}
-
 // The names from a place on, as many as have flags.
 fn window(names: &[Name], base: usize) -> &[Name]
     requires { base ≤ length names.now }
@@ -114,7 +99,7 @@ fn fill(names: &[Name], outputs: &[Port], heads: &mut [u16], next: &mut [u16], f
         ≡ is_among (map port_name outputs.now) (name_at names.now i) }
 {
     link(names, heads, next);
-    lower(flags);
+    flags.fill(false);
     mark_known(names, heads, next, &mut flags[..names.len()], outputs);
 }
 

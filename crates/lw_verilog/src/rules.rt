@@ -1,5 +1,5 @@
 // The rules that names break.
-ghost use Rattle.std.specs.Prelude.{◌≡◌, ◌<◌, true, false, None, Some, [], length, replicate, drop, is_none, option_map, ◌&&◌, Contains, IfOk, IfSome, MatchOption, slice_get, slice_index_or};
+ghost use Rattle.std.specs.Prelude.{◌≡◌, ◌<◌, true, false, None, Some, [], length, replicate, drop, is_none, option_map, ◌&&◌, Contains, IfOk, MatchOption, slice_get, slice_index_or};
 ghost use Rattle.std.specs.List.{list_all, list_any};
 ghost use Rattle.std.specs.Option.{option_or};
 ghost use Rattle.std.specs.Str.{bytes_eq};
@@ -99,8 +99,7 @@ fn first_name(names: &SpelledNames) -> &[u8]
 
 /// The cell of an instance of these names.
 pub(crate) fn cell_id(lib: &Library, hint: CellId, names: &SpelledNames) -> Option<CellId>
-    ensures number { number_of lib.now names.now ≡ option_map (λ id. id.0) result }
-    ensures within { IfSome result (λ id. id.0 < length lib.now) }
+    ensures { number_of lib.now names.now ≡ option_map (λ id. id.0) result }
 {
     let _count = lib.len();
     match find_cell(lib, hint, first_name(names)) {
@@ -159,6 +158,7 @@ fn formal_fault(cell: &Cell, names: &SpelledNames, name: &[u8]) -> Option<Verilo
 }
 
 /// The rule that the name of a pin breaks behind these names of an instance.
+#[tactic(auto, using(crate::proofs::Finding::cell_within))]
 pub(crate) fn pin_fault(
     lib: &Library,
     hint: CellId,
@@ -186,6 +186,7 @@ fn gives_all(names: &SpelledNames, cell: &Cell) -> bool
 }
 
 /// The rule that the end of an instance of these names breaks.
+#[tactic(auto, using(crate::proofs::Finding::cell_within))]
 pub(crate) fn missing_fault(
     lib: &Library,
     hint: CellId,

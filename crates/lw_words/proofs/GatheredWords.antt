@@ -6,7 +6,7 @@ use Rattle.std.proofs.lemmas.Bool.{lt-ltb, le-ltb, ltb-true, ltb-false}
 use Rattle.std.proofs.lemmas.List.{take-append-le, take_all, length-take-le, length-take}
 use Rattle.std.proofs.lemmas.List.Elements.{All-head, All-tail}
 use Rattle.std.proofs.Math.Bool.{or-false, or-true}
-use Rattle.lw_facts.proofs.Lists.{list_any_append}
+use Rattle.std.proofs.lemmas.List.Folds.{list_any-append}
 use Rattle.lw_words.specs.Lines.{LogicalLine, is_blank, has_some, is_long, words_of, line_of, lines_of, has_words, before_trimmed, trimmed}
 use Rattle.lw_words.specs.Gathering.{Gathered, nothing_gathered, with_byte, with_bytes, ended, line_gathered, IsInk}
 use Rattle.lw_words.specs.Reading.{over_byte, over_bytes, gathered_from}
@@ -68,7 +68,7 @@ map-append f (x ∷ xs) ys = ap (λ r. f x ∷ r) (map-append f xs ys)
 
 -- an empty word is not long
 long-none : (words : List (List ℕ)) → list_any is_long (words ++ [] ∷ []) ≡ list_any is_long words
-long-none words = list_any_append is_long words ([] ∷ []) ∙ or-false (list_any is_long words)
+long-none words = list_any-append is_long words ([] ∷ []) ∙ or-false (list_any is_long words)
 
 -- the last word ends
 Has-ended : (g : Gathered) (words : List (List ℕ)) (last : List ℕ) → Has g words last → (ended g).words ≡ map (take 4095) (words ++ filter has_some (last ∷ []))
@@ -115,7 +115,7 @@ Has-byte g words last b h = by_length (ltb (length g.last) 4095) refl
     is_full le = omega (arith, le, ap length h.last_is, (length-take 4095 last))
 
     long_more : (t : Bool) → is_long (last ++ b ∷ []) ≡ t → list_any is_long (words ++ (last ++ b ∷ []) ∷ []) ≡ (list_any is_long words || t)
-    long_more t e = list_any_append is_long words ((last ++ b ∷ []) ∷ []) ∙ (ap (λ u. list_any is_long words || (u || false)) e ∙ ap (λ u. list_any is_long words || u) (or-false t))
+    long_more t e = list_any-append is_long words ((last ++ b ∷ []) ∷ []) ∙ (ap (λ u. list_any is_long words || (u || false)) e ∙ ap (λ u. list_any is_long words || u) (or-false t))
 
     by_length : (t : Bool) → ltb (length g.last) 4095 ≡ t → Has (with_byte b g) words (last ++ b ∷ [])
     by_length true e =
@@ -128,7 +128,7 @@ Has-byte g words last b h = by_length (ltb (length g.last) 4095) refl
         record {
           words_are = ap (λ (e : Gathered). e.words) same ∙ h.words_are;
           last_is = ap (λ (e : Gathered). e.last) same ∙ (ap (λ l. l ++ b ∷ []) whole ∙ sym (take_all 4095 (last ++ b ∷ []) (omega arith)));
-          long_is = ap (λ (e : Gathered). e.long) same ∙ (h.long_is ∙ ((list_any_append is_long words (last ∷ []) ∙ ap (λ u. list_any is_long words || (u || false)) was_short) ∙ sym (long_more false short)));
+          long_is = ap (λ (e : Gathered). e.long) same ∙ (h.long_is ∙ ((list_any-append is_long words (last ∷ []) ∙ ap (λ u. list_any is_long words || (u || false)) was_short) ∙ sym (long_more false short)));
         }
     by_length false e =
         let le = is_full (ltb-false _ _ e) in

@@ -2,9 +2,10 @@
 use Rattle.lw_words.specs.Gathering.{IsInk, IsNoHash}
 use Rattle.lw_words.specs.Lines.{before_hash, has_some, is_line_feed, lines_among}
 use Rattle.lw_words.specs.Texts.{line}
-use Rattle.lw_words.specs.Words.{front}
-use Rattle.std.proofs.Common.{Bool, List, [], ap, arith, cond, false, length, not, refl, sym, true, ℕ, ◌++◌, ◌<◌, ◌==◌, ◌||◌, ◌∙◌, ◌∷◌, ◌≡◌, ◌≢◌}
+use Rattle.lw_words.specs.Words.{first_word, front}
+use Rattle.std.proofs.Common.{Bool, List, Some, [], ap, arith, cond, false, length, not, refl, sym, true, ℕ, ◌++◌, ◌<◌, ◌==◌, ◌||◌, ◌∙◌, ◌∷◌, ◌≡◌, ◌≢◌}
 use Rattle.std.proofs.lemmas.Bool.Decides.{nat_tests}
+use Rattle.std.specs.Prelude.{slice_get}
 use Rattle.std.specs.List.{AllByRecursion as Each, list_any, onto_first, slice_split}
 
 pub front_none : {A : Type 0} (p q : A → Bool) → ((x : A) → p x ≡ not (q x)) → (xs : List A) → list_any q xs ≡ false → front p xs ≡ xs
@@ -51,3 +52,7 @@ among_more line (b ∷ bytes) = by_kind (is_line_feed b) (slice_split is_line_fe
     by_kind true parts = refl
     by_kind false [] = refl
     by_kind false (part ∷ parts) = refl
+
+pub first_word-get : (words : List (List ℕ)) (word : List ℕ) → slice_get words 0 ≡ Some word → word ≡ first_word words
+first_word-get [] word e = cc
+first_word-get (w ∷ words) word e = cc

@@ -1,7 +1,7 @@
 use Rattle.std.proofs.Common.{ap, ◌∙◌}
 use Rattle.lw_words.specs.Lines.{LogicalLine}
 use Rattle.lw_words.specs.Words.{first_word}
-use Rattle.lw_blif.proofs.WordLists.{first_word-get}
+use Rattle.lw_words.proofs.Shared.{first_word-get}
 use Rattle.lw_blif.proofs.naming.first_word.Goals as goal
 
 pub returns : goal.returns

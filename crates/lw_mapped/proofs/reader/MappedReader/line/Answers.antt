@@ -4,7 +4,7 @@ use Rattle.lw_mapped.specs.declared.fault.MappedFault.{MappedFault}
 use Rattle.lw_mapped.specs.Commands.{command_of}
 use Rattle.lw_mapped.specs.LineFaults.{command, first_fault, lines_read, ends}
 use Rattle.lw_mapped.specs.Standing.{Tells}
-use Rattle.lw_mapped.proofs.WordLists.{first-get}
+use Rattle.lw_words.proofs.Shared.{first_word-get}
 use Rattle.lw_mapped.proofs.StandingFor.{stands-stopped, tells-stopped, answer-ended, stands-ended, is-open, answer-end, stands-end, answer-read, stands-read, stands-refused, answer-refused}
 use Rattle.lw_mapped.proofs.reader.MappedReader.line.Goals as goal
 use Rattle.lw_words.specs.Words.{first_word}
@@ -26,26 +26,26 @@ returns-then-self-clause-answer c = λ lines h. answer-ended c.args.lib.now _ _ 
 pub returns-then-ends-clause-stands : goal.returns-then-ends-clause-stands
 returns-then-ends-clause-stands c = λ lines h.
     let cells = c.args.lib.now in
-    let asked : c.command_of-asked.result ≡ command c.args.line.now = c.command_of-asked.ensures ∙ ap command_of (first-get _ _ c.get.ensures.word ∙ ap (λ (l : LogicalLine). first_word l.words) c.line.view_is) in
+    let asked : c.command_of-asked.result ≡ command c.args.line.now = c.command_of-asked.ensures ∙ ap command_of (first_word-get _ _ c.get.ensures.word ∙ ap (λ (l : LogicalLine). first_word l.words) c.line.view_is) in
     let e : ends (not c.args.self.now.begun) (command c.args.line.now) ≡ true = ap (ends (not c.args.self.now.begun)) (sym asked) ∙ (sym c.ends.ensures ∙ c.if-ends.true) in
     stands-end cells _ _ _ lines c.args.line.now c.in_default.is e (is-open cells _ _ _ _ lines c.in_default.is c.if-self.false h)
 
 pub returns-then-ends-clause-answer : goal.returns-then-ends-clause-answer
 returns-then-ends-clause-answer c = λ lines h.
     let cells = c.args.lib.now in
-    let asked : c.command_of-asked.result ≡ command c.args.line.now = c.command_of-asked.ensures ∙ ap command_of (first-get _ _ c.get.ensures.word ∙ ap (λ (l : LogicalLine). first_word l.words) c.line.view_is) in
+    let asked : c.command_of-asked.result ≡ command c.args.line.now = c.command_of-asked.ensures ∙ ap command_of (first_word-get _ _ c.get.ensures.word ∙ ap (λ (l : LogicalLine). first_word l.words) c.line.view_is) in
     let e : ends (not c.args.self.now.begun) (command c.args.line.now) ≡ true = ap (ends (not c.args.self.now.begun)) (sym asked) ∙ (sym c.ends.ensures ∙ c.if-ends.true) in
     answer-end cells _ c.args.self.now.parts lines c.args.line.now e (is-open cells _ _ _ _ lines c.in_default.is c.if-self.false h)
 
 pub read-requires : goal.read-requires
 read-requires c =
-    let asked : c.command_of-asked.result ≡ command c.args.line.now = c.command_of-asked.ensures ∙ ap command_of (first-get _ _ c.get.ensures.word ∙ ap (λ (l : LogicalLine). first_word l.words) c.line.view_is) in
+    let asked : c.command_of-asked.result ≡ command c.args.line.now = c.command_of-asked.ensures ∙ ap command_of (first_word-get _ _ c.get.ensures.word ∙ ap (λ (l : LogicalLine). first_word l.words) c.line.view_is) in
     asked
 
 pub returns-in-Ok-clause-stands : goal.returns-in-Ok-clause-stands
 returns-in-Ok-clause-stands c = λ lines h.
     let cells = c.args.lib.now in
-    let asked : c.command_of-asked.result ≡ command c.args.line.now = c.command_of-asked.ensures ∙ ap command_of (first-get _ _ c.get.ensures.word ∙ ap (λ (l : LogicalLine). first_word l.words) c.line.view_is) in
+    let asked : c.command_of-asked.result ≡ command c.args.line.now = c.command_of-asked.ensures ∙ ap command_of (first_word-get _ _ c.get.ensures.word ∙ ap (λ (l : LogicalLine). first_word l.words) c.line.view_is) in
     let e : ends (not c.args.self.now.begun) (command c.args.line.now) ≡ false = ap (ends (not c.args.self.now.begun)) (sym asked) ∙ (sym c.ends.ensures ∙ c.if-ends.false) in
     let o = is-open cells _ _ _ _ lines c.in_default.is c.if-self.false h in
     stands-read cells _ _ _ _ _ lines c.args.line.now c.in_default.is c.if-self.false e o (sym (c.in-Ok.ensures.fault lines o.kept)) (c.in-Ok.ensures.keeps lines o.kept)
@@ -53,7 +53,7 @@ returns-in-Ok-clause-stands c = λ lines h.
 pub returns-in-Ok-clause-answer : goal.returns-in-Ok-clause-answer
 returns-in-Ok-clause-answer c = λ lines h.
     let cells = c.args.lib.now in
-    let asked : c.command_of-asked.result ≡ command c.args.line.now = c.command_of-asked.ensures ∙ ap command_of (first-get _ _ c.get.ensures.word ∙ ap (λ (l : LogicalLine). first_word l.words) c.line.view_is) in
+    let asked : c.command_of-asked.result ≡ command c.args.line.now = c.command_of-asked.ensures ∙ ap command_of (first_word-get _ _ c.get.ensures.word ∙ ap (λ (l : LogicalLine). first_word l.words) c.line.view_is) in
     let e : ends (not c.args.self.now.begun) (command c.args.line.now) ≡ false = ap (ends (not c.args.self.now.begun)) (sym asked) ∙ (sym c.ends.ensures ∙ c.if-ends.false) in
     let o = is-open cells _ _ _ _ lines c.in_default.is c.if-self.false h in
     answer-read cells _ c.args.self.now.parts lines c.args.line.now None e o (sym (c.in-Ok.ensures.fault lines o.kept))
@@ -61,7 +61,7 @@ returns-in-Ok-clause-answer c = λ lines h.
 pub returns-in-Err-clause-stands : goal.returns-in-Err-clause-stands
 returns-in-Err-clause-stands c = λ lines h.
     let cells = c.args.lib.now in
-    let asked : c.command_of-asked.result ≡ command c.args.line.now = c.command_of-asked.ensures ∙ ap command_of (first-get _ _ c.get.ensures.word ∙ ap (λ (l : LogicalLine). first_word l.words) c.line.view_is) in
+    let asked : c.command_of-asked.result ≡ command c.args.line.now = c.command_of-asked.ensures ∙ ap command_of (first_word-get _ _ c.get.ensures.word ∙ ap (λ (l : LogicalLine). first_word l.words) c.line.view_is) in
     let e : ends (not c.args.self.now.begun) (command c.args.line.now) ≡ false = ap (ends (not c.args.self.now.begun)) (sym asked) ∙ (sym c.ends.ensures ∙ c.if-ends.false) in
     let o = is-open cells _ _ _ _ lines c.in_default.is c.if-self.false h in
     stands-refused cells _ _ c.args.self.now.parts _ lines c.args.line.now c.in-Err.refusal _ _ c.at-stop.ensures (ap (λ (l : LogicalLine). l.number) c.line.view_is) e o (c.in-Err.ensures.fault lines o.kept)
@@ -69,7 +69,7 @@ returns-in-Err-clause-stands c = λ lines h.
 pub returns-in-Err-clause-answer : goal.returns-in-Err-clause-answer
 returns-in-Err-clause-answer c = λ lines h.
     let cells = c.args.lib.now in
-    let asked : c.command_of-asked.result ≡ command c.args.line.now = c.command_of-asked.ensures ∙ ap command_of (first-get _ _ c.get.ensures.word ∙ ap (λ (l : LogicalLine). first_word l.words) c.line.view_is) in
+    let asked : c.command_of-asked.result ≡ command c.args.line.now = c.command_of-asked.ensures ∙ ap command_of (first_word-get _ _ c.get.ensures.word ∙ ap (λ (l : LogicalLine). first_word l.words) c.line.view_is) in
     let e : ends (not c.args.self.now.begun) (command c.args.line.now) ≡ false = ap (ends (not c.args.self.now.begun)) (sym asked) ∙ (sym c.ends.ensures ∙ c.if-ends.false) in
     let o = is-open cells _ _ _ _ lines c.in_default.is c.if-self.false h in
     subst (λ (f : MappedFault). Tells (Err f) (first_fault cells [] (lines_read (lines ++ c.args.line.now ∷ [])))) (sym c.fault-in-Err.ensures)
