@@ -1,6 +1,6 @@
 -- What is kept, when one more line has said something.
 use Rattle.std.proofs.Common.{ℕ, ◌≡◌, ◌==◌, Bool, true, false, cond, List, [], ◌∷◌, ◌++◌, take, Option, Some, None, Result, Ok, Err, refl, ap, sym, ◌∙◌, append-nil, subst}
-use Rattle.std.specs.Prelude.{OnOk, is_some, option_to_list, slice_index_or}
+use Rattle.std.specs.Prelude.{MatchResult, OnOk, is_some, option_to_list, slice_index_or}
 use Rattle.std.specs.List.{flat_map}
 use Rattle.std.specs.Option.{option_or}
 use Rattle.std.specs.Str.{bytes_eq}
@@ -105,3 +105,7 @@ takes-nothing kept = record {
 pub ok-then : {X E P Q : Type 0} (r : Result X E) → (P → Q) → OnOk r P → OnOk r Q
 ok-then (Ok x) f p = f p
 ok-then (Err e) f p = tt
+
+pub match-then : {X E P Q R : Type 0} (r : Result X E) → (P → Q) → MatchResult r (λ _. P) (λ _. R) → OnOk r Q
+match-then (Ok x) f p = f p
+match-then (Err e) f p = tt

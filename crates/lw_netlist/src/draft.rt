@@ -1,4 +1,4 @@
-ghost use Rattle.std.specs.Prelude.{◌≡◌, ◌++◌, [], ◌∷◌, ◌↔◌, length, IsTrue, OnOk, OnErr};
+ghost use Rattle.std.specs.Prelude.{◌≡◌, ◌++◌, [], ◌∷◌, ◌↔◌, length, IsTrue, MatchResult};
 
 use crate::SpelledGate;
 use crate::spelled::spelled;
@@ -66,8 +66,8 @@ impl DraftGates {
 
     /// Appends an entry. For want of memory nothing is changed.
     pub fn push(&mut self, item: DraftGate) -> Result<(), AllocError>
-        ensures ok { OnOk result (self.new ≡ self.old ++ item ∷ []) }
-        ensures err { OnErr result (self.new ≡ self.old) }
+        ensures { MatchResult result (λ _. self.new ≡ self.old ++ item ∷ [])
+            (λ _. self.new ≡ self.old) }
     {
         let gate = spelled(*self.items.allocator(), &item)?;
         self.push_spelled(gate)
@@ -75,8 +75,8 @@ impl DraftGates {
 
     /// Appends an entry that is spelled. For want of memory nothing is changed.
     pub fn push_spelled(&mut self, item: SpelledGate) -> Result<(), AllocError>
-        ensures ok { OnOk result (self.new ≡ self.old ++ item ∷ []) }
-        ensures err { OnErr result (self.new ≡ self.old) }
+        ensures { MatchResult result (λ _. self.new ≡ self.old ++ item ∷ [])
+            (λ _. self.new ≡ self.old) }
     {
         self.items.push(item)?;
         Ok(())
@@ -142,8 +142,8 @@ impl Wires {
 
     /// Appends an entry. For want of memory nothing is changed.
     pub fn push(&mut self, item: Wire) -> Result<(), AllocError>
-        ensures ok { OnOk result (self.new ≡ self.old ++ item ∷ []) }
-        ensures err { OnErr result (self.new ≡ self.old) }
+        ensures { MatchResult result (λ _. self.new ≡ self.old ++ item ∷ [])
+            (λ _. self.new ≡ self.old) }
     {
         self.items.push(item)?;
         Ok(())

@@ -1,4 +1,4 @@
-ghost use Rattle.std.specs.Prelude.{◌≡◌, ◌<◌, ◌≤◌, ◌++◌, [], ◌∷◌, ℕ, All, IsTrue, OnOk, OnErr};
+ghost use Rattle.std.specs.Prelude.{◌≡◌, ◌<◌, ◌≤◌, ◌++◌, [], ◌∷◌, ℕ, All, IsTrue, MatchResult};
 ghost use Rattle.lw_trade.specs.Queues.{Item, IsLaneTaken, IsMostLeft};
 
 use std::alloc::{AllocError, Global};
@@ -45,8 +45,8 @@ impl Lane {
     /// Lets one more wait behind the others.
     pub(crate) fn push(&mut self, item: (u64, (u64, u32))) -> Result<(), AllocError>
         requires { All (λ (x : Item). item.0 ≤ x.0) self.old }
-        ensures ok { OnOk result (self.new ≡ self.old ++ item ∷ []) }
-        ensures err { OnErr result (self.new ≡ self.old) }
+        ensures { MatchResult result (λ _. self.new ≡ self.old ++ item ∷ [])
+            (λ _. self.new ≡ self.old) }
     {
         self.queue.push_back(item)?;
         self.last = item.0;

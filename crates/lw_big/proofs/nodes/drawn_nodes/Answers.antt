@@ -18,5 +18,5 @@ loop-k-preserved c =
       drawn = wires.draws seed has;
       nodes = nodes_more seed k c.in_ok-node.field-0 c.loop-k.nodes c.push.new.self c.loop-k.invariant.nodes
           (c.in_ok-node.ensures ∙ node_drawn seed k drawn.first drawn.second drawn.kind (wires.first seed has) (wires.second seed has) (wires.kind seed has))
-          c.in_ok-push.ensures.ok;
+          c.in_ok-push.ensures;
     }

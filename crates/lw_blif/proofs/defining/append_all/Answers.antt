@@ -9,7 +9,7 @@ loop-i-preserved c =
     let words = c.args.words.now in
     let i = c.loop-i.i in
     let word = c.get.result.now in
-    c.in_ok-push.ensures.ok
+    c.in_ok-push.ensures
     ∙ (ap (λ n. c.loop-i.names ++ n ∷ []) c.in_ok-from_slice.ensures
     ∙ (ap (λ ns. ns ++ word ∷ []) c.loop-i.invariant
     ∙ (append_assoc c.args.names.now (slice_range words c.args.from i) (word ∷ [])

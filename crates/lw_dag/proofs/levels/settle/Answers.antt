@@ -77,7 +77,7 @@ returns-in_ok-push-in-Some-clause-after c =
     let in_waiting : s < length l.waiting.items = omega (arith, c.requires.before.rising.lists) in
     let old = get_or_read l.waiting.items s c.index_mut-nodes.result.now in_waiting c.index_mut-nodes.ensures.value [] in
     record {
-      rising = rising_waits c.args.graph.now.inputs graph l.heights.items l.waiting.items l.ready.items c.args.list.now c.args.at j c.requires.place refl node c.requires.before.rising s c.push.new.self among (rw c.deref.ensures.value at c.in-Some.ensures.lacks) within (c.in_ok-push-in-Some.ensures.ok ∙ ap (λ ns. ns ++ j ∷ []) old);
+      rising = rising_waits c.args.graph.now.inputs graph l.heights.items l.waiting.items l.ready.items c.args.list.now c.args.at j c.requires.place refl node c.requires.before.rising s c.push.new.self among (rw c.deref.ensures.value at c.in-Some.ensures.lacks) within (c.in_ok-push-in-Some.ensures ∙ ap (λ ns. ns ++ j ∷ []) old);
       ordered = c.requires.before.ordered;
     }
 

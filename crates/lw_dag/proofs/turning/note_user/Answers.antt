@@ -20,6 +20,6 @@ returns c =
     let at : ℕ = c.args.s - c.args.inputs in
     let within : at < length rows.items = omega (arith, rows.ok.0, c.requires.signal, c.if-s-inputs.false) in
     let old = get_or_read rows.items at c.index_mut-row.result.now within c.index_mut-row.ensures.value [] in
-    let pushed = c.in_ok-push.ensures.ok ∙ ap (λ l. l ++ c.args.user ∷ []) old in
+    let pushed = c.in_ok-push.ensures ∙ ap (λ l. l ++ c.args.user ∷ []) old in
     let grown = All-push (λ j. j < n) _ c.args.user (All-get_or (All (λ j. j < n)) rows.items at [] within c.requires.rows.within) c.requires.user in
     record { len = refl; within = All-set (All (λ j. j < n)) rows.items at c.push.new.self (All-same (λ j. j < n) _ _ pushed grown) c.requires.rows.within }

@@ -4,7 +4,7 @@ use Rattle.lw_mapped.proofs.closing.names_of.Goals as goal
 
 pub loop-i-preserved : goal.loop-i-preserved
 loop-i-preserved c =
-    c.in_ok-push.ensures.ok
+    c.in_ok-push.ensures
     ∙ (ap (λ n. c.loop-i.names ++ n ∷ []) (c.in_ok-from_slice.ensures ∙ c.as_bytes.ensures.bytes)
     ∙ (ap (λ ns. ns ++ c.name_at-name.result.now ∷ []) c.loop-i.invariant
     ∙ sym (take_get c.args.set.now.keys c.loop-i.i c.name_at-name.result.now c.name_at-name.ensures)))

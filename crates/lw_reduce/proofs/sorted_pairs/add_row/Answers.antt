@@ -7,9 +7,9 @@ pub returns : goal.returns
 returns c = record {
   ends = let old = c.args.rows.now in
       let n = c.len.ensures ∙ (ap length c.in_ok-append.ensures ∙ length-append old.pairs.items c.args.row.now) in
-      kept_by_push old.pairs.items c.append.new.pool.items c.args.row.now old.ends c.push.new.self c.len.result c.requires.ends c.in_ok-append.ensures n c.in_ok-push.ensures.ok;
+      kept_by_push old.pairs.items c.append.new.pool.items c.args.row.now old.ends c.push.new.self c.len.result c.requires.ends c.in_ok-append.ensures n c.in_ok-push.ensures;
   rows = let old = c.args.rows.now in
       let n = c.len.ensures ∙ (ap length c.in_ok-append.ensures ∙ length-append old.pairs.items c.args.row.now) in
-      rows_by_push old.pairs.items c.append.new.pool.items c.args.row.now old.ends c.push.new.self c.len.result c.requires.ends c.in_ok-append.ensures n c.in_ok-push.ensures.ok;
+      rows_by_push old.pairs.items c.append.new.pool.items c.args.row.now old.ends c.push.new.self c.len.result c.requires.ends c.in_ok-append.ensures n c.in_ok-push.ensures;
   size = ap length c.in_ok-append.ensures ∙ length-append c.args.rows.now.pairs.items c.args.row.now;
 }

@@ -11,4 +11,4 @@ returns c =
     let i = c.args.lane in
     let lane = c.index_mut.result.now in
     let lt : i < length lanes = omega (arith, c.if-lane-len.false, c.len.ensures, c.args.lanes.now.ok) in
-    subst (λ l. IsPermutation (c.args.item ∷ flat lanes) (flat (slice_set lanes i l))) (sym c.in_ok-push.ensures.ok) (flat_pushed lanes i lane c.args.item (read_at lanes i lane lt c.index_mut.ensures.value))
+    subst (λ l. IsPermutation (c.args.item ∷ flat lanes) (flat (slice_set lanes i l))) (sym c.in_ok-push.ensures) (flat_pushed lanes i lane c.args.item (read_at lanes i lane lt c.index_mut.ensures.value))
