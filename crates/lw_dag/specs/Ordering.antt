@@ -1,7 +1,8 @@
 -- Lists in the order of numbers that belong to their entries.
-use Rattle.std.specs.Prelude.{ℕ, ◌<◌, ◌≡◌, ◌==◌, max, List, [], ◌∷◌, map, filter, length, slice_index_or, Result, OnOk}
-use Rattle.std.specs.List.Sorted.{IsPermutation, IsNonDecreasingBy}
+use Rattle.std.specs.Prelude.{ℕ, ◌<◌, ◌≡◌, ◌==◌, max, List, [], ◌∷◌, map, filter, length, slice_index_or, Result, OnOk, OnErr}
+use Rattle.std.specs.List.Sorted.{IsPermutation}
 use Rattle.std.specs.List.{flat_map, range_with_len}
+use Rattle.lw_facts.specs.Sorting.{AreSortedFrom}
 
 abbrev pub greatest : List ℕ → ℕ
 greatest [] = 0
@@ -15,8 +16,8 @@ AreKeys {X} numbers xs key = (k : ℕ) (d : X) → k < length xs → slice_index
 abbrev pub by_key : {X : Type 0} → (X → ℕ) → List X → List X
 by_key key xs = flat_map (λ n. filter (λ x. key x == n) xs) (range_with_len 1 (greatest (map key xs)))
 
--- The entries are moved, and where that goes well they stand by key, and those of one key as they stood.
+-- Where that goes well, the entries stand by key, and those of one key as they stood; else they are moved.
 pub record Sorts {X E : Type 0} (key : X → ℕ) (result : Result (Unit {0}) E) (old new : List X) : Type 0 where
-  pub permutation : IsPermutation old new
-  pub sorted : OnOk result (IsNonDecreasingBy key new)
+  pub sorted : OnOk result (AreSortedFrom key old new)
   pub stable : OnOk result ((k : ℕ) → filter (λ x. key x == k) new ≡ filter (λ x. key x == k) old)
+  pub moved : OnErr result (IsPermutation old new)
