@@ -1,9 +1,7 @@
 -- The class that holds an unordered pair, by the pair with its lower class first.
 use Rattle.std.proofs.Common.{ℕ, zero, suc, ◌<◌, ◌≤◌, ◌≡◌, ◌⊎◌, inl, inr, min, max, List, [], ◌∷◌, length, map, Contains, ap, sym, ◌∙◌, subst, arith}
-use native.Mathlib.Decide.{dec_lt}
 use Rattle.std.proofs.Math.ListN as plain_lists
-use Rattle.std.specs.Prelude.{Option, IfSome, IsNone, slice_index_or}
-use Rattle.std.proofs.lemmas.Option.{IfSome_then}
+use Rattle.std.specs.Prelude.{Option, Some, None, MatchOption, IfSome, IsNone, slice_index_or}
 use Rattle.lw_facts.proofs.Lists.{contains_map, contained_in_map}
 use Rattle.lw_facts.proofs.Numbers.{min_max_cases}
 use Rattle.lw_laws.specs.Graphs.{Graph as PlainGraph, Pair as PlainPair, AreRising, HoldsPair}
@@ -53,29 +51,38 @@ module _ (one : ClassId) (leaves forms : List ClassId) (rows : List (List Pair))
     by_side (inl h) = here x y (λ le. (omega arith, omega arith)) h
     by_side (inr h) = here y x (λ le. (omega arith, omega arith)) h
 
+-- the class that has the pair in its row, or none where no row has it
+abbrev pub IsInRow : List (List Pair) → Pair → Option ClassId → Type 0
+IsInRow rows p found =
+    MatchOption found ((c : ℕ) → Contains (slice_index_or rows c []) p → ⊥) (λ c. Contains (slice_index_or rows c.0 []) p)
+
+module _ (rows : List (List Pair)) (p : Pair) where
+  pub row_some : (found : Option ClassId) (Q : ClassId → Type 0) → IsInRow rows p found → ((c : ClassId) → Contains (slice_index_or rows c.0 []) p → Q c) → IfSome found Q
+  row_some (Some x) Q m f = f x m
+  row_some None Q m f = tt
+
+  pub row_none : (found : Option ClassId) → IsInRow rows p found → IsNone found → (c : ℕ) → Contains (slice_index_or rows c []) p → ⊥
+  row_none (Some x) m e = cc
+  row_none None m e = m
+
+  pub row_listed : (index : List Entry) (found : Option ClassId) → IsIndex rows index → MatchOption found ((c : ClassId) → Contains index (entry_of c p) → ⊥) (λ c. Contains index (entry_of c p)) → IsInRow rows p found
+  row_listed index (Some x) lists m = (lists.listed (entry_of x p)).0 m
+  row_listed index None lists m = λ c h. m (record { 0 = c }) ((lists.listed (entry_of (record { 0 = c }) p)).1 h)
+
 -- what a look at each class finds, and what an index does
 module _ (one : ClassId) (leaves forms : List ClassId) (ends : List ℕ) (pairs : List Pair) (g : PlainGraph) (kept : IsGraph (flat_graph one leaves forms ends pairs)) (is : flat_graph one leaves forms ends pairs ≡ g) (x y : ℕ) (result : Option ClassId) where
   abbrev rows : List (List Pair)
   rows = rows_from pairs 0 ends
 
-  module _ (some : IfSome result (λ (c : ClassId). Contains (slice_index_or rows c.0 []) (ordered_pair x y))) where
+  module _ (found : IsInRow rows (ordered_pair x y) result) where
     pub sought_holds : IfSome result (λ (c : ClassId). HoldsPair g c.0 x y)
     sought_holds =
-        IfSome_then result some (λ c h. subst (λ g. HoldsPair g c.0 x y) is (holds_pair one leaves forms rows c.0 x y h))
+        row_some rows (ordered_pair x y) result (λ (c : ClassId). HoldsPair g c.0 x y) found (λ c h. subst (λ g. HoldsPair g c.0 x y) is (holds_pair one leaves forms rows c.0 x y h))
 
     pub sought_within : IfSome result (λ (c : ClassId). c.0 < length g.pairs)
     sought_within =
-        IfSome_then result some (λ c h. let n = class_count one leaves forms ends pairs g is in let lt = none_past pairs ends c.0 (ordered_pair x y) h in omega arith)
+        row_some rows (ordered_pair x y) result (λ (c : ClassId). c.0 < length g.pairs) found (λ c h. let n = class_count one leaves forms ends pairs g is in let lt = none_past pairs ends c.0 (ordered_pair x y) h in omega arith)
 
-  pub sought_none : (IsNone result → (c : ℕ) → Contains (slice_index_or rows c []) (ordered_pair x y) → ⊥) → IsNone result → (c : ℕ) → HoldsPair g c x y → ⊥
-  sought_none none e c h =
-      none e c (pair_held one leaves forms rows c x y (kept.rising c) (subst (λ g. HoldsPair g c x y) (sym is) h))
-
-  module _ (index : List Entry) (lists : IsIndex rows index) where
-    pub found_there : IfSome result (λ (c : ClassId). Contains index (entry_of c (ordered_pair x y))) → IfSome result (λ (c : ClassId). Contains (slice_index_or rows c.0 []) (ordered_pair x y))
-    found_there some =
-        IfSome_then result some (λ c h. (lists.listed (entry_of c (ordered_pair x y))).0 h)
-
-    pub found_none : (IsNone result → (c : ClassId) → Contains index (entry_of c (ordered_pair x y)) → ⊥) → IsNone result → (c : ℕ) → HoldsPair g c x y → ⊥
-    found_none none =
-        sought_none (λ e c h. none e (record { 0 = c }) ((lists.listed (entry_of (record { 0 = c }) (ordered_pair x y))).1 h))
+    pub sought_none : IsNone result → (c : ℕ) → HoldsPair g c x y → ⊥
+    sought_none e c h =
+        row_none rows (ordered_pair x y) result found e c (pair_held one leaves forms rows c x y (kept.rising c) (subst (λ g. HoldsPair g c x y) (sym is) h))

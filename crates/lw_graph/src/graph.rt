@@ -3,7 +3,7 @@ ghost use Rattle.lw_graph.specs.Ordered.{ordered_pair};
 
 use crate::Pair;
 use crate::index::{Entry, fill, found, sought};
-use crate::parts::row;
+use crate::parts::Parts;
 use lw_laws::graphs::tree_unfolds_once;
 use lw_pool::{ClassId, Classes, FormId, Numbers, PairId, Pool};
 use std::alloc::{AllocError, Global};
@@ -88,7 +88,11 @@ impl Graph {
         if self.indexed {
             return Ok(());
         }
-        fill(&mut self.index, self.ends.as_slice(), &self.pairs)?;
+        let parts = Parts {
+            pairs: &self.pairs,
+            ends: self.ends.as_slice(),
+        };
+        fill(&mut self.index, &parts)?;
         self.indexed = true;
         Ok(())
     }
@@ -145,7 +149,11 @@ impl Graph {
             (p.y.0 < length self.now.pairs)) result.now }
         ensures rising { AreRising (plain_row result.now) }
     {
-        row(&self.pairs, self.ends.as_slice(), class.0 as usize)
+        let parts = Parts {
+            pairs: &self.pairs,
+            ends: self.ends.as_slice(),
+        };
+        parts.row(class.0 as usize)
     }
 
     /// The class that holds the unordered pair of two classes, or none where no class does. It
@@ -161,7 +169,11 @@ impl Graph {
         if self.indexed {
             found(&self.index, pair)
         } else {
-            sought(self.ends.as_slice(), &self.pairs, pair)
+            let parts = Parts {
+                pairs: &self.pairs,
+                ends: self.ends.as_slice(),
+            };
+            sought(&parts, pair)
         }
     }
 

@@ -1,13 +1,21 @@
-use Rattle.std.proofs.Common.{◌<◌, ◌≡◌, ◌∙◌, [], length, subst, sym, ap, All}
+use Rattle.std.proofs.Common.{◌<◌, ◌≡◌, ◌^◌, ◌∙◌, [], length, refl, subst, sym, ap, All}
 use Rattle.std.specs.Prelude.{slice_index_or}
 use Rattle.lw_graph.specs.declared.pair.Pair.{Pair}
-use Rattle.lw_graph.specs.Rows.{rows_from}
-use Rattle.lw_graph.specs.Graphs.{plain_row}
+use Rattle.lw_graph.specs.Rows.{AreEnds, rows_from}
+use Rattle.lw_graph.specs.Graphs.{flat_graph, plain_row}
 use Rattle.lw_graph.proofs.Graphs.{class_count, row_from, row_there, row_within, row_rising}
 use Rattle.lw_graph.proofs.graph.Graph.nands.Goals as goal
 
-pub row-requires-clause-within : goal.row-requires-clause-within
-row-requires-clause-within c =
+pub invariant_of-parts : goal.invariant_of-parts
+invariant_of-parts c =
+    let g = c.self.inside in
+    record {
+      cut = subst (AreEnds (length g.pairs.items) 0) (sym c.as_slice.ensures) c.self.invariant.cut;
+      few = subst (λ n. n < 2 ^ 32) (class_count g.one g.leaves g.forms g.ends g.pairs.items (flat_graph g.one g.leaves g.forms g.ends g.pairs.items) refl ∙ sym (ap length c.as_slice.ensures)) c.self.invariant.graph.few;
+    }
+
+pub row-requires : goal.row-requires
+row-requires c =
     let g = c.self.inside in
     let n = class_count g.one g.leaves g.forms g.ends g.pairs.items c.args.self.now c.self.view_is in
     subst (λ m. c.args.class.0 < m) (n ∙ sym (ap length c.as_slice.ensures)) c.requires
