@@ -1,5 +1,5 @@
 // The names n1, n2 and so on that are not taken.
-ghost use Rattle.std.specs.Prelude.{◌≡◌, ◌+◌, ◌<◌, ◌^◌, ◌++◌, ℕ, IfOk, length, vec_len};
+ghost use Rattle.std.specs.Prelude.{◌≡◌, ◌+◌, ◌++◌, ℕ, IfOk, length};
 ghost use Rattle.lw_laws.specs.Names.{numbered_name, free_names};
 ghost use Rattle.lw_naming.specs.Naming.{still_free, HasFree, IsNextFree};
 
@@ -10,8 +10,7 @@ use std::alloc::{AllocError, Global};
 
 // The letter n and a number.
 fn numbered_name(alloc: Global, number: usize) -> Result<Vec<u8>, AllocError>
-    ensures value { IfOk result (λ name. name.items ≡ numbered_name number) }
-    ensures not_empty { IfOk result (λ name. 0 < vec_len name) }
+    ensures { IfOk result (λ name. name.items ≡ numbered_name number) }
 {
     let mut buffer = Buffer::new();
     let digits = buffer.format(number).as_bytes();
@@ -32,11 +31,10 @@ pub(crate) struct FreeNames {
 impl FreeNames {
     // Those that no input and no output has.
     pub(crate) fn new(alloc: Global, inputs: &Names, outputs: &Names) -> Result<Self, AllocError>
-        requires { length inputs.now + length outputs.now < 2 ^ 64 }
         ensures { IfOk result (λ free. (count : ℕ) → let names = inputs.now ++ outputs.now in
             still_free free (1 + (count + length names)) ≡ free_names names count) }
     {
-        let mut taken = NameSet::with_capacity(alloc, inputs.len() + outputs.len())?;
+        let mut taken = NameSet::with_capacity(alloc, inputs.len().saturating_add(outputs.len()))?;
         taken.add_all(inputs.as_slice())?;
         taken.add_all(outputs.as_slice())?;
         Ok(FreeNames {
